@@ -1,23 +1,21 @@
 -- The causes of the answers, from the table.
 use Rattle.std.proofs.Common.{◌≡◌, ◌≢◌, ℕ, List, [], ◌∷◌, Option, None, Some, ◌⊎◌, inl, inr}
 use Rattle.std.proofs.Common.{refl, ap, sym, subst, true, false}
-use Rattle.trips_outside.specs.Outside.{Appended}
+use Rattle.trips_outside.specs.Outside.{Appended, AppendedPart}
 use Rattle.trips_requests.specs.declared.commands.Command.{Command as Work}
 use Rattle.trips_requests.specs.declared.commands.Command.TheVariants.{Run, Evaluate}
 use Rattle.trips_answers.specs.declared.forms.FileForm.{FileForm}
 use Rattle.trips_answers.specs.declared.forms.FileForm.TheVariants as form
-use Rattle.trips_answers.specs.declared.status.Status.{Status}
-use Rattle.trips_answers.specs.declared.status.Status.TheVariants as status
+use Rattle.trips_answer_parts.specs.declared.status.Status.{Status}
+use Rattle.trips_answer_parts.specs.declared.status.Status.TheVariants as status
 use Rattle.trips_answers.specs.Request.{Request, settings_of}
 use Rattle.trips_answers.specs.Refused.{MayBeRefused, IsRefused}
 use Rattle.trips_answers.specs.Worked.{IsWorked}
 use Rattle.trips_answers.specs.Answer.{IsAnswer}
-use Rattle.trips_answers.specs.Table.{IsAnswered, IsCutOff, IsOneOf}
-use Rattle.trips_answers.specs.Table.{EndsAs, EvalEnds}
+use Rattle.trips_answers.specs.Table.{IsAnswered, IsCutOff, IsOneOf, EndsAs, EvalEnds}
 use Rattle.trips_answers.specs.Evaluated.{RunEndsAs}
 use Rattle.trips_answers.proofs.Rows.{kind, usage_row, read_fault_row, refused_row, no_row}
-use Rattle.trips_answers.proofs.Rows.{usage_comes_row}
-use Rattle.trips_answers.proofs.Rows.{refused_comes_row, is_told}
+use Rattle.trips_answers.proofs.Rows.{usage_comes_row, refused_comes_row, is_told}
 use Rattle.trips_answers.proofs.Compiled.{run_ends_as}
 use Rattle.trips_answers.proofs.Ends.{ends_row, undefined_row}
 
@@ -58,6 +56,11 @@ module _ (held : List ℕ → Option (List ℕ)) (rose : Type 0) (old new : Opti
   whole status.StackFull report a w = (report, a, w)
   whole status.Trap report a w = (report, a, w)
   whole status.Undefined report a w = (report, a, w)
+
+  -- a first part of it makes the row of a fault of the writing
+  pub part : (other : Status) (report : List ℕ) → IsAnswer q held rose other report
+      → AppendedPart old new report → cut → IsAnswered q held rose old new cut status.WriteFault
+  part other report a w fault = (fault, (other, report, a, w))
 
   pub usage_only : (s : Status) → IsAnswered q held rose old new cut s → s ≡ status.Usage → q ≡ None
   usage_only s a e =

@@ -20,14 +20,14 @@ use Rattle.c_compile_laws.specs.Runs.{run_of, HasEnded, IsFull, Settles, Answers
 use Rattle.c_compile.specs.Images.{IsImageOf, MeansText}
 use Rattle.c_compile.proofs.Images.{images_mean}
 use Rattle.trips_answers.specs.declared.forms.Settings.{Settings}
-use Rattle.trips_answers.specs.declared.status.Status.{Status}
-use Rattle.trips_answers.specs.declared.status.Status.TheVariants as status
+use Rattle.trips_answer_parts.specs.declared.status.Status.{Status}
+use Rattle.trips_answer_parts.specs.declared.status.Status.TheVariants as status
 use Rattle.trips_answers.specs.Request.{Request, origin_held, settings_of}
 use Rattle.grid_place.specs.declared.placed.Placing.{Placing}
 use Rattle.trips_answers.specs.Read.{HoldsInput}
 use Rattle.grid_cycle_spec.specs.Costs.{cost_of}
 use Rattle.trips_report.specs.declared.show.Show.{Show}
-use Rattle.trips_report.specs.Runs.{output_and}
+use Rattle.trips_answer_parts.specs.Texts.{output_and}
 use Rattle.trips_report.proofs.Parts.{shows_nothing}
 use Rattle.trips_answers.specs.Report.{ending_of, run_report, shown_report, shown_behind, nothing_shown}
 use Rattle.trips_answers.specs.Worked.{status_of, IsRunOfText}

@@ -27,18 +27,21 @@ use Rattle.target_asm_faults.proofs.Exact as faults
 use Rattle.trips_answers.specs.declared.forms.FileForm.{FileForm}
 use Rattle.trips_answers.specs.declared.forms.FileForm.TheVariants as form
 use Rattle.trips_answers.specs.declared.forms.Settings.{Settings}
-use Rattle.trips_answers.specs.declared.loading.Loaded.{Loaded}
-use Rattle.trips_answers.specs.declared.loading.Loaded.TheVariants.{Fault, TooLarge, Bytes}
-use Rattle.trips_answers.specs.declared.status.Status.{Status}
-use Rattle.trips_answers.specs.declared.status.Status.TheVariants as status
+use Rattle.trips_answer_parts.specs.declared.loading.Loaded.{Loaded}
+use Rattle.trips_answer_parts.specs.declared.loading.Loaded.TheVariants.{Fault, TooLarge, Bytes}
+use Rattle.trips_answer_parts.specs.declared.status.Status.{Status}
+use Rattle.trips_answer_parts.specs.declared.status.Status.TheVariants as status
 use Rattle.trips_answers.specs.Request.{Request, origin_held, settings_with, settings_of}
-use Rattle.trips_answers.specs.Read.{IsRead, IsInputRead, IsInput, limit_of, most_input_bytes}
-use Rattle.trips_report.specs.Refusals.{image_text, asm_text, check_text, too_large_text}
-use Rattle.trips_answers.specs.Refusal.{front_refusal}
-use Rattle.trips_answers.specs.Refused.{IsRefusedByFront, IsNoImage, IsBadImage, IsNoText, IsBadText}
-use Rattle.trips_answers.specs.Refused.{IsRefusedAs, IsLarge}
-use Rattle.trips_answers.specs.Worked.{IsFixed, IsRunBy, IsEvaluation, IsRunOfText, IsCompiled, IsWorked, IsDone}
-use Rattle.trips_answers.specs.Answer.{AfterReading, IsAnswerBehind, IsAnswer}
+use Rattle.trips_answers.specs.Read.{IsInputRead, IsInput, limit_of, most_input_bytes}
+use Rattle.trips_answer_parts.specs.Read.{IsRead, AfterReading}
+use Rattle.trips_report.specs.Refusals.{image_text, asm_text, check_text}
+use Rattle.trips_answer_parts.specs.Texts.{too_large_text, IsFixed}
+use Rattle.trips_eval_answers.specs.Refusals.{front_refusal}
+use Rattle.trips_answers.specs.Refused.{IsBadText, IsRefusedAs, IsLarge}
+use Rattle.trips_tool_answers.specs.Tools.{IsNoImage, IsBadImage, IsNoText}
+use Rattle.trips_eval_answers.specs.Evaluation.{IsRefusedByFront, IsEvaluation}
+use Rattle.trips_answers.specs.Worked.{IsRunBy, IsRunOfText, IsCompiled, IsWorked, IsDone}
+use Rattle.trips_answers.specs.Answer.{IsAnswerBehind, IsAnswer}
 use Rattle.trips_answers.specs.Table.{AsksFor, HasLargeFile, HasLargeInput}
 use Rattle.trips_answers.proofs.OneFault.{first_bad_once}
 

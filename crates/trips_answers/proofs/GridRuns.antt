@@ -15,10 +15,11 @@ use Rattle.grid_run.specs.Endings as endings
 use Rattle.grid_machine.specs.Seeds.{IsRan}
 use Rattle.grid_machine_bound.specs.Traps.{is_trap}
 use Rattle.trips_answers.specs.declared.forms.Settings.{Settings}
-use Rattle.trips_answers.specs.declared.answer.Answer.{Answer}
-use Rattle.trips_answers.specs.declared.status.Status.{Status}
+use Rattle.trips_answer_parts.specs.declared.answer.Answer.{Answer}
+use Rattle.trips_answer_parts.specs.declared.status.Status.{Status}
 use Rattle.trips_answers.specs.Report.{ending_of, shown_report}
-use Rattle.trips_answers.specs.Worked.{status_of, IsFixed, IsRunBy}
+use Rattle.trips_answers.specs.Worked.{status_of, IsRunBy}
+use Rattle.trips_answer_parts.specs.Texts.{IsFixed}
 
 -- a run of the grid ends as one of the machine
 same_ending : (a : Stepped) (next : ℕ) → endings.ending_of a next ≡ ending_of a next

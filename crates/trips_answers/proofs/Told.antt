@@ -1,48 +1,45 @@
 -- What the parts of an answer say together.
 use Rattle.std.proofs.Common.{◌≡◌, ◌≢◌, ℕ, ◌<◌, ◌≤◌, List, Option}
 use Rattle.std.proofs.Common.{None, Some, Result, Ok, Err, IfOk, All}
-use Rattle.std.proofs.Common.{◌⊎◌, inl, inr, refl, sym, ap, subst, arith}
+use Rattle.std.proofs.Common.{inl, inr, refl, sym, ap, subst, arith}
 use Rattle.trips_isa.specs.declared.block.Image.{Image}
 use Rattle.block_image.specs.Spelling.{ImageBytes}
 use Rattle.block_check.specs.Faults.{IsGood}
 use Rattle.block_check.specs.Images.{IsCheckedImage}
-use Rattle.c_tree.specs.declared.typed.TypedProgram.{TypedProgram}
 use Rattle.c_front.specs.declared.refusal.Refusal.{Refusal}
 use Rattle.c_front.specs.declared.refusal.Refusal.TheVariants as stage
-use Rattle.c_front.specs.Fronts.{IsAccepted, IsRefused, MayBeRefused}
+use Rattle.c_front.specs.Fronts.{IsRefused, MayBeRefused}
 use Rattle.c_compile.specs.Images.{IsImageOf}
 use Rattle.flat_lower.specs.Keeps.{IsInput}
 use Rattle.grid_place.specs.declared.placed.Placing.{Placing}
 use Rattle.trips_outside.specs.Outside.{Rose}
-use Rattle.trips_answers.specs.declared.status.Status.{Status}
-use Rattle.trips_answers.specs.declared.status.Status.TheVariants as status
-use Rattle.trips_answers.specs.declared.answer.Answer.{Answer}
+use Rattle.trips_answer_parts.specs.declared.status.Status.{Status}
+use Rattle.trips_answer_parts.specs.declared.status.Status.TheVariants as status
+use Rattle.trips_answer_parts.specs.declared.answer.Answer.{Answer}
 use Rattle.trips_requests.specs.declared.commands.Command.{Command as Work}
 use Rattle.trips_requests.specs.declared.commands.Command.TheVariants.{Run, Evaluate, Compile}
-use Rattle.trips_requests.specs.declared.commands.Command.TheVariants.{Assemble, Disassemble, Check}
 use Rattle.trips_answers.specs.declared.forms.FileForm.{FileForm}
 use Rattle.trips_answers.specs.declared.forms.FileForm.TheVariants as form
 use Rattle.trips_answers.specs.declared.forms.Settings.{Settings}
-use Rattle.trips_answers.specs.declared.loading.Loaded.{Loaded}
-use Rattle.trips_answers.specs.declared.loading.Loaded.TheVariants.{Fault, TooLarge, Bytes}
+use Rattle.trips_answer_parts.specs.declared.loading.Loaded.{Loaded}
+use Rattle.trips_answer_parts.specs.declared.loading.Loaded.TheVariants.{Fault, TooLarge, Bytes}
 use Rattle.std.proofs.Common.{option_map}
 use Rattle.trips_requests.specs.declared.commands.Asked.{Asked}
+use Rattle.trips_requests.specs.declared.commands.Tool.{Tool}
+use Rattle.trips_requests.specs.declared.commands.Tool.TheVariants as tools
+use Rattle.trips_requests.specs.Plain as line_plain
 use Rattle.trips_requests.specs.Requests as line
+use Rattle.trips_tool_answers.specs.Tools.{IsToolDone}
 use Rattle.trips_answers.specs.Request.{Request, origin_held, planned, request_seen}
-use Rattle.trips_answers.specs.Read.{IsRead, IsInputRead, limit_of}
-use Rattle.trips_answers.specs.Read.{most_input_bytes, most_source_bytes, most_target_bytes, most_image_bytes}
+use Rattle.trips_answers.specs.Read.{IsInputRead, limit_of, most_input_bytes}
+use Rattle.trips_answer_parts.specs.Read.{IsRead, AfterReading}
+use Rattle.trips_tool_answers.specs.Answer.{most_target_bytes, most_image_bytes}
+use Rattle.trips_eval_answers.specs.Answer.{most_source_bytes}
 use Rattle.target_asm_spec.specs.Text.{TargetText}
-use Rattle.trips_report.specs.declared.said.Said.{Said}
-use Rattle.trips_report.specs.Refusals.{refusal_report}
-use Rattle.trips_tools.specs.declared.made.Made.{Made}
-use Rattle.trips_tools.specs.declared.made.Made.TheVariants as tool
-use Rattle.trips_tools.specs.Tools as tools
-use Rattle.trips_tools.specs.Tools.{IsOneImage, IsGoodImage, Makes}
-use Rattle.trips_answers.specs.Made.{IsMade}
-use Rattle.trips_answers.specs.Refusal.{front_refusal}
-use Rattle.trips_answers.specs.Refused.{IsRefusedByFront, IsNoImage, IsBadImage}
-use Rattle.trips_answers.specs.Worked.{IsRefusalBy, IsRunBy, IsEvaluation, IsDone}
-use Rattle.trips_answers.specs.Answer.{AfterReading, IsAnswerBehind, IsAnswer}
+use Rattle.trips_eval_answers.specs.Refusals.{front_refusal}
+use Rattle.trips_eval_answers.specs.Evaluation.{IsRefusedByFront, IsRefusalBy, IsTextEvaluated}
+use Rattle.trips_answers.specs.Worked.{IsRunBy, IsDone}
+use Rattle.trips_answers.specs.Answer.{IsAnswerBehind, IsAnswer}
 use Rattle.trips_answers.specs.Checked.{IsRunOfChecked}
 
 -- every block of a checked image is good
@@ -80,29 +77,6 @@ pub compiled_told : {E : Type 0} (text input : List ℕ) (settings : Settings) (
     → IfOk r (λ a. IsDone Run form.Source settings text input a.status a.report.items)
 compiled_told text input settings image (Err e) is bytes told = tt
 compiled_told text input settings image (Ok a) is bytes told = inr (image, is, bytes, told)
-
--- the refusal of a text under `eval`
-pub eval_refused_told : {E : Type 0} (steps : ℕ) (text input : List ℕ) (refusal : Refusal)
-    (r : Result Answer E) → MayBeRefused text refusal
-    → IfOk r (λ a. IsRefusalBy refusal a.status a.report.items)
-    → IfOk r (λ a. (how : FileForm) (settings : Settings) → settings.most ≡ steps
-    → IsDone Evaluate how settings text input a.status a.report.items)
-eval_refused_told steps text input refusal (Err e) may told = tt
-eval_refused_told steps text input refusal (Ok a) may told =
-    λ how settings same. inl (front_refusal refusal, front_told text refusal may told.0, told.1)
-
--- the evaluation of an accepted text
-pub evaluated_told : {E : Type 0} (steps : ℕ) (text input : List ℕ) (program : TypedProgram)
-    (r : Result Answer E) → IsAccepted text program
-    → IfOk r (λ a. IsEvaluation program input steps a.status a.report.items)
-    → IfOk r (λ a. (how : FileForm) (settings : Settings) → settings.most ≡ steps
-    → IsDone Evaluate how settings text input a.status a.report.items)
-evaluated_told steps text input program (Err e) is told = tt
-evaluated_told steps text input program (Ok a) is told = λ how settings same. inr (
-  program,
-  is,
-  subst (λ (m : ℕ). IsEvaluation program input m a.status a.report.items) (sym same) told,
-)
 
 -- the refusal of a text under `compile`
 pub compile_refused_told : {E : Type 0} (text : List ℕ) (placing : Placing) (refusal : Refusal)
@@ -160,51 +134,6 @@ target_told text input settings image (Err e) spelled told = tt
 target_told text input settings image (Ok a) spelled told =
     checked_target text input settings image a.status a.report.items spelled told
 
--- what tools make ----------------------------------------------------------------------------
-
--- the image of a target text, or its refusal
-pub assembled_told : {E : Type 0} (text : List ℕ) (made : Made) (r : Result Answer E)
-    → Makes (IsOneImage text) (tools.IsNoText text) made
-    → IfOk r (λ a. IsMade made a.status a.report.items)
-    → IfOk r (λ a. (how : FileForm) (settings : Settings) (input : List ℕ)
-    → IsDone Assemble how settings text input a.status a.report.items)
-assembled_told text made (Err e) h told = tt
-assembled_told text (tool.Bytes bytes) (Ok a) h told =
-    λ how settings input. inr (subst (IsOneImage text) (sym told.1) h, told.0)
-assembled_told text (tool.Refused said) (Ok a) h told =
-    λ how settings input. inl (refusal_report said, (h.0, h.1, ap refusal_report h.2), told)
-
--- the target text of an image, or its refusal
-pub disassembled_told : {E : Type 0} (bytes : List ℕ) (made : Made) (r : Result Answer E)
-    → Makes (λ text. IsOneImage text bytes) (tools.IsNoImage bytes) made
-    → IfOk r (λ a. IsMade made a.status a.report.items)
-    → IfOk r (λ a. (how : FileForm) (settings : Settings) (input : List ℕ)
-    → IsDone Disassemble how settings bytes input a.status a.report.items)
-disassembled_told bytes made (Err e) h told = tt
-disassembled_told bytes (tool.Bytes text) (Ok a) h told =
-    λ how settings input.
-    inr (subst (λ (t : List ℕ). IsOneImage t bytes) (sym told.1) h, told.0)
-disassembled_told bytes (tool.Refused said) (Ok a) h told =
-    λ how settings input. inl (refusal_report said, (h.0, h.1, ap refusal_report h.2), told)
-
--- the report on an image, or its refusal
-not_good : (bytes : List ℕ) (said : Said) → tools.IsNoImage bytes said ⊎ tools.IsBadImage bytes said
-    → IsNoImage bytes (refusal_report said) ⊎ IsBadImage bytes (refusal_report said)
-not_good bytes said (inl x) = inl (x.0, x.1, ap refusal_report x.2)
-not_good bytes said (inr x) = inr (x.0, x.1, x.2, x.3, x.4, ap refusal_report x.5)
-
-pub checked_told : {E : Type 0} (bytes : List ℕ) (made : Made) (r : Result Answer E)
-    → Makes (IsGoodImage bytes)
-    (λ said. tools.IsNoImage bytes said ⊎ tools.IsBadImage bytes said) made
-    → IfOk r (λ a. IsMade made a.status a.report.items)
-    → IfOk r (λ a. (how : FileForm) (settings : Settings) (input : List ℕ)
-    → IsDone Check how settings bytes input a.status a.report.items)
-checked_told bytes made (Err e) h told = tt
-checked_told bytes (tool.Bytes good) (Ok a) h told =
-    λ how settings input. inr (subst (IsGoodImage bytes) (sym told.1) h, told.0)
-checked_told bytes (tool.Refused said) (Ok a) h told =
-    λ how settings input. inl (refusal_report said, not_good bytes said h, told)
-
 -- the work -----------------------------------------------------------------------------------
 
 -- any file has fewer bytes than 2^32 - 1
@@ -217,15 +146,13 @@ few_bytes form.Image = omega arith
 -- what `eval` does, whatever its file is read as
 pub evaluate_told : {E : Type 0} (work : Work) (how : FileForm) (steps : ℕ) (settings : Settings)
     (bytes seen input : List ℕ) (r : Result Answer E) → work ≡ Evaluate → settings.most ≡ steps
-    → seen ≡ input
-    → IfOk r (λ a. (f : FileForm) (t : Settings) → t.most ≡ steps
-    → IsDone Evaluate f t bytes seen a.status a.report.items)
+    → seen ≡ input → IfOk r (λ a. IsTextEvaluated steps bytes seen a.status a.report.items)
     → IfOk r (λ a. IsDone work how settings bytes input a.status a.report.items)
 evaluate_told work how steps settings bytes seen input (Err e) is most same told = tt
 evaluate_told work how steps settings bytes seen input (Ok a) is most same told =
     subst (λ (w : Work). IsDone w how settings bytes input a.status a.report.items) (sym is)
-    (subst (λ (i : List ℕ). IsDone Evaluate how settings bytes i a.status a.report.items) same
-    (told how settings most))
+    (subst (λ (i : List ℕ). IsTextEvaluated settings.most bytes i a.status a.report.items) same
+    (subst (λ (m : ℕ). IsTextEvaluated m bytes seen a.status a.report.items) (sym most) told))
 
 -- what `run` does with a file of this form
 pub run_form_told : {E : Type 0} (work : Work) (how read : FileForm) (settings seen : Settings)
@@ -250,16 +177,30 @@ compile_told work how placing settings bytes input (Ok a) is same told =
     subst (λ (w : Work). IsDone w how settings bytes input a.status a.report.items) (sym is)
     (told how settings input same)
 
--- what a tool does, whatever is asked for besides its file
-pub tool_told : {E : Type 0} (work which : Work) (how : FileForm) (settings : Settings)
-    (bytes input : List ℕ) (r : Result Answer E) → work ≡ which
-    → IfOk r (λ a. (f : FileForm) (t : Settings) (i : List ℕ)
-    → IsDone which f t bytes i a.status a.report.items)
+-- the row of a tool, whatever is asked for besides its file
+pub tool_row : (tool : Tool) (how : FileForm) (settings : Settings) (bytes input : List ℕ) (s : Status)
+    (report : List ℕ) → IsToolDone tool bytes s report
+    → IsDone (line_plain.work_of tool) how settings bytes input s report
+tool_row tools.Assemble how settings bytes input s report done = done
+tool_row tools.Disassemble how settings bytes input s report done = done
+tool_row tools.Check how settings bytes input s report done = done
+
+pub tool_back : (tool : Tool) (how : FileForm) (settings : Settings) (bytes input : List ℕ) (s : Status)
+    (report : List ℕ) → IsDone (line_plain.work_of tool) how settings bytes input s report
+    → IsToolDone tool bytes s report
+tool_back tools.Assemble how settings bytes input s report done = done
+tool_back tools.Disassemble how settings bytes input s report done = done
+tool_back tools.Check how settings bytes input s report done = done
+
+-- what a tool does
+pub tool_told : {E : Type 0} (work : Work) (tool : Tool) (how : FileForm) (settings : Settings)
+    (bytes input : List ℕ) (r : Result Answer E) → work ≡ line_plain.work_of tool
+    → IfOk r (λ a. IsToolDone tool bytes a.status a.report.items)
     → IfOk r (λ a. IsDone work how settings bytes input a.status a.report.items)
-tool_told work which how settings bytes input (Err e) is told = tt
-tool_told work which how settings bytes input (Ok a) is told =
+tool_told work tool how settings bytes input (Err e) is told = tt
+tool_told work tool how settings bytes input (Ok a) is told =
     subst (λ (w : Work). IsDone w how settings bytes input a.status a.report.items) (sym is)
-    (told how settings input)
+    (tool_row tool how settings bytes input a.status a.report.items told)
 
 -- the whole answer ----------------------------------------------------------------------------
 

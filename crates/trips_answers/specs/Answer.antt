@@ -1,20 +1,13 @@
 -- What is answered to a request: the status and the report.
 use Rattle.std.specs.Prelude.{ℕ, List, Option, None, Some}
-use Rattle.trips_answers.specs.declared.loading.Loaded.{Loaded}
-use Rattle.trips_answers.specs.declared.loading.Loaded.TheVariants.{Fault, TooLarge, Bytes}
-use Rattle.trips_answers.specs.declared.status.Status.{Status}
-use Rattle.trips_answers.specs.declared.status.Status.TheVariants as status
+use Rattle.trips_answer_parts.specs.declared.loading.Loaded.{Loaded}
+use Rattle.trips_answer_parts.specs.declared.status.Status.{Status}
+use Rattle.trips_answer_parts.specs.declared.status.Status.TheVariants as status
 use Rattle.trips_answers.specs.Request.{Request, origin_held, settings_of}
-use Rattle.trips_answers.specs.Read.{IsRead, IsInputRead, limit_of}
-use Rattle.trips_answers.specs.Report.{usage_text, read_fault_text}
-use Rattle.trips_report.specs.Refusals.{too_large_text}
-use Rattle.trips_answers.specs.Worked.{IsFixed, IsDone}
-
--- what a file was read to, or the answer where it was not read
-abbrev pub AfterReading : Loaded → (List ℕ → Type 0) → Status → List ℕ → Type 0
-AfterReading Fault next s report = IsFixed status.ReadFault read_fault_text s report
-AfterReading TooLarge next s report = IsFixed status.Refused too_large_text s report
-AfterReading (Bytes bytes) next s report = next bytes
+use Rattle.trips_answers.specs.Read.{IsInputRead, limit_of}
+use Rattle.trips_answer_parts.specs.Read.{IsRead, AfterReading}
+use Rattle.trips_answer_parts.specs.Texts.{usage_text, IsFixed}
+use Rattle.trips_answers.specs.Worked.{IsDone}
 
 -- behind the file the input is read
 abbrev pub IsAnswerBehind : Request → (List ℕ → Option (List ℕ)) → Type 0

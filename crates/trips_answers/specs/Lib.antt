@@ -1,12 +1,10 @@
 pub mod Request
 pub mod Read
 pub mod Report
-pub mod Refusal
 pub mod Counted
 pub mod Worked
 pub mod Answer
 pub mod Checked
-pub mod Made
 pub mod Refused
 pub mod Table
 pub mod Evaluated

@@ -19,6 +19,17 @@ abbrev pub plain_eval : {A : Type 0} → List (String A) → Option Request
 plain_eval words =
     option_and_then (λ file. request_of words) (line.plain_eval (map (λ word. string_bytes word) words))
 
+-- The request of the words, as `request_of` has it, where they are `compile` and a plain name; else none.
+abbrev pub plain_compile : {A : Type 0} → List (String A) → Option Request
+plain_compile words =
+    option_and_then (λ file. request_of words) (line.plain_compile (map (λ word. string_bytes word) words))
+
+-- The request of the words, as `request_of` has it, where they are `asm`, `dis` or `check` and a plain name; else
+-- none.
+abbrev pub plain_tool : {A : Type 0} → List (String A) → Option Request
+plain_tool words =
+    option_and_then (λ found. request_of words) (line.plain_tool (map (λ word. string_bytes word) words))
+
 -- how work is done of which nothing is said besides the file
 abbrev pub default_settings : Settings
 default_settings = record { placing = Greedy; seed = 0; most = DEFAULT_COUNT; show = nothing_shown }

@@ -2,15 +2,8 @@
 use Rattle.std.specs.Prelude.{◌≡◌, ℕ, ◌<◌, List, Option, None, Some, IfSome, IsSomeAnd, length}
 use Rattle.std.specs.Prelude.{◌⊎◌}
 use Rattle.trips_isa.specs.declared.block.Image.{Image}
-use Rattle.c_front.specs.declared.refusal.Refusal.{Refusal}
-use Rattle.c_front.specs.Fronts as fronts
-use Rattle.block_image.specs.declared.fault.ImageFault.{ImageFault}
-use Rattle.block_image.specs.Spelling.{ImageBytes}
-use Rattle.block_image.specs.FirstFault.{FirstFault}
 use Rattle.block_check.specs.declared.fault.CheckFault.{CheckFault}
 use Rattle.block_check.specs.Images.{IsFirstBad}
-use Rattle.target_asm_spec.specs.declared.fault.AsmFault.{AsmFault}
-use Rattle.target_asm_spec.specs.FirstAsmFault.{FirstAsmFault}
 use Rattle.target_asm_spec.specs.Text.{TargetText}
 use Rattle.trips_requests.specs.declared.commands.Command.{Command as Work}
 use Rattle.trips_requests.specs.declared.commands.Command.TheVariants.{Run, Evaluate, Compile}
@@ -19,29 +12,9 @@ use Rattle.trips_answers.specs.declared.forms.FileForm.{FileForm}
 use Rattle.trips_answers.specs.declared.forms.FileForm.TheVariants as form
 use Rattle.trips_answers.specs.Request.{Request, origin_held}
 use Rattle.trips_answers.specs.Read.{most_input_bytes, limit_of}
-use Rattle.trips_report.specs.Refusals.{image_text, asm_text, check_text}
-use Rattle.trips_answers.specs.Refusal.{front_refusal}
-
--- a stage of the front end refuses the text, and this is its report
-abbrev pub IsRefusedByFront : List ℕ → List ℕ → Type 0
-IsRefusedByFront text report =
-    (r : Refusal) × fronts.IsRefused text r × (report ≡ front_refusal r)
-
--- the bytes are no image, and go wrong first where the report says
-abbrev pub IsNoImage : List ℕ → List ℕ → Type 0
-IsNoImage bytes report =
-    (fault : ImageFault) × FirstFault bytes fault × (report ≡ image_text fault)
-
--- the bytes are an image, and the report names its first block that is not good
-abbrev pub IsBadImage : List ℕ → List ℕ → Type 0
-IsBadImage bytes report = (image : Image) × (number : ℕ) × (fault : CheckFault)
-    × ImageBytes image bytes × IsFirstBad image number fault
-    × (report ≡ check_text number fault)
-
--- the text is no target text, and goes wrong first where the report says
-abbrev pub IsNoText : List ℕ → List ℕ → Type 0
-IsNoText text report =
-    (fault : AsmFault) × FirstAsmFault text fault × (report ≡ asm_text fault)
+use Rattle.trips_report.specs.Refusals.{check_text}
+use Rattle.trips_eval_answers.specs.Evaluation.{IsRefusedByFront}
+use Rattle.trips_tool_answers.specs.Tools.{IsNoImage, IsBadImage, IsNoText}
 
 -- the text is that of an image, and the report names its first block that is not good
 abbrev pub IsBadText : List ℕ → List ℕ → Type 0

@@ -1,5 +1,5 @@
--- The texts that the program writes. The reports of runs and evaluations are those of `trips_report`.
-use Rattle.std.specs.Prelude.{ℕ, false, List, codes}
+-- The reports of runs that the program writes: those of `trips_report`.
+use Rattle.std.specs.Prelude.{ℕ, false, List}
 use Rattle.trips_isa.specs.declared.run.Counts.{Counts}
 use Rattle.trips_isa.specs.declared.run.Ending.{Ending}
 use Rattle.trips_isa.specs.declared.run.Ending.TheVariants as ending
@@ -34,11 +34,3 @@ nothing_shown = record { regs = false; trace = false; cycles = false }
 -- the same where nothing more is shown
 abbrev pub run_report : Ending → State → List ℕ
 run_report ending s = plain_report ending s
-
--- the report on words that are no request
-unfoldable pub usage_text : List ℕ
-usage_text = codes "usage\n"
-
--- the report on a file that cannot be read
-unfoldable pub read_fault_text : List ℕ
-read_fault_text = codes "read fault\n"

@@ -2,7 +2,7 @@
 use Rattle.std.specs.Prelude.{◌≡◌, ℕ, ◌<◌, ◌≤◌, List, [], ◌∷◌, ◌++◌, length, Option, Some, codes}
 use Rattle.std.specs.Prelude.{IsSomeAnd, ◌⊎◌, ℤ}
 use Rattle.std.specs.Fmt.{signed_decimal}
-use Rattle.trips_outside.specs.Outside.{Appended, AppendedPart, Holds}
+use Rattle.trips_outside.specs.Outside.{Appended, Holds}
 use Rattle.trips_isa.specs.declared.block.Image.{Image}
 use Rattle.trips_isa.specs.declared.run.Counts.{Counts}
 use Rattle.trips_isa.specs.Machine.{runs, start}
@@ -12,12 +12,12 @@ use Rattle.trips_requests.specs.declared.commands.Command.{Command as Work}
 use Rattle.trips_requests.specs.declared.commands.Command.TheVariants.{Evaluate}
 use Rattle.trips_answers.specs.declared.forms.FileForm.{FileForm}
 use Rattle.trips_answers.specs.declared.forms.Settings.{Settings}
-use Rattle.trips_answers.specs.declared.status.Status.{Status}
-use Rattle.trips_answers.specs.declared.status.Status.TheVariants as status
+use Rattle.trips_answer_parts.specs.declared.status.Status.{Status}
+use Rattle.trips_answer_parts.specs.Table.{IsCutShort, IsWritten}
 use Rattle.trips_answers.specs.Request.{Request, origin_held, settings_of}
 use Rattle.trips_answers.specs.Read.{HoldsInput, IsTold, limit_of}
 use Rattle.trips_answers.specs.Refused.{IsLarge}
-use Rattle.trips_report.specs.Runs.{output_and}
+use Rattle.trips_answer_parts.specs.Texts.{output_and}
 use Rattle.trips_answers.specs.Report.{ending_of, shown_behind, nothing_shown}
 use Rattle.trips_answers.specs.Counted.{IsCountedRun}
 use Rattle.trips_answers.specs.Worked.{IsWorked}
@@ -26,18 +26,13 @@ use Rattle.trips_answers.specs.Answer.{IsAnswer}
 -- Some answer that holds was cut off: the first part of its report was written.
 abbrev pub IsCutOff : Option Request → (List ℕ → Option (List ℕ)) → Type 0
     → Option (List ℕ) → Option (List ℕ) → Type 0
-IsCutOff request held rose old new = (other : Status) × (report : List ℕ)
-    × IsAnswer request held rose other report × AppendedPart old new report
+IsCutOff request held rose old new = IsCutShort (IsAnswer request held rose) old new
 
--- The table: nothing was appended, the first part of a report where the sink's count of faults rose
--- (`cut`), or all of the report of this very answer.
+-- The table over the answers to this request: nothing was appended, the first part of a report where the
+-- sink's count of faults rose (`cut`), or all of the report of this very answer.
 abbrev pub IsAnswered : Option Request → (List ℕ → Option (List ℕ)) → Type 0
     → Option (List ℕ) → Option (List ℕ) → Type 0 → Status → Type 0
-IsAnswered request held rose old new cut status.Memory = Appended old new []
-IsAnswered request held rose old new cut status.WriteFault =
-    cut × IsCutOff request held rose old new
-IsAnswered request held rose old new cut s = (report : List ℕ)
-    × IsAnswer request held rose s report × Appended old new report
+IsAnswered request held rose old new cut s = IsWritten (IsAnswer request held rose) old new cut s
 
 -- the report of a run that ended with an output and a result
 abbrev pub ended_report : List ℕ → ℤ → List ℕ

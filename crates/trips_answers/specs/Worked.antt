@@ -1,24 +1,15 @@
 -- What is done with the bytes of a file: the status and the report.
-use Rattle.std.specs.Prelude.{◌≡◌, ◌≢◌, ℕ, List}
-use Rattle.std.specs.Prelude.{◌⊎◌, All}
+use Rattle.std.specs.Prelude.{◌≡◌, ◌⊎◌, ℕ, List, All}
 use Rattle.trips_isa.specs.declared.block.Block.{Block}
 use Rattle.trips_isa.specs.declared.block.Image.{Image}
 use Rattle.trips_isa.specs.declared.run.Counts.{Counts}
 use Rattle.trips_isa.specs.declared.run.Ending.{Ending}
 use Rattle.trips_isa.specs.declared.run.Ending.TheVariants as ending
 use Rattle.trips_isa.specs.Machine.{runs, start}
-use Rattle.c_tree.specs.declared.typed.TypedProgram.{TypedProgram}
-use Rattle.c_front.specs.declared.refusal.Refusal.{Refusal}
-use Rattle.c_front.specs.declared.refusal.Refusal.TheVariants.{Memory}
-use Rattle.c_front.specs.Fronts.{IsAccepted}
 use Rattle.c_compile.specs.Images.{IsImageOf}
 use Rattle.flat_lower.specs.Keeps as bytes
 use Rattle.grid_place.specs.declared.placed.Placing.{Placing}
 use Rattle.grid_cycle_spec.specs.Costs.{cost_of}
-use Rattle.c_meaning_spec.specs.Eval.{eval}
-use Rattle.c_meaning.specs.declared.outcome.Outcome.{Outcome}
-use Rattle.c_meaning.specs.declared.outcome.Outcome.TheVariants as outcome
-use Rattle.c_meaning.specs.Answer.{answer}
 use Rattle.block_image.specs.Spelling.{ImageBytes}
 use Rattle.block_check.specs.Faults.{IsGood}
 use Rattle.target_asm_spec.specs.Text.{TargetText}
@@ -29,23 +20,15 @@ use Rattle.trips_requests.specs.declared.commands.Command.TheVariants.{Assemble,
 use Rattle.trips_answers.specs.declared.forms.FileForm.{FileForm}
 use Rattle.trips_answers.specs.declared.forms.FileForm.TheVariants as form
 use Rattle.trips_answers.specs.declared.forms.Settings.{Settings}
-use Rattle.trips_answers.specs.declared.status.Status.{Status}
-use Rattle.trips_answers.specs.declared.status.Status.TheVariants as status
+use Rattle.trips_answer_parts.specs.declared.status.Status.{Status}
+use Rattle.trips_answer_parts.specs.declared.status.Status.TheVariants as status
+use Rattle.trips_answer_parts.specs.Texts.{IsFixed}
+use Rattle.trips_eval_answers.specs.Evaluation.{IsEvaluationOf}
 use Rattle.trips_answers.specs.Report.{ending_of, shown_report}
-use Rattle.trips_answers.specs.Refusal.{front_refusal}
-use Rattle.trips_report.specs.Evaluations.{eval_report}
 use Rattle.trips_answers.specs.Refused.{IsRefusedAs}
 use Rattle.trips_answers.specs.Counted.{IsCountedRun}
 
--- this status, with this text
-abbrev pub IsFixed : Status → List ℕ → Status → List ℕ → Type 0
-IsFixed given text s report = (s ≡ given) × (report ≡ text)
-
--- a refusal that is no want of memory, with its report
-abbrev pub IsRefusalBy : Refusal → Status → List ℕ → Type 0
-IsRefusalBy r s report = (r ≢ Memory) × IsFixed status.Refused (front_refusal r) s report
-
--- Runs and evaluations ------------------------------------------------------------------------
+-- Runs ------------------------------------------------------------------------------------------
 
 -- the status that tells an ending
 abbrev pub status_of : Ending → Status
@@ -64,28 +47,7 @@ IsRunBy blocks bytes input settings s report =
     × IsFixed (status_of ended)
     (shown_report ended run.0 counts (cost_of blocks run.0.trace) settings.show) s report
 
--- the status that tells an outcome
-abbrev pub eval_status : Outcome → Status
-eval_status outcome.More = status.Budget
-eval_status outcome.Undefined = status.Undefined
-eval_status outcome.Deep = status.StackFull
-eval_status (outcome.Done output result steps) = status.Ended
-
--- what the definition says of a program, an input and a number of steps
-abbrev pub outcome_of : TypedProgram → List ℕ → ℕ → Outcome
-outcome_of program input steps = answer (eval program input steps)
-
--- These tell the evaluation of a program on an input, within some steps.
-abbrev pub IsEvaluation : TypedProgram → List ℕ → ℕ → Status → List ℕ → Type 0
-IsEvaluation program input steps s report = let o = outcome_of program input steps in
-    IsFixed (eval_status o) (eval_report o) s report
-
 -- What is done with the bytes of a file -------------------------------------------------------
-
--- the text's program is evaluated
-abbrev pub IsEvaluationOf : ℕ → List ℕ → List ℕ → Status → List ℕ → Type 0
-IsEvaluationOf most text input s report = (program : TypedProgram) × IsAccepted text program
-    × IsEvaluation program input most s report
 
 -- the image that is compiled from the text is run, on an input of bytes
 abbrev pub IsRunOfText : Settings → List ℕ → List ℕ → Status → List ℕ → Type 0

@@ -5,29 +5,24 @@ ghost use Rattle.trips_outside.specs.Outside.{Rose};
 ghost use Rattle.trips_answers.specs.Request.{form_of, settings_of, request_seen};
 ghost use Rattle.trips_answers.specs.Read.{limit_of};
 ghost use Rattle.trips_answers.specs.Worked.{IsDone};
-ghost use Rattle.trips_answers.specs.Answer.{AfterReading, IsAnswerBehind, IsAnswer};
+ghost use Rattle.trips_answers.specs.Answer.{IsAnswerBehind, IsAnswer};
+ghost use Rattle.trips_answer_parts.specs.Read.{AfterReading};
 
-use crate::answer::{Answer, no_request, too_large, unread};
-use crate::eval_answer::text_evaluated;
 use crate::forms::{FileForm, Settings, form_of, settings_for};
 use crate::image_answer::{bytes_answer, target_answer};
-use crate::loading::{Loaded, read_input, read_origin};
+use crate::loading::{read_input, read_origin};
 use crate::text_answer::{text_answer, text_compiled};
-use crate::tool_answer::{bytes_checked, bytes_disassembled, text_assembled};
 use base::Items;
 use c_tree::MOST_SOURCE_BYTES;
 use std::alloc::{AllocError, Global};
+use trips_answer_parts::{Answer, Loaded, no_request, too_large, unread};
+use trips_eval_answers::text_evaluated;
 use trips_outside::Files;
-use trips_requests::{Asked, Command};
-
-/// How many bytes a target text may have.
-pub const MOST_TARGET_BYTES: u64 = 67_108_864;
-
-/// How many bytes an image may have.
-pub const MOST_IMAGE_BYTES: u64 = 71_303_188;
+use trips_requests::{Asked, Command, Tool};
+use trips_tool_answers::{MOST_IMAGE_BYTES, MOST_TARGET_BYTES, tool_done};
 
 // How many bytes a file may have, by what it is read as.
-#[tactic(auto, unfolding(crate::specs::Read::most_source_bytes, crate::specs::Read::most_target_bytes, crate::specs::Read::most_image_bytes))]
+#[tactic(auto, unfolding(trips_eval_answers::specs::Answer::most_source_bytes, trips_tool_answers::specs::Answer::most_target_bytes, trips_tool_answers::specs::Answer::most_image_bytes))]
 fn limit_for(form: FileForm) -> u64
     ensures { result ≡ limit_of form }
 {
@@ -79,9 +74,9 @@ fn done(
         }
         Command::Evaluate => text_evaluated(alloc, bytes, input.as_slice(), settings.most),
         Command::Compile => text_compiled(alloc, bytes, settings.placing),
-        Command::Assemble => text_assembled(alloc, bytes),
-        Command::Disassemble => bytes_disassembled(alloc, bytes),
-        Command::Check => bytes_checked(alloc, bytes),
+        Command::Assemble => tool_done(alloc, Tool::Assemble, bytes),
+        Command::Disassemble => tool_done(alloc, Tool::Disassemble, bytes),
+        Command::Check => tool_done(alloc, Tool::Check, bytes),
     }
 }
 

@@ -5,17 +5,17 @@ ghost use Rattle.grid_cycle_spec.specs.Costs.{cost_of};
 ghost use Rattle.grid_machine.specs.Seeds.{IsRan};
 ghost use Rattle.grid_engine.specs.Engines.{blocks_of, grid_of};
 ghost use Rattle.trips_answers.specs.Report.{shown_report};
-ghost use Rattle.trips_answers.specs.Worked.{IsFixed, status_of, IsRunBy};
+ghost use Rattle.trips_answers.specs.Worked.{status_of, IsRunBy};
+ghost use Rattle.trips_answer_parts.specs.Texts.{IsFixed};
 
-use crate::answer::Answer;
 use crate::forms::Settings;
 use crate::report::run_text;
-use crate::status::Status;
 use base::Items;
 use block_check::CheckedImage;
 use grid_engine::Ran;
 use grid_machine_bound::runs_of_a_seed_end;
 use std::alloc::{AllocError, Global};
+use trips_answer_parts::{Answer, Status};
 use trips_isa::Ending;
 use trips_report::Show;
 

@@ -7,7 +7,6 @@ ghost use Rattle.trips_answers.specs.declared.forms.FileForm.TheVariants as form
 ghost use Rattle.trips_answers.specs.Worked.{IsDone};
 ghost use Rattle.trips_answers.specs.Checked.{IsRunOfChecked};
 
-use crate::answer::{Answer, refused};
 use crate::forms::Settings;
 use crate::gridded::run_image;
 use base::Items;
@@ -15,8 +14,10 @@ use block_check::{CheckedImage, ImageRefusal};
 use block_image::{ImageFault, decode};
 use std::alloc::{AllocError, Global};
 use target_asm::{AsmFault, assemble};
+use trips_answer_parts::Answer;
 use trips_isa::Image;
 use trips_report::Said;
+use trips_tool_answers::refused;
 
 // Runs the image where its blocks are good.
 fn checked_answer(

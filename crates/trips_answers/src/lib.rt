@@ -6,20 +6,15 @@
 //! it (`specs/Table.antt`).
 #![tactic(auto)]
 
-mod answer;
 mod asked_answer;
-mod eval_answer;
 mod forms;
 mod gridded;
 mod image_answer;
 mod loading;
 mod plain;
 mod report;
-mod status;
 mod text_answer;
-mod tool_answer;
 
-pub use answer::Answer;
 pub use asked_answer::answer_to;
-pub use plain::{eval_plain, run_plain};
-pub use status::Status;
+pub use plain::{compile_plain, eval_plain, run_plain, tool_plain};
+pub use trips_answer_parts::{Answer, Status};

@@ -9,16 +9,16 @@ ghost use Rattle.trips_answers.specs.declared.forms.Settings.{Settings};
 ghost use Rattle.flat_lower.specs.Keeps.{IsInput};
 ghost use Rattle.trips_answers.specs.Worked.{IsDone};
 
-use crate::answer::{Answer, stage_refused};
 use crate::forms::Settings;
 use crate::gridded::run_image;
-use crate::status::Status;
 use base::{Items, Memory};
 use block_check::CheckedImage;
 use block_image::encode;
 use c_compile::compile;
 use grid_place::Placing;
 use std::alloc::{AllocError, Global};
+use trips_answer_parts::{Answer, Status};
+use trips_eval_answers::stage_refused;
 
 // Bytes are an input of a program.
 fn is_input(input: &[u8])

@@ -4,7 +4,8 @@
 
 use std::io;
 use std::process::ExitCode;
-use trips_answers::{Status, eval_plain};
+use trips_answer_parts::Status;
+use trips_eval_answers::eval_plain;
 use trips_outside::{OsFiles, OutSink, words};
 
 fn main(rt: HostRuntime) -> ExitCode {

@@ -1,6 +1,5 @@
 -- Reports, worked by hand from the README of this crate.
 use Rattle.std.proofs.Common.{◌≡◌, ◌-◌, ◌^◌, [], ◌∷◌, ◌++◌, refl, codes, true, false}
-use Rattle.std.specs.Prelude.{pos}
 use Rattle.std.specs.Fmt.{digits}
 use Rattle.hex.specs.Hex.{encode_with}
 use Rattle.isa_table.specs.Spots.{indexed, at_slot}
@@ -8,19 +7,15 @@ use Rattle.trips_isa.specs.declared.run.Counts.{Counts}
 use Rattle.trips_isa.specs.declared.run.Ending.TheVariants as ending
 use Rattle.trips_isa.specs.declared.block.Spot.TheVariants as spot
 use Rattle.trips_isa.specs.Machine.{State}
-use Rattle.c_parse.specs.declared.unit.ParseFault.TheVariants as parse
-use Rattle.c_type_expr.specs.declared.fault.TypeFault.TheVariants as typing
 use Rattle.block_image.specs.declared.fault.ImageFault.TheVariants as image
 use Rattle.target_asm_spec.specs.declared.fault.AsmFault.TheVariants as asm
 use Rattle.block_check.specs.declared.fault.CheckFault.TheVariants as check
-use Rattle.c_meaning.specs.declared.outcome.Outcome.TheVariants as outcome
 use Rattle.trips_report.specs.declared.said.Said.TheVariants as said
 use Rattle.trips_report.specs.declared.show.Show.{Show}
 use Rattle.trips_report.specs.Lines.{word_digits, register_line, traced_line, count_line, count_lines}
 use Rattle.trips_report.specs.Lines.{with_part}
 use Rattle.trips_report.specs.Runs.{signed, run_report}
-use Rattle.trips_report.specs.Evaluations.{eval_report}
-use Rattle.trips_report.specs.Refusals.{too_large_text, refusal_report}
+use Rattle.trips_report.specs.Refusals.{refusal_report}
 
 -- four registers, of which the last has what main returned, and one committed block
 abbrev ended : State
@@ -73,20 +68,6 @@ pub negative_is : signed (2 ^ 64 - 31) ≡ codes "-31"
 unfolding digits
 negative_is = refl
 
-pub done_is : eval_report (outcome.Done [] (pos 7) 4) ≡ codes "output 0\n\nresult 7\nsteps 4\n"
-unfolding digits
-done_is = refl
-
-pub deep_is : eval_report outcome.Deep ≡ codes "deep\n"
-deep_is = refl
-
-pub empty_is : refusal_report (said.Parse (parse.Syntax 1)) ≡ codes "refused parse 1 Syntax line 1\n"
-unfolding digits
-empty_is = refl
-
-pub no_main_is : refusal_report (said.Typing typing.NoMain) ≡ codes "refused type 5 NoMain\n"
-no_main_is = refl
-
 pub cut_is : refusal_report (said.Image (image.Truncated 200))
     ≡ codes "refused image 3 Truncated at 200\n"
 unfolding digits
@@ -105,7 +86,3 @@ pub two_tokens_are : refusal_report (said.Check 7 (check.TwoTokens (spot.Left 2)
     ≡ codes "refused check 5 TwoTokens N[2,0] block 7\n"
 unfolding digits at_slot
 two_tokens_are = refl
-
-pub large_is : refusal_report said.TooLarge ≡ codes "refused file 2 TooLarge\n"
-unfolding too_large_text
-large_is = refl

@@ -1,4 +1,3 @@
 pub mod Lines
 pub mod Runs
-pub mod Evaluations
 pub mod Refusals

@@ -1,10 +1,11 @@
 -- The report of a run (README.md of this crate).
-use Rattle.std.specs.Prelude.{ℕ, ◌-◌, ◌^◌, nat_lt, if◌then◌else◌, List, [], ◌∷◌, ◌++◌, length}
+use Rattle.std.specs.Prelude.{ℕ, ◌-◌, ◌^◌, nat_lt, if◌then◌else◌, List, ◌∷◌, ◌++◌, length}
 use Rattle.std.specs.Prelude.{codes, slice_index, decimal}
 use Rattle.trips_isa.specs.declared.run.Counts.{Counts}
 use Rattle.trips_isa.specs.declared.run.Ending.{Ending}
 use Rattle.trips_isa.specs.declared.run.Ending.TheVariants as ending
 use Rattle.trips_isa.specs.Machine.{State}
+use Rattle.trips_answer_parts.specs.Texts.{output_and}
 use Rattle.trips_report.specs.declared.show.Show.{Show}
 use Rattle.trips_report.specs.Lines.{with_part, register_lines, trace_lines, count_lines}
 
@@ -19,12 +20,6 @@ ending_line ending.StackFull word blocks = codes "stack full"
 ending_line ending.Budget word blocks = codes "budget " ++ decimal blocks
 ending_line (ending.Trap block cause) word blocks =
     codes "trap block " ++ (decimal block ++ (codes " cause " ++ decimal cause))
-
--- the output's length, the output, and a line
-abbrev pub output_and : List ℕ → List ℕ → List ℕ
-output_and output line =
-    codes "output " ++ decimal (length output) ++ 10 ∷ []
-    ++ output ++ 10 ∷ [] ++ line ++ 10 ∷ []
 
 -- the report without what may be shown besides, from how the run ended and the state at its end
 abbrev pub plain_report : Ending → State → List ℕ

@@ -1,17 +1,15 @@
-//! The reports of the program, each made whole before its first byte is written: of a run, of an
-//! evaluation, and of what was refused.
+//! The reports of a run and of the refusals of images and target texts, each made whole before its
+//! first byte is written.
 //!
-//! The texts stand in `specs/`: `Runs`, `Evaluations` and `Refusals`.
+//! The texts stand in `specs/`: `Runs` and `Refusals`.
 #![tactic(auto)]
 
-mod evaluations;
 mod lines;
 mod refusals;
 mod runs;
 mod said;
 mod show;
 
-pub use evaluations::eval_report;
 pub use refusals::refusal_report;
 pub use runs::run_report;
 pub use said::Said;

@@ -1,33 +1,19 @@
-//! The reports of refusals.
+//! The reports of the refusals of images and target texts.
 
 ghost use Rattle.std.specs.Prelude.{◌≡◌, ◌≢◌, ◌++◌, OnOk, IfOk};
 ghost use Rattle.isa_table.specs.Spots.{spot_text};
-ghost use Rattle.trips_report.specs.Refusals.{on_line, at_place, lex_text, parse_text, type_text};
-ghost use Rattle.trips_report.specs.Refusals.{image_text, asm_text, fault_text, check_text};
+ghost use Rattle.trips_report.specs.Refusals.{at_place, image_text, asm_text, fault_text, check_text};
 ghost use Rattle.trips_report.specs.Refusals.{IsFault, refusal_report};
 
 use crate::said::Said;
 use base::Memory;
 use block_check::CheckFault;
 use block_image::ImageFault;
-use c_lex::LexFault;
-use c_parse::ParseFault;
-use c_type::TypeFault;
 use isa_table::{put_number, put_spot};
 use std::alloc::{AllocError, Global};
 use target_asm_spec::AsmFault;
+use trips_answer_parts::on_line;
 use trips_isa::Spot;
-
-// A fault's number and name, and its line.
-fn on_line(alloc: Global, name: &[u8], line: u32) -> Result<Vec<u8>, AllocError>
-    ensures { IfOk result (λ text. text.items ≡ on_line name.now line) }
-{
-    let mut text = Vec::from_slice(alloc, name)?;
-    text.extend_from_slice(b" line ")?;
-    put_number(&mut text, line as u64)?;
-    text.push(b'\n')?;
-    Ok(text)
-}
 
 // A fault's number and name, and the place of its first byte.
 fn at_place(alloc: Global, name: &[u8], at: u64) -> Result<Vec<u8>, AllocError>
@@ -38,52 +24,6 @@ fn at_place(alloc: Global, name: &[u8], at: u64) -> Result<Vec<u8>, AllocError>
     put_number(&mut text, at)?;
     text.push(b'\n')?;
     Ok(text)
-}
-
-// The refusal of a text that has no tokens.
-fn lex_text(alloc: Global, fault: LexFault) -> Result<Vec<u8>, AllocError>
-    ensures text { IfOk result (λ text. text.items ≡ lex_text fault) }
-    ensures fault { IfOk result (λ _. fault ≢ LexFault.Memory) }
-{
-    match fault {
-        LexFault::BadByte(line) => on_line(alloc, b"refused lex 1 BadByte", line),
-        LexFault::BadLiteral(line) => on_line(alloc, b"refused lex 2 BadLiteral", line),
-        LexFault::Unclosed(line) => on_line(alloc, b"refused lex 3 Unclosed", line),
-        LexFault::TooManyTokens(line) => on_line(alloc, b"refused lex 4 TooManyTokens", line),
-        LexFault::Directive(line) => on_line(alloc, b"refused lex 5 Directive", line),
-        LexFault::Memory => Err(AllocError),
-    }
-}
-
-// The refusal of a text whose tokens have no tree.
-fn parse_text(alloc: Global, fault: ParseFault) -> Result<Vec<u8>, AllocError>
-    ensures text { IfOk result (λ text. text.items ≡ parse_text fault) }
-    ensures fault { IfOk result (λ _. fault ≢ ParseFault.Memory) }
-{
-    match fault {
-        ParseFault::Syntax(line) => on_line(alloc, b"refused parse 1 Syntax", line),
-        ParseFault::TooDeep(line) => on_line(alloc, b"refused parse 2 TooDeep", line),
-        ParseFault::Memory => Err(AllocError),
-    }
-}
-
-// The refusal of a text whose tree has no types.
-fn type_text(alloc: Global, fault: TypeFault) -> Result<Vec<u8>, AllocError>
-    ensures text { IfOk result (λ text. text.items ≡ type_text fault) }
-    ensures fault { IfOk result (λ _. fault ≢ TypeFault.Memory) }
-{
-    match fault {
-        TypeFault::Unknown(line) => on_line(alloc, b"refused type 1 Unknown", line),
-        TypeFault::Twice(line) => on_line(alloc, b"refused type 2 Twice", line),
-        TypeFault::Mismatch(line) => on_line(alloc, b"refused type 3 Mismatch", line),
-        TypeFault::Arity(line) => on_line(alloc, b"refused type 4 Arity", line),
-        TypeFault::NoMain => Vec::from_slice(alloc, b"refused type 5 NoMain\n"),
-        TypeFault::TooManyScalars(line) => on_line(alloc, b"refused type 6 TooManyScalars", line),
-        TypeFault::TooManyParams(line) => on_line(alloc, b"refused type 7 TooManyParams", line),
-        TypeFault::Need(line) => on_line(alloc, b"refused type 8 Need", line),
-        TypeFault::TooLarge(line) => on_line(alloc, b"refused type 9 TooLarge", line),
-        TypeFault::Memory => Err(AllocError),
-    }
 }
 
 // The refusal of a file that is no image.
@@ -107,9 +47,9 @@ fn asm_text(alloc: Global, fault: AsmFault) -> Result<Vec<u8>, AllocError>
     ensures fault { IfOk result (λ _. fault ≢ AsmFault.Memory) }
 {
     match fault {
-        AsmFault::Syntax(line) => on_line(alloc, b"refused asm 1 Syntax", line),
-        AsmFault::Range(line) => on_line(alloc, b"refused asm 2 Range", line),
-        AsmFault::Label(line) => on_line(alloc, b"refused asm 3 Label", line),
+        AsmFault::Syntax(line) => on_line(alloc, "refused asm 1 Syntax", line),
+        AsmFault::Range(line) => on_line(alloc, "refused asm 2 Range", line),
+        AsmFault::Label(line) => on_line(alloc, "refused asm 3 Label", line),
         AsmFault::Memory => Err(AllocError),
     }
 }
@@ -151,16 +91,11 @@ fn check_text(alloc: Global, number: u32, fault: CheckFault) -> Result<Vec<u8>, 
 }
 
 // The text of a refusal.
-#[tactic(auto, unfolding(crate::specs::Refusals::too_large_text))]
 fn said_text(alloc: Global, said: Said) -> Result<Vec<u8>, AllocError>
     ensures text { IfOk result (λ text. text.items ≡ refusal_report said) }
     ensures fault { IfOk result (λ _. IsFault said) }
 {
     match said {
-        Said::TooLarge => Vec::from_slice(alloc, b"refused file 2 TooLarge\n"),
-        Said::Lex(fault) => lex_text(alloc, fault),
-        Said::Parse(fault) => parse_text(alloc, fault),
-        Said::Typing(fault) => type_text(alloc, fault),
         Said::Image(fault) => image_text(alloc, fault),
         Said::Asm(fault) => asm_text(alloc, fault),
         Said::Check(number, fault) => check_text(alloc, number, fault),

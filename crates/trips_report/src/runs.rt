@@ -1,13 +1,14 @@
 //! The report of a run.
 
 ghost use Rattle.std.specs.Prelude.{◌≡◌, IfOk, length, string_bytes};
-ghost use Rattle.trips_report.specs.Runs.{signed, ending_line, output_and, plain_report, run_report};
+ghost use Rattle.trips_report.specs.Runs.{signed, ending_line, plain_report, run_report};
 
 use crate::lines::{show_counts, show_registers, show_trace};
 use crate::show::Show;
 use base::Memory;
 use block_atomic::Arch;
 use std::alloc::{AllocError, Global};
+use trips_answer_parts::output_text;
 use trips_isa::{Counts, Ending};
 
 // A word as a signed number.
@@ -40,20 +41,6 @@ fn ending_text(
         Ending::Budget => format!(in alloc; "budget {blocks}"),
         Ending::Trap { block, cause } => format!(in alloc; "trap block {block} cause {cause}"),
     }
-}
-
-/// The output's length, the output, and a line.
-pub fn output_text(alloc: Global, output: &[u8], line: &str) -> Result<Vec<u8>, AllocError>
-    ensures { IfOk result (λ report. report.items ≡ output_and output.now line.now) }
-{
-    let count = output.len();
-    let head = format!(in alloc; "output {count}\n")?;
-    let mut report = Vec::from_slice(alloc, head.as_bytes())?;
-    report.extend_from_slice(output)?;
-    report.extend_from_slice(b"\n")?;
-    report.extend_from_slice(line.as_bytes())?;
-    report.extend_from_slice(b"\n")?;
-    Ok(report)
 }
 
 // The report of a run without what may be shown besides, of a machine with its 128 registers.

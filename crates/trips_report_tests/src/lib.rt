@@ -1,4 +1,4 @@
-//! Reports of runs, evaluations and refusals, as tests.
+//! Reports of runs and refusals, as tests.
 #![tactic(auto)]
 
 #[cfg(test)]

@@ -1,19 +1,14 @@
-//! Reports of a whole run, of an evaluation, and of a refusal of each stage.
+//! Reports of a whole run, and of a refusal of each stage.
 
-use base::Items;
 use block_atomic::Arch;
 use block_check::{CheckFault, CheckedImage};
 use block_image::{ImageFault, decode};
-use c_lex::LexFault;
-use c_meaning::Outcome;
-use c_parse::ParseFault;
-use c_type::TypeFault;
 use std::alloc::{AllocError, Global};
 use std::process::Abort;
 use std::test::Fail;
 use target_asm_spec::AsmFault;
 use trips_isa::{Counts, Ending, Spot};
-use trips_report::{Said, Show, eval_report, refusal_report, run_report};
+use trips_report::{Said, Show, refusal_report, run_report};
 
 const COUNTS: Counts = Counts {
     cycles: 40,
@@ -175,48 +170,14 @@ fn shows_each_register(rt: HostRuntime) -> Result<(), Fail> {
     Ok(())
 }
 
-fn assert_evaluation(
-    rt: &impl Abort,
-    alloc: Global,
-    outcome: &Outcome,
-    report: &str,
-) -> Result<(), AllocError> {
-    let written = eval_report(alloc, outcome).expect(rt, "memory");
-    assert_eq!(rt; written.as_slice(), report.as_bytes(), "{report}");
-    Ok(())
-}
-
-#[test]
-fn tells_an_evaluation(rt: HostRuntime) -> Result<(), Fail> {
-    let alloc = rt.alloc();
-    assert_evaluation(&rt, alloc, &Outcome::More, "more\n")?;
-    assert_evaluation(&rt, alloc, &Outcome::Undefined, "undefined\n")?;
-    assert_evaluation(&rt, alloc, &Outcome::Deep, "deep\n")?;
-    let done = Outcome::Done {
-        output: Items::from_vec(Vec::from_slice(alloc, b"3\n")?),
-        result: -3,
-        steps: 4,
-    };
-    assert_evaluation(&rt, alloc, &done, "output 2\n3\n\nresult -3\nsteps 4\n")?;
-    Ok(())
-}
-
 fn assert_refusal(rt: &impl Abort, alloc: Global, said: Said, report: &str) {
     let written = refusal_report(alloc, said).expect(rt, "memory");
     assert_eq!(rt; written.as_slice(), report.as_bytes(), "{report}");
 }
 
 #[test]
-fn tells_refusals_of_texts(rt: HostRuntime) {
+fn tells_refusals_of_target_texts(rt: HostRuntime) {
     let alloc = rt.alloc();
-    let lex = Said::Lex(LexFault::Directive(1));
-    assert_refusal(&rt, alloc, lex, "refused lex 5 Directive line 1\n");
-    let parse = Said::Parse(ParseFault::TooDeep(31));
-    assert_refusal(&rt, alloc, parse, "refused parse 2 TooDeep line 31\n");
-    let typing = Said::Typing(TypeFault::NoMain);
-    assert_refusal(&rt, alloc, typing, "refused type 5 NoMain\n");
-    let need = Said::Typing(TypeFault::Need(1));
-    assert_refusal(&rt, alloc, need, "refused type 8 Need line 1\n");
     let asm = Said::Asm(AsmFault::Label(4));
     assert_refusal(&rt, alloc, asm, "refused asm 3 Label line 4\n");
 }
@@ -224,7 +185,6 @@ fn tells_refusals_of_texts(rt: HostRuntime) {
 #[test]
 fn tells_refusals_of_images(rt: HostRuntime) {
     let alloc = rt.alloc();
-    assert_refusal(&rt, alloc, Said::TooLarge, "refused file 2 TooLarge\n");
     let magic = Said::Image(ImageFault::Magic);
     assert_refusal(&rt, alloc, magic, "refused image 1 Magic\n");
     let trailing = Said::Image(ImageFault::Trailing(276));
@@ -238,9 +198,6 @@ fn tells_refusals_of_images(rt: HostRuntime) {
 #[test]
 fn want_of_memory_is_no_refusal(rt: HostRuntime) {
     let alloc = rt.alloc();
-    assert!(rt; refusal_report(alloc, Said::Lex(LexFault::Memory)).is_err());
-    assert!(rt; refusal_report(alloc, Said::Parse(ParseFault::Memory)).is_err());
-    assert!(rt; refusal_report(alloc, Said::Typing(TypeFault::Memory)).is_err());
     assert!(rt; refusal_report(alloc, Said::Image(ImageFault::Memory)).is_err());
     assert!(rt; refusal_report(alloc, Said::Asm(AsmFault::Memory)).is_err());
 }

@@ -5,13 +5,17 @@ use Rattle.std.specs.Prelude.{◌==◌, ◌&&◌, not, option_and_then}
 use Rattle.std.specs.Str.{bytes_eq}
 use Rattle.std.proofs.lemmas.Option.{none-some}
 use Rattle.std.proofs.lemmas.Slice.Eq.{bytes_eq-Decides}
-use Rattle.trips_requests.specs.declared.commands.Command.TheVariants.{Run, Evaluate}
+use Rattle.trips_requests.specs.declared.commands.Command.TheVariants.{Run, Evaluate, Compile, Assemble, Disassemble, Check}
+use Rattle.trips_requests.specs.declared.commands.AskedTool.{AskedTool}
+use Rattle.trips_requests.specs.declared.commands.Tool.{Tool}
+use Rattle.trips_requests.specs.declared.commands.Tool.TheVariants as tools
 use Rattle.trips_requests.specs.declared.commands.Verb.TheVariants as verb
 use Rattle.trips_requests.specs.Words.{Text, Named, Said, file_name, words_read, word_read, files_read}
 use Rattle.trips_requests.specs.Words.{is_dashed, behind_dashes, goes_on, and_said}
-use Rattle.trips_requests.specs.Options.{run_options, eval_options}
+use Rattle.trips_requests.specs.Options.{run_options, eval_options, compile_options}
 use Rattle.trips_requests.specs.Requests.{verb_named, request_of, asked, is_c_name}
 use Rattle.trips_requests.specs.Plain.{begins_with_dash, file_behind, plain_file, c_file, default_request}
+use Rattle.trips_requests.specs.Plain.{tool_named, work_of, tool_of, plain_tool, tool_seen}
 
 -- a word that begins with no dash is not two dashes, has no name behind two of them, and is no option
 not_two : (word : Text) → begins_with_dash word ≡ false → bytes_eq word (codes "--") ≡ false
@@ -48,6 +52,27 @@ eval_of : (file : Text) → begins_with_dash file ≡ false
     → asked (codes "eval" ∷ file ∷ []) ≡ Some (default_request Evaluate file)
 unfolding verb_named
 eval_of file e = ap (option_and_then (request_of verb.Evaluate)) (file_said eval_options file e)
+
+-- that of `compile`, and of the tools
+compile_of : (file : Text) → begins_with_dash file ≡ false
+    → asked (codes "compile" ∷ file ∷ []) ≡ Some (default_request Compile file)
+unfolding verb_named
+compile_of file e = ap (option_and_then (request_of verb.Compile)) (file_said compile_options file e)
+
+asm_of : (file : Text) → begins_with_dash file ≡ false
+    → asked (codes "asm" ∷ file ∷ []) ≡ Some (default_request Assemble file)
+unfolding verb_named
+asm_of file e = ap (option_and_then (request_of verb.Assemble)) (file_said [] file e)
+
+dis_of : (file : Text) → begins_with_dash file ≡ false
+    → asked (codes "dis" ∷ file ∷ []) ≡ Some (default_request Disassemble file)
+unfolding verb_named
+dis_of file e = ap (option_and_then (request_of verb.Disassemble)) (file_said [] file e)
+
+check_of : (file : Text) → begins_with_dash file ≡ false
+    → asked (codes "check" ∷ file ∷ []) ≡ Some (default_request Check file)
+unfolding verb_named
+check_of file e = ap (option_and_then (request_of verb.Check)) (file_said [] file e)
 
 -- The words are the name and this file, which begins with no dash.
 record ArePlain (name : Text) (words : List Text) (file : Text) : Type 0 where
@@ -95,6 +120,70 @@ pub eval_told : {A : Type 0} (now : A → Text) (found : Option A) (words : List
     → IfSome found (λ a. asked words ≡ Some (default_request Evaluate (now a)))
 eval_told now None words e = tt
 eval_told now (Some a) words e = eval_asked words (now a) (sym e)
+
+pub compile_asked : (words : List Text) (file : Text) → plain_file (codes "compile") words ≡ Some file
+    → asked words ≡ Some (default_request Compile file)
+compile_asked words file e =
+    let plain = plain_is (codes "compile") words file e in ap asked plain.are ∙ compile_of file plain.no_dash
+
+pub compile_told : {A : Type 0} (now : A → Text) (found : Option A) (words : List Text)
+    → option_map now found ≡ plain_file (codes "compile") words
+    → IfSome found (λ a. asked words ≡ Some (default_request Compile (now a)))
+compile_told now None words e = tt
+compile_told now (Some a) words e = compile_asked words (now a) (sym e)
+
+-- a tool's name with a file that begins with no dash asks for the tool
+named_of : (first file : Text) (tool : Tool) → tool_named first ≡ Some tool → begins_with_dash file ≡ false
+    → asked (first ∷ file ∷ []) ≡ Some (default_request (work_of tool) file)
+named_of first file tool named e =
+    go (bytes_eq first (codes "asm")) (bytes_eq first (codes "dis")) (bytes_eq first (codes "check"))
+    refl refl refl named
+  where
+    renamed : (name : Text) → bytes_eq first name ≡ true → asked (first ∷ file ∷ []) ≡ asked (name ∷ file ∷ [])
+    renamed name t = ap (λ (x : Text). asked (x ∷ file ∷ [])) ((bytes_eq-Decides first name).0 t)
+
+    is : (given : Tool) → Some given ≡ Some tool
+        → asked (first ∷ file ∷ []) ≡ Some (default_request (work_of given) file)
+        → asked (first ∷ file ∷ []) ≡ Some (default_request (work_of tool) file)
+    is given s so =
+        let same : given ≡ tool = ap (λ (o : Option Tool). elim o [ None ↦ given | Some x ↦ x ]) s in
+        subst (λ (x : Tool). asked (first ∷ file ∷ []) ≡ Some (default_request (work_of x) file)) same so
+
+    go : (a d k : Bool) → bytes_eq first (codes "asm") ≡ a → bytes_eq first (codes "dis") ≡ d
+        → bytes_eq first (codes "check") ≡ k
+        → cond a (Some tools.Assemble) (cond d (Some tools.Disassemble) (cond k (Some tools.Check) None)) ≡ Some tool
+        → asked (first ∷ file ∷ []) ≡ Some (default_request (work_of tool) file)
+    go true d k t f c s = is tools.Assemble s (renamed (codes "asm") t ∙ asm_of file e)
+    go false true k t f c s = is tools.Disassemble s (renamed (codes "dis") f ∙ dis_of file e)
+    go false false true t f c s = is tools.Check s (renamed (codes "check") c ∙ check_of file e)
+    go false false false t f c s = absurd (none-some tool s)
+
+-- so two words that name a tool and a file ask for that
+behind_named : (first file : Text) (named : Option Tool) (found : Tool × Text) → tool_named first ≡ named
+    → option_and_then (λ tool. tool_of tool file) named ≡ Some found
+    → asked (first ∷ file ∷ []) ≡ Some (default_request (work_of found.0) found.1)
+behind_named first file None found n s = absurd (none-some found s)
+behind_named first file (Some tool) found n s = go (begins_with_dash file) refl s
+  where
+    go : (b : Bool) → begins_with_dash file ≡ b → cond b None (Some (tool, file)) ≡ Some found
+        → asked (first ∷ file ∷ []) ≡ Some (default_request (work_of found.0) found.1)
+    go true e s = absurd (none-some found s)
+    go false e s =
+        let same : (tool, file) ≡ found = ap (λ (o : Option (Tool × Text)). elim o [ None ↦ (tool, file) | Some x ↦ x ]) s in
+        subst (λ (x : Tool × Text). asked (first ∷ file ∷ []) ≡ Some (default_request (work_of x.0) x.1)) same
+        (named_of first file tool n e)
+
+pub tool_asked : (words : List Text) (found : Tool × Text) → plain_tool words ≡ Some found
+    → asked words ≡ Some (default_request (work_of found.0) found.1)
+tool_asked [] found e = absurd (none-some found e)
+tool_asked (first ∷ []) found e = absurd (none-some found e)
+tool_asked (first ∷ file ∷ []) found e = behind_named first file (tool_named first) found refl e
+tool_asked (first ∷ file ∷ third ∷ words) found e = absurd (none-some found e)
+
+pub tool_told : (found : Option AskedTool) (words : List Text) → option_map tool_seen found ≡ plain_tool words
+    → IfSome found (λ a. asked words ≡ Some (default_request (work_of a.tool) a.file.now))
+tool_told None words e = tt
+tool_told (Some a) words e = tool_asked words (tool_seen a) (sym e)
 
 -- the file that is C is the one that was given
 c_is : (file other : Text) → Some other ≡ c_file file → (file ≡ other) × (is_c_name other ≡ true)

@@ -21,6 +21,14 @@ pub enum Verb {
     Check,
 }
 
+/// What is done with a file that holds no C.
+#[derive(Clone, Copy, Debug, PartialEq, Eq)]
+pub enum Tool {
+    Assemble,
+    Disassemble,
+    Check,
+}
+
 /// The most functions that the text of the benchmark may have.
 pub const MOST_FUNCTIONS: u32 = 64;
 
@@ -32,6 +40,13 @@ pub const MOST_SEED: u64 = 18_446_744_073_709_551_615;
 
 /// How many blocks or steps are taken where none are asked for.
 pub const DEFAULT_COUNT: u32 = 1_000_000;
+
+/// A tool, and the file that it is asked for.
+#[derive(Clone, Copy, Debug)]
+pub struct AskedTool<'a> {
+    pub tool: Tool,
+    pub file: &'a str,
+}
 
 /// A request.
 #[derive(Clone, Copy, Debug)]

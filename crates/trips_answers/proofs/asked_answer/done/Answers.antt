@@ -1,4 +1,5 @@
 use Rattle.std.proofs.Common.{◌≤◌, ◌<◌, length, sym, ap, subst, arith}
+use Rattle.trips_requests.specs.declared.commands.Tool.TheVariants.{Assemble, Disassemble, Check}
 use Rattle.trips_answers.specs.declared.forms.FileForm.{FileForm}
 use Rattle.trips_answers.specs.Read.{limit_of}
 use Rattle.trips_answers.specs.Request.{form_of}
@@ -39,10 +40,11 @@ returns-in-Compile c = compile_told _ _ _ _ _ _ _ c.in-Compile.is
     (sym (ap (λ (t : Settings). t.placing) c.settings_for-settings.ensures)) c.text_compiled.ensures
 
 pub returns-in-Assemble : goal.returns-in-Assemble
-returns-in-Assemble c = tool_told _ _ _ _ _ _ _ c.in-Assemble.is c.text_assembled.ensures
+returns-in-Assemble c = tool_told _ Assemble _ _ _ _ _ c.in-Assemble.is c.tool_done.ensures
 
 pub returns-in-Disassemble : goal.returns-in-Disassemble
-returns-in-Disassemble c = tool_told _ _ _ _ _ _ _ c.in-Disassemble.is c.bytes_disassembled.ensures
+returns-in-Disassemble c = tool_told _ Disassemble _ _ _ _ _ c.in-Disassemble.is
+    c.tool_done-in-Disassemble.ensures
 
 pub returns-in-Check : goal.returns-in-Check
-returns-in-Check c = tool_told _ _ _ _ _ _ _ c.in-Check.is c.bytes_checked.ensures
+returns-in-Check c = tool_told _ Check _ _ _ _ _ c.in-Check.is c.tool_done-in-Check.ensures

@@ -13,3 +13,7 @@ returns-in-Ok-write_all-clause-write_fault g c =
 pub returns-in-Ok-write_all-clause-memory : goal.returns-in-Ok-write_all-clause-memory
 returns-in-Ok-write_all-clause-memory g c =
     causes.memory _ _ _ _ _ _ _ (returns-in-Ok-write_all-clause-answered g c)
+
+pub returns-clause-answered : goal.returns-clause-answered
+returns-clause-answered g c = causes.part _ _ _ _ _ _ c.in-Ok.answer.status c.in-Ok.answer.report.items
+    c.in-Ok.ensures.answer (rw c.deref.ensures.value at c.write_all.ensures.part) c.in-Err.ensures.fault

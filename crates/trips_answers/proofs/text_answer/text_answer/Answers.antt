@@ -9,4 +9,4 @@ returns-in-Ok c = compiled_told c.args.text.now c.args.input c.args.settings c.i
 
 pub returns-in-Err : goal.returns-in-Err
 returns-in-Err c = run_refused_told c.args.text.now c.args.input c.args.settings c.in-Err.refusal _
-    c.in-Err.ensures.err c.stage_refused.ensures
+    c.in-Err.ensures.err c.stage_refused.ensures.refused

@@ -7,4 +7,4 @@ returns-in-Ok c =
 
 pub returns-in-Err : goal.returns-in-Err
 returns-in-Err c = compile_refused_told c.args.source.now c.args.placing c.in-Err.refusal _
-    c.in-Err.ensures.err c.stage_refused.ensures
+    c.in-Err.ensures.err c.stage_refused.ensures.refused

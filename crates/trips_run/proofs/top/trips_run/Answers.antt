@@ -121,3 +121,10 @@ returns-in-Ok-write_all-clause-checked g c =
 pub returns-in-Ok-write_all-clause-made_ends : goal.returns-in-Ok-write_all-clause-made_ends
 returns-in-Ok-write_all-clause-made_ends g c =
     causes.made_ends _ _ _ _ _ _ _ (returns-in-Ok-write_all-clause-answered g c)
+
+pub returns-clause-answered : goal.returns-clause-answered
+returns-clause-answered g c = causes.part _ _ _ _ _ _ c.in-Ok.answer.status c.in-Ok.answer.report.items
+    c.in-Ok.ensures.answer (rw c.deref.ensures.value at c.write_all.ensures.part) c.in-Err.ensures.fault
+
+pub returns-clause-cut_off : goal.returns-clause-cut_off
+returns-clause-cut_off g c = causes.cut_off _ _ _ _ _ _ _ (returns-clause-answered g c)

@@ -1,6 +1,0 @@
-use Rattle.trips_answers.proofs.Told.{assembled_told}
-use Rattle.trips_answers.proofs.tool_answer.text_assembled.Goals as goal
-
-pub returns-in-Ok : goal.returns-in-Ok
-returns-in-Ok c =
-    assembled_told c.args.text.now c.in-Ok.made _ c.in-Ok.ensures.ok c.made_answer.ensures

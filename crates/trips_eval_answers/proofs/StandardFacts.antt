@@ -1,0 +1,29 @@
+-- Reports, worked by hand from the README of this crate.
+use Rattle.std.proofs.Common.{◌≡◌, [], refl, codes}
+use Rattle.std.specs.Prelude.{pos}
+use Rattle.std.specs.Fmt.{digits}
+use Rattle.c_lex.specs.declared.fault.LexFault.TheVariants as lexical
+use Rattle.c_parse.specs.declared.unit.ParseFault.TheVariants as parse
+use Rattle.c_type_expr.specs.declared.fault.TypeFault.TheVariants as typing
+use Rattle.c_front.specs.declared.refusal.Refusal.TheVariants as stage
+use Rattle.c_meaning.specs.declared.outcome.Outcome.TheVariants as outcome
+use Rattle.trips_eval_answers.specs.Reports.{eval_report}
+use Rattle.trips_eval_answers.specs.Refusals.{front_refusal}
+
+pub done_is : eval_report (outcome.Done [] (pos 7) 4) ≡ codes "output 0\n\nresult 7\nsteps 4\n"
+unfolding digits
+done_is = refl
+
+pub deep_is : eval_report outcome.Deep ≡ codes "deep\n"
+deep_is = refl
+
+pub directive_is : front_refusal (stage.Lex (lexical.Directive 1)) ≡ codes "refused lex 5 Directive line 1\n"
+unfolding digits
+directive_is = refl
+
+pub empty_is : front_refusal (stage.Parse (parse.Syntax 1)) ≡ codes "refused parse 1 Syntax line 1\n"
+unfolding digits
+empty_is = refl
+
+pub no_main_is : front_refusal (stage.Typing typing.NoMain) ≡ codes "refused type 5 NoMain\n"
+no_main_is = refl

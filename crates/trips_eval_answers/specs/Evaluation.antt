@@ -1,0 +1,54 @@
+-- What the evaluation of a text of C is answered: the status and the report.
+use Rattle.std.specs.Prelude.{◌≡◌, ◌≢◌, ◌⊎◌, ℕ, List}
+use Rattle.c_tree.specs.declared.typed.TypedProgram.{TypedProgram}
+use Rattle.c_front.specs.declared.refusal.Refusal.{Refusal}
+use Rattle.c_front.specs.declared.refusal.Refusal.TheVariants.{Memory}
+use Rattle.c_front.specs.Fronts.{IsAccepted, IsRefused}
+use Rattle.c_meaning_spec.specs.Eval.{eval}
+use Rattle.c_meaning.specs.declared.outcome.Outcome.{Outcome}
+use Rattle.c_meaning.specs.declared.outcome.Outcome.TheVariants as outcome
+use Rattle.c_meaning.specs.Answer.{answer}
+use Rattle.trips_answer_parts.specs.declared.status.Status.{Status}
+use Rattle.trips_answer_parts.specs.declared.status.Status.TheVariants as status
+use Rattle.trips_answer_parts.specs.Texts.{IsFixed}
+use Rattle.trips_eval_answers.specs.Reports.{eval_report}
+use Rattle.trips_eval_answers.specs.Refusals.{front_refusal}
+
+-- a refusal that is no want of memory, with its report
+abbrev pub IsRefusalBy : Refusal → Status → List ℕ → Type 0
+IsRefusalBy r s report = (r ≢ Memory) × IsFixed status.Refused (front_refusal r) s report
+
+-- a stage of the front end refuses the text, and this is its report
+abbrev pub IsRefusedByFront : List ℕ → List ℕ → Type 0
+IsRefusedByFront text report = (r : Refusal) × IsRefused text r × (report ≡ front_refusal r)
+
+-- the text is refused with the report that says why
+abbrev pub IsFrontRefusal : List ℕ → Status → List ℕ → Type 0
+IsFrontRefusal text s report =
+    (said : List ℕ) × IsRefusedByFront text said × IsFixed status.Refused said s report
+
+-- the status that tells an outcome
+abbrev pub eval_status : Outcome → Status
+eval_status outcome.More = status.Budget
+eval_status outcome.Undefined = status.Undefined
+eval_status outcome.Deep = status.StackFull
+eval_status (outcome.Done output result steps) = status.Ended
+
+-- what the definition says of a program, an input and a number of steps
+abbrev pub outcome_of : TypedProgram → List ℕ → ℕ → Outcome
+outcome_of program input steps = answer (eval program input steps)
+
+-- These tell the evaluation of a program on an input, within some steps.
+abbrev pub IsEvaluation : TypedProgram → List ℕ → ℕ → Status → List ℕ → Type 0
+IsEvaluation program input steps s report = let o = outcome_of program input steps in
+    IsFixed (eval_status o) (eval_report o) s report
+
+-- the text's program is evaluated
+abbrev pub IsEvaluationOf : ℕ → List ℕ → List ℕ → Status → List ℕ → Type 0
+IsEvaluationOf most text input s report = (program : TypedProgram) × IsAccepted text program
+    × IsEvaluation program input most s report
+
+-- the text is refused, or its program is evaluated
+abbrev pub IsTextEvaluated : ℕ → List ℕ → List ℕ → Status → List ℕ → Type 0
+IsTextEvaluated most text input s report =
+    IsFrontRefusal text s report ⊎ IsEvaluationOf most text input s report

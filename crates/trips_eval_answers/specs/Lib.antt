@@ -1,0 +1,4 @@
+pub mod Reports
+pub mod Refusals
+pub mod Evaluation
+pub mod Answer

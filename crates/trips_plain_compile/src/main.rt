@@ -1,0 +1,19 @@
+//! The program for `compile` and the name of a text of C, with nothing said besides. It reaches no other
+//! command, so that it is read and compiled sooner. It ends with the status of `compile_plain` as its number.
+#![tactic(auto)]
+
+use std::io;
+use std::process::ExitCode;
+use trips_answers::{Status, compile_plain};
+use trips_outside::{OsFiles, OutSink, words};
+
+fn main(rt: HostRuntime) -> ExitCode {
+    let alloc = rt.alloc();
+    let Ok(words) = words(&rt, alloc) else {
+        return ExitCode::from(Status::Memory as u8);
+    };
+    let mut files = OsFiles::make(&rt);
+    let mut sink = OutSink::make(io::writer(&rt));
+    let status = compile_plain(alloc, &words, &mut files, &mut sink);
+    ExitCode::from(status as u8)
+}

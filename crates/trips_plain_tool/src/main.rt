@@ -1,0 +1,20 @@
+//! The program for `asm`, `dis` or `check` and the name of a file, with nothing said besides. It reaches no
+//! other command, so that it is read and compiled sooner. It ends with the status of `tool_plain` as its number.
+#![tactic(auto)]
+
+use std::io;
+use std::process::ExitCode;
+use trips_answer_parts::Status;
+use trips_outside::{OsFiles, OutSink, words};
+use trips_tool_answers::tool_plain;
+
+fn main(rt: HostRuntime) -> ExitCode {
+    let alloc = rt.alloc();
+    let Ok(words) = words(&rt, alloc) else {
+        return ExitCode::from(Status::Memory as u8);
+    };
+    let mut files = OsFiles::make(&rt);
+    let mut sink = OutSink::make(io::writer(&rt));
+    let status = tool_plain(alloc, &words, &mut files, &mut sink);
+    ExitCode::from(status as u8)
+}
