@@ -1,2 +1,3 @@
 pub mod Names
 pub mod StandardFacts
+pub mod Chains

@@ -1,21 +1,20 @@
 -- What the table knows of the open blocks.
 use Rattle.std.proofs.Common.{◌≡◌, ℕ, zero, suc, ◌+◌, ◌-◌, ◌<◌, ◌≤◌, Bool, true, false, cond, List}
 use Rattle.std.proofs.Common.{[], ◌∷◌, ◌++◌, length, take, drop, get_or, reverse, Option, Some}
-use Rattle.std.proofs.Common.{None, refl, sym, ap, ◌∙◌, subst, arith, ⊎_elim, length-append}
-use Rattle.std.proofs.Common.{length-drop}
-use Rattle.std.specs.Prelude.{is_some, IsSome, nat_le}
-use Rattle.std.specs.HashMap.{HashMap, get}
+use Rattle.std.proofs.Common.{None, refl, sym, ap, ◌∙◌, subst, arith, ⊎_elim}
+use Rattle.std.specs.Prelude.{is_some, nat_le}
 use Rattle.std.proofs.lemmas.List.{reverse-append, length-reverse, reverse-reverse, length-take-le}
-use Rattle.std.proofs.lemmas.List.{take-append-drop}
-use Rattle.std.proofs.Math.Seq.{get_or-append_seam, drop-append_seam}
+use Rattle.std.proofs.lemmas.List.{length-map, take-map, drop-map}
+use Rattle.std.proofs.Math.Seq.{get_or-append_seam}
 use Rattle.std.proofs.Math.ListN.{get_or-append}
-use Rattle.std.specs.Cmp.Lexicographic.{bytes_decides}
 use Rattle.std.proofs.lemmas.Bool.{cases_lt, lt-leb, le-leb}
 use Rattle.c_scope.specs.declared.meaning.Entry.{Entry}
 use Rattle.c_scope.specs.declared.meaning.Meaning.{Meaning}
-use Rattle.c_scope.specs.Scope.{Frame, same_name, find, look_up, is_here, or_else, closed}
+use Rattle.c_scope.specs.declared.meaning.Binding.{Binding}
+use Rattle.c_scope.specs.Scope.{Scope, Frame, same_name, find, look_up, is_here, or_else, closed}
 use Rattle.c_scope.specs.Scope.{declared_in}
-use Rattle.c_scope.specs.Frames.{bindings, frames, first_start, StartsFit, place_in, Kept}
+use Rattle.c_scope.specs.Frames.{bindings, frames, first_start, StartsFit, place_in}
+use Rattle.c_scope.proofs.Chains.{drop_reversed}
 
 over : (b : Bool) (m : Meaning) (x y : Option Meaning)
     → or_else (cond b (Some m) x) y ≡ cond b (Some m) (or_else x y)
@@ -97,19 +96,18 @@ find_some (e ∷ es) q i h = by (find_some es q i) (same_name e.binding.name q) 
               ∙ ap (λ (l : List Entry). Some (get_or l i d).binding.meaning) (sym (backwards e es));
         }
 
-module _ {S : Type 0} (ss : List ℕ) (items : List Entry) (m : HashMap (List ℕ) ℕ S) (k : Kept (reverse items) m)
-    (q : List ℕ) where
-  pub look_none : get same_name m q ≡ None → look_up (frames ss (reverse items)) q ≡ None
-  look_none h = flat ss (reverse items) q ∙ find_none (reverse items) q (sym (k.finds q) ∙ h)
+module _ (ss : List ℕ) (items : List Entry) (q : List ℕ) where
+  pub look_none : place_in (reverse items) q ≡ None → look_up (frames ss (reverse items)) q ≡ None
+  look_none h = flat ss (reverse items) q ∙ find_none (reverse items) q h
 
-  pub look_within : (i : ℕ) → get same_name m q ≡ Some i → i < length items
+  pub look_within : (i : ℕ) → place_in (reverse items) q ≡ Some i → i < length items
   look_within i h =
-      let f = find_some (reverse items) q i (sym (k.finds q) ∙ h) in omega (arith, f.within, length-reverse items)
+      let f = find_some (reverse items) q i h in omega (arith, f.within, length-reverse items)
 
-  pub look_some : (i : ℕ) (d : Entry) → get same_name m q ≡ Some i
+  pub look_some : (i : ℕ) (d : Entry) → place_in (reverse items) q ≡ Some i
       → look_up (frames ss (reverse items)) q ≡ Some (get_or items i d).binding.meaning
   look_some i d h =
-      let f = find_some (reverse items) q i (sym (k.finds q) ∙ h) in
+      let f = find_some (reverse items) q i h in
       flat ss (reverse items) q ∙ f.meaning d
       ∙ ap (λ (l : List Entry). Some (get_or l i d).binding.meaning) (reverse-reverse items)
 
@@ -190,15 +188,61 @@ declared_to (s ∷ ss) e es fit =
     let n : length (e ∷ es) - s ≡ suc (length es - s) = omega (arith, fit.0) in
     ap (λ n. bindings (take n (e ∷ es)) ∷ frames ss (drop n (e ∷ es))) n
 
-pub added : (ss : List ℕ) (old new : List Entry) (e : Entry) → StartsFit ss (length old)
-    → new ≡ old ++ e ∷ [] → (frames ss (reverse new)
-    ≡ declared_in e.binding (frames ss (reverse old))) × StartsFit ss (length new)
-added ss old new e fit h =
-    let r : reverse new ≡ e ∷ reverse old = ap reverse h ∙ reverse-append old (e ∷ []) in
+-- the blocks are those of the bindings alone
+abbrev cut : List ℕ → Frame → Scope
+cut [] bs = bs ∷ []
+cut (s ∷ ss) bs = take (length bs - s) bs ∷ cut ss (drop (length bs - s) bs)
+
+cuts : (ss : List ℕ) (es : List Entry) → frames ss es ≡ cut ss (bindings es)
+cuts [] es = refl
+cuts (s ∷ ss) es =
+    let l : length (bindings es) ≡ length es = length-map es (λ (e : Entry). e.binding) in
+    ap (λ (G : Scope). bindings (take (length es - s) es) ∷ G) (cuts ss (drop (length es - s) es))
+    ∙ ap (λ (b : Frame). bindings (take (length es - s) es) ∷ cut ss b)
+    (sym (drop-map (λ (e : Entry). e.binding) (length es - s) es))
+    ∙ ap (λ (b : Frame). b ∷ cut ss (drop (length es - s) (bindings es)))
+    (sym (take-map (λ (e : Entry). e.binding) (length es - s) es))
+    ∙ ap (λ (n : ℕ). take (n - s) (bindings es) ∷ cut ss (drop (n - s) (bindings es))) (sym l)
+
+pub same_blocks : (ss : List ℕ) (old new : List Entry) → bindings new ≡ bindings old
+    → frames ss new ≡ frames ss old
+same_blocks ss old new h =
+    cuts ss new ∙ ap (λ (b : Frame). cut ss b) h ∙ sym (cuts ss old)
+
+pub same_count_of : (old new : List Entry) → bindings (reverse new) ≡ bindings (reverse old)
+    → length new ≡ length old
+same_count_of old new h =
+    omega (
+      arith,
+      ap (length {A = Binding}) h,
+      length-map (reverse new) (λ (e : Entry). e.binding),
+      length-map (reverse old) (λ (e : Entry). e.binding),
+      length-reverse new,
+      length-reverse old,
+    )
+
+pub still_fits : (ss : List ℕ) (old new : List Entry)
+    → bindings (reverse new) ≡ bindings (reverse old) → StartsFit ss (length old)
+    → StartsFit ss (length new)
+still_fits ss old new h fit = subst (λ (n : ℕ). StartsFit ss n) (sym (same_count_of old new h)) fit
+
+pub added : (ss : List ℕ) (old new : List Entry) (b : Binding) → StartsFit ss (length old)
+    → bindings (reverse new) ≡ b ∷ bindings (reverse old) → (frames ss (reverse new)
+    ≡ declared_in b (frames ss (reverse old))) × StartsFit ss (length new)
+added ss old new b fit h =
+    let e : Entry = record { binding = b; older = None } in
     let l : length (reverse old) ≡ length old = length-reverse old in
-    let n : length new ≡ length old + 1 = omega (arith, ap (length {A = Entry}) h, length-append old (e ∷ [])) in (
-      ap (frames ss) r ∙ declared_to ss e (reverse old)
-          (starts_more ss (length old) _ (omega (arith, l)) fit),
+    let n : length new ≡ length old + 1 =
+    omega (
+      arith,
+      ap (length {A = Binding}) h,
+      length-map (reverse new) (λ (e : Entry). e.binding),
+      length-map (reverse old) (λ (e : Entry). e.binding),
+      length-reverse new,
+      length-reverse old,
+    ) in (
+      same_blocks ss (e ∷ reverse old) (reverse new) h
+          ∙ declared_to ss e (reverse old) (subst (λ (n : ℕ). StartsFit ss n) (sym l) fit),
       starts_more ss (length old) (length new) (omega (arith, n)) fit,
     )
 
@@ -206,16 +250,6 @@ added ss old new e fit h =
 next_block : (ss : List ℕ) (es : List Entry) (f : Frame) → closed (f ∷ frames ss es) ≡ frames ss es
 next_block [] es f = refl
 next_block (s ∷ ss) es f = refl
-
-drop_reversed : (n : ℕ) (xs : List Entry) → n ≤ length xs
-    → drop (length xs - n) (reverse xs) ≡ reverse (take n xs)
-drop_reversed n xs le =
-    let a : reverse xs ≡ reverse (drop n xs) ++ reverse (take n xs) = ap reverse (sym (take-append-drop n xs))
-    ∙ reverse-append (take n xs) (drop n xs) in
-    let l : length (reverse (drop n xs)) ≡ length xs - n = length-reverse (drop n xs) ∙ length-drop n xs in
-    ap (λ (l : List Entry). drop (length xs - n) l) a
-    ∙ ap (λ (m : ℕ). drop m (reverse (drop n xs) ++ reverse (take n xs))) (sym l)
-    ∙ drop-append_seam (reverse (drop n xs)) (reverse (take n xs))
 
 pub left_block : (s : ℕ) (ss : List ℕ) (old new : List Entry) → StartsFit (s ∷ ss) (length old)
     → new ≡ take s old
@@ -229,35 +263,6 @@ left_block s ss old new fit h =
           (bindings (take (length (reverse old) - s) (reverse old)))),
       subst (StartsFit ss) (sym (ap (length {A = Entry}) h ∙ length-take-le s old fit.0)) fit.1,
     )
-
--- the newest name goes
-pub shorter : {S : Type 0} (e : Entry) (es : List Entry) (m n : HashMap (List ℕ) ℕ S)
-    → Kept (e ∷ es) m
-    → ((q : List ℕ) → get same_name n q ≡ cond (same_name e.binding.name q) e.hidden
-    (get same_name m q)) → Kept es n
-shorter e es m n k h = record {
-  hides = k.hides.1;
-  finds = λ q. by q (same_name e.binding.name q) refl;
-}
-  where
-    by : (q : List ℕ) (b : Bool) → same_name e.binding.name q ≡ b
-        → get same_name n q ≡ place_in es q
-    by q true p =
-        h q ∙ ap (λ b. cond b e.hidden (get same_name m q)) p ∙ k.hides.0
-        ∙ ap (place_in es) ((bytes_decides e.binding.name q).0 p)
-    by q false p =
-        h q ∙ ap (λ b. cond b e.hidden (get same_name m q)) p ∙ k.finds q
-        ∙ ap (λ b. cond b (Some (length es)) (place_in es q)) p
-
-pub is_found : {S : Type 0} (e : Entry) (es : List Entry) (m : HashMap (List ℕ) ℕ S)
-    → Kept (e ∷ es) m → IsSome (get same_name m e.binding.name)
-is_found e es m k =
-    subst IsSome (sym (k.finds e.binding.name
-    ∙ ap (λ b. cond b (Some (length es)) (place_in es e.binding.name))
-    ((bytes_decides e.binding.name e.binding.name).1 refl))) refl
-
-pub backward : (xs ys : List Entry) (e : Entry) → xs ≡ ys ++ e ∷ [] → reverse xs ≡ e ∷ reverse ys
-backward xs ys e h = ap reverse h ∙ reverse-append ys (e ∷ [])
 
 pub close_to : (s : ℕ) (starts less : List ℕ) (old new : List Entry) → starts ≡ less ++ s ∷ []
     → StartsFit (reverse starts) (length old) → new ≡ take s old

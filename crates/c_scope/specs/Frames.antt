@@ -1,7 +1,6 @@
 -- How the names in scope are kept.
-use Rattle.std.specs.Prelude.{◌≡◌, ℕ, ◌-◌, ◌≤◌, cond, List, [], ◌∷◌, length, map, take, drop}
+use Rattle.std.specs.Prelude.{ℕ, ◌-◌, ◌≤◌, cond, List, [], ◌∷◌, length, map, take, drop}
 use Rattle.std.specs.Prelude.{Option, Some, None}
-use Rattle.std.specs.HashMap.{HashMap, get}
 use Rattle.c_scope.specs.declared.meaning.Entry.{Entry}
 use Rattle.c_scope.specs.Scope.{Scope, Frame, same_name}
 
@@ -28,14 +27,3 @@ StartsFit (s ∷ ss) n = (s ≤ n) × StartsFit ss s
 abbrev pub place_in : List Entry → List ℕ → Option ℕ
 place_in [] q = None
 place_in (e ∷ es) q = cond (same_name e.binding.name q) (Some (length es)) (place_in es q)
-
--- each entry knows the one that it hides
-abbrev pub HidesRight : List Entry → Type 0
-HidesRight [] = Unit {0}
-HidesRight (e ∷ es) = (e.hidden ≡ place_in es e.binding.name) × HidesRight es
-
--- the table finds the newest binding of each name
-pub record Kept {S : Type 0} (es : List Entry) (m : HashMap (List ℕ) ℕ S) : Type 0 where
-  pub hides : HidesRight es
-  -- by its place, counted from the oldest
-  pub finds : (q : List ℕ) → get same_name m q ≡ place_in es q

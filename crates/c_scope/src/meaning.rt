@@ -30,9 +30,9 @@ pub struct Binding {
     pub meaning: Meaning,
 }
 
-/// A binding, with the place of the one that it hides.
+/// A binding, with the place of the next older one of its chain.
 #[derive(Drop)]
 pub struct Entry {
     pub binding: Binding,
-    pub hidden: Option<usize>,
+    pub older: Option<usize>,
 }

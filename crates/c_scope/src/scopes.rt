@@ -3,11 +3,10 @@ ghost use Rattle.std.specs.Option.{option_copied};
 ghost use Rattle.c_scope.specs.Scope.{look_up, is_here, opened, closed, declared_in, bound};
 ghost use Rattle.c_scope.specs.Frames.{first_start};
 
-use crate::entries::{add, last_start, unwind};
+use crate::entries::{add, last_start, place_of, unwind};
 use crate::meaning::{Binding, Entry, Meaning};
 use c_tree::Word;
 use std::alloc::{AllocError, Global};
-use std::collections::HashMap;
 use std::marker::Model;
 
 /// The names in scope, which contracts see as the open blocks, the innermost first.
@@ -17,19 +16,20 @@ use std::marker::Model;
 pub struct Scopes {
     entries: Vec<Entry>,
     starts: Vec<usize>,
-    newest: HashMap<Word, usize>,
+    heads: Vec<Option<usize>>,
 }
 
 impl Model for Scopes {
     ghost use Rattle.std.specs.Prelude.{length, reverse};
     ghost use Rattle.c_scope.specs.Scope.{Scope};
-    ghost use Rattle.c_scope.specs.Frames.{frames, Kept, StartsFit};
+    ghost use Rattle.c_scope.specs.Frames.{frames, StartsFit};
+    ghost use Rattle.c_scope.specs.Chains.{Kept};
 
     ghost Value = { Scope };
 
     ghost view = { λ s. frames (reverse s.starts.items) (reverse s.entries.items) };
 
-    ghost invariant = { λ s. Kept (reverse s.entries.items) s.newest
+    ghost invariant = { λ s. Kept (reverse s.entries.items) s.heads.items
         × StartsFit (reverse s.starts.items) (length s.entries.items) };
 }
 
@@ -41,7 +41,7 @@ impl Scopes {
         Scopes {
             entries: Vec::new(alloc),
             starts: Vec::new(alloc),
-            newest: HashMap::new(alloc),
+            heads: Vec::new(alloc),
         }
     }
 
@@ -49,8 +49,8 @@ impl Scopes {
     pub fn look_up(&self, name: &Word) -> Option<&Meaning>
         ensures { option_copied result ≡ look_up self.now name.now }
     {
-        match self.newest.get(name) {
-            Some(at) => Some(&self.entries[*at].binding.meaning),
+        match place_of(&self.entries, &self.heads, name) {
+            Some(at) => Some(&self.entries[at].binding.meaning),
             None => None,
         }
     }
@@ -60,8 +60,8 @@ impl Scopes {
         ensures { result ≡ is_here self.now name.now }
     {
         let start = last_start(&self.starts);
-        match self.newest.get(name) {
-            Some(at) => start <= *at,
+        match place_of(&self.entries, &self.heads, name) {
+            Some(at) => start <= at,
             None => false,
         }
     }
@@ -80,7 +80,7 @@ impl Scopes {
         ensures { self.new ≡ closed self.old }
     {
         if let Some(start) = self.starts.pop() {
-            unwind(&mut self.entries, &mut self.newest, start);
+            unwind(&mut self.entries, self.heads.as_mut_slice(), start);
         }
     }
 
@@ -91,7 +91,7 @@ impl Scopes {
         ensures err { OnErr result (self.new ≡ self.old) }
     {
         let binding = Binding { name, meaning };
-        add(alloc, &mut self.entries, &mut self.newest, binding)?;
+        add(alloc, &mut self.entries, &mut self.heads, binding)?;
         Ok(())
     }
 }

@@ -1,20 +1,17 @@
-use Rattle.std.proofs.Common.{List, subst, reverse}
-use Rattle.c_scope.specs.declared.meaning.Entry.{Entry}
-use Rattle.c_scope.specs.Frames.{Kept}
-use Rattle.c_scope.proofs.Names.{backward, is_found, shorter}
+use Rattle.std.proofs.Common.{rules, ◌<◌, length}
+use Rattle.c_scope.proofs.Chains.{last_has_head}
 use Rattle.c_scope.proofs.entries.undo.Goals as goal
 
-pub forget-requires : goal.forget-requires
-forget-requires c =
-    is_found c.in-Some.entry (reverse c.pop.new.self.items) c.args.newest.now
-    (subst (λ (es : List Entry). Kept es c.args.newest.now)
-    (backward c.args.entries.now.items c.pop.new.self.items c.in-Some.entry
-    c.in-Some.ensures.items) c.requires)
+pub offset_bounds-heads-chain : goal.offset_bounds-heads-chain
+offset_bounds-heads-chain c =
+    let lt : c.chain_of-chain.result < length c.args.heads.now =
+    last_has_head c.args.entries.now.items c.pop.new.self.items c.in-Some.entry
+    c.as_slice.result.now c.chain_of-chain.result c.args.heads.now c.requires
+    c.in-Some.ensures.items c.as_slice.ensures.value c.chain_of-chain.ensures.chain in
+    search rules
 
-pub returns-in-Some-clause-kept : goal.returns-in-Some-clause-kept
-returns-in-Some-clause-kept c =
-    shorter c.in-Some.entry (reverse c.pop.new.self.items) c.args.newest.now c.forget.new.newest
-    (subst (λ (es : List Entry). Kept es c.args.newest.now)
-    (backward c.args.entries.now.items c.pop.new.self.items c.in-Some.entry
-    c.in-Some.ensures.items) c.requires)
-    c.forget.ensures
+pub bounds-heads-chain : goal.bounds-heads-chain
+bounds-heads-chain c =
+    last_has_head c.args.entries.now.items c.pop.new.self.items c.in-Some.entry
+    c.as_slice.result.now c.chain_of-chain.result c.args.heads.now c.requires
+    c.in-Some.ensures.items c.as_slice.ensures.value c.chain_of-chain.ensures.chain

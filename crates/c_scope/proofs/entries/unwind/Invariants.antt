@@ -1,10 +1,10 @@
 use Rattle.std.proofs.Common.{◌≡◌, take, reverse, length}
-use Rattle.c_scope.specs.Frames.{Kept}
+use Rattle.c_scope.specs.Chains.{Kept}
 use Rattle.c_scope.proofs.entries.unwind.Given as goal
 
 abbrev pub invariant-loop-entries : goal.invariant-loop-entries
 invariant-loop-entries l = record {
-  kept : Kept (reverse l.entries.items) l.newest;
+  kept : Kept (reverse l.entries.items) l.heads;
   cut : take l.start l.entries.items ≡ take l.start l.fn.entries.items;
 }
 
