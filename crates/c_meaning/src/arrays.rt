@@ -52,10 +52,13 @@ fn pad(cells: &mut Vec<Cell>, cell: Cell, count: usize) -> Result<(), AllocError
     ensures known { (last : ℕ) → cell.stamp ≤ last → CellsKnown last cells.old.items
         → CellsKnown last cells.new.items }
 {
-    for _i in 0..count {
-        cells.push(cell)?;
+    match cells.len().checked_add(count) {
+        None => Err(AllocError),
+        Some(length) => {
+            cells.resize(length, cell)?;
+            Ok(())
+        }
     }
-    Ok(())
 }
 
 /// Adds cells with these words.
