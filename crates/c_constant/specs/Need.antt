@@ -1,7 +1,6 @@
 -- How many temporaries an expression needs, if operands are computed from left to right.
 use Rattle.std.specs.Prelude.{ℕ, ◌+◌, max, min, Bool, nat_le, List, [], ◌∷◌, Option, Some, None}
 use Rattle.std.specs.Prelude.{option_map}
-use Rattle.c_constant.specs.declared.needs.Need.{Need}
 use Rattle.c_tree.specs.declared.limits.TheConstants.{MOST_NEED}
 use Rattle.c_tree.specs.declared.tree.Expr.{Expr, Expr-F, fold-Expr}
 use Rattle.c_tree.specs.declared.tree.ExprNode.TheOpen.{ExprNode-F, Number, Name, Element, Call}
@@ -79,10 +78,6 @@ capped n = min n 17
 abbrev pub capped_if : Option ℕ → Option ℕ
 capped_if None = None
 capped_if (Some n) = Some (capped n)
-
--- needs as the code counts them
-abbrev pub counted : Needs → Need
-counted n = record { need = capped n.need; index = capped_if n.index }
 
 -- the limit on a full expression
 abbrev pub need_fits : Expr → Bool

@@ -3,36 +3,12 @@
 ghost use Rattle.std.specs.Prelude.{◌≡◌, ◌+◌, ◌≤◌, max, map, option_map, min, Option, Some, None};
 ghost use Rattle.std.specs.Prelude.{IsTrue, ℕ};
 ghost use Rattle.std.specs.Prelude.{◌↔◌};
-ghost use Rattle.c_constant.specs.Need.{counted, capped, capped_if, assign_need, indexes_need};
+ghost use Rattle.c_constant.specs.Need.{capped, capped_if, assign_need, indexes_need};
 ghost use Rattle.c_constant.specs.Need.{call_need};
 ghost use Rattle.c_constant.specs.Need as needs;
 
 use base::{Boxed, Items};
 use c_tree::{Expr, ExprNode, MOST_NEED};
-
-/// A need, and the need of the index where the expression is an element, each counted up to 17.
-#[derive(Clone, Copy, Debug, PartialEq, Eq)]
-pub struct Need {
-    pub need: u64,
-    pub index: Option<u64>,
-}
-
-// The needs of what is no element.
-fn plain(need: u64) -> Need
-    ensures { result ≡ record { need = need; index = None } }
-{
-    Need { need, index: None }
-}
-
-// The needs of an element whose indexes have this need.
-fn element(need: u64) -> Need
-    ensures { result ≡ record { need = need; index = Some need } }
-{
-    Need {
-        need,
-        index: Some(need),
-    }
-}
 
 // The greater of two needs.
 fn larger(a: u64, b: u64) -> u64
@@ -77,7 +53,7 @@ fn args_need(args: &[Boxed<Expr>]) -> u64
     let mut most = 0;
     let mut at = 0;
     for arg in args {
-        most = larger(most, further(counted_need(arg.get()).need, at));
+        most = larger(most, further(operand(arg.get()), at));
         at = further(at, 1);
     }
     most
@@ -95,17 +71,16 @@ fn call(args: &Items<Boxed<Expr>>) -> u64
     }
 }
 
-// The need of an operand, in a frame of its own, so that the node above holds one number of it. Most are a name or a
-// number, which asks for no more than this frame.
+// The need of an operand. Most are a name or a number, which asks for no call.
 #[cycle(need)]
-#[inline(never)]
+#[inline(always)]
 fn operand(e: &Expr) -> u64
-    ensures { result ≡ capped (needs.needs e.now).need }
+    ensures { result ≡ capped (needs.need e.now) }
 {
     match &e.node {
         ExprNode::Number { .. } => 1,
         ExprNode::Name(_) => 1,
-        _ => counted_need(e).need,
+        _ => most_need(e, 0),
     }
 }
 
@@ -121,36 +96,61 @@ fn first_index(row: &Option<Boxed<Expr>>) -> Option<u64>
     }
 }
 
-// The needs of an expression, each counted up to 17.
+// The need of an element's index, in any groups, and none of what is no element.
 #[cycle(need)]
-fn counted_need(e: &Expr) -> Need
-    ensures { result ≡ counted (needs.needs e.now) }
+#[inline(never)]
+fn index_need(e: &Expr) -> Option<u64>
+    ensures { result ≡ capped_if (needs.needs e.now).index }
 {
     match &e.node {
-        ExprNode::Number { .. } => plain(1),
-        ExprNode::Name(_) => plain(1),
-        ExprNode::Element { row, index, .. } => element(indexes(
-            first_index(row),
-            operand(index.get()),
-        )),
-        ExprNode::Call { args, .. } => plain(call(args)),
-        ExprNode::Group(e) => counted_need(e.get()),
-        ExprNode::Unary { e, .. } => plain(operand(e.get())),
-        ExprNode::Cast { e, .. } => plain(operand(e.get())),
-        ExprNode::Bump { e, .. } => plain(operand(e.get())),
-        ExprNode::Binary { left, right, .. } => plain(larger(
-            operand(left.get()),
-            further(operand(right.get()), 1),
-        )),
-        ExprNode::Choice { test, yes, no } => plain(larger(
-            operand(test.get()),
-            larger(operand(yes.get()), operand(no.get())),
-        )),
-        ExprNode::Assign { left, right, .. } => plain(assigned(
-            counted_need(left.get()).index,
-            operand(right.get()),
-        )),
-        ExprNode::Comma { left, right } => plain(larger(operand(left.get()), operand(right.get()))),
+        ExprNode::Element { row, index, .. } => {
+            Some(indexes(first_index(row), operand(index.get())))
+        }
+        ExprNode::Group(e) => index_need(e.get()),
+        ExprNode::Number { .. } => None,
+        ExprNode::Name(_) => None,
+        ExprNode::Call { .. } => None,
+        ExprNode::Unary { .. } => None,
+        ExprNode::Cast { .. } => None,
+        ExprNode::Bump { .. } => None,
+        ExprNode::Binary { .. } => None,
+        ExprNode::Choice { .. } => None,
+        ExprNode::Assign { .. } => None,
+        ExprNode::Comma { .. } => None,
+    }
+}
+
+// The greater of a number and the need of an expression, counted up to 17. The left operands of a chain are a loop.
+#[cycle(need)]
+#[inline(never)]
+fn most_need(e: &Expr, most: u64) -> u64
+    ensures { result ≡ max most (capped (needs.need e.now)) }
+{
+    match &e.node {
+        ExprNode::Number { .. } => larger(most, 1),
+        ExprNode::Name(_) => larger(most, 1),
+        ExprNode::Element { row, index, .. } => {
+            larger(most, indexes(first_index(row), operand(index.get())))
+        }
+        ExprNode::Call { args, .. } => larger(most, call(args)),
+        ExprNode::Group(e) => most_need(e.get(), most),
+        ExprNode::Unary { e, .. } => most_need(e.get(), most),
+        ExprNode::Cast { e, .. } => most_need(e.get(), most),
+        ExprNode::Bump { e, .. } => most_need(e.get(), most),
+        ExprNode::Binary { left, right, .. } => {
+            most_need(left.get(), larger(most, further(operand(right.get()), 1)))
+        }
+        ExprNode::Choice { test, yes, no } => most_need(
+            test.get(),
+            larger(most, larger(operand(yes.get()), operand(no.get()))),
+        ),
+        ExprNode::Assign { left, right, .. } => larger(
+            most,
+            assigned(index_need(left.get()), operand(right.get())),
+        ),
+        ExprNode::Comma { left, right } => {
+            most_need(left.get(), larger(most, operand(right.get())))
+        }
     }
 }
 
@@ -158,5 +158,5 @@ fn counted_need(e: &Expr) -> Need
 pub fn need_fits(e: &Expr) -> bool
     ensures { result ≡ needs.need_fits e.now }
 {
-    counted_need(e).need <= MOST_NEED
+    most_need(e, 0) <= MOST_NEED
 }
