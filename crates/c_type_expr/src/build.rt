@@ -1,5 +1,5 @@
-//! Typed nodes over typed operands, on the heap. No function here is put in line: what they hold on the way would
-//! stand in the frames of the recursion that calls them.
+//! Typed nodes over typed operands, on the heap. No function that the recursion calls is put in line: what they hold
+//! on the way would stand in its frames.
 
 ghost use Rattle.std.specs.Prelude.{◌≡◌, IfOk, None, Some};
 ghost use Rattle.c_type_expr.specs.Trees as trees;
@@ -19,7 +19,7 @@ pub fn kind_of(e: &TypedExpr) -> Kind
 }
 
 // A node of a kind, on the heap.
-#[inline(never)]
+#[inline(always)]
 pub fn boxed(
     alloc: Global,
     kind: Option<Kind>,
@@ -30,8 +30,16 @@ pub fn boxed(
     Boxed::new(alloc, TypedExpr { kind, node })
 }
 
-/// An expression converted to a kind, by a node where its kind is another. Want of memory is the only error.
+// The conversion of an expression to a kind.
 #[inline(never)]
+fn converted(alloc: Global, to: Kind, e: Boxed<TypedExpr>) -> Result<Boxed<TypedExpr>, AllocError>
+    ensures { IfOk result (λ t. t ≡ trees.a (Some to) (TypedNode.Convert to e)) }
+{
+    boxed(alloc, Some(to), TypedNode::Convert { to, e })
+}
+
+/// An expression converted to a kind, by a node where its kind is another. Want of memory is the only error.
+#[inline(always)]
 pub fn with_convert(
     alloc: Global,
     to: Kind,
@@ -42,7 +50,7 @@ pub fn with_convert(
     if kind_of(e.get()) == to {
         return Ok(e);
     }
-    boxed(alloc, Some(to), TypedNode::Convert { to, e })
+    converted(alloc, to, e)
 }
 
 #[inline(never)]
@@ -75,8 +83,9 @@ pub fn bump(alloc: Global, op: BumpOp, e: Boxed<TypedExpr>) -> Result<Boxed<Type
     boxed(alloc, kind, TypedNode::Bump { op, e })
 }
 
+// A binary operation whose operands convert to what it wants of them.
 #[inline(never)]
-pub fn binary(
+fn with_converted(
     alloc: Global,
     op: BinaryOp,
     left: Boxed<TypedExpr>,
@@ -90,6 +99,24 @@ pub fn binary(
     let right = with_convert(alloc, right_at(op, j, k), right)?;
     let kind = Some(result_of(op, at));
     boxed(alloc, kind, TypedNode::Binary { op, left, right })
+}
+
+/// A binary operation. Most are of two ints, of which none converts.
+#[tactic(auto, using(crate::proofs::Ints::of_ints))]
+#[inline(never)]
+pub fn binary(
+    alloc: Global,
+    op: BinaryOp,
+    left: Boxed<TypedExpr>,
+    right: Boxed<TypedExpr>,
+) -> Result<Boxed<TypedExpr>, AllocError>
+    ensures { IfOk result (λ t. t ≡ trees.binary op left right) }
+{
+    if kind_of(left.get()) == Kind::Int && kind_of(right.get()) == Kind::Int {
+        let kind = Some(Kind::Int);
+        return boxed(alloc, kind, TypedNode::Binary { op, left, right });
+    }
+    with_converted(alloc, op, left, right)
 }
 
 #[inline(never)]

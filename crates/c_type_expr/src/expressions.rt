@@ -48,7 +48,7 @@ fn left_role(is_place: bool) -> Role
 }
 
 #[tactic(auto, using(crate::proofs::Nodes::on_name))]
-#[inline(never)]
+#[inline(always)]
 fn name(
     alloc: Global,
     scope: &Scopes,
@@ -63,7 +63,7 @@ fn name(
 }
 
 #[tactic(auto, using(crate::proofs::Nodes::on_number))]
-#[inline(never)]
+#[inline(always)]
 fn number(
     alloc: Global,
     scope: &Scopes,
@@ -313,7 +313,7 @@ fn bump(
 
 #[cycle(expr)]
 #[tactic(auto, using(crate::proofs::Nodes::on_binary))]
-#[inline(never)]
+#[inline(always)]
 fn binary(
     alloc: Global,
     scope: &Scopes,
@@ -376,7 +376,7 @@ fn assign(
 
 #[cycle(expr)]
 #[tactic(auto, using(crate::proofs::Nodes::on_comma))]
-#[inline(never)]
+#[inline(always)]
 fn comma(
     alloc: Global,
     scope: &Scopes,
