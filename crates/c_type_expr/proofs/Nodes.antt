@@ -1,11 +1,11 @@
 -- The definitions at each node.
-use Rattle.std.proofs.Common.{◌≡◌, ℕ, suc, Bool, true, false, List, [], ◌∷◌, map, length, max}
+use Rattle.std.proofs.Common.{◌≡◌, ℕ, suc, true, false, List, [], ◌∷◌, map, length, max}
 use Rattle.std.proofs.Common.{Option, Some, None, refl, sym, ap, ◌∙◌}
 use Rattle.c_tree.specs.declared.token.Kind.{Kind}
 use Rattle.c_tree.specs.declared.tree.UnaryOp.{UnaryOp}
 use Rattle.c_tree.specs.declared.tree.BumpOp.{BumpOp}
 use Rattle.c_tree.specs.declared.tree.BinaryOp.{BinaryOp}
-use Rattle.c_tree.specs.declared.tree.Expr.{Expr, Expr-F, fold_out-Expr, size-Expr}
+use Rattle.c_tree.specs.declared.tree.Expr.{Expr, fold_out-Expr, size-Expr}
 use Rattle.c_tree.specs.declared.tree.ExprNode.{ExprNode, map-ExprNode, fold-roll-ExprNode}
 use Rattle.c_tree.specs.declared.tree.ExprNode.{fold-ExprNode, roll-ExprNode}
 use Rattle.c_tree.specs.declared.tree.ExprNode.TheVariants as node
@@ -14,10 +14,10 @@ use Rattle.c_tree.specs.declared.typed.Slot.{Slot}
 use Rattle.c_tree.specs.declared.typed.TypedExpr.{TypedExpr}
 use Rattle.c_tree.specs.declared.typed.TypedNode.TheVariants as typed
 use Rattle.c_scope.specs.Scope.{Scope, look_up}
-use Rattle.c_type_expr.specs.declared.fault.TypeFault.TheVariants.{Unknown, Mismatch, Arity}
+use Rattle.c_type_expr.specs.declared.fault.TypeFault.TheVariants.{Mismatch}
 use Rattle.c_type_expr.specs.declared.role.Role.{Role}
-use Rattle.c_type_expr.specs.declared.role.Role.TheVariants.{Value, Free, Written, Array, Surplus}
-use Rattle.c_type_expr.specs.Roles.{Blame, first, unless, takes_value, left_role}
+use Rattle.c_type_expr.specs.declared.role.Role.TheVariants.{Value, Free}
+use Rattle.c_type_expr.specs.Roles.{Blame, first, unless, left_role}
 use Rattle.c_type_expr.specs.Faults.{Judged, node_judged, at_line, judged, is_place, fault}
 use Rattle.c_type_expr.specs.Faults.{unwanted_value, name_fault, element_fault, call_fault, slots_of}
 use Rattle.c_type_expr.specs.Faults.{role_at, rest_of, args_blame, args_fault}

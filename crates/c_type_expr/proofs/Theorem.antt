@@ -7,12 +7,8 @@ use Rattle.c_tree.specs.declared.tree.Expr.{Expr, Expr-F, ind-Expr, roll-Expr}
 use Rattle.c_tree.specs.declared.tree.ExprNode.{ExprNode, roll-ExprNode, map-ExprNode}
 use Rattle.c_tree.specs.declared.tree.ExprNode.TheOpen.{ExprNode-F}
 use Rattle.c_tree.specs.declared.tree.ExprNode.TheVariants as node
-use Rattle.c_tree.specs.declared.tree.UnaryOp.{UnaryOp}
-use Rattle.c_tree.specs.declared.tree.BumpOp.{BumpOp}
-use Rattle.c_tree.specs.declared.tree.BinaryOp.{BinaryOp}
 use Rattle.c_tree.specs.declared.typed.TypedExpr.{TypedExpr}
 use Rattle.c_tree.specs.declared.typed.TypedNode.TheVariants as typed
-use Rattle.c_tree.specs.declared.typed.Place.{Place}
 use Rattle.c_tree.specs.declared.typed.Callee.{Callee}
 use Rattle.c_tree.specs.declared.typed.Slot.{Slot}
 use Rattle.c_tree.specs.declared.typed.Slot.TheVariants as slot
@@ -20,14 +16,14 @@ use Rattle.c_scope.specs.declared.meaning.Meaning.{Meaning}
 use Rattle.c_scope.specs.declared.meaning.Meaning.TheVariants as meaning
 use Rattle.c_scope.specs.Scope.{Scope, look_up}
 use Rattle.c_type_expr.specs.declared.fault.TypeFault.{TypeFault}
-use Rattle.c_type_expr.specs.declared.fault.TypeFault.TheVariants.{Unknown, Mismatch, Arity}
+use Rattle.c_type_expr.specs.declared.fault.TypeFault.TheVariants.{Mismatch, Arity}
 use Rattle.c_type_expr.specs.declared.role.Role.{Role}
-use Rattle.c_type_expr.specs.declared.role.Role.TheVariants.{Value, Free, Written, Array, Surplus}
+use Rattle.c_type_expr.specs.declared.role.Role.TheVariants.{Value, Free, Written, Array}
 use Rattle.c_type_expr.specs.Roles.{Blame, first, unless, takes_element, takes_array, takes_value}
 use Rattle.c_type_expr.specs.Roles.{left_role}
 use Rattle.c_type_expr.specs.Faults.{fault, is_place, takes_result, name_fault, element_fault}
-use Rattle.c_type_expr.specs.Faults.{callee_fault, call_fault, slots_of, args_fault}
-use Rattle.c_type_expr.specs.Trees.{tree, args_tree, a, with_convert, end_of_file, unary, cast, bump}
+use Rattle.c_type_expr.specs.Faults.{call_fault, slots_of, args_fault}
+use Rattle.c_type_expr.specs.Trees.{tree, args_tree, a, with_convert, unary, cast, bump}
 use Rattle.c_type_expr.specs.Trees.{binary, choice, assign, comma, name_tree, array_kind}
 use Rattle.c_type_expr.specs.Trees.{array_place, result_kind, callee_of}
 use Rattle.c_type_expr.specs.Says.{at}

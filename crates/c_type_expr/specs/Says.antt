@@ -1,5 +1,5 @@
 -- What the typing of an expression answers.
-use Rattle.std.specs.Prelude.{◌≡◌, ℕ, List, Option, Some, None, Result, Ok, Err}
+use Rattle.std.specs.Prelude.{◌≡◌, ℕ, Some, None, Result, Ok, Err}
 use Rattle.c_tree.specs.declared.tree.Expr.{Expr}
 use Rattle.c_tree.specs.declared.tree.ExprNode.{ExprNode}
 use Rattle.c_tree.specs.declared.typed.TypedExpr.{TypedExpr}

@@ -4,7 +4,6 @@ ghost use Rattle.std.specs.Prelude.{◌≡◌, Some, None};
 ghost use Rattle.c_tree.specs.declared.typed.TypedExpr.{TypedExpr};
 ghost use Rattle.c_type_expr.specs.Roles.{first};
 ghost use Rattle.c_tree.specs.declared.tree.ExprNode.TheVariants as node;
-ghost use Rattle.c_type_expr.specs.Roles as roles;
 ghost use Rattle.c_type_expr.specs.Faults as faults;
 ghost use Rattle.c_type_expr.specs.Faults.{fault, role_at};
 ghost use Rattle.c_type_expr.specs.Trees.{tree};
@@ -14,69 +13,13 @@ ghost use Rattle.c_type_expr.specs.Says.{Says, Types, at};
 use crate::arguments::{after_first, converted_for, role_for};
 use crate::build;
 use crate::fault::TypeFault;
-use crate::found::{call_at, element_at, name_at, place_at, slots_in, value_at};
+use crate::found::{call_at, element_at, place_at, slots_in, value_at};
+use crate::leaves::{is_place, left_role, name, number};
 use crate::role::Role;
 use base::{Boxed, Items, Queue};
 use c_scope::Scopes;
 use c_tree::{BinaryOp, BumpOp, Expr, ExprNode, Kind, Slot, TypedExpr, TypedNode, UnaryOp, Word};
 use std::alloc::Global;
-
-/// Whether an expression is a name or an element, in any groups.
-fn is_place(e: &Expr) -> bool
-    ensures { result ≡ faults.is_place e.now }
-{
-    match &e.node {
-        ExprNode::Name(_) => true,
-        ExprNode::Element { .. } => true,
-        ExprNode::Group(e) => is_place(e.get()),
-        ExprNode::Number { .. } => false,
-        ExprNode::Call { .. } => false,
-        ExprNode::Unary { .. } => false,
-        ExprNode::Cast { .. } => false,
-        ExprNode::Bump { .. } => false,
-        ExprNode::Binary { .. } => false,
-        ExprNode::Choice { .. } => false,
-        ExprNode::Assign { .. } => false,
-        ExprNode::Comma { .. } => false,
-    }
-}
-
-fn left_role(is_place: bool) -> Role
-    ensures { result ≡ roles.left_role is_place }
-{
-    if is_place { Role::Written } else { Role::Value }
-}
-
-#[tactic(auto, using(crate::proofs::Nodes::on_name))]
-#[inline(always)]
-fn name(
-    alloc: Global,
-    scope: &Scopes,
-    role: &Role,
-    line: u32,
-    word: Word,
-) -> Result<Boxed<TypedExpr>, TypeFault>
-    ensures { Types (at line (node.Name word)) role.now scope.now result }
-{
-    let e = name_at(scope.look_up(&word), *role, line)?;
-    Ok(Boxed::new(alloc, e)?)
-}
-
-#[tactic(auto, using(crate::proofs::Nodes::on_number))]
-#[inline(always)]
-fn number(
-    alloc: Global,
-    scope: &Scopes,
-    role: &Role,
-    line: u32,
-    value: u64,
-    kind: Kind,
-) -> Result<Boxed<TypedExpr>, TypeFault>
-    ensures { Types (at line (node.Number value kind)) role.now scope.now result }
-{
-    value_at(*role, line)?;
-    Ok(build::boxed(alloc, Some(kind), TypedNode::Number(value))?)
-}
 
 #[cycle(expr)]
 #[tactic(auto, using(crate::proofs::Nodes::on_element))]
@@ -393,8 +336,9 @@ fn comma(
     Ok(build::comma(alloc, left, right)?)
 }
 
-// The typed tree of an operand, or its first fault. Operands and what is made of them stand on the heap, and each node
-// in a frame of its own, so that a level of the tree takes two small frames.
+// The typed tree of an operand, or its first fault. Operands and what is made of them stand on the heap, so that a level
+// of the tree takes small frames: one where it is a leaf, a binary operation or a comma, of which texts have most, and
+// else two, since other nodes have a frame of their own.
 #[cycle(expr)]
 #[tactic(auto, using(crate::proofs::Nodes::on_group))]
 #[inline(never)]

@@ -11,6 +11,7 @@ mod exact;
 mod expressions;
 mod fault;
 mod found;
+mod leaves;
 mod role;
 
 pub use build::{kind_of, with_convert};

@@ -2,7 +2,7 @@ use Rattle.std.proofs.Common.{arith}
 use Rattle.c_type_expr.proofs.Nodes.{place-Number, place-Group, place-Unary, place-Cast}
 use Rattle.c_type_expr.proofs.Nodes.{place-Binary, place-Choice, place-Name, place-Element}
 use Rattle.c_type_expr.proofs.Nodes.{place-Call, place-Bump, place-Assign, place-Comma}
-use Rattle.c_type_expr.proofs.expressions.+is_place.Goals as goal
+use Rattle.c_type_expr.proofs.leaves.+is_place.Goals as goal
 
 pub returns-in-Number : goal.returns-in-Number
 returns-in-Number t c = let h = place-Number c.args.e.now c.in-Number.value c.in-Number.kind c.in-Number.is in cc

@@ -1,0 +1,76 @@
+//! Leaves of expressions, and what may be written to.
+
+ghost use Rattle.std.specs.Prelude.{◌≡◌};
+ghost use Rattle.c_tree.specs.declared.tree.ExprNode.TheVariants as node;
+ghost use Rattle.c_type_expr.specs.Roles as roles;
+ghost use Rattle.c_type_expr.specs.Faults as faults;
+ghost use Rattle.c_type_expr.specs.Says.{Types, at};
+
+use crate::build;
+use crate::fault::TypeFault;
+use crate::found::{name_at, value_at};
+use crate::role::Role;
+use base::Boxed;
+use c_scope::Scopes;
+use c_tree::{Expr, ExprNode, Kind, TypedExpr, TypedNode, Word};
+use std::alloc::Global;
+
+/// Whether an expression is a name or an element, in any groups.
+pub fn is_place(e: &Expr) -> bool
+    ensures { result ≡ faults.is_place e.now }
+{
+    match &e.node {
+        ExprNode::Name(_) => true,
+        ExprNode::Element { .. } => true,
+        ExprNode::Group(e) => is_place(e.get()),
+        ExprNode::Number { .. } => false,
+        ExprNode::Call { .. } => false,
+        ExprNode::Unary { .. } => false,
+        ExprNode::Cast { .. } => false,
+        ExprNode::Bump { .. } => false,
+        ExprNode::Binary { .. } => false,
+        ExprNode::Choice { .. } => false,
+        ExprNode::Assign { .. } => false,
+        ExprNode::Comma { .. } => false,
+    }
+}
+
+/// What a left side is wanted for.
+pub fn left_role(is_place: bool) -> Role
+    ensures { result ≡ roles.left_role is_place }
+{
+    if is_place { Role::Written } else { Role::Value }
+}
+
+/// The typed tree of a name, or its fault.
+#[tactic(auto, using(crate::proofs::Nodes::on_name))]
+#[inline(always)]
+pub fn name(
+    alloc: Global,
+    scope: &Scopes,
+    role: &Role,
+    line: u32,
+    word: Word,
+) -> Result<Boxed<TypedExpr>, TypeFault>
+    ensures { Types (at line (node.Name word)) role.now scope.now result }
+{
+    let e = name_at(scope.look_up(&word), *role, line)?;
+    Ok(Boxed::new(alloc, e)?)
+}
+
+/// The typed tree of a number, or its fault.
+#[tactic(auto, using(crate::proofs::Nodes::on_number))]
+#[inline(always)]
+pub fn number(
+    alloc: Global,
+    scope: &Scopes,
+    role: &Role,
+    line: u32,
+    value: u64,
+    kind: Kind,
+) -> Result<Boxed<TypedExpr>, TypeFault>
+    ensures { Types (at line (node.Number value kind)) role.now scope.now result }
+{
+    value_at(*role, line)?;
+    Ok(build::boxed(alloc, Some(kind), TypedNode::Number(value))?)
+}
