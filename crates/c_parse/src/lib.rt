@@ -8,6 +8,7 @@ mod fault;
 mod function;
 mod global;
 mod held;
+mod leaf;
 mod local;
 mod make;
 mod parser;

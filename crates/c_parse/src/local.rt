@@ -1,4 +1,5 @@
-//! Conditions, expressions that may be absent, and local declarations (C17 6.7).
+//! Conditions, expressions that may be absent, local declarations (C17 6.7), and the first part of a `for`
+//! (C17 6.8.5.3).
 
 ghost use Rattle.std.specs.Prelude.{◌≡◌};
 ghost use Rattle.c_grammar.specs.Statements as grammar;
@@ -6,10 +7,11 @@ ghost use Rattle.c_grammar.specs.ModelExpressions.{inside};
 ghost use Rattle.c_grammar.specs.ModelStatements as model;
 ghost use Rattle.c_parse.specs.Reads.{Reads, Puts};
 
+use crate::build;
 use crate::fault::Stopped;
 use crate::parser::Parser;
 use base::{Boxed, Items};
-use c_tree::{ArraySize, Expr, Kind, Mark, Stmt, StmtNode};
+use c_tree::{ArraySize, Expr, ForInit, Kind, Mark, Stmt, StmtNode};
 
 impl Parser<'_> {
     #[inline(always)]
@@ -192,5 +194,36 @@ impl Parser<'_> {
             return Err(Stopped::TooDeep);
         }
         Err(Stopped::Syntax)
+    }
+
+    #[tactic(auto, unfolding(c_grammar::specs::ModelStatements::init_local_of))]
+    fn init_locals(&mut self, left: u8) -> Result<ForInit, Stopped>
+        ensures { Reads (model.init_local_of (inside left) (model.below_at left) self.old.rest.now)
+            result self.new.rest.now }
+    {
+        let mut locals = Items::new(self.alloc);
+        self.locals_inside(left, &mut locals)?;
+        Ok(ForInit::Locals(locals))
+    }
+
+    #[tactic(auto, unfolding(c_grammar::specs::ModelStatements::init_plain_of))]
+    fn init_plain(&mut self, left: u8) -> Result<ForInit, Stopped>
+        ensures { Reads (model.init_plain_of (inside left) (model.below_at left) self.old.rest.now)
+            result self.new.rest.now }
+    {
+        let given = self.until_semicolon(left)?;
+        Ok(build::for_init(given))
+    }
+
+    /// The first part of a `for`, with its semicolon.
+    #[tactic(auto, unfolding(c_grammar::specs::ModelStatements::init_of))]
+    pub fn init(&mut self, left: u8) -> Result<ForInit, Stopped>
+        ensures { Reads (model.init_of (inside left) (model.below_at left) self.old.rest.now) result
+            self.new.rest.now }
+    {
+        if self.begins_type() {
+            return self.init_locals(left);
+        }
+        self.init_plain(left)
     }
 }

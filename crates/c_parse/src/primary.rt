@@ -5,7 +5,6 @@ ghost use Rattle.c_grammar.specs.Parsing as parsing;
 ghost use Rattle.c_grammar.specs.ModelExpressions as model;
 ghost use Rattle.c_grammar.specs.Operators.{sign, increase, decrease, prefix_mark};
 ghost use Rattle.c_tree.specs.declared.token.Mark.TheVariants as marks;
-ghost use Rattle.c_parse.specs.Operands as operands;
 ghost use Rattle.c_parse.specs.Reads.{Reads, opened, IsSuffix, IsPrefix};
 
 use crate::fault::Stopped;
@@ -333,44 +332,6 @@ impl Parser<'_> {
         Ok(make::cast(self.alloc, line, kind, operand)?)
     }
 
-    /// Does a name or a number come next, and nothing that makes more of it?
-    #[inline(always)]
-    fn is_leaf(&self) -> bool
-        ensures { result ≡ operands.is_leaf self.now.rest.now }
-    {
-        match self.rest {
-            [lexeme, next, ..] => is_atom(&lexeme.form) && ends_atom(&next.form),
-            _ => false,
-        }
-    }
-
-    /// A name or a number.
-    #[inline(always)]
-    fn leaf(&mut self) -> Result<Boxed<Expr>, Stopped>
-        ensures { Reads (operands.leaf_of self.old.rest.now) result self.new.rest.now }
-    {
-        let [lexeme, rest @ ..] = self.rest else {
-            return Err(Stopped::Syntax);
-        };
-        let line = lexeme.line;
-        match &lexeme.form {
-            Form::Name(word) => {
-                let name = word.copy(self.alloc)?;
-                self.rest = rest;
-                Ok(make::built(self.alloc, line, ExprNode::Name(name))?)
-            }
-            Form::Number { value, kind } => {
-                let node = ExprNode::Number {
-                    value: *value,
-                    kind: *kind,
-                };
-                self.rest = rest;
-                Ok(make::built(self.alloc, line, node)?)
-            }
-            _ => Err(Stopped::Syntax),
-        }
-    }
-
     /// A cast expression. A name or a number that stands alone, as most do, is made at once.
     #[cycle(expression)]
     #[inline(always)]
@@ -395,28 +356,5 @@ impl Parser<'_> {
             return self.converted(left);
         }
         self.unary(left)
-    }
-}
-
-/// Is it a name or a number?
-#[inline(always)]
-fn is_atom(form: &Form) -> bool
-    ensures { result ≡ operands.is_atom form.now }
-{
-    matches!(form, Form::Name(_) | Form::Number { .. })
-}
-
-/// May an operand that is a name or a number end before it, rather than become an element, a call
-/// or a change of a place?
-#[inline(always)]
-fn ends_atom(form: &Form) -> bool
-    ensures { result ≡ operands.ends_atom form.now }
-{
-    match form {
-        Form::Mark(mark) => !matches!(
-            mark,
-            Mark::LeftParen | Mark::LeftBracket | Mark::PlusPlus | Mark::MinusMinus
-        ),
-        _ => true,
     }
 }

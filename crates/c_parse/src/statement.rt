@@ -14,7 +14,7 @@ use crate::fault::Stopped;
 use crate::held::Held;
 use crate::parser::Parser;
 use base::{Boxed, Items};
-use c_tree::{Expr, ForInit, Form, Key, Mark, Stmt, StmtNode};
+use c_tree::{Expr, Form, Key, Mark, Stmt, StmtNode};
 
 impl Parser<'_> {
     /// Can a statement begin with the first token?
@@ -130,36 +130,6 @@ impl Parser<'_> {
             line,
             node: StmtNode::Compound(entries),
         })
-    }
-
-    #[tactic(auto, unfolding(c_grammar::specs::ModelStatements::init_local_of))]
-    fn init_locals(&mut self, left: u8) -> Result<ForInit, Stopped>
-        ensures { Reads (model.init_local_of (inside left) (model.below_at left) self.old.rest.now)
-            result self.new.rest.now }
-    {
-        let mut locals = Items::new(self.alloc);
-        self.locals_inside(left, &mut locals)?;
-        Ok(ForInit::Locals(locals))
-    }
-
-    #[tactic(auto, unfolding(c_grammar::specs::ModelStatements::init_plain_of))]
-    fn init_plain(&mut self, left: u8) -> Result<ForInit, Stopped>
-        ensures { Reads (model.init_plain_of (inside left) (model.below_at left) self.old.rest.now)
-            result self.new.rest.now }
-    {
-        let given = self.until_semicolon(left)?;
-        Ok(build::for_init(given))
-    }
-
-    #[tactic(auto, unfolding(c_grammar::specs::ModelStatements::init_of))]
-    fn init(&mut self, left: u8) -> Result<ForInit, Stopped>
-        ensures { Reads (model.init_of (inside left) (model.below_at left) self.old.rest.now) result
-            self.new.rest.now }
-    {
-        if self.begins_type() {
-            return self.init_locals(left);
-        }
-        self.init_plain(left)
     }
 
     #[cycle(statement)]
