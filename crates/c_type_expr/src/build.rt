@@ -85,7 +85,7 @@ pub fn bump(alloc: Global, op: BumpOp, e: Boxed<TypedExpr>) -> Result<Boxed<Type
 
 // A binary operation whose operands convert to what it wants of them.
 #[inline(never)]
-fn with_converted(
+fn converted_binary(
     alloc: Global,
     op: BinaryOp,
     left: Boxed<TypedExpr>,
@@ -116,7 +116,7 @@ pub fn binary(
         let kind = Some(Kind::Int);
         return boxed(alloc, kind, TypedNode::Binary { op, left, right });
     }
-    with_converted(alloc, op, left, right)
+    converted_binary(alloc, op, left, right)
 }
 
 #[inline(never)]
