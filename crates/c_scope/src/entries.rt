@@ -35,6 +35,7 @@ pub fn last_start(starts: &[usize]) -> usize
 
 /// The number of a name, of 32 bits, which differs for most names.
 #[tactic(auto, unfolding(crate::specs::Chains::number_of))]
+#[inline(always)]
 fn number_of(name: &[u8]) -> u64
     ensures { result ≡ chains.number_of name.now }
 {
@@ -47,6 +48,7 @@ fn number_of(name: &[u8]) -> u64
 
 /// The chain of a name, of so many.
 #[tactic(auto, unfolding(crate::specs::Chains::chain_of))]
+#[inline(always)]
 fn chain_of(name: &[u8], count: usize) -> usize
     ensures chain { result ≡ chains.chain_of count name.now }
     ensures within { 0 < count → result < count }
@@ -55,6 +57,7 @@ fn chain_of(name: &[u8], count: usize) -> usize
 }
 
 /// The place of the newest binding in the chain of a name.
+#[inline(always)]
 fn head_of(heads: &[Option<usize>], name: &[u8]) -> Option<usize>
     ensures { result ≡ slice_index_or heads.now (chains.chain_of (length heads.now) name.now) None }
 {
@@ -65,6 +68,7 @@ fn head_of(heads: &[Option<usize>], name: &[u8]) -> Option<usize>
 }
 
 /// The place of the newest binding of a name.
+#[inline(always)]
 pub fn place_of(entries: &[Entry], heads: &[Option<usize>], name: &Word) -> Option<usize>
     requires { Kept (reverse entries.now) heads.now }
     ensures { result ≡ place_in (reverse entries.now) name.now }

@@ -46,6 +46,7 @@ impl Scopes {
     }
 
     /// The innermost meaning of a name.
+    #[inline(always)]
     pub fn look_up(&self, name: &Word) -> Option<&Meaning>
         ensures { option_copied result ≡ look_up self.now name.now }
     {
