@@ -14,10 +14,12 @@ use Rattle.trips_answers.specs.Worked.{IsWorked}
 use Rattle.trips_answers.specs.Answer.{IsAnswer}
 use Rattle.trips_answers.specs.Table.{IsAnswered, IsCutOff, IsOneOf, EndsAs, EvalEnds}
 use Rattle.trips_answers.specs.Evaluated.{RunEndsAs}
+use Rattle.trips_answers.specs.Ended.{ResultMeans}
 use Rattle.trips_answers.proofs.Rows.{kind, usage_row, read_fault_row, refused_row, no_row}
 use Rattle.trips_answers.proofs.Rows.{usage_comes_row, refused_comes_row, is_told}
+use Rattle.trips_answers.proofs.Compiled as compiled
 use Rattle.trips_answers.proofs.Compiled.{run_ends_as}
-use Rattle.trips_answers.proofs.Ends.{ends_row, undefined_row}
+use Rattle.trips_answers.proofs.Ends.{ends_row, ends_row_with, undefined_row}
 
 module _ (held : List ℕ → Option (List ℕ)) (rose : Type 0) (old new : Option (List ℕ))
     (cut : Type 0) (q : Option Request) where
@@ -193,3 +195,17 @@ module _ (held : List ℕ → Option (List ℕ)) (rose : Type 0) (old new : Opti
       run_ends_as held x e.bytes e.input s e.report e.holds e.holds_input
       (subst (λ (k : FileForm). IsWorked Run k (settings_of x) e.bytes e.input s e.report) f
       (subst (λ (k : Work). IsWorked k x.form (settings_of x) e.bytes e.input s e.report) w e.worked))
+
+  -- a text's run that ended with a result
+  pub result_means : (s : Status) → IsAnswered q held rose old new cut s → (x : Request) → q ≡ Some x → x.work ≡ Run
+      → x.form ≡ form.Source → s ≡ status.Ended → ResultMeans held x s old new
+  unfolding is_told
+  result_means s a x e w f ended =
+      let row = subst (IsAnswered q held rose old new cut) ended a in
+      let end = ends_row_with q held rose status.Ended row.0 x row.1 e refl in
+      let d = end.0 in
+      subst (λ (k : Status). ResultMeans held x k old new) (sym ended)
+      (compiled.result_means held x d.bytes d.input status.Ended d.report old new d.holds d.holds_input
+      (subst (λ (k : FileForm). IsWorked Run k (settings_of x) d.bytes d.input status.Ended d.report) f
+      (subst (λ (k : Work). IsWorked k x.form (settings_of x) d.bytes d.input status.Ended d.report) w d.worked)) refl
+      (subst (Appended old new) (sym end.1) row.2))

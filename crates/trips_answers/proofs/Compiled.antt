@@ -1,6 +1,6 @@
 -- What the run of a compiled program is told to come to.
-use Rattle.std.proofs.Common.{◌≡◌, ℕ, ℤ, ◌+◌, ◌-◌, ◌*◌, ◌<◌, ◌≤◌, List, ◌++◌, slice_index, refl, sym, ap, ◌∙◌, subst}
-use Rattle.std.proofs.Common.{length, Option, arith}
+use Rattle.std.proofs.Common.{◌≡◌, ℕ, ℤ, ◌+◌, ◌*◌, ◌<◌, ◌≤◌, List, ◌++◌, slice_index, refl, sym, ap, ◌∙◌, subst}
+use Rattle.std.proofs.Common.{length, Option, Some, arith}
 use Rattle.std.specs.Prelude.{codes}
 use Rattle.std.specs.Fmt.{signed_decimal}
 use Rattle.trips_outside.specs.Outside.{Holds}
@@ -10,15 +10,24 @@ use Rattle.trips_isa.specs.declared.run.Ending.{Ending}
 use Rattle.trips_isa.specs.declared.run.Ending.TheVariants as ending
 use Rattle.trips_isa.specs.declared.run.Stepped.{Stepped}
 use Rattle.trips_isa.specs.declared.run.Stepped.TheVariants as stepped
-use Rattle.trips_isa.specs.Machine.{State}
+use Rattle.trips_isa.specs.Machine.{State, start}
 use Rattle.c_tree.specs.declared.typed.TypedProgram.{TypedProgram}
 use Rattle.c_meaning_spec.specs.declared.signal.Ending.TheVariants.{More, Undefined, Deep}
 use Rattle.c_meaning_spec.specs.Eval.{Outcome, Stopped, Done, eval}
 use Rattle.c_front.specs.Fronts.{IsAccepted}
 use Rattle.c_front.proofs.Once.{accepted_once}
-use Rattle.c_compile_laws.specs.Runs.{run_of, HasEnded, IsFull, Settles, AnswersAs}
+use Rattle.c_compile_laws.specs.Runs.{run_of, HasEnded, IsFull, AnswersAs}
 use Rattle.c_compile.specs.Images.{IsImageOf, MeansText}
 use Rattle.c_compile.proofs.Images.{images_mean}
+use Rattle.operand_net.specs.declared.weather.PcgWeather.{PcgWeather}
+use Rattle.grid_cycle_spec.specs.Grid.{Grid}
+use Rattle.grid_run.specs.Answered.{ComesTo}
+use Rattle.grid_machine.specs.Seeds.{IsRan}
+use Rattle.grid_machine_bound.specs.Traps.{is_trap}
+use Rattle.grid_meaning.specs.Meant.{AgreesWith, EndsAsMeant}
+use Rattle.grid_meaning.proofs.GridRuns as runs
+use Rattle.grid_meaning.proofs.TextRuns as grid
+use Rattle.grid_meaning.proofs.TextRuns.{settled}
 use Rattle.trips_answers.specs.declared.forms.Settings.{Settings}
 use Rattle.trips_answer_parts.specs.declared.status.Status.{Status}
 use Rattle.trips_answer_parts.specs.declared.status.Status.TheVariants as status
@@ -28,23 +37,19 @@ use Rattle.trips_answers.specs.Read.{HoldsInput}
 use Rattle.grid_cycle_spec.specs.Costs.{cost_of}
 use Rattle.trips_report.specs.declared.show.Show.{Show}
 use Rattle.trips_answer_parts.specs.Texts.{output_and}
+use Rattle.trips_report.specs.Runs.{signed}
 use Rattle.trips_report.proofs.Parts.{shows_nothing}
 use Rattle.trips_answers.specs.Report.{ending_of, run_report, shown_report, shown_behind, nothing_shown}
 use Rattle.trips_answers.specs.Worked.{status_of, IsRunOfText}
 use Rattle.trips_answers.specs.Table.{ended_report, full_report}
+use Rattle.trips_outside.specs.Outside.{Appended}
 use Rattle.trips_answers.specs.Evaluated.{SaysOf, HasNotEnded, RunEndsAs}
+use Rattle.trips_answers.specs.Ended.{ResultMeans, TellsResult}
 use Rattle.trips_answers.proofs.Results.{signed_number}
 
 -- an image of a text has a block
 pub has_blocks : (text : List ℕ) (p : Placing) (i : Image) → IsImageOf text p i → 0 < length i.blocks
 has_blocks text p i is = let good = (images_mean text p i is).bounds.good in omega (arith, good.fits.some)
-
--- a run that has settled stands so at each later number of blocks
-settled : (run : ℕ → State × Stepped) (few most : ℕ) (holds : State × Stepped → Type 0)
-    → Settles run few holds → few ≤ most → holds (run most)
-settled run few most holds s le =
-    let is : s.blocks + (most - s.blocks) ≡ most = omega (arith, le, s.few) in
-    subst (λ (k : ℕ). holds (run k)) is (s.from (most - s.blocks))
 
 -- REPORTS
 
@@ -89,11 +94,8 @@ module _ (settings : Settings) (n : ℕ) (text input : List ℕ) (program : Type
   -- where the evaluation is done within n steps
   finished_run : (output : List ℕ) (value : ℤ) (steps : ℕ)
       → eval program input n ≡ Done output value steps → HasEnded output value (run_of run.0 input settings.most)
-  finished_run output value steps done =
-      let did = means.finished input run.2 n output value steps
-      (ap (λ (p : TypedProgram). eval p input n) same ∙ done) in
-      settled (run_of run.0 input) (16 * n + 6) settings.most (HasEnded output value) did
-      (omega (arith, enough))
+  finished_run output value steps done = grid.done text input settings.placing run.0 program settings.most n accepted
+      means run.2 output value steps done enough
 
   finished_status : (output : List ℕ) (value : ℤ) (steps : ℕ)
       → eval program input n ≡ Done output value steps → s ≡ status.Ended
@@ -113,6 +115,23 @@ module _ (settings : Settings) (n : ℕ) (text input : List ℕ) (program : Type
         (cost_of run.0.blocks (run_of run.0 input settings.most).0.trace) settings.show)
         (ended (run_of run.0 input settings.most) output value (finished_run output value steps done)),
   )
+
+  -- the grid that is told of has come to what the evaluation is
+  pub finished_grid : (output : List ℕ) (value : ℤ) (steps : ℕ) → eval program input n ≡ Done output value steps
+      → EndsAsMeant run.0 input settings.most output value ending.Ended run.3.1.grid
+  finished_grid output value steps done =
+      let r : State × Stepped = run_of run.0 input settings.most in
+      let h : Grid PcgWeather = run.3.1.grid in
+      let e : ending_of r.1 r.0.next ≡ ending.Ended =
+      ap (λ (a : Stepped). ending_of a r.0.next) (finished_run output value steps done).answer in
+      let ran : IsRan run.0.blocks run.0.bytes input settings.most settings.seed (Some ending.Ended) h =
+      subst (λ (x : Ending). IsRan run.0.blocks run.0.bytes input settings.most settings.seed (Some x) h) e run.3.1.ran in
+      let came : ComesTo run.0.blocks (start run.0.bytes input) settings.most ending.Ended h = ran.comes in
+      let cost : h.counts.cycles ≤ cost_of run.0.blocks r.0.trace =
+      subst (λ (c : Counts). c.cycles ≤ cost_of run.0.blocks r.0.trace) run.3.1.counted (run.3.1.within (ap is_trap e)) in
+      runs.seed_as_meant text input settings.placing run.0 means settings.most settings.seed ending.Ended h ran n program
+      output value steps accepted run.2 done enough
+      (subst (λ (t : State). h.counts.cycles ≤ cost_of run.0.blocks t.trace) (sym came.state) cost)
 
   pub finished_told : (output : List ℕ) (value : ℤ) (steps : ℕ) → settings.show ≡ nothing_shown
       → eval program input n ≡ Done output value steps
@@ -213,4 +232,51 @@ run_ends_as held q text input s report holds holds_input run =
           (says r.1 r.0.next (eval m.program input n) (m.ends input run.2 q.most n lt));
       spent = λ spent n enough.
           spent_told (settings_of q) n text input m.program s report run m.accepted enough spent;
+    }
+
+-- RESULTS
+
+-- only an end has the status of an end
+end_of : (a : Stepped) (next : ℕ) → status_of (ending_of a next) ≡ status.Ended → a ≡ stepped.Ended
+end_of stepped.Went next e = absurd (cc)
+end_of stepped.Ended next e = refl
+end_of stepped.StackFull next e = absurd (cc)
+end_of (stepped.Trap cause) next e = absurd (cc)
+
+tells : (r : State × Stepped) (few : Type 0) (o : Outcome) → AgreesWith r few o
+    → TellsResult r.0.output (signed (slice_index r.0.registers 3)) few o
+tells r few (Stopped More output) h = h
+tells r few (Stopped Undefined output) h = tt
+tells r few (Stopped Deep output) h = absurd h
+tells r few (Done output value steps) h =
+    (h.output, signed_number (slice_index r.0.registers 3) h.word.below ∙ ap signed_decimal h.is)
+
+-- a text's run that ended with a result, of names that hold the text and the input
+pub result_means : (held : List ℕ → Option (List ℕ)) (q : Request) (text input : List ℕ) (s : Status)
+    (report : List ℕ) (old new : Option (List ℕ)) → Holds (origin_held held q.origin) text
+    → HoldsInput q.input held input → IsRunOfText (settings_of q) text input s report → s ≡ status.Ended
+    → Appended old new report → ResultMeans held q s old new
+result_means held q text input s report old new holds holds_input run ended written =
+    let m : MeansText text q.placing run.0 = images_mean text q.placing run.0 run.1 in
+    let r : State × Stepped = run_of run.0 input q.most in
+    let is : r.1 ≡ stepped.Ended = end_of r.1 r.0.next (sym run.3.2.0 ∙ ended) in
+    let e : ending_of r.1 r.0.next ≡ ending.Ended = ap (λ (a : Stepped). ending_of a r.0.next) is in
+    let told : report ≡ shown_report ending.Ended r.0 run.3.0 (cost_of run.0.blocks r.0.trace) q.show =
+    run.3.2.1 ∙ ap (λ (x : Ending). shown_report x r.0 run.3.0 (cost_of run.0.blocks r.0.trace) q.show) e in
+    record {
+      text = text;
+      input = input;
+      holds = holds;
+      holds_input = holds_input;
+      program = m.program;
+      accepted = m.accepted;
+      tokens = m.tokens;
+      lexed = m.lexed;
+      image = run.0;
+      made = run.1;
+      output = r.0.output;
+      digits = signed (slice_index r.0.registers 3);
+      reported = (run.3.0, run.3.1, ended, subst (Appended old new) told written);
+      means = λ n. tells r (n ≤ length m.tokens * (q.most + 1)) (eval m.program input n)
+          (grid.agrees text input q.placing run.0 m.program q.most n m.accepted m run.2 is);
     }

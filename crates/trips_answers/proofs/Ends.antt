@@ -38,24 +38,31 @@ input_held (Some name) held rose bytes h = h.0
 
 module _ (q : Request) (held : List ℕ → Option (List ℕ)) (rose : Type 0) (s : Status)
     (report : List ℕ) (told : is_told s ≡ true) where
+  -- the work has ended so, with this report
+  abbrev IsEnd : Type 0
+  IsEnd = (e : EndsAs held q s) × (e.report ≡ report)
+
   done_ends : (bytes input : List ℕ) → Holds (origin_held held q.origin) bytes
       → HoldsInput q.input held input → IsDone q.work q.form (settings_of q) bytes input s report
-      → EndsAs held q s
+      → IsEnd
   unfolding is_told
   done_ends bytes input h i (inl out) = absurd (not_told s status.Refused out.2.0 refl told)
-  done_ends bytes input h i (inr run) = record {
-    bytes = bytes;
-    input = input;
-    report = report;
-    holds = h;
-    holds_input = i;
-    worked = run;
-  }
+  done_ends bytes input h i (inr run) = (
+    record {
+      bytes = bytes;
+      input = input;
+      report = report;
+      holds = h;
+      holds_input = i;
+      worked = run;
+    },
+    refl,
+  )
 
   input_ends : (bytes : List ℕ) (loaded : Loaded) → Holds (origin_held held q.origin) bytes
       → IsInputRead q.input held rose loaded
       → AfterReading loaded (λ input. IsDone q.work q.form (settings_of q) bytes input s report) s report
-      → EndsAs held q s
+      → IsEnd
   unfolding is_told
   input_ends bytes Fault h i a = absurd (not_told s status.ReadFault a.0 refl told)
   input_ends bytes TooLarge h i a = absurd (not_told s status.Refused a.0 refl told)
@@ -64,19 +71,24 @@ module _ (q : Request) (held : List ℕ → Option (List ℕ)) (rose : Type 0) (
 
   asked_ends : (loaded : Loaded) → IsRead (origin_held held q.origin) rose (limit_of q.form) loaded
       → AfterReading loaded (λ bytes. IsAnswerBehind q held rose bytes s report) s report
-      → EndsAs held q s
+      → IsEnd
   unfolding is_told
   asked_ends Fault h a = absurd (not_told s status.ReadFault a.0 refl told)
   asked_ends TooLarge h a = absurd (not_told s status.Refused a.0 refl told)
   asked_ends (Bytes bytes) h a = input_ends bytes a.0 h.0 a.1 a.2
 
--- work whose end is told has ended as the definitions have it
+-- work whose end is told has ended as the definitions have it, with the report of its row
+pub ends_row_with : (request : Option Request) (held : List ℕ → Option (List ℕ)) (rose : Type 0)
+    (s : Status) (report : List ℕ) (q : Request) → IsAnswer request held rose s report
+    → request ≡ Some q → is_told s ≡ true → (e : EndsAs held q s) × (e.report ≡ report)
+ends_row_with request held rose s report q a e told =
+    let row = subst (λ (x : Option Request). IsAnswer x held rose s report) e a in
+    asked_ends q held rose s report told row.0 row.1 row.2
+
 pub ends_row : (request : Option Request) (held : List ℕ → Option (List ℕ)) (rose : Type 0)
     (s : Status) (report : List ℕ) (q : Request) → IsAnswer request held rose s report
     → request ≡ Some q → is_told s ≡ true → EndsAs held q s
-ends_row request held rose s report q a e told =
-    let row = subst (λ (x : Option Request). IsAnswer x held rose s report) e a in
-    asked_ends q held rose s report told row.0 row.1 row.2
+ends_row request held rose s report q a e told = (ends_row_with request held rose s report q a e told).0
 
 -- no run is undefined
 run_is_defined : (blocks : List Block) (bytes input : List ℕ) (settings : Settings) (s : Status)

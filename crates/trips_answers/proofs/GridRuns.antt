@@ -1,14 +1,15 @@
 -- Runs of the grid, and what is written of them.
-use Rattle.std.proofs.Common.{◌≡◌, ℕ, ◌+◌, ◌≤◌, false, List, refl, ap, ◌∙◌, subst}
+use Rattle.std.proofs.Common.{◌≡◌, ℕ, ◌+◌, ◌≤◌, false, List, slice_get, refl, ap, ◌∙◌, subst}
 use Rattle.std.proofs.Common.{Option, Some, Result, Ok, Err, IfOk}
 use Rattle.trips_isa.specs.declared.block.Block.{Block}
 use Rattle.trips_isa.specs.declared.block.Image.{Image}
 use Rattle.trips_isa.specs.declared.run.Ending.{Ending}
+use Rattle.trips_isa.specs.declared.run.Ending.TheVariants as ending
 use Rattle.trips_isa.specs.declared.run.Stepped.{Stepped}
 use Rattle.trips_isa.specs.declared.run.Stepped.TheVariants as stepped
 use Rattle.trips_isa.specs.Machine.{State, runs, start}
 use Rattle.operand_net.specs.declared.weather.PcgWeather.{PcgWeather}
-use Rattle.grid_cycle_spec.specs.Costs.{cost_of}
+use Rattle.grid_cycle_spec.specs.Costs.{cost_in, cost_of}
 use Rattle.grid_cycle_spec.specs.Grid.{Grid}
 use Rattle.grid_run.specs.Answered.{ComesTo}
 use Rattle.grid_run.specs.Endings as endings
@@ -28,6 +29,13 @@ same_ending stepped.Ended next = refl
 same_ending stepped.StackFull next = refl
 same_ending (stepped.Trap cause) next = refl
 
+-- a trap names the block that comes next
+trap_at : (a : Stepped) (next block cause : ℕ) → ending_of a next ≡ ending.Trap block cause → next ≡ block
+trap_at stepped.Went next block cause e = absurd (cc)
+trap_at stepped.Ended next block cause e = absurd (cc)
+trap_at stepped.StackFull next block cause e = absurd (cc)
+trap_at (stepped.Trap c) next block cause e = cc
+
 -- how the machine's run has ended
 abbrev pub end_of : List Block → List ℕ → List ℕ → Settings → Ending
 end_of blocks bytes input settings = ending_of (runs blocks (start bytes input) settings.most).1
@@ -44,10 +52,11 @@ module _ (blocks : List Block) (bytes input : List ℕ) (settings : Settings) (s
       → IsRan blocks bytes input settings.most settings.seed (Some e) g → seen ≡ blocks
       → (is_trap e ≡ false → g.counts.cycles ≤ cost_of blocks g.window.state.trace)
       → g.counts.cycles ≤ cost_of blocks g.window.state.trace + 41472
+      → g.counts.cycles ≤ cost_of seen g.window.state.trace + cost_in (slice_get seen g.window.state.next)
       → IsFixed (status_of e)
       (shown_report e g.window.state g.counts (cost_of seen g.window.state.trace) settings.show) s report
       → IsRunBy blocks bytes input settings s report
-  grid_told seen e g ran same within at_most told =
+  grid_told seen e g ran same within at_most soon told =
       let c : ComesTo blocks (start bytes input) settings.most e g = ran.comes in
       let ends : e ≡ end_of blocks bytes input settings =
       c.ending ∙ same_ending (runs blocks (start bytes input) settings.most).1
@@ -60,6 +69,13 @@ module _ (blocks : List Block) (bytes input : List ℕ) (settings : Settings) (s
           counted = refl;
           within = λ none. subst (λ (t : State). g.counts.cycles ≤ cost_of blocks t.trace) c.state
               (within (ap is_trap ends ∙ none));
+          trapped = λ block cause is. subst (λ k. g.counts.cycles
+              ≤ cost_of blocks (runs blocks (start bytes input) settings.most).0.trace + cost_in (slice_get blocks k))
+              (trap_at (runs blocks (start bytes input) settings.most).1
+              (runs blocks (start bytes input) settings.most).0.next block cause is)
+              (subst (λ (t : State). g.counts.cycles ≤ cost_of blocks t.trace + cost_in (slice_get blocks t.next)) c.state
+              (subst (λ (bs : List Block). g.counts.cycles
+              ≤ cost_of bs g.window.state.trace + cost_in (slice_get bs g.window.state.next)) same soon));
           at_most = subst (λ (t : State). g.counts.cycles ≤ cost_of blocks t.trace + 41472) c.state at_most;
         },
         (
@@ -81,10 +97,11 @@ pub ended_told : {E : Type 0} (image : Image) (input : List ℕ) (settings : Set
     → g.counts.cycles ≤ cost_of image.blocks g.window.state.trace)
     → (HasRan image input settings (Some e) g
     → g.counts.cycles ≤ cost_of image.blocks g.window.state.trace + 41472)
+    → g.counts.cycles ≤ cost_of seen g.window.state.trace + cost_in (slice_get seen g.window.state.next)
     → IfOk r (λ a. IsFixed (status_of e) (shown_report e g.window.state g.counts
     (cost_of seen g.window.state.trace) settings.show) a.status a.report.items)
     → IfOk r (λ a. IsRunBy image.blocks image.bytes input settings a.status a.report.items)
-ended_told image input settings seen e g (Err x) ran same within at_most told = tt
-ended_told image input settings seen e g (Ok a) ran same within at_most told =
+ended_told image input settings seen e g (Err x) ran same within at_most soon told = tt
+ended_told image input settings seen e g (Ok a) ran same within at_most soon told =
     grid_told image.blocks image.bytes input settings a.status a.report.items seen e g ran same
-    (λ none. within none ran) (at_most ran) told
+    (λ none. within none ran) (at_most ran) soon told

@@ -2,6 +2,7 @@
 use Rattle.std.proofs.Common.{◌≡◌, ◌≢◌, ℕ, ℤ, ◌+◌, ◌*◌, ◌≤◌, List, Option, All, subst}
 use Rattle.trips_outside.specs.Outside.{Appended}
 use Rattle.trips_isa.specs.declared.block.Image.{Image}
+use Rattle.trips_isa.specs.declared.run.Ending.TheVariants as ending
 use Rattle.trips_isa.specs.declared.run.Stepped.TheVariants as stepped
 use Rattle.trips_isa.specs.Machine.{runs, start}
 use Rattle.c_tree.specs.declared.typed.TypedProgram.{TypedProgram}
@@ -9,6 +10,7 @@ use Rattle.c_meaning_spec.specs.declared.signal.Ending.TheVariants.{Deep}
 use Rattle.c_meaning_spec.specs.Eval.{Stopped, Done, eval}
 use Rattle.c_front.specs.Fronts.{IsAccepted}
 use Rattle.c_compile.specs.Images.{IsImageOf}
+use Rattle.grid_meaning.specs.Meant.{EndsAsMeant}
 use Rattle.block_image.specs.Spelling.{ImageBytes}
 use Rattle.block_check.specs.Faults.{IsGood}
 use Rattle.target_asm_spec.specs.Text.{TargetText}
@@ -22,7 +24,7 @@ use Rattle.trips_answers.specs.Request.{Request, settings_with}
 use Rattle.trips_answers.specs.Report.{ending_of, run_report}
 use Rattle.trips_answers.specs.Worked.{status_of, IsRunBy, IsRunOfText}
 use Rattle.trips_answers.specs.Table.{IsAnswered, IsReported, AsksFor, ended_report, full_report}
-use Rattle.trips_answers.proofs.Compiled.{finished_shown, deep_shown}
+use Rattle.trips_answers.proofs.Compiled.{finished_shown, finished_grid, deep_shown}
 use Rattle.trips_answers.proofs.Exact.{complete, image_exact, text_exact, target_exact}
 use Rattle.trips_answers.proofs.Causes.{whole_of}
 
@@ -90,14 +92,20 @@ module _ (held : List ℕ → Option (List ℕ)) (rose : Type 0) (old new : Opti
       → (rose → ⊥) → (cut → ⊥) → s ≢ status.Memory
       → (image : Image) × IsImageOf bytes asks.q.placing image
       × ((runs image.blocks (start image.bytes input) most).1 ≡ stepped.Ended)
-      × IsReported image input (settings_with asks.q most show) status.Ended (ended_report output value) s old
-      new
+      × (told : IsReported image input (settings_with asks.q most show) status.Ended (ended_report output value) s old
+      new) × EndsAsMeant image input most output value ending.Ended told.1.grid
   headline n output value steps program asks is done enough r c m =
       let row = whole_of held rose old new cut q s a c m in
       let run = text_done c m program asks is r in
       let told = finished_shown (settings_with asks.q most show) n bytes input program s row.0 run is
-      enough output value steps done in
-      (run.0, run.1, told.1, (run.3.0, run.3.1, told.0, subst (Appended old new) told.2 row.2))
+      enough output value steps done in (
+        run.0,
+        run.1,
+        told.1,
+        (run.3.0, run.3.1, told.0, subst (Appended old new) told.2 row.2),
+        finished_grid (settings_with asks.q most show) n bytes input program s row.0 run is enough output value steps
+            done,
+      )
 
   pub deep : (n : ℕ) (output : List ℕ) (program : TypedProgram)
       → (asks : AsksFor q held Run form.Source most show bytes input)

@@ -1,11 +1,12 @@
 -- What the grid counts of a run (docs/GRID.md, "Runs").
-use Rattle.std.specs.Prelude.{◌≡◌, ℕ, ◌+◌, ◌≤◌, false, List, Some}
+use Rattle.std.specs.Prelude.{◌≡◌, ℕ, ◌+◌, ◌≤◌, false, List, Some, slice_get}
 use Rattle.trips_isa.specs.declared.block.Block.{Block}
 use Rattle.trips_isa.specs.declared.run.Counts.{Counts}
 use Rattle.trips_isa.specs.declared.run.Ending.{Ending}
+use Rattle.trips_isa.specs.declared.run.Ending.TheVariants.{Trap}
 use Rattle.trips_isa.specs.Machine.{runs, start}
 use Rattle.operand_net.specs.declared.weather.PcgWeather.{PcgWeather}
-use Rattle.grid_cycle_spec.specs.Costs.{cost_of}
+use Rattle.grid_cycle_spec.specs.Costs.{cost_in, cost_of}
 use Rattle.grid_cycle_spec.specs.Grid.{Grid}
 use Rattle.grid_machine.specs.Seeds.{IsRan}
 use Rattle.grid_machine_bound.specs.Traps.{is_trap}
@@ -24,5 +25,8 @@ pub record IsCountedRun (blocks : List Block) (bytes input : List ℕ) (seed bud
   -- a run that ends in no trap makes no more cycles than the blocks of the machine's trace cost
   pub within : is_trap ended ≡ false
       → counts.cycles ≤ cost_of blocks (runs blocks (start bytes input) budget).0.trace
-  -- and any run no more than that and the greatest cost of a block, for the block that faults
+  -- one that ends in a trap makes no more than that and what the block costs that trapped
+  pub trapped : (block cause : ℕ) → ended ≡ Trap block cause → counts.cycles
+      ≤ cost_of blocks (runs blocks (start bytes input) budget).0.trace + cost_in (slice_get blocks block)
+  -- and so any run no more than that and the greatest cost of a block
   pub at_most : counts.cycles ≤ cost_of blocks (runs blocks (start bytes input) budget).0.trace + 41472

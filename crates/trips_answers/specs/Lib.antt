@@ -9,3 +9,4 @@ pub mod Refused
 pub mod Table
 pub mod Evaluated
 pub mod Plain
+pub mod Ended

@@ -3,7 +3,7 @@
 ghost use Rattle.std.specs.Prelude.{◌≡◌, ◌<◌, IfOk, Some};
 ghost use Rattle.grid_cycle_spec.specs.Costs.{cost_of};
 ghost use Rattle.grid_machine.specs.Seeds.{IsRan};
-ghost use Rattle.grid_engine.specs.Engines.{blocks_of, grid_of};
+ghost use Rattle.grid_engine.specs.Engines.{IsWithinCost, blocks_of, grid_of};
 ghost use Rattle.trips_answers.specs.Report.{shown_report};
 ghost use Rattle.trips_answers.specs.Worked.{status_of, IsRunBy};
 ghost use Rattle.trips_answer_parts.specs.Texts.{IsFixed};
@@ -33,10 +33,11 @@ fn status_for(ending: Ending) -> Status
 
 // The answer of a run that has ended.
 fn ended_answer(alloc: Global, ran: &Ran, show: Show) -> Result<Answer, AllocError>
-    ensures { IfOk result (λ answer. IsFixed (status_of ran.now.ending) (shown_report ran.now.ending
+    ensures told { IfOk result (λ answer. IsFixed (status_of ran.now.ending) (shown_report ran.now.ending
         (grid_of ran.now.grid).window.state (grid_of ran.now.grid).counts
         (cost_of (blocks_of ran.now.grid) (grid_of ran.now.grid).window.state.trace) show)
         answer.status answer.report.items) }
+    ensures within { IsWithinCost (blocks_of ran.now.grid) ran.now.grid.window.budget (grid_of ran.now.grid) }
 {
     let ending = ran.ending;
     let arch = ran.grid.window().arch();

@@ -1,5 +1,6 @@
 ghost use Rattle.std.specs.Prelude.{◌≡◌, ◌≢◌, ◌≤◌, ◌+◌, ◌*◌, ◌∷◌, [], All, List, ℕ, ℤ, None, Some};
 ghost use Rattle.trips_isa.specs.declared.block.Image.{Image};
+ghost use Rattle.trips_isa.specs.declared.run.Ending.TheVariants as ending;
 ghost use Rattle.trips_isa.specs.declared.run.Stepped.TheVariants as stepped;
 ghost use Rattle.trips_isa.specs.Machine.{runs, start};
 ghost use Rattle.c_tree.specs.declared.typed.TypedProgram.{TypedProgram};
@@ -7,6 +8,7 @@ ghost use Rattle.c_front.specs.Fronts.{IsAccepted};
 ghost use Rattle.c_meaning_spec.specs.declared.signal.Ending.TheVariants.{Deep};
 ghost use Rattle.c_meaning_spec.specs.Eval.{Stopped, Done, eval};
 ghost use Rattle.c_compile.specs.Images.{IsImageOf};
+ghost use Rattle.grid_meaning.specs.Meant.{EndsAsMeant};
 ghost use Rattle.block_image.specs.Spelling.{ImageBytes};
 ghost use Rattle.block_check.specs.Faults.{IsGood};
 ghost use Rattle.trips_outside.specs.Outside.{Rose, Appended};
@@ -28,6 +30,7 @@ ghost use Rattle.trips_answers.specs.Report.{ending_of, run_report};
 ghost use Rattle.trips_answers.specs.Table.{IsAnswered, IsCutOff, IsOneOf, ended_report, full_report, Asks, AsksFor};
 ghost use Rattle.trips_answers.specs.Table.{HasLargeFile, HasLargeInput, EndsAs, EvalEnds, IsReported};
 ghost use Rattle.trips_answers.specs.Evaluated.{RunEndsAs};
+ghost use Rattle.trips_answers.specs.Ended.{ResultMeans};
 
 use crate::command_line::answer_for;
 use std::alloc::Global;
@@ -68,7 +71,8 @@ pub fn trips_run<F: Files, K: Sink>(
 
     // The same reports, whatever is asked for behind them: there is an image of the text, whose blocks are placed as it
     // is asked for, and a run of it on the grid of the request's seed, of which all this is told: its committed blocks
-    // are the machine's, and it has made no more cycles than they cost.
+    // are the machine's, and it has made no more cycles than they cost. Where it has ended it is as the law of
+    // `grid_meaning` has it (`EndsAsMeant`).
     ensures shown_headline { (most n : ℕ) (show : Show) (text input output : List ℕ) (value : ℤ)
         (steps : ℕ) (program : TypedProgram)
         → (asks : AsksFor (request_of words.now) (F.held files.old) Run form.Source most show text input)
@@ -78,8 +82,9 @@ pub fn trips_run<F: Files, K: Sink>(
         → ¬ Rose (K.faults sink.old) (K.faults sink.new) → result ≢ Status.Memory
         → (image : Image) × IsImageOf text asks.q.placing image
         × ((runs image.blocks (start image.bytes input) most).1 ≡ stepped.Ended)
-        × IsReported image input (settings_with asks.q most show) Status.Ended (ended_report output value)
-        result (K.written sink.old) (K.written sink.new) }
+        × (told : IsReported image input (settings_with asks.q most show) Status.Ended (ended_report output value)
+        result (K.written sink.old) (K.written sink.new))
+        × EndsAsMeant image input most output value ending.Ended told.1.grid }
     ensures shown_deep { (most n : ℕ) (show : Show) (text input output : List ℕ)
         (program : TypedProgram)
         → (asks : AsksFor (request_of words.now) (F.held files.old) Run form.Source most show text input)
@@ -236,6 +241,12 @@ pub fn trips_run<F: Files, K: Sink>(
         → q.form ≡ form.Source
         → IsOneOf result (Status.Ended ∷ Status.Budget ∷ Status.StackFull ∷ Status.Trap ∷ [])
         → RunEndsAs (F.held files.old) q result }
+
+    // Whenever the run of a text is reported to have ended with a result, whatever its budget and whatever else is told:
+    // the evaluation of the text is undefined, or done with the output and the result that stand in the report.
+    ensures result_means { (q : Request) → request_of words.now ≡ Some q → q.work ≡ Run
+        → q.form ≡ form.Source → result ≡ Status.Ended
+        → ResultMeans (F.held files.old) q result (K.written sink.old) (K.written sink.new) }
     ensures write_fault { result ≡ Status.WriteFault
         → Rose (K.faults sink.old) (K.faults sink.new) }
     ensures cut_off { result ≡ Status.WriteFault

@@ -14,4 +14,4 @@ returns c =
     c.in_ok-ran.ensures.ran c.in_ok-ran.ensures.image
     (c.runs_of_a_seed_end.ensures.within _ _ _ _ _ _ _ good some image.fits.few c.requires.some few)
     (c.runs_of_a_seed_end.ensures.trapped _ _ _ _ _ _ _ good some image.fits.few c.requires.some few)
-    c.ended_answer.ensures
+    c.ended_answer.ensures.within.next c.ended_answer.ensures.told

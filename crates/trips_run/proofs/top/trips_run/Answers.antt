@@ -24,6 +24,10 @@ pub returns-in-Ok-write_all-clause-text_ends : goal.returns-in-Ok-write_all-clau
 returns-in-Ok-write_all-clause-text_ends g c =
     causes.text_ends _ _ _ _ _ _ _ (returns-in-Ok-write_all-clause-answered g c)
 
+pub returns-in-Ok-write_all-clause-result_means : goal.returns-in-Ok-write_all-clause-result_means
+returns-in-Ok-write_all-clause-result_means g c =
+    causes.result_means _ _ _ _ _ _ _ (returns-in-Ok-write_all-clause-answered g c)
+
 pub returns-in-Ok-write_all-clause-evaluation : goal.returns-in-Ok-write_all-clause-evaluation
 returns-in-Ok-write_all-clause-evaluation g c =
     reported.evaluation _ _ _ _ _ _ _ (returns-in-Ok-write_all-clause-answered g c)
