@@ -4,7 +4,8 @@ use Rattle.trips_isa.specs.declared.block.Image.{Image}
 use Rattle.c_tree.specs.declared.typed.TypedProgram.{TypedProgram}
 use Rattle.c_lex.specs.Lexes.{Tokens}
 use Rattle.c_lex.specs.Answers.{Lexed}
-use Rattle.c_front.specs.Fronts.{most_tokens, IsAccepted}
+use Rattle.c_tree.specs.Limits.{most_tokens}
+use Rattle.c_front.specs.Fronts.{IsAccepted}
 use Rattle.ir_forms.specs.FlatCode.{Program}
 use Rattle.plain_ifs.specs.PlainIfs.{plain_ifs}
 use Rattle.grid_place.specs.declared.placed.Placing.{Placing}

@@ -2,7 +2,7 @@
 use Rattle.std.specs.Prelude.{◌≡◌, ℕ, ◌*◌, ◌≤◌, Bool, List}
 use Rattle.trips_isa.specs.declared.block.Block.{Block}
 use Rattle.trips_isa.specs.declared.block.Image.{Image}
-use Rattle.c_tree.specs.declared.limits.TheConstants.{MOST_TOKENS}
+use Rattle.c_tree.specs.Limits.{most_tokens}
 use Rattle.c_tree.specs.declared.typed.TypedProgram.{TypedProgram}
 use Rattle.c_meaning_spec.specs.Eval.{eval}
 use Rattle.ir_forms.specs.FlatCode.{Program}
@@ -24,7 +24,7 @@ pub record FlatMeans (P : TypedProgram) (F : Program) (t : ℕ) : Type 0 where
       → Keeps most (flat_run checked F input) n (eval P input n)
   pub fits : FitsProgram F
   -- as many as the lexer takes, at most
-  pub few : t ≤ MOST_TOKENS
+  pub few : t ≤ most_tokens
   -- and these are at most the text's tokens
   pub short : most ≤ t
   -- whatever plan cuts them

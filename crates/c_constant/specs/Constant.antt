@@ -1,5 +1,5 @@
 -- The value of a constant expression, none where it has none (C17 6.6).
-use Rattle.std.specs.Prelude.{ℕ, cond, nat_eq, List, [], ◌∷◌, Option, Some, None}
+use Rattle.std.specs.Prelude.{ℕ, cond, nat_eq, List, [], ◌∷◌, Option, Some, None, codes}
 use Rattle.std.specs.Cmp.Lexicographic.{pointwise}
 use Rattle.c_tree.specs.declared.token.Kind.{Kind}
 use Rattle.c_tree.specs.declared.token.Kind.TheVariants.{Int}
@@ -29,7 +29,7 @@ pub record NamedConstant : Type 0 where
 -- any value is asked for.
 abbrev pub ends : List NamedConstant
 ends = (record {
-  name = 69 ∷ 79 ∷ 70 ∷ [];
+  name = codes "EOF";
   constant = given Int (Some 18446744073709551615);
 }) ∷ []
 

@@ -1,7 +1,7 @@
 -- How many temporaries an expression needs, if operands are computed from left to right.
 use Rattle.std.specs.Prelude.{ℕ, ◌+◌, max, min, Bool, nat_le, List, [], ◌∷◌, Option, Some, None}
 use Rattle.std.specs.Prelude.{option_map}
-use Rattle.c_tree.specs.declared.limits.TheConstants.{MOST_NEED}
+use Rattle.c_tree.specs.Limits.{most_need}
 use Rattle.c_tree.specs.declared.tree.Expr.{Expr, Expr-F, fold-Expr}
 use Rattle.c_tree.specs.declared.tree.ExprNode.TheOpen.{ExprNode-F, Number, Name, Element, Call}
 use Rattle.c_tree.specs.declared.tree.ExprNode.TheOpen.{Group, Unary, Cast, Bump, Binary, Choice}
@@ -81,4 +81,4 @@ capped_if (Some n) = Some (capped n)
 
 -- the limit on a full expression
 abbrev pub need_fits : Expr → Bool
-need_fits e = nat_le (need e) MOST_NEED
+need_fits e = nat_le (need e) most_need

@@ -1,6 +1,6 @@
 //! Constant expressions.
 
-ghost use Rattle.std.specs.Prelude.{◌≡◌, nat_eq, [], ◌∷◌};
+ghost use Rattle.std.specs.Prelude.{◌≡◌, codes, nat_eq};
 ghost use Rattle.std.specs.Cmp.Lexicographic.{pointwise};
 ghost use Rattle.c_constant.specs.Kinds as kinds;
 ghost use Rattle.c_constant.specs.Operation as operations;
@@ -171,7 +171,7 @@ fn three(test: Constant, yes: Constant, no: Constant) -> Constant
 
 // Whether a name is `EOF`.
 fn is_end(word: &[u8]) -> bool
-    ensures { result ≡ pointwise nat_eq (69 ∷ 79 ∷ 70 ∷ []) word.now }
+    ensures { result ≡ pointwise nat_eq (codes "EOF") word.now }
 {
     b"EOF".as_slice() == word
 }

@@ -17,7 +17,8 @@ use Rattle.c_type_rules.proofs.GoodUnits.{unit_good}
 use Rattle.c_type_rules.proofs.UnitsComplete.{accepts_typed}
 use Rattle.c_front.specs.declared.refusal.Refusal.{Refusal}
 use Rattle.c_front.specs.declared.refusal.Refusal.TheVariants.{Lex, Parse, Typing, Memory}
-use Rattle.c_front.specs.Fronts.{most_tokens, HasTree, HasTypes, MayHaveNoTypes, IsAccepted, IsRefused}
+use Rattle.c_tree.specs.Limits.{most_tokens}
+use Rattle.c_front.specs.Fronts.{HasTree, HasTypes, MayHaveNoTypes, IsAccepted, IsRefused}
 use Rattle.c_front.specs.Stops.{MayStop}
 use Rattle.c_front.specs.Laws.{EveryTextAnswers}
 

@@ -20,7 +20,8 @@ use Rattle.c_type_rules.proofs.FirstFaults.{fault_is}
 use Rattle.c_type_rules.proofs.UnitsSound.{accepts_fine}
 use Rattle.c_front.specs.declared.refusal.Refusal.{Refusal}
 use Rattle.c_front.specs.declared.refusal.Refusal.TheVariants.{Lex, Parse, Typing, Memory}
-use Rattle.c_front.specs.Fronts.{most_tokens, HasTree, HasTypes, HasNoTypes}
+use Rattle.c_tree.specs.Limits.{most_tokens}
+use Rattle.c_front.specs.Fronts.{HasTree, HasTypes, HasNoTypes}
 use Rattle.c_front.specs.Fronts.{IsRefusedByLexer, IsRefusedByGrammar}
 use Rattle.c_front.specs.Fronts.{IsRefusedByTyping, IsRefused}
 use Rattle.c_front.specs.Laws.{AcceptedOnce, NotBoth, RefusedOnce}

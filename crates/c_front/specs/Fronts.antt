@@ -1,6 +1,6 @@
 -- Which texts of C are accepted, with which typed program, and which stage refuses the others.
 use Rattle.std.specs.Prelude.{ℕ, List}
-use Rattle.c_tree.specs.declared.limits.TheConstants.{MOST_TOKENS}
+use Rattle.c_tree.specs.Limits.{most_tokens}
 use Rattle.c_tree.specs.declared.tree.Program.{Program}
 use Rattle.c_tree.specs.declared.typed.TypedProgram.{TypedProgram}
 use Rattle.c_lex.specs.declared.fault.LexFault.{LexFault}
@@ -15,10 +15,6 @@ use Rattle.c_type_rules.specs.Units.{Accepts}
 use Rattle.c_type_rules.specs.FirstFaults.{UnitFails}
 use Rattle.c_front.specs.declared.refusal.Refusal.{Refusal}
 use Rattle.c_front.specs.declared.refusal.Refusal.TheVariants.{Lex, Parse, Typing, Memory}
-
--- how many tokens a text may have
-abbrev pub most_tokens : ℕ
-most_tokens = MOST_TOKENS
 
 -- the text's tokens spell this unit, and no construct of it is too deep
 abbrev pub HasTree : List ℕ → Program → Type 0

@@ -1,6 +1,6 @@
 -- What is answered of a list of tokens: its tree, or a fault and the line of its place.
 use Rattle.std.specs.Prelude.{◌≡◌, ℕ, List, [], ◌∷◌}
-use Rattle.c_tree.specs.declared.limits.TheConstants.{MOST_NESTING}
+use Rattle.c_tree.specs.Limits.{most_nesting}
 use Rattle.c_tree.specs.declared.token.Lexeme.{Lexeme}
 use Rattle.c_tree.specs.declared.tree.Top.{Top}
 use Rattle.c_grammar.specs.Tokens.{Tokens}
@@ -9,7 +9,7 @@ use Rattle.c_grammar.specs.Places.{Rel, Spelled, SyntaxAt, EndsEarly, DeepAt}
 
 -- the deepest construct
 abbrev pub limit : ℕ
-limit = MOST_NESTING
+limit = most_nesting
 
 -- the tokens between two places spell a unit
 abbrev pub UnitIs : Rel (List Top)

@@ -96,7 +96,7 @@ fn row_at<T: Copy>(table: &[(&[u8], T)], at: usize, bytes: &[u8]) -> Option<T>
 }
 
 /// The keyword that the word is, if it is one.
-#[tactic(auto, using(crate::proofs::Guesses::key_guessed), unfolding(crate::specs::Tables::keywords))]
+#[tactic(auto, using(crate::proofs::Guesses::key_guessed))]
 pub fn find_key(word: &[u8]) -> Option<Key>
     requires some { 0 < length word.now }
     ensures { result ≡ lookup word.now keywords }
@@ -105,7 +105,7 @@ pub fn find_key(word: &[u8]) -> Option<Key>
 }
 
 /// The punctuator that the bytes are, if they are one.
-#[tactic(auto, using(crate::proofs::Guesses::mark_guessed), unfolding(crate::specs::Tables::marks))]
+#[tactic(auto, using(crate::proofs::Guesses::mark_guessed))]
 pub fn find_mark(text: &[u8]) -> Option<Mark>
     requires some { 0 < length text.now }
     ensures { result ≡ lookup text.now marks }

@@ -1,5 +1,6 @@
 ghost use Rattle.std.specs.Prelude.{◌≡◌, ◌+◌, ◌*◌, ◌<◌, ◌≤◌, ◌^◌, ◌++◌, map};
 ghost use Rattle.std.specs.Prelude.{replicate, None, OnOk, SomeIff};
+ghost use Rattle.c_tree.specs.Limits.{most_frame_bytes};
 ghost use Rattle.c_meaning_spec.specs.Call.{array_bytes, array_row, frame as frame_of, unset_array};
 
 use crate::arrays::Arrays;
@@ -19,7 +20,7 @@ fn bytes_of(a: &TypedArray) -> u64
 /// The bytes of the active frames with that of f, if so many are allowed.
 #[inline(always)]
 pub fn room_with(room: u32, f: &TypedFunc) -> Option<u32>
-    ensures { SomeIff result (room + frame_of f.now ≤ MOST_FRAME_BYTES) (room + frame_of f.now) }
+    ensures { SomeIff result (room + frame_of f.now ≤ most_frame_bytes) (room + frame_of f.now) }
 {
     let scalars = f.scalars.len() as u64;
     if scalars > MOST_FRAME_BYTES {

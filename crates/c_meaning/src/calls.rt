@@ -1,6 +1,7 @@
 //! Calls: a function of the program is entered and its body left.
 
 ghost use Rattle.std.specs.Prelude.{◌≡◌, ◌+◌, ◌≤◌, [], true, List, ℕ, map, Some, OnOk, length, take};
+ghost use Rattle.c_tree.specs.Limits.{most_frame_bytes};
 ghost use Rattle.c_meaning_spec.specs.State.{Result as Meant, then};
 ghost use Rattle.c_meaning_spec.specs.Call.{frame as frame_of, called, enter, entered, entered_if};
 ghost use Rattle.c_meaning_spec.specs.Call.{arguments, left, returned};
@@ -325,7 +326,7 @@ impl<'a> Store<'a> {
         depth: u32,
     ) -> Option<u64>
         requires room { room ≡ self.old.room + frame_of f.now }
-        requires small { room ≤ MOST_FRAME_BYTES }
+        requires small { room ≤ most_frame_bytes }
         ensures { (done : List ℕ) → list.old ≡ map Some done → Values program.now
             (entered_if (meaning program.now) is_main true f.now done (view self.old)) self.new result }
     {

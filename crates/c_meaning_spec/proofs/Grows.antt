@@ -38,7 +38,7 @@ use Rattle.c_meaning_spec.specs.Task.{is_array, name, element, row_element_in, r
 use Rattle.c_meaning_spec.specs.Task.{row_element, after_row}
 use Rattle.c_meaning_spec.specs.Call.{frame, entered, returned, entered_if, enter, read_from, get_char}
 use Rattle.c_meaning_spec.specs.Call.{put_char, called, arguments}
-use Rattle.c_tree.specs.declared.limits.TheConstants.{MOST_FRAME_BYTES}
+use Rattle.c_tree.specs.Limits.{most_frame_bytes}
 use Rattle.c_tree.specs.TypedTrees.{Node, node_of}
 use Rattle.c_meaning_spec.specs.Expression.{converting, unary, operated, after_left, truth}
 use Rattle.c_meaning_spec.specs.Expression.{after_and, after_or, binary, valued, after_choice, after_comma}
@@ -352,7 +352,7 @@ module _ (d n : ℕ) (rec rec' : Parts) (below : (t : Task) (s : State) → s.st
   g-enter is_main None done s h = g-undefined d n s
   g-enter is_main (Some f) done s h =
       g-cond d n (nat_eq (length done) f.params) _ _ _ _
-      (g-entered_if is_main (nat_le (s.room + frame f) MOST_FRAME_BYTES) f done s h)
+      (g-entered_if is_main (nat_le (s.room + frame f) most_frame_bytes) f done s h)
       (g-undefined d n s)
 
   pub g-called : (P : TypedProgram) (f : Callee) (done : List ℕ) (s : State) → s.stock ≤ n

@@ -2,7 +2,7 @@
 use Rattle.std.specs.Prelude.{ℕ, ◌+◌, ◌-◌, ◌*◌, ◌/◌, ◌%◌, ◌^◌, Bool, true, false, cond, nat_eq}
 use Rattle.std.specs.Prelude.{nat_le, List, [], ◌∷◌, ◌++◌, map, Option, Some, None, slice_get}
 use Rattle.std.specs.Prelude.{length, take, replicate}
-use Rattle.c_tree.specs.declared.limits.TheConstants.{MOST_FRAME_BYTES}
+use Rattle.c_tree.specs.Limits.{most_frame_bytes}
 use Rattle.c_tree.specs.declared.Callee.{Callee}
 use Rattle.c_tree.specs.declared.Callee.TheVariants.{Func, GetChar, PutChar}
 use Rattle.c_tree.specs.declared.TypedArray.{TypedArray}
@@ -89,7 +89,7 @@ abbrev pub enter : Parts → Bool → Option TypedFunc → List ℕ → State �
 enter rec is_main None done s = Over Undefined s
 enter rec is_main (Some f) done s =
     cond (nat_eq (length done) f.params)
-    (entered_if rec is_main (nat_le (s.room + frame f) MOST_FRAME_BYTES) f done s)
+    (entered_if rec is_main (nat_le (s.room + frame f) most_frame_bytes) f done s)
     (Over Undefined s)
 
 -- the next byte of the input, and -1 at its end

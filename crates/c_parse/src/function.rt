@@ -1,6 +1,7 @@
 //! Functions and translation units (C17 6.9).
 
 ghost use Rattle.std.specs.Prelude.{◌≡◌, ◌-◌, Some, None, [], ◌∷◌};
+ghost use Rattle.c_tree.specs.Limits.{most_nesting};
 ghost use Rattle.c_grammar.specs.ModelExpressions.{inside};
 ghost use Rattle.c_grammar.specs.ModelStatements.{below_at, compound_of};
 ghost use Rattle.c_grammar.specs.ModelUnits as model;
@@ -279,7 +280,7 @@ impl Parser<'_> {
 
     /// Items up to the end, one at least.
     pub fn unit(&mut self) -> Result<Items<Top>, Stopped>
-        ensures { Reads (model.unit_of (MOST_NESTING - 1) self.old.rest.now) result self.new.rest.now }
+        ensures { Reads (model.unit_of (most_nesting - 1) self.old.rest.now) result self.new.rest.now }
     {
         let mut found = Items::new(self.alloc);
         let turns = self.rest.len() + 1;

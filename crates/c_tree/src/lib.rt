@@ -12,7 +12,7 @@ mod word;
 
 pub use limits::{
     MOST_FRAME_BYTES, MOST_NEED, MOST_NESTING, MOST_OBJECT_BYTES, MOST_PARAMETERS, MOST_SCALARS,
-    MOST_SOURCE_BYTES, MOST_TOKENS,
+    MOST_SOURCE_BYTES, MOST_TOKENS, limits_are_the_profiles,
 };
 pub use token::{Form, Key, Kind, Lexeme, Mark};
 pub use tree::{

@@ -1,7 +1,7 @@
 -- Local declarations (C17 6.7): the first fault, the typed tree, and the state after them.
 use Rattle.std.specs.Prelude.{ℕ, ◌*◌, Bool, true, false, not, ◌||◌, nat_le, nat_lt, length, List, Option, Some, None}
 use Rattle.c_tree.specs.declared.token.Kind.{Kind}
-use Rattle.c_tree.specs.declared.limits.TheConstants.{MOST_SCALARS, MOST_OBJECT_BYTES}
+use Rattle.c_tree.specs.Limits.{most_scalars, most_object_bytes}
 use Rattle.c_tree.specs.declared.tree.ArraySize.{ArraySize}
 use Rattle.c_tree.specs.declared.tree.ArraySize.TheVariants as size
 use Rattle.c_tree.specs.declared.tree.Expr.{Expr}
@@ -36,12 +36,12 @@ twice_fault G w l = unless (not (is_taken G w)) (Twice l)
 -- a function has at most 64 scalars, its parameters among them
 abbrev pub scalar_fault : List ℕ → ℕ → State → Blame
 scalar_fault w l v =
-    first (twice_fault v.names w l) (unless (nat_lt (length v.scalars) MOST_SCALARS) (TooManyScalars l))
+    first (twice_fault v.names w l) (unless (nat_lt (length v.scalars) most_scalars) (TooManyScalars l))
 
 -- an array has at most 1,048,576 bytes
 abbrev pub array_fault : ℕ → Kind → List ℕ → ℕ → Scope → Blame
 array_fault n k w l G =
-    first (twice_fault G w l) (unless (nat_le (n * bytes k) MOST_OBJECT_BYTES) (TooLarge l))
+    first (twice_fault G w l) (unless (nat_le (n * bytes k) most_object_bytes) (TooLarge l))
 
 -- a local array has no initialiser
 abbrev pub no_init : Option Expr → ℕ → Blame

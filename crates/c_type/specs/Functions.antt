@@ -1,7 +1,7 @@
 -- Functions (C17 6.7.6.3, 6.9.1): parameters, prototypes and definitions.
 use Rattle.std.specs.Prelude.{ℕ, ◌+◌, ◌*◌, Bool, true, false, not, ◌||◌, nat_le, nat_lt, length, List, [], ◌∷◌, ◌++◌}
 use Rattle.std.specs.Prelude.{map, Option, Some, None}
-use Rattle.c_tree.specs.declared.limits.TheConstants.{MOST_PARAMETERS, MOST_OBJECT_BYTES}
+use Rattle.c_tree.specs.Limits.{most_parameters, most_object_bytes}
 use Rattle.c_tree.specs.declared.token.Kind.{Kind}
 use Rattle.c_tree.specs.declared.tree.ArraySize.{ArraySize}
 use Rattle.c_tree.specs.declared.tree.ArraySize.TheVariants as size
@@ -106,7 +106,7 @@ row_fault _ G seen = None
 -- no row has more bytes than an array may have
 abbrev pub row_bytes_fault : ArraySize → Kind → ℕ → Blame
 row_bytes_fault (size.Rows o e) k l =
-    unless (nat_le (word_in (length_of e) * bytes k) MOST_OBJECT_BYTES) (TooLarge l)
+    unless (nat_le (word_in (length_of e) * bytes k) most_object_bytes) (TooLarge l)
 row_bytes_fault _ k l = None
 
 -- a parameter after others, with which a function has no more than it may have
@@ -114,7 +114,7 @@ abbrev pub param_fault : Bool → Scope → List Param → Param → Blame
 param_fault is_def G seen p =
     first (row_fault p.size G seen)
     (first (name_fault is_def G seen p.name p.line)
-    (first (unless (nat_lt (length seen) MOST_PARAMETERS) (TooManyParams p.line))
+    (first (unless (nat_lt (length seen) most_parameters) (TooManyParams p.line))
     (row_bytes_fault p.size p.kind p.line)))
 
 -- the first fault of parameters after others

@@ -1,6 +1,6 @@
 -- A translation unit (C17 6.9): the first fault of its items, and `main` last (C17 5.1.2.2.1).
 use Rattle.std.specs.Prelude.{ℕ, ◌+◌, Bool, true, false, ◌&&◌, List, [], ◌∷◌, map, Option, Some}
-use Rattle.std.specs.Prelude.{None, Result, Ok, Err, ◌≡◌}
+use Rattle.std.specs.Prelude.{None, Result, Ok, Err, ◌≡◌, codes}
 use Rattle.c_tree.specs.declared.token.Kind.{Kind}
 use Rattle.c_tree.specs.declared.token.Kind.TheVariants.{Int}
 use Rattle.c_tree.specs.declared.tree.Param.{Param}
@@ -96,7 +96,7 @@ items_after T (t ∷ ts) U = items_after T ts (item_after T t U)
 
 -- the name `main`
 abbrev pub main_name : List ℕ
-main_name = 109 ∷ 97 ∷ 105 ∷ 110 ∷ []
+main_name = codes "main"
 
 -- is the result an int?
 abbrev pub is_int : Option Kind → Bool

@@ -17,7 +17,7 @@ use Rattle.c_tree.specs.declared.typed.TypedStmt.TheVariants as typed
 use Rattle.c_tree.specs.declared.typed.TypedForInit.{TypedForInit}
 use Rattle.c_tree.specs.declared.typed.TypedForInit.TheVariants as typed_init
 use Rattle.c_scope.specs.Scope.{Scope}
-use Rattle.c_tree.specs.declared.limits.TheConstants.{MOST_SCALARS}
+use Rattle.c_tree.specs.Limits.{most_scalars}
 use Rattle.c_type_expr.specs.declared.fault.TypeFault.TheVariants.{Mismatch, TooManyScalars}
 use Rattle.c_type_expr.specs.declared.role.Role.TheVariants.{Value, Free}
 use Rattle.c_type_expr.specs.Roles.{Blame, first, unless}
@@ -180,7 +180,7 @@ sections_trees k (x ∷ xs) v = section_tree k x v ∷ sections_trees k xs (all_
 abbrev pub switch_fault : Expr → List SectionPart → ℕ → Around → State → Blame
 switch_fault test xs l b v =
     first (full test Value v.names)
-    (first (unless (nat_lt (length v.scalars) MOST_SCALARS) (TooManyScalars l))
+    (first (unless (nat_lt (length v.scalars) most_scalars) (TooManyScalars l))
     (sections_fault (switch_kind test v.names) [] xs (in_switch b)
     (with_switch (switch_kind test v.names) v)))
 

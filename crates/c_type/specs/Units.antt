@@ -1,7 +1,7 @@
 -- File scope (C17 6.7, 6.9): the include, globals and the signatures of functions.
 use Rattle.std.specs.Prelude.{ℕ, ◌+◌, ◌-◌, ◌*◌, replicate, take, drop, Bool, true, false, cond, not, ◌&&◌, nat_le, nat_lt}
-use Rattle.std.specs.Prelude.{length, List, [], ◌∷◌, ◌++◌, map, Option, Some, None}
-use Rattle.c_tree.specs.declared.limits.TheConstants.{MOST_OBJECT_BYTES}
+use Rattle.std.specs.Prelude.{length, List, [], ◌∷◌, ◌++◌, map, Option, Some, None, codes}
+use Rattle.c_tree.specs.Limits.{most_object_bytes}
 use Rattle.c_tree.specs.declared.token.Kind.{Kind}
 use Rattle.c_tree.specs.declared.token.Kind.TheVariants.{Int}
 use Rattle.c_tree.specs.declared.tree.ArraySize.{ArraySize}
@@ -23,17 +23,17 @@ use Rattle.c_type.specs.declared.file_scope.FileScope.{FileScope}
 use Rattle.c_constant.specs.Kinds.{bytes}
 use Rattle.c_type.specs.Declarations.{is_end, twice_fault, row_in}
 
--- the names `EOF`, `getchar` and `putchar`
+-- the name `EOF`
 abbrev pub eof_name : List ℕ
-eof_name = 69 ∷ 79 ∷ 70 ∷ []
+eof_name = codes "EOF"
 
 -- the name `getchar`
 abbrev pub getchar_name : List ℕ
-getchar_name = 103 ∷ 101 ∷ 116 ∷ 99 ∷ 104 ∷ 97 ∷ 114 ∷ []
+getchar_name = codes "getchar"
 
 -- the name `putchar`
 abbrev pub putchar_name : List ℕ
-putchar_name = 112 ∷ 117 ∷ 116 ∷ 99 ∷ 104 ∷ 97 ∷ 114 ∷ []
+putchar_name = codes "putchar"
 
 -- FUNCTIONS
 
@@ -115,7 +115,7 @@ included G = cond (is_end (look_up G eof_name)) G (with_include G)
 -- the globals have at most 1,048,576 bytes, an array no more
 abbrev pub place_fault : ℕ → Kind → List ℕ → ℕ → FileScope → Blame
 place_fault n k w l U =
-    first (twice_fault U.names w l) (unless (nat_le (n * bytes k + U.bytes) MOST_OBJECT_BYTES) (TooLarge l))
+    first (twice_fault U.names w l) (unless (nat_le (n * bytes k + U.bytes) most_object_bytes) (TooLarge l))
 
 -- the first fault of a global's values
 abbrev pub values_fault : List Expr → Scope → Blame

@@ -1,6 +1,7 @@
 //! The globals.
 
 ghost use Rattle.std.specs.Prelude.{◌≡◌, ◌+◌, ◌*◌, ◌≤◌, nat_le, length, None, IfOk};
+ghost use Rattle.c_tree.specs.Limits.{most_object_bytes};
 ghost use Rattle.c_type.specs.Declarations as declarations;
 ghost use Rattle.c_type_expr.specs.Roles.{first, unless};
 ghost use Rattle.c_type_expr.specs.Says.{Says};
@@ -21,7 +22,7 @@ use std::alloc::Global;
 
 /// Whether the globals have room for `count` more of a kind.
 fn has_room(count: u64, kind: Kind, taken: u64) -> bool
-    ensures { result ≡ nat_le (count * kinds.bytes kind + taken) MOST_OBJECT_BYTES }
+    ensures { result ≡ nat_le (count * kinds.bytes kind + taken) most_object_bytes }
 {
     taken <= MOST_OBJECT_BYTES && count <= (MOST_OBJECT_BYTES - taken) / bytes(kind) as u64
 }
@@ -36,7 +37,7 @@ fn place_at(
 ) -> Result<u64, TypeFault>
     ensures value { Says (units.place_fault (rows * length) kind name.now line file.now)
         (rows * length) result }
-    ensures few { IfOk result (λ n. n * kinds.bytes kind + file.now.bytes ≤ MOST_OBJECT_BYTES) }
+    ensures few { IfOk result (λ n. n * kinds.bytes kind + file.now.bytes ≤ most_object_bytes) }
 {
     twice(&file.names, name, line)?;
     let Some(count) = rows.checked_mul(length) else {
@@ -111,7 +112,7 @@ fn meaning_of(size: &ArraySize, kind: Kind, length: u32, number: u32) -> Meaning
 }
 
 fn length_in(size: &ArraySize, count: u64) -> Option<u32>
-    requires { count ≤ MOST_OBJECT_BYTES }
+    requires { count ≤ most_object_bytes }
     ensures { result ≡ units.length_in size.now count }
 {
     match size {
@@ -161,7 +162,7 @@ fn admit(
       count = units.count_of size.now init.now;
     }) result }
     ensures few { IfOk result
-        (λ r. r.count * kinds.bytes kind + file.now.bytes ≤ MOST_OBJECT_BYTES) }
+        (λ r. r.count * kinds.bytes kind + file.now.bytes ≤ most_object_bytes) }
 {
     let (rows, length) = sizes_in(&file.names, size, init, line)?;
     let count = place_at(file, rows, length, kind, name, line)?;

@@ -2,7 +2,7 @@
 
 ghost use Rattle.std.specs.Prelude.{◌≡◌, ◌*◌, [], nat_le, map, None, OnOk, true};
 ghost use Rattle.std.specs.Option.{option_copied};
-ghost use Rattle.c_tree.specs.declared.limits.TheConstants.{MOST_OBJECT_BYTES};
+ghost use Rattle.c_tree.specs.Limits.{most_object_bytes};
 ghost use Rattle.c_constant.specs.Kinds as kinds;
 ghost use Rattle.c_type_expr.specs.Constants.{size_fault};
 ghost use Rattle.c_type_expr.specs.Says.{Says};
@@ -190,7 +190,7 @@ fn row_at(
 
 /// Whether a row of so many elements has no more bytes than an array may have.
 fn fits(length: u64, kind: Kind) -> bool
-    ensures { result ≡ nat_le (length * kinds.bytes kind) MOST_OBJECT_BYTES }
+    ensures { result ≡ nat_le (length * kinds.bytes kind) most_object_bytes }
 {
     length <= MOST_OBJECT_BYTES / bytes(kind) as u64
 }

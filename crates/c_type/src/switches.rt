@@ -1,7 +1,7 @@
 //! The labels of a switch, its test and its scalar.
 
 ghost use Rattle.std.specs.Prelude.{◌++◌, length, map, nat_lt};
-ghost use Rattle.c_tree.specs.declared.limits.TheConstants.{MOST_SCALARS};
+ghost use Rattle.c_tree.specs.Limits.{most_scalars};
 ghost use Rattle.c_type_expr.specs.Constants as constants;
 ghost use Rattle.c_type_expr.specs.Roles.{unless};
 ghost use Rattle.c_type_expr.specs.Says.{Says};
@@ -75,7 +75,7 @@ pub fn switch_test(
 /// The number of the scalar that a switch counts.
 pub fn switch_scalar(state: &mut State, kind: Kind, line: u32) -> Result<u32, TypeFault>
     ensures { Moves
-        (unless (nat_lt (length state.old.scalars) MOST_SCALARS) (TypeFault.TooManyScalars line))
+        (unless (nat_lt (length state.old.scalars) most_scalars) (TypeFault.TooManyScalars line))
         (length state.old.scalars) (with_switch kind state.old) state.new result }
 {
     let place = state.scalars.len();

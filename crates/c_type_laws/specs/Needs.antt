@@ -1,6 +1,6 @@
 -- How many temporaries a typed expression needs, if operands are computed from left to right.
 use Rattle.std.specs.Prelude.{◌+◌, ◌≤◌, max, option_map}
-use Rattle.c_tree.specs.declared.limits.TheConstants.{MOST_NEED}
+use Rattle.c_tree.specs.Limits.{most_need}
 use Rattle.c_tree.specs.declared.typed.TypedExpr.{TypedExpr, TypedExpr-F, fold-TypedExpr}
 use Rattle.c_tree.specs.declared.typed.TypedNode.TheOpen.{TypedNode-F, Number, Name, Element, Call}
 use Rattle.c_tree.specs.declared.typed.TypedNode.TheOpen.{Unary, Cast, Convert, Bump, Binary}
@@ -33,4 +33,4 @@ typed_needs e = fold-TypedExpr Needs Needs node_needs of_needs e
 
 -- it needs no more temporaries than a full expression may need
 abbrev pub FitsNeed : TypedExpr → Type 0
-FitsNeed e = (typed_needs e).need ≤ MOST_NEED
+FitsNeed e = (typed_needs e).need ≤ most_need

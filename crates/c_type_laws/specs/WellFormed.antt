@@ -1,7 +1,7 @@
 -- A typed program that is well formed: what evaluation and translation may rely on.
 use Rattle.std.specs.Prelude.{◌≡◌, ℕ, ◌+◌, ◌*◌, ◌≤◌, List, [], ◌∷◌, Option, Some, None}
 use Rattle.std.specs.Prelude.{length, drop, slice_get}
-use Rattle.c_tree.specs.declared.limits.TheConstants.{MOST_OBJECT_BYTES, MOST_PARAMETERS, MOST_SCALARS}
+use Rattle.c_tree.specs.Limits.{most_object_bytes, most_parameters, most_scalars}
 use Rattle.c_tree.specs.declared.token.Kind.TheVariants.{Int}
 use Rattle.c_tree.specs.declared.typed.Slot.{Slot}
 use Rattle.c_tree.specs.declared.typed.Slot.TheVariants as slot
@@ -56,7 +56,7 @@ pub record GlobalFits (g : TypedGlobal) : Type 0 where
 pub record ArrayFits (a : TypedArray) : Type 0 where
   pub some : 1 ≤ a.length
   pub rows : IsRows a.row a.length
-  pub bytes : a.length * bytes a.kind ≤ MOST_OBJECT_BYTES
+  pub bytes : a.length * bytes a.kind ≤ most_object_bytes
 
 -- the slot holds a value, and does not stand for an array
 abbrev pub IsScalar : Slot → Type 0
@@ -65,16 +65,16 @@ IsScalar (slot.Address k q) = ⊥
 
 -- a row of an array parameter has an element, and no more bytes than an array may have
 abbrev pub SlotFits : Slot → Type 0
-SlotFits (slot.Address k (Some n)) = (1 ≤ n) × (n * bytes k ≤ MOST_OBJECT_BYTES)
+SlotFits (slot.Address k (Some n)) = (1 ≤ n) × (n * bytes k ≤ most_object_bytes)
 SlotFits _ = Unit {0}
 
 -- a function that is well formed
 pub record FunctionFits (P : TypedProgram) (f : TypedFunc) : Type 0 where
   -- no more parameters than a function may have, each of which has a slot
-  pub params : f.params ≤ MOST_PARAMETERS
+  pub params : f.params ≤ most_parameters
   pub slots : f.params ≤ length f.scalars
   -- no more slots than a function may have scalars, of which those after the parameters hold values
-  pub scalars : length f.scalars ≤ MOST_SCALARS
+  pub scalars : length f.scalars ≤ most_scalars
   pub locals : Each IsScalar (drop f.params f.scalars)
   -- of its array parameters
   pub rows : Each SlotFits f.scalars
@@ -96,7 +96,7 @@ pub record IsMain (P : TypedProgram) : Type 0 where
 pub record WellFormed (P : TypedProgram) : Type 0 where
   pub globals : Each GlobalFits P.globals
   -- the globals have no more bytes than they may have
-  pub bytes : all_bytes P.globals ≤ MOST_OBJECT_BYTES
+  pub bytes : all_bytes P.globals ≤ most_object_bytes
   -- each in the program whose functions it calls
   pub functions : Each (FunctionFits P) P.functions
   pub main : IsMain P

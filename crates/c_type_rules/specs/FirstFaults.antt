@@ -1,6 +1,6 @@
 -- Where a unit's typing fault stands: at the first node in the order of the text that has no type.
 use Rattle.std.specs.Prelude.{◌≡◌, ◌<◌, ℕ, true, length, List, [], ◌∷◌, ◌++◌, Option, Some, None}
-use Rattle.c_tree.specs.declared.limits.TheConstants.{MOST_PARAMETERS}
+use Rattle.c_tree.specs.Limits.{most_parameters}
 use Rattle.c_tree.specs.declared.tree.Program.{Program}
 use Rattle.c_tree.specs.declared.typed.TypedExpr.{TypedExpr}
 use Rattle.c_tree.specs.declared.typed.TypedForInit.{TypedForInit}
@@ -45,7 +45,7 @@ Passes (some_labels G k seen ls) = (words : List (Option ℕ)) × Labels G k see
 Passes (some_sections k seen b v xs) =
     (ts : List TypedSection) × (w : State) × TypesSections k seen b v xs ts w
 Passes (a_param d G seen p) =
-    Row G seen p.kind p.size × Named d G seen p.name × (length seen < MOST_PARAMETERS)
+    Row G seen p.kind p.size × Named d G seen p.name × (length seen < most_parameters)
 Passes (some_params d G seen ps) = Params d G seen ps
 Passes (some_values G k es) = (ns : List ℕ) × Values G k es ns
 Passes (an_item unit U t) = (V : FileScope) × Item unit U t.node V

@@ -1,7 +1,7 @@
 -- The order of the text in which the parts of statements and units are judged (C17 6.7 to 6.9).
 use Rattle.std.specs.Prelude.{ℕ, true, false, not, nat_lt, length, List, [], ◌∷◌, ◌++◌}
 use Rattle.std.specs.Prelude.{map, Option, Some, None}
-use Rattle.c_tree.specs.declared.limits.TheConstants.{MOST_PARAMETERS, MOST_SCALARS}
+use Rattle.c_tree.specs.Limits.{most_parameters, most_scalars}
 use Rattle.c_tree.specs.declared.token.Kind.{Kind}
 use Rattle.c_tree.specs.declared.tree.ArraySize.{ArraySize}
 use Rattle.c_tree.specs.declared.tree.ArraySize.TheVariants as size
@@ -74,7 +74,7 @@ statement_parts b v l (For init c p s) =
     ∷ a_statement in_loop w s ∷ []
 statement_parts b v l (Switch c xs) =
     let k = switch_kind c v.names in
-    a_full v.names Value c ∷ a_test (unless (nat_lt (length v.scalars) MOST_SCALARS) (TooManyScalars l))
+    a_full v.names Value c ∷ a_test (unless (nat_lt (length v.scalars) most_scalars) (TooManyScalars l))
     ∷ some_sections k [] (in_switch b) (with_switch k v) xs ∷ []
 statement_parts b v l Break = a_test (unless b.may_break (Mismatch l)) ∷ []
 statement_parts b v l Continue = a_test (unless b.may_continue (Mismatch l)) ∷ []
@@ -166,7 +166,7 @@ parts (some_sections k seen b v (x ∷ xs)) =
 parts (a_body v s) = body_parts v s (out-StmtNode s.node)
 parts (a_param d G seen p) =
     row_parts p.size G seen ++ a_test (name_fault d G seen p.name p.line)
-    ∷ a_test (unless (nat_lt (length seen) MOST_PARAMETERS) (TooManyParams p.line))
+    ∷ a_test (unless (nat_lt (length seen) most_parameters) (TooManyParams p.line))
     ∷ a_test (row_bytes_fault p.size p.kind p.line) ∷ []
 parts (some_params d G seen []) = []
 parts (some_params d G seen (p ∷ ps)) =

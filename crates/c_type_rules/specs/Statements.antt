@@ -1,7 +1,7 @@
 -- Which typed trees a statement has, and the state after it, by one rule for each kind (C17 6.8).
 use Rattle.std.specs.Prelude.{◌≡◌, ℕ, ◌*◌, ◌≤◌, ◌<◌, true, false, length, List, [], ◌∷◌, ◌++◌, Option}
 use Rattle.std.specs.Prelude.{Some, None}
-use Rattle.c_tree.specs.declared.limits.TheConstants.{MOST_OBJECT_BYTES, MOST_SCALARS}
+use Rattle.c_tree.specs.Limits.{most_object_bytes, most_scalars}
 use Rattle.c_tree.specs.declared.token.Kind.{Kind}
 use Rattle.c_tree.specs.declared.tree.ArraySize.TheVariants as size
 use Rattle.c_tree.specs.declared.tree.Expr.{Expr}
@@ -70,19 +70,19 @@ mutual
     -- 6.2.1, 6.7: the name is in scope in its own initialiser
     scalar_declared : {b : Around} {v : State} {l : ℕ} {k : Kind} {w : List ℕ} {init : Option Expr}
         {t : Option TypedExpr}
-        → is_taken v.names w ≡ false → length v.scalars < MOST_SCALARS
+        → is_taken v.names w ≡ false → length v.scalars < most_scalars
         → Initialises (with_scalar k w v).names k init t
         → Types b v (at l (node.Declare k w size.Scalar init))
         (typed.Declare (place.Scalar (length v.scalars)) t) (with_scalar k w v)
     -- 6.7.6.2: it has no initialiser
     array_declared : {b : Around} {v : State} {l n : ℕ} {k : Kind} {w : List ℕ} {e : Expr}
-        → Size v.names e n → is_taken v.names w ≡ false → n * bytes k ≤ MOST_OBJECT_BYTES
+        → Size v.names e n → is_taken v.names w ≡ false → n * bytes k ≤ most_object_bytes
         → Types b v (at l (node.Declare k w (size.Sized e) None))
         (typed.Declare (place.Array (length v.arrays)) None) (with_array k None w n v)
     -- the same with two sizes: so many rows, of so many elements each
     rows_declared : {b : Around} {v : State} {l m n : ℕ} {k : Kind} {w : List ℕ} {r e : Expr}
         → Size v.names r m → Size v.names e n → is_taken v.names w ≡ false
-        → m * n * bytes k ≤ MOST_OBJECT_BYTES
+        → m * n * bytes k ≤ most_object_bytes
         → Types b v (at l (node.Declare k w (size.Rows (Some r) e) None))
         (typed.Declare (place.Array (length v.arrays)) None) (with_array k (Some n) w (m * n) v)
     -- 6.8.3: its value, if it has one, is not taken
@@ -115,7 +115,7 @@ mutual
     -- the switch counts a scalar of its own, which comes before those of its sections
     switches : {b : Around} {v w : State} {l : ℕ} {c : Expr} {d : TypedExpr} {xs : List Section}
         {ts : List TypedSection}
-        → Full v.names Value c d → length v.scalars < MOST_SCALARS
+        → Full v.names Value c d → length v.scalars < most_scalars
         → TypesSections (promoted (kind_of d)) [] (in_switch b)
         (with_switch (promoted (kind_of d)) v) xs ts w
         → Types b v (at l (node.Switch c xs))

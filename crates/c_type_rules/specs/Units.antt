@@ -1,7 +1,7 @@
 -- Which typed programs a translation unit has, by one rule for each kind of item (C17 6.7, 6.9).
 use Rattle.std.specs.Prelude.{◌≡◌, ℕ, ◌+◌, ◌-◌, ◌*◌, replicate, ◌≤◌, ◌<◌, Bool, true, false, ◌&&◌, length, List, []}
 use Rattle.std.specs.Prelude.{◌∷◌, ◌++◌, map, Option, Some, None}
-use Rattle.c_tree.specs.declared.limits.TheConstants.{MOST_OBJECT_BYTES, MOST_PARAMETERS}
+use Rattle.c_tree.specs.Limits.{most_object_bytes, most_parameters}
 use Rattle.c_tree.specs.declared.token.Kind.{Kind}
 use Rattle.c_tree.specs.declared.token.Kind.TheVariants.{Int}
 use Rattle.c_tree.specs.declared.tree.ArraySize.{ArraySize}
@@ -101,14 +101,14 @@ pub data Named (is_def : Bool) (G : Scope) (seen : List Param) : Option (List �
 pub data Row (G : Scope) (seen : List Param) (k : Kind) : ArraySize → Type 0 where
   no_row_size : {s : ArraySize} → row_in s ≡ None → Row G seen k s
   row_size : {o : Option Expr} {e : Expr} {n : ℕ}
-      → Size (with_params seen (started G None)).names e n → n * bytes k ≤ MOST_OBJECT_BYTES
+      → Size (with_params seen (started G None)).names e n → n * bytes k ≤ most_object_bytes
       → Row G seen k (size.Rows o e)
 
 -- parameters after others, in all no more than a function may have
 pub data Params (is_def : Bool) (G : Scope) : List Param → List Param → Type 0 where
   no_param : {seen : List Param} → Params is_def G seen []
   one_param : {seen ps : List Param} {p : Param}
-      → Row G seen p.kind p.size → Named is_def G seen p.name → length seen < MOST_PARAMETERS
+      → Row G seen p.kind p.size → Named is_def G seen p.name → length seen < most_parameters
       → Params is_def G (seen ++ p ∷ []) ps
       → Params is_def G seen (p ∷ ps)
 
@@ -163,7 +163,7 @@ pub data Item (unit : List Top) : FileScope → TopNode → FileScope → Type 0
   global : {U : FileScope} {k : Kind} {w : List ℕ} {s : ArraySize} {init : List (List Expr)} {n : ℕ}
       {ns : List ℕ}
       → Count U.names init s n → is_taken U.names w ≡ false
-      → n * bytes k + U.bytes ≤ MOST_OBJECT_BYTES
+      → n * bytes k + U.bytes ≤ most_object_bytes
       → Init (global_names s k w U) k n s init ns
       → Item unit U (Global k w s init) (record U {
         names = global_names s k w U;

@@ -1,7 +1,7 @@
 -- Typed programs that are lowered: what typing gives of each node, and temporaries that suffice.
 use Rattle.std.specs.Prelude.{◌≡◌, ℕ, zero, suc, ◌+◌, ◌^◌, ◌<◌, ◌≤◌, true, false, List, [], ◌∷◌, length, take}
 use Rattle.std.specs.Prelude.{All, Option, Some, None, slice_get}
-use Rattle.c_tree.specs.declared.limits.TheConstants.{MOST_NEED, MOST_SCALARS}
+use Rattle.c_tree.specs.Limits.{most_need, most_scalars}
 use Rattle.c_tree.specs.declared.Kind.{Kind}
 use Rattle.c_tree.specs.declared.Kind.TheVariants.{Int}
 use Rattle.c_tree.specs.declared.UnaryOp.{UnaryOp}
@@ -119,12 +119,12 @@ FitsKind (Some k) f = f k
 -- a number is a word of its type
 abbrev pub FitsNumber : ℕ → Option Kind → ℕ → Type 0
 FitsNumber d None w = ⊥
-FitsNumber d (Some k) w = (d < MOST_NEED) × IsWord k w
+FitsNumber d (Some k) w = (d < most_need) × IsWord k w
 
 -- a name whose value is taken
 abbrev pub FitsNamed : Scope → ℕ → Option Kind → Place → Type 0
 FitsNamed c d None p = ⊥
-FitsNamed c d (Some k) p = (d < MOST_NEED) × FitsName c k p
+FitsNamed c d (Some k) p = (d < most_need) × FitsName c k p
 
 -- an element whose value is taken
 abbrev pub FitsElement : Scope → Option Kind → Place → Type 0
@@ -149,7 +149,7 @@ FitsCall c k callee.PutChar args one es = (k ≡ Some Int) × one
 abbrev pub FitsArg : Scope → ℕ → Slot → Type 0 → Expr → Type 0
 FitsArg c d (slot.Scalar k) fits e = fits × (kind_of e ≡ Some k)
 FitsArg c d (slot.Address k q) fits (Name j p) =
-    (d < MOST_NEED) × (j ≡ Some k) × FitsWhole c k q p
+    (d < most_need) × (j ≡ Some k) × FitsWhole c k q p
 FitsArg c d (slot.Address k q) fits _ = ⊥
 
 -- the temporaries from d on
@@ -162,7 +162,7 @@ abbrev mutual
   FitsExpr c d (RowElement k p row index) =
       FitsRowElement c k p × FitsExpr c d row × FitsExpr c (suc d) index
   FitsExpr c d (Call k f args) =
-      (d < MOST_NEED) × FitsCall c k f (λ slots. FitsArgs c d slots args) (FitsOne c d args) args
+      (d < most_need) × FitsCall c k f (λ slots. FitsArgs c d slots args) (FitsOne c d args) args
   FitsExpr c d (Unary k o e) = FitsExpr c d e × FitsKind k (FitsUnary o (kind_of e))
   FitsExpr c d (Cast k to e) = FitsExpr c d e × (k ≡ Some to)
   FitsExpr c d (Convert k to e) = FitsExpr c d e × (k ≡ Some to)
@@ -271,7 +271,7 @@ scope_of P f = record {
 -- a function that may be lowered
 pub record FitsFunc (P : Source) (f : Func) : Type 0 where
   -- so that each has a number below the temporaries'
-  pub scalars : length f.scalars ≤ MOST_SCALARS
+  pub scalars : length f.scalars ≤ most_scalars
   pub params : f.params ≤ length f.scalars
   pub body : FitsStmt (scope_of P f) f.result around.Nowhere f.body
 

@@ -1,6 +1,6 @@
 -- What the flat program of a source gives the later passes.
 use Rattle.std.specs.Prelude.{◌≡◌, ℕ, ◌+◌, ◌*◌, ◌^◌, ◌<◌, ◌≤◌, [], All, Option, Some, None, slice_get}
-use Rattle.c_tree.specs.declared.limits.TheConstants.{MOST_PARAMETERS}
+use Rattle.c_tree.specs.Limits.{most_parameters}
 use Rattle.c_tree.specs.declared.Place.{Place}
 use Rattle.trips_isa.specs.Stores.{data_size}
 use Rattle.ir_forms.specs.FlatCode.{Function, Program}
@@ -17,7 +17,7 @@ use Rattle.flat_lower_limits.specs.Jumps.{JumpsInLoops}
 
 -- each function has no more parameters than it may have, as many as a call has registers for
 abbrev pub FewParams : Source → Type 0
-FewParams P = (n : ℕ) (f : Func) → slice_get P.functions n ≡ Some f → f.params ≤ MOST_PARAMETERS
+FewParams P = (n : ℕ) (f : Func) → slice_get P.functions n ≡ Some f → f.params ≤ most_parameters
 
 -- each function's jumps stand in its loops
 abbrev pub PlacedJumps : Source → Type 0

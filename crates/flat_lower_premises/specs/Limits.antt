@@ -1,6 +1,6 @@
 -- How many globals and nodes a program may have, so that it can be lowered.
 use Rattle.std.specs.Prelude.{◌*◌, ◌≤◌, length}
-use Rattle.c_tree.specs.declared.limits.TheConstants.{MOST_TOKENS}
+use Rattle.c_tree.specs.Limits.{most_tokens}
 use Rattle.c_tree.specs.declared.typed.TypedProgram.{TypedProgram}
 use Rattle.flat_lower.specs.TreeViews.{source_of}
 use Rattle.flat_lower_limits.specs.Nodes.{source_size}
@@ -9,7 +9,7 @@ use Rattle.flat_lower_limits.specs.Nodes.{source_size}
 -- the bytes of all globals does not do alone. A text has a limit on its tokens, and each global stands in at
 -- least one.
 abbrev pub HasFewGlobals : TypedProgram → Type 0
-HasFewGlobals P = length P.globals ≤ MOST_TOKENS
+HasFewGlobals P = length P.globals ≤ most_tokens
 
 -- A word counts the sections of each switch, since each is a node. Of nodes there are so few that four flat
 -- statements for each are within their limit. A text has a limit on its tokens, which bounds its nodes.

@@ -1,6 +1,6 @@
 -- How large a unit and its typed program may be, by the tokens of the text.
 use Rattle.std.specs.Prelude.{◌*◌, ◌≤◌, max, List, length}
-use Rattle.c_tree.specs.declared.limits.TheConstants.{MOST_TOKENS}
+use Rattle.c_tree.specs.Limits.{most_tokens}
 use Rattle.c_tree.specs.declared.token.Lexeme.{Lexeme}
 use Rattle.c_tree.specs.declared.tree.Program.{Program}
 use Rattle.c_tree.specs.declared.tree.Top.{Top}
@@ -29,7 +29,7 @@ ProgramsAreSmall =
 -- so that of a text of no more tokens than the lexer gives is not too long to be lowered
 abbrev pub ProgramsHaveRoom : Type 0
 ProgramsHaveRoom =
-    (ts : List Lexeme) (p : Program) (t : TypedProgram) → IsUnit ts p.items → length ts ≤ MOST_TOKENS
+    (ts : List Lexeme) (p : Program) (t : TypedProgram) → IsUnit ts p.items → length ts ≤ most_tokens
     → Accepts p t → 4 * source_size (source_of t) ≤ 16777216
 
 -- a pass through a function of the typed program costs no more than the text has tokens

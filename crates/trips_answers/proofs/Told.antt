@@ -34,7 +34,7 @@ use Rattle.trips_answers.specs.Request.{Request, origin_held, planned, request_s
 use Rattle.trips_answers.specs.Read.{IsInputRead, limit_of, most_input_bytes}
 use Rattle.trips_answer_parts.specs.Read.{IsRead, AfterReading}
 use Rattle.trips_tool_answers.specs.Answer.{most_target_bytes, most_image_bytes}
-use Rattle.trips_eval_answers.specs.Answer.{most_source_bytes}
+use Rattle.c_tree.specs.Limits.{most_source_bytes}
 use Rattle.target_asm_spec.specs.Text.{TargetText}
 use Rattle.trips_eval_answers.specs.Refusals.{front_refusal}
 use Rattle.trips_eval_answers.specs.Evaluation.{IsRefusedByFront, IsRefusalBy, IsTextEvaluated}

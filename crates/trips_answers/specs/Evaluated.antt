@@ -4,7 +4,8 @@ use Rattle.trips_outside.specs.Outside.{Holds}
 use Rattle.c_tree.specs.declared.typed.TypedProgram.{TypedProgram}
 use Rattle.c_lex.specs.Lexes.{Tokens}
 use Rattle.c_lex.specs.Answers.{Lexed}
-use Rattle.c_front.specs.Fronts.{most_tokens, IsAccepted}
+use Rattle.c_tree.specs.Limits.{most_tokens}
+use Rattle.c_front.specs.Fronts.{IsAccepted}
 use Rattle.c_meaning_spec.specs.declared.signal.Ending.TheVariants.{More, Undefined, Deep}
 use Rattle.c_meaning_spec.specs.Eval.{Outcome, Stopped, Done, eval}
 use Rattle.trips_answer_parts.specs.declared.status.Status.{Status}

@@ -8,7 +8,7 @@ use Rattle.trips_answer_parts.specs.declared.loading.Loaded.TheVariants.{Bytes}
 use Rattle.trips_answers.specs.declared.loading.TheConstants.{MOST_INPUT_BYTES}
 use Rattle.trips_answers.specs.Request.{Request, origin_held}
 use Rattle.trips_answer_parts.specs.Read.{IsRead}
-use Rattle.trips_eval_answers.specs.Answer.{most_source_bytes}
+use Rattle.c_tree.specs.Limits.{most_source_bytes}
 use Rattle.trips_tool_answers.specs.Answer.{most_image_bytes, most_target_bytes}
 
 -- how many bytes an input may have

@@ -22,7 +22,7 @@ use trips_requests::{Asked, Command, Tool};
 use trips_tool_answers::{MOST_IMAGE_BYTES, MOST_TARGET_BYTES, tool_done};
 
 // How many bytes a file may have, by what it is read as.
-#[tactic(auto, unfolding(trips_eval_answers::specs::Answer::most_source_bytes, trips_tool_answers::specs::Answer::most_target_bytes, trips_tool_answers::specs::Answer::most_image_bytes))]
+#[tactic(auto, unfolding(c_tree::specs::Limits::most_source_bytes, trips_tool_answers::specs::Answer::most_target_bytes, trips_tool_answers::specs::Answer::most_image_bytes))]
 fn limit_for(form: FileForm) -> u64
     ensures { result ≡ limit_of form }
 {

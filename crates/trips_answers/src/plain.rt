@@ -61,7 +61,7 @@ fn text_compile(alloc: Global, text: &[u8]) -> Result<Answer, AllocError>
 }
 
 // What a run of the text of C in a file is answered.
-#[tactic(auto, unfolding(trips_eval_answers::specs::Answer::most_source_bytes))]
+#[tactic(auto, unfolding(c_tree::specs::Limits::most_source_bytes))]
 fn file_run<F: Files>(alloc: Global, files: &mut F, file: &str) -> Result<Answer, AllocError>
     ensures answer { IfOk result (λ answer. IsAnswer (Some (text_request Run file.now))
         (F.held files.old) (Rose (F.faults files.old) (F.faults files.new))
@@ -77,7 +77,7 @@ fn file_run<F: Files>(alloc: Global, files: &mut F, file: &str) -> Result<Answer
 }
 
 // What the compiling of the text of C in a file is answered.
-#[tactic(auto, unfolding(trips_eval_answers::specs::Answer::most_source_bytes))]
+#[tactic(auto, unfolding(c_tree::specs::Limits::most_source_bytes))]
 fn file_compile<F: Files>(alloc: Global, files: &mut F, file: &str) -> Result<Answer, AllocError>
     ensures answer { IfOk result (λ answer. IsAnswer (Some (text_request Compile file.now))
         (F.held files.old) (Rose (F.faults files.old) (F.faults files.new))

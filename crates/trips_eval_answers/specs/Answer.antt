@@ -1,6 +1,6 @@
 -- What the evaluation of the text of C in a file is answered.
 use Rattle.std.specs.Prelude.{ℕ, List, [], Option, None, Some}
-use Rattle.c_tree.specs.declared.limits.TheConstants.{MOST_SOURCE_BYTES}
+use Rattle.c_tree.specs.Limits.{most_source_bytes}
 use Rattle.trips_requests.specs.declared.commands.TheConstants.{DEFAULT_COUNT}
 use Rattle.trips_answer_parts.specs.declared.loading.Loaded.{Loaded}
 use Rattle.trips_answer_parts.specs.declared.status.Status.{Status}
@@ -8,10 +8,6 @@ use Rattle.trips_answer_parts.specs.declared.status.Status.TheVariants as status
 use Rattle.trips_answer_parts.specs.Texts.{usage_text, IsFixed}
 use Rattle.trips_answer_parts.specs.Read.{IsRead, AfterReading}
 use Rattle.trips_eval_answers.specs.Evaluation.{IsTextEvaluated}
-
--- how many bytes a file of C may have
-unfoldable pub most_source_bytes : ℕ
-most_source_bytes = MOST_SOURCE_BYTES
 
 -- Of the file whose text is to be evaluated on no input (none where the words name none), of what names hold,
 -- and of whether the count of the files' faults rose, this is the answer.

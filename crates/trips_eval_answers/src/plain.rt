@@ -2,11 +2,12 @@
 
 ghost use Rattle.std.specs.Prelude.{◌≡◌, ◌≤◌, [], length, map, string_bytes, Some, IfOk};
 ghost use Rattle.trips_outside.specs.Outside.{Rose, Appended};
+ghost use Rattle.c_tree.specs.Limits.{most_source_bytes};
 ghost use Rattle.trips_requests.specs.Plain as line;
 ghost use Rattle.trips_requests.specs.declared.commands.TheConstants.{DEFAULT_COUNT};
 ghost use Rattle.trips_answer_parts.specs.Table.{IsWritten};
 ghost use Rattle.trips_eval_answers.specs.Evaluation.{IsTextEvaluated};
-ghost use Rattle.trips_eval_answers.specs.Answer.{most_source_bytes, IsEvalAnswer};
+ghost use Rattle.trips_eval_answers.specs.Answer.{IsEvalAnswer};
 
 use crate::evaluation::text_evaluated;
 use c_tree::MOST_SOURCE_BYTES;
@@ -16,7 +17,7 @@ use trips_outside::{Files, Sink, write_all};
 use trips_requests::{DEFAULT_COUNT, plain_eval};
 
 // Evaluates a text of C on no input.
-#[tactic(auto, unfolding(crate::specs::Answer::most_source_bytes))]
+#[tactic(auto, unfolding(c_tree::specs::Limits::most_source_bytes))]
 fn text_eval(alloc: Global, text: &[u8]) -> Result<Answer, AllocError>
     requires { length text.now ≤ most_source_bytes }
     ensures { IfOk result (λ answer.
@@ -26,7 +27,7 @@ fn text_eval(alloc: Global, text: &[u8]) -> Result<Answer, AllocError>
 }
 
 // What the evaluation of the text of C in a file is answered.
-#[tactic(auto, unfolding(crate::specs::Answer::most_source_bytes))]
+#[tactic(auto, unfolding(c_tree::specs::Limits::most_source_bytes))]
 fn file_eval<F: Files>(alloc: Global, files: &mut F, file: &str) -> Result<Answer, AllocError>
     ensures answer { IfOk result (λ answer. IsEvalAnswer (Some file.now) (F.held files.old)
         (Rose (F.faults files.old) (F.faults files.new)) answer.status answer.report.items) }

@@ -1,6 +1,6 @@
 use Rattle.std.proofs.Common.{refl}
 use Rattle.trips_requests.specs.declared.commands.Command.TheVariants.{Run}
-use Rattle.trips_eval_answers.specs.Answer.{most_source_bytes}
+use Rattle.c_tree.specs.Limits.{most_source_bytes}
 use Rattle.trips_answers.proofs.PlainTold.{text_told}
 use Rattle.trips_answers.proofs.plain.file_run.Goals as goal
 

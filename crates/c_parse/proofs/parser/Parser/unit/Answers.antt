@@ -1,5 +1,5 @@
 use Rattle.std.proofs.Common.{◌+◌, ◌-◌, length, ap, ◌∙◌, refl, List}
-use Rattle.c_tree.specs.declared.limits.TheConstants.{MOST_NESTING}
+use Rattle.c_tree.specs.Limits.{most_nesting}
 use Rattle.c_tree.specs.declared.tree.Top.{Top}
 use Rattle.c_grammar.specs.Parsing.{to_end}
 use Rattle.c_grammar.specs.ModelExpressions.{inside}
@@ -12,13 +12,13 @@ use Rattle.c_parse.proofs.parser.Parser.unit.Goals as goal
 pub loop-turn-init : goal.loop-turn-init
 loop-turn-init c =
     ap (λ (found : List Top). behind found
-    (to_end (item_of (inside MOST_NESTING) (compound_of (inside (MOST_NESTING - 1)) (below_at (MOST_NESTING - 1))))
+    (to_end (item_of (inside most_nesting) (compound_of (inside (most_nesting - 1)) (below_at (most_nesting - 1))))
     (length c.args.self.now.rest.now + 1 - 0) c.args.self.now.rest.now)) c.new-found.ensures.value
-    ∙ unit_init (MOST_NESTING - 1) (length c.args.self.now.rest.now + 1) c.args.self.now.rest.now refl
+    ∙ unit_init (most_nesting - 1) (length c.args.self.now.rest.now + 1) c.args.self.now.rest.now refl
 
 pub loop-turn-preserved : goal.loop-turn-preserved
 loop-turn-preserved c =
-    end_puts (item_of (inside MOST_NESTING) (compound_of (inside (MOST_NESTING - 1)) (below_at (MOST_NESTING - 1))))
+    end_puts (item_of (inside most_nesting) (compound_of (inside (most_nesting - 1)) (below_at (most_nesting - 1))))
     (length c.args.self.now.rest.now + 1)
     c.loop-turn._turn c.loop-turn.found _ c.loop-turn.self.rest.now c.item.new.self.rest.now _
     c.loop-turn-test.true c.loop-turn.invariant c.in_ok-item.ensures (cc)

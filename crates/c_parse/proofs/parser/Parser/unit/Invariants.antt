@@ -1,5 +1,5 @@
 use Rattle.std.proofs.Common.{◌≡◌, ◌-◌}
-use Rattle.c_tree.specs.declared.limits.TheConstants.{MOST_NESTING}
+use Rattle.c_tree.specs.Limits.{most_nesting}
 use Rattle.c_grammar.specs.Parsing.{to_end}
 use Rattle.c_grammar.specs.ModelExpressions.{inside}
 use Rattle.c_grammar.specs.ModelStatements.{compound_of, below_at}
@@ -10,6 +10,6 @@ use Rattle.c_parse.proofs.parser.Parser.unit.Given as goal
 abbrev pub invariant-loop-turn : goal.invariant-loop-turn
 invariant-loop-turn l =
     behind l.found
-    (to_end (item_of (inside MOST_NESTING)
-    (compound_of (inside (MOST_NESTING - 1)) (below_at (MOST_NESTING - 1)))) (l.turns - l._turn)
-    l.self.rest.now) ≡ unit_of (MOST_NESTING - 1) l.fn.self.rest.now
+    (to_end (item_of (inside most_nesting)
+    (compound_of (inside (most_nesting - 1)) (below_at (most_nesting - 1)))) (l.turns - l._turn)
+    l.self.rest.now) ≡ unit_of (most_nesting - 1) l.fn.self.rest.now
