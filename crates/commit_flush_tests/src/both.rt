@@ -123,6 +123,14 @@ fn assert_word(rt: &impl Abort, window: &Window, register: u8, want: u64) {
     assert!(rt; word == want, "register {register} has {word}");
 }
 
+// The value of the resolved store of a number in a frame.
+fn stored_value(window: &Window, frame: u8, number: u8) -> Option<u64> {
+    match window.stored(frame, number) {
+        Some(stored) => stored.value,
+        None => None,
+    }
+}
+
 // A row of a table.
 fn assert_row(rt: &impl Abort, window: &mut Window, arch: &mut Arch, row: Row)
     requires { arch.old.budget ≡ window.old.budget }
@@ -147,6 +155,10 @@ fn assert_row(rt: &impl Abort, window: &mut Window, arch: &mut Arch, row: Row)
         Row::Address(frame, number, want) => assert!(rt;
             window.address_of(frame, number) == want,
             "number {number} of frame {frame} has the address {want:?}"
+        ),
+        Row::Stores(frame, number, want) => assert!(rt;
+            stored_value(window, frame, number) == want,
+            "store {number} of frame {frame} has the value {want:?}"
         ),
         Row::Lacks(frame, want) => assert!(rt;
             window.lacks(frame) == want,

@@ -2,7 +2,7 @@
 
 use crate::both::assert_table;
 use crate::rows::Row;
-use crate::rows::Row::{Commits, Does, Holds, InFlight, Refuses};
+use crate::rows::Row::{Commits, Does, Holds, InFlight, Refuses, Stores};
 use frame_events::Cause::{NoBlock, NoRequest, NoToken, Serial, Wrong};
 use frame_events::Event::{Deliver, Exit, Fetch, Fire, Load, Seal, Store};
 use std::test::Fail;
@@ -154,6 +154,83 @@ const STORE_FIRST: [Row; 30] = [
     Holds(3, 171),
 ];
 
+/// The same late store; what the second block loads is the value of a store of its own.
+const COPIED: &str = "trips 1
+data 0
+block 0 mask 00000001
+N[0] genu 7 N[2,0]
+N[1] genu 1 N[2,1]
+N[2] divu N[4,0]
+N[3] genu 171 N[4,1]
+N[4] sb 0 0
+N[5] bro 0 @1
+block 1 mask 00000002
+W[0] write G[0]
+N[0] genu 0 N[1,0]
+N[1] ld 0 0 N[3,1]
+N[2] genu 64 N[3,0]
+N[3] sd 1 0
+N[4] genu 3 W[0]
+N[5] scall 0
+";
+
+/// The guessed load gives 0, which a store of its block keeps until the older store flushes both; then it gives 171.
+const GUESSED: [Row; 38] = [
+    Does(Fetch { block: 0 }),
+    Does(Fetch { block: 1 }),
+    Does(Fire { frame: 1, slot: 0 }),
+    Does(Deliver { token: 320 }),
+    Does(Fire { frame: 1, slot: 1 }),
+    Does(Load {
+        frame: 1,
+        number: 0,
+    }),
+    Does(Deliver { token: 322 }),
+    Does(Fire { frame: 1, slot: 2 }),
+    Does(Deliver { token: 324 }),
+    Does(Fire { frame: 1, slot: 3 }),
+    Does(Store {
+        frame: 1,
+        number: 1,
+    }),
+    Stores(1, 1, Some(0)),
+    Does(Fire { frame: 0, slot: 0 }),
+    Does(Fire { frame: 0, slot: 1 }),
+    Does(Deliver { token: 0 }),
+    Does(Deliver { token: 2 }),
+    Does(Fire { frame: 0, slot: 2 }),
+    Does(Deliver { token: 4 }),
+    Does(Fire { frame: 0, slot: 3 }),
+    Does(Deliver { token: 6 }),
+    Does(Fire { frame: 0, slot: 4 }),
+    Does(Store {
+        frame: 0,
+        number: 0,
+    }),
+    InFlight(1),
+    Stores(1, 1, None),
+    Does(Fetch { block: 1 }),
+    Does(Fire { frame: 1, slot: 0 }),
+    Does(Deliver { token: 320 }),
+    Does(Fire { frame: 1, slot: 1 }),
+    Does(Load {
+        frame: 1,
+        number: 0,
+    }),
+    Does(Deliver { token: 322 }),
+    Does(Fire { frame: 1, slot: 2 }),
+    Does(Deliver { token: 324 }),
+    Does(Fire { frame: 1, slot: 3 }),
+    Does(Store {
+        frame: 1,
+        number: 1,
+    }),
+    Stores(1, 1, Some(171)),
+    Does(Fire { frame: 0, slot: 5 }),
+    Does(Exit { frame: 0 }),
+    InFlight(2),
+];
+
 /// Stores a null, two bytes at 66 and two at 68; then four bytes are loaded from 64.
 const OVERLAP: &str = "trips 1
 data 0
@@ -240,6 +317,12 @@ const PARTLY: [Row; 43] = [
 #[test]
 fn a_load_before_the_store_is_flushed(rt: HostRuntime) -> Result<(), Fail> {
     assert_table(&rt, rt.alloc(), DIVIDE, 4, &LOAD_FIRST)?;
+    Ok(())
+}
+
+#[test]
+fn a_guessed_load_gives_what_stood_before(rt: HostRuntime) -> Result<(), Fail> {
+    assert_table(&rt, rt.alloc(), COPIED, 4, &GUESSED)?;
     Ok(())
 }
 

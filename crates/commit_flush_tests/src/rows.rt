@@ -23,6 +23,8 @@ pub enum Row {
     Asks(u8, u32),
     /// The address of what waits with a number in a frame.
     Address(u8, u8, Option<Token>),
+    /// The value of the resolved store of a number in a frame; none of a null store, or where none is resolved.
+    Stores(u8, u8, Option<u64>),
     /// The least output that a frame lacks.
     Lacks(u8, Option<Lack>),
     /// The slots of a frame that may fire, and its open reads, as bits.

@@ -80,11 +80,30 @@ N[1] addi 2 W[1]
 N[2] scall 0
 ";
 
-const ROWS: [Row; 5] = [
+const ROWS: [Row; 6] = [
     Row {
         name: "a store that an answered load of a younger frame should have seen",
         text: LATE_STORE,
         exit: 0,
+        calm: Came {
+            answer: 171,
+            cycles: 61,
+            fetched: 3,
+            committed: 2,
+            flushed: 1,
+        },
+        worst: Came {
+            answer: 171,
+            cycles: 79,
+            fetched: 3,
+            committed: 2,
+            flushed: 1,
+        },
+    },
+    Row {
+        name: "a store that an answered load of a younger frame should have seen, where each guess is of exit 7",
+        text: LATE_STORE,
+        exit: 7,
         calm: Came {
             answer: 171,
             cycles: 61,

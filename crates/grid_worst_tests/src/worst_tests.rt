@@ -1,4 +1,4 @@
-//! Runs in which every parcel is held for three cycles, and every guess is of exit 7.
+//! Runs in which every parcel is held for three cycles, and every guess is of exit 7, or every one of exit 0.
 ghost use Rattle.std.specs.Prelude.{◌≡◌, [], IfOk};
 ghost use Rattle.grid_run.specs.WholeRuns.{IsKept};
 ghost use Rattle.grid_state.specs.Seen.{seen};
@@ -35,11 +35,11 @@ fn image(rt: &impl Abort, alloc: Global, text: &str) -> Result<CheckedImage, Fai
     }
 }
 
-// A predictor whose entries all name exit 7.
-fn predictor(alloc: Global) -> Result<Predictor, Fail>
+// A predictor whose entries all name one exit.
+fn predictor(alloc: Global, exit: u8) -> Result<Predictor, Fail>
     ensures { IfOk result (λ p. p.stack ≡ []) }
 {
-    let entries = vec![in alloc; 7u8; 1024]?;
+    let entries = vec![in alloc; exit; 1024]?;
     match Predictor::wrong(alloc, entries) {
         Ok(predictor) => Ok(predictor),
         Err(memory) => Err(Fail::from(memory)),
@@ -47,26 +47,36 @@ fn predictor(alloc: Global) -> Result<Predictor, Fail>
 }
 
 // The grid of a text at its start.
-fn begun(rt: &impl Abort, alloc: Global, text: &str) -> Result<Grid<GridWindow, Worst>, Fail>
+fn begun(
+    rt: &impl Abort,
+    alloc: Global,
+    text: &str,
+    exit: u8,
+) -> Result<Grid<GridWindow, Worst>, Fail>
     ensures kept { IfOk result (λ g. IsKept g.window.budget (seen g.window.window g.state)) }
 {
     let image = image(rt, alloc, text)?;
-    let predictor = predictor(alloc)?;
+    let predictor = predictor(alloc, exit)?;
     match make(alloc, image, Vec::new(alloc), predictor, Worst, BUDGET) {
         Ok(grid) => Ok(grid),
         Err(memory) => Err(Fail::from(memory)),
     }
 }
 
-/// A text, and the word of register 3 at the end of its run.
-type Row = (&'static str, u64);
+/// A text, the exit that each guess is of, and the word of register 3 at the end of its run.
+type Row = (&'static str, u8, u64);
 
 // The programs of one block after another, and of a loop over an array.
-const ROWS: &[Row] = &[(SEVEN, 7), (POWERS, 256)];
+const ROWS: &[Row] = &[
+    (SEVEN, 7, 7),
+    (SEVEN, 0, 7),
+    (POWERS, 7, 256),
+    (POWERS, 0, 256),
+];
 
 fn assert_row(rt: &impl Abort, alloc: Global, row: &Row) -> Result<(), Fail> {
-    let (text, result) = *row;
-    let mut grid = begun(rt, alloc, text)?;
+    let (text, exit, result) = *row;
+    let mut grid = begun(rt, alloc, text, exit)?;
     assert!(rt; grid.state.counts.cycles == 0, "no cycle was made");
     let ending = run(&mut grid);
     assert!(rt; ending == Some(Ending::Ended), "{result}: {ending:?}");
