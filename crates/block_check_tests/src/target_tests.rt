@@ -85,7 +85,7 @@ fn assert_slots(rt: &impl Abort, block: &Block) {
         inst(Op::Add, 0, Some(Spot::Write(3)), None),
         inst(Op::Bro, 0, None, None),
         inst(Op::Mov, 0, Some(Spot::Right(1)), Some(Spot::Write(2))),
-        inst(Op::Mov, 0, Some(Spot::Left(1)), Some(Spot::Left(5))),
+        inst(Op::Mov, 0, Some(Spot::Left(5)), Some(Spot::Left(1))),
         inst(Op::Mov, 0, Some(Spot::Write(0)), Some(Spot::Write(1))),
     ];
     for (slot, want) in rows.iter().enumerate() {
