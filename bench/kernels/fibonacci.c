@@ -1,0 +1,9 @@
+/* A recursion with two calls a step. */
+int fibonacci(int n) {
+  if (n < 2) return n;
+  return fibonacci(n - 1) + fibonacci(n - 2);
+}
+
+int main(void) {
+  return fibonacci(15) % 251;
+}
