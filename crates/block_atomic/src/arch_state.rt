@@ -21,7 +21,7 @@ use base::Memory;
 use block_check::CheckedImage;
 use std::alloc::{AllocError, Global};
 use std::marker::Model;
-use trips_isa::{Block, Stepped, Stored, Token, Traced};
+use trips_isa::{Block, Stepped, Stored, Token, Traced, cause_of};
 
 /// The state between two blocks: 128 registers, 4,194,304 bytes of data memory, the next block,
 /// the rest of the input, the output and the trace.
@@ -141,7 +141,7 @@ impl ArchState {
             self.change(block.writes.as_slice(), places, stores, exit(branch), next);
             self.then_system(is_system(branch))
         } else {
-            Stepped::Trap(fault)
+            Stepped::Trap(cause_of(fault))
         }
     }
 

@@ -13,7 +13,7 @@ ghost use Rattle.trips_isa.specs.Faults.{divides};
 
 use crate::mark_rounds::settle;
 use trips_isa::{
-    Block, EXIT, FIRST_STORE, FIRST_WRITE, Form, Inst, Op, PLACES, Token, form_of, least, mark_by,
+    Block, EXIT, FIRST_STORE, FIRST_WRITE, Form, Inst, NO_MARK, Op, PLACES, Token, form_of, least, mark_by,
     operands_of, role_of,
 };
 
@@ -30,7 +30,7 @@ fn least_of_writes(at: &[u8], count: usize) -> u8
     requires count { count ≤ 32 }
     ensures { result ≡ least_at (λ q. slice_index_or at.now q 0) (writes_to count) }
 {
-    let mut mark = 0;
+    let mut mark = NO_MARK;
     for w in 0..count {
         mark = least(mark, at[FIRST_WRITE as usize + w]);
     }
@@ -46,7 +46,7 @@ fn number_mark(at: &[u8], mask: u32, number: u8) -> u8
     if in_mask(mask, number) {
         at[FIRST_STORE as usize + number as usize]
     } else {
-        0
+        NO_MARK
     }
 }
 
@@ -55,7 +55,7 @@ fn least_of_numbers(at: &[u8], mask: u32) -> u8
     requires marks { length at.now ≡ PLACES }
     ensures { result ≡ least_at (λ q. slice_index_or at.now q 0) (mask_places mask) }
 {
-    let mut mark = 0;
+    let mut mark = NO_MARK;
     let mut number: u8 = 0;
     while number < 32 {
         mark = least(mark, number_mark(at, mask, number));
@@ -82,7 +82,7 @@ fn fired_fault(places: &[Option<Token>], slot: usize, inst: Inst) -> u8
         (λ q. slice_index_or places.now q None) (λ q. 0) }
 {
     let operands = operands_of(role_of(inst.op), places[slot], places[128 + slot]);
-    mark_by(inst, operands, 0, 0, 0)
+    mark_by(inst, operands, NO_MARK, NO_MARK, NO_MARK)
 }
 
 // Whether an operation divides.
@@ -122,10 +122,10 @@ fn slot_fault(
         if can_fault(inst.op) {
             fired_fault(places, slot, inst)
         } else {
-            0
+            NO_MARK
         }
     } else {
-        0
+        NO_MARK
     }
 }
 
@@ -161,13 +161,13 @@ fn traced(block: &Block, table: &[Option<Token>], places: &[Option<Token>]) -> u
     ensures { (g : ℕ → Answer) → IsTold block.now table.now places.now g
         → result ≡ cause block.now g }
 {
-    let mut at = [0; PLACES as usize];
-    let mut marks = [0; 128];
+    let mut at = [NO_MARK; PLACES as usize];
+    let mut marks = [NO_MARK; 128];
     settle(block, table, places, &mut at, &mut marks);
     least_owed(block, &at)
 }
 
-/// The cause of a block, 0 for none, of any table of tokens of which the lists tell: `table` has what
+/// The cause of a block as a mark, none where it has no cause, of any table of tokens of which the lists tell: `table` has what
 /// each slot gives, and `places` what stands at the operands of each instruction; the slots from
 /// number `used` on are empty. Marks are looked at only where an operation that fires faults.
 pub fn cause(block: &Block, used: usize, table: &[Option<Token>], places: &[Option<Token>]) -> u8
@@ -182,6 +182,6 @@ pub fn cause(block: &Block, used: usize, table: &[Option<Token>], places: &[Opti
     if faults(block.insts.as_slice(), used, table, places) {
         traced(block, table, places)
     } else {
-        0
+        NO_MARK
     }
 }

@@ -4,8 +4,10 @@ use Rattle.std.proofs.Common.{ap, ◌∙◌, subst, arith, ◌+◌, ◌%◌, ◌
 use Rattle.std.proofs.Common.{◌++◌, length, slice_index}
 use Rattle.std.proofs.lemmas.List.{length-append}
 use Rattle.trips_isa.specs.declared.block.Block.{Block}
+use Rattle.trips_isa.specs.declared.causes.TrapCause.{TrapCause}
 use Rattle.trips_isa.specs.declared.run.Stepped.{Stepped}
 use Rattle.trips_isa.specs.declared.run.Stepped.TheVariants.{Went, Ended, StackFull, Trap}
+use Rattle.trips_isa.specs.TrapCauses.{cause_of}
 use Rattle.trips_isa.specs.Tables.{deepest}
 use Rattle.trips_isa.specs.Blocks.{token_of}
 use Rattle.trips_isa.specs.Marks.{cause}
@@ -37,16 +39,16 @@ system_goes false s t = t
 pub applied_goes : (writes : List ℕ) (e : Effects) (s : State) → IsTrap (apply writes e s).1 → ⊥
 applied_goes writes e s = system_goes e.system (changed writes e s)
 
-no_trap : (writes : List ℕ) (e : Effects) (s : State) (c : ℕ) → (apply writes e s).1 ≡ Trap c → ⊥
+no_trap : (writes : List ℕ) (e : Effects) (s : State) (c : TrapCause) → (apply writes e s).1 ≡ Trap c → ⊥
 no_trap writes e s c t = applied_goes writes e s (subst IsTrap (sym t) tt)
 
-pub trap_leaves : (writes : List ℕ) (o : Outcome) (s : State) (c : ℕ)
+pub trap_leaves : (writes : List ℕ) (o : Outcome) (s : State) (c : TrapCause)
     → (come_to writes o s).1 ≡ Trap c → (come_to writes o s).0 ≡ s
 trap_leaves writes (Comes e) s c t = absurd (no_trap writes e s c t)
 trap_leaves writes (Faults d) s c t = refl
 
 -- a trap leaves the state, its trace included
-pub step_leaves : (blocks : List Block) (s : State) (c : ℕ) → (step_of blocks s).1 ≡ Trap c
+pub step_leaves : (blocks : List Block) (s : State) (c : TrapCause) → (step_of blocks s).1 ≡ Trap c
     → (step_of blocks s).0 ≡ s
 step_leaves blocks s c t = go (slice_get blocks s.next) t
   where
@@ -54,7 +56,7 @@ step_leaves blocks s c t = go (slice_get blocks s.next) t
     go None e = refl
     go (Some b) e = trap_leaves b.writes.items _ s c e
 
-come_trap : (writes : List ℕ) (o : Outcome) (s : State) (c : ℕ)
+come_trap : (writes : List ℕ) (o : Outcome) (s : State) (c : TrapCause)
     → (come_to writes o s).1 ≡ Trap c → o ≡ Faults c
 come_trap writes (Comes e) s c t = absurd (no_trap writes e s c t)
 come_trap writes (Faults d) s c t = ap Faults (same t)
@@ -63,7 +65,7 @@ come_trap writes (Faults d) s c t = ap Faults (same t)
     same e = cc
 
 -- a step traps where the next block's outcome is that fault, and nowhere else
-pub trap_faults : (blocks : List Block) (s : State) (c : ℕ) → (step_of blocks s).1 ≡ Trap c
+pub trap_faults : (blocks : List Block) (s : State) (c : TrapCause) → (step_of blocks s).1 ≡ Trap c
     → next_faults blocks s c
 trap_faults blocks s c t = go (slice_get blocks s.next) t
   where
@@ -71,7 +73,7 @@ trap_faults blocks s c t = go (slice_get blocks s.next) t
     go None e = absurd (cc)
     go (Some b) e = come_trap b.writes.items _ s c e
 
-pub fault_traps : (blocks : List Block) (s : State) (c : ℕ) → next_faults blocks s c
+pub fault_traps : (blocks : List Block) (s : State) (c : TrapCause) → next_faults blocks s c
     → step_of blocks s ≡ (s, Trap c)
 fault_traps blocks s c t = go (slice_get blocks s.next) t
   where
@@ -80,10 +82,10 @@ fault_traps blocks s c t = go (slice_get blocks s.next) t
     go (Some b) e = ap (λ (o : Outcome). come_to b.writes.items o s) e
 
 pub cause_faults : (blocks : List Block) (s : State) (c : ℕ) → next_cause blocks s ≡ suc c
-    → next_faults blocks s (suc c)
+    → next_faults blocks s (cause_of (suc c))
 cause_faults blocks s c e = go (slice_get blocks s.next) e
   where
-    go : (o : Option Block) → cause_in o s ≡ suc c → faults_in blocks o s (suc c)
+    go : (o : Option Block) → cause_in o s ≡ suc c → faults_in blocks o s (cause_of (suc c))
     go None k = absurd (cc)
     go (Some b) k = ap (λ m. unless m (plain blocks s.next b s.registers s.memory)) k
 
@@ -103,7 +105,7 @@ plain_steps blocks s e = go (slice_get blocks s.next) e
         (plain_outcome blocks s.next b s.registers s.memory e)
 
 -- a run stays as it is after a trap
-pub trap_stays : (blocks : List Block) (s : State) (n c : ℕ) → (runs blocks s n).1 ≡ Trap c
+pub trap_stays : (blocks : List Block) (s : State) (n : ℕ) (c : TrapCause) → (runs blocks s n).1 ≡ Trap c
     → runs blocks s (suc n) ≡ runs blocks s n
 unfolding runs
 trap_stays blocks s n c e = ap (goes_on blocks (runs blocks s n).0) e

@@ -1,7 +1,9 @@
 //! Laws of marks and traps, over their definitions alone; each function's clause is the law.
 ghost use Rattle.std.specs.Prelude.{◌≡◌, ◌<◌, ◌+◌, ◌↔◌, ℕ, suc, List, true, Some, length, slice_get};
 ghost use Rattle.trips_isa.specs.declared.block.Block.{Block};
+ghost use Rattle.trips_isa.specs.declared.causes.TrapCause.{TrapCause};
 ghost use Rattle.trips_isa.specs.declared.run.Stepped.TheVariants.{Went, Trap};
+ghost use Rattle.trips_isa.specs.TrapCauses.{no_mark};
 ghost use Rattle.trips_isa.specs.Places.{nodes_of};
 ghost use Rattle.trips_isa.specs.Rule.{Answer};
 ghost use Rattle.trips_isa.specs.Tables.{IsRanked};
@@ -31,25 +33,25 @@ pub fn markings_are_unique()
 pub fn clean_blocks_are_unmarked()
     ensures order { (b : Block) (g : ℕ → Answer) → (is_clean (block_acts b g) ≡ true) ↔ IsClean b g }
     ensures marks { (b : Block) (g : ℕ → Answer) → is_clean (block_acts b g) ≡ true → (k x : ℕ)
-        → mark_of b g k x ≡ 0 }
+        → mark_of b g k x ≡ no_mark }
     ensures cause { (b : Block) (g : ℕ → Answer) → is_clean (block_acts b g) ≡ true
-        → cause b g ≡ 0 }
+        → cause b g ≡ no_mark }
     ensures outcome { (blocks : List Block) (k : ℕ) (b : Block) (regs mem : List ℕ)
         → is_clean (block_acts b (token_of b regs mem deepest)) ≡ true
         → outcome blocks k b regs mem ≡ Comes (plain blocks k b regs mem) }
 {}
 
-/// Where the cause is 0 the outcome is the plain one, a step the plain step, and a run that meets
+/// Where there is no cause the outcome is the plain one, a step the plain step, and a run that meets
 /// no cause the plain run.
 pub fn unmarked_blocks_are_plain()
     ensures outcome { (blocks : List Block) (k : ℕ) (b : Block) (regs mem : List ℕ)
-        → cause b (token_of b regs mem deepest) ≡ 0
+        → cause b (token_of b regs mem deepest) ≡ no_mark
         → outcome blocks k b regs mem ≡ Comes (plain blocks k b regs mem) }
-    ensures step { (blocks : List Block) (s : State) → next_cause blocks s ≡ 0
+    ensures step { (blocks : List Block) (s : State) → next_cause blocks s ≡ no_mark
         → step_of blocks s ≡ plain_step blocks s }
     ensures run { (blocks : List Block) (s : State) (n : ℕ)
         → ((k : ℕ) → k < n → (plain_runs blocks s k).1 ≡ Went
-        → next_cause blocks (plain_runs blocks s k).0 ≡ 0)
+        → next_cause blocks (plain_runs blocks s k).0 ≡ no_mark)
         → runs blocks s n ≡ plain_runs blocks s n }
 {}
 
@@ -57,15 +59,15 @@ pub fn unmarked_blocks_are_plain()
 /// state, the trace included, and the run stays there. Any other step of a block adds one to the
 /// trace.
 pub fn traps_change_nothing()
-    ensures only { (blocks : List Block) (s : State) (c : ℕ) → (step_of blocks s).1 ≡ Trap c
+    ensures only { (blocks : List Block) (s : State) (c : TrapCause) → (step_of blocks s).1 ≡ Trap c
         → next_faults blocks s c }
-    ensures exactly { (blocks : List Block) (s : State) (c : ℕ) → next_faults blocks s c
+    ensures exactly { (blocks : List Block) (s : State) (c : TrapCause) → next_faults blocks s c
         → step_of blocks s ≡ (s, Trap c) }
-    ensures leaves { (blocks : List Block) (s : State) (c : ℕ) → (step_of blocks s).1 ≡ Trap c
+    ensures leaves { (blocks : List Block) (s : State) (c : TrapCause) → (step_of blocks s).1 ≡ Trap c
         → (step_of blocks s).0 ≡ s }
-    ensures stays { (blocks : List Block) (s : State) (n c : ℕ) → (runs blocks s n).1 ≡ Trap c
+    ensures stays { (blocks : List Block) (s : State) (n : ℕ) (c : TrapCause) → (runs blocks s n).1 ≡ Trap c
         → runs blocks s (suc n) ≡ runs blocks s n }
     ensures grows { (blocks : List Block) (b : Block) (s : State)
-        → slice_get blocks s.next ≡ Some b → next_cause blocks s ≡ 0
+        → slice_get blocks s.next ≡ Some b → next_cause blocks s ≡ no_mark
         → length (step_of blocks s).0.trace ≡ length s.trace + 1 }
 {}

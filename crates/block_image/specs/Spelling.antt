@@ -1,5 +1,5 @@
 -- The bytes of an image that fits: its one spelling.
-use Rattle.std.specs.Prelude.{◌≡◌, ℕ, ◌*◌, List, [], ◌∷◌, ◌++◌, length, map, take, Option}
+use Rattle.std.specs.Prelude.{◌≡◌, ℕ, ◌*◌, List, ◌++◌, length, map, take, Option, codes}
 use Rattle.std.specs.List.{flat_map}
 use Rattle.byteorder.specs.Endian.{big_bytes}
 use Rattle.trips_isa.specs.declared.block.Inst.{Inst}
@@ -31,9 +31,9 @@ words_bytes words = flat_map (big_bytes 4) words
 unfoldable pub block_bytes : Block → List ℕ
 block_bytes b = words_bytes (header_words b ++ body_words b)
 
--- `TRIPSIMG`
+-- the letters that every image begins with
 abbrev pub magic : List ℕ
-magic = 84 ∷ 82 ∷ 73 ∷ 80 ∷ 83 ∷ 73 ∷ 77 ∷ 71 ∷ []
+magic = codes "TRIPSIMG"
 
 -- what stands before the blocks: the magic, the version, the numbers of blocks and of data bytes,
 -- and these

@@ -18,6 +18,7 @@ use Rattle.ir_forms.specs.FlowFits.{IsComplete, HasOrder}
 use Rattle.ir_forms.specs.HyperCode as hyper
 use Rattle.ir_forms.specs.HyperFits.{AllLeadOn, FitsHyper}
 use Rattle.ir_forms.specs.HyperRuns.{hyper_run, Standing, Running, Ended, Full, Unclean, IsUnclean}
+use Rattle.trips_isa.specs.declared.causes.TrapCause.{TrapCause}
 use Rattle.trips_isa.specs.declared.run.Stepped.TheVariants.{Trap}
 use Rattle.ir_forms.specs.HyperWords.{AreBytes}
 use Rattle.ir_forms.specs.Laws.{StandsAs}
@@ -347,7 +348,7 @@ image_means B us all bytes input n a b l =
     (means_the_same B (linked us) (made B us all) bytes input n a b l)
 
 -- what is clean and stands so does not stand where a trap is
-no_trap : (p : Standing) (s : State) (c : ℕ) → (IsUnclean p → ⊥)
+no_trap : (p : Standing) (s : State) (c : TrapCause) → (IsUnclean p → ⊥)
     → StandsAs p (standing_by s (Trap c)) → ⊥
 no_trap (Running out) s c clean h = absurd (cc)
 no_trap (Ended out w) s c clean h = absurd (cc)

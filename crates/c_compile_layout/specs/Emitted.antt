@@ -4,6 +4,7 @@ use Rattle.trips_isa.specs.declared.block.Block.{Block}
 use Rattle.trips_isa.specs.declared.block.Image.{Image}
 use Rattle.trips_isa.specs.declared.op.Op.{Op}
 use Rattle.trips_isa.specs.declared.op.Op.TheVariants.{Bro, Callo}
+use Rattle.trips_isa.specs.declared.causes.TrapCause.{TrapCause}
 use Rattle.trips_isa.specs.declared.run.Stepped.TheVariants.{Trap}
 use Rattle.trips_isa.specs.Images.{FitsImage}
 use Rattle.trips_isa.specs.Machine.{start, runs}
@@ -106,7 +107,7 @@ ImageMeans B us =
 -- where none of the first n blocks of the hyper program faults, none of its image traps
 abbrev pub NeverTraps : List hyper.Block → List Block → Type 0
 NeverTraps B us =
-    (bytes input : List ℕ) (n c : ℕ) → AreBytes bytes → AreBytes input → length bytes ≤ data_size
+    (bytes input : List ℕ) (n : ℕ) (c : TrapCause) → AreBytes bytes → AreBytes input → length bytes ≤ data_size
     → (IsUnclean (hyper_run true (laid_out us) B bytes input n) → ⊥)
     → (runs (image_of us bytes).blocks (start (image_of us bytes).bytes input) n).1 ≡ Trap c → ⊥
 

@@ -13,8 +13,10 @@ use Rattle.std.proofs.lemmas.List.Elements.{All-nil, All-cons, All-append, All-s
 use Rattle.trips_isa.specs.declared.block.Stored.{Stored}
 use Rattle.trips_isa.specs.declared.block.Block.{Block}
 use Rattle.trips_isa.specs.declared.block.Image.{Image}
+use Rattle.trips_isa.specs.declared.causes.TrapCause.{TrapCause}
 use Rattle.trips_isa.specs.declared.run.Stepped.{Stepped}
 use Rattle.trips_isa.specs.declared.run.Stepped.TheVariants.{Trap}
+use Rattle.trips_isa.specs.TrapCauses.{cause_of}
 use Rattle.trips_isa.specs.Rule.{Answer}
 use Rattle.trips_isa.specs.Blocks.{store_of, leaving_of, token_of}
 use Rattle.trips_isa.specs.Tables.{deepest}
@@ -180,11 +182,11 @@ module _ {image : Image} {budget : ℕ} {machine : Machine} {over : Stepped} {ph
       → can image.blocks budget Commit old ≡ Done → (c : ℕ) → 0 < c → c ≡ cause_held f
       → (phases2 : List Phase) → IsEmptied (drop 0 order) phases phases2
       → (registers2 : Ages) → registers2 ≡ drop_from registers 0
-      → Becomes image budget old Commit machine (Trap c) phases2 (take 0 order) registers2
+      → Becomes image budget old Commit machine (Trap (cause_of c)) phases2 (take 0 order) registers2
   traps f fs h d zero l e phases2 emptied registers2 drops = absurd (omega arith)
   traps f fs h d (suc c) l e phases2 emptied registers2 drops =
-      becomes s Commit d machine (Trap (suc c)) phases2 (take 0 order) registers2
-      (ap (λ g. made machine.state (Trap (suc c)) g []) emptied.generations
+      becomes s Commit d machine (Trap (cause_of (suc c))) phases2 (take 0 order) registers2
+      (ap (λ g. made machine.state (Trap (cause_of (suc c))) g []) emptied.generations
       ∙ sym (ap (λ xs. commit xs old) h.frames ∙ ap (λ k. commit_to (unless k (outputs f)) f fs old) (sym e)))
       (emptied.numbers ∙ s.numbers) (emptied.blocks image.blocks s.blocks)
       (subst (λ z. AreKept z (take 0 order) registers2) (sym (emptied.slots image.blocks))
@@ -268,12 +270,12 @@ module _ {image : Image} {budget : ℕ} {machine : Machine} {over : Stepped} {ph
       → slice_get (numbers_of was.frames) 0 ≡ Some n
   first_number v w n e = ap (λ (z : Seen). slice_get (numbers_of z.window.frames) 0) w ∙ e
 
-  pub traps_told : (n c : ℕ) (v : Seen) → seen s ≡ v → can v.image.blocks v.budget Commit v.window ≡ Done
+  pub traps_told : (n c : ℕ) (k : TrapCause) → k ≡ cause_of c → (v : Seen) → seen s ≡ v → can v.image.blocks v.budget Commit v.window ≡ Done
       → slice_get (numbers_of v.window.frames) 0 ≡ Some n → c ≡ cause_in (frame_of n v.window.frames) → 0 < c
       → (phases2 : List Phase) → IsEmptied (drop 0 order) phases phases2 → (order2 : List ℕ) → order2 ≡ take 0 order
       → (registers2 : Ages) → (0 < 8 → registers2 ≡ drop_from registers 0)
-      → Becomes image budget was Commit machine (Trap c) phases2 order2 registers2
-  traps_told n c v w d e cause_is l phases2 emptied order2 cut registers2 dropped =
+      → Becomes image budget was Commit machine (Trap k) phases2 order2 registers2
+  traps_told n c k k_is v w d e cause_is l phases2 emptied order2 cut registers2 dropped =
       let d2 = inside s Commit v w d in
       let t = has_oldest s d2 in
       let f : Frame = t.0 in
@@ -281,8 +283,9 @@ module _ {image : Image} {budget : ℕ} {machine : Machine} {over : Stepped} {ph
       let held : c ≡ cause_held f = cause_is
       ∙ ap (λ (z : Seen). cause_in (frame_of n z.window.frames)) (sym w) ∙ ap cause_in is
       ∙ ap (λ b. cond b (cause_held f) 0) t.2.sealed in
-      subst (λ x. Becomes image budget was Commit machine (Trap c) phases2 x registers2) (sym cut)
-      (traps s f t.1 t.2 d2 c l held phases2 emptied registers2 (dropped (omega arith)))
+      subst (λ x. Becomes image budget was Commit machine (Trap k) phases2 x registers2) (sym cut)
+      (subst (λ (j : TrapCause). Becomes image budget was Commit machine (Trap j) phases2 (take 0 order) registers2)
+      (sym k_is) (traps s f t.1 t.2 d2 c l held phases2 emptied registers2 (dropped (omega arith))))
 
   -- what it hands on is what its frame holds
   handed : (v : Seen) → seen s ≡ v → can v.image.blocks v.budget Commit v.window ≡ Done → (n : ℕ)

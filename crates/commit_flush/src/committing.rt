@@ -1,5 +1,6 @@
 //! The event that changes the committed state: Commit.
 ghost use Rattle.std.specs.Prelude.{◌≡◌, ◌<◌, Some, slice_get};
+ghost use Rattle.trips_isa.specs.TrapCauses.{no_mark};
 ghost use Rattle.commit_flush_spec.specs.Causes as causes;
 ghost use Rattle.commit_flush_spec.specs.Window as window;
 ghost use Rattle.commit_flush_spec.specs.Window.{can, done};
@@ -10,30 +11,30 @@ use crate::bits::led_down;
 use crate::parts::flush_from;
 use crate::window::Window;
 use frame_events::{empty_in, outputs_in};
-use trips_isa::Stepped;
+use trips_isa::{NO_MARK, Stepped, cause_of};
 
 impl Window {
-    // The least mark of what a sealed frame hands to its commit, 0 for none.
+    // The least mark of what a sealed frame hands to its commit, or none.
     fn cause(&self, frame: u8) -> u8
         ensures { result ≡ cause_in (frame_of frame self.now.window.frames) }
     {
         match self.phase(frame) {
-            None => 0,
+            None => NO_MARK,
             Some(phase) => frame_events::cause_in(phase, self.image()),
         }
     }
 
     // Ends the run at the oldest frame, which has a marked output, and empties all.
-    fn trap(&mut self, frame: u8, cause: u8)
+    fn trap(&mut self, frame: u8, mark: u8)
         requires done { can self.old.image.blocks self.old.budget window.Commit self.old.window ≡ causes.Done }
         requires oldest { slice_get (numbers_of self.old.window.frames) 0 ≡ Some frame }
-        requires cause { cause ≡ cause_in (frame_of frame self.old.window.frames) }
-        requires marked { 0 < cause }
+        requires cause { mark ≡ cause_in (frame_of frame self.old.window.frames) }
+        requires marked { no_mark < mark }
         ensures { self.new ≡ record self.old {
           window = done self.old.image.blocks window.Commit self.old.window;
         } }
     {
-        self.over = Stepped::Trap(cause);
+        self.over = Stepped::Trap(cause_of(mark));
         flush_from(&mut self.frames, &mut self.order, &mut self.banks, 0);
     }
 
@@ -41,7 +42,7 @@ impl Window {
     fn apply(&mut self, frame: u8)
         requires done { can self.old.image.blocks self.old.budget window.Commit self.old.window ≡ causes.Done }
         requires oldest { slice_get (numbers_of self.old.window.frames) 0 ≡ Some frame }
-        requires unmarked { cause_in (frame_of frame self.old.window.frames) ≡ 0 }
+        requires unmarked { cause_in (frame_of frame self.old.window.frames) ≡ no_mark }
         ensures { self.new ≡ record self.old {
           window = done self.old.image.blocks window.Commit self.old.window;
         } }

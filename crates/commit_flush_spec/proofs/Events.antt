@@ -4,6 +4,7 @@ use Rattle.std.proofs.Common.{replicate, Option, Some, None, slice_get, length, 
 use Rattle.std.proofs.Common.{arith}
 use Rattle.std.proofs.lemmas.List.{length-append, length-replicate}
 use Rattle.trips_isa.specs.declared.block.Block.{Block}
+use Rattle.trips_isa.specs.TrapCauses.{cause_of}
 use Rattle.trips_isa.specs.Stores.{data_size}
 use Rattle.trips_isa.specs.Machine.{come_to, memory_of, start}
 use Rattle.trips_isa.specs.declared.run.Stepped.TheVariants.{Trap}
@@ -74,7 +75,7 @@ commit_applies blocks budget w f fs e h =
 -- a commit that traps flushes all frames
 pub commit_traps : (blocks : List Block) (budget c : ℕ) (w : Window) (f : Frame) (fs : List Frame)
     → w.frames ≡ f ∷ fs → can blocks budget event.Commit w ≡ Done → cause_held f ≡ suc c
-    → happens blocks budget event.Commit w ≡ record w { over = Trap (suc c); frames = [] }
+    → happens blocks budget event.Commit w ≡ record w { over = Trap (cause_of (suc c)); frames = [] }
 commit_traps blocks budget c w f fs e h z =
     taken blocks budget event.Commit w h ∙ ap (λ l. commit l w) e
     ∙ ap (λ k. commit_to (unless k (outputs f)) f fs w) z

@@ -6,6 +6,7 @@ use Rattle.std.proofs.lemmas.Bool.Decides.{nat_tests}
 use Rattle.trips_isa.specs.declared.block.Block.{Block}
 use Rattle.trips_isa.specs.declared.run.Stepped.{Stepped}
 use Rattle.trips_isa.specs.declared.run.Stepped.TheVariants.{Went, Ended, StackFull, Trap}
+use Rattle.trips_isa.specs.TrapCauses.{cause_of}
 use Rattle.trips_isa.specs.Blocks.{leaving_of, token_of}
 use Rattle.trips_isa.specs.Tables.{deepest}
 use Rattle.trips_isa.specs.Outcomes.{Effects}
@@ -173,7 +174,7 @@ commit_moves blocks good budget w o c ok (f ∷ fs) e = go (cause_held f) refl
           (applied_goes f.code.writes.items (outputs f) w.state) (stepped s n 0 z r ∙ ap (runs blocks s) up);
     }
 
-    fault : (k : ℕ) → cause_held f ≡ suc k → Moves blocks budget w (commit_to (Faults (suc k)) f fs w)
+    fault : (k : ℕ) → cause_held f ≡ suc k → Moves blocks budget w (commit_to (Faults (cause_of (suc k))) f fs w)
     fault k z = record {
       ok = record {
         frames = tt;

@@ -3,6 +3,7 @@ use Rattle.std.specs.Prelude.{ℕ, zero, suc, ◌+◌, Bool, true, false, cond, 
 use Rattle.std.specs.Prelude.{length, Option, Some, None, is_none, is_some}
 use Rattle.trips_isa.specs.declared.block.Block.{Block}
 use Rattle.trips_isa.specs.declared.places.TheConstants.{FIRST_WRITE}
+use Rattle.trips_isa.specs.TrapCauses.{no_mark}
 use Rattle.trips_isa.specs.Blocks.{Leaving, leaves_with}
 use Rattle.trips_isa.specs.Outcomes.{Effects, next_of, is_system, exit_of, writes_from, all_stores}
 use Rattle.trips_isa.specs.Places.{in_mask}
@@ -41,7 +42,7 @@ kept known (f ∷ fs) = cond (follows known f.block) (f ∷ fs) []
 
 -- the mark of the waiting branch
 abbrev pub branch_mark : Frame → Option ℕ → ℕ
-branch_mark f None = 0
+branch_mark f None = no_mark
 branch_mark f (Some s) = mark_with f (slot_node f.code s)
 
 -- the frame with an exit and its mark c, and without a branch that waits
@@ -108,6 +109,6 @@ effects_with f (Some e) = record {
 abbrev pub outputs : Frame → Effects
 outputs f = effects_with f f.exit
 
--- the least mark of the outputs that a sealed frame holds, and 0 for none
+-- the least mark of the outputs that a sealed frame holds, or none
 abbrev pub cause_held : Frame → ℕ
 cause_held f = least_at (mark_held f.marks) (owed f.code)

@@ -5,6 +5,7 @@ use Rattle.trips_isa.specs.declared.block.Stored.{Stored}
 use Rattle.trips_isa.specs.declared.block.Block.{Block}
 use Rattle.trips_isa.specs.declared.node.Node.{Node}
 use Rattle.trips_isa.specs.declared.places.TheConstants.{FIRST_STORE, NO_PLACE}
+use Rattle.trips_isa.specs.TrapCauses.{no_mark}
 use Rattle.trips_isa.specs.Rule.{Answer}
 use Rattle.trips_isa.specs.Places.{nodes_of}
 use Rattle.commit_flush_spec.specs.Marks.{Marks, zeros}
@@ -81,7 +82,7 @@ unmarked = record {
   spots = zeros FIRST_STORE;
   places = zeros token_places;
   stores = zeros 32;
-  exit = 0;
+  exit = no_mark;
 }
 
 -- a frame that has just been filled with block k of the image

@@ -2,6 +2,7 @@
 -- Own: which events move a mark. No event looks at marks but Commit.
 use Rattle.std.specs.Prelude.{ℕ, suc, ◌-◌, cond, nat_lt, List, replicate, slice_set, slice_index_or}
 use Rattle.trips_isa.specs.declared.places.TheConstants.{FIRST_STORE, EXIT}
+use Rattle.trips_isa.specs.TrapCauses.{no_mark}
 
 -- the mark beside each token of a frame; where no token stands a number says nothing
 pub record Marks : Type 0 where
@@ -15,11 +16,11 @@ pub record Marks : Type 0 where
 
 -- the mark at a number of a list
 abbrev pub mark_on : List ℕ → ℕ → ℕ
-mark_on marks q = slice_index_or marks q 0
+mark_on marks q = slice_index_or marks q no_mark
 
 -- no mark at n numbers; not an `abbrev`, since a numeral unrolls recursions in goals
 unfoldable pub zeros : ℕ → List ℕ
-zeros n = replicate n 0
+zeros n = replicate n no_mark
 
 -- the mark c beside both tokens that a node sends, in the places p and p + 1
 abbrev pub mark_sent : ℕ → ℕ → Marks → Marks

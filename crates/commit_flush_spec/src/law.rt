@@ -4,6 +4,7 @@ ghost use Rattle.std.specs.Prelude.{Option, Some, slice_set, take};
 ghost use Rattle.std.specs.List.{list_any};
 ghost use Rattle.trips_isa.specs.declared.block.Block.{Block};
 ghost use Rattle.trips_isa.specs.declared.run.Stepped.TheVariants.{Went, Trap};
+ghost use Rattle.trips_isa.specs.TrapCauses.{cause_of};
 ghost use Rattle.trips_isa.specs.Stores.{data_size};
 ghost use Rattle.trips_isa.specs.Outcomes.{unless};
 ghost use Rattle.trips_isa.specs.Machine.{come_to, start};
@@ -76,7 +77,7 @@ pub fn commit_applies_outputs()
         ≡ come_to f.code.writes.items (unless (cause_held f) (outputs f)) w.state }
     ensures trapped { (blocks : List Block) (budget c : ℕ) (w : Window) (f : Frame) (fs : List Frame)
         → w.frames ≡ f ∷ fs → can blocks budget Commit w ≡ Done → cause_held f ≡ suc c
-        → happens blocks budget Commit w ≡ record w { over = Trap (suc c); frames = [] } }
+        → happens blocks budget Commit w ≡ record w { over = Trap (cause_of (suc c)); frames = [] } }
 {}
 
 /// A change of one frame is the same where frames are kept by number, with an order of age.

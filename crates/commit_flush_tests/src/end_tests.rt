@@ -7,6 +7,7 @@ use frame_events::Cause::Over;
 use frame_events::Event::{Commit, Deliver, Exit, Fetch, Fire, Read, Seal};
 use std::test::Fail;
 use trips_isa::Stepped::{Trap, Went};
+use trips_isa::TrapCause::DivisionByZero;
 
 /// The second block divides by 0, and the quotient is a write.
 const FAULT: &str = "trips 1
@@ -45,7 +46,7 @@ const MARKED: [Row; 25] = [
     InFlight(3),
     Commits(Went),
     Holds(5, 7),
-    Commits(Trap(1)),
+    Commits(Trap(DivisionByZero)),
     InFlight(0),
     Holds(5, 7),
     Refuses(Fetch { block: 0 }, Over),

@@ -6,6 +6,7 @@ use Rattle.trips_isa.specs.declared.block.ReadSlot.{ReadSlot}
 use Rattle.trips_isa.specs.declared.block.Stored.{Stored}
 use Rattle.trips_isa.specs.declared.block.Block.{Block}
 use Rattle.trips_isa.specs.declared.places.TheConstants.{FIRST_WRITE}
+use Rattle.trips_isa.specs.TrapCauses.{no_mark}
 use Rattle.trips_isa.specs.Rule.{Answer}
 use Rattle.trips_isa.specs.Stores.{stored_of}
 use Rattle.trips_isa.specs.Outcomes.{Effects}
@@ -89,10 +90,10 @@ abbrev pub is_sealed_in : Option Frame → Bool
 is_sealed_in None = false
 is_sealed_in (Some f) = f.sealed
 
--- the least mark of what a sealed frame hands to its commit, 0 for none
+-- the least mark of what a sealed frame hands to its commit, or none
 abbrev pub cause_in : Option Frame → ℕ
-cause_in None = 0
-cause_in (Some f) = cond f.sealed (cause_held f) 0
+cause_in None = no_mark
+cause_in (Some f) = cond f.sealed (cause_held f) no_mark
 
 -- what a sealed frame hands to its commit
 abbrev pub outputs_in : Option Frame → Option Effects

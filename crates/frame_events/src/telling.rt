@@ -13,7 +13,7 @@ use crate::parts::{flying, sealed_in};
 use crate::phase::Phase;
 use block_check::CheckedImage;
 use frame_state::{Body, Departure, Outputs, Took};
-use trips_isa::{Block, FIRST_WRITE, Inst, Op, Stored, Token};
+use trips_isa::{Block, FIRST_WRITE, Inst, NO_MARK, Op, Stored, Token};
 
 // Whether what a slot holds is a system call.
 fn makes_call(inst: Option<Inst>) -> bool
@@ -206,13 +206,13 @@ pub fn is_sealed_in(phase: &Phase, image: &CheckedImage) -> bool
     sealed_in(phase, image).is_some()
 }
 
-/// The least mark of what a sealed frame hands to its commit, 0 for none.
+/// The least mark of what a sealed frame hands to its commit, or none.
 pub fn cause_in(phase: &Phase, image: &CheckedImage) -> u8
     requires block { HasBlock image.now.blocks phase.now }
     ensures value { result ≡ cause_in (frame_in image.now.blocks phase.now) }
 {
     match sealed_in(phase, image) {
-        None => 0,
+        None => NO_MARK,
         Some((sealed, block)) => sealed.cause(block),
     }
 }

@@ -19,7 +19,7 @@ use crate::spots::Spots;
 use crate::target::{first_place, place_at};
 use bit_rows::{Flags, Row};
 use std::marker::Model;
-use trips_isa::{Form, Inst, Stored, Token, form_of};
+use trips_isa::{Form, Inst, NO_MARK, Stored, Token, form_of};
 
 /// What a frame in flight holds beside its block.
 ///
@@ -149,7 +149,7 @@ impl Body {
         )
     }
 
-    // The mark of that, where the instruction stands: 0 where no mark was set and it cannot fault.
+    // The mark of that, where the instruction stands: none where no mark was set and it cannot fault.
     #[tactic(auto, using(crate::proofs::BareFacts::no_mark))]
     #[inline]
     fn mark_from(&self, inst: &Inst, slot: u8) -> u8
@@ -160,7 +160,7 @@ impl Body {
         } else if can_fault(inst.op) {
             self.find_mark(inst, slot)
         } else {
-            0
+            NO_MARK
         }
     }
 

@@ -10,7 +10,7 @@ ghost use Rattle.frame_state.specs.Held.{running, sealed};
 use crate::body::Body;
 use crate::outcome::{in_mask, stores_came, writes_came};
 use crate::outputs::{Outputs, exit_or_first, stores_of, write_tokens};
-use trips_isa::{Block, FIRST_WRITE, least};
+use trips_isa::{Block, FIRST_WRITE, NO_MARK, least};
 
 impl Body {
     // Whether the exit has come.
@@ -80,7 +80,7 @@ impl Body {
         if in_mask(mask, number) {
             self.store_mark(number)
         } else {
-            0
+            NO_MARK
         }
     }
 
@@ -89,7 +89,7 @@ impl Body {
         requires { count ≤ 32 }
         ensures { result ≡ least_at (mark_held self.now.marks) (writes_to count) }
     {
-        let mut mark = 0;
+        let mut mark = NO_MARK;
         for w in 0..count {
             mark = least(mark, self.write_mark(w));
         }
@@ -100,7 +100,7 @@ impl Body {
     fn least_of_numbers(&self, mask: u32) -> u8
         ensures { result ≡ least_at (mark_held self.now.marks) (mask_places mask) }
     {
-        let mut mark = 0;
+        let mut mark = NO_MARK;
         let mut number: u8 = 0;
         while number < 32 {
             mark = least(mark, self.number_mark(mask, number));
@@ -109,7 +109,7 @@ impl Body {
         mark
     }
 
-    // The least mark of the outputs, 0 for none, whatever marks were set.
+    // The least mark of the outputs, or none, whatever marks were set.
     fn find_cause(&self, block: &Block) -> u8
         ensures value { result ≡ cause_held (sealed block.now self.now) }
     {
@@ -118,7 +118,7 @@ impl Body {
         let numbers = least(self.least_of_numbers(block.mask), exit);
         least(self.least_of_writes(count), numbers)
     }
-    /// The least mark of the outputs, 0 for none.
+    /// The least mark of the outputs, or none.
     #[tactic(auto, using(crate::proofs::BareFacts::no_cause))]
     pub(crate) fn cause(&self, block: &Block) -> u8
         ensures value { result ≡ cause_held (sealed block.now self.now) }
@@ -126,7 +126,7 @@ impl Body {
         if self.marks.is_marked() {
             self.find_cause(block)
         } else {
-            0
+            NO_MARK
         }
     }
 }

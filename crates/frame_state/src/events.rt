@@ -16,7 +16,7 @@ ghost use Rattle.frame_state.specs.Moves.{slot_token};
 use crate::body::Body;
 use crate::parts::Departure;
 use crate::target::{inst_at, read_targets, slot_of, target};
-use trips_isa::{Block, Inst, Token};
+use trips_isa::{Block, Inst, NO_MARK, Token};
 
 // The instruction of a slot with the token that it gives.
 fn leaves_with(inst: Option<Inst>, token: Option<Token>) -> Option<(Inst, Token)>
@@ -121,7 +121,7 @@ impl Body {
         ensures { result ≡ branch_mark (running block.now self.now) self.now.leaving }
     {
         match self.leaving() {
-            None => 0,
+            None => NO_MARK,
             Some(slot) => self.mark_at(block, slot),
         }
     }

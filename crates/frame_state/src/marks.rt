@@ -6,6 +6,7 @@ ghost use Rattle.frame_state.specs.MarkRows.{HasNoMark};
 
 use bit_rows::Row;
 use std::marker::Model;
+use trips_isa::NO_MARK;
 
 /// N marks, seen as the list of them. Only those other than 0 are kept.
 #[derive(Drop)]
@@ -40,7 +41,7 @@ impl<const N: usize, const W: usize> MarkRow<N, W> {
     {
         match self.row.get(q) {
             Some(mark) => mark,
-            None => 0,
+            None => NO_MARK,
         }
     }
 
@@ -102,7 +103,7 @@ impl MarkTable {
             spots: MarkRow::none(),
             places: MarkRow::none(),
             stores: MarkRow::none(),
-            exit: 0,
+            exit: NO_MARK,
         }
     }
 
@@ -121,7 +122,7 @@ impl MarkTable {
         self.spots.clear();
         self.places.clear();
         self.stores.clear();
-        self.exit = 0;
+        self.exit = NO_MARK;
         self.is_marked = false;
     }
 

@@ -92,7 +92,7 @@ fn takes_right(role: Role) -> bool
     matches!(role, Role::Both)
 }
 
-/// The mark of an instruction's token, of the marks at its operands and its predicate; 0 where it gives none.
+/// The mark of an instruction's token, of the marks at its operands and its predicate; none where it gives no token.
 pub fn mark(
     inst: Inst,
     left: Option<Token>,

@@ -240,7 +240,7 @@ impl Sealed {
         self.body.outputs(block)
     }
 
-    /// The least mark of the outputs, 0 for none.
+    /// The least mark of the outputs, or none.
     pub fn cause(&self, block: &Block) -> u8
         ensures value { result ≡ cause_held (sealed block.now self.now) }
     {

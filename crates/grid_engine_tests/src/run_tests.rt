@@ -2,7 +2,7 @@
 
 use crate::runs::{Row, assert_run, ran};
 use std::test::Fail;
-use trips_isa::Ending;
+use trips_isa::{Ending, TrapCause};
 
 /// The program that returns 7: the first example of docs/MACHINE.md.
 const SEVEN: Row = Row {
@@ -95,7 +95,7 @@ N[1] divu W[0]
 N[2] bro 0 @0
 ",
     budget: 5,
-    ending: Ending::Trap { block: 1, cause: 1 },
+    ending: Ending::Trap { block: 1, cause: TrapCause::DivisionByZero },
     result: 7,
     committed: 1,
 };

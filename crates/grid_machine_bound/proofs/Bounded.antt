@@ -3,6 +3,7 @@ use Rattle.std.proofs.Common.{◌≡◌, ℕ, ◌+◌, ◌^◌, ◌<◌, ◌≤�
 use Rattle.std.proofs.Common.{Option, Some, None, refl, sym, ap, ◌∙◌, true≢false, arith}
 use Rattle.std.proofs.Math.Nat.{mod-lt}
 use Rattle.trips_isa.specs.declared.block.Block.{Block}
+use Rattle.trips_isa.specs.declared.causes.TrapCause.{TrapCause}
 use Rattle.trips_isa.specs.declared.run.Ending.{Ending}
 use Rattle.trips_isa.specs.declared.run.Stepped.{Stepped}
 use Rattle.trips_isa.specs.declared.run.Stepped.TheVariants as stepped
@@ -28,7 +29,7 @@ use Rattle.grid_machine_bound.proofs.Making.{steps_made}
 use Rattle.grid_machine_bound.proofs.RunCosts.{any_cost, end_cost, goes_on, goes_short}
 
 -- an ending that is no trap is of a run that has not trapped
-pub no_trap : (o : Stepped) (next : ℕ) → is_trap (ending_of o next) ≡ false → (c : ℕ) → o ≡ stepped.Trap c → ⊥
+pub no_trap : (o : Stepped) (next : ℕ) → is_trap (ending_of o next) ≡ false → (c : TrapCause) → o ≡ stepped.Trap c → ⊥
 no_trap stepped.Went next e c i = cc
 no_trap stepped.Ended next e c i = cc
 no_trap stepped.StackFull next e c i = cc
@@ -81,7 +82,7 @@ module _ (blocks : List Block) (good : AllGood blocks) (some : 0 < length blocks
       → h.counts.cycles ≤ cost_of blocks h.window.state.trace
   within e plain comes = by (is_going budget h.window) refl
     where
-      untrapped : (k : ℕ) → h.window.over ≡ stepped.Trap k → ⊥
+      untrapped : (k : TrapCause) → h.window.over ≡ stepped.Trap k → ⊥
       untrapped k i = no_trap (runs blocks s budget).1 (runs blocks s budget).0.next
           (ap is_trap (sym comes.ending) ∙ plain) k (sym comes.over ∙ i)
 

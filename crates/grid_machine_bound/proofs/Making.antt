@@ -4,6 +4,7 @@ use Rattle.std.proofs.Common.{refl, sym, ap, subst, arith}
 use Rattle.trips_isa.specs.declared.block.Block.{Block}
 use Rattle.trips_isa.specs.declared.run.Stepped.{Stepped}
 use Rattle.trips_isa.specs.declared.run.Stepped.TheVariants.{Went, Ended, StackFull, Trap}
+use Rattle.trips_isa.specs.TrapCauses.{cause_of}
 use Rattle.trips_isa.specs.Tables.{deepest}
 use Rattle.trips_isa.specs.Blocks.{leaving_of, token_of}
 use Rattle.trips_isa.specs.Marks.{cause}
@@ -41,7 +42,7 @@ module _ (blocks : List Block) (some : 0 < length blocks) where
     next = subst (λ k. k < length blocks) (sym (apply_next writes o s)) l;
     long = apply_trace writes o s;
   }
-  come_made (suc c) writes o s l e = absurd (let bad : Trap (suc c) ≡ Went = e in cc)
+  come_made (suc c) writes o s l e = absurd (let bad : Trap (cause_of (suc c)) ≡ Went = e in cc)
 
   step_made : (o : Option Block) (s : State) → slice_get blocks s.next ≡ o → s.next < length blocks
       → (step_in blocks o s).1 ≡ Went → Made s 1 (step_in blocks o s).0

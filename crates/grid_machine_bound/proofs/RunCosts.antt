@@ -3,6 +3,7 @@ use Rattle.std.proofs.Common.{◌≡◌, ℕ, zero, suc, ◌+◌, ◌*◌, ◌^�
 use Rattle.std.proofs.Common.{refl, sym, ap, ◌∙◌, subst, arith, ◌-◌, slice_get}
 use Rattle.std.proofs.lemmas.Bool.{ltb-true, ltb-false}
 use Rattle.trips_isa.specs.declared.block.Block.{Block}
+use Rattle.trips_isa.specs.declared.causes.TrapCause.{TrapCause}
 use Rattle.trips_isa.specs.declared.run.Stepped.{Stepped}
 use Rattle.trips_isa.specs.declared.run.Stepped.TheVariants as stepped
 use Rattle.trips_isa.specs.Machine.{State, runs}
@@ -131,7 +132,7 @@ module _ {W : Type 0} (next : W → ℕ) (follows : W → W → Type 0) (holds :
             omega (arith, l)
 
     -- without a trap the last cycle commits a block
-    commits_one : (o : Stepped) → last.window.over ≡ o → ((k : ℕ) → o ≡ stepped.Trap k → ⊥)
+    commits_one : (o : Stepped) → last.window.over ≡ o → ((k : TrapCause) → o ≡ stepped.Trap k → ⊥)
         → is_going budget last.window ≡ false
         → suc (length m.window.state.trace) ≤ length last.window.state.trace
     commits_one stepped.Went i safe e =
@@ -151,7 +152,7 @@ module _ {W : Type 0} (next : W → ℕ) (follows : W → W → Type 0) (holds :
         omega (arith, k, grown)
     commits_one (stepped.Trap k) i safe e = absurd (safe k refl)
 
-    no_trap_end : ((k : ℕ) → last.window.over ≡ stepped.Trap k → ⊥) → is_going budget last.window ≡ false
+    no_trap_end : ((k : TrapCause) → last.window.over ≡ stepped.Trap k → ⊥) → is_going budget last.window ≡ false
         → suc n ≤ cost_of blocks last.window.state.trace
     no_trap_end safe e =
         let least : suc (length m.window.state.trace) ≤ length last.window.state.trace =
@@ -185,7 +186,7 @@ module _ {W : Type 0} (next : W → ℕ) (follows : W → W → Type 0) (holds :
       (goes_on budget m (c.before).1) (omega (arith, k, few)) c.after
 
   ended_cost : (n : ℕ) (last : Grid W) → GoesFor next follows blocks budget n g last
-      → last.counts.cycles < 2 ^ 64 - 1 → ((k : ℕ) → last.window.over ≡ stepped.Trap k → ⊥)
+      → last.counts.cycles < 2 ^ 64 - 1 → ((k : TrapCause) → last.window.over ≡ stepped.Trap k → ⊥)
       → is_going budget last.window ≡ false → n ≤ cost_of blocks last.window.state.trace
   ended_cost zero last c few safe e = omega arith
   ended_cost (suc n) last c few safe e =
@@ -251,7 +252,7 @@ module _ {W : Type 0} (next : W → ℕ) (follows : W → W → Type 0) (holds :
         omega (arith, l, e)
 
     -- one that has ended without a trap is within the cost of its trace
-    pub end_cost : ((k : ℕ) → h.window.over ≡ stepped.Trap k → ⊥) → is_going budget h.window ≡ false
+    pub end_cost : ((k : TrapCause) → h.window.over ≡ stepped.Trap k → ⊥) → is_going budget h.window ≡ false
         → h.counts.cycles ≤ cost_of blocks h.window.state.trace
     end_cost safe off =
         let l : h.counts.cycles ≤ cost_of blocks final.window.state.trace =

@@ -2,6 +2,7 @@
 use Rattle.std.proofs.Common.{◌≡◌, ℕ, zero, suc, ◌+◌, ◌*◌, ◌<◌, ◌≤◌, ◌⊎◌, inl, inr, List, length, ap, sym, ◌∙◌, subst}
 use Rattle.std.proofs.Common.{arith}
 use Rattle.trips_isa.specs.declared.block.Block.{Block}
+use Rattle.trips_isa.specs.declared.causes.TrapCause.{TrapCause}
 use Rattle.trips_isa.specs.declared.run.Stepped.TheVariants as stepped
 use Rattle.commit_flush_spec.specs.Invariant.{AllGood}
 use Rattle.grid_cycle_spec.specs.Grid.{Grid}
@@ -29,7 +30,7 @@ module _ {W : Type 0} (blocks : List Block) (good : AllGood blocks) (budget : �
   served m h s c e = by (together.serve blocks good budget next follows bound m h s.ok s.went s.room s.parts s.none
       (e.lane).units s.block s.is_next sizes s.is_size s.due c)
     where
-      by : ((k : ℕ) × (h.window.over ≡ stepped.Trap k)) ⊎ Served sizes (lane_in m) (lane_in h)
+      by : ((k : TrapCause) × (h.window.over ≡ stepped.Trap k)) ⊎ Served sizes (lane_in m) (lane_in h)
           → Served sizes (lane_in m) (lane_in h)
       by (inl z) = absurd (let bad : stepped.Trap z.0 ≡ stepped.Went = sym z.1 ∙ e.went in cc)
       by (inr s) = s

@@ -3,6 +3,7 @@ use Rattle.std.proofs.Common.{◌≡◌, ℕ, ◌-◌, ◌^◌, ◌<◌, ◌≤�
 use Rattle.std.proofs.Common.{length, Option, Some, None, slice_get, slice_index, refl, sym, ap, ◌∙◌, subst}
 use Rattle.std.proofs.lemmas.Bool.{cond_both}
 use Rattle.trips_isa.specs.declared.block.Block.{Block}
+use Rattle.trips_isa.specs.declared.causes.TrapCause.{TrapCause}
 use Rattle.trips_isa.specs.declared.run.Stepped.{Stepped}
 use Rattle.trips_isa.specs.declared.run.Stepped.TheVariants as stepped
 use Rattle.trips_isa.specs.Machine.{State}
@@ -168,10 +169,10 @@ module _ {W : Type 0} (blocks : List Block) (good : AllGood blocks) (budget : �
         ∙ complete_seen g f (told (committed g.window.state) f) (good f.block f.code own_ok.code).fits.writes
 
     commits : complete f ≡ true
-        → ((k : ℕ) × (h.window.over ≡ stepped.Trap k)) ⊎ Served sizes (lane_in g) (lane_in h)
+        → ((k : TrapCause) × (h.window.over ≡ stepped.Trap k)) ⊎ Served sizes (lane_in g) (lane_in h)
     commits e = by (ends_complete blocks budget g f fs i ok went e room)
       where
-        by : Commits g E → ((k : ℕ) × (h.window.over ≡ stepped.Trap k)) ⊎ Served sizes (lane_in g) (lane_in h)
+        by : Commits g E → ((k : TrapCause) × (h.window.over ≡ stepped.Trap k)) ⊎ Served sizes (lane_in g) (lane_in h)
         by (inl z) = inl (
           z.0,
           ap (λ (q : Grid W). q.window.over)
@@ -245,15 +246,15 @@ module _ {W : Type 0} (blocks : List Block) (good : AllGood blocks) (budget : �
     waits : Served sizes (lane_in g) (lane_in h)
     waits = inr (ap is_complete (stage_empty g i) ∙ fetch_open g.fetching, filled come.frames)
 
-  pub serve : ((k : ℕ) × (h.window.over ≡ stepped.Trap k)) ⊎ Served sizes (lane_in g) (lane_in h)
+  pub serve : ((k : TrapCause) × (h.window.over ≡ stepped.Trap k)) ⊎ Served sizes (lane_in g) (lane_in h)
   serve = by g.window.frames refl
     where
       open_or : (f : Frame) (fs : List Frame) → g.window.frames ≡ f ∷ fs → (q : Bool) → complete f ≡ q
-          → ((k : ℕ) × (h.window.over ≡ stepped.Trap k)) ⊎ Served sizes (lane_in g) (lane_in h)
+          → ((k : TrapCause) × (h.window.over ≡ stepped.Trap k)) ⊎ Served sizes (lane_in g) (lane_in h)
       open_or f fs i true e = commits f fs i e
       open_or f fs i false e = inr (goes f fs i e)
 
       by : (l : List Frame) → g.window.frames ≡ l
-          → ((k : ℕ) × (h.window.over ≡ stepped.Trap k)) ⊎ Served sizes (lane_in g) (lane_in h)
+          → ((k : TrapCause) × (h.window.over ≡ stepped.Trap k)) ⊎ Served sizes (lane_in g) (lane_in h)
       by [] i = inr (waits i)
       by (f ∷ fs) i = open_or f fs i (complete f) refl

@@ -1,6 +1,7 @@
 -- The oldest frame behind a part of a cycle, and what the lane then sees of it.
 use Rattle.std.specs.Prelude.{◌≡◌, ◌⊎◌, ℕ, suc, ◌+◌, ◌*◌, ◌<◌, false, List, ◌∷◌, length, Option, Some, None}
 use Rattle.std.specs.Prelude.{slice_index_or}
+use Rattle.trips_isa.specs.declared.causes.TrapCause.{TrapCause}
 use Rattle.trips_isa.specs.declared.run.Stepped.TheVariants.{Trap}
 use Rattle.operand_net.specs.declared.parcel.Stand.TheVariants.{Nowhere}
 use Rattle.commit_flush_spec.specs.Frames.{Frame}
@@ -26,7 +27,7 @@ pub record Shows {W : Type 0} (c : Course) (f : Frame) (h : Grid W) (seen : Fron
 
 -- the block of the oldest frame has been committed, or the run has trapped
 abbrev pub Commits : {W : Type 0} → Grid W → Grid W → Type 0
-Commits g m = ((c : ℕ) × (m.window.over ≡ Trap c))
+Commits g m = ((c : TrapCause) × (m.window.over ≡ Trap c))
     ⊎ (length m.window.state.trace ≡ suc (length g.window.state.trace))
 
 -- no parcel stands in the places of a read that is not answered

@@ -2,6 +2,7 @@
 ghost use Rattle.std.specs.Prelude.{◌≡◌, ◌-◌, ◌^◌, ◌<◌, ℕ, false, true, List, [], ◌∷◌, Some, length, slice_index};
 ghost use Rattle.std.specs.Prelude.{slice_get, suc, ◌≤◌, ◌⊎◌, ◌+◌, ◌*◌, cond, nat_lt};
 ghost use Rattle.trips_isa.specs.declared.block.Block.{Block};
+ghost use Rattle.trips_isa.specs.declared.causes.TrapCause.{TrapCause};
 ghost use Rattle.trips_isa.specs.declared.run.Stepped.TheVariants.{Went, Trap};
 ghost use Rattle.trips_isa.specs.Rule.{Answer};
 ghost use Rattle.operand_net.specs.Places.{Places};
@@ -151,7 +152,7 @@ pub fn eager_cycles_serve<W: Weather>()
         → slice_get blocks g.window.state.next ≡ Some b → size b ≡ sizes (length g.window.state.trace)
         → (g.window.frames ≡ [] → IsDue g g.fetching × (slice_index g.window.generations 0 < 2 ^ 64 - 1))
         → Eager W.next W.follows blocks budget g h
-        → ((c : ℕ) × (h.window.over ≡ Trap c)) ⊎ Served sizes (lane_in g) (lane_in h) }
+        → ((c : TrapCause) × (h.window.over ≡ Trap c)) ⊎ Served sizes (lane_in g) (lane_in h) }
 {}
 
 /// After n cycles each of which finds what it asks: with what is left they are within the prices of the blocks committed

@@ -3,6 +3,7 @@ use Rattle.std.proofs.Common.{◌≡◌, ℕ, ◌+◌, ◌≤◌, false, List, s
 use Rattle.std.proofs.Common.{Option, Some, Result, Ok, Err, IfOk}
 use Rattle.trips_isa.specs.declared.block.Block.{Block}
 use Rattle.trips_isa.specs.declared.block.Image.{Image}
+use Rattle.trips_isa.specs.declared.causes.TrapCause.{TrapCause}
 use Rattle.trips_isa.specs.declared.run.Ending.{Ending}
 use Rattle.trips_isa.specs.declared.run.Ending.TheVariants as ending
 use Rattle.trips_isa.specs.declared.run.Stepped.{Stepped}
@@ -30,7 +31,7 @@ same_ending stepped.StackFull next = refl
 same_ending (stepped.Trap cause) next = refl
 
 -- a trap names the block that comes next
-trap_at : (a : Stepped) (next block cause : ℕ) → ending_of a next ≡ ending.Trap block cause → next ≡ block
+trap_at : (a : Stepped) (next block : ℕ) (cause : TrapCause) → ending_of a next ≡ ending.Trap block cause → next ≡ block
 trap_at stepped.Went next block cause e = absurd (cc)
 trap_at stepped.Ended next block cause e = absurd (cc)
 trap_at stepped.StackFull next block cause e = absurd (cc)

@@ -1,6 +1,7 @@
 -- What the grid counts of a run (docs/GRID.md, "Runs").
 use Rattle.std.specs.Prelude.{◌≡◌, ℕ, ◌+◌, ◌≤◌, false, List, Some, slice_get}
 use Rattle.trips_isa.specs.declared.block.Block.{Block}
+use Rattle.trips_isa.specs.declared.causes.TrapCause.{TrapCause}
 use Rattle.trips_isa.specs.declared.run.Counts.{Counts}
 use Rattle.trips_isa.specs.declared.run.Ending.{Ending}
 use Rattle.trips_isa.specs.declared.run.Ending.TheVariants.{Trap}
@@ -26,7 +27,7 @@ pub record IsCountedRun (blocks : List Block) (bytes input : List ℕ) (seed bud
   pub within : is_trap ended ≡ false
       → counts.cycles ≤ cost_of blocks (runs blocks (start bytes input) budget).0.trace
   -- one that ends in a trap makes no more than that and what the block costs that trapped
-  pub trapped : (block cause : ℕ) → ended ≡ Trap block cause → counts.cycles
+  pub trapped : (block : ℕ) (cause : TrapCause) → ended ≡ Trap block cause → counts.cycles
       ≤ cost_of blocks (runs blocks (start bytes input) budget).0.trace + cost_in (slice_get blocks block)
   -- and so any run no more than that and the greatest cost of a block
   pub at_most : counts.cycles ≤ cost_of blocks (runs blocks (start bytes input) budget).0.trace + 41472

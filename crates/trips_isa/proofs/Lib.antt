@@ -4,3 +4,4 @@ pub mod Sizes
 pub mod WordLemmas
 pub mod OperandFacts
 pub mod ProducerLemmas
+pub mod CauseFacts

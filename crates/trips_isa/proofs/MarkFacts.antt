@@ -14,6 +14,8 @@ use Rattle.trips_isa.specs.Tables.{deepest}
 use Rattle.trips_isa.specs.Blocks.{given, token_of}
 use Rattle.trips_isa.specs.Outcomes.{all_stores}
 use Rattle.trips_isa.specs.declared.run.Stepped.TheVariants.{Ended, Trap}
+use Rattle.trips_isa.specs.declared.causes.TrapCause.TheVariants.{DivisionByZero, Misaligned, OutsideMemory}
+use Rattle.trips_isa.specs.TrapCauses.{number_of, no_mark}
 use Rattle.trips_isa.specs.declared.operands.Operands.TheVariants.{Nulls, Words}
 use Rattle.trips_isa.specs.Faults.{fault_of, fault_at}
 use Rattle.trips_isa.specs.Marks.{least, mark_by, mark_given, mask_places}
@@ -22,22 +24,22 @@ use Rattle.trips_isa.specs.Machine.{State, step_of, runs}
 
 -- causes and the least of marks -----------------------------------------------------------------
 
-pub divided_by_zero : fault_of op.Divu 7 0 ≡ 1
+pub divided_by_zero : fault_of op.Divu 7 0 ≡ number_of DivisionByZero
 divided_by_zero = refl
 
-pub multiplied_by_zero : fault_of op.Mul 7 0 ≡ 0
+pub multiplied_by_zero : fault_of op.Mul 7 0 ≡ no_mark
 multiplied_by_zero = refl
 
-pub misaligned : fault_at 1 8 ≡ 2
+pub misaligned : fault_at 1 8 ≡ number_of Misaligned
 misaligned = refl
 
-pub last_word : fault_at 4194296 8 ≡ 0
+pub last_word : fault_at 4194296 8 ≡ no_mark
 last_word = refl
 
-pub outside : fault_at 4194304 8 ≡ 3
+pub outside : fault_at 4194304 8 ≡ number_of OutsideMemory
 outside = refl
 
-pub misaligned_before_outside : fault_at (2 ^ 64 - 1) 8 ≡ 2
+pub misaligned_before_outside : fault_at (2 ^ 64 - 1) 8 ≡ number_of Misaligned
 misaligned_before_outside = refl
 
 pub least_of_marks : least 3 (least 0 2) ≡ 2
@@ -91,11 +93,11 @@ abbrev dividing : Block
 dividing = block (plain op.Genu 1 (Some (Left 2)) ∷ plain op.Genu 0 (Some (Right 2)) ∷ plain op.Divs 0
     (Some (Write 1)) ∷ plain op.Genu 3 (Some (Write 0)) ∷ plain op.Scall 0 None ∷ [])
 
-pub division_traps : step_of (dividing ∷ []) entry ≡ (entry, Trap 1)
+pub division_traps : step_of (dividing ∷ []) entry ≡ (entry, Trap DivisionByZero)
 unfolding deepest given all_stores mark_given mask_places
 division_traps = refl
 
-pub division_stays : runs (dividing ∷ []) entry 3 ≡ (entry, Trap 1)
+pub division_stays : runs (dividing ∷ []) entry 3 ≡ (entry, Trap DivisionByZero)
 unfolding deepest given all_stores mark_given mask_places runs
 division_stays = refl
 
@@ -129,7 +131,7 @@ abbrev loading : Block
 loading = block (plain op.Genu 1 (Some (Left 1)) ∷ plain op.Ld 0 (Some (Write 1)) ∷ plain op.Genu 3
     (Some (Write 0)) ∷ plain op.Scall 0 None ∷ [])
 
-pub load_traps : step_of (loading ∷ []) entry ≡ (entry, Trap 2)
+pub load_traps : step_of (loading ∷ []) entry ≡ (entry, Trap Misaligned)
 unfolding deepest given all_stores mark_given mask_places
 load_traps = refl
 
@@ -150,6 +152,6 @@ storing = record {
   };
 }
 
-pub store_traps : step_of (storing ∷ []) entry ≡ (entry, Trap 2)
+pub store_traps : step_of (storing ∷ []) entry ≡ (entry, Trap Misaligned)
 unfolding deepest given all_stores mark_given mask_places
 store_traps = refl

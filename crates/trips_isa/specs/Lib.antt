@@ -9,6 +9,7 @@ pub mod Tables
 pub mod Stores
 pub mod Fired
 pub mod Blocks
+pub mod TrapCauses
 pub mod Faults
 pub mod Acts
 pub mod Marks

@@ -11,6 +11,8 @@ use Rattle.trips_isa.specs.declared.block.Inst.{Inst}
 use Rattle.trips_isa.specs.declared.block.Stored.{Stored}
 use Rattle.trips_isa.specs.declared.block.Block.{Block}
 use Rattle.trips_isa.specs.declared.places.TheConstants.{FIRST_WRITE}
+use Rattle.trips_isa.specs.declared.causes.TrapCause.{TrapCause}
+use Rattle.trips_isa.specs.TrapCauses.{cause_of}
 use Rattle.trips_isa.specs.Alu.{word}
 use Rattle.trips_isa.specs.Images.{chunk_of, block_at}
 use Rattle.trips_isa.specs.Rule.{Answer}
@@ -107,15 +109,15 @@ plain_by blocks k b g = record {
 abbrev pub plain : List Block → ℕ → Block → List ℕ → List ℕ → Effects
 plain blocks k b regs mem = plain_by blocks k b (token_of b regs mem deepest)
 
--- a block comes to its effects, or it faults with a cause: 1, 2 or 3
+-- a block comes to its effects, or it faults with a cause
 pub data Outcome : Type 0 where
   Comes : (effects : Effects) → Outcome
-  Faults : (cause : ℕ) → Outcome
+  Faults : (cause : TrapCause) → Outcome
 
--- cause 0 is none
+-- what a block comes to whose least mark is this: its effects where there is none, else its cause
 abbrev pub unless : ℕ → Effects → Outcome
 unless zero effects = Comes effects
-unless (suc c) effects = Faults (suc c)
+unless (suc c) effects = Faults (cause_of (suc c))
 
 -- the outcome of block k: without a cause it is the plain one, which no mark changes
 abbrev pub outcome : List Block → ℕ → Block → List ℕ → List ℕ → Outcome

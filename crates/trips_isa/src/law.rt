@@ -11,7 +11,9 @@ ghost use Rattle.trips_isa.specs.Forms.{form_of, role_of, size_of};
 ghost use Rattle.trips_isa.specs.Rule.{Answer, gives};
 ghost use Rattle.trips_isa.specs.Operands.{operands, given_of};
 ghost use Rattle.trips_isa.specs.Fired.{fired, answered};
-ghost use Rattle.trips_isa.specs.Faults.{fault_at};
+ghost use Rattle.trips_isa.specs.declared.causes.TrapCause.{TrapCause};
+ghost use Rattle.trips_isa.specs.TrapCauses.{number_of, cause_of, no_mark, IsMark};
+ghost use Rattle.trips_isa.specs.Faults.{fault_at, own_fault};
 ghost use Rattle.trips_isa.specs.Stores.{bytes_seen, is_good_address};
 ghost use Rattle.trips_isa.specs.Places.{IsPlace, place_of, producers};
 ghost use Rattle.trips_isa.specs.declared.block.Spot.TheVariants as spot;
@@ -38,7 +40,16 @@ pub fn operands_say_the_rule()
         → gives (role_of i.op) (slot_computes (Some i) answer) l r
         ≡ option_map (answered i answer) (fired i l r) }
     ensures address { (address size : ℕ) → is_good_address address size
-        ≡ (nat_lt 0 size && (fault_at address size == 0)) }
+        ≡ (nat_lt 0 size && (fault_at address size == no_mark)) }
+{}
+
+/// Each cause of a trap has a number of its own, which is the mark of no token without a fault, and
+/// which tells the cause; an instruction's own fault is a mark.
+pub fn traps_have_numbers()
+    ensures tells { (c : TrapCause) → cause_of (number_of c) ≡ c }
+    ensures apart { (c d : TrapCause) → number_of c ≡ number_of d → c ≡ d }
+    ensures marks { (c : TrapCause) → number_of c ≡ no_mark → ⊥ }
+    ensures owned { (i : Inst) (l r : ℕ) → IsMark (own_fault (Some i) l r) }
 {}
 
 /// What stands at a place is what its first producer gives: the token, and the store of a number.

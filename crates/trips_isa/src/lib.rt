@@ -5,6 +5,7 @@
 
 mod arithmetic;
 mod block;
+mod causes;
 mod faults;
 mod fired;
 mod form;
@@ -18,10 +19,11 @@ mod size;
 
 pub use arithmetic::{alu, loaded};
 pub use block::{Block, Image, Inst, ReadSlot, Sense, Spot, Stored, Token};
+pub use causes::{NO_MARK, TrapCause, cause_of, number_of};
 pub use faults::{fault, fault_at, own_fault};
 pub use fired::Fired;
 pub use form::{Form, Role, form_of, role_of, size_of};
-pub use law::{first_producers_give, operands_say_the_rule, words_give_words};
+pub use law::{first_producers_give, operands_say_the_rule, traps_have_numbers, words_give_words};
 pub use node::Node;
 pub use op::Op;
 pub use operands::{Operands, is_guarded, least, mark_by, only_if, operands_of};

@@ -1,11 +1,12 @@
 //! What the tokens at an instruction's operands are to its role, and the mark that they leave.
 ghost use Rattle.std.specs.Prelude.{◌≡◌, Some, cond};
+ghost use Rattle.trips_isa.specs.TrapCauses.{no_mark};
 ghost use Rattle.trips_isa.specs.Faults.{own_fault};
 ghost use Rattle.trips_isa.specs.Operands.{operands, one_operand, both_operands, is_guarded};
 ghost use Rattle.trips_isa.specs.Marks.{least, mark_by};
 
 use crate::faults::own_fault;
-use crate::{Inst, Role, Sense, Token};
+use crate::{Inst, NO_MARK, Role, Sense, Token};
 
 /// The operands of an instruction: one is missing; none is missing, and it is said which are null; or
 /// all are words, where an operand that is not taken is 0.
@@ -63,7 +64,7 @@ pub fn is_guarded(sense: Sense) -> bool
     }
 }
 
-/// The least of two marks other than 0, or 0.
+/// The least of two marks other than none, or none.
 pub fn least(a: u8, b: u8) -> u8
     ensures value { result ≡ least a b }
 {
@@ -72,9 +73,9 @@ pub fn least(a: u8, b: u8) -> u8
 
 /// A mark that counts only where a test holds.
 pub fn only_if(test: bool, mark: u8) -> u8
-    ensures { result ≡ cond test mark 0 }
+    ensures { result ≡ cond test mark no_mark }
 {
-    if test { mark } else { 0 }
+    if test { mark } else { NO_MARK }
 }
 
 /// The mark of an instruction's token, of the marks at its operands and its predicate.
@@ -82,7 +83,7 @@ pub fn mark_by(inst: Inst, operands: Operands, left: u8, right: u8, predicate: u
     ensures value { result ≡ mark_by (own_fault (Some inst)) operands left right predicate }
 {
     match operands {
-        Operands::Missing => 0,
+        Operands::Missing => NO_MARK,
         Operands::Nulls(a, b) => least(predicate, least(only_if(a, left), only_if(b, right))),
         Operands::Words(l, r) => least(predicate, least(left, least(right, own_fault(inst, l, r)))),
     }

@@ -1,3 +1,5 @@
+use crate::TrapCause;
+
 /// A committed block and the exit that it took.
 #[derive(Clone, Copy, Debug, PartialEq, Eq)]
 pub struct Traced {
@@ -6,14 +8,13 @@ pub struct Traced {
 }
 
 /// What one step of the machine came to: it went on, it made system call 3, or system call 4, or its
-/// block faulted with a cause: 1 is a division by zero, 2 a misaligned address, 3 an address outside
-/// data memory.
+/// block faulted with a cause.
 #[derive(Clone, Copy, Debug, PartialEq, Eq)]
 pub enum Stepped {
     Went,
     Ended,
     StackFull,
-    Trap(u8),
+    Trap(TrapCause),
 }
 
 /// How a run ends.
@@ -25,7 +26,7 @@ pub enum Ending {
     Ended,
     StackFull,
     Budget,
-    Trap { block: u32, cause: u8 },
+    Trap { block: u32, cause: TrapCause },
 }
 
 /// What a run took: cycles, and blocks fetched, committed and flushed.

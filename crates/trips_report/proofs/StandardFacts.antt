@@ -3,6 +3,7 @@ use Rattle.std.proofs.Common.{◌≡◌, ◌-◌, ◌^◌, [], ◌∷◌, ◌++�
 use Rattle.std.specs.Fmt.{digits}
 use Rattle.hex.specs.Hex.{encode_with}
 use Rattle.isa_table.specs.Spots.{indexed, at_slot}
+use Rattle.trips_isa.specs.declared.causes.TrapCause.TheVariants.{Misaligned}
 use Rattle.trips_isa.specs.declared.run.Counts.{Counts}
 use Rattle.trips_isa.specs.declared.run.Ending.TheVariants as ending
 use Rattle.trips_isa.specs.declared.block.Spot.TheVariants as spot
@@ -54,7 +55,7 @@ pub budget_is : run_report ending.Budget ended counts 512 hidden ≡ codes "outp
 unfolding digits with_part
 budget_is = refl
 
-pub trap_is : run_report (ending.Trap 12 2) ended counts 512 hidden
+pub trap_is : run_report (ending.Trap 12 Misaligned) ended counts 512 hidden
     ≡ codes "output 2\nhi\ntrap block 12 cause 2\n"
 unfolding digits with_part
 trap_is = refl

@@ -1,9 +1,10 @@
 -- The report of a run (README.md of this crate).
-use Rattle.std.specs.Prelude.{ℕ, ◌-◌, ◌^◌, nat_lt, if◌then◌else◌, List, ◌∷◌, ◌++◌, length}
+use Rattle.std.specs.Prelude.{ℕ, ◌-◌, ◌^◌, nat_lt, if◌then◌else◌, List, ◌++◌, length}
 use Rattle.std.specs.Prelude.{codes, slice_index, decimal}
 use Rattle.trips_isa.specs.declared.run.Counts.{Counts}
 use Rattle.trips_isa.specs.declared.run.Ending.{Ending}
 use Rattle.trips_isa.specs.declared.run.Ending.TheVariants as ending
+use Rattle.trips_isa.specs.TrapCauses.{number_of}
 use Rattle.trips_isa.specs.Machine.{State}
 use Rattle.trips_answer_parts.specs.Texts.{output_and}
 use Rattle.trips_report.specs.declared.show.Show.{Show}
@@ -11,7 +12,7 @@ use Rattle.trips_report.specs.Lines.{with_part, register_lines, trace_lines, cou
 
 -- a word as a signed number in decimal digits
 abbrev pub signed : ℕ → List ℕ
-signed word = if nat_lt word (2 ^ 63) then decimal word else 45 ∷ decimal (2 ^ 64 - word)
+signed word = if nat_lt word (2 ^ 63) then decimal word else codes "-" ++ decimal (2 ^ 64 - word)
 
 -- the line of an ending, of register 3 and of how many blocks were committed
 abbrev pub ending_line : Ending → ℕ → ℕ → List ℕ
@@ -19,7 +20,7 @@ ending_line ending.Ended word blocks = codes "result " ++ signed word
 ending_line ending.StackFull word blocks = codes "stack full"
 ending_line ending.Budget word blocks = codes "budget " ++ decimal blocks
 ending_line (ending.Trap block cause) word blocks =
-    codes "trap block " ++ (decimal block ++ (codes " cause " ++ decimal cause))
+    codes "trap block " ++ (decimal block ++ (codes " cause " ++ decimal (number_of cause)))
 
 -- the report without what may be shown besides, from how the run ended and the state at its end
 abbrev pub plain_report : Ending → State → List ℕ

@@ -9,7 +9,7 @@ use base::Memory;
 use block_atomic::Arch;
 use std::alloc::{AllocError, Global};
 use trips_answer_parts::output_text;
-use trips_isa::{Counts, Ending};
+use trips_isa::{Counts, Ending, number_of};
 
 // A word as a signed number.
 fn signed_text(alloc: Global, word: u64) -> Result<String, AllocError>
@@ -39,7 +39,10 @@ fn ending_text(
         }
         Ending::StackFull => String::from_str(alloc, "stack full"),
         Ending::Budget => format!(in alloc; "budget {blocks}"),
-        Ending::Trap { block, cause } => format!(in alloc; "trap block {block} cause {cause}"),
+        Ending::Trap { block, cause } => {
+            let number = number_of(cause);
+            format!(in alloc; "trap block {block} cause {number}")
+        }
     }
 }
 

@@ -7,7 +7,7 @@ use std::alloc::{AllocError, Global};
 use std::process::Abort;
 use std::test::Fail;
 use target_asm_spec::AsmFault;
-use trips_isa::{Counts, Ending, Spot};
+use trips_isa::{Counts, Ending, Spot, TrapCause};
 use trips_report::{Said, Show, refusal_report, run_report};
 
 const COUNTS: Counts = Counts {
@@ -103,7 +103,7 @@ const RUNS: &[Run] = &[
         "output 0\n\nbudget 1\nblock 0 exit 0\nblocks 1\ncycles 40\nfetched 3\nflushed 2\ncost 1024\n",
     ),
     (
-        Ending::Trap { block: 3, cause: 1 },
+        Ending::Trap { block: 3, cause: TrapCause::DivisionByZero },
         NOTHING,
         "output 0\n\ntrap block 3 cause 1\n",
     ),

@@ -4,6 +4,7 @@ use crate::beside::assert_rows;
 use crate::rows::Row;
 use std::test::Fail;
 use trips_isa::Ending::{Budget, Ended, StackFull, Trap};
+use trips_isa::TrapCause::{DivisionByZero, Misaligned, OutsideMemory};
 
 /// A letter is put out, an input byte is asked for, and the run ends.
 const CALLS: &str = "trips 1
@@ -157,7 +158,7 @@ const ENDS: &[Row] = &[
         text: DIVIDES,
         budget: 2,
         played: &[],
-        ending: Trap { block: 1, cause: 1 },
+        ending: Trap { block: 1, cause: DivisionByZero },
         commits: 1,
     },
     Row {
@@ -165,7 +166,7 @@ const ENDS: &[Row] = &[
         text: MISALIGNED,
         budget: 1,
         played: &[],
-        ending: Trap { block: 0, cause: 2 },
+        ending: Trap { block: 0, cause: Misaligned },
         commits: 0,
     },
     Row {
@@ -173,7 +174,7 @@ const ENDS: &[Row] = &[
         text: OUTSIDE,
         budget: 3,
         played: &[],
-        ending: Trap { block: 2, cause: 3 },
+        ending: Trap { block: 2, cause: OutsideMemory },
         commits: 2,
     },
 ];

@@ -6,6 +6,7 @@ use frame_events::Event;
 use frame_events::Event::{Commit, Deliver, Exit, Fetch, Fire, Flush, Load, Seal, Store};
 use std::test::Fail;
 use trips_isa::Ending::{Budget, Trap};
+use trips_isa::TrapCause::DivisionByZero;
 
 /// The second block adds 1 to what the first writes.
 const PAIR: &str = "trips 1
@@ -181,7 +182,7 @@ const PLAYED: &[Row] = &[
         text: FAULT,
         budget: 2,
         played: GUESSED,
-        ending: Trap { block: 0, cause: 1 },
+        ending: Trap { block: 0, cause: DivisionByZero },
         commits: 0,
     },
     Row {
@@ -189,7 +190,7 @@ const PLAYED: &[Row] = &[
         text: FAULT,
         budget: 2,
         played: OVER,
-        ending: Trap { block: 0, cause: 1 },
+        ending: Trap { block: 0, cause: DivisionByZero },
         commits: 0,
     },
 ];

@@ -96,7 +96,7 @@ returns-then-fault-eq0-clause-step c =
 
 pub returns-else-fault-eq0-clause-step : goal.returns-else-fault-eq0-clause-step
 returns-else-fault-eq0-clause-step c =
-    step_traps c.args.image.now.blocks inside c.args.self.now.state c.cause-fault.result
+    step_traps c.args.image.now.blocks inside c.args.self.now.state c.cause-fault.result c.cause_of.result
     (cause_is c.args.image.now.blocks c.block-block.result.now inside c.used_slots-used.result
     c.settle.new.table c.settle.new.places c.cause-fault.result
     (c.at.ensures.value ∙ ap (λ (b : Block). Some b) (sym c.block-block.ensures.value))
@@ -108,7 +108,7 @@ returns-else-fault-eq0-clause-step c =
     ∙ ap (λ (mem : List ℕ). token_of c.block-block.result.now c.self.inside.registers mem
     deepest x) c.deref.ensures.value)
     c.settle.ensures.placed c.cause-fault.ensures.value)
-    c.if-fault-eq0.false (ap (λ (m : Machine). m.state) (sym c.self.view_is))
+    c.if-fault-eq0.false c.cause_of.ensures.value (ap (λ (m : Machine). m.state) (sym c.self.view_is))
     ∙ ap (λ (m : Machine). step_of c.args.image.now.blocks m.state) c.self.view_is
   where
     inside : State

@@ -10,13 +10,13 @@ flush_from-requires c = orders_below c.self.invariant.sound
 
 pub invariant_of-self : goal.invariant_of-self
 invariant_of-self c =
-    empty_stands (traps_told c.self.invariant.sound c.args.frame c.args.cause _ c.self.view_is c.requires.done
+    empty_stands (traps_told c.self.invariant.sound c.args.frame c.args.mark c.cause_of.result c.cause_of.ensures.value _ c.self.view_is c.requires.done
     c.requires.oldest c.requires.cause c.requires.marked _ c.flush_from.ensures.frames _ c.flush_from.ensures.order _
     c.flush_from.ensures.dropped).sound c.flush_from.ensures.order
 
 pub returns : goal.returns
 returns c =
     outside c.self.invariant.sound event.Commit _ c.self.view_is _ (traps_told c.self.invariant.sound c.args.frame
-    c.args.cause _ c.self.view_is c.requires.done c.requires.oldest
+    c.args.mark c.cause_of.result c.cause_of.ensures.value _ c.self.view_is c.requires.done c.requires.oldest
     c.requires.cause c.requires.marked _ c.flush_from.ensures.frames _ c.flush_from.ensures.order _
     c.flush_from.ensures.dropped).same
