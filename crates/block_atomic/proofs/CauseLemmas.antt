@@ -23,6 +23,7 @@ use Rattle.trips_isa.specs.declared.operands.Operands.{Operands}
 use Rattle.trips_isa.specs.Forms.{form_of, role_of, takes_left, takes_right}
 use Rattle.trips_isa.specs.Operands.{operands, is_guarded}
 use Rattle.trips_isa.specs.Faults.{divides, own_fault, fault_in}
+use Rattle.trips_isa.specs.Limits.{most_nodes}
 use Rattle.block_atomic.specs.MarkSlots.{IsTold, slot_marked, can_fault, can_fault_in}
 use Rattle.block_cases.proofs.Fixed.{still}
 use Rattle.block_cases.proofs.MarkLemmas.{marks_pulled}
@@ -153,8 +154,8 @@ no_fault_no_cause b table places g size told quiet =
 
     unmarked : (x : ℕ) → mark_of b g deepest x ≡ 0
     unmarked x =
-        let e : deepest ≡ 160 = deepest_is in
-        still (mark_given b g) (mark_of b g) (marks_pulled b g) 0 (λ y. sym (step y)) 160 deepest x
+        let e : deepest ≡ most_nodes = deepest_is in
+        still (mark_given b g) (mark_of b g) (marks_pulled b g) 0 (λ y. sym (step y)) most_nodes deepest x
         (omega arith)
 
 -- a machine may add the own fault last, as the window does with an address's

@@ -19,6 +19,7 @@ use Rattle.block_cases.proofs.Steady.{deepest_is}
 use Rattle.trips_isa.specs.Faults.{own_fault, fault_if_read, node_fault}
 use Rattle.trips_isa.specs.Operands.{operands, is_guarded}
 use Rattle.trips_isa.specs.Marks.{mark_by, mark_at, node_mark, mark_given, mark_of}
+use Rattle.trips_isa.specs.Limits.{most_nodes}
 use Rattle.block_atomic.specs.MarkSlots.{IsTold, mark_if_read, marks_in, mark_placed, slot_marked}
 use Rattle.block_cases.proofs.Fixed.{IsFixed, still}
 use Rattle.block_cases.proofs.MarkLemmas.{marks_pulled}
@@ -176,24 +177,24 @@ round_still b table places old new at g n r told after e x =
     ∙ ap (λ list. mark_given b g (marks_in b list) x) (sym e)
     ∙ ap (λ f. mark_given b g f x) (fun_ext after)
 
--- enough rounds, or one that changed nothing, reach depth 160
-pub deep_enough : (b : Block) (g : ℕ → Answer) (k : ℕ) → k ≤ 160
-    → (160 ≤ k) ⊎ IsFixed (mark_given b g) (mark_of b g k) → (x : ℕ)
+-- enough rounds, or one that changed nothing, reach depth `deepest`
+pub deep_enough : (b : Block) (g : ℕ → Answer) (k : ℕ) → k ≤ most_nodes
+    → (most_nodes ≤ k) ⊎ IsFixed (mark_given b g) (mark_of b g k) → (x : ℕ)
     → mark_of b g k x ≡ mark_of b g deepest x
 deep_enough b g k few (inl far) x =
-    let e : deepest ≡ 160 = deepest_is in
+    let e : deepest ≡ most_nodes = deepest_is in
     let same : k ≡ deepest = omega arith in
     ap (λ d. mark_of b g d x) same
 deep_enough b g k few (inr fixed) x =
-    let e : deepest ≡ 160 = deepest_is in
-    sym (still (mark_given b g) (mark_of b g) (marks_pulled b g) k fixed (160 - k) deepest x
+    let e : deepest ≡ most_nodes = deepest_is in
+    sym (still (mark_given b g) (mark_of b g) (marks_pulled b g) k fixed (most_nodes - k) deepest x
     (omega arith))
 
 -- so the places hold the marks of the table
 pub settled_at : (b : Block) (table places : List Answer) (marks at : List ℕ) (g : ℕ → Answer)
     (k : ℕ) → IsTold b table places g
-    → ((x : ℕ) → marks_in b marks x ≡ mark_of b g k x) → k ≤ 160
-    → (160 ≤ k) ⊎ IsFixed (mark_given b g) (mark_of b g k)
+    → ((x : ℕ) → marks_in b marks x ≡ mark_of b g k x) → k ≤ most_nodes
+    → (most_nodes ≤ k) ⊎ IsFixed (mark_given b g) (mark_of b g k)
     → ((q : ℕ) → q < 449 → get_or at q 0 ≡ mark_placed b table marks q)
     → (q : ℕ) → q < 449 → get_or at q 0 ≡ mark_at (nodes_of b) g (mark_of b g deepest) q
 settled_at b table places marks at g k told before few done filled q l =

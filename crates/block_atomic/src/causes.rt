@@ -1,7 +1,7 @@
 //! The cause of a block, of a table of its tokens.
 ghost use Rattle.std.specs.Prelude.{◌≡◌, ◌<◌, ◌≤◌, ◌+◌, ℕ, cond, false, length};
 ghost use Rattle.std.specs.Prelude.{slice_index_or, None, Some};
-ghost use Rattle.trips_isa.specs.declared.places.TheConstants.{FIRST_STORE, PLACES};
+ghost use Rattle.trips_isa.specs.PlaceNumbers.{first_store, place_count};
 ghost use Rattle.trips_isa.specs.Fits.{FitsBlock};
 ghost use Rattle.trips_isa.specs.Places.{inst_node};
 ghost use Rattle.trips_isa.specs.Rule.{Answer};
@@ -13,8 +13,8 @@ ghost use Rattle.trips_isa.specs.Faults.{divides};
 
 use crate::mark_rounds::settle;
 use trips_isa::{
-    Block, EXIT, FIRST_STORE, FIRST_WRITE, Form, Inst, NO_MARK, Op, PLACES, Token, form_of, least, mark_by,
-    operands_of, role_of,
+    Block, EXIT, FIRST_STORE, FIRST_WRITE, Form, Inst, NO_MARK, Op, PLACES, Token, form_of, least,
+    mark_by, operands_of, role_of,
 };
 
 // Whether the mask has this store number.
@@ -26,7 +26,7 @@ fn in_mask(mask: u32, number: u8) -> bool
 
 // The least mark of the first writes.
 fn least_of_writes(at: &[u8], count: usize) -> u8
-    requires marks { length at.now ≡ PLACES }
+    requires marks { length at.now ≡ place_count }
     requires count { count ≤ 32 }
     ensures { result ≡ least_at (λ q. slice_index_or at.now q 0) (writes_to count) }
 {
@@ -39,9 +39,9 @@ fn least_of_writes(at: &[u8], count: usize) -> u8
 
 // The mark at a number's place, if the mask has it.
 fn number_mark(at: &[u8], mask: u32, number: u8) -> u8
-    requires marks { length at.now ≡ PLACES }
+    requires marks { length at.now ≡ place_count }
     requires number { number < 32 }
-    ensures { result ≡ cond (in_mask mask number) (slice_index_or at.now (FIRST_STORE + number) 0) 0 }
+    ensures { result ≡ cond (in_mask mask number) (slice_index_or at.now (first_store + number) 0) 0 }
 {
     if in_mask(mask, number) {
         at[FIRST_STORE as usize + number as usize]
@@ -52,7 +52,7 @@ fn number_mark(at: &[u8], mask: u32, number: u8) -> u8
 
 // The least mark of the mask's numbers.
 fn least_of_numbers(at: &[u8], mask: u32) -> u8
-    requires marks { length at.now ≡ PLACES }
+    requires marks { length at.now ≡ place_count }
     ensures { result ≡ least_at (λ q. slice_index_or at.now q 0) (mask_places mask) }
 {
     let mut mark = NO_MARK;
@@ -67,7 +67,7 @@ fn least_of_numbers(at: &[u8], mask: u32) -> u8
 // The least mark over the places that a block owes.
 fn least_owed(block: &Block, at: &[u8]) -> u8
     requires fits { FitsBlock block.now }
-    requires marks { length at.now ≡ PLACES }
+    requires marks { length at.now ≡ place_count }
     ensures { result ≡ least_at (λ q. slice_index_or at.now q 0) (owed block.now) }
 {
     let numbers = least(least_of_numbers(at, block.mask), at[EXIT as usize]);
@@ -167,9 +167,10 @@ fn traced(block: &Block, table: &[Option<Token>], places: &[Option<Token>]) -> u
     least_owed(block, &at)
 }
 
-/// The cause of a block as a mark, none where it has no cause, of any table of tokens of which the lists tell: `table` has what
-/// each slot gives, and `places` what stands at the operands of each instruction; the slots from
-/// number `used` on are empty. Marks are looked at only where an operation that fires faults.
+/// The cause of a block as a mark, none where it has no cause, of any table of tokens of which the
+/// lists tell: `table` has what each slot gives, and `places` what stands at the operands of each
+/// instruction; the slots from number `used` on are empty. Marks are looked at only where an operation
+/// that fires faults.
 pub fn cause(block: &Block, used: usize, table: &[Option<Token>], places: &[Option<Token>]) -> u8
     requires fits { FitsBlock block.now }
     requires used { (j : ℕ) → used ≤ j → slice_index_or block.now.insts.items j None ≡ None }

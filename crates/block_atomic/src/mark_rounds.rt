@@ -1,6 +1,6 @@
 //! The marks of a block's slots, by rounds until they hold still.
 ghost use Rattle.std.specs.Prelude.{◌≡◌, ◌<◌, ℕ, false, Some, length, slice_index_or, slice_set, None};
-ghost use Rattle.trips_isa.specs.declared.places.TheConstants.{PLACES};
+ghost use Rattle.trips_isa.specs.PlaceNumbers.{place_count};
 ghost use Rattle.trips_isa.specs.Forms.{takes_left, takes_right};
 ghost use Rattle.trips_isa.specs.Places.{nodes_of, inst_node};
 ghost use Rattle.trips_isa.specs.Rule.{Answer};
@@ -27,7 +27,7 @@ fn takes_right(role: Role) -> bool
 // The mark of an instruction that fires.
 fn fired(places: &[Option<Token>], at: &[u8], slot: usize, inst: Inst) -> u8
     requires places { length places.now ≡ 416 }
-    requires marks { length at.now ≡ PLACES }
+    requires marks { length at.now ≡ place_count }
     requires slot { slot < 128 }
     ensures { result ≡ fired_mark (inst_node slot (Some inst)) (own_fault (Some inst))
         (λ q. slice_index_or places.now q None) (λ q. slice_index_or at.now q 0) }
@@ -51,7 +51,7 @@ fn slot_mark(
     answer: Option<Token>,
 ) -> u8
     requires places { length places.now ≡ 416 }
-    requires marks { length at.now ≡ PLACES }
+    requires marks { length at.now ≡ place_count }
     requires slot { slot < 128 }
     ensures { result ≡ slot_marked (λ q. slice_index_or places.now q None)
         (λ q. slice_index_or at.now q 0) slot inst answer }
@@ -87,7 +87,7 @@ fn sweep(
     requires slots { length insts.now ≡ 128 }
     requires table { length table.now ≡ 128 }
     requires places { length places.now ≡ 416 }
-    requires at { length at.now ≡ PLACES }
+    requires at { length at.now ≡ place_count }
     requires marks { length marks.old ≡ 128 }
     ensures answers { (j : ℕ) → j < 128 → slice_index_or marks.new j 0
         ≡ slot_marked (λ q. slice_index_or places.now q None) (λ q. slice_index_or at.now q 0) j
@@ -116,9 +116,9 @@ pub fn settle(
     requires slots { length block.now.insts.items ≡ 128 }
     requires table { length table.now ≡ 128 }
     requires places { length places.now ≡ 416 }
-    requires at { length at.old ≡ PLACES }
+    requires at { length at.old ≡ place_count }
     requires marks { length marks.old ≡ 128 }
-    ensures value { (g : ℕ → Answer) → IsTold block.now table.now places.now g → (q : ℕ) → q < PLACES
+    ensures value { (g : ℕ → Answer) → IsTold block.now table.now places.now g → (q : ℕ) → q < place_count
         → slice_index_or at.new q 0 ≡ mark_at (nodes_of block.now) g (mark_of block.now g deepest) q }
 {
     clear(marks);

@@ -10,6 +10,7 @@ use Rattle.trips_isa.specs.declared.block.Sense.TheVariants.{Always, OnTrue, OnF
 use Rattle.block_cases.specs.declared.token.CaseToken.{CaseToken}
 use Rattle.block_cases.specs.declared.token.CaseToken.TheVariants.{Absent, Null, Bit}
 use Rattle.trips_isa.specs.declared.node.Node.{Node}
+use Rattle.trips_isa.specs.Limits.{most_nodes}
 use Rattle.block_cases.specs.Nodes.{targets, names, Edge, Ranked}
 use Rattle.block_cases.specs.CaseRule.{no, matches, gives, fire, if_matched, taken, or_else, first}
 use Rattle.block_cases.specs.CaseRule.{pulled, fires}
@@ -209,13 +210,13 @@ pass_on (p ∷ ps) ts f (suc y) m i c n h =
 
 -- a chain is no longer than the ranks above it
 shrink : (ns : List Node) (rank : ℕ → ℕ) → Ranked ns rank → (k m x : ℕ) → leads ns k x ≡ true
-    → 160 ≤ rank x + m → leads ns m x ≡ true
+    → most_nodes ≤ rank x + m → leads ns m x ≡ true
 shrink ns rank o zero m x e h = absurd (cc)
-shrink ns rank o (suc k) zero x e h = absurd (let b : rank x < 160 = o.below x in omega arith)
+shrink ns rank o (suc k) zero x e h = absurd (let b : rank x < most_nodes = o.below x in omega arith)
 shrink ns rank o (suc k) (suc m) x e h = go (slice_get ns x) refl e (λ y. shrink ns rank o k m y)
   where
     go : (s : Option Node) → slice_get ns x ≡ s → leads_from ns s (leads ns k) ≡ true
-        → ((y : ℕ) → leads ns k y ≡ true → 160 ≤ rank y + m → leads ns m y ≡ true)
+        → ((y : ℕ) → leads ns k y ≡ true → most_nodes ≤ rank y + m → leads ns m y ≡ true)
         → leads_from ns s (leads ns m) ≡ true
     go None i e r = absurd (cc)
     go (Some n) i e r = by (or_true _ _ e)
@@ -239,7 +240,7 @@ leads_to_copy ns rank o x y m n i j e c h =
     (subst (λ s. leads_from ns s (leads ns deepest) ≡ true) (sym i)
     (or_right (names_predicate (targets m)) _
     (pass_on ns (targets m) (leads ns deepest) x n j c e h)))
-    (let d : deepest ≡ 160 = deepest_is in omega arith)
+    (let d : deepest ≡ most_nodes = deepest_is in omega arith)
 
 leads_at_one : (ns : List Node) (k : ℕ) (y : ℕ) (m : Node) → slice_get ns y ≡ Some m
     → names_predicate (targets m) ≡ true → 0 < k → leads ns k y ≡ true
@@ -351,7 +352,7 @@ alike_at ns rank o w h s x below = subst (λ t. Alike (leads ns deepest x) t (f 
             (first_alike true ns (256 + n.slot) h f
             (λ y m j e. weaken (leads ns deepest y) true (h y) (f y)
             (λ b. leads_at_one ns deepest y m j (predicate_named (targets m) n.slot lt e)
-            (let d : deepest ≡ 160 = deepest_is in omega arith))
+            (let d : deepest ≡ most_nodes = deepest_is in omega arith))
             (below y (to_predicate ns x y m n j i e))))
         by (inr al) = ap (λ z. matches z (first ns (256 + n.slot) h)) al
             ∙ sym (ap (λ z. matches z (first ns (256 + n.slot) f)) al)

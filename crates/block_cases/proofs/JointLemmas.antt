@@ -15,6 +15,7 @@ use Rattle.trips_isa.specs.Faults.{node_fault}
 use Rattle.trips_isa.specs.Operands.{operands, is_guarded}
 use Rattle.trips_isa.specs.Marks.{mark_by, beside, or_unmarked, mark_at, fired_mark, node_mark}
 use Rattle.trips_isa.specs.Marks.{mark_given, mark_of}
+use Rattle.trips_isa.specs.Limits.{most_nodes}
 use Rattle.block_cases.specs.Joint.{marked_of}
 use Rattle.block_cases.proofs.Fixed.{LedBelow, IsPulled, deeper_same}
 use Rattle.block_cases.proofs.MarkLemmas.{pulled_is_marking}
@@ -102,16 +103,16 @@ joint_at b regs mem r (suc k) x l =
     token : (n y : ℕ) → r.0 y < n → token_of b regs mem n y ≡ token_of b regs mem deepest y
     token n y h =
         let o : Ranked (nodes_of b) r.0 = r.1 in
-        let low : r.0 y < 160 = o.below y in
-        let e : deepest ≡ 160 = deepest_is in
+        let low : r.0 y < most_nodes = o.below y in
+        let e : deepest ≡ most_nodes = deepest_is in
         deeper_same r.0 (given b regs mem) (token_of b regs mem)
         (tokens_led b regs mem r.0 r.1) (tokens_pulled b regs mem) n deepest y h (omega arith)
 
--- at depth 160 both are the same
+-- at depth `deepest` both are the same
 pub joint_is : (b : Block) (regs mem : List ℕ) → IsRanked (nodes_of b) → (x : ℕ)
     → marked_of b regs mem deepest x ≡ mark_of b (token_of b regs mem deepest) deepest x
 joint_is b regs mem r x =
     let o : Ranked (nodes_of b) r.0 = r.1 in
-    let low : r.0 x < 160 = o.below x in
-    let e : deepest ≡ 160 = deepest_is in
+    let low : r.0 x < most_nodes = o.below x in
+    let e : deepest ≡ most_nodes = deepest_is in
     joint_at b regs mem r deepest x (omega arith)

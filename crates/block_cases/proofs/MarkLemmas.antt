@@ -14,6 +14,7 @@ use Rattle.trips_isa.specs.Faults.{node_fault}
 use Rattle.trips_isa.specs.Operands.{operands, is_guarded}
 use Rattle.trips_isa.specs.Marks.{mark_by, beside, or_unmarked, mark_at, fired_mark, node_mark}
 use Rattle.trips_isa.specs.Marks.{mark_given, mark_of, IsMarking}
+use Rattle.trips_isa.specs.Limits.{most_nodes}
 use Rattle.block_cases.proofs.Fixed.{LedBelow, IsPulled, only_fixed, reached}
 
 -- the producers of a place decide its mark
@@ -67,8 +68,8 @@ marks_pulled b g k x = refl
 rank_low : (b : Block) (r : IsRanked (nodes_of b)) (x : ℕ) → r.0 x < deepest
 rank_low b r x =
     let o : Ranked (nodes_of b) r.0 = r.1 in
-    let low : r.0 x < 160 = o.below x in
-    let e : deepest ≡ 160 = deepest_is in
+    let low : r.0 x < most_nodes = o.below x in
+    let e : deepest ≡ most_nodes = deepest_is in
     omega arith
 
 -- a block in order has no other marking than what is pulled
@@ -77,7 +78,7 @@ pub only_marking : (b : Block) → IsRanked (nodes_of b) → (g : ℕ → Answer
 only_marking b r g m fixed x = only_fixed r.0 (mark_given b g) (mark_of b g)
     (led_below b g r.0 r.1) (marks_pulled b g) m fixed deepest x (rank_low b r x)
 
--- depth 160 reaches it
+-- depth `deepest` reaches it
 pub pulled_is_marking : (b : Block) → IsRanked (nodes_of b) → (g : ℕ → Answer)
     → IsMarking b g (mark_of b g deepest)
 pulled_is_marking b r g x = reached r.0 (mark_given b g) (mark_of b g)

@@ -22,6 +22,7 @@ use Rattle.trips_isa.specs.Rule as rules
 use Rattle.trips_isa.specs.Rule.{Answer, low, matched, of_one, of_both, null_beside}
 use Rattle.trips_isa.specs.Tables as tables
 use Rattle.trips_isa.specs.Tables.{node_gives, IsTable, Computes}
+use Rattle.trips_isa.specs.Limits.{most_nodes}
 use Rattle.block_cases.specs.Shapes.{shape}
 use Rattle.block_cases.proofs.Steady.{Solves, deepest_is}
 use Rattle.block_cases.proofs.Alike.{Alike, both_true, and_true, Placed, own, chosen, tabulate}
@@ -91,8 +92,8 @@ agrees ns rank o w h s = record {
 }
   where
     there : (x : ℕ) → present (h x) ≡ present (token ns (case_of ns h) x)
-    there x = alike_present _ _ _ (alike ns rank o w h s deepest x (let b : rank x < 160 = o.below x in
-        let e : deepest ≡ 160 = deepest_is in omega arith))
+    there x = alike_present _ _ _ (alike ns rank o w h s deepest x (let b : rank x < most_nodes = o.below x in
+        let e : deepest ≡ most_nodes = deepest_is in omega arith))
 
 at_most_one : (n : ℕ) → (1 < n → ⊥) → n ≤ 1
 at_most_one zero h = omega arith

@@ -22,6 +22,7 @@ use Rattle.trips_isa.specs.Blocks.{form_computes, slot_computes, is_read, slot_a
 use Rattle.trips_isa.specs.Blocks.{computes_if_read, computes, at_place, stored_in, stored_if_read}
 use Rattle.trips_isa.specs.Blocks.{stored_by, store_of, slot_answered, answered_if_read, responses_in}
 use Rattle.trips_isa.specs.Blocks.{given, token_of, Solves}
+use Rattle.trips_isa.specs.Limits.{most_nodes}
 use Rattle.block_cases.proofs.Steady.{or_right, to_left, to_right, to_predicate, deepest_is}
 use Rattle.block_cases.proofs.Nodes.{taken_same, slot_got}
 use Rattle.block_cases.proofs.Unique.{node_same}
@@ -174,7 +175,7 @@ only_at b regs mem rank o h s (suc k) x l =
 pub only_table : (b : Block) (regs mem : List ℕ) → IsRanked (nodes_of b) → (h : ℕ → Answer)
     → ((x : ℕ) → h x ≡ given b regs mem h x) → (x : ℕ) → h x ≡ token_of b regs mem deepest x
 only_table b regs mem r h s x = only_at b regs mem r.0 r.1 h s deepest x (let o : Ranked (nodes_of b) r.0 = r.1 in
-    let low : r.0 x < 160 = o.below x in let e : deepest ≡ 160 = deepest_is in omega arith)
+    let low : r.0 x < most_nodes = o.below x in let e : deepest ≡ most_nodes = deepest_is in omega arith)
 
 -- enough rounds from any table forget it
 abbrev pub rounds_from : Block → List ℕ → List ℕ → (ℕ → Answer) → ℕ → ℕ → Answer
@@ -198,7 +199,7 @@ deeper_same b regs mem rank o (suc k) (suc m) x h i =
     given_below b regs mem rank o (token_of b regs mem k) (token_of b regs mem m) x
     (λ y up. deeper_same b regs mem rank o k m y (omega arith) (omega arith))
 
--- depth 160 reaches the table
+-- depth `deepest` reaches the table
 reached : (b : Block) (regs mem : List ℕ) (rank : ℕ → ℕ) → Ranked (nodes_of b) rank → (d x : ℕ)
     → rank x < d → token_of b regs mem d x ≡ given b regs mem (token_of b regs mem d) x
 reached b regs mem rank o zero x h = absurd (omega arith)
@@ -209,7 +210,7 @@ reached b regs mem rank o (suc k) x h =
 pub token_settled : (b : Block) (regs mem : List ℕ) → IsRanked (nodes_of b) → (x : ℕ)
     → token_of b regs mem deepest x ≡ given b regs mem (token_of b regs mem deepest) x
 token_settled b regs mem r x = reached b regs mem r.0 r.1 deepest x (let o : Ranked (nodes_of b) r.0 = r.1 in
-    let low : r.0 x < 160 = o.below x in let e : deepest ≡ 160 = deepest_is in omega arith)
+    let low : r.0 x < most_nodes = o.below x in let e : deepest ≡ most_nodes = deepest_is in omega arith)
 
 -- the same of solutions
 pub only_solution : (b : Block) (regs mem : List ℕ) → IsRanked (nodes_of b) → (g : ℕ → Answer)

@@ -7,6 +7,7 @@ use Rattle.trips_isa.specs.declared.form.Role.TheVariants.{Both}
 use Rattle.block_cases.specs.declared.token.CaseToken.{CaseToken}
 use Rattle.block_cases.specs.declared.token.CaseToken.TheVariants.{Absent, Null, Bit}
 use Rattle.trips_isa.specs.declared.node.Node.{Node}
+use Rattle.trips_isa.specs.Limits.{most_nodes}
 use Rattle.block_cases.specs.Nodes.{targets, names, Edge, Ranked}
 use Rattle.block_cases.specs.CaseRule.{matches, gives, fire, if_matched, taken, or_else, first, pulled}
 use Rattle.block_cases.specs.CaseRule.{fires, one_word, both_words}
@@ -101,7 +102,7 @@ settled_at ns rank o c k x h =
     pulled_same ns x (c x) (fires ns c k) (fires ns c (suc k)) (λ y e. let lt : rank y < rank x = o.rises y x e in
     enough ns rank o c k (suc k) y (omega arith) (omega arith))
 
-pub deepest_is : deepest ≡ 160
+pub deepest_is : deepest ≡ most_nodes
 unfolding deepest
 deepest_is = refl
 
@@ -113,8 +114,8 @@ at_depth ns rank o c (suc k) x h = settled_at ns rank o c k x h
 -- the tokens of a case solve the block's equations, and nothing else does
 pub settled : (ns : List Node) (rank : ℕ → ℕ) → Ranked ns rank → (c : ℕ → Bool)
     → Solves ns c (fires ns c deepest)
-settled ns rank o c x = at_depth ns rank o c deepest x (let b : rank x < 160 = o.below x in
-    let e : deepest ≡ 160 = deepest_is in omega arith)
+settled ns rank o c x = at_depth ns rank o c deepest x (let b : rank x < most_nodes = o.below x in
+    let e : deepest ≡ most_nodes = deepest_is in omega arith)
 
 only_at : (ns : List Node) (rank : ℕ → ℕ) → Ranked ns rank → (c : ℕ → Bool) (h : ℕ → CaseToken)
     → Solves ns c h → (k x : ℕ) → rank x < k → h x ≡ fires ns c k x
@@ -125,8 +126,8 @@ only_at ns rank o c h s (suc k) x lt =
 
 pub only_one : (ns : List Node) (rank : ℕ → ℕ) → Ranked ns rank → (c : ℕ → Bool) (h : ℕ → CaseToken)
     → Solves ns c h → (x : ℕ) → h x ≡ fires ns c deepest x
-only_one ns rank o c h s x = only_at ns rank o c h s deepest x (let b : rank x < 160 = o.below x in
-    let e : deepest ≡ 160 = deepest_is in omega arith)
+only_one ns rank o c h s x = only_at ns rank o c h s deepest x (let b : rank x < most_nodes = o.below x in
+    let e : deepest ≡ most_nodes = deepest_is in omega arith)
 
 -- bits of higher rank change nothing
 pub same_below : (ns : List Node) (rank : ℕ → ℕ) → Ranked ns rank → (c d : ℕ → Bool) (r : ℕ)

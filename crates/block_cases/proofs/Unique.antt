@@ -9,6 +9,7 @@ use Rattle.trips_isa.specs.Rule.{Answer, rule}
 use Rattle.trips_isa.specs.Places.{targets}
 use Rattle.trips_isa.specs.Tables.{Computes, first, node_gives, IsTable, pulled, Edge, Ranked}
 use Rattle.trips_isa.specs.Tables.{IsRanked, deepest}
+use Rattle.trips_isa.specs.Limits.{most_nodes}
 use Rattle.block_cases.specs.Nodes.{hits}
 use Rattle.block_cases.specs.Cases.{weighed, tokens}
 use Rattle.block_cases.specs.Good.{OneToken}
@@ -49,7 +50,7 @@ only_at ns rank o a g t (suc k) x l =
 pub only_table : (ns : List Node) → IsRanked ns → (a : Computes) (g : ℕ → Answer) → IsTable ns a g
     → (x : ℕ) → g x ≡ pulled ns a deepest x
 only_table ns r a g t x = only_at ns r.0 r.1 a g t deepest x (let o : Ranked ns r.0 = r.1 in
-    let low : r.0 x < 160 = o.below x in let e : deepest ≡ 160 = deepest_is in omega arith)
+    let low : r.0 x < most_nodes = o.below x in let e : deepest ≡ most_nodes = deepest_is in omega arith)
 
 deeper_same : (ns : List Node) (rank : ℕ → ℕ) → Ranked ns rank → (a : Computes) (k m x : ℕ)
     → rank x < k → rank x < m → pulled ns a k x ≡ pulled ns a m x
@@ -69,7 +70,7 @@ reached ns rank o a (suc k) x h =
 pub pulled_is_table : (ns : List Node) → IsRanked ns → (a : Computes)
     → IsTable ns a (pulled ns a deepest)
 pulled_is_table ns r a x = reached ns r.0 r.1 a deepest x (let o : Ranked ns r.0 = r.1 in
-    let low : r.0 x < 160 = o.below x in let e : deepest ≡ 160 = deepest_is in omega arith)
+    let low : r.0 x < most_nodes = o.below x in let e : deepest ≡ most_nodes = deepest_is in omega arith)
 
 -- a node that fires names no place twice
 -- --------------------------------------------------------------

@@ -5,7 +5,7 @@ use Rattle.std.specs.Prelude.{◌∷◌, Option, Some, None, slice_get}
 use Rattle.trips_isa.specs.declared.form.Role.{Role}
 use Rattle.trips_isa.specs.declared.form.Role.TheVariants.{Copy}
 use Rattle.trips_isa.specs.declared.node.Node.{Node}
-use Rattle.trips_isa.specs.declared.places.TheConstants.{FIRST_WRITE}
+use Rattle.trips_isa.specs.PlaceNumbers.{first_write}
 use Rattle.trips_isa.specs.Tables.{deepest}
 use Rattle.block_cases.specs.Nodes.{targets, names}
 use Rattle.block_cases.specs.CaseRule.{no}
@@ -13,7 +13,7 @@ use Rattle.block_cases.specs.CaseRule.{no}
 -- whether one of some places is the predicate of a slot
 abbrev pub names_predicate : List ℕ → Bool
 names_predicate [] = false
-names_predicate (t ∷ ts) = (nat_le 256 t && nat_lt t FIRST_WRITE) || names_predicate ts
+names_predicate (t ∷ ts) = (nat_le 256 t && nat_lt t first_write) || names_predicate ts
 
 -- whether a role is that of `mov`, which gives on the token that it takes
 abbrev pub is_copy : Role → Bool

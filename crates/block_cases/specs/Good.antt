@@ -5,7 +5,7 @@ use Rattle.std.specs.Prelude.{◌≡◌, ℕ, ◌<◌, ◌≤◌, ◌⊎◌, Boo
 use Rattle.trips_isa.specs.declared.block.Sense.TheVariants.{Always}
 use Rattle.block_cases.specs.declared.token.CaseToken.{CaseToken}
 use Rattle.trips_isa.specs.declared.node.Node.{Node}
-use Rattle.trips_isa.specs.declared.places.TheConstants.{EXIT}
+use Rattle.trips_isa.specs.PlaceNumbers.{exit_place}
 use Rattle.block_cases.specs.Nodes.{targets, names, HasCycle, IsRanked}
 use Rattle.block_cases.specs.Cases.{cases, tokens, GetsTwo, GetsNone}
 use Rattle.block_cases.specs.Blocks.{nodes_of, wanted_of}
@@ -26,11 +26,11 @@ IsAcyclic ns = HasCycle ns → ⊥
 
 -- no place below the exit gets two tokens
 abbrev pub NoTwo : List Node → Type 0
-NoTwo ns = (q : ℕ) → q < EXIT → GetsTwo ns q → ⊥
+NoTwo ns = (q : ℕ) → q < exit_place → GetsTwo ns q → ⊥
 
 -- each declared write and number gets one
 abbrev pub NoGap : List Node → (ℕ → Bool) → Type 0
-NoGap ns wanted = (q : ℕ) → q < EXIT → wanted q ≡ true → GetsNone ns q → ⊥
+NoGap ns wanted = (q : ℕ) → q < exit_place → wanted q ≡ true → GetsNone ns q → ⊥
 
 -- no fault of the third to the eighth kind, where `wanted` says which writes and numbers are
 -- declared
@@ -44,18 +44,18 @@ pub record Good (ns : List Node) (wanted : ℕ → Bool) : Type 0 where
   -- the sixth, NoToken
   pub no_gap : NoGap ns wanted
   -- the seventh, NoExit
-  pub exit : GetsNone ns EXIT → ⊥
+  pub exit : GetsNone ns exit_place → ⊥
   -- the eighth, TwoExits
-  pub one_exit : GetsTwo ns EXIT → ⊥
+  pub one_exit : GetsTwo ns exit_place → ⊥
 
 -- no place gets two tokens, each write and number exactly one, and exactly one exit fires
 pub record OneToken (ns : List Node) (wanted : ℕ → Bool) (f : ℕ → CaseToken) : Type 0 where
   -- no place below the exit gets two
-  pub at_most : (q : ℕ) → q < EXIT → tokens ns f q ≤ 1
+  pub at_most : (q : ℕ) → q < exit_place → tokens ns f q ≤ 1
   -- each declared write and each number of the mask gets one
-  pub exactly : (q : ℕ) → q < EXIT → wanted q ≡ true → tokens ns f q ≡ 1
+  pub exactly : (q : ℕ) → q < exit_place → wanted q ≡ true → tokens ns f q ≡ 1
   -- one branch fires
-  pub exit : tokens ns f EXIT ≡ 1
+  pub exit : tokens ns f exit_place ≡ 1
 
 -- a good block: no fault of any kind, and with that an order of its nodes along their edges
 pub record GoodBlock (b : Block) : Type 0 where

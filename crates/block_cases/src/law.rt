@@ -2,7 +2,7 @@
 ghost use Rattle.std.specs.Prelude.{◌≡◌, ◌≢◌, ◌<◌, ◌≤◌, ℕ, List, Bool, true, Some, None, slice_get};
 ghost use Rattle.trips_isa.specs.declared.node.Node.{Node};
 ghost use Rattle.trips_isa.specs.declared.block.Block.{Block};
-ghost use Rattle.trips_isa.specs.declared.places.TheConstants.{PLACES};
+ghost use Rattle.trips_isa.specs.PlaceNumbers.{place_count};
 ghost use Rattle.trips_isa.specs.Fits.{FitsBlock};
 ghost use Rattle.trips_isa.specs.Rule.{Answer};
 ghost use Rattle.trips_isa.specs.Tables.{Computes, IsTable, pulled};
@@ -15,7 +15,7 @@ ghost use Rattle.block_cases.specs.Blocks.{nodes_of, wanted_of};
 ghost use Rattle.block_cases.specs.Good.{Good, GoodBlock, OneToken, IsPlaced, NamesPlace};
 ghost use Rattle.block_cases.specs.Shapes.{shape};
 
-/// Nodes without a cycle have one table, and depth 160 reaches it, whatever they compute.
+/// Nodes without a cycle have one table, and depth `deepest` reaches it, whatever they compute.
 pub fn tables_are_unique()
     ensures only { (ns : List Node) → IsRanked ns → (a : Computes) (g : ℕ → Answer) → IsTable ns a g
         → (x : ℕ) → g x ≡ pulled ns a deepest x }
@@ -23,7 +23,7 @@ pub fn tables_are_unique()
         → IsTable ns a (pulled ns a deepest) }
 {}
 
-/// In an entry state a block without a cycle has one table that agrees with itself, and depth 160
+/// In an entry state a block without a cycle has one table that agrees with itself, and depth `deepest`
 /// reaches it.
 pub fn entry_tables_are_unique()
     ensures only { (b : Block) → IsRanked (nodes_of b) → (regs mem : List ℕ) (g : ℕ → Answer)
@@ -43,7 +43,7 @@ pub fn tables_agree_with_a_case()
 /// The same with a bit for every node, a chooser or not: one producer for each place.
 pub fn any_bits_agree_with_a_case()
     ensures { (ns : List Node) (wanted : ℕ → Bool) → IsRanked ns → IsPlaced ns → Good ns wanted
-        → (bits : ℕ → Bool) (q x y : ℕ) → q < PLACES → NamesPlace ns x q → NamesPlace ns y q
+        → (bits : ℕ → Bool) (q x y : ℕ) → q < place_count → NamesPlace ns x q → NamesPlace ns y q
         → fires ns bits deepest x ≢ Absent → fires ns bits deepest y ≢ Absent → x ≡ y }
 {}
 
@@ -54,9 +54,9 @@ pub fn good_blocks_keep_one_token()
         → Solves b responses g → OneToken (nodes_of b) (wanted_of b) (λ x. shape (g x)) }
     ensures producers { (b : Block) → FitsBlock b → GoodBlock b
         → (responses : Responses) (g : ℕ → Answer)
-        → Solves b responses g → (q x y : ℕ) → q < PLACES → NamesPlace (nodes_of b) x q
+        → Solves b responses g → (q x y : ℕ) → q < place_count → NamesPlace (nodes_of b) x q
         → NamesPlace (nodes_of b) y q → g x ≢ None → g y ≢ None → x ≡ y }
     ensures once { (b : Block) → FitsBlock b → GoodBlock b → (responses : Responses) (g : ℕ → Answer)
-        → Solves b responses g → (q x : ℕ) (n : Node) → q < PLACES → slice_get (nodes_of b) x ≡ Some n
+        → Solves b responses g → (q x : ℕ) (n : Node) → q < place_count → slice_get (nodes_of b) x ≡ Some n
         → g x ≢ None → hits (targets n) q ≤ 1 }
 {}

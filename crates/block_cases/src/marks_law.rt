@@ -16,8 +16,8 @@ ghost use Rattle.block_cases.specs.Cases.{deepest};
 ghost use Rattle.block_cases.specs.Joint.{marked_of};
 ghost use Rattle.block_cases.specs.Plain.{plain_step, plain_runs, next_cause, next_faults};
 
-/// Beside any fixed table of tokens a block without a cycle has one marking, and depth 160 reaches
-/// it; marks that are pulled side by side with the tokens, both 160 deep, are those beside the
+/// Beside any fixed table of tokens a block without a cycle has one marking, and depth `deepest` reaches
+/// it; marks that are pulled side by side with the tokens, both that deep, are those beside the
 /// whole table.
 pub fn markings_are_unique()
     ensures only { (b : Block) → IsRanked (nodes_of b) → (g : ℕ → Answer) (m : ℕ → ℕ)

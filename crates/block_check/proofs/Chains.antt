@@ -3,6 +3,7 @@ use Rattle.std.proofs.Common.{◌≡◌, ℕ, zero, suc, ◌+◌, ◌<◌, ◌�
 use Rattle.std.proofs.Common.{inl, inr, List, [], ◌∷◌, length, take, Option, Some, None, slice_get}
 use Rattle.std.proofs.Common.{refl, sym, ap, ap₂, ◌∙◌, arith, nat_lt, ◌==◌}
 use Rattle.trips_isa.specs.declared.node.Node.{Node}
+use Rattle.trips_isa.specs.Limits.{most_nodes}
 use Rattle.block_cases.specs.Nodes.{targets, names, Edge, Ranked, IsRanked}
 use Rattle.block_cases.specs.Choosers.{is_copy, names_predicate, asks, through, leads_from, leads}
 use Rattle.block_cases.specs.Cases.{bit}
@@ -193,28 +194,28 @@ leads_same ns x f g h = go (slice_get ns x) refl
 
 -- what holds still under a step is what all chains say
 only_led : (ns : List Node) (rank : ℕ → ℕ) → Ranked ns rank → (f : ℕ → Bool) → ((x : ℕ) →
-    f x ≡ leads_from ns (slice_get ns x) f) → (k x : ℕ) → 160 ≤ rank x + k → f x ≡ leads ns k x
-only_led ns rank o f s zero x h = absurd (let b : rank x < 160 = o.below x in omega arith)
+    f x ≡ leads_from ns (slice_get ns x) f) → (k x : ℕ) → most_nodes ≤ rank x + k → f x ≡ leads ns k x
+only_led ns rank o f s zero x h = absurd (let b : rank x < most_nodes = o.below x in omega arith)
 only_led ns rank o f s (suc k) x h =
     s x ∙ leads_same ns x f (leads ns k) (λ y e. let up : rank x < rank y = o.rises x y e in
     only_led ns rank o f s k y (omega arith))
 
 -- and so is what many steps give, from any guess
 many_led : (ns : List Node) (rank : ℕ → ℕ) → Ranked ns rank → (f : ℕ → Bool) (k m x : ℕ) →
-    160 ≤ rank x + k → 160 ≤ rank x + m → led_from ns f k x ≡ leads ns m x
-many_led ns rank o f zero m x h i = absurd (let b : rank x < 160 = o.below x in omega arith)
-many_led ns rank o f (suc k) zero x h i = absurd (let b : rank x < 160 = o.below x in omega arith)
+    most_nodes ≤ rank x + k → most_nodes ≤ rank x + m → led_from ns f k x ≡ leads ns m x
+many_led ns rank o f zero m x h i = absurd (let b : rank x < most_nodes = o.below x in omega arith)
+many_led ns rank o f (suc k) zero x h i = absurd (let b : rank x < most_nodes = o.below x in omega arith)
 many_led ns rank o f (suc k) (suc m) x h i =
     leads_same ns x (led_from ns f k) (leads ns m) (λ y e. let up : rank x < rank y = o.rises x y e in
     many_led ns rank o f k m y (omega arith) (omega arith))
 
-pub all_led : (ns : List Node) → IsRanked ns → (k : ℕ) (f g : ℕ → Bool) → k ≤ 160 → ((x : ℕ) →
-    g x ≡ led_from ns f k x) → ((x : ℕ) → g x ≡ leads_from ns (slice_get ns x) g) ⊎ (160 ≤ k) →
+pub all_led : (ns : List Node) → IsRanked ns → (k : ℕ) (f g : ℕ → Bool) → k ≤ most_nodes → ((x : ℕ) →
+    g x ≡ led_from ns f k x) → ((x : ℕ) → g x ≡ leads_from ns (slice_get ns x) g) ⊎ (most_nodes ≤ k) →
     (x : ℕ) → g x ≡ leads ns deepest x
-all_led ns r k f g le e (inl s) x = only_led ns r.0 r.1 g s deepest x (let d : deepest ≡ 160 =
+all_led ns r k f g le e (inl s) x = only_led ns r.0 r.1 g s deepest x (let d : deepest ≡ most_nodes =
     deepest_is in omega arith)
 all_led ns r k f g le e (inr all) x = e x ∙ many_led ns r.0 r.1 f k deepest x (omega arith) (let d
-    : deepest ≡ 160 = deepest_is in omega arith)
+    : deepest ≡ most_nodes = deepest_is in omega arith)
 
 pub mark_more : (ns : List Node) (x : ℕ) (n : Node) (s : ℕ) (f : ℕ → Bool) (old new : Bool) →
     slice_get ns x ≡ Some n → old ≡ at_slot (take x ns) s f →

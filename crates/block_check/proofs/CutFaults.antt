@@ -4,7 +4,7 @@ use Rattle.std.proofs.Common.{nat_lt, nat_le, ◌==◌, List, [], ◌∷◌, len
 use Rattle.std.proofs.Common.{Some, None, slice_get, refl, sym, ap, ap₂, ◌∙◌, subst, arith}
 use Rattle.std.proofs.Common.{true≢false}
 use Rattle.trips_isa.specs.declared.node.Node.{Node}
-use Rattle.trips_isa.specs.declared.places.TheConstants.{NO_PLACE}
+use Rattle.trips_isa.specs.PlaceNumbers.{no_place}
 use Rattle.block_cases.specs.Nodes.{names, stores_below, feeds, Edge, Walk, Step, Then}
 use Rattle.block_cases.specs.Nodes.{HasCycle}
 use Rattle.block_cases.specs.Cases.{cases, GetsTwo, GetsNone}
@@ -19,10 +19,10 @@ use Rattle.block_check.proofs.Cutting.{get_low, get_high, some_cut, some_full, c
 
 -- no place from which a node takes a token, or whose store it sees, is the number of no place
 pub record Hears (m : Node) : Type 0 where
-  pub left : NO_PLACE ≡ m.slot → ⊥
-  pub right : NO_PLACE ≡ 128 + m.slot → ⊥
-  pub guard : NO_PLACE ≡ 256 + m.slot → ⊥
-  pub below : m.below ≤ NO_PLACE
+  pub left : no_place ≡ m.slot → ⊥
+  pub right : no_place ≡ 128 + m.slot → ⊥
+  pub guard : no_place ≡ 256 + m.slot → ⊥
+  pub below : m.below ≤ no_place
 
 -- the nodes from u on are empty slots
 pub record CutAt (ns : List Node) (u : ℕ) : Type 0 where
@@ -31,23 +31,23 @@ pub record CutAt (ns : List Node) (u : ℕ) : Type 0 where
   pub hears : (x : ℕ) (m : Node) → slice_get ns x ≡ Some m → Hears m
 
 -- an empty slot feeds nothing
-unnamed : (a b q : ℕ) → a ≡ NO_PLACE → b ≡ NO_PLACE → (NO_PLACE ≡ q → ⊥) → names (a ∷ b ∷ []) q ≡ false
+unnamed : (a b q : ℕ) → a ≡ no_place → b ≡ no_place → (no_place ≡ q → ⊥) → names (a ∷ b ∷ []) q ≡ false
 unnamed a b q x y h = ap₂ (λ v w. v || (w || false)) (apart a x) (apart b y)
   where
-    apart : (t : ℕ) → t ≡ NO_PLACE → (t == q) ≡ false
+    apart : (t : ℕ) → t ≡ no_place → (t == q) ≡ false
     apart t e = not_true _ (λ i. h (sym e ∙ eq_is t q i))
 
-unseen : (a b m : ℕ) → a ≡ NO_PLACE → b ≡ NO_PLACE → m ≤ NO_PLACE → stores_below (a ∷ b ∷ []) m ≡ false
+unseen : (a b m : ℕ) → a ≡ no_place → b ≡ no_place → m ≤ no_place → stores_below (a ∷ b ∷ []) m ≡ false
 unseen a b m x y h = ap₂ (λ v w. v || (w || false)) (late a x) (late b y)
   where
-    high : (t : ℕ) → t ≡ NO_PLACE → nat_lt t m ≡ false
+    high : (t : ℕ) → t ≡ no_place → nat_lt t m ≡ false
     high t e = let le : m ≤ t = omega arith in grind arith
 
     none : (v : Bool) → (v && false) ≡ false
     none true = refl
     none false = refl
 
-    late : (t : ℕ) → t ≡ NO_PLACE → (nat_le 416 t && nat_lt t m) ≡ false
+    late : (t : ℕ) → t ≡ no_place → (nat_le 416 t && nat_lt t m) ≡ false
     late t e = ap (λ v. nat_le 416 t && v) (high t e) ∙ none (nat_le 416 t)
 
 spare_feeds : (n m : Node) → IsSpare n → Hears m → feeds n m ≡ false

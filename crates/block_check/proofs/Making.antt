@@ -10,6 +10,7 @@ use Rattle.trips_isa.specs.declared.block.Block.{Block}
 use Rattle.trips_isa.specs.declared.block.Image.{Image}
 use Rattle.trips_isa.specs.Fits.{FitsBlock}
 use Rattle.trips_isa.specs.Images.{chunks, chunk_of, starting_at, FitsImage}
+use Rattle.trips_isa.specs.Limits.{most_chunks}
 use Rattle.block_check.specs.declared.refusal.ImageRefusal.{ImageRefusal}
 use Rattle.block_check.specs.declared.refusal.ImageRefusal.TheVariants as refusal
 use Rattle.block_check.specs.IsChecked.{IsChecked}
@@ -53,7 +54,7 @@ pub turn_count : (image : Image) (done queue rest : List Block) (b : Block) → 
 turn_count image done queue rest b f w q =
     let s = done_short image done queue rest b w q in
     let l = sum_least image.blocks in
-    let t : sum_by chunks image.blocks ≤ 524288 = f.total in
+    let t : sum_by chunks image.blocks ≤ most_chunks = f.total in
     omega (arith, s, l, t)
 
 pub turn_room : (image : Image) (done queue rest : List Block) (b : Block) (next : ℕ) →
@@ -61,7 +62,7 @@ pub turn_room : (image : Image) (done queue rest : List Block) (b : Block) (next
 turn_room image done queue rest b next f w n =
     let l = sum_front done queue in
     let e : sum_by chunks (done ++ queue) ≡ sum_by chunks image.blocks = ap (sum_by chunks) w in
-    let t : sum_by chunks image.blocks ≤ 524288 = f.total in
+    let t : sum_by chunks image.blocks ≤ most_chunks = f.total in
     omega (arith, l, e, t, n)
 
 pub turn_whole : (image : Image) (done queue rest new : List Block) (b : Block) →
@@ -122,7 +123,7 @@ turn_bad image done queue rest b (refusal.Bad number fault) w q each bad = recor
 
 pub small_count : (image : Image) → FitsImage image → length image.blocks < 2 ^ 32
 small_count image f = let l = sum_least image.blocks in
-    let t : sum_by chunks image.blocks ≤ 524288 = f.total in omega (arith, l, t)
+    let t : sum_by chunks image.blocks ≤ most_chunks = f.total in omega (arith, l, t)
 
 pub indexed_length : (blocks : List Block) (starts bytes : List ℕ) (image : Image) →
     IsIndexed blocks starts bytes → image_of blocks bytes ≡ image →

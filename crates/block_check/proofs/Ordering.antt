@@ -3,6 +3,7 @@ use Rattle.std.proofs.Common.{◌≡◌, ℕ, zero, suc, ◌+◌, ◌<◌, ◌�
 use Rattle.std.proofs.Common.{inl, inr, List, [], ◌∷◌, length, get_or, Some, slice_get, slice_set}
 use Rattle.std.proofs.Common.{refl, sym, ap, ◌∙◌, subst, arith, nat_lt, ◌==◌, true≢false}
 use Rattle.trips_isa.specs.declared.node.Node.{Node}
+use Rattle.trips_isa.specs.Limits.{most_nodes}
 use Rattle.block_cases.specs.Nodes.{names, feeds, one_if, Edge}
 use Rattle.block_check.specs.inside.Walk.{Sorted}
 use Rattle.block_check.specs.inside.PartOrder.{unplaced, Placed, PartOrder, IsOrdered}
@@ -53,7 +54,7 @@ below_255 : (r : ℕ) → r ≤ 255 → (r ≡ 255 → ⊥) → r < 255
 below_255 r le ne = near r 255 (omega arith) ne
 
 pub placing_more : (ns : List Node) (ranks order ranks' order' : List ℕ) (placed x : ℕ) (n : Node) →
-    PartOrder ns ranks order placed → length ns ≤ 160 → x < length ns → slice_get ns x ≡ Some n →
+    PartOrder ns ranks order placed → length ns ≤ most_nodes → x < length ns → slice_get ns x ≡ Some n →
     get_or ranks x 0 ≡ 255 →
     ((y : ℕ) (m : Node) → slice_get ns y ≡ Some m → get_or ranks y 0 ≡ 255 → feeds m n ≡ false) →
     ranks' ≡ slice_set ranks x placed → order' ≡ slice_set order placed x →
@@ -240,7 +241,7 @@ default_any (a ∷ l) zero d h = refl
 default_any (a ∷ l) (suc k) d h = default_any l k d (omega arith)
 
 pub all_ordered : (ns : List Node) (ranks order : List ℕ) (placed : ℕ) →
-    PartOrder ns ranks order placed → length ns ≤ 160 → placed ≡ length ns → IsOrdered ns order
+    PartOrder ns ranks order placed → length ns ≤ most_nodes → placed ≡ length ns → IsOrdered ns order
 all_ordered ns ranks order placed p size e = (
   λ x. get_or ranks x 0,
   record {
@@ -265,7 +266,7 @@ all_ordered ns ranks order placed p size e = (
     ranked x = below_255 _ (p.either x) (none_left ranks (let l : placed + unplaced ranks ≡ length
         ns = p.left in omega (arith, e)) x)
 
-    low : (x : ℕ) (b : Bool) → nat_lt x (length ns) ≡ b → get_or ranks x 0 < 160
+    low : (x : ℕ) (b : Bool) → nat_lt x (length ns) ≡ b → get_or ranks x 0 < most_nodes
     low x true i = let lt : x < length ns = grind arith in
         let w : get_or ranks x 0 < placed = (p.ranked x lt (ranked x)).below in omega (arith, w, e)
     low x false i = let le : length ns ≤ x = grind arith in

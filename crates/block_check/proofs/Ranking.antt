@@ -7,6 +7,7 @@ use Rattle.trips_isa.specs.declared.block.ReadSlot.{ReadSlot}
 use Rattle.trips_isa.specs.declared.block.Block.{Block}
 use Rattle.trips_isa.specs.declared.node.Node.{Node}
 use Rattle.trips_isa.specs.Fits.{FitsBlock}
+use Rattle.trips_isa.specs.Limits.{most_nodes}
 use Rattle.block_cases.specs.Nodes.{feeds, IsRanked}
 use Rattle.block_cases.specs.Blocks.{read_node, inst_nodes, nodes_of}
 use Rattle.block_cases.specs.Good.{IsAcyclic}
@@ -112,7 +113,7 @@ pick ns ranks (suc end) le = go (pick ns ranks end (omega arith)) (some_node ns 
               fed = ap (λ (v : Node). feeds f.1 v) (sym (one n i)) ∙ f.4;
             }))
 
-ranked_from : (ns : List Node) → length ns ≤ 160 → IsAcyclic ns → (left : ℕ) (ranks order : List ℕ)
+ranked_from : (ns : List Node) → length ns ≤ most_nodes → IsAcyclic ns → (left : ℕ) (ranks order : List ℕ)
     (placed : ℕ) → PartOrder ns ranks order placed → placed + left ≡ length ns → IsRanked ns
 ranked_from ns size a zero ranks order placed p e =
     let o = all_ordered ns ranks order placed p size (omega arith) in
@@ -142,7 +143,7 @@ copies_at zero v k lt = absurd (omega arith)
 copies_at (suc n) v zero lt = refl
 copies_at (suc n) v (suc k) lt = copies_at n v k (omega arith)
 
-pub acyclic_ranked : (ns : List Node) → length ns ≤ 160 → IsAcyclic ns → IsRanked ns
+pub acyclic_ranked : (ns : List Node) → length ns ≤ most_nodes → IsAcyclic ns → IsRanked ns
 acyclic_ranked ns size a = ranked_from ns size a (length ns) (copies (length ns) 255) (copies
     (length ns) 0) 0 (placing_none ns (copies (length ns) 255) (copies (length ns) 0)
     (copies_length (length ns) 255) (copies_length (length ns) 0) (λ k lt. copies_at (length ns)
@@ -157,7 +158,7 @@ pub nodes_count : (rs : List ReadSlot) (rest : List Node) →
 nodes_count [] rest = sym (omega arith)
 nodes_count (r ∷ rs) rest = let h = nodes_count rs rest in omega (arith, h)
 
-pub nodes_few : (b : Block) → FitsBlock b → length (nodes_of b) ≤ 160
+pub nodes_few : (b : Block) → FitsBlock b → length (nodes_of b) ≤ most_nodes
 nodes_few b f =
     let a = nodes_count b.reads.items (inst_nodes 0 b.insts.items) in
     let s = insts_count 0 b.insts.items in

@@ -6,6 +6,7 @@ use Rattle.std.proofs.lemmas.Option.{get_or_from_slice_get}
 use Rattle.block_cases.specs.declared.token.CaseToken.{CaseToken}
 use Rattle.block_cases.specs.declared.token.CaseToken.TheVariants.{Absent}
 use Rattle.trips_isa.specs.declared.node.Node.{Node}
+use Rattle.trips_isa.specs.Limits.{most_nodes}
 use Rattle.block_cases.specs.Nodes.{targets, names, Ranked}
 use Rattle.block_cases.specs.CaseRule.{taken, or_else, first, pulled, fires}
 use Rattle.block_cases.specs.Cases.{deepest}
@@ -106,11 +107,11 @@ rounds_are ns rank o c h (suc k) (suc m) x lt le = pulled_same ns x (c x) (round
     rounds_are ns rank o c h k m y (omega arith) (omega arith))
 
 pub settled_from : (ns : List Node) (r : (rank : ℕ → ℕ) × Ranked ns rank) (c : ℕ → Bool) (h g : ℕ →
-    CaseToken) (k : ℕ) → ((x : ℕ) → g x ≡ rounds_from ns c h k x) → k ≤ 160 → ((x : ℕ) →
-    g x ≡ once ns c g x) ⊎ (160 ≤ k) → (x : ℕ) → g x ≡ fires ns c deepest x
+    CaseToken) (k : ℕ) → ((x : ℕ) → g x ≡ rounds_from ns c h k x) → k ≤ most_nodes → ((x : ℕ) →
+    g x ≡ once ns c g x) ⊎ (most_nodes ≤ k) → (x : ℕ) → g x ≡ fires ns c deepest x
 settled_from ns r c h g k e le (inl s) x = only_one ns r.0 r.1 c g s x
 settled_from ns r c h g k e le (inr all) x = e x ∙ rounds_are ns r.0 r.1 c h k deepest x (let b :
-    r.0 x < 160 = r.1.below x in omega arith) (let d : deepest ≡ 160 = deepest_is in omega arith)
+    r.0 x < most_nodes = r.1.below x in omega arith) (let d : deepest ≡ most_nodes = deepest_is in omega arith)
 
 pub spread_more : (ns : List Node) (x k : ℕ) (n : Node) (q : ℕ) (f : ℕ →
     CaseToken) (t u v : CaseToken) → slice_get ns k ≡ Some n → t ≡ f k → suc k ≡ x →

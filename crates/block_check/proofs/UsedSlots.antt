@@ -9,7 +9,7 @@ use Rattle.trips_isa.specs.declared.block.Block.{Block}
 use Rattle.trips_isa.specs.declared.form.Form.{Form}
 use Rattle.trips_isa.specs.declared.form.Form.TheVariants as form
 use Rattle.trips_isa.specs.declared.node.Node.{Node}
-use Rattle.trips_isa.specs.declared.places.TheConstants.{FIRST_WRITE, NO_PLACE}
+use Rattle.trips_isa.specs.PlaceNumbers.{first_write, no_place}
 use Rattle.trips_isa.specs.Fits.{FitsForm, FitsSlot, FitsBlock}
 use Rattle.block_cases.specs.Nodes.{IsRanked}
 use Rattle.block_cases.specs.Blocks.{form_of, load_bound, read_node, inst_node, inst_nodes, nodes_of}
@@ -100,7 +100,7 @@ reads_spare (r ∷ rs) is used h zero n le e = absurd (omega arith)
 reads_spare (r ∷ rs) is used h (suc x) n le e = reads_spare rs is used h x n (omega arith) e
 
 -- what nodes of a block that fits take tokens from
-low_bound : (f : Form) (i : Inst) → FitsForm f i → load_bound f i.number ≤ NO_PLACE
+low_bound : (f : Form) (i : Inst) → FitsForm f i → load_bound f i.number ≤ no_place
 low_bound form.General i h = omega arith
 low_bound form.Immediate i h = omega arith
 low_bound form.Load i h = let l : i.number < 32 = h.2 in omega arith
@@ -160,8 +160,8 @@ cut_at b used f w h = record {
 }
 
 -- the verdict
-pub unwanted : (b : Block) (q : ℕ) → q < FIRST_WRITE → wanted_of b q ≡ false
-unwanted b q lt = not_true _ (λ e. let l : FIRST_WRITE ≤ q = wanted_high b q e in omega (arith, l, lt))
+pub unwanted : (b : Block) (q : ℕ) → q < first_write → wanted_of b q ≡ false
+unwanted b q lt = not_true _ (λ e. let l : first_write ≤ q = wanted_high b q e in omega (arith, l, lt))
 
 pub ok_whole : (b : Block) (used : ℕ) → FitsBlock b → used ≤ 128 → IsEmptyFrom b used →
     (r : Result (Unit {0}) NodeFault) (ms : List Node) (w : List Bool) → ms ≡ nodes_below b used →

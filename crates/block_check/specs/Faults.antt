@@ -4,7 +4,7 @@ use Rattle.trips_isa.specs.declared.block.Spot.{Spot}
 use Rattle.trips_isa.specs.declared.block.Spot.TheVariants.{Read, Inst, Left, Right, Pred, Write}
 use Rattle.trips_isa.specs.declared.block.Spot.TheVariants.{Store}
 use Rattle.trips_isa.specs.declared.block.Block.{Block}
-use Rattle.trips_isa.specs.declared.places.TheConstants.{EXIT}
+use Rattle.trips_isa.specs.PlaceNumbers.{exit_place}
 use Rattle.block_cases.specs.Nodes.{HasCycle}
 use Rattle.block_cases.specs.Cases.{cases, GetsTwo, GetsNone}
 use Rattle.block_cases.specs.Blocks.{place_of, in_mask, nodes_of}
@@ -49,8 +49,8 @@ HasFault b Cycle = HasCycle (nodes_of b)
 HasFault b TooManyCases = 256 < cases (nodes_of b)
 HasFault b (TwoTokens s) = TakesTokens s × GetsTwo (nodes_of b) (place_of s)
 HasFault b (NoToken s) = IsOwed b s × GetsNone (nodes_of b) (place_of s)
-HasFault b NoExit = GetsNone (nodes_of b) EXIT
-HasFault b TwoExits = GetsTwo (nodes_of b) EXIT
+HasFault b NoExit = GetsNone (nodes_of b) exit_place
+HasFault b TwoExits = GetsTwo (nodes_of b) exit_place
 
 -- spots stand in the order of their variants, then of their numbers
 abbrev pub spot_order : Spot → ℕ

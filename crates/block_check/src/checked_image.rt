@@ -6,6 +6,7 @@ ghost use Rattle.trips_isa.specs.Fits.{FitsBlock};
 ghost use Rattle.trips_isa.specs.Alu.{word};
 ghost use Rattle.trips_isa.specs.Images.{chunks, chunk_of, starting_at, block_at, FitsImage};
 ghost use Rattle.trips_isa.specs.Outcomes.{to_following, to_offset};
+ghost use Rattle.trips_isa.specs.Limits.{most_chunks};
 ghost use Rattle.block_check.specs.Faults.{IsLowestFault};
 ghost use Rattle.block_check.specs.IsChecked.{IsChecked};
 ghost use Rattle.block_check.specs.Images.{IsCheckedImage, IsRefusal};
@@ -128,7 +129,7 @@ fn copy_blocks(alloc: Global, blocks: &[CheckedBlock]) -> Result<Vec<Block>, All
 
 // The chunk, or one at which no block of an image starts where none starts at this one.
 fn capped(chunk: u64) -> u32
-    ensures { (blocks : List Block) → sum_by chunks blocks ≤ 524288
+    ensures { (blocks : List Block) → sum_by chunks blocks ≤ most_chunks
         → block_at blocks result ≡ block_at blocks chunk }
 {
     if chunk < 524_288 {

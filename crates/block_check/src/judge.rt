@@ -9,6 +9,7 @@ ghost use Rattle.block_check.specs.inside.PartOrder.{IsOrdered};
 ghost use Rattle.block_check.specs.inside.Found.{Explored};
 ghost use Rattle.block_cases.specs.Good.{Good};
 ghost use Rattle.block_check.specs.inside.Judged.{IsFault, FalseBelow};
+ghost use Rattle.trips_isa.specs.Limits.{most_nodes};
 
 use crate::fault::NodeFault;
 use crate::order::sort;
@@ -112,7 +113,7 @@ fn count_used(nodes: &[Node]) -> usize
 }
 
 fn judge_ordered(nodes: &[Node], order: &[usize], wanted: &[bool]) -> Result<(), NodeFault>
-    requires size { length nodes.now ≤ 160 }
+    requires size { length nodes.now ≤ most_nodes }
     requires in_place { AllInPlace nodes.now }
     requires ordered { IsOrdered nodes.now order.now }
     requires wanted { length wanted.now ≡ PLACES }
@@ -131,7 +132,7 @@ fn judge_ordered(nodes: &[Node], order: &[usize], wanted: &[bool]) -> Result<(),
 
 /// Whether nodes are good; else their fault with the lowest number, at the least place.
 pub(crate) fn judge(nodes: &[Node], wanted: &[bool]) -> Result<(), NodeFault>
-    requires size { length nodes.now ≤ 160 }
+    requires size { length nodes.now ≤ most_nodes }
     requires in_place { AllInPlace nodes.now }
     requires wanted { length wanted.now ≡ PLACES }
     requires low { FalseBelow FIRST_WRITE wanted.now }

@@ -8,6 +8,7 @@ ghost use Rattle.block_check.specs.inside.Pass.{InPlace, AllInPlace};
 ghost use Rattle.block_check.specs.inside.PartOrder.{Stuck, PartOrder, AllStuck, IsOrdered, unplaced};
 ghost use Rattle.block_check.specs.inside.PartOrder.{Counting};
 ghost use Rattle.trips_isa.specs.declared.node.Node.{Node};
+ghost use Rattle.trips_isa.specs.Limits.{most_nodes};
 
 use crate::search::count_tokens;
 use block_cases::CaseToken;
@@ -92,7 +93,7 @@ fn try_place(
     placed: usize,
     x: usize,
 ) -> usize
-    requires size { length nodes.now ≤ 160 }
+    requires size { length nodes.now ≤ most_nodes }
     requires in_place { AllInPlace nodes.now }
     requires counts { length counts.old ≡ 768 }
     requires counting { Counting nodes.now ranks.old counts.old }
@@ -125,7 +126,7 @@ fn pass(
     counts: &mut [u16],
     before: usize,
 ) -> usize
-    requires size { length nodes.now ≤ 160 }
+    requires size { length nodes.now ≤ most_nodes }
     requires in_place { AllInPlace nodes.now }
     requires counts { length counts.old ≡ 768 }
     requires counting { Counting nodes.now ranks.old counts.old }
@@ -162,7 +163,7 @@ fn try_consumer(
     placed: usize,
     place: u16,
 ) -> usize
-    requires size { length nodes.now ≤ 160 }
+    requires size { length nodes.now ≤ most_nodes }
     requires in_place { AllInPlace nodes.now }
     requires counts { length counts.old ≡ 768 }
     requires counting { Counting nodes.now ranks.old counts.old }
@@ -187,7 +188,7 @@ fn follow(
     counts: &mut [u16],
     before: usize,
 ) -> usize
-    requires size { length nodes.now ≤ 160 }
+    requires size { length nodes.now ≤ most_nodes }
     requires in_place { AllInPlace nodes.now }
     requires counts { length counts.old ≡ 768 }
     requires counting { Counting nodes.now ranks.old counts.old }
@@ -209,7 +210,7 @@ fn follow(
 
 /// Places what can be placed.
 fn place_all(nodes: &[Node], ranks: &mut [u8], order: &mut [usize], counts: &mut [u16]) -> usize
-    requires size { length nodes.now ≤ 160 }
+    requires size { length nodes.now ≤ most_nodes }
     requires in_place { AllInPlace nodes.now }
     requires counts { length counts.old ≡ 768 }
     requires counting { Counting nodes.now ranks.old counts.old }
@@ -229,7 +230,7 @@ fn place_all(nodes: &[Node], ranks: &mut [u8], order: &mut [usize], counts: &mut
 }
 
 fn count_with(nodes: &[Node], toks: &mut [CaseToken], counts: &mut [u16])
-    requires size { length nodes.now ≤ 160 }
+    requires size { length nodes.now ≤ most_nodes }
     requires in_place { AllInPlace nodes.now }
     requires toks { length toks.old ≡ length nodes.now }
     requires counts { length counts.old ≡ 768 }
@@ -244,7 +245,7 @@ fn count_with(nodes: &[Node], toks: &mut [CaseToken], counts: &mut [u16])
 
 /// Counts the targets that name each place.
 fn count_all(nodes: &[Node], counts: &mut [u16])
-    requires size { length nodes.now ≤ 160 }
+    requires size { length nodes.now ≤ most_nodes }
     requires in_place { AllInPlace nodes.now }
     requires counts { length counts.old ≡ 768 }
     ensures { (ranks : List ℕ) → ((k : ℕ) → k < length nodes.now → slice_index ranks k ≡ 255) →
@@ -255,7 +256,7 @@ fn count_all(nodes: &[Node], counts: &mut [u16])
 }
 
 fn sort_by(nodes: &[Node], ranks: &mut [u8], order: &mut [usize], counts: &mut [u16]) -> bool
-    requires size { length nodes.now ≤ 160 }
+    requires size { length nodes.now ≤ most_nodes }
     requires in_place { AllInPlace nodes.now }
     requires counts { length counts.old ≡ 768 }
     requires order { length order.old ≡ length nodes.now }
@@ -273,7 +274,7 @@ fn sort_by(nodes: &[Node], ranks: &mut [u8], order: &mut [usize], counts: &mut [
 
 /// An order of the nodes; false where they have a cycle.
 pub(crate) fn sort(nodes: &[Node], order: &mut [usize]) -> bool
-    requires size { length nodes.now ≤ 160 }
+    requires size { length nodes.now ≤ most_nodes }
     requires in_place { AllInPlace nodes.now }
     requires order { length order.old ≡ length nodes.now }
     ensures ordered { result ≡ true → IsOrdered nodes.now order.new }

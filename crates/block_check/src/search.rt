@@ -7,6 +7,7 @@ ghost use Rattle.block_cases.specs.Cases.{bit, token, tokens, present};
 ghost use Rattle.block_check.specs.inside.PartOrder.{IsOrdered};
 ghost use Rattle.block_check.specs.inside.Pass.{InPlace, AllInPlace, Spare, AbsentFrom, tok_at};
 ghost use Rattle.block_check.specs.inside.Found.{Explored, Added, Choosing, others};
+ghost use Rattle.trips_isa.specs.Limits.{most_nodes};
 
 use crate::chooser::find_choosers;
 use crate::pass::run;
@@ -36,7 +37,7 @@ fn add_tokens(counts: &mut [u16], node: Node)
 
 /// How many tokens each place gets.
 pub(crate) fn count_tokens(nodes: &[Node], used: usize, toks: &[CaseToken], counts: &mut [u16])
-    requires size { length nodes.now ≤ 160 }
+    requires size { length nodes.now ≤ most_nodes }
     requires in_place { AllInPlace nodes.now }
     requires used { used ≤ length nodes.now }
     requires toks { length toks.now ≡ length nodes.now }
@@ -110,7 +111,7 @@ fn see_tokens(nodes: &[Node], used: usize, toks: &[CaseToken], seen: &mut [u8])
 
 /// Marks the places that get two tokens, and those that get none.
 fn mark(nodes: &[Node], used: usize, toks: &[CaseToken], two: &mut [bool], none: &mut [bool])
-    requires size { length nodes.now ≤ 160 }
+    requires size { length nodes.now ≤ most_nodes }
     requires in_place { AllInPlace nodes.now }
     requires used { used ≤ length nodes.now }
     requires toks { length toks.now ≡ length nodes.now }
@@ -142,7 +143,7 @@ fn visit(
     two: &mut [bool],
     none: &mut [bool],
 ) -> usize
-    requires size { length nodes.now ≤ 160 }
+    requires size { length nodes.now ≤ most_nodes }
     requires ranked { IsRanked nodes.now }
     requires in_place { AllInPlace nodes.now }
     requires used { used ≤ length nodes.now }
@@ -201,7 +202,7 @@ fn search(
     two: &mut [bool],
     none: &mut [bool],
 ) -> usize
-    requires size { length nodes.now ≤ 160 }
+    requires size { length nodes.now ≤ most_nodes }
     requires ranked { IsRanked nodes.now }
     requires in_place { AllInPlace nodes.now }
     requires used { used ≤ length nodes.now }
@@ -276,7 +277,7 @@ fn explore_from(
     two: &mut [bool],
     none: &mut [bool],
 ) -> usize
-    requires size { length nodes.now ≤ 160 }
+    requires size { length nodes.now ≤ most_nodes }
     requires ordered { IsOrdered nodes.now order.now }
     requires in_place { AllInPlace nodes.now }
     requires used { used ≤ length nodes.now }
@@ -312,7 +313,7 @@ pub(crate) fn explore(
     two: &mut [bool],
     none: &mut [bool],
 ) -> usize
-    requires size { length nodes.now ≤ 160 }
+    requires size { length nodes.now ≤ most_nodes }
     requires ordered { IsOrdered nodes.now order.now }
     requires in_place { AllInPlace nodes.now }
     requires used { used ≤ length nodes.now }

@@ -15,6 +15,7 @@ use Rattle.block_image.specs.Headers.{words_from, info_of}
 use Rattle.block_image.specs.HeaderReading.{info_from, mask_in, reads_in, writes_in, chunks_in}
 use Rattle.block_image.specs.HeaderReading.{is_good_info, first_bad, read_at, write_at}
 use Rattle.trips_isa.specs.declared.block.Block.{Block}
+use Rattle.trips_isa.specs.Limits.{most_chunks}
 use Rattle.block_image.proofs.Each.{Each, AreBytes, each_take, each_both, each_of, all_of}
 use Rattle.block_image.specs.Spelling.{words_bytes, chunks_of, block_bytes}
 use Rattle.block_image.specs.Reading.{all_empty, ◌>>=◌, Slots, chunk_at, body_at, fault_at}
@@ -34,7 +35,7 @@ use Rattle.block_image.proofs.Chunks.{empty_is}
 -- A block that was read: it fits, the total is kept, and its bytes stand there.
 pub record BlockTaken (total at : ℕ) (bytes : List ℕ) (b : Block) : Type 0 where
   pub fits : FitsBlock b
-  pub total_is : total + 1 + chunks_of b.insts.items ≤ 524288
+  pub total_is : total + 1 + chunks_of b.insts.items ≤ most_chunks
   pub inside : at + 128 + 128 * chunks_of b.insts.items ≤ length bytes
   pub spelled : drop at bytes ≡ block_bytes b ++ drop
       (at + 128 + 128 * chunks_of b.insts.items) bytes
@@ -54,7 +55,7 @@ each_none (suc n) = (tt, each_none n)
 pub record HeaderTaken (total info : ℕ) (ws : List ℕ) : Type 0 where
   pub info_is : info_from 0 ws ≡ info
   pub none : first_bad info 0 ws ≡ None
-  pub total_is : total + 1 + chunks_in info ≤ 524288
+  pub total_is : total + 1 + chunks_in info ≤ most_chunks
 
 no_fault : (at : ℕ) (o : Option ℕ) (u : Unit {0}) → fault_at at o ≡ Ok u → o ≡ None
 no_fault at None u e = refl
@@ -70,7 +71,7 @@ pub header_takes : (total at : ℕ) (ws : List ℕ) (info : ℕ) → header_at t
 unfolding header_at
 header_takes total at ws info e =
     let i = info_from 0 ws in
-    let t = cond_ok (nat_lt 524288 (total + 1 + chunks_in i)) (BadField at)
+    let t = cond_ok (nat_lt most_chunks (total + 1 + chunks_in i)) (BadField at)
     (fault_at at (first_bad i 0 ws) >>= λ u. Ok i) info e in
     let b = bind_ok (fault_at at (first_bad i 0 ws)) (λ u. Ok i) info t.1 in
     let same : i ≡ info = ok_is i info b.2 in
@@ -149,7 +150,7 @@ made_takes total at info bytes ws s ck hd bd least =
             (each_both FitsSlot s (replicate (128 - length s) None) bd.fits
             (each_none (128 - length s)));
       };
-      total_is = subst (λ (x : ℕ). total + 1 + x ≤ 524288) (sym ch) hd.total_is;
+      total_is = subst (λ (x : ℕ). total + 1 + x ≤ most_chunks) (sym ch) hd.total_is;
       inside = subst (λ (x : ℕ). at + 128 + 128 * x ≤ length bytes) (sym ch) bd.inside;
       spelled = ck.spelled ∙ ap (λ (x : List ℕ). words_bytes ws ++ x) bd.spelled
           ∙ sym (append_assoc (words_bytes ws) (words_bytes (map slot_word s)) end)
@@ -242,7 +243,7 @@ least_again c s e l =
     true_right false = refl
 
 pub block_again : (total at : ℕ) (bytes rest : List ℕ) (b : Block) → FitsBlock b
-    → total + 1 + chunks_of b.insts.items ≤ 524288 → drop at bytes ≡ block_bytes b ++ rest
+    → total + 1 + chunks_of b.insts.items ≤ most_chunks → drop at bytes ≡ block_bytes b ++ rest
     → block_at total at bytes ≡ Ok b
 unfolding block_at header_at least_at block_bytes
 block_again total at bytes rest b f l e =
@@ -271,8 +272,8 @@ block_again total at bytes rest b f l e =
     none_bad info 32 0 info b.reads.items b.writes.items i.below fr fw i.good
     (sym i.reads_are ∙ sym (minus_zero (reads_in info)))
     (sym i.writes_are ∙ sym (minus_zero (writes_in info))) in
-    let tt1 : nat_lt 524288 (total + 1 + chunks_in info) ≡ false =
-    le-ltb _ _ (subst (λ (x : ℕ). total + 1 + x ≤ 524288) (sym i.chunks_are) l) in
+    let tt1 : nat_lt most_chunks (total + 1 + chunks_in info) ≡ false =
+    le-ltb _ _ (subst (λ (x : ℕ). total + 1 + x ≤ most_chunks) (sym i.chunks_are) l) in
     let bd : body_at c (at + 128) bytes ≡ Ok s =
     body_again c (at + 128) bytes rest s (each_take FitsSlot (32 * c) b.insts.items fe)
     (omega (arith, length-take (32 * c) b.insts.items))
@@ -290,7 +291,7 @@ block_again total at bytes rest b f l e =
 pub size_read : (total at info : ℕ) (ws : List ℕ) (s t new : Slots)
     → header_at total at ws ≡ Ok info → is_good_info info ≡ true → length s ≡ 32 * chunks_in info
     → least_at at (chunks_in info) s ≡ Ok t → new ≡ s ++ replicate (128 - length s) None
-    → (1 + chunks_in info ≡ 1 + chunks_of new) × (total + (1 + chunks_in info) ≤ 524288)
+    → (1 + chunks_in info ≡ 1 + chunks_of new) × (total + (1 + chunks_in info) ≤ most_chunks)
 unfolding least_at padded
 size_read total at info ws s t new h good n l e =
     let k = counts info good in

@@ -10,6 +10,7 @@ use Rattle.block_image.specs.declared.fault.ImageFault.{ImageFault}
 use Rattle.block_image.specs.declared.fault.ImageFault.TheVariants.{Truncated, BadField}
 use Rattle.block_image.specs.Words.{slot_word}
 use Rattle.trips_isa.specs.Fits.{FitsSlot}
+use Rattle.trips_isa.specs.Limits.{most_chunks}
 use Rattle.block_image.specs.WordReading.{slot_of_word}
 use Rattle.block_image.specs.HeaderReading.{info_from, chunks_in, is_bad, first_bad}
 use Rattle.block_image.proofs.Each.{Each, IsWord, AreBytes, AreWords, each_both, each_of, all_of}
@@ -262,7 +263,7 @@ stands_of at bytes ws ck =
     }
 
 bad_found : (total at : ℕ) (bytes ws : List ℕ) (f : ImageFault) (o : Option ℕ)
-    → ChunkTaken at bytes ws → total + 1 + chunks_in (info_from 0 ws) ≤ 524288
+    → ChunkTaken at bytes ws → total + 1 + chunks_in (info_from 0 ws) ≤ most_chunks
     → first_bad (info_from 0 ws) 0 ws ≡ o → fault_at at o ≡ Err f → BlockFault total at bytes f
 bad_found total at bytes ws f None ck l q e = absurd cc
 bad_found total at bytes ws f (Some j) ck l q e =
@@ -288,9 +289,9 @@ header_fault : (total at : ℕ) (bytes ws : List ℕ) (f : ImageFault) → Chunk
     → header_at total at ws ≡ Err f → BlockFault total at bytes f
 unfolding header_at
 header_fault total at bytes ws f ck e =
-    by (nat_lt 524288 (total + 1 + chunks_in (info_from 0 ws))) refl e
+    by (nat_lt most_chunks (total + 1 + chunks_in (info_from 0 ws))) refl e
   where
-    by : (b : Bool) → nat_lt 524288 (total + 1 + chunks_in (info_from 0 ws)) ≡ b
+    by : (b : Bool) → nat_lt most_chunks (total + 1 + chunks_in (info_from 0 ws)) ≡ b
         → cond b (Err (BadField at))
         (fault_at at (first_bad (info_from 0 ws) 0 ws) >>= λ u. Ok (info_from 0 ws)) ≡ Err f
         → BlockFault total at bytes f
@@ -308,7 +309,7 @@ good_header total at info bytes ws ck h =
     record {
       size = ck.size;
       stands = stands_of at bytes ws ck;
-      total_is = subst (λ (x : ℕ). total + 1 + chunks_in x ≤ 524288) (sym h.info_is) h.total_is;
+      total_is = subst (λ (x : ℕ). total + 1 + chunks_in x ≤ most_chunks) (sym h.info_is) h.total_is;
       good = λ i l. let n : i ≡ 0 + i = omega arith in
           ap (λ (x : ℕ). is_bad (info_from 0 ws) x (get_or ws i 0)) n
           ∙ no_bad_at (info_from 0 ws) 0 ws none i (omega arith);

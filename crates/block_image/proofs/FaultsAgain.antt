@@ -12,6 +12,7 @@ use Rattle.block_image.specs.declared.fault.ImageFault.{ImageFault}
 use Rattle.block_image.specs.declared.fault.ImageFault.TheVariants.{Truncated, BadField}
 use Rattle.block_image.specs.Words.{slot_word}
 use Rattle.trips_isa.specs.Fits.{FitsSlot}
+use Rattle.trips_isa.specs.Limits.{most_chunks}
 use Rattle.block_image.specs.WordReading.{slot_of_word}
 use Rattle.block_image.specs.HeaderReading.{info_from, chunks_in, is_bad, first_bad}
 use Rattle.block_image.proofs.Each.{IsWord, Each, AreWords, each_take, each_drop, each_of, all_of}
@@ -231,7 +232,7 @@ good_again total at bytes ws g =
     none_again (info_from 0 ws) 0 ws
     (λ m l. let n : 0 + m ≡ m = omega arith in
     ap (λ (x : ℕ). is_bad (info_from 0 ws) x (get_or ws m 0)) n ∙ g.good m (omega arith)) in
-    let l : nat_lt 524288 (total + 1 + chunks_in (info_from 0 ws)) ≡ false =
+    let l : nat_lt most_chunks (total + 1 + chunks_in (info_from 0 ws)) ≡ false =
     le-ltb _ _ g.total_is in rw (l, none) refl
 
 no_chunk : (at : ℕ) (bytes : List ℕ) → length bytes < at + 128
@@ -244,13 +245,13 @@ chunk_of : (at : ℕ) (bytes ws : List ℕ) → length ws ≡ 32 → Stands at b
 chunk_of at bytes ws n st =
     chunk_again at bytes ws st.rest (each_of IsWord ws st.are_words) n st.spelled
 
-header_many : (total at : ℕ) (ws : List ℕ) → 524288 < total + 1 + chunks_in (info_from 0 ws)
+header_many : (total at : ℕ) (ws : List ℕ) → most_chunks < total + 1 + chunks_in (info_from 0 ws)
     → header_at total at ws ≡ Err (BadField at)
 unfolding header_at
-header_many total at ws l = let t : nat_lt 524288 (total + 1 + chunks_in (info_from 0 ws)) ≡ true =
+header_many total at ws l = let t : nat_lt most_chunks (total + 1 + chunks_in (info_from 0 ws)) ≡ true =
     true_lt _ _ l in rw t refl
 
-header_bad : (total at i : ℕ) (ws : List ℕ) → total + 1 + chunks_in (info_from 0 ws) ≤ 524288
+header_bad : (total at i : ℕ) (ws : List ℕ) → total + 1 + chunks_in (info_from 0 ws) ≤ most_chunks
     → i < length ws → is_bad (info_from 0 ws) i (get_or ws i 0) ≡ true
     → ((j : ℕ) → j < i → is_bad (info_from 0 ws) j (get_or ws j 0) ≡ false)
     → header_at total at ws ≡ Err (BadField (at + 4 * i))
@@ -262,7 +263,7 @@ header_bad total at i ws l n b h =
     first_again info 0 i ws n (ap (λ (x : ℕ). is_bad info x (get_or ws i 0)) (sym (z i)) ∙ b)
     (λ m lt. ap (λ (x : ℕ). is_bad info x (get_or ws m 0)) (sym (z m)) ∙ h m lt)
     ∙ ap (λ (x : ℕ). found x) (sym (z i)) in
-    let t : nat_lt 524288 (total + 1 + chunks_in info) ≡ false = le-ltb _ _ l in
+    let t : nat_lt most_chunks (total + 1 + chunks_in info) ≡ false = le-ltb _ _ l in
     rw (t, first) refl
   where
     found : ℕ → Option ℕ

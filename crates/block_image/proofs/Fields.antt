@@ -11,6 +11,7 @@ use Rattle.trips_isa.specs.declared.block.Spot.TheVariants as spot
 use Rattle.trips_isa.specs.declared.block.Sense.{Sense}
 use Rattle.trips_isa.specs.declared.block.Sense.TheVariants.{Always, OnTrue, OnFalse}
 use Rattle.trips_isa.specs.Fits.{FitsTarget, FitsSigned, FitsUnsigned, FitsOffset, FitsConstant}
+use Rattle.trips_isa.specs.Limits.{offset_half}
 use Rattle.block_image.specs.Words.{word_of, sense_number, target_number, signed_number}
 use Rattle.block_image.specs.WordReading.{◌>>=◌, part, sense_at, Target, target_at, signed_at}
 use Rattle.block_image.specs.WordReading.{offset_at, constant_of}
@@ -263,8 +264,8 @@ some x = Some x
 pub offset_again : (op : Op) (z : ℤ) → FitsOffset op z
     → offset_at op (signed_number 1048576 z) ≡ Some z
 unfolding offset_at
-offset_again Bro z f = ap some (signed_again 524288 z f)
-offset_again Callo z f = ap some (signed_again 524288 z f)
+offset_again Bro z f = ap some (signed_again offset_half z f)
+offset_again Callo z f = ap some (signed_again offset_half z f)
 offset_again op z f = no_offset z f
 
 abbrev pub OffsetIs : Op → ℕ → ℤ → Type 0
@@ -280,10 +281,10 @@ no_offset_takes n z = pick (NoOffset n) (nat_eq n 0) _ _ z
 pub offset_takes : (op : Op) (n : ℕ) (z : ℤ) → n < 1048576 → offset_at op n ≡ Some z
     → OffsetIs op n z
 unfolding offset_at
-offset_takes Bro n z lt e = let t = signed_takes 524288 n lt in
-    found (OffsetIs Bro n) (signed_at 524288 n) z (t.0, t.1) e
-offset_takes Callo n z lt e = let t = signed_takes 524288 n lt in
-    found (OffsetIs Callo n) (signed_at 524288 n) z (t.0, t.1) e
+offset_takes Bro n z lt e = let t = signed_takes offset_half n lt in
+    found (OffsetIs Bro n) (signed_at offset_half n) z (t.0, t.1) e
+offset_takes Callo n z lt e = let t = signed_takes offset_half n lt in
+    found (OffsetIs Callo n) (signed_at offset_half n) z (t.0, t.1) e
 offset_takes op n z lt e = no_offset_takes n z e
 
 unsigned_again : (z : ℤ) → FitsUnsigned 65536 z → pos (signed_number 65536 z) ≡ z

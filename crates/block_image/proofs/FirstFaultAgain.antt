@@ -13,6 +13,7 @@ use Rattle.trips_isa.specs.declared.block.Block.{Block}
 use Rattle.trips_isa.specs.declared.block.Image.{Image}
 use Rattle.trips_isa.specs.Fits.{FitsBlock}
 use Rattle.trips_isa.specs.Images.{chunks, last_byte, FitsImage}
+use Rattle.trips_isa.specs.Limits.{most_chunks}
 use Rattle.block_image.specs.declared.fault.ImageFault.{ImageFault}
 use Rattle.block_image.specs.declared.fault.ImageFault.TheVariants.{Magic, Version, Truncated}
 use Rattle.block_image.specs.declared.fault.ImageFault.TheVariants.{Trailing, BadField}
@@ -216,7 +217,7 @@ next_spelled at bytes rest b f e =
     ∙ drop_at (block_bytes b) rest (128 + 128 * chunks_of b.insts.items) (length-block b f.insts)
 
 stopped_again : (bs : List Block) (n total at : ℕ) (bytes rest : List ℕ) (f : ImageFault)
-    → length bs < n → Each FitsBlock bs → total + chunks_in_all bs ≤ 524288
+    → length bs < n → Each FitsBlock bs → total + chunks_in_all bs ≤ most_chunks
     → drop at bytes ≡ flat_map block_bytes bs ++ rest
     → BlockFault (total + chunks_in_all bs) (at + 128 * chunks_in_all bs) bytes f
     → blocks_at n total at bytes ≡ Err f
@@ -246,7 +247,7 @@ stopped_again (b ∷ bs) (suc n) total at bytes rest f l each m e g =
     ) refl
 
 left_again : (bs : List Block) (n total at : ℕ) (bytes : List ℕ) (c : ℕ) (rest : List ℕ)
-    → length bs ≡ n → Each FitsBlock bs → total + chunks_in_all bs ≤ 524288
+    → length bs ≡ n → Each FitsBlock bs → total + chunks_in_all bs ≤ most_chunks
     → drop at bytes ≡ flat_map block_bytes bs ++ (c ∷ rest)
     → blocks_at n total at bytes ≡ Err (Trailing (at + 128 * chunks_in_all bs))
 left_again [] zero total at bytes c rest l each m e =

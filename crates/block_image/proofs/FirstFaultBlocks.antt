@@ -10,6 +10,7 @@ use Rattle.trips_isa.specs.declared.block.Block.{Block}
 use Rattle.trips_isa.specs.declared.block.Image.{Image}
 use Rattle.trips_isa.specs.Fits.{FitsBlock}
 use Rattle.trips_isa.specs.Images.{chunks}
+use Rattle.trips_isa.specs.Limits.{most_chunks}
 use Rattle.block_image.specs.declared.fault.ImageFault.{ImageFault}
 use Rattle.block_image.specs.declared.fault.ImageFault.TheVariants.{Trailing}
 use Rattle.block_image.specs.Spelling.{container, block_bytes, chunks_of, spelling}
@@ -32,11 +33,11 @@ use Rattle.block_image.proofs.FirstFaultLaws.{data_read}
 
 data BlocksFault (n total at : ℕ) (bytes : List ℕ) (f : ImageFault) : Type 0 where
   stopped : (bs : List Block) (rest : List ℕ) → length bs < n → Each FitsBlock bs
-      → total + chunks_in_all bs ≤ 524288 → drop at bytes ≡ flat_map block_bytes bs ++ rest
+      → total + chunks_in_all bs ≤ most_chunks → drop at bytes ≡ flat_map block_bytes bs ++ rest
       → BlockFault (total + chunks_in_all bs) (at + 128 * chunks_in_all bs) bytes f
       → BlocksFault n total at bytes f
   left_over : (bs : List Block) (b : ℕ) (rest : List ℕ) → length bs ≡ n → Each FitsBlock bs
-      → total + chunks_in_all bs ≤ 524288 → drop at bytes ≡ flat_map block_bytes bs ++ (b ∷ rest)
+      → total + chunks_in_all bs ≤ most_chunks → drop at bytes ≡ flat_map block_bytes bs ++ (b ∷ rest)
       → Trailing (at + 128 * chunks_in_all bs) ≡ f → BlocksFault n total at bytes f
 
 one_more : (n total at : ℕ) (bytes : List ℕ) (b : Block) (f : ImageFault)
@@ -69,7 +70,7 @@ with_block_fails : (b : Block) (r : Result (List Block) ImageFault) (f : ImageFa
 with_block_fails b (Ok bs) f e = absurd cc
 with_block_fails b (Err d) f e = cc
 
-blocks_fault : (n total at : ℕ) (bytes : List ℕ) (f : ImageFault) → AreBytes bytes → total ≤ 524288
+blocks_fault : (n total at : ℕ) (bytes : List ℕ) (f : ImageFault) → AreBytes bytes → total ≤ most_chunks
     → at ≤ length bytes → blocks_at n total at bytes ≡ Err f → BlocksFault n total at bytes f
 blocks_fault zero total at bytes f a l i e =
     let w = wanted_fails (nat_eq at (length bytes)) (Trailing at) f [] e in

@@ -19,6 +19,7 @@ use Rattle.trips_isa.specs.declared.block.Image.{Image}
 use Rattle.block_image.proofs.Each.{Each, AreBytes, each_drop, each_take, each_of, all_of}
 use Rattle.trips_isa.specs.Fits.{FitsBlock}
 use Rattle.trips_isa.specs.Images.{FitsImage, last_byte, chunks, body_chunks}
+use Rattle.trips_isa.specs.Limits.{most_chunks}
 use Rattle.block_image.specs.Spelling.{ImageBytes, block_bytes, chunks_of, magic, spelling}
 use Rattle.block_image.specs.Spelling.{header_words}
 use Rattle.block_image.specs.Reading.{◌>>=◌, block_at}
@@ -108,10 +109,10 @@ all_chunks (b ∷ bs) = sum_by-cons chunks b bs
 record BlocksTaken (n total at : ℕ) (bytes : List ℕ) (bs : List Block) : Type 0 where
   pub count : length bs ≡ n
   pub each : Each FitsBlock bs
-  pub total_is : total + chunks_in_all bs ≤ 524288
+  pub total_is : total + chunks_in_all bs ≤ most_chunks
   pub spelled : drop at bytes ≡ flat_map block_bytes bs
 
-blocks_takes : (n total at : ℕ) (bytes : List ℕ) (bs : List Block) → AreBytes bytes → total ≤ 524288
+blocks_takes : (n total at : ℕ) (bytes : List ℕ) (bs : List Block) → AreBytes bytes → total ≤ most_chunks
     → blocks_at n total at bytes ≡ Ok bs → BlocksTaken n total at bytes bs
 blocks_takes zero total at bytes bs f l e =
     let k = bind_ok (wants (nat_eq at (length bytes)) (Trailing at)) (λ u. Ok []) bs e in
@@ -143,7 +144,7 @@ blocks_takes (suc n) total at bytes bs f l e =
     })
 
 blocks_again : (n total at : ℕ) (bytes : List ℕ) (bs : List Block) → length bs ≡ n
-    → Each FitsBlock bs → total + chunks_in_all bs ≤ 524288 → at ≤ length bytes
+    → Each FitsBlock bs → total + chunks_in_all bs ≤ most_chunks → at ≤ length bytes
     → drop at bytes ≡ flat_map block_bytes bs → blocks_at n total at bytes ≡ Ok bs
 blocks_again zero total at bytes [] c f t l e =
     let z : length bytes - at ≡ 0 = sym (length-drop at bytes) ∙ ap length e in

@@ -9,6 +9,7 @@ use Rattle.trips_isa.specs.declared.block.Block.{Block}
 use Rattle.trips_isa.specs.declared.block.Image.{Image}
 use Rattle.block_image.proofs.Each.{Each, each_of}
 use Rattle.trips_isa.specs.Fits.{FitsBlock}
+use Rattle.trips_isa.specs.Limits.{most_chunks}
 use Rattle.block_image.specs.Spelling.{ImageBytes, block_bytes, chunks_of, spelling}
 use Rattle.block_image.specs.Reading.{◌>>=◌, block_at}
 use Rattle.block_image.specs.ImageReading.{wants, blocks_at, image_at}
@@ -21,7 +22,7 @@ same_ok : {A : Type 0} (r : Result A ImageFault) (x y : A) → r ≡ Ok x → r 
 same_ok r x y a b = ok_is x y (sym a ∙ b)
 
 pub blocks_alone : (n total at : ℕ) (bytes more : List ℕ) (bs cs : List Block) → length bs ≡ n
-    → Each FitsBlock bs → total + chunks_in_all bs ≤ 524288
+    → Each FitsBlock bs → total + chunks_in_all bs ≤ most_chunks
     → drop at bytes ≡ flat_map block_bytes bs ++ more → blocks_at n total at bytes ≡ Ok cs
     → more ≡ []
 blocks_alone zero total at bytes more [] cs c f t e r =

@@ -4,6 +4,7 @@ use Rattle.std.specs.Prelude.{ℤ, pos, negsuc}
 use Rattle.trips_isa.specs.declared.op.Op.{Op}
 use Rattle.trips_isa.specs.declared.op.Op.TheVariants.{Bro, Callo, Gens}
 use Rattle.trips_isa.specs.Fits.{FitsSigned, FitsUnsigned, FitsOffset, FitsConstant}
+use Rattle.trips_isa.specs.Limits.{offset_half}
 
 widened : (few many : ℕ) (z : ℤ) → few ≤ many → FitsSigned few z → FitsSigned many z
 widened few many (pos n) l f = let g : n < few = f in omega arith
@@ -17,8 +18,8 @@ zero_fits (pos n) e = let f : n ≡ 0 = cc in omega arith
 zero_fits (negsuc n) e = absurd cc
 
 pub offset_fits : (op : Op) (z : ℤ) → FitsOffset op z → FitsSigned 1048576 z
-offset_fits Bro z f = widened 524288 1048576 z (omega arith) f
-offset_fits Callo z f = widened 524288 1048576 z (omega arith) f
+offset_fits Bro z f = widened offset_half 1048576 z (omega arith) f
+offset_fits Callo z f = widened offset_half 1048576 z (omega arith) f
 offset_fits op z f = zero_fits z f
 
 unsigned_fits : (z : ℤ) → FitsUnsigned 65536 z → FitsSigned 65536 z

@@ -3,6 +3,7 @@ use Rattle.std.specs.Prelude.{◌≡◌, ◌≤◌, ◌<◌, ◌+◌, ◌-◌, �
 use Rattle.std.specs.Prelude.{map, drop, get_or, Option, true, false, All}
 use Rattle.trips_isa.specs.declared.block.Inst.{Inst}
 use Rattle.trips_isa.specs.Fits.{FitsSlot}
+use Rattle.trips_isa.specs.Limits.{most_chunks}
 use Rattle.block_image.specs.declared.fault.ImageFault.{ImageFault}
 use Rattle.block_image.specs.declared.fault.ImageFault.TheVariants.{Truncated, BadField}
 use Rattle.block_image.specs.Words.{slot_word}
@@ -36,7 +37,7 @@ pub data BodyFault (chunks at : ℕ) (bytes : List ℕ) : ImageFault → Type 0 
 
 -- the chunks before this header, the header and its body are within the limit
 abbrev pub IsWithin : ℕ → List ℕ → Type 0
-IsWithin total ws = total + 1 + chunks_in (info_from 0 ws) ≤ 524288
+IsWithin total ws = total + 1 + chunks_in (info_from 0 ws) ≤ most_chunks
 
 -- a word of a header is good, by the counts as the info bits have them
 abbrev pub IsGoodWord : List ℕ → ℕ → Type 0
@@ -57,7 +58,7 @@ pub record GoodHeader (total at : ℕ) (bytes ws : List ℕ) : Type 0 where
 pub data BlockFault (total at : ℕ) (bytes : List ℕ) : ImageFault → Type 0 where
   no_header : length bytes < at + 128 → BlockFault total at bytes (Truncated (length bytes))
   too_many : (ws : List ℕ) → length ws ≡ 32 → Stands at bytes ws
-      → 524288 < total + 1 + chunks_in (info_from 0 ws)
+      → most_chunks < total + 1 + chunks_in (info_from 0 ws)
       → BlockFault total at bytes (BadField at)
   bad_word : (ws : List ℕ) (i : ℕ) → length ws ≡ 32 → Stands at bytes ws → IsWithin total ws
       → i < 32 → is_bad (info_from 0 ws) i (get_or ws i 0) ≡ true

@@ -6,6 +6,7 @@ use Rattle.trips_isa.specs.declared.block.Block.{Block}
 use Rattle.trips_isa.specs.declared.block.Image.{Image}
 use Rattle.trips_isa.specs.Fits.{FitsBlock}
 use Rattle.trips_isa.specs.Images.{chunks, last_byte, FitsImage}
+use Rattle.trips_isa.specs.Limits.{most_chunks}
 use Rattle.block_image.specs.declared.fault.ImageFault.{ImageFault}
 use Rattle.block_image.specs.declared.fault.ImageFault.TheVariants.{Magic, Version, Truncated}
 use Rattle.block_image.specs.declared.fault.ImageFault.TheVariants.{Trailing, BadField}
@@ -35,7 +36,7 @@ pub record GoodBlocks (count : ℕ) (blocks : List Block) : Type 0 where
   pub fewer : length blocks < count
   pub each : All FitsBlock blocks
   -- their chunks, each block's header and body, are within the limit
-  pub total : sum_by chunks blocks ≤ 524288
+  pub total : sum_by chunks blocks ≤ most_chunks
 
 -- The first fault of bytes, with the place that it is told at: each rule asks that all that comes
 -- before is as an image has it, and says what is wrong next.

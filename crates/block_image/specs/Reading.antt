@@ -5,6 +5,7 @@ use Rattle.std.specs.Prelude.{false, ◌&&◌, nat_lt, if◌then◌else◌}
 use Rattle.byteorder.specs.Endian.{big_number}
 use Rattle.trips_isa.specs.declared.block.Inst.{Inst}
 use Rattle.trips_isa.specs.declared.block.Block.{Block}
+use Rattle.trips_isa.specs.Limits.{most_chunks}
 use Rattle.block_image.specs.declared.fault.ImageFault.{ImageFault}
 use Rattle.block_image.specs.declared.fault.ImageFault.TheVariants.{Truncated, BadField}
 use Rattle.block_image.specs.WordReading.{slot_of_word}
@@ -68,7 +69,7 @@ fault_at at (Some i) = Err (BadField (at + 4 * i))
 -- the info bits, where the total of chunks and each word is good
 unfoldable pub header_at : ℕ → ℕ → List ℕ → Result ℕ ImageFault
 header_at total at ws =
-    if nat_lt 524288 (total + 1 + chunks_in (info_from 0 ws)) then Err (BadField at)
+    if nat_lt most_chunks (total + 1 + chunks_in (info_from 0 ws)) then Err (BadField at)
     else (fault_at at (first_bad (info_from 0 ws) 0 ws) >>= λ u. Ok (info_from 0 ws))
 
 -- a block of its info bits, the words of its header and its used slots; the slots past the body are

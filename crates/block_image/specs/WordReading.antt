@@ -12,6 +12,7 @@ use Rattle.trips_isa.specs.declared.block.Sense.{Sense}
 use Rattle.trips_isa.specs.declared.block.Sense.TheVariants.{Always, OnTrue, OnFalse}
 use Rattle.trips_isa.specs.declared.block.Inst.{Inst}
 use Rattle.trips_isa.specs.Forms.{form_of}
+use Rattle.trips_isa.specs.Limits.{offset_half}
 use Rattle.isa_table.specs.Codes.{op_with_numbers}
 
 infixl 10 ◌>>=◌
@@ -66,8 +67,8 @@ targets_at w = target_at (part w 1 512) >>= λ first. target_at (part w 512 512)
 
 -- the offset of a branch in chunks; one that names no block by it has 0
 unfoldable pub offset_at : Op → ℕ → Option ℤ
-offset_at Bro n = Some (signed_at 524288 n)
-offset_at Callo n = Some (signed_at 524288 n)
+offset_at Bro n = Some (signed_at offset_half n)
+offset_at Callo n = Some (signed_at offset_half n)
 offset_at op n = if n == 0 then Some (pos 0) else None
 
 -- only the constant of `gens` has a sign

@@ -7,6 +7,7 @@ ghost use Rattle.block_image.specs.Spelling.{chunks_of};
 ghost use Rattle.block_image.specs.Reading.{all_empty, chunk_at, slots_at, slot_or_fault, body_at};
 ghost use Rattle.block_image.specs.Reading.{header_at, least_at, rest_at, parts_from};
 ghost use Rattle.block_image.specs.ImageReading.{Decodes, Adds};
+ghost use Rattle.trips_isa.specs.Limits.{most_chunks};
 
 use crate::fault::ImageFault;
 use crate::header::{add_reads, add_writes, bad_word, info, words_of};
@@ -81,7 +82,7 @@ fn body(
 #[tactic(auto, unfolding(crate::specs::Reading::header_at))]
 pub(crate) fn header(total: u32, at: usize, words: &[u32]) -> Result<u64, ImageFault>
     requires place { at < 2 ^ 62 }
-    requires total { total ≤ 524288 }
+    requires total { total ≤ most_chunks }
     requires words { length words.now ≡ 32 }
     ensures read { result ≡ header_at total at words.now }
     ensures good { IfOk result (λ info. is_good_info info ≡ true) }
@@ -155,14 +156,14 @@ pub(crate) fn fill(
     at: usize,
 ) -> Result<u32, ImageFault>
     requires place { at < 2 ^ 61 }
-    requires total { total ≤ 524288 }
+    requires total { total ≤ most_chunks }
     requires words { length words.now ≡ 32 }
     requires reads { block.old.reads.items ≡ [] }
     requires writes { block.old.writes.items ≡ [] }
     requires insts { block.old.insts.items ≡ [] }
     ensures read { Decodes (λ size. block.new) result (rest_at total at bytes.now words.now) }
     ensures size { IfOk result (λ size. (size ≡ 1 + chunks_of block.new.insts.items)
-        × (total + size ≤ 524288)) }
+        × (total + size ≤ most_chunks)) }
 {
     let info = match header(total, at, words) {
         Err(fault) => return Err(fault),

@@ -8,6 +8,7 @@ use Rattle.trips_isa.specs.declared.block.Block.{Block}
 use Rattle.trips_isa.specs.declared.block.Image.{Image}
 use Rattle.trips_isa.specs.Fits.{FitsBlock}
 use Rattle.trips_isa.specs.Stores.{data_size}
+use Rattle.ir_forms.specs.Limits.{label_count}
 use Rattle.block_cases.specs.Good.{GoodBlock}
 use Rattle.block_check.specs.declared.fault.CheckFault.{CheckFault}
 use Rattle.block_check.specs.Images.{IsFirstBad}
@@ -82,7 +83,7 @@ module _ (F : Program) (lists : List (List ℕ)) (groups : List (List (List ℕ)
     pub followed : IsFollowed P
     followed = subst IsFollowed (sym is) passes.followed
 
-    pub low : length P ≤ 524288
+    pub low : length P ≤ label_count
     low =
         let n = passes.few in
         let e : length P ≡ length B = ap (λ (bs : List hyper.Block). length bs) is in omega (arith, n, e)

@@ -5,6 +5,7 @@ use Rattle.std.specs.Prelude.{Option, Some, None, IfSome}
 use Rattle.trips_isa.specs.declared.block.Block.{Block}
 use Rattle.trips_isa.specs.declared.block.Image.{Image}
 use Rattle.trips_isa.specs.Stores.{data_size}
+use Rattle.ir_forms.specs.Limits.{label_count}
 use Rattle.block_cases.specs.Good.{GoodBlock}
 use Rattle.block_check.specs.Images.{IsCheckedImage}
 use Rattle.ir_forms.specs.FlatCode.{Program}
@@ -53,7 +54,7 @@ module _ (F : Program) (lists : List (List ℕ)) (groups : List (List (List ℕ)
   pub followed : IsFollowed P
   followed = passes.followed
 
-  pub low : length P ≤ 524288
+  pub low : length P ≤ label_count
   low = let n = passes.few in omega (arith, n)
 
   module _ (p : Placing) (us : List Block) (all : ArePassed p P us) where

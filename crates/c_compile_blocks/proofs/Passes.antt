@@ -2,6 +2,7 @@
 use Rattle.std.proofs.Common.{◌≡◌, ℕ, ◌+◌, ◌≤◌, ◌⊎◌, inl, inr, refl, sym, ap, subst, ◌∙◌, arith}
 use Rattle.std.specs.Prelude.{Result, Err, IfErr}
 use Rattle.trips_isa.specs.declared.block.Block.{Block}
+use Rattle.ir_forms.specs.Limits.{label_count}
 use Rattle.ir_forms.specs.declared.fault.Part.TheVariants.{Insts, Reads, Writes, Numbers, Exits}
 use Rattle.ir_forms.specs.declared.fault.FlowFault.{FlowFault}
 use Rattle.ir_forms.specs.declared.fault.FlowFault.TheVariants.{TooBig, Memory}
@@ -31,7 +32,7 @@ use Rattle.c_compile_blocks.specs.Refusals.{IsRefused, IsIncomplete, IsUntargete
 
 -- LABELS
 
-names_label : (k n : ℕ) (e : Exit) → n ≤ 524288 → LeadsOn k n e → NamesLabel e
+names_label : (k n : ℕ) (e : Exit) → n ≤ label_count → LeadsOn k n e → NamesLabel e
 names_label k n (exit.Jump l) f h = omega (arith, f, h)
 names_label k n (exit.Call l back) f h =
     let a = h.0 in
@@ -40,7 +41,7 @@ names_label k n exit.Return f h = tt
 names_label k n (exit.System l) f h = tt
 
 -- labels that lead to blocks are below the number of blocks of an image
-pub names_labels : (k n : ℕ) (t : Tail) → n ≤ 524288 → AllLeadOn k n t → NamesLabels t
+pub names_labels : (k n : ℕ) (t : Tail) → n ≤ label_count → AllLeadOn k n t → NamesLabels t
 names_labels k n (Leave e) f h = names_label k n e f h
 names_labels k n (Test t one other) f h = (names_labels k n one f h.0, names_labels k n other f h.1)
 

@@ -4,6 +4,7 @@ use Rattle.std.proofs.Common.{length, Some, slice_get, refl, sym, ap, subst, ◌
 use Rattle.std.proofs.Common.{get_or, length-append}
 use Rattle.std.proofs.lemmas.Option.{slice_get-get_or}
 use Rattle.trips_isa.specs.declared.block.Block.{Block}
+use Rattle.ir_forms.specs.Limits.{label_count}
 use Rattle.ir_forms.specs.declared.fault.FlowFault.{FlowFault}
 use Rattle.ir_forms.specs.declared.fault.FlowFault.TheVariants.{Memory}
 use Rattle.ir_forms.specs.declared.hyper.HyperBlock.{HyperBlock}
@@ -78,7 +79,7 @@ block_there bs k x l e =
 
 -- its labels are below the number of blocks of an image
 pub labels_there : (bs : List HyperBlock) (k : ℕ) (x : HyperBlock) → k < length bs → x ≡ get_or bs k x
-    → IsFollowed (map block_of bs) → length (map block_of bs) ≤ 524288 → NamesLabels (tail_of x.tail)
+    → IsFollowed (map block_of bs) → length (map block_of bs) ≤ label_count → NamesLabels (tail_of x.tail)
 labels_there bs k x l e f n =
     names_labels k (length (map block_of bs)) (tail_of x.tail) n (f k (block_of x) (block_there bs k x l e))
 

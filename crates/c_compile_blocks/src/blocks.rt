@@ -7,6 +7,7 @@ ghost use Rattle.predication.specs.Outcomes.{NamesLabels};
 ghost use Rattle.predication_limits.specs.Limits.{FitsMachine};
 ghost use Rattle.c_compile_blocks.specs.Blocks.{ArePassed, AreMachineBlocks, IsMachineBlock, IsPassed};
 ghost use Rattle.c_compile_blocks.specs.Refusals.{FitMachine, HasRefused, IsRefused};
+ghost use Rattle.ir_forms.specs.Limits.{label_count};
 
 use base::Items;
 use fan_out::target;
@@ -60,7 +61,7 @@ fn all_blocks(
     placing: Placing,
 ) -> Result<Items<Block>, FlowFault>
     requires followed { IsFollowed (map block_of program.now) }
-    requires few { length (map block_of program.now) ≤ 524288 }
+    requires few { length (map block_of program.now) ≤ label_count }
     ensures ok { IfOk result (λ us. ArePassed placing (map block_of program.now) us) }
     ensures err { IfErr result (λ e.
         HasRefused placing (map block_of program.now) e) }
@@ -79,7 +80,7 @@ pub fn machine_blocks(
     placing: Placing,
 ) -> Result<Items<Block>, FlowFault>
     requires followed { IsFollowed (blocks_of program.now) }
-    requires few { length (blocks_of program.now) ≤ 524288 }
+    requires few { length (blocks_of program.now) ≤ label_count }
     ensures ok { IfOk result (λ us. ArePassed placing (blocks_of program.now) us) }
     ensures err { IfErr result (λ e. HasRefused placing (blocks_of program.now) e) }
     ensures machine { IfOk result (λ us. FitMachine (blocks_of program.now)

@@ -12,6 +12,7 @@ use Rattle.trips_isa.specs.Alu.{word}
 use Rattle.trips_isa.specs.Images.{chunks, chunk_of, starting_from, block_at}
 use Rattle.trips_isa.specs.declared.block.Token.TheVariants.{Word}
 use Rattle.trips_isa.specs.Outcomes.{to_offset, to_address}
+use Rattle.trips_isa.specs.Limits.{most_chunks}
 use Rattle.ir_forms.specs.HyperWords.{HasAddresses, IsFaithful}
 use Rattle.c_compile_layout.specs.Linking.{offset}
 use Rattle.c_compile_layout.specs.Layouts.{laid_out, AreFew, HasPlaces}
@@ -56,7 +57,7 @@ below_all (t ∷ ts) (suc l) =
     let r = below_all ts l in
     omega (arith, s, u, r)
 
-pub chunk_few : (ts : List Block) (l : ℕ) → AreFew ts → chunk_of ts l ≤ 524288
+pub chunk_few : (ts : List Block) (l : ℕ) → AreFew ts → chunk_of ts l ≤ most_chunks
 chunk_few ts l f = let b = below_all ts l in omega (arith, b, f)
 
 -- a block begins below all chunks
@@ -73,7 +74,7 @@ next_below (t ∷ ts) (suc l) h =
     let r = next_below ts l (omega arith) in
     omega (arith, s, u, r)
 
-pub chunk_low : (ts : List Block) (l : ℕ) → AreFew ts → l < length ts → chunk_of ts l < 524288
+pub chunk_low : (ts : List Block) (l : ℕ) → AreFew ts → l < length ts → chunk_of ts l < most_chunks
 chunk_low ts l f h = let b = next_below ts l h in omega (arith, b, f)
 
 there_again : (ts : List Block) (c l : ℕ) → block_at ts c ≡ l → (laid_out ts).label (128 * c) ≡ l
@@ -98,7 +99,7 @@ faithful ts f = record {
 }
 
 -- the machine adds an offset to its own chunk
-offset_adds : (here there : ℕ) → here ≤ 524288 → there ≤ 524288
+offset_adds : (here there : ℕ) → here ≤ most_chunks → there ≤ most_chunks
     → (here + word (offset here there)) % 2 ^ 64 ≡ there
 offset_adds here there h t = go (nat_le here there) refl
   where

@@ -13,6 +13,7 @@ use Rattle.trips_isa.specs.declared.block.Block.{Block}
 use Rattle.trips_isa.specs.Fits.{FitsSigned}
 use Rattle.trips_isa.specs.Forms.{form_of}
 use Rattle.trips_isa.specs.Images.{chunk_of}
+use Rattle.trips_isa.specs.Limits.{most_chunks, offset_half}
 use Rattle.ir_forms.specs.declared.flow.FlowNode.{FlowNode}
 use Rattle.ir_forms.specs.declared.flow.FlowBlock.{FlowBlock}
 use Rattle.ir_forms.specs.FlowFits.{FitsFlow, FitsNodeForm, FitsLabel}
@@ -23,11 +24,11 @@ use Rattle.c_compile_layout.proofs.Faithful.{chunk_low}
 use Rattle.c_compile_layout.proofs.Fitting.{FormsFit}
 use Rattle.c_compile_layout.proofs.Offsets.{kept}
 
-offset_fits : (here there : ℕ) → here < 524288 → there < 524288 → FitsSigned 524288 (offset here there)
+offset_fits : (here there : ℕ) → here < most_chunks → there < most_chunks → FitsSigned offset_half (offset here there)
 offset_fits here there h t = go (nat_le here there) refl
   where
     go : (v : Bool) → nat_le here there ≡ v
-        → FitsSigned 524288 (cond v (pos (there - here)) (negsuc (here - there - 1)))
+        → FitsSigned offset_half (cond v (pos (there - here)) (negsuc (here - there - 1)))
     go true e = omega arith
     go false e = omega arith
 

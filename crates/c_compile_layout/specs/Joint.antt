@@ -62,7 +62,7 @@ pub record IsMade (at : Layout) (chunk : ℕ → ℕ) (k n : ℕ) (b : hyper.Blo
 pub record AreMade (B : List hyper.Block) (ts : List Block) : Type 0 where
   pub size : length ts ≡ length B
   pub some : 1 ≤ length ts
-  -- an image has room for 524,288 chunks
+  -- an image has room for `most_chunks` chunks
   pub few : AreFew ts
   -- in the layout that these blocks have
   pub each : (k : ℕ) (b : hyper.Block) (t : Block) → slice_get B k ≡ Some b

@@ -5,6 +5,7 @@ use Rattle.trips_isa.specs.declared.block.Token.TheVariants.{Word}
 use Rattle.trips_isa.specs.declared.block.Block.{Block}
 use Rattle.trips_isa.specs.Images.{chunks, chunk_of}
 use Rattle.trips_isa.specs.Outcomes.{to_address}
+use Rattle.trips_isa.specs.Limits.{most_chunks}
 use Rattle.ir_forms.specs.HyperRuns.{Layout}
 use Rattle.c_compile_layout.specs.Linking.{linked_from}
 
@@ -21,7 +22,7 @@ pub record HasPlaces (at : Layout) : Type 0 where
 
 -- the chunks of blocks are few enough for an image
 abbrev pub AreFew : List Block → Type 0
-AreFew ts = sum_by chunks ts ≤ 524288
+AreFew ts = sum_by chunks ts ≤ most_chunks
 
 -- blocks that hold labels, with each label resolved where they stand
 abbrev pub linked : List Block → List Block

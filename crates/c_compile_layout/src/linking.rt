@@ -4,6 +4,7 @@ ghost use Rattle.c_compile_layout.specs.Linking as spec;
 ghost use Rattle.std.specs.Prelude.{OnOk, IfErr, IfOk};
 ghost use Rattle.std.specs.List.{sum_by};
 ghost use Rattle.trips_isa.specs.Images.{chunks};
+ghost use Rattle.trips_isa.specs.Limits.{most_chunks};
 ghost use Rattle.c_compile_layout.specs.Layouts.{AreFew, begins, linked};
 
 use arrayvec::ArrayVec;
@@ -13,8 +14,8 @@ use trips_isa::{Block, Inst, Op};
 
 /// The way from one chunk to another, as a branch holds it.
 pub fn offset(here: u32, there: u32) -> i32
-    requires here { here ≤ 524288 }
-    requires there { there ≤ 524288 }
+    requires here { here ≤ most_chunks }
+    requires there { there ≤ most_chunks }
     ensures value { result ≡ spec.offset here there }
 {
     if here <= there {
@@ -33,10 +34,10 @@ fn label(imm: i32) -> usize
 
 // The chunk where a block begins; behind the last block it is the end of all.
 fn chunk(starts: &[u32], end: u32, label: usize) -> u32
-    requires starts { All (λ c. c ≤ 524288) starts.now }
-    requires end { end ≤ 524288 }
+    requires starts { All (λ c. c ≤ most_chunks) starts.now }
+    requires end { end ≤ most_chunks }
     ensures value { result ≡ get_or starts.now label end }
-    ensures low { result ≤ 524288 }
+    ensures low { result ≤ most_chunks }
 {
     if label < starts.len() {
         starts[label]
@@ -47,8 +48,8 @@ fn chunk(starts: &[u32], end: u32, label: usize) -> u32
 
 // The high half of a label's address, where a constant holds a label.
 fn high(starts: &[u32], end: u32, imm: i32) -> i32
-    requires starts { All (λ c. c ≤ 524288) starts.now }
-    requires end { end ≤ 524288 }
+    requires starts { All (λ c. c ≤ most_chunks) starts.now }
+    requires end { end ≤ most_chunks }
     ensures value { result ≡ spec.half_of (λ l. 128 * get_or starts.now l end / 65536) imm }
 {
     if imm < 65536 {
@@ -60,8 +61,8 @@ fn high(starts: &[u32], end: u32, imm: i32) -> i32
 
 // The low half.
 fn low(starts: &[u32], end: u32, imm: i32) -> i32
-    requires starts { All (λ c. c ≤ 524288) starts.now }
-    requires end { end ≤ 524288 }
+    requires starts { All (λ c. c ≤ most_chunks) starts.now }
+    requires end { end ≤ most_chunks }
     ensures value { result ≡ spec.half_of (λ l. 128 * get_or starts.now l end % 65536) imm }
 {
     if imm < 65536 {
@@ -73,8 +74,8 @@ fn low(starts: &[u32], end: u32, imm: i32) -> i32
 
 // The way from a block to a label's block.
 fn way(starts: &[u32], end: u32, k: usize, imm: i32) -> i32
-    requires starts { All (λ c. c ≤ 524288) starts.now }
-    requires end { end ≤ 524288 }
+    requires starts { All (λ c. c ≤ most_chunks) starts.now }
+    requires end { end ≤ most_chunks }
     ensures value { result ≡ spec.offset (get_or starts.now k end)
         (get_or starts.now (spec.label_in imm) end) }
 {
@@ -83,8 +84,8 @@ fn way(starts: &[u32], end: u32, k: usize, imm: i32) -> i32
 
 /// What an immediate of block `k` becomes, where the blocks begin at these chunks and end at `end`.
 pub fn resolved_imm(starts: &[u32], end: u32, k: usize, op: Op, imm: i32) -> i32
-    requires starts { All (λ c. c ≤ 524288) starts.now }
-    requires end { end ≤ 524288 }
+    requires starts { All (λ c. c ≤ most_chunks) starts.now }
+    requires end { end ≤ most_chunks }
     ensures value { result ≡ spec.by_both (λ l. get_or starts.now l end) k op imm }
 {
     match op {
@@ -98,8 +99,8 @@ pub fn resolved_imm(starts: &[u32], end: u32, k: usize, op: Op, imm: i32) -> i32
 
 // A slot with its immediate resolved.
 fn slot(starts: &[u32], end: u32, k: usize, slot: Option<Inst>) -> Option<Inst>
-    requires starts { All (λ c. c ≤ 524288) starts.now }
-    requires end { end ≤ 524288 }
+    requires starts { All (λ c. c ≤ most_chunks) starts.now }
+    requires end { end ≤ most_chunks }
     ensures value { result ≡ spec.resolved_slot (spec.by_both (λ l. get_or starts.now l end) k) slot }
 {
     match slot {
@@ -123,8 +124,8 @@ fn fill(
     k: usize,
     slots: &[Option<Inst>],
 )
-    requires starts { All (λ c. c ≤ 524288) starts.now }
-    requires end { end ≤ 524288 }
+    requires starts { All (λ c. c ≤ most_chunks) starts.now }
+    requires end { end ≤ most_chunks }
     requires empty { out.old.items ≡ [] }
     requires few { length slots.now ≤ 128 }
     ensures value { out.new.items
@@ -137,8 +138,8 @@ fn fill(
 
 /// Resolves the labels of block `k`.
 pub fn resolve(starts: &[u32], end: u32, k: usize, block: &mut Block)
-    requires starts { All (λ c. c ≤ 524288) starts.now }
-    requires end { end ≤ 524288 }
+    requires starts { All (λ c. c ≤ most_chunks) starts.now }
+    requires end { end ≤ most_chunks }
     ensures value { block.new
         ≡ spec.resolved_block (spec.by_both (λ l. get_or starts.now l end) k) block.old }
 {
@@ -149,8 +150,8 @@ pub fn resolve(starts: &[u32], end: u32, k: usize, block: &mut Block)
 
 /// Resolves the labels of all blocks, which begin at these chunks and end at `end`.
 pub fn link(starts: &[u32], end: u32, blocks: &mut [Block])
-    requires starts { All (λ c. c ≤ 524288) starts.now }
-    requires end { end ≤ 524288 }
+    requires starts { All (λ c. c ≤ most_chunks) starts.now }
+    requires end { end ≤ most_chunks }
     ensures value { blocks.new ≡ spec.linked_from (λ l. get_or starts.now l end) 0 blocks.old }
 {
     for k in 0..blocks.len() {

@@ -270,7 +270,8 @@ module _ {image : Image} {budget : ℕ} {machine : Machine} {over : Stepped} {ph
       → slice_get (numbers_of was.frames) 0 ≡ Some n
   first_number v w n e = ap (λ (z : Seen). slice_get (numbers_of z.window.frames) 0) w ∙ e
 
-  pub traps_told : (n c : ℕ) (k : TrapCause) → k ≡ cause_of c → (v : Seen) → seen s ≡ v → can v.image.blocks v.budget Commit v.window ≡ Done
+  pub traps_told : (n c : ℕ) (k : TrapCause) → k ≡ cause_of c → (v : Seen) → seen s ≡ v
+      → can v.image.blocks v.budget Commit v.window ≡ Done
       → slice_get (numbers_of v.window.frames) 0 ≡ Some n → c ≡ cause_in (frame_of n v.window.frames) → 0 < c
       → (phases2 : List Phase) → IsEmptied (drop 0 order) phases phases2 → (order2 : List ℕ) → order2 ≡ take 0 order
       → (registers2 : Ages) → (0 < 8 → registers2 ≡ drop_from registers 0)

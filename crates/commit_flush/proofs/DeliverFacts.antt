@@ -9,7 +9,7 @@ use Rattle.std.proofs.lemmas.Option.{slice_get_within, get_or_from_slice_get}
 use Rattle.trips_isa.specs.declared.block.Token.{Token}
 use Rattle.trips_isa.specs.declared.block.Image.{Image}
 use Rattle.trips_isa.specs.declared.run.Stepped.{Stepped}
-use Rattle.trips_isa.specs.declared.places.TheConstants.{FIRST_WRITE, FIRST_STORE}
+use Rattle.trips_isa.specs.PlaceNumbers.{first_write, first_store}
 use Rattle.trips_isa.specs.Rule.{Answer}
 use Rattle.trips_isa.specs.Machine.{Machine}
 use Rattle.commit_flush_spec.specs.Causes.{NoToken, Done}
@@ -52,61 +52,61 @@ come_to (Some y) t r h = cond (r == y) (Came t) h
 
 -- a token that comes behind the last write changes no register
 holds_past : (rs : List ℕ) (w k : ℕ) (old new : ℕ → Answer) (r : ℕ) → slice_get rs k ≡ None
-    → ((q : ℕ) → (q ≡ FIRST_WRITE + (w + k) → ⊥) → new q ≡ old q) → held_by rs w new r ≡ held_by rs w old r
+    → ((q : ℕ) → (q ≡ first_write + (w + k) → ⊥) → new q ≡ old q) → held_by rs w new r ≡ held_by rs w old r
 holds_past [] w k old new r e s = refl
 holds_past (x ∷ xs) w zero old new r e s = absurd (cc)
 holds_past (x ∷ xs) w (suc k) old new r e s =
     let on : w + suc k ≡ suc w + k = omega arith in
-    ap₂ (λ v m. cond (r == x) (came v) m) (s (FIRST_WRITE + w) (λ q. omega arith))
-    (holds_past xs (suc w) k old new r e (λ q z. s q (λ u. z (u ∙ ap (λ i. FIRST_WRITE + i) on))))
+    ap₂ (λ v m. cond (r == x) (came v) m) (s (first_write + w) (λ q. omega arith))
+    (holds_past xs (suc w) k old new r e (λ q z. s q (λ u. z (u ∙ ap (λ i. first_write + i) on))))
 
 -- a token at a place of the block
 arrives : (rs : List ℕ) (spots : List Answer) (q : ℕ) (t : Token) (r : ℕ) → AreOnce rs → q < length spots
     → held_by rs 0 (at (set spots q (Some t))) r ≡ come_to (write_at rs q) t r (held_by rs 0 (at spots) r)
-arrives rs spots q t r once l = go (nat_le FIRST_WRITE q) refl
+arrives rs spots q t r once l = go (nat_le first_write q) refl
   where
     other : (p : ℕ) → (p ≡ q → ⊥) → at (set spots q (Some t)) p ≡ at spots p
     other p ne = other_at spots q p (Some t) ne
 
-    at_write : FIRST_WRITE ≤ q → (y : Option ℕ) → slice_get rs (q - FIRST_WRITE) ≡ y
+    at_write : first_write ≤ q → (y : Option ℕ) → slice_get rs (q - first_write) ≡ y
         → held_by rs 0 (at (set spots q (Some t))) r ≡ come_to y t r (held_by rs 0 (at spots) r)
     at_write g None e =
-        let its : q ≡ FIRST_WRITE + (0 + (q - FIRST_WRITE)) = omega arith in
-        holds_past rs 0 (q - FIRST_WRITE) (at spots) (at (set spots q (Some t))) r e
+        let its : q ≡ first_write + (0 + (q - first_write)) = omega arith in
+        holds_past rs 0 (q - first_write) (at spots) (at (set spots q (Some t))) r e
         (λ p ne. other p (λ z. ne (z ∙ its)))
     at_write g (Some y) e =
-        let its : q ≡ FIRST_WRITE + (0 + (q - FIRST_WRITE)) = omega arith in
-        holds_more rs 0 (q - FIRST_WRITE) y (at spots) (at (set spots q (Some t))) t r once e
+        let its : q ≡ first_write + (0 + (q - first_write)) = omega arith in
+        holds_more rs 0 (q - first_write) y (at spots) (at (set spots q (Some t))) t r once e
         (ap (at (set spots q (Some t))) (sym its) ∙ set_here spots q (Some t) l)
         (λ p ne. other p (λ z. ne (z ∙ its)))
 
-    go : (b : Bool) → nat_le FIRST_WRITE q ≡ b → held_by rs 0 (at (set spots q (Some t))) r
-        ≡ come_to (cond b (slice_get rs (q - FIRST_WRITE)) None) t r (held_by rs 0 (at spots) r)
-    go true e = at_write (grind (arith, nat_tests)) (slice_get rs (q - FIRST_WRITE)) refl
+    go : (b : Bool) → nat_le first_write q ≡ b → held_by rs 0 (at (set spots q (Some t))) r
+        ≡ come_to (cond b (slice_get rs (q - first_write)) None) t r (held_by rs 0 (at spots) r)
+    go true e = at_write (grind (arith, nat_tests)) (slice_get rs (q - first_write)) refl
     go false e =
-        let low : q < FIRST_WRITE = grind (arith, nat_tests) in
+        let low : q < first_write = grind (arith, nat_tests) in
         holds_same rs 0 (at spots) (at (set spots q (Some t))) r (λ p h. other p (λ z. omega arith))
 
 -- and before it comes its register waits
 waits_for : (rs : List ℕ) (spots : List Answer) (q y : ℕ) → AreOnce rs → write_at rs q ≡ Some y → at spots q ≡ None
     → held_by rs 0 (at spots) y ≡ Waiting
-waits_for rs spots q y once e n = go (nat_le FIRST_WRITE q) refl e
+waits_for rs spots q y once e n = go (nat_le first_write q) refl e
   where
-    go : (b : Bool) → nat_le FIRST_WRITE q ≡ b → cond b (slice_get rs (q - FIRST_WRITE)) None ≡ Some y
+    go : (b : Bool) → nat_le first_write q ≡ b → cond b (slice_get rs (q - first_write)) None ≡ Some y
         → held_by rs 0 (at spots) y ≡ Waiting
     go true z w =
-        let g : FIRST_WRITE ≤ q = grind (arith, nat_tests) in
-        let its : q ≡ FIRST_WRITE + (0 + (q - FIRST_WRITE)) = omega arith in
-        is_waiting rs 0 (q - FIRST_WRITE) y (at spots) once w (ap (at spots) (sym its) ∙ n)
+        let g : first_write ≤ q = grind (arith, nat_tests) in
+        let its : q ≡ first_write + (0 + (q - first_write)) = omega arith in
+        is_waiting rs 0 (q - first_write) y (at spots) once w (ap (at spots) (sym its) ∙ n)
     go false z w = absurd (cc)
 
 -- a register at a write is one of the 128
 registers_below : (rs : List ℕ) (q y : ℕ) → All (λ r. r < 128) rs → write_at rs q ≡ Some y → y < 128
-registers_below rs q y all e = go (nat_le FIRST_WRITE q) e
+registers_below rs q y all e = go (nat_le first_write q) e
   where
-    go : (b : Bool) → cond b (slice_get rs (q - FIRST_WRITE)) None ≡ Some y → y < 128
-    go true w = subst (λ x. x < 128) (get_or_from_slice_get rs (q - FIRST_WRITE) y y w)
-        (All-get_or (λ r. r < 128) rs (q - FIRST_WRITE) y (slice_get_within rs (q - FIRST_WRITE) y w) all)
+    go : (b : Bool) → cond b (slice_get rs (q - first_write)) None ≡ Some y → y < 128
+    go true w = subst (λ x. x < 128) (get_or_from_slice_get rs (q - first_write) y y w)
+        (All-get_or (λ r. r < 128) rs (q - first_write) y (slice_get_within rs (q - first_write) y w) all)
     go false w = absurd (cc)
 
 -- the event ---------------------------------------------------------------------------------------
@@ -185,8 +185,8 @@ module _ {image : Image} {budget : ℕ} {machine : Machine} {over : Stepped} {ph
       let run : IsRunnable f.code =
       runnable image.blocks (good s) old.frames (committed machine.state) s.window.frames n f frame in
       let ok = frame_ok image.blocks old.frames (committed machine.state) s.window.frames a.0 f a.2 in
-      let size : length f.spots ≡ FIRST_STORE = ok.sized.spots in
-      let within : target f.code pl < FIRST_STORE = (let to = k.to in grind (arith, nat_tests)) in
+      let size : length f.spots ≡ first_store = ok.sized.spots in
+      let within : target f.code pl < first_store = (let to = k.to in grind (arith, nat_tests)) in
       by a.0 (place_at a.0 a.1) (write_at f.code.writes.items (target f.code pl)) refl
       (λ r. ap (λ x. held (delivered pl x f) r) e
       ∙ arrives f.code.writes.items f.spots (target f.code pl) v r

@@ -5,7 +5,7 @@ use Rattle.std.proofs.Common.{refl, sym, ap, ap₂, ◌∙◌, subst, arith}
 use Rattle.trips_isa.specs.declared.block.Token.{Token}
 use Rattle.trips_isa.specs.declared.block.Token.TheVariants.{Null, Word}
 use Rattle.trips_isa.specs.declared.block.Block.{Block}
-use Rattle.trips_isa.specs.declared.places.TheConstants.{FIRST_WRITE}
+use Rattle.trips_isa.specs.PlaceNumbers.{first_write}
 use Rattle.trips_isa.specs.Rule.{Answer}
 use Rattle.block_cases.specs.Orders.{has_item, bad_write, NoneBelow}
 use Rattle.commit_flush_spec.specs.Frames.{Frame, at}
@@ -65,19 +65,19 @@ all_once blocks good fs o ok k f e =
 -- what is seen of register r through the writes from write w on, where v is seen below
 abbrev passed : List ℕ → ℕ → (ℕ → Answer) → ℕ → Option ℕ → Option ℕ
 passed [] w spots r v = v
-passed (x ∷ xs) w spots r v = passed xs (suc w) spots r (cond (r == x) (forwarded (spots (FIRST_WRITE + w)) v) v)
+passed (x ∷ xs) w spots r v = passed xs (suc w) spots r (cond (r == x) (forwarded (spots (first_write + w)) v) v)
 
 through_at : (rs : List ℕ) (w : ℕ) (spots : ℕ → Answer) (look : ℕ → Option ℕ) (r : ℕ)
     → through rs w spots look r ≡ passed rs w spots r (look r)
 through_at [] w spots look r = refl
-through_at (x ∷ xs) w spots look r = through_at xs (suc w) spots (over_write x (spots (FIRST_WRITE + w)) look) r
+through_at (x ∷ xs) w spots look r = through_at xs (suc w) spots (over_write x (spots (first_write + w)) look) r
 
 passed_by : (rs : List ℕ) (w : ℕ) (spots : ℕ → Answer) (r : ℕ) (v : Option ℕ) → has_item rs r ≡ false
     → passed rs w spots r v ≡ v
 passed_by [] w spots r v e = refl
 passed_by (x ∷ xs) w spots r v e =
     let p = neither (x == r) (has_item xs r) e in
-    ap (λ b. passed xs (suc w) spots r (cond b (forwarded (spots (FIRST_WRITE + w)) v) v)) (flipped x r p.0)
+    ap (λ b. passed xs (suc w) spots r (cond b (forwarded (spots (first_write + w)) v) v)) (flipped x r p.0)
     ∙ passed_by xs (suc w) spots r v p.1
 
 seen_through : (rs : List ℕ) (w : ℕ) (spots : ℕ → Answer) (r a : ℕ) (low : ReadAnswer) (v : Option ℕ) → AreOnce rs
@@ -91,11 +91,11 @@ seen_through (x ∷ xs) w spots r a low v h e = go (r == x) refl (seen_through x
     token (Some (Word u)) = refl
 
     go : (b : Bool) → (r == x) ≡ b → word_read (behind (held_by xs (suc w) spots r) a low) ≡ passed xs (suc w) spots r v
-        → word_read (behind (cond b (came (spots (FIRST_WRITE + w))) (held_by xs (suc w) spots r)) a low)
-        ≡ passed xs (suc w) spots r (cond b (forwarded (spots (FIRST_WRITE + w)) v) v)
+        → word_read (behind (cond b (came (spots (first_write + w))) (held_by xs (suc w) spots r)) a low)
+        ≡ passed xs (suc w) spots r (cond b (forwarded (spots (first_write + w)) v) v)
     go true z rest =
-        token (spots (FIRST_WRITE + w))
-        ∙ sym (passed_by xs (suc w) spots r (forwarded (spots (FIRST_WRITE + w)) v)
+        token (spots (first_write + w))
+        ∙ sym (passed_by xs (suc w) spots r (forwarded (spots (first_write + w)) v)
         (ap (has_item xs) (equal_is r x z) ∙ h.0))
     go false z rest = rest
 
@@ -154,17 +154,17 @@ waits [] w spots r e = refl
 waits (x ∷ xs) w spots r e = go (r == x) (waits xs (suc w) spots r e)
   where
     go : (b : Bool) → held_by xs (suc w) spots r ≡ cond (listed xs r) Waiting Undeclared
-        → cond b (came (spots (FIRST_WRITE + w))) (held_by xs (suc w) spots r)
+        → cond b (came (spots (first_write + w))) (held_by xs (suc w) spots r)
         ≡ cond (b || listed xs r) Waiting Undeclared
-    go true rest = ap came (e (FIRST_WRITE + w))
+    go true rest = ap came (e (first_write + w))
     go false rest = rest
 
 -- the same tokens at the writes, the same registers
 pub holds_same : (rs : List ℕ) (w : ℕ) (old new : ℕ → Answer) (r : ℕ)
-    → ((q : ℕ) → FIRST_WRITE ≤ q → new q ≡ old q) → held_by rs w new r ≡ held_by rs w old r
+    → ((q : ℕ) → first_write ≤ q → new q ≡ old q) → held_by rs w new r ≡ held_by rs w old r
 holds_same [] w old new r e = refl
 holds_same (x ∷ xs) w old new r e =
-    ap₂ (λ t h. cond (r == x) (came t) h) (e (FIRST_WRITE + w) (omega arith)) (holds_same xs (suc w) old new r e)
+    ap₂ (λ t h. cond (r == x) (came t) h) (e (first_write + w) (omega arith)) (holds_same xs (suc w) old new r e)
 
 -- what stands in a list is an item of it
 has_got : (y : ℕ) (ys : List ℕ) (j : ℕ) → slice_get ys j ≡ Some y → has_item ys y ≡ true
@@ -178,38 +178,38 @@ has_got y (z ∷ zs) (suc j) g = later (z == y) (has_got y zs j g)
 
 -- a token that comes to write k, which is write w and so many more, is held by its register
 pub holds_more : (rs : List ℕ) (w k y : ℕ) (old new : ℕ → Answer) (t : Token) (r : ℕ) → AreOnce rs
-    → slice_get rs k ≡ Some y → new (FIRST_WRITE + (w + k)) ≡ Some t
-    → ((q : ℕ) → (q ≡ FIRST_WRITE + (w + k) → ⊥) → new q ≡ old q)
+    → slice_get rs k ≡ Some y → new (first_write + (w + k)) ≡ Some t
+    → ((q : ℕ) → (q ≡ first_write + (w + k) → ⊥) → new q ≡ old q)
     → held_by rs w new r ≡ cond (r == y) (Came t) (held_by rs w old r)
 holds_more [] w k y old new t r h e n s = absurd (cc)
 holds_more (x ∷ xs) w zero y old new t r h e n s =
     let same : x ≡ y = cc in
     let first : w + 0 ≡ w = omega arith in
-    ap₂ (λ v m. cond (r == x) (came v) m) (ap (λ i. new (FIRST_WRITE + i)) (sym first) ∙ n)
+    ap₂ (λ v m. cond (r == x) (came v) m) (ap (λ i. new (first_write + i)) (sym first) ∙ n)
     (others xs (suc w) (omega arith))
-    ∙ go (r == x) ∙ ap (λ z. cond (r == z) (Came t) (cond (r == x) (came (old (FIRST_WRITE + w)))
+    ∙ go (r == x) ∙ ap (λ z. cond (r == z) (Came t) (cond (r == x) (came (old (first_write + w)))
     (held_by xs (suc w) old r))) same
   where
     others : (ys : List ℕ) (j : ℕ) → w < j → held_by ys j new r ≡ held_by ys j old r
     others [] j l = refl
     others (z ∷ zs) j l =
-        ap₂ (λ v m. cond (r == z) (came v) m) (s (FIRST_WRITE + j) (λ q. absurd (omega arith)))
+        ap₂ (λ v m. cond (r == z) (came v) m) (s (first_write + j) (λ q. absurd (omega arith)))
         (others zs (suc j) (omega arith))
 
     go : (b : Bool) → cond b (Came t) (held_by xs (suc w) old r)
-        ≡ cond b (Came t) (cond b (came (old (FIRST_WRITE + w))) (held_by xs (suc w) old r))
+        ≡ cond b (Came t) (cond b (came (old (first_write + w))) (held_by xs (suc w) old r))
     go true = refl
     go false = refl
 holds_more (x ∷ xs) w (suc k) y old new t r h e n s =
     let on : w + suc k ≡ suc w + k = omega arith in
-    ap₂ (λ v m. cond (r == x) (came v) m) (s (FIRST_WRITE + w) (λ q. absurd (omega arith)))
-    (holds_more xs (suc w) k y old new t r h.1 e (ap (λ i. new (FIRST_WRITE + i)) (sym on) ∙ n)
-    (λ q z. s q (λ u. z (u ∙ ap (λ i. FIRST_WRITE + i) on))))
+    ap₂ (λ v m. cond (r == x) (came v) m) (s (first_write + w) (λ q. absurd (omega arith)))
+    (holds_more xs (suc w) k y old new t r h.1 e (ap (λ i. new (first_write + i)) (sym on) ∙ n)
+    (λ q z. s q (λ u. z (u ∙ ap (λ i. first_write + i) on))))
     ∙ go (r == x) refl (r == y) refl
   where
     go : (b : Bool) → (r == x) ≡ b → (d : Bool) → (r == y) ≡ d
-        → cond b (came (old (FIRST_WRITE + w))) (cond d (Came t) (held_by xs (suc w) old r))
-        ≡ cond d (Came t) (cond b (came (old (FIRST_WRITE + w))) (held_by xs (suc w) old r))
+        → cond b (came (old (first_write + w))) (cond d (Came t) (held_by xs (suc w) old r))
+        ≡ cond d (Came t) (cond b (came (old (first_write + w))) (held_by xs (suc w) old r))
     go false u d v = refl
     go true u false v = refl
     go true u true v = absurd (
@@ -219,19 +219,19 @@ holds_more (x ∷ xs) w (suc k) y old new t r h e n s =
 
 -- before its token comes a register waits
 pub is_waiting : (rs : List ℕ) (w k y : ℕ) (spots : ℕ → Answer) → AreOnce rs → slice_get rs k ≡ Some y
-    → spots (FIRST_WRITE + (w + k)) ≡ None → held_by rs w spots y ≡ Waiting
+    → spots (first_write + (w + k)) ≡ None → held_by rs w spots y ≡ Waiting
 is_waiting [] w k y spots h e n = absurd (cc)
 is_waiting (x ∷ xs) w zero y spots h e n =
     let same : y ≡ x = cc in
     let first : w + 0 ≡ w = omega arith in
-    ap (λ b. cond b (came (spots (FIRST_WRITE + w))) (held_by xs (suc w) spots y)) (is_equal y x same)
-    ∙ ap came (ap (λ i. spots (FIRST_WRITE + i)) (sym first) ∙ n)
+    ap (λ b. cond b (came (spots (first_write + w))) (held_by xs (suc w) spots y)) (is_equal y x same)
+    ∙ ap came (ap (λ i. spots (first_write + i)) (sym first) ∙ n)
 is_waiting (x ∷ xs) w (suc k) y spots h e n =
     let on : w + suc k ≡ suc w + k = omega arith in
-    ap (λ b. cond b (came (spots (FIRST_WRITE + w))) (held_by xs (suc w) spots y))
+    ap (λ b. cond b (came (spots (first_write + w))) (held_by xs (suc w) spots y))
     (apart y x (λ z. let one : has_item xs x ≡ true = ap (has_item xs) (sym z) ∙ has_got y xs k e in
     let bad : true ≡ false = sym one ∙ h.0 in cc))
-    ∙ is_waiting xs (suc w) k y spots h.1 e (ap (λ i. spots (FIRST_WRITE + i)) (sym on) ∙ n)
+    ∙ is_waiting xs (suc w) k y spots h.1 e (ap (λ i. spots (first_write + i)) (sym on) ∙ n)
 
 -- one more frame, as the youngest
 pub one_more : (fs : List Frame) (g : Frame) (a r : ℕ)

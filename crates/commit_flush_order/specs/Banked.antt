@@ -1,6 +1,6 @@
 -- What banks of registers say of the frames in flight: what each register is to the frame of each age.
 use Rattle.std.specs.Prelude.{ℕ, suc, ◌+◌, ◌==◌, cond, List, [], ◌∷◌, Option, Some, None, slice_get}
-use Rattle.trips_isa.specs.declared.places.TheConstants.{FIRST_WRITE}
+use Rattle.trips_isa.specs.PlaceNumbers.{first_write}
 use Rattle.trips_isa.specs.Rule.{Answer}
 use Rattle.commit_flush_spec.specs.Frames.{Frame, at}
 use Rattle.reg_bank.specs.Ages.{Ages}
@@ -17,7 +17,7 @@ came (Some t) = Came t
 -- what register r is to a frame whose writes from number w on are of these registers
 abbrev pub held_by : List ℕ → ℕ → (ℕ → Answer) → ℕ → Held
 held_by [] w spots r = Undeclared
-held_by (x ∷ xs) w spots r = cond (r == x) (came (spots (FIRST_WRITE + w))) (held_by xs (suc w) spots r)
+held_by (x ∷ xs) w spots r = cond (r == x) (came (spots (first_write + w))) (held_by xs (suc w) spots r)
 
 -- what register r is to a frame
 abbrev pub held : Frame → ℕ → Held

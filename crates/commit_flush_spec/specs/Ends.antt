@@ -2,7 +2,7 @@
 use Rattle.std.specs.Prelude.{ℕ, zero, suc, ◌+◌, Bool, true, false, cond, ◌&&◌, ◌||◌, not, List, [], ◌∷◌}
 use Rattle.std.specs.Prelude.{length, Option, Some, None, is_none, is_some}
 use Rattle.trips_isa.specs.declared.block.Block.{Block}
-use Rattle.trips_isa.specs.declared.places.TheConstants.{FIRST_WRITE}
+use Rattle.trips_isa.specs.PlaceNumbers.{first_write}
 use Rattle.trips_isa.specs.TrapCauses.{no_mark}
 use Rattle.trips_isa.specs.Blocks.{Leaving, leaves_with}
 use Rattle.trips_isa.specs.Outcomes.{Effects, next_of, is_system, exit_of, writes_from, all_stores}
@@ -64,7 +64,7 @@ all_below p (suc n) = p n && all_below p n
 
 -- whether declared write w has its token
 abbrev pub write_came : Frame → ℕ → Bool
-write_came f w = is_some (at f.spots (FIRST_WRITE + w))
+write_came f w = is_some (at f.spots (first_write + w))
 
 -- whether number n has its store, or wants none
 abbrev pub store_came : Frame → ℕ → Bool

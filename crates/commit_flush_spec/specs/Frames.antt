@@ -4,7 +4,7 @@ use Rattle.std.specs.Prelude.{map, length, Option, Some, None, slice_get, slice_
 use Rattle.trips_isa.specs.declared.block.Stored.{Stored}
 use Rattle.trips_isa.specs.declared.block.Block.{Block}
 use Rattle.trips_isa.specs.declared.node.Node.{Node}
-use Rattle.trips_isa.specs.declared.places.TheConstants.{FIRST_STORE, NO_PLACE}
+use Rattle.trips_isa.specs.PlaceNumbers.{first_store, no_place}
 use Rattle.trips_isa.specs.TrapCauses.{no_mark}
 use Rattle.trips_isa.specs.Rule.{Answer}
 use Rattle.trips_isa.specs.Places.{nodes_of}
@@ -79,7 +79,7 @@ emptied xs = map (λ x. None) xs
 -- where no token has come there is no mark
 abbrev pub unmarked : Marks
 unmarked = record {
-  spots = zeros FIRST_STORE;
+  spots = zeros first_store;
   places = zeros token_places;
   stores = zeros 32;
   exit = no_mark;
@@ -92,7 +92,7 @@ fresh n k b = record {
   sealed = false;
   block = k;
   code = b;
-  spots = blank FIRST_STORE;
+  spots = blank first_store;
   places = blank token_places;
   fired = unset 128;
   reads = unset 32;
@@ -116,7 +116,7 @@ source b p = cond (nat_lt p first_read_place) (slot_node b (p / 2)) ((p - first_
 
 -- the place that a node names first or second
 abbrev pub named_at : Option Node → Bool → ℕ
-named_at None first = NO_PLACE
+named_at None first = no_place
 named_at (Some n) first = cond first n.first n.second
 
 -- the place of the block at which a token in place p is delivered
@@ -125,4 +125,4 @@ target b p = named_at (slice_get (nodes_of b) (source b p)) (p % 2 == 0)
 
 -- only an operand, a predicate or a write is delivered a token
 abbrev pub is_target : ℕ → Bool
-is_target q = nat_lt q FIRST_STORE
+is_target q = nat_lt q first_store

@@ -6,7 +6,7 @@ use Rattle.trips_isa.specs.declared.block.Inst.{Inst}
 use Rattle.trips_isa.specs.declared.block.ReadSlot.{ReadSlot}
 use Rattle.trips_isa.specs.declared.block.Block.{Block}
 use Rattle.trips_isa.specs.declared.form.Form.TheVariants.{Branch}
-use Rattle.trips_isa.specs.declared.places.TheConstants.{FIRST_STORE, EXIT}
+use Rattle.trips_isa.specs.PlaceNumbers.{first_store, exit_place}
 use Rattle.trips_isa.specs.Places.{nodes_of}
 use Rattle.trips_isa.specs.Marks.{mark_at, IsMarking}
 use Rattle.trips_isa.specs.Forms.{form_of, size_of, is_load}
@@ -61,8 +61,8 @@ pub record MarksAgree (f : Frame) (g : ℕ → Answer) (m : ℕ → ℕ) : Type 
   pub spots : (q : ℕ) → at f.spots q ≢ None → mark_on f.marks.spots q ≡ mark_at (nodes_of f.code) g m q
   pub places : (p : ℕ) → at f.places p ≢ None → mark_on f.marks.places p ≡ m (source f.code p)
   pub stores : (n : ℕ) → at f.stores n ≢ None
-      → mark_on f.marks.stores n ≡ mark_at (nodes_of f.code) g m (FIRST_STORE + n)
-  pub exit : f.exit ≢ None → f.marks.exit ≡ mark_at (nodes_of f.code) g m EXIT
+      → mark_on f.marks.stores n ≡ mark_at (nodes_of f.code) g m (first_store + n)
+  pub exit : f.exit ≢ None → f.marks.exit ≡ mark_at (nodes_of f.code) g m exit_place
 
 -- a load has sent its token once it is answered, and another instruction once it has fired
 abbrev pub inst_sent : Frame → Option Inst → Bool
@@ -120,7 +120,7 @@ pub record Known (o : Older) (f : Frame) (r : ℕ) : Type 0 where
 -- the sizes of a frame's lists
 pub record IsSized (f : Frame) : Type 0 where
   -- an entry for each operand, predicate and write of a block, and for each token on its way
-  pub spots : length f.spots ≡ FIRST_STORE
+  pub spots : length f.spots ≡ first_store
   pub places : length f.places ≡ token_places
   -- an entry for each slot, for each read, and for each load/store number
   pub fired : length f.fired ≡ 128
@@ -129,7 +129,7 @@ pub record IsSized (f : Frame) : Type 0 where
   pub loads : length f.loads ≡ 32
   pub stores : length f.stores ≡ 32
   -- a mark for each token, each token on its way, and each store
-  pub spot_marks : length f.marks.spots ≡ FIRST_STORE
+  pub spot_marks : length f.marks.spots ≡ first_store
   pub place_marks : length f.marks.places ≡ token_places
   pub store_marks : length f.marks.stores ≡ 32
 

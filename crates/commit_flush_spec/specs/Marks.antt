@@ -1,7 +1,7 @@
 -- Marks beside the tokens of a frame, the causes of faults that travel with them (docs/MACHINE.md, "Exceptions").
 -- Own: which events move a mark. No event looks at marks but Commit.
 use Rattle.std.specs.Prelude.{ℕ, suc, ◌-◌, cond, nat_lt, List, replicate, slice_set, slice_index_or}
-use Rattle.trips_isa.specs.declared.places.TheConstants.{FIRST_STORE, EXIT}
+use Rattle.trips_isa.specs.PlaceNumbers.{first_store, exit_place}
 use Rattle.trips_isa.specs.TrapCauses.{no_mark}
 
 -- the mark beside each token of a frame; where no token stands a number says nothing
@@ -40,5 +40,5 @@ mark_left c m = record m { exit = c }
 
 -- the mark at a place of the block at which an output stands: a write, a store number or the exit
 abbrev pub mark_held : Marks → ℕ → ℕ
-mark_held m q = cond (nat_lt q FIRST_STORE) (mark_on m.spots q)
-    (cond (nat_lt q EXIT) (mark_on m.stores (q - FIRST_STORE)) m.exit)
+mark_held m q = cond (nat_lt q first_store) (mark_on m.spots q)
+    (cond (nat_lt q exit_place) (mark_on m.stores (q - first_store)) m.exit)

@@ -6,7 +6,7 @@ use Rattle.trips_isa.specs.declared.block.Token.TheVariants.{Null, Word}
 use Rattle.trips_isa.specs.declared.block.Inst.{Inst}
 use Rattle.trips_isa.specs.declared.block.Stored.{Stored}
 use Rattle.trips_isa.specs.declared.block.Block.{Block}
-use Rattle.trips_isa.specs.declared.places.TheConstants.{FIRST_WRITE}
+use Rattle.trips_isa.specs.PlaceNumbers.{first_write}
 use Rattle.trips_isa.specs.Rule.{Answer}
 use Rattle.trips_isa.specs.Stores.{byte_of, byte_seen}
 use Rattle.trips_isa.specs.Outcomes.{is_scall}
@@ -36,7 +36,7 @@ over_write r t look q = cond (q == r) (forwarded t (look q)) (look q)
 -- what is seen through the writes from write w on
 abbrev pub through : List ℕ → ℕ → (ℕ → Answer) → (ℕ → Option ℕ) → ℕ → Option ℕ
 through [] w spots look = look
-through (r ∷ rs) w spots look = through rs (suc w) spots (over_write r (spots (FIRST_WRITE + w)) look)
+through (r ∷ rs) w spots look = through rs (suc w) spots (over_write r (spots (first_write + w)) look)
 
 -- the fold -------------------------------------------------------------------------------------
 

@@ -7,6 +7,7 @@ use Rattle.ir_forms.specs.FlatCode.{Function, Program}
 use Rattle.ir_forms.specs.FlatFits.{FitsFunction, FitsCall, FitsProgram, steps_of_all}
 use Rattle.ir_forms.specs.FlatFits.{code_blocks_of_all}
 use Rattle.ir_forms.specs.Frames.{frames_at, frame_limit}
+use Rattle.ir_forms.specs.Limits.{most_statements}
 use Rattle.flat_lower.specs.Tree.{Func, Source}
 use Rattle.flat_lower.specs.Fits.{FitsSource}
 use Rattle.flat_lower.specs.Objects.{row_of}
@@ -61,4 +62,4 @@ FewBlocks = (P : Source) → code_blocks_of_all (lowered P).functions ≤ 6 * so
 abbrev pub LoweredFits : Type 0
 LoweredFits =
     (P : Source) → FitsSource P → FewParams P → PlacedJumps P → SmallRows P
-    → 4 * source_size P ≤ 16777216 → FitsProgram (lowered P)
+    → 4 * source_size P ≤ most_statements → FitsProgram (lowered P)

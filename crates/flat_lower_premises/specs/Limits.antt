@@ -4,6 +4,7 @@ use Rattle.c_tree.specs.Limits.{most_tokens}
 use Rattle.c_tree.specs.declared.typed.TypedProgram.{TypedProgram}
 use Rattle.flat_lower.specs.TreeViews.{source_of}
 use Rattle.flat_lower_limits.specs.Nodes.{source_size}
+use Rattle.ir_forms.specs.Limits.{most_statements}
 
 -- Globals and frames fit the machine's memory. Each global takes whole words of 8 bytes, so that a limit on
 -- the bytes of all globals does not do alone. A text has a limit on its tokens, and each global stands in at
@@ -14,4 +15,4 @@ HasFewGlobals P = length P.globals ≤ most_tokens
 -- A word counts the sections of each switch, since each is a node. Of nodes there are so few that four flat
 -- statements for each are within their limit. A text has a limit on its tokens, which bounds its nodes.
 abbrev pub HasFewNodes : TypedProgram → Type 0
-HasFewNodes P = 4 * source_size (source_of P) ≤ 16777216
+HasFewNodes P = 4 * source_size (source_of P) ≤ most_statements

@@ -8,6 +8,7 @@ use Rattle.c_tree.specs.declared.typed.TypedProgram.{TypedProgram}
 use Rattle.c_grammar.specs.Answers.{IsUnit}
 use Rattle.c_type_rules.specs.Units.{Accepts}
 use Rattle.ir_forms.specs.FlatFits.{code_blocks_of_all}
+use Rattle.ir_forms.specs.Limits.{most_statements}
 use Rattle.flat_lower.specs.TreeViews.{source_of}
 use Rattle.flat_lower.specs.Statements.{lowered_program}
 use Rattle.flat_lower_premises.specs.Most.{most_of}
@@ -30,7 +31,7 @@ ProgramsAreSmall =
 abbrev pub ProgramsHaveRoom : Type 0
 ProgramsHaveRoom =
     (ts : List Lexeme) (p : Program) (t : TypedProgram) → IsUnit ts p.items → length ts ≤ most_tokens
-    → Accepts p t → 4 * source_size (source_of t) ≤ 16777216
+    → Accepts p t → 4 * source_size (source_of t) ≤ most_statements
 
 -- a pass through a function of the typed program costs no more than the text has tokens
 abbrev pub PassesAreShort : Type 0

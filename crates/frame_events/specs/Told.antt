@@ -5,7 +5,7 @@ use Rattle.trips_isa.specs.declared.block.Inst.{Inst}
 use Rattle.trips_isa.specs.declared.block.ReadSlot.{ReadSlot}
 use Rattle.trips_isa.specs.declared.block.Stored.{Stored}
 use Rattle.trips_isa.specs.declared.block.Block.{Block}
-use Rattle.trips_isa.specs.declared.places.TheConstants.{FIRST_WRITE}
+use Rattle.trips_isa.specs.PlaceNumbers.{first_write}
 use Rattle.trips_isa.specs.TrapCauses.{no_mark}
 use Rattle.trips_isa.specs.Rule.{Answer}
 use Rattle.trips_isa.specs.Stores.{stored_of}
@@ -44,7 +44,7 @@ token_in p (Some f) = at f.places p
 
 -- the register of the write at place q of the block, if a write is there
 abbrev pub write_at : List ℕ → ℕ → Option ℕ
-write_at writes q = cond (nat_le FIRST_WRITE q) (slice_get writes (q - FIRST_WRITE)) None
+write_at writes q = cond (nat_le first_write q) (slice_get writes (q - first_write)) None
 
 -- the register of the write to which the token in place p goes, if it goes to one
 abbrev pub register_to : ℕ → Option Frame → Option ℕ

@@ -8,7 +8,7 @@ use Rattle.trips_isa.specs.declared.block.Inst.{Inst}
 use Rattle.trips_isa.specs.declared.block.ReadSlot.{ReadSlot}
 use Rattle.trips_isa.specs.declared.block.Block.{Block}
 use Rattle.trips_isa.specs.declared.node.Node.{Node}
-use Rattle.trips_isa.specs.declared.places.TheConstants.{NO_PLACE}
+use Rattle.trips_isa.specs.PlaceNumbers.{no_place}
 use Rattle.trips_isa.specs.Rule.{Answer}
 use Rattle.trips_isa.specs.Places.{nodes_of, inst_node, inst_nodes, read_node}
 use Rattle.trips_isa.specs.Tables.{node_gives}
@@ -49,7 +49,7 @@ inside (x ∷ rs) (suc r) d h = inside rs r d (omega arith)
 no_node : (b : Block) (s : ℕ) → slice_get b.insts.items s ≡ None → slice_get (nodes_of b) (slot_node b s) ≡ None
 no_node b s e = past_reads b.reads.items b.insts.items (slot_node b s) s refl ∙ gone_nodes b.insts.items 0 s e
 
-nowhere : (f : Bool) → cond f NO_PLACE NO_PLACE ≡ NO_PLACE
+nowhere : (f : Bool) → cond f no_place no_place ≡ no_place
 nowhere true = refl
 nowhere false = refl
 
@@ -82,7 +82,7 @@ item_named b is s d f e h = ap (λ i. named_at (Some (inst_node s i)) f)
     (item_at is s d h ∙ ap (λ js. get_or js s None) e) ∙ slot_named b s f
 
 pub past_named : (b : Block) (is : List (Option Inst)) (s : ℕ) (f : Bool) → is ≡ b.insts.items → length is ≤ s
-    → NO_PLACE ≡ named_at (slice_get (nodes_of b) (slot_node b s)) f
+    → no_place ≡ named_at (slice_get (nodes_of b) (slot_node b s)) f
 past_named b is s f e h = sym (nowhere f)
     ∙ ap (λ i. named_at (Some (inst_node s i)) f) (sym (past_last is s h) ∙ ap (λ js. get_or js s None) e)
     ∙ slot_named b s f

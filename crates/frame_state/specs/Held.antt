@@ -3,7 +3,7 @@
 use Rattle.std.specs.Prelude.{◌≡◌, ℕ, ◌+◌, Bool, true, false, List, map, Option, Some, None}
 use Rattle.trips_isa.specs.declared.block.Stored.{Stored}
 use Rattle.trips_isa.specs.declared.block.Block.{Block}
-use Rattle.trips_isa.specs.declared.places.TheConstants.{FIRST_STORE}
+use Rattle.trips_isa.specs.PlaceNumbers.{first_store}
 use Rattle.trips_isa.specs.Rule.{Answer}
 use Rattle.commit_flush_spec.specs.Marks.{Marks}
 use Rattle.commit_flush_spec.specs.Frames.{Frame, Exit, Taken, NoBytes, Bytes, blank, unset, unmarked}
@@ -69,7 +69,7 @@ filled k h = record {
   number = h.number;
   block = k;
   generation = h.generation + 1;
-  spots = blank FIRST_STORE;
+  spots = blank first_store;
   places = blank token_places;
   fired = unset 128;
   reads = unset 32;

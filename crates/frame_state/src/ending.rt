@@ -1,6 +1,6 @@
 //! Whether a frame has all its outputs, what they are, and their marks.
 ghost use Rattle.std.specs.Prelude.{◌≡◌, ◌<◌, ◌≤◌, ◌+◌, cond, is_some};
-ghost use Rattle.trips_isa.specs.declared.places.TheConstants.{FIRST_WRITE, FIRST_STORE};
+ghost use Rattle.trips_isa.specs.PlaceNumbers.{first_write, first_store};
 ghost use Rattle.trips_isa.specs.Places.{in_mask};
 ghost use Rattle.trips_isa.specs.Marks.{least_at, writes_to, mask_places};
 ghost use Rattle.commit_flush_spec.specs.Marks.{mark_held};
@@ -58,7 +58,7 @@ impl Body {
     #[tactic(auto, using(crate::proofs::LeastFacts::write_held))]
     fn write_mark(&self, w: usize) -> u8
         requires { w < 32 }
-        ensures { result ≡ mark_held self.now.marks (FIRST_WRITE + w) }
+        ensures { result ≡ mark_held self.now.marks (first_write + w) }
     {
         self.marks.spot(FIRST_WRITE as usize + w)
     }
@@ -67,7 +67,7 @@ impl Body {
     #[tactic(auto, using(crate::proofs::LeastFacts::store_held))]
     fn store_mark(&self, number: u8) -> u8
         requires { number < 32 }
-        ensures { result ≡ mark_held self.now.marks (FIRST_STORE + number) }
+        ensures { result ≡ mark_held self.now.marks (first_store + number) }
     {
         self.marks.store(number as usize)
     }
@@ -75,7 +75,7 @@ impl Body {
     // The mark of a number's store, if the mask has it.
     fn number_mark(&self, mask: u32, number: u8) -> u8
         requires { number < 32 }
-        ensures { result ≡ cond (in_mask mask number) (mark_held self.now.marks (FIRST_STORE + number)) 0 }
+        ensures { result ≡ cond (in_mask mask number) (mark_held self.now.marks (first_store + number)) 0 }
     {
         if in_mask(mask, number) {
             self.store_mark(number)

@@ -1,6 +1,6 @@
 //! The least output that a frame lacks.
 ghost use Rattle.std.specs.Prelude.{◌≡◌, ◌≤◌, ◌+◌, ◌||◌, is_none, is_some, not};
-ghost use Rattle.trips_isa.specs.declared.places.TheConstants.{FIRST_WRITE};
+ghost use Rattle.trips_isa.specs.PlaceNumbers.{first_write};
 ghost use Rattle.trips_isa.specs.Places.{in_mask};
 ghost use Rattle.commit_flush_spec.specs.Ends.{complete, store_came};
 ghost use Rattle.commit_flush_spec.specs.Frames.{at, numbers};
@@ -17,7 +17,7 @@ use trips_isa::{Block, Stored};
 // The lowest of the first writes that has no token.
 fn first_write(spots: &Spots, count: usize) -> Option<u8>
     requires { count ≤ 32 }
-    ensures { result ≡ first_missing (λ w. is_some (at spots.now (FIRST_WRITE + w))) count 0 }
+    ensures { result ≡ first_missing (λ w. is_some (at spots.now (first_write + w))) count 0 }
 {
     for w in 0..count {
         if !write_came(spots, w) {

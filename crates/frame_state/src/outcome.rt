@@ -1,6 +1,6 @@
 //! Whether a frame has all its outputs.
 ghost use Rattle.std.specs.Prelude.{◌≡◌, ◌<◌, ◌≤◌, ◌+◌, ◌||◌, ℕ, List, cond, length, not, is_some};
-ghost use Rattle.trips_isa.specs.declared.places.TheConstants.{FIRST_WRITE, FIRST_STORE};
+ghost use Rattle.trips_isa.specs.PlaceNumbers.{first_write, first_store};
 ghost use Rattle.trips_isa.specs.Places.{in_mask};
 ghost use Rattle.commit_flush_spec.specs.Frames.{at, numbers};
 ghost use Rattle.commit_flush_spec.specs.Ends.{all_below};
@@ -19,7 +19,7 @@ pub fn in_mask(mask: u32, number: u8) -> bool
 /// Whether a write has its token.
 pub fn write_came(spots: &Spots, w: usize) -> bool
     requires { w < 1000 }
-    ensures { result ≡ is_some (at spots.now (FIRST_WRITE + w)) }
+    ensures { result ≡ is_some (at spots.now (first_write + w)) }
 {
     spots.get(FIRST_WRITE as usize + w).is_some()
 }
@@ -27,7 +27,7 @@ pub fn write_came(spots: &Spots, w: usize) -> bool
 /// Whether the first writes have their tokens.
 pub fn writes_came(spots: &Spots, count: usize) -> bool
     requires { count ≤ 32 }
-    ensures value { result ≡ all_below (λ w. is_some (at spots.now (FIRST_WRITE + w))) count }
+    ensures value { result ≡ all_below (λ w. is_some (at spots.now (first_write + w))) count }
 {
     for w in 0..count {
         if !write_came(spots, w) {

@@ -1,7 +1,7 @@
 //! What a sealed frame hands to its commit.
 ghost use Rattle.std.specs.Prelude.{◌≡◌, ◌≤◌, ◌+◌, ◌++◌, ◌<◌, ℕ, List, length, take};
 ghost use Rattle.trips_isa.specs.Stores.{listed};
-ghost use Rattle.trips_isa.specs.declared.places.TheConstants.{FIRST_WRITE};
+ghost use Rattle.trips_isa.specs.PlaceNumbers.{first_write};
 ghost use Rattle.trips_isa.specs.Outcomes.{or_null, writes_from, all_stores};
 ghost use Rattle.commit_flush_spec.specs.Frames.{at};
 ghost use Rattle.frame_state.specs.Held.{as_exit, exit_of};
@@ -83,7 +83,7 @@ impl Outputs {
 // The token of a write; one that has not come counts as null.
 fn write_token(spots: &Spots, w: usize) -> Token
     requires { w < 32 }
-    ensures { result ≡ or_null (at spots.now (FIRST_WRITE + w)) }
+    ensures { result ≡ or_null (at spots.now (first_write + w)) }
 {
     match spots.get(FIRST_WRITE as usize + w) {
         Some(token) => token,

@@ -1,6 +1,6 @@
 //! What a frame in flight tells of what it holds.
 ghost use Rattle.std.specs.Prelude.{◌≡◌, ◌<◌, ◌+◌, ◌*◌, ℕ, is_some, false, slice_index_or};
-ghost use Rattle.trips_isa.specs.declared.places.TheConstants.{FIRST_WRITE};
+ghost use Rattle.trips_isa.specs.PlaceNumbers.{first_write};
 ghost use Rattle.trips_isa.specs.Stores.{stored_of};
 ghost use Rattle.trips_isa.specs.declared.block.Block.{Block};
 ghost use Rattle.bit_rows.specs.Rows.{has_bit};
@@ -87,7 +87,7 @@ impl Body {
 
     /// The token of a write, if it has come.
     pub fn write(&self, write: u8) -> Option<Token>
-        ensures value { result ≡ at self.now.spots (FIRST_WRITE + write) }
+        ensures value { result ≡ at self.now.spots (first_write + write) }
     {
         self.spots.get(FIRST_WRITE as usize + write as usize)
     }

@@ -11,6 +11,7 @@ use Rattle.trips_isa.specs.declared.block.Block.{Block}
 use Rattle.trips_isa.specs.declared.form.Form.{Form}
 use Rattle.trips_isa.specs.declared.form.Form.TheVariants.{General, Immediate, Load, Store, Branch, Constant}
 use Rattle.trips_isa.specs.Forms.{form_of, is_load, is_store}
+use Rattle.trips_isa.specs.Limits.{most_nodes}
 use Rattle.block_cases.specs.Orders.{slot_of}
 use Rattle.operand_net.specs.declared.parcel.Stand.{Stand}
 use Rattle.operand_net.specs.declared.parcel.Stand.TheVariants.{Nowhere, Away, Held}
@@ -342,7 +343,7 @@ module _ {W : Type 0} (blocks : List Block) (good : AllGood blocks) (o : Older) 
       by (Some slot) i true e = subst (λ b. Shown (slot_tasks + r) (cond b (sent_of g f (slot_tasks + r)) Idle)) (sym e)
           (refl, refl)
 
-  shown : (x : ℕ) → x < 160 → Shown x (phase_of g f x)
+  shown : (x : ℕ) → x < most_nodes → Shown x (phase_of g f x)
   shown x l = go (nat_lt x 128) refl
     where
       go : (b : Bool) → nat_lt x 128 ≡ b → Shown x (phase_of g f x)

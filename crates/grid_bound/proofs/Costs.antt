@@ -4,11 +4,12 @@ use Rattle.std.proofs.Common.{zero, slice_get, refl, sym, ap, ◌∙◌, arith}
 use Rattle.std.proofs.lemmas.Bool.{cases_lt}
 use Rattle.trips_isa.specs.declared.block.Block.{Block}
 use Rattle.trips_isa.specs.Machine.{State, runs}
+use Rattle.trips_isa.specs.Limits.{most_nodes}
 use Rattle.block_predict.specs.Predicts.{Holding}
 use Rattle.commit_flush_spec.specs.InFlight.{opened}
 use Rattle.commit_flush_spec.specs.Invariant.{AllGood}
 use Rattle.commit_flush_spec.specs.Laws.{WindowOk, TakesSteps}
-use Rattle.grid_cycle_spec.specs.Costs.{size, cost, cost_in, cost_of, greatest}
+use Rattle.grid_cycle_spec.specs.Costs.{size, cost, cost_in, cost_of, greatest, greatest_cost}
 use Rattle.grid_cycle_spec.specs.Grid.{Grid}
 use Rattle.grid_cycle_spec.specs.Cycles.{Eager, AfterCycles, begun_at}
 use Rattle.grid_cycle_spec.proofs.Routes.{cost_most}
@@ -25,7 +26,7 @@ use Rattle.grid_bound.specs.GoesOn.{GoesOn}
 use Rattle.grid_bound.proofs.Before.{steps}
 use Rattle.grid_bound.proofs.Standing.{reached_state, all_stand, stands}
 
-size_most : (b : Block) → cost b ≤ greatest → size b ≤ 160
+size_most : (b : Block) → cost b ≤ greatest → size b ≤ most_nodes
 unfolding cost greatest
 size_most b l = omega (arith, l)
 
@@ -33,10 +34,10 @@ cost_is : (b : Block) → cost b ≡ price (size b)
 unfolding cost
 cost_is b = refl
 
-size_in_most : (blocks : List Block) → AllGood blocks → (k : ℕ) → size_in (slice_get blocks k) ≤ 160
+size_in_most : (blocks : List Block) → AllGood blocks → (k : ℕ) → size_in (slice_get blocks k) ≤ most_nodes
 size_in_most blocks good k = by (slice_get blocks k) refl
   where
-    by : (o : Option Block) → slice_get blocks k ≡ o → size_in o ≤ 160
+    by : (o : Option Block) → slice_get blocks k ≡ o → size_in o ≤ most_nodes
     by None e = omega arith
     by (Some b) e = size_most b (cost_most b (good k b e).fits)
 
@@ -58,7 +59,7 @@ module _ {W : Type 0} (blocks : List Block) (good : AllGood blocks) (budget : �
   abbrev sizes : ℕ → ℕ
   sizes = sizes_from blocks s
 
-  small : (k : ℕ) → sizes k ≤ 160
+  small : (k : ℕ) → sizes k ≤ most_nodes
   small k = size_in_most blocks good (runs blocks s (k - length s.trace)).0.next
 
   -- the prices of the blocks committed are the cost of the trace
@@ -85,13 +86,13 @@ module _ {W : Type 0} (blocks : List Block) (good : AllGood blocks) (budget : �
     last : Stands blocks budget sizes m
     last = stands blocks good budget next follows bound s predictor weather opens n m a on few
 
-    pub moment : n + cost_of blocks s.trace < cost_of blocks m.window.state.trace + 41472
+    pub moment : n + cost_of blocks s.trace < cost_of blocks m.window.state.trace + greatest_cost
     moment =
         let b : n + left sizes (lane_in m) + total sizes (length s.trace)
         ≤ total sizes (length m.window.state.trace) + price (sizes (length m.window.state.trace)) =
         bounded.moment blocks good budget next follows bound sizes g n m run last in
         let c : 1 ≤ left sizes (lane_in m) = left_some sizes (lane_in m) in
-        let d : sizes (length m.window.state.trace) ≤ 160 = small (length m.window.state.trace) in
+        let d : sizes (length m.window.state.trace) ≤ most_nodes = small (length m.window.state.trace) in
         let e : cost_of blocks m.window.state.trace + total sizes (length s.trace)
         ≡ total sizes (length m.window.state.trace) + cost_of blocks s.trace = priced n m a in
         omega (arith, b, c, d, e)
@@ -123,14 +124,14 @@ module _ {W : Type 0} (blocks : List Block) (good : AllGood blocks) (budget : �
 
     -- whatever the next cycle does
     pub any_cycle : (h : Grid W) → Eager next follows blocks budget m h
-        → suc n + cost_of blocks s.trace ≤ cost_of blocks h.window.state.trace + 41472
+        → suc n + cost_of blocks s.trace ≤ cost_of blocks h.window.state.trace + greatest_cost
     any_cycle h cycle =
         let one : TakesSteps blocks m.window.state h.window = takes_steps blocks good budget m.window h.window last.ok
         on.went (steps blocks budget next follows m h cycle) in
         let grown : length h.window.state.trace ≡ length m.window.state.trace + one.steps = one.grown in
         let more : total sizes (length m.window.state.trace) ≤ total sizes (length h.window.state.trace) =
         total_later sizes (length m.window.state.trace) (length h.window.state.trace) (omega (arith, grown)) in
-        let b : n + cost_of blocks s.trace < cost_of blocks m.window.state.trace + 41472 = moment in
+        let b : n + cost_of blocks s.trace < cost_of blocks m.window.state.trace + greatest_cost = moment in
         let p : cost_of blocks m.window.state.trace + total sizes (length s.trace)
         ≡ total sizes (length m.window.state.trace) + cost_of blocks s.trace = priced n m a in
         let q : cost_of blocks h.window.state.trace + total sizes (length s.trace)
@@ -138,5 +139,5 @@ module _ {W : Type 0} (blocks : List Block) (good : AllGood blocks) (budget : �
         priced (suc n) h (record { between = m; before = a; after = cycle }) in
         omega (arith, b, more, p, q)
 
-    pub spends : n < 41472 * budget
+    pub spends : n < greatest_cost * budget
     spends = bounded.spends blocks good budget next follows bound sizes g n m run last small

@@ -5,7 +5,7 @@ ghost use Rattle.trips_isa.specs.Machine.{State};
 ghost use Rattle.commit_flush_spec.specs.InFlight.{opened};
 ghost use Rattle.commit_flush_spec.specs.Invariant.{AllGood};
 ghost use Rattle.commit_flush_spec.specs.Laws.{WindowOk};
-ghost use Rattle.grid_cycle_spec.specs.Costs.{cost_of};
+ghost use Rattle.grid_cycle_spec.specs.Costs.{cost_of, greatest_cost};
 ghost use Rattle.grid_cycle_spec.specs.Grid.{Grid};
 ghost use Rattle.grid_cycle_spec.specs.Cycles.{AfterCycles, Eager, begun_at};
 ghost use Rattle.grid_bound.specs.GoesOn.{GoesOn};
@@ -13,14 +13,14 @@ ghost use Rattle.grid_bound.specs.GoesOn.{GoesOn};
 use operand_net::Weather;
 
 /// A run that goes on has made at every moment fewer cycles than its trace costs and the dearest block besides; a cycle
-/// that commits is within the cost of the trace, and any cycle within that and 41,472, so that this holds where the run
-/// ends too; and no run goes on for 41,472 cycles for each block of its budget. It holds in any weather.
+/// that commits is within the cost of the trace, and any cycle within that and `greatest_cost`, so that this holds where
+/// the run ends too; and no run goes on for `greatest_cost` cycles for each block of its budget. It holds in any weather.
 pub fn cycles_cost_at_most<W: Weather>()
     ensures moment { (blocks : List Block) (budget n : ℕ) (s : State) (entries : List ℕ) (weather : W) (h : Grid W)
         → AllGood blocks → WindowOk blocks budget (opened s)
         → AfterCycles W.next W.follows blocks budget n (begun_at s entries weather) h → GoesOn budget h
         → h.counts.cycles < 2 ^ 64 - 1
-        → n + cost_of blocks s.trace < cost_of blocks h.window.state.trace + 41472 }
+        → n + cost_of blocks s.trace < cost_of blocks h.window.state.trace + greatest_cost }
     ensures commit { (blocks : List Block) (budget n : ℕ) (s : State) (entries : List ℕ) (weather : W) (m h : Grid W)
         → AllGood blocks → WindowOk blocks budget (opened s)
         → AfterCycles W.next W.follows blocks budget n (begun_at s entries weather) m → GoesOn budget m
@@ -31,9 +31,9 @@ pub fn cycles_cost_at_most<W: Weather>()
         → AllGood blocks → WindowOk blocks budget (opened s)
         → AfterCycles W.next W.follows blocks budget n (begun_at s entries weather) m → GoesOn budget m
         → m.counts.cycles < 2 ^ 64 - 1 → Eager W.next W.follows blocks budget m h
-        → suc n + cost_of blocks s.trace ≤ cost_of blocks h.window.state.trace + 41472 }
+        → suc n + cost_of blocks s.trace ≤ cost_of blocks h.window.state.trace + greatest_cost }
     ensures ends { (blocks : List Block) (budget n : ℕ) (s : State) (entries : List ℕ) (weather : W) (h : Grid W)
         → AllGood blocks → WindowOk blocks budget (opened s)
         → AfterCycles W.next W.follows blocks budget n (begun_at s entries weather) h → GoesOn budget h
-        → h.counts.cycles < 2 ^ 64 - 1 → n < 41472 * budget }
+        → h.counts.cycles < 2 ^ 64 - 1 → n < greatest_cost * budget }
 {}

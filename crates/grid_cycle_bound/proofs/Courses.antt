@@ -28,6 +28,7 @@ use Rattle.trips_isa.specs.Places.{place_at}
 use Rattle.trips_isa.specs.Places.{first_place}
 use Rattle.trips_isa.specs.Tables.{node_gives, first, or_else, taken, stores_below, Edge, Ranked}
 use Rattle.trips_isa.specs.Blocks.{Responses, Solves, at_place, computes}
+use Rattle.trips_isa.specs.Limits.{most_nodes}
 use Rattle.block_cases.specs.Orders.{slot_of}
 use Rattle.block_cases.specs.Good.{NamesPlace, OneToken}
 use Rattle.block_cases.specs.Blocks.{wanted_of}
@@ -420,35 +421,38 @@ module _ (b : Block) (runnable : IsRunnable b) (a : Responses) (g : ℕ → Answ
 
   -- outputs -------------------------------------------------------------------------------------------
 
-  ends_fed : (q : ℕ) → Member q (outputs_of b) → Fed c task_rank 160 q
+  ends_fed : (q : ℕ) → Member q (outputs_of b) → Fed c task_rank most_nodes q
   ends_fed q m = by (member_both q (writes_of (length b.writes.items)) _ m)
     where
-      up : (y : ℕ) → NamesPlace (nodes_of b) y q → rank y < 160
+      up : (y : ℕ) → NamesPlace (nodes_of b) y q → rank y < most_nodes
       up y nm = ranked.below y
 
-      last : Member q (numbers_in b.mask 32) ⊎ Member q (448 ∷ []) → Fed c task_rank 160 q
+      last : Member q (numbers_in b.mask 32) ⊎ Member q (448 ∷ []) → Fed c task_rank most_nodes q
       last (inl k) = let d : NumberOf b.mask 32 q = a_number b.mask 32 q k in
           let l : d.0 < 32 = d.1 in
           let z : 416 + d.0 ≡ q = d.3 in
-          output_fed q 160 (omega (arith, l, z)) (ap (wanted_of b) (sym z) ∙ owed_wanted b (spot.Store d.0) d.2) up
+          output_fed q most_nodes (omega (arith, l, z))
+          (ap (wanted_of b) (sym z) ∙ owed_wanted b (spot.Store d.0) d.2) up
       last (inr (inr k)) = absurd k
-      last (inr (inl k)) = subst (Fed c task_rank 160) k
-          (let y = giver (nodes_of b) g 448 one.exit in feeds_it y.0 448 160 y.1 y.2 (ranked.below y.0) (omega arith))
+      last (inr (inl k)) = subst (Fed c task_rank most_nodes) k
+          (let y = giver (nodes_of b) g 448 one.exit in
+          feeds_it y.0 448 most_nodes y.1 y.2 (ranked.below y.0) (omega arith))
 
       by : Member q (writes_of (length b.writes.items)) ⊎ Member q (numbers_in b.mask 32 ++ 448 ∷ [])
-          → Fed c task_rank 160 q
+          → Fed c task_rank most_nodes q
       by (inl k) = let d : (w : ℕ) × (w < length b.writes.items) × (384 + w ≡ q) =
           a_write (length b.writes.items) q k in
           let few : length b.writes.items ≤ 32 = runnable.fits.writes in
           let l : d.0 < length b.writes.items = d.1 in
           let z : 384 + d.0 ≡ q = d.2 in
-          output_fed q 160 (omega (arith, few, l, z)) (ap (wanted_of b) (sym z) ∙ owed_wanted b (spot.Write d.0) l) up
+          output_fed q most_nodes (omega (arith, few, l, z))
+          (ap (wanted_of b) (sym z) ∙ owed_wanted b (spot.Write d.0) l) up
       by (inr k) = last (member_both q (numbers_in b.mask 32) (448 ∷ []) k)
 
   pub course_good : Good (course_of b g)
   course_good = record {
     rank = task_rank;
-    top = 160;
+    top = most_nodes;
     by = record {
       good = tasks_good b g;
       fed = λ x q l m k. needs_at x m q k;

@@ -8,6 +8,7 @@ use Rattle.trips_isa.specs.declared.block.ReadSlot.{ReadSlot}
 use Rattle.trips_isa.specs.declared.block.Block.{Block}
 use Rattle.trips_isa.specs.Fits.{FitsBlock}
 use Rattle.trips_isa.specs.Rule.{Answer}
+use Rattle.trips_isa.specs.Limits.{most_nodes}
 use Rattle.block_cases.specs.Orders.{slot_of}
 use Rattle.grid_cycle_spec.specs.Costs.{instructions, size, cost}
 use Rattle.grid_cycle_bound.specs.Course.{sum, tasks}
@@ -18,7 +19,7 @@ pub slot_tasks_is : slot_tasks ≡ 128
 unfolding slot_tasks
 slot_tasks_is = refl
 
-pub room_is : room ≡ 160
+pub room_is : room ≡ most_nodes
 unfolding room
 room_is = refl
 

@@ -8,12 +8,13 @@ use Rattle.trips_isa.specs.declared.block.ReadSlot.{ReadSlot}
 use Rattle.trips_isa.specs.declared.block.Block.{Block}
 use Rattle.trips_isa.specs.declared.form.Form.{Form}
 use Rattle.trips_isa.specs.declared.form.Form.TheVariants as form
-use Rattle.trips_isa.specs.declared.places.TheConstants.{FIRST_WRITE, FIRST_STORE, EXIT}
+use Rattle.trips_isa.specs.PlaceNumbers.{first_write, first_store, exit_place}
 use Rattle.trips_isa.specs.Forms.{form_of, role_of, takes_left, takes_right, is_load, is_store}
 use Rattle.trips_isa.specs.Operands.{is_guarded}
 use Rattle.trips_isa.specs.Rule.{Answer}
 use Rattle.trips_isa.specs.Places.{place_of, place_at, in_mask}
 use Rattle.trips_isa.specs.Blocks.{at_place}
+use Rattle.trips_isa.specs.Limits.{most_nodes}
 use Rattle.block_cases.specs.Orders.{slot_of}
 use Rattle.commit_flush_spec.specs.Frames.{slot_node, is_target}
 use Rattle.grid_cycle_spec.specs.Stations.{control, bank_node, bank_of, data_node, home, tile_node, tile_of}
@@ -27,7 +28,7 @@ slot_tasks = 128
 
 -- the tasks of the slots, and of the 32 reads behind them
 unfoldable pub room : ℕ
-room = 160
+room = most_nodes
 
 -- loads and stores have a request; a branch is done when it has arrived at the control tile
 abbrev pub kind_of : Form → Kind
@@ -48,7 +49,7 @@ needs_of i s = if_so (takes_left (role_of i.op)) s (if_so (takes_right (role_of 
 -- of the spots of the first n numbers those in a mask
 abbrev pub numbers_in : ℕ → ℕ → List ℕ
 numbers_in mask zero = []
-numbers_in mask (suc n) = if_so (in_mask mask n) (FIRST_STORE + n) (numbers_in mask n)
+numbers_in mask (suc n) = if_so (in_mask mask n) (first_store + n) (numbers_in mask n)
 
 -- the stores that a load may have to see
 abbrev pub waits_of : Block → Inst → List ℕ
@@ -60,8 +61,8 @@ target_at b q = cond (is_target q) (Some (record { spot = q; there = home b q })
 
 -- whom an instruction gives its token first: a store its number, at its data tile, and a branch the exit
 abbrev pub first_of : Block → Form → Inst → ℕ → Option Target
-first_of b form.Store i at = Some (record { spot = FIRST_STORE + i.number; there = at })
-first_of b form.Branch i at = Some (record { spot = EXIT; there = control })
+first_of b form.Store i at = Some (record { spot = first_store + i.number; there = at })
+first_of b form.Branch i at = Some (record { spot = exit_place; there = control })
 first_of b _ i at = target_at b (place_at i.first)
 
 -- there is no task
@@ -130,11 +131,11 @@ task_of b g x = cond (nat_lt x slot_tasks) (slot_task b g x (slot_of b x))
 -- the spots of the first n writes
 abbrev pub writes_of : ℕ → List ℕ
 writes_of zero = []
-writes_of (suc n) = (FIRST_WRITE + n) ∷ writes_of n
+writes_of (suc n) = (first_write + n) ∷ writes_of n
 
 -- the outputs of a block: its writes, the numbers of its mask, and its exit
 abbrev pub outputs_of : Block → List ℕ
-outputs_of b = writes_of (length b.writes.items) ++ (numbers_in b.mask 32 ++ EXIT ∷ [])
+outputs_of b = writes_of (length b.writes.items) ++ (numbers_in b.mask 32 ++ exit_place ∷ [])
 
 -- the course of a block by a table
 abbrev pub course_of : Block → (ℕ → Answer) → Course

@@ -4,6 +4,7 @@ use Rattle.std.specs.Prelude.{ℕ, zero, suc, ◌+◌, ◌-◌, ◌*◌, Bool, t
 use Rattle.operand_net.specs.declared.parcel.Stand.{Stand}
 use Rattle.operand_net.specs.declared.parcel.Stand.TheVariants.{Nowhere, Away, Held}
 use Rattle.grid_cycle_spec.specs.Stations.{far}
+use Rattle.grid_cycle_spec.specs.Costs.{fixed_cost, task_cost}
 use Rattle.grid_cycle_bound.specs.Course.{sum, tasks}
 use Rattle.grid_cycle_bound.specs.Lane.{any, Phase, Absent, Idle, Working, Asking, Standing, Sent, Front, Stage}
 use Rattle.grid_cycle_bound.specs.Lane.{Running}
@@ -74,7 +75,7 @@ left sizes l = cond (is_complete l.stage) 1 (stage_left (sizes l.done) l.units l
 
 -- what a block of so many tasks may take
 abbrev pub price : ℕ → ℕ
-price n = 512 + 256 * n
+price n = fixed_cost + task_cost * n
 
 -- what the first n blocks may take
 abbrev pub total : (ℕ → ℕ) → ℕ → ℕ

@@ -3,7 +3,7 @@ use Rattle.std.specs.Prelude.{ℕ, suc, ◌+◌, ◌-◌, ◌*◌, ◌==◌, ◌
 use Rattle.std.specs.Prelude.{Option, Some, None, is_some, slice_get, slice_index, slice_index_or}
 use Rattle.trips_isa.specs.declared.block.Inst.{Inst}
 use Rattle.trips_isa.specs.declared.block.ReadSlot.{ReadSlot}
-use Rattle.trips_isa.specs.declared.places.TheConstants.{FIRST_STORE, EXIT}
+use Rattle.trips_isa.specs.PlaceNumbers.{first_store, exit_place}
 use Rattle.trips_isa.specs.Forms.{form_of}
 use Rattle.block_cases.specs.Orders.{slot_of}
 use Rattle.commit_flush_spec.specs.Frames.{Frame, at}
@@ -48,8 +48,8 @@ phase_of g f x = cond (nat_lt x slot_tasks) (slot_phase g f x (slot_of f.code x)
 -- whether a spot has its token: an operand, a predicate or a write, the store of a number, or the exit; there is no
 -- other spot
 abbrev pub has_come : Frame → ℕ → Bool
-has_come f q = cond (nat_lt q FIRST_STORE) (is_some (at f.spots q))
-    (cond (nat_lt q EXIT) (is_some (at f.stores (q - FIRST_STORE))) (q == EXIT && is_some f.exit))
+has_come f q = cond (nat_lt q first_store) (is_some (at f.spots q))
+    (cond (nat_lt q exit_place) (is_some (at f.stores (q - first_store))) (q == exit_place && is_some f.exit))
 
 -- the oldest frame, of this course
 abbrev pub front_of : {W : Type 0} → Course → Grid W → Frame → Front

@@ -9,7 +9,7 @@ use Rattle.trips_isa.specs.declared.op.Op.TheVariants.{Mul, Muli, Divs, Divu}
 use Rattle.trips_isa.specs.declared.block.Inst.{Inst}
 use Rattle.trips_isa.specs.declared.block.Block.{Block}
 use Rattle.trips_isa.specs.declared.run.Traced.{Traced}
-use Rattle.trips_isa.specs.declared.places.TheConstants.{FIRST_WRITE}
+use Rattle.trips_isa.specs.PlaceNumbers.{first_write}
 use Rattle.trips_isa.specs.Fits.{FitsBlock}
 use Rattle.operand_net.specs.Tick.{next_of}
 use Rattle.grid_cycle_spec.specs.Stations.{bank_of, bank_node, data_tile_of, data_node, far, home, tile_of, tile_node}
@@ -81,8 +81,8 @@ pub tile_inside : (s : ℕ) → tile_node (tile_of s) < 25
 tile_inside s = omega arith
 
 pub home_inside : (b : Block) (q : ℕ) → home b q < 25
-home_inside b q = go (nat_lt q FIRST_WRITE) (bank_of (slice_index_or b.writes.items (q - FIRST_WRITE) 0))
-    (bank_inside (slice_index_or b.writes.items (q - FIRST_WRITE) 0))
+home_inside b q = go (nat_lt q first_write) (bank_of (slice_index_or b.writes.items (q - first_write) 0))
+    (bank_inside (slice_index_or b.writes.items (q - first_write) 0))
   where
     go : (v : Bool) (n : ℕ) → bank_node n < 25 → cond v (tile_node (tile_of (q % 128))) (bank_node n) < 25
     go true n l = tile_inside (q % 128)

@@ -5,6 +5,7 @@ use Rattle.trips_isa.specs.declared.op.Op.TheVariants.{Mul, Muli, Divs, Divu}
 use Rattle.trips_isa.specs.declared.block.Inst.{Inst}
 use Rattle.trips_isa.specs.declared.block.Block.{Block}
 use Rattle.trips_isa.specs.declared.run.Traced.{Traced}
+use Rattle.trips_isa.specs.Limits.{most_nodes}
 
 -- the cycles from the issue of an operation to its result
 abbrev pub latency : Op → ℕ
@@ -32,9 +33,17 @@ instructions (Some i ∷ slots) = suc (instructions slots)
 abbrev pub size : Block → ℕ
 size b = instructions b.insts.items + length b.reads.items
 
--- the cycles that a block may take: for its fetch, its commit and one fetch anew, and for each instruction and read
+-- the cycles that a block may take for its fetch, its commit and one fetch anew
+abbrev pub fixed_cost : ℕ
+fixed_cost = 512
+
+-- the cycles that it may take besides for each instruction and read
+abbrev pub task_cost : ℕ
+task_cost = 256
+
+-- the cycles that a block may take
 unfoldable pub cost : Block → ℕ
-cost b = 512 + 256 * size b
+cost b = fixed_cost + task_cost * size b
 
 -- the cost of a block of an image, and none where there is no such block
 abbrev pub cost_in : Option Block → ℕ
@@ -46,6 +55,10 @@ abbrev pub cost_of : List Block → List Traced → ℕ
 cost_of blocks [] = 0
 cost_of blocks (t ∷ ts) = cost_in (slice_get blocks t.block) + cost_of blocks ts
 
--- the greatest cost of a block: 128 instructions and 32 reads
+-- the greatest cost of a block, 41,472: that of 128 instructions and 32 reads
+abbrev pub greatest_cost : ℕ
+greatest_cost = fixed_cost + task_cost * most_nodes
+
+-- the same; not an `abbrev`, since a large numeral unrolls recursions in goals
 unfoldable pub greatest : ℕ
-greatest = 41472
+greatest = greatest_cost

@@ -4,7 +4,7 @@
 -- register and address belongs where.
 use Rattle.std.specs.Prelude.{ℕ, ◌+◌, ◌-◌, ◌*◌, ◌/◌, ◌%◌, cond, nat_lt, slice_index_or}
 use Rattle.trips_isa.specs.declared.block.Block.{Block}
-use Rattle.trips_isa.specs.declared.places.TheConstants.{FIRST_WRITE}
+use Rattle.trips_isa.specs.PlaceNumbers.{first_write}
 
 -- the node in a row and a column
 abbrev pub node : ℕ → ℕ → ℕ
@@ -53,8 +53,8 @@ data_tile_of address = address / 64 % data_tiles
 -- the node at which a place of a block is: an operand or a predicate at the tile of its slot, a write at the
 -- bank of its register
 abbrev pub home : Block → ℕ → ℕ
-home b q = cond (nat_lt q FIRST_WRITE) (tile_node (tile_of (q % 128)))
-    (bank_node (bank_of (slice_index_or b.writes.items (q - FIRST_WRITE) 0)))
+home b q = cond (nat_lt q first_write) (tile_node (tile_of (q % 128)))
+    (bank_node (bank_of (slice_index_or b.writes.items (q - first_write) 0)))
 
 -- how far two numbers are apart
 abbrev pub apart : ℕ → ℕ → ℕ

@@ -7,7 +7,7 @@ use Rattle.trips_isa.specs.Machine.{State}
 use Rattle.block_predict.specs.Predicts.{Holding}
 use Rattle.commit_flush_spec.specs.Invariant.{AllGood}
 use Rattle.commit_flush_spec.specs.Laws.{WindowOk}
-use Rattle.grid_cycle_spec.specs.Costs.{cost_of, greatest}
+use Rattle.grid_cycle_spec.specs.Costs.{cost_of, greatest, greatest_cost}
 use Rattle.grid_cycle_spec.specs.Grid.{Grid}
 use Rattle.grid_state.specs.Changes.{begun_with}
 use Rattle.grid_run.specs.Answered.{HasCome, IsCutOff}
@@ -31,14 +31,14 @@ not_ended : (b : Bool) (y : Ending) → b ≡ false → None ≡ cond b None (So
 not_ended true y e n = absurd (let bad : true ≡ false = e in cc)
 not_ended false y e n = (let bad : None ≡ Some y = n in cc)
 
-to_greatest : (n c : ℕ) → n ≤ c + 41472 → n ≤ c + greatest
+to_greatest : (n c : ℕ) → n ≤ c + greatest_cost → n ≤ c + greatest
 unfolding greatest
 to_greatest n c l = l
 
 -- as many cycles as a run may make are far below 2^63
 pub far_below : (budget n : ℕ) → budget < 2 ^ 32 → n ≤ most_cycles budget → n < 2 ^ 63
 far_below budget n small few =
-    let e : 41472 * budget ≡ most_cycles budget = most_is budget in
+    let e : greatest_cost * budget ≡ most_cycles budget = most_is budget in
     omega (arith, e, small, few)
 
 -- at the start -----------------------------------------------------------------------------------

@@ -69,7 +69,7 @@ pub record IsCycle {W : Type 0} (next : W → ℕ) (follows : W → W → Type 0
 -- block that comes next, which at a trap is the block that trapped; at an ending that is no trap, at most as many as its
 -- trace costs
 pub record IsWithinCost {W : Type 0} (blocks : List Block) (budget : ℕ) (g : Grid W) : Type 0 where
-  -- at every moment; a block costs at most 41,472
+  -- at every moment; a block costs at most `greatest`
   pub moment : g.counts.cycles ≤ cost_of blocks g.window.state.trace + greatest
   -- at every moment too, by what the block that comes next costs
   pub next : g.counts.cycles ≤ cost_of blocks g.window.state.trace + cost_in (slice_get blocks g.window.state.next)

@@ -95,7 +95,10 @@ N[1] divu W[0]
 N[2] bro 0 @0
 ",
     budget: 5,
-    ending: Ending::Trap { block: 1, cause: TrapCause::DivisionByZero },
+    ending: Ending::Trap {
+        block: 1,
+        cause: TrapCause::DivisionByZero,
+    },
     result: 7,
     committed: 1,
 };

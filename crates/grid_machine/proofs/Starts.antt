@@ -15,7 +15,7 @@ use Rattle.commit_flush_spec.specs.Window.{Window, opened}
 use Rattle.grid_cycle.specs.Going.{goes}
 use Rattle.commit_flush_spec.specs.Invariant.{AllGood}
 use Rattle.commit_flush_spec.specs.Laws.{WindowOk}
-use Rattle.grid_cycle_spec.specs.Costs.{greatest}
+use Rattle.grid_cycle_spec.specs.Costs.{greatest, greatest_cost}
 use Rattle.grid_cycle_spec.specs.Grid.{Grid}
 use Rattle.grid_cycle_spec.specs.Laws.{AddsUp}
 use Rattle.grid_state.specs.Changes.{begun_with}
@@ -124,6 +124,6 @@ run_has_come next follows blocks b budget most n g h e m good ok on adds run ful
     (full (subst (λ x. is_going x h.window ≡ true) (sym e) o)))
     answer (tells ∙ ap (λ x. ended x h.window) e)
 
-pub most_is : (budget : ℕ) → 41472 * budget ≡ most_cycles budget
+pub most_is : (budget : ℕ) → greatest_cost * budget ≡ most_cycles budget
 unfolding most_cycles greatest
 most_is budget = refl

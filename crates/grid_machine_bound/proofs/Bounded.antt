@@ -17,7 +17,7 @@ use Rattle.commit_flush_spec.specs.InFlight.{opened}
 use Rattle.commit_flush_spec.specs.Invariant.{AllGood}
 use Rattle.commit_flush_spec.specs.Laws.{WindowOk}
 use Rattle.commit_flush_spec.proofs.Events.{opens}
-use Rattle.grid_cycle_spec.specs.Costs.{cost_of}
+use Rattle.grid_cycle_spec.specs.Costs.{cost_of, greatest_cost}
 use Rattle.grid_cycle_spec.specs.Grid.{Grid}
 use Rattle.grid_run.specs.Answered.{ComesTo, IsCutOff}
 use Rattle.grid_run.specs.Endings.{ending_of, is_going}
@@ -55,7 +55,7 @@ module _ (blocks : List Block) (good : AllGood blocks) (some : 0 < length blocks
   opens_right : WindowOk blocks budget (opened s)
   opens_right = opens blocks budget bytes input some fits
 
-  trapped : h.counts.cycles ≤ cost_of blocks h.window.state.trace + 41472
+  trapped : h.counts.cycles ≤ cost_of blocks h.window.state.trace + greatest_cost
   trapped = any_cost next_hold IsAfter hold_most blocks good budget s predictor weather opens_right small h ran.run
       ran.few
 
@@ -109,6 +109,6 @@ runs_within blocks bytes input budget seed e h good some fits positive small pla
 pub runs_trapped : (blocks : List Block) (bytes input : List ℕ) (budget seed : ℕ) (e : Ending) (h : Grid PcgWeather)
     → AllGood blocks → 0 < length blocks → length bytes ≤ data_size → 0 < budget → budget < 2 ^ 32
     → IsRan blocks bytes input budget seed (Some e) h
-    → h.counts.cycles ≤ cost_of blocks h.window.state.trace + 41472
+    → h.counts.cycles ≤ cost_of blocks h.window.state.trace + greatest_cost
 runs_trapped blocks bytes input budget seed e h good some fits positive small ran =
     trapped blocks good some bytes input fits budget seed small (Some e) h ran

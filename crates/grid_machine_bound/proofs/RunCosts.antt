@@ -13,7 +13,7 @@ use Rattle.commit_flush_spec.specs.InFlight.{opened}
 use Rattle.commit_flush_spec.specs.Invariant.{AllGood}
 use Rattle.commit_flush_spec.specs.Laws.{Reached, TakesSteps, WindowOk}
 use Rattle.grid_cycle.specs.Going.{goes}
-use Rattle.grid_cycle_spec.specs.Costs.{cost_in, cost_of}
+use Rattle.grid_cycle_spec.specs.Costs.{cost_in, cost_of, greatest_cost}
 use Rattle.grid_cycle_spec.specs.Grid.{Grid}
 use Rattle.grid_cycle_spec.specs.Cycles.{AfterCycles, Eager}
 use Rattle.grid_cycle_spec.proofs.Agreeing.{takes_steps}
@@ -92,9 +92,9 @@ module _ {W : Type 0} (next : W → ℕ) (follows : W → W → Type 0) (holds :
   module _ (n : ℕ) (m last : Grid W) (a : AfterCycles next follows blocks budget n g m)
       (on : GoesOn budget m) (few : m.counts.cycles < 2 ^ 64 - 1)
       (c : Eager next follows blocks budget m last) where
-    any_end : suc n ≤ cost_of blocks last.window.state.trace + 41472
+    any_end : suc n ≤ cost_of blocks last.window.state.trace + greatest_cost
     any_end =
-        let e : suc n + cost_of blocks s.trace ≤ cost_of blocks last.window.state.trace + 41472 =
+        let e : suc n + cost_of blocks s.trace ≤ cost_of blocks last.window.state.trace + greatest_cost =
         costs.any_cycle blocks good budget next follows holds s predictor weather opens n m a on few last c
         in omega (arith, e)
 
@@ -166,7 +166,7 @@ module _ {W : Type 0} (next : W → ℕ) (follows : W → W → Type 0) (holds :
 
   -- runs of as many cycles as are counted
   cycles_cost : (n : ℕ) (last : Grid W) → GoesFor next follows blocks budget n g last
-      → last.counts.cycles < 2 ^ 64 - 1 → n ≤ cost_of blocks last.window.state.trace + 41472
+      → last.counts.cycles < 2 ^ 64 - 1 → n ≤ cost_of blocks last.window.state.trace + greatest_cost
   cycles_cost zero last c few = omega arith
   cycles_cost (suc n) last c few =
       let m : Grid W = c.between in
@@ -197,7 +197,7 @@ module _ {W : Type 0} (next : W → ℕ) (follows : W → W → Type 0) (holds :
       (goes_on budget m (c.before).1) (omega (arith, k, few)) c.after safe e
 
   going_cost : (n : ℕ) (last : Grid W) → GoesFor next follows blocks budget n g last
-      → last.counts.cycles < 2 ^ 64 - 1 → is_going budget last.window ≡ true → n < 41472 * budget
+      → last.counts.cycles < 2 ^ 64 - 1 → is_going budget last.window ≡ true → n < greatest_cost * budget
   going_cost n last c few e = costs.spends blocks good budget next follows holds s predictor weather opens
       n last (are_cycles blocks budget next follows n g last c) (goes_on budget last e) few
 
@@ -214,7 +214,7 @@ module _ {W : Type 0} (next : W → ℕ) (follows : W → W → Type 0) (holds :
     few_cycles =
         let k : h.counts.cycles ≡ final.counts.cycles = end.cycles in
         let l : h.counts.cycles ≤ most_cycles budget = few in
-        let e : 41472 * budget ≡ most_cycles budget = most_is budget in
+        let e : greatest_cost * budget ≡ most_cycles budget = most_is budget in
         omega (arith, k, l, e, small)
 
     pub same_going : is_going budget h.window ≡ is_going budget final.window
@@ -223,10 +223,10 @@ module _ {W : Type 0} (next : W → ℕ) (follows : W → W → Type 0) (holds :
     same_cost : cost_of blocks h.window.state.trace ≡ cost_of blocks final.window.state.trace
     same_cost = ap (λ (t : State). cost_of blocks t.trace) end.state
 
-    -- whatever its ending, within the cost of its trace and 41,472
-    pub any_cost : h.counts.cycles ≤ cost_of blocks h.window.state.trace + 41472
+    -- whatever its ending, within the cost of its trace and `greatest_cost`
+    pub any_cost : h.counts.cycles ≤ cost_of blocks h.window.state.trace + greatest_cost
     any_cost =
-        let l : h.counts.cycles ≤ cost_of blocks final.window.state.trace + 41472 =
+        let l : h.counts.cycles ≤ cost_of blocks final.window.state.trace + greatest_cost =
         cycles_cost h.counts.cycles final whole.cycles few_cycles in
         let e = same_cost in
         omega (arith, l, e)
@@ -246,9 +246,9 @@ module _ {W : Type 0} (next : W → ℕ) (follows : W → W → Type 0) (holds :
     -- a run that goes on has made fewer cycles than a run may make
     pub goes_short : is_going budget h.window ≡ true → h.counts.cycles < most_cycles budget
     goes_short on =
-        let l : h.counts.cycles < 41472 * budget =
+        let l : h.counts.cycles < greatest_cost * budget =
         going_cost h.counts.cycles final whole.cycles few_cycles (sym same_going ∙ on) in
-        let e : 41472 * budget ≡ most_cycles budget = most_is budget in
+        let e : greatest_cost * budget ≡ most_cycles budget = most_is budget in
         omega (arith, l, e)
 
     -- one that has ended without a trap is within the cost of its trace

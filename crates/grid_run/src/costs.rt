@@ -3,6 +3,7 @@ ghost use Rattle.std.specs.Prelude.{◌≡◌, ◌<◌, ◌≤◌, ◌+◌, ◌*
 ghost use Rattle.trips_isa.specs.declared.block.Inst as instruction;
 ghost use Rattle.trips_isa.specs.Fits.{FitsBlock};
 ghost use Rattle.grid_cycle_spec.specs.Costs as spec;
+ghost use Rattle.grid_cycle_spec.specs.Costs.{greatest_cost};
 
 use block_check::CheckedImage;
 use trips_isa::{Block, Inst, Traced};
@@ -36,7 +37,7 @@ fn instructions(slots: &[Option<Inst>]) -> u64
 fn cost_of_block(block: &Block) -> u64
     requires { FitsBlock block.now }
     ensures value { result ≡ spec.cost block.now }
-    ensures most { result ≤ 41472 }
+    ensures most { result ≤ greatest_cost }
 {
     512 + 256 * (instructions(block.insts.as_slice()) + block.reads.len() as u64)
 }
@@ -44,7 +45,7 @@ fn cost_of_block(block: &Block) -> u64
 // The cost of the block of a number, and none where there is no such block.
 fn cost_at(image: &CheckedImage, number: u32) -> u64
     ensures value { result ≡ spec.cost_in (slice_get image.now.blocks number) }
-    ensures most { result ≤ 41472 }
+    ensures most { result ≤ greatest_cost }
 {
     if number < image.count() {
         cost_of_block(image.at(number).block())

@@ -4,9 +4,11 @@ use Rattle.std.proofs.Common.{arith}
 use Rattle.trips_isa.specs.declared.block.Block.{Block}
 use Rattle.trips_isa.specs.declared.causes.TrapCause.{TrapCause}
 use Rattle.trips_isa.specs.declared.run.Stepped.TheVariants as stepped
+use Rattle.trips_isa.specs.Limits.{most_nodes}
 use Rattle.commit_flush_spec.specs.Invariant.{AllGood}
 use Rattle.grid_cycle_spec.specs.Grid.{Grid}
 use Rattle.grid_cycle_spec.specs.Cycles.{Eager}
+use Rattle.grid_cycle_spec.specs.Costs.{greatest_cost}
 use Rattle.grid_cycle_bound.specs.Left.{left, price, total}
 use Rattle.grid_cycle_bound.specs.Laws.{LaneRule, AfterServed}
 use Rattle.grid_cycle_bound.specs.Serving.{Served}
@@ -16,12 +18,12 @@ use Rattle.grid_served.specs.Lanes.{lane_in}
 use Rattle.grid_served.specs.Runs.{Stands, AfterStanding}
 use Rattle.grid_served.proofs.Together as together
 
--- blocks of at most 160 tasks
-total_most : (sizes : ℕ → ℕ) → ((k : ℕ) → sizes k ≤ 160) → (n : ℕ) → total sizes n ≤ 41472 * n
+-- blocks of at most `most_nodes` tasks
+total_most : (sizes : ℕ → ℕ) → ((k : ℕ) → sizes k ≤ most_nodes) → (n : ℕ) → total sizes n ≤ greatest_cost * n
 total_most sizes small zero = omega arith
 total_most sizes small (suc n) =
-    let h : total sizes n ≤ 41472 * n = total_most sizes small n in
-    let l : sizes n ≤ 160 = small n in omega (arith, h, l)
+    let h : total sizes n ≤ greatest_cost * n = total_most sizes small n in
+    let l : sizes n ≤ most_nodes = small n in omega (arith, h, l)
 
 module _ {W : Type 0} (blocks : List Block) (good : AllGood blocks) (budget : ℕ) (next : W → ℕ)
     (follows : W → W → Type 0) (bound : (w : W) → next w ≤ 3) (sizes : ℕ → ℕ) (g : Grid W) where
@@ -61,13 +63,13 @@ module _ {W : Type 0} (blocks : List Block) (good : AllGood blocks) (budget : �
     commit h e = at_a_commit sizes (lane_in g) (lane_first n m a s) n (lane_in m) (lane_in h) (lanes n m a s) e
 
     -- a run from the start has not made that many cycles
-    pub spends : ((k : ℕ) → sizes k ≤ 160) → n < 41472 * budget
+    pub spends : ((k : ℕ) → sizes k ≤ most_nodes) → n < greatest_cost * budget
     spends small =
         let b : n + left sizes (lane_in m) + total sizes (length g.window.state.trace)
         ≤ total sizes (length m.window.state.trace) + price (sizes (length m.window.state.trace)) = moment in
         let c : 1 ≤ left sizes (lane_in m) = left_some sizes (lane_in m) in
-        let d : total sizes (length m.window.state.trace) ≤ 41472 * length m.window.state.trace =
+        let d : total sizes (length m.window.state.trace) ≤ greatest_cost * length m.window.state.trace =
         total_most sizes small (length m.window.state.trace) in
-        let e : sizes (length m.window.state.trace) ≤ 160 = small (length m.window.state.trace) in
+        let e : sizes (length m.window.state.trace) ≤ most_nodes = small (length m.window.state.trace) in
         let r : length m.window.state.trace < budget = s.room in
         omega (arith, b, c, d, e, r)

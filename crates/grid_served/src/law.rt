@@ -5,6 +5,7 @@ ghost use Rattle.trips_isa.specs.declared.block.Block.{Block};
 ghost use Rattle.trips_isa.specs.declared.causes.TrapCause.{TrapCause};
 ghost use Rattle.trips_isa.specs.declared.run.Stepped.TheVariants.{Went, Trap};
 ghost use Rattle.trips_isa.specs.Rule.{Answer};
+ghost use Rattle.trips_isa.specs.Limits.{most_nodes};
 ghost use Rattle.operand_net.specs.Places.{Places};
 ghost use Rattle.operand_net.specs.Tick.{Ticked};
 ghost use Rattle.commit_flush_spec.specs.Frames.{Frame};
@@ -14,7 +15,7 @@ ghost use Rattle.commit_flush_spec.specs.Invariant.{AllGood};
 ghost use Rattle.commit_flush_spec.specs.Laws.{WindowOk};
 ghost use Rattle.grid_cycle_spec.specs.Grid.{Grid, numbers_of};
 ghost use Rattle.grid_cycle_spec.specs.Choosing.{each};
-ghost use Rattle.grid_cycle_spec.specs.Costs.{size};
+ghost use Rattle.grid_cycle_spec.specs.Costs.{size, greatest_cost};
 ghost use Rattle.grid_cycle_spec.specs.Cycles.{Eager};
 ghost use Rattle.grid_cycle_spec.specs.Ends.{ends};
 ghost use Rattle.grid_cycle_spec.specs.Fetches.{fetches};
@@ -157,7 +158,7 @@ pub fn eager_cycles_serve<W: Weather>()
 
 /// After n cycles each of which finds what it asks: with what is left they are within the prices of the blocks committed
 /// since, and of the next. A cycle that commits keeps them within those of the blocks committed. A run whose blocks have
-/// at most 160 tasks goes on for fewer than 41,472 cycles for each block of its budget.
+/// at most `most_nodes` tasks goes on for fewer than `greatest_cost` cycles for each block of its budget.
 pub fn cycles_stay_within<W: Weather>()
     ensures moment { (blocks : List Block) (budget : ℕ) (sizes : ℕ → ℕ) (n : ℕ) (g h : Grid W) → AllGood blocks
         → ((w : W) → W.next w ≤ 3) → AfterStanding W.next W.follows blocks budget sizes n g h
@@ -169,7 +170,7 @@ pub fn cycles_stay_within<W: Weather>()
         → Stands blocks budget sizes m → length h.window.state.trace ≡ suc (length m.window.state.trace)
         → suc n + total sizes (length g.window.state.trace) ≤ total sizes (length h.window.state.trace) }
     ensures ends { (blocks : List Block) (budget : ℕ) (sizes : ℕ → ℕ) (n : ℕ) (g h : Grid W) → AllGood blocks
-        → ((w : W) → W.next w ≤ 3) → ((k : ℕ) → sizes k ≤ 160)
+        → ((w : W) → W.next w ≤ 3) → ((k : ℕ) → sizes k ≤ most_nodes)
         → AfterStanding W.next W.follows blocks budget sizes n g h → Stands blocks budget sizes h
-        → n < 41472 * budget }
+        → n < greatest_cost * budget }
 {}

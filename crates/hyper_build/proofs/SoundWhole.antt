@@ -2,6 +2,7 @@
 use Rattle.std.proofs.Common.{◌≡◌, ℕ, zero, suc, ◌+◌, ◌^◌, ◌<◌, ◌≤◌, false, List, [], ◌∷◌}
 use Rattle.std.proofs.Common.{length, Some, refl, subst, arith, slice_get}
 use Rattle.trips_isa.specs.Stores.{data_size}
+use Rattle.ir_forms.specs.Limits.{label_count}
 use Rattle.ir_forms.specs.declared.hyper.Exit.{Exit}
 use Rattle.ir_forms.specs.declared.hyper.Exit.TheVariants as exit
 use Rattle.ir_forms.specs.Frames.{frame_limit}
@@ -176,21 +177,21 @@ tail_leads k N (Leave e) f s = exit_leads k N e f s
 tail_leads k N (Test t one other) f s =
     (tail_leads k N one f.0 s.1, tail_leads k N other f.1 s.2)
 
-exit_fits : (N : ℕ) (e : Exit) → N ≤ 524288 → SoundExit N e → FitsExit e
+exit_fits : (N : ℕ) (e : Exit) → N ≤ label_count → SoundExit N e → FitsExit e
 exit_fits N (exit.Jump l) le s = omega (arith, le, s)
 exit_fits N (exit.Call l back) le s =
     let a = s.0 in let b = s.1 in (omega (arith, le, a), omega (arith, le, b))
 exit_fits N exit.Return le s = tt
 exit_fits N (exit.System l) le s = omega (arith, le, s)
 
-tail_fits : (N : ℕ) (t : Tail) → N ≤ 524288 → SoundTail N t → FitsTail t
+tail_fits : (N : ℕ) (t : Tail) → N ≤ label_count → SoundTail N t → FitsTail t
 tail_fits N (Leave e) le s = exit_fits N e le s
 tail_fits N (Test t one other) le s = (s.0, tail_fits N one le s.1, tail_fits N other le s.2)
 
 -- what holds of a program's blocks
 pub record AreBlocks (B : List Block) : Type 0 where
   pub followed : IsFollowed B
-  pub fit : length B ≤ 524288 → (k : ℕ) (b : Block) → slice_get B k ≡ Some b → FitsHyper b
+  pub fit : length B ≤ label_count → (k : ℕ) (b : Block) → slice_get B k ≡ Some b → FitsHyper b
 
 pub built_blocks : (W : World) (base : ℕ) (gs : List Routine) (main : ℕ) (r : Routine)
     → slice_get gs main ≡ Some r

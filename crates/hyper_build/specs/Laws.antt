@@ -14,6 +14,7 @@ use Rattle.reg_assign.specs.Keeps.{tame_and, keeping_all, assigned_program, Keep
 use Rattle.hyper_build.specs.Tree.{Plan, annotated_all, is_saved}
 use Rattle.hyper_build.specs.Routines.{built}
 use Rattle.hyper_build.specs.Whole.{EndsSo}
+use Rattle.ir_forms.specs.Limits.{label_count}
 
 -- the program whose calls keep what a plan's groups save
 abbrev pub saved_program : Plan → Program → Program
@@ -50,8 +51,8 @@ pub record AreBlocksOf (P : Program) (B : List Block) : Type 0 where
   pub followed : IsFollowed B
   -- three stand before all functions
   pub few : length B ≤ 3 + code_blocks_of_all P.functions
-  -- labels are below 524,288
-  pub fit : length B ≤ 524288 → (k : ℕ) (b : Block) → slice_get B k ≡ Some b → FitsHyper b
+  -- labels are below `label_count`
+  pub fit : length B ≤ label_count → (k : ℕ) (b : Block) → slice_get B k ≡ Some b → FitsHyper b
 
 -- Whatever the plan, its blocks are such, where program and groups fit.
 abbrev pub BuildGivesBlocks : Type 0

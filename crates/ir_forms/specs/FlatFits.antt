@@ -11,8 +11,7 @@ use Rattle.trips_isa.specs.Forms.{form_of, is_load, is_store}
 use Rattle.trips_isa.specs.Stores.{data_size}
 use Rattle.ir_forms.specs.declared.flat.Arg.{Arg}
 use Rattle.ir_forms.specs.declared.flat.Arg.TheVariants.{Const, Var}
-use Rattle.ir_forms.specs.declared.limits.TheConstants.{FIRST_TEMPORARY, FIRST_SCRATCH, VARIABLES}
-use Rattle.ir_forms.specs.declared.limits.TheConstants.{MOST_STATEMENTS}
+use Rattle.ir_forms.specs.Limits.{first_temporary, first_scratch, variable_count, most_statements}
 use Rattle.ir_forms.specs.FlatCode.{Step, Let, Frame, Load, Save, Call, Put, Get, If, Loop, Break}
 use Rattle.ir_forms.specs.FlatCode.{Continue, Return, Code, Nop, ◌▹◌, Function, Program}
 use Rattle.ir_forms.specs.Frames.{frames_at, frame_limit}
@@ -41,11 +40,11 @@ stores op = is_store (form_of op)
 
 -- a scalar of the function or a temporary: it stays set over a call, and may be an argument
 abbrev pub is_lasting : ℕ → ℕ → Bool
-is_lasting scalars v = nat_lt v scalars || (nat_le FIRST_TEMPORARY v && nat_lt v FIRST_SCRATCH)
+is_lasting scalars v = nat_lt v scalars || (nat_le first_temporary v && nat_lt v first_scratch)
 
 -- or a scratch variable
 abbrev pub is_variable : ℕ → ℕ → Bool
-is_variable scalars v = is_lasting scalars v || (nat_le FIRST_SCRATCH v && nat_lt v VARIABLES)
+is_variable scalars v = is_lasting scalars v || (nat_le first_scratch v && nat_lt v variable_count)
 
 -- a variable that a function with so many scalars has
 abbrev pub FitsVar : ℕ → ℕ → Type 0
@@ -192,7 +191,7 @@ small_ifs_of_all (f ∷ fs) = small_ifs f.body + small_ifs_of_all fs
 -- registers, and its statements fit
 pub record FitsFunction (fs : List Function) (f : Function) : Type 0 where
   -- their numbers end before those of temporaries
-  pub scalars : f.scalars ≤ FIRST_TEMPORARY
+  pub scalars : f.scalars ≤ first_temporary
   -- the parameters are the first scalars
   pub params : f.params ≤ f.scalars
   -- eight registers carry arguments
@@ -209,7 +208,7 @@ pub record FitsProgram (P : Program) : Type 0 where
   -- main is there, without parameters
   pub main : FitsCall P.functions P.main []
   -- functions count with their statements
-  pub few : steps_of_all P.functions ≤ MOST_STATEMENTS
+  pub few : steps_of_all P.functions ≤ most_statements
   -- what globals begin with is bytes
   pub bytes : All (λ b. b < 256) P.bytes
   -- globals and frames lie inside data memory

@@ -5,13 +5,13 @@ use Rattle.ir_forms.specs.declared.flat.FlatStmt.TheOpen.{FlatStmt-F}
 use Rattle.ir_forms.specs.declared.flat.FlatStmt.TheOpen as stmt
 use Rattle.ir_forms.specs.declared.flat.FlatFunc.{FlatFunc}
 use Rattle.ir_forms.specs.declared.flat.FlatProgram.{FlatProgram}
-use Rattle.ir_forms.specs.declared.limits.TheConstants.{FIRST_SCRATCH}
+use Rattle.ir_forms.specs.Limits.{first_scratch}
 use Rattle.ir_forms.specs.FlatCode.{Step, Let, Frame, Load, Save, Call, Put, Get, If, Loop, Break}
 use Rattle.ir_forms.specs.FlatCode.{Continue, Return, Code, Nop, ◌▹◌, Function, Program}
 
 -- scalars and temporaries stay set over a call, scratch variables do not
 abbrev pub stays : ℕ → Bool
-stays v = nat_lt v FIRST_SCRATCH
+stays v = nat_lt v first_scratch
 
 -- statements in a list, as code
 abbrev pub code_of_steps : List Step → Code

@@ -18,15 +18,15 @@ use Rattle.ir_forms.specs.declared.flow.Guard.{Guard}
 use Rattle.ir_forms.specs.declared.flow.FlowNode.{FlowNode}
 use Rattle.ir_forms.specs.declared.flow.FlowWrite.{FlowWrite}
 use Rattle.ir_forms.specs.declared.flow.FlowBlock.{FlowBlock}
-use Rattle.ir_forms.specs.declared.limits.TheConstants.{LABELS}
+use Rattle.ir_forms.specs.Limits.{label_count}
 use Rattle.ir_forms.specs.FlowRuns.{Computes, OnPath, count, tokens, exits, guard_token}
 
 -- FIELDS
 
 -- a label, or the offset that it becomes
 abbrev pub FitsLabel : Op → ℤ → Type 0
-FitsLabel Bro label = FitsSigned LABELS label
-FitsLabel Callo label = FitsSigned LABELS label
+FitsLabel Bro label = FitsSigned label_count label
+FitsLabel Callo label = FitsSigned label_count label
 FitsLabel op label = label ≡ pos 0
 
 -- the fields of a node of a form are in their widths, and those that the form does not have are 0

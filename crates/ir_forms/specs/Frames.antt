@@ -3,7 +3,7 @@
 -- for each scalar, and then the bytes of its arrays: its first word is the return address, 16 words
 -- are kept for the temporaries, one is free, and the scalars' words end before the arrays.
 use Rattle.std.specs.Prelude.{ℕ, ◌+◌, ◌-◌, ◌*◌, ◌/◌, nat_lt, cond, List, length}
-use Rattle.ir_forms.specs.declared.limits.TheConstants.{STACK_BYTES, FIRST_TEMPORARY, FIRST_SCRATCH}
+use Rattle.ir_forms.specs.Limits.{stack_bytes, first_temporary, first_scratch}
 use Rattle.ir_forms.specs.FlatCode.{Function}
 
 -- a length, rounded up to words of 8 bytes
@@ -17,7 +17,7 @@ frames_at bytes = rounded (length bytes)
 -- the bytes that all active frames may take; not an `abbrev`, since a large numeral unrolls
 -- recursions in goals
 unfoldable pub frame_limit : ℕ
-frame_limit = STACK_BYTES
+frame_limit = stack_bytes
 
 -- the bytes of a frame before its arrays
 abbrev pub slots_of : Function → ℕ
@@ -56,8 +56,8 @@ argument_register i = 4 + i
 
 -- scalars and temporaries from 12 on, scratch variables from 4 on
 abbrev pub register_of : ℕ → ℕ
-register_of v = cond (nat_lt v FIRST_SCRATCH) (12 + v) (v - 76)
+register_of v = cond (nat_lt v first_scratch) (12 + v) (v - 76)
 
 -- the byte of a frame where a scalar or a temporary is kept over a call
 abbrev pub slot_of : ℕ → ℕ
-slot_of v = cond (nat_lt v FIRST_TEMPORARY) (8 * (17 + v)) (8 * (v - 63))
+slot_of v = cond (nat_lt v first_temporary) (8 * (17 + v)) (8 * (v - 63))

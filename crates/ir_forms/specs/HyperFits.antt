@@ -5,7 +5,7 @@ use Rattle.ir_forms.specs.declared.hyper.Source.{Source}
 use Rattle.ir_forms.specs.declared.hyper.Source.TheVariants.{Const, Reg}
 use Rattle.ir_forms.specs.declared.hyper.Exit.{Exit}
 use Rattle.ir_forms.specs.declared.hyper.Exit.TheVariants as exit
-use Rattle.ir_forms.specs.declared.limits.TheConstants.{LABELS}
+use Rattle.ir_forms.specs.Limits.{label_count}
 use Rattle.ir_forms.specs.HyperCode.{Items, Done, Set, Load, Save, If, Tail, Leave, Test, Block}
 use Rattle.ir_forms.specs.FlatFits.{operates, loads, stores}
 
@@ -25,10 +25,10 @@ FitsItems (If t one other rest) = FitsSource t × FitsItems one × FitsItems oth
 
 -- a label is below their number; a block to come back to may be named by its address, of 32 bits
 abbrev pub FitsExit : Exit → Type 0
-FitsExit (exit.Jump l) = l < LABELS
-FitsExit (exit.Call l back) = (l < LABELS) × (back < 2 ^ 32)
+FitsExit (exit.Jump l) = l < label_count
+FitsExit (exit.Call l back) = (l < label_count) × (back < 2 ^ 32)
 FitsExit exit.Return = Unit {0}
-FitsExit (exit.System l) = l < LABELS
+FitsExit (exit.System l) = l < label_count
 
 -- each exit of a tail fits, and each test
 abbrev pub FitsTail : Tail → Type 0

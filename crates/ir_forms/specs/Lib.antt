@@ -1,3 +1,4 @@
+pub mod Limits
 pub mod FlatCode
 pub mod FlatViews
 pub mod Frames

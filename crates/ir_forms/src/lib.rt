@@ -21,4 +21,7 @@ pub use laws::{
     blocks_keep_words, checks_change_nothing, clean_runs_are_runs, nothing_ends_without_a_turn,
     statements_run_in_order,
 };
-pub use limits::{FIRST_SCRATCH, FIRST_TEMPORARY, LABELS, MOST_STATEMENTS, STACK_BYTES, VARIABLES};
+pub use limits::{
+    FIRST_SCRATCH, FIRST_TEMPORARY, LABELS, MOST_STATEMENTS, STACK_BYTES, VARIABLES,
+    constants_are_the_definitions,
+};

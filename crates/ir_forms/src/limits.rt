@@ -1,4 +1,7 @@
-//! The limits of the forms and the numbers of variables, each in one place.
+//! The limits of the forms and the numbers of variables, as the code has them.
+
+ghost use Rattle.std.specs.Prelude.{◌≡◌};
+ghost use Rattle.ir_forms.specs.Limits as limits;
 
 /// How many bytes the frames of all active calls may take (docs/LANGUAGE.md: above them a run is Deep).
 pub const STACK_BYTES: u64 = 1_048_576;
@@ -19,3 +22,13 @@ pub const FIRST_SCRATCH: u16 = 80;
 
 /// How many variables there are: 64 scalars, 16 temporaries and 8 scratch variables.
 pub const VARIABLES: u16 = 88;
+
+/// The limits and the numbers of the code are those of the definitions. It does nothing when it runs.
+pub fn constants_are_the_definitions()
+    ensures stack_bytes { STACK_BYTES ≡ limits.stack_bytes }
+    ensures labels { LABELS ≡ limits.label_count }
+    ensures statements { MOST_STATEMENTS ≡ limits.most_statements }
+    ensures first_temporary { FIRST_TEMPORARY ≡ limits.first_temporary }
+    ensures first_scratch { FIRST_SCRATCH ≡ limits.first_scratch }
+    ensures variables { VARIABLES ≡ limits.variable_count }
+{}

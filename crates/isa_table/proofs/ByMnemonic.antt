@@ -1,15 +1,17 @@
 -- The table of operations read by its mnemonics, both ways.
 use Rattle.std.proofs.Common.{subst, ℕ, List, ◌≡◌, Option, Some, refl, sym, ◌∙◌, ◌↔◌}
-use Rattle.std.proofs.lemmas.Option.{cond_some, same_Some}
+use Rattle.std.proofs.lemmas.Option.{same_Some}
 use Rattle.std.specs.Str.{bytes_eq}
 use Rattle.std.proofs.lemmas.Slice.Eq.{bytes_eq-Decides}
 use Rattle.trips_isa.specs.declared.op.Op.{Op}
 use Rattle.trips_isa.specs.declared.op.Op.TheVariants as op
-use Rattle.isa_table.specs.Mnemonics.{mnemonic_of, candidate_by_mnemonic, op_with_mnemonic}
+use Rattle.isa_table.specs.Operations.{operations}
+use Rattle.isa_table.specs.Mnemonics.{mnemonic_of, op_with_mnemonic}
+use Rattle.isa_table.proofs.Firsts.{first_taken}
 
--- each operation stands where its mnemonic says
+-- each operation is the first that has its mnemonic
 pub mnemonic_again : (op : Op) → op_with_mnemonic (mnemonic_of op) ≡ Some op
-unfolding mnemonic_of candidate_by_mnemonic op_with_mnemonic
+unfolding mnemonic_of op_with_mnemonic operations
 mnemonic_again op.Add = refl
 mnemonic_again op.Sub = refl
 mnemonic_again op.Mul = refl
@@ -82,11 +84,8 @@ mnemonic_again op.App = refl
 pub mnemonic_taken : (word : List ℕ) (op : Op) → op_with_mnemonic word ≡ Some op
     → mnemonic_of op ≡ word
 unfolding op_with_mnemonic
-mnemonic_taken word op found =
-    let guess = candidate_by_mnemonic word in
-    let chosen = cond_some (bytes_eq (mnemonic_of guess) word) guess op found in
-    let P : Op → Type 0 = λ x. mnemonic_of x ≡ word in
-    subst P chosen.1 ((bytes_eq-Decides (mnemonic_of guess) word).0 chosen.0)
+mnemonic_taken word op found = (bytes_eq-Decides (mnemonic_of op) word).0
+    (first_taken (λ o. bytes_eq (mnemonic_of o) word) operations op found)
 
 -- a look-up by mnemonic gives an operation exactly where it has it
 pub mnemonic_exact : (word : List ℕ) (found : Option Op) → found ≡ op_with_mnemonic word

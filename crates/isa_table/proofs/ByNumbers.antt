@@ -2,16 +2,16 @@
 use Rattle.std.proofs.Common.{lit<, lit≤, subst, ℕ, ◌≡◌, Option, Some, Bool, true, false, ◌&&◌}
 use Rattle.std.proofs.Common.{refl, sym, arith, nat_eq, ◌∙◌, ◌↔◌}
 use Rattle.std.proofs.lemmas.Bool.Decides.{nat_tests}
-use Rattle.std.proofs.lemmas.Option.{cond_some}
 use Rattle.trips_isa.specs.declared.op.Op.{Op}
 use Rattle.trips_isa.specs.declared.op.Op.TheVariants as op
 use Rattle.trips_isa.specs.Forms.{form_of}
-use Rattle.isa_table.specs.Codes.{code_of, candidate_by_numbers, has_numbers, op_with_numbers}
-use Rattle.isa_table.specs.Codes.{GoodCode}
+use Rattle.isa_table.specs.Operations.{operations}
+use Rattle.isa_table.specs.Codes.{code_of, has_numbers, op_with_numbers, GoodCode}
+use Rattle.isa_table.proofs.Firsts.{first_taken}
 
--- each operation stands where its numbers say
+-- each operation is the first that has its numbers
 pub numbers_again : (op : Op) → op_with_numbers (code_of op).opcode (code_of op).extended ≡ Some op
-unfolding code_of candidate_by_numbers has_numbers op_with_numbers
+unfolding code_of has_numbers op_with_numbers operations
 numbers_again op.Add = refl
 numbers_again op.Sub = refl
 numbers_again op.Mul = refl
@@ -158,21 +158,22 @@ both_true : (a b : Bool) → (a && b) ≡ true → (a ≡ true) × (b ≡ true)
 both_true true b e = (refl, e)
 both_true false b e = absurd cc
 
+-- an operation that has numbers has each of both
+pub numbers_had : (opcode extended : ℕ) (op : Op) → has_numbers op opcode extended ≡ true
+    → ((code_of op).opcode ≡ opcode) × ((code_of op).extended ≡ extended)
+unfolding has_numbers
+numbers_had opcode extended op h =
+    let both = both_true (nat_eq (code_of op).opcode opcode) (nat_eq (code_of op).extended extended) h in (
+      nat_eq_is (code_of op).opcode opcode both.0,
+      nat_eq_is (code_of op).extended extended both.1,
+    )
+
 -- an operation that is found has the numbers that were asked for
 pub numbers_taken : (opcode extended : ℕ) (op : Op) → op_with_numbers opcode extended ≡ Some op
     → ((code_of op).opcode ≡ opcode) × ((code_of op).extended ≡ extended)
-unfolding op_with_numbers has_numbers
-numbers_taken opcode extended op found =
-    let guess = candidate_by_numbers opcode extended in
-    let one = nat_eq (code_of guess).opcode opcode in
-    let two = nat_eq (code_of guess).extended extended in
-    let chosen = cond_some (one && two) guess op found in
-    let both = both_true one two chosen.0 in
-    let P : Op → Type 0 = λ x. ((code_of x).opcode ≡ opcode) × ((code_of x).extended ≡ extended) in
-    subst P chosen.1 (
-      nat_eq_is (code_of guess).opcode opcode both.0,
-      nat_eq_is (code_of guess).extended extended both.1,
-    )
+unfolding op_with_numbers
+numbers_taken opcode extended op found = numbers_had opcode extended op
+    (first_taken (λ o. has_numbers o opcode extended) operations op found)
 
 -- a look-up by numbers gives an operation exactly where it has them
 pub numbers_exact : (opcode extended : ℕ) (found : Option Op)

@@ -1,2 +1,4 @@
+pub mod Firsts
 pub mod ByNumbers
 pub mod ByMnemonic
+pub mod Guesses

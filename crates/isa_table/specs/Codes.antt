@@ -1,12 +1,11 @@
 -- The numbers of each operation.
-use Rattle.std.specs.Prelude.{◌≡◌, ◌<◌, ◌≤◌, ℕ, ◌+◌, Option, Some, None, if◌then◌else◌, ◌==◌, ◌&&◌}
-use Rattle.std.specs.Prelude.{nat_lt, get_or, Bool}
+use Rattle.std.specs.Prelude.{◌≡◌, ◌<◌, ◌≤◌, ℕ, Option, ◌==◌, ◌&&◌, Bool}
 use Rattle.trips_isa.specs.declared.op.Op.{Op}
 use Rattle.trips_isa.specs.declared.op.Op.TheVariants as op
 use Rattle.trips_isa.specs.declared.form.Form.{Form}
 use Rattle.trips_isa.specs.declared.form.Form.TheVariants as form
 use Rattle.isa_table.specs.declared.numbers.Code.{Code}
-use Rattle.isa_table.specs.declared.by_numbers.TheConstants.{BY_NUMBERS}
+use Rattle.isa_table.specs.Operations.{operations, first_with}
 
 -- opcode 1, told apart by the extended opcode
 abbrev pub general : ℕ → Code
@@ -96,24 +95,10 @@ GoodCode form.General code = (code.opcode ≡ 1) × (code.extended < 32)
 GoodCode form.Immediate code = (code.opcode ≡ 2) × (code.extended < 32)
 GoodCode f code = (3 ≤ code.opcode) × (code.opcode < 64) × (code.extended ≡ 0)
 
--- where the operation of two numbers stands in the list by numbers, if there is one
-abbrev pub place_of_numbers : ℕ → ℕ → ℕ
-place_of_numbers opcode extended =
-    if opcode == 1 && nat_lt extended 32 then extended else (
-    if opcode == 2 && nat_lt extended 32 then 32 + extended else (
-    if nat_lt opcode 64 then 64 + opcode else 0))
-
--- the one operation that may have these numbers: any that has them stands at their place in the
--- list
-unfoldable pub candidate_by_numbers : ℕ → ℕ → Op
-candidate_by_numbers opcode extended = get_or BY_NUMBERS (place_of_numbers opcode extended) op.Add
-
 -- whether an operation has these numbers
 unfoldable pub has_numbers : Op → ℕ → ℕ → Bool
 has_numbers o opcode extended = (code_of o).opcode == opcode && (code_of o).extended == extended
 
 -- the operation of two numbers
 unfoldable pub op_with_numbers : ℕ → ℕ → Option Op
-op_with_numbers opcode extended =
-    if has_numbers (candidate_by_numbers opcode extended) opcode extended
-    then Some (candidate_by_numbers opcode extended) else None
+op_with_numbers opcode extended = first_with (λ o. has_numbers o opcode extended) operations

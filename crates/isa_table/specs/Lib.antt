@@ -1,3 +1,5 @@
+pub mod Operations
 pub mod Codes
 pub mod Mnemonics
 pub mod Spots
+pub mod inside

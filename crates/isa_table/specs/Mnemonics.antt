@@ -1,10 +1,9 @@
 -- The mnemonic of each operation, as the bytes of its text.
-use Rattle.std.specs.Prelude.{ℕ, ◌+◌, ◌*◌, ◌%◌, List, [], ◌∷◌, Option, Some, None, if◌then◌else◌}
-use Rattle.std.specs.Prelude.{get_or, codes}
+use Rattle.std.specs.Prelude.{ℕ, List, Option, codes}
 use Rattle.std.specs.Str.{bytes_eq}
 use Rattle.trips_isa.specs.declared.op.Op.{Op}
 use Rattle.trips_isa.specs.declared.op.Op.TheVariants as op
-use Rattle.isa_table.specs.declared.by_mnemonic.TheConstants.{BY_MNEMONIC}
+use Rattle.isa_table.specs.Operations.{operations, first_with}
 
 -- in ASCII, another for each operation
 unfoldable pub mnemonic_of : Op → List ℕ
@@ -76,18 +75,6 @@ mnemonic_of op.Genu = codes "genu"
 mnemonic_of op.Gens = codes "gens"
 mnemonic_of op.App = codes "app"
 
--- A number below 2027 of a word, which goes on with the number of what stands before it.
-abbrev pub mixed : ℕ → List ℕ → ℕ
-mixed start [] = start
-mixed start (letter ∷ letters) = mixed ((start * 1495 + letter) % 2027) letters
-
--- the one operation that a word may name, by a perfect hash: the 145 entries have every operation
--- at the place of its own mnemonic
-unfoldable pub candidate_by_mnemonic : List ℕ → Op
-candidate_by_mnemonic word = get_or BY_MNEMONIC (mixed 0 word % 145) op.Add
-
 -- the operation of a mnemonic
 unfoldable pub op_with_mnemonic : List ℕ → Option Op
-op_with_mnemonic word =
-    if bytes_eq (mnemonic_of (candidate_by_mnemonic word)) word
-    then Some (candidate_by_mnemonic word) else None
+op_with_mnemonic word = first_with (λ o. bytes_eq (mnemonic_of o) word) operations

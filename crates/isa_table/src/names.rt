@@ -1,8 +1,8 @@
 ghost use Rattle.std.specs.Prelude.{◌≡◌, ◌↔◌, ◌<◌, Some, get_or, length};
 ghost use Rattle.trips_isa.specs.declared.op.Op.{Op};
 ghost use Rattle.trips_isa.specs.declared.op.Op.TheVariants.{Add};
-ghost use Rattle.isa_table.specs.Mnemonics.{mnemonic_of, mixed, candidate_by_mnemonic};
-ghost use Rattle.isa_table.specs.Mnemonics.{op_with_mnemonic};
+ghost use Rattle.isa_table.specs.Mnemonics.{mnemonic_of, op_with_mnemonic};
+ghost use Rattle.isa_table.specs.inside.Guesses.{mixed, candidate_by_mnemonic, guessed_by_mnemonic};
 
 use crate::by_mnemonic::BY_MNEMONIC;
 use trips_isa::Op;
@@ -102,16 +102,16 @@ fn op_at(table: &[Op], at: usize) -> Op
     table[at]
 }
 
-#[tactic(auto, unfolding(crate::specs::Mnemonics::candidate_by_mnemonic))]
+#[tactic(auto, unfolding(crate::specs::inside::Guesses::candidate_by_mnemonic))]
 fn candidate(word: &[u8]) -> Op
     ensures value { result ≡ candidate_by_mnemonic word.now }
 {
     op_at(&BY_MNEMONIC, (mixed(word) % 145) as usize)
 }
 
-#[tactic(auto, unfolding(crate::specs::Mnemonics::op_with_mnemonic))]
-fn found(word: &[u8]) -> Option<Op>
-    ensures value { result ≡ op_with_mnemonic word.now }
+#[tactic(auto, unfolding(crate::specs::inside::Guesses::guessed_by_mnemonic))]
+fn guessed(word: &[u8]) -> Option<Op>
+    ensures value { result ≡ guessed_by_mnemonic word.now }
 {
     let op = candidate(word);
     if mnemonic_of(op) == word {
@@ -126,5 +126,5 @@ pub fn with_mnemonic(word: &[u8]) -> Option<Op>
     ensures value { result ≡ op_with_mnemonic word.now }
     ensures exact { (op : Op) → (result ≡ Some op) ↔ (mnemonic_of op ≡ word.now) }
 {
-    found(word)
+    guessed(word)
 }

@@ -1,8 +1,9 @@
 ghost use Rattle.std.specs.Prelude.{◌≡◌, ◌↔◌, ◌<◌, Some, get_or, length};
 ghost use Rattle.trips_isa.specs.declared.op.Op.{Op};
 ghost use Rattle.trips_isa.specs.declared.op.Op.TheVariants.{Add};
-ghost use Rattle.isa_table.specs.Codes.{general, immediate, alone, code_of, place_of_numbers};
-ghost use Rattle.isa_table.specs.Codes.{candidate_by_numbers, has_numbers, op_with_numbers};
+ghost use Rattle.isa_table.specs.Codes.{general, immediate, alone, code_of};
+ghost use Rattle.isa_table.specs.Codes.{has_numbers, op_with_numbers};
+ghost use Rattle.isa_table.specs.inside.Guesses.{place_of_numbers, candidate_by_numbers, guessed_by_numbers};
 
 use crate::by_numbers::BY_NUMBERS;
 use trips_isa::Op;
@@ -143,7 +144,7 @@ fn op_at(table: &[Op], at: usize) -> Op
     table[at]
 }
 
-#[tactic(auto, unfolding(crate::specs::Codes::candidate_by_numbers))]
+#[tactic(auto, unfolding(crate::specs::inside::Guesses::candidate_by_numbers))]
 fn candidate(opcode: u32, extended: u32) -> Op
     ensures value { result ≡ candidate_by_numbers opcode extended }
 {
@@ -158,9 +159,9 @@ fn has(op: Op, opcode: u32, extended: u32) -> bool
     code.opcode == opcode && code.extended == extended
 }
 
-#[tactic(auto, unfolding(crate::specs::Codes::op_with_numbers))]
-fn found(opcode: u32, extended: u32) -> Option<Op>
-    ensures value { result ≡ op_with_numbers opcode extended }
+#[tactic(auto, unfolding(crate::specs::inside::Guesses::guessed_by_numbers))]
+fn guessed(opcode: u32, extended: u32) -> Option<Op>
+    ensures value { result ≡ guessed_by_numbers opcode extended }
 {
     let op = candidate(opcode, extended);
     if has(op, opcode, extended) {
@@ -176,5 +177,5 @@ pub fn with_numbers(opcode: u32, extended: u32) -> Option<Op>
     ensures exact { (op : Op) → (result ≡ Some op) ↔ ((code_of op).opcode ≡ opcode)
         × ((code_of op).extended ≡ extended) }
 {
-    found(opcode, extended)
+    guessed(opcode, extended)
 }

@@ -9,12 +9,13 @@ use Rattle.ir_forms.specs.declared.fault.Part.TheVariants.{Insts, Reads, Writes,
 use Rattle.ir_forms.specs.declared.fault.FlowFault.{FlowFault}
 use Rattle.ir_forms.specs.declared.fault.FlowFault.TheVariants.{TooBig, Memory}
 use Rattle.predication.specs.Converted.{begun, all_nodes, predicated}
+use Rattle.ir_forms.specs.Limits.{label_count}
 
 -- LABELS
 
--- labels are below 524,288
+-- labels are below this
 abbrev pub label_end : ℕ
-label_end = 524288
+label_end = label_count
 
 -- the labels that an exit's nodes hold; that of a system call stands in none
 abbrev pub NamesLabel : Exit → Type 0

@@ -12,7 +12,7 @@ use crate::ending::finish;
 use crate::outputs::flow;
 use crate::work::{Emitted, Names, Work};
 use base::{Items, Memory};
-use ir_forms::{Exit, FlowBlock, FlowFault, HyperBlock, Part, Tail};
+use ir_forms::{Exit, FlowBlock, FlowFault, HyperBlock, LABELS, Part, Tail};
 use std::alloc::Global;
 
 // LABELS
@@ -21,14 +21,14 @@ fn label_fits(exit: Exit) -> bool
     ensures { IsTrue result ↔ NamesLabel exit }
 {
     match exit {
-        Exit::Jump(to) => to < 524288,
-        Exit::Call { to, back } => to < 524288 && back < 524288,
+        Exit::Jump(to) => to < LABELS,
+        Exit::Call { to, back } => to < LABELS && back < LABELS,
         Exit::Return => true,
         Exit::System(_) => true,
     }
 }
 
-/// Whether a block's labels are below 524,288, as `convert` wants them.
+/// Whether a block's labels are below `LABELS`, as `convert` wants them.
 pub fn labels_fit(tail: &Tail) -> bool
     ensures { IsTrue result ↔ NamesLabels (tail_of tail.now) }
 {

@@ -14,13 +14,13 @@ use crate::nodes::{push, push_mov};
 use crate::reading::{one, operand, tested};
 use crate::work::{Names, Work};
 use base::{Items, Memory};
-use ir_forms::{Exit, FlowSource, Guard, Source, Tail};
+use ir_forms::{Exit, FlowSource, Guard, LABELS, Source, Tail};
 use std::alloc::Global;
 use trips_isa::Op;
 
 // EXITS
 
-// A branch, with the label that it names or 0. A label is below 524,288, or `convert` was not called.
+// A branch, with the label that it names or 0. A label is below `LABELS`, or `convert` was not called.
 fn push_branch(
     alloc: Global,
     work: &mut Work,
@@ -31,7 +31,7 @@ fn push_branch(
 ) -> Result<(), Memory>
     ensures { OnOk result (work.new ≡ branched work.old guard op to left) }
 {
-    if to >= 524288 {
+    if to >= LABELS {
         return Err(Memory);
     }
     let number = take_number(work)?;
@@ -39,7 +39,7 @@ fn push_branch(
     Ok(())
 }
 
-// Half of the address of a block to come back to, which its label stands for. It is below 524,288 too.
+// Half of the address of a block to come back to, which its label stands for. It is below `LABELS` too.
 fn push_half(
     alloc: Global,
     work: &mut Work,
@@ -51,7 +51,7 @@ fn push_half(
     ensures adds { OnOk result (Adds work.old work.new
         (constant_of op (half_end + back) left ∷ [])) }
 {
-    if back >= 524288 {
+    if back >= LABELS {
         return Err(Memory);
     }
     push(

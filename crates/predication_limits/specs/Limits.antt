@@ -2,6 +2,7 @@
 use Rattle.std.specs.Prelude.{◌≡◌, ◌⊎◌, ℕ, ◌≤◌, List, [], length, slice_get, Some}
 use Rattle.trips_isa.specs.declared.block.Block.{Block as MachineBlock}
 use Rattle.trips_isa.specs.Places.{nodes_of}
+use Rattle.ir_forms.specs.Limits.{label_count}
 use Rattle.block_cases.specs.Cases.{cases}
 use Rattle.ir_forms.specs.FlatCode.{Program}
 use Rattle.ir_forms.specs.FlatFits.{FitsProgram}
@@ -57,7 +58,7 @@ SmallIfsFit = (b : Block) → FitsHyper b → HoldsSmallIf b → FitsMachine b
 abbrev pub CutProgramsFit : Type 0
 CutProgramsFit =
     (P : Program) (lists : List (List ℕ)) (groups : List (List (List ℕ))) → FitsProgram P
-    → AreAssigned P lists groups → length (built_program (plan_of [] [] groups) P) ≤ 524288 → (k : ℕ)
+    → AreAssigned P lists groups → length (built_program (plan_of [] [] groups) P) ≤ label_count → (k : ℕ)
     (b : Block) → slice_get (built_program (plan_of [] [] groups) P) k ≡ Some b → FitsMachine b
 
 -- neither completing nor giving targets refuses the block but for want of memory

@@ -2,6 +2,7 @@
 ghost use Rattle.std.specs.Prelude.{◌≡◌, ◌≤◌, ◌<◌, ◌^◌, ◌+◌, length, IfOk};
 ghost use Rattle.target_asm_spec.specs.Blocks.{head_in, one_block};
 ghost use Rattle.target_asm.specs.Taking.{Returns, seen};
+ghost use Rattle.trips_isa.specs.Limits.{most_chunks};
 
 use crate::branches::Known;
 use crate::rows::{is_place, reads, writes};
@@ -24,7 +25,7 @@ pub struct ReadBlock<'a> {
 fn head(k: usize, here: u32, line: u32, text: &[u8]) -> Result<(u32, &[u8]), AsmFault>
     requires { here < 2 ^ 30 }
     ensures value { Returns (λ r. (r.0, r.1.now)) result (head_in k here line text.now) }
-    ensures room { IfOk result (λ r. here + 2 ≤ 524288) }
+    ensures room { IfOk result (λ r. here + 2 ≤ most_chunks) }
 {
     let Some(spelled) = block_line(text) else {
         return Err(AsmFault::Syntax(line));
@@ -53,7 +54,7 @@ pub fn one_block<'a>(
     ensures value { Returns (λ r. (r.block, r.line, r.rest.now)) result
         (one_block (seen known.entry) k here line text.now) }
     ensures lines { IfOk result (λ r. r.line ≤ line + 196) }
-    ensures room { IfOk result (λ r. here + 2 ≤ 524288) }
+    ensures room { IfOk result (λ r. here + 2 ≤ most_chunks) }
     ensures short { IfOk result (λ r. length r.block.insts.items ≤ 128) }
 {
     let head = match head(k, here, line, text) {

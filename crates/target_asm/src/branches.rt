@@ -4,6 +4,7 @@ ghost use Rattle.target_asm_spec.specs.Chunks.{goal_in};
 ghost use Rattle.target_asm_spec.specs.Judging.{signed_in};
 ghost use Rattle.target_asm_spec.specs.Blocks.{to_block, aimed_at, aimed};
 ghost use Rattle.target_asm.specs.Taking.{Returns, seen};
+ghost use Rattle.trips_isa.specs.Limits.{offset_half};
 
 use crate::tables::goal;
 use target_asm_spec::AsmFault;
@@ -21,7 +22,7 @@ pub struct Known<'a> {
 /// The offset from one chunk to another, where it lies in its field.
 #[tactic(auto, unfolding(target_asm_spec::specs::Judging::signed_in))]
 fn between(here: u32, there: u32) -> Option<i32>
-    ensures value { result ≡ signed_in 524288 (pos there -ℤ pos here) }
+    ensures value { result ≡ signed_in offset_half (pos there -ℤ pos here) }
 {
     let offset = there as i64 - here as i64;
     if -524288 <= offset && offset < 524288 {

@@ -10,6 +10,7 @@ use Rattle.trips_isa.specs.declared.op.Op.TheVariants.{Bro, Callo}
 use Rattle.trips_isa.specs.declared.block.Block.{Block}
 use Rattle.trips_isa.specs.Forms.{form_of}
 use Rattle.trips_isa.specs.Fits.{FitsSigned}
+use Rattle.trips_isa.specs.Limits.{most_chunks, offset_half}
 use Rattle.target_asm_spec.specs.Chunks.{goal_in, start_rows}
 use Rattle.target_asm_spec.specs.declared.fault.AsmFault.TheVariants as fault
 use Rattle.target_asm_spec.specs.declared.spelled.Goal.{Goal}
@@ -54,20 +55,20 @@ BadAim begins here g = GoodGoal begins here (Some g) → ⊥
 abbrev pub Near : List ℕ → Type 0
 Near cs = (k : ℕ) → k < length cs → get_or cs k 0 ≤ 524286
 
-near_fits : (c here : ℕ) → c ≤ 524286 → here + 2 ≤ 524288 → FitsSigned 524288 (pos c -ℤ pos here)
+near_fits : (c here : ℕ) → c ≤ 524286 → here + 2 ≤ most_chunks → FitsSigned offset_half (pos c -ℤ pos here)
 near_fits c here l m = by (cases_lt c here)
   where
-    by : (c < here) ⊎ (here ≤ c) → FitsSigned 524288 (pos c -ℤ pos here)
+    by : (c < here) ⊎ (here ≤ c) → FitsSigned offset_half (pos c -ℤ pos here)
     by (inl h) =
         let z : pos c -ℤ pos here ≡ negsuc (here - c - 1) = omega (arith, ints) in
-        let small : here - c - 1 < 524288 = omega (arith, m) in
-        subst (FitsSigned 524288) (sym z) small
+        let small : here - c - 1 < most_chunks = omega (arith, m) in
+        subst (FitsSigned offset_half) (sym z) small
     by (inr h) =
         let z : pos c -ℤ pos here ≡ pos (c - here) = omega (arith, ints) in
-        let small : c - here < 524288 = omega (arith, l) in
-        subst (FitsSigned 524288) (sym z) small
+        let small : c - here < most_chunks = omega (arith, l) in
+        subst (FitsSigned offset_half) (sym z) small
 
-label_aim : (cs : List ℕ) (here at k : ℕ) → Near cs → length cs ≤ 262145 → here + 2 ≤ 524288
+label_aim : (cs : List ℕ) (here at k : ℕ) → Near cs → length cs ≤ 262145 → here + 2 ≤ most_chunks
     → AimResult (GoodGoal cs) (BadAim cs) here at (Some (Label (pos k)))
     (to_block cs here at (pos (capped k)))
 label_aim cs here at k near few room = by (nat_lt (capped k) (length cs)) refl
@@ -80,25 +81,25 @@ label_aim cs here at k near few room = by (nat_lt (capped k) (length cs)) refl
 
     by : (b : Bool) → nat_lt (capped k) (length cs) ≡ b
         → AimResult (GoodGoal cs) (BadAim cs) here at (Some (Label (pos k)))
-        (if b then or_fault (fault.Label at) (signed_in 524288 d) else Err (fault.Label at))
+        (if b then or_fault (fault.Label at) (signed_in offset_half d) else Err (fault.Label at))
     by true e =
-        let fits : FitsSigned 524288 d =
+        let fits : FitsSigned offset_half d =
         near_fits (get_or cs (capped k) 0) here
         (near (capped k) (ltb-true (capped k) (length cs) e)) room in
         subst (λ (o : Option ℤ). AimResult (GoodGoal cs) (BadAim cs) here at (Some (Label (pos k)))
-        (or_fault (fault.Label at) o)) (sym (signed_judged 524288 d fits))
+        (or_fault (fault.Label at) o)) (sym (signed_judged offset_half d fits))
         (ltb-true k (length cs) (sym same ∙ e))
     by false e = no_block (pos k) refl (λ z. clash (nat_lt k (length cs)) (lt-ltb k (length cs) z)
         (sym same ∙ e))
 
-pub signed_kept : (z : ℤ) → FitsSigned 524288 z → capped_z z ≡ z
+pub signed_kept : (z : ℤ) → FitsSigned offset_half z → capped_z z ≡ z
 signed_kept (pos n) f = ap pos (capped_small n (omega (arith, f)))
 signed_kept (negsuc n) f =
     let c = capped_small (suc n) (omega (arith, f)) in
     let e : capped (suc n) - 1 ≡ n = omega (arith, c) in ap negsuc e
 
 offset_aim : (first : List Block) (here at : ℕ) (n imm : ℤ) → length first ≤ 262145
-    → FitsSigned 524288 n
+    → FitsSigned offset_half n
     → AimResult (GoodGoal (chunks_from 0 first)) (BadAim (chunks_from 0 first)) here at
     (Some (Offset n)) (aimed_at (begins_of first) here at (Some (Offset (capped_z n))) imm)
 unfolding aimed_at
@@ -131,8 +132,8 @@ offset_aim first here at n imm few f =
         ∙ (told first (omega (arith, few))).tells k l)
 
 goal_aim : (first : List Block) (here at : ℕ) (g : Option Goal) (imm : ℤ)
-    → Near (chunks_from 0 first) → length first ≤ 262145 → here + 2 ≤ 524288
-    → ((n : ℤ) → g ≡ Some (Offset n) → FitsSigned 524288 n)
+    → Near (chunks_from 0 first) → length first ≤ 262145 → here + 2 ≤ most_chunks
+    → ((n : ℤ) → g ≡ Some (Offset n) → FitsSigned offset_half n)
     → AimResult (GoodGoal (chunks_from 0 first)) (BadAim (chunks_from 0 first)) here at g
     (aimed_at (begins_of first) here at (capped_goal g) imm)
 unfolding aimed_at
@@ -146,7 +147,7 @@ goal_aim first here at (Some (Offset n)) imm near few room small =
     offset_aim first here at n imm few (small n refl)
 
 pub offset_fits : (op : Op) (g : Option Goal) (n z : ℤ) → MayHaveGoal op g → g ≡ Some (Offset n)
-    → (s : SpelledInst) → s.numbers.goal ≡ g → ImmIs (form_of op) s z → FitsSigned 524288 n
+    → (s : SpelledInst) → s.numbers.goal ≡ g → ImmIs (form_of op) s z → FitsSigned offset_half n
 offset_fits Bro g n z h e s w i = (subst (λ (x : Option Goal). OffsetIs x z) (w ∙ e) i).1
 offset_fits Callo g n z h e s w i = (subst (λ (x : Option Goal). OffsetIs x z) (w ∙ e) i).1
 offset_fits op g n z h e s w i = absurd (none_some g (Offset n) h e)

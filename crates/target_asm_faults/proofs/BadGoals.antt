@@ -4,6 +4,7 @@ use Rattle.std.proofs.Common.{ap, subst, ◌∙◌, arith, Option, Some, None, t
 use Rattle.std.specs.Prelude.{ℤ, pos, not, Result, Ok, Err}
 use Rattle.trips_isa.specs.declared.block.Block.{Block}
 use Rattle.trips_isa.specs.Fits.{FitsSigned}
+use Rattle.trips_isa.specs.Limits.{offset_half}
 use Rattle.target_asm_spec.specs.declared.fault.AsmFault.{AsmFault}
 use Rattle.target_asm_spec.specs.declared.fault.AsmFault.TheVariants as fault
 use Rattle.target_asm_spec.specs.declared.spelled.Goal.{Goal}
@@ -35,7 +36,7 @@ use Rattle.target_asm_faults.proofs.Meets.{no_break, is_some_text}
 -- ---- a goal that is read alike is as good
 
 abbrev Small : Option Goal → Type 0
-Small g = (n : ℤ) → g ≡ Some (Offset n) → FitsSigned 524288 n
+Small g = (n : ℤ) → g ≡ Some (Offset n) → FitsSigned offset_half n
 
 line_small : (p : Place) (l : Line) → MayStand p l → InFields p l → Small (goal_of_line l)
 line_small p (line.block k m) st fi n e = absurd cc

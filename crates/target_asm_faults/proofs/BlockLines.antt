@@ -8,6 +8,7 @@ use Rattle.std.proofs.lemmas.List.{append-nil, length-append}
 use Rattle.trips_isa.specs.declared.block.ReadSlot.{ReadSlot}
 use Rattle.trips_isa.specs.declared.block.Block.{Block}
 use Rattle.trips_isa.specs.Images.{chunks, body_chunks}
+use Rattle.trips_isa.specs.Limits.{most_chunks}
 use Rattle.target_asm_spec.specs.declared.fault.AsmFault.{AsmFault}
 use Rattle.target_asm_spec.specs.declared.fault.AsmFault.TheVariants as fault
 use Rattle.target_asm_spec.specs.declared.spelled.Goal.{Goal}
@@ -57,7 +58,7 @@ pub record AfterHead (p : Place) (here at : ℕ) (x : ℕ × List ℕ) (q : Plac
   }
   pub left : x.1 ≡ rest
   pub line : m ≡ at + 1
-  pub room : here + 2 ≤ 524288
+  pub room : here + 2 ≤ most_chunks
 
 no_block : (k here c : ℕ) (p : Place) (cs text : List ℕ) → text ≡ c ∷ cs → Between k here p text
     → ((z : ℤ) (mask : ℕ) (more : List ℕ) → MayStand p (line.block z mask)
@@ -104,18 +105,18 @@ head_goes G B k here at c p cs text e a l g =
     (ap (λ (x : SpelledBlock). is_place x.number k) same
     ∙ at_place z k l (st.0 ∙ ap pos a.count)) wrong)))) (λ h.
     let stands = block_stands k here p text s r a l h in
-    step_wants G B p at text S (nat_le (here + 2) 524288) (fault.Range at) _
+    step_wants G B p at text S (nat_le (here + 2) most_chunks) (fault.Range at) _
     (λ wrong. fails G B p at text (fault.Range at) (range (record {
       line = line.block r.k s.0.mask;
       more = s.1;
       stands = stands;
       is = r.is;
-      outside = λ z. clash (nat_le (here + 2) 524288)
-          (le-leb (here + 2) 524288 (subst (λ (n : ℕ). n + 2 ≤ 524288) a.end z)) wrong;
+      outside = λ z. clash (nat_le (here + 2) most_chunks)
+          (le-leb (here + 2) most_chunks (subst (λ (n : ℕ). n + 2 ≤ most_chunks) a.end z)) wrong;
     }))) (λ room.
-    let within = leb-true (here + 2) 524288 room in
+    let within = leb-true (here + 2) most_chunks room in
     by_line G B p at text S (s.0.mask, s.1) (line.block r.k s.0.mask) s.1 stands
-    (subst (λ (n : ℕ). n + 2 ≤ 524288) (sym a.end) within) g r.is (record {
+    (subst (λ (n : ℕ). n + 2 ≤ most_chunks) (sym a.end) within) g r.is (record {
       place = ap (λ (n : ℕ). record {
         begins = p.begins ++ n ∷ [];
         here = n;
@@ -230,7 +231,7 @@ pub record BlockEnd (bs : List ℕ) (here : ℕ) (x : Block × ℕ × List ℕ) 
     (rest : List ℕ) : Type 0 where
   pub begins : q.begins ≡ bs ++ here ∷ []
   pub end : q.here + q.size ≡ here + chunks x.0
-  pub room : here + chunks x.0 ≤ 524288
+  pub room : here + chunks x.0 ≤ most_chunks
   pub line : x.1 ≡ m
   pub left : x.2 ≡ rest
   pub no_read : NoRead q rest
@@ -281,12 +282,12 @@ block_goes G B b free aims k here at c p cs text e a l =
     let one : 1 ≤ body_chunks 0 ss.0 = some_body 0 ss.0 in
     let size : y.size ≡ max 2 (1 + body_chunks 0 ss.0) = j.size in
     let start : y.here ≡ here = j.here_is in
-    let room : here + y.size ≤ 524288 = j.room in
+    let room : here + y.size ≤ most_chunks = j.room in
     let chunk : y.size ≡ 1 + body_chunks 0 ss.0 = omega (arith, size, one) in
     at_once G B y z t S (block_of h.0 rs.0 ws.0 ss.0, ss.1, ss.2) (record {
       begins = j.begins;
       end = ap (λ (n : ℕ). n + y.size) start ∙ ap (λ (n : ℕ). here + n) chunk;
-      room = subst (λ (n : ℕ). here + n ≤ 524288) chunk room;
+      room = subst (λ (n : ℕ). here + n ≤ most_chunks) chunk room;
       line = j.line;
       left = j.left;
       no_read = j.no_read;
@@ -310,7 +311,7 @@ near_more c cs l h (suc k) w = h k (omega (arith, w))
 
 pub blocks_go : (G : Aim) (B : ℕ → Goal → Type 0) (b : Begins) → Free G → Aims G B b
     → (turns k here at : ℕ) (p : Place) (text : List ℕ) → Between k here p text
-    → k + turns ≡ 262145 → 2 * k ≤ here → here ≤ 524288
+    → k + turns ≡ 262145 → 2 * k ≤ here → here ≤ most_chunks
     → Goes G B p at text (BlocksEnd p.begins here) (blocks_in b turns k here at text)
 unfolding blocks_in
 blocks_go G B b free aims zero k here at p text a t s l = absurd (omega (arith, t, s, l))
@@ -326,7 +327,7 @@ blocks_go G B b free aims (suc n) k here at p (c ∷ cs) a t s l =
     let text : List ℕ = c ∷ cs in
     goes G B p at text (BlockEnd p.begins here) S (one_block b k here at text) _
     (block_goes G B b free aims k here at c p cs text refl a (omega (arith, t))) (λ x q m rest d.
-    let room : here + chunks x.0 ≤ 524288 = d.room in
+    let room : here + chunks x.0 ≤ most_chunks = d.room in
     let two : 1 ≤ body_chunks 0 x.0.insts.items = some_body 0 x.0.insts.items in
     moved G B q q x.1 m x.2 rest S _ refl d.line d.left
     (goes G B q x.1 x.2 (BlocksEnd q.begins (here + chunks x.0)) S

@@ -9,6 +9,7 @@ use Rattle.trips_isa.specs.declared.form.Form.{Form}
 use Rattle.trips_isa.specs.declared.form.Form.TheVariants.{General, Immediate, Load, Store, Branch}
 use Rattle.trips_isa.specs.declared.form.Form.TheVariants.{Constant}
 use Rattle.trips_isa.specs.Forms.{form_of}
+use Rattle.trips_isa.specs.Limits.{most_chunks}
 use Rattle.target_asm_spec.specs.declared.spelled.Goal.{Goal}
 use Rattle.target_asm_spec.specs.declared.spelled.Goal.TheVariants.{Label, Offset}
 use Rattle.target_asm_spec.specs.declared.spelled.Numbers.{Numbers}
@@ -115,7 +116,7 @@ constant_capped op z = unsigned_capped 65536 z (omega arith)
 offset_capped : (g : Option Goal) → offset_of (capped_goal g) ≡ offset_of g
 offset_capped None = refl
 offset_capped (Some (Label k)) = refl
-offset_capped (Some (Offset n)) = signed_capped 524288 n (omega arith)
+offset_capped (Some (Offset n)) = signed_capped most_chunks n (omega arith)
 
 imm_capped : (f : Form) (s : SpelledInst) → form_of s.op ≡ f
     → immediate_of f (capped_inst s) ≡ immediate_of f s

@@ -8,6 +8,7 @@ use Rattle.trips_isa.specs.declared.form.Form.{Form}
 use Rattle.trips_isa.specs.declared.form.Form.TheVariants.{General, Immediate, Load, Store, Branch}
 use Rattle.trips_isa.specs.declared.form.Form.TheVariants.{Constant}
 use Rattle.trips_isa.specs.Forms.{form_of}
+use Rattle.trips_isa.specs.Limits.{most_chunks}
 use Rattle.target_asm_spec.specs.declared.spelled.Goal.{Goal}
 use Rattle.target_asm_spec.specs.declared.spelled.Numbers.{Numbers}
 use Rattle.target_asm_spec.specs.declared.spelled.SpelledInst.{SpelledInst}
@@ -147,7 +148,7 @@ insts_same p s r t u a b e =
       fields = λ f. (
         subst (Below 128) (slot f.0) f.0,
         (f.1.0, judged ∙ f.1.1),
-        subst (λ (z : ℤ). p.here + 2 + size_of z / 32 ≤ 524288) (slot f.0) f.2,
+        subst (λ (z : ℤ). p.here + 2 + size_of z / 32 ≤ most_chunks) (slot f.0) f.2,
       );
       next = λ f. ap (λ (z : ℤ). after p (line.inst (record s { slot = z }))) (slot f.0);
       goal =

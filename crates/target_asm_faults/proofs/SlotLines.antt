@@ -7,6 +7,7 @@ use Rattle.std.proofs.lemmas.Bool.{cases_lt, eqb-true, leb-true, le-leb}
 use Rattle.std.proofs.lemmas.List.{append-nil}
 use Rattle.trips_isa.specs.declared.block.Inst.{Inst}
 use Rattle.trips_isa.specs.Images.{body_chunks}
+use Rattle.trips_isa.specs.Limits.{most_chunks}
 use Rattle.target_asm_spec.specs.declared.fault.AsmFault.{AsmFault}
 use Rattle.target_asm_spec.specs.declared.fault.AsmFault.TheVariants as fault
 use Rattle.target_asm_spec.specs.declared.spelled.Goal.{Goal}
@@ -53,7 +54,7 @@ AimResult G B here at g (Err e) = AimCause B here at g e
 -- what a reading tells of where branches go
 abbrev pub Aims : Aim → (ℕ → Goal → Type 0) → Begins → Type 0
 Aims G B b = (s : SpelledInst) (here at : ℕ) (i : Inst) → IsInstruction s → inst_of s ≡ Some i
-    → here + 2 ≤ 524288
+    → here + 2 ≤ most_chunks
     → AimResult G B here at s.numbers.goal (aimed b here at (capped_inst s).numbers.goal i.imm)
 
 -- ---- one line
@@ -138,7 +139,7 @@ pub record AfterInst (p : Place) (next at : ℕ) (x : ℕ × Inst × List ℕ) (
   pub line : m ≡ at + 1
   pub below : x.0 < 128
   pub later : next ≤ x.0
-  pub room : p.here + 2 + x.0 / 32 ≤ 524288
+  pub room : p.here + 2 + x.0 / 32 ≤ most_chunks
 
 aim_step : {C : Type 0} (G : Aim) (B : ℕ → Goal → Type 0) (p : Place) (at : ℕ) (t : List ℕ)
     (S : C → Place → ℕ → List ℕ → Type 0) (l : Line) (more : List ℕ) (r : Result ℤ AsmFault)
@@ -154,7 +155,7 @@ aim_step G B p at t S l more (Err e) f st fi is h k = fails G B p at t e (cause 
     cause e (hits n g b) = offset l more n st fi is g b
 
 pub inst_goes : (G : Aim) (B : ℕ → Goal → Type 0) (b : Begins) → Aims G B b
-    → (p : Place) (here next at : ℕ) (text : List ℕ) → p.here ≡ here → here + 2 ≤ 524288
+    → (p : Place) (here next at : ℕ) (text : List ℕ) → p.here ≡ here → here + 2 ≤ most_chunks
     → p.next_slot ≡ Some next → next ≤ 128 → begins (codes "N[") text ≡ true
     → Goes G B p at text (AfterInst p next at) (one_inst b here next at text)
 unfolding one_inst line_words
@@ -182,20 +183,20 @@ inst_goes G B b aims p here next at text w roomy e l n =
     (λ none. fails G B p at text (fault.Range at) (range (bad_inst p text next s r e h (λ z.
     none_some (inst_of s.0) z.1.0 none (judged ∙ z.1.1))))) (λ i j.
     let size : size_of r.s.slot ≡ slot = ap size_of in_field.is in
-    step_wants G B p at text S (nat_le (here + 2 + slot / 32) 524288) (fault.Range at) _
+    step_wants G B p at text S (nat_le (here + 2 + slot / 32) most_chunks) (fault.Range at) _
     (λ wr. fails G B p at text (fault.Range at) (range (bad_inst p text next s r e h (λ z.
-    let many : here + 2 + slot / 32 ≤ 524288 =
-    subst (λ (k : ℕ). k + 2 + slot / 32 ≤ 524288) w
-    (subst (λ (k : ℕ). p.here + 2 + k / 32 ≤ 524288) size z.2) in
-    clash (nat_le (here + 2 + slot / 32) 524288) (le-leb (here + 2 + slot / 32) 524288 many) wr))))
+    let many : here + 2 + slot / 32 ≤ most_chunks =
+    subst (λ (k : ℕ). k + 2 + slot / 32 ≤ most_chunks) w
+    (subst (λ (k : ℕ). p.here + 2 + k / 32 ≤ most_chunks) size z.2) in
+    clash (nat_le (here + 2 + slot / 32) most_chunks) (le-leb (here + 2 + slot / 32) most_chunks many) wr))))
     (λ room.
     let stands = inst_stands p text next s r e h in
     let fields : InFields p (line.inst r.s) = (
       subst (Below 128) (sym in_field.is) in_field.below,
       (i, sym judged ∙ j),
-      subst (λ (k : ℕ). p.here + 2 + k / 32 ≤ 524288) (sym size)
-          (subst (λ (k : ℕ). k + 2 + slot / 32 ≤ 524288) (sym w)
-          (leb-true (here + 2 + slot / 32) 524288 room)),
+      subst (λ (k : ℕ). p.here + 2 + k / 32 ≤ most_chunks) (sym size)
+          (subst (λ (k : ℕ). k + 2 + slot / 32 ≤ most_chunks) (sym w)
+          (leb-true (here + 2 + slot / 32) most_chunks room)),
     ) in
     let aim : AimResult G B p.here at r.s.numbers.goal (aimed b here at s.0.numbers.goal i.imm) =
     subst (λ (k : ℕ). AimResult G B k at r.s.numbers.goal (aimed b here at s.0.numbers.goal i.imm))
@@ -218,8 +219,8 @@ inst_goes G B b aims p here next at text w roomy e l n =
       below = in_field.below;
       later = subst (IsLeft (Some next)) in_field.is (turn_left next r.s.slot
           (ap (λ (x : SpelledInst). in_turn next x.slot) r.same ∙ h));
-      room = subst (λ (k : ℕ). k + 2 + slot / 32 ≤ 524288) (sym w)
-          (leb-true (here + 2 + slot / 32) 524288 room);
+      room = subst (λ (k : ℕ). k + 2 + slot / 32 ≤ most_chunks) (sym w)
+          (leb-true (here + 2 + slot / 32) most_chunks room);
     })))))))
 
 -- ---- all slots of a block
@@ -244,7 +245,7 @@ pub record SlotsAt (bs : List ℕ) (here next c : ℕ) (p : Place) (text : List 
   pub size : p.size ≡ c
   pub some : 2 ≤ c
   pub small : c ≤ 2 + next / 32
-  pub room : here + c ≤ 524288
+  pub room : here + c ≤ most_chunks
   pub slot : p.next_slot ≡ Some next
   pub no_read : NoRead p text
   pub no_write : NoWrite p text
@@ -255,7 +256,7 @@ pub record SlotsEnd (bs : List ℕ) (here next c : ℕ) (x : List (Option Inst) 
   pub begins : q.begins ≡ bs
   pub here_is : q.here ≡ here
   pub size : q.size ≡ max c (1 + body_chunks next x.0)
-  pub room : here + q.size ≤ 524288
+  pub room : here + q.size ≤ most_chunks
   pub line : x.1 ≡ m
   pub left : x.2 ≡ rest
   pub no_read : NoRead q rest

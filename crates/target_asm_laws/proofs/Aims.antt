@@ -9,6 +9,7 @@ use Rattle.std.proofs.lemmas.Bool.{ltb-true}
 use Rattle.trips_isa.specs.declared.op.Op.{Op}
 use Rattle.trips_isa.specs.declared.op.Op.TheVariants.{Bro, Callo}
 use Rattle.trips_isa.specs.Fits.{FitsSigned, FitsOffset}
+use Rattle.trips_isa.specs.Limits.{most_chunks, offset_half}
 use Rattle.target_asm_spec.specs.Fields.{branch_text}
 use Rattle.target_asm_spec.specs.Chunks.{goal_in}
 use Rattle.target_asm_spec.specs.declared.fault.AsmFault.TheVariants as fault
@@ -25,7 +26,7 @@ use Rattle.target_asm_laws.proofs.Judging.{IsSigned, signed_is, OffsetIs}
 -- it is known where blocks begin: the table tells each of them
 pub record Told (b : Begins) : Type 0 where
   pub known : b.known ≡ true
-  pub few : length b.chunks ≤ 524288
+  pub few : length b.chunks ≤ most_chunks
   pub tells : (k : ℕ) → k < length b.chunks
       → goal_in b.starts (pos (get_or b.chunks k 0)) ≡ Some k
 
@@ -34,7 +35,7 @@ pub record IsLabel (b : Begins) (here : ℕ) (k z : ℤ) : Type 0 where
   pub at : ℕ
   pub is : k ≡ pos at
   pub below : at < length b.chunks
-  pub fits : FitsSigned 524288 z
+  pub fits : FitsSigned offset_half z
   pub goal : goal_in b.starts (pos here +ℤ z) ≡ Some at
 
 abbrev pub AimIs : Begins → ℕ → Option Goal → ℤ → ℤ → Type 0
@@ -54,15 +55,15 @@ label_is b here line (pos k) t =
     let c : ℤ = pos (get_or b.chunks k 0) in
     let d : ℤ = c -ℤ pos here in
     fork (IsLabel b here (pos k)) (nat_lt k (length b.chunks))
-    (or_fault (fault.Label line) (signed_in 524288 d)) (Err (fault.Label line)) (λ e.
+    (or_fault (fault.Label line) (signed_in offset_half d)) (Err (fault.Label line)) (λ e.
     let l : k < length b.chunks = ltb-true k (length b.chunks) e in
-    or_holds (IsLabel b here (pos k)) (fault.Label line) (signed_in 524288 d)
-    (gives (IsSigned 524288 d) (IsLabel b here (pos k)) (signed_in 524288 d) (signed_is 524288 d)
+    or_holds (IsLabel b here (pos k)) (fault.Label line) (signed_in offset_half d)
+    (gives (IsSigned offset_half d) (IsLabel b here (pos k)) (signed_in offset_half d) (signed_is offset_half d)
     (λ z h. record {
       at = k;
       is = refl;
       below = l;
-      fits = subst (FitsSigned 524288) (sym h.0) h.1;
+      fits = subst (FitsSigned offset_half) (sym h.0) h.1;
       goal = ap (goal_in b.starts) (there here c z h.0) ∙ t.tells k l;
     }))) (λ e. tt)
 
@@ -101,10 +102,10 @@ no_offset b here goal imm z e o a =
     kept b here goal imm z e a ∙ subst (λ (g : Option Goal). OffsetIs g imm) e o
 
 jump_fits : (b : Begins) (here : ℕ) (goal : Option Goal) (imm z : ℤ) → HasGoal true goal
-    → OffsetIs goal imm → AimIs b here goal imm z → FitsSigned 524288 z
+    → OffsetIs goal imm → AimIs b here goal imm z → FitsSigned offset_half z
 jump_fits b here None imm z h o a = absurd h
 jump_fits b here (Some (Label k)) imm z h o a = a.fits
-jump_fits b here (Some (Offset n)) imm z h o a = subst (FitsSigned 524288) (sym (a.0 ∙ o.0)) o.1
+jump_fits b here (Some (Offset n)) imm z h o a = subst (FitsSigned offset_half) (sym (a.0 ∙ o.0)) o.1
 
 -- the offset of a branch lies in its field
 pub offset_fits : (b : Begins) (here : ℕ) (op : Op) (goal : Option Goal) (imm z : ℤ)
@@ -139,4 +140,4 @@ pub aim_small : (b : Begins) (here : ℕ) (goal : Option Goal) (imm z : ℤ) →
 aim_small b here None imm z t o a = tt
 aim_small b here (Some (Label k)) imm z t o a =
     subst (λ (x : ℤ). SmallAim (Some (Label x))) (sym a.is) (omega (arith, a.below, t.few))
-aim_small b here (Some (Offset n)) imm z t o a = signed_small 524288 n (omega arith) o.1
+aim_small b here (Some (Offset n)) imm z t o a = signed_small offset_half n (omega arith) o.1

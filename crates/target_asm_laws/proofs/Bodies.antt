@@ -13,6 +13,7 @@ use Rattle.trips_isa.specs.declared.block.ReadSlot.{ReadSlot}
 use Rattle.trips_isa.specs.declared.block.Block.{Block}
 use Rattle.trips_isa.specs.Fits.{FitsSlot, FitsRead, FitsBlock}
 use Rattle.trips_isa.specs.Images.{body_chunks, chunks}
+use Rattle.trips_isa.specs.Limits.{most_chunks}
 use Rattle.target_asm_spec.specs.Numbers.{numbered, hex_word}
 use Rattle.target_asm_spec.specs.Text.{block_line, read_line, write_line, slot_text, block_text}
 use Rattle.target_asm_spec.specs.declared.fault.AsmFault.TheVariants.{Syntax, Range}
@@ -36,7 +37,7 @@ all_of P (x ∷ xs) f = All-cons P x xs f.0 (all_of P xs f.1)
 
 pub record IsHead (k here : ℕ) (text : List ℕ) (r : ℕ × List ℕ) : Type 0 where
   pub mask : r.0 < 4294967296
-  pub room : here + 2 ≤ 524288
+  pub room : here + 2 ≤ most_chunks
   pub is : text ≡ block_line k r.0 ++ r.1
 
 block_words_are : (k mask : ℕ) (rest : List ℕ) → block_line k mask ++ rest
@@ -61,16 +62,16 @@ head_is k here line text l =
     (or_holds (IsBlockLine text) (Syntax line) (block_line_in text) (block_line_is text)) (λ s a.
     chain (λ u. is_place s.0.number k ≡ true) Q (wants (is_place s.0.number k) (Syntax line)) _
     (wanted (is_place s.0.number k) (Syntax line)) (λ u e.
-    chain (λ v. nat_le (here + 2) 524288 ≡ true) Q (wants (nat_le (here + 2) 524288) (Range line)) _
-    (wanted (nat_le (here + 2) 524288) (Range line)) (λ v m. record {
+    chain (λ v. nat_le (here + 2) most_chunks ≡ true) Q (wants (nat_le (here + 2) most_chunks) (Range line)) _
+    (wanted (nat_le (here + 2) most_chunks) (Range line)) (λ v m. record {
       mask = a.mask;
-      room = leb-true (here + 2) 524288 m;
+      room = leb-true (here + 2) most_chunks m;
       is = head_text k text s.1 s.0 l a (place_is s.0.number k e);
     })))
 
 pub record IsBlock (b : Begins) (k here : ℕ) (text : List ℕ) (r : Block × ℕ × List ℕ) : Type 0 where
   pub fits : FitsBlock r.0
-  pub room : here + chunks r.0 ≤ 524288
+  pub room : here + chunks r.0 ≤ most_chunks
   pub is : text ≡ block_text (goals b) here k r.0 ++ r.2
 
 block_is : (b : Begins) (k here line1 line2 line3 mask : ℕ) (text t1 t2 t3 t4 : List ℕ)
@@ -81,12 +82,12 @@ block_is : (b : Begins) (k here line1 line2 line3 mask : ℕ) (text t1 t2 t3 t4 
     → IsBlock b k here text (block_of mask rs ws ss, line3, t4)
 unfolding block_text
 block_is b k here line1 line2 line3 mask text t1 t2 t3 t4 rs ws ss h r w s =
-    let room : here + 1 + body_chunks 0 ss ≤ 524288 = s.room in
+    let room : here + 1 + body_chunks 0 ss ≤ most_chunks = s.room in
     let small : mask < 4294967296 = h.mask in
     let few_reads : 0 + length rs ≤ 32 = r.few in
     let few_writes : 0 + length ws ≤ 32 = w.few in
     let size : 0 + length ss ≡ 128 = s.size in
-    let within : here + (1 + body_chunks 0 ss) ≤ 524288 = omega (arith, room) in
+    let within : here + (1 + body_chunks 0 ss) ≤ most_chunks = omega (arith, room) in
     record {
       fits = record {
         reads = omega (arith, few_reads);
@@ -137,7 +138,7 @@ texts_from goal here k (b ∷ bs) =
 
 pub record AreBlocks (b : Begins) (k here : ℕ) (text : List ℕ) (bs : List Block) : Type 0 where
   pub each : Each FitsBlock bs
-  pub total : here + sum_by chunks bs ≤ 524288
+  pub total : here + sum_by chunks bs ≤ most_chunks
   pub is : text ≡ texts_from (goals b) here k bs
 
 blocks_more : (b : Begins) (k here line : ℕ) (text t : List ℕ) (x : Block) (bs : List Block)
@@ -146,7 +147,7 @@ blocks_more : (b : Begins) (k here line : ℕ) (text t : List ℕ) (x : Block) (
 blocks_more b k here line text t x bs p q =
     let one : k + 1 ≡ suc k = omega arith in
     let sum : sum_by chunks (x ∷ bs) ≡ chunks x + sum_by chunks bs = sum_by-cons chunks x bs in
-    let rest : here + chunks x + sum_by chunks bs ≤ 524288 = q.total in
+    let rest : here + chunks x + sum_by chunks bs ≤ most_chunks = q.total in
     record {
       each = (p.fits, q.each);
       total = omega (arith, rest, sum);
@@ -156,7 +157,7 @@ blocks_more b k here line text t x bs p q =
     }
 
 pub blocks_are : (b : Begins) → Told b → (turns k here line : ℕ) (text : List ℕ)
-    → k + turns ≤ 999999999 → here ≤ 524288
+    → k + turns ≤ 999999999 → here ≤ most_chunks
     → Holds (AreBlocks b k here text) (blocks_in b turns k here line text)
 unfolding blocks_in
 blocks_are b t zero k here line text l h = tt

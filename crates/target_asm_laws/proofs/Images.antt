@@ -7,6 +7,7 @@ use Rattle.trips_isa.specs.declared.block.Block.{Block}
 use Rattle.trips_isa.specs.declared.block.Image.{Image}
 use Rattle.trips_isa.specs.Fits.{FitsBlock}
 use Rattle.trips_isa.specs.Images.{chunks}
+use Rattle.trips_isa.specs.Limits.{most_chunks}
 use Rattle.target_asm_spec.specs.Numbers.{numbered}
 use Rattle.target_asm_spec.specs.Chunks.{goal_of}
 use Rattle.target_asm_spec.specs.Text.{byte_text, head_lines, block_in, TargetText}
@@ -94,7 +95,7 @@ whole_by : (text t u : List ℕ) (count : ℕ) (bytes : List ℕ) (first bs : Li
     → IsSecond u first bs → IsText text (record { blocks = bs; bytes = bytes })
 whole_by text t u count bytes first bs f d e s =
     let size : length bytes ≡ count = d.bytes.size in
-    let total : 0 + sum_by chunks bs ≤ 524288 = s.read.total in
+    let total : 0 + sum_by chunks bs ≤ most_chunks = s.read.total in
     record {
       fits = record {
         some = some_block (goals (begins_of first)) u bs e s.read.is;

@@ -11,6 +11,7 @@ use Rattle.trips_isa.specs.declared.form.Form.TheVariants.{Constant}
 use Rattle.trips_isa.specs.declared.block.Inst.{Inst}
 use Rattle.trips_isa.specs.Forms.{form_of}
 use Rattle.trips_isa.specs.Fits.{FitsSigned, FitsUnsigned, FitsConstant}
+use Rattle.trips_isa.specs.Limits.{offset_half}
 use Rattle.target_asm_spec.specs.declared.spelled.Goal.{Goal}
 use Rattle.target_asm_spec.specs.declared.spelled.Goal.TheVariants.{Label, Offset}
 use Rattle.target_asm_spec.specs.declared.spelled.SpelledInst.{SpelledInst}
@@ -66,12 +67,12 @@ constant_is op z = unsigned_is 65536 z
 abbrev pub OffsetIs : Option Goal → ℤ → Type 0
 OffsetIs None z = z ≡ pos 0
 OffsetIs (Some (Label k)) z = Unit {0}
-OffsetIs (Some (Offset n)) z = IsSigned 524288 n z
+OffsetIs (Some (Offset n)) z = IsSigned offset_half n z
 
 offset_is : (g : Option Goal) → If (OffsetIs g) (offset_of g)
 offset_is None = refl
 offset_is (Some (Label k)) = tt
-offset_is (Some (Offset n)) = signed_is 524288 n
+offset_is (Some (Offset n)) = signed_is offset_half n
 
 abbrev pub ImmIs : Form → SpelledInst → ℤ → Type 0
 ImmIs General s z = z ≡ pos 0

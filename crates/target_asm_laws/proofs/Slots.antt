@@ -9,6 +9,7 @@ use Rattle.trips_isa.specs.declared.block.Inst.{Inst}
 use Rattle.trips_isa.specs.Forms.{form_of}
 use Rattle.trips_isa.specs.Fits.{FitsInst, FitsSlot}
 use Rattle.trips_isa.specs.Images.{body_chunks}
+use Rattle.trips_isa.specs.Limits.{most_chunks}
 use Rattle.target_asm_spec.specs.Numbers.{numbered}
 use Rattle.target_asm_spec.specs.Chunks.{goal_in}
 use Rattle.target_asm_spec.specs.Text.{inst_line, slot_text}
@@ -34,7 +35,7 @@ pub record IsSlot (b : Begins) (here next : ℕ) (text : List ℕ)
     (r : ℕ × Inst × List ℕ) : Type 0 where
   pub after : next ≤ r.0
   pub below : r.0 < 128
-  pub room : here + 2 + r.0 / 32 ≤ 524288
+  pub room : here + 2 + r.0 / 32 ≤ most_chunks
   pub fits : FitsInst r.1
   pub is : text ≡ inst_line r.0 r.1 (goal_at b here r.1.imm) ++ r.2
 
@@ -57,7 +58,7 @@ is_aimed b here text rest s i z t l j a = record {
 
 slot_is : (b : Begins) (here next slot : ℕ) (text rest : List ℕ) (s : SpelledInst) (i : Inst)
     (z : ℤ) → Told b → IsInstLine text (s, rest) → in_turn next s.slot ≡ true
-    → InField s.slot 128 slot → IsJudged s i → nat_le (here + 2 + slot / 32) 524288 ≡ true
+    → InField s.slot 128 slot → IsJudged s i → nat_le (here + 2 + slot / 32) most_chunks ≡ true
     → AimIs b here s.numbers.goal i.imm z
     → IsSlot b here next text (slot, aimed_inst i z, rest)
 slot_is b here next slot text rest s i z t l n f j m a =
@@ -65,7 +66,7 @@ slot_is b here next slot text rest s i z t l n f j m a =
     record {
       after = leb-true next slot (ap (in_turn next) (sym f.is) ∙ n);
       below = f.below;
-      room = leb-true (here + 2 + slot / 32) 524288 m;
+      room = leb-true (here + 2 + slot / 32) most_chunks m;
       fits = inst_fits b here s i z all;
       is = line_is b here slot text rest s i z f l all;
     }
@@ -84,9 +85,9 @@ one_is b here next line text t =
     (λ slot f.
     chain (IsJudged s.0) Q (or_fault (Range line) (inst_of s.0)) _
     (or_holds (IsJudged s.0) (Range line) (inst_of s.0) (judged_is s.0)) (λ i j.
-    chain (λ v. nat_le (here + 2 + slot / 32) 524288 ≡ true) Q
-    (wants (nat_le (here + 2 + slot / 32) 524288) (Range line)) _
-    (wanted (nat_le (here + 2 + slot / 32) 524288) (Range line)) (λ v m.
+    chain (λ v. nat_le (here + 2 + slot / 32) most_chunks ≡ true) Q
+    (wants (nat_le (here + 2 + slot / 32) most_chunks) (Range line)) _
+    (wanted (nat_le (here + 2 + slot / 32) most_chunks) (Range line)) (λ v m.
     chain (AimIs b here s.0.numbers.goal i.imm) Q (aimed b here line s.0.numbers.goal i.imm) _
     (aimed_is b here line s.0.numbers.goal i.imm t) (λ z a.
     slot_is b here next slot text s.1 s.0 i z t l n f j m a))))))
@@ -132,10 +133,10 @@ pub record AreSlots (b : Begins) (here next : ℕ) (text : List ℕ)
     (r : List (Option Inst) × ℕ × List ℕ) : Type 0 where
   pub size : next + length r.0 ≡ 128
   pub each : Each FitsSlot r.0
-  pub room : here + 1 + body_chunks next r.0 ≤ 524288
+  pub room : here + 1 + body_chunks next r.0 ≤ most_chunks
   pub is : text ≡ numbered (slot_text (goals b) here) next r.0 ++ r.2
 
-no_slots : (b : Begins) (here next line : ℕ) (text : List ℕ) → next ≤ 128 → here + 2 ≤ 524288
+no_slots : (b : Begins) (here next line : ℕ) (text : List ℕ) → next ≤ 128 → here + 2 ≤ most_chunks
     → AreSlots b here next text (gap next 128, line, text)
 no_slots b here next line text l h =
     let n : ℕ = 128 - next in
@@ -167,8 +168,8 @@ slots_more b here next slot line text t rest i ss a c =
     ≡ max (slot / 32 + 1) (body_chunks (suc slot) ss) =
     gap_chunks next n (Some i ∷ ss)
     ∙ ap (λ (m : ℕ). body_chunks m (Some i ∷ ss)) at in
-    let later : here + 1 + body_chunks (suc slot) ss ≤ 524288 =
-    subst (λ (m : ℕ). here + 1 + body_chunks m ss ≤ 524288) one c.room in
+    let later : here + 1 + body_chunks (suc slot) ss ≤ most_chunks =
+    subst (λ (m : ℕ). here + 1 + body_chunks m ss ≤ most_chunks) one c.room in
     let words : numbered f next (replicate n None ++ Some i ∷ ss)
     ≡ inst_line slot i (goal_at b here i.imm) ++ numbered f (suc slot) ss =
     gap_text f (λ s. refl) next n (Some i ∷ ss)
@@ -185,7 +186,7 @@ slots_more b here next slot line text t rest i ss a c =
           ∙ ap (λ (x : List ℕ). x ++ rest) (sym words);
     }
 
-pub slots_are : (b : Begins) (here : ℕ) → Told b → here + 2 ≤ 524288
+pub slots_are : (b : Begins) (here : ℕ) → Told b → here + 2 ≤ most_chunks
     → (turns next line : ℕ) (text : List ℕ) → next ≤ 128
     → Holds (AreSlots b here next text) (slots_in b here turns next line text)
 unfolding slots_in

@@ -9,6 +9,7 @@ use Rattle.std.proofs.lemmas.List.{take_at}
 use Rattle.std.proofs.lemmas.List.Sums.{sum_by-append, sum_by-cons}
 use Rattle.trips_isa.specs.declared.block.Block.{Block}
 use Rattle.trips_isa.specs.Images.{chunks, chunk_of, starting_from}
+use Rattle.trips_isa.specs.Limits.{most_chunks}
 use Rattle.target_asm_spec.specs.Numbers.{numbered}
 use Rattle.target_asm_spec.specs.Chunks.{goal_of}
 use Rattle.target_asm_spec.specs.Text.{block_text, block_in}
@@ -46,10 +47,10 @@ started (b ∷ bs) k here (suc j) l =
     rw e (started bs (suc k) (here + chunks b) j (omega (arith, l))
     ∙ ap (λ (m : ℕ). Some m) n)
 
-pub told : (bs : List Block) → length bs ≤ 524288 → Told (begins_of bs)
+pub told : (bs : List Block) → length bs ≤ most_chunks → Told (begins_of bs)
 told bs l = record {
   known = refl;
-  few = subst (λ (n : ℕ). n ≤ 524288) (sym (length-chunks_from 0 bs)) l;
+  few = subst (λ (n : ℕ). n ≤ most_chunks) (sym (length-chunks_from 0 bs)) l;
   tells = λ k h.
       let within : k < length bs = subst (λ (n : ℕ). k < n) (length-chunks_from 0 bs) h in
       let c : ℕ = get_or (chunks_from 0 bs) k 0 in

@@ -6,6 +6,7 @@ use Rattle.std.specs.Prelude.{nat_le, codes, Result, Ok, Err, if鈼宼hen鈼宔lse鈼
 use Rattle.trips_isa.specs.declared.block.Inst.{Inst}
 use Rattle.trips_isa.specs.declared.block.Block.{Block}
 use Rattle.trips_isa.specs.Images.{body_chunks, chunks}
+use Rattle.trips_isa.specs.Limits.{most_chunks}
 use Rattle.target_asm_spec.specs.Chunks.{start_row, start_rows}
 use Rattle.target_asm_spec.specs.declared.fault.AsmFault.{AsmFault}
 use Rattle.target_asm_spec.specs.declared.fault.AsmFault.TheVariants.{Syntax, Range}
@@ -71,7 +72,7 @@ inst_same b d here next line text =
     same SameInst (wants (in_turn next s.0.slot) (Syntax line)) _ _ (位 u.
     same SameInst (or_fault (Range line) (field_in s.0.slot 128)) _ _ (位 slot.
     same SameInst (or_fault (Range line) (inst_of s.0)) _ _ (位 i.
-    same SameInst (wants (nat_le (here + 2 + slot / 32) 524288) (Range line)) _ _ (位 v.
+    same SameInst (wants (nat_le (here + 2 + slot / 32) most_chunks) (Range line)) _ _ (位 v.
     both Any SameInst (aimed b here line s.0.numbers.goal i.imm)
     (aimed d here line s.0.numbers.goal i.imm) _ _
     (any (aimed b here line s.0.numbers.goal i.imm) (aimed d here line s.0.numbers.goal i.imm))

@@ -13,6 +13,7 @@ use Rattle.trips_isa.specs.declared.block.Inst.{Inst}
 use Rattle.trips_isa.specs.declared.block.Block.{Block}
 use Rattle.trips_isa.specs.Fits.{FitsSlot, FitsRead, FitsBlock}
 use Rattle.trips_isa.specs.Images.{body_chunks, chunks_to, chunks, chunk_of}
+use Rattle.trips_isa.specs.Limits.{most_chunks}
 use Rattle.isa_table.specs.Spots.{indexed}
 use Rattle.target_asm_spec.specs.Numbers.{numbered}
 use Rattle.target_asm_spec.specs.Chunks.{goal_of}
@@ -75,13 +76,13 @@ abbrev pub lines_after : ℕ → Block → ℕ
 lines_after line b = line + 1 + length b.reads.items + length b.writes.items + used b.insts.items
 
 head_again : (k here line mask : ℕ) (rest : List ℕ) → k < 1000000000 → mask < 4294967296
-    → here + 2 ≤ 524288
+    → here + 2 ≤ most_chunks
     → head_in k here line (block_line k mask ++ rest) ≡ Ok (mask, rest)
 unfolding head_in
 head_again k here line mask rest l m r =
     let a = block_line_again k mask rest l m in
     let b : (k == k) ≡ true = eq-eqb k k refl in
-    let c : nat_le (here + 2) 524288 ≡ true = le-leb (here + 2) 524288 r in
+    let c : nat_le (here + 2) most_chunks ≡ true = le-leb (here + 2) most_chunks r in
     rw (a, b, c) refl
 
 four_parts : (a b c d rest : List ℕ) → (a ++ (b ++ (c ++ d))) ++ rest
@@ -93,13 +94,13 @@ four_parts a b c d rest =
 
 pub block_again : (b : Begins) (goal : ℤ → Option ℕ) (here : ℕ) (h : Inst → ℤ) → Aims b goal here h
     → (k line : ℕ) (x : Block) (rest : List ℕ) → FitsBlock x → k < 1000000000
-    → here + chunks x ≤ 524288 → NoRow rest
+    → here + chunks x ≤ most_chunks → NoRow rest
     → one_block b k here line (block_text goal here k x ++ rest)
     ≡ Ok (block_with h x, lines_after line x, rest)
 unfolding one_block block_text block_with
 block_again b goal here h a k line x rest f l m n =
     let some : 1 ≤ body_chunks 0 x.insts.items = some_body 0 x.insts.items in
-    let m2 : here + (1 + body_chunks 0 x.insts.items) ≤ 524288 = m in
+    let m2 : here + (1 + body_chunks 0 x.insts.items) ≤ most_chunks = m in
     let insts : List ℕ = numbered (slot_text goal here) 0 x.insts.items ++ rest in
     let writes : List ℕ = numbered write_line 0 x.writes.items ++ insts in
     let reads : List ℕ = numbered read_line 0 x.reads.items ++ writes in
@@ -170,7 +171,7 @@ pub blocks_again : (b : Begins) (all : List Block) (h : ℕ → Inst → ℤ)
     → (turns k line here : ℕ) (pre bs : List Block) → all ≡ pre ++ bs → k ≡ length pre
     → here ≡ sum_by chunks pre
     → Each FitsBlock bs → length bs < turns → k + length bs < 1000000000
-    → here + sum_by chunks bs ≤ 524288
+    → here + sum_by chunks bs ≤ most_chunks
     → blocks_in b turns k here line (numbered (block_in all) k bs) ≡ Ok (blocks_with h here bs)
 unfolding blocks_in blocks_with
 blocks_again b all h a zero k line here pre bs e l s f t m c = absurd (omega (arith, t))

@@ -16,6 +16,7 @@ use Rattle.trips_isa.specs.declared.block.Block.{Block}
 use Rattle.trips_isa.specs.Forms.{form_of}
 use Rattle.trips_isa.specs.Fits.{FitsForm, FitsOffset, FitsSigned}
 use Rattle.trips_isa.specs.Images.{chunks, starting_from}
+use Rattle.trips_isa.specs.Limits.{most_chunks, offset_half}
 use Rattle.target_asm_spec.specs.Chunks.{goal_of, goal_in, start_rows}
 use Rattle.target_asm_spec.proofs.Starts.{goals_agree}
 use Rattle.target_asm_spec.specs.Instructions.{jumps}
@@ -78,7 +79,7 @@ pub length-chunks_from : (here : ℕ) (bs : List Block) → length (chunks_from 
 length-chunks_from here [] = refl
 length-chunks_from here (b ∷ bs) = ap suc (length-chunks_from (here + chunks b) bs)
 
-pub goals_small : (all : List Block) → length all ≤ 524288 → (z : ℤ) → SmallGoal (goal_of all z)
+pub goals_small : (all : List Block) → length all ≤ most_chunks → (z : ℤ) → SmallGoal (goal_of all z)
 goals_small all l z = by (goal_of all z) refl
   where
     by : (g : Option ℕ) → goal_of all z ≡ g → SmallGoal g
@@ -91,7 +92,7 @@ goals_small all l z = by (goal_of all z) refl
 unfoldable pub raw_at : List Block → ℕ → Inst → ℤ
 raw_at all here i = raw_imm (form_of i.op) i.op (goal_of all (pos here +ℤ i.imm)) i.imm
 
-pub aims_before : (all : List Block) → length all ≤ 524288 → (here : ℕ)
+pub aims_before : (all : List Block) → length all ≤ most_chunks → (here : ℕ)
     → Aims unknown (goal_of all) here (raw_at all here)
 unfolding aimed raw_at
 aims_before all l here = record { small = goals_small all l; aimed_at = λ line i f. refl }
@@ -103,7 +104,7 @@ back here z y e =
     ap (λ (x : ℤ). x -ℤ pos here) (e ∙ +ℤ_comm (pos here) z) ∙ +ℤ-neg_ℤ_cancel z (pos here)
 
 -- a branch to a block by its number
-to_known : (all : List Block) (here line k : ℕ) (z : ℤ) → FitsSigned 524288 z
+to_known : (all : List Block) (here line k : ℕ) (z : ℤ) → FitsSigned offset_half z
     → goal_of all (pos here +ℤ z) ≡ Some k
     → to_block (chunks_from 0 all) here line (pos k) ≡ Ok z
 to_known all here line k z f e =
@@ -112,9 +113,9 @@ to_known all here line k z f e =
     ap (nat_lt k) (length-chunks_from 0 all) ∙ lt-ltb k (length all) g.0 in
     let d : (pos (get_or (chunks_from 0 all) k 0) -ℤ pos here)
     ≡ z = back here z (pos (get_or (chunks_from 0 all) k 0)) g.1 in
-    rw (l, d, signed_judged 524288 z f) refl
+    rw (l, d, signed_judged offset_half z f) refl
 
-jump_known : (all : List Block) (here line : ℕ) (z : ℤ) → FitsSigned 524288 z → (g : Option ℕ)
+jump_known : (all : List Block) (here line : ℕ) (z : ℤ) → FitsSigned offset_half z → (g : Option ℕ)
     → goal_of all (pos here +ℤ z) ≡ g
     → aimed_at (begins_of all) here line (goal_if true g z) (raw_jump true g z) ≡ Ok z
 unfolding aimed_at raw_jump
@@ -151,7 +152,7 @@ inst_known all here line Branch i f = branch_known all here line i.op i.imm f.1
 abbrev pub own_imm : ℕ → Inst → ℤ
 own_imm here i = i.imm
 
-pub aims_after : (all : List Block) → length all ≤ 524288 → (here : ℕ)
+pub aims_after : (all : List Block) → length all ≤ most_chunks → (here : ℕ)
     → Aims (begins_of all) (goal_of all) here (own_imm here)
 unfolding aimed
 aims_after all l here = record {

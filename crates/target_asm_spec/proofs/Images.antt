@@ -14,6 +14,7 @@ use Rattle.trips_isa.specs.declared.block.Block.{Block}
 use Rattle.trips_isa.specs.declared.block.Image.{Image}
 use Rattle.trips_isa.specs.Fits.{FitsBlock}
 use Rattle.trips_isa.specs.Images.{chunks, last_byte, FitsImage}
+use Rattle.trips_isa.specs.Limits.{most_chunks}
 use Rattle.target_asm_spec.specs.Numbers.{hex_byte, numbered}
 use Rattle.target_asm_spec.specs.Chunks.{start_rows, start_row, goal_of}
 use Rattle.target_asm_spec.specs.Text.{data_end, byte_text, head_lines, block_in, block_text}
@@ -180,7 +181,7 @@ two_chunks (b ∷ bs) = omega (
 
 body_again : (b : Begins) (all : List Block) (h : ℕ → Inst → ℤ)
     → ((here : ℕ) → Aims b (goal_of all) here (h here))
-    → (line : ℕ) → All FitsBlock all → sum_by chunks all ≤ 524288
+    → (line : ℕ) → All FitsBlock all → sum_by chunks all ≤ most_chunks
     → body_in b line (numbered (block_in all) 0 all) ≡ Ok (blocks_with h 0 all)
 unfolding body_in
 body_again b all h a line f s =
@@ -202,7 +203,7 @@ unfolding image_in
 image_again i f =
     let blocks : List ℕ = numbered (block_in i.blocks) 0 i.blocks in
     let n : ℕ = length i.bytes in
-    let few : length i.blocks ≤ 524288 = omega (arith, two_chunks i.blocks, f.total) in
+    let few : length i.blocks ≤ most_chunks = omega (arith, two_chunks i.blocks, f.total) in
     let first : front_in (head_lines n ++ (numbered (byte_text n) 0 i.bytes ++ blocks))
     ≡ Ok (n, numbered (byte_text n) 0 i.bytes ++ blocks) =
     front_again n (numbered (byte_text n) 0 i.bytes ++ blocks) f.few in

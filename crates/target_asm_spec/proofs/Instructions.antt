@@ -15,6 +15,7 @@ use Rattle.trips_isa.specs.declared.block.Inst.{Inst}
 use Rattle.trips_isa.specs.Forms.{form_of}
 use Rattle.trips_isa.specs.Fits.{FitsTarget, FitsSigned, FitsUnsigned, FitsOffset, FitsConstant}
 use Rattle.trips_isa.specs.Fits.{FitsForm, FitsInst}
+use Rattle.trips_isa.specs.Limits.{offset_half}
 use Rattle.isa_table.specs.Mnemonics.{mnemonic_of}
 use Rattle.isa_table.specs.Spots.{indexed, spot_text}
 use Rattle.target_asm_spec.specs.Fields.{target_text, sense_text, numbers_text}
@@ -153,9 +154,9 @@ offset_judged : (op : Op) (goal : Option ℕ) (z : ℤ) → FitsOffset op z
     → offset_of (goal_if (jumps op) goal z) ≡ Some (raw_jump (jumps op) goal z)
 unfolding raw_jump
 offset_judged Bro (Some k) z f = refl
-offset_judged Bro None z f = signed_judged 524288 z f
+offset_judged Bro None z f = signed_judged offset_half z f
 offset_judged Callo (Some k) z f = refl
-offset_judged Callo None z f = signed_judged 524288 z f
+offset_judged Callo None z f = signed_judged offset_half z f
 offset_judged op goal z f = ap (λ (x : ℤ). Some x) (sym f)
 
 number_judged : (f : Form) (i : Inst) (goal : Option ℕ) → FitsForm f i

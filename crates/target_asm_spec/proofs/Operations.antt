@@ -13,6 +13,7 @@ use Rattle.trips_isa.specs.declared.block.Spot.{Spot}
 use Rattle.trips_isa.specs.declared.block.Inst.{Inst}
 use Rattle.trips_isa.specs.Fits.{FitsTarget, FitsTargets, FitsSigned, FitsUnsigned, FitsOffset}
 use Rattle.trips_isa.specs.Fits.{FitsConstant, FitsForm}
+use Rattle.trips_isa.specs.Limits.{offset_half}
 use Rattle.isa_table.specs.Spots.{spot_text}
 use Rattle.target_asm_spec.specs.Fields.{target_text, goal_text, branch_text, numbers_text}
 use Rattle.target_asm_spec.specs.declared.spelled.Goal.{Goal}
@@ -98,9 +99,9 @@ jump_again : (op : Op) (goal : Option ℕ) (imm : ℤ) (rest : List ℕ) → Sma
     ≡ Some (goal_if (jumps op) goal imm, rest)
 unfolding jump_in
 jump_again Bro goal imm rest l f z = goal_again goal imm rest l
-    (signed_small 524288 imm (omega arith) f) z
+    (signed_small offset_half imm (omega arith) f) z
 jump_again Callo goal imm rest l f z = goal_again goal imm rest l
-    (signed_small 524288 imm (omega arith) f) z
+    (signed_small offset_half imm (omega arith) f) z
 jump_again op goal imm rest l f z = refl
 
 branch_stops : (op : Op) (goal : Option ℕ) (imm : ℤ) (rest : List ℕ) → digits_in rest ≡ 0

@@ -10,6 +10,7 @@ use Rattle.trips_isa.specs.declared.block.Inst.{Inst}
 use Rattle.trips_isa.specs.Forms.{form_of}
 use Rattle.trips_isa.specs.Fits.{FitsInst, FitsSlot}
 use Rattle.trips_isa.specs.Images.{body_chunks}
+use Rattle.trips_isa.specs.Limits.{most_chunks}
 use Rattle.isa_table.specs.Spots.{indexed}
 use Rattle.target_asm_spec.specs.Numbers.{numbered}
 use Rattle.target_asm_spec.specs.Text.{inst_line, slot_text}
@@ -74,7 +75,7 @@ is_with i g imm = refl
 -- one line
 one_again : (b : Begins) (goal : ℤ → Option ℕ) (here : ℕ) (h : Inst → ℤ) (next j line : ℕ)
     (i : Inst) (rest : List ℕ)
-    → Aims b goal here h → next ≤ j → j < 128 → FitsInst i → here + 2 + j / 32 ≤ 524288
+    → Aims b goal here h → next ≤ j → j < 128 → FitsInst i → here + 2 + j / 32 ≤ most_chunks
     → one_inst b here next line (inst_line j i (goal (pos here +ℤ i.imm)) ++ rest)
     ≡ Ok (j, with_imm h i, rest)
 unfolding one_inst
@@ -83,7 +84,7 @@ one_again b goal here h next j line i rest a n l f m =
     let read : inst_in (inst_line j i g ++ rest) ≡ Some (spelled_inst j i g, rest) =
     inst_again j i g rest (omega (arith, l)) f (a.small (pos here +ℤ i.imm)) in
     let judged : inst_of (spelled_inst j i g) ≡ Some (raw_inst i g) = inst_judged j i g f in
-    let room : nat_le (here + 2 + j / 32) 524288 ≡ true = le-leb (here + 2 + j / 32) 524288 m in
+    let room : nat_le (here + 2 + j / 32) most_chunks ≡ true = le-leb (here + 2 + j / 32) most_chunks m in
     let aim = is_aimed b goal here h j line i a f in
     rw (read, in_slot next j i g n, slot_is j i g l, judged, room, aim)
     (let fill : Inst → Result (ℕ × Inst × List ℕ) AsmFault = λ x. Ok (j, x, rest) in ap fill
@@ -122,7 +123,7 @@ no_gap j ss = let e : suc j - (j + 1) ≡ 0 = omega arith in ap (λ (m : ℕ). r
 pub slots_again : (b : Begins) (goal : ℤ → Option ℕ) (here : ℕ) (h : Inst → ℤ) → Aims b goal here h
     → (turns next j line : ℕ) (ss : List (Option Inst)) (rest : List ℕ) → Each FitsSlot ss
     → next ≤ j
-    → j + length ss ≡ 128 → length ss < turns → here + 1 + body_chunks j ss ≤ 524288
+    → j + length ss ≡ 128 → length ss < turns → here + 1 + body_chunks j ss ≤ most_chunks
     → begins (codes "N[") rest ≡ false
     → slots_in b here turns next line (numbered (slot_text goal here) j ss ++ rest)
     ≡ Ok (gap next j ++ slots_with h ss, line + used ss, rest)
@@ -132,7 +133,7 @@ slots_again b goal here h a (suc t) next j line [] rest f n e l m r =
     rw r (slots_end next j line rest e)
 slots_again b goal here h a (suc t) next j line (None ∷ ss) rest f n e l m r =
     let lower : body_chunks (suc j) ss ≤ max 1 (body_chunks (suc j) ss) = omega arith in
-    let m2 : here + 1 + max 1 (body_chunks (suc j) ss) ≤ 524288 = m in
+    let m2 : here + 1 + max 1 (body_chunks (suc j) ss) ≤ most_chunks = m in
     let fill : List (Option Inst) → Taken (List (Option Inst)) = λ x. Ok (x, line + used ss, rest) in
     slots_again b goal here h a (suc t) next (suc j) line ss rest f.1 (omega (arith, n)) (omega (
       arith,
@@ -147,9 +148,9 @@ slots_again b goal here h a (suc t) next j line (Some i ∷ ss) rest f n e l m r
     append_assoc (inst_line j i g) (numbered (slot_text goal here) (suc j) ss) rest in
     let begun : begins (codes "N[") (inst_line j i g ++ tail) ≡ true = inst_begins j i g tail in
     let place : j < 128 = omega (arith, e) in
-    let m2 : here + 1 + max (j / 32 + 1) (body_chunks (suc j) ss) ≤ 524288 = m in
-    let within : here + 2 + j / 32 ≤ 524288 = omega (arith, m2) in
-    let later : here + 1 + body_chunks (suc j) ss ≤ 524288 = omega (arith, m2) in
+    let m2 : here + 1 + max (j / 32 + 1) (body_chunks (suc j) ss) ≤ most_chunks = m in
+    let within : here + 2 + j / 32 ≤ most_chunks = omega (arith, m2) in
+    let later : here + 1 + body_chunks (suc j) ss ≤ most_chunks = omega (arith, m2) in
     let one : one_inst b here next line (inst_line j i g ++ tail) ≡ Ok (j, with_imm h i, tail) =
     one_again b goal here h next j line i tail a n place f.0 within in
     let more : slots_in b here t (j + 1) (line + 1) tail

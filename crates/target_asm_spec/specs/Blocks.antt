@@ -8,6 +8,7 @@ use Rattle.trips_isa.specs.declared.block.Inst.{Inst}
 use Rattle.trips_isa.specs.declared.block.ReadSlot.{ReadSlot}
 use Rattle.trips_isa.specs.declared.block.Block.{Block}
 use Rattle.trips_isa.specs.Images.{chunks}
+use Rattle.trips_isa.specs.Limits.{most_chunks, offset_half}
 use Rattle.target_asm_spec.specs.Chunks.{goal_in}
 use Rattle.target_asm_spec.specs.declared.fault.AsmFault.{AsmFault}
 use Rattle.target_asm_spec.specs.declared.fault.AsmFault.TheVariants.{Syntax, Range}
@@ -98,7 +99,7 @@ pub record Begins : Type 0 where
 abbrev pub to_block : List ℕ → ℕ → ℕ → ℤ → Result ℤ AsmFault
 to_block chunks here line (pos k) =
     if nat_lt k (length chunks)
-    then or_fault (fault.Label line) (signed_in 524288 (pos (get_or chunks k 0) -ℤ pos here))
+    then or_fault (fault.Label line) (signed_in offset_half (pos (get_or chunks k 0) -ℤ pos here))
     else Err (fault.Label line)
 to_block chunks here line (negsuc k) = Err (fault.Label line)
 
@@ -125,7 +126,7 @@ one_inst b here next line text =
     >>> λ u.
     or_fault (Range line) (field_in s.0.slot 128) >>> λ slot. or_fault (Range line) (inst_of s.0)
     >>> λ i.
-    wants (nat_le (here + 2 + slot / 32) 524288) (Range line) >>> λ v.
+    wants (nat_le (here + 2 + slot / 32) most_chunks) (Range line) >>> λ v.
     aimed b here line s.0.numbers.goal i.imm >>> λ imm. Ok (slot, record i { imm = imm }, s.1)
 
 -- the empty slots that a line passes over
@@ -149,7 +150,7 @@ unfoldable pub head_in : ℕ → ℕ → ℕ → List ℕ → Result (ℕ × Lis
 head_in k here line text =
     or_fault (Syntax line) (block_line_in text) >>> λ s. wants (is_place s.0.number k) (Syntax line)
     >>> λ u.
-    wants (nat_le (here + 2) 524288) (Range line) >>> λ v. Ok (s.0.mask, s.1)
+    wants (nat_le (here + 2) most_chunks) (Range line) >>> λ v. Ok (s.0.mask, s.1)
 
 -- a block of what its lines say
 abbrev pub block_of : ℕ → List ReadSlot → List ℕ → List (Option Inst) → Block

@@ -8,6 +8,7 @@ use Rattle.trips_isa.specs.declared.form.Form.TheVariants.{General, Immediate, L
 use Rattle.trips_isa.specs.declared.form.Form.TheVariants.{Constant}
 use Rattle.trips_isa.specs.declared.block.Inst.{Inst}
 use Rattle.trips_isa.specs.Forms.{form_of}
+use Rattle.trips_isa.specs.Limits.{offset_half}
 use Rattle.target_asm_spec.specs.declared.spelled.Goal.{Goal}
 use Rattle.target_asm_spec.specs.declared.spelled.Goal.TheVariants.{Label, Offset}
 use Rattle.target_asm_spec.specs.declared.spelled.SpelledInst.{SpelledInst}
@@ -38,7 +39,7 @@ constant_of op n = unsigned_in 65536 n
 
 -- in chunks; where none is spelled it is 0
 abbrev pub offset_of : Option Goal → Option ℤ
-offset_of (Some (Offset n)) = signed_in 524288 n
+offset_of (Some (Offset n)) = signed_in offset_half n
 offset_of (Some (Label k)) = Some (pos 0)
 offset_of None = Some (pos 0)
 

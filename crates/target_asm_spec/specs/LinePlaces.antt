@@ -3,6 +3,7 @@ use Rattle.std.specs.Prelude.{◌≡◌, ◌≤◌, ◌<◌, ◌+◌, ◌/◌, �
 use Rattle.std.specs.Prelude.{List, [], ◌∷◌, ◌++◌, length, get_or, Option, Some, None}
 use Rattle.trips_isa.specs.declared.block.Inst.{Inst}
 use Rattle.trips_isa.specs.declared.block.ReadSlot.{ReadSlot}
+use Rattle.trips_isa.specs.Limits.{most_chunks}
 use Rattle.target_asm_spec.specs.declared.spelled.Goal.{Goal}
 use Rattle.target_asm_spec.specs.declared.spelled.Goal.TheVariants.{Label, Offset}
 use Rattle.target_asm_spec.specs.declared.spelled.SpelledInst.{SpelledInst}
@@ -104,11 +105,11 @@ Below values (negsuc n) = ⊥
 
 -- each number of a line that may stand lies in its field, and the chunks are not too many
 abbrev pub InFields : Place → Line → Type 0
-InFields p (block number mask) = p.here + p.size + 2 ≤ 524288
+InFields p (block number mask) = p.here + p.size + 2 ≤ most_chunks
 InFields p (read s) = Below 32 s.number × ((r : ReadSlot) × (read_of s ≡ Some r))
 InFields p (write s) = Below 32 s.number × Below 128 s.register
 InFields p (inst s) = Below 128 s.slot × ((i : Inst) × (inst_of s ≡ Some i))
-    × (p.here + 2 + size_of s.slot / 32 ≤ 524288)
+    × (p.here + 2 + size_of s.slot / 32 ≤ most_chunks)
 
 -- lines that may stand one after the other from a place on, with each number in its field
 abbrev pub AreGood : Place → List Line → Type 0

@@ -10,7 +10,7 @@ use Rattle.trips_isa.specs.declared.run.Stepped.{Stepped}
 use Rattle.trips_isa.specs.declared.run.Stepped.TheVariants as stepped
 use Rattle.trips_isa.specs.Machine.{State, runs, start}
 use Rattle.operand_net.specs.declared.weather.PcgWeather.{PcgWeather}
-use Rattle.grid_cycle_spec.specs.Costs.{cost_in, cost_of}
+use Rattle.grid_cycle_spec.specs.Costs.{cost_in, cost_of, greatest_cost}
 use Rattle.grid_cycle_spec.specs.Grid.{Grid}
 use Rattle.grid_run.specs.Answered.{ComesTo}
 use Rattle.grid_run.specs.Endings as endings
@@ -52,7 +52,7 @@ module _ (blocks : List Block) (bytes input : List ℕ) (settings : Settings) (s
   grid_told : (seen : List Block) (e : Ending) (g : Grid PcgWeather)
       → IsRan blocks bytes input settings.most settings.seed (Some e) g → seen ≡ blocks
       → (is_trap e ≡ false → g.counts.cycles ≤ cost_of blocks g.window.state.trace)
-      → g.counts.cycles ≤ cost_of blocks g.window.state.trace + 41472
+      → g.counts.cycles ≤ cost_of blocks g.window.state.trace + greatest_cost
       → g.counts.cycles ≤ cost_of seen g.window.state.trace + cost_in (slice_get seen g.window.state.next)
       → IsFixed (status_of e)
       (shown_report e g.window.state g.counts (cost_of seen g.window.state.trace) settings.show) s report
@@ -77,7 +77,7 @@ module _ (blocks : List Block) (bytes input : List ℕ) (settings : Settings) (s
               (subst (λ (t : State). g.counts.cycles ≤ cost_of blocks t.trace + cost_in (slice_get blocks t.next)) c.state
               (subst (λ (bs : List Block). g.counts.cycles
               ≤ cost_of bs g.window.state.trace + cost_in (slice_get bs g.window.state.next)) same soon));
-          at_most = subst (λ (t : State). g.counts.cycles ≤ cost_of blocks t.trace + 41472) c.state at_most;
+          at_most = subst (λ (t : State). g.counts.cycles ≤ cost_of blocks t.trace + greatest_cost) c.state at_most;
         },
         (
           told.0 ∙ ap status_of ends,
@@ -97,7 +97,7 @@ pub ended_told : {E : Type 0} (image : Image) (input : List ℕ) (settings : Set
     → (is_trap e ≡ false → HasRan image input settings (Some e) g
     → g.counts.cycles ≤ cost_of image.blocks g.window.state.trace)
     → (HasRan image input settings (Some e) g
-    → g.counts.cycles ≤ cost_of image.blocks g.window.state.trace + 41472)
+    → g.counts.cycles ≤ cost_of image.blocks g.window.state.trace + greatest_cost)
     → g.counts.cycles ≤ cost_of seen g.window.state.trace + cost_in (slice_get seen g.window.state.next)
     → IfOk r (λ a. IsFixed (status_of e) (shown_report e g.window.state g.counts
     (cost_of seen g.window.state.trace) settings.show) a.status a.report.items)

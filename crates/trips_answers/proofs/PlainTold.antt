@@ -7,7 +7,7 @@ use Rattle.trips_requests.specs.declared.commands.Command.{Command as Work}
 use Rattle.trips_requests.specs.declared.commands.Command.TheVariants.{Run, Evaluate, Compile}
 use Rattle.trips_requests.specs.Plain as line
 use Rattle.trips_requests.specs.Requests as line_requests
-use Rattle.trips_requests.specs.declared.commands.TheConstants.{DEFAULT_COUNT}
+use Rattle.trips_requests.specs.Limits.{default_count}
 use Rattle.trips_requests.specs.declared.commands.Tool.{Tool}
 use Rattle.trips_requests.specs.declared.commands.Tool.TheVariants as tool_is
 use Rattle.trips_requests.proofs.PlainRequests.{eval_asked, tool_asked}
@@ -89,7 +89,7 @@ eval_request words file plain = ap (option_map planned) (eval_asked (map (λ wor
 -- the answers to all requests
 module _ (file : List ℕ) (held : List ℕ → Option (List ℕ)) (rose : Type 0) (s : Status) (report : List ℕ) where
   behind : (loaded : Loaded)
-      → AfterReading loaded (λ text. IsTextEvaluated DEFAULT_COUNT text [] s report) s report
+      → AfterReading loaded (λ text. IsTextEvaluated default_count text [] s report) s report
       → AfterReading loaded (λ text. IsAnswerBehind (text_request Evaluate file) held rose text s report) s report
   behind Fault a = a
   behind TooLarge a = a
@@ -97,11 +97,11 @@ module _ (file : List ℕ) (held : List ℕ → Option (List ℕ)) (rose : Type 
 
   before : (loaded : Loaded)
       → AfterReading loaded (λ text. IsAnswerBehind (text_request Evaluate file) held rose text s report) s report
-      → AfterReading loaded (λ text. IsTextEvaluated DEFAULT_COUNT text [] s report) s report
+      → AfterReading loaded (λ text. IsTextEvaluated default_count text [] s report) s report
   before Fault a = a
   before TooLarge a = a
   before (Bytes text) a = subst (λ input. AfterReading input
-      (λ bytes. IsTextEvaluated DEFAULT_COUNT text bytes s report) s report) a.1 a.2
+      (λ bytes. IsTextEvaluated default_count text bytes s report) s report) a.1 a.2
 
   file_row : IsEvalAnswer (Some file) held rose s report
       → IsAnswer (Some (text_request Evaluate file)) held rose s report

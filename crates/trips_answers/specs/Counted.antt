@@ -7,7 +7,7 @@ use Rattle.trips_isa.specs.declared.run.Ending.{Ending}
 use Rattle.trips_isa.specs.declared.run.Ending.TheVariants.{Trap}
 use Rattle.trips_isa.specs.Machine.{runs, start}
 use Rattle.operand_net.specs.declared.weather.PcgWeather.{PcgWeather}
-use Rattle.grid_cycle_spec.specs.Costs.{cost_in, cost_of}
+use Rattle.grid_cycle_spec.specs.Costs.{cost_in, cost_of, greatest_cost}
 use Rattle.grid_cycle_spec.specs.Grid.{Grid}
 use Rattle.grid_machine.specs.Seeds.{IsRan}
 use Rattle.grid_machine_bound.specs.Traps.{is_trap}
@@ -30,4 +30,4 @@ pub record IsCountedRun (blocks : List Block) (bytes input : List ℕ) (seed bud
   pub trapped : (block : ℕ) (cause : TrapCause) → ended ≡ Trap block cause → counts.cycles
       ≤ cost_of blocks (runs blocks (start bytes input) budget).0.trace + cost_in (slice_get blocks block)
   -- and so any run no more than that and the greatest cost of a block
-  pub at_most : counts.cycles ≤ cost_of blocks (runs blocks (start bytes input) budget).0.trace + 41472
+  pub at_most : counts.cycles ≤ cost_of blocks (runs blocks (start bytes input) budget).0.trace + greatest_cost

@@ -2,7 +2,7 @@
 use Rattle.std.specs.Prelude.{ℕ, List, map, String, Option, None, option_and_then, string_bytes}
 use Rattle.grid_place.specs.declared.placed.Placing.TheVariants.{Greedy}
 use Rattle.trips_requests.specs.declared.commands.Command.{Command as Work}
-use Rattle.trips_requests.specs.declared.commands.TheConstants.{DEFAULT_COUNT}
+use Rattle.trips_requests.specs.Limits.{default_count}
 use Rattle.trips_requests.specs.Plain as line
 use Rattle.trips_answers.specs.declared.forms.FileForm.TheVariants.{Source}
 use Rattle.trips_answers.specs.declared.forms.Settings.{Settings}
@@ -32,7 +32,7 @@ plain_tool words =
 
 -- how work is done of which nothing is said besides the file
 abbrev pub default_settings : Settings
-default_settings = record { placing = Greedy; seed = 0; most = DEFAULT_COUNT; show = nothing_shown }
+default_settings = record { placing = Greedy; seed = 0; most = default_count; show = nothing_shown }
 
 -- the request to do this with the text of C in a file, where nothing is said besides
 abbrev pub text_request : Work → List ℕ → Request
@@ -43,6 +43,6 @@ text_request work file = record {
   input = None;
   placing = Greedy;
   seed = 0;
-  most = DEFAULT_COUNT;
+  most = default_count;
   show = nothing_shown;
 }

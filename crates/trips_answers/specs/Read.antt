@@ -5,7 +5,6 @@ use Rattle.trips_answers.specs.declared.forms.FileForm.{FileForm}
 use Rattle.trips_answers.specs.declared.forms.FileForm.TheVariants.{Source, Target, Image}
 use Rattle.trips_answer_parts.specs.declared.loading.Loaded.{Loaded}
 use Rattle.trips_answer_parts.specs.declared.loading.Loaded.TheVariants.{Bytes}
-use Rattle.trips_answers.specs.declared.loading.TheConstants.{MOST_INPUT_BYTES}
 use Rattle.trips_answers.specs.Request.{Request, origin_held}
 use Rattle.trips_answer_parts.specs.Read.{IsRead}
 use Rattle.c_tree.specs.Limits.{most_source_bytes}
@@ -13,7 +12,7 @@ use Rattle.trips_tool_answers.specs.Answer.{most_image_bytes, most_target_bytes}
 
 -- how many bytes an input may have
 unfoldable pub most_input_bytes : ℕ
-most_input_bytes = MOST_INPUT_BYTES
+most_input_bytes = 1048576
 
 -- how many bytes a file may have, by what it is read as
 abbrev pub limit_of : FileForm → ℕ

@@ -3,7 +3,7 @@
 ghost use Rattle.std.specs.Prelude.{◌≡◌, ◌≤◌, option_copied, IfOk};
 ghost use Rattle.trips_outside.specs.Outside.{Rose};
 ghost use Rattle.trips_answers.specs.Request.{origin_held, origin_of};
-ghost use Rattle.trips_answers.specs.Read.{IsInputRead};
+ghost use Rattle.trips_answers.specs.Read.{IsInputRead, most_input_bytes};
 ghost use Rattle.trips_answer_parts.specs.Read.{IsRead, IsWithin};
 
 use base::Items;
@@ -14,6 +14,12 @@ use trips_outside::Files;
 
 /// How many bytes an input may have.
 pub const MOST_INPUT_BYTES: u64 = 1_048_576;
+
+/// The limit of the code is that of the definitions. It does nothing when it runs.
+#[tactic(auto, unfolding(crate::specs::Read::most_input_bytes))]
+pub fn constants_are_the_definitions()
+    ensures { MOST_INPUT_BYTES ≡ most_input_bytes }
+{}
 
 /// Reads what a request works with, which may have at most `limit` bytes: the file, or the text of the
 /// benchmark where a number of functions is said. Want of memory is the only error.

@@ -1,7 +1,7 @@
 -- What the evaluation of the text of C in a file is answered.
 use Rattle.std.specs.Prelude.{ℕ, List, [], Option, None, Some}
 use Rattle.c_tree.specs.Limits.{most_source_bytes}
-use Rattle.trips_requests.specs.declared.commands.TheConstants.{DEFAULT_COUNT}
+use Rattle.trips_requests.specs.Limits.{default_count}
 use Rattle.trips_answer_parts.specs.declared.loading.Loaded.{Loaded}
 use Rattle.trips_answer_parts.specs.declared.status.Status.{Status}
 use Rattle.trips_answer_parts.specs.declared.status.Status.TheVariants as status
@@ -15,4 +15,4 @@ abbrev pub IsEvalAnswer : Option (List ℕ) → (List ℕ → Option (List ℕ))
 IsEvalAnswer None held rose s report = IsFixed status.Usage usage_text s report
 IsEvalAnswer (Some file) held rose s report =
     (loaded : Loaded) × IsRead (held file) rose most_source_bytes loaded
-    × AfterReading loaded (λ text. IsTextEvaluated DEFAULT_COUNT text [] s report) s report
+    × AfterReading loaded (λ text. IsTextEvaluated default_count text [] s report) s report

@@ -4,7 +4,7 @@ ghost use Rattle.std.specs.Prelude.{◌≡◌, ◌≤◌, [], length, map, strin
 ghost use Rattle.trips_outside.specs.Outside.{Rose, Appended};
 ghost use Rattle.c_tree.specs.Limits.{most_source_bytes};
 ghost use Rattle.trips_requests.specs.Plain as line;
-ghost use Rattle.trips_requests.specs.declared.commands.TheConstants.{DEFAULT_COUNT};
+ghost use Rattle.trips_requests.specs.Limits.{default_count};
 ghost use Rattle.trips_answer_parts.specs.Table.{IsWritten};
 ghost use Rattle.trips_eval_answers.specs.Evaluation.{IsTextEvaluated};
 ghost use Rattle.trips_eval_answers.specs.Answer.{IsEvalAnswer};
@@ -21,7 +21,7 @@ use trips_requests::{DEFAULT_COUNT, plain_eval};
 fn text_eval(alloc: Global, text: &[u8]) -> Result<Answer, AllocError>
     requires { length text.now ≤ most_source_bytes }
     ensures { IfOk result (λ answer.
-        IsTextEvaluated DEFAULT_COUNT text.now [] answer.status answer.report.items) }
+        IsTextEvaluated default_count text.now [] answer.status answer.report.items) }
 {
     text_evaluated(alloc, text, &[], DEFAULT_COUNT)
 }

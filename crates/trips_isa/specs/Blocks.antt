@@ -11,7 +11,7 @@ use Rattle.trips_isa.specs.declared.block.Inst.{Inst}
 use Rattle.trips_isa.specs.declared.block.ReadSlot.{ReadSlot}
 use Rattle.trips_isa.specs.declared.block.Stored.{Stored}
 use Rattle.trips_isa.specs.declared.block.Block.{Block}
-use Rattle.trips_isa.specs.declared.places.TheConstants.{FIRST_STORE, EXIT}
+use Rattle.trips_isa.specs.PlaceNumbers.{first_store, exit_place}
 use Rattle.trips_isa.specs.Alu.{alu_of, word}
 use Rattle.trips_isa.specs.Forms.{form_of, size_of}
 use Rattle.trips_isa.specs.Rule.{Answer}
@@ -95,7 +95,7 @@ stored_by b g x = stored_if_read (is_read b x) b g x
 
 -- the store of number n
 abbrev pub store_of : Block → (ℕ → Answer) → ℕ → Option Stored
-store_of b g n = first (nodes_of b) (FIRST_STORE + n) (stored_by b g)
+store_of b g n = first (nodes_of b) (first_store + n) (stored_by b g)
 
 -- a branch that fires, with its token, and none where none does
 abbrev pub Leaving : Type 0
@@ -114,7 +114,7 @@ leaves_if_read false b g x = leaves_with (inst_at b x) (g x)
 
 -- the branch that fires, with its token: it is taken at the exit like one
 abbrev pub leaving_of : Block → (ℕ → Answer) → Leaving
-leaving_of b g = first (nodes_of b) EXIT (λ x. leaves_if_read (is_read b x) b g x)
+leaving_of b g = first (nodes_of b) exit_place (λ x. leaves_if_read (is_read b x) b g x)
 
 -- what a read is answered in an entry state: the word of its register
 abbrev pub read_word : List ℕ → Option ReadSlot → ℕ

@@ -15,6 +15,7 @@ use Rattle.trips_isa.specs.declared.block.Inst.{Inst}
 use Rattle.trips_isa.specs.declared.block.ReadSlot.{ReadSlot}
 use Rattle.trips_isa.specs.declared.block.Block.{Block}
 use Rattle.trips_isa.specs.Forms.{form_of}
+use Rattle.trips_isa.specs.Limits.{offset_half}
 
 -- a target of an instruction: a write, or a predicate or an operand of a slot
 abbrev pub FitsTarget : Option Spot → Type 0
@@ -37,8 +38,8 @@ FitsSigned half (negsuc n) = n < half
 
 -- an offset other than 0 stands only where the next block is named by it
 abbrev pub FitsOffset : Op → ℤ → Type 0
-FitsOffset Bro offset = FitsSigned 524288 offset
-FitsOffset Callo offset = FitsSigned 524288 offset
+FitsOffset Bro offset = FitsSigned offset_half offset
+FitsOffset Callo offset = FitsSigned offset_half offset
 FitsOffset op offset = offset ≡ pos 0
 
 -- from 0 to values - 1

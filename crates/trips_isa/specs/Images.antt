@@ -8,6 +8,7 @@ use Rattle.trips_isa.specs.declared.block.Inst.{Inst}
 use Rattle.trips_isa.specs.declared.block.Block.{Block}
 use Rattle.trips_isa.specs.declared.block.Image.{Image}
 use Rattle.trips_isa.specs.Fits.{FitsBlock}
+use Rattle.trips_isa.specs.Limits.{most_chunks}
 
 -- where blocks begin, in chunks of 128 bytes --------------------------------------------------
 
@@ -51,13 +52,13 @@ last_byte [] = 1
 last_byte (b ∷ []) = b
 last_byte (b ∷ c ∷ bs) = last_byte (c ∷ bs)
 
--- an image has a block, at most 524,288 chunks and at most 4,194,304 bytes, and does not end in a
--- zero byte
+-- an image has a block, at most `most_chunks` chunks and at most 4,194,304 bytes, and does not end in
+-- a zero byte
 pub record FitsImage (i : Image) : Type 0 where
   pub some : 1 ≤ length i.blocks
   pub each : All FitsBlock i.blocks
   -- the chunks of all blocks, each a header and a body
-  pub total : sum_by chunks i.blocks ≤ 524288
+  pub total : sum_by chunks i.blocks ≤ most_chunks
   -- the bytes that data memory begins with
   pub few : length i.bytes ≤ 4194304
   -- each is a byte

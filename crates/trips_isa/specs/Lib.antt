@@ -1,3 +1,5 @@
+pub mod PlaceNumbers
+pub mod Limits
 pub mod Alu
 pub mod Forms
 pub mod Fits

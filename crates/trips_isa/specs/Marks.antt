@@ -7,7 +7,7 @@ use Rattle.trips_isa.specs.declared.block.Block.{Block}
 use Rattle.trips_isa.specs.declared.node.Node.{Node}
 use Rattle.trips_isa.specs.Forms.{takes_left, takes_right}
 use Rattle.trips_isa.specs.Rule.{Answer}
-use Rattle.trips_isa.specs.declared.places.TheConstants.{FIRST_WRITE, FIRST_STORE, EXIT}
+use Rattle.trips_isa.specs.PlaceNumbers.{first_write, first_store, exit_place}
 use Rattle.trips_isa.specs.Places.{nodes_of, in_mask}
 use Rattle.trips_isa.specs.Tables.{first, deepest}
 use Rattle.trips_isa.specs.Blocks.{at_place}
@@ -78,12 +78,12 @@ IsMarking b g m = (x : ℕ) → m x ≡ mark_given b g m x
 -- the places of the first n writes
 abbrev pub writes_to : ℕ → List ℕ
 writes_to zero = []
-writes_to (suc n) = writes_to n ++ (FIRST_WRITE + n) ∷ []
+writes_to (suc n) = writes_to n ++ (first_write + n) ∷ []
 
 -- the places of the mask's numbers below n
 abbrev pub numbers_to : ℕ → ℕ → List ℕ
 numbers_to mask zero = []
-numbers_to mask (suc n) = numbers_to mask n ++ cond (in_mask mask n) ((FIRST_STORE + n) ∷ []) []
+numbers_to mask (suc n) = numbers_to mask n ++ cond (in_mask mask n) ((first_store + n) ∷ []) []
 
 -- the places of the mask's numbers; not an `abbrev`, since the numeral unrolls the recursion in each
 -- goal
@@ -92,7 +92,7 @@ mask_places mask = numbers_to mask 32
 
 -- the places at which a block owes an output: its declared writes, its mask's numbers and its exit
 abbrev pub owed : Block → List ℕ
-owed b = writes_to (length b.writes.items) ++ (mask_places b.mask ++ EXIT ∷ [])
+owed b = writes_to (length b.writes.items) ++ (mask_places b.mask ++ exit_place ∷ [])
 
 -- the least mark over some places
 abbrev pub least_at : (ℕ → ℕ) → List ℕ → ℕ

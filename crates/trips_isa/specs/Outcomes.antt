@@ -10,7 +10,7 @@ use Rattle.trips_isa.specs.declared.block.Token.TheVariants.{Null, Word}
 use Rattle.trips_isa.specs.declared.block.Inst.{Inst}
 use Rattle.trips_isa.specs.declared.block.Stored.{Stored}
 use Rattle.trips_isa.specs.declared.block.Block.{Block}
-use Rattle.trips_isa.specs.declared.places.TheConstants.{FIRST_WRITE}
+use Rattle.trips_isa.specs.PlaceNumbers.{first_write}
 use Rattle.trips_isa.specs.declared.causes.TrapCause.{TrapCause}
 use Rattle.trips_isa.specs.TrapCauses.{cause_of}
 use Rattle.trips_isa.specs.Alu.{word}
@@ -89,7 +89,7 @@ or_null (Some t) = t
 -- the tokens of the writes from write w on
 abbrev pub writes_from : (ℕ → Answer) → ℕ → List ℕ → List Token
 writes_from at w [] = []
-writes_from at w (r ∷ rs) = or_null (at (FIRST_WRITE + w)) ∷ writes_from at (suc w) rs
+writes_from at w (r ∷ rs) = or_null (at (first_write + w)) ∷ writes_from at (suc w) rs
 
 -- all 32 numbers; not an `abbrev`, since a numeral unrolls the recursion in each goal
 unfoldable pub all_stores : (ℕ → Option Stored) → List Stored

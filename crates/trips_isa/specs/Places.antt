@@ -13,8 +13,7 @@ use Rattle.trips_isa.specs.declared.form.Form.{Form}
 use Rattle.trips_isa.specs.declared.form.Form.TheVariants.{Load, Store, Branch}
 use Rattle.trips_isa.specs.declared.form.Role.TheVariants.{Empty, Reading}
 use Rattle.trips_isa.specs.declared.node.Node.{Node}
-use Rattle.trips_isa.specs.declared.places.TheConstants.{FIRST_WRITE, FIRST_STORE, EXIT, PLACES}
-use Rattle.trips_isa.specs.declared.places.TheConstants.{NO_PLACE}
+use Rattle.trips_isa.specs.PlaceNumbers.{first_write, first_store, exit_place, place_count, no_place}
 use Rattle.trips_isa.specs.Forms.{form_of, role_of}
 
 -- s is the left operand of slot s, 128 + s the right one, 256 + s the predicate, then come the
@@ -24,30 +23,30 @@ abbrev pub place_of : Spot → ℕ
 place_of (spot.Left s) = s
 place_of (spot.Right s) = 128 + s
 place_of (spot.Pred s) = 256 + s
-place_of (spot.Write w) = FIRST_WRITE + w
-place_of (spot.Store n) = FIRST_STORE + n
-place_of _ = NO_PLACE
+place_of (spot.Write w) = first_write + w
+place_of (spot.Store n) = first_store + n
+place_of _ = no_place
 
 -- the place of a spot that may not be there
 abbrev pub place_at : Option Spot → ℕ
-place_at None = NO_PLACE
+place_at None = no_place
 place_at (Some s) = place_of s
 
 -- a store names its number and a branch the exit
 abbrev pub first_place : Form → ℕ → Option Spot → ℕ
-first_place Store n s = FIRST_STORE + n
-first_place Branch n s = EXIT
+first_place Store n s = first_store + n
+first_place Branch n s = exit_place
 first_place _ n s = place_at s
 
 -- a load sees the stores of lower numbers
 abbrev pub load_bound : Form → ℕ → ℕ
-load_bound Load n = FIRST_STORE + n
+load_bound Load n = first_store + n
 load_bound _ n = 0
 
 -- a read has no slot: none of its operands or its predicate is a place
 abbrev pub read_node : ReadSlot → Node
 read_node r = record {
-  slot = PLACES;
+  slot = place_count;
   role = Reading;
   sense = Always;
   first = place_of r.first;
@@ -61,8 +60,8 @@ inst_node j None = record {
   slot = j;
   role = Empty;
   sense = Always;
-  first = NO_PLACE;
-  second = NO_PLACE;
+  first = no_place;
+  second = no_place;
   below = 0;
 }
 inst_node j (Some i) = record {

@@ -4,9 +4,10 @@
 use Rattle.std.specs.Prelude.{◌≡◌, ℕ, zero, suc, ◌+◌, ◌<◌, Bool, true, false, ◌&&◌, ◌||◌, nat_le}
 use Rattle.std.specs.Prelude.{nat_lt, List, [], ◌∷◌, Option, Some, None, slice_get}
 use Rattle.trips_isa.specs.declared.node.Node.{Node}
-use Rattle.trips_isa.specs.declared.places.TheConstants.{FIRST_STORE}
+use Rattle.trips_isa.specs.PlaceNumbers.{first_store}
 use Rattle.trips_isa.specs.Rule.{Answer, rule}
 use Rattle.trips_isa.specs.Places.{targets, names}
+use Rattle.trips_isa.specs.Limits.{most_nodes}
 
 -- only what is named is asked
 abbrev pub taken : {A : Type 0} → Bool → (ℕ → Option A) → Option A
@@ -43,17 +44,17 @@ abbrev pub pulled : List Node → Computes → ℕ → ℕ → Answer
 pulled ns a zero x = None
 pulled ns a (suc k) x = node_gives (slice_get ns x) (a x) (λ q. first ns q (pulled ns a k))
 
--- deeper than any chain of a block without a cycle: 32 reads and 128 slots; not an `abbrev`, since
+-- deeper than any chain of a block without a cycle, which has `most_nodes` nodes; not an `abbrev`, since
 -- it would unroll in each goal
 unfoldable pub deepest : ℕ
-deepest = 160
+deepest = most_nodes
 
 -- edges: from a producer to a consumer, and from a store to each load of a higher number -------
 
 -- whether some places have a store number below the place m
 abbrev pub stores_below : List ℕ → ℕ → Bool
 stores_below [] m = false
-stores_below (t ∷ ts) m = (nat_le FIRST_STORE t && nat_lt t m) || stores_below ts m
+stores_below (t ∷ ts) m = (nat_le first_store t && nat_lt t m) || stores_below ts m
 
 -- whether node m feeds node n: it names an operand or the predicate of n, or is a store that n sees
 abbrev pub feeds : Node → Node → Bool
@@ -74,7 +75,7 @@ pub record Ranked (ns : List Node) (rank : ℕ → ℕ) : Type 0 where
   -- what feeds a node stands before it
   pub rises : (x y : ℕ) → Edge ns x y → rank x < rank y
   -- so that no chain of edges is longer than `deepest`
-  pub below : (x : ℕ) → rank x < 160
+  pub below : (x : ℕ) → rank x < most_nodes
 
 -- the nodes stand in some order along the edges
 abbrev pub IsRanked : List Node → Type 0

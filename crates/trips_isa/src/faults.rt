@@ -11,7 +11,11 @@ pub fn fault(op: Op, _a: u64, b: u64) -> u8
     ensures value { result ≡ fault_of op _a b }
 {
     match op {
-        Op::Divs | Op::Divu => if b == 0 { number_of(TrapCause::DivisionByZero) } else { NO_MARK },
+        Op::Divs | Op::Divu => if b == 0 {
+            number_of(TrapCause::DivisionByZero)
+        } else {
+            NO_MARK
+        },
         _ => NO_MARK,
     }
 }

@@ -27,6 +27,6 @@ pub use law::{first_producers_give, operands_say_the_rule, traps_have_numbers, w
 pub use node::Node;
 pub use op::Op;
 pub use operands::{Operands, is_guarded, least, mark_by, only_if, operands_of};
-pub use places::{EXIT, FIRST_STORE, FIRST_WRITE, NO_PLACE, PLACES};
+pub use places::{EXIT, FIRST_STORE, FIRST_WRITE, NO_PLACE, PLACES, constants_are_the_definitions};
 pub use run::{Counts, Ending, Stepped, Traced};
 pub use size::chunks;

@@ -1,4 +1,7 @@
-//! The numbers of a block's places (docs/MACHINE.md, "Places").
+//! The numbers of a block's places (docs/MACHINE.md, "Places"), as the code has them.
+
+ghost use Rattle.std.specs.Prelude.{◌≡◌};
+ghost use Rattle.trips_isa.specs.PlaceNumbers as numbers;
 
 /// The place of write 0; write w is `FIRST_WRITE + w`.
 pub const FIRST_WRITE: u16 = 384;
@@ -15,3 +18,12 @@ pub const PLACES: u16 = 449;
 
 /// The number of no place, for a target that is not there.
 pub const NO_PLACE: u16 = 700;
+
+/// The numbers of the code are those of the definitions. It does nothing when it runs.
+pub fn constants_are_the_definitions()
+    ensures first_write { FIRST_WRITE ≡ numbers.first_write }
+    ensures first_store { FIRST_STORE ≡ numbers.first_store }
+    ensures exit { EXIT ≡ numbers.exit_place }
+    ensures places { PLACES ≡ numbers.place_count }
+    ensures no_place { NO_PLACE ≡ numbers.no_place }
+{}

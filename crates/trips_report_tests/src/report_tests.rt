@@ -103,7 +103,10 @@ const RUNS: &[Run] = &[
         "output 0\n\nbudget 1\nblock 0 exit 0\nblocks 1\ncycles 40\nfetched 3\nflushed 2\ncost 1024\n",
     ),
     (
-        Ending::Trap { block: 3, cause: TrapCause::DivisionByZero },
+        Ending::Trap {
+            block: 3,
+            cause: TrapCause::DivisionByZero,
+        },
         NOTHING,
         "output 0\n\ntrap block 3 cause 1\n",
     ),

@@ -5,7 +5,7 @@ use Rattle.std.specs.Prelude.{◌&&◌}
 use Rattle.std.proofs.lemmas.Bool.Decides.{nat_tests}
 use Rattle.trips_requests.specs.declared.commands.Verb.{Verb}
 use Rattle.trips_requests.specs.declared.commands.Asked.{Asked}
-use Rattle.trips_requests.specs.declared.commands.TheConstants.{MOST_COUNT}
+use Rattle.trips_requests.specs.Limits.{most_count}
 use Rattle.trips_requests.specs.Numbers.{is_number, value_from, number_to}
 use Rattle.trips_requests.specs.Words.{Text, file_name, value_said, words_read}
 use Rattle.trips_requests.specs.Options.{Options, options_of, options_said}
@@ -53,7 +53,7 @@ some_number most word =
 
 some_most : (word : Option Text) → IfSome (most_said word) (λ n. 0 < n)
 some_most None = omega arith
-some_most (Some word) = some_number MOST_COUNT word
+some_most (Some word) = some_number most_count word
 
 some_file : (k : Verb) (name : Text) (options : Options) → IfSome (request_of_file k name options) HasSome
 some_file k name options =

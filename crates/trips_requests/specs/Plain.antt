@@ -7,7 +7,7 @@ use Rattle.trips_requests.specs.declared.commands.Command.TheVariants as command
 use Rattle.trips_requests.specs.declared.commands.AskedTool.{AskedTool}
 use Rattle.trips_requests.specs.declared.commands.Tool.{Tool}
 use Rattle.trips_requests.specs.declared.commands.Tool.TheVariants.{Assemble, Disassemble, Check}
-use Rattle.trips_requests.specs.declared.commands.TheConstants.{DEFAULT_COUNT}
+use Rattle.trips_requests.specs.Limits.{default_count}
 use Rattle.trips_requests.specs.Requests.{Request, is_c_name}
 use Rattle.trips_requests.specs.Words.{Text}
 
@@ -74,7 +74,7 @@ default_request command file = record {
   file = file;
   functions = None;
   input = None;
-  most = DEFAULT_COUNT;
+  most = default_count;
   place = None;
   seed = 0;
   regs = false;

@@ -8,7 +8,7 @@ use Rattle.trips_requests.specs.declared.commands.Command.TheVariants as command
 use Rattle.trips_requests.specs.declared.commands.Asked.{Asked}
 use Rattle.trips_requests.specs.declared.commands.Verb.{Verb}
 use Rattle.trips_requests.specs.declared.commands.Verb.TheVariants as verb
-use Rattle.trips_requests.specs.declared.commands.TheConstants.{DEFAULT_COUNT, MOST_COUNT, MOST_FUNCTIONS, MOST_SEED}
+use Rattle.trips_requests.specs.Limits.{default_count, most_count, most_functions, most_seed}
 use Rattle.trips_requests.specs.Numbers.{number_to, number_within}
 use Rattle.trips_requests.specs.Options.{Options, options_of, options_said}
 use Rattle.trips_requests.specs.Words.{Text, Said, file_name, value_said, words_read}
@@ -57,8 +57,8 @@ pub record Request : Type 0 where
 
 -- how many blocks or steps the number says, and how many are taken without one
 abbrev pub most_said : Option Text → Option ℕ
-most_said None = Some DEFAULT_COUNT
-most_said (Some word) = number_to MOST_COUNT word
+most_said None = Some default_count
+most_said (Some word) = number_to most_count word
 
 -- the file is C, by the ending of its name
 abbrev pub is_c_name : Text → Bool
@@ -70,16 +70,16 @@ is_c_name file =
 abbrev pub place_said : Text → Option Text → Option (Option ℕ)
 place_said file None = Some None
 place_said file (Some word) =
-    if is_c_name file then option_map (λ n. Some n) (number_within MOST_SEED word) else None
+    if is_c_name file then option_map (λ n. Some n) (number_within most_seed word) else None
 
 -- the seed, which may be any word of the machine, and is 0 where none is said
 abbrev pub seed_said : Option Text → Option ℕ
 seed_said None = Some 0
-seed_said (Some word) = number_within MOST_SEED word
+seed_said (Some word) = number_within most_seed word
 
 -- how many functions the benchmark has, by its word; none of another command
 abbrev pub functions_said : Verb → Text → Option (Option ℕ)
-functions_said verb.Bench word = option_map (λ n. Some n) (number_to MOST_FUNCTIONS word)
+functions_said verb.Bench word = option_map (λ n. Some n) (number_to most_functions word)
 functions_said other word = Some None
 
 -- the request of a command, of its file or its number of functions, of its numbers and of its options

@@ -1,3 +1,8 @@
+//! What a command line can ask for, and the limits of its numbers.
+
+ghost use Rattle.std.specs.Prelude.{◌≡◌};
+ghost use Rattle.trips_requests.specs.Limits as limits;
+
 /// What is done with a file.
 #[derive(Clone, Copy, Debug, PartialEq, Eq)]
 pub enum Command {
@@ -40,6 +45,14 @@ pub const MOST_SEED: u64 = 18_446_744_073_709_551_615;
 
 /// How many blocks or steps are taken where none are asked for.
 pub const DEFAULT_COUNT: u32 = 1_000_000;
+
+/// The limits of the code are those of the definitions. It does nothing when it runs.
+pub fn constants_are_the_definitions()
+    ensures functions { MOST_FUNCTIONS ≡ limits.most_functions }
+    ensures count { MOST_COUNT ≡ limits.most_count }
+    ensures seed { MOST_SEED ≡ limits.most_seed }
+    ensures default { DEFAULT_COUNT ≡ limits.default_count }
+{}
 
 /// A tool, and the file that it is asked for.
 #[derive(Clone, Copy, Debug)]

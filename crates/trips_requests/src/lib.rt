@@ -13,5 +13,6 @@ mod plain;
 pub use asking::{FoundOptions, counted, is_c_name, is_on, request_with, verb_named};
 pub use commands::{
     Asked, AskedTool, Command, DEFAULT_COUNT, MOST_COUNT, MOST_FUNCTIONS, MOST_SEED, Tool, Verb,
+    constants_are_the_definitions,
 };
 pub use plain::{plain_compile, plain_eval, plain_run, plain_tool};

@@ -7,16 +7,15 @@ use Rattle.trips_answer_parts.specs.declared.status.Status.{Status}
 use Rattle.trips_answer_parts.specs.declared.status.Status.TheVariants as status
 use Rattle.trips_answer_parts.specs.Texts.{usage_text, IsFixed}
 use Rattle.trips_answer_parts.specs.Read.{IsRead, AfterReading}
-use Rattle.trips_tool_answers.specs.declared.plain.TheConstants.{MOST_IMAGE_BYTES, MOST_TARGET_BYTES}
 use Rattle.trips_tool_answers.specs.Tools.{IsToolDone}
 
 -- how many bytes an image may have
 unfoldable pub most_image_bytes : ℕ
-most_image_bytes = MOST_IMAGE_BYTES
+most_image_bytes = 71303188
 
 -- how many bytes a target text may have
 unfoldable pub most_target_bytes : ℕ
-most_target_bytes = MOST_TARGET_BYTES
+most_target_bytes = 67108864
 
 -- how many bytes a tool's file may have
 abbrev pub limit_of : Tool → ℕ

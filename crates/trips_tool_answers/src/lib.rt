@@ -8,5 +8,5 @@
 mod plain;
 mod tools;
 
-pub use plain::{MOST_IMAGE_BYTES, MOST_TARGET_BYTES, tool_plain};
+pub use plain::{MOST_IMAGE_BYTES, MOST_TARGET_BYTES, constants_are_the_definitions, tool_plain};
 pub use tools::{refused, tool_done};

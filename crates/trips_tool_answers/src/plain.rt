@@ -5,6 +5,7 @@ ghost use Rattle.trips_outside.specs.Outside.{Rose, Appended};
 ghost use Rattle.trips_requests.specs.Plain as line;
 ghost use Rattle.trips_answer_parts.specs.Table.{IsWritten};
 ghost use Rattle.trips_tool_answers.specs.Answer.{limit_of, IsToolAnswer};
+ghost use Rattle.trips_tool_answers.specs.Answer as limits;
 
 use crate::tools::tool_done;
 use std::alloc::{AllocError, Global};
@@ -17,6 +18,13 @@ pub const MOST_TARGET_BYTES: u64 = 67_108_864;
 
 /// How many bytes an image may have.
 pub const MOST_IMAGE_BYTES: u64 = 71_303_188;
+
+/// The limits of the code are those of the definitions. It does nothing when it runs.
+#[tactic(auto, unfolding(crate::specs::Answer::most_target_bytes, crate::specs::Answer::most_image_bytes))]
+pub fn constants_are_the_definitions()
+    ensures target_bytes { MOST_TARGET_BYTES ≡ limits.most_target_bytes }
+    ensures image_bytes { MOST_IMAGE_BYTES ≡ limits.most_image_bytes }
+{}
 
 // How many bytes a tool's file may have.
 #[tactic(auto, unfolding(crate::specs::Answer::most_target_bytes, crate::specs::Answer::most_image_bytes))]

@@ -158,7 +158,10 @@ const ENDS: &[Row] = &[
         text: DIVIDES,
         budget: 2,
         played: &[],
-        ending: Trap { block: 1, cause: DivisionByZero },
+        ending: Trap {
+            block: 1,
+            cause: DivisionByZero,
+        },
         commits: 1,
     },
     Row {
@@ -166,7 +169,10 @@ const ENDS: &[Row] = &[
         text: MISALIGNED,
         budget: 1,
         played: &[],
-        ending: Trap { block: 0, cause: Misaligned },
+        ending: Trap {
+            block: 0,
+            cause: Misaligned,
+        },
         commits: 0,
     },
     Row {
@@ -174,7 +180,10 @@ const ENDS: &[Row] = &[
         text: OUTSIDE,
         budget: 3,
         played: &[],
-        ending: Trap { block: 2, cause: OutsideMemory },
+        ending: Trap {
+            block: 2,
+            cause: OutsideMemory,
+        },
         commits: 2,
     },
 ];

@@ -182,7 +182,10 @@ const PLAYED: &[Row] = &[
         text: FAULT,
         budget: 2,
         played: GUESSED,
-        ending: Trap { block: 0, cause: DivisionByZero },
+        ending: Trap {
+            block: 0,
+            cause: DivisionByZero,
+        },
         commits: 0,
     },
     Row {
@@ -190,7 +193,10 @@ const PLAYED: &[Row] = &[
         text: FAULT,
         budget: 2,
         played: OVER,
-        ending: Trap { block: 0, cause: DivisionByZero },
+        ending: Trap {
+            block: 0,
+            cause: DivisionByZero,
+        },
         commits: 0,
     },
 ];

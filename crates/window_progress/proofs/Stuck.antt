@@ -19,6 +19,7 @@ use Rattle.trips_isa.specs.Rule.{Answer}
 use Rattle.trips_isa.specs.Places.{nodes_of, inst_node, targets, names, load_bound, in_mask}
 use Rattle.trips_isa.specs.Tables.{node_gives, stores_below, Edge, Ranked}
 use Rattle.trips_isa.specs.Blocks.{Solves, at_place, computes}
+use Rattle.trips_isa.specs.Limits.{most_nodes}
 use Rattle.block_cases.specs.Orders.{slot_of}
 use Rattle.block_cases.specs.Good.{NamesPlace, OneToken}
 use Rattle.block_cases.specs.Blocks.{wanted_of}
@@ -281,7 +282,7 @@ module _ (blocks : List Block) (good : AllGood blocks) (o : Older) (f : Frame) (
   all_run (suc k) y l n = runs_next y (λ z lz m. all_run k z (omega (arith, l, lz)) m) n
 
   each_runs : (y : ℕ) → g y ≢ None → HasRun f y
-  each_runs y n = all_run 160 y ((ranked).below y) n
+  each_runs y n = all_run most_nodes y ((ranked).below y) n
 
   -- all outputs ----------------------------------------------------------------------------------
 

@@ -6,7 +6,7 @@ use Rattle.trips_isa.specs.declared.block.Spot.{Spot}
 use Rattle.trips_isa.specs.declared.block.Spot.TheVariants.{Read, Inst, Left, Right, Pred, Write}
 use Rattle.trips_isa.specs.declared.block.Spot.TheVariants.{Store}
 use Rattle.trips_isa.specs.declared.block.Block.{Block}
-use Rattle.trips_isa.specs.declared.places.TheConstants.{FIRST_WRITE, FIRST_STORE, EXIT}
+use Rattle.trips_isa.specs.PlaceNumbers.{first_write, first_store, exit_place}
 use Rattle.block_check.specs.declared.fault.CheckFault.{CheckFault}
 use Rattle.block_check.specs.declared.fault.CheckFault.TheVariants.{BadTarget, BadNumber, Cycle}
 use Rattle.block_check.specs.declared.fault.CheckFault.TheVariants.{TooManyCases, TwoTokens}
@@ -57,7 +57,7 @@ IsOrderFault b _ = ⊥
 -- the spot of a place below the exit's
 abbrev pub spot_of : ℕ → Spot
 spot_of q = cond (nat_lt q 128) (Left q) (cond (nat_lt q 256) (Right (q - 128)) (cond (nat_lt q
-    FIRST_WRITE) (Pred (q - 256)) (cond (nat_lt q FIRST_STORE) (Write (q - FIRST_WRITE)) (Store (q - FIRST_STORE)))))
+    first_write) (Pred (q - 256)) (cond (nat_lt q first_store) (Write (q - first_write)) (Store (q - first_store)))))
 
 -- a fault of the nodes, with its place as a spot
 abbrev pub fault_of : NodeFault → CheckFault
@@ -85,6 +85,6 @@ IsCheckFault b f = IsCaseFault b f
 
 -- the place that a fault names, if it names one, is the place of a spot
 abbrev pub IsBelow : NodeFault → Type 0
-IsBelow (net.TwoTokens q) = q < EXIT
-IsBelow (net.NoToken q) = q < EXIT
+IsBelow (net.TwoTokens q) = q < exit_place
+IsBelow (net.NoToken q) = q < exit_place
 IsBelow _ = Unit {0}

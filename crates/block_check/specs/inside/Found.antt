@@ -2,7 +2,7 @@
 use Rattle.std.specs.Prelude.{◌≡◌, ℕ, ◌+◌, ◌<◌, ◌≤◌, Bool, true, false, ◌||◌, ◌==◌, nat_lt, List}
 use Rattle.std.specs.Prelude.{[], ◌∷◌, ◌++◌, length, slice_get, slice_set}
 use Rattle.trips_isa.specs.declared.node.Node.{Node}
-use Rattle.trips_isa.specs.declared.places.TheConstants.{PLACES}
+use Rattle.trips_isa.specs.PlaceNumbers.{place_count}
 use Rattle.block_cases.specs.Choosers.{is_chooser}
 use Rattle.block_cases.specs.Cases.{bit, token, tokens, has_bit, cases, GetsTwo}
 use Rattle.block_cases.specs.Cases.{GetsNone}
@@ -45,10 +45,10 @@ pub record Added (ns : List Node) (cs : List (List Bool)) (count count' : ℕ) (
   -- a count of at most 256 has counted each of these cases
   pub few : count' ≤ 256 → count' ≡ count + tally any cs
   -- a place is marked where it was, or gets two tokens in one of these cases
-  pub twos : count' ≤ 256 → (q : ℕ) → q < PLACES → bit two' q ≡ (bit two q
+  pub twos : count' ≤ 256 → (q : ℕ) → q < place_count → bit two' q ≡ (bit two q
       || nat_lt 0 (tally (gets_two ns q) cs))
   -- and in the other table where it was, or gets none in one of these
-  pub nones : count' ≤ 256 → (q : ℕ) → q < PLACES → bit none' q ≡ (bit none q
+  pub nones : count' ≤ 256 → (q : ℕ) → q < place_count → bit none' q ≡ (bit none q
       || nat_lt 0 (tally (gets_none ns q) cs))
 
 -- what is known of all cases
@@ -58,8 +58,8 @@ pub record Explored (ns : List Node) (count : ℕ) (two none : List Bool) : Type
   -- else exactly the block's cases were counted
   pub few : count ≤ 256 → cases ns ≡ count
   -- the marks say exactly which places get two tokens in some case
-  pub twos : count ≤ 256 → (q : ℕ) → q < PLACES → bit two q ≡ true → GetsTwo ns q
-  pub no_twos : count ≤ 256 → (q : ℕ) → q < PLACES → bit two q ≡ false → GetsTwo ns q → ⊥
+  pub twos : count ≤ 256 → (q : ℕ) → q < place_count → bit two q ≡ true → GetsTwo ns q
+  pub no_twos : count ≤ 256 → (q : ℕ) → q < place_count → bit two q ≡ false → GetsTwo ns q → ⊥
   -- and which get none in some case
-  pub nones : count ≤ 256 → (q : ℕ) → q < PLACES → bit none q ≡ true → GetsNone ns q
-  pub no_nones : count ≤ 256 → (q : ℕ) → q < PLACES → bit none q ≡ false → GetsNone ns q → ⊥
+  pub nones : count ≤ 256 → (q : ℕ) → q < place_count → bit none q ≡ true → GetsNone ns q
+  pub no_nones : count ≤ 256 → (q : ℕ) → q < place_count → bit none q ≡ false → GetsNone ns q → ⊥

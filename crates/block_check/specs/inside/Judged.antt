@@ -1,7 +1,7 @@
 -- The fault of the third to the eighth kind that is answered.
 use Rattle.std.specs.Prelude.{◌≡◌, ℕ, ◌<◌, ◌≤◌, Bool, true, false, List}
 use Rattle.trips_isa.specs.declared.node.Node.{Node}
-use Rattle.trips_isa.specs.declared.places.TheConstants.{EXIT}
+use Rattle.trips_isa.specs.PlaceNumbers.{exit_place}
 use Rattle.block_cases.specs.Nodes.{HasCycle}
 use Rattle.block_cases.specs.Cases.{bit, cases, GetsTwo, GetsNone}
 use Rattle.block_cases.specs.Good.{IsAcyclic, NoTwo, NoGap}
@@ -19,7 +19,7 @@ pub record FirstTwo (ns : List Node) (q : ℕ) : Type 0 where
   pub acyclic : IsAcyclic ns
   pub few : cases ns ≤ 256
   -- the exit is judged by itself
-  pub below : q < EXIT
+  pub below : q < exit_place
   pub two : GetsTwo ns q
   -- no lower place gets two
   pub least : (p : ℕ) → p < q → GetsTwo ns p → ⊥
@@ -31,7 +31,7 @@ pub record FirstGap (ns : List Node) (wanted : ℕ → Bool) (q : ℕ) : Type 0 
   pub few : cases ns ≤ 256
   pub no_two : NoTwo ns
   -- the exit is judged by itself
-  pub below : q < EXIT
+  pub below : q < exit_place
   pub is_wanted : wanted q ≡ true
   pub none : GetsNone ns q
   -- no lower wanted place gets none
@@ -44,7 +44,7 @@ pub record LacksExit (ns : List Node) (wanted : ℕ → Bool) : Type 0 where
   pub few : cases ns ≤ 256
   pub no_two : NoTwo ns
   pub no_gap : NoGap ns wanted
-  pub none : GetsNone ns EXIT
+  pub none : GetsNone ns exit_place
 
 -- two branches fire in some case, where nothing else is at fault
 pub record HasTwoExits (ns : List Node) (wanted : ℕ → Bool) : Type 0 where
@@ -54,8 +54,8 @@ pub record HasTwoExits (ns : List Node) (wanted : ℕ → Bool) : Type 0 where
   pub no_two : NoTwo ns
   pub no_gap : NoGap ns wanted
   -- in each case some branch fires
-  pub exit : GetsNone ns EXIT → ⊥
-  pub two : GetsTwo ns EXIT
+  pub exit : GetsNone ns exit_place → ⊥
+  pub two : GetsTwo ns exit_place
 
 -- the fault with the lowest number, at its least place
 abbrev pub IsFault : List Node → (ℕ → Bool) → NodeFault → Type 0

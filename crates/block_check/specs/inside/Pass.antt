@@ -5,14 +5,14 @@ use Rattle.block_cases.specs.declared.token.CaseToken.{CaseToken}
 use Rattle.block_cases.specs.declared.token.CaseToken.TheVariants.{Absent}
 use Rattle.trips_isa.specs.declared.form.Role.TheVariants.{Empty}
 use Rattle.trips_isa.specs.declared.node.Node.{Node}
-use Rattle.trips_isa.specs.declared.places.TheConstants.{NO_PLACE}
+use Rattle.trips_isa.specs.PlaceNumbers.{no_place}
 use Rattle.block_cases.specs.CaseRule.{pulled, first}
 
 -- the places of a node lie within the tables
 pub record InPlace (n : Node) : Type 0 where
   -- its slot, or `PLACES` for a read
   pub slot : n.slot < 512
-  -- a place of the block, or `NO_PLACE`
+  -- a place of the block, or `no_place`
   pub first : n.first < 768
   pub second : n.second < 768
   -- the place below which it sees stores, as a load does, or 0
@@ -26,8 +26,8 @@ AllInPlace ns = All InPlace ns
 pub record IsSpare (n : Node) : Type 0 where
   -- it takes nothing and gives nothing
   pub role : n.role ≡ Empty
-  pub first : n.first ≡ NO_PLACE
-  pub second : n.second ≡ NO_PLACE
+  pub first : n.first ≡ no_place
+  pub second : n.second ≡ no_place
 
 -- the nodes from `used` on are empty slots
 abbrev pub Spare : List Node → ℕ → Type 0

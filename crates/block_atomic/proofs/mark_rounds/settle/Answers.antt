@@ -1,6 +1,7 @@
 use Rattle.std.proofs.Common.{◌≤◌, ◌+◌, ◌⊎◌, ℕ, arith, inl, inr, refl}
 use Rattle.trips_isa.specs.Rule.{Answer}
 use Rattle.trips_isa.specs.Marks.{mark_of, mark_given}
+use Rattle.trips_isa.specs.Limits.{most_nodes}
 use Rattle.block_atomic.specs.MarkSlots.{IsTold}
 use Rattle.block_cases.proofs.Fixed.{IsFixed}
 use Rattle.block_atomic.proofs.MarkRoundLemmas.{Round, round_next, round_still, settled_at, none_yet}
@@ -47,7 +48,7 @@ returns c = record {
 }
   where
     done : (g : ℕ → Answer) → IsTold c.args.block.now c.args.table.now c.args.places.now g
-        → (160 ≤ c.loop-changed.rounds)
+        → (most_nodes ≤ c.loop-changed.rounds)
         ⊎ IsFixed (mark_given c.args.block.now g) (mark_of c.args.block.now g c.loop-changed.rounds)
     done g told = elim c.loop-changed-test.branch [
       | then-loop-changed-test+else-rounds-lt160 w ↦ inl w.if-rounds-lt160.false

@@ -3,10 +3,11 @@ use Rattle.block_cases.specs.Choosers.{leads_from}
 use Rattle.block_cases.specs.Cases.{bit}
 use Rattle.block_check.specs.inside.Leads.{FalseFrom, led_from}
 use Rattle.block_check.proofs.chooser.find_leads.Given as goal
+use Rattle.trips_isa.specs.Limits.{most_nodes}
 
 abbrev pub invariant-loop-changed : goal.invariant-loop-changed
 invariant-loop-changed l = record {
-  few : l.rounds ≤ 160;
+  few : l.rounds ≤ most_nodes;
   rest : FalseFrom l.used l.lead;
   gives : (x : ℕ) → bit l.lead x ≡ led_from l.nodes (bit l.initial.lead) l.rounds x;
   stable : l.changed ≡ false → (x : ℕ) → bit l.lead x ≡ leads_from l.nodes (slice_get l.nodes x)
@@ -14,4 +15,4 @@ invariant-loop-changed l = record {
 }
 
 abbrev pub decreases-loop-changed : goal.decreases-loop-changed
-decreases-loop-changed l = 160 - l.rounds
+decreases-loop-changed l = most_nodes - l.rounds

@@ -4,6 +4,7 @@ use Rattle.block_check.proofs.Adding.{blank}
 use Rattle.block_check.proofs.Ordering.{some_room, placing_more}
 use Rattle.block_check.proofs.Counting.{held, counts_on}
 use Rattle.block_check.proofs.order.try_place.Goals as goal
+use Rattle.trips_isa.specs.Limits.{most_nodes}
 
 pub place-requires-clause-room : goal.place-requires-clause-room
 place-requires-clause-room c =
@@ -35,5 +36,5 @@ returns-clause-counting c =
     c.drop_node.new.counts c.args.x c.args.placed (get_or c.args.nodes.now c.args.x blank)
     c.requires.counting (slice_get-get_or c.args.nodes.now c.args.x blank c.requires.x) (let z
     : length c.args.ranks.now ≡ length c.args.nodes.now = c.requires.placing.ranks_size in
-    omega arith) (omega arith) (let s : length c.args.nodes.now ≤ 160 = c.requires.size in
+    omega arith) (omega arith) (let s : length c.args.nodes.now ≤ most_nodes = c.requires.size in
     omega (arith, room)) c.place.ensures.ranks c.drop_node.ensures

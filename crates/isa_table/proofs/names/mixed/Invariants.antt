@@ -1,5 +1,5 @@
 use Rattle.std.proofs.Common.{◌≡◌, ◌<◌, drop}
-use Rattle.isa_table.specs.Mnemonics.{mixed}
+use Rattle.isa_table.specs.inside.Guesses.{mixed}
 use Rattle.isa_table.proofs.names.mixed.Given as goal
 
 -- the letters that are left go on with the number, to the number of the whole word
