@@ -1,4 +1,4 @@
-ghost use Rattle.std.specs.Prelude.{◌≡◌, ◌<◌, ◌+◌, All, IfOk, Some, length, slice_index};
+ghost use Rattle.std.specs.Prelude.{◌≡◌, ◌<◌, ◌≤◌, ◌+◌, All, IfOk, Some, length, slice_index};
 ghost use Rattle.trips_isa.specs.Stores.{data_size};
 ghost use Rattle.trips_isa.specs.Machine.{start, step_of};
 ghost use Rattle.block_cases.specs.Plain.{IsTrap};
@@ -53,6 +53,16 @@ impl Arch {
             stores: [None; 32],
             table: [None; 128],
         })
+    }
+
+    /// Lowers the budget to one that the steps made so far are within; nothing else changes.
+    pub fn keep_within(&mut self, budget: u32)
+        requires spent { length self.old.state.trace ≤ budget }
+        requires room { budget ≤ self.old.budget }
+        ensures state { self.new.state ≡ self.old.state }
+        ensures budget { self.new.budget ≡ budget }
+    {
+        self.state.keep_within(budget);
     }
 
     /// Executes the next block whole. `room` says that fewer steps were made than the budget. Where the

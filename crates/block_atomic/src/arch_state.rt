@@ -100,6 +100,16 @@ impl ArchState {
         })
     }
 
+    /// Lowers the budget to this one. The room that was taken stays.
+    pub fn keep_within(&mut self, budget: u32)
+        requires spent { length self.old.state.trace ≤ budget }
+        requires room { budget ≤ self.old.budget }
+        ensures state { self.new.state ≡ self.old.state }
+        ensures budget { self.new.budget ≡ budget }
+    {
+        self.budget = budget;
+    }
+
     /// A step, with room for the tokens at the places, the stores and the table. Where it traps, nothing
     /// changes.
     pub fn step_with(

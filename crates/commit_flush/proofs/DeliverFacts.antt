@@ -37,6 +37,7 @@ use Rattle.commit_flush_order.proofs.KeptFacts.{alone_kept, write_kept}
 use Rattle.frame_events.specs.declared.phase.Phase.{Phase}
 use Rattle.frame_events.specs.Phases.{HasBlock, Keeps, changed, frame_in, slots_of}
 use Rattle.frame_events.specs.Told.{register_to, token_in, write_at}
+use Rattle.frame_events.specs.Tried.{IsFreeIn}
 use Rattle.commit_flush.specs.Seen.{IsSound, window_of}
 use Rattle.commit_flush.specs.Tokens.{with_token, AwaitsToken}
 use Rattle.commit_flush.proofs.SeenFacts.{good, found, mapped_slot, numbers_seen}
@@ -136,6 +137,12 @@ module _ {image : Image} {budget : ℕ} {machine : Machine} {over : Stepped} {ph
     {registers : Ages} (s : IsSound image budget machine over phases order registers) where
   abbrev old : Window
   old = window_of image.blocks machine.state over phases order
+
+  -- law one token: what is on its way in one of the eight finds no other token where it goes
+  pub goes_free : (n : ℕ) (p : Phase) → slice_get phases n ≡ Some p → IsFreeIn image.blocks p
+  goes_free n p is = λ f e.
+      let a = has_age n old.frames f (sym (found s n p is) ∙ e) in
+      free_at old.frames (all_free image.blocks (good s) old.frames (committed machine.state) s.window.frames) a.0 f a.2
 
   -- a register to which a token may be delivered waits for it
   pub awaits : (token : ℕ) → can image.blocks budget (Deliver token) old ≡ Done → (p : Phase)

@@ -87,7 +87,8 @@ impl Window {
         Window::make_at(alloc, image, arch, budget)
     }
 
-    /// A window on an image from a machine's state on. `budget` counts all that the machine has made.
+    /// A window on an image from a machine's state on. `budget` counts all that the machine has made; the machine has
+    /// room for at least as many.
     pub fn make_at(
         alloc: Global,
         image: CheckedImage,
@@ -95,12 +96,14 @@ impl Window {
         budget: u32,
     ) -> Result<Window, Memory>
         requires next { arch.state.next < length image.blocks }
-        requires room { arch.budget ≡ budget }
+        requires room { budget ≤ arch.budget }
         requires spent { length arch.state.trace ≤ budget }
         ensures opens { IfOk result (λ w. w.window ≡ opened arch.state) }
         ensures on_image { IfOk result (λ w. w.image ≡ image) }
         ensures within { IfOk result (λ w. w.budget ≡ budget) }
     {
+        let mut arch = arch;
+        arch.keep_within(budget);
         let _register = arch.register(0);
         let _memory = arch.memory().len();
         let _count = image.count();

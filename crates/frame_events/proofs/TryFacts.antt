@@ -1,13 +1,15 @@
--- What a frame answers that is tried: what was found of it is what its causes ask.
+-- What a frame answers that is tried: what was found of it is what its causes ask, and what comes finds room.
 use Rattle.std.proofs.Common.{◌≡◌, ℕ, Bool, true, false, cond, ◌||◌, List, Option, Some, None, slice_get, slice_index_or}
 use Rattle.std.proofs.Common.{refl, sym, ap, ap₂, ◌∙◌}
 use Rattle.std.specs.Prelude.{is_none, is_some}
+use Rattle.trips_isa.specs.declared.block.Token.{Token}
 use Rattle.trips_isa.specs.declared.block.Inst.{Inst}
 use Rattle.trips_isa.specs.declared.block.Block.{Block}
 use Rattle.trips_isa.specs.Rule.{Answer}
 use Rattle.block_cases.specs.Orders.{slot_of}
 use Rattle.commit_flush_spec.specs.Causes.{NoInst, NotReady, Done, NotNow}
-use Rattle.commit_flush_spec.specs.Frames.{slot_node}
+use Rattle.commit_flush_spec.specs.Frames.{Frame, at, is_target, slot_node, target}
+use Rattle.commit_flush_spec.specs.Laws.{IsFree}
 use Rattle.commit_flush_spec.specs.Sending.{token_with}
 use Rattle.commit_flush_spec.specs.Older.{Older}
 use Rattle.commit_flush_spec.specs.Dataflow.{can_fire}
@@ -50,3 +52,8 @@ answers_fired b h s i z found e o =
 pub going_is : (blocks : List Block) (b : Block) (h : Held) (p : Phase) → p ≡ Going h
     → slice_get blocks h.block ≡ Some b → frame_in blocks p ≡ Some (running b h)
 going_is blocks b h p e is = ap (frame_in blocks) e ∙ ap (with_block false h) is
+
+-- a token on its way finds the place empty that it goes to
+pub goes_free : (f : Frame) (p : ℕ) (t : Token) → IsFree f → Some t ≡ at f.places p
+    → is_target (target f.code p) ≡ true → is_none (at f.spots (target f.code p)) ≡ true
+goes_free f p t free there to = ap is_none (free p (λ none. let bad : Some t ≡ None = there ∙ none in cc) to)

@@ -1,6 +1,6 @@
 -- What a frame in flight tells to those who move the window: what it reads, loads and stores, where it leads, and what
 -- it hands to its commit. Nothing is told where no frame is in flight.
-use Rattle.std.specs.Prelude.{ℕ, ◌+◌, ◌-◌, Bool, false, cond, nat_le, List, Option, Some, None, slice_get}
+use Rattle.std.specs.Prelude.{ℕ, ◌+◌, ◌-◌, Bool, true, false, cond, nat_le, List, Option, Some, None, is_none, slice_get}
 use Rattle.trips_isa.specs.declared.block.Inst.{Inst}
 use Rattle.trips_isa.specs.declared.block.ReadSlot.{ReadSlot}
 use Rattle.trips_isa.specs.declared.block.Stored.{Stored}
@@ -41,6 +41,11 @@ read_register r (Some f) = register_of (slice_get f.code.reads.items r)
 abbrev pub token_in : ℕ → Option Frame → Answer
 token_in p None = None
 token_in p (Some f) = at f.places p
+
+-- whether the place of the block is empty to which the token in place p goes
+abbrev pub finds_room : ℕ → Option Frame → Bool
+finds_room p None = true
+finds_room p (Some f) = is_none (at f.spots (target f.code p))
 
 -- the register of the write at place q of the block, if a write is there
 abbrev pub write_at : List ℕ → ℕ → Option ℕ

@@ -1,11 +1,12 @@
 //! What the events of one frame do to it.
-ghost use Rattle.std.specs.Prelude.{◌≡◌, Some};
+ghost use Rattle.std.specs.Prelude.{◌≡◌, Some, true};
 ghost use Rattle.commit_flush_spec.specs.Older.{Older};
 ghost use Rattle.commit_flush_spec.specs.Dataflow.{read_answered, fire, deliver};
 ghost use Rattle.commit_flush_spec.specs.Memory.{load};
 ghost use Rattle.commit_flush_spec.specs.Dropping.{stored_alone, exited_alone};
 ghost use Rattle.frame_events.specs.Phases.{HasBlock, Keeps, frame_in, changed};
 ghost use Rattle.frame_events.specs.Changes.{Declares, IsWord};
+ghost use Rattle.frame_events.specs.Told.{finds_room};
 
 use crate::exits::departure;
 use crate::parts::block_at;
@@ -49,10 +50,11 @@ pub fn fire_in(phase: &mut Phase, image: &CheckedImage, slot: u8)
     }
 }
 
-/// Moves the token in a place of this frame to the place of the block that it goes to.
+/// Moves the token in a place of this frame to the place of the block that it goes to, which is empty (`finds_room`).
 #[tactic(auto, using(crate::proofs::PhaseFacts::going))]
 pub fn deliver_in(phase: &mut Phase, image: &CheckedImage, place: u16)
     requires block { HasBlock image.now.blocks phase.old }
+    requires free { finds_room place (frame_in image.now.blocks phase.old) ≡ true }
     ensures frame { (o : Older) → frame_in image.now.blocks phase.new
         ≡ changed (deliver place o) (frame_in image.now.blocks phase.old) }
     ensures block { HasBlock image.now.blocks phase.new }

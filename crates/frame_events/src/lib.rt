@@ -23,7 +23,7 @@ pub use law::empty_frames_may_be_filled;
 pub use parts::{block_at, flying};
 pub use phase::{Phase, empty_in, fill_in, seal_in};
 pub use telling::{
-    block_in, cause_in, exit_come, is_sealed_in, is_serial_in, leads_to, outputs_in, read_register,
-    register_to, token_in, waiting_load, waiting_store,
+    block_in, cause_in, exit_come, finds_room, is_sealed_in, is_serial, is_serial_in, leads_to,
+    outputs_in, read_register, register_to, token_in, waiting_load, waiting_store,
 };
 pub use trying::{Arrival, try_deliver, try_fire};

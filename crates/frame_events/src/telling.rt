@@ -5,7 +5,7 @@ ghost use Rattle.commit_flush_spec.specs.Older.{is_serial, makes_call, successor
 ghost use Rattle.frame_state.specs.Held.{as_frame, taken_if, exit_of};
 ghost use Rattle.frame_events.specs.Phases.{HasBlock, frame_in};
 ghost use Rattle.frame_events.specs.Told.{block_in, is_serial_in, register_of, read_register, token_in};
-ghost use Rattle.frame_events.specs.Told.{write_at, register_to, taken_by, waiting_load, stored_by, waiting_store};
+ghost use Rattle.frame_events.specs.Told.{finds_room, write_at, register_to, taken_by, waiting_load, stored_by, waiting_store};
 ghost use Rattle.frame_events.specs.Told.{exit_come, leads_to, is_sealed_in, cause_in, outputs_in};
 
 use crate::exits::departure;
@@ -25,8 +25,8 @@ fn makes_call(inst: Option<Inst>) -> bool
     }
 }
 
-// Whether a block may make a system call.
-fn is_serial(block: &Block) -> bool
+/// Whether a block may make a system call.
+pub fn is_serial(block: &Block) -> bool
     ensures { result ≡ is_serial block.now }
 {
     let insts = block.insts.as_slice();
@@ -107,6 +107,17 @@ pub fn token_in(phase: &Phase, image: &CheckedImage, place: u16) -> Option<Token
     match flying(phase, image) {
         None => None,
         Some((held, _)) => held.place(place as usize),
+    }
+}
+
+/// Whether the place of the block is empty to which the token in a place goes; so where no frame is in flight.
+pub fn finds_room(phase: &Phase, image: &CheckedImage, place: u16) -> bool
+    requires block { HasBlock image.now.blocks phase.now }
+    ensures value { result ≡ finds_room place (frame_in image.now.blocks phase.now) }
+{
+    match flying(phase, image) {
+        None => true,
+        Some((held, block)) => held.finds_room(block, place),
     }
 }
 

@@ -4,11 +4,12 @@ ghost use Rattle.commit_flush_spec.specs.Causes as causes;
 ghost use Rattle.commit_flush_spec.specs.Older.{Older};
 ghost use Rattle.commit_flush_spec.specs.Frames.{at, target};
 ghost use Rattle.commit_flush_spec.specs.Dataflow.{can_fire, can_deliver, fire, deliver};
+ghost use Rattle.commit_flush_spec.specs.Laws.{IsFree};
 ghost use Rattle.frame_state.specs.Held.{Stays, running};
 ghost use Rattle.frame_events.specs.Events.{as_happened};
 ghost use Rattle.frame_events.specs.Phases.{HasBlock, Keeps, answered, changed, frame_in};
 ghost use Rattle.frame_events.specs.Told.{register_to, token_in, write_at};
-ghost use Rattle.frame_events.specs.Tried.{Leaves, arrived, tried};
+ghost use Rattle.frame_events.specs.Tried.{IsFreeIn, Leaves, arrived, tried};
 
 use crate::answers::is_target;
 use crate::event::{Cause, Happened};
@@ -69,6 +70,7 @@ pub fn try_fire(phase: &mut Phase, image: &CheckedImage, slot: u8) -> Happened
 
 // Moves the token in a place of a frame that runs to its place of the block, if there is one that may be.
 fn deliver_running(frame: &mut Running, block: &Block, place: u16) -> Option<Arrival>
+    requires free { IsFree (running block.now frame.old) }
     ensures answer { (o : Older) → arrived result ≡ can_deliver place o (running block.now frame.old) }
     ensures frame { (o : Older) → running block.now frame.new
         ≡ tried (arrived result) (deliver place o) (running block.now frame.old) }
@@ -93,10 +95,12 @@ fn deliver_running(frame: &mut Running, block: &Block, place: u16) -> Option<Arr
     }
 }
 
-/// Moves the token in a place of this frame to its place of the block, if there is one that may be.
+/// Moves the token in a place of this frame to its place of the block, if there is one that may be. It overwrites none: each
+/// token that is on its way there finds its place empty.
 #[tactic(auto, using(crate::proofs::PhaseFacts::going))]
 pub fn try_deliver(phase: &mut Phase, image: &CheckedImage, place: u16) -> Option<Arrival>
     requires block { HasBlock image.now.blocks phase.old }
+    requires free { IsFreeIn image.now.blocks phase.old }
     ensures answer { (o : Older) → arrived result
         ≡ answered (causes.NotNow causes.NoToken) (can_deliver place) o (frame_in image.now.blocks phase.old) }
     ensures frame { (o : Older) → frame_in image.now.blocks phase.new

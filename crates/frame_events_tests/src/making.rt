@@ -7,7 +7,8 @@ ghost use Rattle.frame_events.specs.Phases.{HasBlock};
 use block_check::{CheckedImage, ImageRefusal};
 use frame_events::{
     Happened, Phase, can_deliver, can_exit, can_fire, can_load, can_read, can_seal, can_store,
-    deliver_in, exit_in, fill_in, fire_in, load_in, read_in, read_register, seal_in, store_in,
+    deliver_in, exit_in, fill_in, finds_room, fire_in, load_in, read_in, read_register, seal_in,
+    store_in,
 };
 use frame_state::Empty;
 use std::alloc::{AllocError, Global};
@@ -105,6 +106,16 @@ fn read(phase: &mut Phase, image: &CheckedImage, read: u8, word: Option<u64>)
     }
 }
 
+// Delivers a token that finds room.
+fn deliver(phase: &mut Phase, image: &CheckedImage, place: u16)
+    requires { HasBlock image.now.blocks phase.old }
+    ensures { HasBlock image.now.blocks phase.new }
+{
+    if finds_room(phase, image, place) {
+        deliver_in(phase, image, place);
+    }
+}
+
 /// What a step does.
 pub fn act(phase: &mut Phase, image: &CheckedImage, step: Step)
     requires { HasBlock image.now.blocks phase.old }
@@ -113,7 +124,7 @@ pub fn act(phase: &mut Phase, image: &CheckedImage, step: Step)
     match step {
         Step::Read(number, word) => read(phase, image, number, word),
         Step::Fire(slot) => fire_in(phase, image, slot),
-        Step::Deliver(place) => deliver_in(phase, image, place),
+        Step::Deliver(place) => deliver(phase, image, place),
         Step::Load(number, bytes) => load_in(phase, image, number, bytes),
         Step::Store(number) => store_in(phase, image, number),
         Step::Exit => exit_in(phase, image),

@@ -1,6 +1,7 @@
 -- What the events of a frame do to what it holds, where the instruction is at hand.
-use Rattle.std.specs.Prelude.{ℕ, suc, ◌+◌, ◌*◌, Option, Some, None, true, slice_set}
+use Rattle.std.specs.Prelude.{◌≡◌, ℕ, suc, ◌+◌, ◌*◌, Bool, Option, Some, None, is_none, true, slice_set}
 use Rattle.trips_isa.specs.declared.block.Token.{Token}
+use Rattle.trips_isa.specs.declared.block.Block.{Block}
 use Rattle.trips_isa.specs.declared.block.Inst.{Inst}
 use Rattle.trips_isa.specs.declared.form.Form.{Form}
 use Rattle.trips_isa.specs.declared.form.Form.TheVariants.{Load, Store, Branch}
@@ -11,7 +12,7 @@ use Rattle.trips_isa.specs.Blocks.{slot_computes}
 use Rattle.trips_isa.specs.Faults.{own_fault}
 use Rattle.trips_isa.specs.Marks.{node_mark}
 use Rattle.commit_flush_spec.specs.Marks.{mark_on, mark_sent, mark_delivered}
-use Rattle.commit_flush_spec.specs.Frames.{at, is_target, emptied}
+use Rattle.commit_flush_spec.specs.Frames.{at, is_target, emptied, target}
 use Rattle.commit_flush_spec.specs.Sending.{put_if}
 use Rattle.frame_state.specs.Held.{Held}
 
@@ -63,6 +64,14 @@ moved p q (Some t) h = record h {
   spots = slice_set h.spots q (Some t);
   marks = mark_delivered p q h.marks;
 }
+
+-- whether the place of the block is empty to which the token in place p goes
+abbrev pub finds_room : Block → ℕ → Held → Bool
+finds_room b p h = is_none (at h.spots (target b p))
+
+-- each token that has come stays where it is
+abbrev pub KeepsSpots : Held → Held → Type 0
+KeepsSpots old new = (q : ℕ) (t : Token) → at old.spots q ≡ Some t → at new.spots q ≡ Some t
 
 -- no token stays on its way and nothing waits
 abbrev pub closed : Held → Held

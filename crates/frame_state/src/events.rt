@@ -1,5 +1,5 @@
 //! The events of the window on one frame, and the tests that their causes are made of.
-ghost use Rattle.std.specs.Prelude.{◌≡◌, ◌||◌, Some, None, cond, false, not, is_none, is_some, option_copied, slice_get, slice_index_or, length, ◌<◌, ◌+◌};
+ghost use Rattle.std.specs.Prelude.{◌≡◌, ◌||◌, Some, None, cond, false, true, not, is_none, is_some, option_copied, slice_get, slice_index_or, length, ◌<◌, ◌+◌};
 ghost use Rattle.trips_isa.specs.Blocks.{leaves_with};
 ghost use Rattle.trips_isa.specs.Stores.{stored_of};
 ghost use Rattle.block_cases.specs.Orders.{slot_of};
@@ -11,7 +11,7 @@ ghost use Rattle.commit_flush_spec.specs.Memory as memory;
 ghost use Rattle.commit_flush_spec.specs.Memory.{request, load, taken_word, with_store};
 ghost use Rattle.commit_flush_spec.specs.Ends.{branch_of, branch_mark, with_exit};
 ghost use Rattle.frame_state.specs.Held.{Stays, exit_of, running};
-ghost use Rattle.frame_state.specs.Moves.{slot_token};
+ghost use Rattle.frame_state.specs.Moves.{KeepsSpots, finds_room, slot_token};
 
 use crate::body::Body;
 use crate::parts::Departure;
@@ -134,6 +134,14 @@ impl Body {
         target(block, place as usize)
     }
 
+    /// Whether the place of the block is empty to which the token in a place goes.
+    pub fn finds_room(&self, block: &Block, place: u16) -> bool
+        ensures value { result ≡ finds_room block.now place self.now }
+    {
+        let to = self.target_of(block, place);
+        self.spot(to).is_none()
+    }
+
     /// Puts the word of a declared read on its way.
     pub(crate) fn read(&mut self, block: &Block, read: u8, word: u64)
         requires { read < length block.now.reads.items }
@@ -181,7 +189,9 @@ impl Body {
 
     /// Moves the token in a place to the place of the block that it goes to.
     pub(crate) fn deliver(&mut self, block: &Block, place: u16)
+        requires free { finds_room block.now place self.old ≡ true }
         ensures value { (o : Older) → running block.now self.new ≡ deliver place o (running block.now self.old) }
+        ensures spots { KeepsSpots self.old self.new }
         ensures stays { Stays self.old self.new }
     {
         let to = target(block, place as usize);
@@ -192,7 +202,9 @@ impl Body {
     pub(crate) fn deliver_to(&mut self, block: &Block, place: u16, to: usize, token: Token)
         requires token { at self.old.places place ≡ Some token }
         requires to { to ≡ target block.now place }
+        requires free { finds_room block.now place self.old ≡ true }
         ensures value { (o : Older) → running block.now self.new ≡ deliver place o (running block.now self.old) }
+        ensures spots { KeepsSpots self.old self.new }
         ensures stays { Stays self.old self.new }
     {
         let _ = block;

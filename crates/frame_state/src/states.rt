@@ -12,7 +12,7 @@ ghost use Rattle.commit_flush_spec.specs.Memory.{request, load, taken_word, with
 ghost use Rattle.commit_flush_spec.specs.Ends.{branch_mark, with_exit, complete, seal, outputs, cause_held};
 ghost use Rattle.frame_state.specs.Held.{Stays, exit_of, filled, running, sealed};
 ghost use Rattle.frame_state.specs.Lacks.{least_lack};
-ghost use Rattle.frame_state.specs.Moves.{closed, slot_token};
+ghost use Rattle.frame_state.specs.Moves.{KeepsSpots, closed, finds_room, slot_token};
 
 use crate::body::Body;
 use crate::outputs::Outputs;
@@ -141,19 +141,24 @@ impl Running {
         self.body.fire_if(block, inst, slot)
     }
 
-    /// Moves the token in a place to the place of the block that it goes to.
+    /// Moves the token in a place to the place of the block that it goes to, which is empty (`Body::finds_room`): no token
+    /// is overwritten.
     pub fn deliver(&mut self, block: &Block, place: u16)
+        requires free { finds_room block.now place self.old ≡ true }
         ensures value { (o : Older) → running block.now self.new ≡ deliver place o (running block.now self.old) }
+        ensures spots { KeepsSpots self.old self.new }
         ensures stays { Stays self.old self.new }
     {
         self.body.deliver(block, place);
     }
 
-    /// Moves the token in a place to this place of the block, which is the one that it goes to.
+    /// Moves the token in a place to this place of the block, which is the one that it goes to and is empty.
     pub fn deliver_to(&mut self, block: &Block, place: u16, to: usize, token: Token)
         requires token { at self.old.places place ≡ Some token }
         requires to { to ≡ target block.now place }
+        requires free { finds_room block.now place self.old ≡ true }
         ensures value { (o : Older) → running block.now self.new ≡ deliver place o (running block.now self.old) }
+        ensures spots { KeepsSpots self.old self.new }
         ensures stays { Stays self.old self.new }
     {
         self.body.deliver_to(block, place, to, token);

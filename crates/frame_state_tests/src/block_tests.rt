@@ -1,7 +1,7 @@
 //! A frame of a small block, from its fill to its outputs.
 
 use arrayvec::ArrayVec;
-use frame_state::{Departure, Empty, Shape};
+use frame_state::{Departure, Empty, Running, Shape};
 use std::process::Abort;
 use trips_isa::{Block, Inst, Op, Sense, Spot, Token};
 
@@ -33,6 +33,15 @@ fn block() -> Block {
     }
 }
 
+// Delivers the token in a place, which finds room.
+fn assert_delivers(rt: &impl Abort, running: &mut Running, block: &Block, place: u16) {
+    assert!(rt;
+        running.held().finds_room(block, place),
+        "place {place}: an empty place of the block"
+    );
+    running.deliver(block, place);
+}
+
 #[test]
 fn runs_a_block(rt: HostRuntime) {
     let block = block();
@@ -53,14 +62,18 @@ fn runs_a_block(rt: HostRuntime) {
         running.held().token_at(&block, 2).is_none(),
         "no operand has come"
     );
-    running.deliver(&block, 0);
-    running.deliver(&block, 2);
+    assert_delivers(&rt, &mut running, &block, 0);
+    assert_delivers(&rt, &mut running, &block, 2);
+    assert!(&rt;
+        !running.held().finds_room(&block, 0),
+        "the left operand of the sum has come"
+    );
     assert!(&rt;
         running.held().ready(&shape, 0) == 12,
         "the sum and the branch"
     );
     running.fire(&block, 2);
-    running.deliver(&block, 4);
+    assert_delivers(&rt, &mut running, &block, 4);
     assert!(&rt; running.held().write(0) == Some(Token::Word(12)), "the sum");
     running.fire(&block, 3);
     assert!(&rt; running.held().branch(&block).is_some(), "the branch waits");

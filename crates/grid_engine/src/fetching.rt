@@ -1,14 +1,16 @@
-//! The block that an idle fetch unit would begin to fetch.
-ghost use Rattle.std.specs.Prelude.{◌≡◌, ◌<◌, All, length};
+//! The block whose fetch a cycle would begin.
+ghost use Rattle.std.specs.Prelude.{◌≡◌, ◌<◌, All, Some, length, slice_get};
+ghost use Rattle.trips_isa.specs.declared.block.Block.{Block};
 ghost use Rattle.commit_flush_spec.specs.Frames.{Frame};
 ghost use Rattle.commit_flush_spec.specs.Laws.{AreNumbers};
-ghost use Rattle.grid_cycle_spec.specs.Grid.{numbers_of};
+ghost use Rattle.grid_cycle_spec.specs.Grid.{Fetching, numbers_of};
 ghost use Rattle.grid_state.specs.Seen.{seen};
 ghost use Rattle.grid_stations.specs.Asked.{frame_of};
 ghost use Rattle.grid_parts.specs.Youngest.{IsYoungest};
 ghost use Rattle.grid_engine.specs.Nexts.{next_fetch};
-ghost use Rattle.grid_engine.specs.Follows.{after, behind, guess};
+ghost use Rattle.grid_engine.specs.Follows.{after, any_empty, behind, behind_fetched, guess, idle_fetch, is_taken};
 
+use frame_events::{block_at, is_serial};
 use grid_parts::Grid;
 use grid_stations::Windows;
 
@@ -56,14 +58,91 @@ fn after<V: Windows, W>(grid: &Grid<V, W>, order: &[u8]) -> Option<u32>
     }
 }
 
-/// The block that an idle fetch unit would begin to fetch; none where it would begin no fetch.
-pub fn next_fetch<V: Windows, W>(grid: &Grid<V, W>) -> Option<u32>
-    ensures { result ≡ next_fetch (V.blocks grid.now.window) (seen (V.held grid.now.window) grid.now.state) }
+// What an idle fetch unit begins to fetch.
+fn begun<V: Windows, W>(grid: &Grid<V, W>) -> Option<u32>
+    ensures { result ≡ idle_fetch (V.blocks grid.now.window) (seen (V.held grid.now.window) grid.now.state) }
 {
     if grid.window.has_room() {
         let frames = grid.window.numbers();
         after(grid, frames.as_slice())
     } else {
         None
+    }
+}
+
+// Whether a frame is not empty once this one is filled.
+fn is_taken<V: Windows>(window: &V, filled: u8, frame: u8) -> bool
+    requires { frame < 8 }
+    ensures { result ≡ is_taken filled (V.held window.now).frames frame }
+{
+    if window.block_of(frame).is_some() {
+        true
+    } else {
+        filled == frame
+    }
+}
+
+// Whether a frame is empty once this one is filled.
+fn any_empty<V: Windows>(window: &V, filled: u8) -> bool
+    ensures { result ≡ any_empty filled (V.held window.now).frames 8 0 }
+{
+    for frame in 0..8u8 {
+        if !is_taken(window, filled, frame) {
+            return true;
+        }
+    }
+    false
+}
+
+// Behind a block that is fetched now into this frame: what is predicted, where one more frame is empty and the block makes
+// no system call.
+fn behind_fetched<V: Windows, W>(grid: &Grid<V, W>, block: u32, filled: u8) -> Option<u32>
+    requires { block < length (V.blocks grid.now.window) }
+    ensures { (b : Block) → slice_get (V.blocks grid.now.window) block ≡ Some b → result
+        ≡ behind_fetched (V.blocks grid.now.window) grid.now.state.predictor block filled b
+        (V.held grid.now.window).frames }
+{
+    let image = grid.window.image();
+    if any_empty(&grid.window, filled) {
+        if is_serial(block_at(image, block)) {
+            None
+        } else {
+            grid.state.predictor.peek(image, block)
+        }
+    } else {
+        None
+    }
+}
+
+// Where the fetch of a block is due: behind that block, or, where its fetch is given up, what an idle unit begins.
+fn behind_due<V: Windows, W>(grid: &Grid<V, W>, block: u32) -> Option<u32>
+    ensures { (f : Fetching) → grid.now.state.fetching ≡ Some f → f.block ≡ block → f.left ≡ 0 → result
+        ≡ next_fetch (V.blocks grid.now.window) (V.budget grid.now.window)
+        (seen (V.held grid.now.window) grid.now.state) }
+{
+    if grid.window.can_fetch(block) {
+        match grid.window.lowest_empty() {
+            Some(filled) => behind_fetched(grid, block, filled),
+            None => None,
+        }
+    } else {
+        begun(grid)
+    }
+}
+
+/// The block whose fetch part (2) of a cycle would begin; none exactly where it would begin no fetch.
+pub fn next_fetch<V: Windows, W>(grid: &Grid<V, W>) -> Option<u32>
+    ensures { result ≡ next_fetch (V.blocks grid.now.window) (V.budget grid.now.window)
+        (seen (V.held grid.now.window) grid.now.state) }
+{
+    match grid.state.fetching.due() {
+        Some(block) => behind_due(grid, block),
+        None => {
+            if grid.state.is_idle() {
+                begun(grid)
+            } else {
+                None
+            }
+        }
     }
 }

@@ -1,5 +1,5 @@
 //! The grid.
-ghost use Rattle.std.specs.Prelude.{◌≡◌, ◌<◌, ◌≤◌, ◌+◌, ◌-◌, IfOk, IfSome, [], length, Some, true, false};
+ghost use Rattle.std.specs.Prelude.{◌≡◌, ◌<◌, ◌≤◌, ◌+◌, ◌-◌, ◌||◌, IfOk, IfSome, [], length, Some, true, false};
 ghost use Rattle.std.specs.Prelude.{is_none, slice_get};
 ghost use Rattle.trips_isa.specs.Machine.{start};
 ghost use Rattle.commit_flush.specs.Observed.{is_whole_in};
@@ -11,7 +11,7 @@ ghost use Rattle.grid_run.specs.Tallies.{CountsCommits};
 ghost use Rattle.grid_run.specs.WholeRuns.{IsRun, going_cycles, most_cycles};
 ghost use Rattle.grid_engine.specs.Engines.{IsCycle, IsTallied, IsWithinCost, blocks_of, grid_of};
 ghost use Rattle.grid_engine.specs.Lacks.{OldestSteps, oldest_lacks};
-ghost use Rattle.grid_engine.specs.Nexts.{next_fetch, next_firing};
+ghost use Rattle.grid_engine.specs.Nexts.{is_busy, next_fetch, next_firing, ready_entry};
 
 use crate::{fetching, firing, moving, waiting};
 use base::Memory;
@@ -78,8 +78,8 @@ impl<W: Weather + Drop> Grid<W> {
         Ok(Grid { parts })
     }
 
-    /// A grid on an image from a machine's state on. `budget` counts all that the machine has made. Want of memory is
-    /// the only error.
+    /// A grid on an image from a machine's state on. `budget` counts all that the machine has made, which has room for at
+    /// least as many. Want of memory is the only error.
     pub fn make_at(
         alloc: Global,
         image: CheckedImage,
@@ -91,7 +91,7 @@ impl<W: Weather + Drop> Grid<W> {
         requires stack { predictor.stack ≡ [] }
         requires some { 0 < budget }
         requires next { arch.state.next < length image.blocks }
-        requires room { arch.budget ≡ budget }
+        requires room { budget ≤ arch.budget }
         requires spent { length arch.state.trace ≤ budget }
         ensures begun { IfOk result (λ g. grid_of g ≡ begun_with arch.state predictor weather) }
         ensures image { IfOk result (λ g. g.window.image ≡ image) }
@@ -188,12 +188,15 @@ impl<W: Weather> Grid<W> {
         grid_run::cost(window.image(), window.arch().trace())
     }
 
-    /// The firing that a tile would make next: of the eldest entry of its slots that may fire.
+    /// The firing that a tile would make next: of the eldest entry of its slots that may fire; none exactly where the
+    /// tile's unit is busy or no entry of it is ready.
     pub fn ready(&self, tile: u8) -> Option<Event>
         requires tile { tile < 16 }
         ensures value { result ≡ next_firing (blocks_of self.now) self.now.window.budget tile (grid_of self.now) }
+        ensures none { is_none result ≡ (is_busy tile (grid_of self.now)
+            || is_none (ready_entry (blocks_of self.now) self.now.window.budget tile (grid_of self.now))) }
     {
-        firing::next_firing(&self.parts.window, tile)
+        firing::next_firing(&self.parts, tile)
     }
 
     /// The least output that the oldest frame lacks; none exactly where no frame is in flight, or the oldest has all
@@ -208,9 +211,10 @@ impl<W: Weather> Grid<W> {
         waiting::waiting_on(self.parts.window.window())
     }
 
-    /// The block that an idle fetch unit would begin to fetch; none exactly where it would begin no fetch.
+    /// The block whose fetch part (2) of a cycle would begin, where the fetch unit is idle or ends a fetch in that cycle;
+    /// none exactly where part (2) would begin no fetch.
     pub fn can_fetch(&self) -> Option<u32>
-        ensures value { result ≡ next_fetch (blocks_of self.now) (grid_of self.now) }
+        ensures value { result ≡ next_fetch (blocks_of self.now) self.now.window.budget (grid_of self.now) }
     {
         fetching::next_fetch(&self.parts)
     }

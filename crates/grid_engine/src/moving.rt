@@ -53,7 +53,7 @@ pub fn made_at<W: Weather + Drop>(
     requires stack { predictor.stack ≡ [] }
     requires some { 0 < budget }
     requires next { arch.state.next < length image.blocks }
-    requires room { arch.budget ≡ budget }
+    requires room { budget ≤ arch.budget }
     requires spent { length arch.state.trace ≤ budget }
     ensures engine { IfOk result (λ g. IsEngine W.next W.follows (blocks_of g) g.window.budget (grid_of g)) }
     ensures begun { IfOk result (λ g. grid_of g ≡ begun_with arch.state predictor weather) }

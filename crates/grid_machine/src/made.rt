@@ -56,8 +56,8 @@ pub fn make<W: Drop>(
     make_on(alloc, window, predictor, weather)
 }
 
-/// A grid on an image from a machine's state on. `budget` counts all that the machine has made. Want of memory is the only
-/// error.
+/// A grid on an image from a machine's state on. `budget` counts all that the machine has made, which has room for at least
+/// as many. Want of memory is the only error.
 pub fn make_at<W: Drop>(
     alloc: Global,
     image: CheckedImage,
@@ -69,7 +69,7 @@ pub fn make_at<W: Drop>(
     requires stack { predictor.stack ≡ [] }
     requires some { 0 < budget }
     requires next { arch.state.next < length image.blocks }
-    requires room { arch.budget ≡ budget }
+    requires room { budget ≤ arch.budget }
     requires spent { length arch.state.trace ≤ budget }
     ensures begun { IfOk result (λ g. seen g.window.window g.state ≡ begun_with arch.state predictor weather) }
     ensures image { IfOk result (λ g. g.window.image ≡ image) }

@@ -8,6 +8,12 @@ use Rattle.frame_events.proofs.PhaseFacts.{asked, going}
 use Rattle.frame_events.proofs.TryFacts.{going_is}
 use Rattle.frame_events.proofs.trying.try_deliver.Goals as goal
 
+pub deliver_running-requires : goal.deliver_running-requires
+deliver_running-requires c = record {
+  free = c.requires.free (running c.block_at-block.result.now c.in-Going.frame)
+      (going_is c.args.image.now.blocks c.block_at-block.result.now c.in-Going.frame c.args.phase.now c.in-Going.is (cc));
+}
+
 pub returns-in-Going-clause-answer : goal.returns-in-Going-clause-answer
 returns-in-Going-clause-answer c =
     let blocks = c.args.image.now.blocks in

@@ -10,7 +10,15 @@ use Rattle.commit_flush.proofs.TryFacts.{went_inside, told, shown}
 use Rattle.commit_flush_spec.specs.Older.{committed}
 use Rattle.commit_flush.specs.Seen.{flying}
 use Rattle.commit_flush.proofs.AccessFacts.{deliver_told, turned_stands}
+use Rattle.commit_flush.proofs.DeliverFacts.{goes_free}
+use Rattle.commit_flush.proofs.PhaseFacts.{read_phase}
 use Rattle.commit_flush.proofs.window.Window.try_deliver.Goals as goal
+
+pub try_deliver-requires-clause-free : goal.try_deliver-requires-clause-free
+try_deliver-requires-clause-free c =
+    goes_free c.self.invariant.sound (c.args.token / token_places) c.index_mut.result.now
+    (read_phase c.self.invariant.sound (c.args.token / token_places) c.index_mut.result.now c.if-frame-lt8.true
+    c.index_mut.ensures.value)
 
 pub keep_arrival-requires-clause-awaits : goal.keep_arrival-requires-clause-awaits
 keep_arrival-requires-clause-awaits c =

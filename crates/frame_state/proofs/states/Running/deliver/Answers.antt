@@ -1,6 +1,7 @@
 use Rattle.std.proofs.Common.{ap, subst, ◌∙◌}
 use Rattle.commit_flush_spec.specs.Dataflow.{deliver}
 use Rattle.frame_state.specs.Held.{Held, Stays, running}
+use Rattle.frame_state.specs.Moves.{KeepsSpots}
 use Rattle.frame_state.proofs.states.Running.deliver.Goals as goal
 
 pub returns : goal.returns
@@ -8,6 +9,8 @@ returns c = record {
   value = λ o. c.deliver.ensures.value o
       ∙ ap (λ (h : Held). deliver c.args.place o (running c.args.block.now h))
       (c.deref_mut.ensures.value ∙ c.self.view_is);
+  spots = subst (λ (h : Held). KeepsSpots h c.deliver.new.self) (c.deref_mut.ensures.value ∙ c.self.view_is)
+      c.deliver.ensures.spots;
   stays = subst (λ (h : Held). Stays h c.deliver.new.self) (c.deref_mut.ensures.value ∙ c.self.view_is)
       c.deliver.ensures.stays;
 }
