@@ -13,6 +13,7 @@ pub mod PhaseFacts
 pub mod LoadFacts
 pub mod StoreFacts
 pub mod PlayFacts
+pub mod FlushFacts
 pub mod MoveFacts
 pub mod TryFacts
 pub mod CutFacts

@@ -7,3 +7,4 @@ pub mod Telling
 pub mod Lent
 pub mod Observed
 pub mod Accesses
+pub mod Flushed

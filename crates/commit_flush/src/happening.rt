@@ -1,9 +1,12 @@
 //! Events, whatever they are, one by one and one after another.
-ghost use Rattle.std.specs.Prelude.{◌≡◌};
+ghost use Rattle.std.specs.Prelude.{◌≡◌, ◌≢◌};
 ghost use Rattle.trips_isa.specs.declared.run.Stepped.TheVariants.{Went};
 ghost use Rattle.commit_flush_spec.specs.Causes as causes;
+ghost use Rattle.commit_flush_spec.specs.Laws.{TakesSteps};
+ghost use Rattle.commit_flush_spec.specs.Window as window;
 ghost use Rattle.commit_flush_spec.specs.Window.{can, done, happens, plays};
 ghost use Rattle.frame_events.specs.Events.{as_event, as_events, as_happened};
+ghost use Rattle.commit_flush.specs.Flushed.{LeavesNothing, MayFlush, left_of};
 
 use crate::window::Window;
 use frame_events::{Cause, Event, Happened};
@@ -66,11 +69,9 @@ impl Window {
         }
     }
 
-    /// Lets an event happen, where no cause holds against it, and tells which does. Numbers may be any.
-    ///
-    /// It stays a call, whose instructions are counted by bench/window.
-    #[inline(never)]
-    pub fn event(&mut self, e: Event) -> Happened
+    // Lets an event happen, where no cause holds against it, and tells which does.
+    #[inline(always)]
+    fn event_or_over(&mut self, e: Event) -> Happened
         ensures answer { as_happened result
             ≡ can self.old.image.blocks self.old.budget (as_event e) self.old.window }
         ensures window { self.new ≡ record self.old {
@@ -83,9 +84,49 @@ impl Window {
         }
     }
 
-    /// Plays events one after another.
+    /// Lets an event happen, where no cause holds against it, and tells which does. Numbers may be any.
+    ///
+    /// The committed state is the machine's after as many steps as the trace grew (`steps`); only a Commit changes it
+    /// (`others`), and nothing changes once the run has ended (`rests`). Of a frame that Flush, Store, Exit or a trap
+    /// flushes nothing is left (`flushed`).
+    ///
+    /// It stays a call, whose instructions are counted by bench/window.
+    #[inline(never)]
+    pub fn event(&mut self, e: Event) -> Happened
+        ensures answer { as_happened result
+            ≡ can self.old.image.blocks self.old.budget (as_event e) self.old.window }
+        ensures window { self.new ≡ record self.old {
+          window = happens self.old.image.blocks self.old.budget (as_event e) self.old.window;
+        } }
+        ensures steps { self.old.window.over ≡ Went
+            → TakesSteps self.old.image.blocks self.old.window.state self.new.window }
+        ensures others { as_event e ≢ window.Commit → self.new.window.state ≡ self.old.window.state }
+        ensures rests { self.old.window.over ≢ Went → self.new ≡ self.old }
+        ensures flushed { as_happened result ≡ causes.Done → MayFlush (as_event e) self.new.window.over
+            → LeavesNothing (left_of self.old.image.blocks (as_event e) self.old.window)
+            self.old.window.frames self.new.window.frames }
+    {
+        self.keeps_invariant();
+        self.event_or_over(e)
+    }
+
+    /// Plays events one after another: the committed state is the machine's after as many steps as the trace grew
+    /// (`steps`), and nothing changes once the run has ended (`rests`).
     pub fn play(&mut self, events: &[Event])
         ensures window { self.new ≡ record self.old {
+          window = plays self.old.image.blocks self.old.budget (as_events events.now) self.old.window;
+        } }
+        ensures steps { self.old.window.over ≡ Went
+            → TakesSteps self.old.image.blocks self.old.window.state self.new.window }
+        ensures rests { self.old.window.over ≢ Went → self.new ≡ self.old }
+    {
+        self.keeps_invariant();
+        self.play_each(events);
+    }
+
+    // One event after another.
+    fn play_each(&mut self, events: &[Event])
+        ensures { self.new ≡ record self.old {
           window = plays self.old.image.blocks self.old.budget (as_events events.now) self.old.window;
         } }
     {

@@ -30,7 +30,8 @@ size_most : (b : Block) → cost b ≤ greatest → size b ≤ most_nodes
 unfolding cost greatest
 size_most b l = omega (arith, l)
 
-cost_is : (b : Block) → cost b ≡ price (size b)
+-- what a block may cost is the price of its size
+pub cost_is : (b : Block) → cost b ≡ price (size b)
 unfolding cost
 cost_is b = refl
 

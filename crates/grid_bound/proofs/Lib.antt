@@ -2,3 +2,4 @@ pub mod Begun
 pub mod Before
 pub mod Standing
 pub mod Costs
+pub mod OneCycle

@@ -54,6 +54,55 @@ reached_state blocks s t n stepped.Ended r = ap (λ (p : State × Stepped). p.0)
 reached_state blocks s t n stepped.StackFull r = ap (λ (p : State × Stepped). p.0) r
 reached_state blocks s t n (stepped.Trap c) r = ap (λ (p : State × Stepped). p.0) r.0
 
+-- one grid that has its rule, where `sizes` tells how many tasks the block has that commits next
+module _ {W : Type 0} (blocks : List Block) (good : AllGood blocks) (budget : ℕ) (h : Grid W)
+    (ok : WindowOk blocks budget h.window) (rule : GridRule h) (made : GenerationsCounted h)
+    (far : (t : ℕ) → 16 ≤ t → h.units t ≡ 0) (on : GoesOn budget h) (few : h.counts.cycles < 2 ^ 64 - 1) (sizes : ℕ → ℕ)
+    (next_size : sizes (length h.window.state.trace) ≡ size_in (slice_get blocks h.window.state.next)) where
+  parts : (ends blocks budget h).window.over ≡ stepped.Went
+      → CycleRule blocks budget (fetches blocks budget (ends blocks budget h))
+  parts e =
+      let r : Ruled blocks budget 1 (ends blocks budget h) =
+      ends_ruled blocks good budget 1 h (record { ok = ok; ties = ties_of 1 h rule; fetch = rule.fetch }) in
+      let k : Going blocks budget 1 (fetches blocks budget (ends blocks budget h)) =
+      fetches_going blocks good budget 1 (ends blocks budget h)
+      (record { ok = r.ok; went = e; ties = r.ties; fetch = r.fetch }) in
+      cycle_rule blocks good budget (fetches blocks budget (ends blocks budget h)) k.ok k.went
+      (rule_of 1 (fetches blocks budget (ends blocks budget h)) k.ties k.fetch)
+
+  lane : LaneRule sizes (lane_in h)
+  lane = by h.window.frames refl
+    where
+      by : (l : List Frame) → h.window.frames ≡ l
+          → LaneRule sizes (lane_of (course_in (committed h.window.state) l) h)
+      by [] e = no_lane sizes h (course_in (committed h.window.state) []) rule e
+      by (f ∷ fs) e =
+          let t : Tells (committed h.window.state) f (table_in (committed h.window.state) f) =
+          table_tells blocks good (committed h.window.state) f (oldest_ok blocks budget h.window f fs ok e).code in
+          frame_lane blocks budget sizes h f fs t.seen (table_in (committed h.window.state) f) good ok rule e t.solves
+          next_size
+
+  next_block : (x : Block) × (slice_get blocks h.window.state.next ≡ Some x)
+  next_block = item_at blocks h.window.state.next ok.next
+
+  pub stands_here : Stands blocks budget sizes h
+  stands_here = record {
+    ok = ok;
+    went = on.went;
+    room = on.room;
+    parts = parts;
+    none = far;
+    due = λ e. (
+      due h rule e,
+      (let c : slice_index h.window.generations 0 ≤ h.counts.cycles = made 0 in
+          omega (arith, c, few)),
+    );
+    block = next_block.0;
+    is_next = next_block.1;
+    is_size = sym (ap size_in next_block.1) ∙ sym next_size;
+    lane = lane;
+  }
+
 module _ {W : Type 0} (blocks : List Block) (good : AllGood blocks) (budget : ℕ) (next : W → ℕ)
     (follows : W → W → Type 0) (bound : (w : W) → next w ≤ 3) (s : State) (predictor : Holding) (weather : W)
     (opens : WindowOk blocks budget (opened s)) where
@@ -94,49 +143,8 @@ module _ {W : Type 0} (blocks : List Block) (good : AllGood blocks) (budget : �
         ∙ ap (λ (t : State). size_in (slice_get blocks t.next))
         (sym (reached_state blocks s h.window.state ran.steps h.window.over ran.reached))
 
-    parts : (ends blocks budget h).window.over ≡ stepped.Went
-        → CycleRule blocks budget (fetches blocks budget (ends blocks budget h))
-    parts e =
-        let r : Ruled blocks budget 1 (ends blocks budget h) =
-        ends_ruled blocks good budget 1 h (record { ok = ok; ties = ties_of 1 h rule; fetch = rule.fetch }) in
-        let k : Going blocks budget 1 (fetches blocks budget (ends blocks budget h)) =
-        fetches_going blocks good budget 1 (ends blocks budget h)
-        (record { ok = r.ok; went = e; ties = r.ties; fetch = r.fetch }) in
-        cycle_rule blocks good budget (fetches blocks budget (ends blocks budget h)) k.ok k.went
-        (rule_of 1 (fetches blocks budget (ends blocks budget h)) k.ties k.fetch)
-
-    lane : LaneRule sizes (lane_in h)
-    lane = by h.window.frames refl
-      where
-        by : (l : List Frame) → h.window.frames ≡ l
-            → LaneRule sizes (lane_of (course_in (committed h.window.state) l) h)
-        by [] e = no_lane sizes h (course_in (committed h.window.state) []) rule e
-        by (f ∷ fs) e =
-            let t : Tells (committed h.window.state) f (table_in (committed h.window.state) f) =
-            table_tells blocks good (committed h.window.state) f (oldest_ok blocks budget h.window f fs ok e).code in
-            frame_lane blocks budget sizes h f fs t.seen (table_in (committed h.window.state) f) good ok rule e t.solves
-            next_size
-
-    next_block : (x : Block) × (slice_get blocks h.window.state.next ≡ Some x)
-    next_block = item_at blocks h.window.state.next ok.next
-
     pub stands : Stands blocks budget sizes h
-    stands = record {
-      ok = ok;
-      went = on.went;
-      room = on.room;
-      parts = parts;
-      none = far_rest n h a;
-      due = λ e. (
-        due h rule e,
-        (let c : slice_index h.window.generations 0 ≤ h.counts.cycles = made 0 in
-            omega (arith, c, few)),
-      );
-      block = next_block.0;
-      is_next = next_block.1;
-      is_size = sym (ap size_in next_block.1) ∙ sym next_size;
-      lane = lane;
-    }
+    stands = stands_here blocks good budget h ok rule made (far_rest n h a) on few sizes next_size
 
   -- the grid before goes on too
   on_before : (n : ℕ) (m h : Grid W) → After n m → Eager next follows blocks budget m h → GoesOn budget h

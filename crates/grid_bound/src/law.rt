@@ -9,6 +9,7 @@ ghost use Rattle.grid_cycle_spec.specs.Costs.{cost_of, greatest_cost};
 ghost use Rattle.grid_cycle_spec.specs.Grid.{Grid};
 ghost use Rattle.grid_cycle_spec.specs.Cycles.{AfterCycles, Eager, begun_at};
 ghost use Rattle.grid_bound.specs.GoesOn.{GoesOn};
+ghost use Rattle.grid_bound.specs.OneCycle.{HasRule, OneCycle};
 
 use operand_net::Weather;
 
@@ -36,4 +37,15 @@ pub fn cycles_cost_at_most<W: Weather>()
         → AllGood blocks → WindowOk blocks budget (opened s)
         → AfterCycles W.next W.follows blocks budget n (begun_at s entries weather) h → GoesOn budget h
         → h.counts.cycles < 2 ^ 64 - 1 → n < greatest_cost * budget }
+{}
+
+/// The cycle bound in one statement, in any weather: where a grid has its rule and its run goes on, what is left for the
+/// block that commits next is from one cycle to that block's cost, and an eager cycle commits the block, or traps, or
+/// lowers what is left, and keeps the rule. The stated start has the rule.
+pub fn one_cycle_commits_or_lowers<W: Weather>()
+    ensures one { (blocks : List Block) (budget : ℕ) (g h : Grid W) → AllGood blocks → HasRule blocks budget g
+        → GoesOn budget g → g.counts.cycles < 2 ^ 64 - 1 → Eager W.next W.follows blocks budget g h
+        → OneCycle blocks budget g h }
+    ensures begins { (blocks : List Block) (budget : ℕ) (s : State) (entries : List ℕ) (weather : W)
+        → WindowOk blocks budget (opened s) → HasRule blocks budget (begun_at s entries weather) }
 {}

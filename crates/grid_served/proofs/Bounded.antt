@@ -2,7 +2,6 @@
 use Rattle.std.proofs.Common.{◌≡◌, ℕ, zero, suc, ◌+◌, ◌*◌, ◌<◌, ◌≤◌, ◌⊎◌, inl, inr, List, length, ap, sym, ◌∙◌, subst}
 use Rattle.std.proofs.Common.{arith}
 use Rattle.trips_isa.specs.declared.block.Block.{Block}
-use Rattle.trips_isa.specs.declared.causes.TrapCause.{TrapCause}
 use Rattle.trips_isa.specs.declared.run.Stepped.TheVariants as stepped
 use Rattle.trips_isa.specs.Limits.{most_nodes}
 use Rattle.commit_flush_spec.specs.Invariant.{AllGood}
@@ -16,7 +15,8 @@ use Rattle.grid_cycle_bound.proofs.Served.{left_some}
 use Rattle.grid_cycle_bound.proofs.Bounds.{after_served, at_a_commit}
 use Rattle.grid_served.specs.Lanes.{lane_in}
 use Rattle.grid_served.specs.Runs.{Stands, AfterStanding}
-use Rattle.grid_served.proofs.Together as together
+use Rattle.grid_served.specs.Shows.{Traps}
+use Rattle.grid_served.proofs.EagerFirst as eager
 
 -- blocks of at most `most_nodes` tasks
 total_most : (sizes : ℕ → ℕ) → ((k : ℕ) → sizes k ≤ most_nodes) → (n : ℕ) → total sizes n ≤ greatest_cost * n
@@ -29,10 +29,10 @@ module _ {W : Type 0} (blocks : List Block) (good : AllGood blocks) (budget : �
     (follows : W → W → Type 0) (bound : (w : W) → next w ≤ 3) (sizes : ℕ → ℕ) (g : Grid W) where
   served : (m h : Grid W) → Stands blocks budget sizes m → Eager next follows blocks budget m h
       → Stands blocks budget sizes h → Served sizes (lane_in m) (lane_in h)
-  served m h s c e = by (together.serve blocks good budget next follows bound m h s.ok s.went s.room s.parts s.none
+  served m h s c e = by (eager.serve blocks good budget next follows bound m h s.ok s.went s.room s.parts s.none
       (e.lane).units s.block s.is_next sizes s.is_size s.due c)
     where
-      by : ((k : TrapCause) × (h.window.over ≡ stepped.Trap k)) ⊎ Served sizes (lane_in m) (lane_in h)
+      by : Traps h ⊎ Served sizes (lane_in m) (lane_in h)
           → Served sizes (lane_in m) (lane_in h)
       by (inl z) = absurd (let bad : stepped.Trap z.0 ≡ stepped.Went = sym z.1 ∙ e.went in cc)
       by (inr s) = s

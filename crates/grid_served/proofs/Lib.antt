@@ -35,3 +35,6 @@ pub mod Rest
 pub mod Together
 pub mod Bounded
 pub mod FarUnits
+pub mod EagerFirst
+pub mod Held
+pub mod HeldRuns

@@ -1,13 +1,13 @@
--- From part (3) on: what is left of a cycle serves the oldest frame, or waits for the fetch of the next block.
+-- From part (3) on, where the grid comes first at each station: what is left of a cycle serves the oldest frame, or waits
+-- for the fetch of the next block.
 use Rattle.std.proofs.Common.{◌≡◌, ℕ, ◌-◌, ◌<◌, ◌≤◌, ◌==◌, ◌&&◌, ◌⊎◌, inl, inr, Bool, true, false}
-use Rattle.std.proofs.Common.{cond, nat_lt, List, [], ◌∷◌, length, Option, Some, None, refl, sym, ap, ap₂, ◌∙◌}
+use Rattle.std.proofs.Common.{cond, nat_lt, List, [], ◌∷◌, Option, Some, None, refl, sym, ap, ap₂, ◌∙◌}
 use Rattle.std.proofs.Common.{subst, arith}
 use Rattle.std.proofs.lemmas.Bool.{cond-true, cond-false, cases_lt, lt-ltb, le-ltb, eqb-true, and_parts}
 use Rattle.trips_isa.specs.declared.block.Block.{Block}
 use Rattle.trips_isa.specs.declared.run.Stepped.TheVariants as stepped
 use Rattle.trips_isa.specs.Machine.{State}
 use Rattle.trips_isa.specs.Rule.{Answer}
-use Rattle.operand_net.specs.Tick.{Ticked}
 use Rattle.commit_flush_spec.specs.Frames.{Frame}
 use Rattle.commit_flush_spec.specs.Older.{Older, committed}
 use Rattle.commit_flush_spec.specs.Invariant.{AllGood, FrameOk}
@@ -18,7 +18,6 @@ use Rattle.grid_cycle_spec.specs.Banks.{reads_answered}
 use Rattle.grid_cycle_spec.specs.DataTiles.{answers}
 use Rattle.grid_cycle_spec.specs.Units.{works_on}
 use Rattle.grid_cycle_spec.specs.Arrivals.{arrivals}
-use Rattle.grid_cycle_spec.specs.Cycles.{Moves}
 use Rattle.grid_cycle_bound.specs.Course.{Course}
 use Rattle.grid_cycle_bound.specs.Lane.{Front, Stage, Running}
 use Rattle.grid_cycle_bound.specs.Lane as lane
@@ -33,11 +32,12 @@ use Rattle.grid_cycle_bound.specs.Seen.{front_of, fetch_of, stage_of}
 use Rattle.grid_served.specs.Shows.{Shows}
 use Rattle.grid_served.specs.Parts.{RowMoves, Working}
 use Rattle.grid_served.specs.CycleRule.{CycleRule}
+use Rattle.grid_served.specs.ServedFirst.{RestFirst}
 use Rattle.grid_served.specs.Lanes.{course_in}
 use Rattle.grid_served.proofs.Steady.{Onward, steady}
 use Rattle.grid_served.proofs.Walk.{banks_keep, answers_keep, works_keep, arrivals_keep}
 use Rattle.grid_served.proofs.Ended.{oldest_ok}
-use Rattle.grid_served.proofs.Ticks.{oldest_ticks}
+use Rattle.grid_served.specs.MoveRule.{MoveRule}
 use Rattle.grid_served.proofs.Told.{told, told_table, told_same, told_solves, told_good}
 use Rattle.grid_served.proofs.Banking as banking
 use Rattle.grid_served.proofs.Answered.{StageAt, Held, Emptied}
@@ -64,12 +64,10 @@ stage_held g f fs i = ap (λ l. stage_of (course_in (committed g.window.state) l
 pub stage_empty : {W : Type 0} (g : Grid W) → g.window.frames ≡ [] → stage_in g ≡ fetch_of g g.fetching
 stage_empty g i = ap (λ l. stage_of (course_in (committed g.window.state) l) g l) i
 
-module _ {W : Type 0} (blocks : List Block) (good : AllGood blocks) (budget : ℕ) (next : W → ℕ)
-    (follows : W → W → Type 0) (bound : (w : W) → next w ≤ 3) (g h : Grid W) (ok : WindowOk blocks budget g.window)
+module _ {W : Type 0} (blocks : List Block) (good : AllGood blocks) (budget : ℕ) (g h : Grid W) (ok : WindowOk blocks budget g.window)
     (went : g.window.over ≡ stepped.Went) (rule : CycleRule blocks budget g)
     (beyond : (t : ℕ) → 16 ≤ t → g.units t ≡ 0)
-    (cycle : Moves next follows blocks budget
-    (works_on blocks budget (answers blocks budget (reads_answered blocks budget g))) h) where
+    (cycle : RestFirst blocks budget g h) where
   abbrev B : Grid W
   B = reads_answered blocks budget g
 
@@ -80,7 +78,7 @@ module _ {W : Type 0} (blocks : List Block) (good : AllGood blocks) (budget : �
   D = works_on blocks budget C
 
   abbrev N : Grid W
-  N = record D { parcels = cycle.parcels; weather = cycle.weather }
+  N = record D { units = cycle.units; parcels = cycle.parcels; weather = cycle.weather }
 
   to_b : Onward blocks budget g.window B.window
   to_b = banks_keep blocks budget (λ (g h : Grid W). Onward blocks budget g.window h.window)
@@ -128,8 +126,14 @@ module _ {W : Type 0} (blocks : List Block) (good : AllGood blocks) (budget : �
   units_c : C.units ≡ g.units
   units_c = answers_kept blocks budget B ∙ banks_kept blocks budget g
 
-  units_h : h.units ≡ D.units
+  units_h : h.units ≡ cycle.units
   units_h = ap (λ (k : Grid W). k.units) cycle.arrived ∙ arrivals_kept blocks budget (numbers_of D.window.frames) N
+
+  -- no unit is busy for longer than an operation takes
+  pub units_few : (t : ℕ) → h.units t ≤ 24
+  units_few t =
+      let e : h.units t ≡ cycle.units t = ap (λ (u : ℕ → ℕ). u t) units_h in
+      let l : cycle.units t ≤ 24 = cycle.held t in omega (arith, e, l)
 
   -- what the lane makes of a stage from part (3) on
   pub record Rest (s : Stage) : Type 0 where
@@ -175,8 +179,10 @@ module _ {W : Type 0} (blocks : List Block) (good : AllGood blocks) (budget : �
         where
           by : (t < 16) ⊎ (16 ≤ t) → h.units t ≡ less_one g.units t
           by (inr m) = absurd (let z = beyond t m in omega (arith, l, z))
-          by (inl m) = ap (λ u. u t) units_h ∙ ap (λ (k : Grid W). k.units t) only
-              ∙ cond-true (nat_lt t 16) _ _ (lt-ltb t 16 m) ∙ ap (λ u. u t - 1) units_c
+          by (inl m) =
+              let e : D.units t ≡ less_one g.units t = ap (λ (k : Grid W). k.units t) only
+              ∙ cond-true (nat_lt t 16) _ _ (lt-ltb t 16 m) ∙ ap (λ (u : ℕ → ℕ). u t - 1) units_c in
+              ap (λ (u : ℕ → ℕ). u t) units_h ∙ cycle.own t (subst (λ j. 1 ≤ j) (sym e) l) ∙ e
 
   pub waits : g.window.frames ≡ [] → Rest (fetch_of g g.fetching)
   waits i = by g.fetching refl
@@ -224,16 +230,21 @@ module _ {W : Type 0} (blocks : List Block) (good : AllGood blocks) (budget : �
     y = works.shows.frame
 
     rows : RowMoves (D.parcels y.number) (cycle.parcels y.number)
-    rows = oldest_ticks next follows bound y.number (length works.shows.younger) (numbers_of works.shows.younger)
-        D.parcels cycle.parcels D.weather cycle.weather
-        (subst (λ l. Ticked next follows (numbers_of l) D.parcels cycle.parcels D.weather cycle.weather (length l))
-        works.shows.frames cycle.ticked)
+    rows = cycle.rows y works.shows.younger works.shows.frames
+
+    -- the grid with the units that others have taken
+    abbrev V : Grid W
+    V = record D { units = cycle.units }
+
+    move_rule : MoveRule V y
+    move_rule =
+        let r : MoveRule D y = rule.moves y works.shows.younger works.shows.frames works.shows.runs in
+        record { rows = r.rows; slots = r.slots; reads = r.reads; asks = r.asks; numbered = r.numbered }
 
     lands : Shows c y (arrivals blocks budget (numbers_of D.window.frames) N) (move_front rows.hold (front_of c D y))
     lands = subst (λ (b : Block). Shows (course_of b t) y (arrivals blocks budget (numbers_of D.window.frames) N)
         (move_front rows.hold (front_of (course_of b t) D y))) works.shows.code
-        (moved.arrivals_serve blocks good budget t y D (rule.moves y works.shows.younger works.shows.frames
-        works.shows.runs) rows.hold works.shows.younger works.shows.frames ok_d went_d works.shows.runs cycle.parcels
+        (moved.arrivals_serve blocks good budget t y V move_rule rows.hold works.shows.younger works.shows.frames ok_d went_d works.shows.runs cycle.parcels
         cycle.weather rows.moves)
 
     abbrev z : Frame
@@ -263,9 +274,11 @@ module _ {W : Type 0} (blocks : List Block) (good : AllGood blocks) (budget : �
     own_h n k = by (cases_lt n 16)
       where
         near : n < 16 → h.units n ≡ own_units g.units (Running F) n
-        near m = ap (λ (u : ℕ → ℕ). u n) units_h
-            ∙ subst (λ (u : ℕ → ℕ). 1 ≤ units_after (less_one u) (finish_front (less_one u) F) n
-            → D.units n ≡ units_after (less_one u) (finish_front (less_one u) F) n) units_c (works.own n m) k
+        near m =
+            let e : D.units n ≡ own_units g.units (Running F) n =
+            subst (λ (u : ℕ → ℕ). 1 ≤ units_after (less_one u) (finish_front (less_one u) F) n
+            → D.units n ≡ units_after (less_one u) (finish_front (less_one u) F) n) units_c (works.own n m) k in
+            ap (λ (u : ℕ → ℕ). u n) units_h ∙ cycle.own n (subst (λ j. 1 ≤ j) (sym e) k) ∙ e
 
         far : 16 ≤ n → ⊥
         far m =

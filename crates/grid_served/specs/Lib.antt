@@ -7,3 +7,5 @@ pub mod Parts
 pub mod CycleRule
 pub mod Lanes
 pub mod Runs
+pub mod ServedFirst
+pub mod Held

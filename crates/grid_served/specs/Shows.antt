@@ -25,9 +25,13 @@ pub record Shows {W : Type 0} (c : Course) (f : Frame) (h : Grid W) (seen : Fron
   -- what the lane sees of it by this course
   pub front : front_of c h frame ≡ seen
 
+-- the run has trapped
+abbrev pub Traps : {W : Type 0} → Grid W → Type 0
+Traps m = (c : TrapCause) × (m.window.over ≡ Trap c)
+
 -- the block of the oldest frame has been committed, or the run has trapped
 abbrev pub Commits : {W : Type 0} → Grid W → Grid W → Type 0
-Commits g m = ((c : TrapCause) × (m.window.over ≡ Trap c))
+Commits g m = Traps m
     ⊎ (length m.window.state.trace ≡ suc (length g.window.state.trace))
 
 -- no parcel stands in the places of a read that is not answered

@@ -2,8 +2,7 @@
 ghost use Rattle.std.specs.Prelude.{◌≡◌, ◌-◌, ◌^◌, ◌<◌, ℕ, false, true, List, [], ◌∷◌, Some, length, slice_index};
 ghost use Rattle.std.specs.Prelude.{slice_get, suc, ◌≤◌, ◌⊎◌, ◌+◌, ◌*◌, cond, nat_lt};
 ghost use Rattle.trips_isa.specs.declared.block.Block.{Block};
-ghost use Rattle.trips_isa.specs.declared.causes.TrapCause.{TrapCause};
-ghost use Rattle.trips_isa.specs.declared.run.Stepped.TheVariants.{Went, Trap};
+ghost use Rattle.trips_isa.specs.declared.run.Stepped.TheVariants.{Went};
 ghost use Rattle.trips_isa.specs.Rule.{Answer};
 ghost use Rattle.trips_isa.specs.Limits.{most_nodes};
 ghost use Rattle.operand_net.specs.Places.{Places};
@@ -15,7 +14,7 @@ ghost use Rattle.commit_flush_spec.specs.Invariant.{AllGood};
 ghost use Rattle.commit_flush_spec.specs.Laws.{WindowOk};
 ghost use Rattle.grid_cycle_spec.specs.Grid.{Grid, numbers_of};
 ghost use Rattle.grid_cycle_spec.specs.Choosing.{each};
-ghost use Rattle.grid_cycle_spec.specs.Costs.{size, greatest_cost};
+ghost use Rattle.grid_cycle_spec.specs.Costs.{fetch_latency, greatest_cost, size};
 ghost use Rattle.grid_cycle_spec.specs.Cycles.{Eager};
 ghost use Rattle.grid_cycle_spec.specs.Ends.{ends};
 ghost use Rattle.grid_cycle_spec.specs.Fetches.{fetches};
@@ -25,12 +24,16 @@ ghost use Rattle.grid_cycle_spec.specs.Units.{unit_turn, works_on};
 ghost use Rattle.grid_cycle_spec.specs.Arrivals.{arrivals};
 ghost use Rattle.grid_cycle_bound.specs.Sending.{fetching, reads_front};
 ghost use Rattle.grid_cycle_bound.specs.Moving.{move_front};
+ghost use Rattle.grid_cycle_bound.specs.Lane.{Lane};
+ghost use Rattle.grid_cycle_bound.specs.Laws.{LaneRule};
 ghost use Rattle.grid_cycle_bound.specs.Serving.{Served};
 ghost use Rattle.grid_cycle_bound.specs.Left.{left, price, total};
 ghost use Rattle.grid_cycle_bound.specs.Blocks.{course_of};
 ghost use Rattle.grid_cycle_bound.specs.Seen.{fetch_of, front_of, stage_of};
 ghost use Rattle.grid_served.specs.Behind.{Behind};
-ghost use Rattle.grid_served.specs.Shows.{Commits, IsDue, QuietReads, Shows};
+ghost use Rattle.grid_served.specs.Shows.{Commits, IsDue, QuietReads, Shows, Traps};
+ghost use Rattle.grid_served.specs.ServedFirst.{ServedFirst};
+ghost use Rattle.grid_served.specs.Held.{AfterHeld, FallsHeld, ServedHeld, left_held};
 ghost use Rattle.grid_served.specs.DataRule.{DataRule};
 ghost use Rattle.grid_served.specs.UnitRule.{UnitRule};
 ghost use Rattle.grid_served.specs.MoveRule.{MoveRule};
@@ -153,7 +156,48 @@ pub fn eager_cycles_serve<W: Weather>()
         → slice_get blocks g.window.state.next ≡ Some b → size b ≡ sizes (length g.window.state.trace)
         → (g.window.frames ≡ [] → IsDue g g.fetching × (slice_index g.window.generations 0 < 2 ^ 64 - 1))
         → Eager W.next W.follows blocks budget g h
-        → ((c : TrapCause) × (h.window.over ≡ Trap c)) ⊎ Served sizes (lane_in g) (lane_in h) }
+        → Traps h ⊎ Served sizes (lane_in g) (lane_in h) }
+{}
+
+/// Served, of one grid's frames before all others: where the grid comes first at each station, whatever others do with
+/// the units and the fetch unit that it leaves, its oldest frame is served, or its next block waits for the fetch unit, or
+/// the run traps. Another has the fetch unit for `k` cycles beyond the next before the cycle, and for `j` behind it.
+pub fn first_frames_are_served<W: Weather>()
+    ensures { (blocks : List Block) (budget k j : ℕ) (g h : Grid W) (b : Block) (sizes : ℕ → ℕ) → AllGood blocks
+        → WindowOk blocks budget g.window → g.window.over ≡ Went → length g.window.state.trace < budget
+        → (first : ServedFirst blocks budget k j g h)
+        → ((e : (ends blocks budget g).window.over ≡ Went) → CycleRule blocks budget (first.acts e).fetched)
+        → ((t : ℕ) → 16 ≤ t → g.units t ≡ 0)
+        → slice_get blocks g.window.state.next ≡ Some b → size b ≡ sizes (length g.window.state.trace)
+        → (g.window.frames ≡ [] → IsDue g g.fetching × (slice_index g.window.generations 0 < 2 ^ 64 - 1))
+        → Traps h ⊎ ServedHeld sizes k j (lane_in g) (lane_in h) }
+{}
+
+/// A grid of its own comes first at each station, and no other has its fetch unit: an eager cycle is such a cycle.
+pub fn eager_cycles_come_first<W: Weather>()
+    ensures { (blocks : List Block) (budget : ℕ) (g h : Grid W) → ((w : W) → W.next w ≤ 3)
+        → ((t : ℕ) → h.units t ≤ 24) → Eager W.next W.follows blocks budget g h
+        → ServedFirst blocks budget 0 0 g h }
+{}
+
+/// Where another grid has the fetch unit for at most 8 cycles, the next included, what is left is from one cycle to the
+/// price of the block, and each cycle that serves the block, or in which it waits for the fetch unit, commits it, or keeps
+/// the rule and lowers what is left.
+pub fn held_cycles_fall()
+    ensures least { (sizes : ℕ → ℕ) (k : ℕ) (l : Lane) → 1 ≤ left_held sizes k l }
+    ensures most { (sizes : ℕ → ℕ) (k : ℕ) (l : Lane) → k < fetch_latency → LaneRule sizes l
+        → left_held sizes k l ≤ price (sizes l.done) }
+    ensures falls { (sizes : ℕ → ℕ) (k j : ℕ) (l m : Lane) → j < fetch_latency → LaneRule sizes l → ServedHeld sizes k j l m
+        → FallsHeld sizes k j l m }
+{}
+
+/// After n such cycles: with what is left they are within the prices of the blocks committed since, and of the next. A
+/// cycle that commits keeps them within those of the blocks committed, whatever comes behind it.
+pub fn held_cycles_are_bounded()
+    ensures moment { (sizes : ℕ → ℕ) (n k j : ℕ) (l m : Lane) → k < fetch_latency → LaneRule sizes l → AfterHeld sizes n k l j m
+        → n + left_held sizes j m + total sizes l.done ≤ total sizes m.done + price (sizes m.done) }
+    ensures commit { (sizes : ℕ → ℕ) (n k j : ℕ) (l m x : Lane) → k < fetch_latency → LaneRule sizes l
+        → AfterHeld sizes n k l j m → x.done ≡ suc m.done → suc n + total sizes l.done ≤ total sizes x.done }
 {}
 
 /// After n cycles each of which finds what it asks: with what is left they are within the prices of the blocks committed
