@@ -9,6 +9,7 @@ use Rattle.trips_isa.specs.declared.block.Sense.{Sense}
 use Rattle.trips_isa.specs.declared.block.Sense.TheVariants.{Always, OnTrue, OnFalse}
 use Rattle.trips_isa.specs.declared.op.Op.{Op}
 use Rattle.trips_isa.specs.declared.op.Op.TheVariants as op
+use Rattle.trips_isa.specs.declared.form.Form.{Form}
 use Rattle.trips_isa.specs.declared.form.Form.TheVariants as form
 use Rattle.trips_isa.specs.Forms.{form_of}
 use Rattle.block_cases.proofs.Alike.{and_true, or_true}
@@ -20,9 +21,10 @@ use Rattle.ir_forms.specs.declared.flow.FlowWrite.{FlowWrite}
 use Rattle.ir_forms.specs.declared.flow.FlowBlock.{FlowBlock}
 use Rattle.ir_forms.specs.FlowFits.{in_mask}
 use Rattle.null_outputs.specs.Covers.{Sure, Want, Places, Cover, sense_cover, guard_cover, left_open, right_open}
-use Rattle.null_outputs.specs.Covers.{one_if, cover_at, cover_of, list_top, pairs, list_nodes}
+use Rattle.null_outputs.specs.Covers.{null_store_of, one_if, cover_at, cover_of, top_of, list_top, pairs, list_nodes}
 use Rattle.null_outputs.specs.Groups.{guard_group, guard_part, guard_part_size, guard_is, is_used, left_part}
-use Rattle.null_outputs.specs.Groups.{left_size, right_part, right_size, region, sense_is, stores_of}
+use Rattle.null_outputs.specs.Groups.{left_size, right_part, right_size, region, sense_is, store_source, stores_of}
+use Rattle.null_outputs.specs.Groups.{number_open}
 use Rattle.null_outputs.specs.Completed.{places, cover, write_part, write_size, filled_all, number_part}
 use Rattle.null_outputs.specs.Completed.{number_size, numbers_part, numbers_at, all_numbers, trues, falses}
 use Rattle.null_outputs.specs.Completed.{lefts, rights}
@@ -37,7 +39,7 @@ use Rattle.predication_limits.specs.Prices.{price, write_price}
 use Rattle.predication_limits.proofs.Prices.{Different, Feeding, few_insts}
 use Rattle.predication_limits.proofs.Flat.{uses_append, AreUsed, used_append, used_grow, price_append}
 use Rattle.predication_limits.proofs.Blocks.{EachWrite}
-use Rattle.predication_limits.proofs.OneGuard.{AreBy, by_append, unguarded}
+use Rattle.predication_limits.proofs.OneGuard.{AreBy, by_append, unguarded, one_store, saves}
 
 -- SUMS
 
@@ -80,11 +82,6 @@ none_if true false xs e = refl
 none_if false true xs e = refl
 none_if false false xs e = refl
 
-none_first : {A : Type 0} (t v : Bool) (xs : List A) → t ≡ false → cond (t && v) xs [] ≡ []
-none_first true v xs e = absurd (cc)
-none_first false true xs e = refl
-none_first false false xs e = refl
-
 no_more : {A : Type 0} (xs ys : List A) → xs ≡ [] → ys ≡ [] → xs ++ ys ≡ []
 no_more xs ys x y = rw (x, y) refl
 
@@ -125,41 +122,63 @@ guard_few : (at : Places) (g : Option Guard) → length (guard_cover at g) ≤ 1
 guard_few at None = omega arith
 guard_few at (Some g) = sense_few at g.sense g.node
 
-if_few : (b : Bool) (p : ℕ) → length (one_if b p) ≤ 1
-if_few true p = omega arith
-if_few false p = omega arith
+shut_none : (b : Bool) (p : ℕ) → b ≡ false → length (one_if b p) ≡ 0
+shut_none true p e = absurd (cc)
+shut_none false p e = refl
 
-at_few : (sure : Sure) (at : Places) (y : ℕ) (o : Option FlowNode) → length (cover_at sure at y o) ≤ 3
-at_few sure at y None = omega arith
-at_few sure at y (Some n) =
+-- a node whose operands are surely there is absent where its guard is not met, and nowhere else
+at_few : (sure : Sure) (at : Places) (y : ℕ) (o : Option FlowNode)
+    → ((n : FlowNode) → o ≡ Some n → (left_open sure n ≡ false) × (right_open sure n ≡ false))
+    → length (cover_at sure at y o) ≤ 1
+at_few sure at y None h = omega arith
+at_few sure at y (Some n) h =
+    let open_is = h n refl in
     let a = guard_few at n.guard in
-    let b = if_few (left_open sure n) (at.left y) in
-    let c = if_few (right_open sure n) (at.right y) in
+    let b = shut_none (left_open sure n) (at.left y) open_is.0 in
+    let c = shut_none (right_open sure n) (at.right y) open_is.1 in
     let u = length-append (guard_cover at n.guard)
     (one_if (left_open sure n) (at.left y) ++ one_if (right_open sure n) (at.right y)) in
     let v = length-append (one_if (left_open sure n) (at.left y)) (one_if (right_open sure n) (at.right y)) in
     omega (arith, a, b, c, u, v)
 
-cover_few : (ns : List FlowNode) (sure : Sure) (at : Places) (s : FlowSource) → length (cover_of ns sure at s) ≤ 3
-cover_few ns sure at (Read r) = omega arith
-cover_few ns sure at (Node y) = at_few sure at y (slice_get ns y)
+cover_few : (ns : List FlowNode) (sure : Sure) (at : Places)
+    → ((y : ℕ) (n : FlowNode) → slice_get ns y ≡ Some n → (left_open sure n ≡ false) × (right_open sure n ≡ false))
+    → (s : FlowSource) → length (cover_of ns sure at s) ≤ 1
+cover_few ns sure at h (Read r) = omega arith
+cover_few ns sure at h (Node y) = at_few sure at y (slice_get ns y) (h y)
 
-group_price : (p : ℕ) (s : Bool) (y : ℕ) (ms : List FlowSource) → length ms ≤ 3 → price (guard_group p s y ms) ≤ 7
+group_price : (p : ℕ) (s : Bool) (y : ℕ) (ms : List FlowSource) → length ms ≤ 1 → price (guard_group p s y ms) ≤ 5
 group_price p s y [] l = omega arith
 group_price p s y (m ∷ ms) l = omega (arith, l)
 
--- the covers of at most two sources
-module _ (c : Cover) (few : (s : FlowSource) → length (c s) ≤ 3) where
-  list_price : (p : ℕ) (ss : List FlowSource) → length ss ≤ 2 → price (list_nodes c p ss) ≤ 7
-  list_price p [] l = omega arith
-  list_price p (s ∷ []) l = omega arith
-  list_price p (s ∷ t ∷ []) l = let a = few s in let b = few t in omega (arith, a, b)
-  list_price p (s ∷ t ∷ u ∷ ss) l = absurd (omega (arith, l))
+-- the covers of lists of sources
+module _ (c : Cover) (few : (s : FlowSource) → length (c s) ≤ 1) where
+  of_few : (p : ℕ) (s : FlowSource) (ss : List FlowSource) → length (top_of c p s ss) ≤ 1
+  of_few p s [] = few s
+  of_few p s (t ∷ ss) = omega arith
 
-  top_few : (p : ℕ) (ss : List FlowSource) → length (list_top c p ss) ≤ 3
+  top_few : (p : ℕ) (ss : List FlowSource) → length (list_top c p ss) ≤ 1
   top_few p [] = omega arith
-  top_few p (s ∷ []) = few s
-  top_few p (s ∷ t ∷ ss) = omega arith
+  top_few p (s ∷ ss) = of_few p s ss
+
+  pairs_price : (p : ℕ) (s : FlowSource) (ss : List FlowSource) → price (pairs c p s ss) ≤ 3 * length ss
+  pairs_price p s [] = omega arith
+  pairs_price p s (t ∷ ss) =
+      let h = pairs_price (suc p) t ss in
+      let a = few s in
+      let b = of_few (suc p) t ss in
+      omega (arith, h, a, b)
+
+  list_price : (p : ℕ) (ss : List FlowSource) → length ss ≤ 2 → price (list_nodes c p ss) ≤ 3
+  list_price p [] l = omega arith
+  list_price p (s ∷ ss) l = let h = pairs_price p s ss in omega (arith, h, l)
+
+  -- a null store, and the covers of at least one store
+  store_price : (p k : ℕ) (ss : List FlowSource) → 1 ≤ length ss
+      → price (null_store_of k (list_top c p ss) ∷ list_nodes c p ss) ≤ 3 * length ss
+  store_price p k [] l = absurd (omega (arith, l))
+  store_price p k (s ∷ ss) l =
+      let h = pairs_price p s ss in let t = of_few p s ss in omega (arith, h, t)
 
   -- no guard is among them
   pairs_by : (k p : ℕ) (s : FlowSource) (ss : List FlowSource) → AreBy k (pairs c p s ss)
@@ -197,6 +216,73 @@ used_by want c j (n ∷ ns) a s y e =
     go (inl d) f = guard_asks s y c n.guard a.0 ((and_true (want j) (guard_is s y n.guard) d).1)
     go (inr d) f = f d
 
+-- STORES
+
+-- how many stores of m numbers from i on there are, the first node being node j
+abbrev pub stored_in : ℕ → List FlowNode → ℕ → ℕ → ℕ
+stored_in j ns i zero = 0
+stored_in j ns i (suc m) = length (stores_of j ns i) + stored_in j ns (suc i) m
+
+-- how often one node is among them
+abbrev once_in : Form → FlowNode → ℕ → ℕ → ℕ → ℕ
+once_in e n j i zero = 0
+once_in e n j i (suc m) = length (store_source e n j i) + once_in e n j (suc i) m
+
+never_in : (n : FlowNode) (j i m : ℕ) → n.number < i → once_in form.Store n j i m ≡ 0
+never_in n j i zero l = refl
+never_in n j i (suc m) l = go (nat_eq n.number i) refl (never_in n j (suc i) m (omega (arith, l)))
+  where
+    go : (t : Bool) → nat_eq n.number i ≡ t → once_in form.Store n j (suc i) m ≡ 0
+        → length (one_if t j) + once_in form.Store n j (suc i) m ≡ 0
+    go true e h = let z : n.number ≡ i = grind (arith, nat_tests) in absurd (omega (arith, z, l))
+    go false e h = omega (arith, h)
+
+store_once : (n : FlowNode) (j i m : ℕ) → once_in form.Store n j i m ≤ 1
+store_once n j i zero = omega arith
+store_once n j i (suc m) = go (nat_eq n.number i) refl (store_once n j (suc i) m)
+  where
+    go : (t : Bool) → nat_eq n.number i ≡ t → once_in form.Store n j (suc i) m ≤ 1
+        → length (one_if t j) + once_in form.Store n j (suc i) m ≤ 1
+    go true e h =
+        let z : n.number ≡ i = grind (arith, nat_tests) in
+        let p = never_in n j (suc i) m (omega (arith, z)) in
+        omega (arith, p)
+    go false e h = omega (arith, h)
+
+not_in : (e : Form) (n : FlowNode) (j i m : ℕ) → ((k : ℕ) → length (store_source e n j k) ≡ 0)
+    → once_in e n j i m ≡ 0
+not_in e n j i zero h = refl
+not_in e n j i (suc m) h = let r = not_in e n j (suc i) m h in let a = h i in omega (arith, r, a)
+
+once_only : (e : Form) (n : FlowNode) (j i m : ℕ) → once_in e n j i m ≤ one_store e
+once_only form.Store n j i m = store_once n j i m
+once_only form.General n j i m = let h = not_in form.General n j i m (λ k. refl) in omega (arith, h)
+once_only form.Immediate n j i m = let h = not_in form.Immediate n j i m (λ k. refl) in omega (arith, h)
+once_only form.Load n j i m = let h = not_in form.Load n j i m (λ k. refl) in omega (arith, h)
+once_only form.Branch n j i m = let h = not_in form.Branch n j i m (λ k. refl) in omega (arith, h)
+once_only form.Constant n j i m = let h = not_in form.Constant n j i m (λ k. refl) in omega (arith, h)
+
+none_stored : (j i m : ℕ) → stored_in j [] i m ≡ 0
+none_stored j i zero = refl
+none_stored j i (suc m) = let h = none_stored j (suc i) m in omega (arith, h)
+
+stored_split : (n : FlowNode) (ns : List FlowNode) (j i m : ℕ)
+    → stored_in j (n ∷ ns) i m ≡ once_in (form_of n.op) n j i m + stored_in (suc j) ns i m
+stored_split n ns j i zero = refl
+stored_split n ns j i (suc m) =
+    let h = stored_split n ns j (suc i) m in
+    let e = length-append (store_source (form_of n.op) n j i) (stores_of (suc j) ns i) in
+    omega (arith, h, e)
+
+-- each store has one number
+stored_most : (ns : List FlowNode) (j i m : ℕ) → stored_in j ns i m ≤ saves ns
+stored_most [] j i m = let h = none_stored j i m in omega (arith, h)
+stored_most (n ∷ ns) j i m =
+    let h = stored_most ns (suc j) i m in
+    let s = stored_split n ns j i m in
+    let o = once_only (form_of n.op) n j i m in
+    omega (arith, h, s, o)
+
 -- WHAT IS ADDED
 
 -- a write of at most two sources
@@ -204,22 +290,23 @@ abbrev pub IsFew : FlowWrite → Type 0
 IsFew w = length w.sources ≤ 2
 
 module _ (sure : Sure) (want : Want) (b : FlowBlock) (c : ℕ) (guards : AreBy c b.nodes) (firm : AllFirm sure b)
-    (unmasked : (k : ℕ) → in_mask b.mask k ≡ false) (few : EachWrite IsFew b.writes) where
-  covers : (s : FlowSource) → length (cover sure want b s) ≤ 3
-  covers s = cover_few b.nodes sure (places sure want b) s
+    (stored : (k : ℕ) → k < 32 → in_mask b.mask k ≡ true → 1 ≤ length (stores_of 0 b.nodes k))
+    (few : EachWrite IsFew b.writes) where
+  covers : (s : FlowSource) → length (cover sure want b s) ≤ 1
+  covers s = cover_few b.nodes sure (places sure want b) firm s
 
   -- what the nulls of a node's guards of one sense cost
   abbrev weight : Bool → ℕ → FlowNode → ℕ
-  weight s y n = cond (is_used want 0 b.nodes s y) 7 0
+  weight s y n = cond (is_used want 0 b.nodes s y) 5 0
 
   guards_price : (s : Bool) (p : ℕ) → price (region (guard_part want b.nodes (cover sure want b) s)
-      (guard_part_size want b.nodes sure s) p 0 b.nodes) ≤ 7
+      (guard_part_size want b.nodes sure s) p 0 b.nodes) ≤ 5
   guards_price s p =
       let a = region_price (guard_part want b.nodes (cover sure want b) s) (guard_part_size want b.nodes sure s)
       (weight s)
-      (λ q y n. price_if (is_used want 0 b.nodes s y) (guard_group q s y (cover sure want b (Node y))) 7
+      (λ q y n. price_if (is_used want 0 b.nodes s y) (guard_group q s y (cover sure want b (Node y))) 5
       (group_price q s y (cover sure want b (Node y)) (covers (Node y)))) p 0 b.nodes in
-      let o : sum_of (weight s) 0 b.nodes ≤ 7 = once_most (λ y. is_used want 0 b.nodes s y) c 7 0 b.nodes
+      let o : sum_of (weight s) 0 b.nodes ≤ 5 = once_most (λ y. is_used want 0 b.nodes s y) c 5 0 b.nodes
       (λ y e. used_by want c 0 b.nodes guards s y e) in
       omega (arith, a, o)
 
@@ -247,11 +334,11 @@ module _ (sure : Sure) (want : Want) (b : FlowBlock) (c : ℕ) (guards : AreBy c
   -- writes
 
   writes_price : (p j : ℕ) (ws : List FlowWrite) → EachWrite IsFew ws
-      → price (region (write_part sure want b) (write_size sure want b) p j ws) ≤ 7 * length ws
+      → price (region (write_part sure want b) (write_size sure want b) p j ws) ≤ 3 * length ws
   writes_price p j [] a = omega arith
   writes_price p j (w ∷ ws) a =
-      let x : price (write_part sure want b p j w) ≤ 7 =
-      if_not (sure None w.sources) (list_nodes (cover sure want b) p w.sources) 7
+      let x : price (write_part sure want b p j w) ≤ 3 =
+      if_not (sure None w.sources) (list_nodes (cover sure want b) p w.sources) 3
       (list_price (cover sure want b) covers p w.sources a.0) in
       let r = writes_price (p + write_size sure want b j w) (suc j) ws a.1 in
       let e = price_append (write_part sure want b p j w) (region (write_part sure want b) (write_size sure want b)
@@ -269,7 +356,7 @@ module _ (sure : Sure) (want : Want) (b : FlowBlock) (c : ℕ) (guards : AreBy c
       go p w false = list_by (cover sure want b) covers c p w.sources
 
   filled_price : (p j : ℕ) (ws : List FlowWrite) → EachWrite IsFew ws
-      → write_price (filled_all sure want b p j ws) ≤ 5 * length ws
+      → write_price (filled_all sure want b p j ws) ≤ 3 * length ws
   filled_price p j [] a = omega arith
   filled_price p j (w ∷ ws) a =
       let r = filled_price (p + write_size sure want b j w) (suc j) ws a.1 in
@@ -279,7 +366,7 @@ module _ (sure : Sure) (want : Want) (b : FlowBlock) (c : ℕ) (guards : AreBy c
       (cond (sure None w.sources) [] (list_top (cover sure want b) p w.sources)) in
       omega (arith, r, x, t, e)
     where
-      top : (t : Bool) → length (cond t [] (list_top (cover sure want b) p w.sources)) ≤ 3
+      top : (t : Bool) → length (cond t [] (list_top (cover sure want b) p w.sources)) ≤ 1
       top true = omega arith
       top false = top_few (cover sure want b) covers p w.sources
 
@@ -290,16 +377,53 @@ module _ (sure : Sure) (want : Want) (b : FlowBlock) (c : ℕ) (guards : AreBy c
 
   -- numbers
 
-  numbers_none : (m p k : ℕ) → numbers_part sure want b p k m ≡ []
-  numbers_none zero p k = refl
-  numbers_none (suc m) p k =
-      no_more (number_part sure want b p k) (numbers_part sure want b (p + number_size sure want b k) (suc k) m)
-      (none_first (in_mask b.mask k) (not (sure None (stores_of 0 b.nodes k))) _ (unmasked k))
-      (numbers_none m (p + number_size sure want b k) (suc k))
+  -- what the null stores of numbers cost: at most three for each store
+  number_price : (p k : ℕ) → k < 32 → price (number_part sure want b p k) ≤ 3 * length (stores_of 0 b.nodes k)
+  number_price p k l = go (in_mask b.mask k) refl (not (sure None (stores_of 0 b.nodes k)))
+    where
+      go : (m : Bool) → in_mask b.mask k ≡ m → (v : Bool)
+          → price (cond (m && v) (null_store_of k (list_top (cover sure want b) (suc p) (stores_of 0 b.nodes k))
+          ∷ list_nodes (cover sure want b) (suc p) (stores_of 0 b.nodes k)) []) ≤ 3 * length (stores_of 0 b.nodes k)
+      go true e true = store_price (cover sure want b) covers (suc p) k (stores_of 0 b.nodes k) (stored k l e)
+      go true e false = omega arith
+      go false e true = omega arith
+      go false e false = omega arith
 
-  all_none : all_numbers sure want b ≡ []
+  numbers_price : (m p k : ℕ) → k + m ≤ 32 → price (numbers_part sure want b p k m) ≤ 3 * stored_in 0 b.nodes k m
+  numbers_price zero p k l = omega arith
+  numbers_price (suc m) p k l =
+      let h = number_price p k (omega (arith, l)) in
+      let r = numbers_price m (p + number_size sure want b k) (suc k) (omega (arith, l)) in
+      let e = price_append (number_part sure want b p k)
+      (numbers_part sure want b (p + number_size sure want b k) (suc k) m) in
+      omega (arith, h, r, e)
+
+  numbers_most : (m p k : ℕ) → k + m ≤ 32 → price (numbers_part sure want b p k m) ≤ 3 * saves b.nodes
+  numbers_most m p k l =
+      let h = numbers_price m p k l in let s = stored_most b.nodes 0 k m in omega (arith, h, s)
+
+  number_by : (p k : ℕ) → AreBy c (number_part sure want b p k)
+  number_by p k = go (number_open sure b k)
+    where
+      go : (t : Bool) → AreBy c (cond t (null_store_of k (list_top (cover sure want b) (suc p) (stores_of 0 b.nodes k))
+          ∷ list_nodes (cover sure want b) (suc p) (stores_of 0 b.nodes k)) [])
+      go true = (unguarded c, list_by (cover sure want b) covers c (suc p) (stores_of 0 b.nodes k))
+      go false = tt
+
+  numbers_by : (m p k : ℕ) → AreBy c (numbers_part sure want b p k m)
+  numbers_by zero p k = tt
+  numbers_by (suc m) p k =
+      by_append c (number_part sure want b p k)
+      (numbers_part sure want b (p + number_size sure want b k) (suc k) m) (number_by p k)
+      (numbers_by m (p + number_size sure want b k) (suc k))
+
+  all_price : price (all_numbers sure want b) ≤ 3 * saves b.nodes
   unfolding all_numbers
-  all_none = numbers_none 32 (numbers_at sure want b) 0
+  all_price = numbers_most 32 (numbers_at sure want b) 0 (omega arith)
+
+  all_by : AreBy c (all_numbers sure want b)
+  unfolding all_numbers
+  all_by = numbers_by 32 (numbers_at sure want b) 0
 
   -- all of it
 
@@ -309,14 +433,14 @@ module _ (sure : Sure) (want : Want) (b : FlowBlock) (c : ℕ) (guards : AreBy c
   no_by : (ns : List FlowNode) → ns ≡ [] → AreBy c ns
   no_by ns e = subst (AreBy c) (sym e) tt
 
-  added_price : price (added sure want b) ≤ 14 + 7 * length b.writes
+  added_price : price (added sure want b) ≤ 10 + 3 * length b.writes + 3 * saves b.nodes
   added_price =
       let one = guards_price true (trues sure want b) in
       let two = guards_price false (falses sure want b) in
       let three = no_price (lefts_region sure want b) lefts_none in
       let four = no_price (rights_region sure want b) rights_none in
       let five = writes_price (writes_at sure want b) 0 b.writes few in
-      let six = no_price (all_numbers sure want b) all_none in
+      let six = all_price in
       let a = price_append (trues_region sure want b) (falses_region sure want b ++ (lefts_region sure want b
       ++ (rights_region sure want b ++ (writes_region sure want b ++ all_numbers sure want b)))) in
       let d = price_append (falses_region sure want b) (lefts_region sure want b
@@ -325,12 +449,12 @@ module _ (sure : Sure) (want : Want) (b : FlowBlock) (c : ℕ) (guards : AreBy c
       ++ (writes_region sure want b ++ all_numbers sure want b)) in
       let f = price_append (rights_region sure want b) (writes_region sure want b ++ all_numbers sure want b) in
       let g = price_append (writes_region sure want b) (all_numbers sure want b) in
-      total _ _ _ _ _ _ _ _ _ _ _ _ one two three four five six a d e f g
+      total _ _ _ _ _ _ _ _ _ _ _ _ _ one two three four five six a d e f g
     where
-      total : (w one two three four five six s1 s2 s3 s4 s5 : ℕ) → one ≤ 7 → two ≤ 7 → three ≡ 0 → four ≡ 0
-          → five ≤ 7 * w → six ≡ 0 → s1 ≡ one + s2 → s2 ≡ two + s3 → s3 ≡ three + s4 → s4 ≡ four + s5
-          → s5 ≡ five + six → s1 ≤ 14 + 7 * w
-      total w one two three four five six s1 s2 s3 s4 s5 a b c d e f g h i j k =
+      total : (w v one two three four five six s1 s2 s3 s4 s5 : ℕ) → one ≤ 5 → two ≤ 5 → three ≡ 0 → four ≡ 0
+          → five ≤ 3 * w → six ≤ 3 * v → s1 ≡ one + s2 → s2 ≡ two + s3 → s3 ≡ three + s4 → s4 ≡ four + s5
+          → s5 ≡ five + six → s1 ≤ 10 + 3 * w + 3 * v
+      total w v one two three four five six s1 s2 s3 s4 s5 a b c d e f g h i j k =
           omega (arith, a, b, c, d, e, f, g, h, i, j, k)
 
   added_by : AreBy c (added sure want b)
@@ -340,7 +464,7 @@ module _ (sure : Sure) (want : Want) (b : FlowBlock) (c : ℕ) (guards : AreBy c
       (by_append c (lefts_region sure want b) _ (no_by (lefts_region sure want b) lefts_none)
       (by_append c (rights_region sure want b) _ (no_by (rights_region sure want b) rights_none)
       (by_append c (writes_region sure want b) _ (writes_by (writes_at sure want b) 0 b.writes)
-      (no_by (all_numbers sure want b) all_none)))))
+      all_by))))
 
   -- node c gives each guard of the completed block, too
   pub completed_by : AreBy c (completed sure want b).nodes
@@ -371,7 +495,7 @@ module _ (sure : Sure) (want : Want) (b : FlowBlock) (c : ℕ) (guards : AreBy c
 
   -- where each constant of the block is used, this bounds the instructions
   pub completed_insts : Different b.reads → AreUsed b.nodes 0 b.nodes
-      → count_insts (completed sure want b) ≤ price b.nodes + (14 + 12 * length b.writes)
+      → count_insts (completed sure want b) ≤ price b.nodes + 3 * saves b.nodes + (10 + 6 * length b.writes)
   completed_insts d used =
       let f = completed sure want b in
       let all = b.nodes ++ added sure want b in

@@ -21,14 +21,14 @@ use Rattle.predication_limits.proofs.Pieces.{AreBits, note_bits, set_is, Names, 
 pub not_constant : (e : Form) → e ≡ form.General → e ≡ form.Constant → ⊥
 not_constant e a b = absurd (cc)
 
-load_not_constant : (e : Form) → e ≡ form.Load → e ≡ form.Constant → ⊥
+pub load_not_constant : (e : Form) → e ≡ form.Load → e ≡ form.Constant → ⊥
 load_not_constant e a b = absurd (cc)
 
-store_not_constant : (e : Form) → e ≡ form.Store → e ≡ form.Constant → ⊥
+pub store_not_constant : (e : Form) → e ≡ form.Store → e ≡ form.Constant → ⊥
 store_not_constant e a b = absurd (cc)
 
 -- a load has one operand
-load_one : (e : Form) (o : Op) → e ≡ form.Load → takes_right (role_in e o) ≡ true → false ≡ true
+pub load_one : (e : Form) (o : Op) → e ≡ form.Load → takes_right (role_in e o) ≡ true → false ≡ true
 load_one form.Load o a b = b
 load_one form.General o a b = absurd (cc)
 load_one form.Immediate o a b = absurd (cc)
@@ -37,7 +37,7 @@ load_one form.Branch o a b = absurd (cc)
 load_one form.Constant o a b = absurd (cc)
 
 -- a member of a list is its head or one of the rest
-in_list : {Q : Type 0} → (q r : ℕ) (rs : List ℕ) → member q (r ∷ rs) ≡ true → (nat_eq q r ≡ true → Q)
+pub in_list : {Q : Type 0} → (q r : ℕ) (rs : List ℕ) → member q (r ∷ rs) ≡ true → (nat_eq q r ≡ true → Q)
     → (member q rs ≡ true → Q) → Q
 in_list {Q} q r rs e f g = go (nat_eq q r) refl e
   where
@@ -51,7 +51,7 @@ NamesIn P Done = Unit {0}
 NamesIn P (Set r op a b rest) = Names P a × Names P b × NamesIn P rest
 NamesIn P (Load r op a rest) = Names P a × NamesIn P rest
 NamesIn P (Save op a v rest) = Names P a × Names P v × NamesIn P rest
-NamesIn P (If t one other rest) = Unit {0}
+NamesIn P (If t one other rest) = Names P t × NamesIn P one × NamesIn P other × NamesIn P rest
 
 module _ (T P : ℕ → Type 0) where
   -- what items without ifs come to, from node j and number m on

@@ -27,7 +27,8 @@ items_registers Done = []
 items_registers (Set r op a b rest) = registers a ++ (registers b ++ items_registers rest)
 items_registers (Load r op a rest) = registers a ++ items_registers rest
 items_registers (Save op a v rest) = registers a ++ (registers v ++ items_registers rest)
-items_registers (If t one other rest) = []
+items_registers (If t one other rest) =
+    registers t ++ (items_registers one ++ (items_registers other ++ items_registers rest))
 
 abbrev pub exit_registers : Exit → List ℕ
 exit_registers (exit.Jump l) = []
@@ -43,7 +44,7 @@ pub one_register : (a : Source) → length (registers a) ≤ 1
 one_register (Const w) = omega arith
 one_register (Reg r) = omega arith
 
-pub few_registers : (is : Items) → length (items_registers is) ≤ 2 * items_in is
+pub few_registers : (is : Items) → length (items_registers is) ≤ 2 * items_in is + ifs_in is
 few_registers Done = omega arith
 few_registers (Set r op a b rest) =
     let x = one_register a in
@@ -64,7 +65,15 @@ few_registers (Save op a c rest) =
     let u = length-append (registers a) (registers c ++ items_registers rest) in
     let v = length-append (registers c) (items_registers rest) in
     omega (arith, x, y, h, u, v)
-few_registers (If t one other rest) = omega arith
+few_registers (If t one other rest) =
+    let x = one_register t in
+    let h = few_registers one in
+    let i = few_registers other in
+    let j = few_registers rest in
+    let u = length-append (registers t) (items_registers one ++ (items_registers other ++ items_registers rest)) in
+    let v = length-append (items_registers one) (items_registers other ++ items_registers rest) in
+    let w = length-append (items_registers other) (items_registers rest) in
+    omega (arith, x, h, i, j, u, v, w)
 
 pub end_few : (t : Tail) → length (end_registers t) ≤ 1
 end_few (Leave (exit.Jump l)) = omega arith
@@ -98,7 +107,18 @@ module _ (P : ℕ → Type 0) where
     names_in rest (λ q m. f q (member_back q (registers a) (registers c ++ items_registers rest)
         (member_back q (registers c) (items_registers rest) m))),
   )
-  names_in (If t one other rest) f = tt
+  names_in (If t one other rest) f =
+      let legs = items_registers one ++ (items_registers other ++ items_registers rest) in
+      let g : (q : ℕ) → member q legs ≡ true → P q = λ q m. f q (member_back q (registers t) legs m) in
+      let h : (q : ℕ) → member q (items_registers other ++ items_registers rest) ≡ true → P q =
+      λ q m. g q (member_back q (items_registers one) (items_registers other ++ items_registers rest) m) in
+      (
+        names_of t (λ q m. f q (member_front q (registers t) legs m)),
+        names_in one (λ q m. g q
+            (member_front q (items_registers one) (items_registers other ++ items_registers rest) m)),
+        names_in other (λ q m. h q (member_front q (items_registers other) (items_registers rest) m)),
+        names_in rest (λ q m. h q (member_back q (items_registers other) (items_registers rest) m)),
+      )
 
   pub exit_named : (e : Exit) → ((q : ℕ) → member q (exit_registers e) ≡ true → P q) → NamesExit P e
   exit_named (exit.Jump l) f = tt
@@ -176,7 +196,7 @@ simple_cheap f b fits s =
         ends = end_named (λ q. member q qs ≡ true) t
             (λ q m. member_back q (items_registers b.items) (end_registers t) m);
       };
-      reads = omega (arith, u, v, w, i);
+      reads = (let p = s.plain in omega (arith, u, v, w, i, p));
       written = rs;
       covers = λ r m. m;
       writes = omega (arith, y, z, e, i);

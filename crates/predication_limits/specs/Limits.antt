@@ -7,7 +7,7 @@ use Rattle.block_cases.specs.Cases.{cases}
 use Rattle.ir_forms.specs.FlatCode.{Program}
 use Rattle.ir_forms.specs.FlatFits.{FitsProgram}
 use Rattle.ir_forms.specs.HyperCode.{Block}
-use Rattle.ir_forms.specs.HyperFits.{FitsHyper, exits_in}
+use Rattle.ir_forms.specs.HyperFits.{FitsHyper, IsSmall, exits_in}
 use Rattle.hyper_build.specs.Laws.{built_program, plan_of, AreAssigned}
 use Rattle.hyper_build.specs.SmallIfs.{HoldsSmallIf}
 use Rattle.hyper_build.specs.Smallness.{IsSimple, IsGroupBlock, IsLittle}
@@ -49,6 +49,10 @@ LittleBlocksFit = (b : Block) → FitsHyper b → IsLittle b → FitsMachine b
 abbrev pub PlainBlocksStay : Type 0
 PlainBlocksStay = (b : Block) → FitsHyper b → IsSimple b ⊎ IsGroupBlock b
     → complete (predicated (labelled b)) ≡ predicated (labelled b)
+
+-- So is every small block: one of at most three items that do something, one test and two exits, wherever these stand.
+abbrev pub SmallBlocksFit : Type 0
+SmallBlocksFit = (b : Block) → IsSmall b → FitsHyper b → FitsMachine b
 
 -- so is a block of one small if alone
 abbrev pub SmallIfsFit : Type 0

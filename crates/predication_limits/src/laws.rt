@@ -1,6 +1,6 @@
 ghost use Rattle.predication_limits.specs.Choosers.{CasesAreFew};
 ghost use Rattle.predication_limits.specs.Limits.{CutProgramsFit, LittleBlocksFit, OnlyMemoryRefuses};
-ghost use Rattle.predication_limits.specs.Limits.{PlainBlocksStay, SmallIfsFit};
+ghost use Rattle.predication_limits.specs.Limits.{PlainBlocksStay, SmallBlocksFit, SmallIfsFit};
 
 /// A block has no more cases than there are choices of a bit for each of its choosers.
 pub fn cases_are_few()
@@ -12,6 +12,12 @@ pub fn cases_are_few()
 pub fn little_blocks_fit()
     ensures fit { LittleBlocksFit }
     ensures stay { PlainBlocksStay }
+{}
+
+/// So is every small block: one of at most three items that do something, one test and two exits, whatever stands in
+/// its legs, around its if-item and behind its test.
+pub fn small_blocks_fit()
+    ensures { SmallBlocksFit }
 {}
 
 /// A block of one small if, with any exit behind it, is within every limit, too.

@@ -1,4 +1,5 @@
-use Rattle.predication_limits.proofs.Machine.{fits_machine, plain_stays}
+use Rattle.predication_limits.proofs.Machine.{fits_machine}
+use Rattle.predication_limits.proofs.PlainFit.{plain_stays}
 use Rattle.predication_limits.proofs.laws.little_blocks_fit.Goals as goal
 
 pub returns-clause-fit : goal.returns-clause-fit

@@ -1,4 +1,4 @@
-use Rattle.predication_limits.proofs.IfBlocksFit.{small_ifs}
+use Rattle.predication_limits.proofs.SmallFit.{small_ifs}
 use Rattle.predication_limits.proofs.laws.small_ifs_fit.Goals as goal
 
 pub returns : goal.returns
