@@ -45,9 +45,9 @@ const ROWS: &[Row] = &[
     },
     Row {
         name: "a global array",
-        text: texts::PRIMES,
+        text: texts::FILTER,
         output: b"",
-        stop: Stop::Ended(440),
+        stop: Stop::Ended(1790),
     },
     Row {
         name: "recursion",

@@ -41,14 +41,15 @@ int main(void) {
 }
 ";
 
-pub const PRIMES: &str = "#include <stdio.h>
-char marked[60]; long sum;
+pub const FILTER: &str = "#include <stdio.h>
+char signal[60]; long sum;
 int main(void) {
   int i; int j;
-  for (i = 2; i < 60; i++) {
-    if (marked[i]) continue;
-    sum = sum + i;
-    for (j = i * i; j < 60; j = j + i) marked[j] = 1;
+  for (i = 0; i < 60; i++) signal[i] = i * 7 % 31;
+  for (i = 2; i < 58; i++) {
+    if (signal[i] < 16) continue;
+    sum = sum + signal[i];
+    for (j = i - 2; j <= i + 2; j = j + 2) sum = sum + signal[j];
   }
   return (int) sum;
 }

@@ -1,3 +1,4 @@
 pub mod Texts
 pub mod Read
 pub mod Table
+pub mod Numbers

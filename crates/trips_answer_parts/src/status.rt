@@ -1,3 +1,11 @@
+//! The statuses, and the number of each.
+
+ghost use Rattle.std.specs.Prelude.{◌≡◌};
+ghost use Rattle.std.specs.Process.{exit_status};
+ghost use Rattle.trips_answer_parts.specs.Numbers.{number_of};
+
+use std::process::ExitCode;
+
 /// How the program ended, by its exit status.
 #[derive(Clone, Copy, Debug, PartialEq, Eq)]
 pub enum Status {
@@ -11,4 +19,11 @@ pub enum Status {
     Memory = 8,
     Trap = 9,
     Undefined = 10,
+}
+
+/// What `main` ends with: the status as its number.
+pub fn exit_code(status: Status) -> ExitCode
+    ensures { exit_status result ≡ number_of status }
+{
+    ExitCode::from(status as u8)
 }

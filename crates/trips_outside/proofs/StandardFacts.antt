@@ -2,8 +2,8 @@
 use Rattle.std.proofs.Common.{◌≡◌, ◌^◌, ◌-◌, [], ◌∷◌, Some, None, refl, codes, true, false, arith}
 use Rattle.std.proofs.Common.{lit≤}
 use Rattle.trips_outside.specs.Outside.{next_count, Rose, Appended}
-use Rattle.trips_outside.specs.MemoryFiles.{held_among, held_by, count_given, after_read}
-use Rattle.trips_outside.specs.MemoryFiles.{ListedFiles}
+use Rattle.trips_outside.specs.MemoryFiles.{held_among, held_by, is_closed, after_open, count_given}
+use Rattle.trips_outside.specs.MemoryFiles.{after_read, ListedFiles}
 use Rattle.trips_outside.specs.MemorySinks.{count_taken, after_write, told_by, after_keeping}
 use Rattle.trips_outside.specs.MemorySinks.{ListedSink, KeepingSink}
 
@@ -29,26 +29,37 @@ pub not_held : (held_among ((codes "ab", []) ∷ []) (codes "a") ≡ None)
     × (held_by [] (codes "a") ≡ Some [])
 not_held = (refl, refl)
 
+-- Five bytes in pieces of two, of which the second call fails.
 abbrev five : ListedFiles
 five = record {
   entries = (codes "a", codes "abcde") ∷ [];
+  ahead = None;
   piece = 2;
   failing = 2 ∷ [];
   calls = 0;
   faults = 0;
 }
 
--- a piece, the rest, the end, a short buffer, another name
-pub given : (count_given five (codes "a") 0 9 ≡ Some 2)
-    × (count_given five (codes "a") 4 9 ≡ Some 1)
-    × (count_given five (codes "a") 5 9 ≡ Some 0) × (count_given five (codes "a") 0 1 ≡ Some 1)
-    × (count_given five (codes "b") 0 9 ≡ None)
+-- a held name, the listed call, another name
+pub opens : (is_closed five (codes "a") ≡ false)
+    × (is_closed (record five { calls = 1 }) (codes "a") ≡ true)
+    × (is_closed five (codes "b") ≡ true)
+    × ((after_open five (codes "a") false).ahead ≡ Some (codes "abcde"))
+opens = (refl, refl, refl, refl)
+
+-- a piece, the rest, the end, a short buffer, no open file
+pub given : (count_given (record five { ahead = Some (codes "abcde") }) 9 ≡ Some 2)
+    × (count_given (record five { ahead = Some (codes "e") }) 9 ≡ Some 1)
+    × (count_given (record five { ahead = Some [] }) 9 ≡ Some 0)
+    × (count_given (record five { ahead = Some (codes "abcde") }) 1 ≡ Some 1)
+    × (count_given five 9 ≡ None)
 given = (refl, refl, refl, refl, refl)
 
--- the listed call fails, and the one after it does not
-pub listed : (count_given (after_read five false) (codes "a") 0 9 ≡ None)
-    × (count_given (after_read (after_read five false) true) (codes "a") 0 9 ≡ Some 2)
-listed = (refl, refl)
+-- the listed call fails and takes nothing, and the ones beside it do not
+pub listed : (count_given (after_open five (codes "a") false) 9 ≡ None)
+    × ((after_read (after_open five (codes "a") false) None).ahead ≡ Some (codes "abcde"))
+    × ((after_read (record five { ahead = Some (codes "abcde") }) (Some 2)).ahead ≡ Some (codes "cde"))
+listed = (refl, refl, refl)
 
 abbrev three : ListedSink
 three = record { written = []; room = 3; piece = 2; failing = 3 ∷ []; calls = 0; faults = 0 }

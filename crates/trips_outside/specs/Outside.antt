@@ -1,6 +1,6 @@
 -- What a source of named bytes and a sink of bytes tell, and when they may fail.
-use Rattle.std.specs.Prelude.{◌≡◌, ℕ, ◌+◌, ◌^◌, ◌-◌, ◌≤◌, ◌<◌, min, List, ◌++◌, length, take, drop}
-use Rattle.std.specs.Prelude.{⊤, None, Some, Option, Result, IfSome, OnErr}
+use Rattle.std.specs.Prelude.{◌≡◌, ℕ, ◌+◌, ◌^◌, ◌-◌, ◌≤◌, ◌<◌, min, List, [], ◌++◌, length, take}
+use Rattle.std.specs.Prelude.{⊤, None, Some, Option, option_map, Result, IfSome, OnErr}
 
 -- one more, at most the greatest 64-bit number
 abbrev pub next_count : ℕ → ℕ
@@ -21,11 +21,12 @@ pub record HasCause {T E : Type 0} (before now : ℕ) (result : Result T E) : Ty
 abbrev pub Holds : Option (List ℕ) → List ℕ → Type 0
 Holds told bytes = IfSome told (λ held. bytes ≡ held)
 
--- The first k bytes that were given are the held bytes from a place on, and none were given only
--- at the end.
-abbrev pub Gives : Option (List ℕ) → ℕ → List ℕ → ℕ → Type 0
-Gives told at into k = IfSome told (λ held.
-    (take k into ≡ take k (drop at held)) × (k ≡ 0 → 0 < length into → length held ≤ at))
+-- What was ahead before are the first k bytes that were given and what is ahead after, where either is told, and
+-- none were given only at the end.
+abbrev pub Gives : Option (List ℕ) → Option (List ℕ) → List ℕ → ℕ → Type 0
+Gives before after into k =
+    (before ≡ option_map (λ left. take k into ++ left) after)
+    × IfSome before (λ left. k ≡ 0 → 0 < length into → left ≡ [])
 
 -- Bytes were appended, where the bytes after are told: then those before were told too.
 abbrev pub Appended : Option (List ℕ) → Option (List ℕ) → List ℕ → Type 0

@@ -1,4 +1,4 @@
-ghost use Rattle.std.specs.Prelude.{◌≡◌, ◌≤◌, ◌<◌, ℕ, List, [], length, take, Option, Ok, IfOk};
+ghost use Rattle.std.specs.Prelude.{◌≡◌, ◌≤◌, ◌<◌, ℕ, List, [], length, take, Option, Ok, IfOk, OnOk};
 ghost use Rattle.std.specs.Prelude.{MatchResult};
 ghost use Rattle.trips_outside.specs.Outside.{HasCause, Gives, Appended};
 
@@ -6,20 +6,30 @@ ghost use Rattle.trips_outside.specs.Outside.{HasCause, Gives, Appended};
 #[derive(Clone, Copy, Debug, PartialEq, Eq)]
 pub struct Failed;
 
-/// Named files, to be read from any place.
+/// Named files. One of them is opened at a time, and read from its start to its end.
 pub trait Files {
     /// What a name holds, where that is told.
     ghost held: { Self → List ℕ → Option (List ℕ) };
 
+    /// What is still ahead in the file that is open, where that is told.
+    ghost ahead: { Self → Option (List ℕ) };
+
     /// How often a call has failed. It stands still at the greatest 64-bit number.
     ghost faults: { Self → ℕ };
 
-    /// Reads the bytes of a name from the place `at` on, and says how many were read. None at a
-    /// nonempty `into` mean that `at` is at or past the end. What stands in `into` behind the bytes
-    /// that were read, or after a failure, is not said.
-    fn read_at(&mut self, name: &str, at: u64, into: &mut [u8]) -> Result<usize, Failed>
+    /// Opens the file of this name in place of the one that is open. All that it holds is ahead. Which file is
+    /// open after a failure is not said.
+    fn open(&mut self, name: &str) -> Result<(), Failed>
+        ensures opened { OnOk result (ahead self.new ≡ held self.old name.now) }
+        ensures kept { held self.new ≡ held self.old }
+        ensures cause { HasCause (faults self.old) (faults self.new) result };
+
+    /// Reads on in the file that is open, and says how many bytes were read. None at a nonempty `into`
+    /// mean that its end is reached. What stands in `into` behind the bytes that were read, or after a
+    /// failure, is not said.
+    fn read(&mut self, into: &mut [u8]) -> Result<usize, Failed>
         ensures bound { IfOk result (λ k. k ≤ length into.new) }
-        ensures bytes { IfOk result (Gives (held self.old name.now) at into.new) }
+        ensures bytes { IfOk result (Gives (ahead self.old) (ahead self.new) into.new) }
         ensures kept { held self.new ≡ held self.old }
         ensures cause { HasCause (faults self.old) (faults self.new) result };
 }

@@ -36,8 +36,8 @@ pub enum WriteFault {
     Fault,
 }
 
-/// All bytes of the name, which are at most `limit`. Want of memory is free; of contents that are
-/// not told nothing is claimed.
+/// All bytes of the name, which are at most `limit`: it is opened once, and read to its end. Want of memory is
+/// free; of contents that are not told nothing is claimed.
 pub fn load<F: Files>(
     alloc: Global,
     files: &mut F,
@@ -53,17 +53,19 @@ pub fn load<F: Files>(
     ensures kept { F.held files.new ≡ F.held files.old }
     ensures later { F.faults files.old ≤ F.faults files.new }
 {
+    if files.open(name).is_err() {
+        return Err(LoadFault::Fault);
+    }
     let mut all = Vec::new(alloc);
     let mut piece = [0u8; PIECE];
     loop {
-        let at = all.len() as u64;
-        let Ok(count) = files.read_at(name, at, &mut piece) else {
+        let Ok(count) = files.read(&mut piece) else {
             return Err(LoadFault::Fault);
         };
         if count == 0 {
             return Ok(all);
         }
-        if count as u64 > limit - at {
+        if count as u64 > limit - all.len() as u64 {
             return Err(LoadFault::TooLarge);
         }
         all.extend_from_slice(&piece[..count])?;

@@ -4,16 +4,16 @@
 
 use std::io;
 use std::process::ExitCode;
-use trips_answers::{Status, run_plain};
+use trips_answers::{Status, exit_code, run_plain};
 use trips_outside::{OsFiles, OutSink, words};
 
 fn main(rt: HostRuntime) -> ExitCode {
     let alloc = rt.alloc();
     let Ok(words) = words(&rt, alloc) else {
-        return ExitCode::from(Status::Memory as u8);
+        return exit_code(Status::Memory);
     };
     let mut files = OsFiles::make(&rt);
     let mut sink = OutSink::make(io::writer(&rt));
     let status = run_plain(alloc, &words, &mut files, &mut sink);
-    ExitCode::from(status as u8)
+    exit_code(status)
 }

@@ -4,17 +4,17 @@
 
 use std::io;
 use std::process::ExitCode;
-use trips_answer_parts::Status;
+use trips_answer_parts::{Status, exit_code};
 use trips_outside::{OsFiles, OutSink, words};
 use trips_tool_answers::tool_plain;
 
 fn main(rt: HostRuntime) -> ExitCode {
     let alloc = rt.alloc();
     let Ok(words) = words(&rt, alloc) else {
-        return ExitCode::from(Status::Memory as u8);
+        return exit_code(Status::Memory);
     };
     let mut files = OsFiles::make(&rt);
     let mut sink = OutSink::make(io::writer(&rt));
     let status = tool_plain(alloc, &words, &mut files, &mut sink);
-    ExitCode::from(status as u8)
+    exit_code(status)
 }

@@ -9,4 +9,4 @@ mod command_line;
 mod top;
 
 pub use top::trips_run;
-pub use trips_answers::Status;
+pub use trips_answers::{Status, exit_code};

@@ -10,6 +10,8 @@ mod machine_tests;
 #[cfg(test)]
 mod placed_tests;
 #[cfg(test)]
+mod shown_trap_tests;
+#[cfg(test)]
 mod tool_tests;
 #[cfg(test)]
 mod trap_tests;

@@ -8,6 +8,8 @@ mod larger_rows;
 #[cfg(test)]
 mod larger_tests;
 #[cfg(test)]
+mod number_tests;
+#[cfg(test)]
 mod option_tests;
 #[cfg(test)]
 mod report_tests;
