@@ -11,7 +11,7 @@ use Rattle.ir_forms.specs.declared.hyper.Exit.{Exit}
 use Rattle.ir_forms.specs.declared.hyper.Exit.TheVariants as exit
 use Rattle.ir_forms.specs.HyperCode.{Tail, Leave, Test}
 use Rattle.ir_forms.specs.HyperCode as hyper
-use Rattle.ir_forms.specs.HyperFits.{AllLeadOn, LeadsOn}
+use Rattle.ir_forms.specs.HyperFits.{AllLeadOn, FitsHyper, IsSmall, LeadsOn}
 use Rattle.predication.specs.Tails.{labelled, address_end}
 use Rattle.predication.specs.Converted.{predicated}
 use Rattle.predication.specs.Outcomes.{Counts, HasRoomFor, counts_of, NamesLabel, NamesLabels}
@@ -27,6 +27,7 @@ use Rattle.grid_place.specs.Placings.{IsPlaced}
 use Rattle.predication_limits.specs.Limits.{FitsMachine}
 use Rattle.predication_limits.proofs.Cheap.{exits_with}
 use Rattle.predication_limits.proofs.Programs.{only_memory}
+use Rattle.predication_limits.proofs.SmallFit.{small_fits}
 use Rattle.c_compile_blocks.specs.Blocks.{flow_of, IsMachineBlock, IsPassed}
 use Rattle.c_compile_blocks.specs.Refusals.{IsRefused, IsIncomplete, IsUntargeted}
 
@@ -108,6 +109,10 @@ never_refused b e h f = go h.first
     go (inl x) = by_convert (counts_of (labelled b)) e (room_for b f) x
     go (inr (inl x)) = let n = only_memory b f in n.completing e x.refused
     go (inr (inr x)) = let n = only_memory b f in n.targeting e x.refused
+
+-- nor a small one
+pub small_never : (b : hyper.Block) (e : FlowFault) → IsRefused b e → IsSmall b → FitsHyper b → e ≡ Memory
+small_never b e h small fits = never_refused b e h (small_fits b small fits)
 
 -- the refusals of the first pass
 pub by_first : (b : hyper.Block) (e : FlowFault) → convert.IsRefusal (counts_of (labelled b)) e → IsRefused b e

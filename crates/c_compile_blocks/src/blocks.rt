@@ -1,7 +1,7 @@
 //! The machine blocks of hyper blocks: the passes, one after the other.
 ghost use Rattle.std.specs.Prelude.{◌≡◌, ◌≤◌, ◌++◌, ◌∷◌, [], length, map, IfErr, IfOk, OnOk};
 ghost use Rattle.ir_forms.specs.declared.fault.FlowFault.TheVariants.{Memory};
-ghost use Rattle.ir_forms.specs.HyperFits.{IsFollowed};
+ghost use Rattle.ir_forms.specs.HyperFits.{FitsHyper, IsFollowed, IsSmall};
 ghost use Rattle.ir_forms.specs.HyperViews.{block_of, blocks_of, tail_of};
 ghost use Rattle.predication.specs.Outcomes.{NamesLabels};
 ghost use Rattle.predication_limits.specs.Limits.{FitsMachine};
@@ -23,7 +23,7 @@ use trips_isa::Block;
 ///
 /// It is refused as the first pass that refuses it says. A block within all limits of the machine, as a
 /// plan that cuts everywhere makes them (`little_blocks_fit` of `predication_limits`), is refused for
-/// want of memory alone; its cases are few.
+/// want of memory alone; its cases are few. So is every small block (`small_blocks_fit`).
 pub fn machine_block(
     alloc: Global,
     block: &HyperBlock,
@@ -35,6 +35,7 @@ pub fn machine_block(
     ensures machine { IfOk result (λ u. FitsMachine (block_of block.now)
         → IsMachineBlock placing (block_of block.now) u) }
     ensures fits { IfErr result (λ e. FitsMachine (block_of block.now) → e ≡ Memory) }
+    ensures small { IfErr result (λ e. IsSmall (block_of block.now) → FitsHyper (block_of block.now) → e ≡ Memory) }
 {
     let flow = complete(alloc, convert(alloc, block)?)?;
     match place(alloc, &target(alloc, &flow)?, placing) {

@@ -1,7 +1,7 @@
 -- What an event leaves: the committed state is the machine's, and of a flushed frame nothing is left.
 use Rattle.std.specs.List.{list_any}
 use Rattle.std.proofs.Common.{◌≡◌, ◌≢◌, ℕ, zero, suc, ◌≤◌, Bool, true, false, cond, ◌||◌, ◌==◌, List, [], ◌∷◌, take}
-use Rattle.std.proofs.Common.{Option, Some, None, slice_get, refl, sym, ap, ap₂, ◌∙◌, subst, arith, true≢false}
+use Rattle.std.proofs.Common.{Option, Some, None, slice_get, slice_index, refl, sym, ap, ap₂, ◌∙◌, subst, arith, true≢false}
 use Rattle.std.proofs.lemmas.Bool.Decides.{nat_tests}
 use Rattle.std.proofs.lemmas.List.{take-map}
 use Rattle.trips_isa.specs.declared.block.Block.{Block}
@@ -9,7 +9,7 @@ use Rattle.trips_isa.specs.declared.block.Inst.{Inst}
 use Rattle.trips_isa.specs.declared.run.Stepped.{Stepped}
 use Rattle.trips_isa.specs.declared.run.Stepped.TheVariants as stepped
 use Rattle.trips_isa.specs.Outcomes.{Effects, Outcome, Comes, Faults, unless}
-use Rattle.trips_isa.specs.Machine.{State, changed, system_call, then_system, with_input}
+use Rattle.trips_isa.specs.Machine.{State, changed, system_call, then_system}
 use Rattle.commit_flush_spec.specs.Causes.{Done}
 use Rattle.commit_flush_spec.specs.Frames.{Frame}
 use Rattle.commit_flush_spec.specs.Older.{Older, after, committed}
@@ -100,7 +100,7 @@ effects_go_on : (writes : List ℕ) (o : Effects) (s : State)
 effects_go_on writes o s = by o.system (changed writes o s)
   where
     by : (b : Bool) (t : State) → is_trap (answer (then_system b t)) ≡ false
-    by true t = calls_go_on _ t
+    by true t = calls_go_on (slice_index t.registers 0) t
     by false t = refl
 
 -- none is left of an empty window

@@ -72,7 +72,7 @@ const FIRST: [Event; 14] = [
 fn later(rt: &impl Abort, alloc: Global, image: &CheckedImage) -> Result<Arch, Fail>
     ensures budget { IfOk result (λ arch. arch.budget ≡ 4) }
     ensures next { IfOk result (λ arch. arch.state.next < length image.now.blocks) }
-    ensures room { IfOk result (λ arch. length arch.state.trace ≤ 4) }
+    ensures room { IfOk result (λ arch. length arch.state.trace ≤ 1) }
 {
     let mut arch = machine(alloc, image, BUDGET)?;
     assert!(rt; arch.next() < image.count(), "a next block");
@@ -88,6 +88,20 @@ fn assert_opens(rt: &impl Abort, alloc: Global) -> Result<(), Fail> {
     let mut beside = later(rt, alloc, &image)?;
     match Window::make_at(alloc, image, arch, BUDGET) {
         Ok(mut window) => assert_rows(rt, &mut window, &mut beside, &SECOND),
+        Err(_) => return Err(Fail::from(AllocError)),
+    }
+    Ok(())
+}
+
+// A window for two blocks, on a machine that has room for more.
+fn assert_opens_below(rt: &impl Abort, alloc: Global) -> Result<(), Fail> {
+    let image = checked(alloc, PAIR)?;
+    let arch = later(rt, alloc, &image)?;
+    match Window::make_at(alloc, image, arch, 2) {
+        Ok(window) => {
+            assert!(rt; window.budget() == 2, "the window's budget");
+            assert!(rt; window.arch().trace().len() == 1, "the step stays");
+        }
         Err(_) => return Err(Fail::from(AllocError)),
     }
     Ok(())
@@ -113,4 +127,9 @@ fn a_window_opens_behind_a_step(rt: HostRuntime) -> Result<(), Fail> {
 fn a_list_of_events_is_played(rt: HostRuntime) -> Result<(), Fail> {
     assert_plays(&rt, rt.alloc())?;
     Ok(())
+}
+
+#[test]
+fn a_window_opens_for_fewer_blocks_than_the_machine(rt: HostRuntime) -> Result<(), Fail> {
+    assert_opens_below(&rt, rt.alloc())
 }

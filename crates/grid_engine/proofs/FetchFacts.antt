@@ -1,4 +1,4 @@
--- The block that the fetch unit would begin to fetch, were it idle, is told case by case.
+-- The block that an idle fetch unit would begin to fetch is told case by case.
 use Rattle.std.proofs.Common.{◌≡◌, ℕ, true, false, cond, List, [], ◌∷◌, Option, Some, None, refl, sym, ap, ◌∙◌}
 use Rattle.trips_isa.specs.declared.block.Block.{Block}
 use Rattle.trips_isa.specs.Machine.{State}
@@ -7,11 +7,11 @@ use Rattle.commit_flush_spec.specs.Frames.{Exit, Frame}
 use Rattle.grid_cycle_spec.specs.Fetches.{begun_after, begun_behind, begun_guess, begun_predicted, has_room}
 use Rattle.grid_cycle_spec.specs.Grid.{Grid}
 use Rattle.grid_parts.specs.Youngest.{IsYoungest}
-use Rattle.grid_engine.specs.Follows.{after, behind, guess}
-use Rattle.grid_engine.specs.Nexts.{block_in, next_fetch}
+use Rattle.grid_engine.specs.Follows.{after, behind, guess, idle_fetch}
+use Rattle.grid_engine.specs.Nexts.{block_in}
 
 module _ {W : Type 0} (blocks : List Block) where
-  predicted_is : (k : ℕ) (o : Option ℕ) (g : Grid W) → g.fetching ≡ None
+  pub predicted_is : (k : ℕ) (o : Option ℕ) (g : Grid W) → g.fetching ≡ None
       → block_in (begun_predicted blocks k o g).fetching ≡ o
   predicted_is k None g e = ap block_in e
   predicted_is k (Some next) g e = refl
@@ -37,11 +37,11 @@ module _ {W : Type 0} (blocks : List Block) where
   idle g = record g { fetching = None }
 
   pub fetch_room : (g : Grid W) → has_room g.window ≡ true
-      → after blocks g.predictor g.standing g.window.state g.window.frames ≡ next_fetch blocks g
+      → after blocks g.predictor g.standing g.window.state g.window.frames ≡ idle_fetch blocks g
   fetch_room g e = sym (ap (λ b. block_in (cond b (begun_after blocks g.window.frames (idle g)) (idle g)).fetching) e
       ∙ after_is g.window.frames (idle g) refl)
 
-  pub fetch_full : (g : Grid W) → has_room g.window ≡ false → None ≡ next_fetch blocks g
+  pub fetch_full : (g : Grid W) → has_room g.window ≡ false → None ≡ idle_fetch blocks g
   fetch_full g e = sym (ap (λ b. block_in (cond b (begun_after blocks g.window.frames (idle g)) (idle g)).fetching) e)
 
 module _ (blocks : List Block) (p : Holding) (standing : Option ℕ) (s : State) where

@@ -3,3 +3,5 @@ pub mod EngineFacts
 pub mod LackFacts
 pub mod StepFacts
 pub mod FetchFacts
+pub mod DueFacts
+pub mod FiringFacts

@@ -94,8 +94,8 @@ fn any_empty<V: Windows>(window: &V, filled: u8) -> bool
     false
 }
 
-// Behind a block that is fetched now into this frame: what is predicted, where one more frame is empty and the block makes
-// no system call.
+// Behind a block that is fetched now into this frame: what is predicted, where one more frame is empty and the block
+// makes no system call.
 fn behind_fetched<V: Windows, W>(grid: &Grid<V, W>, block: u32, filled: u8) -> Option<u32>
     requires { block < length (V.blocks grid.now.window) }
     ensures { (b : Block) → slice_get (V.blocks grid.now.window) block ≡ Some b → result

@@ -22,7 +22,8 @@ fn ready_firing<V: Windows>(window: &V, tile: u8) -> Option<Event>
     }
 }
 
-/// The firing of the eldest entry that may fire on a tile; none exactly where the tile's unit is busy or no entry may fire.
+/// The firing of the eldest entry that may fire on a tile; none exactly where the tile's unit is busy or no entry may
+/// fire.
 pub fn next_firing<V: Windows, W>(grid: &Grid<V, W>, tile: u8) -> Option<Event>
     requires tile { tile < 16 }
     ensures value { result ≡ next_firing (V.blocks grid.now.window) (V.budget grid.now.window) tile

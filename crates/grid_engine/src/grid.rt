@@ -78,8 +78,8 @@ impl<W: Weather + Drop> Grid<W> {
         Ok(Grid { parts })
     }
 
-    /// A grid on an image from a machine's state on. `budget` counts all that the machine has made, which has room for at
-    /// least as many. Want of memory is the only error.
+    /// A grid on an image from a machine's state on. `budget` counts all that the machine has made, which has room for
+    /// at least as many. Want of memory is the only error.
     pub fn make_at(
         alloc: Global,
         image: CheckedImage,
@@ -211,8 +211,8 @@ impl<W: Weather> Grid<W> {
         waiting::waiting_on(self.parts.window.window())
     }
 
-    /// The block whose fetch part (2) of a cycle would begin, where the fetch unit is idle or ends a fetch in that cycle;
-    /// none exactly where part (2) would begin no fetch.
+    /// The block whose fetch part (2) of a cycle would begin, where the fetch unit is idle or ends a fetch in that
+    /// cycle; none exactly where part (2) would begin no fetch.
     pub fn can_fetch(&self) -> Option<u32>
         ensures value { result ≡ next_fetch (blocks_of self.now) self.now.window.budget (grid_of self.now) }
     {

@@ -34,6 +34,34 @@ N[2] genu 3 W[0]
 N[3] scall 0
 ";
 
+/// Slots 1 and 17 lie on one tile. A division in slot 1 takes 24 cycles, and in that time the operand of slot 17
+/// comes, by way of slots 4 to 6.
+const DIVISION: &str = "trips 1
+data 0
+block 0 mask 00000000
+W[0] write G[0]
+W[1] write G[3]
+N[0] genu 21 N[1,0]
+N[1] divu W[1]
+N[2] genu 3 N[1,1]
+N[3] genu 3 N[4,0]
+N[4] addi 0 N[5,0]
+N[5] addi 0 N[6,0]
+N[6] addi 0 N[17,0]
+N[17] addi 0 W[0]
+N[18] scall 0
+";
+
+/// A block that leads to itself, and counts.
+const FOREVER: &str = "trips 1
+data 0
+block 0 mask 00000000
+R[0] read G[3] N[0,0]
+W[0] write G[3]
+N[0] addi 1 W[0]
+N[1] bro 0 @0
+";
+
 // A predictor whose entries all name exit 0.
 fn predictor(alloc: Global) -> Result<Predictor, Fail>
     ensures { IfOk result (λ p. p.stack ≡ []) }
@@ -120,5 +148,55 @@ fn a_slot_whose_operand_has_come_is_ready(rt: HostRuntime) -> Result<(), Fail> {
     );
     let _ = grid.cycle();
     assert!(&rt; grid.ready(1) == None, "slot 1 has fired");
+    Ok(())
+}
+
+#[test]
+fn a_busy_unit_fires_nothing(rt: HostRuntime) -> Result<(), Fail> {
+    let mut grid = begun(rt.alloc(), DIVISION)?;
+    let division = first_ready(&mut grid, 1, 40);
+    assert!(&rt;
+        division == Some(Event::Fire { frame: 0, slot: 1 }),
+        "{division:?}"
+    );
+    cycles(&mut grid, 20);
+    let addition = Event::Fire { frame: 0, slot: 17 };
+    assert!(&rt;
+        grid.window().can(addition).is_done(),
+        "the operand of slot 17 has come"
+    );
+    assert!(&rt; grid.ready(1) == None, "the unit divides");
+    let next = first_ready(&mut grid, 1, 10);
+    assert!(&rt; next == Some(addition), "{next:?}");
+    Ok(())
+}
+
+#[test]
+fn a_fetch_begins_behind_the_one_that_ends(rt: HostRuntime) -> Result<(), Fail> {
+    let mut grid = begun(rt.alloc(), FOREVER)?;
+    assert!(&rt; grid.can_fetch() == Some(0), "the unit is idle");
+    cycles(&mut grid, 1);
+    assert!(&rt; grid.can_fetch() == None, "a fetch is under way");
+    cycles(&mut grid, 7);
+    assert!(&rt; grid.counts().fetched == 0, "no frame is filled");
+    assert!(&rt;
+        grid.can_fetch() == Some(0),
+        "the fetch ends, and the next one begins"
+    );
+    cycles(&mut grid, 1);
+    assert!(&rt; grid.counts().fetched == 1, "a frame is filled");
+    assert!(&rt; grid.can_fetch() == None, "the next fetch is under way");
+    Ok(())
+}
+
+#[test]
+fn nothing_is_fetched_behind_a_system_call(rt: HostRuntime) -> Result<(), Fail> {
+    let mut grid = begun(rt.alloc(), SEVEN)?;
+    cycles(&mut grid, 8);
+    assert!(&rt;
+        grid.counts().fetched == 0,
+        "the fetch ends in the next cycle"
+    );
+    assert!(&rt; grid.can_fetch() == None, "no fetch begins behind it");
     Ok(())
 }

@@ -56,8 +56,8 @@ pub fn make<W: Drop>(
     make_on(alloc, window, predictor, weather)
 }
 
-/// A grid on an image from a machine's state on. `budget` counts all that the machine has made, which has room for at least
-/// as many. Want of memory is the only error.
+/// A grid on an image from a machine's state on. `budget` counts all that the machine has made, which has room for at
+/// least as many. Want of memory is the only error.
 pub fn make_at<W: Drop>(
     alloc: Global,
     image: CheckedImage,

@@ -1,10 +1,11 @@
 -- The cycle bound of the runs of a seed.
 use Rattle.std.proofs.Common.{◌≡◌, ℕ, ◌+◌, ◌^◌, ◌<◌, ◌≤◌, Bool, true, false, List, [], length}
-use Rattle.std.proofs.Common.{Option, Some, None, refl, sym, ap, ◌∙◌, true≢false, arith}
+use Rattle.std.proofs.Common.{Option, Some, None, slice_get, refl, sym, ap, ◌∙◌, subst, true≢false, arith}
 use Rattle.std.proofs.Math.Nat.{mod-lt}
 use Rattle.trips_isa.specs.declared.block.Block.{Block}
 use Rattle.trips_isa.specs.declared.causes.TrapCause.{TrapCause}
 use Rattle.trips_isa.specs.declared.run.Ending.{Ending}
+use Rattle.trips_isa.specs.declared.run.Ending.TheVariants as ending
 use Rattle.trips_isa.specs.declared.run.Stepped.{Stepped}
 use Rattle.trips_isa.specs.declared.run.Stepped.TheVariants as stepped
 use Rattle.trips_isa.specs.Stores.{data_size}
@@ -17,7 +18,7 @@ use Rattle.commit_flush_spec.specs.InFlight.{opened}
 use Rattle.commit_flush_spec.specs.Invariant.{AllGood}
 use Rattle.commit_flush_spec.specs.Laws.{WindowOk}
 use Rattle.commit_flush_spec.proofs.Events.{opens}
-use Rattle.grid_cycle_spec.specs.Costs.{cost_of, greatest_cost}
+use Rattle.grid_cycle_spec.specs.Costs.{cost_in, cost_of, greatest_cost}
 use Rattle.grid_cycle_spec.specs.Grid.{Grid}
 use Rattle.grid_run.specs.Answered.{ComesTo, IsCutOff}
 use Rattle.grid_run.specs.Endings.{ending_of, is_going}
@@ -25,8 +26,8 @@ use Rattle.grid_run.specs.WholeRuns.{most_cycles}
 use Rattle.grid_bound.specs.GoesOn.{GoesOn}
 use Rattle.grid_machine.specs.Seeds.{IsAfter, IsRan, next_hold}
 use Rattle.grid_machine_bound.specs.Traps.{is_trap}
-use Rattle.grid_machine_bound.proofs.Making.{steps_made}
-use Rattle.grid_machine_bound.proofs.RunCosts.{any_cost, end_cost, goes_on, goes_short}
+use Rattle.grid_machine_bound.proofs.Making.{runs_inside, steps_made}
+use Rattle.grid_machine_bound.proofs.RunCosts.{any_cost, end_cost, goes_on, goes_short, some_cost}
 
 -- an ending that is no trap is of a run that has not trapped
 pub no_trap : (o : Stepped) (next : ℕ) → is_trap (ending_of o next) ≡ false → (c : TrapCause) → o ≡ stepped.Trap c → ⊥
@@ -34,6 +35,13 @@ no_trap stepped.Went next e c i = cc
 no_trap stepped.Ended next e c i = cc
 no_trap stepped.StackFull next e c i = cc
 no_trap (stepped.Trap d) next e c i = true≢false e
+
+-- a trap names the block that comes next
+trap_at : (o : Stepped) (next block : ℕ) (cause : TrapCause) → ending.Trap block cause ≡ ending_of o next → next ≡ block
+trap_at stepped.Went next block cause e = absurd (cc)
+trap_at stepped.Ended next block cause e = absurd (cc)
+trap_at stepped.StackFull next block cause e = absurd (cc)
+trap_at (stepped.Trap c) next block cause e = cc
 
 -- a run of a seed ------------------------------------------------------------------------------------
 
@@ -58,6 +66,18 @@ module _ (blocks : List Block) (good : AllGood blocks) (some : 0 < length blocks
   trapped : h.counts.cycles ≤ cost_of blocks h.window.state.trace + greatest_cost
   trapped = any_cost next_hold IsAfter hold_most blocks good budget s predictor weather opens_right small h ran.run
       ran.few
+
+  -- where it ends in a trap, within what its trace costs and the block that trapped
+  trapped_block : (block : ℕ) (cause : TrapCause) → ComesTo blocks s budget (ending.Trap block cause) h
+      → (block < length blocks) × (h.counts.cycles ≤ cost_of blocks h.window.state.trace + cost_in (slice_get blocks block))
+  trapped_block block cause comes =
+      let same : (runs blocks s budget).0.next ≡ block =
+      trap_at (runs blocks s budget).1 (runs blocks s budget).0.next block cause comes.ending in (
+        subst (λ k. k < length blocks) same (runs_inside blocks some s some budget),
+        subst (λ k. h.counts.cycles ≤ cost_of blocks h.window.state.trace + cost_in (slice_get blocks k))
+            (ap (λ (t : State). t.next) comes.state ∙ same)
+            (some_cost next_hold IsAfter hold_most blocks good budget s predictor weather opens_right small h ran.run ran.few),
+      )
 
   ends : IsCutOff budget (most_cycles budget) h → ⊥
   ends cut =
@@ -112,3 +132,11 @@ pub runs_trapped : (blocks : List Block) (bytes input : List ℕ) (budget seed :
     → h.counts.cycles ≤ cost_of blocks h.window.state.trace + greatest_cost
 runs_trapped blocks bytes input budget seed e h good some fits positive small ran =
     trapped blocks good some bytes input fits budget seed small (Some e) h ran
+
+pub runs_trapped_at : (blocks : List Block) (bytes input : List ℕ) (budget seed block : ℕ) (cause : TrapCause)
+    (h : Grid PcgWeather) → AllGood blocks → 0 < length blocks → length bytes ≤ data_size → 0 < budget → budget < 2 ^ 32
+    → IsRan blocks bytes input budget seed (Some (ending.Trap block cause)) h
+    → (block < length blocks) × (h.counts.cycles ≤ cost_of blocks h.window.state.trace + cost_in (slice_get blocks block))
+runs_trapped_at blocks bytes input budget seed block cause h good some fits positive small ran =
+    trapped_block blocks good some bytes input fits budget seed small (Some (ending.Trap block cause)) h ran block cause
+    ran.comes

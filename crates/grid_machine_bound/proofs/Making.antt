@@ -1,4 +1,4 @@
--- What the machine's run has made: each step adds its block to the trace.
+-- What the machine's run has made: each step adds its block to the trace, and leads to a block of the image.
 use Rattle.std.proofs.Common.{◌≡◌, ℕ, zero, suc, ◌+◌, ◌<◌, List, [], ◌∷◌, length, Option, Some, None, slice_get}
 use Rattle.std.proofs.Common.{refl, sym, ap, subst, arith}
 use Rattle.trips_isa.specs.declared.block.Block.{Block}
@@ -10,8 +10,8 @@ use Rattle.trips_isa.specs.Blocks.{leaving_of, token_of}
 use Rattle.trips_isa.specs.Marks.{cause}
 use Rattle.trips_isa.specs.Outcomes.{Effects, plain, unless}
 use Rattle.trips_isa.specs.Machine.{State, come_to, goes_on, runs, step_in, step_of}
-use Rattle.commit_flush_spec.specs.Laws.{Reached}
-use Rattle.commit_flush_spec.proofs.Applying.{apply_next, apply_trace, next_in}
+use Rattle.commit_flush_spec.specs.Laws.{IsWhole, Reached}
+use Rattle.commit_flush_spec.proofs.Applying.{apply_next, apply_trace, apply_whole, next_in}
 
 -- a run that ended with a block made a step
 pub ended_later : (blocks : List Block) (s t : State) (n : ℕ) → Reached blocks s n t Ended → 0 < n
@@ -68,6 +68,51 @@ module _ (blocks : List Block) (some : 0 < length blocks) where
   unfolding runs
   runs_made s l zero e = record { next = l; long = omega arith }
   runs_made s l (suc n) e = more_made s (runs blocks s n).0 n (runs blocks s n).1 (runs_made s l n) e
+
+  -- whatever a step comes to, the next block is one of the image
+  come_in : (c : ℕ) (writes : List ℕ) (o : Effects) (s : State) → s.next < length blocks → o.successor < length blocks
+      → (come_to writes (unless c o) s).0.next < length blocks
+  come_in zero writes o s here l = subst (λ k. k < length blocks) (sym (apply_next writes o s)) l
+  come_in (suc c) writes o s here l = here
+
+  step_inside : (o : Option Block) (s : State) → s.next < length blocks → (step_in blocks o s).0.next < length blocks
+  step_inside None s l = l
+  step_inside (Some b) s l = come_in (cause b (token_of b s.registers s.memory deepest)) b.writes.items
+      (plain blocks s.next b s.registers s.memory) s l
+      (next_in blocks some s.next (leaving_of b (token_of b s.registers s.memory deepest)))
+
+  more_inside : (t : State) (o : Stepped) → t.next < length blocks → (goes_on blocks t o).0.next < length blocks
+  more_inside t Went l = step_inside (slice_get blocks t.next) t l
+  more_inside t Ended l = l
+  more_inside t StackFull l = l
+  more_inside t (Trap c) l = l
+
+  pub runs_inside : (s : State) → s.next < length blocks → (n : ℕ) → (runs blocks s n).0.next < length blocks
+  unfolding runs
+  runs_inside s l zero = l
+  runs_inside s l (suc n) = more_inside (runs blocks s n).0 (runs blocks s n).1 (runs_inside s l n)
+
+-- registers and memory keep their full lengths
+come_whole : (c : ℕ) (writes : List ℕ) (o : Effects) (s : State) → IsWhole s
+    → IsWhole (come_to writes (unless c o) s).0
+come_whole zero writes o s w = apply_whole writes o s w
+come_whole (suc c) writes o s w = w
+
+step_whole : (blocks : List Block) (o : Option Block) (s : State) → IsWhole s → IsWhole (step_in blocks o s).0
+step_whole blocks None s w = w
+step_whole blocks (Some b) s w = come_whole (cause b (token_of b s.registers s.memory deepest)) b.writes.items
+    (plain blocks s.next b s.registers s.memory) s w
+
+more_whole : (blocks : List Block) (t : State) (o : Stepped) → IsWhole t → IsWhole (goes_on blocks t o).0
+more_whole blocks t Went w = step_whole blocks (slice_get blocks t.next) t w
+more_whole blocks t Ended w = w
+more_whole blocks t StackFull w = w
+more_whole blocks t (Trap c) w = w
+
+pub runs_whole : (blocks : List Block) (s : State) → IsWhole s → (n : ℕ) → IsWhole (runs blocks s n).0
+unfolding runs
+runs_whole blocks s w zero = w
+runs_whole blocks s w (suc n) = more_whole blocks (runs blocks s n).0 (runs blocks s n).1 (runs_whole blocks s w n)
 
 -- a run that has not ended has made each step
 pub steps_made : (blocks : List Block) → 0 < length blocks → (s : State) → s.next < length blocks → (n : ℕ)

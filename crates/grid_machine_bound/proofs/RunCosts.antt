@@ -153,16 +153,14 @@ module _ {W : Type 0} (next : W → ℕ) (follows : W → W → Type 0) (holds :
     commits_one (stepped.Trap k) i safe e = absurd (safe k refl)
 
     no_trap_end : ((k : TrapCause) → last.window.over ≡ stepped.Trap k → ⊥) → is_going budget last.window ≡ false
-        → suc n ≤ cost_of blocks last.window.state.trace
+        → suc n + cost_of blocks s.trace ≤ cost_of blocks last.window.state.trace
     no_trap_end safe e =
         let least : suc (length m.window.state.trace) ≤ length last.window.state.trace =
         commits_one last.window.over refl safe e in
         let most : length last.window.state.trace ≤ suc (length m.window.state.trace) =
         cycle_grows blocks good budget next follows m last c in
-        let l : suc n + cost_of blocks s.trace ≤ cost_of blocks last.window.state.trace =
         costs.commit blocks good budget next follows holds s predictor weather opens n m a on few last c
-        (omega (arith, least, most)) in
-        omega (arith, l)
+        (omega (arith, least, most))
 
   -- runs of as many cycles as are counted
   cycles_cost : (n : ℕ) (last : Grid W) → GoesFor next follows blocks budget n g last
@@ -187,8 +185,12 @@ module _ {W : Type 0} (next : W → ℕ) (follows : W → W → Type 0) (holds :
 
   ended_cost : (n : ℕ) (last : Grid W) → GoesFor next follows blocks budget n g last
       → last.counts.cycles < 2 ^ 64 - 1 → ((k : TrapCause) → last.window.over ≡ stepped.Trap k → ⊥)
-      → is_going budget last.window ≡ false → n ≤ cost_of blocks last.window.state.trace
-  ended_cost zero last c few safe e = omega arith
+      → is_going budget last.window ≡ false
+      → n + cost_of blocks s.trace ≤ cost_of blocks last.window.state.trace
+  ended_cost zero last c few safe e =
+      let same : cost_of blocks last.window.state.trace ≡ cost_of blocks s.trace =
+      ap (λ (x : Grid W). cost_of blocks x.window.state.trace) c in
+      omega (arith, same)
   ended_cost (suc n) last c few safe e =
       let m : Grid W = c.between in
       let k : m.counts.cycles ≤ last.counts.cycles =
@@ -251,11 +253,18 @@ module _ {W : Type 0} (next : W → ℕ) (follows : W → W → Type 0) (holds :
         let e : greatest_cost * budget ≡ most_cycles budget = most_is budget in
         omega (arith, l, e)
 
-    -- one that has ended without a trap is within the cost of its trace
-    pub end_cost : ((k : TrapCause) → h.window.over ≡ stepped.Trap k → ⊥) → is_going budget h.window ≡ false
-        → h.counts.cycles ≤ cost_of blocks h.window.state.trace
-    end_cost safe off =
-        let l : h.counts.cycles ≤ cost_of blocks final.window.state.trace =
+    -- one that has ended without a trap is within what the blocks cost that it has committed
+    pub end_cost_since : ((k : TrapCause) → h.window.over ≡ stepped.Trap k → ⊥) → is_going budget h.window ≡ false
+        → h.counts.cycles + cost_of blocks s.trace ≤ cost_of blocks h.window.state.trace
+    end_cost_since safe off =
+        let l : h.counts.cycles + cost_of blocks s.trace ≤ cost_of blocks final.window.state.trace =
         ended_cost h.counts.cycles final whole.cycles few_cycles (λ k i. safe k (end.over ∙ i)) (sym same_going ∙ off) in
         let k = same_cost in
         omega (arith, l, k)
+
+    -- and so within the cost of its trace
+    pub end_cost : ((k : TrapCause) → h.window.over ≡ stepped.Trap k → ⊥) → is_going budget h.window ≡ false
+        → h.counts.cycles ≤ cost_of blocks h.window.state.trace
+    end_cost safe off =
+        let l : h.counts.cycles + cost_of blocks s.trace ≤ cost_of blocks h.window.state.trace = end_cost_since safe off in
+        omega (arith, l)

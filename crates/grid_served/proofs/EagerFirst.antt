@@ -31,7 +31,7 @@ module _ {W : Type 0} (blocks : List Block) (budget : ℕ) (next : W → ℕ) (f
   D = worked blocks budget (fetches blocks budget E)
 
   -- units change in part (5) alone
-  units_d : (m : Moves next follows blocks budget D h) → (t : ℕ) → D.units t ≤ 24
+  pub units_d : (m : Moves next follows blocks budget D h) → (t : ℕ) → D.units t ≤ 24
   units_d m t =
       let e : h.units t ≡ D.units t =
       ap (λ (k : Grid W). k.units t) m.arrived
@@ -58,7 +58,7 @@ module _ {W : Type 0} (blocks : List Block) (budget : ℕ) (next : W → ℕ) (f
   }
 
   -- where part (1) ends the run nothing follows
-  ended : (s : Stepped) → E.window.over ≡ s → Follows s next follows blocks budget E h → E.window.over ≢ stepped.Went
+  pub ended : (s : Stepped) → E.window.over ≡ s → Follows s next follows blocks budget E h → E.window.over ≢ stepped.Went
       → h.window ≡ E.window
   ended stepped.Went i m n = absurd (n i)
   ended stepped.Ended i m n = ap (λ (k : Grid W). k.window) m

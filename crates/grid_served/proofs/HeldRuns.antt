@@ -31,9 +31,11 @@ module _ (sizes : ℕ → ℕ) (k : ℕ) (l : Lane) (small : k < fetch_latency) 
       let c : left_held sizes k l ≤ price (sizes l.done) = held_most sizes l k small rule in
       subst₂ (λ (x : Lane) i. LaneRule sizes x × Within sizes 0 l i x) (sym e.0) (sym e.1) (rule, (omega (arith, c)))
   after_held (suc n) j m a =
-      let b : LaneRule sizes a.between × Within sizes n l a.holds a.between = after_held n a.holds a.between a.before in
-      (a.rule, step n a.holds j a.between m a.rule a.few b.1
-          (falls_held sizes a.between m b.0 j a.few a.holds a.served))
+      let b : LaneRule sizes a.between × Within sizes n l a.holds a.between = after_held n a.holds a.between a.before in (
+        a.rule,
+        step n a.holds j a.between m a.rule a.few b.1
+            (falls_held sizes a.between m b.0 j a.few a.holds a.served),
+      )
 
   -- a cycle that commits, whatever comes first behind it
   pub held_commit : (n j : ℕ) (m x : Lane) → AfterHeld sizes n k l j m → x.done ≡ suc m.done

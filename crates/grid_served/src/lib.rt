@@ -9,7 +9,7 @@ mod law;
 
 pub use law::{
     arrivals_serve, banks_serve, cycles_stay_within, data_tiles_serve, eager_cycles_come_first,
-    eager_cycles_serve, far_units_stay, fetches_serve, first_frames_are_served, held_cycles_are_bounded,
-    held_cycles_fall, idle_parts, oldest_frames_end, oldest_parcels_tick, tables_tell, units_serve,
-    units_stay,
+    eager_cycles_serve, far_units_stay, fetches_serve, first_frames_are_served,
+    held_cycles_are_bounded, held_cycles_fall, idle_parts, oldest_frames_end, oldest_parcels_tick,
+    tables_tell, units_serve, units_stay,
 };

@@ -2,4 +2,8 @@
 #![tactic(auto)]
 
 #[cfg(test)]
+mod predictors;
+#[cfg(test)]
+mod text_tests;
+#[cfg(test)]
 mod worst_tests;

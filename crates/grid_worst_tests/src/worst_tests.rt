@@ -3,8 +3,8 @@ ghost use Rattle.std.specs.Prelude.{◌≡◌, [], IfOk};
 ghost use Rattle.grid_run.specs.WholeRuns.{IsKept};
 ghost use Rattle.grid_state.specs.Seen.{seen};
 
+use crate::predictors::predictor;
 use block_check::CheckedImage;
-use block_predict::Predictor;
 use c_compile::compile;
 use grid_machine::{make, run};
 use grid_parts::Grid;
@@ -32,17 +32,6 @@ fn image(rt: &impl Abort, alloc: Global, text: &str) -> Result<CheckedImage, Fai
     match compile(alloc, bytes, Placing::Greedy) {
         Ok(image) => Ok(image),
         Err(_) => Err(Fail::from(AllocError)),
-    }
-}
-
-// A predictor whose entries all name one exit.
-fn predictor(alloc: Global, exit: u8) -> Result<Predictor, Fail>
-    ensures { IfOk result (λ p. p.stack ≡ []) }
-{
-    let entries = vec![in alloc; exit; 1024]?;
-    match Predictor::wrong(alloc, entries) {
-        Ok(predictor) => Ok(predictor),
-        Err(memory) => Err(Fail::from(memory)),
     }
 }
 

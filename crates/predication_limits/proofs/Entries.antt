@@ -1,6 +1,6 @@
 -- Where the word of a register comes from in a block of one test: as the block found it, from one node, or
 -- from both legs.
-use Rattle.std.proofs.Common.{◌≡◌, ℕ, suc, ◌+◌, ◌<◌, ◌≤◌, Bool, true, false, List, [], ◌∷◌, ◌++◌, length, refl, sym}
+use Rattle.std.proofs.Common.{◌≡◌, ℕ, suc, ◌<◌, ◌≤◌, Bool, true, false, List, [], ◌∷◌, ◌++◌, length, refl, sym}
 use Rattle.std.proofs.Common.{ap, subst, arith, length-append, cond, nat_eq, ◌⊎◌, inl, inr}
 use Rattle.std.specs.Prelude.{Some, None, slice_get, ◌||◌}
 use Rattle.trips_isa.specs.Forms.{role_of}

@@ -15,7 +15,7 @@ use Rattle.ir_forms.specs.declared.flow.FlowSource.{FlowSource}
 use Rattle.ir_forms.specs.declared.flow.FlowSource.TheVariants.{Node}
 use Rattle.ir_forms.specs.declared.flow.FlowNode.{FlowNode}
 use Rattle.ir_forms.specs.HyperCode.{Leave, Test}
-use Rattle.predication.specs.Environments.{Scope, Env, Bits, no_bits, put, from_node, under, member, distinct}
+use Rattle.predication.specs.Environments.{Scope, Env, Bits, put, from_node, under, member, distinct}
 use Rattle.predication.specs.Operands.{Chain, operand, constant_of, mov_of, tested}
 use Rattle.predication.specs.Ifs.{Joined, join}
 use Rattle.predication.specs.Tails.{Ending, branch_of, exit_touched, leaving, tail, high_half, low_half}
@@ -64,9 +64,9 @@ module _ (P : ℕ → Type 0) (all : List FlowNode) (c : ℕ) where
     used = ((λ d. absurd (no_constant (form_of o) f d)), tt);
     reads = ((λ q d. absurd (cc)), (λ q d. absurd (cc)), tt);
     cost = (let u = guard_one g in
-    let a = own_most (form_of o) in
-    let b = one_most (form_of o) in
-    omega (arith, u, a, b));
+        let a = own_most (form_of o) in
+        let b = one_most (form_of o) in
+        omega (arith, u, a, b));
   }
     where
       not_both : {b : Bool} → b ≡ false → b ≡ true → ⊥
@@ -105,8 +105,7 @@ module _ (P : ℕ → Type 0) (all : List FlowNode) (c : ℕ) where
       let w : uses s (return_to g j ∷ call g l e ∷ []) ≡ times s (Node (suc j) ∷ [])
       + (0 + length (noted false s (guard_sources g))) + uses s (call g l e ∷ []) =
       node_uses s (return_to g j) (call g l e ∷ []) in
-      omega (arith, u, v, w) in
-      (
+      omega (arith, u, v, w) in (
         (λ d. let h = more (Node j) in let n = named_once (Node j) in omega (arith, h, n)),
         (
           (λ d. let h = more (Node (suc j)) in let n = named_once (Node (suc j)) in omega (arith, h, n)),

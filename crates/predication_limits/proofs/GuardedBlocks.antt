@@ -1,7 +1,7 @@
 -- A flow block whose guards are one node, whose operands are surely there, and which costs little, is within
 -- the limits of the machine once it is completed.
-use Rattle.std.proofs.Common.{◌≡◌, ℕ, zero, suc, ◌+◌, ◌*◌, ◌<◌, ◌≤◌, Bool, true, false, ◌||◌, List, [], ◌∷◌, ◌++◌}
-use Rattle.std.proofs.Common.{length, refl, sym, ap, subst, ◌∙◌, arith, length-append, nat_eq, cond}
+use Rattle.std.proofs.Common.{◌≡◌, ℕ, suc, ◌+◌, ◌*◌, ◌<◌, ◌≤◌, Bool, true, false, ◌||◌, List, [], ◌∷◌, ◌++◌}
+use Rattle.std.proofs.Common.{length, refl, sym, subst, ◌∙◌, arith, length-append, nat_eq, cond}
 use Rattle.std.specs.Prelude.{Option, Some, None, slice_get}
 use Rattle.trips_isa.specs.declared.block.Block.{Block as MachineBlock}
 use Rattle.trips_isa.specs.declared.form.Form.{Form}
@@ -94,16 +94,16 @@ store_first n j k form.Constant s = absurd (cc)
 
 some_stored : (ns : List FlowNode) (j k : ℕ) → has_store ns k ≡ true → 1 ≤ length (stores_of j ns k)
 some_stored [] j k e = absurd (cc)
-some_stored (n ∷ ns) j k e = go (stores_as (form_of n.op) n k) refl e
+some_stored (n ∷ ns) j k e = go (stores_as (form_of n.op) n k) refl e (λ d. some_stored ns (suc j) k d)
   where
     size : length (stores_of j (n ∷ ns) k)
         ≡ length (store_source (form_of n.op) n j k) + length (stores_of (suc j) ns k)
     size = length-append (store_source (form_of n.op) n j k) (stores_of (suc j) ns k)
 
     go : (t : Bool) → stores_as (form_of n.op) n k ≡ t → (t || has_store ns k) ≡ true
-        → 1 ≤ length (stores_of j (n ∷ ns) k)
-    go true s d = let h = store_first n j k (form_of n.op) s in let z = size in omega (arith, h, z)
-    go false s d = let h = some_stored ns (suc j) k d in let z = size in omega (arith, h, z)
+        → (has_store ns k ≡ true → 1 ≤ length (stores_of (suc j) ns k)) → 1 ≤ length (stores_of j (n ∷ ns) k)
+    go true s d f = let h = store_first n j k (form_of n.op) s in let z = size in omega (arith, h, z)
+    go false s d f = let h = f d in let z = size in omega (arith, h, z)
 
 masked_stored : (ns : List FlowNode) (k : ℕ) → k < 32 → in_mask (mask_below ns 32) k ≡ true
     → 1 ≤ length (stores_of 0 ns k)
@@ -208,14 +208,14 @@ module _ (b : Block) (qs : List ℕ) (few_named : length qs ≤ 32) (x : IsGuard
   chooses : IsNoMov g.nodes c
   chooses n e = go x.choice
     where
+      same_node : {u v : FlowNode} {o : Option FlowNode} → o ≡ Some u → o ≡ Some v → u ≡ v
+      same_node s t = cc
+
       go : IsChoice (all_nodes b) (length (all_nodes b)) None c → is_copy (role_of n.op) ≡ false
       go (m, at, h, z, l) =
           let own = sym (front_got f.nodes (added (sure_by f) (want_by f) f) c l) ∙ e in
-          let same : m ≡ n = one at own in
+          let same : m ≡ n = same_node at own in
           subst (λ (y : FlowNode). is_copy (role_of y.op) ≡ false) same z
-
-      one : {u v : FlowNode} {o : Option FlowNode} → o ≡ Some u → o ≡ Some v → u ≡ v
-      one s t = cc
 
   nodes_few : length f.nodes ≤ 128
   nodes_few =

@@ -1,5 +1,5 @@
 -- Items with one if, whose legs have none: the test, both legs, what they leave, and what stands around them.
-use Rattle.std.proofs.Common.{◌≡◌, ℕ, suc, ◌+◌, ◌*◌, ◌≤◌, Bool, true, false, List, [], ◌∷◌, ◌++◌, length, sym, subst}
+use Rattle.std.proofs.Common.{◌≡◌, ℕ, suc, ◌+◌, ◌*◌, ◌≤◌, Bool, true, false, List, ◌++◌, length, sym, subst}
 use Rattle.std.proofs.Common.{refl, arith, length-append, inl}
 use Rattle.std.specs.Prelude.{None}
 use Rattle.trips_isa.specs.Forms.{form_of, role_of, takes_right}
@@ -196,7 +196,8 @@ module _ (P : ℕ → Type 0) (all : List FlowNode) where
       let h = holds_if rest (suc k) n (put env r (from_node k)) (note bits r (bit_set o bits a k)) f.4 z p.2
       (λ q. known_single all 0 (suc k) None (put env r (from_node k) q)
       (put_known all 0 false j k None env r from here (λ y. inl (single y)) q))
-      (set_bits all None o 0 t j env bits r a b later.nodes at told) (at_rest all None o 0 t j env a b later.nodes at) in
+      (set_bits all None o 0 t j env bits r a b later.nodes at told)
+      (at_rest all None o 0 t j env a b later.nodes at) in
       let size = item_size None o 0 t j env a b later.nodes in
       let end = j + length (item_nodes None o 0 t j env a b later.nodes) in
       let last : suc k + length later.nodes ≤ end = omega (arith, size) in
@@ -266,4 +267,5 @@ module _ (P : ℕ → Type 0) (all : List FlowNode) where
         number = (let w = h.number in omega (arith, w));
       }
   holds_if (If t one other rest) j n env bits f z p single told at =
-      if_holds P all t one other rest j n env bits f (omega (arith, z)) (omega (arith, z)) (omega (arith, z)) p single told at
+      if_holds P all t one other rest j n env bits f (omega (arith, z)) (omega (arith, z)) (omega (arith, z)) p
+      single told at

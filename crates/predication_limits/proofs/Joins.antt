@@ -1,7 +1,7 @@
 -- What both legs of the test of a block leave of the registers that a leg sets.
 use Rattle.std.proofs.Common.{◌≡◌, ℕ, suc, ◌+◌, ◌*◌, ◌≤◌, Bool, true, false, List, [], ◌∷◌, ◌++◌, length, refl, sym}
-use Rattle.std.proofs.Common.{subst, arith, length-append, cond, nat_eq, inl, inr}
-use Rattle.std.specs.Prelude.{None}
+use Rattle.std.proofs.Common.{subst, ap, ◌∙◌, arith, length-append, cond, nat_eq, inl, inr}
+use Rattle.std.specs.Prelude.{Some, None, slice_get}
 use Rattle.ir_forms.specs.declared.flow.FlowSource.TheVariants.{Node}
 use Rattle.ir_forms.specs.declared.flow.FlowNode.{FlowNode}
 use Rattle.predication.specs.declared.work.Entry.{Entry}
@@ -11,7 +11,8 @@ use Rattle.predication.specs.Ifs.{Part, Joined, left_of, side_of, join}
 use Rattle.predication_limits.proofs.Pieces.{found}
 use Rattle.predication_limits.proofs.Firmness.{bare_there}
 use Rattle.predication_limits.proofs.Supplies.{AreAt, at_front, at_back}
-use Rattle.predication_limits.proofs.OneGuard.{IsGuardBy, under_by, guard_one, IsHeld, held_none, held_append, held_wider}
+use Rattle.predication_limits.proofs.OneGuard.{IsGuardBy, under_by, guard_one, IsHeld, held_none, held_append}
+use Rattle.predication_limits.proofs.OneGuard.{held_wider}
 use Rattle.predication_limits.proofs.Entries.{IsUnder, IsOwn, IsSingle, IsSide, IsKnown, own_later, single_later}
 use Rattle.predication_limits.proofs.Entries.{side_later, known_later, under_later}
 
@@ -57,14 +58,14 @@ module _ (P : ℕ → Type 0) (all : List FlowNode) (c : ℕ) where
           reads = ((λ q d. absurd (cc)), (λ q d. absurd (cc)), tt);
           cost = omega (arith, u);
         };
-        side = inl (j + 0, (mov_of g (Node i ∷ []), here at, refl, omega arith), refl);
+        side = inl (j + 0, (mov_of g (Node i ∷ []), first at, refl, omega arith), refl);
       }
     where
       zero_on : j + 0 ≡ j
       zero_on = omega arith
 
-      here : AreAt all j (mov_of g (Node i ∷ []) ∷ []) → AreAt all (j + 0) (mov_of g (Node i ∷ []) ∷ [])
-      here x = subst (λ (k : ℕ). AreAt all k (mov_of g (Node i ∷ []) ∷ [])) (sym zero_on) x
+      first : AreAt all j (mov_of g (Node i ∷ []) ∷ []) → slice_get all (j + 0) ≡ Some (mov_of g (Node i ∷ []))
+      first x = ap (slice_get all) zero_on ∙ x.0
 
   left_is : (j : ℕ) (g : Scope) (r : ℕ) (e : Entry) → IsGuardBy c g → IsSingle all j None e → Left j g r e
   left_is j g r e guard (inl x) = subst (Left j g r) (sym x) (found_left j g r)

@@ -1,27 +1,26 @@
 -- What the operands of a block of one test come to: their sources are surely there under the scope.
-use Rattle.std.proofs.Common.{◌≡◌, ℕ, ◌+◌, ◌<◌, ◌≤◌, Bool, true, false, not, ◌||◌, List, [], ◌∷◌, ◌++◌}
-use Rattle.std.proofs.Common.{length, refl, sym, ap, ap₂, subst, ◌∙◌, arith, inl, inr}
-use Rattle.std.specs.Prelude.{Some, None, slice_get}
-use Rattle.trips_isa.specs.Forms.{role_of, takes_right}
+use Rattle.std.proofs.Common.{◌≡◌, ℕ, ◌<◌, ◌≤◌, Bool, true, false, not, ◌||◌, List, [], ◌∷◌, ◌++◌}
+use Rattle.std.proofs.Common.{refl, sym, ap, ap₂, subst, ◌∙◌, arith, inl, inr}
+use Rattle.std.specs.Prelude.{None}
 use Rattle.ir_forms.specs.declared.hyper.Source.{Source}
 use Rattle.ir_forms.specs.declared.hyper.Source.TheVariants.{Const, Reg}
 use Rattle.ir_forms.specs.declared.flow.FlowSource.{FlowSource}
 use Rattle.ir_forms.specs.declared.flow.FlowSource.TheVariants.{Read, Node}
 use Rattle.ir_forms.specs.declared.flow.FlowNode.{FlowNode}
 use Rattle.predication.specs.declared.work.Entry.{Entry}
-use Rattle.predication.specs.Environments.{Scope, Env, at_start, under, from_node, both}
+use Rattle.predication.specs.Environments.{Scope, Env, at_start, under, both}
 use Rattle.predication.specs.Operands.{mov_of, read_of, operand, second}
 use Rattle.null_outputs.specs.Surely.{Firm, same_scope, has, scope_of, scopes, sure_of}
 use Rattle.null_outputs.specs.Surely as surely
 use Rattle.null_outputs.proofs.Recognised.{recognises_scope, recognises_both, has_scope}
 use Rattle.predication_limits.specs.Costs.{source_cost}
-use Rattle.predication_limits.proofs.Pieces.{found, ArePlain, Names, operand_piece, read_named}
+use Rattle.predication_limits.proofs.Pieces.{ArePlain, Names, operand_piece, read_named}
 use Rattle.predication_limits.proofs.Flat.{Piece}
 use Rattle.predication_limits.proofs.Cheap.{source_most}
 use Rattle.predication_limits.proofs.Firmness.{IsThere, read_there, bare_there}
 use Rattle.predication_limits.proofs.Supplies.{AreAt, IsSupplied, operand_supplied}
 use Rattle.predication_limits.proofs.OneGuard.{under_by, none_saved, flat_by, IsServed}
-use Rattle.predication_limits.proofs.Entries.{kept_in, IsUnder, IsOwn, IsSide, IsMerged, IsKnown, under_later}
+use Rattle.predication_limits.proofs.Entries.{IsUnder, IsSide, IsMerged, IsKnown, under_later}
 
 -- SCOPES
 

@@ -1,5 +1,5 @@
 -- Small blocks without if-items cost little.
-use Rattle.std.proofs.Common.{◌≡◌, ℕ, ◌*◌, ◌≤◌, true, List, [], ◌∷◌, ◌++◌}
+use Rattle.std.proofs.Common.{◌≡◌, ℕ, ◌+◌, ◌*◌, ◌≤◌, true, List, [], ◌∷◌, ◌++◌}
 use Rattle.std.proofs.Common.{length, arith, length-append}
 use Rattle.ir_forms.specs.declared.hyper.Source.{Source}
 use Rattle.ir_forms.specs.declared.hyper.Source.TheVariants.{Const, Reg}
@@ -111,8 +111,7 @@ module _ (P : ℕ → Type 0) where
       let legs = items_registers one ++ (items_registers other ++ items_registers rest) in
       let g : (q : ℕ) → member q legs ≡ true → P q = λ q m. f q (member_back q (registers t) legs m) in
       let h : (q : ℕ) → member q (items_registers other ++ items_registers rest) ≡ true → P q =
-      λ q m. g q (member_back q (items_registers one) (items_registers other ++ items_registers rest) m) in
-      (
+      λ q m. g q (member_back q (items_registers one) (items_registers other ++ items_registers rest) m) in (
         names_of t (λ q m. f q (member_front q (registers t) legs m)),
         names_in one (λ q m. g q
             (member_front q (items_registers one) (items_registers other ++ items_registers rest) m)),

@@ -1,6 +1,6 @@
 -- Every small block fits the machine.
-use Rattle.std.proofs.Common.{◌≡◌, ℕ, zero, suc, ◌+◌, ◌*◌, ◌≤◌, true, List, [], ◌∷◌, ◌++◌, length, refl, sym, ap}
-use Rattle.std.proofs.Common.{subst, ◌∙◌, arith, length-append, inl, inr, ◌⊎◌}
+use Rattle.std.proofs.Common.{◌≡◌, ℕ, zero, suc, ◌+◌, ◌*◌, ◌≤◌, true, false, List, ◌++◌, length, refl, sym, ap}
+use Rattle.std.proofs.Common.{subst, ◌∙◌, arith, length-append, inl}
 use Rattle.std.specs.Prelude.{None}
 use Rattle.trips_isa.specs.declared.block.Block.{Block as MachineBlock}
 use Rattle.trips_isa.specs.declared.op.Op.TheVariants as op
@@ -11,14 +11,12 @@ use Rattle.ir_forms.specs.declared.hyper.Exit.{Exit}
 use Rattle.ir_forms.specs.declared.flow.FlowNode.{FlowNode}
 use Rattle.ir_forms.specs.declared.flow.FlowBlock.{FlowBlock}
 use Rattle.ir_forms.specs.HyperCode.{Items, Done, Set, Load, Save, If, Tail, Leave, Test, Block}
-use Rattle.ir_forms.specs.HyperFits.{FitsHyper, FitsItems, IsSmall, items_in, ifs_in, exits_in, tests_in}
-use Rattle.hyper_build.specs.Smallness.{IsSimple}
-use Rattle.hyper_build.specs.SmallIfs.{IsShortLeg, HoldsSmallIf, if_block}
+use Rattle.ir_forms.specs.HyperFits.{FitsHyper, FitsItems, IsSmall, items_in, ifs_in}
+use Rattle.hyper_build.specs.SmallIfs.{IsShortLeg, if_block}
 use Rattle.predication.specs.Environments.{no_bits, at_start, member}
 use Rattle.predication.specs.Ifs.{touched, items}
-use Rattle.predication.specs.Tails.{labelled, addressed, address_end, exit_with, tail_with, block_with, exit_touched}
-use Rattle.predication.specs.Tails.{leaving}
-use Rattle.predication.specs.Converted.{begun, ended, all_nodes, all_touched, predicated}
+use Rattle.predication.specs.Tails.{labelled, addressed, address_end, exit_with, block_with, exit_touched}
+use Rattle.predication.specs.Converted.{begun, ended, all_nodes, predicated}
 use Rattle.predication.specs.Labels.{by_address}
 use Rattle.predication.specs.Laws as predication
 use Rattle.predication.proofs.Addressed.{takes_addressed}
@@ -31,19 +29,16 @@ use Rattle.c_compile_layout.specs.Linking.{resolved_block}
 use Rattle.c_compile_layout.proofs.Targets.{targeted_resolved}
 use Rattle.c_compile_layout.proofs.Linked.{nodes_same}
 use Rattle.predication_limits.specs.Limits.{FitsMachine, SmallBlocksFit, SmallIfsFit}
-use Rattle.predication_limits.proofs.Pieces.{Names}
-use Rattle.predication_limits.proofs.Items.{NamesIn}
-use Rattle.predication_limits.proofs.Ends.{NamesExit}
 use Rattle.predication_limits.proofs.Members.{member_front, member_back}
 use Rattle.predication_limits.proofs.SmallBlocks.{registers, items_registers, exit_registers, one_register}
 use Rattle.predication_limits.proofs.SmallBlocks.{few_registers, end_few, names_of, names_in, exit_named}
 use Rattle.predication_limits.proofs.Supplies.{AreAt, at_front, at_back, at_all}
-use Rattle.predication_limits.proofs.OneGuard.{unguarded, IsHeld, held_append, held_wider}
-use Rattle.predication_limits.proofs.Entries.{IsChoice, IsSingle, IsKnown, IsScant, choice_later, known_scant}
+use Rattle.predication_limits.proofs.OneGuard.{unguarded, IsHeld, held_append}
+use Rattle.predication_limits.proofs.Entries.{IsChoice, IsSingle, IsKnown, choice_later, known_scant}
 use Rattle.predication_limits.proofs.Entries.{known_later, known_single}
 use Rattle.predication_limits.proofs.Runs.{no_bits_are, bits_later, IsRun, run}
 use Rattle.predication_limits.proofs.HeldIfs.{touched_few, HoldsIf, holds_if}
-use Rattle.predication_limits.proofs.Exits.{exit_few, exit_scant, IsLeft, left_held, IsTested, test, test_end}
+use Rattle.predication_limits.proofs.Exits.{exit_few, exit_scant, IsLeft, left_held, IsTested, test_end}
 use Rattle.predication_limits.proofs.GuardedBlocks.{IsGuarded, room, numbered, within, few_cases}
 use Rattle.predication_limits.proofs.ShortLayout.{anywhere, short}
 use Rattle.predication_limits.proofs.PlainFit.{plain_fits}
@@ -240,12 +235,6 @@ zeros _ a = absurd a
 module _ (b : Block) (fits : FitsHyper b) (qs : (ℕ → ℕ) → List ℕ) (few : (f : ℕ → ℕ) → length (qs f) ≤ 32)
     (h : (f : ℕ → ℕ) → IsGuarded (λ q. member q (qs f) ≡ true) (block_with f b))
     (numbers : predication.HasRoom b) where
-  abbrev far : ℕ → ℕ
-  far l = address_end + l
-
-  abbrev near : ℕ → ℕ
-  near l = 0
-
   cases_few : (u : MachineBlock) → fan_out.IsTargeted (complete (predicated (labelled b))) u
       → cases (nodes_of u) ≤ 256
   cases_few u is =
@@ -258,15 +247,15 @@ module _ (b : Block) (fits : FitsHyper b) (qs : (ℕ → ℕ) → List ℕ) (few
       subst (λ (g : FlowBlock). fan_out.IsTargeted g v)
       (sym (keeps_immediates (by_address (λ l. 0)) zeros f) ∙ same)
       (targeted_resolved (by_address (λ l. 0)) refl (complete f) u is) in
-      let two = few_cases (block_with near b) (qs near) (few near) (h near) taken.fits v targeted in
+      let two = few_cases (addressed anywhere b) (qs (λ l. 0)) (few (λ l. 0)) (h (λ l. 0)) taken.fits v targeted in
       let nodes = ap cases (nodes_same (by_address (λ l. 0)) u) in
       omega (arith, two, nodes)
 
   pub guarded_fits : FitsMachine b
   guarded_fits = record {
-    parts = within (labelled b) (qs far) (few far) (h far);
+    parts = within (labelled b) (qs (λ l. address_end + l)) (few (λ l. address_end + l)) (h (λ l. address_end + l));
     numbers = numbers;
-    room = room (labelled b) (qs far) (few far) (h far);
+    room = room (labelled b) (qs (λ l. address_end + l)) (few (λ l. address_end + l)) (h (λ l. address_end + l));
     cases = cases_few;
   }
 
@@ -304,7 +293,8 @@ parts_fit is (Leave out) fits small = go (ifs_in is) refl
   where
     go : (k : ℕ) → ifs_in is ≡ k → FitsMachine (record { items = is; tail = Leave out })
     go zero e =
-        plain_fits (record { items = is; tail = Leave out }) fits (inl (record { small = small; plain = e; jumps = tt }))
+        plain_fits (record { items = is; tail = Leave out }) fits
+        (inl (record { small = small; plain = e; jumps = tt }))
     go (suc zero) e = if_fits is out fits e small.items
     go (suc (suc k)) e = absurd (let s = small.tests in omega (arith, s, e))
 parts_fit is (Test t (Leave one) (Leave other)) fits small =

@@ -11,7 +11,7 @@ use Rattle.ir_forms.specs.declared.flow.FlowSource.{FlowSource}
 use Rattle.ir_forms.specs.declared.flow.FlowSource.TheVariants.{Node}
 use Rattle.ir_forms.specs.declared.flow.FlowNode.{FlowNode}
 use Rattle.predication.specs.Environments.{Scope, at_start}
-use Rattle.predication.specs.Operands.{Chain, constant_of, longer, chain, operand, second}
+use Rattle.predication.specs.Operands.{Chain, constant_of, longer, chain, operand}
 use Rattle.predication_limits.proofs.Firmness.{IsThere, IsBare, read_there, bare_there, AreFirm, firm_append}
 
 -- no node is a store
@@ -51,9 +51,6 @@ module _ (all : List FlowNode) where
     pub nodes : AreFirm all j ns
     pub silent : NoStores ns
     pub sources : t ≡ true → (k : ℕ) (g : Scope) → j + length ns ≤ k → IsThere all k g ss
-
-  pub no_supply : (j : ℕ) → IsSupplied false j [] []
-  no_supply j = record { nodes = tt; silent = tt; sources = λ e. absurd (cc) }
 
   genu_supplied : (j w : ℕ) → IsBare all j → IsSupplied true j (constant_of op.Genu w [] ∷ []) (Node j ∷ [])
   genu_supplied j w b = record {
@@ -104,11 +101,6 @@ module _ (all : List FlowNode) where
     silent = tt;
     sources = λ e k g l. read_there all k g r [];
   }
-
-  pub second_supplied : (t : Bool) (j : ℕ) (a : Source) → AreAt j (second t j at_start a).nodes
-      → IsSupplied t j (second t j at_start a).nodes (second t j at_start a).sources
-  second_supplied true j a b = operand_supplied j a b
-  second_supplied false j a b = no_supply j
 
 pub at_all : (ns : List FlowNode) → AreAt ns 0 ns
 at_all ns = at_from ns ns 0 (λ i k n q e. let at : k ≡ i = omega (arith, q) in ap (slice_get ns) at ∙ e)

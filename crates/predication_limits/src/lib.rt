@@ -5,5 +5,6 @@
 mod laws;
 
 pub use laws::{
-    cases_are_few, cut_programs_fit, little_blocks_fit, only_memory_refuses, small_blocks_fit, small_ifs_fit,
+    cases_are_few, cut_programs_fit, little_blocks_fit, only_memory_refuses, small_blocks_fit,
+    small_ifs_fit,
 };

@@ -1,5 +1,5 @@
 -- What the run of a compiled program is told to come to.
-use Rattle.std.proofs.Common.{◌≡◌, ℕ, ℤ, ◌+◌, ◌*◌, ◌<◌, ◌≤◌, List, ◌++◌, slice_index, refl, sym, ap, ◌∙◌, subst}
+use Rattle.std.proofs.Common.{◌≡◌, ℕ, ℤ, ◌+◌, ◌*◌, ◌<◌, ◌≤◌, List, [], ◌++◌, slice_index, refl, sym, ap, ◌∙◌, subst}
 use Rattle.std.proofs.Common.{length, Option, Some, arith}
 use Rattle.std.specs.Prelude.{codes}
 use Rattle.std.specs.Fmt.{signed_decimal}
@@ -118,7 +118,7 @@ module _ (settings : Settings) (n : ℕ) (text input : List ℕ) (program : Type
 
   -- the grid that is told of has come to what the evaluation is
   pub finished_grid : (output : List ℕ) (value : ℤ) (steps : ℕ) → eval program input n ≡ Done output value steps
-      → EndsAsMeant run.0 input settings.most output value ending.Ended run.3.1.grid
+      → EndsAsMeant run.0 input settings.most [] output value ending.Ended run.3.1.grid
   finished_grid output value steps done =
       let r : State × Stepped = run_of run.0 input settings.most in
       let h : Grid PcgWeather = run.3.1.grid in

@@ -1,5 +1,5 @@
 -- What is written of a run, and what is shown behind it.
-use Rattle.std.proofs.Common.{◌≡◌, ◌≢◌, ℕ, ℤ, ◌+◌, ◌*◌, ◌≤◌, List, Option, All, subst}
+use Rattle.std.proofs.Common.{◌≡◌, ◌≢◌, ℕ, ℤ, ◌+◌, ◌*◌, ◌≤◌, List, [], Option, All, subst}
 use Rattle.trips_outside.specs.Outside.{Appended}
 use Rattle.trips_isa.specs.declared.block.Image.{Image}
 use Rattle.trips_isa.specs.declared.run.Ending.TheVariants as ending
@@ -93,7 +93,7 @@ module _ (held : List ℕ → Option (List ℕ)) (rose : Type 0) (old new : Opti
       → (image : Image) × IsImageOf bytes asks.q.placing image
       × ((runs image.blocks (start image.bytes input) most).1 ≡ stepped.Ended)
       × (told : IsReported image input (settings_with asks.q most show) status.Ended (ended_report output value) s old
-      new) × EndsAsMeant image input most output value ending.Ended told.1.grid
+      new) × EndsAsMeant image input most [] output value ending.Ended told.1.grid
   headline n output value steps program asks is done enough r c m =
       let row = whole_of held rose old new cut q s a c m in
       let run = text_done c m program asks is r in

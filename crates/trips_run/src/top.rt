@@ -84,7 +84,7 @@ pub fn trips_run<F: Files, K: Sink>(
         × ((runs image.blocks (start image.bytes input) most).1 ≡ stepped.Ended)
         × (told : IsReported image input (settings_with asks.q most show) Status.Ended (ended_report output value)
         result (K.written sink.old) (K.written sink.new))
-        × EndsAsMeant image input most output value ending.Ended told.1.grid }
+        × EndsAsMeant image input most [] output value ending.Ended told.1.grid }
     ensures shown_deep { (most n : ℕ) (show : Show) (text input output : List ℕ)
         (program : TypedProgram)
         → (asks : AsksFor (request_of words.now) (F.held files.old) Run form.Source most show text input)

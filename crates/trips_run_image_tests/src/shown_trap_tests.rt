@@ -29,12 +29,7 @@ N[5] scall 0
 const TRAPPED: &str = "output 0\n\ntrap block 1 cause 1\n";
 
 /// Words behind the file's name, and the registers that are shown, the trace, and the count of blocks behind them.
-type Row = (
-    &'static [&'static str],
-    bool,
-    &'static str,
-    &'static str,
-);
+type Row = (&'static [&'static str], bool, &'static str, &'static str);
 
 const ROWS: &[Row] = &[
     (&["--trace"], false, "block 0 exit 2\n", ""),
@@ -72,7 +67,7 @@ fn assert_rows(rt: &impl Abort, alloc: Global, rows: &[Row]) -> Result<(), Alloc
         report.extend_from_slice(blocks.as_bytes())?;
         let (status, written) = answer_of(alloc, &words, &[("v.tasl", LATE.as_bytes())])?;
         assert_eq!(rt; status, Status::Trap, "{others:?}");
-        assert!(rt; written.starts_with(&report), "{others:?}");
+        assert!(rt; written.starts_with(report.as_slice()), "{others:?}");
         if blocks.is_empty() {
             assert_eq!(rt; written.len(), report.len(), "{others:?}");
         }

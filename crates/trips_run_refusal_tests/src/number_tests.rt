@@ -16,7 +16,8 @@ const FOREVER: &str = "int main(void) { while (1) ; }";
 const DIVISION: &str = "int main(void) { int zero = 0; return 7 / zero; }";
 
 // A frame of f takes more than half of the stack, so the second one finds no room.
-const DEEP: &str = "int f(void) { long a[100000]; a[0] = f(); return 1; } int main(void) { return f(); }";
+const DEEP: &str =
+    "int f(void) { long a[100000]; a[0] = f(); return 1; } int main(void) { return f(); }";
 
 // The numbers are those of the table of docs/trips.1.
 const ROWS: &[Row] = &[
@@ -42,19 +43,18 @@ const ROWS: &[Row] = &[
     ),
     (&["run", "a.c"], DEEP, 6, "output 0\n\nstack full\n"),
     (&["eval", "a.c"], DEEP, 6, "output 0\n\ndeep\n"),
-    (
-        &["run", "a.c"],
-        DIVISION,
-        9,
-        "output 0\n\ntrap block ",
-    ),
+    (&["run", "a.c"], DIVISION, 9, "output 0\n\ntrap block "),
     (&["eval", "a.c"], DIVISION, 10, "output 0\n\nundefined\n"),
 ];
 
 fn assert_rows(rt: &impl Abort, alloc: Global, rows: &[Row]) -> Result<(), AllocError> {
     for (words, text, number, report) in rows {
         let (status, written) = answer_of(alloc, *words, &[("a.c", text.as_bytes())])?;
-        assert_eq!(rt; exit_code(status), ExitCode::from(*number), "{words:?} {text}");
+        assert_eq!(rt;
+            exit_code(status),
+            ExitCode::from(*number),
+            "{words:?} {text}"
+        );
         assert!(rt; written.starts_with(report.as_bytes()), "{words:?} {text}");
     }
     Ok(())
@@ -70,7 +70,7 @@ fn each_ending_has_its_number(rt: HostRuntime) -> Result<(), Fail> {
 #[test]
 fn a_failed_write_has_its_number(rt: HostRuntime) -> Result<(), Fail> {
     let alloc = rt.alloc();
-    let words = Vec::new(alloc);
+    let words: Vec<String> = Vec::new(alloc);
     let mut files = HonestFiles::make(Vec::new(alloc));
     let mut sink = MemSink::make(alloc, 1, 0, Vec::new(alloc))?;
     let status = trips_run(alloc, &words, &mut files, &mut sink);

@@ -4,7 +4,7 @@ use Rattle.ir_forms.specs.declared.fault.FlowFault.{FlowFault}
 use Rattle.ir_forms.specs.HyperViews.{block_of}
 use Rattle.c_compile_blocks.specs.Refusals.{IsRefused}
 use Rattle.c_compile_blocks.proofs.Passes.{passed, is_machine_block, by_first, by_second, by_third}
-use Rattle.c_compile_blocks.proofs.Passes.{handed_on, never_refused}
+use Rattle.c_compile_blocks.proofs.Passes.{handed_on, never_refused, small_never}
 use Rattle.c_compile_blocks.proofs.blocks.machine_block.Goals as goal
 
 pub returns-in_err-convert-clause-err : goal.returns-in_err-convert-clause-err
@@ -17,6 +17,12 @@ returns-in_err-convert-clause-fits c =
     let fits = never_refused (block_of c.args.block.now) c.in_err-convert.field-0.0
     (by_first (block_of c.args.block.now) c.in_err-convert.field-0.0 c.in_err-convert.ensures.err) in
     grind (arith, common_steps, fits)
+
+pub returns-in_err-convert-clause-small : goal.returns-in_err-convert-clause-small
+returns-in_err-convert-clause-small c =
+    let small = small_never (block_of c.args.block.now) c.in_err-convert.field-0.0
+    (by_first (block_of c.args.block.now) c.in_err-convert.field-0.0 c.in_err-convert.ensures.err) in
+    grind (arith, common_steps, small)
 
 pub returns-in_err-flow-clause-err : goal.returns-in_err-flow-clause-err
 returns-in_err-flow-clause-err c =
@@ -31,6 +37,13 @@ returns-in_err-flow-clause-fits c =
     (by_second (block_of c.args.block.now) c.in_ok-convert.field-0 c.in_err-flow.field-0.0
     c.in_ok-convert.ensures.ok c.in_ok-convert.ensures.room c.in_err-flow.ensures.err) in
     grind (arith, common_steps, fits)
+
+pub returns-in_err-flow-clause-small : goal.returns-in_err-flow-clause-small
+returns-in_err-flow-clause-small c =
+    let small = small_never (block_of c.args.block.now) c.in_err-flow.field-0.0
+    (by_second (block_of c.args.block.now) c.in_ok-convert.field-0 c.in_err-flow.field-0.0
+    c.in_ok-convert.ensures.ok c.in_ok-convert.ensures.room c.in_err-flow.ensures.err) in
+    grind (arith, common_steps, small)
 
 pub returns-in_err-target-clause-err : goal.returns-in_err-target-clause-err
 returns-in_err-target-clause-err c =
@@ -47,6 +60,14 @@ returns-in_err-target-clause-fits c =
     c.in_err-target.field-0.0 c.in_ok-convert.ensures.ok c.in_ok-convert.ensures.room
     c.in_ok-flow.ensures.ok.0 c.in_ok-flow.ensures.ok.1 c.in_err-target.ensures.err) in
     grind (arith, common_steps, fits)
+
+pub returns-in_err-target-clause-small : goal.returns-in_err-target-clause-small
+returns-in_err-target-clause-small c =
+    let small = small_never (block_of c.args.block.now) c.in_err-target.field-0.0
+    (by_third (block_of c.args.block.now) c.in_ok-convert.field-0 c.in_ok-flow.flow
+    c.in_err-target.field-0.0 c.in_ok-convert.ensures.ok c.in_ok-convert.ensures.room
+    c.in_ok-flow.ensures.ok.0 c.in_ok-flow.ensures.ok.1 c.in_err-target.ensures.err) in
+    grind (arith, common_steps, small)
 
 pub returns-in-Ok-clause-ok : goal.returns-in-Ok-clause-ok
 returns-in-Ok-clause-ok c =

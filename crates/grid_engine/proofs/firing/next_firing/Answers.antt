@@ -1,9 +1,26 @@
-use Rattle.std.proofs.Common.{ap}
-use Rattle.grid_engine.specs.Nexts.{fire_of}
+use Rattle.std.proofs.Common.{sym, ◌∙◌}
+use Rattle.grid_state.specs.Seen.{seen}
+use Rattle.grid_engine.proofs.FiringFacts.{firing_busy, firing_free, none_exact}
 use Rattle.grid_engine.proofs.firing.next_firing.Goals as goal
 
-pub returns-in-Some : goal.returns-in-Some
-returns-in-Some g c = ap fire_of c.in-Some.ensures.value
+pub returns-then-busy-eq0 : goal.returns-then-busy-eq0
+returns-then-busy-eq0 g c =
+    let x = c.args.grid.now in
+    let here = seen (g.V.Windows.held x.window) x.state in
+    let is = c.ready_firing.ensures ∙ firing_free (g.V.Windows.blocks x.window) (g.V.Windows.budget x.window) c.args.tile
+    here (sym c.busy.ensures ∙ c.if-busy-eq0.true) in
+    record {
+      value = is;
+      none = none_exact (g.V.Windows.blocks x.window) (g.V.Windows.budget x.window) c.args.tile here _ is;
+    }
 
-pub returns-in-None : goal.returns-in-None
-returns-in-None g c = ap fire_of c.in-None.ensures.value
+pub returns-else-busy-eq0 : goal.returns-else-busy-eq0
+returns-else-busy-eq0 g c =
+    let x = c.args.grid.now in
+    let here = seen (g.V.Windows.held x.window) x.state in
+    let is = firing_busy (g.V.Windows.blocks x.window) (g.V.Windows.budget x.window) c.args.tile here
+    (λ e. c.if-busy-eq0.false (c.busy.ensures ∙ e)) in
+    record {
+      value = is;
+      none = none_exact (g.V.Windows.blocks x.window) (g.V.Windows.budget x.window) c.args.tile here _ is;
+    }

@@ -5,5 +5,5 @@ use Rattle.grid_engine.proofs.grid.Grid.can_fetch.Goals as goal
 
 pub returns : goal.returns
 returns g c = record {
-  value = c.next_fetch.ensures ∙ ap (λ x. next_fetch (blocks_of x) (grid_of x)) c.self.view_is;
+  value = c.next_fetch.ensures ∙ ap (λ x. next_fetch (blocks_of x) x.window.budget (grid_of x)) c.self.view_is;
 }
