@@ -1,0 +1,17 @@
+pub mod Terms
+pub mod Rules
+pub mod Words
+pub mod Programs
+pub mod Loops
+pub mod Functions
+pub mod Rounds
+pub mod Ends
+pub mod Scan
+pub mod Trees
+pub mod Forms
+pub mod Lines
+pub mod Lexed
+pub mod Parsed
+pub mod Names
+pub mod Typed
+pub mod Whole

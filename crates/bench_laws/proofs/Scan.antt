@@ -1,0 +1,268 @@
+-- A line of a text, piece by piece: a scan that can be computed, and that it cuts the text as the definition of the
+-- lexer does.
+use Rattle.std.proofs.Common.{◌≡◌, ◌<◌, ◌≤◌, ℕ, zero, suc, ◌+◌, Bool, true, false, cond, if◌then◌else◌, ◌||◌, ◌&&◌, not, List}
+use Rattle.std.proofs.Common.{[], ◌∷◌, ◌++◌, map, length, take, drop, Option, Some, None, refl, sym, ap, ◌∙◌, subst, arith}
+use Rattle.std.proofs.Common.{nat_eq, get_or}
+use Rattle.c_tree.specs.declared.Form.{Form}
+use Rattle.c_tree.specs.declared.Form.TheVariants as form
+use Rattle.c_tree.specs.declared.Kind.{Kind}
+use Rattle.c_tree.specs.declared.Mark.{Mark}
+use Rattle.c_lex.specs.declared.piece.Reading.{Reading}
+use Rattle.c_lex.specs.declared.piece.Reading.TheVariants as reads
+use Rattle.c_lex.specs.Bytes.{Bytes, by_class, is_space, is_letter, is_word, is_digit, in_number, is_feed}
+use Rattle.c_lex.specs.Bytes.{feeds, line_after, at_line_start}
+use Rattle.c_lex.specs.Runs.{run_len}
+use Rattle.c_lex.specs.Tables.{lookup, keywords, marks}
+use Rattle.c_lex.specs.Firsts.{none_longer}
+use Rattle.c_lex.specs.Scans.{constant_of, mark_of, goes_on}
+use Rattle.c_lex.specs.Pieces.{Longest, Front, word_form, begins_with}
+use Rattle.c_lex.specs.Lexes.{Tokens, lexeme, Cut, here, space, next}
+use Rattle.c_lex.proofs.Runs.{feeds_append}
+use Rattle.c_lex.proofs.Fronts.{space_front, word_front, number_front}
+use Rattle.c_lex.proofs.Marks.{mark_front, only_longest, mark_ends}
+use Rattle.c_lex.proofs.Numbers.{constant_is}
+use Rattle.c_lex.proofs.Whole.{joined}
+use Rattle.c_grammar.specs.Tokens.{token}
+
+-- THE SCAN
+
+-- what stands at the front, with its length, if it is one of the few pieces that the scan knows
+pub data Step : Type 0 where
+  unknown : Step
+  gap : ℕ → Step
+  piece : ℕ → Form → Step
+
+-- a keyword or a name
+abbrev word_step : ℕ → Bytes → Step
+word_step b bs =
+    let n = run_len (by_class is_word) b bs in
+    piece (suc n) (word_form (b ∷ take n bs) (lookup (b ∷ take n bs) keywords))
+
+abbrev by_constant : ℕ → Option (ℕ × Kind) → Step
+by_constant n None = unknown
+by_constant n (Some c) = piece (suc n) (form.Number c.0 c.1)
+
+-- a number
+abbrev number_step : ℕ → Bytes → Step
+number_step b bs = let n = run_len in_number b bs in by_constant n (constant_of (b ∷ take n bs))
+
+-- does no mark of more bytes stand at the front?
+abbrev ends : ℕ → Bytes → Bool
+ends b [] = false
+ends b (c ∷ cs) = none_longer b marks || not (goes_on c)
+
+abbrev by_mark : Option Mark → Bool → Step
+by_mark (Some m) true = piece 1 (form.Mark m)
+by_mark _ _ = unknown
+
+-- a mark of one byte
+abbrev mark_step : ℕ → Bytes → Step
+mark_step b bs = by_mark (lookup (b ∷ []) marks) (ends b bs)
+
+-- the piece at the front
+abbrev pub step : Bytes → Step
+step [] = unknown
+step (b ∷ bs) =
+    if is_letter b then word_step b bs
+    else if is_digit b then number_step b bs
+    else if is_space b then gap (suc (run_len (by_class is_space) b bs))
+    else if nat_eq b 47 then unknown
+    else mark_step b bs
+
+-- have the bytes no line feed?
+abbrev pub is_quiet : Bytes → Bool
+is_quiet [] = true
+is_quiet (b ∷ bs) = if is_feed b then false else is_quiet bs
+
+-- a piece that stands on one line
+abbrev on_line : Bytes → Step → Step
+on_line text unknown = unknown
+on_line text (gap n) = if is_quiet (take n text) then gap n else unknown
+on_line text (piece n f) = if is_quiet (take n text) then piece n f else unknown
+
+-- a form before those that were found
+abbrev added : Form → List Form × Bytes → List Form × Bytes
+added f r = (f ∷ r.0, r.1)
+
+-- the pieces behind the first
+abbrev behind : (Bytes → List Form × Bytes) → Bytes → Step → List Form × Bytes
+behind more text unknown = ([], text)
+behind more text (gap k) = more (drop k text)
+behind more text (piece k f) = added f (more (drop k text))
+
+-- at most so many pieces of a line, and what is left of the text
+abbrev pub scan : ℕ → Bytes → List Form × Bytes
+scan zero text = ([], text)
+scan (suc n) text = behind (scan n) text (on_line text (step text))
+
+-- WHAT IT FINDS
+
+-- the step is right of the text
+abbrev Right : Bytes → Step → Type 0
+Right text unknown = Unit {0}
+Right text (gap n) = (starts : Bool) → Front starts text n reads.Gap
+Right text (piece n f) = (starts : Bool) → Front starts text n (reads.Token f)
+
+number_right : (b : ℕ) (bs : Bytes) → is_digit b ≡ true → Right (b ∷ bs) (number_step b bs)
+number_right b bs d = go (constant_of (b ∷ take (run_len in_number b bs) bs)) refl
+  where
+    go : (o : Option (ℕ × Kind)) → constant_of (b ∷ take (run_len in_number b bs) bs) ≡ o
+        → Right (b ∷ bs) (by_constant (run_len in_number b bs) o)
+    go None e = tt
+    go (Some c) e = λ starts.
+        number_front starts b bs c.0 c.1 d (constant_is (b ∷ take (run_len in_number b bs) bs) c.0 c.1 e)
+
+mark_right : (b : ℕ) (bs : Bytes) → nat_eq b 47 ≡ false → Right (b ∷ bs) (mark_step b bs)
+mark_right b [] s = go (lookup (b ∷ []) marks)
+  where
+    go : (o : Option Mark) → Right (b ∷ []) (by_mark o false)
+    go None = tt
+    go (Some m) = tt
+mark_right b (c ∷ cs) s = go (lookup (b ∷ []) marks) refl (none_longer b marks) refl (goes_on c) refl
+  where
+    no_slash : (d : ℕ) → (nat_eq b 47 && begins_with d (c ∷ cs)) ≡ false
+    no_slash d = rw s refl
+
+    go : (o : Option Mark) → lookup (b ∷ []) marks ≡ o → (x : Bool) → none_longer b marks ≡ x → (y : Bool)
+        → goes_on c ≡ y → Right (b ∷ c ∷ cs) (by_mark o (x || not y))
+    go None e x f y g = tt
+    go (Some m) e true f y g = λ starts.
+        mark_front starts b (c ∷ cs) 1 m (only_longest b (c ∷ cs) m e f) (no_slash 47) (no_slash 42)
+    go (Some m) e false f true g = tt
+    go (Some m) e false f false g = λ starts.
+        let long : 2 ≤ length (b ∷ c ∷ cs) = (let l : length (b ∷ c ∷ cs) ≡ suc (suc (length cs)) = refl in omega arith) in
+        let one : mark_of (b ∷ c ∷ cs) ≡ Some (1, m) = sym (mark_ends (b ∷ c ∷ cs) long g) ∙ (rw e refl) in
+        mark_front starts b (c ∷ cs) 1 m one (no_slash 47) (no_slash 42)
+
+step_right : (text : Bytes) → Right text (step text)
+step_right [] = tt
+step_right (b ∷ bs) = by_letter (is_letter b) refl
+  where
+    by_slash : (v : Bool) → nat_eq b 47 ≡ v → Right (b ∷ bs) (cond v unknown (mark_step b bs))
+    by_slash true e = tt
+    by_slash false e = mark_right b bs e
+
+    by_space : (v : Bool) → is_space b ≡ v → Right (b ∷ bs)
+        (cond v (gap (suc (run_len (by_class is_space) b bs))) (cond (nat_eq b 47) unknown (mark_step b bs)))
+    by_space true e = λ starts. space_front starts b bs e
+    by_space false e = by_slash (nat_eq b 47) refl
+
+    by_digit : (v : Bool) → is_digit b ≡ v → Right (b ∷ bs) (cond v (number_step b bs)
+        (cond (is_space b) (gap (suc (run_len (by_class is_space) b bs)))
+        (cond (nat_eq b 47) unknown (mark_step b bs))))
+    by_digit true e = number_right b bs e
+    by_digit false e = by_space (is_space b) refl
+
+    by_letter : (v : Bool) → is_letter b ≡ v → Right (b ∷ bs) (cond v (word_step b bs) (cond (is_digit b)
+        (number_step b bs) (cond (is_space b) (gap (suc (run_len (by_class is_space) b bs)))
+        (cond (nat_eq b 47) unknown (mark_step b bs)))))
+    by_letter true e = λ starts. word_front starts b bs e
+    by_letter false e = by_digit (is_digit b) refl
+
+-- LINES
+
+pub quiet_is : (bs : Bytes) → is_quiet bs ≡ true → feeds bs ≡ 0
+quiet_is [] e = refl
+quiet_is (b ∷ bs) e = go (quiet_is bs) (is_feed b) e
+  where
+    go : (is_quiet bs ≡ true → feeds bs ≡ 0) → (x : Bool) → cond x false (is_quiet bs) ≡ true
+        → cond x 1 0 + feeds bs ≡ 0
+    go more true e = absurd (cc e)
+    go more false e = let h : feeds bs ≡ 0 = more e in omega arith
+
+-- on one line, the text is cut into these forms up to the rest
+pub data Line : Bytes → List Form → Bytes → Type 0 where
+  stop : {text : Bytes} → Line text [] text
+  pass : {text piece rest more : Bytes} {fs : List Form} → ((starts : Bool) → Longest starts text piece rest reads.Gap)
+      → feeds piece ≡ 0 → Line rest fs more → Line text fs more
+  read : {text piece rest more : Bytes} {f : Form} {fs : List Form}
+      → ((starts : Bool) → Longest starts text piece rest (reads.Token f))
+      → feeds piece ≡ 0 → Line rest fs more → Line text (f ∷ fs) more
+
+-- what is scanned is cut so
+pub scan_line : (n : ℕ) (text : Bytes) → Line text (scan n text).0 (scan n text).1
+scan_line zero text = stop
+scan_line (suc n) text = go (scan_line n) (step text) (step_right text)
+  where
+    gaps : ((t : Bytes) → Line t (scan n t).0 (scan n t).1) → (k : ℕ)
+        → ((starts : Bool) → Front starts text k reads.Gap) → (v : Bool) → is_quiet (take k text) ≡ v
+        → Line text (behind (scan n) text (cond v (gap k) unknown)).0 (behind (scan n) text (cond v (gap k) unknown)).1
+    gaps more k r true e = pass r (quiet_is (take k text) e) (more (drop k text))
+    gaps more k r false e = stop
+
+    pieces : ((t : Bytes) → Line t (scan n t).0 (scan n t).1) → (k : ℕ) (f : Form)
+        → ((starts : Bool) → Front starts text k (reads.Token f)) → (v : Bool) → is_quiet (take k text) ≡ v
+        → Line text (behind (scan n) text (cond v (piece k f) unknown)).0 (behind (scan n) text (cond v (piece k f) unknown)).1
+    pieces more k f r true e = read r (quiet_is (take k text) e) (more (drop k text))
+    pieces more k f r false e = stop
+
+    go : ((t : Bytes) → Line t (scan n t).0 (scan n t).1) → (s : Step) → Right text s
+        → Line text (behind (scan n) text (on_line text s)).0 (behind (scan n) text (on_line text s)).1
+    go more unknown r = stop
+    go more (gap k) r = gaps more k r (is_quiet (take k text)) refl
+    go more (piece k f) r = pieces more k f r (is_quiet (take k text)) refl
+
+-- PLACES
+
+-- behind some bytes the text is cut into these tokens up to the rest, which stands on line m
+pub record Reaches (before text : Bytes) (ts : Tokens) (rest : Bytes) (m : ℕ) : Type 0 where
+  -- what then stands before it
+  pub passed : Bytes
+  pub cut : Cut before text ts passed rest
+  pub line_is : line_after passed ≡ m
+
+-- the same from any place of line l
+abbrev pub Cuts : ℕ → Bytes → Tokens → Bytes → ℕ → Type 0
+Cuts l text ts rest m = (before : Bytes) → line_after before ≡ l → Reaches before text ts rest m
+
+-- one part after another
+pub then_cuts : (l m n : ℕ) (text middle rest : Bytes) (ts us : Tokens) → Cuts l text ts middle m → Cuts m middle us rest n
+    → Cuts l text (ts ++ us) rest n
+then_cuts l m n text middle rest ts us a b before e =
+    let x = a before e in
+    let y = b x.passed x.line_is in
+    record {
+      passed = y.passed;
+      cut = joined before text x.passed middle y.passed rest ts us x.cut y.cut;
+      line_is = y.line_is;
+    }
+
+same_line : (before bs : Bytes) (l : ℕ) → feeds bs ≡ 0 → line_after before ≡ l → line_after (before ++ bs) ≡ l
+same_line before bs l q e =
+    let s : feeds (before ++ bs) ≡ feeds before + feeds bs = feeds_append before bs in omega arith
+
+-- a line's tokens have its number
+pub line_cuts : (l : ℕ) (text rest : Bytes) (fs : List Form) → Line text fs rest → Cuts l text (map (token l) fs) rest l
+line_cuts l text rest fs stop before e = record { passed = before; cut = here; line_is = e }
+line_cuts l text rest fs (pass {piece = p} {rest = r} g q x) before e =
+    let y = line_cuts l r rest fs x (before ++ p) (same_line before p l q e) in
+    record { passed = y.passed; cut = space (g (at_line_start before)) y.cut; line_is = y.line_is }
+line_cuts l text rest fs (read {piece = p} {rest = r} {f = f} {fs = gs} g q x) before e =
+    let y = line_cuts l r rest gs x (before ++ p) (same_line before p l q e) in
+    record {
+      passed = y.passed;
+      cut = subst (λ (n : ℕ). Cut before text (token n f ∷ map (token l) gs) y.passed rest) e
+          (next (g (at_line_start before)) y.cut);
+      line_is = y.line_is;
+    }
+
+-- a line feed before a byte that is no space, or at the end
+pub feed_cuts : (l b : ℕ) (rest : Bytes) → is_space b ≡ false → Cuts l (10 ∷ b ∷ rest) [] (b ∷ rest) (suc l)
+feed_cuts l b rest s before e =
+    let g : Front (at_line_start before) (10 ∷ b ∷ rest) 1 reads.Gap =
+    subst (λ (v : Bool). Front (at_line_start before) (10 ∷ b ∷ rest)
+    (suc (cond v (suc (run_len (by_class is_space) b rest)) 0)) reads.Gap) s
+    (space_front (at_line_start before) 10 (b ∷ rest) refl) in
+    record {
+      passed = before ++ 10 ∷ [];
+      cut = space g here;
+      line_is = (let s : feeds (before ++ 10 ∷ []) ≡ feeds before + 1 = feeds_append before (10 ∷ []) in omega arith);
+    }
+
+pub last_cuts : (l : ℕ) → Cuts l (10 ∷ []) [] [] (suc l)
+last_cuts l before e =
+    record {
+      passed = before ++ 10 ∷ [];
+      cut = space (space_front (at_line_start before) 10 [] refl) here;
+      line_is = (let s : feeds (before ++ 10 ∷ []) ≡ feeds before + 1 = feeds_append before (10 ∷ []) in omega arith);
+    }

@@ -1,0 +1,5 @@
+use Rattle.bench_laws.proofs.Whole.{always_ends}
+use Rattle.bench_laws.proofs.law.bench_ends.Goals as goal
+
+pub returns : goal.returns
+returns c = record { law = always_ends }
