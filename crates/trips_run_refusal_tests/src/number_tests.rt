@@ -35,16 +35,11 @@ const ROWS: &[Row] = &[
         5,
         "output 0\n\nbudget 9\n",
     ),
-    (
-        &["eval", "a.c", "--steps", "9"],
-        FOREVER,
-        5,
-        "output 0\n\nmore\n",
-    ),
+    (&["eval", "a.c", "--steps", "9"], FOREVER, 5, "more\n"),
     (&["run", "a.c"], DEEP, 6, "output 0\n\nstack full\n"),
-    (&["eval", "a.c"], DEEP, 6, "output 0\n\ndeep\n"),
+    (&["eval", "a.c"], DEEP, 6, "deep\n"),
     (&["run", "a.c"], DIVISION, 9, "output 0\n\ntrap block "),
-    (&["eval", "a.c"], DIVISION, 10, "output 0\n\nundefined\n"),
+    (&["eval", "a.c"], DIVISION, 10, "undefined\n"),
 ];
 
 fn assert_rows(rt: &impl Abort, alloc: Global, rows: &[Row]) -> Result<(), AllocError> {
