@@ -13,9 +13,9 @@ use Rattle.c_tree.specs.declared.typed.Callee.{Callee}
 use Rattle.c_tree.specs.declared.typed.Callee.TheVariants as callee
 use Rattle.c_tree.specs.declared.typed.Place.TheVariants as place
 use Rattle.c_tree.specs.declared.typed.Slot.TheVariants as slot
-use Rattle.c_scope.specs.declared.meaning.Meaning.{Meaning}
-use Rattle.c_scope.specs.declared.meaning.Meaning.TheVariants as meaning
-use Rattle.c_scope.specs.Scope.{Frame, same_name, find, bound}
+use Rattle.c_type_expr.specs.declared.meaning.Meaning.{Meaning}
+use Rattle.c_type_expr.specs.declared.meaning.Meaning.TheVariants as meaning
+use Rattle.c_type_expr.specs.Scope.{Frame, same_name, find, bound}
 use Rattle.c_type.specs.Units.{eof_name, getchar_name, putchar_name, get_char, put_char}
 use Rattle.c_type.specs.Programs.{count_after}
 use Rattle.c_type_rules.specs.Definitions as rules

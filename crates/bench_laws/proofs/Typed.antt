@@ -23,9 +23,9 @@ use Rattle.c_constant.specs.declared.constants.Constant.{Constant}
 use Rattle.c_constant.specs.Constant.{ends}
 use Rattle.c_constant.proofs.Nodes.{value-Number, needs-Number, needs-Name, needs-Element, needs-Call, needs-Group, needs-Cast}
 use Rattle.c_constant.proofs.Nodes.{needs-Binary, needs-Assign}
-use Rattle.c_scope.specs.declared.meaning.Meaning.{Meaning}
-use Rattle.c_scope.specs.declared.meaning.Meaning.TheVariants as meaning
-use Rattle.c_scope.specs.Scope.{Scope, look_up, or_else, find, bound}
+use Rattle.c_type_expr.specs.declared.meaning.Meaning.{Meaning}
+use Rattle.c_type_expr.specs.declared.meaning.Meaning.TheVariants as meaning
+use Rattle.c_type_expr.specs.Scope.{Scope, look_up, or_else, find, bound}
 use Rattle.c_type_expr.specs.declared.role.Role.{Role}
 use Rattle.c_type_expr.specs.declared.role.Role.TheVariants.{Value, Free, Written}
 use Rattle.c_type_expr.specs.Typed as ty

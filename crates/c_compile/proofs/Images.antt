@@ -7,10 +7,10 @@ use Rattle.ir_forms.specs.FlatFits.{small_ifs_of_all}
 use Rattle.flat_lower.specs.Statements.{lowered_program}
 use Rattle.flat_lower.specs.TreeViews.{source_of}
 use Rattle.flat_lower_premises.specs.Most.{most_of}
-use Rattle.plain_ifs.specs.PlainIfs.{plain_ifs}
-use Rattle.plain_ifs.proofs.Programs.{lowers_plain}
+use Rattle.c_compile_laws.specs.PlainIfs.{plain_ifs}
+use Rattle.c_compile_laws.proofs.Programs.{lowers_plain}
 use Rattle.grid_place.specs.declared.placed.Placing.{Placing}
-use Rattle.guard_counts.specs.Counts.{guarded_in}
+use Rattle.c_compile_laws.specs.Counts.{guarded_in}
 use Rattle.c_compile_laws.specs.Compiled.{FlatMeans}
 use Rattle.c_compile_laws.proofs.Bounds.{has_bounds}
 use Rattle.c_compile_laws.proofs.Compiled.{does_deep, does_finished, does_unfinished}

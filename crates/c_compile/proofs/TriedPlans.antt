@@ -21,8 +21,8 @@ use Rattle.grid_place.specs.declared.placed.Placing.{Placing}
 use Rattle.c_compile_layout.specs.Emitted.{image_of, most_blocks}
 use Rattle.c_compile_blocks.specs.Blocks.{ArePassed, AreMachineBlocks, FitsPasses}
 use Rattle.c_compile_laws.specs.Compiled.{IsCompiled}
-use Rattle.c_compile_checked.specs.Checked.{AreChecked}
-use Rattle.c_compile_checked.proofs.Passed.{are_checked}
+use Rattle.c_compile_blocks.specs.Checked.{AreChecked}
+use Rattle.c_compile_blocks.proofs.Passed.{are_checked}
 use Rattle.c_compile.proofs.CutPrograms.{data_fits, some_blocks}
 
 -- what follows from what is said of what is there, if something is

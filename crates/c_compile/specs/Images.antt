@@ -7,9 +7,9 @@ use Rattle.c_lex.specs.Answers.{Lexed}
 use Rattle.c_tree.specs.Limits.{most_tokens}
 use Rattle.c_front.specs.Fronts.{IsAccepted}
 use Rattle.ir_forms.specs.FlatCode.{Program}
-use Rattle.plain_ifs.specs.PlainIfs.{plain_ifs}
+use Rattle.c_compile_laws.specs.PlainIfs.{plain_ifs}
 use Rattle.grid_place.specs.declared.placed.Placing.{Placing}
-use Rattle.guard_counts.specs.Counts.{guarded_in}
+use Rattle.c_compile_laws.specs.Counts.{guarded_in}
 use Rattle.c_compile_laws.specs.Bounds.{HasBounds}
 use Rattle.c_compile_laws.specs.Compiled.{IsCompiled}
 use Rattle.c_compile_laws.specs.Runs.{DoesDeep, DoesFinished, DoesUnfinished, EndsAsEvaluated, NeverEnds}

@@ -24,10 +24,10 @@ use Rattle.fan_out.specs.Targeted.{HasRoom, IsTargeted}
 use Rattle.fan_out.specs.Refusals as target
 use Rattle.grid_place.specs.declared.placed.Placing.{Placing}
 use Rattle.grid_place.specs.Placings.{IsPlaced}
-use Rattle.predication_limits.specs.Limits.{FitsMachine}
-use Rattle.predication_limits.proofs.Cheap.{exits_with}
-use Rattle.predication_limits.proofs.Programs.{only_memory}
-use Rattle.predication_limits.proofs.SmallFit.{small_fits}
+use Rattle.c_compile_blocks.specs.Limits.{FitsMachine}
+use Rattle.c_compile_blocks.proofs.Cheap.{exits_with}
+use Rattle.c_compile_blocks.proofs.LimitPrograms.{only_memory}
+use Rattle.c_compile_blocks.proofs.SmallFit.{small_fits}
 use Rattle.c_compile_blocks.specs.Blocks.{flow_of, IsMachineBlock, IsPassed}
 use Rattle.c_compile_blocks.specs.Refusals.{IsRefused, IsIncomplete, IsUntargeted}
 

@@ -10,7 +10,7 @@ use Rattle.predication.specs.Outcomes as convert
 use Rattle.null_outputs.specs.Refusals.{IsWithinLimits}
 use Rattle.null_outputs.specs.Refusals as complete
 use Rattle.fan_out.specs.Refusals as target
-use Rattle.predication_limits.specs.Limits.{FitsMachine}
+use Rattle.c_compile_blocks.specs.Limits.{FitsMachine}
 use Rattle.grid_place.specs.declared.placed.Placing.{Placing}
 use Rattle.c_compile_blocks.specs.Blocks.{flow_of, AreFirstPassed}
 

@@ -4,7 +4,7 @@ ghost use Rattle.ir_forms.specs.declared.fault.FlowFault.TheVariants.{Memory};
 ghost use Rattle.ir_forms.specs.HyperFits.{FitsHyper, IsFollowed, IsSmall};
 ghost use Rattle.ir_forms.specs.HyperViews.{block_of, blocks_of, tail_of};
 ghost use Rattle.predication.specs.Outcomes.{NamesLabels};
-ghost use Rattle.predication_limits.specs.Limits.{FitsMachine};
+ghost use Rattle.c_compile_blocks.specs.Limits.{FitsMachine};
 ghost use Rattle.c_compile_blocks.specs.Blocks.{ArePassed, AreMachineBlocks, IsMachineBlock, IsPassed};
 ghost use Rattle.c_compile_blocks.specs.Refusals.{FitMachine, HasRefused, IsRefused};
 ghost use Rattle.ir_forms.specs.Limits.{label_count};
@@ -22,7 +22,7 @@ use trips_isa::Block;
 /// in immediates until the blocks are laid out.
 ///
 /// It is refused as the first pass that refuses it says. A block within all limits of the machine, as a
-/// plan that cuts everywhere makes them (`little_blocks_fit` of `predication_limits`), is refused for
+/// plan that cuts everywhere makes them (`little_blocks_fit` of `c_compile_blocks`), is refused for
 /// want of memory alone; its cases are few. So is every small block (`small_blocks_fit`).
 pub fn machine_block(
     alloc: Global,

@@ -12,10 +12,10 @@ use Rattle.hyper_build.proofs.FilledIfs.{keeps_small_ifs}
 use Rattle.predication.specs.Tails.{labelled}
 use Rattle.grid_place.specs.declared.placed.Placing.{Placing}
 use Rattle.grid_place.specs.Moves.{goes}
-use Rattle.guard_counts.specs.Counts.{guarded_in}
-use Rattle.guard_counts.specs.Laws.{AreGuarded}
-use Rattle.guard_counts.proofs.Machines.{machines}
-use Rattle.guard_counts.proofs.Programs.{programs}
+use Rattle.c_compile_laws.specs.Counts.{guarded_in}
+use Rattle.c_compile_laws.specs.GuardLaws.{AreGuarded}
+use Rattle.c_compile_laws.proofs.Machines.{machines}
+use Rattle.c_compile_laws.proofs.GuardPrograms.{programs}
 use Rattle.c_compile_blocks.specs.Blocks.{AreMachineBlocks}
 use Rattle.c_compile_laws.specs.Laws.{GuardsSmallIfs}
 

@@ -5,7 +5,7 @@ use Rattle.c_tree.specs.declared.typed.TypedProgram.{TypedProgram}
 use Rattle.ir_forms.specs.FlatCode.{Program}
 use Rattle.ir_forms.specs.FlatFits.{small_ifs_of_all}
 use Rattle.grid_place.specs.declared.placed.Placing.{Placing}
-use Rattle.guard_counts.specs.Counts.{guarded_in}
+use Rattle.c_compile_laws.specs.Counts.{guarded_in}
 use Rattle.c_compile_laws.specs.Compiled.{FlatMeans, IsCompiled}
 
 -- of the image i of a program P, of a text of t tokens, whose blocks stand in the slots that a placing p says

@@ -17,8 +17,8 @@ use Rattle.c_tree.specs.declared.tree.StmtNode.TheVariants as node
 use Rattle.c_tree.specs.declared.tree.Top.{Top}
 use Rattle.c_tree.specs.declared.tree.TopNode.{TopNode}
 use Rattle.c_tree.specs.declared.tree.TopNode.TheVariants.{Include, Global, Func}
-use Rattle.c_scope.specs.declared.meaning.Binding.{Binding}
-use Rattle.c_scope.specs.Scope.{Scope, look_up, opened, closed, declared_in}
+use Rattle.c_type_expr.specs.declared.meaning.Binding.{Binding}
+use Rattle.c_type_expr.specs.Scope.{Scope, look_up, opened, closed, declared_in}
 use Rattle.c_type.specs.declared.file_scope.FileScope.{FileScope}
 use Rattle.c_type.specs.declared.state.State.{State}
 use Rattle.c_type.specs.States.{at, some_block, entered, with_switch}

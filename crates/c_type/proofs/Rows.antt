@@ -10,7 +10,7 @@ use Rattle.c_tree.specs.declared.token.Kind.TheVariants.{Long, ULong}
 use Rattle.c_tree.specs.declared.tree.ArraySize.{ArraySize}
 use Rattle.c_tree.specs.declared.tree.ArraySize.TheVariants as size
 use Rattle.c_tree.specs.declared.tree.Expr.{Expr}
-use Rattle.c_scope.specs.Scope.{Scope}
+use Rattle.c_type_expr.specs.Scope.{Scope}
 use Rattle.c_type_expr.specs.Roles.{Blame, first}
 use Rattle.c_type_expr.specs.Constants.{full_constant, constant_at}
 use Rattle.c_constant.specs.Kinds.{bytes}

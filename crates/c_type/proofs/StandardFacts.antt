@@ -9,8 +9,8 @@ use Rattle.c_tree.specs.declared.tree.TopNode.{TopNode}
 use Rattle.c_tree.specs.declared.tree.TopNode.TheVariants.{Include, Global, Func}
 use Rattle.c_tree.specs.declared.typed.Callee.TheVariants as callee
 use Rattle.c_tree.specs.declared.typed.Slot.TheVariants as slot
-use Rattle.c_scope.specs.declared.meaning.Meaning.TheVariants as meaning
-use Rattle.c_scope.specs.Scope.{look_up}
+use Rattle.c_type_expr.specs.declared.meaning.Meaning.TheVariants as meaning
+use Rattle.c_type_expr.specs.Scope.{look_up}
 use Rattle.c_type_expr.specs.declared.fault.TypeFault.TheVariants.{NoMain, Twice, Mismatch, TooManyParams}
 use Rattle.c_constant.specs.Kinds.{bytes, converted}
 use Rattle.c_type.specs.Statements.{label_among, in_switch, nowhere}

@@ -10,9 +10,9 @@ use Rattle.c_tree.specs.declared.typed.TypedArray.{TypedArray}
 use Rattle.c_tree.specs.declared.typed.TypedStmt.{TypedStmt}
 use Rattle.c_tree.specs.declared.typed.TypedStmt.TheVariants as typed
 use Rattle.c_constant.specs.Kinds.{bytes}
-use Rattle.c_scope.specs.declared.meaning.Meaning.{Meaning}
-use Rattle.c_scope.specs.declared.meaning.Meaning.TheVariants as meaning
-use Rattle.c_scope.specs.Scope.{Scope, look_up, is_here}
+use Rattle.c_type_expr.specs.declared.meaning.Meaning.{Meaning}
+use Rattle.c_type_expr.specs.declared.meaning.Meaning.TheVariants as meaning
+use Rattle.c_type_expr.specs.Scope.{Scope, look_up, is_here}
 use Rattle.c_type_expr.specs.declared.fault.TypeFault.TheVariants.{Twice, Mismatch, TooManyScalars, TooLarge}
 use Rattle.c_type_expr.specs.declared.role.Role.TheVariants.{Value}
 use Rattle.c_type_expr.specs.Roles.{Blame, first, unless}

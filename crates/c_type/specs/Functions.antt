@@ -18,9 +18,9 @@ use Rattle.c_tree.specs.declared.typed.Slot.TheVariants as slot
 use Rattle.c_tree.specs.declared.typed.TypedFunc.{TypedFunc}
 use Rattle.c_tree.specs.declared.typed.TypedGlobal.{TypedGlobal}
 use Rattle.c_tree.specs.declared.typed.TypedStmt.TheVariants as typed
-use Rattle.c_scope.specs.declared.meaning.Meaning.{Meaning}
-use Rattle.c_scope.specs.declared.meaning.Meaning.TheVariants as meaning
-use Rattle.c_scope.specs.Scope.{Scope, look_up, same_name, opened, closed, declared_in, bound}
+use Rattle.c_type_expr.specs.declared.meaning.Meaning.{Meaning}
+use Rattle.c_type_expr.specs.declared.meaning.Meaning.TheVariants as meaning
+use Rattle.c_type_expr.specs.Scope.{Scope, look_up, same_name, opened, closed, declared_in, bound}
 use Rattle.c_type_expr.specs.declared.fault.TypeFault.TheVariants.{Twice, Mismatch, TooManyParams}
 use Rattle.c_type_expr.specs.declared.fault.TypeFault.TheVariants.{TooLarge}
 use Rattle.c_type_expr.specs.Constants.{size_fault, length_of, word_in}

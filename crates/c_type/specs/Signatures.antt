@@ -4,8 +4,8 @@ use Rattle.std.specs.Prelude.{ℕ, Bool, false, cond, is_some, List, Option}
 use Rattle.c_tree.specs.declared.token.Kind.{Kind}
 use Rattle.c_tree.specs.declared.typed.Callee.{Callee}
 use Rattle.c_tree.specs.declared.typed.Slot.{Slot}
-use Rattle.c_scope.specs.declared.meaning.Meaning.TheVariants as meaning
-use Rattle.c_scope.specs.Scope.{Scope, look_up, declared_in, bound}
+use Rattle.c_type_expr.specs.declared.meaning.Meaning.TheVariants as meaning
+use Rattle.c_type_expr.specs.Scope.{Scope, look_up, declared_in, bound}
 
 -- the names after a prototype or a definition, of this callee, name, result and parameters
 abbrev pub function_names : Option Callee → List ℕ → Option Kind → List Slot → Bool → Scope → Scope

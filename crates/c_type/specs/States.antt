@@ -7,8 +7,8 @@ use Rattle.c_tree.specs.declared.tree.StmtNode.{StmtNode}
 use Rattle.c_tree.specs.declared.typed.Place.TheVariants as place
 use Rattle.c_tree.specs.declared.typed.Slot.TheVariants as slot
 use Rattle.c_tree.specs.declared.typed.TypedExpr.{TypedExpr}
-use Rattle.c_scope.specs.declared.meaning.Meaning.TheVariants as meaning
-use Rattle.c_scope.specs.Scope.{Scope, opened, closed, declared_in, bound}
+use Rattle.c_type_expr.specs.declared.meaning.Meaning.TheVariants as meaning
+use Rattle.c_type_expr.specs.Scope.{Scope, opened, closed, declared_in, bound}
 use Rattle.c_type_expr.specs.declared.role.Role.{Role}
 use Rattle.c_type_expr.specs.Roles.{Blame}
 use Rattle.c_type_expr.specs.Trees.{tree, with_convert}

@@ -16,12 +16,11 @@ use crate::parts::value_to;
 use crate::state::{Around, State};
 use base::Boxed;
 use c_constant::bytes;
-use c_scope::{Meaning, Scopes};
 use c_tree::{
     ArraySize, Expr, Kind, MOST_OBJECT_BYTES, MOST_SCALARS, Place, Slot, TypedArray, TypedStmt,
     Word,
 };
-use c_type_expr::{TypeFault, size_length};
+use c_type_expr::{Meaning, Scopes, TypeFault, size_length};
 use std::alloc::Global;
 
 pub fn is_end(found: Option<&Meaning>) -> bool

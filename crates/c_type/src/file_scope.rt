@@ -1,8 +1,8 @@
 //! What the typing of a translation unit keeps.
 
 use base::Items;
-use c_scope::Scopes;
 use c_tree::{TypedFunc, TypedGlobal};
+use c_type_expr::Scopes;
 
 /// The names at file scope, the globals and the bytes that they take, and the functions so far.
 #[derive(Drop)]

@@ -3,7 +3,7 @@
 ghost use Rattle.std.specs.Prelude.{◌≡◌, map, length, Some, None, OnOk, true};
 ghost use Rattle.std.specs.Option.{option_copied};
 ghost use Rattle.c_type_expr.specs.Says.{Says};
-ghost use Rattle.c_scope.specs.Scope.{closed};
+ghost use Rattle.c_type_expr.specs.Scope.{closed};
 ghost use Rattle.c_type.specs.Functions as functions;
 ghost use Rattle.c_type.specs.States.{some_block};
 ghost use Rattle.c_type.specs.Statements.{nowhere};
@@ -18,9 +18,8 @@ use crate::signatures::{agrees, undefined};
 use crate::state::{Around, State};
 use crate::statements::{all, type_stmt};
 use base::{Items, Queue};
-use c_scope::{Meaning, Scopes};
 use c_tree::{ArraySize, Callee, Kind, Param, Slot, Stmt, StmtNode, TypedFunc, TypedStmt, Word};
-use c_type_expr::TypeFault;
+use c_type_expr::{Meaning, Scopes, TypeFault};
 use std::alloc::Global;
 use std::mem;
 

@@ -15,9 +15,8 @@ use crate::file_scope::FileScope;
 use crate::initialisers::{rows_fit, value_count, values, whole_rows};
 use base::{Boxed, Items};
 use c_constant::bytes;
-use c_scope::{Meaning, Scopes};
 use c_tree::{ArraySize, Expr, Kind, MOST_OBJECT_BYTES, Place, TypedGlobal, Word};
-use c_type_expr::{TypeFault, size_length};
+use c_type_expr::{Meaning, Scopes, TypeFault, size_length};
 use std::alloc::Global;
 
 /// Whether the globals have room for `count` more of a kind.

@@ -8,9 +8,8 @@ ghost use Rattle.c_type.specs.Runs.{Moves};
 use crate::declarations::{is_end, twice};
 use crate::signatures::{agrees, undefined};
 use base::Items;
-use c_scope::{Meaning, Scopes};
 use c_tree::{Callee, Kind, Slot, Word};
-use c_type_expr::TypeFault;
+use c_type_expr::{Meaning, Scopes, TypeFault};
 use std::alloc::{AllocError, Global};
 
 pub fn eof_name(alloc: Global) -> Result<Word, AllocError>

@@ -6,9 +6,8 @@ ghost use Rattle.c_type_expr.specs.Says.{Says};
 ghost use Rattle.c_type.specs.Units as units;
 
 use base::{Boxed, Items};
-use c_scope::Scopes;
 use c_tree::{Expr, Kind};
-use c_type_expr::{TypeFault, full_constant};
+use c_type_expr::{Scopes, TypeFault, full_constant};
 use std::alloc::Global;
 
 /// How many values the lists have in all. A count of more than 64 bits is want of memory.

@@ -15,9 +15,8 @@ use crate::counts::short;
 use crate::declarations::is_end;
 use base::Items;
 use c_constant::bytes;
-use c_scope::{Meaning, Scopes};
 use c_tree::{ArraySize, Expr, Kind, MOST_OBJECT_BYTES, MOST_PARAMETERS, Param, Place, Slot, Word};
-use c_type_expr::{TypeFault, length_or_zero, size_length};
+use c_type_expr::{Meaning, Scopes, TypeFault, length_or_zero, size_length};
 use std::alloc::Global;
 
 /// The second size of an array parameter, where it has two.

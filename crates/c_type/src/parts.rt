@@ -9,9 +9,8 @@ ghost use Rattle.c_type.specs.Runs.{Runs};
 
 use crate::state::{Around, State};
 use base::Boxed;
-use c_scope::Scopes;
 use c_tree::{Expr, Kind, TypedExpr, TypedStmt};
-use c_type_expr::{Role, TypeFault, full, with_convert};
+use c_type_expr::{Role, Scopes, TypeFault, full, with_convert};
 use std::alloc::Global;
 
 pub fn full_if(

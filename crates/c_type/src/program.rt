@@ -13,9 +13,8 @@ use crate::functions::{callee_in, definition, prototype};
 use crate::globals::global;
 use crate::includes::{get_char, getchar_name, include, put_char, putchar_name};
 use base::{Items, Queue};
-use c_scope::{Meaning, Scopes};
 use c_tree::{Callee, Kind, Param, Program, Stmt, Top, TopNode, TypedProgram, Word};
-use c_type_expr::TypeFault;
+use c_type_expr::{Meaning, Scopes, TypeFault};
 use std::alloc::Global;
 
 /// Notes what an item defines, as the function of that number.

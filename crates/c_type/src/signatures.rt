@@ -5,9 +5,8 @@ ghost use Rattle.std.specs.Option.{option_copied};
 ghost use Rattle.c_type_expr.specs.Says.{Says};
 ghost use Rattle.c_type.specs.Units as units;
 
-use c_scope::Meaning;
 use c_tree::{Kind, Slot};
-use c_type_expr::{TypeFault, same_row};
+use c_type_expr::{Meaning, TypeFault, same_row};
 
 fn same_slot(a: Slot, b: Slot) -> bool
     ensures { result ≡ units.same_slot a b }

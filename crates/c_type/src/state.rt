@@ -1,8 +1,8 @@
 //! What the typing of a function keeps.
 
 use base::Items;
-use c_scope::Scopes;
 use c_tree::{Kind, Slot, TypedArray};
+use c_type_expr::Scopes;
 
 /// What is around a statement: whether a `break` or a `continue` there is that of a loop or a switch.
 #[derive(Clone, Copy, Debug, PartialEq, Eq)]

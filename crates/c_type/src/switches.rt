@@ -15,9 +15,8 @@ use crate::seen::SeenLabels;
 use crate::state::State;
 use base::{Boxed, Items};
 use c_constant::promoted;
-use c_scope::Scopes;
 use c_tree::{Expr, Kind, Label, MOST_SCALARS, Slot, TypedExpr};
-use c_type_expr::{Role, TypeFault, full, full_constant, kind_of, with_convert};
+use c_type_expr::{Role, Scopes, TypeFault, full, full_constant, kind_of, with_convert};
 use std::alloc::Global;
 
 /// The word of a label at a type, none for `default`.

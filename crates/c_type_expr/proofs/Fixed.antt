@@ -10,7 +10,7 @@ use Rattle.c_tree.specs.declared.tree.ExprNode.{ExprNode, map-ExprNode, fold-rol
 use Rattle.c_tree.specs.declared.tree.ExprNode.{fold-ExprNode, roll-ExprNode}
 use Rattle.c_tree.specs.declared.tree.ExprNode.TheVariants as node
 use Rattle.c_tree.specs.declared.tree.ExprNode.TheOpen.{ExprNode-F}
-use Rattle.c_scope.specs.Scope.{Scope, look_up}
+use Rattle.c_type_expr.specs.Scope.{Scope, look_up}
 use Rattle.c_type_expr.specs.declared.fault.TypeFault.TheVariants.{Mismatch}
 use Rattle.c_type_expr.specs.Roles.{Blame, first}
 use Rattle.c_type_expr.specs.Constants.{name_fixed, row_fixed}

@@ -5,3 +5,6 @@ pub mod Constants
 pub mod Says
 pub mod Places
 pub mod Typed
+pub mod Scope
+pub mod Frames
+pub mod Chains

@@ -18,9 +18,9 @@ use Rattle.c_tree.specs.declared.typed.Slot.TheVariants as slot
 use Rattle.c_tree.specs.declared.typed.TypedExpr.{TypedExpr}
 use Rattle.c_tree.specs.declared.typed.TypedNode.{TypedNode}
 use Rattle.c_tree.specs.declared.typed.TypedNode.TheVariants as typed
-use Rattle.c_scope.specs.declared.meaning.Meaning.{Meaning}
-use Rattle.c_scope.specs.declared.meaning.Meaning.TheVariants as meaning
-use Rattle.c_scope.specs.Scope.{Scope, look_up}
+use Rattle.c_type_expr.specs.declared.meaning.Meaning.{Meaning}
+use Rattle.c_type_expr.specs.declared.meaning.Meaning.TheVariants as meaning
+use Rattle.c_type_expr.specs.Scope.{Scope, look_up}
 use Rattle.c_constant.specs.Kinds.{same_kind, common}
 use Rattle.c_constant.specs.Operation.{left_at, right_at, result_of, unary_at, unary_result}
 use Rattle.c_type_expr.specs.Faults.{slots_of, rest_of}

@@ -12,8 +12,8 @@ use Rattle.c_tree.specs.declared.typed.Slot.{Slot}
 use Rattle.c_tree.specs.declared.typed.Slot.TheVariants as slot
 use Rattle.c_tree.specs.declared.typed.TypedExpr.{TypedExpr}
 use Rattle.c_tree.specs.declared.typed.TypedNode.TheVariants as typed
-use Rattle.c_scope.specs.declared.meaning.Meaning.TheVariants as meaning
-use Rattle.c_scope.specs.Scope.{Scope, look_up}
+use Rattle.c_type_expr.specs.declared.meaning.Meaning.TheVariants as meaning
+use Rattle.c_type_expr.specs.Scope.{Scope, look_up}
 use Rattle.c_type_expr.specs.declared.role.Role.{Role}
 use Rattle.c_type_expr.specs.declared.role.Role.TheVariants.{Value, Free, Written, Array}
 use Rattle.c_type_expr.specs.Roles.{takes_value, takes_element, takes_array}

@@ -2,7 +2,7 @@
 
 ghost use Rattle.std.specs.Prelude.{◌≡◌, map, option_map, Option};
 ghost use Rattle.std.specs.Option.{option_copied};
-ghost use Rattle.c_scope.specs.Scope.{look_up};
+ghost use Rattle.c_type_expr.specs.Scope.{look_up};
 ghost use Rattle.c_type_expr.specs.Constants as constants;
 ghost use Rattle.c_type_expr.specs.Roles as roles;
 ghost use Rattle.c_type_expr.specs.Trees.{tree};
@@ -10,10 +10,11 @@ ghost use Rattle.c_type_expr.specs.Says.{Says};
 
 use crate::expressions::type_expr;
 use crate::fault::TypeFault;
+use crate::meaning::Meaning;
 use crate::role::Role;
+use crate::scopes::Scopes;
 use base::{Boxed, Items};
 use c_constant::{constant_of, convert, need_fits};
-use c_scope::{Meaning, Scopes};
 use c_tree::{Expr, ExprNode, Kind, TypedExpr, Word};
 use std::alloc::Global;
 

@@ -3,7 +3,7 @@
 ghost use Rattle.std.specs.Prelude.{◌≡◌, ◌↔◌, None};
 ghost use Rattle.c_tree.specs.declared.tree.Expr.{Expr};
 ghost use Rattle.c_tree.specs.declared.typed.TypedExpr.{TypedExpr};
-ghost use Rattle.c_scope.specs.Scope.{Scope};
+ghost use Rattle.c_type_expr.specs.Scope.{Scope};
 ghost use Rattle.c_type_expr.specs.declared.role.Role.{Role};
 ghost use Rattle.c_type_expr.specs.Faults.{fault};
 ghost use Rattle.c_type_expr.specs.Trees.{tree};

@@ -16,8 +16,8 @@ use crate::fault::TypeFault;
 use crate::found::{call_at, element_at, place_at, slots_in, value_at};
 use crate::leaves::{is_place, left_role, name, number};
 use crate::role::Role;
+use crate::scopes::Scopes;
 use base::{Boxed, Items, Queue};
-use c_scope::Scopes;
 use c_tree::{BinaryOp, BumpOp, Expr, ExprNode, Kind, Slot, TypedExpr, TypedNode, UnaryOp, Word};
 use std::alloc::Global;
 

@@ -11,8 +11,8 @@ ghost use Rattle.c_type_expr.specs.Trees.{callee_of, callee_or};
 ghost use Rattle.c_type_expr.specs.Says.{Says};
 
 use crate::fault::TypeFault;
+use crate::meaning::Meaning;
 use crate::role::Role;
-use c_scope::Meaning;
 use c_tree::{Callee, Kind, Place, Slot, TypedExpr, TypedNode};
 
 /// Whether a value may stand where the role is wanted.

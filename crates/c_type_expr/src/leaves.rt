@@ -10,8 +10,8 @@ use crate::build;
 use crate::fault::TypeFault;
 use crate::found::{name_at, value_at};
 use crate::role::Role;
+use crate::scopes::Scopes;
 use base::Boxed;
-use c_scope::Scopes;
 use c_tree::{Expr, ExprNode, Kind, TypedExpr, TypedNode, Word};
 use std::alloc::Global;
 

@@ -10,8 +10,8 @@ use Rattle.c_tree.specs.declared.tree.Top.{Top}
 use Rattle.c_tree.specs.declared.tree.TopNode.{TopNode}
 use Rattle.c_tree.specs.declared.tree.TopNode.TheVariants.{Include, Global, Func}
 use Rattle.c_tree.specs.declared.typed.Callee.{Callee}
-use Rattle.c_scope.specs.declared.meaning.Meaning.{Meaning}
-use Rattle.c_scope.specs.Scope.{Scope, same_name, look_up, or_else, find, declared_in, bound}
+use Rattle.c_type_expr.specs.declared.meaning.Meaning.{Meaning}
+use Rattle.c_type_expr.specs.Scope.{Scope, same_name, look_up, or_else, find, declared_in, bound}
 use Rattle.c_type.specs.Units.{getchar_name, putchar_name, get_char, put_char}
 use Rattle.c_type.specs.Functions.{callee_in}
 use Rattle.c_type.specs.Programs.{count_after, noted, definitions, table}

@@ -12,7 +12,7 @@ use Rattle.c_tree.specs.declared.tree.Section.{Section}
 use Rattle.c_tree.specs.declared.tree.Stmt.{Stmt}
 use Rattle.c_tree.specs.declared.tree.StmtNode.{StmtNode, out-StmtNode, roll-StmtNode, roll-out-StmtNode}
 use Rattle.c_tree.specs.declared.typed.Slot.{Slot}
-use Rattle.c_scope.specs.Scope.{Scope, look_up}
+use Rattle.c_type_expr.specs.Scope.{Scope, look_up}
 use Rattle.c_type_expr.specs.declared.role.Role.{Role}
 use Rattle.c_type_expr.specs.Roles.{Blame, first}
 use Rattle.c_type_expr.specs.Faults.{fault, args_fault, call_fault, slots_of, role_at, rest_of}

@@ -11,7 +11,7 @@ use Rattle.c_tree.specs.declared.tree.Expr.{Expr}
 use Rattle.c_constant.specs.Kinds.{converted}
 use Rattle.c_constant.specs.Constant.{constant, ends}
 use Rattle.c_constant.specs.Need.{need_fits}
-use Rattle.c_scope.specs.Scope.{Scope}
+use Rattle.c_type_expr.specs.Scope.{Scope}
 use Rattle.c_type_expr.specs.Constants.{not_fixed, length_of, word_in, constant_at}
 use Rattle.c_type.specs.Units.{all_values, rows_words, rows_fit, init_fits, init_words}
 use Rattle.c_type.specs.Units.{count_of, count_fault, values_fault}

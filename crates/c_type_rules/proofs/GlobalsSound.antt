@@ -8,7 +8,7 @@ use Rattle.c_tree.specs.declared.tree.ArraySize.TheVariants as size
 use Rattle.c_tree.specs.declared.tree.Expr.{Expr}
 use Rattle.c_constant.specs.Kinds.{converted}
 use Rattle.c_constant.specs.Need.{need_fits}
-use Rattle.c_scope.specs.Scope.{Scope}
+use Rattle.c_type_expr.specs.Scope.{Scope}
 use Rattle.c_type_expr.specs.declared.fault.TypeFault.TheVariants.{Mismatch}
 use Rattle.c_type_expr.specs.declared.fault.TypeFault.TheVariants.{Need}
 use Rattle.c_type_expr.specs.Constants.{word_in, length_of, value_fault, constant_at}

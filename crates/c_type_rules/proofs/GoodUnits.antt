@@ -18,7 +18,7 @@ use Rattle.c_tree.specs.declared.tree.StmtNode.{StmtNode, out-StmtNode, roll-Stm
 use Rattle.c_tree.specs.declared.tree.Top.{Top}
 use Rattle.c_tree.specs.declared.tree.TopNode.{TopNode}
 use Rattle.c_tree.specs.declared.tree.TopNode.TheVariants.{Include, Global, Func}
-use Rattle.c_scope.specs.Scope.{Scope, look_up}
+use Rattle.c_type_expr.specs.Scope.{Scope, look_up}
 use Rattle.c_type_expr.specs.declared.fault.TypeFault.TheVariants.{Twice, Mismatch, NoMain}
 use Rattle.c_type_expr.specs.declared.fault.TypeFault.TheVariants.{TooManyScalars, TooManyParams}
 use Rattle.c_type_expr.specs.declared.role.Role.TheVariants.{Value, Free}

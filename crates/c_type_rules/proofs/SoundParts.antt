@@ -9,7 +9,7 @@ use Rattle.c_tree.specs.declared.tree.Expr.{Expr}
 use Rattle.c_tree.specs.declared.tree.Label.{Label}
 use Rattle.c_tree.specs.declared.typed.TypedExpr.{TypedExpr}
 use Rattle.c_constant.specs.Need.{need_fits}
-use Rattle.c_scope.specs.Scope.{Scope}
+use Rattle.c_type_expr.specs.Scope.{Scope}
 use Rattle.c_type_expr.specs.declared.fault.TypeFault.{TypeFault}
 use Rattle.c_type_expr.specs.declared.fault.TypeFault.TheVariants.{Twice}
 use Rattle.c_type_expr.specs.declared.fault.TypeFault.TheVariants.{TooLarge, Need}

@@ -21,8 +21,8 @@ use Rattle.c_tree.specs.declared.typed.Slot.{Slot}
 use Rattle.c_tree.specs.declared.typed.TypedProgram.{TypedProgram}
 use Rattle.c_tree.specs.declared.typed.TypedStmt.{TypedStmt}
 use Rattle.c_tree.specs.declared.typed.TypedStmt.TheVariants as typed
-use Rattle.c_scope.specs.declared.meaning.Meaning.{Meaning}
-use Rattle.c_scope.specs.Scope.{Scope, look_up, is_here, closed}
+use Rattle.c_type_expr.specs.declared.meaning.Meaning.{Meaning}
+use Rattle.c_type_expr.specs.Scope.{Scope, look_up, is_here, closed}
 use Rattle.c_type_expr.specs.declared.fault.TypeFault.TheVariants.{Twice, Mismatch, TooManyParams}
 use Rattle.c_type_expr.specs.declared.fault.TypeFault.TheVariants.{TooLarge, NoMain}
 use Rattle.c_type_expr.specs.Roles.{unless}

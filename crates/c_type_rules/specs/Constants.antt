@@ -5,8 +5,8 @@ use Rattle.c_tree.specs.declared.tree.UnaryOp.{UnaryOp}
 use Rattle.c_tree.specs.declared.tree.BinaryOp.{BinaryOp}
 use Rattle.c_tree.specs.declared.tree.Expr.{Expr}
 use Rattle.c_tree.specs.declared.tree.ExprNode.TheVariants as node
-use Rattle.c_scope.specs.declared.meaning.Meaning.TheVariants as meaning
-use Rattle.c_scope.specs.Scope.{Scope, look_up}
+use Rattle.c_type_expr.specs.declared.meaning.Meaning.TheVariants as meaning
+use Rattle.c_type_expr.specs.Scope.{Scope, look_up}
 use Rattle.c_type_expr.specs.Says.{at}
 use Rattle.c_type_expr.specs.Constants.{length_of}
 

@@ -20,7 +20,7 @@ use Rattle.c_tree.specs.declared.tree.Top.{Top}
 use Rattle.c_tree.specs.declared.tree.TopNode.{TopNode}
 use Rattle.c_tree.specs.declared.tree.TopNode.TheVariants.{Include, Global, Func}
 use Rattle.c_constant.specs.Constant.{constant, ends}
-use Rattle.c_scope.specs.Scope.{Scope, look_up}
+use Rattle.c_type_expr.specs.Scope.{Scope, look_up}
 use Rattle.c_type_expr.specs.declared.fault.TypeFault.TheVariants.{Twice, Mismatch, NoMain, TooManyScalars}
 use Rattle.c_type_expr.specs.declared.fault.TypeFault.TheVariants.{TooManyParams}
 use Rattle.c_type_expr.specs.declared.role.Role.TheVariants.{Value, Free}

@@ -14,7 +14,7 @@ use Rattle.trips_isa.specs.Forms.{form_of}
 use Rattle.trips_isa.specs.Rule.{Answer}
 use Rattle.trips_isa.specs.Outcomes.{Outcome, Comes, Faults, unless}
 use Rattle.block_cases.specs.Orders.{slot_of}
-use Rattle.bit_rows.specs.Rows.{has_bit}
+use Rattle.base.specs.Rows.{has_bit}
 use Rattle.commit_flush_spec.specs.Causes.{Happened, Done, NotNow}
 use Rattle.commit_flush_spec.specs.Frames.{Frame, at, fresh}
 use Rattle.commit_flush_spec.specs.Sending.{send, token_with}
@@ -30,8 +30,8 @@ use Rattle.commit_flush_spec.specs.Dropping.{exited_alone, unchanged}
 use Rattle.commit_flush_spec.proofs.Lists.{blank_at}
 use Rattle.commit_flush_spec.proofs.DropFacts.{stores_drop, exits_drop, flushes_drop}
 use Rattle.reg_bank.specs.Ages.{Ages}
-use Rattle.commit_flush_order.specs.Places.{age_of, later}
-use Rattle.frame_events.specs.declared.phase.Phase.{Phase}
+use Rattle.commit_flush.specs.Places.{age_of, later}
+use Rattle.frame_state.specs.declared.phase.Phase.{Phase}
 use Rattle.commit_flush.specs.Seen.{IsSound, flying}
 use Rattle.commit_flush.specs.Accesses.{AreTold, NoStores, NoLoads, Stands}
 use Rattle.commit_flush.proofs.EventFacts.{Becomes}

@@ -5,7 +5,7 @@ use Rattle.std.specs.Int.{bit_at, w32, w128}
 use Rattle.std.proofs.Math.Nat.{pow-le-pow_right}
 use Rattle.std.proofs.lemmas.Bool.{cases_lt, lt-ltb, le-ltb}
 use Rattle.std.proofs.lemmas.Nat.Bits.{bit_at-zero, bit_at_above, bit_at_or, bit_at_set_same, bit_at_set_other}
-use Rattle.bit_rows.specs.Rows.{has_bit}
+use Rattle.base.specs.Rows.{has_bit}
 use Rattle.lsq_order.proofs.BitFacts.{cases_bit, is_clear, is_set, low_part}
 
 -- no bit of 0 is set

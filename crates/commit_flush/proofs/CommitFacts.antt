@@ -39,14 +39,14 @@ use Rattle.commit_flush_spec.proofs.Stored.{store_fits}
 use Rattle.commit_flush_spec.proofs.Applying.{next_in}
 use Rattle.commit_flush_spec.proofs.Committing.{same_effects}
 use Rattle.reg_bank.specs.Ages.{Ages, drop_from, retire}
-use Rattle.commit_flush_order.specs.Places.{numbers_of, frame_of}
-use Rattle.commit_flush_order.specs.Kept.{AreKept}
-use Rattle.frame_events.specs.Told.{cause_in, outputs_in}
-use Rattle.commit_flush_order.proofs.OrderFacts.{number_below}
-use Rattle.commit_flush_order.proofs.FrameFacts.{oldest, none_oldest}
-use Rattle.commit_flush_order.proofs.KeptFacts.{drop_kept, retire_kept, oldest_left}
-use Rattle.frame_events.specs.declared.phase.Phase.{Phase}
-use Rattle.frame_events.specs.Phases.{HasBlock, Keeps, frame_in, generation_of, slots_of}
+use Rattle.commit_flush.specs.Places.{numbers_of, frame_of}
+use Rattle.commit_flush.specs.Kept.{AreKept}
+use Rattle.frame_state.specs.Told.{cause_in, outputs_in}
+use Rattle.commit_flush.proofs.OrderFacts.{number_below}
+use Rattle.commit_flush.proofs.FrameFacts.{oldest, none_oldest}
+use Rattle.commit_flush.proofs.KeptFacts.{drop_kept, retire_kept, oldest_left}
+use Rattle.frame_state.specs.declared.phase.Phase.{Phase}
+use Rattle.frame_state.specs.Phases.{HasBlock, Keeps, frame_in, generation_of, slots_of}
 use Rattle.commit_flush.specs.Seen.{IsSound, Seen, window_of}
 use Rattle.commit_flush.specs.Emptied.{IsEmptied}
 use Rattle.commit_flush.proofs.SeenFacts.{good, found, numbers_seen}

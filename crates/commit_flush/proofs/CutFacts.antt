@@ -19,11 +19,11 @@ use Rattle.commit_flush_spec.specs.Window as event
 use Rattle.commit_flush_spec.proofs.Frames.{not_now}
 use Rattle.commit_flush_spec.proofs.DropFacts.{stores_drop, exits_drop}
 use Rattle.reg_bank.specs.Ages.{Ages, drop_from}
-use Rattle.commit_flush_order.specs.Places.{age_of, frame_of}
-use Rattle.commit_flush_order.proofs.FrameFacts.{of_age}
-use Rattle.frame_events.specs.declared.phase.Phase.{Phase}
-use Rattle.frame_events.specs.Phases.{HasBlock, Keeps, changed, frame_in}
-use Rattle.frame_events.specs.Told.{block_in, leads_to}
+use Rattle.commit_flush.specs.Places.{age_of, frame_of}
+use Rattle.commit_flush.proofs.FrameFacts.{of_age}
+use Rattle.frame_state.specs.declared.phase.Phase.{Phase}
+use Rattle.frame_state.specs.Phases.{HasBlock, Keeps, changed, frame_in}
+use Rattle.frame_state.specs.Told.{block_in, leads_to}
 use Rattle.commit_flush.specs.Seen.{IsSound, Seen, window_of}
 use Rattle.commit_flush.specs.Emptied.{IsEmptied}
 use Rattle.commit_flush.specs.Left.{left_behind}

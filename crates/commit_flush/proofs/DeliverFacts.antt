@@ -27,17 +27,17 @@ use Rattle.commit_flush_spec.proofs.Numbers.{deliver_number}
 use Rattle.reg_bank.specs.Ages.{Ages}
 use Rattle.reg_bank.specs.declared.answer.Held.{Held}
 use Rattle.reg_bank.specs.declared.answer.Held.TheVariants.{Waiting, Came}
-use Rattle.commit_flush_order.specs.Places.{age_of, frame_of, numbers_of}
-use Rattle.commit_flush_order.specs.Banked.{came, held, held_if, held_by}
-use Rattle.commit_flush_order.specs.Kept.{AreKept}
-use Rattle.commit_flush_order.proofs.OrderFacts.{place_is}
-use Rattle.commit_flush_order.proofs.BankFacts.{AreOnce, writes_once, holds_same, holds_more, is_waiting}
-use Rattle.commit_flush_order.proofs.FrameFacts.{has_age, frame_ok, free_at, runnable}
-use Rattle.commit_flush_order.proofs.KeptFacts.{alone_kept, write_kept}
-use Rattle.frame_events.specs.declared.phase.Phase.{Phase}
-use Rattle.frame_events.specs.Phases.{HasBlock, Keeps, changed, frame_in, slots_of}
-use Rattle.frame_events.specs.Told.{register_to, token_in, write_at}
-use Rattle.frame_events.specs.Tried.{IsFreeIn}
+use Rattle.commit_flush.specs.Places.{age_of, frame_of, numbers_of}
+use Rattle.commit_flush.specs.Banked.{came, held, held_if, held_by}
+use Rattle.commit_flush.specs.Kept.{AreKept}
+use Rattle.commit_flush.proofs.OrderFacts.{place_is}
+use Rattle.commit_flush.proofs.BankFacts.{AreOnce, writes_once, holds_same, holds_more, is_waiting}
+use Rattle.commit_flush.proofs.FrameFacts.{has_age, frame_ok, free_at, runnable}
+use Rattle.commit_flush.proofs.KeptFacts.{alone_kept, write_kept}
+use Rattle.frame_state.specs.declared.phase.Phase.{Phase}
+use Rattle.frame_state.specs.Phases.{HasBlock, Keeps, changed, frame_in, slots_of}
+use Rattle.frame_state.specs.Told.{register_to, token_in, write_at}
+use Rattle.frame_state.specs.Tried.{IsFreeIn}
 use Rattle.commit_flush.specs.Seen.{IsSound, window_of}
 use Rattle.commit_flush.specs.Tokens.{with_token, AwaitsToken}
 use Rattle.commit_flush.proofs.SeenFacts.{good, found, mapped_slot, numbers_seen}

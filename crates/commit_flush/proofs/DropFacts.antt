@@ -18,12 +18,12 @@ use Rattle.commit_flush_spec.specs.Window.{Event, Flush, can, can_now, done}
 use Rattle.commit_flush_spec.specs.Dropping.{left_by, none_left, unchanged}
 use Rattle.commit_flush_spec.proofs.DropFacts.{flushes_drop}
 use Rattle.reg_bank.specs.Ages.{Ages, drop_from}
-use Rattle.commit_flush_order.specs.Places.{cleared, later, age_of}
-use Rattle.commit_flush_order.specs.Banked.{held}
-use Rattle.commit_flush_order.specs.Kept.{AreKept}
-use Rattle.commit_flush_order.proofs.KeptFacts.{alone_kept, drop_kept, youngest_left, none_to_drop}
-use Rattle.frame_events.specs.declared.phase.Phase.{Phase}
-use Rattle.frame_events.specs.Phases.{HasBlock, Keeps, changed, frame_in, generation_of, number_of, slots_of}
+use Rattle.commit_flush.specs.Places.{cleared, later, age_of}
+use Rattle.commit_flush.specs.Banked.{held}
+use Rattle.commit_flush.specs.Kept.{AreKept}
+use Rattle.commit_flush.proofs.KeptFacts.{alone_kept, drop_kept, youngest_left, none_to_drop}
+use Rattle.frame_state.specs.declared.phase.Phase.{Phase}
+use Rattle.frame_state.specs.Phases.{HasBlock, Keeps, changed, frame_in, generation_of, number_of, slots_of}
 use Rattle.commit_flush.specs.Seen.{IsSound, window_of}
 use Rattle.commit_flush.specs.Emptied.{IsEmptied}
 use Rattle.commit_flush.proofs.SeenFacts.{mapped_at, mapped_slot, set_stays}

@@ -4,10 +4,10 @@ use Rattle.trips_isa.specs.declared.block.Image.{Image}
 use Rattle.trips_isa.specs.declared.run.Stepped.{Stepped}
 use Rattle.trips_isa.specs.Machine.{Machine}
 use Rattle.reg_bank.specs.Ages.{Ages, drop_from}
-use Rattle.commit_flush_order.specs.Kept.{AreKept}
-use Rattle.commit_flush_order.proofs.KeptFacts.{drop_kept}
-use Rattle.frame_events.specs.declared.phase.Phase.{Phase}
-use Rattle.frame_events.specs.Phases.{slots_of}
+use Rattle.commit_flush.specs.Kept.{AreKept}
+use Rattle.commit_flush.proofs.KeptFacts.{drop_kept}
+use Rattle.frame_state.specs.declared.phase.Phase.{Phase}
+use Rattle.frame_state.specs.Phases.{slots_of}
 use Rattle.commit_flush.specs.Seen.{IsSound, Seen, window_of}
 use Rattle.commit_flush.specs.Emptied.{IsEmptied}
 use Rattle.commit_flush.proofs.PhaseFacts.{seen}

@@ -20,11 +20,11 @@ use Rattle.commit_flush_spec.proofs.Slots.{by_number}
 use Rattle.commit_flush_spec.proofs.Events.{taken}
 use Rattle.commit_flush_spec.proofs.Whole.{happens_moves}
 use Rattle.reg_bank.specs.Ages.{Ages}
-use Rattle.commit_flush_order.specs.Banked.{held}
-use Rattle.commit_flush_order.specs.Kept.{AreKept}
-use Rattle.commit_flush_order.proofs.KeptFacts.{in_order, alone_kept}
-use Rattle.frame_events.specs.declared.phase.Phase.{Phase}
-use Rattle.frame_events.specs.Phases.{HasBlock, Keeps, changed, frame_in, generation_of, number_of, slots_of}
+use Rattle.commit_flush.specs.Banked.{held}
+use Rattle.commit_flush.specs.Kept.{AreKept}
+use Rattle.commit_flush.proofs.KeptFacts.{in_order, alone_kept}
+use Rattle.frame_state.specs.declared.phase.Phase.{Phase}
+use Rattle.frame_state.specs.Phases.{HasBlock, Keeps, changed, frame_in, generation_of, number_of, slots_of}
 use Rattle.commit_flush.specs.Seen.{IsSound, eight_numbers, flying, window_of}
 use Rattle.commit_flush.proofs.SeenFacts.{good, eight, found, mapped_at, mapped_slot, set_stays}
 use Rattle.commit_flush.proofs.AskFacts.{goes_on, there}

@@ -6,8 +6,8 @@ use Rattle.commit_flush_spec.specs.Frames.{Frame}
 use Rattle.commit_flush_spec.specs.Older.{Older, after, follows, successor_of}
 use Rattle.commit_flush_spec.specs.Ends.{exit_by, branch_of}
 use Rattle.commit_flush_spec.specs.Dropping.{left_by, exit_leaves, exit_left}
-use Rattle.commit_flush_order.specs.Places.{later, age_of}
-use Rattle.frame_events.specs.Told.{block_in, leads_to}
+use Rattle.commit_flush.specs.Places.{later, age_of}
+use Rattle.frame_state.specs.Told.{block_in, leads_to}
 use Rattle.commit_flush.specs.Left.{left_behind}
 
 exit_leaves_is : (known : Option ℕ) (fs : List Frame)

@@ -25,7 +25,7 @@ use Rattle.commit_flush_spec.proofs.DropFacts.{stores_drop, exits_drop, flushes_
 use Rattle.commit_flush_spec.proofs.Events.{taken, state_stays}
 use Rattle.commit_flush_spec.proofs.Look.{or_false}
 use Rattle.commit_flush_spec.proofs.Whole.{from_here}
-use Rattle.commit_flush_order.specs.Places.{numbers_of}
+use Rattle.commit_flush.specs.Places.{numbers_of}
 use Rattle.commit_flush.specs.Seen.{Seen}
 use Rattle.commit_flush.specs.Flushed.{is_trap, MayFlush, left_of, LeavesNothing}
 use Rattle.commit_flush.proofs.SeenFacts.{mapped_at}

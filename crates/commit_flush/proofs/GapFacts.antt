@@ -8,7 +8,7 @@ use Rattle.trips_isa.specs.Stores.{byte_of, byte_seen, or_byte}
 use Rattle.commit_flush_spec.specs.Frames.{Frame, Taken, at, numbers}
 use Rattle.commit_flush_spec.specs.Older.{Older, after, after_all, covers, passes, took_touched, violated}
 use Rattle.commit_flush_spec.specs.Dropping.{untouched}
-use Rattle.bit_rows.specs.Rows.{has_bit}
+use Rattle.base.specs.Rows.{has_bit}
 use Rattle.commit_flush.specs.Accesses.{NoStores, NoLoads, NoneStores, NoneLoads, WhereClear}
 
 -- without stores each byte is seen that is seen behind them

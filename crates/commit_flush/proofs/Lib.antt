@@ -26,3 +26,16 @@ pub mod BitFacts
 pub mod ObserveFacts
 pub mod AccessFacts
 pub mod GapFacts
+pub mod StepFacts
+pub mod SearchFacts
+pub mod PickFacts
+pub mod OldestFacts
+pub mod WindowDriveBitFacts
+pub mod DriveFacts
+pub mod RoomFacts
+pub mod NumberTests
+pub mod OrderFacts
+pub mod CountFacts
+pub mod BankFacts
+pub mod KeptFacts
+pub mod FrameFacts

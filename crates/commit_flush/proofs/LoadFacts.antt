@@ -17,9 +17,9 @@ use Rattle.lsq_order.specs.declared.sought.Sought.{Sought}
 use Rattle.lsq_order.specs.Reached.{FitsReach}
 use Rattle.lsq_order.specs.Taking.{taken}
 use Rattle.lsq_order.proofs.TakingFacts.{seen_small}
-use Rattle.commit_flush_order.proofs.OrderFacts.{after_more}
-use Rattle.frame_events.specs.Changes.{IsWord, word_of}
-use Rattle.frame_events.specs.Told.{taken_by, waiting_load}
+use Rattle.commit_flush.proofs.OrderFacts.{after_more}
+use Rattle.frame_state.specs.Changes.{IsWord, word_of}
+use Rattle.frame_state.specs.Told.{taken_by, waiting_load}
 
 -- sizes ------------------------------------------------------------------------------------------
 

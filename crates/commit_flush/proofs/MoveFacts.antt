@@ -20,10 +20,10 @@ use Rattle.commit_flush_spec.specs.Window as event
 use Rattle.commit_flush_spec.proofs.Frames.{not_now}
 use Rattle.commit_flush_spec.proofs.Numbers.{read_number, fire_number, load_number}
 use Rattle.reg_bank.specs.Ages.{Ages}
-use Rattle.commit_flush_order.specs.Places.{frame_of}
-use Rattle.frame_events.specs.declared.phase.Phase.{Phase}
-use Rattle.frame_events.specs.Phases.{HasBlock, Keeps, changed, frame_in}
-use Rattle.frame_events.specs.Changes.{Declares, IsWord, sealed_if}
+use Rattle.commit_flush.specs.Places.{frame_of}
+use Rattle.frame_state.specs.declared.phase.Phase.{Phase}
+use Rattle.frame_state.specs.Phases.{HasBlock, Keeps, changed, frame_in}
+use Rattle.frame_state.specs.Changes.{Declares, IsWord, sealed_if}
 use Rattle.commit_flush.specs.Seen.{IsSound, Seen, window_of}
 use Rattle.commit_flush.proofs.SeenFacts.{found, not_found}
 use Rattle.commit_flush.proofs.PhaseFacts.{seen, read_phase}

@@ -20,12 +20,12 @@ use Rattle.commit_flush_spec.specs.InFlight.{Window}
 use Rattle.commit_flush_spec.specs.Invariant.{Asked}
 use Rattle.commit_flush_spec.specs.Laws.{WindowOk}
 use Rattle.commit_flush_spec.specs.Older.{committed}
-use Rattle.commit_flush_order.specs.Places.{frame_of}
-use Rattle.commit_flush_order.proofs.FrameFacts.{frame_ok, has_age}
+use Rattle.commit_flush.specs.Places.{frame_of}
+use Rattle.commit_flush.proofs.FrameFacts.{frame_ok, has_age}
 use Rattle.frame_state.specs.Held.{Held, running}
 use Rattle.frame_state.specs.Lacks.{least_lack}
 use Rattle.frame_state.proofs.ReadyFacts.{left_came}
-use Rattle.frame_events.specs.Phases.{IsIdle}
+use Rattle.frame_state.specs.Phases.{IsIdle}
 use Rattle.commit_flush.specs.Observed.{address_by, address_in, is_access, is_whole_in, lack_in, token_address}
 use Rattle.commit_flush.specs.Observed.{unread_in, waits_in}
 

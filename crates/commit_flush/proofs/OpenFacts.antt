@@ -13,9 +13,9 @@ use Rattle.block_check.specs.Images.{IsCheckedImage}
 use Rattle.commit_flush_spec.specs.Frames.{at}
 use Rattle.commit_flush_spec.specs.InFlight.{Window, opened}
 use Rattle.reg_bank.specs.Ages.{Ages, none}
-use Rattle.frame_events.specs.declared.phase.Phase.{Phase}
-use Rattle.frame_events.specs.declared.phase.Phase.TheVariants.{Free, Going, Done, Away}
-use Rattle.frame_events.specs.Phases.{HasBlock, frame_in, generation_of, number_of, slots_of}
+use Rattle.frame_state.specs.declared.phase.Phase.{Phase}
+use Rattle.frame_state.specs.declared.phase.Phase.TheVariants.{Free, Going, Done, Away}
+use Rattle.frame_state.specs.Phases.{HasBlock, frame_in, generation_of, number_of, slots_of}
 use Rattle.commit_flush.specs.Seen.{IsSound, IsFresh, AreFresh, window_of}
 
 -- one more frame of the next number

@@ -4,9 +4,9 @@ use Rattle.std.proofs.Common.{refl, sym, ap, ◌∙◌, arith, ◌<◌, get_or}
 use Rattle.trips_isa.specs.declared.block.Block.{Block}
 use Rattle.commit_flush_spec.specs.InFlight.{Window}
 use Rattle.commit_flush_spec.specs.Window.{happens, plays}
-use Rattle.frame_events.specs.declared.event.Event as code
+use Rattle.frame_state.specs.declared.event.Event as code
 use Rattle.commit_flush.specs.Seen.{Seen}
-use Rattle.frame_events.specs.Events.{as_event, as_events}
+use Rattle.frame_state.specs.Events.{as_event, as_events}
 
 -- one event more
 pub played_more : (blocks : List Block) (budget : ℕ) (es : List code.Event) (i : ℕ) (e : code.Event) (w : Window)

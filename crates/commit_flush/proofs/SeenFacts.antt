@@ -15,12 +15,12 @@ use Rattle.commit_flush_spec.specs.Frames.{at}
 use Rattle.commit_flush_spec.specs.Invariant.{AllGood}
 use Rattle.commit_flush_spec.specs.Laws.{AreNumbers}
 use Rattle.reg_bank.specs.Ages.{Ages}
-use Rattle.commit_flush_order.specs.Places.{numbers_of, frame_of}
-use Rattle.commit_flush_order.proofs.OrderFacts.{numbers_are, count}
-use Rattle.commit_flush_order.proofs.CountFacts.{at_most_eight}
-use Rattle.commit_flush_order.proofs.FrameFacts.{stands}
-use Rattle.frame_events.specs.declared.phase.Phase.{Phase}
-use Rattle.frame_events.specs.Phases.{HasBlock, frame_in, number_of, slots_of}
+use Rattle.commit_flush.specs.Places.{numbers_of, frame_of}
+use Rattle.commit_flush.proofs.OrderFacts.{numbers_are, count}
+use Rattle.commit_flush.proofs.CountFacts.{at_most_eight}
+use Rattle.commit_flush.proofs.FrameFacts.{stands}
+use Rattle.frame_state.specs.declared.phase.Phase.{Phase}
+use Rattle.frame_state.specs.Phases.{HasBlock, frame_in, number_of, slots_of}
 use Rattle.commit_flush.specs.Seen.{IsSound, eight_numbers, flying}
 
 -- the blocks of a checked image are good

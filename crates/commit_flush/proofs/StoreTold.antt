@@ -25,10 +25,10 @@ use Rattle.reg_bank.specs.Ages.{Ages}
 use Rattle.lsq_order.specs.Reached.{FitsReach, narrowed}
 use Rattle.lsq_order.specs.Wrong.{Finds}
 use Rattle.lsq_order.proofs.WrongFacts.{found_is, left_is}
-use Rattle.commit_flush_order.specs.Places.{age_of, frame_of}
-use Rattle.commit_flush_order.proofs.FrameFacts.{frame_ok, of_age}
-use Rattle.frame_events.specs.declared.phase.Phase.{Phase}
-use Rattle.frame_events.specs.Told.{stored_by, waiting_store}
+use Rattle.commit_flush.specs.Places.{age_of, frame_of}
+use Rattle.commit_flush.proofs.FrameFacts.{frame_ok, of_age}
+use Rattle.frame_state.specs.declared.phase.Phase.{Phase}
+use Rattle.frame_state.specs.Told.{stored_by, waiting_store}
 use Rattle.commit_flush.specs.Seen.{IsSound, Seen, window_of}
 use Rattle.commit_flush.proofs.PhaseFacts.{seen}
 use Rattle.commit_flush.proofs.AskFacts.{goes_on, there}

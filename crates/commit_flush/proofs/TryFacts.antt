@@ -17,13 +17,13 @@ use Rattle.commit_flush_spec.specs.Dataflow.{can_fire, fire, can_deliver, delive
 use Rattle.commit_flush_spec.specs.Window.{Event, Deliver, can, can_now, unless_over, done, happens, if_done}
 use Rattle.commit_flush_spec.specs.Window as event
 use Rattle.reg_bank.specs.Ages.{Ages}
-use Rattle.commit_flush_order.specs.Places.{age_of, frame_of, place_of}
-use Rattle.commit_flush_order.proofs.FrameFacts.{none_asked}
-use Rattle.commit_flush_order.proofs.OrderFacts.{place_is}
-use Rattle.frame_events.specs.declared.phase.Phase.{Phase}
-use Rattle.frame_events.specs.Phases.{HasBlock, Keeps, answered, changed, frame_in}
-use Rattle.frame_events.specs.Told.{register_to, token_in}
-use Rattle.frame_events.specs.Tried.{Leaves, tried}
+use Rattle.commit_flush.specs.Places.{age_of, frame_of, place_of}
+use Rattle.commit_flush.proofs.FrameFacts.{none_asked}
+use Rattle.commit_flush.proofs.OrderFacts.{place_is}
+use Rattle.frame_state.specs.declared.phase.Phase.{Phase}
+use Rattle.frame_state.specs.Phases.{HasBlock, Keeps, answered, changed, frame_in}
+use Rattle.frame_state.specs.Told.{register_to, token_in}
+use Rattle.frame_state.specs.Tried.{Leaves, tried}
 use Rattle.commit_flush.specs.Seen.{IsSound, Seen, window_of}
 use Rattle.commit_flush.specs.Tokens.{with_token, AwaitsToken}
 use Rattle.commit_flush.proofs.SeenFacts.{few, found, not_found, numbers_seen, set_stays}

@@ -4,10 +4,10 @@ use Rattle.std.specs.Prelude.{◌≡◌, ℕ, ◌<◌, ◌≤◌, false, List, S
 use Rattle.trips_isa.specs.declared.block.Image.{Image}
 use Rattle.trips_isa.specs.declared.run.Stepped.{Stepped}
 use Rattle.trips_isa.specs.Machine.{Machine}
-use Rattle.bit_rows.specs.Rows.{has_bit}
+use Rattle.base.specs.Rows.{has_bit}
 use Rattle.commit_flush_spec.specs.Frames.{Frame, at}
 use Rattle.reg_bank.specs.Ages.{Ages}
-use Rattle.frame_events.specs.declared.phase.Phase.{Phase}
+use Rattle.frame_state.specs.declared.phase.Phase.{Phase}
 use Rattle.commit_flush.specs.Seen.{IsSound, flying}
 
 -- a frame without a resolved store

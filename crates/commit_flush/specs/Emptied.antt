@@ -1,9 +1,9 @@
 -- Frames by number of which some were emptied.
 use Rattle.std.specs.Prelude.{◌≡◌, ℕ, List, All, map, length}
 use Rattle.trips_isa.specs.declared.block.Block.{Block}
-use Rattle.commit_flush_order.specs.Places.{cleared}
-use Rattle.frame_events.specs.declared.phase.Phase.{Phase}
-use Rattle.frame_events.specs.Phases.{HasBlock, generation_of, number_of, slots_of}
+use Rattle.commit_flush.specs.Places.{cleared}
+use Rattle.frame_state.specs.declared.phase.Phase.{Phase}
+use Rattle.frame_state.specs.Phases.{HasBlock, generation_of, number_of, slots_of}
 
 -- the frames of these numbers are empty, each keeps its number and its generation, and the others are as they were
 pub record IsEmptied (ns : List ℕ) (old new : List Phase) : Type 0 where

@@ -8,7 +8,7 @@ use Rattle.commit_flush_spec.specs.Older.{committed}
 use Rattle.commit_flush_spec.specs.Dropping.{left_by, store_left, exit_left, none_left}
 use Rattle.commit_flush_spec.specs.InFlight.{in_flight}
 use Rattle.commit_flush_spec.specs.Window.{Window, Event, Store, Exit, Flush, Commit}
-use Rattle.commit_flush_order.specs.Places.{numbers_of}
+use Rattle.commit_flush.specs.Places.{numbers_of}
 
 -- whether a run has ended with a trap
 abbrev pub is_trap : Stepped → Bool

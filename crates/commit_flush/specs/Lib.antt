@@ -8,3 +8,10 @@ pub mod Lent
 pub mod Observed
 pub mod Accesses
 pub mod Flushed
+pub mod Steps
+pub mod Endings
+pub mod Known
+pub mod Bits
+pub mod Places
+pub mod Banked
+pub mod Kept

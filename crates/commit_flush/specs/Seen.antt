@@ -10,10 +10,10 @@ use Rattle.commit_flush_spec.specs.InFlight.{Window}
 use Rattle.commit_flush_spec.specs.Numbered.{by_age}
 use Rattle.commit_flush_spec.specs.Laws.{WindowOk}
 use Rattle.reg_bank.specs.Ages.{Ages}
-use Rattle.commit_flush_order.specs.Kept.{AreKept}
-use Rattle.frame_events.specs.declared.phase.Phase.{Phase}
-use Rattle.frame_events.specs.declared.phase.Phase.TheVariants.{Free}
-use Rattle.frame_events.specs.Phases.{generation_of, number_of, slots_of, HasBlock}
+use Rattle.commit_flush.specs.Kept.{AreKept}
+use Rattle.frame_state.specs.declared.phase.Phase.{Phase}
+use Rattle.frame_state.specs.declared.phase.Phase.TheVariants.{Free}
+use Rattle.frame_state.specs.Phases.{generation_of, number_of, slots_of, HasBlock}
 
 -- a window with its image and its budget
 pub record Seen : Type 0 where

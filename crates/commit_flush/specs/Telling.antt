@@ -1,4 +1,4 @@
--- What is told of the frame of a number beside what crates/frame_events tells of one frame. Nothing is told where no
+-- What is told of the frame of a number beside what crates/frame_state tells of one frame. Nothing is told where no
 -- frame is in flight.
 use Rattle.std.specs.Prelude.{ℕ, Option, Some, None}
 use Rattle.trips_isa.specs.declared.block.Stored.{Stored}

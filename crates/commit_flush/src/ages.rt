@@ -5,15 +5,14 @@ ghost use Rattle.commit_flush_spec.specs.Older.{after_all, committed, follows, s
 ghost use Rattle.commit_flush_spec.specs.InFlight.{is_sealed};
 ghost use Rattle.commit_flush_spec.specs.Invariant.{IsRunnable};
 ghost use Rattle.frame_state.specs.Held.{exit_of};
-ghost use Rattle.frame_events.specs.Phases.{HasBlock, frame_in};
-ghost use Rattle.commit_flush_order.specs.Places.{age_of, frame_of, free_number, numbers_of};
+ghost use Rattle.frame_state.specs.Phases.{HasBlock, frame_in};
+ghost use Rattle.commit_flush.specs.Places.{age_of, frame_of, free_number, numbers_of};
 ghost use Rattle.commit_flush.specs.Youngest.{IsYoungest};
 ghost use Rattle.commit_flush.specs.Accesses.{NoneStores, NoneLoads};
 
 use crate::orders;
 use crate::window::Window;
-use frame_events::{Phase, exit_come, is_sealed_in, is_serial_in};
-use frame_state::Departure;
+use frame_state::{Departure, Phase, exit_come, is_sealed_in, is_serial_in};
 use lsq_order::{end_below, next_from};
 
 /// Whether a block may follow where this is known of the next one.

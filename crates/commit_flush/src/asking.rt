@@ -7,12 +7,12 @@ ghost use Rattle.commit_flush_spec.specs.Ends.{can_exit, can_seal};
 ghost use Rattle.commit_flush_spec.specs.Older.{committed};
 ghost use Rattle.commit_flush_spec.specs.InFlight.{can_commit, can_fetch, on_frame};
 ghost use Rattle.commit_flush_spec.specs.Window.{can, can_now};
-ghost use Rattle.frame_events.specs.Events.{as_event, as_happened};
-ghost use Rattle.commit_flush_order.specs.Places.{free_number};
+ghost use Rattle.frame_state.specs.Events.{as_event, as_happened};
+ghost use Rattle.commit_flush.specs.Places.{free_number};
 
 use crate::ages::follows;
 use crate::window::Window;
-use frame_events::{Cause, Event, Happened};
+use frame_state::{Cause, Event, Happened};
 use trips_isa::Stepped;
 
 impl Window {
@@ -53,7 +53,7 @@ impl Window {
         match self.phase(frame) {
             None => Happened::NotNow(Cause::NoFrame),
             Some(phase) => {
-                frame_events::can_read(phase, self.image(), read, self.word_of(frame, read))
+                frame_state::can_read(phase, self.image(), read, self.word_of(frame, read))
             }
         }
     }
@@ -65,7 +65,7 @@ impl Window {
     {
         match self.phase(frame) {
             None => Happened::NotNow(Cause::NoFrame),
-            Some(phase) => frame_events::can_fire(phase, self.image(), slot),
+            Some(phase) => frame_state::can_fire(phase, self.image(), slot),
         }
     }
 
@@ -76,7 +76,7 @@ impl Window {
     {
         match self.phase(frame) {
             None => Happened::NotNow(Cause::NoToken),
-            Some(phase) => frame_events::can_deliver(phase, self.image(), place),
+            Some(phase) => frame_state::can_deliver(phase, self.image(), place),
         }
     }
 
@@ -87,7 +87,7 @@ impl Window {
     {
         match self.phase(frame) {
             None => Happened::NotNow(Cause::NoFrame),
-            Some(phase) => frame_events::can_load(phase, self.image(), number),
+            Some(phase) => frame_state::can_load(phase, self.image(), number),
         }
     }
 
@@ -98,7 +98,7 @@ impl Window {
     {
         match self.phase(frame) {
             None => Happened::NotNow(Cause::NoFrame),
-            Some(phase) => frame_events::can_store(phase, self.image(), number),
+            Some(phase) => frame_state::can_store(phase, self.image(), number),
         }
     }
 
@@ -109,7 +109,7 @@ impl Window {
     {
         match self.phase(frame) {
             None => Happened::NotNow(Cause::NoFrame),
-            Some(phase) => frame_events::can_exit(phase, self.image()),
+            Some(phase) => frame_state::can_exit(phase, self.image()),
         }
     }
 
@@ -120,7 +120,7 @@ impl Window {
     {
         match self.phase(frame) {
             None => Happened::NotNow(Cause::NoFrame),
-            Some(phase) => frame_events::can_seal(phase, self.image()),
+            Some(phase) => frame_state::can_seal(phase, self.image()),
         }
     }
 

@@ -1,6 +1,6 @@
 //! Words whose bits stand for numbers.
 ghost use Rattle.std.specs.Prelude.{◌≡◌, ◌≢◌, ◌<◌, ◌≤◌, ◌||◌, ℕ, suc, false};
-ghost use Rattle.bit_rows.specs.Rows.{has_bit};
+ghost use Rattle.base.specs.Rows.{has_bit};
 
 /// A word of 32 bits with the bit of a number, where it is to be set.
 pub fn with_bit(word: u32, number: u8, set: bool) -> u32

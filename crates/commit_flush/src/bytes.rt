@@ -9,16 +9,15 @@ ghost use Rattle.commit_flush_spec.specs.Window as window;
 ghost use Rattle.commit_flush_spec.specs.Window.{can, done};
 ghost use Rattle.lsq_order.specs.Taking.{IsSought, taken};
 ghost use Rattle.frame_state.specs.Held.{taken_if};
-ghost use Rattle.frame_events.specs.Changes.{IsWord};
-ghost use Rattle.frame_events.specs.Phases.{HasBlock, frame_in};
-ghost use Rattle.frame_events.specs.Told.{waiting_load};
-ghost use Rattle.commit_flush_order.specs.Places.{age_of, frame_of};
+ghost use Rattle.frame_state.specs.Changes.{IsWord};
+ghost use Rattle.frame_state.specs.Phases.{HasBlock, frame_in};
+ghost use Rattle.frame_state.specs.Told.{waiting_load};
+ghost use Rattle.commit_flush.specs.Places.{age_of, frame_of};
 
 use crate::bits::with_bit;
 use crate::window::Window;
 use block_check::CheckedImage;
-use frame_events::{Phase, flying, load_in};
-use frame_state::Took;
+use frame_state::{Phase, Took, flying, load_in};
 use lsq_order::Sought;
 
 // Takes what is still to be found from the stores of a frame below a number.
@@ -89,7 +88,7 @@ impl Window {
         ensures { taken_if result ≡ waiting_load number (frame_of frame self.now.window.frames) }
     {
         let phase = self.phase(frame)?;
-        frame_events::waiting_load(phase, self.image(), number)
+        frame_state::waiting_load(phase, self.image(), number)
     }
 
     // The number that the bytes make which the load of the frame of an age takes that waits with a number.

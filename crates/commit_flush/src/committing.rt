@@ -4,13 +4,13 @@ ghost use Rattle.trips_isa.specs.TrapCauses.{no_mark};
 ghost use Rattle.commit_flush_spec.specs.Causes as causes;
 ghost use Rattle.commit_flush_spec.specs.Window as window;
 ghost use Rattle.commit_flush_spec.specs.Window.{can, done};
-ghost use Rattle.frame_events.specs.Told.{cause_in};
-ghost use Rattle.commit_flush_order.specs.Places.{frame_of, numbers_of};
+ghost use Rattle.frame_state.specs.Told.{cause_in};
+ghost use Rattle.commit_flush.specs.Places.{frame_of, numbers_of};
 
 use crate::bits::led_down;
 use crate::parts::flush_from;
 use crate::window::Window;
-use frame_events::{empty_in, outputs_in};
+use frame_state::{empty_in, outputs_in};
 use trips_isa::{NO_MARK, Stepped, cause_of};
 
 impl Window {
@@ -20,7 +20,7 @@ impl Window {
     {
         match self.phase(frame) {
             None => NO_MARK,
-            Some(phase) => frame_events::cause_in(phase, self.image()),
+            Some(phase) => frame_state::cause_in(phase, self.image()),
         }
     }
 

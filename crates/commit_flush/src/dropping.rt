@@ -3,14 +3,14 @@ ghost use Rattle.std.specs.Prelude.{◌≡◌, ◌<◌, suc, [], length, slice_g
 ghost use Rattle.commit_flush_spec.specs.Causes as causes;
 ghost use Rattle.commit_flush_spec.specs.Window as window;
 ghost use Rattle.commit_flush_spec.specs.Window.{can, done};
-ghost use Rattle.frame_events.specs.Told.{block_in, leads_to};
-ghost use Rattle.commit_flush_order.specs.Places.{frame_of};
+ghost use Rattle.frame_state.specs.Told.{block_in, leads_to};
+ghost use Rattle.commit_flush.specs.Places.{frame_of};
 ghost use Rattle.commit_flush.specs.Left.{left_behind};
 
 use crate::ages::follows;
 use crate::parts::flush_from;
 use crate::window::Window;
-use frame_events::exit_in;
+use frame_state::exit_in;
 
 impl Window {
     // Empties a frame and all younger.
@@ -43,7 +43,7 @@ impl Window {
         ensures { result ≡ block_in (slice_get self.now.window.frames age) }
     {
         let phase = self.phase_at(age)?;
-        frame_events::block_in(phase, self.image())
+        frame_state::block_in(phase, self.image())
     }
 
     // Where the branch of a frame that waits would lead.
@@ -51,7 +51,7 @@ impl Window {
         ensures { result ≡ leads_to self.now.image.blocks (frame_of frame self.now.window.frames) }
     {
         let phase = self.phase(frame)?;
-        frame_events::leads_to(phase, self.image())
+        frame_state::leads_to(phase, self.image())
     }
 
     // How many frames the exit of the frame of an age leaves. It is found before the exit is made known.

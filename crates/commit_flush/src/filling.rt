@@ -6,7 +6,7 @@ ghost use Rattle.commit_flush_spec.specs.Window.{can, done};
 
 use crate::bits::low_part;
 use crate::window::Window;
-use frame_events::{block_at, fill_in};
+use frame_state::{block_at, fill_in};
 
 impl Window {
     // Fills the lowest empty frame with a block, as the youngest.

@@ -5,11 +5,11 @@ ghost use Rattle.commit_flush_spec.specs.Causes as causes;
 ghost use Rattle.commit_flush_spec.specs.Laws.{TakesSteps};
 ghost use Rattle.commit_flush_spec.specs.Window as window;
 ghost use Rattle.commit_flush_spec.specs.Window.{can, done, happens, plays};
-ghost use Rattle.frame_events.specs.Events.{as_event, as_events, as_happened};
+ghost use Rattle.frame_state.specs.Events.{as_event, as_events, as_happened};
 ghost use Rattle.commit_flush.specs.Flushed.{LeavesNothing, MayFlush, left_of};
 
 use crate::window::Window;
-use frame_events::{Cause, Event, Happened};
+use frame_state::{Cause, Event, Happened};
 use trips_isa::Stepped;
 
 impl Window {

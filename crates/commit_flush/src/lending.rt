@@ -1,14 +1,13 @@
 //! The frames in flight, lent to those who move the window.
 ghost use Rattle.std.specs.Prelude.{◌≡◌, MatchOption, None, Some, slice_get};
 ghost use Rattle.frame_state.specs.Held.{running};
-ghost use Rattle.frame_events.specs.Phases.{HasBlock, IsIdle, frame_in};
-ghost use Rattle.commit_flush_order.specs.Places.{frame_of, numbers_of};
+ghost use Rattle.frame_state.specs.Phases.{HasBlock, IsIdle, frame_in};
+ghost use Rattle.commit_flush.specs.Places.{frame_of, numbers_of};
 ghost use Rattle.commit_flush.specs.Lent.{IsLent};
 
 use crate::window::Window;
 use block_check::CheckedImage;
-use frame_events::{Phase, flying, is_sealed_in};
-use frame_state::Body;
+use frame_state::{Body, Phase, flying, is_sealed_in};
 use trips_isa::Block;
 
 // What a frame that runs holds, and its block.

@@ -4,11 +4,11 @@ ghost use Rattle.commit_flush_spec.specs.Frames.{Frame};
 ghost use Rattle.commit_flush_spec.specs.Older.{committed};
 ghost use Rattle.commit_flush_spec.specs.Numbered.{seen_at};
 ghost use Rattle.commit_flush_spec.specs.Dataflow.{read_seen};
-ghost use Rattle.commit_flush_order.specs.Places.{age_of, frame_of};
-ghost use Rattle.commit_flush_order.specs.Banked.{word_read};
+ghost use Rattle.commit_flush.specs.Places.{age_of, frame_of};
+ghost use Rattle.commit_flush.specs.Banked.{word_read};
 
 use crate::window::Window;
-use frame_events::read_register;
+use frame_state::read_register;
 use reg_bank::ReadAnswer;
 
 // The word that a read is answered, where it is known.

@@ -5,7 +5,7 @@ ghost use Rattle.commit_flush_spec.specs.Window as window;
 ghost use Rattle.commit_flush_spec.specs.Window.{can, done};
 
 use crate::window::Window;
-use frame_events::{read_in, seal_in};
+use frame_state::{read_in, seal_in};
 
 impl Window {
     // Answers a read of a frame.

@@ -4,20 +4,19 @@ ghost use Rattle.std.specs.Prelude.{slice_index_or, false};
 ghost use Rattle.trips_isa.specs.Alu.{word};
 ghost use Rattle.trips_isa.specs.Stores.{address_of};
 ghost use Rattle.trips_isa.specs.declared.block.Block.{Block};
-ghost use Rattle.bit_rows.specs.Rows.{has_bit};
+ghost use Rattle.base.specs.Rows.{has_bit};
 ghost use Rattle.commit_flush_spec.specs.Memory.{is_request, request};
 ghost use Rattle.commit_flush_spec.specs.Window as event;
 ghost use Rattle.commit_flush_spec.specs.Window.{can};
 ghost use Rattle.frame_state.specs.Held.{as_frame, running};
-ghost use Rattle.frame_events.specs.Events as events;
-ghost use Rattle.commit_flush_order.specs.Places.{frame_of};
+ghost use Rattle.frame_state.specs.Events as events;
+ghost use Rattle.commit_flush.specs.Places.{frame_of};
 ghost use Rattle.commit_flush.specs.Observed.{address_by, address_in, is_access, is_whole_in, lack_in};
 ghost use Rattle.commit_flush.specs.Observed.{token_address, unread_in, waits_in};
 
 use crate::bits::{with_bit, with_wide_bit};
 use crate::window::Window;
-use frame_events::{Event, Happened};
-use frame_state::{Body, Lack};
+use frame_state::{Body, Event, Happened, Lack};
 use trips_isa::{Block, Form, Inst, Token, form_of};
 
 // Whether what waits is a load or a store.

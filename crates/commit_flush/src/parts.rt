@@ -1,13 +1,13 @@
 //! Changes of a window's parts, where no window stands while they change one after another.
 ghost use Rattle.std.specs.Prelude.{◌≡◌, ◌<◌, ◌≤◌, All, Some, drop, length, take};
 ghost use Rattle.reg_bank.specs.Ages.{at, drop_from};
-ghost use Rattle.commit_flush_order.specs.Places.{place_of};
+ghost use Rattle.commit_flush.specs.Places.{place_of};
 ghost use Rattle.commit_flush.specs.Emptied.{IsEmptied};
 ghost use Rattle.commit_flush.specs.Tokens.{AwaitsToken, with_token};
 
 use crate::orders;
 use arrayvec::ArrayVec;
-use frame_events::{Arrival, Phase, empty_in};
+use frame_state::{Arrival, Phase, empty_in};
 use reg_bank::Banks;
 use trips_isa::Token;
 

@@ -8,15 +8,15 @@ ghost use Rattle.commit_flush_spec.specs.Window as window;
 ghost use Rattle.commit_flush_spec.specs.Window.{can, done};
 ghost use Rattle.lsq_order.specs.Reached.{narrowed, reached};
 ghost use Rattle.lsq_order.specs.Wrong.{Finds};
-ghost use Rattle.frame_events.specs.Phases.{HasBlock, frame_in};
-ghost use Rattle.frame_events.specs.Told.{waiting_store};
-ghost use Rattle.commit_flush_order.specs.Places.{age_of, frame_of};
+ghost use Rattle.frame_state.specs.Phases.{HasBlock, frame_in};
+ghost use Rattle.frame_state.specs.Told.{waiting_store};
+ghost use Rattle.commit_flush.specs.Places.{age_of, frame_of};
 
 use crate::bits::with_bit;
 use crate::parts::flush_from;
 use crate::window::Window;
 use block_check::CheckedImage;
-use frame_events::{Phase, flying, store_in, waiting_store};
+use frame_state::{Phase, flying, store_in, waiting_store};
 use lsq_order::Reach;
 use trips_isa::Stored;
 

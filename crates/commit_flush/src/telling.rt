@@ -3,15 +3,14 @@ ghost use Rattle.std.specs.Prelude.{◌≡◌};
 ghost use Rattle.commit_flush_spec.specs.Invariant.{AllGood};
 ghost use Rattle.commit_flush_spec.specs.Laws.{WindowOk};
 ghost use Rattle.frame_state.specs.Held.{exit_of};
-ghost use Rattle.frame_events.specs.Phases.{HasBlock, frame_in};
-ghost use Rattle.frame_events.specs.Told.{block_in, exit_come};
-ghost use Rattle.commit_flush_order.specs.Places.{frame_of};
+ghost use Rattle.frame_state.specs.Phases.{HasBlock, frame_in};
+ghost use Rattle.frame_state.specs.Told.{block_in, exit_come};
+ghost use Rattle.commit_flush.specs.Places.{frame_of};
 ghost use Rattle.commit_flush.specs.Telling.{number_of_exit, stored_in};
 
 use crate::window::Window;
 use block_check::CheckedImage;
-use frame_events::{Phase, exit_come, flying};
-use frame_state::Departure;
+use frame_state::{Departure, Phase, exit_come, flying};
 use trips_isa::Stored;
 
 // The number of an exit.
@@ -42,7 +41,7 @@ impl Window {
     {
         match self.phase(frame) {
             None => None,
-            Some(phase) => frame_events::block_in(phase, self.image()),
+            Some(phase) => frame_state::block_in(phase, self.image()),
         }
     }
 

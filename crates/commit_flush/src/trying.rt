@@ -3,11 +3,11 @@ ghost use Rattle.std.specs.Prelude.{◌≡◌, ◌/◌, ◌%◌};
 ghost use Rattle.trips_isa.specs.declared.run.Stepped.TheVariants.{Went};
 ghost use Rattle.commit_flush_spec.specs.Window as window;
 ghost use Rattle.commit_flush_spec.specs.Window.{can, happens};
-ghost use Rattle.frame_events.specs.Events.{as_happened};
+ghost use Rattle.frame_state.specs.Events.{as_happened};
 
 use crate::parts::keep_arrival;
 use crate::window::Window;
-use frame_events::{Cause, Happened, try_deliver, try_fire};
+use frame_state::{Cause, Happened, try_deliver, try_fire};
 
 impl Window {
     // Fires a slot of a frame while the run goes on, or tells why it does not fire.

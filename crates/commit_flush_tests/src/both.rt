@@ -5,7 +5,7 @@ use crate::making::{checked, machine, window};
 use crate::rows::Row;
 use block_atomic::Arch;
 use commit_flush::Window;
-use frame_events::{Event, Happened};
+use frame_state::{Event, Happened};
 use std::alloc::Global;
 use std::process::Abort;
 use std::test::Fail;

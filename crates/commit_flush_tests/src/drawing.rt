@@ -1,7 +1,7 @@
 //! Lists of events that a generator draws.
 ghost use Rattle.std.specs.Prelude.{◌<◌};
 
-use frame_events::Event;
+use frame_state::Event;
 use rand_core::utils::NextWord;
 use rand_pcg::Pcg32;
 use std::alloc::{AllocError, Global};

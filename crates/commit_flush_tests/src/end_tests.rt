@@ -3,8 +3,8 @@
 use crate::both::assert_table;
 use crate::rows::Row;
 use crate::rows::Row::{Commits, Does, Holds, InFlight, Refuses};
-use frame_events::Cause::Over;
-use frame_events::Event::{Commit, Deliver, Exit, Fetch, Fire, Read, Seal};
+use frame_state::Cause::Over;
+use frame_state::Event::{Commit, Deliver, Exit, Fetch, Fire, Read, Seal};
 use std::test::Fail;
 use trips_isa::Stepped::{Trap, Went};
 use trips_isa::TrapCause::DivisionByZero;

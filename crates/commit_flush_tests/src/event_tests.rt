@@ -3,11 +3,11 @@
 use crate::both::assert_table;
 use crate::rows::Row;
 use crate::rows::Row::{Commits, Does, Holds, InFlight, Leads, Refuses};
-use frame_events::Cause::{
+use frame_state::Cause::{
     Missing, NoBlock, NoExit, NoFrame, NoInst, NoRead, NoRequest, NoToken, Over, Serial, Spent,
     Unsealed,
 };
-use frame_events::Event::{Commit, Deliver, Exit, Fetch, Fire, Flush, Load, Read, Seal, Store};
+use frame_state::Event::{Commit, Deliver, Exit, Fetch, Fire, Flush, Load, Read, Seal, Store};
 use std::test::Fail;
 use trips_isa::Stepped::{Ended, Went};
 

@@ -3,8 +3,8 @@
 use crate::both::assert_table;
 use crate::rows::Row;
 use crate::rows::Row::{Commits, Does, Holds, InFlight, Leads, Refuses};
-use frame_events::Cause::{NoBlock, NoRead, NoToken, NotReady, NotYet, Wrong};
-use frame_events::Event::{Deliver, Exit, Fetch, Fire, Read, Seal};
+use frame_state::Cause::{NoBlock, NoRead, NoToken, NotReady, NotYet, Wrong};
+use frame_state::Event::{Deliver, Exit, Fetch, Fire, Read, Seal};
 use std::test::Fail;
 use trips_isa::Stepped::Went;
 

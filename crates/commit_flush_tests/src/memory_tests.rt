@@ -3,8 +3,8 @@
 use crate::both::assert_table;
 use crate::rows::Row;
 use crate::rows::Row::{Commits, Does, Holds, InFlight, Refuses, Stores};
-use frame_events::Cause::{NoBlock, NoRequest, NoToken, Serial, Wrong};
-use frame_events::Event::{Deliver, Exit, Fetch, Fire, Load, Seal, Store};
+use frame_state::Cause::{NoBlock, NoRequest, NoToken, Serial, Wrong};
+use frame_state::Event::{Deliver, Exit, Fetch, Fire, Load, Seal, Store};
 use std::test::Fail;
 use trips_isa::Stepped::{Ended, Went};
 

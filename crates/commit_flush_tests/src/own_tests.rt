@@ -3,7 +3,7 @@
 use crate::both::assert_table;
 use crate::rows::Row;
 use crate::rows::Row::{Commits, Does, Holds, InFlight};
-use frame_events::Event::{Deliver, Exit, Fetch, Fire, Flush, Load, Seal, Store};
+use frame_state::Event::{Deliver, Exit, Fetch, Fire, Flush, Load, Seal, Store};
 use std::test::Fail;
 use trips_isa::Stepped::Went;
 

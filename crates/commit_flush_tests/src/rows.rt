@@ -1,7 +1,6 @@
 //! Rows of a table of events.
 
-use frame_events::{Cause, Event};
-use frame_state::Lack;
+use frame_state::{Cause, Event, Lack};
 use trips_isa::{Stepped, Token};
 
 /// A line of a table of events.

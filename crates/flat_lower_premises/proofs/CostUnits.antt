@@ -14,7 +14,7 @@ use Rattle.c_type_rules.specs.Units.{include_again, global, prototype, definitio
 use Rattle.c_type_rules.specs.Units.{one_item, accepts}
 use Rattle.flat_lower.specs.TreeViews.{source_of}
 use Rattle.flat_lower_premises.specs.Most.{most_of}
-use Rattle.flat_lower_limits.proofs.BlockLengths.{few_blocks}
+use Rattle.flat_lower_premises.proofs.BlockLengths.{few_blocks}
 use Rattle.flat_lower_premises.specs.Nodes.{stmt_nodes, top_nodes, unit_nodes}
 use Rattle.flat_lower_premises.specs.Sizes.{PassesAreShort, BlocksAreFew}
 use Rattle.flat_lower_premises.proofs.TreeSizes.{nodes-Compound}

@@ -10,7 +10,7 @@ use Rattle.c_tree.specs.declared.typed.TypedNode.{TypedNode, roll-TypedNode}
 use Rattle.c_tree.specs.declared.typed.TypedNode.TheVariants as typed
 use Rattle.c_tree.specs.declared.typed.TypedNode.TheOpen as node
 use Rattle.c_tree.specs.TypedTrees.{Node}
-use Rattle.c_scope.specs.Scope.{Scope}
+use Rattle.c_type_expr.specs.Scope.{Scope}
 use Rattle.c_constant.specs.Kinds.{common}
 use Rattle.c_constant.specs.Operation.{left_at, right_at, result_of, unary_at, unary_result}
 use Rattle.c_type_expr.specs.declared.role.Role.{Role}
@@ -26,7 +26,7 @@ use Rattle.flat_lower_premises.proofs.TreeSizes.{nodes-Assign, nodes-Comma}
 use Rattle.flat_lower.specs.TreeViews.{expr_of}
 use Rattle.flat_lower.specs.Sizes as plain
 use Rattle.flat_lower.proofs.TreeFacts.{plain_node}
-use Rattle.flat_lower_limits.specs.Nodes as limits
+use Rattle.flat_lower_premises.specs.LimitNodes as limits
 use Rattle.flat_lower_premises.proofs.CostTrees as cost_trees
 use Rattle.flat_lower_premises.proofs.CostTrees.{cost, costs, left_few}
 use Rattle.flat_lower_premises.proofs.TypedTreeSizes as sizes

@@ -17,7 +17,7 @@ use Rattle.c_tree.specs.declared.typed.TypedForInit.{TypedForInit, roll-TypedFor
 use Rattle.c_tree.specs.declared.typed.TypedForInit.TheVariants as begin
 use Rattle.c_tree.specs.declared.typed.TypedForInit.TheOpen as level
 use Rattle.c_tree.specs.TypedTrees.{Level, Beginning}
-use Rattle.c_scope.specs.Scope.{Scope}
+use Rattle.c_type_expr.specs.Scope.{Scope}
 use Rattle.c_type_expr.specs.declared.role.Role.{Role}
 use Rattle.c_constant.specs.Kinds.{promoted}
 use Rattle.c_type_expr.specs.Trees.{kind_of, with_convert}
@@ -35,7 +35,7 @@ use Rattle.flat_lower.specs.Sizes as plain
 use Rattle.flat_lower.specs.Sizes.{label_count}
 use Rattle.flat_lower.specs.Emitted.{sections_in}
 use Rattle.flat_lower.proofs.TreeFacts.{plain_stmt, plain_first}
-use Rattle.flat_lower_limits.specs.Nodes as limits
+use Rattle.flat_lower_premises.specs.LimitNodes as limits
 use Rattle.flat_lower_premises.specs.Nodes as nodes
 use Rattle.flat_lower_premises.proofs.TreeSizes.{nodes-Declare, nodes-Plain, nodes-Compound, nodes-If, nodes-While}
 use Rattle.flat_lower_premises.proofs.TreeSizes.{nodes-Do, nodes-For, nodes-Break, nodes-Continue, nodes-Return}

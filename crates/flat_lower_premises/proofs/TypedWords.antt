@@ -19,7 +19,7 @@ use Rattle.c_tree.specs.declared.typed.TypedExpr.{TypedExpr}
 use Rattle.c_tree.specs.declared.typed.TypedNode.{TypedNode, out-TypedNode, roll-TypedNode}
 use Rattle.c_tree.specs.declared.typed.TypedNode.{out-roll-TypedNode}
 use Rattle.c_tree.specs.declared.typed.TypedNode.TheVariants as typed
-use Rattle.c_scope.specs.Scope.{Scope}
+use Rattle.c_type_expr.specs.Scope.{Scope}
 use Rattle.c_constant.specs.Kinds.{same_kind, common}
 use Rattle.c_constant.specs.Operation.{left_at, right_at, unary_at}
 use Rattle.c_type_expr.specs.declared.role.Role.{Role}

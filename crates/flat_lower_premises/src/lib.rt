@@ -1,10 +1,14 @@
 //! What the lowering to the flat form asks of a typed program, from the text on: each number is a word
 //! of its type, a program is no larger than its text allows, and what typing gives is what lowering
 //! takes, so that lowered programs keep C's meaning. Nothing here runs.
+//!
+//! The flat program that lowering gives fits the limits that the later passes rely on, as public
+//! laws.
 #![tactic(auto)]
 
 mod counts;
 mod fits;
+mod law;
 mod lengths;
 mod lexing;
 mod parsing;
@@ -12,6 +16,7 @@ mod typing;
 
 pub use counts::globals_are_few;
 pub use fits::{lowered_programs_keep_meaning, most_of_is_most, typed_programs_fit};
+pub use law::{flat_programs_fit, flat_programs_fit_at_any_length, statements_are_few};
 pub use lengths::{
     blocks_are_few, passes_are_short, programs_are_small, programs_have_room, units_are_small,
 };

@@ -14,3 +14,5 @@ pub mod StandardFacts
 pub mod LackFacts
 pub mod FiringFacts
 pub mod GivingFacts
+pub mod PhaseFacts
+pub mod TryFacts

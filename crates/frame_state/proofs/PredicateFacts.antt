@@ -10,8 +10,8 @@ use Rattle.trips_isa.specs.declared.block.Sense.{Sense}
 use Rattle.trips_isa.specs.declared.block.Sense.TheVariants.{OnTrue, OnFalse}
 use Rattle.trips_isa.specs.Rule.{Answer, matched}
 use Rattle.commit_flush_spec.specs.Frames.{at}
-use Rattle.bit_rows.specs.Rows.{no_flags, no_items}
-use Rattle.bit_rows.proofs.FlagFacts.{get_unset}
+use Rattle.base.specs.Rows.{no_flags, no_items}
+use Rattle.base.proofs.FlagFacts.{get_unset}
 use Rattle.frame_state.specs.Predicates.{Tells}
 
 pub length_none : (A : Type 0) → (n : ℕ) → length (no_items {A = A} n) ≡ n

@@ -7,3 +7,8 @@ pub mod Effects
 pub mod Wants
 pub mod Shapes
 pub mod Lacks
+pub mod Events
+pub mod Phases
+pub mod Changes
+pub mod Told
+pub mod Tried

@@ -17,7 +17,7 @@ use crate::rule::{can_fault, mark, stored};
 use crate::sending::put_both;
 use crate::spots::Spots;
 use crate::target::{first_place, place_at};
-use bit_rows::{Flags, Row};
+use base::{Flags, Row};
 use std::marker::Model;
 use trips_isa::{Form, Inst, NO_MARK, Stored, Token, form_of};
 

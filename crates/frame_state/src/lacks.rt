@@ -11,7 +11,7 @@ use crate::body::Body;
 use crate::outcome::{store_came, write_came};
 use crate::parts::Lack;
 use crate::spots::Spots;
-use bit_rows::Row;
+use base::Row;
 use trips_isa::{Block, Stored};
 
 // The lowest of the first writes that has no token.

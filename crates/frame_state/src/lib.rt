@@ -4,17 +4,30 @@
 //! [`Running`] gets its tokens, and [`Sealed`] has all its outputs; each call hands one on as the next.
 //! Contracts see a frame as what it holds beside its block, and with the block as the frame of the window's
 //! definitions.
+//!
+//! One of the eight frames of the window, whatever it is doing: what an event is answered there, and what it does to it.
+//!
+//! A frame is a [`Phase`], which contracts see with the blocks of its image as the frame in flight that it is, or as none
+//! (`frame_in`). Each call is one equation with the window's definitions (docs/WINDOW.md,
+//! crates/commit_flush_spec/specs). What a frame sees of the older ones is handed in.
 #![tactic(auto)]
 
+mod answers;
 mod body;
+mod changes;
 mod ending;
+mod event;
 mod events;
+mod exits;
+mod flights;
 mod giving;
 mod lacks;
+mod law;
 mod marks;
 mod outcome;
 mod outputs;
 mod parts;
+mod phase;
 mod ready;
 mod rule;
 mod sending;
@@ -23,10 +36,24 @@ mod spots;
 mod states;
 mod target;
 mod telling;
+mod told;
+mod trying;
 mod wants;
 
+pub use answers::{can_deliver, can_exit, can_fire, can_load, can_read, can_seal, can_store};
 pub use body::Body;
+pub use changes::{deliver_in, exit_in, fire_in, load_in, read_in, store_in};
+pub use event::{Cause, Event, Happened};
+pub use exits::departure;
+pub use flights::{block_at, flying};
+pub use law::empty_frames_may_be_filled;
 pub use outputs::Outputs;
 pub use parts::{Departure, Lack, Took};
+pub use phase::{Phase, empty_in, fill_in, seal_in};
 pub use shape::Shape;
 pub use states::{Empty, Running, Sealed};
+pub use told::{
+    block_in, cause_in, exit_come, finds_room, is_sealed_in, is_serial, is_serial_in, leads_to,
+    outputs_in, read_register, register_to, token_in, waiting_load, waiting_store,
+};
+pub use trying::{Arrival, try_deliver, try_fire};

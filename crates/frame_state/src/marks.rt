@@ -4,7 +4,7 @@ ghost use Rattle.commit_flush_spec.specs.Marks.{mark_on, mark_sent, mark_deliver
 ghost use Rattle.commit_flush_spec.specs.Frames.{unmarked};
 ghost use Rattle.frame_state.specs.MarkRows.{HasNoMark};
 
-use bit_rows::Row;
+use base::Row;
 use std::marker::Model;
 use trips_isa::NO_MARK;
 

@@ -6,7 +6,7 @@ ghost use Rattle.commit_flush_spec.specs.Frames.{at, numbers};
 ghost use Rattle.commit_flush_spec.specs.Ends.{all_below};
 
 use crate::spots::Spots;
-use bit_rows::Row;
+use base::Row;
 use trips_isa::{FIRST_WRITE, Stored};
 
 /// Whether the mask has this store number.

@@ -9,7 +9,7 @@ ghost use Rattle.frame_state.specs.Effects.{exit_or_first};
 
 use crate::parts::Departure;
 use crate::spots::Spots;
-use bit_rows::Row;
+use base::Row;
 use std::marker::Model;
 use trips_isa::{FIRST_WRITE, Stored, Token};
 

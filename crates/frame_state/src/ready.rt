@@ -1,6 +1,6 @@
 //! Which slots are ready, 64 at a time.
 ghost use Rattle.std.specs.Prelude.{◌≡◌, ◌&&◌, ◌||◌, ◌<◌, ℕ, not};
-ghost use Rattle.bit_rows.specs.Rows.{has_bit};
+ghost use Rattle.base.specs.Rows.{has_bit};
 
 /// The slots whose operand has come or is not wanted.
 pub fn come(wanted: u64, came: u64) -> u64

@@ -3,7 +3,7 @@ ghost use Rattle.std.specs.Prelude.{◌≡◌, ◌<◌, suc};
 ghost use Rattle.commit_flush_spec.specs.Frames.{is_target};
 ghost use Rattle.commit_flush_spec.specs.Sending.{put_if};
 
-use bit_rows::Row;
+use base::Row;
 use trips_isa::Token;
 
 // Puts a token in a place, if the target is one that tokens are delivered to.

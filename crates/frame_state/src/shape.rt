@@ -5,7 +5,7 @@ ghost use Rattle.frame_state.specs.Wants.{wants, is_on_true, is_on_false};
 
 use crate::target::slot_of;
 use crate::wants::Want;
-use bit_rows::Flags;
+use base::Flags;
 use trips_isa::{Block, Inst, Role, Sense, role_of};
 
 /// What the slots of a block want, as flags by slot. It is made once for a block.

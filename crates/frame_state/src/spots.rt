@@ -3,10 +3,10 @@ ghost use Rattle.std.specs.Prelude.{◌≡◌, ◌<◌, ◌≤◌, ◌+◌, ◌*
 ghost use Rattle.std.specs.Prelude.{slice_index_or, slice_set};
 ghost use Rattle.trips_isa.specs.declared.block.Sense.TheVariants.{OnTrue, OnFalse};
 ghost use Rattle.trips_isa.specs.Rule.{matched};
-ghost use Rattle.bit_rows.specs.Rows.{has_bit, no_items};
+ghost use Rattle.base.specs.Rows.{has_bit, no_items};
 
 use crate::rule::is_matched;
-use bit_rows::{Flags, Row};
+use base::{Flags, Row};
 use std::marker::Model;
 use trips_isa::{Sense, Token};
 

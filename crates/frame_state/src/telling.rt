@@ -3,7 +3,7 @@ ghost use Rattle.std.specs.Prelude.{◌≡◌, ◌<◌, ◌+◌, ◌*◌, ℕ, i
 ghost use Rattle.trips_isa.specs.PlaceNumbers.{first_write};
 ghost use Rattle.trips_isa.specs.Stores.{stored_of};
 ghost use Rattle.trips_isa.specs.declared.block.Block.{Block};
-ghost use Rattle.bit_rows.specs.Rows.{has_bit};
+ghost use Rattle.base.specs.Rows.{has_bit};
 ghost use Rattle.commit_flush_spec.specs.Frames.{at};
 ghost use Rattle.commit_flush_spec.specs.Memory as memory;
 ghost use Rattle.frame_state.specs.Held.{taken_of, taken_if, all_taken, exit_of, running};
@@ -14,7 +14,7 @@ use crate::parts::{Departure, Took};
 use crate::ready::{come, matching, ready, waiting};
 use crate::rule::{stored, took};
 use crate::shape::Shape;
-use bit_rows::Row;
+use base::Row;
 use trips_isa::{FIRST_WRITE, Inst, Stored, Token};
 
 impl Body {

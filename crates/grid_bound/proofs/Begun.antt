@@ -4,8 +4,8 @@ use Rattle.trips_isa.specs.Machine.{State}
 use Rattle.block_predict.specs.Predicts.{Holding}
 use Rattle.grid_cycle_spec.specs.Grid.{Grid}
 use Rattle.grid_cycle_spec.specs.Cycles.{begun_at}
-use Rattle.grid_rule.specs.Rule.{GridRule, GenerationsCounted}
-use Rattle.grid_rule.proofs.Begin.{begins_right, begins_counted}
+use Rattle.grid_bound.specs.Rule.{GridRule, GenerationsCounted}
+use Rattle.grid_bound.proofs.Begin.{begins_right, begins_counted}
 
 module _ {W : Type 0} where
   predicting : (p : Holding) (g : Grid W) → GridRule g → GridRule (record g { predictor = p })

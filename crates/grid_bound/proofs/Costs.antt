@@ -15,13 +15,13 @@ use Rattle.grid_cycle_spec.specs.Cycles.{Eager, AfterCycles, begun_at}
 use Rattle.grid_cycle_spec.proofs.Routes.{cost_most}
 use Rattle.grid_cycle_spec.proofs.Agreeing.{takes_steps}
 use Rattle.grid_cycle_spec.proofs.Events.{cycles_steps}
-use Rattle.grid_cycle_bound.specs.Left.{left, price, total}
-use Rattle.grid_cycle_bound.specs.Programs.{size_in, sizes_from}
-use Rattle.grid_cycle_bound.proofs.Programs.{trace_costs}
-use Rattle.grid_cycle_bound.proofs.Served.{left_some}
-use Rattle.grid_served.specs.Lanes.{lane_in}
-use Rattle.grid_served.specs.Runs.{Stands, AfterStanding}
-use Rattle.grid_served.proofs.Bounded as bounded
+use Rattle.grid_bound.specs.Left.{left, price, total}
+use Rattle.grid_bound.specs.Programs.{size_in, sizes_from}
+use Rattle.grid_bound.proofs.Programs.{trace_costs}
+use Rattle.grid_bound.proofs.Served.{left_some}
+use Rattle.grid_bound.specs.Lanes.{lane_in}
+use Rattle.grid_bound.specs.Runs.{Stands, AfterStanding}
+use Rattle.grid_bound.proofs.Bounded as bounded
 use Rattle.grid_bound.specs.GoesOn.{GoesOn}
 use Rattle.grid_bound.proofs.Before.{steps}
 use Rattle.grid_bound.proofs.Standing.{reached_state, all_stand, stands}

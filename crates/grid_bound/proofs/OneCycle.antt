@@ -12,19 +12,19 @@ use Rattle.grid_cycle_spec.specs.Costs.{cost_in}
 use Rattle.grid_cycle_spec.specs.Grid.{Grid}
 use Rattle.grid_cycle_spec.specs.Cycles.{AfterCycles, Eager, begun_at}
 use Rattle.grid_cycle_spec.proofs.Agreeing.{takes_steps}
-use Rattle.grid_cycle_bound.specs.Laws.{LaneRule}
-use Rattle.grid_cycle_bound.specs.Left.{left, price}
-use Rattle.grid_cycle_bound.specs.Programs.{size_in}
-use Rattle.grid_cycle_bound.specs.Serving.{Served}
-use Rattle.grid_cycle_bound.proofs.Served.{left_some, left_most, served_falls}
-use Rattle.grid_served.specs.Lanes.{lane_in}
-use Rattle.grid_served.specs.Runs.{Stands}
-use Rattle.grid_served.specs.Shows.{Commits}
-use Rattle.grid_served.proofs.EagerFirst as eager
-use Rattle.grid_served.proofs.FarUnits.{far_cycle}
-use Rattle.grid_rule.specs.Rule.{GridRule}
-use Rattle.grid_rule.proofs.CycleParts.{cycle_rule, cycles_window}
-use Rattle.grid_rule.proofs.Generations.{cycles_count}
+use Rattle.grid_bound.specs.Laws.{LaneRule}
+use Rattle.grid_bound.specs.Left.{left, price}
+use Rattle.grid_bound.specs.Programs.{size_in}
+use Rattle.grid_bound.specs.Serving.{Served}
+use Rattle.grid_bound.proofs.Served.{left_some, left_most, served_falls}
+use Rattle.grid_bound.specs.Lanes.{lane_in}
+use Rattle.grid_bound.specs.Runs.{Stands}
+use Rattle.grid_bound.specs.Shows.{Commits}
+use Rattle.grid_bound.proofs.EagerFirst as eager
+use Rattle.grid_bound.proofs.FarUnits.{far_cycle}
+use Rattle.grid_bound.specs.Rule.{GridRule}
+use Rattle.grid_bound.proofs.CycleParts.{cycle_rule, cycles_window}
+use Rattle.grid_bound.proofs.Generations.{cycles_count}
 use Rattle.grid_bound.specs.GoesOn.{GoesOn}
 use Rattle.grid_bound.specs.OneCycle.{HasRule, left_in, OneCycle}
 use Rattle.grid_bound.proofs.Before.{steps}

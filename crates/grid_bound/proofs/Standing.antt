@@ -17,25 +17,25 @@ use Rattle.grid_cycle_spec.specs.Fetches.{fetches}
 use Rattle.grid_cycle_spec.specs.Cycles.{Eager, AfterCycles, begun_at}
 use Rattle.grid_cycle_spec.proofs.Agreeing.{takes_steps}
 use Rattle.grid_cycle_spec.proofs.Events.{cycles_steps}
-use Rattle.grid_cycle_bound.specs.Laws.{LaneRule}
-use Rattle.grid_cycle_bound.specs.Programs.{size_in, sizes_from}
-use Rattle.grid_cycle_bound.specs.Seen.{lane_of}
-use Rattle.grid_served.specs.CycleRule.{CycleRule}
-use Rattle.grid_served.specs.Lanes.{table_in, course_in, lane_in}
-use Rattle.grid_served.specs.Parts.{Tells}
-use Rattle.grid_served.specs.Runs.{Stands, AfterStanding}
-use Rattle.grid_served.proofs.Ended.{oldest_ok}
-use Rattle.grid_served.proofs.FarUnits.{far_cycle}
-use Rattle.grid_served.proofs.Told.{table_tells}
-use Rattle.grid_rule.specs.Rule.{GridRule, GenerationsCounted}
-use Rattle.grid_rule.proofs.CycleParts.{cycles_rule, cycles_window}
-use Rattle.grid_rule.proofs.EndParts.{Ruled, ends_ruled}
-use Rattle.grid_rule.proofs.FetchParts.{fetches_going}
-use Rattle.grid_rule.proofs.Generations.{cycles_count}
-use Rattle.grid_rule.proofs.Going.{Going}
-use Rattle.grid_rule.proofs.Ties.{rule_of, ties_of}
-use Rattle.grid_asks.proofs.Asked.{cycle_rule, due}
-use Rattle.grid_lanes.proofs.LaneRules.{frame_lane, no_lane}
+use Rattle.grid_bound.specs.Laws.{LaneRule}
+use Rattle.grid_bound.specs.Programs.{size_in, sizes_from}
+use Rattle.grid_bound.specs.Seen.{lane_of}
+use Rattle.grid_bound.specs.CycleRule.{CycleRule}
+use Rattle.grid_bound.specs.Lanes.{table_in, course_in, lane_in}
+use Rattle.grid_bound.specs.Parts.{Tells}
+use Rattle.grid_bound.specs.Runs.{Stands, AfterStanding}
+use Rattle.grid_bound.proofs.Ended.{oldest_ok}
+use Rattle.grid_bound.proofs.FarUnits.{far_cycle}
+use Rattle.grid_bound.proofs.Told.{table_tells}
+use Rattle.grid_bound.specs.Rule.{GridRule, GenerationsCounted}
+use Rattle.grid_bound.proofs.CycleParts.{cycles_rule, cycles_window}
+use Rattle.grid_bound.proofs.EndParts.{Ruled, ends_ruled}
+use Rattle.grid_bound.proofs.FetchParts.{fetches_going}
+use Rattle.grid_bound.proofs.Generations.{cycles_count}
+use Rattle.grid_bound.proofs.Going.{Going}
+use Rattle.grid_bound.proofs.Ties.{rule_of, ties_of}
+use Rattle.grid_bound.proofs.Asked.{cycle_rule, due}
+use Rattle.grid_bound.proofs.LaneRules.{frame_lane, no_lane}
 use Rattle.grid_bound.specs.GoesOn.{GoesOn}
 use Rattle.grid_bound.proofs.Begun.{begun_rule, begun_counted}
 use Rattle.grid_bound.proofs.Before.{cycles_before, steps, went_before}

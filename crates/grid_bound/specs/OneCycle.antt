@@ -4,11 +4,11 @@ use Rattle.trips_isa.specs.declared.block.Block.{Block}
 use Rattle.commit_flush_spec.specs.Laws.{WindowOk}
 use Rattle.grid_cycle_spec.specs.Costs.{cost_in}
 use Rattle.grid_cycle_spec.specs.Grid.{Grid}
-use Rattle.grid_cycle_bound.specs.Left.{left}
-use Rattle.grid_cycle_bound.specs.Programs.{size_in}
-use Rattle.grid_rule.specs.Rule.{GenerationsCounted, GridRule}
-use Rattle.grid_served.specs.Lanes.{lane_in}
-use Rattle.grid_served.specs.Shows.{Commits}
+use Rattle.grid_bound.specs.Left.{left}
+use Rattle.grid_bound.specs.Programs.{size_in}
+use Rattle.grid_bound.specs.Rule.{GenerationsCounted, GridRule}
+use Rattle.grid_bound.specs.Lanes.{lane_in}
+use Rattle.grid_bound.specs.Shows.{Commits}
 
 -- all that every grid keeps
 pub record HasRule {W : Type 0} (blocks : List Block) (budget : ℕ) (g : Grid W) : Type 0 where

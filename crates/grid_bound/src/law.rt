@@ -1,13 +1,29 @@
 //! The cycle bound of a run, over the grid's definitions alone.
-ghost use Rattle.std.specs.Prelude.{◌≡◌, ℕ, suc, ◌+◌, ◌*◌, ◌-◌, ◌^◌, ◌<◌, ◌≤◌, List, length};
+//!
+//! The law of a grid's lane, over definitions alone.
+//!
+//! The law of what a grid with its rule gives, over definitions alone.
+ghost use Rattle.std.specs.Prelude.{◌≡◌, ℕ, suc, ◌+◌, ◌*◌, ◌-◌, ◌^◌, ◌<◌, ◌≤◌, List, length, [], ◌∷◌, slice_get};
 ghost use Rattle.trips_isa.specs.declared.block.Block.{Block};
 ghost use Rattle.trips_isa.specs.Machine.{State};
+ghost use Rattle.trips_isa.specs.Rule.{Answer};
+ghost use Rattle.trips_isa.specs.Blocks.{Responses, Solves};
+ghost use Rattle.trips_isa.specs.declared.run.Stepped.TheVariants.{Went};
 ghost use Rattle.commit_flush_spec.specs.InFlight.{opened};
 ghost use Rattle.commit_flush_spec.specs.Invariant.{AllGood};
 ghost use Rattle.commit_flush_spec.specs.Laws.{WindowOk};
+ghost use Rattle.commit_flush_spec.specs.Frames.{Frame};
 ghost use Rattle.grid_cycle_spec.specs.Costs.{cost_of, greatest_cost};
 ghost use Rattle.grid_cycle_spec.specs.Grid.{Grid};
 ghost use Rattle.grid_cycle_spec.specs.Cycles.{AfterCycles, Eager, begun_at};
+ghost use Rattle.grid_bound.specs.Course.{Course};
+ghost use Rattle.grid_bound.specs.Laws.{LaneRule};
+ghost use Rattle.grid_bound.specs.Blocks.{course_of};
+ghost use Rattle.grid_bound.specs.Programs.{size_in};
+ghost use Rattle.grid_bound.specs.Seen.{lane_of};
+ghost use Rattle.grid_bound.specs.CycleRule.{CycleRule};
+ghost use Rattle.grid_bound.specs.Shows.{IsDue};
+ghost use Rattle.grid_bound.specs.Rule.{GridRule};
 ghost use Rattle.grid_bound.specs.GoesOn.{GoesOn};
 ghost use Rattle.grid_bound.specs.OneCycle.{HasRule, OneCycle};
 
@@ -48,4 +64,25 @@ pub fn one_cycle_commits_or_lowers<W: Weather>()
         → OneCycle blocks budget g h }
     ensures begins { (blocks : List Block) (budget : ℕ) (s : State) (entries : List ℕ) (weather : W)
         → WindowOk blocks budget (opened s) → HasRule blocks budget (begun_at s entries weather) }
+{}
+
+/// Where a grid has its rule, the lane of its oldest frame has the rule of lanes, by any table that solves the frame's
+/// block; without a frame in flight, whatever the next block is. `sizes` tells how many tasks the block has that
+/// commits next.
+pub fn lanes_have_their_rule<W: Weather>()
+    ensures frame { (blocks : List Block) (budget : ℕ) (sizes : ℕ → ℕ) (g : Grid W) (f : Frame) (fs : List Frame)
+        (a : Responses) (t : ℕ → Answer) → AllGood blocks → WindowOk blocks budget g.window → GridRule g
+        → g.window.frames ≡ f ∷ fs → Solves f.code a t
+        → sizes (length g.window.state.trace) ≡ size_in (slice_get blocks g.window.state.next)
+        → LaneRule sizes (lane_of (course_of f.code t) g) }
+    ensures none { (sizes : ℕ → ℕ) (g : Grid W) (c : Course) → GridRule g → g.window.frames ≡ []
+        → LaneRule sizes (lane_of c g) }
+{}
+
+/// What the parts of a cycle ask of the oldest frame a grid that has its rule gives: parts (3) to (6) behind part (2),
+/// and part (2) where no frame is in flight.
+pub fn rules_give_what_parts_ask<W: Weather>()
+    ensures parts { (blocks : List Block) (budget : ℕ) (g : Grid W) → AllGood blocks → WindowOk blocks budget g.window
+        → g.window.over ≡ Went → GridRule g → CycleRule blocks budget g }
+    ensures fetch { (g : Grid W) → GridRule g → g.window.frames ≡ [] → IsDue g g.fetching }
 {}

@@ -1,2 +1,11 @@
-pub mod Rooms
-pub mod Eagerness
+pub mod History
+pub mod EngineFacts
+pub mod LackFacts
+pub mod StepFacts
+pub mod FetchFacts
+pub mod DueFacts
+pub mod FiringFacts
+pub mod Growing
+pub mod Making
+pub mod RunCosts
+pub mod Bounded

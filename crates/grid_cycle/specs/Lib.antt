@@ -1,2 +1,5 @@
-pub mod Counted
-pub mod Going
+pub mod Engines
+pub mod Lacks
+pub mod Nexts
+pub mod Follows
+pub mod Traps

@@ -1,8 +1,22 @@
-//! A cycle of the grid, over any window (docs/GRID.md, "A cycle").
+//! The grid as a type of its own: it runs to its end within its cost, in any weather, and tells what it waits for
+//! (docs/GRID.md, "The engine").
+//!
+//! The cycle bound of the runs of a seed, over their definitions alone.
+//!
+//! specs/Traps.antt has the endings that are traps.
 #![tactic(auto)]
 
-mod cycling;
-mod running;
+mod fetching;
+mod firing;
+mod grid;
+mod law;
+mod moving;
+mod outcome;
+mod seeded;
+mod waiting;
 
-pub use cycling::{close, cycle};
-pub use running::run;
+pub use frame_state::Lack;
+pub use grid::Grid;
+pub use law::runs_of_a_seed_end;
+pub use outcome::Ran;
+pub use seeded::run_image;

@@ -1,1 +1,9 @@
 pub mod Seeds
+pub mod Endings
+pub mod WholeRuns
+pub mod Answered
+pub mod Tallies
+pub mod Counted
+pub mod Going
+pub mod Shaped
+pub mod Named

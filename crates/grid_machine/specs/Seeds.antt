@@ -8,8 +8,8 @@ use Rattle.operand_net.specs.declared.weather.PcgWeather.{PcgWeather}
 use Rattle.block_predict.specs.Seeded as exits
 use Rattle.grid_cycle_spec.specs.Grid.{Grid}
 use Rattle.grid_cycle_spec.specs.Cycles.{begun_at}
-use Rattle.grid_run.specs.Answered.{HasCome}
-use Rattle.grid_run.specs.WholeRuns.{IsRun, most_cycles}
+use Rattle.grid_machine.specs.Answered.{HasCome}
+use Rattle.grid_machine.specs.WholeRuns.{IsRun, most_cycles}
 
 -- the hold that the weather of a seed gives next, and the weather after it
 abbrev pub next_hold : PcgWeather → ℕ

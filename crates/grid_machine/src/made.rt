@@ -2,18 +2,17 @@
 ghost use Rattle.std.specs.Prelude.{◌≡◌, ◌<◌, ◌≤◌, IfOk, [], length};
 ghost use Rattle.trips_isa.specs.Machine.{start};
 ghost use Rattle.commit_flush_spec.specs.InFlight.{opened};
-ghost use Rattle.grid_state.specs.Changes.{begun_with};
-ghost use Rattle.grid_state.specs.Seen.{seen};
-ghost use Rattle.grid_run.specs.WholeRuns.{IsKept};
+ghost use Rattle.grid_parts.specs.Changes.{begun_with};
+ghost use Rattle.grid_parts.specs.Seen.{seen};
+ghost use Rattle.grid_machine.specs.WholeRuns.{IsKept};
 
+use crate::window::GridWindow;
 use base::Memory;
 use block_atomic::Arch;
 use block_check::CheckedImage;
 use block_predict::Predictor;
 use commit_flush::Window;
-use grid_parts::Grid;
-use grid_state::State;
-use grid_window::GridWindow;
+use grid_parts::{Grid, State};
 use std::alloc::Global;
 
 // A grid over a window with no frame in flight.

@@ -1,13 +1,13 @@
 //! A cycle and a run of a grid.
 ghost use Rattle.std.specs.Prelude.{◌≡◌, ◌<◌, ◌≤◌, ◌+◌, ◌-◌, ◌^◌, length, true, false};
-ghost use Rattle.grid_state.specs.Seen.{seen};
-ghost use Rattle.grid_run.specs.Answered.{HasCome};
-ghost use Rattle.grid_run.specs.Endings.{ended, is_going};
-ghost use Rattle.grid_run.specs.Tallies.{CountsCommits};
-ghost use Rattle.grid_run.specs.WholeRuns.{IsKept, IsRun, going_cycles, most_cycles};
+ghost use Rattle.grid_parts.specs.Seen.{seen};
+ghost use Rattle.grid_machine.specs.Answered.{HasCome};
+ghost use Rattle.grid_machine.specs.Endings.{ended, is_going};
+ghost use Rattle.grid_machine.specs.Tallies.{CountsCommits};
+ghost use Rattle.grid_machine.specs.WholeRuns.{IsKept, IsRun, going_cycles, most_cycles};
 
+use crate::window::GridWindow;
 use grid_parts::Grid;
-use grid_window::GridWindow;
 use operand_net::Weather;
 use trips_isa::Ending;
 
@@ -37,7 +37,7 @@ pub fn cycle<W: Weather>(grid: &mut Grid<GridWindow, W>) -> Option<Ending>
     ensures budget { grid.new.window.budget ≡ grid.old.window.budget }
 {
     let budget = grid.window.window().budget();
-    grid_run::cycle(grid, budget)
+    crate::going::cycle(grid, budget)
 }
 
 /// Cycles until the run has ended, and how: as the machine's run ends within what is left of the budget. None exactly
@@ -68,5 +68,5 @@ pub fn run<W: Weather>(grid: &mut Grid<GridWindow, W>) -> Option<Ending>
     grid.window.keeps_invariant();
     let budget = grid.window.window().budget();
     let most = most_cycles(budget);
-    grid_run::run(grid, budget, most)
+    crate::going::run(grid, budget, most)
 }

@@ -14,11 +14,11 @@ use Rattle.grid_cycle_spec.specs.Grid.{Grid, Fetching, numbers_of}
 use Rattle.grid_cycle_spec.specs.Acting.{is_done, may}
 use Rattle.grid_cycle_spec.specs.Fetches.{fetch_ends, fetch_on, fill_where, fills, filled, begun_after, begun_behind}
 use Rattle.grid_cycle_spec.specs.Fetches.{begins, fetch_begins, has_room as has_room_for}
-use Rattle.grid_state.specs.Fetches.{due, nearer, with_less}
-use Rattle.grid_state.specs.Changes.{fetch_nearer, filled_by}
-use Rattle.grid_state.proofs.PartFacts.{with_fetching}
-use Rattle.grid_stations.specs.Asked.{frame_of, found_in, number_of}
-use Rattle.grid_stations.proofs.NamedFacts.{AreNamed, all_named}
+use Rattle.grid_parts.specs.Fetches.{due, nearer, with_less}
+use Rattle.grid_parts.specs.Changes.{fetch_nearer, filled_by}
+use Rattle.grid_parts.proofs.PartFacts.{with_fetching}
+use Rattle.grid_parts.specs.Asked.{frame_of, found_in, number_of}
+use Rattle.grid_parts.proofs.NamedFacts.{AreNamed, all_named}
 use Rattle.grid_parts.specs.Youngest.{IsYoungest}
 
 -- the end of a fetch -------------------------------------------------------------------------------

@@ -7,7 +7,7 @@ use Rattle.commit_flush_spec.specs.Frames.{Frame, numbers}
 use Rattle.grid_cycle_spec.specs.Grid.{Grid, numbers_of}
 use Rattle.grid_cycle_spec.specs.Choosing.{found_in, eldest, each}
 use Rattle.grid_cycle_spec.specs.DataTiles.{answers_request, answer_chosen, data_turn, answers}
-use Rattle.grid_state.proofs.SlotFacts.{least_none}
+use Rattle.grid_parts.proofs.SlotFacts.{least_none}
 
 module _ {W : Type 0} (blocks : List Block) (budget : ℕ) (g : Grid W) where
   none_of : (tile : ℕ) (fs : List Frame)

@@ -1,1 +1,10 @@
 pub mod Youngest
+pub mod Quiet
+pub mod Asked
+pub mod Choices
+pub mod Marked
+pub mod Bits
+pub mod Fetches
+pub mod Seen
+pub mod Changes
+pub mod StateChoices

@@ -1,11 +1,13 @@
 //! Part (3) of a cycle: banks answer reads.
 ghost use Rattle.std.specs.Prelude.{◌≡◌, ◌<◌, Some};
 ghost use Rattle.grid_cycle_spec.specs.Banks as spec;
-ghost use Rattle.grid_state.specs.Seen.{seen};
-ghost use Rattle.grid_stations.specs.Marked.{ReadsMarked};
+ghost use Rattle.grid_parts.specs.Seen.{seen};
+ghost use Rattle.grid_parts.specs.Marked.{ReadsMarked};
 
 use crate::grid::Grid;
-use grid_stations::{ReadMarks, Windows, enter_both, marked_reads, readable_among};
+use crate::read_marks::{ReadMarks, marked_reads, readable_among};
+use crate::sending::enter_both;
+use crate::windows::Windows;
 
 impl<V: Windows, W> Grid<V, W> {
     // A bank answers a read of a frame, and its tokens enter the mesh.

@@ -4,10 +4,12 @@ ghost use Rattle.trips_isa.specs.Forms as forms;
 ghost use Rattle.commit_flush_spec.specs.Window as event;
 ghost use Rattle.grid_cycle_spec.specs.Acting as acting;
 ghost use Rattle.grid_cycle_spec.specs.DataTiles as spec;
-ghost use Rattle.grid_state.specs.Seen.{seen};
+ghost use Rattle.grid_parts.specs.Seen.{seen};
 
 use crate::grid::Grid;
-use grid_stations::{Windows, answerable, any_asked, enter_both};
+use crate::requests_waiting::{answerable, any_asked};
+use crate::sending::enter_both;
+use crate::windows::Windows;
 use trips_isa::{Form, Op, form_of};
 
 // Whether an operation is a store.

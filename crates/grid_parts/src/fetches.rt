@@ -7,12 +7,12 @@ ghost use Rattle.commit_flush_spec.specs.Window as event;
 ghost use Rattle.grid_cycle_spec.specs.Acting.{may};
 ghost use Rattle.grid_cycle_spec.specs.Fetches as spec;
 ghost use Rattle.grid_cycle_spec.specs.Grid.{Fetching, numbers_of};
-ghost use Rattle.grid_state.specs.Seen.{seen};
-ghost use Rattle.grid_stations.specs.Asked.{frame_of};
+ghost use Rattle.grid_parts.specs.Seen.{seen};
+ghost use Rattle.grid_parts.specs.Asked.{frame_of};
 ghost use Rattle.grid_parts.specs.Youngest.{IsYoungest};
 
 use crate::grid::Grid;
-use grid_stations::Windows;
+use crate::windows::Windows;
 
 impl<V: Windows, W> Grid<V, W> {
     // The fetch of a block makes its event where that is done, and else is given up.

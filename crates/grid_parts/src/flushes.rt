@@ -3,10 +3,10 @@ ghost use Rattle.std.specs.Prelude.{◌≡◌, ◌<◌, ◌≤◌, ◌+◌, ◌^
 ghost use Rattle.commit_flush_spec.specs.Frames.{Frame};
 ghost use Rattle.grid_cycle_spec.specs.Acting as acting;
 ghost use Rattle.grid_cycle_spec.specs.Grid.{numbers_of};
-ghost use Rattle.grid_state.specs.Seen.{seen};
+ghost use Rattle.grid_parts.specs.Seen.{seen};
 
 use crate::grid::Grid;
-use grid_stations::Windows;
+use crate::windows::Windows;
 
 impl<V: Windows, W> Grid<V, W> {
     // The youngest of these frames, but for so many, have been flushed.

@@ -1,6 +1,6 @@
 //! The grid.
 
-use grid_state::State;
+use crate::state::State;
 
 /// A window of frames in flight, and what moves it.
 pub struct Grid<V, W> {

@@ -10,14 +10,16 @@ ghost use Rattle.grid_cycle_spec.specs.Costs as costs;
 ghost use Rattle.grid_cycle_spec.specs.Sending as sending;
 ghost use Rattle.grid_cycle_spec.specs.Stations as stations;
 ghost use Rattle.grid_cycle_spec.specs.Units as spec;
-ghost use Rattle.grid_state.specs.Choices.{lowest_slot};
-ghost use Rattle.grid_state.specs.Seen.{seen};
-ghost use Rattle.grid_stations.specs.Asked.{frame_of};
-ghost use Rattle.grid_stations.specs.Marked.{SlotsMarked};
+ghost use Rattle.grid_parts.specs.StateChoices.{lowest_slot};
+ghost use Rattle.grid_parts.specs.Seen.{seen};
+ghost use Rattle.grid_parts.specs.Asked.{frame_of};
+ghost use Rattle.grid_parts.specs.Marked.{SlotsMarked};
 
 use crate::grid::Grid;
-use grid_state::lowest_on;
-use grid_stations::{Windows, enter_both, enter_request, marked_slots, ready_slot};
+use crate::sending::{enter_both, enter_request};
+use crate::slots::lowest_on;
+use crate::slots_ready::{marked_slots, ready_slot};
+use crate::windows::Windows;
 use trips_isa::{Form, Inst, Op, form_of};
 
 // The node of the tile on which a slot lies.

@@ -12,7 +12,7 @@ use Rattle.commit_flush_spec.specs.Older.{covers, passes, nearest, any_touched, 
 use Rattle.frame_state.specs.declared.parts.Took.{Took}
 use Rattle.frame_state.specs.Held.{taken_if, all_taken}
 use Rattle.frame_state.proofs.MarkFacts.{taken_got}
-use Rattle.bit_rows.specs.Rows.{has_bit}
+use Rattle.base.specs.Rows.{has_bit}
 use Rattle.lsq_order.specs.Masks.{IsNext}
 use Rattle.lsq_order.specs.Reached.{narrowed}
 use Rattle.lsq_order.specs.Wrong.{is_wrong, Finds}

@@ -1,6 +1,6 @@
 -- The next number of a mask: below a number, and from one on.
 use Rattle.std.specs.Prelude.{◌≡◌, ℕ, ◌<◌, ◌≤◌, false}
-use Rattle.bit_rows.specs.Rows.{has_bit}
+use Rattle.base.specs.Rows.{has_bit}
 
 -- from `end` on and below a number no bit is set
 pub record IsEnd (mask below end : ℕ) : Type 0 where

@@ -1,7 +1,7 @@
 -- The addresses at which a store is still the nearest (docs/WINDOW.md, "What a frame sees").
 use Rattle.std.specs.Prelude.{ℕ, zero, suc, ◌-◌, ◌≤◌, Bool, cond, ◌&&◌, not, nat_le, nat_lt}
 use Rattle.std.specs.Prelude.{Option, Some, None}
-use Rattle.bit_rows.specs.Rows.{has_bit}
+use Rattle.base.specs.Rows.{has_bit}
 use Rattle.trips_isa.specs.declared.block.Stored.{Stored}
 use Rattle.commit_flush_spec.specs.Older.{covers}
 use Rattle.lsq_order.specs.declared.reach.Reach.{Reach}

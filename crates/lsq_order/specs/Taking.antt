@@ -2,7 +2,7 @@
 -- (docs/WINDOW.md, "What a frame sees").
 use Rattle.std.specs.Prelude.{◌≡◌, ℕ, zero, suc, ◌+◌, ◌-◌, ◌*◌, ◌/◌, ◌%◌, ◌≤◌, false, cond}
 use Rattle.std.specs.Int.{bit_at}
-use Rattle.bit_rows.specs.Rows.{has_bit}
+use Rattle.base.specs.Rows.{has_bit}
 use Rattle.lsq_order.specs.declared.sought.Sought.{Sought}
 
 -- the bits of a word; not an `abbrev`, since a numeral unrolls recursions in goals

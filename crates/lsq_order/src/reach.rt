@@ -1,14 +1,14 @@
 //! The bytes at which a store is the nearest, and the loads that took one of them.
 ghost use Rattle.std.specs.Prelude.{◌≡◌, ◌<◌, ◌≤◌, ◌+◌, ◌-◌, ◌&&◌, ℕ, None, not, nat_le, nat_lt};
 ghost use Rattle.std.specs.Prelude.{length, is_some};
-ghost use Rattle.bit_rows.specs.Rows.{has_bit};
+ghost use Rattle.base.specs.Rows.{has_bit};
 ghost use Rattle.commit_flush_spec.specs.Frames.{at, numbers};
 ghost use Rattle.commit_flush_spec.specs.Older.{any_touched, covers, passes, nearest, took_touched, violated};
 ghost use Rattle.frame_state.specs.Held.{taken_if, all_taken};
 ghost use Rattle.lsq_order.specs.Reached.{start};
 
 use crate::masks::next_from;
-use bit_rows::Row;
+use base::Row;
 use frame_state::Took;
 use trips_isa::Stored;
 

@@ -2,11 +2,11 @@
 ghost use Rattle.std.specs.Prelude.{◌≡◌, ◌<◌, ◌≤◌, ◌+◌, ◌-◌, ◌*◌, ◌/◌, ◌^◌, ℕ, None, Option, Some, true, cond, nat_lt};
 ghost use Rattle.std.specs.Prelude.{slice_index, slice_index_or};
 ghost use Rattle.std.specs.Int.{bit_at};
-ghost use Rattle.bit_rows.specs.Rows.{has_bit};
+ghost use Rattle.base.specs.Rows.{has_bit};
 ghost use Rattle.trips_isa.specs.Stores.{byte_of, byte_seen, byte_stored, bytes_seen, or_byte};
 
 use crate::masks::end_below;
-use bit_rows::Row;
+use base::Row;
 use trips_isa::Stored;
 
 /// At most eight bytes in a row, of which those whose bits are open are still to be found.

@@ -3,7 +3,7 @@
 ghost use Rattle.std.specs.Prelude.{◌<◌, ◌≤◌};
 
 use crate::{Reach, Sought, Waiters};
-use bit_rows::Row;
+use base::Row;
 use frame_state::Took;
 use std::process::Abort;
 use trips_isa::Stored;

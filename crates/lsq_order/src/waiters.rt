@@ -1,8 +1,8 @@
 //! The loads that wait until the older stores are resolved.
 ghost use Rattle.std.specs.Prelude.{◌≡◌, ◌+◌, ◌*◌, ◌%◌, ◌<◌, true, false, slice_index_or, slice_set};
-ghost use Rattle.bit_rows.specs.Rows.{no_flags};
+ghost use Rattle.base.specs.Rows.{no_flags};
 
-use bit_rows::Flags;
+use base::Flags;
 use std::marker::Model;
 
 /// 1,024 flags, one for each remainder of 32 times the block's number plus the load's.

@@ -7,3 +7,4 @@ pub mod Steps
 pub mod Data
 pub mod Ends
 pub mod Refused
+pub mod Fronts

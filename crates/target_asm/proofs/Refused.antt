@@ -7,8 +7,8 @@ use Rattle.target_asm_spec.specs.declared.fault.AsmFault.TheVariants.{Syntax, Ra
 use Rattle.target_asm_spec.specs.FirstAsmFault.{FirstAsmFault}
 use Rattle.target_asm_spec.specs.Whole.{image_in}
 use Rattle.target_asm.specs.Taking.{Fails, ReturnsOrMemory, IsMemoryOr}
-use Rattle.target_asm_faults.proofs.Judged.{fault_of}
-use Rattle.target_asm_faults.proofs.Exact.{read_fault}
+use Rattle.target_asm_laws.proofs.Judged.{fault_of}
+use Rattle.target_asm_laws.proofs.FaultExact.{read_fault}
 
 fails_first : (text : List ℕ) (e : AsmFault) → Fails e (image_in text)
     → IsMemoryOr (FirstAsmFault text) e

@@ -5,10 +5,10 @@ ghost use Rattle.target_asm.specs.Taking.{Returns, seen};
 ghost use Rattle.trips_isa.specs.Limits.{most_chunks};
 
 use crate::branches::Known;
+use crate::registers::block_line;
 use crate::rows::{is_place, reads, writes};
 use crate::slots::slots;
 use arrayvec::ArrayVec;
-use target_asm_lines::block_line;
 use target_asm_spec::AsmFault;
 use trips_isa::Block;
 

@@ -4,8 +4,9 @@ ghost use Rattle.target_asm_spec.specs.Blocks.{begins, is_place, one_read, reads
 ghost use Rattle.target_asm_spec.specs.Blocks.{writes_in};
 ghost use Rattle.target_asm.specs.Taking.{Returns};
 
+use crate::line_fields::{after, field};
+use crate::registers::{judged_read, read_line, write_line};
 use arrayvec::ArrayVec;
-use target_asm_lines::{after, field, judged_read, read_line, write_line};
 use target_asm_spec::AsmFault;
 use trips_isa::ReadSlot;
 

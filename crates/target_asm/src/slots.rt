@@ -4,9 +4,11 @@ ghost use Rattle.target_asm_spec.specs.Blocks.{in_turn, one_inst, gap, slots_in}
 ghost use Rattle.target_asm.specs.Taking.{Returns, seen};
 
 use crate::branches::{Known, aimed};
+use crate::instruction::inst_line;
+use crate::judging::judged;
+use crate::line_fields::field;
 use crate::rows::begins;
 use arrayvec::ArrayVec;
-use target_asm_lines::{field, inst_line, judged};
 use target_asm_spec::AsmFault;
 use trips_isa::Inst;
 

@@ -14,10 +14,10 @@ ghost use Rattle.target_asm.specs.Taking.{place_table, steps_in};
 
 use crate::body::body;
 use crate::branches::Known;
+use crate::line_fields::{after, byte, number};
 use crate::tables::{chunk_list, starts};
 use base::Items;
 use std::alloc::Global;
-use target_asm_lines::{after, byte, number};
 use target_asm_spec::AsmFault;
 use trips_isa::Image;
 

@@ -21,22 +21,22 @@ use Rattle.c_compile.specs.Images.{IsImageOf, MeansText}
 use Rattle.c_compile.proofs.Images.{images_mean}
 use Rattle.operand_net.specs.declared.weather.PcgWeather.{PcgWeather}
 use Rattle.grid_cycle_spec.specs.Grid.{Grid}
-use Rattle.grid_run.specs.Answered.{ComesTo}
+use Rattle.grid_machine.specs.Answered.{ComesTo}
 use Rattle.grid_machine.specs.Seeds.{IsRan}
-use Rattle.grid_machine_bound.specs.Traps.{is_trap}
+use Rattle.grid_cycle.specs.Traps.{is_trap}
 use Rattle.grid_meaning.specs.Meant.{AgreesWith, EndsAsMeant}
 use Rattle.grid_meaning.proofs.GridRuns as runs
 use Rattle.grid_meaning.proofs.TextRuns as grid
 use Rattle.grid_meaning.proofs.TextRuns.{settled}
 use Rattle.trips_answers.specs.declared.forms.Settings.{Settings}
-use Rattle.trips_answer_parts.specs.declared.status.Status.{Status}
-use Rattle.trips_answer_parts.specs.declared.status.Status.TheVariants as status
+use Rattle.trips_requests.specs.declared.status.Status.{Status}
+use Rattle.trips_requests.specs.declared.status.Status.TheVariants as status
 use Rattle.trips_answers.specs.Request.{Request, origin_held, settings_of}
 use Rattle.grid_place.specs.declared.placed.Placing.{Placing}
 use Rattle.trips_answers.specs.Read.{HoldsInput}
 use Rattle.grid_cycle_spec.specs.Costs.{cost_of}
 use Rattle.trips_report.specs.declared.show.Show.{Show}
-use Rattle.trips_answer_parts.specs.Texts.{output_and}
+use Rattle.trips_requests.specs.Texts.{output_and}
 use Rattle.trips_report.specs.Runs.{signed}
 use Rattle.trips_report.proofs.Parts.{shows_nothing}
 use Rattle.trips_answers.specs.Report.{ending_of, run_report, shown_report, shown_behind, nothing_shown}

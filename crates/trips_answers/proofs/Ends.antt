@@ -12,13 +12,13 @@ use Rattle.trips_requests.specs.declared.commands.Command.TheVariants.{Assemble,
 use Rattle.trips_answers.specs.declared.forms.FileForm.{FileForm}
 use Rattle.trips_answers.specs.declared.forms.FileForm.TheVariants as form
 use Rattle.trips_answers.specs.declared.forms.Settings.{Settings}
-use Rattle.trips_answer_parts.specs.declared.loading.Loaded.{Loaded}
-use Rattle.trips_answer_parts.specs.declared.loading.Loaded.TheVariants.{Fault, TooLarge, Bytes}
-use Rattle.trips_answer_parts.specs.declared.status.Status.{Status}
-use Rattle.trips_answer_parts.specs.declared.status.Status.TheVariants as status
+use Rattle.trips_requests.specs.declared.loading.Loaded.{Loaded}
+use Rattle.trips_requests.specs.declared.loading.Loaded.TheVariants.{Fault, TooLarge, Bytes}
+use Rattle.trips_requests.specs.declared.status.Status.{Status}
+use Rattle.trips_requests.specs.declared.status.Status.TheVariants as status
 use Rattle.trips_answers.specs.Request.{Request, origin_held, settings_of}
 use Rattle.trips_answers.specs.Read.{IsInputRead, HoldsInput, limit_of}
-use Rattle.trips_answer_parts.specs.Read.{IsRead, AfterReading}
+use Rattle.trips_requests.specs.Read.{IsRead, AfterReading}
 use Rattle.trips_answers.specs.Report.{ending_of}
 use Rattle.trips_answers.specs.Worked.{status_of, IsRunBy, IsWorked, IsDone}
 use Rattle.trips_answers.specs.Answer.{IsAnswerBehind, IsAnswer}

@@ -23,22 +23,22 @@ use Rattle.target_asm_spec.specs.Text.{TargetText}
 use Rattle.target_asm_spec.specs.Text as asm
 use Rattle.trips_tools.specs.Tools.{IsOneImage, IsGoodImage, good_report}
 use Rattle.target_asm_spec.proofs.Images as texts
-use Rattle.target_asm_faults.proofs.Exact as faults
+use Rattle.target_asm_laws.proofs.FaultExact as faults
 use Rattle.trips_answers.specs.declared.forms.FileForm.{FileForm}
 use Rattle.trips_answers.specs.declared.forms.FileForm.TheVariants as form
 use Rattle.trips_answers.specs.declared.forms.Settings.{Settings}
-use Rattle.trips_answer_parts.specs.declared.loading.Loaded.{Loaded}
-use Rattle.trips_answer_parts.specs.declared.loading.Loaded.TheVariants.{Fault, TooLarge, Bytes}
-use Rattle.trips_answer_parts.specs.declared.status.Status.{Status}
-use Rattle.trips_answer_parts.specs.declared.status.Status.TheVariants as status
+use Rattle.trips_requests.specs.declared.loading.Loaded.{Loaded}
+use Rattle.trips_requests.specs.declared.loading.Loaded.TheVariants.{Fault, TooLarge, Bytes}
+use Rattle.trips_requests.specs.declared.status.Status.{Status}
+use Rattle.trips_requests.specs.declared.status.Status.TheVariants as status
 use Rattle.trips_answers.specs.Request.{Request, origin_held, settings_with, settings_of}
 use Rattle.trips_answers.specs.Read.{IsInputRead, IsInput, limit_of, most_input_bytes}
-use Rattle.trips_answer_parts.specs.Read.{IsRead, AfterReading}
+use Rattle.trips_requests.specs.Read.{IsRead, AfterReading}
 use Rattle.trips_report.specs.Refusals.{image_text, asm_text, check_text}
-use Rattle.trips_answer_parts.specs.Texts.{too_large_text, IsFixed}
+use Rattle.trips_requests.specs.Texts.{too_large_text, IsFixed}
 use Rattle.trips_eval_answers.specs.Refusals.{front_refusal}
 use Rattle.trips_answers.specs.Refused.{IsBadText, IsRefusedAs, IsLarge}
-use Rattle.trips_tool_answers.specs.Tools.{IsNoImage, IsBadImage, IsNoText}
+use Rattle.trips_tools.specs.ToolAnswers.{IsNoImage, IsBadImage, IsNoText}
 use Rattle.trips_eval_answers.specs.Evaluation.{IsRefusedByFront, IsEvaluation}
 use Rattle.trips_answers.specs.Worked.{IsRunBy, IsRunOfText, IsCompiled, IsWorked, IsDone}
 use Rattle.trips_answers.specs.Answer.{IsAnswerBehind, IsAnswer}

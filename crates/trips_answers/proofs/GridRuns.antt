@@ -12,16 +12,16 @@ use Rattle.trips_isa.specs.Machine.{State, runs, start}
 use Rattle.operand_net.specs.declared.weather.PcgWeather.{PcgWeather}
 use Rattle.grid_cycle_spec.specs.Costs.{cost_in, cost_of, greatest_cost}
 use Rattle.grid_cycle_spec.specs.Grid.{Grid}
-use Rattle.grid_run.specs.Answered.{ComesTo}
-use Rattle.grid_run.specs.Endings as endings
+use Rattle.grid_machine.specs.Answered.{ComesTo}
+use Rattle.grid_machine.specs.Endings as endings
 use Rattle.grid_machine.specs.Seeds.{IsRan}
-use Rattle.grid_machine_bound.specs.Traps.{is_trap}
+use Rattle.grid_cycle.specs.Traps.{is_trap}
 use Rattle.trips_answers.specs.declared.forms.Settings.{Settings}
-use Rattle.trips_answer_parts.specs.declared.answer.Answer.{Answer}
-use Rattle.trips_answer_parts.specs.declared.status.Status.{Status}
+use Rattle.trips_requests.specs.declared.answer.Answer.{Answer}
+use Rattle.trips_requests.specs.declared.status.Status.{Status}
 use Rattle.trips_answers.specs.Report.{ending_of, shown_report}
 use Rattle.trips_answers.specs.Worked.{status_of, IsRunBy}
-use Rattle.trips_answer_parts.specs.Texts.{IsFixed}
+use Rattle.trips_requests.specs.Texts.{IsFixed}
 
 -- a run of the grid ends as one of the machine
 same_ending : (a : Stepped) (next : ℕ) → endings.ending_of a next ≡ ending_of a next

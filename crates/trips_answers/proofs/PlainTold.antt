@@ -11,22 +11,22 @@ use Rattle.trips_requests.specs.Limits.{default_count}
 use Rattle.trips_requests.specs.declared.commands.Tool.{Tool}
 use Rattle.trips_requests.specs.declared.commands.Tool.TheVariants as tool_is
 use Rattle.trips_requests.proofs.PlainRequests.{eval_asked, tool_asked}
-use Rattle.trips_answer_parts.specs.declared.status.Status.{Status}
-use Rattle.trips_answer_parts.specs.declared.answer.Answer.{Answer}
+use Rattle.trips_requests.specs.declared.status.Status.{Status}
+use Rattle.trips_requests.specs.declared.answer.Answer.{Answer}
 use Rattle.trips_answers.specs.declared.forms.FileForm.{FileForm}
 use Rattle.trips_answers.specs.declared.forms.FileForm.TheVariants as form
-use Rattle.trips_answer_parts.specs.declared.loading.Loaded.{Loaded}
-use Rattle.trips_answer_parts.specs.declared.loading.Loaded.TheVariants.{Fault, TooLarge, Bytes}
+use Rattle.trips_requests.specs.declared.loading.Loaded.{Loaded}
+use Rattle.trips_requests.specs.declared.loading.Loaded.TheVariants.{Fault, TooLarge, Bytes}
 use Rattle.trips_answers.specs.Request.{Request, form_named, planned, request_of, settings_of}
 use Rattle.trips_answers.specs.Read.{limit_of}
-use Rattle.trips_answer_parts.specs.Read.{IsRead, AfterReading}
-use Rattle.trips_answer_parts.specs.Table.{IsWritten}
-use Rattle.trips_answer_parts.proofs.Written.{written_so}
+use Rattle.trips_requests.specs.Read.{IsRead, AfterReading}
+use Rattle.trips_requests.specs.Table.{IsWritten}
+use Rattle.trips_requests.proofs.Written.{written_so}
 use Rattle.trips_eval_answers.specs.Evaluation.{IsTextEvaluated}
 use Rattle.trips_eval_answers.specs.Answer.{IsEvalAnswer}
-use Rattle.trips_tool_answers.specs.Tools.{IsToolDone}
-use Rattle.trips_tool_answers.specs.Answer as tools
-use Rattle.trips_tool_answers.specs.Answer.{IsToolAnswer}
+use Rattle.trips_tools.specs.ToolAnswers.{IsToolDone}
+use Rattle.trips_tools.specs.Answer as tools
+use Rattle.trips_tools.specs.Answer.{IsToolAnswer}
 use Rattle.trips_answers.specs.Worked.{IsDone}
 use Rattle.trips_answers.specs.Answer.{IsAnswerBehind, IsAnswer}
 use Rattle.trips_answers.specs.Table.{IsAnswered}
@@ -139,7 +139,7 @@ eval_answered words held rose old new cut s = written_so _ _ old new cut s
 abbrev tool_request : Tool → List ℕ → Request
 tool_request tool file = planned (line.default_request (line.work_of tool) file)
 
--- what a tool is answered for a file, by the definition of `trips_tool_answers` and by that of the answers to all
+-- what a tool is answered for a file, by the definition of `trips_tools` and by that of the answers to all
 -- requests
 module _ (tool : Tool) (file : List ℕ) (held : List ℕ → Option (List ℕ)) (rose : Type 0) (s : Status)
     (report : List ℕ) where

@@ -19,11 +19,11 @@ use Rattle.trips_requests.specs.declared.commands.Command.TheVariants.{Run, Eval
 use Rattle.trips_requests.specs.declared.commands.Command.TheVariants.{Assemble, Disassemble, Check}
 use Rattle.trips_answers.specs.declared.forms.FileForm.{FileForm}
 use Rattle.trips_answers.specs.declared.forms.FileForm.TheVariants as form
-use Rattle.trips_answer_parts.specs.declared.status.Status.{Status}
-use Rattle.trips_answer_parts.specs.declared.status.Status.TheVariants as status
+use Rattle.trips_requests.specs.declared.status.Status.{Status}
+use Rattle.trips_requests.specs.declared.status.Status.TheVariants as status
 use Rattle.trips_answers.specs.Request.{Request, settings_with}
 use Rattle.trips_eval_answers.specs.Reports.{eval_report}
-use Rattle.trips_answer_parts.specs.Texts.{too_large_text}
+use Rattle.trips_requests.specs.Texts.{too_large_text}
 use Rattle.trips_answers.specs.Report.{ending_of, run_report, nothing_shown}
 use Rattle.trips_answers.specs.Refused.{IsRefusedAs}
 use Rattle.trips_answers.specs.Worked.{status_of, IsRunOfText}

@@ -18,8 +18,8 @@ use Rattle.trips_report.specs.declared.show.Show.{Show}
 use Rattle.trips_requests.specs.declared.commands.Command.TheVariants.{Run}
 use Rattle.trips_answers.specs.declared.forms.FileForm.TheVariants as form
 use Rattle.trips_answers.specs.declared.forms.Settings.{Settings}
-use Rattle.trips_answer_parts.specs.declared.status.Status.{Status}
-use Rattle.trips_answer_parts.specs.declared.status.Status.TheVariants as status
+use Rattle.trips_requests.specs.declared.status.Status.{Status}
+use Rattle.trips_requests.specs.declared.status.Status.TheVariants as status
 use Rattle.trips_answers.specs.Request.{Request, settings_with}
 use Rattle.trips_answers.specs.Report.{ending_of, run_report}
 use Rattle.trips_answers.specs.Worked.{status_of, IsRunBy, IsRunOfText}

@@ -13,27 +13,27 @@ use Rattle.c_compile.specs.Images.{IsImageOf}
 use Rattle.flat_lower.specs.Keeps.{IsInput}
 use Rattle.grid_place.specs.declared.placed.Placing.{Placing}
 use Rattle.trips_outside.specs.Outside.{Rose}
-use Rattle.trips_answer_parts.specs.declared.status.Status.{Status}
-use Rattle.trips_answer_parts.specs.declared.status.Status.TheVariants as status
-use Rattle.trips_answer_parts.specs.declared.answer.Answer.{Answer}
+use Rattle.trips_requests.specs.declared.status.Status.{Status}
+use Rattle.trips_requests.specs.declared.status.Status.TheVariants as status
+use Rattle.trips_requests.specs.declared.answer.Answer.{Answer}
 use Rattle.trips_requests.specs.declared.commands.Command.{Command as Work}
 use Rattle.trips_requests.specs.declared.commands.Command.TheVariants.{Run, Evaluate, Compile}
 use Rattle.trips_answers.specs.declared.forms.FileForm.{FileForm}
 use Rattle.trips_answers.specs.declared.forms.FileForm.TheVariants as form
 use Rattle.trips_answers.specs.declared.forms.Settings.{Settings}
-use Rattle.trips_answer_parts.specs.declared.loading.Loaded.{Loaded}
-use Rattle.trips_answer_parts.specs.declared.loading.Loaded.TheVariants.{Fault, TooLarge, Bytes}
+use Rattle.trips_requests.specs.declared.loading.Loaded.{Loaded}
+use Rattle.trips_requests.specs.declared.loading.Loaded.TheVariants.{Fault, TooLarge, Bytes}
 use Rattle.std.proofs.Common.{option_map}
 use Rattle.trips_requests.specs.declared.commands.Asked.{Asked}
 use Rattle.trips_requests.specs.declared.commands.Tool.{Tool}
 use Rattle.trips_requests.specs.declared.commands.Tool.TheVariants as tools
 use Rattle.trips_requests.specs.Plain as line_plain
 use Rattle.trips_requests.specs.Requests as line
-use Rattle.trips_tool_answers.specs.Tools.{IsToolDone}
+use Rattle.trips_tools.specs.ToolAnswers.{IsToolDone}
 use Rattle.trips_answers.specs.Request.{Request, origin_held, planned, request_seen}
 use Rattle.trips_answers.specs.Read.{IsInputRead, limit_of, most_input_bytes}
-use Rattle.trips_answer_parts.specs.Read.{IsRead, AfterReading}
-use Rattle.trips_tool_answers.specs.Answer.{most_target_bytes, most_image_bytes}
+use Rattle.trips_requests.specs.Read.{IsRead, AfterReading}
+use Rattle.trips_tools.specs.Answer.{most_target_bytes, most_image_bytes}
 use Rattle.c_tree.specs.Limits.{most_source_bytes}
 use Rattle.target_asm_spec.specs.Text.{TargetText}
 use Rattle.trips_eval_answers.specs.Refusals.{front_refusal}

@@ -5,11 +5,11 @@ use Rattle.block_check.specs.declared.fault.CheckFault.{CheckFault}
 use Rattle.block_check.specs.Faults.{IsGood}
 use Rattle.block_check.specs.Images.{IsFirstBad}
 use Rattle.trips_answers.specs.declared.forms.Settings.{Settings}
-use Rattle.trips_answer_parts.specs.declared.status.Status.{Status}
-use Rattle.trips_answer_parts.specs.declared.status.Status.TheVariants as status
+use Rattle.trips_requests.specs.declared.status.Status.{Status}
+use Rattle.trips_requests.specs.declared.status.Status.TheVariants as status
 use Rattle.trips_report.specs.Refusals.{check_text}
 use Rattle.trips_answers.specs.Worked.{IsRunBy}
-use Rattle.trips_answer_parts.specs.Texts.{IsFixed}
+use Rattle.trips_requests.specs.Texts.{IsFixed}
 
 -- the run of an image of good blocks, or the refusal of its first block that is not good
 abbrev pub IsRunOfChecked : Image → Settings → List ℕ → Status → List ℕ → Type 0

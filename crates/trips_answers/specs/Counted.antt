@@ -10,7 +10,7 @@ use Rattle.operand_net.specs.declared.weather.PcgWeather.{PcgWeather}
 use Rattle.grid_cycle_spec.specs.Costs.{cost_in, cost_of, greatest_cost}
 use Rattle.grid_cycle_spec.specs.Grid.{Grid}
 use Rattle.grid_machine.specs.Seeds.{IsRan}
-use Rattle.grid_machine_bound.specs.Traps.{is_trap}
+use Rattle.grid_cycle.specs.Traps.{is_trap}
 
 -- The counts are those of a grid that a run of the seed leads to: from the stated start by exactly as many eager
 -- cycles as it counts, and at the end of the run by the flush of the frames in flight. Its ending and its state are

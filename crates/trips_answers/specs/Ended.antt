@@ -11,9 +11,9 @@ use Rattle.c_front.specs.Fronts.{IsAccepted}
 use Rattle.c_meaning_spec.specs.declared.signal.Ending.TheVariants.{More, Undefined, Deep}
 use Rattle.c_meaning_spec.specs.Eval.{Outcome, Stopped, Done, eval}
 use Rattle.c_compile.specs.Images.{IsImageOf}
-use Rattle.trips_answer_parts.specs.declared.status.Status.{Status}
-use Rattle.trips_answer_parts.specs.declared.status.Status.TheVariants as status
-use Rattle.trips_answer_parts.specs.Texts.{output_and}
+use Rattle.trips_requests.specs.declared.status.Status.{Status}
+use Rattle.trips_requests.specs.declared.status.Status.TheVariants as status
+use Rattle.trips_requests.specs.Texts.{output_and}
 use Rattle.trips_answers.specs.Request.{Request, origin_held, settings_of}
 use Rattle.trips_answers.specs.Read.{HoldsInput}
 use Rattle.trips_answers.specs.Table.{IsReported}

@@ -3,12 +3,12 @@ use Rattle.std.specs.Prelude.{◌≡◌, ℕ, ◌≤◌, List, [], Option, None,
 use Rattle.trips_outside.specs.Outside.{Holds}
 use Rattle.trips_answers.specs.declared.forms.FileForm.{FileForm}
 use Rattle.trips_answers.specs.declared.forms.FileForm.TheVariants.{Source, Target, Image}
-use Rattle.trips_answer_parts.specs.declared.loading.Loaded.{Loaded}
-use Rattle.trips_answer_parts.specs.declared.loading.Loaded.TheVariants.{Bytes}
+use Rattle.trips_requests.specs.declared.loading.Loaded.{Loaded}
+use Rattle.trips_requests.specs.declared.loading.Loaded.TheVariants.{Bytes}
 use Rattle.trips_answers.specs.Request.{Request, origin_held}
-use Rattle.trips_answer_parts.specs.Read.{IsRead}
+use Rattle.trips_requests.specs.Read.{IsRead}
 use Rattle.c_tree.specs.Limits.{most_source_bytes}
-use Rattle.trips_tool_answers.specs.Answer.{most_image_bytes, most_target_bytes}
+use Rattle.trips_tools.specs.Answer.{most_image_bytes, most_target_bytes}
 
 -- how many bytes an input may have
 unfoldable pub most_input_bytes : ℕ

@@ -14,7 +14,7 @@ use Rattle.trips_answers.specs.Request.{Request, origin_held}
 use Rattle.trips_answers.specs.Read.{most_input_bytes, limit_of}
 use Rattle.trips_report.specs.Refusals.{check_text}
 use Rattle.trips_eval_answers.specs.Evaluation.{IsRefusedByFront}
-use Rattle.trips_tool_answers.specs.Tools.{IsNoImage, IsBadImage, IsNoText}
+use Rattle.trips_tools.specs.ToolAnswers.{IsNoImage, IsBadImage, IsNoText}
 
 -- the text is that of an image, and the report names its first block that is not good
 abbrev pub IsBadText : List ℕ → List ℕ → Type 0

@@ -12,12 +12,12 @@ use Rattle.trips_requests.specs.declared.commands.Command.{Command as Work}
 use Rattle.trips_requests.specs.declared.commands.Command.TheVariants.{Evaluate}
 use Rattle.trips_answers.specs.declared.forms.FileForm.{FileForm}
 use Rattle.trips_answers.specs.declared.forms.Settings.{Settings}
-use Rattle.trips_answer_parts.specs.declared.status.Status.{Status}
-use Rattle.trips_answer_parts.specs.Table.{IsCutShort, IsWritten}
+use Rattle.trips_requests.specs.declared.status.Status.{Status}
+use Rattle.trips_requests.specs.Table.{IsCutShort, IsWritten}
 use Rattle.trips_answers.specs.Request.{Request, origin_held, settings_of}
 use Rattle.trips_answers.specs.Read.{HoldsInput, IsTold, limit_of}
 use Rattle.trips_answers.specs.Refused.{IsLarge}
-use Rattle.trips_answer_parts.specs.Texts.{output_and}
+use Rattle.trips_requests.specs.Texts.{output_and}
 use Rattle.trips_answers.specs.Report.{ending_of, shown_behind, nothing_shown}
 use Rattle.trips_answers.specs.Counted.{IsCountedRun}
 use Rattle.trips_answers.specs.Worked.{IsWorked}

@@ -20,9 +20,9 @@ use Rattle.trips_requests.specs.declared.commands.Command.TheVariants.{Assemble,
 use Rattle.trips_answers.specs.declared.forms.FileForm.{FileForm}
 use Rattle.trips_answers.specs.declared.forms.FileForm.TheVariants as form
 use Rattle.trips_answers.specs.declared.forms.Settings.{Settings}
-use Rattle.trips_answer_parts.specs.declared.status.Status.{Status}
-use Rattle.trips_answer_parts.specs.declared.status.Status.TheVariants as status
-use Rattle.trips_answer_parts.specs.Texts.{IsFixed}
+use Rattle.trips_requests.specs.declared.status.Status.{Status}
+use Rattle.trips_requests.specs.declared.status.Status.TheVariants as status
+use Rattle.trips_requests.specs.Texts.{IsFixed}
 use Rattle.trips_eval_answers.specs.Evaluation.{IsEvaluationOf}
 use Rattle.trips_answers.specs.Report.{ending_of, shown_report}
 use Rattle.trips_answers.specs.Refused.{IsRefusedAs}

@@ -6,7 +6,7 @@ ghost use Rattle.trips_answers.specs.Request.{form_of, settings_of, request_seen
 ghost use Rattle.trips_answers.specs.Read.{limit_of};
 ghost use Rattle.trips_answers.specs.Worked.{IsDone};
 ghost use Rattle.trips_answers.specs.Answer.{IsAnswerBehind, IsAnswer};
-ghost use Rattle.trips_answer_parts.specs.Read.{AfterReading};
+ghost use Rattle.trips_requests.specs.Read.{AfterReading};
 
 use crate::forms::{FileForm, Settings, form_of, settings_for};
 use crate::image_answer::{bytes_answer, target_answer};
@@ -15,14 +15,13 @@ use crate::text_answer::{text_answer, text_compiled};
 use base::Items;
 use c_tree::MOST_SOURCE_BYTES;
 use std::alloc::{AllocError, Global};
-use trips_answer_parts::{Answer, Loaded, no_request, too_large, unread};
 use trips_eval_answers::text_evaluated;
 use trips_outside::Files;
-use trips_requests::{Asked, Command, Tool};
-use trips_tool_answers::{MOST_IMAGE_BYTES, MOST_TARGET_BYTES, tool_done};
+use trips_requests::{Answer, Asked, Command, Loaded, Tool, no_request, too_large, unread};
+use trips_tools::{MOST_IMAGE_BYTES, MOST_TARGET_BYTES, tool_done};
 
 // How many bytes a file may have, by what it is read as.
-#[tactic(auto, unfolding(c_tree::specs::Limits::most_source_bytes, trips_tool_answers::specs::Answer::most_target_bytes, trips_tool_answers::specs::Answer::most_image_bytes))]
+#[tactic(auto, unfolding(c_tree::specs::Limits::most_source_bytes, trips_tools::specs::Answer::most_target_bytes, trips_tools::specs::Answer::most_image_bytes))]
 fn limit_for(form: FileForm) -> u64
     ensures { result ≡ limit_of form }
 {

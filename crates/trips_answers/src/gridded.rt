@@ -3,21 +3,20 @@
 ghost use Rattle.std.specs.Prelude.{◌≡◌, ◌<◌, IfOk, Some};
 ghost use Rattle.grid_cycle_spec.specs.Costs.{cost_of};
 ghost use Rattle.grid_machine.specs.Seeds.{IsRan};
-ghost use Rattle.grid_engine.specs.Engines.{IsWithinCost, blocks_of, grid_of};
+ghost use Rattle.grid_cycle.specs.Engines.{IsWithinCost, blocks_of, grid_of};
 ghost use Rattle.trips_answers.specs.Report.{shown_report};
 ghost use Rattle.trips_answers.specs.Worked.{status_of, IsRunBy};
-ghost use Rattle.trips_answer_parts.specs.Texts.{IsFixed};
+ghost use Rattle.trips_requests.specs.Texts.{IsFixed};
 
 use crate::forms::Settings;
 use crate::report::run_text;
 use base::Items;
 use block_check::CheckedImage;
-use grid_engine::Ran;
-use grid_machine_bound::runs_of_a_seed_end;
+use grid_cycle::{Ran, runs_of_a_seed_end};
 use std::alloc::{AllocError, Global};
-use trips_answer_parts::{Answer, Status};
 use trips_isa::Ending;
 use trips_report::Show;
+use trips_requests::{Answer, Status};
 
 // The status that tells an ending.
 fn status_for(ending: Ending) -> Status
@@ -62,7 +61,7 @@ fn ran_image(
         (Some ran.ending) (grid_of ran.grid)) }
     ensures image { IfOk result (λ ran. blocks_of ran.grid ≡ image.blocks) }
 {
-    match grid_engine::run_image(alloc, image, input.into_vec(), settings.seed, settings.most) {
+    match grid_cycle::run_image(alloc, image, input.into_vec(), settings.seed, settings.most) {
         Ok(ran) => Ok(ran),
         Err(_) => Err(AllocError),
     }

@@ -14,10 +14,10 @@ use block_check::{CheckedImage, ImageRefusal};
 use block_image::{ImageFault, decode};
 use std::alloc::{AllocError, Global};
 use target_asm::{AsmFault, assemble};
-use trips_answer_parts::Answer;
 use trips_isa::Image;
 use trips_report::Said;
-use trips_tool_answers::refused;
+use trips_requests::Answer;
+use trips_tools::refused;
 
 // Runs the image where its blocks are good.
 fn checked_answer(

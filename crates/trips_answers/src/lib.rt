@@ -18,4 +18,4 @@ mod text_answer;
 pub use asked_answer::answer_to;
 pub use loading::{MOST_INPUT_BYTES, constants_are_the_definitions};
 pub use plain::{compile_plain, eval_plain, run_plain, tool_plain};
-pub use trips_answer_parts::{Answer, Status, exit_code};
+pub use trips_requests::{Answer, Status, exit_code};

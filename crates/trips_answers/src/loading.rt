@@ -4,13 +4,13 @@ ghost use Rattle.std.specs.Prelude.{◌≡◌, ◌≤◌, option_copied, IfOk};
 ghost use Rattle.trips_outside.specs.Outside.{Rose};
 ghost use Rattle.trips_answers.specs.Request.{origin_held, origin_of};
 ghost use Rattle.trips_answers.specs.Read.{IsInputRead, most_input_bytes};
-ghost use Rattle.trips_answer_parts.specs.Read.{IsRead, IsWithin};
+ghost use Rattle.trips_requests.specs.Read.{IsRead, IsWithin};
 
 use base::Items;
 use bench_text::bench_text;
 use std::alloc::{AllocError, Global};
-use trips_answer_parts::{Loaded, read};
 use trips_outside::Files;
+use trips_requests::{Loaded, read};
 
 /// How many bytes an input may have.
 pub const MOST_INPUT_BYTES: u64 = 1_048_576;

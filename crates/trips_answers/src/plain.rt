@@ -6,7 +6,7 @@ ghost use Rattle.trips_outside.specs.Outside.{Rose, Appended};
 ghost use Rattle.trips_requests.specs.declared.commands.Command.TheVariants.{Run, Compile};
 ghost use Rattle.trips_requests.specs.Plain as line;
 ghost use Rattle.trips_eval_answers.specs.Answer.{IsEvalAnswer};
-ghost use Rattle.trips_tool_answers.specs.Answer.{IsToolAnswer};
+ghost use Rattle.trips_tools.specs.Answer.{IsToolAnswer};
 ghost use Rattle.trips_answers.specs.declared.forms.FileForm.TheVariants.{Source};
 ghost use Rattle.trips_answers.specs.Read.{limit_of};
 ghost use Rattle.trips_answers.specs.Worked.{IsDone};
@@ -21,10 +21,12 @@ use base::Items;
 use c_tree::MOST_SOURCE_BYTES;
 use grid_place::Placing;
 use std::alloc::{AllocError, Global};
-use trips_answer_parts::{Answer, Loaded, Status, no_request, read, too_large, unread};
 use trips_outside::{Files, Sink, write_all};
 use trips_report::Show;
-use trips_requests::{DEFAULT_COUNT, plain_compile, plain_run};
+use trips_requests::{
+    Answer, DEFAULT_COUNT, Loaded, Status, no_request, plain_compile, plain_run, read, too_large,
+    unread,
+};
 
 // How work is done of which nothing is said besides the file.
 fn default_settings() -> Settings
@@ -220,7 +222,7 @@ pub fn eval_plain<F: Files, K: Sink>(
 
 /// Does what the words ask, if they are `asm`, `dis` or `check` and a plain name, and answers the exit status: what `trips_run`
 /// answers and writes for these words. Any other words are no request here. It does so by the call of
-/// `trips_tool_answers`, which a program makes that is to stand on little: what that one answers and writes is so
+/// `trips_tools`, which a program makes that is to stand on little: what that one answers and writes is so
 /// the row of this request.
 pub fn tool_plain<F: Files, K: Sink>(
     alloc: Global,
@@ -241,12 +243,12 @@ pub fn tool_plain<F: Files, K: Sink>(
     ensures reads_later { F.faults files.old ≤ F.faults files.new }
     ensures writes_later { K.faults sink.old ≤ K.faults sink.new }
 
-    // The answers of which `trips_tool_answers` speaks are the answers to this request, and no others.
+    // The answers of which `trips_tools` speaks are the answers to this request, and no others.
     ensures row { (s : Status) (report : List ℕ)
         → IsToolAnswer (line.plain_tool (map (λ word. string_bytes word) words.now))
         (F.held files.old) (Rose (F.faults files.old) (F.faults files.new)) s report
         ↔ IsAnswer (plain_tool words.now) (F.held files.old)
         (Rose (F.faults files.old) (F.faults files.new)) s report }
 {
-    trips_tool_answers::tool_plain(alloc, words, files, sink)
+    trips_tools::tool_plain(alloc, words, files, sink)
 }

@@ -17,8 +17,8 @@ use block_image::encode;
 use c_compile::compile;
 use grid_place::Placing;
 use std::alloc::{AllocError, Global};
-use trips_answer_parts::{Answer, Status};
 use trips_eval_answers::stage_refused;
+use trips_requests::{Answer, Status};
 
 // Bytes are an input of a program.
 fn is_input(input: &[u8])

@@ -3,13 +3,13 @@ use Rattle.std.proofs.Common.{ℕ, List, Option, None, Some, inl, inr}
 use Rattle.c_meaning.specs.declared.outcome.Outcome.{Outcome}
 use Rattle.c_meaning.specs.declared.outcome.Outcome.TheVariants as outcome
 use Rattle.trips_outside.specs.Outside.{Appended, AppendedPart}
-use Rattle.trips_answer_parts.specs.declared.loading.Loaded.{Loaded}
-use Rattle.trips_answer_parts.specs.declared.loading.Loaded.TheVariants.{Fault, TooLarge, Bytes}
-use Rattle.trips_answer_parts.specs.declared.status.Status.{Status}
-use Rattle.trips_answer_parts.specs.declared.status.Status.TheVariants as status
-use Rattle.trips_answer_parts.specs.Read.{AfterReading}
-use Rattle.trips_answer_parts.specs.Table.{IsWritten}
-use Rattle.trips_answer_parts.proofs.Written.{IsWhole, fixed_whole, whole_written}
+use Rattle.trips_requests.specs.declared.loading.Loaded.{Loaded}
+use Rattle.trips_requests.specs.declared.loading.Loaded.TheVariants.{Fault, TooLarge, Bytes}
+use Rattle.trips_requests.specs.declared.status.Status.{Status}
+use Rattle.trips_requests.specs.declared.status.Status.TheVariants as status
+use Rattle.trips_requests.specs.Read.{AfterReading}
+use Rattle.trips_requests.specs.Table.{IsWritten}
+use Rattle.trips_requests.proofs.Written.{IsWhole, fixed_whole, whole_written}
 use Rattle.trips_eval_answers.specs.Evaluation.{eval_status, IsTextEvaluated}
 use Rattle.trips_eval_answers.specs.Answer.{IsEvalAnswer}
 

@@ -2,11 +2,11 @@
 use Rattle.std.specs.Prelude.{ℕ, List, [], Option, None, Some}
 use Rattle.c_tree.specs.Limits.{most_source_bytes}
 use Rattle.trips_requests.specs.Limits.{default_count}
-use Rattle.trips_answer_parts.specs.declared.loading.Loaded.{Loaded}
-use Rattle.trips_answer_parts.specs.declared.status.Status.{Status}
-use Rattle.trips_answer_parts.specs.declared.status.Status.TheVariants as status
-use Rattle.trips_answer_parts.specs.Texts.{usage_text, IsFixed}
-use Rattle.trips_answer_parts.specs.Read.{IsRead, AfterReading}
+use Rattle.trips_requests.specs.declared.loading.Loaded.{Loaded}
+use Rattle.trips_requests.specs.declared.status.Status.{Status}
+use Rattle.trips_requests.specs.declared.status.Status.TheVariants as status
+use Rattle.trips_requests.specs.Texts.{usage_text, IsFixed}
+use Rattle.trips_requests.specs.Read.{IsRead, AfterReading}
 use Rattle.trips_eval_answers.specs.Evaluation.{IsTextEvaluated}
 
 -- Of the file whose text is to be evaluated on no input (none where the words name none), of what names hold,

@@ -8,9 +8,9 @@ use Rattle.c_meaning_spec.specs.Eval.{eval}
 use Rattle.c_meaning.specs.declared.outcome.Outcome.{Outcome}
 use Rattle.c_meaning.specs.declared.outcome.Outcome.TheVariants as outcome
 use Rattle.c_meaning.specs.Answer.{answer}
-use Rattle.trips_answer_parts.specs.declared.status.Status.{Status}
-use Rattle.trips_answer_parts.specs.declared.status.Status.TheVariants as status
-use Rattle.trips_answer_parts.specs.Texts.{IsFixed}
+use Rattle.trips_requests.specs.declared.status.Status.{Status}
+use Rattle.trips_requests.specs.declared.status.Status.TheVariants as status
+use Rattle.trips_requests.specs.Texts.{IsFixed}
 use Rattle.trips_eval_answers.specs.Reports.{eval_report}
 use Rattle.trips_eval_answers.specs.Refusals.{front_refusal}
 

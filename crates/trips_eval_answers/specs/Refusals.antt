@@ -8,7 +8,7 @@ use Rattle.c_type_expr.specs.declared.fault.TypeFault.{TypeFault}
 use Rattle.c_type_expr.specs.declared.fault.TypeFault.TheVariants as typing
 use Rattle.c_front.specs.declared.refusal.Refusal.{Refusal}
 use Rattle.c_front.specs.declared.refusal.Refusal.TheVariants as stage
-use Rattle.trips_answer_parts.specs.Texts.{on_line}
+use Rattle.trips_requests.specs.Texts.{on_line}
 
 -- of a text that has no tokens; want of memory is no refusal, here and below
 abbrev pub lex_text : LexFault → List ℕ

@@ -3,7 +3,7 @@ use Rattle.std.specs.Prelude.{ℕ, ℤ, List, ◌++◌, codes, decimal}
 use Rattle.std.specs.Fmt.{signed_decimal}
 use Rattle.c_meaning.specs.declared.outcome.Outcome.{Outcome}
 use Rattle.c_meaning.specs.declared.outcome.Outcome.TheVariants as outcome
-use Rattle.trips_answer_parts.specs.Texts.{output_and}
+use Rattle.trips_requests.specs.Texts.{output_and}
 
 -- the lines of what main returned and of how many steps were taken
 abbrev pub done_lines : ℤ → ℕ → List ℕ

@@ -9,7 +9,7 @@ use c_front::front;
 use c_meaning::{Outcome, evaluate};
 use c_tree::TypedProgram;
 use std::alloc::{AllocError, Global};
-use trips_answer_parts::{Answer, Status};
+use trips_requests::{Answer, Status};
 
 // The status that tells an outcome.
 fn status_for(outcome: &Outcome) -> Status

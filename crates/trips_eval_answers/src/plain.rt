@@ -5,16 +5,17 @@ ghost use Rattle.trips_outside.specs.Outside.{Rose, Appended};
 ghost use Rattle.c_tree.specs.Limits.{most_source_bytes};
 ghost use Rattle.trips_requests.specs.Plain as line;
 ghost use Rattle.trips_requests.specs.Limits.{default_count};
-ghost use Rattle.trips_answer_parts.specs.Table.{IsWritten};
+ghost use Rattle.trips_requests.specs.Table.{IsWritten};
 ghost use Rattle.trips_eval_answers.specs.Evaluation.{IsTextEvaluated};
 ghost use Rattle.trips_eval_answers.specs.Answer.{IsEvalAnswer};
 
 use crate::evaluation::text_evaluated;
 use c_tree::MOST_SOURCE_BYTES;
 use std::alloc::{AllocError, Global};
-use trips_answer_parts::{Answer, Loaded, Status, no_request, read, too_large, unread};
 use trips_outside::{Files, Sink, write_all};
-use trips_requests::{DEFAULT_COUNT, plain_eval};
+use trips_requests::{
+    Answer, DEFAULT_COUNT, Loaded, Status, no_request, plain_eval, read, too_large, unread,
+};
 
 // Evaluates a text of C on no input.
 #[tactic(auto, unfolding(c_tree::specs::Limits::most_source_bytes))]

@@ -3,14 +3,14 @@
 ghost use Rattle.std.specs.Prelude.{◌≡◌, ◌≢◌, IfOk};
 ghost use Rattle.trips_eval_answers.specs.Refusals.{lex_text, parse_text, type_text, front_refusal};
 ghost use Rattle.trips_eval_answers.specs.Refusals.{IsFault};
-ghost use Rattle.trips_answer_parts.specs.Texts.{IsFixed};
+ghost use Rattle.trips_requests.specs.Texts.{IsFixed};
 
 use c_front::Refusal;
 use c_lex::LexFault;
 use c_parse::ParseFault;
 use c_type::TypeFault;
 use std::alloc::{AllocError, Global};
-use trips_answer_parts::{Answer, Status, on_line};
+use trips_requests::{Answer, Status, on_line};
 
 // The refusal of a text that has no tokens.
 fn lex_text(alloc: Global, fault: LexFault) -> Result<Vec<u8>, AllocError>

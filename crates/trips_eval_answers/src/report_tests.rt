@@ -11,7 +11,7 @@ use c_type::TypeFault;
 use std::alloc::{AllocError, Global};
 use std::process::Abort;
 use std::test::Fail;
-use trips_answer_parts::Status;
+use trips_requests::Status;
 
 fn assert_evaluation(
     rt: &impl Abort,

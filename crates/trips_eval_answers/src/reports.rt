@@ -5,7 +5,7 @@ ghost use Rattle.trips_eval_answers.specs.Reports.{done_lines, eval_report};
 
 use c_meaning::Outcome;
 use std::alloc::{AllocError, Global};
-use trips_answer_parts::output_text;
+use trips_requests::output_text;
 
 // The lines of what main returned and of how many steps were taken.
 fn done_text(alloc: Global, value: i32, steps: u64) -> Result<String, AllocError>

@@ -4,9 +4,9 @@
 
 use std::io;
 use std::process::ExitCode;
-use trips_answer_parts::{Status, exit_code};
 use trips_eval_answers::eval_plain;
 use trips_outside::{OsFiles, OutSink, words};
+use trips_requests::{Status, exit_code};
 
 fn main(rt: HostRuntime) -> ExitCode {
     let alloc = rt.alloc();

@@ -4,9 +4,9 @@
 
 use std::io;
 use std::process::ExitCode;
-use trips_answer_parts::{Status, exit_code};
 use trips_outside::{OsFiles, OutSink, words};
-use trips_tool_answers::tool_plain;
+use trips_requests::{Status, exit_code};
+use trips_tools::tool_plain;
 
 fn main(rt: HostRuntime) -> ExitCode {
     let alloc = rt.alloc();

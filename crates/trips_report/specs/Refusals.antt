@@ -2,7 +2,7 @@
 -- of this crate).
 use Rattle.std.specs.Prelude.{ℕ, ◌≢◌, List, [], ◌++◌, codes, decimal}
 use Rattle.isa_table.specs.Spots.{spot_text}
-use Rattle.trips_answer_parts.specs.Texts.{on_line}
+use Rattle.trips_requests.specs.Texts.{on_line}
 use Rattle.block_image.specs.declared.fault.ImageFault.{ImageFault}
 use Rattle.block_image.specs.declared.fault.ImageFault.TheVariants as image
 use Rattle.target_asm_spec.specs.declared.fault.AsmFault.{AsmFault}

@@ -6,7 +6,7 @@ use Rattle.trips_isa.specs.declared.run.Ending.{Ending}
 use Rattle.trips_isa.specs.declared.run.Ending.TheVariants as ending
 use Rattle.trips_isa.specs.TrapCauses.{number_of}
 use Rattle.trips_isa.specs.Machine.{State}
-use Rattle.trips_answer_parts.specs.Texts.{output_and}
+use Rattle.trips_requests.specs.Texts.{output_and}
 use Rattle.trips_report.specs.declared.show.Show.{Show}
 use Rattle.trips_report.specs.Lines.{with_part, register_lines, trace_lines, count_lines}
 

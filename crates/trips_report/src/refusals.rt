@@ -12,8 +12,8 @@ use block_image::ImageFault;
 use isa_table::{put_number, put_spot};
 use std::alloc::{AllocError, Global};
 use target_asm_spec::AsmFault;
-use trips_answer_parts::on_line;
 use trips_isa::Spot;
+use trips_requests::on_line;
 
 // A fault's number and name, and the place of its first byte.
 fn at_place(alloc: Global, name: &[u8], at: u64) -> Result<Vec<u8>, AllocError>

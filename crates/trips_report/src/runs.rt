@@ -8,8 +8,8 @@ use crate::show::Show;
 use base::Memory;
 use block_atomic::Arch;
 use std::alloc::{AllocError, Global};
-use trips_answer_parts::output_text;
 use trips_isa::{Counts, Ending, number_of};
+use trips_requests::output_text;
 
 // A word as a signed number.
 fn signed_text(alloc: Global, word: u64) -> Result<String, AllocError>

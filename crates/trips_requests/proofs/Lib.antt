@@ -3,3 +3,4 @@ pub mod VerbLemmas
 pub mod Counts
 pub mod PlainRequests
 pub mod StandardFacts
+pub mod Written

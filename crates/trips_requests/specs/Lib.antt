@@ -4,3 +4,7 @@ pub mod Options
 pub mod Requests
 pub mod Numbers
 pub mod Plain
+pub mod Texts
+pub mod Read
+pub mod Table
+pub mod AnswerPartsNumbers

@@ -3,16 +3,31 @@
 //! What words say is defined in `specs/Words`, and the request in `specs/Requests`. [`request_with`]
 //! makes it of what was found of a command's options. [`plain_run`] and its like know two words with
 //! nothing said besides.
+//!
+//! What the answers to all requests share: the status and its number, an answer and those that need no work, the
+//! reading of a file, and two pieces of reports. It stands below the work of each command, so that
+//! a program for one command reaches no other.
+//!
+//! `specs/Read` says what reading a file comes to, `specs/Table` what a call writes, and `specs/Numbers` with which
+//! number the program ends.
 #![tactic(auto)]
 
+mod answer;
 mod asking;
 mod commands;
+mod loading;
 mod number;
 mod plain;
+mod status;
+mod texts;
 
+pub use answer::{Answer, no_request, too_large, unread};
 pub use asking::{FoundOptions, counted, is_c_name, is_on, request_with, verb_named};
 pub use commands::{
     Asked, AskedTool, Command, DEFAULT_COUNT, MOST_COUNT, MOST_FUNCTIONS, MOST_SEED, Tool, Verb,
     constants_are_the_definitions,
 };
+pub use loading::{Loaded, read};
 pub use plain::{plain_compile, plain_eval, plain_run, plain_tool};
+pub use status::{Status, exit_code};
+pub use texts::{on_line, output_text};

@@ -22,7 +22,7 @@ ghost use Rattle.trips_answers.specs.declared.forms.FileForm.{FileForm};
 ghost use Rattle.trips_answers.specs.declared.forms.FileForm.TheVariants as form;
 ghost use Rattle.trips_answers.specs.Request.{Request, request_of, settings_with};
 ghost use Rattle.trips_eval_answers.specs.Reports.{eval_report};
-ghost use Rattle.trips_answer_parts.specs.Texts.{too_large_text};
+ghost use Rattle.trips_requests.specs.Texts.{too_large_text};
 ghost use Rattle.trips_answers.specs.Refused.{IsRefusedAs, MayBeRefused, IsRefused};
 ghost use Rattle.trips_answers.specs.Worked.{status_of};
 ghost use Rattle.trips_eval_answers.specs.Evaluation.{eval_status, outcome_of};

@@ -1,0 +1,2 @@
+pub mod ToolAnswersMade
+pub mod Whole

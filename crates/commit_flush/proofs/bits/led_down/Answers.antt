@@ -1,5 +1,5 @@
 use Rattle.std.proofs.Common.{◌≡◌, ◌+◌, ◌==◌, suc, ap, ◌∙◌, arith}
-use Rattle.bit_rows.specs.Rows.{has_bit}
+use Rattle.base.specs.Rows.{has_bit}
 use Rattle.lsq_order.proofs.BitFacts.{led_down_by}
 use Rattle.commit_flush.proofs.bits.led_down.Goals as goal
 

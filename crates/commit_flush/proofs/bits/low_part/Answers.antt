@@ -1,6 +1,6 @@
 use Rattle.std.proofs.Common.{ap, ◌∙◌, ◌%◌}
 use Rattle.std.proofs.lemmas.Nat.{one_shl}
-use Rattle.bit_rows.specs.Rows.{has_bit}
+use Rattle.base.specs.Rows.{has_bit}
 use Rattle.commit_flush.proofs.BitFacts.{low_same, low_clear}
 use Rattle.commit_flush.proofs.bits.low_part.Goals as goal
 

@@ -1,5 +1,5 @@
 use Rattle.std.proofs.Common.{refl, sym}
-use Rattle.bit_rows.specs.Rows.{has_bit}
+use Rattle.base.specs.Rows.{has_bit}
 use Rattle.commit_flush.proofs.BitFacts.{bit_here, bit_same, set_false, set_true}
 use Rattle.commit_flush.proofs.bits.with_bit.Goals as goal
 

@@ -1,5 +1,5 @@
 use Rattle.std.proofs.Common.{refl, sym}
-use Rattle.bit_rows.specs.Rows.{has_bit}
+use Rattle.base.specs.Rows.{has_bit}
 use Rattle.commit_flush.proofs.BitFacts.{wide_here, wide_same, set_false, set_true}
 use Rattle.commit_flush.proofs.bits.with_wide_bit.Goals as goal
 

@@ -2,7 +2,7 @@ use Rattle.std.proofs.Common.{◌≡◌, ℕ, ◌&&◌, nat_lt}
 use Rattle.commit_flush_spec.specs.Memory.{is_request, request}
 use Rattle.frame_state.specs.Held.{running}
 use Rattle.commit_flush.specs.Observed.{is_access}
-use Rattle.bit_rows.specs.Rows.{has_bit}
+use Rattle.base.specs.Rows.{has_bit}
 use Rattle.commit_flush.proofs.observing.asked_in.Given as goal
 
 abbrev pub invariant-loop-number : goal.invariant-loop-number

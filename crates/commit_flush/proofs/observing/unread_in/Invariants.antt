@@ -1,6 +1,6 @@
 use Rattle.std.proofs.Common.{◌≡◌, ℕ, ◌&&◌, ◌||◌, not, nat_lt, false, slice_get, slice_index_or}
 use Rattle.std.specs.Prelude.{is_none}
-use Rattle.bit_rows.specs.Rows.{has_bit}
+use Rattle.base.specs.Rows.{has_bit}
 use Rattle.commit_flush.proofs.observing.unread_in.Given as goal
 
 abbrev pub invariant-loop-read : goal.invariant-loop-read

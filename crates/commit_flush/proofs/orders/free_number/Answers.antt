@@ -1,6 +1,6 @@
 use Rattle.std.proofs.Common.{ap, sym, ◌∙◌, arith}
-use Rattle.commit_flush_order.specs.Kept.{is_in}
-use Rattle.commit_flush_order.proofs.OrderFacts.{free_found, none_free, flies}
+use Rattle.commit_flush.specs.Kept.{is_in}
+use Rattle.commit_flush.proofs.OrderFacts.{free_found, none_free, flies}
 use Rattle.commit_flush.proofs.orders.free_number.Goals as goal
 
 pub returns-then-not-is_in-clause-value : goal.returns-then-not-is_in-clause-value

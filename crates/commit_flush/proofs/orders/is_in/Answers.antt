@@ -1,6 +1,6 @@
 use Rattle.std.proofs.Common.{ap, ◌∙◌}
 use Rattle.std.specs.Prelude.{is_some}
-use Rattle.commit_flush_order.proofs.OrderFacts.{is_placed}
+use Rattle.commit_flush.proofs.OrderFacts.{is_placed}
 use Rattle.commit_flush.proofs.orders.is_in.Goals as goal
 
 pub returns-in-None : goal.returns-in-None

@@ -1,6 +1,6 @@
 use Rattle.std.proofs.Common.{◌≡◌, ◌==◌, true, sym, arith, get_or}
 use Rattle.std.proofs.lemmas.Bool.Decides.{nat_tests}
-use Rattle.commit_flush_order.proofs.OrderFacts.{placed, not_placed}
+use Rattle.commit_flush.proofs.OrderFacts.{placed, not_placed}
 use Rattle.commit_flush.proofs.orders.place_of.Goals as goal
 
 pub returns-then-order-place-clause-value : goal.returns-then-order-place-clause-value

@@ -1,5 +1,5 @@
 use Rattle.std.proofs.Common.{◌<◌, ◌^◌, ◌||◌, ap, ◌∙◌, rules}
-use Rattle.bit_rows.specs.Rows.{has_bit}
+use Rattle.base.specs.Rows.{has_bit}
 use Rattle.frame_state.proofs.BitFacts.{has_or, has_not}
 use Rattle.frame_state.proofs.ready.come.Goals as goal
 

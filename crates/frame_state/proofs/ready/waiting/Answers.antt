@@ -1,5 +1,5 @@
 use Rattle.std.proofs.Common.{◌<◌, ◌^◌, ◌&&◌, ap, ◌∙◌, rules}
-use Rattle.bit_rows.specs.Rows.{has_bit}
+use Rattle.base.specs.Rows.{has_bit}
 use Rattle.frame_state.proofs.BitFacts.{has_and, has_not}
 use Rattle.frame_state.proofs.ready.waiting.Goals as goal
 

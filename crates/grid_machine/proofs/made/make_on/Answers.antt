@@ -1,6 +1,6 @@
 use Rattle.std.proofs.Common.{ap, ◌∙◌}
 use Rattle.commit_flush.specs.Seen.{Seen}
-use Rattle.grid_state.specs.Seen.{seen}
+use Rattle.grid_parts.specs.Seen.{seen}
 use Rattle.grid_machine.proofs.made.make_on.Goals as goal
 
 pub returns-clause-begun : goal.returns-clause-begun

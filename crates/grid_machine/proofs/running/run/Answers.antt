@@ -1,7 +1,7 @@
 use Rattle.std.proofs.Common.{◌-◌, ap, ◌∙◌}
 use Rattle.commit_flush.specs.Seen.{Seen}
-use Rattle.grid_state.specs.Seen.{seen}
-use Rattle.grid_run.proofs.RunFacts.{run_counts}
+use Rattle.grid_parts.specs.Seen.{seen}
+use Rattle.grid_machine.proofs.RunFacts.{run_counts}
 use Rattle.grid_machine.proofs.Starts.{run_has_come}
 use Rattle.grid_machine.proofs.running.run.Goals as goal
 

@@ -4,7 +4,7 @@ use Rattle.trips_isa.specs.declared.run.Stepped.TheVariants.{Went}
 use Rattle.trips_isa.specs.Machine.{runs, start}
 use Rattle.c_meaning_spec.specs.Eval.{eval}
 use Rattle.c_compile.specs.Images.{MeansText}
-use Rattle.grid_engine.specs.Engines.{grid_of}
+use Rattle.grid_cycle.specs.Engines.{grid_of}
 use Rattle.grid_meaning.specs.Meant.{AgreesWith, EndsAsMeant, stands}
 use Rattle.grid_meaning.proofs.running.run_image_at.Goals as goal
 

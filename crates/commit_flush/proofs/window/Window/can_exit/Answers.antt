@@ -2,7 +2,7 @@ use Rattle.std.proofs.Common.{sym}
 use Rattle.commit_flush_spec.specs.Causes.{NoFrame, NotNow}
 use Rattle.commit_flush_spec.specs.Older.{committed}
 use Rattle.commit_flush_spec.specs.Ends.{can_exit}
-use Rattle.commit_flush_order.proofs.FrameFacts.{none_asked}
+use Rattle.commit_flush.proofs.FrameFacts.{none_asked}
 use Rattle.commit_flush.proofs.AskFacts.{told, same_blocks}
 use Rattle.commit_flush.proofs.window.Window.can_exit.Goals as goal
 

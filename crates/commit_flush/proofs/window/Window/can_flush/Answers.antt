@@ -1,7 +1,7 @@
 use Rattle.std.proofs.Common.{sym}
 use Rattle.commit_flush_spec.specs.Causes.{NoFrame, NotNow, Done}
 use Rattle.commit_flush_spec.specs.Older.{committed}
-use Rattle.commit_flush_order.proofs.FrameFacts.{none_asked, no_age}
+use Rattle.commit_flush.proofs.FrameFacts.{none_asked, no_age}
 use Rattle.commit_flush.proofs.AskFacts.{aged}
 use Rattle.commit_flush.proofs.window.Window.can_flush.Goals as goal
 

@@ -4,9 +4,9 @@ use Rattle.commit_flush_spec.specs.Causes.{NoFrame, NotNow}
 use Rattle.commit_flush_spec.specs.Older.{committed}
 use Rattle.commit_flush_spec.specs.Numbered.{seen_at}
 use Rattle.commit_flush_spec.specs.Dataflow.{can_read}
-use Rattle.frame_events.specs.Changes.{IsSeen}
-use Rattle.frame_events.specs.Phases.{answered, frame_in}
-use Rattle.commit_flush_order.proofs.FrameFacts.{none_asked}
+use Rattle.frame_state.specs.Changes.{IsSeen}
+use Rattle.frame_state.specs.Phases.{answered, frame_in}
+use Rattle.commit_flush.proofs.FrameFacts.{none_asked}
 use Rattle.commit_flush.proofs.AskFacts.{asked, same_blocks}
 use Rattle.commit_flush.proofs.LookFacts.{seen_word}
 use Rattle.commit_flush.proofs.window.Window.can_read.Goals as goal

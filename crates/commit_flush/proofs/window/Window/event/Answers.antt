@@ -1,5 +1,5 @@
 use Rattle.std.proofs.Common.{sym, ◌∙◌, [], ◌∷◌}
-use Rattle.frame_events.specs.Events.{as_event}
+use Rattle.frame_state.specs.Events.{as_event}
 use Rattle.commit_flush.proofs.FlushFacts.{flushed_seen, rests_seen, stays_seen, steps_seen}
 use Rattle.commit_flush.proofs.window.Window.event.Goals as goal
 

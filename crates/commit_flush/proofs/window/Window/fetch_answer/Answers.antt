@@ -1,6 +1,6 @@
 use Rattle.std.proofs.Common.{ap, sym, ◌∙◌, true, false, refl, not, ◌==◌, ◌-◌, ◌^◌}
 use Rattle.commit_flush_spec.specs.Older.{follows}
-use Rattle.commit_flush_order.proofs.NumberTests.{is_equal, apart}
+use Rattle.commit_flush.proofs.NumberTests.{is_equal, apart}
 use Rattle.commit_flush.proofs.FetchAsked.{fetch_is, block_past, block_there}
 use Rattle.commit_flush.proofs.window.Window.fetch_answer.Goals as goal
 

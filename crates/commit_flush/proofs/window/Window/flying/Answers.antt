@@ -1,6 +1,6 @@
 use Rattle.std.proofs.Common.{sym, ◌∙◌}
-use Rattle.frame_events.specs.Phases.{is_done}
-use Rattle.commit_flush_order.specs.Places.{frame_of}
+use Rattle.frame_state.specs.Phases.{is_done}
+use Rattle.commit_flush.specs.Places.{frame_of}
 use Rattle.commit_flush.specs.Lent.{IsLent}
 use Rattle.commit_flush.proofs.AskFacts.{same_blocks, told_of}
 use Rattle.commit_flush.proofs.PhaseFacts.{match_map}

@@ -1,5 +1,5 @@
 use Rattle.std.proofs.Common.{sym, ◌∙◌, slice_get}
-use Rattle.frame_events.specs.Phases.{is_done}
+use Rattle.frame_state.specs.Phases.{is_done}
 use Rattle.commit_flush.specs.Lent.{IsLent}
 use Rattle.commit_flush.proofs.AskFacts.{same_blocks, told_of}
 use Rattle.commit_flush.proofs.PhaseFacts.{match_map}

@@ -1,5 +1,5 @@
 use Rattle.std.proofs.Common.{ap, sym, ◌∙◌, slice_get}
-use Rattle.commit_flush_order.specs.Places.{numbers_of}
+use Rattle.commit_flush.specs.Places.{numbers_of}
 use Rattle.commit_flush.specs.Seen.{Seen}
 use Rattle.commit_flush.proofs.SeenFacts.{numbers_seen}
 use Rattle.commit_flush.proofs.window.Window.frame_at.Goals as goal

@@ -1,6 +1,6 @@
 use Rattle.std.proofs.Common.{refl, ◌∙◌, ap, arith, Some, None}
 use Rattle.commit_flush_spec.specs.Older.{covers}
-use Rattle.commit_flush_order.proofs.BankFacts.{age_below}
+use Rattle.commit_flush.proofs.BankFacts.{age_below}
 use Rattle.commit_flush.proofs.StoreTold.{store_found, own_wrong, own_right}
 use Rattle.commit_flush.proofs.window.Window.left_by_store.Goals as goal
 

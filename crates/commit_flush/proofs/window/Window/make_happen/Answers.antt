@@ -1,6 +1,6 @@
 use Rattle.std.proofs.Common.{ap}
 use Rattle.commit_flush_spec.specs.Window as event
-use Rattle.frame_events.specs.Events.{as_event}
+use Rattle.frame_state.specs.Events.{as_event}
 use Rattle.commit_flush.proofs.TryFacts.{happens_done, went_if_done}
 use Rattle.commit_flush.proofs.window.Window.make_happen.Goals as goal
 

@@ -1,4 +1,4 @@
-use Rattle.frame_events.specs.Events.{as_events}
+use Rattle.frame_state.specs.Events.{as_events}
 use Rattle.commit_flush.proofs.FlushFacts.{all_rest_seen, steps_seen}
 use Rattle.commit_flush.proofs.window.Window.play.Goals as goal
 

@@ -1,6 +1,6 @@
 use Rattle.std.proofs.Common.{◌≡◌, take}
 use Rattle.commit_flush_spec.specs.Window.{plays}
-use Rattle.frame_events.specs.Events.{as_events}
+use Rattle.frame_state.specs.Events.{as_events}
 use Rattle.commit_flush.proofs.window.Window.play_each.Given as goal
 
 abbrev pub invariant-loop-e : goal.invariant-loop-e

@@ -1,7 +1,7 @@
 use Rattle.std.proofs.Common.{◌≡◌, ℕ, ◌&&◌, nat_lt}
 use Rattle.commit_flush_spec.specs.Window.{Fire, can}
-use Rattle.frame_events.specs.Events.{is_done}
-use Rattle.bit_rows.specs.Rows.{has_bit}
+use Rattle.frame_state.specs.Events.{is_done}
+use Rattle.base.specs.Rows.{has_bit}
 use Rattle.commit_flush.proofs.window.Window.ready.Given as goal
 
 abbrev pub invariant-loop-slot : goal.invariant-loop-slot

@@ -10,7 +10,7 @@ use Rattle.commit_flush.proofs.MoveFacts.{inside, outside, below}
 use Rattle.commit_flush_spec.specs.Memory.{can_store}
 use Rattle.commit_flush.proofs.CutFacts.{stores_told}
 use Rattle.commit_flush.proofs.StoreTold.{store_found}
-use Rattle.commit_flush_order.specs.Places.{age_of}
+use Rattle.commit_flush.specs.Places.{age_of}
 use Rattle.commit_flush.specs.Seen.{Seen}
 use Rattle.commit_flush_spec.specs.Older.{committed}
 use Rattle.commit_flush.specs.Seen.{flying}

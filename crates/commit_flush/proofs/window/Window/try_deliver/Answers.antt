@@ -3,7 +3,7 @@ use Rattle.commit_flush_spec.specs.Causes.{NoToken, Done, NotNow}
 use Rattle.commit_flush_spec.specs.Frames.{token_places}
 use Rattle.commit_flush_spec.specs.Window as event
 use Rattle.reg_bank.specs.Ages.{at}
-use Rattle.commit_flush_order.specs.Places.{place_of}
+use Rattle.commit_flush.specs.Places.{place_of}
 use Rattle.commit_flush.specs.Tokens.{with_token, AwaitsToken}
 use Rattle.commit_flush.proofs.TryFacts.{answers_deliver, awaits_arrival, came, not_delivered, stayed}
 use Rattle.commit_flush.proofs.TryFacts.{went_inside, told, shown}

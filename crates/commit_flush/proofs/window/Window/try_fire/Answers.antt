@@ -1,7 +1,7 @@
 use Rattle.std.proofs.Common.{sym, ◌∙◌}
 use Rattle.commit_flush_spec.specs.Causes.{NoFrame, NotNow}
 use Rattle.commit_flush_spec.specs.Window as event
-use Rattle.frame_events.specs.Events.{as_happened}
+use Rattle.frame_state.specs.Events.{as_happened}
 use Rattle.commit_flush.proofs.TryFacts.{fired, not_fired, went_inside, told, shown}
 use Rattle.commit_flush_spec.specs.Older.{committed}
 use Rattle.commit_flush.specs.Seen.{flying}

@@ -1,5 +1,5 @@
 use Rattle.std.proofs.Common.{sym, ap, ◌∙◌}
-use Rattle.commit_flush_order.specs.Places.{frame_of}
+use Rattle.commit_flush.specs.Places.{frame_of}
 use Rattle.commit_flush.specs.Observed.{unread_in}
 use Rattle.commit_flush.proofs.BitFacts.{no_bit}
 use Rattle.commit_flush.proofs.ObserveFacts.{idle_unread}

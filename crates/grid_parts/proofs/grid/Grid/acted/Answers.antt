@@ -2,7 +2,7 @@ use Rattle.std.proofs.Common.{drop, length, sym, ap, ◌∙◌, arith}
 use Rattle.std.proofs.lemmas.List.{length-map}
 use Rattle.commit_flush_spec.specs.Frames.{Frame}
 use Rattle.grid_cycle_spec.specs.Acting.{flushed, settled}
-use Rattle.grid_state.specs.Seen.{seen}
+use Rattle.grid_parts.specs.Seen.{seen}
 use Rattle.grid_parts.proofs.FlushFacts.{as_many, behind_few}
 use Rattle.grid_parts.proofs.grid.Grid.acted.Goals as goal
 

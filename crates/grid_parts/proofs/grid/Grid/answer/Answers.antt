@@ -1,6 +1,6 @@
 use Rattle.std.proofs.Common.{cond, ap, ◌∙◌}
 use Rattle.grid_cycle_spec.specs.DataTiles.{store_resolved, load_answered}
-use Rattle.grid_state.specs.Seen.{seen}
+use Rattle.grid_parts.specs.Seen.{seen}
 use Rattle.grid_parts.proofs.FlushFacts.{chosen_none, chosen_some}
 use Rattle.grid_parts.proofs.grid.Grid.answer.Goals as goal
 

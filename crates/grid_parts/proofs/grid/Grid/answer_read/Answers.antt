@@ -3,7 +3,7 @@ use Rattle.commit_flush_spec.specs.Window.{Window, Read, happens}
 use Rattle.grid_cycle_spec.specs.Choosing.{with_frame}
 use Rattle.grid_cycle_spec.specs.Sending.{enter_both}
 use Rattle.grid_cycle_spec.specs.Stations.{bank_node}
-use Rattle.grid_state.specs.Seen.{seen}
+use Rattle.grid_parts.specs.Seen.{seen}
 use Rattle.grid_parts.proofs.grid.Grid.answer_read.Goals as goal
 
 pub returns-clause-change : goal.returns-clause-change

@@ -1,7 +1,7 @@
 use Rattle.std.proofs.Common.{sym, ap, ap₂, ◌∙◌, add-one, arith}
 use Rattle.grid_cycle_spec.specs.Choosing.{each}
 use Rattle.grid_cycle_spec.specs.DataTiles.{data_turn}
-use Rattle.grid_state.specs.Seen.{seen}
+use Rattle.grid_parts.specs.Seen.{seen}
 use Rattle.grid_parts.proofs.grid.Grid.answer_tiles.Goals as goal
 
 pub loop-tile-preserved : goal.loop-tile-preserved

@@ -1,7 +1,7 @@
 use Rattle.std.proofs.Common.{◌≡◌, ◌≤◌, ◌+◌, ◌*◌}
 use Rattle.grid_cycle_spec.specs.Choosing.{each}
 use Rattle.grid_cycle_spec.specs.DataTiles.{data_turn}
-use Rattle.grid_state.specs.Seen.{seen}
+use Rattle.grid_parts.specs.Seen.{seen}
 use Rattle.grid_parts.proofs.grid.Grid.answer_tiles.Given as goal
 
 abbrev pub invariant-loop-tile : goal.invariant-loop-tile

@@ -1,5 +1,5 @@
 use Rattle.std.proofs.Common.{refl, ◌∙◌}
-use Rattle.grid_state.specs.Seen.{seen}
+use Rattle.grid_parts.specs.Seen.{seen}
 use Rattle.grid_parts.proofs.RequestFacts.{none_answered}
 use Rattle.grid_parts.proofs.grid.Grid.answers.Goals as goal
 

@@ -1,7 +1,7 @@
 use Rattle.std.proofs.Common.{sym, ap, ap₂, ◌∙◌}
 use Rattle.block_predict.specs.Predicts.{predicted}
 use Rattle.grid_cycle_spec.specs.Fetches.{begun_guess, begun_predicted}
-use Rattle.grid_state.specs.Seen.{seen}
+use Rattle.grid_parts.specs.Seen.{seen}
 use Rattle.grid_parts.proofs.grid.Grid.begins_guess.Goals as goal
 
 pub returns-in-Some-clause-change : goal.returns-in-Some-clause-change

@@ -2,7 +2,7 @@ use Rattle.std.proofs.Common.{sym, ap, ap₂, ◌∙◌}
 use Rattle.block_predict.specs.Predicts.{entered}
 use Rattle.grid_cycle_spec.specs.Acting.{repaired}
 use Rattle.grid_cycle_spec.specs.Fetches.{begun, stands}
-use Rattle.grid_state.specs.Seen.{seen}
+use Rattle.grid_parts.specs.Seen.{seen}
 use Rattle.grid_parts.proofs.grid.Grid.begins_known.Goals as goal
 
 pub returns-clause-change : goal.returns-clause-change

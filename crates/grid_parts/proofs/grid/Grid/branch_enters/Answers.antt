@@ -1,7 +1,7 @@
 use Rattle.std.proofs.Common.{◌*◌, sym, ap₂, ◌∙◌}
 use Rattle.grid_cycle_spec.specs.Sending.{enters}
-use Rattle.grid_state.specs.Seen.{seen}
-use Rattle.grid_stations.proofs.FrameFacts.{frame_number}
+use Rattle.grid_parts.specs.Seen.{seen}
+use Rattle.grid_parts.proofs.FrameFacts.{frame_number}
 use Rattle.grid_parts.proofs.grid.Grid.branch_enters.Goals as goal
 
 pub returns-clause-change : goal.returns-clause-change

@@ -1,6 +1,6 @@
 use Rattle.std.proofs.Common.{cond, ap, ◌∙◌}
 use Rattle.grid_cycle_spec.specs.Ends.{commit_in}
-use Rattle.grid_state.specs.Seen.{seen}
+use Rattle.grid_parts.specs.Seen.{seen}
 use Rattle.grid_parts.proofs.grid.Grid.commit_oldest.Goals as goal
 
 pub returns-then-can_commit-clause-change : goal.returns-then-can_commit-clause-change

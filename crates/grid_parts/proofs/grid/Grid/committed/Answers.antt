@@ -1,6 +1,6 @@
 use Rattle.std.proofs.Common.{◌∷◌, get_or, ap, ◌∙◌}
 use Rattle.grid_cycle_spec.specs.Ends.{committed_as}
-use Rattle.grid_state.specs.Seen.{seen}
+use Rattle.grid_parts.specs.Seen.{seen}
 use Rattle.grid_parts.proofs.grid.Grid.committed.Goals as goal
 
 pub returns-in-Trap-clause-change : goal.returns-in-Trap-clause-change

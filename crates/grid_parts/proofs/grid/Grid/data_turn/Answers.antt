@@ -1,6 +1,6 @@
 use Rattle.std.proofs.Common.{ap, ◌∙◌}
 use Rattle.grid_cycle_spec.specs.DataTiles.{answer_chosen}
-use Rattle.grid_state.specs.Seen.{seen}
+use Rattle.grid_parts.specs.Seen.{seen}
 use Rattle.grid_parts.proofs.grid.Grid.data_turn.Goals as goal
 
 pub returns-in-Some-clause-change : goal.returns-in-Some-clause-change

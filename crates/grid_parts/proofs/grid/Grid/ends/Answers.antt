@@ -1,6 +1,6 @@
 use Rattle.std.proofs.Common.{ap, ap₂, ◌∙◌}
 use Rattle.grid_cycle_spec.specs.Ends.{commit_oldest, seal_each}
-use Rattle.grid_state.specs.Seen.{seen}
+use Rattle.grid_parts.specs.Seen.{seen}
 use Rattle.grid_parts.proofs.grid.Grid.ends.Goals as goal
 
 pub returns-clause-change : goal.returns-clause-change

@@ -1,5 +1,5 @@
 use Rattle.std.proofs.Common.{sym, ◌∙◌}
-use Rattle.grid_state.specs.Seen.{seen}
+use Rattle.grid_parts.specs.Seen.{seen}
 use Rattle.grid_parts.proofs.FetchFacts.{begins_idle, begins_full, begins_busy}
 use Rattle.grid_parts.proofs.grid.Grid.fetch_begins.Goals as goal
 

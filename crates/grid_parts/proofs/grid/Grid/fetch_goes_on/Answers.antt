@@ -2,7 +2,7 @@ use Rattle.std.proofs.Common.{refl, sym, ap, ◌∙◌, arith}
 use Rattle.commit_flush_spec.specs.Window.{Fetch}
 use Rattle.grid_cycle_spec.specs.Acting.{may}
 use Rattle.grid_cycle_spec.specs.Fetches.{fetch_ends, fill_where}
-use Rattle.grid_state.specs.Seen.{seen}
+use Rattle.grid_parts.specs.Seen.{seen}
 use Rattle.grid_parts.proofs.FetchFacts.{IsDue, is_due, in_time, not_due}
 use Rattle.grid_parts.proofs.grid.Grid.fetch_goes_on.Goals as goal
 

@@ -1,5 +1,5 @@
 use Rattle.std.proofs.Common.{arith}
-use Rattle.grid_state.specs.Seen.{seen}
+use Rattle.grid_parts.specs.Seen.{seen}
 use Rattle.grid_parts.proofs.FlushFacts.{numbers_behind, none_behind, as_many}
 use Rattle.grid_parts.proofs.grid.Grid.flush_behind.Goals as goal
 

@@ -3,8 +3,8 @@ use Rattle.trips_isa.specs.Forms.{form_of}
 use Rattle.block_cases.specs.Orders.{slot_of}
 use Rattle.commit_flush_spec.specs.Frames.{Frame}
 use Rattle.grid_cycle_spec.specs.Units.{result_enters}
-use Rattle.grid_state.specs.Seen.{seen}
-use Rattle.grid_stations.specs.Asked.{frame_of, found_in, block_of}
+use Rattle.grid_parts.specs.Seen.{seen}
+use Rattle.grid_parts.specs.Asked.{frame_of, found_in, block_of}
 use Rattle.grid_parts.proofs.UnitFacts.{some_frame, no_frame, given_none, given_rest, given}
 use Rattle.grid_parts.proofs.grid.Grid.give.Goals as goal
 

@@ -1,6 +1,6 @@
 use Rattle.std.proofs.Common.{sym, ap, ◌∙◌}
 use Rattle.grid_cycle_spec.specs.Units.{result_chosen}
-use Rattle.grid_state.specs.Seen.{seen}
+use Rattle.grid_parts.specs.Seen.{seen}
 use Rattle.grid_parts.proofs.grid.Grid.gives.Goals as goal
 
 pub returns-in-Some-clause-change : goal.returns-in-Some-clause-change

@@ -1,6 +1,6 @@
 use Rattle.std.proofs.Common.{sym, ap, ◌∙◌}
 use Rattle.grid_cycle_spec.specs.Units.{issue_chosen}
-use Rattle.grid_state.specs.Seen.{seen}
+use Rattle.grid_parts.specs.Seen.{seen}
 use Rattle.grid_parts.proofs.UnitFacts.{issues_free, issues_busy}
 use Rattle.grid_parts.proofs.grid.Grid.issues.Goals as goal
 

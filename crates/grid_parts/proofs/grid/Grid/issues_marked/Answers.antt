@@ -1,4 +1,4 @@
-use Rattle.grid_state.specs.Seen.{seen}
+use Rattle.grid_parts.specs.Seen.{seen}
 use Rattle.grid_parts.proofs.MarkedFacts.{not_issued}
 use Rattle.grid_parts.proofs.grid.Grid.issues_marked.Goals as goal
 

@@ -4,7 +4,7 @@ use Rattle.grid_cycle_spec.specs.Choosing.{with_frame}
 use Rattle.grid_cycle_spec.specs.DataTiles.{unasked}
 use Rattle.grid_cycle_spec.specs.Sending.{enter_both}
 use Rattle.grid_cycle_spec.specs.Stations.{data_node}
-use Rattle.grid_state.specs.Seen.{seen}
+use Rattle.grid_parts.specs.Seen.{seen}
 use Rattle.grid_parts.proofs.FlushFacts.{frame_counts}
 use Rattle.grid_parts.proofs.grid.Grid.load_answered.Goals as goal
 

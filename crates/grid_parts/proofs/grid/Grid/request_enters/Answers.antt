@@ -1,8 +1,8 @@
 use Rattle.std.proofs.Common.{◌*◌, sym, ap, ap₂, ◌∙◌}
 use Rattle.grid_cycle_spec.specs.Sending.{enters}
 use Rattle.grid_cycle_spec.specs.Stations.{data_node}
-use Rattle.grid_state.specs.Seen.{seen}
-use Rattle.grid_stations.proofs.FrameFacts.{frame_number}
+use Rattle.grid_parts.specs.Seen.{seen}
+use Rattle.grid_parts.proofs.FrameFacts.{frame_number}
 use Rattle.grid_parts.proofs.grid.Grid.request_enters.Goals as goal
 
 pub returns-clause-change : goal.returns-clause-change

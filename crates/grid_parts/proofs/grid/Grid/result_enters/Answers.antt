@@ -1,6 +1,6 @@
 use Rattle.std.proofs.Common.{ap, ◌∙◌}
 use Rattle.grid_cycle_spec.specs.Units.{result_enters}
-use Rattle.grid_state.specs.Seen.{seen}
+use Rattle.grid_parts.specs.Seen.{seen}
 use Rattle.grid_parts.proofs.grid.Grid.result_enters.Goals as goal
 
 pub returns-in-Load-clause-change : goal.returns-in-Load-clause-change

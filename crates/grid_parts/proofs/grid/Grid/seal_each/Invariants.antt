@@ -1,6 +1,6 @@
 use Rattle.std.proofs.Common.{◌≡◌, drop}
 use Rattle.grid_cycle_spec.specs.Ends.{seal_each}
-use Rattle.grid_state.specs.Seen.{seen}
+use Rattle.grid_parts.specs.Seen.{seen}
 use Rattle.grid_parts.proofs.grid.Grid.seal_each.Given as goal
 
 abbrev pub invariant-loop-n : goal.invariant-loop-n

@@ -1,7 +1,7 @@
 use Rattle.std.proofs.Common.{◌==◌, cond, ap, ◌∙◌}
 use Rattle.commit_flush_spec.specs.Window.{Seal, happens}
 use Rattle.grid_cycle_spec.specs.Grid.{forget}
-use Rattle.grid_state.specs.Seen.{seen}
+use Rattle.grid_parts.specs.Seen.{seen}
 use Rattle.grid_parts.proofs.grid.Grid.seal_one.Goals as goal
 
 pub returns-then-can_seal-clause-change : goal.returns-then-can_seal-clause-change

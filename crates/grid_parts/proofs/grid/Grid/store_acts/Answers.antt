@@ -1,7 +1,7 @@
 use Rattle.std.proofs.Common.{length, drop, sym, ap, ◌∙◌, arith}
 use Rattle.grid_cycle_spec.specs.Acting.{flushed, settled}
 use Rattle.grid_cycle_spec.specs.DataTiles.{unasked}
-use Rattle.grid_state.specs.Seen.{seen}
+use Rattle.grid_parts.specs.Seen.{seen}
 use Rattle.grid_parts.proofs.grid.Grid.store_acts.Goals as goal
 
 pub returns-clause-change : goal.returns-clause-change

@@ -2,7 +2,7 @@ use Rattle.std.proofs.Common.{Some, sym, ap, ◌∙◌, arith}
 use Rattle.commit_flush_spec.specs.Window.{Store}
 use Rattle.grid_cycle_spec.specs.Acting.{act}
 use Rattle.grid_cycle_spec.specs.DataTiles.{unasked, waits_now}
-use Rattle.grid_state.specs.Seen.{seen}
+use Rattle.grid_parts.specs.Seen.{seen}
 use Rattle.grid_parts.proofs.grid.Grid.store_resolved.Goals as goal
 
 pub returns-in-Some-clause-change : goal.returns-in-Some-clause-change

@@ -1,7 +1,7 @@
 use Rattle.std.proofs.Common.{◌*◌, ap, ◌∙◌}
 use Rattle.grid_cycle_spec.specs.Sending.{enter_both}
-use Rattle.grid_state.specs.Seen.{seen}
-use Rattle.grid_stations.proofs.FrameFacts.{by_frame, with_frame_is}
+use Rattle.grid_parts.specs.Seen.{seen}
+use Rattle.grid_parts.proofs.FrameFacts.{by_frame, with_frame_is}
 use Rattle.grid_parts.proofs.grid.Grid.tokens_enter.Goals as goal
 
 pub returns-clause-change : goal.returns-clause-change

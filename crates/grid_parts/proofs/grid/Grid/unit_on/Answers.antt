@@ -1,5 +1,5 @@
 use Rattle.std.proofs.Common.{ap, ◌∙◌, sym, refl}
-use Rattle.grid_state.specs.Seen.{seen}
+use Rattle.grid_parts.specs.Seen.{seen}
 use Rattle.grid_parts.proofs.UnitFacts.{result_given, last_cycle, other_cycle}
 use Rattle.grid_parts.proofs.grid.Grid.unit_on.Goals as goal
 

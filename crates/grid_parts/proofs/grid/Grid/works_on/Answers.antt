@@ -1,7 +1,7 @@
 use Rattle.std.proofs.Common.{◌≡◌, sym, ap, ap₂, ◌∙◌, add-one, arith}
 use Rattle.grid_cycle_spec.specs.Choosing.{each}
 use Rattle.grid_cycle_spec.specs.Units.{issues, unit_turn}
-use Rattle.grid_state.specs.Seen.{seen}
+use Rattle.grid_parts.specs.Seen.{seen}
 use Rattle.grid_parts.proofs.MarkedFacts.{slots_moved, slots_kept}
 use Rattle.grid_parts.proofs.grid.Grid.works_on.Goals as goal
 

@@ -1,0 +1,7 @@
+use Rattle.std.proofs.Common.{ap, ◌∙◌}
+use Rattle.base.specs.Rows.{flags}
+use Rattle.base.proofs.FlagFacts.{none_set}
+use Rattle.base.proofs.flags.Flags.none.Goals as goal
+
+pub returns : goal.returns
+returns g c = ap (flags g.row.N) c.zeros.ensures ∙ none_set g.row.N g.row.W

@@ -1,0 +1,5 @@
+use Rattle.c_compile_blocks.proofs.LimitPrograms.{only_memory}
+use Rattle.c_compile_blocks.proofs.limit_laws.only_memory_refuses.Goals as goal
+
+pub returns : goal.returns
+returns c = only_memory

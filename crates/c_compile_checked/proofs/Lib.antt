@@ -1,2 +1,0 @@
-pub mod MovedBack
-pub mod Passed

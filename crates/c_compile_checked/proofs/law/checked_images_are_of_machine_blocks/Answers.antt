@@ -1,5 +1,0 @@
-use Rattle.c_compile_checked.proofs.Passed.{are_checked}
-use Rattle.c_compile_checked.proofs.law.checked_images_are_of_machine_blocks.Goals as goal
-
-pub returns : goal.returns
-returns c = are_checked

@@ -1,0 +1,33 @@
+-- From the filled if-items to the guarded instructions of a machine block.
+use Rattle.std.proofs.Common.{◌≡◌, ◌-◌, ◌≤◌, List, length, map, replicate, Option, None, ap, ◌∙◌, arith}
+use Rattle.std.proofs.Common.{length-append}
+use Rattle.std.proofs.lemmas.List.{length-map, length-replicate}
+use Rattle.trips_isa.specs.declared.block.Inst.{Inst}
+use Rattle.predication.specs.Converted.{predicated}
+use Rattle.null_outputs.specs.Wants.{complete}
+use Rattle.fan_out.specs.declared.wiring.Placed.{Placed}
+use Rattle.fan_out.specs.Targeted.{slots, slot_of, filled}
+use Rattle.c_compile_laws.specs.GuardLaws.{MachinesGuarded}
+use Rattle.c_compile_laws.proofs.NodeCounts.{completes_sensed}
+use Rattle.c_compile_laws.proofs.Conversions.{converts_sensed}
+use Rattle.c_compile_laws.proofs.Targets.{targets_sensed}
+use Rattle.c_compile_laws.proofs.Placings.{places}
+
+-- a machine block that holds all instructions has 128 slots
+all_slots : (ps : List Placed) → length ps ≤ 128 → length (filled ps) ≡ 128
+all_slots ps few =
+    let rest : List (Option Inst) = replicate (128 - length ps) None in
+    let a = length-append (map slot_of ps) rest in
+    let b = length-map ps slot_of in
+    let c : length rest ≡ 128 - length ps = length-replicate (128 - length ps) None in
+    omega (arith, few, a, b, c)
+
+pub machines : MachinesGuarded
+machines p q b t u fits room is permutes moved =
+    let a = converts_sensed b fits in
+    let c = completes_sensed (predicated b) in
+    let d = targets_sensed (complete (predicated b)) t is in
+    let size : length t.insts.items ≡ 128 =
+    ap (λ (l : List (Option Inst)). length l) is.insts ∙ all_slots (slots (complete (predicated b))) room.insts in
+    let e = places p q t u permutes size moved in
+    omega (arith, a, c, d, e)

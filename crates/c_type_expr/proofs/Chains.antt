@@ -1,0 +1,401 @@
+-- What the chains find.
+use Rattle.std.proofs.Common.{◌≡◌, ℕ, zero, suc, ◌+◌, ◌-◌, ◌<◌, ◌≤◌, Bool, true, false, cond, List}
+use Rattle.std.proofs.Common.{[], ◌∷◌, ◌++◌, length, take, drop, get_or, set, reverse, Option, Some}
+use Rattle.std.proofs.Common.{None, refl, sym, ap, ◌∙◌, subst, arith, replicate, ◌⊎◌, inl, inr}
+use Rattle.std.specs.Prelude.{nat_eq, IsTrue, ◌↔◌}
+use Rattle.std.proofs.lemmas.List.{reverse-append, length-reverse, length-take-le, take-append-drop}
+use Rattle.std.proofs.lemmas.List.{length-drop, take_all, take_more, take-take, take_more_set}
+use Rattle.std.proofs.lemmas.List.{get_or-set_same}
+use Rattle.std.proofs.lemmas.List.{get_or-set_other, get_or_past, length-set, map-set, set-get_or}
+use Rattle.std.proofs.lemmas.List.{get_or-map, map-append, take_at}
+use Rattle.std.proofs.lemmas.Nat.{and_le_r}
+use Rattle.std.proofs.lemmas.Bool.{cases_lt, eqb-true, eqb-false, eq-eqb}
+use native.Mathlib.Numerals.{unary_clauses}
+use Rattle.std.proofs.Math.Seq.{drop-append_seam}
+use Rattle.std.specs.Cmp.Lexicographic.{bytes_decides}
+use Rattle.c_type_expr.specs.declared.meaning.Entry.{Entry}
+use Rattle.c_type_expr.specs.declared.meaning.Binding.{Binding}
+use Rattle.c_type_expr.specs.Scope.{Frame, same_name}
+use Rattle.c_type_expr.specs.Frames.{bindings, place_in}
+use Rattle.c_type_expr.specs.Chains.{chain_of, number_of, head_in, Chained, KeptIn, Kept}
+
+-- one more than a place, 0 for none
+abbrev pub above : Option ℕ → ℕ
+above None = 0
+above (Some i) = suc i
+
+-- is the entry of a chain?
+abbrev is_of : ℕ → Entry → ℕ → Bool
+is_of n e k = nat_eq (chain_of n e.binding.name) k
+
+above_in : (n : ℕ) (es : List Entry) (k : ℕ) → above (head_in n es k) ≤ length es
+above_in n [] k = omega arith
+above_in n (e ∷ es) k = by (above_in n es k) (is_of n e k) refl
+  where
+    by : above (head_in n es k) ≤ length es → (b : Bool) → is_of n e k ≡ b
+        → above (head_in n (e ∷ es) k) ≤ length (e ∷ es)
+    by rec true p =
+        subst (λ o. above o ≤ length (e ∷ es))
+        (sym (ap (λ b. cond b (Some (length es)) (head_in n es k)) p)) (omega arith)
+    by rec false p =
+        subst (λ o. above o ≤ length (e ∷ es))
+        (sym (ap (λ b. cond b (Some (length es)) (head_in n es k)) p)) (omega (arith, rec))
+
+true_false : (b : Bool) → b ≡ true → b ≡ false → ⊥
+true_false b p q = cc
+
+-- an entry of another chain has another name
+other_name : (n : ℕ) (e : Entry) (q : List ℕ) → is_of n e (chain_of n q) ≡ false
+    → same_name e.binding.name q ≡ false
+other_name n e q p = by (same_name e.binding.name q) refl
+  where
+    by : (b : Bool) → same_name e.binding.name q ≡ b → same_name e.binding.name q ≡ false
+    by false s = s
+    by true s =
+        absurd (true_false (is_of n e (chain_of n q))
+        (subst (λ w. nat_eq (chain_of n e.binding.name) (chain_of n w) ≡ true)
+        ((bytes_decides e.binding.name q).0 s)
+        (eq-eqb (chain_of n e.binding.name) (chain_of n e.binding.name) refl)) p)
+
+-- a name is found from the head of its chain on, as from the newest entry on
+module _ (n : ℕ) (q : List ℕ) where
+  abbrev rest_at : List Entry → Option ℕ → List Entry
+  rest_at es o = drop (length es - above o) es
+
+  abbrev head : List Entry → Option ℕ
+  head es = head_in n es (chain_of n q)
+
+  record Skips (es rest : List Entry) : Type 0 where
+    head_there : head rest ≡ head es
+    place_there : place_in rest q ≡ place_in es q
+
+  skips : (es : List Entry) → Skips es (rest_at es (head es))
+  skips [] = record { head_there = refl; place_there = refl }
+  skips (e ∷ es) = by (skips es) (is_of n e (chain_of n q)) refl
+    where
+      by : Skips es (rest_at es (head es)) → (b : Bool) → is_of n e (chain_of n q) ≡ b
+          → Skips (e ∷ es) (rest_at (e ∷ es) (head (e ∷ es)))
+      by rec true p =
+          let h : head (e ∷ es) ≡ Some (length es) =
+          ap (λ b. cond b (Some (length es)) (head es)) p in
+          let z : length (e ∷ es) - suc (length es) ≡ zero = omega arith in
+          subst (λ o. Skips (e ∷ es) (rest_at (e ∷ es) o)) (sym h)
+          (subst (λ m. Skips (e ∷ es) (drop m (e ∷ es))) (sym z)
+          (record { head_there = refl; place_there = refl }))
+      by rec false p =
+          let h : head (e ∷ es) ≡ head es = ap (λ b. cond b (Some (length es)) (head es)) p in
+          let s : length (e ∷ es) - above (head es) ≡ suc (length es - above (head es)) =
+          omega (arith, above_in n es (chain_of n q)) in
+          subst (λ o. Skips (e ∷ es) (rest_at (e ∷ es) o)) (sym h)
+          (subst (λ m. Skips (e ∷ es) (drop m (e ∷ es))) (sym s)
+          (record {
+            head_there = rec.head_there ∙ sym h;
+            place_there = rec.place_there
+                ∙ sym (ap (λ b. cond b (Some (length es)) (place_in es q)) (other_name n e q p));
+          }))
+
+-- the older entries come first in memory
+pub drop_reversed : (n : ℕ) (xs : List Entry) → n ≤ length xs
+    → drop (length xs - n) (reverse xs) ≡ reverse (take n xs)
+drop_reversed n xs le =
+    let a : reverse xs ≡ reverse (drop n xs) ++ reverse (take n xs) =
+    ap reverse (sym (take-append-drop n xs)) ∙ reverse-append (take n xs) (drop n xs) in
+    let l : length (reverse (drop n xs)) ≡ length xs - n =
+    length-reverse (drop n xs) ∙ length-drop n xs in
+    ap (λ (l : List Entry). drop (length xs - n) l) a
+    ∙ ap (λ (m : ℕ). drop m (reverse (drop n xs) ++ reverse (take n xs))) (sym l)
+    ∙ drop-append_seam (reverse (drop n xs)) (reverse (take n xs))
+
+pub backward : (xs ys : List Entry) (e : Entry) → xs ≡ ys ++ e ∷ [] → reverse xs ≡ e ∷ reverse ys
+backward xs ys e h = ap reverse h ∙ reverse-append ys (e ∷ [])
+
+-- what a walk through the chain of a name has found out so far
+pub record Walk (n : ℕ) (xs : List Entry) (q : List ℕ) (next : Option ℕ) : Type 0 where
+  pub within : above next ≤ length xs
+  pub is_head : next ≡ head_in n (reverse (take (above next) xs)) (chain_of n q)
+  pub places : place_in (reverse xs) q ≡ place_in (reverse (take (above next) xs)) q
+
+-- a walk goes on from the head of the chain among the oldest entries
+walk_at : (n : ℕ) (xs : List Entry) (q : List ℕ) (m : ℕ) (next : Option ℕ) → m ≤ length xs
+    → next ≡ head_in n (reverse (take m xs)) (chain_of n q)
+    → place_in (reverse xs) q ≡ place_in (reverse (take m xs)) q → Walk n xs q next
+walk_at n xs q m next le h places =
+    let part : List Entry = take m xs in
+    let es : List Entry = reverse part in
+    let lp : length part ≡ m = length-take-le m xs le in
+    let l : length es ≡ m = length-reverse part ∙ lp in
+    let s : Skips n q es (drop (length es - above (head_in n es (chain_of n q))) es) =
+    skips n q es in
+    let a : above next ≤ m =
+    omega (arith, subst (λ o. above o ≤ length es) (sym h) (above_in n es (chain_of n q)), l) in
+    let rest : drop (length es - above (head_in n es (chain_of n q))) es
+    ≡ reverse (take (above next) xs) =
+    ap (λ (o : Option ℕ). drop (length es - above o) es) (sym h)
+    ∙ ap (λ (k : ℕ). drop (k - above next) es) (l ∙ sym lp)
+    ∙ drop_reversed (above next) part (omega (arith, a, lp))
+    ∙ ap (λ (t : List Entry). reverse t) (take-take (above next) m xs a) in
+    let t : Skips n q es (reverse (take (above next) xs)) =
+    subst (λ (r : List Entry). Skips n q es r) rest s in
+    record {
+      within = omega (arith, a, le);
+      is_head = h ∙ sym t.head_there;
+      places = places ∙ sym t.place_there;
+    }
+
+pub walk_begins : (n : ℕ) (xs : List Entry) (heads : List (Option ℕ)) (q : List ℕ) (next : Option ℕ)
+    → KeptIn n (reverse xs) heads → next ≡ get_or heads (chain_of n q) None → Walk n xs q next
+walk_begins n xs heads q next k h =
+    let all : take (length xs) xs ≡ xs = take_all (length xs) xs (omega arith) in
+    walk_at n xs q (length xs) next (omega arith)
+    (h ∙ k.finds (chain_of n q)
+    ∙ ap (λ (t : List Entry). head_in n (reverse t) (chain_of n q)) (sym all))
+    (ap (λ (t : List Entry). place_in (reverse t) q) (sym all))
+
+-- an entry within the entries, with the older ones behind it
+at_place : (xs : List Entry) (i : ℕ) (d : Entry) → i < length xs
+    → reverse (take (suc i) xs) ≡ get_or xs i d ∷ reverse (take i xs)
+at_place xs i d lt =
+    backward (take (suc i) xs) (take i xs) (get_or xs i d)
+    (simp unary_clauses at (take_more xs i d lt))
+
+chained_drop : (n m : ℕ) (es : List Entry) → Chained n es → Chained n (drop m es)
+chained_drop n zero es c = c
+chained_drop n (suc m) [] c = tt
+chained_drop n (suc m) (e ∷ es) c = chained_drop n m es c.1
+
+chained_at : (n : ℕ) (xs : List Entry) (i : ℕ) (d : Entry) → i < length xs → Chained n (reverse xs)
+    → (get_or xs i d).older
+    ≡ head_in n (reverse (take i xs)) (chain_of n (get_or xs i d).binding.name)
+chained_at n xs i d lt c =
+    (subst (λ (es : List Entry). Chained n es)
+    (drop_reversed (suc i) xs (omega (arith, lt)) ∙ at_place xs i d lt)
+    (chained_drop n (length xs - suc i) (reverse xs) c)).0
+
+-- the head of a chain is of the chain
+head_is_of : (n : ℕ) (e : Entry) (es : List Entry) (k : ℕ) (i : ℕ) → length es ≡ i
+    → Some i ≡ head_in n (e ∷ es) k → chain_of n e.binding.name ≡ k
+head_is_of n e es k i l h = by (is_of n e k) refl
+  where
+    by : (b : Bool) → is_of n e k ≡ b → chain_of n e.binding.name ≡ k
+    by true p = eqb-true (chain_of n e.binding.name) k p
+    by false p =
+        let o : Some i ≡ head_in n es k =
+        h ∙ ap (λ b. cond b (Some (length es)) (head_in n es k)) p in
+        let a : suc i ≤ length es = subst (λ o. above o ≤ length es) (sym o) (above_in n es k) in
+        absurd (omega (arith, a, l))
+
+pub walk_goes_on : (n : ℕ) (xs : List Entry) (q : List ℕ) (i : ℕ) (d : Entry)
+    → Walk n xs q (Some i) → Chained n (reverse xs)
+    → same_name (get_or xs i d).binding.name q ≡ false → Walk n xs q (get_or xs i d).older
+walk_goes_on n xs q i d w c other =
+    let e : Entry = get_or xs i d in
+    let lt : i < length xs = omega (arith, w.within) in
+    let es : List Entry = reverse (take i xs) in
+    let l : length es ≡ i = length-reverse (take i xs) ∙ length-take-le i xs (omega (arith, lt)) in
+    let at : reverse (take (suc i) xs) ≡ e ∷ es = at_place xs i d lt in
+    let k : chain_of n e.binding.name ≡ chain_of n q =
+    head_is_of n e es (chain_of n q) i l
+    (w.is_head ∙ ap (λ (t : List Entry). head_in n t (chain_of n q)) at) in
+    walk_at n xs q i e.older (omega (arith, lt))
+    (chained_at n xs i d lt c ∙ ap (λ (k : ℕ). head_in n es k) k)
+    (w.places ∙ ap (λ (t : List Entry). place_in t q) at
+    ∙ ap (λ b. cond b (Some (length es)) (place_in es q)) other)
+
+pub walk_finds : (n : ℕ) (xs : List Entry) (q : List ℕ) (i : ℕ) (d : Entry)
+    → Walk n xs q (Some i) → same_name (get_or xs i d).binding.name q ≡ true
+    → Some i ≡ place_in (reverse xs) q
+walk_finds n xs q i d w same =
+    let e : Entry = get_or xs i d in
+    let lt : i < length xs = omega (arith, w.within) in
+    let es : List Entry = reverse (take i xs) in
+    let l : length es ≡ i = length-reverse (take i xs) ∙ length-take-le i xs (omega (arith, lt)) in
+    sym (w.places ∙ ap (λ (t : List Entry). place_in t q) (at_place xs i d lt)
+    ∙ ap (λ b. cond b (Some (length es)) (place_in es q)) same ∙ ap (λ (m : ℕ). Some m) l)
+
+pub walk_ends : (n : ℕ) (xs : List Entry) (q : List ℕ) → Walk n xs q None
+    → None ≡ place_in (reverse xs) q
+walk_ends n xs q w = sym w.places
+
+-- the next entry of a chain is older
+pub walk_falls : (n : ℕ) (xs : List Entry) (q : List ℕ) (i : ℕ) (d : Entry) → Walk n xs q (Some i)
+    → Chained n (reverse xs) → above (get_or xs i d).older < above (Some i)
+walk_falls n xs q i d w c =
+    let lt : i < length xs = omega (arith, w.within) in
+    let es : List Entry = reverse (take i xs) in
+    let l : length es ≡ i = length-reverse (take i xs) ∙ length-take-le i xs (omega (arith, lt)) in
+    let a : above (get_or xs i d).older ≤ length es =
+    subst (λ o. above o ≤ length es) (sym (chained_at n xs i d lt c))
+    (above_in n es (chain_of n (get_or xs i d).binding.name)) in
+    omega (arith, a, l)
+
+-- no entry at all
+abbrev pub no_place : Option ℕ
+no_place = None
+
+all_none : (n k : ℕ) → get_or (replicate n no_place) k no_place ≡ no_place
+all_none zero k = refl
+all_none (suc n) zero = refl
+all_none (suc n) (suc k) = all_none n k
+
+pub no_entry : (n : ℕ) → KeptIn n [] (replicate n no_place)
+no_entry n = record { chained = tt; finds = all_none n }
+
+-- there is a chain for each name
+pub within_chains : (n : ℕ) (q : List ℕ) → 0 < n → chain_of n q < n
+unfolding chain_of
+within_chains n q lt = omega (arith, and_le_r (number_of q) (n - 1))
+
+-- an entry more
+pub linked : (n : ℕ) (e : Entry) (es : List Entry) (heads : List (Option ℕ)) (at : ℕ)
+    → KeptIn n es heads → chain_of n e.binding.name < length heads → at ≡ length es
+    → e.older ≡ get_or heads (chain_of n e.binding.name) None
+    → KeptIn n (e ∷ es) (set heads (chain_of n e.binding.name) (Some at))
+linked n e es heads at kept lt a older = record {
+  chained = (older ∙ kept.finds (chain_of n e.binding.name), kept.chained);
+  finds = λ k. by k (is_of n e k) refl;
+}
+  where
+    by : (k : ℕ) (b : Bool) → is_of n e k ≡ b
+        → get_or (set heads (chain_of n e.binding.name) (Some at)) k None ≡ head_in n (e ∷ es) k
+    by k true p =
+        ap (λ (j : ℕ). get_or (set heads (chain_of n e.binding.name) (Some at)) j None)
+        (sym (eqb-true (chain_of n e.binding.name) k p))
+        ∙ get_or-set_same heads (chain_of n e.binding.name) (Some at) None lt
+        ∙ ap (λ (m : ℕ). Some m) a
+        ∙ sym (ap (λ b. cond b (Some (length es)) (head_in n es k)) p)
+    by k false p =
+        get_or-set_other heads (chain_of n e.binding.name) k (Some at) None
+        (λ j. eqb-false (chain_of n e.binding.name) k p (sym j))
+        ∙ kept.finds k ∙ sym (ap (λ b. cond b (Some (length es)) (head_in n es k)) p)
+
+-- the newest entry's chain has a head
+pub has_head : (n : ℕ) (e : Entry) (es : List Entry) (heads : List (Option ℕ))
+    → KeptIn n (e ∷ es) heads → chain_of n e.binding.name < length heads
+has_head n e es heads kept = by (cases_lt (chain_of n e.binding.name) (length heads))
+  where
+    by : (chain_of n e.binding.name < length heads) ⊎ (length heads ≤ chain_of n e.binding.name)
+        → chain_of n e.binding.name < length heads
+    by (inl lt) = lt
+    by (inr ge) =
+        let some : Some (length es) ≡ None =
+        sym (ap (λ b. cond b (Some (length es)) (head_in n es (chain_of n e.binding.name)))
+        (eq-eqb (chain_of n e.binding.name) (chain_of n e.binding.name) refl))
+        ∙ sym (kept.finds (chain_of n e.binding.name))
+        ∙ get_or_past heads (chain_of n e.binding.name) None ge in absurd (cc)
+
+-- an entry less
+pub unlinked : (n : ℕ) (e : Entry) (es : List Entry) (heads : List (Option ℕ))
+    → KeptIn n (e ∷ es) heads → KeptIn n es (set heads (chain_of n e.binding.name) e.older)
+unlinked n e es heads kept = record {
+  chained = kept.chained.1;
+  finds = λ k. by k (is_of n e k) refl;
+}
+  where
+    by : (k : ℕ) (b : Bool) → is_of n e k ≡ b
+        → get_or (set heads (chain_of n e.binding.name) e.older) k None ≡ head_in n es k
+    by k true p =
+        let j : chain_of n e.binding.name ≡ k = eqb-true (chain_of n e.binding.name) k p in
+        ap (λ (j : ℕ). get_or (set heads (chain_of n e.binding.name) e.older) j None) (sym j)
+        ∙ get_or-set_same heads (chain_of n e.binding.name) e.older None
+        (has_head n e es heads kept)
+        ∙ kept.chained.0 ∙ ap (λ (j : ℕ). head_in n es j) j
+    by k false p =
+        get_or-set_other heads (chain_of n e.binding.name) k e.older None
+        (λ j. eqb-false (chain_of n e.binding.name) k p (sym j))
+        ∙ kept.finds k ∙ ap (λ b. cond b (Some (length es)) (head_in n es k)) p
+
+-- the number of the heads stays
+pub same_count : (es : List Entry) (heads : List (Option ℕ)) (k : ℕ) (o : Option ℕ)
+    → KeptIn (length heads) es (set heads k o) → Kept es (set heads k o)
+same_count es heads k o kept =
+    subst (λ (n : ℕ). KeptIn n es (set heads k o)) (sym (length-set heads k o)) kept
+
+pub bindings_reversed : (xs : List Entry) → bindings (reverse xs) ≡ reverse (bindings xs)
+bindings_reversed [] = refl
+bindings_reversed (e ∷ es) =
+    ap (λ (l : List Entry). bindings l) (reverse-append (e ∷ []) es)
+    ∙ map-append (λ (e : Entry). e.binding) (reverse es) (e ∷ [])
+    ∙ ap (λ (l : Frame). l ++ e.binding ∷ []) (bindings_reversed es)
+    ∙ sym (reverse-append (e.binding ∷ []) (bindings es))
+
+-- another link changes no binding
+pub relinked : (xs : List Entry) (i : ℕ) (e d : Entry) → i < length xs
+    → e.binding ≡ (get_or xs i d).binding → bindings (set xs i e) ≡ bindings xs
+relinked xs i e d lt same =
+    map-set (λ (e : Entry). e.binding) xs i e
+    ∙ ap (λ (b : Binding). set (bindings xs) i b)
+    (same ∙ sym (get_or-map (λ (e : Entry). e.binding) xs i d e.binding lt))
+    ∙ set-get_or (bindings xs) i e.binding
+
+-- the next entry is linked in its place
+pub linked_at : (n : ℕ) (xs : List Entry) (i : ℕ) (e : Entry) (q : List ℕ)
+    (heads new : List (Option ℕ)) → i < length xs → 0 < n → length heads ≡ n → q ≡ e.binding.name
+    → KeptIn n (reverse (take i xs)) heads
+    → e.older ≡ get_or heads (chain_of (length heads) q) None
+    → new ≡ set heads (chain_of (length heads) q) (Some i)
+    → KeptIn n (reverse (take (i + 1) (set xs i e))) new
+linked_at n xs i e q heads new lt some l name kept older is =
+    let es : List Entry = reverse (take i xs) in
+    let at : reverse (take (i + 1) (set xs i e)) ≡ e ∷ es =
+    backward (take (i + 1) (set xs i e)) (take i xs) e (take_more_set xs i e lt) in
+    let k : chain_of (length heads) q ≡ chain_of n e.binding.name =
+    ap (λ (m : ℕ). chain_of m q) l ∙ ap (λ (w : List ℕ). chain_of n w) name in
+    let li : i ≡ length es =
+    sym (length-reverse (take i xs) ∙ length-take-le i xs (omega (arith, lt))) in
+    subst (λ (t : List Entry). KeptIn n t new) (sym at)
+    (subst (λ (h : List (Option ℕ)). KeptIn n (e ∷ es) h)
+    (sym (is ∙ ap (λ (k : ℕ). set heads k (Some i)) k))
+    (linked n e es heads i kept (omega (arith, within_chains n e.binding.name some, l)) li
+    (older ∙ ap (λ (k : ℕ). get_or heads k None) k)))
+
+-- a new entry is linked
+pub linked_last : (xs ys : List Entry) (e : Entry) (q : List ℕ) (at : ℕ)
+    (heads new : List (Option ℕ)) → 0 < length heads → q ≡ e.binding.name
+    → Kept (reverse ys) heads → at ≡ length ys
+    → xs ≡ ys ++ e ∷ [] → e.older ≡ get_or heads (chain_of (length heads) q) None
+    → new ≡ set heads (chain_of (length heads) q) (Some at) → Kept (reverse xs) new
+linked_last xs ys e q at heads new some name kept la h older is =
+    let k : chain_of (length heads) q ≡ chain_of (length heads) e.binding.name =
+    ap (λ (w : List ℕ). chain_of (length heads) w) name in
+    subst (λ (t : List Entry). Kept t new) (sym (backward xs ys e h))
+    (subst (λ (h : List (Option ℕ)). Kept (e ∷ reverse ys) h)
+    (sym (is ∙ ap (λ (k : ℕ). set heads k (Some at)) k))
+    (same_count (e ∷ reverse ys) heads (chain_of (length heads) e.binding.name) (Some at)
+    (linked (length heads) e (reverse ys) heads at kept
+    (within_chains (length heads) e.binding.name some) (la ∙ sym (length-reverse ys))
+    (older ∙ ap (λ (k : ℕ). get_or heads k None) k))))
+
+-- the newest entry goes
+module _ (xs ys : List Entry) (e : Entry) (q : List ℕ) (chain : ℕ) (heads : List (Option ℕ))
+    (kept : Kept (reverse xs) heads) (h : xs ≡ ys ++ e ∷ []) (name : q ≡ e.binding.name)
+    (c : chain ≡ chain_of (length heads) q) where
+  kept_with : Kept (e ∷ reverse ys) heads
+  kept_with = subst (λ (t : List Entry). Kept t heads) (backward xs ys e h) kept
+
+  chain_is : chain_of (length heads) e.binding.name ≡ chain
+  chain_is = ap (λ (w : List ℕ). chain_of (length heads) w) (sym name) ∙ sym c
+
+  pub last_has_head : chain < length heads
+  last_has_head =
+      subst (λ (k : ℕ). k < length heads) chain_is
+      (has_head (length heads) e (reverse ys) heads kept_with)
+
+  pub unlinked_last : Kept (reverse ys) (set heads chain e.older)
+  unlinked_last =
+      same_count (reverse ys) heads chain e.older
+      (subst (λ (k : ℕ). KeptIn (length heads) (reverse ys) (set heads k e.older)) chain_is
+      (unlinked (length heads) e (reverse ys) heads kept_with))
+
+-- whether two names are the same, from a comparison of their bytes
+pub is_same : (a q x : List ℕ) (b : Bool) → (IsTrue b ↔ (x ≡ q)) → x ≡ a → same_name a q ≡ b
+is_same a q x true iff h = (bytes_decides a q).1 (sym h ∙ iff.0 refl)
+is_same a q x false iff h = by (same_name a q) refl
+  where
+    by : (b : Bool) → same_name a q ≡ b → same_name a q ≡ false
+    by true p = let t : false ≡ true = iff.1 (h ∙ (bytes_decides a q).0 p) in absurd (cc)
+    by false p = p
+
+-- a list after a write to all of it
+pub whole : {A : Type 0} (n : ℕ) (xs ys : List A) → length xs ≡ n
+    → take n (xs ++ drop (length xs) ys) ≡ xs
+whole n xs ys l = take_at xs (drop (length xs) ys) n l

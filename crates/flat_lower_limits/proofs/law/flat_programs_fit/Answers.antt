@@ -1,5 +1,0 @@
-use Rattle.flat_lower_limits.proofs.Whole.{lowered_fits}
-use Rattle.flat_lower_limits.proofs.law.flat_programs_fit.Goals as goal
-
-pub returns : goal.returns
-returns c = lowered_fits

@@ -1,3 +1,0 @@
-pub mod Nodes
-pub mod Jumps
-pub mod Laws

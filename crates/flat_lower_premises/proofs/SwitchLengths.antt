@@ -1,0 +1,77 @@
+-- How many statements the code of a switch has, but for its test and its statements.
+use Rattle.std.proofs.Common.{ℕ, suc, ◌+◌, ◌*◌, List, [], ◌∷◌, Option, Some, None, refl, arith}
+use Rattle.trips_isa.specs.declared.op.Op.TheVariants as op
+use Rattle.ir_forms.specs.declared.flat.Arg.TheVariants.{Const, Var}
+use Rattle.ir_forms.specs.FlatCode.{Code, Let, Break}
+use Rattle.flat_lower.specs.declared.around.Around.{Around}
+use Rattle.flat_lower.specs.declared.around.Around.TheVariants as around
+use Rattle.flat_lower.specs.Tree.{Sections, NoSections, WithSection}
+use Rattle.flat_lower.specs.Operations.{temp}
+use Rattle.flat_lower.specs.Sizes.{label_count}
+use Rattle.flat_lower.specs.Switches.{break_code, continue_code, behind_code, found_code, label_code}
+use Rattle.flat_lower.specs.Switches.{labels_code, compared_code, default_at, section_count, chosen_code}
+use Rattle.flat_lower.specs.Switches.{section_code, switched_code}
+use Rattle.flat_lower_premises.specs.LimitNodes.{sections_nodes}
+use Rattle.flat_lower_premises.proofs.SectionNodes.{labels_nodes, bodies_nodes, in_two}
+use Rattle.flat_lower_premises.proofs.LimitCounts.{Takes, after, eased, none, one_more, chosen, looped}
+
+-- JUMPS
+
+pub break_takes : (a : Around) → Takes 0 2 (break_code a)
+break_takes around.Nowhere = record { few = omega arith }
+break_takes around.Loop = record { few = omega arith }
+break_takes around.Switch = record { few = omega arith }
+break_takes around.SwitchInLoop = record { few = omega arith }
+
+pub continue_takes : (a : Around) → Takes 0 2 (continue_code a)
+continue_takes around.Nowhere = record { few = omega arith }
+continue_takes around.Loop = record { few = omega arith }
+continue_takes around.Switch = record { few = omega arith }
+continue_takes around.SwitchInLoop = record { few = omega arith }
+
+behind_takes : (a : Around) → Takes 0 3 (behind_code a)
+behind_takes around.Nowhere = none 3
+behind_takes around.Loop = record { few = omega arith }
+behind_takes around.Switch = none 3
+behind_takes around.SwitchInLoop = record { few = omega arith }
+
+-- LABELS
+
+found_takes : (n : ℕ) → Takes 0 2 (found_code n)
+found_takes n = record { few = omega arith }
+
+label_takes : (n : ℕ) (l : Option ℕ) → Takes 0 4 (label_code n l)
+label_takes n None = none 4
+label_takes n (Some w) = record { few = omega arith }
+
+labels_take : (n : ℕ) (ls : List (Option ℕ)) → Takes 0 (4 * label_count ls) (labels_code n ls)
+labels_take n [] = none 0
+labels_take n (l ∷ ls) = eased 0 (4 * (1 + label_count ls)) (after (label_takes n l) (labels_take n ls))
+    (omega arith)
+
+compared_takes : (n : ℕ) (xs : Sections) → Takes 0 (4 * labels_nodes xs) (compared_code n xs)
+compared_takes n NoSections = none 0
+compared_takes n (WithSection ls body rest) = eased 0 (4 * (label_count ls + labels_nodes rest))
+    (after (labels_take n ls) (compared_takes (suc n) rest)) (omega arith)
+
+chosen_takes : (xs : Sections) → Takes 0 (4 * labels_nodes xs + 3) (chosen_code xs)
+chosen_takes xs = eased 0 (4 * labels_nodes xs + 3)
+    (looped (after (compared_takes 0 xs) (found_takes (default_at 0 (section_count xs) xs))) (none 0))
+    (omega arith)
+
+-- SECTIONS
+
+-- a section by its statements
+pub section_takes : (body : Code) (n : ℕ) → Takes 0 (4 * n) body → Takes 0 (4 * (1 + n)) (section_code body)
+section_takes body n p =
+    eased 0 (4 * (1 + n)) (chosen (Var (temp 0))
+    (one_more (Let (temp 0) op.Sub (Var (temp 0)) (Const 1)) refl)
+    (after p (one_more (Let (temp 0) op.Mov (Const 0) (Const 0)) refl))) (omega arith)
+
+-- a switch behind its test by its sections
+pub switched_takes : (a : Around) (xs : Sections) (body : Code) → Takes 0 (4 * bodies_nodes xs) body
+    → Takes 0 (4 * sections_nodes xs + 8) (switched_code a xs body)
+switched_takes a xs body p =
+    let h = in_two xs in
+    eased 0 (4 * sections_nodes xs + 8) (after (chosen_takes xs) (after
+    (looped (after p (one_more Break refl)) (none 0)) (behind_takes a))) (omega (arith, h))

@@ -1,0 +1,5 @@
+use Rattle.flat_lower_premises.proofs.BlockLengths.{few_blocks}
+use Rattle.flat_lower_premises.proofs.law.blocks_are_few.Goals as goal
+
+pub returns : goal.returns
+returns c = few_blocks

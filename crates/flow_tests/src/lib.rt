@@ -1,0 +1,15 @@
+//! Hyper blocks with their flow blocks as text, and blocks with too much of each part.
+//!
+//! Small flow blocks with what completing adds to them.
+#![tactic(auto)]
+
+#[cfg(test)]
+mod complete_tests;
+#[cfg(test)]
+mod convert_tests;
+#[cfg(test)]
+mod making;
+#[cfg(test)]
+mod shown;
+#[cfg(test)]
+mod too_big_tests;

@@ -1,2 +1,0 @@
-pub mod PhaseFacts
-pub mod TryFacts

@@ -1,5 +1,0 @@
-pub mod Events
-pub mod Phases
-pub mod Changes
-pub mod Told
-pub mod Tried

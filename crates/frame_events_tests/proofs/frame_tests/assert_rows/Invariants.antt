@@ -1,5 +1,0 @@
-use Rattle.frame_events.specs.Phases.{HasBlock}
-use Rattle.frame_events_tests.proofs.frame_tests.assert_rows.Given as goal
-
-abbrev pub invariant-loop-row : goal.invariant-loop-row
-invariant-loop-row g l = HasBlock l.image.blocks l.phase

@@ -1,0 +1,12 @@
+use Rattle.commit_flush_spec.specs.Causes.{NoFrame, NotNow}
+use Rattle.commit_flush_spec.specs.Ends.{can_exit}
+use Rattle.frame_state.specs.Held.{running}
+use Rattle.frame_state.specs.Phases.{frame_in}
+use Rattle.frame_state.proofs.PhaseFacts.{asked}
+use Rattle.frame_state.proofs.answers.can_exit.Goals as goal
+
+pub returns-in-Some : goal.returns-in-Some
+returns-in-Some c = record {
+  value = λ o. asked (NotNow NoFrame) can_exit o (frame_in c.args.image.now.blocks c.args.phase.now)
+      (running c.in-Some.field-0-1.now c.in-Some.held.now) _ c.in-Some.ensures.value (c.exit_answer.ensures c.in-Some.field-0-1.now o);
+}

@@ -1,2 +1,0 @@
-pub mod ArrivalFolds
-pub mod PlaceFacts

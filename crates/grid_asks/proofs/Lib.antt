@@ -1,2 +1,0 @@
-pub mod Oldest
-pub mod Asked

@@ -1,0 +1,142 @@
+-- The cycle bound of the runs of a seed.
+use Rattle.std.proofs.Common.{◌≡◌, ℕ, ◌+◌, ◌^◌, ◌<◌, ◌≤◌, Bool, true, false, List, [], length}
+use Rattle.std.proofs.Common.{Option, Some, None, slice_get, refl, sym, ap, ◌∙◌, subst, true≢false, arith}
+use Rattle.std.proofs.Math.Nat.{mod-lt}
+use Rattle.trips_isa.specs.declared.block.Block.{Block}
+use Rattle.trips_isa.specs.declared.causes.TrapCause.{TrapCause}
+use Rattle.trips_isa.specs.declared.run.Ending.{Ending}
+use Rattle.trips_isa.specs.declared.run.Ending.TheVariants as ending
+use Rattle.trips_isa.specs.declared.run.Stepped.{Stepped}
+use Rattle.trips_isa.specs.declared.run.Stepped.TheVariants as stepped
+use Rattle.trips_isa.specs.Stores.{data_size}
+use Rattle.trips_isa.specs.Machine.{State, runs, start}
+use Rattle.operand_net.specs.Seeded as holds
+use Rattle.operand_net.specs.declared.weather.PcgWeather.{PcgWeather}
+use Rattle.block_predict.specs.Predicts.{Holding, holding}
+use Rattle.block_predict.specs.Seeded as exits
+use Rattle.commit_flush_spec.specs.InFlight.{opened}
+use Rattle.commit_flush_spec.specs.Invariant.{AllGood}
+use Rattle.commit_flush_spec.specs.Laws.{WindowOk}
+use Rattle.commit_flush_spec.proofs.Events.{opens}
+use Rattle.grid_cycle_spec.specs.Costs.{cost_in, cost_of, greatest_cost}
+use Rattle.grid_cycle_spec.specs.Grid.{Grid}
+use Rattle.grid_machine.specs.Answered.{ComesTo, IsCutOff}
+use Rattle.grid_machine.specs.Endings.{ending_of, is_going}
+use Rattle.grid_machine.specs.WholeRuns.{most_cycles}
+use Rattle.grid_bound.specs.GoesOn.{GoesOn}
+use Rattle.grid_machine.specs.Seeds.{IsAfter, IsRan, next_hold}
+use Rattle.grid_cycle.specs.Traps.{is_trap}
+use Rattle.grid_cycle.proofs.Making.{runs_inside, steps_made}
+use Rattle.grid_cycle.proofs.RunCosts.{any_cost, end_cost, goes_on, goes_short, some_cost}
+
+-- an ending that is no trap is of a run that has not trapped
+pub no_trap : (o : Stepped) (next : ℕ) → is_trap (ending_of o next) ≡ false → (c : TrapCause) → o ≡ stepped.Trap c → ⊥
+no_trap stepped.Went next e c i = cc
+no_trap stepped.Ended next e c i = cc
+no_trap stepped.StackFull next e c i = cc
+no_trap (stepped.Trap d) next e c i = true≢false e
+
+-- a trap names the block that comes next
+trap_at : (o : Stepped) (next block : ℕ) (cause : TrapCause) → ending.Trap block cause ≡ ending_of o next → next ≡ block
+trap_at stepped.Went next block cause e = absurd (cc)
+trap_at stepped.Ended next block cause e = absurd (cc)
+trap_at stepped.StackFull next block cause e = absurd (cc)
+trap_at (stepped.Trap c) next block cause e = cc
+
+-- a run of a seed ------------------------------------------------------------------------------------
+
+hold_most : (w : PcgWeather) → next_hold w ≤ 3
+hold_most w = let l : next_hold w < 4 = mod-lt _ (omega arith) in omega (arith, l)
+
+module _ (blocks : List Block) (good : AllGood blocks) (some : 0 < length blocks) (bytes input : List ℕ)
+    (fits : length bytes ≤ data_size) (budget seed : ℕ) (small : budget < 2 ^ 32) (answer : Option Ending)
+    (h : Grid PcgWeather) (ran : IsRan blocks bytes input budget seed answer h) where
+  abbrev s : State
+  s = start bytes input
+
+  abbrev predictor : Holding
+  predictor = holding (exits.entries_of seed) 0 []
+
+  abbrev weather : PcgWeather
+  weather = record { generator = holds.generator seed }
+
+  opens_right : WindowOk blocks budget (opened s)
+  opens_right = opens blocks budget bytes input some fits
+
+  trapped : h.counts.cycles ≤ cost_of blocks h.window.state.trace + greatest_cost
+  trapped = any_cost next_hold IsAfter hold_most blocks good budget s predictor weather opens_right small h ran.run
+      ran.few
+
+  -- where it ends in a trap, within what its trace costs and the block that trapped
+  trapped_block : (block : ℕ) (cause : TrapCause) → ComesTo blocks s budget (ending.Trap block cause) h
+      → (block < length blocks) × (h.counts.cycles ≤ cost_of blocks h.window.state.trace + cost_in (slice_get blocks block))
+  trapped_block block cause comes =
+      let same : (runs blocks s budget).0.next ≡ block =
+      trap_at (runs blocks s budget).1 (runs blocks s budget).0.next block cause comes.ending in (
+        subst (λ k. k < length blocks) same (runs_inside blocks some s some budget),
+        subst (λ k. h.counts.cycles ≤ cost_of blocks h.window.state.trace + cost_in (slice_get blocks k))
+            (ap (λ (t : State). t.next) comes.state ∙ same)
+            (some_cost next_hold IsAfter hold_most blocks good budget s predictor weather opens_right small h ran.run ran.few),
+      )
+
+  ends : IsCutOff budget (most_cycles budget) h → ⊥
+  ends cut =
+      let l : h.counts.cycles < most_cycles budget =
+      goes_short next_hold IsAfter hold_most blocks good budget s predictor weather opens_right small h ran.run ran.few
+      cut.goes in
+      let k : most_cycles budget ≤ h.counts.cycles = cut.cycles in
+      absurd (omega (arith, l, k))
+
+  -- a run that has come to where the machine comes to does not go on
+  not_going : (e : Ending) → ComesTo blocks s budget e h → is_going budget h.window ≡ true → ⊥
+  not_going e comes on =
+      let o : GoesOn budget h = goes_on budget h on in
+      let went : (runs blocks s budget).1 ≡ stepped.Went = sym comes.over ∙ o.went in
+      let long : length (runs blocks s budget).0.trace ≡ 0 + budget = steps_made blocks some s some budget went in
+      let same : length h.window.state.trace ≡ length (runs blocks s budget).0.trace =
+      ap (λ (t : State). length t.trace) comes.state in
+      let room : length h.window.state.trace < budget = o.room in
+      absurd (omega (arith, long, same, room))
+
+  within : (e : Ending) → is_trap e ≡ false → ComesTo blocks s budget e h
+      → h.counts.cycles ≤ cost_of blocks h.window.state.trace
+  within e plain comes = by (is_going budget h.window) refl
+    where
+      untrapped : (k : TrapCause) → h.window.over ≡ stepped.Trap k → ⊥
+      untrapped k i = no_trap (runs blocks s budget).1 (runs blocks s budget).0.next
+          (ap is_trap (sym comes.ending) ∙ plain) k (sym comes.over ∙ i)
+
+      by : (b : Bool) → is_going budget h.window ≡ b → h.counts.cycles ≤ cost_of blocks h.window.state.trace
+      by true on = absurd (not_going e comes on)
+      by false off = end_cost next_hold IsAfter hold_most blocks good budget s predictor weather opens_right small h ran.run
+          ran.few untrapped off
+
+-- the laws -------------------------------------------------------------------------------------------
+
+pub runs_end : (blocks : List Block) (bytes input : List ℕ) (budget seed : ℕ) (h : Grid PcgWeather) → AllGood blocks
+    → 0 < length blocks → length bytes ≤ data_size → 0 < budget → budget < 2 ^ 32
+    → IsRan blocks bytes input budget seed None h → ⊥
+runs_end blocks bytes input budget seed h good some fits positive small ran =
+    ends blocks good some bytes input fits budget seed small None h ran ran.comes
+
+pub runs_within : (blocks : List Block) (bytes input : List ℕ) (budget seed : ℕ) (e : Ending) (h : Grid PcgWeather)
+    → AllGood blocks → 0 < length blocks → length bytes ≤ data_size → 0 < budget → budget < 2 ^ 32
+    → is_trap e ≡ false → IsRan blocks bytes input budget seed (Some e) h
+    → h.counts.cycles ≤ cost_of blocks h.window.state.trace
+runs_within blocks bytes input budget seed e h good some fits positive small plain ran =
+    within blocks good some bytes input fits budget seed small (Some e) h ran e plain ran.comes
+
+pub runs_trapped : (blocks : List Block) (bytes input : List ℕ) (budget seed : ℕ) (e : Ending) (h : Grid PcgWeather)
+    → AllGood blocks → 0 < length blocks → length bytes ≤ data_size → 0 < budget → budget < 2 ^ 32
+    → IsRan blocks bytes input budget seed (Some e) h
+    → h.counts.cycles ≤ cost_of blocks h.window.state.trace + greatest_cost
+runs_trapped blocks bytes input budget seed e h good some fits positive small ran =
+    trapped blocks good some bytes input fits budget seed small (Some e) h ran
+
+pub runs_trapped_at : (blocks : List Block) (bytes input : List ℕ) (budget seed block : ℕ) (cause : TrapCause)
+    (h : Grid PcgWeather) → AllGood blocks → 0 < length blocks → length bytes ≤ data_size → 0 < budget → budget < 2 ^ 32
+    → IsRan blocks bytes input budget seed (Some (ending.Trap block cause)) h
+    → (block < length blocks) × (h.counts.cycles ≤ cost_of blocks h.window.state.trace + cost_in (slice_get blocks block))
+runs_trapped_at blocks bytes input budget seed block cause h good some fits positive small ran =
+    trapped_block blocks good some bytes input fits budget seed small (Some (ending.Trap block cause)) h ran block cause
+    ran.comes

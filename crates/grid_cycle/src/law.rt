@@ -1,0 +1,38 @@
+//! The cycle bound of the runs of a seed, over their definitions alone.
+ghost use Rattle.std.specs.Prelude.{◌≡◌, ℕ, ◌+◌, ◌^◌, ◌<◌, ◌≤◌, false, List, length, slice_get, Some, None};
+ghost use Rattle.trips_isa.specs.declared.block.Block.{Block};
+ghost use Rattle.trips_isa.specs.declared.causes.TrapCause.{TrapCause};
+ghost use Rattle.trips_isa.specs.declared.run.Ending.{Ending};
+ghost use Rattle.trips_isa.specs.declared.run.Ending.TheVariants as ending;
+ghost use Rattle.trips_isa.specs.Stores.{data_size};
+ghost use Rattle.operand_net.specs.declared.weather.PcgWeather.{PcgWeather};
+ghost use Rattle.commit_flush_spec.specs.Invariant.{AllGood};
+ghost use Rattle.grid_cycle_spec.specs.Costs.{cost_in, cost_of, greatest_cost};
+ghost use Rattle.grid_cycle_spec.specs.Grid.{Grid};
+ghost use Rattle.grid_machine.specs.Seeds.{IsRan};
+ghost use Rattle.grid_cycle.specs.Traps.{is_trap};
+
+/// A run of the grid of a seed on checked blocks always has an ending. One that does not end in a trap has made no
+/// more cycles than its trace costs (`within`); one that ends in a trap no more than that and what the block costs
+/// that trapped, which is one of the image (`trapped_block`), and so any run no more than its trace costs and
+/// `greatest_cost` (`trapped`). The image has at least one block and no more bytes than data memory holds, and the
+/// budget is of 1 to 2^32 - 1 blocks.
+pub fn runs_of_a_seed_end()
+    ensures ends { (blocks : List Block) (bytes input : List ℕ) (budget seed : ℕ) (h : Grid PcgWeather)
+        → AllGood blocks → 0 < length blocks → length bytes ≤ data_size → 0 < budget → budget < 2 ^ 32
+        → IsRan blocks bytes input budget seed None h → ⊥ }
+    ensures within { (blocks : List Block) (bytes input : List ℕ) (budget seed : ℕ) (e : Ending) (h : Grid PcgWeather)
+        → AllGood blocks → 0 < length blocks → length bytes ≤ data_size → 0 < budget → budget < 2 ^ 32
+        → is_trap e ≡ false → IsRan blocks bytes input budget seed (Some e) h
+        → h.counts.cycles ≤ cost_of blocks h.window.state.trace }
+    ensures trapped { (blocks : List Block) (bytes input : List ℕ) (budget seed : ℕ) (e : Ending) (h : Grid PcgWeather)
+        → AllGood blocks → 0 < length blocks → length bytes ≤ data_size → 0 < budget → budget < 2 ^ 32
+        → IsRan blocks bytes input budget seed (Some e) h
+        → h.counts.cycles ≤ cost_of blocks h.window.state.trace + greatest_cost }
+    ensures trapped_block { (blocks : List Block) (bytes input : List ℕ) (budget seed block : ℕ) (cause : TrapCause)
+        (h : Grid PcgWeather)
+        → AllGood blocks → 0 < length blocks → length bytes ≤ data_size → 0 < budget → budget < 2 ^ 32
+        → IsRan blocks bytes input budget seed (Some (ending.Trap block cause)) h
+        → (block < length blocks)
+        × (h.counts.cycles ≤ cost_of blocks h.window.state.trace + cost_in (slice_get blocks block)) }
+{}

@@ -1,5 +1,0 @@
-use Rattle.std.proofs.Common.{inr, arith}
-use Rattle.grid_cycle_bound.proofs.law.lanes_begin_right.Goals as goal
-
-pub returns : goal.returns
-returns W c = λ program course s entries weather. record { units = λ t. omega arith; stage = inr tt }

@@ -1,4 +1,0 @@
-pub mod Engines
-pub mod Lacks
-pub mod Nexts
-pub mod Follows

@@ -1,4 +1,0 @@
-pub mod Growing
-pub mod Making
-pub mod RunCosts
-pub mod Bounded

@@ -1,0 +1,40 @@
+use Rattle.std.proofs.Common.{◌+◌, drop, get_or, sym, ap, ap₂, ◌∙◌, arith}
+use Rattle.std.proofs.lemmas.List.{at_drop_more, at_drop_all}
+use Rattle.grid_cycle_spec.specs.Choosing.{each, places}
+use Rattle.grid_cycle_spec.specs.Arrivals.{arrival, arrivals}
+use Rattle.grid_parts.specs.Seen.{seen}
+use Rattle.grid_parts.proofs.arriving.arrivals.Goals as goal
+
+pub loop-n-preserved : goal.loop-n-preserved
+loop-n-preserved g c =
+    let v = c.args.grid.now.window in
+    let bs = g.V.Windows.blocks v in
+    let b = g.V.Windows.budget v in
+    let now = seen (g.V.Windows.held c.loop-n.grid.window) c.loop-n.grid.state in
+    let frame = get_or c.args.order.now c.loop-n.n 0 in
+    let one = c.frame_arrives.ensures.few in
+    let before = c.loop-n.invariant.few in
+    record {
+      change = ap (arrivals bs b (drop (c.loop-n.n + 1) c.args.order.now)) (c.frame_arrives.ensures.change
+          ∙ ap₂ (λ x y. each (arrival x y frame) places now) c.loop-n.invariant.image c.loop-n.invariant.budget)
+          ∙ sym (at_drop_more (λ ns. arrivals bs b ns now) c.args.order.now c.loop-n.n 0 (omega arith))
+          ∙ c.loop-n.invariant.change;
+      few = omega (arith, one, before);
+      image = c.frame_arrives.ensures.image ∙ c.loop-n.invariant.image;
+      budget = c.frame_arrives.ensures.budget ∙ c.loop-n.invariant.budget;
+    }
+
+pub frame_arrives-requires-clause-room : goal.frame_arrives-requires-clause-room
+frame_arrives-requires-clause-room g c =
+    let before = c.loop-n.invariant.few in
+    let few = c.requires.few in
+    let room = c.requires.room in
+    omega (arith, before, few, room)
+
+pub returns-clause-change : goal.returns-clause-change
+returns-clause-change g c =
+    let v = c.args.grid.now.window in
+    let now = seen (g.V.Windows.held c.loop-n.grid.window) c.loop-n.grid.state in
+    sym (at_drop_all (λ ns. arrivals (g.V.Windows.blocks v) (g.V.Windows.budget v) ns now) c.args.order.now c.loop-n.n
+    (omega arith))
+    ∙ c.loop-n.invariant.change

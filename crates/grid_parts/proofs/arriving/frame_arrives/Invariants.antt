@@ -1,0 +1,23 @@
+use Rattle.std.proofs.Common.{◌≡◌, ◌≤◌, ◌+◌, ◌-◌, ◌*◌}
+use Rattle.operand_net.specs.Places.{at}
+use Rattle.grid_cycle_spec.specs.Choosing.{each, places}
+use Rattle.grid_cycle_spec.specs.Arrivals.{arrival}
+use Rattle.grid_parts.specs.Seen.{seen}
+use Rattle.grid_parts.specs.Quiet.{AreQuiet}
+use Rattle.grid_parts.proofs.arriving.frame_arrives.Given as goal
+
+abbrev pub invariant-loop-from : goal.invariant-loop-from
+invariant-loop-from g l = record {
+  change : each (arrival (g.V.Windows.blocks l.initial.grid.window) (g.V.Windows.budget l.initial.grid.window) l.frame)
+      places (seen (g.V.Windows.held l.grid.window) l.grid.state)
+      ≡ each (arrival (g.V.Windows.blocks l.initial.grid.window) (g.V.Windows.budget l.initial.grid.window) l.frame)
+      places (seen (g.V.Windows.held l.initial.grid.window) l.initial.grid.state);
+  quiet : AreQuiet (at l.grid.state.mesh) l.frame l.from;
+  within : l.from ≤ 320;
+  few : l.grid.state.counts.flushed ≤ l.initial.grid.state.counts.flushed + 8 * l.from;
+  image : g.V.Windows.blocks l.grid.window ≡ g.V.Windows.blocks l.initial.grid.window;
+  budget : g.V.Windows.budget l.grid.window ≡ g.V.Windows.budget l.initial.grid.window;
+}
+
+abbrev pub decreases-loop-from : goal.decreases-loop-from
+decreases-loop-from g l = 320 - l.from

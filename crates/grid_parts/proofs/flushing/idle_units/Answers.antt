@@ -1,0 +1,5 @@
+use Rattle.grid_parts.proofs.StateBitFacts.{zero_at}
+use Rattle.grid_parts.proofs.flushing.idle_units.Goals as goal
+
+pub returns : goal.returns
+returns c = zero_at 16

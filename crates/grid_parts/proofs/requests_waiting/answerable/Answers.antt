@@ -1,0 +1,27 @@
+use Rattle.std.proofs.Common.{ℕ, Option, sym, ap, subst, ◌∙◌, arith}
+use Rattle.commit_flush_spec.specs.Laws.{AreNumbers}
+use Rattle.grid_parts.specs.Seen.{seen}
+use Rattle.grid_parts.specs.StateChoices.{first_found}
+use Rattle.grid_parts.proofs.ChoiceFacts.{passed, found, none_left}
+use Rattle.grid_parts.specs.Choices.{lowest_request}
+use Rattle.grid_parts.proofs.AnswerFacts.{answerable_is}
+use Rattle.grid_parts.proofs.requests_waiting.answerable.Goals as goal
+
+pub loop-i-preserved : goal.loop-i-preserved
+loop-i-preserved g c =
+    let find : ℕ → Option ℕ = lowest_request (seen (g.V.Windows.held c.args.window.now) c.args.state.now) c.args.tile in
+    passed find c.args.order.now c.loop-i.i (omega arith) (sym c.in-None.ensures.value) ∙ c.loop-i.invariant
+
+pub returns-in-Some-clause-value : goal.returns-in-Some-clause-value
+returns-in-Some-clause-value g c =
+    let find : ℕ → Option ℕ = lowest_request (seen (g.V.Windows.held c.args.window.now) c.args.state.now) c.args.tile in
+    found find c.args.order.now c.loop-i.i c.in-Some.number (omega arith) (sym c.in-Some.ensures.value)
+    ∙ c.loop-i.invariant ∙ ap (first_found find) c.requires.order
+    ∙ answerable_is (seen (g.V.Windows.held c.args.window.now) c.args.state.now) c.args.tile (subst AreNumbers c.requires.order c.requires.distinct)
+
+pub returns-clause-value : goal.returns-clause-value
+returns-clause-value g c =
+    let find : ℕ → Option ℕ = lowest_request (seen (g.V.Windows.held c.args.window.now) c.args.state.now) c.args.tile in
+    none_left find c.args.order.now c.loop-i.i (omega arith)
+    ∙ c.loop-i.invariant ∙ ap (first_found find) c.requires.order
+    ∙ answerable_is (seen (g.V.Windows.held c.args.window.now) c.args.state.now) c.args.tile (subst AreNumbers c.requires.order c.requires.distinct)

@@ -1,6 +1,0 @@
-use Rattle.grid_rule.proofs.Generations.{cycles_count}
-use Rattle.grid_rule.proofs.law.cycles_count_generations.Goals as goal
-
-pub returns : goal.returns
-returns g c = λ blocks budget n x y made cycles. cycles_count blocks budget g.W.Weather.next g.W.Weather.follows n x y
-    made cycles

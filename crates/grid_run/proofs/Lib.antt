@@ -1,6 +1,0 @@
-pub mod MachineRuns
-pub mod TrapRooms
-pub mod CommitCounts
-pub mod RunFacts
-pub mod CallFacts
-pub mod CostFacts

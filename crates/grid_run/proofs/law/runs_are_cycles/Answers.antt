@@ -1,5 +1,0 @@
-use Rattle.grid_run.proofs.RunFacts.{run_is_cycles}
-use Rattle.grid_run.proofs.law.runs_are_cycles.Goals as goal
-
-pub returns : goal.returns
-returns g c = λ blocks budget n x y run. run_is_cycles blocks budget g.W.Weather.next g.W.Weather.follows n x y run

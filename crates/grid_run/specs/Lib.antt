@@ -1,4 +1,0 @@
-pub mod Endings
-pub mod WholeRuns
-pub mod Answered
-pub mod Tallies

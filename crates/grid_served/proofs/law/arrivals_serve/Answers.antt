@@ -1,6 +1,0 @@
-use Rattle.grid_served.proofs.Moved as moved
-use Rattle.grid_served.proofs.law.arrivals_serve.Goals as goal
-
-pub returns : goal.returns
-returns W c = λ blocks budget m f fs t parcels weather good i ok went runs rule moves.
-    moved.arrivals_serve blocks good budget t f m rule moves.hold fs i ok went runs parcels weather moves.moves

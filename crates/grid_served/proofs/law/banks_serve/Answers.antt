@@ -1,6 +1,0 @@
-use Rattle.grid_served.proofs.Banking as banking
-use Rattle.grid_served.proofs.law.banks_serve.Goals as goal
-
-pub returns : goal.returns
-returns W c = λ blocks budget g f fs t good i ok went runs quiet.
-    banking.banks_serve blocks good budget t f g fs i ok went runs quiet

@@ -1,5 +1,0 @@
-use Rattle.grid_served.proofs.EagerFirst.{eager_first}
-use Rattle.grid_served.proofs.law.eager_cycles_come_first.Goals as goal
-
-pub returns : goal.returns
-returns W c = λ blocks budget g h bound few cycle. eager_first blocks budget _ _ bound g h few cycle

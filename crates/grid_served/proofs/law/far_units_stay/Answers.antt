@@ -1,5 +1,0 @@
-use Rattle.grid_served.proofs.FarUnits.{far_cycle}
-use Rattle.grid_served.proofs.law.far_units_stay.Goals as goal
-
-pub returns : goal.returns
-returns W c = λ blocks budget g h t l m. far_cycle blocks budget t l _ _ g h m

@@ -1,5 +1,0 @@
-use Rattle.grid_served.proofs.Told.{table_tells}
-use Rattle.grid_served.proofs.law.tables_tell.Goals as goal
-
-pub returns : goal.returns
-returns c = λ blocks o f good code. table_tells blocks good o f code

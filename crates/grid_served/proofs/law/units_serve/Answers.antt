@@ -1,6 +1,0 @@
-use Rattle.grid_served.proofs.Turned.{units_work}
-use Rattle.grid_served.proofs.law.units_serve.Goals as goal
-
-pub returns : goal.returns
-returns W c = λ blocks budget g f fs t good i ok went runs tells rules.
-    units_work blocks good budget t g f fs i ok went runs tells rules

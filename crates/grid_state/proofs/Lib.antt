@@ -1,9 +1,0 @@
-pub mod BitFacts
-pub mod RowFacts
-pub mod FetchFacts
-pub mod SlotFacts
-pub mod ChoiceFacts
-pub mod ForgetFacts
-pub mod StartFacts
-pub mod ArrivalFacts
-pub mod PartFacts

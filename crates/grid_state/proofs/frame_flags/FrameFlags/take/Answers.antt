@@ -1,8 +1,0 @@
-use Rattle.std.proofs.Common.{◌<◌, length, arith}
-use Rattle.grid_state.proofs.BitFacts.{one_less}
-use Rattle.grid_state.proofs.frame_flags.FrameFlags.take.Goals as goal
-
-pub returns : goal.returns
-returns c =
-    let inside : c.args.frame < length c.args.self.now.words = omega arith in
-    one_less c.args.self.now.words c.args.frame _ inside c.args.flag c.without_bit.ensures

@@ -1,5 +1,0 @@
-use Rattle.grid_state.proofs.BitFacts.{set_one}
-use Rattle.grid_state.proofs.frame_flags.with_bit.Goals as goal
-
-pub returns : goal.returns
-returns c = λ i. set_one c.args.word c.args.bit i c.requires

@@ -1,9 +1,0 @@
-use Rattle.grid_state.proofs.BitFacts.{zero_at}
-use Rattle.grid_state.proofs.RowFacts.{no_histories}
-use Rattle.grid_state.proofs.histories.Histories.none.Goals as goal
-
-pub invariant_of-result : goal.invariant_of-result
-invariant_of-result c = no_histories
-
-pub returns : goal.returns
-returns c = zero_at 8

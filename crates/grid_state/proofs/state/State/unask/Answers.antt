@@ -1,7 +1,0 @@
-use Rattle.std.proofs.Common.{ap}
-use Rattle.grid_state.specs.Seen.{seen}
-use Rattle.grid_state.proofs.PartFacts.{with_asked}
-use Rattle.grid_state.proofs.state.State.unask.Goals as goal
-
-pub returns : goal.returns
-returns g c = λ w. ap (λ k. with_asked k (seen w c.args.self.now)) c.take.ensures

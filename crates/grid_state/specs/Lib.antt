@@ -1,5 +1,0 @@
-pub mod Bits
-pub mod Fetches
-pub mod Seen
-pub mod Changes
-pub mod Choices

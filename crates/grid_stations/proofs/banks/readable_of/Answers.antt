@@ -1,4 +1,0 @@
-use Rattle.grid_stations.proofs.banks.readable_of.Goals as goal
-
-pub readable_in-requires-clause-marks : goal.readable_in-requires-clause-marks
-readable_in-requires-clause-marks g c = λ r l e. c.requires.marked.none c.args.frame r c.requires.frame l e

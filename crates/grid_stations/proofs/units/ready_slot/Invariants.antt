@@ -1,9 +1,0 @@
-use Rattle.std.proofs.Common.{◌≡◌, drop}
-use Rattle.grid_state.specs.Choices.{first_found}
-use Rattle.grid_stations.specs.Choices.{lowest_ready}
-use Rattle.grid_stations.proofs.units.ready_slot.Given as goal
-
-abbrev pub invariant-loop-i : goal.invariant-loop-i
-invariant-loop-i g l =
-    first_found (lowest_ready (g.V.Windows.blocks l.window) (g.V.Windows.budget l.window) (g.V.Windows.held l.window) l.tile) (drop l.i l.order)
-    ≡ first_found (lowest_ready (g.V.Windows.blocks l.window) (g.V.Windows.budget l.window) (g.V.Windows.held l.window) l.tile) l.order

@@ -1,6 +1,0 @@
-use Rattle.std.proofs.Common.{◌∙◌}
-use Rattle.grid_window.proofs.ToldFacts.{exit_told}
-use Rattle.grid_window.proofs.asking.exit_of.Goals as goal
-
-pub returns : goal.returns
-returns c = c.exit_of.ensures.value ∙ exit_told c.args.frame c.args.window.now.window.frames

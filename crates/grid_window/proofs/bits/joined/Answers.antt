@@ -1,6 +1,0 @@
-use Rattle.std.proofs.Common.{rules}
-use Rattle.grid_window.proofs.WordFacts.{joined_is}
-use Rattle.grid_window.proofs.bits.joined.Goals as goal
-
-pub returns : goal.returns
-returns c = λ s. joined_is c.args.low c.args.high s (search rules)

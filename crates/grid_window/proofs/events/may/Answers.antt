@@ -1,7 +1,0 @@
-use Rattle.std.proofs.Common.{ap, ◌∙◌}
-use Rattle.frame_events.specs.Events.{is_done}
-use Rattle.grid_window.proofs.FiringFacts.{same_done}
-use Rattle.grid_window.proofs.events.may.Goals as goal
-
-pub returns : goal.returns
-returns c = c.is_done.ensures.value ∙ ap is_done c.can.ensures.value ∙ same_done _

@@ -1,7 +1,0 @@
-pub mod SmallIfs
-pub mod Legs
-pub mod Parts
-pub mod Statements
-pub mod Programs
-pub mod Kept
-pub mod StandardFacts

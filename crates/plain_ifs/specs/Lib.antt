@@ -1,2 +1,0 @@
-pub mod PlainIfs
-pub mod Laws

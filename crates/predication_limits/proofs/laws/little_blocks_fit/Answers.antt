@@ -1,9 +1,0 @@
-use Rattle.predication_limits.proofs.Machine.{fits_machine}
-use Rattle.predication_limits.proofs.PlainFit.{plain_stays}
-use Rattle.predication_limits.proofs.laws.little_blocks_fit.Goals as goal
-
-pub returns-clause-fit : goal.returns-clause-fit
-returns-clause-fit c = fits_machine
-
-pub returns-clause-stay : goal.returns-clause-stay
-returns-clause-stay c = plain_stays

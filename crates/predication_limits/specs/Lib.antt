@@ -1,4 +1,0 @@
-pub mod Choosers
-pub mod Prices
-pub mod Costs
-pub mod Limits

@@ -1,4 +1,0 @@
-pub mod Texts
-pub mod Read
-pub mod Table
-pub mod Numbers

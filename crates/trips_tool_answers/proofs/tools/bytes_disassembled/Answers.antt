@@ -1,6 +1,0 @@
-use Rattle.trips_tool_answers.proofs.Made.{disassembled_told}
-use Rattle.trips_tool_answers.proofs.tools.bytes_disassembled.Goals as goal
-
-pub returns-in-Ok : goal.returns-in-Ok
-returns-in-Ok c =
-    disassembled_told c.args.bytes.now c.in-Ok.made _ c.in-Ok.ensures.ok c.made_answer.ensures

@@ -1,2 +1,0 @@
-pub mod Tools
-pub mod Answer

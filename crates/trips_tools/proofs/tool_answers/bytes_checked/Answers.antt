@@ -1,0 +1,6 @@
+use Rattle.trips_tools.proofs.ToolAnswersMade.{checked_told}
+use Rattle.trips_tools.proofs.tool_answers.bytes_checked.Goals as goal
+
+pub returns-in-Ok : goal.returns-in-Ok
+returns-in-Ok c =
+    checked_told c.args.bytes.now c.in-Ok.made _ c.in-Ok.ensures.ok c.made_answer.ensures

@@ -1,7 +1,0 @@
-use Rattle.std.proofs.Common.{◌≡◌, true}
-use Rattle.frame_state.specs.Held.{running}
-use Rattle.window_progress.specs.NextEvent.{stores_came}
-use Rattle.window_drive.proofs.allowed.stores_came.Given as goal
-
-abbrev pub invariant-loop-lower : goal.invariant-loop-lower
-invariant-loop-lower l = stores_came (running l.block l.held) l.lower ≡ true

@@ -1,8 +1,0 @@
-use Rattle.window_progress.proofs.Bits.{answer_at, change_at}
-use Rattle.window_progress.proofs.law.events_act_at_their_frame.Goals as goal
-
-pub returns-clause-answered : goal.returns-clause-answered
-returns-clause-answered c = answer_at
-
-pub returns-clause-changed : goal.returns-clause-changed
-returns-clause-changed c = change_at

@@ -1,8 +1,0 @@
-use Rattle.window_progress.proofs.Least.{finds, finds_none}
-use Rattle.window_progress.proofs.law.searches_find_the_least.Goals as goal
-
-pub returns-clause-some : goal.returns-clause-some
-returns-clause-some c = finds
-
-pub returns-clause-none : goal.returns-clause-none
-returns-clause-none c = finds_none

@@ -1,5 +1,0 @@
-pub mod NextEvent
-pub mod Observers
-pub mod Work
-pub mod Driving
-pub mod Laws
