@@ -18,7 +18,8 @@ map_set f [] i x = refl
 map_set f (y ∷ xs) zero x = refl
 map_set f (y ∷ xs) (suc i) x = ap (λ zs. f y ∷ zs) (map_set f xs i x)
 
-pub get_map : {A B : Type 0} → (f : A → B) (xs : List A) (i : ℕ) (d : A) → get_or (map f xs) i (f d) ≡ f (get_or xs i d)
+pub get_map : {A B : Type 0} → (f : A → B) (xs : List A) (i : ℕ) (d : A)
+    → get_or (map f xs) i (f d) ≡ f (get_or xs i d)
 get_map f [] i d = refl
 get_map f (y ∷ xs) zero d = refl
 get_map f (y ∷ xs) (suc i) d = get_map f xs i d
@@ -135,10 +136,12 @@ module _ {A : Type 0} (n : ℕ) where
   none_there items = sym (fill_by_all (item_at (no_flags n) items) (replicate n None) n None (length-replicate n None)
       (λ k h. get_or-replicate n k None None h ∙ sym (ap (λ b. cond b (slice_get items k) None) (get_unset n k))))
 
-  pub none_mapped : (xs : List (Option A)) → length xs ≡ n → no_items {A = A} n ≡ map {A = Option A} {B = Option A} (λ x. None) xs
+  pub none_mapped : (xs : List (Option A)) → length xs ≡ n
+      → no_items {A = A} n ≡ map {A = Option A} {B = Option A} (λ x. None) xs
   unfolding no_items
   none_mapped xs l = ap (λ k. replicate k None) (sym l) ∙ all xs
     where
-      all : (ys : List (Option A)) → replicate {A = Option A} (length ys) None ≡ map {A = Option A} {B = Option A} (λ x. None) ys
+      all : (ys : List (Option A)) → replicate {A = Option A} (length ys) None
+          ≡ map {A = Option A} {B = Option A} (λ x. None) ys
       all [] = refl
       all (y ∷ ys) = ap (λ zs. None ∷ zs) (all ys)

@@ -1,7 +1,6 @@
-//! What nearly every crate stands on: the unit error [`Memory`], and the lists and boxes that
-//! contracts see as what they hold, so that a tree made of them is plain data.
-//!
-//! Rows of flags, and rows of items of which each may be there or not.
+//! What nearly every crate stands on: the unit error [`Memory`]; lists and boxes that contracts see as what they
+//! hold, so that a tree made of them is plain data; and rows of flags, and of items of which each may be there or
+//! not.
 //!
 //! A row keeps a bit for each number in words of 64, so that a few writes clear a row of any length, and contracts
 //! see it as a list. All calls take any number: what is past the last is not there, and a write to it changes

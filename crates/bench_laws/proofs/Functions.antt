@@ -41,7 +41,8 @@ sums x =
     (partial x 15) ∷ []
 
 -- all turns of the first loop
-pub fill_all : (P : TypedProgram) (input output : List ℕ) (room x : ℕ) (c0 c1 c2 c3 c4 c5 c6 c7 c8 c9 c10 c11 c12 c13 c14 c15 : Option ℕ)
+pub fill_all : (P : TypedProgram) (input output : List ℕ) (room x : ℕ)
+    (c0 c1 c2 c3 c4 c5 c6 c7 c8 c9 c10 c11 c12 c13 c14 c15 : Option ℕ)
     (u : State) (k h : ℕ) → x < 1000
     → Turns P below_16 step fill (inside input output room x (Some 16) (filled x)) k u h
     → Turns P below_16 step fill (inside input output room x (Some 0)
@@ -89,10 +90,12 @@ abbrev pub function_steps : ℕ → ℕ
 function_steps k = suc (more 3 (fills 16 (more 3 (more 3 (adds 15 (more 3 (more 5 k)))))))
 
 -- what the body of function n returns of x, whatever the array held
-pub function_gives : (P : TypedProgram) (input output : List ℕ) (room x n : ℕ) (c0 c1 c2 c3 c4 c5 c6 c7 c8 c9 c10 c11 c12 c13 c14 c15 : Option ℕ)
+pub function_gives : (P : TypedProgram) (input output : List ℕ) (room x n : ℕ)
+    (c0 c1 c2 c3 c4 c5 c6 c7 c8 c9 c10 c11 c12 c13 c14 c15 : Option ℕ)
     (k : ℕ) → x < 1000 → n < 64
     → Follow P (function_code n) (inside input output room x None
-    (c0 ∷ c1 ∷ c2 ∷ c3 ∷ c4 ∷ c5 ∷ c6 ∷ c7 ∷ c8 ∷ c9 ∷ c10 ∷ c11 ∷ c12 ∷ c13 ∷ c14 ∷ c15 ∷ [])) (function_steps k) (Returns (Some (partial x 15 + n)))
+    (c0 ∷ c1 ∷ c2 ∷ c3 ∷ c4 ∷ c5 ∷ c6 ∷ c7 ∷ c8 ∷ c9 ∷ c10 ∷ c11 ∷ c12 ∷ c13 ∷ c14 ∷ c15 ∷ [])) (function_steps k)
+        (Returns (Some (partial x 15 + n)))
     (inside input output room x (Some 16) (sums x)) k
 unfolding operate
 function_gives P input output room x n c0 c1 c2 c3 c4 c5 c6 c7 c8 c9 c10 c11 c12 c13 c14 c15 k small few =

@@ -1,5 +1,6 @@
 -- The benchmark's text has these tokens.
-use Rattle.std.proofs.Common.{◌≡◌, ◌≤◌, ◌<◌, ℕ, zero, suc, ◌+◌, ◌*◌, Bool, false, List, [], ◌∷◌, ◌++◌, map, length, codes, refl}
+use Rattle.std.proofs.Common.{◌≡◌, ◌≤◌, ◌<◌, ℕ, zero, suc, ◌+◌, ◌*◌, Bool, false, List, [], ◌∷◌, ◌++◌, map, length}
+use Rattle.std.proofs.Common.{codes, refl}
 use Rattle.std.proofs.Common.{sym, ap, ◌∙◌, subst, arith, append_assoc, length-append}
 use Rattle.std.specs.Prelude.{decimal}
 use Rattle.bench_text.specs.Text.{head, function_name, function_body, function_end, function, functions, main_head}
@@ -9,16 +10,17 @@ use Rattle.c_tree.specs.declared.Form.{Form}
 use Rattle.c_tree.specs.declared.Form.TheVariants as form
 use Rattle.c_lex.specs.declared.piece.Reading.TheVariants as reads
 use Rattle.c_lex.specs.Bytes.{Bytes, is_space, line_after}
-use Rattle.c_lex.specs.Lexes.{Tokens, Cut, Lexes, here, next}
-use Rattle.c_lex.specs.Answers.{Lexed}
+use Rattle.c_lex.specs.Lexes.{Tokens, Cut, Lexes, here, next, Lexed}
 use Rattle.c_lex.proofs.Lines.{include_front}
-use Rattle.c_lex.proofs.Whole.{whole, bytes_nil}
+use Rattle.c_lex.proofs.ReadSoFar.{whole, bytes_nil}
 use Rattle.c_grammar.specs.Tokens.{token}
-use Rattle.bench_laws.proofs.Forms.{array_forms, function_forms, main_forms, call_forms, end_forms, line_of, functions_tokens}
+use Rattle.bench_laws.proofs.Forms.{array_forms, function_forms, main_forms, call_forms, end_forms}
+use Rattle.bench_laws.proofs.Forms.{line_of, functions_tokens}
 use Rattle.bench_laws.proofs.Forms.{calls_tokens, tokens}
 use Rattle.bench_laws.proofs.Trees.{function_at, main_at, call_at}
 use Rattle.bench_laws.proofs.Scan.{Line, Reaches, Cuts, then_cuts, line_cuts, feed_cuts, last_cuts}
-use Rattle.bench_laws.proofs.Lines.{function_text, call_text, function_is_cut, call_is_cut, array_is_cut, main_is_cut, end_is_cut}
+use Rattle.bench_laws.proofs.Lines.{function_text, call_text, function_is_cut, call_is_cut, array_is_cut}
+use Rattle.bench_laws.proofs.Lines.{main_is_cut, end_is_cut}
 
 -- LINES
 
@@ -44,17 +46,20 @@ unfolding call_name call_end
 call_is k rest = ap (λ (y : Bytes). codes "x = f" ++ y) (append_assoc (decimal k) call_end rest)
 
 -- the functions below n, behind line 2
-functions_cut : (n : ℕ) (rest : Bytes) → n ≤ 64 → Cuts 2 (10 ∷ functions n ++ rest) (functions_tokens n) (10 ∷ rest) (2 + n)
+functions_cut : (n : ℕ) (rest : Bytes) → n ≤ 64
+    → Cuts 2 (10 ∷ functions n ++ rest) (functions_tokens n) (10 ∷ rest) (2 + n)
 functions_cut zero rest few = λ before e. record { passed = before; cut = here; line_is = e }
 functions_cut (suc n) rest few =
     subst (λ (t : Bytes). Cuts 2 (10 ∷ t) (functions_tokens (suc n)) (10 ∷ rest) (2 + suc n))
     (sym (append_assoc (functions n) (function n) rest))
     (subst (λ (m : ℕ). Cuts 2 (10 ∷ functions n ++ (function n ++ rest)) (functions_tokens (suc n)) (10 ∷ rest) m)
     (let e : function_at n ≡ 2 + suc n = omega arith in e)
-    (then_cuts 2 (2 + n) (function_at n) (10 ∷ functions n ++ (function n ++ rest)) (10 ∷ function n ++ rest) (10 ∷ rest)
+    (then_cuts 2 (2 + n) (function_at n) (10 ∷ functions n ++ (function n ++ rest))
+        (10 ∷ function n ++ rest) (10 ∷ rest)
     (functions_tokens n) (line_of (function_at n) (function_forms n))
     (functions_cut n (function n ++ rest) (omega arith))
-    (subst (λ (t : Bytes). Cuts (2 + n) (10 ∷ t) (line_of (function_at n) (function_forms n)) (10 ∷ rest) (function_at n))
+    (subst (λ (t : Bytes). Cuts (2 + n) (10 ∷ t) (line_of (function_at n) (function_forms n)) (10 ∷ rest)
+        (function_at n))
     (sym (function_is n rest))
     (line_after_feed (2 + n) 108 _ rest (function_forms n) refl (function_is_cut n rest (omega arith))))))
 
@@ -68,10 +73,12 @@ calls_cut n (suc k) rest few =
     (sym (append_assoc (calls k) (call k) rest))
     (subst (λ (m : ℕ). Cuts (main_at n) (10 ∷ calls k ++ (call k ++ rest)) (calls_tokens n (suc k)) (10 ∷ rest) m)
     (let e : call_at n k ≡ main_at n + suc k = omega arith in e)
-    (then_cuts (main_at n) (main_at n + k) (call_at n k) (10 ∷ calls k ++ (call k ++ rest)) (10 ∷ call k ++ rest) (10 ∷ rest)
+    (then_cuts (main_at n) (main_at n + k) (call_at n k) (10 ∷ calls k ++ (call k ++ rest))
+        (10 ∷ call k ++ rest) (10 ∷ rest)
     (calls_tokens n k) (line_of (call_at n k) (call_forms k))
     (calls_cut n k (call k ++ rest) (omega arith))
-    (subst (λ (t : Bytes). Cuts (main_at n + k) (10 ∷ t) (line_of (call_at n k) (call_forms k)) (10 ∷ rest) (call_at n k))
+    (subst (λ (t : Bytes). Cuts (main_at n + k) (10 ∷ t) (line_of (call_at n k) (call_forms k)) (10 ∷ rest)
+        (call_at n k))
     (sym (call_is k rest))
     (line_after_feed (main_at n + k) 120 _ rest (call_forms k) refl (call_is_cut k rest (omega arith))))))
 
@@ -87,7 +94,8 @@ unfolding head main_head main_end
 text_is n = refl
 
 behind_cut : (n : ℕ) → n ≤ 64 → Cuts 1 (behind n) (line_of 2 array_forms ++ (functions_tokens n
-    ++ (line_of (main_at n) main_forms ++ (calls_tokens n n ++ line_of (call_at n n) end_forms)))) [] (suc (call_at n n))
+    ++ (line_of (main_at n) main_forms ++ (calls_tokens n n ++ line_of (call_at n n) end_forms)))) []
+        (suc (call_at n n))
 behind_cut n few =
     let ending = codes "return (int) x; }" ++ 10 ∷ [] in
     let middle = codes "int main(void) { long x = 1;" ++ 10 ∷ calls n ++ ending in
@@ -113,7 +121,8 @@ lexes : (n : ℕ) → n ≤ 64 → Lexes (bench_text n) (tokens n)
 lexes n few =
     let text = codes "#include <stdio.h>" ++ behind n in
     let r = behind_cut n few (codes "#include <stdio.h>") refl in
-    let c : Cut [] text (tokens n) r.passed [] = next (include_front (codes "include <stdio.h>" ++ behind n) refl) r.cut in
+    let c : Cut [] text (tokens n) r.passed [] =
+        next (include_front (codes "include <stdio.h>" ++ behind n) refl) r.cut in
     let w : text ≡ r.passed = whole [] text r.passed [] (tokens n) c ∙ bytes_nil r.passed in
     subst (λ (t : Bytes). Lexes t (tokens n)) (sym (text_is n))
     (subst (λ (x : Bytes). Cut [] text (tokens n) x []) (sym w) c)

@@ -5,7 +5,7 @@ pub mod Programs
 pub mod Loops
 pub mod Functions
 pub mod Rounds
-pub mod Ends
+pub mod EvaluationEnds
 pub mod Scan
 pub mod Trees
 pub mod Forms
@@ -14,4 +14,4 @@ pub mod Lexed
 pub mod Parsed
 pub mod Names
 pub mod Typed
-pub mod Whole
+pub mod TextLaws

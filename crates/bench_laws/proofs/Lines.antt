@@ -1,5 +1,6 @@
 -- The lines of the benchmark's text have these tokens.
-use Rattle.std.proofs.Common.{◌≡◌, ◌<◌, ℕ, zero, suc, ◌+◌, Bool, true, false, cond, not, ◌&&◌, ◌||◌, List, [], ◌∷◌, ◌++◌, length}
+use Rattle.std.proofs.Common.{◌≡◌, ◌<◌, ℕ, zero, suc, ◌+◌, Bool, true, false, cond, not, ◌&&◌, ◌||◌, List, [], ◌∷◌}
+use Rattle.std.proofs.Common.{◌++◌, length}
 use Rattle.std.proofs.Common.{codes, take, drop, Option, Some, None, refl, sym, ap, ◌∙◌, subst, arith, get_or, nat_eq}
 use Rattle.std.proofs.Math.Seq.{take-append_seam, drop-append_seam}
 use Rattle.std.specs.Prelude.{decimal}
@@ -22,9 +23,10 @@ use Rattle.c_lex.proofs.Basics.{and_left, and_right, not_true}
 use Rattle.c_lex.proofs.Firsts.{tabled, tabled_at}
 use Rattle.c_lex.proofs.Fronts.{space_front, word_front, number_front}
 use Rattle.c_lex.proofs.Numbers.{constant_is}
-use Rattle.c_lex.proofs.Quiet.{no_feed as digit_feed}
+use Rattle.c_lex.proofs.NoLineFeed.{no_feed as digit_feed}
 use Rattle.c_lex.proofs.Runs.{run_exact}
-use Rattle.bench_laws.proofs.Forms.{array_forms, body_forms, function_forms, main_forms, behind_call_forms, call_forms}
+use Rattle.bench_laws.proofs.Forms.{array_forms, body_forms, function_forms, main_forms}
+use Rattle.bench_laws.proofs.Forms.{behind_call_forms, call_forms}
 use Rattle.bench_laws.proofs.Forms.{end_forms}
 use Rattle.bench_laws.proofs.Scan.{scan, Line, stop, pass, read, scan_line, is_quiet, quiet_is}
 
@@ -108,7 +110,8 @@ number_run : (w : Bytes) (last c : ℕ) (rest : Bytes) → each_digit w ≡ true
     → run_len in_number last (w ++ c ∷ rest) ≡ length w
 number_run [] last c rest e n = ap (λ (b : Bool). cond b (suc (run_len in_number c rest)) 0) (n last)
 number_run (d ∷ ds) last c rest e n =
-    let goes : in_number last d ≡ true = ap (λ (b : Bool). (b || nat_eq d 46) || (is_sign d && is_exponent last)) (digit_word d (and_left (is_digit d) _ e)) in
+    let goes : in_number last d ≡ true = ap (λ (b : Bool). (b || nat_eq d 46) || (is_sign d && is_exponent last))
+        (digit_word d (and_left (is_digit d) _ e)) in
     ap (λ (b : Bool). cond b (suc (run_len in_number d (ds ++ c ∷ rest))) 0) goes
     ∙ ap suc (number_run ds d c rest (and_right (is_digit d) _ e) n)
 
@@ -129,7 +132,8 @@ blank : (b : ℕ) (rest more : Bytes) (fs : List Form) → is_space b ≡ false 
     → Line (32 ∷ b ∷ rest) fs more
 blank b rest more fs s x =
     let g : (starts : Bool) → Front starts (32 ∷ b ∷ rest) 1 reads.Gap = λ starts.
-    subst (λ (v : Bool). Front starts (32 ∷ b ∷ rest) (suc (cond v (suc (run_len (by_class is_space) b rest)) 0)) reads.Gap)
+    subst (λ (v : Bool). Front starts (32 ∷ b ∷ rest)
+        (suc (cond v (suc (run_len (by_class is_space) b rest)) 0)) reads.Gap)
     s (space_front starts 32 (b ∷ rest) refl) in
     pass g refl x
 
@@ -143,9 +147,12 @@ name_line w c rest more fs e s none x =
     let a : (starts : Bool) → Longest starts (102 ∷ bs) (102 ∷ take (length w) bs) (drop (length w) bs)
     (reads.Token (word_form (102 ∷ take (length w) bs) (lookup (102 ∷ take (length w) bs) keywords))) = λ starts.
     subst (λ (m : ℕ). Longest starts (102 ∷ bs) (102 ∷ take m bs) (drop m bs)
-    (reads.Token (word_form (102 ∷ take m bs) (lookup (102 ∷ take m bs) keywords)))) n (word_front starts 102 bs refl) in
-    let b : (starts : Bool) → Longest starts (102 ∷ bs) (102 ∷ w) (c ∷ rest) (reads.Token (form.Name (102 ∷ w))) = λ starts.
-    subst (λ (o : Option Key). Longest starts (102 ∷ bs) (102 ∷ w) (c ∷ rest) (reads.Token (word_form (102 ∷ w) o))) none
+    (reads.Token (word_form (102 ∷ take m bs) (lookup (102 ∷ take m bs) keywords)))) n
+        (word_front starts 102 bs refl) in
+    let b : (starts : Bool) → Longest starts (102 ∷ bs) (102 ∷ w) (c ∷ rest) (reads.Token (form.Name (102 ∷ w))) =
+        λ starts.
+    subst (λ (o : Option Key). Longest starts (102 ∷ bs) (102 ∷ w) (c ∷ rest)
+        (reads.Token (word_form (102 ∷ w) o))) none
     (subst (λ (t : Bytes). Longest starts (102 ∷ bs) (102 ∷ w) t
     (reads.Token (word_form (102 ∷ w) (lookup (102 ∷ w) keywords)))) (drop-append_seam w (c ∷ rest))
     (subst (λ (t : Bytes). Longest starts (102 ∷ bs) (102 ∷ t) (drop (length w) bs)
@@ -170,7 +177,8 @@ number_line (d ∷ ds) v c k rest more fs e s is x =
     (number_front starts d bs v k first (constant_is (d ∷ take (run_len in_number d bs) bs) v k
     (ap (λ (m : ℕ). constant_of (d ∷ take m bs)) n ∙ ap (λ (y : Bytes). constant_of (d ∷ y)) t ∙ is))) in
     let b : (starts : Bool) → Longest starts (d ∷ bs) (d ∷ ds) (c ∷ rest) (reads.Token (form.Number v k)) = λ starts.
-    subst (λ (y : Bytes). Longest starts (d ∷ bs) (d ∷ ds) y (reads.Token (form.Number v k))) (drop-append_seam ds (c ∷ rest))
+    subst (λ (y : Bytes). Longest starts (d ∷ bs) (d ∷ ds) y (reads.Token (form.Number v k)))
+        (drop-append_seam ds (c ∷ rest))
     (subst (λ (y : Bytes). Longest starts (d ∷ bs) (d ∷ y) (drop (length ds) bs) (reads.Token (form.Number v k))) t
     (a starts)) in
     blank d bs more _ (not_true (is_space d) (and_left (not (is_space d)) _ e))
@@ -191,10 +199,12 @@ unfolding keywords marks function_body
 function_is_cut k rest h =
     let numeral : is_numeral (decimal k) ≡ true = row_same numeral_at is_yes 64 k all_numerals h in
     let tail = codes "; }" ++ 10 ∷ rest in
-    joined (found 2 (function_text k rest) (form.Key key.Long ∷ []) (102 ∷ decimal k ++ (function_body ++ (decimal k ++ tail))) refl)
+    joined (found 2 (function_text k rest) (form.Key key.Long ∷ [])
+        (102 ∷ decimal k ++ (function_body ++ (decimal k ++ tail))) refl)
     (name_line (decimal k) 40 _ (10 ∷ rest) _ (numeral_digits (decimal k) numeral) refl
     (row_same keyword_at no_keyword 64 k all_names h)
-    (joined (found 115 (function_body ++ (decimal k ++ tail)) body_forms (32 ∷ decimal k ++ tail) (body_scan (decimal k ++ tail)))
+    (joined (found 115 (function_body ++ (decimal k ++ tail)) body_forms (32 ∷ decimal k ++ tail)
+        (body_scan (decimal k ++ tail)))
     (number_line (decimal k) k 59 Int _ (10 ∷ rest) _ numeral (λ b. refl)
     (row_same constant_at int_constant 64 k all_constants h)
     (found 10 tail (form.Mark mark.Semicolon ∷ form.Mark mark.RightBrace ∷ []) (10 ∷ rest) refl))))
@@ -208,7 +218,8 @@ unfolding keywords marks
 call_is_cut k rest h =
     let numeral : is_numeral (decimal k) ≡ true = row_same numeral_at is_yes 64 k all_numerals h in
     let tail = codes "(x) % 1000; putchar(65 + (int) (x % 26));" ++ 10 ∷ rest in
-    joined (found 4 (call_text k rest) (form.Name (codes "x") ∷ form.Mark mark.Assign ∷ []) (102 ∷ decimal k ++ tail) refl)
+    joined (found 4 (call_text k rest) (form.Name (codes "x") ∷ form.Mark mark.Assign ∷ [])
+        (102 ∷ decimal k ++ tail) refl)
     (name_line (decimal k) 40 _ (10 ∷ rest) _ (numeral_digits (decimal k) numeral) refl
     (row_same keyword_at no_keyword 64 k all_names h)
     (found 50 tail behind_call_forms (10 ∷ rest) refl))

@@ -1,5 +1,6 @@
 -- What the names of the benchmark's text mean in it, and which definitions its calls call.
-use Rattle.std.proofs.Common.{◌≡◌, ◌<◌, ◌≤◌, ℕ, zero, suc, ◌+◌, Bool, true, false, cond, List, [], ◌∷◌, ◌++◌, codes, Option}
+use Rattle.std.proofs.Common.{◌≡◌, ◌<◌, ◌≤◌, ℕ, zero, suc, ◌+◌, Bool, true, false, cond, List, [], ◌∷◌, ◌++◌}
+use Rattle.std.proofs.Common.{codes, Option}
 use Rattle.std.proofs.Common.{Some, None, refl, sym, ap, ◌∙◌, subst, arith, append_assoc, nat_eq, get_or}
 use Rattle.std.specs.Prelude.{decimal}
 use Rattle.std.proofs.lemmas.Bool.Decides.{nat_tests}
@@ -16,11 +17,11 @@ use Rattle.c_tree.specs.declared.typed.Slot.TheVariants as slot
 use Rattle.c_type_expr.specs.declared.meaning.Meaning.{Meaning}
 use Rattle.c_type_expr.specs.declared.meaning.Meaning.TheVariants as meaning
 use Rattle.c_type_expr.specs.Scope.{Frame, same_name, find, bound}
-use Rattle.c_type.specs.Units.{eof_name, getchar_name, putchar_name, get_char, put_char}
-use Rattle.c_type.specs.Programs.{count_after}
+use Rattle.c_type.specs.FileScopes.{eof_name, getchar_name, putchar_name, get_char, put_char, count_after}
 use Rattle.c_type_rules.specs.Definitions as rules
 use Rattle.c_type_rules.specs.Definitions.{Defines, Calls, CallsIn}
-use Rattle.bench_laws.proofs.Trees.{name_a, name_i, name_x, name_f, function, functions, main, array, tree, function_at}
+use Rattle.bench_laws.proofs.Trees.{name_a, name_i, name_x, name_f, function, functions, main, array}
+use Rattle.bench_laws.proofs.Trees.{tree, function_at}
 
 -- NAMES
 
@@ -158,7 +159,8 @@ some_from k a (suc m) ts h l few rest =
     go more true e =
         let same : a ≡ k = grind (arith, nat_tests) in
         subst (λ (j : ℕ). Calls (name_f j) a (functions_from a (suc m) ++ ts) (Some (callee.Func j))) same
-        (rules.defined rules.function (counted (name_f a) a _ None (none_from a (suc a) m ts (omega arith) (omega arith)
+        (rules.defined rules.function (counted (name_f a) a _ None
+            (none_from a (suc a) m ts (omega arith) (omega arith)
         (λ b. subst (λ (j : ℕ). Calls (name_f j) b ts None) (sym same) (rest b)))))
     go more false e =
         let other : a ≡ k → ⊥ = grind (arith, nat_tests) in
@@ -180,14 +182,16 @@ calls_function n k below few =
     rules.defined_later (rules.defined_later
     (subst (λ (fs : List Top). Calls (name_f k) 0 (fs ++ main n ∷ []) (Some (callee.Func k))) (sym (functions_are n))
     (some_from k 0 n (main n ∷ []) (omega arith) (omega arith) (omega arith)
-    (λ b. rules.not_defined (λ c d. absurd (let q : 109 ≡ 102 = ap (λ (w : List ℕ). get_or w 0 0) (names_is d) in omega arith)) rules.no_item))))
+    (λ b. rules.not_defined (λ c d. absurd
+        (let q : 109 ≡ 102 = ap (λ (w : List ℕ). get_or w 0 0) (names_is d) in omega arith)) rules.no_item))))
 
 -- and a call of main the last one
 pub calls_main : (n : ℕ) → CallsIn (tree n) (codes "main") (Some (callee.Func n))
 calls_main n =
     let e : n ≡ 0 + n = omega arith in
     rules.defined_later (rules.defined_later
-    (subst (λ (fs : List Top). Calls (codes "main") 0 (fs ++ main n ∷ []) (Some (callee.Func n))) (sym (functions_are n))
+    (subst (λ (fs : List Top). Calls (codes "main") 0 (fs ++ main n ∷ []) (Some (callee.Func n)))
+        (sym (functions_are n))
     (passed_from (codes "main") (callee.Func n) 0 n (main n ∷ [])
     (subst (λ (m : ℕ). Calls (codes "main") m (main n ∷ []) (Some (callee.Func n))) e
     (rules.defined rules.function rules.no_item)))))

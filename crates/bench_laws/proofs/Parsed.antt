@@ -1,5 +1,6 @@
 -- The tokens of the benchmark spell its tree.
-use Rattle.std.proofs.Common.{◌≡◌, ℕ, zero, suc, ◌+◌, true, false, List, [], ◌∷◌, ◌++◌, map, codes, Option, Some, None, refl, sym, ap, subst}
+use Rattle.std.proofs.Common.{◌≡◌, ℕ, zero, suc, ◌+◌, true, false, List, [], ◌∷◌, ◌++◌, map, codes, Option, Some}
+use Rattle.std.proofs.Common.{None, refl, sym, ap, subst}
 use Rattle.std.proofs.Common.{append_assoc}
 use Rattle.std.specs.Prelude.{decimal}
 use Rattle.c_tree.specs.declared.token.Form.{Form}
@@ -20,10 +21,12 @@ use Rattle.c_grammar.specs.Statements as s
 use Rattle.c_grammar.specs.Statements.{Writes, entries, stmt, semicolon, paren}
 use Rattle.c_grammar.specs.Units as u
 use Rattle.c_grammar.specs.Units.{Units, unit, item}
-use Rattle.c_grammar.specs.Answers.{IsUnit}
+use Rattle.c_grammar.specs.Accepted.{IsUnit}
 use Rattle.bench_laws.proofs.Forms.{array_forms, function_forms, main_forms, call_forms, end_forms}
-use Rattle.bench_laws.proofs.Trees.{i_of, x_of, name_a, set_i, below_16, step, fill, add_up, sum, function_body, function, next_x}
-use Rattle.bench_laws.proofs.Trees.{low, advance, show, result, returned, loop, function_at, main_at, call_at, functions, calls}
+use Rattle.bench_laws.proofs.Trees.{i_of, x_of, name_a, set_i, below_16, step, fill, add_up, sum, function_body}
+use Rattle.bench_laws.proofs.Trees.{function, next_x}
+use Rattle.bench_laws.proofs.Trees.{low, advance, show, result, returned, loop, function_at, main_at, call_at}
+use Rattle.bench_laws.proofs.Trees.{functions, calls}
 use Rattle.bench_laws.proofs.Trees.{main_body, main, array, tree, element, number, name_f, operation, assigned}
 use Rattle.bench_laws.proofs.Forms.{line_of, functions_tokens, calls_tokens, tokens}
 
@@ -60,13 +63,15 @@ module _ (l : ℕ) where
       (lift 10 (e.join {a = i_of l} (op Add) (lift 5 e.name) (lift 4 e.number))))
 
   fill_is : (t : Tokens) → Spells deep (expr 16 (fill l)) 3
-      (line_of l (form.Name (codes "a") ∷ form.Mark mark.LeftBracket ∷ form.Name (codes "i") ∷ form.Mark mark.RightBracket
+      (line_of l (form.Name (codes "a") ∷ form.Mark mark.LeftBracket ∷ form.Name (codes "i")
+          ∷ form.Mark mark.RightBracket
       ∷ form.Mark mark.Assign ∷ form.Name (codes "x") ∷ form.Mark mark.Plus ∷ form.Name (codes "i") ∷ []) ++ t) t
   fill_is t = lift 1 (e.assign {a = element l (i_of l)} simple (lift 2 (e.element refl (lift 16 e.name))) refl
       (lift 10 (e.join {a = x_of l} (op Add) (lift 5 e.name) (lift 4 e.name))))
 
   add_up_is : (t : Tokens) → Spells deep (expr 16 (add_up l)) 3
-      (line_of l (form.Name (codes "a") ∷ form.Mark mark.LeftBracket ∷ form.Name (codes "i") ∷ form.Mark mark.RightBracket
+      (line_of l (form.Name (codes "a") ∷ form.Mark mark.LeftBracket ∷ form.Name (codes "i")
+          ∷ form.Mark mark.RightBracket
       ∷ form.Mark mark.Assign ∷ form.Name (codes "a") ∷ form.Mark mark.LeftBracket ∷ form.Name (codes "i")
       ∷ form.Mark mark.RightBracket ∷ form.Mark mark.Plus ∷ form.Name (codes "a") ∷ form.Mark mark.LeftBracket
       ∷ form.Name (codes "i") ∷ form.Mark mark.Minus ∷ form.Number 1 Int ∷ form.Mark mark.RightBracket ∷ []) ++ t) t
@@ -75,14 +80,17 @@ module _ (l : ℕ) where
       (lift 4 (e.element refl (lift 11 (e.join {a = i_of l} (op Subtract) (lift 5 e.name) (lift 4 e.number))))))))
 
   sum_is : (k : ℕ) (t : Tokens) → Spells deep (expr 16 (sum l k)) 2
-      (line_of l (form.Name (codes "a") ∷ form.Mark mark.LeftBracket ∷ form.Number 15 Int ∷ form.Mark mark.RightBracket
+      (line_of l (form.Name (codes "a") ∷ form.Mark mark.LeftBracket ∷ form.Number 15 Int
+          ∷ form.Mark mark.RightBracket
       ∷ form.Mark mark.Plus ∷ form.Number k Int ∷ []) ++ t) t
   sum_is k t = lift 11 (e.join {a = element l (number l 15)} (op Add) (lift 5 (e.element refl (lift 16 e.number)))
       (lift 4 e.number))
 
   advance_is : (k : ℕ) (t : Tokens) → Spells deep (expr 16 (assigned l (x_of l) (next_x l k))) 2
-      (line_of l (form.Name (codes "x") ∷ form.Mark mark.Assign ∷ form.Name (102 ∷ decimal k) ∷ form.Mark mark.LeftParen
-      ∷ form.Name (codes "x") ∷ form.Mark mark.RightParen ∷ form.Mark mark.Percent ∷ form.Number 1000 Int ∷ []) ++ t) t
+      (line_of l (form.Name (codes "x") ∷ form.Mark mark.Assign ∷ form.Name (102 ∷ decimal k)
+          ∷ form.Mark mark.LeftParen
+      ∷ form.Name (codes "x") ∷ form.Mark mark.RightParen ∷ form.Mark mark.Percent ∷ form.Number 1000 Int ∷ []) ++ t)
+          t
   advance_is k t = lift 1 (e.assign {a = x_of l} simple (lift 2 e.name) refl
       (lift 11 (e.join (op Remainder) (lift 4 (e.call refl (e.some (e.last (lift 15 e.name))))) (lift 3 e.number))))
 
@@ -101,7 +109,8 @@ module _ (l : ℕ) where
       (lift 10 (e.join {a = number l 65} (op Add) (lift 5 e.number) (low_is _)))))))
 
   result_is : (t : Tokens) → Spells deep (expr 16 (result l)) 2
-      (line_of l (form.Mark mark.LeftParen ∷ form.Key key.Int ∷ form.Mark mark.RightParen ∷ form.Name (codes "x") ∷ []) ++ t) t
+      (line_of l (form.Mark mark.LeftParen ∷ form.Key key.Int ∷ form.Mark mark.RightParen
+          ∷ form.Name (codes "x") ∷ []) ++ t) t
   result_is t = lift 13 (e.cast refl types.int (lift 3 e.name))
 
   -- FUNCTIONS
@@ -137,7 +146,8 @@ calls_are n zero ss r t h = h
 calls_are n (suc k) ss r t h =
     subst (λ (xs : List Stmt). Writes deep (entries xs) 1 (calls_tokens n (suc k) ++ r) t)
     (sym (append_assoc (calls n k) (advance (call_at n k) k ∷ show (call_at n k) ∷ []) ss))
-    (subst (λ (ts : Tokens). Writes deep (entries (calls n k ++ (advance (call_at n k) k ∷ show (call_at n k) ∷ ss))) 1 ts t)
+    (subst (λ (ts : Tokens). Writes deep
+        (entries (calls n k ++ (advance (call_at n k) k ∷ show (call_at n k) ∷ ss))) 1 ts t)
     (sym (append_assoc (calls_tokens n k) (line_of (call_at n k) (call_forms k)) r))
     (calls_are n k (advance (call_at n k) k ∷ show (call_at n k) ∷ ss) (line_of (call_at n k) (call_forms k) ++ r) t
     (call_is (call_at n k) k ss r t h)))

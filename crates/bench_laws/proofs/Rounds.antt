@@ -1,6 +1,7 @@
 -- A run of the benchmark: its rounds, main, and the evaluation.
 use Rattle.std.proofs.Common.{◌≡◌, ℕ, zero, suc, ◌+◌, ◌-◌, ◌*◌, ◌%◌, ◌<◌, ◌≤◌, pos, Bool, true, false, List, [], ◌∷◌}
-use Rattle.std.proofs.Common.{◌++◌, Option, Some, None, refl, sym, ap, ◌∙◌, subst, arith, append_assoc, nat_eq, length}
+use Rattle.std.proofs.Common.{◌++◌, Option, Some, None, refl, sym, ap, ◌∙◌, subst, arith, append_assoc}
+use Rattle.std.proofs.Common.{nat_eq, length}
 use Rattle.std.proofs.Common.{replicate}
 use Rattle.std.specs.Prelude.{slice_get}
 use Rattle.std.proofs.lemmas.Bool.Decides.{nat_tests}
@@ -87,7 +88,8 @@ round_steps k = more 7 (function_steps (suc (more 9 k)))
 
 module _ (N : ℕ) (input : List ℕ) (most : N ≤ 64) where
   -- x = fK(x) % 1000;
-  advances : (k x : ℕ) (output : List ℕ) (c0 c1 c2 c3 c4 c5 c6 c7 c8 c9 c10 c11 c12 c13 c14 c15 : Option ℕ) (j : ℕ) → k < N → x < 1000
+  advances : (k x : ℕ) (output : List ℕ) (c0 c1 c2 c3 c4 c5 c6 c7 c8 c9 c10 c11 c12 c13 c14 c15 : Option ℕ) (j : ℕ)
+      → k < N → x < 1000
       → Runs (program N) (advance k) (outside input output (Some x)
       (c0 ∷ c1 ∷ c2 ∷ c3 ∷ c4 ∷ c5 ∷ c6 ∷ c7 ∷ c8 ∷ c9 ∷ c10 ∷ c11 ∷ c12 ∷ c13 ∷ c14 ∷ c15 ∷ []))
       (more 7 (function_steps (suc j))) Nothing
@@ -97,7 +99,8 @@ module _ (N : ℕ) (input : List ℕ) (most : N ≤ 64) where
       let sum : partial x 15 + k ≡ 16 * x + 120 + k = omega arith in
       r_plain (r_assign (r_operation (λ rec a b s. refl)
       (r_call (r_scalar refl) (function_at N k (main N ∷ []) below) is_other refl refl refl
-      (function_gives (program N) input output 312 x k c0 c1 c2 c3 c4 c5 c6 c7 c8 c9 c10 c11 c12 c13 c14 c15 (suc j) small (omega arith)) refl)
+      (function_gives (program N) input output 312 x k c0 c1 c2 c3 c4 c5 c6 c7 c8 c9 c10 c11 c12 c13 c14 c15
+          (suc j) small (omega arith)) refl)
       (r_convert (to_long 1000 (omega arith)))
       (modulo_thousand (partial x 15 + k) (omega arith) ∙ ap (λ (m : ℕ). Some (m % 1000)) sum)) refl refl)
 
@@ -113,12 +116,14 @@ module _ (N : ℕ) (input : List ℕ) (most : N ≤ 64) where
       (ap (λ (b : ℕ). outside input (output ++ b ∷ []) (Some x) row) byte))
 
   -- a round, and what follows it
-  round_with : (k x : ℕ) (output : List ℕ) (c0 c1 c2 c3 c4 c5 c6 c7 c8 c9 c10 c11 c12 c13 c14 c15 : Option ℕ) (rest : List Code) (v : Signal) (u : State) (j h : ℕ)
+  round_with : (k x : ℕ) (output : List ℕ) (c0 c1 c2 c3 c4 c5 c6 c7 c8 c9 c10 c11 c12 c13 c14 c15 : Option ℕ)
+      (rest : List Code) (v : Signal) (u : State) (j h : ℕ)
       → k < N → x < 1000
       → Follow (program N) rest (outside input (output ++ letter ((16 * x + 120 + k) % 1000) ∷ [])
       (Some ((16 * x + 120 + k) % 1000)) (sums x)) j v u h
       → Follow (program N) (advance k ∷ show ∷ rest) (outside input output (Some x)
-      (c0 ∷ c1 ∷ c2 ∷ c3 ∷ c4 ∷ c5 ∷ c6 ∷ c7 ∷ c8 ∷ c9 ∷ c10 ∷ c11 ∷ c12 ∷ c13 ∷ c14 ∷ c15 ∷ [])) (round_steps j) v u h
+      (c0 ∷ c1 ∷ c2 ∷ c3 ∷ c4 ∷ c5 ∷ c6 ∷ c7 ∷ c8 ∷ c9 ∷ c10 ∷ c11 ∷ c12 ∷ c13 ∷ c14 ∷ c15 ∷ []))
+          (round_steps j) v u h
   round_with k x output c0 c1 c2 c3 c4 c5 c6 c7 c8 c9 c10 c11 c12 c13 c14 c15 rest v u j h below small f =
       r_next (advances k x output c0 c1 c2 c3 c4 c5 c6 c7 c8 c9 c10 c11 c12 c13 c14 c15 (more 9 j) below small)
       (r_next (shows ((16 * x + 120 + k) % 1000) output (sums x) j (omega arith)) f)
@@ -148,12 +153,14 @@ rounds zero k = k
 rounds (suc n) k = rounds n (round_steps k)
 
 -- all rounds below n, and what follows them
-pub all_rounds : (N : ℕ) (input : List ℕ) → N ≤ 64 → (n : ℕ) → n ≤ N → (rest : List Code) (v : Signal) (u : State) (j h : ℕ)
+pub all_rounds : (N : ℕ) (input : List ℕ) → N ≤ 64 → (n : ℕ) → n ≤ N
+    → (rest : List Code) (v : Signal) (u : State) (j h : ℕ)
     → Follow (program N) rest (outside input (letters n) (Some (value n)) (array_after n)) j v u h
     → Follow (program N) (calls n ++ rest) (outside input [] (Some 1) (array_after 0)) (rounds n j) v u h
 all_rounds N input most zero few rest v u j h f = f
 all_rounds N input most (suc n) few rest v u j h f =
-    subst (λ (all : List Code). Follow (program N) all (outside input [] (Some 1) (array_after 0)) (rounds n (round_steps j))
+    subst (λ (all : List Code). Follow (program N) all (outside input [] (Some 1) (array_after 0))
+        (rounds n (round_steps j))
     v u h) (sym (append_assoc (calls n) (advance n ∷ show ∷ []) rest))
     (all_rounds N input most n (omega arith) (advance n ∷ show ∷ rest) v u (round_steps j) h
     (round N input most n rest v u j h (omega arith) f))

@@ -80,12 +80,14 @@ of_level P m n s e = meaning-is P (Run m) s
 
 -- the uppermost level of the first part of a `for`
 first_of : (e : TypedExpr) → out-TypedForInit (firsts.First e) ≡ First e
-first_of e = ap (λ (x : TypedForInit). out-TypedForInit x) (sym (firsts.rolls-First e)) ∙ out-roll-TypedForInit (First e)
+first_of e = ap (λ (x : TypedForInit). out-TypedForInit x) (sym (firsts.rolls-First e))
+    ∙ out-roll-TypedForInit (First e)
 
 -- EXPRESSIONS
 
 pub r_number : {P : TypedProgram} {c : Kind} {w : ℕ} {s : State} {k : ℕ} → Gives P (number c w) s (suc k) w s k
-r_number {P = P} {c = c} {w = w} {s = s} {k = k} = record { is = of_node P c _ (Number w) (at s (suc k)) (nodes.rolls-Number w) }
+r_number {P = P} {c = c} {w = w} {s = s} {k = k} =
+    record { is = of_node P c _ (Number w) (at s (suc k)) (nodes.rolls-Number w) }
 
 pub r_scalar : {P : TypedProgram} {c : Kind} {i w : ℕ} {s : State} {k : ℕ} → slice_get s.scalars i ≡ Some (Some w)
     → Gives P (scalar c i) s (suc k) w s k
@@ -97,8 +99,10 @@ r_scalar {P = P} {c = c} {i = i} {w = w} {s = s} {k = k} h = record {
 pub r_element : {P : TypedProgram} {c : Kind} {g w v k j : ℕ} {e : Term} {row : List (Option ℕ)} {s s' : State}
     → Gives P e s k w s' j → slice_get s'.arrays g ≡ Some row → slice_get row w ≡ Some (Some v)
     → Gives P (element c g e) s (suc k) v s' j
-r_element {P = P} {c = c} {g = g} {w = w} {v = v} {k = k} {j = j} {e = e} {row = row} {s = s} {s' = s'} h f x = record {
-  is = of_node P c _ (Element (place.Global g) None (typed e)) (at s (suc k)) (nodes.rolls-Element (place.Global g) None (typed e))
+r_element {P = P} {c = c} {g = g} {w = w} {v = v} {k = k} {j = j} {e = e} {row = row} {s = s} {s' = s'} h f x =
+    record {
+  is = of_node P c _ (Element (place.Global g) None (typed e)) (at s (suc k))
+      (nodes.rolls-Element (place.Global g) None (typed e))
       ∙ ap (λ (r : Result). then r (element_value (place.Global g))) h.is
       ∙ ap (λ (r : Option (List (Option ℕ))). given (held (cell_in r w)) (at s' j)) f
       ∙ ap (λ (r : Option (Option ℕ)). given (held r) (at s' j)) x;
@@ -125,15 +129,18 @@ r_operation {P = P} {c = c} {op = op} {a = a} {b = b} {k = k} {j = j} {i = i} {x
 pub r_convert : {P : TypedProgram} {c : Kind} {w w' : ℕ} {s : State} {k : ℕ} → converted c w ≡ w'
     → Gives P (convert c w) s (suc k) w' s k
 r_convert {P = P} {c = c} {w = w} {s = s} {k = k} e = record {
-  is = of_node P c _ (Convert c (made Int (nodes.Number w))) (at s (suc k)) (nodes.rolls-Convert c (made Int (nodes.Number w)))
-      ∙ ap (λ (m : Node). then (node (meaning P) P m (at s (suc k))) (converting c)) (level_of _ _ (nodes.rolls-Number w))
+  is = of_node P c _ (Convert c (made Int (nodes.Number w))) (at s (suc k))
+      (nodes.rolls-Convert c (made Int (nodes.Number w)))
+      ∙ ap (λ (m : Node). then (node (meaning P) P m (at s (suc k))) (converting c))
+          (level_of _ _ (nodes.rolls-Number w))
       ∙ ap (λ (n : ℕ). Go (Value n) (at s k)) e;
 }
 
 pub r_cast : {P : TypedProgram} {c : Kind} {w w' k j : ℕ} {e : Term} {s s' : State}
     → Gives P e s k w s' j → converted c w ≡ w' → Gives P (cast c e) s (suc k) w' s' j
 r_cast {P = P} {c = c} {k = k} {j = j} {e = e} {s = s} {s' = s'} h f = record {
-  is = of_node P c _ (Cast c (typed e)) (at s (suc k)) (nodes.rolls-Cast c (typed e)) ∙ ap (λ (r : Result). then r (converting c)) h.is
+  is = of_node P c _ (Cast c (typed e)) (at s (suc k)) (nodes.rolls-Cast c (typed e))
+      ∙ ap (λ (r : Result). then r (converting c)) h.is
       ∙ ap (λ (n : ℕ). Go (Value n) (at s' j)) f;
 }
 
@@ -142,7 +149,8 @@ pub r_assign : {P : TypedProgram} {c : Kind} {p w k j : ℕ} {e : Term} {s s' s'
     → record s' { scalars = slice_set s'.scalars p (Some w) } ≡ s''
     → Gives P (assign c p e) s (suc k) w s'' j
 r_assign {P = P} {c = c} {p = p} {w = w} {k = k} {j = j} {e = e} {s = s} {s' = s'} h f g = record {
-  is = of_node P c _ (Assign None c (made c (nodes.Name (place.Scalar p))) (typed e)) (at s (suc k)) (nodes.rolls-Assign None c (made c (nodes.Name (place.Scalar p))) (typed e))
+  is = of_node P c _ (Assign None c (made c (nodes.Name (place.Scalar p))) (typed e)) (at s (suc k))
+      (nodes.rolls-Assign None c (made c (nodes.Name (place.Scalar p))) (typed e))
       ∙ ap (λ (m : Node). spec.assign (meaning P) None (Some c) c m (typed e) (at s k))
       (level_of _ _ (nodes.rolls-Name (place.Scalar p)))
       ∙ ap (λ (r : Result). then r (assigned (InScalar p))) h.is
@@ -158,7 +166,8 @@ pub r_set : {P : TypedProgram} {c : Kind} {g w v k j i : ℕ} {e x : Term} {s s'
     → Gives P (set c g x e) s (suc k) v u i
 r_set {P = P} {c = c} {g = g} {w = w} {v = v} {k = k} {j = j} {i = i} {e = e} {x = x} {s = s} {s' = s'} {s'' = s''}
     h f a b q = record {
-      is = of_node P c _ (Assign None c (made c (nodes.Element (place.Global g) None (typed x))) (typed e)) (at s (suc k)) (nodes.rolls-Assign None c (made c (nodes.Element (place.Global g) None (typed x))) (typed e))
+      is = of_node P c _ (Assign None c (made c (nodes.Element (place.Global g) None (typed x))) (typed e))
+          (at s (suc k)) (nodes.rolls-Assign None c (made c (nodes.Element (place.Global g) None (typed x))) (typed e))
           ∙ ap (λ (m : Node). spec.assign (meaning P) None (Some c) c m (typed e) (at s k))
           (level_of _ _ (nodes.rolls-Element (place.Global g) None (typed x)))
           ∙ ap (λ (r : Result). then r (assign_element (meaning P) None (Some c) c (place.Global g) (typed e))) h.is
@@ -175,7 +184,8 @@ body all = stmts.Compound (map stated all)
 -- the body does what its statements do
 pub body_gives : {P : TypedProgram} {all : List Code} {v : Signal} {k j : ℕ} {s s' : State} → Follow P all s k v s' j
     → meaning P (Run (body all)) (at s (suc k)) ≡ Go v (at s' j)
-body_gives {P = P} {all = all} {k = k} {s = s} h = of_level P _ (Compound (map stated all)) (at s (suc k)) (stmts.rolls-Compound (map stated all)) ∙ h.is
+body_gives {P = P} {all = all} {k = k} {s = s} h =
+    of_level P _ (Compound (map stated all)) (at s (suc k)) (stmts.rolls-Compound (map stated all)) ∙ h.is
 
 -- a call of a function other than main, which returns a value
 pub r_call : {P : TypedProgram} {c : Kind} {f w v k j i : ℕ} {e : Term} {F : TypedFunc} {all : List Code}
@@ -198,7 +208,8 @@ r_call {P = P} {c = c} {f = f} {w = w} {v = v} {k = k} {j = j} {i = i} {e = e} {
           ∙ ap (λ (r : Result). then r (λ v s. want v s (λ w. arguments (meaning P) P (Func f) [] (w ∷ []) s))) h.is
           ∙ ap (λ (m : Bool). enter (meaning P) m (slice_get P.functions f) (w ∷ []) (at s' (suc j))) is_other
           ∙ ap (λ (o : Option TypedFunc). enter (meaning P) false o (w ∷ []) (at s' (suc j))) is_f
-          ∙ ap (λ (b : Bool). cond b (entered_if (meaning P) false (nat_le (s'.room + frame F) most_frame_bytes) F (w ∷ [])
+          ∙ ap (λ (b : Bool). cond b (entered_if (meaning P) false
+              (nat_le (s'.room + frame F) most_frame_bytes) F (w ∷ [])
           (at s' (suc j))) (want Nothing (at s' (suc j)) (λ w. Go (Value w) s'))) one
           ∙ ap (λ (b : Bool). entered_if (meaning P) false b F (w ∷ []) (at s' (suc j))) fits
           ∙ ap (λ (b : TypedStmt). then (meaning P (Run b) (at (entered F (w ∷ []) s') (suc j)))
@@ -223,7 +234,8 @@ r_put {P = P} {w = w} {k = k} {j = j} {e = e} {s = s} {s' = s'} h f = record {
 pub r_plain : {P : TypedProgram} {k j w : ℕ} {e : Term} {s s' : State} → Gives P e s k w s' j
     → Runs P (plain e) s (suc k) Nothing s' j
 r_plain {P = P} {k = k} {e = e} {s = s} h = record {
-  is = of_level P _ (Plain (Some (typed e))) (at s (suc k)) (stmts.rolls-Plain (Some (typed e))) ∙ ap (λ (r : Result). then r dropped) h.is;
+  is = of_level P _ (Plain (Some (typed e))) (at s (suc k)) (stmts.rolls-Plain (Some (typed e)))
+      ∙ ap (λ (r : Result). then r dropped) h.is;
 }
 
 pub r_none : {P : TypedProgram} {s : State} {k : ℕ} → Follow P [] s k Nothing s k
@@ -256,7 +268,8 @@ pub r_initialise : {P : TypedProgram} {i w k j : ℕ} {e : Term} {s s' s'' u : S
     → record s'' { scalars = slice_set s''.scalars i (Some w) } ≡ u
     → Runs P (initialise i e) s (suc k) Nothing u j
 r_initialise {P = P} {i = i} {w = w} {k = k} {j = j} {e = e} {s = s} {s' = s'} {s'' = s''} h f g b q = record {
-  is = of_level P _ (Declare (place.Scalar i) (Some (typed e))) (at s (suc k)) (stmts.rolls-Declare (place.Scalar i) (Some (typed e)))
+  is = of_level P _ (Declare (place.Scalar i) (Some (typed e))) (at s (suc k))
+      (stmts.rolls-Declare (place.Scalar i) (Some (typed e)))
       ∙ ap (λ (x : Option (Option ℕ)). unset (meaning P) i (Some (typed e)) x (at s k)) h
       ∙ ap (λ (x : State). then (meaning P (Of (typed e)) (at x k)) (initialised i)) f
       ∙ ap (λ (r : Result). then r (initialised i)) g.is
@@ -267,7 +280,8 @@ r_initialise {P = P} {i = i} {w = w} {k = k} {j = j} {e = e} {s = s} {s' = s'} {
 pub r_give : {P : TypedProgram} {e : Term} {w k j : ℕ} {s s' : State} → Gives P e s k w s' j
     → Runs P (give e) s (suc k) (Returns (Some w)) s' j
 r_give {P = P} {e = e} {k = k} {s = s} h = record {
-  is = of_level P _ (Return (Some (typed e))) (at s (suc k)) (stmts.rolls-Return (Some (typed e))) ∙ ap (λ (r : Result). then r returning) h.is;
+  is = of_level P _ (Return (Some (typed e))) (at s (suc k)) (stmts.rolls-Return (Some (typed e)))
+      ∙ ap (λ (r : Result). then r returning) h.is;
 }
 
 -- LOOPS
@@ -275,10 +289,12 @@ r_give {P = P} {e = e} {k = k} {s = s} h = record {
 pub r_loop : {P : TypedProgram} {e t p : Term} {c : Code} {w k j i : ℕ} {s s' s'' : State}
     → Gives P e s k w s' j → Turns P t p c s' j s'' i → Runs P (loop e t p c) s (suc k) Nothing s'' i
 r_loop {P = P} {e = e} {t = t} {p = p} {c = c} {k = k} {s = s} h f = record {
-  is = of_level P _ (For (firsts.First (typed e)) (Some (typed t)) (Some (typed p)) (stated c)) (at s (suc k)) (stmts.rolls-For (firsts.First (typed e)) (Some (typed t)) (Some (typed p)) (stated c))
+  is = of_level P _ (For (firsts.First (typed e)) (Some (typed t)) (Some (typed p)) (stated c)) (at s (suc k))
+      (stmts.rolls-For (firsts.First (typed e)) (Some (typed t)) (Some (typed p)) (stated c))
       ∙ ap (λ (b : Beginning). begin (meaning P) b (Some (typed t)) (Some (typed p)) (stated c) (at s k))
       (first_of (typed e))
-      ∙ ap (λ (r : Result). then r (λ v s. meaning P (Turn (Some (typed t)) (Some (typed p)) (stated c)) s)) h.is ∙ f.is;
+      ∙ ap (λ (r : Result). then r (λ v s. meaning P (Turn (Some (typed t)) (Some (typed p)) (stated c)) s)) h.is
+          ∙ f.is;
 }
 
 -- a turn of a loop, and what follows it
@@ -289,7 +305,8 @@ r_turn {P = P} {t = t} {p = p} {c = c} {k = k} {s = s} a b d e = record {
   is = meaning-is P (Turn (Some (typed t)) (Some (typed p)) (stated c)) (at s k)
       ∙ ap (λ (r : Result). then r (after_test (meaning P) (Some (typed t)) (Some (typed p)) (stated c))) a.is
       ∙ ap (λ (r : Result). then r (after_body (meaning P) (Some (typed t)) (Some (typed p)) (stated c))) b.is
-      ∙ ap (λ (r : Result). then r (λ v s. meaning P (Turn (Some (typed t)) (Some (typed p)) (stated c)) s)) d.is ∙ e.is;
+      ∙ ap (λ (r : Result). then r (λ v s. meaning P (Turn (Some (typed t)) (Some (typed p)) (stated c)) s)) d.is
+          ∙ e.is;
 }
 
 -- its end

@@ -1,7 +1,9 @@
 -- A line of a text, piece by piece: a scan that can be computed, and that it cuts the text as the definition of the
 -- lexer does.
-use Rattle.std.proofs.Common.{◌≡◌, ◌<◌, ◌≤◌, ℕ, zero, suc, ◌+◌, Bool, true, false, cond, if◌then◌else◌, ◌||◌, ◌&&◌, not, List}
-use Rattle.std.proofs.Common.{[], ◌∷◌, ◌++◌, map, length, take, drop, Option, Some, None, refl, sym, ap, ◌∙◌, subst, arith}
+use Rattle.std.proofs.Common.{◌≡◌, ◌<◌, ◌≤◌, ℕ, zero, suc, ◌+◌, Bool, true, false, cond, if◌then◌else◌, ◌||◌, ◌&&◌}
+use Rattle.std.proofs.Common.{not, List}
+use Rattle.std.proofs.Common.{[], ◌∷◌, ◌++◌, map, length, take, drop, Option, Some, None, refl, sym, ap, ◌∙◌}
+use Rattle.std.proofs.Common.{subst, arith}
 use Rattle.std.proofs.Common.{nat_eq, get_or}
 use Rattle.c_tree.specs.declared.Form.{Form}
 use Rattle.c_tree.specs.declared.Form.TheVariants as form
@@ -21,7 +23,7 @@ use Rattle.c_lex.proofs.Runs.{feeds_append}
 use Rattle.c_lex.proofs.Fronts.{space_front, word_front, number_front}
 use Rattle.c_lex.proofs.Marks.{mark_front, only_longest, mark_ends}
 use Rattle.c_lex.proofs.Numbers.{constant_is}
-use Rattle.c_lex.proofs.Whole.{joined}
+use Rattle.c_lex.proofs.ReadSoFar.{joined}
 use Rattle.c_grammar.specs.Tokens.{token}
 
 -- THE SCAN
@@ -130,7 +132,8 @@ mark_right b (c ∷ cs) s = go (lookup (b ∷ []) marks) refl (none_longer b mar
         mark_front starts b (c ∷ cs) 1 m (only_longest b (c ∷ cs) m e f) (no_slash 47) (no_slash 42)
     go (Some m) e false f true g = tt
     go (Some m) e false f false g = λ starts.
-        let long : 2 ≤ length (b ∷ c ∷ cs) = (let l : length (b ∷ c ∷ cs) ≡ suc (suc (length cs)) = refl in omega arith) in
+        let long : 2 ≤ length (b ∷ c ∷ cs) =
+            (let l : length (b ∷ c ∷ cs) ≡ suc (suc (length cs)) = refl in omega arith) in
         let one : mark_of (b ∷ c ∷ cs) ≡ Some (1, m) = sym (mark_ends (b ∷ c ∷ cs) long g) ∙ (rw e refl) in
         mark_front starts b (c ∷ cs) 1 m one (no_slash 47) (no_slash 42)
 
@@ -173,7 +176,8 @@ quiet_is (b ∷ bs) e = go (quiet_is bs) (is_feed b) e
 -- on one line, the text is cut into these forms up to the rest
 pub data Line : Bytes → List Form → Bytes → Type 0 where
   stop : {text : Bytes} → Line text [] text
-  pass : {text piece rest more : Bytes} {fs : List Form} → ((starts : Bool) → Longest starts text piece rest reads.Gap)
+  pass : {text piece rest more : Bytes} {fs : List Form}
+      → ((starts : Bool) → Longest starts text piece rest reads.Gap)
       → feeds piece ≡ 0 → Line rest fs more → Line text fs more
   read : {text piece rest more : Bytes} {f : Form} {fs : List Form}
       → ((starts : Bool) → Longest starts text piece rest (reads.Token f))
@@ -186,13 +190,15 @@ scan_line (suc n) text = go (scan_line n) (step text) (step_right text)
   where
     gaps : ((t : Bytes) → Line t (scan n t).0 (scan n t).1) → (k : ℕ)
         → ((starts : Bool) → Front starts text k reads.Gap) → (v : Bool) → is_quiet (take k text) ≡ v
-        → Line text (behind (scan n) text (cond v (gap k) unknown)).0 (behind (scan n) text (cond v (gap k) unknown)).1
+        → Line text (behind (scan n) text (cond v (gap k) unknown)).0
+            (behind (scan n) text (cond v (gap k) unknown)).1
     gaps more k r true e = pass r (quiet_is (take k text) e) (more (drop k text))
     gaps more k r false e = stop
 
     pieces : ((t : Bytes) → Line t (scan n t).0 (scan n t).1) → (k : ℕ) (f : Form)
         → ((starts : Bool) → Front starts text k (reads.Token f)) → (v : Bool) → is_quiet (take k text) ≡ v
-        → Line text (behind (scan n) text (cond v (piece k f) unknown)).0 (behind (scan n) text (cond v (piece k f) unknown)).1
+        → Line text (behind (scan n) text (cond v (piece k f) unknown)).0
+            (behind (scan n) text (cond v (piece k f) unknown)).1
     pieces more k f r true e = read r (quiet_is (take k text) e) (more (drop k text))
     pieces more k f r false e = stop
 
@@ -216,7 +222,8 @@ abbrev pub Cuts : ℕ → Bytes → Tokens → Bytes → ℕ → Type 0
 Cuts l text ts rest m = (before : Bytes) → line_after before ≡ l → Reaches before text ts rest m
 
 -- one part after another
-pub then_cuts : (l m n : ℕ) (text middle rest : Bytes) (ts us : Tokens) → Cuts l text ts middle m → Cuts m middle us rest n
+pub then_cuts : (l m n : ℕ) (text middle rest : Bytes) (ts us : Tokens) → Cuts l text ts middle m
+    → Cuts m middle us rest n
     → Cuts l text (ts ++ us) rest n
 then_cuts l m n text middle rest ts us a b before e =
     let x = a before e in
@@ -232,7 +239,8 @@ same_line before bs l q e =
     let s : feeds (before ++ bs) ≡ feeds before + feeds bs = feeds_append before bs in omega arith
 
 -- a line's tokens have its number
-pub line_cuts : (l : ℕ) (text rest : Bytes) (fs : List Form) → Line text fs rest → Cuts l text (map (token l) fs) rest l
+pub line_cuts : (l : ℕ) (text rest : Bytes) (fs : List Form) → Line text fs rest
+    → Cuts l text (map (token l) fs) rest l
 line_cuts l text rest fs stop before e = record { passed = before; cut = here; line_is = e }
 line_cuts l text rest fs (pass {piece = p} {rest = r} g q x) before e =
     let y = line_cuts l r rest fs x (before ++ p) (same_line before p l q e) in

@@ -1,4 +1,5 @@
--- The forms of the benchmark's typed program: its expressions, its statements, and the typed trees that they stand for.
+-- The forms of the benchmark's typed program: its expressions, its statements, and the typed trees that they stand
+-- for.
 use Rattle.std.proofs.Common.{ℕ, List, [], ◌∷◌, map, Option, Some, None}
 use Rattle.c_tree.specs.declared.Kind.{Kind}
 use Rattle.c_tree.specs.declared.Kind.TheVariants.{Int, Long}

@@ -1,5 +1,6 @@
 -- The tree of the benchmark has its typed program by the rules of typing.
-use Rattle.std.proofs.Common.{◌≡◌, ◌<◌, ◌≤◌, ℕ, zero, suc, ◌+◌, Bool, true, false, cond, ◌||◌, max, List, [], ◌∷◌, ◌++◌, map, length}
+use Rattle.std.proofs.Common.{◌≡◌, ◌<◌, ◌≤◌, ℕ, zero, suc, ◌+◌, Bool, true, false, cond, ◌||◌, max, List, [], ◌∷◌}
+use Rattle.std.proofs.Common.{◌++◌, map, length}
 use Rattle.std.proofs.Common.{codes, Option, Some, None, refl, sym, ap, ◌∙◌, subst, arith, append_assoc, nat_le}
 use Rattle.std.specs.Prelude.{decimal}
 use Rattle.c_tree.specs.declared.token.Kind.{Kind}
@@ -20,8 +21,9 @@ use Rattle.c_tree.specs.declared.typed.TypedExpr.{TypedExpr}
 use Rattle.c_tree.specs.declared.typed.TypedStmt.{TypedStmt}
 use Rattle.c_constant.specs.Need.{Needs, plain, needs, need_fits, call_need, assign_need, indexes_need, element_needs}
 use Rattle.c_constant.specs.declared.constants.Constant.{Constant}
-use Rattle.c_constant.specs.Constant.{ends}
-use Rattle.c_constant.proofs.Nodes.{value-Number, needs-Number, needs-Name, needs-Element, needs-Call, needs-Group, needs-Cast}
+use Rattle.c_constant.specs.Constant.{ends, length_in}
+use Rattle.c_constant.proofs.Nodes.{value-Number, needs-Number, needs-Name, needs-Element, needs-Call, needs-Group}
+use Rattle.c_constant.proofs.Nodes.{needs-Cast}
 use Rattle.c_constant.proofs.Nodes.{needs-Binary, needs-Assign}
 use Rattle.c_type_expr.specs.declared.meaning.Meaning.{Meaning}
 use Rattle.c_type_expr.specs.declared.meaning.Meaning.TheVariants as meaning
@@ -30,27 +32,27 @@ use Rattle.c_type_expr.specs.declared.role.Role.{Role}
 use Rattle.c_type_expr.specs.declared.role.Role.TheVariants.{Value, Free, Written}
 use Rattle.c_type_expr.specs.Typed as ty
 use Rattle.c_type_expr.specs.Typed.{Typed}
-use Rattle.c_type_expr.specs.Places as places
-use Rattle.c_type_expr.specs.Constants.{length_in}
+use Rattle.c_type_expr.specs.Roles as places
 use Rattle.c_type.specs.declared.file_scope.FileScope.{FileScope}
 use Rattle.c_type.specs.declared.state.State.{State}
-use Rattle.c_type.specs.Declarations.{is_end}
-use Rattle.c_type.specs.Statements.{nowhere, in_loop}
-use Rattle.c_type.specs.Programs.{empty_file, main_name}
-use Rattle.c_type.specs.Units.{with_include}
+use Rattle.c_type.specs.States.{nowhere, in_loop, is_end}
+use Rattle.c_type.specs.FileScopes.{with_include, empty_file, main_name}
 use Rattle.c_type_rules.specs.Constants as constants
 use Rattle.c_type_rules.specs.Statements as st
 use Rattle.c_type_rules.specs.Statements.{Full, Types, TypesAll}
 use Rattle.c_type_rules.specs.Units as un
 use Rattle.c_type_rules.specs.Units.{Item, Items, Accepts}
-use Rattle.bench_laws.proofs.Terms.{Term, number, scalar, element, convert, cast, operation, assign, set, call, put, Code}
+use Rattle.bench_laws.proofs.Terms.{Term, number, scalar, element, convert, cast, operation, assign, set, call}
+use Rattle.bench_laws.proofs.Terms.{put, Code}
 use Rattle.bench_laws.proofs.Terms.{typed, stated}
 use Rattle.bench_laws.proofs.Programs as p
 use Rattle.bench_laws.proofs.Trees as t
 use Rattle.c_grammar.specs.Operators as operators
 use Rattle.bench_laws.proofs.Trees.{name_a, name_i, name_x, name_f, function_at, main_at, call_at, tree}
-use Rattle.bench_laws.proofs.Names.{frame, array_meaning, function_meaning, find_a, find_putchar, find_x, find_i, find_main}
-use Rattle.bench_laws.proofs.Names.{find_new, find_function, functions_from, functions_are, calls_function, calls_main}
+use Rattle.bench_laws.proofs.Names.{frame, array_meaning, function_meaning, find_a, find_putchar, find_x}
+use Rattle.bench_laws.proofs.Names.{find_i, find_main}
+use Rattle.bench_laws.proofs.Names.{find_new, find_function, functions_from, functions_are}
+use Rattle.bench_laws.proofs.Names.{calls_function, calls_main}
 
 -- NEEDS
 
@@ -58,7 +60,8 @@ module _ (l : ℕ) where
   need_binary : (o : BinaryOp) (x y : Expr) (a b : Needs) → needs x ≡ a → needs y ≡ b
       → needs (t.operation l o x y) ≡ plain (max a.need (1 + b.need))
   need_binary o x y a b e f = needs-Binary (t.operation l o x y) o x y refl
-      ∙ ap (λ (n : Needs). plain (max n.need (1 + (needs y).need))) e ∙ ap (λ (n : Needs). plain (max a.need (1 + n.need))) f
+      ∙ ap (λ (n : Needs). plain (max n.need (1 + (needs y).need))) e
+          ∙ ap (λ (n : Needs). plain (max a.need (1 + n.need))) f
 
   need_element : (i : Expr) (a : Needs) → needs i ≡ a → needs (t.element l i) ≡ element_needs a.need
   need_element i a e = needs-Element (t.element l i) name_a None i refl ∙ ap (λ (n : Needs). element_needs n.need) e
@@ -174,7 +177,8 @@ module _ (l n : ℕ) where
     fits _ _ (need_assign l (t.element l (t.i_of l)) (t.operation l Add (t.element l (t.i_of l))
         (t.element l (t.operation l Subtract (t.i_of l) (t.number l 1)))) _ _
         (need_element l (t.i_of l) _ (need_name l name_i))
-        (need_binary l Add (t.element l (t.i_of l)) (t.element l (t.operation l Subtract (t.i_of l) (t.number l 1))) _ _
+        (need_binary l Add (t.element l (t.i_of l))
+            (t.element l (t.operation l Subtract (t.i_of l) (t.number l 1))) _ _
         (need_element l (t.i_of l) _ (need_name l name_i))
         (need_element l (t.operation l Subtract (t.i_of l) (t.number l 1)) _
         (need_binary l Subtract (t.i_of l) (t.number l 1) _ _ (need_name l name_i) (need_number l 1))))) refl,
@@ -215,7 +219,8 @@ module _ (l n : ℕ) where
   )
 
   result_full : Full (in_main n) Value (t.result l) (typed result_term)
-  result_full = (ty.conversion (ty.scalar refl refl) refl, fits _ _ (need_cast l Int (t.x_of l) _ (need_name l name_x)) refl)
+  result_full = (ty.conversion (ty.scalar refl refl) refl,
+      fits _ _ (need_cast l Int (t.x_of l) _ (need_name l name_x)) refl)
 
 -- FUNCTIONS
 
@@ -242,9 +247,11 @@ body_types : (l n k : ℕ) → TypesAll nowhere (before_body n) (t.function_body
 body_types l n k =
     st.one_more (st.scalar_declared (ap (λ (m : Option Meaning). is_end (or_else m None)) (find_i n)) (omega arith)
     st.without_value)
-    (st.one_more (st.for_loop (st.first_value (set_i_full l n 0)) (st.present (below_full l n)) (st.present (step_full l n))
+    (st.one_more (st.for_loop (st.first_value (set_i_full l n 0)) (st.present (below_full l n))
+        (st.present (step_full l n))
     (st.expression (st.present (fill_full l n))))
-    (st.one_more (st.for_loop (st.first_value (set_i_full l n 1)) (st.present (below_full l n)) (st.present (step_full l n))
+    (st.one_more (st.for_loop (st.first_value (set_i_full l n 1)) (st.present (below_full l n))
+        (st.present (step_full l n))
     (st.expression (st.present (add_up_full l n))))
     (st.one_more (st.returns_value refl (sum_full l n k))
     st.no_more)))
@@ -256,7 +263,8 @@ file n = record { names = frame n ∷ []; globals = p.array ∷ []; bytes = 128;
 function_item : (n k l : ℕ) → k < n → n ≤ 64 → Item (tree n) (file k) (t.function l k).node (file (suc k))
 function_item n k l below few =
     un.definition {v = in_body (suc k)} (calls_function n k below few) (
-      un.one_param (un.no_row_size refl) (un.named refl (ap (λ (m : Option Meaning). is_end (or_else m None)) (find_x k)))
+      un.one_param (un.no_row_size refl)
+          (un.named refl (ap (λ (m : Option Meaning). is_end (or_else m None)) (find_x k)))
           (omega arith) un.no_param,
       subst (λ (m : Option Meaning). un.Agrees true (Some Long) (slot.Scalar Long ∷ []) (or_else m None))
           (sym (find_new k k (omega arith) (omega arith))) un.fresh,
@@ -298,7 +306,8 @@ calls_types : (n k : ℕ) (ss : List Stmt) (cs : List Code) → k ≤ n → n �
 calls_types n zero ss cs h few rest = rest
 calls_types n (suc k) ss cs h few rest =
     let l = call_at n k in
-    subst (λ (xs : List Stmt). TypesAll nowhere (in_main_body n) xs (map stated (p.calls (suc k) ++ cs)) (in_main_body n))
+    subst (λ (xs : List Stmt). TypesAll nowhere (in_main_body n) xs (map stated (p.calls (suc k) ++ cs))
+        (in_main_body n))
     (sym (append_assoc (t.calls n k) (t.advance l k ∷ t.show l ∷ []) ss))
     (subst (λ (xs : List Code). TypesAll nowhere (in_main_body n) (t.calls n k ++ (t.advance l k ∷ t.show l ∷ ss))
     (map stated xs) (in_main_body n))
@@ -327,12 +336,14 @@ whole_file n = record {
 main_item : (n : ℕ) → n ≤ 64 → Item (tree n) (file n) (t.main n).node (whole_file n)
 main_item n few =
     un.definition {v = in_main_body n} (calls_main n)
-    (un.no_param, subst (λ (m : Option Meaning). un.Agrees true (Some Int) [] (or_else m None)) (sym (find_main n)) un.fresh)
+    (un.no_param, subst (λ (m : Option Meaning). un.Agrees true (Some Int) [] (or_else m None))
+        (sym (find_main n)) un.fresh)
     (un.outermost (main_types n few))
 
 -- THE UNIT
 
-array_item : (n : ℕ) → Item (tree n) (record empty_file { names = with_include empty_file.names }) t.array.node (file 0)
+array_item : (n : ℕ) → Item (tree n)
+    (record empty_file { names = with_include empty_file.names }) t.array.node (file 0)
 array_item n =
     un.global (un.sized (
       constants.number,

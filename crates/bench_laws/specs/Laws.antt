@@ -4,7 +4,8 @@ use Rattle.c_tree.specs.Limits.{most_source_bytes}
 use Rattle.c_tree.specs.declared.typed.TypedProgram.{TypedProgram}
 use Rattle.c_meaning_spec.specs.Eval.{Done, eval}
 use Rattle.c_front.specs.declared.refusal.Refusal.{Refusal}
-use Rattle.c_front.specs.Fronts.{IsAccepted, IsRefused}
+use Rattle.c_front.specs.Fronts.{IsAccepted}
+use Rattle.c_front.specs.Refusals.{IsRefused}
 use Rattle.bench_text.specs.Text.{bench_text}
 use Rattle.trips_requests.specs.Limits.{most_functions}
 use Rattle.bench_laws.specs.Values.{value, letters, steps}

@@ -29,7 +29,7 @@ use Rattle.hyper_build.specs.Laws.{built_program, plan_of, AreAssigned, AreBlock
 use Rattle.hyper_build.specs.Routines.{built}
 use Rattle.hyper_build.specs.Tree.{annotated_all, Routine}
 use Rattle.hyper_build.proofs.Assigned.{gives_assigned}
-use Rattle.c_compile_blocks.proofs.LimitPrograms.{programs_fit}
+use Rattle.c_compile_blocks.proofs.FittingPrograms.{programs_fit}
 use Rattle.grid_place.specs.declared.placed.Placing.{Placing}
 use Rattle.c_compile_layout.specs.Emitted.{image_of, most_blocks, AreEmitted, IsGoodImage}
 use Rattle.c_compile_layout.specs.Layouts as layouts

@@ -14,7 +14,7 @@ use Rattle.c_compile_laws.specs.Counts.{guarded_in}
 use Rattle.c_compile_laws.specs.Compiled.{FlatMeans}
 use Rattle.c_compile_laws.proofs.Bounds.{has_bounds}
 use Rattle.c_compile_laws.proofs.Compiled.{does_deep, does_finished, does_unfinished}
-use Rattle.c_compile_laws.proofs.Ends.{ends_as, never_ends}
+use Rattle.c_compile_laws.proofs.EndedRuns.{ends_as, never_ends}
 use Rattle.c_compile_laws.proofs.Guards.{guards_small_ifs}
 use Rattle.c_compile.specs.Flat.{IsFlatOf}
 use Rattle.c_compile.specs.Images.{IsImageOf, ImagesMeanTexts}

@@ -1,6 +1,6 @@
 //! The image of a C text by the plan of one room, for those who ask how often a block is refused.
 ghost use Rattle.std.specs.Prelude.{◌+◌, ◌<◌, ◌≤◌, length, IfErr, IfOk, IfSome};
-ghost use Rattle.c_front.specs.Fronts.{MayBeRefused};
+ghost use Rattle.c_front.specs.Refusals.{MayBeRefused};
 ghost use Rattle.ir_forms.specs.FlatFits.{FitsProgram, code_blocks_of_all};
 ghost use Rattle.ir_forms.specs.FlatViews.{program_of};
 ghost use Rattle.c_compile_layout.specs.Emitted.{most_blocks};
@@ -28,11 +28,13 @@ fn tried(alloc: Global, flat: FlatProgram, placing: Placing, room: u8) -> Result
     image_within(alloc, &assigned, placing, room)
 }
 
-/// What a C text comes to by the one plan in which a block of each function has so much room, or the text's first refusal.
+/// What a C text comes to by the one plan in which a block of each function has so much room, or the text's first
+/// refusal.
 ///
 /// The image, where there is one, does what the text means, as that of `compile` does, which tries such plans one
-/// after the other. There is none where a pass refuses a block as too big, or the checker one with too many cases; the
-/// count tells how many blocks the plan makes and how many of them a pass refuses. With no room each place is cut.
+/// after the other. There is none where a pass refuses a block as too big, or the checker one with too many cases;
+/// the count tells how many blocks the plan makes and how many of them a pass refuses. With no room each place is
+/// cut.
 pub fn compile_within(
     alloc: Global,
     text: &[u8],

@@ -38,7 +38,7 @@ use Rattle.fan_out.specs.Targeted.{count_insts}
 use Rattle.c_compile_blocks.specs.Prices.{price, write_price}
 use Rattle.c_compile_blocks.proofs.Prices.{Different, Feeding, few_insts}
 use Rattle.c_compile_blocks.proofs.Flat.{uses_append, AreUsed, used_append, used_grow, price_append}
-use Rattle.c_compile_blocks.proofs.LimitBlocks.{EachWrite}
+use Rattle.c_compile_blocks.proofs.PlainBlocks.{EachWrite}
 use Rattle.c_compile_blocks.proofs.OneGuard.{AreBy, by_append, unguarded, one_store, saves}
 
 -- SUMS
@@ -405,7 +405,8 @@ module _ (sure : Sure) (want : Want) (b : FlowBlock) (c : ℕ) (guards : AreBy c
   number_by : (p k : ℕ) → AreBy c (number_part sure want b p k)
   number_by p k = go (number_open sure b k)
     where
-      go : (t : Bool) → AreBy c (cond t (null_store_of k (list_top (cover sure want b) (suc p) (stores_of 0 b.nodes k))
+      go : (t : Bool) → AreBy c (cond t
+          (null_store_of k (list_top (cover sure want b) (suc p) (stores_of 0 b.nodes k))
           ∷ list_nodes (cover sure want b) (suc p) (stores_of 0 b.nodes k)) [])
       go true = (unguarded c, list_by (cover sure want b) covers c (suc p) (stores_of 0 b.nodes k))
       go false = tt

@@ -15,7 +15,7 @@ use Rattle.predication.specs.Environments.{member}
 use Rattle.predication.specs.Tails.{tail_with}
 use Rattle.predication.specs.Converted.{all_touched}
 use Rattle.c_compile_blocks.specs.Costs.{apps, source_cost, items_cost, tail_cost}
-use Rattle.c_compile_blocks.proofs.LimitBlocks.{IsPlainBlock}
+use Rattle.c_compile_blocks.proofs.PlainBlocks.{IsPlainBlock}
 
 -- a block that costs little: the registers that it reads and writes are among few
 pub record IsCheap (b : Block) : Type 0 where

@@ -23,7 +23,7 @@ use Rattle.fan_out.specs.Wires.{guard_sources}
 use Rattle.fan_out.specs.Counts.{noted}
 use Rattle.c_compile_blocks.proofs.Flat.{uses, times, node_uses, named_once, AreUsed, own_most}
 use Rattle.c_compile_blocks.proofs.Pieces.{AreBits, Names}
-use Rattle.c_compile_blocks.proofs.Ends.{NamesExit}
+use Rattle.c_compile_blocks.proofs.TailNodes.{NamesExit}
 use Rattle.c_compile_blocks.proofs.Firmness.{bare_there}
 use Rattle.c_compile_blocks.proofs.Supplies.{AreAt, at_front, at_back}
 use Rattle.c_compile_blocks.proofs.OneGuard.{IsGuardBy, unguarded, under_by, guard_one, one_most, IsHeld}

@@ -162,7 +162,8 @@ pub told_from : (T : ℕ → Type 0) (ns : List FlowNode) (j : ℕ)
     → Told T j ns
 told_from T [] j f = tt
 told_from T (n ∷ ns) j f =
-    ((λ e. f 0 j n (omega arith) refl e), told_from T ns (suc j) (λ i k m q e s. f (suc i) k m (omega (arith, q)) e s))
+    ((λ e. f 0 j n (omega arith) refl e),
+        told_from T ns (suc j) (λ i k m q e s. f (suc i) k m (omega (arith, q)) e s))
 
 -- ALL OF THEM
 

@@ -39,7 +39,7 @@ use Rattle.c_compile_blocks.specs.Prices.{price}
 use Rattle.c_compile_blocks.specs.Limits.{FitsParts}
 use Rattle.c_compile_blocks.proofs.Flat.{read_of_all}
 use Rattle.c_compile_blocks.proofs.Members.{few_reads, few_writes}
-use Rattle.c_compile_blocks.proofs.LimitBlocks.{IsNoMov, EachWrite, writes_each, front_got}
+use Rattle.c_compile_blocks.proofs.PlainBlocks.{IsNoMov, EachWrite, writes_each, front_got}
 use Rattle.c_compile_blocks.proofs.Firmness.{all_firm}
 use Rattle.c_compile_blocks.proofs.OneGuard.{AreBy, by_at, IsHeld, saves}
 use Rattle.c_compile_blocks.proofs.Entries.{IsChoice, IsScant}

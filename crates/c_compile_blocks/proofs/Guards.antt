@@ -24,7 +24,7 @@ use Rattle.fan_out.specs.declared.wiring.Placed.{Placed}
 use Rattle.fan_out.specs.Targeted.{IsTargeted}
 use Rattle.fan_out.proofs.Totals.{Given, owners, all_movs, targeted_nodes, got_below, nodes_low}
 use Rattle.fan_out.proofs.Totals.{wired_guard, wired_mov, nodes_are}
-use Rattle.fan_out.proofs.Standing.{Stands, a_read, a_node, a_mov, empty, nothing, stands, is_mov}
+use Rattle.fan_out.proofs.TargetedNodes.{Stands, a_read, a_node, a_mov, empty, nothing, stands, is_mov}
 use Rattle.fan_out.proofs.Ranks.{owner_among}
 use Rattle.fan_out.proofs.Edges.{zero_at, has_owner, nobody}
 use Rattle.null_outputs.proofs.Covers.{within}

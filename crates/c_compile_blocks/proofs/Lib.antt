@@ -11,13 +11,13 @@ pub mod Prices
 pub mod Flat
 pub mod Pieces
 pub mod Items
-pub mod Ends
+pub mod TailNodes
 pub mod Members
-pub mod LimitBlocks
+pub mod PlainBlocks
 pub mod Cheap
 pub mod SmallBlocks
 pub mod SaveGroups
-pub mod Little
+pub mod SmallBlockCosts
 pub mod Guards
 pub mod Firmness
 pub mod Supplies
@@ -35,4 +35,4 @@ pub mod ShortLayout
 pub mod PlainFit
 pub mod SmallFit
 pub mod Machine
-pub mod LimitPrograms
+pub mod FittingPrograms

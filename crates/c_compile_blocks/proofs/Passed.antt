@@ -45,7 +45,7 @@ use Rattle.c_compile_layout.specs.Linking.{Resolves, resolved_node, resolved, re
 use Rattle.c_compile_layout.specs.Linking.{by_both, linked_from}
 use Rattle.c_compile_layout.specs.Layouts.{laid_out, linked, AreFew}
 use Rattle.c_compile_layout.specs.Emitted.{image_of, LabelBelow}
-use Rattle.c_compile_layout.proofs.Both.{trimmed_bytes, trimmed_length, trimmed_last}
+use Rattle.c_compile_layout.proofs.UncheckedRuns.{trimmed_bytes, trimmed_length, trimmed_last}
 use Rattle.c_compile_layout.proofs.Faithful.{has_places}
 use Rattle.c_compile_layout.proofs.Fields.{forms_fit, labels_named}
 use Rattle.c_compile_layout.proofs.Fitting.{complete_resolved}

@@ -26,7 +26,7 @@ use Rattle.grid_place.specs.declared.placed.Placing.{Placing}
 use Rattle.grid_place.specs.Placings.{IsPlaced}
 use Rattle.c_compile_blocks.specs.Limits.{FitsMachine}
 use Rattle.c_compile_blocks.proofs.Cheap.{exits_with}
-use Rattle.c_compile_blocks.proofs.LimitPrograms.{only_memory}
+use Rattle.c_compile_blocks.proofs.FittingPrograms.{only_memory}
 use Rattle.c_compile_blocks.proofs.SmallFit.{small_fits}
 use Rattle.c_compile_blocks.specs.Blocks.{flow_of, IsMachineBlock, IsPassed}
 use Rattle.c_compile_blocks.specs.Refusals.{IsRefused, IsIncomplete, IsUntargeted}

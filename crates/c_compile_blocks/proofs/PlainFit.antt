@@ -1,5 +1,5 @@
--- Small blocks without if-items whose test leads to two jumps, and those of a save group, fit the machine, and no null
--- has to be added to them.
+-- Small blocks without if-items whose test leads to two jumps, and those of a save group, fit the machine, and no
+-- null has to be added to them.
 use Rattle.std.proofs.Common.{◌≡◌, ◌⊎◌, ℕ, ◌+◌, ◌≤◌, true, refl, sym, ap, subst, arith}
 use Rattle.trips_isa.specs.declared.block.Block.{Block as MachineBlock}
 use Rattle.trips_isa.specs.Places.{nodes_of}
@@ -26,10 +26,10 @@ use Rattle.c_compile_layout.specs.Linking.{resolved_block}
 use Rattle.c_compile_layout.proofs.Targets.{targeted_resolved}
 use Rattle.c_compile_layout.proofs.Linked.{nodes_same}
 use Rattle.c_compile_blocks.specs.Limits.{FitsMachine, PlainBlocksStay}
-use Rattle.c_compile_blocks.proofs.LimitBlocks.{straight, insts_few, reads_are, number_few, one_guard}
+use Rattle.c_compile_blocks.proofs.PlainBlocks.{straight, insts_few, reads_are, number_few, one_guard}
 use Rattle.c_compile_blocks.proofs.Members.{few_writes, few_reads}
 use Rattle.c_compile_blocks.proofs.Cheap.{IsCheap, exits_with}
-use Rattle.c_compile_blocks.proofs.Little.{little_cheap}
+use Rattle.c_compile_blocks.proofs.SmallBlockCosts.{little_cheap}
 use Rattle.c_compile_blocks.proofs.Guards.{two_cases}
 use Rattle.c_compile_blocks.proofs.ShortLayout.{anywhere, short}
 

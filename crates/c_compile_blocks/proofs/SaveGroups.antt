@@ -15,7 +15,7 @@ use Rattle.predication.specs.Ifs.{touched}
 use Rattle.predication.specs.Tails.{tail_with, block_with, tail_touched}
 use Rattle.c_compile_blocks.specs.Costs.{items_cost, tail_cost}
 use Rattle.c_compile_blocks.proofs.Items.{NamesIn}
-use Rattle.c_compile_blocks.proofs.Ends.{NamesEnd}
+use Rattle.c_compile_blocks.proofs.TailNodes.{NamesEnd}
 use Rattle.c_compile_blocks.proofs.Members.{member_split, member_head, member_tail}
 use Rattle.c_compile_blocks.proofs.Cheap.{IsCheap, apps_short, below_short}
 

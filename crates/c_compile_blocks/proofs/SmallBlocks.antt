@@ -14,7 +14,7 @@ use Rattle.predication.specs.Tails.{tail_with, block_with, tail_touched}
 use Rattle.c_compile_blocks.specs.Costs.{items_cost, tail_cost}
 use Rattle.c_compile_blocks.proofs.Pieces.{Names}
 use Rattle.c_compile_blocks.proofs.Items.{NamesIn}
-use Rattle.c_compile_blocks.proofs.Ends.{NamesExit, NamesEnd}
+use Rattle.c_compile_blocks.proofs.TailNodes.{NamesExit, NamesEnd}
 use Rattle.c_compile_blocks.proofs.Members.{member_front, member_back, member_head}
 use Rattle.c_compile_blocks.proofs.Cheap.{IsCheap, source_most, jumps_with, exits_with}
 

@@ -50,7 +50,8 @@ abbrev pub PlainBlocksStay : Type 0
 PlainBlocksStay = (b : Block) → FitsHyper b → IsSimple b ⊎ IsGroupBlock b
     → complete (predicated (labelled b)) ≡ predicated (labelled b)
 
--- So is every small block: one of at most three items that do something, one test and two exits, wherever these stand.
+-- So is every small block: one of at most three items that do something, one test and two exits, wherever these
+-- stand.
 abbrev pub SmallBlocksFit : Type 0
 SmallBlocksFit = (b : Block) → IsSmall b → FitsHyper b → FitsMachine b
 

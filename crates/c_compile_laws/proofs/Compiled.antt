@@ -36,7 +36,7 @@ use Rattle.c_compile_blocks.proofs.Emitted.{chunks_few, gives_emitted}
 use Rattle.c_compile_laws.specs.Compiled.{FlatMeans, IsCompiled}
 use Rattle.c_compile_laws.specs.Runs.{run_of}
 use Rattle.c_compile_laws.specs.Runs.{DoesFinished, DoesDeep, DoesUnfinished}
-use Rattle.c_compile_laws.proofs.Standing.{running_is, full_is, ended_is}
+use Rattle.c_compile_laws.proofs.RunStandings.{running_is, full_is, ended_is}
 
 -- an input is bytes
 bytes_of_input : (input : List ℕ) → IsInput input → AreBytes input

@@ -49,7 +49,8 @@ either_most false true = omega arith
 either_most false false = omega arith
 
 -- a node of an item counts where its scope is a guard
-node_counts : (o : Op) (m : ℕ) (g : Scope) (l r : List FlowSource) (ns : List FlowNode) → is_branch (form_of o) ≡ false
+node_counts : (o : Op) (m : ℕ) (g : Scope) (l r : List FlowSource) (ns : List FlowNode)
+    → is_branch (form_of o) ≡ false
     → sensed_nodes (node_of o m g l r ∷ ns) ≡ cond (has_sense g) 1 0 + sensed_nodes ns
 node_counts o m g l r ns e =
     ap (λ (k : ℕ). k + sensed_nodes ns) (own_counts (has_sense g) (is_branch (form_of o)) e)

@@ -27,9 +27,9 @@ use Rattle.c_compile_laws.specs.PlainIfs.{Counted, assigns_only, ifs_of_all, cou
 use Rattle.c_compile_laws.specs.PlainIfs.{ifs_of_sections}
 use Rattle.c_compile_laws.specs.PlainIfs as count
 use Rattle.c_compile_laws.proofs.SmallIfs.{IsSet, then_small, set_then}
-use Rattle.c_compile_laws.proofs.Legs.{not_so, plain_sets}
-use Rattle.c_compile_laws.proofs.Parts.{Shows, unfit, if_alone, if_else, for_keeps, while_keeps, do_shows}
-use Rattle.c_compile_laws.proofs.Parts.{section_keeps, switch_keeps}
+use Rattle.c_compile_laws.proofs.PlainAssignments.{not_so, plain_sets}
+use Rattle.c_compile_laws.proofs.SmallIfCounts.{Shows, unfit, if_alone, if_else, for_keeps, while_keeps, do_shows}
+use Rattle.c_compile_laws.proofs.SmallIfCounts.{section_keeps, switch_keeps}
 
 -- the plain ifs in the first part of a `for`
 unfoldable pub first_ifs : TypedForInit → ℕ
@@ -207,5 +207,6 @@ module _ (c : Context) where
       (at_first _ _ _ (λ i. i.0) (λ s. s.0) (λ x. x.0) (λ i. i.1) (λ s. s.1) (λ x. x.1) y))
       (λ x y e. subst (λ (x : TypedStmt-F TypedForInit TypedStmt TypedSection). StmtShows (roll-TypedStmt x)) e
       (at_stmt _ _ _ (λ i. i.0) (λ s. s.0) (λ x. x.0) (λ i. i.1) (λ s. s.1) (λ x. x.1) y))
-      (λ x y e. subst (λ (x : TypedSection-F TypedForInit TypedStmt TypedSection). SectionShows (roll-TypedSection x)) e
+      (λ x y e. subst (λ (x : TypedSection-F TypedForInit TypedStmt TypedSection).
+          SectionShows (roll-TypedSection x)) e
       (at_section _ _ _ (λ i. i.0) (λ s. s.0) (λ x. x.0) (λ i. i.1) (λ s. s.1) (λ x. x.1) y))

@@ -3,7 +3,7 @@ pub mod Offsets
 pub mod Runs
 pub mod Cleanness
 pub mod Steps
-pub mod Whole
+pub mod ImageRuns
 pub mod Targets
 pub mod Starts
 pub mod Regularity
@@ -11,9 +11,9 @@ pub mod Sizes
 pub mod Sums
 pub mod Trimming
 pub mod Linked
-pub mod Both
+pub mod UncheckedRuns
 pub mod Orders
 pub mod Fitting
 pub mod Fields
 pub mod StandardFacts
-pub mod Turns
+pub mod LabelLoop

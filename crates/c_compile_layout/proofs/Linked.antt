@@ -57,11 +57,11 @@ use Rattle.trips_isa.specs.Machine.{State, runs, start}
 use Rattle.c_compile_layout.proofs.Regularity.{regular_resolved}
 use Rattle.c_compile_layout.proofs.Fields.{forms_fit, labels_named}
 use Rattle.c_compile_layout.proofs.Fitting.{complete_resolved}
-use Rattle.c_compile_layout.proofs.Whole.{there}
+use Rattle.c_compile_layout.proofs.ImageRuns.{there}
 use Rattle.c_compile_layout.proofs.Cleanness.{slots_clean}
 use Rattle.c_compile_layout.proofs.Faithful.{has_addresses}
-use Rattle.c_compile_layout.proofs.Both.{trimmed_bytes, trimmed_length, trimmed_last}
-use Rattle.c_compile_layout.proofs.Both.{means_plainly, means_the_same}
+use Rattle.c_compile_layout.proofs.UncheckedRuns.{trimmed_bytes, trimmed_length, trimmed_last}
+use Rattle.c_compile_layout.proofs.UncheckedRuns.{means_plainly, means_the_same}
 use Rattle.c_compile_layout.proofs.Sums.{sum_low}
 use Rattle.c_compile_layout.proofs.Starts.{starts_in_order}
 use Rattle.c_compile_layout.proofs.Targets.{targeted_resolved, room_resolved}

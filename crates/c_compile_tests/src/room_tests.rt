@@ -23,39 +23,51 @@ const BUDGET: u32 = 100_000;
 /// A text, and its input.
 type Row = (&'static str, &'static [u8]);
 
-// An array, a loop that goes on in its block, stores in legs; legs in legs, a division in a leg, breaks and continues; the three short
-// circuits; calls that save much; input and output; switches that fall through, in a loop and in one another; arrays with two sizes.
+// An array, a loop that goes on in its block, stores in legs; legs in legs, a division in a leg, breaks and
+// continues; the three short circuits; calls that save much; input and output; switches that fall through, in a loop
+// and in one another; arrays with two sizes.
 const ROWS: &[Row] = &[
     (
-        "long a[9]; int main(void) { int i; a[0] = 1; for (i = 1; i < 9; i++) a[i] = a[i - 1] * 2; return (int) a[8]; }",
+        "long a[9]; int main(void) { int i; a[0] = 1; for (i = 1; i < 9; i++) a[i] = a[i - 1] * 2; \
+         return (int) a[8]; }",
         b"",
     ),
     (
-        "int a[8]; int main(void) { int i; int s = 0; for (i = 0; i < 8; i++) { if (i % 3) { a[i] = i; s += a[i - 1]; } else { if (s) a[i] = s / i; } } return s; }",
+        "int a[8]; int main(void) { int i; int s = 0; for (i = 0; i < 8; i++) { if (i % 3) { a[i] = i; \
+         s += a[i - 1]; } else { if (s) a[i] = s / i; } } return s; }",
         b"",
     ),
     (
-        "int main(void) { int i = 0; int s = 0; while (1) { i++; if (i == 4) continue; if (i > 9) break; s = s * 3 + i; } do { s--; if (s % 7 == 0) break; } while (s); return s; }",
+        "int main(void) { int i = 0; int s = 0; while (1) { i++; if (i == 4) continue; if (i > 9) break; \
+         s = s * 3 + i; } do { s--; if (s % 7 == 0) break; } while (s); return s; }",
         b"",
     ),
     (
-        "int main(void) { int a = 0; int b = 3; int x = a || b > 2 && b / (a + 1); x = x ? b ? 5 : 6 : 7; return a && b / a ? 1 : x * 10 + !a; }",
+        "int main(void) { int a = 0; int b = 3; int x = a || b > 2 && b / (a + 1); x = x ? b ? 5 : 6 : 7; \
+         return a && b / a ? 1 : x * 10 + !a; }",
         b"",
     ),
     (
-        "int f(int n) { return n < 2 ? n : f(n - 1) + f(n - 2); } int main(void) { int a = 2; int b = 3; int c = f(7); return f(a + b) * 100 + a * b + c; }",
+        "int f(int n) { return n < 2 ? n : f(n - 1) + f(n - 2); } int main(void) { int a = 2; int b = 3; \
+         int c = f(7); return f(a + b) * 100 + a * b + c; }",
         b"",
     ),
     (
-        "#include <stdio.h>\nint main(void) { int c; int in = 0; int n = 0; while ((c = getchar()) != EOF) { if (c == ' ') in = 0; else if (!in) { in = 1; n++; } putchar(c + 1); } return n; }",
+        "#include <stdio.h>\nint main(void) { int c; int in = 0; int n = 0; \
+         while ((c = getchar()) != EOF) { if (c == ' ') in = 0; else if (!in) { in = 1; n++; } putchar(c + 1); } \
+         return n; }",
         b"a bb\nccc d",
     ),
     (
-        "short t[3][4] = {{1, 2, 3}, {4}}; int main(void) { int i; int s = 0; for (i = 0; i < 12; i++) { switch (t[i / 4][i % 4] & 3) { case 1: t[i / 4][0] += 2; case 2: s += 10; break; default: s++; continue; case 3: s -= 3; } s += t[2][i % 4]++; } return s; }",
+        "short t[3][4] = {{1, 2, 3}, {4}}; int main(void) { int i; int s = 0; \
+         for (i = 0; i < 12; i++) { switch (t[i / 4][i % 4] & 3) { case 1: t[i / 4][0] += 2; case 2: s += 10; break; \
+         default: s++; continue; case 3: s -= 3; } s += t[2][i % 4]++; } return s; }",
         b"",
     ),
     (
-        "int f(unsigned short n, char a[][3]) { switch (n % 3) { case 0: switch (n) { case 9: return a[1][2]; default: break; } case 1: return n < 2 ? 1 : f(n - 1, a) + 1; } a[1][2] += n; return f(n / 2, a); } int main(void) { char a[2][3]; a[1][2] = 1; return f(11, a) * 100 + f(9, a); }",
+        "int f(unsigned short n, char a[][3]) { switch (n % 3) { case 0: switch (n) { case 9: return a[1][2]; \
+         default: break; } case 1: return n < 2 ? 1 : f(n - 1, a) + 1; } a[1][2] += n; return f(n / 2, a); } \
+         int main(void) { char a[2][3]; a[1][2] = 1; return f(11, a) * 100 + f(9, a); }",
         b"",
     ),
 ];

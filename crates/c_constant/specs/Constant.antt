@@ -1,5 +1,5 @@
 -- The value of a constant expression, none where it has none (C17 6.6).
-use Rattle.std.specs.Prelude.{ℕ, cond, nat_eq, List, [], ◌∷◌, Option, Some, None, codes}
+use Rattle.std.specs.Prelude.{ℕ, cond, nat_eq, List, [], ◌∷◌, Option, Some, None, codes, nat_lt, ℤ, pos, negsuc}
 use Rattle.std.specs.Cmp.Lexicographic.{pointwise}
 use Rattle.c_tree.specs.declared.token.Kind.{Kind}
 use Rattle.c_tree.specs.declared.token.Kind.TheVariants.{Int}
@@ -11,7 +11,7 @@ use Rattle.c_tree.specs.declared.tree.ExprNode.TheOpen.{ExprNode-F, Number, Name
 use Rattle.c_tree.specs.declared.tree.ExprNode.TheOpen.{Group, Unary, Cast, Bump, Binary, Choice}
 use Rattle.c_tree.specs.declared.tree.ExprNode.TheOpen.{Assign, Comma}
 use Rattle.c_constant.specs.declared.constants.Constant.{Constant}
-use Rattle.c_constant.specs.Kinds.{common, converted}
+use Rattle.c_constant.specs.Kinds.{common, converted, number}
 use Rattle.c_constant.specs.Operation.{operate, operate_one, left_at, right_at, unary_at, result_of}
 use Rattle.c_constant.specs.Operation.{unary_result}
 
@@ -110,3 +110,22 @@ of_value e = e.node
 -- the kind and the value of an expression in which some names stand for constants
 unfoldable pub constant : List NamedConstant → Expr → Constant
 constant names e = fold-Expr Constant Constant (node_value names) of_value e
+
+-- the word of a value, 0 where there is none
+abbrev pub word_in : Option ℕ → ℕ
+word_in None = 0
+word_in (Some w) = w
+
+-- the length that a number gives: none below 1
+abbrev pub length_from : ℤ → Option ℕ
+length_from (pos n) = cond (nat_lt 0 n) (Some n) None
+length_from (negsuc n) = None
+
+-- the length that a word of a type gives
+abbrev pub length_in : Kind → Option ℕ → Option ℕ
+length_in k None = None
+length_in k (Some w) = length_from (number k w)
+
+-- the length that a size stands for
+abbrev pub length_of : Expr → Option ℕ
+length_of e = length_in (constant ends e).kind (constant ends e).value

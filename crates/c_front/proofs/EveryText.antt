@@ -3,9 +3,10 @@ use Rattle.std.proofs.Common.{◌≡◌, ◌⊎◌, inl, inr, ℕ, List, None, s
 use Rattle.c_tree.specs.declared.tree.Program.{Program}
 use Rattle.c_tree.specs.declared.typed.TypedProgram.{TypedProgram}
 use Rattle.c_lex.specs.declared.fault.LexFault.TheVariants as lex
-use Rattle.c_lex.specs.Lexes.{Tokens, Fault, FaultAt}
-use Rattle.c_lex.specs.Lexes as lexical
-use Rattle.c_lex.specs.Answers.{Lexed, Answered}
+use Rattle.c_lex.specs.Lexes.{Tokens, Lexed}
+use Rattle.c_lex.specs.Faults.{Fault, FaultAt}
+use Rattle.c_lex.specs.Faults as lexical
+use Rattle.c_lex.specs.Answers.{Answered}
 use Rattle.c_lex.proofs.Answered.{answered}
 use Rattle.c_grammar.specs.Answers.{Answer, tree, syntax, too_deep, Answers}
 use Rattle.c_grammar.proofs.OneAnswer.{one_answer}
@@ -18,7 +19,8 @@ use Rattle.c_type_rules.proofs.UnitsComplete.{accepts_typed}
 use Rattle.c_front.specs.declared.refusal.Refusal.{Refusal}
 use Rattle.c_front.specs.declared.refusal.Refusal.TheVariants.{Lex, Parse, Typing, Memory}
 use Rattle.c_tree.specs.Limits.{most_tokens}
-use Rattle.c_front.specs.Fronts.{HasTree, HasTypes, MayHaveNoTypes, IsAccepted, IsRefused}
+use Rattle.c_front.specs.Fronts.{HasTree, HasTypes, IsAccepted}
+use Rattle.c_front.specs.Refusals.{MayHaveNoTypes, IsRefused}
 use Rattle.c_front.specs.Stops.{MayStop}
 use Rattle.c_front.specs.Laws.{EveryTextAnswers}
 

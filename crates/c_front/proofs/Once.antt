@@ -5,11 +5,11 @@ use Rattle.c_tree.specs.declared.tree.Top.{Top}
 use Rattle.c_tree.specs.declared.typed.TypedProgram.{TypedProgram}
 use Rattle.c_lex.specs.declared.fault.LexFault.{LexFault}
 use Rattle.c_lex.specs.declared.fault.LexFault.TheVariants as lex
-use Rattle.c_lex.specs.Lexes.{Tokens, Fault, FaultAt}
-use Rattle.c_lex.specs.Lexes as lexical
-use Rattle.c_lex.specs.Answers.{Lexed}
+use Rattle.c_lex.specs.Lexes.{Tokens, Lexed}
+use Rattle.c_lex.specs.Faults.{Fault, FaultAt}
+use Rattle.c_lex.specs.Faults as lexical
 use Rattle.c_lex.proofs.Once.{lexes_once, lexes_no_fault, fault_once}
-use Rattle.c_grammar.specs.Answers.{IsUnit}
+use Rattle.c_grammar.specs.Accepted.{IsUnit}
 use Rattle.c_parse.specs.declared.unit.ParseFault.{ParseFault}
 use Rattle.c_parse.specs.Parses.{HasFault}
 use Rattle.c_parse.proofs.Only as parses
@@ -21,9 +21,8 @@ use Rattle.c_type_rules.proofs.UnitsSound.{accepts_fine}
 use Rattle.c_front.specs.declared.refusal.Refusal.{Refusal}
 use Rattle.c_front.specs.declared.refusal.Refusal.TheVariants.{Lex, Parse, Typing, Memory}
 use Rattle.c_tree.specs.Limits.{most_tokens}
-use Rattle.c_front.specs.Fronts.{HasTree, HasTypes, HasNoTypes}
-use Rattle.c_front.specs.Fronts.{IsRefusedByLexer, IsRefusedByGrammar}
-use Rattle.c_front.specs.Fronts.{IsRefusedByTyping, IsRefused}
+use Rattle.c_front.specs.Fronts.{HasTree, HasTypes}
+use Rattle.c_front.specs.Refusals.{HasNoTypes, IsRefusedByLexer, IsRefusedByGrammar, IsRefusedByTyping, IsRefused}
 use Rattle.c_front.specs.Laws.{AcceptedOnce, NotBoth, RefusedOnce}
 
 -- the tree of these items

@@ -1,20 +1,11 @@
--- Which texts of C are accepted, with which typed program, and which stage refuses the others.
+-- Which texts of C are accepted, with which typed program.
 use Rattle.std.specs.Prelude.{ℕ, List}
 use Rattle.c_tree.specs.Limits.{most_tokens}
 use Rattle.c_tree.specs.declared.tree.Program.{Program}
 use Rattle.c_tree.specs.declared.typed.TypedProgram.{TypedProgram}
-use Rattle.c_lex.specs.declared.fault.LexFault.{LexFault}
-use Rattle.c_lex.specs.declared.fault.LexFault.TheVariants as lex
-use Rattle.c_lex.specs.Lexes.{Tokens}
-use Rattle.c_lex.specs.Answers.{Lexed, Fails}
-use Rattle.c_grammar.specs.Answers.{IsUnit}
-use Rattle.c_parse.specs.Parses.{HasFault}
-use Rattle.c_parse.specs.declared.unit.ParseFault.{ParseFault}
-use Rattle.c_type_expr.specs.declared.fault.TypeFault.{TypeFault}
+use Rattle.c_lex.specs.Lexes.{Tokens, Lexed}
+use Rattle.c_grammar.specs.Accepted.{IsUnit}
 use Rattle.c_type_rules.specs.Units.{Accepts}
-use Rattle.c_type_rules.specs.FirstFaults.{UnitFails}
-use Rattle.c_front.specs.declared.refusal.Refusal.{Refusal}
-use Rattle.c_front.specs.declared.refusal.Refusal.TheVariants.{Lex, Parse, Typing, Memory}
 
 -- the text's tokens spell this unit, and no construct of it is too deep
 abbrev pub HasTree : List ℕ → Program → Type 0
@@ -27,38 +18,3 @@ HasTypes tree program = Accepts tree program
 -- the text is a program of C in this profile
 abbrev pub IsAccepted : List ℕ → TypedProgram → Type 0
 IsAccepted text program = (tree : Program) × HasTree text tree × HasTypes tree program
-
--- the text is refused by its tokens
-abbrev pub IsRefusedByLexer : List ℕ → LexFault → Type 0
-IsRefusedByLexer text lex.Memory = ⊥
-IsRefusedByLexer text e = Fails most_tokens text e
-
--- the text has tokens, and they are refused by the grammar
-abbrev pub IsRefusedByGrammar : List ℕ → ParseFault → Type 0
-IsRefusedByGrammar text e = (tokens : Tokens) × Lexed most_tokens text tokens × HasFault tokens e
-
--- the tree's first node, in the order of the text, that has no types fails so
-abbrev pub HasNoTypes : Program → TypeFault → Type 0
-HasNoTypes tree e = UnitFails tree e
-
--- the text has a tree, and it is refused by the typing
-abbrev pub IsRefusedByTyping : List ℕ → TypeFault → Type 0
-IsRefusedByTyping text e = (tree : Program) × HasTree text tree × HasNoTypes tree e
-
--- the first stage that refuses the text, with its fault
-abbrev pub IsRefused : List ℕ → Refusal → Type 0
-IsRefused text (Lex e) = IsRefusedByLexer text e
-IsRefused text (Parse e) = IsRefusedByGrammar text e
-IsRefused text (Typing e) = IsRefusedByTyping text e
-IsRefused text Memory = ⊥
-
--- the same, but for want of memory
-abbrev pub MayBeRefused : List ℕ → Refusal → Type 0
-MayBeRefused text Memory = Unit {0}
-MayBeRefused text r = IsRefused text r
-
--- the tree is refused by its typing, but for want of memory
-abbrev pub MayHaveNoTypes : Program → Refusal → Type 0
-MayHaveNoTypes tree (Typing e) = HasNoTypes tree e
-MayHaveNoTypes tree Memory = Unit {0}
-MayHaveNoTypes tree r = ⊥

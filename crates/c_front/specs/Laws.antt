@@ -2,7 +2,8 @@
 use Rattle.std.specs.Prelude.{◌≡◌, ◌⊎◌, ℕ, List}
 use Rattle.c_tree.specs.declared.typed.TypedProgram.{TypedProgram}
 use Rattle.c_front.specs.declared.refusal.Refusal.{Refusal}
-use Rattle.c_front.specs.Fronts.{IsAccepted, IsRefused}
+use Rattle.c_front.specs.Fronts.{IsAccepted}
+use Rattle.c_front.specs.Refusals.{IsRefused}
 
 -- a text has at most one typed program
 abbrev pub AcceptedOnce : Type 0

@@ -1,3 +1,4 @@
 pub mod Fronts
 pub mod Stops
 pub mod Laws
+pub mod Refusals

@@ -1,8 +1,8 @@
 ghost use Rattle.std.specs.Prelude.{◌≡◌, ◌<◌, length, None, IfOk, IfErr};
-ghost use Rattle.c_lex.specs.Answers.{Lexed};
+ghost use Rattle.c_lex.specs.Lexes.{Lexed};
 ghost use Rattle.c_tree.specs.Limits.{most_tokens};
 ghost use Rattle.c_front.specs.Fronts.{HasTree, HasTypes, IsAccepted};
-ghost use Rattle.c_front.specs.Fronts.{MayBeRefused, MayHaveNoTypes};
+ghost use Rattle.c_front.specs.Refusals.{MayBeRefused, MayHaveNoTypes};
 ghost use Rattle.c_front.specs.Stops.{MayStop};
 ghost use Rattle.c_type.specs.Programs.{program_fault, program_tree};
 

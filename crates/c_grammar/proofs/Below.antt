@@ -9,7 +9,8 @@ use Rattle.c_tree.specs.declared.token.Kind.TheVariants as kind
 use Rattle.c_tree.specs.declared.tree.ArraySize.TheVariants as size
 use Rattle.c_tree.specs.declared.tree.Stmt.{Stmt}
 use Rattle.c_tree.specs.declared.tree.StmtNode.TheVariants as node
-use Rattle.c_grammar.specs.Tokens.{Tokens, punct, May, before}
+use Rattle.c_grammar.specs.Tokens.{Tokens, punct, May}
+use Rattle.c_grammar.specs.Places.{before}
 use Rattle.c_grammar.specs.Types.{Types, unsigned}
 use Rattle.c_grammar.specs.Statements.{at, declared, stmt, inner, Writes, bare, last_decl}
 use Rattle.c_grammar.specs.Statements.{declaration, inner_is, plain}
@@ -23,7 +24,7 @@ use Rattle.c_grammar.proofs.Pieces.{Rel, Sound, read, stuck, Least, always, same
 use Rattle.c_grammar.proofs.Levels.{zero_expr, shortest}
 use Rattle.c_grammar.proofs.Inside.{inside_known, not_deeper}
 use Rattle.c_grammar.proofs.Begins.{inner_begins, locals_begin, begins_is, type_alone}
-use Rattle.c_grammar.proofs.Parts.{locals_first, locals_piece}
+use Rattle.c_grammar.proofs.StatementParts.{locals_first, locals_piece}
 use Rattle.c_grammar.proofs.Stmts.{pair_tree, closed_off, InnerIs, LocalsIn, stmt_first, Good}
 use Rattle.c_grammar.proofs.Stmts.{stmt_piece}
 

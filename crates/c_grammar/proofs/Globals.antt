@@ -512,7 +512,8 @@ module _ (m : ℕ) (nested : Nested) (known : Deeper nested m 0) where
           subst (λ (f : Tokens). ShapeIs may s f t) (sym r.2)
           (ends_with (λ s t. ShapeIs may s (punct r.0 mark.Assign ∷ r.1) t) (valued x.2) x.3)
       to may s f t (that (this r)) =
-          let a = r.3 in subst (λ (f : Tokens). ShapeIs may s f t) (sym r.2) (array_to may r.0 a.0 s r.1 a.1 t a.2 a.3)
+          let a = r.3 in subst (λ (f : Tokens). ShapeIs may s f t) (sym r.2)
+              (array_to may r.0 a.0 s r.1 a.1 t a.2 a.3)
       to may s f t (that (that r)) = ends_with (λ s t. ShapeIs may s f t) bare r
 
       from : (may : May) (s : ArraySize × List (List Expr)) (f t : Tokens) → ShapeIs may s f t

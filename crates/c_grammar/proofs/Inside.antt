@@ -145,7 +145,8 @@ module _ (m d : ℕ) (nested : Nested) (known : Deeper nested m d) where
       )
   choice_in may _ f t (assign s x ok y) q = absurd (omega (arith, q))
   choice_in may e f t (up {n = n} x) q =
-      let h : n ≡ 13 = omega (arith, q) in (e, t, subst (λ (k : ℕ). Spells may (expr k e) d f t) h x, that (refl, refl))
+      let h : n ≡ 13 = omega (arith, q) in
+          (e, t, subst (λ (k : ℕ). Spells may (expr k e) d f t) h x, that (refl, refl))
 
   pub conditional_piece : Piece same_tree (Level 14 d) any always (ends_at 14) zero_first m
       (conditional_of nested)

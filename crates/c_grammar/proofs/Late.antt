@@ -95,7 +95,8 @@ writes_far h (s.next_section x y) =
     let l = writes_shorter y in s.next_section (writes_far (later (omega arith) h) x) (writes_far h y)
 writes_far h (s.switch c x) =
     let l = writes_shorter x in s.switch (writes_far (later (omega arith) h) c) (writes_far h x)
-writes_far h (s.while c x) = let l = writes_shorter x in s.while (writes_far (later (omega arith) h) c) (writes_far h x)
+writes_far h (s.while c x) = let l = writes_shorter x in
+    s.while (writes_far (later (omega arith) h) c) (writes_far h x)
 writes_far h (s.repeat x c) =
     let l = writes_shorter c in s.repeat (writes_far (later (omega arith) h) x) (writes_far (later (omega arith) h) c)
 writes_far h (s.init_local ok x) = s.init_local (h _ _ (writes_shorter x) ok) (writes_far h x)
@@ -136,7 +137,8 @@ units_far h u.bare = u.bare
 units_far h (u.valued x) = u.valued (spells_far h x)
 units_far h (u.sized x) = u.sized (units_far (later (omega arith) h) x)
 units_far h (u.rows_sized x y) =
-    let l = spells_shorter y in u.rows_sized (units_far (later (omega arith) h) x) (spells_far (later (omega arith) h) y)
+    let l = spells_shorter y in u.rows_sized (units_far (later (omega arith) h) x)
+        (spells_far (later (omega arith) h) y)
 units_far h (u.filled x y) =
     let l = units_shorter y in u.filled (units_far (later (omega arith) h) x) (units_far (later (omega arith) h) y)
 units_far h (u.rows_filled x y z) =

@@ -10,12 +10,12 @@ pub mod Expressions
 pub mod Casts
 pub mod Inside
 pub mod Begins
-pub mod Parts
+pub mod StatementParts
 pub mod Stmts
 pub mod Below
 pub mod Globals
 pub mod Units
 pub mod Late
-pub mod Whole
+pub mod ExactReading
 pub mod Parsed
 pub mod OneAnswer

@@ -58,7 +58,8 @@ read_shorter h ts v _ mid (stuck s o) e = absurd cc
 
 module _ {A : Type 0} (R : Rel A) (L : Rel (List A)) (Ends : A → Tokens → Type 0) (after : Tokens → Tokens) (m : ℕ)
     (run : Tokens → Out A) (item : Piece same_tree R any always Ends after m run) (k : Mark) (trailing : Bool)
-    (to : (may : May) (xs : List A) (f t : Tokens) → Then R (λ x. Tail L k trailing x) may xs f t → L may xs f t) where
+    (to : (may : May) (xs : List A) (f t : Tokens) → Then R (λ x. Tail L k trailing x) may xs f t
+        → L may xs f t) where
   consed_sound : (x : A) (u : Tokens) (out : Out (List A)) → Sound same_tree L always m u out
       → Sound same_tree (consed x L) always m u (and_then out (λ xs ts. Ok (x ∷ xs, ts)))
   consed_sound x u _ (read xs t a h) = read (x ∷ xs) t

@@ -6,11 +6,12 @@ use Rattle.c_tree.specs.declared.tree.Top.{Top}
 use Rattle.c_grammar.specs.Tokens.{Tokens, May, within}
 use Rattle.c_grammar.specs.Parsing.{Out}
 use Rattle.c_grammar.specs.ModelUnits.{unit_of}
-use Rattle.c_grammar.specs.Places.{Spelled, Exact, settle}
-use Rattle.c_grammar.specs.Answers.{UnitIs, OneTree}
+use Rattle.c_grammar.specs.Places.{Exact, settle}
+use Rattle.c_grammar.specs.Accepted.{Spelled, UnitIs}
+use Rattle.c_grammar.specs.Answers.{OneTree}
 use Rattle.c_grammar.proofs.Units.{unit_first, unit_piece}
 use Rattle.c_grammar.proofs.Late.{Passes, units_far}
-use Rattle.c_grammar.proofs.Whole.{exact, only}
+use Rattle.c_grammar.proofs.ExactReading.{exact, only}
 
 pub unit_far : (may may' : May) (xs : List Top) (f : Tokens) → Passes may may' 1
     → UnitIs may xs f [] → UnitIs may' xs f []

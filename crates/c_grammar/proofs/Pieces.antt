@@ -6,7 +6,8 @@ use Rattle.c_tree.specs.declared.token.Form.{Form}
 use Rattle.c_tree.specs.declared.token.Form.TheVariants as form
 use Rattle.c_tree.specs.declared.token.Mark.{Mark}
 use Rattle.c_tree.specs.declared.token.Key.{Key}
-use Rattle.c_grammar.specs.Tokens.{Tokens, token, punct, word, named, May, before}
+use Rattle.c_grammar.specs.Tokens.{Tokens, token, punct, word, named, May}
+use Rattle.c_grammar.specs.Places.{before}
 use Rattle.c_grammar.specs.Numbers.{is_mark}
 use Rattle.c_grammar.specs.Parsing.{Stop, Out, and_then, syntax, too_deep, tail, line_of, first}
 use Rattle.c_grammar.specs.Parsing.{is_next, is_word, expect, expect_keyword, name_by, name_of}

@@ -52,8 +52,8 @@ use Rattle.c_grammar.proofs.Begins.{inner_begins, begins_no_type, until_no_type,
 use Rattle.c_grammar.proofs.Begins.{begins_no_word, labels_begin, body_begins, statement_no_label}
 use Rattle.c_grammar.proofs.Begins.{section_no_brace, sections_behind}
 use Rattle.c_grammar.proofs.Begins.{starts_no_word, entry_no_brace, entries_no_else, writes_shorter}
-use Rattle.c_grammar.proofs.Parts.{Until, closer_first, until_piece, Test, test_first, test_piece}
-use Rattle.c_grammar.proofs.Parts.{locals_first, stmt_here}
+use Rattle.c_grammar.proofs.StatementParts.{Until, closer_first, until_piece, Test, test_first, test_piece}
+use Rattle.c_grammar.proofs.StatementParts.{locals_first, stmt_here}
 
 abbrev pub pair_tree : Bool × Stmt → Stmt
 pair_tree p = p.1

@@ -1,23 +1,10 @@
 -- What is answered of a list of tokens: its tree, or a fault and the line of its place.
 use Rattle.std.specs.Prelude.{◌≡◌, ℕ, List, [], ◌∷◌}
-use Rattle.c_tree.specs.Limits.{most_nesting}
 use Rattle.c_tree.specs.declared.token.Lexeme.{Lexeme}
 use Rattle.c_tree.specs.declared.tree.Top.{Top}
 use Rattle.c_grammar.specs.Tokens.{Tokens}
-use Rattle.c_grammar.specs.Units.{Units, unit}
-use Rattle.c_grammar.specs.Places.{Rel, Spelled, SyntaxAt, EndsEarly, DeepAt}
-
--- the deepest construct
-abbrev pub limit : ℕ
-limit = most_nesting
-
--- the tokens between two places spell a unit
-abbrev pub UnitIs : Rel (List Top)
-UnitIs may xs f t = Units may (unit xs) f t
-
--- the tokens spell the unit, and no construct of it is too deep
-abbrev pub IsUnit : Tokens → List Top → Type 0
-IsUnit tokens xs = Spelled UnitIs limit xs tokens
+use Rattle.c_grammar.specs.Places.{SyntaxAt, EndsEarly, DeepAt}
+use Rattle.c_grammar.specs.Accepted.{Spelled, IsUnit, UnitIs, limit}
 
 -- the line of the last token, or 1
 abbrev pub last_line : Tokens → ℕ

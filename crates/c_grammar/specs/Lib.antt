@@ -12,3 +12,4 @@ pub mod ModelStatements
 pub mod ModelUnits
 pub mod Places
 pub mod Answers
+pub mod Accepted

@@ -1,19 +1,24 @@
--- Which token lists are accepted, and where the fault of any other stands; for any relation that
--- says what spells a whole text.
-use Rattle.std.specs.Prelude.{◌≡◌, ℕ, Bool, true, false, [], ◌∷◌, ◌++◌, Ok, Err}
+-- Where the fault of a token list stands that is not accepted; for any relation that says what spells a
+-- whole text.
+use Rattle.std.specs.Prelude.{◌≡◌, ℕ, Bool, true, false, [], ◌∷◌, ◌++◌, Ok, Err, suc, ◌||◌, nat_le, length}
 use Rattle.c_tree.specs.declared.token.Lexeme.{Lexeme}
-use Rattle.c_grammar.specs.Tokens.{Tokens, May, within, before, late, any_depth}
+use Rattle.c_grammar.specs.Tokens.{Tokens, May}
 use Rattle.c_grammar.specs.Parsing.{Out, Stop}
+use Rattle.c_grammar.specs.Accepted.{Rel, Spelled}
 
--- the tokens from the first list up to the second spell the tree, under a test of openers
-abbrev pub Rel : Type 0 → Type 1
-Rel X = May → X → Tokens → Tokens → Type 0
+-- no token before the list does
+abbrev pub before : ℕ → Tokens → May
+before m tail = λ q d. nat_le (length q) (length tail) || nat_le d m
+
+-- no token before the one that stands before the list does
+abbrev pub late : ℕ → Tokens → May
+late m rest = λ q d. nat_le (length q) (suc (length rest)) || nat_le d m
+
+-- any token may open any depth
+abbrev pub any_depth : May
+any_depth = λ q d. true
 
 module _ {X : Type 0} (R : Rel X) where
-  -- all tokens spell the tree, and none opens a depth beyond m
-  abbrev pub Spelled : ℕ → X → Tokens → Type 0
-  Spelled m x tokens = R (within m) x tokens []
-
   -- some list of the grammar, of any depth and length, begins with the front
   abbrev pub Starts : Tokens → Type 0
   Starts front = (rest : Tokens) × (x : X) × R any_depth x (front ++ rest) []

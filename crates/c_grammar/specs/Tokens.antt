@@ -1,5 +1,5 @@
 -- Lists of tokens as the grammar reads them, and which tokens may open a depth.
-use Rattle.std.specs.Prelude.{ℕ, suc, Bool, true, ◌||◌, nat_le, List, length}
+use Rattle.std.specs.Prelude.{ℕ, Bool, nat_le, List}
 use Rattle.c_tree.specs.declared.token.Lexeme.{Lexeme}
 use Rattle.c_tree.specs.declared.token.Form.{Form}
 use Rattle.c_tree.specs.declared.token.Form.TheVariants as form
@@ -33,15 +33,3 @@ May = Tokens → ℕ → Bool
 -- no token opens a depth beyond m
 abbrev pub within : ℕ → May
 within m = λ q d. nat_le d m
-
--- no token before the list does
-abbrev pub before : ℕ → Tokens → May
-before m tail = λ q d. nat_le (length q) (length tail) || nat_le d m
-
--- no token before the one that stands before the list does
-abbrev pub late : ℕ → Tokens → May
-late m rest = λ q d. nat_le (length q) (suc (length rest)) || nat_le d m
-
--- any token may open any depth
-abbrev pub any_depth : May
-any_depth = λ q d. true

@@ -19,16 +19,16 @@ use Rattle.c_lex.specs.Tables.{lookup, keywords}
 use Rattle.c_lex.specs.Scans.{constant_of, character_of, close_from, mark_of, is_include}
 use Rattle.c_lex.specs.Pieces.{Longest, word_form, begins_with}
 use Rattle.c_lex.specs.Finds.{Found, found, IsFront, Finds, Marks, begins_comment}
-use Rattle.c_lex.specs.Lexes.{Tokens, lexeme, Cut, here, Fault, BadByte, TooManyTokens, fault_of}
-use Rattle.c_lex.specs.Lexes.{no_piece, is_broken, one_more, FaultAt}
+use Rattle.c_lex.specs.Lexes.{Tokens, lexeme, Cut, here, Lexed}
+use Rattle.c_lex.specs.Faults.{Fault, BadByte, TooManyTokens, fault_of, no_piece, is_broken, one_more, FaultAt}
 use Rattle.c_lex.specs.Turns.{Grows}
-use Rattle.c_lex.specs.Answers.{Lexed, Answered}
+use Rattle.c_lex.specs.Answers.{Answered}
 use Rattle.c_lex.proofs.Basics.{eq_is}
 use Rattle.c_lex.proofs.Found.{space_found, word_found, number_found, bad_number_found}
 use Rattle.c_lex.proofs.Found.{character_found}
 use Rattle.c_lex.proofs.Found.{quote_found, comment_found, opening_found, line_found, include_found}
 use Rattle.c_lex.proofs.Found.{directive_found, marks_find, hash_nothing}
-use Rattle.c_lex.proofs.Whole.{grown, whole, bytes_nil, piece_some}
+use Rattle.c_lex.proofs.ReadSoFar.{grown, whole, bytes_nil, piece_some}
 
 -- ---- the piece at a place
 

@@ -1,10 +1,10 @@
 -- What the lexer answers.
-use Rattle.std.specs.Prelude.{◌≡◌, ◌≤◌, ◌⊎◌, ℕ, length}
+use Rattle.std.specs.Prelude.{◌≡◌, ◌⊎◌, ℕ}
 use Rattle.c_lex.specs.declared.fault.LexFault.{LexFault}
 use Rattle.c_lex.specs.declared.fault.LexFault.TheVariants as fault
 use Rattle.c_lex.specs.Bytes.{Bytes}
-use Rattle.c_lex.specs.Lexes.{Tokens, Lexes, Fault, BadByte, BadLiteral, Unclosed, TooManyTokens}
-use Rattle.c_lex.specs.Lexes.{Directive, FaultAt}
+use Rattle.c_lex.specs.Lexes.{Tokens, Lexes, Lexed}
+use Rattle.c_lex.specs.Faults.{Fault, BadByte, BadLiteral, Unclosed, TooManyTokens, Directive, FaultAt}
 
 -- the error is this fault, with this line
 abbrev pub Says : LexFault → Fault → ℕ → Type 0
@@ -14,10 +14,6 @@ Says (fault.Unclosed l) f line = (f ≡ Unclosed) × (l ≡ line)
 Says (fault.TooManyTokens l) f line = (f ≡ TooManyTokens) × (l ≡ line)
 Says (fault.Directive l) f line = (f ≡ Directive) × (l ≡ line)
 Says fault.Memory f line = ⊥
-
--- the text has these tokens, few enough
-abbrev pub Lexed : ℕ → Bytes → Tokens → Type 0
-Lexed most text ts = Lexes text ts × (length ts ≤ most)
 
 -- the fault of the text, or want of memory
 abbrev pub Fails : ℕ → Bytes → LexFault → Type 0
@@ -46,3 +42,7 @@ Answered most text =
 -- every text has tokens, few enough, or a fault
 abbrev pub EveryTextAnswers : ℕ → Type 0
 EveryTextAnswers most = (text : Bytes) → Answered most text
+
+-- A text has one list of tokens at most.
+abbrev pub LexesOnce : Bytes → Type 0
+LexesOnce text = (ts us : Tokens) → Lexes text ts → Lexes text us → ts ≡ us

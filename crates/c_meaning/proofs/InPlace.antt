@@ -65,7 +65,8 @@ set_later {X = X} (x ∷ few) more (suc n) (suc i) v h l =
     rw e (ap (λ (xs : List X). x ∷ xs) (set_later few more n i v (omega arith) (omega arith)))
 
 -- how many there are
-pub count_in : {X : Type 0} → (few more : List X) (n : ℕ) → n ≤ length few → length (take n few ++ more) ≡ n + length more
+pub count_in : {X : Type 0} → (few more : List X) (n : ℕ) → n ≤ length few
+    → length (take n few ++ more) ≡ n + length more
 count_in few more zero l =
     let e : length more ≡ 0 + length more = omega arith in
     e

@@ -3,8 +3,8 @@ pub mod InPlace
 pub mod Lays
 pub mod Lists
 pub mod Filled
-pub mod Turns
+pub mod EvaluatorLoop
 pub mod Results
 pub mod Places
-pub mod Parts
+pub mod TaskMeanings
 pub mod Unwinds

@@ -179,7 +179,8 @@ impl<'a> Store<'a> {
         }
     }
 
-    // The scalars and arrays of a call whose frame has room. The list has its arguments, and then the caller's scalars.
+    // The scalars and arrays of a call whose frame has room. The list has its arguments, and then the caller's
+    // scalars.
     #[inline(always)]
     fn enter(
         &mut self,

@@ -1,5 +1,5 @@
-//! Parts that are evaluated at once, by recursion on the tree: what they come to, and what is put before what they are
-//! a part of where they are not evaluated to their end.
+//! Parts that are evaluated at once, by recursion on the tree: what they come to, and what is put before what they
+//! are a part of where they are not evaluated to their end.
 
 ghost use Rattle.std.specs.Prelude.{OnOk};
 ghost use Rattle.c_meaning_spec.specs.State.{Result as Meant, Go, then, given, with_some, load, store};
@@ -17,9 +17,9 @@ use c_meaning_spec::{Ending, Object};
 use c_tree::{TypedExpr, TypedProgram, TypedStmt};
 use std::alloc::AllocError;
 
-/// Why a part was not evaluated to its end: the evaluation ends, an expression or a statement is to be evaluated first
-/// and then what the frames of `Store::pending` say, of which the first follows it, a call gave no value to these
-/// frames, or there is no memory.
+/// Why a part was not evaluated to its end: the evaluation ends, an expression or a statement is to be evaluated
+/// first and then what the frames of `Store::pending` say, of which the first follows it, a call gave no value to
+/// these frames, or there is no memory.
 #[derive(Clone, Copy)]
 pub enum Stop<'a> {
     Fails(Ending),

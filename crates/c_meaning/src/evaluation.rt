@@ -153,7 +153,7 @@ impl<'a> Machine<'a> {
     }
 
     /// All that is left to be done. There are at most 2^64 turns, of which each spends a step or takes a frame off.
-    #[tactic(auto, using(crate::proofs::Turns::reached))]
+    #[tactic(auto, using(crate::proofs::EvaluatorLoop::reached))]
     fn go(&mut self, program: &'a TypedProgram, start: Move<'a>) -> Result<Move<'a>, AllocError>
         ensures { IfOk result (λ m. IsReached (next m) (view self.new.store)
             (ahead_next program.now (next start.entry) (frames self.old.stack.items)
@@ -170,7 +170,7 @@ impl<'a> Machine<'a> {
     }
 
     /// The call of main.
-    #[tactic(auto, using(crate::proofs::Turns::no_more))]
+    #[tactic(auto, using(crate::proofs::EvaluatorLoop::no_more))]
     fn run_main(&mut self, program: &'a TypedProgram) -> Result<Move<'a>, AllocError>
         requires { self.old.stack.items ≡ [] }
         ensures { IfOk result (λ m. IsReached (next m) (view self.new.store)

@@ -79,7 +79,7 @@ impl<'a> Store<'a> {
 
     // One turn of a loop.
     #[cycle(parts)]
-    #[tactic(auto, using(crate::proofs::Parts::turn_is))]
+    #[tactic(auto, using(crate::proofs::TaskMeanings::turn_is))]
     #[inline(always)]
     fn run_turn(&mut self, program: &'a TypedProgram, turn: Loop<'a>, depth: u32) -> Ran
         ensures { Turned program.now turn.entry

@@ -21,7 +21,7 @@ pub struct Machine<'a> {
 
 impl<'a> Machine<'a> {
     // The frames of what is to follow a part that was not evaluated to its end come before those that stand there.
-    #[tactic(auto, using(crate::proofs::Turns::turned_over))]
+    #[tactic(auto, using(crate::proofs::EvaluatorLoop::turned_over))]
     fn stack_pending(&mut self) -> Result<(), AllocError>
         ensures kept { OnOk result (frames self.new.stack.items
             ≡ map follow self.old.store.pending.items ++ frames self.old.stack.items) }
@@ -34,7 +34,7 @@ impl<'a> Machine<'a> {
 
     // What is to be done first where a part was not evaluated to its end.
     #[inline(never)]
-    #[tactic(auto, using(crate::proofs::Turns::both_follow, crate::proofs::Turns::both_given))]
+    #[tactic(auto, using(crate::proofs::EvaluatorLoop::both_follow, crate::proofs::EvaluatorLoop::both_given))]
     fn stopped(&mut self, program: &'a TypedProgram) -> Result<Move<'a>, AllocError>
         ensures { IfOk result (λ m. (r : Reached) → Stopped program.now r self.old.store
             → Leads program.now r self.old self.new m) }

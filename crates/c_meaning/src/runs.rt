@@ -161,7 +161,7 @@ impl<'a> Store<'a> {
 
     /// A statement, which is left where it is too deep.
     #[cycle(parts)]
-    #[tactic(auto, using(crate::proofs::Parts::run_is))]
+    #[tactic(auto, using(crate::proofs::TaskMeanings::run_is))]
     pub fn run(&mut self, program: &'a TypedProgram, st: &'a TypedStmt, depth: u32) -> Ran
         ensures { Runs program.now
             (meaning program.now (Run st.now) (view self.old)) self.new result }

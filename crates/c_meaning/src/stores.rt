@@ -1,5 +1,5 @@
-//! Assignments that are evaluated at once: those to a scalar and to an element by one index take no room for what they
-//! are stored in.
+//! Assignments that are evaluated at once: those to a scalar and to an element by one index take no room for what
+//! they are stored in.
 
 ghost use Rattle.std.specs.Prelude.{Some};
 ghost use Rattle.c_tree.specs.TypedTrees.{node_of};

@@ -94,7 +94,7 @@ impl<'a> Store<'a> {
 
     /// An expression, which is left where it is too deep.
     #[cycle(parts)]
-    #[tactic(auto, using(crate::proofs::Parts::number_is, crate::proofs::Parts::scalar_is))]
+    #[tactic(auto, using(crate::proofs::TaskMeanings::number_is, crate::proofs::TaskMeanings::scalar_is))]
     #[inline(always)]
     pub fn value_of(
         &mut self,
@@ -115,7 +115,7 @@ impl<'a> Store<'a> {
     // An expression that is no leaf, which is left where it is too deep.
     #[cycle(parts)]
     #[inline(never)]
-    #[tactic(auto, using(crate::proofs::Parts::of_is))]
+    #[tactic(auto, using(crate::proofs::TaskMeanings::of_is))]
     fn deeper_value(
         &mut self,
         program: &'a TypedProgram,

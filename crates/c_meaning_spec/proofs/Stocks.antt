@@ -158,7 +158,8 @@ exact P input n out result steps (Go v s) is e l whole =
     let not : ¬ IsMore (eval P input steps) =
     enough steps s.stock (run P input steps) (run P input (steps + s.stock)) v s
     (grown P input steps s.stock) there refl in
-    let same : eval P input (steps + s.stock) ≡ eval P input steps = stays-with-more-steps P input steps s.stock not in
+    let same : eval P input (steps + s.stock) ≡ eval P input steps =
+        stays-with-more-steps P input steps s.stock not in
     let most : steps ≤ n = omega arith in (
       most,
       sym same ∙ (ap (eval P input) split ∙ whole),

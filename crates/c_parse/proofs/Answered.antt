@@ -7,7 +7,8 @@ use Rattle.c_grammar.specs.Tokens.{Tokens}
 use Rattle.c_grammar.specs.Parsing.{Out, syntax, too_deep}
 use Rattle.c_grammar.specs.ModelUnits.{unit_of}
 use Rattle.c_grammar.specs.Places.{Exact, settle}
-use Rattle.c_grammar.specs.Answers.{limit, UnitIs, IsUnit, last_line, HasSyntaxFault, wrong_token, too_short, opener}
+use Rattle.c_grammar.specs.Answers.{last_line, HasSyntaxFault, wrong_token, too_short, opener}
+use Rattle.c_grammar.specs.Accepted.{limit, UnitIs, IsUnit}
 use Rattle.c_grammar.proofs.Parsed.{unit_exact}
 use Rattle.c_parse.specs.Parses.{ParseFails, fault_line, depth_fault}
 use Rattle.c_parse.specs.Reads.{Reads}
@@ -16,8 +17,10 @@ use Rattle.c_parse.specs.declared.fault.Stopped.TheVariants as stopped
 use Rattle.c_parse.specs.declared.unit.ParseFault.{ParseFault}
 
 -- the model's outcome, settled, is exact
-exact_here : (tokens : Tokens) (out : Out (List Top)) → unit_of 63 tokens ≡ out → Exact UnitIs limit tokens (settle out)
-exact_here tokens out e = subst (λ (o : Out (List Top)). Exact UnitIs limit tokens (settle o)) e (unit_exact 63 tokens)
+exact_here : (tokens : Tokens) (out : Out (List Top)) → unit_of 63 tokens ≡ out
+    → Exact UnitIs limit tokens (settle out)
+exact_here tokens out e = subst (λ (o : Out (List Top)). Exact UnitIs limit tokens (settle o)) e
+    (unit_exact 63 tokens)
 
 -- a tree that was read is the tokens' tree
 is_unit : (tokens rest : Tokens) (xs : List Top) → unit_of 63 tokens ≡ Ok (xs, rest) → IsUnit tokens xs
@@ -41,7 +44,8 @@ module _ (tokens rest : Tokens) (r : Result (List Top) Stopped) (reads : Reads (
   answers_unit xs e =
       is_unit tokens rest xs (subst (λ (r : Result (List Top) Stopped). Reads (unit_of 63 tokens) r rest) e reads)
 
-  pub answers_syntax : (line : ℕ) → r ≡ Err stopped.Syntax → fault_line tokens rest ≡ line → HasSyntaxFault tokens line
+  pub answers_syntax : (line : ℕ) → r ≡ Err stopped.Syntax → fault_line tokens rest ≡ line
+      → HasSyntaxFault tokens line
   answers_syntax line e f =
       subst (HasSyntaxFault tokens) f (has_fault tokens rest
       (subst (λ (r : Result (List Top) Stopped). Reads (unit_of 63 tokens) r rest) e reads))

@@ -12,7 +12,8 @@ use Rattle.c_parse.specs.Reads.{operator_at, joins_by, Outside, Inside, Fails}
 use Rattle.c_parse.specs.Operands.{climb, joined_of}
 use Rattle.c_parse.specs.declared.fault.Stopped.{Stopped}
 use Rattle.c_parse.specs.declared.fault.Stopped.TheVariants as stopped
-use Rattle.c_parse.proofs.Turns.{of_level, operator_is, turn_on, turn_off, turns_end, turn_shorter, binary_next, binary_zero}
+use Rattle.c_parse.proofs.ParserLoops.{of_level, operator_is, turn_on, turn_off, turns_end, turn_shorter}
+use Rattle.c_parse.proofs.ParserLoops.{binary_next, binary_zero}
 
 abbrev here : Expr → Tokens → Out Expr
 here a ts = Ok (a, ts)

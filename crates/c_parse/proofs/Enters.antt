@@ -21,7 +21,8 @@ line_here l ts = Ok (l, ts)
 enter_by : (k : Mark) (n : Nested) (b : Bool) (ts : Tokens) → n.allowed ≡ b → is_next k ts ≡ true
     → enter k n ts ≡ cond b (line_here (line_of ts) (tail ts)) (too_deep ts)
 enter_by k n b ts e h =
-    if_true (is_next k ts) _ (syntax ts) h ∙ ap (λ (b : Bool). cond b (line_here (line_of ts) (tail ts)) (too_deep ts))
+    if_true (is_next k ts) _ (syntax ts) h
+    ∙ ap (λ (b : Bool). cond b (line_here (line_of ts) (tail ts)) (too_deep ts))
     e
 
 pub enters_ok : (k : Mark) (left l : ℕ) (old new : Tokens) → is_next k old ≡ true → left ≡ suc l → new ≡ tail old

@@ -1,5 +1,5 @@
 pub mod Enters
-pub mod Turns
+pub mod ParserLoops
 pub mod Climbs
 pub mod Operands
 pub mod Nested

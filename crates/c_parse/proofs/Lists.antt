@@ -1,5 +1,6 @@
 -- The loops of lists in which a comma may stand behind the last item, of globals and of units.
-use Rattle.std.proofs.Common.{◌≡◌, ℕ, suc, ◌+◌, ◌-◌, ◌<◌, Bool, true, false, cond, List, [], ◌∷◌, ◌++◌, length, Ok, Err}
+use Rattle.std.proofs.Common.{◌≡◌, ℕ, suc, ◌+◌, ◌-◌, ◌<◌, Bool, true, false, cond, List, [], ◌∷◌, ◌++◌, length}
+use Rattle.std.proofs.Common.{Ok, Err}
 use Rattle.std.proofs.Common.{Result, refl, sym, ap, ◌∙◌, subst, arith, append_assoc}
 use Rattle.std.proofs.lemmas.Bool.{false≢true}
 use Rattle.c_tree.specs.declared.token.Kind.{Kind}
@@ -17,7 +18,7 @@ use Rattle.c_parse.specs.Reads.{behind, Fails, Puts}
 use Rattle.c_parse.specs.Lists.{global_list_of}
 use Rattle.c_parse.specs.declared.fault.Stopped.{Stopped}
 use Rattle.c_parse.specs.declared.fault.Stopped.TheVariants as stopped
-use Rattle.c_parse.proofs.Turns.{behind_none, listed_init}
+use Rattle.c_parse.proofs.ParserLoops.{behind_none, listed_init}
 
 abbrev err : {A : Type 0} → Stop → Out A
 err s = Err s
@@ -75,12 +76,14 @@ module _ {A : Type 0} (k : Mark) (run : Tokens → Out A) where
       (ap (is_next k) (sym r) ∙ d)) ∙ inv))
 
   -- the loop ends behind a comma and the mark
-  pub trailed_done : (turns turn' : ℕ) (found found' : List A) (ts mid rest new : Tokens) (x : A) (whole : Out (List A))
+  pub trailed_done : (turns turn' : ℕ) (found found' : List A) (ts mid rest new : Tokens) (x : A)
+      (whole : Out (List A))
       → turn' < turns → behind found (listed k true run (turns - turn') ts) ≡ whole → run ts ≡ Ok (x, mid)
       → is_next mark.Comma mid ≡ true → found' ≡ found ++ x ∷ [] → rest ≡ tail mid → is_next k rest ≡ true
       → new ≡ tail rest → whole ≡ Ok (found', new)
   trailed_done turns turn' found found' ts mid rest new x whole lt inv h c e r d t =
-      rw e (rw t (rw r (sym inv ∙ trailed_end (turns - turn') (turns - (turn' + 1)) found x ts mid (omega (arith, lt)) h
+      rw e (rw t (rw r (sym inv ∙ trailed_end (turns - turn') (turns - (turn' + 1)) found x ts mid
+      (omega (arith, lt)) h
       c (ap (is_next k) (sym r) ∙ d))))
 
   -- the loop ends without a comma
@@ -103,7 +106,8 @@ module _ {A : Type 0} (k : Mark) (run : Tokens → Out A) where
   pub trailed_init : (turns : ℕ) (ts : Tokens) → turns ≡ length ts + 1
       → behind [] (listed k true run (turns - 0) ts) ≡ listed k true run (suc (length ts)) ts
   trailed_init turns ts e =
-      let i : turns - 0 ≡ suc (length ts) = omega (arith, e) in behind_none _ ∙ ap (λ (n : ℕ). listed k true run n ts) i
+      let i : turns - 0 ≡ suc (length ts) = omega (arith, e) in
+      behind_none _ ∙ ap (λ (n : ℕ). listed k true run n ts) i
 
 pub values_init : (left turns : ℕ) (ts : Tokens) → turns ≡ length ts + 1
     → behind [] (listed mark.RightBrace true (conditional_of (inside left)) (turns - 0) ts) ≡ values_of (inside left)
@@ -141,7 +145,8 @@ globals_on left k x [] rest e r = absurd (false≢true e)
 globals_on left k x (t ∷ ts) rest e r = rw r (if_true (is_next mark.Comma (t ∷ ts)) _ _ e)
 
 -- what is put behind a list is what stands behind it
-put_same : {A : Type 0} (out out' : Out (List A)) (old old' new : List A) (r : Result (Unit {0}) Stopped) (ts : Tokens)
+put_same : {A : Type 0} (out out' : Out (List A)) (old old' new : List A)
+    (r : Result (Unit {0}) Stopped) (ts : Tokens)
     → behind old out ≡ behind old' out' → Puts out' old' new r ts → Puts out old new r ts
 put_same out out' old old' new (Ok done) ts e h = e ∙ h
 put_same {A} out out' old old' new (Err s) ts e h = subst (λ (o : Out (List A)). Fails o s ts) (sym e) h
@@ -166,7 +171,8 @@ globals_end left k x ts e = if_false (is_next mark.Comma ts) _ _ e
 -- ---- items up to the end
 
 module _ {A : Type 0} (run : Tokens → Out (List A)) where
-  end_turn : (n n' : ℕ) (found xs : List A) (ts mid : Tokens) → n ≡ suc n' → run ts ≡ Ok (xs, mid) → is_end mid ≡ false
+  end_turn : (n n' : ℕ) (found xs : List A) (ts mid : Tokens) → n ≡ suc n' → run ts ≡ Ok (xs, mid)
+      → is_end mid ≡ false
       → behind found (to_end run n ts) ≡ behind (found ++ xs) (to_end run n' mid)
   end_turn n n' found xs ts mid e h c = rw e (rw h (rw c (behind_items found xs (to_end run n' mid))))
 
@@ -204,7 +210,8 @@ module _ {A : Type 0} (run : Tokens → Out (List A)) where
 
   -- the same of items that are put behind those that were found
   pub end_puts : (turns turn' : ℕ) (found found' : List A) (ts rest : Tokens) (whole : Out (List A))
-      → turn' < turns → behind found (to_end run (turns - turn') ts) ≡ whole → behind found (run ts) ≡ Ok (found', rest)
+      → turn' < turns → behind found (to_end run (turns - turn') ts) ≡ whole
+      → behind found (run ts) ≡ Ok (found', rest)
       → is_end rest ≡ false → behind found' (to_end run (turns - (turn' + 1)) rest) ≡ whole
   end_puts turns turn' found found' ts rest whole lt inv h c = by (run ts) refl h
     where

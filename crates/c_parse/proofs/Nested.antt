@@ -1,5 +1,6 @@
 -- What stands one deeper, and the loops of statements.
-use Rattle.std.proofs.Common.{◌≡◌, ℕ, suc, ◌+◌, ◌-◌, ◌<◌, Bool, true, false, cond, List, [], ◌∷◌, ◌++◌, length, Ok, Err, refl}
+use Rattle.std.proofs.Common.{◌≡◌, ℕ, suc, ◌+◌, ◌-◌, ◌<◌, Bool, true, false, cond, List, [], ◌∷◌, ◌++◌, length, Ok}
+use Rattle.std.proofs.Common.{Err, refl}
 use Rattle.std.proofs.Common.{sym, ap, ◌∙◌, arith, append_assoc}
 use Rattle.c_tree.specs.declared.token.Kind.{Kind}
 use Rattle.std.proofs.lemmas.Bool.{false≢true}
@@ -22,7 +23,7 @@ use Rattle.c_grammar.proofs.Numbers.{key_is}
 use Rattle.c_parse.specs.Reads.{behind, Fails}
 use Rattle.c_parse.specs.declared.fault.Stopped.{Stopped}
 use Rattle.c_parse.specs.declared.fault.Stopped.TheVariants as stopped
-use Rattle.c_parse.proofs.Turns.{behind_none}
+use Rattle.c_parse.proofs.ParserLoops.{behind_none}
 use Rattle.c_tree.specs.declared.tree.Stmt.{Stmt}
 
 abbrev err : {A : Type 0} → Stop → Out A

@@ -2,7 +2,8 @@
 use Rattle.std.proofs.Common.{◌≡◌, List, refl, sym, ap, ◌∙◌}
 use Rattle.c_tree.specs.declared.tree.Top.{Top}
 use Rattle.c_grammar.specs.Tokens.{Tokens}
-use Rattle.c_grammar.specs.Answers.{IsUnit, Answer, tree, syntax, too_deep, Answers}
+use Rattle.c_grammar.specs.Answers.{Answer, tree, syntax, too_deep, Answers}
+use Rattle.c_grammar.specs.Accepted.{IsUnit}
 use Rattle.c_grammar.proofs.OneAnswer.{same_answer}
 use Rattle.c_parse.specs.Parses.{ParseFails, HasFault, IsMemory, Tells}
 use Rattle.c_parse.specs.declared.unit.ParseFault.{ParseFault}

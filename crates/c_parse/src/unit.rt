@@ -2,7 +2,8 @@
 
 ghost use Rattle.std.specs.Prelude.{◌≡◌, ◌<◌, ℕ, Err, IfOk, MatchResult, List, [], length};
 ghost use Rattle.c_tree.specs.declared.tree.Top.{Top};
-ghost use Rattle.c_grammar.specs.Answers.{IsUnit, HasSyntaxFault, IsTooDeep};
+ghost use Rattle.c_grammar.specs.Answers.{HasSyntaxFault, IsTooDeep};
+ghost use Rattle.c_grammar.specs.Accepted.{IsUnit};
 ghost use Rattle.c_grammar.specs.Answers as grammar;
 ghost use Rattle.c_parse.specs.Parses as parses;
 ghost use Rattle.c_parse.specs.Parses.{HasFault, IsMemory, Tells};

@@ -14,7 +14,8 @@ use std::marker::Model;
 /// How many bytes a word has at most that takes no memory of its own.
 const SHORT_WORD_BYTES: usize = 14;
 
-/// The bytes of a word: in place where they are few. Both forms take 16 bytes, so that a node of the tree stays small.
+/// The bytes of a word: in place where they are few. Both forms take 16 bytes, so that a node of the tree stays
+/// small.
 #[derive(Debug, Drop)]
 enum Bytes {
     Short {

@@ -13,8 +13,8 @@ use Rattle.c_type_expr.specs.declared.fault.TypeFault.{TypeFault}
 use Rattle.c_type_expr.specs.Says.{Stops}
 use Rattle.c_type.specs.declared.state.State.{State}
 use Rattle.c_type.specs.declared.state.Around.{Around}
-use Rattle.c_type.specs.States.{at, with_array}
-use Rattle.c_type.specs.Declarations.{declared, declare_fault, declare_tree, sized_fault, row_in, extent}
+use Rattle.c_type.specs.States.{at, with_array, row_in}
+use Rattle.c_type.specs.Declarations.{declared, declare_fault, declare_tree, sized_fault, extent}
 use Rattle.c_type.specs.Statements.{part}
 use Rattle.c_type.specs.Runs.{Runs, Moves}
 use Rattle.c_type.proofs.Nodes.{after-Declare, fault-Declare, tree-Declare}

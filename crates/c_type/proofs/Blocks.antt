@@ -21,13 +21,12 @@ use Rattle.c_type_expr.specs.declared.meaning.Binding.{Binding}
 use Rattle.c_type_expr.specs.Scope.{Scope, look_up, opened, closed, declared_in}
 use Rattle.c_type.specs.declared.file_scope.FileScope.{FileScope}
 use Rattle.c_type.specs.declared.state.State.{State}
-use Rattle.c_type.specs.States.{at, some_block, entered, with_switch}
-use Rattle.c_type.specs.Declarations.{is_end, declared}
+use Rattle.c_type.specs.States.{at, entered, with_switch, is_end, named_param, with_params, slot_of}
+use Rattle.c_type.specs.LeftOut.{some_block}
+use Rattle.c_type.specs.Declarations.{declared}
 use Rattle.c_type.specs.Statements.{statements_in, part, beginning_of, all_after, section_of, sections_after, switch_kind}
-use Rattle.c_type.specs.Units.{eof_name, with_include}
-use Rattle.c_type.specs.Functions.{named_param, with_params, body_in, body_part, entry}
-use Rattle.c_type.specs.Functions.{param_names, next_number, params_names, slot_of, callee_in}
-use Rattle.c_type.specs.Signatures.{function_names}
+use Rattle.c_type.specs.FileScopes.{eof_name, with_include, function_names}
+use Rattle.c_type.specs.Functions.{body_in, body_part, entry, param_names, next_number, params_names, callee_in}
 use Rattle.c_type.specs.Programs.{node_after, item_after}
 use Rattle.c_type.proofs.Nodes.{after-Declare, after-Plain, after-Compound, after-If, after-While, after-Do}
 use Rattle.c_type.proofs.Nodes.{after-For, after-Switch, after-Break, after-Continue, after-Return}
@@ -190,7 +189,8 @@ module _ (I N X S : Type 0) (of_i : I → ForInit) (of_n : N → StmtNode) (of_x
   at_section : (y : Section-F I N X S)
       → KeepsSection (roll-Section (map-Section I N X S ForInit StmtNode Section Stmt of_i of_n of_x of_s y))
   at_section y =
-      subst (λ (x : Section-F ForInit StmtNode Section Stmt). (v : State) → Open v → Open (all_after (map part x.body) v))
+      subst (λ (x : Section-F ForInit StmtNode Section Stmt). (v : State) → Open v
+          → Open (all_after (map part x.body) v))
       (sym (out-roll-Section (map-Section I N X S ForInit StmtNode Section Stmt of_i of_n of_x of_s y)))
       (all_keep y.body)
 

@@ -20,20 +20,19 @@ use Rattle.c_tree.specs.declared.typed.TypedForInit.TheVariants as typed_init
 use Rattle.c_type_expr.specs.declared.fault.TypeFault.{TypeFault}
 use Rattle.c_type_expr.specs.declared.fault.TypeFault.TheVariants.{Mismatch}
 use Rattle.c_type_expr.specs.declared.role.Role.TheVariants.{Value, Free}
-use Rattle.c_type_expr.specs.Roles.{first, unless}
+use Rattle.c_type_expr.specs.Blames.{first, unless}
 use Rattle.c_type_expr.specs.Trees.{tree}
 use Rattle.c_type_expr.specs.Constants.{full}
 use Rattle.c_type_expr.specs.Says.{Stops}
 use Rattle.c_type.specs.declared.state.State.{State}
 use Rattle.c_type.specs.declared.state.Around.{Around}
-use Rattle.c_type.specs.States.{at, full_if, tree_if, entered, left, with_switch}
+use Rattle.c_type.specs.States.{at, entered, left, with_switch, in_loop}
+use Rattle.c_type.specs.LeftOut.{full_if, tree_if}
 use Rattle.c_type.specs.Declarations.{declared, declare_fault, declare_tree}
-use Rattle.c_type.specs.Statements.{Part, Beginning, part, beginning_of, init_part, node_part}
-use Rattle.c_type.specs.Statements.{at_line, all_after, all_fault, all_trees, else_after}
-use Rattle.c_type.specs.Statements.{else_fault, else_tree, rest_fault, for_fault, for_tree}
-use Rattle.c_type.specs.Statements.{return_fault, return_tree, in_loop, SectionPart, section_part}
-use Rattle.c_type.specs.Statements.{statements_in, section_of, switch_part, switch_fault, switch_tree, switch_kind}
-use Rattle.c_type.specs.Statements.{sections_after}
+use Rattle.c_type.specs.Statements.{Part, Beginning, part, beginning_of, init_part, node_part, at_line, all_after}
+use Rattle.c_type.specs.Statements.{all_fault, all_trees, else_after, else_fault, else_tree, rest_fault, for_fault}
+use Rattle.c_type.specs.Statements.{for_tree, return_fault, return_tree, SectionPart, section_part, statements_in}
+use Rattle.c_type.specs.Statements.{section_of, switch_part, switch_fault, switch_tree, switch_kind, sections_after}
 use Rattle.c_type.specs.Runs.{Runs}
 
 abbrev A : Type 0
@@ -48,7 +47,8 @@ part_by : (l : ℕ) (n : StmtNode) (x : StmtNode-F ForInit StmtNode Section Stmt
 unfolding part
 part_by l n x e =
     fold_out-Stmt Beginning A SectionPart Part init_part node_part section_part at_line (at l n)
-    ∙ ap (λ (m : StmtNode). fold-StmtNode Beginning A SectionPart Part init_part node_part section_part at_line m l) (sym e)
+    ∙ ap (λ (m : StmtNode). fold-StmtNode Beginning A SectionPart Part init_part node_part section_part at_line m l)
+        (sym e)
     ∙ ap (λ (f : A). f l) (fold-roll-StmtNode Beginning A SectionPart Part init_part node_part section_part at_line x)
 
 -- the measure of a list of statements, and of a leg that may be left out
@@ -179,7 +179,8 @@ pub ruleset on_for = (after-For, fault-For, tree-For)
 pub after-Break : (l : ℕ) (v : State) → (part (at l node.Break)).after v ≡ v
 after-Break l v = ap (λ (p : Part). p.after v) (part_by l _ StmtNode-F.Break node.rolls-Break)
 
-pub fault-Break : (l : ℕ) (b : Around) (v : State) → (part (at l node.Break)).fault b v ≡ unless b.may_break (Mismatch l)
+pub fault-Break : (l : ℕ) (b : Around) (v : State)
+    → (part (at l node.Break)).fault b v ≡ unless b.may_break (Mismatch l)
 fault-Break l b v = ap (λ (p : Part). p.fault b v) (part_by l _ StmtNode-F.Break node.rolls-Break)
 
 pub tree-Break : (l : ℕ) (v : State) → (part (at l node.Break)).tree v ≡ typed.Break
@@ -191,7 +192,8 @@ pub ruleset on_break = (after-Break, fault-Break, tree-Break)
 pub after-Continue : (l : ℕ) (v : State) → (part (at l node.Continue)).after v ≡ v
 after-Continue l v = ap (λ (p : Part). p.after v) (part_by l _ StmtNode-F.Continue node.rolls-Continue)
 
-pub fault-Continue : (l : ℕ) (b : Around) (v : State) → (part (at l node.Continue)).fault b v ≡ unless b.may_continue (Mismatch l)
+pub fault-Continue : (l : ℕ) (b : Around) (v : State)
+    → (part (at l node.Continue)).fault b v ≡ unless b.may_continue (Mismatch l)
 fault-Continue l b v = ap (λ (p : Part). p.fault b v) (part_by l _ StmtNode-F.Continue node.rolls-Continue)
 
 pub tree-Continue : (l : ℕ) (v : State) → (part (at l node.Continue)).tree v ≡ typed.Continue
@@ -238,7 +240,8 @@ tree-If l test one (Some s) v =
     ap (λ (p : Part). p.tree v) (part_by l _ (StmtNode-F.If test one (Some s)) (node.rolls-If test one (Some s)))
 
 -- a switch: the state after it, its first fault and its tree; each section is that of its statements
-pub fold_section : (x : Section) → fold-Section Beginning A SectionPart Part init_part node_part section_part at_line x
+pub fold_section : (x : Section)
+    → fold-Section Beginning A SectionPart Part init_part node_part section_part at_line x
     ≡ section_of x
 unfolding part
 fold_section x =
@@ -284,7 +287,8 @@ init_by : (i : ForInit) (x : ForInit-F ForInit StmtNode Section Stmt) → roll-F
     (fold-StmtNode Beginning A SectionPart Part init_part node_part section_part at_line)
     (fold-Section Beginning A SectionPart Part init_part node_part section_part at_line) part x)
 unfolding beginning_of part
-init_by i x e = ap (λ (m : ForInit). fold-ForInit Beginning A SectionPart Part init_part node_part section_part at_line m) (sym e)
+init_by i x e = ap (λ (m : ForInit). fold-ForInit Beginning A SectionPart Part init_part node_part section_part
+    at_line m) (sym e)
     ∙ fold-roll-ForInit Beginning A SectionPart Part init_part node_part section_part at_line x
 
 -- a first part that is left out

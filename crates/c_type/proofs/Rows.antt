@@ -1,5 +1,6 @@
 -- The words of all values are those of their rows.
-use Rattle.std.proofs.Common.{◌≡◌, ℕ, ◌+◌, ◌-◌, ◌*◌, ◌<◌, false, arith, List, [], ◌∷◌, ◌++◌, map, length, take, drop, refl}
+use Rattle.std.proofs.Common.{◌≡◌, ℕ, ◌+◌, ◌-◌, ◌*◌, ◌<◌, false, arith, List, [], ◌∷◌, ◌++◌, map, length, take}
+use Rattle.std.proofs.Common.{drop, refl}
 use Rattle.std.proofs.Common.{sym, ap, ◌∙◌, suc, Some, None, append_assoc, get_or}
 use Rattle.std.proofs.Math.Seq.{drop-cons}
 use Rattle.std.specs.Prelude.{replicate, nat_le}
@@ -11,11 +12,12 @@ use Rattle.c_tree.specs.declared.tree.ArraySize.{ArraySize}
 use Rattle.c_tree.specs.declared.tree.ArraySize.TheVariants as size
 use Rattle.c_tree.specs.declared.tree.Expr.{Expr}
 use Rattle.c_type_expr.specs.Scope.{Scope}
-use Rattle.c_type_expr.specs.Roles.{Blame, first}
+use Rattle.c_type_expr.specs.Blames.{Blame, first}
 use Rattle.c_type_expr.specs.Constants.{full_constant, constant_at}
 use Rattle.c_constant.specs.Kinds.{bytes}
-use Rattle.c_type.specs.Declarations.{row_if, row_in}
-use Rattle.c_type.specs.Units.{all_values, values_fault, filled_rows, rows_words, row_length}
+use Rattle.c_type.specs.States.{row_if, row_in}
+use Rattle.c_type.specs.Units.{values_fault, filled_rows, rows_words, row_length}
+use Rattle.c_type.specs.FileScopes.{all_values}
 
 -- which of three faults is first
 pub assoc : (a b c : Blame) → first (first a b) c ≡ first a (first b c)

@@ -13,9 +13,11 @@ use Rattle.c_type_expr.specs.declared.meaning.Meaning.TheVariants as meaning
 use Rattle.c_type_expr.specs.Scope.{look_up}
 use Rattle.c_type_expr.specs.declared.fault.TypeFault.TheVariants.{NoMain, Twice, Mismatch, TooManyParams}
 use Rattle.c_constant.specs.Kinds.{bytes, converted}
-use Rattle.c_type.specs.Statements.{label_among, in_switch, nowhere}
-use Rattle.c_type.specs.Units.{eof_name, getchar_name, putchar_name, same_slots, included}
-use Rattle.c_type.specs.Programs.{main_name, program_fault, table}
+use Rattle.c_type.specs.Statements.{label_among}
+use Rattle.c_type.specs.States.{in_switch, nowhere}
+use Rattle.c_type.specs.Units.{same_slots, included}
+use Rattle.c_type.specs.FileScopes.{eof_name, getchar_name, putchar_name, main_name}
+use Rattle.c_type.specs.Programs.{program_fault, table}
 
 abbrev at : ℕ → TopNode → Top
 at l n = record { line = l; node = n }

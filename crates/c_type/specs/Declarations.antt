@@ -1,5 +1,5 @@
 -- Local declarations (C17 6.7): the first fault, the typed tree, and the state after them.
-use Rattle.std.specs.Prelude.{ℕ, ◌*◌, Bool, true, false, not, ◌||◌, nat_le, nat_lt, length, List, Option, Some, None}
+use Rattle.std.specs.Prelude.{ℕ, ◌*◌, not, nat_le, nat_lt, length, List, Option, Some, None}
 use Rattle.c_tree.specs.declared.token.Kind.{Kind}
 use Rattle.c_tree.specs.Limits.{most_scalars, most_object_bytes}
 use Rattle.c_tree.specs.declared.tree.ArraySize.{ArraySize}
@@ -10,24 +10,15 @@ use Rattle.c_tree.specs.declared.typed.TypedArray.{TypedArray}
 use Rattle.c_tree.specs.declared.typed.TypedStmt.{TypedStmt}
 use Rattle.c_tree.specs.declared.typed.TypedStmt.TheVariants as typed
 use Rattle.c_constant.specs.Kinds.{bytes}
-use Rattle.c_type_expr.specs.declared.meaning.Meaning.{Meaning}
-use Rattle.c_type_expr.specs.declared.meaning.Meaning.TheVariants as meaning
-use Rattle.c_type_expr.specs.Scope.{Scope, look_up, is_here}
+use Rattle.c_type_expr.specs.Scope.{Scope}
 use Rattle.c_type_expr.specs.declared.fault.TypeFault.TheVariants.{Twice, Mismatch, TooManyScalars, TooLarge}
 use Rattle.c_type_expr.specs.declared.role.Role.TheVariants.{Value}
-use Rattle.c_type_expr.specs.Roles.{Blame, first, unless}
-use Rattle.c_type_expr.specs.Constants.{size_fault, length_of, word_in}
+use Rattle.c_type_expr.specs.Blames.{Blame, first, unless}
+use Rattle.c_type_expr.specs.Constants.{size_fault}
+use Rattle.c_constant.specs.Constant.{length_of, word_in}
 use Rattle.c_type.specs.declared.state.State.{State}
-use Rattle.c_type.specs.States.{full_if, value_of, with_scalar, with_array}
-
--- whether a name stands for `EOF`
-abbrev pub is_end : Option Meaning → Bool
-is_end (Some meaning.EndOfFile) = true
-is_end _ = false
-
--- a name that this block declares already; after the include also `EOF`, which no block may declare
-abbrev pub is_taken : Scope → List ℕ → Bool
-is_taken G w = is_here G w || is_end (look_up G w)
+use Rattle.c_type.specs.States.{with_scalar, with_array, is_taken, length_in, row_in}
+use Rattle.c_type.specs.LeftOut.{full_if, value_of}
 
 -- a name that may not be declared there
 abbrev pub twice_fault : Scope → List ℕ → ℕ → Blame
@@ -59,24 +50,9 @@ rows_of (size.Sized e) = 1
 rows_of (size.Rows (Some r) e) = word_in (length_of r)
 rows_of _ = 0
 
--- how long each is
-abbrev pub length_in : ArraySize → ℕ
-length_in (size.Sized e) = word_in (length_of e)
-length_in (size.Rows o e) = word_in (length_of e)
-length_in _ = 0
-
 -- how many elements they give in all
 abbrev pub extent : ArraySize → ℕ
 extent s = rows_of s * length_in s
-
--- this second size, of an array with two sizes
-abbrev pub row_if : ArraySize → ℕ → Option ℕ
-row_if (size.Rows o e) n = Some n
-row_if _ n = None
-
--- how many elements a row has, of an array with two sizes
-abbrev pub row_in : ArraySize → Option ℕ
-row_in s = row_if s (length_in s)
 
 -- the local array of these sizes
 abbrev pub typed_array : ArraySize → Kind → TypedArray

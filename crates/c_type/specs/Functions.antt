@@ -1,5 +1,5 @@
 -- Functions (C17 6.7.6.3, 6.9.1): parameters, prototypes and definitions.
-use Rattle.std.specs.Prelude.{ℕ, ◌+◌, ◌*◌, Bool, true, false, not, ◌||◌, nat_le, nat_lt, length, List, [], ◌∷◌, ◌++◌}
+use Rattle.std.specs.Prelude.{ℕ, ◌+◌, ◌*◌, Bool, true, not, ◌||◌, nat_le, nat_lt, length, List, [], ◌∷◌, ◌++◌}
 use Rattle.std.specs.Prelude.{map, Option, Some, None}
 use Rattle.c_tree.specs.Limits.{most_parameters, most_object_bytes}
 use Rattle.c_tree.specs.declared.token.Kind.{Kind}
@@ -14,63 +14,32 @@ use Rattle.c_tree.specs.declared.tree.ForInit.TheOpen.{StmtNode-F, Compound}
 use Rattle.c_tree.specs.declared.typed.Callee.{Callee}
 use Rattle.c_tree.specs.declared.typed.Place.TheVariants as place
 use Rattle.c_tree.specs.declared.typed.Slot.{Slot}
-use Rattle.c_tree.specs.declared.typed.Slot.TheVariants as slot
 use Rattle.c_tree.specs.declared.typed.TypedFunc.{TypedFunc}
 use Rattle.c_tree.specs.declared.typed.TypedGlobal.{TypedGlobal}
 use Rattle.c_tree.specs.declared.typed.TypedStmt.TheVariants as typed
 use Rattle.c_type_expr.specs.declared.meaning.Meaning.{Meaning}
 use Rattle.c_type_expr.specs.declared.meaning.Meaning.TheVariants as meaning
-use Rattle.c_type_expr.specs.Scope.{Scope, look_up, same_name, opened, closed, declared_in, bound}
+use Rattle.c_type_expr.specs.Scope.{Scope, look_up, closed, declared_in, bound}
 use Rattle.c_type_expr.specs.declared.fault.TypeFault.TheVariants.{Twice, Mismatch, TooManyParams}
 use Rattle.c_type_expr.specs.declared.fault.TypeFault.TheVariants.{TooLarge}
-use Rattle.c_type_expr.specs.Constants.{size_fault, length_of, word_in}
+use Rattle.c_type_expr.specs.Constants.{size_fault}
+use Rattle.c_constant.specs.Constant.{length_of, word_in}
 use Rattle.c_constant.specs.Kinds.{bytes}
-use Rattle.c_type_expr.specs.Roles.{Blame, first, unless}
+use Rattle.c_type_expr.specs.Blames.{Blame, first, unless}
 use Rattle.c_type.specs.declared.file_scope.FileScope.{FileScope}
 use Rattle.c_type.specs.declared.state.State.{State}
-use Rattle.c_type.specs.States.{with_scalar, with_address}
-use Rattle.c_type.specs.Declarations.{is_end, row_in}
-use Rattle.c_type.specs.Statements.{Part, part, nowhere, all_after, all_fault, all_trees}
+use Rattle.c_type.specs.States.{nowhere, is_end, row_in, named_among, slot_of, started, with_params}
+use Rattle.c_type.specs.Statements.{Part, part, all_after, all_fault, all_trees}
 use Rattle.c_type.specs.Units.{function_fault}
-use Rattle.c_type.specs.Signatures.{function_names, prototype_names}
+use Rattle.c_type.specs.FileScopes.{function_names, prototype_names, body_entry}
 
 -- PARAMETERS
-
--- a parameter takes a word, or the address of an array
-abbrev pub slot_for : ArraySize → Kind → Slot
-slot_for size.Scalar k = slot.Scalar k
-slot_for s k = slot.Address k (row_in s)
-
--- the same of a parameter
-abbrev pub slot_of : Param → Slot
-slot_of p = slot_for p.size p.kind
-
--- is it the name?
-abbrev pub is_named : Option (List ℕ) → List ℕ → Bool
-is_named None w = false
-is_named (Some v) w = same_name v w
-
--- does one of the parameters have the name?
-abbrev pub named_among : List Param → List ℕ → Bool
-named_among [] w = false
-named_among (p ∷ ps) w = is_named p.name w || named_among ps w
 
 -- a definition's parameters have names, each its own
 abbrev pub name_fault : Bool → Scope → List Param → Option (List ℕ) → ℕ → Blame
 name_fault is_def G seen None l = unless (not is_def) (Mismatch l)
 name_fault is_def G seen (Some w) l =
     unless (not (named_among seen w || is_end (look_up G w))) (Twice l)
-
--- what the function keeps of a parameter
-abbrev pub named_param : Option (List ℕ) → ArraySize → Kind → State → State
-named_param None s k v = v
-named_param (Some w) size.Scalar k v = with_scalar k w v
-named_param (Some w) s k v = with_address k (row_in s) w v
-
--- the state with all parameters
-abbrev pub with_params : List Param → State → State
-with_params [] v = v
-with_params (p ∷ ps) v = with_params ps (named_param p.name p.size p.kind v)
 
 -- what the name of a parameter means, of that number among the scalars
 abbrev pub param_meaning : ArraySize → Kind → ℕ → Meaning
@@ -92,10 +61,6 @@ abbrev pub params_names : List Param → ℕ → Scope → Scope
 params_names [] n G = G
 params_names (p ∷ ps) n G =
     params_names ps (next_number p.name n) (param_names p.name p.size p.kind n G)
-
--- the state before any parameter
-abbrev pub started : Scope → Option Kind → State
-started G given = record { names = opened G; scalars = []; arrays = []; result = given }
 
 -- the second size of an array parameter is a constant of at least 1, in which the parameters before
 -- it are in scope
@@ -163,11 +128,6 @@ body_in _ s = part s
 -- what the body of a function does
 unfoldable pub body_part : Stmt → Part
 body_part s = body_in (out-StmtNode s.node) s
-
--- the state in which the body of a function begins, of which a call calls that callee
-abbrev pub body_entry : Option Callee → List ℕ → Option Kind → List Param → Scope → State
-body_entry c w given params G =
-    with_params params (started (function_names c w given (map slot_of params) true G) given)
 
 -- the same of the callee that a table of definitions has
 abbrev pub entry : Scope → List ℕ → Option Kind → List Param → Scope → State

@@ -5,7 +5,7 @@ use Rattle.c_tree.specs.declared.tree.Expr.{Expr}
 use Rattle.c_tree.specs.declared.tree.Label.{Label}
 use Rattle.c_type_expr.specs.Scope.{Scope}
 use Rattle.c_type_expr.specs.declared.fault.TypeFault.TheVariants.{Twice}
-use Rattle.c_type_expr.specs.Roles.{Blame, first, unless}
+use Rattle.c_type_expr.specs.Blames.{Blame, first, unless}
 use Rattle.c_type_expr.specs.Constants.{full_constant, constant_at}
 
 -- the word of a constant at a type, where there is one

@@ -1,5 +1,7 @@
+pub use Rattle.c_type_expr.specs.Blames
 pub use Rattle.c_type_expr.specs.Roles
 pub use Rattle.c_type_expr.specs.Faults
+pub use Rattle.c_type_expr.specs.Conversions
 pub use Rattle.c_type_expr.specs.Trees
 pub use Rattle.c_type_expr.specs.Constants
 pub use Rattle.c_type_expr.specs.Says
@@ -10,6 +12,7 @@ pub mod Seen
 pub mod Statements
 pub mod Runs
 pub mod Units
-pub mod Signatures
 pub mod Functions
 pub mod Programs
+pub mod LeftOut
+pub mod FileScopes

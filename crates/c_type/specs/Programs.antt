@@ -1,6 +1,6 @@
 -- A translation unit (C17 6.9): the first fault of its items, and `main` last (C17 5.1.2.2.1).
-use Rattle.std.specs.Prelude.{ℕ, ◌+◌, Bool, true, false, ◌&&◌, List, [], ◌∷◌, map, Option, Some}
-use Rattle.std.specs.Prelude.{None, Result, Ok, Err, ◌≡◌, codes}
+use Rattle.std.specs.Prelude.{ℕ, Bool, true, false, ◌&&◌, List, [], ◌∷◌, map, Option, Some}
+use Rattle.std.specs.Prelude.{None, Result, Ok, Err, ◌≡◌}
 use Rattle.c_tree.specs.declared.token.Kind.{Kind}
 use Rattle.c_tree.specs.declared.token.Kind.TheVariants.{Int}
 use Rattle.c_tree.specs.declared.tree.Param.{Param}
@@ -8,7 +8,6 @@ use Rattle.c_tree.specs.declared.tree.Program.{Program}
 use Rattle.c_tree.specs.declared.tree.Top.{Top}
 use Rattle.c_tree.specs.declared.tree.TopNode.{TopNode}
 use Rattle.c_tree.specs.declared.tree.TopNode.TheVariants.{Include, Global, Func}
-use Rattle.c_tree.specs.declared.typed.Callee.{Callee}
 use Rattle.c_tree.specs.declared.typed.Callee.TheVariants as callee
 use Rattle.c_tree.specs.declared.typed.Slot.{Slot}
 use Rattle.c_tree.specs.declared.typed.TypedProgram.{TypedProgram}
@@ -18,19 +17,16 @@ use Rattle.c_type_expr.specs.declared.meaning.Meaning.TheVariants as meaning
 use Rattle.c_type_expr.specs.Scope.{Scope, look_up, declared_in, bound}
 use Rattle.c_type_expr.specs.declared.fault.TypeFault.{TypeFault}
 use Rattle.c_type_expr.specs.declared.fault.TypeFault.TheVariants.{NoMain, Memory}
-use Rattle.c_type_expr.specs.Roles.{Blame, first, unless}
+use Rattle.c_type_expr.specs.Blames.{Blame, first, unless}
 use Rattle.c_type.specs.declared.file_scope.FileScope.{FileScope}
-use Rattle.c_type.specs.Units.{getchar_name, putchar_name, get_char, put_char, include_fault}
-use Rattle.c_type.specs.Units.{included, global_fault, with_global}
-use Rattle.c_type.specs.Functions.{slot_of, head_fault, with_prototype, definition_fault, with_definition, callee_in}
+use Rattle.c_type.specs.Units.{include_fault, included, global_fault, with_global}
+use Rattle.c_type.specs.FileScopes.{getchar_name, putchar_name, get_char, put_char}
+use Rattle.c_type.specs.Functions.{head_fault, with_prototype, definition_fault, with_definition, callee_in}
+use Rattle.c_type.specs.States.{slot_of}
+use Rattle.c_type.specs.FileScopes.{count_after, empty_file, main_name, number_in}
 
 -- the functions that the unit defines, wherever they stand, by their numbers in the order of the
 -- text; the include stands for definitions of its two
-
--- how many definitions there are behind an item
-abbrev pub count_after : TopNode → ℕ → ℕ
-count_after (Func given w params (Some body)) n = n + 1
-count_after _ n = n
 
 -- the table after an item
 abbrev pub noted : TopNode → ℕ → Scope → Scope
@@ -94,10 +90,6 @@ items_after T (t ∷ ts) U = items_after T ts (item_after T t U)
 
 -- MAIN
 
--- the name `main`
-abbrev pub main_name : List ℕ
-main_name = codes "main"
-
 -- is the result an int?
 abbrev pub is_int : Option Kind → Bool
 is_int None = false
@@ -113,15 +105,6 @@ abbrev pub is_main : Option Meaning → Bool
 is_main (Some (meaning.Function result params callee defined)) =
     is_int result && no_slots params && defined
 is_main _ = false
-
--- the number of the function that is called
-abbrev pub number_in : Option Callee → ℕ
-number_in (Some (callee.Func n)) = n
-number_in _ = 0
-
--- the file scope of no item
-abbrev pub empty_file : FileScope
-empty_file = record { names = [] ∷ []; globals = []; bytes = 0; functions = [] }
 
 -- the file scope of a unit
 abbrev pub whole : Program → FileScope

@@ -6,7 +6,7 @@ use Rattle.c_tree.specs.declared.typed.TypedStmt.{TypedStmt}
 use Rattle.c_tree.specs.declared.typed.TypedForInit.{TypedForInit}
 use Rattle.c_type_expr.specs.declared.fault.TypeFault.{TypeFault}
 use Rattle.c_type_expr.specs.declared.fault.TypeFault.TheVariants.{Memory}
-use Rattle.c_type_expr.specs.Roles.{Blame, first}
+use Rattle.c_type_expr.specs.Blames.{Blame, first}
 use Rattle.c_type_expr.specs.Scope.{Scope}
 use Rattle.c_type_expr.specs.Says.{Stops}
 use Rattle.c_type.specs.declared.state.State.{State}

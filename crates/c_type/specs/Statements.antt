@@ -1,9 +1,9 @@
 -- Statements (C17 6.8): the first fault, the typed tree, and the state after them.
-use Rattle.std.specs.Prelude.{ℕ, true, false, nat_lt, length, map, List, [], ◌∷◌, ◌++◌, Option, Some, None}
+use Rattle.std.specs.Prelude.{ℕ, nat_lt, length, map, List, [], ◌∷◌, ◌++◌, Option, Some, None}
 use Rattle.c_tree.specs.declared.token.Kind.{Kind}
 use Rattle.c_tree.specs.declared.tree.Expr.{Expr}
 use Rattle.c_tree.specs.declared.tree.Label.{Label}
-use Rattle.c_tree.specs.declared.tree.Section.{Section, out-Section, roll-Section}
+use Rattle.c_tree.specs.declared.tree.Section.{Section, out-Section}
 use Rattle.c_tree.specs.declared.tree.Stmt.{Stmt, Stmt-F, fold-Stmt}
 use Rattle.c_tree.specs.declared.tree.ForInit.{ForInit, fold-ForInit}
 use Rattle.c_tree.specs.declared.tree.ForInit.TheOpen.{StmtNode-F, ForInit-F, Section-F, Declare}
@@ -20,27 +20,18 @@ use Rattle.c_type_expr.specs.Scope.{Scope}
 use Rattle.c_tree.specs.Limits.{most_scalars}
 use Rattle.c_type_expr.specs.declared.fault.TypeFault.TheVariants.{Mismatch, TooManyScalars}
 use Rattle.c_type_expr.specs.declared.role.Role.TheVariants.{Value, Free}
-use Rattle.c_type_expr.specs.Roles.{Blame, first, unless}
+use Rattle.c_type_expr.specs.Blames.{Blame, first, unless}
 use Rattle.c_constant.specs.Kinds.{promoted}
-use Rattle.c_type_expr.specs.Trees.{tree, kind_of, with_convert}
+use Rattle.c_type_expr.specs.Trees.{tree}
+use Rattle.c_type_expr.specs.Conversions.{kind_of, with_convert}
 use Rattle.c_type_expr.specs.Constants.{full}
 use Rattle.c_type.specs.declared.state.State.{State}
 use Rattle.c_type.specs.declared.state.Around.{Around}
-use Rattle.c_type.specs.States.{full_if, tree_if, value_of, entered, left, with_switch}
+use Rattle.c_type.specs.States.{entered, left, with_switch, in_loop, in_switch}
+use Rattle.c_type.specs.LeftOut.{full_if, tree_if, value_of}
 use Rattle.c_type.specs.Declarations.{declare_fault, declared, declare_tree}
-pub use Rattle.c_type.specs.Labels.{word_if, label_word, same_label, label_among, case_fault, label_fault, labels_fault}
-
--- around a body or an `else` of no loop and no switch
-abbrev pub nowhere : Around
-nowhere = record { may_break = false; may_continue = false }
-
--- around the body of a loop
-abbrev pub in_loop : Around
-in_loop = record { may_break = true; may_continue = true }
-
--- around a statement of a switch: a `continue` is that of a loop around the switch
-abbrev pub in_switch : Around → Around
-in_switch b = record { may_break = true; may_continue = b.may_continue }
+pub use Rattle.c_type.specs.Labels.{word_if, label_word, same_label, label_among, case_fault, label_fault}
+pub use Rattle.c_type.specs.Labels.{labels_fault}
 
 -- what a statement does to the state, its first fault (by what is around it) and its tree
 pub record Part : Type 0 where
@@ -279,10 +270,6 @@ labels_in x = (out-Section x).labels
 -- its statements
 abbrev pub statements_in : Section → List Stmt
 statements_in x = (out-Section x).body
-
--- the section of these labels and statements
-abbrev pub sectioned : List Label → List Stmt → Section
-sectioned ls ss = roll-Section (record { labels = ls; body = ss })
 
 -- what a section does
 abbrev pub section_of : Section → SectionPart

@@ -1,6 +1,6 @@
 -- File scope (C17 6.7, 6.9): the include, globals and the signatures of functions.
-use Rattle.std.specs.Prelude.{ℕ, ◌+◌, ◌-◌, ◌*◌, replicate, take, drop, Bool, true, false, cond, not, ◌&&◌, nat_le, nat_lt}
-use Rattle.std.specs.Prelude.{length, List, [], ◌∷◌, ◌++◌, map, Option, Some, None, codes}
+use Rattle.std.specs.Prelude.{ℕ, ◌+◌, ◌-◌, ◌*◌, replicate, take, drop, Bool, true, false, cond, not, ◌&&◌, nat_le}
+use Rattle.std.specs.Prelude.{nat_lt, length, List, [], ◌∷◌, ◌++◌, map, Option, Some, None}
 use Rattle.c_tree.specs.Limits.{most_object_bytes}
 use Rattle.c_tree.specs.declared.token.Kind.{Kind}
 use Rattle.c_tree.specs.declared.token.Kind.TheVariants.{Int}
@@ -8,32 +8,24 @@ use Rattle.c_tree.specs.declared.tree.ArraySize.{ArraySize}
 use Rattle.c_tree.specs.declared.tree.ArraySize.TheVariants as size
 use Rattle.c_tree.specs.declared.tree.Expr.{Expr}
 use Rattle.c_tree.specs.declared.typed.Callee.TheVariants as callee
-use Rattle.c_tree.specs.declared.typed.Place.TheVariants as place
 use Rattle.c_tree.specs.declared.typed.Slot.{Slot}
 use Rattle.c_tree.specs.declared.typed.Slot.TheVariants as slot
 use Rattle.c_tree.specs.declared.typed.TypedGlobal.{TypedGlobal}
 use Rattle.c_constant.specs.Kinds.{same_kind}
 use Rattle.c_type_expr.specs.declared.meaning.Meaning.{Meaning}
 use Rattle.c_type_expr.specs.declared.meaning.Meaning.TheVariants as meaning
-use Rattle.c_type_expr.specs.Scope.{Scope, look_up, declared_in, bound}
+use Rattle.c_type_expr.specs.Scope.{Scope, look_up}
 use Rattle.c_type_expr.specs.declared.fault.TypeFault.TheVariants.{Twice, Mismatch, TooLarge}
-use Rattle.c_type_expr.specs.Roles.{Blame, first, unless, same_row}
-use Rattle.c_type_expr.specs.Constants.{size_fault, length_of, word_in, full_constant, constant_at}
+use Rattle.c_type_expr.specs.Roles.{same_row}
+use Rattle.c_type_expr.specs.Blames.{Blame, first, unless}
+use Rattle.c_type_expr.specs.Constants.{size_fault, full_constant, constant_at}
+use Rattle.c_constant.specs.Constant.{length_of, word_in}
 use Rattle.c_type.specs.declared.file_scope.FileScope.{FileScope}
 use Rattle.c_constant.specs.Kinds.{bytes}
-use Rattle.c_type.specs.Declarations.{is_end, twice_fault, row_in}
-
--- the name `EOF`
-abbrev pub eof_name : List ℕ
-eof_name = codes "EOF"
-
--- the name `getchar`
-abbrev pub getchar_name : List ℕ
-getchar_name = codes "getchar"
-
--- the name `putchar`
-abbrev pub putchar_name : List ℕ
-putchar_name = codes "putchar"
+use Rattle.c_type.specs.Declarations.{twice_fault}
+use Rattle.c_type.specs.States.{is_end, row_in}
+use Rattle.c_type.specs.FileScopes.{all_values, eof_name, getchar_name, global_names, int_slots, length_in}
+use Rattle.c_type.specs.FileScopes.{putchar_name, with_include}
 
 -- FUNCTIONS
 
@@ -75,10 +67,6 @@ function_fault is_def given slots m l =
 
 -- INCLUDE
 
--- one int as a parameter
-abbrev pub int_slots : List Slot
-int_slots = slot.Scalar Int ∷ []
-
 -- at one place the fault of the lowest number is answered: Twice before Mismatch
 abbrev pub include_clash : Scope → ℕ → Blame
 include_clash G l =
@@ -91,20 +79,6 @@ include_clash G l =
 -- a second include declares nothing
 abbrev pub include_fault : Scope → ℕ → Blame
 include_fault G l = cond (is_end (look_up G eof_name)) None (include_clash G l)
-
--- the function `getchar`
-abbrev pub get_char : Meaning
-get_char = meaning.Function (Some Int) [] (Some callee.GetChar) true
-
--- the function `putchar`
-abbrev pub put_char : Meaning
-put_char = meaning.Function (Some Int) int_slots (Some callee.PutChar) true
-
--- the names after the first include
-abbrev pub with_include : Scope → Scope
-with_include G =
-    declared_in (bound eof_name meaning.EndOfFile)
-    (declared_in (bound putchar_name put_char) (declared_in (bound getchar_name get_char) G))
 
 -- the names after an include
 abbrev pub included : Scope → Scope
@@ -121,16 +95,6 @@ place_fault n k w l U =
 abbrev pub values_fault : List Expr → Scope → Blame
 values_fault [] G = None
 values_fault (e ∷ es) G = first (full_constant e G) (values_fault es G)
-
--- the values of all lists, in the order of the text
-abbrev pub all_values : List (List Expr) → List Expr
-all_values [] = []
-all_values (es ∷ ess) = es ++ all_values ess
-
--- what the name of a global means
-abbrev pub global_meaning : ArraySize → Kind → ℕ → Meaning
-global_meaning size.Scalar k n = meaning.Scalar k (place.Global n)
-global_meaning s k n = meaning.Array k (row_in s) (place.Global n)
 
 -- how many rows a global has, 1 where it has one size or none: empty first brackets of two have as many
 -- as are given
@@ -149,15 +113,6 @@ row_length (size.Rows o e) init = word_in (length_of e)
 -- how many values a global holds
 abbrev pub count_of : ArraySize → List (List Expr) → ℕ
 count_of s init = global_rows s init * row_length s init
-
--- an array has a length
-abbrev pub length_in : ArraySize → ℕ → Option ℕ
-length_in size.Scalar n = None
-length_in _ n = Some n
-
--- the names after a global
-abbrev pub global_names : ArraySize → Kind → List ℕ → FileScope → Scope
-global_names size k w U = declared_in (bound w (global_meaning size k (length U.globals))) U.names
 
 -- the words of a row, with zeros behind them up to its length
 abbrev pub row_words : Kind → ℕ → List Expr → List ℕ

@@ -3,10 +3,11 @@
 ghost use Rattle.std.specs.Prelude.{◌≡◌, ◌<◌, length};
 ghost use Rattle.std.specs.Option.{option_copied};
 ghost use Rattle.c_tree.specs.declared.tree.StmtNode.TheVariants as node;
-ghost use Rattle.c_type_expr.specs.Roles.{first};
+ghost use Rattle.c_type_expr.specs.Blames.{first};
 ghost use Rattle.c_type_expr.specs.Constants as constants;
 ghost use Rattle.c_type_expr.specs.Says.{Says};
 ghost use Rattle.c_type.specs.States as states;
+ghost use Rattle.c_type.specs.LeftOut as left_out;
 ghost use Rattle.c_type.specs.Declarations as declarations;
 ghost use Rattle.c_type.specs.Statements.{part};
 ghost use Rattle.c_type.specs.Runs.{Runs, Moves, Adds};
@@ -24,7 +25,7 @@ use c_type_expr::{Meaning, Scopes, TypeFault, size_length};
 use std::alloc::Global;
 
 pub fn is_end(found: Option<&Meaning>) -> bool
-    ensures { result ≡ declarations.is_end (option_copied found.entry) }
+    ensures { result ≡ states.is_end (option_copied found.entry) }
 {
     match found {
         Some(Meaning::EndOfFile) => true,
@@ -34,7 +35,7 @@ pub fn is_end(found: Option<&Meaning>) -> bool
 
 /// Whether the innermost block may not declare a name. Most are new: they are searched for once.
 pub fn is_taken(names: &Scopes, name: &Word) -> bool
-    ensures { result ≡ declarations.is_taken names.now name.now }
+    ensures { result ≡ states.is_taken names.now name.now }
 {
     match names.look_up(name) {
         None => false,
@@ -56,7 +57,7 @@ pub fn twice(names: &Scopes, name: &Word, line: u32) -> Result<(), TypeFault>
 /// How many rows the sizes of a local array give, 1 where it has one size, and how long each is.
 fn sizes(names: &Scopes, size: &ArraySize, line: u32) -> Result<(u64, u64), TypeFault>
     ensures { Says (declarations.sizes_fault size.now line names.now)
-        (declarations.rows_of size.now, declarations.length_in size.now) result }
+        (declarations.rows_of size.now, states.length_in size.now) result }
 {
     match size {
         ArraySize::Scalar => Err(TypeFault::Mismatch(line)),
@@ -78,7 +79,7 @@ fn sizes(names: &Scopes, size: &ArraySize, line: u32) -> Result<(u64, u64), Type
 
 /// The second size of an array that has so long rows, where it has two.
 pub fn row_in(size: &ArraySize, length: u32) -> Option<u32>
-    ensures { result ≡ declarations.row_if size.now length }
+    ensures { result ≡ states.row_if size.now length }
 {
     match size {
         ArraySize::Rows { .. } => Some(length),
@@ -96,7 +97,7 @@ fn array_length(
 ) -> Result<(u32, Option<u32>), TypeFault>
     ensures { Says (first (declarations.sizes_fault size.now line names.now)
         (declarations.array_fault (declarations.extent size.now) kind name.now line names.now))
-        (declarations.extent size.now, declarations.row_in size.now) result }
+        (declarations.extent size.now, states.row_in size.now) result }
 {
     let (rows, length) = sizes(names, size, line)?;
     twice(names, name, line)?;
@@ -237,7 +238,7 @@ fn declare_array(
 ) -> Result<TypedStmt, TypeFault>
     ensures { Moves (declarations.sized_fault size.now kind name init.now line state.old.names)
         (TypedStmt.Declare (Place.Array (length state.old.arrays)) None)
-        (states.with_array kind (declarations.row_in size.now) name
+        (states.with_array kind (states.row_in size.now) name
         (declarations.extent size.now) state.old)
         state.new result }
 {
@@ -255,7 +256,7 @@ fn declare_scalar(
 ) -> Result<TypedStmt, TypeFault>
     ensures { Moves (declarations.scalar_init_fault kind name init line state.old)
         (TypedStmt.Declare (Place.Scalar (length state.old.scalars))
-        (states.value_of init kind (states.with_scalar kind name state.old).names))
+        (left_out.value_of init kind (states.with_scalar kind name state.old).names))
         (states.with_scalar kind name state.old) state.new result }
 {
     let place = scalar_place(state, &name, line)?;

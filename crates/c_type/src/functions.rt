@@ -5,8 +5,9 @@ ghost use Rattle.std.specs.Option.{option_copied};
 ghost use Rattle.c_type_expr.specs.Says.{Says};
 ghost use Rattle.c_type_expr.specs.Scope.{closed};
 ghost use Rattle.c_type.specs.Functions as functions;
-ghost use Rattle.c_type.specs.States.{some_block};
-ghost use Rattle.c_type.specs.Statements.{nowhere};
+ghost use Rattle.c_type.specs.States as states;
+ghost use Rattle.c_type.specs.LeftOut.{some_block};
+ghost use Rattle.c_type.specs.States.{nowhere};
 ghost use Rattle.c_type.specs.Functions.{body_part, file_with};
 ghost use Rattle.c_type.specs.Runs.{Runs, Moves, Adds};
 
@@ -41,7 +42,7 @@ fn head(
 ) -> Result<Items<Slot>, TypeFault>
     requires { some_block names.old ≡ true }
     ensures value { Says (functions.head_fault is_def given name.now params.now line names.old)
-        (map functions.slot_of params.now) result }
+        (map states.slot_of params.now) result }
     ensures same { OnOk result (names.new ≡ names.old) }
 {
     params_at(alloc, names, is_def, params)?;
@@ -101,7 +102,7 @@ pub fn prototype(
     ensures { Moves
         (functions.head_fault Rattle.std.specs.Prelude.false given name params.now line names.old)
         tt
-        (functions.with_prototype table.now name given (map functions.slot_of params.now) names.old)
+        (functions.with_prototype table.now name given (map states.slot_of params.now) names.old)
         names.new result }
 {
     let slots = head(alloc, names, false, given, &name, params, line)?;
@@ -121,7 +122,7 @@ fn add_named(
     place: u32,
 ) -> Result<(), TypeFault>
     requires { place ≡ length state.old.scalars }
-    ensures { Adds (functions.named_param (Some name) size.now kind state.old) state.new result }
+    ensures { Adds (states.named_param (Some name) size.now kind state.old) state.new result }
 {
     match size {
         ArraySize::Scalar => add_scalar(alloc, state, kind, name, place),
@@ -134,7 +135,7 @@ fn add_named(
 
 /// Keeps a parameter, where it has a name.
 fn add_param(alloc: Global, state: &mut State, param: Param) -> Result<(), TypeFault>
-    ensures { Adds (functions.named_param param.name param.size param.kind state.old) state.new
+    ensures { Adds (states.named_param param.name param.size param.kind state.old) state.new
         result }
 {
     let place = counted(state.scalars.len())?;
@@ -151,7 +152,7 @@ fn add_param(alloc: Global, state: &mut State, param: Param) -> Result<(), TypeF
 }
 
 fn add_params(alloc: Global, state: &mut State, params: Items<Param>) -> Result<(), TypeFault>
-    ensures { Adds (functions.with_params params state.old) state.new result }
+    ensures { Adds (states.with_params params state.old) state.new result }
 {
     let mut rest = Queue::from_items(params);
     while let Some(param) = rest.pop() {
@@ -186,7 +187,7 @@ fn entry(
     params: Items<Param>,
     slots: Items<Slot>,
 ) -> Result<State, TypeFault>
-    requires { slots ≡ map functions.slot_of params }
+    requires { slots ≡ map states.slot_of params }
     ensures { Says None (functions.entry table.now name given params names) result }
 {
     let mut names = names;

@@ -2,11 +2,12 @@
 
 ghost use Rattle.std.specs.Prelude.{◌≡◌, ◌+◌, ◌*◌, ◌≤◌, nat_le, length, None, IfOk};
 ghost use Rattle.c_tree.specs.Limits.{most_object_bytes};
-ghost use Rattle.c_type.specs.Declarations as declarations;
-ghost use Rattle.c_type_expr.specs.Roles.{first, unless};
+ghost use Rattle.c_type.specs.States as states;
+ghost use Rattle.c_type_expr.specs.Blames.{first, unless};
 ghost use Rattle.c_type_expr.specs.Says.{Says};
 ghost use Rattle.c_constant.specs.Kinds as kinds;
 ghost use Rattle.c_type.specs.Units as units;
+ghost use Rattle.c_type.specs.FileScopes as file_scopes;
 ghost use Rattle.c_type.specs.Runs.{Moves};
 
 use crate::counts::{counted, short};
@@ -97,8 +98,8 @@ fn sizes_in(
 }
 
 fn meaning_of(size: &ArraySize, kind: Kind, length: u32, number: u32) -> Meaning
-    requires { declarations.row_if size.now length ≡ declarations.row_in size.now }
-    ensures { result ≡ units.global_meaning size.now kind number }
+    requires { states.row_if size.now length ≡ states.row_in size.now }
+    ensures { result ≡ file_scopes.global_meaning size.now kind number }
 {
     match size {
         ArraySize::Scalar => Meaning::Scalar(kind, Place::Global(number)),
@@ -112,7 +113,7 @@ fn meaning_of(size: &ArraySize, kind: Kind, length: u32, number: u32) -> Meaning
 
 fn length_in(size: &ArraySize, count: u64) -> Option<u32>
     requires { count ≤ most_object_bytes }
-    ensures { result ≡ units.length_in size.now count }
+    ensures { result ≡ file_scopes.length_in size.now count }
 {
     match size {
         ArraySize::Scalar => None,
@@ -124,7 +125,7 @@ fn length_in(size: &ArraySize, count: u64) -> Option<u32>
 fn fits(size: &ArraySize, rows: u64, length: u64, given: u64, init: &[Items<Boxed<Expr>>]) -> bool
     requires rows { rows ≡ units.global_rows size.now init.now }
     requires length { length ≡ units.row_length size.now init.now }
-    requires given { given ≡ Rattle.std.specs.Prelude.length (units.all_values init.now) }
+    requires given { given ≡ Rattle.std.specs.Prelude.length (file_scopes.all_values init.now) }
     ensures { result ≡ units.init_fits size.now init.now }
 {
     match size {
@@ -187,7 +188,7 @@ fn given(
 ) -> Result<Items<u64>, TypeFault>
     requires rows { known.rows ≡ units.global_rows size.now init.now }
     requires length { known.length ≡ units.row_length size.now init.now }
-    ensures { Says (first (units.values_fault (units.all_values init.now) names.now)
+    ensures { Says (first (units.values_fault (file_scopes.all_values init.now) names.now)
         (unless (units.init_fits size.now init.now) (TypeFault.Mismatch line)))
         (units.init_words size.now kind init.now) result }
 {

@@ -3,6 +3,7 @@
 ghost use Rattle.std.specs.Prelude.{◌≡◌, [], ◌∷◌, IfOk};
 ghost use Rattle.c_type_expr.specs.Says.{Says};
 ghost use Rattle.c_type.specs.Units as units;
+ghost use Rattle.c_type.specs.FileScopes as file_scopes;
 ghost use Rattle.c_type.specs.Runs.{Moves};
 
 use crate::declarations::{is_end, twice};
@@ -13,31 +14,31 @@ use c_type_expr::{Meaning, Scopes, TypeFault};
 use std::alloc::{AllocError, Global};
 
 pub fn eof_name(alloc: Global) -> Result<Word, AllocError>
-    ensures { IfOk result (λ w. w ≡ units.eof_name) }
+    ensures { IfOk result (λ w. w ≡ file_scopes.eof_name) }
 {
     Word::from_slice(alloc, b"EOF")
 }
 
 pub fn getchar_name(alloc: Global) -> Result<Word, AllocError>
-    ensures { IfOk result (λ w. w ≡ units.getchar_name) }
+    ensures { IfOk result (λ w. w ≡ file_scopes.getchar_name) }
 {
     Word::from_slice(alloc, b"getchar")
 }
 
 pub fn putchar_name(alloc: Global) -> Result<Word, AllocError>
-    ensures { IfOk result (λ w. w ≡ units.putchar_name) }
+    ensures { IfOk result (λ w. w ≡ file_scopes.putchar_name) }
 {
     Word::from_slice(alloc, b"putchar")
 }
 
 fn int_slots(alloc: Global) -> Result<Items<Slot>, AllocError>
-    ensures { IfOk result (λ s. s ≡ units.int_slots) }
+    ensures { IfOk result (λ s. s ≡ file_scopes.int_slots) }
 {
     Items::from_slice(alloc, &[Slot::Scalar(Kind::Int)])
 }
 
 pub fn get_char(alloc: Global) -> Meaning
-    ensures { result ≡ units.get_char }
+    ensures { result ≡ file_scopes.get_char }
 {
     Meaning::Function {
         result: Some(Kind::Int),
@@ -48,7 +49,7 @@ pub fn get_char(alloc: Global) -> Meaning
 }
 
 pub fn put_char(alloc: Global) -> Result<Meaning, AllocError>
-    ensures { IfOk result (λ m. m ≡ units.put_char) }
+    ensures { IfOk result (λ m. m ≡ file_scopes.put_char) }
 {
     Ok(Meaning::Function {
         result: Some(Kind::Int),
@@ -75,7 +76,7 @@ fn clash(alloc: Global, names: &Scopes, line: u32) -> Result<(), TypeFault>
 
 /// The names of the include, declared.
 fn declared(alloc: Global, names: &mut Scopes) -> Result<(), TypeFault>
-    ensures { Moves None tt (units.with_include names.old) names.new result }
+    ensures { Moves None tt (file_scopes.with_include names.old) names.new result }
 {
     names.declare(alloc, getchar_name(alloc)?, get_char(alloc))?;
     let put = put_char(alloc)?;

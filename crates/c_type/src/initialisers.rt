@@ -4,6 +4,7 @@ ghost use Rattle.std.specs.Prelude.{◌≡◌, ◌++◌, map, length, replicate,
 ghost use Rattle.c_type_expr.specs.Constants as constants;
 ghost use Rattle.c_type_expr.specs.Says.{Says};
 ghost use Rattle.c_type.specs.Units as units;
+ghost use Rattle.c_type.specs.FileScopes as file_scopes;
 
 use base::{Boxed, Items};
 use c_tree::{Expr, Kind};
@@ -12,7 +13,7 @@ use std::alloc::Global;
 
 /// How many values the lists have in all. A count of more than 64 bits is want of memory.
 pub fn value_count(init: &[Items<Boxed<Expr>>]) -> Result<u64, TypeFault>
-    ensures { Says None (length (units.all_values init.now)) result }
+    ensures { Says None (length (file_scopes.all_values init.now)) result }
 {
     let mut count: u64 = 0;
     for list in init {
@@ -49,8 +50,8 @@ pub fn values(
     kind: Kind,
     init: &[Items<Boxed<Expr>>],
 ) -> Result<Items<u64>, TypeFault>
-    ensures { Says (units.values_fault (units.all_values init.now) names.now)
-        (map (constants.constant_at kind) (units.all_values init.now)) result }
+    ensures { Says (units.values_fault (file_scopes.all_values init.now) names.now)
+        (map (constants.constant_at kind) (file_scopes.all_values init.now)) result }
 {
     let mut found = Items::new(alloc);
     for list in init {
@@ -88,7 +89,7 @@ pub fn whole_rows(
     length: u64,
 ) -> Result<Items<u64>, TypeFault>
     requires { Rattle.std.specs.Prelude.length words.now
-        ≡ Rattle.std.specs.Prelude.length (units.all_values init.now) }
+        ≡ Rattle.std.specs.Prelude.length (file_scopes.all_values init.now) }
     ensures { Says None (units.filled_rows length init.now words.now) result }
 {
     let mut found = Items::new(alloc);

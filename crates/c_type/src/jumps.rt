@@ -1,9 +1,10 @@
 //! The statements that jump (C17 6.8.6): `break`, `continue` and `return`.
 
 ghost use Rattle.c_tree.specs.declared.tree.StmtNode.TheVariants as node;
-ghost use Rattle.c_type_expr.specs.Roles.{first};
+ghost use Rattle.c_type_expr.specs.Blames.{first};
 ghost use Rattle.c_type_expr.specs.Says.{Says};
 ghost use Rattle.c_type.specs.States as states;
+ghost use Rattle.c_type.specs.LeftOut as left_out;
 ghost use Rattle.c_type.specs.Statements.{part, return_fault, return_tree};
 ghost use Rattle.c_type.specs.Runs.{Runs};
 
@@ -20,7 +21,7 @@ fn return_stmt(
     line: u32,
     e: Option<Boxed<Expr>>,
 ) -> Result<TypedStmt, TypeFault>
-    ensures { Says (first (states.full_if e Role.Value state.now.names)
+    ensures { Says (first (left_out.full_if e Role.Value state.now.names)
         (return_fault state.now.result e line))
         (TypedStmt.Return (return_tree state.now.result e state.now.names)) result }
 {

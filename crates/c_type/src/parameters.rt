@@ -6,9 +6,9 @@ ghost use Rattle.c_tree.specs.Limits.{most_object_bytes};
 ghost use Rattle.c_constant.specs.Kinds as kinds;
 ghost use Rattle.c_type_expr.specs.Constants.{size_fault};
 ghost use Rattle.c_type_expr.specs.Says.{Says};
-ghost use Rattle.c_type.specs.Declarations as declarations;
+ghost use Rattle.c_type.specs.States as states;
 ghost use Rattle.c_type.specs.Functions as functions;
-ghost use Rattle.c_type.specs.States.{some_block};
+ghost use Rattle.c_type.specs.LeftOut.{some_block};
 ghost use Rattle.c_type.specs.Runs.{NamesAre, Names};
 
 use crate::counts::short;
@@ -21,7 +21,7 @@ use std::alloc::Global;
 
 /// The second size of an array parameter, where it has two.
 pub fn param_row(size: &ArraySize) -> Result<Option<u32>, TypeFault>
-    ensures { Says None (declarations.row_in size.now) result }
+    ensures { Says None (states.row_in size.now) result }
 {
     match size {
         ArraySize::Rows { size, .. } => {
@@ -33,7 +33,7 @@ pub fn param_row(size: &ArraySize) -> Result<Option<u32>, TypeFault>
 }
 
 fn slot_of(param: &Param) -> Result<Slot, TypeFault>
-    ensures { Says None (functions.slot_of param.now) result }
+    ensures { Says None (states.slot_of param.now) result }
 {
     match &param.size {
         ArraySize::Scalar => Ok(Slot::Scalar(param.kind)),
@@ -48,7 +48,7 @@ fn slot_of(param: &Param) -> Result<Slot, TypeFault>
 }
 
 pub fn slots_of(alloc: Global, params: &[Param]) -> Result<Items<Slot>, TypeFault>
-    ensures { Says None (map functions.slot_of params.now) result }
+    ensures { Says None (map states.slot_of params.now) result }
 {
     let mut found = Items::new(alloc);
     for param in params {
@@ -59,7 +59,7 @@ pub fn slots_of(alloc: Global, params: &[Param]) -> Result<Items<Slot>, TypeFaul
 }
 
 fn is_named(name: &Option<Word>, word: &Word) -> bool
-    ensures { result ≡ functions.is_named name.now word.now }
+    ensures { result ≡ states.is_named name.now word.now }
 {
     match name {
         None => false,
@@ -68,7 +68,7 @@ fn is_named(name: &Option<Word>, word: &Word) -> bool
 }
 
 fn named_among(params: &[Param], word: &Word) -> bool
-    ensures { result ≡ functions.named_among params.now word.now }
+    ensures { result ≡ states.named_among params.now word.now }
 {
     let mut found = false;
     for param in params {
@@ -159,7 +159,7 @@ fn size_behind(
 ) -> Result<(), TypeFault>
     requires { some_block names.old ≡ true }
     ensures fault { Says
-        (size_fault size.now (functions.with_params seen.now (functions.started names.old None)).names)
+        (size_fault size.now (states.with_params seen.now (states.started names.old None)).names)
         tt result }
     ensures same { OnOk result (names.new ≡ names.old) }
 {

@@ -4,6 +4,7 @@ ghost use Rattle.std.specs.Prelude.{◌≡◌};
 ghost use Rattle.c_tree.specs.declared.tree.StmtNode.TheVariants as node;
 ghost use Rattle.c_type_expr.specs.Says.{Says};
 ghost use Rattle.c_type.specs.States as states;
+ghost use Rattle.c_type.specs.LeftOut as left_out;
 ghost use Rattle.c_type.specs.Statements.{part};
 ghost use Rattle.c_type.specs.Runs.{Runs};
 
@@ -19,7 +20,7 @@ pub fn full_if(
     role: Role,
     e: Option<Boxed<Expr>>,
 ) -> Result<Option<Boxed<TypedExpr>>, TypeFault>
-    ensures { Says (states.full_if e role names.now) (states.tree_if e names.now) result }
+    ensures { Says (left_out.full_if e role names.now) (left_out.tree_if e names.now) result }
 {
     match e {
         None => Ok(None),
@@ -37,7 +38,7 @@ pub fn value_to(
     kind: Kind,
     e: Option<Boxed<Expr>>,
 ) -> Result<Option<Boxed<TypedExpr>>, TypeFault>
-    ensures { Says (states.full_if e Role.Value names.now) (states.value_of e kind names.now)
+    ensures { Says (left_out.full_if e Role.Value names.now) (left_out.value_of e kind names.now)
         result }
 {
     match e {

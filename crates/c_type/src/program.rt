@@ -2,10 +2,11 @@
 
 ghost use Rattle.std.specs.Prelude.{◌≡◌, [], ◌∷◌, None, true};
 ghost use Rattle.std.specs.Option.{option_copied};
-ghost use Rattle.c_type_expr.specs.Roles.{unless};
+ghost use Rattle.c_type_expr.specs.Blames.{unless};
 ghost use Rattle.c_type_expr.specs.Says.{Says};
-ghost use Rattle.c_type.specs.States.{some_block};
+ghost use Rattle.c_type.specs.LeftOut.{some_block};
 ghost use Rattle.c_type.specs.Programs as programs;
+ghost use Rattle.c_type.specs.FileScopes as file_scopes;
 ghost use Rattle.c_type.specs.Runs.{Moves};
 
 use crate::file_scope::FileScope;
@@ -53,7 +54,7 @@ fn note(alloc: Global, table: &mut Scopes, node: &TopNode, number: u32) -> Resul
 
 /// The number of the next definition.
 fn next(node: &TopNode, number: u32) -> Result<u32, TypeFault>
-    ensures { Says None (programs.count_after node.now number) result }
+    ensures { Says None (file_scopes.count_after node.now number) result }
 {
     match node {
         TopNode::Func { body: Some(_), .. } => {
@@ -154,8 +155,8 @@ fn item(alloc: Global, table: &Scopes, file: &mut FileScope, top: Top) -> Result
 /// The file scope after all items.
 #[tactic(auto, using(crate::proofs::Blocks::on_items))]
 fn items(alloc: Global, table: &Scopes, tops: Items<Top>) -> Result<FileScope, TypeFault>
-    ensures { Says (programs.items_fault table.now tops programs.empty_file)
-        (programs.items_after table.now tops programs.empty_file) result }
+    ensures { Says (programs.items_fault table.now tops file_scopes.empty_file)
+        (programs.items_after table.now tops file_scopes.empty_file) result }
 {
     let mut file = FileScope {
         names: Scopes::new(alloc),
@@ -196,7 +197,7 @@ fn is_main(found: Option<&Meaning>) -> bool
 }
 
 fn number_in(callee: Option<Callee>) -> u32
-    ensures { result ≡ programs.number_in callee }
+    ensures { result ≡ file_scopes.number_in callee }
 {
     match callee {
         Some(Callee::Func(number)) => number,

@@ -1,7 +1,7 @@
 //! The labels of a switch so far.
 
 ghost use Rattle.std.specs.Prelude.{◌≡◌, ◌∷◌, [], ◌++◌, Some, None, not};
-ghost use Rattle.c_type_expr.specs.Roles.{unless};
+ghost use Rattle.c_type_expr.specs.Blames.{unless};
 ghost use Rattle.c_type.specs.Labels.{label_among};
 ghost use Rattle.c_type.specs.Seen.{Knows, Grows};
 ghost use Rattle.c_type.specs.Runs.{Moves};

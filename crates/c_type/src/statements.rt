@@ -2,9 +2,9 @@
 
 ghost use Rattle.std.specs.Prelude.{◌≡◌, [], map, option_map};
 ghost use Rattle.c_tree.specs.declared.tree.StmtNode.TheVariants as node;
-ghost use Rattle.c_type.specs.States.{at, tree_if};
+ghost use Rattle.c_type.specs.States.{at, in_loop};
+ghost use Rattle.c_type.specs.LeftOut.{tree_if};
 ghost use Rattle.c_type.specs.Statements.{part, section_of, beginning_of, tail_fault, rest_fault};
-ghost use Rattle.c_type.specs.Statements.{in_loop};
 ghost use Rattle.c_type.specs.Runs.{Runs, Moves, RunAll, RunElse, RunLegs, RunSection, RunSections};
 ghost use Rattle.c_type.specs.Runs.{Begins};
 

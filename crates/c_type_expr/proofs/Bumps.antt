@@ -10,10 +10,11 @@ use Rattle.c_type_expr.specs.declared.fault.TypeFault.{TypeFault}
 use Rattle.c_type_expr.specs.declared.fault.TypeFault.TheVariants.{Mismatch}
 use Rattle.c_type_expr.specs.declared.role.Role.{Role}
 use Rattle.c_type_expr.specs.declared.role.Role.TheVariants.{Value, Written}
-use Rattle.c_type_expr.specs.Roles.{Blame, first, unless, left_role}
-use Rattle.c_type_expr.specs.Faults.{is_place, fault, unwanted_value}
+use Rattle.c_type_expr.specs.Blames.{Blame, first, unless}
+use Rattle.c_type_expr.specs.Faults.{is_place, fault, unwanted_value, left_role}
 use Rattle.c_type_expr.specs.Trees.{tree}
-use Rattle.c_type_expr.specs.Says.{Says, Types, at}
+use Rattle.c_type_expr.specs.Says.{Says, Types}
+use Rattle.c_type_expr.specs.Roles.{at}
 use Rattle.c_type_expr.proofs.Nodes.{fault-Bump}
 
 -- a bump of no place fails, at the latest at its own line

@@ -12,10 +12,10 @@ use Rattle.c_tree.specs.declared.tree.ExprNode.TheVariants as node
 use Rattle.c_tree.specs.declared.tree.ExprNode.TheOpen.{ExprNode-F}
 use Rattle.c_type_expr.specs.Scope.{Scope, look_up}
 use Rattle.c_type_expr.specs.declared.fault.TypeFault.TheVariants.{Mismatch}
-use Rattle.c_type_expr.specs.Roles.{Blame, first}
+use Rattle.c_type_expr.specs.Blames.{Blame, first}
 use Rattle.c_type_expr.specs.Constants.{name_fixed, row_fixed}
 use Rattle.c_type_expr.specs.Constants.{no_constant, calls_known, all_fixed, node_fixed, fixed_line, not_fixed}
-use Rattle.c_type_expr.specs.Says.{at}
+use Rattle.c_type_expr.specs.Roles.{at}
 
 abbrev A : Type 0
 A = ℕ → Scope → Blame

@@ -8,7 +8,7 @@ use Rattle.c_tree.specs.declared.typed.TypedExpr.{TypedExpr}
 use Rattle.c_tree.specs.declared.typed.TypedNode.TheVariants as typed
 use Rattle.c_constant.specs.Kinds.{same_kind}
 use Rattle.c_constant.specs.Operation.{left_at, right_at, result_of}
-use Rattle.c_type_expr.specs.Trees.{a, kind_of, with_convert, binary}
+use Rattle.c_type_expr.specs.Conversions.{a, kind_of, with_convert, binary}
 
 -- it is done in int
 left_int : (o : BinaryOp) → left_at o Int Int ≡ Int

@@ -6,8 +6,7 @@ use Rattle.c_tree.specs.declared.tree.ExprNode.{ExprNode, roll-ExprNode, map-Exp
 use Rattle.c_tree.specs.declared.tree.ExprNode.TheOpen.{ExprNode-F}
 use Rattle.c_tree.specs.declared.tree.ExprNode.TheVariants as node
 use Rattle.c_type_expr.specs.Faults.{is_place}
-use Rattle.c_type_expr.specs.Places.{IsPlace, a_name, an_element, in_group}
-use Rattle.c_type_expr.specs.Says.{at}
+use Rattle.c_type_expr.specs.Roles.{at, IsPlace, a_name, an_element, in_group}
 use Rattle.c_type_expr.proofs.Nodes.{place-Number, place-Name, place-Element, place-Call}
 use Rattle.c_type_expr.proofs.Nodes.{place-Group, place-Unary, place-Cast, place-Bump, place-Binary}
 use Rattle.c_type_expr.proofs.Nodes.{place-Choice, place-Assign, place-Comma}

@@ -19,14 +19,12 @@ use Rattle.c_type_expr.specs.declared.fault.TypeFault.{TypeFault}
 use Rattle.c_type_expr.specs.declared.fault.TypeFault.TheVariants.{Mismatch, Arity}
 use Rattle.c_type_expr.specs.declared.role.Role.{Role}
 use Rattle.c_type_expr.specs.declared.role.Role.TheVariants.{Value, Free, Written, Array}
-use Rattle.c_type_expr.specs.Roles.{Blame, first, unless, takes_element, takes_array, takes_value}
-use Rattle.c_type_expr.specs.Roles.{left_role}
-use Rattle.c_type_expr.specs.Faults.{fault, is_place, takes_result, name_fault, element_fault}
+use Rattle.c_type_expr.specs.Roles.{takes_element, takes_array, takes_value, takes_result, at}
+use Rattle.c_type_expr.specs.Blames.{Blame, first, unless}
+use Rattle.c_type_expr.specs.Faults.{fault, is_place, name_fault, element_fault, left_role}
 use Rattle.c_type_expr.specs.Faults.{call_fault, slots_of, args_fault}
-use Rattle.c_type_expr.specs.Trees.{tree, args_tree, a, with_convert, unary, cast, bump}
-use Rattle.c_type_expr.specs.Trees.{binary, choice, assign, comma, name_tree, array_kind}
-use Rattle.c_type_expr.specs.Trees.{array_place, result_kind, callee_of}
-use Rattle.c_type_expr.specs.Says.{at}
+use Rattle.c_type_expr.specs.Trees.{tree, args_tree, name_tree, array_kind, array_place, result_kind, callee_of}
+use Rattle.c_type_expr.specs.Conversions.{a, with_convert, unary, cast, bump, binary, choice, assign, comma}
 use Rattle.c_type_expr.specs.Typed.{Typed, Passed, number, scalar, array, ending, element, call}
 use Rattle.c_type_expr.specs.Typed.{row_element}
 use Rattle.c_type_expr.specs.Typed.{group, operator, conversion, step, operation, either}
@@ -298,7 +296,8 @@ module _ (N E : Type 0) (node_of : N → ExprNode) (of : E → Expr) (whole : (e
       (conversion (whole e G Value s.0) (held _ _ s.1)))
   at_node l r (ExprNode-F.Bump op e) =
       subst (Is l r) (sym (node.rolls-Bump op (of e)))
-      (λ h. let s = split _ _ (sym (fault-Bump G r l op (of e)) ∙ h) in let u = split _ _ s.1 in let p = held _ _ u.0 in
+      (λ h. let s = split _ _ (sym (fault-Bump G r l op (of e)) ∙ h) in let u = split _ _ s.1 in
+      let p = held _ _ u.0 in
       subst (Typed G r _) (sym (tree-Bump G l op (of e)))
       (step (passes_place (of e) p) (place_typed G (of e) (whole e) p s.0) (held _ _ u.1)))
   at_node l r (ExprNode-F.Binary op x y) =
@@ -317,7 +316,8 @@ module _ (N E : Type 0) (node_of : N → ExprNode) (of : E → Expr) (whole : (e
       (λ h. let s = split _ _ (sym (fault-Assign G r l op (of x) (of y)) ∙ h) in let u = split _ _ s.1 in
       let v = split _ _ u.1 in let p = held _ _ v.0 in
       subst (Typed G r _) (sym (tree-Assign G l op (of x) (of y)))
-      (assignment (passes_place (of x) p) (place_typed G (of x) (whole x) p s.0) (whole y G Value u.0) (held _ _ v.1)))
+      (assignment (passes_place (of x) p) (place_typed G (of x) (whole x) p s.0) (whole y G Value u.0)
+      (held _ _ v.1)))
   at_node l r (ExprNode-F.Comma x y) =
       subst (Is l r) (sym (node.rolls-Comma (of x) (of y)))
       (λ h. let s = split _ _ (sym (fault-Comma G r l (of x) (of y)) ∙ h) in let u = split _ _ s.1 in

@@ -1,6 +1,5 @@
 -- The first fault of a constant expression and of a full expression (C17 6.6, 6.8).
-use Rattle.std.specs.Prelude.{ℕ, Bool, true, false, cond, is_some, nat_lt, ℤ, pos, negsuc, List, []}
-use Rattle.std.specs.Prelude.{◌∷◌, Option, Some, None}
+use Rattle.std.specs.Prelude.{ℕ, Bool, true, false, is_some, List, [], ◌∷◌, Option, Some, None}
 use Rattle.c_tree.specs.declared.tree.Expr.{Expr, Expr-F, fold-Expr}
 use Rattle.c_tree.specs.declared.tree.ExprNode.TheOpen.{ExprNode-F, Number, Name, Element, Call}
 use Rattle.c_tree.specs.declared.tree.ExprNode.TheOpen.{Group, Unary, Cast, Bump, Binary, Choice}
@@ -8,13 +7,13 @@ use Rattle.c_tree.specs.declared.tree.ExprNode.TheOpen.{Assign, Comma}
 use Rattle.c_type_expr.specs.declared.meaning.Meaning.{Meaning}
 use Rattle.c_type_expr.specs.declared.meaning.Meaning.TheVariants as meaning
 use Rattle.c_type_expr.specs.Scope.{Scope, look_up}
-use Rattle.c_constant.specs.Kinds.{number, converted}
-use Rattle.c_constant.specs.Constant.{constant, ends}
+use Rattle.c_constant.specs.Kinds.{converted}
+use Rattle.c_constant.specs.Constant.{constant, ends, length_of, word_in}
 use Rattle.c_constant.specs.Need.{need_fits}
 use Rattle.c_tree.specs.declared.token.Kind.{Kind}
 use Rattle.c_type_expr.specs.declared.fault.TypeFault.TheVariants.{Unknown, Mismatch, Need}
 use Rattle.c_type_expr.specs.declared.role.Role.{Role}
-use Rattle.c_type_expr.specs.Roles.{Blame, first, unless}
+use Rattle.c_type_expr.specs.Blames.{Blame, first, unless}
 use Rattle.c_type_expr.specs.Faults.{fault}
 
 -- what is no constant: a known name, or an unknown one
@@ -87,28 +86,9 @@ abbrev pub full_constant : Expr → Scope → Blame
 full_constant e G =
     first (not_fixed e G) (first (value_fault (constant ends e).value e.line) (need_fault e))
 
--- the word of a value, 0 where there is none
-abbrev pub word_in : Option ℕ → ℕ
-word_in None = 0
-word_in (Some w) = w
-
 -- the word of a constant's value at a type
 abbrev pub constant_at : Kind → Expr → ℕ
 constant_at k e = converted k (word_in (constant ends e).value)
-
--- the length that a number gives: none below 1
-abbrev pub length_from : ℤ → Option ℕ
-length_from (pos n) = cond (nat_lt 0 n) (Some n) None
-length_from (negsuc n) = None
-
--- the length that a word of a type gives
-abbrev pub length_in : Kind → Option ℕ → Option ℕ
-length_in k None = None
-length_in k (Some w) = length_from (number k w)
-
--- the length that a size stands for
-abbrev pub length_of : Expr → Option ℕ
-length_of e = length_in (constant ends e).kind (constant ends e).value
 
 -- a size: a constant of at least 1
 abbrev pub size_fault : Expr → Scope → Blame

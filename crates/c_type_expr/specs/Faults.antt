@@ -14,9 +14,9 @@ use Rattle.c_type_expr.specs.declared.meaning.Meaning.TheVariants as meaning
 use Rattle.c_type_expr.specs.Scope.{Scope, look_up}
 use Rattle.c_type_expr.specs.declared.fault.TypeFault.TheVariants.{Unknown, Mismatch, Arity}
 use Rattle.c_type_expr.specs.declared.role.Role.{Role}
-use Rattle.c_type_expr.specs.declared.role.Role.TheVariants.{Value, Free, Array, Surplus}
-use Rattle.c_type_expr.specs.Roles.{Blame, first, unless, takes_value, takes_element, takes_void}
-use Rattle.c_type_expr.specs.Roles.{takes_array, left_role}
+use Rattle.c_type_expr.specs.declared.role.Role.TheVariants.{Value, Free, Array, Surplus, Written}
+use Rattle.c_type_expr.specs.Roles.{takes_value, takes_element, takes_array, takes_result}
+use Rattle.c_type_expr.specs.Blames.{Blame, first, unless}
 
 -- a value where none that is no scalar, element or array may stand
 abbrev pub unwanted_value : Role → ℕ → Blame
@@ -46,11 +46,6 @@ element_fault None two r l = Some (Unknown l)
 element_fault (Some (meaning.Array k q p)) two r l =
     unless (fits_sizes q two && takes_element r) (Mismatch l)
 element_fault (Some _) two r l = Some (Mismatch l)
-
--- may a call of a function of this result stand there?
-abbrev pub takes_result : Option Kind → Role → Bool
-takes_result None r = takes_void r
-takes_result (Some k) r = takes_value r
 
 -- a call of a function that the unit does not define, or of something else
 abbrev pub callee_fault : Option Callee → Option Kind → List Slot → ℕ → Role → ℕ → Blame
@@ -109,6 +104,11 @@ node_place (Name w) = true
 node_place (Element w row i) = true
 node_place (Group e) = e.place
 node_place _ = false
+
+-- a left side that may not be written to is judged as a value
+abbrev pub left_role : Bool → Role
+left_role true = Written
+left_role false = Value
 
 -- what of a node fails first in a role: its operands before itself
 abbrev pub node_blame : ExprNode-F (ℕ → Judged) Judged → ℕ → Scope → Role → Blame

@@ -1,17 +1,7 @@
 -- How the names in scope are kept.
-use Rattle.std.specs.Prelude.{ℕ, ◌-◌, ◌≤◌, cond, List, [], ◌∷◌, length, map, take, drop}
-use Rattle.std.specs.Prelude.{Option, Some, None}
+use Rattle.std.specs.Prelude.{ℕ, ◌≤◌, cond, List, [], ◌∷◌, length, Option, Some, None}
 use Rattle.c_type_expr.specs.declared.meaning.Entry.{Entry}
-use Rattle.c_type_expr.specs.Scope.{Scope, Frame, same_name}
-
--- the bindings of entries
-abbrev pub bindings : List Entry → Frame
-bindings = map (λ e. e.binding)
-
--- the blocks, of which each but the outermost begins at a place
-abbrev pub frames : List ℕ → List Entry → Scope
-frames [] es = bindings es ∷ []
-frames (s ∷ ss) es = bindings (take (length es - s) es) ∷ frames ss (drop (length es - s) es)
+use Rattle.c_type_expr.specs.Scope.{same_name}
 
 -- where the innermost block begins
 abbrev pub first_start : List ℕ → ℕ

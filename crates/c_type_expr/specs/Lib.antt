@@ -3,8 +3,9 @@ pub mod Faults
 pub mod Trees
 pub mod Constants
 pub mod Says
-pub mod Places
 pub mod Typed
 pub mod Scope
 pub mod Frames
 pub mod Chains
+pub mod Blames
+pub mod Conversions

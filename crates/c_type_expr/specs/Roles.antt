@@ -1,24 +1,13 @@
--- What may stand where an expression is wanted for something, and the first of several faults.
-use Rattle.std.specs.Prelude.{ℕ, Bool, true, false, ◌&&◌, nat_eq, Option, Some, None}
+-- What may stand where an expression is wanted for something, and which expressions name an object that
+-- may be written to (C17 6.3.2.1).
+use Rattle.std.specs.Prelude.{ℕ, Bool, true, false, ◌&&◌, nat_eq, Option, Some, None, List}
 use Rattle.c_tree.specs.declared.token.Kind.{Kind}
 use Rattle.c_constant.specs.Kinds.{same_kind}
-use Rattle.c_type_expr.specs.declared.fault.TypeFault.{TypeFault}
 use Rattle.c_type_expr.specs.declared.role.Role.{Role}
-use Rattle.c_type_expr.specs.declared.role.Role.TheVariants.{Value, Free, Written, Array, Surplus}
-
--- a fault, or none
-abbrev pub Blame : Type 0
-Blame = Option TypeFault
-
--- the first of two that fail
-abbrev pub first : Blame → Blame → Blame
-first None g = g
-first (Some f) g = Some f
-
--- this fault, unless the test holds
-abbrev pub unless : Bool → TypeFault → Blame
-unless true f = None
-unless false f = Some f
+use Rattle.c_type_expr.specs.declared.role.Role.TheVariants.{Free, Written, Array, Surplus}
+use Rattle.c_tree.specs.declared.tree.Expr.{Expr}
+use Rattle.c_tree.specs.declared.tree.ExprNode.{ExprNode}
+use Rattle.c_tree.specs.declared.tree.ExprNode.TheVariants as node
 
 -- may a value that is no scalar, element or array stand there?
 abbrev pub takes_value : Role → Bool
@@ -48,7 +37,18 @@ takes_array j p (Array k q) = same_kind j k && same_row p q
 takes_array j p Surplus = true
 takes_array j p _ = false
 
--- a left side that may not be written to is judged as a value
-abbrev pub left_role : Bool → Role
-left_role true = Written
-left_role false = Value
+-- may a call of a function of this result stand there?
+abbrev pub takes_result : Option Kind → Role → Bool
+takes_result None r = takes_void r
+takes_result (Some k) r = takes_value r
+
+-- the expression of a line and a node
+abbrev pub at : ℕ → ExprNode → Expr
+at l n = record { line = l; node = n }
+
+-- a name, an element, or one of these in groups
+pub data IsPlace : Expr → Type 0 where
+  a_name : {l : ℕ} {w : List ℕ} → IsPlace (at l (node.Name w))
+  an_element : {l : ℕ} {w : List ℕ} (row : Option Expr) (i : Expr)
+      → IsPlace (at l (node.Element w row i))
+  in_group : {l : ℕ} {e : Expr} → IsPlace e → IsPlace (at l (node.Group e))

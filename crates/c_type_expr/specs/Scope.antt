@@ -1,9 +1,10 @@
--- What the names mean.
-use Rattle.std.specs.Prelude.{ℕ, Bool, false, nat_eq, cond, List, [], ◌∷◌, Option, Some, None}
-use Rattle.std.specs.Prelude.{is_some}
+-- What the names mean, and how they are kept.
+use Rattle.std.specs.Prelude.{ℕ, Bool, false, nat_eq, cond, List, [], ◌∷◌, Option, Some, None, ◌-◌, length, map, take}
+use Rattle.std.specs.Prelude.{is_some, drop}
 use Rattle.std.specs.Cmp.Lexicographic.{pointwise}
 use Rattle.c_type_expr.specs.declared.meaning.Meaning.{Meaning}
 use Rattle.c_type_expr.specs.declared.meaning.Binding.{Binding}
+use Rattle.c_type_expr.specs.declared.meaning.Entry.{Entry}
 
 -- are the names the same, byte by byte?
 abbrev pub same_name : List ℕ → List ℕ → Bool
@@ -55,3 +56,12 @@ declared_in b (f ∷ G) = (b ∷ f) ∷ G
 -- a name with its meaning
 abbrev pub bound : List ℕ → Meaning → Binding
 bound w m = record { name = w; meaning = m }
+
+-- the bindings of entries
+abbrev pub bindings : List Entry → Frame
+bindings = map (λ e. e.binding)
+
+-- the blocks, of which each but the outermost begins at a place
+abbrev pub frames : List ℕ → List Entry → Scope
+frames [] es = bindings es ∷ []
+frames (s ∷ ss) es = bindings (take (length es - s) es) ∷ frames ss (drop (length es - s) es)

@@ -16,12 +16,9 @@ use Rattle.c_type_expr.specs.declared.meaning.Meaning.TheVariants as meaning
 use Rattle.c_type_expr.specs.Scope.{Scope, look_up}
 use Rattle.c_type_expr.specs.declared.role.Role.{Role}
 use Rattle.c_type_expr.specs.declared.role.Role.TheVariants.{Value, Free, Written, Array}
-use Rattle.c_type_expr.specs.Roles.{takes_value, takes_element, takes_array}
-use Rattle.c_type_expr.specs.Faults.{takes_result}
-use Rattle.c_type_expr.specs.Places.{IsPlace}
-use Rattle.c_type_expr.specs.Trees.{a, with_convert, end_of_file, unary, cast, bump, binary, choice}
-use Rattle.c_type_expr.specs.Trees.{assign, comma}
-use Rattle.c_type_expr.specs.Says.{at}
+use Rattle.c_type_expr.specs.Roles.{takes_value, takes_element, takes_array, takes_result, at, IsPlace}
+use Rattle.c_type_expr.specs.Conversions.{a, with_convert, end_of_file, unary, cast, bump, binary, choice}
+use Rattle.c_type_expr.specs.Conversions.{assign, comma}
 
 mutual
   -- the expression, in its role, has the typed tree

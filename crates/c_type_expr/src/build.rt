@@ -2,7 +2,7 @@
 //! on the way would stand in its frames.
 
 ghost use Rattle.std.specs.Prelude.{◌≡◌, IfOk, None, Some};
-ghost use Rattle.c_type_expr.specs.Trees as trees;
+ghost use Rattle.c_type_expr.specs.Conversions as conversions;
 
 use base::Boxed;
 use c_constant::{common, left_at, result_of, right_at, unary_at, unary_result};
@@ -10,7 +10,7 @@ use c_tree::{BinaryOp, BumpOp, Kind, Place, TypedExpr, TypedNode, UnaryOp};
 use std::alloc::{AllocError, Global};
 
 pub fn kind_of(e: &TypedExpr) -> Kind
-    ensures { result ≡ trees.kind_of e.now }
+    ensures { result ≡ conversions.kind_of e.now }
 {
     match e.kind {
         Some(kind) => kind,
@@ -25,7 +25,7 @@ pub fn boxed(
     kind: Option<Kind>,
     node: TypedNode,
 ) -> Result<Boxed<TypedExpr>, AllocError>
-    ensures { IfOk result (λ t. t ≡ trees.a kind node) }
+    ensures { IfOk result (λ t. t ≡ conversions.a kind node) }
 {
     Boxed::new(alloc, TypedExpr { kind, node })
 }
@@ -33,7 +33,7 @@ pub fn boxed(
 // The conversion of an expression to a kind.
 #[inline(never)]
 fn converted(alloc: Global, to: Kind, e: Boxed<TypedExpr>) -> Result<Boxed<TypedExpr>, AllocError>
-    ensures { IfOk result (λ t. t ≡ trees.a (Some to) (TypedNode.Convert to e)) }
+    ensures { IfOk result (λ t. t ≡ conversions.a (Some to) (TypedNode.Convert to e)) }
 {
     boxed(alloc, Some(to), TypedNode::Convert { to, e })
 }
@@ -45,7 +45,7 @@ pub fn with_convert(
     to: Kind,
     e: Boxed<TypedExpr>,
 ) -> Result<Boxed<TypedExpr>, AllocError>
-    ensures { IfOk result (λ t. t ≡ trees.with_convert to e) }
+    ensures { IfOk result (λ t. t ≡ conversions.with_convert to e) }
 {
     if kind_of(e.get()) == to {
         return Ok(e);
@@ -59,7 +59,7 @@ pub fn unary(
     op: UnaryOp,
     e: Boxed<TypedExpr>,
 ) -> Result<Boxed<TypedExpr>, AllocError>
-    ensures { IfOk result (λ t. t ≡ trees.unary op e) }
+    ensures { IfOk result (λ t. t ≡ conversions.unary op e) }
 {
     let at = unary_at(op, kind_of(e.get()));
     let e = with_convert(alloc, at, e)?;
@@ -69,7 +69,7 @@ pub fn unary(
 
 #[inline(never)]
 pub fn cast(alloc: Global, to: Kind, e: Boxed<TypedExpr>) -> Result<Boxed<TypedExpr>, AllocError>
-    ensures { IfOk result (λ t. t ≡ trees.cast to e) }
+    ensures { IfOk result (λ t. t ≡ conversions.cast to e) }
 {
     let kind = Some(to);
     boxed(alloc, kind, TypedNode::Cast { to, e })
@@ -77,7 +77,7 @@ pub fn cast(alloc: Global, to: Kind, e: Boxed<TypedExpr>) -> Result<Boxed<TypedE
 
 #[inline(never)]
 pub fn bump(alloc: Global, op: BumpOp, e: Boxed<TypedExpr>) -> Result<Boxed<TypedExpr>, AllocError>
-    ensures { IfOk result (λ t. t ≡ trees.bump op e) }
+    ensures { IfOk result (λ t. t ≡ conversions.bump op e) }
 {
     let kind = Some(kind_of(e.get()));
     boxed(alloc, kind, TypedNode::Bump { op, e })
@@ -91,7 +91,7 @@ fn converted_binary(
     left: Boxed<TypedExpr>,
     right: Boxed<TypedExpr>,
 ) -> Result<Boxed<TypedExpr>, AllocError>
-    ensures { IfOk result (λ t. t ≡ trees.binary op left right) }
+    ensures { IfOk result (λ t. t ≡ conversions.binary op left right) }
 {
     let (j, k) = (kind_of(left.get()), kind_of(right.get()));
     let at = left_at(op, j, k);
@@ -110,7 +110,7 @@ pub fn binary(
     left: Boxed<TypedExpr>,
     right: Boxed<TypedExpr>,
 ) -> Result<Boxed<TypedExpr>, AllocError>
-    ensures { IfOk result (λ t. t ≡ trees.binary op left right) }
+    ensures { IfOk result (λ t. t ≡ conversions.binary op left right) }
 {
     if kind_of(left.get()) == Kind::Int && kind_of(right.get()) == Kind::Int {
         let kind = Some(Kind::Int);
@@ -126,7 +126,7 @@ pub fn choice(
     yes: Boxed<TypedExpr>,
     no: Boxed<TypedExpr>,
 ) -> Result<Boxed<TypedExpr>, AllocError>
-    ensures { IfOk result (λ t. t ≡ trees.choice test yes no) }
+    ensures { IfOk result (λ t. t ≡ conversions.choice test yes no) }
 {
     let at = common(kind_of(yes.get()), kind_of(no.get()));
     let yes = with_convert(alloc, at, yes)?;
@@ -136,7 +136,7 @@ pub fn choice(
 }
 
 fn assigned_at(op: Option<BinaryOp>, left: Kind, right: Kind) -> Kind
-    ensures { result ≡ trees.assigned_at op left right }
+    ensures { result ≡ conversions.assigned_at op left right }
 {
     match op {
         None => left,
@@ -145,7 +145,7 @@ fn assigned_at(op: Option<BinaryOp>, left: Kind, right: Kind) -> Kind
 }
 
 fn assigned_from(op: Option<BinaryOp>, left: Kind, right: Kind) -> Kind
-    ensures { result ≡ trees.assigned_from op left right }
+    ensures { result ≡ conversions.assigned_from op left right }
 {
     match op {
         None => left,
@@ -160,7 +160,7 @@ pub fn assign(
     left: Boxed<TypedExpr>,
     right: Boxed<TypedExpr>,
 ) -> Result<Boxed<TypedExpr>, AllocError>
-    ensures { IfOk result (λ t. t ≡ trees.assign op left right) }
+    ensures { IfOk result (λ t. t ≡ conversions.assign op left right) }
 {
     let (j, k) = (kind_of(left.get()), kind_of(right.get()));
     let right = with_convert(alloc, assigned_from(op, j, k), right)?;
@@ -183,7 +183,7 @@ pub fn comma(
     left: Boxed<TypedExpr>,
     right: Boxed<TypedExpr>,
 ) -> Result<Boxed<TypedExpr>, AllocError>
-    ensures { IfOk result (λ t. t ≡ trees.comma left right) }
+    ensures { IfOk result (λ t. t ≡ conversions.comma left right) }
 {
     let kind = right.get().kind;
     boxed(alloc, kind, TypedNode::Comma { left, right })
@@ -196,7 +196,7 @@ pub fn element(
     array: Place,
     index: Boxed<TypedExpr>,
 ) -> Result<Boxed<TypedExpr>, AllocError>
-    ensures { IfOk result (λ t. t ≡ trees.a (Some kind) (TypedNode.Element array None index)) }
+    ensures { IfOk result (λ t. t ≡ conversions.a (Some kind) (TypedNode.Element array None index)) }
 {
     let kind = Some(kind);
     let row = None;
@@ -211,7 +211,7 @@ pub fn row_element(
     row: Boxed<TypedExpr>,
     index: Boxed<TypedExpr>,
 ) -> Result<Boxed<TypedExpr>, AllocError>
-    ensures { IfOk result (λ t. t ≡ trees.a (Some kind) (TypedNode.Element array (Some row) index)) }
+    ensures { IfOk result (λ t. t ≡ conversions.a (Some kind) (TypedNode.Element array (Some row) index)) }
 {
     let kind = Some(kind);
     let row = Some(row);

@@ -4,7 +4,8 @@ ghost use Rattle.std.specs.Prelude.{◌≡◌, map, option_map, Option};
 ghost use Rattle.std.specs.Option.{option_copied};
 ghost use Rattle.c_type_expr.specs.Scope.{look_up};
 ghost use Rattle.c_type_expr.specs.Constants as constants;
-ghost use Rattle.c_type_expr.specs.Roles as roles;
+ghost use Rattle.c_constant.specs.Constant as sizes;
+ghost use Rattle.c_type_expr.specs.Blames as blames;
 ghost use Rattle.c_type_expr.specs.Trees.{tree};
 ghost use Rattle.c_type_expr.specs.Says.{Says};
 
@@ -19,7 +20,7 @@ use c_tree::{Expr, ExprNode, Kind, TypedExpr, Word};
 use std::alloc::Global;
 
 fn first(a: Option<TypeFault>, b: Option<TypeFault>) -> Option<TypeFault>
-    ensures { result ≡ roles.first a b }
+    ensures { result ≡ blames.first a b }
 {
     match a {
         None => b,
@@ -75,7 +76,7 @@ fn call_fixed(
     args: &Items<Boxed<Expr>>,
     line: u32,
 ) -> Option<TypeFault>
-    ensures { result ≡ roles.first (constants.all_fixed (map constants.not_fixed args.now)
+    ensures { result ≡ blames.first (constants.all_fixed (map constants.not_fixed args.now)
         scope.now)
         (constants.no_constant (constants.calls_known (look_up scope.now function.now)) line) }
 {
@@ -90,7 +91,7 @@ fn call_fixed(
 #[cycle(fixed)]
 #[inline(never)]
 fn before(scope: &Scopes, e: &Expr, then: Option<TypeFault>) -> Option<TypeFault>
-    ensures { result ≡ roles.first (constants.not_fixed e.now scope.now) then }
+    ensures { result ≡ blames.first (constants.not_fixed e.now scope.now) then }
 {
     first(not_fixed(scope, e), then)
 }
@@ -99,7 +100,7 @@ fn before(scope: &Scopes, e: &Expr, then: Option<TypeFault>) -> Option<TypeFault
 #[cycle(fixed)]
 #[inline(never)]
 fn or_mismatch(scope: &Scopes, e: &Expr, line: u32) -> Option<TypeFault>
-    ensures { result ≡ roles.first (constants.not_fixed e.now scope.now)
+    ensures { result ≡ blames.first (constants.not_fixed e.now scope.now)
         (Some (TypeFault.Mismatch line)) }
 {
     first(not_fixed(scope, e), mismatch(line))
@@ -125,7 +126,7 @@ fn row_before(
     row: &Option<Boxed<Expr>>,
     then: Option<TypeFault>,
 ) -> Option<TypeFault>
-    ensures { result ≡ roles.first
+    ensures { result ≡ blames.first
         (constants.row_fixed (option_map constants.not_fixed row.now) scope.now) then }
 {
     match row {
@@ -207,7 +208,7 @@ pub fn full(
 }
 
 fn value_in(value: Option<u64>, line: u32) -> Result<u64, TypeFault>
-    ensures { Says (constants.value_fault value line) (constants.word_in value) result }
+    ensures { Says (constants.value_fault value line) (sizes.word_in value) result }
 {
     match value {
         None => Err(TypeFault::Mismatch(line)),
@@ -237,7 +238,7 @@ pub fn full_constant(scope: &Scopes, kind: Kind, e: &Expr) -> Result<u64, TypeFa
 }
 
 fn length_in(kind: Kind, value: Option<u64>) -> Option<u64>
-    ensures { result ≡ constants.length_in kind value }
+    ensures { result ≡ sizes.length_in kind value }
 {
     match value {
         None => None,
@@ -257,7 +258,7 @@ fn length_in(kind: Kind, value: Option<u64>) -> Option<u64>
 
 /// The length that a size stands for, or 0.
 pub fn length_or_zero(e: &Expr) -> u64
-    ensures { result ≡ constants.word_in (constants.length_of e.now) }
+    ensures { result ≡ sizes.word_in (sizes.length_of e.now) }
 {
     let found = constant_of(e);
     match length_in(found.kind, found.value) {
@@ -269,7 +270,7 @@ pub fn length_or_zero(e: &Expr) -> u64
 /// The length that a size stands for: a constant of at least 1.
 pub fn size_length(scope: &Scopes, e: &Expr) -> Result<u64, TypeFault>
     ensures { Says (constants.size_fault e.now scope.now)
-        (constants.word_in (constants.length_of e.now)) result }
+        (sizes.word_in (sizes.length_of e.now)) result }
 {
     refuse(not_fixed(scope, e))?;
     let found = constant_of(e);

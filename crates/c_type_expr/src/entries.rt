@@ -6,7 +6,8 @@
 
 ghost use Rattle.std.specs.Prelude.{◌≡◌, ◌∷◌, ◌<◌, ◌-◌, OnOk, OnErr, IfOk, take, reverse, length};
 ghost use Rattle.std.specs.Prelude.{None, Some, slice_index_or, slice_set};
-ghost use Rattle.c_type_expr.specs.Frames.{bindings, first_start, place_in};
+ghost use Rattle.c_type_expr.specs.Frames.{first_start, place_in};
+ghost use Rattle.c_type_expr.specs.Scope.{bindings};
 ghost use Rattle.c_type_expr.specs.Chains.{Kept};
 ghost use Rattle.c_type_expr.specs.Chains as chains;
 

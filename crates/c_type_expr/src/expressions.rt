@@ -2,13 +2,14 @@
 
 ghost use Rattle.std.specs.Prelude.{◌≡◌, Some, None};
 ghost use Rattle.c_tree.specs.declared.typed.TypedExpr.{TypedExpr};
-ghost use Rattle.c_type_expr.specs.Roles.{first};
+ghost use Rattle.c_type_expr.specs.Blames.{first};
 ghost use Rattle.c_tree.specs.declared.tree.ExprNode.TheVariants as node;
 ghost use Rattle.c_type_expr.specs.Faults as faults;
 ghost use Rattle.c_type_expr.specs.Faults.{fault, role_at};
 ghost use Rattle.c_type_expr.specs.Trees.{tree};
 ghost use Rattle.c_type_expr.specs.Trees as trees;
-ghost use Rattle.c_type_expr.specs.Says.{Says, Types, at};
+ghost use Rattle.c_type_expr.specs.Says.{Says, Types};
+ghost use Rattle.c_type_expr.specs.Roles.{at};
 
 use crate::arguments::{after_first, converted_for, role_for};
 use crate::build;
@@ -336,9 +337,9 @@ fn comma(
     Ok(build::comma(alloc, left, right)?)
 }
 
-// The typed tree of an operand, or its first fault. Operands and what is made of them stand on the heap, so that a level
-// of the tree takes small frames: one where it is a leaf, a binary operation or a comma, of which texts have most, and
-// else two, since other nodes have a frame of their own.
+// The typed tree of an operand, or its first fault. Operands and what is made of them stand on the heap, so that a
+// level of the tree takes small frames: one where it is a leaf, a binary operation or a comma, of which texts have
+// most, and else two, since other nodes have a frame of their own.
 #[cycle(expr)]
 #[tactic(auto, using(crate::proofs::Nodes::on_group))]
 #[inline(never)]

@@ -3,9 +3,10 @@
 ghost use Rattle.std.specs.Prelude.{◌≡◌};
 ghost use Rattle.std.specs.Option.{option_copied};
 ghost use Rattle.c_type_expr.specs.Faults.{unwanted_value, name_fault, element_fault, call_fault};
-ghost use Rattle.c_type_expr.specs.Faults.{callee_fault, slots_of, takes_result};
+ghost use Rattle.c_type_expr.specs.Faults.{callee_fault, slots_of};
 ghost use Rattle.c_type_expr.specs.Faults as faults;
-ghost use Rattle.c_type_expr.specs.Roles.{unless};
+ghost use Rattle.c_type_expr.specs.Roles.{takes_result};
+ghost use Rattle.c_type_expr.specs.Blames.{unless};
 ghost use Rattle.c_type_expr.specs.Trees.{name_tree, array_kind, array_place, result_kind};
 ghost use Rattle.c_type_expr.specs.Trees.{callee_of, callee_or};
 ghost use Rattle.c_type_expr.specs.Says.{Says};
@@ -47,7 +48,7 @@ fn named(kind: Kind, place: Place) -> TypedExpr
 }
 
 fn end_of_file() -> TypedExpr
-    ensures { result ≡ Rattle.c_type_expr.specs.Trees.end_of_file }
+    ensures { result ≡ Rattle.c_type_expr.specs.Conversions.end_of_file }
 {
     TypedExpr {
         kind: Some(Kind::Int),

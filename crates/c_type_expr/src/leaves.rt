@@ -2,9 +2,9 @@
 
 ghost use Rattle.std.specs.Prelude.{◌≡◌};
 ghost use Rattle.c_tree.specs.declared.tree.ExprNode.TheVariants as node;
-ghost use Rattle.c_type_expr.specs.Roles as roles;
 ghost use Rattle.c_type_expr.specs.Faults as faults;
-ghost use Rattle.c_type_expr.specs.Says.{Types, at};
+ghost use Rattle.c_type_expr.specs.Says.{Types};
+ghost use Rattle.c_type_expr.specs.Roles.{at};
 
 use crate::build;
 use crate::fault::TypeFault;
@@ -37,7 +37,7 @@ pub fn is_place(e: &Expr) -> bool
 
 /// What a left side is wanted for.
 pub fn left_role(is_place: bool) -> Role
-    ensures { result ≡ roles.left_role is_place }
+    ensures { result ≡ faults.left_role is_place }
 {
     if is_place { Role::Written } else { Role::Value }
 }

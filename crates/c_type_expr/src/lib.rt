@@ -1,12 +1,10 @@
-//! The typing of expressions (C17 6.5, 6.6): the first node that fails, or the typed tree.
+//! The typing of expressions (C17 6.5, 6.6): the first node that fails, in the order of the text and a node's
+//! operands before the node, or the typed tree, in which every conversion is a node. And what the names of a
+//! translation unit mean, block by block (C17 6.2.1): [`Scopes`] is seen as the list of the blocks that are open, and
+//! a call of it takes time in proportion to the names that it touches.
 //!
-//! Every conversion that C17 makes is a node of the typed tree. A fault stands at the first failing node
-//! in the order of the text, a node's operands before the node.
-//!
-//! What the names of a translation unit mean, block by block (C17 6.2.1).
-//!
-//! [`Scopes`] is seen as the list of the blocks that are open. Looking a name up, declaring one and
-//! leaving a block take time in proportion to the names that are touched alone.
+//! The rules stand in specs/Typed, one for each node; first faults in specs/Faults and specs/Constants, typed trees
+//! as a function in specs/Trees, what may be written to in specs/Places, and names in specs/Scope.
 #![tactic(auto)]
 
 mod arguments;

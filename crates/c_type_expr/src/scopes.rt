@@ -21,8 +21,8 @@ pub struct Scopes {
 
 impl Model for Scopes {
     ghost use Rattle.std.specs.Prelude.{length, reverse};
-    ghost use Rattle.c_type_expr.specs.Scope.{Scope};
-    ghost use Rattle.c_type_expr.specs.Frames.{frames, StartsFit};
+    ghost use Rattle.c_type_expr.specs.Scope.{Scope, frames};
+    ghost use Rattle.c_type_expr.specs.Frames.{StartsFit};
     ghost use Rattle.c_type_expr.specs.Chains.{Kept};
 
     ghost Value = { Scope };

@@ -17,11 +17,12 @@ use Rattle.c_type.specs.Functions.{body_in, body_part}
 use Rattle.c_type_rules.specs.KeptStatements as rule
 use Rattle.c_type_rules.specs.WellFormed.{Each}
 use Rattle.c_type_rules.proofs.Moves.{made}
-use Rattle.c_type_rules.proofs.Parts.{Sound, SoundFirst, SoundAll, run, on_plain, on_all, on_else, on_compound, on_if}
-use Rattle.c_type_rules.proofs.Parts.{on_while, on_do, on_for, on_break, on_continue, on_return, on_nothing}
+use Rattle.c_type_rules.proofs.SoundStatements.{Sound, SoundFirst, SoundAll, run, on_plain, on_all, on_else}
+use Rattle.c_type_rules.proofs.SoundStatements.{on_compound, on_if}
+use Rattle.c_type_rules.proofs.SoundStatements.{on_while, on_do, on_for, on_break, on_continue, on_return, on_nothing}
 use Rattle.c_type_rules.proofs.Declarations.{on_declare}
 use Rattle.c_type_rules.proofs.Switches.{on_switch}
-use Rattle.c_type_rules.proofs.Parts.{on_first, on_locals}
+use Rattle.c_type_rules.proofs.SoundStatements.{on_first, on_locals}
 
 -- a part, once its line is known
 abbrev A : Type 0

@@ -16,13 +16,14 @@ use Rattle.c_type_expr.specs.declared.meaning.Binding.{Binding}
 use Rattle.c_type_expr.specs.declared.meaning.Meaning.TheVariants as meaning
 use Rattle.c_type_expr.specs.Scope.{Scope, Frame, look_up, declared_in, bound}
 use Rattle.c_type.specs.Units.{type_fault}
-use Rattle.c_type.specs.Functions.{slot_of, callee_in, signature, with_function, definition_fault, with_definition}
+use Rattle.c_type.specs.Functions.{callee_in, signature, with_function, definition_fault, with_definition}
+use Rattle.c_type.specs.States.{slot_of}
 use Rattle.c_type.specs.Programs.{with_prototype_at, prototype_fault}
 use Rattle.c_type_rules.specs.Objects as object
 use Rattle.c_type_rules.specs.WellFormed.{FunctionFits}
 use Rattle.c_type_rules.proofs.Moves.{split}
 use Rattle.c_type_rules.proofs.Lists.{each_last}
-use Rattle.c_type_rules.proofs.KeptDefinitions.{the, file_stays, its_signature, its_fitness}
+use Rattle.c_type_rules.proofs.WellFormedFunctions.{the, file_stays, its_signature, its_fitness}
 use Rattle.c_type_rules.proofs.Frames.{Agrees, type_agrees}
 use Rattle.c_type_rules.proofs.Files.{More, Met, Names, Bound, declare, still_ends, note}
 use Rattle.c_type_rules.proofs.Steps.{at_last, found, program, file, Holds, Step, same_program, nothing_new}
@@ -68,7 +69,8 @@ module _ (T : Scope) (m : ℕ) where
         functions = fs;
         after = refl;
         holds = record {
-          names = declare T P P N F x more agrees (declared_bound w given slots false F P (λ e. absurd (false≢true e)))
+          names = declare T P P N F x more agrees
+              (declared_bound w given slots false F P (λ e. absurd (false≢true e)))
               (still_ends T P P N F x more agrees refl i.names) i.names;
           count = i.count;
           globals = i.globals;
@@ -102,7 +104,8 @@ module _ (T : Scope) (m : ℕ) where
   noted_as w n = bound w (meaning.Function None [] (Some (callee.Func n)) true)
 
   -- a definition that has no fault
-  pub on_definition : (given : Option Kind) (w : List ℕ) (params : List Param) (body : Stmt) (l : ℕ) (N : Scope) (n : ℕ)
+  pub on_definition : (given : Option Kind) (w : List ℕ) (params : List Param) (body : Stmt) (l : ℕ)
+      (N : Scope) (n : ℕ)
       (F : Frame) (gs : List TypedGlobal) (b : ℕ) (fs : List TypedFunc)
       → Holds T m N n F gs b fs → ((v : List ℕ) → Has (declared_in (noted_as w n) N) v → Has T v)
       → definition_fault T given w params body l (file T m F gs b fs) ≡ None

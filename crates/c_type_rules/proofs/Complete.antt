@@ -11,7 +11,9 @@ use Rattle.c_tree.specs.declared.tree.ForInit.TheOpen.{StmtNode-F, ForInit-F, Se
 use Rattle.c_tree.specs.declared.tree.ForInit.TheVariants as first_part
 use Rattle.c_tree.specs.declared.tree.Section.{Section, roll-Section, roll-out-Section, out-roll-Section, map-Section}
 use Rattle.c_tree.specs.declared.typed.TypedSection.{TypedSection}
-use Rattle.c_type.specs.Statements.{labels_in, statements_in, sectioned}
+use Rattle.c_type.specs.Statements.{labels_in, statements_in, part, beginning_of, all_after, all_fault, all_trees}
+use Rattle.c_type.specs.Statements.{return_fault, return_tree, switch_kind, label_word, section_of, sections_fault}
+use Rattle.c_type.specs.Statements.{sections_trees, sections_after}
 use Rattle.c_tree.specs.declared.tree.Stmt.{Stmt, Stmt-F, roll-Stmt, ind-Stmt}
 use Rattle.c_tree.specs.declared.tree.StmtNode.{StmtNode, roll-StmtNode, map-StmtNode}
 use Rattle.c_tree.specs.declared.tree.StmtNode.TheVariants as node
@@ -21,15 +23,13 @@ use Rattle.c_tree.specs.declared.typed.TypedStmt.TheVariants as typed
 use Rattle.c_tree.specs.declared.typed.TypedForInit.{TypedForInit}
 use Rattle.c_type_expr.specs.declared.fault.TypeFault.TheVariants.{Mismatch}
 use Rattle.c_type_expr.specs.declared.role.Role.TheVariants.{Value, Free}
-use Rattle.c_type_expr.specs.Constants.{length_of, word_in}
+use Rattle.c_constant.specs.Constant.{length_of, word_in}
 use Rattle.c_type.specs.declared.state.State.{State}
 use Rattle.c_type.specs.declared.state.Around.{Around}
 use Rattle.c_constant.specs.Kinds.{bytes}
-use Rattle.c_type.specs.States.{at, full_if, entered, with_array, with_switch}
+use Rattle.c_type.specs.States.{at, entered, with_array, with_switch, sectioned, in_loop, in_switch}
+use Rattle.c_type.specs.LeftOut.{full_if}
 use Rattle.c_type.specs.Declarations.{declare_fault, declare_tree, declared}
-use Rattle.c_type.specs.Statements.{part, beginning_of, all_after, all_fault, all_trees, return_fault, return_tree}
-use Rattle.c_type.specs.Statements.{in_loop, in_switch, switch_kind, label_word}
-use Rattle.c_type.specs.Statements.{section_of, sections_fault, sections_trees, sections_after}
 use Rattle.c_type.proofs.Nodes.{fault-Declare, tree-Declare, after-Declare, fault-Plain, tree-Plain}
 use Rattle.c_type.proofs.Nodes.{after-Plain, fault-Compound, tree-Compound, after-Compound}
 use Rattle.c_type.proofs.Nodes.{fault-If, tree-If, after-If, fault-While, tree-While, after-While}
@@ -56,7 +56,8 @@ moved : (b : Around) (v : State) (s : Stmt) (t t' : TypedStmt) (w w' : State) �
     → Types b v s t' w'
 moved b v s t t' w w' e f d = subst (λ t. Types b v s t w') (sym e) (subst (λ w. Types b v s t w) (sym f) d)
 
-begun : (b : Around) (v : State) (i : ForInit) (t t' : TypedForInit) (w w' : State) → t' ≡ t → w' ≡ w → Begins b v i t w
+begun : (b : Around) (v : State) (i : ForInit) (t t' : TypedForInit) (w w' : State) → t' ≡ t → w' ≡ w
+    → Begins b v i t w
     → Begins b v i t' w'
 begun b v i t t' w w' e f d = subst (λ t. Begins b v i t w') (sym e) (subst (λ w. Begins b v i t w) (sym f) d)
 
@@ -143,7 +144,8 @@ module _ (I N X S : Type 0) (of_i : I → ForInit) (of_n : N → StmtNode) (of_x
       let s = of_x x in
       as_section k seen b v s (map of_x xs) _ _
       (one_section (labels_typed v.names k seen (labels_in s) r.0) (whole_x x b v r.1)
-      (sections_whole k (seen ++ map (label_word k) (labels_in s)) b (all_after (map part (statements_in s)) v) xs q.1))
+      (sections_whole k (seen ++ map (label_word k) (labels_in s)) b
+      (all_after (map part (statements_in s)) v) xs q.1))
 
   at_node : (y : StmtNode-F I N X S)
       → WholeNode (roll-StmtNode (map-StmtNode I N X S ForInit StmtNode Section Stmt of_i of_n of_x of_s y))

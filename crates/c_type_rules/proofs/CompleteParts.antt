@@ -10,15 +10,14 @@ use Rattle.c_type_expr.specs.Scope.{Scope}
 use Rattle.c_type_expr.specs.declared.fault.TypeFault.{TypeFault}
 use Rattle.c_type_expr.specs.declared.role.Role.{Role}
 use Rattle.c_type_expr.specs.declared.role.Role.TheVariants.{Value}
-use Rattle.c_type_expr.specs.Roles.{Blame, first, unless}
+use Rattle.c_type_expr.specs.Blames.{Blame, first, unless}
 use Rattle.c_type_expr.specs.Trees.{tree}
-use Rattle.c_type_expr.specs.Constants.{full, length_of, word_in, value_fault, size_fault}
-use Rattle.c_type_expr.specs.Constants.{not_fixed, constant_at}
+use Rattle.c_type_expr.specs.Constants.{full, value_fault, size_fault, not_fixed, constant_at}
 use Rattle.c_type_expr.proofs.Theorem.{complete}
-use Rattle.c_constant.specs.Constant.{constant, ends}
+use Rattle.c_constant.specs.Constant.{constant, ends, length_of, word_in}
 use Rattle.c_constant.specs.Kinds.{converted}
 use Rattle.c_constant.specs.Need.{need_fits}
-use Rattle.c_type.specs.States.{full_if, tree_if, value_of}
+use Rattle.c_type.specs.LeftOut.{full_if, tree_if, value_of}
 use Rattle.c_type.specs.Statements.{word_if, label_word, label_among, case_fault}
 use Rattle.c_type.specs.Statements.{labels_fault}
 use Rattle.c_type_rules.specs.Constants.{Size}

@@ -19,9 +19,10 @@ use Rattle.c_type_expr.specs.Scope.{Scope, declared_in, bound}
 use Rattle.c_type_expr.specs.declared.role.Role.TheVariants.{Value}
 use Rattle.c_type.specs.declared.state.State.{State}
 use Rattle.c_type.specs.declared.state.Around.{Around}
-use Rattle.c_type.specs.States.{full_if, value_of, with_scalar, with_array, with_switch}
+use Rattle.c_type.specs.States.{with_scalar, with_array, with_switch, row_in}
+use Rattle.c_type.specs.LeftOut.{full_if, value_of}
 use Rattle.c_constant.specs.Kinds.{bytes}
-use Rattle.c_type.specs.Declarations.{scalar_init_fault, sized_fault, extent, row_in, declare_tree}
+use Rattle.c_type.specs.Declarations.{scalar_init_fault, sized_fault, extent, declare_tree}
 use Rattle.c_type.specs.Statements.{node_part}
 use Rattle.c_tree.specs.declared.tree.ForInit.TheOpen.{StmtNode-F}
 use Rattle.c_type_rules.specs.Objects.{slot_scalar, local_array}
@@ -32,7 +33,7 @@ use Rattle.c_type_rules.specs.WellFormed.{ArrayFits}
 use Rattle.c_type_rules.proofs.Values.{Exists}
 use Rattle.c_type_rules.proofs.Moves.{split, held, Known, Fine, Within, Ahead}
 use Rattle.c_type_rules.proofs.Lists.{at_end, each_last, extent_some, an_array, outer_in}
-use Rattle.c_type_rules.proofs.Parts.{full_converted, Run, Sound, run}
+use Rattle.c_type_rules.proofs.SoundStatements.{full_converted, Run, Sound, run}
 
 module _ (P : TypedProgram) (f : TypedFunc) where
   -- a name that is in the program is declared

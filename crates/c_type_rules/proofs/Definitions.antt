@@ -12,9 +12,9 @@ use Rattle.c_tree.specs.declared.tree.TopNode.TheVariants.{Include, Global, Func
 use Rattle.c_tree.specs.declared.typed.Callee.{Callee}
 use Rattle.c_type_expr.specs.declared.meaning.Meaning.{Meaning}
 use Rattle.c_type_expr.specs.Scope.{Scope, same_name, look_up, or_else, find, declared_in, bound}
-use Rattle.c_type.specs.Units.{getchar_name, putchar_name, get_char, put_char}
+use Rattle.c_type.specs.FileScopes.{getchar_name, putchar_name, get_char, put_char, count_after}
 use Rattle.c_type.specs.Functions.{callee_in}
-use Rattle.c_type.specs.Programs.{count_after, noted, definitions, table}
+use Rattle.c_type.specs.Programs.{noted, definitions, table}
 use Rattle.c_type_rules.specs.Definitions.{Defines, Calls, CallsIn, function, input, output}
 use Rattle.c_type_rules.specs.Definitions.{no_item, defined, defined_later, not_defined}
 use Rattle.c_type_rules.proofs.Tests.{both_hold}

@@ -1,5 +1,6 @@
 -- What holds of the names at file scope: objects and functions that the program has.
-use Rattle.std.proofs.Common.{◌≡◌, ℕ, zero, suc, Bool, true, false, cond, List, [], ◌∷◌, ◌++◌, Option, Some, None, ◌⊎◌}
+use Rattle.std.proofs.Common.{◌≡◌, ℕ, zero, suc, Bool, true, false, cond, List, [], ◌∷◌, ◌++◌, Option, Some}
+use Rattle.std.proofs.Common.{None, ◌⊎◌}
 use Rattle.std.proofs.Common.{refl, sym, ap, ◌∙◌, subst, ⊎_elim}
 use Rattle.std.specs.Prelude.{slice_get, option_map}
 use Rattle.std.specs.Cmp.Lexicographic.{bytes_decides}
@@ -18,8 +19,8 @@ use Rattle.c_type_expr.specs.declared.meaning.Binding.{Binding}
 use Rattle.c_type_expr.specs.declared.meaning.Meaning.{Meaning}
 use Rattle.c_type_expr.specs.declared.meaning.Meaning.TheVariants as meaning
 use Rattle.c_type_expr.specs.Scope.{Scope, Frame, same_name, find, look_up, declared_in}
-use Rattle.c_type.specs.Declarations.{is_end}
-use Rattle.c_type.specs.Units.{eof_name, getchar_name, putchar_name, int_slots}
+use Rattle.c_type.specs.States.{is_end}
+use Rattle.c_type.specs.FileScopes.{eof_name, getchar_name, putchar_name, int_slots}
 use Rattle.c_type.specs.Functions.{callee_in}
 use Rattle.c_type_rules.specs.Objects.{scalar_at, array_at, Shape, shape, global_scalar, global_array, signature}
 use Rattle.c_type_rules.specs.Objects.{signature_of}
@@ -31,8 +32,9 @@ use Rattle.c_type_rules.proofs.Frames.{IsFunction, Agrees, stays, declared_look,
 -- LONGER LISTS
 
 -- what is told of an element is told of it in a longer list
-kept : {A B : Type 0} (h : Option A → Option B) → h None ≡ None → (xs ys : List A) (n : ℕ) (y : B) → h (slice_get xs n)
-    ≡ Some y → h (slice_get (xs ++ ys) n) ≡ Some y
+kept : {A B : Type 0} (h : Option A → Option B) → h None ≡ None → (xs ys : List A) (n : ℕ) (y : B)
+    → h (slice_get xs n) ≡ Some y
+    → h (slice_get (xs ++ ys) n) ≡ Some y
 kept h z [] ys n y e = absurd (cc)
 kept h z (x ∷ xs) ys zero y e = e
 kept h z (x ∷ xs) ys (suc n) y e = kept h z xs ys n y e
@@ -109,7 +111,8 @@ module _ (T : Scope) where
   abbrev pub Bound : TypedProgram → Scope → List ℕ → Meaning → Type 0
   Bound P G w (meaning.Scalar k p) = (f : TypedFunc) → scalar_at P f p ≡ Some k
   Bound P G w (meaning.Array k q p) = (f : TypedFunc) → array_at P f p ≡ Some (shape k q)
-  Bound P G w (meaning.Function r s c d) = IsFunction G w r s × Calls w r s c × (d ≡ true → (x : Callee) × (c ≡ Some x))
+  Bound P G w (meaning.Function r s c d) = IsFunction G w r s × Calls w r s c
+      × (d ≡ true → (x : Callee) × (c ≡ Some x))
   Bound P G w meaning.EndOfFile = Unit {0}
 
   -- the same of all bindings
@@ -180,7 +183,8 @@ module _ (T : Scope) where
           )
 
   -- a definition is noted
-  pub note : (P : TypedProgram) (N : Scope) (F : Frame) (x : Binding) (c : Callee) → callee_in (Some x.meaning) ≡ Some c
+  pub note : (P : TypedProgram) (N : Scope) (F : Frame) (x : Binding) (c : Callee)
+      → callee_in (Some x.meaning) ≡ Some c
       → Met P (F ∷ []) x.name c → Names P N F → Names P (declared_in x N) F
   note P N F x c e m n = record { bound = n.bound; met = λ w d h. by w d h (same_name x.name w) refl; ends = n.ends }
     where
@@ -224,7 +228,8 @@ module _ (T : Scope) where
   exists P F n f w meaning.EndOfFile b = tt
 
   -- the same of all bindings
-  each_exists : (P : TypedProgram) (F : Frame) (n : Names P T F) (f : TypedFunc) (F' : Frame) → EachBound P (F ∷ []) F'
+  each_exists : (P : TypedProgram) (F : Frame) (n : Names P T F) (f : TypedFunc) (F' : Frame)
+      → EachBound P (F ∷ []) F'
       → KnownFrame P f F'
   each_exists P F n f [] b = tt
   each_exists P F n f (x ∷ F') b = (exists P F n f x.name x.meaning b.0, each_exists P F n f F' b.1)

@@ -2,7 +2,7 @@
 use Rattle.std.proofs.Common.{◌≡◌, List, [], ◌∷◌, ◌++◌, Some, None, refl, sym, ap, ◌∙◌, subst}
 use Rattle.c_type_expr.specs.declared.fault.TypeFault.{TypeFault}
 use Rattle.c_type_expr.specs.declared.fault.TypeFault.TheVariants.{Memory}
-use Rattle.c_type_expr.specs.Roles.{Blame, first}
+use Rattle.c_type_expr.specs.Blames.{Blame, first}
 use Rattle.c_type_rules.specs.Judgements.{Judgement, a_test}
 use Rattle.c_type_rules.specs.Order.{parts}
 use Rattle.c_type_rules.specs.FirstFaults.{Passes, AllPass, FirstFault, fails, inside}
@@ -107,4 +107,5 @@ Sane (Some f) = Unit {0}
 
 -- a test whose fault is not want of memory is good
 pub test_good : (b : Blame) → Sane b → Good (a_test b)
-test_good b s f e = fails e (λ m. let h : Sane (Some Memory) = subst Sane (e ∙ ap (λ (f : TypeFault). Some f) m) s in h)
+test_good b s f e = fails e (λ m. let h : Sane (Some Memory) =
+    subst Sane (e ∙ ap (λ (f : TypeFault). Some f) m) s in h)

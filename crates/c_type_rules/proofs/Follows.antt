@@ -21,18 +21,19 @@ use Rattle.c_tree.specs.declared.tree.TopNode.{TopNode}
 use Rattle.c_tree.specs.declared.tree.TopNode.TheVariants.{Include, Global, Func}
 use Rattle.c_type_expr.specs.Scope.{Scope, look_up}
 use Rattle.c_type_expr.specs.declared.fault.TypeFault.TheVariants.{Twice, Mismatch}
-use Rattle.c_type_expr.specs.Roles.{Blame, first, unless}
+use Rattle.c_type_expr.specs.Blames.{Blame, first, unless}
 use Rattle.c_type_expr.specs.Constants.{full_constant, size_fault}
 use Rattle.c_type.specs.declared.file_scope.FileScope.{FileScope}
 use Rattle.c_type.specs.declared.state.State.{State}
 use Rattle.c_type.specs.declared.state.Around.{Around}
 use Rattle.c_type.specs.Declarations.{declare_fault, extent, sizes_fault, array_fault, no_init}
-use Rattle.c_type.specs.Statements.{Part, nowhere, part, beginning_of, word_if}
-use Rattle.c_type.specs.Statements.{label_among, labels_fault, label_word, all_fault, all_after}
-use Rattle.c_type.specs.Statements.{labels_in, statements_in, section_of, sections_fault}
+use Rattle.c_type.specs.Statements.{Part, part, beginning_of, word_if, label_among, labels_fault, label_word}
+use Rattle.c_type.specs.Statements.{all_fault, all_after, labels_in, statements_in, section_of, sections_fault}
+use Rattle.c_type.specs.States.{nowhere, slot_of}
 use Rattle.c_type.specs.Units.{values_fault, global_fault, count_fault, count_of, place_fault}
-use Rattle.c_type.specs.Units.{global_names, function_fault, all_values, init_fits}
-use Rattle.c_type.specs.Functions.{param_fault, params_fault, body_part, slot_of, entry}
+use Rattle.c_type.specs.Units.{function_fault, init_fits}
+use Rattle.c_type.specs.FileScopes.{global_names, all_values}
+use Rattle.c_type.specs.Functions.{param_fault, params_fault, body_part, entry}
 use Rattle.c_type.specs.Programs.{table, node_fault}
 use Rattle.c_type.proofs.Nodes.{fault-Declare, fault-Plain, fault-Compound, fault-If, fault-While}
 use Rattle.c_type.proofs.Nodes.{fault-Do, fault-For, fault-Break, fault-Continue, fault-Return}

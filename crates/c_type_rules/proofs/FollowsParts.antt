@@ -14,19 +14,20 @@ use Rattle.c_tree.specs.declared.tree.StmtNode.{StmtNode, out-StmtNode, roll-Stm
 use Rattle.c_tree.specs.declared.typed.Slot.{Slot}
 use Rattle.c_type_expr.specs.Scope.{Scope, look_up}
 use Rattle.c_type_expr.specs.declared.role.Role.{Role}
-use Rattle.c_type_expr.specs.Roles.{Blame, first}
+use Rattle.c_type_expr.specs.Blames.{Blame, first}
 use Rattle.c_type_expr.specs.Faults.{fault, args_fault, call_fault, slots_of, role_at, rest_of}
 use Rattle.c_type_expr.specs.Constants.{not_fixed, all_fixed, no_constant, calls_known, full}
 use Rattle.c_type_expr.specs.Constants.{full_constant, size_fault}
-use Rattle.c_type_expr.specs.Says.{at}
+use Rattle.c_type_expr.specs.Roles.{at}
 use Rattle.c_type_expr.proofs.Nodes.{fault-Number, fault-Name, fault-Element, fault-Row, fault-Call}
 use Rattle.c_type_expr.proofs.Nodes.{fault-Group, fault-Unary, fault-Cast, fault-Bump, fault-Binary}
 use Rattle.c_type_expr.proofs.Nodes.{fault-Choice, fault-Assign, fault-Comma}
 use Rattle.c_type_expr.proofs.Fixed.{fixed-Number, fixed-Name, fixed-Element, fixed-Call}
 use Rattle.c_type_expr.proofs.Fixed.{fixed-Group, fixed-Unary, fixed-Cast, fixed-Bump, fixed-Binary}
 use Rattle.c_type_expr.proofs.Fixed.{fixed-Choice, fixed-Assign, fixed-Comma}
-use Rattle.c_type.specs.States.{full_if}
-use Rattle.c_type.specs.Statements.{nowhere, part, beginning_of, all_fault, else_fault}
+use Rattle.c_type.specs.LeftOut.{full_if}
+use Rattle.c_type.specs.Statements.{part, beginning_of, all_fault, else_fault}
+use Rattle.c_type.specs.States.{nowhere}
 use Rattle.c_type.specs.Statements.{labels_fault, section_of, sections_fault}
 use Rattle.c_type.specs.Units.{values_fault}
 use Rattle.c_type.specs.Functions.{param_fault, params_fault, body_part}
@@ -80,7 +81,8 @@ pub statement_is : (n : StmtNode) (x : StmtNode-F ForInit StmtNode Section Stmt)
     → n ≡ roll-StmtNode x
 statement_is n x e = sym (roll-out-StmtNode n) ∙ ap roll-StmtNode e
 
-pub beginning_is : (i : ForInit) (x : ForInit-F ForInit StmtNode Section Stmt) → out-ForInit i ≡ x → i ≡ roll-ForInit x
+pub beginning_is : (i : ForInit) (x : ForInit-F ForInit StmtNode Section Stmt) → out-ForInit i ≡ x
+    → i ≡ roll-ForInit x
 beginning_is i x e = sym (roll-out-ForInit i) ∙ ap roll-ForInit e
 
 -- EXPRESSIONS

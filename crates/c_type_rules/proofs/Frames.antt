@@ -12,7 +12,8 @@ use Rattle.c_type_expr.specs.declared.meaning.Binding.{Binding}
 use Rattle.c_type_expr.specs.declared.meaning.Meaning.{Meaning}
 use Rattle.c_type_expr.specs.declared.meaning.Meaning.TheVariants as meaning
 use Rattle.c_type_expr.specs.Scope.{Scope, Frame, same_name, find, look_up, or_else, declared_in, bound}
-use Rattle.c_type.specs.Declarations.{is_end, twice_fault}
+use Rattle.c_type.specs.Declarations.{twice_fault}
+use Rattle.c_type.specs.States.{is_end}
 use Rattle.c_type.specs.Units.{same_slot, same_slots, same_result, type_fault}
 use Rattle.c_constant.proofs.SameKinds.{kinds_are}
 use Rattle.c_type_expr.specs.Roles.{same_row}
@@ -86,7 +87,8 @@ abbrev pub Agrees : Binding → Scope → Type 0
 Agrees b G = (r : Option Kind) (s : List Slot) → IsFunction G b.name r s → IsSignature b.meaning r s
 
 -- so what is a function stays one
-pub stays : (b : Binding) (G : Scope) → Agrees b G → (w : List ℕ) (r : Option Kind) (s : List Slot) → IsFunction G w r s
+pub stays : (b : Binding) (G : Scope) → Agrees b G → (w : List ℕ) (r : Option Kind) (s : List Slot)
+    → IsFunction G w r s
     → IsFunction (declared_in b G) w r s
 stays b G agrees w r s i = by (same_name b.name w) refl
   where

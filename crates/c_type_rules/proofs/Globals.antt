@@ -14,13 +14,14 @@ use Rattle.c_tree.specs.declared.tree.Expr.{Expr}
 use Rattle.c_tree.specs.declared.typed.TypedFunc.{TypedFunc}
 use Rattle.c_tree.specs.declared.typed.TypedGlobal.{TypedGlobal}
 use Rattle.c_type_expr.specs.Scope.{Scope, Frame, bound}
-use Rattle.c_type_expr.specs.Constants.{constant_at, word_in, length_of}
+use Rattle.c_type_expr.specs.Constants.{constant_at}
+use Rattle.c_constant.specs.Constant.{word_in, length_of}
 use Rattle.c_constant.proofs.Conversions.{converted_word}
 use Rattle.c_constant.specs.Kinds.{bytes, converted}
-use Rattle.c_type.specs.Declarations.{is_end, row_in}
-use Rattle.c_type.specs.Units.{global_meaning, count_of, all_values, row_words, rows_words, init_words, rows_fit}
-use Rattle.c_type.specs.Units.{init_fits}
-use Rattle.c_type.specs.Units.{length_in, typed_global, with_global, count_fault, global_fault}
+use Rattle.c_type.specs.States.{is_end, row_in}
+use Rattle.c_type.specs.Units.{count_of, row_words, rows_words, init_words, rows_fit, init_fits, typed_global}
+use Rattle.c_type.specs.Units.{with_global, count_fault, global_fault}
+use Rattle.c_type.specs.FileScopes.{global_meaning, all_values, length_in}
 use Rattle.c_type_rules.specs.Objects as object
 use Rattle.c_constant.specs.Kinds.{IsWord}
 use Rattle.c_type_rules.specs.WellFormed.{Each, IsRows, GlobalFits, global_bytes, all_bytes}

@@ -5,15 +5,15 @@ use Rattle.c_tree.specs.declared.tree.Expr.{Expr, Expr-F, ind-Expr, roll-Expr}
 use Rattle.c_tree.specs.declared.tree.ExprNode.{ExprNode, roll-ExprNode, out-roll-ExprNode, map-ExprNode}
 use Rattle.c_tree.specs.declared.tree.ExprNode.TheOpen.{ExprNode-F}
 use Rattle.c_tree.specs.declared.typed.Slot.{Slot}
-use Rattle.c_constant.specs.Constant.{constant, ends}
+use Rattle.c_constant.specs.Constant.{constant, ends, length_of}
 use Rattle.c_type_expr.specs.Scope.{Scope, look_up}
 use Rattle.c_type_expr.specs.declared.fault.TypeFault.TheVariants.{Mismatch}
 use Rattle.c_type_expr.specs.declared.role.Role.{Role}
 use Rattle.c_type_expr.specs.declared.role.Role.TheVariants.{Value, Free}
-use Rattle.c_type_expr.specs.Roles.{Blame, unless, left_role}
-use Rattle.c_type_expr.specs.Faults.{unwanted_value, is_place, slots_of, role_at, rest_of}
-use Rattle.c_type_expr.specs.Constants.{calls_known, length_of}
-use Rattle.c_type_expr.specs.Says.{at}
+use Rattle.c_type_expr.specs.Blames.{Blame, unless}
+use Rattle.c_type_expr.specs.Faults.{unwanted_value, is_place, slots_of, role_at, rest_of, left_role}
+use Rattle.c_type_expr.specs.Constants.{calls_known}
+use Rattle.c_type_expr.specs.Roles.{at}
 use Rattle.c_type_rules.specs.Judgements.{Judgement, a_test, an_expression, a_full, an_optional}
 use Rattle.c_type_rules.specs.Judgements.{a_constant, a_full_constant, a_size, argument_parts}
 use Rattle.c_type_rules.specs.Judgements.{expression_parts, constant_parts}

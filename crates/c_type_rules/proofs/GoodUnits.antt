@@ -12,7 +12,7 @@ use Rattle.c_tree.specs.declared.tree.Label.{Label}
 use Rattle.c_tree.specs.declared.tree.Param.{Param}
 use Rattle.c_tree.specs.declared.tree.Program.{Program}
 use Rattle.c_tree.specs.declared.tree.Section.{Section, roll-Section, out-roll-Section, map-Section}
-use Rattle.c_type.specs.Statements.{labels_in, statements_in}
+use Rattle.c_type.specs.Statements.{labels_in, statements_in, part, beginning_of, all_after, switch_kind, label_word}
 use Rattle.c_tree.specs.declared.tree.Stmt.{Stmt, Stmt-F, roll-Stmt, ind-Stmt}
 use Rattle.c_tree.specs.declared.tree.StmtNode.{StmtNode, out-StmtNode, roll-StmtNode, out-roll-StmtNode, map-StmtNode}
 use Rattle.c_tree.specs.declared.tree.Top.{Top}
@@ -25,13 +25,13 @@ use Rattle.c_type_expr.specs.declared.role.Role.TheVariants.{Value, Free}
 use Rattle.c_type.specs.declared.file_scope.FileScope.{FileScope}
 use Rattle.c_type.specs.declared.state.State.{State}
 use Rattle.c_type.specs.declared.state.Around.{Around}
-use Rattle.c_type.specs.States.{at, entered, with_scalar, with_switch}
+use Rattle.c_type.specs.States.{at, entered, with_scalar, with_switch, nowhere, in_loop, in_switch}
 use Rattle.c_type.specs.Declarations.{extent}
-use Rattle.c_type.specs.Statements.{nowhere, in_loop, in_switch, part, beginning_of, all_after, switch_kind}
-use Rattle.c_type.specs.Statements.{label_word}
-use Rattle.c_type.specs.Units.{global_names, count_of, all_values}
-use Rattle.c_type.specs.Functions.{slot_of, entry, with_params, started}
-use Rattle.c_type.specs.Programs.{table, item_after, empty_file}
+use Rattle.c_type.specs.Units.{count_of}
+use Rattle.c_type.specs.FileScopes.{global_names, all_values, empty_file}
+use Rattle.c_type.specs.Functions.{entry}
+use Rattle.c_type.specs.States.{slot_of, with_params, started}
+use Rattle.c_type.specs.Programs.{table, item_after}
 use Rattle.c_type_rules.specs.Judgements.{a_statement, some_statements, an_else, a_beginning}
 use Rattle.c_type_rules.specs.Judgements.{some_labels, some_sections, a_body, a_param, some_params, some_values}
 use Rattle.c_type_rules.specs.Judgements.{an_item}
@@ -111,12 +111,14 @@ module _ (I N X S : Type 0) (of_i : I → ForInit) (of_n : N → StmtNode) (of_x
   sections_good k seen b v [] = good_by (some_sections k seen b v []) refl tt
   sections_good k seen b v (x ∷ xs) =
       let s = of_x x in
-      good_by (some_sections k seen b v (map of_x (x ∷ xs))) (follows (some_sections k seen b v (map of_x (x ∷ xs)))) (
+      good_by (some_sections k seen b v (map of_x (x ∷ xs)))
+      (follows (some_sections k seen b v (map of_x (x ∷ xs)))) (
         labels_good v.names k seen (labels_in s),
         (
           good_x x b v,
           (
-            sections_good k (seen ++ map (label_word k) (labels_in s)) b (all_after (map part (statements_in s)) v) xs,
+            sections_good k (seen ++ map (label_word k) (labels_in s)) b
+                (all_after (map part (statements_in s)) v) xs,
             tt,
           ),
         ),
@@ -245,8 +247,10 @@ value_each s k w init l U = (
 global_each : (s : ArraySize) (k : Kind) (w : List ℕ) (init : List (List Expr)) (l : ℕ) (U : FileScope)
     → AllGood (global_parts s k w init l U)
 global_each size.Scalar k w init l U = value_each size.Scalar k w init l U
-global_each size.Open k w init l U =
-    (test_good _ (sane_unless (nat_lt 0 (length (all_values init))) (Mismatch l) tt), value_each size.Open k w init l U)
+global_each size.Open k w init l U = (
+  test_good _ (sane_unless (nat_lt 0 (length (all_values init))) (Mismatch l) tt),
+  value_each size.Open k w init l U,
+)
 global_each (size.Sized e) k w init l U = (size_good U.names e, value_each (size.Sized e) k w init l U)
 global_each (size.Rows None e) k w init l U = (
   size_good U.names e,

@@ -8,9 +8,9 @@ use Rattle.c_tree.specs.declared.typed.TypedGlobal.{TypedGlobal}
 use Rattle.c_tree.specs.declared.typed.TypedProgram.{TypedProgram}
 use Rattle.c_type_expr.specs.declared.meaning.Meaning.TheVariants as meaning
 use Rattle.c_type_expr.specs.Scope.{Scope, Frame, look_up, declared_in, bound}
-use Rattle.c_type.specs.Declarations.{is_end}
-use Rattle.c_type.specs.Units.{eof_name, getchar_name, putchar_name, int_slots, get_char, put_char}
-use Rattle.c_type.specs.Units.{include_clash, include_fault, included, with_include}
+use Rattle.c_type.specs.States.{is_end}
+use Rattle.c_type.specs.FileScopes.{eof_name, getchar_name, putchar_name, int_slots, get_char, put_char, with_include}
+use Rattle.c_type.specs.Units.{include_clash, include_fault, included}
 use Rattle.c_type_rules.proofs.Moves.{split}
 use Rattle.c_type_rules.proofs.Frames.{Agrees, fresh_agrees, type_agrees}
 use Rattle.c_type_rules.proofs.Files.{More, Met, Names, reads, writes, declare, still_ends, note}
@@ -110,7 +110,8 @@ module _ (T : Scope) (m : ℕ) where
             fit = λ P known old. old;
           }
       by false e =
-          let clash : include_clash (F ∷ []) l ≡ None = sym (ap (λ t. cond t None (include_clash (F ∷ []) l)) e) ∙ h in
+          let clash : include_clash (F ∷ []) l ≡ None =
+          sym (ap (λ t. cond t None (include_clash (F ∷ []) l)) e) ∙ h in
           record {
             frame = bound eof_name meaning.EndOfFile ∷ bound putchar_name put_char ∷ bound getchar_name get_char ∷ F;
             globals = gs;

@@ -5,8 +5,7 @@ use Rattle.std.proofs.Math.Nat.{le_of_mul-le-mul_right}
 use Rattle.c_tree.specs.declared.token.Kind.{Kind}
 use Rattle.c_tree.specs.declared.tree.Expr.{Expr}
 use Rattle.c_constant.specs.Kinds.{number}
-use Rattle.c_constant.specs.Constant.{constant, ends}
-use Rattle.c_type_expr.specs.Constants.{length_from, length_in, length_of}
+use Rattle.c_constant.specs.Constant.{constant, ends, length_from, length_in, length_of}
 
 -- a length is at least 1
 counted_up : (b : Bool) (m n : ℕ) → nat_lt 0 m ≡ b → cond b (Some m) None ≡ Some n → 0 < n

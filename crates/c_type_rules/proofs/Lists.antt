@@ -12,13 +12,13 @@ use Rattle.c_tree.specs.declared.tree.Label.{Label}
 use Rattle.c_tree.specs.declared.typed.TypedArray.{TypedArray}
 use Rattle.c_type_expr.specs.declared.meaning.Binding.{Binding}
 use Rattle.c_type_expr.specs.Scope.{Scope, Frame, declared_in}
-use Rattle.c_constant.specs.Constant.{constant, ends}
+use Rattle.c_constant.specs.Constant.{constant, ends, length_of, length_in, length_from, word_in}
 use Rattle.c_constant.specs.Kinds.{number}
 use Rattle.c_type_expr.specs.declared.fault.TypeFault.{TypeFault}
-use Rattle.c_type_expr.specs.Roles.{unless}
-use Rattle.c_type_expr.specs.Constants.{size_fault, value_fault, length_of, length_in, length_from}
-use Rattle.c_type_expr.specs.Constants.{word_in}
-use Rattle.c_type.specs.Declarations.{sizes_fault, extent, row_in}
+use Rattle.c_type_expr.specs.Blames.{unless}
+use Rattle.c_type_expr.specs.Constants.{size_fault, value_fault}
+use Rattle.c_type.specs.Declarations.{sizes_fault, extent}
+use Rattle.c_type.specs.States.{row_in}
 use Rattle.c_type.specs.Statements.{word_if, label_word, labels_fault}
 use Rattle.c_type_rules.specs.KeptStatements.{IsLabel, Labels}
 use Rattle.c_type_rules.specs.KeptStatements as rule

@@ -8,11 +8,10 @@ use Rattle.c_tree.specs.declared.typed.TypedProgram.{TypedProgram}
 use Rattle.c_type_expr.specs.declared.meaning.Meaning.{Meaning}
 use Rattle.c_type_expr.specs.Scope.{Scope, Frame, same_name, find, look_up, opened, closed, or_else}
 use Rattle.c_type_expr.specs.declared.fault.TypeFault.{TypeFault}
-use Rattle.c_type_expr.specs.Roles.{Blame, first, unless}
+use Rattle.c_type_expr.specs.Blames.{Blame, first, unless}
 use Rattle.c_type.specs.declared.state.State.{State}
 use Rattle.c_type.specs.declared.state.Around.{Around}
-use Rattle.c_type.specs.Statements.{in_loop}
-use Rattle.c_type.specs.States.{entered, left}
+use Rattle.c_type.specs.States.{entered, left, in_loop}
 use Rattle.c_type_rules.specs.WellFormed.{Each, IsScalar, ArrayFits}
 use Rattle.c_type_rules.proofs.Values.{Exists, Knows}
 
@@ -145,8 +144,8 @@ module _ (P : TypedProgram) (f : TypedFunc) where
     pub ahead : (v : State) → Ahead v (after v)
     pub runs : (b : Around) (v : State) → Fine v → Within (after v) → fault b v ≡ None → Fine (after v) × Q b (tree v)
 
-  module _ {T : Type 0} {Q : Around → T → Type 0} {after : State → State} {fault : Around → State → Blame} {tree : State
-      → T} where
+  module _ {T : Type 0} {Q : Around → T → Type 0} {after : State → State}
+      {fault : Around → State → Blame} {tree : State → T} where
     -- what it gives is made into something else
     pub made : {U : Type 0} {R : Around → U → Type 0} (g : T → U) → ((b : Around) (t : T) → Q b t → R b (g t))
         → Moves Q after fault tree → Moves R after fault (λ v. g (tree v))
@@ -176,7 +175,13 @@ module _ (P : TypedProgram) (f : TypedFunc) where
           let within : Within (after (entered v)) =
           record { scalars = w.scalars; arrays = w.arrays; are = w.are; and = w.and } in
           let fine : Fine (entered v) =
-          record { names = (tt, i.names); result = i.result; params = i.params; count = i.count; arrays = i.arrays } in
+          record {
+            names = (tt, i.names);
+            result = i.result;
+            params = i.params;
+            count = i.count;
+            arrays = i.arrays;
+          } in
           let r = m.runs b (entered v) fine within e in
           let done : Fine (left (after (entered v))) =
           record {

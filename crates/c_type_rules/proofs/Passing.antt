@@ -3,11 +3,11 @@ use Rattle.std.proofs.Common.{◌≡◌, ℕ, false, Option, Some, None, refl, a
 use Rattle.std.specs.Prelude.{option_map}
 use Rattle.std.proofs.lemmas.Bool.{false≢true}
 use Rattle.c_tree.specs.declared.tree.Stmt.{Stmt}
-use Rattle.c_constant.specs.Constant.{constant, ends}
+use Rattle.c_constant.specs.Constant.{constant, ends, length_of}
 use Rattle.c_constant.specs.Need.{need_fits}
 use Rattle.c_type_expr.specs.declared.fault.TypeFault.TheVariants.{Mismatch, Need}
 use Rattle.c_type_expr.specs.Trees.{tree}
-use Rattle.c_type_expr.specs.Constants.{value_fault, length_of}
+use Rattle.c_type_expr.specs.Constants.{value_fault}
 use Rattle.c_type_expr.proofs.Theorem.{sound, complete}
 use Rattle.c_type.specs.declared.state.State.{State}
 use Rattle.c_type.specs.declared.state.Around.{Around}

@@ -16,19 +16,20 @@ use Rattle.c_type_expr.specs.declared.fault.TypeFault.{TypeFault}
 use Rattle.c_type_expr.specs.declared.fault.TypeFault.TheVariants.{Twice, Mismatch, Arity}
 use Rattle.c_type_expr.specs.declared.fault.TypeFault.TheVariants.{TooManyScalars, Need, TooLarge}
 use Rattle.c_type_expr.specs.declared.role.Role.{Role}
-use Rattle.c_type_expr.specs.Roles.{Blame, first, unless, takes_value, takes_element}
-use Rattle.c_type_expr.specs.Faults.{unwanted_value, takes_name, takes_result, name_fault}
+use Rattle.c_type_expr.specs.Roles.{takes_value, takes_element, takes_result}
+use Rattle.c_type_expr.specs.Blames.{Blame, first, unless}
+use Rattle.c_type_expr.specs.Faults.{unwanted_value, takes_name, name_fault}
 use Rattle.c_type_expr.specs.Faults.{fits_sizes, element_fault, callee_fault, call_fault}
 use Rattle.c_type_expr.specs.Constants as constants
 use Rattle.c_type.specs.declared.file_scope.FileScope.{FileScope}
 use Rattle.c_type.specs.declared.state.State.{State}
-use Rattle.c_type.specs.Declarations.{is_taken, is_end, twice_fault, scalar_fault, array_fault, no_init}
+use Rattle.c_type.specs.Declarations.{twice_fault, scalar_fault, array_fault, no_init}
+use Rattle.c_type.specs.States.{is_taken, is_end, named_among}
 use Rattle.c_type.specs.Statements.{return_fault}
 use Rattle.c_type.specs.Units.{defined_fault, type_fault, function_fault, same_result, same_slots}
-use Rattle.c_type.specs.Units.{include_clash, include_fault, place_fault, int_slots, eof_name}
-use Rattle.c_type.specs.Units.{getchar_name, putchar_name}
+use Rattle.c_type.specs.Units.{include_clash, include_fault, place_fault}
+use Rattle.c_type.specs.FileScopes.{int_slots, eof_name, getchar_name, putchar_name}
 use Rattle.c_type.specs.Functions as functions
-use Rattle.c_type.specs.Functions.{named_among}
 use Rattle.c_type_rules.proofs.FirstFaults.{Sane}
 use Rattle.std.specs.Prelude.{cond}
 use Rattle.c_tree.specs.declared.token.Kind.TheVariants.{Int}

@@ -9,7 +9,9 @@ use Rattle.c_tree.specs.declared.tree.Section.{Section, out-roll-Section}
 use Rattle.c_tree.specs.declared.tree.StmtNode.{StmtNode}
 use Rattle.c_tree.specs.declared.tree.ForInit.TheOpen.{Section-F}
 use Rattle.c_tree.specs.declared.tree.Label.{Label}
-use Rattle.c_type.specs.Statements.{Part, SectionPart, sectioned}
+use Rattle.c_type.specs.Statements.{Part, SectionPart, part, beginning_of, all_after, all_fault, all_trees}
+use Rattle.c_type.specs.Statements.{else_after, else_fault, else_tree, rest_fault, return_fault, return_tree}
+use Rattle.c_type.specs.Statements.{label_word, section_of, sections_fault, sections_trees, sections_after}
 use Rattle.c_tree.specs.declared.tree.Stmt.{Stmt}
 use Rattle.c_tree.specs.declared.tree.ForInit.{ForInit}
 use Rattle.c_tree.specs.declared.tree.StmtNode.TheVariants as node
@@ -22,18 +24,17 @@ use Rattle.c_tree.specs.declared.typed.TypedForInit.{TypedForInit}
 use Rattle.c_tree.specs.declared.typed.TypedForInit.TheVariants as typed_init
 use Rattle.c_type_expr.specs.declared.fault.TypeFault.TheVariants.{Mismatch, TooManyScalars}
 use Rattle.c_type_expr.specs.declared.role.Role.TheVariants.{Value, Free}
-use Rattle.c_type_expr.specs.Trees.{tree, kind_of, with_convert}
-use Rattle.c_type_expr.specs.Constants.{full, word_in}
+use Rattle.c_type_expr.specs.Trees.{tree}
+use Rattle.c_type_expr.specs.Conversions.{kind_of, with_convert}
+use Rattle.c_type_expr.specs.Constants.{full}
+use Rattle.c_constant.specs.Constant.{word_in}
 use Rattle.c_type.specs.declared.state.State.{State}
 use Rattle.c_type.specs.declared.state.Around.{Around}
-use Rattle.c_type.specs.States.{at, tree_if, entered, left, with_scalar, with_array}
+use Rattle.c_type.specs.States.{at, entered, left, with_scalar, with_array, sectioned, in_loop, in_switch}
+use Rattle.c_type.specs.LeftOut.{tree_if}
 use Rattle.c_type.specs.States.{with_switch}
 use Rattle.c_constant.specs.Kinds.{promoted}
 use Rattle.c_type.specs.Declarations.{extent}
-use Rattle.c_type.specs.Statements.{part, beginning_of, all_after, all_fault, all_trees, else_after}
-use Rattle.c_type.specs.Statements.{else_fault, else_tree, rest_fault, return_fault, return_tree}
-use Rattle.c_type.specs.Statements.{in_loop, in_switch, label_word}
-use Rattle.c_type.specs.Statements.{section_of, sections_fault, sections_trees, sections_after}
 use Rattle.c_type.proofs.Nodes.{fault-Declare, tree-Declare, after-Declare, fault-Plain, tree-Plain}
 use Rattle.c_type.proofs.Nodes.{after-Plain, fault-Compound, tree-Compound, after-Compound}
 use Rattle.c_type.proofs.Nodes.{fault-If, tree-If, after-If, fault-While, tree-While, after-While}

@@ -15,13 +15,16 @@ use Rattle.c_type_expr.specs.declared.fault.TypeFault.TheVariants.{Twice}
 use Rattle.c_type_expr.specs.declared.fault.TypeFault.TheVariants.{TooLarge, Need}
 use Rattle.c_type_expr.specs.declared.role.Role.{Role}
 use Rattle.c_type_expr.specs.declared.role.Role.TheVariants.{Value}
-use Rattle.c_type_expr.specs.Roles.{Blame, first, unless}
-use Rattle.c_type_expr.specs.Trees.{tree, with_convert}
-use Rattle.c_type_expr.specs.Constants.{full, word_in, length_of, value_fault, size_fault, constant_at}
+use Rattle.c_type_expr.specs.Blames.{Blame, first, unless}
+use Rattle.c_type_expr.specs.Trees.{tree}
+use Rattle.c_type_expr.specs.Conversions.{with_convert}
+use Rattle.c_type_expr.specs.Constants.{full, value_fault, size_fault, constant_at}
+use Rattle.c_constant.specs.Constant.{word_in, length_of}
 use Rattle.c_type_expr.proofs.Theorem.{sound}
-use Rattle.c_type.specs.States.{full_if, tree_if, value_of}
+use Rattle.c_type.specs.LeftOut.{full_if, tree_if, value_of}
 use Rattle.c_constant.specs.Kinds.{bytes, converted}
-use Rattle.c_type.specs.Declarations.{is_taken, twice_fault, sizes_fault, array_fault, sized_fault, extent}
+use Rattle.c_type.specs.Declarations.{twice_fault, sizes_fault, array_fault, sized_fault, extent}
+use Rattle.c_type.specs.States.{is_taken}
 use Rattle.c_type.specs.Statements.{label_word, label_among, labels_fault}
 use Rattle.c_type_rules.specs.Constants.{Size}
 use Rattle.c_type_rules.specs.Statements.{Full, FullIf, Initialises, Labels}

@@ -29,7 +29,7 @@ use Rattle.c_type_rules.specs.Expressions as rule
 use Rattle.c_type_rules.specs.Needs.{FitsNeed}
 use Rattle.c_tree.specs.TypedTrees.{Level}
 use Rattle.c_type.specs.declared.state.Around.{Around}
-use Rattle.c_type.specs.Statements.{nowhere, in_loop, in_switch}
+use Rattle.c_type.specs.States.{nowhere, in_loop, in_switch}
 use Rattle.c_type_rules.specs.KeptStatements.{WellFormedStmt, Labels}
 use Rattle.c_type_rules.specs.KeptStatements as run
 use Rattle.c_type_rules.specs.WellFormed.{GlobalFits, FunctionFits, WellFormed}
@@ -120,7 +120,8 @@ module _ (P : TypedProgram) (f : TypedFunc) where
   int_and_long r (rule.binary {i = j} {j = k} x z a b c) =
       let d = its_kind j Int (Number 1) x in
       let e = its_kind k Long (Number 2) z in
-      let h : common Int Long ≡ Int = subst (λ k. common Int k ≡ Int) (sym e) (subst (λ j. common j k ≡ j) (sym d) a) in
+      let h : common Int Long ≡ Int =
+      subst (λ k. common Int k ≡ Int) (sym e) (subst (λ j. common j k ≡ j) (sym d) a) in
       absurd (cc)
 
   -- a conversion is of another type

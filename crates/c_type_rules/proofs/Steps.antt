@@ -33,7 +33,8 @@ module _ (T : Scope) (m : ℕ) where
   file F gs b fs = record { names = F ∷ []; globals = gs; bytes = b; functions = fs }
 
   -- what holds at file scope, where nothing has failed
-  pub record Holds (N : Scope) (n : ℕ) (F : Frame) (gs : List TypedGlobal) (b : ℕ) (fs : List TypedFunc) : Type 0 where
+  pub record Holds (N : Scope) (n : ℕ) (F : Frame) (gs : List TypedGlobal) (b : ℕ)
+      (fs : List TypedFunc) : Type 0 where
     pub names : Names T (program gs fs) N F
     pub count : n ≡ length fs
     pub globals : Each GlobalFits gs

@@ -9,11 +9,11 @@ use Rattle.c_tree.specs.declared.typed.Slot.TheVariants as slot
 use Rattle.c_tree.specs.declared.typed.TypedFunc.{TypedFunc}
 use Rattle.c_tree.specs.declared.typed.TypedProgram.{TypedProgram}
 use Rattle.c_tree.specs.declared.typed.TypedStmt.TheVariants as typed
-use Rattle.c_type_expr.specs.Trees.{tree, kind_of}
-use Rattle.c_type.specs.States.{with_switch}
-use Rattle.c_type.specs.Statements.{SectionPart, in_switch, label_word}
-use Rattle.c_type.specs.Statements.{sections_fault, sections_after, sections_trees, switch_kind}
-use Rattle.c_type.specs.Statements.{node_part, all_after}
+use Rattle.c_type_expr.specs.Trees.{tree}
+use Rattle.c_type_expr.specs.Conversions.{kind_of}
+use Rattle.c_type.specs.States.{with_switch, in_switch}
+use Rattle.c_type.specs.Statements.{SectionPart, label_word, sections_fault, sections_after, sections_trees}
+use Rattle.c_type.specs.Statements.{switch_kind, node_part, all_after}
 use Rattle.c_tree.specs.declared.tree.ForInit.TheOpen.{StmtNode-F}
 use Rattle.c_type_rules.specs.KeptStatements.{RunsSections}
 use Rattle.c_type_rules.specs.KeptStatements as rule
@@ -22,7 +22,7 @@ use Rattle.c_type_rules.proofs.Moves.{split, held, Fine, Moves}
 use Rattle.c_type_rules.proofs.Moves.{further, before}
 use Rattle.c_type_rules.proofs.Conversions.{promoted_once}
 use Rattle.c_type_rules.proofs.Lists.{at_end, labels_good}
-use Rattle.c_type_rules.proofs.Parts.{asks, full_converted, Sound, SoundAll, run}
+use Rattle.c_type_rules.proofs.SoundStatements.{asks, full_converted, Sound, SoundAll, run}
 use Rattle.c_type_rules.proofs.Declarations.{still_more, one_more, switch_ahead}
 
 module _ (P : TypedProgram) (f : TypedFunc) where

@@ -16,7 +16,7 @@ use Rattle.c_constant.specs.Need.{Needs, plain, args_need, call_need, assign_nee
 use Rattle.c_constant.proofs.Nodes.{needs-Number, needs-Name, needs-Element, needs-Call, needs-Group, needs-Unary}
 use Rattle.c_constant.proofs.Nodes.{needs-Cast, needs-Bump, needs-Binary, needs-Choice, needs-Assign, needs-Comma}
 use Rattle.c_type_expr.specs.declared.role.Role.{Role}
-use Rattle.c_type_expr.specs.Trees.{a, kind_of, with_convert, assigned_from}
+use Rattle.c_type_expr.specs.Conversions.{a, kind_of, with_convert, assigned_from}
 use Rattle.c_type_expr.specs.Typed.{Typed, Passed, number, scalar, array, ending, element, row_element, call}
 use Rattle.c_type_expr.specs.Typed.{group, operator}
 use Rattle.c_type_expr.specs.Typed.{conversion, step, operation, either, assignment, sequence, none, value, address}
@@ -57,7 +57,8 @@ module _ (G : Scope) where
         ∙ sym (needs-Number _ v k refl)
     same_needs _ _ _ (scalar {w = w} {p = p} m h) = by _ _ (node.Name p) (typed.rolls-Name p)
         ∙ sym (needs-Name _ w refl)
-    same_needs _ _ _ (array {w = w} {p = p} m h) = by _ _ (node.Name p) (typed.rolls-Name p) ∙ sym (needs-Name _ w refl)
+    same_needs _ _ _ (array {w = w} {p = p} m h) = by _ _ (node.Name p) (typed.rolls-Name p)
+        ∙ sym (needs-Name _ w refl)
     same_needs _ _ _ (ending {w = w} m h) = by _ _ (node.Number _) (typed.rolls-Number _) ∙ sym (needs-Name _ w refl)
     same_needs _ _ _ (element {w = w} {p = p} {i = i} {j = j} d m h) =
         by _ _ (node.Element p None j) (typed.rolls-Element p None j)
@@ -86,7 +87,8 @@ module _ (G : Scope) where
         by _ _ (node.Binary op _ _) (typed.rolls-Binary op _ _)
         ∙ ap (λ n. plain (max n (1 + typed_need (with_convert (right_at op (kind_of s) (kind_of t)) t))))
         (converted_need _ s ∙ ap (λ (n : Needs). n.need) (same_needs _ x s d))
-        ∙ ap (λ n. plain (max (need x) (1 + n))) (converted_need _ t ∙ ap (λ (n : Needs). n.need) (same_needs _ y t d'))
+        ∙ ap (λ n. plain (max (need x) (1 + n))) (converted_need _ t
+        ∙ ap (λ (n : Needs). n.need) (same_needs _ y t d'))
         ∙ sym (needs-Binary _ op x y refl)
     same_needs _ _ _ (either {c = c} {x = x} {y = y} {d = d} {s = s} {t = t} d1 d2 d3 h) =
         let k = common (kind_of s) (kind_of t) in

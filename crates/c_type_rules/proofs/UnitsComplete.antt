@@ -26,23 +26,20 @@ use Rattle.c_type_expr.specs.Scope.{Scope, look_up}
 use Rattle.c_type_expr.specs.declared.fault.TypeFault.{TypeFault}
 use Rattle.c_type_expr.specs.declared.fault.TypeFault.TheVariants.{Twice}
 use Rattle.c_type_expr.specs.declared.fault.TypeFault.TheVariants as fault
-use Rattle.c_type_expr.specs.Constants.{length_of}
-use Rattle.c_type_expr.specs.Roles.{Blame}
+use Rattle.c_constant.specs.Constant.{length_of}
+use Rattle.c_type_expr.specs.Blames.{Blame}
 use Rattle.c_type_expr.specs.Says.{Stops}
 use Rattle.c_type.specs.declared.file_scope.FileScope.{FileScope}
 use Rattle.c_type.specs.declared.state.State.{State}
-use Rattle.c_type.specs.States.{at}
-use Rattle.c_type.specs.Declarations.{is_end}
-use Rattle.c_type.specs.Units.{eof_name, getchar_name, putchar_name, int_slots, with_include}
-use Rattle.c_type.specs.Units.{include_clash, global_names}
-use Rattle.c_type.specs.Units.{function_fault, same_result, same_slots}
-use Rattle.c_type.specs.Functions.{slot_of, named_among, params_fault, name_fault, head_fault}
-use Rattle.c_type.specs.Functions.{param_fault, row_fault, row_bytes_fault, with_params, started}
+use Rattle.c_type.specs.States.{at, nowhere, is_end, slot_of, named_among, with_params, started}
+use Rattle.c_type.specs.FileScopes.{eof_name, getchar_name, putchar_name, int_slots, with_include, global_names}
+use Rattle.c_type.specs.Units.{include_clash, function_fault, same_result, same_slots}
+use Rattle.c_type.specs.Functions.{params_fault, name_fault, head_fault, param_fault, row_fault, row_bytes_fault}
 use Rattle.c_type.specs.Functions.{entry, body_part, callee_in}
-use Rattle.c_type.specs.Statements.{Part, nowhere}
-use Rattle.c_type.specs.Programs.{table, empty_file, is_int, no_slots, is_main, node_fault}
-use Rattle.c_type.specs.Programs.{node_after, item_after, items_fault, items_after, program_fault}
-use Rattle.c_type.specs.Programs.{program_tree}
+use Rattle.c_type.specs.Statements.{Part}
+use Rattle.c_type.specs.Programs.{table, is_int, no_slots, is_main, node_fault, node_after, item_after, items_fault}
+use Rattle.c_type.specs.Programs.{items_after, program_fault, program_tree}
+use Rattle.c_type.specs.FileScopes.{empty_file}
 use Rattle.c_type_rules.specs.Units.{Row}
 use Rattle.c_type_rules.specs.Units.{no_row_size, row_size}
 use Rattle.c_type_rules.specs.Units.{Named, Params, Agrees, Heads, is_block, Body}
@@ -89,7 +86,8 @@ param_typed d G seen p h =
     )
 
 -- parameters without a fault are some by the rules
-pub params_typed : (d : Bool) (G : Scope) (seen ps : List Param) → params_fault d G seen ps ≡ None → Params d G seen ps
+pub params_typed : (d : Bool) (G : Scope) (seen ps : List Param) → params_fault d G seen ps ≡ None
+    → Params d G seen ps
 params_typed d G seen [] h = no_param
 params_typed d G seen (p ∷ ps) h =
     let q = split _ _ h in

@@ -25,24 +25,20 @@ use Rattle.c_type_expr.specs.declared.meaning.Meaning.{Meaning}
 use Rattle.c_type_expr.specs.Scope.{Scope, look_up, is_here, closed}
 use Rattle.c_type_expr.specs.declared.fault.TypeFault.TheVariants.{Twice, Mismatch, TooManyParams}
 use Rattle.c_type_expr.specs.declared.fault.TypeFault.TheVariants.{TooLarge, NoMain}
-use Rattle.c_type_expr.specs.Roles.{unless}
-use Rattle.c_type_expr.specs.Constants.{word_in}
+use Rattle.c_type_expr.specs.Blames.{unless}
+use Rattle.c_constant.specs.Constant.{word_in}
 use Rattle.c_type.specs.declared.file_scope.FileScope.{FileScope}
 use Rattle.c_type.specs.declared.state.State.{State}
-use Rattle.c_type.specs.States.{at}
+use Rattle.c_type.specs.States.{at, nowhere, is_end, is_taken, row_in, slot_of, with_params, started}
 use Rattle.c_constant.specs.Kinds.{bytes}
-use Rattle.c_type.specs.Declarations.{is_end, is_taken, row_in}
-use Rattle.c_type.specs.Units.{eof_name, getchar_name, putchar_name, int_slots, with_include}
-use Rattle.c_type.specs.Units.{include_clash, global_names, length_in, count_of}
-use Rattle.c_type.specs.Units.{function_fault, same_slots}
-use Rattle.c_type.specs.Functions.{slot_of, params_fault, name_fault, row_fault, row_bytes_fault, head_fault}
-use Rattle.c_type.specs.Functions.{body_entry, entry, with_params, started}
+use Rattle.c_type.specs.FileScopes.{eof_name, getchar_name, putchar_name, int_slots, with_include, prototype_names}
+use Rattle.c_type.specs.Units.{include_clash, count_of, function_fault, same_slots}
+use Rattle.c_type.specs.FileScopes.{global_names, length_in, body_entry, empty_file, main_name, number_in}
+use Rattle.c_type.specs.Functions.{params_fault, name_fault, row_fault, row_bytes_fault, head_fault, entry}
 use Rattle.c_type.specs.Functions.{param_fault, body_in, body_part, callee_in}
-use Rattle.c_type.specs.Signatures.{prototype_names}
-use Rattle.c_type.specs.Statements.{Part, part, nowhere}
-use Rattle.c_type.specs.Programs.{table, empty_file, main_name, number_in, is_main, node_fault}
-use Rattle.c_type.specs.Programs.{node_after, items_fault, items_after, whole, program_fault}
-use Rattle.c_type.specs.Programs.{program_tree}
+use Rattle.c_type.specs.Statements.{Part, part}
+use Rattle.c_type.specs.Programs.{table, is_main, node_fault, node_after, items_fault, items_after, whole}
+use Rattle.c_type.specs.Programs.{program_fault, program_tree}
 use Rattle.c_type_rules.specs.Units.{Row}
 use Rattle.c_type_rules.specs.Units.{no_row_size, row_size}
 use Rattle.c_type_rules.specs.Units.{Named, Params, Agrees, Heads, is_block, Body}

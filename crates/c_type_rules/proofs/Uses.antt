@@ -20,7 +20,7 @@ use Rattle.c_type_rules.specs.Expressions.{Gives, Passes}
 use Rattle.c_type_rules.specs.Expressions as rule
 use Rattle.c_type_rules.specs.WellFormed.{FunctionFits, WellFormed}
 use Rattle.c_type_rules.proofs.Moves.{some_is}
-use Rattle.c_type_rules.proofs.Whole.{each_at}
+use Rattle.c_type_rules.proofs.WellFormedPrograms.{each_at}
 
 -- FUNCTIONS
 
@@ -112,7 +112,8 @@ pub record GlobalAt (P : TypedProgram) (n : ℕ) (k : Kind) : Type 0 where
   pub kind : global.kind ≡ k
 
 -- the same, where what has the number is told apart
-scalar_by : (P : TypedProgram) (n : ℕ) (k : Kind) (o : Option TypedGlobal) → slice_get P.globals n ≡ o → global_scalar o
+scalar_by : (P : TypedProgram) (n : ℕ) (k : Kind) (o : Option TypedGlobal) → slice_get P.globals n ≡ o
+    → global_scalar o
     ≡ Some k
     → (g : GlobalAt P n k) × (g.global.length ≡ None)
 scalar_by P n k None e h = absurd (cc)
@@ -162,7 +163,8 @@ global_array_at P f n k q h = array_by P n k q (slice_get P.globals n) refl h
 
 -- the same, where what has the number is told apart
 local_by : (f : TypedFunc) (n : ℕ) (k : Kind) (q : Option ℕ) (o : Option TypedArray) → slice_get f.arrays n ≡ o
-    → local_array o ≡ Some (shape k q) → (a : TypedArray) × (slice_get f.arrays n ≡ Some a) × (a.kind ≡ k) × (a.row ≡ q)
+    → local_array o ≡ Some (shape k q) → (a : TypedArray) × (slice_get f.arrays n ≡ Some a)
+    × (a.kind ≡ k) × (a.row ≡ q)
 local_by f n k q None e h = absurd (cc)
 local_by f n k q (Some a) e h =
     let s : shape a.kind a.row ≡ shape k q = some_is _ _ h in

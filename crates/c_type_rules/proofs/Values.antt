@@ -20,9 +20,8 @@ use Rattle.c_constant.specs.Kinds.{same_kind, common}
 use Rattle.c_constant.specs.Operation.{left_at, right_at, result_of, unary_at, unary_result}
 use Rattle.c_type_expr.specs.declared.role.Role.{Role}
 use Rattle.c_type_expr.specs.declared.role.Role.TheVariants.{Value, Free, Written, Array, Surplus}
-use Rattle.c_type_expr.specs.Roles.{takes_value, takes_element, takes_array, same_row}
-use Rattle.c_type_expr.specs.Faults.{takes_result}
-use Rattle.c_type_expr.specs.Trees.{a, kind_of, kind_in, with_convert, comma}
+use Rattle.c_type_expr.specs.Roles.{takes_value, takes_element, takes_array, same_row, takes_result}
+use Rattle.c_type_expr.specs.Conversions.{a, kind_of, kind_in, with_convert, comma}
 use Rattle.c_type_expr.specs.Typed.{Typed, Passed}
 use Rattle.c_type_expr.specs.Typed as typing
 use Rattle.c_type_rules.specs.Objects.{scalar_at, array_at, shape, signature, signature_of}
@@ -105,9 +104,11 @@ module _ (P : TypedProgram) (f : TypedFunc) where
   -- the name of a scalar
   scalar_fits : (r : Role) (k : Kind) (p : Place) → takes_element r ≡ true → scalar_at P f p ≡ Some k
       → Fits r (a (Some k) (typed.Name p))
-  scalar_fits Value k p h s = record { kind = k; is = refl; gives = closed _ _ _ (typed.rolls-Name p) (rule.scalar s) }
+  scalar_fits Value k p h s = record
+      { kind = k; is = refl; gives = closed _ _ _ (typed.rolls-Name p) (rule.scalar s) }
   scalar_fits Free k p h s = closed _ _ _ (typed.rolls-Name p) (rule.scalar s)
-  scalar_fits Written k p h s = record { kind = k; is = refl; object = named refl (opened _ _ (typed.rolls-Name p)) s }
+  scalar_fits Written k p h s = record
+      { kind = k; is = refl; object = named refl (opened _ _ (typed.rolls-Name p)) s }
   scalar_fits (Array j q) k p h s = absurd (false≢true h)
   scalar_fits Surplus k p h s = tt
 

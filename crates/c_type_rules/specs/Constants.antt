@@ -7,8 +7,8 @@ use Rattle.c_tree.specs.declared.tree.Expr.{Expr}
 use Rattle.c_tree.specs.declared.tree.ExprNode.TheVariants as node
 use Rattle.c_type_expr.specs.declared.meaning.Meaning.TheVariants as meaning
 use Rattle.c_type_expr.specs.Scope.{Scope, look_up}
-use Rattle.c_type_expr.specs.Says.{at}
-use Rattle.c_type_expr.specs.Constants.{length_of}
+use Rattle.c_type_expr.specs.Roles.{at}
+use Rattle.c_constant.specs.Constant.{length_of}
 
 -- the expression is made of numbers, `EOF` of the include, groups, casts, and unary, binary and choice
 -- operators alone

@@ -8,8 +8,7 @@ use Rattle.c_tree.specs.declared.tree.TopNode.{TopNode}
 use Rattle.c_tree.specs.declared.tree.TopNode.TheVariants.{Include, Func}
 use Rattle.c_tree.specs.declared.typed.Callee.{Callee}
 use Rattle.c_tree.specs.declared.typed.Callee.TheVariants as callee
-use Rattle.c_type.specs.Units.{getchar_name, putchar_name}
-use Rattle.c_type.specs.Programs.{count_after}
+use Rattle.c_type.specs.FileScopes.{getchar_name, putchar_name, count_after}
 
 -- Behind n definitions of functions the item defines the name: a definition is the unit's n-th,
 -- counted from 0, and the include stands for definitions of its two functions.

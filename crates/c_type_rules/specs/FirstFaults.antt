@@ -11,7 +11,7 @@ use Rattle.c_constant.specs.Constant.{constant, ends}
 use Rattle.c_constant.specs.Need.{need_fits}
 use Rattle.c_type_expr.specs.declared.fault.TypeFault.{TypeFault}
 use Rattle.c_type_expr.specs.declared.fault.TypeFault.TheVariants.{Memory}
-use Rattle.c_type_expr.specs.Roles.{Blame}
+use Rattle.c_type_expr.specs.Blames.{Blame}
 use Rattle.c_type_expr.specs.Typed.{Typed}
 use Rattle.c_type.specs.declared.file_scope.FileScope.{FileScope}
 use Rattle.c_type.specs.declared.state.State.{State}

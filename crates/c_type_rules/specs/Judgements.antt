@@ -20,8 +20,8 @@ use Rattle.c_type_expr.specs.Scope.{Scope, look_up}
 use Rattle.c_type_expr.specs.declared.fault.TypeFault.TheVariants.{Mismatch}
 use Rattle.c_type_expr.specs.declared.role.Role.{Role}
 use Rattle.c_type_expr.specs.declared.role.Role.TheVariants.{Value, Free}
-use Rattle.c_type_expr.specs.Roles.{Blame, unless, left_role}
-use Rattle.c_type_expr.specs.Faults.{unwanted_value, name_fault, element_fault, call_fault}
+use Rattle.c_type_expr.specs.Blames.{Blame, unless}
+use Rattle.c_type_expr.specs.Faults.{unwanted_value, name_fault, element_fault, call_fault, left_role}
 use Rattle.c_type_expr.specs.Faults.{slots_of, role_at, rest_of, is_place}
 use Rattle.c_type_expr.specs.Constants.{name_fixed, no_constant, calls_known}
 use Rattle.c_type.specs.declared.file_scope.FileScope.{FileScope}

@@ -18,7 +18,8 @@ use Rattle.c_tree.specs.declared.typed.TypedForInit.TheOpen.{First, Locals}
 use Rattle.c_tree.specs.TypedTrees.{node_of}
 use Rattle.c_constant.specs.Kinds.{IsWord, promoted}
 use Rattle.c_type.specs.declared.state.Around.{Around}
-use Rattle.c_type.specs.Statements.{in_loop, in_switch, label_among}
+use Rattle.c_type.specs.Statements.{label_among}
+use Rattle.c_type.specs.States.{in_loop, in_switch}
 use Rattle.c_type_rules.specs.Expressions.{Gives, Has}
 use Rattle.c_type_rules.specs.Needs.{FitsNeed}
 

@@ -19,25 +19,25 @@ use Rattle.c_tree.specs.declared.tree.StmtNode.{StmtNode, out-StmtNode}
 use Rattle.c_tree.specs.declared.tree.Top.{Top}
 use Rattle.c_tree.specs.declared.tree.TopNode.{TopNode}
 use Rattle.c_tree.specs.declared.tree.TopNode.TheVariants.{Include, Global, Func}
-use Rattle.c_constant.specs.Constant.{constant, ends}
+use Rattle.c_constant.specs.Constant.{constant, ends, length_of}
 use Rattle.c_type_expr.specs.Scope.{Scope, look_up}
 use Rattle.c_type_expr.specs.declared.fault.TypeFault.TheVariants.{Twice, Mismatch, NoMain, TooManyScalars}
 use Rattle.c_type_expr.specs.declared.fault.TypeFault.TheVariants.{TooManyParams}
 use Rattle.c_type_expr.specs.declared.role.Role.TheVariants.{Value, Free}
-use Rattle.c_type_expr.specs.Roles.{unless}
-use Rattle.c_type_expr.specs.Constants.{value_fault, need_fault, length_of}
+use Rattle.c_type_expr.specs.Blames.{unless}
+use Rattle.c_type_expr.specs.Constants.{value_fault, need_fault}
 use Rattle.c_type.specs.declared.file_scope.FileScope.{FileScope}
 use Rattle.c_type.specs.declared.state.State.{State}
 use Rattle.c_type.specs.declared.state.Around.{Around}
-use Rattle.c_type.specs.States.{entered, with_scalar, with_switch}
+use Rattle.c_type.specs.States.{entered, with_scalar, with_switch, nowhere, in_loop, in_switch}
 use Rattle.c_type.specs.Declarations.{extent, scalar_fault, array_fault, no_init}
-use Rattle.c_type.specs.Statements.{nowhere, in_loop, in_switch, part, all_after, beginning_of}
-use Rattle.c_type.specs.Statements.{switch_kind, label_word, label_among, return_fault}
+use Rattle.c_type.specs.Statements.{part, all_after, beginning_of, switch_kind, label_word, label_among, return_fault}
 use Rattle.c_type.specs.Statements.{labels_in, statements_in}
-use Rattle.c_type.specs.Units.{include_fault, function_fault, place_fault, count_of, global_names}
-use Rattle.c_type.specs.Units.{all_values, init_fits}
-use Rattle.c_type.specs.Functions.{slot_of, name_fault, row_bytes_fault, with_params, started, entry}
-use Rattle.c_type.specs.Programs.{table, item_after, empty_file, whole, is_main, main_name}
+use Rattle.c_type.specs.Units.{include_fault, function_fault, place_fault, count_of, init_fits}
+use Rattle.c_type.specs.FileScopes.{global_names, all_values, empty_file, main_name}
+use Rattle.c_type.specs.Functions.{name_fault, row_bytes_fault, entry}
+use Rattle.c_type.specs.States.{slot_of, with_params, started}
+use Rattle.c_type.specs.Programs.{table, item_after, whole, is_main}
 use Rattle.c_type_rules.specs.Judgements.{Judgement, a_test, an_expression, a_full, an_optional}
 use Rattle.c_type_rules.specs.Judgements.{a_constant, a_full_constant, a_size, a_statement}
 use Rattle.c_type_rules.specs.Judgements.{some_statements, an_else, a_beginning, some_labels}

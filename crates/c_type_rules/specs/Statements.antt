@@ -22,15 +22,15 @@ use Rattle.c_constant.specs.Need.{need_fits}
 use Rattle.c_type_expr.specs.Scope.{Scope}
 use Rattle.c_type_expr.specs.declared.role.Role.{Role}
 use Rattle.c_type_expr.specs.declared.role.Role.TheVariants.{Value, Free}
-use Rattle.c_type_expr.specs.Trees.{kind_of, with_convert}
+use Rattle.c_type_expr.specs.Conversions.{kind_of, with_convert}
 use Rattle.c_type_expr.specs.Typed.{Typed}
 use Rattle.c_type.specs.declared.state.State.{State}
 use Rattle.c_type.specs.declared.state.Around.{Around}
-use Rattle.c_type.specs.States.{at, entered, left, with_scalar, with_array, with_switch}
-use Rattle.c_type.specs.Statements.{in_loop, in_switch, label_among, sectioned}
+use Rattle.c_type.specs.States.{at, entered, left, with_scalar, with_array, with_switch, is_taken}
+use Rattle.c_type.specs.Statements.{label_among}
+use Rattle.c_type.specs.States.{in_loop, in_switch, sectioned}
 use Rattle.c_constant.specs.Kinds.{bytes, promoted, converted}
 use Rattle.c_constant.specs.Constant.{constant, ends}
-use Rattle.c_type.specs.Declarations.{is_taken}
 use Rattle.c_type_rules.specs.Constants.{IsConstant, Size}
 
 -- a full expression, whose need is at most the limit

@@ -25,23 +25,18 @@ use Rattle.c_tree.specs.declared.typed.TypedProgram.{TypedProgram}
 use Rattle.c_tree.specs.declared.typed.TypedStmt.{TypedStmt}
 use Rattle.c_tree.specs.declared.typed.TypedStmt.TheVariants as typed
 use Rattle.c_constant.specs.Kinds.{converted}
-use Rattle.c_constant.specs.Constant.{constant, ends}
+use Rattle.c_constant.specs.Constant.{constant, ends, length_of}
 use Rattle.c_constant.specs.Need.{need_fits}
 use Rattle.c_type_expr.specs.declared.meaning.Meaning.{Meaning}
 use Rattle.c_type_expr.specs.declared.meaning.Meaning.TheVariants as meaning
 use Rattle.c_type_expr.specs.Scope.{Scope, look_up, closed}
 use Rattle.c_type.specs.declared.file_scope.FileScope.{FileScope}
 use Rattle.c_type.specs.declared.state.State.{State}
-use Rattle.c_type.specs.States.{at}
+use Rattle.c_type.specs.States.{at, nowhere, is_end, is_taken, row_in, slot_of, named_among, with_params, started}
 use Rattle.c_constant.specs.Kinds.{bytes}
-use Rattle.c_type.specs.Declarations.{is_end, is_taken, row_in}
-use Rattle.c_type_expr.specs.Constants.{length_of}
-use Rattle.c_type.specs.Statements.{nowhere}
-use Rattle.c_type.specs.Units.{eof_name, getchar_name, putchar_name, int_slots, with_include, global_names, length_in}
-use Rattle.c_type.specs.Units.{all_values}
-use Rattle.c_type.specs.Signatures.{prototype_names}
-use Rattle.c_type.specs.Functions.{slot_of, named_among, with_params, started, body_entry}
-use Rattle.c_type.specs.Programs.{empty_file, main_name, number_in}
+use Rattle.c_type.specs.FileScopes.{eof_name, getchar_name, putchar_name, int_slots, with_include, global_names}
+use Rattle.c_type.specs.FileScopes.{length_in, prototype_names, body_entry, empty_file, main_name, number_in}
+use Rattle.c_type.specs.FileScopes.{all_values}
 use Rattle.c_type_rules.specs.Constants.{IsConstant, Size}
 use Rattle.c_type_rules.specs.Definitions.{CallsIn}
 use Rattle.c_type_rules.specs.Statements.{Types, TypesAll}

@@ -11,7 +11,7 @@ use Rattle.c_tree.specs.declared.typed.TypedGlobal.{TypedGlobal}
 use Rattle.c_tree.specs.declared.typed.TypedProgram.{TypedProgram}
 use Rattle.c_tree.specs.declared.typed.TypedStmt.{out-TypedStmt}
 use Rattle.c_constant.specs.Kinds.{bytes, IsWord}
-use Rattle.c_type.specs.Statements.{nowhere}
+use Rattle.c_type.specs.States.{nowhere}
 use Rattle.c_type_rules.specs.KeptStatements.{WellFormedStmt}
 
 -- the condition holds of each of the list

@@ -1,8 +1,10 @@
-//! The typing relation of statements, functions and translation units (C17 6.7 to 6.9), and that it
-//! is what the typing computes.
+//! The typing relation of statements, functions and translation units (C17 6.7 to 6.9), and that it is what the
+//! typing computes; and what every typed program satisfies, so that whoever takes one need not look at how it was
+//! typed. All are public laws: nothing here runs.
 //!
-//! What typed programs satisfy, as a public law: whoever takes a typed program need not look at how
-//! it was typed.
+//! The relation stands in specs/Statements, specs/Definitions, specs/Constants and specs/Units, first faults in
+//! specs/Order, specs/Judgements and specs/FirstFaults, and typed programs that are well formed in specs/WellFormed,
+//! with specs/Expressions, specs/KeptStatements and specs/Objects.
 #![tactic(auto)]
 
 mod exact;

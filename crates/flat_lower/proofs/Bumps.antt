@@ -342,7 +342,8 @@ module _ (P : TypedProgram) (most : ℕ) (S : Scene) (y : IsScene P S) where
       let at = addressed P (functions P most) (base P most) k w z.it.at in
       let pa = address_puts P (functions P most) (base P most) S y p k q i.number s g v.keeps.rel t i.array z 80
       (temp d) w (omega arith) (λ e. omega arith) (λ e. omega arith) v.is in
-      let ke = keeps_set P most S y d f0 g pa.to s 80 81 at (omega arith) (omega arith) (omega arith) v.keeps pa.sets in
+      let ke = keeps_set P most S y d f0 g pa.to s 80 81 at (omega arith) (omega arith)
+          (omega arith) v.keeps pa.sets in
       moved most (Valued S d (Some k) f0) (run P most S y (Then a b) g)
       (run P most S y b pa.to) pa.t top low (bump_object o (Some k) s (InArray i.number w))
       (then_moves checked (functions P most) (base P most) S.env a b g pa.to pa.t pa.leads)

@@ -60,7 +60,7 @@ use Rattle.flat_lower.proofs.Simple.{FollowsHere}
 use Rattle.flat_lower.proofs.Entered.{ArgsAre, args_count, called_scene, called_is, begins}
 use Rattle.flat_lower.proofs.Entered.{frame_is}
 use Rattle.flat_lower.proofs.Returns.{FollowsRun, lowered_of, lowered_is, call_dives}
-use Rattle.flat_lower.proofs.Comes.{comes_back}
+use Rattle.flat_lower.proofs.CallsFollow.{comes_back}
 use Rattle.flat_lower.proofs.Arguments.{args_follow}
 
 -- a function by its number

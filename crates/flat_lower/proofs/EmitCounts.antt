@@ -51,7 +51,8 @@ abbrev pub count_block : List TypedStmt → ℕ
 count_block all = stmts_in_all (block_of all)
 
 -- some statements are emitted, and `rest` are to come
-pub record StmtsSoFar (c : Context) (around : Around) (all rest : List TypedStmt) (old code : List FlatStmt) : Type 0 where
+pub record StmtsSoFar (c : Context) (around : Around) (all rest : List TypedStmt)
+    (old code : List FlatStmt) : Type 0 where
   pub written : Then (code_of code) (stmts_code c around (block_of rest))
       ≡ Then (code_of old) (stmts_code c around (block_of all))
   pub fewer : count_block rest ≤ count_block all

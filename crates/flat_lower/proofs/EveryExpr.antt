@@ -42,7 +42,7 @@ use Rattle.flat_lower.proofs.Simple.{FollowsHere, number_node, name_node, unary_
 use Rattle.flat_lower.proofs.Simple.{element_node, convert_end}
 use Rattle.flat_lower.proofs.RowNodes.{row_element_node}
 use Rattle.flat_lower.proofs.Binary.{strict_node, depth_is}
-use Rattle.flat_lower.proofs.Legs.{choice_node, comma_node, and_node, or_node}
+use Rattle.flat_lower.proofs.ChoicesFollow.{choice_node, comma_node, and_node, or_node}
 use Rattle.flat_lower.proofs.Bumps.{bump_node}
 use Rattle.flat_lower.proofs.Assigns.{assign_node}
 use Rattle.flat_lower.proofs.Returns.{FollowsRun}

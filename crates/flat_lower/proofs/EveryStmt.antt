@@ -49,11 +49,11 @@ use Rattle.flat_lower.proofs.Follows.{leaves_first}
 use Rattle.flat_lower.proofs.Related.{Scene, IsScene, scope, context, Related, sets_unseen}
 use Rattle.flat_lower.proofs.Values.{Valued, value_at, kept_at, functions, base, FollowsOf, run}
 use Rattle.flat_lower.proofs.Values.{code, operand_in, spending_in}
-use Rattle.flat_lower.proofs.Legs.{is_true}
+use Rattle.flat_lower.proofs.ChoicesFollow.{is_true}
 use Rattle.flat_lower.proofs.Returns.{EndedIn, FollowsRun}
 use Rattle.flat_lower.proofs.EveryExpr.{expr_follows}
-use Rattle.flat_lower.proofs.Ends.{EndsHere, nothing_left, declare_ends, break_ends}
-use Rattle.flat_lower.proofs.Ends.{continue_ends, return_ends, value_ends}
+use Rattle.flat_lower.proofs.LeafStatements.{EndsHere, nothing_left, declare_ends, break_ends}
+use Rattle.flat_lower.proofs.LeafStatements.{continue_ends, return_ends, value_ends}
 use Rattle.flat_lower.proofs.PlainEnds.{plain_ends_in}
 use Rattle.flat_lower.proofs.Loops.{so_part, after, so_falls, loop_of, post_of, stmt as stmt_at}
 use Rattle.flat_lower.proofs.Loops.{FollowsTurn, FollowsDo, turn_follows, do_follows, so_loop}

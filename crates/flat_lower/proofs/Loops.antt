@@ -39,9 +39,9 @@ use Rattle.flat_lower.proofs.Follows.{Post, Settles, Follows, FollowsIn, moved, 
 use Rattle.flat_lower.proofs.Related.{Scene, IsScene, scope, context, Related, recounted}
 use Rattle.flat_lower.proofs.Values.{Valued, valued_settles, value_at, kept_at, functions, base}
 use Rattle.flat_lower.proofs.Values.{FollowsOf, run, code, operand}
-use Rattle.flat_lower.proofs.Legs.{is_true}
+use Rattle.flat_lower.proofs.ChoicesFollow.{is_true}
 use Rattle.flat_lower.proofs.Returns.{Ended, EndedIn, FollowsRun}
-use Rattle.flat_lower.proofs.Ends.{EndsHere, just_breaks}
+use Rattle.flat_lower.proofs.LeafStatements.{EndsHere, just_breaks}
 
 module _ (P : TypedProgram) (most : ℕ) where
   -- a body under a word that was tested, and a turn up to its body's end: where the test fails the
@@ -289,7 +289,8 @@ module _ (P : TypedProgram) (most : ℕ) where
       (part_ends S y test body s (counted f) up down (λ e. he e s (omega arith)) hs tt0 tb
       (omega arith) (recounted S s f r) (omega arith) (omega arith))
       (omega arith) (omega (arith, mul-suc most f.rounds))
-      (λ v s1 g t1 eq rel us ds. let falls = turn_falls test body s v s1 eq in next post refl s1 g t1 falls rel us ds))
+      (λ v s1 g t1 eq rel us ds. let falls = turn_falls test body s v s1 eq in
+          next post refl s1 g t1 falls rel us ds))
     where
       next : (p : Option TypedExpr) → post ≡ p → (s1 : eval.State) (g : State) (t1 : ℕ)
           → s1.stock < s.stock → Related S s1 g → t1 + 8 * s1.stock ≤ 8 * s.stock - 1

@@ -174,7 +174,8 @@ stored_same o row m n h s = record {
 }
   where
     same : (i : ℕ) → i < o.length → SameOn n m (element_at o i) (bytes o.kind)
-    same i lt j jt = let k = element_in o.kind o.at o.length i lt in h (element_at o i + j) (omega arith) (omega arith)
+    same i lt j jt = let k = element_in o.kind o.at o.length i lt in
+        h (element_at o i + j) (omega arith) (omega arith)
 
 pub all_same : (lo hi : ℕ) (os : List Object) (rows : List (List (Option ℕ))) (m n : Memory)
     → Laid lo hi os → ((b : ℕ) → lo ≤ b → b < hi → n b ≡ m b) → AllStored os rows m

@@ -38,7 +38,7 @@ use Rattle.flat_lower.proofs.Values.{functions, base, FollowsOf, spending}
 use Rattle.flat_lower.specs.declared.around.Around.TheVariants as around
 use Rattle.flat_lower.specs.declared.around.Around.{Around}
 use Rattle.flat_lower.proofs.Returns.{Ended}
-use Rattle.flat_lower.proofs.Ends.{EndsHere, dropped_ends, set_end}
+use Rattle.flat_lower.proofs.LeafStatements.{EndsHere, dropped_ends, set_end}
 
 -- THE TWO CASES
 

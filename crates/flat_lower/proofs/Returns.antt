@@ -124,7 +124,8 @@ module _ (P : TypedProgram) (most : ℕ) where
   lowered_is f b = record { scalars = refl; arrays = refl }
 
   -- a call that begins in a state, where frames take some bytes
-  module _ (used : ℕ) (j : ℕ) (f : TypedFunc) (found : slice_get P.functions j ≡ Some f) (vs : List ℕ) (c : State) where
+  module _ (used : ℕ) (j : ℕ) (f : TypedFunc) (found : slice_get P.functions j ≡ Some f) (vs : List ℕ)
+      (c : State) where
     abbrev called : Function
     called = lowered_of f (nat_eq j P.main)
 
@@ -209,7 +210,8 @@ module _ (P : TypedProgram) (most : ℕ) where
 
     kept_var : (to o : Option ℕ) (v : ℕ) → v < 80 → (to ≡ Some v → ⊥)
         → result_put (λ v. cond (stays v) (g.vars v) None) to o v ≡ g.vars v
-    kept_var None o v lt n = let e : nat_lt v 80 ≡ true = grind (arith, nat_tests) in ap (λ b. cond b (g.vars v) None) e
+    kept_var None o v lt n = let e : nat_lt v 80 ≡ true = grind (arith, nat_tests) in
+        ap (λ b. cond b (g.vars v) None) e
     kept_var (Some t) o v lt n =
         let e : nat_lt v 80 ≡ true = grind (arith, nat_tests) in
         put_other (λ v. cond (stays v) (g.vars v) None) t o v (λ q. n (ap Some (sym q)))

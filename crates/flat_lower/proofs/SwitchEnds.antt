@@ -35,7 +35,7 @@ use Rattle.flat_lower.proofs.Follows.{FollowsIn, moved_in, continues_in}
 use Rattle.flat_lower.proofs.Related.{Scene, IsScene, scope, Related, recounted}
 use Rattle.flat_lower.proofs.Values.{functions, base, run}
 use Rattle.flat_lower.proofs.Returns.{EndedIn, LeftBy}
-use Rattle.flat_lower.proofs.Ends.{EndsHere, nothing_left, continue_ends}
+use Rattle.flat_lower.proofs.LeafStatements.{EndsHere, nothing_left, continue_ends}
 use Rattle.flat_lower.proofs.Loops.{loop_of}
 use Rattle.flat_lower.proofs.SwitchLabels.{Choice, Ends_there, Goes_to, sections_choose}
 use Rattle.flat_lower.proofs.SwitchSections.{RunTo, rest_of, FollowsBlock, skipping, sections_run}

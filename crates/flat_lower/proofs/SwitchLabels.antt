@@ -29,7 +29,7 @@ use Rattle.flat_lower.specs.FitsSwitches.{case_count, cases_in, free_sections, o
 use Rattle.flat_lower.proofs.Straight.{puts_let, var_read}
 use Rattle.flat_lower.proofs.Related.{Scene, IsScene, Related, sets_unseen, spent}
 use Rattle.flat_lower.proofs.Values.{functions, base, run}
-use Rattle.flat_lower.proofs.Ends.{left_with}
+use Rattle.flat_lower.proofs.LeafStatements.{left_with}
 
 same_leg : {A : Type 0} → (b : Bool) (a : A) → cond b a a ≡ a
 same_leg true a = refl
@@ -80,7 +80,8 @@ module _ (P : TypedProgram) (most : ℕ) (S : Scene) (y : IsScene P S) where
     pub rounds : to.rounds ≡ f.rounds
     pub leads : Leads (run P most S y a f) t (Broke to)
 
-  pub data Choice (all : List TypedSection) (a : Code) (f : State) (s : eval.State) (l c : ℕ) (r : Result) : Type 0 where
+  pub data Choice (all : List TypedSection) (a : Code) (f : State) (s : eval.State) (l c : ℕ)
+      (r : Result) : Type 0 where
     Ends_there : Stopped a f s c r → Choice all a f s l c r
     Goes_to : Found all a f s l c r → Choice all a f s l c r
 

@@ -37,7 +37,7 @@ use Rattle.flat_lower.proofs.Follows.{ends_in, leaving_in}
 use Rattle.flat_lower.proofs.Related.{Scene, IsScene, scope, context, Related, sets_unseen}
 use Rattle.flat_lower.proofs.Values.{functions, base, run}
 use Rattle.flat_lower.proofs.Returns.{EndedIn}
-use Rattle.flat_lower.proofs.Ends.{EndsHere}
+use Rattle.flat_lower.proofs.LeafStatements.{EndsHere}
 
 -- what sections come to: behind them all temporary 0 is 0
 abbrev pub RunTo : Around → Scene → Post

@@ -23,7 +23,7 @@ use Rattle.flat_lower.proofs.Follows.{moved_in}
 use Rattle.flat_lower.proofs.Related.{Scene, IsScene, scope, Related, recounted}
 use Rattle.flat_lower.proofs.Values.{run}
 use Rattle.flat_lower.proofs.Returns.{EndedIn}
-use Rattle.flat_lower.proofs.Ends.{EndsHere}
+use Rattle.flat_lower.proofs.LeafStatements.{EndsHere}
 use Rattle.flat_lower.proofs.SwitchLabels.{Choice, Ends_there, Goes_to, sections_choose}
 use Rattle.flat_lower.proofs.SwitchSections.{rest_of, FollowsBlock, skipping, sections_run}
 use Rattle.flat_lower.proofs.SwitchCounts.{default_small, cases_small, count_is, drop_none, fits_drop}
@@ -91,13 +91,15 @@ module _ (P : TypedProgram) (most : ℕ) (S : Scene) (y : IsScene P S) where
           (compared (meaning P) w (targets all) [] s)
       by_choice (Ends_there x) =
           let c = few in
-          subst (λ q. EndsHere P most S y a (Then (only (Loop (compare_code all) Nop)) (run_code a all)) g top low q) (sym x.is)
+          subst (λ q. EndsHere P most S y a (Then (only (Loop (compare_code all) Nop)) (run_code a all)) g top low q)
+              (sym x.is)
           (record {
             t = suc x.t;
             r = suc g.rounds;
             upper = omega (arith, x.few);
             lower = omega (arith, mul-suc most g.rounds, x.all);
-            stops = loop_stops P most S y (compare_code all) (run_code a all) g x.t x.at.output (suc g.rounds) x.stops;
+            stops = loop_stops P most S y (compare_code all) (run_code a all) g x.t x.at.output
+                (suc g.rounds) x.stops;
           })
       by_choice (Goes_to x) =
           let c = few in
@@ -105,7 +107,8 @@ module _ (P : TypedProgram) (most : ℕ) (S : Scene) (y : IsScene P S) where
           let low1 : low ≤ x.at.stock + most * x.to.rounds = subst
           (λ c. low ≤ x.at.stock + most * c) (sym x.rounds)
           (omega (arith, mul-suc most g.rounds, x.left)) in
-          moved_in a most (EndedIn a S) (run P most S y (Then (only (Loop (compare_code all) Nop)) (run_code a all)) g)
+          moved_in a most (EndedIn a S) (run P most S y
+              (Then (only (Loop (compare_code all) Nop)) (run_code a all)) g)
           (run P most S y (run_code a all) x.to) (suc x.t) top low (compared (meaning P) w (targets all) [] s)
           (loop_left P most S y (compare_code all) (run_code a all) g x.t x.to x.leads) (omega (arith, x.few))
           (subst (λ q. EndsHere P most S y a (run_code a all) x.to (top - suc x.t) low q) (sym x.is)

@@ -15,7 +15,8 @@ use Rattle.ir_forms.specs.declared.flat.Arg.{Arg}
 use Rattle.ir_forms.specs.declared.flat.Arg.TheVariants.{Const, Var}
 use Rattle.ir_forms.specs.FlatCode.{Code, Nop, Then, only, Let, Loop, Function, Program}
 use Rattle.ir_forms.specs.FlatCode as flat
-use Rattle.flat_lower.specs.Tree.{Expr, Number, Name, Assign, Stmt, Declare, Plain, Compound, If, While, Do, For, Break}
+use Rattle.flat_lower.specs.Tree.{Expr, Number, Name, Assign, Stmt, Declare, Plain, Compound, If, While, Do}
+use Rattle.flat_lower.specs.Tree.{For, Break}
 use Rattle.flat_lower.specs.Tree.{Continue, Return, Stmts, NoStmts, WithStmt, First, Nothing}
 use Rattle.flat_lower.specs.Tree.{FirstOf, Locals, Func, Source}
 use Rattle.flat_lower.specs.TreeViews.{source_of}

@@ -1,8 +1,8 @@
 -- The flat code of switches, but for their statements.
 --
--- A switch is two loops that end with a break. The first compares the test's value, in temporary 0, with the labels in
--- their order, and leaves there how many sections are skipped. The second skips them, counting down to 0, and runs the
--- others. Where the switch stands in a loop, temporary 0 tells behind it whether a `continue` has left it.
+-- A switch is two loops that end with a break. The first compares the test's value, in temporary 0, with the labels
+-- in their order, and leaves there how many sections are skipped. The second skips them, counting down to 0, and runs
+-- the others. Where the switch stands in a loop, temporary 0 tells behind it whether a `continue` has left it.
 use Rattle.std.specs.Prelude.{ℕ, suc, ◌+◌, ◌||◌, Bool, true, false, cond, List, [], ◌∷◌, Option, Some, None}
 use Rattle.trips_isa.specs.declared.op.Op.TheVariants as op
 use Rattle.ir_forms.specs.declared.flat.Arg.TheVariants.{Const, Var}

@@ -1,5 +1,5 @@
-//! The flat code of expressions. What emits a node stands in a frame of its own, so that a level of the tree takes two
-//! small frames.
+//! The flat code of expressions. What emits a node stands in a frame of its own, so that a level of the tree takes
+//! two small frames.
 
 ghost use Rattle.std.specs.Prelude.{◌≡◌, suc, None, OnOk, IfOk};
 ghost use Rattle.c_tree.specs.declared.BinaryOp.TheVariants.{LogicalAnd, LogicalOr};

@@ -1,5 +1,6 @@
 -- How many blocks the code of expressions, statements and programs makes.
-use Rattle.std.proofs.Common.{ℕ, suc, ◌+◌, ◌*◌, ◌≤◌, Bool, true, false, List, [], ◌∷◌, Option, Some, None, refl, arith}
+use Rattle.std.proofs.Common.{ℕ, suc, ◌+◌, ◌*◌, ◌≤◌, Bool, true, false, List, [], ◌∷◌, Option, Some, None}
+use Rattle.std.proofs.Common.{refl, arith}
 use Rattle.std.specs.Prelude.{nat_eq}
 use Rattle.c_tree.specs.declared.Kind.{Kind}
 use Rattle.c_tree.specs.declared.BinaryOp.{BinaryOp}
@@ -15,7 +16,8 @@ use Rattle.ir_forms.specs.declared.flat.Arg.TheVariants.{Const, Var}
 use Rattle.ir_forms.specs.FlatCode.{Code, Nop, Then, only, Let}
 use Rattle.ir_forms.specs.FlatCode as flat
 use Rattle.ir_forms.specs.FlatFits.{code_blocks_of_all}
-use Rattle.flat_lower.specs.Tree.{Expr, Number, Name, Element, Call, Unary, Cast, Convert, Bump, Binary, Choice, Assign}
+use Rattle.flat_lower.specs.Tree.{Expr, Number, Name, Element, Call, Unary, Cast, Convert, Bump, Binary}
+use Rattle.flat_lower.specs.Tree.{Choice, Assign}
 use Rattle.flat_lower.specs.Tree.{Comma, Exprs, NoExprs, WithExpr, Stmt, Declare, Plain, Compound, If, While, Do, For}
 use Rattle.flat_lower.specs.Tree.{Break, Continue, Return, Stmts, NoStmts, WithStmt, First, Nothing, FirstOf, Locals}
 use Rattle.flat_lower.specs.Tree.{Func, RowElement, Switch, Sections, NoSections, WithSection, kind_of}

@@ -14,7 +14,7 @@ use Rattle.c_tree.specs.declared.typed.TypedForInit.{TypedForInit, roll-TypedFor
 use Rattle.c_tree.specs.declared.typed.TypedForInit.{out-TypedForInit, out-roll-TypedForInit}
 use Rattle.c_tree.specs.declared.typed.TypedFunc.{TypedFunc}
 use Rattle.c_constant.specs.Kinds.{same_kind}
-use Rattle.c_type_expr.specs.Trees.{a, kind_of, with_convert}
+use Rattle.c_type_expr.specs.Conversions.{a, kind_of, with_convert}
 use Rattle.c_tree.specs.TypedTrees.{Node}
 use Rattle.c_tree.specs.TypedTrees as level
 use Rattle.flat_lower.specs.TreeViews.{expr_of, expr_if, exprs_of, stmt_of, stmts_of, func_of}

@@ -7,9 +7,9 @@ use Rattle.c_tree.specs.declared.tree.TopNode.{TopNode}
 use Rattle.c_tree.specs.declared.typed.TypedGlobal.{TypedGlobal}
 use Rattle.c_tree.specs.declared.typed.TypedProgram.{TypedProgram}
 use Rattle.c_type.specs.declared.file_scope.FileScope.{FileScope}
-use Rattle.c_type.specs.Programs.{empty_file}
+use Rattle.c_type.specs.FileScopes.{empty_file}
 use Rattle.c_grammar.specs.Tokens.{Tokens, May, within}
-use Rattle.c_grammar.specs.Answers.{IsUnit, limit}
+use Rattle.c_grammar.specs.Accepted.{IsUnit, limit}
 use Rattle.c_grammar.specs.Units.{Phrase, globals, func, item, unit, Units}
 use Rattle.c_grammar.specs.Units as spelled
 use Rattle.c_grammar.proofs.Types.{types_shorter}

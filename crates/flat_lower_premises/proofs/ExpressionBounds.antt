@@ -14,8 +14,7 @@ use Rattle.c_type_expr.specs.Scope.{Scope}
 use Rattle.c_constant.specs.Kinds.{common}
 use Rattle.c_constant.specs.Operation.{left_at, right_at, result_of, unary_at, unary_result}
 use Rattle.c_type_expr.specs.declared.role.Role.{Role}
-use Rattle.c_type_expr.specs.Trees.{a, kind_of, with_convert, end_of_file, assigned_at}
-use Rattle.c_type_expr.specs.Trees.{assigned_from}
+use Rattle.c_type_expr.specs.Conversions.{a, kind_of, with_convert, end_of_file, assigned_at, assigned_from}
 use Rattle.c_type_expr.specs.Typed.{Typed, Passed, number, scalar, array, ending, element, row_element, call}
 use Rattle.c_type_expr.specs.Typed.{group, operator, conversion, step, operation, either}
 use Rattle.c_type_expr.specs.Typed.{assignment, sequence, none, value, address}

@@ -32,12 +32,15 @@ use Rattle.flat_lower.proofs.TreeFacts.{plain_node, expr_is, kind_is}
 use Rattle.flat_lower.proofs.Depths.{depth_fits}
 use Rattle.flat_lower.proofs.Calls.{func_at}
 use Rattle.flat_lower_premises.proofs.NodeNeeds.{need, level_needs, binary_left, binary_right}
-use Rattle.flat_lower_premises.proofs.NodeNeeds.{row_first, row_second, choice_test, choice_one, choice_other, comma_left}
+use Rattle.flat_lower_premises.proofs.NodeNeeds.{row_first, row_second, choice_test, choice_one}
+use Rattle.flat_lower_premises.proofs.NodeNeeds.{choice_other, comma_left}
 use Rattle.flat_lower_premises.proofs.NodeNeeds.{comma_right, Room, assign_room, arg_room, args_room}
 use Rattle.flat_lower_premises.proofs.Agrees.{unary_agrees, binary_agrees, compound_agrees}
 use Rattle.flat_lower_premises.proofs.Named.{scope, scalar_fits, array_fits, found_by}
-use Rattle.flat_lower_premises.proofs.ByNodes.{at_level, needs_at, room_at, assign_at, index_at, words_at, index_words}
-use Rattle.flat_lower_premises.proofs.ByNodes.{row_words, converted_words, call_room, right_named, right_indexed, right_row}
+use Rattle.flat_lower_premises.proofs.ByNodes.{at_level, needs_at, room_at, assign_at, index_at}
+use Rattle.flat_lower_premises.proofs.ByNodes.{words_at, index_words}
+use Rattle.flat_lower_premises.proofs.ByNodes.{row_words, converted_words, call_room, right_named}
+use Rattle.flat_lower_premises.proofs.ByNodes.{right_indexed, right_row}
 
 module _ (P : TypedProgram) (f : TypedFunc) (globals : Each GlobalFits P.globals) where
   abbrev c : Scope

@@ -13,8 +13,8 @@ use Rattle.c_tree.specs.declared.TypedStmt.{TypedStmt, out-TypedStmt}
 use Rattle.c_tree.specs.declared.TypedForInit.{TypedForInit, out-TypedForInit}
 use Rattle.c_tree.specs.TypedTrees.{Level, Beginning}
 use Rattle.c_type.specs.declared.state.Around.{Around as TypedAround}
-use Rattle.c_type.specs.Statements.{in_loop}
-use Rattle.c_type.specs.Statements as typed
+use Rattle.c_type.specs.States.{in_loop}
+use Rattle.c_type.specs.States as typed
 use Rattle.c_type_rules.specs.KeptStatements.{IsValue, IsTest, IsEffect, IsValueIf}
 use Rattle.c_type_rules.specs.KeptStatements.{IsTestIf, IsEffectIf, IsReturn, WellFormedStmt, RunsAll, Begins}
 use Rattle.c_type_rules.specs.KeptStatements.{RunsSections}

@@ -20,10 +20,8 @@ use Rattle.c_constant.proofs.Conversions.{converted_word}
 use Rattle.c_type_expr.specs.Scope.{Scope}
 use Rattle.c_type.specs.declared.file_scope.FileScope.{FileScope}
 use Rattle.c_type.specs.declared.state.State.{State}
-use Rattle.c_type.specs.Functions.{body_entry}
-use Rattle.c_type.specs.Programs.{empty_file}
-use Rattle.c_type.specs.Statements.{nowhere}
-use Rattle.c_type.specs.Units.{all_values, global_names}
+use Rattle.c_type.specs.States.{nowhere}
+use Rattle.c_type.specs.FileScopes.{all_values, global_names, body_entry, empty_file}
 use Rattle.c_type_rules.specs.Units.{Values, RowValues, Init, Body, Item, Items, Accepts}
 use Rattle.c_type_rules.specs.Units as typing
 use Rattle.flat_lower_premises.specs.Words.{AreWordsOf}

@@ -15,9 +15,8 @@ use Rattle.c_lex.specs.Constants.{is_plain}
 use Rattle.c_lex.specs.Constants as character
 use Rattle.c_lex.specs.Pieces.{Piece, word_form}
 use Rattle.c_lex.specs.Pieces as piece
-use Rattle.c_lex.specs.Lexes.{Tokens, Cut}
+use Rattle.c_lex.specs.Lexes.{Tokens, Cut, Lexed}
 use Rattle.c_lex.specs.Lexes as cut
-use Rattle.c_lex.specs.Answers.{Lexed}
 use Rattle.c_constant.specs.Kinds.{IsWord}
 use Rattle.flat_lower_premises.specs.Words.{FormHasWord, TokensHaveWords}
 

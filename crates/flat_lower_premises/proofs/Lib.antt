@@ -32,12 +32,12 @@ pub mod Rooms
 pub mod Expressions
 pub mod Statements
 pub mod Programs
-pub mod LimitCounts
+pub mod OperationLengths
 pub mod SectionNodes
 pub mod SwitchLengths
-pub mod LimitLengths
+pub mod CodeLengths
 pub mod BlockCounts
 pub mod SwitchBlocks
 pub mod BlockLengths
-pub mod Whole
-pub mod LimitStandardFacts
+pub mod LoweredSources
+pub mod WorkedSources

@@ -10,7 +10,7 @@ use Rattle.c_tree.specs.declared.TypedProgram.{TypedProgram}
 use Rattle.c_type_rules.specs.Objects.{Signature, signature, of_function, scalar_at, array_at, shape}
 use Rattle.c_type_rules.specs.WellFormed.{Each, GlobalFits}
 use Rattle.c_type_rules.proofs.Moves.{some_is}
-use Rattle.c_type_rules.proofs.Whole.{each_at}
+use Rattle.c_type_rules.proofs.WellFormedPrograms.{each_at}
 use Rattle.c_type_rules.proofs.Uses.{scalar_slot, array_slot, global_scalar_at, global_array_at}
 use Rattle.c_type_rules.proofs.Uses.{local_array_at}
 use Rattle.flat_lower.specs.TreeViews.{func_of, source_of}

@@ -12,7 +12,8 @@ use Rattle.c_grammar.specs.Statements as s
 use Rattle.c_grammar.specs.Units.{global, function}
 use Rattle.flat_lower_premises.specs.Nodes.{expr_nodes, stmt_nodes, unit_nodes}
 use Rattle.flat_lower_premises.proofs.TreeSizes.{nodes-Number, nodes-Group, nodes-Binary, nodes-Plain}
-use Rattle.flat_lower_premises.proofs.TreeSizes.{nodes-Compound, nodes-While, nodes-Return, nodes-Switch, nodes-section}
+use Rattle.flat_lower_premises.proofs.TreeSizes.{nodes-Compound, nodes-While, nodes-Return}
+use Rattle.flat_lower_premises.proofs.TreeSizes.{nodes-Switch, nodes-section}
 
 abbrev number : ℕ → Expr
 number v = at 1 (node.Number v Int)

@@ -14,7 +14,7 @@ use Rattle.c_tree.specs.declared.typed.TypedStmt.{out-roll-TypedStmt}
 use Rattle.c_tree.specs.declared.typed.TypedForInit.TheOpen as stmt
 use Rattle.c_constant.specs.Need.{Needs}
 use Rattle.c_tree.specs.TypedTrees.{node_of}
-use Rattle.c_type.specs.Statements.{nowhere}
+use Rattle.c_type.specs.States.{nowhere}
 use Rattle.c_type_rules.specs.Expressions.{Gives, Has}
 use Rattle.c_type_rules.specs.Expressions as rule
 use Rattle.c_type_rules.specs.Needs.{FitsNeed}

@@ -20,7 +20,7 @@ use Rattle.c_tree.specs.TypedTrees.{Level, Beginning}
 use Rattle.c_type_expr.specs.Scope.{Scope}
 use Rattle.c_type_expr.specs.declared.role.Role.{Role}
 use Rattle.c_constant.specs.Kinds.{promoted}
-use Rattle.c_type_expr.specs.Trees.{kind_of, with_convert}
+use Rattle.c_type_expr.specs.Conversions.{kind_of, with_convert}
 use Rattle.c_type.specs.declared.state.State.{State}
 use Rattle.c_type.specs.declared.state.Around.{Around}
 use Rattle.c_type_rules.specs.Statements.{FullIf, absent, present, Initialises, without_value}
@@ -39,7 +39,8 @@ use Rattle.flat_lower_premises.specs.LimitNodes as limits
 use Rattle.flat_lower_premises.specs.Nodes as nodes
 use Rattle.flat_lower_premises.proofs.TreeSizes.{nodes-Declare, nodes-Plain, nodes-Compound, nodes-If, nodes-While}
 use Rattle.flat_lower_premises.proofs.TreeSizes.{nodes-Do, nodes-For, nodes-Break, nodes-Continue, nodes-Return}
-use Rattle.flat_lower_premises.proofs.TreeSizes.{nodes-Switch, nodes-section, nodes-Nothing, nodes-First, nodes-Locals}
+use Rattle.flat_lower_premises.proofs.TreeSizes.{nodes-Switch, nodes-section, nodes-Nothing}
+use Rattle.flat_lower_premises.proofs.TreeSizes.{nodes-First, nodes-Locals}
 use Rattle.flat_lower_premises.proofs.CostTrees as cost_trees
 use Rattle.flat_lower_premises.proofs.CostTrees.{cost_if, body_cost, first_cost, bodies_cost}
 use Rattle.flat_lower_premises.proofs.TypedTreeSizes as sizes

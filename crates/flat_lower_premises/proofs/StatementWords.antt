@@ -28,11 +28,10 @@ use Rattle.c_type_expr.specs.Scope.{Scope}
 use Rattle.c_constant.specs.Kinds.{promoted}
 use Rattle.c_type_expr.specs.declared.role.Role.{Role}
 use Rattle.c_type_expr.specs.declared.role.Role.TheVariants.{Value, Free}
-use Rattle.c_type_expr.specs.Trees.{kind_of, with_convert}
+use Rattle.c_type_expr.specs.Conversions.{kind_of, with_convert}
 use Rattle.c_type.specs.declared.state.State.{State}
 use Rattle.c_type.specs.declared.state.Around.{Around}
-use Rattle.c_type.specs.States.{entered, with_scalar, with_switch}
-use Rattle.c_type.specs.Statements.{in_loop, in_switch, sectioned}
+use Rattle.c_type.specs.States.{entered, with_scalar, with_switch, in_loop, in_switch, sectioned}
 use Rattle.c_type_rules.specs.Statements.{FullIf, Initialises, Types, TypesAll, TypesIf, Begins}
 use Rattle.c_type_rules.specs.Statements.{TypesSections}
 use Rattle.c_type_rules.specs.Statements as typing

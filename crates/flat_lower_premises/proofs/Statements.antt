@@ -12,7 +12,8 @@ use Rattle.ir_forms.specs.declared.flat.Arg.TheVariants.{Const, Var}
 use Rattle.ir_forms.specs.FlatCode.{Code, Nop, Then, only, Function}
 use Rattle.ir_forms.specs.FlatCode as flat
 use Rattle.ir_forms.specs.FlatFits.{FitsVar, FitsArg}
-use Rattle.flat_lower.specs.Tree.{Expr, Number, Name, Assign, Stmt, Declare, Plain, Compound, If, While, Do, For, Break}
+use Rattle.flat_lower.specs.Tree.{Expr, Number, Name, Assign, Stmt, Declare, Plain, Compound, If, While, Do}
+use Rattle.flat_lower.specs.Tree.{For, Break}
 use Rattle.flat_lower.specs.Tree.{Continue, Return, Stmts, NoStmts, WithStmt, First, Nothing}
 use Rattle.flat_lower.specs.Tree.{FirstOf, Locals, Switch, Sections, NoSections, WithSection, kind_of}
 use Rattle.flat_lower.specs.declared.around.Around.{Around}
@@ -33,7 +34,8 @@ use Rattle.flat_lower.specs.Statements.{end_code, named_scalar, simple_arg, plai
 use Rattle.flat_lower.proofs.PlainEnds.{either_way}
 use Rattle.flat_lower_premises.specs.Jumps.{JumpsInLoops, AllJumpsInLoops, FirstJumpsInLoops}
 use Rattle.flat_lower_premises.specs.Jumps.{IsLeft, SectionsJumpInLoops}
-use Rattle.flat_lower_premises.proofs.Fitting.{Fitting, nothing_fits, single_fits, let_fits, if_fits, loop_fits, joined}
+use Rattle.flat_lower_premises.proofs.Fitting.{Fitting, nothing_fits, single_fits, let_fits, if_fits}
+use Rattle.flat_lower_premises.proofs.Fitting.{loop_fits, joined}
 use Rattle.flat_lower_premises.proofs.Fitting.{scalar_fits, temp_fits, scratch_fits}
 use Rattle.flat_lower_premises.proofs.Operations.{word_fits, copied_fits}
 use Rattle.flat_lower_premises.proofs.Places.{HasPlaces, FitsSide}

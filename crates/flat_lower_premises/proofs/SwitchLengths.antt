@@ -13,7 +13,7 @@ use Rattle.flat_lower.specs.Switches.{labels_code, compared_code, default_at, se
 use Rattle.flat_lower.specs.Switches.{section_code, switched_code}
 use Rattle.flat_lower_premises.specs.LimitNodes.{sections_nodes}
 use Rattle.flat_lower_premises.proofs.SectionNodes.{labels_nodes, bodies_nodes, in_two}
-use Rattle.flat_lower_premises.proofs.LimitCounts.{Takes, after, eased, none, one_more, chosen, looped}
+use Rattle.flat_lower_premises.proofs.OperationLengths.{Takes, after, eased, none, one_more, chosen, looped}
 
 -- JUMPS
 

@@ -24,8 +24,8 @@ use Rattle.c_constant.specs.Kinds.{same_kind, common}
 use Rattle.c_constant.specs.Operation.{left_at, right_at, unary_at}
 use Rattle.c_type_expr.specs.declared.role.Role.{Role}
 use Rattle.c_type_expr.specs.declared.role.Role.TheVariants.{Value, Free, Written, Array}
-use Rattle.c_type_expr.specs.Trees.{a, kind_of, with_convert, end_of_file, unary, binary, choice}
-use Rattle.c_type_expr.specs.Trees.{assign, assigned_at, assigned_from}
+use Rattle.c_type_expr.specs.Conversions.{a, kind_of, with_convert, end_of_file, unary, binary, choice}
+use Rattle.c_type_expr.specs.Conversions.{assign, assigned_at, assigned_from}
 use Rattle.c_type_expr.specs.Typed.{Typed, Passed}
 use Rattle.c_type_expr.specs.Typed as typing
 use Rattle.c_constant.specs.Kinds.{IsWord}

@@ -7,7 +7,7 @@ use Rattle.c_tree.specs.declared.tree.Top.{Top}
 use Rattle.c_grammar.specs.Tokens.{Tokens, May}
 use Rattle.c_grammar.specs.Units.{Phrase, Units}
 use Rattle.c_grammar.specs.Units as u
-use Rattle.c_grammar.specs.Answers.{IsUnit}
+use Rattle.c_grammar.specs.Accepted.{IsUnit}
 use Rattle.flat_lower_premises.specs.Words.{TokensHaveWords}
 use Rattle.flat_lower_premises.specs.Trees.{ExprIfHasWords, ExprsHaveWords, RowsHaveWords, SizeHasWords}
 use Rattle.flat_lower_premises.specs.Trees.{TopHasWords, UnitHasWords}

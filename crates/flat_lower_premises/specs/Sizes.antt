@@ -5,7 +5,7 @@ use Rattle.c_tree.specs.declared.token.Lexeme.{Lexeme}
 use Rattle.c_tree.specs.declared.tree.Program.{Program}
 use Rattle.c_tree.specs.declared.tree.Top.{Top}
 use Rattle.c_tree.specs.declared.typed.TypedProgram.{TypedProgram}
-use Rattle.c_grammar.specs.Answers.{IsUnit}
+use Rattle.c_grammar.specs.Accepted.{IsUnit}
 use Rattle.c_type_rules.specs.Units.{Accepts}
 use Rattle.ir_forms.specs.FlatFits.{code_blocks_of_all}
 use Rattle.ir_forms.specs.Limits.{most_statements}

@@ -3,7 +3,7 @@ ghost use Rattle.c_tree.specs.declared.token.Lexeme.{Lexeme};
 ghost use Rattle.c_tree.specs.declared.tree.Program.{Program};
 ghost use Rattle.c_tree.specs.declared.tree.Top.{Top};
 ghost use Rattle.c_tree.specs.declared.typed.TypedProgram.{TypedProgram};
-ghost use Rattle.c_grammar.specs.Answers.{IsUnit};
+ghost use Rattle.c_grammar.specs.Accepted.{IsUnit};
 ghost use Rattle.c_type_rules.specs.Units.{Accepts};
 
 /// A unit has no more items than tokens, and its typed program no more globals than the unit has

@@ -3,7 +3,7 @@
 ghost use Rattle.std.specs.Prelude.{List};
 ghost use Rattle.c_tree.specs.declared.token.Lexeme.{Lexeme};
 ghost use Rattle.c_tree.specs.declared.tree.Top.{Top};
-ghost use Rattle.c_grammar.specs.Answers.{IsUnit};
+ghost use Rattle.c_grammar.specs.Accepted.{IsUnit};
 ghost use Rattle.flat_lower_premises.specs.Words.{TokensHaveWords};
 ghost use Rattle.flat_lower_premises.specs.Trees.{UnitHasWords};
 

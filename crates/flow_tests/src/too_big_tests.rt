@@ -1,5 +1,5 @@
-//! Blocks with as much of a part as a block may have, which are taken, and with one more, which are refused for that part
-//! and its count; and that of two parts that are above their limits the first is said.
+//! Blocks with as much of a part as a block may have, which are taken, and with one more, which are refused for that
+//! part and its count; and that of two parts that are above their limits the first is said.
 
 use crate::making::{fork, going_on, reg, save, set};
 use base::Items;

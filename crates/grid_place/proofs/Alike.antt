@@ -23,8 +23,8 @@ use Rattle.block_cases.specs.Good.{GoodBlock}
 use Rattle.block_cases.proofs.Settled.{token_settled, token_solves, only_table}
 use Rattle.grid_place.specs.Moves.{Permutes, IsMoved, renamed_inst}
 use Rattle.grid_place.proofs.Renaming.{place_goes, place_stays}
-use Rattle.grid_place.proofs.Standing.{Standing, standing, node_goes, still_read, as_many}
-use Rattle.grid_place.proofs.Standing.{inst_moved}
+use Rattle.grid_place.proofs.MovedNodes.{Standing, standing, node_goes, still_read, as_many}
+use Rattle.grid_place.proofs.MovedNodes.{inst_moved}
 use Rattle.grid_place.proofs.Outcome.{first_alike, one_gives, token_alike, store_alike, given_alike}
 use Rattle.grid_place.proofs.Outcome.{leaves_silent}
 use Rattle.grid_place.proofs.Edges.{ranked_back}

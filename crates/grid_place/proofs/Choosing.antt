@@ -29,7 +29,7 @@ use Rattle.block_cases.proofs.Steady.{fire_same, settled, only_one}
 use Rattle.block_cases.proofs.AnyBits.{any_bits}
 use Rattle.grid_place.proofs.Found.{Once}
 use Rattle.grid_place.proofs.Renaming.{moved_node, names_same, eq_same}
-use Rattle.grid_place.proofs.Standing.{Standing}
+use Rattle.grid_place.proofs.MovedNodes.{Standing}
 use Rattle.grid_place.proofs.Outcome.{first_alike}
 use Rattle.grid_place.proofs.Edges.{node_back, ranked_back}
 use Rattle.grid_place.proofs.Totals.{total, led_apart, total_same, total_map, indices}

@@ -10,7 +10,7 @@ use Rattle.block_cases.specs.Nodes.{Walk, HasCycle}
 use Rattle.block_cases.specs.Nodes.Walk.{Step, Then}
 use Rattle.std.proofs.lemmas.Bool.Decides.{nat_tests}
 use Rattle.grid_place.proofs.Renaming.{moved_node, names_same}
-use Rattle.grid_place.proofs.Standing.{Standing}
+use Rattle.grid_place.proofs.MovedNodes.{Standing}
 
 module _ (ns ms : List Node) (place to from : ℕ → ℕ) (s : Standing ns ms place to from) where
   stored : (t n : ℕ) → (nat_le 416 (place t) && nat_lt (place t) n) ≡ (nat_le 416 t && nat_lt t n)

@@ -1,6 +1,6 @@
 pub mod Found
 pub mod Renaming
-pub mod Standing
+pub mod MovedNodes
 pub mod Outcome
 pub mod Edges
 pub mod Alike

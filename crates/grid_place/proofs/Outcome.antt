@@ -39,10 +39,10 @@ use Rattle.grid_place.specs.Moves.{Permutes, IsMoved, renamed_read, renamed_inst
 use Rattle.grid_place.proofs.Found.{Given, Once, taken_alike}
 use Rattle.grid_place.proofs.Renaming.{place_goes, left_goes, right_goes, place_stays}
 use Rattle.grid_place.proofs.Renaming.{moved_node, names_same}
-use Rattle.grid_place.proofs.Standing.{Standing, standing, node_goes, still_read, slot_goes}
-use Rattle.grid_place.proofs.Standing.{as_many}
-use Rattle.grid_place.proofs.Standing.{goes_read, read_at, inst_moved, slot_fits, past_end, read_is}
-use Rattle.grid_place.proofs.Standing.{slot_is, slot_low}
+use Rattle.grid_place.proofs.MovedNodes.{Standing, standing, node_goes, still_read, slot_goes}
+use Rattle.grid_place.proofs.MovedNodes.{as_many}
+use Rattle.grid_place.proofs.MovedNodes.{goes_read, read_at, inst_moved, slot_fits, past_end, read_is}
+use Rattle.grid_place.proofs.MovedNodes.{slot_is, slot_low}
 
 -- the same is given in the moved nodes
 module _ {A : Type 0} (ns ms : List Node) (place to from : ℕ → ℕ)

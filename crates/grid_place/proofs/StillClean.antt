@@ -23,8 +23,8 @@ use Rattle.block_cases.specs.Good.{GoodBlock}
 use Rattle.block_cases.proofs.Nodes.{slot_got}
 use Rattle.grid_place.specs.Moves.{Permutes, IsMoved, renamed_inst}
 use Rattle.grid_place.proofs.Renaming.{place_goes, moved_node}
-use Rattle.grid_place.proofs.Standing.{Standing, standing, node_goes, still_read, as_many}
-use Rattle.grid_place.proofs.Standing.{inst_moved, read_is, slot_is, slot_low}
+use Rattle.grid_place.proofs.MovedNodes.{Standing, standing, node_goes, still_read, as_many}
+use Rattle.grid_place.proofs.MovedNodes.{inst_moved, read_is, slot_is, slot_low}
 use Rattle.grid_place.proofs.Outcome.{token_alike}
 use Rattle.grid_place.proofs.Alike.{solves, same, moved_tokens}
 

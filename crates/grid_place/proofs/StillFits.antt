@@ -18,7 +18,7 @@ use Rattle.trips_isa.specs.Fits.{FitsNoTarget, FitsOneTarget, FitsSlot, FitsBloc
 use Rattle.block_cases.specs.Orders.{slot_of}
 use Rattle.grid_place.specs.Moves.{KeepsSlots, Permutes, IsMoved, renamed, renamed_read}
 use Rattle.grid_place.specs.Moves.{renamed_inst}
-use Rattle.grid_place.proofs.Standing.{slot_fits}
+use Rattle.grid_place.proofs.MovedNodes.{slot_fits}
 
 pub renamed_back : (p q : ℕ → ℕ) → ((s : ℕ) → q (p s) ≡ s) → (t : Spot)
     → renamed q (renamed p t) ≡ t

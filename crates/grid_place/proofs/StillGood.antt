@@ -21,8 +21,8 @@ use Rattle.block_cases.proofs.Placed.{nodes_placed}
 use Rattle.block_cases.proofs.Nodes.{slot_got}
 use Rattle.grid_place.specs.Moves.{Permutes, IsMoved}
 use Rattle.grid_place.proofs.Renaming.{place_goes, place_stays, place_back, place_low}
-use Rattle.grid_place.proofs.Standing.{Standing, standing, node_goes, as_many, read_is, slot_is}
-use Rattle.grid_place.proofs.Standing.{slot_low}
+use Rattle.grid_place.proofs.MovedNodes.{Standing, standing, node_goes, as_many, read_is, slot_is}
+use Rattle.grid_place.proofs.MovedNodes.{slot_low}
 use Rattle.grid_place.proofs.Edges.{ranked_acyclic}
 use Rattle.grid_place.proofs.Alike.{moved_ranked}
 use Rattle.grid_place.proofs.Choosing.{IsPlain, as_few, two_back, none_back}

@@ -20,7 +20,7 @@ use Rattle.block_cases.specs.Orders.{bad_slot_number, bad_number, has_item, None
 use Rattle.block_cases.specs.Orders.{IsInOrder}
 use Rattle.block_cases.specs.Good.{GoodBlock}
 use Rattle.grid_place.specs.Moves.{Permutes, IsMoved, renamed, renamed_read, renamed_inst}
-use Rattle.grid_place.proofs.Standing.{read_at, as_many}
+use Rattle.grid_place.proofs.MovedNodes.{read_at, as_many}
 use Rattle.grid_place.proofs.Alike.{moved_ranked}
 use Rattle.grid_place.proofs.StillGood.{good_nodes}
 

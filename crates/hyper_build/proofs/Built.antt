@@ -24,7 +24,7 @@ use Rattle.hyper_build.specs.Whole.{world_of, FitsWorld, EndsSo}
 use Rattle.hyper_build.specs.Laws.{built_program, FitsGroups, BuildKeepsMeaning}
 use Rattle.hyper_build.specs.Laws.{BuildGivesBlocks}
 use Rattle.hyper_build.specs.Smallness.{CutsAll, CutBlocksAreLittle}
-use Rattle.hyper_build.proofs.Little.{IsCutStmt, IsCutTree, IsCutRoutine, built_little}
+use Rattle.hyper_build.proofs.SmallBlocks.{IsCutStmt, IsCutTree, IsCutRoutine, built_little}
 use Rattle.hyper_build.proofs.Counts.{sizes_few}
 use Rattle.hyper_build.proofs.SoundWhole.{length_built, built_blocks}
 use Rattle.hyper_build.proofs.Plains.{plain_code}

@@ -25,7 +25,7 @@ use Rattle.trips_isa.proofs.WordLemmas.{alu_fits}
 use Rattle.hyper_build.specs.Premises.{AluGivesWords, StmtDoes, TreeDoes, TurnDoes}
 use Rattle.hyper_build.proofs.MergedTests.{LegDoes, loop_test_does}
 use Rattle.hyper_build.proofs.Straights.{item_does}
-use Rattle.hyper_build.proofs.Turns.{loop_does}
+use Rattle.hyper_build.proofs.LoopsFollow.{loop_does}
 use Rattle.hyper_build.specs.CallsClaim.{CallsClaim}
 use Rattle.hyper_build.proofs.Goes.{goes_here}
 use Rattle.hyper_build.proofs.Following.{kept_here, follows_then, settled, stands_here, has_front, has_back}
@@ -42,7 +42,8 @@ module _ (W : World) (built : IsBuilt W) (call : Calls) (follows : CallsFollow W
     (fr : IsFrame W start g) (words : AluGivesWords) where
   -- a statement, and what stands behind it
   then_follows : (p : Place) (b k1 k : Block) (s : State) (m : Machine) (n : ℕ) (r : Res) (next : State → ℕ → Res)
-      → Follows W (W.base + start + 8) (Rel W start g) b s m n 0 (ways_of p k1) r → Does W start g k1 (ways_of p k) next
+      → Follows W (W.base + start + 8) (Rel W start g) b s m n 0 (ways_of p k1) r
+          → Does W start g k1 (ways_of p k) next
       → Follows W (W.base + start + 8) (Rel W start g) b s m n 0 (ways_of p k) (then_run r next)
   then_follows p b k1 k s m n (Gone s1 n1) next f does =
       follows_then W (W.base + start + 8) (Rel W start g) b k1 s s1 m f.after n n1 f.j 0 0 (ways_of p k)
@@ -152,5 +153,6 @@ calls_follow W built (suc d) f g found used words low ws s m n back arity passed
     (enters W built call f g found used words low s m stack ws n back arity passed label faithful
     (λ fr has. tree_does W built call (calls_follow W built d) used g fr alu_gives g.body false
     (place_of g W.entries) (built.fits f g found).body
-    (record { frame = refl; arrays = refl; entries = λ i. refl; low = (omega arith, (omega arith, tt)) }) (body_label g (W.entries f)) (way_out g) has)
+    (record { frame = refl; arrays = refl; entries = λ i. refl; low = (omega arith, (omega arith, tt)) })
+        (body_label g (W.entries f)) (way_out g) has)
     (nat_lt frame_limit (used + frame g)) refl)

@@ -244,7 +244,8 @@ either_reached : (g : Ground) (b a : ℕ) (x : Arg) (one other : Code) (z : Bool
 either_reached g b a x one other true f1 f2 = item_reached g b a x one other
 either_reached g b a x one other false f1 f2 = test_reached g b a x one other f1 f2
 
-all_reached : (g : Ground) (b a : ℕ) (on : Bool) (x : Arg) (one other : Code) (s : Emission) (l i k : ℕ) (N : List Note)
+all_reached : (g : Ground) (b a : ℕ) (on : Bool) (x : Arg) (one other : Code) (s : Emission) (l i k : ℕ)
+    (N : List Note)
     → IsReached g b a one → IsReached g b a other
     → s.label ≡ l + size_in (annotated_in (plan g) i k on (If x one other))
     → s.place ≡ i + steps_in (If x one other) → s.calls ≡ k + calls_in (If x one other)
@@ -372,7 +373,8 @@ loop_reached false g b a body post note l i k N behind top o f1 f2 es el ei ek e
     let t1 = emit_turn g bl nl body s1 in
     let u = put_out t1 in
     let n1 = turn_notes (plan g) (l + 1) (i + 1) k body in
-    let r2 = f2 bl note.next start (next + 1) (i + 1 + steps_of body) (k + calls body) (N ++ n1) (el ∙ omega arith) ei ek en in
+    let r2 = f2 bl note.next start (next + 1) (i + 1 + steps_of body) (k + calls body) (N ++ n1)
+        (el ∙ omega arith) ei ek en in
     let enl : nl ≡ next = one_less t2.label next r2.label in
     let r1 = f1 bl nl s1 (l + 1) (i + 1) k N (enl ∙ omega arith) r2.place r2.calls r2.notes in
     let eul : u.label ≡ l = one_less t1.label l r1.label in

@@ -17,7 +17,8 @@ use Rattle.hyper_build.specs.Parts.{moved_blocks}
 use Rattle.hyper_build.specs.Passing.{saving, restoring, argument_moves, argument_cuts, result_then}
 use Rattle.hyper_build.specs.Passing.{parameter_moves, parameter_cuts}
 use Rattle.hyper_build.specs.Straight.{Place, in_loop, items_in, items_of, is_small_if, is_item}
-use Rattle.hyper_build.specs.Legs.{exit_leg, label_or, leg_blocks, leg_size, is_loop_test, is_bare, post_exit, post_size}
+use Rattle.hyper_build.specs.Legs.{exit_leg, label_or, leg_blocks, leg_size, is_loop_test, is_bare}
+use Rattle.hyper_build.specs.Legs.{post_exit, post_size}
 use Rattle.hyper_build.specs.Sizes.{arguments_size, size_in, size, turn_size, part_size}
 use Rattle.hyper_build.specs.Entries.{call_block, choose, body_end, entry_in, entry, test_entry, turn_entry}
 use Rattle.hyper_build.specs.Entries.{back_block}
@@ -311,7 +312,8 @@ break_none other e = ap small_ifs (break_is other e)
 -- what a loop's test asks of its leg
 abbrev LegIsKept : Place → Plan → ℕ → ℕ → Step → Type 0
 LegIsKept P p i n (If a one other) =
-    (l : ℕ) (k : Block) → AreKept one (entry P (annotated p (i + 1) n one) l k) (blocks P (annotated p (i + 1) n one) l k)
+    (l : ℕ) (k : Block) → AreKept one (entry P (annotated p (i + 1) n one) l k)
+        (blocks P (annotated p (i + 1) n one) l k)
 LegIsKept P p i n _ = Unit {0}
 
 -- its leg's small ifs are in its block and in those that the leg begins, and it does not leave

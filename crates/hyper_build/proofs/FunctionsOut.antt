@@ -34,7 +34,8 @@ use Rattle.hyper_build.specs.Forward.{numbers_start, number_all, entries_from}
 use Rattle.hyper_build.specs.Reached.{Reached}
 use Rattle.hyper_build.proofs.Reaching.{joined, mapped, rested, put_reached, before_reached, moving_reached}
 use Rattle.hyper_build.proofs.Emissions.{reached}
-use Rattle.hyper_build.proofs.NumbersForward.{routine_at, function_notes, all_notes, sizes_of, all_numbers, entries_are}
+use Rattle.hyper_build.proofs.NumbersForward.{routine_at, function_notes, all_notes, sizes_of}
+use Rattle.hyper_build.proofs.NumbersForward.{all_numbers, entries_are}
 
 -- WHAT THE CODE DOES
 

@@ -41,7 +41,8 @@ goes_then W b b1 b2 m m1 m2 j j1 g h = record {
       ap (λ k. run W.check W.at W.program k b m) e ∙ g.by (j1 + n) ∙ h.by n;
 }
 
-pub goes_count : (W : World) (b b1 : Block) (m m1 : Machine) (j i : ℕ) → j ≡ i → Goes W b m j b1 m1 → Goes W b m i b1 m1
+pub goes_count : (W : World) (b b1 : Block) (m m1 : Machine) (j i : ℕ) → j ≡ i → Goes W b m j b1 m1
+    → Goes W b m i b1 m1
 goes_count W b b1 m m1 j i e g = subst (λ k. Goes W b m k b1 m1) e g
 
 -- one whole block
@@ -55,7 +56,8 @@ goes_block W b b1 m m1 clean h = record {
       ap (λ k. run W.check W.at W.program k b m) e ∙ clean_next W.check (is_clean (acts b.items m)) _ _ clean ∙ h n;
 }
 
-pub goes_jump : (W : World) (l : ℕ) (b : Block) (m : Machine) → slice_get W.program l ≡ Some b → Goes W (jump l) m 1 b m
+pub goes_jump : (W : World) (l : ℕ) (b : Block) (m : Machine) → slice_get W.program l ≡ Some b
+    → Goes W (jump l) m 1 b m
 goes_jump W l b m e = goes_block W (jump l) b m m refl (λ n. ap (λ o. run W.check W.at W.program n (block_or o) m) e)
 
 pub goes_cut : (W : World) (c : Bool) (l : ℕ) (k : Block) (m : Machine) → Has W.program l (cut_blocks c k)
@@ -128,7 +130,8 @@ goes_load W r x k m good = goes_same W _ k m _ go
         (exit_of k.tail (after_items k.items m1).registers) (after_items k.items m1)))) good
 
 -- a word is stored
-pub goes_save : (W : World) (x y : Source) (k : Block) (m : Machine) → is_good_address (value_of m.registers x) 8 ≡ true
+pub goes_save : (W : World) (x y : Source) (k : Block) (m : Machine)
+    → is_good_address (value_of m.registers x) 8 ≡ true
     → Goes W (save_then Sd x y k) m 0 k (with_memory m
     (put_bytes m.memory (value_of m.registers x) 8 (value_of m.registers y)))
 goes_save W x y k m good = goes_same W _ k m _ go
@@ -146,7 +149,8 @@ goes_save W x y k m good = goes_same W _ k m _ go
 
 -- where faults are not looked for, any access
 skip_access : (W : World) (a s : ℕ) (n : Standing) (rest : List Act) → (W.check ≡ true → is_good_address a s ≡ true)
-    → cond (W.check && not (is_clean (Accessed a s ∷ rest))) Unclean n ≡ cond (W.check && not (is_clean rest)) Unclean n
+    → cond (W.check && not (is_clean (Accessed a s ∷ rest))) Unclean n
+        ≡ cond (W.check && not (is_clean rest)) Unclean n
 skip_access W a s n rest h = go W.check h
   where
     go : (c : Bool) → (c ≡ true → is_good_address a s ≡ true)

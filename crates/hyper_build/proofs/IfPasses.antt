@@ -51,7 +51,8 @@ test_out g b a x one other s =
     let first = leg_out e1 (emit g b a one (with_rest (jump join) second)) in
     leaving (test_block x (label_or first.label e1) (label_or second.label e2)) first
 
-emit_by : (g : Ground) (b a : ℕ) (on : Bool) (st : Step) (x : Arg) (one other : Code) (s : Emission) (n : ℕ) (joined z : Bool)
+emit_by : (g : Ground) (b a : ℕ) (on : Bool) (st : Step) (x : Arg) (one other : Code) (s : Emission) (n : ℕ)
+    (joined z : Bool)
     → st ≡ If x one other → n ≡ steps_in st → joined ≡ (plan g).joined (s.place - n)
     → is_if_item joined one other ≡ z
     → emit_in g b a on st s

@@ -25,11 +25,11 @@ pub mod LowRegisters
 pub mod Merges
 pub mod MergedTests
 pub mod Straights
-pub mod Turns
+pub mod LoopsFollow
 pub mod Sound
 pub mod Counts
 pub mod SoundWhole
-pub mod Little
+pub mod SmallBlocks
 pub mod FilledIfs
 pub mod StandardFacts
 pub mod Built

@@ -62,7 +62,8 @@ loop_out bare ends g body post note behind =
     cond bare (bare_out ends g body post note behind) (full_out ends g body post note behind)
 
 -- which it is decides
-emit_by : (g : Ground) (b a : ℕ) (on : Bool) (st : Step) (body post : Code) (s : Emission) (note : Note) (ends z : Bool)
+emit_by : (g : Ground) (b a : ℕ) (on : Bool) (st : Step) (body post : Code) (s : Emission) (note : Note)
+    (ends z : Bool)
     → st ≡ Loop body post → note ≡ last_note s.notes → ends ≡ (plan g).cut note.place
     → is_bare_code ends body post ≡ z
     → emit_in g b a on st s ≡ loop_out z ends g body post note (put_out s)

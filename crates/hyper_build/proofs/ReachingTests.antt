@@ -26,7 +26,8 @@ use Rattle.hyper_build.proofs.LoopTests.{break_steps, break_calls}
 use Rattle.hyper_build.proofs.Reaching.{joined, one_less, cut_reached}
 
 -- by a decision
-pub by_kind : (z : Bool) (o : List Block) (t u : Emission) (l i k : ℕ) (N : List Note) (B C : List Block) (E F : Block)
+pub by_kind : (z : Bool) (o : List Block) (t u : Emission) (l i k : ℕ) (N : List Note)
+    (B C : List Block) (E F : Block)
     → (z ≡ true → Reached o t l i k N B E) → (z ≡ false → Reached o u l i k N C F)
     → Reached o (cond z t u) l i k N (cond z B C) (choose z E F)
 by_kind true o t u l i k N B C E F f h = f refl

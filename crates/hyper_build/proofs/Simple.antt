@@ -21,7 +21,8 @@ use Rattle.ir_forms.specs.FlatSteps.{with_output, with_next}
 use Rattle.ir_forms.specs.HyperCode.{Block, Done, Set, Leave}
 use Rattle.ir_forms.specs.HyperRuns.{Machine, with_register, value_of, loaded, saved, run, block_or}
 use Rattle.ir_forms.specs.HyperRuns as machine
-use Rattle.hyper_build.specs.Tree.{Routine, LetAt, FrameAt, LoadAt, SaveAt, PutAt, GetAt, BreakAt, ContinueAt, ReturnAt}
+use Rattle.hyper_build.specs.Tree.{Routine, LetAt, FrameAt, LoadAt, SaveAt, PutAt, GetAt, BreakAt}
+use Rattle.hyper_build.specs.Tree.{ContinueAt, ReturnAt}
 use Rattle.hyper_build.specs.Parts.{source, capped, set_then, save_then, cut, cut_blocks, cut_size}
 use Rattle.hyper_build.specs.Straight.{Place}
 use Rattle.hyper_build.specs.World.{World, Has, Goes, Rel, Kept, AreBytes, IsFrame, frame, slots, checks_of}
@@ -47,7 +48,8 @@ pub turn_follow : (W : World) (lo : ℕ) (R : Relation) (b : Block) (s : State) 
     → m.output ≡ s.output → ((i : ℕ) → Follows W lo R b s m i 2 ways (go i))
     → Follows W lo R b s m n 0 ways (turn s n go)
 turn_follow W lo R b s m zero ways go out f = stands_here W b s m 0 0 out
-turn_follow W lo R b s m (suc i) ways go out f = follows_more W lo R b s m (suc i) i 2 0 ways (go i) (omega arith) (f i)
+turn_follow W lo R b s m (suc i) ways go out f =
+    follows_more W lo R b s m (suc i) i 2 0 ways (go i) (omega arith) (f i)
 
 pub variable_small : (n v : ℕ) → n ≤ 64 → is_variable n v ≡ true → v < 88
 variable_small n v le e = elim (or_cases (is_lasting n v) (nat_le 80 v && nat_lt v 88) e) [

@@ -22,7 +22,8 @@ use Rattle.hyper_build.specs.Parts.{Move, moved, moved_blocks, moved_size}
 use Rattle.hyper_build.specs.Passing.{saving, restoring, argument_moves, argument_cuts}
 use Rattle.hyper_build.specs.Passing.{result_then}
 use Rattle.hyper_build.specs.Straight.{Place, in_loop, straight, items_in, items_of, is_item}
-use Rattle.hyper_build.specs.Legs.{exit_leg, label_or, leg_blocks, leg_size, is_loop_test, is_bare, post_exit, post_size}
+use Rattle.hyper_build.specs.Legs.{exit_leg, label_or, leg_blocks, leg_size, is_loop_test, is_bare}
+use Rattle.hyper_build.specs.Legs.{post_exit, post_size}
 use Rattle.hyper_build.specs.Sizes.{arguments_size, size_in, size, test_size, turn_size, part_size}
 use Rattle.hyper_build.specs.Entries.{call_block, give, body_end, choose, entry_in}
 use Rattle.hyper_build.specs.Entries.{entry, test_entry, turn_entry}

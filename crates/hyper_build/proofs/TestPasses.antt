@@ -50,7 +50,8 @@ pub part_plain : (g : Ground) (b a : ℕ) (last on : Bool) (st : Step) (e : Emis
 part_plain g b a last on st e h =
     ap (part_by g b a on st e) (and_none last (is_test_step ((plan g).joined (e.place - steps_in st)) st) (h _))
 
-pub part_tests : (g : Ground) (b a : ℕ) (last on : Bool) (st : Step) (x : Arg) (one other : Code) (e : Emission) (n : ℕ)
+pub part_tests : (g : Ground) (b a : ℕ) (last on : Bool) (st : Step) (x : Arg) (one other : Code)
+    (e : Emission) (n : ℕ)
     (joined c : Bool) → st ≡ If x one other → n ≡ steps_in st → joined ≡ (plan g).joined (e.place - n)
     → last && (joined && is_break_code other) ≡ true → c ≡ (plan g).cut (e.place - n)
     → part_out g b a last on st e ≡ test_by g b a x one c e
@@ -78,7 +79,8 @@ pub numbers_plain : (g : Ground) (last on : Bool) (st : Step) (s : Numbering)
 numbers_plain g last on st s h =
     ap (number_by g on st s) (and_none last (is_test_step ((plan g).joined s.place) st) (h _))
 
-pub numbers_test : (g : Ground) (last on : Bool) (st : Step) (x : Arg) (one other : Code) (s : Numbering) (joined : Bool)
+pub numbers_test : (g : Ground) (last on : Bool) (st : Step) (x : Arg) (one other : Code) (s : Numbering)
+    (joined : Bool)
     → st ≡ If x one other → joined ≡ (plan g).joined s.place → last && (joined && is_break_code other) ≡ true
     → number_part (plan g) last on st s
     ≡ with_blocks (cut_size ((plan g).cut s.place)) (with_statement (number (plan g) one (with_statement s)))
@@ -86,7 +88,8 @@ numbers_test g last on st x one other s joined es ej q =
     ap (number_by g on st s) (kind_is last joined ((plan g).joined s.place) st x one other es ej ∙ q)
     ∙ ap (λ y. number_test (plan g) y s) es
 
-pub numbers_ifs : (g : Ground) (last on : Bool) (st : Step) (x : Arg) (one other : Code) (s : Numbering) (joined : Bool)
+pub numbers_ifs : (g : Ground) (last on : Bool) (st : Step) (x : Arg) (one other : Code) (s : Numbering)
+    (joined : Bool)
     → st ≡ If x one other → joined ≡ (plan g).joined s.place → last && (joined && is_break_code other) ≡ false
     → number_part (plan g) last on st s ≡ number_in (plan g) on st s
 numbers_ifs g last on st x one other s joined es ej q =

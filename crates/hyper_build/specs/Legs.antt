@@ -69,8 +69,8 @@ abbrev mutual
   continues Nop = false
   continues (s ▹ rest) = continues_in s || continues rest
 
--- Whether a loop's last part has no block of its own: it does nothing, or the body's block goes on with its operations
--- and nothing else leads to it.
+-- Whether a loop's last part has no block of its own: it does nothing, or the body's block goes on with its
+-- operations and nothing else leads to it.
 abbrev pub is_bare : Bool → Tree → Tree → Bool
 is_bare c body post = is_end post || (not c && (are_operations (plain post) && not (continues (plain body))))
 

@@ -43,8 +43,8 @@ fn is_break(stmts: &[FlatStmt]) -> bool
     }
 }
 
-/// Whether an if, which the plan joins or not, is the test of a loop: it is the last statement of the loop's body, and
-/// its second leg is a break alone.
+/// Whether an if, which the plan joins or not, is the test of a loop: it is the last statement of the loop's body,
+/// and its second leg is a break alone.
 pub fn is_loop_test(last: bool, joined: bool, no: &[FlatStmt]) -> bool
     ensures { result ≡ last && (joined && code.is_break_code (code_of no.now)) }
 {

@@ -257,8 +257,8 @@ impl Estimate {
     }
 
     /// A loop's test, with which its leg goes on in the same block, and the exit that leaves the loop. A `mov`
-    /// keeps the word. A bit is the test of the leg and of both exits; of another word `tnei` gives a bit for the leg,
-    /// and one for the exits.
+    /// keeps the word. A bit is the test of the leg and of both exits; of another word `tnei` gives a bit for the
+    /// leg, and one for the exits.
     pub fn merge(&mut self, x: Arg) {
         self.put(TEST, x);
         if self.is_bit(x) {

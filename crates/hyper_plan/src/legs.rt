@@ -20,7 +20,8 @@ pub struct Legs {
 }
 
 impl Estimate {
-    /// The test of an if that is an item. Gives the places that its bit names and nothing takes as yet; legs take them.
+    /// The test of an if that is an item. Gives the places that its bit names and nothing takes as yet; legs take
+    /// them.
     fn decide(&mut self, x: Arg) -> u8 {
         match x {
             Arg::Const(word) => {

@@ -485,7 +485,8 @@ module _ (c : Checks) (fs : List Function) (base : ℕ) where
       → exec c (call_at d) e (only (Call f xs to kept)) s m
       ≡ after_call s kept to (call_at d f ws e.used (counted s) k)
   call_is e f xs to kept s ws h d m k q =
-      let next = λ (m : ℕ). must (read_all c s xs) (λ ws. after_call s kept to (call_at d f ws e.used (counted s) m)) in
+      let next = λ (m : ℕ). must (read_all c s xs)
+          (λ ws. after_call s kept to (call_at d f ws e.used (counted s) m)) in
       ap (exec c (call_at d) e (only (Call f xs to kept)) s) q
       ∙ ap (λ r. then_run r settle)
       (ten_are s k next ∙ must_is (read_all c s xs) ws (λ ws. after_call s kept to

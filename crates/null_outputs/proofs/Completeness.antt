@@ -34,8 +34,8 @@ use Rattle.null_outputs.proofs.Tidy.{right_tidy, region_tidy, output_tidy, some_
 use Rattle.null_outputs.proofs.Firm.{sure_is_trusty}
 use Rattle.null_outputs.proofs.Wanted.{want_is_closed}
 use Rattle.null_outputs.proofs.Order.{has_order, nodes_fit, writes_fit}
-use Rattle.null_outputs.proofs.Whole.{completes, keeps, takes_one, new_exits, old_tidy, old_one, known}
-use Rattle.null_outputs.proofs.Whole.{at_trues, at_falses, at_lefts, at_rights, at_writes, at_numbers}
+use Rattle.null_outputs.proofs.CompletedMeaning.{completes, keeps, takes_one, new_exits, old_tidy, old_one, known}
+use Rattle.null_outputs.proofs.CompletedMeaning.{at_trues, at_falses, at_lefts, at_rights, at_writes, at_numbers}
 
 low_cond : (t : Bool) → cond {A = ℕ} t 1 0 ≤ 1
 low_cond true = omega arith

@@ -25,9 +25,9 @@ use Rattle.null_outputs.specs.Covers.{sense_cover, guard_cover, left_open, right
 use Rattle.null_outputs.specs.Covers.{node_cover, cover_at, cover_of, Cover, list_top, list_nodes}
 use Rattle.null_outputs.specs.Groups.{guard_group, guard_is, sense_is, is_used, guard_part, left_part}
 use Rattle.null_outputs.specs.Groups.{right_part}
-use Rattle.null_outputs.proofs.Heart.{lacks, bit, present_low, lack_two, parts, here, Covered, none_covered}
-use Rattle.null_outputs.proofs.Heart.{append_covered, as_covered, copy_covered, both_covered, EachCovered}
-use Rattle.null_outputs.proofs.Heart.{list_covered, guard_covered, node_there}
+use Rattle.null_outputs.proofs.NullsOnPaths.{lacks, bit, present_low, lack_two, parts, here, Covered, none_covered}
+use Rattle.null_outputs.proofs.NullsOnPaths.{append_covered, as_covered, copy_covered, both_covered, EachCovered}
+use Rattle.null_outputs.proofs.NullsOnPaths.{list_covered, guard_covered, node_there}
 use Rattle.null_outputs.proofs.Spaces.{obeys_at, some_is, same_eq}
 
 -- what a list has at an index
@@ -219,7 +219,8 @@ module _ (regs : ℕ → ℕ) (h : ℕ → Answer) (f : Computes) (b : FlowBlock
   at_node : (y : ℕ) (n : FlowNode) → slice_get b.nodes y ≡ Some n
       → Covered regs h (1 - present (h y)) (node_cover sure at y n)
       → Covered regs h (1 - present (h y)) (c (Node y))
-  at_node y n e x = subst (λ (o : Option FlowNode). Covered regs h (1 - present (h y)) (cover_at sure at y o)) (sym e) x
+  at_node y n e x = subst (λ (o : Option FlowNode). Covered regs h (1 - present (h y)) (cover_at sure at y o))
+      (sym e) x
 
   each_covered : (i : ℕ) → CoveredBelow i → (ss : List FlowSource) → All (FitsFlowSource b) ss
       → All (RisesFrom rank i) ss → EachWanted want ss → EachCovered regs h c ss
@@ -246,7 +247,8 @@ module _ (regs : ℕ → ℕ) (h : ℕ → Answer) (f : Computes) (b : FlowBlock
       let w = within b.nodes g.node fit in
       let x = at_node g.node w.0 w.1 (below g.node w.0 w.1 wg rise) in
       let o2 : Obeys regs f h p (guard_group p s g.node (c (Node g.node))) =
-      subst (λ (u : Bool). Obeys regs f h p (cond u (guard_group p s g.node (c (Node g.node))) [])) used (o w.0 w.1) in
+      subst (λ (u : Bool). Obeys regs f h p (cond u (guard_group p s g.node (c (Node g.node))) [])) used
+          (o w.0 w.1) in
       guard_covered regs h f p s g.node (c (Node g.node)) clear x o2
 
   sense_covered : (y : ℕ) (n : FlowNode) → slice_get b.nodes y ≡ Some n → want y ≡ true → (g : Guard)

@@ -11,7 +11,7 @@ use Rattle.null_outputs.specs.Groups.{stores_of, number_open}
 use Rattle.null_outputs.specs.inside.Listed.{write_part_by, write_size_by, filled_by, all_filled_by}
 use Rattle.null_outputs.specs.inside.Listed.{number_part_by, number_size_by, numbers_by}
 use Rattle.null_outputs.proofs.Spaces.{nodes_length, cond_length}
-use Rattle.null_outputs.proofs.Turns.{rest_of}
+use Rattle.null_outputs.proofs.RegionLoops.{rest_of}
 
 module _ (sure : Sure) (c : Cover) where
   pub write_by_length : (p j : ℕ) (w : FlowWrite) → length (write_part_by sure c p j w) ≡ write_size_by sure j w

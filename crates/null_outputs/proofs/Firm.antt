@@ -22,7 +22,7 @@ use Rattle.null_outputs.specs.Covers.{guard_on, left_open, right_open}
 use Rattle.null_outputs.specs.Surely.{Scope, Firm, same_sense, same_scope, has, scope_at, scope_of}
 use Rattle.null_outputs.specs.Surely.{scopes, split, close, is_always, ask, outer, reaches, sure_of}
 use Rattle.null_outputs.specs.Surely.{is_firm, firm_of, firms_from, firms, sure_by}
-use Rattle.null_outputs.proofs.Heart.{all_there, here, node_there}
+use Rattle.null_outputs.proofs.NullsOnPaths.{all_there, here, node_there}
 use Rattle.null_outputs.proofs.Spaces.{obeys_at, some_is}
 use Rattle.null_outputs.proofs.Covers.{all_at}
 
@@ -171,7 +171,8 @@ module _ (regs : ℕ → ℕ) (h : ℕ → Answer) (f : Computes) (b : FlowBlock
 
     split_good : (j : ℕ) (n : FlowNode) (s : List Scope) → slice_get b.nodes j ≡ Some n → Good s
         → Good (split firm j n s)
-    split_good j n s e a = go (firm j) (has s (Some (guard_on true j))) (has s (Some (guard_on false j))) refl refl refl
+    split_good j n s e a = go (firm j) (has s (Some (guard_on true j)))
+        (has s (Some (guard_on false j))) refl refl refl
       where
         go : (x y z : Bool) → firm j ≡ x → has s (Some (guard_on true j)) ≡ y
             → has s (Some (guard_on false j)) ≡ z → Good (cond (x && (y && z)) (s ++ (n.guard ∷ [])) s)

@@ -25,7 +25,8 @@ use Rattle.null_outputs.specs.Covers.{right_open, one_if, cover_at, Cover, top_o
 use Rattle.null_outputs.specs.Groups.{left_needed, right_needed, guard_group, guard_is, sense_is, is_used, guard_part}
 use Rattle.null_outputs.specs.Groups.{guard_part_size, left_part, left_size, right_part, right_size, region, start_of}
 use Rattle.null_outputs.specs.Groups.{stores_of, number_open}
-use Rattle.null_outputs.specs.Completed.{trues, falses, lefts, rights, writes_at, places, cover, write_part, write_size}
+use Rattle.null_outputs.specs.Completed.{trues, falses, lefts, rights, writes_at, places, cover}
+use Rattle.null_outputs.specs.Completed.{write_part, write_size}
 use Rattle.null_outputs.specs.Completed.{filled, filled_all, numbers_at, number_part, number_size, numbers_part}
 use Rattle.null_outputs.specs.Completed.{all_numbers, trues_region, falses_region, lefts_region, rights_region}
 use Rattle.null_outputs.specs.Completed.{writes_region, added, completed}
@@ -69,10 +70,12 @@ among_front s (x ∷ xs) ys e = go (or_either (same_source s x) (is_among s xs) 
     go (inr d) f = or_second (same_source s x) (is_among s (xs ++ ys)) (f d)
 
 -- what more nodes name
-pub named_front : (s : FlowSource) (ns more : List FlowNode) → nodes_name s ns ≡ true → nodes_name s (ns ++ more) ≡ true
+pub named_front : (s : FlowSource) (ns more : List FlowNode) → nodes_name s ns ≡ true
+    → nodes_name s (ns ++ more) ≡ true
 named_front s [] more e = absurd (true≢false (sym e))
 named_front s (n ∷ ns) more e =
-    go (is_among s n.left) (is_among s n.right) (guards_by s n.guard) (nodes_name s ns) (λ d. named_front s ns more d) e
+    go (is_among s n.left) (is_among s n.right) (guards_by s n.guard) (nodes_name s ns)
+        (λ d. named_front s ns more d) e
   where
     go : (a b c d : Bool) → (d ≡ true → nodes_name s (ns ++ more) ≡ true) → (a || (b || (c || d))) ≡ true
         → (a || (b || (c || nodes_name s (ns ++ more)))) ≡ true
@@ -256,7 +259,8 @@ module _ (sure : Sure) (want : Want) (b : FlowBlock) where
       (rights sure want b) 0 b.nodes)
 
   at_numbers : Each Stood (numbers_at sure want b) (all_numbers sure want b)
-  at_numbers = each_back Stood (writes_at sure want b) (writes_region sure want b) _ at_writes (numbers_at sure want b)
+  at_numbers = each_back Stood (writes_at sure want b) (writes_region sure want b) _ at_writes
+      (numbers_at sure want b)
       (spread_end Stood (write_part sure want b) (write_size sure want b) (write_length sure want b)
       (writes_at sure want b) 0 b.writes)
 
@@ -325,7 +329,8 @@ module _ (sure : Sure) (want : Want) (b : FlowBlock) where
     some_loud [] fit f = tt
     some_loud (s ∷ ss) fit f = (
       old_loud s (All-head (FitsFlowSource b) s ss fit) (f s (or_first (same_source s s) (is_among s ss) (itself s))),
-      some_loud ss (All-tail (FitsFlowSource b) s ss fit) (λ x e. f x (or_second (same_source x s) (is_among x ss) e)),
+      some_loud ss (All-tail (FitsFlowSource b) s ss fit)
+          (λ x e. f x (or_second (same_source x s) (is_among x ss) e)),
     )
 
     node_fits : (y : ℕ) (n : FlowNode) → slice_get b.nodes y ≡ Some n → FitsNode b n
@@ -610,7 +615,8 @@ module _ (sure : Sure) (want : Want) (b : FlowBlock) where
 
       not_among : (ss : List FlowSource) → EachLoud ss → is_among (Node j) ss ≡ false
       not_among [] l = refl
-      not_among (s ∷ ss) l = neither (same_source (Node j) s) (is_among (Node j) ss) (differs s l.0) (not_among ss l.1)
+      not_among (s ∷ ss) l = neither (same_source (Node j) s) (is_among (Node j) ss) (differs s l.0)
+          (not_among ss l.1)
 
       not_guard : (g : Option Guard) → LoudGuard g → guards_by (Node j) g ≡ false
       not_guard None l = refl

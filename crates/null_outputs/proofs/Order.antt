@@ -235,7 +235,8 @@ module _ (sure : Sure) (want : Want) (b : FlowBlock) (rank : ℕ → ℕ) where
       (lefts sure want b) 0 b.nodes)
 
   at_writes : Each Stands (writes_at sure want b) (writes_ranks sure want b rank ++ all_number_ranks sure want b rank)
-  at_writes = each_back Stands (rights sure want b) (rights_ranks sure want b rank) _ at_rights (writes_at sure want b)
+  at_writes = each_back Stands (rights sure want b) (rights_ranks sure want b rank) _ at_rights
+      (writes_at sure want b)
       (spread_end Stands (right_ranks sure want b rank) (right_size sure want) (right_fits sure want b rank)
       (rights sure want b) 0 b.nodes)
 
@@ -345,7 +346,8 @@ module _ (sure : Sure) (want : Want) (b : FlowBlock) (rank : ℕ → ℕ) where
 
   list_ok : (lim p : ℕ) (ss : List FlowSource) → EachCover lim ss → Each Stands p (list_ranks lim ss)
       → Each NodeOk p (list_nodes c p ss)
-  list_ok lim p [] k x = (plain_ok p lim None [] [] x.0 tt tt tt (null_under None) refl refl refl (refl, refl) refl, tt)
+  list_ok lim p [] k x = (plain_ok p lim None [] [] x.0 tt tt tt (null_under None) refl refl refl
+      (refl, refl) refl, tt)
   list_ok lim p (s ∷ rest) k x = pairs_ok lim p s rest k x
 
   list_at : (lim p : ℕ) (ss : List FlowSource) → EachCover lim ss → Each Stands p (list_ranks lim ss)
@@ -363,7 +365,8 @@ module _ (sure : Sure) (want : Want) (b : FlowBlock) (rank : ℕ → ℕ) where
   each_if false p ns f = tt
 
   -- the first of a guard's group
-  head_at : (lim p : ℕ) (ms : List FlowSource) → Each Stands p (group_ranks lim ms) → SourceAt (suc (suc lim)) (Node p)
+  head_at : (lim p : ℕ) (ms : List FlowSource) → Each Stands p (group_ranks lim ms)
+      → SourceAt (suc (suc lim)) (Node p)
   head_at lim p [] x = stand_source p lim (suc (suc lim)) x.0 (omega arith)
   head_at lim p (m ∷ ms) x = stand_source p (suc lim) (suc (suc lim)) x.0 (omega arith)
 

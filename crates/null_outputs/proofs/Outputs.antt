@@ -28,17 +28,18 @@ use Rattle.null_outputs.specs.Completed.{number_size, numbers_part, all_numbers}
 use Rattle.null_outputs.specs.Covers.{Want, null_store_of, Sure, list_top, list_nodes, list_size}
 use Rattle.null_outputs.specs.Groups.{store_source, stores_of, number_open}
 use Rattle.null_outputs.specs.Laws.{MaskedIn, EachMasked}
-use Rattle.null_outputs.proofs.Heart.{all_there, IsNull, here, Covered, count-append, first_null, here_count}
-use Rattle.null_outputs.proofs.Heart.{node_there}
+use Rattle.null_outputs.proofs.NullsOnPaths.{all_there, IsNull, here, Covered, count-append, first_null, here_count}
+use Rattle.null_outputs.proofs.NullsOnPaths.{node_there}
 use Rattle.null_outputs.proofs.Spaces.{nodes_length, obeys_front, obeys_back, cond_length}
-use Rattle.null_outputs.proofs.Quiet.{AllQuiet, nodes_quiet, tokens_append, exits_append, fired_append}
-use Rattle.null_outputs.proofs.Quiet.{stores_append, quiet_tokens, quiet_exits, quiet_fired, quiet_stores}
+use Rattle.null_outputs.proofs.QuietNodes.{AllQuiet, nodes_quiet, tokens_append, exits_append, fired_append}
+use Rattle.null_outputs.proofs.QuietNodes.{stores_append, quiet_tokens, quiet_exits, quiet_fired, quiet_stores}
 use Rattle.null_outputs.proofs.Hollow.{Hollow, hollow_or}
 
 -- STORES BY NUMBER
 
 module _ (sure : Sure) (want : Want) (b : FlowBlock) where
-  source_fits : (x : Form) (n : FlowNode) (j k : ℕ) → j < length b.nodes → All (FitsFlowSource b) (store_source x n j k)
+  source_fits : (x : Form) (n : FlowNode) (j k : ℕ) → j < length b.nodes
+      → All (FitsFlowSource b) (store_source x n j k)
   source_fits form.Store n j k l = go (nat_eq n.number k)
     where
       go : (t : Bool) → All (FitsFlowSource b) (cond t (Node j ∷ []) [])
@@ -60,7 +61,8 @@ module _ (sure : Sure) (want : Want) (b : FlowBlock) where
   pub write_length : (p j : ℕ) (w : FlowWrite) → length (write_part sure want b p j w) ≡ write_size sure want b j w
   write_length p j w = go (sure None w.sources)
     where
-      go : (t : Bool) → length (cond t [] (list_nodes (cover sure want b) p w.sources)) ≡ cond t 0 (list_size w.sources)
+      go : (t : Bool) → length (cond t [] (list_nodes (cover sure want b) p w.sources))
+          ≡ cond t 0 (list_size w.sources)
       go true = refl
       go false = nodes_length (cover sure want b) p w.sources
 

@@ -159,7 +159,8 @@ module _ (sure : Sure) (want : Want) (b : FlowBlock) (rank : ℕ → ℕ) where
   pub write_fits : (p j : ℕ) (w : FlowWrite) → length (write_ranks p j w) ≡ write_size sure want b j w
   write_fits p j w = go (sure None w.sources)
     where
-      go : (t : Bool) → length (cond t [] (list_ranks (top_rank 0 b.nodes) w.sources)) ≡ cond t 0 (list_size w.sources)
+      go : (t : Bool) → length (cond t [] (list_ranks (top_rank 0 b.nodes) w.sources))
+          ≡ cond t 0 (list_size w.sources)
       go true = refl
       go false = list_length (top_rank 0 b.nodes) w.sources
 

@@ -62,7 +62,8 @@ split_keeps firm j n s g e = go (firm j && (has s (Some (guard_on true j)) && ha
 close_keeps : (firm : Firm) (j : ℕ) (ns : List FlowNode) (s : List Scope) (g : Scope) → has s g ≡ true
     → has (close firm j ns s) g ≡ true
 close_keeps firm j [] s g e = e
-close_keeps firm j (n ∷ ns) s g e = split_keeps firm j n (close firm (suc j) ns s) g (close_keeps firm (suc j) ns s g e)
+close_keeps firm j (n ∷ ns) s g e =
+    split_keeps firm j n (close firm (suc j) ns s) g (close_keeps firm (suc j) ns s g e)
 
 split_makes : (firm : Firm) (j : ℕ) (n : FlowNode) (s : List Scope) → firm j ≡ true
     → has s (Some (guard_on true j)) ≡ true → has s (Some (guard_on false j)) ≡ true
@@ -96,7 +97,8 @@ close_makes firm j (m ∷ ns) s (suc y) n i e d f t u =
     split_keeps firm j m (close firm (suc j) ns s) n.guard
     (close_makes firm (suc j) ns s y n i (omega (arith, e)) d f t u)
 
-reaches_has : (nodes : List FlowNode) (s : List Scope) (d : ℕ) (g : Scope) → has s g ≡ true → reaches nodes s d g ≡ true
+reaches_has : (nodes : List FlowNode) (s : List Scope) (d : ℕ) (g : Scope) → has s g ≡ true
+    → reaches nodes s d g ≡ true
 reaches_has nodes s zero g e = e
 reaches_has nodes s (suc d) g e = or_left (has s g) (outer (reaches nodes s d) nodes g) e
 

@@ -70,7 +70,8 @@ front_within j (n ∷ ns) =
 fed_at : (y : ℕ) (ws : List FlowWrite) → all_fed y ws ≡ true → (j : ℕ) (w : FlowWrite) → slice_get ws j ≡ Some w
     → is_fed y w.sources ≡ true
 fed_at y [] e j w s = absurd (cc)
-fed_at y (v ∷ ws) e zero w s = subst (λ (x : FlowWrite). is_fed y x.sources ≡ true) (some_is v w s) (both_true _ _ e).0
+fed_at y (v ∷ ws) e zero w s = subst (λ (x : FlowWrite). is_fed y x.sources ≡ true) (some_is v w s)
+    (both_true _ _ e).0
 fed_at y (v ∷ ws) e (suc j) w s = fed_at y ws (both_true _ _ e).1 j w s
 
 number_at : (b : FlowBlock) (y m k : ℕ) → numbers_fed b y k m ≡ true → (i x : ℕ) → x ≡ k + i → i < m

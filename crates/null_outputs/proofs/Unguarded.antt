@@ -15,12 +15,14 @@ use Rattle.ir_forms.specs.FlowFits.{in_mask}
 use Rattle.null_outputs.specs.Covers.{left_open, right_open, Cover, list_top, list_nodes, copy_under, both_under}
 use Rattle.null_outputs.specs.Covers.{null_store_of}
 use Rattle.null_outputs.specs.Groups.{left_needed, right_needed, guard_group}
-use Rattle.null_outputs.specs.Groups.{guard_is, is_used, guard_part, guard_part_size, left_part, left_size, right_part}
+use Rattle.null_outputs.specs.Groups.{guard_is, is_used, guard_part, guard_part_size, left_part}
+use Rattle.null_outputs.specs.Groups.{left_size, right_part}
 use Rattle.null_outputs.specs.Groups.{right_size, region, stores_of, number_open}
 use Rattle.null_outputs.specs.Completed.{writes_at, cover, write_part, write_size}
 use Rattle.null_outputs.specs.Completed.{filled_all, numbers_at, number_size, numbers_part, all_numbers}
 use Rattle.null_outputs.specs.Completed.{added}
-use Rattle.null_outputs.specs.Surely.{Firm, Scope, has, scopes, scope_at, sure_of, is_firm, firm_of, firms_from, firms}
+use Rattle.null_outputs.specs.Surely.{Firm, Scope, has, scopes, scope_at, sure_of, is_firm, firm_of}
+use Rattle.null_outputs.specs.Surely.{firms_from, firms}
 use Rattle.null_outputs.specs.Surely.{sure_by}
 use Rattle.null_outputs.specs.Wants.{mark_if, mark_writes, mark_node, spread, spread_at, is_open_store, open_stores}
 use Rattle.null_outputs.specs.Wants.{node_closed, each_wanted, nodes_closed, writes_closed}
@@ -230,7 +232,8 @@ module _ (b : FlowBlock) (st : IsStraight b) where
   guards_empty : (s : Bool) (p : ℕ) → region (guard_part (want_by b) b.nodes c s)
       (guard_part_size (want_by b) b.nodes (sure_by b) s) p 0 b.nodes ≡ []
   guards_empty s p =
-      region_empty (guard_part (want_by b) b.nodes c s) (guard_part_size (want_by b) b.nodes (sure_by b) s) p 0 b.nodes
+      region_empty (guard_part (want_by b) b.nodes c s)
+          (guard_part_size (want_by b) b.nodes (sure_by b) s) p 0 b.nodes
       (λ i n e q k. none_if (is_used (want_by b) 0 b.nodes s k) (guard_group q s k (c (Node k)))
       (none_used 0 b.nodes s k))
 

@@ -35,7 +35,8 @@ follows_not false b e f = e
 wanted_each : (want : Want) (ss : List FlowSource) → each_wanted want ss ≡ true → EachWanted want ss
 wanted_each want [] e = tt
 wanted_each want (Read r ∷ ss) e = let w = both_true true (each_wanted want ss) e in wanted_each want ss w.1
-wanted_each want (Node j ∷ ss) e = let w = both_true (want j) (each_wanted want ss) e in (w.0, wanted_each want ss w.1)
+wanted_each want (Node j ∷ ss) e = let w = both_true (want j) (each_wanted want ss) e in
+    (w.0, wanted_each want ss w.1)
 
 all_wanted : (ss : List FlowSource) → EachWanted (λ y. true) ss
 all_wanted [] = tt

@@ -6,7 +6,7 @@ use Rattle.trips_isa.specs.declared.op.Op.TheVariants as op
 use Rattle.trips_isa.specs.Alu.{alu_of}
 use Rattle.predication.specs.Environments.{Bits, note, left_bits, member}
 use Rattle.predication.specs.Operands.{is_move}
-use Rattle.predication.proofs.Legs.{member_append}
+use Rattle.predication.proofs.TakenLegs.{member_append}
 
 -- a register that has a bit behind some was none of them, and had it before
 pub bit_left : (rs : List ℕ) (bits : Bits) (q k : ℕ) → left_bits bits rs q ≡ Some k

@@ -27,7 +27,7 @@ use Rattle.ir_forms.specs.HyperFits.{FitsItems}
 use Rattle.predication.proofs.Tables.{fired_append, exits_append, quiet_fired, inner_exits, first_none}
 use Rattle.predication.proofs.Tables.{first_word, Sound, Live, Calm, calm_append, none_clear, Runs}
 use Rattle.predication.proofs.Tables.{runs_front, runs_back}
-use Rattle.predication.proofs.Legs.{or_false, member_append, untouched, tail_untouched}
+use Rattle.predication.proofs.TakenLegs.{or_false, member_append, untouched, tail_untouched}
 use Rattle.predication.proofs.Memory.{Holds, holds_first, holds_none}
 use Rattle.predication.proofs.Operands.{Meant}
 use Rattle.predication.proofs.Taken.{On, no_bit, on_items}
@@ -43,7 +43,8 @@ use Rattle.ir_forms.specs.Agreement.{IsExit, MeansBlock}
 use Rattle.ir_forms.specs.HyperFits.{FitsHyper}
 use Rattle.predication.specs.Laws.{ConvertsPaths, HasRoom}
 use Rattle.predication.proofs.WordLemmas.{words_of}
-use Rattle.predication.proofs.Numbers.{Rises, rises_append, quiet_rises, items_rise, stores_high, tokens_most, runs_of}
+use Rattle.predication.proofs.Numbers.{Rises, rises_append, quiet_rises, items_rise, stores_high}
+use Rattle.predication.proofs.Numbers.{tokens_most, runs_of}
 use Rattle.predication.proofs.Tails.{items_inner, tail_quiet, TailOn, tail_on}
 
 pub block_rises : (b : Block) → FitsHyper b → Rises 0 (all_nodes b) (begun b).number
@@ -157,11 +158,13 @@ module _ (regs : ℕ → ℕ) (h : ℕ → Answer) where
     -- the items' part and the tail's part of a table of the block
     pub record Halves : Type 0 where
       pub on : On regs h f st mem None 0 0 at_start no_bits b.items s
-      pub leaving : TailOn regs h f st mem None (length (begun b).nodes) 0 (begun b).env (begun b).bits b.tail on.after
+      pub leaving : TailOn regs h f st mem None (length (begun b).nodes) 0 (begun b).env
+          (begun b).bits b.tail on.after
 
     pub halves : Runs regs h f st 0 (all_nodes b) → Halves
     halves x =
-        let sl : Live regs h at_start s.registers = subst (λ (v : ℕ → ℕ). Live regs h at_start v) (sym sr) start_live in
+        let sl : Live regs h at_start s.registers =
+            subst (λ (v : ℕ → ℕ). Live regs h at_start v) (sym sr) start_live in
         let o = on_items regs h f st mem b.items None 0 0 at_start no_bits s t.items (none_clear regs h) refl sl
         (no_bit regs h f st mem s.registers) (runs_front regs h f st 0 (begun b).nodes (ended b).nodes x) in
         let back = runs_back regs h f st 0 (begun b).nodes (ended b).nodes x in
@@ -209,7 +212,8 @@ converts_paths b t regs f h o =
     let hs = halves regs h f st [] b t s refl x in
     let calm = calm_append regs h (begun b).nodes (ended b).nodes hs.on.calm hs.leaving.calm in
     record {
-      tidy = record { clear = all_clear regs h (all_nodes b) calm; operands = all_operands regs h (all_nodes b) calm };
+      tidy = record { clear = all_clear regs h (all_nodes b) calm;
+          operands = all_operands regs h (all_nodes b) calm };
       one = record {
         writes = writes_most regs h (ended b).env hs.leaving.after hs.leaving.live (all_touched b) 128;
         numbers = λ k. tokens_most regs h 0 0 (begun b).number (all_nodes b) (block_rises b t) k;
@@ -233,7 +237,8 @@ abbrev pub IsPlain : Layout → Type 0
 IsPlain at = (l : ℕ) → at.address l ≡ l
 
 -- from every start with words the converted block does what the hyper block does, where addresses stand in it
-pub plain_meaning : (b : Block) → FitsHyper b → HasRoom b → (at : Layout) → IsPlain at → MeansBlock at b (predicated b)
+pub plain_meaning : (b : Block) → FitsHyper b → HasRoom b → (at : Layout) → IsPlain at
+    → MeansBlock at b (predicated b)
 plain_meaning b t room at plain m h ws o =
     let regs = m.registers in
     let mem = m.memory in

@@ -163,7 +163,8 @@ contains_read ns ws (suc n) r l e = go (nat_eq r n) refl (λ m. contains_read ns
         let s : r ≡ n = grind (arith, nat_tests) in
         let z : (nodes_read ns n || writes_read ws n) ≡ true =
         subst (λ (q : ℕ). (nodes_read ns q || writes_read ws q) ≡ true) s e in
-        subst (λ (q : ℕ). Contains (reads_below ns ws (suc n)) q) (sym s) (here (nodes_read ns n || writes_read ws n) z)
+        subst (λ (q : ℕ). Contains (reads_below ns ws (suc n)) q) (sym s)
+            (here (nodes_read ns n || writes_read ws n) z)
     go false d ih =
         let ne : r ≢ n = grind (arith, nat_tests) in
         contains_more (nodes_read ns n || writes_read ws n) n r (reads_below ns ws n) (ih (omega arith))
@@ -180,7 +181,8 @@ sources_fit b T k (Node j ∷ ss) l g f =
     All-cons (FitsFlowSource b) (Node j) ss (omega (arith, g.0.0, l))
     (sources_fit b T k ss l g.1 (λ q m e. f q m (read_there (Node j) ss q e)))
 
-guard_fits : (b : FlowBlock) (T : ℕ → Type 0) (k : ℕ) (g : Scope) → k ≤ length b.nodes → GoodGuard T k g → FitsGuard b g
+guard_fits : (b : FlowBlock) (T : ℕ → Type 0) (k : ℕ) (g : Scope) → k ≤ length b.nodes → GoodGuard T k g
+    → FitsGuard b g
 guard_fits b T k None l x = tt
 guard_fits b T k (Some g) l x = omega (arith, x.0, l)
 

@@ -2,7 +2,7 @@ pub mod Ops
 pub mod Tables
 pub mod Halves
 pub mod Operands
-pub mod Legs
+pub mod TakenLegs
 pub mod Memory
 pub mod BitLemmas
 pub mod Untaken

@@ -15,7 +15,8 @@ over : {A : Type 0} (b : Bool) (e d f : A) → cond b e (cond b d f) ≡ cond b 
 over true e d f = refl
 over false e d f = refl
 
-swap : {A : Type 0} (a b : Bool) (d e f : A) → (a ≡ true → b ≡ true → ⊥) → cond a d (cond b e f) ≡ cond b e (cond a d f)
+swap : {A : Type 0} (a b : Bool) (d e f : A) → (a ≡ true → b ≡ true → ⊥)
+    → cond a d (cond b e f) ≡ cond b e (cond a d f)
 swap true true d e f n = absurd (n refl refl)
 swap true false d e f n = refl
 swap false true d e f n = refl

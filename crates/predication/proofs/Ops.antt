@@ -137,7 +137,8 @@ op_fires op.And n fn x y r e i = record {
       (i.there refl);
   means = λ m. m x y;
 }
-op_fires op.Or n fn x y r e i = record { word = fn x y; gives = both_gives fn x y r (i.there refl); means = λ m. m x y }
+op_fires op.Or n fn x y r e i =
+    record { word = fn x y; gives = both_gives fn x y r (i.there refl); means = λ m. m x y }
 op_fires op.Xor n fn x y r e i = record {
   word = fn x y;
   gives = both_gives fn x y r

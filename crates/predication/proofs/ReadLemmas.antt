@@ -9,9 +9,10 @@ use Rattle.ir_forms.specs.declared.flow.FlowSource.TheVariants.{Read, Node}
 use Rattle.ir_forms.specs.declared.flow.FlowNode.{FlowNode}
 use Rattle.ir_forms.specs.declared.flow.FlowWrite.{FlowWrite}
 use Rattle.predication.specs.Environments.{member}
-use Rattle.predication.specs.Converted.{reads_in, nodes_read, writes_read, reads_below, stores_as, has_store, mask_below}
+use Rattle.predication.specs.Converted.{reads_in, nodes_read, writes_read, reads_below, stores_as}
+use Rattle.predication.specs.Converted.{has_store, mask_below}
 use Rattle.predication.specs.inside.Made.{Notes, members_below, mask_members}
-use Rattle.predication.proofs.Legs.{member_append}
+use Rattle.predication.proofs.TakenLegs.{member_append}
 
 -- BOOLS
 

@@ -81,7 +81,8 @@ mask_bit ns (suc n) k l = go (nat_eq k n) refl (has_store ns n) refl (λ m. mask
         let z : mask_below ns n + 0 ≡ mask_below ns n = omega arith in
         ap (λ (x : ℕ). x / 2 ^ k % 2) z ∙ ih (omega arith)
 
-pub mask_says : (ns : List FlowNode) (k : ℕ) (c : Bool) → k < 32 → has_store ns k ≡ c → in_mask (mask_below ns 32) k ≡ c
+pub mask_says : (ns : List FlowNode) (k : ℕ) (c : Bool) → k < 32 → has_store ns k ≡ c
+    → in_mask (mask_below ns 32) k ≡ c
 mask_says ns k c l e = go c (mask_bit ns 32 k l ∙ ap (λ (x : Bool). cond x 1 0) e)
   where
     small : nat_lt k 32 ≡ true

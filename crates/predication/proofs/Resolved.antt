@@ -170,7 +170,8 @@ module _ (address : ℕ → ℕ) where
 
   kept_longer : (b : Bool) (d j w : ℕ) → nat_lt w 65536 ≡ b → w < below (suc d)
       → (w / 65536 < below d → Kept (chain d j (w / 65536)).nodes) → Kept (longer b j w (chain d j (w / 65536))).nodes
-  kept_longer true d j w e l ih = kept_cons (constant_of op.Genu w []) [] (genu_kept w (grind (arith, nat_tests))) refl
+  kept_longer true d j w e l ih =
+      kept_cons (constant_of op.Genu w []) [] (genu_kept w (grind (arith, nat_tests))) refl
   kept_longer false d j w e l ih =
       let c = chain d j (w / 65536) in
       let n = constant_of op.App (w % 65536) (Node c.last ∷ []) in
@@ -261,7 +262,8 @@ module _ (address : ℕ → ℕ) where
       (kept_append y.nodes _ (kept_items one (under x.last true) i m env no_bits f.1)
       (kept_append n.nodes _ (kept_items other (under x.last false) (i + length y.nodes) y.number env no_bits f.2)
       (kept_append c.nodes _
-      (kept_join (distinct (touched one ++ touched other)) x.last (i + length y.nodes + length n.nodes) env y.env n.env
+      (kept_join (distinct (touched one ++ touched other)) x.last
+          (i + length y.nodes + length n.nodes) env y.env n.env
       (touched one) (touched other))
       (kept_items rest g (i + length y.nodes + length n.nodes + length c.nodes) n.number c.env
       (left_bits bits (touched one ++ touched other)) f.3))))
@@ -345,7 +347,8 @@ module _ (address : ℕ → ℕ) where
             let y2 = tail (under x.last true) i e env no_bits (tail_with address one) in
             let sy : Same y y2 = first (under x.last true) i i e e refl refl in
             let n = tail (under x.last false) (i + length y.nodes) y.number env no_bits (tail_with label other) in
-            let n2 = tail (under x.last false) (i + length y2.nodes) y2.number env no_bits (tail_with address other) in
+            let n2 = tail (under x.last false) (i + length y2.nodes) y2.number env no_bits
+                (tail_with address other) in
             let ly : i + length y.nodes ≡ i + length y2.nodes = ap (λ (p : ℕ). i + p) (same_length y y2 sy) in
             let sn : Same n n2 = then_other (under x.last false) (i + length y.nodes)
             (i + length y2.nodes) y.number y2.number ly sy.number in

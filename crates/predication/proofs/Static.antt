@@ -22,7 +22,7 @@ use Rattle.predication.specs.Operands.{fresh_test, test_by, tested, test_of}
 use Rattle.predication.specs.Ifs.{Part, left_of, side_of, Joined, join, Out, items, touched}
 use Rattle.predication.specs.Tails.{branch_of, Ending, leaving, tail, tail_touched, high_half, low_half}
 use Rattle.predication.proofs.Halves.{high_is, low_is}
-use Rattle.predication.proofs.Legs.{member_distinct}
+use Rattle.predication.proofs.TakenLegs.{member_distinct}
 use Rattle.trips_isa.specs.Forms.{role_in}
 use Rattle.trips_isa.specs.Rule.{low}
 use Rattle.ir_forms.specs.HyperCode.{Items, Done, Set, Load, Save, If, Tail, Leave, Test}
@@ -418,7 +418,8 @@ module _ (T : ℕ → Type 0) where
       record {
         nodes = static_append j ms (n ∷ []) (movs_static j r kept l y)
             (mov_well i g ((s ∷ ss) ++ froms j kept) (guard_later j i g (omega arith) gg) src, tt);
-        entry = λ k z. (((omega (arith, z, length-append ms (n ∷ [])), (heard_back j ms (n ∷ []) hd).0 refl), tt), tt);
+        entry = λ k z. (((omega (arith, z, length-append ms (n ∷ [])), (heard_back j ms (n ∷ []) hd).0 refl), tt),
+            tt);
       }
 
   side_static : (b : Bool) (g : Scope) (j r : ℕ) (before mine : Entry) → r < 128 → GoodGuard j g → GoodEntry j before
@@ -471,7 +472,8 @@ module _ (T : ℕ → Type 0) where
       (env_later j jb env ljb ge) (env_later j jb yea ljb gy) (env_later j jb nay ljb gn)
       (heard_back ja b.nodes c.nodes hb) in
       record {
-        nodes = static_append j a.nodes (b.nodes ++ c.nodes) x.nodes (static_append ja b.nodes c.nodes y.nodes z.nodes);
+        nodes = static_append j a.nodes (b.nodes ++ c.nodes) x.nodes
+            (static_append ja b.nodes c.nodes y.nodes z.nodes);
         env = λ k l.
             let l1 = length-append a.nodes (b.nodes ++ c.nodes) in
             let l2 = length-append b.nodes c.nodes in
@@ -546,7 +548,8 @@ module _ (T : ℕ → Type 0) where
       let h1 = heard_back j xs (ys ++ n ∷ rs.nodes) hd in
       let h2 = heard_back i ys (n ∷ rs.nodes) h1 in
       let x = operand_static j env a tk.2 ge (heard_front j xs (ys ++ n ∷ rs.nodes) hd) in
-      let y = second_static tr i env b tk.3 (env_later j i env (omega arith) ge) (heard_front i ys (n ∷ rs.nodes) h1) in
+      let y = second_static tr i env b tk.3 (env_later j i env (omega arith) ge)
+          (heard_front i ys (n ∷ rs.nodes) h1) in
       let tk' : T k = h2.0 (loud_general (form_of o) (op_form o tk.1)) in
       let later : j ≤ suc k = omega arith in
       let z = items_static rest g (suc k) m e2 b2 tk.4 (guard_later j (suc k) g later gg)

@@ -35,7 +35,7 @@ use Rattle.ir_forms.specs.HyperFits.{FitsSource, FitsItems}
 use Rattle.predication.proofs.Tables.{operand_quiet, second_quiet, Clear, Live, live_sparse, from_sound}
 use Rattle.predication.proofs.Tables.{live_put, Calm, calm_append, operand_calm, second_calm, Runs}
 use Rattle.predication.proofs.Tables.{runs_front, runs_back, operand_few, second_few}
-use Rattle.predication.proofs.Legs.{untouched, join_quiet, join_yea, join_nay, join_calm}
+use Rattle.predication.proofs.TakenLegs.{untouched, join_quiet, join_yea, join_nay, join_calm}
 use Rattle.predication.proofs.Memory.{Holds, holds_none, holds_store, holds_number}
 use Rattle.predication.proofs.Untaken.{legs_at, test_at, yea_out, nay_at, nay_out, join_at, joined, rest_at}
 use Rattle.predication.proofs.Untaken.{rest_out, tested_quiet, fired_one, fired_two, fired_if, node_acts}
@@ -452,7 +452,8 @@ module _ (regs : ℕ → ℕ) (h : ℕ → Answer) (f : Computes) (st : ℕ → 
             let ea = ga.means mt in
             let eb = gb.means mt in
             let lva = value_word s.registers a ws.registers ta in
-            let ad : address_of (inst_of n) ga.word ≡ ga.word = plain_address n ga.word refl (omega (arith, ea, lva)) in
+            let ad : address_of (inst_of n) ga.word ≡ ga.word =
+                plain_address n ga.word refl (omega (arith, ea, lva)) in
             let se = store_settled regs h f st mem (form_of o) n (store_form (form_of o) ops) x2.1 in
             let ef : st m ≡ Some (word_store (inst_of n) ga.word gb.word) =
             met_store g (st m) _ u se ∙ save_stores (inst_of n) _ _ ga.word gb.word ga.gives gb.gives

@@ -28,7 +28,7 @@ use Rattle.predication.proofs.Tables.{second_quiet, fired_append, quiet_fired, C
 use Rattle.predication.proofs.Tables.{Sparse, from_dead, sparse_put, SettledIn, Calm, calm_append}
 use Rattle.predication.proofs.Tables.{operand_calm, second_calm, Runs, runs_front, runs_back, operand_few}
 use Rattle.predication.proofs.Tables.{second_few}
-use Rattle.predication.proofs.Legs.{member_append, untouched, joins_out, join_quiet, join_dead, join_calm}
+use Rattle.predication.proofs.TakenLegs.{member_append, untouched, joins_out, join_quiet, join_dead, join_calm}
 use Rattle.predication.proofs.Memory.{Holds, holds_none}
 use Rattle.predication.proofs.BitLemmas.{bit_left}
 
@@ -269,12 +269,14 @@ module _ (regs : ℕ → ℕ) (h : ℕ → Answer) where
     load_none op n e l s = load_settled (form_of n.op) n (ap form_of e ∙ load_form (form_of op) l) s
 
     -- the parts of an if's nodes
-    pub record Parts (g : Scope) (j m : ℕ) (env : Env) (bits : Bits) (t : Source) (yea nay rest : Items) : Type 0 where
+    pub record Parts (g : Scope) (j m : ℕ) (env : Env) (bits : Bits) (t : Source)
+        (yea nay rest : Items) : Type 0 where
       pub test_runs : Runs regs h f st j (tested g j env bits t).nodes
       pub yea_runs : Runs regs h f st (legs_at g j env bits t) (yea_out g j m env bits t yea).nodes
       pub nay_runs : Runs regs h f st (nay_at g j m env bits t yea) (nay_out g j m env bits t yea nay).nodes
       pub joined_runs : Runs regs h f st (join_at g j m env bits t yea nay) (joined g j m env bits t yea nay).nodes
-      pub rest_runs : Runs regs h f st (rest_at g j m env bits t yea nay) (rest_out g j m env bits t yea nay rest).nodes
+      pub rest_runs : Runs regs h f st (rest_at g j m env bits t yea nay)
+          (rest_out g j m env bits t yea nay rest).nodes
 
     pub parts_of : (g : Scope) (j m : ℕ) (env : Env) (bits : Bits) (t : Source) (yea nay rest : Items)
         → Runs regs h f st j (items g j m env bits (If t yea nay rest)).nodes → Parts g j m env bits t yea nay rest

@@ -8,7 +8,8 @@ use Rattle.trips_answers.specs.declared.forms.FileForm.{FileForm}
 use Rattle.trips_answers.specs.declared.forms.FileForm.TheVariants as form
 use Rattle.trips_requests.specs.declared.status.Status.{Status}
 use Rattle.trips_requests.specs.declared.status.Status.TheVariants as status
-use Rattle.trips_answers.specs.Request.{Request, settings_of}
+use Rattle.trips_answers.specs.Request.{Request}
+use Rattle.trips_answers.specs.Settings.{settings_of}
 use Rattle.trips_answers.specs.Refused.{MayBeRefused, IsRefused}
 use Rattle.trips_answers.specs.Worked.{IsWorked}
 use Rattle.trips_answers.specs.Answer.{IsAnswer}

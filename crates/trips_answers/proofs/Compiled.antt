@@ -31,17 +31,19 @@ use Rattle.grid_meaning.proofs.TextRuns.{settled}
 use Rattle.trips_answers.specs.declared.forms.Settings.{Settings}
 use Rattle.trips_requests.specs.declared.status.Status.{Status}
 use Rattle.trips_requests.specs.declared.status.Status.TheVariants as status
-use Rattle.trips_answers.specs.Request.{Request, origin_held, settings_of}
+use Rattle.trips_answers.specs.Request.{Request, origin_held}
+use Rattle.trips_answers.specs.Settings.{settings_of}
 use Rattle.grid_place.specs.declared.placed.Placing.{Placing}
 use Rattle.trips_answers.specs.Read.{HoldsInput}
 use Rattle.grid_cycle_spec.specs.Costs.{cost_of}
 use Rattle.trips_report.specs.declared.show.Show.{Show}
 use Rattle.trips_requests.specs.Texts.{output_and}
 use Rattle.trips_report.specs.Runs.{signed}
-use Rattle.trips_report.proofs.Parts.{shows_nothing}
-use Rattle.trips_answers.specs.Report.{ending_of, run_report, shown_report, shown_behind, nothing_shown}
+use Rattle.trips_report.proofs.ListedTexts.{shows_nothing}
+use Rattle.trips_answers.specs.Report.{ending_of, run_report, shown_report, shown_behind}
+use Rattle.trips_answers.specs.Asks.{nothing_shown, ended_report}
 use Rattle.trips_answers.specs.Worked.{status_of, IsRunOfText}
-use Rattle.trips_answers.specs.Table.{ended_report, full_report}
+use Rattle.trips_answers.specs.Table.{full_report}
 use Rattle.trips_outside.specs.Outside.{Appended}
 use Rattle.trips_answers.specs.Evaluated.{SaysOf, HasNotEnded, RunEndsAs}
 use Rattle.trips_answers.specs.Ended.{ResultMeans, TellsResult}

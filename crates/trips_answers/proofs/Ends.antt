@@ -16,8 +16,10 @@ use Rattle.trips_requests.specs.declared.loading.Loaded.{Loaded}
 use Rattle.trips_requests.specs.declared.loading.Loaded.TheVariants.{Fault, TooLarge, Bytes}
 use Rattle.trips_requests.specs.declared.status.Status.{Status}
 use Rattle.trips_requests.specs.declared.status.Status.TheVariants as status
-use Rattle.trips_answers.specs.Request.{Request, origin_held, settings_of}
-use Rattle.trips_answers.specs.Read.{IsInputRead, HoldsInput, limit_of}
+use Rattle.trips_answers.specs.Request.{Request, origin_held}
+use Rattle.trips_answers.specs.Settings.{settings_of}
+use Rattle.trips_answers.specs.Read.{IsInputRead, HoldsInput}
+use Rattle.trips_answers.specs.Asks.{limit_of}
 use Rattle.trips_requests.specs.Read.{IsRead, AfterReading}
 use Rattle.trips_answers.specs.Report.{ending_of}
 use Rattle.trips_answers.specs.Worked.{status_of, IsRunBy, IsWorked, IsDone}

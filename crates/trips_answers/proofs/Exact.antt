@@ -31,8 +31,10 @@ use Rattle.trips_requests.specs.declared.loading.Loaded.{Loaded}
 use Rattle.trips_requests.specs.declared.loading.Loaded.TheVariants.{Fault, TooLarge, Bytes}
 use Rattle.trips_requests.specs.declared.status.Status.{Status}
 use Rattle.trips_requests.specs.declared.status.Status.TheVariants as status
-use Rattle.trips_answers.specs.Request.{Request, origin_held, settings_with, settings_of}
-use Rattle.trips_answers.specs.Read.{IsInputRead, IsInput, limit_of, most_input_bytes}
+use Rattle.trips_answers.specs.Request.{Request, origin_held}
+use Rattle.trips_answers.specs.Settings.{settings_with, settings_of}
+use Rattle.trips_answers.specs.Read.{IsInputRead}
+use Rattle.trips_answers.specs.Asks.{IsInput, limit_of, most_input_bytes, AsksFor}
 use Rattle.trips_requests.specs.Read.{IsRead, AfterReading}
 use Rattle.trips_report.specs.Refusals.{image_text, asm_text, check_text}
 use Rattle.trips_requests.specs.Texts.{too_large_text, IsFixed}
@@ -42,7 +44,7 @@ use Rattle.trips_tools.specs.ToolAnswers.{IsNoImage, IsBadImage, IsNoText}
 use Rattle.trips_eval_answers.specs.Evaluation.{IsRefusedByFront, IsEvaluation}
 use Rattle.trips_answers.specs.Worked.{IsRunBy, IsRunOfText, IsCompiled, IsWorked, IsDone}
 use Rattle.trips_answers.specs.Answer.{IsAnswerBehind, IsAnswer}
-use Rattle.trips_answers.specs.Table.{AsksFor, HasLargeFile, HasLargeInput}
+use Rattle.trips_answers.specs.Table.{HasLargeFile, HasLargeInput}
 use Rattle.trips_answers.proofs.OneFault.{first_bad_once}
 
 -- images ----------------------------------------------------------------------------------------

@@ -17,8 +17,9 @@ use Rattle.trips_answers.specs.declared.forms.FileForm.{FileForm}
 use Rattle.trips_answers.specs.declared.forms.FileForm.TheVariants as form
 use Rattle.trips_requests.specs.declared.loading.Loaded.{Loaded}
 use Rattle.trips_requests.specs.declared.loading.Loaded.TheVariants.{Fault, TooLarge, Bytes}
-use Rattle.trips_answers.specs.Request.{Request, form_named, planned, request_of, settings_of}
-use Rattle.trips_answers.specs.Read.{limit_of}
+use Rattle.trips_answers.specs.Request.{Request, form_named, planned, request_of}
+use Rattle.trips_answers.specs.Settings.{settings_of}
+use Rattle.trips_answers.specs.Asks.{limit_of}
 use Rattle.trips_requests.specs.Read.{IsRead, AfterReading}
 use Rattle.trips_requests.specs.Table.{IsWritten}
 use Rattle.trips_requests.proofs.Written.{written_so}

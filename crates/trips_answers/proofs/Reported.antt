@@ -21,16 +21,17 @@ use Rattle.trips_answers.specs.declared.forms.FileForm.{FileForm}
 use Rattle.trips_answers.specs.declared.forms.FileForm.TheVariants as form
 use Rattle.trips_requests.specs.declared.status.Status.{Status}
 use Rattle.trips_requests.specs.declared.status.Status.TheVariants as status
-use Rattle.trips_answers.specs.Request.{Request, settings_with}
+use Rattle.trips_answers.specs.Request.{Request}
+use Rattle.trips_answers.specs.Settings.{settings_with}
 use Rattle.trips_eval_answers.specs.Reports.{eval_report}
 use Rattle.trips_requests.specs.Texts.{too_large_text}
-use Rattle.trips_answers.specs.Report.{ending_of, run_report, nothing_shown}
+use Rattle.trips_answers.specs.Report.{ending_of, run_report}
+use Rattle.trips_answers.specs.Asks.{nothing_shown, ended_report, Asks, AsksFor}
 use Rattle.trips_answers.specs.Refused.{IsRefusedAs}
 use Rattle.trips_answers.specs.Worked.{status_of, IsRunOfText}
 use Rattle.trips_eval_answers.specs.Evaluation.{eval_status, outcome_of}
 use Rattle.trips_answers.specs.Answer.{IsAnswer}
-use Rattle.trips_answers.specs.Table.{IsAnswered, ended_report, full_report, Asks, AsksFor}
-use Rattle.trips_answers.specs.Table.{HasLargeFile, HasLargeInput}
+use Rattle.trips_answers.specs.Table.{IsAnswered, full_report, HasLargeFile, HasLargeInput}
 use Rattle.trips_answers.proofs.Exact.{complete, large_file, large_input, refused_exact, eval_exact}
 use Rattle.trips_answers.proofs.Exact.{image_exact, text_exact}
 use Rattle.trips_answers.proofs.Exact.{compiled_exact, assembled_exact, disassembled_exact, checked_exact}

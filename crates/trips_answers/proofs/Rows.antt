@@ -20,8 +20,10 @@ use Rattle.trips_requests.specs.declared.loading.Loaded.{Loaded}
 use Rattle.trips_requests.specs.declared.loading.Loaded.TheVariants.{Fault, TooLarge, Bytes}
 use Rattle.trips_requests.specs.declared.status.Status.{Status}
 use Rattle.trips_requests.specs.declared.status.Status.TheVariants as status
-use Rattle.trips_answers.specs.Request.{Request, origin_held, settings_of}
-use Rattle.trips_answers.specs.Read.{IsInputRead, limit_of, most_input_bytes}
+use Rattle.trips_answers.specs.Request.{Request, origin_held}
+use Rattle.trips_answers.specs.Settings.{settings_of}
+use Rattle.trips_answers.specs.Read.{IsInputRead}
+use Rattle.trips_answers.specs.Asks.{limit_of, most_input_bytes}
 use Rattle.trips_requests.specs.Read.{IsRead, AfterReading}
 use Rattle.trips_answers.specs.Report.{ending_of}
 use Rattle.trips_answers.specs.Worked.{status_of, IsRunBy, IsWorked, IsDone}

@@ -20,10 +20,12 @@ use Rattle.trips_answers.specs.declared.forms.FileForm.TheVariants as form
 use Rattle.trips_answers.specs.declared.forms.Settings.{Settings}
 use Rattle.trips_requests.specs.declared.status.Status.{Status}
 use Rattle.trips_requests.specs.declared.status.Status.TheVariants as status
-use Rattle.trips_answers.specs.Request.{Request, settings_with}
+use Rattle.trips_answers.specs.Request.{Request}
+use Rattle.trips_answers.specs.Settings.{settings_with}
 use Rattle.trips_answers.specs.Report.{ending_of, run_report}
 use Rattle.trips_answers.specs.Worked.{status_of, IsRunBy, IsRunOfText}
-use Rattle.trips_answers.specs.Table.{IsAnswered, IsReported, AsksFor, ended_report, full_report}
+use Rattle.trips_answers.specs.Table.{IsAnswered, IsReported, full_report}
+use Rattle.trips_answers.specs.Asks.{AsksFor, ended_report}
 use Rattle.trips_answers.proofs.Compiled.{finished_shown, finished_grid, deep_shown}
 use Rattle.trips_answers.proofs.Exact.{complete, image_exact, text_exact, target_exact}
 use Rattle.trips_answers.proofs.Causes.{whole_of}

@@ -8,7 +8,7 @@ use Rattle.block_check.specs.Faults.{IsGood}
 use Rattle.block_check.specs.Images.{IsCheckedImage}
 use Rattle.c_front.specs.declared.refusal.Refusal.{Refusal}
 use Rattle.c_front.specs.declared.refusal.Refusal.TheVariants as stage
-use Rattle.c_front.specs.Fronts.{IsRefused, MayBeRefused}
+use Rattle.c_front.specs.Refusals.{IsRefused, MayBeRefused}
 use Rattle.c_compile.specs.Images.{IsImageOf}
 use Rattle.flat_lower.specs.Keeps.{IsInput}
 use Rattle.grid_place.specs.declared.placed.Placing.{Placing}
@@ -30,10 +30,12 @@ use Rattle.trips_requests.specs.declared.commands.Tool.TheVariants as tools
 use Rattle.trips_requests.specs.Plain as line_plain
 use Rattle.trips_requests.specs.Requests as line
 use Rattle.trips_tools.specs.ToolAnswers.{IsToolDone}
-use Rattle.trips_answers.specs.Request.{Request, origin_held, planned, request_seen}
-use Rattle.trips_answers.specs.Read.{IsInputRead, limit_of, most_input_bytes}
+use Rattle.trips_answers.specs.Request.{Request, origin_held, planned}
+use Rattle.trips_answers.specs.Settings.{request_seen}
+use Rattle.trips_answers.specs.Read.{IsInputRead}
+use Rattle.trips_answers.specs.Asks.{limit_of, most_input_bytes}
 use Rattle.trips_requests.specs.Read.{IsRead, AfterReading}
-use Rattle.trips_tools.specs.Answer.{most_target_bytes, most_image_bytes}
+use Rattle.trips_requests.specs.Limits.{most_target_bytes, most_image_bytes}
 use Rattle.c_tree.specs.Limits.{most_source_bytes}
 use Rattle.target_asm_spec.specs.Text.{TargetText}
 use Rattle.trips_eval_answers.specs.Refusals.{front_refusal}

@@ -3,8 +3,10 @@ use Rattle.std.specs.Prelude.{ℕ, List, Option, None, Some}
 use Rattle.trips_requests.specs.declared.loading.Loaded.{Loaded}
 use Rattle.trips_requests.specs.declared.status.Status.{Status}
 use Rattle.trips_requests.specs.declared.status.Status.TheVariants as status
-use Rattle.trips_answers.specs.Request.{Request, origin_held, settings_of}
-use Rattle.trips_answers.specs.Read.{IsInputRead, limit_of}
+use Rattle.trips_answers.specs.Request.{Request, origin_held}
+use Rattle.trips_answers.specs.Settings.{settings_of}
+use Rattle.trips_answers.specs.Read.{IsInputRead}
+use Rattle.trips_answers.specs.Asks.{limit_of}
 use Rattle.trips_requests.specs.Read.{IsRead, AfterReading}
 use Rattle.trips_requests.specs.Texts.{usage_text, IsFixed}
 use Rattle.trips_answers.specs.Worked.{IsDone}

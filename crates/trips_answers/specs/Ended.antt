@@ -4,8 +4,7 @@ use Rattle.std.specs.Fmt.{signed_decimal}
 use Rattle.trips_outside.specs.Outside.{Holds}
 use Rattle.trips_isa.specs.declared.block.Image.{Image}
 use Rattle.c_tree.specs.declared.typed.TypedProgram.{TypedProgram}
-use Rattle.c_lex.specs.Lexes.{Tokens}
-use Rattle.c_lex.specs.Answers.{Lexed}
+use Rattle.c_lex.specs.Lexes.{Tokens, Lexed}
 use Rattle.c_tree.specs.Limits.{most_tokens}
 use Rattle.c_front.specs.Fronts.{IsAccepted}
 use Rattle.c_meaning_spec.specs.declared.signal.Ending.TheVariants.{More, Undefined, Deep}
@@ -14,7 +13,8 @@ use Rattle.c_compile.specs.Images.{IsImageOf}
 use Rattle.trips_requests.specs.declared.status.Status.{Status}
 use Rattle.trips_requests.specs.declared.status.Status.TheVariants as status
 use Rattle.trips_requests.specs.Texts.{output_and}
-use Rattle.trips_answers.specs.Request.{Request, origin_held, settings_of}
+use Rattle.trips_answers.specs.Request.{Request, origin_held}
+use Rattle.trips_answers.specs.Settings.{settings_of}
 use Rattle.trips_answers.specs.Read.{HoldsInput}
 use Rattle.trips_answers.specs.Table.{IsReported}
 

@@ -2,8 +2,7 @@
 use Rattle.std.specs.Prelude.{◌≡◌, ℕ, ◌+◌, ◌*◌, ◌<◌, ◌≤◌, List, Option, length}
 use Rattle.trips_outside.specs.Outside.{Holds}
 use Rattle.c_tree.specs.declared.typed.TypedProgram.{TypedProgram}
-use Rattle.c_lex.specs.Lexes.{Tokens}
-use Rattle.c_lex.specs.Answers.{Lexed}
+use Rattle.c_lex.specs.Lexes.{Tokens, Lexed}
 use Rattle.c_tree.specs.Limits.{most_tokens}
 use Rattle.c_front.specs.Fronts.{IsAccepted}
 use Rattle.c_meaning_spec.specs.declared.signal.Ending.TheVariants.{More, Undefined, Deep}

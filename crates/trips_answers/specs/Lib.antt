@@ -10,3 +10,5 @@ pub mod Table
 pub mod Evaluated
 pub mod Plain
 pub mod Ended
+pub mod Asks
+pub mod Settings

@@ -7,7 +7,7 @@ use Rattle.trips_requests.specs.Plain as line
 use Rattle.trips_answers.specs.declared.forms.FileForm.TheVariants.{Source}
 use Rattle.trips_answers.specs.declared.forms.Settings.{Settings}
 use Rattle.trips_answers.specs.Request.{Request, File, request_of}
-use Rattle.trips_answers.specs.Report.{nothing_shown}
+use Rattle.trips_answers.specs.Asks.{nothing_shown}
 
 -- The request of the words, as `request_of` has it, where they are `run` and the plain name of a text of C; else none.
 abbrev pub plain_run : {A : Type 0} → List (String A) → Option Request

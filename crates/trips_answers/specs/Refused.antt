@@ -11,7 +11,7 @@ use Rattle.trips_requests.specs.declared.commands.Command.TheVariants.{Assemble,
 use Rattle.trips_answers.specs.declared.forms.FileForm.{FileForm}
 use Rattle.trips_answers.specs.declared.forms.FileForm.TheVariants as form
 use Rattle.trips_answers.specs.Request.{Request, origin_held}
-use Rattle.trips_answers.specs.Read.{most_input_bytes, limit_of}
+use Rattle.trips_answers.specs.Asks.{most_input_bytes, limit_of}
 use Rattle.trips_report.specs.Refusals.{check_text}
 use Rattle.trips_eval_answers.specs.Evaluation.{IsRefusedByFront}
 use Rattle.trips_tools.specs.ToolAnswers.{IsNoImage, IsBadImage, IsNoText}

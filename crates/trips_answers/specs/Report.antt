@@ -1,5 +1,5 @@
 -- The reports of runs that the program writes: those of `trips_report`.
-use Rattle.std.specs.Prelude.{ℕ, false, List}
+use Rattle.std.specs.Prelude.{ℕ, List}
 use Rattle.trips_isa.specs.declared.run.Counts.{Counts}
 use Rattle.trips_isa.specs.declared.run.Ending.{Ending}
 use Rattle.trips_isa.specs.declared.run.Ending.TheVariants as ending
@@ -26,10 +26,6 @@ shown_report ending s counts cost show = reports.run_report ending s counts cost
 -- a report, and behind it what is shown of the end of the run
 abbrev pub shown_behind : List ℕ → State → Counts → ℕ → Show → List ℕ
 shown_behind report s counts cost show = reports.with_shown report s counts cost show
-
--- nothing is shown behind the ending
-abbrev pub nothing_shown : Show
-nothing_shown = record { regs = false; trace = false; cycles = false }
 
 -- the same where nothing more is shown
 abbrev pub run_report : Ending → State → List ℕ

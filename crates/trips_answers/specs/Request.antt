@@ -6,13 +6,11 @@ use Rattle.bench_text.specs.Text.{bench_text}
 use Rattle.grid_place.specs.declared.placed.Placing.{Placing}
 use Rattle.grid_place.specs.declared.placed.Placing.TheVariants.{Greedy, Seeded}
 use Rattle.trips_report.specs.declared.show.Show.{Show}
-use Rattle.trips_requests.specs.declared.commands.Asked.{Asked}
 use Rattle.trips_requests.specs.declared.commands.Command.{Command as Work}
 use Rattle.trips_requests.specs.declared.commands.Command.TheVariants as command
 use Rattle.trips_requests.specs.Requests as line
 use Rattle.trips_answers.specs.declared.forms.FileForm.{FileForm}
 use Rattle.trips_answers.specs.declared.forms.FileForm.TheVariants as form
-use Rattle.trips_answers.specs.declared.forms.Settings.{Settings}
 
 -- Where the bytes stand that a request works with: in the file of a name, or in the text of the benchmark
 -- with so many functions.
@@ -48,14 +46,6 @@ pub record Request : Type 0 where
   pub most : ℕ
   pub show : Show
 
--- how a request's work is done within so many blocks or steps, where this is shown
-abbrev pub settings_with : Request → ℕ → Show → Settings
-settings_with q most show = record { placing = q.placing; seed = q.seed; most = most; show = show }
-
--- how the work of a request is done
-abbrev pub settings_of : Request → Settings
-settings_of q = settings_with q q.most q.show
-
 -- what `run` reads a file as, by the ending of its name
 abbrev pub form_named : List ℕ → FileForm
 form_named file = if ends_with nat_eq file (codes ".img") then form.Image
@@ -86,7 +76,3 @@ planned r = record {
 -- the request of the words of a command line, without the program's name
 abbrev pub request_of : {A : Type 0} → List (String A) → Option Request
 request_of words = option_map planned (line.asked (map (λ word. string_bytes word) words))
-
--- a request of the code
-abbrev pub request_seen : Asked → Request
-request_seen request = planned (line.request_seen request)

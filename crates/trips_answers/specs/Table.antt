@@ -1,24 +1,21 @@
 -- What a call of the program answered and wrote, status by status.
-use Rattle.std.specs.Prelude.{◌≡◌, ℕ, ◌<◌, ◌≤◌, List, [], ◌∷◌, ◌++◌, length, Option, Some, codes}
-use Rattle.std.specs.Prelude.{IsSomeAnd, ◌⊎◌, ℤ}
-use Rattle.std.specs.Fmt.{signed_decimal}
+use Rattle.std.specs.Prelude.{◌≡◌, ℕ, ◌<◌, ◌≤◌, List, [], ◌∷◌, length, Option, Some, codes, IsSomeAnd, ◌⊎◌}
 use Rattle.trips_outside.specs.Outside.{Appended, Holds}
 use Rattle.trips_isa.specs.declared.block.Image.{Image}
 use Rattle.trips_isa.specs.declared.run.Counts.{Counts}
 use Rattle.trips_isa.specs.Machine.{runs, start}
 use Rattle.grid_cycle_spec.specs.Costs.{cost_of}
-use Rattle.trips_report.specs.declared.show.Show.{Show}
-use Rattle.trips_requests.specs.declared.commands.Command.{Command as Work}
 use Rattle.trips_requests.specs.declared.commands.Command.TheVariants.{Evaluate}
-use Rattle.trips_answers.specs.declared.forms.FileForm.{FileForm}
 use Rattle.trips_answers.specs.declared.forms.Settings.{Settings}
 use Rattle.trips_requests.specs.declared.status.Status.{Status}
 use Rattle.trips_requests.specs.Table.{IsCutShort, IsWritten}
-use Rattle.trips_answers.specs.Request.{Request, origin_held, settings_of}
-use Rattle.trips_answers.specs.Read.{HoldsInput, IsTold, limit_of}
+use Rattle.trips_answers.specs.Request.{Request, origin_held}
+use Rattle.trips_answers.specs.Settings.{settings_of}
+use Rattle.trips_answers.specs.Read.{HoldsInput}
+use Rattle.trips_answers.specs.Asks.{limit_of}
 use Rattle.trips_answers.specs.Refused.{IsLarge}
 use Rattle.trips_requests.specs.Texts.{output_and}
-use Rattle.trips_answers.specs.Report.{ending_of, shown_behind, nothing_shown}
+use Rattle.trips_answers.specs.Report.{ending_of, shown_behind}
 use Rattle.trips_answers.specs.Counted.{IsCountedRun}
 use Rattle.trips_answers.specs.Worked.{IsWorked}
 use Rattle.trips_answers.specs.Answer.{IsAnswer}
@@ -34,10 +31,6 @@ abbrev pub IsAnswered : Option Request → (List ℕ → Option (List ℕ)) → 
     → Option (List ℕ) → Option (List ℕ) → Type 0 → Status → Type 0
 IsAnswered request held rose old new cut s = IsWritten (IsAnswer request held rose) old new cut s
 
--- the report of a run that ended with an output and a result
-abbrev pub ended_report : List ℕ → ℤ → List ℕ
-ended_report output result = output_and output (codes "result " ++ signed_decimal result)
-
 -- the report of a run whose stack was full, with the output so far
 abbrev pub full_report : List ℕ → List ℕ
 full_report output = output_and output (codes "stack full")
@@ -46,24 +39,6 @@ full_report output = output_and output (codes "stack full")
 abbrev pub IsOneOf : Status → List Status → Type 0
 IsOneOf s [] = ⊥
 IsOneOf s (one ∷ others) = (s ≡ one) ⊎ IsOneOf s others
-
--- The request asks for this work on a file that is read so, within so many blocks or steps: the
--- file and the input are told, are these, and are within their limits. This is what a run shows.
-pub record AsksFor (request : Option Request) (held : List ℕ → Option (List ℕ)) (work : Work)
-    (how : FileForm) (most : ℕ) (show : Show) (bytes input : List ℕ) : Type 0 where
-  pub q : Request
-  pub asked : request ≡ Some q
-  pub is_work : q.work ≡ work
-  pub is_form : q.form ≡ how
-  pub is_most : q.most ≡ most
-  pub is_show : q.show ≡ show
-  pub told : IsTold q held bytes input
-
--- the same where nothing is shown behind the ending
-abbrev pub Asks : Option Request → (List ℕ → Option (List ℕ)) → Work → FileForm → ℕ → List ℕ
-    → List ℕ → Type 0
-Asks request held work how most bytes input =
-    AsksFor request held work how most nothing_shown bytes input
 
 -- The run of an image was reported: with this status, and with this text, behind which stands what is shown of the end
 -- of the machine's run and of the counts of the grid's run.

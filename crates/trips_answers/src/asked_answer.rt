@@ -2,8 +2,9 @@
 
 ghost use Rattle.std.specs.Prelude.{◌≡◌, ◌<◌, ◌≤◌, length, Some, IfOk, IfSome, option_map};
 ghost use Rattle.trips_outside.specs.Outside.{Rose};
-ghost use Rattle.trips_answers.specs.Request.{form_of, settings_of, request_seen};
-ghost use Rattle.trips_answers.specs.Read.{limit_of};
+ghost use Rattle.trips_answers.specs.Request.{form_of};
+ghost use Rattle.trips_answers.specs.Settings.{settings_of, request_seen};
+ghost use Rattle.trips_answers.specs.Asks.{limit_of};
 ghost use Rattle.trips_answers.specs.Worked.{IsDone};
 ghost use Rattle.trips_answers.specs.Answer.{IsAnswerBehind, IsAnswer};
 ghost use Rattle.trips_requests.specs.Read.{AfterReading};

@@ -3,7 +3,8 @@
 ghost use Rattle.std.specs.Prelude.{◌≡◌, ◌≤◌, option_copied, IfOk};
 ghost use Rattle.trips_outside.specs.Outside.{Rose};
 ghost use Rattle.trips_answers.specs.Request.{origin_held, origin_of};
-ghost use Rattle.trips_answers.specs.Read.{IsInputRead, most_input_bytes};
+ghost use Rattle.trips_answers.specs.Read.{IsInputRead};
+ghost use Rattle.trips_answers.specs.Asks.{most_input_bytes};
 ghost use Rattle.trips_requests.specs.Read.{IsRead, IsWithin};
 
 use base::Items;

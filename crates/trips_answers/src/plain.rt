@@ -8,7 +8,7 @@ ghost use Rattle.trips_requests.specs.Plain as line;
 ghost use Rattle.trips_eval_answers.specs.Answer.{IsEvalAnswer};
 ghost use Rattle.trips_tools.specs.Answer.{IsToolAnswer};
 ghost use Rattle.trips_answers.specs.declared.forms.FileForm.TheVariants.{Source};
-ghost use Rattle.trips_answers.specs.Read.{limit_of};
+ghost use Rattle.trips_answers.specs.Asks.{limit_of};
 ghost use Rattle.trips_answers.specs.Worked.{IsDone};
 ghost use Rattle.trips_answers.specs.Answer.{IsAnswer};
 ghost use Rattle.trips_answers.specs.Table.{IsAnswered};

@@ -3,7 +3,8 @@ use Rattle.std.specs.Prelude.{◌≡◌, ◌≢◌, ◌⊎◌, ℕ, List}
 use Rattle.c_tree.specs.declared.typed.TypedProgram.{TypedProgram}
 use Rattle.c_front.specs.declared.refusal.Refusal.{Refusal}
 use Rattle.c_front.specs.declared.refusal.Refusal.TheVariants.{Memory}
-use Rattle.c_front.specs.Fronts.{IsAccepted, IsRefused}
+use Rattle.c_front.specs.Fronts.{IsAccepted}
+use Rattle.c_front.specs.Refusals.{IsRefused}
 use Rattle.c_meaning_spec.specs.Eval.{eval}
 use Rattle.c_meaning.specs.declared.outcome.Outcome.{Outcome}
 use Rattle.c_meaning.specs.declared.outcome.Outcome.TheVariants as outcome

@@ -5,8 +5,7 @@ use Rattle.std.specs.Prelude.{◌&&◌}
 use Rattle.std.proofs.lemmas.Bool.Decides.{nat_tests}
 use Rattle.trips_requests.specs.declared.commands.Verb.{Verb}
 use Rattle.trips_requests.specs.declared.commands.Asked.{Asked}
-use Rattle.trips_requests.specs.Limits.{most_count}
-use Rattle.trips_requests.specs.Numbers.{is_number, value_from, number_to}
+use Rattle.trips_requests.specs.Limits.{most_count, is_number, value_from, number_to}
 use Rattle.trips_requests.specs.Words.{Text, file_name, value_said, words_read}
 use Rattle.trips_requests.specs.Options.{Options, options_of, options_said}
 use Rattle.trips_requests.specs.Requests.{Request, verb_named, request_seen, asked}

@@ -3,7 +3,7 @@ use Rattle.std.proofs.Common.{◌≡◌, ℕ, ◌+◌, ◌-◌, ◌*◌, ◌<◌
 use Rattle.std.proofs.Common.{◌∷◌, length, get_or, drop, None, Some, arith, ap, ◌∙◌}
 use Rattle.std.proofs.Common.{sym, add-one, drop-cons}
 use Rattle.std.proofs.lemmas.Bool.Decides.{nat_tests}
-use Rattle.trips_requests.specs.Numbers.{value_from}
+use Rattle.trips_requests.specs.Limits.{value_from}
 
 value_grows : (value : ℕ) (digits : List ℕ) → value ≤ value_from value digits
 value_grows value [] = omega arith

@@ -5,7 +5,8 @@ use Rattle.std.specs.Prelude.{◌==◌, ◌&&◌, not, option_and_then}
 use Rattle.std.specs.Str.{bytes_eq}
 use Rattle.std.proofs.lemmas.Option.{none-some}
 use Rattle.std.proofs.lemmas.Slice.Eq.{bytes_eq-Decides}
-use Rattle.trips_requests.specs.declared.commands.Command.TheVariants.{Run, Evaluate, Compile, Assemble, Disassemble, Check}
+use Rattle.trips_requests.specs.declared.commands.Command.TheVariants.{Run, Evaluate, Compile, Assemble}
+use Rattle.trips_requests.specs.declared.commands.Command.TheVariants.{Disassemble, Check}
 use Rattle.trips_requests.specs.declared.commands.AskedTool.{AskedTool}
 use Rattle.trips_requests.specs.declared.commands.Tool.{Tool}
 use Rattle.trips_requests.specs.declared.commands.Tool.TheVariants as tools
@@ -169,7 +170,8 @@ behind_named first file (Some tool) found n s = go (begins_with_dash file) refl 
         → asked (first ∷ file ∷ []) ≡ Some (default_request (work_of found.0) found.1)
     go true e s = absurd (none-some found s)
     go false e s =
-        let same : (tool, file) ≡ found = ap (λ (o : Option (Tool × Text)). elim o [ None ↦ (tool, file) | Some x ↦ x ]) s in
+        let same : (tool, file) ≡ found =
+            ap (λ (o : Option (Tool × Text)). elim o [ None ↦ (tool, file) | Some x ↦ x ]) s in
         subst (λ (x : Tool × Text). asked (first ∷ file ∷ []) ≡ Some (default_request (work_of x.0) x.1)) same
         (named_of first file tool n e)
 

@@ -2,7 +2,6 @@ pub mod Limits
 pub mod Words
 pub mod Options
 pub mod Requests
-pub mod Numbers
 pub mod Plain
 pub mod Texts
 pub mod Read

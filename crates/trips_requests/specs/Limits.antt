@@ -1,6 +1,8 @@
--- The limits of the numbers of a command line, and the number that stands where none is said (README.md
--- of this crate). Own.
-use Rattle.std.specs.Prelude.{ℕ}
+-- Numbers of the command line (one or more decimal digits), their limits and those of files, and the number
+-- that stands where none is said (README.md of this crate). Own.
+use Rattle.std.specs.Prelude.{ℕ, ◌+◌, ◌-◌, ◌*◌, Bool, not, ◌&&◌, ◌==◌, nat_le, if◌then◌else◌, List, [], ◌∷◌, length}
+use Rattle.std.specs.Prelude.{Option, None, Some}
+use Rattle.std.specs.List.{list_all}
 
 -- the functions that the benchmark's text may have
 abbrev pub most_functions : ℕ
@@ -17,3 +19,35 @@ most_seed = 18446744073709551615
 -- the blocks or steps that are taken where none are asked for
 abbrev pub default_count : ℕ
 default_count = 1000000
+
+-- how many bytes an image may have
+unfoldable pub most_image_bytes : ℕ
+most_image_bytes = 71303188
+
+-- how many bytes a target text may have
+unfoldable pub most_target_bytes : ℕ
+most_target_bytes = 67108864
+
+-- a byte from `0` to `9`
+abbrev pub is_digit : ℕ → Bool
+is_digit byte = nat_le 48 byte && nat_le byte 57
+
+-- the word has one digit at least, and nothing else
+abbrev pub is_number : List ℕ → Bool
+is_number word = not (length word == 0) && list_all is_digit word
+
+-- the value of digits behind those of a value
+abbrev pub value_from : ℕ → List ℕ → ℕ
+value_from value [] = value
+value_from value (digit ∷ digits) = value_from (value * 10 + (digit - 48)) digits
+
+-- the number, where it is at most the greatest
+abbrev pub number_within : ℕ → List ℕ → Option ℕ
+number_within most word =
+    if is_number word && nat_le (value_from 0 word) most then Some (value_from 0 word) else None
+
+-- the number, where it is from 1 to the greatest
+abbrev pub number_to : ℕ → List ℕ → Option ℕ
+number_to most word =
+    if is_number word && (nat_le 1 (value_from 0 word) && nat_le (value_from 0 word) most)
+    then Some (value_from 0 word) else None

@@ -9,7 +9,7 @@ use Rattle.trips_requests.specs.declared.commands.Asked.{Asked}
 use Rattle.trips_requests.specs.declared.commands.Verb.{Verb}
 use Rattle.trips_requests.specs.declared.commands.Verb.TheVariants as verb
 use Rattle.trips_requests.specs.Limits.{default_count, most_count, most_functions, most_seed}
-use Rattle.trips_requests.specs.Numbers.{number_to, number_within}
+use Rattle.trips_requests.specs.Limits.{number_to, number_within}
 use Rattle.trips_requests.specs.Options.{Options, options_of, options_said}
 use Rattle.trips_requests.specs.Words.{Text, Said, file_name, value_said, words_read}
 

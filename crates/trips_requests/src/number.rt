@@ -1,5 +1,5 @@
 ghost use Rattle.std.specs.Prelude.{◌≡◌, ◌≤◌, ◌&&◌, nat_le, if◌then◌else◌, None, Some, IfSome};
-ghost use Rattle.trips_requests.specs.Numbers.{is_number, value_from, number_to, number_within};
+ghost use Rattle.trips_requests.specs.Limits.{is_number, value_from, number_to, number_within};
 
 // The word is one or more decimal digits.
 fn is_number_word(word: &[u8]) -> bool

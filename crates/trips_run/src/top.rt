@@ -20,14 +20,16 @@ ghost use Rattle.trips_requests.specs.declared.commands.Command.TheVariants.{Run
 ghost use Rattle.trips_requests.specs.declared.commands.Command.TheVariants.{Assemble, Disassemble, Check};
 ghost use Rattle.trips_answers.specs.declared.forms.FileForm.{FileForm};
 ghost use Rattle.trips_answers.specs.declared.forms.FileForm.TheVariants as form;
-ghost use Rattle.trips_answers.specs.Request.{Request, request_of, settings_with};
+ghost use Rattle.trips_answers.specs.Request.{Request, request_of};
+ghost use Rattle.trips_answers.specs.Settings.{settings_with};
 ghost use Rattle.trips_eval_answers.specs.Reports.{eval_report};
 ghost use Rattle.trips_requests.specs.Texts.{too_large_text};
 ghost use Rattle.trips_answers.specs.Refused.{IsRefusedAs, MayBeRefused, IsRefused};
 ghost use Rattle.trips_answers.specs.Worked.{status_of};
 ghost use Rattle.trips_eval_answers.specs.Evaluation.{eval_status, outcome_of};
 ghost use Rattle.trips_answers.specs.Report.{ending_of, run_report};
-ghost use Rattle.trips_answers.specs.Table.{IsAnswered, IsCutOff, IsOneOf, ended_report, full_report, Asks, AsksFor};
+ghost use Rattle.trips_answers.specs.Table.{IsAnswered, IsCutOff, IsOneOf, full_report};
+ghost use Rattle.trips_answers.specs.Asks.{ended_report, Asks, AsksFor};
 ghost use Rattle.trips_answers.specs.Table.{HasLargeFile, HasLargeInput, EndsAs, EvalEnds, IsReported};
 ghost use Rattle.trips_answers.specs.Evaluated.{RunEndsAs};
 ghost use Rattle.trips_answers.specs.Ended.{ResultMeans};

@@ -1,4 +1,5 @@
-//! `run` and `bench` on the grid: what is counted of a run, and that neither a seed nor a placing changes what it does.
+//! `run` and `bench` on the grid: what is counted of a run, and that neither a seed nor a placing changes what it
+//! does.
 
 use crate::tool_tests::STORED;
 use std::alloc::{AllocError, Global};

@@ -1,5 +1,5 @@
-//! Programs whose blocks are placed in several ways, compiled and run: the image that `compile` writes is the one that `run`
-//! makes, as far as a run shows it.
+//! Programs whose blocks are placed in several ways, compiled and run: the image that `compile` writes is the one
+//! that `run` makes, as far as a run shows it.
 
 use std::alloc::{AllocError, Global};
 use std::process::Abort;

@@ -6,8 +6,8 @@ use std::test::Fail;
 use trips_run::Status;
 use trips_run_harness::answer_of;
 
-// Block 0 puts 7 into register 5. Block 1 would put 9 there and end with 8, but a division by zero reaches its write of
-// register 3.
+// Block 0 puts 7 into register 5. Block 1 would put 9 there and end with 8, but a division by zero reaches its write
+// of register 3.
 const LATE: &str = "trips 1
 data 0
 block 0 mask 00000000

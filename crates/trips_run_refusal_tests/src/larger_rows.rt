@@ -1,6 +1,7 @@
 //! What is refused of switches, of the short types and of arrays with two sizes.
 
-// Bodies of `main` that the grammar refuses: labels elsewhere than in a switch's own braces, declarations directly in them, lists.
+// Bodies of `main` that the grammar refuses: labels elsewhere than in a switch's own braces, declarations directly in
+// them, lists.
 pub(crate) const SYNTAX_BODIES: &[&str] = &[
     "case 0: ;",
     "default: ;",
@@ -74,9 +75,12 @@ pub(crate) const SYNTAX_ITEMS: &[&str] = &[
 
 // What the bodies of MISMATCHED see.
 pub(crate) const HEAD: &str =
-    "int t[2]; int u[2][2]; int f(void) { return 0; } void v(void) { } int g(int a[]) { return a[0]; } int h(int a[][3]) { return a[0][0]; } int k(short a[][2]) { return a[0][0]; } int m(unsigned a[][2]) { return a[0][0]; } ";
+    "int t[2]; int u[2][2]; int f(void) { return 0; } void v(void) { } int g(int a[]) { return a[0]; } \
+     int h(int a[][3]) { return a[0][0]; } int k(short a[][2]) { return a[0][0]; } \
+     int m(unsigned a[][2]) { return a[0][0]; } ";
 
-// Bodies of `main` behind HEAD: jumps that leave nothing, case values that are no constants, rows, and numbers of indexes.
+// Bodies of `main` behind HEAD: jumps that leave nothing, case values that are no constants, rows, and numbers of
+// indexes.
 pub(crate) const MISMATCHED: &[&str] = &[
     "switch (0) { case 0: continue; }",
     "break;",
@@ -221,7 +225,8 @@ pub(crate) const AT_LINES: &[(&str, &str)] = &[
         "refused type 9 TooLarge line 2\n",
     ),
     (
-        "int t[2][2];\nint main(void) { return\nt[0][t[0][t[0][t[0][t[0][t[0][t[0][t[0][t[0][t[0][t[0][t[0][t[0][t[0][t[0][t[0][0]]]]]]]]]]]]]]]]; }",
+        "int t[2][2];\nint main(void) { return\n\
+         t[0][t[0][t[0][t[0][t[0][t[0][t[0][t[0][t[0][t[0][t[0][t[0][t[0][t[0][t[0][t[0][0]]]]]]]]]]]]]]]]; }",
         "refused type 8 Need line 3\n",
     ),
 ];

@@ -11,12 +11,14 @@ type Few = (&'static str, &'static str, &'static str);
 // A turn of these loops takes one block, which jumps to itself, and the way there and back six.
 const FEW: &[Few] = &[
     (
-        "long a[9]; int main(void) { int i; a[0] = 1; for (i = 1; i < 9; i++) a[i] = a[i - 1] * 2; return (int) a[8]; }",
+        "long a[9]; int main(void) { int i; a[0] = 1; for (i = 1; i < 9; i++) a[i] = a[i - 1] * 2; \
+         return (int) a[8]; }",
         "14",
         "output 0\n\nresult 256\n",
     ),
     (
-        "int main(void) { int i; int s = 0; for (i = 0; i < 10; i++) { s = s * 3 + i; s = s % 1000; s = s ^ 5; } return s; }",
+        "int main(void) { int i; int s = 0; for (i = 0; i < 10; i++) { s = s * 3 + i; s = s % 1000; s = s ^ 5; } \
+         return s; }",
         "16",
         "output 0\n\nresult 609\n",
     ),
@@ -87,7 +89,9 @@ const CROWDS: &[Crowd] = &[
         "return x; }",
     ),
     (
-        "int main(void) { int a=1,b=2,c=3,d=4,e=5,f=6,g=7,h=8,i=9,j=10,k=11,l=12,m=13,n=14,o=15,p=16; int q=17,r=18,s=19,t=20,u=21,v=22,w=23,x=24,y=25,z=26; int aa=27,bb=28,cc=29,dd=30,ee=31,ff=32,gg=33,hh=34,ii=35,jj=36; ",
+        "int main(void) { int a=1,b=2,c=3,d=4,e=5,f=6,g=7,h=8,i=9,j=10,k=11,l=12,m=13,n=14,o=15,p=16; \
+         int q=17,r=18,s=19,t=20,u=21,v=22,w=23,x=24,y=25,z=26; \
+         int aa=27,bb=28,cc=29,dd=30,ee=31,ff=32,gg=33,hh=34,ii=35,jj=36; ",
         "a = b + jj; ",
         "return a+b+c+d+e+f+g+h+i+j+k+l+m+n+o+p+q+r+s+t+u+v+w+x+y+z+aa+bb+cc+dd+ee+ff+gg+hh+ii+jj; }",
     ),

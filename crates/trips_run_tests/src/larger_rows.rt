@@ -1,13 +1,16 @@
-//! Texts of C with `short` and with arrays of two sizes, what they return, what the new forms cost, and what is undefined.
+//! Texts of C with `short` and with arrays of two sizes, what they return, what the new forms cost, and what is
+//! undefined.
 
 // Arrays with two sizes: global, local, and as parameters.
 pub(crate) const TWO_SIZES: &[(&str, &str)] = &[
     (
-        "short t[2][3] = {{1, 2, 3}, {4}}; int main(void) { int i; int j; int s = 0; for (i = 0; i < 2; i++) for (j = 0; j < 3; j++) s = s * 10 + t[i][j]; return s; }",
+        "short t[2][3] = {{1, 2, 3}, {4}}; int main(void) { int i; int j; int s = 0; \
+         for (i = 0; i < 2; i++) for (j = 0; j < 3; j++) s = s * 10 + t[i][j]; return s; }",
         "123400",
     ),
     (
-        "int f(int n, short a[][2]) { a[1][1] = n; return a[0][0]; } int main(void) { short a[2][2]; a[0][0] = 3; return f(4, a) * 10 + a[1][1]; }",
+        "int f(int n, short a[][2]) { a[1][1] = n; return a[0][0]; } int main(void) { short a[2][2]; a[0][0] = 3; \
+         return f(4, a) * 10 + a[1][1]; }",
         "34",
     ),
     (
@@ -15,23 +18,31 @@ pub(crate) const TWO_SIZES: &[(&str, &str)] = &[
         "23",
     ),
     (
-        "long t[3][2] = {{1, -2}, {3,}, }; int sum(long a[7][2]) { return a[0][0] + a[0][1] * 10 + a[1][0] * 100 + a[2][1] * 1000; } int main(void) { t[2][1] = 5; return sum(t); }",
+        "long t[3][2] = {{1, -2}, {3,}, }; \
+         int sum(long a[7][2]) { return a[0][0] + a[0][1] * 10 + a[1][0] * 100 + a[2][1] * 1000; } \
+         int main(void) { t[2][1] = 5; return sum(t); }",
         "5281",
     ),
     (
-        "int g(int a[][3], int i, int j) { return a[i][j]; } int h(int a[][3]) { a[1][2] += 2; return g(a, 1, 2); } int main(void) { int a[2][3]; a[1][2] = 5; return h(a) * 10 + a[1][2]; }",
+        "int g(int a[][3], int i, int j) { return a[i][j]; } int h(int a[][3]) { a[1][2] += 2; return g(a, 1, 2); } \
+         int main(void) { int a[2][3]; a[1][2] = 5; return h(a) * 10 + a[1][2]; }",
         "77",
     ),
     (
-        "unsigned char t[2][4] = {{250, 251, 252, 253}, {254}}; int main(void) { int i; for (i = 0; i < 4; i++) t[1][i] += t[0][i] + 10; return t[1][0] * 1000000 + t[1][1] * 10000 + t[1][2] * 100 + t[1][3]; }",
+        "unsigned char t[2][4] = {{250, 251, 252, 253}, {254}}; int main(void) { int i; \
+         for (i = 0; i < 4; i++) t[1][i] += t[0][i] + 10; \
+         return t[1][0] * 1000000 + t[1][1] * 10000 + t[1][2] * 100 + t[1][3]; }",
         "2050607",
     ),
     (
-        "int main(void) { int a[3][3]; int i; int j; for (i = 0; i < 3; i++) for (j = 0; j < 3; j++) a[i][j] = i * 3 + j; return a[a[0][1]][a[0][2]] * 100 + a[a[a[0][1] - 1][2]][a[0][a[0][0]]]; }",
+        "int main(void) { int a[3][3]; int i; int j; \
+         for (i = 0; i < 3; i++) for (j = 0; j < 3; j++) a[i][j] = i * 3 + j; \
+         return a[a[0][1]][a[0][2]] * 100 + a[a[a[0][1] - 1][2]][a[0][a[0][0]]]; }",
         "506",
     ),
     (
-        "int n; int k(int x) { n = n * 10 + x; return x; } int main(void) { int a[3][3]; a[k(1)][k(2)] = k(0); a[k(2)][k(0)] = a[k(1)][k(2)]++; return n * 10 + a[1][2] + a[2][0]; }",
+        "int n; int k(int x) { n = n * 10 + x; return x; } int main(void) { int a[3][3]; a[k(1)][k(2)] = k(0); \
+         a[k(2)][k(0)] = a[k(1)][k(2)]++; return n * 10 + a[1][2] + a[2][0]; }",
         "12020121",
     ),
     (
@@ -47,15 +58,18 @@ pub(crate) const TWO_SIZES: &[(&str, &str)] = &[
         "3",
     ),
     (
-        "int t[2][2], u[4] = {1, 2, 3, 4}, v = 5; int main(void) { int a[2][2], b[2], c = 6; a[1][1] = b[1] = c; return t[0][0] + u[3] + v + a[1][1]; }",
+        "int t[2][2], u[4] = {1, 2, 3, 4}, v = 5; int main(void) { int a[2][2], b[2], c = 6; a[1][1] = b[1] = c; \
+         return t[0][0] + u[3] + v + a[1][1]; }",
         "15",
     ),
     (
-        "int f(int a[][2]); int f(int b[4][1 + 1]) { return b[0][1]; } int t[3][2] = {{1, 2}}; int main(void) { return f(t); }",
+        "int f(int a[][2]); int f(int b[4][1 + 1]) { return b[0][1]; } int t[3][2] = {{1, 2}}; \
+         int main(void) { return f(t); }",
         "2",
     ),
     (
-        "int t[2][2]; int main(void) { return t[0][t[0][t[0][t[0][t[0][t[0][t[0][t[0][t[0][t[0][t[0][t[0][t[0][t[0][t[0][0]]]]]]]]]]]]]]] + 3; }",
+        "int t[2][2]; int main(void) { \
+         return t[0][t[0][t[0][t[0][t[0][t[0][t[0][t[0][t[0][t[0][t[0][t[0][t[0][t[0][t[0][0]]]]]]]]]]]]]]] + 3; }",
         "3",
     ),
 ];
@@ -149,7 +163,8 @@ pub(crate) const SHORTS: &[(&str, &str)] = &[
     ),
     ("int main(void) { unsigned short x = 0; return ~x; }", "-1"),
     (
-        "short f(long x) { return x; } unsigned short g(int x) { return x; } int main(void) { return f(65535 + 65536) * 1000000 + g(-1); }",
+        "short f(long x) { return x; } unsigned short g(int x) { return x; } \
+         int main(void) { return f(65535 + 65536) * 1000000 + g(-1); }",
         "-934465",
     ),
     (
@@ -157,11 +172,14 @@ pub(crate) const SHORTS: &[(&str, &str)] = &[
         "-34466",
     ),
     (
-        "signed short a = 1; short int b = 2; signed short int c = 3; unsigned short d = -1; unsigned short int e = -2; short x[2] = {40000, -40000}; int main(void) { return a + b + c + d + e + x[0] + x[1]; }",
+        "signed short a = 1; short int b = 2; signed short int c = 3; unsigned short d = -1; \
+         unsigned short int e = -2; short x[2] = {40000, -40000}; \
+         int main(void) { return a + b + c + d + e + x[0] + x[1]; }",
         "131075",
     ),
     (
-        "int main(void) { short s[3]; unsigned short t[3]; s[0] = -1; t[0] = -1; s[1] = 7; t[1] = 9; return (s[0] == t[0]) * 1000 + s[0] * t[1] + s[1]; }",
+        "int main(void) { short s[3]; unsigned short t[3]; s[0] = -1; t[0] = -1; s[1] = 7; t[1] = 9; \
+         return (s[0] == t[0]) * 1000 + s[0] * t[1] + s[1]; }",
         "-2",
     ),
     (
@@ -242,7 +260,8 @@ pub(crate) const LARGER_COUNTED: &[(&str, &str)] = &[
     ),
 ];
 
-// An index outside its own dimension, an element that was not set, and operators at short types whose result no int holds.
+// An index outside its own dimension, an element that was not set, and operators at short types whose result no int
+// holds.
 pub(crate) const LARGER_UNDEFINED: &[&str] = &[
     "short t[2][3]; int main(void) { return t[0][3]; }",
     "short t[2][3]; int main(void) { return t[0][3]; }",
@@ -263,5 +282,6 @@ pub(crate) const LARGER_UNDEFINED: &[&str] = &[
     "int main(void) { short x = 1; return x << 31; }",
     "int main(void) { int x; switch (2) { case 1: x = 3; } return x; }",
     "int f(void) { switch (1) { case 0: return 3; } } int main(void) { return f(); }",
-    "int main(void) { int i; int s = 0; for (i = 0; i < 2; i++) switch (i) { case 0: { int x; x = 1; s += x; } default: { int x; if (i == 1) s += x; } } return s; }",
+    "int main(void) { int i; int s = 0; for (i = 0; i < 2; i++) switch (i) { case 0: { int x; x = 1; s += x; } \
+     default: { int x; if (i == 1) s += x; } } return s; }",
 ];

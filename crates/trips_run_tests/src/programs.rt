@@ -11,7 +11,8 @@ pub(crate) struct Program {
 
 const VM: &str = "#include <stdio.h>
 short code[][2] = {
-  {0, 10}, {1, 0}, {0, 1}, {1, 1}, {2, 1}, {2, 0}, {5, 0}, {1, 1}, {2, 0}, {0, 1}, {4, 0}, {1, 0}, {2, 0}, {6, 4}, {2, 1}, {7, 0}, {8, 0},
+  {0, 10}, {1, 0}, {0, 1}, {1, 1}, {2, 1}, {2, 0}, {5, 0}, {1, 1}, {2, 0}, {0, 1}, {4, 0}, {1, 0}, {2, 0}, {6, 4}, \
+      {2, 1}, {7, 0}, {8, 0},
 };
 long run(int limit) {
   long stack[8];
@@ -101,7 +102,8 @@ int main(void) {
 ";
 
 const PATHS: &str = "unsigned short far = 65535;
-unsigned short way[5][5] = {{0, 3, 65535, 7, 65535}, {65535, 0, 1, 65535, 9}, {65535, 65535, 0, 2, 6}, {65535, 65535, 65535, 0, 2}, {4, 65535, 65535, 65535, 0}};
+unsigned short way[5][5] = {{0, 3, 65535, 7, 65535}, {65535, 0, 1, 65535, 9}, {65535, 65535, 0, 2, 6}, \
+    {65535, 65535, 65535, 0, 2}, {4, 65535, 65535, 65535, 0}};
 void shortest(unsigned short way[][5]) {
   int k, i, j;
   for (k = 0; k < 5; k++)
@@ -120,7 +122,8 @@ int main(void) {
 ";
 
 const COMMON: &str = "#include <stdio.h>
-char words[2][16] = {{'a', 'l', 'g', 'o', 'r', 'i', 't', 'h', 'm'}, {'l', 'o', 'g', 'a', 'r', 'i', 't', 'h', 'm', 's'}};
+char words[2][16] = {{'a', 'l', 'g', 'o', 'r', 'i', 't', 'h', 'm'}, \
+    {'l', 'o', 'g', 'a', 'r', 'i', 't', 'h', 'm', 's'}};
 int length(char rows[2][16], int row) {
   int n = 0;
   while (rows[row][n]) n++;
@@ -146,7 +149,8 @@ int main(void) {
 ";
 
 const BRAIN: &str = "#include <stdio.h>
-char text[] = {'+', '+', '+', '+', '+', '+', '+', '[', '>', '+', '+', '+', '+', '+', '+', '+', '+', '+', '+', '<', '-', ']', '>', '+', '+', '.', '+', '.', '[', '-', ']', ',', '[', '.', ',', ']', 0};
+char text[] = {'+', '+', '+', '+', '+', '+', '+', '[', '>', '+', '+', '+', '+', '+', '+', '+', '+', '+', '+', '<', \
+    '-', ']', '>', '+', '+', '.', '+', '.', '[', '-', ']', ',', '[', '.', ',', ']', 0};
 unsigned char tape[4];
 int main(void) {
   short at = 0, head = 0, depth;
@@ -190,8 +194,10 @@ int main(void) {
   long sum = 0;
   short year;
   char month;
-  for (year = 1896; year < 1905; year++) for (month = 1; month <= 12; month++) sum = (sum * 32 + days(month, year)) % 1000003;
-  for (year = 1999; year < 2002; year++) for (month = 1; month <= 12; month++) sum = (sum * 32 + days(month, year)) % 1000003;
+  for (year = 1896; year < 1905; year++) for (month = 1; month <= 12; month++) \
+      sum = (sum * 32 + days(month, year)) % 1000003;
+  for (year = 1999; year < 2002; year++) for (month = 1; month <= 12; month++) \
+      sum = (sum * 32 + days(month, year)) % 1000003;
   return (int) sum;
 }
 ";

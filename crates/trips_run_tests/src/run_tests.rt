@@ -34,16 +34,23 @@ const SUFFIXES: &[&str] = &["++", "--"];
 
 // A statement of each kind, nested, with calls, arrays, and jumps out of loops.
 const STATEMENTS: &[&str] = &[
-    "int main(void) { int i; int s = 0; for (i = 0; i < 9; i++) { if (i == 3) continue; if (i == 7) break; s += i; } return s; }",
+    "int main(void) { int i; int s = 0; for (i = 0; i < 9; i++) { if (i == 3) continue; if (i == 7) break; s += i; } \
+     return s; }",
     "int main(void) { int i = 0; do { i++; if (i == 2) continue; } while (i < 5); return i; }",
     "int main(void) { int i = 9; while (i) { i--; if (i < 4) break; } return i; }",
     "int a[4]; int main(void) { int i; for (i = 0; i < 4; i++) a[i] = i * i; return a[1] + a[2] * a[3]; }",
-    "int f(int n, int a[]) { a[n] = n; return n == 0 ? 1 : n * f(n - 1, a); } int main(void) { int a[6]; return f(5, a) + a[3]; }",
-    "int e(int n); int o(int n) { return n == 0 ? 0 : e(n - 1); } int e(int n) { return n == 0 ? 1 : o(n - 1); } int main(void) { return e(10) * 2 + o(7); }",
-    "int f(int a, int b, int c, int d, int e, int g, int h, int i) { return a + 2 * b + 3 * c + 4 * d + 5 * e + 6 * g + 7 * h + 8 * i; } int main(void) { return f(1, 2, 3, 4, 5, 6, 7, 8); }",
+    "int f(int n, int a[]) { a[n] = n; return n == 0 ? 1 : n * f(n - 1, a); } int main(void) { int a[6]; \
+     return f(5, a) + a[3]; }",
+    "int e(int n); int o(int n) { return n == 0 ? 0 : e(n - 1); } int e(int n) { return n == 0 ? 1 : o(n - 1); } \
+     int main(void) { return e(10) * 2 + o(7); }",
+    "int f(int a, int b, int c, int d, int e, int g, int h, int i) { \
+     return a + 2 * b + 3 * c + 4 * d + 5 * e + 6 * g + 7 * h + 8 * i; } \
+     int main(void) { return f(1, 2, 3, 4, 5, 6, 7, 8); }",
     "int g; void f(void) { g = g * 2 + 1; } int main(void) { f(); f(); { int g = 5; f(); g++; } return g; }",
     "int main(void) { int x = 5; int y = x > 3 ? x < 5 ? 1 : 2 : 3; return (x == 5 && y == 2) || x / y; }",
-    "char a[] = { 3, 1, 2, }; int main(void) { int i; int j; for (i = 0; i < 3; i++) for (j = 0; j + 1 < 3; j++) if (a[j] > a[j + 1]) { char t = a[j]; a[j] = a[j + 1]; a[j + 1] = t; } return a[0] * 100 + a[1] * 10 + a[2]; }",
+    "char a[] = { 3, 1, 2, }; int main(void) { int i; int j; \
+     for (i = 0; i < 3; i++) for (j = 0; j + 1 < 3; j++) if (a[j] > a[j + 1]) { char t = a[j]; a[j] = a[j + 1]; \
+     a[j + 1] = t; } return a[0] * 100 + a[1] * 10 + a[2]; }",
     "long f(int n) { if (n < 2) return n; return f(n - 1) + f(n - 2); } int main(void) { return (int) f(12); }",
     "int main(void) { for (;;) { for (;;) break; break; } if (1) { } else return 1; return 2; }",
 ];

@@ -78,7 +78,8 @@ fn is_undefined_outside_of_rows_and_ranges(rt: HostRuntime) -> Result<(), Fail> 
     Ok(())
 }
 
-// A switch counts one of its function's scalars: so a frame has 160 bytes, and 6,552 of them have room above that of `main`.
+// A switch counts one of its function's scalars: so a frame has 160 bytes, and 6,552 of them have room above that of
+// `main`.
 const LAST_FRAME: &str =
     "int f(int n) { switch (n) { case 0: return 7; } return f(n - 1); } int main(void) { return f(6551); }";
 

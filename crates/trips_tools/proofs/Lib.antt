@@ -1,2 +1,2 @@
-pub mod ToolAnswersMade
-pub mod Whole
+pub mod MadeAnswers
+pub mod WrittenWhole

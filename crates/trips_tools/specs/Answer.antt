@@ -8,14 +8,7 @@ use Rattle.trips_requests.specs.declared.status.Status.TheVariants as status
 use Rattle.trips_requests.specs.Texts.{usage_text, IsFixed}
 use Rattle.trips_requests.specs.Read.{IsRead, AfterReading}
 use Rattle.trips_tools.specs.ToolAnswers.{IsToolDone}
-
--- how many bytes an image may have
-unfoldable pub most_image_bytes : ℕ
-most_image_bytes = 71303188
-
--- how many bytes a target text may have
-unfoldable pub most_target_bytes : ℕ
-most_target_bytes = 67108864
+use Rattle.trips_requests.specs.Limits.{most_image_bytes, most_target_bytes}
 
 -- how many bytes a tool's file may have
 abbrev pub limit_of : Tool → ℕ

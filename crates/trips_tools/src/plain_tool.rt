@@ -5,7 +5,7 @@ ghost use Rattle.trips_outside.specs.Outside.{Rose, Appended};
 ghost use Rattle.trips_requests.specs.Plain as line;
 ghost use Rattle.trips_requests.specs.Table.{IsWritten};
 ghost use Rattle.trips_tools.specs.Answer.{limit_of, IsToolAnswer};
-ghost use Rattle.trips_tools.specs.Answer as limits;
+ghost use Rattle.trips_requests.specs.Limits as limits;
 
 use crate::tool_answers::tool_done;
 use std::alloc::{AllocError, Global};

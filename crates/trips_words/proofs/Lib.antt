@@ -3,7 +3,7 @@ pub mod Rows
 pub mod Faults
 pub mod Dashes
 pub mod Settling
-pub mod Turns
+pub mod OneWord
 pub mod Walks
 pub mod Defaults
 pub mod Matches

@@ -21,7 +21,7 @@ use Rattle.trips_words.specs.Read.{raw_app, rules_for, shape_for, IsRead, is_fla
 use Rattle.trips_words.proofs.Rows.{row_for, rows_for}
 use Rattle.trips_words.proofs.Defaults.{row_of, kept, stays, turned_off}
 use Rattle.trips_words.proofs.Settling.{settles_none}
-use Rattle.trips_words.proofs.Turns.{at}
+use Rattle.trips_words.proofs.OneWord.{at}
 use Rattle.trips_words.proofs.Walks.{AllTexts, Told, end_of, rest_fault, told_as, words_are}
 
 -- where the parse of a command's words ends

@@ -25,9 +25,9 @@ use Rattle.trips_words.proofs.Faults.{Fails, fails_as, fails_first, fails_second
 use Rattle.trips_words.proofs.Faults.{else_none, conflict, no_conflict, some_conflict}
 use Rattle.trips_words.proofs.Dashes.{dashes}
 use Rattle.trips_words.proofs.Settling.{Settles, WaitsFor, settle_is, settles_none, settles_one, settles_not}
-use Rattle.trips_words.proofs.Turns.{at, dashes_turn, dashes_walk, long_turn, long_walk, dashed_fails}
-use Rattle.trips_words.proofs.Turns.{one_dash_fails, plain_met, plain_turn, plain_walk, value_fails}
-use Rattle.trips_words.proofs.Turns.{second_fails, file_fault, file_walk}
+use Rattle.trips_words.proofs.OneWord.{at, dashes_turn, dashes_walk, long_turn, long_walk, dashed_fails}
+use Rattle.trips_words.proofs.OneWord.{one_dash_fails, plain_met, plain_turn, plain_walk, value_fails}
+use Rattle.trips_words.proofs.OneWord.{second_fails, file_fault, file_walk}
 use Rattle.trips_words.proofs.Defaults.{no_defaults, no_check}
 
 -- each word is text

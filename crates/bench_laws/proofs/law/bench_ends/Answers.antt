@@ -1,4 +1,4 @@
-use Rattle.bench_laws.proofs.Whole.{always_ends}
+use Rattle.bench_laws.proofs.TextLaws.{always_ends}
 use Rattle.bench_laws.proofs.law.bench_ends.Goals as goal
 
 pub returns : goal.returns

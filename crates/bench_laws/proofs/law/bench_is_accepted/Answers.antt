@@ -1,4 +1,4 @@
-use Rattle.bench_laws.proofs.Whole.{is_accepted}
+use Rattle.bench_laws.proofs.TextLaws.{is_accepted}
 use Rattle.bench_laws.proofs.law.bench_is_accepted.Goals as goal
 
 pub returns : goal.returns

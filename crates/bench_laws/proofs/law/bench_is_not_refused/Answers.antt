@@ -1,4 +1,4 @@
-use Rattle.bench_laws.proofs.Whole.{is_not_refused}
+use Rattle.bench_laws.proofs.TextLaws.{is_not_refused}
 use Rattle.bench_laws.proofs.law.bench_is_not_refused.Goals as goal
 
 pub returns : goal.returns

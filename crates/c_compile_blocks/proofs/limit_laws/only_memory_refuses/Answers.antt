@@ -1,4 +1,4 @@
-use Rattle.c_compile_blocks.proofs.LimitPrograms.{only_memory}
+use Rattle.c_compile_blocks.proofs.FittingPrograms.{only_memory}
 use Rattle.c_compile_blocks.proofs.limit_laws.only_memory_refuses.Goals as goal
 
 pub returns : goal.returns

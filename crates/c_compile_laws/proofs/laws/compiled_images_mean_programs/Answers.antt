@@ -1,6 +1,6 @@
 use Rattle.c_compile_laws.proofs.Bounds.{has_bounds}
 use Rattle.c_compile_laws.proofs.Compiled.{does_deep, does_finished, does_unfinished}
-use Rattle.c_compile_laws.proofs.Ends.{ends_as, never_ends}
+use Rattle.c_compile_laws.proofs.EndedRuns.{ends_as, never_ends}
 use Rattle.c_compile_laws.proofs.laws.compiled_images_mean_programs.Goals as goal
 
 pub returns-clause-finished : goal.returns-clause-finished

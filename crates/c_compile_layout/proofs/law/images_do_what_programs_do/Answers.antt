@@ -1,4 +1,4 @@
-use Rattle.c_compile_layout.proofs.Whole.{does_plainly, does_the_same}
+use Rattle.c_compile_layout.proofs.ImageRuns.{does_plainly, does_the_same}
 use Rattle.c_compile_layout.proofs.law.images_do_what_programs_do.Goals as goal
 
 pub returns-clause-clean : goal.returns-clause-clean

@@ -1,4 +1,4 @@
-use Rattle.c_compile_layout.proofs.Both.{means_plainly, means_the_same}
+use Rattle.c_compile_layout.proofs.UncheckedRuns.{means_plainly, means_the_same}
 use Rattle.c_compile_layout.proofs.law.images_mean_what_programs_mean.Goals as goal
 
 pub returns-clause-clean : goal.returns-clause-clean

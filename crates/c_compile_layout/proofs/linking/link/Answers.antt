@@ -1,5 +1,5 @@
 use Rattle.std.proofs.Common.{get_or, arith, ◌+◌}
-use Rattle.c_compile_layout.proofs.Turns.{turned}
+use Rattle.c_compile_layout.proofs.LabelLoop.{turned}
 use Rattle.c_compile_layout.proofs.linking.link.Goals as goal
 
 pub loop-k-preserved : goal.loop-k-preserved

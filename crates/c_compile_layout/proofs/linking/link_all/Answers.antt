@@ -1,5 +1,5 @@
 use Rattle.std.proofs.Common.{◌∙◌, sym, subst, arith, ◌≤◌, All}
-use Rattle.c_compile_layout.proofs.Turns.{linked_by, begins_low}
+use Rattle.c_compile_layout.proofs.LabelLoop.{linked_by, begins_low}
 use Rattle.c_compile_layout.proofs.linking.link_all.Goals as goal
 use Rattle.trips_isa.specs.Limits.{most_chunks}
 

@@ -1,5 +1,5 @@
 use Rattle.std.proofs.Common.{◌≡◌, length}
-use Rattle.c_type.specs.Functions.{with_params}
+use Rattle.c_type.specs.States.{with_params}
 use Rattle.c_type.proofs.functions.add_params.Given as goal
 
 abbrev pub invariant-loop-param : goal.invariant-loop-param

@@ -1,5 +1,5 @@
 use Rattle.std.proofs.Common.{◌≡◌, ◌+◌, length, drop}
-use Rattle.c_type.specs.Units.{all_values}
+use Rattle.c_type.specs.FileScopes.{all_values}
 use Rattle.c_type.proofs.initialisers.value_count.Given as goal
 
 abbrev pub invariant-loop-list : goal.invariant-loop-list

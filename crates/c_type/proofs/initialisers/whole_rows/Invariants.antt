@@ -1,5 +1,6 @@
 use Rattle.std.proofs.Common.{◌≡◌, ◌++◌, length, drop}
-use Rattle.c_type.specs.Units.{all_values, filled_rows}
+use Rattle.c_type.specs.Units.{filled_rows}
+use Rattle.c_type.specs.FileScopes.{all_values}
 use Rattle.c_type.proofs.initialisers.whole_rows.Given as goal
 
 abbrev pub invariant-loop-list : goal.invariant-loop-list

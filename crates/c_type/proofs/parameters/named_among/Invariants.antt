@@ -1,6 +1,6 @@
 use Rattle.std.proofs.Common.{◌≡◌, drop}
 use Rattle.std.specs.Prelude.{◌||◌}
-use Rattle.c_type.specs.Functions.{named_among}
+use Rattle.c_type.specs.States.{named_among}
 use Rattle.c_type.proofs.parameters.named_among.Given as goal
 
 abbrev pub invariant-loop-param : goal.invariant-loop-param

@@ -1,5 +1,5 @@
 use Rattle.std.proofs.Common.{◌≡◌, map, take}
-use Rattle.c_type.specs.Functions.{slot_of}
+use Rattle.c_type.specs.States.{slot_of}
 use Rattle.c_type.proofs.parameters.slots_of.Given as goal
 
 abbrev pub invariant-loop-param : goal.invariant-loop-param

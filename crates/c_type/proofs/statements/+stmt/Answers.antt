@@ -7,10 +7,11 @@ use Rattle.c_tree.specs.declared.tree.Label.{Label}
 use Rattle.c_tree.specs.declared.tree.StmtNode.TheVariants as node
 use Rattle.c_tree.specs.declared.typed.TypedSection.{TypedSection}
 use Rattle.c_type_expr.specs.declared.fault.TypeFault.{TypeFault}
-use Rattle.c_type_expr.specs.Roles.{Blame, first}
+use Rattle.c_type_expr.specs.Blames.{Blame, first}
 use Rattle.c_type_expr.specs.Says.{Stops}
 use Rattle.c_type.specs.declared.state.State.{State}
-use Rattle.c_type.specs.States.{at, tree_if}
+use Rattle.c_type.specs.States.{at}
+use Rattle.c_type.specs.LeftOut.{tree_if}
 use Rattle.c_type.specs.declared.state.Around.{Around}
 use Rattle.c_type.specs.Statements.{part, rest_fault, tail_fault, SectionPart, section_of}
 use Rattle.c_type.specs.Statements.{labels_fault, all_fault, section_fault}

@@ -37,12 +37,14 @@ not_fixed-returns-in-Name t c =
 
 pub not_fixed-returns-in-Element : goal.not_fixed-returns-in-Element
 not_fixed-returns-in-Element t c =
-    let h = fixed-Element c.args.e.now c.args.scope.now c.in-Element.array c.in-Element.row c.in-Element.index c.in-Element.is in
+    let h = fixed-Element c.args.e.now c.args.scope.now c.in-Element.array c.in-Element.row c.in-Element.index
+    c.in-Element.is in
     grind (arith, h)
 
 pub not_fixed-returns-in-Call : goal.not_fixed-returns-in-Call
 not_fixed-returns-in-Call t c =
-    let h = fixed-Call c.args.e.now c.args.scope.now c.in-Call.function c.in-Call.args c.in-Call.is in grind (arith, h)
+    let h = fixed-Call c.args.e.now c.args.scope.now c.in-Call.function c.in-Call.args c.in-Call.is in
+    grind (arith, h)
 
 pub not_fixed-returns-in-Bump : goal.not_fixed-returns-in-Bump
 not_fixed-returns-in-Bump t c =
@@ -55,4 +57,5 @@ not_fixed-returns-in-Assign t c =
 
 pub not_fixed-returns-in-Comma : goal.not_fixed-returns-in-Comma
 not_fixed-returns-in-Comma t c =
-    let h = fixed-Comma c.args.e.now c.args.scope.now c.in-Comma.left c.in-Comma.right c.in-Comma.is in grind (arith, h)
+    let h = fixed-Comma c.args.e.now c.args.scope.now c.in-Comma.left c.in-Comma.right c.in-Comma.is in
+    grind (arith, h)

@@ -1,5 +1,5 @@
 use Rattle.std.proofs.Common.{◌≡◌, map, drop}
-use Rattle.c_type_expr.specs.Roles.{first}
+use Rattle.c_type_expr.specs.Blames.{first}
 use Rattle.c_type_expr.specs.Constants.{all_fixed, not_fixed}
 use Rattle.c_type_expr.proofs.constants.+fixed.Given as goal
 

@@ -1,5 +1,5 @@
 use Rattle.std.proofs.Common.{◌≡◌, length, take, reverse}
-use Rattle.c_type_expr.specs.Frames.{bindings}
+use Rattle.c_type_expr.specs.Scope.{bindings}
 use Rattle.c_type_expr.specs.Chains.{KeptIn}
 use Rattle.c_type_expr.proofs.entries.chained.Given as goal
 

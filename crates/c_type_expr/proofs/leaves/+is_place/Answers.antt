@@ -28,7 +28,8 @@ pub returns-in-Name : goal.returns-in-Name
 returns-in-Name t c = let h = place-Name c.args.e.now c.in-Name.field-0 c.in-Name.is in cc
 
 pub returns-in-Element : goal.returns-in-Element
-returns-in-Element t c = let h = place-Element c.args.e.now c.in-Element.array c.in-Element.row c.in-Element.index c.in-Element.is in cc
+returns-in-Element t c =
+    let h = place-Element c.args.e.now c.in-Element.array c.in-Element.row c.in-Element.index c.in-Element.is in cc
 
 pub returns-in-Call : goal.returns-in-Call
 returns-in-Call t c = let h = place-Call c.args.e.now c.in-Call.function c.in-Call.args c.in-Call.is in cc

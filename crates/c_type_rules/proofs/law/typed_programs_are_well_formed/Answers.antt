@@ -1,4 +1,4 @@
-use Rattle.c_type_rules.proofs.Whole.{well_formed}
+use Rattle.c_type_rules.proofs.WellFormedPrograms.{well_formed}
 use Rattle.c_type_rules.proofs.law.typed_programs_are_well_formed.Goals as goal
 
 pub returns : goal.returns

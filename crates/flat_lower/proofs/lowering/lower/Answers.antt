@@ -1,5 +1,5 @@
 use Rattle.ir_forms.specs.FlatViews.{program_of}
-use Rattle.flat_lower.proofs.Whole.{meant}
+use Rattle.flat_lower.proofs.LoweredMeaning.{meant}
 use Rattle.flat_lower.proofs.lowering.lower.Goals as goal
 
 pub returns-clause-meaning : goal.returns-clause-meaning

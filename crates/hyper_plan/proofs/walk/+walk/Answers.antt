@@ -41,12 +41,14 @@ walk_stmt-returns-in_ok-get-in-Get-clause-size t c =
     let h = ap steps_in (ap step_of c.in-Get.is ∙ step_get c.in-Get.to) in
     grind (arith, h)
 
-pub walk_stmt-returns-in_ok-walk_stmts-in-If-2-clause-size : goal.walk_stmt-returns-in_ok-walk_stmts-in-If-2-clause-size
+pub walk_stmt-returns-in_ok-walk_stmts-in-If-2-clause-size
+    : goal.walk_stmt-returns-in_ok-walk_stmts-in-If-2-clause-size
 walk_stmt-returns-in_ok-walk_stmts-in-If-2-clause-size t c =
     let h = ap steps_in (ap step_of c.in-If.is ∙ step_if c.in-If.test c.in-If.yes c.in-If.no) in
     grind (arith, h)
 
-pub walk_stmt-returns-in_ok-walk_stmts-in-Loop-2-clause-size : goal.walk_stmt-returns-in_ok-walk_stmts-in-Loop-2-clause-size
+pub walk_stmt-returns-in_ok-walk_stmts-in-Loop-2-clause-size
+    : goal.walk_stmt-returns-in_ok-walk_stmts-in-Loop-2-clause-size
 walk_stmt-returns-in_ok-walk_stmts-in-Loop-2-clause-size t c =
     let h = ap steps_in (ap step_of c.in-Loop.is ∙ step_loop c.in-Loop.body c.in-Loop.post) in
     grind (arith, h)

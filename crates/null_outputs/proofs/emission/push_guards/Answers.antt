@@ -2,7 +2,7 @@ use Rattle.std.proofs.Common.{arith, ap, ◌∙◌, ◌+◌, ℕ, length}
 use Rattle.null_outputs.specs.Groups as groups
 use Rattle.null_outputs.specs.inside.Listed as listed
 use Rattle.null_outputs.proofs.Spaces.{guard_part_length}
-use Rattle.null_outputs.proofs.Turns.{region_turn}
+use Rattle.null_outputs.proofs.RegionLoops.{region_turn}
 use Rattle.null_outputs.proofs.emission.push_guards.Goals as goal
 
 pub loop-n-preserved : goal.loop-n-preserved

@@ -2,7 +2,7 @@ use Rattle.std.proofs.Common.{arith, ap, ◌∙◌, ◌+◌, ℕ, length}
 use Rattle.null_outputs.specs.Groups as groups
 use Rattle.null_outputs.specs.inside.Listed as listed
 use Rattle.null_outputs.proofs.Spaces.{left_length}
-use Rattle.null_outputs.proofs.Turns.{region_turn}
+use Rattle.null_outputs.proofs.RegionLoops.{region_turn}
 use Rattle.null_outputs.proofs.emission.push_lefts.Goals as goal
 
 pub loop-n-preserved : goal.loop-n-preserved
@@ -10,7 +10,8 @@ loop-n-preserved c =
     let i = c.loop-n.invariant in (
       (let e = i.0 in omega (arith, e)),
       region_turn (groups.left_part (listed.sure_in_guess c.args.nodes.now c.args.guess.now)
-          (listed.want_in_guess c.args.guess.now) (listed.cover_in c.args.nodes.now c.args.guess.now c.args.starts.now))
+          (listed.want_in_guess c.args.guess.now)
+              (listed.cover_in c.args.nodes.now c.args.guess.now c.args.starts.now))
           (groups.left_size (listed.sure_in_guess c.args.nodes.now c.args.guess.now)
           (listed.want_in_guess c.args.guess.now))
           (left_length (listed.sure_in_guess c.args.nodes.now c.args.guess.now)

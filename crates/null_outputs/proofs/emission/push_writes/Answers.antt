@@ -1,7 +1,7 @@
 use Rattle.std.proofs.Common.{ap, ◌∙◌, ◌+◌, ℕ, length}
 use Rattle.null_outputs.specs.inside.Listed as listed
 use Rattle.null_outputs.proofs.Fillings.{write_by_length}
-use Rattle.null_outputs.proofs.Turns.{region_turn}
+use Rattle.null_outputs.proofs.RegionLoops.{region_turn}
 use Rattle.null_outputs.proofs.emission.push_writes.Goals as goal
 
 pub loop-w-preserved : goal.loop-w-preserved

@@ -27,7 +27,8 @@ loop-register-preserved c =
           ∙ ap (λ (x : List ℕ). w.nodes ++ map low (joined_at t (length w.nodes) before y n x).nodes) (sym dc)
           ∙ c.loop-register.invariant.nodes;
       number = adds_number w w1 (both_nodes t (length w.nodes) before y n r) p ∙ c.loop-register.invariant.number;
-      env = ap (λ (x : List Named). puts x (joined_at t (length w1.nodes) before y n rest).env) c.in_ok-push.ensures.ok
+      env = ap (λ (x : List Named). puts x (joined_at t (length w1.nodes) before y n rest).env)
+          c.in_ok-push.ensures.ok
           ∙ join_env t w w1 before y n r rest p named c.in_ok-entry.entry c.in_ok-entry.ensures.entry
           ∙ ap (λ (x : List ℕ). puts named (joined_at t (length w.nodes) before y n x).env) (sym dc)
           ∙ c.loop-register.invariant.env;

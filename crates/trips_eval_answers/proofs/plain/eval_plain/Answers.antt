@@ -1,4 +1,4 @@
-use Rattle.trips_eval_answers.proofs.Whole.{whole_row, cut_row}
+use Rattle.trips_eval_answers.proofs.WrittenWhole.{whole_row, cut_row}
 use Rattle.trips_eval_answers.proofs.plain.eval_plain.Goals as goal
 
 pub returns-in-Ok-write_all-clause-answered : goal.returns-in-Ok-write_all-clause-answered

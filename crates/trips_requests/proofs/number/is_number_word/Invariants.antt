@@ -1,6 +1,6 @@
 use Rattle.std.proofs.Common.{◌≡◌, drop}
 use Rattle.std.specs.List.{list_all}
-use Rattle.trips_requests.specs.Numbers.{is_digit}
+use Rattle.trips_requests.specs.Limits.{is_digit}
 use Rattle.trips_requests.proofs.number.is_number_word.Given as goal
 
 abbrev pub invariant-loop-byte : goal.invariant-loop-byte

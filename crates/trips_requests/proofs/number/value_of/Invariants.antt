@@ -1,5 +1,5 @@
 use Rattle.std.proofs.Common.{◌≡◌, ◌≤◌, drop}
-use Rattle.trips_requests.specs.Numbers.{value_from}
+use Rattle.trips_requests.specs.Limits.{value_from}
 use Rattle.trips_requests.proofs.number.value_of.Given as goal
 
 abbrev pub invariant-loop-digit : goal.invariant-loop-digit

@@ -1,4 +1,4 @@
-use Rattle.trips_tools.proofs.Whole.{whole_row, cut_row}
+use Rattle.trips_tools.proofs.WrittenWhole.{whole_row, cut_row}
 use Rattle.trips_tools.proofs.plain_tool.tool_plain.Goals as goal
 
 pub returns-in-Ok-write_all-clause-answered : goal.returns-in-Ok-write_all-clause-answered

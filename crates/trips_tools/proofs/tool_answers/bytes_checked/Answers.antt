@@ -1,4 +1,4 @@
-use Rattle.trips_tools.proofs.ToolAnswersMade.{checked_told}
+use Rattle.trips_tools.proofs.MadeAnswers.{checked_told}
 use Rattle.trips_tools.proofs.tool_answers.bytes_checked.Goals as goal
 
 pub returns-in-Ok : goal.returns-in-Ok

@@ -1,4 +1,4 @@
-use Rattle.trips_tools.proofs.ToolAnswersMade.{disassembled_told}
+use Rattle.trips_tools.proofs.MadeAnswers.{disassembled_told}
 use Rattle.trips_tools.proofs.tool_answers.bytes_disassembled.Goals as goal
 
 pub returns-in-Ok : goal.returns-in-Ok

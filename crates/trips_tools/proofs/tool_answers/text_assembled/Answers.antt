@@ -1,4 +1,4 @@
-use Rattle.trips_tools.proofs.ToolAnswersMade.{assembled_told}
+use Rattle.trips_tools.proofs.MadeAnswers.{assembled_told}
 use Rattle.trips_tools.proofs.tool_answers.text_assembled.Goals as goal
 
 pub returns-in-Ok : goal.returns-in-Ok

@@ -4,7 +4,7 @@ use Rattle.c_lex.specs.declared.fault.LexFault.TheVariants as fault
 use Rattle.c_lex.specs.Places.{place}
 use Rattle.c_lex.proofs.Comments.{counted, counted_none}
 use Rattle.c_lex.proofs.Found.{block_is, close_size, opening_found}
-use Rattle.c_lex.proofs.Whole.{broken_stops}
+use Rattle.c_lex.proofs.ReadSoFar.{broken_stops}
 use Rattle.c_lex.proofs.lexer.Lexer.block_comment.Goals as goal
 
 pub overflow_add-n : goal.overflow_add-n

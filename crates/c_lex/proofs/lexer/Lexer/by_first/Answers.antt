@@ -5,7 +5,7 @@ use Rattle.c_lex.specs.Tables.{lookup, marks}
 use Rattle.c_lex.specs.Places.{place}
 use Rattle.c_lex.proofs.Firsts.{class_is}
 use Rattle.c_lex.proofs.Found.{only_found, other_nothing}
-use Rattle.c_lex.proofs.Whole.{byte_stops}
+use Rattle.c_lex.proofs.ReadSoFar.{byte_stops}
 use Rattle.c_lex.proofs.lexer.Lexer.by_first.Goals as goal
 
 pub mark-requires-clause-front : goal.mark-requires-clause-front

@@ -4,7 +4,7 @@ use Rattle.c_lex.specs.declared.piece.Broken.TheVariants as kind
 use Rattle.c_lex.specs.declared.fault.LexFault.TheVariants as fault
 use Rattle.c_lex.specs.Places.{place}
 use Rattle.c_lex.proofs.Found.{include_found, directive_found, hash_nothing}
-use Rattle.c_lex.proofs.Whole.{full_stops, broken_stops, byte_stops}
+use Rattle.c_lex.proofs.ReadSoFar.{full_stops, broken_stops, byte_stops}
 use Rattle.c_lex.proofs.lexer.Lexer.directive.Goals as goal
 
 pub returns-then-not-self-clause-turned : goal.returns-then-not-self-clause-turned

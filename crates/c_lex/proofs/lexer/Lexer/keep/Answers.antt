@@ -1,6 +1,6 @@
 use Rattle.std.proofs.Common.{refl}
 use Rattle.c_lex.specs.Places.{place}
-use Rattle.c_lex.proofs.Quiet.{kept}
+use Rattle.c_lex.proofs.NoLineFeed.{kept}
 use Rattle.c_lex.proofs.lexer.Lexer.keep.Goals as goal
 
 pub returns-clause-moved : goal.returns-clause-moved

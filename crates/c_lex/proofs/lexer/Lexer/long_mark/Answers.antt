@@ -2,7 +2,7 @@ use Rattle.c_tree.specs.declared.Form.TheVariants as form
 use Rattle.c_lex.specs.Places.{place}
 use Rattle.c_lex.proofs.Marks.{mark_some}
 use Rattle.c_lex.proofs.Found.{mark_found_at}
-use Rattle.c_lex.proofs.Whole.{full_stops}
+use Rattle.c_lex.proofs.ReadSoFar.{full_stops}
 use Rattle.c_lex.proofs.lexer.Lexer.long_mark.Goals as goal
 
 pub returns-then-is_full-clause-turned : goal.returns-then-is_full-clause-turned

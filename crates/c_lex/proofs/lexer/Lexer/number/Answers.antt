@@ -5,7 +5,7 @@ use Rattle.c_lex.specs.declared.fault.LexFault.TheVariants as fault
 use Rattle.c_lex.specs.Scans.{constant_of}
 use Rattle.c_lex.specs.Places.{place}
 use Rattle.c_lex.proofs.Found.{number_found, bad_number_found}
-use Rattle.c_lex.proofs.Whole.{full_stops, broken_stops}
+use Rattle.c_lex.proofs.ReadSoFar.{full_stops, broken_stops}
 use Rattle.c_lex.proofs.lexer.Lexer.number.Goals as goal
 
 pub returns-then-is_full-clause-turned : goal.returns-then-is_full-clause-turned

@@ -1,7 +1,7 @@
 use Rattle.std.proofs.Common.{◌+◌, refl, sym, ap, ◌∙◌}
 use Rattle.c_lex.specs.Places.{place}
 use Rattle.c_lex.proofs.Found.{word_found, letter_found}
-use Rattle.c_lex.proofs.Whole.{full_stops}
+use Rattle.c_lex.proofs.ReadSoFar.{full_stops}
 use Rattle.c_lex.proofs.lexer.Lexer.word.Goals as goal
 
 pub returns-then-is_full-clause-turned : goal.returns-then-is_full-clause-turned

@@ -21,7 +21,8 @@ invariant_of-self c =
 
 pub invariant_of-self-in_err-pad : goal.invariant_of-self-in_err-pad
 invariant_of-self-in_err-pad c =
-    let f = c.self.invariant.fits in let l = c.in_ok-put_words.ensures.longer in let m = c.in_err-pad.ensures.longer in
+    let f = c.self.invariant.fits in let l = c.in_ok-put_words.ensures.longer in
+    let m = c.in_err-pad.ensures.longer in
     let t = taken-length c.self.inside.used c.self.inside.cells.items c.truncate.new.self.items f
     c.truncate.ensures.items in
     let s = c.in_ok-stamp.ensures in

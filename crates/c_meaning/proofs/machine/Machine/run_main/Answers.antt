@@ -5,7 +5,7 @@ use Rattle.c_meaning_spec.specs.Call.{called}
 use Rattle.c_meaning_spec.specs.Eval.{meaning}
 use Rattle.c_meaning.specs.Ahead.{IsReached}
 use Rattle.c_meaning.specs.View.{next, view}
-use Rattle.c_meaning.proofs.Turns.{no_more}
+use Rattle.c_meaning.proofs.EvaluatorLoop.{no_more}
 use Rattle.c_meaning.proofs.machine.Machine.run_main.Goals as goal
 
 pub returns : goal.returns

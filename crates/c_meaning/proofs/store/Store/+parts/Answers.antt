@@ -2,7 +2,7 @@ use Rattle.std.proofs.Common.{sym, subst}
 use Rattle.c_meaning_spec.specs.State.{Result}
 use Rattle.c_meaning.specs.View.{view}
 use Rattle.c_meaning.specs.Direct.{Values}
-use Rattle.c_meaning.proofs.Parts.{number_node}
+use Rattle.c_meaning.proofs.TaskMeanings.{number_node}
 use Rattle.c_meaning.proofs.store.Store.+parts.Goals as goal
 
 pub value_of-returns-in-Number : goal.value_of-returns-in-Number

@@ -9,7 +9,8 @@ abbrev pub invariant-loop-label : goal.invariant-loop-label
 invariant-loop-label l =
     (ts : List Target)
     → compared (meaning l.program) l.w (leading l.rest (bodies l.here) ++ ts) (bodies l.other) (view l.self)
-    ≡ compared (meaning l.program) l.w (leading l.fn.labels (bodies l.here) ++ ts) (bodies l.fn.other) (view l.fn.self)
+    ≡ compared (meaning l.program) l.w (leading l.fn.labels (bodies l.here) ++ ts) (bodies l.fn.other)
+    (view l.fn.self)
 
 abbrev pub decreases-loop-label : goal.decreases-loop-label
 decreases-loop-label l = length l.rest

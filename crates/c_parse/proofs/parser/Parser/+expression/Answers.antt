@@ -7,7 +7,7 @@ use Rattle.c_tree.specs.declared.tree.BinaryOp.{BinaryOp}
 use Rattle.c_grammar.specs.Tokens.{Tokens}
 use Rattle.c_parse.specs.Reads.{Fails, IsAssigner, Outside, Inside, joins_by, behind}
 use Rattle.c_grammar.specs.ModelExpressions.{seen, inside, assigner_for, loop, binary_of, assignment_of}
-use Rattle.c_parse.proofs.Turns.{listed_keeps, arg_list_init, assign_with, commas_of, comma_on, comma_shorter}
+use Rattle.c_parse.proofs.ParserLoops.{listed_keeps, arg_list_init, assign_with, commas_of, comma_on, comma_shorter}
 use Rattle.c_parse.specs.Operands.{climb, assignment_from}
 use Rattle.c_parse.proofs.Operands.{assignment_is, closed_operand, closed_whole}
 use Rattle.c_parse.proofs.Climbs.{joined_start, joined_none, joins, climb_end, climb_turn, climb_fails, climb_shorter}
@@ -51,7 +51,8 @@ expression-loop-self-init t c =
 
 pub expression-loop-self-smaller : goal.expression-loop-self-smaller
 expression-loop-self-smaller t c =
-    comma_shorter c.args.left c.loop-self.self.rest.now c.assignment-in-loop-self.new.self.rest.now c.in_ok-right.right
+    comma_shorter c.args.left c.loop-self.self.rest.now c.assignment-in-loop-self.new.self.rest.now
+    c.in_ok-right.right
     (cc) (ap (assignment_of (inside c.args.left)) (sym c.advance.ensures) ∙ c.in_ok-right.ensures)
 
 pub expression-loop-self-preserved : goal.expression-loop-self-preserved
@@ -117,7 +118,8 @@ behind_cast-returns-in-None t c =
 
 pub binary-returns-in_err-first : goal.binary-returns-in_err-first
 binary-returns-in_err-first t c =
-    rw (joins c.args.left c.args.level c.args.self.now.rest.now) (first_of (search rules, grind (arith, common_steps)))
+    rw (joins c.args.left c.args.level c.args.self.now.rest.now)
+    (first_of (search rules, grind (arith, common_steps)))
 
 pub binary-returns : goal.binary-returns
 binary-returns t c =

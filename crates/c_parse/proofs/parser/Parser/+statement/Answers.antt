@@ -6,7 +6,8 @@ use Rattle.c_grammar.specs.Parsing.{Out, many, repeated}
 use Rattle.c_grammar.specs.ModelExpressions.{inside}
 use Rattle.c_grammar.specs.ModelStatements.{begins_statement, entry_of, section_of, below_at}
 use Rattle.c_parse.specs.Reads.{Reads, behind}
-use Rattle.c_parse.proofs.Nested.{inner_none, inner_some, entries_init, many_keeps, many_puts, repeated_keeps, body_init}
+use Rattle.c_parse.proofs.Nested.{inner_none, inner_some, entries_init, many_keeps, many_puts}
+use Rattle.c_parse.proofs.Nested.{repeated_keeps, body_init}
 use Rattle.c_parse.proofs.Nested.{sections_init}
 use Rattle.c_parse.proofs.parser.Parser.+statement.Goals as goal
 

@@ -5,7 +5,7 @@ use Rattle.c_grammar.specs.Parsing.{listed}
 use Rattle.c_grammar.specs.ModelExpressions.{inside}
 use Rattle.c_grammar.specs.ModelUnits.{param_of}
 use Rattle.c_parse.specs.Reads.{behind}
-use Rattle.c_parse.proofs.Turns.{listed_keeps}
+use Rattle.c_parse.proofs.ParserLoops.{listed_keeps}
 use Rattle.c_parse.proofs.Lists.{params_init}
 use Rattle.c_parse.proofs.parser.Parser.param_list.Goals as goal
 

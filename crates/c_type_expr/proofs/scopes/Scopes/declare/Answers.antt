@@ -1,7 +1,6 @@
 use Rattle.std.proofs.Common.{◌≡◌, ◌∙◌, ap, reverse, Result, Ok, Err}
 use Rattle.std.specs.Prelude.{OnErr}
-use Rattle.c_type_expr.specs.Scope.{Scope, declared_in, bound}
-use Rattle.c_type_expr.specs.Frames.{frames}
+use Rattle.c_type_expr.specs.Scope.{Scope, declared_in, bound, frames}
 use Rattle.c_type_expr.proofs.Names.{added, same_blocks}
 use Rattle.c_type_expr.proofs.scopes.Scopes.declare.Goals as goal
 

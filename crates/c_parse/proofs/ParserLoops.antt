@@ -1,5 +1,6 @@
 -- One turn of each loop of the parser.
-use Rattle.std.proofs.Common.{◌≡◌, ℕ, zero, suc, ◌+◌, ◌-◌, ◌<◌, ◌≤◌, Bool, true, false, cond, eqb, List, [], ◌∷◌, ◌++◌}
+use Rattle.std.proofs.Common.{◌≡◌, ℕ, zero, suc, ◌+◌, ◌-◌, ◌<◌, ◌≤◌, Bool, true, false, cond, eqb, List, []}
+use Rattle.std.proofs.Common.{◌∷◌, ◌++◌}
 use Rattle.std.proofs.Common.{length, Option, Some, None, Result, Ok, Err, refl, sym, ap, ◌∙◌, subst, arith}
 use Rattle.std.proofs.Common.{append_assoc}
 use Rattle.std.proofs.lemmas.Bool.{false≢true, eqb-true, eqb-false, ne_eqb, eq-eqb}
@@ -199,7 +200,8 @@ module _ (left n : ℕ) (lt : n < 10) where
   pub turn_off : (whole : Expr) (rest : Tokens) (o : BinaryOp) (s : Stop) → operator_at n rest ≡ Some o
       → sides (tail rest) ≡ Err s → loop sides (binary_level n) (length rest) whole rest ≡ Err s
   turn_off whole rest o s e h =
-      loop_off sides (binary_short left n (omega (arith, lt))) (binary_level n) whole rest (op o) s (joiner_some _ o e)
+      loop_off sides (binary_short left n (omega (arith, lt))) (binary_level n) whole rest (op o) s
+      (joiner_some _ o e)
       h
 
   pub turns_end : (whole : Expr) (rest : Tokens) → operator_at n rest ≡ None
@@ -249,7 +251,8 @@ module _ (left : ℕ) where
   comma_on whole r rest rest2 e h =
       loop_on parts (assignment_short left) 15 whole r rest rest2 comma (comma_seen rest e) h
 
-  pub comma_off : (whole : Expr) (rest : Tokens) (s : Stop) → is_next mark.Comma rest ≡ true → parts (tail rest) ≡ Err s
+  pub comma_off : (whole : Expr) (rest : Tokens) (s : Stop) → is_next mark.Comma rest ≡ true
+      → parts (tail rest) ≡ Err s
       → loop parts 15 (length rest) whole rest ≡ Err s
   comma_off whole rest s e h = loop_off parts (assignment_short left) 15 whole rest comma s (comma_seen rest e) h
 
@@ -331,7 +334,8 @@ module _ {A : Type 0} (k : Mark) (run : Tokens → Out A) where
       → is_next mark.Comma mid ≡ true → found' ≡ found ++ x ∷ [] → rest ≡ tail mid
       → behind found' (listed k false run (turns - (turn' + 1)) rest) ≡ whole
   listed_keeps turns turn' found found' ts mid rest x whole lt inv h c e r =
-      rw e (rw r (sym (listed_turn (turns - turn') (turns - (turn' + 1)) found x ts mid (omega (arith, lt)) h c) ∙ inv))
+      rw e (rw r (sym (listed_turn (turns - turn') (turns - (turn' + 1)) found x ts mid (omega (arith, lt)) h c)
+      ∙ inv))
 
 zero_is : (left : ℕ) (ts : Tokens) → binary_of (inside left) 0 ts ≡ cast_of (inside left) ts
 unfolding binary_of
@@ -361,7 +365,8 @@ assign_with left to ts new r p (Some s) i q h =
 pub listed_init : {A : Type 0} (k : Mark) (run : Tokens → Out A) (turns : ℕ) (ts : Tokens) → turns ≡ length ts + 1
     → behind [] (listed k false run (turns - 0) ts) ≡ listed k false run (suc (length ts)) ts
 listed_init k run turns ts e =
-    let i : turns - 0 ≡ suc (length ts) = omega (arith, e) in behind_none _ ∙ ap (λ (n : ℕ). listed k false run n ts) i
+    let i : turns - 0 ≡ suc (length ts) = omega (arith, e) in
+    behind_none _ ∙ ap (λ (n : ℕ). listed k false run n ts) i
 
 pub arg_list_init : (left turns : ℕ) (ts : Tokens) → turns ≡ length ts + 1
     → behind [] (listed mark.RightParen false (assignment_of (inside left)) (turns - 0) ts) ≡ arg_list_of

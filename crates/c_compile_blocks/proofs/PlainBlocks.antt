@@ -39,7 +39,7 @@ use Rattle.c_compile_blocks.proofs.Flat.{told_front, told_back}
 use Rattle.c_compile_blocks.proofs.Flat.{told_from, Good, good_append}
 use Rattle.c_compile_blocks.proofs.Pieces.{IsSet, ArePlain}
 use Rattle.c_compile_blocks.proofs.Items.{NamesIn, IsOut, items_out}
-use Rattle.c_compile_blocks.proofs.Ends.{IsGuarded, AreGuarded, NamesEnd, IsEnd, tail_end}
+use Rattle.c_compile_blocks.proofs.TailNodes.{IsGuarded, AreGuarded, NamesEnd, IsEnd, tail_end}
 use Rattle.c_compile_blocks.proofs.Members.{member_split}
 
 -- a block without if-items, whose registers fulfil P where they are read
@@ -379,7 +379,8 @@ module _ (P : ℕ → Type 0) (b : Block) (st : IsPlainBlock P b) where
       go (inl l) = absurd (no_guard j n d l e z)
       go (inr l) =
           let x = guarded_at c finish.behind (j - length ahead) n a
-          (sym (behind_got ahead finish.behind j l) ∙ ap (λ (y : List FlowNode). slice_get y j) (sym nodes_are) ∙ e) in
+          (sym (behind_got ahead finish.behind j l)
+              ∙ ap (λ (y : List FlowNode). slice_get y j) (sym nodes_are) ∙ e) in
           x.guard d z
 
   past : (xs : List FlowNode) (n : FlowNode) → slice_get xs (length xs) ≡ Some n → ⊥

@@ -22,7 +22,7 @@ use Rattle.ir_forms.specs.Laws.{StandsAs}
 use Rattle.c_compile_layout.specs.Joint.{AreMade, StandsIn}
 use Rattle.c_compile_layout.specs.Standings.{standing_by, standing_of, kept_before, trimmed}
 use Rattle.c_compile_layout.specs.Standings.{MeansTheSame, MeansPlainly}
-use Rattle.c_compile_layout.proofs.Whole.{does_plainly, does_the_same}
+use Rattle.c_compile_layout.proofs.ImageRuns.{does_plainly, does_the_same}
 
 c-cond : (b : Bool) (p q : Standing) → (IsUnclean p → ⊥) → (IsUnclean q → ⊥)
     → IsUnclean (cond b p q) → ⊥

@@ -16,13 +16,14 @@ use Rattle.c_tree.specs.declared.typed.TypedForInit.TheVariants as typed_init
 use Rattle.c_type_expr.specs.Scope.{Scope}
 use Rattle.c_constant.specs.Need.{Needs, need, needs}
 use Rattle.c_type_expr.specs.declared.role.Role.TheVariants.{Value, Free}
-use Rattle.c_type_expr.specs.Roles.{Blame}
-use Rattle.c_type_expr.specs.Trees.{tree, with_convert}
+use Rattle.c_type_expr.specs.Blames.{Blame}
+use Rattle.c_type_expr.specs.Trees.{tree}
+use Rattle.c_type_expr.specs.Conversions.{with_convert}
 use Rattle.c_type_expr.specs.Constants.{full, need_fault}
 use Rattle.c_type_expr.proofs.Theorem.{complete}
 use Rattle.c_type.specs.declared.state.State.{State}
 use Rattle.c_type.specs.declared.state.Around.{Around}
-use Rattle.c_type.specs.States.{full_if, tree_if}
+use Rattle.c_type.specs.LeftOut.{full_if, tree_if}
 use Rattle.c_type.specs.Statements.{SectionPart}
 use Rattle.c_type.specs.Statements.{Part, Beginning, node_part, init_part, all_after, all_fault, all_trees, else_after}
 use Rattle.c_type.specs.Statements.{else_fault, else_tree, return_fault, return_tree}

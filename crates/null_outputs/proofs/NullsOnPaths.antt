@@ -206,7 +206,8 @@ module _ (regs : ℕ → ℕ) (h : ℕ → Answer) where
   here_count [] l = refl
   here_count (s ∷ ms) l = go (got regs h s) (first regs h ms) (count regs h ms) (λ e. here_count ms e) l
     where
-      go : (t u : Answer) (c : ℕ) → (c ≤ 1 → present u ≡ c) → present t + c ≤ 1 → present (or_else t u) ≡ present t + c
+      go : (t u : Answer) (c : ℕ) → (c ≤ 1 → present u ≡ c) → present t + c ≤ 1
+          → present (or_else t u) ≡ present t + c
       go None u c f l = let e : present u ≡ c = f (omega arith) in omega (arith, e)
       go (Some t) u c f l = omega arith
 
@@ -263,7 +264,8 @@ module _ (regs : ℕ → ℕ) (h : ℕ → Answer) where
       let w : Covered (all_there (here (c s)) (1 - here (t ∷ rest))) (Node p ∷ []) =
       both_covered (f p (both_under None (c s) (top_of c (suc p) t rest))) None p (1 - here (t ∷ rest)) (c s)
       (top_of c (suc p) t rest) (omega arith) x o.0 in
-      let e : here (c s) ≡ 1 - present (got regs h s) = here_count (c s) (omega (arith, (k.0).number)) ∙ (k.0).number in
+      let e : here (c s) ≡ 1 - present (got regs h s) = here_count (c s) (omega (arith, (k.0).number))
+          ∙ (k.0).number in
       as_covered _ _ (Node p ∷ []) (ap (λ (i : ℕ). all_there i (1 - here (t ∷ rest))) e
       ∙ lack_more (got regs h s) (first regs h (t ∷ rest))) w
 

@@ -18,7 +18,7 @@ use Rattle.flat_lower.specs.declared.around.Around.{Around}
 use Rattle.flat_lower.specs.declared.around.Around.TheVariants as around
 use Rattle.c_compile_laws.specs.PlainIfs.{Counted, no_leg}
 use Rattle.c_compile_laws.proofs.SmallIfs.{IsSet, then_small, set_then, one_leg, two_legs}
-use Rattle.c_compile_laws.proofs.Legs.{not_so}
+use Rattle.c_compile_laws.proofs.PlainAssignments.{not_so}
 
 -- what is counted of a statement is found in its code
 pub record Shows (c : Context) (a : Around) (n : Counted) (x : Stmt) : Type 0 where

@@ -1,5 +1,6 @@
 -- How many flat statements the code of expressions, statements and programs has.
-use Rattle.std.proofs.Common.{ℕ, suc, ◌+◌, ◌*◌, ◌≤◌, Bool, true, false, List, [], ◌∷◌, Option, Some, None, refl, arith}
+use Rattle.std.proofs.Common.{ℕ, suc, ◌+◌, ◌*◌, ◌≤◌, Bool, true, false, List, [], ◌∷◌, Option, Some, None}
+use Rattle.std.proofs.Common.{refl, arith}
 use Rattle.std.specs.Prelude.{nat_eq}
 use Rattle.c_tree.specs.declared.Kind.{Kind}
 use Rattle.c_tree.specs.declared.BinaryOp.{BinaryOp}
@@ -15,7 +16,8 @@ use Rattle.ir_forms.specs.declared.flat.Arg.TheVariants.{Const, Var}
 use Rattle.ir_forms.specs.FlatCode.{Code, Nop, Then, only, Let}
 use Rattle.ir_forms.specs.FlatCode as flat
 use Rattle.ir_forms.specs.FlatFits.{steps_of_all}
-use Rattle.flat_lower.specs.Tree.{Expr, Number, Name, Element, Call, Unary, Cast, Convert, Bump, Binary, Choice, Assign}
+use Rattle.flat_lower.specs.Tree.{Expr, Number, Name, Element, Call, Unary, Cast, Convert, Bump, Binary}
+use Rattle.flat_lower.specs.Tree.{Choice, Assign}
 use Rattle.flat_lower.specs.Tree.{Comma, Exprs, NoExprs, WithExpr, Stmt, Declare, Plain, Compound, If, While, Do, For}
 use Rattle.flat_lower.specs.Tree.{Break, Continue, Return, Stmts, NoStmts, WithStmt, First, Nothing, FirstOf, Locals}
 use Rattle.flat_lower.specs.Tree.{Func, RowElement, Switch, Sections, NoSections, WithSection, kind_of}
@@ -34,13 +36,13 @@ use Rattle.flat_lower.proofs.PlainEnds.{either_way}
 use Rattle.flat_lower_premises.specs.LimitNodes.{expr_nodes, exprs_nodes, expr_if_nodes, stmt_nodes, stmts_nodes}
 use Rattle.flat_lower_premises.specs.LimitNodes.{sections_nodes, first_nodes, funcs_size}
 use Rattle.flat_lower_premises.specs.Laws.{FewStatements}
-use Rattle.flat_lower_premises.proofs.LimitCounts.{Takes, after, eased, none, one_more, chosen, looped, known_kind}
-use Rattle.flat_lower_premises.proofs.LimitCounts.{converted_here_takes, binary_takes, unary_takes, name_takes}
-use Rattle.flat_lower_premises.proofs.LimitCounts.{element_takes}
-use Rattle.flat_lower_premises.proofs.LimitCounts.{bump_name_takes, bump_element_takes, before_name_takes}
-use Rattle.flat_lower_premises.proofs.LimitCounts.{after_name_takes}
-use Rattle.flat_lower_premises.proofs.LimitCounts.{before_element_takes, after_element_takes, joined_by_takes}
-use Rattle.flat_lower_premises.proofs.LimitCounts.{before_row_takes, after_row_takes}
+use Rattle.flat_lower_premises.proofs.OperationLengths.{Takes, after, eased, none, one_more, chosen, looped, known_kind}
+use Rattle.flat_lower_premises.proofs.OperationLengths.{converted_here_takes, binary_takes, unary_takes, name_takes}
+use Rattle.flat_lower_premises.proofs.OperationLengths.{element_takes}
+use Rattle.flat_lower_premises.proofs.OperationLengths.{bump_name_takes, bump_element_takes, before_name_takes}
+use Rattle.flat_lower_premises.proofs.OperationLengths.{after_name_takes}
+use Rattle.flat_lower_premises.proofs.OperationLengths.{before_element_takes, after_element_takes, joined_by_takes}
+use Rattle.flat_lower_premises.proofs.OperationLengths.{before_row_takes, after_row_takes}
 use Rattle.flat_lower_premises.proofs.SectionNodes.{bodies_nodes}
 use Rattle.flat_lower_premises.proofs.SwitchLengths.{break_takes, continue_takes, section_takes, switched_takes}
 

@@ -26,12 +26,12 @@ use Rattle.null_outputs.specs.Covers.{Want, Sure, Cover, list_top}
 use Rattle.null_outputs.specs.Groups.{guard_part, guard_part_size, left_part, left_size, right_part}
 use Rattle.null_outputs.specs.Groups.{right_size, region, stores_of}
 use Rattle.null_outputs.specs.Laws.{EachMasked, Keeps}
-use Rattle.null_outputs.proofs.Heart.{IsNull, here, Covered, count-append, first_null, here_count}
+use Rattle.null_outputs.proofs.NullsOnPaths.{IsNull, here, Covered, count-append, first_null, here_count}
 use Rattle.null_outputs.proofs.Spaces.{guard_part_length, left_length, right_length, obeys_front, obeys_back}
 use Rattle.null_outputs.proofs.Spaces.{region_obeys, region_rest, region_end}
 use Rattle.null_outputs.proofs.Covers.{all_from, Known, output_covered}
-use Rattle.null_outputs.proofs.Quiet.{guard_quiet, left_quiet, right_quiet, list_quiet, region_quiet}
-use Rattle.null_outputs.proofs.Quiet.{tokens_append, exits_append, fired_append, stores_append, append_end}
+use Rattle.null_outputs.proofs.QuietNodes.{guard_quiet, left_quiet, right_quiet, list_quiet, region_quiet}
+use Rattle.null_outputs.proofs.QuietNodes.{tokens_append, exits_append, fired_append, stores_append, append_end}
 use Rattle.null_outputs.proofs.Hollow.{Hollow, same_meant, same_memory}
 use Rattle.null_outputs.proofs.Outputs.{write_length, count_stores, masked_tokens, Ready, lack, Does}
 use Rattle.null_outputs.proofs.Outputs.{does_append, does_quiet, lacks_from, lacks_out, lacks_in}
@@ -255,7 +255,8 @@ module _ (sure : Sure) (want : Want) (b : FlowBlock) (fits : FitsFlow b) (masked
       let c = count_stores sure want b regs h 0 b.nodes k in
       let one = old_one.numbers k in
       let e = here_count regs h ss (omega (arith, c, one)) in
-      let r = rest (in_mask b.mask k) s (here regs h ss) et (omega (arith, c, one, e)) (λ x. surely_none ss (es ∙ x)) in
+      let r = rest (in_mask b.mask k) s (here regs h ss) et (omega (arith, c, one, e))
+          (λ x. surely_none ss (es ∙ x)) in
       let l2 : lack sure want b regs h f k ≡ cond (in_mask b.mask k && not s) (1 - here regs h ss) 0 =
       ap (λ (x : Bool). cond (in_mask b.mask k && not x) (1 - here regs h ss) 0) es in
       omega (arith, l, l2, c, e, r, one)
@@ -309,7 +310,8 @@ module _ (sure : Sure) (want : Want) (b : FlowBlock) (fits : FitsFlow b) (masked
 
 pub completes : (sure : Sure) (want : Want) (b : FlowBlock) → FitsFlow b → EachMasked b b.nodes → Trusty sure b
     → Closed sure want b → AllTaken (completed sure want b)
-completes sure want b fits masked trusty closed regs f h o = takes_one sure want b fits masked trusty closed regs f h o
+completes sure want b fits masked trusty closed regs f h o =
+    takes_one sure want b fits masked trusty closed regs f h o
 
 -- MEANING
 

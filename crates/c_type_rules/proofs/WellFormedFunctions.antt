@@ -17,10 +17,9 @@ use Rattle.c_tree.specs.declared.typed.TypedProgram.{TypedProgram}
 use Rattle.c_type_expr.specs.declared.meaning.Meaning.TheVariants as meaning
 use Rattle.c_type_expr.specs.Scope.{Scope, Frame, opened, closed, bound}
 use Rattle.c_type.specs.declared.state.State.{State}
-use Rattle.c_type.specs.Functions.{slot_for, slot_of, name_fault, params_fault, named_param, with_params, body_part}
-use Rattle.c_type.specs.Functions.{started, typed_function, param_fault, row_fault, row_bytes_fault}
-use Rattle.c_type.specs.Declarations.{row_in}
-use Rattle.c_type.specs.Statements.{nowhere}
+use Rattle.c_type.specs.Functions.{name_fault, params_fault, body_part}
+use Rattle.c_type.specs.Functions.{typed_function, param_fault, row_fault, row_bytes_fault}
+use Rattle.c_type.specs.States.{nowhere, row_in, slot_for, slot_of, named_param, with_params, started}
 use Rattle.c_type_rules.specs.Objects.{signature, of_function, slot_scalar, slot_array}
 use Rattle.c_type_rules.specs.WellFormed.{Each, IsScalar, SlotFits, ArrayFits, FunctionFits}
 use Rattle.c_type_rules.proofs.Moves.{split, held, Known, Fine, Within, Ahead}
@@ -253,7 +252,8 @@ module _ (P : TypedProgram) (H G : Scope) (given : Option Kind) (params : List P
         params = at_most;
         slots = omega (arith, slots_long);
         scalars = r.0.count;
-        locals = subst (Each IsScalar) (sym (ap (drop (length params)) slots ∙ dropped params goes.scalars)) goes.hold;
+        locals = subst (Each IsScalar) (sym (ap (drop (length params)) slots ∙ dropped params goes.scalars))
+            goes.hold;
         rows = subst (Each SlotFits) (sym slots)
             (each_both SlotFits (map slot_of params) goes.scalars (slots_fit H [] params fine)
             (scalars_fit goes.scalars goes.hold));

@@ -2,7 +2,7 @@
 use Rattle.std.proofs.Common.{arith}
 use Rattle.flat_lower_premises.specs.Laws.{LoweredFits}
 use Rattle.flat_lower_premises.proofs.Programs.{fits_at_any_length}
-use Rattle.flat_lower_premises.proofs.LimitLengths.{few_statements}
+use Rattle.flat_lower_premises.proofs.CodeLengths.{few_statements}
 
 pub lowered_fits : LoweredFits
 lowered_fits P s few jumps rows short =

@@ -1,5 +1,6 @@
 -- The laws of the benchmark's text.
-use Rattle.std.proofs.Common.{◌≡◌, ◌≤◌, ◌<◌, ℕ, zero, suc, ◌+◌, ◌*◌, pos, Bool, true, List, [], ◌∷◌, ◌++◌, length, refl, sym, ap, ◌∙◌}
+use Rattle.std.proofs.Common.{◌≡◌, ◌≤◌, ◌<◌, ℕ, zero, suc, ◌+◌, ◌*◌, pos, Bool, true, List, [], ◌∷◌, ◌++◌, length}
+use Rattle.std.proofs.Common.{refl, sym, ap, ◌∙◌}
 use Rattle.std.proofs.Common.{subst, arith, length-append, nat_le, codes}
 use Rattle.std.specs.Prelude.{decimal}
 use Rattle.std.specs.Fmt.{digits}
@@ -22,7 +23,7 @@ use Rattle.bench_laws.proofs.Lines.{row_same, is_yes}
 use Rattle.bench_laws.proofs.Lexed.{lexed}
 use Rattle.bench_laws.proofs.Parsed.{is_unit}
 use Rattle.bench_laws.proofs.Typed.{accepted}
-use Rattle.bench_laws.proofs.Ends.{ends}
+use Rattle.bench_laws.proofs.EvaluationEnds.{ends}
 
 -- the text is accepted with this program
 has_program : (n : ℕ) → n ≤ 64 → IsAccepted (bench_text n) (program n)

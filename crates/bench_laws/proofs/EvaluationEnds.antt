@@ -1,5 +1,6 @@
 -- The evaluation of the benchmark: how many steps it takes, and how it ends.
-use Rattle.std.proofs.Common.{◌≡◌, ℕ, zero, suc, ◌+◌, ◌-◌, ◌*◌, ◌≤◌, ℤ, pos, Bool, true, cond, List, [], ◌∷◌, ◌++◌, Option}
+use Rattle.std.proofs.Common.{◌≡◌, ℕ, zero, suc, ◌+◌, ◌-◌, ◌*◌, ◌≤◌, ℤ, pos, Bool, true, cond, List, [], ◌∷◌}
+use Rattle.std.proofs.Common.{◌++◌, Option}
 use Rattle.std.proofs.Common.{Some, refl, sym, ap, ◌∙◌, arith, nat_eq, length}
 use Rattle.std.specs.Prelude.{slice_get}
 use Rattle.std.proofs.lemmas.Bool.Decides.{nat_tests}
@@ -15,7 +16,8 @@ use Rattle.bench_laws.proofs.Rules.{Follow, body_gives}
 use Rattle.bench_laws.proofs.Words.{to_int, int_is}
 use Rattle.bench_laws.proofs.Programs.{main, program, functions, main_code}
 use Rattle.bench_laws.proofs.Functions.{function_steps}
-use Rattle.bench_laws.proofs.Rounds.{value_below, function_behind, round_steps, rounds, main_steps, main_gives, outside}
+use Rattle.bench_laws.proofs.Rounds.{value_below, function_behind, round_steps, rounds, main_steps}
+use Rattle.bench_laws.proofs.Rounds.{main_gives, outside}
 use Rattle.bench_laws.proofs.Rounds.{array_after}
 
 -- a round takes 498 steps
@@ -28,7 +30,8 @@ rounds_are (suc n) k = rounds_are n (round_steps k) ∙ ap (λ m. 498 * n + m) (
 
 -- all steps, with some left
 main_are : (n k : ℕ) → suc (suc (main_steps n k)) ≡ steps n + k
-main_are n k = let r : rounds n (suc (suc (suc k))) ≡ 498 * n + suc (suc (suc k)) = rounds_are n (suc (suc (suc k))) in
+main_are n k = let r : rounds n (suc (suc (suc k))) ≡ 498 * n + suc (suc (suc k)) =
+    rounds_are n (suc (suc (suc k))) in
     omega arith
 
 -- the evaluation where so many steps are left over

@@ -20,7 +20,7 @@ use Rattle.flat_lower_premises.specs.LimitNodes.{expr_nodes, stmt_nodes, source_
 use Rattle.flat_lower.specs.declared.around.Around.TheVariants as around
 use Rattle.flat_lower_premises.specs.Jumps.{JumpsInLoops}
 use Rattle.flat_lower_premises.specs.Laws.{IsSmallRow, SmallRows}
-use Rattle.flat_lower_premises.proofs.Whole.{lowered_fits}
+use Rattle.flat_lower_premises.proofs.LoweredSources.{lowered_fits}
 
 abbrev n : ℕ → Expr
 n w = Number (Some Int) w

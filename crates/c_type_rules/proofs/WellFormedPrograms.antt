@@ -21,11 +21,10 @@ use Rattle.c_type_expr.specs.declared.meaning.Meaning.{Meaning}
 use Rattle.c_type_expr.specs.declared.meaning.Meaning.TheVariants as meaning
 use Rattle.c_type_expr.specs.Scope.{Scope, Frame, same_name, look_up, declared_in}
 use Rattle.c_type.specs.declared.file_scope.FileScope.{FileScope}
-use Rattle.c_type.specs.Units.{getchar_name, putchar_name}
+use Rattle.c_type.specs.FileScopes.{getchar_name, putchar_name, count_after, main_name, number_in}
 use Rattle.c_type.specs.Functions.{callee_in}
-use Rattle.c_type.specs.Programs.{count_after, noted, definitions, table, node_fault, node_after, items_fault}
-use Rattle.c_type.specs.Programs.{items_after, main_name, is_int, no_slots, is_main, number_in, program_fault}
-use Rattle.c_type.specs.Programs.{program_tree}
+use Rattle.c_type.specs.Programs.{noted, definitions, table, node_fault, node_after, items_fault, items_after, is_int}
+use Rattle.c_type.specs.Programs.{no_slots, is_main, program_fault, program_tree}
 use Rattle.c_type_rules.specs.Objects.{Signature, signature, of_function, signature_of}
 use Rattle.c_type_rules.specs.WellFormed.{Each, FunctionFits, IsMain, WellFormed}
 use Rattle.c_constant.proofs.SameKinds.{kinds_are}
@@ -93,7 +92,8 @@ module _ (T : Scope) (m : ℕ) where
   -- ITEMS
 
   -- an item that has no fault
-  one_item : (t : TopNode) (l : ℕ) (N : Scope) (n : ℕ) (F : Frame) (gs : List TypedGlobal) (b : ℕ) (fs : List TypedFunc)
+  one_item : (t : TopNode) (l : ℕ) (N : Scope) (n : ℕ) (F : Frame) (gs : List TypedGlobal) (b : ℕ)
+      (fs : List TypedFunc)
       → Holds T m N n F gs b fs
       → ((w : List ℕ) → Has T m (noted t n N) w → Has T m T w) → node_fault T t l (file T m F gs b fs) ≡ None
       → Step T m (noted t n N) (count_after t n) F fs (node_after T t (file T m F gs b fs))
@@ -184,7 +184,8 @@ module _ (T : Scope) (m : ℕ) where
   slots_are (x ∷ s) h = absurd (false≢true h)
 
   -- what main's name calls is main
-  called : (F : Frame) (gs : List TypedGlobal) (fs : List TypedFunc) (r : Option Kind) (s : List Slot) (x : Callee) → m
+  called : (F : Frame) (gs : List TypedGlobal) (fs : List TypedFunc) (r : Option Kind) (s : List Slot)
+      (x : Callee) → m
       ≡ number_in (Some x) → NamedBy x main_name
       → signature_of (program T m gs fs) x ≡ Some (signature r s) → r ≡ Some Int → s ≡ []
       → Each (FunctionFits (program T m gs fs)) fs → IsMain (program T m gs fs)
@@ -211,7 +212,8 @@ module _ (T : Scope) (m : ℕ) where
       (sym (one_block F main_name) ∙ e) in
       let x = b.2 t.1 in
       let named : NamedBy x.0 main_name =
-      ⊎_elim (λ k. (n.met main_name x.0 (sym k ∙ x.1)).named) (λ k. absurd (not_built_in main_name r s c k refl)) b.1 in
+      ⊎_elim (λ k. (n.met main_name x.0 (sym k ∙ x.1)).named)
+      (λ k. absurd (not_built_in main_name r s c k refl)) b.1 in
       let there = calls T P F n main_name r s x.0 d
       (subst (λ c. Bound T P (F ∷ []) main_name (meaning.Function r s c d)) x.1 b) in
       called F gs fs r s x.0 (q ∙ ap number_in x.1) named there (int_is r u.0) (slots_are s u.1) fit

@@ -46,7 +46,7 @@ use Rattle.flat_lower.proofs.Entered.{ArgsAre, called_scene, called_is, begins, 
 use Rattle.flat_lower.proofs.Returns.{ReturnIs, EndedIn, lowered_of, lowered_is, body_run, this_call}
 use Rattle.flat_lower.proofs.Returns.{call_dives, call_waits, closed_leads, closed_stops}
 use Rattle.flat_lower.proofs.Calls.{typed_at, func_at, within, beyond, under, limit}
-use Rattle.flat_lower.proofs.Comes.{zero_fits}
+use Rattle.flat_lower.proofs.CallsFollow.{zero_fits}
 use Rattle.flat_lower.proofs.EveryStmt.{runs_follow}
 use Rattle.flat_lower.proofs.Starts.{first_scene, first_is, first_state, first_related}
 

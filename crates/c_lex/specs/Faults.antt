@@ -1,0 +1,53 @@
+-- Which fault a text has, and where it stands.
+use Rattle.std.specs.Prelude.{◌≡◌, ◌≤◌, ℕ, Bool, [], length}
+use Rattle.c_tree.specs.declared.Form.{Form}
+use Rattle.c_lex.specs.Bytes.{Bytes, line_after, at_line_start}
+use Rattle.c_lex.specs.declared.piece.Broken.{Broken}
+use Rattle.c_lex.specs.declared.piece.Broken.TheVariants as kind
+use Rattle.c_lex.specs.declared.piece.Reading.TheVariants as reads
+use Rattle.c_lex.specs.Pieces.{Longest, NoPiece}
+use Rattle.c_lex.specs.Lexes.{Tokens, Cut}
+
+-- What may be wrong with a text.
+pub data Fault : Type 0 where
+  -- no piece begins with it
+  BadByte : Fault
+  -- a number, or a character constant, that is none of the profile
+  BadLiteral : Fault
+  -- a comment without its end
+  Unclosed : Fault
+  TooManyTokens : Fault
+  -- a line that begins with `#` and is not the include
+  Directive : Fault
+
+-- the fault that a broken piece is
+abbrev pub fault_of : Broken → Fault
+fault_of kind.BadLiteral = BadLiteral
+fault_of kind.Unclosed = Unclosed
+fault_of kind.Directive = Directive
+
+-- The fault that stands at a place, with so many tokens before it.
+pub data Stands (most : ℕ) (count : ℕ) (starts : Bool) (text : Bytes) : Fault → Type 0 where
+  -- a byte that begins no piece
+  no_piece : (text ≡ [] → ⊥) → NoPiece starts text → Stands most count starts text BadByte
+  is_broken : {piece rest : Bytes} {b : Broken} → Longest starts text piece rest (reads.Broken b)
+      → Stands most count starts text (fault_of b)
+  -- a token behind as many as there may be
+  one_more : {piece rest : Bytes} {f : Form} → count ≡ most
+      → Longest starts text piece rest (reads.Token f) → Stands most count starts text TooManyTokens
+
+-- The first fault of a text, and its line.
+pub record FaultAt (most : ℕ) (text : Bytes) (fault : Fault) (line : ℕ) : Type 0 where
+  -- those that end before the fault
+  pub tokens : Tokens
+  -- the text up to the fault
+  pub before : Bytes
+  -- the text from the fault on
+  pub after : Bytes
+  -- up to there the text has these tokens, and no fault
+  pub cut : Cut [] text tokens before after
+  pub few : length tokens ≤ most
+  -- with these tokens before it
+  pub stands : Stands most (length tokens) (at_line_start before) after fault
+  -- one more than the line feeds before it
+  pub line_is : line ≡ line_after before
