@@ -12,7 +12,8 @@ use Rattle.std.proofs.lemmas.List.{get_or-replicate, length-replicate, get_or_pa
 use Rattle.std.proofs.lemmas.Bool.{cases_eq, cases_lt}
 use Rattle.std.proofs.lemmas.Bool.Decides.{nat_tests}
 use Rattle.std.proofs.lemmas.Grind.{get_or-set_at}
-use Rattle.base.specs.Rows.{has_bit, has_flag, flags, no_flags}
+use Rattle.base.specs.Rows.{has_bit, has_flag, flags}
+use Rattle.base.specs.inside.Rows.{no_flags}
 
 pub length_flags : (n : ℕ) (ws : List ℕ) → length (flags n ws) ≡ n
 unfolding flags

@@ -8,7 +8,7 @@ use Rattle.std.proofs.lemmas.List.FromFn.{length-map-range_with_len, get_or-map-
 use Rattle.std.proofs.lemmas.List.{get_or-replicate, length-replicate, get_or_past, set_past}
 use Rattle.std.proofs.lemmas.Bool.{cases_eq, cases_lt}
 use Rattle.std.proofs.lemmas.Grind.{get_or-set_at}
-use Rattle.base.specs.Rows.{item_at, row, no_flags, no_items}
+use Rattle.base.specs.inside.Rows.{item_at, row, no_flags, no_items}
 use Rattle.base.proofs.FlagFacts.{get_unset}
 
 -- lists -----------------------------------------------------------------------------------------

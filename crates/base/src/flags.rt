@@ -1,7 +1,8 @@
 //! Flags in words of 64 bits.
 ghost use Rattle.std.specs.Prelude.{◌≡◌, ◌<◌, ◌≤◌, ◌+◌, ◌*◌, ℕ, true, false, length, replicate};
 ghost use Rattle.std.specs.Prelude.{slice_index_or, slice_set};
-ghost use Rattle.base.specs.Rows.{has_bit, no_flags};
+ghost use Rattle.base.specs.Rows.{has_bit};
+ghost use Rattle.base.specs.inside.Rows.{no_flags};
 
 use std::marker::Model;
 

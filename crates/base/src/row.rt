@@ -1,7 +1,8 @@
 //! Rows of items, each of which may be there or not.
 ghost use Rattle.std.specs.Prelude.{◌≡◌, ◌<◌, ◌≤◌, ◌+◌, ◌*◌, ℕ, None, Some, false, length, map, is_some};
 ghost use Rattle.std.specs.Prelude.{slice_index_or, slice_set};
-ghost use Rattle.base.specs.Rows.{has_bit, no_items};
+ghost use Rattle.base.specs.Rows.{has_bit};
+ghost use Rattle.base.specs.inside.Rows.{no_items};
 
 use crate::flags::Flags;
 use std::marker::Model;
@@ -17,7 +18,7 @@ pub struct Row<T, const N: usize, const W: usize> {
 impl<T, const N: usize, const W: usize> Model for Row<T, N, W> {
     ghost use Rattle.std.specs.Prelude.{◌≡◌, List, Option, length};
     ghost use Rattle.std.specs.Coded.{coded_list, coded_option};
-    ghost use Rattle.base.specs.Rows.{row};
+    ghost use Rattle.base.specs.inside.Rows.{row};
 
     ghost Value = { List (Option T) };
 

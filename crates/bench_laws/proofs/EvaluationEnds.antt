@@ -8,7 +8,8 @@ use Rattle.c_tree.specs.declared.Kind.TheVariants.{Int}
 use Rattle.c_tree.specs.declared.TypedFunc.{TypedFunc}
 use Rattle.c_tree.specs.declared.TypedProgram.{TypedProgram}
 use Rattle.c_constant.specs.Kinds.{number, converted}
-use Rattle.c_meaning_spec.specs.State.{State, Result, then, spend}
+use Rattle.c_meaning_spec.specs.State.{State, Result, spend}
+use Rattle.c_meaning_spec.specs.inside.State.{then}
 use Rattle.c_meaning_spec.specs.Call.{enter, left}
 use Rattle.c_meaning_spec.specs.Eval.{meaning, eval, Done, Outcome, outcome, start}
 use Rattle.bench_laws.specs.Values.{value, letters, steps}

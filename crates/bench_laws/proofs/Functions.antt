@@ -95,7 +95,7 @@ pub function_gives : (P : TypedProgram) (input output : List ℕ) (room x n : �
     (k : ℕ) → x < 1000 → n < 64
     → Follow P (function_code n) (inside input output room x None
     (c0 ∷ c1 ∷ c2 ∷ c3 ∷ c4 ∷ c5 ∷ c6 ∷ c7 ∷ c8 ∷ c9 ∷ c10 ∷ c11 ∷ c12 ∷ c13 ∷ c14 ∷ c15 ∷ [])) (function_steps k)
-        (Returns (Some (partial x 15 + n)))
+    (Returns (Some (partial x 15 + n)))
     (inside input output room x (Some 16) (sums x)) k
 unfolding operate
 function_gives P input output room x n c0 c1 c2 c3 c4 c5 c6 c7 c8 c9 c10 c11 c12 c13 c14 c15 k small few =

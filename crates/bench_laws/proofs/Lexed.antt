@@ -55,11 +55,11 @@ functions_cut (suc n) rest few =
     (subst (λ (m : ℕ). Cuts 2 (10 ∷ functions n ++ (function n ++ rest)) (functions_tokens (suc n)) (10 ∷ rest) m)
     (let e : function_at n ≡ 2 + suc n = omega arith in e)
     (then_cuts 2 (2 + n) (function_at n) (10 ∷ functions n ++ (function n ++ rest))
-        (10 ∷ function n ++ rest) (10 ∷ rest)
+    (10 ∷ function n ++ rest) (10 ∷ rest)
     (functions_tokens n) (line_of (function_at n) (function_forms n))
     (functions_cut n (function n ++ rest) (omega arith))
     (subst (λ (t : Bytes). Cuts (2 + n) (10 ∷ t) (line_of (function_at n) (function_forms n)) (10 ∷ rest)
-        (function_at n))
+    (function_at n))
     (sym (function_is n rest))
     (line_after_feed (2 + n) 108 _ rest (function_forms n) refl (function_is_cut n rest (omega arith))))))
 
@@ -74,11 +74,11 @@ calls_cut n (suc k) rest few =
     (subst (λ (m : ℕ). Cuts (main_at n) (10 ∷ calls k ++ (call k ++ rest)) (calls_tokens n (suc k)) (10 ∷ rest) m)
     (let e : call_at n k ≡ main_at n + suc k = omega arith in e)
     (then_cuts (main_at n) (main_at n + k) (call_at n k) (10 ∷ calls k ++ (call k ++ rest))
-        (10 ∷ call k ++ rest) (10 ∷ rest)
+    (10 ∷ call k ++ rest) (10 ∷ rest)
     (calls_tokens n k) (line_of (call_at n k) (call_forms k))
     (calls_cut n k (call k ++ rest) (omega arith))
     (subst (λ (t : Bytes). Cuts (main_at n + k) (10 ∷ t) (line_of (call_at n k) (call_forms k)) (10 ∷ rest)
-        (call_at n k))
+    (call_at n k))
     (sym (call_is k rest))
     (line_after_feed (main_at n + k) 120 _ rest (call_forms k) refl (call_is_cut k rest (omega arith))))))
 
@@ -95,7 +95,7 @@ text_is n = refl
 
 behind_cut : (n : ℕ) → n ≤ 64 → Cuts 1 (behind n) (line_of 2 array_forms ++ (functions_tokens n
     ++ (line_of (main_at n) main_forms ++ (calls_tokens n n ++ line_of (call_at n n) end_forms)))) []
-        (suc (call_at n n))
+    (suc (call_at n n))
 behind_cut n few =
     let ending = codes "return (int) x; }" ++ 10 ∷ [] in
     let middle = codes "int main(void) { long x = 1;" ++ 10 ∷ calls n ++ ending in
@@ -122,7 +122,7 @@ lexes n few =
     let text = codes "#include <stdio.h>" ++ behind n in
     let r = behind_cut n few (codes "#include <stdio.h>") refl in
     let c : Cut [] text (tokens n) r.passed [] =
-        next (include_front (codes "include <stdio.h>" ++ behind n) refl) r.cut in
+    next (include_front (codes "include <stdio.h>" ++ behind n) refl) r.cut in
     let w : text ≡ r.passed = whole [] text r.passed [] (tokens n) c ∙ bytes_nil r.passed in
     subst (λ (t : Bytes). Lexes t (tokens n)) (sym (text_is n))
     (subst (λ (x : Bytes). Cut [] text (tokens n) x []) (sym w) c)

@@ -15,10 +15,11 @@ use Rattle.c_tree.specs.declared.Kind.{Kind}
 use Rattle.c_tree.specs.declared.Kind.TheVariants.{Int}
 use Rattle.c_lex.specs.declared.piece.Reading.TheVariants as reads
 use Rattle.c_lex.specs.Bytes.{Bytes, Goes, by_class, is_space, is_digit, is_letter, is_word, in_number, feeds, is_feed, is_sign, is_exponent}
-use Rattle.c_lex.specs.Runs.{run_len}
+use Rattle.c_lex.specs.inside.Runs.{run_len}
 use Rattle.c_lex.specs.Tables.{lookup, keywords, marks}
-use Rattle.c_lex.specs.Scans.{constant_of}
-use Rattle.c_lex.specs.Pieces.{Longest, Front, word_form}
+use Rattle.c_lex.specs.inside.Scans.{constant_of}
+use Rattle.c_lex.specs.Pieces.{Longest, word_form}
+use Rattle.c_lex.specs.inside.Pieces.{Front}
 use Rattle.c_lex.proofs.Basics.{and_left, and_right, not_true}
 use Rattle.c_lex.proofs.Firsts.{tabled, tabled_at}
 use Rattle.c_lex.proofs.Fronts.{space_front, word_front, number_front}
@@ -111,7 +112,7 @@ number_run : (w : Bytes) (last c : ℕ) (rest : Bytes) → each_digit w ≡ true
 number_run [] last c rest e n = ap (λ (b : Bool). cond b (suc (run_len in_number c rest)) 0) (n last)
 number_run (d ∷ ds) last c rest e n =
     let goes : in_number last d ≡ true = ap (λ (b : Bool). (b || nat_eq d 46) || (is_sign d && is_exponent last))
-        (digit_word d (and_left (is_digit d) _ e)) in
+    (digit_word d (and_left (is_digit d) _ e)) in
     ap (λ (b : Bool). cond b (suc (run_len in_number d (ds ++ c ∷ rest))) 0) goes
     ∙ ap suc (number_run ds d c rest (and_right (is_digit d) _ e) n)
 
@@ -133,7 +134,7 @@ blank : (b : ℕ) (rest more : Bytes) (fs : List Form) → is_space b ≡ false 
 blank b rest more fs s x =
     let g : (starts : Bool) → Front starts (32 ∷ b ∷ rest) 1 reads.Gap = λ starts.
     subst (λ (v : Bool). Front starts (32 ∷ b ∷ rest)
-        (suc (cond v (suc (run_len (by_class is_space) b rest)) 0)) reads.Gap)
+    (suc (cond v (suc (run_len (by_class is_space) b rest)) 0)) reads.Gap)
     s (space_front starts 32 (b ∷ rest) refl) in
     pass g refl x
 
@@ -148,11 +149,11 @@ name_line w c rest more fs e s none x =
     (reads.Token (word_form (102 ∷ take (length w) bs) (lookup (102 ∷ take (length w) bs) keywords))) = λ starts.
     subst (λ (m : ℕ). Longest starts (102 ∷ bs) (102 ∷ take m bs) (drop m bs)
     (reads.Token (word_form (102 ∷ take m bs) (lookup (102 ∷ take m bs) keywords)))) n
-        (word_front starts 102 bs refl) in
+    (word_front starts 102 bs refl) in
     let b : (starts : Bool) → Longest starts (102 ∷ bs) (102 ∷ w) (c ∷ rest) (reads.Token (form.Name (102 ∷ w))) =
-        λ starts.
+    λ starts.
     subst (λ (o : Option Key). Longest starts (102 ∷ bs) (102 ∷ w) (c ∷ rest)
-        (reads.Token (word_form (102 ∷ w) o))) none
+    (reads.Token (word_form (102 ∷ w) o))) none
     (subst (λ (t : Bytes). Longest starts (102 ∷ bs) (102 ∷ w) t
     (reads.Token (word_form (102 ∷ w) (lookup (102 ∷ w) keywords)))) (drop-append_seam w (c ∷ rest))
     (subst (λ (t : Bytes). Longest starts (102 ∷ bs) (102 ∷ t) (drop (length w) bs)
@@ -178,7 +179,7 @@ number_line (d ∷ ds) v c k rest more fs e s is x =
     (ap (λ (m : ℕ). constant_of (d ∷ take m bs)) n ∙ ap (λ (y : Bytes). constant_of (d ∷ y)) t ∙ is))) in
     let b : (starts : Bool) → Longest starts (d ∷ bs) (d ∷ ds) (c ∷ rest) (reads.Token (form.Number v k)) = λ starts.
     subst (λ (y : Bytes). Longest starts (d ∷ bs) (d ∷ ds) y (reads.Token (form.Number v k)))
-        (drop-append_seam ds (c ∷ rest))
+    (drop-append_seam ds (c ∷ rest))
     (subst (λ (y : Bytes). Longest starts (d ∷ bs) (d ∷ y) (drop (length ds) bs) (reads.Token (form.Number v k))) t
     (a starts)) in
     blank d bs more _ (not_true (is_space d) (and_left (not (is_space d)) _ e))
@@ -200,11 +201,11 @@ function_is_cut k rest h =
     let numeral : is_numeral (decimal k) ≡ true = row_same numeral_at is_yes 64 k all_numerals h in
     let tail = codes "; }" ++ 10 ∷ rest in
     joined (found 2 (function_text k rest) (form.Key key.Long ∷ [])
-        (102 ∷ decimal k ++ (function_body ++ (decimal k ++ tail))) refl)
+    (102 ∷ decimal k ++ (function_body ++ (decimal k ++ tail))) refl)
     (name_line (decimal k) 40 _ (10 ∷ rest) _ (numeral_digits (decimal k) numeral) refl
     (row_same keyword_at no_keyword 64 k all_names h)
     (joined (found 115 (function_body ++ (decimal k ++ tail)) body_forms (32 ∷ decimal k ++ tail)
-        (body_scan (decimal k ++ tail)))
+    (body_scan (decimal k ++ tail)))
     (number_line (decimal k) k 59 Int _ (10 ∷ rest) _ numeral (λ b. refl)
     (row_same constant_at int_constant 64 k all_constants h)
     (found 10 tail (form.Mark mark.Semicolon ∷ form.Mark mark.RightBrace ∷ []) (10 ∷ rest) refl))))
@@ -219,7 +220,7 @@ call_is_cut k rest h =
     let numeral : is_numeral (decimal k) ≡ true = row_same numeral_at is_yes 64 k all_numerals h in
     let tail = codes "(x) % 1000; putchar(65 + (int) (x % 26));" ++ 10 ∷ rest in
     joined (found 4 (call_text k rest) (form.Name (codes "x") ∷ form.Mark mark.Assign ∷ [])
-        (102 ∷ decimal k ++ tail) refl)
+    (102 ∷ decimal k ++ tail) refl)
     (name_line (decimal k) 40 _ (10 ∷ rest) _ (numeral_digits (decimal k) numeral) refl
     (row_same keyword_at no_keyword 64 k all_names h)
     (found 50 tail behind_call_forms (10 ∷ rest) refl))

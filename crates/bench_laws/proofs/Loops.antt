@@ -43,10 +43,10 @@ module _ (P : TypedProgram) (input output : List ℕ) (room x : ℕ) where
       r_turn
       (r_operation (λ rec a b s. refl) (r_scalar refl) (r_convert (to_long 16 (omega arith))) less)
       (r_plain (r_set (r_scalar refl)
-          (r_operation (λ rec a b s. refl) (r_scalar refl) (r_scalar refl) (add_long x i fits))
+      (r_operation (λ rec a b s. refl) (r_scalar refl) (r_scalar refl) (add_long x i fits))
       refl is_old refl))
       (r_assign (r_operation (λ rec a b s. refl) (r_scalar refl) (r_convert (to_long 1 (omega arith))) next)
-          refl refl)
+      refl refl)
       rest
 
   -- a turn of the second loop
@@ -60,8 +60,8 @@ module _ (P : TypedProgram) (input output : List ℕ) (room x : ℕ) where
       (r_operation (λ rec a b s. refl) (r_scalar refl) (r_convert (to_long 16 (omega arith))) less)
       (r_plain (r_set (r_scalar refl) (r_operation (λ rec a b s. refl) (r_element (r_scalar refl) refl is_a)
       (r_element (r_operation (λ rec a b s. refl) (r_scalar refl) (r_convert (to_long 1 (omega arith))) before)
-          refl is_b)
+      refl is_b)
       (add_long a b fits)) refl is_a refl))
       (r_assign (r_operation (λ rec a b s. refl) (r_scalar refl) (r_convert (to_long 1 (omega arith))) next)
-          refl refl)
+      refl refl)
       rest

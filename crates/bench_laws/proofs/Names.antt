@@ -160,7 +160,7 @@ some_from k a (suc m) ts h l few rest =
         let same : a ≡ k = grind (arith, nat_tests) in
         subst (λ (j : ℕ). Calls (name_f j) a (functions_from a (suc m) ++ ts) (Some (callee.Func j))) same
         (rules.defined rules.function (counted (name_f a) a _ None
-            (none_from a (suc a) m ts (omega arith) (omega arith)
+        (none_from a (suc a) m ts (omega arith) (omega arith)
         (λ b. subst (λ (j : ℕ). Calls (name_f j) b ts None) (sym same) (rest b)))))
     go more false e =
         let other : a ≡ k → ⊥ = grind (arith, nat_tests) in
@@ -183,7 +183,7 @@ calls_function n k below few =
     (subst (λ (fs : List Top). Calls (name_f k) 0 (fs ++ main n ∷ []) (Some (callee.Func k))) (sym (functions_are n))
     (some_from k 0 n (main n ∷ []) (omega arith) (omega arith) (omega arith)
     (λ b. rules.not_defined (λ c d. absurd
-        (let q : 109 ≡ 102 = ap (λ (w : List ℕ). get_or w 0 0) (names_is d) in omega arith)) rules.no_item))))
+    (let q : 109 ≡ 102 = ap (λ (w : List ℕ). get_or w 0 0) (names_is d) in omega arith)) rules.no_item))))
 
 -- and a call of main the last one
 pub calls_main : (n : ℕ) → CallsIn (tree n) (codes "main") (Some (callee.Func n))
@@ -191,7 +191,7 @@ calls_main n =
     let e : n ≡ 0 + n = omega arith in
     rules.defined_later (rules.defined_later
     (subst (λ (fs : List Top). Calls (codes "main") 0 (fs ++ main n ∷ []) (Some (callee.Func n)))
-        (sym (functions_are n))
+    (sym (functions_are n))
     (passed_from (codes "main") (callee.Func n) 0 n (main n ∷ [])
     (subst (λ (m : ℕ). Calls (codes "main") m (main n ∷ []) (Some (callee.Func n))) e
     (rules.defined rules.function rules.no_item)))))

@@ -64,14 +64,14 @@ module _ (l : ℕ) where
 
   fill_is : (t : Tokens) → Spells deep (expr 16 (fill l)) 3
       (line_of l (form.Name (codes "a") ∷ form.Mark mark.LeftBracket ∷ form.Name (codes "i")
-          ∷ form.Mark mark.RightBracket
+      ∷ form.Mark mark.RightBracket
       ∷ form.Mark mark.Assign ∷ form.Name (codes "x") ∷ form.Mark mark.Plus ∷ form.Name (codes "i") ∷ []) ++ t) t
   fill_is t = lift 1 (e.assign {a = element l (i_of l)} simple (lift 2 (e.element refl (lift 16 e.name))) refl
       (lift 10 (e.join {a = x_of l} (op Add) (lift 5 e.name) (lift 4 e.name))))
 
   add_up_is : (t : Tokens) → Spells deep (expr 16 (add_up l)) 3
       (line_of l (form.Name (codes "a") ∷ form.Mark mark.LeftBracket ∷ form.Name (codes "i")
-          ∷ form.Mark mark.RightBracket
+      ∷ form.Mark mark.RightBracket
       ∷ form.Mark mark.Assign ∷ form.Name (codes "a") ∷ form.Mark mark.LeftBracket ∷ form.Name (codes "i")
       ∷ form.Mark mark.RightBracket ∷ form.Mark mark.Plus ∷ form.Name (codes "a") ∷ form.Mark mark.LeftBracket
       ∷ form.Name (codes "i") ∷ form.Mark mark.Minus ∷ form.Number 1 Int ∷ form.Mark mark.RightBracket ∷ []) ++ t) t
@@ -81,16 +81,16 @@ module _ (l : ℕ) where
 
   sum_is : (k : ℕ) (t : Tokens) → Spells deep (expr 16 (sum l k)) 2
       (line_of l (form.Name (codes "a") ∷ form.Mark mark.LeftBracket ∷ form.Number 15 Int
-          ∷ form.Mark mark.RightBracket
+      ∷ form.Mark mark.RightBracket
       ∷ form.Mark mark.Plus ∷ form.Number k Int ∷ []) ++ t) t
   sum_is k t = lift 11 (e.join {a = element l (number l 15)} (op Add) (lift 5 (e.element refl (lift 16 e.number)))
       (lift 4 e.number))
 
   advance_is : (k : ℕ) (t : Tokens) → Spells deep (expr 16 (assigned l (x_of l) (next_x l k))) 2
       (line_of l (form.Name (codes "x") ∷ form.Mark mark.Assign ∷ form.Name (102 ∷ decimal k)
-          ∷ form.Mark mark.LeftParen
+      ∷ form.Mark mark.LeftParen
       ∷ form.Name (codes "x") ∷ form.Mark mark.RightParen ∷ form.Mark mark.Percent ∷ form.Number 1000 Int ∷ []) ++ t)
-          t
+      t
   advance_is k t = lift 1 (e.assign {a = x_of l} simple (lift 2 e.name) refl
       (lift 11 (e.join (op Remainder) (lift 4 (e.call refl (e.some (e.last (lift 15 e.name))))) (lift 3 e.number))))
 
@@ -110,7 +110,7 @@ module _ (l : ℕ) where
 
   result_is : (t : Tokens) → Spells deep (expr 16 (result l)) 2
       (line_of l (form.Mark mark.LeftParen ∷ form.Key key.Int ∷ form.Mark mark.RightParen
-          ∷ form.Name (codes "x") ∷ []) ++ t) t
+      ∷ form.Name (codes "x") ∷ []) ++ t) t
   result_is t = lift 13 (e.cast refl types.int (lift 3 e.name))
 
   -- FUNCTIONS
@@ -147,7 +147,7 @@ calls_are n (suc k) ss r t h =
     subst (λ (xs : List Stmt). Writes deep (entries xs) 1 (calls_tokens n (suc k) ++ r) t)
     (sym (append_assoc (calls n k) (advance (call_at n k) k ∷ show (call_at n k) ∷ []) ss))
     (subst (λ (ts : Tokens). Writes deep
-        (entries (calls n k ++ (advance (call_at n k) k ∷ show (call_at n k) ∷ ss))) 1 ts t)
+    (entries (calls n k ++ (advance (call_at n k) k ∷ show (call_at n k) ∷ ss))) 1 ts t)
     (sym (append_assoc (calls_tokens n k) (line_of (call_at n k) (call_forms k)) r))
     (calls_are n k (advance (call_at n k) k ∷ show (call_at n k) ∷ ss) (line_of (call_at n k) (call_forms k) ++ r) t
     (call_is (call_at n k) k ss r t h)))

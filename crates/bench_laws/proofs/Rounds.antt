@@ -100,7 +100,7 @@ module _ (N : ℕ) (input : List ℕ) (most : N ≤ 64) where
       r_plain (r_assign (r_operation (λ rec a b s. refl)
       (r_call (r_scalar refl) (function_at N k (main N ∷ []) below) is_other refl refl refl
       (function_gives (program N) input output 312 x k c0 c1 c2 c3 c4 c5 c6 c7 c8 c9 c10 c11 c12 c13 c14 c15
-          (suc j) small (omega arith)) refl)
+      (suc j) small (omega arith)) refl)
       (r_convert (to_long 1000 (omega arith)))
       (modulo_thousand (partial x 15 + k) (omega arith) ∙ ap (λ (m : ℕ). Some (m % 1000)) sum)) refl refl)
 
@@ -123,7 +123,7 @@ module _ (N : ℕ) (input : List ℕ) (most : N ≤ 64) where
       (Some ((16 * x + 120 + k) % 1000)) (sums x)) j v u h
       → Follow (program N) (advance k ∷ show ∷ rest) (outside input output (Some x)
       (c0 ∷ c1 ∷ c2 ∷ c3 ∷ c4 ∷ c5 ∷ c6 ∷ c7 ∷ c8 ∷ c9 ∷ c10 ∷ c11 ∷ c12 ∷ c13 ∷ c14 ∷ c15 ∷ []))
-          (round_steps j) v u h
+      (round_steps j) v u h
   round_with k x output c0 c1 c2 c3 c4 c5 c6 c7 c8 c9 c10 c11 c12 c13 c14 c15 rest v u j h below small f =
       r_next (advances k x output c0 c1 c2 c3 c4 c5 c6 c7 c8 c9 c10 c11 c12 c13 c14 c15 (more 9 j) below small)
       (r_next (shows ((16 * x + 120 + k) % 1000) output (sums x) j (omega arith)) f)
@@ -160,7 +160,7 @@ pub all_rounds : (N : ℕ) (input : List ℕ) → N ≤ 64 → (n : ℕ) → n �
 all_rounds N input most zero few rest v u j h f = f
 all_rounds N input most (suc n) few rest v u j h f =
     subst (λ (all : List Code). Follow (program N) all (outside input [] (Some 1) (array_after 0))
-        (rounds n (round_steps j))
+    (rounds n (round_steps j))
     v u h) (sym (append_assoc (calls n) (advance n ∷ show ∷ []) rest))
     (all_rounds N input most n (omega arith) (advance n ∷ show ∷ rest) v u (round_steps j) h
     (round N input most n rest v u j h (omega arith) f))

@@ -25,7 +25,8 @@ use Rattle.c_constant.specs.Kinds.{converted}
 use Rattle.c_meaning_spec.specs.declared.signal.Signal.{Signal}
 use Rattle.c_meaning_spec.specs.declared.signal.Signal.TheVariants.{Nothing, Value, Returns}
 use Rattle.c_meaning_spec.specs.declared.signal.Object.TheVariants.{InScalar, InArray}
-use Rattle.c_meaning_spec.specs.State.{State, Result, Go, then, given, held, cell_in, store_in, written, want}
+use Rattle.c_meaning_spec.specs.State.{State, Result, Go, given, held, cell_in, store_in, written, want}
+use Rattle.c_meaning_spec.specs.inside.State.{then}
 use Rattle.c_meaning_spec.specs.Word.{binary_of}
 use Rattle.c_meaning_spec.specs.Task.{Of, Run, Turn, Parts, element as element_value}
 use Rattle.c_meaning_spec.specs.Call.{frame, entered, enter, entered_if, left, arguments}
@@ -101,12 +102,12 @@ pub r_element : {P : TypedProgram} {c : Kind} {g w v k j : ℕ} {e : Term} {row 
     → Gives P (element c g e) s (suc k) v s' j
 r_element {P = P} {c = c} {g = g} {w = w} {v = v} {k = k} {j = j} {e = e} {row = row} {s = s} {s' = s'} h f x =
     record {
-  is = of_node P c _ (Element (place.Global g) None (typed e)) (at s (suc k))
-      (nodes.rolls-Element (place.Global g) None (typed e))
-      ∙ ap (λ (r : Result). then r (element_value (place.Global g))) h.is
-      ∙ ap (λ (r : Option (List (Option ℕ))). given (held (cell_in r w)) (at s' j)) f
-      ∙ ap (λ (r : Option (Option ℕ)). given (held r) (at s' j)) x;
-}
+      is = of_node P c _ (Element (place.Global g) None (typed e)) (at s (suc k))
+          (nodes.rolls-Element (place.Global g) None (typed e))
+          ∙ ap (λ (r : Result). then r (element_value (place.Global g))) h.is
+          ∙ ap (λ (r : Option (List (Option ℕ))). given (held (cell_in r w)) (at s' j)) f
+          ∙ ap (λ (r : Option (Option ℕ)). given (held r) (at s' j)) x;
+    }
 
 -- an operation other than `&&` and `||`
 abbrev pub IsEager : BinaryOp → Type 0
@@ -132,7 +133,7 @@ r_convert {P = P} {c = c} {w = w} {s = s} {k = k} e = record {
   is = of_node P c _ (Convert c (made Int (nodes.Number w))) (at s (suc k))
       (nodes.rolls-Convert c (made Int (nodes.Number w)))
       ∙ ap (λ (m : Node). then (node (meaning P) P m (at s (suc k))) (converting c))
-          (level_of _ _ (nodes.rolls-Number w))
+      (level_of _ _ (nodes.rolls-Number w))
       ∙ ap (λ (n : ℕ). Go (Value n) (at s k)) e;
 }
 
@@ -167,7 +168,8 @@ pub r_set : {P : TypedProgram} {c : Kind} {g w v k j i : ℕ} {e x : Term} {s s'
 r_set {P = P} {c = c} {g = g} {w = w} {v = v} {k = k} {j = j} {i = i} {e = e} {x = x} {s = s} {s' = s'} {s'' = s''}
     h f a b q = record {
       is = of_node P c _ (Assign None c (made c (nodes.Element (place.Global g) None (typed x))) (typed e))
-          (at s (suc k)) (nodes.rolls-Assign None c (made c (nodes.Element (place.Global g) None (typed x))) (typed e))
+          (at s (suc k)) (nodes.rolls-Assign None c
+          (made c (nodes.Element (place.Global g) None (typed x))) (typed e))
           ∙ ap (λ (m : Node). spec.assign (meaning P) None (Some c) c m (typed e) (at s k))
           (level_of _ _ (nodes.rolls-Element (place.Global g) None (typed x)))
           ∙ ap (λ (r : Result). then r (assign_element (meaning P) None (Some c) c (place.Global g) (typed e))) h.is
@@ -209,7 +211,7 @@ r_call {P = P} {c = c} {f = f} {w = w} {v = v} {k = k} {j = j} {i = i} {e = e} {
           ∙ ap (λ (m : Bool). enter (meaning P) m (slice_get P.functions f) (w ∷ []) (at s' (suc j))) is_other
           ∙ ap (λ (o : Option TypedFunc). enter (meaning P) false o (w ∷ []) (at s' (suc j))) is_f
           ∙ ap (λ (b : Bool). cond b (entered_if (meaning P) false
-              (nat_le (s'.room + frame F) most_frame_bytes) F (w ∷ [])
+          (nat_le (s'.room + frame F) most_frame_bytes) F (w ∷ [])
           (at s' (suc j))) (want Nothing (at s' (suc j)) (λ w. Go (Value w) s'))) one
           ∙ ap (λ (b : Bool). entered_if (meaning P) false b F (w ∷ []) (at s' (suc j))) fits
           ∙ ap (λ (b : TypedStmt). then (meaning P (Run b) (at (entered F (w ∷ []) s') (suc j)))
@@ -294,7 +296,7 @@ r_loop {P = P} {e = e} {t = t} {p = p} {c = c} {k = k} {s = s} h f = record {
       ∙ ap (λ (b : Beginning). begin (meaning P) b (Some (typed t)) (Some (typed p)) (stated c) (at s k))
       (first_of (typed e))
       ∙ ap (λ (r : Result). then r (λ v s. meaning P (Turn (Some (typed t)) (Some (typed p)) (stated c)) s)) h.is
-          ∙ f.is;
+      ∙ f.is;
 }
 
 -- a turn of a loop, and what follows it
@@ -306,7 +308,7 @@ r_turn {P = P} {t = t} {p = p} {c = c} {k = k} {s = s} a b d e = record {
       ∙ ap (λ (r : Result). then r (after_test (meaning P) (Some (typed t)) (Some (typed p)) (stated c))) a.is
       ∙ ap (λ (r : Result). then r (after_body (meaning P) (Some (typed t)) (Some (typed p)) (stated c))) b.is
       ∙ ap (λ (r : Result). then r (λ v s. meaning P (Turn (Some (typed t)) (Some (typed p)) (stated c)) s)) d.is
-          ∙ e.is;
+      ∙ e.is;
 }
 
 -- its end

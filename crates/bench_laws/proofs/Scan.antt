@@ -13,11 +13,12 @@ use Rattle.c_lex.specs.declared.piece.Reading.{Reading}
 use Rattle.c_lex.specs.declared.piece.Reading.TheVariants as reads
 use Rattle.c_lex.specs.Bytes.{Bytes, by_class, is_space, is_letter, is_word, is_digit, in_number, is_feed}
 use Rattle.c_lex.specs.Bytes.{feeds, line_after, at_line_start}
-use Rattle.c_lex.specs.Runs.{run_len}
+use Rattle.c_lex.specs.inside.Runs.{run_len}
 use Rattle.c_lex.specs.Tables.{lookup, keywords, marks}
-use Rattle.c_lex.specs.Firsts.{none_longer}
-use Rattle.c_lex.specs.Scans.{constant_of, mark_of, goes_on}
-use Rattle.c_lex.specs.Pieces.{Longest, Front, word_form, begins_with}
+use Rattle.c_lex.specs.inside.Firsts.{none_longer}
+use Rattle.c_lex.specs.inside.Scans.{constant_of, mark_of, goes_on}
+use Rattle.c_lex.specs.Pieces.{Longest, word_form, begins_with}
+use Rattle.c_lex.specs.inside.Pieces.{Front}
 use Rattle.c_lex.specs.Lexes.{Tokens, lexeme, Cut, here, space, next}
 use Rattle.c_lex.proofs.Runs.{feeds_append}
 use Rattle.c_lex.proofs.Fronts.{space_front, word_front, number_front}
@@ -133,7 +134,7 @@ mark_right b (c ∷ cs) s = go (lookup (b ∷ []) marks) refl (none_longer b mar
     go (Some m) e false f true g = tt
     go (Some m) e false f false g = λ starts.
         let long : 2 ≤ length (b ∷ c ∷ cs) =
-            (let l : length (b ∷ c ∷ cs) ≡ suc (suc (length cs)) = refl in omega arith) in
+        (let l : length (b ∷ c ∷ cs) ≡ suc (suc (length cs)) = refl in omega arith) in
         let one : mark_of (b ∷ c ∷ cs) ≡ Some (1, m) = sym (mark_ends (b ∷ c ∷ cs) long g) ∙ (rw e refl) in
         mark_front starts b (c ∷ cs) 1 m one (no_slash 47) (no_slash 42)
 
@@ -191,14 +192,14 @@ scan_line (suc n) text = go (scan_line n) (step text) (step_right text)
     gaps : ((t : Bytes) → Line t (scan n t).0 (scan n t).1) → (k : ℕ)
         → ((starts : Bool) → Front starts text k reads.Gap) → (v : Bool) → is_quiet (take k text) ≡ v
         → Line text (behind (scan n) text (cond v (gap k) unknown)).0
-            (behind (scan n) text (cond v (gap k) unknown)).1
+        (behind (scan n) text (cond v (gap k) unknown)).1
     gaps more k r true e = pass r (quiet_is (take k text) e) (more (drop k text))
     gaps more k r false e = stop
 
     pieces : ((t : Bytes) → Line t (scan n t).0 (scan n t).1) → (k : ℕ) (f : Form)
         → ((starts : Bool) → Front starts text k (reads.Token f)) → (v : Bool) → is_quiet (take k text) ≡ v
         → Line text (behind (scan n) text (cond v (piece k f) unknown)).0
-            (behind (scan n) text (cond v (piece k f) unknown)).1
+        (behind (scan n) text (cond v (piece k f) unknown)).1
     pieces more k f r true e = read r (quiet_is (take k text) e) (more (drop k text))
     pieces more k f r false e = stop
 

@@ -94,7 +94,7 @@ returned l e = s.at l (statement.Return (Some e))
 abbrev pub function_body : ℕ → ℕ → List Stmt
 function_body l k =
     s.declared l Long name_i (sizes.Scalar, None) ∷ loop l 0 (fill l) ∷ loop l 1 (add_up l)
-        ∷ returned l (sum l k) ∷ []
+    ∷ returned l (sum l k) ∷ []
 
 -- function k
 abbrev pub function : ℕ → ℕ → Top

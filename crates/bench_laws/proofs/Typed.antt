@@ -61,7 +61,7 @@ module _ (l : ℕ) where
       → needs (t.operation l o x y) ≡ plain (max a.need (1 + b.need))
   need_binary o x y a b e f = needs-Binary (t.operation l o x y) o x y refl
       ∙ ap (λ (n : Needs). plain (max n.need (1 + (needs y).need))) e
-          ∙ ap (λ (n : Needs). plain (max a.need (1 + n.need))) f
+      ∙ ap (λ (n : Needs). plain (max a.need (1 + n.need))) f
 
   need_element : (i : Expr) (a : Needs) → needs i ≡ a → needs (t.element l i) ≡ element_needs a.need
   need_element i a e = needs-Element (t.element l i) name_a None i refl ∙ ap (λ (n : Needs). element_needs n.need) e
@@ -178,7 +178,7 @@ module _ (l n : ℕ) where
         (t.element l (t.operation l Subtract (t.i_of l) (t.number l 1)))) _ _
         (need_element l (t.i_of l) _ (need_name l name_i))
         (need_binary l Add (t.element l (t.i_of l))
-            (t.element l (t.operation l Subtract (t.i_of l) (t.number l 1))) _ _
+        (t.element l (t.operation l Subtract (t.i_of l) (t.number l 1))) _ _
         (need_element l (t.i_of l) _ (need_name l name_i))
         (need_element l (t.operation l Subtract (t.i_of l) (t.number l 1)) _
         (need_binary l Subtract (t.i_of l) (t.number l 1) _ _ (need_name l name_i) (need_number l 1))))) refl,
@@ -219,8 +219,10 @@ module _ (l n : ℕ) where
   )
 
   result_full : Full (in_main n) Value (t.result l) (typed result_term)
-  result_full = (ty.conversion (ty.scalar refl refl) refl,
-      fits _ _ (need_cast l Int (t.x_of l) _ (need_name l name_x)) refl)
+  result_full = (
+    ty.conversion (ty.scalar refl refl) refl,
+    fits _ _ (need_cast l Int (t.x_of l) _ (need_name l name_x)) refl,
+  )
 
 -- FUNCTIONS
 
@@ -248,10 +250,10 @@ body_types l n k =
     st.one_more (st.scalar_declared (ap (λ (m : Option Meaning). is_end (or_else m None)) (find_i n)) (omega arith)
     st.without_value)
     (st.one_more (st.for_loop (st.first_value (set_i_full l n 0)) (st.present (below_full l n))
-        (st.present (step_full l n))
+    (st.present (step_full l n))
     (st.expression (st.present (fill_full l n))))
     (st.one_more (st.for_loop (st.first_value (set_i_full l n 1)) (st.present (below_full l n))
-        (st.present (step_full l n))
+    (st.present (step_full l n))
     (st.expression (st.present (add_up_full l n))))
     (st.one_more (st.returns_value refl (sum_full l n k))
     st.no_more)))
@@ -307,7 +309,7 @@ calls_types n zero ss cs h few rest = rest
 calls_types n (suc k) ss cs h few rest =
     let l = call_at n k in
     subst (λ (xs : List Stmt). TypesAll nowhere (in_main_body n) xs (map stated (p.calls (suc k) ++ cs))
-        (in_main_body n))
+    (in_main_body n))
     (sym (append_assoc (t.calls n k) (t.advance l k ∷ t.show l ∷ []) ss))
     (subst (λ (xs : List Code). TypesAll nowhere (in_main_body n) (t.calls n k ++ (t.advance l k ∷ t.show l ∷ ss))
     (map stated xs) (in_main_body n))
@@ -335,9 +337,11 @@ whole_file n = record {
 
 main_item : (n : ℕ) → n ≤ 64 → Item (tree n) (file n) (t.main n).node (whole_file n)
 main_item n few =
-    un.definition {v = in_main_body n} (calls_main n)
-    (un.no_param, subst (λ (m : Option Meaning). un.Agrees true (Some Int) [] (or_else m None))
-        (sym (find_main n)) un.fresh)
+    un.definition {v = in_main_body n} (calls_main n) (
+      un.no_param,
+      subst (λ (m : Option Meaning). un.Agrees true (Some Int) [] (or_else m None))
+          (sym (find_main n)) un.fresh,
+    )
     (un.outermost (main_types n few))
 
 -- THE UNIT

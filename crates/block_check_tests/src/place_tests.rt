@@ -1,6 +1,6 @@
 //! A block under either placing. The seed 1 moves the slots 0 to 3 to 48, 83, 74 and 39. By the greedy one the slot
-//! that is read first goes to tile 1 beside the bank of register 5, and the others, each fed by the one before, behind
-//! it on the same tile.
+//! that is read first goes to tile 1 beside the bank of register 5, and the others, each fed by the one before,
+//! behind it on the same tile.
 
 use crate::making::image_of;
 use grid_place::{Placing, place};

@@ -161,9 +161,10 @@ pub told_from : (T : ℕ → Type 0) (ns : List FlowNode) (j : ℕ)
     → ((i k : ℕ) (n : FlowNode) → k ≡ j + i → slice_get ns i ≡ Some n → is_copy (role_of n.op) ≡ false → T k)
     → Told T j ns
 told_from T [] j f = tt
-told_from T (n ∷ ns) j f =
-    ((λ e. f 0 j n (omega arith) refl e),
-        told_from T ns (suc j) (λ i k m q e s. f (suc i) k m (omega (arith, q)) e s))
+told_from T (n ∷ ns) j f = (
+  (λ e. f 0 j n (omega arith) refl e),
+  told_from T ns (suc j) (λ i k m q e s. f (suc i) k m (omega (arith, q)) e s),
+)
 
 -- ALL OF THEM
 

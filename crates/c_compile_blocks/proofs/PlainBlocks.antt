@@ -380,7 +380,7 @@ module _ (P : ℕ → Type 0) (b : Block) (st : IsPlainBlock P b) where
       go (inr l) =
           let x = guarded_at c finish.behind (j - length ahead) n a
           (sym (behind_got ahead finish.behind j l)
-              ∙ ap (λ (y : List FlowNode). slice_get y j) (sym nodes_are) ∙ e) in
+          ∙ ap (λ (y : List FlowNode). slice_get y j) (sym nodes_are) ∙ e) in
           x.guard d z
 
   past : (xs : List FlowNode) (n : FlowNode) → slice_get xs (length xs) ≡ Some n → ⊥

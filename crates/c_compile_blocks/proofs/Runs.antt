@@ -120,7 +120,7 @@ module _ (P : ℕ → Type 0) (all : List FlowNode) (c : ℕ) where
       let later = items g (suc k) (suc n) (put env r (from_node k)) (note bits r None) rest in
       let same : own_place false j env a a ≡ k = omega arith in
       let here = subst (λ (i : ℕ). IsUnder all (suc i) g i) same
-          (own_under all g o n false j env a a later.nodes at) in
+      (own_under all g o n false j env a a later.nodes at) in
       let from : j ≤ suc k = omega arith in
       let form_is = load_form (form_of o) f.1 in
       let h = run rest m g (suc k) (suc n) (put env r (from_node k)) (note bits r None) guard f.3 z p.1

@@ -210,8 +210,12 @@ module _ (T P : ℕ → Type 0) where
         chooser = 0;
         nodes = no_end (x.nodes ++ (n ∷ []));
         front_cost = 2;
-        good = record { nodes = h.nodes; used = h.used; reads = h.reads;
-            cost = (let c = h.cost in omega (arith, c)) };
+        good = record {
+          nodes = h.nodes;
+          used = h.used;
+          reads = h.reads;
+          cost = (let c = h.cost in omega (arith, c));
+        };
         after = tt;
         test = inl refl;
         cost = omega arith;

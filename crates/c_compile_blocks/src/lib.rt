@@ -1,10 +1,10 @@
-//! The blocks that the compiler's passes make of a hyper program, up to the joint with the layout: the
-//! passes composed, and the laws of what they make.
+//! The blocks that the compiler's passes make of a hyper program, up to the joint with the layout: the passes
+//! composed, and the laws of what they make. The other modules have laws alone: of blocks that the passes made and
+//! the checker took, whatever the number of their cases, and that the blocks of a plan which cuts everywhere are
+//! within the limits of the machine.
 //!
-//! Blocks that the passes made, whatever the number of their cases, and that the checker took.
-//!
-//! The blocks of a plan that cuts everywhere are within the limits of the machine. Nothing of this crate
-//! runs: each function's clause is a law.
+//! The passes stand in specs/Blocks and specs/Refusals, checked blocks in specs/Checked, the laws in specs/Laws and
+//! specs/Limits, and what a block costs at most in specs/Costs, specs/Prices and specs/Choosers.
 #![tactic(auto)]
 
 mod blocks;

@@ -208,5 +208,5 @@ module _ (c : Context) where
       (λ x y e. subst (λ (x : TypedStmt-F TypedForInit TypedStmt TypedSection). StmtShows (roll-TypedStmt x)) e
       (at_stmt _ _ _ (λ i. i.0) (λ s. s.0) (λ x. x.0) (λ i. i.1) (λ s. s.1) (λ x. x.1) y))
       (λ x y e. subst (λ (x : TypedSection-F TypedForInit TypedStmt TypedSection).
-          SectionShows (roll-TypedSection x)) e
+      SectionShows (roll-TypedSection x)) e
       (at_section _ _ _ (λ i. i.0) (λ s. s.0) (λ x. x.0) (λ i. i.1) (λ s. s.1) (λ x. x.1) y))

@@ -61,7 +61,7 @@ module _ (chunk : ℕ → ℕ) (k : ℕ) where
       by_form (λ n. meant st mem j n) n (λ s.
       ap (λ e. form_computes e (inst_of (moved n)) (λ a. bytes_seen st (slice_index mem) n.number a (size_of n.op))) s
       ∙ sym (ap (λ e. form_computes e (inst_of n)
-          (λ a. bytes_seen st (slice_index mem) n.number a (size_of n.op))) s))
+      (λ a. bytes_seen st (slice_index mem) n.number a (size_of n.op))) s))
 
   stored_same : (regs : ℕ → ℕ) (h : ℕ → Answer) (n : FlowNode) (i : ℕ)
       → stored_in (form_of n.op) regs h (moved n) i ≡ stored_in (form_of n.op) regs h n i

@@ -1,6 +1,5 @@
-//! What the images of texts hold, as tests.
-//!
-//! Compiled programs on the grid in the slowest weather, with a predictor that is no help.
+//! What the images of texts hold, and how compiled programs run on the grid in the slowest weather, with a predictor
+//! that is no help: all as tests.
 #![tactic(auto)]
 
 #[cfg(test)]

@@ -2,3 +2,4 @@ pub mod Kinds
 pub mod Operation
 pub mod Constant
 pub mod Need
+pub mod inside

@@ -1,5 +1,5 @@
 -- How many temporaries an expression needs, if operands are computed from left to right.
-use Rattle.std.specs.Prelude.{ℕ, ◌+◌, max, min, Bool, nat_le, List, [], ◌∷◌, Option, Some, None}
+use Rattle.std.specs.Prelude.{ℕ, ◌+◌, max, Bool, nat_le, List, [], ◌∷◌, Option, Some, None}
 use Rattle.std.specs.Prelude.{option_map}
 use Rattle.c_tree.specs.Limits.{most_need}
 use Rattle.c_tree.specs.declared.tree.Expr.{Expr, Expr-F, fold-Expr}
@@ -69,15 +69,6 @@ needs e = fold-Expr Needs Needs node_needs of_needs e
 -- the need alone
 abbrev pub need : Expr → ℕ
 need e = (needs e).need
-
--- a need as the code counts it: no further than 17
-abbrev pub capped : ℕ → ℕ
-capped n = min n 17
-
--- the same where there is a need
-abbrev pub capped_if : Option ℕ → Option ℕ
-capped_if None = None
-capped_if (Some n) = Some (capped n)
 
 -- the limit on a full expression
 abbrev pub need_fits : Expr → Bool

@@ -3,7 +3,8 @@
 ghost use Rattle.std.specs.Prelude.{◌≡◌, ◌+◌, ◌≤◌, max, map, option_map, min, Option, Some, None};
 ghost use Rattle.std.specs.Prelude.{IsTrue, ℕ};
 ghost use Rattle.std.specs.Prelude.{◌↔◌};
-ghost use Rattle.c_constant.specs.Need.{capped, capped_if, assign_need, indexes_need};
+ghost use Rattle.c_constant.specs.Need.{assign_need, indexes_need};
+ghost use Rattle.c_constant.specs.inside.Need.{capped, capped_if};
 ghost use Rattle.c_constant.specs.Need.{call_need};
 ghost use Rattle.c_constant.specs.Need as needs;
 

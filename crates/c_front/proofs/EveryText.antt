@@ -6,13 +6,13 @@ use Rattle.c_lex.specs.declared.fault.LexFault.TheVariants as lex
 use Rattle.c_lex.specs.Lexes.{Tokens, Lexed}
 use Rattle.c_lex.specs.Faults.{Fault, FaultAt}
 use Rattle.c_lex.specs.Faults as lexical
-use Rattle.c_lex.specs.Answers.{Answered}
+use Rattle.c_lex.specs.inside.Answers.{Answered}
 use Rattle.c_lex.proofs.Answered.{answered}
-use Rattle.c_grammar.specs.Answers.{Answer, tree, syntax, too_deep, Answers}
+use Rattle.c_grammar.specs.inside.Answers.{Answer, tree, syntax, too_deep, Answers}
 use Rattle.c_grammar.proofs.OneAnswer.{one_answer}
 use Rattle.c_parse.specs.declared.unit.ParseFault.TheVariants as parse
 use Rattle.c_type_expr.specs.declared.fault.TypeFault.TheVariants as typing
-use Rattle.c_type.specs.Programs.{program_fault, program_tree}
+use Rattle.c_type.specs.inside.Programs.{program_fault, program_tree}
 use Rattle.c_type_rules.proofs.Decided.{decided}
 use Rattle.c_type_rules.proofs.GoodUnits.{unit_good}
 use Rattle.c_type_rules.proofs.UnitsComplete.{accepts_typed}
@@ -20,9 +20,10 @@ use Rattle.c_front.specs.declared.refusal.Refusal.{Refusal}
 use Rattle.c_front.specs.declared.refusal.Refusal.TheVariants.{Lex, Parse, Typing, Memory}
 use Rattle.c_tree.specs.Limits.{most_tokens}
 use Rattle.c_front.specs.Fronts.{HasTree, HasTypes, IsAccepted}
-use Rattle.c_front.specs.Refusals.{MayHaveNoTypes, IsRefused}
-use Rattle.c_front.specs.Stops.{MayStop}
-use Rattle.c_front.specs.Laws.{EveryTextAnswers}
+use Rattle.c_front.specs.Refusals.{IsRefused}
+use Rattle.c_front.specs.inside.Refusals.{MayHaveNoTypes}
+use Rattle.c_front.specs.inside.Stops.{MayStop}
+use Rattle.c_front.specs.inside.Laws.{EveryTextAnswers}
 
 -- accepted or refused
 abbrev Answering : List ℕ → Type 0

@@ -14,7 +14,7 @@ use Rattle.c_parse.specs.declared.unit.ParseFault.{ParseFault}
 use Rattle.c_parse.specs.Parses.{HasFault}
 use Rattle.c_parse.proofs.Only as parses
 use Rattle.c_type_expr.specs.declared.fault.TypeFault.{TypeFault}
-use Rattle.c_type.specs.Programs.{program_fault, program_tree}
+use Rattle.c_type.specs.inside.Programs.{program_fault, program_tree}
 use Rattle.c_type_rules.specs.Judgements.{a_unit}
 use Rattle.c_type_rules.proofs.FirstFaults.{fault_is}
 use Rattle.c_type_rules.proofs.UnitsSound.{accepts_fine}
@@ -23,7 +23,7 @@ use Rattle.c_front.specs.declared.refusal.Refusal.TheVariants.{Lex, Parse, Typin
 use Rattle.c_tree.specs.Limits.{most_tokens}
 use Rattle.c_front.specs.Fronts.{HasTree, HasTypes}
 use Rattle.c_front.specs.Refusals.{HasNoTypes, IsRefusedByLexer, IsRefusedByGrammar, IsRefusedByTyping, IsRefused}
-use Rattle.c_front.specs.Laws.{AcceptedOnce, NotBoth, RefusedOnce}
+use Rattle.c_front.specs.inside.Laws.{AcceptedOnce, NotBoth, RefusedOnce}
 
 -- the tree of these items
 program_of : List Top → Program

@@ -1,4 +1,3 @@
 pub mod Fronts
-pub mod Stops
-pub mod Laws
 pub mod Refusals
+pub mod inside

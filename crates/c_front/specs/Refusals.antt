@@ -42,9 +42,3 @@ IsRefused text Memory = ⊥
 abbrev pub MayBeRefused : List ℕ → Refusal → Type 0
 MayBeRefused text Memory = Unit {0}
 MayBeRefused text r = IsRefused text r
-
--- the tree is refused by its typing, but for want of memory
-abbrev pub MayHaveNoTypes : Program → Refusal → Type 0
-MayHaveNoTypes tree (Typing e) = HasNoTypes tree e
-MayHaveNoTypes tree Memory = Unit {0}
-MayHaveNoTypes tree r = ⊥

@@ -1,4 +1,4 @@
-ghost use Rattle.c_front.specs.Laws.{AcceptedOnce, EveryTextAnswers, NotBoth, RefusedOnce};
+ghost use Rattle.c_front.specs.inside.Laws.{AcceptedOnce, EveryTextAnswers, NotBoth, RefusedOnce};
 
 /// A text has at most one typed program. It does nothing when it runs.
 pub fn accepted_once()

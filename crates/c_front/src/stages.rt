@@ -2,9 +2,10 @@ ghost use Rattle.std.specs.Prelude.{◌≡◌, ◌<◌, length, None, IfOk, IfEr
 ghost use Rattle.c_lex.specs.Lexes.{Lexed};
 ghost use Rattle.c_tree.specs.Limits.{most_tokens};
 ghost use Rattle.c_front.specs.Fronts.{HasTree, HasTypes, IsAccepted};
-ghost use Rattle.c_front.specs.Refusals.{MayBeRefused, MayHaveNoTypes};
-ghost use Rattle.c_front.specs.Stops.{MayStop};
-ghost use Rattle.c_type.specs.Programs.{program_fault, program_tree};
+ghost use Rattle.c_front.specs.Refusals.{MayBeRefused};
+ghost use Rattle.c_front.specs.inside.Refusals.{MayHaveNoTypes};
+ghost use Rattle.c_front.specs.inside.Stops.{MayStop};
+ghost use Rattle.c_type.specs.inside.Programs.{program_fault, program_tree};
 
 use crate::refusal::Refusal;
 use c_lex::{LexFault, lex};

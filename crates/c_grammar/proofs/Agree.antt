@@ -9,8 +9,8 @@ use Rattle.c_tree.specs.declared.token.Mark.{Mark}
 use Rattle.c_tree.specs.declared.token.Key.{Key}
 use Rattle.c_grammar.specs.Tokens.{Tokens, token, punct, word, May, within}
 use Rattle.c_grammar.specs.Places.{before}
-use Rattle.c_grammar.specs.Parsing.{Stop, Out, and_then, too_deep, tail, line_of, first, is_next}
-use Rattle.c_grammar.specs.Parsing.{is_word, expect}
+use Rattle.c_grammar.specs.inside.Parsing.{Stop, Out, and_then, too_deep, tail, line_of, first, is_next}
+use Rattle.c_grammar.specs.inside.Parsing.{is_word, expect}
 use Rattle.c_grammar.proofs.Numbers.{mark_is, key_is}
 
 -- ---- cases

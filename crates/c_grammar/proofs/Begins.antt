@@ -36,10 +36,10 @@ use Rattle.c_grammar.specs.Statements.{break, continue, return, rows, label, lab
 use Rattle.c_grammar.specs.Statements.{sections, a_case, a_default, last_label, next_label}
 use Rattle.c_grammar.specs.Statements.{last_stmt, next_stmt, section_is, no_section, next_section}
 use Rattle.c_grammar.specs.Statements.{switch}
-use Rattle.c_grammar.specs.Numbers.{is_mark, is_key}
-use Rattle.c_grammar.specs.Parsing.{first, is_next, is_word}
-use Rattle.c_grammar.specs.ModelTypes.{is_type, begins_type}
-use Rattle.c_grammar.specs.ModelStatements.{begins_expression, begins_statement, begins_label}
+use Rattle.c_grammar.specs.inside.Numbers.{is_mark, is_key}
+use Rattle.c_grammar.specs.inside.Parsing.{first, is_next, is_word}
+use Rattle.c_grammar.specs.inside.ModelTypes.{is_type, begins_type}
+use Rattle.c_grammar.specs.inside.ModelStatements.{begins_expression, begins_statement, begins_label}
 use Rattle.c_grammar.proofs.Numbers.{mark_is, key_is}
 use Rattle.c_grammar.proofs.Agree.{apart, Grows, Frees}
 use Rattle.c_grammar.proofs.Types.{types_shorter, types_begin}

@@ -14,10 +14,10 @@ use Rattle.c_grammar.specs.Places.{before}
 use Rattle.c_grammar.specs.Types.{Types, unsigned}
 use Rattle.c_grammar.specs.Statements.{at, declared, stmt, inner, Writes, bare, last_decl}
 use Rattle.c_grammar.specs.Statements.{declaration, inner_is, plain}
-use Rattle.c_grammar.specs.Parsing.{Out, syntax, too_deep, first}
-use Rattle.c_grammar.specs.ModelTypes.{is_type, begins_type}
-use Rattle.c_grammar.specs.ModelExpressions.{inside}
-use Rattle.c_grammar.specs.ModelStatements.{begins_statement, below_at}
+use Rattle.c_grammar.specs.inside.Parsing.{Out, syntax, too_deep, first}
+use Rattle.c_grammar.specs.inside.ModelTypes.{is_type, begins_type}
+use Rattle.c_grammar.specs.inside.ModelExpressions.{inside}
+use Rattle.c_grammar.specs.inside.ModelStatements.{begins_statement, below_at}
 use Rattle.c_grammar.proofs.Agree.{split_if, if_true, trans_le, stay, Opens, opens, frees_all}
 use Rattle.c_grammar.proofs.Agree.{tied_first, deep}
 use Rattle.c_grammar.proofs.Pieces.{Rel, Sound, read, stuck, Least, always, same_tree, name_first}

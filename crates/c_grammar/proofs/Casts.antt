@@ -11,11 +11,11 @@ use Rattle.c_grammar.specs.Operators.{at}
 use Rattle.c_grammar.specs.Expressions.{expr, Spells, number, name, group, element, call, suffix}
 use Rattle.c_grammar.specs.Expressions.{row_element}
 use Rattle.c_grammar.specs.Expressions.{prefix, cast, join, choice, assign, up}
-use Rattle.c_grammar.specs.Numbers.{is_mark}
-use Rattle.c_grammar.specs.Parsing.{Out, and_then, syntax, too_deep, tail, line_of, is_next, expect}
-use Rattle.c_grammar.specs.ModelTypes.{is_type, begins_type, type_of}
-use Rattle.c_grammar.specs.ModelExpressions.{Nested, is_cast, group_of, primary_of, postfix_of}
-use Rattle.c_grammar.specs.ModelExpressions.{unary_of, cast_in, cast_of, suffixes}
+use Rattle.c_grammar.specs.inside.Numbers.{is_mark}
+use Rattle.c_grammar.specs.inside.Parsing.{Out, and_then, syntax, too_deep, tail, line_of, is_next, expect}
+use Rattle.c_grammar.specs.inside.ModelTypes.{is_type, begins_type, type_of}
+use Rattle.c_grammar.specs.inside.ModelExpressions.{Nested, is_cast, group_of, primary_of, postfix_of}
+use Rattle.c_grammar.specs.inside.ModelExpressions.{unary_of, cast_in, cast_of, suffixes}
 use Rattle.c_grammar.proofs.Agree.{split_if, next_is, if_true, if_false, place, Tied, at_cut, alike}
 use Rattle.c_grammar.proofs.Agree.{tied_first, Brief, short_then, short_if, Lands, past, deep}
 use Rattle.c_grammar.proofs.Agree.{lands_by}

@@ -6,10 +6,11 @@ use Rattle.std.proofs.Common.{length-append}
 use Rattle.std.proofs.lemmas.Bool.{false≢true, leb-true, le-leb}
 use Rattle.c_tree.specs.declared.token.Lexeme.{Lexeme}
 use Rattle.c_grammar.specs.Tokens.{Tokens, May, within}
-use Rattle.c_grammar.specs.Parsing.{Stop, Out, too_deep}
-use Rattle.c_grammar.specs.Places.{StartsWithin, StartsBut, FaultAt, Exact, StartsLate, before, late, any_depth}
+use Rattle.c_grammar.specs.inside.Parsing.{Stop, Out, too_deep}
+use Rattle.c_grammar.specs.Places.{StartsWithin, StartsBut, FaultAt, StartsLate, before, late, any_depth}
+use Rattle.c_grammar.specs.inside.Places.{Exact}
 use Rattle.c_grammar.specs.Accepted.{Spelled}
-use Rattle.c_grammar.specs.Places.{settle, settle_stop}
+use Rattle.c_grammar.specs.inside.Places.{settle, settle_stop}
 use Rattle.c_grammar.proofs.Agree.{place, Tied, end, at_cut, alike, Lands, good, past, deep}
 use Rattle.c_grammar.proofs.Pieces.{Rel, Open, Sound, read, stuck, any, Piece, same_tree}
 use Rattle.c_grammar.proofs.Lists.{at_end}
@@ -180,7 +181,7 @@ module _ {X : Type 0} (R : Rel X) (after : Tokens → Tokens) (m : ℕ) (run : T
           with_it = λ w.
               let r = subst (λ (u : Tokens). R any_depth w.1 u []) (append_assoc a.0 (t ∷ []) w.0) w.2 in
               let tied = subst (λ (u : Tokens). Tied true back w.0 u (a.0 ++ t ∷ w.0)) (sym a.1)
-                  (tie a.0 t back w.0) in
+              (tie a.0 t back w.0) in
               refuses any_depth ts back w.0 t w.1 _ h refl
               (p.complete true back w.0 any_depth w.1 (a.0 ++ t ∷ w.0) [] r refl ts tied)
               (λ q q' d u i y n. false≢true (ap (λ (s : Stop). s.deep) i));
@@ -239,7 +240,7 @@ module _ {X : Type 0} (R : Rel X) (after : Tokens → Tokens) (m : ℕ) (run : T
               let r = subst (λ (u : Tokens). R (late m w.0) w.1 u []) (ap (λ (u : Tokens). u ++ w.0) split
               ∙ append_assoc a.0 (t ∷ back) w.0) w.2 in
               let tied = subst (λ (u : Tokens). Tied true back g' u (a.0 ++ t ∷ g')) (sym split)
-                  (tie a.0 t back g') in
+              (tie a.0 t back g') in
               refuses (late m w.0) ts back g' t w.1 _ h refl
               (p.complete true back g' (late m w.0) w.1 (a.0 ++ t ∷ g') [] r refl ts tied)
               (λ q q' d u i y n. both_ways (leb d m)

@@ -16,14 +16,14 @@ use Rattle.c_grammar.specs.Expressions.{expr, args, arg_list, Spells, number, na
 use Rattle.c_grammar.specs.Expressions.{row_element}
 use Rattle.c_grammar.specs.Expressions.{call, none, some, last, next, suffix, prefix, cast, join}
 use Rattle.c_grammar.specs.Expressions.{choice, assign, up}
-use Rattle.c_grammar.specs.Numbers.{is_mark}
-use Rattle.c_grammar.specs.Parsing.{Out, and_then, syntax, by_option, first, is_next, expect}
-use Rattle.c_grammar.specs.ModelExpressions.{Nested, is_name, number_by, number_of, prefix_of, seen}
-use Rattle.c_grammar.specs.ModelExpressions.{index_of, second_of, after_index}
-use Rattle.c_grammar.specs.ModelExpressions.{suffixes, group_of, element_of, no_args_of}
-use Rattle.c_grammar.specs.ModelExpressions.{arg_list_of, args_of, call_of, after_name, named_of}
-use Rattle.c_grammar.specs.ModelExpressions.{primary_of, postfix_of, operand_of, prefixed_of}
-use Rattle.c_grammar.specs.ModelExpressions.{unary_of}
+use Rattle.c_grammar.specs.inside.Numbers.{is_mark}
+use Rattle.c_grammar.specs.inside.Parsing.{Out, and_then, syntax, by_option, first, is_next, expect}
+use Rattle.c_grammar.specs.inside.ModelExpressions.{Nested, is_name, number_by, number_of, prefix_of, seen}
+use Rattle.c_grammar.specs.inside.ModelExpressions.{index_of, second_of, after_index}
+use Rattle.c_grammar.specs.inside.ModelExpressions.{suffixes, group_of, element_of, no_args_of}
+use Rattle.c_grammar.specs.inside.ModelExpressions.{arg_list_of, args_of, call_of, after_name, named_of}
+use Rattle.c_grammar.specs.inside.ModelExpressions.{primary_of, postfix_of, operand_of, prefixed_of}
+use Rattle.c_grammar.specs.inside.ModelExpressions.{unary_of}
 use Rattle.c_grammar.proofs.Agree.{stay, one, Tied, head_step, fine, Lands, good, past, lands_by}
 use Rattle.c_grammar.proofs.Pieces.{Rel, Sound, read, stuck, Complete, Then, always, any, Piece}
 use Rattle.c_grammar.proofs.Pieces.{seq, done, Done, iff, turn, ends_by, ends_with, same_tree}

@@ -20,18 +20,18 @@ use Rattle.c_grammar.specs.Units.{one_size, rows, last_row, last_row_comma, next
 use Rattle.c_grammar.specs.Units.{rows_filled, two_brackets}
 use Rattle.c_grammar.specs.Units.{some_brackets, param_is, no_params, void_params, some_params}
 use Rattle.c_grammar.specs.Units.{last_param, next_param}
-use Rattle.c_grammar.specs.Numbers.{is_mark, is_key}
-use Rattle.c_grammar.specs.Parsing.{Out, and_then, syntax, first, is_next, is_word, expect, name_of}
-use Rattle.c_grammar.specs.ModelTypes.{begins_type}
-use Rattle.c_grammar.specs.ModelExpressions.{Nested, is_name, conditional_of}
-use Rattle.c_grammar.specs.ModelUnits.{label_of, or_sized, no_size_of, some_size_of, size_of}
-use Rattle.c_grammar.specs.ModelUnits.{values_of, filled_of, after_size, array_of, valued_of}
-use Rattle.c_grammar.specs.ModelUnits.{shape_of, global_of, more_globals_of, globals_of}
-use Rattle.c_grammar.specs.ModelUnits.{has_first, flat_of, row_of, rows_of, rows_filled_of}
-use Rattle.c_grammar.specs.ModelUnits.{after_rows, rows_array_of, after_pair, second_of}
-use Rattle.c_grammar.specs.ModelUnits.{two_pairs_of, after_first, dimensions_of}
-use Rattle.c_grammar.specs.ModelUnits.{brackets_of, param_of, no_params_of}
-use Rattle.c_grammar.specs.ModelUnits.{void_params_of, param_list_of, params_of}
+use Rattle.c_grammar.specs.inside.Numbers.{is_mark, is_key}
+use Rattle.c_grammar.specs.inside.Parsing.{Out, and_then, syntax, first, is_next, is_word, expect, name_of}
+use Rattle.c_grammar.specs.inside.ModelTypes.{begins_type}
+use Rattle.c_grammar.specs.inside.ModelExpressions.{Nested, is_name, conditional_of}
+use Rattle.c_grammar.specs.inside.ModelUnits.{label_of, or_sized, no_size_of, some_size_of, size_of}
+use Rattle.c_grammar.specs.inside.ModelUnits.{values_of, filled_of, after_size, array_of, valued_of}
+use Rattle.c_grammar.specs.inside.ModelUnits.{shape_of, global_of, more_globals_of, globals_of}
+use Rattle.c_grammar.specs.inside.ModelUnits.{has_first, flat_of, row_of, rows_of, rows_filled_of}
+use Rattle.c_grammar.specs.inside.ModelUnits.{after_rows, rows_array_of, after_pair, second_of}
+use Rattle.c_grammar.specs.inside.ModelUnits.{two_pairs_of, after_first, dimensions_of}
+use Rattle.c_grammar.specs.inside.ModelUnits.{brackets_of, param_of, no_params_of}
+use Rattle.c_grammar.specs.inside.ModelUnits.{void_params_of, param_list_of, params_of}
 use Rattle.c_grammar.proofs.Agree.{split_if, if_true, if_false, stay, Tied, tied_first, Lands, good}
 use Rattle.c_grammar.proofs.Agree.{lands_by, Grows, frees_after}
 use Rattle.c_grammar.proofs.Pieces.{Rel, Sound, read, stuck, Then, always, any, Piece, seq, done}
@@ -513,7 +513,7 @@ module _ (m : ℕ) (nested : Nested) (known : Deeper nested m 0) where
           (ends_with (λ s t. ShapeIs may s (punct r.0 mark.Assign ∷ r.1) t) (valued x.2) x.3)
       to may s f t (that (this r)) =
           let a = r.3 in subst (λ (f : Tokens). ShapeIs may s f t) (sym r.2)
-              (array_to may r.0 a.0 s r.1 a.1 t a.2 a.3)
+          (array_to may r.0 a.0 s r.1 a.1 t a.2 a.3)
       to may s f t (that (that r)) = ends_with (λ s t. ShapeIs may s f t) bare r
 
       from : (may : May) (s : ArraySize × List (List Expr)) (f t : Tokens) → ShapeIs may s f t

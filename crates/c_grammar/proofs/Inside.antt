@@ -6,15 +6,16 @@ use Rattle.c_tree.specs.declared.token.Mark.TheVariants as mark
 use Rattle.c_tree.specs.declared.tree.Expr.{Expr}
 use Rattle.c_tree.specs.declared.tree.ExprNode.TheVariants as node
 use Rattle.c_grammar.specs.Tokens.{Tokens, punct, May}
-use Rattle.c_grammar.specs.Operators.{at, binary_level, Assigner, assigner_mark, assigner_op}
+use Rattle.c_grammar.specs.Operators.{at, Assigner, assigner_mark, assigner_op}
+use Rattle.c_grammar.specs.inside.Operators.{binary_level}
 use Rattle.c_grammar.specs.Expressions.{expr, Spells, number, name, group, element, call, suffix}
 use Rattle.c_grammar.specs.Expressions.{row_element}
 use Rattle.c_grammar.specs.Expressions.{prefix, cast, join, choice, assign, up}
-use Rattle.c_grammar.specs.Numbers.{is_mark}
-use Rattle.c_grammar.specs.Parsing.{and_then, is_next, expect}
-use Rattle.c_grammar.specs.ModelExpressions.{Nested, assigner_for, is_unary, seen, loop, binary_of}
-use Rattle.c_grammar.specs.ModelExpressions.{chosen_of, choice_from, conditional_of, assigned_of}
-use Rattle.c_grammar.specs.ModelExpressions.{assign_from, assignment_of, expression_of, inside}
+use Rattle.c_grammar.specs.inside.Numbers.{is_mark}
+use Rattle.c_grammar.specs.inside.Parsing.{and_then, is_next, expect}
+use Rattle.c_grammar.specs.inside.ModelExpressions.{Nested, assigner_for, is_unary, seen, loop, binary_of}
+use Rattle.c_grammar.specs.inside.ModelExpressions.{chosen_of, choice_from, conditional_of, assigned_of}
+use Rattle.c_grammar.specs.inside.ModelExpressions.{assign_from, assignment_of, expression_of, inside}
 use Rattle.c_grammar.proofs.Agree.{is_false}
 use Rattle.c_grammar.proofs.Pieces.{Rel, Then, always, any, Piece, seq, done, Done, iff, turn}
 use Rattle.c_grammar.proofs.Pieces.{ends_with, same_tree, Either, this, that, either_of, Is}
@@ -146,7 +147,7 @@ module _ (m d : ℕ) (nested : Nested) (known : Deeper nested m d) where
   choice_in may _ f t (assign s x ok y) q = absurd (omega (arith, q))
   choice_in may e f t (up {n = n} x) q =
       let h : n ≡ 13 = omega (arith, q) in
-          (e, t, subst (λ (k : ℕ). Spells may (expr k e) d f t) h x, that (refl, refl))
+      (e, t, subst (λ (k : ℕ). Spells may (expr k e) d f t) h x, that (refl, refl))
 
   pub conditional_piece : Piece same_tree (Level 14 d) any always (ends_at 14) zero_first m
       (conditional_of nested)

@@ -9,8 +9,8 @@ use Rattle.c_grammar.specs.Operators.{suffixed}
 use Rattle.c_grammar.specs.Expressions.{expr, Spells, number, name, group, element, call, suffix}
 use Rattle.c_grammar.specs.Expressions.{row_element}
 use Rattle.c_grammar.specs.Expressions.{prefix, cast, join, choice, assign, up}
-use Rattle.c_grammar.specs.Parsing.{Out, and_then, tail, line_of}
-use Rattle.c_grammar.specs.ModelExpressions.{joiner, suffix_of, seen, loop, suffixes}
+use Rattle.c_grammar.specs.inside.Parsing.{Out, and_then, tail, line_of}
+use Rattle.c_grammar.specs.inside.ModelExpressions.{joiner, suffix_of, seen, loop, suffixes}
 use Rattle.c_grammar.proofs.Agree.{stay, place, Tied, at_cut, alike, head_step, Lands, good, past}
 use Rattle.c_grammar.proofs.Agree.{lands_by, bind_lands}
 use Rattle.c_grammar.proofs.Pieces.{Rel, Sound, read, Then, always, any, Piece, seq_sound}

@@ -138,7 +138,7 @@ units_far h (u.valued x) = u.valued (spells_far h x)
 units_far h (u.sized x) = u.sized (units_far (later (omega arith) h) x)
 units_far h (u.rows_sized x y) =
     let l = spells_shorter y in u.rows_sized (units_far (later (omega arith) h) x)
-        (spells_far (later (omega arith) h) y)
+    (spells_far (later (omega arith) h) y)
 units_far h (u.filled x y) =
     let l = units_shorter y in u.filled (units_far (later (omega arith) h) x) (units_far (later (omega arith) h) y)
 units_far h (u.rows_filled x y z) =

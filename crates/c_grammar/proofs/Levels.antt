@@ -19,11 +19,11 @@ use Rattle.c_grammar.specs.Expressions.{Phrase, expr, arg_list, Spells, number, 
 use Rattle.c_grammar.specs.Expressions.{row_element}
 use Rattle.c_grammar.specs.Expressions.{element, call, none, some, last, next, suffix, prefix, cast}
 use Rattle.c_grammar.specs.Expressions.{join, choice, assign, up}
-use Rattle.c_grammar.specs.Numbers.{is_mark}
-use Rattle.c_grammar.specs.Parsing.{first, is_next}
-use Rattle.c_grammar.specs.ModelTypes.{is_type, begins_type}
-use Rattle.c_grammar.specs.ModelExpressions.{is_unary_node, is_unary, is_cast}
-use Rattle.c_grammar.specs.ModelStatements.{begins_expression}
+use Rattle.c_grammar.specs.inside.Numbers.{is_mark}
+use Rattle.c_grammar.specs.inside.Parsing.{first, is_next}
+use Rattle.c_grammar.specs.inside.ModelTypes.{is_type, begins_type}
+use Rattle.c_grammar.specs.inside.ModelExpressions.{is_unary_node, is_unary, is_cast}
+use Rattle.c_grammar.specs.inside.ModelStatements.{begins_expression}
 use Rattle.c_grammar.proofs.Numbers.{mark_is}
 use Rattle.c_grammar.proofs.Agree.{apart}
 use Rattle.c_grammar.proofs.Stops.{below_joins}

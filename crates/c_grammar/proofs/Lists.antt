@@ -7,10 +7,10 @@ use Rattle.c_tree.specs.declared.token.Form.{Form}
 use Rattle.c_tree.specs.declared.token.Form.TheVariants as form
 use Rattle.c_tree.specs.declared.token.Mark.TheVariants as mark
 use Rattle.c_grammar.specs.Tokens.{Tokens, punct, May, within}
-use Rattle.c_grammar.specs.Numbers.{is_mark}
-use Rattle.c_grammar.specs.Parsing.{Out, and_then, syntax, tail, line_of, is_next, expect, closes}
-use Rattle.c_grammar.specs.Parsing.{first, listed, listed_on, repeated, repeated_on, many, is_end}
-use Rattle.c_grammar.specs.Parsing.{to_end}
+use Rattle.c_grammar.specs.inside.Numbers.{is_mark}
+use Rattle.c_grammar.specs.inside.Parsing.{Out, and_then, syntax, tail, line_of, is_next, expect, closes}
+use Rattle.c_grammar.specs.inside.Parsing.{first, listed, listed_on, repeated, repeated_on, many, is_end}
+use Rattle.c_grammar.specs.inside.Parsing.{to_end}
 use Rattle.c_grammar.proofs.Numbers.{mark_self}
 use Rattle.c_grammar.proofs.Agree.{split_if, if_true, if_false, trans_le, next_is, tail_short, stay}
 use Rattle.c_grammar.proofs.Agree.{one, Grows, frees_after, frees_all, place, Tied, end, at_cut}
@@ -59,7 +59,7 @@ read_shorter h ts v _ mid (stuck s o) e = absurd cc
 module _ {A : Type 0} (R : Rel A) (L : Rel (List A)) (Ends : A → Tokens → Type 0) (after : Tokens → Tokens) (m : ℕ)
     (run : Tokens → Out A) (item : Piece same_tree R any always Ends after m run) (k : Mark) (trailing : Bool)
     (to : (may : May) (xs : List A) (f t : Tokens) → Then R (λ x. Tail L k trailing x) may xs f t
-        → L may xs f t) where
+    → L may xs f t) where
   consed_sound : (x : A) (u : Tokens) (out : Out (List A)) → Sound same_tree L always m u out
       → Sound same_tree (consed x L) always m u (and_then out (λ xs ts. Ok (x ∷ xs, ts)))
   consed_sound x u _ (read xs t a h) = read (x ∷ xs) t

@@ -7,7 +7,7 @@ use Rattle.c_tree.specs.declared.token.Mark.{Mark}
 use Rattle.c_tree.specs.declared.token.Mark.TheVariants as mark
 use Rattle.c_tree.specs.declared.token.Key.{Key}
 use Rattle.c_tree.specs.declared.token.Key.TheVariants as key
-use Rattle.c_grammar.specs.Numbers.{mark_number, key_number, is_mark, is_key}
+use Rattle.c_grammar.specs.inside.Numbers.{mark_number, key_number, is_mark, is_key}
 
 abbrev pick : {A : Type 0} → A → List A → ℕ → A
 pick x [] n = x

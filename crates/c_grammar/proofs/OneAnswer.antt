@@ -7,12 +7,14 @@ use Rattle.std.proofs.lemmas.Bool.{leb-true, le-leb}
 use Rattle.c_tree.specs.declared.token.Lexeme.{Lexeme}
 use Rattle.c_tree.specs.declared.tree.Top.{Top}
 use Rattle.c_grammar.specs.Tokens.{Tokens, May, within}
-use Rattle.c_grammar.specs.Parsing.{Out}
-use Rattle.c_grammar.specs.ModelUnits.{unit_of}
+use Rattle.c_grammar.specs.inside.Parsing.{Out}
+use Rattle.c_grammar.specs.inside.ModelUnits.{unit_of}
 use Rattle.c_grammar.specs.Places.{Starts, StartsWithin, SyntaxAt, EndsEarly, DeepAt, FaultAt}
-use Rattle.c_grammar.specs.Places.{Exact, settle, before, late, any_depth}
-use Rattle.c_grammar.specs.Answers.{last_line, HasSyntaxFault, wrong_token, too_short, IsTooDeep, opener, Answer}
-use Rattle.c_grammar.specs.Answers.{tree, syntax, too_deep, Answers, OneAnswer}
+use Rattle.c_grammar.specs.Places.{before, late, any_depth}
+use Rattle.c_grammar.specs.inside.Places.{Exact, settle}
+use Rattle.c_grammar.specs.Answers.{last_line, HasSyntaxFault, wrong_token, too_short, IsTooDeep, opener}
+use Rattle.c_grammar.specs.inside.Answers.{Answer}
+use Rattle.c_grammar.specs.inside.Answers.{tree, syntax, too_deep, Answers, OneAnswer}
 use Rattle.c_grammar.specs.Accepted.{limit, UnitIs, IsUnit}
 use Rattle.c_grammar.proofs.Late.{Passes}
 use Rattle.c_grammar.proofs.ExactReading.{or_mono}

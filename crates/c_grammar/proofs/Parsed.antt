@@ -4,11 +4,11 @@ use Rattle.std.proofs.Common.{◌≡◌, ℕ, suc, List, [], Ok, Err, refl, sym,
 use Rattle.std.proofs.lemmas.Bool.{leb-true, le-leb}
 use Rattle.c_tree.specs.declared.tree.Top.{Top}
 use Rattle.c_grammar.specs.Tokens.{Tokens, May, within}
-use Rattle.c_grammar.specs.Parsing.{Out}
-use Rattle.c_grammar.specs.ModelUnits.{unit_of}
-use Rattle.c_grammar.specs.Places.{Exact, settle}
+use Rattle.c_grammar.specs.inside.Parsing.{Out}
+use Rattle.c_grammar.specs.inside.ModelUnits.{unit_of}
+use Rattle.c_grammar.specs.inside.Places.{Exact, settle}
 use Rattle.c_grammar.specs.Accepted.{Spelled, UnitIs}
-use Rattle.c_grammar.specs.Answers.{OneTree}
+use Rattle.c_grammar.specs.inside.Answers.{OneTree}
 use Rattle.c_grammar.proofs.Units.{unit_first, unit_piece}
 use Rattle.c_grammar.proofs.Late.{Passes, units_far}
 use Rattle.c_grammar.proofs.ExactReading.{exact, only}

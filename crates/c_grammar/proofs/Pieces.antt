@@ -8,10 +8,10 @@ use Rattle.c_tree.specs.declared.token.Mark.{Mark}
 use Rattle.c_tree.specs.declared.token.Key.{Key}
 use Rattle.c_grammar.specs.Tokens.{Tokens, token, punct, word, named, May}
 use Rattle.c_grammar.specs.Places.{before}
-use Rattle.c_grammar.specs.Numbers.{is_mark}
-use Rattle.c_grammar.specs.Parsing.{Stop, Out, and_then, syntax, too_deep, tail, line_of, first}
-use Rattle.c_grammar.specs.Parsing.{is_next, is_word, expect, expect_keyword, name_by, name_of}
-use Rattle.c_grammar.specs.ModelExpressions.{Nested, enter}
+use Rattle.c_grammar.specs.inside.Numbers.{is_mark}
+use Rattle.c_grammar.specs.inside.Parsing.{Stop, Out, and_then, syntax, too_deep, tail, line_of, first}
+use Rattle.c_grammar.specs.inside.Parsing.{is_next, is_word, expect, expect_keyword, name_by, name_of}
+use Rattle.c_grammar.specs.inside.ModelExpressions.{Nested, enter}
 use Rattle.c_grammar.proofs.Numbers.{mark_self, key_self}
 use Rattle.c_grammar.proofs.Agree.{split_if, if_true, if_false, trans_le, next_is, word_is, Way}
 use Rattle.c_grammar.proofs.Agree.{stay, one, both, behind, Grows, Held, held_after, Opens, opens}

@@ -15,14 +15,14 @@ use Rattle.c_grammar.specs.Expressions.{expr, Spells}
 use Rattle.c_grammar.specs.Statements.{declared, Closer, semicolon, paren, closer_mark, until, test}
 use Rattle.c_grammar.specs.Statements.{shape, decls, locals, Writes, absent, given, tested, bare}
 use Rattle.c_grammar.specs.Statements.{value, array, rows, last_decl, next_decl, declaration}
-use Rattle.c_grammar.specs.Numbers.{is_mark}
-use Rattle.c_grammar.specs.Parsing.{Out, and_then, is_next, expect}
-use Rattle.c_grammar.specs.ModelTypes.{begins_type}
-use Rattle.c_grammar.specs.ModelExpressions.{Nested, expression_of, assignment_of, conditional_of}
-use Rattle.c_grammar.specs.ModelStatements.{begins_expression, absent_of, given_of, until_of}
-use Rattle.c_grammar.specs.ModelStatements.{size_of, second_of, after_size}
-use Rattle.c_grammar.specs.ModelStatements.{test_of, value_of, array_of, shape_of, decl_of}
-use Rattle.c_grammar.specs.ModelStatements.{decls_of, locals_of}
+use Rattle.c_grammar.specs.inside.Numbers.{is_mark}
+use Rattle.c_grammar.specs.inside.Parsing.{Out, and_then, is_next, expect}
+use Rattle.c_grammar.specs.inside.ModelTypes.{begins_type}
+use Rattle.c_grammar.specs.inside.ModelExpressions.{Nested, expression_of, assignment_of, conditional_of}
+use Rattle.c_grammar.specs.inside.ModelStatements.{begins_expression, absent_of, given_of, until_of}
+use Rattle.c_grammar.specs.inside.ModelStatements.{size_of, second_of, after_size}
+use Rattle.c_grammar.specs.inside.ModelStatements.{test_of, value_of, array_of, shape_of, decl_of}
+use Rattle.c_grammar.specs.inside.ModelStatements.{decls_of, locals_of}
 use Rattle.c_grammar.proofs.Numbers.{mark_self}
 use Rattle.c_grammar.proofs.Pieces.{Rel, Then, always, any, Piece, seq, done, Done, iff, ends_with}
 use Rattle.c_grammar.proofs.Pieces.{same_tree, Either, this, that, either_of, Is, mark_piece, Named}

@@ -25,17 +25,17 @@ use Rattle.c_grammar.specs.Statements.{init_local, init_plain, for, break, conti
 use Rattle.c_grammar.specs.Statements.{label, labels, body, section, sections, labelled, sectioned}
 use Rattle.c_grammar.specs.Statements.{a_case, a_default, last_label, next_label, last_stmt}
 use Rattle.c_grammar.specs.Statements.{next_stmt, section_is, no_section, next_section, switch}
-use Rattle.c_grammar.specs.Numbers.{is_mark, is_key}
-use Rattle.c_grammar.specs.Parsing.{Out, and_then, first, is_next, is_word, expect, expect_keyword}
-use Rattle.c_grammar.specs.ModelTypes.{is_type}
-use Rattle.c_grammar.specs.ModelExpressions.{Nested, conditional_of}
-use Rattle.c_grammar.specs.ModelStatements.{Below, until_of, test_of, one_of, entry_of, entries_of}
-use Rattle.c_grammar.specs.ModelStatements.{init_local_of, init_plain_of, init_of, else_of, no_of}
-use Rattle.c_grammar.specs.ModelStatements.{if_of, while_of, do_of, for_of, leave_of, return_of}
-use Rattle.c_grammar.specs.ModelStatements.{begins_label, begins_statement, case_of, default_of}
-use Rattle.c_grammar.specs.ModelStatements.{label_of, labels_of, body_of, section_of, sections_of}
-use Rattle.c_grammar.specs.ModelStatements.{switch_of}
-use Rattle.c_grammar.specs.ModelStatements.{empty_of, compound_of, plain_of, simple_of, stmt_of}
+use Rattle.c_grammar.specs.inside.Numbers.{is_mark, is_key}
+use Rattle.c_grammar.specs.inside.Parsing.{Out, and_then, first, is_next, is_word, expect, expect_keyword}
+use Rattle.c_grammar.specs.inside.ModelTypes.{is_type}
+use Rattle.c_grammar.specs.inside.ModelExpressions.{Nested, conditional_of}
+use Rattle.c_grammar.specs.inside.ModelStatements.{Below, until_of, test_of, one_of, entry_of, entries_of}
+use Rattle.c_grammar.specs.inside.ModelStatements.{init_local_of, init_plain_of, init_of, else_of, no_of}
+use Rattle.c_grammar.specs.inside.ModelStatements.{if_of, while_of, do_of, for_of, leave_of, return_of}
+use Rattle.c_grammar.specs.inside.ModelStatements.{begins_label, begins_statement, case_of, default_of}
+use Rattle.c_grammar.specs.inside.ModelStatements.{label_of, labels_of, body_of, section_of, sections_of}
+use Rattle.c_grammar.specs.inside.ModelStatements.{switch_of}
+use Rattle.c_grammar.specs.inside.ModelStatements.{empty_of, compound_of, plain_of, simple_of, stmt_of}
 use Rattle.c_grammar.proofs.Agree.{stay, Tied, Lands, good, bind_lands, fine}
 use Rattle.c_grammar.proofs.Pieces.{Rel, Sound, read, stuck, Complete, Then, always, any, Piece}
 use Rattle.c_grammar.proofs.Pieces.{seq, forget, done, Done, iff, turn, ends_by, ends_with}

@@ -13,10 +13,10 @@ use Rattle.c_grammar.specs.Tokens.{Tokens, token, punct}
 use Rattle.c_grammar.specs.Operators.{Joiner, op, comma, joiner_mark, below, Prefix, sign, increase}
 use Rattle.c_grammar.specs.Operators.{decrease, prefix_mark, Suffix, increased, decreased}
 use Rattle.c_grammar.specs.Operators.{suffix_mark, Assigner, simple, assigner_mark}
-use Rattle.c_grammar.specs.Numbers.{is_mark}
-use Rattle.c_grammar.specs.Parsing.{by_option, tail, line_of, is_next}
-use Rattle.c_grammar.specs.ModelExpressions.{marked_joiner, if_below, joiner, prefix_of, suffix_of}
-use Rattle.c_grammar.specs.ModelExpressions.{assigner_of, assigner_for, is_unary, seen}
+use Rattle.c_grammar.specs.inside.Numbers.{is_mark}
+use Rattle.c_grammar.specs.inside.Parsing.{by_option, tail, line_of, is_next}
+use Rattle.c_grammar.specs.inside.ModelExpressions.{marked_joiner, if_below, joiner, prefix_of, suffix_of}
+use Rattle.c_grammar.specs.inside.ModelExpressions.{assigner_of, assigner_for, is_unary, seen}
 use Rattle.c_grammar.proofs.Numbers.{mark_is}
 use Rattle.c_grammar.proofs.Agree.{split_if, is_false, if_true, Tied, end, at_cut, alike}
 

@@ -12,10 +12,10 @@ use Rattle.c_grammar.specs.Types.{short, short_int, signed_short, signed_short_i
 use Rattle.c_grammar.specs.Types.{unsigned_short_int}
 use Rattle.c_grammar.specs.Types.{unsigned, unsigned_int, long, long_int, signed_long}
 use Rattle.c_grammar.specs.Types.{signed_long_int, unsigned_long, unsigned_long_int}
-use Rattle.c_grammar.specs.Numbers.{is_key}
-use Rattle.c_grammar.specs.Parsing.{Out, and_then, is_word, expect_keyword}
-use Rattle.c_grammar.specs.ModelTypes.{begins_type, int_of, char_of, and_int_of, sized_of}
-use Rattle.c_grammar.specs.ModelTypes.{signed_of, unsigned_of, plain_of, begun_of, type_of}
+use Rattle.c_grammar.specs.inside.Numbers.{is_key}
+use Rattle.c_grammar.specs.inside.Parsing.{Out, and_then, is_word, expect_keyword}
+use Rattle.c_grammar.specs.inside.ModelTypes.{begins_type, int_of, char_of, and_int_of, sized_of}
+use Rattle.c_grammar.specs.inside.ModelTypes.{signed_of, unsigned_of, plain_of, begun_of, type_of}
 use Rattle.c_grammar.proofs.Numbers.{key_self}
 use Rattle.c_grammar.proofs.Pieces.{Rel, Then, always, any, same_tree, Piece, seq, done, Done, iff}
 use Rattle.c_grammar.proofs.Pieces.{either_of, Either, this, that, IsWord, word_piece, ends_with}

@@ -27,15 +27,15 @@ use Rattle.c_grammar.specs.Units.{last_global, next_global, unlabelled, labelled
 use Rattle.c_grammar.specs.Units.{some_brackets, param_is, no_params, void_params, some_params}
 use Rattle.c_grammar.specs.Units.{last_param, next_param, void, typed, prototype, definition}
 use Rattle.c_grammar.specs.Units.{include, a_function, some_globals, last_item, next_item}
-use Rattle.c_grammar.specs.Numbers.{is_mark, is_key}
-use Rattle.c_grammar.specs.Parsing.{Out, and_then, tail, line_of, first, is_next, is_word, name_of}
-use Rattle.c_grammar.specs.Parsing.{to_end}
-use Rattle.c_grammar.specs.ModelTypes.{is_type, begins_type}
-use Rattle.c_grammar.specs.ModelExpressions.{Nested, inside}
-use Rattle.c_grammar.specs.ModelStatements.{below_at, compound_of}
-use Rattle.c_grammar.specs.ModelUnits.{is_include, include_of, params_of, defined_of, declared_of}
-use Rattle.c_grammar.specs.ModelUnits.{rest_of, func_of, after_name, void_item_of, typed_item_of}
-use Rattle.c_grammar.specs.ModelUnits.{item_of, unit_of}
+use Rattle.c_grammar.specs.inside.Numbers.{is_mark, is_key}
+use Rattle.c_grammar.specs.inside.Parsing.{Out, and_then, tail, line_of, first, is_next, is_word, name_of}
+use Rattle.c_grammar.specs.inside.Parsing.{to_end}
+use Rattle.c_grammar.specs.inside.ModelTypes.{is_type, begins_type}
+use Rattle.c_grammar.specs.inside.ModelExpressions.{Nested, inside}
+use Rattle.c_grammar.specs.inside.ModelStatements.{below_at, compound_of}
+use Rattle.c_grammar.specs.inside.ModelUnits.{is_include, include_of, params_of, defined_of, declared_of}
+use Rattle.c_grammar.specs.inside.ModelUnits.{rest_of, func_of, after_name, void_item_of, typed_item_of}
+use Rattle.c_grammar.specs.inside.ModelUnits.{item_of, unit_of}
 use Rattle.c_grammar.proofs.Agree.{split_if, apart, stay, one, Tied, head_step, Lands, good, past}
 use Rattle.c_grammar.proofs.Agree.{fine}
 use Rattle.c_grammar.proofs.Pieces.{Rel, Sound, read, stuck, Then, always, any, Piece, seq, done}

@@ -1,10 +1,9 @@
 -- What is answered of a list of tokens: its tree, or a fault and the line of its place.
-use Rattle.std.specs.Prelude.{◌≡◌, ℕ, List, [], ◌∷◌}
+use Rattle.std.specs.Prelude.{ℕ, [], ◌∷◌}
 use Rattle.c_tree.specs.declared.token.Lexeme.{Lexeme}
-use Rattle.c_tree.specs.declared.tree.Top.{Top}
 use Rattle.c_grammar.specs.Tokens.{Tokens}
 use Rattle.c_grammar.specs.Places.{SyntaxAt, EndsEarly, DeepAt}
-use Rattle.c_grammar.specs.Accepted.{Spelled, IsUnit, UnitIs, limit}
+use Rattle.c_grammar.specs.Accepted.{UnitIs, limit}
 
 -- the line of the last token, or 1
 abbrev pub last_line : Tokens → ℕ
@@ -23,25 +22,3 @@ pub data HasSyntaxFault (tokens : Tokens) : ℕ → Type 0 where
 pub data IsTooDeep (tokens : Tokens) : ℕ → Type 0 where
   opener : {front back : Tokens} {t : Lexeme} → DeepAt UnitIs limit tokens front t back
       → IsTooDeep tokens t.line
-
--- a tree, or one of the two faults with its line
-pub data Answer : Type 0 where
-  tree : List Top → Answer
-  syntax : ℕ → Answer
-  too_deep : ℕ → Answer
-
--- the answer is right of the tokens
-abbrev pub Answers : Tokens → Answer → Type 0
-Answers tokens (tree xs) = IsUnit tokens xs
-Answers tokens (syntax l) = HasSyntaxFault tokens l
-Answers tokens (too_deep l) = IsTooDeep tokens l
-
--- a list of tokens has at most one tree, whatever depth is allowed
-abbrev pub OneTree : Type 0
-OneTree = (m : ℕ) (tokens : Tokens) (xs ys : List Top) → Spelled UnitIs m xs tokens
-    → Spelled UnitIs m ys tokens → xs ≡ ys
-
--- every list of tokens has an answer, and only one
-abbrev pub OneAnswer : Type 0
-OneAnswer = (tokens : Tokens) → (a : Answer) × Answers tokens a
-    × ((b : Answer) → Answers tokens b → b ≡ a)

@@ -4,12 +4,7 @@ pub mod Operators
 pub mod Expressions
 pub mod Statements
 pub mod Units
-pub mod Numbers
-pub mod Parsing
-pub mod ModelTypes
-pub mod ModelExpressions
-pub mod ModelStatements
-pub mod ModelUnits
 pub mod Places
 pub mod Answers
 pub mod Accepted
+pub mod inside

@@ -1,5 +1,5 @@
 -- The operators of expressions (C17 6.5): their marks, their levels and what they make.
-use Rattle.std.specs.Prelude.{ℕ, zero, suc, Option, Some, None}
+use Rattle.std.specs.Prelude.{ℕ, Option, Some, None}
 use Rattle.c_tree.specs.declared.token.Mark.{Mark}
 use Rattle.c_tree.specs.declared.token.Mark.TheVariants as mark
 use Rattle.c_tree.specs.declared.tree.UnaryOp.{UnaryOp}
@@ -19,11 +19,6 @@ unary_level = 2
 -- the level of casts, the tightest that operators join
 abbrev pub cast_level : ℕ
 cast_level = 3
-
--- so many levels above a cast
-abbrev pub binary_level : ℕ → ℕ
-binary_level zero = cast_level
-binary_level (suc n) = suc (binary_level n)
 
 -- the level of choices
 abbrev pub conditional : ℕ

@@ -1,10 +1,9 @@
 -- Where the fault of a token list stands that is not accepted; for any relation that says what spells a
 -- whole text.
-use Rattle.std.specs.Prelude.{◌≡◌, ℕ, Bool, true, false, [], ◌∷◌, ◌++◌, Ok, Err, suc, ◌||◌, nat_le, length}
+use Rattle.std.specs.Prelude.{◌≡◌, ℕ, Bool, true, false, [], ◌∷◌, ◌++◌, suc, ◌||◌, nat_le, length}
 use Rattle.c_tree.specs.declared.token.Lexeme.{Lexeme}
 use Rattle.c_grammar.specs.Tokens.{Tokens, May}
-use Rattle.c_grammar.specs.Parsing.{Out, Stop}
-use Rattle.c_grammar.specs.Accepted.{Rel, Spelled}
+use Rattle.c_grammar.specs.Accepted.{Rel}
 
 -- no token before the list does
 abbrev pub before : ℕ → Tokens → May
@@ -66,20 +65,3 @@ module _ {X : Type 0} (R : Rel X) where
   FaultAt m tokens false (t ∷ back) = (front : Tokens) × SyntaxAt m tokens front t back
   FaultAt m tokens true [] = ⊥
   FaultAt m tokens true (t ∷ back) = (front : Tokens) × DeepAt m tokens front t back
-
--- a token that would open too deep and is the last one only ends the text too early
-abbrev pub settle_stop : Bool → Tokens → Stop
-settle_stop true (t ∷ []) = record { deep = false; rest = [] }
-settle_stop true [] = record { deep = true; rest = [] }
-settle_stop true (t ∷ u ∷ rest) = record { deep = true; rest = t ∷ u ∷ rest }
-settle_stop false rest = record { deep = false; rest = rest }
-
--- the same of an outcome
-abbrev pub settle : {A : Type 0} → Out A → Out A
-settle (Ok p) = Ok p
-settle (Err s) = Err (settle_stop s.deep s.rest)
-
--- what an outcome says of the tokens
-abbrev pub Exact : {X : Type 0} → Rel X → ℕ → Tokens → Out X → Type 0
-Exact R m tokens (Ok p) = (p.1 ≡ []) × Spelled R m p.0 tokens
-Exact R m tokens (Err s) = FaultAt R m tokens s.deep s.rest

@@ -6,7 +6,7 @@
 //! fault stands. The two functions here carry the laws; they do nothing when they run.
 #![tactic(auto)]
 
-ghost use Rattle.c_grammar.specs.Answers.{OneAnswer, OneTree};
+ghost use Rattle.c_grammar.specs.inside.Answers.{OneAnswer, OneTree};
 
 /// A list of tokens has at most one tree, whatever depth is allowed.
 pub fn one_tree()

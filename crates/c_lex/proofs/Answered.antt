@@ -14,15 +14,15 @@ use Rattle.c_lex.specs.declared.piece.Reading.TheVariants as reads
 use Rattle.c_lex.specs.Bytes.{Bytes, by_class, is_space, is_letter, is_word, is_digit, in_number}
 use Rattle.c_lex.specs.Bytes.{not_feed}
 use Rattle.c_lex.specs.Bytes.{at_line_start, line_after}
-use Rattle.c_lex.specs.Runs.{run_len}
+use Rattle.c_lex.specs.inside.Runs.{run_len}
 use Rattle.c_lex.specs.Tables.{lookup, keywords}
-use Rattle.c_lex.specs.Scans.{constant_of, character_of, close_from, mark_of, is_include}
+use Rattle.c_lex.specs.inside.Scans.{constant_of, character_of, close_from, mark_of, is_include}
 use Rattle.c_lex.specs.Pieces.{Longest, word_form, begins_with}
-use Rattle.c_lex.specs.Finds.{Found, found, IsFront, Finds, Marks, begins_comment}
+use Rattle.c_lex.specs.inside.Finds.{Found, found, IsFront, Finds, Marks, begins_comment}
 use Rattle.c_lex.specs.Lexes.{Tokens, lexeme, Cut, here, Lexed}
 use Rattle.c_lex.specs.Faults.{Fault, BadByte, TooManyTokens, fault_of, no_piece, is_broken, one_more, FaultAt}
-use Rattle.c_lex.specs.Turns.{Grows}
-use Rattle.c_lex.specs.Answers.{Answered}
+use Rattle.c_lex.specs.inside.Turns.{Grows}
+use Rattle.c_lex.specs.inside.Answers.{Answered}
 use Rattle.c_lex.proofs.Basics.{eq_is}
 use Rattle.c_lex.proofs.Found.{space_found, word_found, number_found, bad_number_found}
 use Rattle.c_lex.proofs.Found.{character_found}

@@ -13,8 +13,8 @@ use Rattle.c_lex.specs.declared.first.First.TheVariants as first
 use Rattle.c_lex.specs.declared.first.TheConstants.{FIRSTS}
 use Rattle.c_lex.specs.Bytes.{Bytes, is_space, is_letter, is_digit, is_word}
 use Rattle.c_lex.specs.Tables.{lookup, keywords, marks}
-use Rattle.c_lex.specs.Scans.{short_constant, constant_of}
-use Rattle.c_lex.specs.Firsts.{first_of, of_mark, none_longer, goes_on_word}
+use Rattle.c_lex.specs.inside.Scans.{short_constant, constant_of}
+use Rattle.c_lex.specs.inside.Firsts.{first_of, of_mark, none_longer, goes_on_word}
 use Rattle.c_lex.proofs.Basics.{true_or_false, eq_is}
 use Rattle.c_lex.proofs.Groups.{group, Others, all_rows, row_is}
 use Rattle.c_lex.proofs.Marks.{slash_is}

@@ -11,8 +11,9 @@ use Rattle.c_lex.specs.Tables.{marks}
 use Rattle.c_lex.specs.Constants.{Character, plain, escape, octal, hexadecimal, is_digit_in}
 use Rattle.c_lex.specs.Constants.{is_plain, simple}
 use Rattle.c_lex.specs.Pieces as piece
-use Rattle.c_lex.specs.Pieces.{Piece, Front}
-use Rattle.c_lex.specs.Turns.{Grows, Place, Moved}
+use Rattle.c_lex.specs.Pieces.{Piece}
+use Rattle.c_lex.specs.inside.Pieces.{Front}
+use Rattle.c_lex.specs.inside.Turns.{Grows, Place, Moved}
 use Rattle.c_lex.proofs.Basics.{and_left, and_right, not_true, eq_is, true_or_false}
 use Rattle.c_lex.proofs.Runs.{each_any, quiet_feeds, still_full}
 use Rattle.c_lex.proofs.Groups.{all_rows, row_is}

@@ -4,10 +4,10 @@ use Rattle.std.proofs.Common.{take}
 use Rattle.std.proofs.Common.{drop, refl, sym, ap, subst, cond}
 use Rattle.c_lex.specs.declared.piece.Reading.TheVariants as reads
 use Rattle.c_lex.specs.Bytes.{Bytes, by_class, is_space, feeds, still_empty}
-use Rattle.c_lex.specs.Runs.{run_len}
-use Rattle.c_lex.specs.Spaces.{begins_space, spaces, after_spaces}
+use Rattle.c_lex.specs.inside.Runs.{run_len}
+use Rattle.c_lex.specs.inside.Spaces.{begins_space, spaces, after_spaces}
 use Rattle.c_lex.specs.Pieces.{Longest}
-use Rattle.c_lex.specs.Turns.{Place, Moved}
+use Rattle.c_lex.specs.inside.Turns.{Place, Moved}
 use Rattle.c_lex.proofs.Fronts.{space_front}
 
 -- the spaces are the longest run, whatever came before

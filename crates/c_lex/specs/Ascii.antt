@@ -41,10 +41,6 @@ double_quote = 34
 abbrev pub hash : ℕ
 hash = 35
 
--- the byte of `&`, which may be doubled
-abbrev pub ampersand : ℕ
-ampersand = 38
-
 -- the byte of `'`, around a character
 abbrev pub quote : ℕ
 quote = 39
@@ -80,18 +76,6 @@ digit_1 = 49
 -- the byte of `9`, the greatest decimal digit
 abbrev pub digit_9 : ℕ
 digit_9 = 57
-
--- the byte of `<`, which may be doubled
-abbrev pub less : ℕ
-less = 60
-
--- the byte of `=`, which ends an operator of assignment
-abbrev pub equal : ℕ
-equal = 61
-
--- the byte of `>`, which may be doubled
-abbrev pub greater : ℕ
-greater = 62
 
 -- the byte of `?`, which an escape may name
 abbrev pub question : ℕ
@@ -188,10 +172,6 @@ lower_x = 120
 -- the byte of `z`, the last small letter
 abbrev pub lower_z : ℕ
 lower_z = 122
-
--- the byte of `|`, which may be doubled
-abbrev pub bar : ℕ
-bar = 124
 
 -- the byte of `~`, the last one that is printed
 abbrev pub tilde : ℕ

@@ -3,7 +3,7 @@
 //! The proof tries this of each byte, so that no row can be changed alone.
 
 ghost use Rattle.std.specs.Prelude.{◌≡◌, ◌<◌, length, get_or};
-ghost use Rattle.c_lex.specs.Firsts as firsts;
+ghost use Rattle.c_lex.specs.inside.Firsts as firsts;
 
 use c_tree::Mark;
 

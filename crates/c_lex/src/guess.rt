@@ -5,7 +5,7 @@
 
 ghost use Rattle.std.specs.Prelude.{◌≡◌, ◌<◌, map, length, slice_index};
 ghost use Rattle.c_lex.specs.Tables.{lookup, keywords, marks};
-ghost use Rattle.c_lex.specs.Guesses.{spread_of, key_guess, mark_guess, row_at};
+ghost use Rattle.c_lex.specs.inside.Guesses.{spread_of, key_guess, mark_guess, row_at};
 
 use crate::table::{KEYWORDS, MARKS};
 use c_tree::{Key, Mark, same_bytes};
@@ -64,7 +64,7 @@ fn entry(rows: &[u8], at: usize) -> usize
     usize::from(rows[at])
 }
 
-#[tactic(auto, unfolding(crate::specs::Guesses::key_guess))]
+#[tactic(auto, unfolding(crate::specs::inside::Guesses::key_guess))]
 fn guess_key(word: &[u8]) -> usize
     requires some { 0 < length word.now }
     ensures { result ≡ key_guess word.now }
@@ -72,7 +72,7 @@ fn guess_key(word: &[u8]) -> usize
     entry(&KEY_ROWS, spread(word))
 }
 
-#[tactic(auto, unfolding(crate::specs::Guesses::mark_guess))]
+#[tactic(auto, unfolding(crate::specs::inside::Guesses::mark_guess))]
 fn guess_mark(text: &[u8]) -> usize
     requires some { 0 < length text.now }
     ensures { result ≡ mark_guess text.now }

@@ -6,13 +6,14 @@ use Rattle.std.proofs.lemmas.List.{length-reverse, length-map, map-append, rever
 use Rattle.std.proofs.lemmas.Grind.{reverse_onto}
 use Rattle.c_tree.specs.declared.TypedProgram.{TypedProgram}
 use Rattle.c_meaning_spec.specs.declared.Signal.{Signal}
-use Rattle.c_meaning_spec.specs.State.{State, Result, Go, Over, then}
+use Rattle.c_meaning_spec.specs.State.{State, Result, Go, Over}
+use Rattle.c_meaning_spec.specs.inside.State.{then}
 use Rattle.c_meaning_spec.specs.Task.{Task}
 use Rattle.c_meaning_spec.specs.Eval.{meaning}
-use Rattle.c_meaning.specs.Follow.{Follow}
-use Rattle.c_meaning.specs.Ahead.{Next, ToDo, Given, Ended, ahead_next, is_over, is_empty}
-use Rattle.c_meaning.specs.Ahead.{back_of, unwind_of, IsReached}
-use Rattle.c_meaning.specs.View.{follow, frames}
+use Rattle.c_meaning.specs.inside.Follow.{Follow}
+use Rattle.c_meaning.specs.inside.Ahead.{Next, ToDo, Given, Ended, ahead_next, is_over, is_empty}
+use Rattle.c_meaning.specs.inside.Ahead.{back_of, unwind_of, IsReached}
+use Rattle.c_meaning.specs.inside.View.{follow, frames}
 use Rattle.c_meaning.specs.declared.frame.Frame.{Frame}
 use Rattle.c_meaning.proofs.Lists.{stack_push}
 use Rattle.c_meaning.proofs.Unwinds.{then-on}

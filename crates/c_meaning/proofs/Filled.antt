@@ -1,6 +1,6 @@
 -- Arguments, as the first scalars of the function that is called.
 use Rattle.std.proofs.Common.{◌≡◌, ℕ, List, [], ◌∷◌, ◌++◌, map, Option, Some, refl, ap, ◌∙◌, sym}
-use Rattle.c_meaning.specs.Given.{word_of, words}
+use Rattle.c_meaning.specs.inside.Given.{word_of, words}
 
 -- one more word
 words-push : (cs : List (Option ℕ)) (w : ℕ) → words (cs ++ Some w ∷ []) ≡ words cs ++ w ∷ []

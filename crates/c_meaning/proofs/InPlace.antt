@@ -6,7 +6,7 @@ use Rattle.std.proofs.lemmas.Grind.{common_steps}
 use Rattle.c_meaning_spec.specs.State.{State, Over, held}
 use Rattle.c_meaning_spec.specs.declared.Ending.TheVariants.{Undefined}
 use Rattle.c_meaning_spec.specs.Call.{get_char, put_char, read_from}
-use Rattle.c_meaning.specs.Given.{alone, values, words}
+use Rattle.c_meaning.specs.inside.Given.{alone, values, words}
 
 -- places are as many as their words
 pub length-values : (bs : List Bool) (ws : List ℕ) → length bs ≡ length ws → length (values bs ws) ≡ length ws

@@ -10,9 +10,9 @@ use Rattle.std.proofs.lemmas.Bool.Decides.{nat_tests}
 use Rattle.c_meaning_spec.specs.State.{row_in}
 use Rattle.c_meaning.specs.declared.arrays.Cell.{Cell}
 use Rattle.c_meaning.specs.declared.arrays.Span.{Span}
-use Rattle.c_meaning.specs.Cells.{shown, row_of, rows, total, Follows, SpansKnown, CellsKnown}
-use Rattle.c_meaning.specs.Cells.{span_length}
-use Rattle.c_meaning.specs.Cells.{IsLaid, worded}
+use Rattle.c_meaning.specs.inside.Cells.{shown, row_of, rows, total, Follows, SpansKnown, CellsKnown}
+use Rattle.c_meaning.specs.inside.Cells.{span_length}
+use Rattle.c_meaning.specs.inside.Cells.{IsLaid, worded}
 use Rattle.c_meaning.proofs.Rows.{length-rows}
 
 -- STAMPS

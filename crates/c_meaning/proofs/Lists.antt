@@ -4,7 +4,7 @@ use Rattle.std.proofs.Common.{length, drop, get_or, refl, arith}
 use Rattle.std.proofs.lemmas.List.{map-append, reverse-append}
 use Rattle.c_tree.specs.declared.TypedArray.{TypedArray}
 use Rattle.c_meaning_spec.specs.Call.{array_bytes, all_bytes}
-use Rattle.c_meaning.specs.View.{follow}
+use Rattle.c_meaning.specs.inside.View.{follow}
 use Rattle.c_meaning.specs.declared.frame.Frame.{Frame}
 
 pub stack_push : (xs : List Frame) (f : Frame)

@@ -10,7 +10,7 @@ use Rattle.std.proofs.lemmas.Option.{slice_get-map, slice_get_past, slice_get-ge
 use Rattle.c_meaning_spec.specs.State.{cell_in, element_set}
 use Rattle.c_meaning.specs.declared.arrays.Cell.{Cell}
 use Rattle.c_meaning.specs.declared.arrays.Span.{Span}
-use Rattle.c_meaning.specs.Cells.{shown, row_of, rows, total, Follows}
+use Rattle.c_meaning.specs.inside.Cells.{shown, row_of, rows, total, Follows}
 
 -- WHAT A BOOL TELLS
 

@@ -7,13 +7,14 @@ use Rattle.c_tree.specs.declared.TypedProgram.{TypedProgram}
 use Rattle.c_meaning_spec.specs.declared.Signal.{Signal}
 use Rattle.c_meaning_spec.specs.declared.Signal.TheVariants.{Nothing, Value, Breaks, Continues, Returns}
 use Rattle.c_meaning_spec.specs.Statement.{dropped, going_on, sequence}
-use Rattle.c_meaning_spec.specs.State.{State, Result, Go, Over, then}
+use Rattle.c_meaning_spec.specs.State.{State, Result, Go, Over}
+use Rattle.c_meaning_spec.specs.inside.State.{then}
 use Rattle.c_meaning_spec.specs.Task.{Task, Of, Run}
 use Rattle.c_meaning_spec.specs.Eval.{meaning}
-use Rattle.c_meaning.specs.Ahead.{unwind_of, back_of}
-use Rattle.c_meaning.specs.Follow.{Follow}
-use Rattle.c_meaning.specs.View.{view, follow}
-use Rattle.c_meaning.specs.Direct.{rest_told, stop_told}
+use Rattle.c_meaning.specs.inside.Ahead.{unwind_of, back_of}
+use Rattle.c_meaning.specs.inside.Follow.{Follow}
+use Rattle.c_meaning.specs.inside.View.{view, follow}
+use Rattle.c_meaning.specs.inside.Direct.{rest_told, stop_told}
 use Rattle.c_meaning.specs.declared.frame.Frame.{Frame}
 use Rattle.c_meaning.specs.declared.store.Store.{Store}
 use Rattle.c_meaning.specs.declared.direct.Stop.{Stop}

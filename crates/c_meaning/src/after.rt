@@ -5,9 +5,9 @@ ghost use Rattle.c_meaning_spec.specs.Call.{arguments};
 ghost use Rattle.c_meaning_spec.specs.Expression as meant_expression;
 ghost use Rattle.c_meaning_spec.specs.Statement as meant;
 ghost use Rattle.c_meaning_spec.specs.Eval.{meaning};
-ghost use Rattle.c_meaning.specs.Ahead.{back_of};
-ghost use Rattle.c_meaning.specs.Direct.{Runs, Values};
-ghost use Rattle.c_meaning.specs.View.{behind, follow, follow_operand, view};
+ghost use Rattle.c_meaning.specs.inside.Ahead.{back_of};
+ghost use Rattle.c_meaning.specs.inside.Direct.{Runs, Values};
+ghost use Rattle.c_meaning.specs.inside.View.{behind, follow, follow_operand, view};
 
 use crate::arguments::{Arguments, push_argument};
 use crate::direct::{Ran, Stop};

@@ -1,7 +1,7 @@
 //! The arguments of a call, as the first scalars of the function that is called.
 
 ghost use Rattle.std.specs.Prelude.{◌≡◌, ◌++◌, ◌∷◌, [], map, Some, OnOk};
-ghost use Rattle.c_meaning.specs.Given.{words};
+ghost use Rattle.c_meaning.specs.inside.Given.{words};
 
 use crate::scalars::Scalars;
 use std::alloc::AllocError;
@@ -15,7 +15,7 @@ pub struct Arguments {
 
 impl Model for Arguments {
     ghost use Rattle.std.specs.Prelude.{◌≡◌, List, ℕ, map, Some};
-    ghost use Rattle.c_meaning.specs.Given.{words};
+    ghost use Rattle.c_meaning.specs.inside.Given.{words};
 
     ghost Value = { List ℕ };
 

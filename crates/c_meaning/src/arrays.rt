@@ -2,8 +2,8 @@ ghost use Rattle.std.specs.Prelude.{◌≡◌, ◌+◌, ◌-◌, ◌<◌, ◌≤
 ghost use Rattle.std.specs.Prelude.{replicate, slice_get, slice_set, Some, None, ◌↔◌, IsTrue};
 ghost use Rattle.std.specs.Prelude.{IsFalse, IsSome, IfOk, OnOk};
 ghost use Rattle.c_meaning_spec.specs.State.{cell_in, held, row_in, element_set};
-ghost use Rattle.c_meaning.specs.Cells.{CellsKnown, SpansKnown, Follows, shown, worded, rows};
-ghost use Rattle.c_meaning.specs.Cells.{total, span_length};
+ghost use Rattle.c_meaning.specs.inside.Cells.{CellsKnown, SpansKnown, Follows, shown, worded, rows};
+ghost use Rattle.c_meaning.specs.inside.Cells.{total, span_length};
 
 use std::alloc::{AllocError, Global};
 use std::marker::Model;
@@ -36,7 +36,7 @@ pub struct Arrays {
 
 impl Model for Arrays {
     ghost use Rattle.std.specs.Prelude.{List, Option, ℕ};
-    ghost use Rattle.c_meaning.specs.Cells.{rows, IsLaid};
+    ghost use Rattle.c_meaning.specs.inside.Cells.{rows, IsLaid};
 
     ghost Value = { List (List (Option ℕ)) };
 

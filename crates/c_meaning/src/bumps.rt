@@ -2,13 +2,14 @@
 
 ghost use Rattle.c_tree.specs.TypedTrees.{node_of};
 ghost use Rattle.c_meaning_spec.specs.declared.Object.TheVariants.{InScalar};
-ghost use Rattle.c_meaning_spec.specs.State.{then, with_some};
+ghost use Rattle.c_meaning_spec.specs.State.{with_some};
+ghost use Rattle.c_meaning_spec.specs.inside.State.{then};
 ghost use Rattle.c_meaning_spec.specs.Task.{Of, scalar_of as scalar_in};
 ghost use Rattle.c_meaning_spec.specs.Expression.{bump};
 ghost use Rattle.c_meaning_spec.specs.Expression as meant_expression;
 ghost use Rattle.c_meaning_spec.specs.Eval.{meaning};
-ghost use Rattle.c_meaning.specs.View.{view};
-ghost use Rattle.c_meaning.specs.Direct.{Values};
+ghost use Rattle.c_meaning.specs.inside.View.{view};
+ghost use Rattle.c_meaning.specs.inside.Direct.{Values};
 
 use crate::direct::Stop;
 use crate::frame::{Frame, Operand};

@@ -2,13 +2,14 @@
 
 ghost use Rattle.std.specs.Prelude.{◌≡◌, ◌+◌, ◌≤◌, [], true, List, ℕ, map, Some, OnOk, length, take};
 ghost use Rattle.c_tree.specs.Limits.{most_frame_bytes};
-ghost use Rattle.c_meaning_spec.specs.State.{Result as Meant, then};
+ghost use Rattle.c_meaning_spec.specs.State.{Result as Meant};
+ghost use Rattle.c_meaning_spec.specs.inside.State.{then};
 ghost use Rattle.c_meaning_spec.specs.Call.{frame as frame_of, called, enter, entered, entered_if};
 ghost use Rattle.c_meaning_spec.specs.Call.{arguments, left, returned};
 ghost use Rattle.c_meaning_spec.specs.Eval.{meaning};
-ghost use Rattle.c_meaning.specs.View.{behind, view};
-ghost use Rattle.c_meaning.specs.Direct.{Runs, Stopped, Values, signal_of};
-ghost use Rattle.c_meaning.specs.Given.{words};
+ghost use Rattle.c_meaning.specs.inside.View.{behind, view};
+ghost use Rattle.c_meaning.specs.inside.Direct.{Runs, Stopped, Values, signal_of};
+ghost use Rattle.c_meaning.specs.inside.Given.{words};
 
 use crate::arguments::push_argument;
 use crate::call::{add_arrays, add_rows, pad, room_with};

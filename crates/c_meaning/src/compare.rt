@@ -4,8 +4,8 @@ ghost use Rattle.std.specs.Prelude.{◌≡◌, ◌++◌, List};
 ghost use Rattle.c_meaning_spec.specs.Eval.{meaning};
 ghost use Rattle.c_meaning_spec.specs.Statement as meant;
 ghost use Rattle.c_meaning_spec.specs.Statement.{Target, after_switch, bodies, leading, run_from};
-ghost use Rattle.c_meaning.specs.Labels.{goes_on, found};
-ghost use Rattle.c_meaning.specs.View.{view};
+ghost use Rattle.c_meaning.specs.inside.Labels.{goes_on, found};
+ghost use Rattle.c_meaning.specs.inside.View.{view};
 
 use crate::store::Store;
 use c_meaning_spec::Signal;

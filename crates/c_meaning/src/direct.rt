@@ -2,14 +2,15 @@
 //! are a part of where they are not evaluated to their end.
 
 ghost use Rattle.std.specs.Prelude.{OnOk};
-ghost use Rattle.c_meaning_spec.specs.State.{Result as Meant, Go, then, given, with_some, load, store};
+ghost use Rattle.c_meaning_spec.specs.State.{Result as Meant, Go, given, with_some, load, store};
+ghost use Rattle.c_meaning_spec.specs.inside.State.{then};
 ghost use Rattle.c_meaning_spec.specs.declared.Signal.TheVariants.{Nothing};
 ghost use Rattle.c_meaning_spec.specs.Statement.{dropped};
 ghost use Rattle.c_meaning_spec.specs.Task.{Of, Run};
 ghost use Rattle.c_meaning_spec.specs.Eval.{meaning};
-ghost use Rattle.c_meaning.specs.Ahead.{back_of};
-ghost use Rattle.c_meaning.specs.View.{view, follow};
-ghost use Rattle.c_meaning.specs.Direct.{Stopped, Values, Runs, Turned};
+ghost use Rattle.c_meaning.specs.inside.Ahead.{back_of};
+ghost use Rattle.c_meaning.specs.inside.View.{view, follow};
+ghost use Rattle.c_meaning.specs.inside.Direct.{Stopped, Values, Runs, Turned};
 
 use crate::frame::{Frame, Loop};
 use crate::store::Store;

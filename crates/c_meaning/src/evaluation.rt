@@ -1,14 +1,15 @@
 ghost use Rattle.std.specs.Prelude.{◌≡◌, ◌++◌, [], map, false, IfOk, OnOk};
-ghost use Rattle.c_meaning_spec.specs.State.{Result as Reached, then};
+ghost use Rattle.c_meaning_spec.specs.State.{Result as Reached};
+ghost use Rattle.c_meaning_spec.specs.inside.State.{then};
 ghost use Rattle.c_meaning_spec.specs.Call.{called as called_by};
 ghost use Rattle.c_meaning_spec.specs.Eval.{global_row};
 ghost use Rattle.c_meaning_spec.specs.Eval.{first_cells, length_of as length_in, start, outcome};
 ghost use Rattle.c_meaning_spec.specs.Eval.{eval, meaning};
 ghost use Rattle.c_tree.specs.declared.Kind.TheVariants.{Int};
 ghost use Rattle.c_constant.specs.Kinds.{number, converted};
-ghost use Rattle.c_meaning.specs.Ahead.{ahead_next, is_over as is_over_of, IsReached};
-ghost use Rattle.c_meaning.specs.View.{follow, frames, next, task_of, view};
-ghost use Rattle.c_meaning.specs.Direct.{Leads};
+ghost use Rattle.c_meaning.specs.inside.Ahead.{ahead_next, is_over as is_over_of, IsReached};
+ghost use Rattle.c_meaning.specs.inside.View.{follow, frames, next, task_of, view};
+ghost use Rattle.c_meaning.specs.inside.Direct.{Leads};
 ghost use Rattle.c_meaning.specs.Answer.{answer};
 
 use crate::arrays::Arrays;

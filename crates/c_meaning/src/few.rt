@@ -14,7 +14,7 @@ pub struct Few {
 
 impl Model for Few {
     ghost use Rattle.std.specs.Prelude.{◌≡◌, List, ℕ, Option, length};
-    ghost use Rattle.c_meaning.specs.Given.{values};
+    ghost use Rattle.c_meaning.specs.inside.Given.{values};
 
     ghost Value = { List (Option ℕ) };
 

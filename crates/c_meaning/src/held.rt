@@ -2,15 +2,16 @@
 //! evaluate have no room for frames.
 
 ghost use Rattle.std.specs.Prelude.{◌≡◌, ◌++◌, ◌∷◌, [], map, Some};
-ghost use Rattle.c_meaning_spec.specs.State.{Result as Meant, then, want};
+ghost use Rattle.c_meaning_spec.specs.State.{Result as Meant, want};
+ghost use Rattle.c_meaning_spec.specs.inside.State.{then};
 ghost use Rattle.c_meaning_spec.specs.Expression.{after_left, operated, assign_element, assigned};
 ghost use Rattle.c_meaning_spec.specs.Expression.{after_and, after_or, converting, compounded};
 ghost use Rattle.c_meaning_spec.specs.Expression.{assign_row, assign_after_row};
 ghost use Rattle.c_meaning_spec.specs.Call.{arguments};
 ghost use Rattle.c_meaning_spec.specs.Task.{element as element_in, row_element, after_row};
 ghost use Rattle.c_meaning_spec.specs.Eval.{meaning};
-ghost use Rattle.c_meaning.specs.Direct.{Stopped, Values};
-ghost use Rattle.c_meaning.specs.Given.{words};
+ghost use Rattle.c_meaning.specs.inside.Direct.{Stopped, Values};
+ghost use Rattle.c_meaning.specs.inside.Given.{words};
 ghost use Rattle.c_meaning_spec.specs.declared.Object.TheVariants.{InArray, InScalar};
 
 use crate::arguments::Arguments;

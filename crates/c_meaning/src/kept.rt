@@ -1,11 +1,12 @@
 //! What follows a part of a statement that was not evaluated to its end, in functions of their own.
 
-ghost use Rattle.c_meaning_spec.specs.State.{Result as Meant, then};
+ghost use Rattle.c_meaning_spec.specs.State.{Result as Meant};
+ghost use Rattle.c_meaning_spec.specs.inside.State.{then};
 ghost use Rattle.c_meaning_spec.specs.Task.{Turn};
 ghost use Rattle.c_meaning_spec.specs.Statement as meant;
 ghost use Rattle.c_meaning_spec.specs.Eval.{meaning};
-ghost use Rattle.c_meaning.specs.View.{behind};
-ghost use Rattle.c_meaning.specs.Direct.{Stopped, Runs, Turned};
+ghost use Rattle.c_meaning.specs.inside.View.{behind};
+ghost use Rattle.c_meaning.specs.inside.Direct.{Stopped, Runs, Turned};
 
 use crate::direct::Ran;
 use crate::frame::{Frame, Loop, Stage};

@@ -1,12 +1,12 @@
 //! Loops that are evaluated at once.
 
 ghost use Rattle.c_tree.specs.declared.TypedForInit.{out-TypedForInit};
-ghost use Rattle.c_meaning_spec.specs.State.{then};
+ghost use Rattle.c_meaning_spec.specs.inside.State.{then};
 ghost use Rattle.c_meaning_spec.specs.Task.{Of, Run, Turn};
 ghost use Rattle.c_meaning_spec.specs.Statement as meant;
 ghost use Rattle.c_meaning_spec.specs.Eval.{meaning};
-ghost use Rattle.c_meaning.specs.View.{behind, view};
-ghost use Rattle.c_meaning.specs.Direct.{Runs, Turned};
+ghost use Rattle.c_meaning.specs.inside.View.{behind, view};
+ghost use Rattle.c_meaning.specs.inside.Direct.{Runs, Turned};
 
 use crate::direct::{Ran, Stop};
 use crate::frame::Loop;

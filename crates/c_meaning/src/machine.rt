@@ -2,8 +2,8 @@
 
 ghost use Rattle.std.specs.Prelude.{◌≡◌, ◌++◌, map, IfOk, OnOk};
 ghost use Rattle.c_meaning_spec.specs.State.{Result as Reached};
-ghost use Rattle.c_meaning.specs.Direct.{Leads, Runs, Stopped, Values};
-ghost use Rattle.c_meaning.specs.View.{follow, frames, view};
+ghost use Rattle.c_meaning.specs.inside.Direct.{Leads, Runs, Stopped, Values};
+ghost use Rattle.c_meaning.specs.inside.View.{follow, frames, view};
 
 use crate::direct::{Ran, Stop};
 use crate::frame::{Frame, Move, Task};

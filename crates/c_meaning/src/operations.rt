@@ -1,13 +1,13 @@
 //! Operations on two operands, choices and commas that are evaluated at once.
 
-ghost use Rattle.c_meaning_spec.specs.State.{then};
+ghost use Rattle.c_meaning_spec.specs.inside.State.{then};
 ghost use Rattle.c_meaning_spec.specs.Task.{Of};
 ghost use Rattle.c_meaning_spec.specs.Expression.{binary, operated, valued};
 ghost use Rattle.c_meaning_spec.specs.Expression.{after_left, after_and, after_or, after_choice, after_comma};
 ghost use Rattle.c_meaning_spec.specs.Expression as meant_expression;
 ghost use Rattle.c_meaning_spec.specs.Eval.{meaning};
-ghost use Rattle.c_meaning.specs.View.{view};
-ghost use Rattle.c_meaning.specs.Direct.{Values};
+ghost use Rattle.c_meaning.specs.inside.View.{view};
+ghost use Rattle.c_meaning.specs.inside.Direct.{Values};
 
 use crate::frame::{Frame, Operand};
 use crate::host::OPERATION;

@@ -1,13 +1,13 @@
 //! What a frame makes of what the part before it gave.
 
 ghost use Rattle.std.specs.Prelude.{IfOk, ◌++◌};
-ghost use Rattle.c_meaning_spec.specs.State.{then};
+ghost use Rattle.c_meaning_spec.specs.inside.State.{then};
 ghost use Rattle.c_meaning_spec.specs.Statement as meant;
 ghost use Rattle.c_meaning_spec.specs.Statement.{bodies};
 ghost use Rattle.c_meaning_spec.specs.Eval.{meaning};
-ghost use Rattle.c_meaning.specs.Ahead.{back_of};
-ghost use Rattle.c_meaning.specs.Direct.{Leads};
-ghost use Rattle.c_meaning.specs.View.{behind, follow, view};
+ghost use Rattle.c_meaning.specs.inside.Ahead.{back_of};
+ghost use Rattle.c_meaning.specs.inside.Direct.{Leads};
+ghost use Rattle.c_meaning.specs.inside.View.{behind, follow, view};
 
 use crate::frame::{Frame, Loop, Move, Operand, Stage, Task};
 use crate::host::MOST_DEPTH;

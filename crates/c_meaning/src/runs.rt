@@ -2,13 +2,14 @@
 
 ghost use Rattle.std.specs.Prelude.{◌≡◌, ◌++◌, slice_get};
 ghost use Rattle.c_tree.specs.declared.TypedStmt.{out-TypedStmt};
-ghost use Rattle.c_meaning_spec.specs.State.{then, store};
+ghost use Rattle.c_meaning_spec.specs.State.{store};
+ghost use Rattle.c_meaning_spec.specs.inside.State.{then};
 ghost use Rattle.c_meaning_spec.specs.Task.{Of, Run};
 ghost use Rattle.c_meaning_spec.specs.Statement as meant;
 ghost use Rattle.c_meaning_spec.specs.Statement.{bodies};
 ghost use Rattle.c_meaning_spec.specs.Eval.{meaning};
-ghost use Rattle.c_meaning.specs.View.{behind, view};
-ghost use Rattle.c_meaning.specs.Direct.{Runs};
+ghost use Rattle.c_meaning.specs.inside.View.{behind, view};
+ghost use Rattle.c_meaning.specs.inside.Direct.{Runs};
 
 use crate::compare::Compared;
 use crate::direct::{Ran, Stop};

@@ -3,7 +3,7 @@
 ghost use Rattle.std.specs.Prelude.{◌≡◌, ◌++◌, ◌∷◌, [], Some, length, slice_get, slice_set};
 ghost use Rattle.std.specs.Prelude.{◌↔◌, IsTrue, IsFalse, IsSome, IfSome, OnOk, SomeIff};
 ghost use Rattle.c_meaning_spec.specs.State.{held};
-ghost use Rattle.c_meaning.specs.Given.{alone};
+ghost use Rattle.c_meaning.specs.inside.Given.{alone};
 
 use crate::few::Few;
 use std::alloc::{AllocError, Global};

@@ -5,7 +5,7 @@ ghost use Rattle.c_meaning_spec.specs.State.{held, cell, row_in, written};
 ghost use Rattle.c_meaning_spec.specs.Task.{array_of as array_number, element_of as element_object};
 ghost use Rattle.c_meaning_spec.specs.Task.{scalar_of as scalar_object, row_size, place_in as place};
 ghost use Rattle.c_meaning_spec.specs.Task.{row_element_of as row_element_object};
-ghost use Rattle.c_meaning.specs.View.{view};
+ghost use Rattle.c_meaning.specs.inside.View.{view};
 
 use crate::arrays::Arrays;
 use crate::direct::Stop;

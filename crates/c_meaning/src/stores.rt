@@ -4,13 +4,14 @@
 ghost use Rattle.std.specs.Prelude.{Some};
 ghost use Rattle.c_tree.specs.TypedTrees.{node_of};
 ghost use Rattle.c_meaning_spec.specs.declared.Object.TheVariants.{InArray, InScalar};
-ghost use Rattle.c_meaning_spec.specs.State.{then, with_some, store};
+ghost use Rattle.c_meaning_spec.specs.State.{with_some, store};
+ghost use Rattle.c_meaning_spec.specs.inside.State.{then};
 ghost use Rattle.c_meaning_spec.specs.Task.{Of, element_of as element_in_place, scalar_of as scalar_in};
 ghost use Rattle.c_meaning_spec.specs.Expression.{assign, assign_to, assigned};
 ghost use Rattle.c_meaning_spec.specs.Expression as meant_expression;
 ghost use Rattle.c_meaning_spec.specs.Eval.{meaning};
-ghost use Rattle.c_meaning.specs.View.{view};
-ghost use Rattle.c_meaning.specs.Direct.{Values};
+ghost use Rattle.c_meaning.specs.inside.View.{view};
+ghost use Rattle.c_meaning.specs.inside.Direct.{Values};
 
 use crate::direct::Stop;
 use crate::host::OPERATION;

@@ -1,13 +1,14 @@
 //! Assignments to elements by two indexes that are evaluated at once.
 
 ghost use Rattle.std.specs.Prelude.{Some};
-ghost use Rattle.c_meaning_spec.specs.State.{then, with_some};
+ghost use Rattle.c_meaning_spec.specs.State.{with_some};
+ghost use Rattle.c_meaning_spec.specs.inside.State.{then};
 ghost use Rattle.c_meaning_spec.specs.Task.{Of, row_element_of as row_element_in_place};
 ghost use Rattle.c_meaning_spec.specs.Expression.{assign_to};
 ghost use Rattle.c_meaning_spec.specs.Expression as meant_expression;
 ghost use Rattle.c_meaning_spec.specs.Eval.{meaning};
-ghost use Rattle.c_meaning.specs.View.{view};
-ghost use Rattle.c_meaning.specs.Direct.{Values};
+ghost use Rattle.c_meaning.specs.inside.View.{view};
+ghost use Rattle.c_meaning.specs.inside.Direct.{Values};
 
 use crate::direct::Stop;
 use crate::host::OPERATION;

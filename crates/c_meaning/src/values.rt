@@ -2,13 +2,14 @@
 
 ghost use Rattle.std.specs.Prelude.{◌≡◌, slice_get};
 ghost use Rattle.c_tree.specs.TypedTrees.{node_of};
-ghost use Rattle.c_meaning_spec.specs.State.{Go, then, spend, load};
+ghost use Rattle.c_meaning_spec.specs.State.{Go, spend, load};
+ghost use Rattle.c_meaning_spec.specs.inside.State.{then};
 ghost use Rattle.c_meaning_spec.specs.Task.{Of, name as name_of, element as element_in, after_row, row_element};
 ghost use Rattle.c_meaning_spec.specs.Task.{is_array as is_array_in, has_length};
 ghost use Rattle.c_meaning_spec.specs.Expression.{expression, node, opened, converting, unary};
 ghost use Rattle.c_meaning_spec.specs.Eval.{meaning};
-ghost use Rattle.c_meaning.specs.View.{view};
-ghost use Rattle.c_meaning.specs.Direct.{Values};
+ghost use Rattle.c_meaning.specs.inside.View.{view};
+ghost use Rattle.c_meaning.specs.inside.Direct.{Values};
 
 use crate::direct::Stop;
 use crate::frame::Frame;

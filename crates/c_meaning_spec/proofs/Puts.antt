@@ -29,9 +29,10 @@ use Rattle.c_meaning_spec.specs.declared.signal.Ending.{Ending}
 use Rattle.c_meaning_spec.specs.declared.signal.Ending.TheVariants.{More, Undefined, Deep}
 use Rattle.c_meaning_spec.specs.declared.signal.Object.{Object}
 use Rattle.c_meaning_spec.specs.declared.signal.Object.TheVariants.{InScalar, InArray}
-use Rattle.c_meaning_spec.specs.State.{State, Result, Go, Over, then, spend, spend_of, want, with_some}
+use Rattle.c_meaning_spec.specs.State.{State, Result, Go, Over, spend, spend_of, want, with_some}
+use Rattle.c_meaning_spec.specs.inside.State.{then}
 use Rattle.c_meaning_spec.specs.State.{given, cell, held, written, load, store, store_in}
-use Rattle.c_meaning_spec.specs.Output.{output_of, IsPrefix}
+use Rattle.c_meaning_spec.specs.inside.Output.{output_of, IsPrefix}
 use Rattle.c_meaning_spec.specs.Word.{is_false, compound_of, bump_of, bump_value}
 use Rattle.c_meaning_spec.specs.Task.{Task, Of, Run, Turn, Parts, element_of, scalar_of, is_array, name}
 use Rattle.c_meaning_spec.specs.Task.{element, row_element_of, row_element, after_row}

@@ -8,11 +8,12 @@ use Rattle.c_meaning_spec.specs.declared.signal.Signal.TheVariants.{Nothing, Val
 use Rattle.c_meaning_spec.specs.declared.signal.Signal.TheVariants.{Continues, Returns}
 use Rattle.c_meaning_spec.specs.declared.signal.Ending.TheVariants.{More, Undefined, Deep}
 use Rattle.c_meaning_spec.specs.State.{State, Result, Go, Over}
-use Rattle.c_meaning_spec.specs.Output.{IsPrefix, output_of}
+use Rattle.c_meaning_spec.specs.inside.Output.{IsPrefix, output_of}
 use Rattle.c_meaning_spec.specs.Call.{called}
 use Rattle.c_meaning_spec.specs.Eval.{Outcome, Stopped, Done, meaning, ended, start, outcome, eval}
-use Rattle.c_meaning_spec.specs.Laws.{IsMore, output_in, StaysWithMoreSteps, StepsAreLeast, OutputGoesOn}
-use Rattle.c_meaning_spec.specs.Laws.{MeansByParts}
+use Rattle.c_meaning_spec.specs.Laws.{IsMore}
+use Rattle.c_meaning_spec.specs.inside.Laws.{output_in, StaysWithMoreSteps, StepsAreLeast, OutputGoesOn}
+use Rattle.c_meaning_spec.specs.inside.Laws.{MeansByParts}
 use Rattle.c_meaning_spec.proofs.Puts.{Puts, stock_of, same-prefix, p-meaning, p-called}
 use Rattle.c_meaning_spec.proofs.Grows.{more, Grew, Within, g-called}
 use Rattle.c_meaning_spec.proofs.Equations.{weaker, meaning-more, meaning-is}
@@ -159,7 +160,7 @@ exact P input n out result steps (Go v s) is e l whole =
     enough steps s.stock (run P input steps) (run P input (steps + s.stock)) v s
     (grown P input steps s.stock) there refl in
     let same : eval P input (steps + s.stock) ≡ eval P input steps =
-        stays-with-more-steps P input steps s.stock not in
+    stays-with-more-steps P input steps s.stock not in
     let most : steps ≤ n = omega arith in (
       most,
       sym same ∙ (ap (eval P input) split ∙ whole),

@@ -13,7 +13,8 @@ use Rattle.c_constant.specs.Kinds.{bytes}
 use Rattle.c_meaning_spec.specs.declared.signal.Signal.{Signal}
 use Rattle.c_meaning_spec.specs.declared.signal.Signal.TheVariants.{Nothing, Value, Returns}
 use Rattle.c_meaning_spec.specs.declared.signal.Ending.TheVariants.{Undefined, Deep}
-use Rattle.c_meaning_spec.specs.State.{State, Result, Go, Over, then, spend, want}
+use Rattle.c_meaning_spec.specs.State.{State, Result, Go, Over, spend, want}
+use Rattle.c_meaning_spec.specs.inside.State.{then}
 use Rattle.c_meaning_spec.specs.Task.{Parts, Of, Run}
 
 -- the bytes of an array, rounded up to 8

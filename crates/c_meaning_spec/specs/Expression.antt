@@ -16,7 +16,8 @@ use Rattle.c_meaning_spec.specs.declared.signal.Signal.{Signal}
 use Rattle.c_meaning_spec.specs.declared.signal.Signal.TheVariants.{Value}
 use Rattle.c_meaning_spec.specs.declared.signal.Ending.TheVariants.{Undefined}
 use Rattle.c_meaning_spec.specs.declared.signal.Object.{Object}
-use Rattle.c_meaning_spec.specs.State.{State, Result, Go, Over, then, spend, want, with_some, given, cell}
+use Rattle.c_meaning_spec.specs.State.{State, Result, Go, Over, spend, want, with_some, given, cell}
+use Rattle.c_meaning_spec.specs.inside.State.{then}
 use Rattle.c_meaning_spec.specs.State.{held, store}
 use Rattle.c_constant.specs.Kinds.{converted}
 use Rattle.c_meaning_spec.specs.Word.{is_false, truth_of, binary_of, unary_of, compound_of, bump_of}

@@ -33,11 +33,6 @@ pub data Result : Type 0 where
   Go : (v : Signal) (s : State) → Result
   Over : (why : Ending) (s : State) → Result
 
--- a part, and then what follows it
-abbrev pub then : Result → (Signal → State → Result) → Result
-then (Go v s) next = next v s
-then (Over why s) next = Over why s
-
 -- a step, if one is left
 abbrev pub spend_of : ℕ → State → (State → Result) → Result
 spend_of zero s next = Over More s

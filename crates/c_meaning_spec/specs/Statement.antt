@@ -16,7 +16,8 @@ use Rattle.c_meaning_spec.specs.declared.signal.Signal.{Signal}
 use Rattle.c_meaning_spec.specs.declared.signal.Signal.TheVariants.{Nothing, Breaks, Continues, Returns}
 use Rattle.c_meaning_spec.specs.declared.signal.Ending.TheVariants.{Undefined}
 use Rattle.c_meaning_spec.specs.declared.signal.Object.TheVariants.{InScalar}
-use Rattle.c_meaning_spec.specs.State.{State, Result, Go, Over, then, spend, want, cell, written, store}
+use Rattle.c_meaning_spec.specs.State.{State, Result, Go, Over, spend, want, cell, written, store}
+use Rattle.c_meaning_spec.specs.inside.State.{then}
 use Rattle.c_meaning_spec.specs.Word.{is_false}
 use Rattle.c_meaning_spec.specs.Task.{Parts, Of, Run, Turn}
 

@@ -11,7 +11,8 @@ use Rattle.c_meaning_spec.specs.declared.signal.Signal.{Signal}
 use Rattle.c_meaning_spec.specs.declared.signal.Signal.TheVariants.{Value}
 use Rattle.c_meaning_spec.specs.declared.signal.Object.{Object}
 use Rattle.c_meaning_spec.specs.declared.signal.Object.TheVariants.{InScalar, InArray}
-use Rattle.c_meaning_spec.specs.State.{State, Result, Go, then, want, with_some, cell, held, load}
+use Rattle.c_meaning_spec.specs.State.{State, Result, Go, want, with_some, cell, held, load}
+use Rattle.c_meaning_spec.specs.inside.State.{then}
 use Rattle.c_meaning_spec.specs.State.{row_in}
 
 -- an expression, a statement, or a loop from its test on

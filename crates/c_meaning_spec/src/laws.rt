@@ -1,4 +1,4 @@
-ghost use Rattle.c_meaning_spec.specs.Laws.{StaysWithMoreSteps, StepsAreLeast, OutputGoesOn, MeansByParts};
+ghost use Rattle.c_meaning_spec.specs.inside.Laws.{StaysWithMoreSteps, StepsAreLeast, OutputGoesOn, MeansByParts};
 
 /// A result other than More stays with more steps.
 pub fn result_stays_with_more_steps()

@@ -4,14 +4,14 @@ use Rattle.std.proofs.Common.{subst, arith}
 use Rattle.c_tree.specs.declared.token.Lexeme.{Lexeme}
 use Rattle.c_tree.specs.declared.tree.Top.{Top}
 use Rattle.c_grammar.specs.Tokens.{Tokens}
-use Rattle.c_grammar.specs.Parsing.{Out, syntax, too_deep}
-use Rattle.c_grammar.specs.ModelUnits.{unit_of}
-use Rattle.c_grammar.specs.Places.{Exact, settle}
+use Rattle.c_grammar.specs.inside.Parsing.{Out, syntax, too_deep}
+use Rattle.c_grammar.specs.inside.ModelUnits.{unit_of}
+use Rattle.c_grammar.specs.inside.Places.{Exact, settle}
 use Rattle.c_grammar.specs.Answers.{last_line, HasSyntaxFault, wrong_token, too_short, opener}
 use Rattle.c_grammar.specs.Accepted.{limit, UnitIs, IsUnit}
 use Rattle.c_grammar.proofs.Parsed.{unit_exact}
-use Rattle.c_parse.specs.Parses.{ParseFails, fault_line, depth_fault}
-use Rattle.c_parse.specs.Reads.{Reads}
+use Rattle.c_parse.specs.inside.Parses.{ParseFails, fault_line, depth_fault}
+use Rattle.c_parse.specs.inside.Reads.{Reads}
 use Rattle.c_parse.specs.declared.fault.Stopped.{Stopped}
 use Rattle.c_parse.specs.declared.fault.Stopped.TheVariants as stopped
 use Rattle.c_parse.specs.declared.unit.ParseFault.{ParseFault}

@@ -5,11 +5,12 @@ use Rattle.std.proofs.lemmas.Bool.{ne_eqb, eq-eqb}
 use Rattle.c_tree.specs.declared.tree.Expr.{Expr}
 use Rattle.c_tree.specs.declared.tree.BinaryOp.{BinaryOp}
 use Rattle.c_grammar.specs.Tokens.{Tokens}
-use Rattle.c_grammar.specs.Operators.{binary_level, op, joined}
-use Rattle.c_grammar.specs.Parsing.{Stop, Out, and_then, tail}
-use Rattle.c_grammar.specs.ModelExpressions.{seen, loop, inside, binary_of, cast_of}
-use Rattle.c_parse.specs.Reads.{operator_at, joins_by, Outside, Inside, Fails}
-use Rattle.c_parse.specs.Operands.{climb, joined_of}
+use Rattle.c_grammar.specs.Operators.{op, joined}
+use Rattle.c_grammar.specs.inside.Operators.{binary_level}
+use Rattle.c_grammar.specs.inside.Parsing.{Stop, Out, and_then, tail}
+use Rattle.c_grammar.specs.inside.ModelExpressions.{seen, loop, inside, binary_of, cast_of}
+use Rattle.c_parse.specs.inside.Reads.{operator_at, joins_by, Outside, Inside, Fails}
+use Rattle.c_parse.specs.inside.Operands.{climb, joined_of}
 use Rattle.c_parse.specs.declared.fault.Stopped.{Stopped}
 use Rattle.c_parse.specs.declared.fault.Stopped.TheVariants as stopped
 use Rattle.c_parse.proofs.ParserLoops.{of_level, operator_is, turn_on, turn_off, turns_end, turn_shorter}

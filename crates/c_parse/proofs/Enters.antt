@@ -2,10 +2,10 @@
 use Rattle.std.proofs.Common.{◌≡◌, ℕ, suc, Bool, true, false, cond, Ok, refl, sym, ap, ◌∙◌}
 use Rattle.c_tree.specs.declared.token.Mark.{Mark}
 use Rattle.c_grammar.specs.Tokens.{Tokens}
-use Rattle.c_grammar.specs.Parsing.{Out, syntax, too_deep, tail, line_of, is_next}
-use Rattle.c_grammar.specs.ModelExpressions.{Nested, enter, inside}
+use Rattle.c_grammar.specs.inside.Parsing.{Out, syntax, too_deep, tail, line_of, is_next}
+use Rattle.c_grammar.specs.inside.ModelExpressions.{Nested, enter, inside}
 use Rattle.c_grammar.proofs.Agree.{if_true}
-use Rattle.c_parse.specs.Reads.{opened, Enters}
+use Rattle.c_parse.specs.inside.Reads.{opened, Enters}
 
 inside_is : (l : ℕ) → inside (suc l) ≡ opened l
 unfolding inside

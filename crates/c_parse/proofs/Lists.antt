@@ -8,14 +8,16 @@ use Rattle.c_tree.specs.declared.token.Mark.{Mark}
 use Rattle.c_tree.specs.declared.token.Mark.TheVariants as mark
 use Rattle.c_tree.specs.declared.tree.Top.{Top}
 use Rattle.c_grammar.specs.Tokens.{Tokens}
-use Rattle.c_grammar.specs.Parsing.{Stop, Out, and_then, syntax, tail, line_of, is_next, expect, listed, is_end, to_end}
-use Rattle.c_grammar.specs.ModelExpressions.{inside, conditional_of}
-use Rattle.c_grammar.specs.ModelStatements.{below_at, compound_of}
-use Rattle.c_grammar.specs.ModelUnits.{row_of, rows_of}
-use Rattle.c_grammar.specs.ModelUnits.{values_of, global_of, more_globals_of, param_of, param_list_of, item_of, unit_of}
+use Rattle.c_grammar.specs.inside.Parsing.{Stop, Out, and_then, syntax, tail, line_of, is_next, expect, listed}
+use Rattle.c_grammar.specs.inside.Parsing.{is_end, to_end}
+use Rattle.c_grammar.specs.inside.ModelExpressions.{inside, conditional_of}
+use Rattle.c_grammar.specs.inside.ModelStatements.{below_at, compound_of}
+use Rattle.c_grammar.specs.inside.ModelUnits.{row_of, rows_of}
+use Rattle.c_grammar.specs.inside.ModelUnits.{values_of, global_of, more_globals_of, param_of, param_list_of, item_of}
+use Rattle.c_grammar.specs.inside.ModelUnits.{unit_of}
 use Rattle.c_grammar.proofs.Agree.{if_true, if_false}
-use Rattle.c_parse.specs.Reads.{behind, Fails, Puts}
-use Rattle.c_parse.specs.Lists.{global_list_of}
+use Rattle.c_parse.specs.inside.Reads.{behind, Fails, Puts}
+use Rattle.c_parse.specs.inside.Lists.{global_list_of}
 use Rattle.c_parse.specs.declared.fault.Stopped.{Stopped}
 use Rattle.c_parse.specs.declared.fault.Stopped.TheVariants as stopped
 use Rattle.c_parse.proofs.ParserLoops.{behind_none, listed_init}

@@ -11,16 +11,17 @@ use Rattle.c_tree.specs.declared.token.Key.TheVariants as key
 use Rattle.c_tree.specs.declared.token.Mark.{Mark}
 use Rattle.c_tree.specs.declared.token.Mark.TheVariants as mark
 use Rattle.c_grammar.specs.Tokens.{Tokens}
-use Rattle.c_grammar.specs.Parsing.{Stop, Out, and_then, syntax, too_deep, tail, first, is_next, is_word}
-use Rattle.c_grammar.specs.Parsing.{listed, many, repeated}
-use Rattle.c_grammar.specs.ModelTypes.{begins_type}
-use Rattle.c_grammar.specs.ModelExpressions.{inside, is_name}
-use Rattle.c_grammar.specs.ModelStatements.{begins_statement, decl_of, decls_of, locals_of, entry_of, entries_of}
-use Rattle.c_grammar.specs.ModelStatements.{stmt_of, simple_of, plain_of, return_of, below_at}
-use Rattle.c_grammar.specs.ModelStatements.{begins_label, label_of, labels_of, body_of, section_of}
-use Rattle.c_grammar.specs.ModelStatements.{sections_of}
+use Rattle.c_grammar.specs.inside.Parsing.{Stop, Out, and_then, syntax, too_deep, tail, first, is_next, is_word}
+use Rattle.c_grammar.specs.inside.Parsing.{listed, many, repeated}
+use Rattle.c_grammar.specs.inside.ModelTypes.{begins_type}
+use Rattle.c_grammar.specs.inside.ModelExpressions.{inside, is_name}
+use Rattle.c_grammar.specs.inside.ModelStatements.{begins_statement, decl_of, decls_of, locals_of, entry_of}
+use Rattle.c_grammar.specs.inside.ModelStatements.{entries_of}
+use Rattle.c_grammar.specs.inside.ModelStatements.{stmt_of, simple_of, plain_of, return_of, below_at}
+use Rattle.c_grammar.specs.inside.ModelStatements.{begins_label, label_of, labels_of, body_of, section_of}
+use Rattle.c_grammar.specs.inside.ModelStatements.{sections_of}
 use Rattle.c_grammar.proofs.Numbers.{key_is}
-use Rattle.c_parse.specs.Reads.{behind, Fails}
+use Rattle.c_parse.specs.inside.Reads.{behind, Fails}
 use Rattle.c_parse.specs.declared.fault.Stopped.{Stopped}
 use Rattle.c_parse.specs.declared.fault.Stopped.TheVariants as stopped
 use Rattle.c_parse.proofs.ParserLoops.{behind_none}

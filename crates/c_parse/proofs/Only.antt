@@ -2,10 +2,11 @@
 use Rattle.std.proofs.Common.{◌≡◌, List, refl, sym, ap, ◌∙◌}
 use Rattle.c_tree.specs.declared.tree.Top.{Top}
 use Rattle.c_grammar.specs.Tokens.{Tokens}
-use Rattle.c_grammar.specs.Answers.{Answer, tree, syntax, too_deep, Answers}
+use Rattle.c_grammar.specs.inside.Answers.{Answer, tree, syntax, too_deep, Answers}
 use Rattle.c_grammar.specs.Accepted.{IsUnit}
 use Rattle.c_grammar.proofs.OneAnswer.{same_answer}
-use Rattle.c_parse.specs.Parses.{ParseFails, HasFault, IsMemory, Tells}
+use Rattle.c_parse.specs.Parses.{HasFault}
+use Rattle.c_parse.specs.inside.Parses.{ParseFails, IsMemory, Tells}
 use Rattle.c_parse.specs.declared.unit.ParseFault.{ParseFault}
 use Rattle.c_parse.specs.declared.unit.ParseFault.TheVariants.{Syntax, TooDeep, Memory}
 

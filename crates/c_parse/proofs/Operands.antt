@@ -10,13 +10,14 @@ use Rattle.c_tree.specs.declared.tree.Expr.{Expr}
 use Rattle.c_tree.specs.declared.tree.ExprNode.TheVariants as node
 use Rattle.c_grammar.specs.Tokens.{Tokens}
 use Rattle.c_grammar.specs.Operators.{at, Assigner}
-use Rattle.c_grammar.specs.Parsing.{Out, and_then}
-use Rattle.c_grammar.specs.ModelExpressions.{Nested, inside, suffixes, after_name, named_of}
-use Rattle.c_grammar.specs.ModelExpressions.{primary_of, postfix_of, unary_of, cast_of, choice_from, assign_from}
-use Rattle.c_grammar.specs.ModelExpressions.{assigner_for, is_unary, conditional_of, assignment_of}
-use Rattle.c_parse.specs.Reads.{joins_by}
-use Rattle.c_parse.specs.Operands.{is_atom, ends_atom, is_leaf, leaf_by, leaf_of, closes, is_closed, joined_of}
-use Rattle.c_parse.specs.Operands.{assignment_from}
+use Rattle.c_grammar.specs.inside.Parsing.{Out, and_then}
+use Rattle.c_grammar.specs.inside.ModelExpressions.{Nested, inside, suffixes, after_name, named_of}
+use Rattle.c_grammar.specs.inside.ModelExpressions.{primary_of, postfix_of, unary_of, cast_of, choice_from}
+use Rattle.c_grammar.specs.inside.ModelExpressions.{assign_from}
+use Rattle.c_grammar.specs.inside.ModelExpressions.{assigner_for, is_unary, conditional_of, assignment_of}
+use Rattle.c_parse.specs.inside.Reads.{joins_by}
+use Rattle.c_parse.specs.inside.Operands.{is_atom, ends_atom, is_leaf, leaf_by, leaf_of, closes, is_closed, joined_of}
+use Rattle.c_parse.specs.inside.Operands.{assignment_from}
 use Rattle.c_parse.proofs.Climbs.{then_then, joins, joined_none}
 
 -- a token of that line

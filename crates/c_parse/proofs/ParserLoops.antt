@@ -13,20 +13,23 @@ use Rattle.c_tree.specs.declared.tree.Expr.{Expr}
 use Rattle.c_tree.specs.declared.tree.BinaryOp.{BinaryOp}
 use Rattle.c_tree.specs.declared.tree.BinaryOp.TheVariants as binary
 use Rattle.c_grammar.specs.Tokens.{Tokens}
-use Rattle.c_grammar.specs.Operators.{binary_level, Joiner, op, comma, joiner_mark, joined, below, Suffix, suffixed}
+use Rattle.c_grammar.specs.Operators.{Joiner, op, comma, joiner_mark, joined, below, Suffix, suffixed}
+use Rattle.c_grammar.specs.inside.Operators.{binary_level}
 use Rattle.c_grammar.specs.Operators.{Assigner, assigner_mark, assigner_op}
-use Rattle.c_grammar.specs.Numbers.{is_mark}
-use Rattle.c_grammar.specs.Parsing.{Stop, Out, and_then, by_option, syntax, tail, line_of, is_next, expect, listed}
-use Rattle.c_grammar.specs.ModelExpressions.{joiner, marked_joiner, if_below, seen, loop, suffixes, suffix_of}
-use Rattle.c_grammar.specs.ModelExpressions.{assigner_for, assigned_of, assign_from, arg_list_of, inside, cast_of}
-use Rattle.c_grammar.specs.ModelExpressions.{binary_of, assignment_of, expression_of, postfix_of, primary_of}
+use Rattle.c_grammar.specs.inside.Numbers.{is_mark}
+use Rattle.c_grammar.specs.inside.Parsing.{Stop, Out, and_then, by_option, syntax, tail, line_of, is_next, expect}
+use Rattle.c_grammar.specs.inside.Parsing.{listed}
+use Rattle.c_grammar.specs.inside.ModelExpressions.{joiner, marked_joiner, if_below, seen, loop, suffixes, suffix_of}
+use Rattle.c_grammar.specs.inside.ModelExpressions.{assigner_for, assigned_of, assign_from, arg_list_of, inside}
+use Rattle.c_grammar.specs.inside.ModelExpressions.{cast_of}
+use Rattle.c_grammar.specs.inside.ModelExpressions.{binary_of, assignment_of, expression_of, postfix_of, primary_of}
 use Rattle.c_grammar.proofs.Agree.{place}
 use Rattle.c_grammar.proofs.Numbers.{mark_is}
 use Rattle.c_grammar.proofs.Pieces.{same_tree, always, sound_short}
 use Rattle.c_grammar.proofs.Stops.{by_some, by_none, joiner_is}
 use Rattle.c_grammar.proofs.Joins.{Level}
 use Rattle.c_grammar.proofs.Inside.{inside_known, level_is, binary_piece, assignment_piece}
-use Rattle.c_parse.specs.Reads.{operator_of, operator_at, joins_by, IsAssigner, Fails, Reads, opened, behind}
+use Rattle.c_parse.specs.inside.Reads.{operator_of, operator_at, joins_by, IsAssigner, Fails, Reads, opened, behind}
 use Rattle.c_parse.specs.declared.fault.Stopped.{Stopped}
 use Rattle.c_parse.specs.declared.fault.Stopped.TheVariants as stopped
 

@@ -1,11 +1,11 @@
 //! Binary, conditional, assignment and comma expressions (C17 6.5.5 to 6.5.17).
 
 ghost use Rattle.std.specs.Prelude.{◌≡◌, ◌≤◌, ◌<◌, length, [], ◌∷◌, MatchOption};
-ghost use Rattle.c_grammar.specs.ModelExpressions as model;
+ghost use Rattle.c_grammar.specs.inside.ModelExpressions as model;
 ghost use Rattle.c_grammar.specs.Operators.{Assigner, assigner_mark, assigner_op};
-ghost use Rattle.c_parse.specs.Operands as operands;
-ghost use Rattle.c_parse.specs.Reads as reads;
-ghost use Rattle.c_parse.specs.Reads.{Reads, joins_by, IsAssigner};
+ghost use Rattle.c_parse.specs.inside.Operands as operands;
+ghost use Rattle.c_parse.specs.inside.Reads as reads;
+ghost use Rattle.c_parse.specs.inside.Reads.{Reads, joins_by, IsAssigner};
 
 use crate::fault::Stopped;
 use crate::make;
@@ -13,7 +13,7 @@ use crate::parser::Parser;
 use base::Boxed;
 use c_tree::{BinaryOp, Expr, ExprNode, Form, Mark};
 
-#[tactic(auto, unfolding(c_grammar::specs::ModelExpressions::is_unary))]
+#[tactic(auto, unfolding(c_grammar::specs::inside::ModelExpressions::is_unary))]
 fn is_unary(e: &Expr) -> bool
     ensures { result ≡ model.is_unary e.now }
 {
@@ -137,7 +137,7 @@ impl Parser<'_> {
     }
 
     #[cycle(expression)]
-    #[tactic(auto, unfolding(c_grammar::specs::ModelExpressions::chosen_of))]
+    #[tactic(auto, unfolding(c_grammar::specs::inside::ModelExpressions::chosen_of))]
     fn chosen(&mut self, left: u8, test: Boxed<Expr>) -> Result<Boxed<Expr>, Stopped>
         ensures { Reads (model.chosen_of (model.inside left) test self.old.rest.now) result
             self.new.rest.now }
@@ -150,7 +150,7 @@ impl Parser<'_> {
     }
 
     #[cycle(expression)]
-    #[tactic(auto, unfolding(c_grammar::specs::ModelExpressions::choice_from))]
+    #[tactic(auto, unfolding(c_grammar::specs::inside::ModelExpressions::choice_from))]
     fn choice(&mut self, left: u8, test: Boxed<Expr>) -> Result<Boxed<Expr>, Stopped>
         ensures { Reads (model.choice_from (model.inside left) test self.old.rest.now) result
             self.new.rest.now }
@@ -162,7 +162,7 @@ impl Parser<'_> {
     }
 
     #[cycle(expression)]
-    #[tactic(auto, unfolding(c_grammar::specs::ModelExpressions::conditional_of))]
+    #[tactic(auto, unfolding(c_grammar::specs::inside::ModelExpressions::conditional_of))]
     pub fn conditional(&mut self, left: u8) -> Result<Boxed<Expr>, Stopped>
         ensures { Reads (model.conditional_of (model.inside left) self.old.rest.now) result
             self.new.rest.now }
@@ -185,7 +185,7 @@ impl Parser<'_> {
     }
 
     #[cycle(expression)]
-    #[tactic(auto, unfolding(c_grammar::specs::ModelExpressions::assigned_of))]
+    #[tactic(auto, unfolding(c_grammar::specs::inside::ModelExpressions::assigned_of))]
     fn assigned(
         &mut self,
         left: u8,
@@ -203,7 +203,7 @@ impl Parser<'_> {
     }
 
     #[cycle(expression)]
-    #[tactic(auto, unfolding(c_grammar::specs::ModelExpressions::assign_from))]
+    #[tactic(auto, unfolding(c_grammar::specs::inside::ModelExpressions::assign_from))]
     fn assign(&mut self, left: u8, to: Boxed<Expr>) -> Result<Boxed<Expr>, Stopped>
         ensures { Reads (model.assign_from (model.inside left) to self.old.rest.now) result
             self.new.rest.now }
@@ -228,7 +228,7 @@ impl Parser<'_> {
     /// An assignment expression that begins with a cast that was read.
     #[cycle(expression)]
     #[inline(never)]
-    #[tactic(auto, unfolding(crate::specs::Operands::assignment_from))]
+    #[tactic(auto, unfolding(crate::specs::inside::Operands::assignment_from))]
     fn assignment_from(&mut self, left: u8, first: Boxed<Expr>) -> Result<Boxed<Expr>, Stopped>
         ensures { Reads (operands.assignment_from left first self.old.rest.now) result
             self.new.rest.now }

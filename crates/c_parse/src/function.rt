@@ -2,11 +2,11 @@
 
 ghost use Rattle.std.specs.Prelude.{◌≡◌, ◌-◌, Some, None, [], ◌∷◌};
 ghost use Rattle.c_tree.specs.Limits.{most_nesting};
-ghost use Rattle.c_grammar.specs.ModelExpressions.{inside};
-ghost use Rattle.c_grammar.specs.ModelStatements.{below_at, compound_of};
-ghost use Rattle.c_grammar.specs.ModelUnits as model;
-ghost use Rattle.c_grammar.specs.Parsing as parsing;
-ghost use Rattle.c_parse.specs.Reads.{Reads, Puts};
+ghost use Rattle.c_grammar.specs.inside.ModelExpressions.{inside};
+ghost use Rattle.c_grammar.specs.inside.ModelStatements.{below_at, compound_of};
+ghost use Rattle.c_grammar.specs.inside.ModelUnits as model;
+ghost use Rattle.c_grammar.specs.inside.Parsing as parsing;
+ghost use Rattle.c_parse.specs.inside.Reads.{Reads, Puts};
 
 use crate::fault::Stopped;
 use crate::parser::Parser;
@@ -15,7 +15,7 @@ use c_tree::{ArraySize, Form, Key, Kind, MOST_NESTING, Mark, Param, Top, TopNode
 
 impl Parser<'_> {
     /// The name of a parameter, or the line of its type where it has none.
-    #[tactic(auto, unfolding(c_grammar::specs::ModelUnits::label_of))]
+    #[tactic(auto, unfolding(c_grammar::specs::inside::ModelUnits::label_of))]
     fn label(&mut self, line: u32) -> Result<(u32, Option<Word>), Stopped>
         ensures { Reads (model.label_of line self.old.rest.now) result self.new.rest.now }
     {
@@ -26,7 +26,7 @@ impl Parser<'_> {
         Ok((line, None))
     }
 
-    #[tactic(auto, unfolding(c_grammar::specs::ModelUnits::brackets_of))]
+    #[tactic(auto, unfolding(c_grammar::specs::inside::ModelUnits::brackets_of))]
     fn brackets(&mut self, left: u8) -> Result<ArraySize, Stopped>
         ensures { Reads (model.brackets_of (inside left) self.old.rest.now) result
             self.new.rest.now }
@@ -37,7 +37,7 @@ impl Parser<'_> {
         Ok(ArraySize::Scalar)
     }
 
-    #[tactic(auto, unfolding(c_grammar::specs::ModelUnits::param_of))]
+    #[tactic(auto, unfolding(c_grammar::specs::inside::ModelUnits::param_of))]
     fn param(&mut self, left: u8) -> Result<Param, Stopped>
         ensures { Reads (model.param_of (inside left) self.old.rest.now) result self.new.rest.now }
     {
@@ -72,7 +72,7 @@ impl Parser<'_> {
     }
 
     /// Parameters up to the closing parenthesis.
-    #[tactic(auto, unfolding(c_grammar::specs::ModelUnits::no_params_of, c_grammar::specs::ModelUnits::void_params_of, c_grammar::specs::ModelUnits::params_of))]
+    #[tactic(auto, unfolding(c_grammar::specs::inside::ModelUnits::no_params_of, c_grammar::specs::inside::ModelUnits::void_params_of, c_grammar::specs::inside::ModelUnits::params_of))]
     fn params(&mut self, left: u8) -> Result<Items<Param>, Stopped>
         ensures { Reads (model.params_of (inside left) self.old.rest.now) result self.new.rest.now }
     {
@@ -89,7 +89,7 @@ impl Parser<'_> {
     }
 
     /// The semicolon of a prototype.
-    #[tactic(auto, unfolding(c_grammar::specs::ModelUnits::declared_of))]
+    #[tactic(auto, unfolding(c_grammar::specs::inside::ModelUnits::declared_of))]
     fn prototype(
         &mut self,
         outer: u8,
@@ -117,7 +117,7 @@ impl Parser<'_> {
     }
 
     /// A function's body.
-    #[tactic(auto, unfolding(c_grammar::specs::ModelUnits::defined_of))]
+    #[tactic(auto, unfolding(c_grammar::specs::inside::ModelUnits::defined_of))]
     fn definition(
         &mut self,
         outer: u8,
@@ -144,7 +144,7 @@ impl Parser<'_> {
     }
 
     /// What stands behind the parameters: a body, or the semicolon of a prototype.
-    #[tactic(auto, unfolding(c_grammar::specs::ModelUnits::rest_of))]
+    #[tactic(auto, unfolding(c_grammar::specs::inside::ModelUnits::rest_of))]
     fn rest_of_function(
         &mut self,
         outer: u8,
@@ -164,7 +164,7 @@ impl Parser<'_> {
     }
 
     /// A function behind its name, which is put behind the items that were found.
-    #[tactic(auto, unfolding(c_grammar::specs::ModelUnits::func_of))]
+    #[tactic(auto, unfolding(c_grammar::specs::inside::ModelUnits::func_of))]
     fn function(
         &mut self,
         outer: u8,
@@ -185,7 +185,7 @@ impl Parser<'_> {
     }
 
     /// What stands behind a type and a name.
-    #[tactic(auto, unfolding(c_grammar::specs::ModelUnits::after_name))]
+    #[tactic(auto, unfolding(c_grammar::specs::inside::ModelUnits::after_name))]
     fn named_item(
         &mut self,
         outer: u8,
@@ -204,7 +204,7 @@ impl Parser<'_> {
         self.globals(outer, kind, line, name, found)
     }
 
-    #[tactic(auto, unfolding(c_grammar::specs::ModelUnits::void_item_of))]
+    #[tactic(auto, unfolding(c_grammar::specs::inside::ModelUnits::void_item_of))]
     fn void_item(&mut self, outer: u8, left: u8, found: &mut Items<Top>) -> Result<(), Stopped>
         ensures { Puts (model.void_item_of (inside outer)
             (compound_of (inside left) (below_at left)) self.old.rest.now) found.old found.new result
@@ -215,7 +215,7 @@ impl Parser<'_> {
         self.function(outer, left, None, line, name, found)
     }
 
-    #[tactic(auto, unfolding(c_grammar::specs::ModelUnits::typed_item_of))]
+    #[tactic(auto, unfolding(c_grammar::specs::inside::ModelUnits::typed_item_of))]
     fn typed_item(&mut self, outer: u8, left: u8, found: &mut Items<Top>) -> Result<(), Stopped>
         ensures { Puts (model.typed_item_of (inside outer)
             (compound_of (inside left) (below_at left)) self.old.rest.now) found.old found.new result
@@ -245,7 +245,7 @@ impl Parser<'_> {
         }
     }
 
-    #[tactic(auto, unfolding(c_grammar::specs::ModelUnits::include_of))]
+    #[tactic(auto, unfolding(c_grammar::specs::inside::ModelUnits::include_of))]
     fn include(&mut self, found: &mut Items<Top>) -> Result<(), Stopped>
         ensures { Puts (model.include_of self.old.rest.now) found.old found.new result
             self.new.rest.now }
@@ -264,7 +264,7 @@ impl Parser<'_> {
     }
 
     /// An item, which is put behind those that were found.
-    #[tactic(auto, unfolding(c_grammar::specs::ModelUnits::item_of))]
+    #[tactic(auto, unfolding(c_grammar::specs::inside::ModelUnits::item_of))]
     fn item(&mut self, outer: u8, left: u8, found: &mut Items<Top>) -> Result<(), Stopped>
         ensures { Puts (model.item_of (inside outer) (compound_of (inside left) (below_at left))
             self.old.rest.now) found.old found.new result self.new.rest.now }

@@ -1,10 +1,10 @@
 //! Globals (C17 6.7, 6.9.2), which stand at depth 0.
 
 ghost use Rattle.std.specs.Prelude.{◌≡◌};
-ghost use Rattle.c_grammar.specs.ModelExpressions.{inside};
-ghost use Rattle.c_grammar.specs.ModelUnits as model;
-ghost use Rattle.c_parse.specs.Reads.{Reads, Puts};
-ghost use Rattle.c_parse.specs.Lists.{global_list_of};
+ghost use Rattle.c_grammar.specs.inside.ModelExpressions.{inside};
+ghost use Rattle.c_grammar.specs.inside.ModelUnits as model;
+ghost use Rattle.c_parse.specs.inside.Reads.{Reads, Puts};
+ghost use Rattle.c_parse.specs.inside.Lists.{global_list_of};
 
 use crate::build;
 use crate::fault::Stopped;
@@ -15,7 +15,7 @@ use c_tree::{ArraySize, Expr, Kind, Mark, Top, TopNode, Word};
 
 impl Parser<'_> {
     /// A size or none, up to the bracket.
-    #[tactic(auto, unfolding(c_grammar::specs::ModelUnits::no_size_of, c_grammar::specs::ModelUnits::some_size_of, c_grammar::specs::ModelUnits::size_of))]
+    #[tactic(auto, unfolding(c_grammar::specs::inside::ModelUnits::no_size_of, c_grammar::specs::inside::ModelUnits::some_size_of, c_grammar::specs::inside::ModelUnits::size_of))]
     fn size(&mut self, left: u8) -> Result<Option<Boxed<Expr>>, Stopped>
         ensures { Reads (model.size_of (inside left) self.old.rest.now) result self.new.rest.now }
     {
@@ -29,7 +29,7 @@ impl Parser<'_> {
     }
 
     /// A second size in its brackets.
-    #[tactic(auto, unfolding(c_grammar::specs::ModelUnits::second_of))]
+    #[tactic(auto, unfolding(c_grammar::specs::inside::ModelUnits::second_of))]
     fn second_size(&mut self, left: u8) -> Result<Boxed<Expr>, Stopped>
         ensures { Reads (model.second_of (inside left) self.old.rest.now) result
             self.new.rest.now }
@@ -41,7 +41,7 @@ impl Parser<'_> {
     }
 
     /// A second pair of brackets.
-    #[tactic(auto, unfolding(c_grammar::specs::ModelUnits::two_pairs_of))]
+    #[tactic(auto, unfolding(c_grammar::specs::inside::ModelUnits::two_pairs_of))]
     fn second_pair(
         &mut self,
         left: u8,
@@ -56,7 +56,7 @@ impl Parser<'_> {
     }
 
     /// Behind the first pair of brackets: a second one, or what stands behind the array.
-    #[tactic(auto, unfolding(c_grammar::specs::ModelUnits::after_first))]
+    #[tactic(auto, unfolding(c_grammar::specs::inside::ModelUnits::after_first))]
     fn after_first(&mut self, left: u8, first: Option<Boxed<Expr>>) -> Result<ArraySize, Stopped>
         ensures { Reads (model.after_first (inside left) first self.old.rest.now) result
             self.new.rest.now }
@@ -68,7 +68,7 @@ impl Parser<'_> {
     }
 
     /// The brackets of an array, one pair or two.
-    #[tactic(auto, unfolding(c_grammar::specs::ModelUnits::dimensions_of))]
+    #[tactic(auto, unfolding(c_grammar::specs::inside::ModelUnits::dimensions_of))]
     pub fn dimensions(&mut self, left: u8) -> Result<ArraySize, Stopped>
         ensures { Reads (model.dimensions_of (inside left) self.old.rest.now) result
             self.new.rest.now }
@@ -101,7 +101,7 @@ impl Parser<'_> {
     }
 
     /// The values of an array with one size.
-    #[tactic(auto, unfolding(c_grammar::specs::ModelUnits::flat_of))]
+    #[tactic(auto, unfolding(c_grammar::specs::inside::ModelUnits::flat_of))]
     fn flat(&mut self, left: u8) -> Result<Items<Items<Boxed<Expr>>>, Stopped>
         ensures { Reads (model.flat_of (inside left) self.old.rest.now) result self.new.rest.now }
     {
@@ -112,7 +112,7 @@ impl Parser<'_> {
     }
 
     /// A row of values in its braces.
-    #[tactic(auto, unfolding(c_grammar::specs::ModelUnits::row_of))]
+    #[tactic(auto, unfolding(c_grammar::specs::inside::ModelUnits::row_of))]
     fn row(&mut self, left: u8) -> Result<Items<Boxed<Expr>>, Stopped>
         ensures { Reads (model.row_of (inside left) self.old.rest.now) result self.new.rest.now }
     {
@@ -143,7 +143,7 @@ impl Parser<'_> {
     }
 
     /// A list of values behind one pair of brackets.
-    #[tactic(auto, unfolding(c_grammar::specs::ModelUnits::filled_of))]
+    #[tactic(auto, unfolding(c_grammar::specs::inside::ModelUnits::filled_of))]
     fn filled(
         &mut self,
         left: u8,
@@ -159,7 +159,7 @@ impl Parser<'_> {
     }
 
     /// Rows of values behind two pairs of brackets.
-    #[tactic(auto, unfolding(c_grammar::specs::ModelUnits::rows_filled_of))]
+    #[tactic(auto, unfolding(c_grammar::specs::inside::ModelUnits::rows_filled_of))]
     fn rows_filled(
         &mut self,
         left: u8,
@@ -187,7 +187,7 @@ impl Parser<'_> {
         }
     }
 
-    #[tactic(auto, unfolding(c_grammar::specs::ModelUnits::after_size))]
+    #[tactic(auto, unfolding(c_grammar::specs::inside::ModelUnits::after_size))]
     fn after_size(
         &mut self,
         left: u8,
@@ -202,7 +202,7 @@ impl Parser<'_> {
         self.or_sized(size)
     }
 
-    #[tactic(auto, unfolding(c_grammar::specs::ModelUnits::after_rows))]
+    #[tactic(auto, unfolding(c_grammar::specs::inside::ModelUnits::after_rows))]
     fn after_rows(
         &mut self,
         left: u8,
@@ -217,7 +217,7 @@ impl Parser<'_> {
         self.or_sized(size)
     }
 
-    #[tactic(auto, unfolding(c_grammar::specs::ModelUnits::rows_array_of))]
+    #[tactic(auto, unfolding(c_grammar::specs::inside::ModelUnits::rows_array_of))]
     fn rows_array(
         &mut self,
         left: u8,
@@ -232,7 +232,7 @@ impl Parser<'_> {
     }
 
     /// Behind the first pair of brackets of a global.
-    #[tactic(auto, unfolding(c_grammar::specs::ModelUnits::after_pair))]
+    #[tactic(auto, unfolding(c_grammar::specs::inside::ModelUnits::after_pair))]
     fn after_pair(
         &mut self,
         left: u8,
@@ -247,7 +247,7 @@ impl Parser<'_> {
         self.after_size(left, build::one_size(first))
     }
 
-    #[tactic(auto, unfolding(c_grammar::specs::ModelUnits::array_of))]
+    #[tactic(auto, unfolding(c_grammar::specs::inside::ModelUnits::array_of))]
     fn global_array(&mut self, left: u8) -> Result<(ArraySize, Items<Items<Boxed<Expr>>>), Stopped>
         ensures { Reads (model.array_of (inside left) self.old.rest.now) result self.new.rest.now }
     {
@@ -256,7 +256,7 @@ impl Parser<'_> {
         self.after_pair(left, first)
     }
 
-    #[tactic(auto, unfolding(c_grammar::specs::ModelUnits::valued_of))]
+    #[tactic(auto, unfolding(c_grammar::specs::inside::ModelUnits::valued_of))]
     fn valued(&mut self, left: u8) -> Result<(ArraySize, Items<Items<Boxed<Expr>>>), Stopped>
         ensures { Reads (model.valued_of (inside left) self.old.rest.now) result self.new.rest.now }
     {
@@ -270,7 +270,7 @@ impl Parser<'_> {
     }
 
     /// What stands behind the name of a global.
-    #[tactic(auto, unfolding(c_grammar::specs::ModelUnits::shape_of))]
+    #[tactic(auto, unfolding(c_grammar::specs::inside::ModelUnits::shape_of))]
     fn global_shape(&mut self, left: u8) -> Result<(ArraySize, Items<Items<Boxed<Expr>>>), Stopped>
         ensures { Reads (model.shape_of (inside left) self.old.rest.now) result self.new.rest.now }
     {
@@ -283,7 +283,7 @@ impl Parser<'_> {
         Ok((ArraySize::Scalar, Items::new(self.alloc)))
     }
 
-    #[tactic(auto, unfolding(c_grammar::specs::ModelUnits::global_of))]
+    #[tactic(auto, unfolding(c_grammar::specs::inside::ModelUnits::global_of))]
     fn global(&mut self, left: u8, kind: Kind) -> Result<Top, Stopped>
         ensures { Reads (model.global_of (inside left) kind self.old.rest.now) result
             self.new.rest.now }
@@ -342,7 +342,7 @@ impl Parser<'_> {
     }
 
     /// Globals behind the name of the first one.
-    #[tactic(auto, unfolding(c_grammar::specs::ModelUnits::globals_of))]
+    #[tactic(auto, unfolding(c_grammar::specs::inside::ModelUnits::globals_of))]
     pub fn globals(
         &mut self,
         left: u8,

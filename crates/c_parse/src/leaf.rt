@@ -1,8 +1,8 @@
 //! Names and numbers that stand alone (C17 6.5.1), as most operands do.
 
 ghost use Rattle.std.specs.Prelude.{◌≡◌};
-ghost use Rattle.c_parse.specs.Operands as operands;
-ghost use Rattle.c_parse.specs.Reads.{Reads};
+ghost use Rattle.c_parse.specs.inside.Operands as operands;
+ghost use Rattle.c_parse.specs.inside.Reads.{Reads};
 
 use crate::fault::Stopped;
 use crate::make;

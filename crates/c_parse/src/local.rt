@@ -3,9 +3,9 @@
 
 ghost use Rattle.std.specs.Prelude.{◌≡◌};
 ghost use Rattle.c_grammar.specs.Statements as grammar;
-ghost use Rattle.c_grammar.specs.ModelExpressions.{inside};
-ghost use Rattle.c_grammar.specs.ModelStatements as model;
-ghost use Rattle.c_parse.specs.Reads.{Reads, Puts};
+ghost use Rattle.c_grammar.specs.inside.ModelExpressions.{inside};
+ghost use Rattle.c_grammar.specs.inside.ModelStatements as model;
+ghost use Rattle.c_parse.specs.inside.Reads.{Reads, Puts};
 
 use crate::build;
 use crate::fault::Stopped;
@@ -15,7 +15,7 @@ use c_tree::{ArraySize, Expr, ForInit, Kind, Mark, Stmt, StmtNode};
 
 impl Parser<'_> {
     #[inline(always)]
-    #[tactic(auto, unfolding(c_grammar::specs::ModelStatements::absent_of, c_grammar::specs::ModelStatements::given_of, c_grammar::specs::ModelStatements::until_of))]
+    #[tactic(auto, unfolding(c_grammar::specs::inside::ModelStatements::absent_of, c_grammar::specs::inside::ModelStatements::given_of, c_grammar::specs::inside::ModelStatements::until_of))]
     pub fn until_semicolon(&mut self, left: u8) -> Result<Option<Boxed<Expr>>, Stopped>
         ensures { Reads (model.until_of (inside left) grammar.semicolon self.old.rest.now) result
             self.new.rest.now }
@@ -30,7 +30,7 @@ impl Parser<'_> {
     }
 
     #[inline(always)]
-    #[tactic(auto, unfolding(c_grammar::specs::ModelStatements::absent_of, c_grammar::specs::ModelStatements::given_of, c_grammar::specs::ModelStatements::until_of))]
+    #[tactic(auto, unfolding(c_grammar::specs::inside::ModelStatements::absent_of, c_grammar::specs::inside::ModelStatements::given_of, c_grammar::specs::inside::ModelStatements::until_of))]
     pub fn until_paren(&mut self, left: u8) -> Result<Option<Boxed<Expr>>, Stopped>
         ensures { Reads (model.until_of (inside left) grammar.paren self.old.rest.now) result
             self.new.rest.now }
@@ -46,7 +46,7 @@ impl Parser<'_> {
 
     /// A condition in its parentheses.
     #[inline(always)]
-    #[tactic(auto, unfolding(c_grammar::specs::ModelStatements::test_of))]
+    #[tactic(auto, unfolding(c_grammar::specs::inside::ModelStatements::test_of))]
     pub fn test(&mut self, left: u8) -> Result<Boxed<Expr>, Stopped>
         ensures { Reads (model.test_of (inside left) self.old.rest.now) result self.new.rest.now }
     {
@@ -56,7 +56,7 @@ impl Parser<'_> {
         Ok(test)
     }
 
-    #[tactic(auto, unfolding(c_grammar::specs::ModelStatements::value_of))]
+    #[tactic(auto, unfolding(c_grammar::specs::inside::ModelStatements::value_of))]
     fn value(&mut self, left: u8) -> Result<(ArraySize, Option<Boxed<Expr>>), Stopped>
         ensures { Reads (model.value_of (inside left) self.old.rest.now) result self.new.rest.now }
     {
@@ -66,7 +66,7 @@ impl Parser<'_> {
     }
 
     /// A size in its brackets.
-    #[tactic(auto, unfolding(c_grammar::specs::ModelStatements::size_of))]
+    #[tactic(auto, unfolding(c_grammar::specs::inside::ModelStatements::size_of))]
     fn local_size(&mut self, left: u8) -> Result<Boxed<Expr>, Stopped>
         ensures { Reads (model.size_of (inside left) self.old.rest.now) result self.new.rest.now }
     {
@@ -76,7 +76,7 @@ impl Parser<'_> {
         Ok(size)
     }
 
-    #[tactic(auto, unfolding(c_grammar::specs::ModelStatements::second_of))]
+    #[tactic(auto, unfolding(c_grammar::specs::inside::ModelStatements::second_of))]
     fn local_rows(
         &mut self,
         left: u8,
@@ -91,7 +91,7 @@ impl Parser<'_> {
     }
 
     /// Behind the first size of a local: a second one, or what stands behind the array.
-    #[tactic(auto, unfolding(c_grammar::specs::ModelStatements::after_size))]
+    #[tactic(auto, unfolding(c_grammar::specs::inside::ModelStatements::after_size))]
     fn after_local_size(
         &mut self,
         left: u8,
@@ -106,7 +106,7 @@ impl Parser<'_> {
         Ok((ArraySize::Sized(size), None))
     }
 
-    #[tactic(auto, unfolding(c_grammar::specs::ModelStatements::array_of))]
+    #[tactic(auto, unfolding(c_grammar::specs::inside::ModelStatements::array_of))]
     fn array(&mut self, left: u8) -> Result<(ArraySize, Option<Boxed<Expr>>), Stopped>
         ensures { Reads (model.array_of (inside left) self.old.rest.now) result self.new.rest.now }
     {
@@ -115,7 +115,7 @@ impl Parser<'_> {
     }
 
     /// What stands behind the name of a local.
-    #[tactic(auto, unfolding(c_grammar::specs::ModelStatements::shape_of))]
+    #[tactic(auto, unfolding(c_grammar::specs::inside::ModelStatements::shape_of))]
     fn shape(&mut self, left: u8) -> Result<(ArraySize, Option<Boxed<Expr>>), Stopped>
         ensures { Reads (model.shape_of (inside left) self.old.rest.now) result self.new.rest.now }
     {
@@ -128,7 +128,7 @@ impl Parser<'_> {
         Ok((ArraySize::Scalar, None))
     }
 
-    #[tactic(auto, unfolding(c_grammar::specs::ModelStatements::decl_of))]
+    #[tactic(auto, unfolding(c_grammar::specs::inside::ModelStatements::decl_of))]
     fn declarator(&mut self, left: u8, kind: Kind) -> Result<Stmt, Stopped>
         ensures { Reads (model.decl_of (inside left) kind self.old.rest.now) result
             self.new.rest.now }
@@ -165,7 +165,7 @@ impl Parser<'_> {
         Err(Stopped::Syntax)
     }
 
-    #[tactic(auto, unfolding(c_grammar::specs::ModelStatements::locals_of))]
+    #[tactic(auto, unfolding(c_grammar::specs::inside::ModelStatements::locals_of))]
     fn locals(&mut self, left: u8, found: &mut Items<Stmt>) -> Result<(), Stopped>
         ensures { Puts (model.locals_of (inside left) self.old.rest.now) found.old found.new result
             self.new.rest.now }
@@ -196,7 +196,7 @@ impl Parser<'_> {
         Err(Stopped::Syntax)
     }
 
-    #[tactic(auto, unfolding(c_grammar::specs::ModelStatements::init_local_of))]
+    #[tactic(auto, unfolding(c_grammar::specs::inside::ModelStatements::init_local_of))]
     fn init_locals(&mut self, left: u8) -> Result<ForInit, Stopped>
         ensures { Reads (model.init_local_of (inside left) (model.below_at left) self.old.rest.now)
             result self.new.rest.now }
@@ -206,7 +206,7 @@ impl Parser<'_> {
         Ok(ForInit::Locals(locals))
     }
 
-    #[tactic(auto, unfolding(c_grammar::specs::ModelStatements::init_plain_of))]
+    #[tactic(auto, unfolding(c_grammar::specs::inside::ModelStatements::init_plain_of))]
     fn init_plain(&mut self, left: u8) -> Result<ForInit, Stopped>
         ensures { Reads (model.init_plain_of (inside left) (model.below_at left) self.old.rest.now)
             result self.new.rest.now }
@@ -216,7 +216,7 @@ impl Parser<'_> {
     }
 
     /// The first part of a `for`, with its semicolon.
-    #[tactic(auto, unfolding(c_grammar::specs::ModelStatements::init_of))]
+    #[tactic(auto, unfolding(c_grammar::specs::inside::ModelStatements::init_of))]
     pub fn init(&mut self, left: u8) -> Result<ForInit, Stopped>
         ensures { Reads (model.init_of (inside left) (model.below_at left) self.old.rest.now) result
             self.new.rest.now }

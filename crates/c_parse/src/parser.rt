@@ -1,11 +1,11 @@
 //! The tokens that are left, and what is taken from them.
 
 ghost use Rattle.std.specs.Prelude.{◌≡◌, ◌<◌, ◌≤◌, length, IfOk, [], ◌∷◌};
-ghost use Rattle.c_grammar.specs.Numbers as numbers;
-ghost use Rattle.c_grammar.specs.Parsing as model;
-ghost use Rattle.c_grammar.specs.ModelTypes as types;
-ghost use Rattle.c_grammar.specs.ModelExpressions as exprs;
-ghost use Rattle.c_parse.specs.Reads.{Reads, Enters};
+ghost use Rattle.c_grammar.specs.inside.Numbers as numbers;
+ghost use Rattle.c_grammar.specs.inside.Parsing as model;
+ghost use Rattle.c_grammar.specs.inside.ModelTypes as types;
+ghost use Rattle.c_grammar.specs.inside.ModelExpressions as exprs;
+ghost use Rattle.c_parse.specs.inside.Reads.{Reads, Enters};
 
 use crate::fault::Stopped;
 use c_tree::{Form, Key, Lexeme, Mark, Word};

@@ -1,11 +1,11 @@
 //! Primary, postfix, unary and cast expressions (C17 6.5.1 to 6.5.4).
 
 ghost use Rattle.std.specs.Prelude.{◌≡◌, suc, length, false, List, ℕ};
-ghost use Rattle.c_grammar.specs.Parsing as parsing;
-ghost use Rattle.c_grammar.specs.ModelExpressions as model;
+ghost use Rattle.c_grammar.specs.inside.Parsing as parsing;
+ghost use Rattle.c_grammar.specs.inside.ModelExpressions as model;
 ghost use Rattle.c_grammar.specs.Operators.{sign, increase, decrease, prefix_mark};
 ghost use Rattle.c_tree.specs.declared.token.Mark.TheVariants as marks;
-ghost use Rattle.c_parse.specs.Reads.{Reads, opened, IsSuffix, IsPrefix};
+ghost use Rattle.c_parse.specs.inside.Reads.{Reads, opened, IsSuffix, IsPrefix};
 
 use crate::fault::Stopped;
 use crate::make;
@@ -26,7 +26,7 @@ pub enum Before {
 
 impl Parser<'_> {
     #[cycle(expression)]
-    #[tactic(auto, unfolding(c_grammar::specs::ModelExpressions::group_of))]
+    #[tactic(auto, unfolding(c_grammar::specs::inside::ModelExpressions::group_of))]
     fn group(&mut self, left: u8) -> Result<Boxed<Expr>, Stopped>
         ensures { Reads (model.group_of (model.inside left) self.old.rest.now) result
             self.new.rest.now }
@@ -40,7 +40,7 @@ impl Parser<'_> {
 
     /// An index in its brackets.
     #[cycle(expression)]
-    #[tactic(auto, unfolding(c_grammar::specs::ModelExpressions::index_of))]
+    #[tactic(auto, unfolding(c_grammar::specs::inside::ModelExpressions::index_of))]
     fn index(&mut self, left: u8) -> Result<Boxed<Expr>, Stopped>
         ensures { Reads (model.index_of (model.inside left) self.old.rest.now) result
             self.new.rest.now }
@@ -52,7 +52,7 @@ impl Parser<'_> {
     }
 
     #[cycle(expression)]
-    #[tactic(auto, unfolding(c_grammar::specs::ModelExpressions::second_of))]
+    #[tactic(auto, unfolding(c_grammar::specs::inside::ModelExpressions::second_of))]
     fn second_index(
         &mut self,
         left: u8,
@@ -69,7 +69,7 @@ impl Parser<'_> {
 
     /// Behind the first index of an element: a second one, or what stands behind the element.
     #[cycle(expression)]
-    #[tactic(auto, unfolding(c_grammar::specs::ModelExpressions::after_index))]
+    #[tactic(auto, unfolding(c_grammar::specs::inside::ModelExpressions::after_index))]
     fn after_index(
         &mut self,
         left: u8,
@@ -87,7 +87,7 @@ impl Parser<'_> {
     }
 
     #[cycle(expression)]
-    #[tactic(auto, unfolding(c_grammar::specs::ModelExpressions::element_of))]
+    #[tactic(auto, unfolding(c_grammar::specs::inside::ModelExpressions::element_of))]
     fn element(&mut self, left: u8, line: u32, array: Word) -> Result<Boxed<Expr>, Stopped>
         ensures { Reads (model.element_of (model.inside left) line array self.old.rest.now) result
             self.new.rest.now }
@@ -97,7 +97,7 @@ impl Parser<'_> {
     }
 
     #[cycle(expression)]
-    #[tactic(auto, unfolding(c_grammar::specs::ModelExpressions::call_of))]
+    #[tactic(auto, unfolding(c_grammar::specs::inside::ModelExpressions::call_of))]
     fn call(&mut self, left: u8, line: u32, function: Word) -> Result<Boxed<Expr>, Stopped>
         ensures { Reads (model.call_of (model.inside left) line function self.old.rest.now) result
             self.new.rest.now }
@@ -109,7 +109,7 @@ impl Parser<'_> {
 
     /// Arguments up to the closing parenthesis.
     #[cycle(expression)]
-    #[tactic(auto, unfolding(c_grammar::specs::ModelExpressions::args_of, c_grammar::specs::ModelExpressions::no_args_of))]
+    #[tactic(auto, unfolding(c_grammar::specs::inside::ModelExpressions::args_of, c_grammar::specs::inside::ModelExpressions::no_args_of))]
     fn args(&mut self, left: u8) -> Result<Items<Boxed<Expr>>, Stopped>
         ensures { Reads (model.args_of (opened left) self.old.rest.now) result self.new.rest.now }
     {
@@ -141,7 +141,7 @@ impl Parser<'_> {
     }
 
     #[cycle(expression)]
-    #[tactic(auto, unfolding(c_grammar::specs::ModelExpressions::after_name))]
+    #[tactic(auto, unfolding(c_grammar::specs::inside::ModelExpressions::after_name))]
     fn after_name(&mut self, left: u8, line: u32, name: Word) -> Result<Boxed<Expr>, Stopped>
         ensures { Reads (model.after_name (model.inside left) line name self.old.rest.now) result
             self.new.rest.now }
@@ -156,7 +156,7 @@ impl Parser<'_> {
     }
 
     #[cycle(expression)]
-    #[tactic(auto, unfolding(c_grammar::specs::ModelExpressions::named_of))]
+    #[tactic(auto, unfolding(c_grammar::specs::inside::ModelExpressions::named_of))]
     fn named(&mut self, left: u8) -> Result<Boxed<Expr>, Stopped>
         ensures { Reads (model.named_of (model.inside left) self.old.rest.now) result
             self.new.rest.now }
@@ -186,7 +186,7 @@ impl Parser<'_> {
     }
 
     #[cycle(expression)]
-    #[tactic(auto, unfolding(c_grammar::specs::ModelExpressions::primary_of))]
+    #[tactic(auto, unfolding(c_grammar::specs::inside::ModelExpressions::primary_of))]
     fn primary(&mut self, left: u8) -> Result<Boxed<Expr>, Stopped>
         ensures { Reads (model.primary_of (model.inside left) self.old.rest.now) result
             self.new.rest.now }
@@ -215,7 +215,7 @@ impl Parser<'_> {
     }
 
     #[cycle(expression)]
-    #[tactic(auto, unfolding(c_grammar::specs::ModelExpressions::postfix_of))]
+    #[tactic(auto, unfolding(c_grammar::specs::inside::ModelExpressions::postfix_of))]
     fn postfix(&mut self, left: u8) -> Result<Boxed<Expr>, Stopped>
         ensures { Reads (model.postfix_of (model.inside left) self.old.rest.now) result
             self.new.rest.now }
@@ -248,7 +248,7 @@ impl Parser<'_> {
     }
 
     #[cycle(expression)]
-    #[tactic(auto, unfolding(c_grammar::specs::ModelExpressions::prefixed_of))]
+    #[tactic(auto, unfolding(c_grammar::specs::inside::ModelExpressions::prefixed_of))]
     fn signed_by(&mut self, left: u8, mark: Mark, op: UnaryOp) -> Result<Boxed<Expr>, Stopped>
         requires { mark ≡ prefix_mark (sign op) }
         ensures { Reads (model.prefixed_of (model.inside left) (sign op) self.old.rest.now) result
@@ -261,7 +261,7 @@ impl Parser<'_> {
     }
 
     #[cycle(expression)]
-    #[tactic(auto, unfolding(c_grammar::specs::ModelExpressions::prefixed_of))]
+    #[tactic(auto, unfolding(c_grammar::specs::inside::ModelExpressions::prefixed_of))]
     fn increased(&mut self, left: u8) -> Result<Boxed<Expr>, Stopped>
         ensures { Reads (model.prefixed_of (model.inside left) increase self.old.rest.now) result
             self.new.rest.now }
@@ -273,7 +273,7 @@ impl Parser<'_> {
     }
 
     #[cycle(expression)]
-    #[tactic(auto, unfolding(c_grammar::specs::ModelExpressions::prefixed_of))]
+    #[tactic(auto, unfolding(c_grammar::specs::inside::ModelExpressions::prefixed_of))]
     fn decreased(&mut self, left: u8) -> Result<Boxed<Expr>, Stopped>
         ensures { Reads (model.prefixed_of (model.inside left) decrease self.old.rest.now) result
             self.new.rest.now }
@@ -285,7 +285,7 @@ impl Parser<'_> {
     }
 
     #[cycle(expression)]
-    #[tactic(auto, unfolding(c_grammar::specs::ModelExpressions::unary_of))]
+    #[tactic(auto, unfolding(c_grammar::specs::inside::ModelExpressions::unary_of))]
     pub fn unary(&mut self, left: u8) -> Result<Boxed<Expr>, Stopped>
         ensures { Reads (model.unary_of (model.inside left) self.old.rest.now) result
             self.new.rest.now }
@@ -319,7 +319,7 @@ impl Parser<'_> {
     }
 
     #[cycle(expression)]
-    #[tactic(auto, unfolding(c_grammar::specs::ModelExpressions::cast_in))]
+    #[tactic(auto, unfolding(c_grammar::specs::inside::ModelExpressions::cast_in))]
     fn converted(&mut self, left: u8) -> Result<Boxed<Expr>, Stopped>
         ensures { Reads (model.cast_in (model.inside left) self.old.rest.now) result
             self.new.rest.now }
@@ -347,7 +347,7 @@ impl Parser<'_> {
     }
 
     #[cycle(expression)]
-    #[tactic(auto, unfolding(c_grammar::specs::ModelExpressions::cast_of))]
+    #[tactic(auto, unfolding(c_grammar::specs::inside::ModelExpressions::cast_of))]
     pub fn cast(&mut self, left: u8) -> Result<Boxed<Expr>, Stopped>
         ensures { Reads (model.cast_of (model.inside left) self.old.rest.now) result
             self.new.rest.now }

@@ -1,13 +1,13 @@
 //! Statements and local declarations (C17 6.7, 6.8).
 
 ghost use Rattle.std.specs.Prelude.{◌≡◌, Some, None, length, [], ◌∷◌};
-ghost use Rattle.c_grammar.specs.Parsing as parsing;
+ghost use Rattle.c_grammar.specs.inside.Parsing as parsing;
 ghost use Rattle.c_grammar.specs.Statements as grammar;
-ghost use Rattle.c_grammar.specs.ModelExpressions.{inside};
-ghost use Rattle.c_grammar.specs.ModelStatements as model;
+ghost use Rattle.c_grammar.specs.inside.ModelExpressions.{inside};
+ghost use Rattle.c_grammar.specs.inside.ModelStatements as model;
 ghost use Rattle.c_tree.specs.declared.token.Key.TheVariants as keys;
 ghost use Rattle.c_tree.specs.declared.tree.StmtNode.TheVariants as nodes;
-ghost use Rattle.c_parse.specs.Reads.{Reads, Puts};
+ghost use Rattle.c_parse.specs.inside.Reads.{Reads, Puts};
 
 use crate::build;
 use crate::fault::Stopped;
@@ -67,7 +67,7 @@ impl Parser<'_> {
     /// A statement, behind those that were found. Most begin with a name, and are expressions, or
     /// with `return`.
     #[cycle(statement)]
-    #[tactic(auto, using(crate::proofs::Nested::inner_plain, crate::proofs::Nested::inner_return), unfolding(c_grammar::specs::ModelStatements::one_of))]
+    #[tactic(auto, using(crate::proofs::Nested::inner_plain, crate::proofs::Nested::inner_return), unfolding(c_grammar::specs::inside::ModelStatements::one_of))]
     fn one(&mut self, left: u8, found: &mut Items<Stmt>) -> Result<(), Stopped>
         ensures { Puts (model.one_of (inside left) (model.below_at left) self.old.rest.now)
             found.old found.new result self.new.rest.now }
@@ -89,7 +89,7 @@ impl Parser<'_> {
 
     /// A statement, or the declarators of a declaration, behind those that were found.
     #[cycle(statement)]
-    #[tactic(auto, unfolding(c_grammar::specs::ModelStatements::entry_of))]
+    #[tactic(auto, unfolding(c_grammar::specs::inside::ModelStatements::entry_of))]
     fn entry(&mut self, left: u8, found: &mut Items<Stmt>) -> Result<(), Stopped>
         ensures { Puts (model.entry_of (inside left) (model.below_at left) self.old.rest.now)
             found.old found.new result self.new.rest.now }
@@ -119,7 +119,7 @@ impl Parser<'_> {
     }
 
     #[cycle(statement)]
-    #[tactic(auto, unfolding(c_grammar::specs::ModelStatements::compound_of))]
+    #[tactic(auto, unfolding(c_grammar::specs::inside::ModelStatements::compound_of))]
     pub fn compound(&mut self, left: u8) -> Result<Stmt, Stopped>
         ensures { Reads (model.compound_of (inside left) (model.below_at left) self.old.rest.now)
             result self.new.rest.now }
@@ -133,7 +133,7 @@ impl Parser<'_> {
     }
 
     #[cycle(statement)]
-    #[tactic(auto, unfolding(c_grammar::specs::ModelStatements::else_of))]
+    #[tactic(auto, unfolding(c_grammar::specs::inside::ModelStatements::else_of))]
     fn with_else(
         &mut self,
         left: u8,
@@ -150,7 +150,7 @@ impl Parser<'_> {
     }
 
     #[cycle(statement)]
-    #[tactic(auto, unfolding(c_grammar::specs::ModelStatements::no_of))]
+    #[tactic(auto, unfolding(c_grammar::specs::inside::ModelStatements::no_of))]
     fn after_if(
         &mut self,
         left: u8,
@@ -168,7 +168,7 @@ impl Parser<'_> {
     }
 
     #[cycle(statement)]
-    #[tactic(auto, unfolding(c_grammar::specs::ModelStatements::if_of))]
+    #[tactic(auto, unfolding(c_grammar::specs::inside::ModelStatements::if_of))]
     fn if_statement(&mut self, left: u8) -> Result<Stmt, Stopped>
         ensures { Reads (model.if_of (inside left) (model.below_at left) self.old.rest.now) result
             self.new.rest.now }
@@ -180,7 +180,7 @@ impl Parser<'_> {
     }
 
     #[cycle(statement)]
-    #[tactic(auto, unfolding(c_grammar::specs::ModelStatements::while_of))]
+    #[tactic(auto, unfolding(c_grammar::specs::inside::ModelStatements::while_of))]
     fn while_statement(&mut self, left: u8) -> Result<Stmt, Stopped>
         ensures { Reads (model.while_of (inside left) (model.below_at left) self.old.rest.now)
             result self.new.rest.now }
@@ -192,7 +192,7 @@ impl Parser<'_> {
     }
 
     #[cycle(statement)]
-    #[tactic(auto, unfolding(c_grammar::specs::ModelStatements::do_of))]
+    #[tactic(auto, unfolding(c_grammar::specs::inside::ModelStatements::do_of))]
     fn do_statement(&mut self, left: u8) -> Result<Stmt, Stopped>
         ensures { Reads (model.do_of (inside left) (model.below_at left) self.old.rest.now) result
             self.new.rest.now }
@@ -206,7 +206,7 @@ impl Parser<'_> {
     }
 
     #[cycle(statement)]
-    #[tactic(auto, unfolding(c_grammar::specs::ModelStatements::for_of))]
+    #[tactic(auto, unfolding(c_grammar::specs::inside::ModelStatements::for_of))]
     fn for_statement(&mut self, left: u8) -> Result<Stmt, Stopped>
         ensures { Reads (model.for_of (inside left) (model.below_at left) self.old.rest.now) result
             self.new.rest.now }
@@ -220,7 +220,7 @@ impl Parser<'_> {
         Ok(build::for_loop(line, init, test, post, body))
     }
 
-    #[tactic(auto, unfolding(c_grammar::specs::ModelStatements::leave_of))]
+    #[tactic(auto, unfolding(c_grammar::specs::inside::ModelStatements::leave_of))]
     fn break_statement(&mut self, left: u8) -> Result<Stmt, Stopped>
         ensures { Reads (model.leave_of (inside left) (model.below_at left) keys.Break nodes.Break
             self.old.rest.now) result self.new.rest.now }
@@ -234,7 +234,7 @@ impl Parser<'_> {
         })
     }
 
-    #[tactic(auto, unfolding(c_grammar::specs::ModelStatements::leave_of))]
+    #[tactic(auto, unfolding(c_grammar::specs::inside::ModelStatements::leave_of))]
     fn continue_statement(&mut self, left: u8) -> Result<Stmt, Stopped>
         ensures { Reads (model.leave_of (inside left) (model.below_at left) keys.Continue
             nodes.Continue self.old.rest.now) result self.new.rest.now }
@@ -249,7 +249,7 @@ impl Parser<'_> {
     }
 
     #[inline(always)]
-    #[tactic(auto, unfolding(c_grammar::specs::ModelStatements::return_of))]
+    #[tactic(auto, unfolding(c_grammar::specs::inside::ModelStatements::return_of))]
     fn return_statement(&mut self, left: u8) -> Result<Stmt, Stopped>
         ensures { Reads (model.return_of (inside left) (model.below_at left) self.old.rest.now)
             result self.new.rest.now }
@@ -262,7 +262,7 @@ impl Parser<'_> {
         })
     }
 
-    #[tactic(auto, unfolding(c_grammar::specs::ModelStatements::empty_of))]
+    #[tactic(auto, unfolding(c_grammar::specs::inside::ModelStatements::empty_of))]
     fn empty(&mut self, left: u8) -> Result<Stmt, Stopped>
         ensures { Reads (model.empty_of (inside left) (model.below_at left) self.old.rest.now)
             result self.new.rest.now }
@@ -276,7 +276,7 @@ impl Parser<'_> {
     }
 
     #[inline(always)]
-    #[tactic(auto, unfolding(c_grammar::specs::ModelStatements::plain_of))]
+    #[tactic(auto, unfolding(c_grammar::specs::inside::ModelStatements::plain_of))]
     fn plain_statement(&mut self, left: u8) -> Result<Stmt, Stopped>
         ensures { Reads (model.plain_of (inside left) (model.below_at left) self.old.rest.now)
             result self.new.rest.now }
@@ -290,7 +290,7 @@ impl Parser<'_> {
         })
     }
 
-    #[tactic(auto, unfolding(c_grammar::specs::ModelStatements::simple_of))]
+    #[tactic(auto, unfolding(c_grammar::specs::inside::ModelStatements::simple_of))]
     fn simple(&mut self, left: u8) -> Result<Stmt, Stopped>
         ensures { Reads (model.simple_of (inside left) (model.below_at left) self.old.rest.now)
             result self.new.rest.now }
@@ -311,7 +311,7 @@ impl Parser<'_> {
     }
 
     #[cycle(statement)]
-    #[tactic(auto, unfolding(c_grammar::specs::ModelStatements::stmt_of))]
+    #[tactic(auto, unfolding(c_grammar::specs::inside::ModelStatements::stmt_of))]
     fn statement(&mut self, left: u8) -> Result<Stmt, Stopped>
         ensures { Reads (model.stmt_of (inside left) (model.below_at left) self.old.rest.now) result
             self.new.rest.now }

@@ -1,10 +1,10 @@
 //! Switches, their sections and their labels (C17 6.8.1, 6.8.4.2).
 
 ghost use Rattle.std.specs.Prelude.{◌≡◌, length};
-ghost use Rattle.c_grammar.specs.Parsing as parsing;
-ghost use Rattle.c_grammar.specs.ModelExpressions.{inside};
-ghost use Rattle.c_grammar.specs.ModelStatements as model;
-ghost use Rattle.c_parse.specs.Reads.{Reads};
+ghost use Rattle.c_grammar.specs.inside.Parsing as parsing;
+ghost use Rattle.c_grammar.specs.inside.ModelExpressions.{inside};
+ghost use Rattle.c_grammar.specs.inside.ModelStatements as model;
+ghost use Rattle.c_parse.specs.inside.Reads.{Reads};
 
 use crate::build;
 use crate::fault::Stopped;
@@ -23,7 +23,7 @@ impl Parser<'_> {
         }
     }
 
-    #[tactic(auto, unfolding(c_grammar::specs::ModelStatements::case_of))]
+    #[tactic(auto, unfolding(c_grammar::specs::inside::ModelStatements::case_of))]
     fn case_label(&mut self, left: u8) -> Result<Label, Stopped>
         ensures { Reads (model.case_of (inside left) self.old.rest.now) result self.new.rest.now }
     {
@@ -36,7 +36,7 @@ impl Parser<'_> {
         })
     }
 
-    #[tactic(auto, unfolding(c_grammar::specs::ModelStatements::default_of))]
+    #[tactic(auto, unfolding(c_grammar::specs::inside::ModelStatements::default_of))]
     fn default_label(&mut self, left: u8) -> Result<Label, Stopped>
         ensures { Reads (model.default_of (inside left) self.old.rest.now) result
             self.new.rest.now }
@@ -47,7 +47,7 @@ impl Parser<'_> {
         Ok(Label { line, value: None })
     }
 
-    #[tactic(auto, unfolding(c_grammar::specs::ModelStatements::label_of))]
+    #[tactic(auto, unfolding(c_grammar::specs::inside::ModelStatements::label_of))]
     fn section_label(&mut self, left: u8) -> Result<Label, Stopped>
         ensures { Reads (model.label_of (inside left) self.old.rest.now) result self.new.rest.now }
     {
@@ -92,7 +92,7 @@ impl Parser<'_> {
     }
 
     #[cycle(statement)]
-    #[tactic(auto, unfolding(c_grammar::specs::ModelStatements::section_of))]
+    #[tactic(auto, unfolding(c_grammar::specs::inside::ModelStatements::section_of))]
     fn section(&mut self, left: u8) -> Result<Items<Section>, Stopped>
         ensures { Reads (model.section_of (inside left) (model.below_at left) self.old.rest.now)
             result self.new.rest.now }
@@ -124,7 +124,7 @@ impl Parser<'_> {
     }
 
     #[cycle(statement)]
-    #[tactic(auto, unfolding(c_grammar::specs::ModelStatements::switch_of))]
+    #[tactic(auto, unfolding(c_grammar::specs::inside::ModelStatements::switch_of))]
     pub fn switch_statement(&mut self, left: u8) -> Result<Stmt, Stopped>
         ensures { Reads (model.switch_of (inside left) (model.below_at left) self.old.rest.now)
             result self.new.rest.now }

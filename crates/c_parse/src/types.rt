@@ -1,8 +1,8 @@
 //! Names of types.
 
 ghost use Rattle.std.specs.Prelude.{◌≡◌};
-ghost use Rattle.c_grammar.specs.ModelTypes as model;
-ghost use Rattle.c_parse.specs.Reads.{Reads};
+ghost use Rattle.c_grammar.specs.inside.ModelTypes as model;
+ghost use Rattle.c_parse.specs.inside.Reads.{Reads};
 
 use crate::fault::Stopped;
 use crate::parser::Parser;
@@ -10,7 +10,7 @@ use c_tree::{Key, Kind};
 
 impl Parser<'_> {
     /// An `int` that may be left out.
-    #[tactic(auto, unfolding(c_grammar::specs::ModelTypes::int_of))]
+    #[tactic(auto, unfolding(c_grammar::specs::inside::ModelTypes::int_of))]
     fn int(&mut self, line: u32, kind: Kind) -> Result<(u32, Kind), Stopped>
         ensures { Reads (model.int_of line kind self.old.rest.now) result self.new.rest.now }
     {
@@ -20,7 +20,7 @@ impl Parser<'_> {
         Ok((line, kind))
     }
 
-    #[tactic(auto, unfolding(c_grammar::specs::ModelTypes::char_of))]
+    #[tactic(auto, unfolding(c_grammar::specs::inside::ModelTypes::char_of))]
     fn char(&mut self, line: u32, kind: Kind) -> Result<(u32, Kind), Stopped>
         ensures { Reads (model.char_of line kind self.old.rest.now) result self.new.rest.now }
     {
@@ -29,7 +29,7 @@ impl Parser<'_> {
     }
 
     /// `short` or `long`, and an `int` that may be left out, behind a sign.
-    #[tactic(auto, unfolding(c_grammar::specs::ModelTypes::and_int_of))]
+    #[tactic(auto, unfolding(c_grammar::specs::inside::ModelTypes::and_int_of))]
     fn and_int(&mut self, key: Key, line: u32, kind: Kind) -> Result<(u32, Kind), Stopped>
         ensures { Reads (model.and_int_of key line kind self.old.rest.now) result
             self.new.rest.now }
@@ -39,7 +39,7 @@ impl Parser<'_> {
     }
 
     /// Behind `signed` or `unsigned`: the types with `char`, `short`, `int` and `long`.
-    #[tactic(auto, unfolding(c_grammar::specs::ModelTypes::sized_of))]
+    #[tactic(auto, unfolding(c_grammar::specs::inside::ModelTypes::sized_of))]
     fn sized(
         &mut self,
         line: u32,
@@ -63,7 +63,7 @@ impl Parser<'_> {
         self.int(line, int)
     }
 
-    #[tactic(auto, unfolding(c_grammar::specs::ModelTypes::signed_of))]
+    #[tactic(auto, unfolding(c_grammar::specs::inside::ModelTypes::signed_of))]
     fn signed(&mut self) -> Result<(u32, Kind), Stopped>
         ensures { Reads (model.signed_of self.old.rest.now) result self.new.rest.now }
     {
@@ -71,7 +71,7 @@ impl Parser<'_> {
         self.sized(line, Kind::Char, Kind::Short, Kind::Int, Kind::Long)
     }
 
-    #[tactic(auto, unfolding(c_grammar::specs::ModelTypes::unsigned_of))]
+    #[tactic(auto, unfolding(c_grammar::specs::inside::ModelTypes::unsigned_of))]
     fn unsigned(&mut self) -> Result<(u32, Kind), Stopped>
         ensures { Reads (model.unsigned_of self.old.rest.now) result self.new.rest.now }
     {
@@ -79,7 +79,7 @@ impl Parser<'_> {
         self.sized(line, Kind::UChar, Kind::UShort, Kind::UInt, Kind::ULong)
     }
 
-    #[tactic(auto, unfolding(c_grammar::specs::ModelTypes::plain_of))]
+    #[tactic(auto, unfolding(c_grammar::specs::inside::ModelTypes::plain_of))]
     fn plain(&mut self, key: Key, kind: Kind) -> Result<(u32, Kind), Stopped>
         ensures { Reads (model.plain_of key kind self.old.rest.now) result self.new.rest.now }
     {
@@ -88,7 +88,7 @@ impl Parser<'_> {
     }
 
     /// A type that begins with `short` or `long`.
-    #[tactic(auto, unfolding(c_grammar::specs::ModelTypes::begun_of))]
+    #[tactic(auto, unfolding(c_grammar::specs::inside::ModelTypes::begun_of))]
     fn begun(&mut self, key: Key, kind: Kind) -> Result<(u32, Kind), Stopped>
         ensures { Reads (model.begun_of key kind self.old.rest.now) result self.new.rest.now }
     {
@@ -97,7 +97,7 @@ impl Parser<'_> {
     }
 
     /// A type, and the line of its first word.
-    #[tactic(auto, unfolding(c_grammar::specs::ModelTypes::type_of))]
+    #[tactic(auto, unfolding(c_grammar::specs::inside::ModelTypes::type_of))]
     pub fn type_name(&mut self) -> Result<(u32, Kind), Stopped>
         ensures { Reads (model.type_of self.old.rest.now) result self.new.rest.now }
     {

@@ -5,8 +5,9 @@ ghost use Rattle.c_tree.specs.declared.tree.Top.{Top};
 ghost use Rattle.c_grammar.specs.Answers.{HasSyntaxFault, IsTooDeep};
 ghost use Rattle.c_grammar.specs.Accepted.{IsUnit};
 ghost use Rattle.c_grammar.specs.Answers as grammar;
-ghost use Rattle.c_parse.specs.Parses as parses;
-ghost use Rattle.c_parse.specs.Parses.{HasFault, IsMemory, Tells};
+ghost use Rattle.c_parse.specs.inside.Parses as parses;
+ghost use Rattle.c_parse.specs.Parses.{HasFault};
+ghost use Rattle.c_parse.specs.inside.Parses.{IsMemory, Tells};
 ghost use Rattle.c_parse.specs.declared.unit.ParseFault.{ParseFault};
 ghost use Rattle.c_parse.specs.declared.unit.ParseFault.TheVariants as faults;
 

@@ -1,4 +1,4 @@
 pub mod Limits
-pub mod Trees
 pub mod TypedTrees
 pub mod Words
+pub mod inside

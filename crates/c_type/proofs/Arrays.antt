@@ -10,13 +10,13 @@ use Rattle.c_tree.specs.declared.typed.Place.TheVariants as place
 use Rattle.c_tree.specs.declared.typed.TypedStmt.{TypedStmt}
 use Rattle.c_tree.specs.declared.typed.TypedStmt.TheVariants as typed
 use Rattle.c_type_expr.specs.declared.fault.TypeFault.{TypeFault}
-use Rattle.c_type_expr.specs.Says.{Stops}
+use Rattle.c_type_expr.specs.inside.Says.{Stops}
 use Rattle.c_type.specs.declared.state.State.{State}
 use Rattle.c_type.specs.declared.state.Around.{Around}
 use Rattle.c_type.specs.States.{at, with_array, row_in}
 use Rattle.c_type.specs.Declarations.{declared, declare_fault, declare_tree, sized_fault, extent}
 use Rattle.c_type.specs.Statements.{part}
-use Rattle.c_type.specs.Runs.{Runs, Moves}
+use Rattle.c_type.specs.inside.Runs.{Runs, Moves}
 use Rattle.c_type.proofs.Nodes.{after-Declare, fault-Declare, tree-Declare}
 
 module _ (k : Kind) (w : List ℕ) (init : Option Expr) (l : ℕ) (v : State) where

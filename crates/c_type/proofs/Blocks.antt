@@ -22,11 +22,13 @@ use Rattle.c_type_expr.specs.Scope.{Scope, look_up, opened, closed, declared_in}
 use Rattle.c_type.specs.declared.file_scope.FileScope.{FileScope}
 use Rattle.c_type.specs.declared.state.State.{State}
 use Rattle.c_type.specs.States.{at, entered, with_switch, is_end, named_param, with_params, slot_of}
-use Rattle.c_type.specs.LeftOut.{some_block}
+use Rattle.c_type.specs.inside.LeftOut.{some_block}
 use Rattle.c_type.specs.Declarations.{declared}
-use Rattle.c_type.specs.Statements.{statements_in, part, beginning_of, all_after, section_of, sections_after, switch_kind}
+use Rattle.c_type.specs.Statements.{statements_in, part, beginning_of, all_after, sections_after, switch_kind}
+use Rattle.c_type.specs.inside.Statements.{section_of}
 use Rattle.c_type.specs.FileScopes.{eof_name, with_include, function_names}
-use Rattle.c_type.specs.Functions.{body_in, body_part, entry, param_names, next_number, params_names, callee_in}
+use Rattle.c_type.specs.Functions.{body_in, body_part, entry, callee_in}
+use Rattle.c_type.specs.inside.Functions.{param_names, next_number, params_names}
 use Rattle.c_type.specs.Programs.{node_after, item_after}
 use Rattle.c_type.proofs.Nodes.{after-Declare, after-Plain, after-Compound, after-If, after-While, after-Do}
 use Rattle.c_type.proofs.Nodes.{after-For, after-Switch, after-Break, after-Continue, after-Return}
@@ -190,7 +192,7 @@ module _ (I N X S : Type 0) (of_i : I → ForInit) (of_n : N → StmtNode) (of_x
       → KeepsSection (roll-Section (map-Section I N X S ForInit StmtNode Section Stmt of_i of_n of_x of_s y))
   at_section y =
       subst (λ (x : Section-F ForInit StmtNode Section Stmt). (v : State) → Open v
-          → Open (all_after (map part x.body) v))
+      → Open (all_after (map part x.body) v))
       (sym (out-roll-Section (map-Section I N X S ForInit StmtNode Section Stmt of_i of_n of_x of_s y)))
       (all_keep y.body)
 

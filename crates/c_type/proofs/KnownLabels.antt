@@ -6,7 +6,7 @@ use Rattle.std.specs.HashSet.{HashSet, contains}
 use Rattle.std.proofs.lemmas.Bool.{eqb-true, eq-eqb}
 use Rattle.std.specs.List.{list_any}
 use Rattle.c_type.specs.Labels.{label_among, same_label}
-use Rattle.c_type.specs.Seen.{Knows}
+use Rattle.c_type.specs.inside.Seen.{Knows}
 
 last_alone : (b : Bool) → b || false ≡ false || b
 last_alone true = refl

@@ -23,7 +23,7 @@ use Rattle.c_type_expr.specs.declared.role.Role.TheVariants.{Value, Free}
 use Rattle.c_type_expr.specs.Blames.{first, unless}
 use Rattle.c_type_expr.specs.Trees.{tree}
 use Rattle.c_type_expr.specs.Constants.{full}
-use Rattle.c_type_expr.specs.Says.{Stops}
+use Rattle.c_type_expr.specs.inside.Says.{Stops}
 use Rattle.c_type.specs.declared.state.State.{State}
 use Rattle.c_type.specs.declared.state.Around.{Around}
 use Rattle.c_type.specs.States.{at, entered, left, with_switch, in_loop}
@@ -32,8 +32,9 @@ use Rattle.c_type.specs.Declarations.{declared, declare_fault, declare_tree}
 use Rattle.c_type.specs.Statements.{Part, Beginning, part, beginning_of, init_part, node_part, at_line, all_after}
 use Rattle.c_type.specs.Statements.{all_fault, all_trees, else_after, else_fault, else_tree, rest_fault, for_fault}
 use Rattle.c_type.specs.Statements.{for_tree, return_fault, return_tree, SectionPart, section_part, statements_in}
-use Rattle.c_type.specs.Statements.{section_of, switch_part, switch_fault, switch_tree, switch_kind, sections_after}
-use Rattle.c_type.specs.Runs.{Runs}
+use Rattle.c_type.specs.Statements.{switch_part, switch_fault, switch_tree, switch_kind, sections_after}
+use Rattle.c_type.specs.inside.Statements.{section_of}
+use Rattle.c_type.specs.inside.Runs.{Runs}
 
 abbrev A : Type 0
 A = ℕ → Part
@@ -48,7 +49,7 @@ unfolding part
 part_by l n x e =
     fold_out-Stmt Beginning A SectionPart Part init_part node_part section_part at_line (at l n)
     ∙ ap (λ (m : StmtNode). fold-StmtNode Beginning A SectionPart Part init_part node_part section_part at_line m l)
-        (sym e)
+    (sym e)
     ∙ ap (λ (f : A). f l) (fold-roll-StmtNode Beginning A SectionPart Part init_part node_part section_part at_line x)
 
 -- the measure of a list of statements, and of a leg that may be left out

@@ -16,7 +16,8 @@ use Rattle.c_type_expr.specs.Blames.{Blame, first}
 use Rattle.c_type_expr.specs.Constants.{full_constant, constant_at}
 use Rattle.c_constant.specs.Kinds.{bytes}
 use Rattle.c_type.specs.States.{row_if, row_in}
-use Rattle.c_type.specs.Units.{values_fault, filled_rows, rows_words, row_length}
+use Rattle.c_type.specs.Units.{rows_words, row_length}
+use Rattle.c_type.specs.inside.Units.{values_fault, filled_rows}
 use Rattle.c_type.specs.FileScopes.{all_values}
 
 -- which of three faults is first

@@ -17,7 +17,8 @@ use Rattle.c_type.specs.Statements.{label_among}
 use Rattle.c_type.specs.States.{in_switch, nowhere}
 use Rattle.c_type.specs.Units.{same_slots, included}
 use Rattle.c_type.specs.FileScopes.{eof_name, getchar_name, putchar_name, main_name}
-use Rattle.c_type.specs.Programs.{program_fault, table}
+use Rattle.c_type.specs.Programs.{table}
+use Rattle.c_type.specs.inside.Programs.{program_fault}
 
 abbrev at : ℕ → TopNode → Top
 at l n = record { line = l; node = n }

@@ -6,7 +6,6 @@ use Rattle.c_tree.specs.declared.tree.ArraySize.{ArraySize}
 use Rattle.c_tree.specs.declared.tree.ArraySize.TheVariants as size
 use Rattle.c_tree.specs.declared.tree.Expr.{Expr}
 use Rattle.c_tree.specs.declared.typed.Place.TheVariants as place
-use Rattle.c_tree.specs.declared.typed.TypedArray.{TypedArray}
 use Rattle.c_tree.specs.declared.typed.TypedStmt.{TypedStmt}
 use Rattle.c_tree.specs.declared.typed.TypedStmt.TheVariants as typed
 use Rattle.c_constant.specs.Kinds.{bytes}
@@ -53,10 +52,6 @@ rows_of _ = 0
 -- how many elements they give in all
 abbrev pub extent : ArraySize → ℕ
 extent s = rows_of s * length_in s
-
--- the local array of these sizes
-abbrev pub typed_array : ArraySize → Kind → TypedArray
-typed_array s k = record { kind = k; length = extent s; row = row_in s }
 
 -- the sizes of a local array are given, and constants of at least 1
 abbrev pub sizes_fault : ArraySize → ℕ → Scope → Blame

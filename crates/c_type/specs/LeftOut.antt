@@ -1,5 +1,5 @@
 -- Full expressions that may be left out: their first fault and their typed tree; and whether a block is open.
-use Rattle.std.specs.Prelude.{Option, Some, None, Bool, true, false, [], ◌∷◌}
+use Rattle.std.specs.Prelude.{Option, Some, None}
 use Rattle.c_tree.specs.declared.token.Kind.{Kind}
 use Rattle.c_tree.specs.declared.tree.Expr.{Expr}
 use Rattle.c_tree.specs.declared.typed.TypedExpr.{TypedExpr}
@@ -24,8 +24,3 @@ tree_if (Some e) G = Some (tree e G)
 abbrev pub value_of : Option Expr → Kind → Scope → Option TypedExpr
 value_of None k G = None
 value_of (Some e) k G = Some (with_convert k (tree e G))
-
--- is a block open?
-abbrev pub some_block : Scope → Bool
-some_block [] = false
-some_block (f ∷ G) = true

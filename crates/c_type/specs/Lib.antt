@@ -4,15 +4,14 @@ pub use Rattle.c_type_expr.specs.Faults
 pub use Rattle.c_type_expr.specs.Conversions
 pub use Rattle.c_type_expr.specs.Trees
 pub use Rattle.c_type_expr.specs.Constants
-pub use Rattle.c_type_expr.specs.Says
+pub use Rattle.c_type_expr.specs.inside.Says
 pub mod States
 pub mod Declarations
 pub mod Labels
-pub mod Seen
 pub mod Statements
-pub mod Runs
 pub mod Units
 pub mod Functions
 pub mod Programs
 pub mod LeftOut
 pub mod FileScopes
+pub mod inside

@@ -271,10 +271,6 @@ labels_in x = (out-Section x).labels
 abbrev pub statements_in : Section → List Stmt
 statements_in x = (out-Section x).body
 
--- what a section does
-abbrev pub section_of : Section → SectionPart
-section_of x = record { labels = labels_in x; body = map part (statements_in x) }
-
 -- what the first part of a `for` does, by recursion on it
 unfoldable pub beginning_of : ForInit → Beginning
 beginning_of i =

@@ -1,6 +1,6 @@
 -- File scope (C17 6.7, 6.9): the include, globals and the signatures of functions.
-use Rattle.std.specs.Prelude.{ℕ, ◌+◌, ◌-◌, ◌*◌, replicate, take, drop, Bool, true, false, cond, not, ◌&&◌, nat_le}
-use Rattle.std.specs.Prelude.{nat_lt, length, List, [], ◌∷◌, ◌++◌, map, Option, Some, None}
+use Rattle.std.specs.Prelude.{ℕ, ◌+◌, ◌-◌, ◌*◌, replicate, Bool, true, false, cond, not, ◌&&◌, nat_le}
+use Rattle.std.specs.Prelude.{length, List, [], ◌∷◌, ◌++◌, map, Option, Some, None}
 use Rattle.c_tree.specs.Limits.{most_object_bytes}
 use Rattle.c_tree.specs.declared.token.Kind.{Kind}
 use Rattle.c_tree.specs.declared.token.Kind.TheVariants.{Int}
@@ -18,7 +18,7 @@ use Rattle.c_type_expr.specs.Scope.{Scope, look_up}
 use Rattle.c_type_expr.specs.declared.fault.TypeFault.TheVariants.{Twice, Mismatch, TooLarge}
 use Rattle.c_type_expr.specs.Roles.{same_row}
 use Rattle.c_type_expr.specs.Blames.{Blame, first, unless}
-use Rattle.c_type_expr.specs.Constants.{size_fault, full_constant, constant_at}
+use Rattle.c_type_expr.specs.Constants.{constant_at}
 use Rattle.c_constant.specs.Constant.{length_of, word_in}
 use Rattle.c_type.specs.declared.file_scope.FileScope.{FileScope}
 use Rattle.c_constant.specs.Kinds.{bytes}
@@ -91,11 +91,6 @@ abbrev pub place_fault : ℕ → Kind → List ℕ → ℕ → FileScope → Bla
 place_fault n k w l U =
     first (twice_fault U.names w l) (unless (nat_le (n * bytes k + U.bytes) most_object_bytes) (TooLarge l))
 
--- the first fault of a global's values
-abbrev pub values_fault : List Expr → Scope → Blame
-values_fault [] G = None
-values_fault (e ∷ es) G = first (full_constant e G) (values_fault es G)
-
 -- how many rows a global has, 1 where it has one size or none: empty first brackets of two have as many
 -- as are given
 abbrev pub global_rows : ArraySize → List (List Expr) → ℕ
@@ -122,12 +117,6 @@ row_words k n es = map (constant_at k) es ++ replicate (n - length es) 0
 abbrev pub rows_words : Kind → ℕ → List (List Expr) → List ℕ
 rows_words k n [] = []
 rows_words k n (es ∷ ess) = row_words k n es ++ rows_words k n ess
-
--- the words of rows taken from those of all values, as many for each row as it has values
-abbrev pub filled_rows : ℕ → List (List Expr) → List ℕ → List ℕ
-filled_rows n [] ws = []
-filled_rows n (es ∷ ess) ws =
-    (take (length es) ws ++ replicate (n - length es) 0) ++ filled_rows n ess (drop (length es) ws)
 
 -- the words that a global begins with: whole rows, where it has two sizes
 abbrev pub init_words : ArraySize → Kind → List (List Expr) → List ℕ
@@ -163,25 +152,3 @@ with_global size k w init U =
       globals = U.globals ++ typed_global size k init ∷ [];
       bytes = count_of size init * bytes k + U.bytes;
     }
-
--- the sizes come before the declarator, and the values after it; empty first brackets want a value or
--- a row
-abbrev pub count_fault : ArraySize → List (List Expr) → ℕ → Scope → Blame
-count_fault size.Scalar init l G = None
-count_fault size.Open init l G = unless (nat_lt 0 (length (all_values init))) (Mismatch l)
-count_fault (size.Sized e) init l G = size_fault e G
-count_fault (size.Rows None e) init l G =
-    first (size_fault e G) (unless (nat_lt 0 (length init)) (Mismatch l))
-count_fault (size.Rows (Some r) e) init l G = first (size_fault r G) (size_fault e G)
-
--- what of the declarator comes before its values
-abbrev pub admitted_fault : ArraySize → Kind → List ℕ → List (List Expr) → ℕ → FileScope → Blame
-admitted_fault size k w init l U =
-    first (count_fault size init l U.names) (place_fault (count_of size init) k w l U)
-
--- a global's first fault: the sizes, the declarator, the values, then that they are not too many
-abbrev pub global_fault : ArraySize → Kind → List ℕ → List (List Expr) → ℕ → FileScope → Blame
-global_fault size k w init l U =
-    first (admitted_fault size k w init l U)
-    (first (values_fault (all_values init) (global_names size k w U))
-    (unless (init_fits size init) (Mismatch l)))

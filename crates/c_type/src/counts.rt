@@ -1,7 +1,7 @@
 //! How long lists are, as a typed program keeps it.
 
 ghost use Rattle.std.specs.Prelude.{None};
-ghost use Rattle.c_type_expr.specs.Says.{Says};
+ghost use Rattle.c_type_expr.specs.inside.Says.{Says};
 
 use c_type_expr::TypeFault;
 

@@ -5,12 +5,13 @@ ghost use Rattle.std.specs.Option.{option_copied};
 ghost use Rattle.c_tree.specs.declared.tree.StmtNode.TheVariants as node;
 ghost use Rattle.c_type_expr.specs.Blames.{first};
 ghost use Rattle.c_type_expr.specs.Constants as constants;
-ghost use Rattle.c_type_expr.specs.Says.{Says};
+ghost use Rattle.c_type_expr.specs.inside.Says.{Says};
 ghost use Rattle.c_type.specs.States as states;
 ghost use Rattle.c_type.specs.LeftOut as left_out;
 ghost use Rattle.c_type.specs.Declarations as declarations;
+ghost use Rattle.c_type.specs.inside.Declarations as inside_declarations;
 ghost use Rattle.c_type.specs.Statements.{part};
-ghost use Rattle.c_type.specs.Runs.{Runs, Moves, Adds};
+ghost use Rattle.c_type.specs.inside.Runs.{Runs, Moves, Adds};
 
 use crate::counts::{counted, short};
 use crate::parts::value_to;
@@ -203,7 +204,7 @@ fn bare_array(
     line: u32,
 ) -> Result<TypedArray, TypeFault>
     ensures { Says (declarations.sized_fault size.now kind name.now init.now line names.now)
-        (declarations.typed_array size.now kind) result }
+        (inside_declarations.typed_array size.now kind) result }
 {
     let (length, row) = array_length(names, size, kind, name, line)?;
     no_init(init, line)?;

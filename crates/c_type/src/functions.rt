@@ -2,14 +2,15 @@
 
 ghost use Rattle.std.specs.Prelude.{◌≡◌, map, length, Some, None, OnOk, true};
 ghost use Rattle.std.specs.Option.{option_copied};
-ghost use Rattle.c_type_expr.specs.Says.{Says};
+ghost use Rattle.c_type_expr.specs.inside.Says.{Says};
 ghost use Rattle.c_type_expr.specs.Scope.{closed};
 ghost use Rattle.c_type.specs.Functions as functions;
+ghost use Rattle.c_type.specs.inside.Functions as inside_functions;
 ghost use Rattle.c_type.specs.States as states;
-ghost use Rattle.c_type.specs.LeftOut.{some_block};
+ghost use Rattle.c_type.specs.inside.LeftOut.{some_block};
 ghost use Rattle.c_type.specs.States.{nowhere};
 ghost use Rattle.c_type.specs.Functions.{body_part, file_with};
-ghost use Rattle.c_type.specs.Runs.{Runs, Moves, Adds};
+ghost use Rattle.c_type.specs.inside.Runs.{Runs, Moves, Adds};
 
 use crate::counts::counted;
 use crate::declarations::{add_address, add_scalar};
@@ -41,7 +42,7 @@ fn head(
     line: u32,
 ) -> Result<Items<Slot>, TypeFault>
     requires { some_block names.old ≡ true }
-    ensures value { Says (functions.head_fault is_def given name.now params.now line names.old)
+    ensures value { Says (inside_functions.head_fault is_def given name.now params.now line names.old)
         (map states.slot_of params.now) result }
     ensures same { OnOk result (names.new ≡ names.old) }
 {
@@ -71,7 +72,7 @@ fn declared(
     slots: Items<Slot>,
     defined: bool,
 ) -> Result<(), TypeFault>
-    ensures { Moves None tt (functions.with_function table.now name given slots defined names.old)
+    ensures { Moves None tt (inside_functions.with_function table.now name given slots defined names.old)
         names.new result }
 {
     let callee = callee_in(table.look_up(&name));
@@ -100,7 +101,7 @@ pub fn prototype(
 ) -> Result<(), TypeFault>
     requires { some_block names.old ≡ true }
     ensures { Moves
-        (functions.head_fault Rattle.std.specs.Prelude.false given name params.now line names.old)
+        (inside_functions.head_fault Rattle.std.specs.Prelude.false given name params.now line names.old)
         tt
         (functions.with_prototype table.now name given (map states.slot_of params.now) names.old)
         names.new result }
@@ -266,7 +267,7 @@ pub fn definition(
     s: Stmt,
 ) -> Result<(), TypeFault>
     requires { some_block file.old.names ≡ true }
-    ensures { Moves (functions.definition_fault table.now given name params s line file.old) tt
+    ensures { Moves (inside_functions.definition_fault table.now given name params s line file.old) tt
         (functions.with_definition table.now given name params s file.old) file.new result }
 {
     let slots = head(

@@ -4,11 +4,12 @@ ghost use Rattle.std.specs.Prelude.{◌≡◌, ◌+◌, ◌*◌, ◌≤◌, nat_
 ghost use Rattle.c_tree.specs.Limits.{most_object_bytes};
 ghost use Rattle.c_type.specs.States as states;
 ghost use Rattle.c_type_expr.specs.Blames.{first, unless};
-ghost use Rattle.c_type_expr.specs.Says.{Says};
+ghost use Rattle.c_type_expr.specs.inside.Says.{Says};
 ghost use Rattle.c_constant.specs.Kinds as kinds;
 ghost use Rattle.c_type.specs.Units as units;
+ghost use Rattle.c_type.specs.inside.Units as inside_units;
 ghost use Rattle.c_type.specs.FileScopes as file_scopes;
-ghost use Rattle.c_type.specs.Runs.{Moves};
+ghost use Rattle.c_type.specs.inside.Runs.{Moves};
 
 use crate::counts::{counted, short};
 use crate::declarations::{row_in, twice};
@@ -68,7 +69,7 @@ fn sizes_in(
     init: &[Items<Boxed<Expr>>],
     line: u32,
 ) -> Result<(u64, u64), TypeFault>
-    ensures { Says (units.count_fault size.now init.now line names.now)
+    ensures { Says (inside_units.count_fault size.now init.now line names.now)
         (units.global_rows size.now init.now, units.row_length size.now init.now) result }
 {
     match size {
@@ -155,7 +156,7 @@ fn admit(
     size: &ArraySize,
     init: &[Items<Boxed<Expr>>],
 ) -> Result<Admitted, TypeFault>
-    ensures value { Says (units.admitted_fault size.now kind name.now init.now line file.now) (record {
+    ensures value { Says (inside_units.admitted_fault size.now kind name.now init.now line file.now) (record {
       number = length file.now.globals;
       rows = units.global_rows size.now init.now;
       length = units.row_length size.now init.now;
@@ -188,7 +189,7 @@ fn given(
 ) -> Result<Items<u64>, TypeFault>
     requires rows { known.rows ≡ units.global_rows size.now init.now }
     requires length { known.length ≡ units.row_length size.now init.now }
-    ensures { Says (first (units.values_fault (file_scopes.all_values init.now) names.now)
+    ensures { Says (first (inside_units.values_fault (file_scopes.all_values init.now) names.now)
         (unless (units.init_fits size.now init.now) (TypeFault.Mismatch line)))
         (units.init_words size.now kind init.now) result }
 {
@@ -213,7 +214,7 @@ pub fn global(
     size: &ArraySize,
     init: &[Items<Boxed<Expr>>],
 ) -> Result<(), TypeFault>
-    ensures { Moves (units.global_fault size.now kind name init.now line file.old) tt
+    ensures { Moves (inside_units.global_fault size.now kind name init.now line file.old) tt
         (units.with_global size.now kind name init.now file.old) file.new result }
 {
     let known = admit(file, line, kind, &name, size, init)?;

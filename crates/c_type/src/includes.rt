@@ -1,10 +1,10 @@
 //! The include of `<stdio.h>`: `getchar`, `putchar` and `EOF`.
 
 ghost use Rattle.std.specs.Prelude.{◌≡◌, [], ◌∷◌, IfOk};
-ghost use Rattle.c_type_expr.specs.Says.{Says};
+ghost use Rattle.c_type_expr.specs.inside.Says.{Says};
 ghost use Rattle.c_type.specs.Units as units;
 ghost use Rattle.c_type.specs.FileScopes as file_scopes;
-ghost use Rattle.c_type.specs.Runs.{Moves};
+ghost use Rattle.c_type.specs.inside.Runs.{Moves};
 
 use crate::declarations::{is_end, twice};
 use crate::signatures::{agrees, undefined};

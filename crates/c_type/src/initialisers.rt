@@ -2,8 +2,9 @@
 
 ghost use Rattle.std.specs.Prelude.{◌≡◌, ◌++◌, map, length, replicate, None, OnOk};
 ghost use Rattle.c_type_expr.specs.Constants as constants;
-ghost use Rattle.c_type_expr.specs.Says.{Says};
+ghost use Rattle.c_type_expr.specs.inside.Says.{Says};
 ghost use Rattle.c_type.specs.Units as units;
+ghost use Rattle.c_type.specs.inside.Units as inside_units;
 ghost use Rattle.c_type.specs.FileScopes as file_scopes;
 
 use base::{Boxed, Items};
@@ -32,7 +33,7 @@ fn add_values(
     list: &[Boxed<Expr>],
     found: &mut Items<u64>,
 ) -> Result<(), TypeFault>
-    ensures fault { Says (units.values_fault list.now names.now) tt result }
+    ensures fault { Says (inside_units.values_fault list.now names.now) tt result }
     ensures ok { OnOk result (found.new ≡ found.old ++ map (constants.constant_at kind) list.now) }
 {
     for e in list {
@@ -50,7 +51,7 @@ pub fn values(
     kind: Kind,
     init: &[Items<Boxed<Expr>>],
 ) -> Result<Items<u64>, TypeFault>
-    ensures { Says (units.values_fault (file_scopes.all_values init.now) names.now)
+    ensures { Says (inside_units.values_fault (file_scopes.all_values init.now) names.now)
         (map (constants.constant_at kind) (file_scopes.all_values init.now)) result }
 {
     let mut found = Items::new(alloc);
@@ -90,7 +91,7 @@ pub fn whole_rows(
 ) -> Result<Items<u64>, TypeFault>
     requires { Rattle.std.specs.Prelude.length words.now
         ≡ Rattle.std.specs.Prelude.length (file_scopes.all_values init.now) }
-    ensures { Says None (units.filled_rows length init.now words.now) result }
+    ensures { Says None (inside_units.filled_rows length init.now words.now) result }
 {
     let mut found = Items::new(alloc);
     let mut rest = words;

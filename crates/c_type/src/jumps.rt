@@ -2,11 +2,11 @@
 
 ghost use Rattle.c_tree.specs.declared.tree.StmtNode.TheVariants as node;
 ghost use Rattle.c_type_expr.specs.Blames.{first};
-ghost use Rattle.c_type_expr.specs.Says.{Says};
+ghost use Rattle.c_type_expr.specs.inside.Says.{Says};
 ghost use Rattle.c_type.specs.States as states;
 ghost use Rattle.c_type.specs.LeftOut as left_out;
 ghost use Rattle.c_type.specs.Statements.{part, return_fault, return_tree};
-ghost use Rattle.c_type.specs.Runs.{Runs};
+ghost use Rattle.c_type.specs.inside.Runs.{Runs};
 
 use crate::parts::{full_if, value_to};
 use crate::state::{Around, State};

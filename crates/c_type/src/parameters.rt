@@ -5,11 +5,12 @@ ghost use Rattle.std.specs.Option.{option_copied};
 ghost use Rattle.c_tree.specs.Limits.{most_object_bytes};
 ghost use Rattle.c_constant.specs.Kinds as kinds;
 ghost use Rattle.c_type_expr.specs.Constants.{size_fault};
-ghost use Rattle.c_type_expr.specs.Says.{Says};
+ghost use Rattle.c_type_expr.specs.inside.Says.{Says};
 ghost use Rattle.c_type.specs.States as states;
 ghost use Rattle.c_type.specs.Functions as functions;
-ghost use Rattle.c_type.specs.LeftOut.{some_block};
-ghost use Rattle.c_type.specs.Runs.{NamesAre, Names};
+ghost use Rattle.c_type.specs.inside.Functions as inside_functions;
+ghost use Rattle.c_type.specs.inside.LeftOut.{some_block};
+ghost use Rattle.c_type.specs.inside.Runs.{NamesAre, Names};
 
 use crate::counts::short;
 use crate::declarations::is_end;
@@ -106,7 +107,7 @@ fn name_at(
 
 /// What the name of a parameter means, of that number among the scalars.
 fn meaning_at(size: &ArraySize, kind: Kind, number: u32) -> Result<Meaning, TypeFault>
-    ensures { Says None (functions.param_meaning size.now kind number) result }
+    ensures { Says None (inside_functions.param_meaning size.now kind number) result }
 {
     match size {
         ArraySize::Scalar => Ok(Meaning::Scalar(kind, Place::Scalar(number))),
@@ -123,7 +124,7 @@ fn meaning_at(size: &ArraySize, kind: Kind, number: u32) -> Result<Meaning, Type
 
 /// Declares the name of a parameter in the innermost block, and gives the number of the next one.
 fn add_name(alloc: Global, names: &mut Scopes, param: &Param, number: u32) -> Result<u32, TypeFault>
-    ensures { Names (functions.next_number param.now.name number) (functions.param_names
+    ensures { Names (inside_functions.next_number param.now.name number) (inside_functions.param_names
         param.now.name param.now.size param.now.kind number names.old) names.new result }
 {
     let Some(name) = &param.name else {
@@ -140,7 +141,7 @@ fn add_name(alloc: Global, names: &mut Scopes, param: &Param, number: u32) -> Re
 
 /// Declares the names of parameters in the innermost block.
 fn add_names(alloc: Global, names: &mut Scopes, seen: &[Param]) -> Result<(), TypeFault>
-    ensures { NamesAre (functions.params_names seen.now 0 names.old) names.new result }
+    ensures { NamesAre (inside_functions.params_names seen.now 0 names.old) names.new result }
 {
     let mut number = 0;
     for param in seen {
@@ -178,7 +179,7 @@ fn row_at(
     size: &ArraySize,
 ) -> Result<(), TypeFault>
     requires { some_block names.old ≡ true }
-    ensures fault { Says (functions.row_fault size.now names.old seen.now) tt result }
+    ensures fault { Says (inside_functions.row_fault size.now names.old seen.now) tt result }
     ensures same { OnOk result (names.new ≡ names.old) }
 {
     match size {
@@ -218,7 +219,7 @@ fn param_at(
     param: &Param,
 ) -> Result<(), TypeFault>
     requires { some_block names.old ≡ true }
-    ensures fault { Says (functions.param_fault is_def names.old seen.now param.now) tt result }
+    ensures fault { Says (inside_functions.param_fault is_def names.old seen.now param.now) tt result }
     ensures same { OnOk result (names.new ≡ names.old) }
 {
     row_at(alloc, names, seen, &param.size)?;
@@ -237,7 +238,7 @@ pub fn params_at(
     params: &[Param],
 ) -> Result<(), TypeFault>
     requires { some_block names.old ≡ true }
-    ensures fault { Says (functions.params_fault is_def names.old [] params.now) tt result }
+    ensures fault { Says (inside_functions.params_fault is_def names.old [] params.now) tt result }
     ensures same { OnOk result (names.new ≡ names.old) }
 {
     for i in 0..params.len() {

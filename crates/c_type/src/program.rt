@@ -3,11 +3,12 @@
 ghost use Rattle.std.specs.Prelude.{◌≡◌, [], ◌∷◌, None, true};
 ghost use Rattle.std.specs.Option.{option_copied};
 ghost use Rattle.c_type_expr.specs.Blames.{unless};
-ghost use Rattle.c_type_expr.specs.Says.{Says};
-ghost use Rattle.c_type.specs.LeftOut.{some_block};
+ghost use Rattle.c_type_expr.specs.inside.Says.{Says};
+ghost use Rattle.c_type.specs.inside.LeftOut.{some_block};
 ghost use Rattle.c_type.specs.Programs as programs;
+ghost use Rattle.c_type.specs.inside.Programs as inside_programs;
 ghost use Rattle.c_type.specs.FileScopes as file_scopes;
-ghost use Rattle.c_type.specs.Runs.{Moves};
+ghost use Rattle.c_type.specs.inside.Runs.{Moves};
 
 use crate::file_scope::FileScope;
 use crate::functions::{callee_in, definition, prototype};
@@ -20,7 +21,7 @@ use std::alloc::Global;
 
 /// Notes what an item defines, as the function of that number.
 fn note(alloc: Global, table: &mut Scopes, node: &TopNode, number: u32) -> Result<(), TypeFault>
-    ensures { programs.Notes (programs.noted node.now number table.old)
+    ensures { inside_programs.Notes (programs.noted node.now number table.old)
         table.new result }
 {
     match node {
@@ -82,7 +83,7 @@ fn table(alloc: Global, items: &[Top]) -> Result<Scopes, TypeFault>
 
 /// The file scope after the include.
 fn include_at(alloc: Global, file: &mut FileScope, line: u32) -> Result<(), TypeFault>
-    ensures { Moves (programs.node_fault ([] ∷ []) TopNode.Include line file.old) tt
+    ensures { Moves (inside_programs.node_fault ([] ∷ []) TopNode.Include line file.old) tt
         (programs.node_after ([] ∷ []) TopNode.Include file.old) file.new result }
 {
     include(alloc, &mut file.names, line)
@@ -99,7 +100,7 @@ fn prototype_at(
     params: &[Param],
 ) -> Result<(), TypeFault>
     requires { some_block file.old.names ≡ true }
-    ensures { Moves (programs.prototype_fault given name params.now line file.old) tt
+    ensures { Moves (inside_programs.prototype_fault given name params.now line file.old) tt
         (programs.with_prototype_at table.now given name params.now file.old) file.new result }
 {
     prototype(alloc, table, &mut file.names, line, given, name, params)
@@ -118,7 +119,7 @@ fn function(
 ) -> Result<(), TypeFault>
     requires { some_block file.old.names ≡ true }
     ensures { Moves
-        (programs.node_fault table.now (TopNode.Func given name params body) line file.old) tt
+        (inside_programs.node_fault table.now (TopNode.Func given name params body) line file.old) tt
         (programs.node_after table.now (TopNode.Func given name params body) file.old) file.new
         result }
 {
@@ -131,7 +132,7 @@ fn function(
 /// The file scope after an item.
 fn item(alloc: Global, table: &Scopes, file: &mut FileScope, top: Top) -> Result<(), TypeFault>
     requires { some_block file.old.names ≡ true }
-    ensures { Moves (programs.item_fault table.now top file.old) tt
+    ensures { Moves (inside_programs.item_fault table.now top file.old) tt
         (programs.item_after table.now top file.old) file.new result }
 {
     let Top { line, node } = top;
@@ -155,7 +156,7 @@ fn item(alloc: Global, table: &Scopes, file: &mut FileScope, top: Top) -> Result
 /// The file scope after all items.
 #[tactic(auto, using(crate::proofs::Blocks::on_items))]
 fn items(alloc: Global, table: &Scopes, tops: Items<Top>) -> Result<FileScope, TypeFault>
-    ensures { Says (programs.items_fault table.now tops file_scopes.empty_file)
+    ensures { Says (inside_programs.items_fault table.now tops file_scopes.empty_file)
         (programs.items_after table.now tops file_scopes.empty_file) result }
 {
     let mut file = FileScope {
@@ -208,7 +209,7 @@ fn number_in(callee: Option<Callee>) -> u32
 /// The typed program of a unit, or the first fault of its items; a `main` that is missing is found
 /// last.
 pub fn type_program(alloc: Global, program: Program) -> Result<TypedProgram, TypeFault>
-    ensures { Says (programs.program_fault program) (programs.program_tree program) result }
+    ensures { Says (inside_programs.program_fault program) (inside_programs.program_tree program) result }
 {
     let Program { items: tops } = program;
     let main = Word::from_slice(alloc, b"main")?;

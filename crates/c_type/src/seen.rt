@@ -3,8 +3,8 @@
 ghost use Rattle.std.specs.Prelude.{◌≡◌, ◌∷◌, [], ◌++◌, Some, None, not};
 ghost use Rattle.c_type_expr.specs.Blames.{unless};
 ghost use Rattle.c_type.specs.Labels.{label_among};
-ghost use Rattle.c_type.specs.Seen.{Knows, Grows};
-ghost use Rattle.c_type.specs.Runs.{Moves};
+ghost use Rattle.c_type.specs.inside.Seen.{Knows, Grows};
+ghost use Rattle.c_type.specs.inside.Runs.{Moves};
 
 use c_type_expr::TypeFault;
 use std::alloc::{AllocError, Global};
@@ -23,7 +23,7 @@ pub struct SeenLabels {
 
 impl Model for SeenLabels {
     ghost use Rattle.std.specs.Prelude.{List, Option, ℕ};
-    ghost use Rattle.c_type.specs.Seen.{Knows};
+    ghost use Rattle.c_type.specs.inside.Seen.{Knows};
 
     ghost Value = { List (Option ℕ) };
 

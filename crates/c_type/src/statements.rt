@@ -4,9 +4,10 @@ ghost use Rattle.std.specs.Prelude.{◌≡◌, [], map, option_map};
 ghost use Rattle.c_tree.specs.declared.tree.StmtNode.TheVariants as node;
 ghost use Rattle.c_type.specs.States.{at, in_loop};
 ghost use Rattle.c_type.specs.LeftOut.{tree_if};
-ghost use Rattle.c_type.specs.Statements.{part, section_of, beginning_of, tail_fault, rest_fault};
-ghost use Rattle.c_type.specs.Runs.{Runs, Moves, RunAll, RunElse, RunLegs, RunSection, RunSections};
-ghost use Rattle.c_type.specs.Runs.{Begins};
+ghost use Rattle.c_type.specs.Statements.{part, beginning_of, tail_fault, rest_fault};
+ghost use Rattle.c_type.specs.inside.Statements.{section_of};
+ghost use Rattle.c_type.specs.inside.Runs.{Runs, Moves, RunAll, RunElse, RunLegs, RunSection, RunSections};
+ghost use Rattle.c_type.specs.inside.Runs.{Begins};
 
 use crate::declarations::declare;
 use crate::jumps::{break_stmt, continue_stmt, give};

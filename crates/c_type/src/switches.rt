@@ -4,13 +4,13 @@ ghost use Rattle.std.specs.Prelude.{◌++◌, length, map, nat_lt};
 ghost use Rattle.c_tree.specs.Limits.{most_scalars};
 ghost use Rattle.c_type_expr.specs.Constants as constants;
 ghost use Rattle.c_type_expr.specs.Blames.{unless};
-ghost use Rattle.c_type_expr.specs.Says.{Says};
+ghost use Rattle.c_type_expr.specs.inside.Says.{Says};
 ghost use Rattle.c_type_expr.specs.Trees.{tree};
 ghost use Rattle.c_type_expr.specs.Conversions.{with_convert};
 ghost use Rattle.c_type.specs.States.{with_switch};
 ghost use Rattle.c_type.specs.Statements as statements;
 ghost use Rattle.c_type.specs.Statements.{labels_fault, switch_kind, case_fault};
-ghost use Rattle.c_type.specs.Runs.{Moves};
+ghost use Rattle.c_type.specs.inside.Runs.{Moves};
 
 use crate::seen::SeenLabels;
 use crate::state::State;

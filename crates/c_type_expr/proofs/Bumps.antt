@@ -13,7 +13,7 @@ use Rattle.c_type_expr.specs.declared.role.Role.TheVariants.{Value, Written}
 use Rattle.c_type_expr.specs.Blames.{Blame, first, unless}
 use Rattle.c_type_expr.specs.Faults.{is_place, fault, unwanted_value, left_role}
 use Rattle.c_type_expr.specs.Trees.{tree}
-use Rattle.c_type_expr.specs.Says.{Says, Types}
+use Rattle.c_type_expr.specs.inside.Says.{Says, Types}
 use Rattle.c_type_expr.specs.Roles.{at}
 use Rattle.c_type_expr.proofs.Nodes.{fault-Bump}
 

@@ -16,8 +16,8 @@ use Rattle.std.specs.Cmp.Lexicographic.{bytes_decides}
 use Rattle.c_type_expr.specs.declared.meaning.Entry.{Entry}
 use Rattle.c_type_expr.specs.declared.meaning.Binding.{Binding}
 use Rattle.c_type_expr.specs.Scope.{Frame, same_name, bindings}
-use Rattle.c_type_expr.specs.Frames.{place_in}
-use Rattle.c_type_expr.specs.Chains.{chain_of, number_of, head_in, Chained, KeptIn, Kept}
+use Rattle.c_type_expr.specs.inside.Frames.{place_in}
+use Rattle.c_type_expr.specs.inside.Chains.{chain_of, number_of, head_in, Chained, KeptIn, Kept}
 
 -- one more than a place, 0 for none
 abbrev pub above : Option ℕ → ℕ

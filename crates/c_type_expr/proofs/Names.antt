@@ -13,7 +13,7 @@ use Rattle.c_type_expr.specs.declared.meaning.Meaning.{Meaning}
 use Rattle.c_type_expr.specs.declared.meaning.Binding.{Binding}
 use Rattle.c_type_expr.specs.Scope.{Scope, Frame, same_name, find, look_up, is_here, or_else, closed}
 use Rattle.c_type_expr.specs.Scope.{declared_in, bindings, frames}
-use Rattle.c_type_expr.specs.Frames.{first_start, StartsFit, place_in}
+use Rattle.c_type_expr.specs.inside.Frames.{first_start, StartsFit, place_in}
 use Rattle.c_type_expr.proofs.Chains.{drop_reversed}
 
 over : (b : Bool) (m : Meaning) (x y : Option Meaning)

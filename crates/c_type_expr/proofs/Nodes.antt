@@ -20,9 +20,11 @@ use Rattle.c_type_expr.specs.declared.role.Role.TheVariants.{Value, Free}
 use Rattle.c_type_expr.specs.Blames.{Blame, first, unless}
 use Rattle.c_type_expr.specs.Faults.{Judged, node_judged, at_line, judged, is_place, fault, left_role}
 use Rattle.c_type_expr.specs.Faults.{unwanted_value, name_fault, element_fault, call_fault, slots_of}
-use Rattle.c_type_expr.specs.Faults.{role_at, rest_of, args_blame, args_fault}
+use Rattle.c_type_expr.specs.Faults.{role_at, rest_of, args_blame}
+use Rattle.c_type_expr.specs.inside.Faults.{args_fault}
 use Rattle.c_type_expr.specs.Trees.{name_tree, array_kind, array_place, result_kind, callee_of, argument, arguments}
-use Rattle.c_type_expr.specs.Trees.{node_tree, of_node, tree, args_tree}
+use Rattle.c_type_expr.specs.Trees.{node_tree, of_node, tree}
+use Rattle.c_type_expr.specs.inside.Trees.{args_tree}
 use Rattle.c_type_expr.specs.Conversions.{a, unary, cast, bump, binary, choice, assign, comma}
 use Rattle.c_type_expr.specs.Roles.{at}
 

@@ -22,8 +22,10 @@ use Rattle.c_type_expr.specs.declared.role.Role.TheVariants.{Value, Free, Writte
 use Rattle.c_type_expr.specs.Roles.{takes_element, takes_array, takes_value, takes_result, at}
 use Rattle.c_type_expr.specs.Blames.{Blame, first, unless}
 use Rattle.c_type_expr.specs.Faults.{fault, is_place, name_fault, element_fault, left_role}
-use Rattle.c_type_expr.specs.Faults.{call_fault, slots_of, args_fault}
-use Rattle.c_type_expr.specs.Trees.{tree, args_tree, name_tree, array_kind, array_place, result_kind, callee_of}
+use Rattle.c_type_expr.specs.Faults.{call_fault, slots_of}
+use Rattle.c_type_expr.specs.inside.Faults.{args_fault}
+use Rattle.c_type_expr.specs.Trees.{tree, name_tree, array_kind, array_place, result_kind, callee_of}
+use Rattle.c_type_expr.specs.inside.Trees.{args_tree}
 use Rattle.c_type_expr.specs.Conversions.{a, with_convert, unary, cast, bump, binary, choice, assign, comma}
 use Rattle.c_type_expr.specs.Typed.{Typed, Passed, number, scalar, array, ending, element, call}
 use Rattle.c_type_expr.specs.Typed.{row_element}

@@ -152,8 +152,3 @@ is_place e = (judged e).place
 -- the first failing node of an expression, its operands before it
 unfoldable pub fault : Expr → Scope → Role → Blame
 fault e = (judged e).blame
-
--- the first of the arguments that fails, each as its parameter takes it
-abbrev pub args_fault : List Slot → List Expr → Scope → Blame
-args_fault slots [] G = None
-args_fault slots (e ∷ es) G = first (fault e G (role_at slots)) (args_fault (rest_of slots) es G)

@@ -2,10 +2,8 @@ pub mod Roles
 pub mod Faults
 pub mod Trees
 pub mod Constants
-pub mod Says
 pub mod Typed
 pub mod Scope
-pub mod Frames
-pub mod Chains
 pub mod Blames
 pub mod Conversions
+pub mod inside

@@ -93,8 +93,3 @@ of_node e = e.node
 -- the typed expression of an expression, by recursion on it
 unfoldable pub tree : Expr → Scope → TypedExpr
 tree e = fold-Expr (Scope → TypedExpr) (Scope → TypedExpr) node_tree of_node e
-
--- those of arguments, each as its parameter takes it
-abbrev pub args_tree : List Slot → List Expr → Scope → List TypedExpr
-args_tree slots [] G = []
-args_tree slots (e ∷ es) G = argument slots (tree e G) ∷ args_tree (rest_of slots) es G

@@ -3,7 +3,7 @@
 ghost use Rattle.std.specs.Prelude.{◌≡◌, None};
 ghost use Rattle.c_type_expr.specs.Faults.{role_at, rest_of};
 ghost use Rattle.c_type_expr.specs.Trees as trees;
-ghost use Rattle.c_type_expr.specs.Says.{Says};
+ghost use Rattle.c_type_expr.specs.inside.Says.{Says};
 
 use crate::build;
 use crate::fault::TypeFault;

@@ -7,7 +7,7 @@ ghost use Rattle.c_type_expr.specs.Constants as constants;
 ghost use Rattle.c_constant.specs.Constant as sizes;
 ghost use Rattle.c_type_expr.specs.Blames as blames;
 ghost use Rattle.c_type_expr.specs.Trees.{tree};
-ghost use Rattle.c_type_expr.specs.Says.{Says};
+ghost use Rattle.c_type_expr.specs.inside.Says.{Says};
 
 use crate::expressions::type_expr;
 use crate::fault::TypeFault;

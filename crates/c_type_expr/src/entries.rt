@@ -6,10 +6,10 @@
 
 ghost use Rattle.std.specs.Prelude.{◌≡◌, ◌∷◌, ◌<◌, ◌-◌, OnOk, OnErr, IfOk, take, reverse, length};
 ghost use Rattle.std.specs.Prelude.{None, Some, slice_index_or, slice_set};
-ghost use Rattle.c_type_expr.specs.Frames.{first_start, place_in};
+ghost use Rattle.c_type_expr.specs.inside.Frames.{first_start, place_in};
 ghost use Rattle.c_type_expr.specs.Scope.{bindings};
-ghost use Rattle.c_type_expr.specs.Chains.{Kept};
-ghost use Rattle.c_type_expr.specs.Chains as chains;
+ghost use Rattle.c_type_expr.specs.inside.Chains.{Kept};
+ghost use Rattle.c_type_expr.specs.inside.Chains as chains;
 
 use crate::meaning::{Binding, Entry};
 use c_tree::{Word, same_bytes};
@@ -35,7 +35,7 @@ pub fn last_start(starts: &[usize]) -> usize
 }
 
 /// The number of a name, of 32 bits, which differs for most names.
-#[tactic(auto, unfolding(crate::specs::Chains::number_of))]
+#[tactic(auto, unfolding(crate::specs::inside::Chains::number_of))]
 #[inline(always)]
 fn number_of(name: &[u8]) -> u64
     ensures { result ≡ chains.number_of name.now }
@@ -48,7 +48,7 @@ fn number_of(name: &[u8]) -> u64
 }
 
 /// The chain of a name, of so many.
-#[tactic(auto, unfolding(crate::specs::Chains::chain_of))]
+#[tactic(auto, unfolding(crate::specs::inside::Chains::chain_of))]
 #[inline(always)]
 fn chain_of(name: &[u8], count: usize) -> usize
     ensures chain { result ≡ chains.chain_of count name.now }

@@ -4,11 +4,12 @@ ghost use Rattle.std.specs.Prelude.{◌≡◌, Some, None};
 ghost use Rattle.c_tree.specs.declared.typed.TypedExpr.{TypedExpr};
 ghost use Rattle.c_type_expr.specs.Blames.{first};
 ghost use Rattle.c_tree.specs.declared.tree.ExprNode.TheVariants as node;
-ghost use Rattle.c_type_expr.specs.Faults as faults;
+ghost use Rattle.c_type_expr.specs.inside.Faults as faults;
 ghost use Rattle.c_type_expr.specs.Faults.{fault, role_at};
 ghost use Rattle.c_type_expr.specs.Trees.{tree};
 ghost use Rattle.c_type_expr.specs.Trees as trees;
-ghost use Rattle.c_type_expr.specs.Says.{Says, Types};
+ghost use Rattle.c_type_expr.specs.inside.Trees as inside_trees;
+ghost use Rattle.c_type_expr.specs.inside.Says.{Says, Types};
 ghost use Rattle.c_type_expr.specs.Roles.{at};
 
 use crate::arguments::{after_first, converted_for, role_for};
@@ -124,7 +125,7 @@ fn arguments(
     args: Items<Boxed<Expr>>,
 ) -> Result<Items<Boxed<TypedExpr>>, TypeFault>
     ensures { Says (faults.args_fault slots.now args scope.now)
-        (trees.args_tree slots.now args scope.now) result }
+        (inside_trees.args_tree slots.now args scope.now) result }
 {
     let mut slots = slots;
     let mut rest = Queue::from_items(args);

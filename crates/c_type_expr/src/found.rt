@@ -9,7 +9,7 @@ ghost use Rattle.c_type_expr.specs.Roles.{takes_result};
 ghost use Rattle.c_type_expr.specs.Blames.{unless};
 ghost use Rattle.c_type_expr.specs.Trees.{name_tree, array_kind, array_place, result_kind};
 ghost use Rattle.c_type_expr.specs.Trees.{callee_of, callee_or};
-ghost use Rattle.c_type_expr.specs.Says.{Says};
+ghost use Rattle.c_type_expr.specs.inside.Says.{Says};
 
 use crate::fault::TypeFault;
 use crate::meaning::Meaning;

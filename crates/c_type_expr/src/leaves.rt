@@ -3,7 +3,7 @@
 ghost use Rattle.std.specs.Prelude.{◌≡◌};
 ghost use Rattle.c_tree.specs.declared.tree.ExprNode.TheVariants as node;
 ghost use Rattle.c_type_expr.specs.Faults as faults;
-ghost use Rattle.c_type_expr.specs.Says.{Types};
+ghost use Rattle.c_type_expr.specs.inside.Says.{Types};
 ghost use Rattle.c_type_expr.specs.Roles.{at};
 
 use crate::build;

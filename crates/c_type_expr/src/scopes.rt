@@ -1,7 +1,7 @@
 ghost use Rattle.std.specs.Prelude.{◌≡◌, [], ◌∷◌, OnOk, OnErr};
 ghost use Rattle.std.specs.Option.{option_copied};
 ghost use Rattle.c_type_expr.specs.Scope.{look_up, is_here, opened, closed, declared_in, bound};
-ghost use Rattle.c_type_expr.specs.Frames.{first_start};
+ghost use Rattle.c_type_expr.specs.inside.Frames.{first_start};
 
 use crate::entries::{add, last_start, place_of, unwind};
 use crate::meaning::{Binding, Entry, Meaning};
@@ -22,8 +22,8 @@ pub struct Scopes {
 impl Model for Scopes {
     ghost use Rattle.std.specs.Prelude.{length, reverse};
     ghost use Rattle.c_type_expr.specs.Scope.{Scope, frames};
-    ghost use Rattle.c_type_expr.specs.Frames.{StartsFit};
-    ghost use Rattle.c_type_expr.specs.Chains.{Kept};
+    ghost use Rattle.c_type_expr.specs.inside.Frames.{StartsFit};
+    ghost use Rattle.c_type_expr.specs.inside.Chains.{Kept};
 
     ghost Value = { Scope };
 

@@ -14,8 +14,8 @@ use Rattle.c_type.specs.Statements.{statements_in, Part, Beginning, SectionPart,
 use Rattle.c_type.specs.Statements.{at_line, part}
 use Rattle.c_type.proofs.Nodes.{fold_section}
 use Rattle.c_type.specs.Functions.{body_in, body_part}
-use Rattle.c_type_rules.specs.KeptStatements as rule
-use Rattle.c_type_rules.specs.WellFormed.{Each}
+use Rattle.c_type_rules.specs.inside.KeptStatements as rule
+use Rattle.c_type_rules.specs.inside.WellFormed.{Each}
 use Rattle.c_type_rules.proofs.Moves.{made}
 use Rattle.c_type_rules.proofs.SoundStatements.{Sound, SoundFirst, SoundAll, run, on_plain, on_all, on_else}
 use Rattle.c_type_rules.proofs.SoundStatements.{on_compound, on_if}

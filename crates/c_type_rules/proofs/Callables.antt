@@ -16,11 +16,13 @@ use Rattle.c_type_expr.specs.declared.meaning.Binding.{Binding}
 use Rattle.c_type_expr.specs.declared.meaning.Meaning.TheVariants as meaning
 use Rattle.c_type_expr.specs.Scope.{Scope, Frame, look_up, declared_in, bound}
 use Rattle.c_type.specs.Units.{type_fault}
-use Rattle.c_type.specs.Functions.{callee_in, signature, with_function, definition_fault, with_definition}
+use Rattle.c_type.specs.Functions.{callee_in, with_definition}
+use Rattle.c_type.specs.inside.Functions.{signature, with_function, definition_fault}
 use Rattle.c_type.specs.States.{slot_of}
-use Rattle.c_type.specs.Programs.{with_prototype_at, prototype_fault}
-use Rattle.c_type_rules.specs.Objects as object
-use Rattle.c_type_rules.specs.WellFormed.{FunctionFits}
+use Rattle.c_type.specs.Programs.{with_prototype_at}
+use Rattle.c_type.specs.inside.Programs.{prototype_fault}
+use Rattle.c_type_rules.specs.inside.Objects as object
+use Rattle.c_type_rules.specs.inside.WellFormed.{FunctionFits}
 use Rattle.c_type_rules.proofs.Moves.{split}
 use Rattle.c_type_rules.proofs.Lists.{each_last}
 use Rattle.c_type_rules.proofs.WellFormedFunctions.{the, file_stays, its_signature, its_fitness}

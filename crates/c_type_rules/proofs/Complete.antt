@@ -12,7 +12,8 @@ use Rattle.c_tree.specs.declared.tree.ForInit.TheVariants as first_part
 use Rattle.c_tree.specs.declared.tree.Section.{Section, roll-Section, roll-out-Section, out-roll-Section, map-Section}
 use Rattle.c_tree.specs.declared.typed.TypedSection.{TypedSection}
 use Rattle.c_type.specs.Statements.{labels_in, statements_in, part, beginning_of, all_after, all_fault, all_trees}
-use Rattle.c_type.specs.Statements.{return_fault, return_tree, switch_kind, label_word, section_of, sections_fault}
+use Rattle.c_type.specs.Statements.{return_fault, return_tree, switch_kind, label_word, sections_fault}
+use Rattle.c_type.specs.inside.Statements.{section_of}
 use Rattle.c_type.specs.Statements.{sections_trees, sections_after}
 use Rattle.c_tree.specs.declared.tree.Stmt.{Stmt, Stmt-F, roll-Stmt, ind-Stmt}
 use Rattle.c_tree.specs.declared.tree.StmtNode.{StmtNode, roll-StmtNode, map-StmtNode}

@@ -4,7 +4,7 @@ use Rattle.c_tree.specs.declared.tree.Program.{Program}
 use Rattle.c_tree.specs.declared.typed.TypedProgram.{TypedProgram}
 use Rattle.c_type_expr.specs.declared.fault.TypeFault.{TypeFault}
 use Rattle.c_type_expr.specs.Blames.{Blame}
-use Rattle.c_type.specs.Programs.{program_fault, program_tree}
+use Rattle.c_type.specs.inside.Programs.{program_fault, program_tree}
 use Rattle.c_type_rules.specs.FirstFaults.{UnitFails}
 use Rattle.c_type_rules.specs.Units.{Accepts}
 use Rattle.c_type_rules.proofs.GoodUnits.{unit_good}

@@ -25,11 +25,12 @@ use Rattle.c_constant.specs.Kinds.{bytes}
 use Rattle.c_type.specs.Declarations.{scalar_init_fault, sized_fault, extent, declare_tree}
 use Rattle.c_type.specs.Statements.{node_part}
 use Rattle.c_tree.specs.declared.tree.ForInit.TheOpen.{StmtNode-F}
-use Rattle.c_type_rules.specs.Objects.{slot_scalar, local_array}
-use Rattle.c_type_rules.specs.KeptStatements.{IsValue, IsTest, IsEffect, IsValueIf, IsTestIf, IsEffectIf, IsReturn}
-use Rattle.c_type_rules.specs.KeptStatements.{WellFormedStmt, RunsAll, RunsElse, Begins}
-use Rattle.c_type_rules.specs.KeptStatements as rule
-use Rattle.c_type_rules.specs.WellFormed.{ArrayFits}
+use Rattle.c_type_rules.specs.inside.Objects.{slot_scalar, local_array}
+use Rattle.c_type_rules.specs.inside.KeptStatements.{IsValue, IsTest, IsEffect, IsValueIf, IsTestIf, IsEffectIf}
+use Rattle.c_type_rules.specs.inside.KeptStatements.{IsReturn}
+use Rattle.c_type_rules.specs.inside.KeptStatements.{WellFormedStmt, RunsAll, RunsElse, Begins}
+use Rattle.c_type_rules.specs.inside.KeptStatements as rule
+use Rattle.c_type_rules.specs.inside.WellFormed.{ArrayFits}
 use Rattle.c_type_rules.proofs.Values.{Exists}
 use Rattle.c_type_rules.proofs.Moves.{split, held, Known, Fine, Within, Ahead}
 use Rattle.c_type_rules.proofs.Lists.{at_end, each_last, extent_some, an_array, outer_in}

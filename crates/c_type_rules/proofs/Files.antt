@@ -22,9 +22,10 @@ use Rattle.c_type_expr.specs.Scope.{Scope, Frame, same_name, find, look_up, decl
 use Rattle.c_type.specs.States.{is_end}
 use Rattle.c_type.specs.FileScopes.{eof_name, getchar_name, putchar_name, int_slots}
 use Rattle.c_type.specs.Functions.{callee_in}
-use Rattle.c_type_rules.specs.Objects.{scalar_at, array_at, Shape, shape, global_scalar, global_array, signature}
-use Rattle.c_type_rules.specs.Objects.{signature_of}
-use Rattle.c_type_rules.specs.Objects.{of_function}
+use Rattle.c_type_rules.specs.inside.Objects.{scalar_at, array_at, Shape, shape, global_scalar, global_array}
+use Rattle.c_type_rules.specs.inside.Objects.{signature}
+use Rattle.c_type_rules.specs.inside.Objects.{signature_of}
+use Rattle.c_type_rules.specs.inside.Objects.{of_function}
 use Rattle.c_type_rules.proofs.Values.{Exists}
 use Rattle.c_type_rules.proofs.Moves.{Known, KnownFrame, some_is}
 use Rattle.c_type_rules.proofs.Frames.{IsFunction, Agrees, stays, declared_look, one_result, one_params}

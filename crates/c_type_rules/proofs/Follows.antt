@@ -28,13 +28,17 @@ use Rattle.c_type.specs.declared.state.State.{State}
 use Rattle.c_type.specs.declared.state.Around.{Around}
 use Rattle.c_type.specs.Declarations.{declare_fault, extent, sizes_fault, array_fault, no_init}
 use Rattle.c_type.specs.Statements.{Part, part, beginning_of, word_if, label_among, labels_fault, label_word}
-use Rattle.c_type.specs.Statements.{all_fault, all_after, labels_in, statements_in, section_of, sections_fault}
+use Rattle.c_type.specs.Statements.{all_fault, all_after, labels_in, statements_in, sections_fault}
+use Rattle.c_type.specs.inside.Statements.{section_of}
 use Rattle.c_type.specs.States.{nowhere, slot_of}
-use Rattle.c_type.specs.Units.{values_fault, global_fault, count_fault, count_of, place_fault}
+use Rattle.c_type.specs.Units.{count_of, place_fault}
+use Rattle.c_type.specs.inside.Units.{values_fault, global_fault, count_fault}
 use Rattle.c_type.specs.Units.{function_fault, init_fits}
 use Rattle.c_type.specs.FileScopes.{global_names, all_values}
-use Rattle.c_type.specs.Functions.{param_fault, params_fault, body_part, entry}
-use Rattle.c_type.specs.Programs.{table, node_fault}
+use Rattle.c_type.specs.Functions.{body_part, entry}
+use Rattle.c_type.specs.inside.Functions.{param_fault, params_fault}
+use Rattle.c_type.specs.Programs.{table}
+use Rattle.c_type.specs.inside.Programs.{node_fault}
 use Rattle.c_type.proofs.Nodes.{fault-Declare, fault-Plain, fault-Compound, fault-If, fault-While}
 use Rattle.c_type.proofs.Nodes.{fault-Do, fault-For, fault-Break, fault-Continue, fault-Return}
 use Rattle.c_type.proofs.Nodes.{fault-Nothing, fault-First, fault-Locals, fault-Switch}

@@ -15,7 +15,8 @@ use Rattle.c_tree.specs.declared.typed.Slot.{Slot}
 use Rattle.c_type_expr.specs.Scope.{Scope, look_up}
 use Rattle.c_type_expr.specs.declared.role.Role.{Role}
 use Rattle.c_type_expr.specs.Blames.{Blame, first}
-use Rattle.c_type_expr.specs.Faults.{fault, args_fault, call_fault, slots_of, role_at, rest_of}
+use Rattle.c_type_expr.specs.Faults.{fault, call_fault, slots_of, role_at, rest_of}
+use Rattle.c_type_expr.specs.inside.Faults.{args_fault}
 use Rattle.c_type_expr.specs.Constants.{not_fixed, all_fixed, no_constant, calls_known, full}
 use Rattle.c_type_expr.specs.Constants.{full_constant, size_fault}
 use Rattle.c_type_expr.specs.Roles.{at}
@@ -28,10 +29,13 @@ use Rattle.c_type_expr.proofs.Fixed.{fixed-Choice, fixed-Assign, fixed-Comma}
 use Rattle.c_type.specs.LeftOut.{full_if}
 use Rattle.c_type.specs.Statements.{part, beginning_of, all_fault, else_fault}
 use Rattle.c_type.specs.States.{nowhere}
-use Rattle.c_type.specs.Statements.{labels_fault, section_of, sections_fault}
-use Rattle.c_type.specs.Units.{values_fault}
-use Rattle.c_type.specs.Functions.{param_fault, params_fault, body_part}
-use Rattle.c_type.specs.Programs.{table, item_fault, items_fault, program_fault}
+use Rattle.c_type.specs.Statements.{labels_fault, sections_fault}
+use Rattle.c_type.specs.inside.Statements.{section_of}
+use Rattle.c_type.specs.inside.Units.{values_fault}
+use Rattle.c_type.specs.Functions.{body_part}
+use Rattle.c_type.specs.inside.Functions.{param_fault, params_fault}
+use Rattle.c_type.specs.Programs.{table}
+use Rattle.c_type.specs.inside.Programs.{item_fault, items_fault, program_fault}
 use Rattle.c_type_rules.specs.Judgements.{Judgement, a_test, an_expression, a_full, an_optional}
 use Rattle.c_type_rules.specs.Judgements.{a_constant, a_full_constant, a_size, a_statement}
 use Rattle.c_type_rules.specs.Judgements.{some_statements, an_else, a_beginning, a_body, a_param}

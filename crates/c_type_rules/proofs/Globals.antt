@@ -20,12 +20,13 @@ use Rattle.c_constant.proofs.Conversions.{converted_word}
 use Rattle.c_constant.specs.Kinds.{bytes, converted}
 use Rattle.c_type.specs.States.{is_end, row_in}
 use Rattle.c_type.specs.Units.{count_of, row_words, rows_words, init_words, rows_fit, init_fits, typed_global}
-use Rattle.c_type.specs.Units.{with_global, count_fault, global_fault}
+use Rattle.c_type.specs.Units.{with_global}
+use Rattle.c_type.specs.inside.Units.{count_fault, global_fault}
 use Rattle.c_type.specs.FileScopes.{global_meaning, all_values, length_in}
-use Rattle.c_type_rules.specs.Objects as object
+use Rattle.c_type_rules.specs.inside.Objects as object
 use Rattle.c_constant.specs.Kinds.{IsWord}
-use Rattle.c_type_rules.specs.WellFormed.{Each, IsRows, GlobalFits, global_bytes, all_bytes}
-use Rattle.c_type_rules.specs.WellFormed as fits
+use Rattle.c_type_rules.specs.inside.WellFormed.{Each, IsRows, GlobalFits, global_bytes, all_bytes}
+use Rattle.c_type_rules.specs.inside.WellFormed as fits
 use Rattle.c_type_rules.proofs.Moves.{split, held}
 use Rattle.c_type_rules.proofs.Values.{both}
 use Rattle.c_type_rules.proofs.Lists.{each_last, each_both, size_some, product_some}

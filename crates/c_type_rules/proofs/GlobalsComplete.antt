@@ -13,7 +13,8 @@ use Rattle.c_constant.specs.Constant.{constant, ends, length_of, word_in}
 use Rattle.c_constant.specs.Need.{need_fits}
 use Rattle.c_type_expr.specs.Scope.{Scope}
 use Rattle.c_type_expr.specs.Constants.{not_fixed, constant_at}
-use Rattle.c_type.specs.Units.{rows_words, rows_fit, init_fits, init_words, count_of, count_fault, values_fault}
+use Rattle.c_type.specs.Units.{rows_words, rows_fit, init_fits, init_words, count_of}
+use Rattle.c_type.specs.inside.Units.{count_fault, values_fault}
 use Rattle.c_type.specs.FileScopes.{all_values}
 use Rattle.c_type_rules.specs.Units.{RowValues, Init, no_row, one_row, rows_counted, rows_sized}
 use Rattle.c_type_rules.specs.Units.{in_list, in_rows}

@@ -14,7 +14,8 @@ use Rattle.c_type_expr.specs.declared.fault.TypeFault.TheVariants.{Need}
 use Rattle.c_type_expr.specs.Constants.{value_fault, constant_at}
 use Rattle.c_constant.specs.Constant.{word_in, length_of}
 use Rattle.c_type.specs.States.{row_in}
-use Rattle.c_type.specs.Units.{count_of, count_fault, values_fault, rows_words, rows_fit, init_fits, init_words}
+use Rattle.c_type.specs.Units.{count_of, rows_words, rows_fit, init_fits, init_words}
+use Rattle.c_type.specs.inside.Units.{count_fault, values_fault}
 use Rattle.c_type.specs.FileScopes.{all_values}
 use Rattle.c_type_rules.specs.Units.{RowValues, Init, no_row, one_row, rows_counted, rows_sized}
 use Rattle.c_type_rules.specs.Units.{in_list, in_rows}

@@ -20,9 +20,9 @@ use Rattle.c_type_expr.specs.Constants.{size_fault, value_fault}
 use Rattle.c_type.specs.Declarations.{sizes_fault, extent}
 use Rattle.c_type.specs.States.{row_in}
 use Rattle.c_type.specs.Statements.{word_if, label_word, labels_fault}
-use Rattle.c_type_rules.specs.KeptStatements.{IsLabel, Labels}
-use Rattle.c_type_rules.specs.KeptStatements as rule
-use Rattle.c_type_rules.specs.WellFormed.{Each, IsRows}
+use Rattle.c_type_rules.specs.inside.KeptStatements.{IsLabel, Labels}
+use Rattle.c_type_rules.specs.inside.KeptStatements as rule
+use Rattle.c_type_rules.specs.inside.WellFormed.{Each, IsRows}
 use Rattle.c_type_rules.proofs.Moves.{split, held}
 use Rattle.c_constant.proofs.Conversions.{converted_word}
 

@@ -12,7 +12,7 @@ use Rattle.c_type_expr.specs.Blames.{Blame, first, unless}
 use Rattle.c_type.specs.declared.state.State.{State}
 use Rattle.c_type.specs.declared.state.Around.{Around}
 use Rattle.c_type.specs.States.{entered, left, in_loop}
-use Rattle.c_type_rules.specs.WellFormed.{Each, IsScalar, ArrayFits}
+use Rattle.c_type_rules.specs.inside.WellFormed.{Each, IsScalar, ArrayFits}
 use Rattle.c_type_rules.proofs.Values.{Exists, Knows}
 
 -- FAULTS

@@ -12,7 +12,7 @@ use Rattle.c_type_expr.proofs.Theorem.{sound, complete}
 use Rattle.c_type.specs.declared.state.State.{State}
 use Rattle.c_type.specs.declared.state.Around.{Around}
 use Rattle.c_type.specs.Statements.{part, else_fault}
-use Rattle.c_type.specs.Programs.{program_tree}
+use Rattle.c_type.specs.inside.Programs.{program_tree}
 use Rattle.c_type_rules.specs.Statements.{without_else, with_else}
 use Rattle.c_type_rules.specs.Judgements.{Judgement, a_test, an_expression, a_full, an_optional}
 use Rattle.c_type_rules.specs.Judgements.{a_constant, a_full_constant, a_size, a_statement}

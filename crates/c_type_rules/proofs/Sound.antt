@@ -11,7 +11,8 @@ use Rattle.c_tree.specs.declared.tree.ForInit.TheOpen.{Section-F}
 use Rattle.c_tree.specs.declared.tree.Label.{Label}
 use Rattle.c_type.specs.Statements.{Part, SectionPart, part, beginning_of, all_after, all_fault, all_trees}
 use Rattle.c_type.specs.Statements.{else_after, else_fault, else_tree, rest_fault, return_fault, return_tree}
-use Rattle.c_type.specs.Statements.{label_word, section_of, sections_fault, sections_trees, sections_after}
+use Rattle.c_type.specs.Statements.{label_word, sections_fault, sections_trees, sections_after}
+use Rattle.c_type.specs.inside.Statements.{section_of}
 use Rattle.c_tree.specs.declared.tree.Stmt.{Stmt}
 use Rattle.c_tree.specs.declared.tree.ForInit.{ForInit}
 use Rattle.c_tree.specs.declared.tree.StmtNode.TheVariants as node

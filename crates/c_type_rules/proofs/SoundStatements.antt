@@ -28,12 +28,13 @@ use Rattle.c_type.specs.Statements.{SectionPart}
 use Rattle.c_type.specs.Statements.{Part, Beginning, node_part, init_part, all_after, all_fault, all_trees, else_after}
 use Rattle.c_type.specs.Statements.{else_fault, else_tree, return_fault, return_tree}
 use Rattle.c_tree.specs.declared.tree.ForInit.TheOpen.{StmtNode-F, ForInit-F}
-use Rattle.c_type_rules.specs.Needs.{FitsNeed, typed_needs}
+use Rattle.c_type_rules.specs.inside.Needs.{FitsNeed, typed_needs}
 use Rattle.c_tree.specs.TypedTrees as level
-use Rattle.c_type_rules.specs.KeptStatements.{IsValue, IsTest, IsEffect, IsValueIf, IsTestIf, IsEffectIf, IsReturn}
-use Rattle.c_type_rules.specs.KeptStatements.{WellFormedStmt, RunsAll, RunsElse, Begins}
-use Rattle.c_type_rules.specs.KeptStatements as rule
-use Rattle.c_type_rules.specs.WellFormed.{Each}
+use Rattle.c_type_rules.specs.inside.KeptStatements.{IsValue, IsTest, IsEffect, IsValueIf, IsTestIf, IsEffectIf}
+use Rattle.c_type_rules.specs.inside.KeptStatements.{IsReturn}
+use Rattle.c_type_rules.specs.inside.KeptStatements.{WellFormedStmt, RunsAll, RunsElse, Begins}
+use Rattle.c_type_rules.specs.inside.KeptStatements as rule
+use Rattle.c_type_rules.specs.inside.WellFormed.{Each}
 use Rattle.c_type_rules.proofs.Values.{Plain, fits, plain_has, converted_has}
 use Rattle.c_type_rules.proofs.TypedNeeds.{same_needs, converted_need}
 use Rattle.c_type_rules.proofs.Moves.{split, held, Known, knows, Fine, Moves, still, made, looped}

@@ -22,17 +22,17 @@ use Rattle.c_tree.specs.declared.typed.TypedForInit.TheOpen.{Declare, Compound, 
 use Rattle.c_constant.specs.Kinds.{common, same_kind}
 use Rattle.c_constant.specs.Need.{Needs}
 use Rattle.std.specs.Prelude.{option_map, slice_get}
-use Rattle.c_type_rules.specs.Objects.{slot_scalar, of_function, Shape, shape, array_at}
+use Rattle.c_type_rules.specs.inside.Objects.{slot_scalar, of_function, Shape, shape, array_at}
 use Rattle.c_tree.specs.TypedTrees.{Node}
-use Rattle.c_type_rules.specs.Expressions.{Gives, Has, Passes}
-use Rattle.c_type_rules.specs.Expressions as rule
-use Rattle.c_type_rules.specs.Needs.{FitsNeed}
+use Rattle.c_type_rules.specs.inside.Expressions.{Gives, Has, Passes}
+use Rattle.c_type_rules.specs.inside.Expressions as rule
+use Rattle.c_type_rules.specs.inside.Needs.{FitsNeed}
 use Rattle.c_tree.specs.TypedTrees.{Level}
 use Rattle.c_type.specs.declared.state.Around.{Around}
 use Rattle.c_type.specs.States.{nowhere, in_loop, in_switch}
-use Rattle.c_type_rules.specs.KeptStatements.{WellFormedStmt, Labels}
-use Rattle.c_type_rules.specs.KeptStatements as run
-use Rattle.c_type_rules.specs.WellFormed.{GlobalFits, FunctionFits, WellFormed}
+use Rattle.c_type_rules.specs.inside.KeptStatements.{WellFormedStmt, Labels}
+use Rattle.c_type_rules.specs.inside.KeptStatements as run
+use Rattle.c_type_rules.specs.inside.WellFormed.{GlobalFits, FunctionFits, WellFormed}
 use Rattle.c_type_rules.proofs.Moves.{some_is}
 use Rattle.c_type_rules.proofs.TypedNeeds.{by}
 

@@ -9,7 +9,7 @@ use Rattle.c_tree.specs.declared.typed.TypedProgram.{TypedProgram}
 use Rattle.c_type_expr.specs.declared.meaning.Meaning.{Meaning}
 use Rattle.c_type_expr.specs.Scope.{Scope, Frame, look_up, declared_in, bound}
 use Rattle.c_type.specs.declared.file_scope.FileScope.{FileScope}
-use Rattle.c_type_rules.specs.WellFormed.{Each, GlobalFits, FunctionFits, all_bytes}
+use Rattle.c_type_rules.specs.inside.WellFormed.{Each, GlobalFits, FunctionFits, all_bytes}
 use Rattle.c_type_rules.proofs.Moves.{Known}
 use Rattle.c_type_rules.proofs.Frames.{declared_look}
 use Rattle.c_type_rules.proofs.Files.{More, Names}

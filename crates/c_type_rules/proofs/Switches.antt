@@ -15,9 +15,9 @@ use Rattle.c_type.specs.States.{with_switch, in_switch}
 use Rattle.c_type.specs.Statements.{SectionPart, label_word, sections_fault, sections_after, sections_trees}
 use Rattle.c_type.specs.Statements.{switch_kind, node_part, all_after}
 use Rattle.c_tree.specs.declared.tree.ForInit.TheOpen.{StmtNode-F}
-use Rattle.c_type_rules.specs.KeptStatements.{RunsSections}
-use Rattle.c_type_rules.specs.KeptStatements as rule
-use Rattle.c_type_rules.specs.WellFormed.{Each}
+use Rattle.c_type_rules.specs.inside.KeptStatements.{RunsSections}
+use Rattle.c_type_rules.specs.inside.KeptStatements as rule
+use Rattle.c_type_rules.specs.inside.WellFormed.{Each}
 use Rattle.c_type_rules.proofs.Moves.{split, held, Fine, Moves}
 use Rattle.c_type_rules.proofs.Moves.{further, before}
 use Rattle.c_type_rules.proofs.Conversions.{promoted_once}

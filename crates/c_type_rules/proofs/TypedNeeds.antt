@@ -21,7 +21,7 @@ use Rattle.c_type_expr.specs.Typed.{Typed, Passed, number, scalar, array, ending
 use Rattle.c_type_expr.specs.Typed.{group, operator}
 use Rattle.c_type_expr.specs.Typed.{conversion, step, operation, either, assignment, sequence, none, value, address}
 use Rattle.c_tree.specs.TypedTrees.{Node}
-use Rattle.c_type_rules.specs.Needs.{node_needs, of_needs, typed_needs}
+use Rattle.c_type_rules.specs.inside.Needs.{node_needs, of_needs, typed_needs}
 
 -- the need of a typed expression, by its node
 pub by : (k : Option Kind) (n : TypedNode) (x : Node) → roll-TypedNode x ≡ n

@@ -28,17 +28,20 @@ use Rattle.c_type_expr.specs.declared.fault.TypeFault.TheVariants.{Twice}
 use Rattle.c_type_expr.specs.declared.fault.TypeFault.TheVariants as fault
 use Rattle.c_constant.specs.Constant.{length_of}
 use Rattle.c_type_expr.specs.Blames.{Blame}
-use Rattle.c_type_expr.specs.Says.{Stops}
+use Rattle.c_type_expr.specs.inside.Says.{Stops}
 use Rattle.c_type.specs.declared.file_scope.FileScope.{FileScope}
 use Rattle.c_type.specs.declared.state.State.{State}
 use Rattle.c_type.specs.States.{at, nowhere, is_end, slot_of, named_among, with_params, started}
 use Rattle.c_type.specs.FileScopes.{eof_name, getchar_name, putchar_name, int_slots, with_include, global_names}
 use Rattle.c_type.specs.Units.{include_clash, function_fault, same_result, same_slots}
-use Rattle.c_type.specs.Functions.{params_fault, name_fault, head_fault, param_fault, row_fault, row_bytes_fault}
+use Rattle.c_type.specs.Functions.{name_fault, row_bytes_fault}
+use Rattle.c_type.specs.inside.Functions.{params_fault, head_fault, param_fault, row_fault}
 use Rattle.c_type.specs.Functions.{entry, body_part, callee_in}
 use Rattle.c_type.specs.Statements.{Part}
-use Rattle.c_type.specs.Programs.{table, is_int, no_slots, is_main, node_fault, node_after, item_after, items_fault}
-use Rattle.c_type.specs.Programs.{items_after, program_fault, program_tree}
+use Rattle.c_type.specs.Programs.{table, is_int, no_slots, is_main, node_after, item_after}
+use Rattle.c_type.specs.inside.Programs.{node_fault, items_fault}
+use Rattle.c_type.specs.Programs.{items_after}
+use Rattle.c_type.specs.inside.Programs.{program_fault, program_tree}
 use Rattle.c_type.specs.FileScopes.{empty_file}
 use Rattle.c_type_rules.specs.Units.{Row}
 use Rattle.c_type_rules.specs.Units.{no_row_size, row_size}

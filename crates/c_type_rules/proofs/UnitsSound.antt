@@ -34,11 +34,14 @@ use Rattle.c_constant.specs.Kinds.{bytes}
 use Rattle.c_type.specs.FileScopes.{eof_name, getchar_name, putchar_name, int_slots, with_include, prototype_names}
 use Rattle.c_type.specs.Units.{include_clash, count_of, function_fault, same_slots}
 use Rattle.c_type.specs.FileScopes.{global_names, length_in, body_entry, empty_file, main_name, number_in}
-use Rattle.c_type.specs.Functions.{params_fault, name_fault, row_fault, row_bytes_fault, head_fault, entry}
-use Rattle.c_type.specs.Functions.{param_fault, body_in, body_part, callee_in}
+use Rattle.c_type.specs.Functions.{name_fault, row_bytes_fault, entry}
+use Rattle.c_type.specs.inside.Functions.{params_fault, row_fault, head_fault}
+use Rattle.c_type.specs.Functions.{body_in, body_part, callee_in}
+use Rattle.c_type.specs.inside.Functions.{param_fault}
 use Rattle.c_type.specs.Statements.{Part, part}
-use Rattle.c_type.specs.Programs.{table, is_main, node_fault, node_after, items_fault, items_after, whole}
-use Rattle.c_type.specs.Programs.{program_fault, program_tree}
+use Rattle.c_type.specs.Programs.{table, is_main, node_after, items_after, whole}
+use Rattle.c_type.specs.inside.Programs.{node_fault, items_fault}
+use Rattle.c_type.specs.inside.Programs.{program_fault, program_tree}
 use Rattle.c_type_rules.specs.Units.{Row}
 use Rattle.c_type_rules.specs.Units.{no_row_size, row_size}
 use Rattle.c_type_rules.specs.Units.{Named, Params, Agrees, Heads, is_block, Body}

@@ -13,12 +13,13 @@ use Rattle.c_tree.specs.declared.typed.TypedFunc.{TypedFunc}
 use Rattle.c_tree.specs.declared.typed.TypedGlobal.{TypedGlobal}
 use Rattle.c_tree.specs.declared.typed.TypedNode.TheOpen.{Call, Convert}
 use Rattle.c_tree.specs.declared.typed.TypedProgram.{TypedProgram}
-use Rattle.c_type_rules.specs.Objects.{Signature, signature, of_function, slot_scalar, slot_array, scalar_kind}
-use Rattle.c_type_rules.specs.Objects.{Shape, shape, shape_if, global_scalar, global_array, local_array, scalar_at}
-use Rattle.c_type_rules.specs.Objects.{array_at}
-use Rattle.c_type_rules.specs.Expressions.{Gives, Passes}
-use Rattle.c_type_rules.specs.Expressions as rule
-use Rattle.c_type_rules.specs.WellFormed.{FunctionFits, WellFormed}
+use Rattle.c_type_rules.specs.inside.Objects.{Signature, signature, of_function, slot_scalar, slot_array, scalar_kind}
+use Rattle.c_type_rules.specs.inside.Objects.{Shape, shape, shape_if, global_scalar, global_array, local_array}
+use Rattle.c_type_rules.specs.inside.Objects.{scalar_at}
+use Rattle.c_type_rules.specs.inside.Objects.{array_at}
+use Rattle.c_type_rules.specs.inside.Expressions.{Gives, Passes}
+use Rattle.c_type_rules.specs.inside.Expressions as rule
+use Rattle.c_type_rules.specs.inside.WellFormed.{FunctionFits, WellFormed}
 use Rattle.c_type_rules.proofs.Moves.{some_is}
 use Rattle.c_type_rules.proofs.WellFormedPrograms.{each_at}
 

@@ -24,11 +24,11 @@ use Rattle.c_type_expr.specs.Roles.{takes_value, takes_element, takes_array, sam
 use Rattle.c_type_expr.specs.Conversions.{a, kind_of, kind_in, with_convert, comma}
 use Rattle.c_type_expr.specs.Typed.{Typed, Passed}
 use Rattle.c_type_expr.specs.Typed as typing
-use Rattle.c_type_rules.specs.Objects.{scalar_at, array_at, shape, signature, signature_of}
+use Rattle.c_type_rules.specs.inside.Objects.{scalar_at, array_at, shape, signature, signature_of}
 use Rattle.c_tree.specs.TypedTrees.{Node, node_of}
-use Rattle.c_type_rules.specs.Expressions.{Gives, Has, IsObject, Passes, itself, named, indexed}
-use Rattle.c_type_rules.specs.Expressions.{row_indexed}
-use Rattle.c_type_rules.specs.Expressions as rule
+use Rattle.c_type_rules.specs.inside.Expressions.{Gives, Has, IsObject, Passes, itself, named, indexed}
+use Rattle.c_type_rules.specs.inside.Expressions.{row_indexed}
+use Rattle.c_type_rules.specs.inside.Expressions as rule
 use Rattle.c_constant.proofs.SameKinds.{kinds_are}
 use Rattle.c_type_rules.proofs.Conversions.{commons, unary_settled, settled}
 

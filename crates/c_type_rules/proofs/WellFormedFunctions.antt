@@ -17,11 +17,13 @@ use Rattle.c_tree.specs.declared.typed.TypedProgram.{TypedProgram}
 use Rattle.c_type_expr.specs.declared.meaning.Meaning.TheVariants as meaning
 use Rattle.c_type_expr.specs.Scope.{Scope, Frame, opened, closed, bound}
 use Rattle.c_type.specs.declared.state.State.{State}
-use Rattle.c_type.specs.Functions.{name_fault, params_fault, body_part}
-use Rattle.c_type.specs.Functions.{typed_function, param_fault, row_fault, row_bytes_fault}
+use Rattle.c_type.specs.Functions.{name_fault, body_part}
+use Rattle.c_type.specs.inside.Functions.{params_fault}
+use Rattle.c_type.specs.Functions.{typed_function, row_bytes_fault}
+use Rattle.c_type.specs.inside.Functions.{param_fault, row_fault}
 use Rattle.c_type.specs.States.{nowhere, row_in, slot_for, slot_of, named_param, with_params, started}
-use Rattle.c_type_rules.specs.Objects.{signature, of_function, slot_scalar, slot_array}
-use Rattle.c_type_rules.specs.WellFormed.{Each, IsScalar, SlotFits, ArrayFits, FunctionFits}
+use Rattle.c_type_rules.specs.inside.Objects.{signature, of_function, slot_scalar, slot_array}
+use Rattle.c_type_rules.specs.inside.WellFormed.{Each, IsScalar, SlotFits, ArrayFits, FunctionFits}
 use Rattle.c_type_rules.proofs.Moves.{split, held, Known, Fine, Within, Ahead}
 use Rattle.c_type_rules.proofs.Lists.{at_end, each_both, size_some, outer_in}
 use Rattle.c_type_rules.proofs.Declarations.{known_in}

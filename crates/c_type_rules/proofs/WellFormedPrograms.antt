@@ -23,10 +23,12 @@ use Rattle.c_type_expr.specs.Scope.{Scope, Frame, same_name, look_up, declared_i
 use Rattle.c_type.specs.declared.file_scope.FileScope.{FileScope}
 use Rattle.c_type.specs.FileScopes.{getchar_name, putchar_name, count_after, main_name, number_in}
 use Rattle.c_type.specs.Functions.{callee_in}
-use Rattle.c_type.specs.Programs.{noted, definitions, table, node_fault, node_after, items_fault, items_after, is_int}
-use Rattle.c_type.specs.Programs.{no_slots, is_main, program_fault, program_tree}
-use Rattle.c_type_rules.specs.Objects.{Signature, signature, of_function, signature_of}
-use Rattle.c_type_rules.specs.WellFormed.{Each, FunctionFits, IsMain, WellFormed}
+use Rattle.c_type.specs.Programs.{noted, definitions, table, node_after, items_after, is_int}
+use Rattle.c_type.specs.inside.Programs.{node_fault, items_fault}
+use Rattle.c_type.specs.Programs.{no_slots, is_main}
+use Rattle.c_type.specs.inside.Programs.{program_fault, program_tree}
+use Rattle.c_type_rules.specs.inside.Objects.{Signature, signature, of_function, signature_of}
+use Rattle.c_type_rules.specs.inside.WellFormed.{Each, FunctionFits, IsMain, WellFormed}
 use Rattle.c_constant.proofs.SameKinds.{kinds_are}
 use Rattle.c_type_rules.proofs.Moves.{split, held, some_is, KnownFrame}
 use Rattle.c_type_rules.proofs.Values.{both}

@@ -5,8 +5,4 @@ pub mod Units
 pub mod Judgements
 pub mod Order
 pub mod FirstFaults
-pub mod Objects
-pub mod Expressions
-pub mod Needs
-pub mod KeptStatements
-pub mod WellFormed
+pub mod inside

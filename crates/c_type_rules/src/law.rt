@@ -2,8 +2,8 @@
 
 ghost use Rattle.std.specs.Prelude.{◌≡◌, None};
 ghost use Rattle.c_tree.specs.declared.tree.Program.{Program};
-ghost use Rattle.c_type.specs.Programs.{program_fault, program_tree};
-ghost use Rattle.c_type_rules.specs.WellFormed.{WellFormed};
+ghost use Rattle.c_type.specs.inside.Programs.{program_fault, program_tree};
+ghost use Rattle.c_type_rules.specs.inside.WellFormed.{WellFormed};
 
 /// The typed program of a translation unit without a fault is well formed: its places and calls
 /// name what exists, the types of its nodes agree (C17 6.5), its jumps and returns stand where they

@@ -3,8 +3,8 @@
 //! typed. All are public laws: nothing here runs.
 //!
 //! The relation stands in specs/Statements, specs/Definitions, specs/Constants and specs/Units, first faults in
-//! specs/Order, specs/Judgements and specs/FirstFaults, and typed programs that are well formed in specs/WellFormed,
-//! with specs/Expressions, specs/KeptStatements and specs/Objects.
+//! specs/Order, specs/Judgements and specs/FirstFaults, and typed programs that are well formed in
+//! specs/inside/WellFormed, with specs/inside/Expressions, specs/inside/KeptStatements and specs/inside/Objects.
 #![tactic(auto)]
 
 mod exact;

@@ -252,7 +252,8 @@ module _ {storing loading : ℕ} (o : Older) (fs : List Frame) (k : AreTold stor
       → AreTold storing2 loading (change (store m) o fs n)
   store_told m age storing2 aged s = subst (AreTold storing2 loading) (sym (stores_drop m o fs n))
       (stored_told k age storing2 s (cut_from SameLoads (Some age) fs (change (alone (stored_alone m)) o fs n)
-      (left_by (store_left m) o fs n) (subst (λ z. IsFrom SameLoads z fs (change (alone (stored_alone m)) o fs n)) aged
+      (left_by (store_left m) o fs n)
+      (subst (λ z. IsFrom SameLoads z fs (change (alone (stored_alone m)) o fs n)) aged
       (changed SameLoads (stored_alone m) (store_loads m) o fs n))))
 
 -- a frame that was filled has neither

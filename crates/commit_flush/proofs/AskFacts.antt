@@ -1,5 +1,6 @@
 -- What the frame of a number is asked, where it is handed in as what stands at its number.
-use Rattle.std.proofs.Common.{◌≡◌, ℕ, Bool, true, false, cond, ◌==◌, ◌||◌, slice_index_or, List, [], ◌∷◌, Option, Some, None, slice_get, refl, sym, ap, ◌∙◌, subst}
+use Rattle.std.proofs.Common.{◌≡◌, ℕ, Bool, true, false, cond, ◌==◌, ◌||◌, slice_index_or, List, [], ◌∷◌, Option}
+use Rattle.std.proofs.Common.{Some, None, slice_get, refl, sym, ap, ◌∙◌, subst}
 use Rattle.std.specs.Prelude.{is_none}
 use Rattle.std.proofs.Common.{true≢false}
 use Rattle.std.proofs.lemmas.Option.{none-some}
@@ -29,7 +30,8 @@ goes_on StackFull h e = absurd (cc)
 goes_on (Trap c) h e = absurd (cc)
 
 -- what is answered at what stands at a number is what is answered by age
-pub asked : (none : Happened) (can : Older → Frame → Happened) (n : ℕ) (fs : List Frame) (o : Older) (z : Option Frame)
+pub asked : (none : Happened) (can : Older → Frame → Happened) (n : ℕ) (fs : List Frame) (o : Older)
+    (z : Option Frame)
     (h : Happened) → z ≡ frame_of n fs → h ≡ answered none can (seen_at o fs n) z → h ≡ on_frame none can o fs n
 asked none can n fs o None h e a = a ∙ sym (none_asked none can n fs o (sym e))
 asked none can n fs o (Some f) h e a = a ∙ sym (one_asked none can n fs o f (sym e))

@@ -90,7 +90,8 @@ seen_through (x ∷ xs) w spots r a low v h e = go (r == x) refl (seen_through x
     token (Some Null) = e
     token (Some (Word u)) = refl
 
-    go : (b : Bool) → (r == x) ≡ b → word_read (behind (held_by xs (suc w) spots r) a low) ≡ passed xs (suc w) spots r v
+    go : (b : Bool) → (r == x) ≡ b
+        → word_read (behind (held_by xs (suc w) spots r) a low) ≡ passed xs (suc w) spots r v
         → word_read (behind (cond b (came (spots (first_write + w))) (held_by xs (suc w) spots r)) a low)
         ≡ passed xs (suc w) spots r (cond b (forwarded (spots (first_write + w)) v) v)
     go true z rest =

@@ -71,7 +71,8 @@ pub all_set : (w n : ℕ) (p : ℕ → Bool) → ((k : ℕ) → has_bit w k ≡ 
 all_set w n p rest k l = rest k ∙ ap (λ b. b && p k) (lt-ltb k n l)
 
 -- also where the numbers past them have none
-pub all_to : (w n : ℕ) (p : ℕ → Bool) → ((k : ℕ) → has_bit w k ≡ (nat_lt k n && p k)) → ((k : ℕ) → n ≤ k → p k ≡ false)
+pub all_to : (w n : ℕ) (p : ℕ → Bool) → ((k : ℕ) → has_bit w k ≡ (nat_lt k n && p k))
+    → ((k : ℕ) → n ≤ k → p k ≡ false)
     → (k : ℕ) → has_bit w k ≡ p k
 all_to w n p rest past k = go (cases_lt k n)
   where

@@ -332,11 +332,13 @@ module _ {image : Image} {budget : ℕ} {machine : Machine} {over : Stepped} {ph
       → frame_in image.blocks q ≡ None → HasBlock image.blocks q → Keeps p q
       → (ws : List Token) (ss : List Stored) (x : ℕ) (y : Bool) (z : ℕ) → ws ≡ o.writes → ss ≡ o.stores → x ≡ o.exit
       → y ≡ o.system → z ≡ o.successor → (machine2 : Machine) (over2 : Stepped)
-      → IsApplied image.blocks (record { writes = ws; stores = ss; exit = x; system = y; successor = z }) machine.state
+      → IsApplied image.blocks (record { writes = ws; stores = ss; exit = x; system = y; successor = z })
+      machine.state
       (machine2.state, over2) → machine2.budget ≡ machine.budget
       → (order2 : List ℕ) → order2 ≡ remove order 0 → (registers2 : Ages) → registers2 ≡ retire registers
       → Becomes image budget was Commit machine2 over2 (set phases n q) order2 registers2
-  applies_told v w d n e none p q r o told gone has keeps ws ss x y z ws_is ss_is x_is y_is z_is machine2 over2 applied
+  applies_told v w d n e none p q r o told gone has keeps ws ss x y z ws_is ss_is x_is y_is z_is machine2 over2
+      applied
       budget_is order2 cut registers2 retires =
       let d2 = inside s Commit v w d in
       let t = has_oldest s d2 in
@@ -353,7 +355,8 @@ module _ {image : Image} {budget : ℕ} {machine : Machine} {over : Stepped} {ph
       let whole : o ≡ outputs f = handed v w d n e p r o told f t.1 h in
       subst (λ k. Becomes image budget was Commit machine2 over2 (set phases n q) k registers2)
       (sym (cut ∙ ap (λ xs. remove xs 0) order_n))
-      (applies s f t.1 h d2 unmarked n (numbers_of t.1) order_n p q (read_phase s n p l r) gone has keeps machine2 over2
+      (applies s f t.1 h d2 unmarked n (numbers_of t.1) order_n p q
+      (read_phase s n p l r) gone has keeps machine2 over2
       (subst (λ k. IsApplied image.blocks k machine.state (machine2.state, over2))
       (effects_same o ws ss x y z ws_is ss_is x_is y_is z_is ∙ whole) applied) budget_is registers2 retires)
 

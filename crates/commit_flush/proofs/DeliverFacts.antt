@@ -1,5 +1,6 @@
 -- What Deliver makes of a window in code: where the token comes to a write, the banks keep it.
-use Rattle.std.proofs.Common.{◌≡◌, ◌≢◌, ℕ, zero, suc, ◌+◌, ◌-◌, ◌/◌, ◌%◌, ◌<◌, ◌≤◌, Bool, true, false, cond, not, ◌==◌}
+use Rattle.std.proofs.Common.{◌≡◌, ◌≢◌, ℕ, zero, suc, ◌+◌, ◌-◌, ◌/◌, ◌%◌, ◌<◌, ◌≤◌, Bool, true}
+use Rattle.std.proofs.Common.{false, cond, not, ◌==◌}
 use Rattle.std.proofs.Common.{nat_le, List, [], ◌∷◌, Option, Some, None, length, set, slice_get, refl, sym}
 use Rattle.std.proofs.Common.{ap, ap₂, ◌∙◌, subst, arith}
 use Rattle.std.specs.Prelude.{All, is_none}
@@ -142,7 +143,8 @@ module _ {image : Image} {budget : ℕ} {machine : Machine} {over : Stepped} {ph
   pub goes_free : (n : ℕ) (p : Phase) → slice_get phases n ≡ Some p → IsFreeIn image.blocks p
   goes_free n p is = λ f e.
       let a = has_age n old.frames f (sym (found s n p is) ∙ e) in
-      free_at old.frames (all_free image.blocks (good s) old.frames (committed machine.state) s.window.frames) a.0 f a.2
+      free_at old.frames (all_free image.blocks (good s) old.frames (committed machine.state) s.window.frames) a.0 f
+      a.2
 
   -- a register to which a token may be delivered waits for it
   pub awaits : (token : ℕ) → can image.blocks budget (Deliver token) old ≡ Done → (p : Phase)
@@ -151,15 +153,18 @@ module _ {image : Image} {budget : ℕ} {machine : Machine} {over : Stepped} {ph
       → AwaitsToken registers (age_of (token / token_places) old.frames)
       (register_to (token % token_places) (frame_of (token / token_places) old.frames))
   awaits token d p is few =
-      let t = running s (Deliver token) NoToken (can_deliver (token % token_places)) (token / token_places) p is refl d in
+      let t = running s (Deliver token) NoToken (can_deliver (token % token_places))
+      (token / token_places) p is refl d in
       let f : Frame = t.0 in
-      let frame : frame_of (token / token_places) old.frames ≡ Some f = sym (found s (token / token_places) p is) ∙ t.1 in
+      let frame : frame_of (token / token_places) old.frames ≡ Some f = sym (found s (token / token_places) p is)
+      ∙ t.1 in
       let a = has_age (token / token_places) old.frames f frame in
       let k : Delivers (token % token_places) f = may_deliver (token % token_places)
       (seen_at (committed machine.state) old.frames (token / token_places)) f t.2 in
       let run = runnable image.blocks (good s) old.frames (committed machine.state) s.window.frames
       (token / token_places) f frame in
-      subst (λ z. AwaitsToken registers z (register_to (token % token_places) (frame_of (token / token_places) old.frames)))
+      subst (λ z. AwaitsToken registers z
+      (register_to (token % token_places) (frame_of (token / token_places) old.frames)))
       (sym a.1)
       (subst (λ z. AwaitsToken registers (Some a.0) (register_to (token % token_places) z)) (sym frame)
       (go f a.0 (few a.0 a.1) a.2 run k (write_at f.code.writes.items (target f.code (token % token_places))) refl))
@@ -180,7 +185,8 @@ module _ {image : Image} {budget : ℕ} {machine : Machine} {over : Stepped} {ph
       )
 
   -- frames, order and banks fit together behind it
-  stays : (n pl : ℕ) (p : Phase) (f : Frame) (o : Older) → slice_get phases n ≡ Some p → frame_in image.blocks p ≡ Some f
+  stays : (n pl : ℕ) (p : Phase) (f : Frame) (o : Older) → slice_get phases n ≡ Some p
+      → frame_in image.blocks p ≡ Some f
       → n < 8 → Delivers pl f → (x : Answer) → at f.places pl ≡ x → (registers2 : Ages)
       → registers2 ≡ with_token registers (age_of n old.frames) (register_to pl (frame_of n old.frames))
       (token_in pl (frame_of n old.frames))
@@ -198,7 +204,8 @@ module _ {image : Image} {budget : ℕ} {machine : Machine} {over : Stepped} {ph
       (λ r. ap (λ x. held (delivered pl x f) r) e
       ∙ arrives f.code.writes.items f.spots (target f.code pl) v r
       (writes_once f.code run.good.in_order.writes) (omega arith))
-      (kept_is ∙ ap (λ z. with_token registers z (register_to pl (frame_of n old.frames)) (token_in pl (frame_of n old.frames)))
+      (kept_is ∙ ap (λ z. with_token registers z (register_to pl (frame_of n old.frames))
+      (token_in pl (frame_of n old.frames)))
       a.1 ∙ ap (λ z. with_token registers (Some a.0) (register_to pl z) (token_in pl z)) frame
       ∙ ap (with_token registers (Some a.0) (write_at f.code.writes.items (target f.code pl))) e)
     where
@@ -239,7 +246,8 @@ module _ {image : Image} {budget : ℕ} {machine : Machine} {over : Stepped} {ph
       (token_in (token % token_places) (frame_of (token / token_places) old.frames))
       → Becomes image budget old (Deliver token) machine over (set phases (token / token_places) q) order registers2
   delivers token d p q is change has keeps registers2 kept_is =
-      let t = running s (Deliver token) NoToken (can_deliver (token % token_places)) (token / token_places) p is refl d in
+      let t = running s (Deliver token) NoToken (can_deliver (token % token_places))
+      (token / token_places) p is refl d in
       let f : Frame = t.0 in
       let o : Older = seen_at (committed machine.state) old.frames (token / token_places) in
       let k : Delivers (token % token_places) f = may_deliver (token % token_places) o f t.2 in
@@ -253,6 +261,7 @@ module _ {image : Image} {budget : ℕ} {machine : Machine} {over : Stepped} {ph
       (All-set (HasBlock image.blocks) phases (token / token_places) q has s.blocks)
       (subst (λ z. AreKept z order registers2)
       (sym (changed_slots s (token / token_places) p q is keeps (deliver (token % token_places) o f) new))
-      (stays (token / token_places) (token % token_places) p f o is t.1 (below_eight s (token / token_places) p q is keeps)
+      (stays (token / token_places) (token % token_places) p f o is t.1
+      (below_eight s (token / token_places) p q is keeps)
       k (at f.places (token % token_places)) refl registers2 kept_is))
       s.room

@@ -94,7 +94,8 @@ unaltered : (o : Older) (fs : List Frame) (n : ℕ) → change (alone unchanged)
 unaltered o [] n = refl
 unaltered o (f ∷ fs) n = go (f.number == n) (unaltered (after f o) fs n)
   where
-    go : (b : Bool) → change (alone unchanged) (after f o) fs n ≡ fs → cond b (f ∷ fs) (f ∷ change (alone unchanged) (after f o) fs n) ≡ f ∷ fs
+    go : (b : Bool) → change (alone unchanged) (after f o) fs n ≡ fs
+        → cond b (f ∷ fs) (f ∷ change (alone unchanged) (after f o) fs n) ≡ f ∷ fs
     go true rest = refl
     go false rest = ap (λ x. f ∷ x) rest
 

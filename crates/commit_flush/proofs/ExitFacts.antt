@@ -46,12 +46,15 @@ exit_leaves_by blocks o (g ∷ gs) n a f e w =
         let here : 0 ≡ a = cc in
         let same : g ≡ f = (let both : Some g ≡ Some f = ap (slice_get (g ∷ gs)) here ∙ w in cc) in
         exit_leaves_is (successor_of (exit_by blocks g.block (branch_of g g.leaving))) gs
-        ∙ ap (λ (h : Frame). left_behind 0 (leads_to blocks (Some h)) (block_in (slice_get gs 0)) (suc (length gs))) same
-        ∙ ap (λ k. left_behind k (leads_to blocks (Some f)) (block_in (slice_get (g ∷ gs) (suc k))) (suc (length gs))) here
+        ∙ ap (λ (h : Frame). left_behind 0 (leads_to blocks (Some h)) (block_in (slice_get gs 0)) (suc (length gs)))
+        same
+        ∙ ap (λ k. left_behind k (leads_to blocks (Some f)) (block_in (slice_get (g ∷ gs) (suc k))) (suc (length gs)))
+        here
     go false u None q rest = absurd (let bad : None ≡ Some a = sym (ap later q) ∙ u in cc)
     go false u (Some k) q rest =
         let both : Some (suc k) ≡ Some a = sym (ap later q) ∙ u in
         let here : suc k ≡ a = cc in
         ap suc (rest k q (ap (slice_get (g ∷ gs)) here ∙ w))
         ∙ one_later k (leads_to blocks (Some f)) (block_in (slice_get gs (suc k))) (length gs)
-        ∙ ap (λ j. left_behind j (leads_to blocks (Some f)) (block_in (slice_get (g ∷ gs) (suc j))) (suc (length gs))) here
+        ∙ ap (λ j. left_behind j (leads_to blocks (Some f)) (block_in (slice_get (g ∷ gs) (suc j))) (suc (length gs)))
+        here

@@ -31,7 +31,8 @@ use Rattle.frame_state.specs.declared.phase.Phase.{Phase}
 use Rattle.frame_state.specs.Phases.{HasBlock, IsFree, frame_in, generation_of, number_of, slots_of}
 use Rattle.frame_state.proofs.PhaseFacts.{may_be_filled}
 use Rattle.commit_flush.specs.Seen.{IsSound, Seen, window_of}
-use Rattle.commit_flush.proofs.SeenFacts.{good, numbers_seen, count_seen, number_is, has_block, mapped_at, mapped_slot, set_stays}
+use Rattle.commit_flush.proofs.SeenFacts.{good, numbers_seen, count_seen, number_is, has_block, mapped_at}
+use Rattle.commit_flush.proofs.SeenFacts.{mapped_slot, set_stays}
 use Rattle.commit_flush.proofs.PhaseFacts.{seen, read_phase}
 use Rattle.commit_flush.proofs.AskFacts.{goes_on}
 use Rattle.commit_flush.proofs.MoveFacts.{inside}

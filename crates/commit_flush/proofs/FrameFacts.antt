@@ -1,6 +1,8 @@
 -- The frame of a number: where it stands, what it is asked, and what it sees.
-use Rattle.std.proofs.Common.{◌≡◌, ◌≢◌, ℕ, zero, suc, ◌+◌, ◌<◌, ◌≤◌, Bool, true, false, cond, ◌==◌, ◌||◌, List, [], ◌∷◌}
-use Rattle.std.proofs.Common.{Option, Some, None, length, take, slice_get, refl, sym, ap, ◌∙◌, subst, arith, true≢false}
+use Rattle.std.proofs.Common.{◌≡◌, ◌≢◌, ℕ, zero, suc, ◌+◌, ◌<◌, ◌≤◌, Bool, true, false, cond, ◌==◌}
+use Rattle.std.proofs.Common.{◌||◌, List, [], ◌∷◌}
+use Rattle.std.proofs.Common.{Option, Some, None, length, take, slice_get, refl, sym, ap}
+use Rattle.std.proofs.Common.{◌∙◌, subst, arith, true≢false}
 use Rattle.trips_isa.specs.declared.block.Block.{Block}
 use Rattle.commit_flush_spec.specs.Causes.{Happened}
 use Rattle.commit_flush_spec.specs.Frames.{Frame, at}
@@ -19,7 +21,8 @@ use Rattle.commit_flush.proofs.OrderFacts.{after_more}
 
 -- by number --------------------------------------------------------------------------------------
 
-module _ (slots : List (Option Frame)) (named : (m : ℕ) (f : Frame) → at slots m ≡ Some f → f.number ≡ m) (n : ℕ) where
+module _ (slots : List (Option Frame)) (named : (m : ℕ) (f : Frame) → at slots m ≡ Some f → f.number ≡ m)
+    (n : ℕ) where
   -- an order without a number has no frame of it
   missing : (order : List ℕ) → AllThere slots order → is_in n order ≡ false → frame_of n (by_age slots order) ≡ None
   missing [] t e = refl
@@ -56,7 +59,8 @@ module _ (slots : List (Option Frame)) (named : (m : ℕ) (f : Frame) → at slo
           ∙ rest w
 
 -- the frame of a number stands at it
-pub stands : (slots : List (Option Frame)) (order : List ℕ) (registers : Ages) → AreKept slots order registers → (n : ℕ)
+pub stands : (slots : List (Option Frame)) (order : List ℕ) (registers : Ages) → AreKept slots order registers
+    → (n : ℕ)
     → frame_of n (by_age slots order) ≡ at slots n
 stands slots order registers k n = go (is_in n order) refl
   where

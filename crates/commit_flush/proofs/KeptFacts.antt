@@ -70,7 +70,8 @@ changed_kept : (slots : List (Option Frame)) (order : List ℕ) (old new : Ages)
 changed_kept slots order old new k n f g here l same banks = record {
   eight = length-set slots n (Some g) ∙ k.eight;
   numbered = λ m h e. elim (given_or slots n m (Some g) h e) [
-    | inl p ↦ (let both : Some g ≡ Some h = p.1 in let it : g ≡ h = cc in ap (λ (x : Frame). x.number) (sym it) ∙ same ∙ sym p.0)
+    | inl p ↦ (let both : Some g ≡ Some h = p.1 in let it : g ≡ h = cc in ap (λ (x : Frame). x.number) (sym it) ∙ same
+        ∙ sym p.0)
     | inr e ↦ k.numbered m h e
   ];
   there = there_set slots n f g here (let s = k.eight in omega arith) order k.there;
@@ -151,7 +152,8 @@ in_append : (n : ℕ) (xs ys : List ℕ) → is_in n (xs ++ ys) ≡ (is_in n xs 
 in_append n [] ys = refl
 in_append n (x ∷ xs) ys = go (x == n) (in_append n xs ys)
   where
-    go : (b : Bool) → is_in n (xs ++ ys) ≡ (is_in n xs || is_in n ys) → (b || is_in n (xs ++ ys)) ≡ ((b || is_in n xs) || is_in n ys)
+    go : (b : Bool) → is_in n (xs ++ ys) ≡ (is_in n xs || is_in n ys)
+        → (b || is_in n (xs ++ ys)) ≡ ((b || is_in n xs) || is_in n ys)
     go true rest = refl
     go false rest = rest
 
@@ -170,7 +172,8 @@ pub fetch_kept : (slots : List (Option Frame)) (order : List ℕ) (old new : Age
 fetch_kept slots order old new k n g l e same writes held_is declares = record {
   eight = length-set slots n (Some g) ∙ k.eight;
   numbered = λ m h w. elim (given_or slots n m (Some g) h w) [
-    | inl p ↦ (let both : Some g ≡ Some h = p.1 in let it : g ≡ h = cc in ap (λ (x : Frame). x.number) (sym it) ∙ same ∙ sym p.0)
+    | inl p ↦ (let both : Some g ≡ Some h = p.1 in let it : g ≡ h = cc in ap (λ (x : Frame). x.number) (sym it) ∙ same
+        ∙ sym p.0)
     | inr w ↦ k.numbered m h w
   ];
   there = there_append (set slots n (Some g)) order (n ∷ []) (there_more slots n g order e k.there)
@@ -230,7 +233,8 @@ is_cleared [] slots m e = absurd (cc)
 is_cleared (y ∷ ys) slots m e = go (y == m) refl e (is_cleared ys (set slots y None) m)
   where
     go : (b : Bool) → (y == m) ≡ b → (b || is_in m ys) ≡ true
-        → (is_in m ys ≡ true → at (cleared ys (set slots y None)) m ≡ None) → at (cleared ys (set slots y None)) m ≡ None
+        → (is_in m ys ≡ true → at (cleared ys (set slots y None)) m ≡ None)
+        → at (cleared ys (set slots y None)) m ≡ None
     go true z w rest =
         stays_clear ys (set slots y None) m (ap (at (set slots y None)) (sym (equal_is y m z)) ∙ none_at slots y)
     go false z w rest = rest w
@@ -337,11 +341,13 @@ none_to_drop slots order registers kept k l a r = go (nat_lt a k) refl
         kept.banks a r ∙ none_past (by_age slots order) a r (omega arith)
 
 -- the oldest frame goes
-pub retire_kept : (slots : List (Option Frame)) (n : ℕ) (order : List ℕ) (old new : Ages) → AreKept slots (n ∷ order) old
+pub retire_kept : (slots : List (Option Frame)) (n : ℕ) (order : List ℕ) (old new : Ages)
+    → AreKept slots (n ∷ order) old
     → ((a r : ℕ) → new a r ≡ retire old a r) → AreKept (set slots n None) order new
 retire_kept slots n order old new kept retires =
     left_kept slots (n ∷ order) old new kept order (n ∷ []) kept.there.1 kept.once.2
-    (λ m e. ap (λ b. b || false) (apart n m (λ z. true≢false (sym e ∙ ap (λ x. is_in x order) (sym z) ∙ kept.once.1))))
+    (λ m e. ap (λ b. b || false)
+    (apart n m (λ z. true≢false (sym e ∙ ap (λ x. is_in x order) (sym z) ∙ kept.once.1))))
     (λ m e d. ap₂ (λ a b. a || b) (neither (n == m) false d).0 e)
     (λ a r. retires a r ∙ kept.banks (a + 1) r ∙ ap (λ b. banked (by_age slots (n ∷ order)) b r) (next a)
     ∙ ap (λ h. banked (before h (by_age slots order)) (suc a) r) kept.there.0.1)

@@ -1,6 +1,7 @@
 -- The frames in flight by age, one by one, and where the number of each stands.
 use Rattle.std.proofs.Common.{◌≡◌, ◌≢◌, ℕ, zero, suc, ◌+◌, ◌<◌, ◌≤◌, ◌⊎◌, inl, inr, Bool, true, false, cond, ◌==◌}
-use Rattle.std.proofs.Common.{◌||◌, List, [], ◌∷◌, ◌++◌, Option, Some, None, length, get_or, set, map, take, slice_get}
+use Rattle.std.proofs.Common.{◌||◌, List, [], ◌∷◌, ◌++◌, Option, Some, None, length, get_or}
+use Rattle.std.proofs.Common.{set, map, take, slice_get}
 use Rattle.std.proofs.Common.{refl, sym, ap, ap₂, ◌∙◌, subst, arith, true≢false}
 use Rattle.std.specs.Prelude.{is_some}
 use Rattle.std.specs.List.{list_any}
@@ -108,7 +109,8 @@ is_placed n (m ∷ ms) = go (m == n) (is_placed n ms)
     shifted None = refl
     shifted (Some a) = refl
 
-    go : (b : Bool) → is_some (place_of n ms) ≡ is_in n ms → is_some (cond b (Some 0) (later (place_of n ms))) ≡ (b || is_in n ms)
+    go : (b : Bool) → is_some (place_of n ms) ≡ is_in n ms
+        → is_some (cond b (Some 0) (later (place_of n ms))) ≡ (b || is_in n ms)
     go true rest = refl
     go false rest = shifted (place_of n ms) ∙ rest
 

@@ -90,7 +90,8 @@ module _ {image : Image} {budget : ℕ} {machine : Machine} {over : Stepped} {ph
 -- the youngest -----------------------------------------------------------------------------------
 
 -- as many as one more than its age
-pub is_youngest : (fs : List Frame) (n : ℕ) (z : Option Frame) → n ≡ length fs → (n ≡ 0 → ⊥) → z ≡ slice_get fs (n - 1)
+pub is_youngest : (fs : List Frame) (n : ℕ) (z : Option Frame) → n ≡ length fs → (n ≡ 0 → ⊥)
+    → z ≡ slice_get fs (n - 1)
     → IsYoungest z fs
 is_youngest fs zero z e ne w = absurd (ne refl)
 is_youngest fs (suc n) z e ne w =

@@ -92,7 +92,8 @@ module _ {image : Image} {budget : ℕ} {machine : Machine} {over : Stepped} {ph
   pub found : (n : ℕ) (p : Phase) → slice_get phases n ≡ Some p
       → frame_in image.blocks p ≡ frame_of n (flying image.blocks phases order)
   found n p e =
-      sym (mapped_slot image.blocks phases n p e) ∙ sym (stands (slots_of image.blocks phases) order registers s.kept n)
+      sym (mapped_slot image.blocks phases n p e)
+      ∙ sym (stands (slots_of image.blocks phases) order registers s.kept n)
 
   -- past the eighth none is in flight
   pub not_found : (n : ℕ) → 8 ≤ n → frame_of n (flying image.blocks phases order) ≡ None

@@ -98,7 +98,8 @@ not_asked false y e = refl
 pub place_off : (b : Block) (h : Held) (o : Older) (p : ℕ) → at h.places p ≡ None
     → is_next Token o (running b h) p ≡ false
 place_off b h o p e =
-    ap (λ t. is_done (judged ((false, NoToken) ∷ (is_none t, NoToken) ∷ (not (is_target (target b p)), NoToken) ∷ []))) e
+    ap (λ t. is_done (judged
+    ((false, NoToken) ∷ (is_none t, NoToken) ∷ (not (is_target (target b p)), NoToken) ∷ []))) e
 
 read_none : (q : Option ReadSlot) (c x : Bool) → q ≡ None
     → is_done (judged ((false, NoFrame) ∷ (is_none q || c, NoRead) ∷ (x, NotYet) ∷ [])) ≡ false

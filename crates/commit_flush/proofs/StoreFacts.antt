@@ -1,5 +1,6 @@
 -- How many frames a store leaves, as it is found before the store is resolved.
-use Rattle.std.proofs.Common.{◌≡◌, ℕ, zero, suc, ◌+◌, ◌<◌, ◌≤◌, Bool, true, false, cond, not, ◌&&◌, ◌==◌, nat_lt, List}
+use Rattle.std.proofs.Common.{◌≡◌, ℕ, zero, suc, ◌+◌, ◌<◌, ◌≤◌, Bool, true, false, cond, not}
+use Rattle.std.proofs.Common.{◌&&◌, ◌==◌, nat_lt, List}
 use Rattle.std.proofs.Common.{[], ◌∷◌, Option, Some, None, length, set, drop, slice_get, refl, sym, ap, ap₂, ◌∙◌}
 use Rattle.std.proofs.Common.{arith}
 use Rattle.std.specs.Prelude.{is_some}
@@ -31,16 +32,19 @@ narrowed_same p q from (suc n) touched a h = go (nat_lt n from) refl (narrowed_s
     go true z r = refl
     go false z r = ap₂ (λ s b. not (covers s a) && b) (h n (not_below_is n from z)) r
 
-pub finds_same : (p q : ℕ → Option Stored) (loads : List (Option Taken)) (touched : ℕ → Bool) (from : ℕ) (o : Option ℕ)
+pub finds_same : (p q : ℕ → Option Stored) (loads : List (Option Taken)) (touched : ℕ → Bool) (from : ℕ)
+    (o : Option ℕ)
     → ((k : ℕ) → from ≤ k → p k ≡ q k) → Finds p loads touched from o → Finds q loads touched from o
 finds_same p q loads touched from None h f =
-    λ m l k. ap (λ g. took_touched g (at loads m)) (fun_ext (λ a. sym (narrowed_same p q from m touched a h))) ∙ f m l k
+    λ m l k. ap (λ g. took_touched g (at loads m)) (fun_ext (λ a. sym (narrowed_same p q from m touched a h)))
+    ∙ f m l k
 finds_same p q loads touched from (Some n) h f = record {
   from_on = f.from_on;
   below = f.below;
   wrong = ap (λ g. took_touched g (at loads n)) (fun_ext (λ a. sym (narrowed_same p q from n touched a h))) ∙ f.wrong;
   lowest = λ m l k.
-      ap (λ g. took_touched g (at loads m)) (fun_ext (λ a. sym (narrowed_same p q from m touched a h))) ∙ f.lowest m l k;
+      ap (λ g. took_touched g (at loads m)) (fun_ext (λ a. sym (narrowed_same p q from m touched a h)))
+      ∙ f.lowest m l k;
 }
 
 -- how many frames a change leaves, of the frame of an age and those behind it
@@ -74,7 +78,8 @@ left_from left o (g ∷ gs) n a f e w =
         next i j = omega arith
 
 -- what a store leaves of its own frame and those behind it, by what is found in its own
-pub store_leaves_by : (m : ℕ) (f : Frame) (q : ℕ × Inst) (o : Older) (fs : List Frame) (touched : ℕ → Bool) (found : Option ℕ)
+pub store_leaves_by : (m : ℕ) (f : Frame) (q : ℕ × Inst) (o : Older) (fs : List Frame) (touched : ℕ → Bool)
+    (found : Option ℕ)
     → request f m ≡ Some q → m < length f.stores → length f.loads ≡ 32 → m < 32
     → ((a : ℕ) → touched a ≡ covers (waiting_store m (Some f)) a)
     → Finds (at f.stores) f.loads touched (m + 1) found
@@ -88,9 +93,11 @@ store_leaves_by m f q o fs touched found is l size small same finds = (
       (suc (untouched (nearest (at (set f.stores m s)) m numbers) fs))) (sym stored)
       ∙ ap (λ b. cond b 0 (suc (untouched (nearest (at (set f.stores m (waiting_store m (Some f)))) m numbers) fs)))
       (sym (own_found (at (set f.stores m (waiting_store m (Some f)))) f.loads touched (m + 1) found
-      (finds_same (at f.stores) (at (set f.stores m (waiting_store m (Some f)))) f.loads touched (m + 1) found (λ k h. later_same k h) finds)
+      (finds_same (at f.stores) (at (set f.stores m (waiting_store m (Some f)))) f.loads touched (m + 1) found
+      (λ k h. later_same k h) finds)
       m refl own size)),
-  λ a. narrowed_same (at f.stores) (at (set f.stores m (waiting_store m (Some f)))) (m + 1) numbers touched a (λ k h. later_same k h)
+  λ a. narrowed_same (at f.stores) (at (set f.stores m (waiting_store m (Some f)))) (m + 1) numbers touched a
+      (λ k h. later_same k h)
       ∙ own_left (at (set f.stores m (waiting_store m (Some f)))) touched (m + 1) m a (omega arith) refl own,
 )
   where

@@ -53,7 +53,8 @@ none_past (x ∷ xs) (suc n) l = none_past xs n (omega arith)
 -- a store that is done waits
 store_waits : (m : ℕ) (o : Older) (f : Frame) → can_store m o f ≡ Done → (q : ℕ × Inst) × (request f m ≡ Some q)
 store_waits m o f d =
-    go (request f m) refl (not_now (not (is_request is_store (request f m))) NoRequest _ (not_now f.sealed NoFrame _ d).1).0
+    go (request f m) refl
+    (not_now (not (is_request is_store (request f m))) NoRequest _ (not_now f.sealed NoFrame _ d).1).0
   where
     go : (r : Option (ℕ × Inst)) → request f m ≡ r → not (is_request is_store (request f m)) ≡ false
         → (q : ℕ × Inst) × (request f m ≡ Some q)
@@ -118,7 +119,8 @@ module _ (fs : List Frame) (a : ℕ) (f : Frame) (touched : ℕ → Bool) (found
     (size : length f.loads ≡ 32) (finds : Finds (at f.stores) f.loads touched 0 found) (left : ℕ → Bool)
     (is : found ≡ None → (x : ℕ) → left x ≡ narrowed (at f.stores) 0 numbers touched x) where
   one_more : untouched touched (drop a fs) ≡ cond (is_some found) 0 (suc (untouched left (drop (suc a) fs)))
-  one_more = one_untouched fs a f touched found left e (found_is (at f.stores) f.loads touched 0 found finds refl size)
+  one_more = one_untouched fs a f touched found left e
+      (found_is (at f.stores) f.loads touched 0 found finds refl size)
       (λ h x. is h x ∙ left_is (at f.stores) touched 0 x refl)
 
   pub more_left : is_some found ≡ false

@@ -1,5 +1,5 @@
--- Which frames in flight have a resolved store or an answered load, by words whose bits stand for ages. They save work
--- alone: a window is seen without them.
+-- Which frames in flight have a resolved store or an answered load, by words whose bits stand for ages. They save
+-- work alone: a window is seen without them.
 use Rattle.std.specs.Prelude.{◌≡◌, ℕ, ◌<◌, ◌≤◌, false, List, Some, None, slice_get}
 use Rattle.trips_isa.specs.declared.block.Image.{Image}
 use Rattle.trips_isa.specs.declared.run.Stepped.{Stepped}

@@ -6,8 +6,8 @@ use Rattle.trips_isa.specs.declared.run.Stepped.{Stepped}
 use Rattle.trips_isa.specs.declared.run.Stepped.TheVariants as stepped
 use Rattle.trips_isa.specs.Machine.{State}
 
--- the ending, where the last step came to this and this block is next: without a step that ended the run its budget is
--- spent; a trap leaves the block that faults as the next one
+-- the ending, where the last step came to this and this block is next: without a step that ended the run its budget
+-- is spent; a trap leaves the block that faults as the next one
 abbrev pub ending_of : Stepped → ℕ → Ending
 ending_of stepped.Went next = ending.Budget
 ending_of stepped.Ended next = ending.Ended

@@ -23,8 +23,8 @@ MayFlush (Flush n) over = Unit {0}
 MayFlush Commit over = is_trap over ≡ true
 MayFlush _ over = ⊥
 
--- how many frames such an event leaves, the older ones of the first that it flushes: of a store those before the first
--- wrong load, of an exit all or those up to its own, of a flush those before its own, and of a trap none
+-- how many frames such an event leaves, the older ones of the first that it flushes: of a store those before the
+-- first wrong load, of an exit all or those up to its own, of a flush those before its own, and of a trap none
 abbrev pub left_of : List Block → Event → Window → ℕ
 left_of blocks (Store n m) w = left_by (store_left m) (committed w.state) w.frames n
 left_of blocks (Exit n) w = left_by (exit_left blocks) (committed w.state) w.frames n

@@ -1,5 +1,6 @@
 //! What is told of the frames in flight: by age, by number, and what is known behind them.
-ghost use Rattle.std.specs.Prelude.{◌≡◌, ◌<◌, ◌≤◌, IfSome, MatchOption, None, Some, [], length, slice_get, slice_index};
+ghost use Rattle.std.specs.Prelude.{◌≡◌, ◌<◌, ◌≤◌, IfSome, MatchOption, None, Some};
+ghost use Rattle.std.specs.Prelude.{[], length, slice_get, slice_index};
 ghost use Rattle.commit_flush_spec.specs.Frames.{Frame};
 ghost use Rattle.commit_flush_spec.specs.Older.{after_all, committed, follows, successor_of};
 ghost use Rattle.commit_flush_spec.specs.InFlight.{is_sealed};
@@ -158,8 +159,8 @@ impl Window {
         end_below(self.storing, age as u32) as u8
     }
 
-    // The oldest frame from an age on that may have a resolved store or an answered load, and the count of frames where
-    // none has.
+    // The oldest frame from an age on that may have a resolved store or an answered load, and the count of frames
+    // where none has.
     pub(crate) fn accessing_from(&self, from: u8) -> u8
         requires { from ≤ length self.now.window.frames }
         ensures onward { from ≤ result }

@@ -48,8 +48,8 @@ impl Window {
         }
     }
 
-    // Takes what is still to be found from the stores of the frames before an age, the youngest first. A frame without
-    // stores is not looked at.
+    // Takes what is still to be found from the stores of the frames before an age, the youngest first. A frame
+    // without stores is not looked at.
     fn seek_older(&self, age: u8, sought: Sought) -> Sought
         requires age { age ≤ length self.now.window.frames }
         requires sound { IsSought sought }

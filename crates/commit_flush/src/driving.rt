@@ -10,8 +10,8 @@ use crate::next::next_with;
 use crate::window::Window;
 use trips_isa::Stepped;
 
-/// Lets the next event happen until there is none, and tells whether and how the run has ended: the machine's run within
-/// what is left of the budget.
+/// Lets the next event happen until there is none, and tells whether and how the run has ended: the machine's run
+/// within what is left of the budget.
 pub fn drive(window: &mut Window) -> Stepped
     requires generations { HasGenerations window.old.budget window.old.window }
     ensures driven { window.new ≡ record window.old {

@@ -36,8 +36,8 @@ impl Window {
         }
     }
 
-    // Lets an event happen while the run goes on, where no cause holds against it: it is asked first. It stays a call, so
-    // that Fire and Deliver, of which there are most, keep little on the stack.
+    // Lets an event happen while the run goes on, where no cause holds against it: it is asked first. It stays a
+    // call, so that Fire and Deliver, of which there are most, keep little on the stack.
     #[inline(never)]
     fn ask_event(&mut self, e: Event) -> Happened
         ensures answer { as_happened result

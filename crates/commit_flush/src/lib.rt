@@ -1,7 +1,7 @@
 //! The window in code: eight frames that execute blocks of an image before they are known to be wanted.
 //!
-//! Events come in any order and with any numbers (docs/WINDOW.md). A contract sees a window as its image, its budget and
-//! the window of the definitions (crates/commit_flush_spec/specs). Only a commit changes the committed state.
+//! Events come in any order and with any numbers (docs/WINDOW.md). A contract sees a window as its image, its budget
+//! and the window of the definitions (crates/commit_flush_spec/specs). Only a commit changes the committed state.
 //!
 //! The window driven to its end: the next event of its oldest frame, and one after another; and how its run ends.
 //!

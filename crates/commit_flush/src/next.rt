@@ -138,8 +138,8 @@ pub fn next_with(window: &Window, known: &Option<Known>) -> Option<Event>
     }
 }
 
-/// The event that is next: Fetch of the committed next block where no frame is in flight, else one of the oldest frame.
-/// There is none exactly where the run has ended or the budget's commits were made.
+/// The event that is next: Fetch of the committed next block where no frame is in flight, else one of the oldest
+/// frame. There is none exactly where the run has ended or the budget's commits were made.
 pub fn next_event(window: &Window) -> Option<Event>
     ensures value { as_next result ≡ spec.next_event window.now.budget window.now.window }
 {

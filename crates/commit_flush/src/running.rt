@@ -32,8 +32,8 @@ fn has_generations(window: &Window)
     let _budget = window.budget();
 }
 
-/// Drives a window to its end, and tells how its run has ended: as the machine's run within what is left of the budget
-/// ends. Frame 0 was filled fewer than 2^62 times before.
+/// Drives a window to its end, and tells how its run has ended: as the machine's run within what is left of the
+/// budget ends. Frame 0 was filled fewer than 2^62 times before.
 pub fn run(window: &mut Window) -> Ending
     requires generations { slice_index window.old.window.generations 0 < 2 ^ 62 }
     ensures driven { window.new ≡ record window.old {

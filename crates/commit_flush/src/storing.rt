@@ -76,15 +76,16 @@ impl Window {
         count
     }
 
-    // How many frames the store of the frame of an age leaves that waits with a number. It is found before the store is
-    // resolved: neither that store nor the lower ones of its frame count.
+    // How many frames the store of the frame of an age leaves that waits with a number. It is found before the store
+    // is resolved: neither that store nor the lower ones of its frame count.
     fn left_by_store(&self, frame: u8, age: u8, number: u8) -> u8
         requires age { age_of frame self.now.window.frames ≡ Some age }
         requires small { age < 8 }
         requires number { number < 32 }
         requires done { can self.now.image.blocks self.now.budget (window.Store frame number) self.now.window
             ≡ causes.Done }
-        ensures { result ≡ left_by (store_left number) (committed self.now.window.state) self.now.window.frames frame }
+        ensures { result ≡ left_by (store_left number) (committed self.now.window.state) self.now.window.frames
+            frame }
     {
         let _image = &self.image;
         let mut reach = Reach::of(self.will_store(frame, number));

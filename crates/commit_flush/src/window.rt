@@ -16,8 +16,8 @@ use trips_isa::Stepped;
 
 /// Eight frames over a committed state.
 ///
-/// They are kept by number, with an order of age. All room is taken when the window is made; no event takes memory. The
-/// drop of a window flushes its frames.
+/// They are kept by number, with an order of age. All room is taken when the window is made; no event takes memory.
+/// The drop of a window flushes its frames.
 #[derive(Drop)]
 pub struct Window {
     pub(crate) image: CheckedImage,

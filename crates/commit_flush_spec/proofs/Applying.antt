@@ -74,7 +74,8 @@ apply_trace ws o s =
     (length_more s.trace _)
 
 pub apply_next : (ws : List ℕ) (o : Effects) (s : State) → (apply ws o s).0.next ≡ o.successor
-apply_next ws o s = system_keeps (λ t. t.next ≡ o.successor) (λ t x k. k) (λ t v i k. k) o.system (changed ws o s) refl
+apply_next ws o s = system_keeps (λ t. t.next ≡ o.successor) (λ t x k. k) (λ t v i k. k) o.system
+    (changed ws o s) refl
 
 -- the next block is one of the image -------------------------------------------------------------
 

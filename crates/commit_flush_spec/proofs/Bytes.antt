@@ -7,7 +7,8 @@ use Rattle.std.proofs.lemmas.Nat.{pow-add}
 use Rattle.std.proofs.Math.Nat.{div-div-eq-div-mul}
 use Rattle.std.proofs.lemmas.Bool.Decides.{nat_tests}
 use Rattle.trips_isa.specs.declared.block.Stored.{Stored}
-use Rattle.trips_isa.specs.Stores.{byte_stored, byte_of, or_byte, put_bytes, put_value, store_all, listed, listed_below}
+use Rattle.trips_isa.specs.Stores.{byte_stored, byte_of, or_byte, put_bytes}
+use Rattle.trips_isa.specs.Stores.{put_value, store_all, listed, listed_below}
 use Rattle.trips_isa.specs.Stores.{byte_seen}
 
 pub put_size : (mem : List ℕ) (a k v : ℕ) → length (put_bytes mem a k v) ≡ length mem
@@ -126,6 +127,7 @@ stores_leave mem st (suc n) h x =
     last None f = refl
     last (Some s) f = value_byte (store_all mem (listed_below st n)) s s.value x (fits s.value f)
       where
-        fits : (v : Option ℕ) → FitsValue (length mem) s v → FitsValue (length (store_all mem (listed_below st n))) s v
+        fits : (v : Option ℕ) → FitsValue (length mem) s v
+            → FitsValue (length (store_all mem (listed_below st n))) s v
         fits None g = tt
         fits (Some v) g = subst (λ m. s.address + s.size ≤ m) (sym (all_size mem (listed_below st n))) g

@@ -90,7 +90,8 @@ byte_same p q mem (suc n) a h =
 bytes_same : (p q : ℕ → Option Stored) (mem : ℕ → ℕ) (n a z : ℕ) → ((k : ℕ) → k < n → p k ≡ q k)
     → bytes_seen p mem n a z ≡ bytes_seen q mem n a z
 bytes_same p q mem n a zero h = refl
-bytes_same p q mem n a (suc z) h = ap₂ (λ x y. x * 256 + y) (bytes_same p q mem n a z h) (byte_same p q mem n (a + z) h)
+bytes_same p q mem n a (suc z) h = ap₂ (λ x y. x * 256 + y) (bytes_same p q mem n a z h)
+    (byte_same p q mem n (a + z) h)
 
 module _ (blocks : List Block) (good : AllGood blocks) (s : State) (f : Frame) (ok : FrameOk blocks (committed s) f)
     (sealed : f.sealed ≡ true) where

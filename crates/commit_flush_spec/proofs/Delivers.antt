@@ -58,7 +58,8 @@ still_ready f g x e h n z =
     let up : Below (token_with f x 0)
     (node_gives (slice_get (nodes_of f.code) x) (computes f.code (λ y a. 0) x) (at g.spots)) =
     node_below (slice_get (nodes_of f.code) x) (computes f.code (λ y a. 0) x) (at f.spots) (at g.spots) h in
-    n (below_is _ _ up n ∙ ap (λ c. node_gives (slice_get (nodes_of c) x) (computes c (λ y a. 0) x) (at g.spots)) e ∙ z)
+    n (below_is _ _ up n ∙ ap (λ c. node_gives (slice_get (nodes_of c) x) (computes c (λ y a. 0) x) (at g.spots)) e
+    ∙ z)
 
 module _ (blocks : List Block) (good : AllGood blocks) (o : Older) (f : Frame) (ok : FrameOk blocks o f)
     (runs : f.sealed ≡ false)

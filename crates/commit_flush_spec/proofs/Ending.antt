@@ -15,7 +15,8 @@ use Rattle.commit_flush_spec.specs.Frames.{Frame, Bytes, Exit, unset, slot_node,
 use Rattle.commit_flush_spec.specs.Sending.{token_with}
 use Rattle.commit_flush_spec.specs.Older.{Older, after, after_all, follows, successor_of}
 use Rattle.commit_flush_spec.specs.Causes.{NoFrame, NoExit, Missing, Done}
-use Rattle.commit_flush_spec.specs.Ends.{can_exit, exit_by, branch_of, kept, with_exit, exit, complete, can_seal, seal}
+use Rattle.commit_flush_spec.specs.Ends.{can_exit, exit_by, branch_of, kept, with_exit}
+use Rattle.commit_flush_spec.specs.Ends.{exit, complete, can_seal, seal}
 use Rattle.commit_flush_spec.specs.Invariant.{Below, Agrees, Holds, Leaves, FrameOk, FramesOk, AllGood}
 use Rattle.commit_flush_spec.proofs.Lists.{below_is, is_below, blank_at, blank_size, emptied_at, emptied_size}
 use Rattle.commit_flush_spec.proofs.Lists.{unset_at, unset_size}

@@ -103,7 +103,8 @@ enough blocks good budget (suc n) (suc m) w ok room l k =
         (let f = v.less in omega (arith, f, l)) (let f = v.less in omega (arith, f, k))
         ∙ sym (ap (λ t. drives blocks budget m (given blocks budget t w)) h)
 
-from_next : (blocks : List Block) → AllGood blocks → (budget n : ℕ) (e : Event) (w : Window) → WindowOk blocks budget w
+from_next : (blocks : List Block) → AllGood blocks → (budget n : ℕ) (e : Event) (w : Window)
+    → WindowOk blocks budget w
     → HasGenerations budget w → work budget w ≤ n → next_event budget w ≡ Some e
     → drives blocks budget n w ≡ driven blocks budget (happens blocks budget e w)
 from_next blocks good budget zero e w ok room l h = absurd (let p = has_work budget w e h in omega (arith, p, l))

@@ -37,7 +37,8 @@ known_more o p f r h k = record {
       h k.slot.register k.word k.is_word;
 }
 
-pub frame_more : (blocks : List Block) (o p : Older) (f : Frame) → OlderLe o p → FrameOk blocks o f → FrameOk blocks p f
+pub frame_more : (blocks : List Block) (o p : Older) (f : Frame) → OlderLe o p → FrameOk blocks o f
+    → FrameOk blocks p f
 frame_more blocks o p f h k = record {
   code = k.code;
   sized = k.sized;
@@ -69,7 +70,8 @@ agrees_but : (blocks : List Block) (touched : ℕ → Bool) (o p : Older) (f : F
 agrees_but blocks touched o p f a h z ok ag = record {
   reads = λ r v slot d e k. ag.reads r v slot d e (h.look slot.register v k);
   loads = λ s ad size i e k t. ag.loads s ad size i e k t
-      ∙ sym (bytes_apart (at f.stores) (at f.stores) o.memory p.memory i.number (passes (at f.stores) i.number touched)
+      ∙ sym (bytes_apart (at f.stores) (at f.stores) o.memory p.memory i.number
+      (passes (at f.stores) i.number touched)
       (passes_apart (at f.stores) i.number touched o.memory p.memory h.memory) ad (size_of i.op)
       (let same : size ≡ size_of i.op = ok.sizes s ad size i e k t in
       not_hit (λ n. passes (at f.stores) n touched) f.loads i.number ad (size_of i.op) z (t
@@ -154,7 +156,8 @@ pub not_now : (b : Bool) (c : Cause) (h : Happened) → cond b (NotNow c) h ≡ 
 not_now true c h e = absurd (cc)
 not_now false c h e = (refl, e)
 
-pub change_ok : (blocks : List Block) (can : Older → Frame → Happened) (does : Older → Frame → List Frame → List Frame)
+pub change_ok : (blocks : List Block) (can : Older → Frame → Happened)
+    (does : Older → Frame → List Frame → List Frame)
     → ((o : Older) (f : Frame) (fs : List Frame) → can o f ≡ Done → FramesOk blocks o (f ∷ fs)
     → FramesOk blocks o (does o f fs))
     → (c : Cause) (o : Older) (fs : List Frame) (n : ℕ) → on_frame (NotNow c) can o fs n ≡ Done
@@ -164,7 +167,8 @@ change_ok blocks can does k c o (f ∷ fs) n e ok =
     go (f.number == n) e (λ d. change_ok blocks can does k c (after f o) fs n d ok.3)
   where
     go : (b : Bool) → cond b (can o f) (on_frame (NotNow c) can (after f o) fs n) ≡ Done
-        → (on_frame (NotNow c) can (after f o) fs n ≡ Done → FramesOk blocks (after f o) (change does (after f o) fs n))
+        → (on_frame (NotNow c) can (after f o) fs n ≡ Done
+        → FramesOk blocks (after f o) (change does (after f o) fs n))
         → FramesOk blocks o (cond b (does o f fs) (f ∷ change does (after f o) fs n))
     go true d rest = k o f fs d ok
     go false d rest = (ok.0, ok.1, ok.2, rest d)

@@ -1,4 +1,5 @@
--- What is left of the oldest frame is less after each next event but a Commit, which leaves no more than a frame costs.
+-- What is left of the oldest frame is less after each next event but a Commit,
+-- which leaves no more than a frame costs.
 use Rattle.std.proofs.Common.{◌≡◌, ℕ, ◌+◌, ◌*◌, ◌%◌, ◌<◌, ◌≤◌, Bool, true, false, cond, not}
 use Rattle.std.proofs.Common.{◌⊎◌, inl, inr, List, [], ◌∷◌, Option, Some, None, length, is_some}
 use Rattle.std.proofs.Common.{is_none}

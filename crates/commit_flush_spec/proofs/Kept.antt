@@ -214,7 +214,8 @@ module _ (blocks : List Block) (good : AllGood blocks) (o : Older) (f : Frame) (
       (λ q h. elim (newly f.requests f.leaving q h) [ inl z ↦ inl z | inr z ↦ inr (half_places q s z.0) ])
 
   -- a request is not overwritten by another number
-  other_request : (n t : ℕ) → n ≢ i.number → at f.requests n ≡ Some t → at (set f.requests i.number (Some s)) n ≡ Some t
+  other_request : (n t : ℕ) → n ≢ i.number → at f.requests n ≡ Some t
+      → at (set f.requests i.number (Some s)) n ≡ Some t
   other_request n t z e = other_at f.requests i.number n (Some s) z ∙ e
 
   new_request : (t : ℕ) (j : Inst) → t ≡ s → slot_of f.code t ≡ Some j
@@ -339,7 +340,8 @@ module _ (blocks : List Block) (good : AllGood blocks) (o : Older) (f : Frame) (
   form_kept General e = gives_kept (ap is_load e) (ap is_store e) (λ z. let bad : General ≡ Branch = sym e ∙ z in cc)
   form_kept Immediate e = gives_kept (ap is_load e) (ap is_store e) (λ z. let bad : Immediate ≡ Branch = sym e
       ∙ z in cc)
-  form_kept Constant e = gives_kept (ap is_load e) (ap is_store e) (λ z. let bad : Constant ≡ Branch = sym e ∙ z in cc)
+  form_kept Constant e = gives_kept (ap is_load e) (ap is_store e) (λ z. let bad : Constant ≡ Branch = sym e
+      ∙ z in cc)
   form_kept Load e = load_waits (ap is_load e) (λ z. let bad : Load ≡ Branch = sym e ∙ z in cc)
   form_kept Store e = store_waits e
   form_kept Branch e = branch_waits e

@@ -96,7 +96,8 @@ module _ (blocks : List Block) (good : AllGood blocks) (o : Older) (f : Frame) (
   newly q e = go (nat_lt q 256) e
     where
       inner : (j : Inst) → slot_of f.code (q / 2) ≡ Some j → (c : Bool) → is_load (form_of j.op) ≡ c
-          → (not c || is_some (at L j.number)) ≡ true → ((not c || is_some (at f.loads j.number)) ≡ true) ⊎ (q / 2 ≡ s)
+          → (not c || is_some (at L j.number)) ≡ true → ((not c || is_some (at f.loads j.number)) ≡ true)
+          ⊎ (q / 2 ≡ s)
       inner j w false k h = inl refl
       inner j w true k h = elim (equal_or j.number n) [
         | inl z ↦ inr (one_load f.code runnable (q / 2) s j i w is k isload (z ∙ sym number))
@@ -189,7 +190,8 @@ deliver_kept blocks p o f c ok lost =
 cut_kept : (touched : ℕ → Bool) (fs : List Frame) → AllKept fs → AllKept (cut touched fs)
 cut_kept touched [] h = tt
 cut_kept touched (f ∷ fs) h =
-    go (violated (λ n. passes (at f.stores) n touched) f.loads) (cut_kept (passes (at f.stores) numbers touched) fs h.1)
+    go (violated (λ n. passes (at f.stores) n touched) f.loads)
+    (cut_kept (passes (at f.stores) numbers touched) fs h.1)
   where
     go : (b : Bool) → AllKept (cut (passes (at f.stores) numbers touched) fs)
         → AllKept (cond b [] (f ∷ cut (passes (at f.stores) numbers touched) fs))
@@ -275,7 +277,8 @@ left_kept blocks o f ok lost s leaves = record {
     some (Some t) n z = cc
 
     there : (t : Answer) → t ≢ None → exit_by blocks f.block (leaves_with (slot_of f.code s) t) ≢ None
-    there t n z = some t n (ap (λ o. exit_by blocks f.block (leaves_with o t)) (sym (ok.leaving s leaves).is_inst) ∙ z)
+    there t n z = some t n (ap (λ o. exit_by blocks f.block (leaves_with o t)) (sym (ok.leaving s leaves).is_inst)
+        ∙ z)
 
 pub exit_kept : (blocks : List Block) (o : Older) (f : Frame) (fs : List Frame) → can_exit o f ≡ Done
     → FramesOk blocks o (f ∷ fs) → AllKept (f ∷ fs) → AllKept (exit blocks o f fs)

@@ -124,7 +124,8 @@ flag_keeps (x ∷ xs) zero (suc j) e = e
 flag_keeps (x ∷ xs) (suc i) zero e = e
 flag_keeps (x ∷ xs) (suc i) (suc j) e = flag_keeps xs i j e
 
-pub flag_or : (xs : List Bool) (i j : ℕ) → get_or (set xs i true) j false ≡ true → (j ≡ i) ⊎ (get_or xs j false ≡ true)
+pub flag_or : (xs : List Bool) (i j : ℕ) → get_or (set xs i true) j false ≡ true → (j ≡ i)
+    ⊎ (get_or xs j false ≡ true)
 flag_or [] i j e = inr e
 flag_or (x ∷ xs) zero zero e = inl refl
 flag_or (x ∷ xs) zero (suc j) e = inr e

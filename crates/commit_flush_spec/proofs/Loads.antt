@@ -239,7 +239,8 @@ module _ (blocks : List Block) (good : AllGood blocks) (o : Older) (f : Frame) (
       | inl p ↦ absurd (let bad : None ≡ Some t = p.1 in cc)
       | inr p ↦
           let q = ok.asked m t p in
-          let other : m ≢ n = λ z. let bad : None ≡ Some t = sym (none_at f.requests n) ∙ sym (ap (at Q) z) ∙ e in cc in
+          let other : m ≢ n = λ z. let bad : None ≡ Some t = sym (none_at f.requests n) ∙ sym (ap (at Q) z)
+          ∙ e in cc in
           record {
             inst = q.inst;
             is_inst = q.is_inst;

@@ -1,5 +1,6 @@
 -- A window in which driving alone has filled frames has one at most, and each block takes fewer events.
-use Rattle.std.proofs.Common.{◌≡◌, ◌≢◌, ℕ, zero, suc, ◌+◌, ◌-◌, ◌*◌, ◌/◌, ◌%◌, ◌<◌, ◌≤◌, Bool, true, false, cond, ◌==◌}
+use Rattle.std.proofs.Common.{◌≡◌, ◌≢◌, ℕ, zero, suc, ◌+◌, ◌-◌, ◌*◌, ◌/◌, ◌%◌, ◌<◌, ◌≤◌, Bool}
+use Rattle.std.proofs.Common.{true, false, cond, ◌==◌}
 use Rattle.std.proofs.Common.{inl, inr, List, [], ◌∷◌, ◌++◌, Option, Some, None, length, refl, sym, ap}
 use Rattle.std.proofs.Common.{ap₂, ◌∙◌, subst, arith}
 use Rattle.trips_isa.specs.declared.block.Inst.{Inst}
@@ -211,7 +212,8 @@ module _ (blocks : List Block) (good : AllGood blocks) (budget : ℕ) (w : Windo
           let size = step_size blocks w (committed w.state) f e t in
           let few = k.1 in
           lowered (step_lowers blocks good w f fs i fine e t)
-          (lone_from (done blocks e w).frames (step_stays blocks good w f fs i k.0 fine e t) (omega (arith, size, few)))
+          (lone_from (done blocks e w).frames (step_stays blocks good w f fs i k.0 fine e t)
+          (omega (arith, size, few)))
 
 pub drives_alone : (blocks : List Block) → AllGood blocks → (budget n : ℕ) (w : Window) → WindowOk blocks budget w
     → HasGenerations budget w → AreLone w.frames → next_event budget (drives blocks budget n w) ≢ None

@@ -164,7 +164,8 @@ bytes_apart st st' l m n touched h a (suc k) e =
     ap₂ (λ x y. x * 256 + y) (bytes_apart st st' l m n touched h a k p.1) (h (a + k) p.0)
 
 pub bytes_same : (st st' : ℕ → Option Stored) (l m : ℕ → ℕ) (n : ℕ)
-    → ((x : ℕ) → byte_seen st l n x ≡ byte_seen st' m n x) → (a k : ℕ) → bytes_seen st l n a k ≡ bytes_seen st' m n a k
+    → ((x : ℕ) → byte_seen st l n x ≡ byte_seen st' m n x) → (a k : ℕ)
+    → bytes_seen st l n a k ≡ bytes_seen st' m n a k
 bytes_same st st' l m n h a zero = refl
 bytes_same st st' l m n h a (suc k) = ap₂ (λ x y. x * 256 + y) (bytes_same st st' l m n h a k) (h (a + k))
 

@@ -49,9 +49,11 @@ put_there false xs p t q n = n
 pub sent_there : (o : Option Node) (xs : List Answer) (p : ℕ) (t : Token) (q : ℕ) → at xs q ≢ None
     → at (sent o xs p t) q ≢ None
 sent_there None xs p t q n = n
-sent_there (Some k) xs p t q n = put_there (is_target k.second) _ (suc p) t q (put_there (is_target k.first) xs p t q n)
+sent_there (Some k) xs p t q n = put_there (is_target k.second) _ (suc p) t q
+    (put_there (is_target k.first) xs p t q n)
 
-put_here : (b : Bool) (xs : List Answer) (p : ℕ) (t : Token) → b ≡ true → p < length xs → at (put_if b xs p t) p ≢ None
+put_here : (b : Bool) (xs : List Answer) (p : ℕ) (t : Token) → b ≡ true → p < length xs
+    → at (put_if b xs p t) p ≢ None
 put_here true xs p t e l = λ z. let bad : Some t ≡ None = sym (set_here xs p (Some t) l) ∙ z in cc
 put_here false xs p t e l = absurd (cc)
 
@@ -63,7 +65,8 @@ put_long false xs p t = refl
 sent_first : (o : Option Node) (xs : List Answer) (p : ℕ) (t : Token) → is_target (named_at o true) ≡ true
     → p < length xs → at (sent o xs p t) p ≢ None
 sent_first None xs p t e l = absurd (cc)
-sent_first (Some n) xs p t e l = put_there (is_target n.second) _ (suc p) t p (put_here (is_target n.first) xs p t e l)
+sent_first (Some n) xs p t e l = put_there (is_target n.second) _ (suc p) t p
+    (put_here (is_target n.first) xs p t e l)
 
 sent_second : (o : Option Node) (xs : List Answer) (p : ℕ) (t : Token) → is_target (named_at o false) ≡ true
     → suc p < length xs → at (sent o xs p t) (suc p) ≢ None

@@ -1,6 +1,7 @@
 -- Each next event lowers the work that is left, and the generation of frame 0 rises by one at most.
 use Rattle.std.proofs.Common.{◌≡◌, ℕ, zero, suc, ◌+◌, ◌-◌, ◌*◌, ◌^◌, ◌<◌, ◌≤◌, List, []}
-use Rattle.std.proofs.Common.{◌∷◌, ◌++◌, Option, Some, None, slice_get, slice_index, set, get_or, length, refl, sym, ap}
+use Rattle.std.proofs.Common.{◌∷◌, ◌++◌, Option, Some, None, slice_get, slice_index, set, get_or}
+use Rattle.std.proofs.Common.{length, refl, sym, ap}
 use Rattle.std.proofs.Common.{ap₂, ◌∙◌, subst, arith}
 use Rattle.trips_isa.specs.declared.block.Block.{Block}
 use Rattle.trips_isa.specs.declared.run.Stepped.{Stepped}
@@ -162,7 +163,8 @@ generation_rises blocks budget e w = go (can blocks budget e w)
     by (event.Flush a) = omega arith
     by event.Commit = commits w.frames
 
-    go : (h : Happened) → slice_index (if_done h (done blocks e w) w).generations 0 ≤ suc (slice_index w.generations 0)
+    go : (h : Happened) → slice_index (if_done h (done blocks e w) w).generations 0
+        ≤ suc (slice_index w.generations 0)
     go Done = by e
     go (NotNow c) = omega arith
 

@@ -112,7 +112,8 @@ fired_same n own a p p' m m' h k some =
     (left_same n.role a (p n.slot) (p (128 + n.slot)) (m n.slot) (m' n.slot) two.1 (k n.slot))
     ∙ ap₂ (λ c d. mark_by own (operands n.role (p' n.slot) (p' (128 + n.slot)))
     (cond (takes_left n.role) (m' n.slot) 0) c d)
-    (right_same n.role a (p n.slot) (p (128 + n.slot)) (m (128 + n.slot)) (m' (128 + n.slot)) two.1 (k (128 + n.slot)))
+    (right_same n.role a (p n.slot) (p (128 + n.slot)) (m (128 + n.slot)) (m' (128 + n.slot)) two.1
+    (k (128 + n.slot)))
     (guard_same n.sense (p (256 + n.slot)) (m (256 + n.slot)) (m' (256 + n.slot)) two.0 (k (256 + n.slot)))
 
 node_same : (o : Option Node) (own a : ℕ → ℕ → ℕ) (p p' : ℕ → Answer) (m m' : ℕ → ℕ) (t : Answer)

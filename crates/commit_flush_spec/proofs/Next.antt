@@ -192,7 +192,8 @@ pub a_step : (blocks : List Block) → AllGood blocks → (budget : ℕ) (w : Wi
     → (f : Frame) (fs : List Frame) → w.frames ≡ f ∷ fs → f.sealed ≡ false → complete f ≡ false
     → next_step (committed w.state) f ≢ None
 a_step blocks good budget w ok f fs i s c none =
-    let all : FramesOk blocks (committed w.state) (f ∷ fs) = subst (FramesOk blocks (committed w.state)) i ok.frames in
+    let all : FramesOk blocks (committed w.state) (f ∷ fs) =
+    subst (FramesOk blocks (committed w.state)) i ok.frames in
     let kept : AllKept (f ∷ fs) = subst AllKept i ok.kept in
     true≢false (sym (quiet_is_complete blocks good (committed w.state) f all.2 (kept.0 s)
     (quiet_of blocks good (committed w.state) f all.2 s (some_look w.state) none)) ∙ c)
@@ -224,7 +225,8 @@ some_next blocks good budget w ok h = go w.frames refl h
     go (f ∷ fs) i k = by f.sealed refl (complete f) refl k
       where
         by : (b : Bool) → f.sealed ≡ b → (c : Bool) → complete f ≡ c
-            → cond b (Some event.Commit) (cond c (Some (event.Seal f.number)) (next_step (committed w.state) f)) ≡ None
+            → cond b (Some event.Commit) (cond c (Some (event.Seal f.number)) (next_step (committed w.state) f))
+            ≡ None
             → ⊥
         by true s c z k = let bad : Some event.Commit ≡ None = k in cc
         by false s true z k = let bad : Some (event.Seal f.number) ≡ None = k in cc

@@ -29,7 +29,8 @@ nums fs = map (λ (f : Frame). f.number) fs
 abbrev pub Begins : List ℕ → List ℕ → Type 0
 Begins ns ms = (rest : List ℕ) × (ms ≡ ns ++ rest)
 
-any_front : (n : ℕ) (ns rest : List ℕ) → list_any (λ m. m == n) (ns ++ rest) ≡ false → list_any (λ m. m == n) ns ≡ false
+any_front : (n : ℕ) (ns rest : List ℕ) → list_any (λ m. m == n) (ns ++ rest) ≡ false
+    → list_any (λ m. m == n) ns ≡ false
 any_front n [] rest e = refl
 any_front n (m ∷ ns) rest e = let p = or_false (m == n) (list_any (λ k. k == n) (ns ++ rest)) e in
     ap₂ (λ x y. x || y) p.0 (any_front n ns rest p.1)
@@ -112,7 +113,8 @@ load_number n o f = go (request f n)
 cut_numbers : (touched : ℕ → Bool) (fs : List Frame) → Begins (nums (cut touched fs)) (nums fs)
 cut_numbers touched [] = ([], refl)
 cut_numbers touched (f ∷ fs) =
-    go (violated (λ n. passes (at f.stores) n touched) f.loads) (cut_numbers (passes (at f.stores) numbers touched) fs)
+    go (violated (λ n. passes (at f.stores) n touched) f.loads)
+    (cut_numbers (passes (at f.stores) numbers touched) fs)
   where
     go : (b : Bool) → Begins (nums (cut (passes (at f.stores) numbers touched) fs)) (nums fs)
         → Begins (nums (cond b [] (f ∷ cut (passes (at f.stores) numbers touched) fs))) (nums (f ∷ fs))

@@ -18,7 +18,8 @@ use Rattle.trips_isa.specs.declared.form.Form.TheVariants.{General, Immediate, L
 use Rattle.trips_isa.specs.Forms.{form_of}
 use Rattle.trips_isa.specs.Fits.{FitsTarget, FitsForm, FitsOperand, FitsSecond, FitsRead}
 use Rattle.trips_isa.specs.Rule.{Answer, matched, gives, if_matched}
-use Rattle.trips_isa.specs.Places.{place_of, place_at, first_place, read_node, inst_node, inst_nodes, nodes_of, targets}
+use Rattle.trips_isa.specs.Places.{place_of, place_at, first_place, read_node}
+use Rattle.trips_isa.specs.Places.{inst_node, inst_nodes, nodes_of, targets}
 use Rattle.trips_isa.specs.Places.{names}
 use Rattle.trips_isa.specs.Tables.{node_gives, first}
 use Rattle.trips_isa.specs.Blocks.{Responses, Solves, computes, is_read, slot_at, inst_at}

@@ -8,8 +8,8 @@ use Rattle.commit_flush_spec.specs.Frames.{Frame, at, slot_node, target, is_targ
 use Rattle.commit_flush_spec.specs.Sending.{token_with}
 use Rattle.commit_flush_spec.specs.NextEvent.{stores_came}
 
--- no token can be delivered, no read answered, no instruction fired; a load that waits waits for a store, a store that
--- waits has come, and no branch waits
+-- no token can be delivered, no read answered, no instruction fired; a load that waits waits for a store, a store
+-- that waits has come, and no branch waits
 pub record Quiet (f : Frame) : Type 0 where
   pub tokens : (p : ℕ) → is_target (target f.code p) ≡ true → at f.places p ≡ None
   pub reads : (r : ℕ) (slot : ReadSlot) → slice_get f.code.reads.items r ≡ Some slot

@@ -23,7 +23,8 @@ use Rattle.commit_flush_spec.specs.NextEvent.{next_event}
 use Rattle.commit_flush_spec.specs.Work.{work}
 use Rattle.commit_flush_spec.specs.Driving.{given, drives, driven}
 use Rattle.commit_flush_spec.specs.DrivingLaws.{HasGenerations}
-use Rattle.commit_flush_spec.proofs.Next.{Next, Fetches, Commits, Seals, Takes, parts, next_done, none_after, why_none}
+use Rattle.commit_flush_spec.proofs.Next.{Next, Fetches, Commits, Seals, Takes}
+use Rattle.commit_flush_spec.proofs.Next.{parts, next_done, none_after, why_none}
 use Rattle.commit_flush_spec.proofs.FramesSeen.{Lowers, step_lowers, seal_lowers}
 use Rattle.commit_flush_spec.proofs.Lowered.{fetch_lowers, may_fill, has_work}
 use Rattle.commit_flush_spec.proofs.Ends.{Onward, onward, rests}
@@ -72,7 +73,8 @@ step_made : (blocks : List Block) → AllGood blocks → (budget : ℕ) (w : Win
     → ((happens blocks budget event.Commit w).state, (happens blocks budget event.Commit w).over)
     ≡ step_of blocks w.state
 step_made blocks good budget w ok f fs i s c =
-    let all : FramesOk blocks (committed w.state) (f ∷ fs) = subst (FramesOk blocks (committed w.state)) i ok.frames in
+    let all : FramesOk blocks (committed w.state) (f ∷ fs) =
+    subst (FramesOk blocks (committed w.state)) i ok.frames in
     commit_applies blocks budget w f fs i c
     ∙ commits blocks good w.state f all.2 s (is_next _ _ all.1)
 
@@ -109,7 +111,8 @@ abbrev pub told : Window → State × Stepped
 told w = (w.state, w.over)
 
 -- at rest nothing is left of the budget
-at_rest : (blocks : List Block) → AllGood blocks → (budget : ℕ) (w : Window) → WindowOk blocks budget w → w.over ≡ Went
+at_rest : (blocks : List Block) → AllGood blocks → (budget : ℕ) (w : Window) → WindowOk blocks budget w
+    → w.over ≡ Went
     → next_event budget w ≡ None → told w ≡ Within blocks budget w
 at_rest blocks good budget w ok o h = elim (why_none blocks good budget w ok h) [
   | inl z ↦ absurd (z o)
@@ -150,7 +153,8 @@ module _ (blocks : List Block) (good : AllGood blocks) (budget : ℕ) (w : Windo
       elim (went_or v.over) [
         | inl p ↦
             let grown : length v.state.trace ≡ length w.state.trace + 1 = trace_grows blocks budget w f fs i c p in
-            let n : suc (budget - length v.state.trace) ≡ budget - length w.state.trace = omega (arith, grown, left) in
+            let n : suc (budget - length v.state.trace) ≡ budget - length w.state.trace =
+            omega (arith, grown, left) in
             going (ap (λ (y : Window). y.over) it ∙ p) ∙ ap (Within blocks budget) it
             ∙ sym (after_one blocks w.state v.state (budget - length v.state.trace)
             (sym step ∙ ap (λ q. (v.state, q)) p))

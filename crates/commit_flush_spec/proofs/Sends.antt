@@ -252,7 +252,8 @@ module _ (blocks : List Block) (o : Older) (f : Frame) (F R : List Bool) (Q : Li
         | inr z ↦ still_sent f F R Q V L h.fired h.reads h.loads q (h.was.once.places q z)
       ])
       (λ q e. sent_other (slice_get (nodes_of f.code) x) f.places p t q
-      (λ z. true≢false (sym e ∙ ap (has_sent f) z ∙ before.0)) (λ z. true≢false (sym e ∙ ap (has_sent f) z ∙ before.1)))
+      (λ z. true≢false (sym e ∙ ap (has_sent f) z ∙ before.0))
+      (λ z. true≢false (sym e ∙ ap (has_sent f) z ∙ before.1)))
     where
       there' : Some t ≢ None
       there' e = cc
@@ -278,12 +279,14 @@ module _ (blocks : List Block) (o : Older) (f : Frame) (F R : List Bool) (Q : Li
         | inl z ↦ ap (mark_on C) z
             ∙ mark_here (set f.marks.places p (mark_with f x)) (suc p) (mark_with f x) (inside (suc p) z)
             ∙ e ∙ sym (ap m (ap (source f.code) z ∙ from.1))
-        | inr y ↦ mark_other (set f.marks.places p (mark_with f x)) (suc p) q (mark_with f x) y ∙ elim (equal_or q p) [
-          | inl z ↦ ap (mark_on (set f.marks.places p (mark_with f x))) z
-              ∙ mark_here f.marks.places p (mark_with f x) (old p z) ∙ e ∙ sym (ap m (ap (source f.code) z ∙ from.0))
-          | inr w ↦ mark_other f.marks.places p q (mark_with f x) w ∙ k q (λ z. n (sent_other
-              (slice_get (nodes_of f.code) x) f.places p t q w y ∙ z))
-        ]
+        | inr y ↦ mark_other (set f.marks.places p (mark_with f x)) (suc p) q (mark_with f x) y
+            ∙ elim (equal_or q p) [
+              | inl z ↦ ap (mark_on (set f.marks.places p (mark_with f x))) z
+                  ∙ mark_here f.marks.places p (mark_with f x) (old p z) ∙ e
+                  ∙ sym (ap m (ap (source f.code) z ∙ from.0))
+              | inr w ↦ mark_other f.marks.places p q (mark_with f x) w ∙ k q (λ z. n (sent_other
+                  (slice_get (nodes_of f.code) x) f.places p t q w y ∙ z))
+            ]
       ]
         where
           in_places : q < 320
@@ -345,7 +348,8 @@ slot_sends f s l =
     let lt' : nat_lt (suc (2 * s)) 256 ≡ true = grind (arith, nat_tests) in
     let half : 2 * s / 2 ≡ s = omega arith in
     let half' : suc (2 * s) / 2 ≡ s = omega arith in (
-      ap (λ c. cond c (slot_sent f (2 * s / 2)) (get_or f.reads ((2 * s - 256) / 2) false)) lt ∙ ap (slot_sent f) half,
+      ap (λ c. cond c (slot_sent f (2 * s / 2)) (get_or f.reads ((2 * s - 256) / 2) false)) lt
+          ∙ ap (slot_sent f) half,
       ap (λ c. cond c (slot_sent f (suc (2 * s) / 2)) (get_or f.reads ((suc (2 * s) - 256) / 2) false)) lt'
           ∙ ap (slot_sent f) half',
     )

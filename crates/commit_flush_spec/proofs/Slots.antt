@@ -36,7 +36,8 @@ by_number slots (m ∷ order) d size named does o n f e i =
     here (Some h) k z =
         let same : h ≡ f = (let both : Some h ≡ Some f = sym k ∙ ap (at slots) z ∙ e in cc) in
         let it : (h.number == n) ≡ true = (let w : h.number ≡ m = named m h k in grind (arith, nat_tests, w, z)) in
-        ap (λ b. cond b (does o h ∷ by_age slots order) (h ∷ change (alone does) (after h o) (by_age slots order) n)) it
+        ap (λ b. cond b (does o h ∷ by_age slots order) (h ∷ change (alone does) (after h o) (by_age slots order) n))
+        it
         ∙ ap (λ x. does o x ∷ by_age slots order) same
         ∙ sym (ap (λ b. does (cond b o (seen_at (after h o) (by_age slots order) n)) f ∷ by_age slots order) it)
 
@@ -48,7 +49,8 @@ by_number slots (m ∷ order) d size named does o n f e i =
     there None k z w rest = rest o
     there (Some h) k z w rest =
         let it : (h.number == n) ≡ false = ap (λ x. x == n) (named m h k) ∙ z in
-        ap (λ b. cond b (does o h ∷ by_age slots order) (h ∷ change (alone does) (after h o) (by_age slots order) n)) it
+        ap (λ b. cond b (does o h ∷ by_age slots order) (h ∷ change (alone does) (after h o) (by_age slots order) n))
+        it
         ∙ ap (λ x. h ∷ x) (rest (after h o))
         ∙ sym (ap (λ b. h ∷ by_age (set slots n
         (Some (does (cond b o (seen_at (after h o) (by_age slots order) n)) f))) order) it)
@@ -70,7 +72,8 @@ by_number slots (m ∷ order) d size named does o n f e i =
         (unnamed slots order n (Some (does (seen_at o (before (at slots m) (by_age slots order)) n) f))
         (subst (λ k. list_any (λ j. j == k) order ≡ false) mn d.1)))
     go false z w rest =
-        let other : m ≢ n = λ y. let bad : (m == n) ≡ true = grind (arith, nat_tests, y) in true≢false (sym bad ∙ z) in
+        let other : m ≢ n = λ y. let bad : (m == n) ≡ true = grind (arith, nat_tests, y) in
+        true≢false (sym bad ∙ z) in
         there (at slots m) refl z w (λ p. rest p w)
         ∙ sym (ap (λ y. before y (by_age
         (set slots n (Some (does (seen_at o (before (at slots m) (by_age slots order)) n) f))) order))

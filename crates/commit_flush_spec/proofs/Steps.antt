@@ -15,7 +15,8 @@ use Rattle.commit_flush_spec.specs.Older.{Older}
 use Rattle.commit_flush_spec.specs.Causes.{NoFrame, NoRead, NotYet, NoInst, NotReady, NoToken, NoRequest, NoExit}
 use Rattle.commit_flush_spec.specs.Causes.{Happened, Done}
 use Rattle.commit_flush_spec.specs.Dataflow.{can_read, read_seen, can_fire, can_deliver}
-use Rattle.commit_flush_spec.specs.Memory.{with_slot, with_inst, request, is_request, can_request, can_load, can_store}
+use Rattle.commit_flush_spec.specs.Memory.{with_slot, with_inst, request, is_request, can_request, can_load}
+use Rattle.commit_flush_spec.specs.Memory.{can_store}
 use Rattle.commit_flush_spec.specs.Ends.{can_exit}
 use Rattle.commit_flush_spec.specs.Window.{Event}
 use Rattle.commit_flush_spec.specs.Window as event

@@ -17,7 +17,8 @@ use Rattle.trips_isa.specs.Rule.{Answer}
 use Rattle.trips_isa.specs.Places.{place_at, first_place, inst_node, nodes_of, targets, names}
 use Rattle.trips_isa.specs.Tables.{first, or_else, taken}
 use Rattle.trips_isa.specs.Stores.{data_size, address_of, is_good_address, null_store, word_store, stored_of}
-use Rattle.trips_isa.specs.Blocks.{is_read, slot_at, inst_at, at_place, stored_in, stored_if_read, stored_by, store_of}
+use Rattle.trips_isa.specs.Blocks.{is_read, slot_at, inst_at, at_place}
+use Rattle.trips_isa.specs.Blocks.{stored_in, stored_if_read, stored_by, store_of}
 use Rattle.block_cases.specs.CaseRule.{no}
 use Rattle.trips_isa.specs.Places.{in_mask}
 use Rattle.block_cases.specs.Orders.{slot_of, bad_slot_number}

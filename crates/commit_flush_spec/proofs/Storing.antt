@@ -179,7 +179,8 @@ module _ (blocks : List Block) (good : AllGood blocks) (o : Older) (f : Frame) (
       → byte_seen (at f.stores) l k x ≡ byte_seen (at (set f.stores n S)) l k x
   apart l k = nearest_apart (at f.stores) (at (set f.stores n S)) n others (set_over f.stores n S came n) l k
 
-  agrees : violated (nearest (at (set f.stores n S)) n) f.loads ≡ false → (a : Responses) → Agrees o W a → Agrees o f a
+  agrees : violated (nearest (at (set f.stores n S)) n) f.loads ≡ false → (a : Responses) → Agrees o W a
+      → Agrees o f a
   agrees z a ag = record {
     reads = ag.reads;
     loads = λ t ad size j e k q. ag.loads t ad size j e k q

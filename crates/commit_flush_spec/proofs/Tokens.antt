@@ -197,7 +197,8 @@ by_table f x w a g s h e = below_trans _ _ _
     (node_below (slice_get (nodes_of f.code) x) (computes f.code (λ y z. w) x) (at f.spots) (at_place f.code g) h)
     (is_below _ _ (e ∙ sym (s x)))
 
-pub fired_below : (f : Frame) (s w : ℕ) (i : Inst) (a : Responses) (g : ℕ → Answer) → Solves f.code a g → SpotsBelow f g
+pub fired_below : (f : Frame) (s w : ℕ) (i : Inst) (a : Responses) (g : ℕ → Answer) → Solves f.code a g
+    → SpotsBelow f g
     → slot_of f.code s ≡ Some i → is_load (form_of i.op) ≡ false
     → Below (token_with f (slot_node f.code s) w) (g (slot_node f.code s))
 fired_below f s w i a g sol h e k = by_table f (slot_node f.code s) w a g sol h
@@ -267,7 +268,8 @@ load_word i p w v h = go (is_good_address (address_of i v) (size_of i.op)) refl
     go true e = ap (loaded_as i.op) (sym (h e))
     go false e = refl
 
-pub load_below : (f : Frame) (s w : ℕ) (i : Inst) (a : Responses) (g : ℕ → Answer) → Solves f.code a g → SpotsBelow f g
+pub load_below : (f : Frame) (s w : ℕ) (i : Inst) (a : Responses) (g : ℕ → Answer) → Solves f.code a g
+    → SpotsBelow f g
     → slot_of f.code s ≡ Some i → is_load (form_of i.op) ≡ true
     → ((v : ℕ) → at_place f.code g s ≡ Some (Word v) → is_good_address (address_of i v) (size_of i.op) ≡ true
     → a (slot_node f.code s) (address_of i v) ≡ w)

@@ -1,5 +1,5 @@
--- The events that change one frame and flush younger ones, as a change of that frame alone and the beginning of what is
--- left, as a machine makes them that keeps frames by number and cuts their order of age.
+-- The events that change one frame and flush younger ones, as a change of that frame alone and the beginning of what
+-- is left, as a machine makes them that keeps frames by number and cuts their order of age.
 use Rattle.std.specs.Prelude.{ℕ, suc, ◌+◌, ◌==◌, Bool, cond, List, [], ◌∷◌, length, Option, Some, None}
 use Rattle.trips_isa.specs.declared.block.Inst.{Inst}
 use Rattle.trips_isa.specs.declared.block.Block.{Block}

@@ -175,8 +175,8 @@ pub fn driving_is_running()
         ≡ runs blocks w.state (budget - length w.state.trace) }
 {}
 
-/// A next event flushes the oldest frame only where a load of it was guessed, and guesses none itself; of a frame that
-/// has just been filled none is.
+/// A next event flushes the oldest frame only where a load of it was guessed, and guesses none itself; of a frame
+/// that has just been filled none is.
 pub fn driving_flushes_only_guesses()
     ensures kept { (blocks : List Block) (budget : ℕ) (e : Event) (w : Window) (f : Frame) (fs : List Frame)
         → AllGood blocks → WindowOk blocks budget w → MayFill w → next_event budget w ≡ Some e

@@ -16,7 +16,8 @@ use Rattle.c_meaning_spec.specs.declared.signal.Signal.{Signal}
 use Rattle.c_meaning_spec.specs.declared.signal.Signal.TheVariants.{Nothing, Value, Breaks, Continues}
 use Rattle.c_meaning_spec.specs.declared.signal.Signal.TheVariants.{Returns}
 use Rattle.c_meaning_spec.specs.declared.signal.Object.TheVariants.{InScalar, InArray}
-use Rattle.c_meaning_spec.specs.State.{Result, Go, Over, then, spend, want, cell, held, load}
+use Rattle.c_meaning_spec.specs.State.{Result, Go, Over, spend, want, cell, held, load}
+use Rattle.c_meaning_spec.specs.inside.State.{then}
 use Rattle.c_meaning_spec.specs.State as eval
 use Rattle.c_meaning_spec.specs.Task.{Of, array_of, name, is_array}
 use Rattle.c_meaning_spec.specs.Call.{called, arguments}

@@ -25,7 +25,8 @@ use Rattle.c_meaning_spec.specs.declared.signal.Signal.TheVariants.{Nothing, Val
 use Rattle.c_meaning_spec.specs.declared.signal.Signal.TheVariants.{Returns}
 use Rattle.c_meaning_spec.specs.declared.signal.Object.{Object}
 use Rattle.c_meaning_spec.specs.declared.signal.Object.TheVariants.{InScalar, InArray}
-use Rattle.c_meaning_spec.specs.State.{Result, Go, Over, then, spend, want, given, cell, held, load}
+use Rattle.c_meaning_spec.specs.State.{Result, Go, Over, spend, want, given, cell, held, load}
+use Rattle.c_meaning_spec.specs.inside.State.{then}
 use Rattle.c_meaning_spec.specs.State as eval
 use Rattle.c_meaning_spec.specs.Word.{is_false, truth_of, unary_of, binary_of}
 use Rattle.c_meaning_spec.specs.Task.{Of, array_of, element_in, element_of, name, is_array, element}

@@ -25,7 +25,8 @@ use Rattle.c_meaning_spec.specs.declared.signal.Signal.TheVariants.{Nothing, Val
 use Rattle.c_meaning_spec.specs.declared.signal.Signal.TheVariants.{Returns}
 use Rattle.c_meaning_spec.specs.declared.signal.Object.{Object}
 use Rattle.c_meaning_spec.specs.declared.signal.Object.TheVariants.{InScalar, InArray}
-use Rattle.c_meaning_spec.specs.State.{Result, Go, Over, then, spend, want, given, cell, held, load}
+use Rattle.c_meaning_spec.specs.State.{Result, Go, Over, spend, want, given, cell, held, load}
+use Rattle.c_meaning_spec.specs.inside.State.{then}
 use Rattle.c_meaning_spec.specs.State as eval
 use Rattle.c_meaning_spec.specs.Word.{is_false, truth_of, unary_of, binary_of}
 use Rattle.c_meaning_spec.specs.Task.{Of, array_of, element_in, element_of, name, is_array, element}
@@ -343,7 +344,7 @@ module _ (P : TypedProgram) (most : ℕ) (S : Scene) (y : IsScene P S) where
       let pa = address_puts P (functions P most) (base P most) S y p k q i.number s g v.keeps.rel t i.array z 80
       (temp d) w (omega arith) (λ e. omega arith) (λ e. omega arith) v.is in
       let ke = keeps_set P most S y d f0 g pa.to s 80 81 at (omega arith) (omega arith)
-          (omega arith) v.keeps pa.sets in
+      (omega arith) v.keeps pa.sets in
       moved most (Valued S d (Some k) f0) (run P most S y (Then a b) g)
       (run P most S y b pa.to) pa.t top low (bump_object o (Some k) s (InArray i.number w))
       (then_moves checked (functions P most) (base P most) S.env a b g pa.to pa.t pa.leads)

@@ -73,12 +73,12 @@ load_same k m n a h = go k h
 pub byte_here : (m : Memory) (a b : ℕ) → byte_put m a b a ≡ record { mark = Held; byte = b }
 byte_here m a b =
     let e : nat_eq a a ≡ true = grind (arith, nat_tests) in
-        ap (λ t. cond t (record { mark = Held; byte = b }) (m a)) e
+    ap (λ t. cond t (record { mark = Held; byte = b }) (m a)) e
 
 byte_there : (m : Memory) (a b k : ℕ) → k ≢ a → byte_put m a b k ≡ m k
 byte_there m a b k h =
     let e : nat_eq k a ≡ false = grind (arith, nat_tests) in
-        ap (λ t. cond t (record { mark = Held; byte = b }) (m k)) e
+    ap (λ t. cond t (record { mark = Held; byte = b }) (m k)) e
 
 -- bytes elsewhere stay
 pub put_there : (k : ℕ) (m : Memory) (a v b : ℕ) → ((b < a) ⊎ (a + k ≤ b))

@@ -18,7 +18,8 @@ use Rattle.c_meaning_spec.specs.declared.signal.Signal.{Signal}
 use Rattle.c_meaning_spec.specs.declared.signal.Signal.TheVariants.{Nothing, Value, Breaks, Continues}
 use Rattle.c_meaning_spec.specs.declared.signal.Signal.TheVariants.{Returns}
 use Rattle.c_meaning_spec.specs.declared.signal.Ending.TheVariants.{Undefined, Deep}
-use Rattle.c_meaning_spec.specs.State.{Result, Go, Over, then, spend, want}
+use Rattle.c_meaning_spec.specs.State.{Result, Go, Over, spend, want}
+use Rattle.c_meaning_spec.specs.inside.State.{then}
 use Rattle.c_meaning_spec.specs.State as eval
 use Rattle.c_meaning_spec.specs.Task.{Of, Run}
 use Rattle.c_meaning_spec.specs.Call.{frame, entered, entered_if, enter, left, read_from, get_char}

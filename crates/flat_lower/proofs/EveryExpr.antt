@@ -16,7 +16,8 @@ use Rattle.c_constant.specs.Kinds.{converted}
 use Rattle.c_meaning_spec.specs.declared.signal.Signal.{Signal}
 use Rattle.c_meaning_spec.specs.declared.signal.Signal.TheVariants.{Nothing, Value, Breaks, Continues}
 use Rattle.c_meaning_spec.specs.declared.signal.Signal.TheVariants.{Returns}
-use Rattle.c_meaning_spec.specs.State.{Result, Go, Over, then, spend_of, spend, want}
+use Rattle.c_meaning_spec.specs.State.{Result, Go, Over, spend_of, spend, want}
+use Rattle.c_meaning_spec.specs.inside.State.{then}
 use Rattle.c_meaning_spec.specs.State as eval
 use Rattle.c_meaning_spec.specs.Task.{Of}
 use Rattle.c_meaning_spec.specs.Expression as level

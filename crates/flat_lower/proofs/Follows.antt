@@ -7,7 +7,8 @@ use Rattle.c_meaning_spec.specs.declared.signal.Signal.TheVariants.{Nothing, Val
 use Rattle.c_meaning_spec.specs.declared.signal.Signal.TheVariants.{Returns}
 use Rattle.c_meaning_spec.specs.declared.signal.Ending.{Ending}
 use Rattle.c_meaning_spec.specs.declared.signal.Ending.TheVariants.{More, Undefined, Deep}
-use Rattle.c_meaning_spec.specs.State.{Result, Go, Over, then, spend_of, spend, want, with_some}
+use Rattle.c_meaning_spec.specs.State.{Result, Go, Over, spend_of, spend, want, with_some}
+use Rattle.c_meaning_spec.specs.inside.State.{then}
 use Rattle.c_meaning_spec.specs.State as eval
 use Rattle.ir_forms.specs.FlatCode.{Code, Then, Function}
 use Rattle.ir_forms.specs.FlatSteps.{State, Env, Res, Gone, Broke, Again, Gave, TooDeep, Unfinished}

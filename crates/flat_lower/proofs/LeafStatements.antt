@@ -14,7 +14,8 @@ use Rattle.c_meaning_spec.specs.declared.signal.Signal.TheVariants.{Nothing, Val
 use Rattle.c_meaning_spec.specs.declared.signal.Signal.TheVariants.{Returns}
 use Rattle.c_meaning_spec.specs.declared.signal.Ending.TheVariants.{Undefined}
 use Rattle.c_meaning_spec.specs.declared.signal.Object.TheVariants.{InScalar}
-use Rattle.c_meaning_spec.specs.State.{Result, Go, Over, then, want, cell, written, store, store_in}
+use Rattle.c_meaning_spec.specs.State.{Result, Go, Over, want, cell, written, store, store_in}
+use Rattle.c_meaning_spec.specs.inside.State.{then}
 use Rattle.c_meaning_spec.specs.State as eval
 use Rattle.c_meaning_spec.specs.Task.{Of}
 use Rattle.c_meaning_spec.specs.Statement.{dropped, initialised, unset, unset_row, declare, returning}

@@ -9,7 +9,8 @@ use Rattle.c_meaning_spec.specs.declared.signal.Signal.{Signal}
 use Rattle.c_meaning_spec.specs.declared.signal.Signal.TheVariants.{Nothing, Value, Breaks, Continues}
 use Rattle.c_meaning_spec.specs.declared.signal.Signal.TheVariants.{Returns}
 use Rattle.c_meaning_spec.specs.declared.signal.Ending.TheVariants.{More, Undefined, Deep}
-use Rattle.c_meaning_spec.specs.State.{Result, Go, Over, then, want}
+use Rattle.c_meaning_spec.specs.State.{Result, Go, Over, want}
+use Rattle.c_meaning_spec.specs.inside.State.{then}
 use Rattle.c_meaning_spec.specs.State as eval
 use Rattle.c_meaning_spec.specs.Word.{is_false}
 use Rattle.c_meaning_spec.specs.Task.{Of, Turn}
@@ -290,7 +291,7 @@ module _ (P : TypedProgram) (most : ℕ) where
       (omega arith) (recounted S s f r) (omega arith) (omega arith))
       (omega arith) (omega (arith, mul-suc most f.rounds))
       (λ v s1 g t1 eq rel us ds. let falls = turn_falls test body s v s1 eq in
-          next post refl s1 g t1 falls rel us ds))
+      next post refl s1 g t1 falls rel us ds))
     where
       next : (p : Option TypedExpr) → post ≡ p → (s1 : eval.State) (g : State) (t1 : ℕ)
           → s1.stock < s.stock → Related S s1 g → t1 + 8 * s1.stock ≤ 8 * s.stock - 1

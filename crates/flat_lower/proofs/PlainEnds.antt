@@ -11,7 +11,8 @@ use Rattle.c_tree.specs.declared.TypedProgram.{TypedProgram}
 use Rattle.c_meaning_spec.specs.declared.signal.Signal.{Signal}
 use Rattle.c_meaning_spec.specs.declared.signal.Signal.TheVariants.{Value}
 use Rattle.c_meaning_spec.specs.declared.signal.Object.TheVariants.{InScalar}
-use Rattle.c_meaning_spec.specs.State.{Result, Go, Over, then, spend_of, cell, held, given}
+use Rattle.c_meaning_spec.specs.State.{Result, Go, Over, spend_of, cell, held, given}
+use Rattle.c_meaning_spec.specs.inside.State.{then}
 use Rattle.c_meaning_spec.specs.State as eval
 use Rattle.c_meaning_spec.specs.Task.{Of}
 use Rattle.c_tree.specs.TypedTrees.{Node, node_of}

@@ -15,7 +15,8 @@ use Rattle.c_meaning_spec.specs.declared.signal.Signal.TheVariants.{Nothing, Val
 use Rattle.c_meaning_spec.specs.declared.signal.Signal.TheVariants.{Returns}
 use Rattle.c_meaning_spec.specs.declared.signal.Ending.{Ending}
 use Rattle.c_meaning_spec.specs.declared.signal.Ending.TheVariants.{More, Undefined, Deep}
-use Rattle.c_meaning_spec.specs.State.{Result, Go, Over, then}
+use Rattle.c_meaning_spec.specs.State.{Result, Go, Over}
+use Rattle.c_meaning_spec.specs.inside.State.{then}
 use Rattle.c_meaning_spec.specs.State as eval
 use Rattle.c_meaning_spec.specs.Task as task
 use Rattle.c_meaning_spec.specs.Call.{returned, left}

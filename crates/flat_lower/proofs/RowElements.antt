@@ -13,7 +13,8 @@ use Rattle.c_tree.specs.declared.TypedProgram.{TypedProgram}
 use Rattle.c_meaning_spec.specs.declared.signal.Signal.{Signal}
 use Rattle.c_meaning_spec.specs.declared.signal.Object.TheVariants.{InArray}
 use Rattle.c_meaning_spec.specs.declared.signal.Object as meant
-use Rattle.c_meaning_spec.specs.State.{Result, then, want, with_some, cell, held, row_in}
+use Rattle.c_meaning_spec.specs.State.{Result, want, with_some, cell, held, row_in}
+use Rattle.c_meaning_spec.specs.inside.State.{then}
 use Rattle.c_meaning_spec.specs.State as eval
 use Rattle.c_meaning_spec.specs.Task.{Of, array_of, place_in, row_size, row_element_in, row_element_of}
 use Rattle.c_meaning_spec.specs.Eval.{meaning}

@@ -6,7 +6,8 @@ use Rattle.c_meaning_spec.specs.declared.signal.Signal.{Signal}
 use Rattle.c_meaning_spec.specs.declared.signal.Signal.TheVariants.{Nothing, Value, Breaks, Continues}
 use Rattle.c_meaning_spec.specs.declared.signal.Signal.TheVariants.{Returns}
 use Rattle.c_meaning_spec.specs.declared.signal.Ending.TheVariants.{More}
-use Rattle.c_meaning_spec.specs.State.{Result, Go, Over, then, spend_of}
+use Rattle.c_meaning_spec.specs.State.{Result, Go, Over, spend_of}
+use Rattle.c_meaning_spec.specs.inside.State.{then}
 use Rattle.c_meaning_spec.specs.State as eval
 use Rattle.c_meaning_spec.specs.Task as task
 use Rattle.c_meaning_spec.specs.Statement.{going_on, sequence, begun}

@@ -7,7 +7,8 @@ use Rattle.c_tree.specs.declared.TypedProgram.{TypedProgram}
 use Rattle.c_meaning_spec.specs.declared.signal.Signal.{Signal}
 use Rattle.c_meaning_spec.specs.declared.signal.Signal.TheVariants.{Nothing, Value, Breaks, Continues}
 use Rattle.c_meaning_spec.specs.declared.signal.Signal.TheVariants.{Returns}
-use Rattle.c_meaning_spec.specs.State.{Result, Go, Over, then}
+use Rattle.c_meaning_spec.specs.State.{Result, Go, Over}
+use Rattle.c_meaning_spec.specs.inside.State.{then}
 use Rattle.c_meaning_spec.specs.State as eval
 use Rattle.c_meaning_spec.specs.Statement.{going_on, sequence, bodies}
 use Rattle.c_meaning_spec.specs.Eval.{meaning}

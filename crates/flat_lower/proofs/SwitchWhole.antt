@@ -92,7 +92,7 @@ module _ (P : TypedProgram) (most : ℕ) (S : Scene) (y : IsScene P S) where
       by_choice (Ends_there x) =
           let c = few in
           subst (λ q. EndsHere P most S y a (Then (only (Loop (compare_code all) Nop)) (run_code a all)) g top low q)
-              (sym x.is)
+          (sym x.is)
           (record {
             t = suc x.t;
             r = suc g.rounds;
@@ -108,7 +108,7 @@ module _ (P : TypedProgram) (most : ℕ) (S : Scene) (y : IsScene P S) where
           (λ c. low ≤ x.at.stock + most * c) (sym x.rounds)
           (omega (arith, mul-suc most g.rounds, x.left)) in
           moved_in a most (EndedIn a S) (run P most S y
-              (Then (only (Loop (compare_code all) Nop)) (run_code a all)) g)
+          (Then (only (Loop (compare_code all) Nop)) (run_code a all)) g)
           (run P most S y (run_code a all) x.to) (suc x.t) top low (compared (meaning P) w (targets all) [] s)
           (loop_left P most S y (compare_code all) (run_code a all) g x.t x.to x.leads) (omega (arith, x.few))
           (subst (λ q. EndsHere P most S y a (run_code a all) x.to (top - suc x.t) low q) (sym x.is)

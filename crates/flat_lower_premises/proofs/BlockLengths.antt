@@ -33,8 +33,8 @@ use Rattle.flat_lower.specs.Statements.{expr_if_code, declare_code, return_code,
 use Rattle.flat_lower.specs.Statements.{stmt_code, stmts_code, first_code, end_code, named_scalar, simple_arg}
 use Rattle.flat_lower.specs.Statements.{plain_code, plain_if_code, sections_code, context_of, lowered_from, lowered}
 use Rattle.flat_lower.proofs.PlainEnds.{either_way}
-use Rattle.flat_lower_premises.specs.LimitNodes.{expr_nodes, exprs_nodes, expr_if_nodes, stmt_nodes, stmts_nodes}
-use Rattle.flat_lower_premises.specs.LimitNodes.{sections_nodes, first_nodes, funcs_size}
+use Rattle.flat_lower_premises.specs.SourceNodes.{expr_nodes, exprs_nodes, expr_if_nodes, stmt_nodes, stmts_nodes}
+use Rattle.flat_lower_premises.specs.SourceNodes.{sections_nodes, first_nodes, funcs_size}
 use Rattle.flat_lower_premises.specs.Laws.{FewBlocks}
 use Rattle.flat_lower_premises.proofs.BlockCounts.{Makes, after, eased, none, one_more, chosen, looped, known_kind}
 use Rattle.flat_lower_premises.proofs.BlockCounts.{converted_here_makes, binary_makes, unary_makes, name_makes}

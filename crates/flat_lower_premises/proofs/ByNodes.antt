@@ -8,7 +8,7 @@ use Rattle.c_tree.specs.declared.TypedExpr.{TypedExpr}
 use Rattle.c_tree.specs.declared.TypedNode.TheOpen as node
 use Rattle.c_constant.specs.Need.{Needs, args_need, call_need, assign_need}
 use Rattle.c_tree.specs.TypedTrees.{Node, node_of}
-use Rattle.c_type_rules.specs.Needs.{typed_needs}
+use Rattle.c_type_rules.specs.inside.Needs.{typed_needs}
 use Rattle.flat_lower_premises.specs.TypedTrees.{NodeHasWords}
 use Rattle.flat_lower_premises.specs.TypedTrees as word
 use Rattle.flat_lower.specs.Tree.{Expr, Name, Element}

@@ -33,10 +33,11 @@ use Rattle.flat_lower.specs.Statements.{expr_if_code, declare_code, return_code,
 use Rattle.flat_lower.specs.Statements.{stmt_code, stmts_code, first_code, end_code, named_scalar, simple_arg}
 use Rattle.flat_lower.specs.Statements.{plain_code, plain_if_code, sections_code, context_of, lowered_from, lowered}
 use Rattle.flat_lower.proofs.PlainEnds.{either_way}
-use Rattle.flat_lower_premises.specs.LimitNodes.{expr_nodes, exprs_nodes, expr_if_nodes, stmt_nodes, stmts_nodes}
-use Rattle.flat_lower_premises.specs.LimitNodes.{sections_nodes, first_nodes, funcs_size}
+use Rattle.flat_lower_premises.specs.SourceNodes.{expr_nodes, exprs_nodes, expr_if_nodes, stmt_nodes, stmts_nodes}
+use Rattle.flat_lower_premises.specs.SourceNodes.{sections_nodes, first_nodes, funcs_size}
 use Rattle.flat_lower_premises.specs.Laws.{FewStatements}
-use Rattle.flat_lower_premises.proofs.OperationLengths.{Takes, after, eased, none, one_more, chosen, looped, known_kind}
+use Rattle.flat_lower_premises.proofs.OperationLengths.{Takes, after, eased, none, one_more, chosen}
+use Rattle.flat_lower_premises.proofs.OperationLengths.{looped, known_kind}
 use Rattle.flat_lower_premises.proofs.OperationLengths.{converted_here_takes, binary_takes, unary_takes, name_takes}
 use Rattle.flat_lower_premises.proofs.OperationLengths.{element_takes}
 use Rattle.flat_lower_premises.proofs.OperationLengths.{bump_name_takes, bump_element_takes, before_name_takes}

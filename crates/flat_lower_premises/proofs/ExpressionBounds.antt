@@ -25,7 +25,7 @@ use Rattle.flat_lower_premises.proofs.TreeSizes.{nodes-Assign, nodes-Comma}
 use Rattle.flat_lower.specs.TreeViews.{expr_of}
 use Rattle.flat_lower.specs.Sizes as plain
 use Rattle.flat_lower.proofs.TreeFacts.{plain_node}
-use Rattle.flat_lower_premises.specs.LimitNodes as limits
+use Rattle.flat_lower_premises.specs.SourceNodes as limits
 use Rattle.flat_lower_premises.proofs.CostTrees as cost_trees
 use Rattle.flat_lower_premises.proofs.CostTrees.{cost, costs, left_few}
 use Rattle.flat_lower_premises.proofs.TypedTreeSizes as sizes

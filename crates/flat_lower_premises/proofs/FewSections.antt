@@ -4,7 +4,7 @@ use Rattle.flat_lower.specs.Tree.{Stmt, Declare, Plain, Compound, If, While, Do,
 use Rattle.flat_lower.specs.Tree.{Continue, Return, Stmts, NoStmts, WithStmt, First, Nothing}
 use Rattle.flat_lower.specs.Tree.{FirstOf, Locals, Sections, NoSections, WithSection}
 use Rattle.flat_lower.specs.Switches.{section_count}
-use Rattle.flat_lower_premises.specs.LimitNodes.{stmt_nodes, stmts_nodes, sections_nodes, first_nodes}
+use Rattle.flat_lower_premises.specs.SourceNodes.{stmt_nodes, stmts_nodes, sections_nodes, first_nodes}
 
 module _ (top : ℕ) where
   abbrev mutual

@@ -13,12 +13,12 @@ use Rattle.c_tree.specs.declared.TypedNode.TheOpen as node
 use Rattle.c_tree.specs.declared.TypedFunc.{TypedFunc}
 use Rattle.c_tree.specs.declared.TypedProgram.{TypedProgram}
 use Rattle.c_constant.specs.Need.{Needs, args_need, call_need, assign_need, indexes_need}
-use Rattle.c_type_rules.specs.Objects.{Signature, signature, signature_of}
+use Rattle.c_type_rules.specs.inside.Objects.{Signature, signature, signature_of}
 use Rattle.c_tree.specs.TypedTrees.{Node, node_of}
-use Rattle.c_type_rules.specs.Expressions.{Gives, Has, IsObject, Passes}
-use Rattle.c_type_rules.specs.Expressions as rule
-use Rattle.c_type_rules.specs.Needs.{typed_needs}
-use Rattle.c_type_rules.specs.WellFormed.{Each, GlobalFits}
+use Rattle.c_type_rules.specs.inside.Expressions.{Gives, Has, IsObject, Passes}
+use Rattle.c_type_rules.specs.inside.Expressions as rule
+use Rattle.c_type_rules.specs.inside.Needs.{typed_needs}
+use Rattle.c_type_rules.specs.inside.WellFormed.{Each, GlobalFits}
 use Rattle.c_type_rules.proofs.Moves.{some_is}
 use Rattle.flat_lower_premises.specs.TypedTrees.{NodeHasWords, ExprsHaveWords}
 use Rattle.flat_lower_premises.specs.TypedTrees as word

@@ -9,9 +9,9 @@ use Rattle.c_tree.specs.declared.TypedProgram.{TypedProgram}
 use Rattle.c_constant.specs.Kinds.{bytes}
 use Rattle.c_meaning_spec.specs.Eval.{length_of, eval}
 use Rattle.c_type.specs.States.{nowhere}
-use Rattle.c_type_rules.specs.WellFormed.{Each, count_of, all_bytes, GlobalFits, FunctionFits}
-use Rattle.c_type_rules.specs.WellFormed.{WellFormed}
-use Rattle.c_type_rules.specs.WellFormed as typed
+use Rattle.c_type_rules.specs.inside.WellFormed.{Each, count_of, all_bytes, GlobalFits, FunctionFits}
+use Rattle.c_type_rules.specs.inside.WellFormed.{WellFormed}
+use Rattle.c_type_rules.specs.inside.WellFormed as typed
 use Rattle.c_type_rules.proofs.Uses.{function_at}
 use Rattle.flat_lower_premises.specs.Words.{AreWordsOf}
 use Rattle.flat_lower_premises.specs.TypedTrees.{StmtHasWords, GlobalsHaveWords, FunctionsHaveWords}
@@ -32,7 +32,7 @@ use Rattle.flat_lower.specs.Keeps.{IsInput, Keeps}
 use Rattle.flat_lower.proofs.Image.{both_length, global_length}
 use Rattle.flat_lower.proofs.Calls.{limit, typed_at, func_at}
 use Rattle.flat_lower.proofs.LoweredMeaning.{keeps_meaning}
-use Rattle.flat_lower_premises.specs.LimitNodes.{stmt_nodes, funcs_size}
+use Rattle.flat_lower_premises.specs.SourceNodes.{stmt_nodes, funcs_size}
 use Rattle.flat_lower_premises.specs.Limits.{HasFewGlobals, HasFewNodes}
 use Rattle.flat_lower_premises.specs.Most.{largest, most_of}
 use Rattle.flat_lower_premises.proofs.FewSections.{few}

@@ -15,11 +15,11 @@ use Rattle.c_tree.specs.TypedTrees.{Level, Beginning}
 use Rattle.c_type.specs.declared.state.Around.{Around as TypedAround}
 use Rattle.c_type.specs.States.{in_loop}
 use Rattle.c_type.specs.States as typed
-use Rattle.c_type_rules.specs.KeptStatements.{IsValue, IsTest, IsEffect, IsValueIf}
-use Rattle.c_type_rules.specs.KeptStatements.{IsTestIf, IsEffectIf, IsReturn, WellFormedStmt, RunsAll, Begins}
-use Rattle.c_type_rules.specs.KeptStatements.{RunsSections}
-use Rattle.c_type_rules.specs.KeptStatements as rule
-use Rattle.c_type_rules.specs.WellFormed.{Each, GlobalFits}
+use Rattle.c_type_rules.specs.inside.KeptStatements.{IsValue, IsTest, IsEffect, IsValueIf}
+use Rattle.c_type_rules.specs.inside.KeptStatements.{IsTestIf, IsEffectIf, IsReturn, WellFormedStmt, RunsAll, Begins}
+use Rattle.c_type_rules.specs.inside.KeptStatements.{RunsSections}
+use Rattle.c_type_rules.specs.inside.KeptStatements as rule
+use Rattle.c_type_rules.specs.inside.WellFormed.{Each, GlobalFits}
 use Rattle.flat_lower_premises.specs.TypedTrees.{ExprHasWords, ExprIfHasWords, LevelHasWords, StmtsHaveWords}
 use Rattle.flat_lower_premises.specs.TypedTrees.{SectionsHaveWords, BeginningHasWords}
 use Rattle.flat_lower_premises.specs.TypedTrees as word

@@ -9,8 +9,8 @@ use Rattle.c_tree.specs.declared.TypedSection.{TypedSection}
 use Rattle.c_tree.specs.declared.TypedStmt.{TypedStmt}
 use Rattle.c_type.specs.declared.state.Around.{Around}
 use Rattle.c_type.specs.Statements.{label_among}
-use Rattle.c_type_rules.specs.KeptStatements.{Labels, RunsSections}
-use Rattle.c_type_rules.specs.KeptStatements as rule
+use Rattle.c_type_rules.specs.inside.KeptStatements.{Labels, RunsSections}
+use Rattle.c_type_rules.specs.inside.KeptStatements as rule
 use Rattle.flat_lower_premises.specs.Words.{IsFilled}
 use Rattle.flat_lower_premises.specs.TypedTrees.{SectionsHaveWords}
 use Rattle.flat_lower_premises.specs.TypedTrees as word

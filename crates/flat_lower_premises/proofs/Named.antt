@@ -7,8 +7,8 @@ use Rattle.c_tree.specs.declared.Place.TheVariants.{Global, Scalar, Array}
 use Rattle.c_tree.specs.declared.Slot.{Slot}
 use Rattle.c_tree.specs.declared.TypedFunc.{TypedFunc}
 use Rattle.c_tree.specs.declared.TypedProgram.{TypedProgram}
-use Rattle.c_type_rules.specs.Objects.{Signature, signature, of_function, scalar_at, array_at, shape}
-use Rattle.c_type_rules.specs.WellFormed.{Each, GlobalFits}
+use Rattle.c_type_rules.specs.inside.Objects.{Signature, signature, of_function, scalar_at, array_at, shape}
+use Rattle.c_type_rules.specs.inside.WellFormed.{Each, GlobalFits}
 use Rattle.c_type_rules.proofs.Moves.{some_is}
 use Rattle.c_type_rules.proofs.WellFormedPrograms.{each_at}
 use Rattle.c_type_rules.proofs.Uses.{scalar_slot, array_slot, global_scalar_at, global_array_at}

@@ -2,7 +2,7 @@
 use Rattle.std.proofs.Common.{◌≡◌, ℕ, ◌+◌, arith}
 use Rattle.flat_lower.specs.Tree.{Sections, NoSections, WithSection}
 use Rattle.flat_lower.specs.Sizes.{label_count}
-use Rattle.flat_lower_premises.specs.LimitNodes.{stmts_nodes, sections_nodes}
+use Rattle.flat_lower_premises.specs.SourceNodes.{stmts_nodes, sections_nodes}
 
 -- the labels of all sections
 abbrev pub labels_nodes : Sections → ℕ

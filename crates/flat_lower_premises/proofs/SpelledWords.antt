@@ -16,7 +16,7 @@ use Rattle.c_grammar.specs.Expressions.{Phrase, Spells}
 use Rattle.c_grammar.specs.Expressions as e
 use Rattle.flat_lower_premises.specs.Words.{TokensHaveWords}
 use Rattle.flat_lower_premises.specs.Assigners.{IsAssigner}
-use Rattle.c_tree.specs.Trees.{Node}
+use Rattle.c_tree.specs.inside.Trees.{Node}
 use Rattle.flat_lower_premises.specs.Trees.{NodeHasWords, ExprHasWords, ExprsHaveWords}
 use Rattle.flat_lower_premises.specs.Trees as has
 

@@ -15,13 +15,13 @@ use Rattle.c_tree.specs.declared.typed.TypedForInit.TheOpen as stmt
 use Rattle.c_constant.specs.Need.{Needs}
 use Rattle.c_tree.specs.TypedTrees.{node_of}
 use Rattle.c_type.specs.States.{nowhere}
-use Rattle.c_type_rules.specs.Expressions.{Gives, Has}
-use Rattle.c_type_rules.specs.Expressions as rule
-use Rattle.c_type_rules.specs.Needs.{FitsNeed}
+use Rattle.c_type_rules.specs.inside.Expressions.{Gives, Has}
+use Rattle.c_type_rules.specs.inside.Expressions as rule
+use Rattle.c_type_rules.specs.inside.Needs.{FitsNeed}
 use Rattle.c_tree.specs.TypedTrees.{Level}
-use Rattle.c_type_rules.specs.KeptStatements.{WellFormedStmt}
-use Rattle.c_type_rules.specs.KeptStatements as run
-use Rattle.c_type_rules.specs.WellFormed.{WellFormed}
+use Rattle.c_type_rules.specs.inside.KeptStatements.{WellFormedStmt}
+use Rattle.c_type_rules.specs.inside.KeptStatements as run
+use Rattle.c_type_rules.specs.inside.WellFormed.{WellFormed}
 use Rattle.flat_lower_premises.specs.TypedTrees.{NodeHasWords, LevelHasWords, ProgramHasWords}
 use Rattle.flat_lower_premises.specs.TypedTrees as word
 use Rattle.c_constant.specs.Kinds.{IsWord}

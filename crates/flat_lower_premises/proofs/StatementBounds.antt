@@ -35,7 +35,7 @@ use Rattle.flat_lower.specs.Sizes as plain
 use Rattle.flat_lower.specs.Sizes.{label_count}
 use Rattle.flat_lower.specs.Emitted.{sections_in}
 use Rattle.flat_lower.proofs.TreeFacts.{plain_stmt, plain_first}
-use Rattle.flat_lower_premises.specs.LimitNodes as limits
+use Rattle.flat_lower_premises.specs.SourceNodes as limits
 use Rattle.flat_lower_premises.specs.Nodes as nodes
 use Rattle.flat_lower_premises.proofs.TreeSizes.{nodes-Declare, nodes-Plain, nodes-Compound, nodes-If, nodes-While}
 use Rattle.flat_lower_premises.proofs.TreeSizes.{nodes-Do, nodes-For, nodes-Break, nodes-Continue, nodes-Return}

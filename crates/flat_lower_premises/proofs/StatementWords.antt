@@ -1,7 +1,7 @@
 -- Where each number of a statement is a word of its type, so is each number of its typed tree.
 use Rattle.std.proofs.Common.{◌≡◌, ℕ, List, [], ◌∷◌, ◌++◌, Option, Some, None, sym, ap, ◌∙◌}
 use Rattle.std.proofs.Common.{subst}
-use Rattle.c_tree.specs.Trees as untyped
+use Rattle.c_tree.specs.inside.Trees as untyped
 use Rattle.c_tree.specs.TypedTrees as level
 use Rattle.c_tree.specs.declared.token.Kind.{Kind}
 use Rattle.c_tree.specs.declared.tree.ArraySize.{ArraySize}

@@ -11,7 +11,7 @@ use Rattle.flat_lower.specs.Sizes.{label_count}
 use Rattle.flat_lower.specs.Switches.{break_code, continue_code, behind_code, found_code, label_code}
 use Rattle.flat_lower.specs.Switches.{labels_code, compared_code, default_at, section_count, chosen_code}
 use Rattle.flat_lower.specs.Switches.{section_code, switched_code}
-use Rattle.flat_lower_premises.specs.LimitNodes.{sections_nodes}
+use Rattle.flat_lower_premises.specs.SourceNodes.{sections_nodes}
 use Rattle.flat_lower_premises.proofs.SectionNodes.{labels_nodes, bodies_nodes, in_two}
 use Rattle.flat_lower_premises.proofs.OperationLengths.{Takes, after, eased, none, one_more, chosen, looped}
 

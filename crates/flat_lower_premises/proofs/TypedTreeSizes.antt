@@ -20,7 +20,7 @@ use Rattle.c_tree.specs.TypedTrees as level
 use Rattle.flat_lower.specs.TreeViews.{expr_of, expr_if, exprs_of, stmt_of, stmts_of, func_of}
 use Rattle.flat_lower.proofs.TreeFacts.{plain_node, expr_is, first_of, plain_stmt, plain_first}
 use Rattle.flat_lower.proofs.TreeFacts.{stmt_is, first_is}
-use Rattle.flat_lower_premises.specs.LimitNodes as plain
+use Rattle.flat_lower_premises.specs.SourceNodes as plain
 
 -- EXPRESSIONS
 

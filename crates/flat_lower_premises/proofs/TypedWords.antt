@@ -1,7 +1,7 @@
 -- Where each number of an expression is a word of its type, so is each number of its typed tree.
 use Rattle.std.proofs.Common.{◌≡◌, ℕ, Bool, true, false, cond, List, ◌∷◌, Option, Some, None, sym}
 use Rattle.std.proofs.Common.{ap, ◌∙◌, subst, arith}
-use Rattle.c_tree.specs.Trees as untyped
+use Rattle.c_tree.specs.inside.Trees as untyped
 use Rattle.c_tree.specs.TypedTrees as level
 use Rattle.c_tree.specs.declared.token.Kind.{Kind}
 use Rattle.c_tree.specs.declared.token.Kind.TheVariants.{Int}

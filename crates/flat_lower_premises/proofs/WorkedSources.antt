@@ -16,7 +16,7 @@ use Rattle.flat_lower.specs.Fits.{FitsFunc, FitsSource}
 use Rattle.flat_lower.specs.Objects.{row_of}
 use Rattle.flat_lower.specs.Expressions.{joined_by}
 use Rattle.flat_lower.specs.Statements.{context_of, lowered}
-use Rattle.flat_lower_premises.specs.LimitNodes.{expr_nodes, stmt_nodes, source_size}
+use Rattle.flat_lower_premises.specs.SourceNodes.{expr_nodes, stmt_nodes, source_size}
 use Rattle.flat_lower.specs.declared.around.Around.TheVariants as around
 use Rattle.flat_lower_premises.specs.Jumps.{JumpsInLoops}
 use Rattle.flat_lower_premises.specs.Laws.{IsSmallRow, SmallRows}

@@ -15,7 +15,7 @@ use Rattle.c_grammar.specs.Tokens.{Tokens, May}
 use Rattle.c_grammar.specs.Statements.{Phrase, for_init, Writes}
 use Rattle.c_grammar.specs.Statements as s
 use Rattle.flat_lower_premises.specs.Words.{IsFilled, TokensHaveWords}
-use Rattle.c_tree.specs.Trees.{Level, Beginning}
+use Rattle.c_tree.specs.inside.Trees.{Level, Beginning}
 use Rattle.flat_lower_premises.specs.Trees.{ExprHasWords, ExprIfHasWords, SizeHasWords}
 use Rattle.flat_lower_premises.specs.Trees.{LevelHasWords, StmtHasWords, StmtsHaveWords, BeginningHasWords}
 use Rattle.flat_lower_premises.specs.Trees.{LabelsHaveWords, SectionsHaveWords}

@@ -12,7 +12,7 @@ use Rattle.flat_lower.specs.Tree.{Func, Source}
 use Rattle.flat_lower.specs.Fits.{FitsSource}
 use Rattle.flat_lower.specs.Objects.{row_of}
 use Rattle.flat_lower.specs.Statements.{context_of, lowered}
-use Rattle.flat_lower_premises.specs.LimitNodes.{source_size}
+use Rattle.flat_lower_premises.specs.SourceNodes.{source_size}
 use Rattle.flat_lower.specs.declared.around.Around.TheVariants as around
 use Rattle.flat_lower_premises.specs.Jumps.{JumpsInLoops}
 

@@ -6,6 +6,6 @@ pub mod Sizes
 pub mod Trees
 pub mod TypedTrees
 pub mod Words
-pub mod LimitNodes
+pub mod SourceNodes
 pub mod Jumps
 pub mod Laws

@@ -3,7 +3,7 @@ use Rattle.std.specs.Prelude.{◌*◌, ◌≤◌, length}
 use Rattle.c_tree.specs.Limits.{most_tokens}
 use Rattle.c_tree.specs.declared.typed.TypedProgram.{TypedProgram}
 use Rattle.flat_lower.specs.TreeViews.{source_of}
-use Rattle.flat_lower_premises.specs.LimitNodes.{source_size}
+use Rattle.flat_lower_premises.specs.SourceNodes.{source_size}
 use Rattle.ir_forms.specs.Limits.{most_statements}
 
 -- Globals and frames fit the machine's memory. Each global takes whole words of 8 bytes, so that a limit on

@@ -12,7 +12,7 @@ use Rattle.ir_forms.specs.Limits.{most_statements}
 use Rattle.flat_lower.specs.TreeViews.{source_of}
 use Rattle.flat_lower.specs.Statements.{lowered_program}
 use Rattle.flat_lower_premises.specs.Most.{most_of}
-use Rattle.flat_lower_premises.specs.LimitNodes.{source_size}
+use Rattle.flat_lower_premises.specs.SourceNodes.{source_size}
 use Rattle.flat_lower_premises.specs.Nodes.{unit_nodes}
 
 -- a unit has no more nodes than its text has tokens

@@ -1,7 +1,7 @@
 -- Trees each of whose numbers is a word of its type, each of whose assignments has an operator that C gives
 -- one, and each of whose sections of a switch has a label and a statement. A rule for each node.
 use Rattle.std.specs.Prelude.{ℕ, List, [], ◌∷◌, Option, Some, None}
-use Rattle.c_tree.specs.Trees.{Node, node_of, Level, level_of, Beginning}
+use Rattle.c_tree.specs.inside.Trees.{Node, node_of, Level, level_of, Beginning}
 use Rattle.c_tree.specs.declared.token.Kind.{Kind}
 use Rattle.c_tree.specs.declared.tree.UnaryOp.{UnaryOp}
 use Rattle.c_tree.specs.declared.tree.BumpOp.{BumpOp}

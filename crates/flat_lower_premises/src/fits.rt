@@ -3,7 +3,7 @@
 ghost use Rattle.std.specs.Prelude.{ℕ, List};
 ghost use Rattle.c_tree.specs.declared.typed.TypedProgram.{TypedProgram};
 ghost use Rattle.c_meaning_spec.specs.Eval.{eval};
-ghost use Rattle.c_type_rules.specs.WellFormed.{WellFormed};
+ghost use Rattle.c_type_rules.specs.inside.WellFormed.{WellFormed};
 ghost use Rattle.flat_lower_premises.specs.TypedTrees.{ProgramHasWords};
 ghost use Rattle.ir_forms.specs.FlatRuns.{checked, flat_run};
 ghost use Rattle.flat_lower.specs.TreeViews.{source_of};

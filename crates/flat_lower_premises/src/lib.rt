@@ -1,9 +1,10 @@
-//! What the lowering to the flat form asks of a typed program, from the text on: each number is a word
-//! of its type, a program is no larger than its text allows, and what typing gives is what lowering
-//! takes, so that lowered programs keep C's meaning. Nothing here runs.
+//! What the lowering to the flat form asks of a typed program, from the text on: each number is a word of its type, a
+//! program is no larger than its text allows, and what typing gives is what lowering takes, so that lowered programs
+//! keep C's meaning and fit the limits that the later passes rely on. All are public laws: nothing here runs.
 //!
-//! The flat program that lowering gives fits the limits that the later passes rely on, as public
-//! laws.
+//! specs/Words, specs/Trees and specs/TypedTrees have words and trees of them, specs/Assigners the operators of
+//! assignments; specs/Nodes, specs/SourceNodes, specs/Sizes, specs/Limits and specs/Most how large programs are;
+//! specs/Jumps jumps that stand where they may; specs/Laws what the flat program gives the later passes.
 #![tactic(auto)]
 
 mod counts;

@@ -1,6 +1,5 @@
-//! Hyper blocks with their flow blocks as text, and blocks with too much of each part.
-//!
-//! Small flow blocks with what completing adds to them.
+//! Hyper blocks with their flow blocks as text, blocks with too much of each part, and small flow blocks with what
+//! completing adds to them: all as tests.
 #![tactic(auto)]
 
 #[cfg(test)]

@@ -1,5 +1,6 @@
 -- Marks where none is set: nothing has to be written, and nothing has to be looked for.
-use Rattle.std.proofs.Common.{◌≡◌, ℕ, zero, suc, ◌+◌, ◌-◌, Bool, true, false, cond, ◌&&◌, nat_eq, nat_lt, List, [], ◌∷◌}
+use Rattle.std.proofs.Common.{◌≡◌, ℕ, zero, suc, ◌+◌, ◌-◌, Bool, true, false, cond, ◌&&◌, nat_eq}
+use Rattle.std.proofs.Common.{nat_lt, List, [], ◌∷◌}
 use Rattle.std.proofs.Common.{Some, None, get_or, set, replicate, refl, sym, ap, ap₂, ◌∙◌}
 use Rattle.trips_isa.specs.declared.block.Inst.{Inst}
 use Rattle.trips_isa.specs.declared.block.Block.{Block}
@@ -13,7 +14,8 @@ use Rattle.trips_isa.specs.Rule.{Answer}
 use Rattle.trips_isa.specs.Places.{inst_node}
 use Rattle.trips_isa.specs.Faults.{divides, fault_in, own_fault}
 use Rattle.trips_isa.specs.Marks.{least, least_at, mark_by, node_mark, owed}
-use Rattle.commit_flush_spec.specs.Marks.{Marks, mark_on, mark_held, mark_sent, mark_delivered, mark_stored, mark_left}
+use Rattle.commit_flush_spec.specs.Marks.{Marks, mark_on, mark_held, mark_sent, mark_delivered, mark_stored}
+use Rattle.commit_flush_spec.specs.Marks.{mark_left}
 use Rattle.commit_flush_spec.specs.Marks.{zeros}
 use Rattle.commit_flush_spec.specs.Frames.{at}
 use Rattle.commit_flush_spec.specs.Ends.{cause_held}
@@ -53,7 +55,8 @@ pub sent_bare : (m : Marks) (p c : ℕ) → HasNoMark m → c ≡ 0 → m ≡ ma
 sent_bare m p c h e =
     let first : set m.places p c ≡ m.places = ap (set m.places p) e ∙ stays_zero m.places p (h.at_places p) in
     let both : set (set m.places p c) (suc p) c ≡ m.places =
-    ap (λ xs. set xs (suc p) c) first ∙ ap (set m.places (suc p)) e ∙ stays_zero m.places (suc p) (h.at_places (suc p)) in
+    ap (λ xs. set xs (suc p) c) first ∙ ap (set m.places (suc p)) e
+    ∙ stays_zero m.places (suc p) (h.at_places (suc p)) in
     λ k. record m { places = sym both k }
 
 pub delivered_bare : (m : Marks) (p q : ℕ) → HasNoMark m → m ≡ mark_delivered p q m

@@ -4,7 +4,7 @@ use Rattle.std.proofs.Common.{refl, sym}
 use Rattle.trips_isa.specs.Marks.{or_unmarked}
 use Rattle.commit_flush_spec.specs.Marks.{zeros}
 use Rattle.commit_flush_spec.specs.Frames.{blank, unset}
-use Rattle.base.specs.Rows.{no_flags, no_items}
+use Rattle.base.specs.inside.Rows.{no_flags, no_items}
 use Rattle.base.proofs.RowFacts.{map_set, get_map, map_blank}
 use Rattle.frame_state.specs.MarkRows.{marks_of}
 use Rattle.frame_state.specs.Held.{taken_of, taken_if, all_taken}

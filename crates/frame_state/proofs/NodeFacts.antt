@@ -202,7 +202,8 @@ pub resolves : (b : Block) (n s : ℕ) (i : Inst) (h : Held) → slot_of b s ≡
       marks = mark_stored n (slot_mark h i s) h.marks;
     }) ≡ with_store n (stored_of i (at h.spots s) (at h.spots (128 + s))) (mark_with (running b h) (slot_node b s))
     (running b h)
-resolves b n s i h is = sym (ap (λ m. with_store n (stored_of i (at h.spots s) (at h.spots (128 + s))) m (running b h))
+resolves b n s i h is =
+    sym (ap (λ m. with_store n (stored_of i (at h.spots s) (at h.spots (128 + s))) m (running b h))
     (mark_is b s i is false h))
 
 -- reads -----------------------------------------------------------------------------------------

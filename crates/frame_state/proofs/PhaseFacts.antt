@@ -24,7 +24,8 @@ first true c rest e = refl
 first false c rest e = absurd (cc)
 
 -- a frame that runs is asked
-pub asked : (none : Happened) (can : Older → Frame → Happened) (o : Older) (z : Option Frame) (f : Frame) (x : Happened)
+pub asked : (none : Happened) (can : Older → Frame → Happened) (o : Older) (z : Option Frame) (f : Frame)
+    (x : Happened)
     → z ≡ Some f → x ≡ can o f → x ≡ answered none can o z
 asked none can o z f x is e = e ∙ sym (ap (answered none can o) is)
 

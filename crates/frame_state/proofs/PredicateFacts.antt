@@ -10,7 +10,7 @@ use Rattle.trips_isa.specs.declared.block.Sense.{Sense}
 use Rattle.trips_isa.specs.declared.block.Sense.TheVariants.{OnTrue, OnFalse}
 use Rattle.trips_isa.specs.Rule.{Answer, matched}
 use Rattle.commit_flush_spec.specs.Frames.{at}
-use Rattle.base.specs.Rows.{no_flags, no_items}
+use Rattle.base.specs.inside.Rows.{no_flags, no_items}
 use Rattle.base.proofs.FlagFacts.{get_unset}
 use Rattle.frame_state.specs.Predicates.{Tells}
 

@@ -1,7 +1,8 @@
 -- Worked rows of what a frame holds, by evaluation.
 use Rattle.std.proofs.Common.{◌≡◌, true, false, [], ◌∷◌, Some, None, refl}
 use Rattle.trips_isa.specs.declared.block.Token.TheVariants.{Word}
-use Rattle.base.specs.Rows.{flags, row}
+use Rattle.base.specs.Rows.{flags}
+use Rattle.base.specs.inside.Rows.{row}
 use Rattle.commit_flush_spec.specs.Frames.{NoBytes, Bytes}
 use Rattle.frame_state.specs.MarkRows.{marks_of}
 use Rattle.frame_state.specs.Held.{taken_of, taken_if}

@@ -1,4 +1,5 @@
--- What the events of a frame leave as it was: its number, its block and its generation, and the tokens that have come.
+-- What the events of a frame leave as it was: its number, its block and its generation,
+-- and the tokens that have come.
 use Rattle.std.proofs.Common.{◌≡◌, ℕ, true, ap, sym, ◌∙◌, refl, subst, Option, Some, None}
 use Rattle.std.specs.Prelude.{is_none}
 use Rattle.std.proofs.lemmas.Bool.{false≢true}

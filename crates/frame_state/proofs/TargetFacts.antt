@@ -143,7 +143,8 @@ pub empty_token : (f : Frame) (s w : ℕ) → slot_of f.code s ≡ None → toke
 empty_token f s w none = empty_gives f.code s (computes f.code (λ y a. w) (slot_node f.code s)) (at f.spots)
     (slice_get f.code.insts.items s) refl none
 
-no_mark : (n : Option Node) (own : ℕ → ℕ → ℕ) (pull : ℕ → Answer) (marks : ℕ → ℕ) → node_mark n own pull marks None ≡ 0
+no_mark : (n : Option Node) (own : ℕ → ℕ → ℕ) (pull : ℕ → Answer) (marks : ℕ → ℕ)
+    → node_mark n own pull marks None ≡ 0
 no_mark None own pull marks = refl
 no_mark (Some n) own pull marks = refl
 

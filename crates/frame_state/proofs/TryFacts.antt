@@ -1,5 +1,6 @@
 -- What a frame answers that is tried: what was found of it is what its causes ask, and what comes finds room.
-use Rattle.std.proofs.Common.{◌≡◌, ℕ, Bool, true, false, cond, ◌||◌, List, Option, Some, None, slice_get, slice_index_or}
+use Rattle.std.proofs.Common.{◌≡◌, ℕ, Bool, true, false, cond, ◌||◌, List, Option}
+use Rattle.std.proofs.Common.{Some, None, slice_get, slice_index_or}
 use Rattle.std.proofs.Common.{refl, sym, ap, ap₂, ◌∙◌}
 use Rattle.std.specs.Prelude.{is_none, is_some}
 use Rattle.trips_isa.specs.declared.block.Token.{Token}

@@ -1,6 +1,7 @@
--- What a frame in flight tells to those who move the window: what it reads, loads and stores, where it leads, and what
--- it hands to its commit. Nothing is told where no frame is in flight.
-use Rattle.std.specs.Prelude.{ℕ, ◌+◌, ◌-◌, Bool, true, false, cond, nat_le, List, Option, Some, None, is_none, slice_get}
+-- What a frame in flight tells to those who move the window: what it reads, loads and stores, where it leads, and
+-- what it hands to its commit. Nothing is told where no frame is in flight.
+use Rattle.std.specs.Prelude.{ℕ, ◌+◌, ◌-◌, Bool, true, false, cond, nat_le, List, Option}
+use Rattle.std.specs.Prelude.{Some, None, is_none, slice_get}
 use Rattle.trips_isa.specs.declared.block.Inst.{Inst}
 use Rattle.trips_isa.specs.declared.block.ReadSlot.{ReadSlot}
 use Rattle.trips_isa.specs.declared.block.Stored.{Stored}

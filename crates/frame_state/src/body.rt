@@ -241,7 +241,8 @@ impl Body {
         self.send(2 * slot as usize, targets, token, mark);
     }
 
-    /// Fires a slot that holds this instruction, which gives this token. That it has fired is noted once its form is known.
+    /// Fires a slot that holds this instruction, which gives this token.
+    /// That it has fired is noted once its form is known.
     #[inline]
     pub(crate) fn fire_given(&mut self, inst: &Inst, slot: u8, token: Token)
         requires { slot_token self.old inst.now slot 0 ≡ Some token }

@@ -1,5 +1,6 @@
 //! The events of the window on one frame, and the tests that their causes are made of.
-ghost use Rattle.std.specs.Prelude.{◌≡◌, ◌||◌, Some, None, cond, false, true, not, is_none, is_some, option_copied, slice_get, slice_index_or, length, ◌<◌, ◌+◌};
+ghost use Rattle.std.specs.Prelude.{◌≡◌, ◌||◌, Some, None, cond, false, true, not, is_none, is_some, option_copied};
+ghost use Rattle.std.specs.Prelude.{slice_get, slice_index_or, length, ◌<◌, ◌+◌};
 ghost use Rattle.trips_isa.specs.Blocks.{leaves_with};
 ghost use Rattle.trips_isa.specs.Stores.{stored_of};
 ghost use Rattle.block_cases.specs.Orders.{slot_of};

@@ -5,10 +5,11 @@
 //! Contracts see a frame as what it holds beside its block, and with the block as the frame of the window's
 //! definitions.
 //!
-//! One of the eight frames of the window, whatever it is doing: what an event is answered there, and what it does to it.
+//! One of the eight frames of the window, whatever it is doing: what an event is answered there,
+//! and what it does to it.
 //!
-//! A frame is a [`Phase`], which contracts see with the blocks of its image as the frame in flight that it is, or as none
-//! (`frame_in`). Each call is one equation with the window's definitions (docs/WINDOW.md,
+//! A frame is a [`Phase`], which contracts see with the blocks of its image as the frame in flight that it is, or as
+//! none (`frame_in`). Each call is one equation with the window's definitions (docs/WINDOW.md,
 //! crates/commit_flush_spec/specs). What a frame sees of the older ones is handed in.
 #![tactic(auto)]
 

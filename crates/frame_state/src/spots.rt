@@ -3,7 +3,8 @@ ghost use Rattle.std.specs.Prelude.{◌≡◌, ◌<◌, ◌≤◌, ◌+◌, ◌*
 ghost use Rattle.std.specs.Prelude.{slice_index_or, slice_set};
 ghost use Rattle.trips_isa.specs.declared.block.Sense.TheVariants.{OnTrue, OnFalse};
 ghost use Rattle.trips_isa.specs.Rule.{matched};
-ghost use Rattle.base.specs.Rows.{has_bit, no_items};
+ghost use Rattle.base.specs.Rows.{has_bit};
+ghost use Rattle.base.specs.inside.Rows.{no_items};
 
 use crate::rule::is_matched;
 use base::{Flags, Row};

@@ -1,5 +1,6 @@
 //! A frame as its states: empty, running and sealed.
-ghost use Rattle.std.specs.Prelude.{◌≡◌, ◌<◌, ◌+◌, ◌^◌, Some, true, false, cond, is_none, is_some, length, IfOk, IfErr};
+ghost use Rattle.std.specs.Prelude.{◌≡◌, ◌<◌, ◌+◌, ◌^◌, Some, true, false, cond, is_none};
+ghost use Rattle.std.specs.Prelude.{is_some, length, IfOk, IfErr};
 ghost use Rattle.trips_isa.specs.declared.block.Block.{Block};
 ghost use Rattle.trips_isa.specs.Stores.{stored_of};
 ghost use Rattle.block_cases.specs.Orders.{slot_of};
@@ -141,8 +142,8 @@ impl Running {
         self.body.fire_if(block, inst, slot)
     }
 
-    /// Moves the token in a place to the place of the block that it goes to, which is empty (`Body::finds_room`): no token
-    /// is overwritten.
+    /// Moves the token in a place to the place of the block that it goes to, which is empty (`Body::finds_room`): no
+    /// token is overwritten.
     pub fn deliver(&mut self, block: &Block, place: u16)
         requires free { finds_room block.now place self.old ≡ true }
         ensures value { (o : Older) → running block.now self.new ≡ deliver place o (running block.now self.old) }

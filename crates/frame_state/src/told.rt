@@ -5,7 +5,8 @@ ghost use Rattle.commit_flush_spec.specs.Older.{is_serial, makes_call, successor
 ghost use Rattle.frame_state.specs.Held.{as_frame, taken_if, exit_of};
 ghost use Rattle.frame_state.specs.Phases.{HasBlock, frame_in};
 ghost use Rattle.frame_state.specs.Told.{block_in, is_serial_in, register_of, read_register, token_in};
-ghost use Rattle.frame_state.specs.Told.{finds_room, write_at, register_to, taken_by, waiting_load, stored_by, waiting_store};
+ghost use Rattle.frame_state.specs.Told.{finds_room, write_at, register_to, taken_by, waiting_load, stored_by};
+ghost use Rattle.frame_state.specs.Told.{waiting_store};
 ghost use Rattle.frame_state.specs.Told.{exit_come, leads_to, is_sealed_in, cause_in, outputs_in};
 
 use crate::body::Body;

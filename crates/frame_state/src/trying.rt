@@ -95,8 +95,8 @@ fn deliver_running(frame: &mut Running, block: &Block, place: u16) -> Option<Arr
     }
 }
 
-/// Moves the token in a place of this frame to its place of the block, if there is one that may be. It overwrites none: each
-/// token that is on its way there finds its place empty.
+/// Moves the token in a place of this frame to its place of the block, if there is one that may be. It overwrites
+/// none: each token that is on its way there finds its place empty.
 #[tactic(auto, using(crate::proofs::PhaseFacts::going))]
 pub fn try_deliver(phase: &mut Phase, image: &CheckedImage, place: u16) -> Option<Arrival>
     requires block { HasBlock image.now.blocks phase.old }

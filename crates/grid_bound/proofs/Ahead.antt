@@ -43,7 +43,8 @@ named_apart n (f ∷ fs) e =
     let k = or_parts (f.number == n) (list_any (λ m. m == n) (map (λ (f : Frame). f.number) fs)) e in
     (swapped f.number n k.0, named_apart n fs k.1)
 
-numbers_apart : (f : Frame) (fs : List Frame) → AreNumbers (map (λ (f : Frame). f.number) (f ∷ fs)) → Apart f.number fs
+numbers_apart : (f : Frame) (fs : List Frame) → AreNumbers (map (λ (f : Frame). f.number) (f ∷ fs))
+    → Apart f.number fs
 numbers_apart f fs h = named_apart f.number fs h.1
 
 -- the younger frames have other numbers than the oldest one

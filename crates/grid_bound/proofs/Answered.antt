@@ -97,7 +97,8 @@ module _ {W : Type 0} (blocks : List Block) (good : AllGood blocks) (budget : �
   -- what waits for nothing in the lane may be answered
   may_answered : (x : ℕ) (a : StandsAt h e x) → all_come (has_come e) (c.task x).waits ≡ true
       → may_answer h e (a.inst).number ≡ true
-  may_answered x a w = by (numbered_or (form_of (a.inst).op) (rule.numbered (a.inst).number x a.waits a.inst a.is_inst))
+  may_answered x a w =
+      by (numbered_or (form_of (a.inst).op) (rule.numbered (a.inst).number x a.waits a.inst a.is_inst))
     where
       request_is : request e (a.inst).number ≡ Some (x, a.inst)
       request_is = ap (with_inst e.code) a.waits ∙ ap (with_slot x) a.is_inst
@@ -112,7 +113,8 @@ module _ {W : Type 0} (blocks : List Block) (good : AllGood blocks) (budget : �
       by : (form_of (a.inst).op ≡ form.Load) ⊎ (form_of (a.inst).op ≡ form.Store)
           → may_answer h e (a.inst).number ≡ true
       by (inr z) = or_left _ _ (ap asks_store request_is ∙ ap is_store z)
-      by (inl z) = or_right (asks_store (request e (a.inst).number)) _ (or_right (not (must_wait h e (a.inst).number)) _
+      by (inl z) = or_right (asks_store (request e (a.inst).number)) _
+          (or_right (not (must_wait h e (a.inst).number)) _
           (ap (all_resolved e.number (a.inst).number) i
           ∙ cond-true (e.number == e.number) _ _ (same_number e.number)
           ∙ sym (numbers_seen e (a.inst).number fits)
@@ -126,7 +128,8 @@ module _ {W : Type 0} (blocks : List Block) (good : AllGood blocks) (budget : �
       let p = and_parts (answerable F r.0) (station_of F r.0 == d) r.2 in
       let q = and_parts (is_standing (F.at r.0)) _ p.0 in
       let a : StandsAt h e r.0 = standing_is h e r.0 q.0 in
-      let l : (a.inst).number < 32 = number_small e.code (good e.block e.code own_ok.code).fits r.0 a.inst a.is_inst in
+      let l : (a.inst).number < 32 =
+      number_small e.code (good e.block e.code own_ok.code).fits r.0 a.inst a.is_inst in
       let n = numbers_are in
       let task_x : c.task r.0 ≡ slot_task e.code t r.0 (Some a.inst) =
       slot_is e.code t r.0 a.inside ∙ ap (slot_task e.code t r.0) a.is_inst in
@@ -222,7 +225,8 @@ module _ {W : Type 0} (blocks : List Block) (good : AllGood blocks) (budget : �
     by_load kind = subst (λ m. Turned o e d m (Running F)) (sym now)
         (answered_as (loading.H blocks good budget h e younger i ok rule k asked went runs d kind own_tile)
         (loading.E blocks good budget h e younger i ok rule k asked went runs d kind own_tile) younger
-        (ap (λ (m : Grid W). m.window.frames) (loading.only blocks good budget h e younger i ok rule k asked went runs d
+        (ap (λ (m : Grid W). m.window.frames)
+        (loading.only blocks good budget h e younger i ok rule k asked went runs d
         kind own_tile) ∙ ap (λ (w : Window). w.frames)
         (loading.after_is blocks good budget h e younger i ok rule k asked went runs d kind own_tile))
         refl refl refl runs (ap (λ (m : Grid W). m.window.state) (sym now) ∙ on.state)
@@ -250,7 +254,10 @@ module _ {W : Type 0} (blocks : List Block) (good : AllGood blocks) (budget : �
             inside = inside;
             stands = stands;
             there = there;
-            comes_to = inr (storing.not_careful blocks good budget h e younger i ok rule k asked went runs kind bad, refl);
+            comes_to = inr (
+              storing.not_careful blocks good budget h e younger i ok rule k asked went runs kind bad,
+              refl,
+            );
           });
           seen = Emptied (storing.emptied blocks good budget h e younger i ok rule k asked went runs kind bad) refl
               (storing.fetch_is blocks good budget h e younger i ok rule k asked went runs kind bad);
@@ -274,7 +281,8 @@ module _ {W : Type 0} (blocks : List Block) (good : AllGood blocks) (budget : �
   -- the tile's turn ---------------------------------------------------------------------------------
 
   pub data_turns : Turned o e d (data_turn blocks budget d h) (Running F)
-  data_turns = subst (λ l. Turned o e d (answer_chosen blocks budget d (eldest (answers_request h d) numbers l) h) (Running F))
+  data_turns = subst (λ l. Turned o e d (answer_chosen blocks budget d (eldest (answers_request h d) numbers l) h)
+      (Running F))
       (sym i) (go (least test numbers 0) refl)
     where
       tail : (q : Option (ℕ × ℕ)) → eldest (answers_request h d) numbers younger ≡ q

@@ -1,5 +1,6 @@
 -- Part (6) of a cycle, behind the tick of the mesh: what has come is delivered, and the rule is kept.
-use Rattle.std.proofs.Common.{◌≡◌, ◌≢◌, ℕ, zero, suc, ◌+◌, ◌*◌, ◌/◌, ◌%◌, ◌<◌, ◌==◌, ◌&&◌, ◌||◌, not, Bool, true, false}
+use Rattle.std.proofs.Common.{◌≡◌, ◌≢◌, ℕ, zero, suc, ◌+◌, ◌*◌, ◌/◌, ◌%◌, ◌<◌, ◌==◌, ◌&&◌, ◌||◌}
+use Rattle.std.proofs.Common.{not, Bool, true, false}
 use Rattle.std.proofs.Common.{cond, nat_lt, inl, inr, List, [], ◌∷◌, ◌++◌, Option, Some, None, is_some, is_none, set}
 use Rattle.std.proofs.Common.{get_or, length, refl, sym, ap, ap₂, ◌∙◌, subst, true≢false, arith}
 use Rattle.std.proofs.lemmas.Bool.Decides.{nat_tests}
@@ -47,7 +48,8 @@ use Rattle.grid_bound.proofs.TiedFrames.{Comes, asks_other, asks_standing, comes
 use Rattle.grid_bound.proofs.TiedFrames.{served_tied}
 use Rattle.grid_bound.proofs.TiedFrames.{token_comes}
 use Rattle.grid_bound.proofs.Flushing.{act_going, append_more, kept_rest, nums_step}
-use Rattle.grid_bound.proofs.Going.{Going, Moved, alone_is, awake, can_is, each_going, frame_ok, frame_rule, frame_sure}
+use Rattle.grid_bound.proofs.Going.{Going, Moved, alone_is, awake, can_is}
+use Rattle.grid_bound.proofs.Going.{each_going, frame_ok, frame_rule, frame_sure}
 use Rattle.grid_bound.proofs.Going.{frame_tied, happens_is, moved, moved_to, sees, stayed, stepped}
 use Rattle.grid_bound.proofs.UnitParts.{flag_below}
 
@@ -162,7 +164,8 @@ module _ {W : Type 0} (blocks : List Block) (good : AllGood blocks) (budget : �
         (sym change.is)
         (stepped blocks good budget g a0.frame.number a 0 go (Deliver (token_places * m + p)) D change left g.asked
         g.works g.units refl runs refl other_frames
-        (delivered_tied (g.parcels m) (left m) (g.asked m) (g.works m) f D p tied inside here gone others refl refl refl
+        (delivered_tied (g.parcels m) (left m) (g.asked m)
+        (g.works m) f D p tied inside here gone others refl refl refl
         refl refl only small)
         (frame_sure blocks good budget g a0.frame.number a 0 go.ties) go.ties.busy held)
 
@@ -281,7 +284,8 @@ module _ {W : Type 0} (blocks : List Block) (good : AllGood blocks) (budget : �
     half_small : p / 2 < 128
     half_small = let l : p < 256 = grind (arith, nat_tests) in omega (arith, l)
 
-    load_token : form_of k.inst.op ≡ Load → at f.requests k.inst.number ≡ Some (p / 2) → is_some (at f.places p) ≡ false
+    load_token : form_of k.inst.op ≡ Load → at f.requests k.inst.number ≡ Some (p / 2)
+        → is_some (at f.places p) ≡ false
     load_token e w = none_is (at f.places p) (waiting_none blocks o f ok
         (p / 2) p k.inst.number k.inst half_small place_is
         k.is_inst (ap is_load e) w)
@@ -306,7 +310,8 @@ module _ {W : Type 0} (blocks : List Block) (good : AllGood blocks) (budget : �
     asked_now : (is_waiting (at f.requests k.inst.number) (p / 2) && not (asked_more
         g.asked m k.inst.number m k.inst.number))
         ≡ false
-    asked_now = ap (λ b. is_waiting (at f.requests k.inst.number) (p / 2) && not b) (more_here g.asked m k.inst.number)
+    asked_now = ap (λ b. is_waiting (at f.requests k.inst.number) (p / 2) && not b)
+        (more_here g.asked m k.inst.number)
         ∙ and_none (is_waiting (at f.requests k.inst.number) (p / 2))
 
     or_false' : (x y : Bool) → y ≡ false → (x || y) ≡ true → x ≡ true

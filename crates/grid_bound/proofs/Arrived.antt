@@ -44,7 +44,8 @@ use Rattle.grid_bound.proofs.Fronts.{slot_far, slot_phase_is, at_slot, at_read}
 use Rattle.grid_bound.proofs.Entering.{slot_targets, read_targets}
 use Rattle.grid_bound.proofs.StandingNow.{waiting_is}
 use Rattle.grid_bound.proofs.OldestLands.{due, due_is, has_landed}
-use Rattle.grid_bound.proofs.Arriving.{land_first, land_second, sent_first, sent_second, AtPlace, Arrived, T, part, lands}
+use Rattle.grid_bound.proofs.Arriving.{land_first, land_second, sent_first, sent_second, AtPlace}
+use Rattle.grid_bound.proofs.Arriving.{Arrived, T, part, lands}
 use Rattle.grid_bound.proofs.Arriving.{quiet, next, token_arrives, request_arrives, branch_arrives}
 use Rattle.grid_bound.proofs.Arriving as arriving
 
@@ -127,7 +128,8 @@ module _ {W : Type 0} (blocks : List Block) (good : AllGood blocks) (budget : �
     abbrev Next : Grid W → Type 0
     Next H = AtPlace blocks good budget t f m rule hold (suc k) H
 
-    goes_on : (E : Frame) (H : Grid W) → Arrived blocks good budget t f m rule hold k small h a ok went now E H → Next H
+    goes_on : (E : Frame) (H : Grid W) → Arrived blocks good budget t f m rule hold k small h a ok went now E H
+        → Next H
     goes_on E H b = next blocks good budget t f m rule hold k small h a ok went now E H b
 
     -- a token arrives
@@ -145,7 +147,8 @@ module _ {W : Type 0} (blocks : List Block) (good : AllGood blocks) (budget : �
       x_small =
           let l : x < length f.code.insts.items = inst_in f.code.insts.items x i s in
           let z : length e.code.insts.items ≡ 128 = (good e.block e.code own_ok.code).fits.insts in
-          let y : length f.code.insts.items ≡ length e.code.insts.items = ap (λ b. length b.insts.items) (sym a.code) in
+          let y : length f.code.insts.items ≡ length e.code.insts.items =
+          ap (λ b. length b.insts.items) (sym a.code) in
           omega (arith, l, z, y)
 
       in_slots : x < slot_tasks
@@ -209,7 +212,8 @@ module _ {W : Type 0} (blocks : List Block) (good : AllGood blocks) (budget : �
 
           lands_at : (q : ℕ) → (k ≡ 2 * x) ⊎ (k ≡ suc (2 * x)) → land q ≡ (target f.code k == q)
           lands_at q (inl is) =
-              even_lands x is (m.parcels f.number (2 * x)) (m.parcels f.number (suc (2 * x))) (sent_even is open') now q
+              even_lands x is (m.parcels f.number (2 * x)) (m.parcels f.number (suc (2 * x)))
+              (sent_even is open') now q
               ∙ ap (λ o. hits o q) (ap (λ (z : Task). z.first) task_x
               ∙ ap (λ z. first_of f.code z i served) kind ∙ first served)
               ∙ hits_target f.code (place_at i.first) q (sym (ap is_target goes) ∙ y.goes)
@@ -233,7 +237,8 @@ module _ {W : Type 0} (blocks : List Block) (good : AllGood blocks) (budget : �
       slot_request serving w = by (half_places k x half)
         where
           by : (k ≡ 2 * x) ⊎ (k ≡ suc (2 * x)) → Next (asks e.number i.number M)
-          by (inl is) = goes_on _ _ (request_arrives blocks good budget t f m rule hold k small h a ok went now x is i s w
+          by (inl is) = goes_on _ _
+              (request_arrives blocks good budget t f m rule hold k small h a ok went now x is i s w
               serving)
           by (inr is) = absurd (second_there is
               (ap₂ (λ z d. second_parcel (slot_far z (slice_index_or f.fired x false) (m.works f.number x) d
@@ -256,7 +261,8 @@ module _ {W : Type 0} (blocks : List Block) (good : AllGood blocks) (budget : �
           → kind_of (form_of i.op) ≡ Serving → ⊥
       plain_open z kind p w y = let bad : Plain ≡ Serving = sym p ∙ sym (ap kind_of kind) ∙ y in cc
 
-      unwaited : (z : Form) → form_of i.op ≡ z → has_number z ≡ false → is_waiting (at f.requests i.number) x ≡ true → ⊥
+      unwaited : (z : Form) → form_of i.op ≡ z → has_number z ≡ false → is_waiting (at f.requests i.number) x ≡ true
+          → ⊥
       unwaited z kind p w =
           let n : has_number (form_of i.op) ≡ true =
           rule.numbered i.number x (waiting_is (at f.requests i.number) x w) i s in
@@ -280,7 +286,8 @@ module _ {W : Type 0} (blocks : List Block) (good : AllGood blocks) (budget : �
           (λ n. refl) v (unwaited form.General kind refl)
       form_arrives form.Immediate kind v = slot_token form.Immediate kind (plain_open form.Immediate kind refl)
           (λ n. refl) (λ n. refl) v (unwaited form.Immediate kind refl)
-      form_arrives form.Constant kind v = slot_token form.Constant kind (plain_open form.Constant kind refl) (λ n. refl)
+      form_arrives form.Constant kind v = slot_token form.Constant kind (plain_open form.Constant kind refl)
+          (λ n. refl)
           (λ n. refl) v (unwaited form.Constant kind refl)
 
     slot_arrived : k < 256 → Next (inst_arrives blocks budget (slot_of e.code (k / 2)) k e M)

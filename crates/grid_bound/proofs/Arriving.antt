@@ -318,11 +318,13 @@ module _ {W : Type 0} (blocks : List Block) (good : AllGood blocks) (budget : �
       event = window.Deliver (token_places * f.number + k)
 
       it : can blocks budget (window.Deliver (token_places * f.number + k)) h.window ≡ Done
-      it = ap (λ o. unless_over o (can_now blocks budget (window.Deliver (token_places * f.number + k)) h.window)) went
+      it = ap (λ o. unless_over o (can_now blocks budget (window.Deliver (token_places * f.number + k)) h.window))
+          went
           ∙ ap₂ (λ p n. on_frame (NotNow NoToken) (can_deliver p) (committed h.window.state) h.window.frames n)
           (place_in_frame f.number k small) (frame_of_place f.number k small ∙ sym a.number)
           ∙ asks_oldest blocks budget h.window e a.younger a.frames (NotNow NoToken) (can_deliver k)
-          ∙ ap₂ (λ b o. judged ((b, NoToken) ∷ (is_none o, NoToken) ∷ (not (is_target q0), NoToken) ∷ [])) a.runs here.1
+          ∙ ap₂ (λ b o. judged ((b, NoToken) ∷ (is_none o, NoToken) ∷ (not (is_target q0), NoToken) ∷ [])) a.runs
+          here.1
           ∙ ap (λ b. judged ((not b, NoToken) ∷ [])) goes
 
       abbrev after : Window
@@ -375,7 +377,8 @@ module _ {W : Type 0} (blocks : List Block) (good : AllGood blocks) (budget : �
       in_slots =
           let l : x < length f.code.insts.items = inst_in f.code.insts.items x i s in
           let z : length e.code.insts.items ≡ 128 = (good e.block e.code own_ok.code).fits.insts in
-          let y : length f.code.insts.items ≡ length e.code.insts.items = ap (λ b. length b.insts.items) (sym a.code) in
+          let y : length f.code.insts.items ≡ length e.code.insts.items =
+          ap (λ b. length b.insts.items) (sym a.code) in
           let u = slot_tasks_is in omega (arith, l, z, y, u)
 
       no_token : (q : ℕ) → lands k q ≡ false
@@ -439,7 +442,8 @@ module _ {W : Type 0} (blocks : List Block) (good : AllGood blocks) (budget : �
               ap (λ b. b || h.asked f.number j.number)
               (and_right (f.number == e.number) (j.number == i.number) (other_number y j v n))
               ∙ a.asked y j z v
-              ∙ ap (λ b. m.asked f.number j.number || b) (sym (later_next k y (λ u. absurd (n (omega (arith, is, u))))))
+              ∙ ap (λ b. m.asked f.number j.number || b)
+              (sym (later_next k y (λ u. absurd (n (omega (arith, is, u))))))
 
     -- a branch ---------------------------------------------------------------------------------------
 

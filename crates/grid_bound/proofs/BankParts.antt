@@ -81,9 +81,11 @@ module _ {W : Type 0} (blocks : List Block) (good : AllGood blocks) (budget leas
     tied : Tied (g.parcels a0.frame.number) (g.asked a0.frame.number) (g.works a0.frame.number) f
     tied = frame_tied blocks good budget g a0.frame.number a least go.ties runs
 
-    entered : (after : Places) → Entered F p g.parcels after → Going blocks budget least (record G { parcels = after })
+    entered : (after : Places) → Entered F p g.parcels after
+        → Going blocks budget least (record G { parcels = after })
     entered after e =
-        stepped blocks good budget g a0.frame.number a least go (Read a0.frame.number r) F change after g.asked g.works
+        stepped blocks good budget g a0.frame.number a least go
+        (Read a0.frame.number r) F change after g.asked g.works
         g.units refl runs refl
         (λ m d. record {
           parcels_are = λ q. e.others m q (inl d);

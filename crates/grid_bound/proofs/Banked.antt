@@ -3,7 +3,8 @@ use Rattle.std.proofs.Common.{◌≡◌, ◌≢◌, ℕ, suc, ◌+◌, ◌*◌, 
 use Rattle.std.proofs.Common.{false, cond, not, nat_lt, List, ◌∷◌, length, Option, Some, None, is_some, slice_get}
 use Rattle.std.proofs.Common.{slice_index, slice_index_or, set, refl, sym, ap, ap₂, ◌∙◌, subst, arith, true≢false}
 use Rattle.std.proofs.Math.Path.{fun_ext}
-use Rattle.std.proofs.lemmas.Bool.{cond-true, cond-false, and_from, and_parts, and_left, and_right, both_ways, cases_eq}
+use Rattle.std.proofs.lemmas.Bool.{cond-true, cond-false, and_from, and_parts}
+use Rattle.std.proofs.lemmas.Bool.{and_left, and_right, both_ways, cases_eq}
 use Rattle.std.proofs.lemmas.Bool.{cases_lt, lt-ltb, le-ltb, eqb-true, eq-eqb, not_from_false, not-true}
 use Rattle.std.proofs.lemmas.List.{get_or-set_other}
 use Rattle.trips_isa.specs.declared.block.Token.{Token}
@@ -207,7 +208,8 @@ module _ {W : Type 0} (blocks : List Block) (good : AllGood blocks) (budget : �
         ap₂ (λ b u. is_bank k (bank_in (slice_get b.reads.items r)) && u) a.code (may_is r ∙ unread_now r)
         ∙ go (slice_get f.code.reads.items r) refl
       where
-        task_is : (o : Option ReadSlot) → slice_get f.code.reads.items r ≡ o → c.task (slot_tasks + r) ≡ read_task f.code o
+        task_is : (o : Option ReadSlot) → slice_get f.code.reads.items r ≡ o
+            → c.task (slot_tasks + r) ≡ read_task f.code o
         task_is o i = read_is f.code t r ∙ ap (read_task f.code) i
 
         one : (n : ℕ) (b : Bool) → (n == k) ≡ b → station_of F (slot_tasks + r) ≡ n
@@ -228,7 +230,8 @@ module _ {W : Type 0} (blocks : List Block) (good : AllGood blocks) (budget : �
         go None i = sym (and_left (unread F (slot_tasks + r)) _ (and_right (is_idle (F.at (slot_tasks + r)))
             (is_reading (c.task (slot_tasks + r)).kind) (ap (λ k. is_reading k.kind) (task_is None i))))
         go (Some s) i =
-            let st : station_of F (slot_tasks + r) ≡ bank_of s.register = ap (λ (k : Task). k.station) (task_is (Some s) i)
+            let st : station_of F (slot_tasks + r) ≡ bank_of s.register =
+            ap (λ (k : Task). k.station) (task_is (Some s) i)
             in one (bank_of s.register) (bank_of s.register == k) refl st
             ∙ ap (λ n. unread F (slot_tasks + r) && n == k) (sym st)
 
@@ -431,7 +434,8 @@ module _ {W : Type 0} (blocks : List Block) (good : AllGood blocks) (budget : �
           (flag_here e.reads r (let z : length e.reads ≡ 32 = own_ok.sized.reads in let l = small in
           omega (arith, z, l)))
           ∙ ap (λ p. Sent (H.parcels E.number p) (H.parcels E.number (suc p)))
-          (let z : slot_tasks ≡ 128 = slot_tasks_is in let w : 2 * (slot_tasks + r) ≡ 256 + 2 * r = omega (arith, z) in w)
+          (let z : slot_tasks ≡ 128 = slot_tasks_is in let w : 2 * (slot_tasks + r) ≡ 256 + 2 * r =
+          omega (arith, z) in w)
           ∙ ap₂ (λ p q. Sent p q) first_is second_is
           ∙ sym (ap₂ (λ n (k : Task). sent_from F.generation n k)
           (ap (λ (k : Task). k.here) task_X ∙ ap bank_node bank_is) task_X)
@@ -498,7 +502,8 @@ module _ {W : Type 0} (blocks : List Block) (good : AllGood blocks) (budget : �
     -- the bank's turn ------------------------------------------------------------------------------
 
     pub bank_turns : AtBank (suc k) (bank_turn blocks budget k h)
-    bank_turns = subst (λ l. AtBank (suc k) (read_chosen blocks budget k (eldest (answers_read blocks budget h k) reads l) h))
+    bank_turns = subst (λ l. AtBank (suc k)
+        (read_chosen blocks budget k (eldest (answers_read blocks budget h k) reads l) h))
         (sym a.frames) (go (least test reads 0) refl)
       where
         tail : (q : Option (ℕ × ℕ)) → eldest (answers_read blocks budget h k) reads a.younger ≡ q

@@ -69,7 +69,8 @@ module _ {W : Type 0} (blocks : List Block) (good : AllGood blocks) (budget : �
       each_task : (x : ℕ) → (read_front blocks good budget t f g 4).at x
           ≡ (reads_front (front_of (course_of f.code t) g f)).at x
       each_task x = ap (λ b. cond b (sent_from (front_of (course_of f.code t) g f).generation
-          ((course_of f.code t).task x).here ((course_of f.code t).task x)) ((front_of (course_of f.code t) g f).at x))
+          ((course_of f.code t).task x).here ((course_of f.code t).task x))
+          ((front_of (course_of f.code t) g f).at x))
           (within _ (station_of (front_of (course_of f.code t) g f) x) (λ p.
           let q : Unread blocks good budget t f g x = unread_is blocks good budget t f g x (and_parts
           (unread (front_of (course_of f.code t) g f) x) _ p).0 in

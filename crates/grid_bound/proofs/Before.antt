@@ -1,4 +1,5 @@
--- What a cycle says of the grid before it: cycles and committed blocks only get more, and a run that has ended stays so.
+-- What a cycle says of the grid before it: cycles and committed blocks only get more,
+-- and a run that has ended stays so.
 use Rattle.std.proofs.Common.{◌≡◌, ℕ, ◌≤◌, List, [], ◌∷◌, Option, Some, None, refl, sym, ap}
 use Rattle.std.proofs.Common.{◌∙◌, arith}
 use Rattle.trips_isa.specs.declared.block.Block.{Block}
@@ -24,7 +25,8 @@ module _ (blocks : List Block) (budget : ℕ) where
       → happens blocks budget e w ≡ w
   stuck e w stepped.Went i n = absurd (n refl)
   stuck e w stepped.Ended i n = ap (λ o. if_done (unless_over o (can_now blocks budget e w)) (done blocks e w) w) i
-  stuck e w stepped.StackFull i n = ap (λ o. if_done (unless_over o (can_now blocks budget e w)) (done blocks e w) w) i
+  stuck e w stepped.StackFull i n =
+      ap (λ o. if_done (unless_over o (can_now blocks budget e w)) (done blocks e w) w) i
   stuck e w (stepped.Trap c) i n = ap (λ o. if_done (unless_over o (can_now blocks budget e w)) (done blocks e w) w) i
 
   all_stuck : (es : List Event) (w : Window) (s : Stepped) → w.over ≡ s → (s ≡ stepped.Went → ⊥)
@@ -69,7 +71,8 @@ module _ {W : Type 0} (blocks : List Block) (budget : ℕ) where
     counting = λ c g. omega arith;
   }
 
-  module _ (next : W → ℕ) (follows : W → W → Type 0) (g h : Grid W) (cycle : Eager next follows blocks budget g h) where
+  module _ (next : W → ℕ) (follows : W → W → Type 0) (g h : Grid W)
+      (cycle : Eager next follows blocks budget g h) where
     pub cycles_before : g.counts.cycles ≤ h.counts.cycles
     cycles_before = eager_keeps blocks budget (λ (g h : Grid W). Later g h) later_keeps tt next follows g h cycle
 
@@ -81,7 +84,8 @@ module _ {W : Type 0} (blocks : List Block) (budget : ℕ) where
     went_before e = by g.window.over refl
       where
         over_same : (s : Stepped) → g.window.over ≡ s → (s ≡ stepped.Went → ⊥) → s ≡ stepped.Went
-        over_same s i n = sym i ∙ ap (λ (w : Window). w.over) (sym (steps.played ∙ all_stuck blocks budget steps.events g.window s i n))
+        over_same s i n = sym i
+            ∙ ap (λ (w : Window). w.over) (sym (steps.played ∙ all_stuck blocks budget steps.events g.window s i n))
             ∙ e
 
         by : (s : Stepped) → g.window.over ≡ s → g.window.over ≡ stepped.Went

@@ -19,7 +19,8 @@ module _ {W : Type 0} where
     fetch = r.fetch;
   }
 
-  pub begun_rule : (s : State) (p : Holding) (weather : W) → GridRule (record (begun_at s [] weather) { predictor = p })
+  pub begun_rule : (s : State) (p : Holding) (weather : W)
+      → GridRule (record (begun_at s [] weather) { predictor = p })
   begun_rule s p weather = predicting p (begun_at s [] weather) (begins_right s [] weather)
 
   pub begun_counted : (s : State) (p : Holding) (weather : W)

@@ -25,7 +25,8 @@ any_from (suc n) p x l e = go (λ m. any_from n p x m e) (cases_eq x n)
     go ih (inl h) = or_left (p n) _ (subst (λ k. p k ≡ true) h e)
     go ih (inr h) = or_right (p n) _ (ih (omega arith))
 
-pub any_more : (n : ℕ) (p q : ℕ → Bool) → ((x : ℕ) → x < n → p x ≡ true → q x ≡ true) → any n p ≡ true → any n q ≡ true
+pub any_more : (n : ℕ) (p q : ℕ → Bool) → ((x : ℕ) → x < n → p x ≡ true → q x ≡ true) → any n p ≡ true
+    → any n q ≡ true
 any_more n p q h e = let r : (x : ℕ) × (x < n) × (p x ≡ true) = any_true n p e in any_from n q r.0 r.1 (h r.0 r.1 r.2)
 
 pub any_least : (n : ℕ) (p : ℕ → Bool) → any n p ≡ true → (x : ℕ) × (x < n) × (p x ≡ true) × (any x p ≡ false)

@@ -254,7 +254,8 @@ module _ (b : Block) (runnable : IsRunnable b) (a : Responses) (g : ℕ → Answ
           two : (place_of slot.first ≡ q) ⊎ (place_at slot.second ≡ q)
           two = named_or _ _ q (subst (λ (k : Node). names (targets k) q ≡ true) same nm.2)
 
-          hit : (q < 416) ⊎ (416 ≤ q) → Hits (read_task b (Some slot)).first q ⊎ Hits (read_task b (Some slot)).second q
+          hit : (q < 416) ⊎ (416 ≤ q) → Hits (read_task b (Some slot)).first q
+              ⊎ Hits (read_task b (Some slot)).second q
           hit (inl l) = elim two [
             | inl z ↦ inl (hits_target b (place_of slot.first) q z l)
             | inr z ↦ inr (hits_target b (place_at slot.second) q z l)

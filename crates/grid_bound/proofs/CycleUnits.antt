@@ -21,7 +21,8 @@ wait_drop c c2 true true v v2 l a b k = omega arith
 wait_drop c c2 true false v v2 l a b k = absurd (cc)
 wait_drop c c2 false r2 v v2 l a b k = absurd (cc)
 
-wait_none : (c c2 : ℕ) (r r2 : Bool) (v v2 : ℕ) → r ≡ false → r2 ≡ false → v2 ≤ v → wait_left c2 r2 v2 ≤ wait_left c r v
+wait_none : (c c2 : ℕ) (r r2 : Bool) (v v2 : ℕ) → r ≡ false → r2 ≡ false → v2 ≤ v
+    → wait_left c2 r2 v2 ≤ wait_left c r v
 wait_none c c2 true r2 v v2 a b k = absurd (cc)
 wait_none c c2 false true v v2 a b k = absurd (cc)
 wait_none c c2 false false v v2 a b k = omega arith
@@ -205,7 +206,8 @@ module _ (u u2 : ℕ → ℕ) (fits : (t : ℕ) → u t ≤ 24) (fits2 : (t : �
     free_low : Low f.course u u2 f.at f2.at t
     free_low x k e = at (cases_Bool (issued u1 f1 x))
       where
-        at : (issued u1 f1 x ≡ true) ⊎ (issued u1 f1 x ≡ false) → task_left (u2 t) (f2.at x) ≤ task_left (u t) (f.at x)
+        at : (issued u1 f1 x ≡ true) ⊎ (issued u1 f1 x ≡ false)
+            → task_left (u2 t) (f2.at x) ≤ task_left (u t) (f.at x)
         at (inl i) = let a : task_left (u2 t) (f2.at x) + 1 ≤ task_left (u t) (f.at x) = issued_falls x k e i in
             omega (arith, a)
         at (inr n) = subst (λ w. task_left (u2 t) w ≤ task_left (u t) (f.at x))
@@ -214,7 +216,8 @@ module _ (u u2 : ℕ → ℕ) (fits : (t : ℕ) → u t ≤ 24) (fits2 : (t : �
 
     some_issued : on_tile f (ready f) t ≡ true → tile_left u2 f2 t + 1 ≤ tile_left u f t
     some_issued h =
-        let r : (x : ℕ) × (x < f.course.room) × ((ready f x && tile_of f x == t) ≡ true) = any_true f.course.room _ h in
+        let r : (x : ℕ) × (x < f.course.room) × ((ready f x && tile_of f x == t) ≡ true) =
+        any_true f.course.room _ h in
         let b : (ready f r.0 ≡ true) × ((tile_of f r.0 == t) ≡ true) = and_parts (ready f r.0) _ r.2 in
         let e : tile_of f r.0 ≡ t = eqb-true _ _ b.1 in
         let free : busy u1 (tile_of f r.0) ≡ false =
@@ -241,7 +244,8 @@ module _ (u u2 : ℕ → ℕ) (fits : (t : ℕ) → u t ≤ 24) (fits2 : (t : �
         none_after : on_tile f (ready f) t ≡ false → on_tile f2 (ready f2) t ≡ false
         none_after n = two (cases_Bool (on_tile f2 (ready f2) t))
           where
-            two : (on_tile f2 (ready f2) t ≡ true) ⊎ (on_tile f2 (ready f2) t ≡ false) → on_tile f2 (ready f2) t ≡ false
+            two : (on_tile f2 (ready f2) t ≡ true) ⊎ (on_tile f2 (ready f2) t ≡ false)
+                → on_tile f2 (ready f2) t ≡ false
             two (inl h) = absurd (both_ways _ n (ready_tile t h))
             two (inr h) = h
 
@@ -270,7 +274,8 @@ module _ (u u2 : ℕ → ℕ) (fits : (t : ℕ) → u t ≤ 24) (fits2 : (t : �
             idle_only (inr h) = h
             idle_only (inl h) =
                 let r : ready f x ≡ true = sym (ready_same x) ∙ pick_may (ready f1) (tile_of f1) (busy u1) x h in
-                let i : f.at x ≡ Idle = idle_is _ (and_parts (is_idle (f.at x)) _ (and_parts (unissued f x) _ r).0).0 in
+                let i : f.at x ≡ Idle =
+                idle_is _ (and_parts (is_idle (f.at x)) _ (and_parts (unissued f x) _ r).0).0 in
                 absurd (let k : Idle ≡ Working = sym i ∙ w.0 in cc)
 
         at : (on_tile f (ready f) t ≡ true) ⊎ (on_tile f (ready f) t ≡ false) → Outcome t

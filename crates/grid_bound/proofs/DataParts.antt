@@ -1,5 +1,6 @@
 -- Part (4) of a cycle, the data tiles, keeps the rule.
-use Rattle.std.proofs.Common.{◌≡◌, ◌≢◌, ℕ, ◌+◌, ◌*◌, ◌/◌, ◌<◌, ◌==◌, ◌&&◌, ◌||◌, not, Bool, true, false, cond, ◌⊎◌, inl}
+use Rattle.std.proofs.Common.{◌≡◌, ◌≢◌, ℕ, ◌+◌, ◌*◌, ◌/◌, ◌<◌, ◌==◌, ◌&&◌, ◌||◌, not, Bool, true}
+use Rattle.std.proofs.Common.{false, cond, ◌⊎◌, inl}
 use Rattle.std.proofs.Common.{inr}
 use Rattle.std.proofs.Common.{List, [], ◌∷◌, ◌++◌, Option, Some, None, set, refl, sym, ap, ap₂, ◌∙◌}
 use Rattle.std.proofs.Common.{subst, true≢false, arith}
@@ -19,7 +20,8 @@ use Rattle.commit_flush_spec.specs.Sending.{mark_with}
 use Rattle.commit_flush_spec.specs.Older.{Older, committed, nearest, violated, cut}
 use Rattle.commit_flush_spec.specs.Causes.{NoFrame, NoRequest, Done, NotNow}
 use Rattle.commit_flush_spec.specs.Ends.{all_below, store_came}
-use Rattle.commit_flush_spec.specs.Memory.{with_inst, with_slot, request, is_request, can_load, load, can_store, store}
+use Rattle.commit_flush_spec.specs.Memory.{with_inst, with_slot, request, is_request}
+use Rattle.commit_flush_spec.specs.Memory.{can_load, load, can_store, store}
 use Rattle.commit_flush_spec.specs.Memory.{with_store, store_resolved, checked}
 use Rattle.commit_flush_spec.specs.Memory as memory
 use Rattle.commit_flush_spec.specs.Window.{Window, Load, Store, can, happens}
@@ -38,7 +40,8 @@ use Rattle.grid_cycle_spec.specs.Sending.{enter_both}
 use Rattle.grid_cycle_spec.specs.Arrivals.{is_waiting}
 use Rattle.commit_flush_spec.specs.Window.{in_flight}
 use Rattle.commit_flush_spec.proofs.Look.{or_false}
-use Rattle.grid_cycle_spec.specs.DataTiles.{asks_store, tile_by, tile_for, bit_of, all_resolved, must_wait, may_answer}
+use Rattle.grid_cycle_spec.specs.DataTiles.{asks_store, tile_by, tile_for, bit_of, all_resolved, must_wait}
+use Rattle.grid_cycle_spec.specs.DataTiles.{may_answer}
 use Rattle.grid_cycle_spec.specs.DataTiles.{answers_request, unasked, load_answered}
 use Rattle.grid_cycle_spec.specs.DataTiles.{by_block, wrong_load, waits_now, answered_by, answer_chosen, data_turn}
 use Rattle.grid_cycle_spec.specs.DataTiles.{answers}
@@ -53,7 +56,8 @@ use Rattle.grid_bound.proofs.Entered.{Entered, both_enter, enters_at}
 use Rattle.grid_bound.proofs.Ties.{Alike, Ties, ties_step}
 use Rattle.grid_bound.proofs.TiedFrames.{answered_come, answered_standing, load_travels, sent_tied}
 use Rattle.grid_bound.proofs.Flushing.{act_going, append_more, cut_rest, nums_step}
-use Rattle.grid_bound.proofs.Going.{Going, Moved, alone_is, awake, can_is, each_going, frame_ok, frame_rule, frame_sure}
+use Rattle.grid_bound.proofs.Going.{Going, Moved, alone_is, awake, can_is}
+use Rattle.grid_bound.proofs.Going.{each_going, frame_ok, frame_rule, frame_sure}
 use Rattle.grid_bound.proofs.Going.{frame_tied}
 use Rattle.grid_bound.proofs.Going.{happens_is, moved, moved_to, sees, stepped}
 
@@ -236,7 +240,8 @@ module _ {W : Type 0} (blocks : List Block) (good : AllGood blocks) (budget leas
     none = came (g.asked m) f l.waits.slot l.waits.inst came_here Load refl
 
     comes : (i : Inst) (t : ℕ) → to_come (asks' m) F (form_of i.op) i t ≡ to_come (g.asked m) f (form_of i.op) i t
-    comes i t = answered_come (g.asked m) (asks' m) f F k refl refl had (but_here g.asked m k) (but_number g.asked m k)
+    comes i t = answered_come (g.asked m) (asks' m) f F k refl refl had (but_here g.asked m k)
+        (but_number g.asked m k)
         i t (form_of i.op)
 
     none_now : to_come (asks' m) F Load l.waits.inst l.waits.slot ≡ false
@@ -257,7 +262,8 @@ module _ {W : Type 0} (blocks : List Block) (good : AllGood blocks) (budget leas
         (λ i t z. comes i t)
         s.keeps s.others (λ q d j. e.others m q (inr (d, j)))
         (enters_at F (2 * l.waits.slot) g.parcels after e)
-        (load_travels (g.asked m) (g.works m) f l.waits.slot l.waits.inst l.small l.waits.is_inst is_a_load rests none)
+        (load_travels (g.asked m) (g.works m) f l.waits.slot l.waits.inst l.small l.waits.is_inst is_a_load rests
+        none)
         (load_travels (asks' m)
         (g.works m) F l.waits.slot l.waits.inst l.small l.waits.is_inst is_a_load rests none_now)
         (answered_standing (g.asked m) (asks' m) f F k refl refl had (but_here g.asked m k) (but_number g.asked m k)
@@ -300,7 +306,8 @@ module _ {W : Type 0} (blocks : List Block) (good : AllGood blocks) (budget leas
     abbrev S : Frame
     S = with_store k v (mark_with f (slot_node f.code q.slot)) f
 
-    store_comes : (i : Inst) (t : ℕ) → to_come (asks' m) S (form_of i.op) i t ≡ to_come (g.asked m) f (form_of i.op) i t
+    store_comes : (i : Inst) (t : ℕ)
+        → to_come (asks' m) S (form_of i.op) i t ≡ to_come (g.asked m) f (form_of i.op) i t
     store_comes i t = answered_come (g.asked m) (asks' m) f S k refl refl had (but_here g.asked m k)
         (but_number g.asked m k) i t (form_of i.op)
 
@@ -317,9 +324,11 @@ module _ {W : Type 0} (blocks : List Block) (good : AllGood blocks) (budget leas
 
     store_rules : EachFrame FrameRule (a.older ++ S ∷ a.younger)
     store_rules =
-        let was : EachFrame FrameRule (a.older ++ f ∷ a.younger) = subst (EachFrame FrameRule) a.split go.ties.frames in
+        let was : EachFrame FrameRule (a.older ++ f ∷ a.younger) =
+        subst (EachFrame FrameRule) a.split go.ties.frames in
         each_join FrameRule a.older (S ∷ a.younger) (each_front FrameRule a.older (f ∷ a.younger) was) (
-          store_rule blocks good o f ok rule k q.slot q.inst v (mark_with f (slot_node f.code q.slot)) q.asks q.is_inst
+          store_rule blocks good o f ok rule k q.slot q.inst v
+              (mark_with f (slot_node f.code q.slot)) q.asks q.is_inst
               q.is_kind,
           (each_rest FrameRule a.older (f ∷ a.younger) was).1,
         )

@@ -236,7 +236,8 @@ pub with_at : {A : Type 0} (n : ℕ) (does : Frame → A → A) (fs : List Frame
     → with_frame n does fs g ≡ does a.frame g
 with_at n does fs a g = ap (λ l. with_frame n does l g) a.split ∙ skip a.older a.before
   where
-    skip : (xs : List Frame) → in_flight n xs ≡ false → with_frame n does (xs ++ a.frame ∷ a.younger) g ≡ does a.frame g
+    skip : (xs : List Frame) → in_flight n xs ≡ false
+        → with_frame n does (xs ++ a.frame ∷ a.younger) g ≡ does a.frame g
     skip [] e = ap (λ b. cond b (does a.frame g) (with_frame n does a.younger g))
         (ap (λ k. k == n) a.number ∙ same n)
     skip (x ∷ xs) e =
@@ -319,7 +320,8 @@ eldest_is test n (f ∷ fs) q h e = go (least (test f) n 0) refl e (eldest_is te
     in_rest : Chosen test n fs q → Chosen test n (f ∷ fs) q
     in_rest c =
         let a = c.there in
-        let here : in_flight q.0 fs ≡ true = ap (in_flight q.0) a.split ∙ flight_join q.0 a.older (a.frame ∷ a.younger)
+        let here : in_flight q.0 fs ≡ true = ap (in_flight q.0) a.split
+        ∙ flight_join q.0 a.older (a.frame ∷ a.younger)
         ∙ or_right (in_flight q.0 a.older) (ap (λ b. b || in_flight q.0 a.younger)
         (ap (λ k. k == q.0) a.number ∙ same q.0)) in
         let other : (f.number == q.0) ≡ false = apart f.number q.0 (λ z. true≢false (sym here

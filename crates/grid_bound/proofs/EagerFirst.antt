@@ -1,5 +1,6 @@
 -- A grid of its own comes first at each station, so every eager cycle serves its oldest frame.
-use Rattle.std.proofs.Common.{◌≡◌, ◌≢◌, ℕ, ◌-◌, ◌^◌, ◌<◌, ◌≤◌, ◌⊎◌, inl, inr, List, [], length, Some, slice_get, slice_index}
+use Rattle.std.proofs.Common.{◌≡◌, ◌≢◌, ℕ, ◌-◌, ◌^◌, ◌<◌, ◌≤◌, ◌⊎◌, inl, inr, List, []}
+use Rattle.std.proofs.Common.{length, Some, slice_get, slice_index}
 use Rattle.std.proofs.Common.{refl, sym, ap, ◌∙◌, subst, arith}
 use Rattle.trips_isa.specs.declared.block.Block.{Block}
 use Rattle.trips_isa.specs.declared.run.Stepped.{Stepped}
@@ -52,13 +53,15 @@ module _ {W : Type 0} (blocks : List Block) (budget : ℕ) (next : W → ℕ) (f
       weather = m.weather;
       rows = λ f fs e. oldest_ticks next follows bound f.number (length fs) (numbers_of fs) D.parcels m.parcels
           D.weather m.weather
-          (subst (λ l. Ticked next follows (numbers_of l) D.parcels m.parcels D.weather m.weather (length l)) e m.ticked);
+          (subst (λ l. Ticked next follows (numbers_of l) D.parcels m.parcels D.weather m.weather (length l)) e
+          m.ticked);
       arrived = m.arrived;
     };
   }
 
   -- where part (1) ends the run nothing follows
-  pub ended : (s : Stepped) → E.window.over ≡ s → Follows s next follows blocks budget E h → E.window.over ≢ stepped.Went
+  pub ended : (s : Stepped) → E.window.over ≡ s → Follows s next follows blocks budget E h
+      → E.window.over ≢ stepped.Went
       → h.window ≡ E.window
   ended stepped.Went i m n = absurd (n i)
   ended stepped.Ended i m n = ap (λ (k : Grid W). k.window) m

@@ -40,7 +40,8 @@ pub record Ruled {W : Type 0} (blocks : List Block) (budget least : ℕ) (g : Gr
   pub fetch : FetchRule (known_next g.window) g.fetching
 
 -- a fetch that goes on is of a block that may come next
-pub still_rule : (known known' : Option ℕ) (o : Option Fetching) → FetchRule known' o → FetchRule known (still known o)
+pub still_rule : (known known' : Option ℕ) (o : Option Fetching) → FetchRule known' o
+    → FetchRule known (still known o)
 still_rule known known' None h = tt
 still_rule known known' (Some f) h = go (follows known f.block) refl
   where
@@ -94,7 +95,8 @@ module _ {W : Type 0} (blocks : List Block) (good : AllGood blocks) (budget leas
   }
 
   sealed_ruled : happens blocks budget (Seal n) g.window ≡ V
-      → Ruled blocks budget least (forget (λ m. m == n) (record g { window = happens blocks budget (Seal n) g.window }))
+      → Ruled blocks budget least
+      (forget (λ m. m == n) (record g { window = happens blocks budget (Seal n) g.window }))
   sealed_ruled is =
       let ok : WindowOk blocks budget V = subst (WindowOk blocks budget) is
       (happens_moves blocks good budget (Seal n) g.window r.ok).ok in
@@ -196,12 +198,14 @@ module _ {W : Type 0} (blocks : List Block) (good : AllGood blocks) (budget leas
 
   taken_ruled : happens blocks budget Commit g.window ≡ commit (f ∷ fs) g.window
       → Ruled blocks budget least (commit_in blocks budget (f ∷ fs) g)
-  taken_ruled e = subst (λ (v : Window). Ruled blocks budget least (committed_as v.over f fs (record g { window = v })))
+  taken_ruled e = subst
+      (λ (v : Window). Ruled blocks budget least (committed_as v.over f fs (record g { window = v })))
       (sym e) (outcome_ruled (unless (cause_held f) (outputs f)) (subst (WindowOk blocks budget) e
       (happens_moves blocks good budget Commit g.window r.ok).ok))
 
 module _ {W : Type 0} (blocks : List Block) (good : AllGood blocks) (budget least : ℕ) where
-  commit_ruled : (g : Grid W) → Ruled blocks budget least g → Ruled blocks budget least (commit_oldest blocks budget g)
+  commit_ruled : (g : Grid W) → Ruled blocks budget least g
+      → Ruled blocks budget least (commit_oldest blocks budget g)
   commit_ruled g r = go (may blocks budget Commit g) refl
     where
       frames : (fs : List Frame) → g.window.frames ≡ fs → can blocks budget Commit g.window ≡ Done

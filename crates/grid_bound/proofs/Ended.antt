@@ -197,7 +197,8 @@ module _ {W : Type 0} (blocks : List Block) (budget : ℕ) (g : Grid W) (f : Fra
         let same : m.window.state ≡ g.window.state = b.state ∙ state in
         let shut : is_sealed m.window.frames ≡ true = ap is_sealed b.frames ∙ s in
         let some : nat_le budget (length m.window.state.trace) ≡ false =
-        lt-leb budget (length m.window.state.trace) (let e : length m.window.state.trace ≡ length g.window.state.trace =
+        lt-leb budget (length m.window.state.trace)
+        (let e : length m.window.state.trace ≡ length g.window.state.trace =
         ap (λ (s : State). length s.trace) same in omega (arith, room, e)) in
         let it : can blocks budget window.Commit m.window ≡ Done =
         ap (λ o. unless_over o (can_now blocks budget window.Commit m.window)) (b.over ∙ over ∙ went)

@@ -56,7 +56,8 @@ pub enters_at : (f : Frame) (p : ℕ) (before after : Places) → Entered f p be
 enters_at f p before after e q (inl z) =
     subst (λ k. is_here (after f.number k) ≡ (is_some (at f.places k) || is_here (before f.number k))) (sym z) e.first
 enters_at f p before after e q (inr z) =
-    subst (λ k. is_here (after f.number k) ≡ (is_some (at f.places k) || is_here (before f.number k))) (sym z) e.second
+    subst (λ k. is_here (after f.number k) ≡ (is_some (at f.places k) || is_here (before f.number k)))
+    (sym z) e.second
 
 -- one of them
 abbrev one : Bool → Places → ℕ → ℕ → Stand → Places
@@ -120,7 +121,8 @@ module _ {W : Type 0} where
       enters_all,
       record {
         others = other;
-        first = ap is_here (one_other (is_some (at f.places (suc p))) middle f.number (suc p) s2 f.number p (inr next))
+        first = ap is_here (one_other (is_some (at f.places (suc p))) middle f.number (suc p) s2 f.number p
+            (inr next))
             ∙ one_here (is_some (at f.places p)) g.parcels f.number p s1 refl;
         second = one_here (is_some (at f.places (suc p))) middle f.number (suc p) s2 refl
             ∙ ap (λ x. is_some (at f.places (suc p)) || is_here x)

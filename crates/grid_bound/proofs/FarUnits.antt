@@ -37,7 +37,8 @@ module _ {W : Type 0} (blocks : List Block) (budget t : ℕ) (far : 16 ≤ t) wh
       let a : Grid W = fetches blocks budget g in
       let b : Grid W = reads_answered blocks budget a in
       far_turns 16 (omega arith) (answers blocks budget b)
-      ∙ ap (λ (u : ℕ → ℕ). u t) (answers_kept blocks budget b ∙ banks_kept blocks budget a ∙ fetches_kept blocks budget g)
+      ∙ ap (λ (u : ℕ → ℕ). u t) (answers_kept blocks budget b ∙ banks_kept blocks budget a
+      ∙ fetches_kept blocks budget g)
 
   module _ (next : W → ℕ) (follows : W → W → Type 0) (g h : Grid W) where
     by_over : (s : Stepped) → Follows s next follows blocks budget (ends blocks budget g) h

@@ -1,5 +1,6 @@
 -- Part (2): with a frame in flight the oldest one stays as it is; without one the fetch of the next block goes on.
-use Rattle.std.proofs.Common.{◌≡◌, ℕ, zero, suc, ◌+◌, ◌-◌, ◌^◌, ◌<◌, ◌==◌, ◌&&◌, ◌⊎◌, inl, inr, Bool, true, false, cond}
+use Rattle.std.proofs.Common.{◌≡◌, ℕ, zero, suc, ◌+◌, ◌-◌, ◌^◌, ◌<◌, ◌==◌, ◌&&◌, ◌⊎◌, inl, inr}
+use Rattle.std.proofs.Common.{Bool, true, false, cond}
 use Rattle.std.proofs.Common.{not, nat_lt, List, [], ◌∷◌, ◌++◌, Option, Some, None, is_none, is_some, slice_get}
 use Rattle.std.proofs.Common.{slice_index, slice_index_or, slice_set, refl, sym, ap, ap₂, ◌∙◌, subst, arith}
 use Rattle.std.proofs.Math.Path.{fun_ext}
@@ -222,7 +223,8 @@ fresh_phase g n k b t x = go (nat_lt x slot_tasks)
 
     go : (c : Bool) → cond c (slot_phase g (fresh n k b) x (slot_of b x))
         (read_phase g (fresh n k b) (x - slot_tasks) (slice_get b.reads.items (x - slot_tasks)))
-        ≡ cond (cond c (slot_task b t x (slot_of b x)) (read_task b (slice_get b.reads.items (x - slot_tasks)))).declared
+        ≡ cond (cond c (slot_task b t x (slot_of b x))
+        (read_task b (slice_get b.reads.items (x - slot_tasks)))).declared
         Idle Absent
     go true = slot (slot_of b x)
     go false = read (slice_get b.reads.items (x - slot_tasks))
@@ -249,7 +251,8 @@ module _ {W : Type 0} (blocks : List Block) (budget : ℕ) (g : Grid W) (i : g.w
   abbrev c : Course
   c = course_of b t
 
-  -- what the fetch comes to, which the lane makes of the stage before: no frame is in flight, or the one that was filled
+  -- what the fetch comes to, which the lane makes of the stage before: no frame is in flight,
+  -- or the one that was filled
   pub record Comes (h : Grid W) (s : Stage) : Type 0 where
     pub generation : ℕ
     pub stage : stage_of c h h.window.frames ≡ fetching generation c s

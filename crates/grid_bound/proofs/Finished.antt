@@ -158,7 +158,8 @@ module _ {W : Type 0} (blocks : List Block) (good : AllGood blocks) (budget : �
         now : F.at s ≡ Working → phase_of H e s ≡ given s
         now w = finishing.phase_s blocks good budget h e younger i ok rule t came less s works refl refl refl refl
             ∙ sym (cond-true (lane_tile F s == k) _ _ (eq-eqb (lane_tile F s) k (task_tile s works ∙ tile))
-            ∙ ap₂ (λ p n. finished F.generation p n (c.task s)) w (let z : h.units k - 1 ≡ 0 = omega (arith, one) in z))
+            ∙ ap₂ (λ p n. finished F.generation p n (c.task s)) w
+            (let z : h.units k - 1 ≡ 0 = omega (arith, one) in z))
 
         other : x ≢ s → (b : Bool) → (lane_tile F x == k) ≡ b
             → F.at x ≡ cond b (finished F.generation (F.at x) (h.units k - 1) (c.task x)) (F.at x)
@@ -169,7 +170,8 @@ module _ {W : Type 0} (blocks : List Block) (good : AllGood blocks) (budget : �
 
         by : (x ≡ s) ⊎ (x ≡ s → ⊥) → phase_of H e x ≡ given x
         by (inl z) = subst (λ x. phase_of H e x ≡ given x) (sym z)
-            (now (finishing.works_now blocks good budget h e younger i ok rule t came less s works refl refl refl refl))
+            (now (finishing.works_now blocks good budget h e younger i ok rule t came less s works refl refl refl
+            refl))
         by (inr n) = finishing.others_same blocks good budget h e younger i ok rule t came less s works
             refl refl refl refl x n ∙ other n (lane_tile F x == k) refl
 

@@ -1,6 +1,7 @@
 -- Part (5), results: a unit whose time is over gives the result that it has of the oldest frame.
 use Rattle.std.proofs.Common.{◌≡◌, ◌≢◌, ℕ, suc, ◌*◌, ◌-◌, ◌<◌, ◌==◌, ◌&&◌, Bool, true}
-use Rattle.std.proofs.Common.{false, cond, nat_lt, List, ◌∷◌, length, Option, Some, None, is_some, slice_get, slice_index}
+use Rattle.std.proofs.Common.{false, cond, nat_lt, List, ◌∷◌, length, Option, Some}
+use Rattle.std.proofs.Common.{None, is_some, slice_get, slice_index}
 use Rattle.std.proofs.Common.{slice_index_or, refl, sym, ap, ap₂, ◌∙◌, arith}
 use Rattle.std.proofs.lemmas.Bool.{cond-true, cond-false, and_from, and_right}
 use Rattle.std.proofs.lemmas.Bool.{ltb-true, eq-eqb, ne_eqb}
@@ -146,7 +147,8 @@ module _ {W : Type 0} (blocks : List Block) (good : AllGood blocks) (budget : �
     H = slot_enters (slot_of e.code s) s e R
 
     -- only parcels change as the result enters
-    form_only : (k : Form) (i : Inst) → result_enters k i s e R ≡ record R { parcels = (result_enters k i s e R).parcels }
+    form_only : (k : Form) (i : Inst)
+        → result_enters k i s e R ≡ record R { parcels = (result_enters k i s e R).parcels }
     form_only form.Load i = refl
     form_only form.Store i = refl
     form_only form.Branch i = refl
@@ -195,10 +197,12 @@ module _ {W : Type 0} (blocks : List Block) (good : AllGood blocks) (budget : �
       fired = refl;
       reads = λ l. refl;
       works = ap (λ (k : Grid W). k.works e.number x) enters_only
-          ∙ cond-false ((e.number == e.number) && (x == s)) _ _ (and_right (e.number == e.number) (x == s) (ne_eqb x s n))
+          ∙ cond-false ((e.number == e.number) && (x == s)) _ _
+          (and_right (e.number == e.number) (x == s) (ne_eqb x s n))
           ∙ ap (λ w. w e.number x) still;
       waits = λ j k. refl;
-      asked = λ j k w. ap (λ (k : Grid W). k.asked e.number j.number) enters_only ∙ ap (λ w. w e.number j.number) asked;
+      asked = λ j k w. ap (λ (k : Grid W). k.asked e.number j.number) enters_only
+          ∙ ap (λ w. w e.number j.number) asked;
       first = others_stay (2 * x) (λ z. n (omega (arith, z))) (λ z. absurd (omega (arith, z)))
           ∙ ap (λ p. p e.number (2 * x)) parcels;
       second = others_stay (suc (2 * x)) (λ z. absurd (omega (arith, z))) (λ z. n (omega (arith, z)))
@@ -225,7 +229,8 @@ module _ {W : Type 0} (blocks : List Block) (good : AllGood blocks) (budget : �
 
     one_alone : (to : ℕ) → (enters e.number (2 * s) here to R).parcels e.number (suc (2 * s)) ≡ Nowhere
     one_alone to = one_entered here e R true (2 * s) to (suc (2 * s))
-        ∙ cond-false (true && suc (2 * s) == 2 * s) _ _ (ne_eqb (suc (2 * s)) (2 * s) (λ z. absurd (omega (arith, z))))
+        ∙ cond-false (true && suc (2 * s) == 2 * s) _ _
+        (ne_eqb (suc (2 * s)) (2 * s) (λ z. absurd (omega (arith, z))))
         ∙ second_free
 
     -- a request on its way
@@ -288,7 +293,8 @@ module _ {W : Type 0} (blocks : List Block) (good : AllGood blocks) (budget : �
     result_is form.Branch z r fits =
         ap₂ (λ p q. Sent p q) (one_leaves control) (one_alone control)
         ∙ ap₂ (λ p q. Sent p q)
-        (ap (λ k. launch F.generation here (first_of e.code k j (data_node (tile_by j (at_place e.code t s))))) (sym z))
+        (ap (λ k. launch F.generation here (first_of e.code k j (data_node (tile_by j (at_place e.code t s)))))
+        (sym z))
         (ap (λ o. launch F.generation here (target_at e.code (place_at o))) (sym (fits.0).second))
     result_is form.General z r fits = plain form.General z refl refl r
     result_is form.Immediate z r fits = plain form.Immediate z refl refl r

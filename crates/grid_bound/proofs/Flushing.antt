@@ -1,6 +1,7 @@
 -- An event that flushes frames: the beginning of those in flight is left, and the others are forgotten.
 use Rattle.std.specs.List.{list_any}
-use Rattle.std.proofs.Common.{◌≡◌, ℕ, zero, suc, ◌==◌, ◌||◌, Bool, true, false, cond, List, [], ◌∷◌, ◌++◌, drop, length}
+use Rattle.std.proofs.Common.{◌≡◌, ℕ, zero, suc, ◌==◌, ◌||◌, Bool, true, false, cond, List, []}
+use Rattle.std.proofs.Common.{◌∷◌, ◌++◌, drop, length}
 use Rattle.std.proofs.Common.{Option, refl, sym, ap, ap₂, ◌∙◌, subst}
 use Rattle.trips_isa.specs.declared.block.Block.{Block}
 use Rattle.trips_isa.specs.declared.run.Stepped.TheVariants.{Went}
@@ -127,7 +128,8 @@ module _ {W : Type 0} (blocks : List Block) (good : AllGood blocks) (budget leas
   G = record g { window = V }
 
   flushed_going : (xs : List Frame)
-      → Ties least hs (λ n p. cond (is_of xs n) Nowhere (g.parcels n p)) (λ n k. cond (is_of xs n) false (g.asked n k))
+      → Ties least hs (λ n p. cond (is_of xs n) Nowhere (g.parcels n p))
+      (λ n k. cond (is_of xs n) false (g.asked n k))
       (λ n s. cond (is_of xs n) false (g.works n s)) g.careful g.units → WindowOk blocks budget V
       → Going blocks budget least (settled (flushed xs G))
   flushed_going [] t k = record {
@@ -142,6 +144,7 @@ module _ {W : Type 0} (blocks : List Block) (good : AllGood blocks) (budget leas
   act_going = subst (λ (w : Window). Going blocks budget least
       (settled (flushed (gone g.window w) (record g { window = w })))) (sym is)
       (flushed_going (drop (length hs) g.window.frames)
-      (flushed_ties least g.window.frames all hs rest g.parcels g.asked g.works g.careful g.units split same ok.numbers
+      (flushed_ties least g.window.frames all hs rest g.parcels g.asked g.works g.careful g.units split same
+      ok.numbers
       ties)
       (subst (WindowOk blocks budget) is (happens_moves blocks good budget e g.window ok).ok))

@@ -1,5 +1,6 @@
 -- Each event of the window keeps the rule of its frames.
-use Rattle.std.proofs.Common.{◌≡◌, ◌≢◌, ℕ, suc, ◌+◌, ◌*◌, ◌/◌, ◌%◌, ◌<◌, ◌≤◌, ◌==◌, Bool, true, false, cond, not, ◌||◌}
+use Rattle.std.proofs.Common.{◌≡◌, ◌≢◌, ℕ, suc, ◌+◌, ◌*◌, ◌/◌, ◌%◌, ◌<◌, ◌≤◌, ◌==◌, Bool, true}
+use Rattle.std.proofs.Common.{false, cond, not, ◌||◌}
 use Rattle.std.proofs.Common.{◌⊎◌, inl}
 use Rattle.std.proofs.Common.{inr, List, [], ◌∷◌, ◌++◌, Option, Some, None, slice_get, set, get_or, length, refl, sym}
 use Rattle.std.proofs.Common.{ap, ◌∙◌, subst, true≢false, arith, is_none}
@@ -17,7 +18,8 @@ use Rattle.trips_isa.specs.Rule.{Answer}
 use Rattle.trips_isa.specs.Stores.{stored_of}
 use Rattle.block_cases.specs.Orders.{slot_of}
 use Rattle.commit_flush_spec.specs.Marks.{Marks}
-use Rattle.commit_flush_spec.specs.Frames.{Frame, Taken, Exit, at, fresh, numbers, slot_node, source, target, is_target}
+use Rattle.commit_flush_spec.specs.Frames.{Frame, Taken, Exit, at, fresh, numbers}
+use Rattle.commit_flush_spec.specs.Frames.{slot_node, source, target, is_target}
 use Rattle.commit_flush_spec.specs.Sending.{send, token_with, mark_with}
 use Rattle.commit_flush_spec.specs.Older.{Older, after, follows, successor_of, passes, nearest, violated, cut}
 use Rattle.commit_flush_spec.specs.Older.{committed}
@@ -30,7 +32,8 @@ use Rattle.commit_flush_spec.specs.Memory.{can_store, store, store_resolved, wit
 use Rattle.commit_flush_spec.specs.Ends.{can_exit, exit, exit_by, branch_of, branch_mark, with_exit, kept, can_seal}
 use Rattle.commit_flush_spec.specs.Ends.{seal, outputs, cause_held}
 use Rattle.commit_flush_spec.specs.InFlight.{commit_to}
-use Rattle.commit_flush_spec.specs.Window.{Window, Event, on_frame, change, alone, flush, lowest_empty, fetched, commit}
+use Rattle.commit_flush_spec.specs.Window.{Window, Event, on_frame, change, alone}
+use Rattle.commit_flush_spec.specs.Window.{flush, lowest_empty, fetched, commit}
 use Rattle.commit_flush_spec.specs.Window.{can_now, unless_over, can, done, if_done, happens}
 use Rattle.commit_flush_spec.specs.Window as event
 use Rattle.commit_flush_spec.specs.Invariant.{FrameOk, FramesOk, AllGood}
@@ -224,7 +227,8 @@ module _ (blocks : List Block) (good : AllGood blocks) (o : Older) (f : Frame) (
 
       load_store : is_load (form_of (k.inst).op) ≡ true → (t : ℕ) (j : Inst) → slot_of f.code t ≡ Some j
           → is_store (form_of j.op) ≡ true → j.number ≡ (k.inst).number → ⊥
-      load_store e t j d h z = load_not_store f.code (good f.block f.code ok.code) s t k.inst j k.is_inst d e h (sym z)
+      load_store e t j d h z = load_not_store f.code (good f.block f.code ok.code) s t k.inst j k.is_inst d e h
+          (sym z)
 
       number_kind : (t : Form) → has_number t ≡ true → (is_load t ≡ true) ⊎ (is_store t ≡ true)
       number_kind General e = absurd (true≢false (sym e))
@@ -432,7 +436,8 @@ store_rules blocks good n o f fs c ok rules =
     let g : Frame = with_store n v (mark_with f (slot_node f.code q.slot)) f in
     subst (λ y. Rules (store_resolved n f fs y)) (sym q.is_request)
     (go g (violated (nearest (at g.stores) n) f.loads)
-    (store_rule blocks good o f ok.2 rules.0 n q.slot q.inst v (mark_with f (slot_node f.code q.slot)) q.asks q.is_inst
+    (store_rule blocks good o f ok.2 rules.0 n q.slot q.inst v
+    (mark_with f (slot_node f.code q.slot)) q.asks q.is_inst
     q.is_kind))
   where
     go : (g : Frame) (b : Bool) → FrameRule g → Rules (cond b [] (g ∷ cut (nearest (at g.stores) n numbers) fs))

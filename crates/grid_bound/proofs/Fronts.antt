@@ -1,5 +1,6 @@
 -- The front of a frame hangs on what is under way of that frame alone.
-use Rattle.std.proofs.Common.{◌≡◌, ℕ, suc, ◌+◌, ◌*◌, ◌-◌, ◌<◌, ◌≤◌, Bool, true, false, cond, nat_lt, Option, Some, None}
+use Rattle.std.proofs.Common.{◌≡◌, ℕ, suc, ◌+◌, ◌*◌, ◌-◌, ◌<◌, ◌≤◌, Bool, true, false, cond}
+use Rattle.std.proofs.Common.{nat_lt, Option, Some, None}
 use Rattle.std.proofs.Common.{slice_get, slice_index, slice_index_or, refl, sym, ap, ap₂, ◌∙◌, arith}
 use Rattle.std.proofs.lemmas.Bool.{ltb-false, cond-true, cond-false, le-ltb, lt-ltb}
 use Rattle.trips_isa.specs.declared.block.Inst.{Inst}

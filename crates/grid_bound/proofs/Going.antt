@@ -134,7 +134,8 @@ module _ {W : Type 0} (blocks : List Block) (good : AllGood blocks) (budget : �
     pub ok : WindowOk blocks budget (moved_to f)
     pub rules : EachFrame FrameRule (a.older ++ f ∷ a.younger)
 
-  pub moved : (least : ℕ) → Going blocks budget least g → (e : Event) (f : Frame) → can blocks budget e g.window ≡ Done
+  pub moved : (least : ℕ) → Going blocks budget least g → (e : Event) (f : Frame)
+      → can blocks budget e g.window ≡ Done
       → done blocks e g.window ≡ moved_to f → Moved e f
   moved least r e f d same =
       let is : happens blocks budget e g.window ≡ moved_to f = happens_is blocks budget e g.window d ∙ same in
@@ -185,7 +186,8 @@ module _ {W : Type 0} (blocks : List Block) (good : AllGood blocks) (budget : �
   stayed least r parcels asked works units runs others tied busy held = record {
     ok = r.ok;
     went = r.went;
-    ties = ties_again least n g.window.frames a a.frame g.parcels parcels g.asked asked g.works works g.careful g.units
+    ties = ties_again least n g.window.frames a a.frame g.parcels parcels g.asked asked g.works works g.careful
+        g.units
         units a.number others r.ties refl runs tied busy held;
     fetch = r.fetch;
   }

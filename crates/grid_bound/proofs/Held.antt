@@ -58,7 +58,8 @@ much_left : (n : ℕ) (u : ℕ → ℕ) (g : ℕ) (v : Course) (c : Bool) (s : S
     → Flushes c (reading (fetching g v s)) → (257 + 128 * n ≤ left_at n u s) × (true ≡ c)
 much_left n u g v c (Running f) r open' k =
     let e : left_at n u (Running f) ≡ stage_left n u (Running f) = cond-false (is_complete (Running f)) _ _ open' in
-    let a : reserve f.careful (tasks f.course) ≡ 256 + 128 * tasks f.course = ap (λ b. reserve b (tasks f.course)) k.0 in
+    let a : reserve f.careful (tasks f.course) ≡ 256 + 128 * tasks f.course =
+    ap (λ b. reserve b (tasks f.course)) k.0 in
     let z : tasks f.course ≡ n = r.size in
     (omega (arith, e, a, z), k.1)
 much_left n u g v c (Fetching None b) r open' k = absurd (let z = k.0 in cc)
@@ -130,7 +131,8 @@ reserve_most : (b : Bool) (n : ℕ) → reserve b n ≤ 256 + 128 * n
 reserve_most true n = omega arith
 reserve_most false n = omega arith
 
-pub held_most : (sizes : ℕ → ℕ) (l : Lane) (k : ℕ) → k < fetch_latency → LaneRule sizes l → left_held sizes k l ≤ price (sizes l.done)
+pub held_most : (sizes : ℕ → ℕ) (l : Lane) (k : ℕ) → k < fetch_latency → LaneRule sizes l
+    → left_held sizes k l ≤ price (sizes l.done)
 held_most sizes l k small r = by l.stage refl
   where
     a : left sizes l ≤ price (sizes l.done)

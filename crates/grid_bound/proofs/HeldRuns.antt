@@ -12,7 +12,8 @@ abbrev Within : (ℕ → ℕ) → ℕ → Lane → ℕ → Lane → Type 0
 Within sizes n l j m = n + left_held sizes j m + total sizes l.done ≤ total sizes m.done + price (sizes m.done)
 
 module _ (sizes : ℕ → ℕ) (k : ℕ) (l : Lane) (small : k < fetch_latency) (rule : LaneRule sizes l) where
-  step : (n i j : ℕ) (x m : Lane) → LaneRule sizes m → j < fetch_latency → Within sizes n l i x → FallsHeld sizes i j x m
+  step : (n i j : ℕ) (x m : Lane) → LaneRule sizes m → j < fetch_latency → Within sizes n l i x
+      → FallsHeld sizes i j x m
       → Within sizes (suc n) l j m
   step n i j x m r few b (inl e) =
       let a : 1 ≤ left_held sizes i x = held_some sizes x i in
@@ -31,7 +32,8 @@ module _ (sizes : ℕ → ℕ) (k : ℕ) (l : Lane) (small : k < fetch_latency) 
       let c : left_held sizes k l ≤ price (sizes l.done) = held_most sizes l k small rule in
       subst₂ (λ (x : Lane) i. LaneRule sizes x × Within sizes 0 l i x) (sym e.0) (sym e.1) (rule, (omega (arith, c)))
   after_held (suc n) j m a =
-      let b : LaneRule sizes a.between × Within sizes n l a.holds a.between = after_held n a.holds a.between a.before in (
+      let b : LaneRule sizes a.between × Within sizes n l a.holds a.between =
+      after_held n a.holds a.between a.before in (
         a.rule,
         step n a.holds j a.between m a.rule a.few b.1
             (falls_held sizes a.between m b.0 j a.few a.holds a.served),

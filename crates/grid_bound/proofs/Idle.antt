@@ -18,7 +18,8 @@ module _ {W : Type 0} (blocks : List Block) (budget : ℕ) where
       ∙ ap (λ l. read_chosen blocks budget n (eldest (answers_read blocks budget g n) reads l) g) i
 
   -- a unit's turn changes how busy units are, and nothing else
-  idle_unit : (k n : ℕ) (g : Grid W) → g.window.frames ≡ [] → unit_on k n g ≡ record g { units = (unit_on k n g).units }
+  idle_unit : (k n : ℕ) (g : Grid W) → g.window.frames ≡ []
+      → unit_on k n g ≡ record g { units = (unit_on k n g).units }
   idle_unit k zero g i = refl
   idle_unit k (suc zero) g i =
       let m : Grid W = record g { units = λ t. cond (t == k) 0 (g.units t) } in

@@ -116,7 +116,8 @@ module _ {W : Type 0} (blocks : List Block) (good : AllGood blocks) (budget leas
         ∙ second_travels (g.asked m) (g.works m) f s k.inst k.small k.is_inst
         ∙ ap₂ (λ c t. not (g.works m s) && form_travels (form_of k.inst.op) false c t)
         (nothing_comes (form_of k.inst.op) refl)
-        (none_is (at f.places (suc (2 * s))) (unfired_none blocks o f ok s (suc (2 * s)) k.small (inr refl) k.unfired))
+        (none_is (at f.places (suc (2 * s)))
+        (unfired_none blocks o f ok s (suc (2 * s)) k.small (inr refl) k.unfired))
         ∙ ap (λ b. not (g.works m s) && b) (quiet (form_of k.inst.op) false) ∙ and_none (not (g.works m s))
 
     -- the frame after the event, by what it has

@@ -23,7 +23,8 @@ sent_fine come g p n l k = (launch_landed come g p n.first l k.first, launch_lan
 pub fine_read : (u : ℕ → ℕ) (f : Front) → GoodTasks f → Fine u f → Fine u (reads_front f)
 fine_read u f good fine x l = cond_both (pick (unread f) (station_of f) none_busy x)
     (sent_from f.generation (f.course.task x).here (f.course.task x)) (f.at x) (FineAt u f.come (f.course.task x))
-    (λ e. sent_fine f.come f.generation (f.course.task x).here (f.course.task x) (good x).here (good x)) (λ e. fine x l)
+    (λ e. sent_fine f.come f.generation (f.course.task x).here (f.course.task x) (good x).here (good x))
+    (λ e. fine x l)
 
 pub placed_read : (f : Front) → Placed f → Placed (reads_front f)
 placed_read f placed x l = cond_both (pick (unread f) (station_of f) none_busy x)
@@ -116,7 +117,8 @@ module _ (u ud : ℕ → ℕ) (f : Front) where
   abbrev f1 : Front
   f1 = finish_front (less_one u) f
 
-  pub fine_units : GoodTasks f → ((t : ℕ) → units_after (less_one u) (finish_front (less_one u) f) t ≤ ud t) → Fine u f
+  pub fine_units : GoodTasks f → ((t : ℕ) → units_after (less_one u) (finish_front (less_one u) f) t ≤ ud t)
+      → Fine u f
       → Fine ud (issue_front (less_one u) (finish_front (less_one u) f))
   fine_units good kept fine x l = cond_both (issued v f1 x) Working
       (finished f.generation (f.at x) (v (tile_of f x)) (f.course.task x)) (FineAt ud f.come (f.course.task x))

@@ -191,7 +191,8 @@ module _ {W : Type 0} (blocks : List Block) (good : AllGood blocks) (o : Older) 
     store_come m l h =
         let z : 416 + m - 416 ≡ m = omega arith in
         ap₂ (λ x y. cond x (is_some (at f.spots (416 + m))) (cond y (is_some (at f.stores (416 + m - 416)))
-        (416 + m == 448 && is_some f.exit))) (le-ltb (416 + m) 416 (omega arith)) (lt-ltb (416 + m) 448 (omega (arith, l)))
+        (416 + m == 448 && is_some f.exit))) (le-ltb (416 + m) 416 (omega arith))
+        (lt-ltb (416 + m) 448 (omega (arith, l)))
         ∙ ap (λ k. is_some (at f.stores k)) z ∙ some_is (at f.stores m) h
 
     or_none : (x y : Bool) → (x || y) ≡ false → y ≡ false

@@ -33,7 +33,8 @@ next_is n k e = grind (arith, nat_tests)
 
 -- the fetch of the next block --------------------------------------------------------------------
 
-fetch_rule : {W : Type 0} (n : ℕ) (u : ℕ → ℕ) (g : Grid W) (known : Option ℕ) (o : Option Fetching) → FetchRule known o
+fetch_rule : {W : Type 0} (n : ℕ) (u : ℕ → ℕ) (g : Grid W) (known : Option ℕ) (o : Option Fetching)
+    → FetchRule known o
     → StageRule n u (fetch_of g o)
 fetch_rule n u g known None h = tt
 fetch_rule n u g known (Some f) h = let l = h.0 in omega (arith, l)

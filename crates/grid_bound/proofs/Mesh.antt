@@ -37,7 +37,8 @@ onward_left : (h : ℕ) (trip : Trip) (a : ℕ) → h ≤ 3 → (a < 25) × (tri
 onward_left h trip a l b e = cond_both (next_of a trip.to == trip.to) (Held trip h) (Away trip (next_of a trip.to))
     (λ s. parcel_left (taken s) + 1 ≤ far a trip.to + 4)
     (λ k. let x : parcel_left (taken (Held trip h)) ≤ 3 = held_left trip h l in omega (arith, x))
-    (λ k. let x : far (next_of a trip.to) trip.to + 1 ≡ far a trip.to = (nearer trip a b e).nearer in omega (arith, x))
+    (λ k. let x : far (next_of a trip.to) trip.to + 1 ≡ far a trip.to = (nearer trip a b e).nearer in
+    omega (arith, x))
 
 onward_bounded : (h : ℕ) (trip : Trip) (a : ℕ) → h ≤ 3 → (a < 25) × (trip.to < 25) → (a == trip.to) ≡ false
     → Bounded (taken (onward h trip a))
@@ -181,7 +182,8 @@ moved_left m k h j c (Sent p q) l i b =
 pub moved_drop_first : (m k : Bool) (h j c : ℕ) (w : Phase) (p : Stand) → h ≤ 3 → j ≤ 3 → Both w
     → (w ≡ Asking p) ⊎ ((q : Stand) × (w ≡ Sent p q)) → Leaves m p
     → task_left c (moved m k h j w) + 1 ≤ task_left c w
-moved_drop_first m k h j c w p l i b (inl e) g = subst (λ w. task_left c (moved m k h j w) + 1 ≤ task_left c w) (sym e)
+moved_drop_first m k h j c w p l i b (inl e) g = subst (λ w. task_left c (moved m k h j w) + 1 ≤ task_left c w)
+    (sym e)
     (let n : Bounded p = subst Both e b in
     let a : task_left c (asked (goes m h p)) ≤ parcel_left (goes m h p) + 25 = asked_left c (goes m h p) in
     let d : parcel_left (goes m h p) + 1 ≤ parcel_left p = goes_drop m h p l n g in

@@ -48,7 +48,8 @@ one_of (suc n) k c = go (one_of n k c) (k == n) refl
         (cond b c 0 + sum n (λ t. cond (k == t) c 0) ≤ c)
         × (suc n ≤ k → cond b c 0 + sum n (λ t. cond (k == t) c 0) ≤ 0)
     go ih true e = let same : k ≡ n = eqb-true _ _ e in
-        let z : sum n (λ t. cond (k == t) c 0) ≤ 0 = ih.1 (omega arith) in (omega (arith, z), λ l. absurd (omega arith))
+        let z : sum n (λ t. cond (k == t) c 0) ≤ 0 = ih.1 (omega arith) in
+        (omega (arith, z), λ l. absurd (omega arith))
     go ih false e = let a = ih.0 in
         (omega (arith, a), λ l. let z : sum n (λ t. cond (k == t) c 0) ≤ 0 = ih.1 (omega arith) in omega (arith, z))
 

@@ -1,6 +1,7 @@
--- Part (6) as a whole: the parcels of the oldest frame move as the lane's do, and what other frames are delivered it does
--- not see.
-use Rattle.std.proofs.Common.{◌≡◌, ◌≢◌, ℕ, zero, suc, ◌+◌, ◌*◌, ◌-◌, ◌/◌, ◌%◌, ◌<◌, ◌≤◌, ◌==◌, ◌&&◌, ◌||◌, ◌⊎◌, inl, inr}
+-- Part (6) as a whole: the parcels of the oldest frame move as the lane's do, and what other frames are delivered it
+-- does not see.
+use Rattle.std.proofs.Common.{◌≡◌, ◌≢◌, ℕ, zero, suc, ◌+◌, ◌*◌, ◌-◌, ◌/◌, ◌%◌, ◌<◌, ◌≤◌, ◌==◌, ◌&&◌}
+use Rattle.std.proofs.Common.{◌||◌, ◌⊎◌, inl, inr}
 use Rattle.std.proofs.Common.{Bool, true, false, nat_lt, List, [], ◌∷◌, length, Option, Some, None, slice_get}
 use Rattle.std.proofs.Common.{slice_index, slice_index_or, refl, sym, ap, ap₂, ◌∙◌, subst, arith}
 use Rattle.std.proofs.Math.Path.{fun_ext}
@@ -44,7 +45,8 @@ use Rattle.grid_bound.proofs.Steady.{Onward, then_onward, steady}
 use Rattle.grid_bound.proofs.Walk.{each_keeps, comes_keeps}
 use Rattle.grid_bound.proofs.Others.{behind_at, arrival_other}
 use Rattle.grid_bound.proofs.Ended.{oldest_ok}
-use Rattle.grid_bound.proofs.Fronts.{front_behind, left_unit, slot_far, slot_phase_is, far_same, same_front, at_slot, at_read}
+use Rattle.grid_bound.proofs.Fronts.{front_behind, left_unit, slot_far, slot_phase_is}
+use Rattle.grid_bound.proofs.Fronts.{far_same, same_front, at_slot, at_read}
 use Rattle.grid_bound.proofs.OldestLands.{due, ticked_there, there_is, not_there, free_same, any_pairs}
 use Rattle.grid_bound.proofs.Arriving.{land_first, land_second, AtPlace, T, lands}
 use Rattle.grid_bound.proofs.Arrived.{place_turns}
@@ -181,7 +183,8 @@ module _ {W : Type 0} (blocks : List Block) (good : AllGood blocks) (budget : �
   row_second x =
       let half : suc (2 * x) / 2 ≡ x = omega arith in
       cond-false (suc (2 * x) % 2 == 0) _ _
-      (let par : suc (2 * x) % 2 ≡ 1 = omega arith in ne_eqb (suc (2 * x) % 2) 0 (λ z. absurd (omega (arith, par, z))))
+      (let par : suc (2 * x) % 2 ≡ 1 = omega arith in
+      ne_eqb (suc (2 * x) % 2) 0 (λ z. absurd (omega (arith, par, z))))
       ∙ ap (λ y. second_parcel (F.at y)) half
 
   stand_first : (x : ℕ) → stand (2 * x)
@@ -219,7 +222,8 @@ module _ {W : Type 0} (blocks : List Block) (good : AllGood blocks) (budget : �
       ∙ ap (λ P. ticked (free_at F (suc (2 * x)) (second_parcel P)) (hold (suc (2 * x))) (second_parcel P)) far_is))
       ∙ slot_moves (kind_of (form_of j.op)) (slice_index_or f.fired x false) (m.works f.number x)
       (is_waiting (at f.requests j.number) x) (m.asked f.number j.number)
-      (free_at F (2 * x) (first_parcel (far_of x j))) (free_at F (suc (2 * x)) (second_parcel (far_of x j))) (hold (2 * x))
+      (free_at F (2 * x) (first_parcel (far_of x j))) (free_at F (suc (2 * x)) (second_parcel (far_of x j)))
+      (hold (2 * x))
       (hold (suc (2 * x))) (m.parcels f.number (2 * x)) (m.parcels f.number (suc (2 * x)))
       (λ z. rule.asks x (m.parcels f.number (2 * x)) (far_is ∙ z))
       ∙ ap (λ P. moved (free_at F (2 * x) (first_parcel P)) (free_at F (suc (2 * x)) (second_parcel P)) (hold (2 * x))
@@ -267,7 +271,8 @@ module _ {W : Type 0} (blocks : List Block) (good : AllGood blocks) (budget : �
               (left (2 * x) (omega (arith, fits)) ∙ ap moving.taken (stand_first x
               ∙ ap (λ P. ticked (free_at F (2 * x) (first_parcel P)) (hold (2 * x)) (first_parcel P)) sent))
               (left (suc (2 * x)) fits ∙ ap moving.taken (stand_second x
-              ∙ ap (λ P. ticked (free_at F (suc (2 * x)) (second_parcel P)) (hold (suc (2 * x))) (second_parcel P)) sent)))
+              ∙ ap (λ P. ticked (free_at F (suc (2 * x)) (second_parcel P)) (hold (suc (2 * x))) (second_parcel P))
+              sent)))
             where
               sent : F.at x ≡ Sent (m.parcels f.number (2 * x)) (m.parcels f.number (suc (2 * x)))
               sent = before ∙ ap (read_phase m f r) y ∙ cond-true _ _ _ w
@@ -291,7 +296,8 @@ module _ {W : Type 0} (blocks : List Block) (good : AllGood blocks) (budget : �
   -- what has landed -----------------------------------------------------------------------------------
 
   task_lands : (x q : ℕ)
-      → (lands blocks good budget t f m rule hold (2 * x) q || lands blocks good budget t f m rule hold (suc (2 * x)) q)
+      → (lands blocks good budget t f m rule hold (2 * x) q || lands blocks good budget t f m rule hold
+      (suc (2 * x)) q)
       ≡ moving.delivers (F.at x) (move_at hold F x) (c.task x) q
   task_lands x q =
       ap₂ (λ b d. b || d)

@@ -54,7 +54,8 @@ store_form Branch e = absurd (true≢false (sym e))
 
 module _ {W : Type 0} (blocks : List Block) (good : AllGood blocks) (o : Older) (g : Grid W) (f : Frame)
     (ok : FrameOk blocks o f) (rule : FrameRule f)
-    (tied : Tied (g.parcels f.number) (g.asked f.number) (g.works f.number) f) (units : UnitsRule g.units g.works) where
+    (tied : Tied (g.parcels f.number) (g.asked f.number) (g.works f.number) f)
+    (units : UnitsRule g.units g.works) where
   abbrev n : ℕ
   n = f.number
 
@@ -77,7 +78,8 @@ module _ {W : Type 0} (blocks : List Block) (good : AllGood blocks) (o : Older) 
         ∙ ap₂ (λ x y. not (g.works n s) && form_travels (form_of i.op) true x y) e k
 
     second_by : (c t : Bool) → to_come (g.asked n) f (form_of i.op) i s ≡ c → is_some (at f.places (suc (2 * s))) ≡ t
-        → travels (g.asked n) (g.works n) f (suc (2 * s)) ≡ (not (g.works n s) && form_travels (form_of i.op) false c t)
+        → travels (g.asked n) (g.works n) f (suc (2 * s))
+        ≡ (not (g.works n s) && form_travels (form_of i.op) false c t)
     second_by c t e k = second_travels (g.asked n) (g.works n) f s i small is
         ∙ ap₂ (λ x y. not (g.works n s) && form_travels (form_of i.op) false x y) e k
 
@@ -340,7 +342,8 @@ module _ {W : Type 0} (blocks : List Block) (good : AllGood blocks) (o : Older) 
             unread_none r (2 * (slot_tasks + r)) l (inl first_place_is) e,
             unread_none r (suc (2 * (slot_tasks + r))) l (inr second_place_is) e,
           )
-      by (Some slot) i true e = subst (λ b. Shown (slot_tasks + r) (cond b (sent_of g f (slot_tasks + r)) Idle)) (sym e)
+      by (Some slot) i true e = subst (λ b. Shown (slot_tasks + r) (cond b (sent_of g f (slot_tasks + r)) Idle))
+          (sym e)
           (refl, refl)
 
   shown : (x : ℕ) → x < most_nodes → Shown x (phase_of g f x)
@@ -424,7 +427,8 @@ module _ {W : Type 0} (blocks : List Block) (good : AllGood blocks) (o : Older) 
         ≡ true
     goes_form Load e h = ap (λ x. form_travels x true (to_come (g.asked n) f x i s) (is_some (at f.places (2 * s)))) e
         ∙ ap₂ (λ x y. (true && (x && not y)) || is_some (at f.places (2 * s))) waits asked'
-    goes_form Store e h = ap (λ x. form_travels x true (to_come (g.asked n) f x i s) (is_some (at f.places (2 * s)))) e
+    goes_form Store e h =
+        ap (λ x. form_travels x true (to_come (g.asked n) f x i s) (is_some (at f.places (2 * s)))) e
         ∙ ap₂ (λ x y. true && (x && not y)) waits asked'
     goes_form General e h = absurd (true≢false (sym h))
     goes_form Immediate e h = absurd (true≢false (sym h))
@@ -446,7 +450,8 @@ module _ {W : Type 0} (blocks : List Block) (good : AllGood blocks) (o : Older) 
       let it : g.parcels n (2 * s) ≡ t = cc in
       λ z. request_here s i small is w d k h (it ∙ z)
 
-  asks_form : (s : ℕ) (i : Inst) → s < 128 → slot_of f.code s ≡ Some i → g.works n s ≡ false → (t : Stand) → (k : Form)
+  asks_form : (s : ℕ) (i : Inst) → s < 128 → slot_of f.code s ≡ Some i → g.works n s ≡ false → (t : Stand)
+      → (k : Form)
       → form_of i.op ≡ k → after_unit g f s i (kind_of k) ≡ Asking t → t ≢ Nowhere
   asks_form s i small is w t General d e = absurd (cc)
   asks_form s i small is w t Immediate d e = absurd (cc)

@@ -1,6 +1,7 @@
 -- Parcels that come to their end in a tick, and the tokens that they are.
 use Rattle.std.proofs.Common.{◌≡◌, ◌≢◌, ℕ, zero, suc, ◌*◌, ◌-◌, ◌<◌, ◌==◌, ◌&&◌, ◌||◌, ◌⊎◌, inl, inr}
-use Rattle.std.proofs.Common.{Bool, true, false, cond, not, nat_lt, List, Option, Some, None, is_some, set, length, refl}
+use Rattle.std.proofs.Common.{Bool, true, false, cond, not, nat_lt, List, Option, Some, None}
+use Rattle.std.proofs.Common.{is_some, set, length, refl}
 use Rattle.std.proofs.Common.{sym, ap, ap₂, ◌∙◌, subst, arith, true≢false}
 use Rattle.std.proofs.lemmas.Bool.{cond_both, cond-true, cases_eq, ltb-true, ne_eqb}
 use Rattle.std.proofs.lemmas.Bool.{eq-eqb, or_right}
@@ -92,7 +93,8 @@ has_landed free h s o q e =
 -- links hang on the lower places alone
 any_same : (n : ℕ) (r q : ℕ → Stand) (l : ℕ) → ((p : ℕ) → p < n → r p ≡ q p) → any_wants n r l ≡ any_wants n q l
 any_same zero r q l h = refl
-any_same (suc n) r q l h = ap₂ (λ s b. wants s l || b) (h n (omega arith)) (any_same n r q l (λ p m. h p (omega (arith, m))))
+any_same (suc n) r q l h = ap₂ (λ s b. wants s l || b) (h n (omega arith))
+    (any_same n r q l (λ p m. h p (omega (arith, m))))
 
 pub free_same : (busy : ℕ → Bool) (r q : ℕ → Stand) (p : ℕ) (s : Stand) → ((k : ℕ) → k < p → r k ≡ q k)
     → is_free busy r p s ≡ is_free busy q p s
@@ -147,7 +149,8 @@ spot_came e q0 v l goes size is q = by (cases_eq q q0)
     by (inl z) = subst (λ q. has_come (record e { spots = l }) q ≡ (has_come e q || q0 == q)) (sym z)
         (here ∙ sym (or_right (has_come e q0) _ (eq-eqb q0 q0 refl)))
     by (inr n) =
-        ap (λ b. cond (nat_lt q 416) b (cond (nat_lt q 448) (is_some (at e.stores (q - 416))) (q == 448 && is_some e.exit)))
+        ap (λ b. cond (nat_lt q 416) b
+        (cond (nat_lt q 448) (is_some (at e.stores (q - 416))) (q == 448 && is_some e.exit)))
         (ap (λ x. is_some (at x q)) is ∙ ap is_some (other_at e.spots q0 q (Some v) n))
         ∙ off (has_come e q) ∙ ap (λ b. has_come e q || b) (sym (ne_eqb q0 q (λ z. n (sym z))))
 
@@ -170,6 +173,7 @@ exit_came e x some q = by (cases_eq q 448)
     by (inr n) =
         ap (λ b. cond (nat_lt q 416) (is_some (at e.spots q)) (cond (nat_lt q 448) (is_some (at e.stores (q - 416)))
         (b && is_some x))) (ne_eqb q 448 n)
-        ∙ sym (ap (λ b. cond (nat_lt q 416) (is_some (at e.spots q)) (cond (nat_lt q 448) (is_some (at e.stores (q - 416)))
+        ∙ sym (ap (λ b. cond (nat_lt q 416) (is_some (at e.spots q))
+        (cond (nat_lt q 448) (is_some (at e.stores (q - 416)))
         (b && is_some e.exit))) (ne_eqb q 448 n))
         ∙ off (has_come e q) ∙ ap (λ b. has_come e q || b) (sym (ne_eqb 448 q (λ z. n (sym z))))

@@ -1,5 +1,6 @@
 -- One eager cycle of a grid that has its rule commits, traps, or lowers what is left.
-use Rattle.std.proofs.Common.{◌≡◌, ℕ, zero, suc, ◌+◌, ◌-◌, ◌^◌, ◌<◌, ◌≤◌, ◌⊎◌, inl, inr, List, [], length, slice_get, refl, sym}
+use Rattle.std.proofs.Common.{◌≡◌, ℕ, zero, suc, ◌+◌, ◌-◌, ◌^◌, ◌<◌, ◌≤◌, ◌⊎◌, inl, inr, List}
+use Rattle.std.proofs.Common.{[], length, slice_get, refl, sym}
 use Rattle.std.proofs.Common.{ap, ◌∙◌, subst, arith}
 use Rattle.trips_isa.specs.declared.block.Block.{Block}
 use Rattle.trips_isa.specs.declared.run.Stepped.TheVariants as stepped
@@ -80,7 +81,8 @@ module _ {W : Type 0} (blocks : List Block) (good : AllGood blocks) (budget : �
   most =
       let a : left sizes (lane_in g) ≤ price (size_in (slice_get blocks g.window.state.next)) =
       left_most sizes (lane_in g) here.lane in
-      let b : cost_in (slice_get blocks g.window.state.next) ≡ price (size_in (slice_get blocks g.window.state.next)) =
+      let b : cost_in (slice_get blocks g.window.state.next)
+      ≡ price (size_in (slice_get blocks g.window.state.next)) =
       ap cost_in here.is_next ∙ cost_is here.block ∙ ap price here.is_size in
       subst (λ n. left sizes (lane_in g) ≤ n) (sym b) a
 
@@ -88,7 +90,8 @@ module _ {W : Type 0} (blocks : List Block) (good : AllGood blocks) (budget : �
   same_state : length h.window.state.trace ≡ length g.window.state.trace → h.window.state ≡ g.window.state
   same_state e =
       let t : TakesSteps blocks g.window.state h.window =
-      takes_steps blocks good budget g.window h.window has.window on.went (steps blocks budget next follows g h cycle) in
+      takes_steps blocks good budget g.window h.window has.window on.went
+      (steps blocks budget next follows g h cycle) in
       let grown : length h.window.state.trace ≡ length g.window.state.trace + t.steps = t.grown in
       let none : t.steps ≡ 0 = omega (arith, grown, e) in
       reached_state blocks g.window.state h.window.state t.steps h.window.over t.reached

@@ -282,7 +282,8 @@ module _ (u : ℕ → ℕ) (fits : (t : ℕ) → u t ≤ 24) (f : Front) (good :
           (subst (λ p. wants p k ≡ true) (first_place x) a))
       either k (inr a) = from_wanted x k l ih a
 
-      at : Leaves (two x) (second_parcel (f.at x)) ⊎ ((k : ℕ) × (any_wants (suc (2 * x)) (row f) k ≡ true)) → SomeFalls
+      at : Leaves (two x) (second_parcel (f.at x)) ⊎ ((k : ℕ) × (any_wants (suc (2 * x)) (row f) k ≡ true))
+          → SomeFalls
       at (inl g) = (
         x,
         l,

@@ -125,7 +125,8 @@ module _ (blocks : List Block) (s : State) where
       go : (length (after n).trace ≡ length s.trace + n → Adding n) → Adds blocks (after n) (after (suc n))
           → Adding (suc n)
       go ih (inl e) = let h = at_most n in
-          let k : length (after (suc n)).trace ≡ length (after n).trace = ap length e in absurd (omega (arith, h, k, l))
+          let k : length (after (suc n)).trace ≡ length (after n).trace = ap length e in
+          absurd (omega (arith, h, k, l))
       go ih (inr (b, x, i, j, e)) =
           let k : length (after (suc n)).trace ≡ suc (length (after n).trace) =
           ap length e ∙ length_more (after n).trace x in

@@ -210,7 +210,8 @@ pub ready_seen : {W : Type 0} (g : Grid W) (f : Frame) (a : Responses) (t : ℕ 
     → ((q : ℕ) → Below (at f.spots q) (at_place f.code t q)) → f.sealed ≡ false → (s : ℕ) → s < 128
     → ready (front_of (course_of f.code t) g f) s ≡ is_ready f s
 ready_seen g f a t solves holds open' s l =
-    ap₂ (ready_by f) (cond-true (nat_lt s slot_tasks) _ _ (lt-ltb s slot_tasks in_slots)) (slot_is f.code t s in_slots)
+    ap₂ (ready_by f) (cond-true (nat_lt s slot_tasks) _ _ (lt-ltb s slot_tasks in_slots))
+    (slot_is f.code t s in_slots)
     ∙ go (slot_of f.code s) refl
     ∙ sym (ap (λ b. not b && (is_some (slot_of f.code s) && (not (slice_index_or f.fired s false)
     && is_some (token_with f (slot_node f.code s) 0)))) open')
@@ -228,6 +229,7 @@ ready_seen g f a t solves holds open' s l =
         ≡ (is_some o && (not (slice_index_or f.fired s false) && is_some (token_with f (slot_node f.code s) 0)))
     go None e = refl
     go (Some i) e = by (slot_phase g f s (Some i)) (slice_index_or f.fired s false)
-        (is_reading (kind_of (form_of i.op))) (is_some (t (slot_node f.code s))) (all_come (has_come f) (needs_of i s))
+        (is_reading (kind_of (form_of i.op))) (is_some (t (slot_node f.code s)))
+        (all_come (has_come f) (needs_of i s))
         (is_some (token_with f (slot_node f.code s) 0)) (slot_begun g f s i) (no_reading (form_of i.op))
         (fires_same f a t solves holds s l i e)

@@ -1,5 +1,5 @@
--- From part (3) on, where the grid comes first at each station: what is left of a cycle serves the oldest frame, or waits
--- for the fetch of the next block.
+-- From part (3) on, where the grid comes first at each station: what is left of a cycle serves the oldest frame, or
+-- waits for the fetch of the next block.
 use Rattle.std.proofs.Common.{◌≡◌, ℕ, ◌-◌, ◌<◌, ◌≤◌, ◌==◌, ◌&&◌, ◌⊎◌, inl, inr, Bool, true, false}
 use Rattle.std.proofs.Common.{cond, nat_lt, List, [], ◌∷◌, Option, Some, None, refl, sym, ap, ap₂, ◌∙◌}
 use Rattle.std.proofs.Common.{subst, arith}
@@ -64,7 +64,8 @@ stage_held g f fs i = ap (λ l. stage_of (course_in (committed g.window.state) l
 pub stage_empty : {W : Type 0} (g : Grid W) → g.window.frames ≡ [] → stage_in g ≡ fetch_of g g.fetching
 stage_empty g i = ap (λ l. stage_of (course_in (committed g.window.state) l) g l) i
 
-module _ {W : Type 0} (blocks : List Block) (good : AllGood blocks) (budget : ℕ) (g h : Grid W) (ok : WindowOk blocks budget g.window)
+module _ {W : Type 0} (blocks : List Block) (good : AllGood blocks) (budget : ℕ) (g h : Grid W)
+    (ok : WindowOk blocks budget g.window)
     (went : g.window.over ≡ stepped.Went) (rule : CycleRule blocks budget g)
     (beyond : (t : ℕ) → 16 ≤ t → g.units t ≡ 0)
     (cycle : RestFirst blocks budget g h) where
@@ -244,7 +245,8 @@ module _ {W : Type 0} (blocks : List Block) (good : AllGood blocks) (budget : �
     lands : Shows c y (arrivals blocks budget (numbers_of D.window.frames) N) (move_front rows.hold (front_of c D y))
     lands = subst (λ (b : Block). Shows (course_of b t) y (arrivals blocks budget (numbers_of D.window.frames) N)
         (move_front rows.hold (front_of (course_of b t) D y))) works.shows.code
-        (moved.arrivals_serve blocks good budget t y V move_rule rows.hold works.shows.younger works.shows.frames ok_d went_d works.shows.runs cycle.parcels
+        (moved.arrivals_serve blocks good budget t y V move_rule rows.hold works.shows.younger works.shows.frames ok_d
+        went_d works.shows.runs cycle.parcels
         cycle.weather rows.moves)
 
     abbrev z : Frame
@@ -307,7 +309,8 @@ module _ {W : Type 0} (blocks : List Block) (good : AllGood blocks) (budget : �
       hold = rows.hold;
       holds = rows.holds;
       own = own_h;
-      stage = stage_held h z lands.younger frames_h ∙ ap Running (ap (λ (q : Course). front_of q h z) course_h ∙ front_h);
+      stage = stage_held h z lands.younger frames_h
+          ∙ ap Running (ap (λ (q : Course). front_of q h z) course_h ∙ front_h);
     }
 
   module _ (f : Frame) (fs : List Frame) (i : g.window.frames ≡ f ∷ fs) (runs : f.sealed ≡ false) where

@@ -178,7 +178,8 @@ fetch_most (Some n) l = let i : n ≤ 7 = l in omega (arith, i)
 stage_most : (n : ℕ) (u : ℕ → ℕ) → ((t : ℕ) → u t ≤ 24) → (s : Stage) → StageRule n u s → stage_left n u s ≤ price n
 stage_most n u fits (Running f) r =
     let a : work u f ≤ most (tasks f.course) = work_most u fits f r.placed r.fine in
-    let b : reserve f.careful (tasks f.course) ≤ 256 + 128 * tasks f.course = reserve_most f.careful (tasks f.course) in
+    let b : reserve f.careful (tasks f.course) ≤ 256 + 128 * tasks f.course =
+    reserve_most f.careful (tasks f.course) in
     let d : tasks f.course ≡ n = r.size in
     omega (arith, a, b, d)
 stage_most n u fits (Fetching o s) r =

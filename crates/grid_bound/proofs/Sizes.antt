@@ -72,7 +72,8 @@ reads_are : (n : ℕ) (rs : List ReadSlot) → length rs ≤ n → sum n (λ k. 
 reads_are n [] l = sum_none n
 reads_are zero (r ∷ rs) l = absurd (omega arith)
 reads_are (suc n) (r ∷ rs) l =
-    let h : sum (suc n) (λ k. one (is_some (slice_get (r ∷ rs) k))) ≡ 1 + sum n (λ k. one (is_some (slice_get rs k))) =
+    let h : sum (suc n) (λ k. one (is_some (slice_get (r ∷ rs) k))) ≡ 1
+    + sum n (λ k. one (is_some (slice_get rs k))) =
     sum_head n (λ k. one (is_some (slice_get (r ∷ rs) k))) in
     let k : sum n (λ k. one (is_some (slice_get rs k))) ≡ length rs = reads_are n rs (omega arith) in
     omega (arith, h, k)

@@ -57,7 +57,8 @@ reached_state blocks s t n (stepped.Trap c) r = ap (λ (p : State × Stepped). p
 -- one grid that has its rule, where `sizes` tells how many tasks the block has that commits next
 module _ {W : Type 0} (blocks : List Block) (good : AllGood blocks) (budget : ℕ) (h : Grid W)
     (ok : WindowOk blocks budget h.window) (rule : GridRule h) (made : GenerationsCounted h)
-    (far : (t : ℕ) → 16 ≤ t → h.units t ≡ 0) (on : GoesOn budget h) (few : h.counts.cycles < 2 ^ 64 - 1) (sizes : ℕ → ℕ)
+    (far : (t : ℕ) → 16 ≤ t → h.units t ≡ 0) (on : GoesOn budget h) (few : h.counts.cycles < 2 ^ 64 - 1)
+    (sizes : ℕ → ℕ)
     (next_size : sizes (length h.window.state.trace) ≡ size_in (slice_get blocks h.window.state.next)) where
   parts : (ends blocks budget h).window.over ≡ stepped.Went
       → CycleRule blocks budget (fetches blocks budget (ends blocks budget h))
@@ -132,7 +133,8 @@ module _ {W : Type 0} (blocks : List Block) (good : AllGood blocks) (budget : �
     made = cycles_count blocks budget next follows n g h (begun_counted s predictor weather) a
 
     ran : TakesSteps blocks s h.window
-    ran = takes_steps blocks good budget g.window h.window opens refl (cycles_steps blocks budget next follows n g h a)
+    ran = takes_steps blocks good budget g.window h.window opens refl
+        (cycles_steps blocks budget next follows n g h a)
 
     -- how many tasks the next block has
     next_size : sizes (length h.window.state.trace) ≡ size_in (slice_get blocks h.window.state.next)
@@ -164,7 +166,8 @@ module _ {W : Type 0} (blocks : List Block) (good : AllGood blocks) (budget : �
   all_stand zero h a on few = a
   all_stand (suc n) h a on few =
       let m : GoesOn budget a.between = on_before n a.between h a.before a.after on in
-      let c : (a.between).counts.cycles ≤ h.counts.cycles = cycles_before blocks budget next follows a.between h a.after in
+      let c : (a.between).counts.cycles ≤ h.counts.cycles =
+      cycles_before blocks budget next follows a.between h a.after in
       let k : (a.between).counts.cycles < 2 ^ 64 - 1 = omega (arith, c, few) in
       record {
         between = a.between;

@@ -1,6 +1,7 @@
 -- Part (4), stores: a store of the oldest frame is resolved, or finds a load of its own frame wrong and flushes it.
 use Rattle.std.proofs.Common.{◌≡◌, ◌≢◌, ℕ, suc, ◌+◌, ◌*◌, ◌-◌, ◌<◌, ◌≤◌, ◌==◌, ◌&&◌, ◌||◌, ◌⊎◌, inl, inr, Bool}
-use Rattle.std.proofs.Common.{true, false, cond, not, nat_lt, List, [], ◌∷◌, length, drop, Option, Some, None, is_some}
+use Rattle.std.proofs.Common.{true, false, cond, not, nat_lt, List, [], ◌∷◌, length, drop}
+use Rattle.std.proofs.Common.{Option, Some, None, is_some}
 use Rattle.std.proofs.Common.{slice_index, set, refl, sym, ap, ap₂, ◌∙◌, subst, arith, true≢false}
 use Rattle.std.proofs.Math.Path.{fun_ext}
 use Rattle.std.proofs.lemmas.Bool.{cond-true, cond-false, and_right, both_ways, cases_eq, ne_eqb, eq-eqb}
@@ -40,7 +41,8 @@ use Rattle.grid_cycle_spec.specs.Grid.{Grid}
 use Rattle.grid_cycle_spec.specs.Acting.{act, flushed, gone, is_done, settled}
 use Rattle.grid_cycle_spec.specs.Arrivals.{is_waiting}
 use Rattle.grid_cycle_spec.specs.Choosing.{found_in, least}
-use Rattle.grid_cycle_spec.specs.DataTiles.{tile_by, unasked, stored_by, wrong_behind, wrong_from, wrong_in, wrong_load}
+use Rattle.grid_cycle_spec.specs.DataTiles.{tile_by, unasked, stored_by, wrong_behind, wrong_from, wrong_in}
+use Rattle.grid_cycle_spec.specs.DataTiles.{wrong_load}
 use Rattle.grid_cycle_spec.specs.DataTiles.{by_block, waits_now}
 use Rattle.grid_cycle_spec.specs.DataTiles as tiles
 use Rattle.grid_bound.specs.Course.{Course, Task}
@@ -227,7 +229,8 @@ module _ {W : Type 0} (blocks : List Block) (good : AllGood blocks) (budget : �
 
       -- what else the store does is of younger frames
       pub stays : Behind V base H
-      stays = waiting_now blocks budget V base (by_block h.window.frames (wrong_load blocks budget e.number k h.window))
+      stays = waiting_now blocks budget V base
+          (by_block h.window.frames (wrong_load blocks budget e.number k h.window))
           (act blocks budget (window.Store e.number k) A) (record {
             younger = only_younger.younger;
             frames = only_younger.frames;
@@ -333,8 +336,10 @@ module _ {W : Type 0} (blocks : List Block) (good : AllGood blocks) (budget : �
               ∙ ap (λ n. is_some (at V.stores n)) z ∙ some_is (at V.stores k) came
 
           elsewhere : (q ≡ spot → ⊥) → (b d : Bool) → nat_lt q 416 ≡ b
-              → cond b (is_some (at e.spots q)) (cond d (is_some (at V.stores (q - 416))) (q == 448 && is_some e.exit))
-              ≡ cond b (is_some (at e.spots q)) (cond d (is_some (at e.stores (q - 416))) (q == 448 && is_some e.exit))
+              → cond b (is_some (at e.spots q))
+              (cond d (is_some (at V.stores (q - 416))) (q == 448 && is_some e.exit))
+              ≡ cond b (is_some (at e.spots q))
+              (cond d (is_some (at e.stores (q - 416))) (q == 448 && is_some e.exit))
           elsewhere n true d z = refl
           elsewhere n false false z = refl
           elsewhere n false true z = ap is_some (other_at e.stores k (q - 416) value

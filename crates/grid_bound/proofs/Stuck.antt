@@ -103,7 +103,8 @@ module _ (u : ℕ → ℕ) (f : Front) (rank : ℕ → ℕ) (top : ℕ) (good : 
   -- by the rank
   ranked : (r : ℕ) → Below r
   ranked zero y l m k = absurd (omega arith)
-  ranked (suc r) y l m k = node_active y l m (λ z i j n. ranked r z i j (omega (arith, n, k))) (f.at y) refl (fine y l)
+  ranked (suc r) y l m k = node_active y l m (λ z i j n. ranked r z i j (omega (arith, n, k))) (f.at y) refl
+      (fine y l)
 
   pub never_stuck : complete f ≡ false → Active f
   never_stuck e = missing_active top f.course.outputs (ranked top) good.ends e

@@ -1,6 +1,7 @@
 -- Part (6) of a cycle: the mesh ticks, and what has come is delivered, so that nothing has come any more.
 use Rattle.std.specs.List.{list_any}
-use Rattle.std.proofs.Common.{◌≡◌, ◌≢◌, ℕ, zero, suc, ◌/◌, ◌<◌, ◌≤◌, ◌==◌, ◌&&◌, ◌||◌, Bool, true, false, cond, nat_lt}
+use Rattle.std.proofs.Common.{◌≡◌, ◌≢◌, ℕ, zero, suc, ◌/◌, ◌<◌, ◌≤◌, ◌==◌, ◌&&◌, ◌||◌, Bool}
+use Rattle.std.proofs.Common.{true, false, cond, nat_lt}
 use Rattle.std.proofs.Common.{◌⊎◌}
 use Rattle.std.proofs.Common.{inl, inr, List, [], ◌∷◌, length, Option, Some, None, get_or, refl, sym, ap}
 use Rattle.std.proofs.Common.{◌∙◌, subst, true≢false, arith}
@@ -44,7 +45,8 @@ here_ticked free h (Held t zero) = refl
 here_ticked free h (Held t (suc k)) = refl
 here_ticked free h (Away t a) = go (a == t.to) free (next_of a t.to == t.to)
   where
-    go : (x y z : Bool) → is_here (cond x (Held t h) (cond y (cond z (Held t h) (Away t (next_of a t.to))) (Away t a)))
+    go : (x y z : Bool) → is_here
+        (cond x (Held t h) (cond y (cond z (Held t h) (Away t (next_of a t.to))) (Away t a)))
         ≡ true
     go true y z = refl
     go false true true = refl
@@ -114,7 +116,8 @@ module _ {W : Type 0} (next : W → ℕ) (follows : W → W → Type 0) (bound :
             held = λ k. subst (HeldFrom 0) (sym x.stands) (held_ticked _ _ (bound _) (before (get_or order a 0) p) k);
           }
 
-module _ {W : Type 0} (blocks : List Block) (budget : ℕ) (g : Grid W) (go : Going blocks budget 1 g) (parcels : Places)
+module _ {W : Type 0} (blocks : List Block) (budget : ℕ) (g : Grid W) (go : Going blocks budget 1 g)
+    (parcels : Places)
     (weather : W) (after : (n p : ℕ) → p < 320 → After (g.parcels n p) (parcels n p)) where
   ticked_tied : (f : Frame) → (f.sealed ≡ false → Tied (g.parcels f.number) (g.asked f.number) (g.works f.number) f)
       → f.sealed ≡ false → Tied (parcels f.number) (g.asked f.number) (g.works f.number) f
@@ -124,7 +127,8 @@ module _ {W : Type 0} (blocks : List Block) (budget : ℕ) (g : Grid W) (go : Go
     working = t.working;
   }
 
-  ticked_nothing : (n : ℕ) → Nothing (g.parcels n) (g.asked n) (g.works n) → Nothing (parcels n) (g.asked n) (g.works n)
+  ticked_nothing : (n : ℕ) → Nothing (g.parcels n) (g.asked n) (g.works n)
+      → Nothing (parcels n) (g.asked n) (g.works n)
   ticked_nothing n h = record {
     none_travels = λ p l. not_here (parcels n p) ((after n p l).here ∙ ap is_here (h.none_travels p l));
     none_stands = h.none_stands;
@@ -240,7 +244,8 @@ module _ {W : Type 0} (blocks : List Block) (budget : ℕ) where
 
   each_fewer : (n k : ℕ) (g : Grid W) → Fewer g (each (arrival blocks budget n) k g)
   each_fewer n zero g = same_parcels g g refl
-  each_fewer n (suc k) g = fewer_chain g (each (arrival blocks budget n) k g) (each (arrival blocks budget n) (suc k) g)
+  each_fewer n (suc k) g = fewer_chain g (each (arrival blocks budget n) k g)
+      (each (arrival blocks budget n) (suc k) g)
       (each_fewer n k g) (arrival_fewer n k (each (arrival blocks budget n) k g))
 
   arrivals_fewer : (ns : List ℕ) (g : Grid W) → Fewer g (arrivals blocks budget ns g)
@@ -250,7 +255,8 @@ module _ {W : Type 0} (blocks : List Block) (budget : ℕ) where
       fewer_chain g m (arrivals blocks budget ns m) (each_fewer n places g) (arrivals_fewer ns m)
 
   -- after its arrival nothing stands in a place that has come
-  clears : (n p : ℕ) (g : Grid W) → HeldFrom 0 (g.parcels n p) → HeldFrom 1 ((arrival blocks budget n p g).parcels n p)
+  clears : (n p : ℕ) (g : Grid W) → HeldFrom 0 (g.parcels n p)
+      → HeldFrom 1 ((arrival blocks budget n p g).parcels n p)
   clears n p g k = go (g.parcels n p) refl k
     where
       go : (s : Stand) → g.parcels n p ≡ s → HeldFrom 0 s

@@ -8,7 +8,8 @@ pub oldest_ticks : {W : Type 0} (next : W → ℕ) (follows : W → W → Type 0
     → (n k : ℕ) (ns : List ℕ) (before after : Places) (v w : W)
     → Ticked next follows (n ∷ ns) before after v w (suc k) → RowMoves (before n) (after n)
 oldest_ticks next follows bound n k ns before after v w t =
-    let r : RowTicked next follows (frames_want 0 before (n ∷ ns)) (before n) (after n) (t.states 0) (t.states (0 + 1)) =
+    let r : RowTicked next follows (frames_want 0 before (n ∷ ns)) (before n) (after n) (t.states 0)
+    (t.states (0 + 1)) =
     t.frames 0 (omega arith) in
     record {
       hold = λ p. next (r.states p);

@@ -364,7 +364,8 @@ module _ (asked asked' : ℕ → Bool) (f : Frame) (n r : ℕ) (waits : at f.req
 
 -- a branch has come to the control tile: for other slots nothing changes
 pub exit_other : (asked : ℕ → Bool) (f g : Frame) (r : ℕ) → f.leaving ≡ Some r → g.leaving ≡ None
-    → g.requests ≡ f.requests → (i : Inst) (s : ℕ) → s ≢ r → (k : Form) → to_come asked g k i s ≡ to_come asked f k i s
+    → g.requests ≡ f.requests → (i : Inst) (s : ℕ) → s ≢ r → (k : Form)
+    → to_come asked g k i s ≡ to_come asked f k i s
 exit_other asked f g r leaves left requests i s d General = refl
 exit_other asked f g r leaves left requests i s d Immediate = refl
 exit_other asked f g r leaves left requests i s d Constant = refl

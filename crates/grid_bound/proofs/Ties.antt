@@ -123,7 +123,8 @@ module _ (least : ℕ) (n : ℕ) (fs : List Frame) (a : FrameAt n fs) (g : Frame
         let d : m ≢ n = (λ z. true≢false (sym (ap₂ (λ x y. (x && not y) || runs_in m a.younger)
         (ap (λ k. k == m) (number ∙ sym z) ∙ same m) runs) ∙ parts.1)) in
         let was : runs_in m fs ≡ false = runs_step n m fs a g number d e in
-        nothing_alike (parcels m) (parcels' m) (asked m) (asked' m) (works m) (works' m) (others m d) (t.nothing m was);
+        nothing_alike (parcels m) (parcels' m) (asked m) (asked' m) (works m) (works' m) (others m d)
+        (t.nothing m was);
     busy = busy;
     mesh = λ m p l. go m p l (equal_or m n);
   }

@@ -234,23 +234,24 @@ module _ (n : ℕ) (u : ℕ → ℕ) (fits : (t : ℕ) → u t ≤ 24) where
     where
       go : RunsOn (answer_one a.request f) t ⊎ ((f.careful ≡ false) × (t ≡ Fetching None true))
           → StageRule n u t × (stage_left n u t + 1 ≤ stage_left n u (Running f))
-      go (inl e) = subst (λ t. StageRule n u t × (stage_left n u t + 1 ≤ stage_left n u (Running f))) (sym e.is_stage) (
-        record {
-          size = retold_tasks (answer_one a.request f) e.front e.retold ∙ r.size;
-          good = e.retold.good;
-          placed = retold_placed (answer_one a.request f) e.front e.retold
-              (answered_placed f a.request a.stands r.placed);
-          fine = retold_fine (answer_one a.request f) e.front e.retold u
-              (answered_fine f a.request a.stands r.good.by.good u r.fine);
-        },
-        (let k : work u (answer_one a.request f) + 1 ≤ work u f =
-            answered_drop f a.request a.stands r.good.by.good u fits a.inside in
-            let w : work u e.front ≡ work u (answer_one a.request f) =
-            retold_work (answer_one a.request f) e.front e.retold u in
-            let v : reserve e.front.careful (tasks e.front.course) ≡ reserve f.careful (tasks f.course) =
-            ap₂ reserve e.retold.careful (retold_tasks (answer_one a.request f) e.front e.retold) in
-            omega (arith, k, w, v)),
-      )
+      go (inl e) = subst (λ t. StageRule n u t × (stage_left n u t + 1 ≤ stage_left n u (Running f)))
+          (sym e.is_stage) (
+            record {
+              size = retold_tasks (answer_one a.request f) e.front e.retold ∙ r.size;
+              good = e.retold.good;
+              placed = retold_placed (answer_one a.request f) e.front e.retold
+                  (answered_placed f a.request a.stands r.placed);
+              fine = retold_fine (answer_one a.request f) e.front e.retold u
+                  (answered_fine f a.request a.stands r.good.by.good u r.fine);
+            },
+            (let k : work u (answer_one a.request f) + 1 ≤ work u f =
+                answered_drop f a.request a.stands r.good.by.good u fits a.inside in
+                let w : work u e.front ≡ work u (answer_one a.request f) =
+                retold_work (answer_one a.request f) e.front e.retold u in
+                let v : reserve e.front.careful (tasks e.front.course) ≡ reserve f.careful (tasks f.course) =
+                ap₂ reserve e.retold.careful (retold_tasks (answer_one a.request f) e.front e.retold) in
+                omega (arith, k, w, v)),
+          )
       go (inr e) = subst (λ t. StageRule n u t × (stage_left n u t + 1 ≤ stage_left n u (Running f))) (sym e.1)
           (tt, flush_falls f r.size e.0)
 

@@ -1,5 +1,7 @@
--- A cycle in which a grid comes first at each station serves its oldest frame, or its next block waits for the fetch unit.
-use Rattle.std.proofs.Common.{◌≡◌, ◌≢◌, ℕ, zero, suc, ◌-◌, ◌^◌, ◌<◌, ◌≤◌, ◌==◌, ◌⊎◌, inl, inr, Bool, true, false, List, [], ◌∷◌}
+-- A cycle in which a grid comes first at each station serves its oldest frame,
+-- or its next block waits for the fetch unit.
+use Rattle.std.proofs.Common.{◌≡◌, ◌≢◌, ℕ, zero, suc, ◌-◌, ◌^◌, ◌<◌, ◌≤◌, ◌==◌, ◌⊎◌, inl, inr, Bool, true, false}
+use Rattle.std.proofs.Common.{List, [], ◌∷◌}
 use Rattle.std.proofs.Common.{length, Option, Some, None, slice_get, slice_index, refl, sym, ap, ◌∙◌, subst}
 use Rattle.std.proofs.lemmas.Bool.{cond_both}
 use Rattle.trips_isa.specs.declared.block.Block.{Block}
@@ -246,11 +248,13 @@ module _ {W : Type 0} (blocks : List Block) (good : AllGood blocks) (budget held
     goes : complete f ≡ false → Served sizes (lane_in g) (lane_in h)
     goes e =
         let on : Onward blocks budget g.window E.window =
-        subst (λ (q : Grid W). Onward blocks budget g.window q.window) (sym (ends_seal blocks budget g f fs i ok went e))
+        subst (λ (q : Grid W). Onward blocks budget g.window q.window)
+        (sym (ends_seal blocks budget g f fs i ok went e))
         (seals_onward blocks good budget (numbers_of g.window.frames) g) in
         let x : Behind f g E = ends_open blocks budget g f fs i ok went e in
         let y : Behind f E (H on) = behind on f x.younger x.frames in
-        let same : Running (front_of (course_of f.code (told (committed (H on).window.state) f)) (H on) f) ≡ stage_in g =
+        let same : Running (front_of (course_of f.code (told (committed (H on).window.state) f)) (H on) f)
+        ≡ stage_in g =
         ap (λ (q : State). Running (front_of (course_of f.code (told (committed q) f)) (H on) f)) (state_h on)
         ∙ ap Running (front_behind (course_of f.code (told (committed g.window.state) f)) f E (H on) y
         ∙ front_behind (course_of f.code (told (committed g.window.state) f)) f g E x)
@@ -275,7 +279,8 @@ module _ {W : Type 0} (blocks : List Block) (good : AllGood blocks) (budget held
     still = idle_ends blocks budget g i
 
     pub idle : Onward blocks budget g.window E.window
-    idle = subst (λ (q : Grid W). Onward blocks budget g.window q.window) (sym still) ((steady blocks budget good).same g)
+    idle = subst (λ (q : Grid W). Onward blocks budget g.window q.window) (sym still)
+        ((steady blocks budget good).same g)
 
     abbrev C : Grid W → Type 0
     C q = Comes blocks budget g i ok went (due i).1 b is_code t q (fetch_of g g.fetching)

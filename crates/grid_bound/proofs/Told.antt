@@ -1,5 +1,6 @@
--- The table of what a frame sees: the committed state and the frame's own stores answer its reads and loads. It hangs on
--- the block and the stores alone, and where a store has come the front is retold by the table of what is seen then.
+-- The table of what a frame sees: the committed state and the frame's own stores answer its reads and loads. It hangs
+-- on the block and the stores alone, and where a store has come the front is retold by the table of what is seen
+-- then.
 use Rattle.std.proofs.Common.{◌≡◌, ℕ, ◌+◌, ◌-◌, ◌<◌, ◌≤◌, ◌⊎◌, inl, inr, Bool, true, false, cond, not, nat_lt, List}
 use Rattle.std.proofs.Common.{Option, Some, None, slice_get, refl, sym, ap, ap₂, ◌∙◌, subst, arith}
 use Rattle.std.proofs.Math.Path.{fun_ext}

@@ -1,6 +1,7 @@
 -- What travels in the places of a frame, and what of it a change leaves alone.
 use Rattle.std.proofs.Common.{◌≡◌, ◌≢◌, ℕ, suc, ◌*◌, ◌/◌, ◌%◌, ◌<◌, ◌==◌, Bool, true, false, cond, not, ◌||◌, ◌&&◌}
-use Rattle.std.proofs.Common.{◌⊎◌, inl, inr, List, Option, Some, None, is_some, get_or, nat_lt, refl, sym, ap, ap₂, ◌∙◌}
+use Rattle.std.proofs.Common.{◌⊎◌, inl, inr, List, Option, Some, None, is_some, get_or, nat_lt, refl}
+use Rattle.std.proofs.Common.{sym, ap, ap₂, ◌∙◌}
 use Rattle.std.proofs.Common.{subst, true≢false, arith}
 use Rattle.std.proofs.lemmas.Bool.Decides.{nat_tests}
 use Rattle.trips_isa.specs.declared.block.Inst.{Inst}

@@ -114,7 +114,8 @@ module _ {W : Type 0} (blocks : List Block) (good : AllGood blocks) (budget leas
       let d : can blocks budget (Fire a.frame.number q.1) g.window ≡ Done =
       done_is (can blocks budget (Fire a.frame.number q.1) g.window) p.1 in
       subst (Going blocks budget least)
-      (sym (with_at q.0 (λ f h. issued blocks budget tile q.0 q.1 (takes (slot_of f.code q.1)) h) g.window.frames a g))
+      (sym (with_at q.0 (λ f h. issued blocks budget tile q.0 q.1 (takes (slot_of f.code q.1)) h) g.window.frames a
+      g))
       (subst (λ n. Going blocks budget least (issued blocks budget tile n q.1 (takes (slot_of a.frame.code q.1)) g))
       a.number (fire_going blocks good budget least g go tile free q.0 q.1 a (equal (tile_of q.1) tile p.0) d))
 

@@ -227,7 +227,8 @@ module _ {W : Type 0} (blocks : List Block) (good : AllGood blocks) (budget leas
     second_none : is_here (g.parcels m (suc (2 * s))) ≡ false
     second_none = was_none (suc (2 * s)) (omega (arith, small))
         (second_travels (g.asked m) (g.works m) f s r.inst small r.is_inst
-        ∙ ap (λ b. not b && form_travels (form_of r.inst.op) false (to_come (g.asked m) f (form_of r.inst.op) r.inst s)
+        ∙ ap (λ b. not b && form_travels (form_of r.inst.op) false
+        (to_come (g.asked m) f (form_of r.inst.op) r.inst s)
         (is_some (at f.places (suc (2 * s))))) had)
 
     -- the grid after its parcels have entered
@@ -301,7 +302,8 @@ module _ {W : Type 0} (blocks : List Block) (good : AllGood blocks) (budget leas
     -- the request of a load waits, so that the load has no token
     load_token : (p : ℕ) → IsPlace (2 * s) p → form_of r.inst.op ≡ Load → to_come (g.asked m) f Load r.inst s ≡ true
         → is_some (at f.places p) ≡ false
-    load_token p w e c = none_is (at f.places p) (waiting_none blocks o f ok s p r.inst.number r.inst small w r.is_inst
+    load_token p w e c =
+        none_is (at f.places p) (waiting_none blocks o f ok s p r.inst.number r.inst small w r.is_inst
         (ap is_load e) (waits_for (at f.requests r.inst.number) s (both_true _ _ c).0))
 
     result_form : (t : Form) → form_of r.inst.op ≡ t → Gives (g.asked m) f t r.inst s

@@ -124,7 +124,8 @@ module _ {W : Type 0} (blocks : List Block) (good : AllGood blocks) (budget : �
 
     v : AfterIssue blocks good budget M e u.behind u.frames (onward.ok ok) (onward.over ∙ went) s.runs rule.unresolved
         rule.numbered a t solves' below' k (issues blocks budget k M)
-    v = after_issue blocks good budget M e u.behind u.frames (onward.ok ok) (onward.over ∙ went) s.runs rule.unresolved
+    v = after_issue blocks good budget M e u.behind u.frames (onward.ok ok)
+        (onward.over ∙ went) s.runs rule.unresolved
         rule.numbered a t solves' below' k
 
     abbrev picks : ℕ → Bool
@@ -186,7 +187,8 @@ module _ {W : Type 0} (blocks : List Block) (good : AllGood blocks) (budget : �
         (any_same x _ (λ y. ready G y && lane_tile F y == k) ready_same))
         ∙ shuffle (ready G x) (lane_tile F x == k) (any x (λ y. ready G y && lane_tile F y == k))
         (less_one g.units k) (eq-eqb (lane_tile F x) k z)
-        ∙ ap (λ n. ready G x && (not (nat_lt 0 (less_one g.units n)) && not (any x (λ y. ready G y && lane_tile F y == n))))
+        ∙ ap (λ n. ready G x
+        && (not (nat_lt 0 (less_one g.units n)) && not (any x (λ y. ready G y && lane_tile F y == n))))
         (sym z)
       where
         shuffle : (r q d : Bool) (n : ℕ) → q ≡ true
@@ -220,7 +222,8 @@ module _ {W : Type 0} (blocks : List Block) (good : AllGood blocks) (budget : �
         by (inr l) (inr n) =
             cond-false _ _ _ (picks_none x n) ∙ given_else x n ∙ before x
             ∙ cond-false (nat_lt (lane_tile F x) k) _ _ (le-ltb (lane_tile F x) k l)
-            ∙ sym (cond-false (nat_lt (lane_tile F x) (suc k)) _ _ (le-ltb (lane_tile F x) (suc k) (omega (arith, l, n))))
+            ∙ sym (cond-false (nat_lt (lane_tile F x) (suc k)) _ _
+            (le-ltb (lane_tile F x) (suc k) (omega (arith, l, n))))
 
     other_units : (n : ℕ) → (n == k) ≡ false → H.units n ≡ h.units n
     other_units n z = v.other_units n z ∙ units_on k (h.units k) h refl n ∙ cond-false (n == k) _ _ z

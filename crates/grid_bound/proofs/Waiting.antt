@@ -41,7 +41,8 @@ left_there e s i z n l =
     sym (ap (λ m. is_some (node_gives m (computes e.code (λ y z. 0) (slot_node e.code s)) (at e.spots))) here)
     ∙ some_is _ n in
     let k = if_parts (matched i.sense (at e.spots (256 + s))) _ some in
-    some_there (at e.spots s) (gives_left (role_of i.op) (computes e.code (λ y z. 0) (slot_node e.code s)) (at e.spots s)
+    some_there (at e.spots s)
+    (gives_left (role_of i.op) (computes e.code (λ y z. 0) (slot_node e.code s)) (at e.spots s)
     (at e.spots (128 + s)) k.1 l)
 
 pub address_came : (blocks : List Block) (o : Older) (e : Frame) → FrameOk blocks o e

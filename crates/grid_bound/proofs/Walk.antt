@@ -266,7 +266,8 @@ module _ {W : Type 0} (blocks : List Block) (budget : ℕ) (R : Grid W → Grid 
       (is_waiting (at f.requests i.number) (p / 2))
       (asks_keeps f.number i.number g) (delivers_keeps f.number p g)
 
-  form_keeps : (kind : Form) (i : Inst) (p : ℕ) (f : Frame) (g : Grid W) → R g (slot_arrives blocks budget kind i p f g)
+  form_keeps : (kind : Form) (i : Inst) (p : ℕ) (f : Frame) (g : Grid W)
+      → R g (slot_arrives blocks budget kind i p f g)
   form_keeps form.Load i p f g = loads_keep i p f g
   form_keeps form.Store i p f g = asks_keeps f.number i.number g
   form_keeps form.Branch i p f g = k.flushing (window.Exit f.number) tt g

@@ -1,5 +1,6 @@
 -- A frame's work, tile by tile.
-use Rattle.std.proofs.Common.{◌≡◌, ℕ, ◌+◌, ◌*◌, ◌<◌, ◌≤◌, Bool, true, false, cond, ◌==◌, ◌&&◌, refl, sym, subst, arith}
+use Rattle.std.proofs.Common.{◌≡◌, ℕ, ◌+◌, ◌*◌, ◌<◌, ◌≤◌, Bool, true, false, cond, ◌==◌, ◌&&◌}
+use Rattle.std.proofs.Common.{refl, sym, subst, arith}
 use Rattle.std.proofs.lemmas.Bool.{and_parts, and_from, eqb-true, eq-eqb, both_ways}
 use Rattle.grid_bound.specs.Course.{Course, sum}
 use Rattle.grid_bound.specs.Lane.{any, Phase, Front, unissued, ready}
@@ -28,8 +29,10 @@ one_le false x y h = omega arith
 abbrev pub Low : Course → (ℕ → ℕ) → (ℕ → ℕ) → (ℕ → Phase) → (ℕ → Phase) → ℕ → Type 0
 Low c u u2 at at2 t = (x : ℕ) → x < c.room → (c.task x).tile ≡ t → task_left (u2 t) (at2 x) ≤ task_left (u t) (at x)
 
-pub on_le : (c : Course) (u u2 : ℕ → ℕ) (at at2 : ℕ → Phase) (t : ℕ) → Low c u u2 at at2 t → on c u2 at2 t ≤ on c u at t
-on_le c u u2 at at2 t low = sum_le c.room _ _ (λ x l. one_le ((c.task x).tile == t) _ _ (λ e. low x l (eqb-true _ _ e)))
+pub on_le : (c : Course) (u u2 : ℕ → ℕ) (at at2 : ℕ → Phase) (t : ℕ) → Low c u u2 at at2 t
+    → on c u2 at2 t ≤ on c u at t
+on_le c u u2 at at2 t low =
+    sum_le c.room _ _ (λ x l. one_le ((c.task x).tile == t) _ _ (λ e. low x l (eqb-true _ _ e)))
 
 pub on_drop : (c : Course) (u u2 : ℕ → ℕ) (at at2 : ℕ → Phase) (t d x : ℕ) → Low c u u2 at at2 t → x < c.room
     → (c.task x).tile ≡ t → task_left (u2 t) (at2 x) + d ≤ task_left (u t) (at x) → on c u2 at2 t + d ≤ on c u at t

@@ -50,7 +50,8 @@ module _ {W : Type 0} (blocks : List Block) (good : AllGood blocks) (budget : 鈩
     stores = refl;
     runs = runs;
     front = sym (same_front (unit_front blocks good budget a t f g solves below 0) F refl refl
-        (fun_ext (位 x. cond-false (nat_lt (lane_tile F x) 0) _ _ (le-ltb (lane_tile F x) 0 (omega arith)))) refl refl);
+        (fun_ext (位 x. cond-false (nat_lt (lane_tile F x) 0) _ _ (le-ltb (lane_tile F x) 0 (omega arith)))) refl
+        refl);
     later = 位 n l. refl;
     turned = 位 n l. absurd (omega (arith, l));
   }

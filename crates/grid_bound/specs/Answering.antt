@@ -43,7 +43,8 @@ spot_of None = None
 spot_of (Some t) = Some t.spot
 
 -- the same frame by another course: what an open load will be answered, and so what is done, hangs on the stores that
--- have been resolved. What the block itself has is the same, and so is what is ready, since tokens that have come stay
+-- have been resolved. What the block itself has is the same, and so is what is ready,
+-- since tokens that have come stay
 pub record Retold (f h : Front) : Type 0 where
   -- there are as many tasks, each in the same phase, and the same spots have their token
   pub room : h.course.room ≡ f.course.room

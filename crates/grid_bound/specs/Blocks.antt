@@ -1,6 +1,6 @@
--- The course of a block by a table of what its nodes give. Task s, below 128, is what slot s holds, and task 128 + r is
--- read r, so that the tokens of task x travel in the places 2 x and 2 x + 1. The spots are the places of the block, its
--- store numbers and its exit among them.
+-- The course of a block by a table of what its nodes give. Task s, below 128, is what slot s holds, and task 128 + r
+-- is read r, so that the tokens of task x travel in the places 2 x and 2 x + 1. The spots are the places of the
+-- block, its store numbers and its exit among them.
 use Rattle.std.specs.Prelude.{ℕ, zero, suc, ◌+◌, ◌-◌, Bool, true, false, cond, nat_lt, List, [], ◌∷◌, ◌++◌}
 use Rattle.std.specs.Prelude.{length, Option, Some, None, is_some, slice_get}
 use Rattle.trips_isa.specs.declared.block.Inst.{Inst}

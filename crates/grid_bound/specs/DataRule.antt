@@ -9,8 +9,8 @@ use Rattle.commit_flush_spec.specs.Observers.{has_number}
 use Rattle.commit_flush_spec.specs.Work.{none_guessed}
 use Rattle.grid_cycle_spec.specs.Grid.{Grid}
 
--- a request that stands with a number is of a slot that waits with it, whose result is in no unit, and in whose places
--- no parcel stands
+-- a request that stands with a number is of a slot that waits with it, whose result is in no unit, and in whose
+-- places no parcel stands
 pub record StandsFor {W : Type 0} (h : Grid W) (e : Frame) (n : ℕ) : Type 0 where
   -- the slot of the load or the store that waits with the number
   pub slot : ℕ

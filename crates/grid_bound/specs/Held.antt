@@ -6,8 +6,8 @@ use Rattle.grid_bound.specs.Left.{left}
 use Rattle.grid_bound.specs.Laws.{LaneRule}
 use Rattle.grid_bound.specs.Serving.{Served}
 
--- nothing is in flight and nothing is fetched, before the cycle and behind it, since another has the fetch unit: for k
--- more cycles before it, and for fewer behind it
+-- nothing is in flight and nothing is fetched, before the cycle and behind it, since another has the fetch unit: for
+-- k more cycles before it, and for fewer behind it
 pub record Waits (k j : ℕ) (l m : Lane) : Type 0 where
   -- whether the block stands as a flushed one
   pub careful : Bool

@@ -53,7 +53,8 @@ work u f = 1 + sum 16 (tile_left u f)
 abbrev pub most : ℕ → ℕ
 most n = 1 + 87 * n
 
--- what is kept for a flush of the frame by a store of its own, which makes a careful frame: a fetch anew, and its work
+-- what is kept for a flush of the frame by a store of its own, which makes a careful frame: a fetch anew,
+-- and its work
 abbrev pub reserve : Bool → ℕ → ℕ
 reserve true n = 0
 reserve false n = 256 + 128 * n

@@ -19,8 +19,8 @@ pub record IsToken (f : Frame) (p : ℕ) : Type 0 where
   pub there : at f.places p ≢ None
   pub goes : is_target (target f.code p) ≡ true
 
--- what a parcel in a place of an instruction is: the request of a load or a store that waits, a branch that leaves, in
--- the first of the two places, or a token
+-- what a parcel in a place of an instruction is: the request of a load or a store that waits, a branch that leaves,
+-- in the first of the two places, or a token
 abbrev pub Travels : Frame → Form → Inst → ℕ → Type 0
 Travels f Load i p = is_waiting (at f.requests i.number) (p / 2) ≡ false → IsToken f p
 Travels f Store i p = is_waiting (at f.requests i.number) (p / 2) ≡ true

@@ -62,7 +62,8 @@ delivers _ _ t s = false
 
 -- a task's places are twice its number and the next one; `hold` tells what each place's parcel is held if it comes
 abbrev pub move_at : (ℕ → ℕ) → Front → ℕ → Phase
-move_at hold f x = moved (free_at f (2 * x) (first_parcel (f.at x))) (free_at f (suc (2 * x)) (second_parcel (f.at x)))
+move_at hold f x = moved (free_at f (2 * x) (first_parcel (f.at x)))
+    (free_at f (suc (2 * x)) (second_parcel (f.at x)))
     (hold (2 * x)) (hold (suc (2 * x))) (f.at x)
 
 -- the oldest frame after the tick, with the spots that have their token now

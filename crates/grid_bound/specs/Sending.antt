@@ -1,5 +1,5 @@
--- Parts (2) and (3) of a cycle as the oldest frame sees it: which task a station takes, what enters the mesh, the fetch
--- of its block, and its reads.
+-- Parts (2) and (3) of a cycle as the oldest frame sees it: which task a station takes, what enters the mesh, the
+-- fetch of its block, and its reads.
 use Rattle.std.specs.Prelude.{ℕ, zero, suc, Bool, false, cond, ◌==◌, ◌&&◌, not, Option, Some, None}
 use Rattle.operand_net.specs.declared.parcel.Stand.{Stand}
 use Rattle.operand_net.specs.declared.parcel.Stand.TheVariants.{Nowhere, Away}

@@ -1,5 +1,5 @@
--- A cycle in which one grid of several comes first at each station (docs/GRID.md, "Served first"): its oldest frame comes
--- before all others, units that it leaves free may serve others, and the fetch unit may work for another.
+-- A cycle in which one grid of several comes first at each station (docs/GRID.md, "Served first"): its oldest frame
+-- comes before all others, units that it leaves free may serve others, and the fetch unit may work for another.
 use Rattle.std.specs.Prelude.{◌≡◌, ◌≢◌, ℕ, ◌<◌, ◌≤◌, ◌⊎◌, List, [], ◌∷◌, None}
 use Rattle.trips_isa.specs.declared.block.Block.{Block}
 use Rattle.trips_isa.specs.declared.run.Stepped.TheVariants.{Went}
@@ -38,8 +38,8 @@ pub record RestFirst {W : Type 0} (blocks : List Block) (budget : ℕ) (g h : Gr
       (record (worked blocks budget g) { units = units; parcels = parcels; weather = weather }))
 
 -- part (2), where another grid has the fetch unit for k more cycles before the cycle and for j behind it: the grid's
--- fetch ends, or goes on, and the next one begins; or it begins none, and where its next block waits for the unit, the
--- other has it for fewer cycles
+-- fetch ends, or goes on, and the next one begins; or it begins none, and where its next block waits for the unit,
+-- the other has it for fewer cycles
 abbrev pub FetchesFirst : {W : Type 0} → List Block → ℕ → ℕ → ℕ → Grid W → Grid W → Type 0
 FetchesFirst blocks budget k j g h = (h ≡ fetches blocks budget g)
     ⊎ ((h ≡ fetch_ends blocks budget g.fetching g) × (g.window.frames ≡ [] → g.fetching ≡ None → j < k))

@@ -7,8 +7,8 @@ use Rattle.grid_bound.specs.Answering.{TilesAnswer}
 use Rattle.grid_bound.specs.Turning.{turning, own_units}
 use Rattle.grid_bound.specs.Moving.{moving}
 
--- the oldest frame is served in a cycle, or the fetch of the block that commits next goes on, which may fill a frame of
--- a good course; `sizes` tells how many tasks the n-th committed block has
+-- the oldest frame is served in a cycle, or the fetch of the block that commits next goes on, which may fill a frame
+-- of a good course; `sizes` tells how many tasks the n-th committed block has
 pub record Serves (sizes : ℕ → ℕ) (l m : Lane) : Type 0 where
   -- of a frame that the fetch fills in this cycle: its generation and its course, which has as many
   -- tasks as the block that commits next

@@ -29,9 +29,10 @@ ghost use Rattle.grid_bound.specs.OneCycle.{HasRule, OneCycle};
 
 use operand_net::Weather;
 
-/// A run that goes on has made at every moment fewer cycles than its trace costs and the dearest block besides; a cycle
-/// that commits is within the cost of the trace, and any cycle within that and `greatest_cost`, so that this holds where
-/// the run ends too; and no run goes on for `greatest_cost` cycles for each block of its budget. It holds in any weather.
+/// A run that goes on has made at every moment fewer cycles than its trace costs and the dearest block besides; a
+/// cycle that commits is within the cost of the trace, and any cycle within that and `greatest_cost`, so that this
+/// holds where the run ends too; and no run goes on for `greatest_cost` cycles for each block of its budget.
+/// It holds in any weather.
 pub fn cycles_cost_at_most<W: Weather>()
     ensures moment { (blocks : List Block) (budget n : ℕ) (s : State) (entries : List ℕ) (weather : W) (h : Grid W)
         → AllGood blocks → WindowOk blocks budget (opened s)
@@ -55,9 +56,9 @@ pub fn cycles_cost_at_most<W: Weather>()
         → h.counts.cycles < 2 ^ 64 - 1 → n < greatest_cost * budget }
 {}
 
-/// The cycle bound in one statement, in any weather: where a grid has its rule and its run goes on, what is left for the
-/// block that commits next is from one cycle to that block's cost, and an eager cycle commits the block, or traps, or
-/// lowers what is left, and keeps the rule. The stated start has the rule.
+/// The cycle bound in one statement, in any weather: where a grid has its rule and its run goes on, what is left for
+/// the block that commits next is from one cycle to that block's cost, and an eager cycle commits the block, or
+/// traps, or lowers what is left, and keeps the rule. The stated start has the rule.
 pub fn one_cycle_commits_or_lowers<W: Weather>()
     ensures one { (blocks : List Block) (budget : ℕ) (g h : Grid W) → AllGood blocks → HasRule blocks budget g
         → GoesOn budget g → g.counts.cycles < 2 ^ 64 - 1 → Eager W.next W.follows blocks budget g h
@@ -66,9 +67,9 @@ pub fn one_cycle_commits_or_lowers<W: Weather>()
         → WindowOk blocks budget (opened s) → HasRule blocks budget (begun_at s entries weather) }
 {}
 
-/// Where a grid has its rule, the lane of its oldest frame has the rule of lanes, by any table that solves the frame's
-/// block; without a frame in flight, whatever the next block is. `sizes` tells how many tasks the block has that
-/// commits next.
+/// Where a grid has its rule, the lane of its oldest frame has the rule of lanes, by any table that solves the
+/// frame's block; without a frame in flight, whatever the next block is. `sizes` tells how many tasks the block has
+/// that commits next.
 pub fn lanes_have_their_rule<W: Weather>()
     ensures frame { (blocks : List Block) (budget : ℕ) (sizes : ℕ → ℕ) (g : Grid W) (f : Frame) (fs : List Frame)
         (a : Responses) (t : ℕ → Answer) → AllGood blocks → WindowOk blocks budget g.window → GridRule g
@@ -79,8 +80,8 @@ pub fn lanes_have_their_rule<W: Weather>()
         → LaneRule sizes (lane_of c g) }
 {}
 
-/// What the parts of a cycle ask of the oldest frame a grid that has its rule gives: parts (3) to (6) behind part (2),
-/// and part (2) where no frame is in flight.
+/// What the parts of a cycle ask of the oldest frame a grid that has its rule gives: parts (3) to (6) behind part
+/// (2), and part (2) where no frame is in flight.
 pub fn rules_give_what_parts_ask<W: Weather>()
     ensures parts { (blocks : List Block) (budget : ℕ) (g : Grid W) → AllGood blocks → WindowOk blocks budget g.window
         → g.window.over ≡ Went → GridRule g → CycleRule blocks budget g }

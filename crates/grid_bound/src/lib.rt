@@ -13,8 +13,8 @@
 //! An eager cycle of the grid serves its oldest frame: what it does to the oldest frame, part by part, is what the
 //! lane of the cycle bound does.
 //!
-//! specs/Shows.antt has the oldest frame behind a part, specs/Behind.antt what stays of it while other frames act, and
-//! specs/ServedFirst.antt a cycle in which one grid of several comes first.
+//! specs/Shows.antt has the oldest frame behind a part, specs/Behind.antt what stays of it while other frames act,
+//! and specs/ServedFirst.antt a cycle in which one grid of several comes first.
 //!
 //! The cycle bound, as definitions and laws: what the block that commits next sees of the grid, and how many cycles
 //! it takes at most, whatever the other frames do.

@@ -37,16 +37,19 @@ pub fn parts_keep_the_rule<W: Weather>()
         → g.window.over ≡ Went → GridRule g → GridRule (answers blocks budget g) }
     ensures units { (blocks : List Block) (budget : ℕ) (g : Grid W) → AllGood blocks → WindowOk blocks budget g.window
         → g.window.over ≡ Went → GridRule g → GridRule (works_on blocks budget g) }
-    ensures mesh { (blocks : List Block) (budget : ℕ) (g h : Grid W) → AllGood blocks → WindowOk blocks budget g.window
+    ensures mesh { (blocks : List Block) (budget : ℕ) (g h : Grid W) → AllGood blocks
+        → WindowOk blocks budget g.window
         → g.window.over ≡ Went → ((w : W) → W.next w ≤ 3) → GridRule g → Moves W.next W.follows blocks budget g h
         → GridRule h }
 {}
 
 /// After each turn of parts (4) and (5) the rule stands too: of a data tile, and of a unit.
 pub fn turns_keep_the_rule<W: Weather>()
-    ensures tiles { (blocks : List Block) (budget k : ℕ) (g : Grid W) → AllGood blocks → WindowOk blocks budget g.window
+    ensures tiles { (blocks : List Block) (budget k : ℕ) (g : Grid W) → AllGood blocks
+        → WindowOk blocks budget g.window
         → g.window.over ≡ Went → GridRule g → GridRule (each (data_turn blocks budget) k g) }
-    ensures units { (blocks : List Block) (budget k : ℕ) (g : Grid W) → AllGood blocks → WindowOk blocks budget g.window
+    ensures units { (blocks : List Block) (budget k : ℕ) (g : Grid W) → AllGood blocks
+        → WindowOk blocks budget g.window
         → g.window.over ≡ Went → GridRule g → GridRule (each (unit_turn blocks budget) k g) }
 {}
 

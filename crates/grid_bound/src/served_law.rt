@@ -96,7 +96,8 @@ pub fn units_serve<W: Weather>()
         → Working (course_of f.code t) f g (works_on blocks budget g) }
 {}
 
-/// Part (6), the tick: parcels of the frame that comes first wait for no others, and none is held beyond three cycles.
+/// Part (6), the tick: parcels of the frame that comes first wait for no others,
+/// and none is held beyond three cycles.
 pub fn oldest_parcels_tick<W: Weather>()
     ensures { ((w : W) → W.next w ≤ 3) → (n k : ℕ) (ns : List ℕ) (before after : Places) (v w : W)
         → Ticked W.next W.follows (n ∷ ns) before after v w (suc k) → RowMoves (before n) (after n) }
@@ -117,7 +118,8 @@ pub fn arrivals_serve<W: Weather>()
 pub fn units_stay<W: Weather>()
     ensures ends { (blocks : List Block) (budget : ℕ) (g : Grid W) → (ends blocks budget g).units ≡ g.units }
     ensures fetches { (blocks : List Block) (budget : ℕ) (g : Grid W) → (fetches blocks budget g).units ≡ g.units }
-    ensures banks { (blocks : List Block) (budget : ℕ) (g : Grid W) → (reads_answered blocks budget g).units ≡ g.units }
+    ensures banks { (blocks : List Block) (budget : ℕ) (g : Grid W)
+        → (reads_answered blocks budget g).units ≡ g.units }
     ensures tiles { (blocks : List Block) (budget : ℕ) (g : Grid W) → (answers blocks budget g).units ≡ g.units }
     ensures arrivals { (blocks : List Block) (budget : ℕ) (ns : List ℕ) (g : Grid W)
         → (arrivals blocks budget ns g).units ≡ g.units }
@@ -159,9 +161,10 @@ pub fn eager_cycles_serve<W: Weather>()
         → Traps h ⊎ Served sizes (lane_in g) (lane_in h) }
 {}
 
-/// Served, of one grid's frames before all others: where the grid comes first at each station, whatever others do with
-/// the units and the fetch unit that it leaves, its oldest frame is served, or its next block waits for the fetch unit, or
-/// the run traps. Another has the fetch unit for `k` cycles beyond the next before the cycle, and for `j` behind it.
+/// Served, of one grid's frames before all others: where the grid comes first at each station, whatever others do
+/// with the units and the fetch unit that it leaves, its oldest frame is served, or its next block waits for the
+/// fetch unit, or the run traps. Another has the fetch unit for `k` cycles beyond the next before the cycle,
+/// and for `j` behind it.
 pub fn first_frames_are_served<W: Weather>()
     ensures { (blocks : List Block) (budget k j : ℕ) (g h : Grid W) (b : Block) (sizes : ℕ → ℕ) → AllGood blocks
         → WindowOk blocks budget g.window → g.window.over ≡ Went → length g.window.state.trace < budget
@@ -180,29 +183,32 @@ pub fn eager_cycles_come_first<W: Weather>()
         → ServedFirst blocks budget 0 0 g h }
 {}
 
-/// Where another grid has the fetch unit for at most 8 cycles, the next included, what is left is from one cycle to the
-/// price of the block, and each cycle that serves the block, or in which it waits for the fetch unit, commits it, or keeps
-/// the rule and lowers what is left.
+/// Where another grid has the fetch unit for at most 8 cycles, the next included, what is left is from one cycle to
+/// the price of the block, and each cycle that serves the block, or in which it waits for the fetch unit, commits it,
+/// or keeps the rule and lowers what is left.
 pub fn held_cycles_fall()
     ensures least { (sizes : ℕ → ℕ) (k : ℕ) (l : Lane) → 1 ≤ left_held sizes k l }
     ensures most { (sizes : ℕ → ℕ) (k : ℕ) (l : Lane) → k < fetch_latency → LaneRule sizes l
         → left_held sizes k l ≤ price (sizes l.done) }
-    ensures falls { (sizes : ℕ → ℕ) (k j : ℕ) (l m : Lane) → j < fetch_latency → LaneRule sizes l → ServedHeld sizes k j l m
+    ensures falls { (sizes : ℕ → ℕ) (k j : ℕ) (l m : Lane) → j < fetch_latency → LaneRule sizes l
+        → ServedHeld sizes k j l m
         → FallsHeld sizes k j l m }
 {}
 
-/// After n such cycles: with what is left they are within the prices of the blocks committed since, and of the next. A
-/// cycle that commits keeps them within those of the blocks committed, whatever comes behind it.
+/// After n such cycles: with what is left they are within the prices of the blocks committed since, and of the next.
+/// A cycle that commits keeps them within those of the blocks committed, whatever comes behind it.
 pub fn held_cycles_are_bounded()
-    ensures moment { (sizes : ℕ → ℕ) (n k j : ℕ) (l m : Lane) → k < fetch_latency → LaneRule sizes l → AfterHeld sizes n k l j m
+    ensures moment { (sizes : ℕ → ℕ) (n k j : ℕ) (l m : Lane) → k < fetch_latency → LaneRule sizes l
+        → AfterHeld sizes n k l j m
         → n + left_held sizes j m + total sizes l.done ≤ total sizes m.done + price (sizes m.done) }
     ensures commit { (sizes : ℕ → ℕ) (n k j : ℕ) (l m x : Lane) → k < fetch_latency → LaneRule sizes l
         → AfterHeld sizes n k l j m → x.done ≡ suc m.done → suc n + total sizes l.done ≤ total sizes x.done }
 {}
 
-/// After n cycles each of which finds what it asks: with what is left they are within the prices of the blocks committed
-/// since, and of the next. A cycle that commits keeps them within those of the blocks committed. A run whose blocks have
-/// at most `most_nodes` tasks goes on for fewer than `greatest_cost` cycles for each block of its budget.
+/// After n cycles each of which finds what it asks: with what is left they are within the prices of the blocks
+/// committed since, and of the next. A cycle that commits keeps them within those of the blocks committed. A run
+/// whose blocks have at most `most_nodes` tasks goes on for fewer than `greatest_cost` cycles for each block of its
+/// budget.
 pub fn cycles_stay_within<W: Weather>()
     ensures moment { (blocks : List Block) (budget : ℕ) (sizes : ℕ → ℕ) (n : ℕ) (g h : Grid W) → AllGood blocks
         → ((w : W) → W.next w ≤ 3) → AfterStanding W.next W.follows blocks budget sizes n g h

@@ -37,7 +37,8 @@ no_trap stepped.StackFull next e c i = cc
 no_trap (stepped.Trap d) next e c i = true≢false e
 
 -- a trap names the block that comes next
-trap_at : (o : Stepped) (next block : ℕ) (cause : TrapCause) → ending.Trap block cause ≡ ending_of o next → next ≡ block
+trap_at : (o : Stepped) (next block : ℕ) (cause : TrapCause) → ending.Trap block cause ≡ ending_of o next
+    → next ≡ block
 trap_at stepped.Went next block cause e = absurd (cc)
 trap_at stepped.Ended next block cause e = absurd (cc)
 trap_at stepped.StackFull next block cause e = absurd (cc)
@@ -69,20 +70,23 @@ module _ (blocks : List Block) (good : AllGood blocks) (some : 0 < length blocks
 
   -- where it ends in a trap, within what its trace costs and the block that trapped
   trapped_block : (block : ℕ) (cause : TrapCause) → ComesTo blocks s budget (ending.Trap block cause) h
-      → (block < length blocks) × (h.counts.cycles ≤ cost_of blocks h.window.state.trace + cost_in (slice_get blocks block))
+      → (block < length blocks)
+      × (h.counts.cycles ≤ cost_of blocks h.window.state.trace + cost_in (slice_get blocks block))
   trapped_block block cause comes =
       let same : (runs blocks s budget).0.next ≡ block =
       trap_at (runs blocks s budget).1 (runs blocks s budget).0.next block cause comes.ending in (
         subst (λ k. k < length blocks) same (runs_inside blocks some s some budget),
         subst (λ k. h.counts.cycles ≤ cost_of blocks h.window.state.trace + cost_in (slice_get blocks k))
             (ap (λ (t : State). t.next) comes.state ∙ same)
-            (some_cost next_hold IsAfter hold_most blocks good budget s predictor weather opens_right small h ran.run ran.few),
+            (some_cost next_hold IsAfter hold_most blocks good budget s predictor weather opens_right small h ran.run
+            ran.few),
       )
 
   ends : IsCutOff budget (most_cycles budget) h → ⊥
   ends cut =
       let l : h.counts.cycles < most_cycles budget =
-      goes_short next_hold IsAfter hold_most blocks good budget s predictor weather opens_right small h ran.run ran.few
+      goes_short next_hold IsAfter hold_most blocks good budget s predictor weather opens_right small h ran.run
+      ran.few
       cut.goes in
       let k : most_cycles budget ≤ h.counts.cycles = cut.cycles in
       absurd (omega (arith, l, k))
@@ -108,7 +112,8 @@ module _ (blocks : List Block) (good : AllGood blocks) (some : 0 < length blocks
 
       by : (b : Bool) → is_going budget h.window ≡ b → h.counts.cycles ≤ cost_of blocks h.window.state.trace
       by true on = absurd (not_going e comes on)
-      by false off = end_cost next_hold IsAfter hold_most blocks good budget s predictor weather opens_right small h ran.run
+      by false off = end_cost next_hold IsAfter hold_most blocks good budget s predictor weather opens_right small h
+          ran.run
           ran.few untrapped off
 
 -- the laws -------------------------------------------------------------------------------------------
@@ -134,9 +139,12 @@ runs_trapped blocks bytes input budget seed e h good some fits positive small ra
     trapped blocks good some bytes input fits budget seed small (Some e) h ran
 
 pub runs_trapped_at : (blocks : List Block) (bytes input : List ℕ) (budget seed block : ℕ) (cause : TrapCause)
-    (h : Grid PcgWeather) → AllGood blocks → 0 < length blocks → length bytes ≤ data_size → 0 < budget → budget < 2 ^ 32
+    (h : Grid PcgWeather) → AllGood blocks → 0 < length blocks → length bytes ≤ data_size → 0 < budget
+    → budget < 2 ^ 32
     → IsRan blocks bytes input budget seed (Some (ending.Trap block cause)) h
-    → (block < length blocks) × (h.counts.cycles ≤ cost_of blocks h.window.state.trace + cost_in (slice_get blocks block))
+    → (block < length blocks)
+    × (h.counts.cycles ≤ cost_of blocks h.window.state.trace + cost_in (slice_get blocks block))
 runs_trapped_at blocks bytes input budget seed block cause h good some fits positive small ran =
-    trapped_block blocks good some bytes input fits budget seed small (Some (ending.Trap block cause)) h ran block cause
+    trapped_block blocks good some bytes input fits budget seed small
+    (Some (ending.Trap block cause)) h ran block cause
     ran.comes

@@ -1,7 +1,8 @@
 -- The block whose fetch part (2) of a cycle begins, told case by case: where the unit is idle, where a fetch goes on,
 -- where one is given up, and where one fills a frame.
 use Rattle.std.proofs.Common.{◌≡◌, ℕ, zero, suc, ◌+◌, ◌<◌, ◌≤◌, ◌==◌, Bool, true, false, cond, not, ◌&&◌, ◌||◌, List}
-use Rattle.std.proofs.Common.{[], ◌∷◌, ◌++◌, Option, Some, None, is_none, is_some, slice_get, slice_set, ◌⊎◌, inl, inr}
+use Rattle.std.proofs.Common.{[], ◌∷◌, ◌++◌, Option, Some, None, is_none, is_some, slice_get}
+use Rattle.std.proofs.Common.{slice_set, ◌⊎◌, inl, inr}
 use Rattle.std.proofs.Common.{refl, sym, ap, ap₂, ◌∙◌, arith}
 use Rattle.std.specs.Prelude.{slice_index}
 use Rattle.std.proofs.lemmas.Bool.{cases_lt, eq-eqb, false≢true}
@@ -10,7 +11,8 @@ use Rattle.commit_flush_spec.specs.Causes.{Done, NoBlock, NoFrame}
 use Rattle.commit_flush_spec.specs.Frames.{Frame, fresh}
 use Rattle.commit_flush_spec.specs.InFlight.{in_flight}
 use Rattle.commit_flush_spec.specs.Older.{Older, after, after_all, committed, is_serial}
-use Rattle.commit_flush_spec.specs.Window.{Fetch, Window, can, can_fetch, done, fetched, happens, if_done, lowest_empty}
+use Rattle.commit_flush_spec.specs.Window.{Fetch, Window, can, can_fetch, done}
+use Rattle.commit_flush_spec.specs.Window.{fetched, happens, if_done, lowest_empty}
 use Rattle.commit_flush_spec.proofs.Flow.{some_of}
 use Rattle.commit_flush_spec.proofs.Frames.{not_now}
 use Rattle.block_predict.specs.Predicts.{predicted}
@@ -120,7 +122,8 @@ its_block blocks budget k w d =
     some_of (slice_get blocks k) b.0
 
 -- a number names one block
-pub same_block : (blocks : List Block) (k : ℕ) (a b : Block) → slice_get blocks k ≡ Some a → slice_get blocks k ≡ Some b
+pub same_block : (blocks : List Block) (k : ℕ) (a b : Block) → slice_get blocks k ≡ Some a
+    → slice_get blocks k ≡ Some b
     → a ≡ b
 same_block blocks k a b x y = let same : Some a ≡ Some b = sym x ∙ y in cc
 

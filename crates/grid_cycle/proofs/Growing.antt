@@ -1,5 +1,6 @@
 -- A cycle commits at most one block.
-use Rattle.std.proofs.Common.{◌≡◌, ℕ, suc, ◌+◌, ◌≤◌, ◌==◌, List, [], ◌∷◌, length, Option, Some, None, refl, ap, ◌∙◌, arith}
+use Rattle.std.proofs.Common.{◌≡◌, ℕ, suc, ◌+◌, ◌≤◌, ◌==◌, List, [], ◌∷◌, length, Option, Some, None}
+use Rattle.std.proofs.Common.{refl, ap, ◌∙◌, arith}
 use Rattle.std.proofs.lemmas.Bool.{cond_both}
 use Rattle.trips_isa.specs.declared.block.Block.{Block}
 use Rattle.trips_isa.specs.declared.run.Stepped.{Stepped}
@@ -50,7 +51,8 @@ module _ {W : Type 0} where
   learning_window f None g = refl
   learning_window f (Some e) g = refl
 
-  committed_window : (s : Stepped) (f : Frame) (fs : List Frame) (g : Grid W) → (committed_as s f fs g).window ≡ g.window
+  committed_window : (s : Stepped) (f : Frame) (fs : List Frame) (g : Grid W)
+      → (committed_as s f fs g).window ≡ g.window
   committed_window stepped.Went f fs g = learning_window f f.exit _
   committed_window stepped.Ended f fs g = learning_window f f.exit _
   committed_window stepped.StackFull f fs g = learning_window f f.exit _

@@ -53,7 +53,8 @@ module _ {W : Type 0} (next : W → ℕ) (follows : W → W → Type 0) (blocks 
       }
 
   -- no cycle has been made
-  pub runs_none : (n : ℕ) (f g : Grid W) → n ≡ 0 → g ≡ f → g.window.frames ≡ [] → IsRun next follows blocks budget n f g
+  pub runs_none : (n : ℕ) (f g : Grid W) → n ≡ 0 → g ≡ f → g.window.frames ≡ []
+      → IsRun next follows blocks budget n f g
   runs_none n f g none same rests = record {
     last = g;
     cycles = subst (λ i. GoesFor next follows blocks budget i f g) (sym none) same;

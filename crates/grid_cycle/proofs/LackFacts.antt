@@ -24,7 +24,8 @@ lacking f l e = go f.sealed refl e
     go false s h = record { runs = s; lacks = sym (lacks_none f) ∙ ap is_none h }
 
 -- the frame of the first number is the oldest
-pub first_is_oldest : (fs : List Frame) (n : ℕ) → Some n ≡ slice_get (numbers_of fs) 0 → frame_of n fs ≡ slice_get fs 0
+pub first_is_oldest : (fs : List Frame) (n : ℕ) → Some n ≡ slice_get (numbers_of fs) 0
+    → frame_of n fs ≡ slice_get fs 0
 first_is_oldest [] n e = absurd (let bad : Some n ≡ None = e in cc)
 first_is_oldest (f ∷ fs) n e =
     let here : Some n ≡ Some f.number = e in

@@ -1,5 +1,6 @@
 -- What a run from a stated start costs, in any weather and from any state that opens a window right.
-use Rattle.std.proofs.Common.{◌≡◌, ℕ, zero, suc, ◌+◌, ◌*◌, ◌^◌, ◌<◌, ◌≤◌, Bool, true, false, cond, nat_lt, List, length}
+use Rattle.std.proofs.Common.{◌≡◌, ℕ, zero, suc, ◌+◌, ◌*◌, ◌^◌, ◌<◌, ◌≤◌, Bool, true, false}
+use Rattle.std.proofs.Common.{cond, nat_lt, List, length}
 use Rattle.std.proofs.Common.{refl, sym, ap, ◌∙◌, subst, arith, ◌-◌, slice_get}
 use Rattle.std.proofs.lemmas.Bool.{ltb-true, ltb-false}
 use Rattle.trips_isa.specs.declared.block.Block.{Block}
@@ -61,7 +62,8 @@ pub record Closes {W : Type 0} (last h : Grid W) : Type 0 where
 closes_as : {W : Type 0} (budget : ℕ) (last h : Grid W) (b : Bool) → is_going budget last.window ≡ b
     → h ≡ at_end budget last → Closes last h
 closes_as budget last h true e is =
-    subst (λ x. Closes last x) (sym (is ∙ end_going budget last e)) (record { cycles = refl; state = refl; over = refl })
+    subst (λ x. Closes last x) (sym (is ∙ end_going budget last e))
+    (record { cycles = refl; state = refl; over = refl })
 closes_as budget last h false e is = subst (λ x. Closes last x) (sym (is ∙ end_closed budget last e)) (record {
   cycles = closed_cycles budget last;
   state = ap (λ (w : Window). w.state) (closed_window last);
@@ -119,7 +121,8 @@ module _ {W : Type 0} (next : W → ℕ) (follows : W → W → Type 0) (holds :
             costs.soon blocks good budget next follows holds s predictor weather opens n m a on few in
             let e : cost_of blocks last.window.state.trace ≡ cost_of blocks m.window.state.trace =
             ap (λ (t : State). cost_of blocks t.trace) same in
-            let f : cost_in (slice_get blocks last.window.state.next) ≡ cost_in (slice_get blocks m.window.state.next) =
+            let f : cost_in (slice_get blocks last.window.state.next)
+            ≡ cost_in (slice_get blocks m.window.state.next) =
             ap (λ (t : State). cost_in (slice_get blocks t.next)) same in
             omega (arith, l, e, f)
         by (suc k) i =
@@ -258,7 +261,8 @@ module _ {W : Type 0} (next : W → ℕ) (follows : W → W → Type 0) (holds :
         → h.counts.cycles + cost_of blocks s.trace ≤ cost_of blocks h.window.state.trace
     end_cost_since safe off =
         let l : h.counts.cycles + cost_of blocks s.trace ≤ cost_of blocks final.window.state.trace =
-        ended_cost h.counts.cycles final whole.cycles few_cycles (λ k i. safe k (end.over ∙ i)) (sym same_going ∙ off) in
+        ended_cost h.counts.cycles final whole.cycles few_cycles (λ k i. safe k (end.over ∙ i))
+        (sym same_going ∙ off) in
         let k = same_cost in
         omega (arith, l, k)
 
@@ -266,5 +270,6 @@ module _ {W : Type 0} (next : W → ℕ) (follows : W → W → Type 0) (holds :
     pub end_cost : ((k : TrapCause) → h.window.over ≡ stepped.Trap k → ⊥) → is_going budget h.window ≡ false
         → h.counts.cycles ≤ cost_of blocks h.window.state.trace
     end_cost safe off =
-        let l : h.counts.cycles + cost_of blocks s.trace ≤ cost_of blocks h.window.state.trace = end_cost_since safe off in
+        let l : h.counts.cycles + cost_of blocks s.trace ≤ cost_of blocks h.window.state.trace =
+        end_cost_since safe off in
         omega (arith, l)

@@ -65,9 +65,9 @@ pub record IsCycle {W : Type 0} (next : W → ℕ) (follows : W → W → Type 0
   -- and the flush of what is in flight, where the run has ended
   pub ends : h ≡ at_end budget last
 
--- a grid has made at most as many cycles as its trace costs and the greatest cost of a block besides, or the cost of the
--- block that comes next, which at a trap is the block that trapped; at an ending that is no trap, at most as many as its
--- trace costs
+-- a grid has made at most as many cycles as its trace costs and the greatest cost of a block besides, or the cost of
+-- the block that comes next, which at a trap is the block that trapped; at an ending that is no trap, at most as many
+-- as its trace costs
 pub record IsWithinCost {W : Type 0} (blocks : List Block) (budget : ℕ) (g : Grid W) : Type 0 where
   -- at every moment; a block costs at most `greatest`
   pub moment : g.counts.cycles ≤ cost_of blocks g.window.state.trace + greatest
@@ -77,8 +77,8 @@ pub record IsWithinCost {W : Type 0} (blocks : List Block) (budget : ℕ) (g : G
   pub ending : (e : Ending) → ended budget g.window ≡ Some e → is_trap e ≡ false
       → g.counts.cycles ≤ cost_of blocks g.window.state.trace
 
--- each frame that was fetched has been committed, has been flushed or is in flight, and at the end of a run none is in
--- flight
+-- each frame that was fetched has been committed, has been flushed or is in flight, and at the end of a run none is
+-- in flight
 pub record IsTallied {W : Type 0} (budget : ℕ) (g : Grid W) : Type 0 where
   pub frames : AddsUp g
   pub ending : is_going budget g.window ≡ false → AllCounted g

@@ -1,5 +1,5 @@
--- Which block the fetch unit begins to fetch, case by case, as the code tells it. That this is what part (2) of a cycle
--- begins is proved in proofs/FetchFacts.antt and proofs/DueFacts.antt.
+-- Which block the fetch unit begins to fetch, case by case, as the code tells it. That this is what part (2) of a
+-- cycle begins is proved in proofs/FetchFacts.antt and proofs/DueFacts.antt.
 use Rattle.std.specs.Prelude.{ℕ, zero, suc, ◌==◌, Bool, true, false, cond, not, ◌&&◌, ◌||◌, List, [], ◌∷◌}
 use Rattle.std.specs.Prelude.{Option, Some, None}
 use Rattle.trips_isa.specs.declared.block.Block.{Block}

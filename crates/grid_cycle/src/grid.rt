@@ -27,8 +27,8 @@ use std::alloc::Global;
 use std::marker::Model;
 use trips_isa::{Counts, Ending};
 
-/// A grid on an image: the window of frames in flight, what is under way beside it, and the counts. Contracts see it as
-/// these parts. Each has come from a stated start by the eager cycles that it counts.
+/// A grid on an image: the window of frames in flight, what is under way beside it, and the counts. Contracts see it
+/// as these parts. Each has come from a stated start by the eager cycles that it counts.
 pub struct Grid<W: Weather> {
     parts: Parts<GridWindow, W>,
 }
@@ -57,8 +57,8 @@ impl<W: Weather + Drop> Drop for Grid<W> {
 }
 
 impl<W: Weather + Drop> Grid<W> {
-    /// A grid on an image at the start of its run, for at most so many blocks: nothing is under way, and the predictor
-    /// and the weather are those given. Want of memory is the only error.
+    /// A grid on an image at the start of its run, for at most so many blocks: nothing is under way, and the
+    /// predictor and the weather are those given. Want of memory is the only error.
     pub fn make(
         alloc: Global,
         image: CheckedImage,
@@ -77,8 +77,8 @@ impl<W: Weather + Drop> Grid<W> {
         Ok(Grid { parts })
     }
 
-    /// A grid on an image from a machine's state on. `budget` counts all that the machine has made, which has room for
-    /// at least as many. Want of memory is the only error.
+    /// A grid on an image from a machine's state on. `budget` counts all that the machine has made, which has room
+    /// for at least as many. Want of memory is the only error.
     pub fn make_at(
         alloc: Global,
         image: CheckedImage,
@@ -137,8 +137,8 @@ impl<W: Weather> Grid<W> {
     }
 
     /// Cycles until the run has ended, and how: as the machine's run ends within what is left of the budget. Each run
-    /// ends, in any weather, with any predictor and from any state. At its end the frames in flight are flushed. A run
-    /// that has ended answers its ending again, and nothing changes.
+    /// ends, in any weather, with any predictor and from any state. At its end the frames in flight are flushed. A
+    /// run that has ended answers its ending again, and nothing changes.
     pub fn run(&mut self) -> Ending
         ensures run { IsRun W.next W.follows (blocks_of self.old) self.old.window.budget
             (self.new.state.counts.cycles - self.old.state.counts.cycles) (grid_of self.old) (grid_of self.new) }

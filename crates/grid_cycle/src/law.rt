@@ -25,7 +25,8 @@ pub fn runs_of_a_seed_end()
         → AllGood blocks → 0 < length blocks → length bytes ≤ data_size → 0 < budget → budget < 2 ^ 32
         → is_trap e ≡ false → IsRan blocks bytes input budget seed (Some e) h
         → h.counts.cycles ≤ cost_of blocks h.window.state.trace }
-    ensures trapped { (blocks : List Block) (bytes input : List ℕ) (budget seed : ℕ) (e : Ending) (h : Grid PcgWeather)
+    ensures trapped { (blocks : List Block) (bytes input : List ℕ) (budget seed : ℕ) (e : Ending)
+        (h : Grid PcgWeather)
         → AllGood blocks → 0 < length blocks → length bytes ≤ data_size → 0 < budget → budget < 2 ^ 32
         → IsRan blocks bytes input budget seed (Some e) h
         → h.counts.cycles ≤ cost_of blocks h.window.state.trace + greatest_cost }

@@ -23,8 +23,8 @@ fn run_out(mut grid: Grid<PcgWeather>) -> Ran
     Ran { ending, grid }
 }
 
-/// Runs an image on an input, for at most so many blocks, on the grid whose predictor and weather are those of a seed.
-/// Want of memory is the only error.
+/// Runs an image on an input, for at most so many blocks, on the grid whose predictor and weather are those of a
+/// seed. Want of memory is the only error.
 pub fn run_image(
     alloc: Global,
     image: CheckedImage,

@@ -12,7 +12,8 @@ use Rattle.trips_isa.specs.declared.run.Stepped.{Stepped}
 use Rattle.trips_isa.specs.declared.run.Stepped.TheVariants as stepped
 use Rattle.trips_isa.specs.Outcomes.{Outcome, Comes, Faults, Effects, unless}
 use Rattle.trips_isa.specs.Machine.{State, with_input, system_call, then_system, changed, apply}
-use Rattle.commit_flush_spec.specs.Causes.{Cause, NoFrame, NoBlock, Worn, Serial, Wrong, Happened, Done, NotNow, judged}
+use Rattle.commit_flush_spec.specs.Causes.{Cause, NoFrame, NoBlock, Worn, Serial, Wrong}
+use Rattle.commit_flush_spec.specs.Causes.{Happened, Done, NotNow, judged}
 use Rattle.commit_flush_spec.specs.Frames.{Frame, Exit, at, token_places, numbers, fresh, slot_node}
 use Rattle.commit_flush_spec.specs.Older.{Older, after, after_all, successor_of, committed, violated, passes}
 use Rattle.commit_flush_spec.specs.Older.{nearest, cut, follows}
@@ -107,7 +108,8 @@ module _ (blocks : List Block) (budget : ℕ) where
   no_more Done v w e = e
   no_more (NotNow c) v w e = omega arith
 
-  single_frames : (e : Event) → IsSingle e → (w : Window) → length (happens blocks budget e w).frames ≡ length w.frames
+  single_frames : (e : Event) → IsSingle e → (w : Window)
+      → length (happens blocks budget e w).frames ≡ length w.frames
   single_frames (window.Read n r) l w = as_many (can blocks budget (window.Read n r) w)
       (done blocks (window.Read n r) w) w
       (one_changed (read r) (committed w.state) w.frames n)
@@ -133,7 +135,8 @@ module _ (blocks : List Block) (budget : ℕ) where
   flushing_frames (window.Store n m) l w =
       no_more (can blocks budget (window.Store n m) w) (done blocks (window.Store n m) w) w
       (some_changed (store m) (λ o f fs. resolved_less m f fs (request f m)) (committed w.state) w.frames n)
-  flushing_frames (window.Exit n) l w = no_more (can blocks budget (window.Exit n) w) (done blocks (window.Exit n) w) w
+  flushing_frames (window.Exit n) l w = no_more (can blocks budget (window.Exit n) w)
+      (done blocks (window.Exit n) w) w
       (some_changed (exit blocks) (exit_less blocks) (committed w.state) w.frames n)
   flushing_frames (window.Read n r) l w = absurd l
   flushing_frames (window.Fire n s) l w = absurd l
@@ -239,7 +242,8 @@ module _ {W : Type 0} (blocks : List Block) (budget : ℕ) where
       let p = c.0 in
       let q = c.1 in
       let r = c.2 in
-      let s : length (flushed fs g).window.frames ≡ length g.window.frames = ap (λ (w : Window). length w.frames) c.3 in
+      let s : length (flushed fs g).window.frames ≡ length g.window.frames =
+      ap (λ (w : Window). length w.frames) c.3 in
       omega (arith, p, q, r, s, e)
 
   quiet_adds : (g h : Grid W) → length h.window.frames ≡ length g.window.frames → h.counts ≡ g.counts → AddsUp g
@@ -290,7 +294,8 @@ module _ {W : Type 0} (blocks : List Block) (budget : ℕ) where
       → AddsUp (committed_as (commit_to o f fs g.window).over f fs (record g { window = commit_to o f fs g.window }))
   outcome_adds (Comes o) f fs g e adds =
       let size : length g.window.frames ≡ suc (length fs) = ap length e in
-      committed_adds (commit_to (Comes o) f fs g.window).over (apply_no_trap f.code.writes.items o g.window.state) f fs
+      committed_adds (commit_to (Comes o) f fs g.window).over
+      (apply_no_trap f.code.writes.items o g.window.state) f fs
       (record g { window = commit_to (Comes o) f fs g.window }) refl (omega (arith, size, adds))
   outcome_adds (Faults c) f fs g e adds =
       let size : length g.window.frames ≡ suc (length fs) = ap length e in

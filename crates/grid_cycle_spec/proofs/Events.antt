@@ -47,7 +47,8 @@ module _ {W : Type 0} (blocks : List Block) (budget : ℕ) where
   committed_window stepped.StackFull f fs g = learning_window f f.exit _
   committed_window (stepped.Trap c) f fs g = refl
 
-  commit_events : (fs : List Frame) (g : Grid W) → ByEvents blocks budget g.window (commit_in blocks budget fs g).window
+  commit_events : (fs : List Frame) (g : Grid W)
+      → ByEvents blocks budget g.window (commit_in blocks budget fs g).window
   commit_events [] g = no_event blocks budget g.window g.window refl
   commit_events (f ∷ fs) g = one_event blocks budget window.Commit g.window _
       (committed_window (happens blocks budget window.Commit g.window).over f fs

@@ -50,8 +50,8 @@ IsFlushing (window.Store n m) = Unit {0}
 IsFlushing (window.Exit n) = Unit {0}
 IsFlushing e = ⊥
 
--- a relation of grids that all primitive changes keep. That a frame is filled and that a cycle is counted keep it where
--- `Counting` holds: what all other changes keep has `⊥` for it
+-- a relation of grids that all primitive changes keep. That a frame is filled and that a cycle is counted keep it
+-- where `Counting` holds: what all other changes keep has `⊥` for it
 pub record Keeps {W : Type 0} (Counting : Type 0) (blocks : List Block) (budget : ℕ)
     (R : Grid W → Grid W → Type 0) : Type 0 where
   pub same : (g : Grid W) → R g g
@@ -288,7 +288,8 @@ module _ {W Counting : Type 0} (blocks : List Block) (budget : ℕ) (R : Grid W 
   -- part (6) ---------------------------------------------------------------------------------------
 
   delivers_keeps : (n p : ℕ) (g : Grid W) → R g (delivers blocks budget n p g)
-  delivers_keeps n p g = k.single (window.Deliver (token_places * n + p)) tt g (delivers blocks budget n p g) refl refl
+  delivers_keeps n p g = k.single (window.Deliver (token_places * n + p)) tt g
+      (delivers blocks budget n p g) refl refl
 
   asks_keeps : (m n : ℕ) (g : Grid W) → R g (asks m n g)
   asks_keeps m n g = k.quiet g (asks m n g) refl refl
@@ -298,7 +299,8 @@ module _ {W Counting : Type 0} (blocks : List Block) (budget : ℕ) (R : Grid W 
       (is_waiting (at f.requests i.number) (p / 2))
       (asks_keeps f.number i.number g) (delivers_keeps f.number p g)
 
-  form_keeps : (kind : Form) (i : Inst) (p : ℕ) (f : Frame) (g : Grid W) → R g (slot_arrives blocks budget kind i p f g)
+  form_keeps : (kind : Form) (i : Inst) (p : ℕ) (f : Frame) (g : Grid W)
+      → R g (slot_arrives blocks budget kind i p f g)
   form_keeps form.Load i p f g = loads_keep i p f g
   form_keeps form.Store i p f g = asks_keeps f.number i.number g
   form_keeps form.Branch i p f g = k.flushing (window.Exit f.number) tt g

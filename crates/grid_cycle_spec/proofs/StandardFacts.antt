@@ -46,8 +46,8 @@ tile_of_address = refl
 pub waiting_bit : bit_of 32 1 ≡ 1
 waiting_bit = refl
 
--- frame 3 has just stored bytes 8 and 9 by number 0; frame 5, of block 7, has loaded byte 10 by number 0 and byte 9 by
--- number 1
+-- frame 3 has just stored bytes 8 and 9 by number 0; frame 5, of block 7, has loaded byte 10 by number 0 and byte 9
+-- by number 1
 abbrev pub storing : Block → Frame
 storing b = record (fresh 3 4 b) {
   loads = [];
@@ -91,7 +91,8 @@ abbrev pub at_start : Grid ℕ
 at_start = begun_at (record { registers = []; memory = []; next = 4; rest = []; output = []; trace = [] }) [] 0
 
 -- its fetch unit begins to fetch that block: the event comes in the eighth cycle after this one
-pub first_fetch : (fetches [] 9 at_start).fetching ≡ Some (record { left = 7; block = 4; history = 0; careful = false })
+pub first_fetch : (fetches [] 9 at_start).fetching
+    ≡ Some (record { left = 7; block = 4; history = 0; careful = false })
 first_fetch = refl
 
 pub second_cycle : (fetches [] 9 (fetches [] 9 at_start)).fetching

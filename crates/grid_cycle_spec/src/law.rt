@@ -8,7 +8,8 @@ ghost use Rattle.trips_isa.specs.Fits.{FitsBlock};
 ghost use Rattle.commit_flush_spec.specs.Invariant.{AllGood};
 ghost use Rattle.commit_flush_spec.specs.Laws.{TakesSteps, WindowOk};
 ghost use Rattle.commit_flush_spec.specs.Window.{Store, Window, happens};
-ghost use Rattle.grid_cycle_spec.specs.Stations.{bank_of, bank_node, data_tile_of, data_node, far, home, tile_of, tile_node};
+ghost use Rattle.grid_cycle_spec.specs.Stations.{bank_of, bank_node, data_tile_of, data_node};
+ghost use Rattle.grid_cycle_spec.specs.Stations.{far, home, tile_of, tile_node};
 ghost use Rattle.grid_cycle_spec.specs.Costs.{cost, cost_of, greatest};
 ghost use Rattle.grid_cycle_spec.specs.Grid.{Grid};
 ghost use Rattle.grid_cycle_spec.specs.Acting.{gone};
@@ -66,7 +67,8 @@ pub fn costs_are_bounded()
 
 /// The cost of a trace that goes on is the cost of both parts.
 pub fn costs_add_up()
-    ensures { (blocks : List Block) (s t : List Traced) → cost_of blocks (s ++ t) ≡ cost_of blocks s + cost_of blocks t }
+    ensures { (blocks : List Block) (s t : List Traced)
+        → cost_of blocks (s ++ t) ≡ cost_of blocks s + cost_of blocks t }
 {}
 
 /// Each operation takes from 1 to 24 cycles.

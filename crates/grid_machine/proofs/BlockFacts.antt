@@ -27,7 +27,8 @@ use Rattle.commit_flush.specs.Lent.{IsLent}
 module _ (blocks : List Block) (budget : ℕ) (w : Window) (ok : WindowOk blocks budget w) where
   -- the block of a frame in flight is its block of the image
   pub code_at : (n : ℕ) (f : Frame) → frame_of n w.frames ≡ Some f → slice_get blocks f.block ≡ Some f.code
-  code_at n f e = let a = has_age n w.frames f e in (frame_ok blocks w.frames (committed w.state) ok.frames a.0 f a.2).code
+  code_at n f e = let a = has_age n w.frames f e in
+      (frame_ok blocks w.frames (committed w.state) ok.frames a.0 f a.2).code
 
   pub block_within : (n : ℕ) (r : Option ℕ) → r ≡ block_in (frame_of n w.frames) → IfSome r (λ k. k < length blocks)
   block_within n r e =
@@ -37,7 +38,8 @@ module _ (blocks : List Block) (budget : ℕ) (w : Window) (ok : WindowOk blocks
       go None is = tt
       go (Some f) is = slice_get_within blocks f.block f.code (code_at n f is)
 
-  pub lent_code : (n : ℕ) (h : Held) (b : Block) → IsLent h b (frame_of n w.frames) → slice_get blocks h.block ≡ Some b
+  pub lent_code : (n : ℕ) (h : Held) (b : Block) → IsLent h b (frame_of n w.frames)
+      → slice_get blocks h.block ≡ Some b
   lent_code n h b l = code_at n (as_frame l.0 b h) l.1
 
   -- it was checked

@@ -37,7 +37,8 @@ module _ {W : Type 0} where
 
   unchanged : (g h : Grid W) → SameCommits g h → CountsCommits g h
   unchanged g h s =
-      let l : length h.window.state.trace ≡ length g.window.state.trace = ap (λ (t : State). length t.trace) s.state in
+      let l : length h.window.state.trace ≡ length g.window.state.trace =
+      ap (λ (t : State). length t.trace) s.state in
       let c = s.committed in
       omega (arith, l, c)
 

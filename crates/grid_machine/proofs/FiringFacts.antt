@@ -1,5 +1,6 @@
 -- Which slots of the frame of a number may fire, and which reads may be answered.
-use Rattle.std.proofs.Common.{◌≡◌, ℕ, ◌+◌, ◌-◌, ◌*◌, ◌<◌, ◌≤◌, ◌⊎◌, inl, inr, Bool, true, false, cond, not, ◌&&◌, ◌||◌}
+use Rattle.std.proofs.Common.{◌≡◌, ℕ, ◌+◌, ◌-◌, ◌*◌, ◌<◌, ◌≤◌, ◌⊎◌, inl, inr, Bool, true, false}
+use Rattle.std.proofs.Common.{cond, not, ◌&&◌, ◌||◌}
 use Rattle.std.proofs.Common.{nat_lt, List, [], ◌∷◌, Option, Some, None, slice_get, slice_index_or}
 use Rattle.std.proofs.Common.{refl, sym, ap, ◌∙◌, arith, is_some, is_none, true≢false}
 use Rattle.std.proofs.lemmas.Bool.{cases_lt, lt-ltb, le-ltb}
@@ -8,7 +9,8 @@ use Rattle.trips_isa.specs.declared.run.Stepped.{Stepped}
 use Rattle.trips_isa.specs.declared.run.Stepped.TheVariants.{Went, Ended, StackFull, Trap}
 use Rattle.trips_isa.specs.Rule.{Answer}
 use Rattle.block_cases.specs.Orders.{slot_of}
-use Rattle.commit_flush_spec.specs.Causes.{Cause, Done, Happened, NoFrame, NoInst, NoRead, NotNow, NotReady, NotYet, judged}
+use Rattle.commit_flush_spec.specs.Causes.{Cause, Done, Happened, NoFrame, NoInst, NoRead}
+use Rattle.commit_flush_spec.specs.Causes.{NotNow, NotReady, NotYet, judged}
 use Rattle.commit_flush_spec.specs.Dataflow.{can_fire, can_read, read_seen}
 use Rattle.commit_flush_spec.specs.Frames.{Frame, slot_node}
 use Rattle.commit_flush_spec.specs.InFlight.{on_frame}

@@ -35,7 +35,8 @@ stays_to blocks s t o ne n left le e =
     let same : n + (left - n) ≡ left = omega (arith, le) in
     stays blocks s t o ne n (left - n) e ∙ ap (runs blocks s) same
 
--- what was reached within the steps that are left is where the machine comes to: all of them were made, or the run ended
+-- what was reached within the steps that are left is where the machine comes to: all of them were made,
+-- or the run ended
 pub came_to : (blocks : List Block) (s t : State) (o : Stepped) (n left : ℕ) → n ≤ left → (o ≡ Went → left ≤ n)
     → HasRoom o n left → Reached blocks s n t o → (t, o) ≡ runs blocks s left
 came_to blocks s t Went n left le full room r =

@@ -1,5 +1,6 @@
 -- The bytes of a store at a load, as a search for wrong loads and as the window's definitions have them.
-use Rattle.std.proofs.Common.{◌≡◌, ℕ, zero, suc, ◌+◌, ◌<◌, ◌≤◌, Bool, true, false, cond, ◌&&◌, not, ◌==◌, List, Option}
+use Rattle.std.proofs.Common.{◌≡◌, ℕ, zero, suc, ◌+◌, ◌<◌, ◌≤◌, Bool, true, false, cond, ◌&&◌}
+use Rattle.std.proofs.Common.{not, ◌==◌, List, Option}
 use Rattle.std.proofs.Common.{Some, None, inr, inl, refl, sym, ap, ◌∙◌, arith}
 use Rattle.std.proofs.Math.Path.{fun_ext}
 use Rattle.std.proofs.lemmas.Bool.{cases_eq}
@@ -65,7 +66,8 @@ near_high stores m (suc n) a l = elim (cases_eq n m) [
 ]
 
 -- whether load l of the frame of store m is wrong, at what is left of the store's bytes
-pub own_at : (stores : ℕ → Option Stored) (loads : List (Option Taken)) (touched : ℕ → Bool) (from m l : ℕ) → from ≡ m + 1
+pub own_at : (stores : ℕ → Option Stored) (loads : List (Option Taken)) (touched : ℕ → Bool) (from m l : ℕ)
+    → from ≡ m + 1
     → ((a : ℕ) → touched a ≡ covers (stores m) a) → m < l
     → is_wrong stores loads touched from l ≡ took_touched (nearest stores m l) (at loads l)
 own_at stores loads touched from m l e h k =

@@ -55,7 +55,8 @@ pub came_told : (fs : List Frame) (a k : ℕ) (h : Held) (b : Block) → IsLent 
     → x ≡ all_below (store_came f) k
 came_told fs a k h b l x is f e =
     is
-    ∙ same_below (λ n. not (in_mask b.mask n) || is_some (at h.stores n)) (store_came (as_frame l.0 b h)) k (λ n. refl)
+    ∙ same_below (λ n. not (in_mask b.mask n) || is_some (at h.stores n)) (store_came (as_frame l.0 b h)) k
+    (λ n. refl)
     ∙ ap (λ g. all_below (store_came g) k) (lent_at fs a h b l f e)
 
 module _ (m n a : ℕ) (fs : List Frame) (so_far : all_resolved m n (drop a fs) ≡ all_resolved m n fs) where
@@ -97,7 +98,8 @@ module _ (m n a : ℕ) (fs : List Frame) (so_far : all_resolved m n (drop a fs) 
   settles_nowhere l = sym (ap (all_resolved m n) (drop_past fs a l)) ∙ so_far
 
 -- a walk that asks for the frame of an age
-module _ (m n a : ℕ) (fs : List Frame) (so_far : all_resolved m n (drop a fs) ≡ all_resolved m n fs) (l : a < length fs)
+module _ (m n a : ℕ) (fs : List Frame) (so_far : all_resolved m n (drop a fs) ≡ all_resolved m n fs)
+    (l : a < length fs)
     (named : Bool) (is : named ≡ is_named (slice_get (numbers_of fs) a) m) where
   abbrev there : (f : Frame) × (slice_get fs a ≡ Some f)
   there = frame_there fs a l

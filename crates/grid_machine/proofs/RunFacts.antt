@@ -1,5 +1,6 @@
 -- What stands at the end of a run.
-use Rattle.std.proofs.Common.{◌≡◌, ℕ, zero, suc, ◌+◌, ◌-◌, ◌≤◌, Bool, true, false, cond, nat_lt, List, [], ◌∷◌, length}
+use Rattle.std.proofs.Common.{◌≡◌, ℕ, zero, suc, ◌+◌, ◌-◌, ◌≤◌, Bool, true, false, cond, nat_lt}
+use Rattle.std.proofs.Common.{List, [], ◌∷◌, length}
 use Rattle.std.proofs.Common.{Option, Some, None, refl, sym, ap, ◌∙◌, subst, true≢false, arith}
 use Rattle.std.proofs.lemmas.Bool.{ltb-false}
 use Rattle.trips_isa.specs.declared.block.Block.{Block}
@@ -76,7 +77,8 @@ no_ending true x e f h = absurd (let bad : None ≡ Some e = h in cc)
 no_ending false x e f h = refl
 
 -- whether a run goes on hangs on its state and on how it has ended alone
-pub going_by : (budget : ℕ) (v w : Window) → v.over ≡ w.over → v.state ≡ w.state → is_going budget v ≡ is_going budget w
+pub going_by : (budget : ℕ) (v w : Window) → v.over ≡ w.over → v.state ≡ w.state
+    → is_going budget v ≡ is_going budget w
 going_by budget v w o s =
     ap (λ x. cond (goes x) (nat_lt (length v.state.trace) budget) false) o
     ∙ ap (λ (t : State). cond (goes w.over) (nat_lt (length t.trace) budget) false) s

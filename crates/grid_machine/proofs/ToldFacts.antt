@@ -24,7 +24,8 @@ pub found_none : {A : Type 0} (does : Frame → Option A) (n : ℕ) (fs : List F
     → None ≡ found_in does (frame_of n fs)
 found_none does n fs e = sym (ap (found_in does) (same_frame n fs ∙ e))
 
-pub found_some : {A : Type 0} (does : Frame → Option A) (n : ℕ) (fs : List Frame) (h : Held) (b : Block) (x : Option A)
+pub found_some : {A : Type 0} (does : Frame → Option A) (n : ℕ) (fs : List Frame) (h : Held) (b : Block)
+    (x : Option A)
     → IsLent h b (places.frame_of n fs) → ((sealed : Bool) → x ≡ does (as_frame sealed b h))
     → x ≡ found_in does (frame_of n fs)
 found_some does n fs h b x l e = e l.0 ∙ sym (ap (found_in does) (same_frame n fs ∙ l.1))

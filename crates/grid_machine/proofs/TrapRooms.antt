@@ -74,7 +74,8 @@ went_on StackFull h e = absurd (cc)
 went_on (Trap c) h e = absurd (cc)
 
 module _ (blocks : List Block) (budget : ℕ) where
-  other_fits : (e : Event) → IsOther e → (w : Window) → TrapFits budget w → TrapFits budget (happens blocks budget e w)
+  other_fits : (e : Event) → IsOther e → (w : Window) → TrapFits budget w
+      → TrapFits budget (happens blocks budget e w)
   other_fits e o w fits =
       let v : Window = happens blocks budget e w in
       let over : v.over ≡ w.over = by (can blocks budget e w) in

@@ -57,7 +57,8 @@ least_passed stores loads touched (Some n) h =
     let z = numbers_are in
     let l = h.below in
     found_at (is_passed stores loads touched) numbers n (omega (arith, z, l))
-    (λ i k. passed_at stores loads touched i ∙ h.lowest i (omega arith) k) (passed_at stores loads touched n ∙ h.wrong)
+    (λ i k. passed_at stores loads touched i ∙ h.lowest i (omega arith) k)
+    (passed_at stores loads touched n ∙ h.wrong)
 
 -- its own frame ----------------------------------------------------------------------------------
 
@@ -68,7 +69,8 @@ is_own stores loads m k = took_touched (nearest stores m k) (at loads k)
 module _ (stores : ℕ → Option Stored) (loads : List (Option Taken)) (touched : ℕ → Bool) (m : ℕ)
     (same : (a : ℕ) → touched a ≡ covers (stores m) a) where
   own_low : (k : ℕ) → k ≤ m → is_own stores loads m k ≡ false
-  own_low k l = ap (λ f. took_touched f (at loads k)) (fun_ext (λ a. near_low stores m k a l)) ∙ took_none (at loads k)
+  own_low k l = ap (λ f. took_touched f (at loads k)) (fun_ext (λ a. near_low stores m k a l))
+      ∙ took_none (at loads k)
 
   own_high : (k : ℕ) → m < k → is_own stores loads m k ≡ is_wrong stores loads touched (m + 1) k
   own_high k l = sym (own_at stores loads touched (m + 1) m k refl same l)
@@ -135,7 +137,8 @@ pub none_found : (f : Frame) (o : Option ℕ) → None ≡ found_in f o None →
 none_found f None e = refl
 none_found f (Some n) e = absurd (none-some (f.number, n) e)
 
-module _ (fs : List Frame) (a : ℕ) (f : Frame) (e : slice_get fs a ≡ Some f) (touched : ℕ → Bool) (all : Option (ℕ × ℕ))
+module _ (fs : List Frame) (a : ℕ) (f : Frame) (e : slice_get fs a ≡ Some f) (touched : ℕ → Bool)
+    (all : Option (ℕ × ℕ))
     (so_far : wrong_behind touched (drop a fs) ≡ all) where
   abbrev found : Option ℕ
   found = least (is_passed (at f.stores) f.loads touched) numbers 0
@@ -184,7 +187,8 @@ load_of_age (f ∷ fs) n k a e x is =
     go (f.number == n) e (age_of n fs) refl (λ j q w. load_of_age fs n k j q x w)
   where
     go : (b : Bool) → Some a ≡ cond b (Some 0) (later (age_of n fs)) → (p : Option ℕ) → age_of n fs ≡ p
-        → ((j : ℕ) → Some j ≡ age_of n fs → ((g : Frame) → slice_get fs j ≡ Some g → x ≡ wrong_of k g (drop (suc j) fs))
+        → ((j : ℕ) → Some j ≡ age_of n fs
+        → ((g : Frame) → slice_get fs j ≡ Some g → x ≡ wrong_of k g (drop (suc j) fs))
         → x ≡ wrong_in n k fs) → x ≡ cond b (wrong_of k f fs) (wrong_in n k fs)
     go true w p q rest =
         let here : a ≡ 0 = same_Some a 0 w in
@@ -236,7 +240,8 @@ wrong_told h b sealed k s o fs x store found is =
     ∙ ap (λ z. wrong_from k (with_store k z 0 (as_frame sealed b h)) fs) store
 
 -- what a search says of rows that are those of a frame
-pub finds_in : (stores rows : List (Option Stored)) (loads taken : List (Option Taken)) (touched : ℕ → Bool) (from : ℕ)
+pub finds_in : (stores rows : List (Option Stored)) (loads taken : List (Option Taken)) (touched : ℕ → Bool)
+    (from : ℕ)
     (o : Option ℕ) → rows ≡ stores → taken ≡ loads → Finds (at rows) taken touched from o
     → Finds (at stores) loads touched from o
 finds_in stores rows loads taken touched from o e w h =

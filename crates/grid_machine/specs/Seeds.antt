@@ -24,8 +24,8 @@ abbrev pub started : List ℕ → List ℕ → ℕ → Grid PcgWeather
 started bytes input seed =
     begun_at (start bytes input) (exits.entries_of seed) (record { generator = holds.generator seed })
 
--- A run of the grid of a seed on an image and an input, within a budget of blocks, that was answered an ending or none
--- led to this grid.
+-- A run of the grid of a seed on an image and an input, within a budget of blocks, that was answered an ending or
+-- none led to this grid.
 pub record IsRan (blocks : List Block) (bytes input : List ℕ) (budget seed : ℕ) (answer : Option Ending)
     (h : Grid PcgWeather) : Type 0 where
   -- from the stated start by as many eager cycles as are counted, each of a run that goes on, and at the end of the

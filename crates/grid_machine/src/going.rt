@@ -94,8 +94,8 @@ fn cycle_going<V: Windows, W: Weather>(grid: &mut Grid<V, W>, budget: u32)
     }
 }
 
-/// A cycle of a run that goes on, and how the run has then ended; none exactly where it goes on after it. Where it has
-/// ended the frames in flight are flushed. A run that has ended answers its ending again, and nothing changes.
+/// A cycle of a run that goes on, and how the run has then ended; none exactly where it goes on after it. Where it
+/// has ended the frames in flight are flushed. A run that has ended answers its ending again, and nothing changes.
 ///
 /// It wants the budget of the window, and that fewer than 2^63 cycles have been made.
 pub fn cycle<V: Windows, W: Weather>(grid: &mut Grid<V, W>, budget: u32) -> Option<Ending>
@@ -144,8 +144,8 @@ fn cycles<V: Windows, W: Weather>(grid: &mut Grid<V, W>, budget: u32, most: u64)
     made
 }
 
-/// Cycles until the run has ended, or until so many have been made in all, and how the run has ended; none exactly where
-/// that many have been made and it goes on. Where it has ended the frames in flight are flushed.
+/// Cycles until the run has ended, or until so many have been made in all, and how the run has ended; none exactly
+/// where that many have been made and it goes on. Where it has ended the frames in flight are flushed.
 ///
 /// It wants the budget of the window, and at most 2^63 cycles.
 pub fn run<V: Windows, W: Weather>(grid: &mut Grid<V, W>, budget: u32, most: u64) -> Option<Ending>

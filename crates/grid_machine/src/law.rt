@@ -29,8 +29,8 @@ pub fn runs_come_to_the_machine<W: Weather>()
         → ComesTo blocks g.window.state (budget - length g.window.state.trace) e h }
 {}
 
-/// A run counts as many committed blocks as its trace grows by, and each frame that was filled has been committed, has
-/// been flushed, or is in flight.
+/// A run counts as many committed blocks as its trace grows by, and each frame that was filled has been committed,
+/// has been flushed, or is in flight.
 pub fn runs_count<W: Weather>()
     ensures commits { (blocks : List Block) (budget n : ℕ) (g h : Grid W)
         → IsRun W.next W.follows blocks budget n g h → CountsCommits g h }

@@ -33,8 +33,8 @@ fn make_on<W: Drop>(
     Ok(Grid { window, state })
 }
 
-/// A grid on an image at the start of its run: nothing is under way, and the predictor and the weather are those given.
-/// Want of memory is the only error.
+/// A grid on an image at the start of its run: nothing is under way, and the predictor and the weather are those
+/// given. Want of memory is the only error.
 pub fn make<W: Drop>(
     alloc: Global,
     image: CheckedImage,

@@ -19,8 +19,8 @@ fn most_cycles(budget: u32) -> u64
     41472 * budget as u64
 }
 
-/// A cycle of a run that goes on, and how the run has then ended; none exactly where it goes on after it. Where it has
-/// ended the frames in flight are flushed. A run that has ended answers its ending again, and nothing changes.
+/// A cycle of a run that goes on, and how the run has then ended; none exactly where it goes on after it. Where it
+/// has ended the frames in flight are flushed. A run that has ended answers its ending again, and nothing changes.
 pub fn cycle<W: Weather>(grid: &mut Grid<GridWindow, W>) -> Option<Ending>
     requires kept { IsKept grid.old.window.budget (seen grid.old.window.window grid.old.state) }
     requires cycles { grid.old.state.counts.cycles < 2 ^ 63 }

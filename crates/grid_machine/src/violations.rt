@@ -96,8 +96,8 @@ fn wrong_in(window: &Window, frame: u8, number: u8) -> Option<(u8, u8)>
     }
 }
 
-/// The frame that the store with a number of a frame would flush first, and its lowest wrong load; none where it would
-/// flush none, or would not be done.
+/// The frame that the store with a number of a frame would flush first, and its lowest wrong load; none where it
+/// would flush none, or would not be done.
 pub fn wrong_load(window: &Window, frame: u8, number: u8) -> Option<(u8, u8)>
     requires { number < 32 }
     ensures value { result

@@ -63,7 +63,8 @@ impl GridWindow {
         self.window.arch()
     }
 
-    /// What stands of every window: its blocks are good, and it has the invariant of the definitions. It does nothing.
+    /// What stands of every window: its blocks are good, and it has the invariant of the definitions.
+    /// It does nothing.
     pub fn keeps_invariant(&self)
         ensures blocks { AllGood self.now.image.blocks }
         ensures window { WindowOk self.now.image.blocks self.now.budget self.now.window }

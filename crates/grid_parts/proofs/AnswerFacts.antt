@@ -16,7 +16,8 @@ use Rattle.grid_cycle_spec.specs.DataTiles.{tile_for, asks_store, answers_reques
 use Rattle.grid_parts.specs.StateChoices.{first_found}
 use Rattle.grid_parts.proofs.ChoiceFacts.{first_found_is}
 use Rattle.grid_parts.specs.Asked.{frame_of, found_in, holds_of, register_in, request_at, tile_in, store_in}
-use Rattle.grid_parts.specs.Choices.{fires, lowest_ready, in_bank, lowest_read, answers, lowest_request, load_goes, served}
+use Rattle.grid_parts.specs.Choices.{fires, lowest_ready, in_bank, lowest_read}
+use Rattle.grid_parts.specs.Choices.{answers, lowest_request, load_goes, served}
 use Rattle.commit_flush_spec.specs.Memory.{request}
 use Rattle.grid_parts.proofs.FrameFacts.{frame_number}
 use Rattle.grid_parts.proofs.NamedFacts.{all_named, first_named}

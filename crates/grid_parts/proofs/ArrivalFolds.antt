@@ -1,7 +1,8 @@
 -- Part (6): to take the eldest parcel that has come, again and again, is the fold over frames and places, since what
 -- is done with a parcel makes no other one come.
 use Rattle.std.proofs.Common.{◌≡◌, ◌≢◌, ℕ, zero, suc, ◌+◌, ◌/◌, ◌<◌, ◌≤◌, ◌==◌, ◌&&◌, Bool, true, false, cond}
-use Rattle.std.proofs.Common.{nat_lt, ◌⊎◌, inl, inr, List, [], ◌∷◌, Option, Some, None, refl, sym, ap, ◌∙◌, subst, arith}
+use Rattle.std.proofs.Common.{nat_lt, ◌⊎◌, inl, inr, List, [], ◌∷◌, Option, Some, None, refl, sym}
+use Rattle.std.proofs.Common.{ap, ◌∙◌, subst, arith}
 use Rattle.std.specs.Option.{option_or}
 use Rattle.std.proofs.lemmas.Bool.{cases_eq, cases_lt, eq-eqb, and_from}
 use Rattle.trips_isa.specs.declared.block.Block.{Block}
@@ -146,7 +147,8 @@ module _ {W : Type 0} (blocks : List Block) (budget : ℕ) where
   -- the parcel that was handled has come no longer
   gone_itself : (n p : ℕ) (c : Parcel) (g : Grid W) → come n p (g.parcels n p) ≡ Some c
       → come n p ((handled n p c g).parcels n p) ≡ None
-  gone_itself n p c g e = go (frame_no_more n p g.window.frames (record g { parcels = without g.parcels (Some c) }) n p)
+  gone_itself n p c g e =
+      go (frame_no_more n p g.window.frames (record g { parcels = without g.parcels (Some c) }) n p)
     where
       taken : without g.parcels (Some c) n p ≡ Nowhere
       taken =
@@ -154,13 +156,15 @@ module _ {W : Type 0} (blocks : List Block) (budget : ℕ) where
           ap (λ b. cond b Nowhere (g.parcels n p)) (and_from (n == c.frame) (p == c.place)
           (eq-eqb n c.frame is.0) (eq-eqb p c.place is.1))
 
-      go : ((handled n p c g).parcels n p ≡ without g.parcels (Some c) n p) ⊎ ((handled n p c g).parcels n p ≡ Nowhere)
+      go : ((handled n p c g).parcels n p ≡ without g.parcels (Some c) n p)
+          ⊎ ((handled n p c g).parcels n p ≡ Nowhere)
           → come n p ((handled n p c g).parcels n p) ≡ None
       go (inl d) = ap (come n p) (d ∙ taken)
       go (inr d) = ap (come n p) d
 
   -- to handle the first parcel of a frame that has come leaves the fold as it is
-  module _ (n q : ℕ) (c : Parcel) (g : Grid W) (here : come n q (g.parcels n q) ≡ Some c) (first : AreQuiet g.parcels n q) where
+  module _ (n q : ℕ) (c : Parcel) (g : Grid W) (here : come n q (g.parcels n q) ≡ Some c)
+      (first : AreQuiet g.parcels n q) where
     pub after_quiet : AreQuiet (handled n q c g).parcels n (suc q)
     after_quiet p l = go (cases_eq p q)
       where

@@ -1,5 +1,6 @@
 -- Reads and Fires: neither lets another read be answered or another slot fire, and no frame comes or goes.
-use Rattle.std.proofs.Common.{◌≡◌, ℕ, ◌+◌, ◌*◌, ◌==◌, ◌||◌, Bool, true, false, cond, List, [], ◌∷◌, Option, Some, None}
+use Rattle.std.proofs.Common.{◌≡◌, ℕ, ◌+◌, ◌*◌, ◌==◌, ◌||◌, Bool, true, false, cond, List, []}
+use Rattle.std.proofs.Common.{◌∷◌, Option, Some, None}
 use Rattle.std.proofs.Common.{slice_get, set, get_or, refl, sym, ap, ◌∙◌}
 use Rattle.std.specs.Prelude.{is_none}
 use Rattle.trips_isa.specs.declared.block.Inst.{Inst}
@@ -16,7 +17,8 @@ use Rattle.commit_flush_spec.specs.Sending.{send, token_with}
 use Rattle.commit_flush_spec.specs.Older.{Older, after, committed}
 use Rattle.commit_flush_spec.specs.Causes.{Cause, Happened, Done, NotNow, NoFrame, NoRead, NotYet, NoInst, NotReady}
 use Rattle.commit_flush_spec.specs.Causes.{judged}
-use Rattle.commit_flush_spec.specs.Dataflow.{can_read, read, read_seen, read_answered, can_fire, fire, fire_form, fire_inst}
+use Rattle.commit_flush_spec.specs.Dataflow.{can_read, read, read_seen, read_answered}
+use Rattle.commit_flush_spec.specs.Dataflow.{can_fire, fire, fire_form, fire_inst}
 use Rattle.commit_flush_spec.specs.Window.{Window, Fire, Read, on_frame, change, alone, can, done, if_done, happens}
 use Rattle.commit_flush_spec.specs.Window.{unless_over}
 use Rattle.commit_flush_spec.proofs.Lists.{flag_keeps}
@@ -40,7 +42,8 @@ module _ (none : Happened) (may : Older → Frame → Happened) (does : Older �
           → is_done (cond c (may o f) (on_frame none may (after f o) fs m)) ≡ false
           → (is_done (on_frame none may (after f o) fs m) ≡ false
           → is_done (on_frame none may (after f o) (change (alone does) (after f o) fs n) m) ≡ false)
-          → is_done (on_frame none may o (cond b (does o f ∷ fs) (f ∷ change (alone does) (after f o) fs n)) m) ≡ false
+          → is_done (on_frame none may o (cond b (does o f ∷ fs) (f ∷ change (alone does) (after f o) fs n)) m)
+          ≡ false
       go true true i e behind =
           ap (λ b. is_done (cond b (may o (does o f)) (on_frame none may (after (does o f) o) fs m)))
           (ap (λ k. k == m) (number o f) ∙ i)

@@ -1,5 +1,6 @@
 -- Fetches: which block is due, and where the youngest frame leads.
-use Rattle.std.proofs.Common.{◌≡◌, ℕ, zero, suc, ◌-◌, ◌<◌, ◌≤◌, ◌==◌, Bool, true, false, cond, List, [], ◌∷◌, length, get_or}
+use Rattle.std.proofs.Common.{◌≡◌, ℕ, zero, suc, ◌-◌, ◌<◌, ◌≤◌, ◌==◌, Bool, true, false, cond, List}
+use Rattle.std.proofs.Common.{[], ◌∷◌, length, get_or}
 use Rattle.std.proofs.Common.{Option, Some, None, is_none, refl, sym, subst, ap, ap₂, ◌∙◌, arith}
 use Rattle.std.proofs.lemmas.Bool.{eq-eqb, eqb-true, false≢true}
 use Rattle.trips_isa.specs.declared.block.Block.{Block}
@@ -122,7 +123,8 @@ pub fills_is : {W : Type 0} (blocks : List Block) (budget : ℕ) (f : Fetching) 
     → f.block ≡ block → Some n ≡ lowest_empty 8 0 g.window.frames
     → filled_by n f (record g { window = happens blocks budget (Fetch block) g.window }) ≡ fills blocks budget f g
 fills_is blocks budget f g n block eb en =
-    ap₂ (λ m k. filled_by m f (record g { window = happens blocks budget (Fetch k) g.window })) (ap filled en) (sym eb)
+    ap₂ (λ m k. filled_by m f (record g { window = happens blocks budget (Fetch k) g.window })) (ap filled en)
+    (sym eb)
 
 -- exits -----------------------------------------------------------------------------------------------
 

@@ -1,5 +1,6 @@
 -- What flushes count, and what data tiles choose.
-use Rattle.std.proofs.Common.{◌≡◌, ℕ, ◌+◌, ◌≤◌, ◌-◌, ◌==◌, suc, Bool, true, false, cond, is_some, List, [], ◌∷◌, length, drop, take, Option, Some, None}
+use Rattle.std.proofs.Common.{◌≡◌, ℕ, ◌+◌, ◌≤◌, ◌-◌, ◌==◌, suc, Bool, true, false, cond, is_some, List, [], ◌∷◌}
+use Rattle.std.proofs.Common.{length, drop, take, Option, Some, None}
 use Rattle.std.proofs.Common.{refl, sym, ap, ◌∙◌, arith, length-drop}
 use Rattle.std.proofs.lemmas.List.{drop-map, length-map, take_rest, at_drop_all}
 use Rattle.trips_isa.specs.declared.block.Inst.{Inst}
@@ -55,7 +56,8 @@ module _ {W : Type 0} where
       let one = enters_if from f place g in
       if_counts (is_some (at f.places (suc place)))
       (enters f.number (suc place) from (home f.code (target f.code (suc place))) one) one refl
-      ∙ if_counts (is_some (at f.places place)) (enters f.number place from (home f.code (target f.code place)) g) g refl
+      ∙ if_counts (is_some (at f.places place)) (enters f.number place from (home f.code (target f.code place)) g)
+      g refl
 
   pub frame_counts : (n from place : ℕ) (fs : List Frame) (g : Grid W)
       → (with_frame n (λ f h. enter_both from f place h) fs g).counts ≡ g.counts
@@ -63,7 +65,8 @@ module _ {W : Type 0} where
   frame_counts n from place (f ∷ fs) g = go (f.number == n) (frame_counts n from place fs g)
     where
       go : (b : Bool) → (with_frame n (λ f h. enter_both from f place h) fs g).counts ≡ g.counts
-          → (cond b (enter_both from f place g) (with_frame n (λ f h. enter_both from f place h) fs g)).counts ≡ g.counts
+          → (cond b (enter_both from f place g) (with_frame n (λ f h. enter_both from f place h) fs g)).counts
+          ≡ g.counts
       go true behind = both_counts from place f g
       go false behind = behind
 
@@ -109,7 +112,8 @@ with_load k None = None
 with_load k (Some b) = Some (b, k)
 
 -- a load by its block, of the block that is told of its frame
-block_told : (fs : List Frame) (n k : ℕ) (o : Option ℕ) → o ≡ block_of n fs → with_load k o ≡ by_block fs (Some (n, k))
+block_told : (fs : List Frame) (n k : ℕ) (o : Option ℕ) → o ≡ block_of n fs
+    → with_load k o ≡ by_block fs (Some (n, k))
 block_told fs n k o e = ap (with_load k) e ∙ go (frame_of n fs)
     ∙ sym (with_frame_is {A = Option (ℕ × ℕ)} n (λ f p. Some (f.block, k)) fs None)
   where

@@ -1,5 +1,6 @@
 -- Marks of what may happen: how they are made, and that nothing else may.
-use Rattle.std.proofs.Common.{◌≡◌, ◌≢◌, ℕ, zero, suc, ◌+◌, ◌%◌, ◌<◌, ◌≤◌, ◌==◌, ◌&&◌, Bool, true, false, List, [], ◌∷◌}
+use Rattle.std.proofs.Common.{◌≡◌, ◌≢◌, ℕ, zero, suc, ◌+◌, ◌%◌, ◌<◌, ◌≤◌, ◌==◌, ◌&&◌, Bool, true}
+use Rattle.std.proofs.Common.{false, List, [], ◌∷◌}
 use Rattle.std.proofs.Common.{◌⊎◌, inl, inr, Option, Some, None, length, get_or, slice_index_or, slice_set, refl, sym}
 use Rattle.std.proofs.Common.{ap, ◌∙◌, subst, arith, bit_or, get_or-set_other}
 use Rattle.std.proofs.lemmas.Bool.{cases_lt, cases_eq, eq-eqb, ne_eqb, and_left, and_right, false≢true}
@@ -79,7 +80,8 @@ pub marked_more : (test : ℕ → Bool) (unread before marks read bit : ℕ) (on
     → ((r : ℕ) → r < 32 → has_bit unread r ≡ false → test r ≡ false) → on ≡ test read
     → ((i : ℕ) → has_bit marks i ≡ false → has_bit before i ≡ false) → (has_bit marks read ≡ false → on ≡ false)
     → IsLowestBit unread (read + 1) bit → MarkedBelow test before read → MarkedBelow test marks bit
-marked_more test unread before marks read bit on none is other put low below r l m e = go (cases_lt r read) (cases_eq r read)
+marked_more test unread before marks read bit on none is other put low below r l m e =
+    go (cases_lt r read) (cases_eq r read)
   where
     go : (r < read) ⊎ (read ≤ r) → (r ≡ read) ⊎ (r ≢ read) → test r ≡ false
     go (inl a) d = below r a m (other r e)
@@ -88,7 +90,8 @@ marked_more test unread before marks read bit on none is other put low below r l
 
 -- none of the reads of the first frames
 abbrev pub FramesMarked : (ℕ → ℕ → Bool) → List ℕ → ℕ → Type 0
-FramesMarked test words k = (n r : ℕ) → n < k → r < 32 → has_bit (slice_index_or words n 0) r ≡ false → test n r ≡ false
+FramesMarked test words k = (n r : ℕ) → n < k → r < 32 → has_bit (slice_index_or words n 0) r ≡ false
+    → test n r ≡ false
 
 pub frame_marked : (test : ℕ → ℕ → Bool) (words : List ℕ) (f v : ℕ) → f < length words
     → ((r : ℕ) → r < 32 → has_bit v r ≡ false → test f r ≡ false) → FramesMarked test words f
@@ -96,7 +99,8 @@ pub frame_marked : (test : ℕ → ℕ → Bool) (words : List ℕ) (f v : ℕ) 
 frame_marked test words f v inside is before n r l m e = go (cases_eq n f)
   where
     go : (n ≡ f) ⊎ (n ≢ f) → test n r ≡ false
-    go (inl d) = ap (λ k. test k r) d ∙ is r m (sym (ap (λ z. has_bit z r) (get_or-set_at words f n v 0 d inside)) ∙ e)
+    go (inl d) = ap (λ k. test k r) d
+        ∙ is r m (sym (ap (λ z. has_bit z r) (get_or-set_at words f n v 0 d inside)) ∙ e)
     go (inr ne) = before n r (omega (arith, ne)) m
         (sym (ap (λ z. has_bit z r) (get_or-set_other words f n v 0 ne)) ∙ e)
 
@@ -156,8 +160,10 @@ module _ (blocks : List Block) (budget : ℕ) (w : Window) where
       → eldest (fires blocks budget w tile) slots w.frames ≡ None
   none_issued marks tile marked none =
       sym (ready_is blocks budget w tile w.frames)
-      ∙ nowhere (numbers_of w.frames) (λ j l. least_none (may_fire blocks budget w tile (get_or (numbers_of w.frames) j 0))
-      slots 0 (λ s from below. let few = slots_are in quiet j s l (omega (arith, few)) below (cases_eq (s % 16) tile)))
+      ∙ nowhere (numbers_of w.frames)
+      (λ j l. least_none (may_fire blocks budget w tile (get_or (numbers_of w.frames) j 0))
+      slots 0 (λ s from below. let few = slots_are in quiet j s l (omega (arith, few)) below
+      (cases_eq (s % 16) tile)))
     where
       nowhere : (ns : List ℕ) → ((j : ℕ) → j < length ns → lowest_ready blocks budget w tile (get_or ns j 0) ≡ None)
           → first_found (lowest_ready blocks budget w tile) ns ≡ None
@@ -171,7 +177,8 @@ module _ (blocks : List Block) (budget : ℕ) (w : Window) where
       second true false h e = refl
       second false b h e = absurd (false≢true h)
 
-      quiet : (j s : ℕ) → j < length (numbers_of w.frames) → s < 128 → s < 0 + slots → (s % 16 ≡ tile) ⊎ (s % 16 ≢ tile)
+      quiet : (j s : ℕ) → j < length (numbers_of w.frames) → s < 128 → s < 0 + slots → (s % 16 ≡ tile)
+          ⊎ (s % 16 ≢ tile)
           → may_fire blocks budget w tile (get_or (numbers_of w.frames) j 0) s ≡ false
       quiet j s l m below (inl e) = and_right (s % 16 == tile) _ (marked.none s j m l
           (second (s % 16 == tile) (has_bit marks s) (eq-eqb (s % 16) tile e)

@@ -1,5 +1,6 @@
 -- Marks of what may happen stay while banks answer and units issue, and nothing happens where there is none.
-use Rattle.std.proofs.Common.{◌≡◌, ℕ, suc, ◌+◌, ◌*◌, ◌==◌, Bool, true, false, cond, List, Option, Some, None, is_some, is_none}
+use Rattle.std.proofs.Common.{◌≡◌, ℕ, suc, ◌+◌, ◌*◌, ◌==◌, Bool, true, false, cond, List, Option}
+use Rattle.std.proofs.Common.{Some, None, is_some, is_none}
 use Rattle.std.proofs.Common.{slice_get, refl, sym, ap, ◌∙◌, subst}
 use Rattle.std.proofs.lemmas.Bool.{false≢true}
 use Rattle.trips_isa.specs.declared.block.Block.{Block}
@@ -42,7 +43,8 @@ module _ {W : Type 0} where
   -- tokens that enter the mesh change nothing in the window
   both_window : (from place : ℕ) (f : Frame) (g : Grid W) → (enter_both from f place g).window ≡ g.window
   both_window from place f g =
-      enters_window (is_some (at f.places (suc place))) f.number (suc place) from (home f.code (target f.code (suc place)))
+      enters_window (is_some (at f.places (suc place))) f.number (suc place) from
+      (home f.code (target f.code (suc place)))
       (enters_if from f place g)
       ∙ enters_window (is_some (at f.places place)) f.number place from (home f.code (target f.code place)) g
 
@@ -56,7 +58,8 @@ module _ {W : Type 0} where
       go (Some f) = both_window from place f g
 
   pub reads_kept : (blocks : List Block) (budget bank : ℕ) (g : Grid W) (words : List ℕ)
-      → ReadsMarked blocks budget g.window words → ReadsMarked blocks budget (bank_turn blocks budget bank g).window words
+      → ReadsMarked blocks budget g.window words
+      → ReadsMarked blocks budget (bank_turn blocks budget bank g).window words
   reads_kept blocks budget bank g words m = by (eldest (answers_read blocks budget g bank) reads g.window.frames)
     where
       by : (q : Option (ℕ × ℕ)) → ReadsMarked blocks budget (read_chosen blocks budget bank q g).window words

@@ -31,13 +31,15 @@ module _ {W : Type 0} (blocks : List Block) (budget n p : ℕ) (g : Grid W) wher
       → delivers blocks budget n p g ≡ with_frame n (place_arrives blocks budget p) g.window.frames g
   placed_read f e far =
       ap (λ m. delivers blocks budget m p g) (sym (frame_number n g.window.frames f e))
-      ∙ ap (λ b. cond b (inst_arrives blocks budget (slot_of f.code (p / 2)) p f g) (delivers blocks budget f.number p g))
+      ∙ ap (λ b. cond b (inst_arrives blocks budget (slot_of f.code (p / 2)) p f g)
+      (delivers blocks budget f.number p g))
       (sym (le-ltb p 256 far))
       ∙ in_frame f e
 
   slot_lands : (f : Frame) → p < 256 → inst_arrives blocks budget (slot_of f.code (p / 2)) p f g ≡ lands f g
   slot_lands f near =
-      ap (λ b. cond b (inst_arrives blocks budget (slot_of f.code (p / 2)) p f g) (delivers blocks budget f.number p g))
+      ap (λ b. cond b (inst_arrives blocks budget (slot_of f.code (p / 2)) p f g)
+      (delivers blocks budget f.number p g))
       (sym (lt-ltb p 256 near))
 
   -- of an empty slot, and of an instruction's

@@ -2,7 +2,7 @@
 use Rattle.std.proofs.Common.{◌≡◌, ℕ, Bool, false, List, Option, None, slice_index_or, ap, ◌∙◌}
 use Rattle.std.proofs.Math.Path.{fun_ext}
 use Rattle.trips_isa.specs.Machine.{State}
-use Rattle.base.specs.Rows.{no_flags}
+use Rattle.base.specs.inside.Rows.{no_flags}
 use Rattle.base.proofs.FlagFacts.{get_unset}
 use Rattle.trips_isa.specs.declared.run.Counts.{Counts}
 use Rattle.operand_net.specs.Places.{Places, none}
@@ -17,7 +17,8 @@ pub unset_flags : (n : ℕ) (xs : List Bool) → xs ≡ no_flags n → (x : ℕ)
 unset_flags n xs e x = ap (λ ys. slice_index_or ys x false) e ∙ get_unset n x
 
 -- a grid without frames, of these parts
-abbrev pub of_parts : {W : Type 0} → State → Holding → W → Places → (ℕ → ℕ → Bool) → (ℕ → ℕ → Bool) → (ℕ → ℕ) → (ℕ → ℕ)
+abbrev pub of_parts : {W : Type 0} → State → Holding → W → Places → (ℕ → ℕ → Bool) → (ℕ → ℕ → Bool) → (ℕ → ℕ)
+    → (ℕ → ℕ)
     → (ℕ → Bool) → (ℕ → Bool) → Option Fetching → Counts → Grid W
 of_parts t p z m a k u h v c f n = record {
   window = opened t;
@@ -44,7 +45,8 @@ zeros x = 0
 abbrev clear : ℕ → Bool
 clear x = false
 
-pub starts : {W : Type 0} (t : State) (p : Holding) (z : W) (m : Places) (a k : ℕ → ℕ → Bool) (u h : ℕ → ℕ) (v c : ℕ → Bool)
+pub starts : {W : Type 0} (t : State) (p : Holding) (z : W) (m : Places) (a k : ℕ → ℕ → Bool) (u h : ℕ → ℕ)
+    (v c : ℕ → Bool)
     (f : Option Fetching) (n : Counts) → m ≡ none → ((x y : ℕ) → a x y ≡ false) → ((x y : ℕ) → k x y ≡ false)
     → ((x : ℕ) → u x ≡ 0) → ((x : ℕ) → h x ≡ 0) → ((x : ℕ) → v x ≡ false) → ((x : ℕ) → c x ≡ false) → f ≡ None
     → n ≡ uncounted → of_parts t p z m a k u h v c f n ≡ begun_with t p z

@@ -1,6 +1,7 @@
 -- Flags of frames by words: what a change of a word is to them.
 use Rattle.std.proofs.Common.{◌≡◌, ◌≢◌, ℕ, ◌-◌, ◌*◌, ◌%◌, ◌^◌, ◌<◌, ◌≤◌, Bool, true, false, cond, ◌==◌, ◌&&◌, ◌||◌}
-use Rattle.std.proofs.Common.{◌⊎◌, inl, inr, List, length, sym, ap, ap₂, ◌∙◌, arith, get_or-set_other, bit_and, bit_or}
+use Rattle.std.proofs.Common.{◌⊎◌, inl, inr, List, length, sym, ap, ap₂, ◌∙◌}
+use Rattle.std.proofs.Common.{arith, get_or-set_other, bit_and, bit_or}
 use Rattle.std.proofs.Common.{slice_index_or, slice_set, refl, replicate}
 use Rattle.std.proofs.lemmas.List.{get_or-replicate, length-replicate, get_or_past}
 use Rattle.std.specs.Int.{w128}
@@ -103,7 +104,8 @@ module _ (words : List ℕ) (f v : ℕ) (inside : f < length words) where
           ∙ ap₂ (λ a b. cond a false (has_bit (slice_index_or words b 0) k))
           (yes_and (k == n) ∙ ap (λ a. a && (k == n)) (sym (eq-eqb g f e))) (sym e)
       go g k (inr ne) = ap (λ z. has_bit z k) (there g ne)
-          ∙ ap (λ a. cond a false (frame_bit words g k)) (no_and (k == n) ∙ ap (λ a. a && (k == n)) (sym (ne_eqb g f ne)))
+          ∙ ap (λ a. cond a false (frame_bit words g k))
+          (no_and (k == n) ∙ ap (λ a. a && (k == n)) (sym (ne_eqb g f ne)))
 
 -- no flag of a frame
 pub no_flag : (words : List ℕ) (f : ℕ) → f < length words

@@ -167,8 +167,8 @@ fn frame_arrives<V: Windows, W>(grid: &mut Grid<V, W>, frame: u8)
     }
 }
 
-/// Part (6), behind the tick of the mesh: the parcels of some frames that have arrived are delivered, the eldest first.
-/// It wants room for 20,480 flushed frames in the count, eight for each place.
+/// Part (6), behind the tick of the mesh: the parcels of some frames that have arrived are delivered, the eldest
+/// first. It wants room for 20,480 flushed frames in the count, eight for each place.
 pub fn arrivals<V: Windows, W>(grid: &mut Grid<V, W>, order: &[u8])
     requires within { All (λ n. n < 8) order.now }
     requires few { length order.now ≤ 8 }

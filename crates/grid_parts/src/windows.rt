@@ -140,8 +140,8 @@ pub trait Windows {
         requires number { number < 32 }
         ensures { result ≡ all_resolved frame number (held self.now).frames };
 
-    /// The frame that the store of this frame and number would flush first, with the lowest number of its wrong loads;
-    /// none exactly where that store would flush none or would not be done.
+    /// The frame that the store of this frame and number would flush first, with the lowest number of its wrong
+    /// loads; none exactly where that store would flush none or would not be done.
     fn wrong_load(&self, frame: u8, number: u8) -> Option<(u8, u8)>
         requires frame { frame < 8 }
         requires number { number < 32 }

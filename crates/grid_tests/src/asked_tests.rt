@@ -27,7 +27,8 @@ N[2] genu 3 W[0]
 N[3] scall 0
 ";
 
-/// An event of a frame, how many frames are in flight, or the frame that a store would flush first with its lowest wrong load.
+/// An event of a frame, how many frames are in flight, or the frame that a store would flush first with its lowest
+/// wrong load.
 #[derive(Clone, Copy)]
 enum Row {
     Fetch(u32),

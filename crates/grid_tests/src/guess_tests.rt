@@ -3,8 +3,8 @@
 use crate::running::{Came, Row, assert_rows};
 use std::test::Fail;
 
-/// The divide makes the store of the first block late. The second block loads before it: the load is wrong, so its frame is
-/// flushed and fetched anew, and now its load waits.
+/// The divide makes the store of the first block late. The second block loads before it: the load is wrong, so its
+/// frame is flushed and fetched anew, and now its load waits.
 const LATE_STORE: &str = "trips 1
 data 0
 block 0 mask 00000001

@@ -21,7 +21,8 @@ N[2] scall 0
     committed: 1,
 };
 
-/// A store whose value a division makes late, and a load of eight bytes in the next block that takes one of them from it.
+/// A store whose value a division makes late, and a load of eight bytes in the next block that takes one of them from
+/// it.
 const STORED: Row = Row {
     text: "trips 1
 data 0

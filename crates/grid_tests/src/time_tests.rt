@@ -1,8 +1,8 @@
 //! How many cycles single operations take, counted by hand.
 //!
-//! A block is fetched by cycle 8, and its first instructions are issued there. What is issued in cycle c with latency n
-//! enters the mesh in cycle c + n, and has come over k links in cycle c + n + k - 1, or in c + n where k is 0. The block
-//! commits in the cycle behind the last output.
+//! A block is fetched by cycle 8, and its first instructions are issued there. What is issued in cycle c with latency
+//! n enters the mesh in cycle c + n, and has come over k links in cycle c + n + k - 1, or in c + n where k is 0. The
+//! block commits in the cycle behind the last output.
 
 use crate::running::{Came, Row, assert_rows};
 use std::test::Fail;

@@ -43,7 +43,7 @@ module _ (W : World) (built : IsBuilt W) (call : Calls) (follows : CallsFollow W
   -- a statement, and what stands behind it
   then_follows : (p : Place) (b k1 k : Block) (s : State) (m : Machine) (n : ℕ) (r : Res) (next : State → ℕ → Res)
       → Follows W (W.base + start + 8) (Rel W start g) b s m n 0 (ways_of p k1) r
-          → Does W start g k1 (ways_of p k) next
+      → Does W start g k1 (ways_of p k) next
       → Follows W (W.base + start + 8) (Rel W start g) b s m n 0 (ways_of p k) (then_run r next)
   then_follows p b k1 k s m n (Gone s1 n1) next f does =
       follows_then W (W.base + start + 8) (Rel W start g) b k1 s s1 m f.after n n1 f.j 0 0 (ways_of p k)
@@ -154,5 +154,5 @@ calls_follow W built (suc d) f g found used words low ws s m n back arity passed
     (λ fr has. tree_does W built call (calls_follow W built d) used g fr alu_gives g.body false
     (place_of g W.entries) (built.fits f g found).body
     (record { frame = refl; arrays = refl; entries = λ i. refl; low = (omega arith, (omega arith, tt)) })
-        (body_label g (W.entries f)) (way_out g) has)
+    (body_label g (W.entries f)) (way_out g) has)
     (nat_lt frame_limit (used + frame g)) refl)

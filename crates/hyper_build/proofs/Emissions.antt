@@ -374,7 +374,7 @@ loop_reached false g b a body post note l i k N behind top o f1 f2 es el ei ek e
     let u = put_out t1 in
     let n1 = turn_notes (plan g) (l + 1) (i + 1) k body in
     let r2 = f2 bl note.next start (next + 1) (i + 1 + steps_of body) (k + calls body) (N ++ n1)
-        (el ∙ omega arith) ei ek en in
+    (el ∙ omega arith) ei ek en in
     let enl : nl ≡ next = one_less t2.label next r2.label in
     let r1 = f1 bl nl s1 (l + 1) (i + 1) k N (enl ∙ omega arith) r2.place r2.calls r2.notes in
     let eul : u.label ≡ l = one_less t1.label l r1.label in

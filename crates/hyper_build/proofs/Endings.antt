@@ -112,7 +112,7 @@ module _ (c : Checks) (call : Calls) (e : Env) where
         turned s m (λ n. must (read c s x) (λ a. must (read c s y)
         (λ b. must (apply c op a b) (λ w. settle (with_var s to w) n))))
         (λ n. needed (read c s x) (λ a. must (read c s y)
-            (λ b. must (apply c op a b) (λ w. settle (with_var s to w) n)))
+        (λ b. must (apply c op a b) (λ w. settle (with_var s to w) n)))
         (λ a. needed (read c s y) (λ b. must (apply c op a b) (λ w. settle (with_var s to w) n))
         (λ b. needed (apply c op a b) (λ w. settle (with_var s to w) n) (λ w. settled (with_var s to w) n))))
     act_other (Frame to at) h s m =
@@ -136,7 +136,7 @@ module _ (c : Checks) (call : Calls) (e : Env) where
     act_other (Put x) h s m =
         turned s m (λ n. must (read c s x) (λ v. settle (with_output s (v % 256)) n))
         (λ n. needed (read c s x) (λ v. settle (with_output s (v % 256)) n)
-            (λ v. settled (with_output s (v % 256)) n))
+        (λ v. settled (with_output s (v % 256)) n))
     act_other (Get to) h s m =
         turned s m (λ n. settle (with_next s to s.input) n) (λ n. settled (with_next s to s.input) n)
     act_other (If x one other) h s m =

@@ -313,7 +313,7 @@ break_none other e = ap small_ifs (break_is other e)
 abbrev LegIsKept : Place → Plan → ℕ → ℕ → Step → Type 0
 LegIsKept P p i n (If a one other) =
     (l : ℕ) (k : Block) → AreKept one (entry P (annotated p (i + 1) n one) l k)
-        (blocks P (annotated p (i + 1) n one) l k)
+    (blocks P (annotated p (i + 1) n one) l k)
 LegIsKept P p i n _ = Unit {0}
 
 -- its leg's small ifs are in its block and in those that the leg begins, and it does not leave

@@ -150,7 +150,7 @@ goes_save W x y k m good = goes_same W _ k m _ go
 -- where faults are not looked for, any access
 skip_access : (W : World) (a s : ℕ) (n : Standing) (rest : List Act) → (W.check ≡ true → is_good_address a s ≡ true)
     → cond (W.check && not (is_clean (Accessed a s ∷ rest))) Unclean n
-        ≡ cond (W.check && not (is_clean rest)) Unclean n
+    ≡ cond (W.check && not (is_clean rest)) Unclean n
 skip_access W a s n rest h = go W.check h
   where
     go : (c : Bool) → (c ≡ true → is_good_address a s ≡ true)

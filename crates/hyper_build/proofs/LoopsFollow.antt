@@ -121,9 +121,9 @@ module _ (W : World) (built : IsBuilt W) (words : AluGivesWords) (call : Calls) 
             (ways_of (in_loop p broke again) (jump l)) (runs End s n) (omega arith)
             (does false (in_loop p broke again) tt q_place l (jump l) tt s m n rel) in
             subst (λ (x : ℕ). Here (jump x) s m n 1 (ways_of (in_loop p broke again) (jump l))
-                (runs post s n)) (sym a)
+            (runs post s n)) (sym a)
             (subst (λ (c : Tree). Here (jump l) s m n 1 (ways_of (in_loop p broke again) (jump l)) (runs c s n))
-                (sym e) f)
+            (sym e) f)
 
     -- or in the same block, where it is items alone
     post_follows : (s : State) (m : Machine) (n : ℕ) → Rel W start g s m
@@ -254,7 +254,7 @@ module _ (W : World) (built : IsBuilt W) (words : AluGivesWords) (call : Calls) 
       let second = leg_blocks (post_exit bare l) e others in
       let behind : Has W.program next (second ++ k ∷ []) =
       has_back W.program (l + 1) next first (second ++ k ∷ [])
-          (omega (arith, length_turn q body (l + 1) after)) has.1 in
+      (omega (arith, length_turn q body (l + 1) after)) has.1 in
       let last : Has W.program broke (k ∷ []) =
       has_back W.program next broke second (k ∷ [])
       (omega (arith, length_post bare l e others ∙ ap (post_size bare) (length_blocks q post (next + 1) (jump l))))

@@ -1,11 +1,13 @@
 -- Bits of words that are led up and down, and of masks.
 use Rattle.std.proofs.Common.{◌≡◌, ℕ, zero, suc, ◌+◌, ◌-◌, ◌*◌, ◌/◌, ◌%◌, ◌^◌, ◌<◌, ◌≤◌, ◌⊎◌, inl, inr, true, false}
-use Rattle.std.proofs.Common.{cond, not, nat_le, nat_lt, ◌==◌, ◌&&◌, refl, sym, ap, ap₂, ◌∙◌, arith, min, max, bit_and, bit_or, w64}
+use Rattle.std.proofs.Common.{cond, not, nat_le, nat_lt, ◌==◌, ◌&&◌, refl, sym, ap, ap₂, ◌∙◌, arith, min, max}
+use Rattle.std.proofs.Common.{bit_and, bit_or, w64}
 use Rattle.std.specs.Int.{bit_at}
 use Rattle.std.proofs.Math.Nat.{pow-le-pow_right, div-div-eq-div-mul}
 use Rattle.std.proofs.lemmas.Nat.{pow-add, one_shl}
 use Rattle.std.proofs.lemmas.Bool.{lt-leb, le-leb, lt-ltb, le-ltb, cases_lt, false≢true}
-use Rattle.std.proofs.lemmas.Nat.Bits.{bit_at_and, bit_at_or, bit_at_not, bit_at-lt, bit_at-zero, bit_at_ones, bit_at_ones_above}
+use Rattle.std.proofs.lemmas.Nat.Bits.{bit_at_and, bit_at_or, bit_at_not, bit_at-lt, bit_at-zero, bit_at_ones}
+use Rattle.std.proofs.lemmas.Nat.Bits.{bit_at_ones_above}
 use Rattle.std.proofs.lemmas.Nat.Bits.{bit_at_above, bit_at_cat_low, bit_at_cat_high}
 use Rattle.base.specs.Rows.{has_bit}
 
@@ -102,11 +104,16 @@ pub both_set : (a b i : ℕ) → has_bit (bit_and a b) i ≡ (has_bit a i && has
 both_set a b i = go (cases_bit a i) (cases_bit b i) (bit_at_and a b i)
   where
     go : (bit_at a i ≡ 0) ⊎ (bit_at a i ≡ 1) → (bit_at b i ≡ 0) ⊎ (bit_at b i ≡ 1)
-        → bit_at (bit_and a b) i ≡ min (bit_at a i) (bit_at b i) → has_bit (bit_and a b) i ≡ (has_bit a i && has_bit b i)
-    go (inl x) (inl y) e = is_clear (bit_and a b) i (omega arith) ∙ sym (ap₂ (λ x y. x && y) (is_clear a i x) (is_clear b i y))
-    go (inl x) (inr y) e = is_clear (bit_and a b) i (omega arith) ∙ sym (ap₂ (λ x y. x && y) (is_clear a i x) (is_set b i y))
-    go (inr x) (inl y) e = is_clear (bit_and a b) i (omega arith) ∙ sym (ap₂ (λ x y. x && y) (is_set a i x) (is_clear b i y))
-    go (inr x) (inr y) e = is_set (bit_and a b) i (omega arith) ∙ sym (ap₂ (λ x y. x && y) (is_set a i x) (is_set b i y))
+        → bit_at (bit_and a b) i ≡ min (bit_at a i) (bit_at b i)
+        → has_bit (bit_and a b) i ≡ (has_bit a i && has_bit b i)
+    go (inl x) (inl y) e = is_clear (bit_and a b) i (omega arith)
+        ∙ sym (ap₂ (λ x y. x && y) (is_clear a i x) (is_clear b i y))
+    go (inl x) (inr y) e = is_clear (bit_and a b) i (omega arith)
+        ∙ sym (ap₂ (λ x y. x && y) (is_clear a i x) (is_set b i y))
+    go (inr x) (inl y) e = is_clear (bit_and a b) i (omega arith)
+        ∙ sym (ap₂ (λ x y. x && y) (is_set a i x) (is_clear b i y))
+    go (inr x) (inr y) e = is_set (bit_and a b) i (omega arith)
+        ∙ sym (ap₂ (λ x y. x && y) (is_set a i x) (is_set b i y))
 
 pub not_set : (n i : ℕ) → n < 2 ^ 64 → i < 64 → has_bit (2 ^ 64 - 1 - n) i ≡ not (has_bit n i)
 not_set n i fits l = go (cases_bit n i) (bit_at_not w64 n i fits l)
@@ -130,10 +137,12 @@ merged a b t i fits l = go (cases_bit t i) (bit_at-lt a i) (bit_at-lt b i)
         → bit_at (bit_and b t) i ≡ min (bit_at b i) (bit_at t i) → bit_at (2 ^ 64 - 1 - t) i ≡ 1 - bit_at t i
         → bit_at (bit_or (bit_and a (2 ^ 64 - 1 - t)) (bit_and b t)) i ≡ cond (has_bit t i) (bit_at b i) (bit_at a i)
     go (inl x) p q o m n c =
-        let e : bit_at (bit_or (bit_and a (2 ^ 64 - 1 - t)) (bit_and b t)) i ≡ bit_at a i = omega (arith, x, p, q, o, m, n, c) in
+        let e : bit_at (bit_or (bit_and a (2 ^ 64 - 1 - t)) (bit_and b t)) i ≡ bit_at a i =
+        omega (arith, x, p, q, o, m, n, c) in
         e ∙ sym (ap (λ z. cond z (bit_at b i) (bit_at a i)) (is_clear t i x))
     go (inr x) p q o m n c =
-        let e : bit_at (bit_or (bit_and a (2 ^ 64 - 1 - t)) (bit_and b t)) i ≡ bit_at b i = omega (arith, x, p, q, o, m, n, c) in
+        let e : bit_at (bit_or (bit_and a (2 ^ 64 - 1 - t)) (bit_and b t)) i ≡ bit_at b i =
+        omega (arith, x, p, q, o, m, n, c) in
         e ∙ sym (ap (λ z. cond z (bit_at b i) (bit_at a i)) (is_set t i x))
 
 -- no bit of two words together is set where neither has one

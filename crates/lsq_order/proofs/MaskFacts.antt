@@ -4,7 +4,8 @@ use Rattle.std.proofs.Common.{◌==◌, ◌&&◌, refl, sym, ap, ◌∙◌, arit
 use Rattle.std.specs.Int.{bit_at, leading_zeros, trailing_zeros}
 use Rattle.std.proofs.lemmas.Nat.{and_le_l, leading_top, one_shl}
 use Rattle.std.proofs.lemmas.Bool.{lt-ltb, cases_lt}
-use Rattle.std.proofs.lemmas.Nat.Bits.{bit_at_above, bit_at-trailing_zeros, bit_at_and, bit_at_ones_above, bit_at_cat_high}
+use Rattle.std.proofs.lemmas.Nat.Bits.{bit_at_above, bit_at-trailing_zeros, bit_at_and, bit_at_ones_above}
+use Rattle.std.proofs.lemmas.Nat.Bits.{bit_at_cat_high}
 use Rattle.base.specs.Rows.{has_bit}
 use Rattle.lsq_order.specs.Masks.{IsEnd, IsNext}
 use Rattle.lsq_order.proofs.BitFacts.{is_clear, none_set, both_set, ones_are, led_down_by}
@@ -25,7 +26,8 @@ kept : (mask below i : ℕ) → below ≤ 32 → i < below
 kept mask below i small l =
     let ones : has_bit (1 * 2 ^ below % 2 ^ 64 - 1) i ≡ true =
     ap (λ m. has_bit (m - 1) i) (one_shl below 64 (omega arith)) ∙ ones_are below i ∙ lt-ltb i below l in
-    sym (both_set mask (1 * 2 ^ below % 2 ^ 64 - 1) i ∙ ap (λ b. has_bit mask i && b) ones ∙ and_true (has_bit mask i))
+    sym (both_set mask (1 * 2 ^ below % 2 ^ 64 - 1) i ∙ ap (λ b. has_bit mask i && b) ones
+    ∙ and_true (has_bit mask i))
   where
     and_true : (b : Bool) → (b && true) ≡ b
     and_true true = refl

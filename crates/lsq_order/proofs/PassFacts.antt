@@ -74,7 +74,8 @@ turned s new stores mem end k o i e eo meets l =
 pub none_passed : (s : Sought) (row : List (Option Stored)) (mem : ℕ → ℕ) (word below : ℕ) → length row ≡ 32
     → ((n : ℕ) → n < 64 → 64 * 0 + n < 32 → has_bit word n ≡ is_some (get_or row (64 * 0 + n) None)) → word ≡ 0
     → taken s mem ≡ taken s (byte_seen (λ n. get_or row n None) mem below)
-none_passed s row mem word below size bits e = taken_same s s mem (byte_seen (λ n. get_or row n None) mem below) (λ i l.
+none_passed s row mem word below size bits e = taken_same s s mem (byte_seen (λ n. get_or row n None) mem below)
+    (λ i l.
     taken_gap s (λ n. get_or row n None) mem 0 below i (omega arith)
     (no_store row word below (min below 32) 0 size bits refl (record {
       within = omega arith;

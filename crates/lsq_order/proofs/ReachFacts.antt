@@ -206,11 +206,13 @@ any_is address size base bits mask fits is = go (bit_and mask bits == 0) refl
         → any_touched (is_open base bits) address size ≡ true
     some p t l one (inl h) m = absurd (false≢true (sym (is t l
         ∙ ap (λ b. b && nat_lt (base + t - address) size) (lt-leb address (base + t) h))
-        ∙ (both_true (has_bit mask t) (has_bit bits t) (sym (both_set mask bits t) ∙ is_set (bit_and mask bits) t one)).0))
+        ∙ (both_true (has_bit mask t) (has_bit bits t)
+        (sym (both_set mask bits t) ∙ is_set (bit_and mask bits) t one)).0))
     some p t l one (inr h) (inr m) = absurd (false≢true (sym (is t l
         ∙ ap (λ b. nat_le address (base + t) && b) (le-ltb (base + t - address) size m)
         ∙ and_false (nat_le address (base + t)))
-        ∙ (both_true (has_bit mask t) (has_bit bits t) (sym (both_set mask bits t) ∙ is_set (bit_and mask bits) t one)).0))
+        ∙ (both_true (has_bit mask t) (has_bit bits t)
+        (sym (both_set mask bits t) ∙ is_set (bit_and mask bits) t one)).0))
     some p t l one (inr h) (inl m) =
         let same : address + (base + t - address) ≡ base + t = omega (arith, h) in
         let off : base + t - base ≡ t = omega arith in
@@ -218,7 +220,8 @@ any_is address size base bits mask fits is = go (bit_and mask bits == 0) refl
         (ap (is_open base bits) same
         ∙ open_at base bits (base + t) (omega arith) (omega (arith, l))
         ∙ ap (has_bit bits) off
-        ∙ (both_true (has_bit mask t) (has_bit bits t) (sym (both_set mask bits t) ∙ is_set (bit_and mask bits) t one)).1)
+        ∙ (both_true (has_bit mask t) (has_bit bits t)
+        (sym (both_set mask bits t) ∙ is_set (bit_and mask bits) t one)).1)
 
     pos : (n : ℕ) → (n == 0) ≡ false → 0 < n
     pos zero e = absurd (false≢true (sym e))
@@ -227,7 +230,8 @@ any_is address size base bits mask fits is = go (bit_and mask bits == 0) refl
     go : (b : Bool) → (bit_and mask bits == 0) ≡ b
         → not (bit_and mask bits == 0) ≡ any_touched (is_open base bits) address size
     go true e = ap not e ∙ sym (none_touched (is_open base bits) address size (λ k l.
-        closed (eqb-true (bit_and mask bits) 0 e) k l (cases_lt (address + k) base) (cases_lt (address + k - base) 64)))
+        closed (eqb-true (bit_and mask bits) 0 e) k l (cases_lt (address + k) base)
+        (cases_lt (address + k - base) 64)))
     go false e =
         let p : 0 < bit_and mask bits = pos (bit_and mask bits) e in
         let z = bit_at-trailing_zeros w64 (bit_and mask bits) p (small_and mask bits fits) in

@@ -1,12 +1,15 @@
 -- What a load takes of stores and of memory, bit by bit.
-use Rattle.std.proofs.Common.{◌≡◌, ℕ, zero, suc, ◌+◌, ◌-◌, ◌*◌, ◌/◌, ◌%◌, ◌^◌, ◌<◌, ◌≤◌, ◌⊎◌, inl, inr, Bool, true, false}
-use Rattle.std.proofs.Common.{cond, not, nat_le, nat_lt, ◌&&◌, Option, Some, None, refl, sym, ap, ap₂, ◌∙◌, subst, arith}
+use Rattle.std.proofs.Common.{◌≡◌, ℕ, zero, suc, ◌+◌, ◌-◌, ◌*◌, ◌/◌, ◌%◌, ◌^◌, ◌<◌, ◌≤◌, ◌⊎◌, inl}
+use Rattle.std.proofs.Common.{inr, Bool, true, false}
+use Rattle.std.proofs.Common.{cond, not, nat_le, nat_lt, ◌&&◌, Option, Some, None, refl, sym, ap}
+use Rattle.std.proofs.Common.{ap₂, ◌∙◌, subst, arith}
 use Rattle.std.proofs.Common.{bit_and, pow-suc, List, slice_index}
 use Rattle.std.specs.Int.{bit_at}
 use Rattle.std.proofs.Math.Nat.{pow-le-pow_right}
 use Rattle.std.proofs.lemmas.Nat.{pow-add}
 use Rattle.std.proofs.lemmas.Bool.{cases_lt, lt-leb, le-leb, lt-ltb, le-ltb, false≢true}
-use Rattle.std.proofs.lemmas.Nat.Bits.{bit_at_lowest, bit_at-suc, bit_at-zero, bit_at_above, bit_at_cat_low, bit_at_cat_high}
+use Rattle.std.proofs.lemmas.Nat.Bits.{bit_at_lowest, bit_at-suc, bit_at-zero, bit_at_above, bit_at_cat_low}
+use Rattle.std.proofs.lemmas.Nat.Bits.{bit_at_cat_high}
 use Rattle.base.specs.Rows.{has_bit}
 use Rattle.trips_isa.specs.declared.block.Stored.{Stored}
 use Rattle.trips_isa.specs.Stores.{byte_of, byte_seen, byte_stored, bytes_seen, or_byte}
@@ -57,7 +60,8 @@ byte_small (Some s) a b e = go s.value e
 
     go : (v : Option ℕ) → byte_stored s v a ≡ Some b → b < 256
     go None e = absurd (cc)
-    go (Some v) e = by (v / 2 ^ (8 * (s.size - 1 - (a - s.address)))) (nat_le s.address a && nat_lt (a - s.address) s.size) e
+    go (Some v) e = by (v / 2 ^ (8 * (s.size - 1 - (a - s.address))))
+        (nat_le s.address a && nat_lt (a - s.address) s.size) e
 
 or_small : (o : Option ℕ) (c : ℕ) → ((b : ℕ) → o ≡ Some b → b < 256) → c < 256 → or_byte o c < 256
 or_small None c h l = l
@@ -89,7 +93,8 @@ fits_word stores mem n address k h l =
     omega (arith, small, far)
 
 -- bit i of the number of k bytes
-pub bits_seen : (stores : ℕ → Option Stored) (mem : ℕ → ℕ) (n address : ℕ) → ((a : ℕ) → byte_seen stores mem n a < 256)
+pub bits_seen : (stores : ℕ → Option Stored) (mem : ℕ → ℕ) (n address : ℕ)
+    → ((a : ℕ) → byte_seen stores mem n a < 256)
     → (k i : ℕ) → i < 8 * k
     → bit_at (bytes_seen stores mem n address k) i ≡ byte_bit (address + k) (byte_seen stores mem n) i
 bits_seen stores mem n address h zero i l = absurd (omega (arith, l))
@@ -211,7 +216,8 @@ and_false false = refl
 
 past : (s : Stored) (v a : ℕ) → s.address + s.size ≤ a → byte_stored s (Some v) a ≡ None
 past s v a l = ap (λ x. cond x (Some (v / 2 ^ (8 * (s.size - 1 - (a - s.address))) % 256)) None)
-    (ap (λ y. nat_le s.address a && y) (le-ltb (a - s.address) s.size (omega (arith, l))) ∙ and_false (nat_le s.address a))
+    (ap (λ y. nat_le s.address a && y) (le-ltb (a - s.address) s.size (omega (arith, l)))
+    ∙ and_false (nat_le s.address a))
 
 -- the bytes behind a store
 abbrev pub behind : Stored → ℕ → (ℕ → ℕ) → ℕ → ℕ

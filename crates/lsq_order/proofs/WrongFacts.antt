@@ -1,7 +1,8 @@
 -- The loads of a frame, one after another, as its stores leave less and less of a reach.
 use Rattle.std.proofs.Common.{◌≡◌, ℕ, zero, suc, ◌+◌, ◌<◌, ◌≤◌, Bool, true, false, cond, ◌&&◌, not, nat_lt}
 use Rattle.std.proofs.Common.{List, Option}
-use Rattle.std.proofs.Common.{Some, None, inl, inr, ◌==◌, [], ◌∷◌, ◌||◌, ◌⊎◌, ◌*◌, ◌%◌, ◌^◌, bit_or, length, get_or, refl, sym, ap, ap₂, ◌∙◌, arith}
+use Rattle.std.proofs.Common.{Some, None, inl, inr, ◌==◌, [], ◌∷◌, ◌||◌, ◌⊎◌, ◌*◌, ◌%◌, ◌^◌, bit_or, length, get_or}
+use Rattle.std.proofs.Common.{refl, sym, ap, ap₂, ◌∙◌, arith}
 use Rattle.std.specs.Prelude.{is_some}
 use Rattle.std.proofs.Math.Path.{fun_ext}
 use Rattle.std.proofs.lemmas.Bool.{lt-ltb, le-ltb, cases_eq, cases_lt}
@@ -58,7 +59,8 @@ narrowed_gap stores from low (suc high) touched a l le h =
   where
     go : (low ≤ high → narrowed stores from low touched a ≡ narrowed stores from high touched a)
         → (high < low) ⊎ (low ≤ high) → narrowed stores from low touched a ≡ narrowed stores from (suc high) touched a
-    go rest (inl k) = let same : low ≡ suc high = omega (arith, k, le) in ap (λ n. narrowed stores from n touched a) same
+    go rest (inl k) = let same : low ≡ suc high = omega (arith, k, le) in
+        ap (λ n. narrowed stores from n touched a) same
     go rest (inr k) = rest k
         ∙ sym (narrowed_next stores from high (suc high) touched a (omega (arith, l, k)) (omega arith)
         ∙ ap (λ o. not (covers o a) && narrowed stores from high touched a) (h high k (omega arith)))
@@ -119,7 +121,8 @@ passes_is : (stores : ℕ → Option Stored) (n : ℕ) (touched : ℕ → Bool)
 passes_is stores n touched = fun_ext (passes_at stores n touched)
 
 -- a load of a younger frame is wrong exactly where one is found
-pub found_is : (stores : ℕ → Option Stored) (loads : List (Option Taken)) (touched : ℕ → Bool) (from : ℕ) (o : Option ℕ)
+pub found_is : (stores : ℕ → Option Stored) (loads : List (Option Taken)) (touched : ℕ → Bool) (from : ℕ)
+    (o : Option ℕ)
     → Finds stores loads touched from o → from ≡ 0 → length loads ≡ 32
     → is_some o ≡ violated (λ n. passes stores n touched) loads
 found_is stores loads touched from None h e size =
@@ -204,7 +207,8 @@ own_found stores loads touched from (Some n) h m e same size =
 
 -- what is left of the store's bytes behind its frame
 pub own_left : (stores : ℕ → Option Stored) (touched : ℕ → Bool) (from m a : ℕ) → from ≤ 32 → from ≡ m + 1
-    → ((z : ℕ) → touched z ≡ covers (stores m) z) → narrowed stores from numbers touched a ≡ nearest stores m numbers a
+    → ((z : ℕ) → touched z ≡ covers (stores m) z)
+    → narrowed stores from numbers touched a ≡ nearest stores m numbers a
 own_left stores touched from m a l e same =
     let next : from ≡ suc m = omega (arith, e) in
     let z = numbers_are in

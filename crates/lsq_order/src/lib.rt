@@ -1,5 +1,5 @@
-//! The order of loads and stores: which bytes a load takes of the stores of a frame, which answered loads a store makes
-//! wrong, and which loads wait.
+//! The order of loads and stores: which bytes a load takes of the stores of a frame, which answered loads a store
+//! makes wrong, and which loads wait.
 #![tactic(auto)]
 
 mod masks;

@@ -1,5 +1,6 @@
 //! The bytes that a load takes, found among the stores from the nearest one back.
-ghost use Rattle.std.specs.Prelude.{◌≡◌, ◌<◌, ◌≤◌, ◌+◌, ◌-◌, ◌*◌, ◌/◌, ◌^◌, ℕ, None, Option, Some, true, cond, nat_lt};
+ghost use Rattle.std.specs.Prelude.{◌≡◌, ◌<◌, ◌≤◌, ◌+◌, ◌-◌, ◌*◌, ◌/◌, ◌^◌, ℕ, None, Option};
+ghost use Rattle.std.specs.Prelude.{Some, true, cond, nat_lt};
 ghost use Rattle.std.specs.Prelude.{slice_index, slice_index_or};
 ghost use Rattle.std.specs.Int.{bit_at};
 ghost use Rattle.base.specs.Rows.{has_bit};

@@ -1,6 +1,6 @@
 //! The loads that wait until the older stores are resolved.
 ghost use Rattle.std.specs.Prelude.{◌≡◌, ◌+◌, ◌*◌, ◌%◌, ◌<◌, true, false, slice_index_or, slice_set};
-ghost use Rattle.base.specs.Rows.{no_flags};
+ghost use Rattle.base.specs.inside.Rows.{no_flags};
 
 use base::Flags;
 use std::marker::Model;

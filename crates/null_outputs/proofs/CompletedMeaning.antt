@@ -256,7 +256,7 @@ module _ (sure : Sure) (want : Want) (b : FlowBlock) (fits : FitsFlow b) (masked
       let one = old_one.numbers k in
       let e = here_count regs h ss (omega (arith, c, one)) in
       let r = rest (in_mask b.mask k) s (here regs h ss) et (omega (arith, c, one, e))
-          (λ x. surely_none ss (es ∙ x)) in
+      (λ x. surely_none ss (es ∙ x)) in
       let l2 : lack sure want b regs h f k ≡ cond (in_mask b.mask k && not s) (1 - here regs h ss) 0 =
       ap (λ (x : Bool). cond (in_mask b.mask k && not x) (1 - here regs h ss) 0) es in
       omega (arith, l, l2, c, e, r, one)

@@ -248,7 +248,7 @@ module _ (regs : ℕ → ℕ) (h : ℕ → Answer) (f : Computes) (b : FlowBlock
       let x = at_node g.node w.0 w.1 (below g.node w.0 w.1 wg rise) in
       let o2 : Obeys regs f h p (guard_group p s g.node (c (Node g.node))) =
       subst (λ (u : Bool). Obeys regs f h p (cond u (guard_group p s g.node (c (Node g.node))) [])) used
-          (o w.0 w.1) in
+      (o w.0 w.1) in
       guard_covered regs h f p s g.node (c (Node g.node)) clear x o2
 
   sense_covered : (y : ℕ) (n : FlowNode) → slice_get b.nodes y ≡ Some n → want y ≡ true → (g : Guard)

@@ -75,7 +75,7 @@ pub named_front : (s : FlowSource) (ns more : List FlowNode) → nodes_name s ns
 named_front s [] more e = absurd (true≢false (sym e))
 named_front s (n ∷ ns) more e =
     go (is_among s n.left) (is_among s n.right) (guards_by s n.guard) (nodes_name s ns)
-        (λ d. named_front s ns more d) e
+    (λ d. named_front s ns more d) e
   where
     go : (a b c d : Bool) → (d ≡ true → nodes_name s (ns ++ more) ≡ true) → (a || (b || (c || d))) ≡ true
         → (a || (b || (c || nodes_name s (ns ++ more)))) ≡ true

@@ -265,7 +265,7 @@ module _ (regs : ℕ → ℕ) (h : ℕ → Answer) where
       both_covered (f p (both_under None (c s) (top_of c (suc p) t rest))) None p (1 - here (t ∷ rest)) (c s)
       (top_of c (suc p) t rest) (omega arith) x o.0 in
       let e : here (c s) ≡ 1 - present (got regs h s) = here_count (c s) (omega (arith, (k.0).number))
-          ∙ (k.0).number in
+      ∙ (k.0).number in
       as_covered _ _ (Node p ∷ []) (ap (λ (i : ℕ). all_there i (1 - here (t ∷ rest))) e
       ∙ lack_more (got regs h s) (first regs h (t ∷ rest))) w
 

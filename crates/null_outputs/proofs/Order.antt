@@ -346,8 +346,11 @@ module _ (sure : Sure) (want : Want) (b : FlowBlock) (rank : ℕ → ℕ) where
 
   list_ok : (lim p : ℕ) (ss : List FlowSource) → EachCover lim ss → Each Stands p (list_ranks lim ss)
       → Each NodeOk p (list_nodes c p ss)
-  list_ok lim p [] k x = (plain_ok p lim None [] [] x.0 tt tt tt (null_under None) refl refl refl
-      (refl, refl) refl, tt)
+  list_ok lim p [] k x = (
+    plain_ok p lim None [] [] x.0 tt tt tt (null_under None) refl refl refl
+        (refl, refl) refl,
+    tt,
+  )
   list_ok lim p (s ∷ rest) k x = pairs_ok lim p s rest k x
 
   list_at : (lim p : ℕ) (ss : List FlowSource) → EachCover lim ss → Each Stands p (list_ranks lim ss)

@@ -135,7 +135,7 @@ module _ (regs : ℕ → ℕ) (h : ℕ → Answer) where
   quiet_exits (n ∷ ns) q j =
       ap (λ (x : Form). leaving_in x n (h j) ++ exits h (suc j) ns) (q.0).form
       ∙ ap (λ (l : List (Inst × Token)). l ++ exits h (suc j) ns) (general_leaves n (h j))
-          ∙ quiet_exits ns q.1 (suc j)
+      ∙ quiet_exits ns q.1 (suc j)
 
   general_acts : (n : FlowNode) → divides n.op ≡ false → (l r : Answer) → act_tokens General n l r ≡ []
   general_acts n e None r = refl

@@ -18,7 +18,8 @@ use Rattle.null_outputs.specs.Covers.{Want, null_under, guard_on, Sure, Places, 
 use Rattle.null_outputs.specs.Covers.{cover_of, Cover, top_of, list_top, pairs, list_nodes}
 use Rattle.null_outputs.specs.Groups.{left_needed, right_needed, guard_group, guard_is, is_used}
 use Rattle.null_outputs.specs.Groups.{guard_part, left_part, right_part, region}
-use Rattle.null_outputs.proofs.NullsOnPaths.{Covered, as_covered, append_covered, null_covered, other_bit, EachCovered}
+use Rattle.null_outputs.proofs.NullsOnPaths.{Covered, as_covered, append_covered, null_covered}
+use Rattle.null_outputs.proofs.NullsOnPaths.{other_bit, EachCovered}
 use Rattle.null_outputs.proofs.NullsOnPaths.{pairs_covered, list_covered}
 use Rattle.null_outputs.proofs.Spaces.{obeys_front, obeys_back}
 use Rattle.null_outputs.proofs.Covers.{both_true, used_wants, Known, all_at, number_covered, sources_covered}
@@ -75,7 +76,7 @@ module _ (regs : ℕ → ℕ) (h : ℕ → Answer) where
 
   group_tidy : (f : Computes) (p : ℕ) (s : Bool) (y : ℕ) (ms : List FlowSource) → (h y ≢ Some Null)
       → Covered regs h (1 - present (h y)) ms → Obeys regs f h p (guard_group p s y ms)
-          → AllTidy (guard_group p s y ms)
+      → AllTidy (guard_group p s y ms)
   group_tidy f p s y [] n c o = (record { clear = n; left = omega arith; right = omega arith }, tt)
   group_tidy f p s y (m ∷ ms) n c o =
       let z = null_covered regs h (f (suc p) (null_under (Some (guard_on (not s) y))))

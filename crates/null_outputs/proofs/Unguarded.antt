@@ -233,7 +233,7 @@ module _ (b : FlowBlock) (st : IsStraight b) where
       (guard_part_size (want_by b) b.nodes (sure_by b) s) p 0 b.nodes ≡ []
   guards_empty s p =
       region_empty (guard_part (want_by b) b.nodes c s)
-          (guard_part_size (want_by b) b.nodes (sure_by b) s) p 0 b.nodes
+      (guard_part_size (want_by b) b.nodes (sure_by b) s) p 0 b.nodes
       (λ i n e q k. none_if (is_used (want_by b) 0 b.nodes s k) (guard_group q s k (c (Node k)))
       (none_used 0 b.nodes s k))
 

@@ -92,7 +92,7 @@ module _ {X : Type 0} (Q : ℕ → X → Type 0) where
         let first : R p j x = at_true (nat_eq j j) (same_eq j j refl) p
         (start_of size (p + size j x) (suc j) xs j) (λ z. R z j x) (r zero x j (omega arith) refl) in
         each_append p (p + size j x) (part p j x) _ (omega (arith, e))
-            (q p j x (at zero x j (omega arith) refl) first)
+        (q p j x (at zero x j (omega arith) refl) first)
         (spread_all all R q (p + size j x) (suc j) xs (λ i y z ez d. at (suc i) y z (omega (arith, ez)) d)
         (λ i y z ez d.
         at_false (nat_eq z j) (other_eq z j (omega (arith, ez))) p (start_of size (p + size j x) (suc j) xs z)

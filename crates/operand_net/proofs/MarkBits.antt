@@ -37,7 +37,8 @@ pub without_one : (n k i : ℕ) → k < 64 → i < 64
     → has_bit (bit_and n (2 ^ 64 - 1 - 1 * 2 ^ k % 2 ^ 64)) i ≡ cond (i == k) false (has_bit n i)
 without_one n k i below within = go (cases_eq i k)
   where
-    go : (i ≡ k) ⊎ (i ≢ k) → has_bit (bit_and n (2 ^ 64 - 1 - 1 * 2 ^ k % 2 ^ 64)) i ≡ cond (i == k) false (has_bit n i)
+    go : (i ≡ k) ⊎ (i ≢ k) → has_bit (bit_and n (2 ^ 64 - 1 - 1 * 2 ^ k % 2 ^ 64)) i ≡ cond (i == k) false
+        (has_bit n i)
     go (inl e) = ap (has_bit (bit_and n (2 ^ 64 - 1 - 1 * 2 ^ k % 2 ^ 64))) e
         ∙ ap (λ z. z == 1) (bit_at_clear_same w64 n k below)
         ∙ ap (λ b. cond b false (has_bit n i)) (sym (eq-eqb i k e))
@@ -114,12 +115,14 @@ set_mark ws q v b within bits k = go (cases_eq k q) (cases_eq (k / 64) (q / 64))
         let d : k / 64 ≡ q / 64 = ap (λ z. z / 64) e in
         let m : k % 64 ≡ q % 64 = ap (λ z. z % 64) e in
         ap (λ z. has_bit z (k % 64)) (get_or-set_at ws (q / 64) (k / 64) v 0 d inside)
-        ∙ bits (k % 64) low ∙ ap (λ c. cond c b (has_bit (get_or ws (q / 64) 0) (k % 64))) (eq-eqb (k % 64) (q % 64) m)
+        ∙ bits (k % 64) low ∙ ap (λ c. cond c b (has_bit (get_or ws (q / 64) 0) (k % 64)))
+        (eq-eqb (k % 64) (q % 64) m)
         ∙ sym (ap (λ c. cond c b (marked ws k)) (eq-eqb k q e))
     go (inr ne) (inl d) =
         let m : k % 64 ≢ q % 64 = (λ same. ne (omega arith)) in
         ap (λ z. has_bit z (k % 64)) (get_or-set_at ws (q / 64) (k / 64) v 0 d inside)
-        ∙ bits (k % 64) low ∙ ap (λ c. cond c b (has_bit (get_or ws (q / 64) 0) (k % 64))) (ne_eqb (k % 64) (q % 64) m)
+        ∙ bits (k % 64) low ∙ ap (λ c. cond c b (has_bit (get_or ws (q / 64) 0) (k % 64)))
+        (ne_eqb (k % 64) (q % 64) m)
         ∙ ap (λ z. has_bit (get_or ws z 0) (k % 64)) (sym d)
         ∙ sym (ap (λ c. cond c b (marked ws k)) (ne_eqb k q ne))
     go (inr ne) (inr far) =
@@ -177,7 +180,8 @@ link_taken nodes a b la lb l = go (cases_eq (l / 25) a) (cases_eq (l % 25) b)
     within = omega arith
 
     go : (l / 25 ≡ a) ⊎ (l / 25 ≢ a) → (l % 25 ≡ b) ⊎ (l % 25 ≢ b)
-        → taken (set nodes a (bit_or (get_or nodes a 0) (1 * 2 ^ b % 2 ^ 32))) l ≡ (taken nodes l || (a * 25 + b == l))
+        → taken (set nodes a (bit_or (get_or nodes a 0) (1 * 2 ^ b % 2 ^ 32))) l
+        ≡ (taken nodes l || (a * 25 + b == l))
     go (inl e) (inl d) =
         ap (λ z. has_bit z (l % 25))
         (get_or-set_at nodes a (l / 25) (bit_or (get_or nodes a 0) (1 * 2 ^ b % 2 ^ 32)) 0 e la)
@@ -213,7 +217,8 @@ is_some ws full w all lt e zero_word =
     let both : false ≡ true = sym (ap (λ z. not (z == 0)) zero_word) ∙ sym (all w lt) ∙ e in
     Rattle.std.proofs.lemmas.Bool.false≢true both
 
-pub empty_marks : (ws : List ℕ) (full : ℕ) → length ws ≡ 40 → IsFull ws full → full ≡ 0 → (q : ℕ) → marked ws q ≡ false
+pub empty_marks : (ws : List ℕ) (full : ℕ) → length ws ≡ 40 → IsFull ws full → full ≡ 0 → (q : ℕ)
+    → marked ws q ≡ false
 empty_marks ws full size all e q = ap (λ z. has_bit z (q % 64)) (go (cases_lt (q / 64) 40)) ∙ zero_bit (q % 64)
   where
     go : (q / 64 < 40) ⊎ (40 ≤ q / 64) → get_or ws (q / 64) 0 ≡ 0
@@ -252,7 +257,8 @@ past_word ws f p b r lp low past next =
       found = next.found;
     }
   where
-    go : (k : ℕ) → p ≤ k → k < r → (k < 64 * (p / 64) + 64) ⊎ (64 * (p / 64) + 64 ≤ k) → marked ws (320 * f + k) ≡ false
+    go : (k : ℕ) → p ≤ k → k < r → (k < 64 * (p / 64) + 64) ⊎ (64 * (p / 64) + 64 ≤ k)
+        → marked ws (320 * f + k) ≡ false
     go k from lt (inl here) = at_word ws f k (5 * f + p / 64) (k % 64) (omega arith) (omega arith)
         ∙ low.clear (k % 64) (omega arith) (omega arith)
     go k from lt (inr behind) = next.clear k (omega arith) lt

@@ -164,7 +164,7 @@ module _ (regs : ℕ → ℕ) (h : ℕ → Answer) where
     pub halves : Runs regs h f st 0 (all_nodes b) → Halves
     halves x =
         let sl : Live regs h at_start s.registers =
-            subst (λ (v : ℕ → ℕ). Live regs h at_start v) (sym sr) start_live in
+        subst (λ (v : ℕ → ℕ). Live regs h at_start v) (sym sr) start_live in
         let o = on_items regs h f st mem b.items None 0 0 at_start no_bits s t.items (none_clear regs h) refl sl
         (no_bit regs h f st mem s.registers) (runs_front regs h f st 0 (begun b).nodes (ended b).nodes x) in
         let back = runs_back regs h f st 0 (begun b).nodes (ended b).nodes x in
@@ -212,8 +212,10 @@ converts_paths b t regs f h o =
     let hs = halves regs h f st [] b t s refl x in
     let calm = calm_append regs h (begun b).nodes (ended b).nodes hs.on.calm hs.leaving.calm in
     record {
-      tidy = record { clear = all_clear regs h (all_nodes b) calm;
-          operands = all_operands regs h (all_nodes b) calm };
+      tidy = record {
+        clear = all_clear regs h (all_nodes b) calm;
+        operands = all_operands regs h (all_nodes b) calm;
+      };
       one = record {
         writes = writes_most regs h (ended b).env hs.leaving.after hs.leaving.live (all_touched b) 128;
         numbers = λ k. tokens_most regs h 0 0 (begun b).number (all_nodes b) (block_rises b t) k;

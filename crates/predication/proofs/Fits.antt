@@ -164,7 +164,7 @@ contains_read ns ws (suc n) r l e = go (nat_eq r n) refl (λ m. contains_read ns
         let z : (nodes_read ns n || writes_read ws n) ≡ true =
         subst (λ (q : ℕ). (nodes_read ns q || writes_read ws q) ≡ true) s e in
         subst (λ (q : ℕ). Contains (reads_below ns ws (suc n)) q) (sym s)
-            (here (nodes_read ns n || writes_read ws n) z)
+        (here (nodes_read ns n || writes_read ws n) z)
     go false d ih =
         let ne : r ≢ n = grind (arith, nat_tests) in
         contains_more (nodes_read ns n || writes_read ws n) n r (reads_below ns ws n) (ih (omega arith))

@@ -191,7 +191,7 @@ items_most (If t yea nay rest) g j m env bits k h =
     (most_append k _ _ (items_most yea _ _ m env no_bits k ly)
     (most_append k _ _ (items_most nay _ _ y.number env no_bits k ln)
     (most_append k _ _ (join_most (distinct (touched yea ++ touched nay)) k _ _ env y.env n.env (touched yea)
-        (touched nay))
+    (touched nay))
     (items_most rest g _ n.number c.env (left_bits bits (touched yea ++ touched nay)) k h))))
 
 -- EXITS
@@ -231,7 +231,7 @@ tail_few (Test t yea nay) g j e env bits =
     let c = t_joined g j e env bits t yea nay in
     let a = tail_few yea (under (test_at g j env bits t) true) (legs_at g j env bits t) e env no_bits in
     let b = tail_few nay (under (test_at g j env bits t) false)
-        (t_nay_at g j e env bits t yea) y.number env no_bits in
+    (t_nay_at g j e env bits t yea) y.number env no_bits in
     let l1 = length-append x (y.nodes ++ (n.nodes ++ c.nodes)) in
     let l2 = length-append y.nodes (n.nodes ++ c.nodes) in
     let l3 = length-append n.nodes c.nodes in
@@ -253,13 +253,13 @@ tail_most (Test t yea nay) g j e env bits k h =
     let y = t_yea g j e env bits t yea in
     let n = t_nay g j e env bits t yea nay in
     let un = tail_up nay (under (test_at g j env bits t) false)
-        (t_nay_at g j e env bits t yea) y.number env no_bits in
+    (t_nay_at g j e env bits t yea) y.number env no_bits in
     let ly : y.number ≤ k = omega (arith, un, h) in
     most_append k _ _ (tested_most k g j env bits t)
     (most_append k _ _ (tail_most yea _ _ e env no_bits k ly)
     (most_append k _ _ (tail_most nay _ _ y.number env no_bits k h)
     (join_most (distinct (tail_touched yea ++ tail_touched nay)) k _ _ env y.env n.env (tail_touched yea)
-        (tail_touched nay))))
+    (tail_touched nay))))
 
 -- THE BLOCK
 

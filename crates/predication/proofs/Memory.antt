@@ -135,11 +135,11 @@ holds_store st mem m bytes i a v e w = record {
   listed = store_append (listed_below st m) (listed (st m)) mem
       ∙ ap (λ (s : Option Stored). store_all (store_all mem (listed_below st m)) (listed s)) e
       ∙ ap (λ (b : List ℕ). put_value b (word_store i a v) (word_store i a v).value) w.listed
-          ∙ store_puts i a v bytes;
+      ∙ store_puts i a v bytes;
   seen = λ x.
       ap (λ (s : Option Stored). or_byte (byte_of s x) (byte_seen st (slice_index mem) m x)) e
       ∙ ap (λ (b : ℕ). or_byte (byte_of (Some (word_store i a v)) x) b) (w.seen x)
-          ∙ store_seen i a v x bytes w.length;
+      ∙ store_seen i a v x bytes w.length;
   length = saved_length i.op bytes a v ∙ w.length;
 }
 

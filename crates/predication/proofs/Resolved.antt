@@ -263,7 +263,7 @@ module _ (address : ℕ → ℕ) where
       (kept_append n.nodes _ (kept_items other (under x.last false) (i + length y.nodes) y.number env no_bits f.2)
       (kept_append c.nodes _
       (kept_join (distinct (touched one ++ touched other)) x.last
-          (i + length y.nodes + length n.nodes) env y.env n.env
+      (i + length y.nodes + length n.nodes) env y.env n.env
       (touched one) (touched other))
       (kept_items rest g (i + length y.nodes + length n.nodes + length c.nodes) n.number c.env
       (left_bits bits (touched one ++ touched other)) f.3))))
@@ -348,7 +348,7 @@ module _ (address : ℕ → ℕ) where
             let sy : Same y y2 = first (under x.last true) i i e e refl refl in
             let n = tail (under x.last false) (i + length y.nodes) y.number env no_bits (tail_with label other) in
             let n2 = tail (under x.last false) (i + length y2.nodes) y2.number env no_bits
-                (tail_with address other) in
+            (tail_with address other) in
             let ly : i + length y.nodes ≡ i + length y2.nodes = ap (λ (p : ℕ). i + p) (same_length y y2 sy) in
             let sn : Same n n2 = then_other (under x.last false) (i + length y.nodes)
             (i + length y2.nodes) y.number y2.number ly sy.number in

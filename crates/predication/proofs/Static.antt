@@ -418,8 +418,10 @@ module _ (T : ℕ → Type 0) where
       record {
         nodes = static_append j ms (n ∷ []) (movs_static j r kept l y)
             (mov_well i g ((s ∷ ss) ++ froms j kept) (guard_later j i g (omega arith) gg) src, tt);
-        entry = λ k z. (((omega (arith, z, length-append ms (n ∷ [])), (heard_back j ms (n ∷ []) hd).0 refl), tt),
-            tt);
+        entry = λ k z. (
+          ((omega (arith, z, length-append ms (n ∷ [])), (heard_back j ms (n ∷ []) hd).0 refl), tt),
+          tt,
+        );
       }
 
   side_static : (b : Bool) (g : Scope) (j r : ℕ) (before mine : Entry) → r < 128 → GoodGuard j g → GoodEntry j before
@@ -549,7 +551,7 @@ module _ (T : ℕ → Type 0) where
       let h2 = heard_back i ys (n ∷ rs.nodes) h1 in
       let x = operand_static j env a tk.2 ge (heard_front j xs (ys ++ n ∷ rs.nodes) hd) in
       let y = second_static tr i env b tk.3 (env_later j i env (omega arith) ge)
-          (heard_front i ys (n ∷ rs.nodes) h1) in
+      (heard_front i ys (n ∷ rs.nodes) h1) in
       let tk' : T k = h2.0 (loud_general (form_of o) (op_form o tk.1)) in
       let later : j ≤ suc k = omega arith in
       let z = items_static rest g (suc k) m e2 b2 tk.4 (guard_later j (suc k) g later gg)

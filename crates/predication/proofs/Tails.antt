@@ -37,7 +37,8 @@ use Rattle.predication.proofs.Tables.{operand_inner, second_inner, exits_append,
 use Rattle.predication.proofs.Tables.{Clear, Dead, Live, Sparse, live_sparse, from_sound, from_dead, live_put}
 use Rattle.predication.proofs.Tables.{Calm, calm_append, none_clear, operand_calm, Runs, runs_front}
 use Rattle.predication.proofs.Tables.{runs_back, operand_few}
-use Rattle.predication.proofs.TakenLegs.{tail_untouched, join_quiet, join_inner, join_yea, join_nay, join_dead, join_calm}
+use Rattle.predication.proofs.TakenLegs.{tail_untouched, join_quiet, join_inner, join_yea, join_nay}
+use Rattle.predication.proofs.TakenLegs.{join_dead, join_calm}
 use Rattle.predication.proofs.Untaken.{legs_at, test_at, yea_out, nay_at, nay_out, join_at, joined, rest_at}
 use Rattle.predication.proofs.Untaken.{tested_quiet, tested_inner, load_form, store_form, absent_clear}
 use Rattle.predication.proofs.Untaken.{word_clear, absent_test, unmet, Absent, absent_none, dead_here}
@@ -90,7 +91,7 @@ tail_quiet (Test t yea nay) g j e env bits =
     (quiet_append y.nodes _ (tail_quiet yea (under k true) (legs_at g j env bits t) e env no_bits)
     (quiet_append n.nodes _ (tail_quiet nay (under k false) (t_nay_at g j e env bits t yea) y.number env no_bits)
     (join_quiet (distinct (tail_touched yea ++ tail_touched nay)) k
-        (t_join_at g j e env bits t yea nay) env y.env n.env
+    (t_join_at g j e env bits t yea nay) env y.env n.env
     (tail_touched yea) (tail_touched nay))))
 
 pub items_inner : (is : Items) (g : Scope) (j m : ℕ) (env : Env) (bits : Bits) → FitsItems is
@@ -276,7 +277,7 @@ module _ (regs : ℕ → ℕ) (h : ℕ → Answer) (f : Computes) (st : ℕ → 
         calm = calm_test (tested g j env bits t).nodes yo.nodes no'.nodes c.nodes
             (tested_calm regs h f st mem g j env bits t cl sp p.test_runs) a.calm b.calm
             (join_calm regs h f st (distinct (tail_touched yea ++ tail_touched nay)) k ja env yo.env no'.env
-                (tail_touched yea)
+            (tail_touched yea)
             (tail_touched nay) cy cn sp p.joined_runs);
       }
 
@@ -400,7 +401,7 @@ module _ (regs : ℕ → ℕ) (h : ℕ → Answer) (f : Computes) (st : ℕ → 
       (λ c v. tail_on yea (under k true) (legs_at g j env bits t) e env no_bits s tk.1 c v lv
       (no_bit regs h f st mem s.registers) p.yea_runs)
       (λ c v. tail_off yea (under k true) (legs_at g j env bits t) e env no_bits c v sp
-          (absent_none regs h) p.yea_runs)
+      (absent_none regs h) p.yea_runs)
       (λ c v. tail_on nay (under k false) (t_nay_at g j e env bits t yea) yo.number env no_bits s tk.2 c v lv
       (no_bit regs h f st mem s.registers) p.nay_runs)
       (λ c v. tail_off nay (under k false) (t_nay_at g j e env bits t yea) yo.number env no_bits c v sp
@@ -440,7 +441,7 @@ module _ (regs : ℕ → ℕ) (h : ℕ → Answer) (f : Computes) (st : ℕ → 
                 (tail_untouched yea (under k true) (legs_at g j env bits t) e env no_bits) b.dead p.joined_runs;
             only = test_exits j (tested g j env bits t).nodes yo.nodes no'.nodes c.nodes (tested_inner g j env bits t)
                 (join_inner (distinct (tail_touched yea ++ tail_touched nay)) k ja env yo.env no'.env
-                    (tail_touched yea)
+                (tail_touched yea)
                 (tail_touched nay)) ∙ rw (a.only, b.exits) refl;
             calm = calm_test (tested g j env bits t).nodes yo.nodes no'.nodes c.nodes
                 (tested_calm regs h f st mem g j env bits t cl sp p.test_runs) a.calm b.calm
@@ -478,7 +479,7 @@ module _ (regs : ℕ → ℕ) (h : ℕ → Answer) (f : Computes) (st : ℕ → 
                 (t_nay_at g j e env bits t yea) yo.number env no_bits) a.dead p.joined_runs;
             only = test_exits j (tested g j env bits t).nodes yo.nodes no'.nodes c.nodes (tested_inner g j env bits t)
                 (join_inner (distinct (tail_touched yea ++ tail_touched nay)) k ja env yo.env no'.env
-                    (tail_touched yea)
+                (tail_touched yea)
                 (tail_touched nay)) ∙ rw (a.exits, b.only) refl;
             calm = calm_test (tested g j env bits t).nodes yo.nodes no'.nodes c.nodes
                 (tested_calm regs h f st mem g j env bits t cl sp p.test_runs) a.calm b.calm

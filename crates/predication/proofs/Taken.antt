@@ -453,7 +453,7 @@ module _ (regs : ℕ → ℕ) (h : ℕ → Answer) (f : Computes) (st : ℕ → 
             let eb = gb.means mt in
             let lva = value_word s.registers a ws.registers ta in
             let ad : address_of (inst_of n) ga.word ≡ ga.word =
-                plain_address n ga.word refl (omega (arith, ea, lva)) in
+            plain_address n ga.word refl (omega (arith, ea, lva)) in
             let se = store_settled regs h f st mem (form_of o) n (store_form (form_of o) ops) x2.1 in
             let ef : st m ≡ Some (word_store (inst_of n) ga.word gb.word) =
             met_store g (st m) _ u se ∙ save_stores (inst_of n) _ _ ga.word gb.word ga.gives gb.gives

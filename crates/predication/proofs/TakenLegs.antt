@@ -158,7 +158,7 @@ module _ (regs : ℕ → ℕ) (h : ℕ → Answer) (f : Computes) (st : ℕ → 
   left_sound g j r (p ∷ ss) kept v c m s x =
       let back = runs_back regs h f st j (movs r kept) _ x in
       let e : h (j + length (movs r kept)) ≡ if_matched (met h g) (first regs h ((p ∷ ss) ++ froms j kept)) =
-          back.0 in
+      back.0 in
       let e2 : if_matched (met h g) (first regs h ((p ∷ ss) ++ froms j kept))
       ≡ first regs h ((p ∷ ss) ++ froms j kept) = rw m refl in
       from_sound regs h (j + length (movs r kept)) v (regs r)
@@ -172,7 +172,7 @@ module _ (regs : ℕ → ℕ) (h : ℕ → Answer) (f : Computes) (st : ℕ → 
   left_dead g j r (p ∷ ss) kept c m x =
       let back = runs_back regs h f st j (movs r kept) _ x in
       let e : h (j + length (movs r kept)) ≡ if_matched (met h g) (first regs h ((p ∷ ss) ++ froms j kept)) =
-          back.0 in
+      back.0 in
       let e2 : if_matched (met h g) (first regs h ((p ∷ ss) ++ froms j kept)) ≡ None = rw m refl in
       from_dead regs h (j + length (movs r kept)) (e ∙ e2)
 
@@ -283,7 +283,7 @@ module _ (regs : ℕ → ℕ) (h : ℕ → Answer) (f : Computes) (st : ℕ → 
       → met h (under t true) ≡ false → met h (under t false) ≡ false →
       ((q : ℕ) → member q ty ≡ true → Dead regs h (yea q)) → ((q : ℕ) → member q tn ≡ true → Dead regs h (nay q)) →
       Runs regs h f st j (join t j env yea nay ty tn (distinct (ty ++ tn))).nodes → (q : ℕ)
-          → member q (ty ++ tn) ≡ true →
+      → member q (ty ++ tn) ≡ true →
       Dead regs h ((join t j env yea nay ty tn (distinct (ty ++ tn))).env q)
   join_dead t j env yea nay ty tn ct cf m n dy dn x q e =
       join_with t j env yea nay ty tn (distinct (ty ++ tn)) (λ r p. Dead regs h p)

@@ -165,7 +165,8 @@ first_goes at rest = blocks_go Anywhere Nowhere unknown (λ here. tt) first_aims
     (at_start rest) refl (omega arith) (omega arith)
 
 -- and what the second gives
-pub second_goes : (first : List Block) (at : ℕ) (rest : List ℕ) (x : Came Anywhere start at rest (BlocksEnd [] 0) first)
+pub second_goes : (first : List Block) (at : ℕ) (rest : List ℕ)
+    (x : Came Anywhere start at rest (BlocksEnd [] 0) first)
     → length first ≤ 262145
     → Goes (GoodGoal (chunks_from 0 first)) (BadAim (chunks_from 0 first)) start at rest
     (BlocksEnd [] 0) (body_in (begins_of first) at rest)

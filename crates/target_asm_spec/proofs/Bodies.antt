@@ -119,7 +119,8 @@ block_again b goal here h a k line x rest f l m n =
     (each_of (λ r. r < 128) x.writes.items f.each_write) f.writes
     (slots_no_write goal here 0 x.insts.items rest n.no_write) in
     let line3 : ℕ = line + 1 + length x.reads.items + length x.writes.items in
-    let fourth : slots_in b here 129 0 line3 insts ≡ Ok (slots_with h x.insts.items, line3 + used x.insts.items, rest) =
+    let fourth : slots_in b here 129 0 line3 insts
+    ≡ Ok (slots_with h x.insts.items, line3 + used x.insts.items, rest) =
     slots_again b goal here h a 129 0 0 line3 x.insts.items rest
     (each_of FitsSlot x.insts.items f.each_inst) (omega arith)
     (omega (arith, f.insts)) (omega (arith, f.insts)) (omega (arith, m2)) n.no_inst in

@@ -111,7 +111,8 @@ unfolding inst_in
 inst_again s i goal rest l f g =
     let t : List ℕ = mnemonic_of i.op ++ (sense_text i.sense
     ++ (numbers_text (form_of i.op) i goal ++ after_numbers i.first i.second rest)) in
-    let a : index_in (codes "N[") (codes "N[" ++ (decimal s ++ 93 ∷ (codes " " ++ t))) ≡ Some (pos s, codes " " ++ t) =
+    let a : index_in (codes "N[") (codes "N[" ++ (decimal s ++ 93 ∷ (codes " " ++ t)))
+    ≡ Some (pos s, codes " " ++ t) =
     index_again (codes "N[") s (codes " " ++ t) l in
     let b : after_in (codes " ") (codes " " ++ t) ≡ Some t = after_front (codes " ") t in
     ap inst_in (inst_line_is s i goal rest) ∙ rw (a, b) (operation_again s i goal rest f g)
@@ -216,7 +217,8 @@ inst_judged s i goal f =
     } in
     let b : immediate_of (form_of i.op) sp ≡ Some (raw_imm (form_of i.op) i.op goal i.imm) =
     immediate_judged (form_of i.op) i goal sp f refl refl in
-    let c : maybe_spot (spelled_target i.first) ≡ Some i.first = maybe_again i.first (first_fits (form_of i.op) i f) in
+    let c : maybe_spot (spelled_target i.first) ≡ Some i.first =
+    maybe_again i.first (first_fits (form_of i.op) i f) in
     let d : maybe_spot (spelled_target i.second)
     ≡ Some i.second = maybe_again i.second (second_fits (form_of i.op) i f) in
     rw (a, b, c, d) refl

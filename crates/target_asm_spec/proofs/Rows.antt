@@ -52,7 +52,8 @@ lines_again front one f P s a zero i line xs rest p l m b = absurd (omega (arith
 lines_again front one f P s a (suc n) i line [] rest p l m b = rw b (taken_end line rest)
 lines_again front one f P s a (suc n) i line (x ∷ xs) rest p l m b =
     let t : List ℕ = numbered f (suc i) xs ++ rest in
-    let e : (f i x ++ numbered f (suc i) xs) ++ rest ≡ f i x ++ t = append_assoc (f i x) (numbered f (suc i) xs) rest in
+    let e : (f i x ++ numbered f (suc i) xs) ++ rest ≡ f i x ++ t =
+    append_assoc (f i x) (numbered f (suc i) xs) rest in
     let begun : begins front (f i x ++ t) ≡ true = s i x t in
     let first : one i line (f i x ++ t) ≡ Ok (x, t) = a i line x t (omega (arith, m)) p.0 in
     let next : i + 1 ≡ suc i = omega arith in

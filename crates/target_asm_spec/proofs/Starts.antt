@@ -66,7 +66,8 @@ starts_tell (b ∷ bs) k here (suc m) =
         (omega (arith, h)))
     by rest (inr h) =
         let body = body_chunks 0 b.insts.items in
-        let l : length (replicate (1 + body - 1) 0) ≡ body = length-replicate {A = ℕ} (1 + body - 1) 0 ∙ omega arith in
+        let l : length (replicate (1 + body - 1) 0) ≡ body = length-replicate {A = ℕ} (1 + body - 1) 0
+        ∙ omega arith in
         let e : here + (1 + body) + (m - body) ≡ here + suc m = omega (arith, h) in
         ap named (get_or-append_right (replicate (1 + body - 1) 0)
         (start_rows (suc k) bs) body m 0 l h)

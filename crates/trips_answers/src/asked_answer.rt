@@ -22,7 +22,7 @@ use trips_requests::{Answer, Asked, Command, Loaded, Tool, no_request, too_large
 use trips_tools::{MOST_IMAGE_BYTES, MOST_TARGET_BYTES, tool_done};
 
 // How many bytes a file may have, by what it is read as.
-#[tactic(auto, unfolding(c_tree::specs::Limits::most_source_bytes, trips_tools::specs::Answer::most_target_bytes, trips_tools::specs::Answer::most_image_bytes))]
+#[tactic(auto, unfolding(c_tree::specs::Limits::most_source_bytes, trips_requests::specs::Limits::most_target_bytes, trips_requests::specs::Limits::most_image_bytes))]
 fn limit_for(form: FileForm) -> u64
     ensures { result ≡ limit_of form }
 {

@@ -17,7 +17,7 @@ use trips_requests::{Loaded, read};
 pub const MOST_INPUT_BYTES: u64 = 1_048_576;
 
 /// The limit of the code is that of the definitions. It does nothing when it runs.
-#[tactic(auto, unfolding(crate::specs::Read::most_input_bytes))]
+#[tactic(auto, unfolding(crate::specs::Asks::most_input_bytes))]
 pub fn constants_are_the_definitions()
     ensures { MOST_INPUT_BYTES ≡ most_input_bytes }
 {}
@@ -51,7 +51,7 @@ pub fn read_origin<F: Files>(
 }
 
 /// Reads the input, which is empty where no file is named. Want of memory is the only error.
-#[tactic(auto, unfolding(crate::specs::Read::most_input_bytes))]
+#[tactic(auto, unfolding(crate::specs::Asks::most_input_bytes))]
 pub fn read_input<F: Files>(
     alloc: Global,
     files: &mut F,

@@ -171,7 +171,7 @@ behind_named first file (Some tool) found n s = go (begins_with_dash file) refl 
     go true e s = absurd (none-some found s)
     go false e s =
         let same : (tool, file) ≡ found =
-            ap (λ (o : Option (Tool × Text)). elim o [ None ↦ (tool, file) | Some x ↦ x ]) s in
+        ap (λ (o : Option (Tool × Text)). elim o [ None ↦ (tool, file) | Some x ↦ x ]) s in
         subst (λ (x : Tool × Text). asked (first ∷ file ∷ []) ≡ Some (default_request (work_of x.0) x.1)) same
         (named_of first file tool n e)
 

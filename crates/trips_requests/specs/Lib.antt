@@ -6,4 +6,4 @@ pub mod Plain
 pub mod Texts
 pub mod Read
 pub mod Table
-pub mod AnswerPartsNumbers
+pub mod ExitCodes

@@ -1,15 +1,11 @@
-//! The requests that the words of a command line make, and the code that needs no parser for them.
+//! The requests that the words of a command line make, without a parser: [`request_with`] makes one of what was found
+//! of a command's options, and [`plain_run`] and its like know two words with nothing said besides. And what the
+//! answers to all requests share: the status and its number, an answer and those that need no work, the reading of a
+//! file, and two pieces of reports. No command's work is here, so that a program for one command reaches no other.
 //!
-//! What words say is defined in `specs/Words`, and the request in `specs/Requests`. [`request_with`]
-//! makes it of what was found of a command's options. [`plain_run`] and its like know two words with
-//! nothing said besides.
-//!
-//! What the answers to all requests share: the status and its number, an answer and those that need no work, the
-//! reading of a file, and two pieces of reports. It stands below the work of each command, so that
-//! a program for one command reaches no other.
-//!
-//! `specs/Read` says what reading a file comes to, `specs/Table` what a call writes, and `specs/Numbers` with which
-//! number the program ends.
+//! What words say stands in specs/Words, specs/Options, specs/Numbers and specs/Plain, the request in specs/Requests
+//! with its limits in specs/Limits, what reading a file comes to in specs/Read, what a call writes in specs/Table and
+//! specs/Texts, and with which number the program ends in specs/ExitCodes.
 #![tactic(auto)]
 
 mod answer;

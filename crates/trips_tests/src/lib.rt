@@ -1,8 +1,5 @@
-//! Words of a command line with their requests, as tests.
-//!
-//! Reports of runs and refusals, as tests.
-//!
-//! Texts assembled, images disassembled and checked, as tests.
+//! Words of a command line with their requests, reports of runs and refusals, and target texts and images through the
+//! tools, which assemble, disassemble and check them: all as tests.
 #![tactic(auto)]
 
 #[cfg(test)]

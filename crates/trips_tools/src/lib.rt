@@ -1,12 +1,9 @@
-//! The tools on images: a target text assembled, an image disassembled, and an image checked.
+//! The tools on images, and what they are answered: a target text assembled, an image disassembled, and an image
+//! checked. Each call makes the bytes to be written, or says why the file is refused. The crate stands over images,
+//! target texts and the block checker alone, so that a program which calls [`tool_plain`] is read and compiled soon.
 //!
-//! Each call makes the bytes to be written, or says why the file is refused.
-//!
-//! What the tools are answered that assemble, disassemble and check. It stands over images, target texts
-//! and the block checker alone, so that a program which calls [`tool_plain`] is read and compiled soon.
-//!
-//! `specs/Tools` says what the bytes of a file are answered, and `specs/Answer` what the file of two plain
-//! words.
+//! What is made of a file's bytes, and why they are refused, stands in specs/Tools, what these bytes are answered in
+//! specs/ToolAnswers, and what the file of two plain words is answered in specs/Answer.
 #![tactic(auto)]
 
 mod made;

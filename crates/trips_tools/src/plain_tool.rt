@@ -21,14 +21,14 @@ pub const MOST_TARGET_BYTES: u64 = 67_108_864;
 pub const MOST_IMAGE_BYTES: u64 = 71_303_188;
 
 /// The limits of the code are those of the definitions. It does nothing when it runs.
-#[tactic(auto, unfolding(crate::specs::Answer::most_target_bytes, crate::specs::Answer::most_image_bytes))]
+#[tactic(auto, unfolding(trips_requests::specs::Limits::most_target_bytes, trips_requests::specs::Limits::most_image_bytes))]
 pub fn constants_are_the_definitions()
     ensures target_bytes { MOST_TARGET_BYTES ≡ limits.most_target_bytes }
     ensures image_bytes { MOST_IMAGE_BYTES ≡ limits.most_image_bytes }
 {}
 
 // How many bytes a tool's file may have.
-#[tactic(auto, unfolding(crate::specs::Answer::most_target_bytes, crate::specs::Answer::most_image_bytes))]
+#[tactic(auto, unfolding(trips_requests::specs::Limits::most_target_bytes, trips_requests::specs::Limits::most_image_bytes))]
 fn limit_of(tool: Tool) -> u64
     ensures { result ≡ limit_of tool }
 {

@@ -63,8 +63,8 @@ pub fn filled(alloc: Global, image: &CheckedImage) -> Result<Phase, Fail>
     }
 }
 
-/// An event of one frame, with what the frame sees: the word of a register where it is known, the number that the bytes
-/// of a load make.
+/// An event of one frame, with what the frame sees: the word of a register where it is known, the number that the
+/// bytes of a load make.
 #[derive(Clone, Copy, Debug)]
 pub enum Step {
     Read(u8, Option<u64>),

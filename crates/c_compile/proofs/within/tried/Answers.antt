@@ -26,7 +26,7 @@ returns-clause-ok c =
     let g = c.in_ok-assigned.assigned in
     let p = c.args.placing in
     IfOk-weaker c.image_within.result
-        (λ (t : Tried). IfSome t.image (λ (i : Image). IsCompiled (program_of g.flat) p i))
+    (λ (t : Tried). IfSome t.image (λ (i : Image). IsCompiled (program_of g.flat) p i))
     (λ (t : Tried). IfSome t.image (λ (i : Image). IsCompiled (program_of c.args.flat) p i))
     (λ t h. subst (λ (f : FlatProgram). IfSome t.image (λ (i : Image). IsCompiled (program_of f) p i))
     c.in_ok-assigned.ensures.flat h)

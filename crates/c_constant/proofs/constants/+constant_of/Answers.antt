@@ -36,7 +36,7 @@ returns-in-Name t c = let h = value-Name ends c.args.e.now c.in-Name.word c.in-N
 pub returns-in-Element : goal.returns-in-Element
 returns-in-Element t c =
     let h = value-Element ends c.args.e.now c.in-Element.array c.in-Element.row c.in-Element.index c.in-Element.is in
-        cc
+    cc
 
 pub returns-in-Call : goal.returns-in-Call
 returns-in-Call t c =

@@ -30,7 +30,7 @@ most_need-returns-in-Binary t c =
 pub most_need-returns-in-Choice : goal.most_need-returns-in-Choice
 most_need-returns-in-Choice t c =
     let h = needs-Choice c.args.e.now c.in-Choice.test c.in-Choice.yes c.in-Choice.no c.in-Choice.is in
-        grind (arith, h)
+    grind (arith, h)
 
 pub most_need-returns-in-Name : goal.most_need-returns-in-Name
 most_need-returns-in-Name t c = let h = needs-Name c.args.e.now c.in-Name.field-0 c.in-Name.is in grind (arith, h)
@@ -99,17 +99,17 @@ index_need-returns-in-Bump t c =
 pub index_need-returns-in-Binary : goal.index_need-returns-in-Binary
 index_need-returns-in-Binary t c =
     let h = needs-Binary c.args.e.now c.in-Binary.op c.in-Binary.left c.in-Binary.right c.in-Binary.is in
-        grind (arith, h)
+    grind (arith, h)
 
 pub index_need-returns-in-Choice : goal.index_need-returns-in-Choice
 index_need-returns-in-Choice t c =
     let h = needs-Choice c.args.e.now c.in-Choice.test c.in-Choice.yes c.in-Choice.no c.in-Choice.is in
-        grind (arith, h)
+    grind (arith, h)
 
 pub index_need-returns-in-Assign : goal.index_need-returns-in-Assign
 index_need-returns-in-Assign t c =
     let h = needs-Assign c.args.e.now c.in-Assign.op c.in-Assign.left c.in-Assign.right c.in-Assign.is in
-        grind (arith, h)
+    grind (arith, h)
 
 pub index_need-returns-in-Comma : goal.index_need-returns-in-Comma
 index_need-returns-in-Comma t c =

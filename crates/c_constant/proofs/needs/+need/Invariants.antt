@@ -1,5 +1,6 @@
 use Rattle.std.proofs.Common.{◌≡◌, map, max, drop}
-use Rattle.c_constant.specs.Need.{needs, capped, args_need}
+use Rattle.c_constant.specs.Need.{needs, args_need}
+use Rattle.c_constant.specs.inside.Need.{capped}
 use Rattle.c_constant.proofs.needs.+need.Given as goal
 
 abbrev pub invariant-args_need-loop-arg : goal.invariant-args_need-loop-arg

@@ -1,6 +1,6 @@
 use Rattle.std.proofs.Common.{◌≡◌, ◌≤◌, ◌+◌, length}
 use Rattle.c_lex.specs.Bytes.{feeds, still_empty}
-use Rattle.c_lex.specs.Spaces.{spaces, after_spaces}
+use Rattle.c_lex.specs.inside.Spaces.{spaces, after_spaces}
 use Rattle.c_lex.proofs.lexer.after_spaces.Given as goal
 
 abbrev pub invariant-loop-rest : goal.invariant-loop-rest

@@ -1,5 +1,5 @@
 use Rattle.std.proofs.Common.{◌≡◌, ◌≤◌, ◌<◌, length}
-use Rattle.c_lex.specs.Scans.{mark_from, mark_of}
+use Rattle.c_lex.specs.inside.Scans.{mark_from, mark_of}
 use Rattle.c_lex.proofs.piece.longest_mark.Given as goal
 
 abbrev pub invariant-loop-n : goal.invariant-loop-n

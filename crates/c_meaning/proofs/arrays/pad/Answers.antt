@@ -1,7 +1,7 @@
 use Rattle.std.proofs.Common.{◌≡◌, ◌++◌, ◌-◌, ◌+◌, ◌∙◌, ℕ, List, ap, subst, sym, replicate, take, length, arith}
 use Rattle.std.proofs.lemmas.List.{take_all}
 use Rattle.c_meaning.specs.declared.arrays.Cell.{Cell}
-use Rattle.c_meaning.specs.Cells.{CellsKnown}
+use Rattle.c_meaning.specs.inside.Cells.{CellsKnown}
 use Rattle.c_meaning.proofs.Lays.{cells-append, cells-replicate}
 use Rattle.c_meaning.proofs.arrays.pad.Goals as goal
 

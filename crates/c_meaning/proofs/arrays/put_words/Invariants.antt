@@ -1,5 +1,5 @@
 use Rattle.std.proofs.Common.{◌≡◌, ◌++◌, map, take}
-use Rattle.c_meaning.specs.Cells.{worded}
+use Rattle.c_meaning.specs.inside.Cells.{worded}
 use Rattle.c_meaning.proofs.arrays.put_words.Given as goal
 
 abbrev pub invariant-loop-word : goal.invariant-loop-word

@@ -1,6 +1,6 @@
 use Rattle.std.proofs.Common.{ℕ, List, Option, subst, sym}
 use Rattle.c_type.specs.States.{named_param}
-use Rattle.c_type.specs.Runs.{Adds}
+use Rattle.c_type.specs.inside.Runs.{Adds}
 use Rattle.c_type.proofs.functions.add_param.Goals as goal
 
 pub returns : goal.returns

@@ -2,7 +2,7 @@ use Rattle.std.proofs.Common.{◌≡◌, ◌+◌, ◌++◌, arith, drop, map, sy
 use Rattle.std.proofs.lemmas.Grind.{common_steps}
 use Rattle.c_type_expr.specs.Constants.{constant_at}
 use Rattle.c_type_expr.specs.Blames.{first}
-use Rattle.c_type.specs.Units.{values_fault}
+use Rattle.c_type.specs.inside.Units.{values_fault}
 use Rattle.c_type.specs.FileScopes.{all_values}
 use Rattle.c_type.proofs.Rows.{item_of, values_append, words_on}
 use Rattle.c_type.proofs.initialisers.values.Goals as goal

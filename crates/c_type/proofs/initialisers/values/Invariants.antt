@@ -1,6 +1,6 @@
 use Rattle.std.proofs.Common.{◌≡◌, ◌++◌, map, drop}
 use Rattle.c_type_expr.specs.Constants.{constant_at}
-use Rattle.c_type.specs.Units.{values_fault}
+use Rattle.c_type.specs.inside.Units.{values_fault}
 use Rattle.c_type.specs.FileScopes.{all_values}
 use Rattle.c_type.proofs.initialisers.values.Given as goal
 

@@ -1,5 +1,5 @@
 use Rattle.std.proofs.Common.{◌≡◌, ◌++◌, length, drop}
-use Rattle.c_type.specs.Units.{filled_rows}
+use Rattle.c_type.specs.inside.Units.{filled_rows}
 use Rattle.c_type.specs.FileScopes.{all_values}
 use Rattle.c_type.proofs.initialisers.whole_rows.Given as goal
 

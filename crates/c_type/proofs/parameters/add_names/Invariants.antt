@@ -1,5 +1,5 @@
 use Rattle.std.proofs.Common.{◌≡◌, drop}
-use Rattle.c_type.specs.Functions.{params_names}
+use Rattle.c_type.specs.inside.Functions.{params_names}
 use Rattle.c_type.proofs.parameters.add_names.Given as goal
 
 abbrev pub invariant-loop-param : goal.invariant-loop-param

@@ -1,5 +1,5 @@
 use Rattle.std.proofs.Common.{◌≡◌, [], take, drop}
-use Rattle.c_type.specs.Functions.{params_fault}
+use Rattle.c_type.specs.inside.Functions.{params_fault}
 use Rattle.c_type.proofs.parameters.params_at.Given as goal
 
 abbrev pub invariant-loop-i : goal.invariant-loop-i

@@ -1,6 +1,7 @@
 use Rattle.std.proofs.Common.{◌≡◌, true, length}
-use Rattle.c_type.specs.LeftOut.{some_block}
-use Rattle.c_type.specs.Programs.{items_fault, items_after}
+use Rattle.c_type.specs.inside.LeftOut.{some_block}
+use Rattle.c_type.specs.Programs.{items_after}
+use Rattle.c_type.specs.inside.Programs.{items_fault}
 use Rattle.c_type.specs.FileScopes.{empty_file}
 use Rattle.c_type.proofs.program.items.Given as goal
 

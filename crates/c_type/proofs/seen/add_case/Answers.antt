@@ -1,5 +1,5 @@
 use Rattle.std.proofs.Common.{ℕ, List, [], ◌∷◌, ◌++◌, Option, Some, subst, sym, ap, ◌∙◌}
-use Rattle.c_type.specs.Seen.{Knows}
+use Rattle.c_type.specs.inside.Seen.{Knows}
 use Rattle.c_type.proofs.KnownLabels.{knows_case}
 use Rattle.c_type.proofs.seen.add_case.Goals as goal
 

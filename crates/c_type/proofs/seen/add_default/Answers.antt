@@ -1,5 +1,5 @@
 use Rattle.std.proofs.Common.{ℕ, true, List, [], ◌∷◌, ◌++◌, Option, None, subst, sym, ap, ◌∙◌}
-use Rattle.c_type.specs.Seen.{Knows}
+use Rattle.c_type.specs.inside.Seen.{Knows}
 use Rattle.c_type.proofs.KnownLabels.{knows_default}
 use Rattle.c_type.proofs.seen.add_default.Goals as goal
 

@@ -8,14 +8,15 @@ use Rattle.c_tree.specs.declared.tree.StmtNode.TheVariants as node
 use Rattle.c_tree.specs.declared.typed.TypedSection.{TypedSection}
 use Rattle.c_type_expr.specs.declared.fault.TypeFault.{TypeFault}
 use Rattle.c_type_expr.specs.Blames.{Blame, first}
-use Rattle.c_type_expr.specs.Says.{Stops}
+use Rattle.c_type_expr.specs.inside.Says.{Stops}
 use Rattle.c_type.specs.declared.state.State.{State}
 use Rattle.c_type.specs.States.{at}
 use Rattle.c_type.specs.LeftOut.{tree_if}
 use Rattle.c_type.specs.declared.state.Around.{Around}
-use Rattle.c_type.specs.Statements.{part, rest_fault, tail_fault, SectionPart, section_of}
+use Rattle.c_type.specs.Statements.{part, rest_fault, tail_fault, SectionPart}
+use Rattle.c_type.specs.inside.Statements.{section_of}
 use Rattle.c_type.specs.Statements.{labels_fault, all_fault, section_fault}
-use Rattle.c_type.specs.Runs.{Moves, RunSection}
+use Rattle.c_type.specs.inside.Runs.{Moves, RunSection}
 use Rattle.c_type.proofs.Measures.{switch_size}
 use Rattle.c_type.proofs.Nodes.{if_next, while_next, stopped}
 use Rattle.c_type.proofs.statements.+stmt.Goals as goal

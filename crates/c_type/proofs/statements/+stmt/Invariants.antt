@@ -2,7 +2,8 @@ use Rattle.std.proofs.Common.{◌≡◌, ◌+◌, ◌*◌, ◌≤◌, ◌++◌, 
 use Rattle.c_tree.specs.declared.tree.ForInit.{size-ForInit}
 use Rattle.c_tree.specs.declared.tree.Stmt.{size-Stmt}
 use Rattle.c_type.specs.Statements.{part, all_fault, all_trees, all_after}
-use Rattle.c_type.specs.Statements.{statements_in, section_of, sections_fault, sections_trees, sections_after}
+use Rattle.c_type.specs.Statements.{statements_in, sections_fault, sections_trees, sections_after}
+use Rattle.c_type.specs.inside.Statements.{section_of}
 use Rattle.c_type.proofs.Nodes.{deepest, deepest_in, else_size}
 use Rattle.c_type.proofs.statements.+stmt.Given as goal
 

@@ -2,7 +2,7 @@ use Rattle.std.proofs.Common.{◌≡◌, ◌<◌, ◌∙◌, sym, ap, subst, Lis
 use Rattle.std.proofs.Common.{arith}
 use Rattle.std.proofs.lemmas.List.{length-set}
 use Rattle.c_type_expr.specs.declared.meaning.Entry.{Entry}
-use Rattle.c_type_expr.specs.Chains.{Kept}
+use Rattle.c_type_expr.specs.inside.Chains.{Kept}
 use Rattle.c_type_expr.proofs.Chains.{linked_last, whole}
 use Rattle.c_type_expr.proofs.entries.add.Goals as goal
 

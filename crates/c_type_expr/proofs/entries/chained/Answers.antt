@@ -2,7 +2,7 @@ use Rattle.std.proofs.Common.{◌≡◌, ◌<◌, ◌+◌, ◌∙◌, sym, ap, s
 use Rattle.std.proofs.Common.{reverse, refl, arith, set, get_or, take}
 use Rattle.std.proofs.lemmas.List.{length-set}
 use Rattle.c_type_expr.specs.Scope.{Frame}
-use Rattle.c_type_expr.specs.Chains.{KeptIn}
+use Rattle.c_type_expr.specs.inside.Chains.{KeptIn}
 use Rattle.c_type_expr.proofs.Chains.{bindings_reversed, linked_at, relinked, whole}
 use Rattle.c_type_expr.proofs.entries.chained.Goals as goal
 

@@ -1,6 +1,6 @@
 use Rattle.std.proofs.Common.{◌≡◌, length, take, reverse}
 use Rattle.c_type_expr.specs.Scope.{bindings}
-use Rattle.c_type_expr.specs.Chains.{KeptIn}
+use Rattle.c_type_expr.specs.inside.Chains.{KeptIn}
 use Rattle.c_type_expr.proofs.entries.chained.Given as goal
 
 abbrev pub invariant-loop-i : goal.invariant-loop-i

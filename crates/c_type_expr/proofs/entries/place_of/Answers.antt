@@ -1,6 +1,6 @@
 use Rattle.std.proofs.Common.{◌<◌, ◌∙◌, sym, ap, subst, length, reverse, List, ℕ, Some}
 use Rattle.c_type_expr.specs.declared.meaning.Entry.{Entry}
-use Rattle.c_type_expr.specs.Frames.{place_in}
+use Rattle.c_type_expr.specs.inside.Frames.{place_in}
 use Rattle.c_type_expr.proofs.Chains.{Walk, above, is_same}
 use Rattle.c_type_expr.proofs.Chains.{walk_begins, walk_finds, walk_goes_on, walk_falls}
 use Rattle.c_type_expr.proofs.entries.place_of.Goals as goal

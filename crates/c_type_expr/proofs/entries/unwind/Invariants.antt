@@ -1,5 +1,5 @@
 use Rattle.std.proofs.Common.{◌≡◌, take, reverse, length}
-use Rattle.c_type_expr.specs.Chains.{Kept}
+use Rattle.c_type_expr.specs.inside.Chains.{Kept}
 use Rattle.c_type_expr.proofs.entries.unwind.Given as goal
 
 abbrev pub invariant-loop-entries : goal.invariant-loop-entries

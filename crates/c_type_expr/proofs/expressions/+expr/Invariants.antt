@@ -1,7 +1,7 @@
 use Rattle.std.proofs.Common.{◌≡◌, ◌+◌, ◌*◌, ◌≤◌, ◌++◌, max, length}
 use Rattle.c_tree.specs.declared.tree.Expr.{size-Expr}
-use Rattle.c_type_expr.specs.Faults.{args_fault}
-use Rattle.c_type_expr.specs.Trees.{args_tree}
+use Rattle.c_type_expr.specs.inside.Faults.{args_fault}
+use Rattle.c_type_expr.specs.inside.Trees.{args_tree}
 use Rattle.c_type_expr.proofs.Nodes.{deepest, row_size}
 use Rattle.c_type_expr.proofs.expressions.+expr.Given as goal
 

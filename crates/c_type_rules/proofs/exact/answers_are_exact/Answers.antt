@@ -1,6 +1,6 @@
 use Rattle.std.proofs.Common.{subst, sym}
 use Rattle.c_tree.specs.declared.typed.TypedProgram.{TypedProgram}
-use Rattle.c_type.specs.Programs.{program_fault}
+use Rattle.c_type.specs.inside.Programs.{program_fault}
 use Rattle.c_type_rules.specs.Units.{Accepts}
 use Rattle.c_type_rules.proofs.UnitsSound.{accepts_fine}
 use Rattle.c_type_rules.proofs.UnitsComplete.{accepts_typed, stops_by_memory}

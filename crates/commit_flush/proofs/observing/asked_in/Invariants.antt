@@ -6,4 +6,5 @@ use Rattle.base.specs.Rows.{has_bit}
 use Rattle.commit_flush.proofs.observing.asked_in.Given as goal
 
 abbrev pub invariant-loop-number : goal.invariant-loop-number
-invariant-loop-number l = (k : ℕ) → has_bit l.bits k ≡ (nat_lt k l.number && is_request is_access (request (running l.block l.held) k))
+invariant-loop-number l = (k : ℕ)
+    → has_bit l.bits k ≡ (nat_lt k l.number && is_request is_access (request (running l.block l.held) k))

@@ -8,17 +8,20 @@ use Rattle.commit_flush.proofs.searching.between.Goals as goal
 pub loop-number-preserved : goal.loop-number-preserved
 loop-number-preserved c = λ s.
     c.loop-number.invariant s
-    ∙ passes (is_next c.args.step (committed s) (running c.args.block.now c.args.held.now)) c.loop-number.number c.args.to
+    ∙ passes (is_next c.args.step (committed s) (running c.args.block.now c.args.held.now)) c.loop-number.number
+    c.args.to
     (sym (c.if-is_next.ensures s)) (omega arith)
 
 pub returns-then-is_next-clause-value : goal.returns-then-is_next-clause-value
 returns-then-is_next-clause-value c = λ s.
     sym (c.loop-number.invariant s
-    ∙ stops (is_next c.args.step (committed s) (running c.args.block.now c.args.held.now)) c.loop-number.number c.args.to
+    ∙ stops (is_next c.args.step (committed s) (running c.args.block.now c.args.held.now)) c.loop-number.number
+    c.args.to
     (sym (c.if-is_next.ensures s)) (omega arith))
 
 pub returns-clause-value : goal.returns-clause-value
 returns-clause-value c = λ s.
     sym (c.loop-number.invariant s
-    ∙ over (is_next c.args.step (committed s) (running c.args.block.now c.args.held.now)) c.loop-number.number c.args.to
+    ∙ over (is_next c.args.step (committed s) (running c.args.block.now c.args.held.now)) c.loop-number.number
+    c.args.to
     (omega arith))

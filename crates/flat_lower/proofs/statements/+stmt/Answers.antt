@@ -48,7 +48,7 @@ put_stmts-returns t c =
 pub put_stmt-returns-in-Declare : goal.put_stmt-returns-in-Declare
 put_stmt-returns-in-Declare t c =
     let h = ap (stmt_code c.args.places.now c.args.around) (ap stmt_of c.in-Declare.is
-        ∙ stmt-Declare c.in-Declare.place
+    ∙ stmt-Declare c.in-Declare.place
     c.in-Declare.init) in
     grind (arith, h)
 
@@ -65,7 +65,7 @@ put_stmt-put_stmts-requires t c =
 pub put_stmt-returns-in-Compound : goal.put_stmt-returns-in-Compound
 put_stmt-returns-in-Compound t c =
     let h = ap (stmt_code c.args.places.now c.args.around) (ap stmt_of c.in-Compound.is
-        ∙ stmt-Compound c.in-Compound.all) in
+    ∙ stmt-Compound c.in-Compound.all) in
     grind (arith, h)
 
 pub put_stmt-put_choice-requires : goal.put_stmt-put_choice-requires
@@ -98,7 +98,7 @@ put_stmt-put_do_loop-requires t c =
 pub put_stmt-returns-in-Do : goal.put_stmt-returns-in-Do
 put_stmt-returns-in-Do t c =
     let h = ap (stmt_code c.args.places.now c.args.around) (ap stmt_of c.in-Do.is
-        ∙ stmt-Do c.in-Do.body c.in-Do.test) in
+    ∙ stmt-Do c.in-Do.body c.in-Do.test) in
     grind (arith, h)
 
 pub put_stmt-put_for_loop-requires : goal.put_stmt-put_for_loop-requires
@@ -110,7 +110,7 @@ put_stmt-put_for_loop-requires t c =
 pub put_stmt-returns-in-For : goal.put_stmt-returns-in-For
 put_stmt-returns-in-For t c =
     let h = ap (stmt_code c.args.places.now c.args.around) (ap stmt_of c.in-For.is
-        ∙ stmt-For c.in-For.init c.in-For.test
+    ∙ stmt-For c.in-For.init c.in-For.test
     c.in-For.post c.in-For.body) in
     grind (arith, h)
 
@@ -188,7 +188,7 @@ put_first-put_stmts-requires t c =
 pub put_first-returns-in-Locals : goal.put_first-returns-in-Locals
 put_first-returns-in-Locals t c =
     let h = ap (first_code c.args.places.now c.args.around) (ap first_of c.in-Locals.is
-        ∙ first-Locals c.in-Locals.all) in
+    ∙ first-Locals c.in-Locals.all) in
     grind (arith, h)
 
 pub stmt_if-returns-in-Some : goal.stmt_if-returns-in-Some

@@ -8,5 +8,6 @@ use Rattle.frame_state.proofs.answers.can_exit.Goals as goal
 pub returns-in-Some : goal.returns-in-Some
 returns-in-Some c = record {
   value = λ o. asked (NotNow NoFrame) can_exit o (frame_in c.args.image.now.blocks c.args.phase.now)
-      (running c.in-Some.field-0-1.now c.in-Some.held.now) _ c.in-Some.ensures.value (c.exit_answer.ensures c.in-Some.field-0-1.now o);
+      (running c.in-Some.field-0-1.now c.in-Some.held.now) _ c.in-Some.ensures.value
+      (c.exit_answer.ensures c.in-Some.field-0-1.now o);
 }

@@ -8,12 +8,14 @@ use Rattle.frame_state.proofs.changes.deliver_in.Goals as goal
 
 pub deliver-requires : goal.deliver-requires
 deliver-requires c = record {
-  free = sym (ap (finds_room c.args.place) (going_is c.args.image.now.blocks c.block_at-block.result.now c.in-Going.running
+  free = sym (ap (finds_room c.args.place)
+      (going_is c.args.image.now.blocks c.block_at-block.result.now c.in-Going.running
       c.args.phase.now c.in-Going.is (cc))) ∙ c.requires.free;
 }
 
 pub returns-in-Going-clause-frame : goal.returns-in-Going-clause-frame
 returns-in-Going-clause-frame c = λ o.
-    going c.args.image.now.blocks c.block_at-block.result.now (deliver c.args.place o) c.in-Going.running c.deliver.new.self
+    going c.args.image.now.blocks c.block_at-block.result.now
+    (deliver c.args.place o) c.in-Going.running c.deliver.new.self
     (cc) c.deliver.ensures.stays (c.deliver.ensures.value o)
     ∙ ap (λ p. changed (deliver c.args.place o) (frame_in c.args.image.now.blocks p)) (sym c.in-Going.is)

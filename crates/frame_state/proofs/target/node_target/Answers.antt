@@ -4,7 +4,8 @@ use Rattle.frame_state.proofs.target.node_target.Goals as goal
 
 pub returns-then-node-reads : goal.returns-then-node-reads
 returns-then-node-reads c = c.read_target.ensures
-    ∙ read_named c.args.block.now c.as_slice-reads.result.now c.args.node _ c.args.first c.as_slice-reads.ensures.value
+    ∙ read_named c.args.block.now c.as_slice-reads.result.now c.args.node _ c.args.first
+    c.as_slice-reads.ensures.value
     (omega arith)
 
 pub returns-else-node-reads : goal.returns-else-node-reads

@@ -8,9 +8,11 @@ pub returns-then-fire_if-clause-answer : goal.returns-then-fire_if-clause-answer
 returns-then-fire_if-clause-answer c =
     let b = c.args.block.now in
     let h = c.args.frame.now in
-    let found : Some c.in-Some.inst.now ≡ cond (slice_index_or h.fired c.args.slot false) None (slot_of b c.args.slot) =
+    let found : Some c.in-Some.inst.now ≡ cond (slice_index_or h.fired c.args.slot false) None
+    (slot_of b c.args.slot) =
     ap option_copied (sym c.in-Some.is) ∙ c.waiting_at.ensures.value
-    ∙ ap (λ (x : Held). cond (slice_index_or x.fired c.args.slot false) None (slot_of b c.args.slot)) c.held.ensures in
+    ∙ ap (λ (x : Held). cond (slice_index_or x.fired c.args.slot false) None (slot_of b c.args.slot))
+    c.held.ensures in
     λ o. answers_fired b h c.args.slot c.in-Some.inst.now true found
     (sym c.if-fire_if.true ∙ c.fire_if.ensures.fires) o
 
@@ -18,8 +20,10 @@ pub returns-else-fire_if-clause-answer : goal.returns-else-fire_if-clause-answer
 returns-else-fire_if-clause-answer c =
     let b = c.args.block.now in
     let h = c.args.frame.now in
-    let found : Some c.in-Some.inst.now ≡ cond (slice_index_or h.fired c.args.slot false) None (slot_of b c.args.slot) =
+    let found : Some c.in-Some.inst.now ≡ cond (slice_index_or h.fired c.args.slot false) None
+    (slot_of b c.args.slot) =
     ap option_copied (sym c.in-Some.is) ∙ c.waiting_at.ensures.value
-    ∙ ap (λ (x : Held). cond (slice_index_or x.fired c.args.slot false) None (slot_of b c.args.slot)) c.held.ensures in
+    ∙ ap (λ (x : Held). cond (slice_index_or x.fired c.args.slot false) None (slot_of b c.args.slot))
+    c.held.ensures in
     λ o. answers_fired b h c.args.slot c.in-Some.inst.now false found
     (sym c.if-fire_if.false ∙ c.fire_if.ensures.fires) o

@@ -11,7 +11,8 @@ use Rattle.frame_state.proofs.trying.try_deliver.Goals as goal
 pub deliver_running-requires : goal.deliver_running-requires
 deliver_running-requires c = record {
   free = c.requires.free (running c.block_at-block.result.now c.in-Going.frame)
-      (going_is c.args.image.now.blocks c.block_at-block.result.now c.in-Going.frame c.args.phase.now c.in-Going.is (cc));
+      (going_is c.args.image.now.blocks c.block_at-block.result.now c.in-Going.frame c.args.phase.now c.in-Going.is
+      (cc));
 }
 
 pub returns-in-Going-clause-answer : goal.returns-in-Going-clause-answer
@@ -30,7 +31,8 @@ returns-in-Going-clause-frame c =
     let h = c.in-Going.frame in
     let is : slice_get blocks h.block ≡ Some b = cc in
     λ o.
-    going blocks b (tried (arrived c.deliver_running.result) (deliver c.args.place o)) h c.deliver_running.new.frame is
+    going blocks b (tried (arrived c.deliver_running.result) (deliver c.args.place o)) h c.deliver_running.new.frame
+    is
     c.deliver_running.ensures.stays (c.deliver_running.ensures.frame o)
     ∙ ap (λ p. changed (tried (arrived c.deliver_running.result) (deliver c.args.place o)) (frame_in blocks p))
     (sym c.in-Going.is)

@@ -19,7 +19,8 @@ returns-clause-fetches W c = λ blocks budget g good ok went rule. kept blocks b
     (fetches_going blocks good budget 1 g) ok went rule
 
 pub returns-clause-banks : goal.returns-clause-banks
-returns-clause-banks W c = λ blocks budget g good ok went rule. kept blocks budget 1 g (reads_answered blocks budget g)
+returns-clause-banks W c = λ blocks budget g good ok went rule. kept blocks budget 1 g
+    (reads_answered blocks budget g)
     (banks_going blocks good budget 1 g) ok went rule
 
 pub returns-clause-tiles : goal.returns-clause-tiles

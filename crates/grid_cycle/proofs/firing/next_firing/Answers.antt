@@ -7,7 +7,8 @@ pub returns-then-busy-eq0 : goal.returns-then-busy-eq0
 returns-then-busy-eq0 g c =
     let x = c.args.grid.now in
     let here = seen (g.V.Windows.held x.window) x.state in
-    let is = c.ready_firing.ensures ∙ firing_free (g.V.Windows.blocks x.window) (g.V.Windows.budget x.window) c.args.tile
+    let is = c.ready_firing.ensures
+    ∙ firing_free (g.V.Windows.blocks x.window) (g.V.Windows.budget x.window) c.args.tile
     here (sym c.busy.ensures ∙ c.if-busy-eq0.true) in
     record {
       value = is;

@@ -26,7 +26,8 @@ unreachable-requires g c =
     (runs_keep next follows (blocks_of x) x.window.budget (y.state.counts.cycles - x.state.counts.cycles)
     (grid_of x) (grid_of y) c.requires.engine r.run (omega (arith, more)) r.same (r.few c.requires.engine.few) r.kept)
     (λ on. subst (λ o. HasCome (blocks_of x) x.window.window.state
-    (x.window.budget - length x.window.window.state.trace) x.window.budget (most_cycles x.window.budget) o (grid_of y))
+    (x.window.budget - length x.window.window.state.trace) x.window.budget (most_cycles x.window.budget) o
+    (grid_of y))
     c.in-None.is (r.comes on))
     r.same (sym c.in-None.is ∙ r.value)
 

@@ -62,7 +62,8 @@ returns-in-Went-clause-eager g c =
     let h = c.goes_on.new.grid in
     let m = seen (g.V.Windows.held x.window) x.state in
     let after = seen (g.V.Windows.held h.window) h.state in
-    eager_by g.W.Weather.next g.W.Weather.follows bs b stepped.Went (seen (g.V.Windows.held v) c.args.grid.now.state) m
+    eager_by g.W.Weather.next g.W.Weather.follows bs b stepped.Went
+    (seen (g.V.Windows.held v) c.args.grid.now.state) m
     after c.ends.ensures.change c.in-Went.ensures
     (moves_by g.W.Weather.next g.W.Weather.follows bs b (g.V.Windows.blocks x.window) (g.V.Windows.budget x.window) m
     after c.ends.ensures.image c.ends.ensures.budget c.goes_on.ensures.change)

@@ -101,7 +101,8 @@ returns-clause-counted g c =
     c.works_on.ensures.change three in
     let h = c.moves.new.grid in
     let five = after_moves (g.V.Windows.blocks t.window) (g.V.Windows.budget t.window) g.W.Weather.next
-    g.W.Weather.follows (n + 1) n (seen (g.V.Windows.held t.window) t.state) (seen (g.V.Windows.held h.window) h.state)
+    g.W.Weather.follows (n + 1) n (seen (g.V.Windows.held t.window) t.state)
+    (seen (g.V.Windows.held h.window) h.state)
     c.moves.ensures.change four in
     counted_of (n + 1) (n + 1) (seen (g.V.Windows.held h.window) h.state) (omega arith) five
 
@@ -127,7 +128,8 @@ returns-clause-cycles g c =
     c.works_on.ensures.change three in
     let h = c.moves.new.grid in
     let five = after_moves (g.V.Windows.blocks t.window) (g.V.Windows.budget t.window) g.W.Weather.next
-    g.W.Weather.follows (n + 1) n (seen (g.V.Windows.held t.window) t.state) (seen (g.V.Windows.held h.window) h.state)
+    g.W.Weather.follows (n + 1) n (seen (g.V.Windows.held t.window) t.state)
+    (seen (g.V.Windows.held h.window) h.state)
     c.moves.ensures.change four in
     five.cycles
 

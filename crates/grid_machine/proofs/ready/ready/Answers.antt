@@ -12,26 +12,30 @@ pub returns-in-Went : goal.returns-in-Went
 returns-in-Went c = λ s l.
     let w = c.args.window.now.window in
     c.ready_going.ensures s l
-    ∙ ap (λ o. is_done (unless_over o (on_frame (NotNow NoFrame) (can_fire s) (committed w.state) w.frames c.args.frame)))
+    ∙ ap (λ o. is_done (unless_over o
+    (on_frame (NotNow NoFrame) (can_fire s) (committed w.state) w.frames c.args.frame)))
     c.in-Went.ensures.value
 
 pub returns-in-Ended : goal.returns-in-Ended
 returns-in-Ended c = λ s l.
     let w = c.args.window.now.window in
     no_bit s
-    ∙ ap (λ o. is_done (unless_over o (on_frame (NotNow NoFrame) (can_fire s) (committed w.state) w.frames c.args.frame)))
+    ∙ ap (λ o. is_done (unless_over o
+    (on_frame (NotNow NoFrame) (can_fire s) (committed w.state) w.frames c.args.frame)))
     c.in-Ended.ensures.value
 
 pub returns-in-StackFull : goal.returns-in-StackFull
 returns-in-StackFull c = λ s l.
     let w = c.args.window.now.window in
     no_bit s
-    ∙ ap (λ o. is_done (unless_over o (on_frame (NotNow NoFrame) (can_fire s) (committed w.state) w.frames c.args.frame)))
+    ∙ ap (λ o. is_done (unless_over o
+    (on_frame (NotNow NoFrame) (can_fire s) (committed w.state) w.frames c.args.frame)))
     c.in-StackFull.ensures.value
 
 pub returns-in-Trap : goal.returns-in-Trap
 returns-in-Trap c = λ s l.
     let w = c.args.window.now.window in
     no_bit s
-    ∙ ap (λ o. is_done (unless_over o (on_frame (NotNow NoFrame) (can_fire s) (committed w.state) w.frames c.args.frame)))
+    ∙ ap (λ o. is_done (unless_over o
+    (on_frame (NotNow NoFrame) (can_fire s) (committed w.state) w.frames c.args.frame)))
     c.in-Trap.ensures.value

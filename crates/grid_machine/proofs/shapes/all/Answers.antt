@@ -16,4 +16,5 @@ loop-number-preserved c =
 
 pub returns : goal.returns
 returns c =
-    all_shapes c.args.image.now.blocks c.loop-number.number c.loop-number.shapes.items c.loop-number.invariant (omega arith)
+    all_shapes c.args.image.now.blocks c.loop-number.number c.loop-number.shapes.items c.loop-number.invariant
+    (omega arith)

@@ -20,7 +20,8 @@ returns-in-Some c =
     let b = c.in-Some.field-0-1.now in
     let l = c.in-Some.ensures.value in
     let touched = reached c.args.reach.now in
-    let found = finds_in h.stores _ h.loads _ touched 0 c.first_wrong.result c.stores.ensures.value c.loads.ensures.value
+    let found = finds_in h.stores _ h.loads _ touched 0 c.first_wrong.result c.stores.ensures.value
+    c.loads.ensures.value
     c.first_wrong.ensures.found in
     record {
       found = λ f e. told_here fs c.args.age h b l touched _ f e found _ (c.load_of.ensures b l.0);

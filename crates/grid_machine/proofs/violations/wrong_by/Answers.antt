@@ -7,7 +7,8 @@ use Rattle.lsq_order.specs.Reached.{FitsReach, reached}
 use Rattle.grid_cycle_spec.specs.DataTiles.{stored_by}
 use Rattle.grid_machine.proofs.BlockFacts.{sized_at}
 use Rattle.grid_machine.proofs.OlderFacts.{lent_at}
-use Rattle.grid_machine.proofs.WrongFacts.{behind_own, finds_in, fits_stored, narrowed_in, own_behind, own_least, wrong_of, wrong_told}
+use Rattle.grid_machine.proofs.WrongFacts.{behind_own, finds_in, fits_stored, narrowed_in, own_behind, own_least}
+use Rattle.grid_machine.proofs.WrongFacts.{wrong_of, wrong_told}
 use Rattle.grid_machine.proofs.violations.wrong_by.Goals as goal
 
 pub of-reach-requires : goal.of-reach-requires
@@ -57,11 +58,13 @@ returns-in-Some-first_wrong c = λ f e.
     let b = c.in-Some.block.now in
     let z = c.in-Some.ensures.value in
     let fs = w.window.frames in
-    let size = sized_at w.image.blocks w.budget w.window c.keeps_invariant.ensures.window c.args.age (as_frame z.0 b h) z.1 in
+    let size = sized_at w.image.blocks w.budget w.window c.keeps_invariant.ensures.window c.args.age
+    (as_frame z.0 b h) z.1 in
     let m = c.args.number in
     let small = c.requires.number in
     let few = size.stores in
-    let found = finds_in h.stores _ h.loads _ (reached c.of-reach.result) (m + 1) (Some c.in-Some-first_wrong.load) c.stores.ensures.value
+    let found = finds_in h.stores _ h.loads _ (reached c.of-reach.result) (m + 1)
+    (Some c.in-Some-first_wrong.load) c.stores.ensures.value
     c.loads.ensures.value c.in-Some-first_wrong.ensures.found in
     wrong_told h b z.0 m c.stored_by-stored.result (Some c.in-Some-first_wrong.load) (drop (suc c.args.age) fs) _
     (c.stored_by-stored.ensures b z.0 ∙ ap (stored_by (as_frame z.0 b h)) c.request.ensures.value)

@@ -17,6 +17,7 @@ returns-then-may c =
 
 pub returns-else-may : goal.returns-else-may
 returns-else-may c = record {
-  value = ap (λ b. cond b (wrong_in c.args.frame c.args.number c.args.window.now.window.frames) None) c.if-may.ensures;
+  value = ap (λ b. cond b (wrong_in c.args.frame c.args.number c.args.window.now.window.frames) None)
+      c.if-may.ensures;
   within = tt;
 }

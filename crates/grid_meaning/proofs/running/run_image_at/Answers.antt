@@ -17,7 +17,8 @@ returns-clause-done g c = λ text input out placing program value n steps made r
     let z = c.run_out-ending.new.grid in
     subst (λ b. 16 * n + 16 ≤ b → EndsAsMeant c.args.image input b s.trace out value e (grid_of z)) is_made.budget
     (subst (λ (i : Image). (s, Went) ≡ runs i.blocks (start i.bytes input) made → MeansText text placing i
-    → 16 * n + 16 ≤ x.window.budget → EndsAsMeant i input x.window.budget s.trace out value e (grid_of z)) is_made.image
+    → 16 * n + 16 ≤ x.window.budget → EndsAsMeant i input x.window.budget s.trace out value e (grid_of z))
+    is_made.image
     (λ r m f. c.run_out-ending.ensures.done text input out placing program value n steps made s c.args.predictor
     c.args.weather r is_made.begun accepted m bytes is f) reached means) enough
 
@@ -27,8 +28,10 @@ returns-clause-meant g c = λ text input placing program made reached accepted m
     let s = c.args.arch.state in
     let is_made = c.in_ok-begun.ensures in
     let z = c.run_out-ending.new.grid in
-    subst (λ b. AgreesWith (stands (grid_of z)) (n ≤ length means.tokens * (b + 1)) (eval program input n)) is_made.budget
+    subst (λ b. AgreesWith (stands (grid_of z)) (n ≤ length means.tokens * (b + 1)) (eval program input n))
+    is_made.budget
     (subst (λ (i : Image). (s, Went) ≡ runs i.blocks (start i.bytes input) made → (m : MeansText text placing i)
-    → AgreesWith (stands (grid_of z)) (n ≤ length m.tokens * (x.window.budget + 1)) (eval program input n)) is_made.image
+    → AgreesWith (stands (grid_of z)) (n ≤ length m.tokens * (x.window.budget + 1)) (eval program input n))
+    is_made.image
     (λ r m. c.run_out-ending.ensures.meant text input placing program made s c.args.predictor c.args.weather r
     is_made.begun accepted m bytes end n) reached means)

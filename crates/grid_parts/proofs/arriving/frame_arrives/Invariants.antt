@@ -8,7 +8,8 @@ use Rattle.grid_parts.proofs.arriving.frame_arrives.Given as goal
 
 abbrev pub invariant-loop-from : goal.invariant-loop-from
 invariant-loop-from g l = record {
-  change : each (arrival (g.V.Windows.blocks l.initial.grid.window) (g.V.Windows.budget l.initial.grid.window) l.frame)
+  change : each (arrival (g.V.Windows.blocks l.initial.grid.window)
+      (g.V.Windows.budget l.initial.grid.window) l.frame)
       places (seen (g.V.Windows.held l.grid.window) l.grid.state)
       ≡ each (arrival (g.V.Windows.blocks l.initial.grid.window) (g.V.Windows.budget l.initial.grid.window) l.frame)
       places (seen (g.V.Windows.held l.initial.grid.window) l.initial.grid.state);

@@ -35,4 +35,5 @@ returns-else-is_waiting-clause-change g c = λ f e.
     ∙ ap (λ o. is_waiting o (p / 2)) (c.waits_at.ensures ∙ ap (found_in (λ h. at h.requests k)) e))
 
 pub returns-then-is_waiting-clause-counts : goal.returns-then-is_waiting-clause-counts
-returns-then-is_waiting-clause-counts g c = ap (λ x. x.counts) (c.ask.ensures (g.V.Windows.held c.args.grid.now.window))
+returns-then-is_waiting-clause-counts g c =
+    ap (λ x. x.counts) (c.ask.ensures (g.V.Windows.held c.args.grid.now.window))

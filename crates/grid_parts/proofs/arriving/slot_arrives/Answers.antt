@@ -90,4 +90,5 @@ returns-in-Constant-clause-few g c =
 
 pub returns-in-Store-clause-few : goal.returns-in-Store-clause-few
 returns-in-Store-clause-few g c =
-    let same = ap (λ x. x.counts.flushed) (c.ask.ensures (g.V.Windows.held c.args.grid.now.window)) in omega (arith, same)
+    let same = ap (λ x. x.counts.flushed) (c.ask.ensures (g.V.Windows.held c.args.grid.now.window)) in
+    omega (arith, same)

@@ -38,7 +38,8 @@ returns-then-answers_read-clause-value g c =
     let w = c.args.window.now in
     let few = reads_are in
     let below = c.loop-read-test.true in
-    found_within (may_read (g.V.Windows.blocks w) (g.V.Windows.budget w) (g.V.Windows.held w) c.args.bank c.args.frame)
+    found_within (may_read (g.V.Windows.blocks w) (g.V.Windows.budget w)
+    (g.V.Windows.held w) c.args.bank c.args.frame)
     reads c.loop-read.read (omega (arith, few, below)) c.loop-read.invariant (sym c.if-answers_read.ensures)
 
 pub returns-clause-value : goal.returns-clause-value

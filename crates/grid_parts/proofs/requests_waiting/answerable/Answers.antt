@@ -9,19 +9,24 @@ use Rattle.grid_parts.proofs.requests_waiting.answerable.Goals as goal
 
 pub loop-i-preserved : goal.loop-i-preserved
 loop-i-preserved g c =
-    let find : ℕ → Option ℕ = lowest_request (seen (g.V.Windows.held c.args.window.now) c.args.state.now) c.args.tile in
+    let find : ℕ → Option ℕ =
+    lowest_request (seen (g.V.Windows.held c.args.window.now) c.args.state.now) c.args.tile in
     passed find c.args.order.now c.loop-i.i (omega arith) (sym c.in-None.ensures.value) ∙ c.loop-i.invariant
 
 pub returns-in-Some-clause-value : goal.returns-in-Some-clause-value
 returns-in-Some-clause-value g c =
-    let find : ℕ → Option ℕ = lowest_request (seen (g.V.Windows.held c.args.window.now) c.args.state.now) c.args.tile in
+    let find : ℕ → Option ℕ =
+    lowest_request (seen (g.V.Windows.held c.args.window.now) c.args.state.now) c.args.tile in
     found find c.args.order.now c.loop-i.i c.in-Some.number (omega arith) (sym c.in-Some.ensures.value)
     ∙ c.loop-i.invariant ∙ ap (first_found find) c.requires.order
-    ∙ answerable_is (seen (g.V.Windows.held c.args.window.now) c.args.state.now) c.args.tile (subst AreNumbers c.requires.order c.requires.distinct)
+    ∙ answerable_is (seen (g.V.Windows.held c.args.window.now) c.args.state.now) c.args.tile
+    (subst AreNumbers c.requires.order c.requires.distinct)
 
 pub returns-clause-value : goal.returns-clause-value
 returns-clause-value g c =
-    let find : ℕ → Option ℕ = lowest_request (seen (g.V.Windows.held c.args.window.now) c.args.state.now) c.args.tile in
+    let find : ℕ → Option ℕ =
+    lowest_request (seen (g.V.Windows.held c.args.window.now) c.args.state.now) c.args.tile in
     none_left find c.args.order.now c.loop-i.i (omega arith)
     ∙ c.loop-i.invariant ∙ ap (first_found find) c.requires.order
-    ∙ answerable_is (seen (g.V.Windows.held c.args.window.now) c.args.state.now) c.args.tile (subst AreNumbers c.requires.order c.requires.distinct)
+    ∙ answerable_is (seen (g.V.Windows.held c.args.window.now) c.args.state.now) c.args.tile
+    (subst AreNumbers c.requires.order c.requires.distinct)

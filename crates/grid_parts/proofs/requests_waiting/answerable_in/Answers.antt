@@ -13,7 +13,8 @@ pub loop-number-init : goal.loop-number-init
 loop-number-init g c =
     let w = g.V.Windows.held c.args.window.now in
     let s = c.args.state.now in
-    let test : ℕ → Bool = λ k. holds_of (λ f. answers_request (seen w s) c.args.tile f k) (frame_of c.args.frame w.frames) in
+    let test : ℕ → Bool = λ k. holds_of (λ f. answers_request (seen w s) c.args.tile f k)
+    (frame_of c.args.frame w.frames) in
     passed_over test numbers c.low_bits-asked.result 0 c.lowest_bit-number.result c.lowest_bit-number.ensures
     (unasked_within (seen w s) c.args.tile c.args.frame c.word-word.result c.low_bits-asked.result
     c.low_bits-asked.ensures (λ i. ap (λ z. has_bit z i) (sym c.word-word.ensures)))
@@ -23,7 +24,8 @@ pub loop-number-preserved : goal.loop-number-preserved
 loop-number-preserved g c =
     let w = g.V.Windows.held c.args.window.now in
     let s = c.args.state.now in
-    let test : ℕ → Bool = λ k. holds_of (λ f. answers_request (seen w s) c.args.tile f k) (frame_of c.args.frame w.frames) in
+    let test : ℕ → Bool = λ k. holds_of (λ f. answers_request (seen w s) c.args.tile f k)
+    (frame_of c.args.frame w.frames) in
     passed_over test numbers c.low_bits-asked.result (c.loop-number.number + 1)
     c.lowest_bit-number-in-loop-number.result c.lowest_bit-number-in-loop-number.ensures
     (unasked_within (seen w s) c.args.tile c.args.frame c.word-word.result c.low_bits-asked.result
@@ -40,7 +42,8 @@ pub returns-then-answers-clause-value : goal.returns-then-answers-clause-value
 returns-then-answers-clause-value g c =
     let w = g.V.Windows.held c.args.window.now in
     let s = c.args.state.now in
-    let test : ℕ → Bool = λ k. holds_of (λ f. answers_request (seen w s) c.args.tile f k) (frame_of c.args.frame w.frames) in
+    let test : ℕ → Bool = λ k. holds_of (λ f. answers_request (seen w s) c.args.tile f k)
+    (frame_of c.args.frame w.frames) in
     let few = numbers_are in
     let below = c.loop-number-test.true in
     found_within test numbers c.loop-number.number (omega (arith, few, below)) c.loop-number.invariant
@@ -51,7 +54,8 @@ pub returns-clause-value : goal.returns-clause-value
 returns-clause-value g c =
     let w = g.V.Windows.held c.args.window.now in
     let s = c.args.state.now in
-    let test : ℕ → Bool = λ k. holds_of (λ f. answers_request (seen w s) c.args.tile f k) (frame_of c.args.frame w.frames) in
+    let test : ℕ → Bool = λ k. holds_of (λ f. answers_request (seen w s) c.args.tile f k)
+    (frame_of c.args.frame w.frames) in
     let few = numbers_are in
     let past = c.loop-number-test.false in
     none_within test numbers c.loop-number.number (omega (arith, few, past)) c.loop-number.invariant

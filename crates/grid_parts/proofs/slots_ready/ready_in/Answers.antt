@@ -11,7 +11,8 @@ returns-clause-value g c =
     let w = g.V.Windows.held c.args.window.now in
     c.lowest_on.ensures.value
     ∙ least_agrees (is_on c.ready.result c.args.tile)
-    (may_fire (g.V.Windows.blocks c.args.window.now) (g.V.Windows.budget c.args.window.now) w c.args.tile c.args.frame)
+    (may_fire (g.V.Windows.blocks c.args.window.now)
+    (g.V.Windows.budget c.args.window.now) w c.args.tile c.args.frame)
     slots 0
     (λ s from below. let few = slots_are in
     ap (λ b. (tile_of s == c.args.tile) && b) (c.ready.ensures s (omega (arith, few))))

@@ -5,5 +5,7 @@ use Rattle.grid_parts.proofs.slots_ready.ready_slot.Given as goal
 
 abbrev pub invariant-loop-i : goal.invariant-loop-i
 invariant-loop-i g l =
-    first_found (lowest_ready (g.V.Windows.blocks l.window) (g.V.Windows.budget l.window) (g.V.Windows.held l.window) l.tile) (drop l.i l.order)
-    ≡ first_found (lowest_ready (g.V.Windows.blocks l.window) (g.V.Windows.budget l.window) (g.V.Windows.held l.window) l.tile) l.order
+    first_found (lowest_ready (g.V.Windows.blocks l.window) (g.V.Windows.budget l.window)
+    (g.V.Windows.held l.window) l.tile) (drop l.i l.order)
+    ≡ first_found (lowest_ready (g.V.Windows.blocks l.window) (g.V.Windows.budget l.window)
+    (g.V.Windows.held l.window) l.tile) l.order

@@ -84,9 +84,9 @@ put_stmt-returns-in_ok-put_out-in-Loop-2 t c =
     (emission_of c.args.emitting.now) (λ j. ap (is_test_step j) e) in
     let en : c.take_note-note.result ≡ last_note (emission_of c.args.emitting.now).notes = grind arith in
     let is : is_bare_code c.cuts-ends-in-Loop.result (code_of c.in-Loop.body) (code_of c.in-Loop.post) ≡ true =
-        grind arith in
+    grind arith in
     let k = emit_bare c.args.site.now c.args.broke c.args.again c.args.on (step_of c.args.s.now)
-        (code_of c.in-Loop.body)
+    (code_of c.in-Loop.body)
     (code_of c.in-Loop.post) (emission_of c.args.emitting.now) c.take_note-note.result c.cuts-ends-in-Loop.result e en
     c.cuts-ends-in-Loop.ensures is in
     grind (arith, h, k)
@@ -98,9 +98,9 @@ put_stmt-returns-in_ok-put_out-in-Loop-4 t c =
     (emission_of c.args.emitting.now) (λ j. ap (is_test_step j) e) in
     let en : c.take_note-note.result ≡ last_note (emission_of c.args.emitting.now).notes = grind arith in
     let is : is_bare_code c.cuts-ends-in-Loop.result (code_of c.in-Loop.body) (code_of c.in-Loop.post) ≡ false =
-        grind arith in
+    grind arith in
     let k = emit_full c.args.site.now c.args.broke c.args.again c.args.on (step_of c.args.s.now)
-        (code_of c.in-Loop.body)
+    (code_of c.in-Loop.body)
     (code_of c.in-Loop.post) (emission_of c.args.emitting.now) c.take_note-note.result c.cuts-ends-in-Loop.result e en
     c.cuts-ends-in-Loop.ensures is in
     grind (arith, h, k)
@@ -136,11 +136,11 @@ pub put_stmt-returns-in_ok-put_merged-in-If : goal.put_stmt-returns-in_ok-put_me
 put_stmt-returns-in_ok-put_merged-in-If t c =
     let q : c.args.last && (c.joins-joined.result && is_break_code (code_of c.in-If.no)) ≡ true = grind arith in
     let h = part_tests c.args.site.now c.args.broke c.args.again c.args.last c.args.on
-        (step_of c.args.s.now) c.in-If.test
+    (step_of c.args.s.now) c.in-If.test
     _ (code_of c.in-If.no) (emission_of c.args.emitting.now) c.in_ok-statements-in-If.statements c.joins-joined.result
     c.cuts-ends.result (ap step_of c.in-If.is ∙ step_if c.in-If.test c.in-If.yes c.in-If.no)
     c.in_ok-statements-in-If.ensures (c.joins-joined.ensures
-        ∙ ap (joins_by c.args.site.now.joins) c.fallen_by-place.ensures) q
+    ∙ ap (joins_by c.args.site.now.joins) c.fallen_by-place.ensures) q
     (c.cuts-ends.ensures ∙ ap (cuts_by c.args.site.now.cuts) c.fallen_by-place.ensures) in
     grind (arith, h)
 
@@ -148,11 +148,11 @@ pub put_stmt-returns-in_ok-put_joined-in-If : goal.put_stmt-returns-in_ok-put_jo
 put_stmt-returns-in_ok-put_joined-in-If t c =
     let q : c.args.last && (c.joins-joined.result && is_break_code (code_of c.in-If.no)) ≡ false = grind arith in
     let k = part_ifs c.args.site.now c.args.broke c.args.again c.args.last c.args.on
-        (step_of c.args.s.now) c.in-If.test
+    (step_of c.args.s.now) c.in-If.test
     (code_of c.in-If.yes) (code_of c.in-If.no) (emission_of c.args.emitting.now) c.in_ok-statements-in-If.statements
     c.joins-joined.result (ap step_of c.in-If.is ∙ step_if c.in-If.test c.in-If.yes c.in-If.no)
     c.in_ok-statements-in-If.ensures (c.joins-joined.ensures
-        ∙ ap (joins_by c.args.site.now.joins) c.fallen_by-place.ensures) q in
+    ∙ ap (joins_by c.args.site.now.joins) c.fallen_by-place.ensures) q in
     let is : is_if_item c.joins-joined.result (code_of c.in-If.yes) (code_of c.in-If.no) ≡ true = grind arith in
     let h = emit_item c.args.site.now c.args.broke c.args.again c.args.on (step_of c.args.s.now) c.in-If.test _ _
     (emission_of c.args.emitting.now) c.in_ok-statements-in-If.statements c.joins-joined.result
@@ -164,11 +164,11 @@ pub put_stmt-returns-in_ok-put_test-in-If : goal.put_stmt-returns-in_ok-put_test
 put_stmt-returns-in_ok-put_test-in-If t c =
     let q : c.args.last && (c.joins-joined.result && is_break_code (code_of c.in-If.no)) ≡ false = grind arith in
     let k = part_ifs c.args.site.now c.args.broke c.args.again c.args.last c.args.on
-        (step_of c.args.s.now) c.in-If.test
+    (step_of c.args.s.now) c.in-If.test
     (code_of c.in-If.yes) (code_of c.in-If.no) (emission_of c.args.emitting.now) c.in_ok-statements-in-If.statements
     c.joins-joined.result (ap step_of c.in-If.is ∙ step_if c.in-If.test c.in-If.yes c.in-If.no)
     c.in_ok-statements-in-If.ensures (c.joins-joined.ensures
-        ∙ ap (joins_by c.args.site.now.joins) c.fallen_by-place.ensures) q in
+    ∙ ap (joins_by c.args.site.now.joins) c.fallen_by-place.ensures) q in
     let is : is_if_item c.joins-joined.result (code_of c.in-If.yes) (code_of c.in-If.no) ≡ false = grind arith in
     let h = emit_test c.args.site.now c.args.broke c.args.again c.args.on (step_of c.args.s.now) c.in-If.test _ _
     (emission_of c.args.emitting.now) c.in_ok-statements-in-If.statements c.joins-joined.result

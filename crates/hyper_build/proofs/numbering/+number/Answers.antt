@@ -76,7 +76,7 @@ number_stmt-returns-in_ok-add_note-in-Loop t c =
     (λ j. ap (is_test_step j) e) in
     let is : is_bare_code c.cuts-ends.result (code_of c.in-Loop.body) (code_of c.in-Loop.post) ≡ true = grind arith in
     let k = number_bare c.args.site.now c.args.on (step_of c.args.s.now) (code_of c.in-Loop.body)
-        (code_of c.in-Loop.post)
+    (code_of c.in-Loop.post)
     c.args.numbering.now c.cuts-ends.result e c.cuts-ends.ensures is in
     grind (arith, h, k)
 
@@ -86,9 +86,9 @@ number_stmt-returns-in_ok-add_note-in-Loop-2 t c =
     let h = numbers_plain c.args.site.now c.args.last c.args.on (step_of c.args.s.now) c.args.numbering.now
     (λ j. ap (is_test_step j) e) in
     let is : is_bare_code c.cuts-ends.result (code_of c.in-Loop.body) (code_of c.in-Loop.post) ≡ false =
-        grind arith in
+    grind arith in
     let k = number_full c.args.site.now c.args.on (step_of c.args.s.now) (code_of c.in-Loop.body)
-        (code_of c.in-Loop.post)
+    (code_of c.in-Loop.post)
     c.args.numbering.now c.cuts-ends.result e c.cuts-ends.ensures is in
     grind (arith, h, k)
 
@@ -120,7 +120,7 @@ pub number_stmt-returns-in_ok-count_blocks-in-If : goal.number_stmt-returns-in_o
 number_stmt-returns-in_ok-count_blocks-in-If t c =
     let q : c.args.last && (c.joins-joined.result && is_break_code (code_of c.in-If.no)) ≡ true = grind arith in
     let h = numbers_test c.args.site.now c.args.last c.args.on (step_of c.args.s.now) c.in-If.test _
-        (code_of c.in-If.no)
+    (code_of c.in-If.no)
     c.args.numbering.now c.joins-joined.result (ap step_of c.in-If.is ∙ step_if c.in-If.test c.in-If.yes c.in-If.no)
     c.joins-joined.ensures q in
     grind (arith, h)
@@ -129,24 +129,24 @@ pub number_stmt-returns-in_ok-number_items-in-If : goal.number_stmt-returns-in_o
 number_stmt-returns-in_ok-number_items-in-If t c =
     let q : c.args.last && (c.joins-joined.result && is_break_code (code_of c.in-If.no)) ≡ false = grind arith in
     let k = numbers_ifs c.args.site.now c.args.last c.args.on (step_of c.args.s.now) c.in-If.test
-        (code_of c.in-If.yes)
+    (code_of c.in-If.yes)
     (code_of c.in-If.no) c.args.numbering.now c.joins-joined.result
     (ap step_of c.in-If.is ∙ step_if c.in-If.test c.in-If.yes c.in-If.no) c.joins-joined.ensures q in
     let is : is_if_item c.joins-joined.result (code_of c.in-If.yes) (code_of c.in-If.no) ≡ true = grind arith in
     let h = number_item c.args.site.now c.args.on (step_of c.args.s.now) c.in-If.test _ _ c.args.numbering.now
     c.joins-joined.result (ap step_of c.in-If.is
-        ∙ step_if c.in-If.test c.in-If.yes c.in-If.no) c.joins-joined.ensures is in
+    ∙ step_if c.in-If.test c.in-If.yes c.in-If.no) c.joins-joined.ensures is in
     grind (arith, h, k)
 
 pub number_stmt-returns-in_ok-count_blocks-in-If-2 : goal.number_stmt-returns-in_ok-count_blocks-in-If-2
 number_stmt-returns-in_ok-count_blocks-in-If-2 t c =
     let q : c.args.last && (c.joins-joined.result && is_break_code (code_of c.in-If.no)) ≡ false = grind arith in
     let k = numbers_ifs c.args.site.now c.args.last c.args.on (step_of c.args.s.now) c.in-If.test
-        (code_of c.in-If.yes)
+    (code_of c.in-If.yes)
     (code_of c.in-If.no) c.args.numbering.now c.joins-joined.result
     (ap step_of c.in-If.is ∙ step_if c.in-If.test c.in-If.yes c.in-If.no) c.joins-joined.ensures q in
     let is : is_if_item c.joins-joined.result (code_of c.in-If.yes) (code_of c.in-If.no) ≡ false = grind arith in
     let h = number_test c.args.site.now c.args.on (step_of c.args.s.now) c.in-If.test _ _ c.args.numbering.now
     c.joins-joined.result (ap step_of c.in-If.is
-        ∙ step_if c.in-If.test c.in-If.yes c.in-If.no) c.joins-joined.ensures is in
+    ∙ step_if c.in-If.test c.in-If.yes c.in-If.no) c.joins-joined.ensures is in
     grind (arith, h, k)

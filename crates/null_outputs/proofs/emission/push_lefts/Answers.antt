@@ -11,7 +11,7 @@ loop-n-preserved c =
       (let e = i.0 in omega (arith, e)),
       region_turn (groups.left_part (listed.sure_in_guess c.args.nodes.now c.args.guess.now)
           (listed.want_in_guess c.args.guess.now)
-              (listed.cover_in c.args.nodes.now c.args.guess.now c.args.starts.now))
+          (listed.cover_in c.args.nodes.now c.args.guess.now c.args.starts.now))
           (groups.left_size (listed.sure_in_guess c.args.nodes.now c.args.guess.now)
           (listed.want_in_guess c.args.guess.now))
           (left_length (listed.sure_in_guess c.args.nodes.now c.args.guess.now)

@@ -1,5 +1,5 @@
 use Rattle.std.proofs.Common.{length, ap, sym, ◌∙◌}
-use Rattle.base.specs.Rows.{row}
+use Rattle.base.specs.inside.Rows.{row}
 use Rattle.base.proofs.FlagFacts.{length_unset}
 use Rattle.base.proofs.RowFacts.{none_there, none_mapped, length_row}
 use Rattle.base.proofs.row.Row.clear.Goals as goal

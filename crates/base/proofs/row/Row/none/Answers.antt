@@ -1,5 +1,5 @@
 use Rattle.std.proofs.Common.{length, ap, ◌∙◌}
-use Rattle.base.specs.Rows.{row}
+use Rattle.base.specs.inside.Rows.{row}
 use Rattle.std.proofs.lemmas.List.{length-replicate}
 use Rattle.std.proofs.Common.{replicate}
 use Rattle.base.proofs.FlagFacts.{length_unset}

@@ -1,5 +1,5 @@
 use Rattle.std.proofs.Common.{Some, length, set, ap, sym, ◌∙◌, arith}
-use Rattle.base.specs.Rows.{row}
+use Rattle.base.specs.inside.Rows.{row}
 use Rattle.base.proofs.RowFacts.{put_item, put_past, length_row}
 use Rattle.base.proofs.row.Row.put.Goals as goal
 

@@ -1,5 +1,5 @@
 use Rattle.std.proofs.Common.{None, length, set, ap, sym, ◌∙◌}
-use Rattle.base.specs.Rows.{row}
+use Rattle.base.specs.inside.Rows.{row}
 use Rattle.base.proofs.RowFacts.{take_item, length_row}
 use Rattle.base.proofs.row.Row.take.Goals as goal
 

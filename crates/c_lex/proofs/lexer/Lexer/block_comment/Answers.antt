@@ -1,7 +1,7 @@
 use Rattle.std.proofs.Common.{◌≡◌, ◌≤◌, ◌+◌, suc, length, sym, ap, ◌∙◌, refl, rules}
 use Rattle.c_lex.specs.declared.piece.Broken.TheVariants as kind
 use Rattle.c_lex.specs.declared.fault.LexFault.TheVariants as fault
-use Rattle.c_lex.specs.Places.{place}
+use Rattle.c_lex.specs.inside.Places.{place}
 use Rattle.c_lex.proofs.Comments.{counted, counted_none}
 use Rattle.c_lex.proofs.Found.{block_is, close_size, opening_found}
 use Rattle.c_lex.proofs.ReadSoFar.{broken_stops}

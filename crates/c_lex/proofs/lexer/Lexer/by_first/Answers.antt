@@ -2,7 +2,7 @@ use Rattle.std.proofs.Common.{sym, ap, ◌∙◌, take}
 use Rattle.c_lex.specs.declared.first.First.TheVariants as first
 use Rattle.c_lex.specs.Bytes.{Bytes}
 use Rattle.c_lex.specs.Tables.{lookup, marks}
-use Rattle.c_lex.specs.Places.{place}
+use Rattle.c_lex.specs.inside.Places.{place}
 use Rattle.c_lex.proofs.Firsts.{class_is}
 use Rattle.c_lex.proofs.Found.{only_found, other_nothing}
 use Rattle.c_lex.proofs.ReadSoFar.{byte_stops}

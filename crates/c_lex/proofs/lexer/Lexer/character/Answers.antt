@@ -3,7 +3,7 @@ use Rattle.c_tree.specs.declared.Form.TheVariants as form
 use Rattle.c_tree.specs.declared.Kind.TheVariants.{Int}
 use Rattle.c_lex.specs.declared.piece.Broken.TheVariants as kind
 use Rattle.c_lex.specs.declared.fault.LexFault.TheVariants as fault
-use Rattle.c_lex.specs.Places.{place}
+use Rattle.c_lex.specs.inside.Places.{place}
 use Rattle.c_lex.proofs.Found.{character_found, character_size, quote_found}
 use Rattle.c_lex.proofs.ReadSoFar.{full_stops, broken_stops}
 use Rattle.c_lex.proofs.lexer.Lexer.character.Goals as goal

@@ -2,7 +2,7 @@ use Rattle.std.proofs.Common.{sym, ◌∙◌, refl, ◌+◌}
 use Rattle.c_tree.specs.declared.Form.TheVariants as form
 use Rattle.c_lex.specs.declared.piece.Broken.TheVariants as kind
 use Rattle.c_lex.specs.declared.fault.LexFault.TheVariants as fault
-use Rattle.c_lex.specs.Places.{place}
+use Rattle.c_lex.specs.inside.Places.{place}
 use Rattle.c_lex.proofs.Found.{include_found, directive_found, hash_nothing}
 use Rattle.c_lex.proofs.ReadSoFar.{full_stops, broken_stops, byte_stops}
 use Rattle.c_lex.proofs.lexer.Lexer.directive.Goals as goal

@@ -1,5 +1,5 @@
 use Rattle.std.proofs.Common.{refl}
-use Rattle.c_lex.specs.Places.{place}
+use Rattle.c_lex.specs.inside.Places.{place}
 use Rattle.c_lex.proofs.NoLineFeed.{kept}
 use Rattle.c_lex.proofs.lexer.Lexer.keep.Goals as goal
 

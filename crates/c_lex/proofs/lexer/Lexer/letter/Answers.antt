@@ -1,6 +1,6 @@
 use Rattle.std.proofs.Common.{sym, subst}
 use Rattle.c_lex.specs.Bytes.{Bytes}
-use Rattle.c_lex.specs.Finds.{IsFront, found, name_token}
+use Rattle.c_lex.specs.inside.Finds.{IsFront, found, name_token}
 use Rattle.c_lex.proofs.lexer.Lexer.letter.Goals as goal
 
 pub keep-requires-clause-front : goal.keep-requires-clause-front

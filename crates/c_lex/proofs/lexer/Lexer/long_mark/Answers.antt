@@ -1,5 +1,5 @@
 use Rattle.c_tree.specs.declared.Form.TheVariants as form
-use Rattle.c_lex.specs.Places.{place}
+use Rattle.c_lex.specs.inside.Places.{place}
 use Rattle.c_lex.proofs.Marks.{mark_some}
 use Rattle.c_lex.proofs.Found.{mark_found_at}
 use Rattle.c_lex.proofs.ReadSoFar.{full_stops}

@@ -5,7 +5,7 @@ use Rattle.c_lex.specs.declared.piece.Reading.TheVariants as reads
 use Rattle.c_lex.specs.Bytes.{Bytes}
 use Rattle.c_lex.specs.Tables.{lookup, keywords}
 use Rattle.c_lex.specs.Pieces.{word_form}
-use Rattle.c_lex.specs.Finds.{IsFront, found}
+use Rattle.c_lex.specs.inside.Finds.{IsFront, found}
 use Rattle.c_lex.proofs.lexer.Lexer.long_word.Goals as goal
 
 pub keep-requires-clause-front : goal.keep-requires-clause-front

@@ -1,5 +1,5 @@
 use Rattle.c_tree.specs.declared.Form.TheVariants as form
-use Rattle.c_lex.specs.Places.{place}
+use Rattle.c_lex.specs.inside.Places.{place}
 use Rattle.c_lex.proofs.ReadSoFar.{full_stops}
 use Rattle.c_lex.proofs.lexer.Lexer.mark.Goals as goal
 

@@ -2,8 +2,8 @@ use Rattle.std.proofs.Common.{◌+◌, sym, ap, ◌∙◌, refl}
 use Rattle.c_tree.specs.declared.Form.TheVariants as form
 use Rattle.c_lex.specs.declared.piece.Broken.TheVariants as kind
 use Rattle.c_lex.specs.declared.fault.LexFault.TheVariants as fault
-use Rattle.c_lex.specs.Scans.{constant_of}
-use Rattle.c_lex.specs.Places.{place}
+use Rattle.c_lex.specs.inside.Scans.{constant_of}
+use Rattle.c_lex.specs.inside.Places.{place}
 use Rattle.c_lex.proofs.Found.{number_found, bad_number_found}
 use Rattle.c_lex.proofs.ReadSoFar.{full_stops, broken_stops}
 use Rattle.c_lex.proofs.lexer.Lexer.number.Goals as goal

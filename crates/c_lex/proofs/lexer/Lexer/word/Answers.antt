@@ -1,5 +1,5 @@
 use Rattle.std.proofs.Common.{◌+◌, refl, sym, ap, ◌∙◌}
-use Rattle.c_lex.specs.Places.{place}
+use Rattle.c_lex.specs.inside.Places.{place}
 use Rattle.c_lex.proofs.Found.{word_found, letter_found}
 use Rattle.c_lex.proofs.ReadSoFar.{full_stops}
 use Rattle.c_lex.proofs.lexer.Lexer.word.Goals as goal

@@ -1,7 +1,7 @@
 use Rattle.std.proofs.Common.{◌≤◌, ap, sym, ◌∙◌, length, List, Option, ℕ, slice_get, arith}
 use Rattle.c_meaning_spec.specs.State.{row_in}
 use Rattle.c_meaning.specs.declared.arrays.Span.{Span}
-use Rattle.c_meaning.specs.Cells.{total, span_length}
+use Rattle.c_meaning.specs.inside.Cells.{total, span_length}
 use Rattle.c_meaning.proofs.Lays.{row-count}
 use Rattle.c_meaning.proofs.arrays.Arrays.count_in.Goals as goal
 

@@ -1,5 +1,5 @@
 use Rattle.std.proofs.Common.{◌<◌, ◌≤◌, length, subst, sym, arith, List}
-use Rattle.c_meaning.specs.Cells.{IsLaid}
+use Rattle.c_meaning.specs.inside.Cells.{IsLaid}
 use Rattle.c_meaning.specs.declared.arrays.Span.{Span}
 use Rattle.c_meaning.proofs.Lays.{laid-kept, rows-kept, rows-all}
 use Rattle.c_meaning.proofs.arrays.Arrays.keep_first.Goals as goal

@@ -1,5 +1,5 @@
 use Rattle.std.proofs.Common.{refl, sym, subst, arith}
-use Rattle.c_meaning.specs.Cells.{SpansKnown}
+use Rattle.c_meaning.specs.inside.Cells.{SpansKnown}
 use Rattle.c_meaning.proofs.Lays.{laid-cells}
 use Rattle.c_meaning.proofs.arrays.Arrays.set.Goals as goal
 

@@ -1,6 +1,6 @@
 use Rattle.std.proofs.Common.{◌≡◌}
-use Rattle.c_meaning.specs.View.{next, view, frames}
-use Rattle.c_meaning.specs.Ahead.{ahead_next}
+use Rattle.c_meaning.specs.inside.View.{next, view, frames}
+use Rattle.c_meaning.specs.inside.Ahead.{ahead_next}
 use Rattle.c_meaning.proofs.machine.Machine.go.Given as goal
 
 abbrev pub invariant-loop-round : goal.invariant-loop-round

@@ -3,8 +3,8 @@ use Rattle.c_tree.specs.declared.Callee.TheVariants.{Func}
 use Rattle.c_meaning_spec.specs.State.{Result}
 use Rattle.c_meaning_spec.specs.Call.{called}
 use Rattle.c_meaning_spec.specs.Eval.{meaning}
-use Rattle.c_meaning.specs.Ahead.{IsReached}
-use Rattle.c_meaning.specs.View.{next, view}
+use Rattle.c_meaning.specs.inside.Ahead.{IsReached}
+use Rattle.c_meaning.specs.inside.View.{next, view}
 use Rattle.c_meaning.proofs.EvaluatorLoop.{no_more}
 use Rattle.c_meaning.proofs.machine.Machine.run_main.Goals as goal
 

@@ -1,7 +1,7 @@
 use Rattle.std.proofs.Common.{sym, subst}
 use Rattle.c_meaning_spec.specs.State.{Result}
-use Rattle.c_meaning.specs.View.{view}
-use Rattle.c_meaning.specs.Direct.{Values}
+use Rattle.c_meaning.specs.inside.View.{view}
+use Rattle.c_meaning.specs.inside.Direct.{Values}
 use Rattle.c_meaning.proofs.TaskMeanings.{number_node}
 use Rattle.c_meaning.proofs.store.Store.+parts.Goals as goal
 

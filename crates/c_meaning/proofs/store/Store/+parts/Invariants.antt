@@ -3,8 +3,8 @@ use Rattle.c_meaning_spec.specs.Task.{Turn}
 use Rattle.c_meaning_spec.specs.Call.{arguments}
 use Rattle.c_meaning_spec.specs.Statement.{sequence, locals, run_from, bodies}
 use Rattle.c_meaning_spec.specs.Eval.{meaning}
-use Rattle.c_meaning.specs.View.{behind, view}
-use Rattle.c_meaning.specs.Given.{words}
+use Rattle.c_meaning.specs.inside.View.{behind, view}
+use Rattle.c_meaning.specs.inside.Given.{words}
 use Rattle.c_meaning.proofs.store.Store.+parts.Given as goal
 
 abbrev pub decreases-value_of : goal.decreases-value_of

@@ -1,7 +1,7 @@
 use Rattle.std.proofs.Common.{◌≡◌, ◌++◌, List, length}
 use Rattle.c_meaning_spec.specs.Eval.{meaning}
 use Rattle.c_meaning_spec.specs.Statement.{Target, bodies, compared, leading}
-use Rattle.c_meaning.specs.View.{view}
+use Rattle.c_meaning.specs.inside.View.{view}
 use Rattle.c_meaning.proofs.store.Store.compare.Given as goal
 
 -- what is left is what was to be done

@@ -2,13 +2,13 @@ use Rattle.std.proofs.Common.{ℕ, ◌+◌, ◌-◌, length, arith, rules, sym, 
 use Rattle.std.proofs.lemmas.Grind.{common_steps}
 use Rattle.c_tree.specs.declared.tree.Expr.{Expr}
 use Rattle.c_tree.specs.declared.token.Mark.TheVariants as marks
-use Rattle.c_grammar.specs.Parsing.{Out, and_then, listed}
+use Rattle.c_grammar.specs.inside.Parsing.{Out, and_then, listed}
 use Rattle.c_tree.specs.declared.tree.BinaryOp.{BinaryOp}
 use Rattle.c_grammar.specs.Tokens.{Tokens}
-use Rattle.c_parse.specs.Reads.{Fails, IsAssigner, Outside, Inside, joins_by, behind}
-use Rattle.c_grammar.specs.ModelExpressions.{seen, inside, assigner_for, loop, binary_of, assignment_of}
+use Rattle.c_parse.specs.inside.Reads.{Fails, IsAssigner, Outside, Inside, joins_by, behind}
+use Rattle.c_grammar.specs.inside.ModelExpressions.{seen, inside, assigner_for, loop, binary_of, assignment_of}
 use Rattle.c_parse.proofs.ParserLoops.{listed_keeps, arg_list_init, assign_with, commas_of, comma_on, comma_shorter}
-use Rattle.c_parse.specs.Operands.{climb, assignment_from}
+use Rattle.c_parse.specs.inside.Operands.{climb, assignment_from}
 use Rattle.c_parse.proofs.Operands.{assignment_is, closed_operand, closed_whole}
 use Rattle.c_parse.proofs.Climbs.{joined_start, joined_none, joins, climb_end, climb_turn, climb_fails, climb_shorter}
 use Rattle.c_parse.proofs.parser.Parser.+expression.Goals as goal

@@ -1,10 +1,10 @@
 use Rattle.std.proofs.Common.{◌≡◌, ◌≤◌, ◌+◌, ◌-◌, ◌*◌, length, false}
-use Rattle.c_grammar.specs.Parsing.{listed}
-use Rattle.c_grammar.specs.ModelExpressions.{arg_list_of, inside, loop, suffixes, assignment_of}
-use Rattle.c_grammar.specs.ModelExpressions.{expression_of, postfix_of}
+use Rattle.c_grammar.specs.inside.Parsing.{listed}
+use Rattle.c_grammar.specs.inside.ModelExpressions.{arg_list_of, inside, loop, suffixes, assignment_of}
+use Rattle.c_grammar.specs.inside.ModelExpressions.{expression_of, postfix_of}
 use Rattle.c_tree.specs.declared.token.Mark.TheVariants as marks
-use Rattle.c_parse.specs.Reads.{opened, behind}
-use Rattle.c_parse.specs.Operands.{climb, joined_of}
+use Rattle.c_parse.specs.inside.Reads.{opened, behind}
+use Rattle.c_parse.specs.inside.Operands.{climb, joined_of}
 use Rattle.c_parse.proofs.parser.Parser.+expression.Given as goal
 
 abbrev pub decreases-index : goal.decreases-index

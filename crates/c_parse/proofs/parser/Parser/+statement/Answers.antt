@@ -2,10 +2,10 @@ use Rattle.std.proofs.Common.{◌+◌, ◌-◌, length, sym, ap, ◌∙◌, subs
 use Rattle.c_tree.specs.declared.tree.Section.{Section}
 use Rattle.c_tree.specs.declared.tree.Stmt.{Stmt}
 use Rattle.c_tree.specs.declared.token.Mark.TheVariants as marks
-use Rattle.c_grammar.specs.Parsing.{Out, many, repeated}
-use Rattle.c_grammar.specs.ModelExpressions.{inside}
-use Rattle.c_grammar.specs.ModelStatements.{begins_statement, entry_of, section_of, below_at}
-use Rattle.c_parse.specs.Reads.{Reads, behind}
+use Rattle.c_grammar.specs.inside.Parsing.{Out, many, repeated}
+use Rattle.c_grammar.specs.inside.ModelExpressions.{inside}
+use Rattle.c_grammar.specs.inside.ModelStatements.{begins_statement, entry_of, section_of, below_at}
+use Rattle.c_parse.specs.inside.Reads.{Reads, behind}
 use Rattle.c_parse.proofs.Nested.{inner_none, inner_some, entries_init, many_keeps, many_puts}
 use Rattle.c_parse.proofs.Nested.{repeated_keeps, body_init}
 use Rattle.c_parse.proofs.Nested.{sections_init}

@@ -1,10 +1,10 @@
 use Rattle.std.proofs.Common.{◌≡◌, ◌-◌, false}
-use Rattle.c_grammar.specs.Parsing.{listed}
-use Rattle.c_grammar.specs.ModelExpressions.{inside}
-use Rattle.c_grammar.specs.ModelUnits.{global_of}
+use Rattle.c_grammar.specs.inside.Parsing.{listed}
+use Rattle.c_grammar.specs.inside.ModelExpressions.{inside}
+use Rattle.c_grammar.specs.inside.ModelUnits.{global_of}
 use Rattle.c_tree.specs.declared.token.Mark.TheVariants as marks
-use Rattle.c_parse.specs.Reads.{behind}
-use Rattle.c_parse.specs.Lists.{global_list_of}
+use Rattle.c_parse.specs.inside.Reads.{behind}
+use Rattle.c_parse.specs.inside.Lists.{global_list_of}
 use Rattle.c_parse.proofs.parser.Parser.global_list.Given as goal
 
 abbrev pub invariant-loop-turn : goal.invariant-loop-turn

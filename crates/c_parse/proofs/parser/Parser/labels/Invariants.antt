@@ -1,8 +1,8 @@
 use Rattle.std.proofs.Common.{◌≡◌, ◌-◌}
-use Rattle.c_grammar.specs.Parsing.{repeated}
-use Rattle.c_grammar.specs.ModelExpressions.{inside}
-use Rattle.c_grammar.specs.ModelStatements.{begins_label, label_of, labels_of}
-use Rattle.c_parse.specs.Reads.{behind}
+use Rattle.c_grammar.specs.inside.Parsing.{repeated}
+use Rattle.c_grammar.specs.inside.ModelExpressions.{inside}
+use Rattle.c_grammar.specs.inside.ModelStatements.{begins_label, label_of, labels_of}
+use Rattle.c_parse.specs.inside.Reads.{behind}
 use Rattle.c_parse.proofs.parser.Parser.labels.Given as goal
 
 abbrev pub invariant-loop-turn : goal.invariant-loop-turn

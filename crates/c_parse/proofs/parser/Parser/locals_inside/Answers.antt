@@ -1,7 +1,7 @@
 use Rattle.std.proofs.Common.{sym, subst, List}
 use Rattle.c_tree.specs.declared.tree.Stmt.{Stmt}
-use Rattle.c_grammar.specs.Parsing.{Out}
-use Rattle.c_parse.specs.Reads.{Puts}
+use Rattle.c_grammar.specs.inside.Parsing.{Out}
+use Rattle.c_parse.specs.inside.Reads.{Puts}
 use Rattle.c_parse.proofs.Nested.{locals_none, locals_some}
 use Rattle.c_parse.proofs.parser.Parser.locals_inside.Goals as goal
 

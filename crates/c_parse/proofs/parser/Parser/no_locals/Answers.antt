@@ -1,8 +1,8 @@
 use Rattle.std.proofs.Common.{sym, ap, ◌∙◌}
-use Rattle.c_grammar.specs.Parsing.{too_deep, syntax}
-use Rattle.c_grammar.specs.ModelTypes.{begins_type}
+use Rattle.c_grammar.specs.inside.Parsing.{too_deep, syntax}
+use Rattle.c_grammar.specs.inside.ModelTypes.{begins_type}
 use Rattle.c_grammar.proofs.Agree.{if_true, if_false}
-use Rattle.c_parse.specs.Reads.{behind}
+use Rattle.c_parse.specs.inside.Reads.{behind}
 use Rattle.c_parse.proofs.Nested.{locals_zero}
 use Rattle.c_parse.proofs.parser.Parser.no_locals.Goals as goal
 

@@ -1,9 +1,9 @@
 use Rattle.std.proofs.Common.{◌≡◌, ◌-◌, true}
-use Rattle.c_grammar.specs.Parsing.{listed}
-use Rattle.c_grammar.specs.ModelExpressions.{inside}
-use Rattle.c_grammar.specs.ModelUnits.{row_of, rows_of}
+use Rattle.c_grammar.specs.inside.Parsing.{listed}
+use Rattle.c_grammar.specs.inside.ModelExpressions.{inside}
+use Rattle.c_grammar.specs.inside.ModelUnits.{row_of, rows_of}
 use Rattle.c_tree.specs.declared.token.Mark.TheVariants as marks
-use Rattle.c_parse.specs.Reads.{behind}
+use Rattle.c_parse.specs.inside.Reads.{behind}
 use Rattle.c_parse.proofs.parser.Parser.rows.Given as goal
 
 abbrev pub invariant-loop-turn : goal.invariant-loop-turn

@@ -1,11 +1,11 @@
 use Rattle.std.proofs.Common.{◌+◌, ◌-◌, length, ap, ◌∙◌, refl, List}
 use Rattle.c_tree.specs.Limits.{most_nesting}
 use Rattle.c_tree.specs.declared.tree.Top.{Top}
-use Rattle.c_grammar.specs.Parsing.{to_end}
-use Rattle.c_grammar.specs.ModelExpressions.{inside}
-use Rattle.c_grammar.specs.ModelStatements.{compound_of, below_at}
-use Rattle.c_grammar.specs.ModelUnits.{item_of}
-use Rattle.c_parse.specs.Reads.{behind}
+use Rattle.c_grammar.specs.inside.Parsing.{to_end}
+use Rattle.c_grammar.specs.inside.ModelExpressions.{inside}
+use Rattle.c_grammar.specs.inside.ModelStatements.{compound_of, below_at}
+use Rattle.c_grammar.specs.inside.ModelUnits.{item_of}
+use Rattle.c_parse.specs.inside.Reads.{behind}
 use Rattle.c_parse.proofs.Lists.{unit_init, end_puts}
 use Rattle.c_parse.proofs.parser.Parser.unit.Goals as goal
 

@@ -1,9 +1,9 @@
 use Rattle.std.proofs.Common.{◌+◌, ◌-◌, length, ap, ◌∙◌, refl, List, true}
 use Rattle.c_tree.specs.declared.tree.Expr.{Expr}
 use Rattle.c_tree.specs.declared.token.Mark.TheVariants as marks
-use Rattle.c_grammar.specs.Parsing.{listed}
-use Rattle.c_grammar.specs.ModelExpressions.{inside, conditional_of}
-use Rattle.c_parse.specs.Reads.{behind}
+use Rattle.c_grammar.specs.inside.Parsing.{listed}
+use Rattle.c_grammar.specs.inside.ModelExpressions.{inside, conditional_of}
+use Rattle.c_parse.specs.inside.Reads.{behind}
 use Rattle.c_parse.proofs.Lists.{values_init, trailed_keeps}
 use Rattle.c_parse.proofs.parser.Parser.values.Goals as goal
 

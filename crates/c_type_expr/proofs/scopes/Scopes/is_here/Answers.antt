@@ -3,7 +3,7 @@ use Rattle.std.specs.Prelude.{nat_le}
 use Rattle.std.proofs.lemmas.List.{length-reverse}
 use Rattle.c_type_expr.specs.declared.meaning.Entry.{Entry}
 use Rattle.c_type_expr.specs.Scope.{Scope, is_here}
-use Rattle.c_type_expr.specs.Frames.{StartsFit, first_start, place_in}
+use Rattle.c_type_expr.specs.inside.Frames.{StartsFit, first_start, place_in}
 use Rattle.c_type_expr.proofs.Names.{here_is, not_here}
 use Rattle.c_type_expr.proofs.scopes.Scopes.is_here.Goals as goal
 

@@ -1,7 +1,7 @@
 use Rattle.std.proofs.Common.{sym, ap, ◌∙◌, ◌<◌, List, Some, arith, reverse, length}
 use Rattle.c_type_expr.specs.declared.meaning.Entry.{Entry}
 use Rattle.c_type_expr.specs.Scope.{Scope, look_up}
-use Rattle.c_type_expr.specs.Frames.{place_in}
+use Rattle.c_type_expr.specs.inside.Frames.{place_in}
 use Rattle.c_type_expr.proofs.Names.{look_none, look_within, look_some}
 use Rattle.c_type_expr.proofs.scopes.Scopes.look_up.Goals as goal
 

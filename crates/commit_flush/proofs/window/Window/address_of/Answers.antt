@@ -8,8 +8,10 @@ use Rattle.commit_flush.proofs.window.Window.address_of.Goals as goal
 
 pub returns-in-None : goal.returns-in-None
 returns-in-None c = record {
-  value = sym (idle_address c.args.number (frame_of c.args.frame c.args.self.now.window.frames) c.in-None.ensures.value);
-  waits = sym (idle_waits c.args.number (frame_of c.args.frame c.args.self.now.window.frames) c.in-None.ensures.value);
+  value = sym (idle_address c.args.number
+      (frame_of c.args.frame c.args.self.now.window.frames) c.in-None.ensures.value);
+  waits = sym (idle_waits c.args.number
+      (frame_of c.args.frame c.args.self.now.window.frames) c.in-None.ensures.value);
 }
 
 pub returns-in-Some : goal.returns-in-Some

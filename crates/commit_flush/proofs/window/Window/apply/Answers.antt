@@ -13,19 +13,22 @@ use Rattle.commit_flush.proofs.window.Window.apply.Goals as goal
 pub apply-self-inside-requires-clause-writes : goal.apply-self-inside-requires-clause-writes
 apply-self-inside-requires-clause-writes c =
     subst (HasTokens c.self.inside.image.blocks c.self.inside.arch.state.next) (sym c.writes.ensures.value)
-    (may_told c.self.invariant.sound _ c.self.view_is c.requires.done c.args.frame c.requires.oldest c.index.result.now
+    (may_told c.self.invariant.sound _ c.self.view_is c.requires.done c.args.frame c.requires.oldest
+    c.index.result.now
     c.index.ensures c.in-Some.outputs c.in-Some.ensures.value).writes
 
 pub apply-self-inside-requires-clause-stores : goal.apply-self-inside-requires-clause-stores
 apply-self-inside-requires-clause-stores c =
     subst (All (λ s. StoreFits (Some s))) (sym c.stores.ensures.value)
-    (may_told c.self.invariant.sound _ c.self.view_is c.requires.done c.args.frame c.requires.oldest c.index.result.now
+    (may_told c.self.invariant.sound _ c.self.view_is c.requires.done c.args.frame c.requires.oldest
+    c.index.result.now
     c.index.ensures c.in-Some.outputs c.in-Some.ensures.value).stores
 
 pub apply-self-inside-requires-clause-successor : goal.apply-self-inside-requires-clause-successor
 apply-self-inside-requires-clause-successor c =
     subst (λ n. n < length c.self.inside.image.blocks) (sym c.successor.ensures.value)
-    (may_told c.self.invariant.sound _ c.self.view_is c.requires.done c.args.frame c.requires.oldest c.index.result.now
+    (may_told c.self.invariant.sound _ c.self.view_is c.requires.done c.args.frame c.requires.oldest
+    c.index.result.now
     c.index.ensures c.in-Some.outputs c.in-Some.ensures.value).successor
 
 pub returns-in-None : goal.returns-in-None
@@ -48,7 +51,8 @@ invariant_of-self c =
           c.requires.oldest,
     ))
     c.empty_in.ensures.keeps) c.writes.result.now c.stores.result.now c.exit.result c.system.result c.successor.result
-    c.writes.ensures.value c.stores.ensures.value c.exit.ensures.value c.system.ensures.value c.successor.ensures.value
+    c.writes.ensures.value c.stores.ensures.value c.exit.ensures.value c.system.ensures.value
+    c.successor.ensures.value
     c.apply-self-inside.new.self c.apply-self-inside.result c.apply-self-inside.ensures.applied
     c.apply-self-inside.ensures.budget _ c.remove.ensures.items _ c.retire.ensures) (commit_told (window_of
     c.self.inside.image.blocks
@@ -70,6 +74,7 @@ returns-in-Some c =
           c.requires.oldest,
     ))
     c.empty_in.ensures.keeps) c.writes.result.now c.stores.result.now c.exit.result c.system.result c.successor.result
-    c.writes.ensures.value c.stores.ensures.value c.exit.ensures.value c.system.ensures.value c.successor.ensures.value
+    c.writes.ensures.value c.stores.ensures.value c.exit.ensures.value c.system.ensures.value
+    c.successor.ensures.value
     c.apply-self-inside.new.self c.apply-self-inside.result c.apply-self-inside.ensures.applied
     c.apply-self-inside.ensures.budget _ c.remove.ensures.items _ c.retire.ensures).same

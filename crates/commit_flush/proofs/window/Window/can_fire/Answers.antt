@@ -12,10 +12,12 @@ can_fire-requires c = record { block = same_blocks _ _ _ c.image.ensures.value c
 pub returns-in-None : goal.returns-in-None
 returns-in-None c =
     let w = c.args.self.now.window in
-    sym (none_asked (NotNow NoFrame) (can_fire c.args.slot) c.args.frame w.frames (committed w.state) c.in-None.ensures.found)
+    sym (none_asked (NotNow NoFrame) (can_fire c.args.slot) c.args.frame w.frames
+    (committed w.state) c.in-None.ensures.found)
 
 pub returns-in-Some : goal.returns-in-Some
 returns-in-Some c =
     let w = c.args.self.now.window in
-    told (NotNow NoFrame) (can_fire c.args.slot) c.args.frame w.frames (committed w.state) _ _ _ _ c.image.ensures.value
+    told (NotNow NoFrame) (can_fire c.args.slot) c.args.frame w.frames
+    (committed w.state) _ _ _ _ c.image.ensures.value
     c.in-Some.ensures.found c.can_fire.ensures.value

@@ -25,8 +25,10 @@ returns-in-Some c =
     let w = c.args.self.now.window in
     let p = c.in-Some.phase.now in
     let o = seen_at (committed w.state) w.frames c.args.frame in
-    asked (NotNow NoFrame) (can_read c.args.read) c.args.frame w.frames (committed w.state) _ _ c.in-Some.ensures.found
+    asked (NotNow NoFrame) (can_read c.args.read) c.args.frame w.frames
+    (committed w.state) _ _ c.in-Some.ensures.found
     (c.can_read.ensures.value o
     (subst (λ (i : Image). IsSeen o c.args.read c.word_of.result (frame_in i.blocks p)) (sym c.image.ensures.value)
     (seen_word o c.args.read c.word_of.result c.args.frame w.frames _ c.in-Some.ensures.found c.word_of.ensures))
-    ∙ ap (λ (i : Image). answered (NotNow NoFrame) (can_read c.args.read) o (frame_in i.blocks p)) c.image.ensures.value)
+    ∙ ap (λ (i : Image). answered (NotNow NoFrame) (can_read c.args.read) o (frame_in i.blocks p))
+    c.image.ensures.value)

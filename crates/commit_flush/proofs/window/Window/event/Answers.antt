@@ -4,7 +4,8 @@ use Rattle.commit_flush.proofs.FlushFacts.{flushed_seen, rests_seen, stays_seen,
 use Rattle.commit_flush.proofs.window.Window.event.Goals as goal
 
 pub returns-clause-steps : goal.returns-clause-steps
-returns-clause-steps c = λ went. steps_seen c.args.self.now _ c.keeps_invariant.ensures.window (as_event c.args.e ∷ [])
+returns-clause-steps c = λ went. steps_seen c.args.self.now _ c.keeps_invariant.ensures.window
+    (as_event c.args.e ∷ [])
     c.keeps_invariant.ensures.blocks went c.event_or_over.ensures.window
 
 pub returns-clause-others : goal.returns-clause-others

@@ -18,7 +18,8 @@ pub returns-in-None : goal.returns-in-None
 returns-in-None c =
     let v = c.args.self.now in
     absurd (has_age NoFrame can_exit c.args.frame v.window
-    (goes_on v.window.over (can_now v.image.blocks v.budget (event.Exit c.args.frame) v.window) c.requires.done) (sym c.in-None.ensures.value))
+    (goes_on v.window.over (can_now v.image.blocks v.budget (event.Exit c.args.frame) v.window) c.requires.done)
+    (sym c.in-None.ensures.value))
 
 pub index_mut-requires : goal.index_mut-requires
 index_mut-requires c =
@@ -54,7 +55,8 @@ invariant_of-self c =
 pub returns-in-Some : goal.returns-in-Some
 returns-in-Some c =
     let s = c.self.invariant.sound in
-    outside s (event.Exit c.args.frame) _ c.self.view_is _ (exits_told s c.args.frame c.in-Some.age _ c.self.view_is c.requires.done c.in-Some.ensures.value
+    outside s (event.Exit c.args.frame) _ c.self.view_is _
+    (exits_told s c.args.frame c.in-Some.age _ c.self.view_is c.requires.done c.in-Some.ensures.value
     c.left_by_exit-left.result c.left_by_exit-left.ensures
     c.index_mut.result.now c.exit_in.new.phase c.index_mut.ensures.value c.exit_in.ensures.frame
     c.exit_in.ensures.block c.exit_in.ensures.keeps _ c.flush_from.ensures.frames _ c.flush_from.ensures.order _

@@ -82,7 +82,8 @@ invariant_of-self c =
     c.low_part-self-inside-in-Some.result)
     (sym c.push.ensures.items)
     (stands (fetches_told s c.args.block _ c.self.view_is c.requires.done c.in-Some.frame c.in-Some.ensures.value
-    c.block_at.result.now c.block_at.ensures.value c.index_mut.result.now c.fill_in.new.phase c.index_mut.ensures.value
+    c.block_at.result.now c.block_at.ensures.value c.index_mut.result.now c.fill_in.new.phase
+    c.index_mut.ensures.value
     c.fill_in.ensures.frame c.fill_in.ensures.block c.fill_in.ensures.number c.fill_in.ensures.generation
     c.in_flight-age.result c.in_flight-age.ensures.value c.as_slice-writes.result.now c.as_slice-writes.ensures.value
     (at c.declare.new.self) c.declare.ensures) (fetch_told (window_of c.self.inside.image.blocks
@@ -100,7 +101,8 @@ returns-in-Some c =
     (ap (window_of c.self.inside.image.blocks c.self.inside.arch.state c.self.inside.over
     (set c.self.inside.frames.items c.in-Some.frame c.fill_in.new.phase)) c.push.ensures.items
     ∙ (fetches_told s c.args.block _ c.self.view_is c.requires.done c.in-Some.frame c.in-Some.ensures.value
-    c.block_at.result.now c.block_at.ensures.value c.index_mut.result.now c.fill_in.new.phase c.index_mut.ensures.value
+    c.block_at.result.now c.block_at.ensures.value c.index_mut.result.now c.fill_in.new.phase
+    c.index_mut.ensures.value
     c.fill_in.ensures.frame c.fill_in.ensures.block c.fill_in.ensures.number c.fill_in.ensures.generation
     c.in_flight-age.result c.in_flight-age.ensures.value c.as_slice-writes.result.now c.as_slice-writes.ensures.value
     (at c.declare.new.self) c.declare.ensures).same)

@@ -16,7 +16,8 @@ pub returns-in-None : goal.returns-in-None
 returns-in-None c =
     let v = c.args.self.now in
     absurd (has_age NoFrame (λ o f. Done) c.args.frame v.window
-    (goes_on v.window.over (can_now v.image.blocks v.budget (event.Flush c.args.frame) v.window) c.requires.done) (sym c.in-None.ensures.value))
+    (goes_on v.window.over (can_now v.image.blocks v.budget (event.Flush c.args.frame) v.window) c.requires.done)
+    (sym c.in-None.ensures.value))
 
 pub flush_from-requires : goal.flush_from-requires
 flush_from-requires c = orders_below c.self.invariant.sound
@@ -33,6 +34,7 @@ invariant_of-self c =
 pub returns-in-Some : goal.returns-in-Some
 returns-in-Some c =
     let s = c.self.invariant.sound in
-    outside s (event.Flush c.args.frame) _ c.self.view_is _ (flushes_told s c.args.frame c.in-Some.age _ c.self.view_is c.requires.done
+    outside s (event.Flush c.args.frame) _ c.self.view_is _
+    (flushes_told s c.args.frame c.in-Some.age _ c.self.view_is c.requires.done
     c.in-Some.ensures.value _ c.flush_from.ensures.frames _ c.flush_from.ensures.order _ c.flush_from.ensures.dropped
     (λ l. ap at (c.flush_from.ensures.same l))).same

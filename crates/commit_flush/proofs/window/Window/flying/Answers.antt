@@ -17,5 +17,6 @@ returns-in-Some c =
     let same = told_of (λ z. z) _ _ _ _ c.image.ensures.value c.in-Some.ensures.found in
     record {
       value = match_map c.flying.result c.flying.ensures.value (λ e. sym same ∙ e)
-          (λ p e. let z : IsLent p.0.now p.1.now (frame_of c.args.frame c.args.self.now.window.frames) = (is_done c.in-Some.phase.now, sym same ∙ e) in z);
+          (λ p e. let z : IsLent p.0.now p.1.now (frame_of c.args.frame c.args.self.now.window.frames) =
+          (is_done c.in-Some.phase.now, sym same ∙ e) in z);
     }

@@ -8,5 +8,6 @@ use Rattle.commit_flush.proofs.window.Window.keeps_invariant.Goals as goal
 pub returns : goal.returns
 returns c = record {
   blocks = subst (λ (z : Seen). AllGood z.image.blocks) c.self.view_is (good c.self.invariant.sound);
-  window = subst (λ (z : Seen). WindowOk z.image.blocks z.budget z.window) c.self.view_is c.self.invariant.sound.window;
+  window = subst (λ (z : Seen). WindowOk z.image.blocks z.budget z.window) c.self.view_is
+      c.self.invariant.sound.window;
 }

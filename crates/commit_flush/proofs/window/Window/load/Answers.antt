@@ -25,7 +25,8 @@ pub index_mut-requires : goal.index_mut-requires
 index_mut-requires c =
     let s = c.self.invariant.sound in
     let d = inside s (event.Load c.args.frame c.args.number) _ c.self.view_is c.requires.done in
-    let l : c.args.frame < 8 = below s (event.Load c.args.frame c.args.number) NoFrame (can_load c.args.number) c.args.frame refl d in
+    let l : c.args.frame < 8 = below s (event.Load c.args.frame c.args.number) NoFrame
+    (can_load c.args.number) c.args.frame refl d in
     omega (arith, eight s, l)
 
 pub load_in-requires : goal.load_in-requires
@@ -34,14 +35,16 @@ load_in-requires c =
     let d = inside s (event.Load c.args.frame c.args.number) _ c.self.view_is c.requires.done in
     record {
       block = has_block s c.args.frame c.index_mut.result.now (read_phase s c.args.frame c.index_mut.result.now
-          (below s (event.Load c.args.frame c.args.number) NoFrame (can_load c.args.number) c.args.frame refl d) c.index_mut.ensures.value);
+          (below s (event.Load c.args.frame c.args.number) NoFrame (can_load c.args.number) c.args.frame refl d)
+          c.index_mut.ensures.value);
     }
 
 pub invariant_of-self : goal.invariant_of-self
 invariant_of-self c =
     let s = c.self.invariant.sound in
     stands (loads_seen s c.args.frame c.args.number c.loaded-bytes.result _ c.self.view_is c.requires.done
-    c.index_mut.result.now c.load_in.new.phase c.index_mut.ensures.value c.loaded-bytes.ensures c.load_in.ensures.frame
+    c.index_mut.result.now c.load_in.new.phase c.index_mut.ensures.value c.loaded-bytes.ensures
+    c.load_in.ensures.frame
     c.load_in.ensures.block c.load_in.ensures.keeps) (load_told (committed c.self.inside.arch.state)
     (flying c.self.inside.image.blocks c.self.inside.frames.items c.self.inside.order.items)
     c.self.invariant.accesses c.args.frame c.args.number
@@ -52,6 +55,8 @@ invariant_of-self c =
 pub returns-in-Some : goal.returns-in-Some
 returns-in-Some c =
     let s = c.self.invariant.sound in
-    outside s (event.Load c.args.frame c.args.number) _ c.self.view_is _ (loads_seen s c.args.frame c.args.number c.loaded-bytes.result _ c.self.view_is c.requires.done
-    c.index_mut.result.now c.load_in.new.phase c.index_mut.ensures.value c.loaded-bytes.ensures c.load_in.ensures.frame
+    outside s (event.Load c.args.frame c.args.number) _ c.self.view_is _
+    (loads_seen s c.args.frame c.args.number c.loaded-bytes.result _ c.self.view_is c.requires.done
+    c.index_mut.result.now c.load_in.new.phase c.index_mut.ensures.value c.loaded-bytes.ensures
+    c.load_in.ensures.frame
     c.load_in.ensures.block c.load_in.ensures.keeps).same

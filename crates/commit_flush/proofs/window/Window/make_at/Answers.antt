@@ -15,8 +15,10 @@ invariant_of-result c =
     empty_stands (subst (λ o. IsSound c.args.image c.args.budget machine Went c.in_ok-frames.frames.items o (at
     c.make.result))
     (sym c.new.ensures)
-    (sound c.args.image c.args.budget machine c.in_ok-frames.frames.items (at c.make.result) c.count-count.ensures.image
-    c.in_ok-frames.ensures.fresh c.in_ok-frames.ensures.eight c.keep_within.ensures.budget c.register-register.ensures.count
+    (sound c.args.image c.args.budget machine c.in_ok-frames.frames.items
+    (at c.make.result) c.count-count.ensures.image
+    c.in_ok-frames.ensures.fresh c.in_ok-frames.ensures.eight c.keep_within.ensures.budget
+    c.register-register.ensures.count
     (ap length (sym c.memory-memory.ensures.value) ∙ c.memory-memory.ensures.size)
     (subst (λ (s : State). length s.trace ≤ c.args.budget) (sym same) c.requires.spent)
     (subst (λ (s : State). s.next < length c.args.image.blocks) (sym same) c.requires.next)

@@ -15,7 +15,8 @@ pub index_mut-requires : goal.index_mut-requires
 index_mut-requires c =
     let s = c.self.invariant.sound in
     let d = inside s (event.Read c.args.frame c.args.read) _ c.self.view_is c.requires.done in
-    let l : c.args.frame < 8 = below s (event.Read c.args.frame c.args.read) NoFrame (can_read c.args.read) c.args.frame refl d in
+    let l : c.args.frame < 8 = below s (event.Read c.args.frame c.args.read) NoFrame
+    (can_read c.args.read) c.args.frame refl d in
     omega (arith, eight s, l)
 
 pub read_in-requires-clause-block : goal.read_in-requires-clause-block
@@ -23,7 +24,8 @@ read_in-requires-clause-block c =
     let s = c.self.invariant.sound in
     let d = inside s (event.Read c.args.frame c.args.read) _ c.self.view_is c.requires.done in
     has_block s c.args.frame c.index_mut.result.now (read_phase s c.args.frame c.index_mut.result.now
-    (below s (event.Read c.args.frame c.args.read) NoFrame (can_read c.args.read) c.args.frame refl d) c.index_mut.ensures.value)
+    (below s (event.Read c.args.frame c.args.read) NoFrame (can_read c.args.read) c.args.frame refl d)
+    c.index_mut.ensures.value)
 
 pub read_in-requires-clause-declared : goal.read_in-requires-clause-declared
 read_in-requires-clause-declared c =
@@ -47,6 +49,7 @@ invariant_of-self c =
 pub returns-in-Some : goal.returns-in-Some
 returns-in-Some c =
     let s = c.self.invariant.sound in
-    outside s (event.Read c.args.frame c.args.read) _ c.self.view_is _ (reads_seen s c.args.frame c.args.read c.in-Some.word _ c.self.view_is c.requires.done
+    outside s (event.Read c.args.frame c.args.read) _ c.self.view_is _
+    (reads_seen s c.args.frame c.args.read c.in-Some.word _ c.self.view_is c.requires.done
     c.index_mut.result.now c.read_in.new.phase c.index_mut.ensures.value c.in-Some.ensures c.read_in.ensures.frame
     c.read_in.ensures.block c.read_in.ensures.keeps).same

@@ -40,5 +40,6 @@ pub returns : goal.returns
 returns c =
     let s = c.self.invariant.sound in
     let d = inside s (event.Seal c.args.frame) _ c.self.view_is c.requires.done in
-    outside s (event.Seal c.args.frame) _ c.self.view_is _ (seals s c.args.frame d c.index_mut.result.now c.seal_in.new.phase c.index_mut.ensures.value
+    outside s (event.Seal c.args.frame) _ c.self.view_is _
+    (seals s c.args.frame d c.index_mut.result.now c.seal_in.new.phase c.index_mut.ensures.value
     c.seal_in.ensures.frame c.seal_in.ensures.block c.seal_in.ensures.keeps).same

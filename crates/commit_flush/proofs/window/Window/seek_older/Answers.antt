@@ -27,7 +27,8 @@ loop-end-preserved c =
     record {
       sound = c.seek-sought.ensures.sound;
       within = omega (arith, below, next);
-      taken = ap (taken c.seek-sought.result) (sym (memory_gap w.frames o c.storing_before-end-in-loop-end.result older
+      taken = ap (taken c.seek-sought.result)
+          (sym (memory_gap w.frames o c.storing_before-end-in-loop-end.result older
           next c.storing_before-end-in-loop-end.ensures.none))
           ∙ taken_more w.frames o c.loop-end.sought c.seek-sought.result older c.loop-end.end t.0 t.1 (omega arith)
           (c.seek-sought.ensures.taken t.0 (after_all (take older w.frames) o).memory t.1)

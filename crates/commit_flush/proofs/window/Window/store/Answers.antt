@@ -21,13 +21,15 @@ pub returns-in-None : goal.returns-in-None
 returns-in-None c =
     let v = c.args.self.now in
     absurd (has_age NoFrame (can_store c.args.number) c.args.frame v.window
-    (goes_on v.window.over (can_now v.image.blocks v.budget (event.Store c.args.frame c.args.number) v.window) c.requires.done) (sym c.in-None.ensures.value))
+    (goes_on v.window.over (can_now v.image.blocks v.budget (event.Store c.args.frame c.args.number) v.window)
+    c.requires.done) (sym c.in-None.ensures.value))
 
 pub index_mut-requires : goal.index_mut-requires
 index_mut-requires c =
     let s = c.self.invariant.sound in
     let d = inside s (event.Store c.args.frame c.args.number) _ c.self.view_is c.requires.done in
-    let l : c.args.frame < 8 = below s (event.Store c.args.frame c.args.number) NoFrame (can_store c.args.number) c.args.frame refl d in
+    let l : c.args.frame < 8 = below s (event.Store c.args.frame c.args.number) NoFrame
+    (can_store c.args.number) c.args.frame refl d in
     omega (arith, eight s, l)
 
 pub store_in-requires : goal.store_in-requires
@@ -36,7 +38,8 @@ store_in-requires c =
     let d = inside s (event.Store c.args.frame c.args.number) _ c.self.view_is c.requires.done in
     record {
       block = has_block s c.args.frame c.index_mut.result.now (read_phase s c.args.frame c.index_mut.result.now
-          (below s (event.Store c.args.frame c.args.number) NoFrame (can_store c.args.number) c.args.frame refl d) c.index_mut.ensures.value);
+          (below s (event.Store c.args.frame c.args.number) NoFrame (can_store c.args.number) c.args.frame refl d)
+          c.index_mut.ensures.value);
     }
 
 pub flush_from-requires : goal.flush_from-requires
@@ -60,7 +63,8 @@ invariant_of-self c =
 pub returns-in-Some : goal.returns-in-Some
 returns-in-Some c =
     let s = c.self.invariant.sound in
-    outside s (event.Store c.args.frame c.args.number) _ c.self.view_is _ (stores_told s c.args.frame c.in-Some.age c.args.number _ c.self.view_is c.requires.done
+    outside s (event.Store c.args.frame c.args.number) _ c.self.view_is _
+    (stores_told s c.args.frame c.in-Some.age c.args.number _ c.self.view_is c.requires.done
     c.left_by_store-left.result c.left_by_store-left.ensures
     c.index_mut.result.now c.store_in.new.phase c.index_mut.ensures.value c.store_in.ensures.frame
     c.store_in.ensures.block c.store_in.ensures.keeps _ c.flush_from.ensures.frames _ c.flush_from.ensures.order _
@@ -68,6 +72,7 @@ returns-in-Some c =
 
 pub left_by_store-left-requires-clause-number : goal.left_by_store-left-requires-clause-number
 left_by_store-left-requires-clause-number c =
-    let t = store_found c.self.invariant.sound c.args.frame c.in-Some.age c.args.number _ c.self.view_is c.requires.done
+    let t = store_found c.self.invariant.sound c.args.frame c.in-Some.age c.args.number _ c.self.view_is
+    c.requires.done
     (sym c.in-Some.ensures.value) in
     t.number

@@ -11,7 +11,8 @@ flush_from-requires c = orders_below c.self.invariant.sound
 pub invariant_of-self : goal.invariant_of-self
 invariant_of-self c =
     empty_stands (traps_told c.self.invariant.sound c.args.frame c.args.mark c.cause_of.result
-    c.cause_of.ensures.value _ c.self.view_is c.requires.done c.requires.oldest c.requires.cause c.requires.marked _ c.flush_from.ensures.frames _ c.flush_from.ensures.order _
+    c.cause_of.ensures.value _ c.self.view_is c.requires.done c.requires.oldest c.requires.cause c.requires.marked _
+    c.flush_from.ensures.frames _ c.flush_from.ensures.order _
     c.flush_from.ensures.dropped).sound c.flush_from.ensures.order
 
 pub returns : goal.returns

@@ -21,4 +21,7 @@ returns-else-register-lt128 c = λ f e.
     let w = c.args.self.now.window in
     let r = c.in_ok-register.ensures.value
     ∙ told_of (read_register c.args.read) _ _ _ _ c.image.ensures.value (c.in_ok-phase.ensures.found ∙ e) in
-    absurd (omega (arith, read_below f.code (c.in_ok-phase.ensures.runnable f e).fits c.args.read c.in_ok-register.register (sym r)))
+    absurd (omega (
+      arith,
+      read_below f.code (c.in_ok-phase.ensures.runnable f e).fits c.args.read c.in_ok-register.register (sym r),
+    ))

@@ -12,6 +12,7 @@ returns c = record {
       (c.least_of_writes.ensures
       ∙ ap (λ n. least_at (mark_held c.args.self.now.marks) (writes_to n)) c.len-count.ensures.value)
       (c.least-numbers.ensures.value
-      ∙ ap₂ least c.least_of_numbers.ensures (c.exit-exit.ensures.value ∙ ap (λ (h : Held). h.marks.exit) c.self.view_is))
+      ∙ ap₂ least c.least_of_numbers.ensures
+      (c.exit-exit.ensures.value ∙ ap (λ (h : Held). h.marks.exit) c.self.view_is))
       ∙ sym (owed_is (mark_held c.args.self.now.marks) c.args.block.now);
 }

@@ -6,7 +6,8 @@ use Rattle.frame_state.proofs.states.Running.fire_with.Goals as goal
 pub returns : goal.returns
 returns c = record {
   value = λ o. c.fire_with.ensures.value o
-      ∙ ap (λ (h : Held). fire c.args.slot o (running c.args.block.now h)) (c.deref_mut.ensures.value ∙ c.self.view_is);
+      ∙ ap (λ (h : Held). fire c.args.slot o (running c.args.block.now h))
+      (c.deref_mut.ensures.value ∙ c.self.view_is);
   stays = subst (λ (h : Held). Stays h c.fire_with.new.self) (c.deref_mut.ensures.value ∙ c.self.view_is)
       c.fire_with.ensures.stays;
 }

@@ -19,7 +19,8 @@ pub returns-clause-few : goal.returns-clause-few
 returns-clause-few g c = λ fs e.
     let w = g.V.Windows.held c.args.self.now.window in
     let here = seen w c.args.self.now.state in
-    let same = ap (λ x. x.counts.flushed) (c.settle.ensures (g.V.Windows.held c.flush_behind.new.self.window) (sym c.successor-known.ensures)
+    let same = ap (λ x. x.counts.flushed)
+    (c.settle.ensures (g.V.Windows.held c.flush_behind.new.self.window) (sym c.successor-known.ensures)
     ∙ ap settled (c.flush_behind.ensures.change fs e)) in
     let few = behind_few fs c.len-left.result here in
     let size = as_many fs c.args.before.now e in

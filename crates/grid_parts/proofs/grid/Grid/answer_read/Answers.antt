@@ -10,7 +10,8 @@ pub returns-clause-change : goal.returns-clause-change
 returns-clause-change g c =
     let s = c.args.self.now.state in
     let place = 256 + 2 * c.args.read in
-    let after : Window = happens (g.V.Windows.blocks c.args.self.now.window) (g.V.Windows.budget c.args.self.now.window)
+    let after : Window = happens (g.V.Windows.blocks c.args.self.now.window)
+    (g.V.Windows.budget c.args.self.now.window)
     (Read c.args.frame c.args.read) (g.V.Windows.held c.args.self.now.window) in
     let node : 1 + c.args.bank ≡ bank_node c.args.bank = omega arith in
     c.enter_both.ensures

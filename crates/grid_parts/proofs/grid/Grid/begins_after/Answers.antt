@@ -13,7 +13,8 @@ returns-in-Some-clause-change g c =
     let here = seen w c.args.self.now.state in
     let y : HasYoungest w.frames c.args.order.now =
     has_youngest w.frames c.args.order.now c.requires.order (omega arith) c.requires.distinct in
-    c.begins_behind.ensures.change y.frame y.named (block_is _ y.frame c.in-Some.block c.in-Some.ensures.value y.named)
+    c.begins_behind.ensures.change y.frame y.named
+    (block_is _ y.frame c.in-Some.block c.in-Some.ensures.value y.named)
     y.is
     ∙ sym (begun_youngest (g.V.Windows.blocks v) y.frame w.frames here y.is)
 

@@ -14,7 +14,8 @@ returns-in-Some-successor-clause-change g c = λ f e eb y.
     let here = seen w c.args.self.now.state in
     let x : HasNumber f.exit c.in-Some.exit =
     exit_is f.exit c.in-Some.exit (c.in-Some.ensures ∙ ap (found_in (λ h. number_of h.exit)) e) in
-    let known = c.in-Some-successor.ensures ∙ known_youngest f w.frames (committed w.state) y ∙ ap successor_of x.is in
+    let known = c.in-Some-successor.ensures ∙ known_youngest f w.frames (committed w.state) y
+    ∙ ap successor_of x.is in
     c.begins_known.ensures.change f x.exit (frame_number c.args.frame w.frames f e) x.number
     (next_is c.in-Some-successor.next x.exit known)
     ∙ ap (λ o. begun_behind (g.V.Windows.blocks v) f o here) (sym x.is)

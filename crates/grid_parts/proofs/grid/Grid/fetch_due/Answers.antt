@@ -36,4 +36,5 @@ returns-else-can_fetch-clause-change g c = λ f e eb.
     let not_done : may (g.V.Windows.blocks v) (g.V.Windows.budget v) (Fetch f.block) here ≡ false =
     ap (λ k. is_done (can (g.V.Windows.blocks v) (g.V.Windows.budget v) (Fetch k) w)) eb
     ∙ (sym c.if-can_fetch.ensures) in
-    c.give_up-else-can_fetch.ensures w ∙ ap (λ x. fill_where x (g.V.Windows.blocks v) (g.V.Windows.budget v) f here) (sym not_done)
+    c.give_up-else-can_fetch.ensures w ∙ ap (λ x. fill_where x (g.V.Windows.blocks v) (g.V.Windows.budget v) f here)
+    (sym not_done)

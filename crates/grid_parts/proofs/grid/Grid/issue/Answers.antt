@@ -19,7 +19,8 @@ returns-then-is_some-clause-change g c =
     c.take_up.ensures (g.V.Windows.held c.fire.new.self)
     ∙ ap (λ k. taken_up c.args.tile c.args.frame c.args.slot c.takes-time.result (seen k s)) c.fire.ensures.after
     ∙ ap (λ t. issued (g.V.Windows.blocks v) (g.V.Windows.budget v) c.args.tile c.args.frame c.args.slot t (seen w s))
-    (c.takes-time.ensures ∙ ap takes (c.inst_of.ensures.value ∙ ap (found_in (λ h. slot_of h.code c.args.slot)) found.1))
+    (c.takes-time.ensures
+    ∙ ap takes (c.inst_of.ensures.value ∙ ap (found_in (λ h. slot_of h.code c.args.slot)) found.1))
     ∙ issued_is (g.V.Windows.blocks v) (g.V.Windows.budget v) c.args.tile c.args.frame c.args.slot (seen w s) found.0
     found.1
 

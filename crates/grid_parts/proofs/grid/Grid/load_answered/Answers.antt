@@ -22,7 +22,8 @@ returns-clause-change g c =
     (g.V.Windows.held c.load.new.self).frames) (c.unask.ensures (g.V.Windows.held c.load.new.self))
     ∙ ap (λ w. with_frame m (λ f h. enter_both (5 * (1 + c.args.tile)) f place h) w.frames
     (unasked m c.args.number (seen w s))) c.load.ensures.after
-    ∙ ap (λ n. with_frame m (λ f h. enter_both n f place h) after.frames (unasked m c.args.number (seen after s))) node
+    ∙ ap (λ n. with_frame m (λ f h. enter_both n f place h) after.frames (unasked m c.args.number (seen after s)))
+    node
 
 pub returns-clause-few : goal.returns-clause-few
 returns-clause-few g c =

@@ -19,7 +19,8 @@ loop-bank-preserved g c =
           (sym (add-one c.loop-bank.bank));
       image = c.bank_turn.ensures.image ∙ c.loop-bank.invariant.image;
       budget = c.bank_turn.ensures.budget ∙ c.loop-bank.invariant.budget;
-      marked = reads_moved _ _ _ _ _ _ c.marked_reads-marks.result.words c.bank_turn.ensures.image c.bank_turn.ensures.budget
+      marked = reads_moved _ _ _ _ _ _ c.marked_reads-marks.result.words c.bank_turn.ensures.image
+          c.bank_turn.ensures.budget
           (ap (λ x. x.window) c.bank_turn.ensures.change)
           (reads_kept (g.V.Windows.blocks c.loop-bank.self.window) (g.V.Windows.budget c.loop-bank.self.window)
           c.loop-bank.bank (seen (g.V.Windows.held c.loop-bank.self.window) c.loop-bank.self.state)

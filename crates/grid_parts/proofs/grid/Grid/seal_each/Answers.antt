@@ -25,6 +25,7 @@ pub returns-clause-change : goal.returns-clause-change
 returns-clause-change g c =
     let v = c.args.self.now.window in
     let now = seen (g.V.Windows.held c.loop-n.self.window) c.loop-n.self.state in
-    sym (at_drop_all (λ ns. seal_each (g.V.Windows.blocks v) (g.V.Windows.budget v) ns now) c.args.order.now c.loop-n.n
+    sym (at_drop_all (λ ns. seal_each (g.V.Windows.blocks v) (g.V.Windows.budget v) ns now) c.args.order.now
+    c.loop-n.n
     (omega arith))
     ∙ c.loop-n.invariant.change

@@ -14,4 +14,5 @@ pub returns-else-left-eq1-clause-change : goal.returns-else-left-eq1-clause-chan
 returns-else-left-eq1-clause-change g c =
     let w = g.V.Windows.held c.args.self.now.window in
     c.pass.ensures w
-    ∙ other_cycle c.args.tile _ (seen w c.args.self.now.state) refl (λ e. c.if-left-eq1.false (c.busy-left.ensures ∙ e))
+    ∙ other_cycle c.args.tile _ (seen w c.args.self.now.state) refl
+    (λ e. c.if-left-eq1.false (c.busy-left.ensures ∙ e))

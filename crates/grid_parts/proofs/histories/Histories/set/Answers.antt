@@ -8,6 +8,7 @@ invariant_of-self c =
 
 pub returns : goal.returns
 returns c =
-    let inside : c.args.frame < length c.self.inside.words = let size = c.self.invariant.size in omega (arith, size) in
+    let inside : c.args.frame < length c.self.inside.words = let size = c.self.invariant.size in
+    omega (arith, size) in
     λ f. ap (λ (h : ℕ → ℕ). h f) (set_row c.self.inside.words c.args.frame c.args.history 0 inside)
     ∙ ap (λ ws. cond (f == c.args.frame) c.args.history (slice_index_or ws f 0)) c.self.view_is

@@ -21,5 +21,5 @@ returns-in-None c =
 pub returns-in-Some : goal.returns-in-Some
 returns-in-Some c =
     c.as_slice.ensures.value ∙ ap or_none c.in-Some.ensures.value
-        ∙ sym (groups_is c.self.inside.groups.now c.args.call)
+    ∙ sym (groups_is c.self.inside.groups.now c.args.call)
     ∙ ap (λ (g : Ground). groups_by g.groups c.args.call) c.self.view_is

@@ -20,11 +20,14 @@ loop-n-init c =
       onward = w.onward;
       within = w.within;
       reach = λ a. narrowed_start stores c.args.from (reached c.args.self.now) a
-          ∙ narrowed_gap stores c.args.from c.args.from c.next_from-n.result (reached c.args.self.now) a (omega arith) w.onward
-          (no_store_between c.args.stores.now c.args.loads.now c.word.result c.word-2.result c.args.from c.next_from-n.result
+          ∙ narrowed_gap stores c.args.from c.args.from c.next_from-n.result (reached c.args.self.now) a
+          (omega arith) w.onward
+          (no_store_between c.args.stores.now c.args.loads.now c.word.result c.word-2.result c.args.from
+          c.next_from-n.result
           c.word.ensures.value c.word-2.ensures.value w);
       none = λ m h k. unanswered stores c.args.loads.now (reached c.args.self.now) c.args.from m
-          (no_load_between c.args.stores.now c.args.loads.now c.word.result c.word-2.result c.args.from c.next_from-n.result
+          (no_load_between c.args.stores.now c.args.loads.now c.word.result c.word-2.result c.args.from
+          c.next_from-n.result
           c.word.ensures.value c.word-2.ensures.value w m h k);
     }
 
@@ -32,7 +35,8 @@ pub returns-then-is_taken-clause-found : goal.returns-then-is_taken-clause-found
 returns-then-is_taken-clause-found c = record {
   from_on = c.loop-n.invariant.onward;
   below = omega arith;
-  wrong = wrong_is (at c.args.stores.now) c.args.loads.now (reached c.args.self.now) (reached c.loop-n.self) c.args.from
+  wrong = wrong_is (at c.args.stores.now) c.args.loads.now (reached c.args.self.now)
+      (reached c.loop-n.self) c.args.from
       c.loop-n.n c.get.result true c.loop-n.invariant.reach c.get.ensures.value c.if-is_taken.ensures;
   lowest = c.loop-n.invariant.none;
 }
@@ -60,21 +64,24 @@ loop-n-preserved c =
           ∙ ap₂ (λ (s : Option Stored) (b : Bool). not (covers s a) && b) c.get-in-loop-n.ensures.value
           (c.loop-n.invariant.reach a)
           ∙ sym (narrowed_next stores c.args.from c.loop-n.n (c.loop-n.n + 1) (reached c.args.self.now) a from refl)
-          ∙ narrowed_gap stores c.args.from (c.loop-n.n + 1) c.next_from-n-in-loop-n.result (reached c.args.self.now) a
+          ∙ narrowed_gap stores c.args.from (c.loop-n.n + 1) c.next_from-n-in-loop-n.result
+          (reached c.args.self.now) a
           (omega (arith, from)) on
           (no_store_between c.args.stores.now c.args.loads.now c.word.result c.word-2.result (c.loop-n.n + 1)
           c.next_from-n-in-loop-n.result c.word.ensures.value c.word-2.ensures.value w);
-      none = λ (m : ℕ) (h : c.args.from ≤ m) (k : m < c.next_from-n-in-loop-n.result). elim (cases_lt m (c.loop-n.n + 1)) [
-        | inr past ↦ unanswered stores c.args.loads.now (reached c.args.self.now) c.args.from m
-            (no_load_between c.args.stores.now c.args.loads.now c.word.result c.word-2.result (c.loop-n.n + 1)
-            c.next_from-n-in-loop-n.result c.word.ensures.value c.word-2.ensures.value w m past k)
-        | inl below ↦ elim (cases_eq m c.loop-n.n) [
-          | inl e ↦ ap (is_wrong stores (all_taken c.args.loads.now) (reached c.args.self.now) c.args.from) e
-              ∙ wrong_is stores c.args.loads.now (reached c.args.self.now) (reached c.loop-n.self) c.args.from c.loop-n.n
-              c.get.result false c.loop-n.invariant.reach c.get.ensures.value c.if-is_taken.ensures
-          | inr ne ↦ c.loop-n.invariant.none m h (omega (arith, below, ne))
-        ]
-      ];
+      none = λ (m : ℕ) (h : c.args.from ≤ m) (k : m < c.next_from-n-in-loop-n.result). elim
+          (cases_lt m (c.loop-n.n + 1)) [
+            | inr past ↦ unanswered stores c.args.loads.now (reached c.args.self.now) c.args.from m
+                (no_load_between c.args.stores.now c.args.loads.now c.word.result c.word-2.result (c.loop-n.n + 1)
+                c.next_from-n-in-loop-n.result c.word.ensures.value c.word-2.ensures.value w m past k)
+            | inl below ↦ elim (cases_eq m c.loop-n.n) [
+              | inl e ↦ ap (is_wrong stores (all_taken c.args.loads.now) (reached c.args.self.now) c.args.from) e
+                  ∙ wrong_is stores c.args.loads.now (reached c.args.self.now)
+                  (reached c.loop-n.self) c.args.from c.loop-n.n
+                  c.get.result false c.loop-n.invariant.reach c.get.ensures.value c.if-is_taken.ensures
+              | inr ne ↦ c.loop-n.invariant.none m h (omega (arith, below, ne))
+            ]
+          ];
     }
 
 pub returns-clause-found : goal.returns-clause-found
@@ -84,7 +91,8 @@ returns-clause-found c = λ m h k.
 
 pub returns-clause-left : goal.returns-clause-left
 returns-clause-left c = λ e a.
-    let all : c.loop-n.n ≡ numbers = (let end : c.loop-n.n ≡ 32 = (let w = c.loop-n.invariant.within in omega (arith, w)) in
+    let all : c.loop-n.n ≡ numbers =
+    (let end : c.loop-n.n ≡ 32 = (let w = c.loop-n.invariant.within in omega (arith, w)) in
     end ∙ sym numbers_are) in
     c.loop-n.invariant.reach a
     ∙ ap (λ n. narrowed (at c.args.stores.now) c.args.from n (reached c.args.self.now) a) all

@@ -12,9 +12,11 @@ loop-end-init c =
     record {
       sound = c.requires;
       below = omega (arith, w);
-      taken = λ mem i l. taken_gap c.args.self (λ n. get_or c.args.stores.now n None) mem c.end_below-end.result c.args.below i
+      taken = λ mem i l. taken_gap c.args.self (λ n. get_or c.args.stores.now n None) mem c.end_below-end.result
+          c.args.below i
           (omega (arith, w))
-          (no_store c.args.stores.now c.word.result c.args.below c.min.result c.end_below-end.result c.get-all.ensures.size
+          (no_store c.args.stores.now c.word.result c.args.below c.min.result c.end_below-end.result
+          c.get-all.ensures.size
           c.word.ensures.value (omega arith) c.end_below-end.ensures);
     }
 
@@ -37,11 +39,13 @@ loop-end-preserved c =
       sound = c.meet-sought.ensures.sound;
       below = omega (arith, w, b);
       taken = λ mem i l.
-          taken_gap c.meet-sought.result stores mem c.end_below-end-in-loop-end.result (c.loop-end.end - 1) i (omega (arith, w))
+          taken_gap c.meet-sought.result stores mem c.end_below-end-in-loop-end.result (c.loop-end.end - 1) i
+          (omega (arith, w))
           (no_store c.args.stores.now c.word.result (c.loop-end.end - 1) _
           c.end_below-end-in-loop-end.result c.get-all.ensures.size c.word.ensures.value (omega (arith, b))
           c.end_below-end-in-loop-end.ensures)
-          ∙ turned c.loop-end.sought c.meet-sought.result stores mem c.loop-end.end (c.loop-end.end - 1) c.get.result i
+          ∙ turned c.loop-end.sought c.meet-sought.result stores mem c.loop-end.end
+          (c.loop-end.end - 1) c.get.result i
           (omega arith) c.get.ensures.value c.meet-sought.ensures.taken l
           ∙ c.loop-end.invariant.taken mem i l;
     }

@@ -13,7 +13,8 @@ pub loop-i-preserved : goal.loop-i-preserved
 loop-i-preserved g c = one_frame g.W.Weather.next g.W.Weather.follows c.args.order.now c.self.inside.stands
     c.args.weather.now c.loop-i.i _ (taken c.loop-i.links.nodes) (taken c.tick_row.new.links.nodes)
     c.loop-i.self-inside.stands c.tick_row.new.stands c.loop-i.weather c.tick_row.new.weather c.loop-i.invariant
-    c.requires.once c.loop-i-test.true refl c.tick_row.ensures.ticks c.tick_row.ensures.others c.tick_row.ensures.marks
+    c.requires.once c.loop-i-test.true refl c.tick_row.ensures.ticks c.tick_row.ensures.others
+    c.tick_row.ensures.marks
 
 pub returns : goal.returns
 returns g c =

@@ -1,0 +1,9 @@
+pub mod Answers
+pub mod ModelExpressions
+pub mod ModelStatements
+pub mod ModelTypes
+pub mod ModelUnits
+pub mod Numbers
+pub mod Operators
+pub mod Parsing
+pub mod Places

@@ -1,0 +1,11 @@
+pub mod Answers
+pub mod Ascii
+pub mod Finds
+pub mod Firsts
+pub mod Guesses
+pub mod Pieces
+pub mod Places
+pub mod Runs
+pub mod Scans
+pub mod Spaces
+pub mod Turns

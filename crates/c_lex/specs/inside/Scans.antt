@@ -1,0 +1,146 @@
+-- What the scanning functions compute, as functions on lists.
+use Rattle.std.specs.Prelude.{ℕ, zero, suc, ◌+◌, min, Bool, true, false, ◌&&◌, ◌||◌, if◌then◌else◌}
+use Rattle.std.specs.Prelude.{nat_eq, nat_le, [], ◌∷◌, length, take, drop, Option, Some, None}
+use Rattle.std.specs.Prelude.{codes}
+use Rattle.std.specs.Str.{bytes_eq}
+use Rattle.c_tree.specs.declared.Kind.{Kind}
+use Rattle.c_tree.specs.declared.Kind.TheVariants.{Int}
+use Rattle.c_tree.specs.declared.Mark.{Mark}
+use Rattle.c_lex.specs.declared.number.Suffix.{Suffix}
+use Rattle.c_lex.specs.Ascii as ascii
+use Rattle.c_lex.specs.inside.Ascii as inside_ascii
+use Rattle.c_lex.specs.Bytes.{Bytes, by_class, is_blank, is_digit, is_feed}
+use Rattle.c_lex.specs.inside.Runs.{run_len}
+use Rattle.c_lex.specs.Tables.{lookup, marks}
+use Rattle.c_lex.specs.Constants.{is_digit_in, is_x, number_of, suffix_of, may_be, first_holding}
+use Rattle.c_lex.specs.Constants.{is_plain, simple, worth}
+use Rattle.c_lex.specs.Pieces.{begins_with}
+
+-- where the first `*/` stands, `i` being the number of the first byte
+abbrev pub close_from : ℕ → Bytes → Option ℕ
+close_from i [] = None
+close_from i (b ∷ bs) =
+    if nat_eq b ascii.star && begins_with ascii.slash bs then Some i else close_from (suc i) bs
+
+-- the same, with how many line feeds stand before it, `f` being how many there are so far
+abbrev pub close_feeds : ℕ → ℕ → Bytes → Option (ℕ × ℕ)
+close_feeds i f [] = None
+close_feeds i f (b ∷ bs) =
+    if nat_eq b ascii.star && begins_with ascii.slash bs then Some (i, f)
+    else close_feeds (suc i) (f + (if is_feed b then 1 else 0)) bs
+
+-- the mark of so many bytes, or else a shorter one
+abbrev pub or_else : ℕ → Option Mark → Option (ℕ × Mark) → Option (ℕ × Mark)
+or_else n None other = other
+or_else n (Some m) other = Some (n, m)
+
+-- the longest mark of at most so many bytes
+abbrev pub mark_from : ℕ → Bytes → Option (ℕ × Mark)
+mark_from zero text = None
+mark_from (suc n) text = or_else (suc n) (lookup (take (suc n) text) marks) (mark_from n text)
+
+-- May a mark go on with this byte?
+abbrev pub goes_on : ℕ → Bool
+goes_on b =
+    (nat_eq b inside_ascii.less || (nat_eq b inside_ascii.equal || nat_eq b inside_ascii.greater))
+    || ((nat_eq b inside_ascii.ampersand || nat_eq b inside_ascii.bar)
+    || (nat_eq b ascii.plus || nat_eq b ascii.minus))
+
+-- the longest mark at the front, with its length
+abbrev pub mark_of : Bytes → Option (ℕ × Mark)
+mark_of text = mark_from (min (length text) 3) text
+
+-- what follows the spaces and tabs at the front
+abbrev pub after_blanks : Bytes → Bytes
+after_blanks bs = drop (run_len (by_class is_blank) 0 bs) bs
+
+-- Does the second begin with the first?
+abbrev pub strips : Bytes → Bytes → Bool
+strips w bs = bytes_eq (take (length w) bs) w
+
+-- is no byte left?
+abbrev pub is_empty : Bytes → Bool
+is_empty [] = true
+is_empty (b ∷ bs) = false
+
+-- Is the line the include line, after its `#`?
+abbrev pub is_include : Bytes → Bool
+is_include line =
+    let a = after_blanks line in
+    let b = after_blanks (drop 7 a) in
+    strips (codes "include") a
+    && (strips (codes "<stdio.h>") b && is_empty (after_blanks (drop 9 b)))
+
+-- a character of so many bytes, where the closing `'` follows
+abbrev pub if_closed : ℕ → ℕ → Bytes → Option (ℕ × ℕ)
+if_closed n v rest = if begins_with ascii.quote rest then Some (n, v) else None
+
+-- one whose value is that of its digits, which has to be a byte
+abbrev pub if_byte : ℕ → ℕ → Bytes → Option (ℕ × ℕ)
+if_byte n v rest = if nat_le v 255 then if_closed n v rest else None
+
+-- an octal escape sequence, after its `\`
+abbrev pub octal_of : Bytes → Option (ℕ × ℕ)
+octal_of bs =
+    let n = run_len (by_class (is_digit_in 8)) 0 bs in
+    if nat_le n 3 then if_byte (suc n) (number_of 8 (take n bs)) (drop n bs) else None
+
+-- a hexadecimal escape sequence, after its `\x`
+abbrev pub hexadecimal_of : Bytes → Option (ℕ × ℕ)
+hexadecimal_of bs =
+    let n = run_len (by_class (is_digit_in 16)) 0 bs in
+    if nat_eq n 0 then None else if_byte (suc (suc n)) (number_of 16 (take n bs)) (drop n bs)
+
+-- a simple escape sequence, before what follows it
+abbrev pub simple_of : Option ℕ → Bytes → Option (ℕ × ℕ)
+simple_of None bs = None
+simple_of (Some v) bs = if_closed 2 v bs
+
+-- an escape sequence, after its `\`
+abbrev pub escape_of : Bytes → Option (ℕ × ℕ)
+escape_of [] = None
+escape_of (b ∷ bs) =
+    if nat_eq b ascii.lower_x then hexadecimal_of bs
+    else if is_digit_in 8 b then octal_of (b ∷ bs)
+    else simple_of (simple b) bs
+
+-- the character before the closing `'`: its length and value
+abbrev pub character_of : Bytes → Option (ℕ × ℕ)
+character_of [] = None
+character_of (b ∷ bs) =
+    if nat_eq b ascii.backslash then escape_of bs
+    else if is_plain b then if_closed 1 b bs
+    else None
+
+-- the base in which the run is to be read
+abbrev pub radix_of : Bytes → ℕ
+radix_of [] = 10
+radix_of (a ∷ []) = if nat_eq a ascii.digit_0 then 8 else 10
+radix_of (a ∷ b ∷ bs) = if nat_eq a ascii.digit_0 then (if is_x b then 16 else 8) else 10
+
+-- the value with its type, if one holds it
+abbrev pub with_kind : ℕ → Option Kind → Option (ℕ × Kind)
+with_kind v None = None
+with_kind v (Some k) = Some (v, k)
+
+-- the constant of these digits and this suffix
+abbrev pub with_suffix : ℕ → Bytes → Option Suffix → Option (ℕ × Kind)
+with_suffix radix digits None = None
+with_suffix radix digits (Some says) =
+    with_kind (number_of radix digits)
+    (first_holding (number_of radix digits) (may_be (nat_eq radix 10) says))
+
+-- the constant whose digits and suffix these are
+abbrev pub digits_of : ℕ → Bytes → Option (ℕ × Kind)
+digits_of radix body =
+    let n = run_len (by_class (is_digit_in radix)) 0 body in
+    if nat_eq n 0 then None else with_suffix radix (take n body) (suffix_of (drop n body))
+
+-- the constant that the run is: its value and type
+abbrev pub constant_of : Bytes → Option (ℕ × Kind)
+constant_of run =
+    digits_of (radix_of run) (if nat_eq (radix_of run) 16 then drop 2 run else run)
+
+-- the constant that the byte is
+abbrev pub short_constant : ℕ → Option (ℕ × Kind)
+short_constant b = if is_digit b then Some (worth b, Int) else None

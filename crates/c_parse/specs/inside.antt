@@ -1,0 +1,4 @@
+pub mod Lists
+pub mod Operands
+pub mod Parses
+pub mod Reads

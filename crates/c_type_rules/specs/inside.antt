@@ -1,0 +1,5 @@
+pub mod Expressions
+pub mod KeptStatements
+pub mod Needs
+pub mod Objects
+pub mod WellFormed
