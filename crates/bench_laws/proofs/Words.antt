@@ -62,5 +62,6 @@ modulo_letters a h =
 pub to_int : (a : ℕ) → a < 2 ^ 31 → converted Int a ≡ a
 to_int a h = converted_is Int a (record { below = omega arith; narrow = omega arith })
 
+-- A word below 2^63 is its own as a `long`.
 pub to_long : (a : ℕ) → a < 2 ^ 63 → converted Long a ≡ a
 to_long a h = converted_is Long a (record { below = omega arith; narrow = omega arith })

@@ -147,14 +147,17 @@ fire_alike n b d e u v l l' r r' p p' i j a c m =
 
 -- chains --------------------------------------------------------------------------------------
 
+-- both parts of a conjunction that is true are true
 pub and_true : (a b : Bool) → (a && b) ≡ true → (a ≡ true) × (b ≡ true)
 and_true true b e = (refl, e)
 and_true false b e = absurd (cc)
 
+-- a conjunction of two that are true is true
 pub both_true : (a b : Bool) → a ≡ true → b ≡ true → (a && b) ≡ true
 both_true true b e f = f
 both_true false b e f = absurd (cc)
 
+-- of a disjunction that is true one part is true
 pub or_true : (a b : Bool) → (a || b) ≡ true → (a ≡ true) ⊎ (b ≡ true)
 or_true true b e = inl refl
 or_true false b e = inr e
@@ -175,6 +178,7 @@ pub record Passes (ns : List Node) (ts : List ℕ) (f : ℕ → Bool) : Type 0 w
   pub named : names ts node.slot ≡ true
   pub leads_on : f at ≡ true
 
+-- where some targets lead through, a copy that they name leads on
 pub passes : (ns : List Node) (ts : List ℕ) (f : ℕ → Bool) → through ns ts f ≡ true → Passes ns ts f
 passes [] ts f e = absurd (cc)
 passes (m ∷ ms) ts f e = go (or_true _ _ e) (passes ms ts (λ y. f (suc y)))
@@ -292,6 +296,7 @@ pub tabulate_size : (n : ℕ) (f : ℕ → Bool) → length (tabulate n f) ≡ n
 tabulate_size zero f = refl
 tabulate_size (suc n) f = ap suc (tabulate_size n (λ x. f (suc x)))
 
+-- past the last node there is none
 pub get_none : (ns : List Node) (x : ℕ) → length ns ≤ x → slice_get ns x ≡ None
 get_none [] x h = refl
 get_none (n ∷ ns) zero h = absurd (omega arith)

@@ -71,6 +71,7 @@ weighed_some Absent k n = absurd (n refl)
 weighed_some Null k n = refl
 weighed_some (Bit v) k n = refl
 
+-- a node that names a place and gives a token counts as one there
 pub one_at : (ns : List Node) (f : ℕ → CaseToken) (q x : ℕ) → NamesPlace ns x q → f x ≢ Absent
     → 0 < tokens ns f q
 one_at [] f q x n p = absurd (let e = n.1 in cc)
@@ -89,6 +90,7 @@ head_token m ms f q n p =
     let w = weighed_some (f 0) (hits (targets m) q) p in
     omega (arith, h, w)
 
+-- where a place gets one token at most, one node alone gives it
 pub one_producer : (ns : List Node) (f : ℕ → CaseToken) (q : ℕ) → tokens ns f q ≤ 1 → (x y : ℕ)
     → NamesPlace ns x q → NamesPlace ns y q → f x ≢ Absent → f y ≢ Absent → x ≡ y
 one_producer [] f q l x y n k a b = absurd (let e = n.1 in cc)
@@ -113,6 +115,7 @@ one_at_most ns wanted f law q lt = most (nat_lt q 448) refl
         let t : tokens ns f q ≡ 1 = ap (λ z. tokens ns f z) is ∙ law.exit in
         omega arith
 
+-- in a good block, whatever bits choose, one node alone gives the token of a place
 pub any_bits : (ns : List Node) (wanted : ℕ → Bool) → IsRanked ns → IsPlaced ns → Good ns wanted
     → (bits : ℕ → Bool) (q x y : ℕ) → q < 449 → NamesPlace ns x q → NamesPlace ns y q
     → fires ns bits deepest x ≢ Absent → fires ns bits deepest y ≢ Absent → x ≡ y

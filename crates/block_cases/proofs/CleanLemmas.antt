@@ -80,6 +80,7 @@ clean_to : (b : Block) (g : ℕ → Answer) (n : ℕ) → IsClean b g → is_cle
 clean_to b g zero h = refl
 clean_to b g (suc n) h = clean_both (acts_to b g n) (node_acts b g n) (clean_to b g n h) (h n)
 
+-- a block in which nothing faults by the rule passes the test
 pub clean_whole : (b : Block) (g : ℕ → Answer) → IsClean b g → is_clean (block_acts b g) ≡ true
 clean_whole b g h = clean_to b g (length (nodes_of b)) h
 
@@ -223,10 +224,12 @@ clean_unmarked b g clean zero x = refl
 clean_unmarked b g clean (suc k) x = step_unmarked b g clean (mark_of b g k)
     (clean_unmarked b g clean k) x
 
+-- the least mark where no place has one is none
 pub least_none : (f : ℕ → ℕ) → ((q : ℕ) → f q ≡ 0) → (qs : List ℕ) → least_at f qs ≡ 0
 least_none f h [] = refl
 least_none f h (q ∷ qs) = ap (λ n. least n (least_at f qs)) (h q) ∙ least_none f h qs
 
+-- a block that passes the test has no cause of a trap
 pub clean_no_cause : (b : Block) (g : ℕ → Answer) → is_clean (block_acts b g) ≡ true
     → cause b g ≡ 0
 clean_no_cause b g clean = least_none _

@@ -62,6 +62,7 @@ led_below b g rank o f h x same = go (slice_get (nodes_of b) x) refl (g x)
         (mark_at_same (nodes_of b) g f h (256 + n.slot)
         (λ y m i e. edge y (to_predicate (nodes_of b) x y m n i j e)))
 
+-- marks by depth are pulled by the step that gives each node its mark
 pub marks_pulled : (b : Block) (g : ℕ → Answer) → IsPulled (mark_given b g) (mark_of b g)
 marks_pulled b g k x = refl
 

@@ -41,6 +41,7 @@ inst_got (i ∷ is) j (suc k) n e =
     let same : suc j + k ≡ j + suc k = omega arith in
     inst_got is (suc j) k n e ∙ ap (λ m. inst_node m (get_or is k None)) same
 
+-- a node that is no read comes behind the reads, by its slot
 pub not_read : (b : Block) (x : ℕ) → is_read b x ≡ false → x ≡ length b.reads.items + slot_at b x
 not_read b x e = let le : length b.reads.items ≤ x = grind (arith, nat_tests) in omega arith
 

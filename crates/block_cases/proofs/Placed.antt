@@ -27,6 +27,7 @@ insts_placed j (i ∷ is) b zero n e = inl (let s : n.slot ≡ j = slot i n e in
     slot (Some i) n e = let k : n ≡ inst_node j (Some i) = cc in ap (λ (m : Node). m.slot) k
 insts_placed j (i ∷ is) b (suc k) n e = insts_placed (suc j) is (omega arith) k n e
 
+-- the nodes of a block that fits its form are placed
 pub nodes_placed : (b : Block) → FitsBlock b → IsPlaced (nodes_of b)
 nodes_placed b f = reads_placed b.reads.items (inst_nodes 0 b.insts.items)
     (insts_placed 0 b.insts.items (let s : length b.insts.items ≡ 128 = f.insts in omega arith))

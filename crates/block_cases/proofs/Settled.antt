@@ -35,12 +35,14 @@ byte_seen_same s s' mem (suc n) a f = rw (
   byte_seen_same s s' mem n a (λ k l. f k (omega arith)),
 ) refl
 
+-- bytes seen behind stores hang on the stores of lower numbers alone
 pub bytes_seen_same : (s s' : ℕ → Option Stored) (mem : ℕ → ℕ) (n a k : ℕ)
     → ((m : ℕ) → m < n → s m ≡ s' m) → bytes_seen s mem n a k ≡ bytes_seen s' mem n a k
 bytes_seen_same s s' mem n a zero f = refl
 bytes_seen_same s s' mem n a (suc k) f = rw
     (bytes_seen_same s s' mem n a k f, byte_seen_same s s' mem n (a + k) f) refl
 
+-- a load hangs on what it is answered, address by address
 pub load_same : (i : Inst) (answer answer' : ℕ → ℕ) (left : ℕ) → ((a : ℕ) → answer a ≡ answer' a)
     → load_of i answer left ≡ load_of i answer' left
 load_same i answer answer' left h = ap (λ v. cond
@@ -172,6 +174,7 @@ only_at b regs mem rank o h s (suc k) x l =
     s x ∙ given_below b regs mem rank o h (token_of b regs mem k) x
     (λ y up. only_at b regs mem rank o h s k y (omega arith))
 
+-- a table that agrees with its rule at each node is the one of tokens at the greatest depth
 pub only_table : (b : Block) (regs mem : List ℕ) → IsRanked (nodes_of b) → (h : ℕ → Answer)
     → ((x : ℕ) → h x ≡ given b regs mem h x) → (x : ℕ) → h x ≡ token_of b regs mem deepest x
 only_table b regs mem r h s x = only_at b regs mem r.0 r.1 h s deepest x (let o : Ranked (nodes_of b) r.0 = r.1 in
@@ -182,6 +185,7 @@ abbrev pub rounds_from : Block → List ℕ → List ℕ → (ℕ → Answer) �
 rounds_from b regs mem g zero x = g x
 rounds_from b regs mem g (suc k) x = given b regs mem (rounds_from b regs mem g k) x
 
+-- above a node's rank its token hangs neither on the depth nor on what the rounds began with
 pub rounds_forget : (b : Block) (regs mem : List ℕ) (rank : ℕ → ℕ) → Ranked (nodes_of b) rank
     → (g : ℕ → Answer) (k m x : ℕ) → rank x < k → rank x < m
     → rounds_from b regs mem g k x ≡ token_of b regs mem m x
@@ -207,6 +211,7 @@ reached b regs mem rank o (suc k) x h =
     given_below b regs mem rank o (token_of b regs mem k) (token_of b regs mem (suc k)) x
     (λ y up. deeper_same b regs mem rank o k (suc k) y (omega arith) (omega arith))
 
+-- the tokens at the greatest depth agree with their rule
 pub token_settled : (b : Block) (regs mem : List ℕ) → IsRanked (nodes_of b) → (x : ℕ)
     → token_of b regs mem deepest x ≡ given b regs mem (token_of b regs mem deepest) x
 token_settled b regs mem r x = reached b regs mem r.0 r.1 deepest x (let o : Ranked (nodes_of b) r.0 = r.1 in
@@ -218,6 +223,7 @@ pub only_solution : (b : Block) (regs mem : List ℕ) → IsRanked (nodes_of b) 
 unfolding given
 only_solution b regs mem r g s = only_table b regs mem r g s
 
+-- the tokens at the greatest depth solve the block by the responses that they are given
 pub token_solves : (b : Block) (regs mem : List ℕ) → IsRanked (nodes_of b)
     → Solves b (responses_in b regs mem (token_of b regs mem deepest)) (token_of b regs mem deepest)
 unfolding given

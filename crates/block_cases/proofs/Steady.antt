@@ -13,10 +13,12 @@ use Rattle.block_cases.specs.CaseRule.{matches, gives, fire, if_matched, taken, 
 use Rattle.block_cases.specs.CaseRule.{fires, one_word, both_words}
 use Rattle.block_cases.specs.Cases.{deepest, present}
 
+-- a disjunction is true where its left part is
 pub or_left : (a b : Bool) → a ≡ true → (a || b) ≡ true
 or_left true b e = refl
 or_left false b e = absurd (cc)
 
+-- a disjunction is true where its right part is
 pub or_right : (a b : Bool) → b ≡ true → (a || b) ≡ true
 or_right true b e = refl
 or_right false b e = e
@@ -33,6 +35,7 @@ first_same (n ∷ ns) q f g h = ap₂ or_else (head (names (targets n) q) refl)
     head true e = h 0 n refl e
     head false e = refl
 
+-- a node that names the left operand of a slot leads to it
 pub to_left : (ns : List Node) (x y : ℕ) (m n : Node) → slice_get ns y ≡ Some m
     → slice_get ns x ≡ Some n → names (targets m) n.slot ≡ true → Edge ns y x
 to_left ns x y m n i j e = record {
@@ -43,6 +46,7 @@ to_left ns x y m n i j e = record {
   fed = or_left _ _ e;
 }
 
+-- a node that names the right operand of a slot leads to it
 pub to_right : (ns : List Node) (x y : ℕ) (m n : Node) → slice_get ns y ≡ Some m
     → slice_get ns x ≡ Some n → names (targets m) (128 + n.slot) ≡ true → Edge ns y x
 to_right ns x y m n i j e = record {
@@ -53,6 +57,7 @@ to_right ns x y m n i j e = record {
   fed = or_right (names (targets m) n.slot) _ (or_left _ _ e);
 }
 
+-- a node that names the predicate of a slot leads to it
 pub to_predicate : (ns : List Node) (x y : ℕ) (m n : Node) → slice_get ns y ≡ Some m
     → slice_get ns x ≡ Some n → names (targets m) (256 + n.slot) ≡ true → Edge ns y x
 to_predicate ns x y m n i j e = record {
@@ -64,11 +69,13 @@ to_predicate ns x y m n i j e = record {
       (or_right (names (targets m) (128 + n.slot)) _ (or_left _ _ e));
 }
 
+-- equal operands and predicates make a node fire alike
 pub fire_same : (n : Node) (v : Bool) (l r p l' r' p' : CaseToken) → l ≡ l' → r ≡ r' → p ≡ p'
     → fire n v l r p ≡ fire n v l' r' p'
 fire_same n v l r p l' r' p' a b c = ap (λ t. fire n v t r p) a ∙ ap (λ t. fire n v l' t p) b
     ∙ ap (λ t. fire n v l' r' t) c
 
+-- what a node pulls hangs on the nodes that lead to it alone
 pub pulled_same : (ns : List Node) (x : ℕ) (v : Bool) (f g : ℕ → CaseToken)
     → ((y : ℕ) → Edge ns y x → f y ≡ g y) → pulled (slice_get ns x) v (λ q. first ns q f)
     ≡ pulled (slice_get ns x) v (λ q. first ns q g)
@@ -102,6 +109,7 @@ settled_at ns rank o c k x h =
     pulled_same ns x (c x) (fires ns c k) (fires ns c (suc k)) (λ y e. let lt : rank y < rank x = o.rises y x e in
     enough ns rank o c k (suc k) y (omega arith) (omega arith))
 
+-- the greatest depth is the number of nodes that a block may have
 pub deepest_is : deepest ≡ most_nodes
 unfolding deepest
 deepest_is = refl
@@ -124,6 +132,7 @@ only_at ns rank o c h s (suc k) x lt =
     s x ∙ pulled_same ns x (c x) h (fires ns c k) (λ y e. let below : rank y < rank x = o.rises y x e in
     only_at ns rank o c h s k y (omega arith))
 
+-- a table that solves the nodes by the choices is the one of the greatest depth
 pub only_one : (ns : List Node) (rank : ℕ → ℕ) → Ranked ns rank → (c : ℕ → Bool) (h : ℕ → CaseToken)
     → Solves ns c h → (x : ℕ) → h x ≡ fires ns c deepest x
 only_one ns rank o c h s x = only_at ns rank o c h s deepest x (let b : rank x < most_nodes = o.below x in
@@ -172,6 +181,7 @@ fires_whatever (Some n) u v pull = go (matches n.sense (pull (256 + n.slot)))
     go true = gives_present n.role u v _ _
     go false = refl
 
+-- whether a node gives a token hangs on the choices of lower nodes alone
 pub present_below : (ns : List Node) (rank : ℕ → ℕ) → Ranked ns rank → (c d : ℕ → Bool) (x : ℕ)
     → ((y : ℕ) → rank y < rank x → c y ≡ d y) → (k : ℕ)
     → present (fires ns c k x) ≡ present (fires ns d k x)

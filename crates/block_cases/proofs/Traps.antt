@@ -73,6 +73,7 @@ trap_faults blocks s c t = go (slice_get blocks s.next) t
     go None e = absurd (cc)
     go (Some b) e = come_trap b.writes.items _ s c e
 
+-- where the next block faults with a cause, the machine's step is that trap
 pub fault_traps : (blocks : List Block) (s : State) (c : TrapCause) → next_faults blocks s c
     → step_of blocks s ≡ (s, Trap c)
 fault_traps blocks s c t = go (slice_get blocks s.next) t
@@ -81,6 +82,7 @@ fault_traps blocks s c t = go (slice_get blocks s.next) t
     go None e = absurd e
     go (Some b) e = ap (λ (o : Outcome). come_to b.writes.items o s) e
 
+-- the cause that the next block computes is the one with which it faults
 pub cause_faults : (blocks : List Block) (s : State) (c : ℕ) → next_cause blocks s ≡ suc c
     → next_faults blocks s (cause_of (suc c))
 cause_faults blocks s c e = go (slice_get blocks s.next) e
@@ -95,6 +97,7 @@ pub plain_outcome : (blocks : List Block) (k : ℕ) (b : Block) (regs mem : List
     → outcome blocks k b regs mem ≡ Comes (plain blocks k b regs mem)
 plain_outcome blocks k b regs mem e = ap (λ n. unless n (plain blocks k b regs mem)) e
 
+-- where the next block has no cause, the machine's step is the plain one
 pub plain_steps : (blocks : List Block) (s : State) → next_cause blocks s ≡ 0
     → step_of blocks s ≡ plain_step blocks s
 plain_steps blocks s e = go (slice_get blocks s.next) e

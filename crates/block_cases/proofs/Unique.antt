@@ -67,6 +67,7 @@ reached ns rank o a (suc k) x h =
     gives_below ns (a x) (pulled ns a k) (pulled ns a (suc k)) x (λ y e. let up : rank y < rank x = o.rises y x e in
     deeper_same ns rank o a k (suc k) y (omega arith) (omega arith))
 
+-- what ranked nodes pull at the greatest depth is their table
 pub pulled_is_table : (ns : List Node) → IsRanked ns → (a : Computes)
     → IsTable ns a (pulled ns a deepest)
 pulled_is_table ns r a x = reached ns r.0 r.1 a deepest x (let o : Ranked ns r.0 = r.1 in
@@ -91,6 +92,7 @@ hits_within (m ∷ ms) f q zero n e p =
     omega (arith, here, w)
 hits_within (m ∷ ms) f q (suc x) n e p = let k = hits_within ms (λ y. f (suc y)) q x n e p in omega (arith, k)
 
+-- a node that gives a token in a block that keeps one token has no place twice among its targets
 pub fires_once : (ns : List Node) (wanted : ℕ → Bool) (f : ℕ → Answer)
     → OneToken ns wanted (λ y. shape (f y)) → (q x : ℕ) (n : Node) → q < 449 → slice_get ns x ≡ Some n
     → f x ≢ None → hits (targets n) q ≤ 1
@@ -99,6 +101,7 @@ fires_once ns wanted f law q x n lt e p =
     let most : tokens ns (λ y. shape (f y)) q ≤ 1 = one_at_most ns wanted (λ y. shape (f y)) law q lt in
     omega (arith, within, most)
 
+-- what is given has a shape that is not absent
 pub present_shape : (t : Answer) → t ≢ None → shape t ≢ Absent
 present_shape None n e = n refl
 present_shape (Some NullToken) n e = absurd (cc)

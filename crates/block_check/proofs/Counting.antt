@@ -57,6 +57,7 @@ some_weight (Bit v) k h = (λ e. cc, h)
 abbrev pub Holder : List Node → (ℕ → CaseToken) → ℕ → Type 0
 Holder ns f q = (y : ℕ) × NamesPlace ns y q × (f y ≢ Absent)
 
+-- a place that counts a token has a node that gives it
 pub held_place : (ns : List Node) (f : ℕ → CaseToken) (q : ℕ) → 0 < tokens ns f q → Holder ns f q
 held_place [] f q h = absurd (omega arith)
 held_place (n ∷ ns) f q h = go (nat_lt 0 (weighed (f 0) (hits (targets n) q))) refl (held_place ns

@@ -30,9 +30,11 @@ walk_on ns x y z (Then e v) w = Then e (walk_on ns _ y z v w)
 abbrev pub Fed : List Node → (ℕ → Bool) → Type 0
 Fed ns u = (x : ℕ) → u x ≡ true → (y : ℕ) × (u y ≡ true) × Walk ns y x
 
+-- the test of equal numbers tells that they are equal
 pub eq_is : (a b : ℕ) → (a == b) ≡ true → a ≡ b
 eq_is a b e = grind arith
 
+-- numbers that fail the test differ
 pub eq_not : (a b : ℕ) → (a == b) ≡ false → a ≡ b → ⊥
 eq_not a b e i = grind arith
 
@@ -50,6 +52,7 @@ not_eq a b h = go (a == b) refl
     go true e = absurd (h (eq_is a b e))
     go false e = refl
 
+-- equal numbers pass the test
 pub same : (a b : ℕ) → a ≡ b → (a == b) ≡ true
 same a b e = grind arith
 

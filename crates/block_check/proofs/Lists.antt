@@ -15,6 +15,7 @@ same_test true b h i = sym (h refl)
 same_test false true h i = i refl
 same_test false false h i = refl
 
+-- what is not true is false
 pub not_true : (a : Bool) → (a ≡ true → ⊥) → a ≡ false
 not_true true h = absurd (h refl)
 not_true false h = refl

@@ -129,18 +129,22 @@ takes_below (Inst s) h = absurd h
 pub le_true : (a b : ℕ) → a ≤ b → nat_le a b ≡ true
 le_true a b h = grind arith
 
+-- a number below another passes the test
 pub lt_true : (a b : ℕ) → a < b → nat_lt a b ≡ true
 lt_true a b h = grind arith
 
+-- the test tells that a number is at most another
 pub true_le : (a b : ℕ) → nat_le a b ≡ true → a ≤ b
 true_le a b h = grind arith
 
 pub true_lt : (a b : ℕ) → nat_lt a b ≡ true → a < b
 true_lt a b h = grind arith
 
+-- the numbers of a mask are below 32
 pub mask_below : (mask n : ℕ) → in_mask mask n ≡ true → n < 32
 mask_below mask n e = true_lt n 32 (and_true _ _ e).0
 
+-- what a block owes at a spot is wanted at its place
 pub owed_wanted : (b : Block) (s : Spot) → IsOwed b s → wanted_of b (place_of s) ≡ true
 owed_wanted b (Write w) h = or_left _ _ (both_true _ _ (le_true 384 (384 + w) (omega arith))
     (lt_true (384 + w) _ (omega arith)))

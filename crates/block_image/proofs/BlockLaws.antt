@@ -242,6 +242,7 @@ least_again c s e l =
     true_right true = refl
     true_right false = refl
 
+-- a block that is written is read back
 pub block_again : (total at : ℕ) (bytes rest : List ℕ) (b : Block) → FitsBlock b
     → total + 1 + chunks_of b.insts.items ≤ most_chunks → drop at bytes ≡ block_bytes b ++ rest
     → block_at total at bytes ≡ Ok b

@@ -84,6 +84,7 @@ words_spell (suc n) bytes l f =
     ∙ ap (λ (r : List ℕ). x ++ r) b.0 ∙ a.0 in
     (append_assoc x (words_bytes (words n (drop 4 bytes))) (drop (4 * suc n) bytes) ∙ c, (a.1, b.1))
 
+-- the bytes of two lists of words one after the other
 pub words_bytes_both : (a b : List ℕ) → words_bytes (a ++ b) ≡ words_bytes a ++ words_bytes b
 words_bytes_both [] b = refl
 words_bytes_both (w ∷ a) b = ap (λ (x : List ℕ). big_bytes 4 w ++ x) (words_bytes_both a b)

@@ -22,11 +22,13 @@ read_again i bytes s = ap image_at s.spelled ∙ image_again i s.fits
 
 -- ---- the laws of faults
 
+-- bytes have one first fault
 pub one_fault : (bytes : List ℕ) (f g : ImageFault) → FirstFault bytes f → FirstFault bytes g
     → f ≡ g
 one_fault bytes f g a b = err_is {A = Image} f g
     (sym (image_fault_again bytes f a) ∙ image_fault_again bytes g b)
 
+-- bytes are an image's or have a first fault, not both
 pub not_both : (i : Image) (bytes : List ℕ) (f : ImageFault) → ImageBytes i bytes
     → FirstFault bytes f → ⊥
 not_both i bytes f a b = let x = read_again i bytes a in let y = image_fault_again bytes f b in cc

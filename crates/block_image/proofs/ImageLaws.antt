@@ -81,6 +81,7 @@ number_found at bytes n f e =
 
 -- ---- blocks
 
+-- a block has 128 bytes, and 128 more for each chunk of instructions
 pub length-block : (b : Block) → length b.insts.items ≡ 128
     → length (block_bytes b) ≡ 128 + 128 * chunks_of b.insts.items
 unfolding block_bytes
@@ -100,6 +101,7 @@ abbrev pub chunks_in_all : List Block → ℕ
 chunks_in_all [] = 0
 chunks_in_all (b ∷ bs) = 1 + chunks_of b.insts.items + chunks_in_all bs
 
+-- the chunks of blocks are one for each header and those of the instructions
 pub all_chunks : (bs : List Block) → sum_by chunks bs ≡ chunks_in_all bs
 unfolding chunks_of
 all_chunks [] = refl

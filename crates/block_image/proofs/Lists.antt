@@ -68,11 +68,13 @@ length-words (suc n) bytes = ap suc (length-words n (drop 4 bytes))
 
 -- ---- results
 
+-- what two steps answer without a fault comes from answers of both
 pub bind_ok : {A B : Type 0} (r : Result A ImageFault) (f : A → Result B ImageFault) (y : B)
     → (r >>= f) ≡ Ok y → (x : A) × (r ≡ Ok x) × (f x ≡ Ok y)
 bind_ok (Ok x) f y e = (x, refl, e)
 bind_ok (Err d) f y e = absurd cc
 
+-- equal answers without a fault have equal values
 pub ok_is : {A : Type 0} (x y : A) → ◌≡◌ {A = Result A ImageFault} (Ok x) (Ok y) → x ≡ y
 ok_is x y e = cc
 

@@ -58,6 +58,7 @@ blocks_alone (suc n) total at bytes more (b ∷ bs) cs c f t e r =
     (at + 128 + 128 * chunks_of b.insts.items) bytes more bs d.0 (omega arith) f.1
     (omega arith) next d.1
 
+-- bytes are those of one image at most
 pub one_image : (i j : Image) (bytes : List ℕ) → ImageBytes i bytes → ImageBytes j bytes → i ≡ j
 one_image i j bytes a b = same_ok (image_at bytes) i j
     (ap image_at a.spelled ∙ image_again i a.fits) (ap image_at b.spelled ∙ image_again j b.fits)

@@ -292,6 +292,7 @@ word_positive Store c i g = let o : 3 ≤ c.opcode = g.0 in eq_no _ 0 (λ z. ome
 word_positive Branch c i g = let o : 3 ≤ c.opcode = g.0 in eq_no _ 0 (λ z. omega arith)
 word_positive Constant c i g = let o : 3 ≤ c.opcode = g.0 in eq_no _ 0 (λ z. omega arith)
 
+-- a slot that is written as a word is read back
 pub slot_again : (s : Option Inst) → FitsSlot s → slot_of_word (slot_word s) ≡ Some s
 unfolding slot_of_word
 slot_again None h = refl

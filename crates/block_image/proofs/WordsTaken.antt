@@ -245,6 +245,7 @@ inst_takes w i lt e =
     let P : Op → Type 0 = λ o. FitsForm (form_of o) i × (form_word (form_of o) (code_of o) i ≡ w) in
     subst P (sym t.op_is) (t.fits, t.word (code_of op) (op_is w op b.1) (code_good op))
 
+-- a word that is read as a slot is the word of the slot, which fits
 pub slot_takes : (w : ℕ) (s : Option Inst) → w < 2 ^ 32 → slot_of_word w ≡ Some s → FitsSlot s
     × (slot_word s ≡ w)
 unfolding slot_of_word

@@ -29,9 +29,11 @@ module _ (all : List FlowNode) where
   IsChoice k g i =
       (n : FlowNode) × (slice_get all i ≡ Some n) × (n.guard ≡ g) × (is_copy (role_of n.op) ≡ false) × (i < k)
 
+  -- What stands under a scope before a node does so before each later node.
   pub under_later : (j k : ℕ) (g : Scope) (i : ℕ) → j ≤ k → IsUnder j g i → IsUnder k g i
   under_later j k g i m (n, e, h, l) = (n, e, h, omega (arith, l, m))
 
+  -- A node that is no `mov`, under a scope before a node, is so before each later node.
   pub choice_later : (j k : ℕ) (g : Scope) (i : ℕ) → j ≤ k → IsChoice j g i → IsChoice k g i
   choice_later j k g i m (n, e, h, z, l) = (n, e, h, z, omega (arith, l, m))
 
@@ -63,9 +65,11 @@ module _ (all : List FlowNode) where
 
   -- LATER NODES
 
+  -- A register's word that a node of the scope gives before a node is given so before each later one.
   pub own_later : (j k : ℕ) (g : Scope) (e : Entry) → j ≤ k → IsOwn j g e → IsOwn k g e
   own_later j k g e l (i, u, x) = (i, under_later j k g i l u, x)
 
+  -- An entry that is single before a node is so before each later one.
   pub single_later : (j k : ℕ) (g : Scope) (e : Entry) → j ≤ k → IsSingle j g e → IsSingle k g e
   single_later j k g e l (inl x) = inl x
   single_later j k g e l (inr (inl x)) = inr (inl (own_later j k None e l x))
@@ -85,6 +89,7 @@ module _ (all : List FlowNode) where
     z,
   )
 
+  -- What is known of an entry before a node is known before each later one.
   pub known_later : (c : ℕ) (m : Bool) (j k : ℕ) (g : Scope) (e : Entry) → j ≤ k → IsKnown c m j g e
       → IsKnown c m k g e
   known_later c m j k g e l (inl x) = inl (single_later j k g e l x)

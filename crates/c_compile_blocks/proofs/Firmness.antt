@@ -54,6 +54,7 @@ module _ (all : List FlowNode) where
   pub read_there : (j : ℕ) (g : Scope) (r : ℕ) (ss : List FlowSource) → IsThere j g (Read r ∷ ss)
   read_there j g r ss firm f = recognises_always all firm g (Read r ∷ ss) refl
 
+  -- A node that is not guarded is found to be there before each later node.
   pub bare_there : (i j : ℕ) (g : Scope) (ss : List FlowSource) → i < j → IsBare i → IsThere j g (Node i ∷ ss)
   bare_there i j g ss l (n, e, z) firm f =
       recognises_always all firm g (Node i ∷ ss)

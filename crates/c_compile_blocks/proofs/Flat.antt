@@ -58,6 +58,7 @@ uses s ns = length (nodes_kinds s ns)
 abbrev pub times : FlowSource → List FlowSource → ℕ
 times s ss = length (noted true s ss)
 
+-- A source's uses by a node and the rest are those by the node and those by the rest.
 pub node_uses : (s : FlowSource) (n : FlowNode) (ns : List FlowNode)
     → uses s (n ∷ ns) ≡ times s n.left + (times s n.right + length (noted false s (guard_sources n.guard)))
     + uses s ns
@@ -67,6 +68,7 @@ node_uses s n ns =
     let c = length-append (noted true s n.right) (noted false s (guard_sources n.guard)) in
     omega (arith, a, b, c)
 
+-- Joined lists use a source as often as both together.
 pub uses_append : (s : FlowSource) (a b : List FlowNode) → uses s (a ++ b) ≡ uses s a + uses s b
 uses_append s [] b = omega arith
 uses_append s (n ∷ a) b =
@@ -79,6 +81,7 @@ same_itself : (s : FlowSource) → same_source s s ≡ true
 same_itself (Read r) = grind (arith, nat_tests)
 same_itself (Node j) = grind (arith, nat_tests)
 
+-- A source alone in a list is named once.
 pub named_once : (s : FlowSource) → times s (s ∷ []) ≡ 1
 named_once s = ap (λ (c : Bool). length (if_noted c true [])) (same_itself s)
 
@@ -102,6 +105,7 @@ used_grow k l h j (n ∷ ns) x =
 
 -- PRICES
 
+-- Joined lists cost what both cost together.
 pub price_append : (a b : List FlowNode) → price (a ++ b) ≡ price a + price b
 price_append [] b = omega arith
 price_append (n ∷ a) b = let h = price_append a b in omega (arith, h)

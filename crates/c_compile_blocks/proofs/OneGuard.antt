@@ -40,6 +40,7 @@ by_at c [] i n a e = absurd (cc)
 by_at c (m ∷ ns) zero n a e = let same : m ≡ n = cc in subst (λ (x : FlowNode). IsGuardBy c x.guard) same a.0
 by_at c (m ∷ ns) (suc i) n a e = by_at c ns i n a.1 e
 
+-- Where there is no guard, any node may be said to give it.
 pub unguarded : (c : ℕ) → IsGuardBy c None
 unguarded c g e = absurd (cc)
 

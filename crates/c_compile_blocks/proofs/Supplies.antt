@@ -29,10 +29,12 @@ module _ (all : List FlowNode) where
   AreAt j [] = Unit {0}
   AreAt j (n ∷ ns) = (slice_get all j ≡ Some n) × AreAt (suc j) ns
 
+  -- Where a list of nodes and one behind it stand in the block, the first does.
   pub at_front : (j : ℕ) (a b : List FlowNode) → AreAt j (a ++ b) → AreAt j a
   at_front j [] b x = tt
   at_front j (n ∷ a) b x = (x.0, at_front (suc j) a b x.1)
 
+  -- Where a list of nodes and one behind it stand in the block, the second does, behind the first.
   pub at_back : (j : ℕ) (a b : List FlowNode) → AreAt j (a ++ b) → AreAt (j + length a) b
   at_back j [] b x = let e : j ≡ j + 0 = omega arith in subst (λ (i : ℕ). AreAt i b) e x
   at_back j (n ∷ a) b x =

@@ -8,6 +8,7 @@ use Rattle.ir_forms.specs.FlatCode.{Let, Code, Nop, ◌▹◌, Then, only}
 use Rattle.ir_forms.specs.FlatFits.{small_if, small_ifs}
 use Rattle.flat_lower.specs.Statements.{set_or}
 
+-- Code in two parts has the small ifs of both.
 pub then_small : (a b : Code) → small_ifs (Then a b) ≡ small_ifs a + small_ifs b
 then_small Nop b = omega arith
 then_small (s ▹ a) b = let h = then_small a b in omega (arith, h)

@@ -5,7 +5,7 @@ use Rattle.c_tree.specs.declared.token.Lexeme.{Lexeme}
 use Rattle.c_grammar.specs.Tokens.{Tokens, May}
 use Rattle.c_grammar.specs.Accepted.{Rel}
 
--- no token before the list does
+-- no token before the list opens a depth beyond m
 abbrev pub before : ℕ → Tokens → May
 before m tail = λ q d. nat_le (length q) (length tail) || nat_le d m
 

@@ -70,7 +70,7 @@ body_in _ s = part s
 unfoldable pub body_part : Stmt → Part
 body_part s = body_in (out-StmtNode s.node) s
 
--- the same of the callee that a table of definitions has
+-- the state in which the body of a function begins, by the callee that a table of definitions has
 abbrev pub entry : Scope → List ℕ → Option Kind → List Param → Scope → State
 entry T w given params G = body_entry (callee_in (look_up T w)) w given params G
 

@@ -3,8 +3,9 @@
 //! translation unit mean, block by block (C17 6.2.1): [`Scopes`] is seen as the list of the blocks that are open, and
 //! a call of it takes time in proportion to the names that it touches.
 //!
-//! The rules stand in specs/Typed, one for each node; first faults in specs/Faults and specs/Constants, typed trees
-//! as a function in specs/Trees, what may be written to in specs/Places, and names in specs/Scope.
+//! The rules stand in specs/Typed, one for each node; first faults in specs/Faults, specs/Blames and specs/Constants,
+//! typed trees as a function in specs/Trees and specs/Conversions, roles and what may be written to in specs/Roles,
+//! and names in specs/Scope.
 #![tactic(auto)]
 
 mod arguments;

@@ -55,6 +55,7 @@ told none can n fs o a b p h e w t =
     asked none can n fs o (frame_in b.blocks p) h w
     (t (seen_at o fs n) ∙ ap (λ (i : Image). answered none can (seen_at o fs n) (frame_in i.blocks p)) e)
 
+-- a phase has its block in an equal image too
 pub same_blocks : (a b : Image) (p : Phase) → a ≡ b → HasBlock b.blocks p → HasBlock a.blocks p
 same_blocks a b p e h = subst (λ (i : Image). HasBlock i.blocks p) (sym e) h
 

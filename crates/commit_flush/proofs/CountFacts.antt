@@ -55,6 +55,7 @@ counted k e (x ∷ xs) h =
     let l : x < 8 = h.0 in
     ap suc (counted k e xs h.2) ∙ sym (tally_more k x (λ n. is_in n xs) (omega arith) h.1)
 
+-- different numbers below eight are at most eight
 pub at_most_eight : (order : List ℕ) → AreNumbers order → length order ≤ 8
 at_most_eight order h = most 8 refl
   where

@@ -14,7 +14,7 @@ use Rattle.commit_flush_spec.specs.DrivingLaws.{HasGenerations}
 use Rattle.commit_flush.specs.declared.known.Known.{Known}
 use Rattle.commit_flush.specs.Known.{IsKnown}
 use Rattle.commit_flush_spec.proofs.Lowered.{work_falls, may_fill, has_work}
-use Rattle.commit_flush_spec.proofs.Ends.{driven_steps, driven_rests}
+use Rattle.commit_flush_spec.proofs.DrivingEnds.{driven_steps, driven_rests}
 use Rattle.commit_flush_spec.proofs.Runs.{driven_runs}
 
 -- window v comes from window a by driving

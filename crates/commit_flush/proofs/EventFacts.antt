@@ -68,12 +68,14 @@ module _ {image : Image} {budget : ℕ} {machine : Machine} {over : Stepped} {ph
 
   -- one of the eight, changed
   module _ (n : ℕ) (p q : Phase) (e : slice_get phases n ≡ Some p) (keeps : Keeps p q) where
+    -- a phase that changes so leaves the generations
     pub same_generations : map generation_of (set phases n q) ≡ map generation_of phases
     same_generations =
         map-set generation_of phases n q
         ∙ set_stays (map generation_of phases) n (generation_of q)
         (mapped_at generation_of phases n p e ∙ ap Some (sym keeps.generation))
 
+    -- a phase that changes so leaves the eight numbers
     pub same_numbers : map number_of (set phases n q) ≡ eight_numbers
     same_numbers =
         map-set number_of phases n q

@@ -125,6 +125,7 @@ of_age n (g ∷ gs) a e = go (g.number == n) e (age_of n gs) refl (λ k q. of_ag
         let here : suc k ≡ a = cc in
         rest k q ∙ ap (slice_get (g ∷ gs)) here
 
+-- a number without an age has no frame in flight
 pub no_age : (n : ℕ) (fs : List Frame) → age_of n fs ≡ None → frame_of n fs ≡ None
 no_age n [] e = refl
 no_age n (g ∷ gs) e = go (g.number == n) e (age_of n gs) refl (no_age n gs)

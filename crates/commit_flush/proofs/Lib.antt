@@ -30,7 +30,7 @@ pub mod StepFacts
 pub mod SearchFacts
 pub mod PickFacts
 pub mod OldestFacts
-pub mod WindowDriveBitFacts
+pub mod LowestBitFacts
 pub mod DriveFacts
 pub mod RoomFacts
 pub mod NumberTests

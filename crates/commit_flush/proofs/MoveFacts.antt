@@ -38,10 +38,12 @@ module _ {image : Image} {budget : ℕ} {machine : Machine} {over : Stepped} {ph
 
   -- between the window that is seen and its parts --------------------------------------------------
 
+  -- an event that is done of the window that is seen is done of its parts
   pub inside : (e : Event) (v : Seen) → seen s ≡ v → can v.image.blocks v.budget e v.window ≡ Done
       → can image.blocks budget e old ≡ Done
   inside e v w d = subst (λ (z : Seen). can z.image.blocks z.budget e z.window ≡ Done) (sym w) d
 
+  -- what an event makes of the parts it makes of the window that is seen
   pub outside : (e : Event) (v : Seen) → seen s ≡ v → (new : Window) → new ≡ done image.blocks e old
       → (let z : Seen = record { image = image; budget = budget; window = new } in z)
       ≡ record v { window = done v.image.blocks e v.window }

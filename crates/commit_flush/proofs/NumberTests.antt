@@ -4,12 +4,15 @@ use Rattle.std.proofs.Common.{◌∙◌, ap, refl, arith}
 use Rattle.std.proofs.Common.{true≢false}
 use Rattle.std.proofs.lemmas.Bool.Decides.{nat_tests}
 
+-- the test of equal numbers tells that they are equal
 pub equal_is : (a b : ℕ) → (a == b) ≡ true → a ≡ b
 equal_is a b e = grind (arith, nat_tests)
 
+-- equal numbers pass the test
 pub is_equal : (a b : ℕ) → a ≡ b → (a == b) ≡ true
 is_equal a b e = grind (arith, nat_tests)
 
+-- different numbers fail the test
 pub apart : (a b : ℕ) → a ≢ b → (a == b) ≡ false
 apart a b ne = go (a == b) refl
   where
@@ -20,6 +23,7 @@ apart a b ne = go (a == b) refl
 pub are_apart : (a b : ℕ) → (a == b) ≡ false → a ≢ b
 are_apart a b e same = true≢false (sym (is_equal a b same) ∙ e)
 
+-- the test of equal numbers fails both ways
 pub flipped : (a b : ℕ) → (a == b) ≡ false → (b == a) ≡ false
 flipped a b e = apart b a (λ z. are_apart a b e (sym z))
 
@@ -43,6 +47,7 @@ not_below a b l = go (nat_lt a b) refl
 pub below_is : (a b : ℕ) → nat_lt a b ≡ true → a < b
 below_is a b e = grind (arith, nat_tests)
 
+-- what is not below a number is at least that number
 pub not_below_is : (a b : ℕ) → nat_lt a b ≡ false → b ≤ a
 not_below_is a b e = grind (arith, nat_tests)
 

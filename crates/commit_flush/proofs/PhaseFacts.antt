@@ -27,6 +27,7 @@ use Rattle.commit_flush.proofs.SeenFacts.{good, eight, few, count_seen, found, n
 
 module _ {image : Image} {budget : ℕ} {machine : Machine} {over : Stepped} {phases : List Phase} {order : List ℕ}
     {registers : Ages} (s : IsSound image budget machine over phases order registers) where
+  -- the window in code as it is seen
   abbrev pub seen : Seen
   seen = record {
     image = image;

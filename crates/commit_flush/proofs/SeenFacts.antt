@@ -37,6 +37,7 @@ mapped_at v [] n x e = absurd (cc)
 mapped_at v (y ∷ ys) zero x e = let same : y ≡ x = cc in ap (λ z. Some (v z)) same
 mapped_at v (y ∷ ys) (suc n) x e = mapped_at v ys n x e
 
+-- the frame at a number is the one of the phase that stands there
 pub mapped_slot : (blocks : List Block) (phases : List Phase) (n : ℕ) (p : Phase) → slice_get phases n ≡ Some p
     → at (slots_of blocks phases) n ≡ frame_in blocks p
 mapped_slot blocks [] n p e = absurd (cc)
@@ -71,6 +72,7 @@ eight_row = (refl, (refl, (refl, (refl, (refl, (refl, (refl, (refl, tt))))))))
 
 module _ {image : Image} {budget : ℕ} {machine : Machine} {over : Stepped} {phases : List Phase} {order : List ℕ}
     {registers : Ages} (s : IsSound image budget machine over phases order registers) where
+  -- the blocks of the image are good
   pub good : AllGood image.blocks
   good = all_good image s.checked
 
@@ -82,6 +84,7 @@ module _ {image : Image} {budget : ℕ} {machine : Machine} {over : Stepped} {ph
   pub numbers_seen : numbers_of (flying image.blocks phases order) ≡ order
   numbers_seen = numbers_are (slots_of image.blocks phases) order s.kept.numbered s.kept.there
 
+  -- as many frames are seen as the order has numbers
   pub count_seen : length (flying image.blocks phases order) ≡ length order
   count_seen = count (slots_of image.blocks phases) order s.kept.there
 
@@ -101,6 +104,7 @@ module _ {image : Image} {budget : ℕ} {machine : Machine} {over : Stepped} {ph
       stands (slots_of image.blocks phases) order registers s.kept n
       ∙ no_slot image.blocks phases n (let e : length phases ≡ 8 = eight in omega arith)
 
+  -- each phase has a block of the image
   pub has_block : (n : ℕ) (p : Phase) → slice_get phases n ≡ Some p → HasBlock image.blocks p
   has_block n p e = subst (HasBlock image.blocks) (get_or_from_slice_get phases n p p e)
       (All-get_or (HasBlock image.blocks) phases n p (slice_get_within phases n p e) s.blocks)

@@ -25,6 +25,7 @@ use Rattle.commit_flush.specs.Steps.{count_of, is_next}
 
 -- how many numbers there are ----------------------------------------------------------------------
 
+-- there are 128 slots
 pub slots_are : slots ≡ 128
 unfolding slots
 slots_are = refl

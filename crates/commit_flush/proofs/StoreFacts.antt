@@ -32,6 +32,7 @@ narrowed_same p q from (suc n) touched a h = go (nat_lt n from) refl (narrowed_s
     go true z r = refl
     go false z r = ap₂ (λ s b. not (covers s a) && b) (h n (not_below_is n from z)) r
 
+-- a search for wrong loads hangs on the stores from its beginning on alone
 pub finds_same : (p q : ℕ → Option Stored) (loads : List (Option Taken)) (touched : ℕ → Bool) (from : ℕ)
     (o : Option ℕ)
     → ((k : ℕ) → from ≤ k → p k ≡ q k) → Finds p loads touched from o → Finds q loads touched from o

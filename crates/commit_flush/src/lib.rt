@@ -1,16 +1,14 @@
-//! The window in code: eight frames that execute blocks of an image before they are known to be wanted.
+//! The window in code: eight frames that execute blocks of an image before they are known to be wanted
+//! (docs/WINDOW.md).
 //!
-//! Events come in any order and with any numbers (docs/WINDOW.md). A contract sees a window as its image, its budget
-//! and the window of the definitions (crates/commit_flush_spec/specs). Only a commit changes the committed state.
+//! Events come in any order and with any numbers. A contract sees a [`Window`] as its image, its budget and the
+//! window of the definitions (crates/commit_flush_spec/specs); specs/Seen.antt says how. Only a commit changes the
+//! committed state. The definitions have the frames by age; the code keeps them by number, with an order of the
+//! numbers by age and banks of registers beside them (specs/Kept.antt, specs/Banked.antt), which every event leaves
+//! fitting together.
 //!
-//! The window driven to its end: the next event of its oldest frame, and one after another; and how its run ends.
-//!
-//! Which event is next is defined in crates/commit_flush_spec (docs/WINDOW.md, "Driving").
-//!
-//! The frames in flight kept by number, with an order of their numbers by age and banks of registers beside them.
-//!
-//! The window of the definitions has its frames by age (docs/WINDOW.md); a machine keeps eight frames by number. Each
-//! law says that the two stay the same under what an event does.
+//! [`next_event`] finds the event that is next (docs/WINDOW.md, "Driving"), [`drive`] lets one after another happen,
+//! and [`run`] tells how the run has ended (specs/Endings.antt).
 #![tactic(auto)]
 
 mod ages;

@@ -53,6 +53,7 @@ module _ (P : State → Type 0)
   system_keeps true s h = call_keeps (get_or s.registers 0 0) s h
   system_keeps false s h = h
 
+-- effects that are applied leave all registers and the whole of data memory
 pub apply_whole : (ws : List ℕ) (o : Effects) (s : State) → IsWhole s → IsWhole (apply ws o s).0
 apply_whole ws o s h = system_keeps IsWhole
     (λ t x k. record { registers = k.registers; memory = k.memory })
@@ -68,11 +69,13 @@ length_more : (xs : List Traced) (x : Traced) → length (xs ++ x ∷ []) ≡ le
 length_more [] x = refl
 length_more (y ∷ xs) x = let e = length_more xs x in omega (arith, e)
 
+-- effects that are applied make the trace longer by one
 pub apply_trace : (ws : List ℕ) (o : Effects) (s : State) → length (apply ws o s).0.trace ≡ length s.trace + 1
 apply_trace ws o s =
     system_keeps (λ t. length t.trace ≡ length s.trace + 1) (λ t x k. k) (λ t v i k. k) o.system (changed ws o s)
     (length_more s.trace _)
 
+-- the successor of the effects is the next block
 pub apply_next : (ws : List ℕ) (o : Effects) (s : State) → (apply ws o s).0.next ≡ o.successor
 apply_next ws o s = system_keeps (λ t. t.next ≡ o.successor) (λ t x k. k) (λ t v i k. k) o.system
     (changed ws o s) refl
@@ -110,6 +113,7 @@ following_in blocks l k = go (nat_lt (k + 1) (length blocks)) refl
     go true e = grind (arith, nat_tests)
     go false e = l
 
+-- the next block of an exit is one of the image
 pub next_in : (blocks : List Block) → 0 < length blocks → (k : ℕ) (e : Leaving) → next_of blocks k e < length blocks
 next_in blocks l k None = l
 next_in blocks l k (Some p) = by (p.0).op

@@ -35,6 +35,7 @@ some_not_none : {A : Type 0} (t : Option A) → is_some t ≡ not (is_none t)
 some_not_none None = refl
 some_not_none (Some v) = refl
 
+-- the bit of a ready slot is whether it may fire
 pub ready_tells : (o : Older) (f : Frame) (s : ℕ) → is_ready f s ≡ is_done (can_fire s o f)
 ready_tells o f s =
     ap₂ (λ x y. not f.sealed && (x && (not (get_or f.fired s false) && y))) (some_not_none (slot_of f.code s))
@@ -77,6 +78,7 @@ asked_tells o f n = by f.sealed (request f n)
 
 -- an event acts at its frame ---------------------------------------------------------------------
 
+-- a change of the frame of a number acts at that frame, which sees what the older ones make
 pub change_at : (does : Older → Frame → List Frame → List Frame) (fs : List Frame) (o : Older) (f : Frame)
     (gs : List Frame) → in_flight f.number fs ≡ false
     → change does o (fs ++ f ∷ gs) f.number ≡ fs ++ does (after_all fs o) f gs
@@ -86,6 +88,7 @@ change_at does (g ∷ fs) o f gs e =
     ap (λ b. cond b (does o g (fs ++ f ∷ gs)) (g ∷ change does (after g o) (fs ++ f ∷ gs) f.number)) k.0
     ∙ ap (λ l. g ∷ l) (change_at does fs (after g o) f gs k.1)
 
+-- the answer of the frame of a number is its own, by what it sees of the older ones
 pub answer_at : (none : Happened) (can : Older → Frame → Happened) (fs : List Frame) (o : Older) (f : Frame)
     (gs : List Frame) → in_flight f.number fs ≡ false
     → on_frame none can o (fs ++ f ∷ gs) f.number ≡ can (after_all fs o) f

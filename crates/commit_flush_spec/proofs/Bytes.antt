@@ -66,6 +66,7 @@ abbrev pub FitsValue : ℕ → Stored → Option ℕ → Type 0
 FitsValue n s None = Unit {0}
 FitsValue n s (Some v) = s.address + s.size ≤ n
 
+-- a resolved store has an address inside the first n bytes and a value of its size
 abbrev pub FitsStored : ℕ → Option Stored → Type 0
 FitsStored n None = Unit {0}
 FitsStored n (Some s) = FitsValue n s s.value

@@ -52,6 +52,7 @@ numbers_are : numbers ≡ 32
 unfolding numbers
 numbers_are = refl
 
+-- both parts of a conjunction that is true are true
 pub both_true : (b c : Bool) → (b && c) ≡ true → (b ≡ true) × (c ≡ true)
 both_true true c e = (refl, e)
 both_true false c e = absurd (cc)
@@ -179,6 +180,7 @@ module _ (blocks : List Block) (good : AllGood blocks) (s : State) (f : Frame) (
   same_exit None n = absurd (n refl)
   same_exit (Some p) n = refl
 
+  -- the outputs of the frame are the effects of its block by the committed state
   pub same_effects : outputs f ≡ plain blocks f.block b s.registers s.memory
   same_effects =
       ap (effects_with f) exit_is

@@ -31,6 +31,7 @@ use Rattle.commit_flush_spec.proofs.Frames.{Goes, not_now, own, seen, seen_agree
 use Rattle.commit_flush_spec.proofs.Loads.{not_false}
 use Rattle.commit_flush_spec.proofs.Flow.{some_of}
 
+-- the first of a disjunction of tests passes at its own number
 pub or_here : (t q : ℕ) (b : Bool) → t ≡ q → ((t == q) || b) ≡ true
 or_here t q b e = grind (arith, nat_tests, e)
 

@@ -77,10 +77,12 @@ store_takes n o f fs = go (request f n)
     go None = ap (λ x. f ∷ x) (all_taken fs)
     go (Some q) = checked_takes n (with_resolved n f (Some q)) fs
 
+-- a store is the change of its frame alone, of which the frames that it leaves stay
 pub stores_drop : (m : ℕ) (o : Older) (fs : List Frame) (n : ℕ)
     → change (store m) o fs n ≡ take (left_by (store_left m) o fs n) (change (alone (stored_alone m)) o fs n)
 stores_drop m = change_drops (store m) (stored_alone m) (store_left m) (store_takes m)
 
+-- an exit is the change of its frame alone, of which the frames that it leaves stay
 pub exits_drop : (blocks : List Block) (o : Older) (fs : List Frame) (n : ℕ)
     → change (exit blocks) o fs n
     ≡ take (left_by (exit_left blocks) o fs n) (change (alone (exited_alone blocks)) o fs n)
@@ -88,6 +90,7 @@ exits_drop blocks = change_drops (exit blocks) (exited_alone blocks) (exit_left 
     ap (λ x. exited_alone blocks o f ∷ x)
     (kept_takes (successor_of (exit_by blocks f.block (branch_of f f.leaving))) fs))
 
+-- a flush is no change, of which the frames that it leaves stay
 pub flushes_drop : (o : Older) (fs : List Frame) (n : ℕ)
     → change flush o fs n ≡ take (left_by none_left o fs n) (change (alone unchanged) o fs n)
 flushes_drop = change_drops flush unchanged none_left (λ o f fs. refl)

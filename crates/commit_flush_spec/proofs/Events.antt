@@ -23,6 +23,7 @@ pub refused : (blocks : List Block) (budget : ℕ) (e : Event) (w : Window) (c :
     → can blocks budget e w ≡ NotNow c → happens blocks budget e w ≡ w
 refused blocks budget e w c h = ap (λ x. if_done x (done blocks e w) w) h
 
+-- an event that may happen does what it is defined to do
 pub taken : (blocks : List Block) (budget : ℕ) (e : Event) (w : Window) → can blocks budget e w ≡ Done
     → happens blocks budget e w ≡ done blocks e w
 taken blocks budget e w h = ap (λ x. if_done x (done blocks e w) w) h
@@ -113,6 +114,7 @@ unfolding memory_of
 memory_size bytes l = length-append bytes (replicate (data_size - length bytes) 0)
     ∙ ap (λ n. length bytes + n) (length-replicate (data_size - length bytes) 0) ∙ (omega arith)
 
+-- a window that opens on blocks and on data that fits has the invariant
 pub opens : (blocks : List Block) (budget : ℕ) (bytes input : List ℕ) → 0 < length blocks → length bytes ≤ data_size
     → WindowOk blocks budget (opened (start bytes input))
 opens blocks budget bytes input some few = record {

@@ -42,6 +42,7 @@ module _ (f : Frame) (x p : ℕ) (t : Token) (even : p % 2 ≡ 0) (room : suc p 
       let par : (suc p % 2 == 0) ≡ false = grind (arith, nat_tests) in
       ap₂ (λ y c. named_at (slice_get (nodes_of f.code) y) c) from.1 par
 
+  -- a node that sends its token fills each place as the law says
   pub fills : (q : ℕ) → IsFilled f (send x p (Some t) f) p q
   fills q = (
     λ h. elim (sent_or (slice_get (nodes_of f.code) x) f.places p t q h) [
@@ -60,11 +61,13 @@ module _ (f : Frame) (x p : ℕ) (t : Token) (even : p % 2 ≡ 0) (room : suc p 
     ],
   )
 
+-- a slot that sends its token fills its two places, and no others
 pub slot_fills : (f : Frame) (s : ℕ) (t : Token) → length f.places ≡ 320 → s < 128 → (q : ℕ)
     → IsFilled f (send (slot_node f.code s) (2 * s) (Some t) f) (2 * s) q
 slot_fills f s t size l q = fills f (slot_node f.code s) (2 * s) t (omega arith) (omega (arith, size, l))
     (slot_source f.code s l) q
 
+-- a read that sends its token fills its two places, and no others
 pub read_fills : (f : Frame) (r : ℕ) (t : Token) → length f.places ≡ 320 → r < 32 → (q : ℕ)
     → IsFilled f (send r (256 + 2 * r) (Some t) f) (256 + 2 * r) q
 read_fills f r t size l q = fills f r (256 + 2 * r) t (omega arith) (omega (arith, size, l)) (read_source f.code r) q

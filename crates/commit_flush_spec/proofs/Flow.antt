@@ -27,6 +27,7 @@ use Rattle.commit_flush_spec.proofs.Tokens.{token_there, read_is, inst_in, read_
 use Rattle.commit_flush_spec.proofs.Frames.{Goes, not_now}
 use Rattle.commit_flush_spec.proofs.Sends.{Sends, sends, moved, slot_source, read_source, slot_sends, read_sends}
 
+-- what is not none is something
 pub some_of : {A : Type 0} (o : Option A) → is_none o ≡ false → (v : A) × (o ≡ Some v)
 some_of None e = absurd (cc)
 some_of (Some v) e = (v, refl)

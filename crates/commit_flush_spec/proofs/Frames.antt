@@ -109,14 +109,17 @@ frames_cut blocks touched (f ∷ fs) o p h k =
 
 -- some answers that agree ------------------------------------------------------------------------
 
+-- a word, and 0 where there is none
 abbrev pub or_zero : Option ℕ → ℕ
 or_zero None = 0
 or_zero (Some w) = w
 
+-- the bytes that a slot's instruction sees at an address; 0 where the slot is empty
 abbrev pub slot_seen : Older → Frame → Option Inst → ℕ → ℕ
 slot_seen o f None address = 0
 slot_seen o f (Some i) address = bytes_seen (at f.stores) o.memory i.number address (size_of i.op)
 
+-- what a read sees of its register, and else what a slot sees at an address
 abbrev pub seen_if_read : Bool → Older → Frame → ℕ → ℕ → ℕ
 seen_if_read true o f x address = or_zero (read_seen o (slice_get f.code.reads.items x))
 seen_if_read false o f x address = slot_seen o f (inst_at f.code x) address
@@ -125,6 +128,7 @@ seen_if_read false o f x address = slot_seen o f (inst_at f.code x) address
 unfoldable pub seen : Older → Frame → Responses
 seen o f x address = seen_if_read (is_read f.code x) o f x address
 
+-- what a frame was answered agrees with what it sees now
 pub seen_agrees : (o : Older) (f : Frame) → Agrees o f (seen o f)
 unfolding seen
 seen_agrees o f = record {
@@ -141,17 +145,20 @@ seen_agrees o f = record {
 pub own : Older → Frame → ℕ → Answer
 own o f = table f.code (seen o f)
 
+-- the frame's own table solves its block by what the frame sees
 pub own_solves : (blocks : List Block) → AllGood blocks → (o : Older) (f : Frame) → FrameOk blocks o f
     → Solves f.code (seen o f) (own o f)
 unfolding own
 own_solves blocks good o f ok = table_solves f.code (good f.block f.code ok.code) (seen o f)
 
+-- the frame's own table holds what the frame holds
 pub own_holds : (blocks : List Block) → AllGood blocks → (o : Older) (f : Frame) → FrameOk blocks o f
     → Holds blocks f (own o f)
 own_holds blocks good o f ok = ok.holds (seen o f) (own o f) (own_solves blocks good o f ok) (seen_agrees o f)
 
 -- a change of one frame --------------------------------------------------------------------------
 
+-- an event that is done is not held back by a cause, and is done by what follows
 pub not_now : (b : Bool) (c : Cause) (h : Happened) → cond b (NotNow c) h ≡ Done → (b ≡ false) × (h ≡ Done)
 not_now true c h e = absurd (cc)
 not_now false c h e = (refl, e)

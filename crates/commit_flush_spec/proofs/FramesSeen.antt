@@ -62,6 +62,7 @@ fall f g fs gs h =
 
 -- a step changes the oldest frame ----------------------------------------------------------------
 
+-- a change by the oldest frame's number acts on the oldest frame
 pub change_oldest : (does : Older → Frame → List Frame → List Frame) (o : Older) (f : Frame) (fs : List Frame)
     → change does o (f ∷ fs) f.number ≡ does o f fs
 change_oldest does o f fs =
@@ -84,6 +85,7 @@ module _ (blocks : List Block) (good : AllGood blocks) (o : Older) (f : Frame) (
       let one : a.inst ≡ i = cc in
       sym (ap (λ (j : Inst). j.number) one) ∙ a.number
 
+  -- the number is in the mask of the frame's block
   pub in_the_mask : in_mask f.code.mask n ≡ true
   in_the_mask = sym (ap (in_mask f.code.mask) number) ∙ masked f.code (good f.block f.code ok.code) s i is kind
 
@@ -146,6 +148,7 @@ module _ (w : Window) (f : Frame) (fs : List Frame) (i : w.frames ≡ f ∷ fs) 
       → oldest_left (change (alone does) (committed w.state) w.frames f.number) < oldest_left w.frames
   by_alone does h = by_change (alone does) (fall f (does (committed w.state) f) fs fs h)
 
+-- a step of the oldest frame lowers what is left
 pub step_lowers : (blocks : List Block) → AllGood blocks → (w : Window) (f : Frame) (fs : List Frame)
     → w.frames ≡ f ∷ fs → FrameOk blocks (committed w.state) f → (e : Event) → Stepping (committed w.state) f e
     → Lowers blocks w e
@@ -186,6 +189,7 @@ step_lowers blocks good w f fs i ok e (Exits z d) = subst (Lowers blocks w) (sym
   less = by_change w f fs i (exit blocks) (exits_fall blocks (committed w.state) f fs d);
 })
 
+-- the Seal of the oldest frame lowers what is left
 pub seal_lowers : (blocks : List Block) (w : Window) (f : Frame) (fs : List Frame) → w.frames ≡ f ∷ fs
     → f.sealed ≡ false → (e : Event) → e ≡ event.Seal f.number → Lowers blocks w e
 seal_lowers blocks w f fs i s e z = subst (Lowers blocks w) (sym z) (record {
@@ -204,6 +208,7 @@ fresh_left n k b =
     let e = blank_stands ℕ 32 in
     omega (arith, a, c, d, e)
 
+-- a frame that was just filled has guessed no load
 pub fresh_unguessed : (n k : ℕ) (b : Block) → none_guessed (fresh n k b) ≡ true
 fresh_unguessed n k b = all_from _ numbers (λ j l. or_left _ _ (ap is_none (blank_at 32 j)))
 
@@ -226,6 +231,7 @@ reserve_most f = go (none_guessed f)
     go true = omega arith
     go false = omega arith
 
+-- what is left of the oldest frame is at most 1,637
 pub most_of : (blocks : List Block) (fs : List Frame) (o : Older) → FramesOk blocks o fs → oldest_left fs ≤ 1637
 most_of blocks [] o ok = omega arith
 most_of blocks (f ∷ fs) o ok =

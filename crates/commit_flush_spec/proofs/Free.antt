@@ -141,6 +141,7 @@ module _ (blocks : List Block) (good : AllGood blocks) (o : Older) (f : Frame) (
           sym (ap (λ q. node_gives q (computes b (seen o f) ((p - 256) / 2)) (at_place b (own o f)))
           (read_got b.reads.items (inst_nodes 0 b.insts.items) ((p - 256) / 2) k.slot k.is_slot)) ∙ sym s ∙ z in cc
 
+-- no token of a right frame finds another one at its place
 pub all_free : (blocks : List Block) → AllGood blocks → (fs : List Frame) (o : Older) → FramesOk blocks o fs
     → AllFree fs
 all_free blocks good [] o ok = tt

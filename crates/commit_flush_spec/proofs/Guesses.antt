@@ -34,6 +34,7 @@ module _ (f : Frame) (n : ℕ) (s : Option Stored) (open' : at f.stores n ≡ No
       → (not (in_mask f.code.mask k) || is_some (at (set f.stores n s) k)) ≡ true
   still_came k e = or_up (not (in_mask f.code.mask k)) _ _ (some_up (at f.stores k) _ (over k)) e
 
+  -- a store that comes makes no load a guess
   pub stores_keep : (g : Frame) → g.loads ≡ f.loads → g.code ≡ f.code → g.stores ≡ set f.stores n s
       → none_guessed f ≡ true → none_guessed g ≡ true
   stores_keep g l c d e =
@@ -45,6 +46,7 @@ module _ (f : Frame) (n : ℕ) (s : Option Stored) (open' : at f.stores n ≡ No
 
 -- a load is answered behind all its stores ------------------------------------------------------
 
+-- a load that is answered behind all its stores is no guess
 pub load_keeps : (f : Frame) (n : ℕ) (t : Option Taken) → stores_came f n ≡ true → none_guessed f ≡ true
     → all_below (λ k. is_none (at (set f.loads n t) k) || stores_came f k) numbers ≡ true
 load_keeps f n t came e =
@@ -92,6 +94,7 @@ not_behind st m (suc k) l x =
         go false i = refl
         go true i = let it : a ≡ c = grind arith in absurd (n it)
 
+-- a store that comes finds no load wrong in a frame without guessed loads
 pub not_violated : (f : Frame) (n : ℕ) (st : ℕ → Option Stored) → length f.loads ≡ 32 → in_mask f.code.mask n ≡ true
     → at f.stores n ≡ None → none_guessed f ≡ true → violated (nearest st n) f.loads ≡ false
 not_violated f n st size e open' sure = none_wrong (nearest st n) f.loads (λ k p. not_behind st n k (low k p))

@@ -81,6 +81,7 @@ module _ (f : Frame) (F R : List Bool) (Q : List (Option ℕ)) (V : Option ℕ) 
 
 -- the two places of a slot or a read -------------------------------------------------------------
 
+-- a place is the first or the second of its node
 pub half_places : (q k : ℕ) → q / 2 ≡ k → (q ≡ 2 * k) ⊎ (q ≡ suc (2 * k))
 half_places q k e = go (q % 2 == 0) refl
   where

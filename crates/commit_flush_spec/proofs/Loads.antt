@@ -281,10 +281,12 @@ pub record Stands (kind : Form → Bool) (f : Frame) (n : ℕ) : Type 0 where
   pub is_kind : kind (form_of inst.op) ≡ true
   pub is_request : request f n ≡ Some (slot, inst)
 
+-- what is not false is true
 pub not_false : (b : Bool) → not b ≡ false → b ≡ true
 not_false true e = refl
 not_false false e = absurd (cc)
 
+-- what waits with a number is an instruction of that kind in a slot
 pub stands : (kind : Form → Bool) (f : Frame) (n : ℕ) → not (is_request kind (request f n)) ≡ false → Stands kind f n
 stands kind f n e = go (at f.requests n) refl (not_false _ e)
   where

@@ -32,7 +32,7 @@ use Rattle.commit_flush_spec.proofs.Next.{Next, Fetches, Commits, Seals, Takes, 
 use Rattle.commit_flush_spec.proofs.Steps.{Stepping, Delivers, Fires, Reads, Stores, Loads, Exits}
 use Rattle.commit_flush_spec.proofs.FramesSeen.{Lowers, step_lowers, seal_lowers, fresh_unguessed}
 use Rattle.commit_flush_spec.proofs.Lowered.{fetch_lowers, there, may_fill, has_work}
-use Rattle.commit_flush_spec.proofs.Ends.{Onward, onward, rests}
+use Rattle.commit_flush_spec.proofs.DrivingEnds.{Onward, onward, rests}
 use Rattle.commit_flush_spec.proofs.Runs.{went_or, trace_grows}
 use Rattle.commit_flush_spec.proofs.Unflushed.{step_stays, oldest_stays}
 

@@ -150,6 +150,7 @@ module _ (st st' : ℕ → Option Stored) (m : ℕ) (others : (k : ℕ) → k �
 
 -- loads ------------------------------------------------------------------------------------------
 
+-- both parts of a disjunction that is false are false
 pub or_false : (a b : Bool) → (a || b) ≡ false → (a ≡ false) × (b ≡ false)
 or_false true b e = absurd (cc)
 or_false false b e = (refl, e)

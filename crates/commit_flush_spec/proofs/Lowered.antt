@@ -99,6 +99,7 @@ commit_less blocks budget w o room f fs p ok (Faults x) =
     let d : 1638 ≤ (budget - length w.state.trace) * 1638 = omega (arith, room) in
     omega (arith, a, d)
 
+-- the next event lowers the work that is left
 pub work_falls : (blocks : List Block) (budget : ℕ) (e : Event) (w : Window) → AllGood blocks
     → WindowOk blocks budget w → MayFill w → next_event budget w ≡ Some e
     → work budget (happens blocks budget e w) < work budget w
@@ -178,6 +179,7 @@ still_room a w b v l h r f = omega (arith, h, r, f)
 pub may_fill : (budget : ℕ) (w : Window) → HasGenerations budget w → 0 < work budget w → MayFill w
 may_fill budget w h p = below_last (slice_index w.generations 0) (work budget w) (2 ^ 64) h p
 
+-- where there is a next event, work is left
 pub has_work : (budget : ℕ) (w : Window) (e : Event) → next_event budget w ≡ Some e → 0 < work budget w
 has_work budget w e h =
     let k = parts budget w e h in

@@ -27,11 +27,13 @@ use Rattle.commit_flush_spec.proofs.Tokens.{there, placed_is}
 
 -- lists of marks ---------------------------------------------------------------------------------
 
+-- a mark that is written inside a list stands there
 pub mark_here : (xs : List ℕ) (i c : ℕ) → i < length xs → get_or (set xs i c) i 0 ≡ c
 mark_here [] i c l = absurd (omega arith)
 mark_here (x ∷ xs) zero c l = refl
 mark_here (x ∷ xs) (suc i) c l = mark_here xs i c (omega arith)
 
+-- a mark that is written leaves all other places
 pub mark_other : (xs : List ℕ) (i j c : ℕ) → j ≢ i → get_or (set xs i c) j 0 ≡ get_or xs j 0
 mark_other [] i j c n = refl
 mark_other (x ∷ xs) zero zero c n = absurd (n refl)

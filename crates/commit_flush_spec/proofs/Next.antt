@@ -32,6 +32,7 @@ same n = grind arith
 
 -- the frame of its own number --------------------------------------------------------------------
 
+-- asked by its number, the oldest frame answers for itself
 pub at_oldest : (none : Happened) (can : Older → Frame → Happened) (o : Older) (f : Frame) (fs : List Frame)
     → on_frame none can o (f ∷ fs) f.number ≡ can o f
 at_oldest none can o f fs = ap (λ b. cond b (can o f) (on_frame none can (after f o) fs f.number)) (same f.number)
@@ -81,6 +82,7 @@ step_kind o f e (Exits z d) = (ap (is_step_of f.number) z ∙ same f.number, ap 
 
 -- what the next event is -------------------------------------------------------------------------
 
+-- which event is the next of a window, case by case
 pub data Next (w : Window) (e : Event) : Type 0 where
   Fetches : w.frames ≡ [] → e ≡ event.Fetch w.state.next → Next w e
   Commits : (f : Frame) (fs : List Frame) → w.frames ≡ f ∷ fs → f.sealed ≡ true → e ≡ event.Commit → Next w e
@@ -125,6 +127,7 @@ le_false a b l = go (nat_le a b) refl
     go false i = refl
     go true i = let le : a ≤ b = true_le a b i in absurd (omega (arith, le, l))
 
+-- a next event comes of a run that goes on, within its budget
 pub parts : (budget : ℕ) (w : Window) (e : Event) → next_event budget w ≡ Some e
     → (w.over ≡ Went) × (length w.state.trace < budget) × Next w e
 parts budget w e h =
@@ -176,6 +179,7 @@ now_done blocks budget w ok fill room e (Seals f fs i s c z) =
     (clear f.sealed NoFrame _ s (clear (not (complete f)) Missing _ (ap not c) refl))
 now_done blocks budget w ok fill room e (Takes f fs i t) = step_done blocks budget w f fs i e t
 
+-- a next event is done
 pub next_done : (blocks : List Block) (budget : ℕ) (e : Event) (w : Window) → WindowOk blocks budget w → MayFill w
     → next_event budget w ≡ Some e → can blocks budget e w ≡ Done
 next_done blocks budget e w ok fill h =
@@ -198,6 +202,7 @@ a_step blocks good budget w ok f fs i s c none =
     true≢false (sym (quiet_is_complete blocks good (committed w.state) f all.2 (kept.0 s)
     (quiet_of blocks good (committed w.state) f all.2 s (some_look w.state) none)) ∙ c)
 
+-- an oldest frame that lacks an output may take a step that is no guess
 pub never_stuck : (blocks : List Block) (budget : ℕ) (w : Window) (f : Frame) (fs : List Frame) → AllGood blocks
     → WindowOk blocks budget w → w.over ≡ Went → w.frames ≡ f ∷ fs → f.sealed ≡ false → complete f ≡ false
     → (e : Event) × (is_step_of f.number e ≡ true) × (is_guess f e ≡ false) × (can blocks budget e w ≡ Done)
@@ -238,6 +243,7 @@ ended Ended spent t n = refl
 ended StackFull spent t n = refl
 ended (Trap c) spent t n = refl
 
+-- a run that has ended has no next event
 pub none_after : (budget : ℕ) (w : Window) → w.over ≢ Went → next_event budget w ≡ None
 none_after budget w n = ended w.over _ _ n
 

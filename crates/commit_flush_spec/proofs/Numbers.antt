@@ -23,6 +23,7 @@ use Rattle.commit_flush_spec.specs.Window.{change, alone, flush, in_flight, lowe
 use Rattle.commit_flush_spec.specs.Laws.{AreNumbers}
 use Rattle.commit_flush_spec.proofs.Look.{or_false}
 
+-- the numbers of some frames
 abbrev pub nums : List Frame → List ℕ
 nums fs = map (λ (f : Frame). f.number) fs
 
@@ -70,6 +71,7 @@ send_number : (x p : ℕ) (t : Answer) (f : Frame) → (send x p t f).number ≡
 send_number x p None f = refl
 send_number x p (Some t) f = refl
 
+-- a read that is answered leaves the frame's number
 pub read_number : (r : ℕ) (o : Older) (f : Frame) → (read r o f).number ≡ f.number
 read_number r o f = go (read_seen o (slice_get f.code.reads.items r))
   where
@@ -77,6 +79,7 @@ read_number r o f = go (read_seen o (slice_get f.code.reads.items r))
     go None = refl
     go (Some v) = send_number r (256 + 2 * r) (token_with f r v) (record f { reads = set f.reads r true })
 
+-- a slot that fires leaves the frame's number
 pub fire_number : (s : ℕ) (o : Older) (f : Frame) → (fire s o f).number ≡ f.number
 fire_number s o f = inst (slot_of f.code s)
   where
@@ -92,6 +95,7 @@ fire_number s o f = inst (slot_of f.code s)
     inst None = refl
     inst (Some i) = form (form_of i.op) i
 
+-- a token that is delivered leaves the frame's number
 pub deliver_number : (p : ℕ) (o : Older) (f : Frame) → (deliver p o f).number ≡ f.number
 deliver_number p o f = go (at f.places p)
   where
@@ -99,6 +103,7 @@ deliver_number p o f = go (at f.places p)
     go None = refl
     go (Some t) = refl
 
+-- a load that is answered leaves the frame's number
 pub load_number : (n : ℕ) (o : Older) (f : Frame) → (load n o f).number ≡ f.number
 load_number n o f = go (request f n)
   where
@@ -153,6 +158,7 @@ flush_numbers o f fs = (nums (f ∷ fs), refl)
 
 -- fetches ----------------------------------------------------------------------------------------
 
+-- the lowest empty frame is one of those searched, and is not in flight
 pub lowest_is : (k m : ℕ) (fs : List Frame) (n : ℕ) → lowest_empty k m fs ≡ Some n → (n < m + k)
     × (in_flight n fs ≡ false)
 lowest_is zero m fs n e = absurd (cc)

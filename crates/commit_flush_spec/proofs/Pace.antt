@@ -19,7 +19,7 @@ use Rattle.commit_flush_spec.specs.DrivingLaws.{HasGenerations}
 use Rattle.commit_flush_spec.proofs.Next.{Next, Fetches, Commits, Seals, Takes, parts, next_done, none_after}
 use Rattle.commit_flush_spec.proofs.FramesSeen.{Lowers, step_lowers, seal_lowers, most_of}
 use Rattle.commit_flush_spec.proofs.Lowered.{fetch_lowers, may_fill, has_work}
-use Rattle.commit_flush_spec.proofs.Ends.{Onward, onward, rests}
+use Rattle.commit_flush_spec.proofs.DrivingEnds.{Onward, onward, rests}
 use Rattle.commit_flush_spec.proofs.Runs.{went_or, trace_grows}
 
 -- n events lead from w to v: each is a Commit, at 1,638, or lowers what is left of the oldest frame

@@ -45,6 +45,7 @@ read_there [] r l = absurd (omega arith)
 read_there (x ∷ rs) zero l = (x, refl)
 read_there (x ∷ rs) (suc r) l = read_there rs r (omega arith)
 
+-- what gives a token in a table that solves a block is a node of it
 pub a_node : (b : Block) (a : Responses) (g : ℕ → Answer) → Solves b a g → (y : ℕ) → g y ≢ None → IsNode b y
 a_node b a g sol y n = go (is_read b y) refl
   where
@@ -78,6 +79,7 @@ node_of_read b r slot e = read_got b.reads.items (inst_nodes 0 b.insts.items) r 
 
 -- what a node names ------------------------------------------------------------------------------
 
+-- one of two that name a place is it
 pub named_or : (p q k : ℕ) → names (p ∷ q ∷ []) k ≡ true → (p ≡ k) ⊎ (q ≡ k)
 named_or p q k e = go (p == k) refl (q == k) refl e
   where
@@ -126,6 +128,7 @@ same_node : (b : Block) (y : ℕ) (m n : Node) → slice_get (nodes_of b) y ≡ 
     → m ≡ n
 same_node b y m n d e = let k : Some m ≡ Some n = sym d ∙ e in cc
 
+-- an output that a slot names fits the instruction's form
 pub slot_names : (b : Block) (s q : ℕ) (i : Inst) → FitsForm (form_of i.op) i → IsOutput q → slot_of b s ≡ Some i
     → NamesPlace (nodes_of b) (slot_node b s) q → NamesOutput (form_of i.op) i.number q
 slot_names b s q i f l e n =

@@ -27,7 +27,7 @@ use Rattle.commit_flush_spec.proofs.Next.{Next, Fetches, Commits, Seals, Takes}
 use Rattle.commit_flush_spec.proofs.Next.{parts, next_done, none_after, why_none}
 use Rattle.commit_flush_spec.proofs.FramesSeen.{Lowers, step_lowers, seal_lowers}
 use Rattle.commit_flush_spec.proofs.Lowered.{fetch_lowers, may_fill, has_work}
-use Rattle.commit_flush_spec.proofs.Ends.{Onward, onward, rests}
+use Rattle.commit_flush_spec.proofs.DrivingEnds.{Onward, onward, rests}
 
 -- runs of the machine ----------------------------------------------------------------------------
 
@@ -200,6 +200,7 @@ drives_run blocks good budget (suc n) w ok room l o =
         (λ p. rest (happens blocks budget e w) v.ok v.room (let f = v.less in omega (arith, f, l)) p)
         (λ p. rests blocks budget n (happens blocks budget e w) (none_after budget (happens blocks budget e w) p))
 
+-- a window that is driven comes to where the machine comes to within what is left of the budget
 pub driven_runs : (blocks : List Block) (budget : ℕ) (w : Window) → AllGood blocks → WindowOk blocks budget w
     → HasGenerations budget w → w.over ≡ Went
     → ((driven blocks budget w).state, (driven blocks budget w).over)

@@ -15,6 +15,7 @@ pub true_or : (b : Bool) → (b ≡ true) ⊎ (b ≡ false)
 true_or true = inl refl
 true_or false = inr refl
 
+-- what is not none is some
 pub some_is : {A : Type 0} (t : Option A) → t ≢ None → is_some t ≡ true
 some_is None n = absurd (n refl)
 some_is (Some v) n = refl
@@ -23,6 +24,7 @@ pub is_there : {A : Type 0} (t : Option A) → is_some t ≡ true → t ≢ None
 is_there None e = absurd (cc)
 is_there (Some v) e = λ z. cc
 
+-- what is not none fails the test for none
 pub not_none : {A : Type 0} (t : Option A) → t ≢ None → is_none t ≡ false
 not_none None n = absurd (n refl)
 not_none (Some v) n = refl
@@ -100,10 +102,12 @@ all_up p q n h e = all_from q n (λ k l. h k l (each_of p n k e l))
 
 -- causes -----------------------------------------------------------------------------------------
 
+-- a cause that does not hold lets through what is done
 pub clear : (b : Bool) (c : Cause) (h : Happened) → b ≡ false → h ≡ Done → cond b (NotNow c) h ≡ Done
 clear true c h e d = absurd (cc)
 clear false c h e d = d
 
+-- the test of an answer tells that it is done
 pub done_is : (h : Happened) → is_done h ≡ true → h ≡ Done
 done_is Done e = refl
 done_is (NotNow c) e = absurd (cc)

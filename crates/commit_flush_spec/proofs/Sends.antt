@@ -58,6 +58,7 @@ put_other : (b : Bool) (xs : List Answer) (p : ℕ) (t : Token) (q : ℕ) → q 
 put_other true xs p t q n = other_at xs p q (Some t) n
 put_other false xs p t q n = refl
 
+-- a node that sends its token leaves all other places
 pub sent_other : (o : Option Node) (xs : List Answer) (p : ℕ) (t : Token) (q : ℕ) → q ≢ p → q ≢ suc p
     → at (sent o xs p t) q ≡ at xs q
 sent_other None xs p t q n m = refl
@@ -320,6 +321,7 @@ module _ (blocks : List Block) (o : Older) (f : Frame) (F R : List Bool) (Q : Li
 
 -- where the places of nodes are ------------------------------------------------------------------
 
+-- the two places of a slot have the slot as their source
 pub slot_source : (b : Block) (s : ℕ) → s < 128 → (source b (2 * s) ≡ slot_node b s)
     × (source b (suc (2 * s)) ≡ slot_node b s)
 slot_source b s l =
@@ -331,6 +333,7 @@ slot_source b s l =
       ap (λ c. cond c (slot_node b (suc (2 * s) / 2)) ((suc (2 * s) - 256) / 2)) lt' ∙ ap (slot_node b) half',
     )
 
+-- the two places of a read have the read as their source
 pub read_source : (b : Block) (r : ℕ) → (source b (256 + 2 * r) ≡ r) × (source b (suc (256 + 2 * r)) ≡ r)
 read_source b r =
     let lt : nat_lt (256 + 2 * r) 256 ≡ false = grind (arith, nat_tests) in
@@ -341,6 +344,7 @@ read_source b r =
       ap (λ c. cond c (slot_node b (suc (256 + 2 * r) / 2)) ((suc (256 + 2 * r) - 256) / 2)) lt' ∙ half',
     )
 
+-- the two places of a slot are sent where the slot has sent
 pub slot_sends : (f : Frame) (s : ℕ) → s < 128 → (has_sent f (2 * s) ≡ slot_sent f s)
     × (has_sent f (suc (2 * s)) ≡ slot_sent f s)
 slot_sends f s l =
@@ -354,6 +358,7 @@ slot_sends f s l =
           ∙ ap (slot_sent f) half',
     )
 
+-- the two places of a read are sent where the read is answered
 pub read_sends : (f : Frame) (r : ℕ) → (has_sent f (256 + 2 * r) ≡ get_or f.reads r false)
     × (has_sent f (suc (256 + 2 * r)) ≡ get_or f.reads r false)
 read_sends f r =

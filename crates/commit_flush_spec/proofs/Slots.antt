@@ -20,6 +20,7 @@ unnamed slots (m ∷ order) n g e =
     let other : m ≢ n = λ z. let bad : (m == n) ≡ true = grind (arith, nat_tests, z) in true≢false (sym bad ∙ p.0) in
     ap₂ before (other_at slots n m g other) (unnamed slots order n g p.1)
 
+-- a change of the frame of a number, among frames kept by number, is the change of the frames by age
 pub by_number : (slots : List (Option Frame)) (order : List ℕ) → AreNumbers order → length slots ≡ 8
     → ((m : ℕ) (f : Frame) → at slots m ≡ Some f → f.number ≡ m)
     → (does : Older → Frame → Frame) (o : Older) (n : ℕ) (f : Frame) → at slots n ≡ Some f

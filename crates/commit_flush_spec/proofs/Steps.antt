@@ -30,7 +30,7 @@ use Rattle.commit_flush_spec.specs.NextEvent.{next_step}
 use Rattle.commit_flush_spec.proofs.Search.{true_or, not_none, none_is, or_none, or_some, lowest_is, lowest_none}
 use Rattle.commit_flush_spec.proofs.Search.{event_none, event_is, clear, done_is}
 use Rattle.commit_flush_spec.proofs.Stuck.{numbers_are}
-use Rattle.commit_flush_spec.proofs.Quiet.{Quiet}
+use Rattle.commit_flush_spec.proofs.QuietFrames.{Quiet}
 
 slots_are : slots ≡ 128
 unfolding slots

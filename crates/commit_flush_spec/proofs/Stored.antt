@@ -30,6 +30,7 @@ use Rattle.commit_flush_spec.proofs.Tokens.{inst_in}
 
 -- fields -----------------------------------------------------------------------------------------
 
+-- each instruction of a block that fits its form fits its own form
 pub inst_fits : (b : Block) → FitsBlock b → (s : ℕ) (i : Inst) → slot_of b s ≡ Some i → FitsForm (form_of i.op) i
 inst_fits b f s i e = subst FitsSlot e (f.each_inst s None (inst_in b.insts.items s i e))
 
@@ -41,6 +42,7 @@ form_number Store i h = h.2
 form_number Branch i h = let e : i.number < 8 = h.2 in omega arith
 form_number Constant i h = let e : i.number ≡ 0 = h.2 in omega arith
 
+-- the number of an instruction in a block that fits is below 32
 pub number_small : (b : Block) → FitsBlock b → (s : ℕ) (i : Inst) → slot_of b s ≡ Some i → i.number < 32
 number_small b f s i e = form_number (form_of i.op) i (inst_fits b f s i e)
 
@@ -174,6 +176,7 @@ module _ {A : Type 0} (P : Option A → Type 0) (z : P None) where
       either (taken (names (targets n) q) f) (first ns q (λ y. f (suc y))) (took (names (targets n) q) f (h 0))
       (first_holds ns q (λ y. f (suc y)) (λ x. h (suc x)))
 
+-- what a table stores at a number fits data memory
 pub store_fits : (b : Block) (g : ℕ → Answer) (n : ℕ) → FitsStored data_size (store_of b g n)
 store_fits b g n = first_holds (FitsStored data_size) tt (nodes_of b) (416 + n) (stored_by b g) each
   where

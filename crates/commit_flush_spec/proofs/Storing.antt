@@ -58,6 +58,7 @@ store_role Load op e = absurd (cc)
 store_role Store op e = refl
 store_role Branch op e = absurd (cc)
 
+-- only the form Store passes the test for stores
 pub store_form : (t : Form) → is_store t ≡ true → t ≡ Store
 store_form General e = absurd (cc)
 store_form Immediate e = absurd (cc)

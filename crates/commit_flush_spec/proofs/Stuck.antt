@@ -44,7 +44,7 @@ use Rattle.commit_flush_spec.specs.NextEvent.{stores_came}
 use Rattle.commit_flush_spec.proofs.Search.{some_is, is_there, all_from}
 use Rattle.commit_flush_spec.proofs.Producers.{IsNode, AtRead, AtSlot, a_node, node_of_slot, named_or}
 use Rattle.commit_flush_spec.proofs.Producers.{slot_names, read_names, giver, node_gives_too}
-use Rattle.commit_flush_spec.proofs.Quiet.{Quiet}
+use Rattle.commit_flush_spec.proofs.QuietFrames.{Quiet}
 
 -- the numbers of loads and stores
 pub numbers_are : numbers ≡ 32

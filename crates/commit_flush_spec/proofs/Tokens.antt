@@ -91,32 +91,38 @@ nodes_at (i ∷ is) j zero l = let e : j ≡ j + 0 = omega arith in ap (λ n. So
 nodes_at (i ∷ is) j (suc k) l = let e : suc j + k ≡ j + suc k = omega arith in
     nodes_at is (suc j) k (omega arith) ∙ ap (λ n. Some (inst_node n (get_or is k None))) e
 
+-- the node of a slot is its instruction's
 pub slot_got : (b : Block) (s : ℕ) → s < length b.insts.items
     → slice_get (nodes_of b) (slot_node b s) ≡ Some (inst_node s (slot_of b s))
 slot_got b s l = let e : 0 + s ≡ s = omega arith in
     past_reads b.reads.items b.insts.items (slot_node b s) s refl ∙ nodes_at b.insts.items 0 s l
     ∙ ap (λ n. Some (inst_node n (slot_of b s))) e
 
+-- the node of a declared read is the read's
 pub read_got : (rs : List ReadSlot) (rest : List Node) (r : ℕ) (slot : ReadSlot) → slice_get rs r ≡ Some slot
     → slice_get (map read_node rs ++ rest) r ≡ Some (read_node slot)
 read_got [] rest r slot e = absurd (cc)
 read_got (x ∷ rs) rest zero slot e = let same : x ≡ slot = cc in ap (λ y. Some (read_node y)) same
 read_got (x ∷ rs) rest (suc r) slot e = read_got rs rest r slot e
 
+-- the node of a slot is not a read's
 pub slot_not_read : (b : Block) (s : ℕ) → is_read b (slot_node b s) ≡ false
 slot_not_read b s = grind (arith, nat_tests)
 
 pub slot_at_is : (b : Block) (s : ℕ) → slot_at b (slot_node b s) ≡ s
 slot_at_is b s = omega arith
 
+-- the instruction at the node of a slot is the one of the slot
 pub inst_at_is : (b : Block) (s : ℕ) → inst_at b (slot_node b s) ≡ slot_of b s
 inst_at_is b s = ap (λ n. get_or b.insts.items n None) (slot_at_is b s)
 
+-- a read that is found is declared
 pub read_is : (rs : List ReadSlot) (r : ℕ) (slot : ReadSlot) → slice_get rs r ≡ Some slot → r < length rs
 read_is [] r slot e = absurd (cc)
 read_is (x ∷ rs) zero slot e = omega arith
 read_is (x ∷ rs) (suc r) slot e = let k = read_is rs r slot e in omega (arith, k)
 
+-- a slot that holds an instruction is one of the block's
 pub inst_in : (is : List (Option Inst)) (s : ℕ) (i : Inst) → get_or is s None ≡ Some i → s < length is
 inst_in [] s i e = absurd (cc)
 inst_in (x ∷ is) zero i e = omega arith
@@ -240,6 +246,7 @@ node_there (Some m) c d p n = go (matched m.sense (p (256 + m.slot))) n
     go true k = gives_there m.role c d _ _ k
     go false k = k
 
+-- what a node gives of the tokens that have come, the table gives too
 pub there : (f : Frame) (x w : ℕ) (a : Responses) (g : ℕ → Answer) → Solves f.code a g → SpotsBelow f g
     → token_with f x w ≢ None → g x ≢ None
 there f x w a g s h n z =
@@ -318,6 +325,7 @@ module _ {A : Type 0} where
 
 -- good blocks ------------------------------------------------------------------------------------
 
+-- a table that solves a block which may run keeps the law of one token
 pub one_law : (b : Block) → IsRunnable b → (a : Responses) (g : ℕ → Answer) → Solves b a g
     → OneToken (nodes_of b) (wanted_of b) (λ x. shape (g x))
 one_law b good a g t =

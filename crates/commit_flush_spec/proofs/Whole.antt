@@ -261,6 +261,7 @@ went Ended h e = absurd (cc)
 went (Trap c) h e = absurd (cc)
 went StackFull h e = absurd (cc)
 
+-- an event keeps the invariant, and moves the committed state as the machine does
 pub happens_moves : (blocks : List Block) → AllGood blocks → (budget : ℕ) (e : Event) (w : Window)
     → WindowOk blocks budget w → Moves blocks budget w (happens blocks budget e w)
 happens_moves blocks good budget e w ok = go (can blocks budget e w) refl
@@ -271,6 +272,7 @@ happens_moves blocks good budget e w ok = go (can blocks budget e w) refl
 
 -- many events ------------------------------------------------------------------------------------
 
+-- events one after another keep the invariant
 pub plays_ok : (blocks : List Block) → AllGood blocks → (budget : ℕ) (es : List Event) (w : Window)
     → WindowOk blocks budget w → WindowOk blocks budget (plays blocks budget es w)
 plays_ok blocks good budget [] w ok = ok
@@ -294,6 +296,7 @@ begins : (blocks : List Block) (s : State) → (s, Went) ≡ runs blocks s 0
 unfolding runs
 begins blocks s = refl
 
+-- events from a run that goes on take as many steps of the machine as the trace grows by
 pub from_here : (blocks : List Block) → AllGood blocks → (budget : ℕ) (es : List Event) (w : Window)
     → WindowOk blocks budget w → w.over ≡ Went → TakesSteps blocks w.state (plays blocks budget es w)
 from_here blocks good budget es w ok o = plays_steps blocks good budget w.state es w ok (record {

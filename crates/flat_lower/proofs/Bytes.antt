@@ -265,6 +265,7 @@ marked_in m at size c b le lt =
     let f : nat_lt b (at + size) ≡ true = grind (arith, nat_tests) in
     ap₂ (λ x y. cond (x && y) (record { mark = c; byte = (m b).byte }) (m b)) e f
 
+-- Marking bytes leaves those outside.
 pub marked_out : (m : Memory) (at size : ℕ) (c : Mark) (b : ℕ) → ((b < at) ⊎ (at + size ≤ b))
     → marked m at size c b ≡ m b
 unfolding marked

@@ -6,6 +6,7 @@ use Rattle.flat_lower.specs.Tree.{Binary, Choice, Assign, Comma, RowElement}
 use Rattle.flat_lower.specs.Fits.{Scope, FitsExpr, FitsLeft}
 
 mutual
+  -- An expression that fits stands at a depth below 16.
   pub depth_fits : (c : Scope) (d : ℕ) (e : Expr) → FitsExpr c d e → d < 16
   depth_fits c d (Number None w) t = absurd t
   depth_fits c d (Number (Some k) w) t = t.0

@@ -46,51 +46,65 @@ unfolding stmt_of first_of
 first_is x i e = ap (fold-TypedForInit First Stmt Section first_by stmt_by section_by) (sym e)
     ∙ fold-roll-TypedForInit First Stmt Section first_by stmt_by section_by x
 
+-- What a declaration is as plain data.
 pub stmt-Declare : (p : Place) (e : Option TypedExpr)
     → stmt_of (node.Declare p e) ≡ Declare p (expr_if e)
 stmt-Declare p e = stmt_is (TypedStmt-F.Declare p e) _ (node.rolls-Declare p e)
 
+-- What an expression as a statement is as plain data.
 pub stmt-Plain : (e : Option TypedExpr) → stmt_of (node.Plain e) ≡ Plain (expr_if e)
 stmt-Plain e = stmt_is (TypedStmt-F.Plain e) _ (node.rolls-Plain e)
 
+-- What a block is as plain data.
 pub stmt-Compound : (all : List TypedStmt) → stmt_of (node.Compound all) ≡ Compound (block_of all)
 stmt-Compound all = stmt_is (TypedStmt-F.Compound all) _ (node.rolls-Compound all)
 
+-- What an if is as plain data.
 pub stmt-If : (t : TypedExpr) (y : TypedStmt) (n : Option TypedStmt)
     → stmt_of (node.If t y n) ≡ If (expr_of t) (stmt_of y) (other_of n)
 stmt-If t y None = stmt_is (TypedStmt-F.If t y None) _ (node.rolls-If t y None)
 stmt-If t y (Some n) = stmt_is (TypedStmt-F.If t y (Some n)) _ (node.rolls-If t y (Some n))
 
+-- What a `while` is as plain data.
 pub stmt-While : (t : TypedExpr) (b : TypedStmt)
     → stmt_of (node.While t b) ≡ While (expr_of t) (stmt_of b)
 stmt-While t b = stmt_is (TypedStmt-F.While t b) _ (node.rolls-While t b)
 
+-- What a `do` is as plain data.
 pub stmt-Do : (b : TypedStmt) (t : TypedExpr) → stmt_of (node.Do b t) ≡ Do (stmt_of b) (expr_of t)
 stmt-Do b t = stmt_is (TypedStmt-F.Do b t) _ (node.rolls-Do b t)
 
+-- What a `for` is as plain data.
 pub stmt-For : (i : TypedForInit) (t p : Option TypedExpr) (b : TypedStmt)
     → stmt_of (node.For i t p b) ≡ For (first_of i) (expr_if t) (expr_if p) (stmt_of b)
 stmt-For i t p b = stmt_is (TypedStmt-F.For i t p b) _ (node.rolls-For i t p b)
 
+-- What a switch is as plain data.
 pub stmt-Switch : (i : ℕ) (t : TypedExpr) (xs : List TypedSection)
     → stmt_of (node.Switch i t xs) ≡ Switch (expr_of t) (sections_in xs)
 stmt-Switch i t xs = stmt_is (TypedStmt-F.Switch i t xs) _ (node.rolls-Switch i t xs)
     ∙ ap (λ ys. Switch (expr_of t) (sections_of ys)) (all_sections xs)
 
+-- What a break is as plain data.
 pub stmt-Break : stmt_of node.Break ≡ Break
 stmt-Break = stmt_is TypedStmt-F.Break _ node.rolls-Break
 
+-- What a continue is as plain data.
 pub stmt-Continue : stmt_of node.Continue ≡ Continue
 stmt-Continue = stmt_is TypedStmt-F.Continue _ node.rolls-Continue
 
+-- What a return is as plain data.
 pub stmt-Return : (e : Option TypedExpr) → stmt_of (node.Return e) ≡ Return (expr_if e)
 stmt-Return e = stmt_is (TypedStmt-F.Return e) _ (node.rolls-Return e)
 
+-- What a `for` that begins with nothing is as plain data.
 pub first-Nothing : first_of init.Nothing ≡ Nothing
 first-Nothing = first_is TypedForInit-F.Nothing _ init.rolls-Nothing
 
+-- What a `for` that begins with an expression is as plain data.
 pub first-First : (e : TypedExpr) → first_of (init.First e) ≡ FirstOf (expr_of e)
 first-First e = first_is (TypedForInit-F.First e) _ (init.rolls-First e)
 
+-- What a `for` that begins with declarations is as plain data.
 pub first-Locals : (all : List TypedStmt) → first_of (init.Locals all) ≡ Locals (block_of all)
 first-Locals all = first_is (TypedForInit-F.Locals all) _ (init.rolls-Locals all)

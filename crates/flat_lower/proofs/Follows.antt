@@ -103,6 +103,7 @@ over_moved most run next t top low Deep out m h g = record {
   leads = leads_from run next t g.t (λ k. TooDeep out) m g.leads;
 }
 
+-- A run in a loop or switch follows where the run does that it comes to after some turns.
 pub moved_in : (x : Around) (most : ℕ) (P : Post) (run next : Run) (t top low : ℕ) (r : Result)
     → Moves run t next → t ≤ top → FollowsIn x most P next (top - t) low r
     → FollowsIn x most P run top low r
@@ -117,6 +118,7 @@ moved_in x most P run next t top low (Go v s) m h g = record {
 moved_in x most P run next t top low (Over why s) m h g =
     over_moved most run next t top low why s.output m h g
 
+-- A run follows where the run does that it comes to after some turns.
 pub moved : (most : ℕ) (P : Post) (run next : Run) (t top low : ℕ) (r : Result) → Moves run t next
     → t ≤ top → Follows most P next (top - t) low r → Follows most P run top low r
 moved = moved_in around.Loop
@@ -171,6 +173,7 @@ wanted_in x most P run top low Breaks s next f = tt
 wanted_in x most P run top low Continues s next f = tt
 wanted_in x most P run top low (Returns w) s next f = tt
 
+-- What wants a value follows where, with each value that there may be, the rest does.
 pub wanted : (most : ℕ) (P : Post) (run : Run) (top low : ℕ) (v : Signal) (s : eval.State)
     (next : ℕ → Result) → ((w : ℕ) → v ≡ Value w → Follows most P run top low (next w))
     → Follows most P run top low (want v s next)

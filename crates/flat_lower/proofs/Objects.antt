@@ -151,6 +151,7 @@ AllStored [] (r ∷ rs) m = ⊥
 AllStored (o ∷ os) [] m = ⊥
 AllStored (o ∷ os) (r ∷ rs) m = Stored o r m × AllStored os rs m
 
+-- What an index finds in a row stands below the row's length.
 pub within_row : {A : Type 0} (row : List A) (i : ℕ) (a : A) → slice_get row i ≡ Some a
     → i < length row
 within_row [] i a h = absurd (cc h)

@@ -154,6 +154,7 @@ unseen S y s f g h hm hi ho r = record {
   room = r.room;
 }
 
+-- Where only variables from the 64th on are set, a flat state stands for the same state of the evaluation.
 pub sets_unseen : {P : TypedProgram} (S : Scene) → IsScene P S
     → (s : eval.State) (f g : State) (x spare w : ℕ) → 64 ≤ x → 64 ≤ spare → Sets x spare w f g
     → Related S s f → Related S s g
@@ -242,6 +243,7 @@ row_of s n i c h = go (slice_get s.arrays n) refl h
     go None e h = absurd (cc h)
     go (Some row) e h = record { row = row; found = e; is = h }
 
+-- A cell that holds a word is there, and set to it.
 pub held_is : (c : Option (Option ℕ)) (w : ℕ) → held c ≡ Some w → c ≡ Some (Some w)
 held_is None w h = absurd (cc h)
 held_is (Some c) w h = ap Some h

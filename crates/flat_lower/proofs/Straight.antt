@@ -48,9 +48,11 @@ use Rattle.flat_lower.proofs.Patterns.{plus_gives}
 
 -- VARIABLES
 
+-- A variable has the word that is put there.
 pub put_at : (vars : ℕ → Option ℕ) (to : ℕ) (w : Option ℕ) → var_put vars to w to ≡ w
 put_at vars to w = let e : nat_eq to to ≡ true = grind (arith, nat_tests) in ap (λ b. cond b w (vars to)) e
 
+-- Another variable than that which is put keeps what it has.
 pub put_other : (vars : ℕ → Option ℕ) (to : ℕ) (w : Option ℕ) (v : ℕ) → v ≢ to
     → var_put vars to w v ≡ vars v
 put_other vars to w v h = let e : nat_eq v to ≡ false = grind (arith, nat_tests) in ap (λ b. cond b w (vars v)) e
@@ -118,6 +120,7 @@ module _ (fs : List Function) (base : ℕ) (e : Env) where
     pub sets : Sets x spare w f to
     pub leads : Leads (code_run checked fs base e code f) t (settle to)
 
+  -- Where a variable has the word already, code that does nothing puts it.
   pub puts_none : (f : State) (most x spare w : ℕ) → f.vars x ≡ Some w → Puts Nop f most x spare w
   puts_none f most x spare w h = record {
     t = 0;
@@ -127,6 +130,7 @@ module _ (fs : List Function) (base : ℕ) (e : Env) where
     leads = nop_leads checked fs base e f;
   }
 
+  -- A statement of one operation puts the operation's result into its variable.
   pub puts_let : (o : Op) (a b : Arg) (f : State) (most x spare u v w : ℕ) → 1 ≤ most
       → read checked f a ≡ Some u → read checked f b ≡ Some v → apply checked o u v ≡ Some w
       → Puts (only (Let x o a b)) f most x spare w
@@ -142,6 +146,7 @@ module _ (fs : List Function) (base : ℕ) (e : Env) where
   pub var_read : (f : State) (v w : ℕ) → f.vars v ≡ Some w → read checked f (Var v) ≡ Some w
   var_read f v w h = ap (λ o. read checked (record f { vars = λ u. o }) (Var v)) h
 
+  -- Code that puts a value, and code behind it that puts another, put the other together.
   pub puts_both : (a b : Code) (f : State) (m n x spare v w : ℕ) (p : Puts a f m x spare v)
       → Puts b p.to n x spare w → Puts (Then a b) f (m + n) x spare w
   puts_both a b f m n x spare v w p q =
@@ -168,10 +173,12 @@ module _ (fs : List Function) (base : ℕ) (e : Env) where
         leads = both_lead checked fs base e a b f p.to p.t q.t (settle q.to) p.leads q.leads;
       }
 
+  -- Code that puts a word puts any word that is equal.
   pub puts_as : (a : Code) (f : State) (m x spare v w : ℕ) → v ≡ w → Puts a f m x spare v
       → Puts a f m x spare w
   puts_as a f m x spare v w h p = subst (λ w. Puts a f m x spare w) h p
 
+  -- Code that puts a word in so many turns at most puts it in more at most.
   pub puts_within : (a : Code) (f : State) (m n x spare w : ℕ) → m ≤ n → Puts a f m x spare w
       → Puts a f n x spare w
   puts_within a f m n x spare w h p =
@@ -468,6 +475,7 @@ module _ (fs : List Function) (base : ℕ) (e : Env) where
   IsOperand Not k = Unit {0}
   IsOperand o k = IsArithmetic k
 
+  -- The code of an operation on one operand leaves its result, of its kind, in at most three turns.
   pub unary_works : (o : UnaryOp) (k : Kind) (f : State) (x a w : ℕ) → IsOperand o k
       → f.vars x ≡ Some a → IsWord k a → operate_one o k a ≡ Some w
       → Works (unary_code o k x) f 3 x 80 w (unary_result o k)
@@ -503,6 +511,7 @@ module _ (fs : List Function) (base : ℕ) (e : Env) where
 
   -- CONVERSIONS
 
+  -- The code of a conversion in place leaves the converted word in one turn.
   pub here_works : (k : Kind) (f : State) (x a : ℕ) → f.vars x ≡ Some a → a < 2 ^ 64
       → Works (converted_here k x) f 1 x 80 (converted k a) k
   unfolding converted apply

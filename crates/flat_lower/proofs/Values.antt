@@ -168,6 +168,7 @@ module _ (P : TypedProgram) (most : ℕ) where
           go v s1 g t holds (meaning-falls P (Of e) s v s1 eq) u l,
         ))
 
+    -- Code behind an operand's code follows where it does from each state in which the operand has its value.
     pub operand : (Q : Post) (e : TypedExpr) (d : ℕ) (b : Code) (s : eval.State) (f : State)
         (top low : ℕ) (next : Signal → eval.State → Result) → FollowsOf e s
         → FitsExpr (scope P S) d (expr_of e) → Related S s f → 8 * s.stock - 3 ≤ top
@@ -190,6 +191,7 @@ module _ (P : TypedProgram) (most : ℕ) where
         (code_waits checked functions base S.env a f s.output r.output) hl
         (λ n e. go n e (spent S s f n r))
 
+    -- What spends a step follows where the rest does with a step less.
     pub spending : (Q : Post) (a : Code) (s : eval.State) (f : State) (top low : ℕ)
         (next : eval.State → Result) → Related S s f → low ≤ s.stock + most * f.rounds
         → ((n : ℕ) → s.stock ≡ suc n → Related S (record s { stock = n }) f

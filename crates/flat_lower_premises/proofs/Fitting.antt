@@ -74,12 +74,14 @@ then_fits fs n bytes i Nop b p q = q
 then_fits fs n bytes i (s ▹ a) b p q = (p.0, then_fits fs n bytes i a b p.1 q)
 
 module _ {fs : List Function} {n bytes : ℕ} {i : Bool} where
+  -- Code that does nothing fits.
   pub nothing_fits : Fitting fs n bytes i Nop
   nothing_fits = record { fits = tt }
 
   pub single_fits : (s : Step) → FitsStep fs n bytes i s → Fitting fs n bytes i (only s)
   single_fits s p = record { fits = (p, tt) }
 
+  -- A statement of one operation fits whose variables and arguments do.
   pub let_fits : (to : ℕ) (o : Op) (a b : Arg) → operates o ≡ true → FitsVar n to → FitsArg n a
       → FitsArg n b → Fitting fs n bytes i (only (Let to o a b))
   let_fits to o a b e p q r = record { fits = ((e, p, q, r), tt) }

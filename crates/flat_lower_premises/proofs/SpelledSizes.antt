@@ -239,5 +239,6 @@ units_few (u.last_item x) = units_few x
 units_few (u.next_item {xs = xs} {ys = ys} x y) =
     let h = units_few x in let i = units_few y in let n = units_append xs ys in omega arith
 
+-- A unit is no larger than its tokens allow.
 pub units_small : UnitsAreSmall
 units_small ts xs h = let n = units_few h in omega arith

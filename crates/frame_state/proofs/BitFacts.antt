@@ -34,9 +34,11 @@ one_not (suc (suc x)) h = absurd (omega arith)
 pub has_or : (a b i : ℕ) → has_bit (bit_or a b) i ≡ (has_bit a i || has_bit b i)
 has_or a b i = ap (λ z. z == 1) (bit_at_or a b i) ∙ one_max (bit_at a i) (bit_at b i) (bit_at-lt a i) (bit_at-lt b i)
 
+-- a bit of two words' common bits is set in both
 pub has_and : (a b i : ℕ) → has_bit (bit_and a b) i ≡ (has_bit a i && has_bit b i)
 has_and a b i = ap (λ z. z == 1) (bit_at_and a b i)
     ∙ one_min (bit_at a i) (bit_at b i) (bit_at-lt a i) (bit_at-lt b i)
 
+-- a bit of a word's complement is set where the word's is not
 pub has_not : (b i : ℕ) → b < 2 ^ 64 → i < 64 → has_bit (2 ^ 64 - 1 - b) i ≡ not (has_bit b i)
 has_not b i small near = ap (λ z. z == 1) (bit_at_not w64 b i small near) ∙ one_not (bit_at b i) (bit_at-lt b i)

@@ -5,6 +5,7 @@ use Rattle.std.proofs.lemmas.Bool.{cases_lt}
 use Rattle.commit_flush_spec.specs.Frames.{numbers}
 use Rattle.commit_flush_spec.specs.Ends.{all_below}
 
+-- what holds of all numbers below one, and of it, holds of all below the next
 pub all_more : (p : ℕ → Bool) (n m : ℕ) → m ≡ n + 1 → p n ≡ true → all_below p n ≡ true → all_below p m ≡ true
 all_more p n m e h k = let next : m ≡ suc n = omega (arith, e) in ap (all_below p) next ∙ ap₂ (λ a b. a && b) h k
 
@@ -12,6 +13,7 @@ and_false : (b : Bool) → (b && false) ≡ false
 and_false true = refl
 and_false false = refl
 
+-- what fails of one number does not hold of all
 pub not_all : (p : ℕ → Bool) (n w : ℕ) → w < n → p w ≡ false → all_below p n ≡ false
 not_all p zero w l e = absurd (omega arith)
 not_all p (suc n) w l e = elim (cases_lt w n) [

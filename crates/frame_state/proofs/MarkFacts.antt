@@ -40,6 +40,7 @@ pub taken_set : (xs : List (Option Took)) (q : ℕ) (t : Took)
     → all_taken (set xs q (Some t)) ≡ set (all_taken xs) q (Some (taken_of t))
 taken_set xs q t = map_set taken_if xs q (Some t)
 
+-- what a load took is, in the row of what was taken, at the same number
 pub taken_got : (xs : List (Option Took)) (q : ℕ) → taken_if (get_or xs q None) ≡ get_or (all_taken xs) q None
 taken_got xs q = sym (get_map taken_if xs q None)
 

@@ -101,6 +101,7 @@ module _ (b : Block) (s : ℕ) (i : Inst) (is : slot_of b s ≡ Some i) where
   fault_is : node_fault b (slot_node b s) ≡ own_fault (Some i)
   fault_is = ap (fault_by (inst_at b (slot_node b s))) (slot_not_read b s) ∙ ap fault_in (inst_at_is b s ∙ is)
 
+  -- what a running frame gives at a slot's node is what its instruction gives
   pub token_is : (c : Bool) (h : Held) (w : ℕ) → token_with (as_frame c b h) (slot_node b s) w ≡ slot_token h i s w
   token_is c h w = ap₂ (λ n a. node_gives n a (at h.spots)) got (computes_is w)
 
@@ -142,6 +143,7 @@ fires_from b s g = by_slot (slot_of b s) refl
     by_slot None e = refl
     by_slot (Some i) e = by_form (form_of i.op) i e
 
+-- to fire a slot of what is held is to fire it in the frame
 pub fires : (b : Block) (s : ℕ) (o : Older) (h : Held)
     → running b (fired_slot (slot_of b s) s (record h { fired = set h.fired s true })) ≡ fire s o (running b h)
 fires b s o h = fires_from b s (record h { fired = set h.fired s true })

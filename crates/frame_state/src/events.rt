@@ -39,18 +39,6 @@ impl Body {
         }
     }
 
-    /// The instruction that a slot holds and that has not fired.
-    #[inline]
-    pub fn waiting_inst(&self, block: &Block, slot: u8) -> Option<Inst>
-        ensures value { result ≡ cond (slice_index_or self.now.fired slot false) None (slot_of block.now slot) }
-    {
-        if self.has_fired(slot) {
-            None
-        } else {
-            slot_of(block, slot as usize)
-        }
-    }
-
     /// The instruction that a slot holds and that has not fired, where it stands in the block.
     #[inline]
     pub fn waiting_at<'a>(&self, block: &'a Block, slot: u8) -> Option<&'a Inst>
@@ -160,18 +148,6 @@ impl Body {
     {
         let inst = slot_of(block, slot as usize);
         self.fire_slot(inst, slot);
-    }
-
-    /// Fires a slot that holds this instruction, which gives this token: it goes on its way, or a load, a store or a
-    /// branch waits.
-    pub(crate) fn fire_with(&mut self, block: &Block, inst: Inst, slot: u8, token: Token)
-        requires slot { slot_of block.now slot ≡ Some inst }
-        requires token { slot_token self.old inst slot 0 ≡ Some token }
-        ensures value { (o : Older) → running block.now self.new ≡ fire slot o (running block.now self.old) }
-        ensures stays { Stays self.old self.new }
-    {
-        let _ = block;
-        self.fire_given(&inst, slot, token);
     }
 
     /// Fires the instruction that a slot holds where it gives a token, and tells whether it does.

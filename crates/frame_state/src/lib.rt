@@ -1,16 +1,14 @@
-//! One frame in flight: what it holds, and the events that move it.
+//! One of the eight frames of the window, whatever it is doing: what an event is answered there, and what it does to
+//! it.
 //!
-//! A frame executes a block before it is known to be wanted (docs/WINDOW.md). [`Empty`] holds no block,
-//! [`Running`] gets its tokens, and [`Sealed`] has all its outputs; each call hands one on as the next.
-//! Contracts see a frame as what it holds beside its block, and with the block as the frame of the window's
-//! definitions.
+//! A frame executes a block before it is known to be wanted (docs/WINDOW.md). [`Empty`] holds no block, [`Running`]
+//! gets its tokens, and [`Sealed`] has all its outputs; each call hands one on as the next. Contracts see it as what
+//! it holds beside its block (specs/Held.antt), and with the block as the frame of the window's definitions.
 //!
-//! One of the eight frames of the window, whatever it is doing: what an event is answered there,
-//! and what it does to it.
-//!
-//! A frame is a [`Phase`], which contracts see with the blocks of its image as the frame in flight that it is, or as
-//! none (`frame_in`). Each call is one equation with the window's definitions (docs/WINDOW.md,
-//! crates/commit_flush_spec/specs). What a frame sees of the older ones is handed in.
+//! A [`Phase`] is one of the three, which contracts see with the blocks of its image as the frame in flight that it
+//! is, or as none (`frame_in` of specs/Phases.antt). Each call is one equation with the definitions of
+//! crates/commit_flush_spec/specs; what a frame sees of the older ones is handed in. specs/Told.antt has what it
+//! tells.
 #![tactic(auto)]
 
 mod answers;
@@ -25,6 +23,7 @@ mod giving;
 mod lacks;
 mod law;
 mod marks;
+mod observers;
 mod outcome;
 mod outputs;
 mod parts;
@@ -37,7 +36,6 @@ mod spots;
 mod states;
 mod target;
 mod telling;
-mod told;
 mod trying;
 mod wants;
 
@@ -48,13 +46,13 @@ pub use event::{Cause, Event, Happened};
 pub use exits::departure;
 pub use flights::{block_at, flying};
 pub use law::empty_frames_may_be_filled;
+pub use observers::{
+    block_in, cause_in, exit_come, finds_room, is_sealed_in, is_serial, is_serial_in, leads_to,
+    outputs_in, read_register, register_to, token_in, waiting_load, waiting_store,
+};
 pub use outputs::Outputs;
 pub use parts::{Departure, Lack, Took};
 pub use phase::{Phase, empty_in, fill_in, seal_in};
 pub use shape::Shape;
 pub use states::{Empty, Running, Sealed};
-pub use told::{
-    block_in, cause_in, exit_come, finds_room, is_sealed_in, is_serial, is_serial_in, leads_to,
-    outputs_in, read_register, register_to, token_in, waiting_load, waiting_store,
-};
 pub use trying::{Arrival, try_deliver, try_fire};

@@ -119,16 +119,6 @@ impl Running {
         self.body.fire(block, slot);
     }
 
-    /// Fires a slot that holds this instruction, which gives this token.
-    pub fn fire_with(&mut self, block: &Block, inst: Inst, slot: u8, token: Token)
-        requires slot { slot_of block.now slot ≡ Some inst }
-        requires token { slot_token self.old inst slot 0 ≡ Some token }
-        ensures value { (o : Older) → running block.now self.new ≡ fire slot o (running block.now self.old) }
-        ensures stays { Stays self.old self.new }
-    {
-        self.body.fire_with(block, inst, slot, token);
-    }
-
     /// Fires the instruction that a slot holds where it gives a token, and tells whether it does.
     #[inline]
     pub fn fire_if(&mut self, block: &Block, inst: &Inst, slot: u8) -> bool

@@ -14,9 +14,9 @@ ghost use Rattle.frame_state.specs.Tried.{IsFreeIn, Leaves, arrived, tried};
 use crate::answers::is_target;
 use crate::event::{Cause, Happened};
 use crate::flights::block_at;
+use crate::observers::write_at;
 use crate::phase::Phase;
 use crate::states::Running;
-use crate::told::write_at;
 use block_check::CheckedImage;
 use trips_isa::{Block, Token};
 

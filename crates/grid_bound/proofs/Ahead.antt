@@ -21,6 +21,7 @@ use Rattle.grid_bound.specs.Behind.{Apart}
 pub swapped : (m n : ℕ) → (m == n) ≡ false → (n == m) ≡ false
 swapped m n e = grind (arith, nat_tests)
 
+-- a number equals itself, as the test tells
 pub same_number : (n : ℕ) → (n == n) ≡ true
 same_number n = grind arith
 

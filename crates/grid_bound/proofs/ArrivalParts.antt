@@ -1,7 +1,7 @@
 -- Part (6) of a cycle, behind the tick of the mesh: what has come is delivered, and the rule is kept.
-use Rattle.std.proofs.Common.{◌≡◌, ◌≢◌, ℕ, zero, suc, ◌+◌, ◌*◌, ◌/◌, ◌%◌, ◌<◌, ◌==◌, ◌&&◌, ◌||◌}
+use Rattle.std.proofs.Common.{◌≡◌, ◌≢◌, ℕ, ◌+◌, ◌*◌, ◌/◌, ◌%◌, ◌<◌, ◌==◌, ◌&&◌, ◌||◌}
 use Rattle.std.proofs.Common.{not, Bool, true, false}
-use Rattle.std.proofs.Common.{cond, nat_lt, inl, inr, List, [], ◌∷◌, ◌++◌, Option, Some, None, is_some, is_none, set}
+use Rattle.std.proofs.Common.{cond, nat_lt, inl, inr, List, ◌∷◌, ◌++◌, Option, Some, None, is_some, is_none, set}
 use Rattle.std.proofs.Common.{get_or, length, refl, sym, ap, ap₂, ◌∙◌, subst, true≢false, arith}
 use Rattle.std.proofs.lemmas.Bool.Decides.{nat_tests}
 use Rattle.trips_isa.specs.declared.block.Token.{Token}
@@ -11,10 +11,8 @@ use Rattle.trips_isa.specs.declared.form.Form.{Form}
 use Rattle.trips_isa.specs.declared.form.Form.TheVariants.{General, Immediate, Load, Store, Branch, Constant}
 use Rattle.trips_isa.specs.Forms.{form_of, is_load}
 use Rattle.block_cases.specs.Orders.{slot_of}
-use Rattle.operand_net.specs.declared.parcel.Parcel.{Parcel}
-use Rattle.operand_net.specs.declared.parcel.Stand.{Stand}
-use Rattle.operand_net.specs.declared.parcel.Stand.TheVariants.{Nowhere, Away, Held}
-use Rattle.operand_net.specs.Places.{Places, come, put}
+use Rattle.operand_net.specs.declared.parcel.Stand.TheVariants.{Nowhere}
+use Rattle.operand_net.specs.Places.{Places, put}
 use Rattle.operand_net.specs.IsStands.{is_here}
 use Rattle.commit_flush_spec.specs.Marks.{mark_delivered}
 use Rattle.commit_flush_spec.specs.Frames.{Frame, Exit, at, target, is_target, token_places}
@@ -23,7 +21,7 @@ use Rattle.commit_flush_spec.specs.Causes.{NoFrame, NoToken, NoExit, Done, NotNo
 use Rattle.commit_flush_spec.specs.Dataflow.{can_deliver, deliver, delivered}
 use Rattle.commit_flush_spec.specs.Ends.{can_exit, exit, exit_by, branch_of, branch_mark, with_exit}
 use Rattle.commit_flush_spec.specs.Ends as ends
-use Rattle.commit_flush_spec.specs.Window.{Window, Deliver, can, can_now, happens, in_flight}
+use Rattle.commit_flush_spec.specs.Window.{Window, Deliver, can, happens}
 use Rattle.commit_flush_spec.specs.Window as window
 use Rattle.commit_flush_spec.specs.Invariant.{AllGood, FrameOk}
 use Rattle.commit_flush_spec.proofs.Committing.{both_true}
@@ -32,13 +30,14 @@ use Rattle.commit_flush_spec.proofs.Numbers.{nums}
 use Rattle.commit_flush_spec.proofs.Search.{clear, not_none}
 use Rattle.grid_cycle_spec.specs.Grid.{Grid}
 use Rattle.grid_cycle_spec.specs.Acting.{act}
-use Rattle.grid_cycle_spec.specs.Choosing.{each, places, with_frame}
+use Rattle.grid_cycle_spec.specs.Choosing.{places}
 use Rattle.grid_cycle_spec.specs.Arrivals.{asks, delivers, is_waiting, slot_arrives, inst_arrives}
-use Rattle.grid_cycle_spec.specs.Arrivals.{place_arrives, arrives_if, arrival, arrivals}
+use Rattle.grid_cycle_spec.specs.Arrivals.{place_arrives}
 use Rattle.grid_bound.specs.UnderWay.{form_travels, Tied, to_come}
-use Rattle.grid_bound.specs.Rule.{EachFrame, FrameRule, HeldFrom, runs_in}
-use Rattle.grid_bound.proofs.Each.{FrameAt, answered_at, apart, changed_at, each_front, each_join, each_rest, find_at}
-use Rattle.grid_bound.proofs.Each.{own_at, runs_are, same, with_at}
+use Rattle.grid_bound.specs.Rule.{EachFrame, FrameRule, HeldFrom}
+use Rattle.grid_bound.proofs.EachFrame.{FrameAt, answered_at, apart, changed_at}
+use Rattle.grid_bound.proofs.EachFrame.{each_front, each_join, each_rest}
+use Rattle.grid_bound.proofs.EachFrame.{own_at, same}
 use Rattle.grid_bound.proofs.FrameRules.{exit_rule}
 use Rattle.grid_bound.proofs.Travels.{IsPlace, and_none, halves, is_there, none_is, slot_travels, waiting_none}
 use Rattle.grid_bound.proofs.Travels.{waits_for}
@@ -48,9 +47,9 @@ use Rattle.grid_bound.proofs.TiedFrames.{Comes, asks_other, asks_standing, comes
 use Rattle.grid_bound.proofs.TiedFrames.{served_tied}
 use Rattle.grid_bound.proofs.TiedFrames.{token_comes}
 use Rattle.grid_bound.proofs.Flushing.{act_going, append_more, kept_rest, nums_step}
-use Rattle.grid_bound.proofs.Going.{Going, Moved, alone_is, awake, can_is}
-use Rattle.grid_bound.proofs.Going.{each_going, frame_ok, frame_rule, frame_sure}
-use Rattle.grid_bound.proofs.Going.{frame_tied, happens_is, moved, moved_to, sees, stayed, stepped}
+use Rattle.grid_bound.proofs.GoingGrids.{Going, Moved, alone_is, awake, can_is}
+use Rattle.grid_bound.proofs.GoingGrids.{frame_ok, frame_rule, frame_sure}
+use Rattle.grid_bound.proofs.GoingGrids.{frame_tied, happens_is, moved, moved_to, sees, stayed, stepped}
 use Rattle.grid_bound.proofs.UnitParts.{flag_below}
 
 -- requests at data tiles, with one more
@@ -356,61 +355,3 @@ module _ {W : Type 0} (blocks : List Block) (good : AllGood blocks) (budget : �
       by true e = slot_going e (comes (g.parcels m) (g.asked m) (g.works m) f tied p inside here e)
       by false e = token_going (token_comes (g.parcels m) (g.asked m) (g.works m) f tied p inside here e)
           (λ i z w. absurd (true≢false (sym z ∙ e)))
-
--- places -----------------------------------------------------------------------------------------
-
-pub places_are : places ≡ 320
-unfolding places
-places_are = refl
-
-come_here : (n p : ℕ) (s : Stand) (c : Parcel) → come n p s ≡ Some c
-    → (is_here s ≡ true) × ((c.frame ≡ n) × (c.place ≡ p))
-come_here n p Nowhere c e = absurd (cc)
-come_here n p (Away t h) c e = absurd (cc)
-come_here n p (Held t (suc h)) c e = absurd (cc)
-come_here n p (Held t zero) c e = (refl, (sym (ap frame_in e), sym (ap place_in e)))
-  where
-    frame_in : Option Parcel → ℕ
-    frame_in None = n
-    frame_in (Some d) = d.frame
-
-    place_in : Option Parcel → ℕ
-    place_in None = p
-    place_in (Some d) = d.place
-
-module _ {W : Type 0} (blocks : List Block) (good : AllGood blocks) (budget : ℕ) where
-  come_going : (n p : ℕ) → p < 320 → (q : Option Parcel) (g : Grid W) → come n p (g.parcels n p) ≡ q
-      → Going blocks budget 0 g → Going blocks budget 0 (arrives_if blocks budget n p q g)
-  come_going n p l None g e go = go
-  come_going n p l (Some c) g e go =
-      let k = come_here n p (g.parcels n p) c e in
-      let h : Grid W = record g { parcels = put g.parcels n p Nowhere } in
-      subst (λ x. Going blocks budget 0 (with_frame n (place_arrives blocks budget p) g.window.frames
-      (record g { parcels = x }))) (sym (ap₂ (λ x y. put g.parcels x y Nowhere) (k.1).0 (k.1).1))
-      (by k.0 h refl)
-    where
-      runs : is_here (g.parcels n p) ≡ true → runs_in n g.window.frames ≡ true
-      runs here = side (runs_in n g.window.frames) refl
-        where
-          side : (b : Bool) → runs_in n g.window.frames ≡ b → runs_in n g.window.frames ≡ true
-          side true i = i
-          side false i = absurd (true≢false (sym here ∙ ap is_here ((go.ties.nothing n i).none_travels p l)))
-
-      by : is_here (g.parcels n p) ≡ true → (h : Grid W) → h ≡ record g { parcels = put g.parcels n p Nowhere }
-          → Going blocks budget 0 (with_frame n (place_arrives blocks budget p) g.window.frames
-          (record g { parcels = put g.parcels n p Nowhere }))
-      by here h same' =
-          let a = find_at n g.window.frames go.ok.numbers (runs_are n g.window.frames (runs here)) in
-          subst (Going blocks budget 0) (sym (with_at n (place_arrives blocks budget p) g.window.frames a
-          (record g { parcels = put g.parcels n p Nowhere })))
-          (subst (λ x. Going blocks budget 0 (place_arrives blocks budget p a.frame
-          (record g { parcels = put g.parcels x p Nowhere }))) a.number
-          (arrives_going blocks good budget g go n p l a (ap (λ x. is_here (g.parcels x p)) a.number ∙ here)))
-
-  pub arrivals_going : (ns : List ℕ) (g : Grid W) → Going blocks budget 0 g
-      → Going blocks budget 0 (arrivals blocks budget ns g)
-  arrivals_going [] g go = go
-  arrivals_going (n ∷ ns) g go = arrivals_going ns (each (arrival blocks budget n) places g)
-      (subst (λ k. Going blocks budget 0 (each (arrival blocks budget n) k g)) (sym places_are)
-      (each_going blocks budget 0 (arrival blocks budget n) 320
-      (λ p l x r. come_going n p l (come n p (x.parcels n p)) x refl r) 320 (omega arith) g go))

@@ -25,7 +25,7 @@ use Rattle.grid_bound.proofs.Ties.{ties_of}
 use Rattle.grid_bound.proofs.BankParts.{banks_going}
 use Rattle.grid_bound.proofs.DataParts.{answers_going, data_turns_going}
 use Rattle.grid_bound.proofs.UnitParts.{unit_turns_going, works_going}
-use Rattle.grid_bound.proofs.Going.{Going}
+use Rattle.grid_bound.proofs.GoingGrids.{Going}
 use Rattle.grid_bound.proofs.Oldest.{data_rule, move_rule, quiet_reads, unit_rule}
 
 -- the fetch --------------------------------------------------------------------------------------

@@ -18,16 +18,18 @@ use Rattle.grid_cycle_spec.specs.Grid.{Grid}
 use Rattle.grid_cycle_spec.specs.Choosing.{eldest, reads, with_frame}
 use Rattle.grid_cycle_spec.specs.Sending.{enter_both}
 use Rattle.grid_cycle_spec.specs.Banks.{answers_read, read_chosen, bank_turn, reads_answered}
-use Rattle.grid_bound.proofs.Each.{FrameAt, Chosen, answered_at, eldest_is, moved_at, own_at, with_at}
-use Rattle.grid_bound.proofs.FrameRules.{Reads, Sent, read_sends, went}
+use Rattle.grid_bound.proofs.EachFrame.{FrameAt, Chosen, answered_at, eldest_is, moved_at, own_at, with_at}
+use Rattle.grid_bound.proofs.FrameRules.{Reads, Sent, read_sends}
+use Rattle.grid_bound.proofs.EventRules.{went}
 use Rattle.grid_bound.proofs.FrameRules as frame_rules
 use Rattle.grid_bound.proofs.Travels.{IsPlace, come_by, read_travels}
 use Rattle.grid_bound.specs.UnderWay.{Tied}
 use Rattle.grid_bound.proofs.Entered.{Entered, both_enter, enters_at}
 use Rattle.grid_bound.proofs.TiedFrames.{sent_tied}
-use Rattle.grid_bound.proofs.Going.{Going, Moved, alone_is, done_is, each_going, frame_ok, frame_sure, frame_tied}
-use Rattle.grid_bound.proofs.Going.{moved}
-use Rattle.grid_bound.proofs.Going.{moved_to, sees, stepped}
+use Rattle.grid_bound.proofs.GoingGrids.{Going, Moved, alone_is, done_is}
+use Rattle.grid_bound.proofs.GoingGrids.{each_going, frame_ok, frame_sure, frame_tied}
+use Rattle.grid_bound.proofs.GoingGrids.{moved}
+use Rattle.grid_bound.proofs.GoingGrids.{moved_to, sees, stepped}
 
 -- a bank answers a read of a frame
 module _ {W : Type 0} (blocks : List Block) (good : AllGood blocks) (budget least : ℕ) (g : Grid W)

@@ -60,12 +60,14 @@ least_none test (suc n) k e i a b = go (test k) refl e (λ h. least_none test n 
         each (inl z) = subst (λ i. test i ≡ false) z t
         each (inr z) = r h z (omega (arith, b))
 
+-- a least number that was found is the least that passes
 pub is_least : (test : ℕ → Bool) (n j : ℕ) → least test n 0 ≡ Some j → IsLeast test n j
 is_least test n j e =
     let p = least_some test n 0 j e in
     let l : j < 0 + n = p.1 in
     record { below = omega (arith, l); passes = p.2; none = λ i m. p.3 i (omega arith) m }
 
+-- where no least number was found none passes
 pub none_least : (test : ℕ → Bool) (n : ℕ) → least test n 0 ≡ None → (i : ℕ) → i < n → test i ≡ false
 none_least test n e i l = least_none test n 0 e i (omega arith) (omega (arith, l))
 

@@ -24,8 +24,8 @@ use Rattle.grid_bound.specs.Lanes.{lane_in}
 use Rattle.grid_bound.specs.Runs.{Stands, AfterStanding}
 use Rattle.grid_bound.proofs.Bounded as bounded
 use Rattle.grid_bound.specs.GoesOn.{GoesOn}
-use Rattle.grid_bound.proofs.Before.{steps}
-use Rattle.grid_bound.proofs.Standing.{reached_state, all_stand, stands}
+use Rattle.grid_bound.proofs.CycleGrows.{steps}
+use Rattle.grid_bound.proofs.GridsOfRuns.{reached_state, all_stand, stands}
 
 size_most : (b : Block) → cost b ≤ greatest → size b ≤ most_nodes
 unfolding cost greatest
@@ -113,6 +113,7 @@ module _ {W : Type 0} (blocks : List Block) (good : AllGood blocks) (budget : �
         ≡ total sizes (length m.window.state.trace) + cost_of blocks s.trace = priced n m a in
         omega (arith, b, c, d, e)
 
+    -- where a cycle commits, all cycles with that one are within the cost of the trace
     pub commit : (h : Grid W) → Eager next follows blocks budget m h
         → length h.window.state.trace ≡ suc (length m.window.state.trace)
         → suc n + cost_of blocks s.trace ≤ cost_of blocks h.window.state.trace
@@ -141,5 +142,6 @@ module _ {W : Type 0} (blocks : List Block) (good : AllGood blocks) (budget : �
         priced (suc n) h (record { between = m; before = a; after = cycle }) in
         omega (arith, b, more, p, q)
 
+    -- a run that goes on has made fewer cycles than the greatest cost for each block of its budget
     pub spends : n < greatest_cost * budget
     spends = bounded.spends blocks good budget next follows bound sizes g n m run last small

@@ -7,6 +7,7 @@ use Rattle.grid_bound.specs.Course.{sum}
 use Rattle.grid_bound.specs.Lane.{any}
 use Rattle.grid_bound.specs.Sending.{found, pick}
 
+-- where any number passes there is one
 pub any_true : (n : ℕ) (p : ℕ → Bool) → any n p ≡ true → (x : ℕ) × (x < n) × (p x ≡ true)
 any_true zero p e = absurd (cc)
 any_true (suc n) p e = go (any_true n p) (or_cases (p n) (any n p) e)
@@ -17,6 +18,7 @@ any_true (suc n) p e = go (any_true n p) (or_cases (p n) (any n p) e)
     go ih (inr h) = let r : (x : ℕ) × (x < n) × (p x ≡ true) = ih h in let l : r.0 < n = r.1 in
         (r.0, omega (arith, l), r.2)
 
+-- a number that passes is one of any
 pub any_from : (n : ℕ) (p : ℕ → Bool) (x : ℕ) → x < n → p x ≡ true → any n p ≡ true
 any_from zero p x l e = absurd (omega arith)
 any_from (suc n) p x l e = go (λ m. any_from n p x m e) (cases_eq x n)

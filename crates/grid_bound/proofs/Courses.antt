@@ -1,32 +1,24 @@
 -- The course of a good block is good: whatever its reads and loads are answered, each spot that an instruction which
 -- gives a token takes is fed by a node that gives one, and so is each output.
-use Rattle.std.proofs.Common.{◌≡◌, ◌≢◌, ℕ, zero, suc, ◌+◌, ◌-◌, ◌<◌, ◌≤◌, ◌⊎◌, inl, inr, Bool, true, false, cond}
+use Rattle.std.proofs.Common.{◌≡◌, ◌≢◌, ℕ, ◌+◌, ◌-◌, ◌<◌, ◌≤◌, ◌⊎◌, inl, inr, true, cond}
 use Rattle.std.proofs.Common.{nat_lt, List, [], ◌∷◌, ◌++◌, length, Option, Some, None, is_some, slice_get}
 use Rattle.std.proofs.Common.{refl, sym, ap, ◌∙◌, subst, arith}
-use Rattle.std.specs.Prelude.{All}
-use Rattle.std.proofs.lemmas.List.Elements.{All-head, All-tail}
 use Rattle.std.proofs.lemmas.Bool.{cond_both, cond-true, cond-false, lt-ltb, le-ltb, ltb-true, cases_lt}
-use Rattle.std.proofs.lemmas.Bool.Decides.{nat_tests}
-use Rattle.trips_isa.specs.declared.block.Token.TheVariants.{Null, Word}
 use Rattle.trips_isa.specs.declared.block.Inst.{Inst}
 use Rattle.trips_isa.specs.declared.block.ReadSlot.{ReadSlot}
-use Rattle.trips_isa.specs.declared.block.Sense.{Sense}
-use Rattle.trips_isa.specs.declared.block.Sense.TheVariants.{Always, OnTrue, OnFalse}
 use Rattle.trips_isa.specs.declared.block.Spot.TheVariants as spot
 use Rattle.trips_isa.specs.declared.block.Block.{Block}
 use Rattle.trips_isa.specs.declared.node.Node.{Node}
-use Rattle.trips_isa.specs.declared.form.Role.{Role}
-use Rattle.trips_isa.specs.declared.form.Role.TheVariants.{Empty, Reading, Free, Nothing, Copy, One, Both}
 use Rattle.trips_isa.specs.declared.form.Form.{Form}
 use Rattle.trips_isa.specs.declared.form.Form.TheVariants.{General, Immediate, Load, Store, Branch, Constant}
 use Rattle.trips_isa.specs.Forms.{form_of, role_of, takes_left, takes_right, is_load}
 use Rattle.trips_isa.specs.Operands.{is_guarded}
 use Rattle.trips_isa.specs.Fits.{FitsRead}
-use Rattle.trips_isa.specs.Rule.{Answer, matched, gives, if_matched, rule}
-use Rattle.trips_isa.specs.Places.{nodes_of, inst_node, read_node, targets, names, load_bound, in_mask, place_of}
+use Rattle.trips_isa.specs.Rule.{Answer, matched, gives, rule}
+use Rattle.trips_isa.specs.Places.{nodes_of, inst_node, read_node, targets, names, place_of}
 use Rattle.trips_isa.specs.Places.{place_at}
 use Rattle.trips_isa.specs.Places.{first_place}
-use Rattle.trips_isa.specs.Tables.{node_gives, first, or_else, taken, stores_below, Edge, Ranked}
+use Rattle.trips_isa.specs.Tables.{node_gives, first, stores_below, Edge, Ranked}
 use Rattle.trips_isa.specs.Blocks.{Responses, Solves, at_place, computes}
 use Rattle.trips_isa.specs.Limits.{most_nodes}
 use Rattle.block_cases.specs.Orders.{slot_of}
@@ -48,129 +40,9 @@ use Rattle.grid_bound.specs.Blocks.{slot_tasks, if_so, needs_of, numbers_in, wai
 use Rattle.grid_bound.specs.Blocks.{slot_task, read_task, task_of, writes_of, outputs_of, course_of}
 use Rattle.grid_bound.proofs.Sizes.{slot_tasks_is, room_is, slot_is, read_is}
 use Rattle.grid_bound.proofs.Tasks.{tasks_good}
-
--- spots -------------------------------------------------------------------------------------------
-
-member_if : (b : Bool) (p q : ℕ) (qs : List ℕ) → Member q (if_so b p qs) → ((b ≡ true) × (p ≡ q)) ⊎ Member q qs
-member_if true p q qs (inl e) = inl (refl, e)
-member_if true p q qs (inr m) = inr m
-member_if false p q qs m = inr m
-
-member_both : (q : ℕ) (ps qs : List ℕ) → Member q (ps ++ qs) → Member q ps ⊎ Member q qs
-member_both q [] qs m = inr m
-member_both q (p ∷ ps) qs (inl e) = inl (inl e)
-member_both q (p ∷ ps) qs (inr m) = go (member_both q ps qs m)
-  where
-    go : Member q ps ⊎ Member q qs → Member q (p ∷ ps) ⊎ Member q qs
-    go (inl h) = inl (inr h)
-    go (inr h) = inr h
-
--- the spot of a number of a mask
-abbrev NumberOf : ℕ → ℕ → ℕ → Type 0
-NumberOf mask n q = (m : ℕ) × (m < n) × (in_mask mask m ≡ true) × (416 + m ≡ q)
-
-a_number : (mask n q : ℕ) → Member q (numbers_in mask n) → NumberOf mask n q
-a_number mask zero q m = absurd m
-a_number mask (suc n) q m = go (a_number mask n q) (member_if (in_mask mask n) (416 + n) q (numbers_in mask n) m)
-  where
-    go : (Member q (numbers_in mask n) → NumberOf mask n q)
-        → ((in_mask mask n ≡ true) × (416 + n ≡ q)) ⊎ Member q (numbers_in mask n) → NumberOf mask (suc n) q
-    go ih (inl h) = (n, omega arith, h.0, h.1)
-    go ih (inr h) = let d : NumberOf mask n q = ih h in let l : d.0 < n = d.1 in (d.0, omega (arith, l), d.2, d.3)
-
-a_write : (n q : ℕ) → Member q (writes_of n) → (w : ℕ) × (w < n) × (384 + w ≡ q)
-a_write zero q m = absurd m
-a_write (suc n) q (inl e) = (n, omega arith, e)
-a_write (suc n) q (inr m) = let d : (w : ℕ) × (w < n) × (384 + w ≡ q) = a_write n q m in
-    let l : d.0 < n = d.1 in (d.0, omega (arith, l), d.2)
-
--- what an instruction takes -------------------------------------------------------------------------
-
--- what a role gives needs the operands that it takes
-pub gives_left : (e : Role) (c : ℕ → ℕ → ℕ) (l r : Answer) → is_some (gives e c l r) ≡ true → takes_left e ≡ true
-    → is_some l ≡ true
-gives_left Copy c l r h t = h
-gives_left One c None r h t = absurd (cc)
-gives_left One c (Some k) r h t = refl
-gives_left Both c None r h t = absurd (cc)
-gives_left Both c (Some k) r h t = refl
-gives_left Empty c l r h t = absurd (cc)
-gives_left Reading c l r h t = absurd (cc)
-gives_left Free c l r h t = absurd (cc)
-gives_left Nothing c l r h t = absurd (cc)
-
-pub gives_right : (e : Role) (c : ℕ → ℕ → ℕ) (l r : Answer) → is_some (gives e c l r) ≡ true → takes_right e ≡ true
-    → is_some r ≡ true
-gives_right Both c None r h t = absurd (cc)
-gives_right Both c (Some Null) None h t = absurd (cc)
-gives_right Both c (Some (Word x)) None h t = absurd (cc)
-gives_right Both c (Some k) (Some j) h t = refl
-gives_right Copy c l r h t = absurd (cc)
-gives_right One c l r h t = absurd (cc)
-gives_right Empty c l r h t = absurd (cc)
-gives_right Reading c l r h t = absurd (cc)
-gives_right Free c l r h t = absurd (cc)
-gives_right Nothing c l r h t = absurd (cc)
-
-pub matched_some : (s : Sense) (p : Answer) → matched s p ≡ true → is_guarded s ≡ true → is_some p ≡ true
-matched_some Always p h t = absurd (cc)
-matched_some OnTrue None h t = absurd (cc)
-matched_some OnTrue (Some k) h t = refl
-matched_some OnFalse None h t = absurd (cc)
-matched_some OnFalse (Some k) h t = refl
-
-pub if_parts : (b : Bool) (t : Answer) → is_some (if_matched b t) ≡ true → (b ≡ true) × (is_some t ≡ true)
-if_parts true t h = (refl, h)
-if_parts false t h = absurd (cc)
-
--- what stands at a place is given by a node that names it
-abbrev GivenAt : List Node → ℕ → (ℕ → Answer) → Type 0
-GivenAt ns q f = (y : ℕ) × (m : Node) × (slice_get ns y ≡ Some m) × (names (targets m) q ≡ true)
-    × (is_some (f y) ≡ true)
-
-first_from : (ns : List Node) (q : ℕ) (f : ℕ → Answer) → is_some (first ns q f) ≡ true → GivenAt ns q f
-first_from [] q f e = absurd (cc)
-first_from (n ∷ ns) q f e = go (names (targets n) q) refl (f 0) refl (first_from ns q (λ y. f (suc y))) e
-  where
-    next : GivenAt ns q (λ y. f (suc y)) → GivenAt (n ∷ ns) q f
-    next (y, m, i, k, j) = (suc y, m, i, k, j)
-
-    go : (b : Bool) → names (targets n) q ≡ b → (t : Answer) → f 0 ≡ t
-        → (is_some (first ns q (λ y. f (suc y))) ≡ true → GivenAt ns q (λ y. f (suc y)))
-        → is_some (or_else (taken b f) (first ns q (λ y. f (suc y)))) ≡ true → GivenAt (n ∷ ns) q f
-    go true k (Some t) j ih e = (0, n, refl, k, ap is_some j)
-    go true k None j ih e = next (ih (sym (ap (λ u. is_some (or_else u (first ns q (λ y. f (suc y))))) j) ∙ e))
-    go false k t j ih e = next (ih e)
-
-pub some_there : (t : Answer) → is_some t ≡ true → t ≢ None
-some_there t e z = let k : is_some t ≡ false = ap is_some z in cc
-
-there_some : (t : Answer) → t ≢ None → is_some t ≡ true
-there_some None n = absurd (n refl)
-there_some (Some k) n = refl
-
-read_below : (rs : List ReadSlot) (y : ℕ) (slot : ReadSlot) → slice_get rs y ≡ Some slot → y < length rs
-read_below [] y slot e = absurd (cc)
-read_below (r ∷ rs) zero slot e = omega arith
-read_below (r ∷ rs) (suc y) slot e = let l = read_below rs y slot e in omega (arith, l)
-
-each_read : (rs : List ReadSlot) → All FitsRead rs → (k : ℕ) (slot : ReadSlot) → slice_get rs k ≡ Some slot
-    → FitsRead slot
-each_read [] all k slot i = absurd (cc)
-each_read (x ∷ rs) all zero slot i = let same : x ≡ slot = cc in subst FitsRead same (All-head FitsRead x rs all)
-each_read (x ∷ rs) all (suc k) slot i = each_read rs (All-tail FitsRead x rs all) k slot i
-
-below_number : (ts : List ℕ) (m k : ℕ) → m < k → names ts (416 + m) ≡ true → stores_below ts (416 + k) ≡ true
-below_number [] m k l e = absurd (cc)
-below_number (t ∷ ts) m k l e = grind (arith, nat_tests, below_number ts m k l)
-
-bound_of_load : (t : Form) (n : ℕ) → is_load t ≡ true → load_bound t n ≡ 416 + n
-bound_of_load Load n e = refl
-bound_of_load General n e = absurd (cc)
-bound_of_load Immediate n e = absurd (cc)
-bound_of_load Constant n e = absurd (cc)
-bound_of_load Store n e = absurd (cc)
-bound_of_load Branch n e = absurd (cc)
+use Rattle.grid_bound.proofs.CourseSpots.{member_if, member_both, NumberOf, a_number, a_write, gives_left}
+use Rattle.grid_bound.proofs.CourseSpots.{gives_right, matched_some, if_parts, GivenAt, first_from, some_there}
+use Rattle.grid_bound.proofs.CourseSpots.{there_some, read_below, each_read, below_number, bound_of_load}
 
 -- the task of a node --------------------------------------------------------------------------------
 
@@ -450,6 +322,7 @@ module _ (b : Block) (runnable : IsRunnable b) (a : Responses) (g : ℕ → Answ
           (ap (wanted_of b) (sym z) ∙ owed_wanted b (spot.Write d.0) l) up
       by (inr k) = last (member_both q (numbers_in b.mask 32) (448 ∷ []) k)
 
+  -- the course of a block that may run is good
   pub course_good : Good (course_of b g)
   course_good = record {
     rank = task_rank;

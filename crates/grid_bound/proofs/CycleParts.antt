@@ -19,7 +19,7 @@ use Rattle.grid_bound.proofs.BankParts.{banks_going}
 use Rattle.grid_bound.proofs.DataParts.{answers_going}
 use Rattle.grid_bound.proofs.UnitParts.{works_going}
 use Rattle.grid_bound.proofs.TickParts.{moves_going}
-use Rattle.grid_bound.proofs.Going.{Going}
+use Rattle.grid_bound.proofs.GoingGrids.{Going}
 
 module _ {W : Type 0} (blocks : List Block) (good : AllGood blocks) (budget : ℕ) where
   -- parts (2) to (5)
@@ -68,6 +68,7 @@ module _ {W : Type 0} (blocks : List Block) (good : AllGood blocks) (budget : �
         let k = cycles_ruled n g h cycles (record { ok = ok; ties = ties_of 1 g rule; fetch = rule.fetch }) in
         rule_of 1 h k.ties k.fetch
 
+    -- cycles one after another keep the window's invariant
     pub cycles_window : (n : ℕ) (g h : Grid W) → WindowOk blocks budget g.window → GridRule g
         → AfterCycles next follows blocks budget n g h → WindowOk blocks budget h.window
     cycles_window n g h ok rule cycles =

@@ -13,7 +13,7 @@ use Rattle.grid_bound.proofs.Counting.{any_true, chosen, pick_may, pick_free}
 use Rattle.grid_bound.proofs.Work.{wait_le, wait_cap, on, Low, on_le, on_drop, tile_more, on_tile_at}
 use Rattle.grid_bound.proofs.Work.{count_less, count_drop, ready_unissued, work_le, work_drop}
 use Rattle.grid_bound.proofs.Mesh.{bounded_left}
-use Rattle.grid_bound.proofs.Parts.{GoodTasks, idle_is, here_left}
+use Rattle.grid_bound.proofs.PartsLowerWork.{GoodTasks, idle_is, here_left}
 
 wait_drop : (c c2 : ℕ) (r r2 : Bool) (v v2 : ℕ) → c2 + 1 ≤ c → r ≡ true → r2 ≡ true → v2 ≤ v
     → wait_left c2 r2 v2 + 1 ≤ wait_left c r v

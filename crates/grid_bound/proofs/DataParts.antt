@@ -1,19 +1,17 @@
 -- Part (4) of a cycle, the data tiles, keeps the rule.
-use Rattle.std.proofs.Common.{◌≡◌, ◌≢◌, ℕ, ◌+◌, ◌*◌, ◌/◌, ◌<◌, ◌==◌, ◌&&◌, ◌||◌, not, Bool, true}
-use Rattle.std.proofs.Common.{false, cond, ◌⊎◌, inl}
+use Rattle.std.proofs.Common.{◌≡◌, ◌≢◌, ℕ, ◌+◌, ◌*◌, ◌/◌, ◌<◌, ◌||◌, not, Bool, true}
+use Rattle.std.proofs.Common.{false, cond, inl}
 use Rattle.std.proofs.Common.{inr}
 use Rattle.std.proofs.Common.{List, [], ◌∷◌, ◌++◌, Option, Some, None, set, refl, sym, ap, ap₂, ◌∙◌}
 use Rattle.std.proofs.Common.{subst, true≢false, arith}
 use Rattle.trips_isa.specs.declared.block.Inst.{Inst}
 use Rattle.trips_isa.specs.declared.block.Stored.{Stored}
 use Rattle.trips_isa.specs.declared.block.Block.{Block}
-use Rattle.trips_isa.specs.declared.form.Form.{Form}
-use Rattle.trips_isa.specs.declared.form.Form.TheVariants.{General, Immediate, Load, Store, Branch, Constant}
+use Rattle.trips_isa.specs.declared.form.Form.TheVariants.{Load, Store}
 use Rattle.trips_isa.specs.Forms.{form_of, is_load, is_store}
 use Rattle.trips_isa.specs.declared.block.Token.TheVariants.{Null, Word}
 use Rattle.trips_isa.specs.Rule.{Answer}
 use Rattle.trips_isa.specs.Stores.{address_of, stored_of}
-use Rattle.block_cases.specs.Orders.{slot_of}
 use Rattle.operand_net.specs.Places.{Places}
 use Rattle.commit_flush_spec.specs.Frames.{Frame, at, numbers, slot_node}
 use Rattle.commit_flush_spec.specs.Sending.{mark_with}
@@ -37,102 +35,29 @@ use Rattle.grid_cycle_spec.specs.Grid.{Grid}
 use Rattle.grid_cycle_spec.specs.Acting.{act}
 use Rattle.grid_cycle_spec.specs.Choosing.{eldest, each, with_frame}
 use Rattle.grid_cycle_spec.specs.Sending.{enter_both}
-use Rattle.grid_cycle_spec.specs.Arrivals.{is_waiting}
-use Rattle.commit_flush_spec.specs.Window.{in_flight}
-use Rattle.commit_flush_spec.proofs.Look.{or_false}
 use Rattle.grid_cycle_spec.specs.DataTiles.{asks_store, tile_by, tile_for, bit_of, all_resolved, must_wait}
 use Rattle.grid_cycle_spec.specs.DataTiles.{may_answer}
 use Rattle.grid_cycle_spec.specs.DataTiles.{answers_request, unasked, load_answered}
 use Rattle.grid_cycle_spec.specs.DataTiles.{by_block, wrong_load, waits_now, answered_by, answer_chosen, data_turn}
 use Rattle.grid_cycle_spec.specs.DataTiles.{answers}
 use Rattle.grid_cycle_spec.specs.DataTiles as data_tiles_spec
-use Rattle.grid_bound.specs.UnderWay.{Gives, InUnit, Tied, to_come}
+use Rattle.grid_bound.specs.UnderWay.{Tied, to_come}
 use Rattle.grid_bound.specs.Rule.{EachFrame, FrameRule, Waits}
-use Rattle.grid_bound.proofs.Each.{FrameAt, Chosen, answered_at, apart, changed_at, each_front, each_join, each_rest}
-use Rattle.grid_bound.proofs.Each.{eldest_is, equal, moved_at, own_at, same, with_at}
+use Rattle.grid_bound.proofs.EachFrame.{FrameAt, Chosen, answered_at}
+use Rattle.grid_bound.proofs.EachFrame.{changed_at, each_front, each_join, each_rest}
+use Rattle.grid_bound.proofs.EachFrame.{eldest_is, equal, moved_at, own_at, with_at}
 use Rattle.grid_bound.proofs.FrameRules.{Loads, Sent, load_sends, loads, store_rule}
-use Rattle.grid_bound.proofs.Travels.{and_none, false_of, in_unit_by, result_of, travels_by}
+use Rattle.grid_bound.proofs.Travels.{false_of, in_unit_by, travels_by}
 use Rattle.grid_bound.proofs.Entered.{Entered, both_enter, enters_at}
 use Rattle.grid_bound.proofs.Ties.{Alike, Ties, ties_step}
 use Rattle.grid_bound.proofs.TiedFrames.{answered_come, answered_standing, load_travels, sent_tied}
 use Rattle.grid_bound.proofs.Flushing.{act_going, append_more, cut_rest, nums_step}
-use Rattle.grid_bound.proofs.Going.{Going, Moved, alone_is, awake, can_is}
-use Rattle.grid_bound.proofs.Going.{each_going, frame_ok, frame_rule, frame_sure}
-use Rattle.grid_bound.proofs.Going.{frame_tied}
-use Rattle.grid_bound.proofs.Going.{happens_is, moved, moved_to, sees, stepped}
-
--- what waits -------------------------------------------------------------------------------------
-
-pub number_kind : (t : Form) → has_number t ≡ true → (is_load t ≡ true) ⊎ (is_store t ≡ true)
-number_kind General e = absurd (true≢false (sym e))
-number_kind Immediate e = absurd (true≢false (sym e))
-number_kind Constant e = absurd (true≢false (sym e))
-number_kind Branch e = absurd (true≢false (sym e))
-number_kind Load e = inl refl
-number_kind Store e = inr refl
-
-pub load_form : (t : Form) → is_load t ≡ true → t ≡ Load
-load_form General e = absurd (true≢false (sym e))
-load_form Immediate e = absurd (true≢false (sym e))
-load_form Constant e = absurd (true≢false (sym e))
-load_form Load e = refl
-load_form Store e = absurd (true≢false (sym e))
-load_form Branch e = absurd (true≢false (sym e))
-
--- what has come to its data tile is to come no more, and is in no unit
-module _ (asked : ℕ → Bool) (f : Frame) (s : ℕ) (i : Inst) (had : asked i.number ≡ true) where
-  pub came : (t : Form) → has_number t ≡ true → to_come asked f t i s ≡ false
-  came Load e = ap (λ b. is_waiting (at f.requests i.number) s && not b) had ∙ and_none _
-  came Store e = ap (λ b. is_waiting (at f.requests i.number) s && not b) had ∙ and_none _
-  came General e = refl
-  came Immediate e = refl
-  came Constant e = refl
-  came Branch e = absurd (true≢false (sym e))
-
-  given : (t : Form) → has_number t ≡ true → Gives asked f t i s → to_come asked f t i s ≡ true
-  given Load e h = h
-  given Store e h = h
-  given General e h = absurd (true≢false (sym e))
-  given Immediate e h = absurd (true≢false (sym e))
-  given Constant e h = absurd (true≢false (sym e))
-  given Branch e h = absurd (true≢false (sym e))
-
-  pub no_result : slot_of f.code s ≡ Some i → has_number (form_of i.op) ≡ true → InUnit asked f s → ⊥
-  no_result is kind u =
-      let r = result_of asked f s u in
-      let it : r.inst ≡ i = (let y : Some r.inst ≡ Some i = sym r.is_inst ∙ is in cc) in
-      true≢false (sym (given (form_of i.op) kind (subst (λ (j : Inst). Gives asked f (form_of j.op) j s) it r.gives))
-      ∙ came (form_of i.op) kind)
-
--- requests ---------------------------------------------------------------------------------------
-
--- the requests after one has been answered
-abbrev pub asked_but : (ℕ → ℕ → Bool) → ℕ → ℕ → ℕ → ℕ → Bool
-asked_but asked m k x j = cond ((x == m) && (j == k)) false (asked x j)
-
-module _ (asked : ℕ → ℕ → Bool) (m k : ℕ) where
-  pub but_here : asked_but asked m k m k ≡ false
-  but_here = ap₂ (λ x y. cond (x && y) false (asked m k)) (same m) (same k)
-
-  pub but_number : (j : ℕ) → j ≢ k → asked_but asked m k m j ≡ asked m j
-  but_number j d = ap (λ y. cond ((m == m) && y) false (asked m j)) (apart j k d)
-      ∙ ap (λ y. cond y false (asked m j)) (and_none (m == m))
-
-  pub but_frame : (x : ℕ) → x ≢ m → (j : ℕ) → asked_but asked m k x j ≡ asked x j
-  but_frame x d j = ap (λ y. cond (y && (j == k)) false (asked x j)) (apart x m d)
-
--- a careful frame answers a load only behind its own stores
-resolved_own : (m k : ℕ) (older : List Frame) (f : Frame) (younger : List Frame) → in_flight m older ≡ false
-    → f.number ≡ m → all_resolved m k (older ++ f ∷ younger) ≡ true → all_below (store_came f) k ≡ true
-resolved_own m k [] f younger e n h =
-    sym (ap (λ b. cond b (all_below (store_came f) k) (all_below (store_came f) numbers && all_resolved m k younger))
-    (ap (λ x. x == m) n ∙ same m)) ∙ h
-resolved_own m k (g ∷ older) f younger e n h =
-    let o = or_false (g.number == m) (in_flight m older) e in
-    let rest : (all_below (store_came g) numbers && all_resolved m k (older ++ f ∷ younger)) ≡ true =
-    sym (ap (λ b. cond b (all_below (store_came g) k)
-    (all_below (store_came g) numbers && all_resolved m k (older ++ f ∷ younger))) o.0) ∙ h in
-    resolved_own m k older f younger o.1 n (both_true _ _ rest).1
+use Rattle.grid_bound.proofs.GoingGrids.{Going, Moved, alone_is, awake, can_is}
+use Rattle.grid_bound.proofs.GoingGrids.{each_going, frame_ok, frame_rule, frame_sure}
+use Rattle.grid_bound.proofs.GoingGrids.{frame_tied}
+use Rattle.grid_bound.proofs.GoingGrids.{happens_is, moved, moved_to, sees, stepped}
+use Rattle.grid_bound.proofs.RequestNumbers.{number_kind, load_form, came, no_result, asked_but, but_here, but_number}
+use Rattle.grid_bound.proofs.RequestNumbers.{but_frame, resolved_own}
 
 module _ {W : Type 0} (blocks : List Block) (good : AllGood blocks) (budget least : ℕ) (g : Grid W)
     (go : Going blocks budget least g) (tile : ℕ) (low : tile < 4) (n k : ℕ) (a0 : FrameAt n g.window.frames)

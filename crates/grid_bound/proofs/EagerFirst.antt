@@ -20,7 +20,7 @@ use Rattle.grid_bound.specs.Held.{ServedHeld}
 use Rattle.grid_bound.specs.Lanes.{lane_in}
 use Rattle.grid_bound.specs.ServedFirst.{worked, ActsFirst, ServedFirst}
 use Rattle.grid_bound.proofs.Ticks.{oldest_ticks}
-use Rattle.grid_bound.proofs.Together.{serve_first}
+use Rattle.grid_bound.proofs.FirstGridServed.{serve_first}
 use Rattle.grid_bound.proofs.UnitsKept.{arrivals_kept}
 
 module _ {W : Type 0} (blocks : List Block) (budget : ℕ) (next : W → ℕ) (follows : W → W → Type 0)
@@ -85,6 +85,7 @@ module _ {W : Type 0} (blocks : List Block) (good : AllGood blocks) (budget : �
     (is_size : size b ≡ sizes (length g.window.state.trace))
     (due : g.window.frames ≡ [] → IsDue g g.fetching × (slice_index g.window.generations 0 < 2 ^ 64 - 1))
     (cycle : Eager next follows blocks budget g h) where
+  -- a cycle of a grid of its own traps, or serves its oldest frame
   pub serve : Traps h ⊎ Served sizes (lane_in g) (lane_in h)
   serve = by (serve_first blocks good budget 0 0 g h ok went room
       (eager_first blocks budget next follows bound g h most cycle) rule beyond b is_code sizes is_size due)

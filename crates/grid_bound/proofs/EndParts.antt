@@ -26,12 +26,13 @@ use Rattle.grid_cycle_spec.specs.Ends.{seal_one, seal_each, one_committed, learn
 use Rattle.grid_cycle_spec.specs.Ends.{commit_oldest, ends}
 use Rattle.grid_bound.specs.UnderWay.{Tied}
 use Rattle.grid_bound.specs.Rule.{EachFrame, FetchRule, FrameRule, RuleFrom}
-use Rattle.grid_bound.proofs.Each.{FrameAt, any_flight, apart, changed_at, differ, each_rest, each_step, of_flight}
-use Rattle.grid_bound.proofs.Each.{runs_flight, runs_one, runs_step}
-use Rattle.grid_bound.proofs.FrameRules.{events_rule, went}
+use Rattle.grid_bound.proofs.EachFrame.{FrameAt, any_flight, apart, changed_at}
+use Rattle.grid_bound.proofs.EachFrame.{differ, each_rest, each_step, of_flight}
+use Rattle.grid_bound.proofs.EachFrame.{runs_flight, runs_one, runs_step}
+use Rattle.grid_bound.proofs.EventRules.{events_rule, went}
 use Rattle.grid_bound.proofs.Ties.{Ties, TiesOf, forgotten_held, forgotten_nothing, forgotten_units, left_alike}
 use Rattle.grid_bound.proofs.Ties.{rule_of, tied_alike, ties_left, ties_of}
-use Rattle.grid_bound.proofs.Going.{Acted, acted, done_is, happens_is, known_same}
+use Rattle.grid_bound.proofs.GoingGrids.{Acted, acted, done_is, happens_is, known_same}
 
 -- window and grid have their rules, and the run may have ended
 pub record Ruled {W : Type 0} (blocks : List Block) (budget least : ℕ) (g : Grid W) : Type 0 where

@@ -11,11 +11,12 @@ use Rattle.grid_cycle_spec.specs.Grid.{Grid}
 use Rattle.grid_cycle_spec.specs.Sending.{enters, enters_if, enter_both}
 use Rattle.grid_cycle_spec.proofs.Routes.{home_inside}
 use Rattle.grid_bound.specs.Rule.{HeldFrom}
-use Rattle.grid_bound.proofs.Each.{same, apart}
+use Rattle.grid_bound.proofs.EachFrame.{same, apart}
 use Rattle.grid_bound.proofs.Travels.{IsPlace}
 
 -- one place has another parcel -------------------------------------------------------------------
 
+-- a parcel that is put in a place stands there
 pub put_here : (m : Places) (n p : ℕ) (s : Stand) → put m n p s n p ≡ s
 put_here m n p s = ap₂ (λ a b. cond (a && b) s (m n p)) (same n) (same p)
 

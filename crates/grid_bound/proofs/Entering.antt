@@ -37,6 +37,7 @@ module _ (b : Block) (x p : ℕ) (even : p % 2 ≡ 0) (from : (source b p ≡ x)
       let par : (suc p % 2 == 0) ≡ false = grind (arith, nat_tests) in
       ap₂ (λ y c. named_at (slice_get (nodes_of b) y) c) from.1 par
 
+-- the two places of a slot go to the two targets of its instruction
 pub slot_targets : (b : Block) (s : ℕ) (i : Inst) → s < 128 → slot_of b s ≡ Some i
     → (target b (2 * s) ≡ first_place (form_of i.op) i.number i.first)
     × (target b (suc (2 * s)) ≡ place_at i.second)

@@ -12,8 +12,8 @@ use Rattle.grid_cycle_spec.specs.Banks.{reads_answered}
 use Rattle.grid_cycle_spec.specs.DataTiles.{answers}
 use Rattle.grid_cycle_spec.specs.Units.{unit_on, ready, issue_chosen, unit_turn}
 use Rattle.grid_cycle_spec.specs.Cycles.{acts, Follows, Eager}
-use Rattle.grid_bound.proofs.Finished.{units_on}
-use Rattle.grid_bound.proofs.Issuing.{issue_units}
+use Rattle.grid_bound.proofs.TileResults.{units_on}
+use Rattle.grid_bound.proofs.OldestIssues.{issue_units}
 use Rattle.grid_bound.proofs.UnitsKept.{ends_kept, fetches_kept, banks_kept, answers_kept, arrivals_kept}
 
 module _ {W : Type 0} (blocks : List Block) (budget t : ℕ) (far : 16 ≤ t) where
@@ -53,5 +53,6 @@ module _ {W : Type 0} (blocks : List Block) (budget t : ℕ) (far : 16 ≤ t) wh
     by_over stepped.StackFull m = ap (λ (k : Grid W). k.units t) m
     by_over (stepped.Trap c) m = ap (λ (k : Grid W). k.units t) m
 
+    -- a cycle leaves the units beyond the sixteen tiles
     pub far_cycle : Eager next follows blocks budget g h → h.units t ≡ g.units t
     far_cycle m = by_over (ends blocks budget g).window.over m ∙ ap (λ (u : ℕ → ℕ). u t) (ends_kept blocks budget g)

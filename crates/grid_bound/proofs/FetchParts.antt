@@ -38,11 +38,11 @@ use Rattle.grid_cycle_spec.specs.Fetches.{fetches, stands}
 use Rattle.grid_cycle_spec.specs.Arrivals.{is_waiting}
 use Rattle.grid_bound.specs.UnderWay.{form_travels, Nothing, Tied, to_come, travels}
 use Rattle.grid_bound.specs.Rule.{EachFrame, FetchRule, FrameRule, runs_in}
-use Rattle.grid_bound.proofs.Each.{apart, each_join, each_other, runs_flight, runs_join, same}
-use Rattle.grid_bound.proofs.FrameRules.{events_rule, went}
+use Rattle.grid_bound.proofs.EachFrame.{apart, each_join, each_other, runs_flight, runs_join, same}
+use Rattle.grid_bound.proofs.EventRules.{events_rule, went}
 use Rattle.grid_bound.proofs.Travels.{and_none, none_is, none_travels, read_travels, slot_travels}
 use Rattle.grid_bound.proofs.Ties.{Ties}
-use Rattle.grid_bound.proofs.Going.{Going, done_is, happens_is}
+use Rattle.grid_bound.proofs.GoingGrids.{Going, done_is, happens_is}
 
 -- a fetch ends -----------------------------------------------------------------------------------
 

@@ -19,10 +19,10 @@ use Rattle.commit_flush_spec.proofs.Whole.{happens_moves}
 use Rattle.grid_cycle_spec.specs.Grid.{Grid, is_of}
 use Rattle.grid_cycle_spec.specs.Acting.{act, flushed, gone, known_next, settled}
 use Rattle.grid_bound.specs.Rule.{EachFrame, FetchRule, runs_in}
-use Rattle.grid_bound.proofs.Each.{any_flight, each_front, flight_join, of_flight, runs_flight, runs_join}
+use Rattle.grid_bound.proofs.EachFrame.{any_flight, each_front, flight_join, of_flight, runs_flight, runs_join}
 use Rattle.grid_bound.proofs.Ties.{Ties, ties_left}
 use Rattle.grid_bound.proofs.EndParts.{still_rule}
-use Rattle.grid_bound.proofs.Going.{Going}
+use Rattle.grid_bound.proofs.GoingGrids.{Going}
 
 -- beginnings -------------------------------------------------------------------------------------
 

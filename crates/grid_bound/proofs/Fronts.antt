@@ -61,10 +61,12 @@ abbrev pub left_unit : Kind → Bool → Bool → Stand → Stand → Phase
 left_unit Serving waits asked p q = cond waits (cond asked Standing (Asking p)) (Sent p q)
 left_unit _ waits asked p q = Sent p q
 
+-- the phase of what a slot holds, by its kind, its flags and the stands of its two parcels
 abbrev pub slot_far : Kind → (fired works waits asked : Bool) → Stand → Stand → Phase
 slot_far k fired works waits asked p q = cond fired (cond works Working (left_unit k waits asked p q)) Idle
 
 module _ {W : Type 0} (g : Grid W) (f : Frame) (s : ℕ) where
+  -- the phase of a slot is told by what is under way of its instruction
   pub slot_phase_is : (i : Inst) → slot_phase g f s (Some i)
       ≡ slot_far (kind_of (form_of i.op)) (slice_index_or f.fired s false) (g.works f.number s)
       (is_waiting (at f.requests i.number) s) (g.asked f.number i.number) (g.parcels f.number (2 * s))
@@ -105,6 +107,7 @@ far_same k a a2 b b2 c c2 d d2 p p2 q q2 ea eb ec ed ep eq =
     asked Serving true h = ap (λ z. left_unit Serving true z p2 q2) (h refl)
     asked Serving false h = refl
 
+-- a task of which the same is under way has the same phase
 pub task_same : {W : Type 0} (g h : Grid W) (f e : Frame) (x : ℕ) → SameTask g h f e x
     → phase_of h e x ≡ phase_of g f x
 task_same g h f e x same =
@@ -142,6 +145,7 @@ abbrev of_parts : Course → ℕ → (ℕ → Phase) → (ℕ → Bool) → Bool
 of_parts c n x come careful =
     record { course = c; generation = n; at = x; come = come; careful = careful }
 
+-- fronts whose parts are equal are equal
 pub same_front : (a b : Front) → a.course ≡ b.course → a.generation ≡ b.generation → a.at ≡ b.at → a.come ≡ b.come
     → a.careful ≡ b.careful → a ≡ b
 same_front a b c n x k s =
@@ -153,6 +157,7 @@ same_front a b c n x k s =
 
 -- the phases of a read, and of a slot ----------------------------------------------------------------
 
+-- the phase of a read's task is that of the read
 pub at_read : {W : Type 0} (g : Grid W) (f : Frame) (r : ℕ)
     → phase_of g f (slot_tasks + r) ≡ read_phase g f r (slice_get f.code.reads.items r)
 at_read g f r =
@@ -160,6 +165,7 @@ at_read g f r =
     cond-false (nat_lt (slot_tasks + r) slot_tasks) _ _ (le-ltb (slot_tasks + r) slot_tasks (omega arith))
     ∙ ap (λ k. read_phase g f k (slice_get f.code.reads.items k)) e
 
+-- the phase of a slot's task is that of the slot
 pub at_slot : {W : Type 0} (g : Grid W) (f : Frame) (s : ℕ) → s < slot_tasks
     → phase_of g f s ≡ slot_phase g f s (slot_of f.code s)
 at_slot g f s l = cond-true (nat_lt s slot_tasks) _ _ (lt-ltb s slot_tasks l)

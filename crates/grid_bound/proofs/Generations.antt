@@ -21,8 +21,8 @@ use Rattle.grid_cycle_spec.specs.DataTiles.{answers}
 use Rattle.grid_cycle_spec.specs.Units.{works_on}
 use Rattle.grid_cycle_spec.specs.Arrivals.{arrivals}
 use Rattle.grid_cycle_spec.specs.Cycles.{acts, counted, Eager, Follows, AfterCycles, Moves}
-use Rattle.grid_cycle_spec.proofs.Parts.{IsFlushing, IsSingle, Keeps, answers_keep, arrivals_keep, banks_keep}
-use Rattle.grid_cycle_spec.proofs.Parts.{begins_keeps, ends_keep, works_keep}
+use Rattle.grid_cycle_spec.proofs.KeptByCycles.{IsFlushing, IsSingle, Keeps, answers_keep, arrivals_keep, banks_keep}
+use Rattle.grid_cycle_spec.proofs.KeptByCycles.{begins_keeps, ends_keep, works_keep}
 use Rattle.grid_bound.specs.Rule.{GenerationsCounted}
 
 -- no frame is filled and no cycle is counted
@@ -254,6 +254,7 @@ module _ {W : Type 0} (blocks : List Block) (budget : ℕ) where
         subst (λ l. slice_index l n ≤ (ends blocks budget g).counts.cycles) (sym q.generations)
         (subst (λ c. slice_index g.window.generations n ≤ c) (sym q.cycles) (made n)))
 
+    -- after some cycles no frame has been filled more often than cycles have been made
     pub cycles_count : (n : ℕ) (g h : Grid W) → GenerationsCounted g → AfterCycles next follows blocks budget n g h
         → GenerationsCounted h
     cycles_count zero g h made e = subst GenerationsCounted (sym e) made

@@ -9,7 +9,7 @@ use Rattle.grid_cycle_spec.specs.Grid.{Grid}
 use Rattle.grid_cycle_spec.specs.Banks.{answers_read, read_chosen, bank_turn}
 use Rattle.grid_cycle_spec.specs.Choosing.{eldest, each, reads, slots}
 use Rattle.grid_cycle_spec.specs.Units.{in_unit, result_chosen, unit_on, issue_chosen, issues, unit_turn, ready}
-use Rattle.grid_bound.proofs.Finished.{units_on}
+use Rattle.grid_bound.proofs.TileResults.{units_on}
 
 module _ {W : Type 0} (blocks : List Block) (budget : ℕ) where
   pub idle_banks : (n : ℕ) (g : Grid W) → g.window.frames ≡ [] → each (bank_turn blocks budget) n g ≡ g

@@ -37,7 +37,7 @@ use Rattle.grid_bound.specs.Blocks.{first_of, kind_of, read_task, slot_task, slo
 use Rattle.grid_bound.specs.Seen.{after_unit, asking, has_come, read_phase, sent_of, slot_phase}
 use Rattle.grid_bound.specs.UnderWay.{form_travels, Tied, to_come}
 use Rattle.grid_bound.specs.Rule.{HeldFrom, UnitsRule}
-use Rattle.grid_bound.proofs.Each.{same}
+use Rattle.grid_bound.proofs.EachFrame.{same}
 use Rattle.grid_bound.proofs.Travels.{even_first, first_travels, odd_second, read_travels, second_travels, some_is}
 use Rattle.grid_bound.proofs.Sizes.{slot_tasks_is}
 

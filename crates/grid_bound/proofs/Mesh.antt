@@ -98,6 +98,7 @@ landed_bounded come Nowhere t h = tt
 landed_bounded come (Away trip a) t h = h
 landed_bounded come (Held trip k) t h = h
 
+-- a parcel on its way is on the mesh
 pub way_bounded : (p : Stand) → OnItsWay p → Bounded p
 way_bounded Nowhere h = tt
 way_bounded (Away trip a) h = h

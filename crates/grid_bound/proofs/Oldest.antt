@@ -41,7 +41,7 @@ use Rattle.grid_bound.proofs.Travels.{IsPlace, and_none, false_of, first_travels
 use Rattle.grid_bound.proofs.Travels.{is_there, none_is, none_travels, read_travels, result_of, second_travels}
 use Rattle.grid_bound.proofs.Travels.{first_low, second_low, sides, some_is, unfired_none, waiting_none, waits_for}
 use Rattle.grid_bound.proofs.TiedFrames.{Comes, comes, token_comes}
-use Rattle.grid_bound.proofs.DataParts.{came, no_result}
+use Rattle.grid_bound.proofs.RequestNumbers.{came, no_result}
 use Rattle.grid_bound.proofs.TickParts.{not_here}
 
 store_form : (t : Form) → is_store t ≡ true → t ≡ Store

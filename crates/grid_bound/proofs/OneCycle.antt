@@ -28,10 +28,10 @@ use Rattle.grid_bound.proofs.CycleParts.{cycle_rule, cycles_window}
 use Rattle.grid_bound.proofs.Generations.{cycles_count}
 use Rattle.grid_bound.specs.GoesOn.{GoesOn}
 use Rattle.grid_bound.specs.OneCycle.{HasRule, left_in, OneCycle}
-use Rattle.grid_bound.proofs.Before.{steps}
-use Rattle.grid_bound.proofs.Begun.{begun_counted, begun_rule}
+use Rattle.grid_bound.proofs.CycleGrows.{steps}
+use Rattle.grid_bound.proofs.StartPredictors.{begun_counted, begun_rule}
 use Rattle.grid_bound.proofs.Costs.{cost_is}
-use Rattle.grid_bound.proofs.Standing.{reached_state, stands_here}
+use Rattle.grid_bound.proofs.GridsOfRuns.{reached_state, stands_here}
 
 -- no step leaves the state
 first_state : (blocks : List Block) (s : State) → (runs blocks s 0).0 ≡ s

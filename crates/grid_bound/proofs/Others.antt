@@ -61,6 +61,7 @@ module _ {W : Type 0} (blocks : List Block) (budget : ℕ) (f : Frame) (g : Grid
   abbrev n : ℕ
   n = f.number
 
+  -- at first the oldest frame is as it was
   pub behind_at : (fs : List Frame) → g.window.frames ≡ f ∷ fs → Behind f g g
   behind_at fs i = record {
     younger = fs;

@@ -32,7 +32,7 @@ use Rattle.grid_bound.specs.Lane.{Phase, Idle, Working, Asking, Standing, is_idl
 use Rattle.grid_bound.specs.Blocks.{slot_tasks, kind_of, if_so, needs_of, slot_task, course_of}
 use Rattle.grid_bound.specs.Seen.{sent_of, asking, after_unit, slot_phase, has_come, front_of}
 use Rattle.grid_bound.proofs.Sizes.{slot_is, slot_tasks_is}
-use Rattle.grid_bound.proofs.Courses.{gives_left, gives_right, matched_some, if_parts, some_there}
+use Rattle.grid_bound.proofs.CourseSpots.{gives_left, gives_right, matched_some, if_parts, some_there}
 
 -- the rule --------------------------------------------------------------------------------------
 

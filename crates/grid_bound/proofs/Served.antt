@@ -14,12 +14,12 @@ use Rattle.grid_bound.specs.Serving.{Serves, Served}
 use Rattle.grid_bound.specs.Left.{work, most, reserve, fetch_left, stage_left, left, price}
 use Rattle.grid_bound.specs.Laws.{FineAt, AtMost, StageRule, LaneRule, Falls}
 use Rattle.grid_bound.proofs.Stuck.{Active, never_stuck}
-use Rattle.grid_bound.proofs.Parts.{read_le, read_drop, move_le, move_drop}
+use Rattle.grid_bound.proofs.PartsLowerWork.{read_le, read_drop, move_le, move_drop}
 use Rattle.grid_bound.proofs.CycleUnits.{turn_le, turn_drop}
-use Rattle.grid_bound.proofs.Kept.{fine_read, placed_read, fine_fresh, placed_fresh, fine_units, placed_units}
-use Rattle.grid_bound.proofs.Kept.{fine_move, placed_move}
-use Rattle.grid_bound.proofs.Most.{work_most}
-use Rattle.grid_bound.proofs.Later.{HasParcel, Later5, Later4, read_later4, turn_parcel, active_later}
+use Rattle.grid_bound.proofs.RuleKept.{fine_read, placed_read, fine_fresh, placed_fresh, fine_units, placed_units}
+use Rattle.grid_bound.proofs.RuleKept.{fine_move, placed_move}
+use Rattle.grid_bound.proofs.WorkBound.{work_most}
+use Rattle.grid_bound.proofs.StillActing.{HasParcel, Later5, Later4, read_later4, turn_parcel, active_later}
 use Rattle.grid_bound.proofs.Tiles.{Here, some_tiles}
 
 abbrev OnStage : (Front → Type 0) → Stage → Type 0
@@ -187,10 +187,12 @@ stage_most n u fits (Fetching o s) r =
     let b : reserve s n ≤ 256 + 128 * n = reserve_most s n in
     omega (arith, a, b)
 
+-- something is always left
 pub left_some : (sizes : ℕ → ℕ) (l : Lane) → 1 ≤ left sizes l
 left_some sizes l = cond_both (is_complete l.stage) 1 (stage_left (sizes l.done) l.units l.stage) (λ n. 1 ≤ n)
     (λ e. omega arith) (λ e. stage_some (sizes l.done) l.units l.stage)
 
+-- what is left is at most the price of the block
 pub left_most : (sizes : ℕ → ℕ) (l : Lane) → LaneRule sizes l → left sizes l ≤ price (sizes l.done)
 left_most sizes l r = cond_both (is_complete l.stage) 1 (stage_left (sizes l.done) l.units l.stage)
     (λ n. n ≤ price (sizes l.done)) (λ e. omega arith) (λ e. go e r.stage)
@@ -314,6 +316,7 @@ module _ (sizes : ℕ → ℕ) (l m : Lane) (units : (t : ℕ) → l.units t ≤
       lower = let a : stage_left c m.units s6 + 1 ≤ stage_left c l.units l.stage = falls_from l.stage r open' refl in
           omega (arith, a, now, after)
 
+-- a served cycle lowers what is left, or commits the block
 pub served_falls : (sizes : ℕ → ℕ) (l m : Lane) → LaneRule sizes l → Served sizes l m
     → Falls sizes l m
 served_falls sizes l m r (inl h) = inl h.1

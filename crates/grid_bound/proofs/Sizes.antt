@@ -15,10 +15,12 @@ use Rattle.grid_bound.specs.Course.{sum, tasks}
 use Rattle.grid_bound.specs.Left.{price}
 use Rattle.grid_bound.specs.Blocks.{slot_tasks, room, slot_task, read_task, task_of, course_of}
 
+-- the tasks of slots are 128
 pub slot_tasks_is : slot_tasks ≡ 128
 unfolding slot_tasks
 slot_tasks_is = refl
 
+-- there is room for as many tasks as a block has nodes
 pub room_is : room ≡ most_nodes
 unfolding room
 room_is = refl
@@ -79,9 +81,11 @@ reads_are (suc n) (r ∷ rs) l =
     omega (arith, h, k)
 
 module _ (b : Block) (g : ℕ → Answer) where
+  -- the task of a slot's node is that of the slot
   pub slot_is : (s : ℕ) → s < slot_tasks → task_of b g s ≡ slot_task b g s (slot_of b s)
   slot_is s l = cond-true (nat_lt s slot_tasks) _ _ (lt-ltb s slot_tasks l)
 
+  -- the task of a read's node is that of the read
   pub read_is : (k : ℕ) → task_of b g (slot_tasks + k) ≡ read_task b (slice_get b.reads.items k)
   read_is k =
       let e : slot_tasks + k - slot_tasks ≡ k = omega arith in
@@ -113,6 +117,7 @@ module _ (b : Block) (g : ℕ → Answer) where
       (sum_same n _ (λ k. one (is_some (slice_get b.reads.items k))) (λ k l. ap one (read_declared k))
       ∙ reads_are n b.reads.items reads)
 
+  -- a course has as many tasks as the cost of the block counts
   pub tasks_are : FitsBlock b → tasks (course_of b g) ≡ size b
   tasks_are fits =
       let e = slot_tasks_is in let r = room_is in let i = fits.insts in

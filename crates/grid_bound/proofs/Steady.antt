@@ -71,6 +71,7 @@ module _ (blocks : List Block) (budget : ℕ) where
       ok = λ ok. subst (WindowOk blocks budget) (sym is) (happens_moves blocks good budget e v ok).ok;
     }
 
+    -- parts (2) to (6) leave the committed state and the run, and keep the window's invariant
     pub steady : {W : Type 0}
         → Carries blocks budget (λ (g h : Grid W). Onward blocks budget g.window h.window)
     steady = record {

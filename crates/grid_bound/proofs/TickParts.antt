@@ -32,10 +32,10 @@ use Rattle.grid_cycle_spec.specs.Cycles.{Moves}
 use Rattle.grid_cycle_spec.proofs.Routes.{leads_nearer}
 use Rattle.grid_bound.specs.UnderWay.{Nothing, Tied}
 use Rattle.grid_bound.specs.Rule.{HeldFrom, runs_in}
-use Rattle.grid_bound.proofs.Each.{any_flight, differ, each_map, equal, runs_flight}
+use Rattle.grid_bound.proofs.EachFrame.{any_flight, differ, each_map, equal, runs_flight}
 use Rattle.grid_bound.proofs.Entered.{put_here}
-use Rattle.grid_bound.proofs.Going.{Going}
-use Rattle.grid_bound.proofs.ArrivalParts.{arrivals_going, places_are}
+use Rattle.grid_bound.proofs.GoingGrids.{Going}
+use Rattle.grid_bound.proofs.ArrivalPlaces.{arrivals_going, places_are}
 
 -- a tick -----------------------------------------------------------------------------------------
 

@@ -18,7 +18,7 @@ use Rattle.grid_cycle_spec.specs.Grid.{Grid}
 use Rattle.grid_bound.specs.UnderWay.{to_come, Tied, Nothing}
 use Rattle.grid_bound.specs.Rule.{EachFrame, FrameRule, HeldFrom, RuleFrom, FetchRule, UnitsRule, runs_in}
 use Rattle.grid_cycle_spec.specs.Acting.{known_next}
-use Rattle.grid_bound.proofs.Each.{FrameAt, each_left, each_rest, each_step, runs_join, runs_step, same}
+use Rattle.grid_bound.proofs.EachFrame.{FrameAt, each_left, each_rest, each_step, runs_join, runs_step, same}
 use Rattle.grid_bound.proofs.Travels.{travels_by, in_unit_by}
 
 -- the rule but for the fetch unit, by what it speaks of
@@ -34,6 +34,7 @@ pub record Ties (least : ℕ) (fs : List Frame) (parcels : Places) (asked works 
 abbrev pub TiesOf : {W : Type 0} → ℕ → Grid W → Type 0
 TiesOf least g = Ties least g.window.frames g.parcels g.asked g.works g.careful g.units
 
+-- the ties of a grid that has its rule
 pub ties_of : {W : Type 0} (least : ℕ) (g : Grid W) → RuleFrom least g → TiesOf least g
 ties_of least g r = record {
   frames = r.frames;
@@ -44,6 +45,7 @@ ties_of least g r = record {
   mesh = r.mesh;
 }
 
+-- the rule of a grid whose ties and fetch are right
 pub rule_of : {W : Type 0} (least : ℕ) (g : Grid W) → TiesOf least g → FetchRule (known_next g.window) g.fetching
     → RuleFrom least g
 rule_of least g t f = record {

@@ -18,8 +18,8 @@ use Rattle.grid_bound.specs.Laws.{Has, Landed, FineAt, Fine, Placed, FrontRule, 
 use Rattle.grid_bound.proofs.Counting.{any_from}
 use Rattle.grid_bound.proofs.Mesh.{landed_more}
 use Rattle.grid_bound.proofs.Work.{calm_drop}
-use Rattle.grid_bound.proofs.Parts.{GoodTasks, standing_is, idle_is, there_left, all_come_more}
-use Rattle.grid_bound.proofs.Kept.{sent_fine}
+use Rattle.grid_bound.proofs.PartsLowerWork.{GoodTasks, standing_is, idle_is, there_left, all_come_more}
+use Rattle.grid_bound.proofs.RuleKept.{sent_fine}
 
 -- one answer --------------------------------------------------------------------------------------
 

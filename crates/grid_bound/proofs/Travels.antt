@@ -18,17 +18,20 @@ use Rattle.commit_flush_spec.proofs.Committing.{both_true}
 use Rattle.commit_flush_spec.proofs.Lists.{none_or}
 use Rattle.grid_cycle_spec.specs.Arrivals.{is_waiting}
 use Rattle.grid_bound.specs.UnderWay.{to_come, form_travels, inst_travels, travels, Gives, SlotGives, InUnit}
-use Rattle.grid_bound.proofs.Each.{same, equal, apart}
+use Rattle.grid_bound.proofs.EachFrame.{same, equal, apart}
 
 -- flags ------------------------------------------------------------------------------------------
 
+-- what is not none passes the test for some
 pub some_is : {A : Type 0} (t : Option A) → t ≢ None → is_some t ≡ true
 some_is None n = absurd (n refl)
 some_is (Some v) n = refl
 
+-- the test for some fails at none
 pub none_is : {A : Type 0} (t : Option A) → t ≡ None → is_some t ≡ false
 none_is t e = ap is_some e
 
+-- what passes the test for some is not none
 pub is_there : {A : Type 0} (t : Option A) → is_some t ≡ true → t ≢ None
 is_there None e = λ z. true≢false (sym e)
 is_there (Some v) e = λ z. cc
@@ -43,10 +46,12 @@ absorbs true b h = refl
 absorbs false true h = absurd (true≢false (sym (h refl)))
 absorbs false false h = refl
 
+-- what is not true is false
 pub false_of : (b : Bool) → (b ≡ true → ⊥) → b ≡ false
 false_of true h = absurd (h refl)
 false_of false h = refl
 
+-- a conjunction whose right part is false is false
 pub and_none : (a : Bool) → (a && false) ≡ false
 and_none true = refl
 and_none false = refl
@@ -54,6 +59,7 @@ and_none false = refl
 pub waits_same : (s : ℕ) → is_waiting (Some s) s ≡ true
 waits_same s = same s
 
+-- the slot that waits with a number is the one that the test names
 pub waits_for : (q : Option ℕ) (s : ℕ) → is_waiting q s ≡ true → q ≡ Some s
 waits_for None s e = absurd (true≢false (sym e))
 waits_for (Some k) s e = ap Some (equal k s e)
@@ -113,6 +119,7 @@ module _ (asked works : ℕ → Bool) (f : Frame) where
       ap (λ b. cond b (inst_travels asked works f (slot_of f.code (p / 2)) p) (is_some (at f.places p))) low
       ∙ ap (λ o. inst_travels asked works f o p) is
 
+  -- in the places of an empty slot nothing travels
   pub none_travels : (p : ℕ) → nat_lt p 256 ≡ true → slot_of f.code (p / 2) ≡ None → travels asked works f p ≡ false
   none_travels p low is =
       ap (λ b. cond b (inst_travels asked works f (slot_of f.code (p / 2)) p) (is_some (at f.places p))) low
@@ -132,6 +139,7 @@ module _ (asked works : ℕ → Bool) (f : Frame) where
       ∙ ap₂ (λ k b. not (works k) && form_travels (form_of i.op) b (to_come asked f (form_of i.op) i k)
       (is_some (at f.places (2 * s)))) (half_first s) (even_first s)
 
+  -- what travels in the second place of a slot that holds an instruction
   pub second_travels : (s : ℕ) (i : Inst) → s < 128 → slot_of f.code s ≡ Some i
       → travels asked works f (suc (2 * s)) ≡ (not (works s) && form_travels (form_of i.op) false
       (to_come asked f (form_of i.op) i s) (is_some (at f.places (suc (2 * s)))))

@@ -15,8 +15,8 @@ use Rattle.grid_bound.specs.Blocks.{course_of}
 use Rattle.grid_bound.proofs.Courses.{course_good}
 use Rattle.grid_bound.specs.UnitRule.{UnitRule}
 use Rattle.grid_bound.specs.Parts.{Tells, Working}
-use Rattle.grid_bound.proofs.Ended.{oldest_ok}
-use Rattle.grid_bound.proofs.Working as working
+use Rattle.grid_bound.proofs.OldestEnds.{oldest_ok}
+use Rattle.grid_bound.proofs.AllUnits as working
 
 pub units_work : {W : Type 0} (blocks : List Block) → AllGood blocks → (budget : ℕ) (t : ℕ → Answer) (g : Grid W)
     (f : Frame) (fs : List Frame) → g.window.frames ≡ f ∷ fs → WindowOk blocks budget g.window

@@ -15,12 +15,12 @@ use Rattle.grid_cycle_spec.specs.Choosing.{eldest, each, slots}
 use Rattle.grid_cycle_spec.specs.Units.{slot_enters, rests, result_chosen, in_unit, unit_on, ready, takes}
 use Rattle.grid_cycle_spec.specs.Units.{issued, issue_chosen, issues, unit_turn, works_on}
 use Rattle.grid_bound.specs.Rule.{EachFrame, runs_in}
-use Rattle.grid_bound.proofs.Each.{Chosen, each_rest, eldest_is, eldest_none, equal}
-use Rattle.grid_bound.proofs.Each.{find_at, runs_are, same, with_at}
-use Rattle.grid_bound.proofs.Going.{Going, awake, done_is, each_going, frame_ok}
+use Rattle.grid_bound.proofs.EachFrame.{Chosen, each_rest, eldest_is, eldest_none, equal}
+use Rattle.grid_bound.proofs.EachFrame.{find_at, runs_are, same, with_at}
+use Rattle.grid_bound.proofs.GoingGrids.{Going, awake, done_is, each_going, frame_ok}
 use Rattle.grid_bound.proofs.Units.{goes_on, had_none, out_going, slots_are, units_to}
-use Rattle.grid_bound.proofs.Issues.{fire_going}
-use Rattle.grid_bound.proofs.Going.{frame_tied}
+use Rattle.grid_bound.proofs.IssueRule.{fire_going}
+use Rattle.grid_bound.proofs.GoingGrids.{frame_tied}
 
 -- turns ------------------------------------------------------------------------------------------
 

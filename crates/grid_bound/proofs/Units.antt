@@ -27,14 +27,14 @@ use Rattle.grid_cycle_spec.specs.Units.{result_enters, slot_enters, rests}
 use Rattle.grid_cycle_spec.proofs.Routes.{data_inside, tile_inside}
 use Rattle.grid_bound.specs.UnderWay.{form_travels, Gives, Tied, to_come, travels}
 use Rattle.grid_bound.specs.Rule.{HeldFrom, UnitsRule}
-use Rattle.grid_bound.proofs.Each.{FrameAt, apart, equal}
-use Rattle.grid_bound.proofs.Each.{own_at, same}
+use Rattle.grid_bound.proofs.EachFrame.{FrameAt, apart, equal}
+use Rattle.grid_bound.proofs.EachFrame.{own_at, same}
 use Rattle.grid_bound.proofs.Travels.{IsPlace, Result, and_none, first_travels, none_is, result_of}
 use Rattle.grid_bound.proofs.Travels.{second_travels, waiting_none, waits_for}
 use Rattle.grid_bound.proofs.Entered.{away, both_enter, put_each, put_here, put_other}
 use Rattle.grid_bound.proofs.TiedFrames.{result_tied}
-use Rattle.grid_bound.proofs.Going.{Going, awake, frame_ok}
-use Rattle.grid_bound.proofs.Going.{frame_tied, sees, stayed}
+use Rattle.grid_bound.proofs.GoingGrids.{Going, awake, frame_ok}
+use Rattle.grid_bound.proofs.GoingGrids.{frame_tied, sees, stayed}
 
 -- one of a frame's slots -------------------------------------------------------------------------
 

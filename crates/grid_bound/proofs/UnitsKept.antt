@@ -30,7 +30,7 @@ use Rattle.grid_cycle_spec.specs.DataTiles.{answers_request, answered_by, answer
 use Rattle.grid_cycle_spec.specs.Arrivals.{asks, delivers, is_waiting, slot_arrives, inst_arrives}
 use Rattle.grid_cycle_spec.specs.Arrivals.{place_arrives, arrives_if, arrival, arrivals}
 use Rattle.grid_bound.proofs.Entering.{both_only}
-use Rattle.grid_bound.proofs.Fetched.{begins_begun}
+use Rattle.grid_bound.proofs.OldestFetches.{begins_begun}
 
 module _ {W : Type 0} (blocks : List Block) (budget : ℕ) where
   abbrev Kept : (Grid W → Grid W) → Type 0
@@ -89,6 +89,7 @@ module _ {W : Type 0} (blocks : List Block) (budget : ℕ) where
   oldest_kept g = either (may blocks budget window.Commit g) (commit_in blocks budget g.window.frames g) g g
       (commit_kept g.window.frames g) refl
 
+  -- part (1), the ends, leaves the units as they are
   pub ends_kept : Kept (ends blocks budget)
   ends_kept g = oldest_kept (seal_each blocks budget (numbers_of g.window.frames) g)
       ∙ seals_kept (numbers_of g.window.frames) g
@@ -107,6 +108,7 @@ module _ {W : Type 0} (blocks : List Block) (budget : ℕ) where
   fetched_kept None g = refl
   fetched_kept (Some x) g = on_kept x.left x g
 
+  -- part (2), the fetch unit, leaves the units as they are
   pub fetches_kept : Kept (fetches blocks budget)
   fetches_kept g = ap (λ (k : Grid W). k.units) (begins_begun blocks budget (fetch_ends blocks budget g.fetching g))
       ∙ fetched_kept g.fetching g
@@ -121,6 +123,7 @@ module _ {W : Type 0} (blocks : List Block) (budget : ℕ) where
       (happens blocks budget (window.Read q.0 q.1) g.window).frames
       (record g { window = happens blocks budget (window.Read q.0 q.1) g.window })
 
+  -- part (3), the banks, leaves the units as they are
   pub banks_kept : Kept (reads_answered blocks budget)
   banks_kept = each_kept (bank_turn blocks budget)
       (λ bank g. read_kept bank (eldest (answers_read blocks budget g bank) reads g.window.frames) g) 4
@@ -153,6 +156,7 @@ module _ {W : Type 0} (blocks : List Block) (budget : ℕ) where
   chosen_kept tile (Some c) g = frame_kept (λ f h. answered_by blocks budget tile c.0 c.1 (request f c.1) h)
       (λ x h. answered_kept tile c.0 c.1 (request x c.1) h) c.0 g.window.frames g
 
+  -- part (4), the data tiles, leaves the units as they are
   pub answers_kept : Kept (answers blocks budget)
   answers_kept = each_kept (data_turn blocks budget)
       (λ tile g. chosen_kept tile (eldest (answers_request g tile) numbers g.window.frames) g) 4
@@ -181,6 +185,7 @@ module _ {W : Type 0} (blocks : List Block) (budget : ℕ) where
   comes_kept n p (Some c) g = frame_kept (place_arrives blocks budget p) (place_kept p) n g.window.frames
       (record g { parcels = without g.parcels (Some c) })
 
+  -- arrivals leave the units as they are
   pub arrivals_kept : (ns : List ℕ) → Kept (arrivals blocks budget ns)
   arrivals_kept [] g = refl
   arrivals_kept (n ∷ ns) g = arrivals_kept ns (each (arrival blocks budget n) places g)

@@ -19,7 +19,7 @@ use Rattle.commit_flush_spec.proofs.Lists.{below_is}
 use Rattle.commit_flush_spec.specs.Observers.{has_number}
 use Rattle.commit_flush_spec.proofs.Producers.{node_of_slot}
 use Rattle.commit_flush_spec.proofs.Search.{some_is}
-use Rattle.grid_bound.proofs.Courses.{gives_left, if_parts, some_there}
+use Rattle.grid_bound.proofs.CourseSpots.{gives_left, if_parts, some_there}
 
 -- loads and stores have an address
 takes_address : (k : Form) (op : Op) → has_number k ≡ true → takes_left (role_in k op) ≡ true

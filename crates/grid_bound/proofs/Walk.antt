@@ -66,6 +66,7 @@ module _ {W : Type 0} (blocks : List Block) (budget : ℕ) (R : Grid W → Grid 
   where_true g x y true s t = s refl
   where_true g x y false s t = t
 
+  -- turns one after another keep what each of them keeps
   pub each_keeps : (turn : ℕ → Grid W → Grid W) → ((n : ℕ) (x : Grid W) → R x (turn n x))
       → (n : ℕ) (g : Grid W) → R g (each turn n g)
   each_keeps turn does zero g = k.same g
@@ -244,6 +245,7 @@ module _ {W : Type 0} (blocks : List Block) (budget : ℕ) (R : Grid W → Grid 
   pub works_keep : (g : Grid W) → R g (works_on blocks budget g)
   works_keep g = each_keeps (unit_turn blocks budget) turn_keeps tiles g
 
+  -- parts (2) to (5) keep what all changes carry on
   pub acts_keep : (g : Grid W) → R g (acts blocks budget g)
   acts_keep g =
       let a : Grid W = fetches blocks budget g in
@@ -291,6 +293,7 @@ module _ {W : Type 0} (blocks : List Block) (budget : ℕ) (R : Grid W → Grid 
       k.chain g m (arrives_if blocks budget n p (Some c) g) (k.quiet g m refl)
       (frame_keeps (place_arrives blocks budget p) (place_keeps p) n g.window.frames m)
 
+  -- the arrivals of some frames keep what all changes carry on
   pub arrivals_keep : (ns : List ℕ) (g : Grid W) → R g (arrivals blocks budget ns g)
   arrivals_keep [] g = k.same g
   arrivals_keep (n ∷ ns) g =

@@ -1,25 +1,12 @@
-//! The cycle bound over the grid's definitions: what a run of eager cycles may cost.
+//! The cycle bound, over the grid's definitions: an eager cycle of a grid that has its rule commits the oldest
+//! frame's block, traps, or lowers what is left for the block, whatever the other frames do; so a run costs at most
+//! so many cycles.
 //!
-//! specs/GoesOn.antt has the runs that go on, specs/OneCycle.antt what one cycle does.
-//!
-//! The lane of a grid that has its rule has the rule of lanes.
-//!
-//! A grid that has its rule gives what the parts of a cycle ask of the oldest frame.
-//!
-//! The grid's rule, as definitions and laws: what of a frame is under way, and that every cycle keeps it so.
-//!
-//! specs/UnderWay.antt has what is under way of one frame, specs/Rule.antt the rule of a grid.
-//!
-//! An eager cycle of the grid serves its oldest frame: what it does to the oldest frame, part by part, is what the
-//! lane of the cycle bound does.
-//!
-//! specs/Shows.antt has the oldest frame behind a part, specs/Behind.antt what stays of it while other frames act,
-//! and specs/ServedFirst.antt a cycle in which one grid of several comes first.
-//!
-//! The cycle bound, as definitions and laws: what the block that commits next sees of the grid, and how many cycles
-//! it takes at most, whatever the other frames do.
-//!
-//! specs/Serving.antt has a cycle as the oldest frame sees it, specs/Left.antt what is left for it.
+//! specs/Rule.antt has the rule of a grid, and specs/UnderWay.antt what is under way of one frame: every cycle keeps
+//! it. specs/Lane.antt has the lane, the grid as its oldest frame sees it, specs/Serving.antt its cycle, and
+//! specs/Left.antt what is left for it. specs/Shows.antt has the oldest frame behind a part of a cycle,
+//! specs/Behind.antt what stays of it while other frames act, and specs/ServedFirst.antt a cycle in which one grid of
+//! several comes first. specs/OneCycle.antt has the bound of one cycle, specs/GoesOn.antt the runs that go on.
 #![tactic(auto)]
 
 mod lane_law;

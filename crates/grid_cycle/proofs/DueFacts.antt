@@ -19,7 +19,7 @@ use Rattle.block_predict.specs.Predicts.{predicted}
 use Rattle.grid_cycle_spec.specs.Acting.{is_done, may}
 use Rattle.grid_cycle_spec.specs.Fetches.{begun_after, fetch_ends, fetch_on, fill_where, fills, has_room}
 use Rattle.grid_cycle_spec.specs.Grid.{Fetching, Grid}
-use Rattle.grid_bound.proofs.Fetched.{done_is, going}
+use Rattle.grid_bound.proofs.OldestFetches.{done_is, going}
 use Rattle.grid_parts.specs.Asked.{block_of, found_in, frame_of}
 use Rattle.grid_parts.proofs.PartFacts.{with_fetching}
 use Rattle.grid_parts.specs.Fetches.{due}

@@ -87,6 +87,7 @@ module _ (blocks : List Block) (some : 0 < length blocks) where
   more_inside t StackFull l = l
   more_inside t (Trap c) l = l
 
+  -- the machine's run from a block of the image comes to a block of the image
   pub runs_inside : (s : State) → s.next < length blocks → (n : ℕ) → (runs blocks s n).0.next < length blocks
   unfolding runs
   runs_inside s l zero = l
@@ -109,6 +110,7 @@ more_whole blocks t Ended w = w
 more_whole blocks t StackFull w = w
 more_whole blocks t (Trap c) w = w
 
+-- the machine's run leaves all registers and the whole of data memory
 pub runs_whole : (blocks : List Block) (s : State) → IsWhole s → (n : ℕ) → IsWhole (runs blocks s n).0
 unfolding runs
 runs_whole blocks s w zero = w

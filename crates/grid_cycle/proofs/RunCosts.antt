@@ -24,8 +24,8 @@ use Rattle.grid_machine.specs.WholeRuns.{GoesFor, IsRun, at_end, most_cycles}
 use Rattle.grid_machine.proofs.CallFacts.{closed_cycles}
 use Rattle.grid_machine.proofs.RunFacts.{closed_window, end_closed, end_going, going_by}
 use Rattle.grid_bound.specs.GoesOn.{GoesOn}
-use Rattle.grid_bound.proofs.Before.{cycles_before, steps}
-use Rattle.grid_bound.proofs.Standing.{reached_state, stands}
+use Rattle.grid_bound.proofs.CycleGrows.{cycles_before, steps}
+use Rattle.grid_bound.proofs.GridsOfRuns.{reached_state, stands}
 use Rattle.grid_bound.proofs.Costs as costs
 use Rattle.grid_machine.proofs.Starts.{most_is, went_of}
 use Rattle.grid_cycle.proofs.Growing.{cycle_grows}
@@ -45,6 +45,7 @@ spent stepped.Ended n budget i e = absurd (cc)
 spent stepped.StackFull n budget i e = absurd (cc)
 spent (stepped.Trap c) n budget i e = absurd (cc)
 
+-- the test of a run tells that it goes on
 pub goes_on : {W : Type 0} (budget : ℕ) (g : Grid W) → is_going budget g.window ≡ true → GoesOn budget g
 goes_on budget g e = record {
   went = went_of budget g.window e;

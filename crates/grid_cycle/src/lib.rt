@@ -1,9 +1,9 @@
 //! The grid as a type of its own: it runs to its end within its cost, in any weather, and tells what it waits for
 //! (docs/GRID.md, "The engine").
 //!
-//! The cycle bound of the runs of a seed, over their definitions alone.
-//!
-//! specs/Traps.antt has the endings that are traps.
+//! specs/Engines.antt has how contracts see a [`Grid`] and what its run has cost, specs/Nexts.antt and
+//! specs/Lacks.antt what it tells between cycles. `runs_of_a_seed_end` is the cycle bound of the runs of a seed, over
+//! their definitions alone; specs/Traps.antt has the endings that are traps.
 #![tactic(auto)]
 
 mod fetching;

@@ -32,7 +32,7 @@ use Rattle.grid_cycle_spec.specs.Acting.{is_done, may, flushed, gone, act}
 use Rattle.grid_cycle_spec.specs.Ends.{one_committed, learning, committed_as, commit_in}
 use Rattle.grid_cycle_spec.specs.Fetches.{fills}
 use Rattle.grid_cycle_spec.specs.Cycles.{AfterCycles, closed}
-use Rattle.grid_cycle_spec.proofs.Parts.{IsSingle, IsFlushing, Keeps, cycles_keep}
+use Rattle.grid_cycle_spec.proofs.KeptByCycles.{IsSingle, IsFlushing, Keeps, cycles_keep}
 
 -- frames in flight -------------------------------------------------------------------------------
 
@@ -311,6 +311,7 @@ module _ {W : Type 0} (blocks : List Block) (budget : ℕ) where
           (sym (happens_done blocks budget window.Commit g.window may ∙ ap (λ xs. commit xs g.window) e))
           (outcome_adds (unless (cause_held f) (outputs f)) f fs g e adds)
 
+  -- that the frames add up is kept by each primitive change
   pub keeps : Keeps (Unit {0}) blocks budget (λ (g h : Grid W). AddsUp g → AddsUp h)
   keeps = record {
     same = λ g a. a;
@@ -324,6 +325,7 @@ module _ {W : Type 0} (blocks : List Block) (budget : ℕ) where
     counting = λ c g a. a;
   }
 
+  -- the frames still add up after some cycles
   pub cycles_add_up : (next : W → ℕ) (follows : W → W → Type 0) (n : ℕ) (g h : Grid W) → AddsUp g
       → AfterCycles next follows blocks budget n g h → AddsUp h
   cycles_add_up next follows n g h adds cycles =

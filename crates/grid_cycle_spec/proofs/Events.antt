@@ -11,7 +11,7 @@ use Rattle.grid_cycle_spec.specs.Grid.{Grid}
 use Rattle.grid_cycle_spec.specs.Acting.{flushed, gone}
 use Rattle.grid_cycle_spec.specs.Ends.{learning, committed_as, commit_in}
 use Rattle.grid_cycle_spec.specs.Cycles.{Eager, AfterCycles}
-use Rattle.grid_cycle_spec.proofs.Parts.{Keeps, eager_keeps, cycles_keep}
+use Rattle.grid_cycle_spec.proofs.KeptByCycles.{Keeps, eager_keeps, cycles_keep}
 
 plays_on : (blocks : List Block) (budget : ℕ) (es fs : List Event) (w : Window)
     → plays blocks budget (es ++ fs) w ≡ plays blocks budget fs (plays blocks budget es w)
@@ -68,11 +68,13 @@ module _ {W : Type 0} (blocks : List Block) (budget : ℕ) where
     counting = λ c g. no_event blocks budget g.window g.window refl;
   }
 
+  -- the window after an eager cycle is come to by events
   pub eager_steps : (next : W → ℕ) (follows : W → W → Type 0) (g h : Grid W) → Eager next follows blocks budget g h
       → ByEvents blocks budget g.window h.window
   eager_steps next follows = eager_keeps blocks budget
       (λ (g h : Grid W). ByEvents blocks budget g.window h.window) keeps tt next follows
 
+  -- the window after some cycles is come to by events
   pub cycles_steps : (next : W → ℕ) (follows : W → W → Type 0) (n : ℕ) (g h : Grid W)
       → AfterCycles next follows blocks budget n g h
       → ByEvents blocks budget g.window h.window

@@ -1,4 +1,4 @@
-pub mod Parts
+pub mod KeptByCycles
 pub mod Events
 pub mod Counting
 pub mod Routes

@@ -37,6 +37,7 @@ all_near i l = agree_below_at (λ i. near (i / 25) (i % 25)) (λ i. true) 625 i 
 all_lead : (i : ℕ) → i < 625 → leads (i / 25) (i % 25) ≡ true
 all_lead i l = agree_below_at (λ i. leads (i / 25) (i % 25)) (λ i. true) 625 i refl l
 
+-- two nodes of the mesh are at most eight links apart
 pub far_at_most : (a b : ℕ) → a < 25 → b < 25 → far a b ≤ 8
 far_at_most a b la lb = leb-true (far a b) 8 (pair_holds near all_near a b la lb)
 
@@ -61,6 +62,7 @@ apart a b ne = go (a == b) refl
     go true e = absurd (ne (eqb-true a b e))
     go false e = e
 
+-- the link that a parcel takes leads it nearer to its end
 pub leads_nearer : (a b : ℕ) → a < 25 → b < 25 → a ≢ b → IsNearer a b
 leads_nearer a b la lb ne =
     let both = or_right (a == b) _ (apart a b ne) (pair_holds leads all_lead a b la lb) in
@@ -71,15 +73,19 @@ leads_nearer a b la lb ne =
 
 -- stations ---------------------------------------------------------------------------------------
 
+-- a register's bank lies on the mesh
 pub bank_inside : (r : ℕ) → bank_node (bank_of r) < 25
 bank_inside r = omega arith
 
+-- an address's data tile lies on the mesh
 pub data_inside : (a : ℕ) → data_node (data_tile_of a) < 25
 data_inside a = omega arith
 
+-- a slot's tile lies on the mesh
 pub tile_inside : (s : ℕ) → tile_node (tile_of s) < 25
 tile_inside s = omega arith
 
+-- the node to which the token of a place goes lies on the mesh
 pub home_inside : (b : Block) (q : ℕ) → home b q < 25
 home_inside b q = go (nat_lt q first_write) (bank_of (slice_index_or b.writes.items (q - first_write) 0))
     (bank_inside (slice_index_or b.writes.items (q - first_write) 0))
@@ -99,6 +105,7 @@ pub cost_least : (b : Block) → 512 ≤ cost b
 unfolding cost
 cost_least b = omega arith
 
+-- the cost of a block is at most the greatest
 pub cost_most : (b : Block) → FitsBlock b → cost b ≤ greatest
 unfolding cost greatest
 cost_most b fits =
@@ -107,6 +114,7 @@ cost_most b fits =
     let reads = fits.reads in
     omega (arith, few, slots, reads)
 
+-- the cost of two traces one after the other is the sum of their costs
 pub cost_more : (blocks : List Block) (s t : List Traced)
     → cost_of blocks (s ++ t) ≡ cost_of blocks s + cost_of blocks t
 cost_more blocks [] t = omega arith
@@ -114,6 +122,7 @@ cost_more blocks (x ∷ s) t = let h = cost_more blocks s t in omega (arith, h)
 
 -- time -------------------------------------------------------------------------------------------
 
+-- each operation takes from one cycle to the longest latency
 pub takes_time : (op : Op) → TakesTime op
 takes_time Mul = record { some = omega arith; most = omega arith }
 takes_time Muli = record { some = omega arith; most = omega arith }

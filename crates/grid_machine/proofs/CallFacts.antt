@@ -46,6 +46,7 @@ module _ {W : Type 0} (budget : ℕ) where
   abbrev emptied : Grid W → Grid W
   emptied g = record g { window = record g.window { frames = [] } }
 
+  -- to close a grid leaves its count of cycles
   pub closed_cycles : (g : Grid W) → (closed g).counts.cycles ≡ g.counts.cycles
   closed_cycles g = flushed_cycles g.window.frames (emptied g)
 

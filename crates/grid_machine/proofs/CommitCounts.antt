@@ -22,7 +22,7 @@ use Rattle.grid_cycle_spec.specs.Acting.{is_done, may, flushed, gone, act}
 use Rattle.grid_cycle_spec.specs.Ends.{one_committed, learning, committed_as, commit_in}
 use Rattle.grid_cycle_spec.specs.Fetches.{fills}
 use Rattle.grid_cycle_spec.specs.Cycles.{AfterCycles, closed}
-use Rattle.grid_cycle_spec.proofs.Parts.{IsSingle, IsFlushing, Keeps, cycles_keep}
+use Rattle.grid_cycle_spec.proofs.KeptByCycles.{IsSingle, IsFlushing, Keeps, cycles_keep}
 use Rattle.grid_machine.specs.Tallies.{CountsCommits}
 
 done_of : (h : Happened) → is_done h ≡ true → h ≡ Done

@@ -17,8 +17,9 @@ use Rattle.grid_cycle_spec.specs.DataTiles.{answers}
 use Rattle.grid_cycle_spec.specs.Units.{works_on}
 use Rattle.grid_cycle_spec.specs.Arrivals.{arrivals}
 use Rattle.grid_cycle_spec.specs.Cycles.{Moves, counted}
-use Rattle.grid_cycle_spec.proofs.Parts.{Keeps, answers_keep, arrivals_keep, banks_keep, begins_keeps, ends_keep}
-use Rattle.grid_cycle_spec.proofs.Parts.{fetches_keep, works_keep}
+use Rattle.grid_cycle_spec.proofs.KeptByCycles.{Keeps, answers_keep, arrivals_keep, banks_keep, begins_keeps}
+use Rattle.grid_cycle_spec.proofs.KeptByCycles.{ends_keep}
+use Rattle.grid_cycle_spec.proofs.KeptByCycles.{fetches_keep, works_keep}
 use Rattle.grid_cycle_spec.proofs.Counting as counting
 use Rattle.grid_machine.specs.Counted.{IsCounted}
 

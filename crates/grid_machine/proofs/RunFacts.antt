@@ -49,6 +49,7 @@ module _ {W : Type 0} where
   pub end_going : (budget : ℕ) (g : Grid W) → is_going budget g.window ≡ true → at_end budget g ≡ g
   end_going budget g e = ap (λ b. cond b g (closed g)) e
 
+  -- where the run does not go on, its end closes the grid
   pub end_closed : (budget : ℕ) (g : Grid W) → is_going budget g.window ≡ false → at_end budget g ≡ closed g
   end_closed budget g e = ap (λ b. cond b g (closed g)) e
 
@@ -101,6 +102,7 @@ module _ {W : Type 0} (blocks : List Block) (budget : ℕ) (next : W → ℕ) (f
   by_end R g h last true e is one two = subst (λ x. R g x) (sym (is ∙ end_going budget last e)) one
   by_end R g h last false e is one two = subst (λ x. R g x) (sym (is ∙ end_closed budget last e)) two
 
+  -- a run counts as many committed blocks as its trace grows by
   pub run_counts : (n : ℕ) (g h : Grid W) → IsRun next follows blocks budget n g h → CountsCommits g h
   run_counts n g h r =
       let some : CountsCommits g r.last = cycles_count blocks budget next follows n g r.last
@@ -175,6 +177,7 @@ module _ {W : Type 0} (blocks : List Block) (budget : ℕ) (next : W → ℕ) (f
           counted = closed_adds_up last adds;
         }
 
+  -- a run that has ended has come to where the machine's run ends
   pub run_comes : (good : AllGood blocks) (n : ℕ) (g h : Grid W) (e : Ending) → WindowOk blocks budget g.window
       → g.window.over ≡ Went → AddsUp g → IsRun next follows blocks budget n g h → ended budget h.window ≡ Some e
       → ComesTo blocks g.window.state (budget - length g.window.state.trace) e h

@@ -99,6 +99,7 @@ module _ (blocks : List Block) (bytes input : List ℕ) (budget seed : ℕ) (ans
           comes = subst (λ n. HasCome blocks (start bytes input) n budget (most_cycles budget) answer h) all comes;
         }
 
+    -- a run of the started grid of a seed that was answered so is a run of the seed
     pub is_ran : (g : Grid PcgWeather) → g ≡ started bytes input seed
         → IsRun next_hold IsAfter blocks budget (h.counts.cycles - g.counts.cycles) g h
         → (g.counts.cycles ≤ most_cycles budget → h.counts.cycles ≤ most_cycles budget)
@@ -125,6 +126,7 @@ run_has_come next follows blocks b budget most n g h e m good ok on adds run ful
     (full (subst (λ x. is_going x h.window ≡ true) (sym e) o)))
     answer (tells ∙ ap (λ x. ended x h.window) e)
 
+-- the greatest number of cycles of a budget
 pub most_is : (budget : ℕ) → greatest_cost * budget ≡ most_cycles budget
 unfolding most_cycles greatest
 most_is budget = refl

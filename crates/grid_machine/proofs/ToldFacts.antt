@@ -24,6 +24,7 @@ pub found_none : {A : Type 0} (does : Frame → Option A) (n : ℕ) (fs : List F
     → None ≡ found_in does (frame_of n fs)
 found_none does n fs e = sym (ap (found_in does) (same_frame n fs ∙ e))
 
+-- what is found of a frame that was lent is found of the frame of its number
 pub found_some : {A : Type 0} (does : Frame → Option A) (n : ℕ) (fs : List Frame) (h : Held) (b : Block)
     (x : Option A)
     → IsLent h b (places.frame_of n fs) → ((sealed : Bool) → x ≡ does (as_frame sealed b h))

@@ -1,14 +1,13 @@
-//! The grid as a machine: made from an image and an input, and run to its end (docs/GRID.md, "Runs").
+//! The grid as a machine: made from an image and an input, moved cycle by cycle, and run to its end (docs/GRID.md,
+//! "Runs").
 //!
-//! Runs of the grid over any window, their laws, and what a trace may cost (docs/GRID.md, "Runs").
+//! A cycle and a run go over any window that keeps the contracts of `Windows`; specs/WholeRuns.antt has runs,
+//! specs/Endings.antt how they end, and specs/Answered.antt what a run is answered. [`cost`] is what a trace may
+//! cost.
 //!
-//! A cycle of the grid, over any window (docs/GRID.md, "A cycle").
-//!
-//! The window in code as the grid moves it (docs/GRID.md).
-//!
-//! `GridWindow` keeps the contracts of `Windows`: each event is the window's own, and what the grid asks of a frame
-//! is read off what the frame holds. Beside the window stands the shape of each block of the image, so that the slots
-//! which may fire are a few operations on words.
+//! [`GridWindow`] is the window in code as the grid moves it: each event is the window's own, and what the grid asks
+//! of a frame is read off what the frame holds. Beside the window stands the shape of each block of the image
+//! (specs/Shaped.antt), so that the slots which may fire are a few operations on words.
 #![tactic(auto)]
 
 mod asking;
@@ -17,13 +16,13 @@ mod costs;
 mod cycling;
 mod eager_runs;
 mod events;
-mod going;
 mod law;
 mod made;
 mod older;
 mod ready;
 mod requests;
 mod running;
+mod runs;
 mod shapes;
 mod tokens;
 mod violations;

@@ -37,7 +37,7 @@ pub fn cycle<W: Weather>(grid: &mut Grid<GridWindow, W>) -> Option<Ending>
     ensures budget { grid.new.window.budget ≡ grid.old.window.budget }
 {
     let budget = grid.window.window().budget();
-    crate::going::cycle(grid, budget)
+    crate::runs::cycle(grid, budget)
 }
 
 /// Cycles until the run has ended, and how: as the machine's run ends within what is left of the budget. None exactly
@@ -68,5 +68,5 @@ pub fn run<W: Weather>(grid: &mut Grid<GridWindow, W>) -> Option<Ending>
     grid.window.keeps_invariant();
     let budget = grid.window.window().budget();
     let most = most_cycles(budget);
-    crate::going::run(grid, budget, most)
+    crate::runs::run(grid, budget, most)
 }

@@ -13,7 +13,7 @@ use Rattle.grid_cycle_spec.specs.Acting.{is_done}
 use Rattle.grid_cycle_spec.specs.Banks.{is_bank, bank_in}
 use Rattle.grid_cycle_spec.specs.Choosing.{least, slots, reads, eldest}
 use Rattle.grid_cycle_spec.specs.DataTiles.{tile_for, asks_store, answers_request}
-use Rattle.grid_parts.specs.StateChoices.{first_found}
+use Rattle.grid_parts.specs.EldestChoices.{first_found}
 use Rattle.grid_parts.proofs.ChoiceFacts.{first_found_is}
 use Rattle.grid_parts.specs.Asked.{frame_of, found_in, holds_of, register_in, request_at, tile_in, store_in}
 use Rattle.grid_parts.specs.Choices.{fires, lowest_ready, in_bank, lowest_read}

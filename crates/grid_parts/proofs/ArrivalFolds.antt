@@ -23,7 +23,7 @@ use Rattle.grid_cycle_spec.specs.Acting.{act, flushed, gone}
 use Rattle.grid_cycle_spec.specs.Choosing.{each, places, with_frame}
 use Rattle.grid_cycle_spec.specs.Arrivals.{asks, delivers, is_waiting, slot_arrives, inst_arrives}
 use Rattle.grid_cycle_spec.specs.Arrivals.{place_arrives, arrives_if, arrival}
-use Rattle.grid_parts.specs.Quiet.{AreQuiet}
+use Rattle.grid_parts.specs.EmptyPlaces.{AreQuiet}
 
 places_are : places ≡ 320
 unfolding places

@@ -10,7 +10,7 @@ use Rattle.grid_cycle_spec.specs.Stations.{tile_of}
 use Rattle.grid_cycle_spec.specs.Grid.{numbers_of}
 use Rattle.grid_cycle_spec.specs.Choosing.{least, slots, found_in, eldest}
 use Rattle.grid_parts.specs.Bits.{frame_bit}
-use Rattle.grid_parts.specs.StateChoices.{found_for, first_found, lowest_slot}
+use Rattle.grid_parts.specs.EldestChoices.{found_for, first_found, lowest_slot}
 
 -- what is found for a number is what is found in the frame
 pub first_found_is : (find : ℕ → Option ℕ) (test : Frame → ℕ → Bool) (n : ℕ)
@@ -45,15 +45,18 @@ module _ (find : ℕ → Option ℕ) (order : List ℕ) (i : ℕ) where
       ≡ found_for (get_or order i 0) (find (get_or order i 0)) (first_found find (drop (i + 1) order))
   here inside = at_drop_more (first_found find) order i 0 inside
 
+  -- a frame at which nothing is found is passed over
   pub passed : i < length order → find (get_or order i 0) ≡ None
       → first_found find (drop (i + 1) order) ≡ first_found find (drop i order)
   passed inside none = sym (here inside
       ∙ ap (λ o. found_for (get_or order i 0) o (first_found find (drop (i + 1) order))) none)
 
+  -- a frame at which something is found is the first
   pub found : (s : ℕ) → i < length order → find (get_or order i 0) ≡ Some s
       → Some (get_or order i 0, s) ≡ first_found find (drop i order)
   found s inside some = sym (here inside
       ∙ ap (λ o. found_for (get_or order i 0) o (first_found find (drop (i + 1) order))) some)
 
+  -- behind the last frame nothing is found
   pub none_left : length order ≤ i → None ≡ first_found find (drop i order)
   none_left past = sym (at_drop_all (first_found find) order i past)

@@ -62,12 +62,14 @@ module _ {W : Type 0} (blocks : List Block) (budget : ℕ) (g : Grid W) where
 
 -- the youngest frame -------------------------------------------------------------------------------
 
+-- what is known of the next block behind all frames is the successor of the youngest one's exit
 pub known_youngest : (f : Frame) (fs : List Frame) (o : Older) → IsYoungest f fs
     → (after_all fs o).known ≡ successor_of f.exit
 known_youngest f [] o y = absurd y
 known_youngest f (h ∷ []) o y = ap (λ (x : Frame). successor_of x.exit) y
 known_youngest f (h ∷ (i ∷ fs)) o y = known_youngest f (i ∷ fs) (after h o) y
 
+-- the fetch that begins behind all frames is the one behind the youngest
 pub begun_youngest : {W : Type 0} (blocks : List Block) (f : Frame) (fs : List Frame) (g : Grid W) → IsYoungest f fs
     → begun_after blocks fs g ≡ begun_behind blocks f f.exit g
 begun_youngest blocks f [] g y = absurd y
@@ -110,6 +112,7 @@ abbrev pub block_in : Option ℕ → ℕ
 block_in None = 0
 block_in (Some k) = k
 
+-- a block that is due has a fetch of which nothing is left
 pub is_due : (o : Option Fetching) (k : ℕ) → due o ≡ Some k → IsDue o k
 is_due None k e = absurd (cc)
 is_due (Some f) k e = go (f.left == 0) refl e
@@ -134,10 +137,12 @@ pub record HasNumber (o : Option Exit) (k : ℕ) : Type 0 where
   pub is : o ≡ Some exit
   pub number : exit.exit ≡ k
 
+-- an exit whose number is told has come
 pub exit_is : (o : Option Exit) (k : ℕ) → Some k ≡ number_of o → HasNumber o k
 exit_is None k e = absurd (cc)
 exit_is (Some x) k e = record { exit = x; is = refl; number = sym (ap block_in e) }
 
+-- an exit of which no number is told has not come
 pub no_exit : (o : Option Exit) → None ≡ number_of o → o ≡ None
 no_exit None e = refl
 no_exit (Some x) e = absurd (cc)
@@ -151,6 +156,7 @@ pub record HasYoungest (fs : List Frame) (order : List ℕ) : Type 0 where
   pub is : IsYoungest frame fs
   pub named : frame_of (get_or order (length order - 1) 0) fs ≡ Some frame
 
+-- where some frame is in flight there is a youngest
 pub has_youngest : (fs : List Frame) (order : List ℕ) → order ≡ numbers_of fs → 0 < length order → AreNumbers order
     → HasYoungest fs order
 has_youngest [] order e some distinct = absurd (let none : length order ≡ 0 = ap length e in omega (arith, none))
@@ -165,11 +171,13 @@ has_youngest (h ∷ t) order e some distinct =
           ∙ named_youngest (h ∷ t) y.0 (h ∷ t) (all_named (h ∷ t) (subst AreNumbers e distinct)) y.1;
     }
 
+-- an empty order says that no frame is in flight
 pub none_flies : (fs : List Frame) (order : List ℕ) → order ≡ numbers_of fs → length order ≤ 0 → fs ≡ []
 none_flies [] order e none = refl
 none_flies (h ∷ t) order e none =
     absurd (let some : length order ≡ suc (length (numbers_of t)) = ap length e in omega (arith, some))
 
+-- the block that is told of a frame is its own
 pub block_is : (o : Option Frame) (f : Frame) (k : ℕ) → Some k ≡ found_in (λ h. Some h.block) o → o ≡ Some f
     → f.block ≡ k
 block_is o f k e is = sym (ap block_in (e ∙ ap (found_in (λ h. Some h.block)) is))

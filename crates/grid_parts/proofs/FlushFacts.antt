@@ -23,6 +23,7 @@ pub numbers_behind : (fs : List Frame) (before : List ℕ) (left : ℕ) → numb
 numbers_behind fs before left e = sym (drop-map (λ (f : Frame). f.number) left fs) ∙ ap (drop left) e
     ∙ sym (take_rest before left)
 
+-- there are as many frames as numbers
 pub as_many : (fs : List Frame) (before : List ℕ) → numbers_of fs ≡ before → length fs ≡ length before
 as_many fs before e = sym (length-map fs (λ (f : Frame). f.number)) ∙ ap length e
 

@@ -28,6 +28,7 @@ abbrev pub by_frame : {A : Type 0} → (Frame → A → A) → A → Option Fram
 by_frame does g None = g
 by_frame does g (Some f) = does f g
 
+-- what is done with the frame of a number hangs on that frame alone
 pub with_frame_is : {A : Type 0} (n : ℕ) (does : Frame → A → A) (fs : List Frame) (g : A)
     → with_frame n does fs g ≡ by_frame does g (frame_of n fs)
 with_frame_is n does [] g = refl

@@ -13,9 +13,9 @@ pub mod AnswerFacts
 pub mod BitFacts
 pub mod EventFacts
 pub mod MarkFacts
-pub mod StateBitFacts
+pub mod FlagFacts
 pub mod RowFacts
-pub mod StateFetchFacts
+pub mod FetchUnitFacts
 pub mod SlotFacts
 pub mod ChoiceFacts
 pub mod ForgetFacts

@@ -16,7 +16,7 @@ use Rattle.grid_cycle_spec.specs.Acting.{is_done}
 use Rattle.grid_cycle_spec.specs.Choosing.{least, slots, reads, eldest}
 use Rattle.grid_cycle_spec.specs.DataTiles.{answers_request}
 use Rattle.grid_parts.specs.Bits.{frame_bit}
-use Rattle.grid_parts.specs.StateChoices.{found_for, first_found, is_on, lowest_slot}
+use Rattle.grid_parts.specs.EldestChoices.{found_for, first_found, is_on, lowest_slot}
 use Rattle.grid_parts.proofs.SlotFacts.{least_none}
 use Rattle.grid_parts.specs.Asked.{frame_of, holds_of, register_of}
 use Rattle.grid_parts.specs.Choices.{fires, may_fire, lowest_ready, in_bank, may_read}

@@ -13,7 +13,7 @@ use Rattle.grid_cycle_spec.specs.Banks.{answers_read, bank_turn, read_chosen}
 use Rattle.grid_cycle_spec.specs.Choosing.{eldest, slots, reads, with_frame}
 use Rattle.grid_cycle_spec.specs.Sending.{enters, enters_if, enter_both}
 use Rattle.grid_cycle_spec.specs.Units.{issued, issue_chosen, issues, ready, takes}
-use Rattle.grid_parts.specs.StateChoices.{lowest_slot}
+use Rattle.grid_parts.specs.EldestChoices.{lowest_slot}
 use Rattle.grid_parts.specs.Asked.{frame_of}
 use Rattle.grid_parts.specs.Marked.{SlotsMarked, ReadsMarked}
 use Rattle.grid_parts.proofs.FrameFacts.{by_frame, with_frame_is}

@@ -7,7 +7,7 @@ use Rattle.commit_flush_spec.specs.Frames.{Frame}
 use Rattle.commit_flush_spec.specs.Laws.{AreNumbers}
 use Rattle.grid_cycle_spec.specs.Grid.{numbers_of}
 use Rattle.grid_cycle_spec.specs.Choosing.{least, found_in, eldest}
-use Rattle.grid_parts.specs.StateChoices.{found_for, first_found}
+use Rattle.grid_parts.specs.EldestChoices.{found_for, first_found}
 use Rattle.grid_parts.specs.Asked.{frame_of}
 
 -- each of some frames is found by its number among all

@@ -17,6 +17,7 @@ module _ {W : Type 0} where
   abbrev pub with_busy : (ℕ → ℕ) → (ℕ → ℕ → Bool) → Grid W → Grid W
   with_busy units works g = record g { units = units; works = works }
 
+  -- the grid with another fetch under way
   abbrev pub with_fetching : Option Fetching → Grid W → Grid W
   with_fetching f g = record g { fetching = f }
 
@@ -26,6 +27,7 @@ module _ {W : Type 0} where
   abbrev pub with_waits : (ℕ → Bool) → Option ℕ → Grid W → Grid W
   with_waits waits standing g = record g { waits = waits; standing = standing }
 
+  -- the grid with another predictor
   abbrev pub with_predictor : Holding → Grid W → Grid W
   with_predictor p g = record g { predictor = p }
 

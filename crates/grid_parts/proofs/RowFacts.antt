@@ -6,7 +6,7 @@ use Rattle.std.proofs.lemmas.Bool.{cases_eq, eq-eqb, ne_eqb}
 use Rattle.std.proofs.lemmas.Grind.{get_or-set_at}
 use Rattle.std.proofs.lemmas.List.{length-replicate}
 use Rattle.grid_parts.specs.Fetches.{AreHistories}
-use Rattle.grid_parts.proofs.StateBitFacts.{zeros, zero_at}
+use Rattle.grid_parts.proofs.FlagFacts.{zeros, zero_at}
 
 -- one place of a row
 pub set_row : {B : Type 0} (xs : List B) (n : ℕ) (v d : B) → n < length xs

@@ -9,10 +9,11 @@ use Rattle.std.proofs.Math.Nat.{div-div-eq-div-mul}
 use Rattle.std.specs.Int.{bit_at, trailing_zeros, w128}
 use Rattle.operand_net.specs.Marks.{has_bit}
 use Rattle.grid_cycle_spec.specs.Choosing.{least, slots}
-use Rattle.grid_parts.specs.StateChoices.{is_on, lowest_slot}
+use Rattle.grid_parts.specs.EldestChoices.{is_on, lowest_slot}
 
 -- the least number ---------------------------------------------------------------------------------
 
+-- the least number is the first that passes
 pub least_is : (test : ℕ → Bool) (n k r : ℕ) → k ≤ r → r < k + n → test r ≡ true
     → ((i : ℕ) → k ≤ i → i < r → test i ≡ false) → least test n k ≡ Some r
 least_is test zero k r from below here none = absurd (omega arith)
@@ -26,6 +27,7 @@ least_is test (suc n) k r from below here none = go (cases_eq k r)
         let l : k < r = omega (arith, ne) in
         ap (λ b. cond b (Some k) (least test n (suc k))) (none k (omega arith) l) ∙ behind ne
 
+-- where none passes there is no least number
 pub least_none : (test : ℕ → Bool) (n k : ℕ) → ((i : ℕ) → k ≤ i → i < k + n → test i ≡ false) → least test n k ≡ None
 least_none test zero k none = refl
 least_none test (suc n) k none =

@@ -24,6 +24,7 @@ pub some_frame : (o : Option Frame) → is_some (found_in (λ f. Some f.block) o
 some_frame None e = absurd (false≢true e)
 some_frame (Some f) e = (f, refl)
 
+-- a number of which no block is told has no frame in flight
 pub no_frame : (o : Option Frame) → is_some (found_in (λ f. Some f.block) o) ≡ false → o ≡ None
 no_frame None e = refl
 no_frame (Some f) e = absurd (false≢true (sym e))

@@ -1,5 +1,5 @@
 pub mod Youngest
-pub mod Quiet
+pub mod EmptyPlaces
 pub mod Asked
 pub mod Choices
 pub mod Marked
@@ -7,4 +7,4 @@ pub mod Bits
 pub mod Fetches
 pub mod Seen
 pub mod Changes
-pub mod StateChoices
+pub mod EldestChoices

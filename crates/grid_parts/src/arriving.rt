@@ -9,7 +9,7 @@ ghost use Rattle.operand_net.specs.Places.{at};
 ghost use Rattle.grid_cycle_spec.specs.Choosing.{each, places, with_frame};
 ghost use Rattle.grid_parts.specs.Seen.{seen};
 ghost use Rattle.grid_parts.specs.Asked.{frame_of};
-ghost use Rattle.grid_parts.specs.Quiet.{AreQuiet};
+ghost use Rattle.grid_parts.specs.EmptyPlaces.{AreQuiet};
 
 use crate::grid::Grid;
 use crate::windows::Windows;

@@ -4,7 +4,7 @@ ghost use Rattle.commit_flush_spec.specs.Window.{Window};
 ghost use Rattle.grid_cycle_spec.specs.Choosing.{eldest, slots};
 ghost use Rattle.grid_cycle_spec.specs.Grid.{numbers_of};
 ghost use Rattle.grid_cycle_spec.specs.Units as spec;
-ghost use Rattle.grid_parts.specs.StateChoices.{lowest_slot};
+ghost use Rattle.grid_parts.specs.EldestChoices.{lowest_slot};
 ghost use Rattle.grid_parts.specs.Seen.{seen};
 ghost use Rattle.grid_parts.specs.Changes.{less_busy, taken_up};
 

@@ -1,17 +1,12 @@
-//! Parts (1) to (5) of a cycle of the grid, over any window (docs/GRID.md, "A cycle").
+//! The six parts of a cycle of the grid, over any window (docs/GRID.md, "A cycle"), and the state that they work on.
 //!
-//! Part (6) of a cycle of the grid, over any window (docs/GRID.md, "A cycle").
+//! `Windows` is what the grid asks of a window of frames in flight: each event is one equation with the definitions
+//! of `commit_flush_spec`. `State` is what is under way beside the window: parcels, units, requests at data tiles,
+//! the fetch unit, the predictor, waiting bits and counts. A `Grid` is both; `seen` (specs/Seen.antt) leads from them
+//! to the grid of `grid_cycle_spec`, and each call is one change of it (specs/Changes.antt).
 //!
-//! What the stations of the grid choose of a window, and how tokens of a window's frames enter the mesh
-//! (docs/GRID.md).
-//!
-//! `Windows` says what the grid asks of a window of frames in flight: each event as one equation with the
-//! definitions of `commit_flush_spec`, and what is told of it.
-//!
-//! What is under way in the grid, beside its window: parcels, units, requests at data tiles, the fetch unit, the
-//! predictor, waiting bits and counts (docs/GRID.md).
-//!
-//! Each call of `State` is one change of the grid that the definitions of `grid_cycle_spec` name.
+//! specs/Choices.antt has what stations may take of a window, specs/EldestChoices.antt the eldest of it,
+//! specs/Marked.antt the marks that save looking.
 #![tactic(auto)]
 
 mod arriving;
@@ -29,6 +24,7 @@ mod flushing;
 mod frame_flags;
 mod grid;
 mod histories;
+mod parcels;
 mod read_marks;
 mod requests;
 mod requests_waiting;
@@ -36,7 +32,6 @@ mod sending;
 mod slots;
 mod slots_ready;
 mod state;
-mod state_arriving;
 mod units;
 mod windows;
 
@@ -45,7 +40,7 @@ pub use fetch_unit::FetchUnit;
 pub use frame_flags::FrameFlags;
 pub use grid::Grid;
 pub use histories::Histories;
-pub use read_marks::{ReadMarks, marked_reads, readable, readable_among};
+pub use read_marks::{ReadMarks, marked_reads, readable_among};
 pub use requests_waiting::{answerable, any_asked};
 pub use sending::{enter_both, enter_request};
 pub use slots::lowest_on;

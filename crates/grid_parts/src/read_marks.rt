@@ -123,18 +123,3 @@ pub fn readable_among<V: Windows>(
     }
     None
 }
-
-/// The eldest read that a bank may answer: the frame, and the read. `order` names the frames in flight, the oldest
-/// first.
-pub fn readable<V: Windows>(window: &V, bank: u8, order: &[u8]) -> Option<(u8, u8)>
-    requires order { order.now ≡ numbers_of (V.held window.now).frames }
-    requires within { All (λ n. n < 8) order.now }
-    requires distinct { AreNumbers order.now }
-    ensures value { result
-        ≡ eldest (answers (V.blocks window.now) (V.budget window.now) (V.held window.now) bank) reads
-        (V.held window.now).frames }
-    ensures within { IfSome result (λ q. (q.0 < 8) × (q.1 < 32)) }
-{
-    let marks = marked_reads(window);
-    readable_among(window, bank, order, &marks)
-}

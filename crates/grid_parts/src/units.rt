@@ -10,7 +10,7 @@ ghost use Rattle.grid_cycle_spec.specs.Costs as costs;
 ghost use Rattle.grid_cycle_spec.specs.Sending as sending;
 ghost use Rattle.grid_cycle_spec.specs.Stations as stations;
 ghost use Rattle.grid_cycle_spec.specs.Units as spec;
-ghost use Rattle.grid_parts.specs.StateChoices.{lowest_slot};
+ghost use Rattle.grid_parts.specs.EldestChoices.{lowest_slot};
 ghost use Rattle.grid_parts.specs.Seen.{seen};
 ghost use Rattle.grid_parts.specs.Asked.{frame_of};
 ghost use Rattle.grid_parts.specs.Marked.{SlotsMarked};

@@ -1,6 +1,5 @@
-//! The state of the grid beside its window, through units, requests, fetches and parcels.
-//!
-//! The predictor over a small image.
+//! Tests of the grid's state under single calls, through units, requests, fetches and parcels, and of the predictor
+//! over a small image.
 #![tactic(auto)]
 
 #[cfg(test)]

@@ -182,6 +182,7 @@ pub record Standing (ns ms : List Node) (place to from : ℕ → ℕ) : Type 0 w
   pub returned : (y : ℕ) → to (from y) ≡ y
 
 module _ (p q : ℕ → ℕ) (b c : Block) (f : FitsBlock b) (m : Permutes p q) (w : IsMoved p b c) where
+  -- The moved block has as many reads as the block.
   pub as_many : length c.reads.items ≡ length b.reads.items
   as_many = ap length w.reads ∙ length-map b.reads.items (renamed_read p)
 

@@ -56,6 +56,7 @@ pred_goes p s l =
     (le-ltb (256 + s) 256 (omega arith)) (lt-ltb (256 + s) 384 (omega arith))
     ∙ ap (λ t. 256 + p t) same
 
+-- Places from 384 on stay where they are.
 pub place_stays : (p : ℕ → ℕ) (q : ℕ) → 384 ≤ q → place_goes p q ≡ q
 place_stays p q l = three p q false false false (le-ltb q 128 (omega arith))
     (le-ltb q 256 (omega arith)) (le-ltb q 384 l)

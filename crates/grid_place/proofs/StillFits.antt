@@ -125,6 +125,7 @@ same_item [] k d e l = absurd (omega arith)
 same_item (x ∷ xs) zero d e l = refl
 same_item (x ∷ xs) (suc k) d e l = same_item xs k d e (omega arith)
 
+-- A moved block of one that fits does.
 pub still_fits : (p q : ℕ → ℕ) (b c : Block) → FitsBlock b → Permutes p q → IsMoved p b c
     → FitsBlock c
 still_fits p q b c f m w = record {

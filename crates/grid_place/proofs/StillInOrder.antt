@@ -210,6 +210,7 @@ module _ (p q : ℕ → ℕ) (b c : Block) (fits : FitsBlock b) (m : Permutes p 
         (sym w.writes) order.writes;
   }
 
+-- A moved block of one that is good is.
 pub still_good : (p q : ℕ → ℕ) (b c : Block) → FitsBlock b → GoodBlock b → Permutes p q
     → IsMoved p b c → GoodBlock c
 still_good p q b c fits good m w = record {

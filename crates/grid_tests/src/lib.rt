@@ -1,6 +1,5 @@
-//! Grids over images of a few small blocks: runs of a seed, and what a grid tells between cycles.
-//!
-//! Runs of the grid over the window in code, in calm weather and in the worst, with cycles that were counted by hand.
+//! Tests of the grid over the window in code, on images of a few small blocks: runs of a seed, runs in calm weather
+//! and in the worst with cycles that were counted by hand, and what a grid tells between cycles.
 #![tactic(auto)]
 
 #[cfg(test)]

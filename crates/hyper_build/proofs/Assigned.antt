@@ -65,6 +65,7 @@ keeps_assigned check at cuts joins P lists groups input n t a faithful bytes =
     (build_keeps check at (plan_of cuts joins groups) P input n t (groups_fit cuts joins P lists groups a) faithful
     bytes)
 
+-- By every plan the blocks built of a flat program, with its kept variables assigned, are blocks of it.
 pub gives_assigned : GivesAssigned
 gives_assigned cuts joins P lists groups t a =
     build_gives (plan_of cuts joins groups) P t (groups_fit cuts joins P lists groups a)

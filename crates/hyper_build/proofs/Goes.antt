@@ -31,9 +31,11 @@ clean_append (x ∷ xs) ys e = go (not (is_fault x)) (is_clean xs) (clean_append
 pub good_word : (a : ℕ) → a % 8 ≡ 0 → a + 8 ≤ data_size → is_good_address a 8 ≡ true
 good_word a e le = rw (eq-eqb (a % 8) 0 e, le-leb (a + 8) data_size le) refl
 
+-- Each block goes to itself in no steps.
 pub goes_here : (W : World) (b : Block) (m : Machine) → Goes W b m 0 b m
 goes_here W b m = record { by = λ n. let e : 0 + n ≡ n = omega arith in ap (λ k. run W.check W.at W.program k b m) e }
 
+-- Two ways from block to block, one behind the other, are one.
 pub goes_then : (W : World) (b b1 b2 : Block) (m m1 m2 : Machine) (j j1 : ℕ) → Goes W b m j b1 m1
     → Goes W b1 m1 j1 b2 m2 → Goes W b m (j + j1) b2 m2
 goes_then W b b1 b2 m m1 m2 j j1 g h = record {
@@ -41,6 +43,7 @@ goes_then W b b1 b2 m m1 m2 j j1 g h = record {
       ap (λ k. run W.check W.at W.program k b m) e ∙ g.by (j1 + n) ∙ h.by n;
 }
 
+-- A way of so many steps is one of an equal number.
 pub goes_count : (W : World) (b b1 : Block) (m m1 : Machine) (j i : ℕ) → j ≡ i → Goes W b m j b1 m1
     → Goes W b m i b1 m1
 goes_count W b b1 m m1 j i e g = subst (λ k. Goes W b m k b1 m1) e g
@@ -56,10 +59,12 @@ goes_block W b b1 m m1 clean h = record {
       ap (λ k. run W.check W.at W.program k b m) e ∙ clean_next W.check (is_clean (acts b.items m)) _ _ clean ∙ h n;
 }
 
+-- A jump goes to the block of its label in one step.
 pub goes_jump : (W : World) (l : ℕ) (b : Block) (m : Machine) → slice_get W.program l ≡ Some b
     → Goes W (jump l) m 1 b m
 goes_jump W l b m e = goes_block W (jump l) b m m refl (λ n. ap (λ o. run W.check W.at W.program n (block_or o) m) e)
 
+-- A cut goes on with what is behind it, in one block more or none.
 pub goes_cut : (W : World) (c : Bool) (l : ℕ) (k : Block) (m : Machine) → Has W.program l (cut_blocks c k)
     → Goes W (cut c l k) m (cut_size c) k m
 goes_cut W true l k m h = goes_jump W l k m h.0
@@ -73,6 +78,7 @@ goes_same W b b1 m m1 h = record {
       ap (λ k. run W.check W.at W.program k b m) e ∙ h n;
 }
 
+-- A register is set to the operation's result, and the block goes on, where no division faults.
 pub goes_set : (W : World) (r : ℕ) (op : Op) (x y : Source) (k : Block) (m : Machine)
     → is_clean (divisions op (value_of m.registers y)) ≡ true
     → Goes W (set_then r op x y k) m 0 k (with_register m r

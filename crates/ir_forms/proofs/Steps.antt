@@ -147,6 +147,7 @@ module _ (c : Checks) (fs : List Function) (base : ℕ) where
   at_zero d e Nop s = refl
   at_zero d e (x ▹ a) s = ap (λ r. then_run r (exec c (call_at d) e a)) (act_zero d e x s)
 
+  -- With no turns left code is unfinished, with what the state has put out.
   pub code_waits : (e : Env) (a : Code) (s : State) (out : List ℕ) → s.output ≡ out
       → Waits (code_run e a s) out s.rounds
   code_waits e a s out h = record {
@@ -186,6 +187,7 @@ module _ (c : Checks) (fs : List Function) (base : ℕ) where
   code_closed d e a s m = sym (exec_then d e a Nop s m)
       ∙ ap (λ x. exec c (call_at d) e x s m) (then_nop a)
 
+  -- Code that does nothing leads to the state where it began, in no turns.
   pub nop_leads : (e : Env) (s : State) → Leads (code_run e Nop s) 0 (settle s)
   nop_leads e s = record { by = λ k m d j q le lt. let e1 : m ≡ k = omega arith in ap (settle s) e1 }
 
@@ -203,6 +205,7 @@ module _ (c : Checks) (fs : List Function) (base : ℕ) where
     );
   }
 
+  -- Where the first part leads to a state and the second leads on from it, both do one behind the other.
   pub both_lead : (e : Env) (a b : Code) (s g : State) (t u : ℕ) (h : ℕ → Res)
       → Leads (code_run e a s) t (settle g)
       → Leads (code_run e b g) u h → Leads (code_run e (Then a b) s) (t + u) h
@@ -225,6 +228,7 @@ module _ (c : Checks) (fs : List Function) (base : ℕ) where
         ∙ h k (exec c (call_at d) e b);
   }
 
+  -- Where the first part of code stops, the code does.
   pub first_stops : (e : Env) (a b : Code) (s : State) (t : ℕ) (out : List ℕ) (r : ℕ)
       → Stops (code_run e a s) t out r
       → Stops (code_run e (Then a b) s) t out r
@@ -300,6 +304,7 @@ module _ (c : Checks) (fs : List Function) (base : ℕ) where
       single e (Get to) s (settle (with_next s to s.input))
       (settle_settled (with_next s to s.input)) (λ m d. refl)
 
+  -- A return leads to the end of the function with its word, in one turn.
   pub return_leads : (e : Env) (x : Arg) (s : State) (v : ℕ) → read c s x ≡ Some v
       → Leads (code_run e (only (Return (Some x))) s) 1 (Gave (Some v) s)
   return_leads e x s v hx =
@@ -486,7 +491,7 @@ module _ (c : Checks) (fs : List Function) (base : ℕ) where
       ≡ after_call s kept to (call_at d f ws e.used (counted s) k)
   call_is e f xs to kept s ws h d m k q =
       let next = λ (m : ℕ). must (read_all c s xs)
-          (λ ws. after_call s kept to (call_at d f ws e.used (counted s) m)) in
+      (λ ws. after_call s kept to (call_at d f ws e.used (counted s) m)) in
       ap (exec c (call_at d) e (only (Call f xs to kept)) s) q
       ∙ ap (λ r. then_run r settle)
       (ten_are s k next ∙ must_is (read_all c s xs) ws (λ ws. after_call s kept to

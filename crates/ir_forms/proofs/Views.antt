@@ -29,41 +29,53 @@ step_is : (x : FlatStmt-F FlatStmt) (s : FlatStmt) → roll-FlatStmt x ≡ s →
 unfolding step_of
 step_is x s e = ap (fold-FlatStmt Step step_by) (sym e) ∙ fold-roll-FlatStmt Step step_by x
 
+-- A constant, copy or operation, seen as a step of flat code.
 pub step_let : (to : ℕ) (op : Op) (a b : Arg) → step_of (stmt.Let to op a b) ≡ Let to op a b
 step_let to op a b = step_is (FlatStmt-F.Let to op a b) _ (stmt.rolls-Let to op a b)
 
+-- An address in the frame, seen as a step of flat code.
 pub step_frame : (to at : ℕ) → step_of (stmt.Frame to at) ≡ Frame to at
 step_frame to at = step_is (FlatStmt-F.Frame to at) _ (stmt.rolls-Frame to at)
 
+-- A load, seen as a step of flat code.
 pub step_load : (to : ℕ) (op : Op) (a : Arg) → step_of (stmt.Load to op a) ≡ Load to op a
 step_load to op a = step_is (FlatStmt-F.Load to op a) _ (stmt.rolls-Load to op a)
 
+-- A store, seen as a step of flat code.
 pub step_save : (op : Op) (a v : Arg) → step_of (stmt.Save op a v) ≡ Save op a v
 step_save op a v = step_is (FlatStmt-F.Save op a v) _ (stmt.rolls-Save op a v)
 
+-- A call, seen as a step of flat code.
 pub step_call : (f : ℕ) (args : List Arg) (to : Option ℕ)
     → step_of (stmt.Call f args to) ≡ Call f args to stays
 step_call f args to = step_is (FlatStmt-F.Call f args to) _ (stmt.rolls-Call f args to)
 
+-- A byte put out, seen as a step of flat code.
 pub step_put : (v : Arg) → step_of (stmt.Put v) ≡ Put v
 step_put v = step_is (FlatStmt-F.Put v) _ (stmt.rolls-Put v)
 
+-- A byte read, seen as a step of flat code.
 pub step_get : (to : ℕ) → step_of (stmt.Get to) ≡ Get to
 step_get to = step_is (FlatStmt-F.Get to) _ (stmt.rolls-Get to)
 
+-- An if, seen as a step with the code of its legs.
 pub step_if : (t : Arg) (a b : List FlatStmt)
     → step_of (stmt.If t a b) ≡ If t (code_of a) (code_of b)
 step_if t a b = step_is (FlatStmt-F.If t a b) _ (stmt.rolls-If t a b)
 
+-- A loop, seen as a step with the code of its two parts.
 pub step_loop : (a b : List FlatStmt) → step_of (stmt.Loop a b) ≡ Loop (code_of a) (code_of b)
 step_loop a b = step_is (FlatStmt-F.Loop a b) _ (stmt.rolls-Loop a b)
 
+-- A break, seen as a step of flat code.
 pub step_break : step_of stmt.Break ≡ Break
 step_break = step_is FlatStmt-F.Break _ stmt.rolls-Break
 
+-- A continue, seen as a step of flat code.
 pub step_continue : step_of stmt.Continue ≡ Continue
 step_continue = step_is FlatStmt-F.Continue _ stmt.rolls-Continue
 
+-- A return, seen as a step of flat code.
 pub step_return : (v : Option Arg) → step_of (stmt.Return v) ≡ Return v
 step_return v = step_is (FlatStmt-F.Return v) _ (stmt.rolls-Return v)
 

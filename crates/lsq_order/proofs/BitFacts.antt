@@ -13,12 +13,15 @@ use Rattle.base.specs.Rows.{has_bit}
 
 -- tests of bits ----------------------------------------------------------------------------------
 
+-- a bit that is 1 is set
 pub is_set : (n i : ℕ) → bit_at n i ≡ 1 → has_bit n i ≡ true
 is_set n i e = ap (λ z. z == 1) e
 
+-- a bit that is 0 is not set
 pub is_clear : (n i : ℕ) → bit_at n i ≡ 0 → has_bit n i ≡ false
 is_clear n i e = ap (λ z. z == 1) e
 
+-- a bit is 0 or 1
 pub cases_bit : (n i : ℕ) → (bit_at n i ≡ 0) ⊎ (bit_at n i ≡ 1)
 cases_bit n i = go (bit_at n i) (bit_at-lt n i)
   where
@@ -39,6 +42,7 @@ low_part k n i l =
     let split : n ≡ n / 2 ^ k * 2 ^ k + n % 2 ^ k = omega arith in
     sym (ap (λ m. bit_at m i) split ∙ bit_at_cat_low (n / 2 ^ k) k (n % 2 ^ k) i l)
 
+-- the bits of a word shifted right by s are its bits from s on
 pub led_down_by : (n s i : ℕ) → bit_at (n / 2 ^ s) i ≡ bit_at n (s + i)
 led_down_by n s i = ap (λ k. k % 2) (div-div-eq-div-mul n (2 ^ s) (2 ^ i) ∙ ap (λ k. n / k) (sym (pow-add 2 s i)))
 
@@ -100,6 +104,7 @@ pub low_bytes_all : (n i : ℕ) → 8 ≤ n → i < 64 → has_bit (2 ^ 64 - 1) 
 low_bytes_all n i l below =
     is_set (2 ^ 64 - 1) i (bit_at_ones 64 i below) ∙ sym (lt-ltb i (8 * n) (omega arith))
 
+-- a bit of two words' common bits is set in both
 pub both_set : (a b i : ℕ) → has_bit (bit_and a b) i ≡ (has_bit a i && has_bit b i)
 both_set a b i = go (cases_bit a i) (cases_bit b i) (bit_at_and a b i)
   where
@@ -115,6 +120,7 @@ both_set a b i = go (cases_bit a i) (cases_bit b i) (bit_at_and a b i)
     go (inr x) (inr y) e = is_set (bit_and a b) i (omega arith)
         ∙ sym (ap₂ (λ x y. x && y) (is_set a i x) (is_set b i y))
 
+-- a bit of a word's complement is set where the word's is not
 pub not_set : (n i : ℕ) → n < 2 ^ 64 → i < 64 → has_bit (2 ^ 64 - 1 - n) i ≡ not (has_bit n i)
 not_set n i fits l = go (cases_bit n i) (bit_at_not w64 n i fits l)
   where

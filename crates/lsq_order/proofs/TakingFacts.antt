@@ -67,6 +67,7 @@ or_small : (o : Option ℕ) (c : ℕ) → ((b : ℕ) → o ≡ Some b → b < 25
 or_small None c h l = l
 or_small (Some b) c h l = h b refl
 
+-- a byte seen behind stores is below 256
 pub seen_small : (stores : ℕ → Option Stored) (mem : ℕ → ℕ) → ((a : ℕ) → mem a < 256) → (n a : ℕ)
     → byte_seen stores mem n a < 256
 seen_small stores mem h zero a = h a

@@ -25,6 +25,7 @@ pub numbers_are : numbers ≡ 32
 unfolding numbers
 numbers_are = refl
 
+-- where the search begins, no store has narrowed what was touched
 pub narrowed_start : (stores : ℕ → Option Stored) (from : ℕ) (touched : ℕ → Bool) (a : ℕ)
     → touched a ≡ narrowed stores from from touched a
 narrowed_start stores zero touched a = refl
@@ -32,6 +33,7 @@ narrowed_start stores (suc k) touched a =
     let low : nat_lt k (suc k) ≡ true = lt-ltb k (suc k) (omega arith) in
     sym (ap (λ b. cond b (touched a) (not (covers (stores k) a) && narrowed stores (suc k) k touched a)) low)
 
+-- one store more takes away the bytes that it covers
 pub narrowed_next : (stores : ℕ → Option Stored) (from n m : ℕ) (touched : ℕ → Bool) (a : ℕ) → from ≤ n → m ≡ n + 1
     → narrowed stores from m touched a ≡ (not (covers (stores n) a) && narrowed stores from n touched a)
 narrowed_next stores from n m touched a l e =
@@ -134,6 +136,7 @@ found_is stores loads touched from (Some m) h e size =
     (ap (λ f. took_touched f (at loads m)) (sym (passes_is stores m touched))
     ∙ ap (λ k. is_wrong stores loads touched k m) (sym e) ∙ h.wrong))
 
+-- behind all numbers, what is still seen of the touched addresses is what passes the stores
 pub left_is : (stores : ℕ → Option Stored) (touched : ℕ → Bool) (from a : ℕ) → from ≡ 0
     → narrowed stores from numbers touched a ≡ passes stores numbers touched a
 left_is stores touched from a e = ap (λ k. narrowed stores k numbers touched a) e ∙ passes_at stores numbers touched a

@@ -41,6 +41,7 @@ pub all_from : {A : Type 0} (P : A → Type 0) (xs : List A) → ((k : ℕ) (x :
 all_from P [] f = All-nil P
 all_from P (x ∷ xs) f = All-cons P x xs (f zero x refl) (all_from P xs (λ k y e. f (suc k) y e))
 
+-- Below its length a list has something at each place.
 pub within : {A : Type 0} (xs : List A) (k : ℕ) → k < length xs → (x : A) × (slice_get xs k ≡ Some x)
 within [] k l = absurd (omega (arith, l))
 within (x ∷ xs) zero l = (x, refl)
@@ -80,6 +81,7 @@ used_at want j (m ∷ nodes) s y (suc k) n i ei e w u =
     two true b e = refl
     two false b e = e
 
+-- Where both are true, each is.
 pub both_true : (a b : Bool) → (a && b) ≡ true → (a ≡ true) × (b ≡ true)
 both_true true true e = (refl, refl)
 both_true true false e = absurd (cc)

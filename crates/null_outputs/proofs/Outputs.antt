@@ -58,6 +58,7 @@ module _ (sure : Sure) (want : Want) (b : FlowBlock) where
       All-append (FitsFlowSource b) (store_source (form_of n.op) n j k) (stores_of (suc j) ns k)
       (source_fits (form_of n.op) n j k (omega (arith, l))) (stores_fit (suc j) ns k (omega (arith, l)))
 
+  -- The part for a write is as long as its size says.
   pub write_length : (p j : ℕ) (w : FlowWrite) → length (write_part sure want b p j w) ≡ write_size sure want b j w
   write_length p j w = go (sure None w.sources)
     where
@@ -66,6 +67,7 @@ module _ (sure : Sure) (want : Want) (b : FlowBlock) where
       go true = refl
       go false = nodes_length (cover sure want b) p w.sources
 
+  -- The part for a store number is as long as its size says.
   pub number_length : (p k : ℕ) → length (number_part sure want b p k) ≡ number_size sure want b k
   number_length p k =
       cond_length (number_open sure b k) _ (suc (list_size (stores_of 0 b.nodes k)))

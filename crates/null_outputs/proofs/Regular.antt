@@ -195,5 +195,6 @@ module _ (sure : Sure) (want : Want) (b : FlowBlock) where
       two (inr x) y fm fn f = absurd (x.load fm)
       two (inl x) (inr y) fm fn f = absurd (y.load fn)
 
+-- A regular block that is completed is regular.
 pub stays_regular : (b : FlowBlock) → FitsFlow b → IsRegular b → IsRegular (complete b)
 stays_regular b fits r = regular (sure_by b) (want_by b) b fits (want_is_closed b) r

@@ -32,11 +32,13 @@ pub cond_length : {A : Type 0} (b : Bool) (xs : List A) (k : ℕ) → length xs 
 cond_length true xs k e = e
 cond_length false xs k e = refl
 
+-- The part for a left operand is as long as its size says.
 pub left_length : (sure : Sure) (want : Want) (c : Cover) (p j : ℕ) (n : FlowNode)
     → length (left_part sure want c p j n) ≡ left_size sure want j n
 left_length sure want c p j n = cond_length (left_needed sure want j n) _ _
     (let e = nodes_length c (suc p) n.left in omega (arith, e))
 
+-- The part for a right operand is as long as its size says.
 pub right_length : (sure : Sure) (want : Want) (c : Cover) (p j : ℕ) (n : FlowNode)
     → length (right_part sure want c p j n) ≡ right_size sure want j n
 right_length sure want c p j n = cond_length (right_needed sure want j n) _ _
@@ -89,6 +91,7 @@ group_length : (p : ℕ) (s : Bool) (y : ℕ) (ms : List FlowSource) → length 
 group_length p s y [] = refl
 group_length p s y (m ∷ ms) = refl
 
+-- The part for a guard is as long as its size says.
 pub guard_part_length : (want : Want) (nodes : List FlowNode) (sure : Sure) (at : Places) (s : Bool) (p j : ℕ)
     (n : FlowNode)
     → length (guard_part want nodes (cover_of nodes sure at) s p j n) ≡ guard_part_size want nodes sure s j n
@@ -100,6 +103,7 @@ guard_part_length want nodes sure at s p j n =
 
 -- PLACES
 
+-- Things that are there and equal are equal.
 pub some_is : {A : Type 0} (a b : A) → Some a ≡ Some b → a ≡ b
 some_is a b e = ap (get a) e
   where
@@ -107,6 +111,7 @@ some_is a b e = ap (get a) e
     get d None = d
     get d (Some x) = x
 
+-- Equal numbers are found to be equal.
 pub same_eq : (i j : ℕ) → i ≡ j → nat_eq i j ≡ true
 same_eq i j e = grind (arith)
 
@@ -114,10 +119,12 @@ other_eq : (i j : ℕ) → j < i → nat_eq i j ≡ false
 other_eq i j e = grind (arith)
 
 module _ (regs : ℕ → ℕ) (h : ℕ → Answer) (f : Computes) where
+  -- Where joined lists of nodes obey, the first does.
   pub obeys_front : (j : ℕ) (a b : List FlowNode) → Obeys regs f h j (a ++ b) → Obeys regs f h j a
   obeys_front j [] b r = tt
   obeys_front j (n ∷ a) b r = (r.0, obeys_front (suc j) a b r.1)
 
+  -- Where joined lists of nodes obey, the second does, behind the first.
   pub obeys_back : (j : ℕ) (a b : List FlowNode) → Obeys regs f h j (a ++ b) → (k : ℕ) → j + length a ≡ k
       → Obeys regs f h k b
   obeys_back j [] b r k e = let e2 : j ≡ k = omega (arith, e) in subst (λ (i : ℕ). Obeys regs f h i b) e2 r

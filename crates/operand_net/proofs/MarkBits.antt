@@ -56,6 +56,7 @@ shifted : (n s i : ℕ) → s ≤ i → has_bit n i ≡ has_bit (n / 2 ^ s) (i -
 shifted n s i le = let e : s + (i - s) ≡ i = omega arith in
     ap (has_bit n) (sym e) ∙ sym (ap (λ z. z == 1) (shift_at n s (i - s)))
 
+-- a word that is 0 when shifted right has no bit from there on
 pub no_bit_from : (n s : ℕ) → s < 64 → n / 2 ^ s ≡ 0 → IsLowestBit n s 64
 no_bit_from n s below none = record {
   within = omega arith;
@@ -65,6 +66,7 @@ no_bit_from n s below none = record {
   some = λ e ne. absurd (ne (sym (div-one n) ∙ ap (λ z. n / 2 ^ z) (sym e) ∙ none));
 }
 
+-- the lowest bit from a place on is that of the word shifted right to there
 pub low_bit_from : (n s : ℕ) → s < 64 → n < 2 ^ 64 → n / 2 ^ s ≢ 0
     → IsLowestBit n s (s + trailing_zeros w64 (n / 2 ^ s))
 low_bit_from n s below fits some = go (trailing_zeros w64 (n / 2 ^ s))

@@ -20,6 +20,7 @@ pub same_work : (a b : Work) → a.nodes ≡ b.nodes → a.number ≡ b.number �
 same_work a b e f =
     ap (λ (ns : List FlowNode). work_of ns a.number) e ∙ ap (λ (k : ℕ). work_of b.nodes k) f
 
+-- Work to which nodes were added has them behind its own.
 pub adds_nodes : (a b : Work) (x : List FlowNode) → Adds a b x → b.nodes ≡ a.nodes ++ map low x
 adds_nodes a b x p = ap (λ (w : Work). w.nodes) p
 

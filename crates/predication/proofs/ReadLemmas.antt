@@ -106,6 +106,7 @@ noted_stores n ns old mid new f g =
 
 -- THE FIRST AND THE REST
 
+-- What follows from a clause of success holds where it does.
 pub on_ok : {A E : Type 0} → (r : Result A E) (P Q : Type 0) → (P → Q) → OnOk r P → OnOk r Q
 on_ok (Ok x) P Q f h = f h
 on_ok (Err e) P Q f h = h

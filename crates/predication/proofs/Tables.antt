@@ -96,6 +96,7 @@ read_inner : (j r : ℕ) (ss : List FlowSource) (kept : List Scope) → Inner (r
 read_inner j r [] kept = tt
 read_inner j r (s ∷ ss) kept = movs_inner r kept
 
+-- The nodes of an operand are quiet.
 pub operand_quiet : (j : ℕ) (env : Env) (a : Source) → Quiet (operand j env a).nodes
 operand_quiet j env (Const w) = chain_quiet 3 j w
 operand_quiet j env (Reg r) = read_quiet j r (env r).given (env r).kept
@@ -328,6 +329,7 @@ module _ (regs : ℕ → ℕ) (h : ℕ → Answer) where
   Calm [] = Unit {0}
   Calm (n ∷ ns) = (guard_token h n.guard ≢ Some Null) × AtMostOne regs h n × Calm ns
 
+  -- Two calm lists of nodes are one calm list.
   pub calm_append : (a b : List FlowNode) → Calm a → Calm b → Calm (a ++ b)
   calm_append [] b x y = y
   calm_append (n ∷ a) b x y = (x.0, x.1, calm_append a b x.2 y)
@@ -373,10 +375,12 @@ module _ (regs : ℕ → ℕ) (h : ℕ → Answer) where
     Runs j [] = Unit {0}
     Runs j (n ∷ ns) = (h j ≡ gives regs h (f j n) n) × (SettledIn (form_of n.op) n) × (Runs (suc j) ns)
 
+    -- Where two lists of nodes run, the first does.
     pub runs_front : (j : ℕ) (a b : List FlowNode) → Runs j (a ++ b) → Runs j a
     runs_front j [] b r = tt
     runs_front j (n ∷ a) b r = (r.0, r.1, runs_front (suc j) a b r.2)
 
+    -- Where two lists of nodes run, the second does behind the first.
     pub runs_back : (j : ℕ) (a b : List FlowNode) → Runs j (a ++ b) → Runs (j + length a) b
     runs_back j [] b r = let e : j ≡ j + 0 = omega arith in subst (λ (i : ℕ). Runs i b) e r
     runs_back j (n ∷ a) b r =

@@ -30,6 +30,7 @@ or_false false c e = (refl, e)
 pub member_cons : (q r : ℕ) (rs : List ℕ) → member q (r ∷ rs) ≡ false → (nat_eq q r ≡ false) × (member q rs ≡ false)
 member_cons q r rs e = or_false (nat_eq q r) (member q rs) e
 
+-- A register is in joined lists where it is in one of them.
 pub member_append : (q : ℕ) (a b : List ℕ) → member q (a ++ b) ≡ cond (member q a) true (member q b)
 member_append q [] b = refl
 member_append q (r ∷ a) b = rw (member_append q a b) (go (nat_eq q r) (member q a) (member q b))
@@ -122,6 +123,7 @@ side_inner : (b : Bool) (g : Scope) (j r : ℕ) (before mine : Entry) → Inner 
 side_inner true g j r before mine = tt
 side_inner false g j r before mine = left_inner g j r before.given before.kept
 
+-- The nodes that join the legs of an if are quiet.
 pub join_quiet : (rs : List ℕ) (t j : ℕ) (env yea nay : Env) (ty tn : List ℕ)
     → Quiet (join t j env yea nay ty tn rs).nodes
 join_quiet [] t j env yea nay ty tn = tt

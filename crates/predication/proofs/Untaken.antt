@@ -90,6 +90,7 @@ pub tested_inner : (g : Scope) (j : ℕ) (env : Env) (bits : Bits) (t : Source) 
 tested_inner g j env bits (Const w) = fresh_inner g j (operand j env (Const w)) (operand_inner j env (Const w))
 tested_inner g j env bits (Reg r) = test_inner g j env r (bits r)
 
+-- A form that is found to be a load is that of loads.
 pub load_form : (F : Form) → is_load F ≡ true → F ≡ form.Load
 load_form form.Load e = refl
 load_form form.General e = absurd (cc)
@@ -98,6 +99,7 @@ load_form form.Store e = absurd (cc)
 load_form form.Branch e = absurd (cc)
 load_form form.Constant e = absurd (cc)
 
+-- A form that is found to be a store is that of stores.
 pub store_form : (F : Form) → is_store F ≡ true → F ≡ form.Store
 store_form form.Store e = refl
 store_form form.General e = absurd (cc)

@@ -1,10 +1,10 @@
 pub mod Blocks
-pub mod Turns
+pub mod LineLoops
 pub mod Filling
 pub mod Several
 pub mod Beginnings
 pub mod Steps
 pub mod Data
-pub mod Ends
+pub mod LastByte
 pub mod Refused
 pub mod Fronts

@@ -1,7 +1,8 @@
-//! Images as target text (docs/MACHINE.md, "Target text"): [`print`] writes the one text of an
-//! image, and [`assemble`] reads it back.
+//! Images as target text (docs/MACHINE.md, "Target text"): [`print`] writes the one text of an image, and
+//! [`assemble`] reads it back, or gives the first fault of a text that is no image's.
 //!
-//! The lines of a target text (docs/MACHINE.md, "Target text"), read as `target_asm_spec` defines it.
+//! What a text is and how it is read stands in crates/target_asm_spec/specs, that reading is exact in
+//! `target_asm_laws`. specs/Taking.antt compares what a call returned with what reading gives.
 #![tactic(auto)]
 
 mod assembling;

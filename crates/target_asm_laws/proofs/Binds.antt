@@ -15,17 +15,20 @@ abbrev pub Holds : {A : Type 0} → (A → Type 0) → Result A AsmFault → Typ
 Holds P (Ok x) = P x
 Holds P (Err e) = Unit {0}
 
+-- what holds of the first answer and then of the next holds of both steps
 pub bind : {A B : Type 0} (P : A → Type 0) (Q : B → Type 0) (x : Option A) (f : A → Option B)
     → If P x → ((v : A) → P v → If Q (f v)) → If Q (x >>= f)
 bind P Q None f p q = tt
 bind P Q (Some v) f p q = q v p
 
+-- what holds of the first result and then of the next holds of both steps
 pub chain : {A B : Type 0} (P : A → Type 0) (Q : B → Type 0) (x : Result A AsmFault)
     (f : A → Result B AsmFault)
     → Holds P x → ((v : A) → P v → Holds Q (f v)) → Holds Q (x >>> f)
 chain P Q (Err e) f p q = tt
 chain P Q (Ok v) f p q = q v p
 
+-- what follows from what holds of an answer holds of it
 pub gives : {A : Type 0} (P Q : A → Type 0) (x : Option A) → If P x → ((v : A) → P v → Q v)
     → If Q x
 gives P Q None p q = tt
@@ -53,11 +56,13 @@ pub unless : {A : Type 0} (P : A → Type 0) (b : Bool) (x : A) → (b ≡ false
 unless P true x p = tt
 unless P false x p = p refl
 
+-- what holds of an answer wherever a test is true holds of the answer under the test
 pub when : {A : Type 0} (P : A → Type 0) (b : Bool) (x : Option A) → (b ≡ true → If P x)
     → If P (if b then x else None)
 when P true x p = p refl
 when P false x p = tt
 
+-- what holds of both branches holds of the choice
 pub fork : {A : Type 0} (P : A → Type 0) (b : Bool) (x y : Result A AsmFault)
     → (b ≡ true → Holds P x) → (b ≡ false → Holds P y) → Holds P (if b then x else y)
 fork P true x y p q = p refl

@@ -20,9 +20,11 @@ use Rattle.target_asm_laws.proofs.Binds.{If, bind, gives, unless, when}
 abbrev pub Spells : {A : Type 0} → (A → List ℕ) → (A → Type 0) → List ℕ → A × List ℕ → Type 0
 Spells words Small text r = Small r.0 → text ≡ words r.0 ++ r.1
 
+-- a text is this front and then the rest
 abbrev pub IsAfter : List ℕ → List ℕ → List ℕ → Type 0
 IsAfter front text rest = text ≡ front ++ rest
 
+-- what is read behind a front stands behind it
 pub after_is : (front text : List ℕ) → If (IsAfter front text) (after_in front text)
 unfolding after_in
 after_is [] text = refl
@@ -44,6 +46,7 @@ front_digits (c ∷ cs) = by (is_digit c) refl (front_digits cs)
     by true e h = rw (e, h) refl
     by false e h = refl
 
+-- a text is its first bytes and then the others
 pub parts : (n : ℕ) (text : List ℕ) → text ≡ take n text ++ drop n text
 parts zero text = refl
 parts (suc n) [] = refl
@@ -158,6 +161,7 @@ natural_is text = unless (IsNatural text) (is_no_number (digits_in text) text)
     (value_from 0 (take (digits_in text) text), drop (digits_in text) text)
     (natural_by (digits_in text) text (front_digits text) (length-front text))
 
+-- a text spells a small number in decimals, and then the rest
 abbrev pub IsNumber : List ℕ → ℤ × List ℕ → Type 0
 IsNumber text r = Spells signed_decimal IsSmall text r
 
@@ -176,6 +180,7 @@ number_by_is text (Some rest) h =
     (bind (IsNatural rest) (IsNumber (45 ∷ rest)) (natural_in rest) (λ n. below_zero n.0 n.1)
     (natural_is rest) (λ v p. below_is v.0 rest v.1 p))
 
+-- what is read as a number is what the text spells
 pub number_is : (text : List ℕ) → If (IsNumber text) (number_in text)
 unfolding number_in
 number_is text = number_by_is text (after_in (codes "-") text) (after_is (codes "-") text)
@@ -195,6 +200,7 @@ spaced_is text = bind (IsAfter (codes " ") text) (Spells spaced_words IsSmall te
 abbrev pub IsIndex : List ℕ → List ℕ → ℤ × List ℕ → Type 0
 IsIndex front text r = IsSmall r.0 → text ≡ front ++ (signed_decimal r.0 ++ 93 ∷ r.1)
 
+-- what is read as an index is what the text spells
 pub index_is : (front text : List ℕ) → If (IsIndex front text) (index_in front text)
 unfolding index_in
 index_is front text =
@@ -210,6 +216,7 @@ pub record InField (z : ℤ) (values n : ℕ) : Type 0 where
   pub is : z ≡ pos n
   pub below : n < values
 
+-- a number that is read as a field lies in it
 pub field_is : (z : ℤ) (values : ℕ) → If (InField z values) (field_in z values)
 unfolding field_in
 field_is (pos n) values = when (InField (pos n) values) (nat_lt n values) (Some n)

@@ -15,6 +15,7 @@ use Rattle.target_asm_laws.proofs.Fronts.{head_found, count_found, limit_found, 
 use Rattle.target_asm_laws.proofs.Meets.{line_found}
 use Rattle.target_asm_laws.proofs.BadGoals.{goal_found}
 
+-- the first fault of a text is what reading it answers
 pub read_fault : (text : List ℕ) (e : AsmFault) → FirstAsmFault text e → image_in text ≡ Err e
 read_fault text e (rule.no_head h) = head_found text h
 read_fault text e (rule.no_count t a h) = count_found text t a h
@@ -34,12 +35,14 @@ met text e = (fault_of text e, read_fault text e)
 err_is : (e f : AsmFault) → ◌≡◌ {A = Result Image AsmFault} (Err e) (Err f) → e ≡ f
 err_is e f h = cc
 
+-- a text has one first fault
 pub one : (text : List ℕ) (e f : AsmFault) → FirstAsmFault text e → FirstAsmFault text f → e ≡ f
 one text e f a b = err_is e f (sym (read_fault text e a) ∙ read_fault text f b)
 
 no_both : (i : Image) (e : AsmFault) → ◌≡◌ {A = Result Image AsmFault} (Ok i) (Err e) → ⊥
 no_both i e h = absurd cc
 
+-- a text is an image's or has a first fault, not both
 pub not_both : (i : Image) (text : List ℕ) (e : AsmFault) → TargetText i text
     → FirstAsmFault text e → ⊥
 not_both i text e t a = no_both i e (sym (read_again i text t) ∙ read_fault text e a)

@@ -33,14 +33,17 @@ use Rattle.target_asm_laws.proofs.Leads.{step_if, moved, at_once, by_line, fails
 
 -- ---- what cannot be
 
+-- none is not some
 pub none_some : {A : Type 0} (o : Option A) (x : A) → o ≡ None → o ≡ Some x → ⊥
 none_some None x a b = absurd cc
 none_some (Some y) x a b = absurd cc
 
+-- a test is not true and false
 pub clash : (b : Bool) → b ≡ true → b ≡ false → ⊥
 clash true x y = absurd cc
 clash false x y = absurd cc
 
+-- what holds of an answer holds of what it is
 pub found : {A : Type 0} (P : A → Type 0) (o : Option A) (x : A) → If P o → o ≡ Some x → P x
 found P o x h e = subst (If P) e h
 

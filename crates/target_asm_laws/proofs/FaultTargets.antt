@@ -22,6 +22,7 @@ capped_target (spelled.Left n) = spelled.Left (capped_z n)
 capped_target (spelled.Right n) = spelled.Right (capped_z n)
 capped_target (spelled.Pred n) = spelled.Pred (capped_z n)
 
+-- a target with its number capped, if there is one
 abbrev pub capped_maybe : Option SpelledTarget → Option SpelledTarget
 capped_maybe None = None
 capped_maybe (Some t) = Some (capped_target t)

@@ -35,6 +35,7 @@ use Rattle.target_asm_laws.proofs.FaultTargets.{capped_maybe, some_read, next_re
 
 -- ---- an instruction as it is read
 
+-- a goal with its number capped, if there is one
 abbrev pub capped_goal : Option Goal → Option Goal
 capped_goal None = None
 capped_goal (Some (Label k)) = Some (Label (capped_z k))
@@ -52,6 +53,7 @@ capped_numbers Branch n = numbers_are (capped_z n.number) (pos 0) (capped_goal n
 abbrev pub capped_targets : Targets → Targets
 capped_targets t = record { first = capped_maybe t.first; second = capped_maybe t.second }
 
+-- an instruction with all its numbers capped
 abbrev pub capped_inst : SpelledInst → SpelledInst
 capped_inst s = record {
   slot = capped_z s.slot;

@@ -99,6 +99,7 @@ pub record IsJudged (s : SpelledInst) (i : Inst) : Type 0 where
   pub first : IsMaybe s.targets.first i.first
   pub second : IsMaybe s.targets.second i.second
 
+-- what is judged as an instruction is what is spelled
 pub judged_is : (s : SpelledInst) → If (IsJudged s) (inst_of s)
 unfolding inst_of
 judged_is s =

@@ -80,6 +80,7 @@ pub place_append : (p : Place) (ls ms : List Line)
 place_append p [] ms = refl
 place_append p (l ∷ ls) ms = place_append (after p l) ls ms
 
+-- the words of lines one after the other
 pub words_append : (ls ms : List Line) (t : List ℕ)
     → lines_words (ls ++ ms) t ≡ lines_words ls (lines_words ms t)
 words_append [] ms t = refl

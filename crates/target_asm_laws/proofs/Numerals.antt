@@ -62,9 +62,11 @@ by_steps P one more (suc k) n l = by (cases_lt n 10) (by_steps P one more k)
 abbrev pub capped : ℕ → ℕ
 capped n = if nat_lt n 1000000000 then n else 1000000000
 
+-- a number below a thousand millions is not capped
 pub capped_small : (n : ℕ) → n < 1000000000 → capped n ≡ n
 capped_small n l = let e : nat_lt n 1000000000 ≡ true = lt-ltb n 1000000000 l in rw e refl
 
+-- a number of a thousand millions or more is capped
 pub capped_large : (n : ℕ) → 1000000000 ≤ n → capped n ≡ 1000000000
 capped_large n l = let e : nat_lt n 1000000000 ≡ false = le-ltb n 1000000000 l in rw e refl
 
@@ -166,6 +168,7 @@ capped_some n = by (cases_lt (suc n) 1000000000)
     by (inl l) = let c = capped_small (suc n) l in omega (arith, c)
     by (inr l) = let c = capped_large (suc n) l in omega (arith, c)
 
+-- a number that is written is read back, capped
 pub number_read : (z : ℤ) (rest : List ℕ) → digits_in rest ≡ 0
     → number_in (number_text z ++ rest) ≡ Some (capped_z z, rest)
 unfolding number_in number_text
@@ -191,6 +194,7 @@ spaced_read z rest d =
     let a : after_in (codes " ") (32 ∷ t) ≡ Some t = after_front (codes " ") t in
     rw a (number_read z rest d)
 
+-- an index that is written is read back, capped
 pub index_read : (front : List ℕ) (z : ℤ) (rest : List ℕ)
     → index_in front (front ++ (number_text z ++ 93 ∷ rest)) ≡ Some (capped_z z, rest)
 unfolding index_in
@@ -273,6 +277,7 @@ natural_of text = unless (IsNaturalOf text) (is_no_number (digits_in text) text)
     (value_from 0 (take (digits_in text) text), drop (digits_in text) text)
     (natural_by (digits_in text) text (front_digits text) (length-front text))
 
+-- a text is that of a number, which is read capped, and then the rest
 pub record IsNumberOf (text : List ℕ) (r : ℤ × List ℕ) : Type 0 where
   pub z : ℤ
   pub same : capped_z z ≡ r.0
@@ -300,6 +305,7 @@ number_by_of text (Some rest) h =
     (bind (IsNaturalOf rest) (IsNumberOf (45 ∷ rest)) (natural_in rest) (λ n. below_zero n.0 n.1)
     (natural_of rest) (λ v p. below_of p.n v.0 rest v.1 p.same p.is))
 
+-- a number that is read is that of the text's digits
 pub number_of_text : (text : List ℕ) → If (IsNumberOf text) (number_in text)
 unfolding number_in
 number_of_text text = number_by_of text (after_in (codes "-") text) (after_is (codes "-") text)
@@ -321,6 +327,7 @@ pub record IsIndexOf (front text : List ℕ) (r : ℤ × List ℕ) : Type 0 wher
   pub same : capped_z z ≡ r.0
   pub is : text ≡ front ++ (number_text z ++ 93 ∷ r.1)
 
+-- an index that is read is that of the text's digits
 pub index_of : (front text : List ℕ) → If (IsIndexOf front text) (index_in front text)
 unfolding index_in
 index_of front text =

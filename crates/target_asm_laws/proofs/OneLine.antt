@@ -51,6 +51,7 @@ small_same m (negsuc n) z l b e = absurd b
 
 -- ---- the first letter of a line
 
+-- the letter with which a line begins
 abbrev pub letter : Line → ℕ
 letter (line.block k mask) = 98
 letter (line.read s) = 82
@@ -157,6 +158,7 @@ insts_same p s r t u a b e =
           ∙ goal_kept (form_of r.op) r.op r.numbers (has_goal r.op r.numbers.goal b.1.goal);
     }
 
+-- two lines that may stand at a place and spell the same text are the same line
 pub one_line : (p : Place) (l m : Line) (t u : List ℕ) → MayStand p l → MayStand p m
     → line_words l t ≡ line_words m u → SameLine p l m t u
 unfolding line_words

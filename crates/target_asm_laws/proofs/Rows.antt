@@ -76,6 +76,7 @@ rows_are front one f P h (suc n) i line text l =
     rows_more f P i text r.0 r.1 rs.0 rs.1 rs.2 a b)))
     (λ e. record { few = omega (arith, l); each = tt; is = refl })
 
+-- the test of a place tells which number it is
 pub place_is : (z : ℤ) (k : ℕ) → is_place z k ≡ true → z ≡ pos k
 place_is (pos n) k e = ap pos (eqb-true n k e)
 place_is (negsuc n) k e = absurd cc

@@ -84,10 +84,12 @@ target_is text = target_by_is text (after_in (codes "N[") text) (after_is (codes
 
 -- ---- a target after a space, if there is one
 
+-- a space and the decimals of a target, if there is one
 abbrev pub maybe_decimals : Option SpelledTarget → List ℕ
 maybe_decimals None = []
 maybe_decimals (Some t) = 32 ∷ target_decimals t
 
+-- a target has a small number, if there is one
 abbrev pub SmallMaybe : Option SpelledTarget → Type 0
 SmallMaybe None = Unit {0}
 SmallMaybe (Some t) = SmallTarget t
@@ -165,6 +167,7 @@ spot_small (spot.Read n) f = absurd f
 spot_small (spot.Inst n) f = absurd f
 spot_small (spot.Store n) f = absurd f
 
+-- the target that is spelled for a spot that fits has a small number
 pub maybe_small : (s : Option Spot) → FitsTarget s → SmallMaybe (spelled_target s)
 maybe_small None f = tt
 maybe_small (Some s) f = spot_small s f

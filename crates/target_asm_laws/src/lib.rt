@@ -1,7 +1,8 @@
-//! That target text is read exactly: a text that is read as an image is the text of that image, so
-//! whoever reads an image need not print it again.
+//! Laws of target text, over the definitions of `target_asm_spec`: a text that is read as an image is the text of
+//! that image, so that whoever reads an image need not print it again; and a text is an image's or has a first fault,
+//! one and not both, which is the one that reading meets.
 //!
-//! That a text is an image's or has a first fault, one and not both, and that reading it finds it.
+//! The three laws stand in src/law.rt; the crate has no definitions of its own.
 #![tactic(auto)]
 
 mod law;

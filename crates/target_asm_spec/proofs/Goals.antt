@@ -75,6 +75,7 @@ found_goal all (pos n) k e =
     )
 found_goal all (negsuc n) k e = absurd cc
 
+-- each block has an entry in the list of chunks
 pub length-chunks_from : (here : ℕ) (bs : List Block) → length (chunks_from here bs) ≡ length bs
 length-chunks_from here [] = refl
 length-chunks_from here (b ∷ bs) = ap suc (length-chunks_from (here + chunks b) bs)

@@ -52,6 +52,7 @@ sum_of_bytes : (w : ℕ) → 16777216 * (w / 16777216) + 65536 * (w / 65536 % 25
     (w / 256 % 256) + w % 256 ≡ w
 sum_of_bytes w = omega arith
 
+-- a word that is written is read back
 pub word_again : (w : ℕ) (rest : List ℕ) → w < 4294967296
     → word_in (hex_word w ++ rest) ≡ Some (w, rest)
 unfolding word_in hex_word

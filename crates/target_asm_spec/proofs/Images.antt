@@ -59,6 +59,7 @@ limit_again : (n : ℕ) → n ≤ 4194304 → bytes_limit (pos n) ≡ Some n
 unfolding bytes_limit
 limit_again n l = rw (le-leb n 4194304 l) refl
 
+-- the head that is written is read back
 pub front_again : (n : ℕ) (rest : List ℕ) → n ≤ 4194304 → front_in (head_lines n ++ rest) ≡ Ok (n, rest)
 unfolding front_in
 front_again n rest l =
@@ -74,6 +75,7 @@ feed_by : (c : Bool) (t : List ℕ) → (if c then after_in (codes "\n") ((if c 
 feed_by true t = after_front (codes "\n") t
 feed_by false t = refl
 
+-- a data byte that is written is read back
 pub data_byte_again : (count at b : ℕ) (t : List ℕ) → b < 256
     → data_byte_in count at (byte_text count at b ++ t)
     ≡ Some (b, t)
@@ -86,6 +88,7 @@ data_byte_again count at b t l =
     let end : feed_in count at rest ≡ Some t = feed_by (((at + 1) % 32 == 0) || (at + 1 == count)) t in
     rw (e, one, end) refl
 
+-- data bytes that are written are read back
 pub bytes_again : (count at : ℕ) (bs rest : List ℕ) → Each (λ b. b < 256) bs
     → bytes_in count (length bs) at (numbered (byte_text count) at bs ++ rest) ≡ Ok (bs, rest)
 unfolding bytes_in
@@ -103,6 +106,7 @@ pub above_zero : (n : ℕ) → (n ≡ 0 → ⊥) → nat_lt 0 n ≡ true
 above_zero zero h = absurd (h refl)
 above_zero (suc n) h = lt-ltb 0 (suc n) (omega arith)
 
+-- the data that is written is read back, where its last byte is not 0
 pub data_again : (bs rest : List ℕ) → Each (λ b. b < 256) bs → (last_byte bs ≡ 0 → ⊥)
     → data_in (length bs) (numbered (byte_text (length bs)) 0 bs ++ rest) ≡ Ok (bs, rest)
 unfolding data_in
@@ -229,6 +233,7 @@ ok_is x y e = cc
 pub read_again : (i : Image) (text : List ℕ) → TargetText i text → image_in text ≡ Ok i
 read_again i text t = ap image_in t.spelled ∙ image_again i t.fits
 
+-- a text is that of one image at most
 pub one_image : (i j : Image) (text : List ℕ) → TargetText i text → TargetText j text → i ≡ j
 one_image i j text a b = ok_is i j (sym (read_again i text a) ∙ read_again j text b)
 

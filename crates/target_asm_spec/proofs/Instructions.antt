@@ -119,6 +119,7 @@ inst_again s i goal rest l f g =
 
 -- ---- judging
 
+-- a number that fits is judged to be itself
 pub signed_judged : (half : ℕ) (z : ℤ) → FitsSigned half z → signed_in half z ≡ Some z
 unfolding signed_in
 signed_judged half (pos n) f = rw (lt-ltb n half f) refl

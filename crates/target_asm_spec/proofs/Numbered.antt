@@ -22,6 +22,7 @@ numbered_more f k xs d h =
     ap (numbered f 0) (take_more xs k d h) ∙ numbered_end f 0 (take k xs) (get_or xs k d)
     ∙ ap (λ n. numbered f 0 (take k xs) ++ f n (get_or xs k d)) e
 
+-- one item more, with its number, goes on with what is written
 pub numbered_step : {A : Type 0} (f : ℕ → A → List ℕ) (k : ℕ) (xs : List A) (d : A)
     (start out new : List ℕ) → k < length xs → out ≡ start ++ numbered f 0 (take k xs)
     → new ≡ out ++ f k (get_or xs k d)
@@ -31,6 +32,7 @@ numbered_step f k xs d start out new h o n =
     ∙ append_assoc start (numbered f 0 (take k xs)) (f k (get_or xs k d))
     ∙ ap (λ t. start ++ t) (sym (numbered_more f k xs d h))
 
+-- equal ways to write items write the same
 pub numbered_same : {A : Type 0} (f g : ℕ → A → List ℕ) (k : ℕ) (xs : List A)
     → ((i : ℕ) (x : A) → f i x ≡ g i x) → numbered f k xs ≡ numbered g k xs
 numbered_same f g k [] h = refl

@@ -22,14 +22,17 @@ after_front (c ∷ cs) r = let e : (c == c) ≡ true = eq-eqb c c refl in rw e (
 
 -- ---- Bool
 
+-- the left part of a conjunction that is true is true
 pub and_left : (a b : Bool) → (a && b) ≡ true → a ≡ true
 and_left true b h = refl
 and_left false b h = absurd cc
 
+-- the right part of a conjunction that is true is true
 pub and_right : (a b : Bool) → (a && b) ≡ true → b ≡ true
 and_right true b h = h
 and_right false b h = absurd cc
 
+-- a conjunction of two that are true is true
 pub and_both : (a b : Bool) → a ≡ true → b ≡ true → (a && b) ≡ true
 and_both a b x y = rw (x, y) refl
 
@@ -39,16 +42,19 @@ and_none false = refl
 
 -- ---- digits
 
+-- whether all bytes are digits
 abbrev pub all_digits : List ℕ → Bool
 all_digits [] = true
 all_digits (b ∷ bs) = is_digit b && all_digits bs
 
+-- a byte from 48 to 57 is a digit
 pub is_in : (b : ℕ) → 48 ≤ b → b ≤ 57 → is_digit b ≡ true
 is_in b l h = and_both (nat_le 48 b) (nat_le b 57) (le-leb 48 b l) (le-leb b 57 h)
 
 pub low : (b : ℕ) → is_digit b ≡ true → 48 ≤ b
 low b h = leb-true 48 b (and_left (nat_le 48 b) (nat_le b 57) h)
 
+-- digits in front of what begins with none are all counted
 pub digits_all : (ds rest : List ℕ) → all_digits ds ≡ true → digits_in rest ≡ 0
     → digits_in (ds ++ rest) ≡ length ds
 unfolding digits_in
@@ -58,6 +64,7 @@ digits_all (d ∷ ds) rest h z =
     let more : all_digits ds ≡ true = and_right (is_digit d) (all_digits ds) h in
     rw one (ap suc (digits_all ds rest more z))
 
+-- digits with one more are digits
 pub all_append : (xs : List ℕ) (y : ℕ) → all_digits xs ≡ true → is_digit y ≡ true
     → all_digits (xs ++ y ∷ []) ≡ true
 all_append [] y h k = and_both (is_digit y) true k refl
@@ -65,6 +72,7 @@ all_append (x ∷ xs) y h k =
     and_both (is_digit x) (all_digits (xs ++ y ∷ [])) (and_left (is_digit x) (all_digits xs) h)
     (all_append xs y (and_right (is_digit x) (all_digits xs) h) k)
 
+-- the value of digits with one more
 pub value_append : (v : ℕ) (ds : List ℕ) (x : ℕ)
     → value_from v (ds ++ x ∷ []) ≡ with_digit (value_from v ds) x
 unfolding value_from
@@ -144,6 +152,7 @@ natural_again n rest l z =
     drop_at (decimal n) rest (length (decimal n)) refl in
     rw (size, good, front, back, d.value l) refl
 
+-- a number in decimals below a thousand millions is read back
 pub number_pos : (n : ℕ) (rest : List ℕ) → n < 1000000000 → digits_in rest ≡ 0
     → number_in (decimal n ++ rest) ≡ Some (pos n, rest)
 unfolding number_in
@@ -178,10 +187,12 @@ spaced_again z rest l d =
     after_front (codes " ") (signed_decimal z ++ rest) in
     rw a (number_again z rest l d)
 
+-- a byte that is no digit begins no digits
 pub no_digit : (c : ℕ) (rest : List ℕ) → is_digit c ≡ false → digits_in (c ∷ rest) ≡ 0
 unfolding digits_in
 no_digit c rest h = rw h refl
 
+-- an index in decimals is read back
 pub index_again : (front : List ℕ) (n : ℕ) (rest : List ℕ) → n < 1000000000
     → index_in front (front ++ (decimal n ++ 93 ∷ rest)) ≡ Some (pos n, rest)
 unfolding index_in
@@ -200,6 +211,7 @@ unfolding indexed
 indexed_is letter n rest = ap (λ (t : List ℕ). letter ∷ 91 ∷ t)
     (append_assoc (decimal n) (93 ∷ []) rest)
 
+-- a number within a field is read as itself
 pub field_again : (n values : ℕ) → n < values → field_in (pos n) values ≡ Some n
 unfolding field_in
 field_again n values l = let e : nat_lt n values ≡ true = lt-ltb n values l in rw e refl

@@ -50,6 +50,7 @@ targets_stop None None rest = feed_stops rest
 
 -- ---- numbers within their fields are small
 
+-- a number that fits in a field is small
 pub signed_small : (half : ℕ) (z : ℤ) → half ≤ 999999 → FitsSigned half z → IsSmall z
 signed_small half (pos n) h f = omega (arith, h, f)
 signed_small half (negsuc n) h f = omega (arith, h, f)
@@ -58,10 +59,12 @@ unsigned_small : (z : ℤ) → FitsUnsigned 65536 z → IsSmall z
 unsigned_small (pos n) f = omega (arith, f)
 unsigned_small (negsuc n) f = absurd f
 
+-- a constant that fits its operation is small
 pub constant_small : (op : Op) (z : ℤ) → FitsConstant op z → IsSmall z
 constant_small Gens z f = signed_small 32768 z (omega arith) f
 constant_small op z f = unsigned_small z f
 
+-- the number of a goal is small, if there is one
 abbrev pub SmallGoal : Option ℕ → Type 0
 SmallGoal None = Unit {0}
 SmallGoal (Some k) = k < 1000000000

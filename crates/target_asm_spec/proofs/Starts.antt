@@ -21,6 +21,7 @@ zero_more out start new counter h o n =
     n ∙ ap (λ t. t ++ 0 ∷ []) o ∙ append_assoc start (replicate (counter - 1) 0) (0 ∷ [])
     ∙ ap (λ t. start ++ t) (replicate_more (counter - 1) 0 ∙ ap (λ n. replicate n 0) e)
 
+-- a number and zeros for the other chunks of a block are its row of the table
 pub row_whole : (out start pushed : List ℕ) (counter number size : ℕ) → counter - 1 ≡ size - 1
     → pushed ≡ start ++ (number + 1) ∷ [] → out ≡ pushed ++ replicate (counter - 1) 0
     → out ≡ start ++ start_row number size

@@ -26,6 +26,7 @@ spelled_spot (spot.Read n) = spelled.Write (pos n)
 spelled_spot (spot.Inst n) = spelled.Write (pos n)
 spelled_spot (spot.Store n) = spelled.Write (pos n)
 
+-- the target that is spelled for a spot, if there is one
 abbrev pub spelled_target : Option Spot → Option SpelledTarget
 spelled_target None = None
 spelled_target (Some s) = Some (spelled_spot s)
@@ -96,6 +97,7 @@ target_again (spot.Store n) rest f = absurd f
 abbrev pub IsEnd : List ℕ → Type 0
 IsEnd rest = after_in (codes " ") rest ≡ None
 
+-- a line feed ends a line
 pub feed_ends : (rest : List ℕ) → IsEnd (10 ∷ rest)
 unfolding after_in
 feed_ends rest = refl
@@ -108,6 +110,7 @@ some_again s rest f =
     after_front (codes " ") (spot_text s ++ rest) in
     rw (a, target_again s rest f) refl
 
+-- at the end of a line there is no further target
 pub none_again : (rest : List ℕ) → IsEnd rest → next_in rest ≡ Some (None, rest)
 unfolding next_in
 none_again rest e = rw e refl

@@ -108,10 +108,12 @@ pub record FollowsWord (rest : List ℕ) : Type 0 where
   pub on_true : after_in (codes "_t") rest ≡ None
   pub on_false : after_in (codes "_f") rest ≡ None
 
+-- a space ends a word
 pub space_follows : (rest : List ℕ) → FollowsWord (32 ∷ rest)
 unfolding letters_in after_in
 space_follows rest = record { letters = refl; on_true = refl; on_false = refl }
 
+-- a line feed ends a word
 pub feed_follows : (rest : List ℕ) → FollowsWord (10 ∷ rest)
 unfolding letters_in after_in
 feed_follows rest = record { letters = refl; on_true = refl; on_false = refl }
@@ -129,6 +131,7 @@ always : (rest : List ℕ) → after_in (codes "_t") rest ≡ None → after_in 
 unfolding sense_in
 always rest a b = rw (a, b) refl
 
+-- a sense that is written is read back
 pub sense_again : (s : Sense) (rest : List ℕ) → FollowsWord rest
     → sense_in (sense_text s ++ rest) ≡ (s, rest)
 unfolding sense_text
@@ -147,6 +150,7 @@ pub record ReadsWord (op : Op) (text rest : List ℕ) : Type 0 where
   pub found : op_with_mnemonic (take (letters_in text) text) ≡ Some op
   pub left : drop (letters_in text) text ≡ rest
 
+-- an operation's word that is written is read back
 pub word_again : (op : Op) (s : Sense) (rest : List ℕ) → FollowsWord rest
     → ReadsWord op (mnemonic_of op ++ (sense_text s ++ rest)) (sense_text s ++ rest)
 word_again op s rest f =

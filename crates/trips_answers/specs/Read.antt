@@ -1,4 +1,4 @@
--- What reading the files of a request comes to, and how many bytes they may have.
+-- What reading the input of a request comes to.
 use Rattle.std.specs.Prelude.{◌≡◌, ℕ, List, [], Option, None, Some}
 use Rattle.trips_outside.specs.Outside.{Holds}
 use Rattle.trips_requests.specs.declared.loading.Loaded.{Loaded}

@@ -27,6 +27,6 @@ shown_report ending s counts cost show = reports.run_report ending s counts cost
 abbrev pub shown_behind : List ℕ → State → Counts → ℕ → Show → List ℕ
 shown_behind report s counts cost show = reports.with_shown report s counts cost show
 
--- the same where nothing more is shown
+-- the report of a run where nothing is shown behind it
 abbrev pub run_report : Ending → State → List ℕ
 run_report ending s = plain_report ending s

@@ -209,6 +209,7 @@ word_of_bytes op.Sw v h = omega arith
 word_of_bytes op.Sd v h = omega arith
 word_of_bytes _ v h = omega arith
 
+-- what a load sees is a word
 pub seen_is_word : (stores : ℕ → Option Stored) (mem : ℕ → ℕ) (n address : ℕ) (o : Op)
     → ((a : ℕ) → mem a < 256) → bytes_seen stores mem n address (size_of o) < 2 ^ 64
 seen_is_word stores mem n address o h = word_of_bytes o (bytes_seen stores mem n address (size_of o))

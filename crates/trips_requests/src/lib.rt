@@ -3,8 +3,8 @@
 //! answers to all requests share: the status and its number, an answer and those that need no work, the reading of a
 //! file, and two pieces of reports. No command's work is here, so that a program for one command reaches no other.
 //!
-//! What words say stands in specs/Words, specs/Options, specs/Numbers and specs/Plain, the request in specs/Requests
-//! with its limits in specs/Limits, what reading a file comes to in specs/Read, what a call writes in specs/Table and
+//! What words say stands in specs/Words, specs/Options and specs/Plain, numbers and their limits in specs/Limits, the
+//! request in specs/Requests, what reading a file comes to in specs/Read, what a call writes in specs/Table and
 //! specs/Texts, and with which number the program ends in specs/ExitCodes.
 #![tactic(auto)]
 

@@ -36,6 +36,7 @@ plain_read = record { builds = refl; simple = refl; no_file = refl }
 abbrev pub helpless : App → App
 helpless a = on_top (λ s. record s { disable_help_flag = true }) a
 
+-- A command whose help flag is switched off is seen as the old one without its help flag.
 pub is_helpless : (old new : ClapCommand)
     → out-Command new ≡ record (out-Command old) { disable_help_flag = true }
     → app_of new ≡ helpless (app_of old)

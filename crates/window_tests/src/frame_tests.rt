@@ -1,7 +1,7 @@
 //! What each event is answered at a frame, and what a sealed frame hands out: rows of steps.
 ghost use Rattle.frame_state.specs.Phases.{HasBlock};
 
-use crate::frame_events_making::{Step, act, asked, filled, one_block};
+use crate::frame_making::{Step, act, asked, filled, one_block};
 use block_check::CheckedImage;
 use frame_state::{Cause, Happened, Phase, cause_in, outputs_in};
 use std::process::Abort;

@@ -1,8 +1,5 @@
-//! Windows that are driven to their end, beside the sequential machine.
-//!
-//! Frames of small blocks, from their fill to their outputs.
-//!
-//! One frame over a small image.
+//! Tests of the window in code on small images: what each event is answered at one frame, a frame of a small block
+//! from its fill to its outputs, and windows that are driven to their end, beside the sequential machine.
 #![tactic(auto)]
 
 #[cfg(test)]
@@ -14,7 +11,7 @@ mod driven_tests;
 #[cfg(test)]
 mod ended_tests;
 #[cfg(test)]
-mod frame_events_making;
+mod frame_making;
 #[cfg(test)]
 mod frame_tests;
 #[cfg(test)]

@@ -1,5 +1,5 @@
 use Rattle.std.proofs.Common.{arith}
-use Rattle.commit_flush.proofs.WindowDriveBitFacts.{no_bit, low_bit}
+use Rattle.commit_flush.proofs.LowestBitFacts.{no_bit, low_bit}
 use Rattle.commit_flush.proofs.searching.lowest_bit.Goals as goal
 
 pub returns-then-word-eq0 : goal.returns-then-word-eq0

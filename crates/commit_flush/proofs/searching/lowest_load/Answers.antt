@@ -6,7 +6,7 @@ use Rattle.commit_flush_spec.proofs.Stuck.{numbers_are}
 use Rattle.commit_flush.specs.declared.step.Step.TheVariants.{Load}
 use Rattle.commit_flush.specs.Steps.{is_next}
 use Rattle.commit_flush.proofs.StepFacts.{load_off}
-use Rattle.commit_flush.proofs.WindowDriveBitFacts.{none_there}
+use Rattle.commit_flush.proofs.LowestBitFacts.{none_there}
 use Rattle.commit_flush.proofs.SearchFacts.{no_number, of_numbers}
 use Rattle.commit_flush.proofs.searching.lowest_load.Goals as goal
 

@@ -5,7 +5,7 @@ use Rattle.frame_state.specs.Held.{running}
 use Rattle.commit_flush.specs.declared.step.Step.TheVariants.{Token}
 use Rattle.commit_flush.specs.Steps.{is_next}
 use Rattle.commit_flush.proofs.StepFacts.{place_off, places_are}
-use Rattle.commit_flush.proofs.WindowDriveBitFacts.{word_more, from_place, no_place}
+use Rattle.commit_flush.proofs.LowestBitFacts.{word_more, from_place, no_place}
 use Rattle.commit_flush.proofs.searching.lowest_place.Goals as goal
 
 pub between-requires-clause-within : goal.between-requires-clause-within

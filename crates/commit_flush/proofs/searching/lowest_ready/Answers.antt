@@ -4,7 +4,7 @@ use Rattle.frame_state.specs.Held.{running}
 use Rattle.commit_flush.specs.declared.step.Step.TheVariants.{Firing}
 use Rattle.commit_flush.specs.Steps.{is_next}
 use Rattle.commit_flush.proofs.StepFacts.{ready_next, slots_are}
-use Rattle.commit_flush.proofs.WindowDriveBitFacts.{by_low, by_high, by_none}
+use Rattle.commit_flush.proofs.LowestBitFacts.{by_low, by_high, by_none}
 use Rattle.commit_flush.proofs.searching.lowest_ready.Goals as goal
 
 pub returns-then-low-lt-BITS-clause-value : goal.returns-then-low-lt-BITS-clause-value

@@ -6,7 +6,7 @@ use Rattle.commit_flush_spec.proofs.Stuck.{numbers_are}
 use Rattle.commit_flush.specs.declared.step.Step.TheVariants.{Store}
 use Rattle.commit_flush.specs.Steps.{is_next}
 use Rattle.commit_flush.proofs.StepFacts.{store_off}
-use Rattle.commit_flush.proofs.WindowDriveBitFacts.{none_there}
+use Rattle.commit_flush.proofs.LowestBitFacts.{none_there}
 use Rattle.commit_flush.proofs.SearchFacts.{no_number, of_numbers}
 use Rattle.commit_flush.proofs.searching.lowest_store.Goals as goal
 

@@ -1,5 +1,5 @@
 use Rattle.commit_flush_spec.proofs.law.driving_ends.Goals as goal
-use Rattle.commit_flush_spec.proofs.Ends.{driven_ends, driven_steps, driven_rests, drives_play}
+use Rattle.commit_flush_spec.proofs.DrivingEnds.{driven_ends, driven_steps, driven_rests, drives_play}
 use Rattle.commit_flush_spec.proofs.Lone.{fewer_events}
 use Rattle.commit_flush_spec.proofs.Pace.{few_events}
 

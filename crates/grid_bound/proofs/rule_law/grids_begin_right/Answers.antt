@@ -1,4 +1,4 @@
-use Rattle.grid_bound.proofs.Begin.{begins_right, begins_counted}
+use Rattle.grid_bound.proofs.StatedStart.{begins_right, begins_counted}
 use Rattle.grid_bound.proofs.rule_law.grids_begin_right.Goals as goal
 
 pub returns-clause-rule : goal.returns-clause-rule

@@ -8,7 +8,7 @@ use Rattle.grid_bound.proofs.BankParts.{banks_going}
 use Rattle.grid_bound.proofs.DataParts.{answers_going}
 use Rattle.grid_bound.proofs.UnitParts.{works_going}
 use Rattle.grid_bound.proofs.TickParts.{moves_going}
-use Rattle.grid_bound.proofs.Going.{kept}
+use Rattle.grid_bound.proofs.GoingGrids.{kept}
 use Rattle.grid_bound.proofs.rule_law.parts_keep_the_rule.Goals as goal
 
 pub returns-clause-ends : goal.returns-clause-ends

@@ -3,7 +3,7 @@ use Rattle.grid_cycle_spec.specs.DataTiles.{data_turn}
 use Rattle.grid_cycle_spec.specs.Units.{unit_turn}
 use Rattle.grid_bound.proofs.DataParts.{data_turns_going}
 use Rattle.grid_bound.proofs.UnitParts.{unit_turns_going}
-use Rattle.grid_bound.proofs.Going.{kept}
+use Rattle.grid_bound.proofs.GoingGrids.{kept}
 use Rattle.grid_bound.proofs.rule_law.turns_keep_the_rule.Goals as goal
 
 pub returns-clause-tiles : goal.returns-clause-tiles

@@ -1,4 +1,4 @@
-use Rattle.grid_bound.proofs.Moved as moved
+use Rattle.grid_bound.proofs.OldestParcels as moved
 use Rattle.grid_bound.proofs.served_law.arrivals_serve.Goals as goal
 
 pub returns : goal.returns

@@ -1,4 +1,4 @@
-use Rattle.grid_bound.proofs.Banking as banking
+use Rattle.grid_bound.proofs.AllBanks as banking
 use Rattle.grid_bound.proofs.served_law.banks_serve.Goals as goal
 
 pub returns : goal.returns

@@ -10,10 +10,10 @@ use Rattle.grid_bound.specs.Lane.{Stage, Running}
 use Rattle.grid_bound.specs.Blocks.{course_of}
 use Rattle.grid_bound.specs.Seen.{front_of}
 use Rattle.grid_bound.specs.Parts.{Tells, StageBehind, Goes, Flushed}
-use Rattle.grid_bound.proofs.Ended.{oldest_ok}
-use Rattle.grid_bound.proofs.Told.{told, table_solves}
-use Rattle.grid_bound.proofs.Answered.{StageAt, Held, Emptied}
-use Rattle.grid_bound.proofs.Answering as answering
+use Rattle.grid_bound.proofs.OldestEnds.{oldest_ok}
+use Rattle.grid_bound.proofs.FrameTable.{told, table_solves}
+use Rattle.grid_bound.proofs.DataTileAnswers.{StageAt, Held, Emptied}
+use Rattle.grid_bound.proofs.AllDataTiles as answering
 use Rattle.grid_bound.proofs.served_law.data_tiles_serve.Goals as goal
 
 tells : (blocks : List Block) → AllGood blocks → (o : Older) (f : Frame) → slice_get blocks f.block ≡ Some f.code

@@ -1,4 +1,4 @@
-use Rattle.grid_bound.proofs.Fetched.{fetches_behind, fetches_come}
+use Rattle.grid_bound.proofs.OldestFetches.{fetches_behind, fetches_come}
 use Rattle.grid_bound.proofs.served_law.fetches_serve.Goals as goal
 
 pub returns-clause-held : goal.returns-clause-held

@@ -1,4 +1,4 @@
-use Rattle.grid_bound.proofs.Together.{serve_first}
+use Rattle.grid_bound.proofs.FirstGridServed.{serve_first}
 use Rattle.grid_bound.proofs.served_law.first_frames_are_served.Goals as goal
 
 pub returns : goal.returns

@@ -1,4 +1,4 @@
-use Rattle.grid_bound.proofs.Answering.{idle_tiles}
+use Rattle.grid_bound.proofs.AllDataTiles.{idle_tiles}
 use Rattle.grid_bound.proofs.Idle.{idle_banks, idle_units}
 use Rattle.grid_bound.proofs.served_law.idle_parts.Goals as goal
 

@@ -1,4 +1,4 @@
-use Rattle.grid_bound.proofs.Ended.{ends_open, ends_complete}
+use Rattle.grid_bound.proofs.OldestEnds.{ends_open, ends_complete}
 use Rattle.grid_bound.proofs.served_law.oldest_frames_end.Goals as goal
 
 pub returns-clause-open : goal.returns-clause-open

@@ -1,4 +1,4 @@
-use Rattle.grid_bound.proofs.Told.{table_tells}
+use Rattle.grid_bound.proofs.FrameTable.{table_tells}
 use Rattle.grid_bound.proofs.served_law.tables_tell.Goals as goal
 
 pub returns : goal.returns

@@ -3,7 +3,7 @@ use Rattle.operand_net.specs.Places.{at}
 use Rattle.grid_cycle_spec.specs.Choosing.{each, places}
 use Rattle.grid_cycle_spec.specs.Arrivals.{arrival}
 use Rattle.grid_parts.specs.Seen.{seen}
-use Rattle.grid_parts.specs.Quiet.{AreQuiet}
+use Rattle.grid_parts.specs.EmptyPlaces.{AreQuiet}
 use Rattle.grid_parts.proofs.arriving.frame_arrives.Given as goal
 
 abbrev pub invariant-loop-from : goal.invariant-loop-from

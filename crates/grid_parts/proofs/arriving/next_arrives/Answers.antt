@@ -3,7 +3,7 @@ use Rattle.operand_net.specs.Places.{at}
 use Rattle.grid_cycle_spec.specs.Choosing.{each, places, with_frame}
 use Rattle.grid_cycle_spec.specs.Arrivals.{arrival, place_arrives}
 use Rattle.grid_parts.specs.Seen.{seen}
-use Rattle.grid_parts.specs.Quiet.{AreQuiet}
+use Rattle.grid_parts.specs.EmptyPlaces.{AreQuiet}
 use Rattle.grid_parts.proofs.ArrivalFolds.{next_found, next_folds, next_none, next_quiet}
 use Rattle.grid_parts.proofs.arriving.next_arrives.Goals as goal
 

@@ -1,4 +1,4 @@
-use Rattle.grid_parts.proofs.StateBitFacts.{zero_at}
+use Rattle.grid_parts.proofs.FlagFacts.{zero_at}
 use Rattle.grid_parts.proofs.flushing.idle_units.Goals as goal
 
 pub returns : goal.returns

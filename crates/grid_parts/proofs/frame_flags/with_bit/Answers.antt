@@ -1,4 +1,4 @@
-use Rattle.grid_parts.proofs.StateBitFacts.{set_one}
+use Rattle.grid_parts.proofs.FlagFacts.{set_one}
 use Rattle.grid_parts.proofs.frame_flags.with_bit.Goals as goal
 
 pub returns : goal.returns

@@ -1,5 +1,5 @@
 use Rattle.std.proofs.Common.{◌<◌, ◌^◌, arith}
-use Rattle.grid_parts.proofs.StateBitFacts.{clear_one}
+use Rattle.grid_parts.proofs.FlagFacts.{clear_one}
 use Rattle.grid_parts.proofs.frame_flags.without_bit.Goals as goal
 
 pub returns : goal.returns

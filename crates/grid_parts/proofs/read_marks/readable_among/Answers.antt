@@ -1,6 +1,6 @@
 use Rattle.std.proofs.Common.{ℕ, Option, sym, ap, subst, ◌∙◌, arith}
 use Rattle.commit_flush_spec.specs.Laws.{AreNumbers}
-use Rattle.grid_parts.specs.StateChoices.{first_found}
+use Rattle.grid_parts.specs.EldestChoices.{first_found}
 use Rattle.grid_parts.proofs.ChoiceFacts.{passed, found, none_left}
 use Rattle.grid_parts.specs.Choices.{lowest_read}
 use Rattle.grid_parts.proofs.AnswerFacts.{readable_is}

@@ -1,5 +1,5 @@
 use Rattle.std.proofs.Common.{◌≡◌, drop}
-use Rattle.grid_parts.specs.StateChoices.{first_found}
+use Rattle.grid_parts.specs.EldestChoices.{first_found}
 use Rattle.grid_parts.specs.Choices.{lowest_read}
 use Rattle.grid_parts.proofs.read_marks.readable_among.Given as goal
 

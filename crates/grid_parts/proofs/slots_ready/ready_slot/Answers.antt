@@ -1,5 +1,5 @@
 use Rattle.std.proofs.Common.{ℕ, Option, sym, ap, ◌∙◌, arith}
-use Rattle.grid_parts.specs.StateChoices.{first_found}
+use Rattle.grid_parts.specs.EldestChoices.{first_found}
 use Rattle.grid_parts.proofs.ChoiceFacts.{passed, found, none_left}
 use Rattle.grid_parts.specs.Choices.{lowest_ready}
 use Rattle.grid_parts.proofs.AnswerFacts.{ready_is}

@@ -1,5 +1,5 @@
 use Rattle.std.proofs.Common.{◌≡◌, drop}
-use Rattle.grid_parts.specs.StateChoices.{first_found}
+use Rattle.grid_parts.specs.EldestChoices.{first_found}
 use Rattle.grid_parts.specs.Choices.{lowest_ready}
 use Rattle.grid_parts.proofs.slots_ready.ready_slot.Given as goal
 

@@ -1,5 +1,5 @@
 use Rattle.std.proofs.Common.{arith}
-use Rattle.target_asm.proofs.Ends.{last_is}
+use Rattle.target_asm.proofs.LastByte.{last_is}
 use Rattle.target_asm.proofs.whole.last.Goals as goal
 
 pub returns-else-bytes-eq0 : goal.returns-else-bytes-eq0

@@ -1,6 +1,6 @@
 use Rattle.std.proofs.Common.{ap, ◌∙◌}
 use Rattle.grid_parts.specs.Fetches.{due}
-use Rattle.grid_parts.proofs.StateFetchFacts.{due_now, due_later, never_due}
+use Rattle.grid_parts.proofs.FetchUnitFacts.{due_now, due_later, never_due}
 use Rattle.grid_parts.proofs.fetch_unit.FetchUnit.due.Goals as goal
 
 pub returns-then-self-eq0 : goal.returns-then-self-eq0

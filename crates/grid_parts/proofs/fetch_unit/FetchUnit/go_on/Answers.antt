@@ -1,6 +1,6 @@
 use Rattle.std.proofs.Common.{sym, ap, ◌∙◌, arith}
 use Rattle.grid_parts.specs.Fetches.{nearer}
-use Rattle.grid_parts.proofs.StateFetchFacts.{one_less, none_less}
+use Rattle.grid_parts.proofs.FetchUnitFacts.{one_less, none_less}
 use Rattle.grid_parts.proofs.fetch_unit.FetchUnit.go_on.Goals as goal
 
 pub returns-then-self-gt0 : goal.returns-then-self-gt0

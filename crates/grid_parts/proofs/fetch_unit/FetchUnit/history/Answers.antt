@@ -1,5 +1,5 @@
 use Rattle.std.proofs.Common.{◌∙◌}
-use Rattle.grid_parts.proofs.StateFetchFacts.{history_is}
+use Rattle.grid_parts.proofs.FetchUnitFacts.{history_is}
 use Rattle.grid_parts.proofs.fetch_unit.FetchUnit.history.Goals as goal
 
 pub returns-clause-value : goal.returns-clause-value

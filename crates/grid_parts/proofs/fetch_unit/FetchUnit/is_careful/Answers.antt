@@ -1,5 +1,5 @@
 use Rattle.std.proofs.Common.{◌∙◌}
-use Rattle.grid_parts.proofs.StateFetchFacts.{careful_is}
+use Rattle.grid_parts.proofs.FetchUnitFacts.{careful_is}
 use Rattle.grid_parts.proofs.fetch_unit.FetchUnit.is_careful.Goals as goal
 
 pub returns : goal.returns

@@ -1,5 +1,5 @@
 use Rattle.std.proofs.Common.{is_none, ap, ◌∙◌}
-use Rattle.grid_parts.proofs.StateFetchFacts.{idle_is}
+use Rattle.grid_parts.proofs.FetchUnitFacts.{idle_is}
 use Rattle.grid_parts.proofs.fetch_unit.FetchUnit.is_idle.Goals as goal
 
 pub returns : goal.returns

@@ -1,6 +1,6 @@
 use Rattle.std.proofs.Common.{Some, None, sym, ap, ◌∙◌, arith}
 use Rattle.grid_cycle_spec.specs.Acting.{still}
-use Rattle.grid_parts.proofs.StateFetchFacts.{stops, stays, stays_unknown}
+use Rattle.grid_parts.proofs.FetchUnitFacts.{stops, stays, stays_unknown}
 use Rattle.grid_parts.proofs.fetch_unit.FetchUnit.settle.Goals as goal
 
 pub returns-then-block-self : goal.returns-then-block-self

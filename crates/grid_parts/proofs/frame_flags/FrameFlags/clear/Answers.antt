@@ -1,5 +1,5 @@
 use Rattle.std.proofs.Common.{◌<◌, length, arith}
-use Rattle.grid_parts.proofs.StateBitFacts.{no_flag}
+use Rattle.grid_parts.proofs.FlagFacts.{no_flag}
 use Rattle.grid_parts.proofs.frame_flags.FrameFlags.clear.Goals as goal
 
 pub returns : goal.returns

@@ -1,4 +1,4 @@
-use Rattle.grid_parts.proofs.StateBitFacts.{none_set}
+use Rattle.grid_parts.proofs.FlagFacts.{none_set}
 use Rattle.grid_parts.proofs.frame_flags.FrameFlags.none.Goals as goal
 
 pub returns : goal.returns

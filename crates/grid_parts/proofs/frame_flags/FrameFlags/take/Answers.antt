@@ -1,5 +1,5 @@
 use Rattle.std.proofs.Common.{◌<◌, length, arith}
-use Rattle.grid_parts.proofs.StateBitFacts.{one_less}
+use Rattle.grid_parts.proofs.FlagFacts.{one_less}
 use Rattle.grid_parts.proofs.frame_flags.FrameFlags.take.Goals as goal
 
 pub returns : goal.returns

@@ -1,4 +1,4 @@
-use Rattle.grid_parts.proofs.StateBitFacts.{zero_at}
+use Rattle.grid_parts.proofs.FlagFacts.{zero_at}
 use Rattle.grid_parts.proofs.RowFacts.{no_histories}
 use Rattle.grid_parts.proofs.histories.Histories.none.Goals as goal
 

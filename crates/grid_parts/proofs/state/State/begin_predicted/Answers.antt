@@ -2,7 +2,7 @@ use Rattle.std.proofs.Common.{false, sym, ap, ◌∙◌}
 use Rattle.grid_cycle_spec.specs.Fetches.{begun, begun_predicted}
 use Rattle.grid_parts.specs.Seen.{seen}
 use Rattle.grid_parts.proofs.PartFacts.{with_predictor}
-use Rattle.grid_parts.proofs.StateFetchFacts.{after_none}
+use Rattle.grid_parts.proofs.FetchUnitFacts.{after_none}
 use Rattle.grid_parts.proofs.state.State.begin_predicted.Goals as goal
 
 pub returns-in-Some : goal.returns-in-Some
