@@ -15,7 +15,6 @@ use Rattle.std.proofs.lemmas.Grind.{get_or-set_at}
 use Rattle.base.specs.Rows.{has_bit, has_flag, flags}
 use Rattle.base.specs.inside.Rows.{no_flags}
 
--- There are as many flags as were asked for.
 pub length_flags : (n : ℕ) (ws : List ℕ) → length (flags n ws) ≡ n
 unfolding flags
 length_flags n ws = length-map-range_with_len (has_flag ws) 0 n
@@ -95,12 +94,10 @@ none_set n m = sym (fill_by_all (has_flag (zeros_of m)) (replicate n false) n fa
           get_or_past (replicate m z) i 0 e
     ]
 
--- There are as many unset flags as were asked for.
 pub length_unset : (n : ℕ) → length (no_flags n) ≡ n
 unfolding no_flags
 length_unset n = length-replicate n false
 
--- A flag that is not set is not there.
 pub get_unset : (n q : ℕ) → get_or (no_flags n) q false ≡ false
 unfolding no_flags
 get_unset n q = elim (cases_lt q n) [

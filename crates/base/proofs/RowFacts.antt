@@ -54,7 +54,6 @@ got_other (y ∷ xs) (suc i) (suc j) x n = got_other xs i j x (λ e. n (ap suc e
 -- rows ------------------------------------------------------------------------------------------
 
 module _ {A : Type 0} (n : ℕ) where
-  -- A row has as many items as it was made for.
   pub length_row : (there : List Bool) (items : List A) → length (row n there items) ≡ n
   unfolding row
   length_row there items = length-map-range_with_len (item_at there items) 0 n

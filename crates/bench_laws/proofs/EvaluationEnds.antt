@@ -12,7 +12,7 @@ use Rattle.c_meaning_spec.specs.State.{State, Result, spend}
 use Rattle.c_meaning_spec.specs.inside.State.{then}
 use Rattle.c_meaning_spec.specs.Call.{enter, left}
 use Rattle.c_meaning_spec.specs.Eval.{meaning, eval, Done, Outcome, outcome, start}
-use Rattle.bench_laws.specs.Values.{value, letters, steps}
+use Rattle.bench_laws.specs.inside.Values.{value, letters, steps}
 use Rattle.bench_laws.proofs.Rules.{Follow, body_gives}
 use Rattle.bench_laws.proofs.Words.{to_int, int_is}
 use Rattle.bench_laws.proofs.Programs.{main, program, functions, main_code}

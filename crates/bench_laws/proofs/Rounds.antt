@@ -11,7 +11,7 @@ use Rattle.c_tree.specs.declared.TypedProgram.{TypedProgram}
 use Rattle.c_meaning_spec.specs.State.{State}
 use Rattle.c_meaning_spec.specs.declared.signal.Signal.{Signal}
 use Rattle.c_meaning_spec.specs.declared.signal.Signal.TheVariants.{Nothing, Returns}
-use Rattle.bench_laws.specs.Values.{value, letter, letters}
+use Rattle.bench_laws.specs.inside.Values.{value, letter, letters}
 use Rattle.bench_laws.proofs.Terms.{Code}
 use Rattle.bench_laws.proofs.Rules.{Runs, Follow, r_scalar, r_operation, r_convert, r_assign, r_call, r_cast, r_put}
 use Rattle.bench_laws.proofs.Rules.{r_plain, r_next, r_last, r_give, r_number, r_initialise}

@@ -14,8 +14,8 @@ use Rattle.c_front.specs.Fronts.{IsAccepted}
 use Rattle.c_front.proofs.Once.{accepted_once, not_both}
 use Rattle.bench_text.specs.Text.{head, function_name, function_body, function_end, function, functions, main_head}
 use Rattle.bench_text.specs.Text.{call_name, call_end, call, calls, main_end, bench_text}
-use Rattle.bench_laws.specs.Values.{value, letters, steps}
-use Rattle.bench_laws.specs.Laws.{BenchIsAccepted, BenchIsNotRefused, BenchIsShort, BenchEnds}
+use Rattle.bench_laws.specs.inside.Values.{value, letters, steps}
+use Rattle.bench_laws.specs.inside.Laws.{BenchIsAccepted, BenchIsNotRefused, BenchIsShort, BenchEnds}
 use Rattle.bench_laws.proofs.Programs.{program}
 use Rattle.bench_laws.proofs.Forms.{tokens}
 use Rattle.bench_laws.proofs.Trees.{tree}

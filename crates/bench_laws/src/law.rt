@@ -1,6 +1,6 @@
 //! What holds of the benchmark's text.
 
-ghost use Rattle.bench_laws.specs.Laws.{BenchIsAccepted, BenchIsNotRefused, BenchIsShort, BenchEnds};
+ghost use Rattle.bench_laws.specs.inside.Laws.{BenchIsAccepted, BenchIsNotRefused, BenchIsShort, BenchEnds};
 
 /// The benchmark's text is a program of the profile.
 pub fn bench_is_accepted()
@@ -17,7 +17,7 @@ pub fn bench_is_short()
     ensures law { BenchIsShort }
 {}
 
-/// Its evaluation is done, with the output, the result and the steps that `specs/Values.antt` says.
+/// Its evaluation is done, with the output, the result and the steps that `specs/inside/Values.antt` says.
 pub fn bench_ends()
     ensures law { BenchEnds }
 {}

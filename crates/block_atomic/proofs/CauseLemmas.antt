@@ -24,7 +24,7 @@ use Rattle.trips_isa.specs.Forms.{form_of, role_of, takes_left, takes_right}
 use Rattle.trips_isa.specs.Operands.{operands, is_guarded}
 use Rattle.trips_isa.specs.Faults.{divides, own_fault, fault_in}
 use Rattle.trips_isa.specs.Limits.{most_nodes}
-use Rattle.block_atomic.specs.MarkSlots.{IsTold, slot_marked, can_fault, can_fault_in}
+use Rattle.block_atomic.specs.inside.MarkSlots.{IsTold, slot_marked, can_fault, can_fault_in}
 use Rattle.block_cases.proofs.Fixed.{still}
 use Rattle.block_cases.proofs.MarkLemmas.{marks_pulled}
 use Rattle.block_cases.proofs.CleanLemmas.{place_unmarked, least_none}

@@ -20,7 +20,7 @@ use Rattle.trips_isa.specs.Faults.{own_fault, fault_if_read, node_fault}
 use Rattle.trips_isa.specs.Operands.{operands, is_guarded}
 use Rattle.trips_isa.specs.Marks.{mark_by, mark_at, node_mark, mark_given, mark_of}
 use Rattle.trips_isa.specs.Limits.{most_nodes}
-use Rattle.block_atomic.specs.MarkSlots.{IsTold, mark_if_read, marks_in, mark_placed, slot_marked}
+use Rattle.block_atomic.specs.inside.MarkSlots.{IsTold, mark_if_read, marks_in, mark_placed, slot_marked}
 use Rattle.block_cases.proofs.Fixed.{IsFixed, still}
 use Rattle.block_cases.proofs.MarkLemmas.{marks_pulled}
 use Rattle.block_atomic.proofs.MarkWalks.{place_mark_is}

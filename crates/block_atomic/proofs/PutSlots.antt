@@ -9,7 +9,7 @@ use Rattle.trips_isa.specs.declared.block.Inst.{Inst}
 use Rattle.trips_isa.specs.declared.block.ReadSlot.{ReadSlot}
 use Rattle.trips_isa.specs.Rule.{Answer}
 use Rattle.trips_isa.specs.Tables.{or_else}
-use Rattle.block_atomic.specs.Slots.{slots_give, is_read_to, from_reads}
+use Rattle.block_atomic.specs.inside.Slots.{slots_give, is_read_to, from_reads}
 
 -- one slot more ----------------------------------------------------------------------------------
 

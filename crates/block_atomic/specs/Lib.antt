@@ -1,5 +1,1 @@
-pub mod Slots
-pub mod MarkSlots
-pub mod Bounds
-pub mod Applied
 pub mod inside

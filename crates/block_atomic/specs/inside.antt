@@ -1,1 +1,5 @@
 pub mod Passes
+pub mod Applied
+pub mod Bounds
+pub mod MarkSlots
+pub mod Slots

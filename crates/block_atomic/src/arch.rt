@@ -1,9 +1,9 @@
 ghost use Rattle.std.specs.Prelude.{◌≡◌, ◌<◌, ◌≤◌, ◌+◌, All, IfOk, Some, length, slice_index};
 ghost use Rattle.trips_isa.specs.Stores.{data_size};
 ghost use Rattle.trips_isa.specs.Machine.{start, step_of};
-ghost use Rattle.block_cases.specs.Plain.{IsTrap};
-ghost use Rattle.block_atomic.specs.Bounds.{StoreFits};
-ghost use Rattle.block_atomic.specs.Applied.{HasTokens, IsApplied};
+ghost use Rattle.block_cases.specs.inside.Plain.{IsTrap};
+ghost use Rattle.block_atomic.specs.inside.Bounds.{StoreFits};
+ghost use Rattle.block_atomic.specs.inside.Applied.{HasTokens, IsApplied};
 
 use crate::arch_state::ArchState;
 use base::Memory;

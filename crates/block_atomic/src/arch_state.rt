@@ -5,11 +5,11 @@ ghost use Rattle.trips_isa.specs.Stores.{data_size, store_all};
 ghost use Rattle.trips_isa.specs.Outcomes.{all_stores, writes_from};
 ghost use Rattle.trips_isa.specs.Machine.{memory_of, start, step_of, system_call, then_system};
 ghost use Rattle.trips_isa.specs.Machine.{write_all};
-ghost use Rattle.block_check.specs.IsChecked.{IsChecked};
-ghost use Rattle.block_check.specs.Images.{IsCheckedImage};
-ghost use Rattle.block_cases.specs.Plain.{IsTrap};
-ghost use Rattle.block_atomic.specs.Bounds.{StoreFits};
-ghost use Rattle.block_atomic.specs.Applied.{HasTokens, IsApplied};
+ghost use Rattle.block_check.specs.inside.IsChecked.{IsChecked};
+ghost use Rattle.block_check.specs.inside.Images.{IsCheckedImage};
+ghost use Rattle.block_cases.specs.inside.Plain.{IsTrap};
+ghost use Rattle.block_atomic.specs.inside.Bounds.{StoreFits};
+ghost use Rattle.block_atomic.specs.inside.Applied.{HasTokens, IsApplied};
 
 use crate::causes::cause;
 use crate::effects::{apply_stores, make_stores, write_registers, write_tokens};

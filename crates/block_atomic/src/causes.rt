@@ -8,7 +8,7 @@ ghost use Rattle.trips_isa.specs.Rule.{Answer};
 ghost use Rattle.trips_isa.specs.Places.{in_mask};
 ghost use Rattle.trips_isa.specs.Faults.{own_fault};
 ghost use Rattle.trips_isa.specs.Marks.{fired_mark, least_at, writes_to, mask_places, owed, cause};
-ghost use Rattle.block_atomic.specs.MarkSlots.{IsTold, slot_marked, can_fault};
+ghost use Rattle.block_atomic.specs.inside.MarkSlots.{IsTold, slot_marked, can_fault};
 ghost use Rattle.trips_isa.specs.Faults.{divides};
 
 use crate::mark_rounds::settle;

@@ -7,7 +7,7 @@ ghost use Rattle.trips_isa.specs.Rule.{Answer};
 ghost use Rattle.trips_isa.specs.Tables.{deepest};
 ghost use Rattle.trips_isa.specs.Faults.{own_fault};
 ghost use Rattle.trips_isa.specs.Marks.{fired_mark, mark_at, mark_of};
-ghost use Rattle.block_atomic.specs.MarkSlots.{IsTold, slot_marked};
+ghost use Rattle.block_atomic.specs.inside.MarkSlots.{IsTold, slot_marked};
 
 use crate::mark_places::{clear, fill};
 use trips_isa::{Block, Inst, Role, Token, is_guarded, mark_by, only_if, operands_of, role_of};

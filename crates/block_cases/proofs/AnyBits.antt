@@ -12,7 +12,8 @@ use Rattle.block_cases.specs.Nodes.{targets, names, hits, one_if, IsRanked}
 use Rattle.block_cases.specs.CaseRule.{matches, gives, if_matched, one_word, both_words, first, pulled}
 use Rattle.block_cases.specs.CaseRule.{fires}
 use Rattle.block_cases.specs.Cases.{deepest, weighed, tokens}
-use Rattle.block_cases.specs.Good.{Good, OneToken, IsPlaced, NamesPlace}
+use Rattle.block_cases.specs.Good.{Good}
+use Rattle.block_cases.specs.inside.Good.{OneToken, IsPlaced, NamesPlace}
 use Rattle.block_cases.proofs.Steady.{Solves, settled}
 use Rattle.block_cases.proofs.Alike.{own}
 use Rattle.block_cases.proofs.OneToken.{one_token}

@@ -23,8 +23,8 @@ use Rattle.trips_isa.specs.declared.operands.Operands.TheVariants.{Missing, Null
 use Rattle.trips_isa.specs.Operands.{operands, is_guarded}
 use Rattle.trips_isa.specs.Marks.{least, mark_by, beside, or_unmarked, mark_at, node_mark, mark_given}
 use Rattle.trips_isa.specs.Marks.{mark_of, owed, least_at, cause}
-use Rattle.trips_isa.specs.Acts.{Act, Divided, Accessed, is_fault, is_clean, IsClean, acts_in}
-use Rattle.trips_isa.specs.Acts.{acts_if_read, acts_by, fired_acts, node_acts, acts_to, block_acts}
+use Rattle.trips_isa.specs.inside.Acts.{Act, Divided, Accessed, is_fault, is_clean, IsClean, acts_in}
+use Rattle.trips_isa.specs.inside.Acts.{acts_if_read, acts_by, fired_acts, node_acts, acts_to, block_acts}
 
 and_left : (a b : Bool) → (a && b) ≡ true → a ≡ true
 and_left true b e = refl

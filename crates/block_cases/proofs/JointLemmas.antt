@@ -16,7 +16,7 @@ use Rattle.trips_isa.specs.Operands.{operands, is_guarded}
 use Rattle.trips_isa.specs.Marks.{mark_by, beside, or_unmarked, mark_at, fired_mark, node_mark}
 use Rattle.trips_isa.specs.Marks.{mark_given, mark_of}
 use Rattle.trips_isa.specs.Limits.{most_nodes}
-use Rattle.block_cases.specs.Joint.{marked_of}
+use Rattle.block_cases.specs.inside.Joint.{marked_of}
 use Rattle.block_cases.proofs.Fixed.{LedBelow, IsPulled, deeper_same}
 use Rattle.block_cases.proofs.MarkLemmas.{pulled_is_marking}
 

@@ -13,7 +13,8 @@ use Rattle.block_cases.proofs.Steady.{to_left, to_right, to_predicate, deepest_i
 use Rattle.trips_isa.specs.Faults.{node_fault}
 use Rattle.trips_isa.specs.Operands.{operands, is_guarded}
 use Rattle.trips_isa.specs.Marks.{mark_by, beside, or_unmarked, mark_at, fired_mark, node_mark}
-use Rattle.trips_isa.specs.Marks.{mark_given, mark_of, IsMarking}
+use Rattle.trips_isa.specs.Marks.{mark_given, mark_of}
+use Rattle.trips_isa.specs.inside.Marks.{IsMarking}
 use Rattle.trips_isa.specs.Limits.{most_nodes}
 use Rattle.block_cases.proofs.Fixed.{LedBelow, IsPulled, only_fixed, reached}
 

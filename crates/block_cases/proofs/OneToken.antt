@@ -16,14 +16,16 @@ use Rattle.block_cases.specs.CaseRule.{pulled}
 use Rattle.block_cases.specs.Cases.{deepest, present, token, has_bit, ones_pass, IsCase}
 use Rattle.block_cases.specs.CaseRule.{one_word}
 use Rattle.block_cases.specs.Cases.{weighed, tokens}
-use Rattle.block_cases.specs.Good.{Good, OneToken}
+use Rattle.block_cases.specs.Good.{Good}
+use Rattle.block_cases.specs.inside.Good.{OneToken}
 use Rattle.trips_isa.specs.declared.block.Token.TheVariants.{Null as NullToken, Word}
 use Rattle.trips_isa.specs.Rule as rules
 use Rattle.trips_isa.specs.Rule.{Answer, low, matched, of_one, of_both, null_beside}
 use Rattle.trips_isa.specs.Tables as tables
-use Rattle.trips_isa.specs.Tables.{node_gives, IsTable, Computes}
+use Rattle.trips_isa.specs.Tables.{node_gives, Computes}
+use Rattle.trips_isa.specs.inside.Tables.{IsTable}
 use Rattle.trips_isa.specs.Limits.{most_nodes}
-use Rattle.block_cases.specs.Shapes.{shape}
+use Rattle.block_cases.specs.inside.Shapes.{shape}
 use Rattle.block_cases.proofs.Steady.{Solves, deepest_is}
 use Rattle.block_cases.proofs.Alike.{Alike, both_true, and_true, Placed, own, chosen, tabulate}
 use Rattle.block_cases.proofs.Alike.{case_of, tabulate_size, alike}

@@ -6,7 +6,7 @@ use Rattle.trips_isa.specs.declared.block.Inst.{Inst}
 use Rattle.trips_isa.specs.declared.block.ReadSlot.{ReadSlot}
 use Rattle.trips_isa.specs.declared.block.Block.{Block}
 use Rattle.trips_isa.specs.Fits.{FitsBlock}
-use Rattle.block_cases.specs.Good.{IsPlaced}
+use Rattle.block_cases.specs.inside.Good.{IsPlaced}
 use Rattle.block_cases.specs.Blocks.{read_node, inst_node, inst_nodes, nodes_of}
 
 reads_placed : (rs : List ReadSlot) (rest : List Node) → IsPlaced rest

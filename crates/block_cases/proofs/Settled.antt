@@ -21,7 +21,8 @@ use Rattle.trips_isa.specs.Stores.{is_good_address}
 use Rattle.trips_isa.specs.Blocks.{form_computes, slot_computes, is_read, slot_at, inst_at}
 use Rattle.trips_isa.specs.Blocks.{computes_if_read, computes, at_place, stored_in, stored_if_read}
 use Rattle.trips_isa.specs.Blocks.{stored_by, store_of, slot_answered, answered_if_read, responses_in}
-use Rattle.trips_isa.specs.Blocks.{given, token_of, Solves}
+use Rattle.trips_isa.specs.Blocks.{given, token_of}
+use Rattle.trips_isa.specs.inside.Blocks.{Solves}
 use Rattle.trips_isa.specs.Limits.{most_nodes}
 use Rattle.block_cases.proofs.Steady.{or_right, to_left, to_right, to_predicate, deepest_is}
 use Rattle.block_cases.proofs.Nodes.{taken_same, slot_got}

@@ -14,8 +14,8 @@ use Rattle.trips_isa.specs.Marks.{cause}
 use Rattle.trips_isa.specs.Outcomes.{Effects, Outcome, Comes, Faults, unless, plain, outcome}
 use Rattle.trips_isa.specs.Machine.{State, with_input, system_call, then_system, changed, apply}
 use Rattle.trips_isa.specs.Machine.{come_to, step_in, step_of, goes_on, runs}
-use Rattle.block_cases.specs.Plain.{plain_in, plain_step, plain_on, plain_runs, cause_in, next_cause}
-use Rattle.block_cases.specs.Plain.{faults_in, next_faults, IsTrap}
+use Rattle.block_cases.specs.inside.Plain.{plain_in, plain_step, plain_on, plain_runs, cause_in, next_cause}
+use Rattle.block_cases.specs.inside.Plain.{faults_in, next_faults, IsTrap}
 
 call_goes : (call : ℕ) (s : State) → IsTrap (system_call call s).1 → ⊥
 call_goes call s = go (call == 1) (call == 2) (call == 3) (call == 4)

@@ -7,13 +7,14 @@ use Rattle.trips_isa.specs.declared.block.Token.TheVariants.{Null as NullToken, 
 use Rattle.block_cases.specs.declared.token.CaseToken.TheVariants.{Absent}
 use Rattle.trips_isa.specs.Rule.{Answer, rule}
 use Rattle.trips_isa.specs.Places.{targets}
-use Rattle.trips_isa.specs.Tables.{Computes, first, node_gives, IsTable, pulled, Edge, Ranked}
+use Rattle.trips_isa.specs.Tables.{Computes, first, node_gives, Edge, Ranked}
+use Rattle.trips_isa.specs.inside.Tables.{IsTable, pulled}
 use Rattle.trips_isa.specs.Tables.{IsRanked, deepest}
 use Rattle.trips_isa.specs.Limits.{most_nodes}
 use Rattle.block_cases.specs.Nodes.{hits}
 use Rattle.block_cases.specs.Cases.{weighed, tokens}
-use Rattle.block_cases.specs.Good.{OneToken}
-use Rattle.block_cases.specs.Shapes.{shape}
+use Rattle.block_cases.specs.inside.Good.{OneToken}
+use Rattle.block_cases.specs.inside.Shapes.{shape}
 use Rattle.block_cases.proofs.Steady.{to_left, to_right, to_predicate, deepest_is}
 use Rattle.block_cases.proofs.Nodes.{taken_same}
 use Rattle.block_cases.proofs.AnyBits.{one_at_most}

@@ -1,28 +1,14 @@
 -- Good blocks, and what a machine may rely on in them (docs/MACHINE.md, "Good blocks"). Source: every
 -- write, store and exit of a block comes exactly once, TRIPS Processor Reference Manual, UT Austin
 -- TR-05-19. Own: the faults, and that at most 256 cases are judged.
-use Rattle.std.specs.Prelude.{◌≡◌, ℕ, ◌<◌, ◌≤◌, ◌⊎◌, Bool, true, List, Some, slice_get}
-use Rattle.trips_isa.specs.declared.block.Sense.TheVariants.{Always}
-use Rattle.block_cases.specs.declared.token.CaseToken.{CaseToken}
+use Rattle.std.specs.Prelude.{◌≡◌, ℕ, ◌<◌, ◌≤◌, Bool, true, List}
 use Rattle.trips_isa.specs.declared.node.Node.{Node}
 use Rattle.trips_isa.specs.PlaceNumbers.{exit_place}
-use Rattle.block_cases.specs.Nodes.{targets, names, HasCycle, IsRanked}
-use Rattle.block_cases.specs.Cases.{cases, tokens, GetsTwo, GetsNone}
+use Rattle.block_cases.specs.Nodes.{HasCycle, IsRanked}
+use Rattle.block_cases.specs.Cases.{cases, GetsTwo, GetsNone}
 use Rattle.block_cases.specs.Blocks.{nodes_of, wanted_of}
 use Rattle.block_cases.specs.Orders.{IsInOrder}
 use Rattle.trips_isa.specs.declared.block.Block.{Block}
-
--- each node stands in one of the 128 slots, or has no predicate
-abbrev pub IsPlaced : List Node → Type 0
-IsPlaced ns = (x : ℕ) (n : Node) → slice_get ns x ≡ Some n → (n.slot < 128) ⊎ (n.sense ≡ Always)
-
--- node x names place q
-abbrev pub NamesPlace : List Node → ℕ → ℕ → Type 0
-NamesPlace ns x q = (n : Node) × (slice_get ns x ≡ Some n) × (names (targets n) q ≡ true)
-
--- no chain of edges comes back
-abbrev pub IsAcyclic : List Node → Type 0
-IsAcyclic ns = HasCycle ns → ⊥
 
 -- no place below the exit gets two tokens
 abbrev pub NoTwo : List Node → Type 0
@@ -47,15 +33,6 @@ pub record Good (ns : List Node) (wanted : ℕ → Bool) : Type 0 where
   pub exit : GetsNone ns exit_place → ⊥
   -- the eighth, TwoExits
   pub one_exit : GetsTwo ns exit_place → ⊥
-
--- no place gets two tokens, each write and number exactly one, and exactly one exit fires
-pub record OneToken (ns : List Node) (wanted : ℕ → Bool) (f : ℕ → CaseToken) : Type 0 where
-  -- no place below the exit gets two
-  pub at_most : (q : ℕ) → q < exit_place → tokens ns f q ≤ 1
-  -- each declared write and each number of the mask gets one
-  pub exactly : (q : ℕ) → q < exit_place → wanted q ≡ true → tokens ns f q ≡ 1
-  -- one branch fires
-  pub exit : tokens ns f exit_place ≡ 1
 
 -- a good block: no fault of any kind, and with that an order of its nodes along their edges
 pub record GoodBlock (b : Block) : Type 0 where

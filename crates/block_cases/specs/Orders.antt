@@ -95,14 +95,6 @@ has_item (r ∷ rs) n = (r == n) || has_item rs n
 abbrev pub bad_write : Block → ℕ → Bool
 bad_write b w = has_item (take w b.writes.items) (slice_index b.writes.items w)
 
--- k is the least number below n that passes a test
-pub record IsLeast (p : ℕ → Bool) (n k : ℕ) : Type 0 where
-  -- one of the numbers that are tested
-  pub below : k < n
-  pub holds : p k ≡ true
-  -- no lesser number passes
-  pub least : (j : ℕ) → j < k → p j ≡ false
-
 -- no number below n passes a test
 abbrev pub NoneBelow : (ℕ → Bool) → ℕ → Type 0
 NoneBelow p n = (j : ℕ) → j < n → p j ≡ false

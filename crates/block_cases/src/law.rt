@@ -5,15 +5,18 @@ ghost use Rattle.trips_isa.specs.declared.block.Block.{Block};
 ghost use Rattle.trips_isa.specs.PlaceNumbers.{place_count};
 ghost use Rattle.trips_isa.specs.Fits.{FitsBlock};
 ghost use Rattle.trips_isa.specs.Rule.{Answer};
-ghost use Rattle.trips_isa.specs.Tables.{Computes, IsTable, pulled};
-ghost use Rattle.trips_isa.specs.Blocks.{Responses, Solves, responses_in, token_of};
+ghost use Rattle.trips_isa.specs.Tables.{Computes};
+ghost use Rattle.trips_isa.specs.inside.Tables.{IsTable, pulled};
+ghost use Rattle.trips_isa.specs.Blocks.{Responses, responses_in, token_of};
+ghost use Rattle.trips_isa.specs.inside.Blocks.{Solves};
 ghost use Rattle.block_cases.specs.declared.token.CaseToken.TheVariants.{Absent};
 ghost use Rattle.block_cases.specs.Nodes.{targets, hits, IsRanked};
 ghost use Rattle.block_cases.specs.CaseRule.{fires};
 ghost use Rattle.block_cases.specs.Cases.{deepest};
 ghost use Rattle.block_cases.specs.Blocks.{nodes_of, wanted_of};
-ghost use Rattle.block_cases.specs.Good.{Good, GoodBlock, OneToken, IsPlaced, NamesPlace};
-ghost use Rattle.block_cases.specs.Shapes.{shape};
+ghost use Rattle.block_cases.specs.Good.{Good, GoodBlock};
+ghost use Rattle.block_cases.specs.inside.Good.{OneToken, IsPlaced, NamesPlace};
+ghost use Rattle.block_cases.specs.inside.Shapes.{shape};
 
 /// Nodes without a cycle have one table, and depth `deepest` reaches it, whatever they compute.
 pub fn tables_are_unique()

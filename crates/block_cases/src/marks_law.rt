@@ -8,13 +8,14 @@ ghost use Rattle.trips_isa.specs.Places.{nodes_of};
 ghost use Rattle.trips_isa.specs.Rule.{Answer};
 ghost use Rattle.trips_isa.specs.Tables.{IsRanked};
 ghost use Rattle.trips_isa.specs.Blocks.{token_of};
-ghost use Rattle.trips_isa.specs.Marks.{mark_of, IsMarking, cause};
-ghost use Rattle.trips_isa.specs.Acts.{is_clean, block_acts, IsClean};
+ghost use Rattle.trips_isa.specs.Marks.{mark_of, cause};
+ghost use Rattle.trips_isa.specs.inside.Marks.{IsMarking};
+ghost use Rattle.trips_isa.specs.inside.Acts.{is_clean, block_acts, IsClean};
 ghost use Rattle.trips_isa.specs.Outcomes.{Comes, plain, outcome};
 ghost use Rattle.trips_isa.specs.Machine.{State, step_of, runs};
 ghost use Rattle.block_cases.specs.Cases.{deepest};
-ghost use Rattle.block_cases.specs.Joint.{marked_of};
-ghost use Rattle.block_cases.specs.Plain.{plain_step, plain_runs, next_cause, next_faults};
+ghost use Rattle.block_cases.specs.inside.Joint.{marked_of};
+ghost use Rattle.block_cases.specs.inside.Plain.{plain_step, plain_runs, next_cause, next_faults};
 
 /// Beside any fixed table of tokens a block without a cycle has one marking, and depth `deepest` reaches
 /// it; marks that are pulled side by side with the tokens, both that deep, are those beside the

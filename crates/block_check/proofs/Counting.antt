@@ -8,7 +8,7 @@ use Rattle.block_cases.specs.declared.token.CaseToken.TheVariants.{Absent, Null,
 use Rattle.trips_isa.specs.declared.node.Node.{Node}
 use Rattle.block_cases.specs.Nodes.{targets, names, hits, one_if, stores_below, feeds}
 use Rattle.block_cases.specs.Cases.{weighed, tokens}
-use Rattle.block_cases.specs.Good.{NamesPlace}
+use Rattle.block_cases.specs.inside.Good.{NamesPlace}
 use Rattle.block_check.specs.inside.Pass.{InPlace}
 use Rattle.block_check.specs.inside.PartOrder.{Stuck, holding, waiting, Counting}
 use Rattle.block_cases.proofs.Steady.{or_left, or_right}

@@ -7,7 +7,7 @@ use Rattle.block_cases.specs.Cases.{bit, is_case, count, cases}
 use Rattle.block_check.specs.inside.Walk.{tally, zeros}
 use Rattle.block_check.specs.inside.PartOrder.{IsOrdered}
 use Rattle.block_check.specs.inside.Found.{others, gets_two, gets_none, any, Added, Explored}
-use Rattle.block_cases.specs.Good.{IsAcyclic}
+use Rattle.block_cases.specs.inside.Good.{IsAcyclic}
 use Rattle.block_cases.proofs.Alike.{and_true, both_true}
 use Rattle.block_check.proofs.Walk.{walk_exact}
 use Rattle.block_check.proofs.Lists.{count_same}

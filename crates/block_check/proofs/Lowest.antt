@@ -13,14 +13,15 @@ use Rattle.trips_isa.specs.Tables.{deepest}
 use Rattle.block_cases.proofs.Settled.{token_solves}
 use Rattle.block_cases.proofs.OneToken.{good_machine}
 use Rattle.block_cases.proofs.Placed.{nodes_placed}
-use Rattle.block_check.specs.IsChecked.{IsChecked, KeepsOneToken}
+use Rattle.block_check.specs.inside.IsChecked.{IsChecked, KeepsOneToken}
 use Rattle.trips_isa.specs.Fits.{FitsBlock}
 use Rattle.block_cases.specs.Blocks.{place_of, nodes_of, wanted_of}
 use Rattle.block_check.specs.declared.fault.CheckFault.{CheckFault}
 use Rattle.block_check.specs.declared.fault.CheckFault.TheVariants as say
 use Rattle.block_check.specs.declared.fault.NodeFault.{NodeFault}
 use Rattle.block_check.specs.declared.fault.NodeFault.TheVariants as net
-use Rattle.block_cases.specs.Orders.{bad_read, bad_inst, bad_number, bad_write, IsLeast, NoneBelow}
+use Rattle.block_cases.specs.Orders.{bad_read, bad_inst, bad_number, bad_write, NoneBelow}
+use Rattle.block_cases.specs.inside.Orders.{IsLeast}
 use Rattle.block_cases.specs.Orders.{IsInOrder}
 use Rattle.block_check.specs.inside.Judged.{IsFault, FirstTwo, FirstGap, LacksExit, HasTwoExits}
 use Rattle.block_check.specs.Faults.{HasBadTarget, HasBadNumber, HasFault}

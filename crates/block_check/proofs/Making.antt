@@ -13,8 +13,8 @@ use Rattle.trips_isa.specs.Images.{chunks, chunk_of, starting_at, FitsImage}
 use Rattle.trips_isa.specs.Limits.{most_chunks}
 use Rattle.block_check.specs.declared.refusal.ImageRefusal.{ImageRefusal}
 use Rattle.block_check.specs.declared.refusal.ImageRefusal.TheVariants as refusal
-use Rattle.block_check.specs.IsChecked.{IsChecked}
-use Rattle.block_check.specs.Images.{IsRefusal}
+use Rattle.block_check.specs.inside.IsChecked.{IsChecked}
+use Rattle.block_check.specs.inside.Images.{IsRefusal}
 use Rattle.block_check.specs.inside.Holds.{image_of, first_chunks, IsIndexed, IsBadBlock}
 use Rattle.block_check.proofs.Starts.{sum_push, sum_front, sum_least, starts_push, starts_length}
 use Rattle.block_check.proofs.Starts.{starts_at, starts_rise, starts_found, starts_missing}

@@ -10,7 +10,7 @@ use Rattle.trips_isa.specs.Fits.{FitsBlock}
 use Rattle.trips_isa.specs.Limits.{most_nodes}
 use Rattle.block_cases.specs.Nodes.{feeds, IsRanked}
 use Rattle.block_cases.specs.Blocks.{read_node, inst_nodes, nodes_of}
-use Rattle.block_cases.specs.Good.{IsAcyclic}
+use Rattle.block_cases.specs.inside.Good.{IsAcyclic}
 use Rattle.block_cases.proofs.Alike.{or_true, and_true}
 use Rattle.block_check.specs.inside.PartOrder.{Stuck, PartOrder, AllStuck}
 use Rattle.block_check.proofs.Cycles.{eq_is, eq_not, near, same, some_node, stuck_cycle}

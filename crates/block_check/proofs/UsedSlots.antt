@@ -15,7 +15,8 @@ use Rattle.block_cases.specs.Nodes.{IsRanked}
 use Rattle.block_cases.specs.Blocks.{form_of, load_bound, read_node, inst_node, inst_nodes, nodes_of}
 use Rattle.block_cases.specs.Blocks.{wanted_of}
 use Rattle.block_cases.specs.Cases.{bit}
-use Rattle.block_cases.specs.Orders.{bad_slot, bad_inst, bad_slot_number, bad_number, IsLeast}
+use Rattle.block_cases.specs.Orders.{bad_slot, bad_inst, bad_slot_number, bad_number}
+use Rattle.block_cases.specs.inside.Orders.{IsLeast}
 use Rattle.block_cases.specs.Orders.{NoneBelow}
 use Rattle.block_cases.specs.Good.{Good}
 use Rattle.block_check.specs.declared.fault.NodeFault.{NodeFault}

@@ -1,4 +1,3 @@
 pub mod Faults
-pub mod IsChecked
 pub mod Images
 pub mod inside

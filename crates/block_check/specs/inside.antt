@@ -7,3 +7,5 @@ pub mod Judged
 pub mod Checked
 pub mod Holds
 pub mod Used
+pub mod Images
+pub mod IsChecked

@@ -2,7 +2,7 @@ ghost use Rattle.std.specs.Prelude.{◌≡◌, ◌↔◌, IsOk, IfOk, IfErr};
 ghost use Rattle.trips_isa.specs.Fits.{FitsBlock};
 ghost use Rattle.block_cases.specs.Good.{GoodBlock};
 ghost use Rattle.block_check.specs.Faults.{IsGood, IsLowestFault};
-ghost use Rattle.block_check.specs.IsChecked.{IsChecked, KeepsOneTokenFromEntry};
+ghost use Rattle.block_check.specs.inside.IsChecked.{IsChecked, KeepsOneTokenFromEntry};
 
 use crate::fault::CheckFault;
 use crate::verdict::judge_block;
@@ -17,7 +17,7 @@ pub struct CheckedBlock {
 
 impl Model for CheckedBlock {
     ghost use Rattle.trips_isa.specs.declared.block.Block.{Block};
-    ghost use Rattle.block_check.specs.IsChecked.{IsChecked};
+    ghost use Rattle.block_check.specs.inside.IsChecked.{IsChecked};
 
     ghost Value = { Block };
 

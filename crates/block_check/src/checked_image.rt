@@ -8,8 +8,8 @@ ghost use Rattle.trips_isa.specs.Images.{chunks, chunk_of, starting_at, block_at
 ghost use Rattle.trips_isa.specs.Outcomes.{to_following, to_offset};
 ghost use Rattle.trips_isa.specs.Limits.{most_chunks};
 ghost use Rattle.block_check.specs.Faults.{IsLowestFault};
-ghost use Rattle.block_check.specs.IsChecked.{IsChecked};
-ghost use Rattle.block_check.specs.Images.{IsCheckedImage, IsRefusal};
+ghost use Rattle.block_check.specs.inside.IsChecked.{IsChecked};
+ghost use Rattle.block_check.specs.inside.Images.{IsCheckedImage, IsRefusal};
 ghost use Rattle.block_check.specs.inside.Holds.{IsBadBlock};
 
 use crate::checked_block::{CheckedBlock, check};

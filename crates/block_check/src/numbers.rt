@@ -3,7 +3,8 @@ ghost use Rattle.std.specs.Prelude.{◌≡◌, ◌<◌, ◌≤◌, ◌||◌, len
 ghost use Rattle.trips_isa.specs.Fits.{FitsBlock};
 ghost use Rattle.block_cases.specs.Blocks.{is_load, is_store};
 ghost use Rattle.block_cases.specs.Orders.{loads, has_load, has_item};
-ghost use Rattle.block_cases.specs.Orders.{bad_number, bad_write, IsLeast, NoneBelow};
+ghost use Rattle.block_cases.specs.Orders.{bad_number, bad_write, NoneBelow};
+ghost use Rattle.block_cases.specs.inside.Orders.{IsLeast};
 ghost use Rattle.block_check.specs.inside.Used.{IsEmptyFrom};
 
 use crate::nodes::in_mask;

@@ -3,7 +3,8 @@ ghost use Rattle.std.specs.Prelude.{◌≡◌, ◌<◌, ◌≤◌, true, None, l
 ghost use Rattle.trips_isa.specs.Fits.{FitsBlock};
 ghost use Rattle.block_cases.specs.Blocks.{takes_left, takes_right};
 ghost use Rattle.block_cases.specs.Orders.{is_guarded, slot_of, target_good, targets_good};
-ghost use Rattle.block_cases.specs.Orders.{bad_read, bad_inst, IsLeast, NoneBelow};
+ghost use Rattle.block_cases.specs.Orders.{bad_read, bad_inst, NoneBelow};
+ghost use Rattle.block_cases.specs.inside.Orders.{IsLeast};
 ghost use Rattle.block_check.specs.inside.Used.{IsEmptyFrom};
 
 use trips_isa::{Block, Inst, Role, Sense, Spot, role_of};

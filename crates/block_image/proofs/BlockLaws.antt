@@ -12,14 +12,17 @@ use Rattle.block_image.specs.declared.fault.ImageFault.TheVariants.{BadField}
 use Rattle.block_image.specs.Words.{slot_word}
 use Rattle.trips_isa.specs.Fits.{FitsSlot, FitsRead, FitsBlock}
 use Rattle.block_image.specs.Headers.{words_from, info_of}
-use Rattle.block_image.specs.HeaderReading.{info_from, mask_in, reads_in, writes_in, chunks_in}
-use Rattle.block_image.specs.HeaderReading.{is_good_info, first_bad, read_at, write_at}
+use Rattle.block_image.specs.HeaderReading.{info_from, reads_in, writes_in, chunks_in}
+use Rattle.block_image.specs.inside.HeaderReading.{mask_in}
+use Rattle.block_image.specs.HeaderReading.{is_good_info}
+use Rattle.block_image.specs.inside.HeaderReading.{first_bad, read_at, write_at}
 use Rattle.trips_isa.specs.declared.block.Block.{Block}
 use Rattle.trips_isa.specs.Limits.{most_chunks}
 use Rattle.block_image.proofs.Each.{Each, AreBytes, each_take, each_both, each_of, all_of}
 use Rattle.block_image.specs.Spelling.{words_bytes, chunks_of, block_bytes}
-use Rattle.block_image.specs.Reading.{all_empty, ◌>>=◌, Slots, chunk_at, body_at, fault_at}
-use Rattle.block_image.specs.Reading.{header_at, parts_from, least_at, block_at}
+use Rattle.block_image.specs.Reading.{all_empty, ◌>>=◌, Slots}
+use Rattle.block_image.specs.inside.Reading.{chunk_at, body_at, fault_at}
+use Rattle.block_image.specs.inside.Reading.{header_at, parts_from, least_at, block_at}
 use Rattle.block_image.proofs.Lists.{bind_ok, ok_is, counts, good_info}
 use Rattle.block_image.proofs.HeaderLaws.{words_takes, read_fits, info_again, info_below}
 use Rattle.block_image.proofs.HeaderAgain.{length-words_from, words_from_below, reads_again}

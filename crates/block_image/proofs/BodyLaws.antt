@@ -12,11 +12,12 @@ use Rattle.block_image.specs.declared.fault.ImageFault.{ImageFault}
 use Rattle.block_image.specs.declared.fault.ImageFault.TheVariants.{Truncated}
 use Rattle.block_image.specs.Words.{slot_word}
 use Rattle.trips_isa.specs.Fits.{FitsSlot}
-use Rattle.block_image.specs.WordReading.{slot_of_word}
+use Rattle.block_image.specs.inside.WordReading.{slot_of_word}
 use Rattle.block_image.proofs.Each.{Each, AreBytes, AreWords, each_drop, each_take, each_both}
 use Rattle.block_image.specs.Spelling.{words_bytes}
-use Rattle.block_image.specs.Reading.{◌>>=◌, words, Slots, slot_or_fault, with_front, slots_at}
-use Rattle.block_image.specs.Reading.{chunk_at, body_at}
+use Rattle.block_image.specs.Reading.{◌>>=◌, Slots}
+use Rattle.block_image.specs.inside.Reading.{words, slot_or_fault, with_front, slots_at}
+use Rattle.block_image.specs.inside.Reading.{chunk_at, body_at}
 use Rattle.block_image.proofs.Words.{slot_again, slot_below}
 use Rattle.block_image.proofs.WordsTaken.{slot_takes}
 use Rattle.block_image.proofs.Lists.{bind_ok, ok_is, length-words, slots_length}

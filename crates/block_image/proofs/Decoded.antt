@@ -7,7 +7,7 @@ use Rattle.block_image.specs.declared.fault.ImageFault.{ImageFault}
 use Rattle.block_image.specs.declared.fault.ImageFault.TheVariants.{Magic, Version, Truncated}
 use Rattle.block_image.specs.declared.fault.ImageFault.TheVariants.{Trailing, BadField, Memory}
 use Rattle.block_image.specs.Spelling.{ImageBytes}
-use Rattle.block_image.specs.ImageReading.{Fails, DecodesOrMemory, IsMemory, IsMemoryOr, image_at}
+use Rattle.block_image.specs.inside.ImageReading.{Fails, DecodesOrMemory, IsMemory, IsMemoryOr, image_at}
 use Rattle.block_image.specs.FirstFault.{FirstFault}
 use Rattle.block_image.proofs.Each.{AreBytes, each_of, each_byte}
 use Rattle.block_image.proofs.Lists.{ok_is}

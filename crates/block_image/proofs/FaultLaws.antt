@@ -11,13 +11,15 @@ use Rattle.block_image.specs.declared.fault.ImageFault.TheVariants.{Truncated, B
 use Rattle.block_image.specs.Words.{slot_word}
 use Rattle.trips_isa.specs.Fits.{FitsSlot}
 use Rattle.trips_isa.specs.Limits.{most_chunks}
-use Rattle.block_image.specs.WordReading.{slot_of_word}
-use Rattle.block_image.specs.HeaderReading.{info_from, chunks_in, is_bad, first_bad}
+use Rattle.block_image.specs.inside.WordReading.{slot_of_word}
+use Rattle.block_image.specs.HeaderReading.{info_from, chunks_in, is_bad}
+use Rattle.block_image.specs.inside.HeaderReading.{first_bad}
 use Rattle.block_image.proofs.Each.{Each, IsWord, AreBytes, AreWords, each_both, each_of, all_of}
 use Rattle.block_image.specs.Spelling.{words_bytes}
-use Rattle.block_image.specs.Reading.{all_empty, ◌>>=◌, words, Slots, slot_or_fault, with_front}
-use Rattle.block_image.specs.Reading.{slots_at, chunk_at, body_at, fault_at, header_at, least_at}
-use Rattle.block_image.specs.Reading.{block_at, parts_from}
+use Rattle.block_image.specs.Reading.{all_empty, ◌>>=◌, Slots}
+use Rattle.block_image.specs.inside.Reading.{words, slot_or_fault, with_front}
+use Rattle.block_image.specs.inside.Reading.{slots_at, chunk_at, body_at, fault_at, header_at, least_at}
+use Rattle.block_image.specs.inside.Reading.{block_at, parts_from}
 use Rattle.block_image.specs.Faults.{Stands, SpellsNone, BodyFault, short, bad_slot, GoodHeader}
 use Rattle.block_image.specs.Faults.{BlockFault, no_header, too_many, bad_word, in_body}
 use Rattle.block_image.specs.Faults.{empty_chunk}

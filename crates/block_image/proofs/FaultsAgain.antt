@@ -13,12 +13,14 @@ use Rattle.block_image.specs.declared.fault.ImageFault.TheVariants.{Truncated, B
 use Rattle.block_image.specs.Words.{slot_word}
 use Rattle.trips_isa.specs.Fits.{FitsSlot}
 use Rattle.trips_isa.specs.Limits.{most_chunks}
-use Rattle.block_image.specs.WordReading.{slot_of_word}
-use Rattle.block_image.specs.HeaderReading.{info_from, chunks_in, is_bad, first_bad}
+use Rattle.block_image.specs.inside.WordReading.{slot_of_word}
+use Rattle.block_image.specs.HeaderReading.{info_from, chunks_in, is_bad}
+use Rattle.block_image.specs.inside.HeaderReading.{first_bad}
 use Rattle.block_image.proofs.Each.{IsWord, Each, AreWords, each_take, each_drop, each_of, all_of}
 use Rattle.block_image.specs.Spelling.{words_bytes}
-use Rattle.block_image.specs.Reading.{all_empty, words, Slots, slots_at, chunk_at, body_at}
-use Rattle.block_image.specs.Reading.{header_at, least_at, block_at}
+use Rattle.block_image.specs.Reading.{all_empty, Slots}
+use Rattle.block_image.specs.inside.Reading.{words, slots_at, chunk_at, body_at}
+use Rattle.block_image.specs.inside.Reading.{header_at, least_at, block_at}
 use Rattle.block_image.specs.Faults.{Stands, SpellsNone, BodyFault, short, bad_slot, GoodHeader}
 use Rattle.block_image.specs.Faults.{BlockFault, no_header, too_many, bad_word, in_body}
 use Rattle.block_image.specs.Faults.{empty_chunk}

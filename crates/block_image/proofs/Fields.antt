@@ -13,8 +13,8 @@ use Rattle.trips_isa.specs.declared.block.Sense.TheVariants.{Always, OnTrue, OnF
 use Rattle.trips_isa.specs.Fits.{FitsTarget, FitsSigned, FitsUnsigned, FitsOffset, FitsConstant}
 use Rattle.trips_isa.specs.Limits.{offset_half}
 use Rattle.block_image.specs.Words.{word_of, sense_number, target_number, signed_number}
-use Rattle.block_image.specs.WordReading.{◌>>=◌, part, sense_at, Target, target_at, signed_at}
-use Rattle.block_image.specs.WordReading.{offset_at, constant_of}
+use Rattle.block_image.specs.inside.WordReading.{◌>>=◌, part, sense_at, Target, target_at, signed_at}
+use Rattle.block_image.specs.inside.WordReading.{offset_at, constant_of}
 
 pub bind_some : {A B : Type 0} (o : Option A) (f : A → Option B) (y : B) → (o >>= f) ≡ Some y
     → (x : A) × (o ≡ Some x) × (f x ≡ Some y)

@@ -18,9 +18,10 @@ use Rattle.block_image.specs.declared.fault.ImageFault.{ImageFault}
 use Rattle.block_image.specs.declared.fault.ImageFault.TheVariants.{Magic, Version, Truncated}
 use Rattle.block_image.specs.declared.fault.ImageFault.TheVariants.{Trailing, BadField}
 use Rattle.block_image.specs.Spelling.{magic, container, block_bytes, chunks_of, spelling}
-use Rattle.block_image.specs.Reading.{◌>>=◌, block_at}
-use Rattle.block_image.specs.ImageReading.{number_at, magic_at, version_at, count_at, size_at}
-use Rattle.block_image.specs.ImageReading.{data_at, blocks_at, image_at}
+use Rattle.block_image.specs.Reading.{◌>>=◌}
+use Rattle.block_image.specs.inside.Reading.{block_at}
+use Rattle.block_image.specs.inside.ImageReading.{number_at, magic_at, version_at, count_at, size_at}
+use Rattle.block_image.specs.inside.ImageReading.{data_at, blocks_at, image_at}
 use Rattle.block_image.specs.Faults.{BlockFault}
 use Rattle.block_image.specs.FirstFault.{counted, sized, GoodFront, GoodBlocks, FirstFault}
 use Rattle.block_image.specs.FirstFault.{no_magic, bad_magic, no_version, bad_version, no_count}

@@ -14,9 +14,10 @@ use Rattle.trips_isa.specs.Limits.{most_chunks}
 use Rattle.block_image.specs.declared.fault.ImageFault.{ImageFault}
 use Rattle.block_image.specs.declared.fault.ImageFault.TheVariants.{Trailing}
 use Rattle.block_image.specs.Spelling.{container, block_bytes, chunks_of, spelling}
-use Rattle.block_image.specs.Reading.{◌>>=◌, block_at}
-use Rattle.block_image.specs.ImageReading.{magic_at, version_at, count_at}
-use Rattle.block_image.specs.ImageReading.{size_at, data_at, blocks_at, image_at}
+use Rattle.block_image.specs.Reading.{◌>>=◌}
+use Rattle.block_image.specs.inside.Reading.{block_at}
+use Rattle.block_image.specs.inside.ImageReading.{magic_at, version_at, count_at}
+use Rattle.block_image.specs.inside.ImageReading.{size_at, data_at, blocks_at, image_at}
 use Rattle.block_image.specs.Faults.{BlockFault}
 use Rattle.block_image.specs.FirstFault.{FirstFault}
 use Rattle.block_image.specs.FirstFault.{in_block, trailing}

@@ -16,8 +16,8 @@ use Rattle.block_image.specs.declared.fault.ImageFault.TheVariants.{Magic, Versi
 use Rattle.block_image.specs.declared.fault.ImageFault.TheVariants.{BadField}
 use Rattle.block_image.specs.Spelling.{magic, container}
 use Rattle.block_image.specs.Reading.{◌>>=◌}
-use Rattle.block_image.specs.ImageReading.{wants, number_at, magic_at, version_at, count_at}
-use Rattle.block_image.specs.ImageReading.{size_at, data_at}
+use Rattle.block_image.specs.inside.ImageReading.{wants, number_at, magic_at, version_at, count_at}
+use Rattle.block_image.specs.inside.ImageReading.{size_at, data_at}
 use Rattle.block_image.specs.FirstFault.{counted, sized, GoodFront, FirstFault, no_magic, bad_magic}
 use Rattle.block_image.specs.FirstFault.{no_version, bad_version, no_count, no_block, no_size}
 use Rattle.block_image.specs.FirstFault.{large, no_bytes, zero_last}

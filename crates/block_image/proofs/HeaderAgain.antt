@@ -6,9 +6,11 @@ use Rattle.std.proofs.Common.{not}
 use Rattle.trips_isa.specs.declared.block.ReadSlot.{ReadSlot}
 use Rattle.block_image.specs.Headers.{first_of, rest_of, read_fields}
 use Rattle.block_image.specs.Headers.{write_field, header_word, words_from, info_of}
-use Rattle.block_image.specs.HeaderReading.{mask_in, reads_in, writes_in, chunks_in}
-use Rattle.block_image.specs.HeaderReading.{is_good_info, is_bad, first_bad, read_at}
-use Rattle.block_image.specs.HeaderReading.{write_at}
+use Rattle.block_image.specs.HeaderReading.{reads_in, writes_in, chunks_in}
+use Rattle.block_image.specs.inside.HeaderReading.{mask_in}
+use Rattle.block_image.specs.HeaderReading.{is_good_info, is_bad}
+use Rattle.block_image.specs.inside.HeaderReading.{first_bad, read_at}
+use Rattle.block_image.specs.inside.HeaderReading.{write_at}
 use Rattle.block_image.proofs.Each.{AreWords}
 use Rattle.trips_isa.specs.Fits.{FitsRead}
 use Rattle.block_image.proofs.Lists.{Counts}

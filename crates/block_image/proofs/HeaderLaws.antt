@@ -13,8 +13,9 @@ use Rattle.block_image.specs.Words.{word_of}
 use Rattle.block_image.specs.Headers.{first_of, rest_of, operand_number, second_number, read_fields}
 use Rattle.block_image.specs.Headers.{write_field, header_word, words_from}
 use Rattle.block_image.specs.HeaderReading.{info_from, reads_in, writes_in}
-use Rattle.block_image.specs.HeaderReading.{is_good_info, is_bad, first_bad, operand_at, read_at}
-use Rattle.block_image.specs.HeaderReading.{write_at}
+use Rattle.block_image.specs.HeaderReading.{is_good_info, is_bad}
+use Rattle.block_image.specs.inside.HeaderReading.{first_bad, operand_at, read_at}
+use Rattle.block_image.specs.inside.HeaderReading.{write_at}
 use Rattle.block_image.proofs.Each.{Each, AreWords}
 use Rattle.trips_isa.specs.Fits.{FitsOperand, FitsSecond, FitsRead}
 use Rattle.block_image.proofs.Lists.{or_false}

@@ -22,9 +22,10 @@ use Rattle.trips_isa.specs.Images.{FitsImage, last_byte, chunks, body_chunks}
 use Rattle.trips_isa.specs.Limits.{most_chunks}
 use Rattle.block_image.specs.Spelling.{ImageBytes, block_bytes, chunks_of, magic, spelling}
 use Rattle.block_image.specs.Spelling.{header_words}
-use Rattle.block_image.specs.Reading.{◌>>=◌, block_at}
-use Rattle.block_image.specs.ImageReading.{wants, number_at, magic_at, version_at, count_at}
-use Rattle.block_image.specs.ImageReading.{size_at, data_at, blocks_at, image_at}
+use Rattle.block_image.specs.Reading.{◌>>=◌}
+use Rattle.block_image.specs.inside.Reading.{block_at}
+use Rattle.block_image.specs.inside.ImageReading.{wants, number_at, magic_at, version_at, count_at}
+use Rattle.block_image.specs.inside.ImageReading.{size_at, data_at, blocks_at, image_at}
 use Rattle.block_image.proofs.Lists.{bind_ok, ok_is}
 use Rattle.block_image.proofs.BodyLaws.{test_false, number_takes, number_again, length-words_bytes}
 use Rattle.block_image.proofs.BlockLaws.{block_takes, block_again, cond_ok}

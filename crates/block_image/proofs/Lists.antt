@@ -6,13 +6,15 @@ use Rattle.std.proofs.Common.{nat_eq, nat_le, nat_lt, ◌&&◌, ◌||◌, not}
 use Rattle.std.proofs.lemmas.List.{drop-drop, drop_more, drop_all, drop-take}
 use Rattle.std.proofs.Math.Nat.{pow-le-pow_right}
 use Rattle.byteorder.specs.Endian.{big_number, IsRead}
-use Rattle.block_image.specs.Reading.{words, ◌>>=◌, Slots, with_front, slot_or_fault, slots_at}
-use Rattle.block_image.specs.Reading.{chunk_at, body_at}
-use Rattle.block_image.specs.HeaderReading.{is_bad, first_bad, is_good_info, reads_in, writes_in}
+use Rattle.block_image.specs.Reading.{◌>>=◌, Slots}
+use Rattle.block_image.specs.inside.Reading.{words, with_front, slot_or_fault, slots_at}
+use Rattle.block_image.specs.inside.Reading.{chunk_at, body_at}
+use Rattle.block_image.specs.HeaderReading.{is_bad, is_good_info, reads_in, writes_in}
+use Rattle.block_image.specs.inside.HeaderReading.{first_bad}
 use Rattle.block_image.specs.HeaderReading.{chunks_in}
 use Rattle.byteorder.specs.Numbers.{big_from-take}
 use Rattle.block_image.specs.declared.fault.ImageFault.{ImageFault}
-use Rattle.block_image.specs.WordReading.{slot_of_word}
+use Rattle.block_image.specs.inside.WordReading.{slot_of_word}
 use Rattle.std.proofs.lemmas.Bool.Decides.{nat_tests}
 
 pub words_is : (n : ℕ) (src dst : List ℕ) → length dst ≡ n → IsRead big_number 4 src dst

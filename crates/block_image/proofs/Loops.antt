@@ -9,9 +9,10 @@ use Rattle.block_image.specs.declared.fault.ImageFault.TheVariants.{Magic, Versi
 use Rattle.block_image.specs.declared.fault.ImageFault.TheVariants.{Trailing, BadField, Memory}
 use Rattle.trips_isa.specs.declared.block.Block.{Block}
 use Rattle.block_image.specs.Spelling.{chunks_of}
-use Rattle.block_image.specs.Reading.{all_empty, ◌>>=◌, chunk_at, rest_at, block_at, Slots}
+use Rattle.block_image.specs.Reading.{all_empty, ◌>>=◌, Slots}
+use Rattle.block_image.specs.inside.Reading.{chunk_at, rest_at, block_at}
 use Rattle.trips_isa.specs.Images.{last_byte}
-use Rattle.block_image.specs.ImageReading.{blocks_at, with_blocks, Fails, wants}
+use Rattle.block_image.specs.inside.ImageReading.{blocks_at, with_blocks, Fails, wants}
 
 pub fails_of : {Y : Type 0} (e : ImageFault) (read : Result Y ImageFault) → read ≡ Err e
     → Fails e read

@@ -11,8 +11,9 @@ use Rattle.block_image.proofs.Each.{Each, each_of}
 use Rattle.trips_isa.specs.Fits.{FitsBlock}
 use Rattle.trips_isa.specs.Limits.{most_chunks}
 use Rattle.block_image.specs.Spelling.{ImageBytes, block_bytes, chunks_of, spelling}
-use Rattle.block_image.specs.Reading.{◌>>=◌, block_at}
-use Rattle.block_image.specs.ImageReading.{wants, blocks_at, image_at}
+use Rattle.block_image.specs.Reading.{◌>>=◌}
+use Rattle.block_image.specs.inside.Reading.{block_at}
+use Rattle.block_image.specs.inside.ImageReading.{wants, blocks_at, image_at}
 use Rattle.block_image.proofs.Lists.{bind_ok, ok_is}
 use Rattle.block_image.proofs.BlockLaws.{block_again}
 use Rattle.block_image.proofs.ImageLaws.{image_again, length-block, want_ok, eq_true, image_from}

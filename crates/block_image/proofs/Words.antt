@@ -11,13 +11,14 @@ use Rattle.trips_isa.specs.declared.block.Inst.{Inst}
 use Rattle.trips_isa.specs.Forms.{form_of}
 use Rattle.trips_isa.specs.Fits.{FitsTargets, FitsForm, FitsSlot}
 use Rattle.isa_table.specs.declared.numbers.Code.{Code}
-use Rattle.isa_table.specs.Codes.{code_of, op_with_numbers, GoodCode}
+use Rattle.isa_table.specs.Codes.{code_of}
+use Rattle.isa_table.specs.inside.Codes.{op_with_numbers, GoodCode}
 use Rattle.isa_table.proofs.ByNumbers.{code_good, numbers_taken, numbers_again}
 use Rattle.block_image.specs.Words.{sense_number, target_number, signed_number, form_word}
 use Rattle.block_image.specs.Words.{slot_word}
-use Rattle.block_image.specs.WordReading.{part, Target, pair_of, targets_at, general_at}
-use Rattle.block_image.specs.WordReading.{immediate_at, load_at, store_at, branch_at, constant_at}
-use Rattle.block_image.specs.WordReading.{form_at, op_in, inst_of_word, slot_of_word}
+use Rattle.block_image.specs.inside.WordReading.{part, Target, pair_of, targets_at, general_at}
+use Rattle.block_image.specs.inside.WordReading.{immediate_at, load_at, store_at, branch_at, constant_at}
+use Rattle.block_image.specs.inside.WordReading.{form_at, op_in, inst_of_word, slot_of_word}
 use Rattle.block_image.proofs.Fields.{Parts, parts, BranchParts, branch_parts, ConstantParts}
 use Rattle.block_image.proofs.Fields.{constant_parts, sense_below, sense_again, eq_no, lt_yes}
 use Rattle.block_image.proofs.Fields.{lt_no, found, target_below, target_again, signed_below}

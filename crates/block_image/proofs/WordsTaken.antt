@@ -12,14 +12,15 @@ use Rattle.trips_isa.specs.declared.block.Inst.{Inst}
 use Rattle.trips_isa.specs.Forms.{form_of}
 use Rattle.trips_isa.specs.Fits.{FitsForm, FitsInst, FitsSlot}
 use Rattle.isa_table.specs.declared.numbers.Code.{Code}
-use Rattle.isa_table.specs.Codes.{code_of, GoodCode}
+use Rattle.isa_table.specs.Codes.{code_of}
+use Rattle.isa_table.specs.inside.Codes.{GoodCode}
 use Rattle.isa_table.proofs.ByNumbers.{code_good}
 use Rattle.block_image.specs.Words.{sense_number, target_number, signed_number, form_word}
 use Rattle.block_image.specs.Words.{inst_word, slot_word}
-use Rattle.block_image.specs.WordReading.{◌>>=◌, part, sense_in, Target, target_at, signed_at}
-use Rattle.block_image.specs.WordReading.{pair_of, targets_at, offset_at, constant_of, general_at}
-use Rattle.block_image.specs.WordReading.{immediate_at, load_at, store_at, branch_at, constant_at}
-use Rattle.block_image.specs.WordReading.{form_at, op_in, inst_of_word, slot_of_word}
+use Rattle.block_image.specs.inside.WordReading.{◌>>=◌, part, sense_in, Target, target_at, signed_at}
+use Rattle.block_image.specs.inside.WordReading.{pair_of, targets_at, offset_at, constant_of, general_at}
+use Rattle.block_image.specs.inside.WordReading.{immediate_at, load_at, store_at, branch_at, constant_at}
+use Rattle.block_image.specs.inside.WordReading.{form_at, op_in, inst_of_word, slot_of_word}
 use Rattle.block_image.proofs.Fields.{bind_some, whole, branch_whole, constant_whole, sense_takes}
 use Rattle.block_image.proofs.Fields.{eq_is, pick, found, nothing, Spells, target_takes}
 use Rattle.block_image.proofs.Fields.{signed_takes, offset_takes, constant_takes}

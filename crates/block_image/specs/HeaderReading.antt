@@ -1,18 +1,11 @@
 -- Reading the words of a header.
-use Rattle.std.specs.Prelude.{ℕ, suc, ◌+◌, ◌-◌, ◌*◌, ◌/◌, ◌%◌, List, [], ◌∷◌, Option, Some, None}
-use Rattle.std.specs.Prelude.{Bool, ◌&&◌, ◌||◌, not, nat_le, nat_lt, ◌==◌, if◌then◌else◌}
-use Rattle.trips_isa.specs.declared.block.Spot.{Spot}
-use Rattle.trips_isa.specs.declared.block.Spot.TheVariants as spot
-use Rattle.trips_isa.specs.declared.block.ReadSlot.{ReadSlot}
+use Rattle.std.specs.Prelude.{ℕ, ◌+◌, ◌*◌, ◌/◌, ◌%◌, List, [], ◌∷◌}
+use Rattle.std.specs.Prelude.{Bool, ◌&&◌, ◌||◌, not, nat_le, nat_lt, ◌==◌}
 
 -- the info bits of all words, after those of the words before
 abbrev pub info_from : ℕ → List ℕ → ℕ
 info_from info [] = info
 info_from info (w ∷ ws) = info_from (info * 4 + w / 1073741824) ws
-
--- the upper 32 of the 64 info bits: a bit for each store number
-abbrev pub mask_in : ℕ → ℕ
-mask_in info = info / 4294967296
 
 -- the number of reads that the info bits state, be it too great or not
 abbrev pub reads_in : ℕ → ℕ
@@ -39,24 +32,3 @@ is_bad info i w =
     (nat_le (reads_in info) i && not (w / 128 % 8388608 == 0)) ||
     (nat_le (writes_in info) i && not (w % 128 == 0))
     || (i == 16 && not (is_good_info info))
-
--- the number of the first bad word, from word i on, if one is bad
-unfoldable pub first_bad : ℕ → ℕ → List ℕ → Option ℕ
-first_bad info i [] = None
-first_bad info i (w ∷ ws) = if is_bad info i w then Some i else first_bad info (suc i) ws
-
--- an operand of the 8 bits of a read's target
-unfoldable pub operand_at : ℕ → Spot
-operand_at n = if nat_lt n 128 then spot.Left n else spot.Right (n - 128)
-
--- the read of a word; the same target twice stands for one
-unfoldable pub read_at : ℕ → ReadSlot
-read_at w = record {
-  register = w / 8388608 % 128;
-  first = operand_at (w / 128 % 256);
-  second = if w / 32768 % 256 == w / 128 % 256 then None else Some (operand_at (w / 32768 % 256));
-}
-
--- the register of a word's write
-abbrev pub write_at : ℕ → ℕ
-write_at w = w % 128

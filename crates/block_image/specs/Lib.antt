@@ -1,9 +1,8 @@
 pub mod Words
-pub mod WordReading
 pub mod Headers
 pub mod HeaderReading
 pub mod Spelling
 pub mod Reading
-pub mod ImageReading
 pub mod Faults
 pub mod FirstFault
+pub mod inside

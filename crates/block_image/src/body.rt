@@ -2,11 +2,12 @@
 ghost use Rattle.std.specs.Prelude.{◌≡◌, ◌+◌, ◌-◌, ◌*◌, ◌<◌, ◌≤◌, ◌^◌, ◌++◌, length, drop};
 ghost use Rattle.std.specs.Prelude.{replicate, IfOk, OnOk, None, true, []};
 ghost use Rattle.block_image.specs.HeaderReading.{is_good_info, chunks_in};
-ghost use Rattle.block_image.specs.WordReading.{slot_of_word};
+ghost use Rattle.block_image.specs.inside.WordReading.{slot_of_word};
 ghost use Rattle.block_image.specs.Spelling.{chunks_of};
-ghost use Rattle.block_image.specs.Reading.{all_empty, chunk_at, slots_at, slot_or_fault, body_at};
-ghost use Rattle.block_image.specs.Reading.{header_at, least_at, rest_at, parts_from};
-ghost use Rattle.block_image.specs.ImageReading.{Decodes, Adds};
+ghost use Rattle.block_image.specs.Reading.{all_empty};
+ghost use Rattle.block_image.specs.inside.Reading.{chunk_at, slots_at, slot_or_fault, body_at};
+ghost use Rattle.block_image.specs.inside.Reading.{header_at, least_at, rest_at, parts_from};
+ghost use Rattle.block_image.specs.inside.ImageReading.{Decodes, Adds};
 ghost use Rattle.trips_isa.specs.Limits.{most_chunks};
 
 use crate::fault::ImageFault;
@@ -15,7 +16,7 @@ use crate::word::slot_of;
 use arrayvec::ArrayVec;
 use trips_isa::{Block, Inst};
 
-#[tactic(auto, unfolding(crate::specs::Reading::chunk_at))]
+#[tactic(auto, unfolding(crate::specs::inside::Reading::chunk_at))]
 pub(crate) fn chunk(bytes: &[u8], at: usize) -> Result<[u32; 32], ImageFault>
     requires { at < 2 ^ 63 }
     ensures value { result ≡ chunk_at at bytes.now }
@@ -79,7 +80,7 @@ fn body(
     Ok(())
 }
 
-#[tactic(auto, unfolding(crate::specs::Reading::header_at))]
+#[tactic(auto, unfolding(crate::specs::inside::Reading::header_at))]
 pub(crate) fn header(total: u32, at: usize, words: &[u32]) -> Result<u64, ImageFault>
     requires place { at < 2 ^ 62 }
     requires total { total ≤ most_chunks }
@@ -109,7 +110,7 @@ fn are_empty(slots: &[Option<Inst>]) -> bool
     true
 }
 
-#[tactic(auto, unfolding(crate::specs::Reading::least_at))]
+#[tactic(auto, unfolding(crate::specs::inside::Reading::least_at))]
 fn least(at: usize, chunks: usize, slots: &[Option<Inst>]) -> Result<(), ImageFault>
     requires place { at < 2 ^ 62 }
     requires chunks { chunks ≤ 4 }
@@ -147,7 +148,7 @@ pub(crate) fn blank() -> Block
 
 /// Fills a blank block from the words of its header and the body that follows it at a place, and tells
 /// its chunks.
-#[tactic(auto, unfolding(crate::specs::Reading::parts_from))]
+#[tactic(auto, unfolding(crate::specs::inside::Reading::parts_from))]
 pub(crate) fn fill(
     block: &mut Block,
     words: &[u32],

@@ -5,9 +5,9 @@ ghost use Rattle.trips_isa.specs.Images.{last_byte};
 ghost use Rattle.block_image.specs.declared.fault.ImageFault.{ImageFault};
 ghost use Rattle.block_image.specs.Spelling.{ImageBytes};
 ghost use Rattle.block_image.specs.FirstFault.{FirstFault};
-ghost use Rattle.block_image.specs.ImageReading.{Decodes, DecodesOrMemory, IsMemory, IsMemoryOr, number_at};
-ghost use Rattle.block_image.specs.ImageReading.{magic_at, version_at, count_at, size_at, data_at};
-ghost use Rattle.block_image.specs.ImageReading.{blocks_at, image_at};
+ghost use Rattle.block_image.specs.inside.ImageReading.{Decodes, DecodesOrMemory, IsMemory, IsMemoryOr, number_at};
+ghost use Rattle.block_image.specs.inside.ImageReading.{magic_at, version_at, count_at, size_at, data_at};
+ghost use Rattle.block_image.specs.inside.ImageReading.{blocks_at, image_at};
 
 use crate::body::{blank, chunk, fill};
 use crate::fault::ImageFault;
@@ -16,7 +16,7 @@ use byteorder::{BigEndian, ByteOrder};
 use std::alloc::Global;
 use trips_isa::{Block, Image};
 
-#[tactic(auto, unfolding(crate::specs::ImageReading::number_at))]
+#[tactic(auto, unfolding(crate::specs::inside::ImageReading::number_at))]
 fn number(bytes: &[u8], at: usize) -> Result<u32, ImageFault>
     requires { at < 2 ^ 32 }
     ensures value { result ≡ number_at at bytes.now }
@@ -27,7 +27,7 @@ fn number(bytes: &[u8], at: usize) -> Result<u32, ImageFault>
     Ok(BigEndian::read_u32(&bytes[at..]))
 }
 
-#[tactic(auto, unfolding(crate::specs::ImageReading::magic_at))]
+#[tactic(auto, unfolding(crate::specs::inside::ImageReading::magic_at))]
 fn has_magic(bytes: &[u8]) -> Result<(), ImageFault>
     ensures { Decodes (λ u. tt) result (magic_at bytes.now) }
 {
@@ -41,7 +41,7 @@ fn has_magic(bytes: &[u8]) -> Result<(), ImageFault>
     }
 }
 
-#[tactic(auto, unfolding(crate::specs::ImageReading::version_at))]
+#[tactic(auto, unfolding(crate::specs::inside::ImageReading::version_at))]
 fn has_version(bytes: &[u8]) -> Result<(), ImageFault>
     ensures { Decodes (λ u. tt) result (version_at bytes.now) }
 {
@@ -55,7 +55,7 @@ fn has_version(bytes: &[u8]) -> Result<(), ImageFault>
     }
 }
 
-#[tactic(auto, unfolding(crate::specs::ImageReading::count_at))]
+#[tactic(auto, unfolding(crate::specs::inside::ImageReading::count_at))]
 fn count(bytes: &[u8]) -> Result<u32, ImageFault>
     ensures value { result ≡ count_at bytes.now }
 {
@@ -69,7 +69,7 @@ fn count(bytes: &[u8]) -> Result<u32, ImageFault>
     }
 }
 
-#[tactic(auto, unfolding(crate::specs::ImageReading::size_at))]
+#[tactic(auto, unfolding(crate::specs::inside::ImageReading::size_at))]
 fn size(bytes: &[u8]) -> Result<u32, ImageFault>
     ensures value { result ≡ size_at bytes.now }
     ensures few { IfOk result (λ n. n ≤ 4194304) }
@@ -94,7 +94,7 @@ fn last(bytes: &[u8]) -> u8
     }
 }
 
-#[tactic(auto, unfolding(crate::specs::ImageReading::data_at))]
+#[tactic(auto, unfolding(crate::specs::inside::ImageReading::data_at))]
 fn data_part(bytes: &[u8], size: usize) -> Result<&[u8], ImageFault>
     requires { size ≤ 4194304 }
     ensures { Decodes (λ x. x.now) result (data_at size bytes.now) }
@@ -137,7 +137,7 @@ fn blocks(alloc: Global, bytes: &[u8], count: u32, at: usize) -> Result<Vec<Bloc
     Ok(blocks)
 }
 
-#[tactic(auto, unfolding(crate::specs::ImageReading::image_at))]
+#[tactic(auto, unfolding(crate::specs::inside::ImageReading::image_at))]
 fn image(alloc: Global, bytes: &[u8]) -> Result<Image, ImageFault>
     ensures { DecodesOrMemory (λ v. v) result (image_at bytes.now) }
 {

@@ -3,7 +3,7 @@ ghost use Rattle.std.specs.Prelude.{◌≡◌, ◌+◌, ◌*◌, ◌<◌, ◌≤
 ghost use Rattle.trips_isa.specs.declared.form.Form.TheVariants as forms;
 ghost use Rattle.trips_isa.specs.Fits.{FitsTarget, FitsSigned, FitsForm, FitsInst, FitsSlot};
 ghost use Rattle.trips_isa.specs.Fits.{FitsOperand, FitsRead};
-ghost use Rattle.isa_table.specs.Codes.{GoodCode};
+ghost use Rattle.isa_table.specs.inside.Codes.{GoodCode};
 ghost use Rattle.block_image.specs.Words.{target_number, sense_number, signed_number, form_word};
 ghost use Rattle.block_image.specs.Words.{inst_word, slot_word};
 ghost use Rattle.block_image.specs.Headers.{first_of, operand_number, read_fields, write_field};

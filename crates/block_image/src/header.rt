@@ -2,9 +2,10 @@
 ghost use Rattle.std.specs.Prelude.{◌≡◌, ℕ, ◌+◌, ◌*◌, ◌<◌, ◌≤◌, ◌^◌, length, drop, take, map};
 ghost use Rattle.std.specs.Prelude.{IfSome, []};
 ghost use Rattle.block_image.specs.HeaderReading.{info_from, reads_in, writes_in, chunks_in};
-ghost use Rattle.block_image.specs.HeaderReading.{mask_in, is_good_info, is_bad, first_bad};
-ghost use Rattle.block_image.specs.HeaderReading.{operand_at, read_at, write_at};
-ghost use Rattle.block_image.specs.Reading.{words};
+ghost use Rattle.block_image.specs.HeaderReading.{is_good_info, is_bad};
+ghost use Rattle.block_image.specs.inside.HeaderReading.{mask_in, first_bad};
+ghost use Rattle.block_image.specs.inside.HeaderReading.{operand_at, read_at, write_at};
+ghost use Rattle.block_image.specs.inside.Reading.{words};
 
 use arrayvec::ArrayVec;
 use byteorder::{BigEndian, ByteOrder};
@@ -66,7 +67,7 @@ pub(crate) fn bad_word(info: u64, words: &[u32]) -> Option<usize>
     None
 }
 
-#[tactic(auto, unfolding(crate::specs::HeaderReading::operand_at))]
+#[tactic(auto, unfolding(crate::specs::inside::HeaderReading::operand_at))]
 fn operand(number: u32) -> Spot
     requires { number < 256 }
     ensures value { result ≡ operand_at number }
@@ -78,7 +79,7 @@ fn operand(number: u32) -> Spot
     }
 }
 
-#[tactic(auto, unfolding(crate::specs::HeaderReading::read_at))]
+#[tactic(auto, unfolding(crate::specs::inside::HeaderReading::read_at))]
 fn read_in(word: u32) -> ReadSlot
     ensures value { result ≡ read_at word }
 {

@@ -5,7 +5,7 @@ ghost use Rattle.trips_isa.specs.declared.block.Image.{Image};
 ghost use Rattle.trips_isa.specs.Fits.{FitsSlot};
 ghost use Rattle.block_image.specs.declared.fault.ImageFault.{ImageFault};
 ghost use Rattle.block_image.specs.Words.{slot_word};
-ghost use Rattle.block_image.specs.WordReading.{slot_of_word};
+ghost use Rattle.block_image.specs.inside.WordReading.{slot_of_word};
 ghost use Rattle.block_image.specs.Spelling.{ImageBytes};
 ghost use Rattle.block_image.specs.FirstFault.{FirstFault};
 

@@ -1,14 +1,14 @@
 //! The words of instructions: read.
 ghost use Rattle.std.specs.Prelude.{◌≡◌, ℕ, ◌+◌, ◌<◌, ◌^◌};
-ghost use Rattle.block_image.specs.WordReading.{sense_at, target_at, signed_at, pair_of};
-ghost use Rattle.block_image.specs.WordReading.{targets_at, offset_at, constant_of, general_at};
-ghost use Rattle.block_image.specs.WordReading.{immediate_at, load_at, store_at, branch_at};
-ghost use Rattle.block_image.specs.WordReading.{constant_at, form_at, op_in, inst_of_word, slot_of_word};
+ghost use Rattle.block_image.specs.inside.WordReading.{sense_at, target_at, signed_at, pair_of};
+ghost use Rattle.block_image.specs.inside.WordReading.{targets_at, offset_at, constant_of, general_at};
+ghost use Rattle.block_image.specs.inside.WordReading.{immediate_at, load_at, store_at, branch_at};
+ghost use Rattle.block_image.specs.inside.WordReading.{constant_at, form_at, op_in, inst_of_word, slot_of_word};
 
 use isa_table::with_numbers;
 use trips_isa::{Form, Inst, Op, Sense, Spot, form_of};
 
-#[tactic(auto, unfolding(crate::specs::WordReading::sense_at))]
+#[tactic(auto, unfolding(crate::specs::inside::WordReading::sense_at))]
 fn sense_of(number: u32) -> Option<Sense>
     ensures value { result ≡ sense_at number }
 {
@@ -20,7 +20,7 @@ fn sense_of(number: u32) -> Option<Sense>
     }
 }
 
-#[tactic(auto, unfolding(crate::specs::WordReading::target_at))]
+#[tactic(auto, unfolding(crate::specs::inside::WordReading::target_at))]
 fn target_of(number: u32) -> Option<Option<Spot>>
     requires { number < 512 }
     ensures value { result ≡ target_at number }
@@ -42,7 +42,7 @@ fn target_of(number: u32) -> Option<Option<Spot>>
     }
 }
 
-#[tactic(auto, unfolding(crate::specs::WordReading::signed_at))]
+#[tactic(auto, unfolding(crate::specs::inside::WordReading::signed_at))]
 fn signed_of(half: u32, number: u32) -> i32
     requires half { half < 2 ^ 20 }
     requires number { number < half + half }
@@ -55,7 +55,7 @@ fn signed_of(half: u32, number: u32) -> i32
     }
 }
 
-#[tactic(auto, unfolding(crate::specs::WordReading::pair_of))]
+#[tactic(auto, unfolding(crate::specs::inside::WordReading::pair_of))]
 fn both(first: Option<Spot>, second: Option<Spot>) -> Option<(Option<Spot>, Option<Spot>)>
     ensures value { result ≡ pair_of first second }
 {
@@ -66,7 +66,7 @@ fn both(first: Option<Spot>, second: Option<Spot>) -> Option<(Option<Spot>, Opti
     }
 }
 
-#[tactic(auto, unfolding(crate::specs::WordReading::targets_at))]
+#[tactic(auto, unfolding(crate::specs::inside::WordReading::targets_at))]
 fn targets_of(word: u32) -> Option<(Option<Spot>, Option<Spot>)>
     ensures value { result ≡ targets_at word }
 {
@@ -75,7 +75,7 @@ fn targets_of(word: u32) -> Option<(Option<Spot>, Option<Spot>)>
     both(first, second)
 }
 
-#[tactic(auto, unfolding(crate::specs::WordReading::offset_at))]
+#[tactic(auto, unfolding(crate::specs::inside::WordReading::offset_at))]
 fn offset_of(op: Op, number: u32) -> Option<i32>
     requires { number < 1048576 }
     ensures value { result ≡ offset_at op number }
@@ -86,7 +86,7 @@ fn offset_of(op: Op, number: u32) -> Option<i32>
     }
 }
 
-#[tactic(auto, unfolding(crate::specs::WordReading::constant_of))]
+#[tactic(auto, unfolding(crate::specs::inside::WordReading::constant_of))]
 fn constant_in(op: Op, number: u32) -> i32
     requires { number < 65536 }
     ensures value { result ≡ constant_of op number }
@@ -97,7 +97,7 @@ fn constant_in(op: Op, number: u32) -> i32
     }
 }
 
-#[tactic(auto, unfolding(crate::specs::WordReading::general_at))]
+#[tactic(auto, unfolding(crate::specs::inside::WordReading::general_at))]
 fn general_of(op: Op, word: u32) -> Option<Inst>
     ensures value { result ≡ general_at op word }
 {
@@ -113,7 +113,7 @@ fn general_of(op: Op, word: u32) -> Option<Inst>
     })
 }
 
-#[tactic(auto, unfolding(crate::specs::WordReading::immediate_at))]
+#[tactic(auto, unfolding(crate::specs::inside::WordReading::immediate_at))]
 fn immediate_of(op: Op, word: u32) -> Option<Inst>
     ensures value { result ≡ immediate_at op word }
 {
@@ -130,7 +130,7 @@ fn immediate_of(op: Op, word: u32) -> Option<Inst>
     })
 }
 
-#[tactic(auto, unfolding(crate::specs::WordReading::load_at))]
+#[tactic(auto, unfolding(crate::specs::inside::WordReading::load_at))]
 fn load_of(op: Op, word: u32) -> Option<Inst>
     ensures value { result ≡ load_at op word }
 {
@@ -148,7 +148,7 @@ fn load_of(op: Op, word: u32) -> Option<Inst>
     })
 }
 
-#[tactic(auto, unfolding(crate::specs::WordReading::store_at))]
+#[tactic(auto, unfolding(crate::specs::inside::WordReading::store_at))]
 fn store_of(op: Op, word: u32) -> Option<Inst>
     ensures value { result ≡ store_at op word }
 {
@@ -169,7 +169,7 @@ fn store_of(op: Op, word: u32) -> Option<Inst>
     }
 }
 
-#[tactic(auto, unfolding(crate::specs::WordReading::branch_at))]
+#[tactic(auto, unfolding(crate::specs::inside::WordReading::branch_at))]
 fn branch_of(op: Op, word: u32) -> Option<Inst>
     ensures value { result ≡ branch_at op word }
 {
@@ -186,7 +186,7 @@ fn branch_of(op: Op, word: u32) -> Option<Inst>
     })
 }
 
-#[tactic(auto, unfolding(crate::specs::WordReading::constant_at))]
+#[tactic(auto, unfolding(crate::specs::inside::WordReading::constant_at))]
 fn constant_inst(op: Op, word: u32) -> Option<Inst>
     ensures value { result ≡ constant_at op word }
 {
@@ -202,7 +202,7 @@ fn constant_inst(op: Op, word: u32) -> Option<Inst>
     })
 }
 
-#[tactic(auto, unfolding(crate::specs::WordReading::form_at))]
+#[tactic(auto, unfolding(crate::specs::inside::WordReading::form_at))]
 fn formed(form: Form, op: Op, word: u32) -> Option<Inst>
     ensures value { result ≡ form_at form op word }
 {
@@ -216,7 +216,7 @@ fn formed(form: Form, op: Op, word: u32) -> Option<Inst>
     }
 }
 
-#[tactic(auto, unfolding(crate::specs::WordReading::op_in))]
+#[tactic(auto, unfolding(crate::specs::inside::WordReading::op_in))]
 fn op_of(word: u32) -> Option<Op>
     ensures value { result ≡ op_in word }
 {
@@ -225,7 +225,7 @@ fn op_of(word: u32) -> Option<Op>
     with_numbers(opcode, extended)
 }
 
-#[tactic(auto, unfolding(crate::specs::WordReading::inst_of_word))]
+#[tactic(auto, unfolding(crate::specs::inside::WordReading::inst_of_word))]
 fn inst_of(word: u32) -> Option<Inst>
     ensures value { result ≡ inst_of_word word }
 {
@@ -234,7 +234,7 @@ fn inst_of(word: u32) -> Option<Inst>
 }
 
 /// The slot that the word spells, if it spells one.
-#[tactic(auto, unfolding(crate::specs::WordReading::slot_of_word))]
+#[tactic(auto, unfolding(crate::specs::inside::WordReading::slot_of_word))]
 pub(crate) fn slot_of(word: u32) -> Option<Option<Inst>>
     ensures value { result ≡ slot_of_word word }
 {

@@ -2,7 +2,8 @@
 ghost use Rattle.std.specs.Prelude.{◌≡◌, ◌<◌, ◌+◌, ◌*◌, ◌%◌, All, length, IfOk, IfSome, [], get_or};
 ghost use Rattle.circular_buffer.specs.Buffer.{buffer};
 ghost use Rattle.block_predict.specs.Predicts as spec;
-ghost use Rattle.block_predict.specs.Predicts.{holding, AreBlocks};
+ghost use Rattle.block_predict.specs.Predicts.{holding};
+ghost use Rattle.block_predict.specs.inside.Predicts.{AreBlocks};
 ghost use Rattle.block_predict.specs.Seeded.{entries_of};
 
 use crate::{branches, table};
@@ -23,7 +24,7 @@ pub struct Predictor {
 
 impl Model for Predictor {
     ghost use Rattle.block_predict.specs.Predicts.{Holding, holding};
-    ghost use Rattle.block_predict.specs.IsPredictor.{IsPredictor};
+    ghost use Rattle.block_predict.specs.inside.IsPredictor.{IsPredictor};
 
     ghost Value = { Holding };
 

@@ -8,7 +8,7 @@ use Rattle.trips_isa.specs.declared.block.Block.{Block}
 use Rattle.trips_isa.specs.declared.block.Image.{Image}
 use Rattle.trips_isa.specs.Fits.{FitsBlock}
 use Rattle.trips_isa.specs.Stores.{data_size}
-use Rattle.ir_forms.specs.Limits.{label_count}
+use Rattle.ir_forms.specs.inside.Limits.{label_count}
 use Rattle.block_cases.specs.Good.{GoodBlock}
 use Rattle.block_check.specs.declared.fault.CheckFault.{CheckFault}
 use Rattle.block_check.specs.Images.{IsFirstBad}
@@ -17,25 +17,26 @@ use Rattle.ir_forms.specs.declared.fault.Part.{Part}
 use Rattle.ir_forms.specs.declared.fault.FlowFault.{FlowFault}
 use Rattle.ir_forms.specs.declared.fault.FlowFault.TheVariants.{TooBig, Memory}
 use Rattle.ir_forms.specs.declared.flat.FlatProgram.{FlatProgram}
-use Rattle.ir_forms.specs.FlatCode.{Program}
-use Rattle.ir_forms.specs.FlatFits.{FitsProgram, code_blocks_of_all}
-use Rattle.ir_forms.specs.FlatViews.{program_of}
-use Rattle.ir_forms.specs.Frames.{frames_at, frame_limit}
-use Rattle.ir_forms.specs.HyperCode as hyper
-use Rattle.ir_forms.specs.HyperFits.{IsFollowed}
-use Rattle.reg_assign.specs.Keeps.{FitsKept, KeepsTameRuns}
-use Rattle.reg_assign.specs.Live.{AreCut, AreFew}
-use Rattle.hyper_build.specs.Laws.{built_program, plan_of, AreAssigned, AreBlocksOf}
-use Rattle.hyper_build.specs.Routines.{built}
-use Rattle.hyper_build.specs.Tree.{annotated_all, Routine}
+use Rattle.ir_forms.specs.inside.FlatCode.{Program}
+use Rattle.ir_forms.specs.inside.FlatFits.{FitsProgram, code_blocks_of_all}
+use Rattle.ir_forms.specs.inside.FlatViews.{program_of}
+use Rattle.ir_forms.specs.inside.Frames.{frames_at, frame_limit}
+use Rattle.ir_forms.specs.inside.HyperCode as hyper
+use Rattle.ir_forms.specs.inside.HyperFits.{IsFollowed}
+use Rattle.reg_assign.specs.inside.Keeps.{FitsKept, KeepsTameRuns}
+use Rattle.reg_assign.specs.inside.Live.{AreCut, AreFew}
+use Rattle.hyper_build.specs.inside.Laws.{built_program, plan_of, AreAssigned, AreBlocksOf}
+use Rattle.hyper_build.specs.inside.Routines.{built}
+use Rattle.hyper_build.specs.inside.Tree.{annotated_all, Routine}
 use Rattle.hyper_build.proofs.Assigned.{gives_assigned}
 use Rattle.c_compile_blocks.proofs.FittingPrograms.{programs_fit}
 use Rattle.grid_place.specs.declared.placed.Placing.{Placing}
-use Rattle.c_compile_layout.specs.Emitted.{image_of, most_blocks, AreEmitted, IsGoodImage}
-use Rattle.c_compile_layout.specs.Layouts as layouts
+use Rattle.c_compile_layout.specs.Emitted.{IsGoodImage}
+use Rattle.c_compile_layout.specs.inside.Emitted.{image_of, most_blocks, AreEmitted}
+use Rattle.c_compile_layout.specs.inside.Layouts as layouts
 use Rattle.c_compile_layout.proofs.Linked.{good_image}
-use Rattle.c_compile_blocks.specs.Blocks.{AreMachineBlocks, FitsPasses}
-use Rattle.c_compile_blocks.specs.Refusals.{FitMachine}
+use Rattle.c_compile_blocks.specs.inside.Blocks.{AreMachineBlocks, FitsPasses}
+use Rattle.c_compile_blocks.specs.inside.Refusals.{FitMachine}
 use Rattle.c_compile_blocks.proofs.Emitted.{chunks_few, gives_emitted, sizes}
 use Rattle.c_compile_laws.specs.Compiled.{IsCompiled}
 use Rattle.c_compile.specs.Flat.{IsFlatOf}

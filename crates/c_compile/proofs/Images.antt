@@ -2,11 +2,11 @@
 use Rattle.std.proofs.Common.{◌≡◌, ℕ, ◌≤◌, length, List, ap, arith}
 use Rattle.trips_isa.specs.declared.block.Image.{Image}
 use Rattle.c_tree.specs.declared.typed.TypedProgram.{TypedProgram}
-use Rattle.ir_forms.specs.FlatCode.{Program}
-use Rattle.ir_forms.specs.FlatFits.{small_ifs_of_all}
-use Rattle.flat_lower.specs.Statements.{lowered_program}
-use Rattle.flat_lower.specs.TreeViews.{source_of}
-use Rattle.flat_lower_premises.specs.Most.{most_of}
+use Rattle.ir_forms.specs.inside.FlatCode.{Program}
+use Rattle.ir_forms.specs.inside.FlatFits.{small_ifs_of_all}
+use Rattle.flat_lower.specs.inside.Statements.{lowered_program}
+use Rattle.flat_lower.specs.inside.TreeViews.{source_of}
+use Rattle.flat_lower_premises.specs.inside.Most.{most_of}
 use Rattle.c_compile_laws.specs.PlainIfs.{plain_ifs}
 use Rattle.c_compile_laws.proofs.Programs.{lowers_plain}
 use Rattle.grid_place.specs.declared.placed.Placing.{Placing}

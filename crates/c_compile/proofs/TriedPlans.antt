@@ -5,23 +5,23 @@ use Rattle.std.specs.Prelude.{Option, Some, None, IfSome}
 use Rattle.trips_isa.specs.declared.block.Block.{Block}
 use Rattle.trips_isa.specs.declared.block.Image.{Image}
 use Rattle.trips_isa.specs.Stores.{data_size}
-use Rattle.ir_forms.specs.Limits.{label_count}
+use Rattle.ir_forms.specs.inside.Limits.{label_count}
 use Rattle.block_cases.specs.Good.{GoodBlock}
-use Rattle.block_check.specs.Images.{IsCheckedImage}
-use Rattle.ir_forms.specs.FlatCode.{Program}
-use Rattle.ir_forms.specs.FlatFits.{FitsProgram, code_blocks_of_all}
-use Rattle.ir_forms.specs.Frames.{frames_at, frame_limit}
-use Rattle.ir_forms.specs.HyperCode as hyper
-use Rattle.ir_forms.specs.HyperFits.{IsFollowed}
-use Rattle.reg_assign.specs.Keeps.{KeepsTameRuns}
-use Rattle.hyper_build.specs.Laws.{built_program, plan_of, AreAssigned, AreBlocksOf}
-use Rattle.hyper_build.specs.Tree.{annotated_all}
+use Rattle.block_check.specs.inside.Images.{IsCheckedImage}
+use Rattle.ir_forms.specs.inside.FlatCode.{Program}
+use Rattle.ir_forms.specs.inside.FlatFits.{FitsProgram, code_blocks_of_all}
+use Rattle.ir_forms.specs.inside.Frames.{frames_at, frame_limit}
+use Rattle.ir_forms.specs.inside.HyperCode as hyper
+use Rattle.ir_forms.specs.inside.HyperFits.{IsFollowed}
+use Rattle.reg_assign.specs.inside.Keeps.{KeepsTameRuns}
+use Rattle.hyper_build.specs.inside.Laws.{built_program, plan_of, AreAssigned, AreBlocksOf}
+use Rattle.hyper_build.specs.inside.Tree.{annotated_all}
 use Rattle.hyper_build.proofs.Assigned.{gives_assigned}
 use Rattle.grid_place.specs.declared.placed.Placing.{Placing}
-use Rattle.c_compile_layout.specs.Emitted.{image_of, most_blocks}
-use Rattle.c_compile_blocks.specs.Blocks.{ArePassed, AreMachineBlocks, FitsPasses}
+use Rattle.c_compile_layout.specs.inside.Emitted.{image_of, most_blocks}
+use Rattle.c_compile_blocks.specs.inside.Blocks.{ArePassed, AreMachineBlocks, FitsPasses}
 use Rattle.c_compile_laws.specs.Compiled.{IsCompiled}
-use Rattle.c_compile_blocks.specs.Checked.{AreChecked}
+use Rattle.c_compile_blocks.specs.inside.Checked.{AreChecked}
 use Rattle.c_compile_blocks.proofs.Passed.{are_checked}
 use Rattle.c_compile.proofs.CutPrograms.{data_fits, some_blocks}
 

@@ -5,7 +5,7 @@ use Rattle.c_tree.specs.declared.typed.TypedProgram.{TypedProgram}
 use Rattle.c_lex.specs.Lexes.{Tokens, Lexed}
 use Rattle.c_tree.specs.Limits.{most_tokens}
 use Rattle.c_front.specs.Fronts.{IsAccepted}
-use Rattle.ir_forms.specs.FlatCode.{Program}
+use Rattle.ir_forms.specs.inside.FlatCode.{Program}
 use Rattle.c_compile_laws.specs.PlainIfs.{plain_ifs}
 use Rattle.grid_place.specs.declared.placed.Placing.{Placing}
 use Rattle.c_compile_laws.specs.Counts.{guarded_in}

@@ -1,9 +1,9 @@
 //! The image of a C text by the plan of one room, for those who ask how often a block is refused.
 ghost use Rattle.std.specs.Prelude.{◌+◌, ◌<◌, ◌≤◌, length, IfErr, IfOk, IfSome};
 ghost use Rattle.c_front.specs.Refusals.{MayBeRefused};
-ghost use Rattle.ir_forms.specs.FlatFits.{FitsProgram, code_blocks_of_all};
-ghost use Rattle.ir_forms.specs.FlatViews.{program_of};
-ghost use Rattle.c_compile_layout.specs.Emitted.{most_blocks};
+ghost use Rattle.ir_forms.specs.inside.FlatFits.{FitsProgram, code_blocks_of_all};
+ghost use Rattle.ir_forms.specs.inside.FlatViews.{program_of};
+ghost use Rattle.c_compile_layout.specs.inside.Emitted.{most_blocks};
 ghost use Rattle.c_compile_laws.specs.Compiled.{IsCompiled};
 ghost use Rattle.c_compile.specs.Images.{IsImageOf};
 

@@ -19,23 +19,26 @@ use Rattle.ir_forms.specs.declared.flow.Guard.{Guard}
 use Rattle.ir_forms.specs.declared.flow.FlowNode.{FlowNode}
 use Rattle.ir_forms.specs.declared.flow.FlowWrite.{FlowWrite}
 use Rattle.ir_forms.specs.declared.flow.FlowBlock.{FlowBlock}
-use Rattle.ir_forms.specs.FlowFits.{in_mask}
-use Rattle.null_outputs.specs.Covers.{Sure, Want, Places, Cover, sense_cover, guard_cover, left_open, right_open}
-use Rattle.null_outputs.specs.Covers.{null_store_of, one_if, cover_at, cover_of, top_of, list_top, pairs, list_nodes}
-use Rattle.null_outputs.specs.Groups.{guard_group, guard_part, guard_part_size, guard_is, is_used, left_part}
-use Rattle.null_outputs.specs.Groups.{left_size, right_part, right_size, region, sense_is, store_source, stores_of}
-use Rattle.null_outputs.specs.Groups.{number_open}
-use Rattle.null_outputs.specs.Completed.{places, cover, write_part, write_size, filled_all, number_part}
-use Rattle.null_outputs.specs.Completed.{number_size, numbers_part, numbers_at, all_numbers, trues, falses}
-use Rattle.null_outputs.specs.Completed.{lefts, rights}
-use Rattle.null_outputs.specs.Completed.{writes_at, trues_region, falses_region, lefts_region, rights_region}
-use Rattle.null_outputs.specs.Completed.{writes_region, added, completed}
-use Rattle.null_outputs.specs.Immediates.{IsAddedOp}
-use Rattle.null_outputs.specs.Sizes.{sum_of, AllFirm}
+use Rattle.ir_forms.specs.inside.FlowFits.{in_mask}
+use Rattle.null_outputs.specs.inside.Covers.{Sure, Want, Places, Cover, sense_cover, guard_cover, left_open}
+use Rattle.null_outputs.specs.inside.Covers.{right_open}
+use Rattle.null_outputs.specs.inside.Covers.{null_store_of, one_if, cover_at, cover_of, top_of, list_top, pairs}
+use Rattle.null_outputs.specs.inside.Covers.{list_nodes}
+use Rattle.null_outputs.specs.inside.Groups.{guard_group, guard_part, guard_part_size, guard_is, is_used, left_part}
+use Rattle.null_outputs.specs.inside.Groups.{left_size, right_part, right_size, region, sense_is, store_source}
+use Rattle.null_outputs.specs.inside.Groups.{stores_of}
+use Rattle.null_outputs.specs.inside.Groups.{number_open}
+use Rattle.null_outputs.specs.inside.Completed.{places, cover, write_part, write_size, filled_all, number_part}
+use Rattle.null_outputs.specs.inside.Completed.{number_size, numbers_part, numbers_at, all_numbers, trues, falses}
+use Rattle.null_outputs.specs.inside.Completed.{lefts, rights}
+use Rattle.null_outputs.specs.inside.Completed.{writes_at, trues_region, falses_region, lefts_region, rights_region}
+use Rattle.null_outputs.specs.inside.Completed.{writes_region, added, completed}
+use Rattle.null_outputs.specs.inside.Immediates.{IsAddedOp}
+use Rattle.null_outputs.specs.inside.Sizes.{sum_of, AllFirm}
 use Rattle.null_outputs.proofs.Added.{AllAdded, all_added}
-use Rattle.fan_out.specs.Counts.{nodes_kinds, writes_kinds}
-use Rattle.fan_out.specs.Targeted.{count_insts}
-use Rattle.c_compile_blocks.specs.Prices.{price, write_price}
+use Rattle.fan_out.specs.inside.Counts.{nodes_kinds, writes_kinds}
+use Rattle.fan_out.specs.inside.Targeted.{count_insts}
+use Rattle.c_compile_blocks.specs.inside.Prices.{price, write_price}
 use Rattle.c_compile_blocks.proofs.Prices.{Different, Feeding, few_insts}
 use Rattle.c_compile_blocks.proofs.Flat.{uses_append, AreUsed, used_append, used_grow, price_append}
 use Rattle.c_compile_blocks.proofs.PlainBlocks.{EachWrite}

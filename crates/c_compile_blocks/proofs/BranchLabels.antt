@@ -11,19 +11,20 @@ use Rattle.ir_forms.specs.declared.hyper.Exit.{Exit}
 use Rattle.ir_forms.specs.declared.hyper.Exit.TheVariants as exit
 use Rattle.ir_forms.specs.declared.flow.FlowSource.{FlowSource}
 use Rattle.ir_forms.specs.declared.flow.FlowNode.{FlowNode}
-use Rattle.ir_forms.specs.HyperCode.{Items, Done, Set, Load, Save, If, Tail, Leave, Test, Block}
-use Rattle.ir_forms.specs.FlatFits.{operates, loads, stores}
-use Rattle.ir_forms.specs.HyperFits.{FitsItems, LeadsOn, AllLeadOn, FitsHyper}
+use Rattle.ir_forms.specs.inside.HyperCode.{Items, Done, Set, Load, Save, If, Tail, Leave, Test, Block}
+use Rattle.ir_forms.specs.inside.FlatFits.{operates, loads, stores}
+use Rattle.ir_forms.specs.inside.HyperFits.{FitsItems, LeadsOn, AllLeadOn, FitsHyper}
 use Rattle.predication.specs.declared.work.Entry.{Entry}
-use Rattle.predication.specs.Environments.{Scope, Env, Bits, no_bits, put, note, from_node, under}
-use Rattle.predication.specs.Environments.{left_bits, member, at_start, distinct}
-use Rattle.predication.specs.Operands.{node_of, Chain, Got, chain, longer, movs, read_of, operand, second, most_apps}
-use Rattle.predication.specs.Operands.{bit_set, fresh_test, test_by, tested}
-use Rattle.predication.specs.Ifs.{left_of, side_of, join, items, touched}
-use Rattle.predication.specs.Tails.{address_end, exit_with, tail_with, labelled, leaving, tail}
-use Rattle.predication.specs.Tails.{tail_touched}
-use Rattle.predication.specs.Converted.{begun, ended, predicated}
-use Rattle.c_compile_layout.specs.Emitted.{LabelBelow}
+use Rattle.predication.specs.inside.Environments.{Scope, Env, Bits, no_bits, put, note, from_node, under}
+use Rattle.predication.specs.inside.Environments.{left_bits, member, at_start, distinct}
+use Rattle.predication.specs.inside.Operands.{node_of, Chain, Got, chain, longer, movs, read_of, operand, second}
+use Rattle.predication.specs.inside.Operands.{most_apps}
+use Rattle.predication.specs.inside.Operands.{bit_set, fresh_test, test_by, tested}
+use Rattle.predication.specs.inside.Ifs.{left_of, side_of, join, items, touched}
+use Rattle.predication.specs.inside.Tails.{address_end, exit_with, tail_with, labelled, leaving, tail}
+use Rattle.predication.specs.inside.Tails.{tail_touched}
+use Rattle.predication.specs.inside.Converted.{begun, ended, predicated}
+use Rattle.c_compile_layout.specs.inside.Emitted.{LabelBelow}
 
 -- the label of each branch among nodes is below n
 abbrev pub AllBelow : ℕ → List FlowNode → Type 0

@@ -6,15 +6,15 @@ use Rattle.std.proofs.lemmas.Bool.Decides.{nat_tests}
 use Rattle.ir_forms.specs.declared.hyper.Source.{Source}
 use Rattle.ir_forms.specs.declared.hyper.Source.TheVariants.{Const, Reg}
 use Rattle.ir_forms.specs.declared.hyper.Exit.TheVariants as exit
-use Rattle.ir_forms.specs.Frames.{frame_limit}
-use Rattle.ir_forms.specs.HyperCode.{Tail, Leave, Test, Block}
-use Rattle.ir_forms.specs.HyperFits.{items_in, exits_in}
-use Rattle.hyper_build.specs.Passing.{below_end}
-use Rattle.hyper_build.specs.Smallness.{TestsJump}
-use Rattle.predication.specs.Environments.{member}
-use Rattle.predication.specs.Tails.{tail_with}
-use Rattle.predication.specs.Converted.{all_touched}
-use Rattle.c_compile_blocks.specs.Costs.{apps, source_cost, items_cost, tail_cost}
+use Rattle.ir_forms.specs.inside.Frames.{frame_limit}
+use Rattle.ir_forms.specs.inside.HyperCode.{Tail, Leave, Test, Block}
+use Rattle.ir_forms.specs.inside.HyperFits.{items_in, exits_in}
+use Rattle.hyper_build.specs.inside.Passing.{below_end}
+use Rattle.hyper_build.specs.inside.Smallness.{TestsJump}
+use Rattle.predication.specs.inside.Environments.{member}
+use Rattle.predication.specs.inside.Tails.{tail_with}
+use Rattle.predication.specs.inside.Converted.{all_touched}
+use Rattle.c_compile_blocks.specs.inside.Costs.{apps, source_cost, items_cost, tail_cost}
 use Rattle.c_compile_blocks.proofs.PlainBlocks.{IsPlainBlock}
 
 -- a block that costs little: the registers that it reads and writes are among few

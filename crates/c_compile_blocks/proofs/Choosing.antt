@@ -4,7 +4,7 @@ use Rattle.std.proofs.Common.{[], ◌∷◌, length, refl, sym, ap, ap₂, ◌�
 use Rattle.block_cases.specs.Nodes.{one_if}
 use Rattle.block_cases.specs.Choosers.{is_chooser}
 use Rattle.block_cases.specs.Cases.{has_bit, ones_pass, is_case, count, present, token}
-use Rattle.c_compile_blocks.specs.Choosers.{passing, CasesAreFew}
+use Rattle.c_compile_blocks.specs.inside.Choosers.{passing, CasesAreFew}
 use Rattle.block_cases.proofs.Alike.{and_true, both_true}
 
 -- what passes a test passes a weaker one

@@ -8,33 +8,33 @@ use Rattle.trips_isa.specs.declared.form.Form.TheVariants.{Store}
 use Rattle.trips_isa.specs.Forms.{form_of}
 use Rattle.ir_forms.specs.declared.flow.FlowNode.{FlowNode}
 use Rattle.ir_forms.specs.declared.flow.FlowBlock.{FlowBlock}
-use Rattle.ir_forms.specs.Agreement.{MeansBlock}
-use Rattle.ir_forms.specs.FlowFits.{in_mask, IsComplete}
-use Rattle.ir_forms.specs.FlowRegular.{IsRegular}
-use Rattle.ir_forms.specs.HyperCode as hyper
-use Rattle.ir_forms.specs.HyperFits.{FitsHyper, AllLeadOn}
-use Rattle.ir_forms.specs.HyperRuns.{Layout}
-use Rattle.predication.specs.Tails.{addressed, labelled}
-use Rattle.predication.specs.Converted.{predicated}
-use Rattle.predication.specs.Laws.{HasShortAddresses, IsTaken}
+use Rattle.ir_forms.specs.inside.Agreement.{MeansBlock}
+use Rattle.ir_forms.specs.inside.FlowFits.{in_mask, IsComplete}
+use Rattle.ir_forms.specs.inside.FlowRegular.{IsRegular}
+use Rattle.ir_forms.specs.inside.HyperCode as hyper
+use Rattle.ir_forms.specs.inside.HyperFits.{FitsHyper, AllLeadOn}
+use Rattle.ir_forms.specs.inside.HyperRuns.{Layout}
+use Rattle.predication.specs.inside.Tails.{addressed, labelled}
+use Rattle.predication.specs.inside.Converted.{predicated}
+use Rattle.predication.specs.inside.Laws.{HasShortAddresses, IsTaken}
 use Rattle.predication.proofs.Addressed.{converts_meaning, takes_addressed}
 use Rattle.predication.proofs.Fits.{converts_fitting}
 use Rattle.predication.proofs.Regular.{converts_regular}
 use Rattle.predication.proofs.Resolved.{resolves_labels}
-use Rattle.null_outputs.specs.Laws.{MaskedIn, EachMasked, Takes}
-use Rattle.null_outputs.specs.Wants.{complete}
+use Rattle.null_outputs.specs.inside.Laws.{MaskedIn, EachMasked, Takes}
+use Rattle.null_outputs.specs.inside.Wants.{complete}
 use Rattle.null_outputs.proofs.Completeness.{is_complete, means_block}
 use Rattle.null_outputs.proofs.Regular.{stays_regular}
 use Rattle.grid_place.specs.declared.placed.Placing.{Placing}
 use Rattle.grid_place.specs.Moves.{goes}
-use Rattle.c_compile_layout.specs.Linking.{Resolves, resolved, by_address}
-use Rattle.c_compile_layout.specs.Layouts.{laid_out, AreFew}
-use Rattle.c_compile_layout.specs.Emitted.{IsEmitted}
+use Rattle.c_compile_layout.specs.inside.Linking.{Resolves, resolved, by_address}
+use Rattle.c_compile_layout.specs.inside.Layouts.{laid_out, AreFew}
+use Rattle.c_compile_layout.specs.inside.Emitted.{IsEmitted}
 use Rattle.c_compile_layout.proofs.Faithful.{has_places}
 use Rattle.c_compile_layout.proofs.Regularity.{regular_before}
 use Rattle.c_compile_layout.proofs.Sums.{few_chunks}
-use Rattle.c_compile_blocks.specs.Blocks.{flow_of, IsMachineBlock, AreMachineBlocks, FitsPasses}
-use Rattle.c_compile_blocks.specs.Laws.{GivesEmitted}
+use Rattle.c_compile_blocks.specs.inside.Blocks.{flow_of, IsMachineBlock, AreMachineBlocks, FitsPasses}
+use Rattle.c_compile_blocks.specs.inside.Laws.{GivesEmitted}
 use Rattle.c_compile_blocks.proofs.BranchLabels.{labels_below}
 use Rattle.c_compile_blocks.proofs.Resolving.{resolved_same, completed_resolved, completed_below}
 use Rattle.c_compile_blocks.proofs.Resolving.{all_by_index}

@@ -9,8 +9,8 @@ use Rattle.ir_forms.specs.declared.flow.FlowSource.{FlowSource}
 use Rattle.ir_forms.specs.declared.flow.FlowSource.TheVariants.{Read, Node}
 use Rattle.ir_forms.specs.declared.flow.FlowNode.{FlowNode}
 use Rattle.predication.specs.declared.work.Entry.{Entry}
-use Rattle.predication.specs.Environments.{Scope, Env, under, put, from_node, both}
-use Rattle.predication.specs.Converted.{reads_in}
+use Rattle.predication.specs.inside.Environments.{Scope, Env, under, put, from_node, both}
+use Rattle.predication.specs.inside.Converted.{reads_in}
 use Rattle.c_compile_blocks.proofs.Pieces.{found}
 
 -- a register that is kept in a scope

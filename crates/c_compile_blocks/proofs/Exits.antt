@@ -14,13 +14,13 @@ use Rattle.ir_forms.specs.declared.hyper.Exit.TheVariants as exit
 use Rattle.ir_forms.specs.declared.flow.FlowSource.{FlowSource}
 use Rattle.ir_forms.specs.declared.flow.FlowSource.TheVariants.{Node}
 use Rattle.ir_forms.specs.declared.flow.FlowNode.{FlowNode}
-use Rattle.ir_forms.specs.HyperCode.{Leave, Test}
-use Rattle.predication.specs.Environments.{Scope, Env, Bits, put, from_node, under, member, distinct}
-use Rattle.predication.specs.Operands.{Chain, operand, constant_of, mov_of, tested}
-use Rattle.predication.specs.Ifs.{Joined, join}
-use Rattle.predication.specs.Tails.{Ending, branch_of, exit_touched, leaving, tail, high_half, low_half}
-use Rattle.fan_out.specs.Wires.{guard_sources}
-use Rattle.fan_out.specs.Counts.{noted}
+use Rattle.ir_forms.specs.inside.HyperCode.{Leave, Test}
+use Rattle.predication.specs.inside.Environments.{Scope, Env, Bits, put, from_node, under, member, distinct}
+use Rattle.predication.specs.inside.Operands.{Chain, operand, constant_of, mov_of, tested}
+use Rattle.predication.specs.inside.Ifs.{Joined, join}
+use Rattle.predication.specs.inside.Tails.{Ending, branch_of, exit_touched, leaving, tail, high_half, low_half}
+use Rattle.fan_out.specs.inside.Wires.{guard_sources}
+use Rattle.fan_out.specs.inside.Counts.{noted}
 use Rattle.c_compile_blocks.proofs.Flat.{uses, times, node_uses, named_once, AreUsed, own_most}
 use Rattle.c_compile_blocks.proofs.Pieces.{AreBits, Names}
 use Rattle.c_compile_blocks.proofs.TailNodes.{NamesExit}

@@ -10,10 +10,10 @@ use Rattle.ir_forms.specs.declared.flow.FlowSource.{FlowSource}
 use Rattle.ir_forms.specs.declared.flow.FlowSource.TheVariants.{Read, Node}
 use Rattle.ir_forms.specs.declared.flow.FlowNode.{FlowNode}
 use Rattle.ir_forms.specs.declared.flow.FlowBlock.{FlowBlock}
-use Rattle.null_outputs.specs.Covers.{left_open, right_open}
-use Rattle.null_outputs.specs.Surely.{Scope, Firm, has, scopes, sure_of, is_firm, firm_of, firms_from, firms}
-use Rattle.null_outputs.specs.Surely.{sure_by}
-use Rattle.null_outputs.specs.Sizes.{AllFirm}
+use Rattle.null_outputs.specs.inside.Covers.{left_open, right_open}
+use Rattle.null_outputs.specs.inside.Surely.{Scope, Firm, has, scopes, sure_of, is_firm, firm_of, firms_from, firms}
+use Rattle.null_outputs.specs.inside.Surely.{sure_by}
+use Rattle.null_outputs.specs.inside.Sizes.{AllFirm}
 use Rattle.null_outputs.proofs.Recognised.{recognises_always, has_scope}
 
 below : {A : Type 0} (xs : List A) (y : ℕ) (x : A) → slice_get xs y ≡ Some x → y < length xs

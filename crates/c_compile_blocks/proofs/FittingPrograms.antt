@@ -2,17 +2,17 @@
 use Rattle.std.proofs.Common.{◌≡◌, [], refl, arith}
 use Rattle.ir_forms.specs.declared.flow.FlowBlock.{FlowBlock}
 use Rattle.hyper_build.proofs.Assigned.{gives_assigned, assigned_little}
-use Rattle.predication.specs.Tails.{labelled}
-use Rattle.predication.specs.Converted.{predicated}
-use Rattle.null_outputs.specs.Wants.{complete}
+use Rattle.predication.specs.inside.Tails.{labelled}
+use Rattle.predication.specs.inside.Converted.{predicated}
+use Rattle.null_outputs.specs.inside.Wants.{complete}
 use Rattle.ir_forms.specs.declared.fault.FlowFault.{FlowFault}
 use Rattle.ir_forms.specs.declared.fault.FlowFault.TheVariants.{TooBig, Memory}
 use Rattle.ir_forms.specs.declared.fault.Part.TheVariants as part
-use Rattle.null_outputs.specs.Refusals as null_outputs
-use Rattle.fan_out.specs.Refusals as fan_out_refusals
-use Rattle.fan_out.specs.Targeted.{HasRoom}
+use Rattle.null_outputs.specs.inside.Refusals as null_outputs
+use Rattle.fan_out.specs.inside.Refusals as fan_out_refusals
+use Rattle.fan_out.specs.inside.Targeted.{HasRoom}
 use Rattle.fan_out.proofs.Rooms.{few_nodes}
-use Rattle.c_compile_blocks.specs.Limits.{CutProgramsFit, OnlyMemoryRefuses}
+use Rattle.c_compile_blocks.specs.inside.Limits.{CutProgramsFit, OnlyMemoryRefuses}
 use Rattle.c_compile_blocks.proofs.Machine.{fits_machine}
 
 pub programs_fit : CutProgramsFit

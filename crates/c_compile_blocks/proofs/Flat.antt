@@ -12,12 +12,12 @@ use Rattle.block_cases.specs.Choosers.{is_copy}
 use Rattle.ir_forms.specs.declared.flow.FlowSource.{FlowSource}
 use Rattle.ir_forms.specs.declared.flow.FlowSource.TheVariants.{Read, Node}
 use Rattle.ir_forms.specs.declared.flow.FlowNode.{FlowNode}
-use Rattle.ir_forms.specs.FlowRegular.{same_source}
-use Rattle.predication.specs.Converted.{reads_in, nodes_read}
-use Rattle.null_outputs.specs.Straight.{IsFed}
-use Rattle.fan_out.specs.Wires.{guard_sources}
-use Rattle.fan_out.specs.Counts.{if_noted, noted, node_kinds, nodes_kinds}
-use Rattle.c_compile_blocks.specs.Prices.{own, price}
+use Rattle.ir_forms.specs.inside.FlowRegular.{same_source}
+use Rattle.predication.specs.inside.Converted.{reads_in, nodes_read}
+use Rattle.null_outputs.specs.inside.Straight.{IsFed}
+use Rattle.fan_out.specs.inside.Wires.{guard_sources}
+use Rattle.fan_out.specs.inside.Counts.{if_noted, noted, node_kinds, nodes_kinds}
+use Rattle.c_compile_blocks.specs.inside.Prices.{own, price}
 
 -- NODES
 

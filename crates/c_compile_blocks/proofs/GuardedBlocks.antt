@@ -14,29 +14,30 @@ use Rattle.ir_forms.specs.declared.flow.FlowNode.{FlowNode}
 use Rattle.ir_forms.specs.declared.flow.FlowWrite.{FlowWrite}
 use Rattle.ir_forms.specs.declared.flow.FlowBlock.{FlowBlock}
 use Rattle.ir_forms.specs.declared.flow.FlowSource.TheVariants.{Node}
-use Rattle.ir_forms.specs.FlowFits.{in_mask}
-use Rattle.ir_forms.specs.HyperCode.{Block}
-use Rattle.ir_forms.specs.HyperFits.{FitsHyper, exits_in}
-use Rattle.predication.specs.Environments.{member}
-use Rattle.predication.specs.Converted.{begun, ended, all_nodes, all_touched, reads_in, nodes_read, writes_read}
-use Rattle.predication.specs.Converted.{has_store, stores_as, mask_below, predicated}
-use Rattle.predication.specs.Laws as predication
+use Rattle.ir_forms.specs.inside.FlowFits.{in_mask}
+use Rattle.ir_forms.specs.inside.HyperCode.{Block}
+use Rattle.ir_forms.specs.inside.HyperFits.{FitsHyper, exits_in}
+use Rattle.predication.specs.inside.Environments.{member}
+use Rattle.predication.specs.inside.Converted.{begun, ended, all_nodes, all_touched, reads_in, nodes_read}
+use Rattle.predication.specs.inside.Converted.{writes_read}
+use Rattle.predication.specs.inside.Converted.{has_store, stores_as, mask_below, predicated}
+use Rattle.predication.specs.inside.Laws as predication
 use Rattle.predication.proofs.Fits.{converts_fitting}
 use Rattle.predication.proofs.Regular.{converts_regular, mask_says, read_once}
-use Rattle.null_outputs.specs.Completed.{added, writes_at}
-use Rattle.null_outputs.specs.Groups.{store_source, stores_of}
-use Rattle.null_outputs.specs.Surely.{sure_by}
-use Rattle.null_outputs.specs.Wants.{want_by, complete}
-use Rattle.null_outputs.specs.Laws.{MaskedIn, EachMasked}
-use Rattle.null_outputs.specs.Sizes.{AllFirm}
+use Rattle.null_outputs.specs.inside.Completed.{added, writes_at}
+use Rattle.null_outputs.specs.inside.Groups.{store_source, stores_of}
+use Rattle.null_outputs.specs.inside.Surely.{sure_by}
+use Rattle.null_outputs.specs.inside.Wants.{want_by, complete}
+use Rattle.null_outputs.specs.inside.Laws.{MaskedIn, EachMasked}
+use Rattle.null_outputs.specs.inside.Sizes.{AllFirm}
 use Rattle.null_outputs.proofs.Completeness.{is_complete}
 use Rattle.null_outputs.proofs.Regular.{stays_regular}
-use Rattle.fan_out.specs.Targeted as fan_out
-use Rattle.fan_out.specs.Targeted.{count_insts}
+use Rattle.fan_out.specs.inside.Targeted as fan_out
+use Rattle.fan_out.specs.inside.Targeted.{count_insts}
 use Rattle.fan_out.proofs.Given.{given}
 use Rattle.fan_out.proofs.Rooms.{few_nodes}
-use Rattle.c_compile_blocks.specs.Prices.{price}
-use Rattle.c_compile_blocks.specs.Limits.{FitsParts}
+use Rattle.c_compile_blocks.specs.inside.Prices.{price}
+use Rattle.c_compile_blocks.specs.inside.Limits.{FitsParts}
 use Rattle.c_compile_blocks.proofs.Flat.{read_of_all}
 use Rattle.c_compile_blocks.proofs.Members.{few_reads, few_writes}
 use Rattle.c_compile_blocks.proofs.PlainBlocks.{IsNoMov, EachWrite, writes_each, front_got}

@@ -19,16 +19,16 @@ use Rattle.ir_forms.specs.declared.flow.FlowSource.TheVariants.{Node}
 use Rattle.ir_forms.specs.declared.flow.Guard.{Guard}
 use Rattle.ir_forms.specs.declared.flow.FlowNode.{FlowNode}
 use Rattle.ir_forms.specs.declared.flow.FlowBlock.{FlowBlock}
-use Rattle.fan_out.specs.Wires.{guard_sources}
+use Rattle.fan_out.specs.inside.Wires.{guard_sources}
 use Rattle.fan_out.specs.declared.wiring.Placed.{Placed}
-use Rattle.fan_out.specs.Targeted.{IsTargeted}
+use Rattle.fan_out.specs.inside.Targeted.{IsTargeted}
 use Rattle.fan_out.proofs.Totals.{Given, owners, all_movs, targeted_nodes, got_below, nodes_low}
 use Rattle.fan_out.proofs.Totals.{wired_guard, wired_mov, nodes_are}
 use Rattle.fan_out.proofs.TargetedNodes.{Stands, a_read, a_node, a_mov, empty, nothing, stands, is_mov}
 use Rattle.fan_out.proofs.Ranks.{owner_among}
 use Rattle.fan_out.proofs.Edges.{zero_at, has_owner, nobody}
 use Rattle.null_outputs.proofs.Covers.{within}
-use Rattle.c_compile_blocks.specs.Choosers.{choosers}
+use Rattle.c_compile_blocks.specs.inside.Choosers.{choosers}
 use Rattle.c_compile_blocks.proofs.Choosing.{few_cases, one_passes}
 
 -- a list of one

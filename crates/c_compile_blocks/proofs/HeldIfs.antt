@@ -5,11 +5,12 @@ use Rattle.std.specs.Prelude.{None}
 use Rattle.trips_isa.specs.Forms.{form_of, role_of, takes_right}
 use Rattle.ir_forms.specs.declared.hyper.Source.{Source}
 use Rattle.ir_forms.specs.declared.flow.FlowNode.{FlowNode}
-use Rattle.ir_forms.specs.HyperCode.{Items, Done, Set, Load, Save, If}
-use Rattle.ir_forms.specs.HyperFits.{FitsItems, ifs_in, items_in}
-use Rattle.predication.specs.Environments.{Env, Bits, no_bits, left_bits, put, note, under, from_node, distinct}
-use Rattle.predication.specs.Operands.{Chain, operand, bit_set, tested}
-use Rattle.predication.specs.Ifs.{Out, Joined, items, join, touched}
+use Rattle.ir_forms.specs.inside.HyperCode.{Items, Done, Set, Load, Save, If}
+use Rattle.ir_forms.specs.inside.HyperFits.{FitsItems, ifs_in, items_in}
+use Rattle.predication.specs.inside.Environments.{Env, Bits, no_bits, left_bits, put, note, under, from_node}
+use Rattle.predication.specs.inside.Environments.{distinct}
+use Rattle.predication.specs.inside.Operands.{Chain, operand, bit_set, tested}
+use Rattle.predication.specs.inside.Ifs.{Out, Joined, items, join, touched}
 use Rattle.predication.proofs.Ops.{op_form}
 use Rattle.predication.proofs.Untaken.{load_form, store_form}
 use Rattle.c_compile_blocks.proofs.Pieces.{AreBits}

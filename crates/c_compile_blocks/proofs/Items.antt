@@ -6,14 +6,14 @@ use Rattle.trips_isa.specs.declared.op.Op.{Op}
 use Rattle.trips_isa.specs.declared.form.Form.{Form}
 use Rattle.trips_isa.specs.declared.form.Form.TheVariants as form
 use Rattle.trips_isa.specs.Forms.{form_of, role_of, role_in, takes_right}
-use Rattle.ir_forms.specs.HyperCode.{Items, Done, Set, Load, Save, If}
-use Rattle.ir_forms.specs.HyperFits.{FitsItems, ifs_in, items_in}
-use Rattle.predication.specs.Environments.{Env, Bits, put, note, from_node, member}
-use Rattle.predication.specs.Operands.{operand, second, bit_set, node_of}
-use Rattle.predication.specs.Ifs.{Out, items, touched}
+use Rattle.ir_forms.specs.inside.HyperCode.{Items, Done, Set, Load, Save, If}
+use Rattle.ir_forms.specs.inside.HyperFits.{FitsItems, ifs_in, items_in}
+use Rattle.predication.specs.inside.Environments.{Env, Bits, put, note, from_node, member}
+use Rattle.predication.specs.inside.Operands.{operand, second, bit_set, node_of}
+use Rattle.predication.specs.inside.Ifs.{Out, items, touched}
 use Rattle.predication.proofs.Ops.{op_form}
 use Rattle.predication.proofs.Untaken.{load_form, store_form}
-use Rattle.c_compile_blocks.specs.Costs.{items_cost, source_cost}
+use Rattle.c_compile_blocks.specs.inside.Costs.{items_cost, source_cost}
 use Rattle.c_compile_blocks.proofs.Flat.{Told, told_back, Good, nothing, no_piece, grouped}
 use Rattle.c_compile_blocks.proofs.Pieces.{IsSet, ArePlain, set_later, plains_later, put_plain, put_kept, put_here}
 use Rattle.c_compile_blocks.proofs.Pieces.{AreBits, note_bits, set_is, Names, operand_piece, second_piece}

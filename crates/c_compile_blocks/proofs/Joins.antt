@@ -5,9 +5,9 @@ use Rattle.std.specs.Prelude.{Some, None, slice_get}
 use Rattle.ir_forms.specs.declared.flow.FlowSource.TheVariants.{Node}
 use Rattle.ir_forms.specs.declared.flow.FlowNode.{FlowNode}
 use Rattle.predication.specs.declared.work.Entry.{Entry}
-use Rattle.predication.specs.Environments.{Scope, Env, under, put, from_node, both, member, distinct}
-use Rattle.predication.specs.Operands.{mov_of}
-use Rattle.predication.specs.Ifs.{Part, Joined, left_of, side_of, join}
+use Rattle.predication.specs.inside.Environments.{Scope, Env, under, put, from_node, both, member, distinct}
+use Rattle.predication.specs.inside.Operands.{mov_of}
+use Rattle.predication.specs.inside.Ifs.{Part, Joined, left_of, side_of, join}
 use Rattle.c_compile_blocks.proofs.Pieces.{found}
 use Rattle.c_compile_blocks.proofs.Firmness.{bare_there}
 use Rattle.c_compile_blocks.proofs.Supplies.{AreAt, at_front, at_back}

@@ -1,6 +1,6 @@
 -- Little blocks fit the machine.
 use Rattle.std.proofs.Common.{inl, inr}
-use Rattle.c_compile_blocks.specs.Limits.{LittleBlocksFit}
+use Rattle.c_compile_blocks.specs.inside.Limits.{LittleBlocksFit}
 use Rattle.c_compile_blocks.proofs.PlainFit.{plain_fits}
 use Rattle.c_compile_blocks.proofs.SmallFit.{small_ifs}
 

@@ -4,8 +4,8 @@ use Rattle.std.proofs.Common.{refl, ap, arith, cond, nat_eq, nat_lt, ◌⊎◌, 
 use Rattle.std.proofs.lemmas.Bool.Decides.{nat_tests}
 use Rattle.ir_forms.specs.declared.flow.FlowNode.{FlowNode}
 use Rattle.ir_forms.specs.declared.flow.FlowWrite.{FlowWrite}
-use Rattle.predication.specs.Environments.{Env, member}
-use Rattle.predication.specs.Converted.{writes_below, nodes_read, writes_read, reads_below}
+use Rattle.predication.specs.inside.Environments.{Env, member}
+use Rattle.predication.specs.inside.Converted.{writes_below, nodes_read, writes_read, reads_below}
 
 -- how many numbers below n are members
 abbrev marked : List ℕ → ℕ → ℕ

@@ -7,7 +7,8 @@ use Rattle.trips_isa.specs.declared.block.Inst.{Inst}
 use Rattle.trips_isa.specs.declared.block.ReadSlot.{ReadSlot}
 use Rattle.trips_isa.specs.declared.block.Block.{Block}
 use Rattle.block_cases.specs.Orders.{slot_of}
-use Rattle.grid_place.specs.Moves.{Permutes, IsMoved, renamed, renamed_read, renamed_inst}
+use Rattle.grid_place.specs.Moves.{Permutes}
+use Rattle.grid_place.specs.inside.Moves.{IsMoved, renamed, renamed_read, renamed_inst}
 
 pub turned : (p q : ℕ → ℕ) → Permutes p q → Permutes q p
 turned p q m = record { there = m.back; back = m.there; returns = m.returned; returned = m.returns }

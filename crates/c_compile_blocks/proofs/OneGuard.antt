@@ -9,11 +9,11 @@ use Rattle.trips_isa.specs.Forms.{form_of, role_of, takes_right}
 use Rattle.ir_forms.specs.declared.flow.FlowSource.{FlowSource}
 use Rattle.ir_forms.specs.declared.flow.Guard.{Guard}
 use Rattle.ir_forms.specs.declared.flow.FlowNode.{FlowNode}
-use Rattle.predication.specs.Environments.{Scope, under}
-use Rattle.predication.specs.Converted.{reads_in}
-use Rattle.fan_out.specs.Wires.{guard_sources}
-use Rattle.fan_out.specs.Counts.{noted}
-use Rattle.c_compile_blocks.specs.Prices.{price}
+use Rattle.predication.specs.inside.Environments.{Scope, under}
+use Rattle.predication.specs.inside.Converted.{reads_in}
+use Rattle.fan_out.specs.inside.Wires.{guard_sources}
+use Rattle.fan_out.specs.inside.Counts.{noted}
+use Rattle.c_compile_blocks.specs.inside.Prices.{price}
 use Rattle.c_compile_blocks.proofs.Flat.{uses, times, node_uses, uses_append, AreUsed, used_append, used_grow}
 use Rattle.c_compile_blocks.proofs.Flat.{price_append, own_most, ReadOnly, read_append, AreFlat}
 use Rattle.c_compile_blocks.proofs.Firmness.{IsThere, AreFirm, firm_append}

@@ -17,34 +17,36 @@ use Rattle.block_cases.specs.Cases.{cases}
 use Rattle.block_cases.specs.Good.{GoodBlock}
 use Rattle.ir_forms.specs.declared.flow.FlowNode.{FlowNode}
 use Rattle.ir_forms.specs.declared.flow.FlowBlock.{FlowBlock}
-use Rattle.ir_forms.specs.FlowFits.{in_mask, IsComplete}
-use Rattle.ir_forms.specs.FlowRegular.{IsRegular}
-use Rattle.ir_forms.specs.HyperCode as hyper
-use Rattle.ir_forms.specs.HyperFits.{FitsHyper, AllLeadOn}
-use Rattle.ir_forms.specs.HyperWords.{AreBytes}
-use Rattle.predication.specs.Tails.{addressed, labelled}
-use Rattle.predication.specs.Converted.{predicated}
-use Rattle.predication.specs.Laws.{IsTaken}
+use Rattle.ir_forms.specs.inside.FlowFits.{in_mask, IsComplete}
+use Rattle.ir_forms.specs.inside.FlowRegular.{IsRegular}
+use Rattle.ir_forms.specs.inside.HyperCode as hyper
+use Rattle.ir_forms.specs.inside.HyperFits.{FitsHyper, AllLeadOn}
+use Rattle.ir_forms.specs.inside.HyperWords.{AreBytes}
+use Rattle.predication.specs.inside.Tails.{addressed, labelled}
+use Rattle.predication.specs.inside.Converted.{predicated}
+use Rattle.predication.specs.inside.Laws.{IsTaken}
 use Rattle.predication.proofs.Addressed.{takes_addressed}
 use Rattle.predication.proofs.Fits.{converts_fitting}
 use Rattle.predication.proofs.Regular.{converts_regular}
 use Rattle.predication.proofs.Resolved.{resolves_labels}
-use Rattle.null_outputs.specs.Laws.{MaskedIn, EachMasked, Takes}
-use Rattle.null_outputs.specs.Wants.{complete}
+use Rattle.null_outputs.specs.inside.Laws.{MaskedIn, EachMasked, Takes}
+use Rattle.null_outputs.specs.inside.Wants.{complete}
 use Rattle.null_outputs.proofs.Completeness.{is_complete}
 use Rattle.null_outputs.proofs.Regular.{stays_regular}
-use Rattle.fan_out.specs.Targeted.{IsTargeted}
+use Rattle.fan_out.specs.inside.Targeted.{IsTargeted}
 use Rattle.fan_out.proofs.Given.{given}
 use Rattle.fan_out.proofs.Totals.{Given}
 use Rattle.fan_out.proofs.Ordering.{fits_block}
 use Rattle.grid_place.specs.declared.placed.Placing.{Placing}
-use Rattle.grid_place.specs.Moves.{Permutes, IsMoved, goes}
+use Rattle.grid_place.specs.Moves.{Permutes, goes}
+use Rattle.grid_place.specs.inside.Moves.{IsMoved}
 use Rattle.grid_place.proofs.StillFits.{still_fits}
 use Rattle.grid_place.proofs.StillInOrder.{still_good}
-use Rattle.c_compile_layout.specs.Linking.{Resolves, resolved_node, resolved, resolved_block, by_offset, by_address}
-use Rattle.c_compile_layout.specs.Linking.{by_both, linked_from}
-use Rattle.c_compile_layout.specs.Layouts.{laid_out, linked, AreFew}
-use Rattle.c_compile_layout.specs.Emitted.{image_of, LabelBelow}
+use Rattle.c_compile_layout.specs.inside.Linking.{Resolves, resolved_node, resolved, resolved_block, by_offset}
+use Rattle.c_compile_layout.specs.inside.Linking.{by_address}
+use Rattle.c_compile_layout.specs.inside.Linking.{by_both, linked_from}
+use Rattle.c_compile_layout.specs.inside.Layouts.{laid_out, linked, AreFew}
+use Rattle.c_compile_layout.specs.inside.Emitted.{image_of, LabelBelow}
 use Rattle.c_compile_layout.proofs.UncheckedRuns.{trimmed_bytes, trimmed_length, trimmed_last}
 use Rattle.c_compile_layout.proofs.Faithful.{has_places}
 use Rattle.c_compile_layout.proofs.Fields.{forms_fit, labels_named}
@@ -53,11 +55,11 @@ use Rattle.c_compile_layout.proofs.Linked.{chunks_same, came, moved_resolved, no
 use Rattle.c_compile_layout.proofs.Regularity.{regular_before, regular_resolved}
 use Rattle.c_compile_layout.proofs.Sums.{few_chunks}
 use Rattle.c_compile_layout.proofs.Targets.{targeted_resolved, room_resolved}
-use Rattle.c_compile_blocks.specs.Blocks.{flow_of, IsPassed, ArePassed, AreMachineBlocks, FitsPasses}
+use Rattle.c_compile_blocks.specs.inside.Blocks.{flow_of, IsPassed, ArePassed, AreMachineBlocks, FitsPasses}
 use Rattle.c_compile_blocks.proofs.BranchLabels.{labels_below}
 use Rattle.c_compile_blocks.proofs.Emitted.{made_from}
 use Rattle.c_compile_blocks.proofs.Resolving.{resolved_same, completed_resolved, completed_below, all_by_index}
-use Rattle.c_compile_blocks.specs.Checked.{CheckedImagesAreOfMachineBlocks}
+use Rattle.c_compile_blocks.specs.inside.Checked.{CheckedImagesAreOfMachineBlocks}
 use Rattle.c_compile_blocks.proofs.MovedBack.{turned, moved_back}
 
 -- STORES

@@ -2,34 +2,34 @@
 use Rattle.std.proofs.Common.{◌≡◌, ℕ, ◌+◌, ◌≤◌, ◌⊎◌, inl, inr, refl, sym, ap, subst, ◌∙◌, arith}
 use Rattle.std.specs.Prelude.{Result, Err, IfErr}
 use Rattle.trips_isa.specs.declared.block.Block.{Block}
-use Rattle.ir_forms.specs.Limits.{label_count}
+use Rattle.ir_forms.specs.inside.Limits.{label_count}
 use Rattle.ir_forms.specs.declared.fault.Part.TheVariants.{Insts, Reads, Writes, Numbers, Exits}
 use Rattle.ir_forms.specs.declared.fault.FlowFault.{FlowFault}
 use Rattle.ir_forms.specs.declared.fault.FlowFault.TheVariants.{TooBig, Memory}
 use Rattle.ir_forms.specs.declared.flow.FlowBlock.{FlowBlock}
 use Rattle.ir_forms.specs.declared.hyper.Exit.{Exit}
 use Rattle.ir_forms.specs.declared.hyper.Exit.TheVariants as exit
-use Rattle.ir_forms.specs.HyperCode.{Tail, Leave, Test}
-use Rattle.ir_forms.specs.HyperCode as hyper
-use Rattle.ir_forms.specs.HyperFits.{AllLeadOn, FitsHyper, IsSmall, LeadsOn}
-use Rattle.predication.specs.Tails.{labelled, address_end}
-use Rattle.predication.specs.Converted.{predicated}
-use Rattle.predication.specs.Outcomes.{Counts, HasRoomFor, counts_of, NamesLabel, NamesLabels}
-use Rattle.predication.specs.Outcomes as convert
-use Rattle.predication.specs.Laws as predication
-use Rattle.null_outputs.specs.Refusals.{IsWithinLimits}
-use Rattle.null_outputs.specs.Refusals as complete
-use Rattle.null_outputs.specs.Wants as wants
-use Rattle.fan_out.specs.Targeted.{HasRoom, IsTargeted}
-use Rattle.fan_out.specs.Refusals as target
+use Rattle.ir_forms.specs.inside.HyperCode.{Tail, Leave, Test}
+use Rattle.ir_forms.specs.inside.HyperCode as hyper
+use Rattle.ir_forms.specs.inside.HyperFits.{AllLeadOn, FitsHyper, IsSmall, LeadsOn}
+use Rattle.predication.specs.inside.Tails.{labelled, address_end}
+use Rattle.predication.specs.inside.Converted.{predicated}
+use Rattle.predication.specs.inside.Outcomes.{Counts, HasRoomFor, counts_of, NamesLabel, NamesLabels}
+use Rattle.predication.specs.inside.Outcomes as convert
+use Rattle.predication.specs.inside.Laws as predication
+use Rattle.null_outputs.specs.inside.Refusals.{IsWithinLimits}
+use Rattle.null_outputs.specs.inside.Refusals as complete
+use Rattle.null_outputs.specs.inside.Wants as wants
+use Rattle.fan_out.specs.inside.Targeted.{HasRoom, IsTargeted}
+use Rattle.fan_out.specs.inside.Refusals as target
 use Rattle.grid_place.specs.declared.placed.Placing.{Placing}
-use Rattle.grid_place.specs.Placings.{IsPlaced}
-use Rattle.c_compile_blocks.specs.Limits.{FitsMachine}
+use Rattle.grid_place.specs.inside.Placings.{IsPlaced}
+use Rattle.c_compile_blocks.specs.inside.Limits.{FitsMachine}
 use Rattle.c_compile_blocks.proofs.Cheap.{exits_with}
 use Rattle.c_compile_blocks.proofs.FittingPrograms.{only_memory}
 use Rattle.c_compile_blocks.proofs.SmallFit.{small_fits}
-use Rattle.c_compile_blocks.specs.Blocks.{flow_of, IsMachineBlock, IsPassed}
-use Rattle.c_compile_blocks.specs.Refusals.{IsRefused, IsIncomplete, IsUntargeted}
+use Rattle.c_compile_blocks.specs.inside.Blocks.{flow_of, IsMachineBlock, IsPassed}
+use Rattle.c_compile_blocks.specs.inside.Refusals.{IsRefused, IsIncomplete, IsUntargeted}
 
 -- LABELS
 

@@ -13,11 +13,12 @@ use Rattle.ir_forms.specs.declared.flow.FlowSource.{FlowSource}
 use Rattle.ir_forms.specs.declared.flow.FlowSource.TheVariants.{Read, Node}
 use Rattle.ir_forms.specs.declared.flow.FlowNode.{FlowNode}
 use Rattle.predication.specs.declared.work.Entry.{Entry}
-use Rattle.predication.specs.Environments.{Env, Bits, put, note, from_node}
-use Rattle.predication.specs.Converted.{reads_in}
-use Rattle.predication.specs.Operands.{Chain, Got, constant_of, longer, chain, read_of, operand, second, is_test}
-use Rattle.predication.specs.Operands.{bit_of, is_move, bit_at, bit_set, test_of, fresh_test, test_by, tested}
-use Rattle.c_compile_blocks.specs.Costs.{apps, source_cost}
+use Rattle.predication.specs.inside.Environments.{Env, Bits, put, note, from_node}
+use Rattle.predication.specs.inside.Converted.{reads_in}
+use Rattle.predication.specs.inside.Operands.{Chain, Got, constant_of, longer, chain, read_of, operand, second}
+use Rattle.predication.specs.inside.Operands.{is_test}
+use Rattle.predication.specs.inside.Operands.{bit_of, is_move, bit_at, bit_set, test_of, fresh_test, test_by, tested}
+use Rattle.c_compile_blocks.specs.inside.Costs.{apps, source_cost}
 use Rattle.c_compile_blocks.proofs.Flat.{uses, times, node_uses, uses_append, named_once}
 use Rattle.c_compile_blocks.proofs.Flat.{flat_append, used_append, price_append, read_append, Told, told_back}
 use Rattle.c_compile_blocks.proofs.Flat.{Good, nothing, Piece, no_piece, grouped}

@@ -15,23 +15,24 @@ use Rattle.ir_forms.specs.declared.flow.FlowSource.TheVariants.{Node}
 use Rattle.ir_forms.specs.declared.flow.Guard.{Guard}
 use Rattle.ir_forms.specs.declared.flow.FlowNode.{FlowNode}
 use Rattle.ir_forms.specs.declared.flow.FlowWrite.{FlowWrite}
-use Rattle.ir_forms.specs.FlowFits.{in_mask}
-use Rattle.ir_forms.specs.HyperCode.{Block}
-use Rattle.ir_forms.specs.HyperFits.{FitsItems, ifs_in, items_in}
-use Rattle.hyper_build.specs.Smallness.{TestsJump}
+use Rattle.ir_forms.specs.inside.FlowFits.{in_mask}
+use Rattle.ir_forms.specs.inside.HyperCode.{Block}
+use Rattle.ir_forms.specs.inside.HyperFits.{FitsItems, ifs_in, items_in}
+use Rattle.hyper_build.specs.inside.Smallness.{TestsJump}
 use Rattle.predication.specs.declared.work.Entry.{Entry}
-use Rattle.predication.specs.Environments.{Env, no_bits, at_start, member}
-use Rattle.predication.specs.Converted.{begun, ended, all_nodes, all_touched, writes_below, reads_in, nodes_read}
-use Rattle.predication.specs.Converted.{writes_read, has_store, stores_as, mask_below, predicated}
+use Rattle.predication.specs.inside.Environments.{Env, no_bits, at_start, member}
+use Rattle.predication.specs.inside.Converted.{begun, ended, all_nodes, all_touched, writes_below, reads_in}
+use Rattle.predication.specs.inside.Converted.{nodes_read}
+use Rattle.predication.specs.inside.Converted.{writes_read, has_store, stores_as, mask_below, predicated}
 use Rattle.predication.proofs.Regular.{mask_says, read_once}
-use Rattle.predication.specs.Ifs.{touched}
-use Rattle.predication.specs.Tails.{tail_touched}
-use Rattle.null_outputs.specs.Groups.{store_source, stores_of}
-use Rattle.null_outputs.specs.Straight.{IsFed, IsStraight}
-use Rattle.fan_out.specs.Counts.{nodes_kinds, writes_kinds}
-use Rattle.fan_out.specs.Targeted.{count_insts}
-use Rattle.c_compile_blocks.specs.Prices.{price, write_price}
-use Rattle.c_compile_blocks.specs.Costs.{items_cost, tail_cost}
+use Rattle.predication.specs.inside.Ifs.{touched}
+use Rattle.predication.specs.inside.Tails.{tail_touched}
+use Rattle.null_outputs.specs.inside.Groups.{store_source, stores_of}
+use Rattle.null_outputs.specs.inside.Straight.{IsFed, IsStraight}
+use Rattle.fan_out.specs.inside.Counts.{nodes_kinds, writes_kinds}
+use Rattle.fan_out.specs.inside.Targeted.{count_insts}
+use Rattle.c_compile_blocks.specs.inside.Prices.{price, write_price}
+use Rattle.c_compile_blocks.specs.inside.Costs.{items_cost, tail_cost}
 use Rattle.c_compile_blocks.proofs.Prices.{Feeding, few_insts}
 use Rattle.c_compile_blocks.proofs.Flat.{IsFlat, flat_at, uses_append, AreUsed, used_append, used_grow}
 use Rattle.c_compile_blocks.proofs.Flat.{price_append, ReadOnly, read_append, read_of_all, Told}

@@ -5,27 +5,27 @@ use Rattle.trips_isa.specs.declared.block.Block.{Block as MachineBlock}
 use Rattle.trips_isa.specs.Places.{nodes_of}
 use Rattle.block_cases.specs.Cases.{cases}
 use Rattle.ir_forms.specs.declared.flow.FlowBlock.{FlowBlock}
-use Rattle.ir_forms.specs.HyperCode.{Block}
-use Rattle.ir_forms.specs.HyperFits.{FitsHyper}
-use Rattle.hyper_build.specs.Smallness.{IsSimple, IsGroupBlock}
-use Rattle.predication.specs.Environments.{member}
-use Rattle.predication.specs.Tails.{labelled, addressed, address_end}
-use Rattle.predication.specs.Converted.{ended, all_nodes, all_touched, predicated}
-use Rattle.predication.specs.Labels.{by_address}
-use Rattle.predication.specs.Laws as predication
+use Rattle.ir_forms.specs.inside.HyperCode.{Block}
+use Rattle.ir_forms.specs.inside.HyperFits.{FitsHyper}
+use Rattle.hyper_build.specs.inside.Smallness.{IsSimple, IsGroupBlock}
+use Rattle.predication.specs.inside.Environments.{member}
+use Rattle.predication.specs.inside.Tails.{labelled, addressed, address_end}
+use Rattle.predication.specs.inside.Converted.{ended, all_nodes, all_touched, predicated}
+use Rattle.predication.specs.inside.Labels.{by_address}
+use Rattle.predication.specs.inside.Laws as predication
 use Rattle.predication.proofs.Addressed.{takes_addressed}
 use Rattle.predication.proofs.Fits.{converts_fitting}
 use Rattle.predication.proofs.Regular.{converts_regular}
 use Rattle.predication.proofs.Resolved.{resolves_labels}
-use Rattle.null_outputs.specs.Wants.{complete}
+use Rattle.null_outputs.specs.inside.Wants.{complete}
 use Rattle.null_outputs.proofs.Unguarded.{stays}
-use Rattle.fan_out.specs.Targeted as fan_out
+use Rattle.fan_out.specs.inside.Targeted as fan_out
 use Rattle.fan_out.proofs.Given.{given}
 use Rattle.fan_out.proofs.Rooms.{few_nodes}
-use Rattle.c_compile_layout.specs.Linking.{resolved_block}
+use Rattle.c_compile_layout.specs.inside.Linking.{resolved_block}
 use Rattle.c_compile_layout.proofs.Targets.{targeted_resolved}
 use Rattle.c_compile_layout.proofs.Linked.{nodes_same}
-use Rattle.c_compile_blocks.specs.Limits.{FitsMachine, PlainBlocksStay}
+use Rattle.c_compile_blocks.specs.inside.Limits.{FitsMachine, PlainBlocksStay}
 use Rattle.c_compile_blocks.proofs.PlainBlocks.{straight, insts_few, reads_are, number_few, one_guard}
 use Rattle.c_compile_blocks.proofs.Members.{few_writes, few_reads}
 use Rattle.c_compile_blocks.proofs.Cheap.{IsCheap, exits_with}

@@ -12,14 +12,15 @@ use Rattle.ir_forms.specs.declared.flow.FlowSource.TheVariants.{Read, Node}
 use Rattle.ir_forms.specs.declared.flow.FlowNode.{FlowNode}
 use Rattle.ir_forms.specs.declared.flow.FlowWrite.{FlowWrite}
 use Rattle.ir_forms.specs.declared.flow.FlowBlock.{FlowBlock}
-use Rattle.ir_forms.specs.FlowRegular.{same_source}
+use Rattle.ir_forms.specs.inside.FlowRegular.{same_source}
 use Rattle.block_cases.specs.Nodes.{one_if}
-use Rattle.fan_out.specs.Wires.{guard_sources}
-use Rattle.fan_out.specs.Counts.{if_noted, noted, node_kinds, nodes_kinds, writes_kinds, kinds, two_count, one_count}
-use Rattle.fan_out.specs.Counts.{all_true, tree_count, form_count, read_count, nodes_count, reads_count}
-use Rattle.fan_out.specs.Targeted.{count_insts}
+use Rattle.fan_out.specs.inside.Wires.{guard_sources}
+use Rattle.fan_out.specs.inside.Counts.{if_noted, noted, node_kinds, nodes_kinds, writes_kinds, kinds, two_count}
+use Rattle.fan_out.specs.inside.Counts.{one_count}
+use Rattle.fan_out.specs.inside.Counts.{all_true, tree_count, form_count, read_count, nodes_count, reads_count}
+use Rattle.fan_out.specs.inside.Targeted.{count_insts}
 use Rattle.fan_out.proofs.Counting.{counted}
-use Rattle.c_compile_blocks.specs.Prices.{own, sources_in, price, write_price}
+use Rattle.c_compile_blocks.specs.inside.Prices.{own, sources_in, price, write_price}
 
 -- SUMS OVER PRODUCERS
 

@@ -4,17 +4,17 @@ use Rattle.std.proofs.Common.{length, Some, slice_get, refl, sym, ap, subst, ◌
 use Rattle.std.proofs.Common.{get_or, length-append}
 use Rattle.std.proofs.lemmas.Option.{slice_get-get_or}
 use Rattle.trips_isa.specs.declared.block.Block.{Block}
-use Rattle.ir_forms.specs.Limits.{label_count}
+use Rattle.ir_forms.specs.inside.Limits.{label_count}
 use Rattle.ir_forms.specs.declared.fault.FlowFault.{FlowFault}
 use Rattle.ir_forms.specs.declared.fault.FlowFault.TheVariants.{Memory}
 use Rattle.ir_forms.specs.declared.hyper.HyperBlock.{HyperBlock}
-use Rattle.ir_forms.specs.HyperCode as hyper
-use Rattle.ir_forms.specs.HyperFits.{IsFollowed}
-use Rattle.ir_forms.specs.HyperViews.{block_of, tail_of}
-use Rattle.predication.specs.Outcomes.{NamesLabels}
+use Rattle.ir_forms.specs.inside.HyperCode as hyper
+use Rattle.ir_forms.specs.inside.HyperFits.{IsFollowed}
+use Rattle.ir_forms.specs.inside.HyperViews.{block_of, tail_of}
+use Rattle.predication.specs.inside.Outcomes.{NamesLabels}
 use Rattle.grid_place.specs.declared.placed.Placing.{Placing}
-use Rattle.c_compile_blocks.specs.Blocks.{IsPassed, AreFirstPassed, ArePassed, AreMachineBlocks}
-use Rattle.c_compile_blocks.specs.Refusals.{FitMachine, HasRefused, IsRefused}
+use Rattle.c_compile_blocks.specs.inside.Blocks.{IsPassed, AreFirstPassed, ArePassed, AreMachineBlocks}
+use Rattle.c_compile_blocks.specs.inside.Refusals.{FitMachine, HasRefused, IsRefused}
 use Rattle.c_compile_blocks.proofs.Passes.{by_first, is_machine_block, names_labels, never_refused}
 
 -- none at first

@@ -8,14 +8,14 @@ use Rattle.trips_isa.specs.declared.op.Op.{Op}
 use Rattle.trips_isa.specs.declared.op.Op.TheVariants.{Bro, Callo, Genu, App, Null, Mov, And, Sb}
 use Rattle.ir_forms.specs.declared.flow.FlowNode.{FlowNode}
 use Rattle.ir_forms.specs.declared.flow.FlowBlock.{FlowBlock}
-use Rattle.predication.specs.Labels as labels
-use Rattle.null_outputs.specs.Immediates.{IsAddedOp, IsAdded, KeepsZeros}
-use Rattle.null_outputs.specs.Wants.{complete}
+use Rattle.predication.specs.inside.Labels as labels
+use Rattle.null_outputs.specs.inside.Immediates.{IsAddedOp, IsAdded, KeepsZeros}
+use Rattle.null_outputs.specs.inside.Wants.{complete}
 use Rattle.null_outputs.proofs.Added.{own_or_added}
 use Rattle.null_outputs.proofs.Unread.{keeps_immediates}
-use Rattle.c_compile_layout.specs.Linking.{resolved_node, resolved, half_of}
-use Rattle.c_compile_layout.specs.Linking.{by_address}
-use Rattle.c_compile_layout.specs.Emitted.{LabelBelow}
+use Rattle.c_compile_layout.specs.inside.Linking.{resolved_node, resolved, half_of}
+use Rattle.c_compile_layout.specs.inside.Linking.{by_address}
+use Rattle.c_compile_layout.specs.inside.Emitted.{LabelBelow}
 use Rattle.c_compile_blocks.proofs.BranchLabels.{AllBelow}
 
 -- ADDRESSES

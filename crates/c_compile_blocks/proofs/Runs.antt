@@ -7,11 +7,11 @@ use Rattle.trips_isa.specs.declared.form.Form.TheVariants as form
 use Rattle.trips_isa.specs.Forms.{form_of, role_of, takes_right}
 use Rattle.ir_forms.specs.declared.hyper.Source.{Source}
 use Rattle.ir_forms.specs.declared.flow.FlowNode.{FlowNode}
-use Rattle.ir_forms.specs.HyperCode.{Items, Done, Set, Load, Save, If}
-use Rattle.ir_forms.specs.HyperFits.{FitsItems, ifs_in, items_in}
-use Rattle.predication.specs.Environments.{Scope, Env, Bits, no_bits, left_bits, put, note, from_node, member}
-use Rattle.predication.specs.Operands.{operand, bit_set}
-use Rattle.predication.specs.Ifs.{Out, items, touched}
+use Rattle.ir_forms.specs.inside.HyperCode.{Items, Done, Set, Load, Save, If}
+use Rattle.ir_forms.specs.inside.HyperFits.{FitsItems, ifs_in, items_in}
+use Rattle.predication.specs.inside.Environments.{Scope, Env, Bits, no_bits, left_bits, put, note, from_node, member}
+use Rattle.predication.specs.inside.Operands.{operand, bit_set}
+use Rattle.predication.specs.inside.Ifs.{Out, items, touched}
 use Rattle.predication.proofs.Ops.{op_form}
 use Rattle.predication.proofs.Untaken.{load_form, store_form}
 use Rattle.c_compile_blocks.proofs.Pieces.{AreBits, note_bits, set_is}

@@ -4,16 +4,16 @@ use Rattle.std.proofs.Common.{map, length, refl, sym, ap, subst, ◌∙◌, arit
 use Rattle.std.proofs.Common.{inl, inr, cond, nat_eq}
 use Rattle.std.proofs.lemmas.List.{length-map}
 use Rattle.ir_forms.specs.declared.hyper.Exit.TheVariants as exit
-use Rattle.ir_forms.specs.Frames.{register_of}
-use Rattle.ir_forms.specs.HyperCode.{Tail, Leave, Block}
-use Rattle.ir_forms.specs.HyperFits.{FitsItems, ifs_in, items_in, exits_in}
-use Rattle.ir_forms.specs.HyperRuns.{jump}
-use Rattle.hyper_build.specs.Passing.{below_end, saving, restoring}
-use Rattle.hyper_build.specs.Smallness.{TestsJump}
-use Rattle.predication.specs.Environments.{member}
-use Rattle.predication.specs.Ifs.{touched}
-use Rattle.predication.specs.Tails.{tail_with, block_with, tail_touched}
-use Rattle.c_compile_blocks.specs.Costs.{items_cost, tail_cost}
+use Rattle.ir_forms.specs.inside.Frames.{register_of}
+use Rattle.ir_forms.specs.inside.HyperCode.{Tail, Leave, Block}
+use Rattle.ir_forms.specs.inside.HyperFits.{FitsItems, ifs_in, items_in, exits_in}
+use Rattle.ir_forms.specs.inside.HyperRuns.{jump}
+use Rattle.hyper_build.specs.inside.Passing.{below_end, saving, restoring}
+use Rattle.hyper_build.specs.inside.Smallness.{TestsJump}
+use Rattle.predication.specs.inside.Environments.{member}
+use Rattle.predication.specs.inside.Ifs.{touched}
+use Rattle.predication.specs.inside.Tails.{tail_with, block_with, tail_touched}
+use Rattle.c_compile_blocks.specs.inside.Costs.{items_cost, tail_cost}
 use Rattle.c_compile_blocks.proofs.Items.{NamesIn}
 use Rattle.c_compile_blocks.proofs.TailNodes.{NamesEnd}
 use Rattle.c_compile_blocks.proofs.Members.{member_split, member_head, member_tail}

@@ -8,12 +8,12 @@ use Rattle.ir_forms.specs.declared.flow.FlowSource.{FlowSource}
 use Rattle.ir_forms.specs.declared.flow.FlowSource.TheVariants.{Read, Node}
 use Rattle.ir_forms.specs.declared.flow.FlowNode.{FlowNode}
 use Rattle.predication.specs.declared.work.Entry.{Entry}
-use Rattle.predication.specs.Environments.{Scope, Env, at_start, under, both}
-use Rattle.predication.specs.Operands.{mov_of, read_of, operand, second}
-use Rattle.null_outputs.specs.Surely.{Firm, same_scope, has, scope_of, scopes, sure_of}
-use Rattle.null_outputs.specs.Surely as surely
+use Rattle.predication.specs.inside.Environments.{Scope, Env, at_start, under, both}
+use Rattle.predication.specs.inside.Operands.{mov_of, read_of, operand, second}
+use Rattle.null_outputs.specs.inside.Surely.{Firm, same_scope, has, scope_of, scopes, sure_of}
+use Rattle.null_outputs.specs.inside.Surely as surely
 use Rattle.null_outputs.proofs.Recognised.{recognises_scope, recognises_both, has_scope}
-use Rattle.c_compile_blocks.specs.Costs.{source_cost}
+use Rattle.c_compile_blocks.specs.inside.Costs.{source_cost}
 use Rattle.c_compile_blocks.proofs.Pieces.{ArePlain, Names, operand_piece, read_named}
 use Rattle.c_compile_blocks.proofs.Flat.{Piece}
 use Rattle.c_compile_blocks.proofs.Cheap.{source_most}

@@ -2,12 +2,12 @@
 use Rattle.std.proofs.Common.{◌≡◌, ℕ}
 use Rattle.std.proofs.Common.{sym, subst, ◌⊎◌}
 use Rattle.std.proofs.Common.{inl, inr}
-use Rattle.ir_forms.specs.HyperCode.{Block}
-use Rattle.ir_forms.specs.HyperFits.{FitsItems}
-use Rattle.ir_forms.specs.HyperRuns.{jump}
-use Rattle.hyper_build.specs.Passing.{saving, restoring}
-use Rattle.hyper_build.specs.Smallness.{IsSimple, IsGroupBlock}
-use Rattle.predication.specs.Tails.{block_with}
+use Rattle.ir_forms.specs.inside.HyperCode.{Block}
+use Rattle.ir_forms.specs.inside.HyperFits.{FitsItems}
+use Rattle.ir_forms.specs.inside.HyperRuns.{jump}
+use Rattle.hyper_build.specs.inside.Passing.{saving, restoring}
+use Rattle.hyper_build.specs.inside.Smallness.{IsSimple, IsGroupBlock}
+use Rattle.predication.specs.inside.Tails.{block_with}
 use Rattle.c_compile_blocks.proofs.Cheap.{IsCheap}
 use Rattle.c_compile_blocks.proofs.SmallBlocks.{simple_cheap}
 use Rattle.c_compile_blocks.proofs.SaveGroups.{saves_cheap, restores_cheap}

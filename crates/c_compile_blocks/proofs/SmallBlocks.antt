@@ -5,13 +5,13 @@ use Rattle.ir_forms.specs.declared.hyper.Source.{Source}
 use Rattle.ir_forms.specs.declared.hyper.Source.TheVariants.{Const, Reg}
 use Rattle.ir_forms.specs.declared.hyper.Exit.{Exit}
 use Rattle.ir_forms.specs.declared.hyper.Exit.TheVariants as exit
-use Rattle.ir_forms.specs.HyperCode.{Items, Done, Set, Load, Save, If, Tail, Leave, Test, Block}
-use Rattle.ir_forms.specs.HyperFits.{FitsItems, ifs_in, items_in}
-use Rattle.hyper_build.specs.Smallness.{TestsJump, IsSimple}
-use Rattle.predication.specs.Environments.{member}
-use Rattle.predication.specs.Ifs.{touched}
-use Rattle.predication.specs.Tails.{tail_with, block_with, tail_touched}
-use Rattle.c_compile_blocks.specs.Costs.{items_cost, tail_cost}
+use Rattle.ir_forms.specs.inside.HyperCode.{Items, Done, Set, Load, Save, If, Tail, Leave, Test, Block}
+use Rattle.ir_forms.specs.inside.HyperFits.{FitsItems, ifs_in, items_in}
+use Rattle.hyper_build.specs.inside.Smallness.{TestsJump, IsSimple}
+use Rattle.predication.specs.inside.Environments.{member}
+use Rattle.predication.specs.inside.Ifs.{touched}
+use Rattle.predication.specs.inside.Tails.{tail_with, block_with, tail_touched}
+use Rattle.c_compile_blocks.specs.inside.Costs.{items_cost, tail_cost}
 use Rattle.c_compile_blocks.proofs.Pieces.{Names}
 use Rattle.c_compile_blocks.proofs.Items.{NamesIn}
 use Rattle.c_compile_blocks.proofs.TailNodes.{NamesExit, NamesEnd}

@@ -10,25 +10,25 @@ use Rattle.ir_forms.specs.declared.hyper.Source.{Source}
 use Rattle.ir_forms.specs.declared.hyper.Exit.{Exit}
 use Rattle.ir_forms.specs.declared.flow.FlowNode.{FlowNode}
 use Rattle.ir_forms.specs.declared.flow.FlowBlock.{FlowBlock}
-use Rattle.ir_forms.specs.HyperCode.{Items, Done, Set, Load, Save, If, Tail, Leave, Test, Block}
-use Rattle.ir_forms.specs.HyperFits.{FitsHyper, FitsItems, IsSmall, items_in, ifs_in}
-use Rattle.hyper_build.specs.SmallIfs.{IsShortLeg, if_block}
-use Rattle.predication.specs.Environments.{no_bits, at_start, member}
-use Rattle.predication.specs.Ifs.{touched, items}
-use Rattle.predication.specs.Tails.{labelled, addressed, address_end, exit_with, block_with, exit_touched}
-use Rattle.predication.specs.Converted.{begun, ended, all_nodes, predicated}
-use Rattle.predication.specs.Labels.{by_address}
-use Rattle.predication.specs.Laws as predication
+use Rattle.ir_forms.specs.inside.HyperCode.{Items, Done, Set, Load, Save, If, Tail, Leave, Test, Block}
+use Rattle.ir_forms.specs.inside.HyperFits.{FitsHyper, FitsItems, IsSmall, items_in, ifs_in}
+use Rattle.hyper_build.specs.inside.SmallIfs.{IsShortLeg, if_block}
+use Rattle.predication.specs.inside.Environments.{no_bits, at_start, member}
+use Rattle.predication.specs.inside.Ifs.{touched, items}
+use Rattle.predication.specs.inside.Tails.{labelled, addressed, address_end, exit_with, block_with, exit_touched}
+use Rattle.predication.specs.inside.Converted.{begun, ended, all_nodes, predicated}
+use Rattle.predication.specs.inside.Labels.{by_address}
+use Rattle.predication.specs.inside.Laws as predication
 use Rattle.predication.proofs.Addressed.{takes_addressed}
 use Rattle.predication.proofs.Resolved.{resolves_labels}
-use Rattle.null_outputs.specs.Wants.{complete}
-use Rattle.null_outputs.specs.Immediates.{KeepsZeros}
+use Rattle.null_outputs.specs.inside.Wants.{complete}
+use Rattle.null_outputs.specs.inside.Immediates.{KeepsZeros}
 use Rattle.null_outputs.proofs.Unread.{keeps_immediates}
-use Rattle.fan_out.specs.Targeted as fan_out
-use Rattle.c_compile_layout.specs.Linking.{resolved_block}
+use Rattle.fan_out.specs.inside.Targeted as fan_out
+use Rattle.c_compile_layout.specs.inside.Linking.{resolved_block}
 use Rattle.c_compile_layout.proofs.Targets.{targeted_resolved}
 use Rattle.c_compile_layout.proofs.Linked.{nodes_same}
-use Rattle.c_compile_blocks.specs.Limits.{FitsMachine, SmallBlocksFit, SmallIfsFit}
+use Rattle.c_compile_blocks.specs.inside.Limits.{FitsMachine, SmallBlocksFit, SmallIfsFit}
 use Rattle.c_compile_blocks.proofs.Members.{member_front, member_back}
 use Rattle.c_compile_blocks.proofs.SmallBlocks.{registers, items_registers, exit_registers, one_register}
 use Rattle.c_compile_blocks.proofs.SmallBlocks.{few_registers, end_few, names_of, names_in, exit_named}

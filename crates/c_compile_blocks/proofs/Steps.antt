@@ -9,8 +9,9 @@ use Rattle.trips_isa.specs.Forms.{form_of, role_of, takes_right}
 use Rattle.ir_forms.specs.declared.hyper.Source.{Source}
 use Rattle.ir_forms.specs.declared.hyper.Source.TheVariants.{Const, Reg}
 use Rattle.ir_forms.specs.declared.flow.FlowNode.{FlowNode}
-use Rattle.predication.specs.Environments.{Scope, Env, Bits}
-use Rattle.predication.specs.Operands.{Chain, Got, node_of, test_of, operand, second, fresh_test, test_by, tested}
+use Rattle.predication.specs.inside.Environments.{Scope, Env, Bits}
+use Rattle.predication.specs.inside.Operands.{Chain, Got, node_of, test_of, operand, second, fresh_test, test_by}
+use Rattle.predication.specs.inside.Operands.{tested}
 use Rattle.c_compile_blocks.proofs.Pieces.{AreBits, Names}
 use Rattle.c_compile_blocks.proofs.Supplies.{AreAt, at_front, at_back}
 use Rattle.c_compile_blocks.proofs.OneGuard.{IsGuardBy, unguarded, IsHeld, held_none, held_group, held_behind}

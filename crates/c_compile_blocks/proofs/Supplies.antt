@@ -10,8 +10,8 @@ use Rattle.ir_forms.specs.declared.hyper.Source.TheVariants.{Const, Reg}
 use Rattle.ir_forms.specs.declared.flow.FlowSource.{FlowSource}
 use Rattle.ir_forms.specs.declared.flow.FlowSource.TheVariants.{Node}
 use Rattle.ir_forms.specs.declared.flow.FlowNode.{FlowNode}
-use Rattle.predication.specs.Environments.{Scope, at_start}
-use Rattle.predication.specs.Operands.{Chain, constant_of, longer, chain, operand}
+use Rattle.predication.specs.inside.Environments.{Scope, at_start}
+use Rattle.predication.specs.inside.Operands.{Chain, constant_of, longer, chain, operand}
 use Rattle.c_compile_blocks.proofs.Firmness.{IsThere, IsBare, read_there, bare_there, AreFirm, firm_append}
 
 -- no node is a store

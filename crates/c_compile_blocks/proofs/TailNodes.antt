@@ -14,13 +14,13 @@ use Rattle.ir_forms.specs.declared.flow.FlowSource.{FlowSource}
 use Rattle.ir_forms.specs.declared.flow.FlowSource.TheVariants.{Node}
 use Rattle.ir_forms.specs.declared.flow.Guard.{Guard}
 use Rattle.ir_forms.specs.declared.flow.FlowNode.{FlowNode}
-use Rattle.ir_forms.specs.HyperCode.{Tail, Leave, Test}
-use Rattle.hyper_build.specs.Smallness.{TestsJump}
-use Rattle.predication.specs.Environments.{Env, Bits, put, from_node, member, under}
-use Rattle.predication.specs.Operands.{operand, tested, constant_of, mov_of}
-use Rattle.predication.specs.Tails.{Ending, leaving, tail, tail_touched, branch_of, high_half, low_half}
-use Rattle.c_compile_blocks.specs.Prices.{price}
-use Rattle.c_compile_blocks.specs.Costs.{tail_cost, source_cost}
+use Rattle.ir_forms.specs.inside.HyperCode.{Tail, Leave, Test}
+use Rattle.hyper_build.specs.inside.Smallness.{TestsJump}
+use Rattle.predication.specs.inside.Environments.{Env, Bits, put, from_node, member, under}
+use Rattle.predication.specs.inside.Operands.{operand, tested, constant_of, mov_of}
+use Rattle.predication.specs.inside.Tails.{Ending, leaving, tail, tail_touched, branch_of, high_half, low_half}
+use Rattle.c_compile_blocks.specs.inside.Prices.{price}
+use Rattle.c_compile_blocks.specs.inside.Costs.{tail_cost, source_cost}
 use Rattle.c_compile_blocks.proofs.Flat.{uses, times, node_uses, named_once, Told, told_front, Good, nothing}
 use Rattle.c_compile_blocks.proofs.Flat.{no_piece, grouped}
 use Rattle.c_compile_blocks.proofs.Pieces.{IsSet, ArePlain, set_later, put_kept, put_here}

@@ -6,15 +6,17 @@ use Rattle.trips_isa.specs.declared.block.Inst.{Inst}
 use Rattle.trips_isa.specs.declared.block.Block.{Block}
 use Rattle.trips_isa.specs.Images.{chunk_of}
 use Rattle.block_cases.specs.Orders as orders
-use Rattle.ir_forms.specs.HyperCode as hyper
+use Rattle.ir_forms.specs.inside.HyperCode as hyper
 use Rattle.fan_out.specs.declared.wiring.Placed.{Placed}
-use Rattle.fan_out.specs.Targeted.{slot_of, slots, count_insts}
+use Rattle.fan_out.specs.inside.Targeted.{slot_of, slots, count_insts}
 use Rattle.grid_place.specs.declared.placed.Placing.{Placing}
-use Rattle.grid_place.specs.Moves.{renamed_inst, goes}
-use Rattle.c_compile_layout.specs.Linking.{Resolves, resolved_slot, resolved_block, by_both}
+use Rattle.grid_place.specs.Moves.{goes}
+use Rattle.grid_place.specs.inside.Moves.{renamed_inst}
+use Rattle.c_compile_layout.specs.inside.Linking.{Resolves, resolved_slot, resolved_block, by_both}
 use Rattle.c_compile_layout.proofs.Linked.{index_map, came}
-use Rattle.c_compile_blocks.specs.Blocks.{flow_of, IsMachineBlock}
-use Rattle.c_compile_blocks.specs.Laws.{is_used, HasSlots, HasPlacedSlots, UsesSlots}
+use Rattle.c_compile_blocks.specs.inside.Blocks.{flow_of, IsMachineBlock}
+use Rattle.c_compile_blocks.specs.Laws.{is_used, HasSlots, HasPlacedSlots}
+use Rattle.c_compile_blocks.specs.inside.Laws.{UsesSlots}
 use Rattle.c_compile_blocks.proofs.Emitted.{made_from}
 
 lt_true : (a b : ℕ) → a < b → nat_lt a b ≡ true

@@ -1,21 +1,11 @@
 -- What the passes together give: blocks that the layout takes, in the slots that the placing says.
-use Rattle.std.specs.Prelude.{◌≡◌, ℕ, Bool, true, false, nat_lt, List, Option, Some, None, slice_get}
+use Rattle.std.specs.Prelude.{◌≡◌, ℕ, Bool, true, false, nat_lt, List, Option, Some, None}
 use Rattle.trips_isa.specs.declared.block.Inst.{Inst}
 use Rattle.trips_isa.specs.declared.block.Block.{Block}
 use Rattle.block_cases.specs.Orders.{slot_of}
-use Rattle.ir_forms.specs.HyperCode as hyper
 use Rattle.grid_place.specs.declared.placed.Placing.{Placing}
 use Rattle.grid_place.specs.Moves.{goes}
 use Rattle.grid_place.specs.Placings.{IsPlacing}
-use Rattle.c_compile_layout.specs.Layouts.{linked}
-use Rattle.c_compile_layout.specs.Emitted.{AreEmitted}
-use Rattle.c_compile_blocks.specs.Blocks.{AreMachineBlocks, FitsPasses}
-
--- whatever permutation each block is placed by, the layout takes them
-abbrev pub GivesEmitted : Type 0
-GivesEmitted =
-    (p : Placing) (B : List hyper.Block) (us : List Block) → FitsPasses B → AreMachineBlocks p B us
-    → AreEmitted B us
 
 -- SLOTS
 
@@ -38,9 +28,3 @@ pub record HasPlacedSlots (p : Placing) (t : Block) : Type 0 where
   -- one of this placing
   pub is : IsPlacing p to
   pub slots : HasSlots (goes to) t
-
--- so are those of each block of the image
-abbrev pub UsesSlots : Type 0
-UsesSlots =
-    (p : Placing) (B : List hyper.Block) (us : List Block) → AreMachineBlocks p B us
-    → (k : ℕ) (t : Block) → slice_get (linked us) k ≡ Some t → HasPlacedSlots p t

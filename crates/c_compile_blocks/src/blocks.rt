@@ -1,13 +1,13 @@
 //! The machine blocks of hyper blocks: the passes, one after the other.
 ghost use Rattle.std.specs.Prelude.{◌≡◌, ◌≤◌, ◌++◌, ◌∷◌, [], length, map, IfErr, IfOk, OnOk};
 ghost use Rattle.ir_forms.specs.declared.fault.FlowFault.TheVariants.{Memory};
-ghost use Rattle.ir_forms.specs.HyperFits.{FitsHyper, IsFollowed, IsSmall};
-ghost use Rattle.ir_forms.specs.HyperViews.{block_of, blocks_of, tail_of};
-ghost use Rattle.predication.specs.Outcomes.{NamesLabels};
-ghost use Rattle.c_compile_blocks.specs.Limits.{FitsMachine};
-ghost use Rattle.c_compile_blocks.specs.Blocks.{ArePassed, AreMachineBlocks, IsMachineBlock, IsPassed};
-ghost use Rattle.c_compile_blocks.specs.Refusals.{FitMachine, HasRefused, IsRefused};
-ghost use Rattle.ir_forms.specs.Limits.{label_count};
+ghost use Rattle.ir_forms.specs.inside.HyperFits.{FitsHyper, IsFollowed, IsSmall};
+ghost use Rattle.ir_forms.specs.inside.HyperViews.{block_of, blocks_of, tail_of};
+ghost use Rattle.predication.specs.inside.Outcomes.{NamesLabels};
+ghost use Rattle.c_compile_blocks.specs.inside.Limits.{FitsMachine};
+ghost use Rattle.c_compile_blocks.specs.inside.Blocks.{ArePassed, AreMachineBlocks, IsMachineBlock, IsPassed};
+ghost use Rattle.c_compile_blocks.specs.inside.Refusals.{FitMachine, HasRefused, IsRefused};
+ghost use Rattle.ir_forms.specs.inside.Limits.{label_count};
 
 use base::Items;
 use fan_out::target;

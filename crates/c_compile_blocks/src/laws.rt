@@ -1,4 +1,4 @@
-ghost use Rattle.c_compile_blocks.specs.Laws.{GivesEmitted, UsesSlots};
+ghost use Rattle.c_compile_blocks.specs.inside.Laws.{GivesEmitted, UsesSlots};
 
 /// The machine blocks that the passes make of a hyper program are what the layout takes, whatever
 /// permutation each is placed by: so their image means the program.

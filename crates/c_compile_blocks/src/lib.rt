@@ -3,8 +3,9 @@
 //! the checker took, whatever the number of their cases, and that the blocks of a plan which cuts everywhere are
 //! within the limits of the machine.
 //!
-//! The passes stand in specs/Blocks and specs/Refusals, checked blocks in specs/Checked, the laws in specs/Laws and
-//! specs/Limits, and what a block costs at most in specs/Costs, specs/Prices and specs/Choosers.
+//! The passes stand in specs/inside/Blocks and specs/inside/Refusals, checked blocks in specs/inside/Checked, the
+//! laws in specs/Laws and specs/inside/Limits, and what a block costs at most in specs/inside/Costs,
+//! specs/inside/Prices and specs/inside/Choosers.
 #![tactic(auto)]
 
 mod blocks;

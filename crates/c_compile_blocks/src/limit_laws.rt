@@ -1,6 +1,6 @@
-ghost use Rattle.c_compile_blocks.specs.Choosers.{CasesAreFew};
-ghost use Rattle.c_compile_blocks.specs.Limits.{CutProgramsFit, LittleBlocksFit, OnlyMemoryRefuses};
-ghost use Rattle.c_compile_blocks.specs.Limits.{PlainBlocksStay, SmallBlocksFit, SmallIfsFit};
+ghost use Rattle.c_compile_blocks.specs.inside.Choosers.{CasesAreFew};
+ghost use Rattle.c_compile_blocks.specs.inside.Limits.{CutProgramsFit, LittleBlocksFit, OnlyMemoryRefuses};
+ghost use Rattle.c_compile_blocks.specs.inside.Limits.{PlainBlocksStay, SmallBlocksFit, SmallIfsFit};
 
 /// A block has no more cases than there are choices of a bit for each of its choosers.
 pub fn cases_are_few()

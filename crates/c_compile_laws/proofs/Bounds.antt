@@ -3,9 +3,9 @@ use Rattle.std.proofs.Common.{ℕ, sym, subst, arith}
 use Rattle.trips_isa.specs.declared.block.Image.{Image}
 use Rattle.trips_isa.specs.Stores.{data_size}
 use Rattle.c_tree.specs.declared.typed.TypedProgram.{TypedProgram}
-use Rattle.ir_forms.specs.FlatCode.{Program}
-use Rattle.ir_forms.specs.Frames.{frame_limit}
-use Rattle.hyper_build.specs.Laws.{built_program, plan_of}
+use Rattle.ir_forms.specs.inside.FlatCode.{Program}
+use Rattle.ir_forms.specs.inside.Frames.{frame_limit}
+use Rattle.hyper_build.specs.inside.Laws.{built_program, plan_of}
 use Rattle.hyper_build.proofs.Assigned.{gives_assigned}
 use Rattle.grid_place.specs.declared.placed.Placing.{Placing}
 use Rattle.c_compile_layout.proofs.Linked.{made, good_image}

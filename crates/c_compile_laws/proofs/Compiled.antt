@@ -9,29 +9,30 @@ use Rattle.c_tree.specs.declared.typed.TypedProgram.{TypedProgram}
 use Rattle.c_constant.specs.Kinds.{number, IsWord}
 use Rattle.c_meaning_spec.specs.Eval.{Outcome}
 use Rattle.c_meaning_spec.proofs.Stocks.{steps-are-least}
-use Rattle.ir_forms.specs.FlatCode.{Program}
-use Rattle.ir_forms.specs.FlatRuns.{checked, flat_run}
-use Rattle.ir_forms.specs.FlatSteps.{State, Res, Gave, TooDeep, Unfinished}
-use Rattle.ir_forms.specs.Frames.{frames_at, frame_limit}
-use Rattle.ir_forms.specs.HyperCode as hyper
-use Rattle.ir_forms.specs.HyperRuns.{Layout, Standing, Running, Ended, Full, hyper_run}
-use Rattle.ir_forms.specs.HyperWords.{AreBytes, IsFaithful}
-use Rattle.ir_forms.specs.Laws.{StandsAs}
-use Rattle.flat_lower.specs.Keeps.{IsInput, Keeps, Finishes, Overflows}
-use Rattle.flat_lower.specs.Keeps as flat
-use Rattle.reg_assign.specs.Keeps.{tame_and, assigned_program, EndsAs, Reaches}
-use Rattle.hyper_build.specs.Routines.{built}
-use Rattle.hyper_build.specs.Tree.{annotated_all, Routine}
-use Rattle.hyper_build.specs.Whole.{EndsSo, Stops, IsUnended}
-use Rattle.hyper_build.specs.Laws.{built_program, plan_of}
+use Rattle.ir_forms.specs.inside.FlatCode.{Program}
+use Rattle.ir_forms.specs.inside.FlatRuns.{checked, flat_run}
+use Rattle.ir_forms.specs.inside.FlatSteps.{State, Res, Gave, TooDeep, Unfinished}
+use Rattle.ir_forms.specs.inside.Frames.{frames_at, frame_limit}
+use Rattle.ir_forms.specs.inside.HyperCode as hyper
+use Rattle.ir_forms.specs.inside.HyperRuns.{Layout, Standing, Running, Ended, Full, hyper_run}
+use Rattle.ir_forms.specs.inside.HyperWords.{AreBytes, IsFaithful}
+use Rattle.ir_forms.specs.inside.Laws.{StandsAs}
+use Rattle.flat_lower.specs.Keeps.{IsInput}
+use Rattle.flat_lower.specs.inside.Keeps.{Keeps, Finishes, Overflows}
+use Rattle.flat_lower.specs.inside.Keeps as flat
+use Rattle.reg_assign.specs.inside.Keeps.{tame_and, assigned_program, EndsAs, Reaches}
+use Rattle.hyper_build.specs.inside.Routines.{built}
+use Rattle.hyper_build.specs.inside.Tree.{annotated_all, Routine}
+use Rattle.hyper_build.specs.inside.Whole.{EndsSo, Stops, IsUnended}
+use Rattle.hyper_build.specs.inside.Laws.{built_program, plan_of}
 use Rattle.hyper_build.proofs.Assigned.{keeps_assigned, gives_assigned}
 use Rattle.grid_place.specs.declared.placed.Placing.{Placing}
-use Rattle.c_compile_layout.specs.Layouts.{laid_out}
-use Rattle.c_compile_layout.specs.Emitted.{AreEmitted}
-use Rattle.c_compile_layout.specs.Standings.{standing_of}
+use Rattle.c_compile_layout.specs.inside.Layouts.{laid_out}
+use Rattle.c_compile_layout.specs.inside.Emitted.{AreEmitted}
+use Rattle.c_compile_layout.specs.inside.Standings.{standing_of}
 use Rattle.c_compile_layout.proofs.Faithful.{faithful}
 use Rattle.c_compile_layout.proofs.Linked.{image_means}
-use Rattle.c_compile_blocks.specs.Blocks.{FitsPasses}
+use Rattle.c_compile_blocks.specs.inside.Blocks.{FitsPasses}
 use Rattle.c_compile_blocks.proofs.Emitted.{chunks_few, gives_emitted}
 use Rattle.c_compile_laws.specs.Compiled.{FlatMeans, IsCompiled}
 use Rattle.c_compile_laws.specs.Runs.{run_of}

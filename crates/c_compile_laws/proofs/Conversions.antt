@@ -7,14 +7,14 @@ use Rattle.trips_isa.specs.Forms.{form_of, role_of, takes_right}
 use Rattle.ir_forms.specs.declared.hyper.Source.{Source}
 use Rattle.ir_forms.specs.declared.flow.FlowSource.{FlowSource}
 use Rattle.ir_forms.specs.declared.flow.FlowNode.{FlowNode}
-use Rattle.ir_forms.specs.HyperCode.{Items, Done, Set, Load, Save, If, Block}
-use Rattle.ir_forms.specs.HyperFits.{FitsItems, is_filled, filled_ifs}
+use Rattle.ir_forms.specs.inside.HyperCode.{Items, Done, Set, Load, Save, If, Block}
+use Rattle.ir_forms.specs.inside.HyperFits.{FitsItems, is_filled, filled_ifs}
 use Rattle.ir_forms.specs.FlowFits.{is_branch}
-use Rattle.predication.specs.Environments.{Scope, Env, Bits, no_bits, under, put, note, from_node, at_start}
-use Rattle.predication.specs.Environments.{left_bits, distinct}
-use Rattle.predication.specs.Operands.{node_of, operand, second, bit_set, tested}
-use Rattle.predication.specs.Ifs.{items, join, touched}
-use Rattle.predication.specs.Converted.{begun, ended, predicated}
+use Rattle.predication.specs.inside.Environments.{Scope, Env, Bits, no_bits, under, put, note, from_node, at_start}
+use Rattle.predication.specs.inside.Environments.{left_bits, distinct}
+use Rattle.predication.specs.inside.Operands.{node_of, operand, second, bit_set, tested}
+use Rattle.predication.specs.inside.Ifs.{items, join, touched}
+use Rattle.predication.specs.inside.Converted.{begun, ended, predicated}
 use Rattle.predication.proofs.Ops.{op_form}
 use Rattle.predication.proofs.Untaken.{load_form, store_form}
 use Rattle.c_compile_laws.specs.GuardLaws.{ConvertsGuarded}

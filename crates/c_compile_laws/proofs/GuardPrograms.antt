@@ -1,9 +1,9 @@
 -- The guards of all blocks of a program.
 use Rattle.std.proofs.Common.{◌≡◌, ℕ, suc, ◌+◌, ◌≤◌, List, [], ◌∷◌, length, Some, slice_get, refl, ap₂, arith}
 use Rattle.trips_isa.specs.declared.block.Block.{Block as MachineBlock}
-use Rattle.ir_forms.specs.HyperCode.{Block}
-use Rattle.ir_forms.specs.HyperFits.{filled_ifs, filled_in}
-use Rattle.c_compile_layout.specs.Linking.{by_both, linked_from}
+use Rattle.ir_forms.specs.inside.HyperCode.{Block}
+use Rattle.ir_forms.specs.inside.HyperFits.{filled_ifs, filled_in}
+use Rattle.c_compile_layout.specs.inside.Linking.{by_both, linked_from}
 use Rattle.c_compile_laws.specs.Counts.{guarded_insts, guarded_in}
 use Rattle.c_compile_laws.specs.GuardLaws.{ProgramsGuarded}
 use Rattle.c_compile_laws.proofs.Targets.{resolves}

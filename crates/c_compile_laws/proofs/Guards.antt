@@ -3,20 +3,20 @@ use Rattle.std.proofs.Common.{◌≡◌, ℕ, ◌≤◌, List, Some, slice_get, 
 use Rattle.trips_isa.specs.declared.block.Block.{Block}
 use Rattle.trips_isa.specs.declared.block.Image.{Image}
 use Rattle.trips_isa.specs.Images.{chunk_of}
-use Rattle.ir_forms.specs.FlatFits.{small_ifs_of_all}
-use Rattle.ir_forms.specs.HyperCode as hyper
-use Rattle.ir_forms.specs.HyperFits.{FitsHyper}
-use Rattle.hyper_build.specs.Laws.{built_program, plan_of}
+use Rattle.ir_forms.specs.inside.FlatFits.{small_ifs_of_all}
+use Rattle.ir_forms.specs.inside.HyperCode as hyper
+use Rattle.ir_forms.specs.inside.HyperFits.{FitsHyper}
+use Rattle.hyper_build.specs.inside.Laws.{built_program, plan_of}
 use Rattle.hyper_build.proofs.Assigned.{gives_assigned}
 use Rattle.hyper_build.proofs.FilledIfs.{keeps_small_ifs}
-use Rattle.predication.specs.Tails.{labelled}
+use Rattle.predication.specs.inside.Tails.{labelled}
 use Rattle.grid_place.specs.declared.placed.Placing.{Placing}
 use Rattle.grid_place.specs.Moves.{goes}
 use Rattle.c_compile_laws.specs.Counts.{guarded_in}
 use Rattle.c_compile_laws.specs.GuardLaws.{AreGuarded}
 use Rattle.c_compile_laws.proofs.Machines.{machines}
 use Rattle.c_compile_laws.proofs.GuardPrograms.{programs}
-use Rattle.c_compile_blocks.specs.Blocks.{AreMachineBlocks}
+use Rattle.c_compile_blocks.specs.inside.Blocks.{AreMachineBlocks}
 use Rattle.c_compile_laws.specs.Laws.{GuardsSmallIfs}
 
 -- each machine block has as many guarded instructions as its hyper block has filled if-items

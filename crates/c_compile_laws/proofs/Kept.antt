@@ -1,11 +1,12 @@
 -- What calls keep changes no if.
 use Rattle.std.proofs.Common.{◌≡◌, ℕ, ◌+◌, Bool, List, [], ◌∷◌, refl, ap₂, arith}
 use Rattle.std.specs.Prelude.{cond, ◌&&◌}
-use Rattle.ir_forms.specs.FlatCode.{Step, Let, Frame, Load, Save, Call, Put, Get, If, Loop, Break}
-use Rattle.ir_forms.specs.FlatCode.{Continue, Return, Code, Nop, ◌▹◌, Function}
-use Rattle.ir_forms.specs.FlatFits.{is_small_leg, is_empty, small_if, small_ifs_in, small_ifs, small_ifs_of_all}
-use Rattle.reg_assign.specs.Live.{VarSet}
-use Rattle.reg_assign.specs.Keeps.{calls, calls_in, keeping_in, keeping, keeping_all, kept_by}
+use Rattle.ir_forms.specs.inside.FlatCode.{Step, Let, Frame, Load, Save, Call, Put, Get, If, Loop, Break}
+use Rattle.ir_forms.specs.inside.FlatCode.{Continue, Return, Code, Nop, ◌▹◌, Function}
+use Rattle.ir_forms.specs.inside.FlatFits.{is_small_leg, is_empty, small_if, small_ifs_in, small_ifs}
+use Rattle.ir_forms.specs.inside.FlatFits.{small_ifs_of_all}
+use Rattle.reg_assign.specs.inside.Live.{VarSet}
+use Rattle.reg_assign.specs.inside.Keeps.{calls, calls_in, keeping_in, keeping, keeping_all, kept_by}
 use Rattle.c_compile_laws.specs.PlainLaws.{AssignsSmallIfs}
 
 module _ (keep : ℕ → VarSet) where

@@ -3,10 +3,10 @@ use Rattle.std.proofs.Common.{◌≡◌, ◌-◌, ◌≤◌, List, length, map, 
 use Rattle.std.proofs.Common.{length-append}
 use Rattle.std.proofs.lemmas.List.{length-map, length-replicate}
 use Rattle.trips_isa.specs.declared.block.Inst.{Inst}
-use Rattle.predication.specs.Converted.{predicated}
-use Rattle.null_outputs.specs.Wants.{complete}
+use Rattle.predication.specs.inside.Converted.{predicated}
+use Rattle.null_outputs.specs.inside.Wants.{complete}
 use Rattle.fan_out.specs.declared.wiring.Placed.{Placed}
-use Rattle.fan_out.specs.Targeted.{slots, slot_of, filled}
+use Rattle.fan_out.specs.inside.Targeted.{slots, slot_of, filled}
 use Rattle.c_compile_laws.specs.GuardLaws.{MachinesGuarded}
 use Rattle.c_compile_laws.proofs.NodeCounts.{completes_sensed}
 use Rattle.c_compile_laws.proofs.Conversions.{converts_sensed}

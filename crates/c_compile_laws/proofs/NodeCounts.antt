@@ -8,11 +8,12 @@ use Rattle.trips_isa.specs.Operands.{is_guarded}
 use Rattle.ir_forms.specs.declared.flow.Guard.{Guard}
 use Rattle.ir_forms.specs.declared.flow.FlowNode.{FlowNode}
 use Rattle.ir_forms.specs.declared.flow.FlowBlock.{FlowBlock}
-use Rattle.ir_forms.specs.FlowRuns.{sense_of}
-use Rattle.ir_forms.specs.FlowFits.{is_branch, has_guard, guarded_nodes}
-use Rattle.null_outputs.specs.Completed.{added}
-use Rattle.null_outputs.specs.Surely.{sure_by}
-use Rattle.null_outputs.specs.Wants.{want_by, complete}
+use Rattle.ir_forms.specs.inside.FlowRuns.{sense_of}
+use Rattle.ir_forms.specs.FlowFits.{is_branch}
+use Rattle.ir_forms.specs.inside.FlowFits.{has_guard, guarded_nodes}
+use Rattle.null_outputs.specs.inside.Completed.{added}
+use Rattle.null_outputs.specs.inside.Surely.{sure_by}
+use Rattle.null_outputs.specs.inside.Wants.{want_by, complete}
 use Rattle.c_compile_laws.specs.GuardLaws.{CompletesGuarded}
 
 -- whether there is a guard that has a sense

@@ -5,7 +5,7 @@ use Rattle.std.specs.Prelude.{option_map, slice_index_or}
 use Rattle.trips_isa.specs.declared.block.Inst.{Inst}
 use Rattle.trips_isa.specs.declared.block.Block.{Block}
 use Rattle.block_cases.specs.Orders.{slot_of}
-use Rattle.grid_place.specs.Moves.{renamed_inst}
+use Rattle.grid_place.specs.inside.Moves.{renamed_inst}
 use Rattle.grid_place.proofs.Totals.{total, led_apart, total_map, total_same, indices, index_in, index_low}
 use Rattle.grid_place.proofs.Totals.{indices_distinct}
 use Rattle.c_compile_laws.specs.Counts.{guarded_slot, guarded_slots}

@@ -8,11 +8,11 @@ use Rattle.c_tree.specs.declared.TypedNode.TheOpen as node
 use Rattle.c_tree.specs.TypedTrees.{Node, node_of}
 use Rattle.ir_forms.specs.declared.flat.Arg.{Arg}
 use Rattle.ir_forms.specs.declared.flat.Arg.TheVariants.{Const, Var}
-use Rattle.flat_lower.specs.Tree as tree
-use Rattle.flat_lower.specs.TreeViews.{expr_of, expr_if}
-use Rattle.flat_lower.specs.Objects.{Context}
-use Rattle.flat_lower.specs.Expressions.{expr_code}
-use Rattle.flat_lower.specs.Statements.{named_scalar, simple_arg, plain_code, plain_if_code}
+use Rattle.flat_lower.specs.inside.Tree as tree
+use Rattle.flat_lower.specs.inside.TreeViews.{expr_of, expr_if}
+use Rattle.flat_lower.specs.inside.Objects.{Context}
+use Rattle.flat_lower.specs.inside.Expressions.{expr_code}
+use Rattle.flat_lower.specs.inside.Statements.{named_scalar, simple_arg, plain_code, plain_if_code}
 use Rattle.flat_lower.proofs.TreeFacts.{plain_node, expr_is}
 use Rattle.c_compile_laws.specs.PlainIfs.{is_scalar, is_simple, is_plain_assignment, assigns}
 use Rattle.c_compile_laws.proofs.SmallIfs.{IsSet, set_known}

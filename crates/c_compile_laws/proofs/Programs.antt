@@ -3,10 +3,11 @@ use Rattle.std.proofs.Common.{ℕ, suc, ◌≤◌, List, [], ◌∷◌, map, ari
 use Rattle.std.specs.Prelude.{nat_eq}
 use Rattle.c_tree.specs.declared.TypedFunc.{TypedFunc}
 use Rattle.c_tree.specs.declared.TypedGlobal.{TypedGlobal}
-use Rattle.ir_forms.specs.FlatFits.{small_ifs_of_all}
-use Rattle.flat_lower.specs.TreeViews.{stmt_of, func_of}
+use Rattle.ir_forms.specs.inside.FlatFits.{small_ifs_of_all}
+use Rattle.flat_lower.specs.inside.TreeViews.{stmt_of, func_of}
 use Rattle.flat_lower.specs.declared.around.Around.TheVariants.{Nowhere}
-use Rattle.flat_lower.specs.Statements.{stmt_code, end_code, context_of, lowered_from, lowered, lowered_program}
+use Rattle.flat_lower.specs.inside.Statements.{stmt_code, end_code, context_of, lowered_from, lowered}
+use Rattle.flat_lower.specs.inside.Statements.{lowered_program}
 use Rattle.c_compile_laws.specs.PlainIfs.{ifs_of_funcs}
 use Rattle.c_compile_laws.specs.PlainLaws.{LowersPlainIfs, AssignsPlainIfs}
 use Rattle.c_compile_laws.proofs.SmallIfs.{then_small}

@@ -3,17 +3,17 @@ use Rattle.std.proofs.Common.{◌≡◌, ℕ, ◌+◌, ◌≤◌, true, Option, 
 use Rattle.std.proofs.Common.{arith}
 use Rattle.std.specs.Prelude.{cond, ◌&&◌}
 use Rattle.ir_forms.specs.declared.flat.Arg.TheVariants.{Var}
-use Rattle.ir_forms.specs.FlatCode.{Code, Nop, Then, only}
-use Rattle.ir_forms.specs.FlatCode as flat
-use Rattle.ir_forms.specs.FlatFits.{small_ifs}
-use Rattle.flat_lower.specs.Tree.{Expr, Stmt, If, While, Do, For}
-use Rattle.flat_lower.specs.Tree.{NoStmts, WithStmt, First, Switch, Sections}
-use Rattle.flat_lower.specs.Operations.{temp, set_word}
-use Rattle.flat_lower.specs.Objects.{Context}
-use Rattle.flat_lower.specs.Expressions.{expr_code}
-use Rattle.flat_lower.specs.Statements.{if_so, turn_code, loop_code, do_code, stmt_code, first_code}
-use Rattle.flat_lower.specs.Statements.{sections_code}
-use Rattle.flat_lower.specs.Switches.{in_switch, section_code, chosen_code, behind_code, switched_code}
+use Rattle.ir_forms.specs.inside.FlatCode.{Code, Nop, Then, only}
+use Rattle.ir_forms.specs.inside.FlatCode as flat
+use Rattle.ir_forms.specs.inside.FlatFits.{small_ifs}
+use Rattle.flat_lower.specs.inside.Tree.{Expr, Stmt, If, While, Do, For}
+use Rattle.flat_lower.specs.inside.Tree.{NoStmts, WithStmt, First, Switch, Sections}
+use Rattle.flat_lower.specs.inside.Operations.{temp, set_word}
+use Rattle.flat_lower.specs.inside.Objects.{Context}
+use Rattle.flat_lower.specs.inside.Expressions.{expr_code}
+use Rattle.flat_lower.specs.inside.Statements.{if_so, turn_code, loop_code, do_code, stmt_code, first_code}
+use Rattle.flat_lower.specs.inside.Statements.{sections_code}
+use Rattle.flat_lower.specs.inside.Switches.{in_switch, section_code, chosen_code, behind_code, switched_code}
 use Rattle.flat_lower.specs.declared.around.Around.{Around}
 use Rattle.flat_lower.specs.declared.around.Around.TheVariants as around
 use Rattle.c_compile_laws.specs.PlainIfs.{Counted, no_leg}

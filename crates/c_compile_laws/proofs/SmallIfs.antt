@@ -4,9 +4,9 @@ use Rattle.std.specs.Prelude.{cond, ◌&&◌, Option, Some}
 use Rattle.trips_isa.specs.declared.op.Op.TheVariants as op
 use Rattle.ir_forms.specs.declared.flat.Arg.{Arg}
 use Rattle.ir_forms.specs.declared.flat.Arg.TheVariants.{Const}
-use Rattle.ir_forms.specs.FlatCode.{Let, Code, Nop, ◌▹◌, Then, only}
-use Rattle.ir_forms.specs.FlatFits.{small_if, small_ifs}
-use Rattle.flat_lower.specs.Statements.{set_or}
+use Rattle.ir_forms.specs.inside.FlatCode.{Let, Code, Nop, ◌▹◌, Then, only}
+use Rattle.ir_forms.specs.inside.FlatFits.{small_if, small_ifs}
+use Rattle.flat_lower.specs.inside.Statements.{set_or}
 
 -- Code in two parts has the small ifs of both.
 pub then_small : (a b : Code) → small_ifs (Then a b) ≡ small_ifs a + small_ifs b

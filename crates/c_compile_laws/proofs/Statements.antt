@@ -10,16 +10,16 @@ use Rattle.c_tree.specs.declared.TypedForInit.TheOpen.{TypedStmt-F, TypedForInit
 use Rattle.c_tree.specs.declared.TypedForInit.TheOpen as stmt
 use Rattle.c_tree.specs.declared.TypedSection.{TypedSection, roll-TypedSection, map-TypedSection}
 use Rattle.c_tree.specs.declared.TypedSection.{fold-TypedSection, fold_out-TypedSection}
-use Rattle.ir_forms.specs.FlatFits.{small_ifs}
-use Rattle.flat_lower.specs.Tree.{Stmt, Declare, If, While, Do, For, Break, Continue, Return}
-use Rattle.flat_lower.specs.Tree.{NoStmts, WithStmt, First, Switch, WithSection}
-use Rattle.flat_lower.specs.TreeViews.{expr_of, expr_if, stmt_by, stmt_of, stmts_of, Section}
-use Rattle.flat_lower.specs.TreeViews.{sections_of, section_by}
-use Rattle.flat_lower.specs.TreeViews as view
-use Rattle.flat_lower.specs.Objects.{Context}
-use Rattle.flat_lower.specs.Statements.{stmt_code, stmts_code, first_code}
-use Rattle.flat_lower.specs.Statements.{sections_code}
-use Rattle.flat_lower.specs.Switches.{in_switch, section_code}
+use Rattle.ir_forms.specs.inside.FlatFits.{small_ifs}
+use Rattle.flat_lower.specs.inside.Tree.{Stmt, Declare, If, While, Do, For, Break, Continue, Return}
+use Rattle.flat_lower.specs.inside.Tree.{NoStmts, WithStmt, First, Switch, WithSection}
+use Rattle.flat_lower.specs.inside.TreeViews.{expr_of, expr_if, stmt_by, stmt_of, stmts_of, Section}
+use Rattle.flat_lower.specs.inside.TreeViews.{sections_of, section_by}
+use Rattle.flat_lower.specs.inside.TreeViews as view
+use Rattle.flat_lower.specs.inside.Objects.{Context}
+use Rattle.flat_lower.specs.inside.Statements.{stmt_code, stmts_code, first_code}
+use Rattle.flat_lower.specs.inside.Statements.{sections_code}
+use Rattle.flat_lower.specs.inside.Switches.{in_switch, section_code}
 use Rattle.flat_lower.specs.declared.around.Around.{Around}
 use Rattle.flat_lower.specs.declared.around.Around.TheVariants as around
 use Rattle.flat_lower.proofs.TreeFacts.{first_of}

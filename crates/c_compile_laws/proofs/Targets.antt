@@ -7,10 +7,10 @@ use Rattle.ir_forms.specs.declared.flow.FlowNode.{FlowNode}
 use Rattle.ir_forms.specs.declared.flow.FlowBlock.{FlowBlock}
 use Rattle.fan_out.specs.declared.wiring.Placed.{Placed}
 use Rattle.fan_out.specs.declared.wiring.Wire.{Wire}
-use Rattle.fan_out.specs.Wires.{wires}
-use Rattle.fan_out.specs.Targeted.{fan_of_node, placed_nodes, movs_of_reads, next_of_nodes, movs_of_nodes}
-use Rattle.fan_out.specs.Targeted.{slots_of_nodes, slots, slot_of, IsTargeted}
-use Rattle.c_compile_layout.specs.Linking.{Resolves, resolved_slot}
+use Rattle.fan_out.specs.inside.Wires.{wires}
+use Rattle.fan_out.specs.inside.Targeted.{fan_of_node, placed_nodes, movs_of_reads, next_of_nodes, movs_of_nodes}
+use Rattle.fan_out.specs.inside.Targeted.{slots_of_nodes, slots, slot_of, IsTargeted}
+use Rattle.c_compile_layout.specs.inside.Linking.{Resolves, resolved_slot}
 use Rattle.c_compile_laws.specs.Counts.{guarded_slot, guarded_slots, guarded_insts}
 use Rattle.c_compile_laws.specs.GuardLaws.{TargetsGuarded, ResolvesGuarded}
 use Rattle.c_compile_laws.proofs.NodeCounts.{sensed_nodes, all_sensed}

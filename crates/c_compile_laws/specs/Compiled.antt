@@ -5,15 +5,16 @@ use Rattle.trips_isa.specs.declared.block.Image.{Image}
 use Rattle.c_tree.specs.Limits.{most_tokens}
 use Rattle.c_tree.specs.declared.typed.TypedProgram.{TypedProgram}
 use Rattle.c_meaning_spec.specs.Eval.{eval}
-use Rattle.ir_forms.specs.FlatCode.{Program}
-use Rattle.ir_forms.specs.FlatFits.{FitsProgram, code_blocks_of_all}
-use Rattle.ir_forms.specs.FlatRuns.{checked, flat_run}
-use Rattle.flat_lower.specs.Keeps.{IsInput, Keeps}
-use Rattle.reg_assign.specs.Keeps.{KeepsTameRuns}
-use Rattle.hyper_build.specs.Laws.{built_program, plan_of, AreAssigned}
+use Rattle.ir_forms.specs.inside.FlatCode.{Program}
+use Rattle.ir_forms.specs.inside.FlatFits.{FitsProgram, code_blocks_of_all}
+use Rattle.ir_forms.specs.inside.FlatRuns.{checked, flat_run}
+use Rattle.flat_lower.specs.Keeps.{IsInput}
+use Rattle.flat_lower.specs.inside.Keeps.{Keeps}
+use Rattle.reg_assign.specs.inside.Keeps.{KeepsTameRuns}
+use Rattle.hyper_build.specs.inside.Laws.{built_program, plan_of, AreAssigned}
 use Rattle.grid_place.specs.declared.placed.Placing.{Placing}
-use Rattle.c_compile_layout.specs.Emitted.{image_of}
-use Rattle.c_compile_blocks.specs.Blocks.{AreMachineBlocks}
+use Rattle.c_compile_layout.specs.inside.Emitted.{image_of}
+use Rattle.c_compile_blocks.specs.inside.Blocks.{AreMachineBlocks}
 
 -- F does what a typed program of a text of t tokens means, and is as small as the text
 pub record FlatMeans (P : TypedProgram) (F : Program) (t : ℕ) : Type 0 where

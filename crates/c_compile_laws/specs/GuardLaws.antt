@@ -2,15 +2,16 @@
 use Rattle.std.specs.Prelude.{◌≡◌, ℕ, ◌≤◌, List, length, Some, slice_get}
 use Rattle.trips_isa.specs.declared.block.Block.{Block as MachineBlock}
 use Rattle.ir_forms.specs.declared.flow.FlowBlock.{FlowBlock}
-use Rattle.ir_forms.specs.FlowFits.{guarded_nodes}
-use Rattle.ir_forms.specs.FlowRegular.{IsRegular}
-use Rattle.ir_forms.specs.HyperCode.{Block}
-use Rattle.ir_forms.specs.HyperFits.{FitsItems, filled_ifs, filled_in}
-use Rattle.predication.specs.Converted.{predicated}
-use Rattle.null_outputs.specs.Wants.{complete}
-use Rattle.fan_out.specs.Targeted.{HasRoom, IsTargeted}
-use Rattle.grid_place.specs.Moves.{Permutes, IsMoved}
-use Rattle.c_compile_layout.specs.Linking.{Resolves, resolved_block, linked_from}
+use Rattle.ir_forms.specs.inside.FlowFits.{guarded_nodes}
+use Rattle.ir_forms.specs.inside.FlowRegular.{IsRegular}
+use Rattle.ir_forms.specs.inside.HyperCode.{Block}
+use Rattle.ir_forms.specs.inside.HyperFits.{FitsItems, filled_ifs, filled_in}
+use Rattle.predication.specs.inside.Converted.{predicated}
+use Rattle.null_outputs.specs.inside.Wants.{complete}
+use Rattle.fan_out.specs.inside.Targeted.{HasRoom, IsTargeted}
+use Rattle.grid_place.specs.Moves.{Permutes}
+use Rattle.grid_place.specs.inside.Moves.{IsMoved}
+use Rattle.c_compile_layout.specs.inside.Linking.{Resolves, resolved_block, linked_from}
 use Rattle.c_compile_laws.specs.Counts.{guarded_insts, guarded_in}
 
 -- each filled if-item gives a guarded node, also where the block still holds labels

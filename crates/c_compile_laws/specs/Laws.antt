@@ -2,8 +2,8 @@
 use Rattle.std.specs.Prelude.{ℕ, ◌≤◌}
 use Rattle.trips_isa.specs.declared.block.Image.{Image}
 use Rattle.c_tree.specs.declared.typed.TypedProgram.{TypedProgram}
-use Rattle.ir_forms.specs.FlatCode.{Program}
-use Rattle.ir_forms.specs.FlatFits.{small_ifs_of_all}
+use Rattle.ir_forms.specs.inside.FlatCode.{Program}
+use Rattle.ir_forms.specs.inside.FlatFits.{small_ifs_of_all}
 use Rattle.grid_place.specs.declared.placed.Placing.{Placing}
 use Rattle.c_compile_laws.specs.Counts.{guarded_in}
 use Rattle.c_compile_laws.specs.Compiled.{FlatMeans, IsCompiled}

@@ -1,10 +1,10 @@
 -- That lowering keeps plain ifs as small ones, and that the lists of kept variables change none.
 use Rattle.std.specs.Prelude.{◌≡◌, ℕ, ◌≤◌, List}
 use Rattle.c_tree.specs.declared.TypedProgram.{TypedProgram}
-use Rattle.ir_forms.specs.FlatCode.{Program}
-use Rattle.ir_forms.specs.FlatFits.{small_ifs_of_all}
-use Rattle.flat_lower.specs.Statements.{lowered_program}
-use Rattle.reg_assign.specs.Keeps.{assigned_program}
+use Rattle.ir_forms.specs.inside.FlatCode.{Program}
+use Rattle.ir_forms.specs.inside.FlatFits.{small_ifs_of_all}
+use Rattle.flat_lower.specs.inside.Statements.{lowered_program}
+use Rattle.reg_assign.specs.inside.Keeps.{assigned_program}
 use Rattle.c_compile_laws.specs.PlainIfs.{plain_ifs}
 
 -- each plain if becomes a small one: its legs are each empty or one operation, and not both empty

@@ -23,11 +23,11 @@ use Rattle.trips_isa.specs.Places.{inst_node, nodes_of}
 use Rattle.trips_isa.specs.Rule.{Answer, if_matched, matched}
 use Rattle.trips_isa.specs.Tables.{deepest, node_gives, IsRanked}
 use Rattle.trips_isa.specs.Blocks.{at_place, responses_in, computes, inst_at, is_read, slot_at, token_of}
-use Rattle.trips_isa.specs.Acts.{Act, Divided, is_fault, is_clean, acts_by, acts_if_read, acts_in, fired_acts}
-use Rattle.trips_isa.specs.Acts.{own_acts, IsClean}
+use Rattle.trips_isa.specs.inside.Acts.{Act, Divided, is_fault, is_clean, acts_by, acts_if_read, acts_in, fired_acts}
+use Rattle.trips_isa.specs.inside.Acts.{own_acts, IsClean}
 use Rattle.block_cases.proofs.Nodes.{slot_got}
 use Rattle.block_cases.proofs.Settled.{token_solves}
-use Rattle.fan_out.specs.Means.{acts_by_slot, inst_act_tokens, slot_acts, slots_acts}
+use Rattle.fan_out.specs.inside.Means.{acts_by_slot, inst_act_tokens, slot_acts, slots_acts}
 
 -- PARTS OF A CLEAN LIST
 

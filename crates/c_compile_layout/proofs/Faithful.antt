@@ -13,9 +13,9 @@ use Rattle.trips_isa.specs.Images.{chunks, chunk_of, starting_from, block_at}
 use Rattle.trips_isa.specs.declared.block.Token.TheVariants.{Word}
 use Rattle.trips_isa.specs.Outcomes.{to_offset, to_address}
 use Rattle.trips_isa.specs.Limits.{most_chunks}
-use Rattle.ir_forms.specs.HyperWords.{HasAddresses, IsFaithful}
-use Rattle.c_compile_layout.specs.Linking.{offset}
-use Rattle.c_compile_layout.specs.Layouts.{laid_out, AreFew, HasPlaces}
+use Rattle.ir_forms.specs.inside.HyperWords.{HasAddresses, IsFaithful}
+use Rattle.c_compile_layout.specs.inside.Linking.{offset}
+use Rattle.c_compile_layout.specs.inside.Layouts.{laid_out, AreFew, HasPlaces}
 
 differs : (a b : ℕ) → a < b → (a == b) ≡ false
 differs a b l = grind (arith, nat_tests)

@@ -16,10 +16,10 @@ use Rattle.trips_isa.specs.Images.{chunk_of}
 use Rattle.trips_isa.specs.Limits.{most_chunks, offset_half}
 use Rattle.ir_forms.specs.declared.flow.FlowNode.{FlowNode}
 use Rattle.ir_forms.specs.declared.flow.FlowBlock.{FlowBlock}
-use Rattle.ir_forms.specs.FlowFits.{FitsFlow, FitsNodeForm, FitsLabel}
-use Rattle.c_compile_layout.specs.Linking.{resolved_node, by_offset, by_address, offset, label_in}
-use Rattle.c_compile_layout.specs.Layouts.{AreFew}
-use Rattle.c_compile_layout.specs.Emitted.{LabelBelow}
+use Rattle.ir_forms.specs.inside.FlowFits.{FitsFlow, FitsNodeForm, FitsLabel}
+use Rattle.c_compile_layout.specs.inside.Linking.{resolved_node, by_offset, by_address, offset, label_in}
+use Rattle.c_compile_layout.specs.inside.Layouts.{AreFew}
+use Rattle.c_compile_layout.specs.inside.Emitted.{LabelBelow}
 use Rattle.c_compile_layout.proofs.Faithful.{chunk_low}
 use Rattle.c_compile_layout.proofs.Fitting.{FormsFit}
 use Rattle.c_compile_layout.proofs.Offsets.{kept}

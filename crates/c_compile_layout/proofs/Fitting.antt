@@ -15,10 +15,10 @@ use Rattle.ir_forms.specs.declared.flow.Guard.{Guard}
 use Rattle.ir_forms.specs.declared.flow.FlowNode.{FlowNode}
 use Rattle.ir_forms.specs.declared.flow.FlowWrite.{FlowWrite}
 use Rattle.ir_forms.specs.declared.flow.FlowBlock.{FlowBlock}
-use Rattle.ir_forms.specs.FlowRuns.{Computes, Obeys, tokens, numbered, exits, leaving_in, guard_token}
-use Rattle.ir_forms.specs.FlowFits.{FitsFlow, FitsNode, FitsNodeForm, FitsGuard, FitsFlowSource, FitsWrite}
-use Rattle.ir_forms.specs.FlowFits.{AtMostOne, IsComplete}
-use Rattle.c_compile_layout.specs.Linking.{Resolves, resolved_node, resolved}
+use Rattle.ir_forms.specs.inside.FlowRuns.{Computes, Obeys, tokens, numbered, exits, leaving_in, guard_token}
+use Rattle.ir_forms.specs.inside.FlowFits.{FitsFlow, FitsNode, FitsNodeForm, FitsGuard, FitsFlowSource, FitsWrite}
+use Rattle.ir_forms.specs.inside.FlowFits.{AtMostOne, IsComplete}
+use Rattle.c_compile_layout.specs.inside.Linking.{Resolves, resolved_node, resolved}
 use Rattle.c_compile_layout.proofs.Orders.{order_forth}
 
 -- each node's resolved immediate lies in its field

@@ -10,22 +10,22 @@ use Rattle.std.proofs.lemmas.List.{length-replicate}
 use Rattle.std.proofs.lemmas.Option.{slice_get-get_or, slice_get_within}
 use Rattle.trips_isa.specs.declared.block.Block.{Block}
 use Rattle.trips_isa.specs.declared.run.Stepped.{Stepped}
-use Rattle.trips_isa.specs.Acts.{is_clean}
+use Rattle.trips_isa.specs.inside.Acts.{is_clean}
 use Rattle.trips_isa.specs.Machine.{State, with_input, system_call, then_system, start, memory_of}
 use Rattle.trips_isa.specs.Machine.{step_of, runs}
-use Rattle.block_cases.specs.Plain.{plain_step, plain_runs}
+use Rattle.block_cases.specs.inside.Plain.{plain_step, plain_runs}
 use Rattle.trips_isa.specs.Stores.{data_size}
 use Rattle.ir_forms.specs.declared.hyper.Exit.{Exit}
 use Rattle.ir_forms.specs.declared.hyper.Exit.TheVariants as exit
-use Rattle.ir_forms.specs.HyperCode as hyper
-use Rattle.ir_forms.specs.HyperRuns.{Machine, Layout, after_items, after_block, acts, exit_of, leaving}
-use Rattle.ir_forms.specs.HyperRuns.{next_label, is_system, with_register, with_next, system}
-use Rattle.ir_forms.specs.HyperRuns.{block_at, block_or, leave}
-use Rattle.ir_forms.specs.HyperRuns.{run, hyper_run, Standing, Running, Ended, Full, Unclean}
-use Rattle.ir_forms.specs.HyperRuns as hypers
-use Rattle.c_compile_layout.specs.Layouts.{laid_out}
-use Rattle.ir_forms.specs.HyperWords.{HasWords}
-use Rattle.c_compile_layout.specs.Joint.{AreMade, Same, StandsIn, DoesTheSame, DoesPlainly}
+use Rattle.ir_forms.specs.inside.HyperCode as hyper
+use Rattle.ir_forms.specs.inside.HyperRuns.{Machine, Layout, after_items, after_block, acts, exit_of, leaving}
+use Rattle.ir_forms.specs.inside.HyperRuns.{next_label, is_system, with_register, with_next, system}
+use Rattle.ir_forms.specs.inside.HyperRuns.{block_at, block_or, leave}
+use Rattle.ir_forms.specs.inside.HyperRuns.{run, hyper_run, Standing, Running, Ended, Full, Unclean}
+use Rattle.ir_forms.specs.inside.HyperRuns as hypers
+use Rattle.c_compile_layout.specs.inside.Layouts.{laid_out}
+use Rattle.ir_forms.specs.inside.HyperWords.{HasWords}
+use Rattle.c_compile_layout.specs.inside.Joint.{AreMade, Same, StandsIn, DoesTheSame, DoesPlainly}
 use Rattle.c_compile_layout.proofs.Runs.{resumed, first_step, machine_runs, plainly_runs, IsRun}
 use Rattle.c_compile_layout.proofs.Runs as going
 use Rattle.c_compile_layout.proofs.Steps.{Steps, steps, steps_plainly, exit_from}

@@ -7,9 +7,9 @@ use Rattle.std.proofs.Math.Path.{fun_ext}
 use Rattle.std.proofs.lemmas.List.Sums.{sum_by-cons}
 use Rattle.std.proofs.lemmas.List.Elements.{All-cons}
 use Rattle.trips_isa.specs.Images.{chunks}
-use Rattle.c_compile_layout.specs.Layouts.{begins, linked}
+use Rattle.c_compile_layout.specs.inside.Layouts.{begins, linked}
 use Rattle.trips_isa.specs.declared.block.Block.{Block}
-use Rattle.c_compile_layout.specs.Linking.{resolved_block, by_both, linked_from}
+use Rattle.c_compile_layout.specs.inside.Linking.{resolved_block, by_both, linked_from}
 
 -- the blocks before number k are resolved
 abbrev so_far : (ℕ → ℕ) → ℕ → ℕ → List Block → List Block

@@ -14,17 +14,17 @@ use Rattle.trips_isa.specs.Images.{chunks, chunk_of, chunks_to, body_chunks, sta
 use Rattle.trips_isa.specs.Outcomes.{to_address}
 use Rattle.ir_forms.specs.declared.flow.FlowNode.{FlowNode}
 use Rattle.ir_forms.specs.declared.flow.FlowBlock.{FlowBlock}
-use Rattle.ir_forms.specs.FlowFits.{IsComplete, HasOrder}
-use Rattle.ir_forms.specs.HyperCode as hyper
-use Rattle.ir_forms.specs.HyperFits.{AllLeadOn, FitsHyper}
-use Rattle.ir_forms.specs.HyperRuns.{hyper_run, Standing, Running, Ended, Full, Unclean, IsUnclean}
+use Rattle.ir_forms.specs.inside.FlowFits.{IsComplete, HasOrder}
+use Rattle.ir_forms.specs.inside.HyperCode as hyper
+use Rattle.ir_forms.specs.inside.HyperFits.{AllLeadOn, FitsHyper}
+use Rattle.ir_forms.specs.inside.HyperRuns.{hyper_run, Standing, Running, Ended, Full, Unclean, IsUnclean}
 use Rattle.trips_isa.specs.declared.causes.TrapCause.{TrapCause}
 use Rattle.trips_isa.specs.declared.run.Stepped.TheVariants.{Trap}
-use Rattle.ir_forms.specs.HyperWords.{AreBytes}
-use Rattle.ir_forms.specs.Laws.{StandsAs}
+use Rattle.ir_forms.specs.inside.HyperWords.{AreBytes}
+use Rattle.ir_forms.specs.inside.Laws.{StandsAs}
 use Rattle.ir_forms.proofs.WordsKept.{keeps_words}
-use Rattle.fan_out.specs.Means.{MeansFlow}
-use Rattle.fan_out.specs.Targeted.{IsTargeted}
+use Rattle.fan_out.specs.inside.Means.{MeansFlow}
+use Rattle.fan_out.specs.inside.Targeted.{IsTargeted}
 use Rattle.fan_out.proofs.Acting.{faults_same}
 use Rattle.fan_out.proofs.Given.{given}
 use Rattle.fan_out.proofs.Totals.{Given}
@@ -32,13 +32,13 @@ use Rattle.fan_out.proofs.Edges.{is_ranked}
 use Rattle.fan_out.proofs.Meaning.{means}
 use Rattle.fan_out.proofs.Ordering.{fits_block, good_block}
 use Rattle.trips_isa.specs.Fits.{FitsBlock}
-use Rattle.trips_isa.specs.Acts.{is_clean}
+use Rattle.trips_isa.specs.inside.Acts.{is_clean}
 use Rattle.trips_isa.specs.Tables.{IsRanked}
 use Rattle.trips_isa.specs.Places.{nodes_of, inst_nodes, inst_node, read_node}
 use Rattle.trips_isa.specs.Stores.{data_size}
 use Rattle.block_cases.specs.Cases.{cases}
 use Rattle.block_cases.specs.Good.{GoodBlock}
-use Rattle.grid_place.specs.Moves.{IsMoved, renamed_inst}
+use Rattle.grid_place.specs.inside.Moves.{IsMoved, renamed_inst}
 use Rattle.grid_place.proofs.Alike.{same_plain}
 use Rattle.grid_place.proofs.StillClean.{still_clean}
 use Rattle.grid_place.proofs.StillFits.{still_fits}
@@ -46,13 +46,14 @@ use Rattle.grid_place.proofs.StillInOrder.{still_good}
 use Rattle.std.proofs.lemmas.List.{length-map}
 use Rattle.std.specs.List.{All}
 use Rattle.fan_out.proofs.Writing.{writes_same}
-use Rattle.c_compile_layout.specs.Linking.{Resolves, resolved_node, resolved, resolved_slot, resolved_block}
-use Rattle.c_compile_layout.specs.Linking.{by_offset, by_address, by_both, linked_from}
-use Rattle.c_compile_layout.specs.Layouts.{laid_out, linked, AreFew}
-use Rattle.c_compile_layout.specs.Joint.{CleanAsFlow, IsMade, AreMade}
-use Rattle.c_compile_layout.specs.Emitted.{IsEmitted, AreEmitted, IsGoodImage, image_of}
-use Rattle.c_compile_layout.specs.Emitted.{ImageMeans, ImageMeansPlainly, NeverTraps}
-use Rattle.c_compile_layout.specs.Standings.{standing_by, standing_of, trimmed}
+use Rattle.c_compile_layout.specs.inside.Linking.{Resolves, resolved_node, resolved, resolved_slot, resolved_block}
+use Rattle.c_compile_layout.specs.inside.Linking.{by_offset, by_address, by_both, linked_from}
+use Rattle.c_compile_layout.specs.inside.Layouts.{laid_out, linked, AreFew}
+use Rattle.c_compile_layout.specs.inside.Joint.{CleanAsFlow, IsMade, AreMade}
+use Rattle.c_compile_layout.specs.Emitted.{IsGoodImage}
+use Rattle.c_compile_layout.specs.inside.Emitted.{IsEmitted, AreEmitted, image_of}
+use Rattle.c_compile_layout.specs.inside.Emitted.{ImageMeans, ImageMeansPlainly, NeverTraps}
+use Rattle.c_compile_layout.specs.inside.Standings.{standing_by, standing_of, trimmed}
 use Rattle.trips_isa.specs.Machine.{State, runs, start}
 use Rattle.c_compile_layout.proofs.Regularity.{regular_resolved}
 use Rattle.c_compile_layout.proofs.Fields.{forms_fit, labels_named}

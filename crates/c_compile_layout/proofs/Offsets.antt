@@ -20,11 +20,11 @@ use Rattle.trips_isa.specs.Blocks.{form_computes}
 use Rattle.trips_isa.specs.Stores.{bytes_seen}
 use Rattle.ir_forms.specs.declared.flow.FlowNode.{FlowNode}
 use Rattle.ir_forms.specs.declared.flow.FlowBlock.{FlowBlock}
-use Rattle.ir_forms.specs.FlowRuns.{first, sense_of, guard_token, inst_of, gives, Obeys}
-use Rattle.ir_forms.specs.FlowRuns.{stored_in, stores, meant, met, AtStart, leaving_in, exits}
-use Rattle.ir_forms.specs.FlowRuns.{act_tokens, fired}
-use Rattle.trips_isa.specs.Acts.{Act}
-use Rattle.c_compile_layout.specs.Linking.{resolved_node, resolved, resolved_inst, by_offset}
+use Rattle.ir_forms.specs.inside.FlowRuns.{first, sense_of, guard_token, inst_of, gives, Obeys}
+use Rattle.ir_forms.specs.inside.FlowRuns.{stored_in, stores, meant, met, AtStart, leaving_in, exits}
+use Rattle.ir_forms.specs.inside.FlowRuns.{act_tokens, fired}
+use Rattle.trips_isa.specs.inside.Acts.{Act}
+use Rattle.c_compile_layout.specs.inside.Linking.{resolved_node, resolved, resolved_inst, by_offset}
 
 module _ (chunk : ℕ → ℕ) (k : ℕ) where
   abbrev pub moved : FlowNode → FlowNode

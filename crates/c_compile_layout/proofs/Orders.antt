@@ -5,8 +5,8 @@ use Rattle.std.proofs.lemmas.Option.{slice_get-map}
 use Rattle.trips_isa.specs.Forms.{form_of}
 use Rattle.ir_forms.specs.declared.flow.FlowNode.{FlowNode}
 use Rattle.ir_forms.specs.declared.flow.FlowBlock.{FlowBlock}
-use Rattle.ir_forms.specs.FlowFits.{HasOrder, Rises}
-use Rattle.c_compile_layout.specs.Linking.{Resolves, resolved_node, resolved}
+use Rattle.ir_forms.specs.inside.FlowFits.{HasOrder, Rises}
+use Rattle.c_compile_layout.specs.inside.Linking.{Resolves, resolved_node, resolved}
 use Rattle.c_compile_layout.proofs.Regularity.{was}
 
 rises_back : (r : Resolves) (rank : ℕ → ℕ) (k : ℕ) (n : FlowNode) → Rises rank k (resolved_node r n)

@@ -8,10 +8,10 @@ use Rattle.ir_forms.specs.declared.flow.FlowSource.TheVariants.{Read, Node}
 use Rattle.ir_forms.specs.declared.flow.FlowNode.{FlowNode}
 use Rattle.ir_forms.specs.declared.flow.FlowBlock.{FlowBlock}
 use Rattle.ir_forms.specs.declared.flow.FlowSource.{FlowSource}
-use Rattle.ir_forms.specs.FlowRegular.{guards_by, is_among, is_named, is_silent, nodes_name}
-use Rattle.ir_forms.specs.FlowRegular.{writes_name, IsRegular, TakesOnly}
-use Rattle.ir_forms.specs.FlowFits.{in_mask}
-use Rattle.c_compile_layout.specs.Linking.{Resolves, resolved_node, resolved}
+use Rattle.ir_forms.specs.inside.FlowRegular.{guards_by, is_among, is_named, is_silent, nodes_name}
+use Rattle.ir_forms.specs.inside.FlowRegular.{writes_name, IsRegular, TakesOnly}
+use Rattle.ir_forms.specs.inside.FlowFits.{in_mask}
+use Rattle.c_compile_layout.specs.inside.Linking.{Resolves, resolved_node, resolved}
 
 -- a node of the resolved block is a resolved node of the block
 pub record Was (r : Resolves) (ns : List FlowNode) (j : ℕ) (n : FlowNode) : Type 0 where

@@ -4,7 +4,7 @@ use Rattle.trips_isa.specs.declared.block.Block.{Block}
 use Rattle.trips_isa.specs.declared.run.Stepped.{Stepped}
 use Rattle.trips_isa.specs.declared.run.Stepped.TheVariants.{Went, Ended, StackFull, Trap}
 use Rattle.trips_isa.specs.Machine.{State, step_of, goes_on, runs}
-use Rattle.block_cases.specs.Plain.{plain_step, plain_on, plain_runs}
+use Rattle.block_cases.specs.inside.Plain.{plain_step, plain_on, plain_runs}
 
 -- a run of some steps, and one step
 abbrev pub Steps : Type 0

@@ -8,10 +8,10 @@ use Rattle.trips_isa.specs.declared.block.ReadSlot.{ReadSlot}
 use Rattle.ir_forms.specs.declared.flow.FlowBlock.{FlowBlock}
 use Rattle.fan_out.specs.declared.wiring.Placed.{Placed}
 use Rattle.fan_out.specs.declared.wiring.Wire.{Wire}
-use Rattle.fan_out.specs.Targeted.{fan_of_read, filled, read_slots, register_of, slot_of, slots}
-use Rattle.fan_out.specs.Targeted.{HasRoom, IsTargeted}
-use Rattle.fan_out.specs.Wires.{wires}
-use Rattle.grid_place.specs.Moves.{HasSizes}
+use Rattle.fan_out.specs.inside.Targeted.{fan_of_read, filled, read_slots, register_of, slot_of, slots}
+use Rattle.fan_out.specs.inside.Targeted.{HasRoom, IsTargeted}
+use Rattle.fan_out.specs.inside.Wires.{wires}
+use Rattle.grid_place.specs.inside.Moves.{HasSizes}
 
 filled_size : (ps : List Placed) → length ps ≤ 128 → length (filled ps) ≡ 128
 filled_size ps l =

@@ -4,8 +4,8 @@ use Rattle.std.specs.Prelude.{pos, negsuc}
 use Rattle.std.proofs.Math.Nat.{mod-eq_of_lt, mod-add-div'}
 use Rattle.trips_isa.specs.declared.op.Op.TheVariants as op
 use Rattle.trips_isa.specs.Alu.{alu_of, word}
-use Rattle.c_compile_layout.specs.Linking.{offset, by_offset, by_address}
-use Rattle.c_compile_layout.specs.Standings.{trimmed}
+use Rattle.c_compile_layout.specs.inside.Linking.{offset, by_offset, by_address}
+use Rattle.c_compile_layout.specs.inside.Standings.{trimmed}
 
 pub three_back : offset 5 2 ≡ negsuc 2
 three_back = refl

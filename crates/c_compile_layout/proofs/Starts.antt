@@ -20,10 +20,10 @@ use Rattle.ir_forms.specs.declared.flow.FlowSource.TheVariants.{Read, Node}
 use Rattle.ir_forms.specs.declared.flow.Guard.{Guard}
 use Rattle.ir_forms.specs.declared.flow.FlowNode.{FlowNode}
 use Rattle.ir_forms.specs.declared.flow.FlowBlock.{FlowBlock}
-use Rattle.ir_forms.specs.FlowRuns.{got, first, sense_of, guard_token, inst_of, gives, met, Obeys}
-use Rattle.ir_forms.specs.FlowRuns.{stored_where, stored_in, stores, meant, AtStart}
-use Rattle.ir_forms.specs.FlowFits.{RisesFrom, RisesFromGuard, Rises, HasOrder, FitsFlow}
-use Rattle.c_compile_layout.specs.Joint.{HasStarts}
+use Rattle.ir_forms.specs.inside.FlowRuns.{got, first, sense_of, guard_token, inst_of, gives, met, Obeys}
+use Rattle.ir_forms.specs.inside.FlowRuns.{stored_where, stored_in, stores, meant, AtStart}
+use Rattle.ir_forms.specs.inside.FlowFits.{RisesFrom, RisesFromGuard, Rises, HasOrder, FitsFlow}
+use Rattle.c_compile_layout.specs.inside.Joint.{HasStarts}
 
 -- two tables that agree below a rank
 abbrev Agree : (ℕ → ℕ) → ℕ → (ℕ → Answer) → (ℕ → Answer) → Type 0

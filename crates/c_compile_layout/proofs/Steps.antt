@@ -20,30 +20,30 @@ use Rattle.trips_isa.specs.Outcomes.{to_following, all_stores}
 use Rattle.trips_isa.specs.Outcomes as outcomes
 use Rattle.trips_isa.specs.Rule.{Answer}
 use Rattle.trips_isa.specs.Stores.{store_all}
-use Rattle.trips_isa.specs.Acts.{is_clean, IsClean}
+use Rattle.trips_isa.specs.inside.Acts.{is_clean, IsClean}
 use Rattle.trips_isa.specs.Blocks.{token_of}
 use Rattle.trips_isa.specs.Tables.{deepest}
-use Rattle.block_cases.specs.Plain.{plain_in, plain_step, cause_in, next_cause}
+use Rattle.block_cases.specs.inside.Plain.{plain_in, plain_step, cause_in, next_cause}
 use Rattle.block_cases.proofs.CleanLemmas.{clean_no_cause, clean_whole}
 use Rattle.block_cases.proofs.Traps.{plain_steps}
 use Rattle.ir_forms.specs.declared.hyper.Exit.{Exit}
 use Rattle.ir_forms.specs.declared.hyper.Exit.TheVariants as exit
 use Rattle.ir_forms.specs.declared.flow.FlowBlock.{FlowBlock}
 use Rattle.ir_forms.specs.declared.flow.FlowNode.{FlowNode}
-use Rattle.ir_forms.specs.FlowRuns.{AtStart, written, stores, stored_all, fired}
-use Rattle.ir_forms.specs.HyperCode.{Items, Done, Set, Load, Save, If, Tail, Leave, Test}
-use Rattle.ir_forms.specs.HyperCode as hyper
-use Rattle.ir_forms.specs.HyperRuns.{Machine, Layout, after_items, after_block, acts, exit_of, leaving}
-use Rattle.ir_forms.specs.HyperRuns.{next_label, is_system, pick, value_of}
-use Rattle.ir_forms.specs.HyperFits.{LeadsOn, AllLeadOn}
-use Rattle.ir_forms.specs.HyperWords.{HasWords}
-use Rattle.ir_forms.specs.Agreement.{Comes, IsExit}
-use Rattle.fan_out.specs.Targeted.{register_of}
-use Rattle.fan_out.specs.Means.{write_tokens, head_of, flow_outcome}
-use Rattle.fan_out.specs.Means as means
-use Rattle.c_compile_layout.specs.Linking.{resolved, by_offset}
-use Rattle.c_compile_layout.specs.Layouts.{laid_out, AreFew}
-use Rattle.c_compile_layout.specs.Joint.{IsMade, AreMade, Same}
+use Rattle.ir_forms.specs.inside.FlowRuns.{AtStart, written, stores, stored_all, fired}
+use Rattle.ir_forms.specs.inside.HyperCode.{Items, Done, Set, Load, Save, If, Tail, Leave, Test}
+use Rattle.ir_forms.specs.inside.HyperCode as hyper
+use Rattle.ir_forms.specs.inside.HyperRuns.{Machine, Layout, after_items, after_block, acts, exit_of, leaving}
+use Rattle.ir_forms.specs.inside.HyperRuns.{next_label, is_system, pick, value_of}
+use Rattle.ir_forms.specs.inside.HyperFits.{LeadsOn, AllLeadOn}
+use Rattle.ir_forms.specs.inside.HyperWords.{HasWords}
+use Rattle.ir_forms.specs.inside.Agreement.{Comes, IsExit}
+use Rattle.fan_out.specs.inside.Targeted.{register_of}
+use Rattle.fan_out.specs.inside.Means.{write_tokens, head_of, flow_outcome}
+use Rattle.fan_out.specs.inside.Means as means
+use Rattle.c_compile_layout.specs.inside.Linking.{resolved, by_offset}
+use Rattle.c_compile_layout.specs.inside.Layouts.{laid_out, AreFew}
+use Rattle.c_compile_layout.specs.inside.Joint.{IsMade, AreMade, Same}
 use Rattle.c_compile_layout.proofs.Faithful.{offset_leads, address_within}
 use Rattle.c_compile_layout.proofs.Offsets.{start_same, stores_same, exits_same, fired_same, moved_exit}
 

@@ -2,7 +2,7 @@
 use Rattle.std.proofs.Common.{◌≡◌, ◌≢◌, ℕ, zero, suc, ◌+◌, ◌<◌, List, [], ◌∷◌, ◌++◌, length, take, refl}
 use Rattle.std.proofs.Common.{sym, ap, ◌∙◌, arith}
 use Rattle.std.specs.Prelude.{slice_index}
-use Rattle.c_compile_layout.specs.Standings.{kept_before, trimmed}
+use Rattle.c_compile_layout.specs.inside.Standings.{kept_before, trimmed}
 
 zero_goes : (xs : List ℕ) → trimmed (xs ++ 0 ∷ []) ≡ trimmed xs
 zero_goes [] = refl

@@ -9,19 +9,19 @@ use Rattle.trips_isa.specs.declared.block.Block.{Block}
 use Rattle.trips_isa.specs.declared.run.Stepped.{Stepped}
 use Rattle.trips_isa.specs.Images.{last_byte}
 use Rattle.trips_isa.specs.Machine.{State, memory_of, start, runs}
-use Rattle.block_cases.specs.Plain.{plain_runs}
+use Rattle.block_cases.specs.inside.Plain.{plain_runs}
 use Rattle.trips_isa.specs.Stores.{data_size}
-use Rattle.ir_forms.specs.HyperCode as hyper
-use Rattle.ir_forms.specs.HyperRuns.{Machine, Layout, Standing, Running, Ended, Full, Unclean, IsUnclean}
-use Rattle.ir_forms.specs.HyperRuns.{after_items, exit_of, leaving, next_label, is_system, with_next}
-use Rattle.ir_forms.specs.HyperRuns.{system, block_at, leave, run, hyper_run}
-use Rattle.ir_forms.specs.HyperRuns as hypers
-use Rattle.c_compile_layout.specs.Layouts.{laid_out}
-use Rattle.ir_forms.specs.HyperWords.{AreBytes}
-use Rattle.ir_forms.specs.Laws.{StandsAs}
-use Rattle.c_compile_layout.specs.Joint.{AreMade, StandsIn}
-use Rattle.c_compile_layout.specs.Standings.{standing_by, standing_of, kept_before, trimmed}
-use Rattle.c_compile_layout.specs.Standings.{MeansTheSame, MeansPlainly}
+use Rattle.ir_forms.specs.inside.HyperCode as hyper
+use Rattle.ir_forms.specs.inside.HyperRuns.{Machine, Layout, Standing, Running, Ended, Full, Unclean, IsUnclean}
+use Rattle.ir_forms.specs.inside.HyperRuns.{after_items, exit_of, leaving, next_label, is_system, with_next}
+use Rattle.ir_forms.specs.inside.HyperRuns.{system, block_at, leave, run, hyper_run}
+use Rattle.ir_forms.specs.inside.HyperRuns as hypers
+use Rattle.c_compile_layout.specs.inside.Layouts.{laid_out}
+use Rattle.ir_forms.specs.inside.HyperWords.{AreBytes}
+use Rattle.ir_forms.specs.inside.Laws.{StandsAs}
+use Rattle.c_compile_layout.specs.inside.Joint.{AreMade, StandsIn}
+use Rattle.c_compile_layout.specs.inside.Standings.{standing_by, standing_of, kept_before, trimmed}
+use Rattle.c_compile_layout.specs.inside.Standings.{MeansTheSame, MeansPlainly}
 use Rattle.c_compile_layout.proofs.ImageRuns.{does_plainly, does_the_same}
 
 c-cond : (b : Bool) (p q : Standing) → (IsUnclean p → ⊥) → (IsUnclean q → ⊥)

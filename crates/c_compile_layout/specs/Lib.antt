@@ -1,5 +1,2 @@
-pub mod Linking
-pub mod Layouts
-pub mod Joint
-pub mod Standings
 pub mod Emitted
+pub mod inside

@@ -1,9 +1,9 @@
 //! The image of a program: its blocks with their labels resolved, and its data without the zeros at the
 //! end.
 ghost use Rattle.std.specs.Prelude.{◌≡◌, ◌≤◌, All, length, take, IfOk};
-ghost use Rattle.c_compile_layout.specs.Emitted.{image_of};
-ghost use Rattle.c_compile_layout.specs.Layouts.{AreFew};
-ghost use Rattle.c_compile_layout.specs.Standings.{trimmed};
+ghost use Rattle.c_compile_layout.specs.inside.Emitted.{image_of};
+ghost use Rattle.c_compile_layout.specs.inside.Layouts.{AreFew};
+ghost use Rattle.c_compile_layout.specs.inside.Standings.{trimmed};
 
 use crate::link_all;
 use base::{Items, Memory};

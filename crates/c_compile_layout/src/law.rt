@@ -3,25 +3,26 @@ ghost use Rattle.std.specs.Prelude.{◌≡◌, ℕ, ◌/◌, ◌%◌, ◌^◌, �
 ghost use Rattle.std.specs.Prelude.{pos};
 ghost use Rattle.trips_isa.specs.declared.op.Op.TheVariants.{App, Genu, Mov};
 ghost use Rattle.trips_isa.specs.declared.block.Block.{Block};
-ghost use Rattle.trips_isa.specs.Acts.{is_clean, IsClean};
+ghost use Rattle.trips_isa.specs.inside.Acts.{is_clean, IsClean};
 ghost use Rattle.trips_isa.specs.Alu.{alu_of, word};
 ghost use Rattle.trips_isa.specs.Blocks.{token_of};
 ghost use Rattle.trips_isa.specs.Places.{nodes_of};
 ghost use Rattle.trips_isa.specs.Stores.{data_size};
 ghost use Rattle.trips_isa.specs.Tables.{deepest, IsRanked};
 ghost use Rattle.ir_forms.specs.declared.flow.FlowBlock.{FlowBlock};
-ghost use Rattle.ir_forms.specs.FlowFits.{FitsFlow};
-ghost use Rattle.ir_forms.specs.HyperCode.{Block as HyperBlock};
-ghost use Rattle.ir_forms.specs.HyperWords.{AreBytes, IsFaithful};
-ghost use Rattle.grid_place.specs.Moves.{HasSizes, IsMoved};
-ghost use Rattle.fan_out.specs.Means.{acts_by_slot};
-ghost use Rattle.fan_out.specs.Targeted.{HasRoom, IsTargeted};
-ghost use Rattle.c_compile_layout.specs.Emitted.{AreEmitted, ImageMeans, ImageMeansPlainly};
-ghost use Rattle.c_compile_layout.specs.Emitted.{IsGoodImage, NeverTraps, image_of, most_blocks};
-ghost use Rattle.c_compile_layout.specs.Joint.{AreMade, DoesPlainly, DoesTheSame, HasStarts};
-ghost use Rattle.c_compile_layout.specs.Layouts.{laid_out, linked, AreFew, HasPlaces};
-ghost use Rattle.c_compile_layout.specs.Standings.{MeansPlainly, MeansTheSame};
-ghost use Rattle.c_compile_layout.specs.Linking.{Resolves, resolved, resolved_block};
+ghost use Rattle.ir_forms.specs.inside.FlowFits.{FitsFlow};
+ghost use Rattle.ir_forms.specs.inside.HyperCode.{Block as HyperBlock};
+ghost use Rattle.ir_forms.specs.inside.HyperWords.{AreBytes, IsFaithful};
+ghost use Rattle.grid_place.specs.inside.Moves.{HasSizes, IsMoved};
+ghost use Rattle.fan_out.specs.inside.Means.{acts_by_slot};
+ghost use Rattle.fan_out.specs.inside.Targeted.{HasRoom, IsTargeted};
+ghost use Rattle.c_compile_layout.specs.inside.Emitted.{AreEmitted, ImageMeans, ImageMeansPlainly};
+ghost use Rattle.c_compile_layout.specs.Emitted.{IsGoodImage};
+ghost use Rattle.c_compile_layout.specs.inside.Emitted.{NeverTraps, image_of, most_blocks};
+ghost use Rattle.c_compile_layout.specs.inside.Joint.{AreMade, DoesPlainly, DoesTheSame, HasStarts};
+ghost use Rattle.c_compile_layout.specs.inside.Layouts.{laid_out, linked, AreFew, HasPlaces};
+ghost use Rattle.c_compile_layout.specs.inside.Standings.{MeansPlainly, MeansTheSame};
+ghost use Rattle.c_compile_layout.specs.inside.Linking.{Resolves, resolved, resolved_block};
 
 /// The layout of blocks leads from each label to an address and back; an address has 32 bits and is a
 /// multiple of 128. As many blocks as an image may have of whatever size have few enough chunks.

@@ -1,11 +1,11 @@
 //! The immediates of an image's instructions, once each block stands somewhere.
 ghost use Rattle.std.specs.Prelude.{◌≡◌, ◌≤◌, All, get_or, length, map, [], ◌/◌, ◌%◌, ◌*◌};
-ghost use Rattle.c_compile_layout.specs.Linking as spec;
+ghost use Rattle.c_compile_layout.specs.inside.Linking as spec;
 ghost use Rattle.std.specs.Prelude.{OnOk, IfErr, IfOk};
 ghost use Rattle.std.specs.List.{sum_by};
 ghost use Rattle.trips_isa.specs.Images.{chunks};
 ghost use Rattle.trips_isa.specs.Limits.{most_chunks};
-ghost use Rattle.c_compile_layout.specs.Layouts.{AreFew, begins, linked};
+ghost use Rattle.c_compile_layout.specs.inside.Layouts.{AreFew, begins, linked};
 
 use arrayvec::ArrayVec;
 use std::alloc::{AllocError, Global};

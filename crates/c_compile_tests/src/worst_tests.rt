@@ -1,6 +1,6 @@
 //! Runs in which every parcel is held for three cycles, and every guess is of exit 7, or every one of exit 0.
 ghost use Rattle.std.specs.Prelude.{◌≡◌, [], IfOk};
-ghost use Rattle.grid_machine.specs.WholeRuns.{IsKept};
+ghost use Rattle.grid_machine.specs.inside.WholeRuns.{IsKept};
 ghost use Rattle.grid_parts.specs.Seen.{seen};
 
 use crate::predictors::predictor;

@@ -15,18 +15,15 @@ use Rattle.c_grammar.proofs.Numbers.{mark_is, key_is}
 
 -- ---- cases
 
--- What holds of both legs of a choice, each where the test leads to it, holds of the choice.
 pub split_if : {A : Type 0} (P : A → Type 0) (b : Bool) (x y : A) → (b ≡ true → P x)
     → (b ≡ false → P y) → P (cond b x y)
 split_if P true x y p q = p refl
 split_if P false x y p q = q refl
 
--- A choice whose test is true is its first leg.
 pub if_true : {A : Type 0} (b : Bool) (x y : A) → b ≡ true → cond b x y ≡ x
 if_true true x y e = refl
 if_true false x y e = absurd (false≢true e)
 
--- A choice whose test is false is its second leg.
 pub if_false : {A : Type 0} (b : Bool) (x y : A) → b ≡ false → cond b x y ≡ y
 if_false true x y e = absurd (false≢true (sym e))
 if_false false x y e = refl
@@ -35,7 +32,6 @@ pub is_false : (b : Bool) → (b ≡ true → ⊥) → b ≡ false
 is_false true h = absurd (h refl)
 is_false false h = refl
 
--- What is at most a number is at most each larger one.
 pub trans_le : {a b c : ℕ} → a ≤ b → b ≤ c → a ≤ c
 trans_le p q = omega arith
 
@@ -49,7 +45,6 @@ or_right false b e = e
 
 -- ---- first tokens
 
--- A punctuator that is found to be next stands at the front.
 pub next_is : (k : Mark) (ts : Tokens) → is_next k ts ≡ true → ts ≡ punct (line_of ts) k ∷ tail ts
 next_is k [] e = absurd (false≢true e)
 next_is k (t ∷ ts) e = ap (λ (f : Form). token t.line f ∷ ts) (mark_is k t.form e)
@@ -74,7 +69,6 @@ pub record Way (put : Tokens → Tokens) : Type 0 where
   pub front : Tokens
   pub law : (x : Tokens) → put x ≡ front ++ x
 
--- Putting nothing before tokens is a way.
 pub stay : Way (λ x. x)
 stay = record { front = []; law = λ x. refl }
 
@@ -145,7 +139,6 @@ module _ (cut : Bool) (g g' : Tokens) where
   head_step P (at_cut t c) p q = q c
   head_step P (alike t x) p q = p _ x
 
-  -- Tied lists of tokens have the same first token, as far as a test of its form sees.
   pub tied_first : (p : Form → Bool) {ts ts' : Tokens} → Tied ts ts' → first p ts ≡ first p ts'
   tied_first p (end c) = refl
   tied_first p (at_cut t c) = refl
@@ -155,7 +148,6 @@ module _ (cut : Bool) (g g' : Tokens) where
   pub record Brief {A : Type 0} (out : Out A) : Type 0 where
     pub le : length (place out) ≤ length g
 
-  -- An answer is brief where what is left is no longer than the shared rest.
   pub fine : {A : Type 0} {x : A} {r : Tokens} → length r ≤ length g → Brief (Ok (x, r))
   fine l = record { le = l }
 
@@ -185,7 +177,6 @@ module _ (cut : Bool) (g g' : Tokens) where
       deep : (q q' : Tokens) (d : ℕ) → Tied q q' → out ≡ too_deep q → may q' d ≡ true
           → leb d m ≡ false → Lands out want to'
 
-    -- What lands by an answer lands by each equal one.
     pub lands_by : {A : Type 0} {out out' : Out A} {want : Tokens → Out A} {to' : Tokens}
         → out ≡ out' → Lands out' want to' → Lands out want to'
     lands_by e (good to t e') = good to t (e ∙ e')

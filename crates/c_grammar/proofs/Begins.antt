@@ -215,7 +215,6 @@ abbrev pub Takes : Phrase → Tokens → Tokens → Type 0
 Takes (shape s) f t = length t ≤ length f
 Takes _ f t = length t < length f
 
--- A phrase takes at least one token, what stands behind a local's name maybe none.
 pub writes_shorter : {may : May} {p : Phrase} {d : ℕ} {f t : Tokens} → Writes may p d f t
     → Takes p f t
 writes_shorter (absent c) = omega arith

@@ -40,7 +40,6 @@ zero_expr = at 0 (node.Number 0 kind.Int)
 abbrev pub zero_first : Tokens → Tokens
 zero_first t = zero_token ∷ t
 
--- A zero alone spells an expression of each level.
 pub shortest : {may : May} {d : ℕ} {t : Tokens} → (n : ℕ)
     → Spells may (expr n zero_expr) d (zero_token ∷ t) t
 shortest zero = number
@@ -52,7 +51,6 @@ as_conditional x = up (up (up (up (up (up (up (up (up (up (up (up x)))))))))))
 
 -- ---- first tokens
 
--- Tokens that spell an expression begin as expressions do.
 pub level_starts : {may : May} {n d : ℕ} {e : Expr} {f t : Tokens} → Spells may (expr n e) d f t
     → first begins_expression f ≡ true
 level_starts number = refl
@@ -77,7 +75,6 @@ pub list_starts : {may : May} {d : ℕ} {es : List Expr} {f t : Tokens}
 list_starts (last x) = level_starts x
 list_starts (next x y) = level_starts x
 
--- Where an expression begins, no punctuator stands with which none begins.
 pub starts_no_mark : (k : Mark) → begins_expression (form.Mark k) ≡ false → (ts : Tokens)
     → first begins_expression ts ≡ true → is_next k ts ≡ false
 starts_no_mark k no' ts e = apart begins_expression (is_mark k)
@@ -184,7 +181,6 @@ unary_only (up x) h = unary_only x h
 
 -- ---- lengths
 
--- What is left behind a phrase is shorter.
 pub spells_shorter : {may : May} {p : Phrase} {d : ℕ} {f t : Tokens} → Spells may p d f t
     → length t < length f
 spells_shorter number = omega arith

@@ -132,19 +132,16 @@ same_mark k m e = sym (mark_at m) ∙ ap (pick mark.LeftParen marks) (sym e) ∙
 same_key : (k m : Key) → key_number k ≡ key_number m → m ≡ k
 same_key k m e = sym (key_at m) ∙ ap (pick key.Auto keys) (sym e) ∙ key_at k
 
--- A form that is found to be a punctuator is that punctuator.
 pub mark_is : (k : Mark) (f : Form) → is_mark k f ≡ true → f ≡ form.Mark k
 mark_is k (form.Mark m) e = ap (λ (m : Mark). form.Mark m)
     (same_mark k m (eqb-true (mark_number k) (mark_number m) e))
 mark_is k _ e = absurd (false≢true e)
 
--- A form that is found to be a keyword is that keyword.
 pub key_is : (k : Key) (f : Form) → is_key k f ≡ true → f ≡ form.Key k
 key_is k (form.Key m) e = ap (λ (m : Key). form.Key m)
     (same_key k m (eqb-true (key_number k) (key_number m) e))
 key_is k _ e = absurd (false≢true e)
 
--- A punctuator is found to be itself.
 pub mark_self : (k : Mark) → is_mark k (form.Mark k) ≡ true
 mark_self k = eq-eqb (mark_number k) (mark_number k) refl
 

@@ -78,7 +78,6 @@ pub record Piece {X A : Type 0} (tree : X → A) (R : Rel X) (Given : Tokens →
   pub complete : Complete tree R Ends m run
 
 module _ {X A : Type 0} (tree : X → A) (R : Rel X) (Kept : X → Tokens → Type 0) (m : ℕ) where
-  -- A sound answer stands at no more tokens than there were.
   pub sound_short : (ts : Tokens) (out : Out A) → Sound tree R Kept m ts out
       → length (place out) ≤ length ts
   sound_short ts _ (read x t a k) = behind a.put a.way ts t a.is
@@ -235,7 +234,6 @@ done tree v m kept =
           (subst (λ (u : Tokens). Tied cut g g' f u) r.1 tied) (ap (λ y. Ok (tree y, f)) r.0);
     }
 
--- What holds of a thing and the tokens behind it holds of equal ones.
 pub ends_with : {X : Type 0} (P : X → Tokens → Type 0) {v y : X} {u t : Tokens} → P v u
     → (v ≡ y) × (u ≡ t) → P y t
 ends_with P {v = v} {y = y} {u = u} {t = t} p e = subst (λ t. P y t) e.1 (subst (λ y. P y u) e.0 p)
@@ -368,7 +366,6 @@ either_of p a b is_this is_that = either p (λ ts h e. a.sound ts tt) a.complete
 abbrev pub Is : Mark → Rel ℕ
 Is k may l f t = f ≡ punct l k ∷ t
 
--- A punctuator is read where it stands, and where none stands the fault is there.
 pub mark_piece : (k : Mark) (m : ℕ) → Piece same_tree (Is k) any always always
     (λ t. punct 0 k ∷ t) m (expect k)
 mark_piece k m =
@@ -406,7 +403,6 @@ mark_piece k m =
 abbrev pub IsWord : Key → Rel ℕ
 IsWord k may l f t = f ≡ word l k ∷ t
 
--- A keyword is read where it stands, and where none stands the fault is there.
 pub word_piece : (k : Key) (m : ℕ) → Piece same_tree (IsWord k) any always always
     (λ t. word 0 k ∷ t) m (expect_keyword k)
 word_piece k m =
@@ -447,7 +443,6 @@ Named may n f t = f ≡ named n.0 n.1 ∷ t
 abbrev pub name_first : Tokens → Tokens
 name_first t = named 0 (120 ∷ []) ∷ t
 
--- A name is read where one stands, and where none stands the fault is there.
 pub name_piece : (m : ℕ) → Piece same_tree Named any always always name_first m name_of
 name_piece m =
     record {

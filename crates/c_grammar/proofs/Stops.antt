@@ -67,7 +67,6 @@ abbrev pub Stops : ℕ → Tokens → Type 0
 Stops n [] = Unit {0}
 Stops n (t ∷ ts) = n < bind t.form
 
--- Tokens that stop a level stop each lower one.
 pub lower : (n n' : ℕ) (ts : Tokens) → n ≤ n' → Stops n' ts → Stops n ts
 lower n n' [] le s = tt
 lower n n' (t ∷ ts) le s = omega (arith, le, s)
@@ -91,14 +90,12 @@ tied_stops n (end c) s = s
 tied_stops n (at_cut t c) s = s
 tied_stops n (alike t x) s = s
 
--- Tokens that stop a level do not begin with a punctuator that binds at it or below.
 pub not_next : (x : Mark) (n : ℕ) (ts : Tokens) → Stops n ts → bind (form.Mark x) ≤ n
     → is_next x ts ≡ false
 not_next x n [] s le = refl
 not_next x n (t ∷ ts) s le =
     is_false (is_mark x t.form) (λ e. let h = ap bind (mark_is x t.form e) in omega (arith, h, s, le))
 
--- Tokens stop a level that begin with a punctuator which binds above it.
 pub mark_stops : (n : ℕ) (k : Mark) → n < bind (form.Mark k) → (l : ℕ) (v u : Tokens)
     → u ≡ punct l k ∷ v → Stops n u
 mark_stops n k lt l v u e = subst (Stops n) (sym e) lt
@@ -117,7 +114,6 @@ pub seen_is : {A : Type 0} (look : Form → Option A) (k : A → Mark)
 seen_is look k h [] a e = absurd cc
 seen_is look k h (t ∷ ts) a e = ap (λ (f : Form). token t.line f ∷ ts) (h t.form a e)
 
--- A choice by what is there is its first leg where nothing is.
 pub by_none : {A B : Type 0} (o : Option A) (x : B) (f : A → B) → o ≡ None → by_option o x f ≡ x
 by_none None x f e = refl
 by_none (Some a) x f e = absurd cc
@@ -128,7 +124,6 @@ some_of x = Some x
 some_is : {A : Type 0} (x y : A) → some_of x ≡ some_of y → x ≡ y
 some_is x y e = cc
 
--- A choice by what is there is its second leg, of that, where something is.
 pub by_some : {A B : Type 0} (o : Option A) (a : A) (x : B) (f : A → B) → o ≡ Some a
     → by_option o x f ≡ f a
 by_some None a x f e = absurd cc

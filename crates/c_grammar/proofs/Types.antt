@@ -323,7 +323,6 @@ type_from may l _ _ t (unsigned_long {k = k}) =
 type_from may l _ _ t (unsigned_long_int {k = k} {j = j}) =
     is_unsigned (l, word k key.Long ∷ word j key.Int ∷ t, refl, longs given)
 
--- A type is read exactly where one is spelled.
 pub type_piece : (m : ℕ) → Piece same_tree TypeIs any always type_ends type_first m type_of
 unfolding type_of
 type_piece m =
@@ -393,7 +392,6 @@ types_shorter signed_long_int = omega arith
 types_shorter unsigned_long = omega arith
 types_shorter unsigned_long_int = omega arith
 
--- Tokens that spell a type begin as types do.
 pub types_begin : {l : ℕ} {k : Kind} {f t : Tokens} → Types l k f t → begins_type f ≡ true
 types_begin char = refl
 types_begin signed_char = refl

@@ -24,7 +24,6 @@ always o h = (λ t. h, λ g. refl)
 
 -- READING
 
--- Where there is no span there is no row.
 pub absent : (spans : List Span) (cells : List Cell) (a : ℕ) → slice_get spans a ≡ None
     → slice_get (rows spans cells) a ≡ None
 absent [] cells a h = refl

@@ -7,6 +7,7 @@ ghost use Rattle.c_type_expr.specs.Faults.{callee_fault, slots_of};
 ghost use Rattle.c_type_expr.specs.Faults as faults;
 ghost use Rattle.c_type_expr.specs.Roles.{takes_result};
 ghost use Rattle.c_type_expr.specs.Blames.{unless};
+ghost use Rattle.c_type_expr.specs.Conversions as conversions;
 ghost use Rattle.c_type_expr.specs.Trees.{name_tree, array_kind, array_place, result_kind};
 ghost use Rattle.c_type_expr.specs.Trees.{callee_of, callee_or};
 ghost use Rattle.c_type_expr.specs.inside.Says.{Says};
@@ -48,7 +49,7 @@ fn named(kind: Kind, place: Place) -> TypedExpr
 }
 
 fn end_of_file() -> TypedExpr
-    ensures { result ≡ Rattle.c_type_expr.specs.Conversions.end_of_file }
+    ensures { result ≡ conversions.end_of_file }
 {
     TypedExpr {
         kind: Some(Kind::Int),

@@ -40,11 +40,9 @@ pub not_held : (b : Bool) (f : TypeFault) → unless (not b) f ≡ None → b �
 not_held false f e = refl
 not_held true f e = absurd (cc)
 
--- A number that the test finds smaller is so.
 pub less : (n m : ℕ) → nat_lt n m ≡ true → n < m
 less n m h = grind arith
 
--- A number that the test finds at most another is so.
 pub at_most : (n m : ℕ) → nat_le n m ≡ true → n ≤ m
 at_most n m h = grind arith
 

@@ -67,7 +67,6 @@ free G w l h = fine (not (is_taken G w)) (Twice l) (ap not h)
 pub size_fine : (G : Scope) (e : Expr) (n : ℕ) → Size G e n → size_fault e G ≡ None
 size_fine G e n s = both _ _ (constant_fine G e s.0) (ap (λ o. value_fault o e.line) s.1)
 
--- A smaller number is found to be so.
 pub less : (n m : ℕ) → n < m → nat_lt n m ≡ true
 less n m h = grind arith
 

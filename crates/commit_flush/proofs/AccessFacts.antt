@@ -25,15 +25,16 @@ use Rattle.commit_flush_spec.specs.Memory.{load, load_answered, store, request, 
 use Rattle.commit_flush_spec.specs.Ends.{exit, seal, outputs, cause_held}
 use Rattle.commit_flush_spec.specs.InFlight.{Window, change, alone, flush, fetched, commit, commit_to}
 use Rattle.commit_flush_spec.specs.Window.{Event, can, done, if_done}
-use Rattle.commit_flush_spec.specs.Dropping.{left_by, none_left, store_left, stored_alone, with_resolved, exit_left}
-use Rattle.commit_flush_spec.specs.Dropping.{exited_alone, unchanged}
+use Rattle.commit_flush_spec.specs.Dropping.{left_by, none_left, store_left, with_resolved, exit_left}
+use Rattle.commit_flush_spec.specs.inside.Dropping.{stored_alone}
+use Rattle.commit_flush_spec.specs.inside.Dropping.{exited_alone, unchanged}
 use Rattle.commit_flush_spec.proofs.Lists.{blank_at}
 use Rattle.commit_flush_spec.proofs.DropFacts.{stores_drop, exits_drop, flushes_drop}
-use Rattle.reg_bank.specs.Ages.{Ages}
-use Rattle.commit_flush.specs.Places.{age_of, later}
+use Rattle.reg_bank.specs.inside.Ages.{Ages}
+use Rattle.commit_flush.specs.inside.Places.{age_of, later}
 use Rattle.frame_state.specs.declared.phase.Phase.{Phase}
-use Rattle.commit_flush.specs.Seen.{IsSound, flying}
-use Rattle.commit_flush.specs.Accesses.{AreTold, NoStores, NoLoads, Stands}
+use Rattle.commit_flush.specs.inside.Seen.{IsSound, flying}
+use Rattle.commit_flush.specs.inside.Accesses.{AreTold, NoStores, NoLoads, Stands}
 use Rattle.commit_flush.proofs.EventFacts.{Becomes}
 use Rattle.commit_flush.proofs.TryFacts.{Turns}
 

@@ -15,12 +15,12 @@ use Rattle.commit_flush_spec.specs.Dataflow.{can_read, read_seen}
 use Rattle.commit_flush_spec.specs.Window.{can, unless_over}
 use Rattle.commit_flush_spec.specs.Window as event
 use Rattle.commit_flush_spec.proofs.Frames.{not_now}
-use Rattle.commit_flush_spec.specs.Numbered.{seen_at}
-use Rattle.commit_flush.specs.Places.{later, age_of, frame_of}
+use Rattle.commit_flush_spec.specs.inside.Numbered.{seen_at}
+use Rattle.commit_flush.specs.inside.Places.{later, age_of, frame_of}
 use Rattle.commit_flush.proofs.FrameFacts.{none_asked, one_asked, no_age}
 use Rattle.trips_isa.specs.declared.block.Image.{Image}
 use Rattle.frame_state.specs.declared.phase.Phase.{Phase}
-use Rattle.frame_state.specs.Phases.{HasBlock, answered, frame_in}
+use Rattle.frame_state.specs.inside.Phases.{HasBlock, answered, frame_in}
 
 -- an event is done only while the run goes on
 pub goes_on : (o : Stepped) (h : Happened) → unless_over o h ≡ Done → h ≡ Done

@@ -10,17 +10,17 @@ use Rattle.trips_isa.specs.Rule.{Answer}
 use Rattle.block_cases.specs.Orders.{has_item, bad_write, NoneBelow}
 use Rattle.commit_flush_spec.specs.Frames.{Frame, at}
 use Rattle.commit_flush_spec.specs.Older.{Older, forwarded, over_write, through, after, after_all}
-use Rattle.commit_flush_spec.specs.Invariant.{FramesOk, AllGood}
-use Rattle.commit_flush_spec.specs.Numbered.{seen_at}
-use Rattle.reg_bank.specs.Ages as ages
-use Rattle.reg_bank.specs.Ages.{Ages, behind, listed}
+use Rattle.commit_flush_spec.specs.inside.Invariant.{FramesOk, AllGood}
+use Rattle.commit_flush_spec.specs.inside.Numbered.{seen_at}
+use Rattle.reg_bank.specs.inside.Ages as ages
+use Rattle.reg_bank.specs.inside.Ages.{Ages, behind, listed}
 use Rattle.reg_bank.specs.declared.answer.Held.{Held}
 use Rattle.reg_bank.specs.declared.answer.Held.TheVariants.{Undeclared, Waiting, Came}
 use Rattle.reg_bank.specs.declared.answer.ReadAnswer.{ReadAnswer}
-use Rattle.commit_flush.specs.Banked.{came, held_by, held, held_if, banked, word_read}
+use Rattle.commit_flush.specs.inside.Banked.{came, held_by, held, held_if, banked, word_read}
 use Rattle.commit_flush.proofs.NumberTests.{equal_is, is_equal, apart, flipped, same_suc, neither}
 use Rattle.commit_flush.proofs.NumberTests.{below, not_below, below_is, not_below_is}
-use Rattle.commit_flush.specs.Places.{later, age_of}
+use Rattle.commit_flush.specs.inside.Places.{later, age_of}
 use Rattle.commit_flush.proofs.OrderFacts.{after_more, seen_is}
 
 -- writes of different registers ------------------------------------------------------------------

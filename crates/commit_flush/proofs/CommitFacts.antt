@@ -23,32 +23,34 @@ use Rattle.trips_isa.specs.Tables.{deepest}
 use Rattle.trips_isa.specs.Stores.{data_size, listed, listed_below}
 use Rattle.trips_isa.specs.Outcomes.{Effects, all_stores, plain, writes_from, unless}
 use Rattle.trips_isa.specs.Machine.{State, Machine, apply}
-use Rattle.block_atomic.specs.Bounds.{StoreFits}
-use Rattle.block_atomic.specs.Applied.{HasTokens, IsApplied, count_in, applied_in}
+use Rattle.block_atomic.specs.inside.Bounds.{StoreFits}
+use Rattle.block_atomic.specs.inside.Applied.{HasTokens, IsApplied, count_in, applied_in}
 use Rattle.commit_flush_spec.specs.Causes.{Unsealed, Spent, Done}
 use Rattle.commit_flush_spec.specs.Frames.{Frame, Exit, at}
 use Rattle.commit_flush_spec.specs.Older.{committed, follows}
 use Rattle.commit_flush_spec.specs.Ends.{outputs, effects_with, cause_held}
 use Rattle.commit_flush_spec.specs.InFlight.{Window, is_sealed, can_commit, commit, commit_to}
-use Rattle.commit_flush_spec.specs.Numbered.{before, by_age}
-use Rattle.commit_flush_spec.specs.Invariant.{FramesOk}
+use Rattle.commit_flush_spec.specs.inside.Numbered.{before, by_age}
+use Rattle.commit_flush_spec.specs.inside.Invariant.{FramesOk}
 use Rattle.commit_flush_spec.specs.Window.{Commit, can}
 use Rattle.commit_flush_spec.proofs.Frames.{not_now}
 use Rattle.commit_flush_spec.proofs.Bytes.{FitsStored, FitsValue}
 use Rattle.commit_flush_spec.proofs.Stored.{store_fits}
 use Rattle.commit_flush_spec.proofs.Applying.{next_in}
 use Rattle.commit_flush_spec.proofs.Committing.{same_effects}
-use Rattle.reg_bank.specs.Ages.{Ages, drop_from, retire}
-use Rattle.commit_flush.specs.Places.{numbers_of, frame_of}
-use Rattle.commit_flush.specs.Kept.{AreKept}
-use Rattle.frame_state.specs.Told.{cause_in, outputs_in}
+use Rattle.reg_bank.specs.inside.Ages.{Ages, drop_from, retire}
+use Rattle.commit_flush.specs.Places.{numbers_of}
+use Rattle.commit_flush.specs.inside.Places.{frame_of}
+use Rattle.commit_flush.specs.inside.Kept.{AreKept}
+use Rattle.frame_state.specs.inside.Told.{cause_in, outputs_in}
 use Rattle.commit_flush.proofs.OrderFacts.{number_below}
 use Rattle.commit_flush.proofs.FrameFacts.{oldest, none_oldest}
 use Rattle.commit_flush.proofs.KeptFacts.{drop_kept, retire_kept, oldest_left}
 use Rattle.frame_state.specs.declared.phase.Phase.{Phase}
-use Rattle.frame_state.specs.Phases.{HasBlock, Keeps, frame_in, generation_of, slots_of}
-use Rattle.commit_flush.specs.Seen.{IsSound, Seen, window_of}
-use Rattle.commit_flush.specs.Emptied.{IsEmptied}
+use Rattle.frame_state.specs.inside.Phases.{HasBlock, Keeps, frame_in, generation_of, slots_of}
+use Rattle.commit_flush.specs.Seen.{Seen}
+use Rattle.commit_flush.specs.inside.Seen.{IsSound, window_of}
+use Rattle.commit_flush.specs.inside.Emptied.{IsEmptied}
 use Rattle.commit_flush.proofs.SeenFacts.{good, found, numbers_seen}
 use Rattle.commit_flush.proofs.PhaseFacts.{seen, read_phase}
 use Rattle.commit_flush.proofs.MoveFacts.{inside}

@@ -3,8 +3,8 @@ use Rattle.std.proofs.Common.{◌≡◌, ◌≢◌, ℕ, zero, suc, ◌+◌, ◌
 use Rattle.std.proofs.Common.{◌∷◌, length, refl, sym, ap, ap₂, ◌∙◌, arith, zero-add}
 use Rattle.commit_flush_spec.proofs.Lists.{equal_or}
 use Rattle.std.proofs.Common.{◌⊎◌, inl, inr}
-use Rattle.commit_flush_spec.specs.Laws.{AreNumbers}
-use Rattle.commit_flush.specs.Kept.{is_in}
+use Rattle.commit_flush_spec.specs.inside.Laws.{AreNumbers}
+use Rattle.commit_flush.specs.inside.Kept.{is_in}
 use Rattle.commit_flush.proofs.NumberTests.{is_equal, apart}
 
 abbrev one_if : Bool → ℕ

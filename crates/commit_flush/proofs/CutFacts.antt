@@ -9,24 +9,26 @@ use Rattle.commit_flush_spec.specs.Causes.{NoFrame, Done}
 use Rattle.commit_flush_spec.specs.Frames.{Frame}
 use Rattle.commit_flush_spec.specs.Older.{Older, committed}
 use Rattle.commit_flush_spec.specs.InFlight.{Window, change, alone}
-use Rattle.commit_flush_spec.specs.Numbered.{seen_at}
+use Rattle.commit_flush_spec.specs.inside.Numbered.{seen_at}
 use Rattle.commit_flush_spec.specs.Memory.{can_store, request}
 use Rattle.commit_flush_spec.specs.Ends.{can_exit}
-use Rattle.commit_flush_spec.specs.Dropping.{left_by, with_resolved, stored_alone, store_left, exited_alone}
+use Rattle.commit_flush_spec.specs.Dropping.{left_by, with_resolved, store_left}
+use Rattle.commit_flush_spec.specs.inside.Dropping.{stored_alone, exited_alone}
 use Rattle.commit_flush_spec.specs.Dropping.{exit_left}
 use Rattle.commit_flush_spec.specs.Window.{can}
 use Rattle.commit_flush_spec.specs.Window as event
 use Rattle.commit_flush_spec.proofs.Frames.{not_now}
 use Rattle.commit_flush_spec.proofs.DropFacts.{stores_drop, exits_drop}
-use Rattle.reg_bank.specs.Ages.{Ages, drop_from}
-use Rattle.commit_flush.specs.Places.{age_of, frame_of}
+use Rattle.reg_bank.specs.inside.Ages.{Ages, drop_from}
+use Rattle.commit_flush.specs.inside.Places.{age_of, frame_of}
 use Rattle.commit_flush.proofs.FrameFacts.{of_age}
 use Rattle.frame_state.specs.declared.phase.Phase.{Phase}
-use Rattle.frame_state.specs.Phases.{HasBlock, Keeps, changed, frame_in}
-use Rattle.frame_state.specs.Told.{block_in, leads_to}
-use Rattle.commit_flush.specs.Seen.{IsSound, Seen, window_of}
-use Rattle.commit_flush.specs.Emptied.{IsEmptied}
-use Rattle.commit_flush.specs.Left.{left_behind}
+use Rattle.frame_state.specs.inside.Phases.{HasBlock, Keeps, changed, frame_in}
+use Rattle.frame_state.specs.inside.Told.{block_in, leads_to}
+use Rattle.commit_flush.specs.Seen.{Seen}
+use Rattle.commit_flush.specs.inside.Seen.{IsSound, window_of}
+use Rattle.commit_flush.specs.inside.Emptied.{IsEmptied}
+use Rattle.commit_flush.specs.inside.Left.{left_behind}
 use Rattle.commit_flush.proofs.SeenFacts.{found}
 use Rattle.commit_flush.proofs.PhaseFacts.{seen, read_phase}
 use Rattle.commit_flush.proofs.MoveFacts.{inside, below}

@@ -17,30 +17,31 @@ use Rattle.commit_flush_spec.specs.Causes.{NoToken, Done}
 use Rattle.commit_flush_spec.specs.Frames.{Frame, at, target, is_target, token_places}
 use Rattle.commit_flush_spec.specs.Older.{Older, committed}
 use Rattle.commit_flush_spec.specs.InFlight.{Window, change}
-use Rattle.commit_flush_spec.specs.Numbered.{seen_at}
+use Rattle.commit_flush_spec.specs.inside.Numbered.{seen_at}
 use Rattle.commit_flush_spec.specs.Window.{Deliver, can}
-use Rattle.commit_flush_spec.specs.Invariant.{IsRunnable}
+use Rattle.commit_flush_spec.specs.inside.Invariant.{IsRunnable}
 use Rattle.commit_flush_spec.specs.Dataflow.{can_deliver, deliver, delivered}
 use Rattle.commit_flush_spec.proofs.Lists.{other_at, set_here}
 use Rattle.commit_flush_spec.proofs.Frames.{not_now}
 use Rattle.commit_flush_spec.proofs.Free.{all_free}
 use Rattle.commit_flush_spec.proofs.Numbers.{deliver_number}
-use Rattle.reg_bank.specs.Ages.{Ages}
+use Rattle.reg_bank.specs.inside.Ages.{Ages}
 use Rattle.reg_bank.specs.declared.answer.Held.{Held}
 use Rattle.reg_bank.specs.declared.answer.Held.TheVariants.{Waiting, Came}
-use Rattle.commit_flush.specs.Places.{age_of, frame_of, numbers_of}
-use Rattle.commit_flush.specs.Banked.{came, held, held_if, held_by}
-use Rattle.commit_flush.specs.Kept.{AreKept}
+use Rattle.commit_flush.specs.Places.{numbers_of}
+use Rattle.commit_flush.specs.inside.Places.{age_of, frame_of}
+use Rattle.commit_flush.specs.inside.Banked.{came, held, held_if, held_by}
+use Rattle.commit_flush.specs.inside.Kept.{AreKept}
 use Rattle.commit_flush.proofs.OrderFacts.{place_is}
 use Rattle.commit_flush.proofs.BankFacts.{AreOnce, writes_once, holds_same, holds_more, is_waiting}
 use Rattle.commit_flush.proofs.FrameFacts.{has_age, frame_ok, free_at, runnable}
 use Rattle.commit_flush.proofs.KeptFacts.{alone_kept, write_kept}
 use Rattle.frame_state.specs.declared.phase.Phase.{Phase}
-use Rattle.frame_state.specs.Phases.{HasBlock, Keeps, changed, frame_in, slots_of}
-use Rattle.frame_state.specs.Told.{register_to, token_in, write_at}
-use Rattle.frame_state.specs.Tried.{IsFreeIn}
-use Rattle.commit_flush.specs.Seen.{IsSound, window_of}
-use Rattle.commit_flush.specs.Tokens.{with_token, AwaitsToken}
+use Rattle.frame_state.specs.inside.Phases.{HasBlock, Keeps, changed, frame_in, slots_of}
+use Rattle.frame_state.specs.inside.Told.{register_to, token_in, write_at}
+use Rattle.frame_state.specs.inside.Tried.{IsFreeIn}
+use Rattle.commit_flush.specs.inside.Seen.{IsSound, window_of}
+use Rattle.commit_flush.specs.inside.Tokens.{with_token, AwaitsToken}
 use Rattle.commit_flush.proofs.SeenFacts.{good, found, mapped_slot, numbers_seen}
 use Rattle.commit_flush.proofs.EventFacts.{Becomes, becomes, made, running, same_generations, same_numbers}
 use Rattle.commit_flush.proofs.EventFacts.{below_eight, changed_slots, changed_frames}

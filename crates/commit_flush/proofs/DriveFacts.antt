@@ -4,15 +4,15 @@ use Rattle.trips_isa.specs.declared.run.Stepped.{Stepped}
 use Rattle.trips_isa.specs.declared.run.Stepped.TheVariants.{Went}
 use Rattle.trips_isa.specs.Machine.{runs}
 use Rattle.commit_flush_spec.specs.Window.{Window, Event, happens}
-use Rattle.commit_flush_spec.specs.Invariant.{AllGood}
-use Rattle.commit_flush_spec.specs.Laws.{WindowOk}
+use Rattle.commit_flush_spec.specs.inside.Invariant.{AllGood}
+use Rattle.commit_flush_spec.specs.inside.Laws.{WindowOk}
 use Rattle.commit_flush.specs.Seen.{Seen}
-use Rattle.commit_flush_spec.specs.NextEvent.{next_event}
-use Rattle.commit_flush_spec.specs.Work.{work}
-use Rattle.commit_flush_spec.specs.Driving.{driven}
-use Rattle.commit_flush_spec.specs.DrivingLaws.{HasGenerations}
+use Rattle.commit_flush_spec.specs.inside.NextEvent.{next_event}
+use Rattle.commit_flush_spec.specs.inside.Work.{work}
+use Rattle.commit_flush_spec.specs.inside.Driving.{driven}
+use Rattle.commit_flush_spec.specs.inside.DrivingLaws.{HasGenerations}
 use Rattle.commit_flush.specs.declared.known.Known.{Known}
-use Rattle.commit_flush.specs.Known.{IsKnown}
+use Rattle.commit_flush.specs.inside.Known.{IsKnown}
 use Rattle.commit_flush_spec.proofs.Lowered.{work_falls, may_fill, has_work}
 use Rattle.commit_flush_spec.proofs.DrivingEnds.{driven_steps, driven_rests}
 use Rattle.commit_flush_spec.proofs.Runs.{driven_runs}

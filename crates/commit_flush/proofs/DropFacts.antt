@@ -13,19 +13,20 @@ use Rattle.commit_flush_spec.specs.Causes.{Cause, Happened, Done, NotNow}
 use Rattle.commit_flush_spec.specs.Frames.{Frame, at}
 use Rattle.commit_flush_spec.specs.Older.{Older, committed, after}
 use Rattle.commit_flush_spec.specs.InFlight.{Window, on_frame, change, alone, flush}
-use Rattle.commit_flush_spec.specs.Numbered.{by_age, seen_at}
+use Rattle.commit_flush_spec.specs.inside.Numbered.{by_age, seen_at}
 use Rattle.commit_flush_spec.specs.Window.{Event, Flush, can, can_now, done}
-use Rattle.commit_flush_spec.specs.Dropping.{left_by, none_left, unchanged}
+use Rattle.commit_flush_spec.specs.Dropping.{left_by, none_left}
+use Rattle.commit_flush_spec.specs.inside.Dropping.{unchanged}
 use Rattle.commit_flush_spec.proofs.DropFacts.{flushes_drop}
-use Rattle.reg_bank.specs.Ages.{Ages, drop_from}
-use Rattle.commit_flush.specs.Places.{cleared, later, age_of}
-use Rattle.commit_flush.specs.Banked.{held}
-use Rattle.commit_flush.specs.Kept.{AreKept}
+use Rattle.reg_bank.specs.inside.Ages.{Ages, drop_from}
+use Rattle.commit_flush.specs.inside.Places.{cleared, later, age_of}
+use Rattle.commit_flush.specs.inside.Banked.{held}
+use Rattle.commit_flush.specs.inside.Kept.{AreKept}
 use Rattle.commit_flush.proofs.KeptFacts.{alone_kept, drop_kept, youngest_left, none_to_drop}
 use Rattle.frame_state.specs.declared.phase.Phase.{Phase}
-use Rattle.frame_state.specs.Phases.{HasBlock, Keeps, changed, frame_in, generation_of, number_of, slots_of}
-use Rattle.commit_flush.specs.Seen.{IsSound, window_of}
-use Rattle.commit_flush.specs.Emptied.{IsEmptied}
+use Rattle.frame_state.specs.inside.Phases.{HasBlock, Keeps, changed, frame_in, generation_of, number_of, slots_of}
+use Rattle.commit_flush.specs.inside.Seen.{IsSound, window_of}
+use Rattle.commit_flush.specs.inside.Emptied.{IsEmptied}
 use Rattle.commit_flush.proofs.SeenFacts.{mapped_at, mapped_slot, set_stays}
 use Rattle.commit_flush.proofs.EventFacts.{Becomes, becomes, made, running, same_generations, same_numbers}
 use Rattle.commit_flush.proofs.EventFacts.{below_eight, changed_slots, changed_frames}

@@ -3,13 +3,14 @@ use Rattle.std.proofs.Common.{◌≡◌, ℕ, ◌<◌, List, [], take, drop, sym
 use Rattle.trips_isa.specs.declared.block.Image.{Image}
 use Rattle.trips_isa.specs.declared.run.Stepped.{Stepped}
 use Rattle.trips_isa.specs.Machine.{Machine}
-use Rattle.reg_bank.specs.Ages.{Ages, drop_from}
-use Rattle.commit_flush.specs.Kept.{AreKept}
+use Rattle.reg_bank.specs.inside.Ages.{Ages, drop_from}
+use Rattle.commit_flush.specs.inside.Kept.{AreKept}
 use Rattle.commit_flush.proofs.KeptFacts.{drop_kept}
 use Rattle.frame_state.specs.declared.phase.Phase.{Phase}
-use Rattle.frame_state.specs.Phases.{slots_of}
-use Rattle.commit_flush.specs.Seen.{IsSound, Seen, window_of}
-use Rattle.commit_flush.specs.Emptied.{IsEmptied}
+use Rattle.frame_state.specs.inside.Phases.{slots_of}
+use Rattle.commit_flush.specs.Seen.{Seen}
+use Rattle.commit_flush.specs.inside.Seen.{IsSound, window_of}
+use Rattle.commit_flush.specs.inside.Emptied.{IsEmptied}
 use Rattle.commit_flush.proofs.PhaseFacts.{seen}
 use Rattle.commit_flush.proofs.EventFacts.{made}
 

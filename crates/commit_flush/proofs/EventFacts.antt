@@ -13,19 +13,19 @@ use Rattle.commit_flush_spec.specs.Causes.{Cause, Happened, Done, NotNow}
 use Rattle.commit_flush_spec.specs.Frames.{Frame, at}
 use Rattle.commit_flush_spec.specs.Older.{Older, committed}
 use Rattle.commit_flush_spec.specs.InFlight.{Window, on_frame, change, alone}
-use Rattle.commit_flush_spec.specs.Numbered.{by_age, seen_at}
+use Rattle.commit_flush_spec.specs.inside.Numbered.{by_age, seen_at}
 use Rattle.commit_flush_spec.specs.Window.{Event, can, can_now, done}
-use Rattle.commit_flush_spec.specs.Laws.{WindowOk}
+use Rattle.commit_flush_spec.specs.inside.Laws.{WindowOk}
 use Rattle.commit_flush_spec.proofs.Slots.{by_number}
 use Rattle.commit_flush_spec.proofs.Events.{taken}
 use Rattle.commit_flush_spec.proofs.Whole.{happens_moves}
-use Rattle.reg_bank.specs.Ages.{Ages}
-use Rattle.commit_flush.specs.Banked.{held}
-use Rattle.commit_flush.specs.Kept.{AreKept}
+use Rattle.reg_bank.specs.inside.Ages.{Ages}
+use Rattle.commit_flush.specs.inside.Banked.{held}
+use Rattle.commit_flush.specs.inside.Kept.{AreKept}
 use Rattle.commit_flush.proofs.KeptFacts.{in_order, alone_kept}
 use Rattle.frame_state.specs.declared.phase.Phase.{Phase}
-use Rattle.frame_state.specs.Phases.{HasBlock, Keeps, changed, frame_in, generation_of, number_of, slots_of}
-use Rattle.commit_flush.specs.Seen.{IsSound, eight_numbers, flying, window_of}
+use Rattle.frame_state.specs.inside.Phases.{HasBlock, Keeps, changed, frame_in, generation_of, number_of, slots_of}
+use Rattle.commit_flush.specs.inside.Seen.{IsSound, eight_numbers, flying, window_of}
 use Rattle.commit_flush.proofs.SeenFacts.{good, eight, found, mapped_at, mapped_slot, set_stays}
 use Rattle.commit_flush.proofs.AskFacts.{goes_on, there}
 

@@ -6,9 +6,9 @@ use Rattle.commit_flush_spec.specs.Frames.{Frame}
 use Rattle.commit_flush_spec.specs.Older.{Older, after, follows, successor_of}
 use Rattle.commit_flush_spec.specs.Ends.{exit_by, branch_of}
 use Rattle.commit_flush_spec.specs.Dropping.{left_by, exit_leaves, exit_left}
-use Rattle.commit_flush.specs.Places.{later, age_of}
-use Rattle.frame_state.specs.Told.{block_in, leads_to}
-use Rattle.commit_flush.specs.Left.{left_behind}
+use Rattle.commit_flush.specs.inside.Places.{later, age_of}
+use Rattle.frame_state.specs.inside.Told.{block_in, leads_to}
+use Rattle.commit_flush.specs.inside.Left.{left_behind}
 
 exit_leaves_is : (known : Option ℕ) (fs : List Frame)
     → suc (exit_leaves known fs) ≡ left_behind 0 known (block_in (slice_get fs 0)) (suc (length fs))

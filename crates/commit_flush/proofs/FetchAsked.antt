@@ -8,7 +8,7 @@ use Rattle.trips_isa.specs.declared.block.Image.{Image}
 use Rattle.commit_flush_spec.specs.Causes.{NoFrame, NoBlock, Worn, Serial, Wrong, NotNow, judged}
 use Rattle.commit_flush_spec.specs.Older.{after_all, committed, follows}
 use Rattle.commit_flush_spec.specs.InFlight.{Window, is_worn, can_fetch}
-use Rattle.commit_flush.specs.Places.{free_number}
+use Rattle.commit_flush.specs.inside.Places.{free_number}
 use Rattle.commit_flush.proofs.OrderFacts.{free_is}
 
 -- with what each test of the row comes to

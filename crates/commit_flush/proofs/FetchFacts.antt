@@ -14,23 +14,24 @@ use Rattle.trips_isa.specs.Machine.{Machine}
 use Rattle.commit_flush_spec.specs.Causes.{NoFrame, NoBlock, Worn, Done}
 use Rattle.commit_flush_spec.specs.Frames.{at, fresh}
 use Rattle.commit_flush_spec.specs.InFlight.{Window, lowest_empty, is_worn, can_fetch, fetched}
-use Rattle.commit_flush_spec.specs.Numbered.{by_age}
+use Rattle.commit_flush_spec.specs.inside.Numbered.{by_age}
 use Rattle.commit_flush_spec.specs.Window.{Fetch, can}
 use Rattle.commit_flush_spec.proofs.Lists.{blank_at}
 use Rattle.commit_flush_spec.proofs.Frames.{not_now}
 use Rattle.commit_flush_spec.proofs.Flow.{some_of}
 use Rattle.commit_flush_spec.proofs.Numbers.{lowest_is}
-use Rattle.reg_bank.specs.Ages.{Ages, declare}
-use Rattle.commit_flush.specs.Places.{free_number}
-use Rattle.commit_flush.specs.Kept.{AreKept, is_in}
+use Rattle.reg_bank.specs.inside.Ages.{Ages, declare}
+use Rattle.commit_flush.specs.inside.Places.{free_number}
+use Rattle.commit_flush.specs.inside.Kept.{AreKept, is_in}
 use Rattle.commit_flush.proofs.OrderFacts.{free_is, flies}
 use Rattle.commit_flush.proofs.BankFacts.{waits}
 use Rattle.commit_flush.proofs.CountFacts.{room_for}
 use Rattle.commit_flush.proofs.KeptFacts.{fetch_kept, youngest_more}
 use Rattle.frame_state.specs.declared.phase.Phase.{Phase}
-use Rattle.frame_state.specs.Phases.{HasBlock, IsFree, frame_in, generation_of, number_of, slots_of}
+use Rattle.frame_state.specs.inside.Phases.{HasBlock, IsFree, frame_in, generation_of, number_of, slots_of}
 use Rattle.frame_state.proofs.PhaseFacts.{may_be_filled}
-use Rattle.commit_flush.specs.Seen.{IsSound, Seen, window_of}
+use Rattle.commit_flush.specs.Seen.{Seen}
+use Rattle.commit_flush.specs.inside.Seen.{IsSound, window_of}
 use Rattle.commit_flush.proofs.SeenFacts.{good, numbers_seen, count_seen, number_is, has_block, mapped_at}
 use Rattle.commit_flush.proofs.SeenFacts.{mapped_slot, set_stays}
 use Rattle.commit_flush.proofs.PhaseFacts.{seen, read_phase}

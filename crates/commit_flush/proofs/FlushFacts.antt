@@ -15,13 +15,15 @@ use Rattle.commit_flush_spec.specs.Causes.{Done}
 use Rattle.commit_flush_spec.specs.Frames.{Frame}
 use Rattle.commit_flush_spec.specs.Older.{Older, after, committed}
 use Rattle.commit_flush_spec.specs.Memory.{request}
-use Rattle.commit_flush_spec.specs.Dropping.{with_resolved, stored_alone, exited_alone, unchanged}
+use Rattle.commit_flush_spec.specs.Dropping.{with_resolved}
+use Rattle.commit_flush_spec.specs.inside.Dropping.{stored_alone, exited_alone, unchanged}
 use Rattle.commit_flush_spec.specs.Ends.{outputs, cause_held}
 use Rattle.commit_flush_spec.specs.InFlight.{Window, alone, change, commit, commit_to, in_flight}
 use Rattle.commit_flush_spec.specs.Window.{Event, can, can_now, done, happens, if_done, plays, unless_over}
 use Rattle.commit_flush_spec.specs.Window as event
-use Rattle.commit_flush_spec.specs.Invariant.{AllGood}
-use Rattle.commit_flush_spec.specs.Laws.{AreNumbers, TakesSteps, WindowOk}
+use Rattle.commit_flush_spec.specs.inside.Invariant.{AllGood}
+use Rattle.commit_flush_spec.specs.Laws.{TakesSteps}
+use Rattle.commit_flush_spec.specs.inside.Laws.{AreNumbers, WindowOk}
 use Rattle.commit_flush_spec.proofs.DropFacts.{stores_drop, exits_drop, flushes_drop}
 use Rattle.commit_flush_spec.proofs.Events.{taken, state_stays}
 use Rattle.commit_flush_spec.proofs.Look.{or_false}

@@ -8,14 +8,15 @@ use Rattle.commit_flush_spec.specs.Causes.{Happened}
 use Rattle.commit_flush_spec.specs.Frames.{Frame, at}
 use Rattle.commit_flush_spec.specs.Older.{Older, after, after_all}
 use Rattle.commit_flush_spec.specs.InFlight.{on_frame, is_sealed}
-use Rattle.commit_flush_spec.specs.Numbered.{before, by_age, seen_at, AllThere}
-use Rattle.commit_flush_spec.specs.Invariant.{FrameOk, FramesOk, AllGood, IsRunnable}
-use Rattle.commit_flush_spec.specs.Laws.{IsFree, AllFree}
+use Rattle.commit_flush_spec.specs.inside.Numbered.{before, by_age, seen_at, AllThere}
+use Rattle.commit_flush_spec.specs.inside.Invariant.{FrameOk, FramesOk, AllGood, IsRunnable}
+use Rattle.commit_flush_spec.specs.inside.Laws.{IsFree, AllFree}
 use Rattle.commit_flush_spec.proofs.Lists.{equal_or}
 use Rattle.std.proofs.Common.{◌⊎◌, inl, inr}
-use Rattle.reg_bank.specs.Ages.{Ages}
-use Rattle.commit_flush.specs.Places.{later, numbers_of, age_of, frame_of}
-use Rattle.commit_flush.specs.Kept.{is_in, AreKept}
+use Rattle.reg_bank.specs.inside.Ages.{Ages}
+use Rattle.commit_flush.specs.Places.{numbers_of}
+use Rattle.commit_flush.specs.inside.Places.{later, age_of, frame_of}
+use Rattle.commit_flush.specs.inside.Kept.{is_in, AreKept}
 use Rattle.commit_flush.proofs.NumberTests.{equal_is, is_equal, apart}
 use Rattle.commit_flush.proofs.OrderFacts.{after_more}
 

@@ -9,7 +9,7 @@ use Rattle.commit_flush_spec.specs.Frames.{Frame, Taken, at, numbers}
 use Rattle.commit_flush_spec.specs.Older.{Older, after, after_all, covers, passes, took_touched, violated}
 use Rattle.commit_flush_spec.specs.Dropping.{untouched}
 use Rattle.base.specs.Rows.{has_bit}
-use Rattle.commit_flush.specs.Accesses.{NoStores, NoLoads, NoneStores, NoneLoads, WhereClear}
+use Rattle.commit_flush.specs.inside.Accesses.{NoStores, NoLoads, NoneStores, NoneLoads, WhereClear}
 
 -- without stores each byte is seen that is seen behind them
 unseen : (stores : ℕ → Option Stored) (mem : ℕ → ℕ) → ((n : ℕ) → stores n ≡ None) → (k a : ℕ)

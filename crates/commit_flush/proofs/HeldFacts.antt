@@ -13,8 +13,9 @@ use Rattle.commit_flush_spec.specs.Older.{Older}
 use Rattle.commit_flush_spec.specs.Dataflow.{read, read_seen, read_answered, fire, fire_form, fire_inst}
 use Rattle.commit_flush_spec.specs.Memory.{load, load_answered, request, taken_of}
 use Rattle.commit_flush_spec.specs.Ends.{seal}
-use Rattle.commit_flush_spec.specs.Dropping.{stored_alone, with_resolved, exited_alone}
-use Rattle.commit_flush.specs.Banked.{held}
+use Rattle.commit_flush_spec.specs.Dropping.{with_resolved}
+use Rattle.commit_flush_spec.specs.inside.Dropping.{stored_alone, exited_alone}
+use Rattle.commit_flush.specs.inside.Banked.{held}
 
 -- what is sent changes no register
 sent_held : (x p : ℕ) (t : Answer) (f : Frame) (r : ℕ) → held (send x p t f) r ≡ held f r

@@ -6,15 +6,15 @@ use Rattle.std.specs.List.{list_any}
 use Rattle.std.proofs.lemmas.List.{length-set}
 use Rattle.trips_isa.specs.declared.block.Token.{Token}
 use Rattle.commit_flush_spec.specs.Frames.{Frame, at}
-use Rattle.commit_flush_spec.specs.Numbered.{before, by_age, AllThere}
-use Rattle.commit_flush_spec.specs.Laws.{AreNumbers}
+use Rattle.commit_flush_spec.specs.inside.Numbered.{before, by_age, AllThere}
+use Rattle.commit_flush_spec.specs.inside.Laws.{AreNumbers}
 use Rattle.commit_flush_spec.proofs.Lists.{equal_or, other_at, set_here, given_or, none_at, still_none}
 use Rattle.commit_flush_spec.proofs.DropFacts.{take_by_age}
-use Rattle.reg_bank.specs.Ages.{Ages, listed, declare, write, drop_from, retire}
+use Rattle.reg_bank.specs.inside.Ages.{Ages, listed, declare, write, drop_from, retire}
 use Rattle.reg_bank.specs.declared.answer.Held.TheVariants.{Undeclared, Waiting, Came}
-use Rattle.commit_flush.specs.Places.{cleared}
-use Rattle.commit_flush.specs.Banked.{held, held_if, banked}
-use Rattle.commit_flush.specs.Kept.{is_in, AreKept, AreApart}
+use Rattle.commit_flush.specs.inside.Places.{cleared}
+use Rattle.commit_flush.specs.inside.Banked.{held, held_if, banked}
+use Rattle.commit_flush.specs.inside.Kept.{is_in, AreKept, AreApart}
 use Rattle.commit_flush.proofs.NumberTests.{equal_is, is_equal, apart, flipped, are_apart, neither, not_below}
 use Rattle.commit_flush.proofs.NumberTests.{not_below_is}
 use Rattle.commit_flush.proofs.OrderFacts.{slot_at, frame_at, count, by_age_append, unnamed, got_in, one_place}

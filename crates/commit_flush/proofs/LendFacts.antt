@@ -2,9 +2,9 @@
 use Rattle.std.proofs.Common.{◌≡◌, Bool, true, false, Option, Some, None, sym, ap, ◌∙◌}
 use Rattle.trips_isa.specs.declared.block.Block.{Block}
 use Rattle.commit_flush_spec.specs.Frames.{Frame}
-use Rattle.frame_state.specs.Held.{Held, as_frame, running}
-use Rattle.frame_state.specs.Phases.{IsIdle}
-use Rattle.frame_state.specs.Told.{is_sealed_in}
+use Rattle.frame_state.specs.inside.Held.{Held, as_frame, running}
+use Rattle.frame_state.specs.inside.Phases.{IsIdle}
+use Rattle.frame_state.specs.inside.Told.{is_sealed_in}
 
 pub sealed_idle : (z : Option Frame) → true ≡ is_sealed_in z → IsIdle z
 sealed_idle None e = tt

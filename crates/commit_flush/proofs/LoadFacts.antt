@@ -14,12 +14,12 @@ use Rattle.commit_flush_spec.specs.Frames.{Frame, Taken, NoBytes, Bytes, at, num
 use Rattle.commit_flush_spec.specs.Older.{Older, after, after_all}
 use Rattle.commit_flush_spec.specs.Memory.{request, taken_of, taken_word}
 use Rattle.lsq_order.specs.declared.sought.Sought.{Sought}
-use Rattle.lsq_order.specs.Reached.{FitsReach}
-use Rattle.lsq_order.specs.Taking.{taken}
+use Rattle.lsq_order.specs.inside.Reached.{FitsReach}
+use Rattle.lsq_order.specs.inside.Taking.{taken}
 use Rattle.lsq_order.proofs.TakingFacts.{seen_small}
 use Rattle.commit_flush.proofs.OrderFacts.{after_more}
-use Rattle.frame_state.specs.Changes.{IsWord, word_of}
-use Rattle.frame_state.specs.Told.{taken_by, waiting_load}
+use Rattle.frame_state.specs.inside.Changes.{IsWord, word_of}
+use Rattle.frame_state.specs.inside.Told.{taken_by, waiting_load}
 
 -- sizes ------------------------------------------------------------------------------------------
 

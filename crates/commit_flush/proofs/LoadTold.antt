@@ -4,12 +4,12 @@ use Rattle.std.proofs.Common.{slice_get, refl, sym, ap, ◌∙◌, subst, arith}
 use Rattle.trips_isa.specs.Stores.{data_size, bytes_seen}
 use Rattle.commit_flush_spec.specs.Frames.{Frame, NoBytes, Bytes, at}
 use Rattle.commit_flush_spec.specs.Older.{Older, after_all}
-use Rattle.commit_flush_spec.specs.Numbered.{seen_at}
-use Rattle.commit_flush.specs.Places.{age_of, frame_of}
+use Rattle.commit_flush_spec.specs.inside.Numbered.{seen_at}
+use Rattle.commit_flush.specs.inside.Places.{age_of, frame_of}
 use Rattle.commit_flush.proofs.FrameFacts.{of_age, no_age}
 use Rattle.commit_flush.proofs.OrderFacts.{seen_is}
-use Rattle.frame_state.specs.Changes.{IsWord}
-use Rattle.frame_state.specs.Told.{waiting_load}
+use Rattle.frame_state.specs.inside.Changes.{IsWord}
+use Rattle.frame_state.specs.inside.Told.{waiting_load}
 use Rattle.commit_flush.proofs.LoadFacts.{no_word, word_bytes, waiting_fits}
 
 -- one of the frames in flight

@@ -7,8 +7,8 @@ use Rattle.std.proofs.lemmas.Nat.Bits.{bit_at-trailing_zeros, bit_at-zero}
 use Rattle.trips_isa.specs.Rule.{Answer}
 use Rattle.base.specs.Rows.{has_bit}
 use Rattle.commit_flush_spec.specs.Frames.{at}
-use Rattle.commit_flush_spec.specs.NextEvent.{lowest, places, slots}
-use Rattle.commit_flush.specs.Bits.{IsLowestBit}
+use Rattle.commit_flush_spec.specs.inside.NextEvent.{lowest, places, slots}
+use Rattle.commit_flush.specs.inside.Bits.{IsLowestBit}
 use Rattle.commit_flush.proofs.StepFacts.{places_are, slots_are}
 use Rattle.commit_flush.proofs.SearchFacts.{behind, stops, over, none_between}
 

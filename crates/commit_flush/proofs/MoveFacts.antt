@@ -11,7 +11,7 @@ use Rattle.commit_flush_spec.specs.Causes.{Cause, NoFrame, Missing, Happened, Do
 use Rattle.commit_flush_spec.specs.Frames.{Frame}
 use Rattle.commit_flush_spec.specs.Older.{Older, committed}
 use Rattle.commit_flush_spec.specs.InFlight.{Window, on_frame}
-use Rattle.commit_flush_spec.specs.Numbered.{seen_at}
+use Rattle.commit_flush_spec.specs.inside.Numbered.{seen_at}
 use Rattle.commit_flush_spec.specs.Dataflow.{can_read, read, read_seen, read_answered, can_fire, fire}
 use Rattle.commit_flush_spec.specs.Memory.{can_load, load}
 use Rattle.commit_flush_spec.specs.Ends.{can_seal, seal, complete}
@@ -19,12 +19,13 @@ use Rattle.commit_flush_spec.specs.Window.{Event, can, can_now, done}
 use Rattle.commit_flush_spec.specs.Window as event
 use Rattle.commit_flush_spec.proofs.Frames.{not_now}
 use Rattle.commit_flush_spec.proofs.Numbers.{read_number, fire_number, load_number}
-use Rattle.reg_bank.specs.Ages.{Ages}
-use Rattle.commit_flush.specs.Places.{frame_of}
+use Rattle.reg_bank.specs.inside.Ages.{Ages}
+use Rattle.commit_flush.specs.inside.Places.{frame_of}
 use Rattle.frame_state.specs.declared.phase.Phase.{Phase}
-use Rattle.frame_state.specs.Phases.{HasBlock, Keeps, changed, frame_in}
-use Rattle.frame_state.specs.Changes.{Declares, IsWord, sealed_if}
-use Rattle.commit_flush.specs.Seen.{IsSound, Seen, window_of}
+use Rattle.frame_state.specs.inside.Phases.{HasBlock, Keeps, changed, frame_in}
+use Rattle.frame_state.specs.inside.Changes.{Declares, IsWord, sealed_if}
+use Rattle.commit_flush.specs.Seen.{Seen}
+use Rattle.commit_flush.specs.inside.Seen.{IsSound, window_of}
 use Rattle.commit_flush.proofs.SeenFacts.{found, not_found}
 use Rattle.commit_flush.proofs.PhaseFacts.{seen, read_phase}
 use Rattle.commit_flush.proofs.AskFacts.{goes_on, there}

@@ -17,17 +17,18 @@ use Rattle.commit_flush_spec.specs.Sending.{token_with}
 use Rattle.commit_flush_spec.specs.Memory.{is_request, request, with_inst, with_slot}
 use Rattle.commit_flush_spec.specs.Ends.{complete}
 use Rattle.commit_flush_spec.specs.InFlight.{Window}
-use Rattle.commit_flush_spec.specs.Invariant.{Asked}
-use Rattle.commit_flush_spec.specs.Laws.{WindowOk}
+use Rattle.commit_flush_spec.specs.inside.Invariant.{Asked}
+use Rattle.commit_flush_spec.specs.inside.Laws.{WindowOk}
 use Rattle.commit_flush_spec.specs.Older.{committed}
-use Rattle.commit_flush.specs.Places.{frame_of}
+use Rattle.commit_flush.specs.inside.Places.{frame_of}
 use Rattle.commit_flush.proofs.FrameFacts.{frame_ok, has_age}
-use Rattle.frame_state.specs.Held.{Held, running}
+use Rattle.frame_state.specs.inside.Held.{Held, running}
 use Rattle.frame_state.specs.Lacks.{least_lack}
 use Rattle.frame_state.proofs.ReadyFacts.{left_came}
-use Rattle.frame_state.specs.Phases.{IsIdle}
-use Rattle.commit_flush.specs.Observed.{address_by, address_in, is_access, is_whole_in, lack_in, token_address}
-use Rattle.commit_flush.specs.Observed.{unread_in, waits_in}
+use Rattle.frame_state.specs.inside.Phases.{IsIdle}
+use Rattle.commit_flush.specs.Observed.{is_whole_in, lack_in}
+use Rattle.commit_flush.specs.inside.Observed.{address_by, address_in, is_access, token_address}
+use Rattle.commit_flush.specs.inside.Observed.{unread_in, waits_in}
 
 -- where no frame runs ----------------------------------------------------------------------------
 

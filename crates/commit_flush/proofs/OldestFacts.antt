@@ -4,8 +4,9 @@ use Rattle.trips_isa.specs.declared.block.Block.{Block}
 use Rattle.commit_flush_spec.specs.Frames.{Frame}
 use Rattle.commit_flush_spec.specs.Older.{committed}
 use Rattle.commit_flush_spec.specs.Window.{Window}
-use Rattle.commit_flush_spec.specs.Laws.{WindowOk}
-use Rattle.commit_flush.specs.Places.{frame_of, numbers_of}
+use Rattle.commit_flush_spec.specs.inside.Laws.{WindowOk}
+use Rattle.commit_flush.specs.Places.{numbers_of}
+use Rattle.commit_flush.specs.inside.Places.{frame_of}
 use Rattle.commit_flush.proofs.FrameFacts.{frame_ok, has_age, oldest}
 use Rattle.commit_flush.proofs.PickFacts.{below_eight}
 

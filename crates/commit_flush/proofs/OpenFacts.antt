@@ -9,14 +9,14 @@ use Rattle.trips_isa.specs.declared.block.Image.{Image}
 use Rattle.trips_isa.specs.declared.run.Stepped.TheVariants.{Went}
 use Rattle.trips_isa.specs.Stores.{data_size}
 use Rattle.trips_isa.specs.Machine.{Machine}
-use Rattle.block_check.specs.Images.{IsCheckedImage}
+use Rattle.block_check.specs.inside.Images.{IsCheckedImage}
 use Rattle.commit_flush_spec.specs.Frames.{at}
 use Rattle.commit_flush_spec.specs.InFlight.{Window, opened}
-use Rattle.reg_bank.specs.Ages.{Ages, none}
+use Rattle.reg_bank.specs.inside.Ages.{Ages, none}
 use Rattle.frame_state.specs.declared.phase.Phase.{Phase}
 use Rattle.frame_state.specs.declared.phase.Phase.TheVariants.{Free, Going, Done, Away}
-use Rattle.frame_state.specs.Phases.{HasBlock, frame_in, generation_of, number_of, slots_of}
-use Rattle.commit_flush.specs.Seen.{IsSound, IsFresh, AreFresh, window_of}
+use Rattle.frame_state.specs.inside.Phases.{HasBlock, frame_in, generation_of, number_of, slots_of}
+use Rattle.commit_flush.specs.inside.Seen.{IsSound, IsFresh, AreFresh, window_of}
 
 -- one more frame of the next number
 pub one_more : (n : ℕ) (ps : List Phase) (p : Phase) → AreFresh n ps → IsFresh (n + length ps) p

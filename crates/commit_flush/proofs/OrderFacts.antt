@@ -9,11 +9,12 @@ use Rattle.std.proofs.lemmas.Bool.{cases_lt}
 use Rattle.commit_flush_spec.specs.Frames.{Frame, at}
 use Rattle.commit_flush_spec.specs.Older.{Older, after, after_all}
 use Rattle.commit_flush_spec.specs.InFlight.{in_flight, lowest_empty}
-use Rattle.commit_flush_spec.specs.Numbered.{before, by_age, seen_at, AllThere}
-use Rattle.commit_flush_spec.specs.Laws.{AreNumbers}
+use Rattle.commit_flush_spec.specs.inside.Numbered.{before, by_age, seen_at, AllThere}
+use Rattle.commit_flush_spec.specs.inside.Laws.{AreNumbers}
 use Rattle.commit_flush_spec.proofs.Lists.{equal_or, other_at, set_here}
-use Rattle.commit_flush.specs.Places.{later, place_of, numbers_of, age_of, free_number}
-use Rattle.commit_flush.specs.Kept.{is_in}
+use Rattle.commit_flush.specs.Places.{numbers_of}
+use Rattle.commit_flush.specs.inside.Places.{later, place_of, age_of, free_number}
+use Rattle.commit_flush.specs.inside.Kept.{is_in}
 use Rattle.commit_flush.proofs.NumberTests.{equal_is, is_equal, apart, flipped, neither}
 
 -- by age ----------------------------------------------------------------------------------------

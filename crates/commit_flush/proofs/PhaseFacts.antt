@@ -9,20 +9,21 @@ use Rattle.trips_isa.specs.Machine.{Machine}
 use Rattle.commit_flush_spec.specs.Frames.{Frame}
 use Rattle.commit_flush_spec.specs.Older.{Older, after_all, committed, successor_of}
 use Rattle.commit_flush_spec.specs.InFlight.{is_sealed}
-use Rattle.commit_flush_spec.specs.Invariant.{IsRunnable}
-use Rattle.reg_bank.specs.Ages as ages
-use Rattle.reg_bank.specs.Ages.{Ages}
-use Rattle.commit_flush_spec.specs.Numbered.{seen_at}
-use Rattle.commit_flush.specs.Banked.{word_read}
+use Rattle.commit_flush_spec.specs.inside.Invariant.{IsRunnable}
+use Rattle.reg_bank.specs.inside.Ages as ages
+use Rattle.reg_bank.specs.inside.Ages.{Ages}
+use Rattle.commit_flush_spec.specs.inside.Numbered.{seen_at}
+use Rattle.commit_flush.specs.inside.Banked.{word_read}
 use Rattle.commit_flush.proofs.BankFacts.{read_sees}
-use Rattle.commit_flush.specs.Places.{age_of, frame_of}
+use Rattle.commit_flush.specs.inside.Places.{age_of, frame_of}
 use Rattle.commit_flush.proofs.OrderFacts.{slot_at, frame_at, number_below}
 use Rattle.commit_flush.proofs.FrameFacts.{runnable, youngest}
 use Rattle.frame_state.specs.declared.phase.Phase.{Phase}
-use Rattle.frame_state.specs.Phases.{HasBlock, frame_in, slots_of}
-use Rattle.frame_state.specs.Told.{exit_come, is_serial_in, is_sealed_in}
-use Rattle.commit_flush.specs.Seen.{IsSound, Seen, flying, window_of}
-use Rattle.commit_flush.specs.Youngest.{IsYoungest}
+use Rattle.frame_state.specs.inside.Phases.{HasBlock, frame_in, slots_of}
+use Rattle.frame_state.specs.inside.Told.{exit_come, is_serial_in, is_sealed_in}
+use Rattle.commit_flush.specs.Seen.{Seen}
+use Rattle.commit_flush.specs.inside.Seen.{IsSound, flying, window_of}
+use Rattle.commit_flush.specs.inside.Youngest.{IsYoungest}
 use Rattle.commit_flush.proofs.SeenFacts.{good, eight, few, count_seen, found, not_found, has_block, mapped_slot}
 
 module _ {image : Image} {budget : ℕ} {machine : Machine} {over : Stepped} {phases : List Phase} {order : List ℕ}

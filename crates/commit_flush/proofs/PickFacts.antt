@@ -10,11 +10,12 @@ use Rattle.commit_flush_spec.specs.Older.{committed}
 use Rattle.commit_flush_spec.specs.Ends.{complete}
 use Rattle.commit_flush_spec.specs.Window.{Window, Event}
 use Rattle.commit_flush_spec.specs.Window as event
-use Rattle.commit_flush_spec.specs.Laws.{WindowOk, AreNumbers}
-use Rattle.commit_flush.specs.Places.{frame_of, numbers_of}
+use Rattle.commit_flush_spec.specs.inside.Laws.{WindowOk, AreNumbers}
+use Rattle.commit_flush.specs.Places.{numbers_of}
+use Rattle.commit_flush.specs.inside.Places.{frame_of}
 use Rattle.commit_flush.proofs.FrameFacts.{oldest}
-use Rattle.frame_state.specs.Phases.{IsIdle}
-use Rattle.commit_flush_spec.specs.NextEvent.{next_step, next_of_frame, next_in, while_going, next_event}
+use Rattle.frame_state.specs.inside.Phases.{IsIdle}
+use Rattle.commit_flush_spec.specs.inside.NextEvent.{next_step, next_of_frame, next_in, while_going, next_event}
 
 -- one of two ------------------------------------------------------------------------------------
 

@@ -5,9 +5,9 @@ use Rattle.trips_isa.specs.declared.run.Stepped.{Stepped}
 use Rattle.trips_isa.specs.declared.run.Stepped.TheVariants.{Went, Ended, StackFull, Trap}
 use Rattle.commit_flush_spec.specs.Older.{committed}
 use Rattle.commit_flush_spec.specs.Window.{Window}
-use Rattle.commit_flush_spec.specs.Laws.{WindowOk}
-use Rattle.commit_flush_spec.specs.Work.{oldest_left, work_while, work}
-use Rattle.commit_flush_spec.specs.DrivingLaws.{HasGenerations}
+use Rattle.commit_flush_spec.specs.inside.Laws.{WindowOk}
+use Rattle.commit_flush_spec.specs.inside.Work.{oldest_left, work_while, work}
+use Rattle.commit_flush_spec.specs.inside.DrivingLaws.{HasGenerations}
 use Rattle.commit_flush_spec.proofs.FramesSeen.{most_of}
 
 most_while : (o : Stepped) (n : ℕ) → work_while o n ≤ n

@@ -3,7 +3,7 @@ use Rattle.std.proofs.Common.{◌≡◌, ℕ, zero, suc, ◌+◌, ◌-◌, ◌<�
 use Rattle.std.proofs.Common.{refl, sym, ap, ◌∙◌, arith}
 use Rattle.trips_isa.specs.Tables.{or_else}
 use Rattle.commit_flush_spec.specs.Frames.{numbers}
-use Rattle.commit_flush_spec.specs.NextEvent.{lowest, reads, slots}
+use Rattle.commit_flush_spec.specs.inside.NextEvent.{lowest, reads, slots}
 use Rattle.commit_flush_spec.proofs.Stuck.{numbers_are}
 use Rattle.commit_flush.proofs.StepFacts.{reads_are, slots_are}
 

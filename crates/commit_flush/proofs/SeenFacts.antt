@@ -9,19 +9,20 @@ use Rattle.trips_isa.specs.declared.block.Block.{Block}
 use Rattle.trips_isa.specs.declared.block.Image.{Image}
 use Rattle.trips_isa.specs.declared.run.Stepped.{Stepped}
 use Rattle.trips_isa.specs.Machine.{Machine}
-use Rattle.block_check.specs.IsChecked.{IsChecked}
-use Rattle.block_check.specs.Images.{IsCheckedImage}
+use Rattle.block_check.specs.inside.IsChecked.{IsChecked}
+use Rattle.block_check.specs.inside.Images.{IsCheckedImage}
 use Rattle.commit_flush_spec.specs.Frames.{at}
-use Rattle.commit_flush_spec.specs.Invariant.{AllGood}
-use Rattle.commit_flush_spec.specs.Laws.{AreNumbers}
-use Rattle.reg_bank.specs.Ages.{Ages}
-use Rattle.commit_flush.specs.Places.{numbers_of, frame_of}
+use Rattle.commit_flush_spec.specs.inside.Invariant.{AllGood}
+use Rattle.commit_flush_spec.specs.inside.Laws.{AreNumbers}
+use Rattle.reg_bank.specs.inside.Ages.{Ages}
+use Rattle.commit_flush.specs.Places.{numbers_of}
+use Rattle.commit_flush.specs.inside.Places.{frame_of}
 use Rattle.commit_flush.proofs.OrderFacts.{numbers_are, count}
 use Rattle.commit_flush.proofs.CountFacts.{at_most_eight}
 use Rattle.commit_flush.proofs.FrameFacts.{stands}
 use Rattle.frame_state.specs.declared.phase.Phase.{Phase}
-use Rattle.frame_state.specs.Phases.{HasBlock, frame_in, number_of, slots_of}
-use Rattle.commit_flush.specs.Seen.{IsSound, eight_numbers, flying}
+use Rattle.frame_state.specs.inside.Phases.{HasBlock, frame_in, number_of, slots_of}
+use Rattle.commit_flush.specs.inside.Seen.{IsSound, eight_numbers, flying}
 
 -- the blocks of a checked image are good
 pub all_good : (image : Image) → IsCheckedImage image → AllGood image.blocks

@@ -15,13 +15,13 @@ use Rattle.commit_flush_spec.specs.Sending.{token_with}
 use Rattle.commit_flush_spec.specs.Older.{Older, committed}
 use Rattle.commit_flush_spec.specs.Causes.{NoFrame, NoRead, NotYet, NoInst, NotReady, NoToken, NoRequest, judged}
 use Rattle.commit_flush_spec.specs.Dataflow.{read_seen}
-use Rattle.frame_state.specs.Held.{Held, running}
-use Rattle.frame_state.specs.Shapes.{is_ready}
-use Rattle.commit_flush_spec.specs.NextEvent.{is_done, places, slots, reads}
+use Rattle.frame_state.specs.inside.Held.{Held, running}
+use Rattle.frame_state.specs.inside.Shapes.{is_ready}
+use Rattle.commit_flush_spec.specs.inside.NextEvent.{is_done, places, slots, reads}
 use Rattle.commit_flush_spec.proofs.Stuck.{numbers_are}
 use Rattle.commit_flush.specs.declared.step.Step.{Step}
 use Rattle.commit_flush.specs.declared.step.Step.TheVariants.{Token, Firing, Read, Store, Load}
-use Rattle.commit_flush.specs.Steps.{count_of, is_next}
+use Rattle.commit_flush.specs.inside.Steps.{count_of, is_next}
 
 -- how many numbers there are ----------------------------------------------------------------------
 

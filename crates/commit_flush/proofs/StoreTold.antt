@@ -16,20 +16,21 @@ use Rattle.commit_flush_spec.specs.Frames.{Frame, at, numbers}
 use Rattle.commit_flush_spec.specs.Older.{Older, committed, covers, nearest}
 use Rattle.commit_flush_spec.specs.InFlight.{Window}
 use Rattle.commit_flush_spec.specs.Memory.{can_store, is_request, request, with_inst}
-use Rattle.commit_flush_spec.specs.Numbered.{seen_at}
+use Rattle.commit_flush_spec.specs.inside.Numbered.{seen_at}
 use Rattle.commit_flush_spec.specs.Dropping.{left_by, store_left, untouched}
 use Rattle.commit_flush_spec.specs.Window.{can, can_now}
 use Rattle.commit_flush_spec.specs.Window as event
 use Rattle.commit_flush_spec.proofs.Frames.{not_now}
-use Rattle.reg_bank.specs.Ages.{Ages}
-use Rattle.lsq_order.specs.Reached.{FitsReach, narrowed}
-use Rattle.lsq_order.specs.Wrong.{Finds}
+use Rattle.reg_bank.specs.inside.Ages.{Ages}
+use Rattle.lsq_order.specs.inside.Reached.{FitsReach, narrowed}
+use Rattle.lsq_order.specs.inside.Wrong.{Finds}
 use Rattle.lsq_order.proofs.WrongFacts.{found_is, left_is}
-use Rattle.commit_flush.specs.Places.{age_of, frame_of}
+use Rattle.commit_flush.specs.inside.Places.{age_of, frame_of}
 use Rattle.commit_flush.proofs.FrameFacts.{frame_ok, of_age}
 use Rattle.frame_state.specs.declared.phase.Phase.{Phase}
-use Rattle.frame_state.specs.Told.{stored_by, waiting_store}
-use Rattle.commit_flush.specs.Seen.{IsSound, Seen, window_of}
+use Rattle.frame_state.specs.inside.Told.{stored_by, waiting_store}
+use Rattle.commit_flush.specs.Seen.{Seen}
+use Rattle.commit_flush.specs.inside.Seen.{IsSound, window_of}
 use Rattle.commit_flush.proofs.PhaseFacts.{seen}
 use Rattle.commit_flush.proofs.AskFacts.{goes_on, there}
 use Rattle.commit_flush.proofs.MoveFacts.{inside}

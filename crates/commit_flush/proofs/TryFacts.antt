@@ -12,20 +12,21 @@ use Rattle.commit_flush_spec.specs.Causes.{Cause, NoFrame, NoToken, Happened, Do
 use Rattle.commit_flush_spec.specs.Frames.{token_places}
 use Rattle.commit_flush_spec.specs.Older.{Older, committed}
 use Rattle.commit_flush_spec.specs.InFlight.{Window}
-use Rattle.commit_flush_spec.specs.Numbered.{seen_at}
+use Rattle.commit_flush_spec.specs.inside.Numbered.{seen_at}
 use Rattle.commit_flush_spec.specs.Dataflow.{can_fire, fire, can_deliver, deliver}
 use Rattle.commit_flush_spec.specs.Window.{Event, Deliver, can, can_now, unless_over, done, happens, if_done}
 use Rattle.commit_flush_spec.specs.Window as event
-use Rattle.reg_bank.specs.Ages.{Ages}
-use Rattle.commit_flush.specs.Places.{age_of, frame_of, place_of}
+use Rattle.reg_bank.specs.inside.Ages.{Ages}
+use Rattle.commit_flush.specs.inside.Places.{age_of, frame_of, place_of}
 use Rattle.commit_flush.proofs.FrameFacts.{none_asked}
 use Rattle.commit_flush.proofs.OrderFacts.{place_is}
 use Rattle.frame_state.specs.declared.phase.Phase.{Phase}
-use Rattle.frame_state.specs.Phases.{HasBlock, Keeps, answered, changed, frame_in}
-use Rattle.frame_state.specs.Told.{register_to, token_in}
-use Rattle.frame_state.specs.Tried.{Leaves, tried}
-use Rattle.commit_flush.specs.Seen.{IsSound, Seen, window_of}
-use Rattle.commit_flush.specs.Tokens.{with_token, AwaitsToken}
+use Rattle.frame_state.specs.inside.Phases.{HasBlock, Keeps, answered, changed, frame_in}
+use Rattle.frame_state.specs.inside.Told.{register_to, token_in}
+use Rattle.frame_state.specs.inside.Tried.{Leaves, tried}
+use Rattle.commit_flush.specs.Seen.{Seen}
+use Rattle.commit_flush.specs.inside.Seen.{IsSound, window_of}
+use Rattle.commit_flush.specs.inside.Tokens.{with_token, AwaitsToken}
 use Rattle.commit_flush.proofs.SeenFacts.{few, found, not_found, numbers_seen, set_stays}
 use Rattle.commit_flush.proofs.PhaseFacts.{seen, read_phase}
 use Rattle.commit_flush.proofs.AskFacts.{asked}

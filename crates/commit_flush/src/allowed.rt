@@ -7,9 +7,9 @@ ghost use Rattle.commit_flush_spec.specs.Ends.{store_came};
 ghost use Rattle.commit_flush_spec.specs.Frames.{is_target};
 ghost use Rattle.commit_flush_spec.specs.Memory.{is_request};
 ghost use Rattle.commit_flush_spec.specs.Older.{committed};
-ghost use Rattle.frame_state.specs.Held.{running};
-ghost use Rattle.commit_flush_spec.specs.NextEvent.{stores_came};
-ghost use Rattle.commit_flush.specs.Steps.{count_of, is_next};
+ghost use Rattle.frame_state.specs.inside.Held.{running};
+ghost use Rattle.commit_flush_spec.specs.inside.NextEvent.{stores_came};
+ghost use Rattle.commit_flush.specs.inside.Steps.{count_of, is_next};
 ghost use Rattle.commit_flush.specs.declared.step.Step.TheVariants as step;
 
 use crate::step::Step;

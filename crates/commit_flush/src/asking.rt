@@ -8,7 +8,7 @@ ghost use Rattle.commit_flush_spec.specs.Older.{committed};
 ghost use Rattle.commit_flush_spec.specs.InFlight.{can_commit, can_fetch, on_frame};
 ghost use Rattle.commit_flush_spec.specs.Window.{can, can_now};
 ghost use Rattle.frame_state.specs.Events.{as_event, as_happened};
-ghost use Rattle.commit_flush.specs.Places.{free_number};
+ghost use Rattle.commit_flush.specs.inside.Places.{free_number};
 
 use crate::ages::follows;
 use crate::window::Window;

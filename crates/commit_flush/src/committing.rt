@@ -4,8 +4,9 @@ ghost use Rattle.trips_isa.specs.TrapCauses.{no_mark};
 ghost use Rattle.commit_flush_spec.specs.Causes as causes;
 ghost use Rattle.commit_flush_spec.specs.Window as window;
 ghost use Rattle.commit_flush_spec.specs.Window.{can, done};
-ghost use Rattle.frame_state.specs.Told.{cause_in};
-ghost use Rattle.commit_flush.specs.Places.{frame_of, numbers_of};
+ghost use Rattle.frame_state.specs.inside.Told.{cause_in};
+ghost use Rattle.commit_flush.specs.Places.{numbers_of};
+ghost use Rattle.commit_flush.specs.inside.Places.{frame_of};
 
 use crate::bits::led_down;
 use crate::parts::flush_from;

@@ -2,8 +2,8 @@
 ghost use Rattle.std.specs.Prelude.{◌≡◌, ◌-◌, length};
 ghost use Rattle.trips_isa.specs.declared.run.Stepped.TheVariants.{Went};
 ghost use Rattle.trips_isa.specs.Machine.{runs};
-ghost use Rattle.commit_flush_spec.specs.Driving.{driven};
-ghost use Rattle.commit_flush_spec.specs.DrivingLaws.{HasGenerations};
+ghost use Rattle.commit_flush_spec.specs.inside.Driving.{driven};
+ghost use Rattle.commit_flush_spec.specs.inside.DrivingLaws.{HasGenerations};
 
 use crate::known::remember;
 use crate::next::next_with;

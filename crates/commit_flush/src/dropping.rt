@@ -3,9 +3,9 @@ ghost use Rattle.std.specs.Prelude.{◌≡◌, ◌<◌, suc, [], length, slice_g
 ghost use Rattle.commit_flush_spec.specs.Causes as causes;
 ghost use Rattle.commit_flush_spec.specs.Window as window;
 ghost use Rattle.commit_flush_spec.specs.Window.{can, done};
-ghost use Rattle.frame_state.specs.Told.{block_in, leads_to};
-ghost use Rattle.commit_flush.specs.Places.{frame_of};
-ghost use Rattle.commit_flush.specs.Left.{left_behind};
+ghost use Rattle.frame_state.specs.inside.Told.{block_in, leads_to};
+ghost use Rattle.commit_flush.specs.inside.Places.{frame_of};
+ghost use Rattle.commit_flush.specs.inside.Left.{left_behind};
 
 use crate::ages::follows;
 use crate::parts::flush_from;

@@ -1,8 +1,8 @@
 //! What driving remembers of the block that it works on.
 ghost use Rattle.std.specs.Prelude.{◌≡◌, ◌<◌, IfSome, List, Some, length, slice_get};
 ghost use Rattle.trips_isa.specs.declared.block.Block.{Block};
-ghost use Rattle.frame_state.specs.Shapes.{IsShape};
-ghost use Rattle.commit_flush.specs.Known.{IsKnown};
+ghost use Rattle.frame_state.specs.inside.Shapes.{IsShape};
+ghost use Rattle.commit_flush.specs.inside.Known.{IsKnown};
 
 use crate::window::Window;
 use block_check::CheckedImage;

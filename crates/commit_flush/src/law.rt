@@ -5,14 +5,15 @@ ghost use Rattle.trips_isa.specs.declared.block.Token.{Token};
 ghost use Rattle.trips_isa.specs.declared.block.Block.{Block};
 ghost use Rattle.commit_flush_spec.specs.Frames.{Frame, at};
 ghost use Rattle.commit_flush_spec.specs.Older.{Older};
-ghost use Rattle.commit_flush_spec.specs.Numbered.{by_age, seen_at};
-ghost use Rattle.commit_flush_spec.specs.Invariant.{AllGood, FramesOk};
-ghost use Rattle.reg_bank.specs.Ages as ages;
-ghost use Rattle.reg_bank.specs.Ages.{Ages};
+ghost use Rattle.commit_flush_spec.specs.inside.Numbered.{by_age, seen_at};
+ghost use Rattle.commit_flush_spec.specs.inside.Invariant.{AllGood, FramesOk};
+ghost use Rattle.reg_bank.specs.inside.Ages as ages;
+ghost use Rattle.reg_bank.specs.inside.Ages.{Ages};
 ghost use Rattle.reg_bank.specs.declared.answer.Held.TheVariants.{Undeclared, Waiting, Came};
-ghost use Rattle.commit_flush.specs.Places.{age_of, cleared, numbers_of};
-ghost use Rattle.commit_flush.specs.Banked.{banked, held, word_read};
-ghost use Rattle.commit_flush.specs.Kept.{AreKept, is_in};
+ghost use Rattle.commit_flush.specs.Places.{numbers_of};
+ghost use Rattle.commit_flush.specs.inside.Places.{age_of, cleared};
+ghost use Rattle.commit_flush.specs.inside.Banked.{banked, held, word_read};
+ghost use Rattle.commit_flush.specs.inside.Kept.{AreKept, is_in};
 
 /// The order has the numbers of the frames in flight, the oldest first, and is as long as they are many.
 pub fn orders_tell_ages()

@@ -1,9 +1,10 @@
 //! The frames in flight, lent to those who move the window.
 ghost use Rattle.std.specs.Prelude.{◌≡◌, MatchOption, None, Some, slice_get};
-ghost use Rattle.frame_state.specs.Held.{running};
-ghost use Rattle.frame_state.specs.Phases.{HasBlock, IsIdle, frame_in};
-ghost use Rattle.commit_flush.specs.Places.{frame_of, numbers_of};
-ghost use Rattle.commit_flush.specs.Lent.{IsLent};
+ghost use Rattle.frame_state.specs.inside.Held.{running};
+ghost use Rattle.frame_state.specs.inside.Phases.{HasBlock, IsIdle, frame_in};
+ghost use Rattle.commit_flush.specs.Places.{numbers_of};
+ghost use Rattle.commit_flush.specs.inside.Places.{frame_of};
+ghost use Rattle.commit_flush.specs.inside.Lent.{IsLent};
 
 use crate::window::Window;
 use block_check::CheckedImage;

@@ -4,11 +4,11 @@
 //! Events come in any order and with any numbers. A contract sees a [`Window`] as its image, its budget and the
 //! window of the definitions (crates/commit_flush_spec/specs); specs/Seen.antt says how. Only a commit changes the
 //! committed state. The definitions have the frames by age; the code keeps them by number, with an order of the
-//! numbers by age and banks of registers beside them (specs/Kept.antt, specs/Banked.antt), which every event leaves
-//! fitting together.
+//! numbers by age and banks of registers beside them (specs/inside/Kept.antt, specs/inside/Banked.antt), which every
+//! event leaves fitting together.
 //!
 //! [`next_event`] finds the event that is next (docs/WINDOW.md, "Driving"), [`drive`] lets one after another happen,
-//! and [`run`] tells how the run has ended (specs/Endings.antt).
+//! and [`run`] tells how the run has ended (specs/inside/Endings.antt).
 #![tactic(auto)]
 
 mod ages;

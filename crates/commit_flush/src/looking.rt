@@ -2,10 +2,10 @@
 ghost use Rattle.std.specs.Prelude.{◌≡◌, ◌<◌, ◌≤◌, ℕ, Some, slice_get};
 ghost use Rattle.commit_flush_spec.specs.Frames.{Frame};
 ghost use Rattle.commit_flush_spec.specs.Older.{committed};
-ghost use Rattle.commit_flush_spec.specs.Numbered.{seen_at};
+ghost use Rattle.commit_flush_spec.specs.inside.Numbered.{seen_at};
 ghost use Rattle.commit_flush_spec.specs.Dataflow.{read_seen};
-ghost use Rattle.commit_flush.specs.Places.{age_of, frame_of};
-ghost use Rattle.commit_flush.specs.Banked.{word_read};
+ghost use Rattle.commit_flush.specs.inside.Places.{age_of, frame_of};
+ghost use Rattle.commit_flush.specs.inside.Banked.{word_read};
 
 use crate::window::Window;
 use frame_state::read_register;

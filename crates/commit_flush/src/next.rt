@@ -6,11 +6,11 @@ ghost use Rattle.trips_isa.specs.declared.block.Block.{Block};
 ghost use Rattle.trips_isa.specs.declared.run.Stepped.TheVariants.{Went};
 ghost use Rattle.commit_flush_spec.specs.Older.{Older, committed};
 ghost use Rattle.commit_flush.specs.Places.{numbers_of};
-ghost use Rattle.frame_state.specs.Held.{running};
-ghost use Rattle.frame_state.specs.Shapes.{IsShape};
-ghost use Rattle.commit_flush_spec.specs.NextEvent as spec;
-ghost use Rattle.commit_flush.specs.Known.{IsKnown};
-ghost use Rattle.commit_flush.specs.Steps.{as_next, next_at};
+ghost use Rattle.frame_state.specs.inside.Held.{running};
+ghost use Rattle.frame_state.specs.inside.Shapes.{IsShape};
+ghost use Rattle.commit_flush_spec.specs.inside.NextEvent as spec;
+ghost use Rattle.commit_flush.specs.inside.Known.{IsKnown};
+ghost use Rattle.commit_flush.specs.inside.Steps.{as_next, next_at};
 
 use crate::known::{Known, shape_of};
 use crate::searching::lowest;

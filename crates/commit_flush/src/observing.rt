@@ -8,11 +8,13 @@ ghost use Rattle.base.specs.Rows.{has_bit};
 ghost use Rattle.commit_flush_spec.specs.Memory.{is_request, request};
 ghost use Rattle.commit_flush_spec.specs.Window as event;
 ghost use Rattle.commit_flush_spec.specs.Window.{can};
-ghost use Rattle.frame_state.specs.Held.{as_frame, running};
+ghost use Rattle.frame_state.specs.inside.Held.{as_frame, running};
 ghost use Rattle.frame_state.specs.Events as events;
-ghost use Rattle.commit_flush.specs.Places.{frame_of};
-ghost use Rattle.commit_flush.specs.Observed.{address_by, address_in, is_access, is_whole_in, lack_in};
-ghost use Rattle.commit_flush.specs.Observed.{token_address, unread_in, waits_in};
+ghost use Rattle.frame_state.specs.inside.Events as inside_events;
+ghost use Rattle.commit_flush.specs.inside.Places.{frame_of};
+ghost use Rattle.commit_flush.specs.Observed.{is_whole_in, lack_in};
+ghost use Rattle.commit_flush.specs.inside.Observed.{address_by, address_in, is_access};
+ghost use Rattle.commit_flush.specs.inside.Observed.{token_address, unread_in, waits_in};
 
 use crate::bits::{with_bit, with_wide_bit};
 use crate::window::Window;
@@ -107,7 +109,7 @@ fn address_by(held: &Body, request: Option<(u8, Inst)>) -> Option<Token>
 
 // Whether an event is done.
 fn is_done(happened: Happened) -> bool
-    ensures { result ≡ events.is_done (events.as_happened happened) }
+    ensures { result ≡ inside_events.is_done (events.as_happened happened) }
 {
     match happened {
         Happened::Done => true,
@@ -163,7 +165,7 @@ impl Window {
 
     // Whether Fire of a slot of a frame would be done.
     fn may_fire(&self, frame: u8, slot: u8) -> bool
-        ensures { result ≡ events.is_done (can self.now.image.blocks self.now.budget (event.Fire frame slot)
+        ensures { result ≡ inside_events.is_done (can self.now.image.blocks self.now.budget (event.Fire frame slot)
             self.now.window) }
     {
         is_done(self.can(Event::Fire { frame, slot }))
@@ -171,7 +173,7 @@ impl Window {
 
     /// The slots of a frame of which Fire would be done, as bits.
     pub fn ready(&self, frame: u8) -> u128
-        ensures value { (s : ℕ) → s < 128 → has_bit result s ≡ events.is_done (can self.now.image.blocks
+        ensures value { (s : ℕ) → s < 128 → has_bit result s ≡ inside_events.is_done (can self.now.image.blocks
             self.now.budget (event.Fire frame s) self.now.window) }
     {
         let mut bits = 0;

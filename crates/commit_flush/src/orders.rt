@@ -1,8 +1,9 @@
 //! Orders of age: the numbers of the frames in flight, the oldest first.
 ghost use Rattle.std.specs.Prelude.{◌≡◌, ◌<◌, ◌≤◌, IfSome, length, slice_get, List};
 ghost use Rattle.commit_flush_spec.specs.Frames.{Frame};
-ghost use Rattle.commit_flush.specs.Places.{place_of, numbers_of, free_number};
-ghost use Rattle.commit_flush.specs.Kept.{is_in};
+ghost use Rattle.commit_flush.specs.Places.{numbers_of};
+ghost use Rattle.commit_flush.specs.inside.Places.{place_of, free_number};
+ghost use Rattle.commit_flush.specs.inside.Kept.{is_in};
 
 /// The number at a place of an order.
 pub fn number_at(order: &[u8], place: usize) -> Option<u8>

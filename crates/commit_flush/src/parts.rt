@@ -1,9 +1,9 @@
 //! Changes of a window's parts, where no window stands while they change one after another.
 ghost use Rattle.std.specs.Prelude.{◌≡◌, ◌<◌, ◌≤◌, All, Some, drop, length, take};
-ghost use Rattle.reg_bank.specs.Ages.{at, drop_from};
-ghost use Rattle.commit_flush.specs.Places.{place_of};
-ghost use Rattle.commit_flush.specs.Emptied.{IsEmptied};
-ghost use Rattle.commit_flush.specs.Tokens.{AwaitsToken, with_token};
+ghost use Rattle.reg_bank.specs.inside.Ages.{at, drop_from};
+ghost use Rattle.commit_flush.specs.inside.Places.{place_of};
+ghost use Rattle.commit_flush.specs.inside.Emptied.{IsEmptied};
+ghost use Rattle.commit_flush.specs.inside.Tokens.{AwaitsToken, with_token};
 
 use crate::orders;
 use arrayvec::ArrayVec;

@@ -2,9 +2,9 @@
 ghost use Rattle.std.specs.Prelude.{◌≡◌, ◌-◌, ◌<◌, ◌^◌, length, slice_index};
 ghost use Rattle.trips_isa.specs.declared.run.Stepped.TheVariants.{Went};
 ghost use Rattle.trips_isa.specs.Machine.{runs};
-ghost use Rattle.commit_flush_spec.specs.Driving.{driven};
-ghost use Rattle.commit_flush_spec.specs.DrivingLaws.{HasGenerations};
-ghost use Rattle.commit_flush.specs.Endings.{ended, ending_of};
+ghost use Rattle.commit_flush_spec.specs.inside.Driving.{driven};
+ghost use Rattle.commit_flush_spec.specs.inside.DrivingLaws.{HasGenerations};
+ghost use Rattle.commit_flush.specs.inside.Endings.{ended, ending_of};
 
 use crate::driving::drive;
 use crate::window::Window;

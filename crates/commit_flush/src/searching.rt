@@ -2,11 +2,11 @@
 ghost use Rattle.std.specs.Prelude.{◌≡◌, ◌<◌, ◌≤◌, ◌-◌, IfSome, length};
 ghost use Rattle.trips_isa.specs.Machine.{State};
 ghost use Rattle.commit_flush_spec.specs.Older.{committed};
-ghost use Rattle.frame_state.specs.Held.{running};
-ghost use Rattle.frame_state.specs.Shapes.{IsShape};
-ghost use Rattle.commit_flush_spec.specs.NextEvent.{lowest};
-ghost use Rattle.commit_flush.specs.Bits.{IsLowestBit};
-ghost use Rattle.commit_flush.specs.Steps.{count_of, is_next};
+ghost use Rattle.frame_state.specs.inside.Held.{running};
+ghost use Rattle.frame_state.specs.inside.Shapes.{IsShape};
+ghost use Rattle.commit_flush_spec.specs.inside.NextEvent.{lowest};
+ghost use Rattle.commit_flush.specs.inside.Bits.{IsLowestBit};
+ghost use Rattle.commit_flush.specs.inside.Steps.{count_of, is_next};
 ghost use Rattle.commit_flush.specs.declared.step.Step.TheVariants as step;
 
 use crate::allowed::is_next;

@@ -1,7 +1,7 @@
 //! The steps of a frame that are looked for by number.
 ghost use Rattle.std.specs.Prelude.{◌≡◌, ◌<◌};
 ghost use Rattle.frame_state.specs.Events.{as_event};
-ghost use Rattle.commit_flush.specs.Steps.{count_of, event_at};
+ghost use Rattle.commit_flush.specs.inside.Steps.{count_of, event_at};
 
 use frame_state::Event;
 

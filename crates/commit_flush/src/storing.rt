@@ -6,11 +6,11 @@ ghost use Rattle.commit_flush_spec.specs.Older.{committed, covers};
 ghost use Rattle.commit_flush_spec.specs.Dropping.{left_by, store_left, untouched};
 ghost use Rattle.commit_flush_spec.specs.Window as window;
 ghost use Rattle.commit_flush_spec.specs.Window.{can, done};
-ghost use Rattle.lsq_order.specs.Reached.{narrowed, reached};
-ghost use Rattle.lsq_order.specs.Wrong.{Finds};
-ghost use Rattle.frame_state.specs.Phases.{HasBlock, frame_in};
-ghost use Rattle.frame_state.specs.Told.{waiting_store};
-ghost use Rattle.commit_flush.specs.Places.{age_of, frame_of};
+ghost use Rattle.lsq_order.specs.inside.Reached.{narrowed, reached};
+ghost use Rattle.lsq_order.specs.inside.Wrong.{Finds};
+ghost use Rattle.frame_state.specs.inside.Phases.{HasBlock, frame_in};
+ghost use Rattle.frame_state.specs.inside.Told.{waiting_store};
+ghost use Rattle.commit_flush.specs.inside.Places.{age_of, frame_of};
 
 use crate::bits::with_bit;
 use crate::parts::flush_from;

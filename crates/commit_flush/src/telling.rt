@@ -1,12 +1,12 @@
 //! What is told of the frame of a number, and of the window as a whole.
 ghost use Rattle.std.specs.Prelude.{◌≡◌};
-ghost use Rattle.commit_flush_spec.specs.Invariant.{AllGood};
-ghost use Rattle.commit_flush_spec.specs.Laws.{WindowOk};
-ghost use Rattle.frame_state.specs.Held.{exit_of};
-ghost use Rattle.frame_state.specs.Phases.{HasBlock, frame_in};
-ghost use Rattle.frame_state.specs.Told.{block_in, exit_come};
-ghost use Rattle.commit_flush.specs.Places.{frame_of};
-ghost use Rattle.commit_flush.specs.Telling.{number_of_exit, stored_in};
+ghost use Rattle.commit_flush_spec.specs.inside.Invariant.{AllGood};
+ghost use Rattle.commit_flush_spec.specs.inside.Laws.{WindowOk};
+ghost use Rattle.frame_state.specs.inside.Held.{exit_of};
+ghost use Rattle.frame_state.specs.inside.Phases.{HasBlock, frame_in};
+ghost use Rattle.frame_state.specs.inside.Told.{block_in, exit_come};
+ghost use Rattle.commit_flush.specs.inside.Places.{frame_of};
+ghost use Rattle.commit_flush.specs.inside.Telling.{number_of_exit, stored_in};
 
 use crate::window::Window;
 use block_check::CheckedImage;

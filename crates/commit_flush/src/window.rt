@@ -2,7 +2,7 @@
 ghost use Rattle.std.specs.Prelude.{◌≡◌, ◌<◌, ◌≤◌, IfOk, length};
 ghost use Rattle.trips_isa.specs.Machine.{start};
 ghost use Rattle.commit_flush_spec.specs.InFlight.{opened};
-ghost use Rattle.commit_flush.specs.Seen.{IsFresh, AreFresh};
+ghost use Rattle.commit_flush.specs.inside.Seen.{IsFresh, AreFresh};
 
 use arrayvec::ArrayVec;
 use base::Memory;
@@ -33,9 +33,10 @@ pub struct Window {
 }
 
 impl Model for Window {
-    ghost use Rattle.reg_bank.specs.Ages.{at};
-    ghost use Rattle.commit_flush.specs.Seen.{Seen, window_of};
-    ghost use Rattle.commit_flush.specs.Accesses.{Stands};
+    ghost use Rattle.reg_bank.specs.inside.Ages.{at};
+    ghost use Rattle.commit_flush.specs.Seen.{Seen};
+    ghost use Rattle.commit_flush.specs.inside.Seen.{window_of};
+    ghost use Rattle.commit_flush.specs.inside.Accesses.{Stands};
 
     ghost Value = { Seen };
 

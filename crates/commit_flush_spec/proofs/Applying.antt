@@ -17,7 +17,7 @@ use Rattle.trips_isa.specs.Images.{chunks, starting_from, block_at}
 use Rattle.trips_isa.specs.Blocks.{Leaving}
 use Rattle.trips_isa.specs.Outcomes.{Effects, to_address, to_following, next_by, next_of}
 use Rattle.trips_isa.specs.Machine.{State, written, write_all, changed, with_input, system_call, then_system, apply}
-use Rattle.commit_flush_spec.specs.Laws.{IsWhole}
+use Rattle.commit_flush_spec.specs.inside.Laws.{IsWhole}
 use Rattle.commit_flush_spec.proofs.Bytes.{all_size}
 
 written_size : (regs : List ℕ) (r : ℕ) (t : Token) → length (written regs r t) ≡ length regs

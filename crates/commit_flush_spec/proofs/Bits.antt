@@ -18,8 +18,8 @@ use Rattle.commit_flush_spec.specs.Dataflow.{can_read, read_seen, can_fire}
 use Rattle.commit_flush_spec.specs.Memory.{request, is_request, can_load, can_store}
 use Rattle.commit_flush_spec.specs.Window.{on_frame, change, in_flight}
 use Rattle.commit_flush_spec.proofs.Look.{or_false}
-use Rattle.commit_flush_spec.specs.NextEvent.{is_done}
-use Rattle.commit_flush_spec.specs.Observers.{is_ready, is_unread, has_number, is_asked}
+use Rattle.commit_flush_spec.specs.inside.NextEvent.{is_done}
+use Rattle.commit_flush_spec.specs.inside.Observers.{is_ready, is_unread, has_number, is_asked}
 use Rattle.commit_flush_spec.proofs.Next.{same}
 
 -- three causes

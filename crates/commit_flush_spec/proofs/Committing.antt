@@ -17,7 +17,8 @@ use Rattle.trips_isa.specs.Rule.{Answer}
 use Rattle.trips_isa.specs.Places.{nodes_of}
 use Rattle.trips_isa.specs.Tables.{deepest}
 use Rattle.trips_isa.specs.Stores.{byte_seen, bytes_seen, listed, listed_below, store_all, or_byte, byte_of}
-use Rattle.trips_isa.specs.Blocks.{Solves, at_place, is_read, inst_at, slot_at, read_word, slot_answered}
+use Rattle.trips_isa.specs.Blocks.{at_place, is_read, inst_at, slot_at, read_word, slot_answered}
+use Rattle.trips_isa.specs.inside.Blocks.{Solves}
 use Rattle.trips_isa.specs.Blocks.{answered_if_read, responses_in, token_of, store_of, Leaving, leaves_with}
 use Rattle.trips_isa.specs.Blocks.{leaves_if_read, leaving_of}
 use Rattle.trips_isa.specs.Outcomes.{Effects, or_null, writes_from, all_stores, plain, plain_by, next_of}
@@ -36,11 +37,11 @@ use Rattle.trips_isa.specs.Places.{nodes_of}
 use Rattle.block_cases.proofs.MarkLemmas.{pulled_is_marking}
 use Rattle.commit_flush_spec.specs.Marks.{mark_on, mark_held}
 use Rattle.commit_flush_spec.specs.Ends.{cause_held}
-use Rattle.commit_flush_spec.specs.Invariant.{MarksAgree}
+use Rattle.commit_flush_spec.specs.inside.Invariant.{MarksAgree}
 use Rattle.commit_flush_spec.proofs.Owed.{least_same, owed_each}
 use Rattle.commit_flush_spec.specs.Ends.{exit_by, all_below, write_came, store_came, effects_with, outputs}
-use Rattle.commit_flush_spec.specs.Invariant.{Below, Holds, FrameOk, FramesOk, IsRunnable, AllGood}
-use Rattle.commit_flush_spec.specs.Laws.{IsWhole}
+use Rattle.commit_flush_spec.specs.inside.Invariant.{Below, Holds, FrameOk, FramesOk, IsRunnable, AllGood}
+use Rattle.commit_flush_spec.specs.inside.Laws.{IsWhole}
 use Rattle.commit_flush_spec.proofs.Lists.{below_is}
 use Rattle.commit_flush_spec.proofs.Look.{or_false, LookLe, OlderLe, words, through_changed}
 use Rattle.commit_flush_spec.proofs.Frames.{seen_agrees, or_zero, seen, seen_if_read, slot_seen, own, own_solves}

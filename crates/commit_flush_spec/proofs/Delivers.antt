@@ -10,18 +10,20 @@ use Rattle.trips_isa.specs.declared.block.Block.{Block}
 use Rattle.trips_isa.specs.declared.node.Node.{Node}
 use Rattle.trips_isa.specs.Rule.{Answer}
 use Rattle.trips_isa.specs.Places.{nodes_of, targets, names}
-use Rattle.trips_isa.specs.Blocks.{Responses, Solves, at_place, computes}
+use Rattle.trips_isa.specs.Blocks.{Responses, at_place, computes}
+use Rattle.trips_isa.specs.inside.Blocks.{Solves}
 use Rattle.trips_isa.specs.Tables.{node_gives}
-use Rattle.block_cases.specs.Good.{NamesPlace}
+use Rattle.block_cases.specs.inside.Good.{NamesPlace}
 use Rattle.commit_flush_spec.specs.Frames.{Frame, at, slot_node, source, target, named_at, is_target}
 use Rattle.commit_flush_spec.specs.Sending.{token_with}
 use Rattle.commit_flush_spec.specs.Older.{Older}
 use Rattle.commit_flush_spec.specs.Causes.{NoToken, Done}
 use Rattle.commit_flush_spec.specs.Dataflow.{can_deliver, deliver, delivered}
-use Rattle.commit_flush_spec.specs.Invariant.{Below, Agrees, Holds, FrameOk, AllGood}
-use Rattle.trips_isa.specs.Marks.{mark_at, IsMarking}
+use Rattle.commit_flush_spec.specs.inside.Invariant.{Below, Agrees, Holds, FrameOk, AllGood}
+use Rattle.trips_isa.specs.Marks.{mark_at}
+use Rattle.trips_isa.specs.inside.Marks.{IsMarking}
 use Rattle.commit_flush_spec.specs.Marks.{mark_on, mark_delivered}
-use Rattle.commit_flush_spec.specs.Invariant.{MarksAgree}
+use Rattle.commit_flush_spec.specs.inside.Invariant.{MarksAgree}
 use Rattle.commit_flush_spec.proofs.Marking.{mark_here, mark_other, mark_placed}
 use Rattle.commit_flush_spec.proofs.Lists.{equal_or, other_at, below_is, set_under, set_over, written_or}
 use Rattle.commit_flush_spec.proofs.Lists.{none_at, still_none}

@@ -3,13 +3,13 @@ use Rattle.std.proofs.Common.{◌≡◌, ℕ, zero, suc, ◌<◌, ◌≤◌, Lis
 use Rattle.std.proofs.Common.{refl, sym, ap, ◌∙◌, arith}
 use Rattle.trips_isa.specs.declared.block.Block.{Block}
 use Rattle.commit_flush_spec.specs.Window.{Window, Event, happens, plays}
-use Rattle.commit_flush_spec.specs.Invariant.{AllGood}
-use Rattle.commit_flush_spec.specs.Laws.{WindowOk}
+use Rattle.commit_flush_spec.specs.inside.Invariant.{AllGood}
+use Rattle.commit_flush_spec.specs.inside.Laws.{WindowOk}
 use Rattle.commit_flush_spec.proofs.Whole.{happens_moves}
-use Rattle.commit_flush_spec.specs.NextEvent.{next_event}
-use Rattle.commit_flush_spec.specs.Work.{work}
-use Rattle.commit_flush_spec.specs.Driving.{given, drives, driven}
-use Rattle.commit_flush_spec.specs.DrivingLaws.{HasGenerations}
+use Rattle.commit_flush_spec.specs.inside.NextEvent.{next_event}
+use Rattle.commit_flush_spec.specs.inside.Work.{work}
+use Rattle.commit_flush_spec.specs.inside.Driving.{given, drives, driven}
+use Rattle.commit_flush_spec.specs.inside.DrivingLaws.{HasGenerations}
 use Rattle.commit_flush_spec.proofs.Lowered.{work_falls, may_fill, has_work, generations_last}
 
 -- without a next event nothing changes

@@ -14,10 +14,11 @@ use Rattle.commit_flush_spec.specs.Frames.{Frame, Taken, NoBytes, numbers}
 use Rattle.commit_flush_spec.specs.Older.{committed}
 use Rattle.commit_flush_spec.specs.Window.{opened}
 use Rattle.commit_flush_spec.specs.Window as event
-use Rattle.commit_flush_spec.specs.NextEvent.{lowest, slots, places, next_load, next_step, next_event}
-use Rattle.commit_flush_spec.specs.Observers.{is_asked}
-use Rattle.commit_flush_spec.specs.Work.{events_left, none_guessed, work}
-use Rattle.commit_flush_spec.specs.DrivingLaws.{is_step_of, is_guess}
+use Rattle.commit_flush_spec.specs.inside.NextEvent.{lowest, slots, places, next_load, next_step, next_event}
+use Rattle.commit_flush_spec.specs.inside.Observers.{is_asked}
+use Rattle.commit_flush_spec.specs.inside.Work.{events_left, none_guessed, work}
+use Rattle.commit_flush_spec.specs.DrivingLaws.{is_step_of}
+use Rattle.commit_flush_spec.specs.inside.DrivingLaws.{is_guess}
 
 pub lowest_of_some : lowest (λ k. (k == 3) || (k == 5)) 8 0 ≡ Some 3
 lowest_of_some = refl

@@ -9,10 +9,12 @@ use Rattle.commit_flush_spec.specs.Older.{Older, after, follows, successor_of, n
 use Rattle.commit_flush_spec.specs.Memory.{request, store, store_resolved, checked}
 use Rattle.commit_flush_spec.specs.Ends.{exit, exit_by, branch_of, kept}
 use Rattle.commit_flush_spec.specs.InFlight.{change, alone, flush}
-use Rattle.commit_flush_spec.specs.Numbered.{before, by_age, AllThere}
+use Rattle.commit_flush_spec.specs.inside.Numbered.{before, by_age, AllThere}
 use Rattle.commit_flush_spec.specs.Dropping.{left_by, untouched, with_resolved, store_leaves, resolved_leaves}
-use Rattle.commit_flush_spec.specs.Dropping.{stored_alone, store_left, exit_leaves, exited_alone, exit_left}
-use Rattle.commit_flush_spec.specs.Dropping.{unchanged, none_left}
+use Rattle.commit_flush_spec.specs.Dropping.{store_left, exit_leaves, exit_left}
+use Rattle.commit_flush_spec.specs.inside.Dropping.{stored_alone, exited_alone}
+use Rattle.commit_flush_spec.specs.Dropping.{none_left}
+use Rattle.commit_flush_spec.specs.inside.Dropping.{unchanged}
 
 -- a change that leaves the beginning of the changed frame and those behind it
 change_drops : (does : Older → Frame → List Frame → List Frame) (alters : Older → Frame → Frame)

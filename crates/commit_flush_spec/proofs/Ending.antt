@@ -7,17 +7,18 @@ use Rattle.trips_isa.specs.declared.block.Block.{Block}
 use Rattle.trips_isa.specs.Forms.{form_of, is_load}
 use Rattle.trips_isa.specs.Rule.{Answer}
 use Rattle.trips_isa.specs.Places.{nodes_of, inst_node, first_place}
-use Rattle.trips_isa.specs.Blocks.{Responses, Solves, at_place, is_read, inst_at, Leaving, leaves_with}
+use Rattle.trips_isa.specs.Blocks.{Responses, at_place, is_read, inst_at, Leaving, leaves_with}
+use Rattle.trips_isa.specs.inside.Blocks.{Solves}
 use Rattle.trips_isa.specs.Blocks.{leaves_if_read, leaving_of, store_of}
 use Rattle.block_cases.specs.Orders.{slot_of}
-use Rattle.block_cases.specs.Good.{NamesPlace}
+use Rattle.block_cases.specs.inside.Good.{NamesPlace}
 use Rattle.commit_flush_spec.specs.Frames.{Frame, Bytes, Exit, unset, slot_node, source, fresh}
 use Rattle.commit_flush_spec.specs.Sending.{token_with}
 use Rattle.commit_flush_spec.specs.Older.{Older, after, after_all, follows, successor_of}
 use Rattle.commit_flush_spec.specs.Causes.{NoFrame, NoExit, Missing, Done}
 use Rattle.commit_flush_spec.specs.Ends.{can_exit, exit_by, branch_of, kept, with_exit}
 use Rattle.commit_flush_spec.specs.Ends.{exit, complete, can_seal, seal}
-use Rattle.commit_flush_spec.specs.Invariant.{Below, Agrees, Holds, Leaves, FrameOk, FramesOk, AllGood}
+use Rattle.commit_flush_spec.specs.inside.Invariant.{Below, Agrees, Holds, Leaves, FrameOk, FramesOk, AllGood}
 use Rattle.commit_flush_spec.proofs.Lists.{below_is, is_below, blank_at, blank_size, emptied_at, emptied_size}
 use Rattle.commit_flush_spec.proofs.Lists.{unset_at, unset_size}
 use Rattle.commit_flush_spec.proofs.Look.{older_refl}
@@ -26,10 +27,10 @@ use Rattle.commit_flush_spec.proofs.Frames.{Goes, not_now, frames_more}
 use Rattle.commit_flush_spec.proofs.Loads.{not_false}
 use Rattle.commit_flush_spec.proofs.Flow.{some_of}
 use Rattle.commit_flush_spec.proofs.Delivers.{or_here}
-use Rattle.trips_isa.specs.Marks.{IsMarking}
+use Rattle.trips_isa.specs.inside.Marks.{IsMarking}
 use Rattle.commit_flush_spec.specs.Sending.{mark_with}
 use Rattle.commit_flush_spec.specs.Ends.{branch_mark}
-use Rattle.commit_flush_spec.specs.Invariant.{MarksAgree}
+use Rattle.commit_flush_spec.specs.inside.Invariant.{MarksAgree}
 use Rattle.commit_flush_spec.proofs.Marking.{zeros_size, marked, mark_placed}
 
 -- exits ------------------------------------------------------------------------------------------

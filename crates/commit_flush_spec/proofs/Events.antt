@@ -17,7 +17,7 @@ use Rattle.commit_flush_spec.specs.InFlight.{commit_to}
 use Rattle.commit_flush_spec.specs.Window.{Window, Event, on_frame, change, flush, in_flight, lowest_empty}
 use Rattle.commit_flush_spec.specs.Window.{fetched, commit, can, can_now, done, if_done, happens, opened}
 use Rattle.commit_flush_spec.specs.Window as event
-use Rattle.commit_flush_spec.specs.Laws.{IsBeginning, WindowOk}
+use Rattle.commit_flush_spec.specs.inside.Laws.{IsBeginning, WindowOk}
 
 pub refused : (blocks : List Block) (budget : ℕ) (e : Event) (w : Window) (c : Cause)
     → can blocks budget e w ≡ NotNow c → happens blocks budget e w ≡ w

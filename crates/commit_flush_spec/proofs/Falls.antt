@@ -23,15 +23,15 @@ use Rattle.commit_flush_spec.specs.Dataflow.{fire_inst, can_deliver, deliver, de
 use Rattle.commit_flush_spec.specs.Memory.{request, is_request, can_load, load, load_answered, taken_of}
 use Rattle.commit_flush_spec.specs.Memory.{taken_word, with_store}
 use Rattle.commit_flush_spec.specs.Ends.{with_exit, seal}
-use Rattle.commit_flush_spec.specs.Invariant.{FrameOk, IsRunnable, AllGood}
+use Rattle.commit_flush_spec.specs.inside.Invariant.{FrameOk, IsRunnable, AllGood}
 use Rattle.commit_flush_spec.proofs.Look.{or_false}
 use Rattle.commit_flush_spec.proofs.Tokens.{inst_in, read_is}
 use Rattle.commit_flush_spec.proofs.Frames.{not_now}
 use Rattle.commit_flush_spec.proofs.Flow.{some_of}
 use Rattle.commit_flush_spec.proofs.Loads.{Stands, stands}
 use Rattle.commit_flush_spec.proofs.Stored.{no_false}
-use Rattle.commit_flush_spec.specs.NextEvent.{stores_came}
-use Rattle.commit_flush_spec.specs.Work.{events_left, none_guessed}
+use Rattle.commit_flush_spec.specs.inside.NextEvent.{stores_came}
+use Rattle.commit_flush_spec.specs.inside.Work.{events_left, none_guessed}
 use Rattle.commit_flush_spec.proofs.Counts.{open_in, standing, flag_falls, thing_falls, thing_rises, none_stands}
 use Rattle.commit_flush_spec.proofs.Counts.{sent_rises}
 use Rattle.commit_flush_spec.proofs.Guesses.{load_keeps, stores_keep}

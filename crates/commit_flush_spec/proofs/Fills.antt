@@ -11,7 +11,7 @@ use Rattle.commit_flush_spec.specs.Sending.{put_if, sent, send}
 use Rattle.commit_flush_spec.proofs.Lists.{written_or}
 use Rattle.commit_flush_spec.proofs.Lost.{sent_there, sent_stands}
 use Rattle.commit_flush_spec.proofs.Sends.{slot_source, read_source}
-use Rattle.commit_flush_spec.specs.DrivingLaws.{IsFilled}
+use Rattle.commit_flush_spec.specs.inside.DrivingLaws.{IsFilled}
 
 put_or : (b : Bool) (xs : List Answer) (p : ℕ) (t : Token) (q : ℕ) → at (put_if b xs p t) q ≢ None
     → ((q ≡ p) × (b ≡ true)) ⊎ (at xs q ≢ None)

@@ -11,7 +11,8 @@ use Rattle.trips_isa.specs.declared.form.Form.{Form}
 use Rattle.trips_isa.specs.declared.form.Form.TheVariants.{General, Immediate, Load, Store, Branch, Constant}
 use Rattle.trips_isa.specs.Forms.{form_of, is_load}
 use Rattle.trips_isa.specs.Rule.{Answer}
-use Rattle.trips_isa.specs.Blocks.{Responses, Solves, at_place}
+use Rattle.trips_isa.specs.Blocks.{Responses, at_place}
+use Rattle.trips_isa.specs.inside.Blocks.{Solves}
 use Rattle.block_cases.specs.Orders.{slot_of}
 use Rattle.commit_flush_spec.specs.Frames.{Frame, at, slot_node}
 use Rattle.commit_flush_spec.specs.Sending.{send, token_with}
@@ -19,8 +20,8 @@ use Rattle.commit_flush_spec.specs.Older.{Older}
 use Rattle.commit_flush_spec.specs.Causes.{NoFrame, NoRead, NotYet, NoInst, NotReady, Done}
 use Rattle.commit_flush_spec.specs.Dataflow.{can_read, read, read_seen, read_answered, can_fire, fire}
 use Rattle.commit_flush_spec.specs.Dataflow.{fire_form, fire_inst}
-use Rattle.commit_flush_spec.specs.Invariant.{Below, Agrees, Asked, Leaves, Known, FrameOk, AllGood}
-use Rattle.commit_flush_spec.specs.Invariant.{slot_sent, inst_sent}
+use Rattle.commit_flush_spec.specs.inside.Invariant.{Below, Agrees, Asked, Leaves, Known, FrameOk, AllGood}
+use Rattle.commit_flush_spec.specs.inside.Invariant.{slot_sent, inst_sent}
 use Rattle.commit_flush_spec.proofs.Lists.{flag_keeps, flag_or, flag_here, given_or, none_or}
 use Rattle.commit_flush_spec.proofs.Look.{or_false}
 use Rattle.commit_flush_spec.proofs.Tokens.{token_there, read_is, inst_in, read_below, fired_below, there}

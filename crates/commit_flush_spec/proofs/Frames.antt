@@ -6,14 +6,15 @@ use Rattle.trips_isa.specs.declared.block.Inst.{Inst}
 use Rattle.trips_isa.specs.declared.block.Block.{Block}
 use Rattle.trips_isa.specs.Forms.{size_of}
 use Rattle.trips_isa.specs.Rule.{Answer}
-use Rattle.trips_isa.specs.Blocks.{Responses, Solves, is_read, inst_at}
+use Rattle.trips_isa.specs.Blocks.{Responses, is_read, inst_at}
+use Rattle.trips_isa.specs.inside.Blocks.{Solves}
 use Rattle.commit_flush_spec.specs.Frames.{Frame, Bytes, at, numbers, slot_node}
 use Rattle.trips_isa.specs.Stores.{bytes_seen}
 use Rattle.commit_flush_spec.specs.Older.{Older, after, follows, passes, violated, cut}
 use Rattle.commit_flush_spec.specs.Causes.{Cause, Happened, Done, NotNow}
 use Rattle.commit_flush_spec.specs.Dataflow.{read_seen}
 use Rattle.commit_flush_spec.specs.Window.{on_frame, change, alone}
-use Rattle.commit_flush_spec.specs.Invariant.{Agrees, Holds, Known, FrameOk, FramesOk, AllGood}
+use Rattle.commit_flush_spec.specs.inside.Invariant.{Agrees, Holds, Known, FrameOk, FramesOk, AllGood}
 use Rattle.commit_flush_spec.proofs.Look.{LookLe, OlderLe, OlderBut, after_more, after_but, over_same}
 use Rattle.commit_flush_spec.proofs.Look.{passes_apart, bytes_same, bytes_apart, not_hit}
 use Rattle.commit_flush_spec.proofs.Tokens.{slot_not_read, inst_at_is, read_is, table, table_solves}

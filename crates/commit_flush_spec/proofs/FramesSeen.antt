@@ -21,12 +21,12 @@ use Rattle.commit_flush_spec.specs.Memory.{request, is_request, can_store, load,
 use Rattle.commit_flush_spec.specs.Ends.{can_exit, exit, exit_by, branch_of, branch_mark, with_exit, kept, seal}
 use Rattle.commit_flush_spec.specs.Window.{Window, Event, change, alone, done, frames_after}
 use Rattle.commit_flush_spec.specs.Window as event
-use Rattle.commit_flush_spec.specs.Invariant.{FrameOk, FramesOk, AllGood, Asked}
+use Rattle.commit_flush_spec.specs.inside.Invariant.{FrameOk, FramesOk, AllGood, Asked}
 use Rattle.commit_flush_spec.proofs.Lists.{blank_at}
 use Rattle.commit_flush_spec.proofs.Frames.{not_now}
 use Rattle.commit_flush_spec.proofs.Loads.{Stands, stands}
 use Rattle.block_cases.proofs.Steady.{or_left}
-use Rattle.commit_flush_spec.specs.Work.{events_left, none_guessed, reserve, oldest_left}
+use Rattle.commit_flush_spec.specs.inside.Work.{events_left, none_guessed, reserve, oldest_left}
 use Rattle.commit_flush_spec.proofs.Search.{true_or, all_from}
 use Rattle.commit_flush_spec.proofs.Counts.{most_open, most_stand, all_open, blank_stands, one_most}
 use Rattle.commit_flush_spec.proofs.Guesses.{not_violated}

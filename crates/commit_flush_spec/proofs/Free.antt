@@ -13,8 +13,9 @@ use Rattle.block_cases.specs.Blocks.{wanted_of}
 use Rattle.block_cases.proofs.Unique.{fires_once}
 use Rattle.commit_flush_spec.specs.Frames.{Frame, at, slot_node, source, target, named_at, is_target}
 use Rattle.commit_flush_spec.specs.Older.{Older, after}
-use Rattle.commit_flush_spec.specs.Invariant.{Holds, CameFrom, Known, FrameOk, FramesOk, AllGood, has_sent, slot_sent}
-use Rattle.commit_flush_spec.specs.Laws.{IsFree, AllFree}
+use Rattle.commit_flush_spec.specs.inside.Invariant.{Holds, CameFrom, Known, FrameOk, FramesOk, AllGood, has_sent}
+use Rattle.commit_flush_spec.specs.inside.Invariant.{slot_sent}
+use Rattle.commit_flush_spec.specs.inside.Laws.{IsFree, AllFree}
 use Rattle.commit_flush_spec.proofs.Lists.{none_or}
 use Rattle.commit_flush_spec.proofs.Tokens.{read_is, read_got, producer, one_law}
 use Rattle.commit_flush_spec.proofs.Frames.{own, seen, own_solves, own_holds}

@@ -8,11 +8,11 @@ use Rattle.trips_isa.specs.Places.{in_mask}
 use Rattle.commit_flush_spec.specs.Frames.{Frame, Taken, NoBytes, Bytes, at, numbers}
 use Rattle.commit_flush_spec.specs.Older.{covers, nearest, any_touched, took_touched, violated}
 use Rattle.commit_flush_spec.specs.Ends.{all_below, store_came}
-use Rattle.commit_flush_spec.specs.Invariant.{Below}
+use Rattle.commit_flush_spec.specs.inside.Invariant.{Below}
 use Rattle.commit_flush_spec.proofs.Lists.{equal_or, other_at, set_over, there_below}
 use Rattle.block_cases.proofs.Steady.{or_right}
-use Rattle.commit_flush_spec.specs.NextEvent.{stores_came}
-use Rattle.commit_flush_spec.specs.Work.{none_guessed}
+use Rattle.commit_flush_spec.specs.inside.NextEvent.{stores_came}
+use Rattle.commit_flush_spec.specs.inside.Work.{none_guessed}
 use Rattle.commit_flush_spec.proofs.Search.{is_there, not_none, each_of, all_up}
 use Rattle.commit_flush_spec.proofs.Stuck.{numbers_are}
 

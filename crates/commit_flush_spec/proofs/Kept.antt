@@ -24,8 +24,8 @@ use Rattle.commit_flush_spec.specs.Older.{Older}
 use Rattle.commit_flush_spec.specs.Causes.{NoFrame, NoRead, NotYet, NoInst, NotReady, Done}
 use Rattle.commit_flush_spec.specs.Dataflow.{can_read, read, read_seen, read_answered, can_fire, fire}
 use Rattle.commit_flush_spec.specs.Dataflow.{fire_form, fire_inst}
-use Rattle.commit_flush_spec.specs.Invariant.{FrameOk, IsRunnable, AllGood, has_sent, slot_sent, inst_sent}
-use Rattle.commit_flush_spec.specs.Laws.{NoneLost}
+use Rattle.commit_flush_spec.specs.inside.Invariant.{FrameOk, IsRunnable, AllGood, has_sent, slot_sent, inst_sent}
+use Rattle.commit_flush_spec.specs.inside.Laws.{NoneLost}
 use Rattle.commit_flush_spec.proofs.Lists.{none_or, other_at, set_here, flag_or}
 use Rattle.commit_flush_spec.proofs.Look.{or_false}
 use Rattle.commit_flush_spec.proofs.Tokens.{inst_in, slot_got, read_is, read_got}

@@ -25,9 +25,9 @@ use Rattle.commit_flush_spec.specs.Memory.{request, is_request, can_load, taken_
 use Rattle.commit_flush_spec.specs.Memory.{load_answered, can_store, with_store, store, store_resolved}
 use Rattle.commit_flush_spec.specs.Ends.{can_exit, exit_by, branch_of, kept, with_exit, exit, seal}
 use Rattle.commit_flush_spec.specs.Window.{on_frame, change, alone}
-use Rattle.commit_flush_spec.specs.Invariant.{FrameOk, FramesOk, IsRunnable, AllGood, Asked, Leaves, has_sent}
-use Rattle.commit_flush_spec.specs.Invariant.{slot_sent, inst_sent}
-use Rattle.commit_flush_spec.specs.Laws.{NoneLost, AllKept}
+use Rattle.commit_flush_spec.specs.inside.Invariant.{FrameOk, FramesOk, IsRunnable, AllGood, Asked, Leaves, has_sent}
+use Rattle.commit_flush_spec.specs.inside.Invariant.{slot_sent, inst_sent}
+use Rattle.commit_flush_spec.specs.inside.Laws.{NoneLost, AllKept}
 use Rattle.commit_flush_spec.specs.Sending.{mark_with}
 use Rattle.commit_flush_spec.specs.Ends.{branch_mark}
 use Rattle.commit_flush_spec.proofs.Lists.{equal_or, other_at, set_here, unset_at}

@@ -1,9 +1,10 @@
 -- Searching finds the least number that passes a test, and none exactly where none passes.
 use Rattle.std.proofs.Common.{◌≡◌, ℕ, zero, suc, ◌+◌, ◌<◌, ◌≤◌, Bool, true, false, cond, ◌↔◌, inl, inr}
 use Rattle.std.proofs.Common.{Some, None, refl, sym, ap, ◌∙◌, true≢false, arith}
-use Rattle.block_cases.specs.Orders.{IsLeast, NoneBelow}
+use Rattle.block_cases.specs.Orders.{NoneBelow}
+use Rattle.block_cases.specs.inside.Orders.{IsLeast}
 use Rattle.commit_flush_spec.proofs.Lists.{equal_or}
-use Rattle.commit_flush_spec.specs.NextEvent.{lowest}
+use Rattle.commit_flush_spec.specs.inside.NextEvent.{lowest}
 use Rattle.commit_flush_spec.proofs.Search.{lowest_is, lowest_none}
 
 -- what stands before the found number does not pass

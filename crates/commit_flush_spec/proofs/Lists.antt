@@ -4,7 +4,7 @@ use Rattle.std.proofs.Common.{Option, Some, None, set, get_or, length, refl, sym
 use Rattle.std.proofs.Common.{◌==◌, ◌∙◌, true≢false}
 use Rattle.std.proofs.lemmas.Bool.Decides.{nat_tests}
 use Rattle.commit_flush_spec.specs.Frames.{at, blank, unset, emptied}
-use Rattle.commit_flush_spec.specs.Invariant.{Below}
+use Rattle.commit_flush_spec.specs.inside.Invariant.{Below}
 
 -- two numbers are the same or not
 pub equal_or : (a b : ℕ) → (a ≡ b) ⊎ (a ≢ b)

@@ -14,7 +14,8 @@ use Rattle.trips_isa.specs.Rule.{Answer, matched, of_one, gives, if_matched}
 use Rattle.trips_isa.specs.Places.{inst_node}
 use Rattle.trips_isa.specs.Tables.{node_gives}
 use Rattle.trips_isa.specs.Stores.{address_of, is_good_address}
-use Rattle.trips_isa.specs.Blocks.{Responses, Solves, at_place, computes}
+use Rattle.trips_isa.specs.Blocks.{Responses, at_place, computes}
+use Rattle.trips_isa.specs.inside.Blocks.{Solves}
 use Rattle.trips_isa.specs.Places.{in_mask}
 use Rattle.block_cases.specs.Orders.{slot_of, loads, has_load, bad_number, bad_slot_number, IsInOrder}
 use Rattle.commit_flush_spec.specs.Frames.{Frame, Taken, NoBytes, Bytes, at, slot_node}
@@ -24,8 +25,8 @@ use Rattle.commit_flush_spec.specs.Older.{Older}
 use Rattle.commit_flush_spec.specs.Causes.{NoFrame, NoRequest, Done}
 use Rattle.commit_flush_spec.specs.Memory.{with_slot, with_inst, request, is_request, can_load, taken_of}
 use Rattle.commit_flush_spec.specs.Memory.{taken_word, load, load_answered}
-use Rattle.commit_flush_spec.specs.Invariant.{Below, Agrees, Holds, Asked, FrameOk, IsRunnable, AllGood}
-use Rattle.commit_flush_spec.specs.Invariant.{slot_sent, inst_sent}
+use Rattle.commit_flush_spec.specs.inside.Invariant.{Below, Agrees, Holds, Asked, FrameOk, IsRunnable, AllGood}
+use Rattle.commit_flush_spec.specs.inside.Invariant.{slot_sent, inst_sent}
 use Rattle.commit_flush_spec.proofs.Lists.{below_is, given_or, written_or, none_or, other_at, none_at, set_here}
 use Rattle.commit_flush_spec.proofs.Look.{or_false}
 use Rattle.commit_flush_spec.proofs.Tokens.{token_there, inst_in, slot_got, load_below, load_one}

@@ -21,13 +21,13 @@ use Rattle.commit_flush_spec.specs.InFlight.{commit_to}
 use Rattle.commit_flush_spec.specs.Window.{Window, Event, change, alone, lowest_empty, fetched, commit, can, done}
 use Rattle.commit_flush_spec.specs.Window.{happens}
 use Rattle.commit_flush_spec.specs.Window as event
-use Rattle.commit_flush_spec.specs.Invariant.{FramesOk, AllGood}
-use Rattle.commit_flush_spec.specs.Laws.{WindowOk}
+use Rattle.commit_flush_spec.specs.inside.Invariant.{FramesOk, AllGood}
+use Rattle.commit_flush_spec.specs.inside.Laws.{WindowOk}
 use Rattle.commit_flush_spec.proofs.Events.{taken}
-use Rattle.commit_flush_spec.specs.NextEvent.{next_event}
-use Rattle.commit_flush_spec.specs.Work.{none_guessed, oldest_left}
-use Rattle.commit_flush_spec.specs.Driving.{given, drives}
-use Rattle.commit_flush_spec.specs.DrivingLaws.{MayFill, HasGenerations, StaysOldest}
+use Rattle.commit_flush_spec.specs.inside.NextEvent.{next_event}
+use Rattle.commit_flush_spec.specs.inside.Work.{none_guessed, oldest_left}
+use Rattle.commit_flush_spec.specs.inside.Driving.{given, drives}
+use Rattle.commit_flush_spec.specs.inside.DrivingLaws.{MayFill, HasGenerations, StaysOldest}
 use Rattle.commit_flush_spec.proofs.Next.{Next, Fetches, Commits, Seals, Takes, parts, next_done, none_after}
 use Rattle.commit_flush_spec.proofs.Steps.{Stepping, Delivers, Fires, Reads, Stores, Loads, Exits}
 use Rattle.commit_flush_spec.proofs.FramesSeen.{Lowers, step_lowers, seal_lowers, fresh_unguessed}

@@ -17,7 +17,7 @@ use Rattle.commit_flush_spec.specs.Frames.{Frame, Taken, Bytes, at, numbers}
 use Rattle.trips_isa.specs.Stores.{byte_seen, bytes_seen}
 use Rattle.commit_flush_spec.specs.Older.{Older, forwarded, over_write, through, after, follows, covers}
 use Rattle.commit_flush_spec.specs.Older.{passes, nearest, any_touched, took_touched, violated}
-use Rattle.commit_flush_spec.specs.Invariant.{Below}
+use Rattle.commit_flush_spec.specs.inside.Invariant.{Below}
 use Rattle.commit_flush_spec.proofs.Lists.{below_refl}
 
 -- registers --------------------------------------------------------------------------------------

@@ -14,12 +14,12 @@ use Rattle.trips_isa.specs.Places.{nodes_of, inst_node, first_place}
 use Rattle.block_cases.specs.CaseRule.{no}
 use Rattle.trips_isa.specs.Places.{in_mask}
 use Rattle.block_cases.specs.Orders.{slot_of, bad_slot_number, has_load}
-use Rattle.block_cases.specs.Good.{NamesPlace}
+use Rattle.block_cases.specs.inside.Good.{NamesPlace}
 use Rattle.commit_flush_spec.specs.Frames.{Frame, at, slot_node, source, target, named_at, is_target}
 use Rattle.commit_flush_spec.specs.Sending.{put_if}
 use Rattle.commit_flush_spec.specs.Sending.{sent, token_with}
 use Rattle.commit_flush_spec.specs.Older.{Older}
-use Rattle.commit_flush_spec.specs.Invariant.{FrameOk, IsRunnable, AllGood}
+use Rattle.commit_flush_spec.specs.inside.Invariant.{FrameOk, IsRunnable, AllGood}
 use Rattle.commit_flush_spec.proofs.Lists.{other_at, set_here}
 use Rattle.commit_flush_spec.proofs.Look.{or_false}
 use Rattle.commit_flush_spec.proofs.Tokens.{inst_in, slot_got, producer, there}

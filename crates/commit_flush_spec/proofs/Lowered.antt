@@ -15,13 +15,13 @@ use Rattle.commit_flush_spec.specs.Ends.{outputs, cause_held}
 use Rattle.commit_flush_spec.specs.InFlight.{commit_to}
 use Rattle.commit_flush_spec.specs.Window.{Window, Event, lowest_empty, fetched, commit, can, done, if_done, happens}
 use Rattle.commit_flush_spec.specs.Window as event
-use Rattle.commit_flush_spec.specs.Invariant.{FramesOk, AllGood}
-use Rattle.commit_flush_spec.specs.Laws.{WindowOk}
+use Rattle.commit_flush_spec.specs.inside.Invariant.{FramesOk, AllGood}
+use Rattle.commit_flush_spec.specs.inside.Laws.{WindowOk}
 use Rattle.commit_flush_spec.proofs.Events.{taken}
 use Rattle.commit_flush_spec.proofs.Applying.{apply_trace}
-use Rattle.commit_flush_spec.specs.NextEvent.{next_event}
-use Rattle.commit_flush_spec.specs.Work.{oldest_left, work_while, work}
-use Rattle.commit_flush_spec.specs.DrivingLaws.{MayFill, HasGenerations}
+use Rattle.commit_flush_spec.specs.inside.NextEvent.{next_event}
+use Rattle.commit_flush_spec.specs.inside.Work.{oldest_left, work_while, work}
+use Rattle.commit_flush_spec.specs.inside.DrivingLaws.{MayFill, HasGenerations}
 use Rattle.commit_flush_spec.proofs.Next.{Next, Fetches, Commits, Seals, Takes, parts, next_done}
 use Rattle.commit_flush_spec.proofs.FramesSeen.{Lowers, step_lowers, seal_lowers, fresh_least, most_of}
 

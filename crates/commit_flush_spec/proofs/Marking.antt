@@ -15,14 +15,16 @@ use Rattle.trips_isa.specs.Rule.{Answer, matched, gives, if_matched}
 use Rattle.trips_isa.specs.Operands.{operands, is_guarded}
 use Rattle.trips_isa.specs.Places.{nodes_of}
 use Rattle.trips_isa.specs.Tables.{node_gives}
-use Rattle.trips_isa.specs.Blocks.{Responses, Solves, at_place, computes}
+use Rattle.trips_isa.specs.Blocks.{Responses, at_place, computes}
+use Rattle.trips_isa.specs.inside.Blocks.{Solves}
 use Rattle.trips_isa.specs.Faults.{node_fault}
-use Rattle.trips_isa.specs.Marks.{mark_by, beside, or_unmarked, mark_at, fired_mark, node_mark, mark_given, IsMarking}
-use Rattle.block_cases.specs.Good.{NamesPlace}
+use Rattle.trips_isa.specs.Marks.{mark_by, beside, or_unmarked, mark_at, fired_mark, node_mark, mark_given}
+use Rattle.trips_isa.specs.inside.Marks.{IsMarking}
+use Rattle.block_cases.specs.inside.Good.{NamesPlace}
 use Rattle.commit_flush_spec.specs.Marks.{mark_on, zeros}
 use Rattle.commit_flush_spec.specs.Frames.{Frame, at}
 use Rattle.commit_flush_spec.specs.Sending.{token_with, mark_with}
-use Rattle.commit_flush_spec.specs.Invariant.{Below, IsRunnable}
+use Rattle.commit_flush_spec.specs.inside.Invariant.{Below, IsRunnable}
 use Rattle.commit_flush_spec.proofs.Tokens.{there, placed_is}
 
 -- lists of marks ---------------------------------------------------------------------------------

@@ -18,11 +18,12 @@ use Rattle.commit_flush_spec.specs.Ends.{can_exit, can_seal, complete}
 use Rattle.commit_flush_spec.specs.Window.{Window, Event, on_frame, lowest_empty, is_worn, can_fetch, is_sealed}
 use Rattle.commit_flush_spec.specs.Window.{can_commit, can_now, unless_over, can}
 use Rattle.commit_flush_spec.specs.Window as event
-use Rattle.commit_flush_spec.specs.Invariant.{FramesOk, AllGood}
-use Rattle.commit_flush_spec.specs.Laws.{WindowOk, AllKept}
+use Rattle.commit_flush_spec.specs.inside.Invariant.{FramesOk, AllGood}
+use Rattle.commit_flush_spec.specs.inside.Laws.{WindowOk, AllKept}
 use Rattle.block_check.proofs.Spots.{le_true, true_le}
-use Rattle.commit_flush_spec.specs.NextEvent.{next_step, next_of_frame, next_in, while_going, next_event}
-use Rattle.commit_flush_spec.specs.DrivingLaws.{is_step_of, is_guess, IsNextIn, MayFill}
+use Rattle.commit_flush_spec.specs.inside.NextEvent.{next_step, next_of_frame, next_in, while_going, next_event}
+use Rattle.commit_flush_spec.specs.DrivingLaws.{is_step_of}
+use Rattle.commit_flush_spec.specs.inside.DrivingLaws.{is_guess, IsNextIn, MayFill}
 use Rattle.commit_flush_spec.proofs.Search.{clear}
 use Rattle.commit_flush_spec.proofs.Stuck.{quiet_is_complete}
 use Rattle.commit_flush_spec.proofs.Steps.{Stepping, Delivers, Fires, Reads, Stores, Loads, Exits, step_is, quiet_of}

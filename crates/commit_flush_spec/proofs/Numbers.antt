@@ -20,7 +20,7 @@ use Rattle.commit_flush_spec.specs.Dataflow.{deliver, delivered}
 use Rattle.commit_flush_spec.specs.Memory.{taken_of, request, load, load_answered, with_store, store, store_resolved}
 use Rattle.commit_flush_spec.specs.Ends.{exit_by, branch_of, kept, exit}
 use Rattle.commit_flush_spec.specs.Window.{change, alone, flush, in_flight, lowest_empty}
-use Rattle.commit_flush_spec.specs.Laws.{AreNumbers}
+use Rattle.commit_flush_spec.specs.inside.Laws.{AreNumbers}
 use Rattle.commit_flush_spec.proofs.Look.{or_false}
 
 -- the numbers of some frames

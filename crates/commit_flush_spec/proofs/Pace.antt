@@ -9,13 +9,13 @@ use Rattle.commit_flush_spec.specs.Older.{committed}
 use Rattle.commit_flush_spec.specs.Causes.{Done}
 use Rattle.commit_flush_spec.specs.Window.{Window, Event, can, done, happens}
 use Rattle.commit_flush_spec.specs.Window as event
-use Rattle.commit_flush_spec.specs.Invariant.{FramesOk, AllGood}
-use Rattle.commit_flush_spec.specs.Laws.{WindowOk}
+use Rattle.commit_flush_spec.specs.inside.Invariant.{FramesOk, AllGood}
+use Rattle.commit_flush_spec.specs.inside.Laws.{WindowOk}
 use Rattle.commit_flush_spec.proofs.Events.{taken}
-use Rattle.commit_flush_spec.specs.NextEvent.{next_event}
-use Rattle.commit_flush_spec.specs.Work.{oldest_left}
-use Rattle.commit_flush_spec.specs.Driving.{given, drives}
-use Rattle.commit_flush_spec.specs.DrivingLaws.{HasGenerations}
+use Rattle.commit_flush_spec.specs.inside.NextEvent.{next_event}
+use Rattle.commit_flush_spec.specs.inside.Work.{oldest_left}
+use Rattle.commit_flush_spec.specs.inside.Driving.{given, drives}
+use Rattle.commit_flush_spec.specs.inside.DrivingLaws.{HasGenerations}
 use Rattle.commit_flush_spec.proofs.Next.{Next, Fetches, Commits, Seals, Takes, parts, next_done, none_after}
 use Rattle.commit_flush_spec.proofs.FramesSeen.{Lowers, step_lowers, seal_lowers, most_of}
 use Rattle.commit_flush_spec.proofs.Lowered.{fetch_lowers, may_fill, has_work}

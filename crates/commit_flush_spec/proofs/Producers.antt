@@ -22,11 +22,12 @@ use Rattle.trips_isa.specs.Places.{place_of, place_at, first_place, read_node}
 use Rattle.trips_isa.specs.Places.{inst_node, inst_nodes, nodes_of, targets}
 use Rattle.trips_isa.specs.Places.{names}
 use Rattle.trips_isa.specs.Tables.{node_gives, first}
-use Rattle.trips_isa.specs.Blocks.{Responses, Solves, computes, is_read, slot_at, inst_at}
+use Rattle.trips_isa.specs.Blocks.{Responses, computes, is_read, slot_at, inst_at}
+use Rattle.trips_isa.specs.inside.Blocks.{Solves}
 use Rattle.block_cases.specs.Orders.{slot_of}
-use Rattle.block_cases.specs.Good.{NamesPlace}
+use Rattle.block_cases.specs.inside.Good.{NamesPlace}
 use Rattle.block_cases.specs.Cases.{tokens}
-use Rattle.block_cases.specs.Shapes.{shape}
+use Rattle.block_cases.specs.inside.Shapes.{shape}
 use Rattle.block_cases.proofs.Nodes.{not_read}
 use Rattle.block_cases.proofs.Nodes as nodes
 use Rattle.block_check.proofs.Counting.{held_place}

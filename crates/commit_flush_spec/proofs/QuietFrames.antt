@@ -6,7 +6,7 @@ use Rattle.trips_isa.specs.Forms.{form_of, is_load, is_store}
 use Rattle.block_cases.specs.Orders.{slot_of}
 use Rattle.commit_flush_spec.specs.Frames.{Frame, at, slot_node, target, is_target}
 use Rattle.commit_flush_spec.specs.Sending.{token_with}
-use Rattle.commit_flush_spec.specs.NextEvent.{stores_came}
+use Rattle.commit_flush_spec.specs.inside.NextEvent.{stores_came}
 
 -- no token can be delivered, no read answered, no instruction fired; a load that waits waits for a store, a store
 -- that waits has come, and no branch waits

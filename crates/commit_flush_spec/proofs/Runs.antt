@@ -14,15 +14,15 @@ use Rattle.commit_flush_spec.specs.Ends.{outputs, cause_held}
 use Rattle.commit_flush_spec.specs.InFlight.{commit_to}
 use Rattle.commit_flush_spec.specs.Window.{Window, Event, commit, can, done, happens}
 use Rattle.commit_flush_spec.specs.Window as event
-use Rattle.commit_flush_spec.specs.Invariant.{FramesOk, AllGood}
-use Rattle.commit_flush_spec.specs.Laws.{WindowOk}
+use Rattle.commit_flush_spec.specs.inside.Invariant.{FramesOk, AllGood}
+use Rattle.commit_flush_spec.specs.inside.Laws.{WindowOk}
 use Rattle.commit_flush_spec.proofs.Events.{taken, commit_applies}
 use Rattle.commit_flush_spec.proofs.Committing.{commits}
 use Rattle.commit_flush_spec.proofs.Applying.{apply_trace}
-use Rattle.commit_flush_spec.specs.NextEvent.{next_event}
-use Rattle.commit_flush_spec.specs.Work.{work}
-use Rattle.commit_flush_spec.specs.Driving.{given, drives, driven}
-use Rattle.commit_flush_spec.specs.DrivingLaws.{HasGenerations}
+use Rattle.commit_flush_spec.specs.inside.NextEvent.{next_event}
+use Rattle.commit_flush_spec.specs.inside.Work.{work}
+use Rattle.commit_flush_spec.specs.inside.Driving.{given, drives, driven}
+use Rattle.commit_flush_spec.specs.inside.DrivingLaws.{HasGenerations}
 use Rattle.commit_flush_spec.proofs.Next.{Next, Fetches, Commits, Seals, Takes}
 use Rattle.commit_flush_spec.proofs.Next.{parts, next_done, none_after, why_none}
 use Rattle.commit_flush_spec.proofs.FramesSeen.{Lowers, step_lowers, seal_lowers}

@@ -7,7 +7,7 @@ use Rattle.commit_flush_spec.specs.Ends.{all_below}
 use Rattle.commit_flush_spec.specs.Window.{Event}
 use Rattle.commit_flush_spec.proofs.Committing.{both_true}
 use Rattle.block_cases.proofs.Alike.{both_true as both_are}
-use Rattle.commit_flush_spec.specs.NextEvent.{is_done, lowest, event_of}
+use Rattle.commit_flush_spec.specs.inside.NextEvent.{is_done, lowest, event_of}
 
 -- flags and options ------------------------------------------------------------------------------
 

@@ -12,16 +12,17 @@ use Rattle.trips_isa.specs.declared.node.Node.{Node}
 use Rattle.trips_isa.specs.Forms.{form_of, size_of, is_load}
 use Rattle.trips_isa.specs.Rule.{Answer}
 use Rattle.trips_isa.specs.Places.{nodes_of}
-use Rattle.trips_isa.specs.Blocks.{Responses, Solves}
+use Rattle.trips_isa.specs.Blocks.{Responses}
+use Rattle.trips_isa.specs.inside.Blocks.{Solves}
 use Rattle.block_cases.specs.Orders.{slot_of}
 use Rattle.commit_flush_spec.specs.Frames.{Frame, Taken, Bytes, at, slot_node, source, is_target}
 use Rattle.commit_flush_spec.specs.Sending.{put_if, sent, send}
 use Rattle.commit_flush_spec.specs.Older.{Older, after}
-use Rattle.commit_flush_spec.specs.Invariant.{Below, Agrees, Holds, Asked, Leaves, Known, FrameOk, has_sent}
-use Rattle.commit_flush_spec.specs.Invariant.{slot_sent, inst_sent}
+use Rattle.commit_flush_spec.specs.inside.Invariant.{Below, Agrees, Holds, Asked, Leaves, Known, FrameOk, has_sent}
+use Rattle.commit_flush_spec.specs.inside.Invariant.{slot_sent, inst_sent}
 use Rattle.commit_flush_spec.specs.Marks.{Marks, mark_on, mark_sent}
 use Rattle.commit_flush_spec.specs.Sending.{token_with, mark_with}
-use Rattle.commit_flush_spec.specs.Invariant.{MarksAgree}
+use Rattle.commit_flush_spec.specs.inside.Invariant.{MarksAgree}
 use Rattle.commit_flush_spec.proofs.Marking.{mark_here, mark_other, marked}
 use Rattle.commit_flush_spec.proofs.Lists.{equal_or, there_below, set_under, other_at, written_or}
 use Rattle.commit_flush_spec.proofs.Look.{older_refl}

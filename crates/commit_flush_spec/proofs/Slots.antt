@@ -6,8 +6,8 @@ use Rattle.std.proofs.lemmas.Bool.Decides.{nat_tests}
 use Rattle.commit_flush_spec.specs.Frames.{Frame, at}
 use Rattle.commit_flush_spec.specs.Older.{Older, after}
 use Rattle.commit_flush_spec.specs.Window.{change, alone}
-use Rattle.commit_flush_spec.specs.Laws.{AreNumbers}
-use Rattle.commit_flush_spec.specs.Numbered.{before, by_age, seen_at}
+use Rattle.commit_flush_spec.specs.inside.Laws.{AreNumbers}
+use Rattle.commit_flush_spec.specs.inside.Numbered.{before, by_age, seen_at}
 use Rattle.commit_flush_spec.proofs.Lists.{other_at, set_here}
 use Rattle.commit_flush_spec.proofs.Look.{or_false}
 

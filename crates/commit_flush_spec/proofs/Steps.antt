@@ -20,13 +20,14 @@ use Rattle.commit_flush_spec.specs.Memory.{can_store}
 use Rattle.commit_flush_spec.specs.Ends.{can_exit}
 use Rattle.commit_flush_spec.specs.Window.{Event}
 use Rattle.commit_flush_spec.specs.Window as event
-use Rattle.commit_flush_spec.specs.Invariant.{FrameOk, IsRunnable, AllGood}
+use Rattle.commit_flush_spec.specs.inside.Invariant.{FrameOk, IsRunnable, AllGood}
 use Rattle.commit_flush_spec.proofs.Lists.{none_or, there_below}
 use Rattle.commit_flush_spec.proofs.Tokens.{inst_in, read_is}
 use Rattle.commit_flush_spec.proofs.Committing.{both_true}
-use Rattle.commit_flush_spec.specs.NextEvent.{is_done, lowest, slots, reads, places, stores_came}
-use Rattle.commit_flush_spec.specs.NextEvent.{next_token, next_firing, next_read, next_store, next_load, next_exit}
-use Rattle.commit_flush_spec.specs.NextEvent.{next_step}
+use Rattle.commit_flush_spec.specs.inside.NextEvent.{is_done, lowest, slots, reads, places, stores_came}
+use Rattle.commit_flush_spec.specs.inside.NextEvent.{next_token, next_firing, next_read, next_store, next_load}
+use Rattle.commit_flush_spec.specs.inside.NextEvent.{next_exit}
+use Rattle.commit_flush_spec.specs.inside.NextEvent.{next_step}
 use Rattle.commit_flush_spec.proofs.Search.{true_or, not_none, none_is, or_none, or_some, lowest_is, lowest_none}
 use Rattle.commit_flush_spec.proofs.Search.{event_none, event_is, clear, done_is}
 use Rattle.commit_flush_spec.proofs.Stuck.{numbers_are}

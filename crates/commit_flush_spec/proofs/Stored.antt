@@ -23,7 +23,7 @@ use Rattle.block_cases.specs.CaseRule.{no}
 use Rattle.trips_isa.specs.Places.{in_mask}
 use Rattle.block_cases.specs.Orders.{slot_of, bad_slot_number}
 use Rattle.block_cases.proofs.Nodes.{taken_same, slot_got}
-use Rattle.commit_flush_spec.specs.Invariant.{IsRunnable}
+use Rattle.commit_flush_spec.specs.inside.Invariant.{IsRunnable}
 use Rattle.commit_flush_spec.proofs.Look.{or_false}
 use Rattle.commit_flush_spec.proofs.Bytes.{FitsStored}
 use Rattle.commit_flush_spec.proofs.Tokens.{inst_in}

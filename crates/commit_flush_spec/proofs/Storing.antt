@@ -16,21 +16,23 @@ use Rattle.trips_isa.specs.Rule.{Answer, matched, of_both, gives, if_matched}
 use Rattle.trips_isa.specs.Places.{nodes_of, inst_node, first_place}
 use Rattle.trips_isa.specs.Tables.{node_gives}
 use Rattle.trips_isa.specs.Stores.{stored_of}
-use Rattle.trips_isa.specs.Blocks.{Responses, Solves, at_place, computes, is_read, slot_at, inst_at}
+use Rattle.trips_isa.specs.Blocks.{Responses, at_place, computes, is_read, slot_at, inst_at}
+use Rattle.trips_isa.specs.inside.Blocks.{Solves}
 use Rattle.trips_isa.specs.Blocks.{stored_in, stored_if_read, stored_by, store_of}
 use Rattle.block_cases.specs.Orders.{slot_of}
-use Rattle.block_cases.specs.Good.{NamesPlace}
+use Rattle.block_cases.specs.inside.Good.{NamesPlace}
 use Rattle.commit_flush_spec.specs.Frames.{Frame, Bytes, at, numbers, slot_node}
 use Rattle.commit_flush_spec.specs.Sending.{token_with}
 use Rattle.trips_isa.specs.Stores.{byte_seen}
 use Rattle.commit_flush_spec.specs.Older.{Older, after, nearest, violated, cut}
 use Rattle.commit_flush_spec.specs.Causes.{NoFrame, NoRequest, Done}
 use Rattle.commit_flush_spec.specs.Memory.{request, is_request, can_store, with_store, checked, store, store_resolved}
-use Rattle.commit_flush_spec.specs.Invariant.{Below, Agrees, Holds, Asked, FrameOk, FramesOk, AllGood}
-use Rattle.trips_isa.specs.Marks.{mark_at, IsMarking}
+use Rattle.commit_flush_spec.specs.inside.Invariant.{Below, Agrees, Holds, Asked, FrameOk, FramesOk, AllGood}
+use Rattle.trips_isa.specs.Marks.{mark_at}
+use Rattle.trips_isa.specs.inside.Marks.{IsMarking}
 use Rattle.commit_flush_spec.specs.Sending.{mark_with}
 use Rattle.commit_flush_spec.specs.Marks.{mark_on, mark_stored}
-use Rattle.commit_flush_spec.specs.Invariant.{MarksAgree}
+use Rattle.commit_flush_spec.specs.inside.Invariant.{MarksAgree}
 use Rattle.commit_flush_spec.proofs.Marking.{mark_here, mark_other, marked, mark_placed}
 use Rattle.commit_flush_spec.proofs.Lists.{equal_or, below_is, is_below, set_under, set_over, given_or, other_at}
 use Rattle.commit_flush_spec.proofs.Look.{OlderBut, nearest_apart, bytes_apart, not_hit}

@@ -18,12 +18,13 @@ use Rattle.trips_isa.specs.Fits.{FitsRead}
 use Rattle.trips_isa.specs.Rule.{Answer}
 use Rattle.trips_isa.specs.Places.{nodes_of, inst_node, targets, names, load_bound, in_mask}
 use Rattle.trips_isa.specs.Tables.{node_gives, stores_below, Edge, Ranked}
-use Rattle.trips_isa.specs.Blocks.{Solves, at_place, computes}
+use Rattle.trips_isa.specs.Blocks.{at_place, computes}
+use Rattle.trips_isa.specs.inside.Blocks.{Solves}
 use Rattle.trips_isa.specs.Limits.{most_nodes}
 use Rattle.block_cases.specs.Orders.{slot_of}
-use Rattle.block_cases.specs.Good.{NamesPlace, OneToken}
+use Rattle.block_cases.specs.inside.Good.{NamesPlace, OneToken}
 use Rattle.block_cases.specs.Blocks.{wanted_of}
-use Rattle.block_cases.specs.Shapes.{shape}
+use Rattle.block_cases.specs.inside.Shapes.{shape}
 use Rattle.block_cases.proofs.Alike.{both_true as both_are}
 use Rattle.block_cases.proofs.Nodes.{taken_same}
 use Rattle.block_cases.proofs.Steady.{to_left, to_right, to_predicate, or_right}
@@ -33,14 +34,15 @@ use Rattle.commit_flush_spec.specs.Frames.{Frame, at, numbers, slot_node, source
 use Rattle.commit_flush_spec.specs.Sending.{token_with}
 use Rattle.commit_flush_spec.specs.Older.{Older}
 use Rattle.commit_flush_spec.specs.Ends.{write_came, store_came, complete}
-use Rattle.commit_flush_spec.specs.Invariant.{Holds, FrameOk, IsRunnable, AllGood, has_sent, slot_sent, inst_sent}
-use Rattle.commit_flush_spec.specs.Laws.{NoneLost}
+use Rattle.commit_flush_spec.specs.inside.Invariant.{Holds, FrameOk, IsRunnable, AllGood, has_sent, slot_sent}
+use Rattle.commit_flush_spec.specs.inside.Invariant.{inst_sent}
+use Rattle.commit_flush_spec.specs.inside.Laws.{NoneLost}
 use Rattle.commit_flush_spec.proofs.Lists.{below_is, none_or}
 use Rattle.commit_flush_spec.proofs.Tokens.{inst_in, one_law}
 use Rattle.commit_flush_spec.proofs.Frames.{own, seen, own_solves, own_holds}
 use Rattle.commit_flush_spec.proofs.Sends.{slot_source, slot_sends, read_source, read_sends}
 use Rattle.commit_flush_spec.proofs.Stored.{inst_fits, number_small, first_holds}
-use Rattle.commit_flush_spec.specs.NextEvent.{stores_came}
+use Rattle.commit_flush_spec.specs.inside.NextEvent.{stores_came}
 use Rattle.commit_flush_spec.proofs.Search.{some_is, is_there, all_from}
 use Rattle.commit_flush_spec.proofs.Producers.{IsNode, AtRead, AtSlot, a_node, node_of_slot, named_or}
 use Rattle.commit_flush_spec.proofs.Producers.{slot_names, read_names, giver, node_gives_too}

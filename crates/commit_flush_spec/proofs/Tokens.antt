@@ -20,14 +20,16 @@ use Rattle.trips_isa.specs.Forms.{form_of, role_of, role_in, size_of, is_load}
 use Rattle.trips_isa.specs.Alu.{loaded_as}
 use Rattle.trips_isa.specs.Rule.{Answer, matched, of_one, of_both, gives, if_matched}
 use Rattle.trips_isa.specs.Places.{targets, names, read_node, inst_node, inst_nodes, nodes_of}
-use Rattle.trips_isa.specs.Tables.{taken, or_else, first, node_gives, pulled, deepest}
+use Rattle.trips_isa.specs.Tables.{taken, or_else, first, node_gives, deepest}
+use Rattle.trips_isa.specs.inside.Tables.{pulled}
 use Rattle.trips_isa.specs.Stores.{load_of, address_of, is_good_address}
-use Rattle.trips_isa.specs.Blocks.{Responses, Solves, computes, computes_if_read, slot_computes}
+use Rattle.trips_isa.specs.Blocks.{Responses, computes, computes_if_read, slot_computes}
+use Rattle.trips_isa.specs.inside.Blocks.{Solves}
 use Rattle.trips_isa.specs.Blocks.{form_computes, is_read, slot_at, inst_at, at_place}
 use Rattle.block_cases.specs.Orders.{slot_of}
-use Rattle.block_cases.specs.Good.{OneToken, NamesPlace}
+use Rattle.block_cases.specs.inside.Good.{OneToken, NamesPlace}
 use Rattle.block_cases.specs.Blocks.{wanted_of}
-use Rattle.block_cases.specs.Shapes.{shape}
+use Rattle.block_cases.specs.inside.Shapes.{shape}
 use Rattle.block_cases.proofs.Placed.{nodes_placed}
 use Rattle.block_cases.proofs.OneToken.{good_machine}
 use Rattle.block_cases.proofs.AnyBits.{one_producer, one_at_most}
@@ -35,7 +37,7 @@ use Rattle.block_cases.proofs.Unique.{present_shape, pulled_is_table}
 use Rattle.block_cases.proofs.Nodes.{past_reads}
 use Rattle.commit_flush_spec.specs.Frames.{Frame, at, slot_node}
 use Rattle.commit_flush_spec.specs.Sending.{token_with}
-use Rattle.commit_flush_spec.specs.Invariant.{Below, IsRunnable}
+use Rattle.commit_flush_spec.specs.inside.Invariant.{Below, IsRunnable}
 use Rattle.commit_flush_spec.proofs.Lists.{below_is, is_below, below_trans, none_or}
 
 -- the rule is monotone ---------------------------------------------------------------------------

@@ -14,14 +14,14 @@ use Rattle.commit_flush_spec.specs.Dataflow.{read, fire, deliver}
 use Rattle.commit_flush_spec.specs.Memory.{request, is_request, can_store, load, store, store_resolved, with_store}
 use Rattle.commit_flush_spec.specs.Ends.{can_exit, exit, exit_by, branch_of, branch_mark, seal}
 use Rattle.commit_flush_spec.specs.Window.{Window, Event, change, alone, done, happens}
-use Rattle.commit_flush_spec.specs.Invariant.{FrameOk, FramesOk, AllGood}
-use Rattle.commit_flush_spec.specs.Laws.{WindowOk}
+use Rattle.commit_flush_spec.specs.inside.Invariant.{FrameOk, FramesOk, AllGood}
+use Rattle.commit_flush_spec.specs.inside.Laws.{WindowOk}
 use Rattle.commit_flush_spec.proofs.Events.{taken}
 use Rattle.commit_flush_spec.proofs.Frames.{not_now}
 use Rattle.commit_flush_spec.proofs.Loads.{Stands, stands}
-use Rattle.commit_flush_spec.specs.NextEvent.{next_event}
-use Rattle.commit_flush_spec.specs.Work.{none_guessed}
-use Rattle.commit_flush_spec.specs.DrivingLaws.{MayFill, StaysOldest}
+use Rattle.commit_flush_spec.specs.inside.NextEvent.{next_event}
+use Rattle.commit_flush_spec.specs.inside.Work.{none_guessed}
+use Rattle.commit_flush_spec.specs.inside.DrivingLaws.{MayFill, StaysOldest}
 use Rattle.commit_flush_spec.proofs.Guesses.{not_violated}
 use Rattle.commit_flush_spec.proofs.Falls.{Falls, read_falls, fire_falls, deliver_falls, load_falls, stored_falls}
 use Rattle.commit_flush_spec.proofs.Falls.{exit_falls, seal_falls}

@@ -13,7 +13,7 @@ use Rattle.trips_isa.specs.Outcomes.{Effects}
 use Rattle.trips_isa.specs.Machine.{State, apply}
 use Rattle.trips_isa.specs.Outcomes.{Comes, Faults, unless}
 use Rattle.trips_isa.specs.Machine.{come_to, step_of, goes_on, runs}
-use Rattle.block_cases.specs.Plain.{IsTrap}
+use Rattle.block_cases.specs.inside.Plain.{IsTrap}
 use Rattle.block_cases.proofs.Traps.{applied_goes}
 use Rattle.commit_flush_spec.specs.Ends.{cause_held}
 use Rattle.commit_flush_spec.specs.InFlight.{commit_to}
@@ -30,8 +30,9 @@ use Rattle.commit_flush_spec.specs.Window.{Window, Event, on_frame, change, alon
 use Rattle.commit_flush_spec.specs.Window.{is_worn, can_fetch, fetched, is_sealed, can_commit, commit}
 use Rattle.commit_flush_spec.specs.Window.{can_now, unless_over, can, done, if_done, happens, plays}
 use Rattle.commit_flush_spec.specs.Window as event
-use Rattle.commit_flush_spec.specs.Invariant.{FramesOk, AllGood}
-use Rattle.commit_flush_spec.specs.Laws.{WindowOk, TakesSteps, NoneLost, AllKept, AreNumbers}
+use Rattle.commit_flush_spec.specs.inside.Invariant.{FramesOk, AllGood}
+use Rattle.commit_flush_spec.specs.Laws.{TakesSteps}
+use Rattle.commit_flush_spec.specs.inside.Laws.{WindowOk, NoneLost, AllKept, AreNumbers}
 use Rattle.commit_flush_spec.proofs.Kept.{read_kept, fire_kept}
 use Rattle.commit_flush_spec.proofs.KeptFrames.{load_kept, deliver_kept, store_kept, exit_kept, seal_kept}
 use Rattle.commit_flush_spec.proofs.KeptFrames.{fetch_kept, change_kept, alone_kept}
@@ -39,7 +40,7 @@ use Rattle.commit_flush_spec.proofs.Numbers.{nums, Begins, beginning, change_num
 use Rattle.commit_flush_spec.proofs.Numbers.{read_number, fire_number, deliver_number, load_number}
 use Rattle.commit_flush_spec.proofs.Numbers.{store_numbers, exit_numbers, flush_numbers, lowest_is}
 use Rattle.commit_flush_spec.proofs.Numbers.{fetch_numbers}
-use Rattle.commit_flush_spec.specs.Invariant.{FrameOk}
+use Rattle.commit_flush_spec.specs.inside.Invariant.{FrameOk}
 use Rattle.commit_flush_spec.proofs.Frames.{Goes, not_now, change_ok, alone_ok}
 use Rattle.commit_flush_spec.proofs.Flow.{some_of, read_ok, fire_ok}
 use Rattle.commit_flush_spec.proofs.Loads.{load_ok}

@@ -8,7 +8,7 @@ use Rattle.commit_flush_spec.specs.Frames.{Frame, at, numbers, slot_node}
 use Rattle.commit_flush_spec.specs.Sending.{mark_with}
 use Rattle.commit_flush_spec.specs.Older.{Older, after, follows, successor_of, nearest, passes, violated}
 use Rattle.commit_flush_spec.specs.Memory.{request, with_store}
-use Rattle.commit_flush_spec.specs.Ends.{exit_by, branch_of, branch_mark, with_exit}
+use Rattle.commit_flush_spec.specs.Ends.{exit_by, branch_of}
 
 -- how many frames a change of the frame of a number leaves, where `left` says how many of it and those behind it
 abbrev pub left_by : (Older → Frame → List Frame → ℕ) → Older → List Frame → ℕ → ℕ
@@ -39,10 +39,6 @@ abbrev pub resolved_leaves : ℕ → Frame → List Frame → Option (ℕ × Ins
 resolved_leaves n f fs None = suc (length fs)
 resolved_leaves n f fs (Some q) = store_leaves n (with_resolved n f (Some q)) fs
 
--- the store that waits with number n changes its frame so, and leaves so many
-abbrev pub stored_alone : ℕ → Older → Frame → Frame
-stored_alone n o f = with_resolved n f (request f n)
-
 -- how many frames are left from the storing one on: those before the first that the store flushes,
 -- which may be the storing one itself
 abbrev pub store_left : ℕ → Older → Frame → List Frame → ℕ
@@ -55,20 +51,10 @@ abbrev pub exit_leaves : Option ℕ → List Frame → ℕ
 exit_leaves known [] = 0
 exit_leaves known (f ∷ fs) = cond (follows known f.block) (suc (length fs)) 0
 
--- the branch that waits changes its frame so, and leaves so many
-abbrev pub exited_alone : List Block → Older → Frame → Frame
-exited_alone blocks o f = with_exit (exit_by blocks f.block (branch_of f f.leaving)) (branch_mark f f.leaving) f
-
 -- how many are left from the leaving one on: all, or itself alone where the next one holds another
 -- block than its exit names
 abbrev pub exit_left : List Block → Older → Frame → List Frame → ℕ
 exit_left blocks o f fs = suc (exit_leaves (successor_of (exit_by blocks f.block (branch_of f f.leaving))) fs)
-
--- flushes --------------------------------------------------------------------------------------
-
--- the frame as it is, of which none is left
-abbrev pub unchanged : Older → Frame → Frame
-unchanged o f = f
 
 -- a flush leaves none from its frame on
 abbrev pub none_left : Older → Frame → List Frame → ℕ

@@ -27,18 +27,18 @@ use Rattle.c_meaning_spec.specs.Eval.{meaning}
 use Rattle.c_meaning_spec.proofs.Equations.{meaning-is}
 use Rattle.c_meaning_spec.proofs.Induction.{meaning-falls}
 use Rattle.ir_forms.specs.declared.flat.Arg.TheVariants.{Const, Var}
-use Rattle.ir_forms.specs.FlatCode.{Code, Nop, Then}
-use Rattle.ir_forms.specs.FlatSteps.{State, read, read_all, beside}
-use Rattle.ir_forms.specs.FlatRuns.{checked}
+use Rattle.ir_forms.specs.inside.FlatCode.{Code, Nop, Then}
+use Rattle.ir_forms.specs.inside.FlatSteps.{State, read, read_all, beside}
+use Rattle.ir_forms.specs.inside.FlatRuns.{checked}
 use Rattle.ir_forms.proofs.Steps.{then_then}
-use Rattle.flat_lower.specs.Tree as tree
-use Rattle.flat_lower.specs.TreeViews.{expr_of, exprs_of}
+use Rattle.flat_lower.specs.inside.Tree as tree
+use Rattle.flat_lower.specs.inside.TreeViews.{expr_of, exprs_of}
 use Rattle.c_constant.specs.Kinds.{IsWord}
-use Rattle.flat_lower.specs.Operations.{temp, copied}
-use Rattle.flat_lower.specs.Objects.{Context, whole_code}
-use Rattle.flat_lower.specs.Expressions.{global_code, name_code, expr_code, args_code, temps}
-use Rattle.flat_lower.specs.Fits.{GlobalIs, FitsWhole, FitsArg, FitsArgs, FitsExpr}
-use Rattle.flat_lower.specs.Sizes.{nodes, all_nodes}
+use Rattle.flat_lower.specs.inside.Operations.{temp, copied}
+use Rattle.flat_lower.specs.inside.Objects.{Context, whole_code}
+use Rattle.flat_lower.specs.inside.Expressions.{global_code, name_code, expr_code, args_code, temps}
+use Rattle.flat_lower.specs.inside.Fits.{GlobalIs, FitsWhole, FitsArg, FitsArgs, FitsExpr}
+use Rattle.flat_lower.specs.inside.Sizes.{nodes, all_nodes}
 use Rattle.flat_lower.proofs.Straight.{Puts, var_read}
 use Rattle.flat_lower.proofs.TreeFacts.{plain_node, expr_is, kind_is}
 use Rattle.flat_lower.proofs.Follows.{Post, Settles, Goes, Follows, then_follows, needed, wanted}

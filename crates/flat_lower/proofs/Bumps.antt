@@ -36,25 +36,25 @@ use Rattle.c_meaning_spec.specs.Eval.{meaning, length_of}
 use Rattle.trips_isa.specs.declared.op.Op.TheVariants as op
 use Rattle.trips_isa.specs.Alu.{alu_of, test}
 use Rattle.ir_forms.specs.declared.flat.Arg.TheVariants.{Const, Var}
-use Rattle.ir_forms.specs.FlatCode.{Code, Nop, Then, only, Let, Load, If}
-use Rattle.ir_forms.specs.Cells.{apply}
-use Rattle.ir_forms.specs.Cells as cells
-use Rattle.ir_forms.specs.FlatSteps.{State, read}
-use Rattle.ir_forms.specs.FlatRuns.{checked}
+use Rattle.ir_forms.specs.inside.FlatCode.{Code, Nop, Then, only, Let, Load, If}
+use Rattle.ir_forms.specs.inside.Cells.{apply}
+use Rattle.ir_forms.specs.inside.Cells as cells
+use Rattle.ir_forms.specs.inside.FlatSteps.{State, read}
+use Rattle.ir_forms.specs.inside.FlatRuns.{checked}
 use Rattle.ir_forms.proofs.Steps.{if_one, if_other}
-use Rattle.flat_lower.specs.Tree.{kind_of}
-use Rattle.flat_lower.specs.Tree as tree
-use Rattle.flat_lower.specs.TreeViews.{expr_of}
+use Rattle.flat_lower.specs.inside.Tree.{kind_of}
+use Rattle.flat_lower.specs.inside.Tree as tree
+use Rattle.flat_lower.specs.inside.TreeViews.{expr_of}
 use Rattle.c_constant.specs.Kinds.{IsWord}
-use Rattle.flat_lower.specs.Kinds.{IsArithmetic}
-use Rattle.flat_lower.specs.Operations.{temp, scratch, set_word, copied, converted_here}
-use Rattle.flat_lower.specs.Operations.{binary_code, unary_code, load_op}
-use Rattle.flat_lower.specs.Objects.{Context, global_at, address_code}
-use Rattle.flat_lower.specs.Expressions.{with_kind, global_code, name_code, element_code, tested}
-use Rattle.flat_lower.specs.Expressions.{binary_end, operand_at, expr_code}
-use Rattle.flat_lower.specs.Fits.{GlobalIs, FitsName, FitsWhole, IsOperand, FitsRight, FitsStrict}
-use Rattle.flat_lower.specs.Fits.{FitsBinary, FitsUnary, FitsExpr, FitsKind}
-use Rattle.flat_lower.specs.Sizes.{nodes}
+use Rattle.flat_lower.specs.inside.Kinds.{IsArithmetic}
+use Rattle.flat_lower.specs.inside.Operations.{temp, scratch, set_word, copied, converted_here}
+use Rattle.flat_lower.specs.inside.Operations.{binary_code, unary_code, load_op}
+use Rattle.flat_lower.specs.inside.Objects.{Context, global_at, address_code}
+use Rattle.flat_lower.specs.inside.Expressions.{with_kind, global_code, name_code, element_code, tested}
+use Rattle.flat_lower.specs.inside.Expressions.{binary_end, operand_at, expr_code}
+use Rattle.flat_lower.specs.inside.Fits.{GlobalIs, FitsName, FitsWhole, IsOperand, FitsRight, FitsStrict}
+use Rattle.flat_lower.specs.inside.Fits.{FitsBinary, FitsUnary, FitsExpr, FitsKind}
+use Rattle.flat_lower.specs.inside.Sizes.{nodes}
 use Rattle.c_constant.proofs.Conversions.{converted_is}
 use Rattle.flat_lower.proofs.Operators.{test_fits}
 use Rattle.flat_lower.proofs.Straight.{Puts, puts_none, puts_let, puts_both, puts_as, puts_within}
@@ -81,13 +81,13 @@ use Rattle.c_meaning_spec.specs.Task.{scalar_of, row_element_of}
 use Rattle.c_tree.specs.TypedTrees.{Node, node_of}
 use Rattle.c_meaning_spec.specs.Expression.{giving, bump_object, bump_element, bump}
 use Rattle.ir_forms.specs.declared.flat.Arg.{Arg}
-use Rattle.ir_forms.specs.FlatCode.{Save}
-use Rattle.ir_forms.specs.FlatSteps.{with_memory}
-use Rattle.flat_lower.specs.Operations.{bumped, is_before, save_op}
-use Rattle.flat_lower.specs.Expressions.{bump_scalar, bump_memory, bump_name}
-use Rattle.flat_lower.specs.Expressions.{bump_element as element_bump, bump_code, index_code}
-use Rattle.flat_lower.specs.Fits.{FitsLeft, FitsNamed, FitsElement}
-use Rattle.flat_lower.specs.Sizes.{left_nodes}
+use Rattle.ir_forms.specs.inside.FlatCode.{Save}
+use Rattle.ir_forms.specs.inside.FlatSteps.{with_memory}
+use Rattle.flat_lower.specs.inside.Operations.{bumped, is_before, save_op}
+use Rattle.flat_lower.specs.inside.Expressions.{bump_scalar, bump_memory, bump_name}
+use Rattle.flat_lower.specs.inside.Expressions.{bump_element as element_bump, bump_code, index_code}
+use Rattle.flat_lower.specs.inside.Fits.{FitsLeft, FitsNamed, FitsElement}
+use Rattle.flat_lower.specs.inside.Sizes.{left_nodes}
 use Rattle.flat_lower.proofs.Straight.{Sets, bump_works}
 use Rattle.flat_lower.proofs.Objects.{put_element}
 use Rattle.flat_lower.proofs.TreeFacts.{plain_node, expr_is, kind_levels}

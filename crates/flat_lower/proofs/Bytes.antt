@@ -12,12 +12,12 @@ use Rattle.trips_isa.specs.declared.op.Op.{Op}
 use Rattle.trips_isa.specs.Alu.{loaded_as}
 use Rattle.trips_isa.specs.Forms as isa
 use Rattle.trips_isa.specs.Stores.{is_good_address}
-use Rattle.ir_forms.specs.Cells.{Mark, Closed, Open, Held, Cell, Memory, number_at, byte_put}
-use Rattle.ir_forms.specs.Cells.{number_put, is_held, is_open, all_held, all_open, marked, provided}
-use Rattle.ir_forms.specs.Cells.{load, save}
-use Rattle.ir_forms.specs.FlatRuns.{checked}
+use Rattle.ir_forms.specs.inside.Cells.{Mark, Closed, Open, Held, Cell, Memory, number_at, byte_put}
+use Rattle.ir_forms.specs.inside.Cells.{number_put, is_held, is_open, all_held, all_open, marked, provided}
+use Rattle.ir_forms.specs.inside.Cells.{load, save}
+use Rattle.ir_forms.specs.inside.FlatRuns.{checked}
 use Rattle.c_constant.specs.Kinds.{IsWord}
-use Rattle.flat_lower.specs.Operations.{load_op, save_op}
+use Rattle.flat_lower.specs.inside.Operations.{load_op, save_op}
 use Rattle.c_constant.proofs.Conversions.{converted_is}
 
 -- BYTES THAT ARE THE SAME

@@ -30,25 +30,25 @@ use Rattle.trips_isa.specs.declared.op.Op.TheVariants as op
 use Rattle.trips_isa.specs.Stores.{data_size}
 use Rattle.ir_forms.specs.declared.flat.Arg.{Arg}
 use Rattle.ir_forms.specs.declared.flat.Arg.TheVariants.{Const, Var}
-use Rattle.ir_forms.specs.FlatCode.{Code, Nop, Then, only, Put, Get, Let, Function}
-use Rattle.ir_forms.specs.FlatCode as flat
-use Rattle.ir_forms.specs.FlatViews.{stays}
-use Rattle.ir_forms.specs.Frames.{frame_limit, frame_of}
-use Rattle.ir_forms.specs.Cells.{apply}
-use Rattle.ir_forms.specs.FlatSteps.{State, TooDeep, counted, settle, read_all, with_output}
-use Rattle.ir_forms.specs.FlatSteps.{with_next, with_var, var_put}
-use Rattle.ir_forms.specs.FlatRuns.{checked}
+use Rattle.ir_forms.specs.inside.FlatCode.{Code, Nop, Then, only, Put, Get, Let, Function}
+use Rattle.ir_forms.specs.inside.FlatCode as flat
+use Rattle.ir_forms.specs.inside.FlatViews.{stays}
+use Rattle.ir_forms.specs.inside.Frames.{frame_limit, frame_of}
+use Rattle.ir_forms.specs.inside.Cells.{apply}
+use Rattle.ir_forms.specs.inside.FlatSteps.{State, TooDeep, counted, settle, read_all, with_output}
+use Rattle.ir_forms.specs.inside.FlatSteps.{with_next, with_var, var_put}
+use Rattle.ir_forms.specs.inside.FlatRuns.{checked}
 use Rattle.ir_forms.proofs.Leads.{Leads}
 use Rattle.ir_forms.proofs.Steps.{call_leads, get_leads, put_leads, then_moves, then_nop}
-use Rattle.flat_lower.specs.Tree.{Func}
-use Rattle.flat_lower.specs.Tree as tree
-use Rattle.flat_lower.specs.TreeViews.{func_of, expr_of, exprs_of, stmt_of, source_of}
+use Rattle.flat_lower.specs.inside.Tree.{Func}
+use Rattle.flat_lower.specs.inside.Tree as tree
+use Rattle.flat_lower.specs.inside.TreeViews.{func_of, expr_of, exprs_of, stmt_of, source_of}
 use Rattle.c_constant.specs.Kinds.{IsWord}
-use Rattle.flat_lower.specs.Operations.{temp}
-use Rattle.flat_lower.specs.Expressions.{temps, result_var, call_code, args_code, expr_code}
-use Rattle.flat_lower.specs.Fits.{FitsArgs, FitsCall, FitsExpr, FitsOne, FitsFunc, FitsSource}
-use Rattle.flat_lower.specs.Fits.{FitsStmt}
-use Rattle.flat_lower.specs.Sizes.{nodes, all_nodes, size_of, IsMost}
+use Rattle.flat_lower.specs.inside.Operations.{temp}
+use Rattle.flat_lower.specs.inside.Expressions.{temps, result_var, call_code, args_code, expr_code}
+use Rattle.flat_lower.specs.inside.Fits.{FitsArgs, FitsCall, FitsExpr, FitsOne, FitsFunc, FitsSource}
+use Rattle.flat_lower.specs.inside.Fits.{FitsStmt}
+use Rattle.flat_lower.specs.inside.Sizes.{nodes, all_nodes, size_of, IsMost}
 use Rattle.flat_lower.proofs.Straight.{puts_let, var_read, put_at, put_other}
 use Rattle.flat_lower.specs.declared.around.Around.TheVariants as around
 use Rattle.flat_lower.proofs.Follows.{Post, Goes, Follows, FollowsOver, wanted, moved}

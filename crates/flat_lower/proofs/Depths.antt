@@ -1,9 +1,9 @@
 -- An expression that fits at a depth has that temporary.
 use Rattle.std.proofs.Common.{◌≡◌, ℕ, suc, ◌<◌, Option, Some, None}
 use Rattle.c_tree.specs.declared.Kind.{Kind}
-use Rattle.flat_lower.specs.Tree.{Expr, Number, Name, Element, Call, Unary, Cast, Convert, Bump}
-use Rattle.flat_lower.specs.Tree.{Binary, Choice, Assign, Comma, RowElement}
-use Rattle.flat_lower.specs.Fits.{Scope, FitsExpr, FitsLeft}
+use Rattle.flat_lower.specs.inside.Tree.{Expr, Number, Name, Element, Call, Unary, Cast, Convert, Bump}
+use Rattle.flat_lower.specs.inside.Tree.{Binary, Choice, Assign, Comma, RowElement}
+use Rattle.flat_lower.specs.inside.Fits.{Scope, FitsExpr, FitsLeft}
 
 mutual
   -- An expression that fits stands at a depth below 16.

@@ -5,13 +5,13 @@ use Rattle.c_tree.specs.declared.TypedExpr.{TypedExpr}
 use Rattle.ir_forms.specs.declared.flat.Arg.{Arg}
 use Rattle.ir_forms.specs.declared.flat.Arg.TheVariants.{Var}
 use Rattle.ir_forms.specs.declared.flat.FlatStmt.{FlatStmt}
-use Rattle.ir_forms.specs.FlatCode.{Then}
-use Rattle.ir_forms.specs.FlatViews.{code_of}
-use Rattle.flat_lower.specs.Operations.{temp}
-use Rattle.flat_lower.specs.Objects.{Context}
-use Rattle.flat_lower.specs.TreeViews.{expr_of}
-use Rattle.flat_lower.specs.Expressions.{expr_code, args_code, temps}
-use Rattle.flat_lower.specs.Emitted.{Adds, args_of}
+use Rattle.ir_forms.specs.inside.FlatCode.{Then}
+use Rattle.ir_forms.specs.inside.FlatViews.{code_of}
+use Rattle.flat_lower.specs.inside.Operations.{temp}
+use Rattle.flat_lower.specs.inside.Objects.{Context}
+use Rattle.flat_lower.specs.inside.TreeViews.{expr_of}
+use Rattle.flat_lower.specs.inside.Expressions.{expr_code, args_code, temps}
+use Rattle.flat_lower.specs.inside.Emitted.{Adds, args_of}
 use Rattle.flat_lower.proofs.Emits.{then_then, then_nop}
 use Rattle.flat_lower.proofs.EmitWeights.{count_all}
 

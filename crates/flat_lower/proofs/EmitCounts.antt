@@ -2,18 +2,18 @@
 use Rattle.std.proofs.Common.{◌≡◌, ℕ, suc, ◌+◌, ◌≤◌, List, [], ◌∷◌, refl, sym, ap, ◌∙◌, arith}
 use Rattle.c_tree.specs.declared.TypedStmt.{TypedStmt}
 use Rattle.ir_forms.specs.declared.flat.FlatStmt.{FlatStmt}
-use Rattle.ir_forms.specs.FlatCode.{Then}
-use Rattle.ir_forms.specs.FlatViews.{code_of}
-use Rattle.flat_lower.specs.Tree.{Stmt, Declare, Plain, Compound, If, While, Do, For, Break}
-use Rattle.flat_lower.specs.Tree.{Continue, Return, Stmts, NoStmts, WithStmt, First, Nothing}
-use Rattle.flat_lower.specs.Tree.{FirstOf, Locals, Switch, Sections, NoSections, WithSection}
+use Rattle.ir_forms.specs.inside.FlatCode.{Then}
+use Rattle.ir_forms.specs.inside.FlatViews.{code_of}
+use Rattle.flat_lower.specs.inside.Tree.{Stmt, Declare, Plain, Compound, If, While, Do, For, Break}
+use Rattle.flat_lower.specs.inside.Tree.{Continue, Return, Stmts, NoStmts, WithStmt, First, Nothing}
+use Rattle.flat_lower.specs.inside.Tree.{FirstOf, Locals, Switch, Sections, NoSections, WithSection}
 use Rattle.c_tree.specs.declared.TypedSection.{TypedSection}
 use Rattle.flat_lower.specs.declared.around.Around.{Around}
-use Rattle.flat_lower.specs.TreeViews.{stmt_of}
-use Rattle.flat_lower.specs.Objects.{Context}
-use Rattle.flat_lower.specs.Statements.{stmt_code, stmts_code, sections_code}
-use Rattle.flat_lower.specs.Switches.{section_code}
-use Rattle.flat_lower.specs.Emitted.{Adds, block_of, sections_in}
+use Rattle.flat_lower.specs.inside.TreeViews.{stmt_of}
+use Rattle.flat_lower.specs.inside.Objects.{Context}
+use Rattle.flat_lower.specs.inside.Statements.{stmt_code, stmts_code, sections_code}
+use Rattle.flat_lower.specs.inside.Switches.{section_code}
+use Rattle.flat_lower.specs.inside.Emitted.{Adds, block_of, sections_in}
 use Rattle.flat_lower.proofs.Emits.{then_then, then_nop}
 
 abbrev mutual

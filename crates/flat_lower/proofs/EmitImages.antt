@@ -3,8 +3,8 @@ use Rattle.std.proofs.Common.{◌≡◌, ℕ, zero, suc, ◌+◌, ◌-◌, ◌*�
 use Rattle.std.proofs.Common.{◌++◌, length, drop, replicate, get_or, refl, sym, ap, ◌∙◌}
 use Rattle.std.proofs.Common.{append_assoc, arith}
 use Rattle.std.proofs.Math.Seq.{drop-cons}
-use Rattle.flat_lower.specs.Statements.{word_bytes}
-use Rattle.flat_lower.specs.Emitted.{starts_from}
+use Rattle.flat_lower.specs.inside.Statements.{word_bytes}
+use Rattle.flat_lower.specs.inside.Emitted.{starts_from}
 
 -- a byte's place as a power
 pub powers : (n : ℕ) → n < 8 → 2 ^ (8 * n) ≡ 256 ^ n

@@ -3,10 +3,10 @@ use Rattle.std.proofs.Common.{◌≡◌, ℕ, suc, Bool, true, false, cond, List
 use Rattle.std.proofs.Common.{None, refl, sym, ap, ◌∙◌}
 use Rattle.c_tree.specs.declared.TypedSection.{TypedSection}
 use Rattle.ir_forms.specs.declared.flat.FlatStmt.{FlatStmt}
-use Rattle.ir_forms.specs.FlatCode.{Then}
-use Rattle.ir_forms.specs.FlatViews.{code_of}
-use Rattle.flat_lower.specs.Switches.{label_code, labels_code, compared_code, section_count}
-use Rattle.flat_lower.specs.Emitted.{Adds, sections_in}
+use Rattle.ir_forms.specs.inside.FlatCode.{Then}
+use Rattle.ir_forms.specs.inside.FlatViews.{code_of}
+use Rattle.flat_lower.specs.inside.Switches.{label_code, labels_code, compared_code, section_count}
+use Rattle.flat_lower.specs.inside.Emitted.{Adds, sections_in}
 use Rattle.flat_lower.proofs.Emits.{then_then, then_nop}
 
 -- some labels are emitted, and `rest` are to come

@@ -8,10 +8,10 @@ use Rattle.c_tree.specs.declared.TypedNode.{TypedNode, roll-TypedNode, out-Typed
 use Rattle.c_tree.specs.declared.TypedNode.{roll-out-TypedNode}
 use Rattle.c_tree.specs.declared.TypedNode.TheVariants as node
 use Rattle.c_tree.specs.declared.TypedNode.TheOpen.{TypedNode-F}
-use Rattle.flat_lower.specs.TreeViews.{expr_of}
-use Rattle.flat_lower.specs.Objects.{Context}
-use Rattle.flat_lower.specs.Expressions.{expr_code}
-use Rattle.flat_lower.specs.Statements.{named_scalar, simple_arg, plain_code}
+use Rattle.flat_lower.specs.inside.TreeViews.{expr_of}
+use Rattle.flat_lower.specs.inside.Objects.{Context}
+use Rattle.flat_lower.specs.inside.Expressions.{expr_code}
+use Rattle.flat_lower.specs.inside.Statements.{named_scalar, simple_arg, plain_code}
 use Rattle.flat_lower.proofs.EmitTrees.{level, by_out}
 
 module _ (f : TypedExpr) where

@@ -10,13 +10,13 @@ use Rattle.c_tree.specs.declared.TypedNode.{roll-out-TypedNode}
 use Rattle.c_tree.specs.declared.TypedNode.TheVariants as node
 use Rattle.c_tree.specs.declared.TypedNode.TheOpen.{TypedNode-F}
 use Rattle.ir_forms.specs.declared.flat.FlatStmt.{FlatStmt}
-use Rattle.ir_forms.specs.FlatCode.{Code, Nop, Then}
-use Rattle.flat_lower.specs.Tree.{Expr, Name, Element, RowElement, Bump, Assign, kind_of}
-use Rattle.flat_lower.specs.TreeViews.{expr_of}
-use Rattle.flat_lower.specs.Objects.{Context}
-use Rattle.flat_lower.specs.Expressions.{with_kind, bump_code, before_right, after_right, right_at}
-use Rattle.flat_lower.specs.Expressions.{expr_code, index_code}
-use Rattle.flat_lower.specs.Emitted.{Adds, side_in, shape}
+use Rattle.ir_forms.specs.inside.FlatCode.{Code, Nop, Then}
+use Rattle.flat_lower.specs.inside.Tree.{Expr, Name, Element, RowElement, Bump, Assign, kind_of}
+use Rattle.flat_lower.specs.inside.TreeViews.{expr_of}
+use Rattle.flat_lower.specs.inside.Objects.{Context}
+use Rattle.flat_lower.specs.inside.Expressions.{with_kind, bump_code, before_right, after_right, right_at}
+use Rattle.flat_lower.specs.inside.Expressions.{expr_code, index_code}
+use Rattle.flat_lower.specs.inside.Emitted.{Adds, side_in, shape}
 use Rattle.flat_lower.specs.declared.side.Side.{Side}
 use Rattle.flat_lower.specs.declared.side.Side.TheVariants as side
 use Rattle.flat_lower.proofs.Emits.{two, turned}

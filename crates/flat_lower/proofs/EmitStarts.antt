@@ -1,8 +1,8 @@
 -- Where each of some lengths begins.
 use Rattle.std.proofs.Common.{◌≡◌, ℕ, zero, suc, ◌+◌, ◌<◌, List, [], ◌∷◌, length, get_or, ap, ◌∙◌}
 use Rattle.std.proofs.Common.{subst, arith}
-use Rattle.flat_lower.specs.Objects.{bytes_before}
-use Rattle.flat_lower.specs.Emitted.{starts_from}
+use Rattle.flat_lower.specs.inside.Objects.{bytes_before}
+use Rattle.flat_lower.specs.inside.Emitted.{starts_from}
 
 -- a start in the table is the sum of the lengths before it
 found_at : (at : ℕ) (sizes : List ℕ) (i d : ℕ) → i < length (starts_from at sizes)

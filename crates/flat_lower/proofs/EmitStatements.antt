@@ -10,11 +10,11 @@ use Rattle.c_tree.specs.declared.TypedForInit.{fold-roll-TypedForInit, roll-Type
 use Rattle.c_tree.specs.declared.TypedForInit.TheVariants as init
 use Rattle.c_tree.specs.declared.TypedForInit.TheOpen.{TypedStmt-F, TypedForInit-F}
 use Rattle.c_tree.specs.declared.TypedSection.{TypedSection, fold-TypedSection, fold_out-TypedSection}
-use Rattle.flat_lower.specs.Tree.{Stmt, Declare, Plain, Compound, If, While, Do, For, Break}
-use Rattle.flat_lower.specs.Tree.{Switch, Continue, Return, First, Nothing, FirstOf, Locals}
-use Rattle.flat_lower.specs.TreeViews.{expr_of, expr_if, stmt_by, first_by, stmt_of, Section}
-use Rattle.flat_lower.specs.TreeViews.{sections_of, section_by}
-use Rattle.flat_lower.specs.Emitted.{block_of, first_of, other_of, section_of, sections_in}
+use Rattle.flat_lower.specs.inside.Tree.{Stmt, Declare, Plain, Compound, If, While, Do, For, Break}
+use Rattle.flat_lower.specs.inside.Tree.{Switch, Continue, Return, First, Nothing, FirstOf, Locals}
+use Rattle.flat_lower.specs.inside.TreeViews.{expr_of, expr_if, stmt_by, first_by, stmt_of, Section}
+use Rattle.flat_lower.specs.inside.TreeViews.{sections_of, section_by}
+use Rattle.flat_lower.specs.inside.Emitted.{block_of, first_of, other_of, section_of, sections_in}
 
 -- a section by the fold of the whole
 abbrev section_fold : TypedSection → Section

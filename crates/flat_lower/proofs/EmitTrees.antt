@@ -12,10 +12,10 @@ use Rattle.c_tree.specs.declared.TypedNode.{fold-roll-TypedNode, roll-TypedNode,
 use Rattle.c_tree.specs.declared.TypedNode.{roll-out-TypedNode}
 use Rattle.c_tree.specs.declared.TypedNode.TheVariants as node
 use Rattle.c_tree.specs.declared.TypedNode.TheOpen.{TypedNode-F}
-use Rattle.flat_lower.specs.Tree.{Expr, Number, Name, Element, Call, Unary, Cast, Convert, Bump}
-use Rattle.flat_lower.specs.Tree.{Binary, Choice, Assign, Comma, kind_of, RowElement}
-use Rattle.flat_lower.specs.TreeViews.{Kindless, node_by, expr_by, expr_of}
-use Rattle.flat_lower.specs.Emitted.{args_of}
+use Rattle.flat_lower.specs.inside.Tree.{Expr, Number, Name, Element, Call, Unary, Cast, Convert, Bump}
+use Rattle.flat_lower.specs.inside.Tree.{Binary, Choice, Assign, Comma, kind_of, RowElement}
+use Rattle.flat_lower.specs.inside.TreeViews.{Kindless, node_by, expr_by, expr_of}
+use Rattle.flat_lower.specs.inside.Emitted.{args_of}
 
 abbrev at : Option Kind → TypedNode → TypedExpr
 at k n = record { kind = k; node = n }

@@ -1,11 +1,11 @@
 -- Counts of trees, which fall from a node to its parts.
 use Rattle.std.proofs.Common.{ℕ, suc, ◌+◌, List}
 use Rattle.c_tree.specs.declared.TypedExpr.{TypedExpr}
-use Rattle.flat_lower.specs.Tree.{Expr, Number, Name, Element, Call, Unary, Cast, Convert, Bump}
-use Rattle.flat_lower.specs.Tree.{RowElement}
-use Rattle.flat_lower.specs.Tree.{Binary, Choice, Assign, Comma, Exprs, NoExprs, WithExpr}
-use Rattle.flat_lower.specs.TreeViews.{expr_of}
-use Rattle.flat_lower.specs.Emitted.{args_of}
+use Rattle.flat_lower.specs.inside.Tree.{Expr, Number, Name, Element, Call, Unary, Cast, Convert, Bump}
+use Rattle.flat_lower.specs.inside.Tree.{RowElement}
+use Rattle.flat_lower.specs.inside.Tree.{Binary, Choice, Assign, Comma, Exprs, NoExprs, WithExpr}
+use Rattle.flat_lower.specs.inside.TreeViews.{expr_of}
+use Rattle.flat_lower.specs.inside.Emitted.{args_of}
 
 abbrev mutual
   -- the nodes of an expression

@@ -1,12 +1,12 @@
 -- Code that is added to code.
 use Rattle.std.proofs.Common.{◌≡◌, List, [], ◌∷◌, ◌++◌, refl, sym, ap, ◌∙◌, subst}
 use Rattle.ir_forms.specs.declared.flat.FlatStmt.{FlatStmt}
-use Rattle.ir_forms.specs.FlatCode.{Code, Nop, ◌▹◌, Then, only}
-use Rattle.ir_forms.specs.FlatViews.{step_of, code_of}
+use Rattle.ir_forms.specs.inside.FlatCode.{Code, Nop, ◌▹◌, Then, only}
+use Rattle.ir_forms.specs.inside.FlatViews.{step_of, code_of}
 use Rattle.ir_forms.proofs.Views.{code_append, step_let, step_frame, step_load, step_save}
 use Rattle.ir_forms.proofs.Views.{step_call, step_put, step_get, step_if, step_loop, step_break}
 use Rattle.ir_forms.proofs.Views.{step_continue, step_return}
-use Rattle.flat_lower.specs.Emitted.{Adds}
+use Rattle.flat_lower.specs.inside.Emitted.{Adds}
 
 -- the order of three pieces
 pub then_then : (a b c : Code) → Then (Then a b) c ≡ Then a (Then b c)

@@ -17,15 +17,15 @@ use Rattle.c_constant.specs.Kinds.{bytes}
 use Rattle.c_meaning_spec.specs.Call.{array_bytes, all_bytes, frame, unset_array, scalars_of}
 use Rattle.c_meaning_spec.specs.Call.{entered, array_row}
 use Rattle.trips_isa.specs.Stores.{data_size}
-use Rattle.ir_forms.specs.FlatCode.{Function}
-use Rattle.ir_forms.specs.Frames.{slots_of, frame_of, arrays_at}
-use Rattle.ir_forms.specs.Cells.{Memory, Open, marked, all_open}
-use Rattle.ir_forms.specs.FlatSteps.{State, Env, counted}
-use Rattle.ir_forms.specs.FlatRuns.{argument, begun, env_of}
-use Rattle.flat_lower.specs.TreeViews.{func_of}
+use Rattle.ir_forms.specs.inside.FlatCode.{Function}
+use Rattle.ir_forms.specs.inside.Frames.{slots_of, frame_of, arrays_at}
+use Rattle.ir_forms.specs.inside.Cells.{Memory, Open, marked, all_open}
+use Rattle.ir_forms.specs.inside.FlatSteps.{State, Env, counted}
+use Rattle.ir_forms.specs.inside.FlatRuns.{argument, begun, env_of}
+use Rattle.flat_lower.specs.inside.TreeViews.{func_of}
 use Rattle.c_constant.specs.Kinds.{IsWord}
-use Rattle.flat_lower.specs.Objects.{bytes_before, array_at}
-use Rattle.flat_lower.specs.Statements.{lowered_func, globals_image}
+use Rattle.flat_lower.specs.inside.Objects.{bytes_before, array_at}
+use Rattle.flat_lower.specs.inside.Statements.{lowered_func, globals_image}
 use Rattle.flat_lower.proofs.Bytes.{opened, marked_out}
 use Rattle.flat_lower.proofs.Objects.{Object, end_of, Laid, laid_append, laid_lower, element_in}
 use Rattle.flat_lower.proofs.Objects.{Stored, AllStored, all_append, all_same, all_length}

@@ -25,13 +25,13 @@ use Rattle.c_tree.specs.TypedTrees.{Node, node_of}
 use Rattle.c_meaning_spec.specs.Expression.{opened, expression, converting}
 use Rattle.c_meaning_spec.specs.Eval.{meaning}
 use Rattle.c_meaning_spec.proofs.Equations.{meaning-is}
-use Rattle.ir_forms.specs.FlatSteps.{State}
-use Rattle.flat_lower.specs.Tree as tree
-use Rattle.flat_lower.specs.TreeViews.{expr_of, exprs_of, source_of}
-use Rattle.flat_lower.specs.Operations.{temp, converted_here}
-use Rattle.flat_lower.specs.Expressions.{operand_at, expr_code}
-use Rattle.flat_lower.specs.Fits.{FitsExpr, FitsSource}
-use Rattle.flat_lower.specs.Sizes.{nodes, IsMost}
+use Rattle.ir_forms.specs.inside.FlatSteps.{State}
+use Rattle.flat_lower.specs.inside.Tree as tree
+use Rattle.flat_lower.specs.inside.TreeViews.{expr_of, exprs_of, source_of}
+use Rattle.flat_lower.specs.inside.Operations.{temp, converted_here}
+use Rattle.flat_lower.specs.inside.Expressions.{operand_at, expr_code}
+use Rattle.flat_lower.specs.inside.Fits.{FitsExpr, FitsSource}
+use Rattle.flat_lower.specs.inside.Sizes.{nodes, IsMost}
 use Rattle.flat_lower.proofs.Straight.{IsStrict}
 use Rattle.flat_lower.proofs.TreeFacts.{plain_node, expr_is, kind_is}
 use Rattle.flat_lower.proofs.Depths.{depth_fits}

@@ -24,23 +24,23 @@ use Rattle.c_meaning_spec.proofs.Equations.{weight, meaning-is}
 use Rattle.c_meaning_spec.proofs.Induction.{by-parts}
 use Rattle.trips_isa.specs.declared.op.Op.TheVariants as op
 use Rattle.ir_forms.specs.declared.flat.Arg.TheVariants.{Const, Var}
-use Rattle.ir_forms.specs.FlatCode.{Code, Nop, Then, only, Loop, If}
-use Rattle.ir_forms.specs.Cells.{apply}
-use Rattle.ir_forms.specs.FlatSteps.{State}
-use Rattle.ir_forms.specs.FlatRuns.{checked}
+use Rattle.ir_forms.specs.inside.FlatCode.{Code, Nop, Then, only, Loop, If}
+use Rattle.ir_forms.specs.inside.Cells.{apply}
+use Rattle.ir_forms.specs.inside.FlatSteps.{State}
+use Rattle.ir_forms.specs.inside.FlatRuns.{checked}
 use Rattle.ir_forms.proofs.Leads.{Run, Moves}
 use Rattle.ir_forms.proofs.Steps.{then_nop, then_then, then_moves, loop_moves, if_one, if_other}
-use Rattle.flat_lower.specs.TreeViews.{expr_of, expr_if, stmt_of, stmts_of, source_of}
-use Rattle.flat_lower.specs.Operations.{temp, set_word}
-use Rattle.flat_lower.specs.Statements.{expr_if_code, if_so, turn_code, loop_code, do_code}
-use Rattle.flat_lower.specs.Statements.{stmt_code, stmts_code, first_code}
-use Rattle.flat_lower.specs.Fits.{FitsExpr, FitsExprIf, FitsStmt, FitsStmts, FitsFirst, FitsSource}
-use Rattle.flat_lower.specs.Sizes.{nodes, nodes_if, size_of, size_of_all, size_of_first, IsMost}
+use Rattle.flat_lower.specs.inside.TreeViews.{expr_of, expr_if, stmt_of, stmts_of, source_of}
+use Rattle.flat_lower.specs.inside.Operations.{temp, set_word}
+use Rattle.flat_lower.specs.inside.Statements.{expr_if_code, if_so, turn_code, loop_code, do_code}
+use Rattle.flat_lower.specs.inside.Statements.{stmt_code, stmts_code, first_code}
+use Rattle.flat_lower.specs.inside.Fits.{FitsExpr, FitsExprIf, FitsStmt, FitsStmts, FitsFirst, FitsSource}
+use Rattle.flat_lower.specs.inside.Sizes.{nodes, nodes_if, size_of, size_of_all, size_of_first, IsMost}
 use Rattle.flat_lower.specs.declared.around.Around.{Around}
 use Rattle.flat_lower.specs.declared.around.Around.TheVariants as around
-use Rattle.flat_lower.specs.Tree.{kind_of}
-use Rattle.flat_lower.specs.Switches.{in_switch, switched_code}
-use Rattle.flat_lower.specs.Emitted.{sections_in}
+use Rattle.flat_lower.specs.inside.Tree.{kind_of}
+use Rattle.flat_lower.specs.inside.Switches.{in_switch, switched_code}
+use Rattle.flat_lower.specs.inside.Emitted.{sections_in}
 use Rattle.flat_lower.proofs.SwitchSections.{FollowsBlock, rest_of}
 use Rattle.flat_lower.proofs.SwitchWhole.{switch_ends}
 use Rattle.flat_lower.proofs.Straight.{puts_let, var_read}

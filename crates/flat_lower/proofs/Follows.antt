@@ -10,10 +10,10 @@ use Rattle.c_meaning_spec.specs.declared.signal.Ending.TheVariants.{More, Undefi
 use Rattle.c_meaning_spec.specs.State.{Result, Go, Over, spend_of, spend, want, with_some}
 use Rattle.c_meaning_spec.specs.inside.State.{then}
 use Rattle.c_meaning_spec.specs.State as eval
-use Rattle.ir_forms.specs.FlatCode.{Code, Then, Function}
-use Rattle.ir_forms.specs.FlatSteps.{State, Env, Res, Gone, Broke, Again, Gave, TooDeep, Unfinished}
-use Rattle.ir_forms.specs.FlatSteps.{Wild, settle, then_run}
-use Rattle.ir_forms.specs.FlatRuns.{checked}
+use Rattle.ir_forms.specs.inside.FlatCode.{Code, Then, Function}
+use Rattle.ir_forms.specs.inside.FlatSteps.{State, Env, Res, Gone, Broke, Again, Gave, TooDeep, Unfinished}
+use Rattle.ir_forms.specs.inside.FlatSteps.{Wild, settle, then_run}
+use Rattle.ir_forms.specs.inside.FlatRuns.{checked}
 use Rattle.ir_forms.proofs.Leads.{Run, Leads, Stops, Moves, Waits, leads_from, stops_from}
 use Rattle.ir_forms.proofs.Leads.{waits_stop}
 use Rattle.ir_forms.proofs.Steps.{code_run, then_moves, first_leads, first_stops, code_waits}

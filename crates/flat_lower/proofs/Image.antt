@@ -13,15 +13,15 @@ use Rattle.c_tree.specs.declared.TypedGlobal.{TypedGlobal}
 use Rattle.c_constant.specs.Kinds.{bytes}
 use Rattle.c_meaning_spec.specs.Eval.{length_of, first_cells}
 use Rattle.trips_isa.specs.Stores.{data_size, is_good_address}
-use Rattle.ir_forms.specs.Frames.{frames_at, frame_limit, rounded}
-use Rattle.ir_forms.specs.Cells.{Memory, Mark, Held, Closed, Cell, load, number_put, byte_put}
-use Rattle.ir_forms.specs.Cells.{is_open, all_open}
-use Rattle.ir_forms.specs.FlatRuns.{checked, first_mark, first_memory}
+use Rattle.ir_forms.specs.inside.Frames.{frames_at, frame_limit, rounded}
+use Rattle.ir_forms.specs.inside.Cells.{Memory, Mark, Held, Closed, Cell, load, number_put, byte_put}
+use Rattle.ir_forms.specs.inside.Cells.{is_open, all_open}
+use Rattle.ir_forms.specs.inside.FlatRuns.{checked, first_mark, first_memory}
 use Rattle.c_constant.specs.Kinds.{IsWord}
-use Rattle.flat_lower.specs.Operations.{load_op}
-use Rattle.flat_lower.specs.Objects.{global_bytes, bytes_before, global_at}
-use Rattle.flat_lower.specs.Statements.{word_bytes, init_bytes, global_image, globals_image}
-use Rattle.flat_lower.specs.Fits.{FitsGlobal}
+use Rattle.flat_lower.specs.inside.Operations.{load_op}
+use Rattle.flat_lower.specs.inside.Objects.{global_bytes, bytes_before, global_at}
+use Rattle.flat_lower.specs.inside.Statements.{word_bytes, init_bytes, global_image, globals_image}
+use Rattle.flat_lower.specs.inside.Fits.{FitsGlobal}
 use Rattle.flat_lower.proofs.Bytes.{put_there, byte_here, each_open, load_same, load_saved}
 use Rattle.flat_lower.proofs.Objects.{Object, element_at, end_of, Laid, laid_lower, by_size}
 use Rattle.flat_lower.proofs.Objects.{size_is, element_in, good_element, Holds, Stored, AllStored}

@@ -23,25 +23,25 @@ use Rattle.c_meaning_spec.specs.Eval.{meaning}
 use Rattle.trips_isa.specs.declared.op.Op.TheVariants as op
 use Rattle.ir_forms.specs.declared.flat.Arg.{Arg}
 use Rattle.ir_forms.specs.declared.flat.Arg.TheVariants.{Const, Var}
-use Rattle.ir_forms.specs.FlatCode.{Code, Nop, Then, only}
-use Rattle.ir_forms.specs.FlatCode as flat
-use Rattle.ir_forms.specs.Cells.{Memory, apply}
-use Rattle.ir_forms.specs.FlatSteps.{State, Broke, read}
-use Rattle.ir_forms.specs.FlatRuns.{checked}
+use Rattle.ir_forms.specs.inside.FlatCode.{Code, Nop, Then, only}
+use Rattle.ir_forms.specs.inside.FlatCode as flat
+use Rattle.ir_forms.specs.inside.Cells.{Memory, apply}
+use Rattle.ir_forms.specs.inside.FlatSteps.{State, Broke, read}
+use Rattle.ir_forms.specs.inside.FlatRuns.{checked}
 use Rattle.ir_forms.proofs.Steps.{then_nop, nop_leads, break_leads, continue_leads, return_leads}
 use Rattle.ir_forms.proofs.Steps.{return_none_leads, both_lead}
 use Rattle.ir_forms.proofs.Leads.{Leads}
-use Rattle.flat_lower.specs.Tree as tree
-use Rattle.flat_lower.specs.TreeViews.{expr_of, expr_if}
+use Rattle.flat_lower.specs.inside.Tree as tree
+use Rattle.flat_lower.specs.inside.TreeViews.{expr_of, expr_if}
 use Rattle.c_constant.specs.Kinds.{IsWord}
-use Rattle.flat_lower.specs.Operations.{temp, set_word, copied}
-use Rattle.flat_lower.specs.Statements.{expr_if_code, declare_code, return_code}
-use Rattle.flat_lower.specs.Fits.{Scope, FitsExpr, FitsExprIf, FitsDeclare, FitsReturn}
-use Rattle.flat_lower.specs.FitsSwitches.{IsLooped}
-use Rattle.flat_lower.specs.Switches.{break_code, continue_code, found_code}
+use Rattle.flat_lower.specs.inside.Operations.{temp, set_word, copied}
+use Rattle.flat_lower.specs.inside.Statements.{expr_if_code, declare_code, return_code}
+use Rattle.flat_lower.specs.inside.Fits.{Scope, FitsExpr, FitsExprIf, FitsDeclare, FitsReturn}
+use Rattle.flat_lower.specs.inside.FitsSwitches.{IsLooped}
+use Rattle.flat_lower.specs.inside.Switches.{break_code, continue_code, found_code}
 use Rattle.flat_lower.specs.declared.around.Around.{Around}
 use Rattle.flat_lower.specs.declared.around.Around.TheVariants as around
-use Rattle.flat_lower.specs.Sizes.{nodes, nodes_if}
+use Rattle.flat_lower.specs.inside.Sizes.{nodes, nodes_if}
 use Rattle.flat_lower.proofs.Straight.{puts_let, var_read}
 use Rattle.flat_lower.proofs.Objects.{Object, Stored, AllStored}
 use Rattle.flat_lower.proofs.TreeFacts.{kind_is}

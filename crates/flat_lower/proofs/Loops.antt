@@ -20,19 +20,19 @@ use Rattle.c_meaning_spec.specs.Eval.{meaning}
 use Rattle.c_meaning_spec.proofs.Equations.{meaning-is}
 use Rattle.c_meaning_spec.proofs.Induction.{meaning-falls}
 use Rattle.ir_forms.specs.declared.flat.Arg.TheVariants.{Const, Var}
-use Rattle.ir_forms.specs.FlatCode.{Code, Nop, Then, only}
-use Rattle.ir_forms.specs.FlatCode as flat
-use Rattle.ir_forms.specs.FlatSteps.{State, Res, Broke, Again, Gave, TooDeep, settle, counted}
-use Rattle.ir_forms.specs.FlatRuns.{checked}
+use Rattle.ir_forms.specs.inside.FlatCode.{Code, Nop, Then, only}
+use Rattle.ir_forms.specs.inside.FlatCode as flat
+use Rattle.ir_forms.specs.inside.FlatSteps.{State, Res, Broke, Again, Gave, TooDeep, settle, counted}
+use Rattle.ir_forms.specs.inside.FlatRuns.{checked}
 use Rattle.ir_forms.proofs.Leads.{Run, Leads}
 use Rattle.ir_forms.proofs.Steps.{loop_run, post_run, nop_leads, if_one, if_other, turn_goes}
 use Rattle.ir_forms.proofs.Steps.{turn_continues, turn_leads, turn_stops, post_moves, post_leads}
 use Rattle.ir_forms.proofs.Steps.{post_stops}
-use Rattle.flat_lower.specs.TreeViews.{expr_of, expr_if, stmt_of}
-use Rattle.flat_lower.specs.Operations.{temp}
-use Rattle.flat_lower.specs.Statements.{expr_if_code, if_so, turn_code, stmt_code}
-use Rattle.flat_lower.specs.Fits.{FitsExpr, FitsExprIf, FitsStmt}
-use Rattle.flat_lower.specs.Sizes.{nodes, nodes_if, size_of}
+use Rattle.flat_lower.specs.inside.TreeViews.{expr_of, expr_if, stmt_of}
+use Rattle.flat_lower.specs.inside.Operations.{temp}
+use Rattle.flat_lower.specs.inside.Statements.{expr_if_code, if_so, turn_code, stmt_code}
+use Rattle.flat_lower.specs.inside.Fits.{FitsExpr, FitsExprIf, FitsStmt}
+use Rattle.flat_lower.specs.inside.Sizes.{nodes, nodes_if, size_of}
 use Rattle.flat_lower.specs.declared.around.Around.{Around}
 use Rattle.flat_lower.specs.declared.around.Around.TheVariants as around
 use Rattle.flat_lower.proofs.Straight.{var_read}

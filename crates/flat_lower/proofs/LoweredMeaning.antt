@@ -24,20 +24,21 @@ use Rattle.c_meaning_spec.specs.Call.{frame, entered, entered_if, enter, left, c
 use Rattle.c_meaning_spec.specs.Eval.{meaning, outcome}
 use Rattle.c_meaning_spec.specs.Eval as evaluation
 use Rattle.ir_forms.specs.declared.flat.Arg.TheVariants.{Const}
-use Rattle.ir_forms.specs.FlatCode.{Code, Then, only, Function, Program}
-use Rattle.ir_forms.specs.FlatCode as flat
-use Rattle.ir_forms.specs.Frames.{frame_limit, frame_of, arrays_at}
-use Rattle.ir_forms.specs.FlatSteps.{State, Env, Res, Gave, TooDeep, Unfinished, settle}
-use Rattle.ir_forms.specs.FlatRuns.{checked, closed, begun, env_of, flat_run}
+use Rattle.ir_forms.specs.inside.FlatCode.{Code, Then, only, Function, Program}
+use Rattle.ir_forms.specs.inside.FlatCode as flat
+use Rattle.ir_forms.specs.inside.Frames.{frame_limit, frame_of, arrays_at}
+use Rattle.ir_forms.specs.inside.FlatSteps.{State, Env, Res, Gave, TooDeep, Unfinished, settle}
+use Rattle.ir_forms.specs.inside.FlatRuns.{checked, closed, begun, env_of, flat_run}
 use Rattle.ir_forms.proofs.Leads.{Run, Leads, Stops, waits_stop}
 use Rattle.ir_forms.proofs.Steps.{first_leads, first_stops, both_lead, return_leads}
-use Rattle.flat_lower.specs.Tree.{Func}
-use Rattle.flat_lower.specs.TreeViews.{func_of, stmt_of, source_of}
+use Rattle.flat_lower.specs.inside.Tree.{Func}
+use Rattle.flat_lower.specs.inside.TreeViews.{func_of, stmt_of, source_of}
 use Rattle.c_constant.specs.Kinds.{IsWord}
-use Rattle.flat_lower.specs.Statements.{end_code, stmt_code, lowered, lowered_program}
-use Rattle.flat_lower.specs.Fits.{FitsFunc, FitsSource}
-use Rattle.flat_lower.specs.Sizes.{size_of, IsMost}
-use Rattle.flat_lower.specs.Keeps.{Finishes, Overflows, GoesOn, Keeps, IsInput, Means, KeepsMeaning}
+use Rattle.flat_lower.specs.inside.Statements.{end_code, stmt_code, lowered, lowered_program}
+use Rattle.flat_lower.specs.inside.Fits.{FitsFunc, FitsSource}
+use Rattle.flat_lower.specs.inside.Sizes.{size_of, IsMost}
+use Rattle.flat_lower.specs.Keeps.{IsInput}
+use Rattle.flat_lower.specs.inside.Keeps.{Finishes, Overflows, GoesOn, Keeps, Means, KeepsMeaning}
 use Rattle.c_constant.proofs.Conversions.{converted_is}
 use Rattle.flat_lower.specs.declared.around.Around.TheVariants as around
 use Rattle.flat_lower.proofs.Follows.{Goes, Dives, Halts, Follows, FollowsIn}

@@ -9,11 +9,11 @@ use Rattle.c_tree.specs.declared.Kind.{Kind}
 use Rattle.c_tree.specs.declared.Kind.TheVariants.{Char, UChar, Short, UShort, Int, UInt, Long, ULong}
 use Rattle.c_constant.specs.Kinds.{bytes}
 use Rattle.trips_isa.specs.Stores.{is_good_address, data_size}
-use Rattle.ir_forms.specs.Cells.{Mark, Closed, Open, Held, Cell, Memory, number_put, all_open}
-use Rattle.ir_forms.specs.Cells.{marked, load}
-use Rattle.ir_forms.specs.FlatRuns.{checked}
+use Rattle.ir_forms.specs.inside.Cells.{Mark, Closed, Open, Held, Cell, Memory, number_put, all_open}
+use Rattle.ir_forms.specs.inside.Cells.{marked, load}
+use Rattle.ir_forms.specs.inside.FlatRuns.{checked}
 use Rattle.c_constant.specs.Kinds.{IsWord}
-use Rattle.flat_lower.specs.Operations.{load_op, save_op}
+use Rattle.flat_lower.specs.inside.Operations.{load_op, save_op}
 use Rattle.flat_lower.proofs.Bytes.{SameOn, load_same, put_there, put_open, load_saved, load_apart}
 use Rattle.flat_lower.proofs.Bytes.{marked_out, opened, open_same}
 

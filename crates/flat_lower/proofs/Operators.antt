@@ -24,7 +24,7 @@ use Rattle.c_constant.specs.Operation.{shifted_right, on_bits, operate, operate_
 use Rattle.trips_isa.specs.Alu.{test}
 use Rattle.trips_isa.specs.Alu as alu
 use Rattle.c_constant.specs.Kinds.{IsWord}
-use Rattle.flat_lower.specs.Kinds.{IsArithmetic}
+use Rattle.flat_lower.specs.inside.Kinds.{IsArithmetic}
 use Rattle.c_constant.proofs.Conversions.{word_signed, word_number, order}
 use Rattle.flat_lower.proofs.Words.{add_word, sub_word, mul_word}
 use Rattle.flat_lower.proofs.Words.{word_of_is, Lies, between_is, fits_int, fits_long, narrow_int}

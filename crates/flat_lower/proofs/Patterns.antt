@@ -21,7 +21,7 @@ use Rattle.c_constant.specs.Operation.{operate, operate_one}
 use Rattle.trips_isa.specs.Alu.{test}
 use Rattle.trips_isa.specs.Alu as alu
 use Rattle.c_constant.specs.Kinds.{IsWord}
-use Rattle.flat_lower.specs.Kinds.{IsArithmetic}
+use Rattle.flat_lower.specs.inside.Kinds.{IsArithmetic}
 use Rattle.c_constant.proofs.Conversions.{word_signed, word_number, order}
 use Rattle.flat_lower.proofs.Words.{sub_word, word_of_is, Lies}
 use Rattle.flat_lower.proofs.Words.{between_is, fits_int, fits_long, narrow_int}

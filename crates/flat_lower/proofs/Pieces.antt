@@ -20,16 +20,16 @@ use Rattle.trips_isa.specs.declared.op.Op.TheVariants as op
 use Rattle.trips_isa.specs.Stores.{data_size}
 use Rattle.ir_forms.specs.declared.flat.Arg.{Arg}
 use Rattle.ir_forms.specs.declared.flat.Arg.TheVariants.{Const, Var}
-use Rattle.ir_forms.specs.FlatCode.{Code, Then, only, Let, Frame, Load, Function}
-use Rattle.ir_forms.specs.Cells.{Memory, apply, load}
-use Rattle.ir_forms.specs.FlatSteps.{State, Env, settle, read, with_var}
-use Rattle.ir_forms.specs.FlatRuns.{checked}
+use Rattle.ir_forms.specs.inside.FlatCode.{Code, Then, only, Let, Frame, Load, Function}
+use Rattle.ir_forms.specs.inside.Cells.{Memory, apply, load}
+use Rattle.ir_forms.specs.inside.FlatSteps.{State, Env, settle, read, with_var}
+use Rattle.ir_forms.specs.inside.FlatRuns.{checked}
 use Rattle.ir_forms.proofs.Steps.{frame_leads, load_leads}
 use Rattle.c_constant.specs.Kinds.{IsWord}
-use Rattle.flat_lower.specs.Operations.{temp, scratch, load_op, shift_of}
-use Rattle.flat_lower.specs.Objects.{Context, global_at, array_at, based, address_by, address_code}
-use Rattle.flat_lower.specs.Objects.{whole_code}
-use Rattle.flat_lower.specs.Fits.{GlobalIs, ArrayIs, FitsName, FitsWhole}
+use Rattle.flat_lower.specs.inside.Operations.{temp, scratch, load_op, shift_of}
+use Rattle.flat_lower.specs.inside.Objects.{Context, global_at, array_at, based, address_by, address_code}
+use Rattle.flat_lower.specs.inside.Objects.{whole_code}
+use Rattle.flat_lower.specs.inside.Fits.{GlobalIs, ArrayIs, FitsName, FitsWhole}
 use Rattle.flat_lower.proofs.Straight.{Sets, set_one, Puts, puts_let, puts_both, puts_spare}
 use Rattle.flat_lower.proofs.Straight.{puts_within, puts_as, var_read}
 use Rattle.flat_lower.proofs.Objects.{Object, element_at, end_of, Stands, laid_at, element_in}

@@ -23,15 +23,15 @@ use Rattle.c_meaning_spec.proofs.Equations.{meaning-is}
 use Rattle.trips_isa.specs.declared.op.Op.TheVariants as op
 use Rattle.ir_forms.specs.declared.flat.Arg.{Arg}
 use Rattle.ir_forms.specs.declared.flat.Arg.TheVariants.{Const, Var}
-use Rattle.ir_forms.specs.FlatCode.{Code, only, Let}
-use Rattle.ir_forms.specs.FlatSteps.{State}
-use Rattle.flat_lower.specs.Tree as tree
-use Rattle.flat_lower.specs.TreeViews.{expr_of}
+use Rattle.ir_forms.specs.inside.FlatCode.{Code, only, Let}
+use Rattle.ir_forms.specs.inside.FlatSteps.{State}
+use Rattle.flat_lower.specs.inside.Tree as tree
+use Rattle.flat_lower.specs.inside.TreeViews.{expr_of}
 use Rattle.c_constant.specs.Kinds.{IsWord}
-use Rattle.flat_lower.specs.Expressions.{expr_code}
-use Rattle.flat_lower.specs.Statements.{named_scalar, simple_arg, set_or, plain_code}
-use Rattle.flat_lower.specs.Fits.{FitsExpr, FitsNumber, FitsNamed, FitsLeft, FitsKind, FitsCompound}
-use Rattle.flat_lower.specs.Sizes.{nodes, left_nodes}
+use Rattle.flat_lower.specs.inside.Expressions.{expr_code}
+use Rattle.flat_lower.specs.inside.Statements.{named_scalar, simple_arg, set_or, plain_code}
+use Rattle.flat_lower.specs.inside.Fits.{FitsExpr, FitsNumber, FitsNamed, FitsLeft, FitsKind, FitsCompound}
+use Rattle.flat_lower.specs.inside.Sizes.{nodes, left_nodes}
 use Rattle.flat_lower.proofs.Straight.{var_read}
 use Rattle.flat_lower.proofs.TreeFacts.{plain_node, kind_levels, expr_is}
 use Rattle.flat_lower.proofs.Related.{Scene, IsScene, scope, context, Related, held_is}

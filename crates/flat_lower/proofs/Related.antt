@@ -26,20 +26,20 @@ use Rattle.c_meaning_spec.specs.Eval.{length_of}
 use Rattle.trips_isa.specs.declared.op.Op.TheVariants as op
 use Rattle.trips_isa.specs.Stores.{data_size, is_good_address}
 use Rattle.ir_forms.specs.declared.flat.Arg.TheVariants.{Const, Var}
-use Rattle.ir_forms.specs.FlatCode.{Code, Then, only, Let, Frame, Function}
-use Rattle.ir_forms.specs.Frames.{frames_at}
-use Rattle.ir_forms.specs.Cells.{Memory, apply, load, save}
-use Rattle.ir_forms.specs.FlatSteps.{State, Env, settle, counted, var_put, with_var, with_memory}
-use Rattle.ir_forms.specs.FlatSteps.{read}
-use Rattle.ir_forms.specs.FlatRuns.{checked}
+use Rattle.ir_forms.specs.inside.FlatCode.{Code, Then, only, Let, Frame, Function}
+use Rattle.ir_forms.specs.inside.Frames.{frames_at}
+use Rattle.ir_forms.specs.inside.Cells.{Memory, apply, load, save}
+use Rattle.ir_forms.specs.inside.FlatSteps.{State, Env, settle, counted, var_put, with_var, with_memory}
+use Rattle.ir_forms.specs.inside.FlatSteps.{read}
+use Rattle.ir_forms.specs.inside.FlatRuns.{checked}
 use Rattle.ir_forms.proofs.Leads.{Leads}
 use Rattle.ir_forms.proofs.Steps.{code_run, frame_leads}
-use Rattle.flat_lower.specs.TreeViews.{func_of, source_of}
+use Rattle.flat_lower.specs.inside.TreeViews.{func_of, source_of}
 use Rattle.c_constant.specs.Kinds.{IsWord}
-use Rattle.flat_lower.specs.Operations.{temp, scratch, load_op, save_op, shift_of}
-use Rattle.flat_lower.specs.Objects.{Context, global_at, array_at, based, address_by, address_code}
-use Rattle.flat_lower.specs.Statements.{context_of, globals_image}
-use Rattle.flat_lower.specs.Fits.{Scope, GlobalIs, ArrayIs, FitsName, FitsWhole, scope_of}
+use Rattle.flat_lower.specs.inside.Operations.{temp, scratch, load_op, save_op, shift_of}
+use Rattle.flat_lower.specs.inside.Objects.{Context, global_at, array_at, based, address_by, address_code}
+use Rattle.flat_lower.specs.inside.Statements.{context_of, globals_image}
+use Rattle.flat_lower.specs.inside.Fits.{Scope, GlobalIs, ArrayIs, FitsName, FitsWhole, scope_of}
 use Rattle.flat_lower.proofs.Straight.{put_at, put_other, Sets, Puts, puts_let, puts_spare}
 use Rattle.flat_lower.proofs.Straight.{puts_within, var_read, set_one}
 use Rattle.flat_lower.proofs.Objects.{Object, element_at, end_of, Laid, Stands, laid_at, element_in}

@@ -23,30 +23,30 @@ use Rattle.c_meaning_spec.specs.Call.{returned, left}
 use Rattle.c_meaning_spec.specs.Eval.{meaning}
 use Rattle.ir_forms.specs.declared.flat.Arg.{Arg}
 use Rattle.ir_forms.specs.declared.flat.Arg.TheVariants.{Const, Var}
-use Rattle.ir_forms.specs.FlatCode.{Code, Nop, Then, only, Function}
-use Rattle.ir_forms.specs.FlatCode as flat
-use Rattle.ir_forms.specs.FlatViews.{stays}
-use Rattle.ir_forms.specs.Frames.{frame_limit, frame_of, arrays_at}
-use Rattle.ir_forms.specs.Cells.{Closed, marked}
-use Rattle.ir_forms.specs.FlatSteps.{State, Env, Res, Gone, Broke, Again, Gave, TooDeep, Unfinished}
-use Rattle.ir_forms.specs.FlatSteps.{Wild, turn, settle, read_all, var_put, result_put, back_in}
-use Rattle.ir_forms.specs.FlatSteps.{after_call, counted, exec}
-use Rattle.ir_forms.specs.FlatRuns.{checked, closed, closing, begun, env_of, enter, enter_if}
-use Rattle.ir_forms.specs.FlatRuns.{calls_within}
+use Rattle.ir_forms.specs.inside.FlatCode.{Code, Nop, Then, only, Function}
+use Rattle.ir_forms.specs.inside.FlatCode as flat
+use Rattle.ir_forms.specs.inside.FlatViews.{stays}
+use Rattle.ir_forms.specs.inside.Frames.{frame_limit, frame_of, arrays_at}
+use Rattle.ir_forms.specs.inside.Cells.{Closed, marked}
+use Rattle.ir_forms.specs.inside.FlatSteps.{State, Env, Res, Gone, Broke, Again, Gave, TooDeep, Unfinished}
+use Rattle.ir_forms.specs.inside.FlatSteps.{Wild, turn, settle, read_all, var_put, result_put, back_in}
+use Rattle.ir_forms.specs.inside.FlatSteps.{after_call, counted, exec}
+use Rattle.ir_forms.specs.inside.FlatRuns.{checked, closed, closing, begun, env_of, enter, enter_if}
+use Rattle.ir_forms.specs.inside.FlatRuns.{calls_within}
 use Rattle.ir_forms.proofs.Leads.{Run, Leads, Stops, Waits}
 use Rattle.ir_forms.proofs.Steps.{at_zero, code_run, call_run, call_leads, call_stops, first_leads}
 use Rattle.ir_forms.proofs.Steps.{first_stops, both_lead, nop_leads, return_leads}
-use Rattle.flat_lower.specs.Tree.{Func}
-use Rattle.flat_lower.specs.TreeViews.{func_of, stmt_of}
+use Rattle.flat_lower.specs.inside.Tree.{Func}
+use Rattle.flat_lower.specs.inside.TreeViews.{func_of, stmt_of}
 use Rattle.c_constant.specs.Kinds.{IsWord}
-use Rattle.flat_lower.specs.Operations.{temp}
-use Rattle.flat_lower.specs.Expressions.{result_var}
-use Rattle.flat_lower.specs.Statements.{end_code, stmt_code, lowered_func, lowered_from}
+use Rattle.flat_lower.specs.inside.Operations.{temp}
+use Rattle.flat_lower.specs.inside.Expressions.{result_var}
+use Rattle.flat_lower.specs.inside.Statements.{end_code, stmt_code, lowered_func, lowered_from}
 use Rattle.flat_lower.specs.declared.around.Around.{Around}
 use Rattle.flat_lower.specs.declared.around.Around.TheVariants as around
-use Rattle.flat_lower.specs.Fits.{FitsStmt}
-use Rattle.flat_lower.specs.FitsSwitches.{IsLooped}
-use Rattle.flat_lower.specs.Sizes.{size_of}
+use Rattle.flat_lower.specs.inside.Fits.{FitsStmt}
+use Rattle.flat_lower.specs.inside.FitsSwitches.{IsLooped}
+use Rattle.flat_lower.specs.inside.Sizes.{size_of}
 use Rattle.flat_lower.proofs.Straight.{put_at, put_other}
 use Rattle.flat_lower.proofs.Bytes.{marked_out}
 use Rattle.flat_lower.proofs.Objects.{Object, all_first, all_same, all_length, within_row}

@@ -21,18 +21,18 @@ use Rattle.c_meaning_spec.specs.Eval.{meaning}
 use Rattle.c_constant.specs.Kinds.{bytes, IsWord}
 use Rattle.trips_isa.specs.declared.op.Op.TheVariants as op
 use Rattle.ir_forms.specs.declared.flat.Arg.TheVariants.{Const, Var}
-use Rattle.ir_forms.specs.FlatCode.{Code, Then, only, Let}
-use Rattle.ir_forms.specs.Cells.{Memory, apply}
-use Rattle.ir_forms.specs.FlatSteps.{State}
-use Rattle.ir_forms.specs.FlatRuns.{checked}
+use Rattle.ir_forms.specs.inside.FlatCode.{Code, Then, only, Let}
+use Rattle.ir_forms.specs.inside.Cells.{Memory, apply}
+use Rattle.ir_forms.specs.inside.FlatSteps.{State}
+use Rattle.ir_forms.specs.inside.FlatRuns.{checked}
 use Rattle.ir_forms.proofs.Leads.{Run}
 use Rattle.ir_forms.proofs.Steps.{then_then, then_moves}
-use Rattle.flat_lower.specs.TreeViews.{expr_of}
-use Rattle.flat_lower.specs.Operations.{temp}
-use Rattle.flat_lower.specs.Objects.{global_row, slot_row, array_row, row_of}
-use Rattle.flat_lower.specs.Expressions.{joined_by, joined_code}
-use Rattle.flat_lower.specs.Fits.{FitsExpr, FitsWhole}
-use Rattle.flat_lower.specs.Sizes.{nodes}
+use Rattle.flat_lower.specs.inside.TreeViews.{expr_of}
+use Rattle.flat_lower.specs.inside.Operations.{temp}
+use Rattle.flat_lower.specs.inside.Objects.{global_row, slot_row, array_row, row_of}
+use Rattle.flat_lower.specs.inside.Expressions.{joined_by, joined_code}
+use Rattle.flat_lower.specs.inside.Fits.{FitsExpr, FitsWhole}
+use Rattle.flat_lower.specs.inside.Sizes.{nodes}
 use Rattle.flat_lower.proofs.Straight.{Puts, puts_let, puts_both, var_read}
 use Rattle.flat_lower.proofs.Objects.{Object, object_row, Stored, AllStored, laid_at, element_in}
 use Rattle.flat_lower.proofs.Follows.{Post, Follows, needed, wanted, moved}

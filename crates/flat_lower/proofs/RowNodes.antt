@@ -12,13 +12,13 @@ use Rattle.c_meaning_spec.specs.State as eval
 use Rattle.c_meaning_spec.specs.Task.{element_in, row_element_of}
 use Rattle.c_meaning_spec.specs.Expression.{opened}
 use Rattle.c_meaning_spec.specs.Eval.{meaning}
-use Rattle.ir_forms.specs.FlatCode.{Then}
-use Rattle.ir_forms.specs.FlatSteps.{State}
-use Rattle.flat_lower.specs.Tree as tree
-use Rattle.flat_lower.specs.TreeViews.{expr_of}
-use Rattle.flat_lower.specs.Expressions.{element_code, expr_code, joined_code}
-use Rattle.flat_lower.specs.Fits.{FitsExpr}
-use Rattle.flat_lower.specs.Sizes.{nodes}
+use Rattle.ir_forms.specs.inside.FlatCode.{Then}
+use Rattle.ir_forms.specs.inside.FlatSteps.{State}
+use Rattle.flat_lower.specs.inside.Tree as tree
+use Rattle.flat_lower.specs.inside.TreeViews.{expr_of}
+use Rattle.flat_lower.specs.inside.Expressions.{element_code, expr_code, joined_code}
+use Rattle.flat_lower.specs.inside.Fits.{FitsExpr}
+use Rattle.flat_lower.specs.inside.Sizes.{nodes}
 use Rattle.flat_lower.proofs.Depths.{depth_fits}
 use Rattle.flat_lower.proofs.Related.{Scene, IsScene, scope, context, Related}
 use Rattle.flat_lower.proofs.Values.{ValueIs, Valued, FollowsOf, run, code, spending}

@@ -13,8 +13,8 @@ use Rattle.c_meaning_spec.specs.Task as task
 use Rattle.c_meaning_spec.specs.Statement.{going_on, sequence, begun}
 use Rattle.c_meaning_spec.specs.Eval.{meaning}
 use Rattle.c_meaning_spec.proofs.Equations.{meaning-is}
-use Rattle.flat_lower.specs.Emitted.{block_of}
-use Rattle.flat_lower.specs.FitsSwitches.{IsFilled}
+use Rattle.flat_lower.specs.inside.Emitted.{block_of}
+use Rattle.flat_lower.specs.inside.FitsSwitches.{IsFilled}
 
 module _ (P : TypedProgram) where
   -- statements and those behind them

@@ -15,17 +15,17 @@ use Rattle.c_tree.specs.declared.Slot.{Slot}
 use Rattle.c_tree.specs.declared.Slot.TheVariants as slot
 use Rattle.c_tree.specs.declared.TypedArray.{TypedArray}
 use Rattle.c_tree.specs.declared.TypedGlobal.{TypedGlobal}
-use Rattle.ir_forms.specs.Frames.{frame_limit}
-use Rattle.ir_forms.specs.Cells.{apply, load, save, marked}
-use Rattle.ir_forms.specs.FlatSteps.{Res, Gone, Broke, Again, Gave, TooDeep, Unfinished, Wild}
-use Rattle.ir_forms.specs.FlatRuns.{first_memory, flat_run, checked}
-use Rattle.flat_lower.specs.Tree.{Expr, Number, Name, Element, Call, Unary, Cast, Convert, Bump}
-use Rattle.flat_lower.specs.Tree.{Binary, Choice, Assign, Comma, Exprs, NoExprs, WithExpr, Stmt}
-use Rattle.flat_lower.specs.Tree.{Declare, Plain, Compound, If, While, Do, For, Break, Continue}
-use Rattle.flat_lower.specs.Tree.{Return, Stmts, NoStmts, WithStmt, First, Nothing, FirstOf, Locals}
-use Rattle.flat_lower.specs.Tree.{Func, Source}
-use Rattle.flat_lower.specs.Objects.{global_at, array_at}
-use Rattle.flat_lower.specs.Statements.{lowered}
+use Rattle.ir_forms.specs.inside.Frames.{frame_limit}
+use Rattle.ir_forms.specs.inside.Cells.{apply, load, save, marked}
+use Rattle.ir_forms.specs.inside.FlatSteps.{Res, Gone, Broke, Again, Gave, TooDeep, Unfinished, Wild}
+use Rattle.ir_forms.specs.inside.FlatRuns.{first_memory, flat_run, checked}
+use Rattle.flat_lower.specs.inside.Tree.{Expr, Number, Name, Element, Call, Unary, Cast, Convert, Bump}
+use Rattle.flat_lower.specs.inside.Tree.{Binary, Choice, Assign, Comma, Exprs, NoExprs, WithExpr, Stmt}
+use Rattle.flat_lower.specs.inside.Tree.{Declare, Plain, Compound, If, While, Do, For, Break, Continue}
+use Rattle.flat_lower.specs.inside.Tree.{Return, Stmts, NoStmts, WithStmt, First, Nothing, FirstOf, Locals}
+use Rattle.flat_lower.specs.inside.Tree.{Func, Source}
+use Rattle.flat_lower.specs.inside.Objects.{global_at, array_at}
+use Rattle.flat_lower.specs.inside.Statements.{lowered}
 
 -- PROGRAMS
 

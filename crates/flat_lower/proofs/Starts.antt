@@ -12,14 +12,14 @@ use Rattle.c_constant.specs.Kinds.{bytes}
 use Rattle.c_meaning_spec.specs.Eval.{length_of, first_cells, global_row}
 use Rattle.c_meaning_spec.specs.Eval as evaluation
 use Rattle.trips_isa.specs.Stores.{data_size}
-use Rattle.ir_forms.specs.Frames.{frames_at, frame_limit, rounded}
-use Rattle.ir_forms.specs.Cells.{Memory, Held, Closed}
-use Rattle.ir_forms.specs.FlatSteps.{State}
-use Rattle.ir_forms.specs.FlatRuns.{first_mark, first_memory}
-use Rattle.flat_lower.specs.TreeViews.{source_of}
-use Rattle.flat_lower.specs.Objects.{global_bytes, bytes_before, global_at}
-use Rattle.flat_lower.specs.Statements.{global_image, globals_image}
-use Rattle.flat_lower.specs.Fits.{FitsGlobal, FitsSource}
+use Rattle.ir_forms.specs.inside.Frames.{frames_at, frame_limit, rounded}
+use Rattle.ir_forms.specs.inside.Cells.{Memory, Held, Closed}
+use Rattle.ir_forms.specs.inside.FlatSteps.{State}
+use Rattle.ir_forms.specs.inside.FlatRuns.{first_mark, first_memory}
+use Rattle.flat_lower.specs.inside.TreeViews.{source_of}
+use Rattle.flat_lower.specs.inside.Objects.{global_bytes, bytes_before, global_at}
+use Rattle.flat_lower.specs.inside.Statements.{global_image, globals_image}
+use Rattle.flat_lower.specs.inside.Fits.{FitsGlobal, FitsSource}
 use Rattle.flat_lower.specs.Keeps.{IsInput}
 use Rattle.flat_lower.proofs.Objects.{Object, object_row, end_of, Laid, laid_lower, AllStored}
 use Rattle.flat_lower.proofs.Related.{Scene, IsScene, object, frames_from, Related}

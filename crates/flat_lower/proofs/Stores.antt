@@ -18,14 +18,14 @@ use Rattle.c_constant.specs.Kinds.{bytes}
 use Rattle.trips_isa.specs.Stores.{data_size}
 use Rattle.ir_forms.specs.declared.flat.Arg.{Arg}
 use Rattle.ir_forms.specs.declared.flat.Arg.TheVariants.{Const, Var}
-use Rattle.ir_forms.specs.FlatCode.{Code, Then, only, Save, Function}
-use Rattle.ir_forms.specs.Cells as cells
-use Rattle.ir_forms.specs.FlatSteps.{State, read, settle, with_var, with_memory}
-use Rattle.ir_forms.specs.FlatRuns.{checked}
+use Rattle.ir_forms.specs.inside.FlatCode.{Code, Then, only, Save, Function}
+use Rattle.ir_forms.specs.inside.Cells as cells
+use Rattle.ir_forms.specs.inside.FlatSteps.{State, read, settle, with_var, with_memory}
+use Rattle.ir_forms.specs.inside.FlatRuns.{checked}
 use Rattle.ir_forms.proofs.Leads.{Leads}
 use Rattle.ir_forms.proofs.Steps.{save_leads, both_lead}
 use Rattle.c_constant.specs.Kinds.{IsWord}
-use Rattle.flat_lower.specs.Operations.{temp, save_op}
+use Rattle.flat_lower.specs.inside.Operations.{temp, save_op}
 use Rattle.flat_lower.proofs.Straight.{put_at, put_other, Sets, Puts}
 use Rattle.flat_lower.proofs.Bytes.{save_is}
 use Rattle.flat_lower.proofs.Objects.{element_at, put_element, laid_at, element_in, good_element}

@@ -23,18 +23,18 @@ use Rattle.trips_isa.specs.declared.op.Op.TheVariants as op
 use Rattle.trips_isa.specs.Alu.{alu_of, test}
 use Rattle.ir_forms.specs.declared.flat.Arg.{Arg}
 use Rattle.ir_forms.specs.declared.flat.Arg.TheVariants.{Const, Var}
-use Rattle.ir_forms.specs.FlatCode.{Code, Nop, Then, only, Let, Function}
-use Rattle.ir_forms.specs.Cells.{apply}
-use Rattle.ir_forms.specs.FlatSteps.{State, Env, Res, settle, read, var_put, with_var}
-use Rattle.ir_forms.specs.FlatRuns.{checked}
+use Rattle.ir_forms.specs.inside.FlatCode.{Code, Nop, Then, only, Let, Function}
+use Rattle.ir_forms.specs.inside.Cells.{apply}
+use Rattle.ir_forms.specs.inside.FlatSteps.{State, Env, Res, settle, read, var_put, with_var}
+use Rattle.ir_forms.specs.inside.FlatRuns.{checked}
 use Rattle.ir_forms.proofs.Leads.{Leads}
 use Rattle.ir_forms.proofs.Steps.{code_run, nop_leads, let_leads, both_lead}
 use Rattle.c_constant.specs.Kinds.{IsWord}
-use Rattle.flat_lower.specs.Kinds.{IsArithmetic}
-use Rattle.flat_lower.specs.Operations.{temp, scratch, set_word, copied, one_done, two_done}
-use Rattle.flat_lower.specs.Operations.{narrowing, narrowed_by, converted_to, narrowed_here}
-use Rattle.flat_lower.specs.Operations.{converted_here, reduced_here, by_sign, remainder_code}
-use Rattle.flat_lower.specs.Operations.{binary_code, unary_code, bump_op, bump_narrowing, bumped}
+use Rattle.flat_lower.specs.inside.Kinds.{IsArithmetic}
+use Rattle.flat_lower.specs.inside.Operations.{temp, scratch, set_word, copied, one_done, two_done}
+use Rattle.flat_lower.specs.inside.Operations.{narrowing, narrowed_by, converted_to, narrowed_here}
+use Rattle.flat_lower.specs.inside.Operations.{converted_here, reduced_here, by_sign, remainder_code}
+use Rattle.flat_lower.specs.inside.Operations.{binary_code, unary_code, bump_op, bump_narrowing, bumped}
 use Rattle.c_constant.proofs.Conversions.{converted_is, converted_word, converted_long}
 use Rattle.c_constant.proofs.Conversions.{converted_ulong}
 use Rattle.flat_lower.proofs.Operators.{reduced_word, Gives, add_gives, sub_gives, mul_gives}

@@ -4,12 +4,12 @@ use Rattle.std.proofs.Common.{drop, length, Option, Some, None, refl, sym, ap, â
 use Rattle.c_tree.specs.declared.Kind.{Kind}
 use Rattle.c_tree.specs.declared.TypedSection.{TypedSection}
 use Rattle.flat_lower.specs.declared.around.Around.{Around}
-use Rattle.flat_lower.specs.Tree.{Sections, NoSections, WithSection}
-use Rattle.flat_lower.specs.Switches.{has_default, default_at, section_count}
-use Rattle.flat_lower.specs.Emitted.{sections_in}
-use Rattle.flat_lower.specs.FitsSwitches.{case_count, cases_in, free_sections}
-use Rattle.flat_lower.specs.Fits.{Scope, FitsSections}
-use Rattle.flat_lower.specs.Sizes.{label_count, size_of_sections}
+use Rattle.flat_lower.specs.inside.Tree.{Sections, NoSections, WithSection}
+use Rattle.flat_lower.specs.inside.Switches.{has_default, default_at, section_count}
+use Rattle.flat_lower.specs.inside.Emitted.{sections_in}
+use Rattle.flat_lower.specs.inside.FitsSwitches.{case_count, cases_in, free_sections}
+use Rattle.flat_lower.specs.inside.Fits.{Scope, FitsSections}
+use Rattle.flat_lower.specs.inside.Sizes.{label_count, size_of_sections}
 use Rattle.flat_lower.proofs.SwitchLabels.{one_of_two}
 
 -- what stands at `default` is one of the sections, or behind them

@@ -14,22 +14,22 @@ use Rattle.c_meaning_spec.specs.State as eval
 use Rattle.c_meaning_spec.specs.Statement.{sequence, bodies, targets, after_sections, run_from, compared}
 use Rattle.c_meaning_spec.specs.Eval.{meaning}
 use Rattle.ir_forms.specs.declared.flat.Arg.TheVariants.{Var}
-use Rattle.ir_forms.specs.FlatCode.{Code, Nop, Then, only, Loop}
-use Rattle.ir_forms.specs.FlatCode as flat
-use Rattle.ir_forms.specs.FlatSteps.{State, Res, Broke, Gave, TooDeep, settle, counted}
-use Rattle.ir_forms.specs.FlatRuns.{checked}
+use Rattle.ir_forms.specs.inside.FlatCode.{Code, Nop, Then, only, Loop}
+use Rattle.ir_forms.specs.inside.FlatCode as flat
+use Rattle.ir_forms.specs.inside.FlatSteps.{State, Res, Broke, Gave, TooDeep, settle, counted}
+use Rattle.ir_forms.specs.inside.FlatRuns.{checked}
 use Rattle.ir_forms.proofs.Leads.{Run, Leads, Stops, Moves, leads_from, stops_from}
 use Rattle.ir_forms.proofs.Steps.{then_moves, both_lead, first_leads, first_stops, if_one, if_other}
 use Rattle.ir_forms.proofs.Steps.{break_leads, loop_moves, turn_leads, turn_stops}
 use Rattle.flat_lower.specs.declared.around.Around.{Around}
 use Rattle.flat_lower.specs.declared.around.Around.TheVariants as around
-use Rattle.flat_lower.specs.Operations.{temp}
-use Rattle.flat_lower.specs.Switches.{in_switch, continue_code, behind_code, found_code, compared_code}
-use Rattle.flat_lower.specs.Switches.{default_at, section_count, switched_code}
-use Rattle.flat_lower.specs.Emitted.{sections_in}
-use Rattle.flat_lower.specs.FitsSwitches.{IsLooped, cases_in, free_sections}
-use Rattle.flat_lower.specs.Fits.{FitsSections}
-use Rattle.flat_lower.specs.Sizes.{size_of_sections}
+use Rattle.flat_lower.specs.inside.Operations.{temp}
+use Rattle.flat_lower.specs.inside.Switches.{in_switch, continue_code, behind_code, found_code, compared_code}
+use Rattle.flat_lower.specs.inside.Switches.{default_at, section_count, switched_code}
+use Rattle.flat_lower.specs.inside.Emitted.{sections_in}
+use Rattle.flat_lower.specs.inside.FitsSwitches.{IsLooped, cases_in, free_sections}
+use Rattle.flat_lower.specs.inside.Fits.{FitsSections}
+use Rattle.flat_lower.specs.inside.Sizes.{size_of_sections}
 use Rattle.flat_lower.proofs.Straight.{var_read}
 use Rattle.flat_lower.proofs.EmitArguments.{drop_all}
 use Rattle.flat_lower.proofs.Follows.{FollowsIn, moved_in, continues_in}

@@ -5,13 +5,13 @@ use Rattle.c_tree.specs.declared.BumpOp.TheVariants.{PostInc}
 use Rattle.c_tree.specs.declared.BinaryOp.TheVariants as op
 use Rattle.c_tree.specs.declared.Place.TheVariants as place
 use Rattle.c_tree.specs.declared.Callee.TheVariants as callee
-use Rattle.ir_forms.specs.Frames.{frame_limit}
-use Rattle.ir_forms.specs.Cells.{apply, load, save, marked}
-use Rattle.ir_forms.specs.FlatRuns.{first_memory, flat_run}
-use Rattle.flat_lower.specs.Tree.{Expr, RowElement, Call, Bump, Stmt, Declare, While, Switch, Break, Continue}
-use Rattle.flat_lower.specs.Tree.{Sections, NoSections, WithSection}
-use Rattle.flat_lower.specs.Objects.{global_at, array_at}
-use Rattle.flat_lower.specs.Statements.{lowered}
+use Rattle.ir_forms.specs.inside.Frames.{frame_limit}
+use Rattle.ir_forms.specs.inside.Cells.{apply, load, save, marked}
+use Rattle.ir_forms.specs.inside.FlatRuns.{first_memory, flat_run}
+use Rattle.flat_lower.specs.inside.Tree.{Expr, RowElement, Call, Bump, Stmt, Declare, While, Switch, Break, Continue}
+use Rattle.flat_lower.specs.inside.Tree.{Sections, NoSections, WithSection}
+use Rattle.flat_lower.specs.inside.Objects.{global_at, array_at}
+use Rattle.flat_lower.specs.inside.Statements.{lowered}
 use Rattle.flat_lower.proofs.StandardFacts.{n, int, two, set, does, gives, stmts, block, exprs, main, run}
 
 abbrev prints : Expr → Stmt

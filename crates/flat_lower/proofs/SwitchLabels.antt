@@ -14,18 +14,18 @@ use Rattle.c_meaning_spec.specs.Eval.{meaning}
 use Rattle.trips_isa.specs.declared.op.Op.TheVariants as op
 use Rattle.trips_isa.specs.Alu.{alu_of, test}
 use Rattle.ir_forms.specs.declared.flat.Arg.TheVariants.{Const, Var}
-use Rattle.ir_forms.specs.FlatCode.{Code, Nop, Then, only, Let, If}
-use Rattle.ir_forms.specs.Cells.{apply}
-use Rattle.ir_forms.specs.FlatSteps.{State, Broke, settle}
-use Rattle.ir_forms.specs.FlatRuns.{checked}
+use Rattle.ir_forms.specs.inside.FlatCode.{Code, Nop, Then, only, Let, If}
+use Rattle.ir_forms.specs.inside.Cells.{apply}
+use Rattle.ir_forms.specs.inside.FlatSteps.{State, Broke, settle}
+use Rattle.ir_forms.specs.inside.FlatRuns.{checked}
 use Rattle.ir_forms.proofs.Leads.{Leads, Stops, Moves, leads_from, stops_from, waits_stop, moves_from}
 use Rattle.ir_forms.proofs.Steps.{code_waits, then_moves, then_then, first_leads, if_one, if_other, nop_leads}
-use Rattle.flat_lower.specs.Tree.{NoSections, WithSection}
-use Rattle.flat_lower.specs.Operations.{temp, scratch}
-use Rattle.flat_lower.specs.Switches.{found_code, label_code, labels_code, compared_code, has_default}
-use Rattle.flat_lower.specs.Switches.{default_at}
-use Rattle.flat_lower.specs.Emitted.{sections_in}
-use Rattle.flat_lower.specs.FitsSwitches.{case_count, cases_in, free_sections, one_if_none}
+use Rattle.flat_lower.specs.inside.Tree.{NoSections, WithSection}
+use Rattle.flat_lower.specs.inside.Operations.{temp, scratch}
+use Rattle.flat_lower.specs.inside.Switches.{found_code, label_code, labels_code, compared_code, has_default}
+use Rattle.flat_lower.specs.inside.Switches.{default_at}
+use Rattle.flat_lower.specs.inside.Emitted.{sections_in}
+use Rattle.flat_lower.specs.inside.FitsSwitches.{case_count, cases_in, free_sections, one_if_none}
 use Rattle.flat_lower.proofs.Straight.{puts_let, var_read}
 use Rattle.flat_lower.proofs.Related.{Scene, IsScene, Related, sets_unseen, spent}
 use Rattle.flat_lower.proofs.Values.{functions, base, run}

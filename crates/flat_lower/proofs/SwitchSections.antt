@@ -14,22 +14,22 @@ use Rattle.c_meaning_spec.specs.Statement.{going_on, sequence, bodies}
 use Rattle.c_meaning_spec.specs.Eval.{meaning}
 use Rattle.trips_isa.specs.declared.op.Op.TheVariants as op
 use Rattle.ir_forms.specs.declared.flat.Arg.TheVariants.{Const, Var}
-use Rattle.ir_forms.specs.FlatCode.{Code, Nop, Then, only, Let, If}
-use Rattle.ir_forms.specs.Cells.{apply}
-use Rattle.ir_forms.specs.FlatSteps.{State, settle}
-use Rattle.ir_forms.specs.FlatRuns.{checked}
+use Rattle.ir_forms.specs.inside.FlatCode.{Code, Nop, Then, only, Let, If}
+use Rattle.ir_forms.specs.inside.Cells.{apply}
+use Rattle.ir_forms.specs.inside.FlatSteps.{State, settle}
+use Rattle.ir_forms.specs.inside.FlatRuns.{checked}
 use Rattle.ir_forms.proofs.Leads.{Run, Moves, leads_from, moves_from, waits_stop}
 use Rattle.ir_forms.proofs.Steps.{then_moves, both_lead, first_leads, if_one, if_other, nop_leads}
 use Rattle.ir_forms.proofs.Steps.{code_waits}
 use Rattle.flat_lower.specs.declared.around.Around.{Around}
-use Rattle.flat_lower.specs.TreeViews.{stmt_of, stmts_of}
-use Rattle.flat_lower.specs.Operations.{temp, set_word}
-use Rattle.flat_lower.specs.Switches.{section_code}
-use Rattle.flat_lower.specs.Statements.{stmts_code, sections_code}
-use Rattle.flat_lower.specs.Emitted.{block_of, sections_in}
-use Rattle.flat_lower.specs.FitsSwitches.{IsFilled}
-use Rattle.flat_lower.specs.Fits.{FitsStmts, FitsSections}
-use Rattle.flat_lower.specs.Sizes.{size_of_all, size_of_sections}
+use Rattle.flat_lower.specs.inside.TreeViews.{stmt_of, stmts_of}
+use Rattle.flat_lower.specs.inside.Operations.{temp, set_word}
+use Rattle.flat_lower.specs.inside.Switches.{section_code}
+use Rattle.flat_lower.specs.inside.Statements.{stmts_code, sections_code}
+use Rattle.flat_lower.specs.inside.Emitted.{block_of, sections_in}
+use Rattle.flat_lower.specs.inside.FitsSwitches.{IsFilled}
+use Rattle.flat_lower.specs.inside.Fits.{FitsStmts, FitsSections}
+use Rattle.flat_lower.specs.inside.Sizes.{size_of_all, size_of_sections}
 use Rattle.c_tree.specs.declared.Kind.{Kind}
 use Rattle.flat_lower.proofs.Sequences.{sequence_both, no_steps}
 use Rattle.flat_lower.proofs.Straight.{puts_let, var_read}

@@ -7,17 +7,17 @@ use Rattle.c_tree.specs.declared.TypedProgram.{TypedProgram}
 use Rattle.c_meaning_spec.specs.State as eval
 use Rattle.c_meaning_spec.specs.Statement.{sequence, bodies, targets, run_from, compared}
 use Rattle.c_meaning_spec.specs.Eval.{meaning}
-use Rattle.ir_forms.specs.FlatCode.{Code, Nop, Then, only, Loop}
-use Rattle.ir_forms.specs.FlatCode as flat
-use Rattle.ir_forms.specs.FlatSteps.{State, counted}
+use Rattle.ir_forms.specs.inside.FlatCode.{Code, Nop, Then, only, Loop}
+use Rattle.ir_forms.specs.inside.FlatCode as flat
+use Rattle.ir_forms.specs.inside.FlatSteps.{State, counted}
 use Rattle.flat_lower.specs.declared.around.Around.{Around}
-use Rattle.flat_lower.specs.Operations.{temp}
-use Rattle.flat_lower.specs.Switches.{in_switch, behind_code, found_code, compared_code, default_at}
-use Rattle.flat_lower.specs.Switches.{section_count, switched_code}
-use Rattle.flat_lower.specs.Emitted.{sections_in}
-use Rattle.flat_lower.specs.FitsSwitches.{cases_in, free_sections}
-use Rattle.flat_lower.specs.Fits.{FitsSections}
-use Rattle.flat_lower.specs.Sizes.{size_of_sections}
+use Rattle.flat_lower.specs.inside.Operations.{temp}
+use Rattle.flat_lower.specs.inside.Switches.{in_switch, behind_code, found_code, compared_code, default_at}
+use Rattle.flat_lower.specs.inside.Switches.{section_count, switched_code}
+use Rattle.flat_lower.specs.inside.Emitted.{sections_in}
+use Rattle.flat_lower.specs.inside.FitsSwitches.{cases_in, free_sections}
+use Rattle.flat_lower.specs.inside.Fits.{FitsSections}
+use Rattle.flat_lower.specs.inside.Sizes.{size_of_sections}
 use Rattle.flat_lower.proofs.EmitArguments.{drop_all}
 use Rattle.flat_lower.proofs.Follows.{moved_in}
 use Rattle.flat_lower.proofs.Related.{Scene, IsScene, scope, Related, recounted}

@@ -14,16 +14,16 @@ use Rattle.c_tree.specs.declared.TypedForInit.{fold-TypedForInit, fold_out-Typed
 use Rattle.c_tree.specs.declared.TypedForInit.TheOpen as stmt
 use Rattle.c_tree.specs.TypedTrees.{Node, node_of}
 use Rattle.c_tree.specs.TypedTrees as level
-use Rattle.flat_lower.specs.Tree.{Expr, Number, Name, Element, Call, Unary, Cast, Convert, Bump}
-use Rattle.flat_lower.specs.Tree.{Binary, Choice, Assign, Comma, Exprs, NoExprs, WithExpr, Stmt}
-use Rattle.flat_lower.specs.Tree.{Declare, Plain, Compound, If, While, Do, For, Break, Continue}
-use Rattle.flat_lower.specs.Tree.{Return, Stmts, NoStmts, WithStmt, First, Nothing, FirstOf, Locals}
-use Rattle.flat_lower.specs.Tree.{kind_of, RowElement, Switch}
+use Rattle.flat_lower.specs.inside.Tree.{Expr, Number, Name, Element, Call, Unary, Cast, Convert, Bump}
+use Rattle.flat_lower.specs.inside.Tree.{Binary, Choice, Assign, Comma, Exprs, NoExprs, WithExpr, Stmt}
+use Rattle.flat_lower.specs.inside.Tree.{Declare, Plain, Compound, If, While, Do, For, Break, Continue}
+use Rattle.flat_lower.specs.inside.Tree.{Return, Stmts, NoStmts, WithStmt, First, Nothing, FirstOf, Locals}
+use Rattle.flat_lower.specs.inside.Tree.{kind_of, RowElement, Switch}
 use Rattle.c_tree.specs.declared.TypedSection.{TypedSection, fold-TypedSection, fold_out-TypedSection}
-use Rattle.flat_lower.specs.TreeViews.{Kindless, node_by, expr_by, expr_of, expr_if, exprs_of}
-use Rattle.flat_lower.specs.TreeViews.{stmt_by, first_by, stmt_of, stmts_of, stmts_if, Section}
-use Rattle.flat_lower.specs.TreeViews.{sections_of, section_by}
-use Rattle.flat_lower.specs.Emitted.{section_of, sections_in}
+use Rattle.flat_lower.specs.inside.TreeViews.{Kindless, node_by, expr_by, expr_of, expr_if, exprs_of}
+use Rattle.flat_lower.specs.inside.TreeViews.{stmt_by, first_by, stmt_of, stmts_of, stmts_if, Section}
+use Rattle.flat_lower.specs.inside.TreeViews.{sections_of, section_by}
+use Rattle.flat_lower.specs.inside.Emitted.{section_of, sections_in}
 
 -- one level of an expression
 abbrev pub plain_node : Node → Option Kind → Expr

@@ -16,19 +16,19 @@ use Rattle.c_meaning_spec.specs.State as eval
 use Rattle.c_meaning_spec.specs.Task.{Of}
 use Rattle.c_meaning_spec.specs.Eval.{meaning}
 use Rattle.c_meaning_spec.proofs.Induction.{meaning-falls}
-use Rattle.ir_forms.specs.FlatCode.{Code, Then, Function}
-use Rattle.ir_forms.specs.FlatSteps.{State}
-use Rattle.ir_forms.specs.FlatRuns.{checked}
+use Rattle.ir_forms.specs.inside.FlatCode.{Code, Then, Function}
+use Rattle.ir_forms.specs.inside.FlatSteps.{State}
+use Rattle.ir_forms.specs.inside.FlatRuns.{checked}
 use Rattle.ir_forms.proofs.Leads.{Run}
 use Rattle.ir_forms.proofs.Steps.{code_waits}
-use Rattle.flat_lower.specs.Tree.{Expr}
-use Rattle.flat_lower.specs.TreeViews.{func_of, expr_of}
+use Rattle.flat_lower.specs.inside.Tree.{Expr}
+use Rattle.flat_lower.specs.inside.TreeViews.{func_of, expr_of}
 use Rattle.c_constant.specs.Kinds.{IsWord}
-use Rattle.flat_lower.specs.Operations.{temp}
-use Rattle.flat_lower.specs.Expressions.{expr_code}
-use Rattle.flat_lower.specs.Statements.{lowered_from}
-use Rattle.flat_lower.specs.Fits.{FitsExpr}
-use Rattle.flat_lower.specs.Sizes.{nodes}
+use Rattle.flat_lower.specs.inside.Operations.{temp}
+use Rattle.flat_lower.specs.inside.Expressions.{expr_code}
+use Rattle.flat_lower.specs.inside.Statements.{lowered_from}
+use Rattle.flat_lower.specs.inside.Fits.{FitsExpr}
+use Rattle.flat_lower.specs.inside.Sizes.{nodes}
 use Rattle.flat_lower.proofs.Straight.{Sets, Puts}
 use Rattle.flat_lower.specs.declared.around.Around.{Around}
 use Rattle.flat_lower.specs.declared.around.Around.TheVariants as around

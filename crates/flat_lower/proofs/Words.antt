@@ -15,7 +15,7 @@ use Rattle.c_constant.specs.Kinds.{number, word, word_of, reduced, between, in_k
 use Rattle.c_constant.specs.Kinds.{converted}
 use Rattle.trips_isa.specs.Alu.{extended}
 use Rattle.c_constant.specs.Kinds.{IsWord}
-use Rattle.flat_lower.specs.Kinds.{IsArithmetic}
+use Rattle.flat_lower.specs.inside.Kinds.{IsArithmetic}
 
 -- NUMBERS AND WORDS
 

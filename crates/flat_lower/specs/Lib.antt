@@ -1,13 +1,2 @@
-pub mod Tree
-pub mod TreeViews
-pub mod Kinds
-pub mod Operations
-pub mod Objects
-pub mod Expressions
-pub mod Switches
-pub mod Statements
-pub mod Emitted
-pub mod FitsSwitches
-pub mod Fits
-pub mod Sizes
 pub mod Keeps
+pub mod inside

@@ -2,8 +2,8 @@
 
 ghost use Rattle.std.specs.Prelude.{◌<◌, OnOk};
 ghost use Rattle.c_tree.specs.declared.Place.TheVariants.{Global, Scalar, Array};
-ghost use Rattle.flat_lower.specs.Objects.{based, address_by, address_code, whole_code};
-ghost use Rattle.flat_lower.specs.Emitted.{Adds};
+ghost use Rattle.flat_lower.specs.inside.Objects.{based, address_by, address_code, whole_code};
+ghost use Rattle.flat_lower.specs.inside.Emitted.{Adds};
 
 use crate::emit::{put_frame, put_let, scalar, scratch};
 use crate::operations::shift_of;

@@ -3,11 +3,11 @@
 ghost use Rattle.std.specs.Prelude.{◌≡◌, ◌+◌, suc, Some, None, OnOk, IfOk};
 ghost use Rattle.c_tree.specs.declared.Place.TheVariants.{Global, Scalar, Array};
 ghost use Rattle.flat_lower.specs.declared.side.Side.TheVariants.{Name, Element};
-ghost use Rattle.flat_lower.specs.Expressions as expressions;
-ghost use Rattle.flat_lower.specs.Expressions.{with_kind, assign_name, old_name, old_element};
-ghost use Rattle.flat_lower.specs.Expressions.{assign_element, compound_code, before_right};
-ghost use Rattle.flat_lower.specs.Expressions.{after_right};
-ghost use Rattle.flat_lower.specs.Emitted.{Adds, shape};
+ghost use Rattle.flat_lower.specs.inside.Expressions as expressions;
+ghost use Rattle.flat_lower.specs.inside.Expressions.{with_kind, assign_name, old_name, old_element};
+ghost use Rattle.flat_lower.specs.inside.Expressions.{assign_element, compound_code, before_right};
+ghost use Rattle.flat_lower.specs.inside.Expressions.{after_right};
+ghost use Rattle.flat_lower.specs.inside.Emitted.{Adds, shape};
 
 use crate::addressing::put_address;
 use crate::emit::{deeper, put_load, put_save, scalar, temp};

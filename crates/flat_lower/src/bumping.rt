@@ -2,9 +2,9 @@
 
 ghost use Rattle.std.specs.Prelude.{◌≡◌, true, false, OnOk};
 ghost use Rattle.c_tree.specs.declared.Place.TheVariants.{Global, Scalar, Array};
-ghost use Rattle.flat_lower.specs.Expressions.{with_kind, bump_scalar, bump_memory, bump_name};
-ghost use Rattle.flat_lower.specs.Expressions.{bump_element, bump_code};
-ghost use Rattle.flat_lower.specs.Emitted.{Adds, shape};
+ghost use Rattle.flat_lower.specs.inside.Expressions.{with_kind, bump_scalar, bump_memory, bump_name};
+ghost use Rattle.flat_lower.specs.inside.Expressions.{bump_element, bump_code};
+ghost use Rattle.flat_lower.specs.inside.Emitted.{Adds, shape};
 
 use crate::addressing::put_address;
 use crate::emit::{put_load, put_save, scalar, scratch, temp};

@@ -2,9 +2,9 @@
 
 ghost use Rattle.std.specs.Prelude.{◌≡◌, OnOk};
 ghost use Rattle.c_tree.specs.declared.Callee.TheVariants.{PutChar};
-ghost use Rattle.flat_lower.specs.Expressions as expressions;
-ghost use Rattle.flat_lower.specs.Expressions.{call_code};
-ghost use Rattle.flat_lower.specs.Emitted.{Adds};
+ghost use Rattle.flat_lower.specs.inside.Expressions as expressions;
+ghost use Rattle.flat_lower.specs.inside.Expressions.{call_code};
+ghost use Rattle.flat_lower.specs.inside.Emitted.{Adds};
 
 use crate::emit::{put_call, put_get, put_let, put_out, temp};
 use base::{Items, Memory};

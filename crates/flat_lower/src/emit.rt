@@ -1,11 +1,11 @@
 //! One more flat statement.
 
 ghost use Rattle.std.specs.Prelude.{◌≡◌, suc, IfOk, OnOk};
-ghost use Rattle.ir_forms.specs.FlatCode as flat;
-ghost use Rattle.ir_forms.specs.FlatCode.{only};
-ghost use Rattle.ir_forms.specs.FlatViews.{step_of, code_of, stays};
-ghost use Rattle.flat_lower.specs.Operations as operations;
-ghost use Rattle.flat_lower.specs.Emitted.{Adds};
+ghost use Rattle.ir_forms.specs.inside.FlatCode as flat;
+ghost use Rattle.ir_forms.specs.inside.FlatCode.{only};
+ghost use Rattle.ir_forms.specs.inside.FlatViews.{step_of, code_of, stays};
+ghost use Rattle.flat_lower.specs.inside.Operations as operations;
+ghost use Rattle.flat_lower.specs.inside.Emitted.{Adds};
 
 use base::{Items, Memory};
 use ir_forms::{Arg, FlatStmt};

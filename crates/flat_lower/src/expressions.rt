@@ -3,16 +3,16 @@
 
 ghost use Rattle.std.specs.Prelude.{◌≡◌, suc, None, OnOk, IfOk};
 ghost use Rattle.c_tree.specs.declared.BinaryOp.TheVariants.{LogicalAnd, LogicalOr};
-ghost use Rattle.ir_forms.specs.FlatCode.{Then};
-ghost use Rattle.ir_forms.specs.FlatViews.{code_of};
-ghost use Rattle.flat_lower.specs.Tree as tree;
-ghost use Rattle.flat_lower.specs.TreeViews.{expr_of};
-ghost use Rattle.flat_lower.specs.Expressions as expressions;
-ghost use Rattle.flat_lower.specs.Expressions.{expr_code, args_code, index_code, temps};
-ghost use Rattle.flat_lower.specs.Expressions.{binary_end, operand_at, with_kind, joined_code};
-ghost use Rattle.flat_lower.specs.Operations as operations;
-ghost use Rattle.flat_lower.specs.Operations.{set_word, unary_code, binary_code};
-ghost use Rattle.flat_lower.specs.Emitted.{Adds, args_of, side_in};
+ghost use Rattle.ir_forms.specs.inside.FlatCode.{Then};
+ghost use Rattle.ir_forms.specs.inside.FlatViews.{code_of};
+ghost use Rattle.flat_lower.specs.inside.Tree as tree;
+ghost use Rattle.flat_lower.specs.inside.TreeViews.{expr_of};
+ghost use Rattle.flat_lower.specs.inside.Expressions as expressions;
+ghost use Rattle.flat_lower.specs.inside.Expressions.{expr_code, args_code, index_code, temps};
+ghost use Rattle.flat_lower.specs.inside.Expressions.{binary_end, operand_at, with_kind, joined_code};
+ghost use Rattle.flat_lower.specs.inside.Operations as operations;
+ghost use Rattle.flat_lower.specs.inside.Operations.{set_word, unary_code, binary_code};
+ghost use Rattle.flat_lower.specs.inside.Emitted.{Adds, args_of, side_in};
 
 use crate::assignments::{put_after, put_before, right_at};
 use crate::bumping::put_bump;

@@ -2,12 +2,12 @@
 
 ghost use Rattle.std.specs.Prelude.{◌≡◌, ◌+◌, ◌≤◌, map, IfOk, OnOk};
 ghost use Rattle.c_meaning_spec.specs.Call as call;
-ghost use Rattle.ir_forms.specs.FlatCode.{Then};
-ghost use Rattle.ir_forms.specs.FlatViews.{code_of, function_of};
-ghost use Rattle.flat_lower.specs.TreeViews.{stmt_of, func_of};
-ghost use Rattle.flat_lower.specs.Objects.{global_bytes};
-ghost use Rattle.flat_lower.specs.Statements.{stmt_code, end_code, lowered_func, lowered_from};
-ghost use Rattle.flat_lower.specs.Emitted.{Adds, starts_from};
+ghost use Rattle.ir_forms.specs.inside.FlatCode.{Then};
+ghost use Rattle.ir_forms.specs.inside.FlatViews.{code_of, function_of};
+ghost use Rattle.flat_lower.specs.inside.TreeViews.{stmt_of, func_of};
+ghost use Rattle.flat_lower.specs.inside.Objects.{global_bytes};
+ghost use Rattle.flat_lower.specs.inside.Statements.{stmt_code, end_code, lowered_func, lowered_from};
+ghost use Rattle.flat_lower.specs.inside.Emitted.{Adds, starts_from};
 
 use crate::around::Around;
 use crate::emit::put_return;

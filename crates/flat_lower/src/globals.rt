@@ -3,9 +3,9 @@
 ghost use Rattle.std.specs.Prelude.{◌≡◌, ◌+◌, ◌*◌, ◌/◌, ◌%◌, ◌^◌, ◌<◌, ◌≤◌, ◌++◌, map, replicate};
 ghost use Rattle.std.specs.Prelude.{OnOk, IfOk};
 ghost use Rattle.c_meaning_spec.specs.Eval as eval;
-ghost use Rattle.flat_lower.specs.Objects as objects;
-ghost use Rattle.flat_lower.specs.Statements.{word_bytes, init_bytes, global_image, globals_image};
-ghost use Rattle.flat_lower.specs.Emitted.{starts_from};
+ghost use Rattle.flat_lower.specs.inside.Objects as objects;
+ghost use Rattle.flat_lower.specs.inside.Statements.{word_bytes, init_bytes, global_image, globals_image};
+ghost use Rattle.flat_lower.specs.inside.Emitted.{starts_from};
 
 use base::{Items, Memory};
 use c_constant::bytes;

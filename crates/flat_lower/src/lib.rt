@@ -1,6 +1,6 @@
 //! From typed C programs to the flat form.
 //!
-//! [`lower`] gives the flat program that specs/Statements.antt defines. Each emitter adds
+//! [`lower`] gives the flat program that specs/inside/Statements.antt defines. Each emitter adds
 //! the code of one kind of node to what stands already.
 #![tactic(auto)]
 

@@ -1,13 +1,13 @@
 //! The flat code of loops whose bodies are emitted.
 
 ghost use Rattle.std.specs.Prelude.{◌≡◌, Some, None, OnOk, IfOk};
-ghost use Rattle.ir_forms.specs.FlatCode as flat;
-ghost use Rattle.ir_forms.specs.FlatCode.{only};
-ghost use Rattle.ir_forms.specs.FlatViews.{code_of};
-ghost use Rattle.flat_lower.specs.TreeViews.{expr_of, expr_if};
-ghost use Rattle.flat_lower.specs.Expressions.{expr_code};
-ghost use Rattle.flat_lower.specs.Statements.{expr_if_code, if_so, turn_code, loop_code, do_code};
-ghost use Rattle.flat_lower.specs.Emitted.{Adds};
+ghost use Rattle.ir_forms.specs.inside.FlatCode as flat;
+ghost use Rattle.ir_forms.specs.inside.FlatCode.{only};
+ghost use Rattle.ir_forms.specs.inside.FlatViews.{code_of};
+ghost use Rattle.flat_lower.specs.inside.TreeViews.{expr_of, expr_if};
+ghost use Rattle.flat_lower.specs.inside.Expressions.{expr_code};
+ghost use Rattle.flat_lower.specs.inside.Statements.{expr_if_code, if_so, turn_code, loop_code, do_code};
+ghost use Rattle.flat_lower.specs.inside.Emitted.{Adds};
 
 use crate::emit::{put_break, put_if, put_loop, temp};
 use crate::expressions::put_value;

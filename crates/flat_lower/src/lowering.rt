@@ -1,7 +1,7 @@
 ghost use Rattle.std.specs.Prelude.{◌≡◌, IfOk};
-ghost use Rattle.ir_forms.specs.FlatViews.{program_of};
-ghost use Rattle.flat_lower.specs.Statements.{lowered_program};
-ghost use Rattle.flat_lower.specs.Keeps.{Means};
+ghost use Rattle.ir_forms.specs.inside.FlatViews.{program_of};
+ghost use Rattle.flat_lower.specs.inside.Statements.{lowered_program};
+ghost use Rattle.flat_lower.specs.inside.Keeps.{Means};
 
 use crate::functions::lower_funcs;
 use crate::globals::{addresses_of, image_of};

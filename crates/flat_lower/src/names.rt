@@ -2,11 +2,11 @@
 
 ghost use Rattle.std.specs.Prelude.{◌≡◌, suc, Some, false, OnOk};
 ghost use Rattle.c_tree.specs.declared.Place.TheVariants.{Global, Scalar, Array};
-ghost use Rattle.flat_lower.specs.Operations as operations;
-ghost use Rattle.flat_lower.specs.Expressions.{with_kind, global_code, name_code, element_code};
-ghost use Rattle.flat_lower.specs.Expressions.{joined_by};
-ghost use Rattle.flat_lower.specs.Objects.{row_of};
-ghost use Rattle.flat_lower.specs.Emitted.{Adds};
+ghost use Rattle.flat_lower.specs.inside.Operations as operations;
+ghost use Rattle.flat_lower.specs.inside.Expressions.{with_kind, global_code, name_code, element_code};
+ghost use Rattle.flat_lower.specs.inside.Expressions.{joined_by};
+ghost use Rattle.flat_lower.specs.inside.Objects.{row_of};
+ghost use Rattle.flat_lower.specs.inside.Emitted.{Adds};
 
 use crate::addressing::{put_address, put_whole};
 use crate::emit::{put_let, put_load, scalar, temp};

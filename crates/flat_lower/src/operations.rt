@@ -2,13 +2,13 @@
 
 ghost use Rattle.std.specs.Prelude.{◌≡◌, OnOk};
 ghost use Rattle.c_tree.specs.declared.UnaryOp.TheVariants.{Minus, Complement};
-ghost use Rattle.ir_forms.specs.FlatCode.{Then};
-ghost use Rattle.flat_lower.specs.Operations as operations;
-ghost use Rattle.flat_lower.specs.Operations.{set_word, copied, one_done, two_done, narrowed_by};
-ghost use Rattle.flat_lower.specs.Operations.{converted_to, narrowed_here, converted_here};
-ghost use Rattle.flat_lower.specs.Operations.{reduced_here, remainder_code, binary_code};
-ghost use Rattle.flat_lower.specs.Operations.{unary_code, bumped};
-ghost use Rattle.flat_lower.specs.Emitted.{Adds};
+ghost use Rattle.ir_forms.specs.inside.FlatCode.{Then};
+ghost use Rattle.flat_lower.specs.inside.Operations as operations;
+ghost use Rattle.flat_lower.specs.inside.Operations.{set_word, copied, one_done, two_done, narrowed_by};
+ghost use Rattle.flat_lower.specs.inside.Operations.{converted_to, narrowed_here, converted_here};
+ghost use Rattle.flat_lower.specs.inside.Operations.{reduced_here, remainder_code, binary_code};
+ghost use Rattle.flat_lower.specs.inside.Operations.{unary_code, bumped};
+ghost use Rattle.flat_lower.specs.inside.Emitted.{Adds};
 
 use crate::emit::{put_let, scratch};
 use base::{Items, Memory};

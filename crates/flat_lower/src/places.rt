@@ -5,9 +5,9 @@ ghost use Rattle.std.specs.Prelude.{map};
 ghost use Rattle.c_meaning_spec.specs.Call.{array_bytes};
 ghost use Rattle.c_meaning_spec.specs.Task as task;
 ghost use Rattle.std.specs.Option.{option_copied};
-ghost use Rattle.flat_lower.specs.Objects as objects;
-ghost use Rattle.flat_lower.specs.Objects.{global_at, array_at, global_bytes, row_of};
-ghost use Rattle.flat_lower.specs.Emitted.{starts_from};
+ghost use Rattle.flat_lower.specs.inside.Objects as objects;
+ghost use Rattle.flat_lower.specs.inside.Objects.{global_at, array_at, global_bytes, row_of};
+ghost use Rattle.flat_lower.specs.inside.Emitted.{starts_from};
 
 use base::Memory;
 use c_tree::{Place, Slot, TypedArray, TypedGlobal};
@@ -27,8 +27,8 @@ pub struct Places<'a> {
 impl<'a> Model for Places<'a> {
     ghost use Rattle.std.specs.Prelude.{◌≡◌, map};
     ghost use Rattle.c_meaning_spec.specs.Call.{array_bytes};
-    ghost use Rattle.flat_lower.specs.Objects.{Context, global_bytes};
-    ghost use Rattle.flat_lower.specs.Emitted.{starts_from};
+    ghost use Rattle.flat_lower.specs.inside.Objects.{Context, global_bytes};
+    ghost use Rattle.flat_lower.specs.inside.Emitted.{starts_from};
 
     ghost Value = { Context };
 

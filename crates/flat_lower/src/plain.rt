@@ -1,12 +1,12 @@
 //! The flat code of expression statements.
 
 ghost use Rattle.std.specs.Prelude.{◌≡◌, Some, None, IfOk, OnOk};
-ghost use Rattle.flat_lower.specs.Tree as tree;
-ghost use Rattle.flat_lower.specs.TreeViews.{expr_of, expr_if};
-ghost use Rattle.flat_lower.specs.Expressions.{expr_code};
-ghost use Rattle.flat_lower.specs.Statements as statements;
-ghost use Rattle.flat_lower.specs.Statements.{set_or, assigned_code, plain_code, plain_if_code};
-ghost use Rattle.flat_lower.specs.Emitted.{Adds};
+ghost use Rattle.flat_lower.specs.inside.Tree as tree;
+ghost use Rattle.flat_lower.specs.inside.TreeViews.{expr_of, expr_if};
+ghost use Rattle.flat_lower.specs.inside.Expressions.{expr_code};
+ghost use Rattle.flat_lower.specs.inside.Statements as statements;
+ghost use Rattle.flat_lower.specs.inside.Statements.{set_or, assigned_code, plain_code, plain_if_code};
+ghost use Rattle.flat_lower.specs.inside.Emitted.{Adds};
 
 use crate::emit::{put_let, scalar};
 use crate::expressions::put_value;

@@ -1,12 +1,12 @@
 //! What follows operands.
 
 ghost use Rattle.std.specs.Prelude.{◌≡◌, OnOk, IfOk};
-ghost use Rattle.ir_forms.specs.FlatViews.{code_of};
-ghost use Rattle.flat_lower.specs.Operations as operations;
-ghost use Rattle.flat_lower.specs.Operations.{set_word, unary_code, binary_code};
-ghost use Rattle.flat_lower.specs.Expressions as expressions;
-ghost use Rattle.flat_lower.specs.Expressions.{with_kind};
-ghost use Rattle.flat_lower.specs.Emitted.{Adds};
+ghost use Rattle.ir_forms.specs.inside.FlatViews.{code_of};
+ghost use Rattle.flat_lower.specs.inside.Operations as operations;
+ghost use Rattle.flat_lower.specs.inside.Operations.{set_word, unary_code, binary_code};
+ghost use Rattle.flat_lower.specs.inside.Expressions as expressions;
+ghost use Rattle.flat_lower.specs.inside.Expressions.{with_kind};
+ghost use Rattle.flat_lower.specs.inside.Emitted.{Adds};
 
 use crate::emit::{put_let, temp};
 use crate::operations::{put_binary, put_unary, put_word};

@@ -1,9 +1,9 @@
 //! What expressions are as left sides.
 
 ghost use Rattle.std.specs.Prelude.{◌≡◌};
-ghost use Rattle.flat_lower.specs.Tree as tree;
-ghost use Rattle.flat_lower.specs.TreeViews.{expr_of};
-ghost use Rattle.flat_lower.specs.Emitted.{side_in};
+ghost use Rattle.flat_lower.specs.inside.Tree as tree;
+ghost use Rattle.flat_lower.specs.inside.TreeViews.{expr_of};
+ghost use Rattle.flat_lower.specs.inside.Emitted.{side_in};
 
 use crate::side::Side;
 use c_tree::{Kind, TypedExpr, TypedNode};

@@ -1,19 +1,19 @@
 //! The flat code of statements.
 
 ghost use Rattle.std.specs.Prelude.{◌≡◌, Some, None, OnOk, IfOk};
-ghost use Rattle.ir_forms.specs.FlatCode as flat;
-ghost use Rattle.ir_forms.specs.FlatCode.{Then, only};
-ghost use Rattle.ir_forms.specs.FlatViews.{code_of};
+ghost use Rattle.ir_forms.specs.inside.FlatCode as flat;
+ghost use Rattle.ir_forms.specs.inside.FlatCode.{Then, only};
+ghost use Rattle.ir_forms.specs.inside.FlatViews.{code_of};
 ghost use Rattle.c_tree.specs.declared.Place.TheVariants.{Scalar};
-ghost use Rattle.flat_lower.specs.Tree as tree;
-ghost use Rattle.flat_lower.specs.TreeViews.{expr_of, expr_if, stmt_of};
-ghost use Rattle.flat_lower.specs.Operations as operations;
-ghost use Rattle.flat_lower.specs.Expressions.{expr_code};
-ghost use Rattle.flat_lower.specs.Statements.{expr_if_code, declare_code, return_code, if_so};
-ghost use Rattle.flat_lower.specs.Statements.{turn_code, loop_code, do_code, stmt_code, stmts_code};
-ghost use Rattle.flat_lower.specs.Statements.{first_code, sections_code};
-ghost use Rattle.flat_lower.specs.Switches.{section_code};
-ghost use Rattle.flat_lower.specs.Emitted.{Adds, block_of, first_of, other_of, sections_in};
+ghost use Rattle.flat_lower.specs.inside.Tree as tree;
+ghost use Rattle.flat_lower.specs.inside.TreeViews.{expr_of, expr_if, stmt_of};
+ghost use Rattle.flat_lower.specs.inside.Operations as operations;
+ghost use Rattle.flat_lower.specs.inside.Expressions.{expr_code};
+ghost use Rattle.flat_lower.specs.inside.Statements.{expr_if_code, declare_code, return_code, if_so};
+ghost use Rattle.flat_lower.specs.inside.Statements.{turn_code, loop_code, do_code, stmt_code, stmts_code};
+ghost use Rattle.flat_lower.specs.inside.Statements.{first_code, sections_code};
+ghost use Rattle.flat_lower.specs.inside.Switches.{section_code};
+ghost use Rattle.flat_lower.specs.inside.Emitted.{Adds, block_of, first_of, other_of, sections_in};
 
 use crate::around::Around;
 use crate::emit::{put_if, put_return, scalar, temp};

@@ -1,16 +1,16 @@
 //! The flat code of switches, but for their statements.
 
 ghost use Rattle.std.specs.Prelude.{◌≡◌, ◌+◌, ◌<◌, Some, OnOk, IfOk};
-ghost use Rattle.ir_forms.specs.FlatCode as flat;
-ghost use Rattle.ir_forms.specs.FlatCode.{Then, only};
-ghost use Rattle.ir_forms.specs.FlatViews.{code_of};
-ghost use Rattle.flat_lower.specs.Operations as operations;
-ghost use Rattle.flat_lower.specs.Operations.{set_word};
-ghost use Rattle.flat_lower.specs.Switches as switches;
-ghost use Rattle.flat_lower.specs.Switches.{break_code, continue_code, behind_code, found_code, label_code};
-ghost use Rattle.flat_lower.specs.Switches.{labels_code, compared_code, chosen_code, section_code};
-ghost use Rattle.flat_lower.specs.Switches.{switched_code, section_count};
-ghost use Rattle.flat_lower.specs.Emitted.{Adds, sections_in};
+ghost use Rattle.ir_forms.specs.inside.FlatCode as flat;
+ghost use Rattle.ir_forms.specs.inside.FlatCode.{Then, only};
+ghost use Rattle.ir_forms.specs.inside.FlatViews.{code_of};
+ghost use Rattle.flat_lower.specs.inside.Operations as operations;
+ghost use Rattle.flat_lower.specs.inside.Operations.{set_word};
+ghost use Rattle.flat_lower.specs.inside.Switches as switches;
+ghost use Rattle.flat_lower.specs.inside.Switches.{break_code, continue_code, behind_code, found_code, label_code};
+ghost use Rattle.flat_lower.specs.inside.Switches.{labels_code, compared_code, chosen_code, section_code};
+ghost use Rattle.flat_lower.specs.inside.Switches.{switched_code, section_count};
+ghost use Rattle.flat_lower.specs.inside.Emitted.{Adds, sections_in};
 
 use crate::around::Around;
 use crate::emit::{put_break, put_continue, put_if, put_let, put_loop, scratch, temp};

@@ -11,9 +11,9 @@ use Rattle.c_tree.specs.declared.BinaryOp.TheVariants.{GreaterEqual, ShiftLeft, 
 use Rattle.c_tree.specs.declared.BinaryOp.TheVariants.{Subtract, Multiply, Divide, Remainder}
 use Rattle.c_constant.specs.Kinds.{promoted, larger, common}
 use Rattle.c_constant.specs.Operation.{left_at, right_at, result_of, unary_at, unary_result}
-use Rattle.flat_lower_premises.specs.Assigners.{IsAssigner}
-use Rattle.flat_lower.specs.Kinds.{IsArithmetic}
-use Rattle.flat_lower.specs.Fits.{FitsBinary, FitsUnary, FitsCompound}
+use Rattle.flat_lower_premises.specs.inside.Assigners.{IsAssigner}
+use Rattle.flat_lower.specs.inside.Kinds.{IsArithmetic}
+use Rattle.flat_lower.specs.inside.Fits.{FitsBinary, FitsUnary, FitsCompound}
 
 -- TYPES OF OPERATIONS
 

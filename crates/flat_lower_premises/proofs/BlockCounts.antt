@@ -16,20 +16,20 @@ use Rattle.c_meaning_spec.specs.Task.{is_array}
 use Rattle.trips_isa.specs.declared.op.Op.TheVariants as op
 use Rattle.ir_forms.specs.declared.flat.Arg.{Arg}
 use Rattle.ir_forms.specs.declared.flat.Arg.TheVariants.{Const, Var}
-use Rattle.ir_forms.specs.FlatCode.{Step, Let, Load, Save, If, Loop, Code, Nop, ◌▹◌, Then, only}
-use Rattle.ir_forms.specs.FlatFits.{code_blocks_in, code_blocks}
-use Rattle.flat_lower.specs.Tree.{Expr, Name, Element, RowElement}
-use Rattle.flat_lower.specs.Operations.{temp, scratch, shift_of, is_before, narrowed_here}
-use Rattle.flat_lower.specs.Operations.{converted_to, converted_here, reduced_here, binary_code}
-use Rattle.flat_lower.specs.Operations.{load_op, save_op, unary_code, bump_op, bump_narrowing}
-use Rattle.flat_lower.specs.Operations.{bumped}
-use Rattle.flat_lower.specs.Objects.{Context, global_at, based, address_by, address_code}
-use Rattle.flat_lower.specs.Objects.{whole_code}
-use Rattle.flat_lower.specs.Expressions.{with_kind, global_code, name_code, joined_by, element_code}
-use Rattle.flat_lower.specs.Expressions.{bump_scalar}
-use Rattle.flat_lower.specs.Expressions.{bump_memory, bump_name, bump_element}
-use Rattle.flat_lower.specs.Expressions.{assign_name, old_name, compound_code, old_element}
-use Rattle.flat_lower.specs.Expressions.{before_right, after_right}
+use Rattle.ir_forms.specs.inside.FlatCode.{Step, Let, Load, Save, If, Loop, Code, Nop, ◌▹◌, Then, only}
+use Rattle.ir_forms.specs.inside.FlatFits.{code_blocks_in, code_blocks}
+use Rattle.flat_lower.specs.inside.Tree.{Expr, Name, Element, RowElement}
+use Rattle.flat_lower.specs.inside.Operations.{temp, scratch, shift_of, is_before, narrowed_here}
+use Rattle.flat_lower.specs.inside.Operations.{converted_to, converted_here, reduced_here, binary_code}
+use Rattle.flat_lower.specs.inside.Operations.{load_op, save_op, unary_code, bump_op, bump_narrowing}
+use Rattle.flat_lower.specs.inside.Operations.{bumped}
+use Rattle.flat_lower.specs.inside.Objects.{Context, global_at, based, address_by, address_code}
+use Rattle.flat_lower.specs.inside.Objects.{whole_code}
+use Rattle.flat_lower.specs.inside.Expressions.{with_kind, global_code, name_code, joined_by, element_code}
+use Rattle.flat_lower.specs.inside.Expressions.{bump_scalar}
+use Rattle.flat_lower.specs.inside.Expressions.{bump_memory, bump_name, bump_element}
+use Rattle.flat_lower.specs.inside.Expressions.{assign_name, old_name, compound_code, old_element}
+use Rattle.flat_lower.specs.inside.Expressions.{before_right, after_right}
 
 -- with `spare` blocks more, code would still make no more than `most`
 pub record Makes (spare most : ℕ) (x : Code) : Type 0 where

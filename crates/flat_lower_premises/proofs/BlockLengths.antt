@@ -13,29 +13,36 @@ use Rattle.c_tree.specs.declared.Place.TheVariants.{Global, Scalar, Array}
 use Rattle.c_tree.specs.declared.TypedGlobal.{TypedGlobal}
 use Rattle.trips_isa.specs.declared.op.Op.TheVariants as op
 use Rattle.ir_forms.specs.declared.flat.Arg.TheVariants.{Const, Var}
-use Rattle.ir_forms.specs.FlatCode.{Code, Nop, Then, only, Let}
-use Rattle.ir_forms.specs.FlatCode as flat
-use Rattle.ir_forms.specs.FlatFits.{code_blocks_of_all}
-use Rattle.flat_lower.specs.Tree.{Expr, Number, Name, Element, Call, Unary, Cast, Convert, Bump, Binary}
-use Rattle.flat_lower.specs.Tree.{Choice, Assign}
-use Rattle.flat_lower.specs.Tree.{Comma, Exprs, NoExprs, WithExpr, Stmt, Declare, Plain, Compound, If, While, Do, For}
-use Rattle.flat_lower.specs.Tree.{Break, Continue, Return, Stmts, NoStmts, WithStmt, First, Nothing, FirstOf, Locals}
-use Rattle.flat_lower.specs.Tree.{Func, RowElement, Switch, Sections, NoSections, WithSection, kind_of}
-use Rattle.flat_lower.specs.Switches.{in_switch}
+use Rattle.ir_forms.specs.inside.FlatCode.{Code, Nop, Then, only, Let}
+use Rattle.ir_forms.specs.inside.FlatCode as flat
+use Rattle.ir_forms.specs.inside.FlatFits.{code_blocks_of_all}
+use Rattle.flat_lower.specs.inside.Tree.{Expr, Number, Name, Element, Call, Unary, Cast, Convert, Bump, Binary}
+use Rattle.flat_lower.specs.inside.Tree.{Choice, Assign}
+use Rattle.flat_lower.specs.inside.Tree.{Comma, Exprs, NoExprs, WithExpr, Stmt, Declare, Plain, Compound, If, While}
+use Rattle.flat_lower.specs.inside.Tree.{Do, For}
+use Rattle.flat_lower.specs.inside.Tree.{Break, Continue, Return, Stmts, NoStmts, WithStmt, First, Nothing, FirstOf}
+use Rattle.flat_lower.specs.inside.Tree.{Locals}
+use Rattle.flat_lower.specs.inside.Tree.{Func, RowElement, Switch, Sections, NoSections, WithSection, kind_of}
+use Rattle.flat_lower.specs.inside.Switches.{in_switch}
 use Rattle.flat_lower.specs.declared.around.Around.{Around}
 use Rattle.flat_lower.specs.declared.around.Around.TheVariants as around
-use Rattle.flat_lower.specs.Operations.{set_word, temp, binary_code, unary_code}
-use Rattle.flat_lower.specs.Objects.{Context, row_of}
-use Rattle.flat_lower.specs.Expressions.{with_kind, name_code, element_code, bump_code, before_right, joined_code}
-use Rattle.flat_lower.specs.Expressions.{right_at, after_right, temps, call_code, binary_end, tested, operand_at}
-use Rattle.flat_lower.specs.Expressions.{expr_code, index_code, args_code}
-use Rattle.flat_lower.specs.Statements.{expr_if_code, declare_code, return_code, if_so, turn_code, loop_code, do_code}
-use Rattle.flat_lower.specs.Statements.{stmt_code, stmts_code, first_code, end_code, named_scalar, simple_arg}
-use Rattle.flat_lower.specs.Statements.{plain_code, plain_if_code, sections_code, context_of, lowered_from, lowered}
+use Rattle.flat_lower.specs.inside.Operations.{set_word, temp, binary_code, unary_code}
+use Rattle.flat_lower.specs.inside.Objects.{Context, row_of}
+use Rattle.flat_lower.specs.inside.Expressions.{with_kind, name_code, element_code, bump_code, before_right}
+use Rattle.flat_lower.specs.inside.Expressions.{joined_code}
+use Rattle.flat_lower.specs.inside.Expressions.{right_at, after_right, temps, call_code, binary_end, tested}
+use Rattle.flat_lower.specs.inside.Expressions.{operand_at}
+use Rattle.flat_lower.specs.inside.Expressions.{expr_code, index_code, args_code}
+use Rattle.flat_lower.specs.inside.Statements.{expr_if_code, declare_code, return_code, if_so, turn_code, loop_code}
+use Rattle.flat_lower.specs.inside.Statements.{do_code}
+use Rattle.flat_lower.specs.inside.Statements.{stmt_code, stmts_code, first_code, end_code, named_scalar, simple_arg}
+use Rattle.flat_lower.specs.inside.Statements.{plain_code, plain_if_code, sections_code, context_of, lowered_from}
+use Rattle.flat_lower.specs.inside.Statements.{lowered}
 use Rattle.flat_lower.proofs.PlainEnds.{either_way}
-use Rattle.flat_lower_premises.specs.SourceNodes.{expr_nodes, exprs_nodes, expr_if_nodes, stmt_nodes, stmts_nodes}
-use Rattle.flat_lower_premises.specs.SourceNodes.{sections_nodes, first_nodes, funcs_size}
-use Rattle.flat_lower_premises.specs.Laws.{FewBlocks}
+use Rattle.flat_lower_premises.specs.inside.SourceNodes.{expr_nodes, exprs_nodes, expr_if_nodes, stmt_nodes}
+use Rattle.flat_lower_premises.specs.inside.SourceNodes.{stmts_nodes}
+use Rattle.flat_lower_premises.specs.inside.SourceNodes.{sections_nodes, first_nodes, funcs_size}
+use Rattle.flat_lower_premises.specs.inside.Laws.{FewBlocks}
 use Rattle.flat_lower_premises.proofs.BlockCounts.{Makes, after, eased, none, one_more, chosen, looped, known_kind}
 use Rattle.flat_lower_premises.proofs.BlockCounts.{converted_here_makes, binary_makes, unary_makes, name_makes}
 use Rattle.flat_lower_premises.proofs.BlockCounts.{element_makes, bump_name_makes, bump_element_makes}

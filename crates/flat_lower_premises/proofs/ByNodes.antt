@@ -9,12 +9,12 @@ use Rattle.c_tree.specs.declared.TypedNode.TheOpen as node
 use Rattle.c_constant.specs.Need.{Needs, args_need, call_need, assign_need}
 use Rattle.c_tree.specs.TypedTrees.{Node, node_of}
 use Rattle.c_type_rules.specs.inside.Needs.{typed_needs}
-use Rattle.flat_lower_premises.specs.TypedTrees.{NodeHasWords}
-use Rattle.flat_lower_premises.specs.TypedTrees as word
-use Rattle.flat_lower.specs.Tree.{Expr, Name, Element}
-use Rattle.flat_lower.specs.Tree.{RowElement}
-use Rattle.flat_lower.specs.TreeViews.{expr_of}
-use Rattle.flat_lower.specs.Expressions.{right_at}
+use Rattle.flat_lower_premises.specs.inside.TypedTrees.{NodeHasWords}
+use Rattle.flat_lower_premises.specs.inside.TypedTrees as word
+use Rattle.flat_lower.specs.inside.Tree.{Expr, Name, Element}
+use Rattle.flat_lower.specs.inside.Tree.{RowElement}
+use Rattle.flat_lower.specs.inside.TreeViews.{expr_of}
+use Rattle.flat_lower.specs.inside.Expressions.{right_at}
 use Rattle.flat_lower.proofs.TreeFacts.{plain_node, expr_is}
 use Rattle.flat_lower_premises.proofs.NodeNeeds.{need, level_needs, needs_is}
 use Rattle.flat_lower_premises.proofs.NodeNeeds.{Room}

@@ -17,13 +17,13 @@ use Rattle.c_constant.specs.Kinds.{same_kind}
 use Rattle.c_type_expr.specs.Conversions.{a, kind_of, with_convert}
 use Rattle.c_tree.specs.TypedTrees.{Node}
 use Rattle.c_tree.specs.TypedTrees as level
-use Rattle.flat_lower.specs.TreeViews.{expr_of, expr_if, exprs_of, stmt_of, stmts_of, func_of}
+use Rattle.flat_lower.specs.inside.TreeViews.{expr_of, expr_if, exprs_of, stmt_of, stmts_of, func_of}
 use Rattle.flat_lower.proofs.TreeFacts.{plain_node, expr_is, first_of, plain_stmt, plain_first}
 use Rattle.flat_lower.proofs.TreeFacts.{stmt_is, first_is}
-use Rattle.flat_lower.specs.Tree as tree
-use Rattle.flat_lower.specs.Sizes as plain
-use Rattle.flat_lower.specs.Sizes.{nodes, left_nodes}
-use Rattle.flat_lower_premises.specs.Most.{largest}
+use Rattle.flat_lower.specs.inside.Tree as tree
+use Rattle.flat_lower.specs.inside.Sizes as plain
+use Rattle.flat_lower.specs.inside.Sizes.{nodes, left_nodes}
+use Rattle.flat_lower_premises.specs.inside.Most.{largest}
 
 -- EXPRESSIONS
 

@@ -18,14 +18,14 @@ use Rattle.c_type_expr.specs.Conversions.{a, kind_of, with_convert, end_of_file,
 use Rattle.c_type_expr.specs.Typed.{Typed, Passed, number, scalar, array, ending, element, row_element, call}
 use Rattle.c_type_expr.specs.Typed.{group, operator, conversion, step, operation, either}
 use Rattle.c_type_expr.specs.Typed.{assignment, sequence, none, value, address}
-use Rattle.flat_lower_premises.specs.Nodes.{expr_nodes, exprs_nodes}
+use Rattle.flat_lower_premises.specs.inside.Nodes.{expr_nodes, exprs_nodes}
 use Rattle.flat_lower_premises.proofs.TreeSizes.{nodes-Number, nodes-Name, nodes-Element, nodes-Call, nodes-Group}
 use Rattle.flat_lower_premises.proofs.TreeSizes.{nodes-Unary, nodes-Cast, nodes-Bump, nodes-Binary, nodes-Choice}
 use Rattle.flat_lower_premises.proofs.TreeSizes.{nodes-Assign, nodes-Comma}
-use Rattle.flat_lower.specs.TreeViews.{expr_of}
-use Rattle.flat_lower.specs.Sizes as plain
+use Rattle.flat_lower.specs.inside.TreeViews.{expr_of}
+use Rattle.flat_lower.specs.inside.Sizes as plain
 use Rattle.flat_lower.proofs.TreeFacts.{plain_node}
-use Rattle.flat_lower_premises.specs.SourceNodes as limits
+use Rattle.flat_lower_premises.specs.inside.SourceNodes as limits
 use Rattle.flat_lower_premises.proofs.CostTrees as cost_trees
 use Rattle.flat_lower_premises.proofs.CostTrees.{cost, costs, left_few}
 use Rattle.flat_lower_premises.proofs.TypedTreeSizes as sizes

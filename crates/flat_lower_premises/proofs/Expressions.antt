@@ -13,22 +13,22 @@ use Rattle.c_tree.specs.declared.Slot.{Slot}
 use Rattle.c_tree.specs.declared.Slot.TheVariants as slot
 use Rattle.trips_isa.specs.declared.op.Op.TheVariants as op
 use Rattle.ir_forms.specs.declared.flat.Arg.TheVariants.{Const, Var}
-use Rattle.ir_forms.specs.FlatCode.{Code, Nop, Then, Put, Get, Function}
-use Rattle.ir_forms.specs.FlatCode as flat
-use Rattle.ir_forms.specs.FlatViews.{stays}
-use Rattle.ir_forms.specs.FlatFits.{FitsVar, FitsLastings, FitsResult}
-use Rattle.ir_forms.specs.FlatFits as limits
-use Rattle.flat_lower.specs.Tree.{Expr, Number, Name, Element, Call, Unary, Cast, Convert, Bump}
-use Rattle.flat_lower.specs.Tree.{Binary, Choice, Assign, Comma, Exprs, NoExprs, WithExpr, Func}
-use Rattle.flat_lower.specs.Tree.{kind_of, RowElement}
-use Rattle.flat_lower.specs.Fits.{Scope, FitsName, FitsWhole, FitsNamed, FitsElement, FitsRowElement, FitsArg}
-use Rattle.flat_lower.specs.Fits.{FitsExpr, FitsLeft, FitsOne, FitsArgs}
-use Rattle.flat_lower.specs.Operations.{temp, set_word, unary_code, binary_code}
-use Rattle.flat_lower.specs.Objects.{Context}
-use Rattle.flat_lower.specs.Expressions.{name_code, element_code, bump_code, before_right, right_at}
-use Rattle.flat_lower.specs.Expressions.{after_right, temps, result_var, tested, binary_end}
-use Rattle.flat_lower.specs.Expressions.{operand_at, joined_code}
-use Rattle.flat_lower.specs.Expressions.{expr_code, index_code, args_code, call_code}
+use Rattle.ir_forms.specs.inside.FlatCode.{Code, Nop, Then, Put, Get, Function}
+use Rattle.ir_forms.specs.inside.FlatCode as flat
+use Rattle.ir_forms.specs.inside.FlatViews.{stays}
+use Rattle.ir_forms.specs.inside.FlatFits.{FitsVar, FitsLastings, FitsResult}
+use Rattle.ir_forms.specs.inside.FlatFits as limits
+use Rattle.flat_lower.specs.inside.Tree.{Expr, Number, Name, Element, Call, Unary, Cast, Convert, Bump}
+use Rattle.flat_lower.specs.inside.Tree.{Binary, Choice, Assign, Comma, Exprs, NoExprs, WithExpr, Func}
+use Rattle.flat_lower.specs.inside.Tree.{kind_of, RowElement}
+use Rattle.flat_lower.specs.inside.Fits.{Scope, FitsName, FitsWhole, FitsNamed, FitsElement, FitsRowElement, FitsArg}
+use Rattle.flat_lower.specs.inside.Fits.{FitsExpr, FitsLeft, FitsOne, FitsArgs}
+use Rattle.flat_lower.specs.inside.Operations.{temp, set_word, unary_code, binary_code}
+use Rattle.flat_lower.specs.inside.Objects.{Context}
+use Rattle.flat_lower.specs.inside.Expressions.{name_code, element_code, bump_code, before_right, right_at}
+use Rattle.flat_lower.specs.inside.Expressions.{after_right, temps, result_var, tested, binary_end}
+use Rattle.flat_lower.specs.inside.Expressions.{operand_at, joined_code}
+use Rattle.flat_lower.specs.inside.Expressions.{expr_code, index_code, args_code, call_code}
 use Rattle.flat_lower.proofs.Depths.{depth_fits}
 use Rattle.flat_lower_premises.proofs.Fitting.{Fitting, nothing_fits, single_fits, let_fits, if_fits}
 use Rattle.flat_lower_premises.proofs.Fitting.{with_kind_fits, joined, scalar_fits, temp_fits, temp_lasts}

@@ -1,10 +1,10 @@
 -- A source of few nodes has few sections in each switch.
 use Rattle.std.proofs.Common.{ℕ, ◌<◌, ◌≤◌, arith}
-use Rattle.flat_lower.specs.Tree.{Stmt, Declare, Plain, Compound, If, While, Do, For, Switch, Break}
-use Rattle.flat_lower.specs.Tree.{Continue, Return, Stmts, NoStmts, WithStmt, First, Nothing}
-use Rattle.flat_lower.specs.Tree.{FirstOf, Locals, Sections, NoSections, WithSection}
-use Rattle.flat_lower.specs.Switches.{section_count}
-use Rattle.flat_lower_premises.specs.SourceNodes.{stmt_nodes, stmts_nodes, sections_nodes, first_nodes}
+use Rattle.flat_lower.specs.inside.Tree.{Stmt, Declare, Plain, Compound, If, While, Do, For, Switch, Break}
+use Rattle.flat_lower.specs.inside.Tree.{Continue, Return, Stmts, NoStmts, WithStmt, First, Nothing}
+use Rattle.flat_lower.specs.inside.Tree.{FirstOf, Locals, Sections, NoSections, WithSection}
+use Rattle.flat_lower.specs.inside.Switches.{section_count}
+use Rattle.flat_lower_premises.specs.inside.SourceNodes.{stmt_nodes, stmts_nodes, sections_nodes, first_nodes}
 
 module _ (top : ℕ) where
   abbrev mutual

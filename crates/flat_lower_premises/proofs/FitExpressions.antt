@@ -20,14 +20,14 @@ use Rattle.c_type_rules.specs.inside.Expressions as rule
 use Rattle.c_type_rules.specs.inside.Needs.{typed_needs}
 use Rattle.c_type_rules.specs.inside.WellFormed.{Each, GlobalFits}
 use Rattle.c_type_rules.proofs.Moves.{some_is}
-use Rattle.flat_lower_premises.specs.TypedTrees.{NodeHasWords, ExprsHaveWords}
-use Rattle.flat_lower_premises.specs.TypedTrees as word
-use Rattle.flat_lower.specs.Tree.{Expr, Number, Name, Element, Call, Unary, Cast, Convert, Bump}
-use Rattle.flat_lower.specs.Tree.{RowElement, Binary, Choice, Assign, Comma, Exprs, NoExprs, WithExpr, kind_of}
-use Rattle.flat_lower.specs.TreeViews.{expr_of, exprs_of, func_of}
-use Rattle.flat_lower.specs.Expressions.{operand_at, right_at}
-use Rattle.flat_lower.specs.Fits.{Scope, FitsBinary, FitsUnary, FitsCompound, FitsCall, FitsArg}
-use Rattle.flat_lower.specs.Fits.{FitsExpr, FitsLeft, FitsOne, FitsArgs}
+use Rattle.flat_lower_premises.specs.inside.TypedTrees.{NodeHasWords, ExprsHaveWords}
+use Rattle.flat_lower_premises.specs.inside.TypedTrees as word
+use Rattle.flat_lower.specs.inside.Tree.{Expr, Number, Name, Element, Call, Unary, Cast, Convert, Bump}
+use Rattle.flat_lower.specs.inside.Tree.{RowElement, Binary, Choice, Assign, Comma, Exprs, NoExprs, WithExpr, kind_of}
+use Rattle.flat_lower.specs.inside.TreeViews.{expr_of, exprs_of, func_of}
+use Rattle.flat_lower.specs.inside.Expressions.{operand_at, right_at}
+use Rattle.flat_lower.specs.inside.Fits.{Scope, FitsBinary, FitsUnary, FitsCompound, FitsCall, FitsArg}
+use Rattle.flat_lower.specs.inside.Fits.{FitsExpr, FitsLeft, FitsOne, FitsArgs}
 use Rattle.flat_lower.proofs.TreeFacts.{plain_node, expr_is, kind_is}
 use Rattle.flat_lower.proofs.Depths.{depth_fits}
 use Rattle.flat_lower.proofs.Calls.{func_at}

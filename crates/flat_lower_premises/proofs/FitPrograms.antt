@@ -13,28 +13,29 @@ use Rattle.c_type_rules.specs.inside.WellFormed.{Each, count_of, all_bytes, Glob
 use Rattle.c_type_rules.specs.inside.WellFormed.{WellFormed}
 use Rattle.c_type_rules.specs.inside.WellFormed as typed
 use Rattle.c_type_rules.proofs.Uses.{function_at}
-use Rattle.flat_lower_premises.specs.Words.{AreWordsOf}
-use Rattle.flat_lower_premises.specs.TypedTrees.{StmtHasWords, GlobalsHaveWords, FunctionsHaveWords}
-use Rattle.flat_lower_premises.specs.TypedTrees.{ProgramHasWords}
+use Rattle.flat_lower_premises.specs.inside.Words.{AreWordsOf}
+use Rattle.flat_lower_premises.specs.inside.TypedTrees.{StmtHasWords, GlobalsHaveWords, FunctionsHaveWords}
+use Rattle.flat_lower_premises.specs.inside.TypedTrees.{ProgramHasWords}
 use Rattle.trips_isa.specs.Stores.{data_size}
-use Rattle.ir_forms.specs.Frames.{rounded, frames_at, frame_limit}
-use Rattle.ir_forms.specs.FlatRuns.{checked, flat_run}
-use Rattle.flat_lower.specs.Tree.{Func, Source}
-use Rattle.flat_lower.specs.TreeViews.{stmt_of, func_of, source_of}
+use Rattle.ir_forms.specs.inside.Frames.{rounded, frames_at, frame_limit}
+use Rattle.ir_forms.specs.inside.FlatRuns.{checked, flat_run}
+use Rattle.flat_lower.specs.inside.Tree.{Func, Source}
+use Rattle.flat_lower.specs.inside.TreeViews.{stmt_of, func_of, source_of}
 use Rattle.flat_lower.specs.declared.around.Around.TheVariants.{Nowhere}
 use Rattle.c_constant.specs.Kinds.{IsWord}
-use Rattle.flat_lower.specs.Objects.{global_bytes}
-use Rattle.flat_lower.specs.Statements.{global_image, globals_image, lowered_program}
-use Rattle.flat_lower.specs.Fits.{FitsFunc, FitsGlobal, FitsMain, FitsSource}
-use Rattle.flat_lower.specs.Sizes as sizes
-use Rattle.flat_lower.specs.Sizes.{IsMost}
-use Rattle.flat_lower.specs.Keeps.{IsInput, Keeps}
+use Rattle.flat_lower.specs.inside.Objects.{global_bytes}
+use Rattle.flat_lower.specs.inside.Statements.{global_image, globals_image, lowered_program}
+use Rattle.flat_lower.specs.inside.Fits.{FitsFunc, FitsGlobal, FitsMain, FitsSource}
+use Rattle.flat_lower.specs.inside.Sizes as sizes
+use Rattle.flat_lower.specs.inside.Sizes.{IsMost}
+use Rattle.flat_lower.specs.Keeps.{IsInput}
+use Rattle.flat_lower.specs.inside.Keeps.{Keeps}
 use Rattle.flat_lower.proofs.Image.{both_length, global_length}
 use Rattle.flat_lower.proofs.Calls.{limit, typed_at, func_at}
 use Rattle.flat_lower.proofs.LoweredMeaning.{keeps_meaning}
-use Rattle.flat_lower_premises.specs.SourceNodes.{stmt_nodes, funcs_size}
-use Rattle.flat_lower_premises.specs.Limits.{HasFewGlobals, HasFewNodes}
-use Rattle.flat_lower_premises.specs.Most.{largest, most_of}
+use Rattle.flat_lower_premises.specs.inside.SourceNodes.{stmt_nodes, funcs_size}
+use Rattle.flat_lower_premises.specs.inside.Limits.{HasFewGlobals, HasFewNodes}
+use Rattle.flat_lower_premises.specs.inside.Most.{largest, most_of}
 use Rattle.flat_lower_premises.proofs.FewSections.{few}
 use Rattle.flat_lower_premises.proofs.FitStatements.{stmt_fits}
 

@@ -20,16 +20,16 @@ use Rattle.c_type_rules.specs.inside.KeptStatements.{IsTestIf, IsEffectIf, IsRet
 use Rattle.c_type_rules.specs.inside.KeptStatements.{RunsSections}
 use Rattle.c_type_rules.specs.inside.KeptStatements as rule
 use Rattle.c_type_rules.specs.inside.WellFormed.{Each, GlobalFits}
-use Rattle.flat_lower_premises.specs.TypedTrees.{ExprHasWords, ExprIfHasWords, LevelHasWords, StmtsHaveWords}
-use Rattle.flat_lower_premises.specs.TypedTrees.{SectionsHaveWords, BeginningHasWords}
-use Rattle.flat_lower_premises.specs.TypedTrees as word
-use Rattle.flat_lower.specs.TreeViews.{expr_of, expr_if, stmt_of, stmts_of}
-use Rattle.flat_lower.specs.Fits.{Scope, FitsExpr, FitsExprIf, FitsDeclare, FitsReturn, FitsStmt}
-use Rattle.flat_lower.specs.Fits.{FitsStmts, FitsSections, FitsFirst}
-use Rattle.flat_lower.specs.FitsSwitches.{IsLooped}
-use Rattle.flat_lower.specs.Emitted.{sections_in}
-use Rattle.flat_lower.specs.Switches.{in_switch}
-use Rattle.flat_lower.specs.Tree.{Stmt, First}
+use Rattle.flat_lower_premises.specs.inside.TypedTrees.{ExprHasWords, ExprIfHasWords, LevelHasWords, StmtsHaveWords}
+use Rattle.flat_lower_premises.specs.inside.TypedTrees.{SectionsHaveWords, BeginningHasWords}
+use Rattle.flat_lower_premises.specs.inside.TypedTrees as word
+use Rattle.flat_lower.specs.inside.TreeViews.{expr_of, expr_if, stmt_of, stmts_of}
+use Rattle.flat_lower.specs.inside.Fits.{Scope, FitsExpr, FitsExprIf, FitsDeclare, FitsReturn, FitsStmt}
+use Rattle.flat_lower.specs.inside.Fits.{FitsStmts, FitsSections, FitsFirst}
+use Rattle.flat_lower.specs.inside.FitsSwitches.{IsLooped}
+use Rattle.flat_lower.specs.inside.Emitted.{sections_in}
+use Rattle.flat_lower.specs.inside.Switches.{in_switch}
+use Rattle.flat_lower.specs.inside.Tree.{Stmt, First}
 use Rattle.flat_lower.specs.declared.around.Around.{Around}
 use Rattle.flat_lower.specs.declared.around.Around.TheVariants as around
 use Rattle.flat_lower.proofs.TreeFacts.{plain_stmt, plain_first, first_of, stmt_is, first_is}

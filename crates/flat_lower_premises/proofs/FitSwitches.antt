@@ -11,13 +11,13 @@ use Rattle.c_type.specs.declared.state.Around.{Around}
 use Rattle.c_type.specs.Statements.{label_among}
 use Rattle.c_type_rules.specs.inside.KeptStatements.{Labels, RunsSections}
 use Rattle.c_type_rules.specs.inside.KeptStatements as rule
-use Rattle.flat_lower_premises.specs.Words.{IsFilled}
-use Rattle.flat_lower_premises.specs.TypedTrees.{SectionsHaveWords}
-use Rattle.flat_lower_premises.specs.TypedTrees as word
-use Rattle.flat_lower.specs.TreeViews.{stmt_of, stmts_of}
-use Rattle.flat_lower.specs.Emitted.{sections_in}
-use Rattle.flat_lower.specs.FitsSwitches.{IsLabelled, FitsLabels, case_count, one_if_none, free_sections}
-use Rattle.flat_lower.specs.FitsSwitches as plain
+use Rattle.flat_lower_premises.specs.inside.Words.{IsFilled}
+use Rattle.flat_lower_premises.specs.inside.TypedTrees.{SectionsHaveWords}
+use Rattle.flat_lower_premises.specs.inside.TypedTrees as word
+use Rattle.flat_lower.specs.inside.TreeViews.{stmt_of, stmts_of}
+use Rattle.flat_lower.specs.inside.Emitted.{sections_in}
+use Rattle.flat_lower.specs.inside.FitsSwitches.{IsLabelled, FitsLabels, case_count, one_if_none, free_sections}
+use Rattle.flat_lower.specs.inside.FitsSwitches as plain
 
 -- LABELS
 

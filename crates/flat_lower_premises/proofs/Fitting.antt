@@ -6,12 +6,12 @@ use Rattle.std.proofs.lemmas.Bool.Decides.{nat_tests}
 use Rattle.c_tree.specs.declared.Kind.{Kind}
 use Rattle.trips_isa.specs.declared.op.Op.{Op}
 use Rattle.ir_forms.specs.declared.flat.Arg.{Arg}
-use Rattle.ir_forms.specs.FlatCode.{Step, Let, Frame, Load, Save, If, Loop, Code, Nop}
-use Rattle.ir_forms.specs.FlatCode.{◌▹◌, Then, only, Function}
-use Rattle.ir_forms.specs.FlatFits.{operates, loads, stores, is_lasting, FitsVar, FitsArg}
-use Rattle.ir_forms.specs.FlatFits.{FitsStep, FitsCode}
-use Rattle.flat_lower.specs.Operations.{temp, scratch}
-use Rattle.flat_lower.specs.Expressions.{with_kind}
+use Rattle.ir_forms.specs.inside.FlatCode.{Step, Let, Frame, Load, Save, If, Loop, Code, Nop}
+use Rattle.ir_forms.specs.inside.FlatCode.{◌▹◌, Then, only, Function}
+use Rattle.ir_forms.specs.inside.FlatFits.{operates, loads, stores, is_lasting, FitsVar, FitsArg}
+use Rattle.ir_forms.specs.inside.FlatFits.{FitsStep, FitsCode}
+use Rattle.flat_lower.specs.inside.Operations.{temp, scratch}
+use Rattle.flat_lower.specs.inside.Expressions.{with_kind}
 
 -- code that fits, as a record, so that the code is told by the fact
 pub record Fitting (fs : List Function) (n bytes : ℕ) (inside : Bool) (x : Code) : Type 0 where

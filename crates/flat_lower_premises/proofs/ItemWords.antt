@@ -24,10 +24,10 @@ use Rattle.c_type.specs.States.{nowhere}
 use Rattle.c_type.specs.FileScopes.{all_values, global_names, body_entry, empty_file}
 use Rattle.c_type_rules.specs.Units.{Values, RowValues, Init, Body, Item, Items, Accepts}
 use Rattle.c_type_rules.specs.Units as typing
-use Rattle.flat_lower_premises.specs.Words.{AreWordsOf}
-use Rattle.flat_lower_premises.specs.Trees.{StmtHasWords, TopHasWords, UnitHasWords}
-use Rattle.flat_lower_premises.specs.TypedTrees.{GlobalsHaveWords, FunctionsHaveWords, ProgramHasWords}
-use Rattle.flat_lower_premises.specs.TypedTrees as words
+use Rattle.flat_lower_premises.specs.inside.Words.{AreWordsOf}
+use Rattle.flat_lower_premises.specs.inside.Trees.{StmtHasWords, TopHasWords, UnitHasWords}
+use Rattle.flat_lower_premises.specs.inside.TypedTrees.{GlobalsHaveWords, FunctionsHaveWords, ProgramHasWords}
+use Rattle.flat_lower_premises.specs.inside.TypedTrees as words
 use Rattle.flat_lower_premises.proofs.StatementWords.{opened, made, in_compound, types_have, all_have}
 
 -- 0 is a word of each type

@@ -18,7 +18,7 @@ use Rattle.c_lex.specs.Pieces as piece
 use Rattle.c_lex.specs.Lexes.{Tokens, Cut, Lexed}
 use Rattle.c_lex.specs.Lexes as cut
 use Rattle.c_constant.specs.Kinds.{IsWord}
-use Rattle.flat_lower_premises.specs.Words.{FormHasWord, TokensHaveWords}
+use Rattle.flat_lower_premises.specs.inside.Words.{FormHasWord, TokensHaveWords}
 
 -- CONSTANTS
 

@@ -1,6 +1,6 @@
 -- The flat program of a source that is not too long fits.
 use Rattle.std.proofs.Common.{arith}
-use Rattle.flat_lower_premises.specs.Laws.{LoweredFits}
+use Rattle.flat_lower_premises.specs.inside.Laws.{LoweredFits}
 use Rattle.flat_lower_premises.proofs.Programs.{fits_at_any_length}
 use Rattle.flat_lower_premises.proofs.CodeLengths.{few_statements}
 

@@ -13,8 +13,8 @@ use Rattle.c_type_rules.proofs.Moves.{some_is}
 use Rattle.c_type_rules.proofs.WellFormedPrograms.{each_at}
 use Rattle.c_type_rules.proofs.Uses.{scalar_slot, array_slot, global_scalar_at, global_array_at}
 use Rattle.c_type_rules.proofs.Uses.{local_array_at}
-use Rattle.flat_lower.specs.TreeViews.{func_of, source_of}
-use Rattle.flat_lower.specs.Fits.{Scope, scope_of, FitsName, FitsWhole}
+use Rattle.flat_lower.specs.inside.TreeViews.{func_of, source_of}
+use Rattle.flat_lower.specs.inside.Fits.{Scope, scope_of, FitsName, FitsWhole}
 
 -- what names and calls stand for in a function
 abbrev pub scope : TypedProgram → TypedFunc → Scope

@@ -10,7 +10,7 @@ use Rattle.c_tree.specs.declared.TypedNode.TheOpen as node
 use Rattle.c_constant.specs.Need.{Needs, plain, call_need, assign_need, indexes_need, element_needs}
 use Rattle.c_tree.specs.TypedTrees.{Node, node_of}
 use Rattle.c_type_rules.specs.inside.Needs.{node_needs, of_needs, typed_needs}
-use Rattle.flat_lower.specs.Expressions.{operand_at}
+use Rattle.flat_lower.specs.inside.Expressions.{operand_at}
 
 -- the need of an expression
 abbrev pub need : TypedExpr → ℕ

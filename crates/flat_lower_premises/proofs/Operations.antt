@@ -15,12 +15,12 @@ use Rattle.c_constant.specs.Kinds.{is_signed}
 use Rattle.trips_isa.specs.declared.op.Op.{Op}
 use Rattle.trips_isa.specs.declared.op.Op.TheVariants as op
 use Rattle.ir_forms.specs.declared.flat.Arg.TheVariants.{Const, Var}
-use Rattle.ir_forms.specs.FlatCode.{Function}
-use Rattle.ir_forms.specs.FlatFits.{operates, loads, stores, FitsVar}
-use Rattle.flat_lower.specs.Operations.{scratch, set_word, copied, one_done, two_done}
-use Rattle.flat_lower.specs.Operations.{narrowed_here, converted_to, converted_here, reduced_here}
-use Rattle.flat_lower.specs.Operations.{by_sign, remainder_code, binary_code, unary_code, bump_op}
-use Rattle.flat_lower.specs.Operations.{bump_narrowing, bumped, load_op, save_op}
+use Rattle.ir_forms.specs.inside.FlatCode.{Function}
+use Rattle.ir_forms.specs.inside.FlatFits.{operates, loads, stores, FitsVar}
+use Rattle.flat_lower.specs.inside.Operations.{scratch, set_word, copied, one_done, two_done}
+use Rattle.flat_lower.specs.inside.Operations.{narrowed_here, converted_to, converted_here, reduced_here}
+use Rattle.flat_lower.specs.inside.Operations.{by_sign, remainder_code, binary_code, unary_code, bump_op}
+use Rattle.flat_lower.specs.inside.Operations.{bump_narrowing, bumped, load_op, save_op}
 use Rattle.flat_lower_premises.proofs.Fitting.{Fitting, nothing_fits, let_fits, joined, scratch_fits}
 
 -- OPERATIONS

@@ -13,17 +13,17 @@ use Rattle.c_meaning_spec.specs.Task.{is_array}
 use Rattle.trips_isa.specs.declared.op.Op.TheVariants as op
 use Rattle.ir_forms.specs.declared.flat.Arg.{Arg}
 use Rattle.ir_forms.specs.declared.flat.Arg.TheVariants.{Const, Var}
-use Rattle.ir_forms.specs.FlatCode.{Function, Code, Then, only, Save}
-use Rattle.ir_forms.specs.FlatFits.{FitsVar, FitsArg}
-use Rattle.flat_lower.specs.Tree.{Expr, Name, Element, RowElement}
-use Rattle.flat_lower.specs.Operations.{temp, scratch, load_op, save_op, shift_of, is_before}
-use Rattle.flat_lower.specs.Objects.{Context, global_at, array_at, based, address_by, address_code}
-use Rattle.flat_lower.specs.Objects.{whole_code, row_of}
-use Rattle.flat_lower.specs.Expressions.{global_code, name_code, joined_by, joined_code, element_code}
-use Rattle.flat_lower.specs.Expressions.{bump_scalar, bump_memory, bump_name, bump_element, bump_code}
-use Rattle.flat_lower.specs.Expressions.{assign_name, old_name, compound_code, old_element}
-use Rattle.flat_lower.specs.Expressions.{assign_element, before_right, right_at, after_right}
-use Rattle.flat_lower_premises.specs.Laws.{IsSmallRow}
+use Rattle.ir_forms.specs.inside.FlatCode.{Function, Code, Then, only, Save}
+use Rattle.ir_forms.specs.inside.FlatFits.{FitsVar, FitsArg}
+use Rattle.flat_lower.specs.inside.Tree.{Expr, Name, Element, RowElement}
+use Rattle.flat_lower.specs.inside.Operations.{temp, scratch, load_op, save_op, shift_of, is_before}
+use Rattle.flat_lower.specs.inside.Objects.{Context, global_at, array_at, based, address_by, address_code}
+use Rattle.flat_lower.specs.inside.Objects.{whole_code, row_of}
+use Rattle.flat_lower.specs.inside.Expressions.{global_code, name_code, joined_by, joined_code, element_code}
+use Rattle.flat_lower.specs.inside.Expressions.{bump_scalar, bump_memory, bump_name, bump_element, bump_code}
+use Rattle.flat_lower.specs.inside.Expressions.{assign_name, old_name, compound_code, old_element}
+use Rattle.flat_lower.specs.inside.Expressions.{assign_element, before_right, right_at, after_right}
+use Rattle.flat_lower_premises.specs.inside.Laws.{IsSmallRow}
 use Rattle.flat_lower_premises.proofs.Fitting.{Fitting, nothing_fits, let_fits, frame_fits, load_fits}
 use Rattle.flat_lower_premises.proofs.Fitting.{save_fits, joined, temp_fits, scratch_fits}
 use Rattle.flat_lower_premises.proofs.Operations.{loads_fit, saves_fit, copied_fits, converted_to_fits}

@@ -9,15 +9,15 @@ use Rattle.c_tree.specs.declared.TypedArray.{TypedArray}
 use Rattle.c_tree.specs.declared.TypedGlobal.{TypedGlobal}
 use Rattle.c_constant.specs.Kinds.{bytes}
 use Rattle.c_meaning_spec.specs.Call.{all_bytes}
-use Rattle.ir_forms.specs.FlatCode.{Function}
-use Rattle.ir_forms.specs.FlatFits.{FitsFunction}
-use Rattle.flat_lower.specs.Tree.{Func, Source}
-use Rattle.flat_lower.specs.Objects.{row_of}
-use Rattle.flat_lower.specs.Fits.{FitsFunc, FitsSource, scope_of}
-use Rattle.flat_lower.specs.Statements.{context_of, lowered_func, lowered_from, lowered}
+use Rattle.ir_forms.specs.inside.FlatCode.{Function}
+use Rattle.ir_forms.specs.inside.FlatFits.{FitsFunction}
+use Rattle.flat_lower.specs.inside.Tree.{Func, Source}
+use Rattle.flat_lower.specs.inside.Objects.{row_of}
+use Rattle.flat_lower.specs.inside.Fits.{FitsFunc, FitsSource, scope_of}
+use Rattle.flat_lower.specs.inside.Statements.{context_of, lowered_func, lowered_from, lowered}
 use Rattle.flat_lower.specs.declared.around.Around.TheVariants as around
-use Rattle.flat_lower_premises.specs.Jumps.{JumpsInLoops}
-use Rattle.flat_lower_premises.specs.Laws.{FitsOfAnyLength, IsSmallRow}
+use Rattle.flat_lower_premises.specs.inside.Jumps.{JumpsInLoops}
+use Rattle.flat_lower_premises.specs.inside.Laws.{FitsOfAnyLength, IsSmallRow}
 use Rattle.flat_lower_premises.proofs.Fitting.{joined}
 use Rattle.flat_lower_premises.proofs.Expressions.{Callable}
 use Rattle.flat_lower_premises.proofs.Rooms.{places, image_is_bytes}

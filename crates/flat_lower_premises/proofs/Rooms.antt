@@ -10,14 +10,14 @@ use Rattle.c_tree.specs.declared.TypedGlobal.{TypedGlobal}
 use Rattle.c_constant.specs.Kinds.{bytes}
 use Rattle.c_meaning_spec.specs.Call.{array_bytes, all_bytes}
 use Rattle.trips_isa.specs.Stores.{data_size}
-use Rattle.ir_forms.specs.Frames.{frame_limit}
+use Rattle.ir_forms.specs.inside.Frames.{frame_limit}
 use Rattle.c_tree.specs.declared.Place.{Place}
-use Rattle.flat_lower.specs.Objects.{global_bytes, bytes_before, global_at, array_at, row_of}
-use Rattle.flat_lower.specs.Tree.{Func, Source}
-use Rattle.flat_lower.specs.Fits.{FitsSource}
-use Rattle.flat_lower.specs.Statements.{context_of, word_bytes, init_bytes, global_image, globals_image}
+use Rattle.flat_lower.specs.inside.Objects.{global_bytes, bytes_before, global_at, array_at, row_of}
+use Rattle.flat_lower.specs.inside.Tree.{Func, Source}
+use Rattle.flat_lower.specs.inside.Fits.{FitsSource}
+use Rattle.flat_lower.specs.inside.Statements.{context_of, word_bytes, init_bytes, global_image, globals_image}
 use Rattle.flat_lower.proofs.Starts.{room_of, images_length}
-use Rattle.flat_lower_premises.specs.Laws.{IsSmallRow}
+use Rattle.flat_lower_premises.specs.inside.Laws.{IsSmallRow}
 use Rattle.flat_lower_premises.proofs.Places.{HasPlaces}
 
 arrays_inside : (arrays : List TypedArray) (a : ℕ)

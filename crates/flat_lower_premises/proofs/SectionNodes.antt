@@ -1,8 +1,8 @@
 -- The nodes of the sections of a switch, in two parts: their labels, and the rest.
 use Rattle.std.proofs.Common.{◌≡◌, ℕ, ◌+◌, arith}
-use Rattle.flat_lower.specs.Tree.{Sections, NoSections, WithSection}
-use Rattle.flat_lower.specs.Sizes.{label_count}
-use Rattle.flat_lower_premises.specs.SourceNodes.{stmts_nodes, sections_nodes}
+use Rattle.flat_lower.specs.inside.Tree.{Sections, NoSections, WithSection}
+use Rattle.flat_lower.specs.inside.Sizes.{label_count}
+use Rattle.flat_lower_premises.specs.inside.SourceNodes.{stmts_nodes, sections_nodes}
 
 -- the labels of all sections
 abbrev pub labels_nodes : Sections → ℕ

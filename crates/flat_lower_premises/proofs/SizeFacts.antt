@@ -10,7 +10,7 @@ use Rattle.c_tree.specs.declared.tree.StmtNode.TheVariants as stmt
 use Rattle.c_grammar.specs.Operators.{at}
 use Rattle.c_grammar.specs.Statements as s
 use Rattle.c_grammar.specs.Units.{global, function}
-use Rattle.flat_lower_premises.specs.Nodes.{expr_nodes, stmt_nodes, unit_nodes}
+use Rattle.flat_lower_premises.specs.inside.Nodes.{expr_nodes, stmt_nodes, unit_nodes}
 use Rattle.flat_lower_premises.proofs.TreeSizes.{nodes-Number, nodes-Group, nodes-Binary, nodes-Plain}
 use Rattle.flat_lower_premises.proofs.TreeSizes.{nodes-Compound, nodes-While, nodes-Return}
 use Rattle.flat_lower_premises.proofs.TreeSizes.{nodes-Switch, nodes-section}

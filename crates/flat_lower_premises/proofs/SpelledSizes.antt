@@ -19,9 +19,9 @@ use Rattle.c_grammar.specs.Statements as s
 use Rattle.c_grammar.specs.Statements.{Writes}
 use Rattle.c_grammar.specs.Units as u
 use Rattle.c_grammar.specs.Units.{Units}
-use Rattle.flat_lower_premises.specs.Nodes.{expr_nodes, exprs_nodes, expr_if_nodes, stmt_nodes, first_nodes}
-use Rattle.flat_lower_premises.specs.Nodes.{stmts_nodes, section_nodes, sections_nodes, top_nodes, unit_nodes}
-use Rattle.flat_lower_premises.specs.Sizes.{UnitsAreSmall}
+use Rattle.flat_lower_premises.specs.inside.Nodes.{expr_nodes, exprs_nodes, expr_if_nodes, stmt_nodes, first_nodes}
+use Rattle.flat_lower_premises.specs.inside.Nodes.{stmts_nodes, section_nodes, sections_nodes, top_nodes, unit_nodes}
+use Rattle.flat_lower_premises.specs.inside.Sizes.{UnitsAreSmall}
 use Rattle.flat_lower_premises.proofs.TreeSizes.{nodes-Number, nodes-Name, nodes-Element, nodes-Call, nodes-Group}
 use Rattle.flat_lower_premises.proofs.TreeSizes.{nodes-Unary, nodes-Cast, nodes-Bump, nodes-Binary, nodes-Choice}
 use Rattle.flat_lower_premises.proofs.TreeSizes.{nodes-Assign, nodes-Comma, nodes-Declare, nodes-Plain}

@@ -14,11 +14,11 @@ use Rattle.c_grammar.specs.Operators.{prefixed, Suffix, increased, decreased, su
 use Rattle.c_grammar.specs.Operators.{Assigner, simple, assigner_op}
 use Rattle.c_grammar.specs.Expressions.{Phrase, Spells}
 use Rattle.c_grammar.specs.Expressions as e
-use Rattle.flat_lower_premises.specs.Words.{TokensHaveWords}
-use Rattle.flat_lower_premises.specs.Assigners.{IsAssigner}
+use Rattle.flat_lower_premises.specs.inside.Words.{TokensHaveWords}
+use Rattle.flat_lower_premises.specs.inside.Assigners.{IsAssigner}
 use Rattle.c_tree.specs.inside.Trees.{Node}
-use Rattle.flat_lower_premises.specs.Trees.{NodeHasWords, ExprHasWords, ExprsHaveWords}
-use Rattle.flat_lower_premises.specs.Trees as has
+use Rattle.flat_lower_premises.specs.inside.Trees.{NodeHasWords, ExprHasWords, ExprsHaveWords}
+use Rattle.flat_lower_premises.specs.inside.Trees as has
 
 -- each number of the phrase is a word of its type
 abbrev pub PhraseHasWords : Phrase → Type 0

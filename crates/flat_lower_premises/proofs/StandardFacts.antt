@@ -22,16 +22,16 @@ use Rattle.c_tree.specs.TypedTrees.{Level}
 use Rattle.c_type_rules.specs.inside.KeptStatements.{WellFormedStmt}
 use Rattle.c_type_rules.specs.inside.KeptStatements as run
 use Rattle.c_type_rules.specs.inside.WellFormed.{WellFormed}
-use Rattle.flat_lower_premises.specs.TypedTrees.{NodeHasWords, LevelHasWords, ProgramHasWords}
-use Rattle.flat_lower_premises.specs.TypedTrees as word
+use Rattle.flat_lower_premises.specs.inside.TypedTrees.{NodeHasWords, LevelHasWords, ProgramHasWords}
+use Rattle.flat_lower_premises.specs.inside.TypedTrees as word
 use Rattle.c_constant.specs.Kinds.{IsWord}
-use Rattle.flat_lower.specs.Tree as tree
-use Rattle.flat_lower.specs.Tree.{Source}
-use Rattle.flat_lower.specs.TreeViews.{source_of}
-use Rattle.flat_lower.specs.Objects.{global_bytes}
-use Rattle.flat_lower.specs.Fits.{FitsCompound, FitsSource}
-use Rattle.flat_lower_premises.specs.Limits.{HasFewGlobals, HasFewNodes}
-use Rattle.flat_lower_premises.specs.Most.{most_of}
+use Rattle.flat_lower.specs.inside.Tree as tree
+use Rattle.flat_lower.specs.inside.Tree.{Source}
+use Rattle.flat_lower.specs.inside.TreeViews.{source_of}
+use Rattle.flat_lower.specs.inside.Objects.{global_bytes}
+use Rattle.flat_lower.specs.inside.Fits.{FitsCompound, FitsSource}
+use Rattle.flat_lower_premises.specs.inside.Limits.{HasFewGlobals, HasFewNodes}
+use Rattle.flat_lower_premises.specs.inside.Most.{most_of}
 use Rattle.flat_lower_premises.proofs.NodeNeeds.{level_needs, needs_is}
 use Rattle.flat_lower_premises.proofs.FitPrograms.{source_fits}
 use Rattle.flat_lower_premises.proofs.TypedTreeSizes.{body_nodes, by_stmt, by_node}

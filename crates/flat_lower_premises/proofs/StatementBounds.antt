@@ -31,12 +31,12 @@ use Rattle.c_type_rules.specs.Statements.{expression, block, either, while_loop,
 use Rattle.c_type_rules.specs.Statements.{for_loop, breaks, continues, returns, returns_value}
 use Rattle.c_type_rules.specs.Statements.{TypesAll, no_more, one_more, without_else}
 use Rattle.c_type_rules.specs.Statements.{with_else, Begins, no_first, first_value, first_locals}
-use Rattle.flat_lower.specs.Sizes as plain
-use Rattle.flat_lower.specs.Sizes.{label_count}
-use Rattle.flat_lower.specs.Emitted.{sections_in}
+use Rattle.flat_lower.specs.inside.Sizes as plain
+use Rattle.flat_lower.specs.inside.Sizes.{label_count}
+use Rattle.flat_lower.specs.inside.Emitted.{sections_in}
 use Rattle.flat_lower.proofs.TreeFacts.{plain_stmt, plain_first}
-use Rattle.flat_lower_premises.specs.SourceNodes as limits
-use Rattle.flat_lower_premises.specs.Nodes as nodes
+use Rattle.flat_lower_premises.specs.inside.SourceNodes as limits
+use Rattle.flat_lower_premises.specs.inside.Nodes as nodes
 use Rattle.flat_lower_premises.proofs.TreeSizes.{nodes-Declare, nodes-Plain, nodes-Compound, nodes-If, nodes-While}
 use Rattle.flat_lower_premises.proofs.TreeSizes.{nodes-Do, nodes-For, nodes-Break, nodes-Continue, nodes-Return}
 use Rattle.flat_lower_premises.proofs.TreeSizes.{nodes-Switch, nodes-section, nodes-Nothing}

@@ -35,9 +35,9 @@ use Rattle.c_type.specs.States.{entered, with_scalar, with_switch, in_loop, in_s
 use Rattle.c_type_rules.specs.Statements.{FullIf, Initialises, Types, TypesAll, TypesIf, Begins}
 use Rattle.c_type_rules.specs.Statements.{TypesSections}
 use Rattle.c_type_rules.specs.Statements as typing
-use Rattle.flat_lower_premises.specs.Words.{IsFilled}
-use Rattle.flat_lower_premises.specs.Trees as plain
-use Rattle.flat_lower_premises.specs.TypedTrees as words
+use Rattle.flat_lower_premises.specs.inside.Words.{IsFilled}
+use Rattle.flat_lower_premises.specs.inside.Trees as plain
+use Rattle.flat_lower_premises.specs.inside.TypedTrees as words
 use Rattle.flat_lower_premises.proofs.TypedWords.{converted_has, typed_has}
 
 -- FULL EXPRESSIONS

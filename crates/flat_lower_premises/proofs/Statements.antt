@@ -9,31 +9,31 @@ use Rattle.c_tree.specs.declared.Slot.TheVariants as slot
 use Rattle.trips_isa.specs.declared.op.Op.TheVariants as op
 use Rattle.ir_forms.specs.declared.flat.Arg.{Arg}
 use Rattle.ir_forms.specs.declared.flat.Arg.TheVariants.{Const, Var}
-use Rattle.ir_forms.specs.FlatCode.{Code, Nop, Then, only, Function}
-use Rattle.ir_forms.specs.FlatCode as flat
-use Rattle.ir_forms.specs.FlatFits.{FitsVar, FitsArg}
-use Rattle.flat_lower.specs.Tree.{Expr, Number, Name, Assign, Stmt, Declare, Plain, Compound, If, While, Do}
-use Rattle.flat_lower.specs.Tree.{For, Break}
-use Rattle.flat_lower.specs.Tree.{Continue, Return, Stmts, NoStmts, WithStmt, First, Nothing}
-use Rattle.flat_lower.specs.Tree.{FirstOf, Locals, Switch, Sections, NoSections, WithSection, kind_of}
+use Rattle.ir_forms.specs.inside.FlatCode.{Code, Nop, Then, only, Function}
+use Rattle.ir_forms.specs.inside.FlatCode as flat
+use Rattle.ir_forms.specs.inside.FlatFits.{FitsVar, FitsArg}
+use Rattle.flat_lower.specs.inside.Tree.{Expr, Number, Name, Assign, Stmt, Declare, Plain, Compound, If, While, Do}
+use Rattle.flat_lower.specs.inside.Tree.{For, Break}
+use Rattle.flat_lower.specs.inside.Tree.{Continue, Return, Stmts, NoStmts, WithStmt, First, Nothing}
+use Rattle.flat_lower.specs.inside.Tree.{FirstOf, Locals, Switch, Sections, NoSections, WithSection, kind_of}
 use Rattle.flat_lower.specs.declared.around.Around.{Around}
 use Rattle.flat_lower.specs.declared.around.Around.TheVariants as around
-use Rattle.flat_lower.specs.Switches.{in_switch, break_code, continue_code, behind_code, found_code}
-use Rattle.flat_lower.specs.Switches.{labels_code, compared_code, has_default, default_at, section_count}
-use Rattle.flat_lower.specs.Switches.{section_code, switched_code}
-use Rattle.flat_lower.specs.FitsSwitches.{IsLooped, FitsLabels}
-use Rattle.flat_lower.specs.Fits.{Scope, FitsExpr, FitsExprIf, FitsDeclare, FitsReturn, FitsStmt}
-use Rattle.flat_lower.specs.Fits.{FitsStmts, FitsSections, FitsFirst}
-use Rattle.flat_lower.specs.Operations.{temp, scratch, set_word}
-use Rattle.flat_lower.specs.Objects.{Context}
-use Rattle.flat_lower.specs.Expressions.{right_at, expr_code}
-use Rattle.flat_lower.specs.Statements.{expr_if_code, declare_code, return_code, if_so, turn_code}
-use Rattle.flat_lower.specs.Statements.{loop_code, do_code, stmt_code, stmts_code, first_code}
-use Rattle.flat_lower.specs.Statements.{sections_code}
-use Rattle.flat_lower.specs.Statements.{end_code, named_scalar, simple_arg, plain_code, plain_if_code}
+use Rattle.flat_lower.specs.inside.Switches.{in_switch, break_code, continue_code, behind_code, found_code}
+use Rattle.flat_lower.specs.inside.Switches.{labels_code, compared_code, has_default, default_at, section_count}
+use Rattle.flat_lower.specs.inside.Switches.{section_code, switched_code}
+use Rattle.flat_lower.specs.inside.FitsSwitches.{IsLooped, FitsLabels}
+use Rattle.flat_lower.specs.inside.Fits.{Scope, FitsExpr, FitsExprIf, FitsDeclare, FitsReturn, FitsStmt}
+use Rattle.flat_lower.specs.inside.Fits.{FitsStmts, FitsSections, FitsFirst}
+use Rattle.flat_lower.specs.inside.Operations.{temp, scratch, set_word}
+use Rattle.flat_lower.specs.inside.Objects.{Context}
+use Rattle.flat_lower.specs.inside.Expressions.{right_at, expr_code}
+use Rattle.flat_lower.specs.inside.Statements.{expr_if_code, declare_code, return_code, if_so, turn_code}
+use Rattle.flat_lower.specs.inside.Statements.{loop_code, do_code, stmt_code, stmts_code, first_code}
+use Rattle.flat_lower.specs.inside.Statements.{sections_code}
+use Rattle.flat_lower.specs.inside.Statements.{end_code, named_scalar, simple_arg, plain_code, plain_if_code}
 use Rattle.flat_lower.proofs.PlainEnds.{either_way}
-use Rattle.flat_lower_premises.specs.Jumps.{JumpsInLoops, AllJumpsInLoops, FirstJumpsInLoops}
-use Rattle.flat_lower_premises.specs.Jumps.{IsLeft, SectionsJumpInLoops}
+use Rattle.flat_lower_premises.specs.inside.Jumps.{JumpsInLoops, AllJumpsInLoops, FirstJumpsInLoops}
+use Rattle.flat_lower_premises.specs.inside.Jumps.{IsLeft, SectionsJumpInLoops}
 use Rattle.flat_lower_premises.proofs.Fitting.{Fitting, nothing_fits, single_fits, let_fits, if_fits}
 use Rattle.flat_lower_premises.proofs.Fitting.{loop_fits, joined}
 use Rattle.flat_lower_premises.proofs.Fitting.{scalar_fits, temp_fits, scratch_fits}

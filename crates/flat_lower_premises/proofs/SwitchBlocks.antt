@@ -2,16 +2,16 @@
 use Rattle.std.proofs.Common.{ℕ, suc, ◌+◌, ◌*◌, List, [], ◌∷◌, Option, Some, None, refl, arith}
 use Rattle.trips_isa.specs.declared.op.Op.TheVariants as op
 use Rattle.ir_forms.specs.declared.flat.Arg.TheVariants.{Const, Var}
-use Rattle.ir_forms.specs.FlatCode.{Code, Let, Break}
+use Rattle.ir_forms.specs.inside.FlatCode.{Code, Let, Break}
 use Rattle.flat_lower.specs.declared.around.Around.{Around}
 use Rattle.flat_lower.specs.declared.around.Around.TheVariants as around
-use Rattle.flat_lower.specs.Tree.{Sections, NoSections, WithSection}
-use Rattle.flat_lower.specs.Operations.{temp}
-use Rattle.flat_lower.specs.Sizes.{label_count}
-use Rattle.flat_lower.specs.Switches.{break_code, continue_code, behind_code, found_code, label_code}
-use Rattle.flat_lower.specs.Switches.{labels_code, compared_code, default_at, section_count, chosen_code}
-use Rattle.flat_lower.specs.Switches.{section_code, switched_code}
-use Rattle.flat_lower_premises.specs.SourceNodes.{sections_nodes}
+use Rattle.flat_lower.specs.inside.Tree.{Sections, NoSections, WithSection}
+use Rattle.flat_lower.specs.inside.Operations.{temp}
+use Rattle.flat_lower.specs.inside.Sizes.{label_count}
+use Rattle.flat_lower.specs.inside.Switches.{break_code, continue_code, behind_code, found_code, label_code}
+use Rattle.flat_lower.specs.inside.Switches.{labels_code, compared_code, default_at, section_count, chosen_code}
+use Rattle.flat_lower.specs.inside.Switches.{section_code, switched_code}
+use Rattle.flat_lower_premises.specs.inside.SourceNodes.{sections_nodes}
 use Rattle.flat_lower_premises.proofs.SectionNodes.{labels_nodes, bodies_nodes, in_two}
 use Rattle.flat_lower_premises.proofs.BlockCounts.{Makes, after, eased, none, one_more, chosen, looped}
 

@@ -24,10 +24,10 @@ use Rattle.c_tree.specs.declared.tree.StmtNode.TheVariants as stmt
 use Rattle.c_tree.specs.declared.tree.Top.{Top}
 use Rattle.c_grammar.specs.Operators.{at}
 use Rattle.c_grammar.specs.Statements as s
-use Rattle.flat_lower_premises.specs.Nodes.{level_nodes, of_level, expr_nodes, exprs_nodes}
-use Rattle.flat_lower_premises.specs.Nodes.{expr_if_nodes, stmt_level_nodes, first_level_nodes, of_stmt_level}
-use Rattle.flat_lower_premises.specs.Nodes.{stmt_nodes, first_nodes, stmts_nodes, stmt_if_nodes}
-use Rattle.flat_lower_premises.specs.Nodes.{section_level_nodes, section_nodes, sections_nodes, unit_nodes}
+use Rattle.flat_lower_premises.specs.inside.Nodes.{level_nodes, of_level, expr_nodes, exprs_nodes}
+use Rattle.flat_lower_premises.specs.inside.Nodes.{expr_if_nodes, stmt_level_nodes, first_level_nodes, of_stmt_level}
+use Rattle.flat_lower_premises.specs.inside.Nodes.{stmt_nodes, first_nodes, stmts_nodes, stmt_if_nodes}
+use Rattle.flat_lower_premises.specs.inside.Nodes.{section_level_nodes, section_nodes, sections_nodes, unit_nodes}
 
 -- EXPRESSIONS
 

@@ -17,10 +17,10 @@ use Rattle.c_constant.specs.Kinds.{same_kind}
 use Rattle.c_type_expr.specs.Conversions.{a, kind_of, with_convert}
 use Rattle.c_tree.specs.TypedTrees.{Node}
 use Rattle.c_tree.specs.TypedTrees as level
-use Rattle.flat_lower.specs.TreeViews.{expr_of, expr_if, exprs_of, stmt_of, stmts_of, func_of}
+use Rattle.flat_lower.specs.inside.TreeViews.{expr_of, expr_if, exprs_of, stmt_of, stmts_of, func_of}
 use Rattle.flat_lower.proofs.TreeFacts.{plain_node, expr_is, first_of, plain_stmt, plain_first}
 use Rattle.flat_lower.proofs.TreeFacts.{stmt_is, first_is}
-use Rattle.flat_lower_premises.specs.SourceNodes as plain
+use Rattle.flat_lower_premises.specs.inside.SourceNodes as plain
 
 -- EXPRESSIONS
 

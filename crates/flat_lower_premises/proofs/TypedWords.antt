@@ -29,9 +29,9 @@ use Rattle.c_type_expr.specs.Conversions.{assign, assigned_at, assigned_from}
 use Rattle.c_type_expr.specs.Typed.{Typed, Passed}
 use Rattle.c_type_expr.specs.Typed as typing
 use Rattle.c_constant.specs.Kinds.{IsWord}
-use Rattle.flat_lower_premises.specs.Assigners.{IsAssigner}
-use Rattle.flat_lower_premises.specs.Trees as plain
-use Rattle.flat_lower_premises.specs.TypedTrees as words
+use Rattle.flat_lower_premises.specs.inside.Assigners.{IsAssigner}
+use Rattle.flat_lower_premises.specs.inside.Trees as plain
+use Rattle.flat_lower_premises.specs.inside.TypedTrees as words
 
 -- NODES OF AN EXPRESSION
 

@@ -11,8 +11,8 @@ use Rattle.c_type.specs.declared.state.State.{State}
 use Rattle.c_type_rules.specs.Units.{Body, outermost, other, typed_function, Item, include}
 use Rattle.c_type_rules.specs.Units.{include_again, global, prototype, definition, Items, no_item}
 use Rattle.c_type_rules.specs.Units.{one_item, accepts}
-use Rattle.flat_lower_premises.specs.Nodes.{stmt_nodes, top_nodes, unit_nodes}
-use Rattle.flat_lower_premises.specs.Sizes.{ProgramsAreSmall, ProgramsHaveRoom}
+use Rattle.flat_lower_premises.specs.inside.Nodes.{stmt_nodes, top_nodes, unit_nodes}
+use Rattle.flat_lower_premises.specs.inside.Sizes.{ProgramsAreSmall, ProgramsHaveRoom}
 use Rattle.flat_lower_premises.proofs.TreeSizes.{nodes-Compound}
 use Rattle.flat_lower_premises.proofs.SpelledSizes.{units_small}
 use Rattle.flat_lower_premises.proofs.TypedTreeSizes.{body_nodes, by_stmt, funcs_nodes, funcs_append}

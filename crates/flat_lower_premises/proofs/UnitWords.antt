@@ -8,10 +8,10 @@ use Rattle.c_grammar.specs.Tokens.{Tokens, May}
 use Rattle.c_grammar.specs.Units.{Phrase, Units}
 use Rattle.c_grammar.specs.Units as u
 use Rattle.c_grammar.specs.Accepted.{IsUnit}
-use Rattle.flat_lower_premises.specs.Words.{TokensHaveWords}
-use Rattle.flat_lower_premises.specs.Trees.{ExprIfHasWords, ExprsHaveWords, RowsHaveWords, SizeHasWords}
-use Rattle.flat_lower_premises.specs.Trees.{TopHasWords, UnitHasWords}
-use Rattle.flat_lower_premises.specs.Trees as has
+use Rattle.flat_lower_premises.specs.inside.Words.{TokensHaveWords}
+use Rattle.flat_lower_premises.specs.inside.Trees.{ExprIfHasWords, ExprsHaveWords, RowsHaveWords, SizeHasWords}
+use Rattle.flat_lower_premises.specs.inside.Trees.{TopHasWords, UnitHasWords}
+use Rattle.flat_lower_premises.specs.inside.Trees as has
 use Rattle.flat_lower_premises.proofs.SpelledWords.{named_type, spelled}
 use Rattle.flat_lower_premises.proofs.WrittenWords.{made, written}
 

@@ -7,19 +7,19 @@ use Rattle.c_tree.specs.declared.Kind.TheVariants.{Int, Long}
 use Rattle.c_tree.specs.declared.BinaryOp.TheVariants.{Add}
 use Rattle.c_tree.specs.declared.Place.{Place}
 use Rattle.c_tree.specs.declared.Place.TheVariants as place
-use Rattle.ir_forms.specs.FlatFits.{FitsCode, FitsProgram, steps_of_all}
-use Rattle.ir_forms.specs.Frames.{frame_limit}
-use Rattle.flat_lower.specs.Tree.{Expr, Number, Name, Element, RowElement, Assign, Convert}
-use Rattle.flat_lower.specs.Tree.{Stmt, Compound, If, While, Switch, Break, Continue, Return, NoStmts}
-use Rattle.flat_lower.specs.Tree.{WithStmt, NoSections, WithSection, Func, Source}
-use Rattle.flat_lower.specs.Fits.{FitsFunc, FitsSource}
-use Rattle.flat_lower.specs.Objects.{row_of}
-use Rattle.flat_lower.specs.Expressions.{joined_by}
-use Rattle.flat_lower.specs.Statements.{context_of, lowered}
-use Rattle.flat_lower_premises.specs.SourceNodes.{expr_nodes, stmt_nodes, source_size}
+use Rattle.ir_forms.specs.inside.FlatFits.{FitsCode, FitsProgram, steps_of_all}
+use Rattle.ir_forms.specs.inside.Frames.{frame_limit}
+use Rattle.flat_lower.specs.inside.Tree.{Expr, Number, Name, Element, RowElement, Assign, Convert}
+use Rattle.flat_lower.specs.inside.Tree.{Stmt, Compound, If, While, Switch, Break, Continue, Return, NoStmts}
+use Rattle.flat_lower.specs.inside.Tree.{WithStmt, NoSections, WithSection, Func, Source}
+use Rattle.flat_lower.specs.inside.Fits.{FitsFunc, FitsSource}
+use Rattle.flat_lower.specs.inside.Objects.{row_of}
+use Rattle.flat_lower.specs.inside.Expressions.{joined_by}
+use Rattle.flat_lower.specs.inside.Statements.{context_of, lowered}
+use Rattle.flat_lower_premises.specs.inside.SourceNodes.{expr_nodes, stmt_nodes, source_size}
 use Rattle.flat_lower.specs.declared.around.Around.TheVariants as around
-use Rattle.flat_lower_premises.specs.Jumps.{JumpsInLoops}
-use Rattle.flat_lower_premises.specs.Laws.{IsSmallRow, SmallRows}
+use Rattle.flat_lower_premises.specs.inside.Jumps.{JumpsInLoops}
+use Rattle.flat_lower_premises.specs.inside.Laws.{IsSmallRow, SmallRows}
 use Rattle.flat_lower_premises.proofs.LoweredSources.{lowered_fits}
 
 abbrev n : ℕ → Expr

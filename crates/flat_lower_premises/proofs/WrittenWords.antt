@@ -14,12 +14,12 @@ use Rattle.c_tree.specs.declared.tree.ForInit.TheVariants as beginning
 use Rattle.c_grammar.specs.Tokens.{Tokens, May}
 use Rattle.c_grammar.specs.Statements.{Phrase, for_init, Writes}
 use Rattle.c_grammar.specs.Statements as s
-use Rattle.flat_lower_premises.specs.Words.{IsFilled, TokensHaveWords}
+use Rattle.flat_lower_premises.specs.inside.Words.{IsFilled, TokensHaveWords}
 use Rattle.c_tree.specs.inside.Trees.{Level, Beginning}
-use Rattle.flat_lower_premises.specs.Trees.{ExprHasWords, ExprIfHasWords, SizeHasWords}
-use Rattle.flat_lower_premises.specs.Trees.{LevelHasWords, StmtHasWords, StmtsHaveWords, BeginningHasWords}
-use Rattle.flat_lower_premises.specs.Trees.{LabelsHaveWords, SectionsHaveWords}
-use Rattle.flat_lower_premises.specs.Trees as has
+use Rattle.flat_lower_premises.specs.inside.Trees.{ExprHasWords, ExprIfHasWords, SizeHasWords}
+use Rattle.flat_lower_premises.specs.inside.Trees.{LevelHasWords, StmtHasWords, StmtsHaveWords, BeginningHasWords}
+use Rattle.flat_lower_premises.specs.inside.Trees.{LabelsHaveWords, SectionsHaveWords}
+use Rattle.flat_lower_premises.specs.inside.Trees as has
 use Rattle.flat_lower_premises.proofs.SpelledWords.{named_type, spelled}
 
 -- a section of which the parts are open: it has a label and a statement, with words

@@ -1,11 +1,1 @@
-pub mod Assigners
-pub mod Limits
-pub mod Most
-pub mod Nodes
-pub mod Sizes
-pub mod Trees
-pub mod TypedTrees
-pub mod Words
-pub mod SourceNodes
-pub mod Jumps
-pub mod Laws
+pub mod inside

@@ -4,16 +4,17 @@ ghost use Rattle.std.specs.Prelude.{ℕ, List};
 ghost use Rattle.c_tree.specs.declared.typed.TypedProgram.{TypedProgram};
 ghost use Rattle.c_meaning_spec.specs.Eval.{eval};
 ghost use Rattle.c_type_rules.specs.inside.WellFormed.{WellFormed};
-ghost use Rattle.flat_lower_premises.specs.TypedTrees.{ProgramHasWords};
-ghost use Rattle.ir_forms.specs.FlatRuns.{checked, flat_run};
-ghost use Rattle.flat_lower.specs.TreeViews.{source_of};
-ghost use Rattle.flat_lower.specs.Fits.{FitsSource};
-ghost use Rattle.flat_lower.specs.Tree.{Source};
-ghost use Rattle.flat_lower.specs.Sizes.{IsMost};
-ghost use Rattle.flat_lower.specs.Keeps.{IsInput, Keeps};
-ghost use Rattle.flat_lower.specs.Statements.{lowered_program};
-ghost use Rattle.flat_lower_premises.specs.Limits.{HasFewGlobals, HasFewNodes};
-ghost use Rattle.flat_lower_premises.specs.Most.{most_of};
+ghost use Rattle.flat_lower_premises.specs.inside.TypedTrees.{ProgramHasWords};
+ghost use Rattle.ir_forms.specs.inside.FlatRuns.{checked, flat_run};
+ghost use Rattle.flat_lower.specs.inside.TreeViews.{source_of};
+ghost use Rattle.flat_lower.specs.inside.Fits.{FitsSource};
+ghost use Rattle.flat_lower.specs.inside.Tree.{Source};
+ghost use Rattle.flat_lower.specs.inside.Sizes.{IsMost};
+ghost use Rattle.flat_lower.specs.Keeps.{IsInput};
+ghost use Rattle.flat_lower.specs.inside.Keeps.{Keeps};
+ghost use Rattle.flat_lower.specs.inside.Statements.{lowered_program};
+ghost use Rattle.flat_lower_premises.specs.inside.Limits.{HasFewGlobals, HasFewNodes};
+ghost use Rattle.flat_lower_premises.specs.inside.Most.{most_of};
 
 /// A well formed program, whose numbers are words and which has few globals and few nodes, fits: of each
 /// node typing says what lowering relies on, temporaries and memory suffice, a word counts the sections of

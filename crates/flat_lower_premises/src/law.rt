@@ -1,6 +1,6 @@
 //! That flat programs fit.
 
-ghost use Rattle.flat_lower_premises.specs.Laws.{FewBlocks, FewStatements, FitsOfAnyLength, LoweredFits};
+ghost use Rattle.flat_lower_premises.specs.inside.Laws.{FewBlocks, FewStatements, FitsOfAnyLength, LoweredFits};
 
 /// The flat program of a source as typing gives it, with at most 8 parameters a function, with its
 /// jumps in loops and switches and with second sizes that are words, fits but for its length: each

@@ -1,7 +1,7 @@
 //! That programs are no larger than their texts allow.
 
-ghost use Rattle.flat_lower_premises.specs.Sizes.{BlocksAreFew, PassesAreShort, ProgramsAreSmall};
-ghost use Rattle.flat_lower_premises.specs.Sizes.{ProgramsHaveRoom, UnitsAreSmall};
+ghost use Rattle.flat_lower_premises.specs.inside.Sizes.{BlocksAreFew, PassesAreShort, ProgramsAreSmall};
+ghost use Rattle.flat_lower_premises.specs.inside.Sizes.{ProgramsHaveRoom, UnitsAreSmall};
 
 /// A translation unit has no more functions, statements and expressions together than its text has
 /// tokens (C17 6.5 to 6.9).

@@ -1,7 +1,7 @@
 ghost use Rattle.std.specs.Prelude.{ℕ, List};
 ghost use Rattle.c_tree.specs.declared.token.Lexeme.{Lexeme};
 ghost use Rattle.c_lex.specs.Lexes.{Lexed};
-ghost use Rattle.flat_lower_premises.specs.Words.{TokensHaveWords};
+ghost use Rattle.flat_lower_premises.specs.inside.Words.{TokensHaveWords};
 
 /// Each constant among a text's tokens is a word of its type (C17 6.4.4). It does nothing when it
 /// runs.

@@ -2,9 +2,10 @@
 //! program is no larger than its text allows, and what typing gives is what lowering takes, so that lowered programs
 //! keep C's meaning and fit the limits that the later passes rely on. All are public laws: nothing here runs.
 //!
-//! specs/Words, specs/Trees and specs/TypedTrees have words and trees of them, specs/Assigners the operators of
-//! assignments; specs/Nodes, specs/SourceNodes, specs/Sizes, specs/Limits and specs/Most how large programs are;
-//! specs/Jumps jumps that stand where they may; specs/Laws what the flat program gives the later passes.
+//! specs/inside/Words, specs/inside/Trees and specs/inside/TypedTrees have words and trees of them,
+//! specs/inside/Assigners the operators of assignments; specs/inside/Nodes, specs/inside/SourceNodes,
+//! specs/inside/Sizes, specs/inside/Limits and specs/inside/Most how large programs are; specs/inside/Jumps jumps
+//! that stand where they may; specs/inside/Laws what the flat program gives the later passes.
 #![tactic(auto)]
 
 mod counts;

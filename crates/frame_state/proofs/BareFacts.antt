@@ -19,10 +19,10 @@ use Rattle.commit_flush_spec.specs.Marks.{mark_left}
 use Rattle.commit_flush_spec.specs.Marks.{zeros}
 use Rattle.commit_flush_spec.specs.Frames.{at}
 use Rattle.commit_flush_spec.specs.Ends.{cause_held}
-use Rattle.frame_state.specs.Faulting.{can_fault, can_fault_in}
-use Rattle.frame_state.specs.Held.{Held, sealed}
-use Rattle.frame_state.specs.MarkRows.{AreBare, HasNoMark}
-use Rattle.frame_state.specs.Moves.{slot_mark, slot_token}
+use Rattle.frame_state.specs.inside.Faulting.{can_fault, can_fault_in}
+use Rattle.frame_state.specs.inside.Held.{Held, sealed}
+use Rattle.frame_state.specs.inside.MarkRows.{AreBare, HasNoMark}
+use Rattle.frame_state.specs.inside.Moves.{slot_mark, slot_token}
 
 -- rows -------------------------------------------------------------------------------------------
 

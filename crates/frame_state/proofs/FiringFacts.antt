@@ -7,8 +7,8 @@ use Rattle.trips_isa.specs.Rule.{Answer}
 use Rattle.block_cases.specs.Orders.{slot_of}
 use Rattle.commit_flush_spec.specs.Older.{Older}
 use Rattle.commit_flush_spec.specs.Dataflow.{fire}
-use Rattle.frame_state.specs.Held.{Held, Stays, running}
-use Rattle.frame_state.specs.Moves.{fired_if, fired_slot}
+use Rattle.frame_state.specs.inside.Held.{Held, Stays, running}
+use Rattle.frame_state.specs.inside.Moves.{fired_if, fired_slot}
 use Rattle.frame_state.proofs.NodeFacts.{fires}
 use Rattle.frame_state.proofs.StayFacts.{slot_stays}
 

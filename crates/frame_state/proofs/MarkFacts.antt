@@ -6,8 +6,8 @@ use Rattle.commit_flush_spec.specs.Marks.{zeros}
 use Rattle.commit_flush_spec.specs.Frames.{blank, unset}
 use Rattle.base.specs.inside.Rows.{no_flags, no_items}
 use Rattle.base.proofs.RowFacts.{map_set, get_map, map_blank}
-use Rattle.frame_state.specs.MarkRows.{marks_of}
-use Rattle.frame_state.specs.Held.{taken_of, taken_if, all_taken}
+use Rattle.frame_state.specs.inside.MarkRows.{marks_of}
+use Rattle.frame_state.specs.inside.Held.{taken_of, taken_if, all_taken}
 use Rattle.frame_state.specs.declared.parts.Took.{Took}
 
 -- the same in the words of the window's frames

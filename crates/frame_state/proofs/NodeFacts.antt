@@ -13,7 +13,8 @@ use Rattle.trips_isa.specs.declared.form.Form.TheVariants.{General, Immediate, L
 use Rattle.trips_isa.specs.declared.operands.Operands.{Operands}
 use Rattle.trips_isa.specs.declared.operands.Operands.TheVariants.{Missing, Nulls, Words}
 use Rattle.trips_isa.specs.Forms.{form_of, role_of, takes_left, takes_right}
-use Rattle.trips_isa.specs.Operands.{operands, is_guarded, given_of}
+use Rattle.trips_isa.specs.Operands.{operands, is_guarded}
+use Rattle.trips_isa.specs.inside.Operands.{given_of}
 use Rattle.trips_isa.specs.Rule.{Answer, matched, if_matched, gives, rule}
 use Rattle.trips_isa.specs.Places.{nodes_of, inst_node, inst_nodes, read_node, place_of, place_at}
 use Rattle.trips_isa.specs.Tables.{node_gives}
@@ -31,8 +32,8 @@ use Rattle.commit_flush_spec.specs.Sending.{send, sent, token_with, mark_with}
 use Rattle.commit_flush_spec.specs.Older.{Older}
 use Rattle.commit_flush_spec.specs.Dataflow.{read_answered, fire, fire_inst, fire_form, deliver, delivered}
 use Rattle.commit_flush_spec.proofs.Tokens.{slot_got, read_got, slot_not_read, inst_at_is, inst_in, read_is}
-use Rattle.frame_state.specs.Held.{Held, as_frame, running}
-use Rattle.frame_state.specs.Moves.{slot_token, slot_mark, sent_to, sent_by, fired_by, fired_slot, moved}
+use Rattle.frame_state.specs.inside.Held.{Held, as_frame, running}
+use Rattle.frame_state.specs.inside.Moves.{slot_token, slot_mark, sent_to, sent_by, fired_by, fired_slot, moved}
 
 -- marks -----------------------------------------------------------------------------------------
 

@@ -10,8 +10,8 @@ use Rattle.trips_isa.specs.Outcomes.{Effects, or_null, writes_from, all_stores}
 use Rattle.trips_isa.specs.declared.block.Block.{Block}
 use Rattle.commit_flush_spec.specs.Frames.{Exit, at}
 use Rattle.commit_flush_spec.specs.Ends.{effects_with, outputs}
-use Rattle.frame_state.specs.Held.{Held, sealed}
-use Rattle.frame_state.specs.Effects.{exit_or_first}
+use Rattle.frame_state.specs.inside.Held.{Held, sealed}
+use Rattle.frame_state.specs.inside.Effects.{exit_or_first}
 
 -- the tokens of the writes from write w on
 pub written : (f : ℕ → Answer) (rs : List ℕ) (ts : List Token) (w : ℕ) → length rs ≤ length ts

@@ -8,13 +8,13 @@ use Rattle.commit_flush_spec.specs.Causes.{Cause, Happened, NotNow, judged}
 use Rattle.commit_flush_spec.specs.Frames.{Frame}
 use Rattle.commit_flush_spec.specs.Older.{Older}
 use Rattle.commit_flush_spec.specs.Ends.{complete, seal}
-use Rattle.frame_state.specs.Held.{Held, Stays, running, sealed}
+use Rattle.frame_state.specs.inside.Held.{Held, Stays, running, sealed}
 use Rattle.frame_state.specs.declared.phase.Phase.{Phase}
 use Rattle.frame_state.specs.declared.phase.Phase.TheVariants.{Free, Going, Done, Away}
-use Rattle.frame_state.specs.Phases.{HasBlock, IsFree, IsIdle, IsOpen, Keeps, answered, changed, frame_in}
-use Rattle.frame_state.specs.Phases.{generation_of, number_of, with_block}
-use Rattle.frame_state.specs.Changes.{Declares, sealed_if}
-use Rattle.frame_state.specs.Told.{register_of, read_register}
+use Rattle.frame_state.specs.inside.Phases.{HasBlock, IsFree, IsIdle, IsOpen, Keeps, answered, changed, frame_in}
+use Rattle.frame_state.specs.inside.Phases.{generation_of, number_of, with_block}
+use Rattle.frame_state.specs.inside.Changes.{Declares, sealed_if}
+use Rattle.frame_state.specs.inside.Told.{register_of, read_register}
 
 -- answers --------------------------------------------------------------------------------------
 

@@ -12,7 +12,7 @@ use Rattle.trips_isa.specs.Rule.{Answer, matched}
 use Rattle.commit_flush_spec.specs.Frames.{at}
 use Rattle.base.specs.inside.Rows.{no_flags, no_items}
 use Rattle.base.proofs.FlagFacts.{get_unset}
-use Rattle.frame_state.specs.Predicates.{Tells}
+use Rattle.frame_state.specs.inside.Predicates.{Tells}
 
 pub length_none : (A : Type 0) → (n : ℕ) → length (no_items {A = A} n) ≡ n
 unfolding no_items

@@ -17,9 +17,9 @@ use Rattle.trips_isa.specs.Blocks.{slot_computes}
 use Rattle.block_cases.specs.Orders.{slot_of, left_of, right_of}
 use Rattle.commit_flush_spec.specs.Frames.{at, slot_node}
 use Rattle.commit_flush_spec.specs.Sending.{token_with}
-use Rattle.frame_state.specs.Held.{Held, running}
-use Rattle.frame_state.specs.Wants.{true_sense, false_sense, is_on_true, is_on_false}
-use Rattle.frame_state.specs.Shapes.{is_ready}
+use Rattle.frame_state.specs.inside.Held.{Held, running}
+use Rattle.frame_state.specs.inside.Wants.{true_sense, false_sense, is_on_true, is_on_false}
+use Rattle.frame_state.specs.inside.Shapes.{is_ready}
 use Rattle.frame_state.proofs.NodeFacts.{token_is}
 
 abbrev is_empty : Role → Bool

@@ -4,8 +4,8 @@ use Rattle.trips_isa.specs.declared.block.Token.TheVariants.{Word}
 use Rattle.base.specs.Rows.{flags}
 use Rattle.base.specs.inside.Rows.{row}
 use Rattle.commit_flush_spec.specs.Frames.{NoBytes, Bytes}
-use Rattle.frame_state.specs.MarkRows.{marks_of}
-use Rattle.frame_state.specs.Held.{taken_of, taken_if}
+use Rattle.frame_state.specs.inside.MarkRows.{marks_of}
+use Rattle.frame_state.specs.inside.Held.{taken_of, taken_if}
 use Rattle.frame_state.specs.declared.parts.Took.TheVariants.{Nothing, From}
 
 -- flags 0 and 2 of the word 5

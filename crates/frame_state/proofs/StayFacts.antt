@@ -11,8 +11,8 @@ use Rattle.trips_isa.specs.Forms.{form_of}
 use Rattle.trips_isa.specs.Rule.{Answer}
 use Rattle.commit_flush_spec.specs.Frames.{at}
 use Rattle.commit_flush_spec.proofs.Lists.{other_at}
-use Rattle.frame_state.specs.Held.{Held, Stays}
-use Rattle.frame_state.specs.Moves.{KeepsSpots, slot_token, slot_mark, sent_by, fired_by, fired_slot, moved}
+use Rattle.frame_state.specs.inside.Held.{Held, Stays}
+use Rattle.frame_state.specs.inside.Moves.{KeepsSpots, slot_token, slot_mark, sent_by, fired_by, fired_slot, moved}
 
 -- what is the same as a frame that stays, stays
 pub stays_as : (h x y : Held) → y ≡ x → Stays h x → Stays h y

@@ -10,16 +10,16 @@ use Rattle.trips_isa.specs.Rule.{Answer}
 use Rattle.block_cases.specs.Orders.{slot_of}
 use Rattle.commit_flush_spec.specs.Causes.{NoInst, NotReady, Done, NotNow}
 use Rattle.commit_flush_spec.specs.Frames.{Frame, at, is_target, slot_node, target}
-use Rattle.commit_flush_spec.specs.Laws.{IsFree}
+use Rattle.commit_flush_spec.specs.inside.Laws.{IsFree}
 use Rattle.commit_flush_spec.specs.Sending.{token_with}
 use Rattle.commit_flush_spec.specs.Older.{Older}
 use Rattle.commit_flush_spec.specs.Dataflow.{can_fire}
-use Rattle.frame_state.specs.Held.{Held, running}
-use Rattle.frame_state.specs.Moves.{slot_token}
+use Rattle.frame_state.specs.inside.Held.{Held, running}
+use Rattle.frame_state.specs.inside.Moves.{slot_token}
 use Rattle.frame_state.proofs.NodeFacts.{token_is}
 use Rattle.frame_state.specs.declared.phase.Phase.{Phase}
 use Rattle.frame_state.specs.declared.phase.Phase.TheVariants.{Going}
-use Rattle.frame_state.specs.Phases.{frame_in, with_block}
+use Rattle.frame_state.specs.inside.Phases.{frame_in, with_block}
 
 -- an instruction that was found has not fired
 unfired : (c : Bool) (z : Option Inst) (i : Inst) → Some i ≡ cond c None z → (c ≡ false) × (z ≡ Some i)

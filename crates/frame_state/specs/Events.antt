@@ -1,5 +1,5 @@
 -- Events, causes and answers of the code, in the window's words.
-use Rattle.std.specs.Prelude.{Bool, true, false, List, map}
+use Rattle.std.specs.Prelude.{List, map}
 use Rattle.frame_state.specs.declared.event.Event.{Event}
 use Rattle.frame_state.specs.declared.event.Event.TheVariants as code
 use Rattle.frame_state.specs.declared.event.Cause.{Cause}
@@ -45,11 +45,6 @@ as_cause cause.Spent = causes.Spent
 abbrev pub as_happened : Happened → causes.Happened
 as_happened happened.Done = causes.Done
 as_happened (happened.NotNow c) = causes.NotNow (as_cause c)
-
--- whether an event happens
-abbrev pub is_done : causes.Happened → Bool
-is_done causes.Done = true
-is_done (causes.NotNow c) = false
 
 -- events one after another
 abbrev pub as_events : List Event → List window.Event

@@ -1,14 +1,3 @@
-pub mod MarkRows
-pub mod Faulting
-pub mod Held
-pub mod Moves
-pub mod Predicates
-pub mod Effects
-pub mod Wants
-pub mod Shapes
 pub mod Lacks
 pub mod Events
-pub mod Phases
-pub mod Changes
-pub mod Told
-pub mod Tried
+pub mod inside

@@ -8,10 +8,10 @@ ghost use Rattle.commit_flush_spec.specs.Frames.{is_target};
 ghost use Rattle.commit_flush_spec.specs.Dataflow.{read_seen, can_read, can_fire, can_deliver};
 ghost use Rattle.commit_flush_spec.specs.Memory.{is_request, can_load, can_store};
 ghost use Rattle.commit_flush_spec.specs.Ends.{can_exit, can_seal};
-ghost use Rattle.frame_state.specs.Held.{running};
+ghost use Rattle.frame_state.specs.inside.Held.{running};
 ghost use Rattle.frame_state.specs.Events.{as_happened};
-ghost use Rattle.frame_state.specs.Phases.{HasBlock, answered, frame_in};
-ghost use Rattle.frame_state.specs.Changes.{IsSeen};
+ghost use Rattle.frame_state.specs.inside.Phases.{HasBlock, answered, frame_in};
+ghost use Rattle.frame_state.specs.inside.Changes.{IsSeen};
 
 use crate::body::Body;
 use crate::event::{Cause, Happened};

@@ -6,9 +6,10 @@ ghost use Rattle.trips_isa.specs.Stores.{stored_of};
 ghost use Rattle.trips_isa.specs.declared.block.Token.TheVariants.{Word};
 ghost use Rattle.commit_flush_spec.specs.Marks.{mark_stored, mark_left};
 ghost use Rattle.commit_flush_spec.specs.Frames.{at};
-ghost use Rattle.frame_state.specs.Held.{taken_of, exit_of, filled};
-ghost use Rattle.frame_state.specs.Moves.{slot_token, slot_mark, sent_to, sent_by, fired_by, fired_if, fired_slot};
-ghost use Rattle.frame_state.specs.Moves.{moved, closed};
+ghost use Rattle.frame_state.specs.inside.Held.{taken_of, exit_of, filled};
+ghost use Rattle.frame_state.specs.inside.Moves.{slot_token, slot_mark, sent_to, sent_by, fired_by, fired_if};
+ghost use Rattle.frame_state.specs.inside.Moves.{fired_slot};
+ghost use Rattle.frame_state.specs.inside.Moves.{moved, closed};
 
 use crate::giving::slot_gives;
 use crate::marks::MarkTable;
@@ -43,7 +44,7 @@ pub struct Body {
 }
 
 impl Model for Body {
-    ghost use Rattle.frame_state.specs.Held.{Held, all_taken, exit_of};
+    ghost use Rattle.frame_state.specs.inside.Held.{Held, all_taken, exit_of};
 
     ghost Value = { Held };
 

@@ -3,10 +3,10 @@ ghost use Rattle.std.specs.Prelude.{◌≡◌, Some, true};
 ghost use Rattle.commit_flush_spec.specs.Older.{Older};
 ghost use Rattle.commit_flush_spec.specs.Dataflow.{read_answered, fire, deliver};
 ghost use Rattle.commit_flush_spec.specs.Memory.{load};
-ghost use Rattle.commit_flush_spec.specs.Dropping.{stored_alone, exited_alone};
-ghost use Rattle.frame_state.specs.Phases.{HasBlock, Keeps, frame_in, changed};
-ghost use Rattle.frame_state.specs.Changes.{Declares, IsWord};
-ghost use Rattle.frame_state.specs.Told.{finds_room};
+ghost use Rattle.commit_flush_spec.specs.inside.Dropping.{stored_alone, exited_alone};
+ghost use Rattle.frame_state.specs.inside.Phases.{HasBlock, Keeps, frame_in, changed};
+ghost use Rattle.frame_state.specs.inside.Changes.{Declares, IsWord};
+ghost use Rattle.frame_state.specs.inside.Told.{finds_room};
 
 use crate::exits::departure;
 use crate::flights::block_at;

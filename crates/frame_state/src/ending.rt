@@ -5,7 +5,7 @@ ghost use Rattle.trips_isa.specs.Places.{in_mask};
 ghost use Rattle.trips_isa.specs.Marks.{least_at, writes_to, mask_places};
 ghost use Rattle.commit_flush_spec.specs.Marks.{mark_held};
 ghost use Rattle.commit_flush_spec.specs.Ends.{complete, outputs, cause_held};
-ghost use Rattle.frame_state.specs.Held.{running, sealed};
+ghost use Rattle.frame_state.specs.inside.Held.{running, sealed};
 
 use crate::body::Body;
 use crate::outcome::{in_mask, stores_came, writes_came};

@@ -1,6 +1,7 @@
 //! The events of a window, and what each is answered.
 ghost use Rattle.std.specs.Prelude.{◌≡◌};
-ghost use Rattle.frame_state.specs.Events.{as_happened, is_done};
+ghost use Rattle.frame_state.specs.Events.{as_happened};
+ghost use Rattle.frame_state.specs.inside.Events.{is_done};
 
 /// What may happen in a window (docs/WINDOW.md, "Events"). Numbers may be any.
 #[derive(Clone, Copy, Debug, PartialEq, Eq)]

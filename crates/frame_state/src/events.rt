@@ -11,8 +11,8 @@ ghost use Rattle.commit_flush_spec.specs.Dataflow.{read_answered, fire, deliver}
 ghost use Rattle.commit_flush_spec.specs.Memory as memory;
 ghost use Rattle.commit_flush_spec.specs.Memory.{request, load, taken_word, with_store};
 ghost use Rattle.commit_flush_spec.specs.Ends.{branch_of, branch_mark, with_exit};
-ghost use Rattle.frame_state.specs.Held.{Stays, exit_of, running};
-ghost use Rattle.frame_state.specs.Moves.{KeepsSpots, finds_room, slot_token};
+ghost use Rattle.frame_state.specs.inside.Held.{Stays, exit_of, running};
+ghost use Rattle.frame_state.specs.inside.Moves.{KeepsSpots, finds_room, slot_token};
 
 use crate::body::Body;
 use crate::parts::Departure;

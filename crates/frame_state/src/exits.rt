@@ -2,7 +2,7 @@
 ghost use Rattle.std.specs.Prelude.{◌≡◌, ◌<◌, length};
 ghost use Rattle.trips_isa.specs.Outcomes.{to_address, next_of};
 ghost use Rattle.commit_flush_spec.specs.Ends.{exit_by};
-ghost use Rattle.frame_state.specs.Held.{exit_of};
+ghost use Rattle.frame_state.specs.inside.Held.{exit_of};
 
 use crate::parts::Departure;
 use block_check::CheckedImage;

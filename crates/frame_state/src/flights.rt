@@ -1,8 +1,8 @@
 //! A frame with its block, as far as it is in flight, runs or is sealed.
 ghost use Rattle.std.specs.Prelude.{◌≡◌, ◌<◌, Some, None, MatchOption, length, slice_get};
-ghost use Rattle.block_check.specs.Images.{IsCheckedImage};
-ghost use Rattle.frame_state.specs.Held.{as_frame, running, sealed};
-ghost use Rattle.frame_state.specs.Phases.{HasBlock, IsIdle, IsOpen, frame_in, is_done};
+ghost use Rattle.block_check.specs.inside.Images.{IsCheckedImage};
+ghost use Rattle.frame_state.specs.inside.Held.{as_frame, running, sealed};
+ghost use Rattle.frame_state.specs.inside.Phases.{HasBlock, IsIdle, IsOpen, frame_in, is_done};
 
 use crate::body::Body;
 use crate::phase::Phase;

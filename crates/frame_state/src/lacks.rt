@@ -4,7 +4,7 @@ ghost use Rattle.trips_isa.specs.PlaceNumbers.{first_write};
 ghost use Rattle.trips_isa.specs.Places.{in_mask};
 ghost use Rattle.commit_flush_spec.specs.Ends.{complete, store_came};
 ghost use Rattle.commit_flush_spec.specs.Frames.{at, numbers};
-ghost use Rattle.frame_state.specs.Held.{running};
+ghost use Rattle.frame_state.specs.inside.Held.{running};
 ghost use Rattle.frame_state.specs.Lacks.{exit_lack, first_missing, least_lack, or_store};
 
 use crate::body::Body;

@@ -2,7 +2,7 @@
 ghost use Rattle.std.specs.Prelude.{◌≡◌, ◌-◌, ◌^◌, ◌<◌, ◌==◌, false, List, None};
 ghost use Rattle.trips_isa.specs.declared.block.Block.{Block};
 ghost use Rattle.frame_state.specs.declared.phase.Phase.{Phase};
-ghost use Rattle.frame_state.specs.Phases.{HasBlock, IsFree, frame_in, generation_of, number_of};
+ghost use Rattle.frame_state.specs.inside.Phases.{HasBlock, IsFree, frame_in, generation_of, number_of};
 
 /// One of the eight frames that is not in flight, and whose generation is not at its last value, may be filled.
 pub fn empty_frames_may_be_filled()

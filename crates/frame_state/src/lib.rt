@@ -3,12 +3,12 @@
 //!
 //! A frame executes a block before it is known to be wanted (docs/WINDOW.md). [`Empty`] holds no block, [`Running`]
 //! gets its tokens, and [`Sealed`] has all its outputs; each call hands one on as the next. Contracts see it as what
-//! it holds beside its block (specs/Held.antt), and with the block as the frame of the window's definitions.
+//! it holds beside its block (specs/inside/Held.antt), and with the block as the frame of the window's definitions.
 //!
 //! A [`Phase`] is one of the three, which contracts see with the blocks of its image as the frame in flight that it
-//! is, or as none (`frame_in` of specs/Phases.antt). Each call is one equation with the definitions of
-//! crates/commit_flush_spec/specs; what a frame sees of the older ones is handed in. specs/Told.antt has what it
-//! tells.
+//! is, or as none (`frame_in` of specs/inside/Phases.antt). Each call is one equation with the definitions of
+//! crates/commit_flush_spec/specs; what a frame sees of the older ones is handed in. specs/inside/Told.antt has what
+//! it tells.
 #![tactic(auto)]
 
 mod answers;

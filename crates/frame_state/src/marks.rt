@@ -2,7 +2,7 @@
 ghost use Rattle.std.specs.Prelude.{◌≡◌, ◌<◌, ◌≤◌, ◌*◌, false, slice_index_or, slice_set};
 ghost use Rattle.commit_flush_spec.specs.Marks.{mark_on, mark_sent, mark_delivered, mark_stored, mark_left, zeros};
 ghost use Rattle.commit_flush_spec.specs.Frames.{unmarked};
-ghost use Rattle.frame_state.specs.MarkRows.{HasNoMark};
+ghost use Rattle.frame_state.specs.inside.MarkRows.{HasNoMark};
 
 use base::Row;
 use std::marker::Model;
@@ -16,7 +16,7 @@ pub struct MarkRow<const N: usize, const W: usize> {
 
 impl<const N: usize, const W: usize> Model for MarkRow<N, W> {
     ghost use Rattle.std.specs.Prelude.{ℕ, List};
-    ghost use Rattle.frame_state.specs.MarkRows.{marks_of};
+    ghost use Rattle.frame_state.specs.inside.MarkRows.{marks_of};
 
     ghost Value = { List ℕ };
 
@@ -81,7 +81,7 @@ pub struct MarkTable {
 impl Model for MarkTable {
     ghost use Rattle.std.specs.Prelude.{◌≡◌, false};
     ghost use Rattle.commit_flush_spec.specs.Marks.{Marks};
-    ghost use Rattle.frame_state.specs.MarkRows.{AreBare};
+    ghost use Rattle.frame_state.specs.inside.MarkRows.{AreBare};
 
     ghost Value = { Marks };
 

@@ -2,12 +2,12 @@
 ghost use Rattle.std.specs.Prelude.{◌≡◌, Bool, slice_get};
 ghost use Rattle.trips_isa.specs.declared.block.Block.{Block};
 ghost use Rattle.commit_flush_spec.specs.Older.{is_serial, makes_call, successor_of};
-ghost use Rattle.frame_state.specs.Held.{as_frame, taken_if, exit_of};
-ghost use Rattle.frame_state.specs.Phases.{HasBlock, frame_in};
-ghost use Rattle.frame_state.specs.Told.{block_in, is_serial_in, register_of, read_register, token_in};
-ghost use Rattle.frame_state.specs.Told.{finds_room, write_at, register_to, taken_by, waiting_load, stored_by};
-ghost use Rattle.frame_state.specs.Told.{waiting_store};
-ghost use Rattle.frame_state.specs.Told.{exit_come, leads_to, is_sealed_in, cause_in, outputs_in};
+ghost use Rattle.frame_state.specs.inside.Held.{as_frame, taken_if, exit_of};
+ghost use Rattle.frame_state.specs.inside.Phases.{HasBlock, frame_in};
+ghost use Rattle.frame_state.specs.inside.Told.{block_in, is_serial_in, register_of, read_register, token_in};
+ghost use Rattle.frame_state.specs.inside.Told.{finds_room, write_at, register_to, taken_by, waiting_load, stored_by};
+ghost use Rattle.frame_state.specs.inside.Told.{waiting_store};
+ghost use Rattle.frame_state.specs.inside.Told.{exit_come, leads_to, is_sealed_in, cause_in, outputs_in};
 
 use crate::body::Body;
 use crate::exits::departure;

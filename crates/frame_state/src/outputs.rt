@@ -4,8 +4,8 @@ ghost use Rattle.trips_isa.specs.Stores.{listed};
 ghost use Rattle.trips_isa.specs.PlaceNumbers.{first_write};
 ghost use Rattle.trips_isa.specs.Outcomes.{or_null, writes_from, all_stores};
 ghost use Rattle.commit_flush_spec.specs.Frames.{at};
-ghost use Rattle.frame_state.specs.Held.{as_exit, exit_of};
-ghost use Rattle.frame_state.specs.Effects.{exit_or_first};
+ghost use Rattle.frame_state.specs.inside.Held.{as_exit, exit_of};
+ghost use Rattle.frame_state.specs.inside.Effects.{exit_or_first};
 
 use crate::parts::Departure;
 use crate::spots::Spots;

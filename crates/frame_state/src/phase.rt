@@ -3,8 +3,9 @@ ghost use Rattle.std.specs.Prelude.{◌≡◌, ◌↔◌, ◌<◌, ◌+◌, IsTr
 ghost use Rattle.trips_isa.specs.declared.block.Block.{Block};
 ghost use Rattle.commit_flush_spec.specs.Older.{Older};
 ghost use Rattle.commit_flush_spec.specs.Frames.{fresh};
-ghost use Rattle.frame_state.specs.Phases.{HasBlock, IsFree, Keeps, changed, frame_in, generation_of, number_of};
-ghost use Rattle.frame_state.specs.Changes.{sealed_if};
+ghost use Rattle.frame_state.specs.inside.Phases.{HasBlock, IsFree, Keeps, changed, frame_in, generation_of};
+ghost use Rattle.frame_state.specs.inside.Phases.{number_of};
+ghost use Rattle.frame_state.specs.inside.Changes.{sealed_if};
 
 use crate::flights::block_at;
 use crate::states::{Empty, Running, Sealed};

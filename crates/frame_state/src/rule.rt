@@ -8,8 +8,8 @@ ghost use Rattle.trips_isa.specs.Faults.{divides, own_fault};
 ghost use Rattle.trips_isa.specs.Marks.{mark_by};
 ghost use Rattle.trips_isa.specs.Operands.{operands, is_guarded};
 ghost use Rattle.commit_flush_spec.specs.Memory.{taken_of};
-ghost use Rattle.frame_state.specs.Held as held;
-ghost use Rattle.frame_state.specs.Faulting.{can_fault};
+ghost use Rattle.frame_state.specs.inside.Held as held;
+ghost use Rattle.frame_state.specs.inside.Faulting.{can_fault};
 ghost use Rattle.frame_state.specs.declared.parts.Took.TheVariants.{Nothing, From};
 
 use crate::parts::Took;

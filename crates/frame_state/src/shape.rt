@@ -1,7 +1,7 @@
 //! The shape of a block: what its slots want.
 ghost use Rattle.std.specs.Prelude.{◌≡◌, ◌<◌, ℕ, is_some, slice_index_or, slice_set, false};
 ghost use Rattle.block_cases.specs.Orders.{slot_of, left_of, right_of};
-ghost use Rattle.frame_state.specs.Wants.{wants, is_on_true, is_on_false};
+ghost use Rattle.frame_state.specs.inside.Wants.{wants, is_on_true, is_on_false};
 
 use crate::target::slot_of;
 use crate::wants::Want;
@@ -83,7 +83,7 @@ fn wanting(block: &Block, want: Want) -> Flags<128, 2>
 }
 
 impl Shape {
-    ghost use Rattle.frame_state.specs.Shapes.{IsShape};
+    ghost use Rattle.frame_state.specs.inside.Shapes.{IsShape};
 
     /// The shape of a block.
     pub fn make(block: &Block) -> Shape

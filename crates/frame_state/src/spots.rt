@@ -23,7 +23,7 @@ pub struct Spots {
 impl Model for Spots {
     ghost use Rattle.std.specs.Prelude.{List};
     ghost use Rattle.trips_isa.specs.Rule.{Answer};
-    ghost use Rattle.frame_state.specs.Predicates.{Tells};
+    ghost use Rattle.frame_state.specs.inside.Predicates.{Tells};
 
     ghost Value = { List Answer };
 

@@ -11,9 +11,9 @@ ghost use Rattle.commit_flush_spec.specs.Dataflow.{read_answered, fire, deliver}
 ghost use Rattle.commit_flush_spec.specs.Memory as memory;
 ghost use Rattle.commit_flush_spec.specs.Memory.{request, load, taken_word, with_store};
 ghost use Rattle.commit_flush_spec.specs.Ends.{branch_mark, with_exit, complete, seal, outputs, cause_held};
-ghost use Rattle.frame_state.specs.Held.{Stays, exit_of, filled, running, sealed};
+ghost use Rattle.frame_state.specs.inside.Held.{Stays, exit_of, filled, running, sealed};
 ghost use Rattle.frame_state.specs.Lacks.{least_lack};
-ghost use Rattle.frame_state.specs.Moves.{KeepsSpots, closed, finds_room, slot_token};
+ghost use Rattle.frame_state.specs.inside.Moves.{KeepsSpots, closed, finds_room, slot_token};
 
 use crate::body::Body;
 use crate::outputs::Outputs;
@@ -30,7 +30,7 @@ pub struct Empty {
 }
 
 impl Model for Empty {
-    ghost use Rattle.frame_state.specs.Held.{Held};
+    ghost use Rattle.frame_state.specs.inside.Held.{Held};
 
     ghost Value = { Held };
 
@@ -43,7 +43,7 @@ pub struct Running {
 }
 
 impl Model for Running {
-    ghost use Rattle.frame_state.specs.Held.{Held};
+    ghost use Rattle.frame_state.specs.inside.Held.{Held};
 
     ghost Value = { Held };
 
@@ -56,7 +56,7 @@ pub struct Sealed {
 }
 
 impl Model for Sealed {
-    ghost use Rattle.frame_state.specs.Held.{Held};
+    ghost use Rattle.frame_state.specs.inside.Held.{Held};
 
     ghost Value = { Held };
 

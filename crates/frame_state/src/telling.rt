@@ -6,8 +6,8 @@ ghost use Rattle.trips_isa.specs.declared.block.Block.{Block};
 ghost use Rattle.base.specs.Rows.{has_bit};
 ghost use Rattle.commit_flush_spec.specs.Frames.{at};
 ghost use Rattle.commit_flush_spec.specs.Memory as memory;
-ghost use Rattle.frame_state.specs.Held.{taken_of, taken_if, all_taken, exit_of, running};
-ghost use Rattle.frame_state.specs.Shapes.{IsShape, is_ready};
+ghost use Rattle.frame_state.specs.inside.Held.{taken_of, taken_if, all_taken, exit_of, running};
+ghost use Rattle.frame_state.specs.inside.Shapes.{IsShape, is_ready};
 
 use crate::body::Body;
 use crate::parts::{Departure, Took};

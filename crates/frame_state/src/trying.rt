@@ -4,12 +4,12 @@ ghost use Rattle.commit_flush_spec.specs.Causes as causes;
 ghost use Rattle.commit_flush_spec.specs.Older.{Older};
 ghost use Rattle.commit_flush_spec.specs.Frames.{at, target};
 ghost use Rattle.commit_flush_spec.specs.Dataflow.{can_fire, can_deliver, fire, deliver};
-ghost use Rattle.commit_flush_spec.specs.Laws.{IsFree};
-ghost use Rattle.frame_state.specs.Held.{Stays, running};
+ghost use Rattle.commit_flush_spec.specs.inside.Laws.{IsFree};
+ghost use Rattle.frame_state.specs.inside.Held.{Stays, running};
 ghost use Rattle.frame_state.specs.Events.{as_happened};
-ghost use Rattle.frame_state.specs.Phases.{HasBlock, Keeps, answered, changed, frame_in};
-ghost use Rattle.frame_state.specs.Told.{register_to, token_in, write_at};
-ghost use Rattle.frame_state.specs.Tried.{IsFreeIn, Leaves, arrived, tried};
+ghost use Rattle.frame_state.specs.inside.Phases.{HasBlock, Keeps, answered, changed, frame_in};
+ghost use Rattle.frame_state.specs.inside.Told.{register_to, token_in, write_at};
+ghost use Rattle.frame_state.specs.inside.Tried.{IsFreeIn, Leaves, arrived, tried};
 
 use crate::answers::is_target;
 use crate::event::{Cause, Happened};

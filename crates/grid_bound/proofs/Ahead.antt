@@ -13,8 +13,8 @@ use Rattle.commit_flush_spec.specs.Memory.{load, store}
 use Rattle.commit_flush_spec.specs.Ends.{exit, seal}
 use Rattle.commit_flush_spec.specs.Window.{Window, Event, change, alone, can, done, if_done, happens}
 use Rattle.commit_flush_spec.specs.Window as window
-use Rattle.commit_flush_spec.specs.Laws.{AreNumbers, WindowOk}
-use Rattle.grid_bound.specs.Behind.{Apart}
+use Rattle.commit_flush_spec.specs.inside.Laws.{AreNumbers, WindowOk}
+use Rattle.grid_bound.specs.inside.Behind.{Apart}
 
 -- tests of numbers --------------------------------------------------------------------------------
 

@@ -7,19 +7,19 @@ use Rattle.trips_isa.specs.declared.block.Block.{Block}
 use Rattle.trips_isa.specs.declared.run.Stepped.TheVariants as stepped
 use Rattle.trips_isa.specs.Rule.{Answer}
 use Rattle.commit_flush_spec.specs.Frames.{Frame}
-use Rattle.commit_flush_spec.specs.Invariant.{AllGood}
-use Rattle.commit_flush_spec.specs.Laws.{WindowOk}
+use Rattle.commit_flush_spec.specs.inside.Invariant.{AllGood}
+use Rattle.commit_flush_spec.specs.inside.Laws.{WindowOk}
 use Rattle.grid_cycle_spec.specs.Stations.{bank_of}
 use Rattle.grid_cycle_spec.specs.Grid.{Grid}
 use Rattle.grid_cycle_spec.specs.Choosing.{eldest, each, reads}
 use Rattle.grid_cycle_spec.specs.Banks.{answers_read, bank_turn, reads_answered}
-use Rattle.grid_bound.specs.Course.{Task}
-use Rattle.grid_bound.specs.Lane.{Front, unread}
-use Rattle.grid_bound.specs.Sending.{pick, none_busy, station_of, sent_from, reads_front}
-use Rattle.grid_bound.specs.Blocks.{read_task, course_of}
-use Rattle.grid_bound.specs.Seen.{front_of}
+use Rattle.grid_bound.specs.inside.Course.{Task}
+use Rattle.grid_bound.specs.inside.Lane.{Front, unread}
+use Rattle.grid_bound.specs.inside.Sending.{pick, none_busy, station_of, sent_from, reads_front}
+use Rattle.grid_bound.specs.inside.Blocks.{read_task, course_of}
+use Rattle.grid_bound.specs.inside.Seen.{front_of}
 use Rattle.grid_bound.proofs.Sizes.{read_is}
-use Rattle.grid_bound.specs.Shows.{Shows, QuietReads}
+use Rattle.grid_bound.specs.inside.Shows.{Shows, QuietReads}
 use Rattle.grid_bound.proofs.Walk.{each_keeps, read_keeps}
 use Rattle.grid_bound.proofs.Steady.{Onward, steady}
 use Rattle.grid_bound.proofs.Fronts.{same_front}

@@ -4,16 +4,16 @@ use Rattle.trips_isa.specs.declared.block.Block.{Block}
 use Rattle.trips_isa.specs.declared.run.Stepped.TheVariants as stepped
 use Rattle.commit_flush_spec.specs.Frames.{Frame, numbers}
 use Rattle.commit_flush_spec.specs.Older.{Older, committed}
-use Rattle.commit_flush_spec.specs.Invariant.{AllGood}
-use Rattle.commit_flush_spec.specs.Laws.{WindowOk}
+use Rattle.commit_flush_spec.specs.inside.Invariant.{AllGood}
+use Rattle.commit_flush_spec.specs.inside.Laws.{WindowOk}
 use Rattle.grid_cycle_spec.specs.Grid.{Grid}
 use Rattle.grid_cycle_spec.specs.Choosing.{eldest, each}
 use Rattle.grid_cycle_spec.specs.DataTiles.{answers_request, answer_chosen, data_turn}
-use Rattle.grid_bound.specs.Lane.{Stage, Running, Fetching}
-use Rattle.grid_bound.specs.Answering.{TileAnswers, TilesAnswer}
-use Rattle.grid_bound.specs.Blocks.{course_of}
-use Rattle.grid_bound.specs.Seen.{front_of}
-use Rattle.grid_bound.specs.DataRule.{DataRule}
+use Rattle.grid_bound.specs.inside.Lane.{Stage, Running, Fetching}
+use Rattle.grid_bound.specs.inside.Answering.{TileAnswers, TilesAnswer}
+use Rattle.grid_bound.specs.inside.Blocks.{course_of}
+use Rattle.grid_bound.specs.inside.Seen.{front_of}
+use Rattle.grid_bound.specs.inside.DataRule.{DataRule}
 use Rattle.grid_bound.proofs.Steady.{Onward, steady}
 use Rattle.grid_bound.proofs.Walk.{each_keeps, chosen_keeps}
 use Rattle.grid_bound.proofs.FrameTable.{told}

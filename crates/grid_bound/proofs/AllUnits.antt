@@ -6,20 +6,21 @@ use Rattle.std.proofs.lemmas.Bool.{cond-true, cond-false, lt-ltb, le-ltb}
 use Rattle.trips_isa.specs.declared.block.Block.{Block}
 use Rattle.trips_isa.specs.declared.run.Stepped.TheVariants as stepped
 use Rattle.trips_isa.specs.Rule.{Answer}
-use Rattle.trips_isa.specs.Blocks.{Responses, Solves, at_place}
+use Rattle.trips_isa.specs.Blocks.{Responses, at_place}
+use Rattle.trips_isa.specs.inside.Blocks.{Solves}
 use Rattle.commit_flush_spec.specs.Frames.{Frame, at}
-use Rattle.commit_flush_spec.specs.Invariant.{Below, AllGood}
-use Rattle.commit_flush_spec.specs.Laws.{WindowOk}
+use Rattle.commit_flush_spec.specs.inside.Invariant.{Below, AllGood}
+use Rattle.commit_flush_spec.specs.inside.Laws.{WindowOk}
 use Rattle.grid_cycle_spec.specs.Grid.{Grid}
 use Rattle.grid_cycle_spec.specs.Choosing.{each}
 use Rattle.grid_cycle_spec.specs.Units.{unit_turn}
-use Rattle.grid_bound.specs.Course.{Good}
-use Rattle.grid_bound.specs.Lane.{Front}
-use Rattle.grid_bound.specs.Sending.{tile_of as lane_tile}
-use Rattle.grid_bound.specs.Turning.{less_one, finish_front, issue_front, units_after}
-use Rattle.grid_bound.specs.Blocks.{course_of}
-use Rattle.grid_bound.specs.Seen.{front_of}
-use Rattle.grid_bound.specs.UnitRule.{UnitRule}
+use Rattle.grid_bound.specs.inside.Course.{Good}
+use Rattle.grid_bound.specs.inside.Lane.{Front}
+use Rattle.grid_bound.specs.inside.Sending.{tile_of as lane_tile}
+use Rattle.grid_bound.specs.inside.Turning.{less_one, finish_front, issue_front, units_after}
+use Rattle.grid_bound.specs.inside.Blocks.{course_of}
+use Rattle.grid_bound.specs.inside.Seen.{front_of}
+use Rattle.grid_bound.specs.inside.UnitRule.{UnitRule}
 use Rattle.grid_bound.proofs.Steady.{Onward, steady}
 use Rattle.grid_bound.proofs.Walk.{each_keeps, turn_keeps}
 use Rattle.grid_bound.proofs.Fronts.{same_front}

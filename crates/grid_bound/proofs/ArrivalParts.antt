@@ -13,7 +13,7 @@ use Rattle.trips_isa.specs.Forms.{form_of, is_load}
 use Rattle.block_cases.specs.Orders.{slot_of}
 use Rattle.operand_net.specs.declared.parcel.Stand.TheVariants.{Nowhere}
 use Rattle.operand_net.specs.Places.{Places, put}
-use Rattle.operand_net.specs.IsStands.{is_here}
+use Rattle.operand_net.specs.inside.IsStands.{is_here}
 use Rattle.commit_flush_spec.specs.Marks.{mark_delivered}
 use Rattle.commit_flush_spec.specs.Frames.{Frame, Exit, at, target, is_target, token_places}
 use Rattle.commit_flush_spec.specs.Older.{Older, committed, successor_of}
@@ -23,18 +23,18 @@ use Rattle.commit_flush_spec.specs.Ends.{can_exit, exit, exit_by, branch_of, bra
 use Rattle.commit_flush_spec.specs.Ends as ends
 use Rattle.commit_flush_spec.specs.Window.{Window, Deliver, can, happens}
 use Rattle.commit_flush_spec.specs.Window as window
-use Rattle.commit_flush_spec.specs.Invariant.{AllGood, FrameOk}
+use Rattle.commit_flush_spec.specs.inside.Invariant.{AllGood, FrameOk}
 use Rattle.commit_flush_spec.proofs.Committing.{both_true}
 use Rattle.commit_flush_spec.proofs.Flow.{some_of}
 use Rattle.commit_flush_spec.proofs.Numbers.{nums}
 use Rattle.commit_flush_spec.proofs.Search.{clear, not_none}
 use Rattle.grid_cycle_spec.specs.Grid.{Grid}
 use Rattle.grid_cycle_spec.specs.Acting.{act}
-use Rattle.grid_cycle_spec.specs.Choosing.{places}
-use Rattle.grid_cycle_spec.specs.Arrivals.{asks, delivers, is_waiting, slot_arrives, inst_arrives}
-use Rattle.grid_cycle_spec.specs.Arrivals.{place_arrives}
-use Rattle.grid_bound.specs.UnderWay.{form_travels, Tied, to_come}
-use Rattle.grid_bound.specs.Rule.{EachFrame, FrameRule, HeldFrom}
+use Rattle.grid_cycle_spec.specs.inside.Choosing.{places}
+use Rattle.grid_cycle_spec.specs.inside.Arrivals.{asks, delivers, is_waiting, slot_arrives, inst_arrives}
+use Rattle.grid_cycle_spec.specs.inside.Arrivals.{place_arrives}
+use Rattle.grid_bound.specs.inside.UnderWay.{form_travels, Tied, to_come}
+use Rattle.grid_bound.specs.inside.Rule.{EachFrame, FrameRule, HeldFrom}
 use Rattle.grid_bound.proofs.EachFrame.{FrameAt, answered_at, apart, changed_at}
 use Rattle.grid_bound.proofs.EachFrame.{each_front, each_join, each_rest}
 use Rattle.grid_bound.proofs.EachFrame.{own_at, same}

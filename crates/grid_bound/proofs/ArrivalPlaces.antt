@@ -7,14 +7,16 @@ use Rattle.trips_isa.specs.declared.block.Block.{Block}
 use Rattle.operand_net.specs.declared.parcel.Parcel.{Parcel}
 use Rattle.operand_net.specs.declared.parcel.Stand.{Stand}
 use Rattle.operand_net.specs.declared.parcel.Stand.TheVariants.{Nowhere, Away, Held}
-use Rattle.operand_net.specs.Places.{come, put}
-use Rattle.operand_net.specs.IsStands.{is_here}
+use Rattle.operand_net.specs.Places.{put}
+use Rattle.operand_net.specs.inside.Places.{come}
+use Rattle.operand_net.specs.inside.IsStands.{is_here}
 use Rattle.commit_flush_spec.specs.Window as window
-use Rattle.commit_flush_spec.specs.Invariant.{AllGood}
+use Rattle.commit_flush_spec.specs.inside.Invariant.{AllGood}
 use Rattle.grid_cycle_spec.specs.Grid.{Grid}
-use Rattle.grid_cycle_spec.specs.Choosing.{each, places, with_frame}
-use Rattle.grid_cycle_spec.specs.Arrivals.{place_arrives, arrives_if, arrival, arrivals}
-use Rattle.grid_bound.specs.Rule.{runs_in}
+use Rattle.grid_cycle_spec.specs.Choosing.{each, with_frame}
+use Rattle.grid_cycle_spec.specs.inside.Choosing.{places}
+use Rattle.grid_cycle_spec.specs.inside.Arrivals.{place_arrives, arrives_if, arrival, arrivals}
+use Rattle.grid_bound.specs.inside.Rule.{runs_in}
 use Rattle.grid_bound.proofs.EachFrame.{find_at}
 use Rattle.grid_bound.proofs.EachFrame.{runs_are, with_at}
 use Rattle.grid_bound.proofs.GoingGrids.{Going}

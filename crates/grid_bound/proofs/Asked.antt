@@ -5,22 +5,22 @@ use Rattle.trips_isa.specs.declared.block.Block.{Block}
 use Rattle.trips_isa.specs.declared.run.Stepped.TheVariants.{Went}
 use Rattle.commit_flush_spec.specs.Frames.{Frame}
 use Rattle.commit_flush_spec.specs.Older.{after_all, committed, follows}
-use Rattle.commit_flush_spec.specs.Invariant.{AllGood, FrameOk, FramesOk}
-use Rattle.commit_flush_spec.specs.Laws.{WindowOk}
-use Rattle.commit_flush_spec.specs.Work.{none_guessed}
+use Rattle.commit_flush_spec.specs.inside.Invariant.{AllGood, FrameOk, FramesOk}
+use Rattle.commit_flush_spec.specs.inside.Laws.{WindowOk}
+use Rattle.commit_flush_spec.specs.inside.Work.{none_guessed}
 use Rattle.grid_cycle_spec.specs.Grid.{Grid, Fetching}
 use Rattle.grid_cycle_spec.specs.Acting.{known_next}
 use Rattle.grid_cycle_spec.specs.Choosing.{each}
 use Rattle.grid_cycle_spec.specs.Banks.{reads_answered}
 use Rattle.grid_cycle_spec.specs.DataTiles.{data_turn, answers}
 use Rattle.grid_cycle_spec.specs.Units.{unit_turn, works_on}
-use Rattle.grid_bound.specs.Shows.{IsDue, QuietReads}
-use Rattle.grid_bound.specs.DataRule.{DataRule}
-use Rattle.grid_bound.specs.UnitRule.{UnitRule}
-use Rattle.grid_bound.specs.MoveRule.{MoveRule}
-use Rattle.grid_bound.specs.CycleRule.{CycleRule}
-use Rattle.grid_bound.specs.UnderWay.{Tied}
-use Rattle.grid_bound.specs.Rule.{EachFrame, FetchRule, FrameRule, GridRule}
+use Rattle.grid_bound.specs.inside.Shows.{IsDue, QuietReads}
+use Rattle.grid_bound.specs.inside.DataRule.{DataRule}
+use Rattle.grid_bound.specs.inside.UnitRule.{UnitRule}
+use Rattle.grid_bound.specs.inside.MoveRule.{MoveRule}
+use Rattle.grid_bound.specs.inside.CycleRule.{CycleRule}
+use Rattle.grid_bound.specs.inside.UnderWay.{Tied}
+use Rattle.grid_bound.specs.inside.Rule.{EachFrame, FetchRule, FrameRule, GridRule}
 use Rattle.grid_bound.proofs.Ties.{ties_of}
 use Rattle.grid_bound.proofs.BankParts.{banks_going}
 use Rattle.grid_bound.proofs.DataParts.{answers_going, data_turns_going}

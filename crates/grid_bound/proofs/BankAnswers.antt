@@ -26,8 +26,8 @@ use Rattle.commit_flush_spec.specs.Frames.{Frame, at, target, is_target}
 use Rattle.commit_flush_spec.specs.Older.{Older, committed}
 use Rattle.commit_flush_spec.specs.Sending.{send, token_with}
 use Rattle.commit_flush_spec.specs.Dataflow.{can_read, read, read_seen, read_answered}
-use Rattle.commit_flush_spec.specs.Invariant.{AllGood, FrameOk, has_sent}
-use Rattle.commit_flush_spec.specs.Laws.{WindowOk}
+use Rattle.commit_flush_spec.specs.inside.Invariant.{AllGood, FrameOk, has_sent}
+use Rattle.commit_flush_spec.specs.inside.Laws.{WindowOk}
 use Rattle.commit_flush_spec.specs.Window.{Window, alone, change, can, can_now, unless_over, done, happens}
 use Rattle.commit_flush_spec.specs.Window as window
 use Rattle.commit_flush_spec.proofs.Events.{taken}
@@ -35,8 +35,8 @@ use Rattle.commit_flush_spec.proofs.Lists.{flag_here, none_or}
 use Rattle.commit_flush_spec.proofs.Sends.{read_sends}
 use Rattle.commit_flush_spec.proofs.Tokens.{read_got}
 use Rattle.commit_flush_spec.proofs.Tokens as tokens
-use Rattle.commit_flush_spec.specs.NextEvent as next
-use Rattle.commit_flush_spec.specs.Observers.{is_unread}
+use Rattle.commit_flush_spec.specs.inside.NextEvent as next
+use Rattle.commit_flush_spec.specs.inside.Observers.{is_unread}
 use Rattle.commit_flush_spec.proofs.Bits.{unread_tells}
 use Rattle.commit_flush_spec.proofs.Search.{done_is}
 use Rattle.commit_flush_spec.proofs.FramesSeen.{change_oldest}
@@ -47,16 +47,16 @@ use Rattle.grid_cycle_spec.specs.Acting.{is_done, may}
 use Rattle.grid_cycle_spec.specs.Choosing.{least, eldest, found_in, reads, with_frame}
 use Rattle.grid_cycle_spec.specs.Sending.{enter_both}
 use Rattle.grid_cycle_spec.specs.Banks.{bank_in, is_bank, answers_read, read_chosen, bank_turn}
-use Rattle.grid_bound.specs.Course.{Course, Task, is_reading}
-use Rattle.grid_bound.specs.Lane.{any, Sent, Front, is_idle, unread}
-use Rattle.grid_bound.specs.Sending.{pick, none_busy, station_of, launch, sent_from}
-use Rattle.grid_bound.specs.Blocks.{slot_tasks, kind_of, slot_task, read_task, target_at, course_of}
-use Rattle.grid_bound.specs.Seen.{read_phase, phase_of, front_of}
+use Rattle.grid_bound.specs.inside.Course.{Course, Task, is_reading}
+use Rattle.grid_bound.specs.inside.Lane.{any, Sent, Front, is_idle, unread}
+use Rattle.grid_bound.specs.inside.Sending.{pick, none_busy, station_of, launch, sent_from}
+use Rattle.grid_bound.specs.inside.Blocks.{slot_tasks, kind_of, slot_task, read_task, target_at, course_of}
+use Rattle.grid_bound.specs.inside.Seen.{read_phase, phase_of, front_of}
 use Rattle.grid_bound.proofs.Counting.{any_from}
 use Rattle.grid_bound.proofs.Seen.{unread_seen}
 use Rattle.grid_bound.proofs.Sizes.{slot_tasks_is, slot_is, read_is}
-use Rattle.grid_bound.specs.Behind.{Behind}
-use Rattle.grid_bound.specs.Shows.{QuietReads}
+use Rattle.grid_bound.specs.inside.Behind.{Behind}
+use Rattle.grid_bound.specs.inside.Shows.{QuietReads}
 use Rattle.grid_bound.proofs.Ahead.{same_number, younger_apart}
 use Rattle.grid_bound.proofs.Others.{behind_at, read_other}
 use Rattle.grid_bound.proofs.OldestEnds.{asks_oldest, oldest_ok}

@@ -10,7 +10,7 @@ use Rattle.commit_flush_spec.specs.Older.{Older, committed}
 use Rattle.commit_flush_spec.specs.Causes.{NoFrame, Done, NotNow}
 use Rattle.commit_flush_spec.specs.Dataflow.{can_read, read}
 use Rattle.commit_flush_spec.specs.Window.{Window, Read, can, can_now}
-use Rattle.commit_flush_spec.specs.Invariant.{AllGood, FrameOk}
+use Rattle.commit_flush_spec.specs.inside.Invariant.{AllGood, FrameOk}
 use Rattle.commit_flush_spec.proofs.Committing.{both_true}
 use Rattle.commit_flush_spec.proofs.Frames.{not_now}
 use Rattle.grid_cycle_spec.specs.Stations.{bank_node}
@@ -23,7 +23,7 @@ use Rattle.grid_bound.proofs.FrameRules.{Reads, Sent, read_sends}
 use Rattle.grid_bound.proofs.EventRules.{went}
 use Rattle.grid_bound.proofs.FrameRules as frame_rules
 use Rattle.grid_bound.proofs.Travels.{IsPlace, come_by, read_travels}
-use Rattle.grid_bound.specs.UnderWay.{Tied}
+use Rattle.grid_bound.specs.inside.UnderWay.{Tied}
 use Rattle.grid_bound.proofs.Entered.{Entered, both_enter, enters_at}
 use Rattle.grid_bound.proofs.TiedFrames.{sent_tied}
 use Rattle.grid_bound.proofs.GoingGrids.{Going, Moved, alone_is, done_is}

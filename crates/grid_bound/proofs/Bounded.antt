@@ -4,18 +4,18 @@ use Rattle.std.proofs.Common.{arith}
 use Rattle.trips_isa.specs.declared.block.Block.{Block}
 use Rattle.trips_isa.specs.declared.run.Stepped.TheVariants as stepped
 use Rattle.trips_isa.specs.Limits.{most_nodes}
-use Rattle.commit_flush_spec.specs.Invariant.{AllGood}
+use Rattle.commit_flush_spec.specs.inside.Invariant.{AllGood}
 use Rattle.grid_cycle_spec.specs.Grid.{Grid}
 use Rattle.grid_cycle_spec.specs.Cycles.{Eager}
 use Rattle.grid_cycle_spec.specs.Costs.{greatest_cost}
-use Rattle.grid_bound.specs.Left.{left, price, total}
-use Rattle.grid_bound.specs.Laws.{LaneRule, AfterServed}
-use Rattle.grid_bound.specs.Serving.{Served}
+use Rattle.grid_bound.specs.inside.Left.{left, price, total}
+use Rattle.grid_bound.specs.inside.Laws.{LaneRule, AfterServed}
+use Rattle.grid_bound.specs.inside.Serving.{Served}
 use Rattle.grid_bound.proofs.Served.{left_some}
 use Rattle.grid_bound.proofs.Bounds.{after_served, at_a_commit}
-use Rattle.grid_bound.specs.Lanes.{lane_in}
-use Rattle.grid_bound.specs.Runs.{Stands, AfterStanding}
-use Rattle.grid_bound.specs.Shows.{Traps}
+use Rattle.grid_bound.specs.inside.Lanes.{lane_in}
+use Rattle.grid_bound.specs.inside.Runs.{Stands, AfterStanding}
+use Rattle.grid_bound.specs.inside.Shows.{Traps}
 use Rattle.grid_bound.proofs.EagerFirst as eager
 
 -- blocks of at most `most_nodes` tasks

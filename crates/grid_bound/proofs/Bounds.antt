@@ -1,8 +1,8 @@
 -- Runs of served cycles.
 use Rattle.std.proofs.Common.{◌≡◌, ℕ, zero, suc, ◌+◌, ◌<◌, ◌≤◌, inl, inr, sym, ap, subst, arith}
-use Rattle.grid_bound.specs.Lane.{Lane}
-use Rattle.grid_bound.specs.Left.{left, price, total}
-use Rattle.grid_bound.specs.Laws.{LaneRule, Falls, AfterServed}
+use Rattle.grid_bound.specs.inside.Lane.{Lane}
+use Rattle.grid_bound.specs.inside.Left.{left, price, total}
+use Rattle.grid_bound.specs.inside.Laws.{LaneRule, Falls, AfterServed}
 use Rattle.grid_bound.proofs.Served.{left_some, left_most, served_falls}
 
 -- the bound of a lane after n cycles

@@ -4,9 +4,9 @@ use Rattle.std.proofs.Common.{List, [], ◌∷◌, Option, Some, None, refl, sym
 use Rattle.std.proofs.lemmas.Bool.{cases_eq, both_ways, false_from_ne_true}
 use Rattle.commit_flush_spec.specs.Frames.{Frame}
 use Rattle.grid_cycle_spec.specs.Choosing.{least, found_in, eldest}
-use Rattle.grid_bound.specs.Lane.{any}
+use Rattle.grid_bound.specs.inside.Lane.{any}
 use Rattle.grid_bound.proofs.Counting.{any_true}
-use Rattle.grid_bound.specs.Behind.{Apart}
+use Rattle.grid_bound.specs.inside.Behind.{Apart}
 
 -- the least number below n that passes
 pub record IsLeast (test : ℕ → Bool) (n j : ℕ) : Type 0 where

@@ -8,22 +8,24 @@ use Rattle.trips_isa.specs.Machine.{State, runs}
 use Rattle.trips_isa.specs.Limits.{most_nodes}
 use Rattle.block_predict.specs.Predicts.{Holding}
 use Rattle.commit_flush_spec.specs.InFlight.{opened}
-use Rattle.commit_flush_spec.specs.Invariant.{AllGood}
-use Rattle.commit_flush_spec.specs.Laws.{WindowOk, TakesSteps}
+use Rattle.commit_flush_spec.specs.inside.Invariant.{AllGood}
+use Rattle.commit_flush_spec.specs.Laws.{TakesSteps}
+use Rattle.commit_flush_spec.specs.inside.Laws.{WindowOk}
 use Rattle.grid_cycle_spec.specs.Costs.{size, cost, cost_in, cost_of, greatest, greatest_cost}
 use Rattle.grid_cycle_spec.specs.Grid.{Grid}
-use Rattle.grid_cycle_spec.specs.Cycles.{Eager, AfterCycles, begun_at}
+use Rattle.grid_cycle_spec.specs.Cycles.{Eager, begun_at}
+use Rattle.grid_cycle_spec.specs.inside.Cycles.{AfterCycles}
 use Rattle.grid_cycle_spec.proofs.Routes.{cost_most}
 use Rattle.grid_cycle_spec.proofs.Agreeing.{takes_steps}
 use Rattle.grid_cycle_spec.proofs.Events.{cycles_steps}
-use Rattle.grid_bound.specs.Left.{left, price, total}
-use Rattle.grid_bound.specs.Programs.{size_in, sizes_from}
+use Rattle.grid_bound.specs.inside.Left.{left, price, total}
+use Rattle.grid_bound.specs.inside.Programs.{size_in, sizes_from}
 use Rattle.grid_bound.proofs.Programs.{trace_costs}
 use Rattle.grid_bound.proofs.Served.{left_some}
-use Rattle.grid_bound.specs.Lanes.{lane_in}
-use Rattle.grid_bound.specs.Runs.{Stands, AfterStanding}
+use Rattle.grid_bound.specs.inside.Lanes.{lane_in}
+use Rattle.grid_bound.specs.inside.Runs.{Stands, AfterStanding}
 use Rattle.grid_bound.proofs.Bounded as bounded
-use Rattle.grid_bound.specs.GoesOn.{GoesOn}
+use Rattle.grid_bound.specs.inside.GoesOn.{GoesOn}
 use Rattle.grid_bound.proofs.CycleGrows.{steps}
 use Rattle.grid_bound.proofs.GridsOfRuns.{reached_state, all_stand, stands}
 

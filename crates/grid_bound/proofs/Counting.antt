@@ -3,9 +3,9 @@ use Rattle.std.proofs.Common.{◌≡◌, ℕ, zero, suc, ◌+◌, ◌<◌, ◌�
 use Rattle.std.proofs.Common.{inl, inr, refl, sym, ap, ◌∙◌, subst, arith}
 use Rattle.std.proofs.lemmas.Bool.{and_parts, or_cases, and_from, or_left, or_right, cases_Bool, eqb-true, eq-eqb}
 use Rattle.std.proofs.lemmas.Bool.{cases_eq, not-true}
-use Rattle.grid_bound.specs.Course.{sum}
-use Rattle.grid_bound.specs.Lane.{any}
-use Rattle.grid_bound.specs.Sending.{found, pick}
+use Rattle.grid_bound.specs.inside.Course.{sum}
+use Rattle.grid_bound.specs.inside.Lane.{any}
+use Rattle.grid_bound.specs.inside.Sending.{found, pick}
 
 -- where any number passes there is one
 pub any_true : (n : ℕ) (p : ℕ → Bool) → any n p ≡ true → (x : ℕ) × (x < n) × (p x ≡ true)

@@ -20,9 +20,9 @@ use Rattle.trips_isa.specs.Fits.{FitsRead}
 use Rattle.trips_isa.specs.Rule.{Answer, matched, gives, if_matched}
 use Rattle.trips_isa.specs.Places.{targets, names, load_bound, in_mask}
 use Rattle.trips_isa.specs.Tables.{first, or_else, taken, stores_below}
-use Rattle.grid_bound.specs.Course.{Member}
-use Rattle.grid_bound.specs.Blocks.{if_so, numbers_in}
-use Rattle.grid_bound.specs.Blocks.{writes_of}
+use Rattle.grid_bound.specs.inside.Course.{Member}
+use Rattle.grid_bound.specs.inside.Blocks.{if_so, numbers_in}
+use Rattle.grid_bound.specs.inside.Blocks.{writes_of}
 
 -- spots -------------------------------------------------------------------------------------------
 

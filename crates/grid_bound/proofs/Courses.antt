@@ -19,25 +19,26 @@ use Rattle.trips_isa.specs.Places.{nodes_of, inst_node, read_node, targets, name
 use Rattle.trips_isa.specs.Places.{place_at}
 use Rattle.trips_isa.specs.Places.{first_place}
 use Rattle.trips_isa.specs.Tables.{node_gives, first, stores_below, Edge, Ranked}
-use Rattle.trips_isa.specs.Blocks.{Responses, Solves, at_place, computes}
+use Rattle.trips_isa.specs.Blocks.{Responses, at_place, computes}
+use Rattle.trips_isa.specs.inside.Blocks.{Solves}
 use Rattle.trips_isa.specs.Limits.{most_nodes}
 use Rattle.block_cases.specs.Orders.{slot_of}
-use Rattle.block_cases.specs.Good.{NamesPlace, OneToken}
+use Rattle.block_cases.specs.inside.Good.{NamesPlace, OneToken}
 use Rattle.block_cases.specs.Blocks.{wanted_of}
-use Rattle.block_cases.specs.Shapes.{shape}
+use Rattle.block_cases.specs.inside.Shapes.{shape}
 use Rattle.block_cases.proofs.Steady.{to_left, to_right, to_predicate, or_right}
 use Rattle.block_check.proofs.Spots.{owed_wanted, mask_below, lt_true}
 use Rattle.commit_flush_spec.specs.Frames.{slot_node, is_target}
-use Rattle.commit_flush_spec.specs.Invariant.{IsRunnable}
+use Rattle.commit_flush_spec.specs.inside.Invariant.{IsRunnable}
 use Rattle.commit_flush_spec.proofs.Tokens.{inst_in, one_law}
 use Rattle.commit_flush_spec.proofs.Stored.{inst_fits}
 use Rattle.commit_flush_spec.proofs.Producers.{IsNode, AtRead, AtSlot, a_node, node_of_slot, node_of_read, named_or}
 use Rattle.commit_flush_spec.proofs.Producers.{NamesOutput, slot_names, read_names, giver}
 use Rattle.grid_cycle_spec.specs.Stations.{data_node, home}
 use Rattle.grid_cycle_spec.specs.DataTiles.{tile_by}
-use Rattle.grid_bound.specs.Course.{Task, Course, Member, Hits, Fed, Good}
-use Rattle.grid_bound.specs.Blocks.{slot_tasks, if_so, needs_of, numbers_in, waits_of, target_at, first_of}
-use Rattle.grid_bound.specs.Blocks.{slot_task, read_task, task_of, writes_of, outputs_of, course_of}
+use Rattle.grid_bound.specs.inside.Course.{Task, Course, Member, Hits, Fed, Good}
+use Rattle.grid_bound.specs.inside.Blocks.{slot_tasks, if_so, needs_of, numbers_in, waits_of, target_at, first_of}
+use Rattle.grid_bound.specs.inside.Blocks.{slot_task, read_task, task_of, writes_of, outputs_of, course_of}
 use Rattle.grid_bound.proofs.Sizes.{slot_tasks_is, room_is, slot_is, read_is}
 use Rattle.grid_bound.proofs.Tasks.{tasks_good}
 use Rattle.grid_bound.proofs.CourseSpots.{member_if, member_both, NumberOf, a_number, a_write, gives_left}

@@ -8,7 +8,7 @@ use Rattle.trips_isa.specs.declared.run.Stepped.{Stepped}
 use Rattle.trips_isa.specs.declared.run.Stepped.TheVariants as stepped
 use Rattle.commit_flush_spec.specs.Frames.{Frame, Exit}
 use Rattle.commit_flush_spec.specs.Window.{Window, Event, Commit, can_now, done, happens, if_done, plays, unless_over}
-use Rattle.grid_cycle_spec.specs.Laws.{ByEvents}
+use Rattle.grid_cycle_spec.specs.inside.Laws.{ByEvents}
 use Rattle.grid_cycle_spec.specs.Grid.{Grid}
 use Rattle.grid_cycle_spec.specs.Acting.{flushed, gone}
 use Rattle.grid_cycle_spec.specs.Ends.{one_committed, learning, committed_as, commit_in}

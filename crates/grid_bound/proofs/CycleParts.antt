@@ -3,15 +3,16 @@ use Rattle.std.proofs.Common.{◌≡◌, ℕ, zero, suc, ◌≤◌, refl, sym, s
 use Rattle.trips_isa.specs.declared.block.Block.{Block}
 use Rattle.trips_isa.specs.declared.run.Stepped.{Stepped}
 use Rattle.trips_isa.specs.declared.run.Stepped.TheVariants as stepped
-use Rattle.commit_flush_spec.specs.Invariant.{AllGood}
-use Rattle.commit_flush_spec.specs.Laws.{WindowOk}
+use Rattle.commit_flush_spec.specs.inside.Invariant.{AllGood}
+use Rattle.commit_flush_spec.specs.inside.Laws.{WindowOk}
 use Rattle.grid_cycle_spec.specs.Grid.{Grid}
 use Rattle.grid_cycle_spec.specs.Ends.{ends}
 use Rattle.grid_cycle_spec.specs.Fetches.{fetches}
 use Rattle.grid_cycle_spec.specs.Banks.{reads_answered}
 use Rattle.grid_cycle_spec.specs.DataTiles.{answers}
-use Rattle.grid_cycle_spec.specs.Cycles.{acts, counted, Eager, Follows, AfterCycles}
-use Rattle.grid_bound.specs.Rule.{GridRule}
+use Rattle.grid_cycle_spec.specs.Cycles.{acts, counted, Eager, Follows}
+use Rattle.grid_cycle_spec.specs.inside.Cycles.{AfterCycles}
+use Rattle.grid_bound.specs.inside.Rule.{GridRule}
 use Rattle.grid_bound.proofs.Ties.{rule_of, ties_of}
 use Rattle.grid_bound.proofs.EndParts.{Ruled, ends_ruled}
 use Rattle.grid_bound.proofs.FetchParts.{fetches_going}

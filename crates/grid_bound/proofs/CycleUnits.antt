@@ -3,12 +3,12 @@ use Rattle.std.proofs.Common.{◌≡◌, ℕ, zero, suc, ◌+◌, ◌*◌, ◌<�
 use Rattle.std.proofs.Common.{inr, refl, sym, ap, ◌∙◌, subst, arith}
 use Rattle.std.proofs.lemmas.Bool.{and_parts, cond_both, cond-true, cond-false, eqb-true, cases_Bool, both_ways}
 use Rattle.std.proofs.lemmas.Bool.{lt-ltb, le-ltb, cases_lt}
-use Rattle.grid_bound.specs.Course.{Kind, Reading, Plain, Serving, is_reading, Task, GoodTask}
-use Rattle.grid_bound.specs.Lane.{Phase, Absent, Idle, Working, Asking, Standing, Sent, is_idle, Front}
-use Rattle.grid_bound.specs.Lane.{all_come, unissued, ready}
-use Rattle.grid_bound.specs.Sending.{tile_of, parcel, sent_from, result}
-use Rattle.grid_bound.specs.Turning.{finished, finish_front, busy, issued, issue_front, less_one}
-use Rattle.grid_bound.specs.Left.{parcel_left, task_left, wait_left, on_tile, count_on, tile_left, work}
+use Rattle.grid_bound.specs.inside.Course.{Kind, Reading, Plain, Serving, is_reading, Task, GoodTask}
+use Rattle.grid_bound.specs.inside.Lane.{Phase, Absent, Idle, Working, Asking, Standing, Sent, is_idle, Front}
+use Rattle.grid_bound.specs.inside.Lane.{all_come, unissued, ready}
+use Rattle.grid_bound.specs.inside.Sending.{tile_of, parcel, sent_from, result}
+use Rattle.grid_bound.specs.inside.Turning.{finished, finish_front, busy, issued, issue_front, less_one}
+use Rattle.grid_bound.specs.inside.Left.{parcel_left, task_left, wait_left, on_tile, count_on, tile_left, work}
 use Rattle.grid_bound.proofs.Counting.{any_true, chosen, pick_may, pick_free}
 use Rattle.grid_bound.proofs.Work.{wait_le, wait_cap, on, Low, on_le, on_drop, tile_more, on_tile_at}
 use Rattle.grid_bound.proofs.Work.{count_less, count_drop, ready_unissued, work_le, work_drop}

@@ -23,11 +23,11 @@ use Rattle.commit_flush_spec.specs.Memory.{can_load, load, can_store, store}
 use Rattle.commit_flush_spec.specs.Memory.{with_store, store_resolved, checked}
 use Rattle.commit_flush_spec.specs.Memory as memory
 use Rattle.commit_flush_spec.specs.Window.{Window, Load, Store, can, happens}
-use Rattle.commit_flush_spec.specs.Invariant.{AllGood, FrameOk, Asked}
+use Rattle.commit_flush_spec.specs.inside.Invariant.{AllGood, FrameOk, Asked}
 use Rattle.commit_flush_spec.proofs.Committing.{both_true}
 use Rattle.commit_flush_spec.proofs.Loads.{Stands}
 use Rattle.commit_flush_spec.proofs.Numbers.{nums}
-use Rattle.commit_flush_spec.specs.Observers.{has_number}
+use Rattle.commit_flush_spec.specs.inside.Observers.{has_number}
 use Rattle.commit_flush_spec.proofs.Guesses.{load_keeps, stores_keep}
 use Rattle.commit_flush_spec.proofs.Search.{clear}
 use Rattle.grid_cycle_spec.specs.Stations.{data_node, data_tile_of}
@@ -41,8 +41,8 @@ use Rattle.grid_cycle_spec.specs.DataTiles.{answers_request, unasked, load_answe
 use Rattle.grid_cycle_spec.specs.DataTiles.{by_block, wrong_load, waits_now, answered_by, answer_chosen, data_turn}
 use Rattle.grid_cycle_spec.specs.DataTiles.{answers}
 use Rattle.grid_cycle_spec.specs.DataTiles as data_tiles_spec
-use Rattle.grid_bound.specs.UnderWay.{Tied, to_come}
-use Rattle.grid_bound.specs.Rule.{EachFrame, FrameRule, Waits}
+use Rattle.grid_bound.specs.inside.UnderWay.{Tied, to_come}
+use Rattle.grid_bound.specs.inside.Rule.{EachFrame, FrameRule, Waits}
 use Rattle.grid_bound.proofs.EachFrame.{FrameAt, Chosen, answered_at}
 use Rattle.grid_bound.proofs.EachFrame.{changed_at, each_front, each_join, each_rest}
 use Rattle.grid_bound.proofs.EachFrame.{eldest_is, equal, moved_at, own_at, with_at}

@@ -11,33 +11,34 @@ use Rattle.trips_isa.specs.declared.form.Form.TheVariants as form
 use Rattle.trips_isa.specs.declared.run.Stepped.TheVariants as stepped
 use Rattle.trips_isa.specs.Forms.{form_of, is_load, is_store}
 use Rattle.trips_isa.specs.Rule.{Answer}
-use Rattle.trips_isa.specs.Blocks.{Solves, at_place}
+use Rattle.trips_isa.specs.Blocks.{at_place}
+use Rattle.trips_isa.specs.inside.Blocks.{Solves}
 use Rattle.commit_flush_spec.specs.Frames.{Frame, at, numbers}
 use Rattle.commit_flush_spec.specs.Older.{Older, committed}
 use Rattle.commit_flush_spec.specs.Memory.{request, with_inst, with_slot}
-use Rattle.commit_flush_spec.specs.Invariant.{Below, AllGood, FrameOk}
+use Rattle.commit_flush_spec.specs.inside.Invariant.{Below, AllGood, FrameOk}
 use Rattle.commit_flush_spec.proofs.Frames.{seen}
-use Rattle.commit_flush_spec.specs.Laws.{WindowOk}
+use Rattle.commit_flush_spec.specs.inside.Laws.{WindowOk}
 use Rattle.commit_flush_spec.specs.Window.{Window}
 use Rattle.commit_flush_spec.proofs.Stored.{number_small}
-use Rattle.commit_flush_spec.specs.Observers.{has_number}
+use Rattle.commit_flush_spec.specs.inside.Observers.{has_number}
 use Rattle.commit_flush_spec.proofs.Stuck.{numbers_are}
 use Rattle.grid_cycle_spec.specs.Grid.{Grid}
 use Rattle.grid_cycle_spec.specs.Choosing.{least, eldest, found_in, with_frame}
 use Rattle.grid_cycle_spec.specs.DataTiles.{tile_by, tile_for, asks_store, all_resolved, must_wait, may_answer}
 use Rattle.grid_cycle_spec.specs.DataTiles.{answers_request, answered_by, answer_chosen, data_turn}
-use Rattle.grid_bound.specs.Course.{Course, Task}
-use Rattle.grid_bound.specs.Lane.{any, all_come, Front, Stage, Running, is_standing, answerable}
-use Rattle.grid_bound.specs.Lane as lane
-use Rattle.grid_bound.specs.Sending.{station_of}
-use Rattle.grid_bound.specs.Answering.{answer_one, has_at, at_tile, Retold, TileAnswers}
-use Rattle.grid_bound.specs.Blocks.{room, numbers_in, slot_task, course_of}
-use Rattle.grid_bound.specs.Seen.{has_come, front_of, fetch_of}
+use Rattle.grid_bound.specs.inside.Course.{Course, Task}
+use Rattle.grid_bound.specs.inside.Lane.{any, all_come, Front, Stage, Running, is_standing, answerable}
+use Rattle.grid_bound.specs.inside.Lane as lane
+use Rattle.grid_bound.specs.inside.Sending.{station_of}
+use Rattle.grid_bound.specs.inside.Answering.{answer_one, has_at, at_tile, Retold, TileAnswers}
+use Rattle.grid_bound.specs.inside.Blocks.{room, numbers_in, slot_task, course_of}
+use Rattle.grid_bound.specs.inside.Seen.{has_come, front_of, fetch_of}
 use Rattle.grid_bound.proofs.Counting.{any_true}
 use Rattle.grid_bound.proofs.Seen.{numbers_seen}
 use Rattle.grid_bound.proofs.Sizes.{room_is, slot_is}
-use Rattle.grid_bound.specs.Behind.{Behind}
-use Rattle.grid_bound.specs.DataRule.{DataRule}
+use Rattle.grid_bound.specs.inside.Behind.{Behind}
+use Rattle.grid_bound.specs.inside.DataRule.{DataRule}
 use Rattle.grid_bound.proofs.Ahead.{same_number, younger_apart}
 use Rattle.grid_bound.proofs.Steady.{Onward, steady}
 use Rattle.grid_bound.proofs.Walk.{chosen_keeps}

@@ -8,13 +8,13 @@ use Rattle.commit_flush_spec.specs.Frames.{Frame}
 use Rattle.commit_flush_spec.specs.Older.{Older, after, after_all}
 use Rattle.commit_flush_spec.specs.Causes.{Cause, Happened, Done, NotNow}
 use Rattle.commit_flush_spec.specs.Window.{on_frame, change, in_flight}
-use Rattle.commit_flush_spec.specs.Laws.{AreNumbers}
+use Rattle.commit_flush_spec.specs.inside.Laws.{AreNumbers}
 use Rattle.commit_flush_spec.proofs.Look.{or_false}
 use Rattle.commit_flush_spec.proofs.Numbers.{nums}
 use Rattle.commit_flush_spec.proofs.Bits.{answer_at, change_at}
 use Rattle.grid_cycle_spec.specs.Grid.{is_of}
 use Rattle.grid_cycle_spec.specs.Choosing.{least, found_in, eldest, with_frame}
-use Rattle.grid_bound.specs.Rule.{EachFrame, runs_in}
+use Rattle.grid_bound.specs.inside.Rule.{EachFrame, runs_in}
 
 -- numbers ----------------------------------------------------------------------------------------
 

@@ -6,19 +6,19 @@ use Rattle.trips_isa.specs.declared.block.Block.{Block}
 use Rattle.trips_isa.specs.declared.run.Stepped.{Stepped}
 use Rattle.trips_isa.specs.declared.run.Stepped.TheVariants as stepped
 use Rattle.operand_net.specs.Tick.{Ticked}
-use Rattle.commit_flush_spec.specs.Invariant.{AllGood}
-use Rattle.commit_flush_spec.specs.Laws.{WindowOk}
+use Rattle.commit_flush_spec.specs.inside.Invariant.{AllGood}
+use Rattle.commit_flush_spec.specs.inside.Laws.{WindowOk}
 use Rattle.grid_cycle_spec.specs.Grid.{Grid, numbers_of}
 use Rattle.grid_cycle_spec.specs.Costs.{size}
 use Rattle.grid_cycle_spec.specs.Ends.{ends}
 use Rattle.grid_cycle_spec.specs.Fetches.{fetches}
 use Rattle.grid_cycle_spec.specs.Cycles.{acts, Moves, Follows, Eager}
-use Rattle.grid_bound.specs.Serving.{Served}
-use Rattle.grid_bound.specs.Shows.{IsDue, Traps}
-use Rattle.grid_bound.specs.CycleRule.{CycleRule}
-use Rattle.grid_bound.specs.Held.{ServedHeld}
-use Rattle.grid_bound.specs.Lanes.{lane_in}
-use Rattle.grid_bound.specs.ServedFirst.{worked, ActsFirst, ServedFirst}
+use Rattle.grid_bound.specs.inside.Serving.{Served}
+use Rattle.grid_bound.specs.inside.Shows.{IsDue, Traps}
+use Rattle.grid_bound.specs.inside.CycleRule.{CycleRule}
+use Rattle.grid_bound.specs.inside.Held.{ServedHeld}
+use Rattle.grid_bound.specs.inside.Lanes.{lane_in}
+use Rattle.grid_bound.specs.inside.ServedFirst.{worked, ActsFirst, ServedFirst}
 use Rattle.grid_bound.proofs.Ticks.{oldest_ticks}
 use Rattle.grid_bound.proofs.FirstGridServed.{serve_first}
 use Rattle.grid_bound.proofs.UnitsKept.{arrivals_kept}

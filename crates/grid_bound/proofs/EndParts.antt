@@ -5,7 +5,7 @@ use Rattle.trips_isa.specs.declared.block.Block.{Block}
 use Rattle.trips_isa.specs.declared.run.Stepped.{Stepped}
 use Rattle.trips_isa.specs.declared.run.Stepped.TheVariants as stepped
 use Rattle.trips_isa.specs.Outcomes.{Outcome, Comes, Faults, unless}
-use Rattle.block_cases.specs.Plain.{IsTrap}
+use Rattle.block_cases.specs.inside.Plain.{IsTrap}
 use Rattle.block_cases.proofs.Traps.{applied_goes}
 use Rattle.operand_net.specs.declared.parcel.Stand.TheVariants.{Nowhere}
 use Rattle.commit_flush_spec.specs.Frames.{Frame, Exit}
@@ -14,18 +14,18 @@ use Rattle.commit_flush_spec.specs.Causes.{NoFrame, Done}
 use Rattle.commit_flush_spec.specs.Ends.{can_seal, seal, outputs, cause_held}
 use Rattle.commit_flush_spec.specs.InFlight.{commit_to}
 use Rattle.commit_flush_spec.specs.Window.{Window, Seal, Commit, alone, can, can_now, happens, commit, in_flight}
-use Rattle.commit_flush_spec.specs.Invariant.{AllGood}
-use Rattle.commit_flush_spec.specs.Laws.{AreNumbers, WindowOk}
+use Rattle.commit_flush_spec.specs.inside.Invariant.{AllGood}
+use Rattle.commit_flush_spec.specs.inside.Laws.{AreNumbers, WindowOk}
 use Rattle.commit_flush_spec.proofs.Look.{or_false}
 use Rattle.commit_flush_spec.proofs.Numbers.{nums}
 use Rattle.commit_flush_spec.proofs.Whole.{happens_moves}
-use Rattle.commit_flush_spec.specs.Work.{none_guessed}
+use Rattle.commit_flush_spec.specs.inside.Work.{none_guessed}
 use Rattle.grid_cycle_spec.specs.Grid.{Grid, Fetching, forget, is_of, numbers_of}
 use Rattle.grid_cycle_spec.specs.Acting.{known_next, may, settled, still}
 use Rattle.grid_cycle_spec.specs.Ends.{seal_one, seal_each, one_committed, learning, committed_as, commit_in}
 use Rattle.grid_cycle_spec.specs.Ends.{commit_oldest, ends}
-use Rattle.grid_bound.specs.UnderWay.{Tied}
-use Rattle.grid_bound.specs.Rule.{EachFrame, FetchRule, FrameRule, RuleFrom}
+use Rattle.grid_bound.specs.inside.UnderWay.{Tied}
+use Rattle.grid_bound.specs.inside.Rule.{EachFrame, FetchRule, FrameRule, RuleFrom}
 use Rattle.grid_bound.proofs.EachFrame.{FrameAt, any_flight, apart, changed_at}
 use Rattle.grid_bound.proofs.EachFrame.{differ, each_rest, each_step, of_flight}
 use Rattle.grid_bound.proofs.EachFrame.{runs_flight, runs_one, runs_step}

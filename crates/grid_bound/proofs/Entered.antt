@@ -4,13 +4,13 @@ use Rattle.std.proofs.Common.{is_some, slice_index, refl, sym, ap, ap₂, ◌∙
 use Rattle.operand_net.specs.declared.parcel.Stand.{Stand}
 use Rattle.operand_net.specs.declared.parcel.Stand.TheVariants.{Away}
 use Rattle.operand_net.specs.Places.{Places, put}
-use Rattle.operand_net.specs.IsStands.{is_here}
+use Rattle.operand_net.specs.inside.IsStands.{is_here}
 use Rattle.commit_flush_spec.specs.Frames.{Frame, at, target}
 use Rattle.grid_cycle_spec.specs.Stations.{home}
 use Rattle.grid_cycle_spec.specs.Grid.{Grid}
 use Rattle.grid_cycle_spec.specs.Sending.{enters, enters_if, enter_both}
 use Rattle.grid_cycle_spec.proofs.Routes.{home_inside}
-use Rattle.grid_bound.specs.Rule.{HeldFrom}
+use Rattle.grid_bound.specs.inside.Rule.{HeldFrom}
 use Rattle.grid_bound.proofs.EachFrame.{same, apart}
 use Rattle.grid_bound.proofs.Travels.{IsPlace}
 

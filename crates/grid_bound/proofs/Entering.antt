@@ -14,13 +14,13 @@ use Rattle.operand_net.specs.declared.parcel.Stand.{Stand}
 use Rattle.operand_net.specs.declared.parcel.Stand.TheVariants.{Nowhere}
 use Rattle.commit_flush_spec.specs.Frames.{Frame, at, source, target, named_at, is_target, slot_node}
 use Rattle.commit_flush_spec.proofs.Sends.{slot_source, read_source}
-use Rattle.commit_flush_spec.specs.DrivingLaws.{IsFilled}
+use Rattle.commit_flush_spec.specs.inside.DrivingLaws.{IsFilled}
 use Rattle.commit_flush_spec.proofs.Producers.{node_of_slot, node_of_read}
 use Rattle.grid_cycle_spec.specs.Stations.{home}
 use Rattle.grid_cycle_spec.specs.Grid.{Grid}
 use Rattle.grid_cycle_spec.specs.Sending.{enters, enters_if, enter_both}
-use Rattle.grid_bound.specs.Sending.{parcel, launch}
-use Rattle.grid_bound.specs.Blocks.{target_at}
+use Rattle.grid_bound.specs.inside.Sending.{parcel, launch}
+use Rattle.grid_bound.specs.inside.Blocks.{target_at}
 use Rattle.grid_bound.proofs.Ahead.{same_number}
 
 -- where tokens go ----------------------------------------------------------------------------------

@@ -29,12 +29,12 @@ use Rattle.commit_flush_spec.specs.Window.{Window, Event, on_frame, change, alon
 use Rattle.commit_flush_spec.specs.Window.{flush, lowest_empty, fetched, commit}
 use Rattle.commit_flush_spec.specs.Window.{can_now, unless_over, can, done, if_done, happens}
 use Rattle.commit_flush_spec.specs.Window as event
-use Rattle.commit_flush_spec.specs.Invariant.{FrameOk, FramesOk, AllGood}
-use Rattle.commit_flush_spec.specs.Laws.{WindowOk}
+use Rattle.commit_flush_spec.specs.inside.Invariant.{FrameOk, FramesOk, AllGood}
+use Rattle.commit_flush_spec.specs.inside.Laws.{WindowOk}
 use Rattle.commit_flush_spec.proofs.Lists.{blank_at}
 use Rattle.commit_flush_spec.proofs.Frames.{not_now}
 use Rattle.commit_flush_spec.proofs.Loads.{Stands, stands}
-use Rattle.grid_bound.specs.Rule.{EachFrame, FrameRule}
+use Rattle.grid_bound.specs.inside.Rule.{EachFrame, FrameRule}
 use Rattle.grid_bound.proofs.FrameRules.{read_rule, fire_rule, deliver_rule, load_rule, store_rule, exit_rule}
 use Rattle.grid_bound.proofs.FrameRules.{seal_rule}
 

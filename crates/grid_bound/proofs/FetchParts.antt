@@ -11,7 +11,7 @@ use Rattle.trips_isa.specs.declared.form.Form.TheVariants.{General, Immediate, L
 use Rattle.trips_isa.specs.Forms.{form_of}
 use Rattle.block_cases.specs.Orders.{slot_of}
 use Rattle.operand_net.specs.declared.parcel.Stand.{Stand}
-use Rattle.operand_net.specs.IsStands.{is_here}
+use Rattle.operand_net.specs.inside.IsStands.{is_here}
 use Rattle.block_predict.specs.Predicts.{Holding, holding, entered, predicted, after}
 use Rattle.commit_flush_spec.specs.Frames.{Frame, Exit, at, fresh}
 use Rattle.commit_flush_spec.specs.Older.{Older, after_all, committed, follows}
@@ -19,15 +19,15 @@ use Rattle.commit_flush_spec.specs.Older as older
 use Rattle.commit_flush_spec.specs.Causes.{NoFrame, NoBlock, Done}
 use Rattle.commit_flush_spec.specs.Window.{Window, Fetch, can, can_fetch, fetched, happens, in_flight}
 use Rattle.commit_flush_spec.specs.Window.{lowest_empty}
-use Rattle.commit_flush_spec.specs.Invariant.{AllGood}
-use Rattle.commit_flush_spec.specs.Laws.{WindowOk}
+use Rattle.commit_flush_spec.specs.inside.Invariant.{AllGood}
+use Rattle.commit_flush_spec.specs.inside.Laws.{WindowOk}
 use Rattle.commit_flush_spec.proofs.Lists.{blank_at}
 use Rattle.commit_flush_spec.proofs.Look.{or_false}
 use Rattle.commit_flush_spec.proofs.Flow.{some_of}
 use Rattle.commit_flush_spec.proofs.Frames.{not_now}
 use Rattle.commit_flush_spec.proofs.Numbers.{lowest_is}
 use Rattle.commit_flush_spec.proofs.Whole.{happens_moves}
-use Rattle.commit_flush_spec.specs.Work.{none_guessed}
+use Rattle.commit_flush_spec.specs.inside.Work.{none_guessed}
 use Rattle.commit_flush_spec.proofs.FramesSeen.{fresh_unguessed}
 use Rattle.grid_cycle_spec.specs.Grid.{Grid, Fetching}
 use Rattle.grid_cycle_spec.specs.Acting.{known_next, may}
@@ -35,9 +35,9 @@ use Rattle.grid_cycle_spec.specs.Fetches.{filled, fills, fill_where, fetch_on, f
 use Rattle.grid_cycle_spec.specs.Fetches.{begun_predicted}
 use Rattle.grid_cycle_spec.specs.Fetches.{begun, begun_guess, begun_behind, begun_after, has_room, fetch_begins}
 use Rattle.grid_cycle_spec.specs.Fetches.{fetches, stands}
-use Rattle.grid_cycle_spec.specs.Arrivals.{is_waiting}
-use Rattle.grid_bound.specs.UnderWay.{form_travels, Nothing, Tied, to_come, travels}
-use Rattle.grid_bound.specs.Rule.{EachFrame, FetchRule, FrameRule, runs_in}
+use Rattle.grid_cycle_spec.specs.inside.Arrivals.{is_waiting}
+use Rattle.grid_bound.specs.inside.UnderWay.{form_travels, Nothing, Tied, to_come, travels}
+use Rattle.grid_bound.specs.inside.Rule.{EachFrame, FetchRule, FrameRule, runs_in}
 use Rattle.grid_bound.proofs.EachFrame.{apart, each_join, each_other, runs_flight, runs_join, same}
 use Rattle.grid_bound.proofs.EventRules.{events_rule, went}
 use Rattle.grid_bound.proofs.Travels.{and_none, none_is, none_travels, read_travels, slot_travels}

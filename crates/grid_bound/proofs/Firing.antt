@@ -13,11 +13,11 @@ use Rattle.commit_flush_spec.specs.Frames.{Frame, at, slot_node}
 use Rattle.commit_flush_spec.specs.Sending.{send, token_with}
 use Rattle.commit_flush_spec.specs.Older.{Older}
 use Rattle.commit_flush_spec.specs.Dataflow.{fire, fire_inst, fire_form}
-use Rattle.commit_flush_spec.specs.Invariant.{FrameOk, Asked}
-use Rattle.commit_flush_spec.specs.Laws.{NoneLost}
+use Rattle.commit_flush_spec.specs.inside.Invariant.{FrameOk, Asked}
+use Rattle.commit_flush_spec.specs.inside.Laws.{NoneLost}
 use Rattle.commit_flush_spec.proofs.Lists.{other_at, set_here, flag_keeps}
-use Rattle.commit_flush_spec.specs.Observers.{has_number}
-use Rattle.grid_cycle_spec.specs.Arrivals.{is_waiting}
+use Rattle.commit_flush_spec.specs.inside.Observers.{has_number}
+use Rattle.grid_cycle_spec.specs.inside.Arrivals.{is_waiting}
 
 -- what waits after slot s has fired: the same, or slot s with the number of a load or a store
 abbrev RequestsAfter : Frame → Frame → ℕ → Inst → Type 0

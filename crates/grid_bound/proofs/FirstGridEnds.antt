@@ -8,14 +8,14 @@ use Rattle.trips_isa.specs.declared.run.Stepped.{Stepped}
 use Rattle.trips_isa.specs.declared.run.Stepped.TheVariants as stepped
 use Rattle.commit_flush_spec.specs.Window.{Window, happens}
 use Rattle.commit_flush_spec.specs.Window as window
-use Rattle.commit_flush_spec.specs.Invariant.{AllGood}
+use Rattle.commit_flush_spec.specs.inside.Invariant.{AllGood}
 use Rattle.grid_cycle_spec.specs.Grid.{Grid, forget, numbers_of}
 use Rattle.grid_cycle_spec.specs.Acting.{may}
 use Rattle.grid_cycle_spec.specs.Ends.{seal_one, seal_each, commit_in, commit_oldest, ends}
 use Rattle.grid_cycle_spec.specs.Banks.{reads_answered}
 use Rattle.grid_cycle_spec.specs.DataTiles.{answers}
-use Rattle.grid_bound.specs.Sending.{fetching}
-use Rattle.grid_bound.specs.ServedFirst.{worked, RestFirst, FetchesFirst, ActsFirst, ServedFirst}
+use Rattle.grid_bound.specs.inside.Sending.{fetching}
+use Rattle.grid_bound.specs.inside.ServedFirst.{worked, RestFirst, FetchesFirst, ActsFirst, ServedFirst}
 use Rattle.grid_bound.proofs.Steady.{Onward, then_onward, event_onward, steady}
 use Rattle.grid_bound.proofs.Walk.{fetches_keep, fetched_keeps, banks_keep, answers_keep, works_keep}
 use Rattle.grid_bound.proofs.Walk.{arrivals_keep}

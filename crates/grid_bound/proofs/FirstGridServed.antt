@@ -11,31 +11,31 @@ use Rattle.commit_flush_spec.specs.Frames.{Frame, fresh}
 use Rattle.commit_flush_spec.specs.Ends.{complete}
 use Rattle.commit_flush_spec.specs.Older.{committed}
 use Rattle.commit_flush_spec.specs.Window as window
-use Rattle.commit_flush_spec.specs.Invariant.{AllGood, FrameOk}
-use Rattle.commit_flush_spec.specs.Laws.{WindowOk}
+use Rattle.commit_flush_spec.specs.inside.Invariant.{AllGood, FrameOk}
+use Rattle.commit_flush_spec.specs.inside.Laws.{WindowOk}
 use Rattle.grid_cycle_spec.specs.Grid.{Grid, Fetching, numbers_of}
 use Rattle.grid_cycle_spec.specs.Costs.{size}
 use Rattle.grid_cycle_spec.specs.Ends.{ends}
 use Rattle.grid_cycle_spec.specs.DataTiles.{answers}
 use Rattle.grid_cycle_spec.specs.Fetches.{fetch_on, fetch_ends, begins, fetches, stands}
-use Rattle.grid_bound.specs.Course.{Course}
-use Rattle.grid_bound.specs.Lane.{Stage, Running, is_complete}
-use Rattle.grid_bound.specs.Lane as lane
-use Rattle.grid_bound.specs.Sending.{fetching, reading}
-use Rattle.grid_bound.specs.Answering.{TileAnswers, TilesAnswer}
-use Rattle.grid_bound.specs.Turning.{turning, own_units}
-use Rattle.grid_bound.specs.Moving.{moving}
-use Rattle.grid_bound.specs.Serving.{Serves, Served}
-use Rattle.grid_bound.specs.Blocks.{course_of}
-use Rattle.grid_bound.specs.Seen.{front_of, fetch_of, stage_of}
+use Rattle.grid_bound.specs.inside.Course.{Course}
+use Rattle.grid_bound.specs.inside.Lane.{Stage, Running, is_complete}
+use Rattle.grid_bound.specs.inside.Lane as lane
+use Rattle.grid_bound.specs.inside.Sending.{fetching, reading}
+use Rattle.grid_bound.specs.inside.Answering.{TileAnswers, TilesAnswer}
+use Rattle.grid_bound.specs.inside.Turning.{turning, own_units}
+use Rattle.grid_bound.specs.inside.Moving.{moving}
+use Rattle.grid_bound.specs.inside.Serving.{Serves, Served}
+use Rattle.grid_bound.specs.inside.Blocks.{course_of}
+use Rattle.grid_bound.specs.inside.Seen.{front_of, fetch_of, stage_of}
 use Rattle.grid_bound.proofs.Seen.{complete_seen}
 use Rattle.grid_bound.proofs.Sizes.{tasks_are}
-use Rattle.grid_bound.specs.Behind.{Behind}
-use Rattle.grid_bound.specs.Shows.{Commits, IsDue, Traps}
-use Rattle.grid_bound.specs.CycleRule.{CycleRule}
-use Rattle.grid_bound.specs.Held.{ServedHeld, Waits}
-use Rattle.grid_bound.specs.Lanes.{lane_in}
-use Rattle.grid_bound.specs.ServedFirst.{FetchesFirst, ServedFirst}
+use Rattle.grid_bound.specs.inside.Behind.{Behind}
+use Rattle.grid_bound.specs.inside.Shows.{Commits, IsDue, Traps}
+use Rattle.grid_bound.specs.inside.CycleRule.{CycleRule}
+use Rattle.grid_bound.specs.inside.Held.{ServedHeld, Waits}
+use Rattle.grid_bound.specs.inside.Lanes.{lane_in}
+use Rattle.grid_bound.specs.inside.ServedFirst.{FetchesFirst, ServedFirst}
 use Rattle.grid_bound.proofs.Steady.{Onward, steady}
 use Rattle.grid_bound.proofs.OldestEnds.{oldest_ok, ends_open, ends_seal, ends_complete, unsealed}
 use Rattle.grid_bound.proofs.Fronts.{front_behind}

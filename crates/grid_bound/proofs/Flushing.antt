@@ -11,14 +11,14 @@ use Rattle.commit_flush_spec.specs.Frames.{Frame, at, numbers}
 use Rattle.commit_flush_spec.specs.Older.{follows, passes, violated, cut}
 use Rattle.commit_flush_spec.specs.Ends.{kept}
 use Rattle.commit_flush_spec.specs.Window.{Window, Event, happens, in_flight}
-use Rattle.commit_flush_spec.specs.Invariant.{AllGood}
-use Rattle.commit_flush_spec.specs.Laws.{AreNumbers, WindowOk}
+use Rattle.commit_flush_spec.specs.inside.Invariant.{AllGood}
+use Rattle.commit_flush_spec.specs.inside.Laws.{AreNumbers, WindowOk}
 use Rattle.commit_flush_spec.proofs.Look.{or_false}
 use Rattle.commit_flush_spec.proofs.Numbers.{nums}
 use Rattle.commit_flush_spec.proofs.Whole.{happens_moves}
 use Rattle.grid_cycle_spec.specs.Grid.{Grid, is_of}
 use Rattle.grid_cycle_spec.specs.Acting.{act, flushed, gone, known_next, settled}
-use Rattle.grid_bound.specs.Rule.{EachFrame, FetchRule, runs_in}
+use Rattle.grid_bound.specs.inside.Rule.{EachFrame, FetchRule, runs_in}
 use Rattle.grid_bound.proofs.EachFrame.{any_flight, each_front, flight_join, of_flight, runs_flight, runs_join}
 use Rattle.grid_bound.proofs.Ties.{Ties, ties_left}
 use Rattle.grid_bound.proofs.EndParts.{still_rule}

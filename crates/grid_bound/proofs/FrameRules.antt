@@ -26,7 +26,7 @@ use Rattle.commit_flush_spec.specs.Memory.{request, is_request, can_load, load, 
 use Rattle.commit_flush_spec.specs.Memory.{with_store}
 use Rattle.commit_flush_spec.specs.Ends.{with_exit}
 use Rattle.commit_flush_spec.specs.Ends.{seal}
-use Rattle.commit_flush_spec.specs.Invariant.{FrameOk, AllGood}
+use Rattle.commit_flush_spec.specs.inside.Invariant.{FrameOk, AllGood}
 use Rattle.commit_flush_spec.proofs.Lists.{equal_or, none_or, other_at, written_or, given_or, none_at}
 use Rattle.commit_flush_spec.proofs.Lists.{emptied_at, flag_keeps}
 use Rattle.commit_flush_spec.proofs.Look.{or_false}
@@ -38,9 +38,9 @@ use Rattle.commit_flush_spec.proofs.Flow.{some_of}
 use Rattle.commit_flush_spec.proofs.Lost.{load_not_store, one_fires}
 use Rattle.commit_flush_spec.proofs.Storing.{store_form}
 use Rattle.commit_flush_spec.proofs.Stored.{number_small}
-use Rattle.commit_flush_spec.specs.Observers.{has_number}
+use Rattle.commit_flush_spec.specs.inside.Observers.{has_number}
 use Rattle.commit_flush_spec.proofs.Fills.{fills}
-use Rattle.grid_bound.specs.Rule.{StoredBy, Waits, FrameRule}
+use Rattle.grid_bound.specs.inside.Rule.{StoredBy, Waits, FrameRule}
 
 -- sending ----------------------------------------------------------------------------------------
 

@@ -15,26 +15,28 @@ use Rattle.trips_isa.specs.Forms.{form_of, size_of}
 use Rattle.trips_isa.specs.Places.{nodes_of}
 use Rattle.trips_isa.specs.Rule.{Answer}
 use Rattle.trips_isa.specs.Stores.{bytes_seen}
-use Rattle.trips_isa.specs.Tables.{pulled, deepest}
-use Rattle.trips_isa.specs.Blocks.{Responses, Solves, at_place, computes, is_read, inst_at}
+use Rattle.trips_isa.specs.Tables.{deepest}
+use Rattle.trips_isa.specs.inside.Tables.{pulled}
+use Rattle.trips_isa.specs.Blocks.{Responses, at_place, computes, is_read, inst_at}
+use Rattle.trips_isa.specs.inside.Blocks.{Solves}
 use Rattle.block_cases.specs.Orders.{slot_of}
 use Rattle.block_cases.proofs.Unique.{pulled_is_table}
 use Rattle.commit_flush_spec.specs.Frames.{Frame, at}
 use Rattle.commit_flush_spec.specs.Older.{Older}
-use Rattle.commit_flush_spec.specs.Invariant.{AllGood, Below, FrameOk, Holds}
+use Rattle.commit_flush_spec.specs.inside.Invariant.{AllGood, Below, FrameOk, Holds}
 use Rattle.commit_flush_spec.specs.Dataflow.{read_seen}
 use Rattle.commit_flush_spec.proofs.Frames.{or_zero, slot_seen, seen_if_read, seen, seen_agrees}
 use Rattle.grid_cycle_spec.specs.Grid.{Grid}
-use Rattle.grid_bound.specs.Course.{Good, Task, is_reading}
-use Rattle.grid_bound.specs.Lane.{is_idle, unissued, ready}
-use Rattle.grid_bound.specs.Answering.{spot_of, Retold}
-use Rattle.grid_bound.specs.Blocks.{slot_tasks, first_of, slot_task, read_task, task_of, course_of}
-use Rattle.grid_bound.specs.Seen.{read_phase, front_of}
+use Rattle.grid_bound.specs.inside.Course.{Good, Task, is_reading}
+use Rattle.grid_bound.specs.inside.Lane.{is_idle, unissued, ready}
+use Rattle.grid_bound.specs.inside.Answering.{spot_of, Retold}
+use Rattle.grid_bound.specs.inside.Blocks.{slot_tasks, first_of, slot_task, read_task, task_of, course_of}
+use Rattle.grid_bound.specs.inside.Seen.{read_phase, front_of}
 use Rattle.grid_bound.proofs.Courses.{course_good}
 use Rattle.grid_bound.proofs.Ready.{ready_seen}
 use Rattle.grid_bound.proofs.Sizes.{slot_tasks_is, read_is}
-use Rattle.grid_bound.specs.Parts.{Tells}
-use Rattle.grid_bound.specs.Lanes.{or_none, finds, sees_at, sees, table_in}
+use Rattle.grid_bound.specs.inside.Parts.{Tells}
+use Rattle.grid_bound.specs.inside.Lanes.{or_none, finds, sees_at, sees, table_in}
 use Rattle.grid_bound.proofs.Fronts.{at_read}
 
 -- the table

@@ -10,34 +10,34 @@ use Rattle.trips_isa.specs.Machine.{State}
 use Rattle.trips_isa.specs.Rule.{Answer}
 use Rattle.commit_flush_spec.specs.Frames.{Frame}
 use Rattle.commit_flush_spec.specs.Older.{Older, committed}
-use Rattle.commit_flush_spec.specs.Invariant.{AllGood, FrameOk}
-use Rattle.commit_flush_spec.specs.Laws.{WindowOk}
+use Rattle.commit_flush_spec.specs.inside.Invariant.{AllGood, FrameOk}
+use Rattle.commit_flush_spec.specs.inside.Laws.{WindowOk}
 use Rattle.commit_flush_spec.proofs.Frames.{seen, seen_agrees}
 use Rattle.grid_cycle_spec.specs.Grid.{Grid, Fetching, numbers_of}
 use Rattle.grid_cycle_spec.specs.Banks.{reads_answered}
 use Rattle.grid_cycle_spec.specs.DataTiles.{answers}
 use Rattle.grid_cycle_spec.specs.Units.{works_on}
-use Rattle.grid_cycle_spec.specs.Arrivals.{arrivals}
-use Rattle.grid_bound.specs.Course.{Course}
-use Rattle.grid_bound.specs.Lane.{Front, Stage, Running}
-use Rattle.grid_bound.specs.Lane as lane
-use Rattle.grid_bound.specs.Sending.{reads_front, reading, tile_of as lane_tile}
-use Rattle.grid_bound.specs.Answering.{TilesAnswer}
-use Rattle.grid_bound.specs.Turning.{less_one, finish_front, issue_front, busy, issued, units_after, turning}
-use Rattle.grid_bound.specs.Turning.{own_units}
-use Rattle.grid_bound.specs.Sending.{found}
-use Rattle.grid_bound.specs.Moving.{move_front, moving}
-use Rattle.grid_bound.specs.Blocks.{course_of}
-use Rattle.grid_bound.specs.Seen.{front_of, fetch_of, stage_of}
-use Rattle.grid_bound.specs.Shows.{Shows}
-use Rattle.grid_bound.specs.Parts.{RowMoves, Working}
-use Rattle.grid_bound.specs.CycleRule.{CycleRule}
-use Rattle.grid_bound.specs.ServedFirst.{RestFirst}
-use Rattle.grid_bound.specs.Lanes.{course_in}
+use Rattle.grid_cycle_spec.specs.inside.Arrivals.{arrivals}
+use Rattle.grid_bound.specs.inside.Course.{Course}
+use Rattle.grid_bound.specs.inside.Lane.{Front, Stage, Running}
+use Rattle.grid_bound.specs.inside.Lane as lane
+use Rattle.grid_bound.specs.inside.Sending.{reads_front, reading, tile_of as lane_tile}
+use Rattle.grid_bound.specs.inside.Answering.{TilesAnswer}
+use Rattle.grid_bound.specs.inside.Turning.{less_one, finish_front, issue_front, busy, issued, units_after, turning}
+use Rattle.grid_bound.specs.inside.Turning.{own_units}
+use Rattle.grid_bound.specs.inside.Sending.{found}
+use Rattle.grid_bound.specs.inside.Moving.{move_front, moving}
+use Rattle.grid_bound.specs.inside.Blocks.{course_of}
+use Rattle.grid_bound.specs.inside.Seen.{front_of, fetch_of, stage_of}
+use Rattle.grid_bound.specs.inside.Shows.{Shows}
+use Rattle.grid_bound.specs.inside.Parts.{RowMoves, Working}
+use Rattle.grid_bound.specs.inside.CycleRule.{CycleRule}
+use Rattle.grid_bound.specs.inside.ServedFirst.{RestFirst}
+use Rattle.grid_bound.specs.inside.Lanes.{course_in}
 use Rattle.grid_bound.proofs.Steady.{Onward, steady}
 use Rattle.grid_bound.proofs.Walk.{banks_keep, answers_keep, works_keep, arrivals_keep}
 use Rattle.grid_bound.proofs.OldestEnds.{oldest_ok}
-use Rattle.grid_bound.specs.MoveRule.{MoveRule}
+use Rattle.grid_bound.specs.inside.MoveRule.{MoveRule}
 use Rattle.grid_bound.proofs.FrameTable.{told, told_table, told_same, told_solves, told_good}
 use Rattle.grid_bound.proofs.AllBanks as banking
 use Rattle.grid_bound.proofs.DataTileAnswers.{StageAt, Held, Emptied}

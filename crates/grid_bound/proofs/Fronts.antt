@@ -10,12 +10,12 @@ use Rattle.block_cases.specs.Orders.{slot_of}
 use Rattle.operand_net.specs.declared.parcel.Stand.{Stand}
 use Rattle.commit_flush_spec.specs.Frames.{Frame, at}
 use Rattle.grid_cycle_spec.specs.Grid.{Grid}
-use Rattle.grid_cycle_spec.specs.Arrivals.{is_waiting}
-use Rattle.grid_bound.specs.Course.{Kind, Reading, Plain, Serving, Course}
-use Rattle.grid_bound.specs.Lane.{Phase, Idle, Working, Asking, Standing, Sent, Front}
-use Rattle.grid_bound.specs.Blocks.{slot_tasks, kind_of}
-use Rattle.grid_bound.specs.Seen.{after_unit, slot_phase, read_phase, phase_of, has_come, front_of}
-use Rattle.grid_bound.specs.Behind.{Behind}
+use Rattle.grid_cycle_spec.specs.inside.Arrivals.{is_waiting}
+use Rattle.grid_bound.specs.inside.Course.{Kind, Reading, Plain, Serving, Course}
+use Rattle.grid_bound.specs.inside.Lane.{Phase, Idle, Working, Asking, Standing, Sent, Front}
+use Rattle.grid_bound.specs.inside.Blocks.{slot_tasks, kind_of}
+use Rattle.grid_bound.specs.inside.Seen.{after_unit, slot_phase, read_phase, phase_of, has_come, front_of}
+use Rattle.grid_bound.specs.inside.Behind.{Behind}
 
 -- a front by its parts
 abbrev made : Course → Frame → (ℕ → Phase) → ℕ → Bool → Front

@@ -19,11 +19,12 @@ use Rattle.grid_cycle_spec.specs.Fetches.{fetch_ends, fetch_on, fetches, fill_wh
 use Rattle.grid_cycle_spec.specs.Banks.{reads_answered}
 use Rattle.grid_cycle_spec.specs.DataTiles.{answers}
 use Rattle.grid_cycle_spec.specs.Units.{works_on}
-use Rattle.grid_cycle_spec.specs.Arrivals.{arrivals}
-use Rattle.grid_cycle_spec.specs.Cycles.{acts, counted, Eager, Follows, AfterCycles, Moves}
+use Rattle.grid_cycle_spec.specs.inside.Arrivals.{arrivals}
+use Rattle.grid_cycle_spec.specs.Cycles.{acts, counted, Eager, Follows, Moves}
+use Rattle.grid_cycle_spec.specs.inside.Cycles.{AfterCycles}
 use Rattle.grid_cycle_spec.proofs.KeptByCycles.{IsFlushing, IsSingle, Keeps, answers_keep, arrivals_keep, banks_keep}
 use Rattle.grid_cycle_spec.proofs.KeptByCycles.{begins_keeps, ends_keep, works_keep}
-use Rattle.grid_bound.specs.Rule.{GenerationsCounted}
+use Rattle.grid_bound.specs.inside.Rule.{GenerationsCounted}
 
 -- no frame is filled and no cycle is counted
 record Quiet {W : Type 0} (g h : Grid W) : Type 0 where

@@ -9,15 +9,15 @@ use Rattle.commit_flush_spec.specs.Older.{Older, after, after_all, committed}
 use Rattle.commit_flush_spec.specs.Causes.{Cause, Happened, Done, NotNow}
 use Rattle.commit_flush_spec.specs.Window.{Window, Event, on_frame, change, alone, can_now, unless_over, can, done}
 use Rattle.commit_flush_spec.specs.Window.{if_done, happens}
-use Rattle.commit_flush_spec.specs.Invariant.{FrameOk, FramesOk, AllGood}
-use Rattle.commit_flush_spec.specs.Laws.{AllKept, NoneLost, WindowOk}
+use Rattle.commit_flush_spec.specs.inside.Invariant.{FrameOk, FramesOk, AllGood}
+use Rattle.commit_flush_spec.specs.inside.Laws.{AllKept, NoneLost, WindowOk}
 use Rattle.commit_flush_spec.proofs.Whole.{happens_moves}
-use Rattle.commit_flush_spec.specs.Work.{none_guessed}
+use Rattle.commit_flush_spec.specs.inside.Work.{none_guessed}
 use Rattle.grid_cycle_spec.specs.Grid.{Grid}
 use Rattle.grid_cycle_spec.specs.Acting.{is_done, known_next}
 use Rattle.grid_cycle_spec.specs.Choosing.{each}
-use Rattle.grid_bound.specs.UnderWay.{Nothing, Tied}
-use Rattle.grid_bound.specs.Rule.{EachFrame, FetchRule, FrameRule, HeldFrom, RuleFrom, UnitsRule}
+use Rattle.grid_bound.specs.inside.UnderWay.{Nothing, Tied}
+use Rattle.grid_bound.specs.inside.Rule.{EachFrame, FetchRule, FrameRule, HeldFrom, RuleFrom, UnitsRule}
 use Rattle.grid_bound.proofs.EachFrame.{FrameAt, answered_at, changed_at, done_flight, each_rest, find_at}
 use Rattle.grid_bound.proofs.EachFrame.{sealed_rests}
 use Rattle.grid_bound.proofs.EventRules.{events_rule, went}

@@ -9,25 +9,27 @@ use Rattle.commit_flush_spec.specs.Frames.{Frame}
 use Rattle.block_predict.specs.Predicts.{Holding}
 use Rattle.commit_flush_spec.specs.InFlight.{opened}
 use Rattle.commit_flush_spec.specs.Older.{committed}
-use Rattle.commit_flush_spec.specs.Invariant.{AllGood}
-use Rattle.commit_flush_spec.specs.Laws.{WindowOk, TakesSteps, Reached}
+use Rattle.commit_flush_spec.specs.inside.Invariant.{AllGood}
+use Rattle.commit_flush_spec.specs.Laws.{TakesSteps, Reached}
+use Rattle.commit_flush_spec.specs.inside.Laws.{WindowOk}
 use Rattle.grid_cycle_spec.specs.Grid.{Grid}
 use Rattle.grid_cycle_spec.specs.Ends.{ends}
 use Rattle.grid_cycle_spec.specs.Fetches.{fetches}
-use Rattle.grid_cycle_spec.specs.Cycles.{Eager, AfterCycles, begun_at}
+use Rattle.grid_cycle_spec.specs.Cycles.{Eager, begun_at}
+use Rattle.grid_cycle_spec.specs.inside.Cycles.{AfterCycles}
 use Rattle.grid_cycle_spec.proofs.Agreeing.{takes_steps}
 use Rattle.grid_cycle_spec.proofs.Events.{cycles_steps}
-use Rattle.grid_bound.specs.Laws.{LaneRule}
-use Rattle.grid_bound.specs.Programs.{size_in, sizes_from}
-use Rattle.grid_bound.specs.Seen.{lane_of}
-use Rattle.grid_bound.specs.CycleRule.{CycleRule}
-use Rattle.grid_bound.specs.Lanes.{table_in, course_in, lane_in}
-use Rattle.grid_bound.specs.Parts.{Tells}
-use Rattle.grid_bound.specs.Runs.{Stands, AfterStanding}
+use Rattle.grid_bound.specs.inside.Laws.{LaneRule}
+use Rattle.grid_bound.specs.inside.Programs.{size_in, sizes_from}
+use Rattle.grid_bound.specs.inside.Seen.{lane_of}
+use Rattle.grid_bound.specs.inside.CycleRule.{CycleRule}
+use Rattle.grid_bound.specs.inside.Lanes.{table_in, course_in, lane_in}
+use Rattle.grid_bound.specs.inside.Parts.{Tells}
+use Rattle.grid_bound.specs.inside.Runs.{Stands, AfterStanding}
 use Rattle.grid_bound.proofs.OldestEnds.{oldest_ok}
 use Rattle.grid_bound.proofs.FarUnits.{far_cycle}
 use Rattle.grid_bound.proofs.FrameTable.{table_tells}
-use Rattle.grid_bound.specs.Rule.{GridRule, GenerationsCounted}
+use Rattle.grid_bound.specs.inside.Rule.{GridRule, GenerationsCounted}
 use Rattle.grid_bound.proofs.CycleParts.{cycles_rule, cycles_window}
 use Rattle.grid_bound.proofs.EndParts.{Ruled, ends_ruled}
 use Rattle.grid_bound.proofs.FetchParts.{fetches_going}
@@ -36,7 +38,7 @@ use Rattle.grid_bound.proofs.GoingGrids.{Going}
 use Rattle.grid_bound.proofs.Ties.{rule_of, ties_of}
 use Rattle.grid_bound.proofs.Asked.{cycle_rule, due}
 use Rattle.grid_bound.proofs.LaneRules.{frame_lane, no_lane}
-use Rattle.grid_bound.specs.GoesOn.{GoesOn}
+use Rattle.grid_bound.specs.inside.GoesOn.{GoesOn}
 use Rattle.grid_bound.proofs.StartPredictors.{begun_rule, begun_counted}
 use Rattle.grid_bound.proofs.CycleGrows.{cycles_before, steps, went_before}
 

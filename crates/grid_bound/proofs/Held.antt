@@ -3,17 +3,17 @@ use Rattle.std.proofs.Common.{◌≡◌, ℕ, zero, suc, ◌+◌, ◌*◌, ◌<�
 use Rattle.std.proofs.Common.{Option, Some, None, refl, sym, ap, ◌∙◌, subst, arith}
 use Rattle.std.proofs.lemmas.Bool.{cond-false, both_ways}
 use Rattle.grid_cycle_spec.specs.Costs.{fetch_latency}
-use Rattle.grid_bound.specs.Course.{Course, tasks}
-use Rattle.grid_bound.specs.Lane.{Stage, Running, Fetching, Lane, is_complete}
-use Rattle.grid_bound.specs.Sending.{fetching, reading}
-use Rattle.grid_bound.specs.Answering.{answer_one, RunsOn, TileAnswers, TilesAnswer}
-use Rattle.grid_bound.specs.Turning.{turning}
-use Rattle.grid_bound.specs.Moving.{moving}
-use Rattle.grid_bound.specs.Serving.{Serves, Served}
-use Rattle.grid_bound.specs.Left.{most, reserve, stage_left, left, price}
-use Rattle.grid_bound.specs.Laws.{StageRule, LaneRule, Falls}
+use Rattle.grid_bound.specs.inside.Course.{Course, tasks}
+use Rattle.grid_bound.specs.inside.Lane.{Stage, Running, Fetching, Lane, is_complete}
+use Rattle.grid_bound.specs.inside.Sending.{fetching, reading}
+use Rattle.grid_bound.specs.inside.Answering.{answer_one, RunsOn, TileAnswers, TilesAnswer}
+use Rattle.grid_bound.specs.inside.Turning.{turning}
+use Rattle.grid_bound.specs.inside.Moving.{moving}
+use Rattle.grid_bound.specs.inside.Serving.{Serves, Served}
+use Rattle.grid_bound.specs.inside.Left.{most, reserve, stage_left, left, price}
+use Rattle.grid_bound.specs.inside.Laws.{StageRule, LaneRule, Falls}
 use Rattle.grid_bound.proofs.Served.{left_some, left_most, served_falls}
-use Rattle.grid_bound.specs.Held.{Waits, ServedHeld, held, left_held, FallsHeld}
+use Rattle.grid_bound.specs.inside.Held.{Waits, ServedHeld, held, left_held, FallsHeld}
 
 -- what is left of a stage
 abbrev left_at : ℕ → (ℕ → ℕ) → Stage → ℕ

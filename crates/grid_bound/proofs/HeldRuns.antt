@@ -1,10 +1,10 @@
 -- Cycles in which a grid comes first are within the prices of the blocks that it commits meanwhile, and of the next.
 use Rattle.std.proofs.Common.{◌≡◌, ℕ, zero, suc, ◌+◌, ◌<◌, ◌≤◌, inl, inr, sym, ap, subst, subst₂, arith}
 use Rattle.grid_cycle_spec.specs.Costs.{fetch_latency}
-use Rattle.grid_bound.specs.Lane.{Lane}
-use Rattle.grid_bound.specs.Left.{price, total}
-use Rattle.grid_bound.specs.Laws.{LaneRule}
-use Rattle.grid_bound.specs.Held.{AfterHeld, FallsHeld, left_held}
+use Rattle.grid_bound.specs.inside.Lane.{Lane}
+use Rattle.grid_bound.specs.inside.Left.{price, total}
+use Rattle.grid_bound.specs.inside.Laws.{LaneRule}
+use Rattle.grid_bound.specs.inside.Held.{AfterHeld, FallsHeld, left_held}
 use Rattle.grid_bound.proofs.Held.{falls_held, held_most, held_some}
 
 -- the bound after n cycles

@@ -8,27 +8,27 @@ use Rattle.trips_isa.specs.declared.form.Form.{Form}
 use Rattle.trips_isa.specs.declared.form.Form.TheVariants.{General, Immediate, Load, Store, Branch, Constant}
 use Rattle.trips_isa.specs.Forms.{form_of}
 use Rattle.block_cases.specs.Orders.{slot_of}
-use Rattle.operand_net.specs.IsStands.{is_here}
+use Rattle.operand_net.specs.inside.IsStands.{is_here}
 use Rattle.commit_flush_spec.specs.Frames.{Frame, at, slot_node}
 use Rattle.commit_flush_spec.specs.Sending.{send, token_with}
 use Rattle.commit_flush_spec.specs.Older.{Older, committed}
 use Rattle.commit_flush_spec.specs.Causes.{NoFrame, Done, NotNow}
 use Rattle.commit_flush_spec.specs.Dataflow.{can_fire, fire, fire_form, fire_inst}
 use Rattle.commit_flush_spec.specs.Window.{Window, Fire, can, can_now}
-use Rattle.commit_flush_spec.specs.Invariant.{AllGood, FrameOk}
+use Rattle.commit_flush_spec.specs.inside.Invariant.{AllGood, FrameOk}
 use Rattle.commit_flush_spec.proofs.Lists.{equal_or, flag_here, flag_keeps, other_at, set_here}
 use Rattle.commit_flush_spec.proofs.Stored.{number_small}
-use Rattle.commit_flush_spec.specs.Observers.{has_number}
-use Rattle.commit_flush_spec.specs.Work.{none_guessed}
+use Rattle.commit_flush_spec.specs.inside.Observers.{has_number}
+use Rattle.commit_flush_spec.specs.inside.Work.{none_guessed}
 use Rattle.grid_cycle_spec.specs.Stations.{tile_of}
 use Rattle.grid_cycle_spec.specs.Costs.{latency}
 use Rattle.grid_cycle_spec.specs.Grid.{Grid}
-use Rattle.grid_cycle_spec.specs.Arrivals.{is_waiting}
+use Rattle.grid_cycle_spec.specs.inside.Arrivals.{is_waiting}
 use Rattle.grid_cycle_spec.specs.Units.{takes}
 use Rattle.grid_cycle_spec.specs.Units.{issued}
 use Rattle.grid_cycle_spec.proofs.Routes.{takes_time}
-use Rattle.grid_bound.specs.UnderWay.{form_travels, Gives, InUnit, IsSent, SlotGives, Tied, to_come}
-use Rattle.grid_bound.specs.Rule.{FrameRule}
+use Rattle.grid_bound.specs.inside.UnderWay.{form_travels, Gives, InUnit, IsSent, SlotGives, Tied, to_come}
+use Rattle.grid_bound.specs.inside.Rule.{FrameRule}
 use Rattle.grid_bound.proofs.EachFrame.{FrameAt, answered_at}
 use Rattle.grid_bound.proofs.EachFrame.{own_at, same}
 use Rattle.grid_bound.proofs.FrameRules.{Fires, Sent, fire_sends, fires, free_exit, free_number}

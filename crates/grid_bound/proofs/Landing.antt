@@ -18,25 +18,25 @@ use Rattle.trips_isa.specs.Blocks.{at_place}
 use Rattle.block_cases.specs.Orders.{slot_of}
 use Rattle.operand_net.specs.declared.parcel.Stand.{Stand}
 use Rattle.operand_net.specs.declared.parcel.Stand.TheVariants.{Nowhere, Away, Held}
-use Rattle.operand_net.specs.IsStands.{is_here}
+use Rattle.operand_net.specs.inside.IsStands.{is_here}
 use Rattle.commit_flush_spec.specs.Frames.{Frame, at, target, named_at, is_target}
 use Rattle.commit_flush_spec.specs.Older.{Older}
-use Rattle.commit_flush_spec.specs.Invariant.{FrameOk, AllGood, has_sent, slot_sent, inst_sent}
-use Rattle.commit_flush_spec.specs.Laws.{NoneLost}
+use Rattle.commit_flush_spec.specs.inside.Invariant.{FrameOk, AllGood, has_sent, slot_sent, inst_sent}
+use Rattle.commit_flush_spec.specs.inside.Laws.{NoneLost}
 use Rattle.commit_flush_spec.proofs.Sends.{read_sends, read_source, slot_sends, slot_source}
 use Rattle.commit_flush_spec.proofs.Stored.{inst_fits, number_small}
 use Rattle.commit_flush_spec.proofs.Tokens.{inst_in, read_got, slot_got}
 use Rattle.grid_cycle_spec.specs.Stations.{data_node, home}
 use Rattle.grid_cycle_spec.specs.DataTiles.{tile_by}
 use Rattle.grid_cycle_spec.specs.Grid.{Grid}
-use Rattle.grid_cycle_spec.specs.Arrivals.{is_waiting}
-use Rattle.grid_bound.specs.Course.{Kind, Reading, Plain, Serving, Target}
-use Rattle.grid_bound.specs.Lane.{Idle, Working, Asking, Standing, is_there}
-use Rattle.grid_bound.specs.Laws.{Bounded, FineAt, Has, Landed, OnItsWay}
-use Rattle.grid_bound.specs.Blocks.{first_of, kind_of, read_task, slot_task, slot_tasks, target_at}
-use Rattle.grid_bound.specs.Seen.{after_unit, asking, has_come, read_phase, sent_of, slot_phase}
-use Rattle.grid_bound.specs.UnderWay.{form_travels, Tied, to_come}
-use Rattle.grid_bound.specs.Rule.{HeldFrom, UnitsRule}
+use Rattle.grid_cycle_spec.specs.inside.Arrivals.{is_waiting}
+use Rattle.grid_bound.specs.inside.Course.{Kind, Reading, Plain, Serving, Target}
+use Rattle.grid_bound.specs.inside.Lane.{Idle, Working, Asking, Standing, is_there}
+use Rattle.grid_bound.specs.inside.Laws.{Bounded, FineAt, Has, Landed, OnItsWay}
+use Rattle.grid_bound.specs.inside.Blocks.{first_of, kind_of, read_task, slot_task, slot_tasks, target_at}
+use Rattle.grid_bound.specs.inside.Seen.{after_unit, asking, has_come, read_phase, sent_of, slot_phase}
+use Rattle.grid_bound.specs.inside.UnderWay.{form_travels, Tied, to_come}
+use Rattle.grid_bound.specs.inside.Rule.{HeldFrom, UnitsRule}
 use Rattle.grid_bound.proofs.EachFrame.{same}
 use Rattle.grid_bound.proofs.Travels.{even_first, first_travels, odd_second, read_travels, second_travels, some_is}
 use Rattle.grid_bound.proofs.Sizes.{slot_tasks_is}

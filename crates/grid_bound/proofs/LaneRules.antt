@@ -5,27 +5,28 @@ use Rattle.std.proofs.lemmas.Bool.{lt-ltb, le-ltb}
 use Rattle.std.proofs.lemmas.Bool.Decides.{nat_tests}
 use Rattle.trips_isa.specs.declared.block.Block.{Block}
 use Rattle.trips_isa.specs.Rule.{Answer}
-use Rattle.trips_isa.specs.Blocks.{Responses, Solves}
+use Rattle.trips_isa.specs.Blocks.{Responses}
+use Rattle.trips_isa.specs.inside.Blocks.{Solves}
 use Rattle.block_cases.specs.Orders.{slot_of}
 use Rattle.commit_flush_spec.specs.Frames.{Frame}
 use Rattle.commit_flush_spec.specs.Older.{committed, follows}
-use Rattle.commit_flush_spec.specs.Invariant.{AllGood, FrameOk, FramesOk, IsRunnable}
-use Rattle.commit_flush_spec.specs.Laws.{AllKept, NoneLost, WindowOk}
+use Rattle.commit_flush_spec.specs.inside.Invariant.{AllGood, FrameOk, FramesOk, IsRunnable}
+use Rattle.commit_flush_spec.specs.inside.Laws.{AllKept, NoneLost, WindowOk}
 use Rattle.grid_cycle_spec.specs.Grid.{Grid, Fetching}
 use Rattle.grid_cycle_spec.specs.Acting.{known_next}
-use Rattle.grid_bound.specs.Course.{Course}
-use Rattle.grid_bound.specs.Lane.{Lane, is_complete, is_there}
-use Rattle.grid_bound.specs.Lane as lane
-use Rattle.grid_bound.specs.Laws.{FineAt, FrontRule, LaneRule, StageRule}
-use Rattle.grid_bound.specs.Blocks.{course_of, read_task, room, slot_task, slot_tasks, task_of}
-use Rattle.grid_bound.specs.Programs.{size_in}
-use Rattle.grid_bound.specs.Seen.{fetch_of, front_of, has_come, lane_of, phase_of, read_phase, slot_phase}
-use Rattle.grid_bound.specs.Seen.{stage_of}
+use Rattle.grid_bound.specs.inside.Course.{Course}
+use Rattle.grid_bound.specs.inside.Lane.{Lane, is_complete, is_there}
+use Rattle.grid_bound.specs.inside.Lane as lane
+use Rattle.grid_bound.specs.inside.Laws.{FineAt, FrontRule, LaneRule, StageRule}
+use Rattle.grid_bound.specs.inside.Blocks.{course_of, read_task, room, slot_task, slot_tasks, task_of}
+use Rattle.grid_bound.specs.inside.Programs.{size_in}
+use Rattle.grid_bound.specs.inside.Seen.{fetch_of, front_of, has_come, lane_of, phase_of, read_phase, slot_phase}
+use Rattle.grid_bound.specs.inside.Seen.{stage_of}
 use Rattle.grid_bound.proofs.Courses.{course_good}
 use Rattle.grid_bound.proofs.Seen.{complete_seen}
 use Rattle.grid_bound.proofs.Sizes.{room_is, slot_tasks_is, tasks_are}
-use Rattle.grid_bound.specs.UnderWay.{Tied}
-use Rattle.grid_bound.specs.Rule.{EachFrame, FetchRule, GridRule, HeldFrom, RunsTied, UnitsRule}
+use Rattle.grid_bound.specs.inside.UnderWay.{Tied}
+use Rattle.grid_bound.specs.inside.Rule.{EachFrame, FetchRule, GridRule, HeldFrom, RunsTied, UnitsRule}
 use Rattle.grid_bound.proofs.Landing.{read_fine, read_placed, slot_fine, slot_placed}
 
 next_is : (n k : ℕ) → follows (Some n) k ≡ true → n ≡ k

@@ -6,15 +6,15 @@ use Rattle.operand_net.specs.declared.parcel.Trip.{Trip}
 use Rattle.operand_net.specs.declared.parcel.Stand.{Stand}
 use Rattle.operand_net.specs.declared.parcel.Stand.TheVariants.{Nowhere, Away, Held}
 use Rattle.operand_net.specs.Tick.{next_of}
-use Rattle.grid_cycle_spec.specs.Stations.{far}
-use Rattle.grid_cycle_spec.specs.Laws.{IsNearer}
+use Rattle.grid_cycle_spec.specs.inside.Stations.{far}
+use Rattle.grid_cycle_spec.specs.inside.Laws.{IsNearer}
 use Rattle.grid_cycle_spec.proofs.Routes.{far_at_most, leads_nearer}
-use Rattle.grid_bound.specs.Course.{Target, OnMesh}
-use Rattle.grid_bound.specs.Lane.{Phase, Absent, Idle, Working, Asking, Standing, Sent}
-use Rattle.grid_bound.specs.Sending.{parcel, launch}
-use Rattle.grid_bound.specs.Moving.{taken, goes, asked, moved, is_nowhere, landed}
-use Rattle.grid_bound.specs.Left.{parcel_left, task_left}
-use Rattle.grid_bound.specs.Laws.{Bounded, Has, Landed, OnItsWay}
+use Rattle.grid_bound.specs.inside.Course.{Target, OnMesh}
+use Rattle.grid_bound.specs.inside.Lane.{Phase, Absent, Idle, Working, Asking, Standing, Sent}
+use Rattle.grid_bound.specs.inside.Sending.{parcel, launch}
+use Rattle.grid_bound.specs.inside.Moving.{taken, goes, asked, moved, is_nowhere, landed}
+use Rattle.grid_bound.specs.inside.Left.{parcel_left, task_left}
+use Rattle.grid_bound.specs.inside.Laws.{Bounded, Has, Landed, OnItsWay}
 
 held_left : (trip : Trip) (h : ℕ) → h ≤ 3 → parcel_left (taken (Held trip h)) ≤ 3
 held_left trip zero l = omega arith

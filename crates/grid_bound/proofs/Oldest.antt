@@ -15,28 +15,28 @@ use Rattle.trips_isa.specs.Limits.{most_nodes}
 use Rattle.block_cases.specs.Orders.{slot_of}
 use Rattle.operand_net.specs.declared.parcel.Stand.{Stand}
 use Rattle.operand_net.specs.declared.parcel.Stand.TheVariants.{Nowhere, Away, Held}
-use Rattle.operand_net.specs.IsStands.{is_here}
+use Rattle.operand_net.specs.inside.IsStands.{is_here}
 use Rattle.commit_flush_spec.specs.Frames.{Frame, at, target, is_target}
 use Rattle.commit_flush_spec.specs.Older.{Older}
-use Rattle.commit_flush_spec.specs.Invariant.{FrameOk, AllGood, has_sent}
+use Rattle.commit_flush_spec.specs.inside.Invariant.{FrameOk, AllGood, has_sent}
 use Rattle.commit_flush_spec.proofs.Committing.{both_true}
 use Rattle.commit_flush_spec.proofs.Lists.{none_or}
 use Rattle.commit_flush_spec.proofs.Sends.{read_sends}
 use Rattle.commit_flush_spec.proofs.Tokens.{inst_in}
-use Rattle.commit_flush_spec.specs.Observers.{has_number}
-use Rattle.commit_flush_spec.specs.Work.{none_guessed}
+use Rattle.commit_flush_spec.specs.inside.Observers.{has_number}
+use Rattle.commit_flush_spec.specs.inside.Work.{none_guessed}
 use Rattle.grid_cycle_spec.specs.Grid.{Grid}
-use Rattle.grid_cycle_spec.specs.Arrivals.{is_waiting}
-use Rattle.grid_bound.specs.Lane.{Phase, Idle, Working, Asking, Standing, first_parcel, second_parcel}
-use Rattle.grid_bound.specs.Blocks.{kind_of, slot_tasks}
-use Rattle.grid_bound.specs.Seen.{after_unit, asking, phase_of, read_phase, sent_of, slot_phase}
+use Rattle.grid_cycle_spec.specs.inside.Arrivals.{is_waiting}
+use Rattle.grid_bound.specs.inside.Lane.{Phase, Idle, Working, Asking, Standing, first_parcel, second_parcel}
+use Rattle.grid_bound.specs.inside.Blocks.{kind_of, slot_tasks}
+use Rattle.grid_bound.specs.inside.Seen.{after_unit, asking, phase_of, read_phase, sent_of, slot_phase}
 use Rattle.grid_bound.proofs.Sizes.{slot_tasks_is}
-use Rattle.grid_bound.specs.Shows.{QuietReads}
-use Rattle.grid_bound.specs.DataRule.{DataRule, StandsFor}
-use Rattle.grid_bound.specs.UnitRule.{InUnit, ResultOf, UnitRule}
-use Rattle.grid_bound.specs.MoveRule.{IsToken, MoveRule, Travels}
-use Rattle.grid_bound.specs.UnderWay.{form_travels, Gives, IsSent, Tied, to_come, travels}
-use Rattle.grid_bound.specs.Rule.{FrameRule, UnitsRule, Waits}
+use Rattle.grid_bound.specs.inside.Shows.{QuietReads}
+use Rattle.grid_bound.specs.inside.DataRule.{DataRule, StandsFor}
+use Rattle.grid_bound.specs.inside.UnitRule.{InUnit, ResultOf, UnitRule}
+use Rattle.grid_bound.specs.inside.MoveRule.{IsToken, MoveRule, Travels}
+use Rattle.grid_bound.specs.inside.UnderWay.{form_travels, Gives, IsSent, Tied, to_come, travels}
+use Rattle.grid_bound.specs.inside.Rule.{FrameRule, UnitsRule, Waits}
 use Rattle.grid_bound.proofs.Travels.{IsPlace, and_none, false_of, first_travels, half_first, half_second}
 use Rattle.grid_bound.proofs.Travels.{is_there, none_is, none_travels, read_travels, result_of, second_travels}
 use Rattle.grid_bound.proofs.Travels.{first_low, second_low, sides, some_is, unfired_none, waiting_none, waits_for}

@@ -17,28 +17,30 @@ use Rattle.trips_isa.specs.Blocks.{at_place}
 use Rattle.block_cases.specs.Orders.{slot_of}
 use Rattle.operand_net.specs.declared.parcel.Stand.{Stand}
 use Rattle.operand_net.specs.declared.parcel.Stand.TheVariants.{Nowhere, Away, Held}
-use Rattle.operand_net.specs.Places.{come, put}
+use Rattle.operand_net.specs.Places.{put}
+use Rattle.operand_net.specs.inside.Places.{come}
 use Rattle.commit_flush_spec.specs.Frames.{Frame, at, target, is_target}
 use Rattle.commit_flush_spec.specs.Older.{committed}
-use Rattle.commit_flush_spec.specs.Invariant.{AllGood, FrameOk}
-use Rattle.commit_flush_spec.specs.Laws.{WindowOk}
+use Rattle.commit_flush_spec.specs.inside.Invariant.{AllGood, FrameOk}
+use Rattle.commit_flush_spec.specs.inside.Laws.{WindowOk}
 use Rattle.commit_flush_spec.proofs.Kept.{half_places}
 use Rattle.commit_flush_spec.proofs.Tokens.{inst_in}
-use Rattle.commit_flush_spec.specs.Observers.{has_number}
+use Rattle.commit_flush_spec.specs.inside.Observers.{has_number}
 use Rattle.grid_cycle_spec.specs.Stations.{data_node, home}
 use Rattle.grid_cycle_spec.specs.DataTiles.{tile_by}
 use Rattle.grid_cycle_spec.specs.Grid.{Grid}
-use Rattle.grid_cycle_spec.specs.Arrivals.{asks, delivers, is_waiting, slot_arrives, inst_arrives, place_arrives}
-use Rattle.grid_cycle_spec.specs.Arrivals.{arrives_if, arrival}
+use Rattle.grid_cycle_spec.specs.inside.Arrivals.{asks, delivers, is_waiting, slot_arrives, inst_arrives}
+use Rattle.grid_cycle_spec.specs.inside.Arrivals.{place_arrives}
+use Rattle.grid_cycle_spec.specs.inside.Arrivals.{arrives_if, arrival}
 use Rattle.grid_cycle_spec.specs.Choosing.{with_frame}
-use Rattle.grid_bound.specs.Course.{Kind, Plain, Serving, Course, Task}
-use Rattle.grid_bound.specs.Lane.{Phase, Absent, Idle, Sent, Front, first_parcel, second_parcel}
-use Rattle.grid_bound.specs.Answering.{hits}
-use Rattle.grid_bound.specs.Moving.{row, free_at}
-use Rattle.grid_bound.specs.Blocks.{slot_tasks, kind_of, first_of, slot_task, read_task, target_at, course_of}
-use Rattle.grid_bound.specs.Seen.{slot_phase, read_phase, front_of}
+use Rattle.grid_bound.specs.inside.Course.{Kind, Plain, Serving, Course, Task}
+use Rattle.grid_bound.specs.inside.Lane.{Phase, Absent, Idle, Sent, Front, first_parcel, second_parcel}
+use Rattle.grid_bound.specs.inside.Answering.{hits}
+use Rattle.grid_bound.specs.inside.Moving.{row, free_at}
+use Rattle.grid_bound.specs.inside.Blocks.{slot_tasks, kind_of, first_of, slot_task, read_task, target_at, course_of}
+use Rattle.grid_bound.specs.inside.Seen.{slot_phase, read_phase, front_of}
 use Rattle.grid_bound.proofs.Sizes.{slot_tasks_is, slot_is, read_is}
-use Rattle.grid_bound.specs.MoveRule.{IsToken, Travels, MoveRule}
+use Rattle.grid_bound.specs.inside.MoveRule.{IsToken, Travels, MoveRule}
 use Rattle.grid_bound.proofs.OldestEnds.{oldest_ok}
 use Rattle.grid_bound.proofs.Fronts.{slot_far, slot_phase_is, at_slot, at_read}
 use Rattle.grid_bound.proofs.Entering.{slot_targets, read_targets}

@@ -18,8 +18,8 @@ use Rattle.commit_flush_spec.specs.InFlight.{commit_to}
 use Rattle.commit_flush_spec.specs.Window.{Window, alone, change, on_frame, can_now, unless_over, can, done, happens}
 use Rattle.commit_flush_spec.specs.Window.{is_sealed, commit}
 use Rattle.commit_flush_spec.specs.Window as window
-use Rattle.commit_flush_spec.specs.Invariant.{FramesOk, FrameOk}
-use Rattle.commit_flush_spec.specs.Laws.{WindowOk}
+use Rattle.commit_flush_spec.specs.inside.Invariant.{FramesOk, FrameOk}
+use Rattle.commit_flush_spec.specs.inside.Laws.{WindowOk}
 use Rattle.commit_flush_spec.proofs.Events.{taken}
 use Rattle.commit_flush_spec.proofs.FramesSeen.{change_oldest}
 use Rattle.commit_flush_spec.proofs.Next.{at_oldest}
@@ -28,8 +28,8 @@ use Rattle.grid_cycle_spec.specs.Acting.{is_done, may}
 use Rattle.grid_cycle_spec.specs.Ends.{seal_one, seal_each, learning, committed_as, commit_in}
 use Rattle.grid_cycle_spec.specs.Ends.{commit_oldest, ends}
 use Rattle.grid_bound.proofs.Programs.{applied_trace, length_more}
-use Rattle.grid_bound.specs.Behind.{Apart, Behind}
-use Rattle.grid_bound.specs.Shows.{Commits}
+use Rattle.grid_bound.specs.inside.Behind.{Apart, Behind}
+use Rattle.grid_bound.specs.inside.Shows.{Commits}
 use Rattle.grid_bound.proofs.Ahead.{younger_apart, event_leads}
 use Rattle.grid_bound.proofs.Others.{behind_at, windowed}
 

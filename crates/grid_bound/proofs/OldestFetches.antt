@@ -20,7 +20,7 @@ use Rattle.commit_flush_spec.specs.Older.{after_all, committed, follows}
 use Rattle.commit_flush_spec.specs.Window.{Window, can, can_fetch, can_now, done, happens, unless_over, in_flight}
 use Rattle.commit_flush_spec.specs.Window.{lowest_empty, is_worn, fetched}
 use Rattle.commit_flush_spec.specs.Window as window
-use Rattle.commit_flush_spec.specs.Laws.{WindowOk}
+use Rattle.commit_flush_spec.specs.inside.Laws.{WindowOk}
 use Rattle.commit_flush_spec.proofs.Events.{taken}
 use Rattle.commit_flush_spec.proofs.Flow.{some_of}
 use Rattle.commit_flush_spec.proofs.Frames.{not_now}
@@ -31,15 +31,15 @@ use Rattle.grid_cycle_spec.specs.Acting.{is_done, may}
 use Rattle.grid_cycle_spec.specs.Fetches.{filled, fills, fill_where, fetch_on, fetch_ends, begun, stands}
 use Rattle.grid_cycle_spec.specs.Fetches.{begun_predicted, begun_guess, begun_behind, begun_after, has_room}
 use Rattle.grid_cycle_spec.specs.Fetches.{fetch_begins, begins, fetches}
-use Rattle.grid_bound.specs.Course.{Course}
-use Rattle.grid_bound.specs.Lane.{Phase, Absent, Idle, Front, Stage, Running}
-use Rattle.grid_bound.specs.Lane as lane
-use Rattle.grid_bound.specs.Sending.{fetching}
-use Rattle.grid_bound.specs.Sending as sending
-use Rattle.grid_bound.specs.Blocks.{slot_tasks, slot_task, read_task, course_of}
-use Rattle.grid_bound.specs.Seen.{slot_phase, read_phase, phase_of, has_come, front_of, fetch_of, stage_of}
-use Rattle.grid_bound.specs.Behind.{Behind}
-use Rattle.grid_bound.specs.Shows.{IsDue}
+use Rattle.grid_bound.specs.inside.Course.{Course}
+use Rattle.grid_bound.specs.inside.Lane.{Phase, Absent, Idle, Front, Stage, Running}
+use Rattle.grid_bound.specs.inside.Lane as lane
+use Rattle.grid_bound.specs.inside.Sending.{fetching}
+use Rattle.grid_bound.specs.inside.Sending as sending
+use Rattle.grid_bound.specs.inside.Blocks.{slot_tasks, slot_task, read_task, course_of}
+use Rattle.grid_bound.specs.inside.Seen.{slot_phase, read_phase, phase_of, has_come, front_of, fetch_of, stage_of}
+use Rattle.grid_bound.specs.inside.Behind.{Behind}
+use Rattle.grid_bound.specs.inside.Shows.{IsDue}
 
 -- answers ------------------------------------------------------------------------------------------
 

@@ -15,40 +15,41 @@ use Rattle.trips_isa.specs.declared.block.Block.{Block}
 use Rattle.trips_isa.specs.declared.run.Stepped.TheVariants as stepped
 use Rattle.trips_isa.specs.Forms.{form_of}
 use Rattle.trips_isa.specs.Rule.{Answer}
-use Rattle.trips_isa.specs.Blocks.{Responses, Solves, at_place}
+use Rattle.trips_isa.specs.Blocks.{Responses, at_place}
+use Rattle.trips_isa.specs.inside.Blocks.{Solves}
 use Rattle.block_cases.specs.Orders.{slot_of}
 use Rattle.commit_flush_spec.specs.Causes.{NoFrame, Done, NotNow}
 use Rattle.commit_flush_spec.specs.Frames.{Frame, Exit, at}
 use Rattle.trips_isa.specs.declared.block.Stored.{Stored}
 use Rattle.commit_flush_spec.specs.Older.{committed}
 use Rattle.commit_flush_spec.specs.Dataflow.{can_fire, fire}
-use Rattle.commit_flush_spec.specs.Invariant.{Below, AllGood, FrameOk}
-use Rattle.commit_flush_spec.specs.Laws.{WindowOk, NoneLost, AllKept}
+use Rattle.commit_flush_spec.specs.inside.Invariant.{Below, AllGood, FrameOk}
+use Rattle.commit_flush_spec.specs.inside.Laws.{WindowOk, NoneLost, AllKept}
 use Rattle.commit_flush_spec.specs.Window.{Window, alone, change, can, can_now, unless_over, done, happens}
 use Rattle.commit_flush_spec.specs.Window as window
 use Rattle.commit_flush_spec.proofs.Events.{taken}
 use Rattle.commit_flush_spec.proofs.Lists.{flag_here}
 use Rattle.commit_flush_spec.proofs.Stored.{number_small}
 use Rattle.commit_flush_spec.proofs.Whole.{happens_moves}
-use Rattle.commit_flush_spec.specs.Observers.{has_number}
+use Rattle.commit_flush_spec.specs.inside.Observers.{has_number}
 use Rattle.commit_flush_spec.proofs.Bits.{ready_tells}
 use Rattle.commit_flush_spec.proofs.Search.{done_is}
 use Rattle.commit_flush_spec.proofs.FramesSeen.{change_oldest}
 use Rattle.grid_cycle_spec.specs.Stations.{tile_of}
 use Rattle.grid_cycle_spec.specs.Grid.{Grid}
 use Rattle.grid_cycle_spec.specs.Acting.{is_done, may}
-use Rattle.grid_cycle_spec.specs.Arrivals.{is_waiting}
+use Rattle.grid_cycle_spec.specs.inside.Arrivals.{is_waiting}
 use Rattle.grid_cycle_spec.specs.Choosing.{least, eldest, found_in, slots, with_frame}
 use Rattle.grid_cycle_spec.specs.Units.{takes, issued, issue_chosen, issues, ready as unit_ready}
-use Rattle.grid_bound.specs.Course.{Course, Task, is_reading}
-use Rattle.grid_bound.specs.Lane.{any, Working, Front, is_idle, unissued, ready}
-use Rattle.grid_bound.specs.Sending.{tile_of as lane_tile}
-use Rattle.grid_bound.specs.Blocks.{slot_tasks, kind_of, slot_task, read_task, course_of}
-use Rattle.grid_bound.specs.Seen.{slot_phase, read_phase, phase_of, has_come, front_of}
+use Rattle.grid_bound.specs.inside.Course.{Course, Task, is_reading}
+use Rattle.grid_bound.specs.inside.Lane.{any, Working, Front, is_idle, unissued, ready}
+use Rattle.grid_bound.specs.inside.Sending.{tile_of as lane_tile}
+use Rattle.grid_bound.specs.inside.Blocks.{slot_tasks, kind_of, slot_task, read_task, course_of}
+use Rattle.grid_bound.specs.inside.Seen.{slot_phase, read_phase, phase_of, has_come, front_of}
 use Rattle.grid_bound.proofs.Counting.{any_from}
 use Rattle.grid_bound.proofs.Ready.{ready_seen}
 use Rattle.grid_bound.proofs.Sizes.{slot_tasks_is, slot_is, read_is}
-use Rattle.grid_bound.specs.Behind.{Behind}
+use Rattle.grid_bound.specs.inside.Behind.{Behind}
 use Rattle.grid_bound.proofs.Ahead.{same_number, younger_apart}
 use Rattle.grid_bound.proofs.Others.{behind_at, issue_other}
 use Rattle.grid_bound.proofs.OldestEnds.{asks_oldest, oldest_ok}

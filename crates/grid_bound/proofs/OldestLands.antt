@@ -13,11 +13,11 @@ use Rattle.trips_isa.specs.declared.block.Token.{Token}
 use Rattle.trips_isa.specs.Rule.{Answer}
 use Rattle.commit_flush_spec.specs.Frames.{Frame, Exit, at, is_target}
 use Rattle.commit_flush_spec.proofs.Lists.{other_at, set_here}
-use Rattle.grid_bound.specs.Course.{Target}
-use Rattle.grid_bound.specs.Lane.{any}
-use Rattle.grid_bound.specs.Answering.{hits}
-use Rattle.grid_bound.specs.Moving.{taken, is_nowhere, landed}
-use Rattle.grid_bound.specs.Seen.{has_come}
+use Rattle.grid_bound.specs.inside.Course.{Target}
+use Rattle.grid_bound.specs.inside.Lane.{any}
+use Rattle.grid_bound.specs.inside.Answering.{hits}
+use Rattle.grid_bound.specs.inside.Moving.{taken, is_nowhere, landed}
+use Rattle.grid_bound.specs.inside.Seen.{has_come}
 
 -- a parcel has come to its end, and is held no longer
 abbrev pub due : Stand → Bool

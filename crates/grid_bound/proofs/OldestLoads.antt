@@ -19,8 +19,8 @@ use Rattle.commit_flush_spec.specs.Frames.{Frame, Taken, at, target, is_target, 
 use Rattle.commit_flush_spec.specs.Older.{Older}
 use Rattle.commit_flush_spec.specs.Sending.{send, token_with}
 use Rattle.commit_flush_spec.specs.Memory.{is_request, can_load, load, load_answered, taken_of, taken_word}
-use Rattle.commit_flush_spec.specs.Invariant.{AllGood, FrameOk, has_sent, inst_sent}
-use Rattle.commit_flush_spec.specs.Laws.{WindowOk}
+use Rattle.commit_flush_spec.specs.inside.Invariant.{AllGood, FrameOk, has_sent, inst_sent}
+use Rattle.commit_flush_spec.specs.inside.Laws.{WindowOk}
 use Rattle.commit_flush_spec.specs.Window.{Window, alone, change, can, can_now, unless_over, done, happens}
 use Rattle.commit_flush_spec.specs.Window as window
 use Rattle.commit_flush_spec.proofs.Events.{taken}
@@ -31,18 +31,18 @@ use Rattle.commit_flush_spec.proofs.FramesSeen.{change_oldest}
 use Rattle.commit_flush_spec.proofs.Fills.{slot_fills}
 use Rattle.grid_cycle_spec.specs.Stations.{data_node}
 use Rattle.grid_cycle_spec.specs.Grid.{Grid}
-use Rattle.grid_cycle_spec.specs.Arrivals.{is_waiting}
+use Rattle.grid_cycle_spec.specs.inside.Arrivals.{is_waiting}
 use Rattle.grid_cycle_spec.specs.Choosing.{with_frame}
 use Rattle.grid_cycle_spec.specs.Sending.{enter_both}
 use Rattle.grid_cycle_spec.specs.DataTiles.{tile_by, unasked}
 use Rattle.grid_cycle_spec.specs.DataTiles as tiles
-use Rattle.grid_bound.specs.Course.{Course, Task}
-use Rattle.grid_bound.specs.Lane.{Sent, Front}
-use Rattle.grid_bound.specs.Sending.{launch, sent_from}
-use Rattle.grid_bound.specs.Answering.{settled, resolves, answer_one}
-use Rattle.grid_bound.specs.Blocks.{kind_of, first_of, slot_task, target_at}
-use Rattle.grid_bound.specs.Seen.{slot_phase, phase_of, has_come, front_of}
-use Rattle.grid_bound.specs.DataRule.{DataRule}
+use Rattle.grid_bound.specs.inside.Course.{Course, Task}
+use Rattle.grid_bound.specs.inside.Lane.{Sent, Front}
+use Rattle.grid_bound.specs.inside.Sending.{launch, sent_from}
+use Rattle.grid_bound.specs.inside.Answering.{settled, resolves, answer_one}
+use Rattle.grid_bound.specs.inside.Blocks.{kind_of, first_of, slot_task, target_at}
+use Rattle.grid_bound.specs.inside.Seen.{slot_phase, phase_of, has_come, front_of}
+use Rattle.grid_bound.specs.inside.DataRule.{DataRule}
 use Rattle.grid_bound.proofs.Ahead.{same_number}
 use Rattle.grid_bound.proofs.OldestEnds.{asks_oldest}
 use Rattle.grid_bound.proofs.Fronts.{slot_far, slot_phase_is, same_front, at_slot}

@@ -17,29 +17,32 @@ use Rattle.trips_isa.specs.Rule.{Answer}
 use Rattle.block_cases.specs.Orders.{slot_of}
 use Rattle.operand_net.specs.declared.parcel.Stand.{Stand}
 use Rattle.operand_net.specs.declared.parcel.Stand.TheVariants.{Nowhere, Away, Held}
-use Rattle.operand_net.specs.Places.{Places, come}
+use Rattle.operand_net.specs.Places.{Places}
+use Rattle.operand_net.specs.inside.Places.{come}
 use Rattle.operand_net.specs.Tick.{ticked, is_free}
 use Rattle.commit_flush_spec.specs.Frames.{Frame, at}
 use Rattle.commit_flush_spec.specs.Older.{committed}
-use Rattle.commit_flush_spec.specs.Invariant.{AllGood, FrameOk}
-use Rattle.commit_flush_spec.specs.Laws.{WindowOk}
+use Rattle.commit_flush_spec.specs.inside.Invariant.{AllGood, FrameOk}
+use Rattle.commit_flush_spec.specs.inside.Laws.{WindowOk}
 use Rattle.commit_flush_spec.proofs.Tokens.{inst_in}
 use Rattle.commit_flush_spec.proofs.Tokens as tokens
 use Rattle.grid_cycle_spec.specs.Grid.{Grid, numbers_of}
-use Rattle.grid_cycle_spec.specs.Arrivals.{is_waiting, arrival, arrivals}
-use Rattle.grid_cycle_spec.specs.Choosing.{each, places}
-use Rattle.grid_bound.specs.Course.{Kind, Reading, Plain, Serving, Course}
-use Rattle.grid_bound.specs.Lane.{any, Phase, Absent, Idle, Working, Asking, Standing, Sent, Front, first_parcel}
-use Rattle.grid_bound.specs.Lane.{second_parcel}
-use Rattle.grid_bound.specs.Sending.{none_busy}
-use Rattle.grid_bound.specs.Moving.{row, free_at, moved, landed, move_at, move_front}
-use Rattle.grid_bound.specs.Moving as moving
-use Rattle.grid_bound.specs.Blocks.{slot_tasks, room, kind_of, course_of}
-use Rattle.grid_bound.specs.Seen.{slot_phase, read_phase, phase_of, has_come, front_of}
+use Rattle.grid_cycle_spec.specs.inside.Arrivals.{is_waiting, arrival, arrivals}
+use Rattle.grid_cycle_spec.specs.Choosing.{each}
+use Rattle.grid_cycle_spec.specs.inside.Choosing.{places}
+use Rattle.grid_bound.specs.inside.Course.{Kind, Reading, Plain, Serving, Course}
+use Rattle.grid_bound.specs.inside.Lane.{any, Phase, Absent, Idle, Working, Asking, Standing, Sent, Front}
+use Rattle.grid_bound.specs.inside.Lane.{first_parcel}
+use Rattle.grid_bound.specs.inside.Lane.{second_parcel}
+use Rattle.grid_bound.specs.inside.Sending.{none_busy}
+use Rattle.grid_bound.specs.inside.Moving.{row, free_at, moved, landed, move_at, move_front}
+use Rattle.grid_bound.specs.inside.Moving as moving
+use Rattle.grid_bound.specs.inside.Blocks.{slot_tasks, room, kind_of, course_of}
+use Rattle.grid_bound.specs.inside.Seen.{slot_phase, read_phase, phase_of, has_come, front_of}
 use Rattle.grid_bound.proofs.Sizes.{slot_tasks_is, room_is}
-use Rattle.grid_bound.specs.Behind.{Apart, Behind}
-use Rattle.grid_bound.specs.Shows.{Shows}
-use Rattle.grid_bound.specs.MoveRule.{Travels, MoveRule}
+use Rattle.grid_bound.specs.inside.Behind.{Apart, Behind}
+use Rattle.grid_bound.specs.inside.Shows.{Shows}
+use Rattle.grid_bound.specs.inside.MoveRule.{Travels, MoveRule}
 use Rattle.grid_bound.proofs.Ahead.{younger_apart}
 use Rattle.grid_bound.proofs.Steady.{Onward, then_onward, steady}
 use Rattle.grid_bound.proofs.Walk.{each_keeps, comes_keeps}

@@ -12,21 +12,21 @@ use Rattle.trips_isa.specs.Blocks.{at_place}
 use Rattle.commit_flush_spec.specs.Frames.{Frame, at}
 use Rattle.commit_flush_spec.specs.Older.{Older, committed}
 use Rattle.commit_flush_spec.specs.Memory.{with_slot, with_inst, request}
-use Rattle.commit_flush_spec.specs.Invariant.{AllGood, FrameOk, Asked}
-use Rattle.commit_flush_spec.specs.Laws.{WindowOk}
+use Rattle.commit_flush_spec.specs.inside.Invariant.{AllGood, FrameOk, Asked}
+use Rattle.commit_flush_spec.specs.inside.Laws.{WindowOk}
 use Rattle.commit_flush_spec.proofs.Stored.{number_small}
 use Rattle.commit_flush_spec.proofs.Tokens.{inst_in}
-use Rattle.commit_flush_spec.specs.Observers.{has_number}
+use Rattle.commit_flush_spec.specs.inside.Observers.{has_number}
 use Rattle.grid_cycle_spec.specs.Grid.{Grid}
-use Rattle.grid_cycle_spec.specs.Arrivals.{is_waiting}
+use Rattle.grid_cycle_spec.specs.inside.Arrivals.{is_waiting}
 use Rattle.grid_cycle_spec.specs.DataTiles.{tile_by, tile_for}
-use Rattle.grid_bound.specs.Course.{Serving, Course, Task}
-use Rattle.grid_bound.specs.Lane.{Standing, Front}
-use Rattle.grid_bound.specs.Sending.{station_of}
-use Rattle.grid_bound.specs.Blocks.{slot_tasks, kind_of, slot_task, course_of}
-use Rattle.grid_bound.specs.Seen.{slot_phase, phase_of, front_of}
+use Rattle.grid_bound.specs.inside.Course.{Serving, Course, Task}
+use Rattle.grid_bound.specs.inside.Lane.{Standing, Front}
+use Rattle.grid_bound.specs.inside.Sending.{station_of}
+use Rattle.grid_bound.specs.inside.Blocks.{slot_tasks, kind_of, slot_task, course_of}
+use Rattle.grid_bound.specs.inside.Seen.{slot_phase, phase_of, front_of}
 use Rattle.grid_bound.proofs.Sizes.{slot_tasks_is, slot_is}
-use Rattle.grid_bound.specs.DataRule.{StandsFor, DataRule}
+use Rattle.grid_bound.specs.inside.DataRule.{StandsFor, DataRule}
 use Rattle.grid_bound.proofs.Ahead.{same_number}
 use Rattle.grid_bound.proofs.OldestEnds.{oldest_ok}
 use Rattle.grid_bound.proofs.Fronts.{slot_far, slot_phase_is, task_same, at_slot}

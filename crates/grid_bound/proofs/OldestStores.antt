@@ -24,8 +24,8 @@ use Rattle.commit_flush_spec.specs.Frames.{Frame, Taken, at, numbers, slot_node}
 use Rattle.commit_flush_spec.specs.Sending.{mark_with}
 use Rattle.commit_flush_spec.specs.Older.{Older, took_touched, nearest, violated, cut}
 use Rattle.commit_flush_spec.specs.Memory.{is_request, can_store, store, store_resolved, with_store, checked}
-use Rattle.commit_flush_spec.specs.Invariant.{AllGood, FrameOk, FramesOk}
-use Rattle.commit_flush_spec.specs.Laws.{WindowOk, NoneLost, AllKept}
+use Rattle.commit_flush_spec.specs.inside.Invariant.{AllGood, FrameOk, FramesOk}
+use Rattle.commit_flush_spec.specs.inside.Laws.{WindowOk, NoneLost, AllKept}
 use Rattle.commit_flush_spec.specs.Window.{Window, change, can, can_now, unless_over, done, happens}
 use Rattle.commit_flush_spec.specs.Window as window
 use Rattle.commit_flush_spec.proofs.Events.{taken}
@@ -39,21 +39,21 @@ use Rattle.commit_flush_spec.proofs.Stuck.{numbers_are}
 use Rattle.grid_cycle_spec.specs.Stations.{data_node}
 use Rattle.grid_cycle_spec.specs.Grid.{Grid}
 use Rattle.grid_cycle_spec.specs.Acting.{act, flushed, gone, is_done, settled}
-use Rattle.grid_cycle_spec.specs.Arrivals.{is_waiting}
+use Rattle.grid_cycle_spec.specs.inside.Arrivals.{is_waiting}
 use Rattle.grid_cycle_spec.specs.Choosing.{found_in, least}
 use Rattle.grid_cycle_spec.specs.DataTiles.{tile_by, unasked, stored_by, wrong_behind, wrong_from, wrong_in}
 use Rattle.grid_cycle_spec.specs.DataTiles.{wrong_load}
 use Rattle.grid_cycle_spec.specs.DataTiles.{by_block, waits_now}
 use Rattle.grid_cycle_spec.specs.DataTiles as tiles
-use Rattle.grid_bound.specs.Course.{Course, Task}
-use Rattle.grid_bound.specs.Lane.{Phase, Sent, Front, Stage}
-use Rattle.grid_bound.specs.Lane as lane
-use Rattle.grid_bound.specs.Answering.{hits, resolves, answer_one}
-use Rattle.grid_bound.specs.Answering as answering
-use Rattle.grid_bound.specs.Blocks.{kind_of, first_of, slot_task, target_at}
-use Rattle.grid_bound.specs.Seen.{slot_phase, phase_of, has_come, front_of, fetch_of}
-use Rattle.grid_bound.specs.Behind.{Behind}
-use Rattle.grid_bound.specs.DataRule.{DataRule}
+use Rattle.grid_bound.specs.inside.Course.{Course, Task}
+use Rattle.grid_bound.specs.inside.Lane.{Phase, Sent, Front, Stage}
+use Rattle.grid_bound.specs.inside.Lane as lane
+use Rattle.grid_bound.specs.inside.Answering.{hits, resolves, answer_one}
+use Rattle.grid_bound.specs.inside.Answering as answering
+use Rattle.grid_bound.specs.inside.Blocks.{kind_of, first_of, slot_task, target_at}
+use Rattle.grid_bound.specs.inside.Seen.{slot_phase, phase_of, has_come, front_of, fetch_of}
+use Rattle.grid_bound.specs.inside.Behind.{Behind}
+use Rattle.grid_bound.specs.inside.DataRule.{DataRule}
 use Rattle.grid_bound.proofs.Ahead.{same_number}
 use Rattle.grid_bound.proofs.Others.{behind_at, was_flushed, acted_leaving, waiting_now}
 use Rattle.grid_bound.proofs.OldestEnds.{asks_oldest}

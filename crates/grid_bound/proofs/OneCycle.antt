@@ -7,27 +7,29 @@ use Rattle.trips_isa.specs.declared.run.Stepped.TheVariants as stepped
 use Rattle.trips_isa.specs.Machine.{State, runs}
 use Rattle.block_predict.specs.Predicts.{holding}
 use Rattle.commit_flush_spec.specs.InFlight.{opened}
-use Rattle.commit_flush_spec.specs.Invariant.{AllGood}
-use Rattle.commit_flush_spec.specs.Laws.{WindowOk, TakesSteps}
+use Rattle.commit_flush_spec.specs.inside.Invariant.{AllGood}
+use Rattle.commit_flush_spec.specs.Laws.{TakesSteps}
+use Rattle.commit_flush_spec.specs.inside.Laws.{WindowOk}
 use Rattle.grid_cycle_spec.specs.Costs.{cost_in}
 use Rattle.grid_cycle_spec.specs.Grid.{Grid}
-use Rattle.grid_cycle_spec.specs.Cycles.{AfterCycles, Eager, begun_at}
+use Rattle.grid_cycle_spec.specs.Cycles.{Eager, begun_at}
+use Rattle.grid_cycle_spec.specs.inside.Cycles.{AfterCycles}
 use Rattle.grid_cycle_spec.proofs.Agreeing.{takes_steps}
-use Rattle.grid_bound.specs.Laws.{LaneRule}
-use Rattle.grid_bound.specs.Left.{left, price}
-use Rattle.grid_bound.specs.Programs.{size_in}
-use Rattle.grid_bound.specs.Serving.{Served}
+use Rattle.grid_bound.specs.inside.Laws.{LaneRule}
+use Rattle.grid_bound.specs.inside.Left.{left, price}
+use Rattle.grid_bound.specs.inside.Programs.{size_in}
+use Rattle.grid_bound.specs.inside.Serving.{Served}
 use Rattle.grid_bound.proofs.Served.{left_some, left_most, served_falls}
-use Rattle.grid_bound.specs.Lanes.{lane_in}
-use Rattle.grid_bound.specs.Runs.{Stands}
-use Rattle.grid_bound.specs.Shows.{Commits}
+use Rattle.grid_bound.specs.inside.Lanes.{lane_in}
+use Rattle.grid_bound.specs.inside.Runs.{Stands}
+use Rattle.grid_bound.specs.inside.Shows.{Commits}
 use Rattle.grid_bound.proofs.EagerFirst as eager
 use Rattle.grid_bound.proofs.FarUnits.{far_cycle}
-use Rattle.grid_bound.specs.Rule.{GridRule}
+use Rattle.grid_bound.specs.inside.Rule.{GridRule}
 use Rattle.grid_bound.proofs.CycleParts.{cycle_rule, cycles_window}
 use Rattle.grid_bound.proofs.Generations.{cycles_count}
-use Rattle.grid_bound.specs.GoesOn.{GoesOn}
-use Rattle.grid_bound.specs.OneCycle.{HasRule, left_in, OneCycle}
+use Rattle.grid_bound.specs.inside.GoesOn.{GoesOn}
+use Rattle.grid_bound.specs.inside.OneCycle.{HasRule, left_in, OneCycle}
 use Rattle.grid_bound.proofs.CycleGrows.{steps}
 use Rattle.grid_bound.proofs.StartPredictors.{begun_counted, begun_rule}
 use Rattle.grid_bound.proofs.Costs.{cost_is}

@@ -13,12 +13,13 @@ use Rattle.block_cases.specs.Orders.{slot_of}
 use Rattle.operand_net.specs.declared.parcel.Parcel.{Parcel}
 use Rattle.operand_net.specs.declared.parcel.Stand.{Stand}
 use Rattle.operand_net.specs.declared.parcel.Stand.TheVariants.{Nowhere, Away, Held}
-use Rattle.operand_net.specs.Places.{Places, put, come}
+use Rattle.operand_net.specs.Places.{Places, put}
+use Rattle.operand_net.specs.inside.Places.{come}
 use Rattle.commit_flush_spec.specs.Frames.{Frame, at, target, first_read_place, token_places}
 use Rattle.commit_flush_spec.specs.Memory.{request}
 use Rattle.commit_flush_spec.specs.Window.{Window, Event, happens}
 use Rattle.commit_flush_spec.specs.Window as window
-use Rattle.commit_flush_spec.specs.Laws.{WindowOk}
+use Rattle.commit_flush_spec.specs.inside.Laws.{WindowOk}
 use Rattle.grid_cycle_spec.specs.Stations.{bank_node, data_node, tile_node, tile_of, home, control}
 use Rattle.grid_cycle_spec.specs.Grid.{Grid, is_of}
 use Rattle.grid_cycle_spec.specs.Acting.{act, flushed, gone}
@@ -28,9 +29,9 @@ use Rattle.grid_cycle_spec.specs.Banks.{read_chosen}
 use Rattle.grid_cycle_spec.specs.DataTiles.{tile_by, unasked, load_answered, waits_now, wrong_load, store_resolved}
 use Rattle.grid_cycle_spec.specs.DataTiles.{answered_by, answer_chosen, by_block}
 use Rattle.grid_cycle_spec.specs.Units.{result_enters, slot_enters, rests, result_chosen, takes, issued, issue_chosen}
-use Rattle.grid_cycle_spec.specs.Arrivals.{asks, delivers, is_waiting, slot_arrives}
-use Rattle.grid_cycle_spec.specs.Arrivals.{inst_arrives, place_arrives, arrives_if, arrival}
-use Rattle.grid_bound.specs.Behind.{Apart, Behind}
+use Rattle.grid_cycle_spec.specs.inside.Arrivals.{asks, delivers, is_waiting, slot_arrives}
+use Rattle.grid_cycle_spec.specs.inside.Arrivals.{inst_arrives, place_arrives, arrives_if, arrival}
+use Rattle.grid_bound.specs.inside.Behind.{Apart, Behind}
 use Rattle.grid_bound.proofs.Ahead.{swapped, other_of, frame_of_place, younger_apart, IsOther, Leads, event_leads}
 
 put_other : (m : Places) (n k p : ℕ) (s : Stand) → (n == k) ≡ false → put m k p s n ≡ m n

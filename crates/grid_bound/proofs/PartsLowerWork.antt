@@ -6,14 +6,15 @@ use Rattle.std.proofs.lemmas.Bool.{both_ways}
 use Rattle.operand_net.specs.Tick.{link_of, wants, any_wants, is_free}
 use Rattle.operand_net.specs.declared.parcel.Stand.{Stand}
 use Rattle.operand_net.specs.declared.parcel.Stand.TheVariants.{Nowhere, Away, Held}
-use Rattle.grid_bound.specs.Course.{is_reading, Task, GoodTask}
-use Rattle.grid_bound.specs.Lane.{any, Phase, Absent, Idle, Working, Asking, Standing, Sent, is_idle}
-use Rattle.grid_bound.specs.Lane.{is_standing, first_parcel, second_parcel, Front, all_come, unread, unissued}
-use Rattle.grid_bound.specs.Lane.{ready}
-use Rattle.grid_bound.specs.Sending.{pick, none_busy, station_of, launch, sent_from, reads_front}
-use Rattle.grid_bound.specs.Moving.{goes, row, free_at, asked, moved, is_nowhere, delivers, move_at, move_front}
-use Rattle.grid_bound.specs.Left.{parcel_left, task_left, work}
-use Rattle.grid_bound.specs.Laws.{FineAt, Fine}
+use Rattle.grid_bound.specs.inside.Course.{is_reading, Task, GoodTask}
+use Rattle.grid_bound.specs.inside.Lane.{any, Phase, Absent, Idle, Working, Asking, Standing, Sent, is_idle}
+use Rattle.grid_bound.specs.inside.Lane.{is_standing, first_parcel, second_parcel, Front, all_come, unread, unissued}
+use Rattle.grid_bound.specs.inside.Lane.{ready}
+use Rattle.grid_bound.specs.inside.Sending.{pick, none_busy, station_of, launch, sent_from, reads_front}
+use Rattle.grid_bound.specs.inside.Moving.{goes, row, free_at, asked, moved, is_nowhere, delivers, move_at}
+use Rattle.grid_bound.specs.inside.Moving.{move_front}
+use Rattle.grid_bound.specs.inside.Left.{parcel_left, task_left, work}
+use Rattle.grid_bound.specs.inside.Laws.{FineAt, Fine}
 use Rattle.grid_bound.proofs.Counting.{chosen, pick_may}
 use Rattle.grid_bound.proofs.Work.{calm, calm_drop}
 use Rattle.grid_bound.proofs.Mesh.{Both, launch_left, moved_left, moved_drop_first, moved_drop_second, Leaves}

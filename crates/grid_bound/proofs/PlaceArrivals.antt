@@ -23,8 +23,8 @@ use Rattle.commit_flush_spec.specs.Frames.{Frame, at, target, is_target, token_p
 use Rattle.commit_flush_spec.specs.Older.{committed, successor_of}
 use Rattle.commit_flush_spec.specs.Dataflow.{can_deliver, deliver, delivered}
 use Rattle.commit_flush_spec.specs.Ends.{can_exit, exit, exit_by, branch_of, branch_mark, with_exit, kept}
-use Rattle.commit_flush_spec.specs.Invariant.{AllGood, FrameOk}
-use Rattle.commit_flush_spec.specs.Laws.{WindowOk, NoneLost, AllKept}
+use Rattle.commit_flush_spec.specs.inside.Invariant.{AllGood, FrameOk}
+use Rattle.commit_flush_spec.specs.inside.Laws.{WindowOk, NoneLost, AllKept}
 use Rattle.commit_flush_spec.specs.Window.{Window, alone, change, can, can_now, on_frame, unless_over, done, happens}
 use Rattle.commit_flush_spec.specs.Window as window
 use Rattle.commit_flush_spec.proofs.Events.{taken}
@@ -32,20 +32,21 @@ use Rattle.commit_flush_spec.proofs.Lists.{other_at}
 use Rattle.commit_flush_spec.proofs.Tokens.{inst_in}
 use Rattle.commit_flush_spec.proofs.Whole.{happens_moves}
 use Rattle.commit_flush_spec.proofs.FramesSeen.{change_oldest}
-use Rattle.commit_flush_spec.specs.Observers.{has_number}
+use Rattle.commit_flush_spec.specs.inside.Observers.{has_number}
 use Rattle.grid_cycle_spec.specs.Grid.{Grid}
 use Rattle.grid_cycle_spec.specs.Acting.{act, flushed, gone}
-use Rattle.grid_cycle_spec.specs.Arrivals.{asks, delivers, is_waiting}
-use Rattle.grid_bound.specs.Course.{Kind, Reading, Plain, Serving, Course, Task}
-use Rattle.grid_bound.specs.Lane.{any, Phase, Absent, Idle, Working, Asking, Standing, Sent, Front, first_parcel}
-use Rattle.grid_bound.specs.Lane.{second_parcel}
-use Rattle.grid_bound.specs.Moving.{row, free_at, landed}
-use Rattle.grid_bound.specs.Moving as moving
-use Rattle.grid_bound.specs.Blocks.{slot_tasks, kind_of, course_of}
-use Rattle.grid_bound.specs.Seen.{slot_phase, has_come, front_of}
+use Rattle.grid_cycle_spec.specs.inside.Arrivals.{asks, delivers, is_waiting}
+use Rattle.grid_bound.specs.inside.Course.{Kind, Reading, Plain, Serving, Course, Task}
+use Rattle.grid_bound.specs.inside.Lane.{any, Phase, Absent, Idle, Working, Asking, Standing, Sent, Front}
+use Rattle.grid_bound.specs.inside.Lane.{first_parcel}
+use Rattle.grid_bound.specs.inside.Lane.{second_parcel}
+use Rattle.grid_bound.specs.inside.Moving.{row, free_at, landed}
+use Rattle.grid_bound.specs.inside.Moving as moving
+use Rattle.grid_bound.specs.inside.Blocks.{slot_tasks, kind_of, course_of}
+use Rattle.grid_bound.specs.inside.Seen.{slot_phase, has_come, front_of}
 use Rattle.grid_bound.proofs.Sizes.{slot_tasks_is}
-use Rattle.grid_bound.specs.Behind.{Behind}
-use Rattle.grid_bound.specs.MoveRule.{IsToken, MoveRule}
+use Rattle.grid_bound.specs.inside.Behind.{Behind}
+use Rattle.grid_bound.specs.inside.MoveRule.{IsToken, MoveRule}
 use Rattle.grid_bound.proofs.Ahead.{same_number, frame_of_place, place_in_frame}
 use Rattle.grid_bound.proofs.Others.{behind_at, was_flushed, acted_leaving}
 use Rattle.grid_bound.proofs.OldestEnds.{asks_oldest, oldest_ok}

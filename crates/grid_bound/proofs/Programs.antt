@@ -14,8 +14,8 @@ use Rattle.trips_isa.specs.Machine.{step_of}
 use Rattle.trips_isa.specs.Machine.{goes_on, runs}
 use Rattle.grid_cycle_spec.specs.Costs.{cost, cost_in, cost_of}
 use Rattle.grid_cycle_spec.proofs.Routes.{cost_more}
-use Rattle.grid_bound.specs.Left.{price, total}
-use Rattle.grid_bound.specs.Programs.{size_in, sizes_from}
+use Rattle.grid_bound.specs.inside.Left.{price, total}
+use Rattle.grid_bound.specs.inside.Programs.{size_in, sizes_from}
 use Rattle.grid_bound.proofs.Sizes.{price_is}
 
 -- traces ------------------------------------------------------------------------------------------

@@ -16,21 +16,22 @@ use Rattle.trips_isa.specs.Operands.{is_guarded}
 use Rattle.trips_isa.specs.Rule.{Answer, matched, of_one, of_both, gives, if_matched, rule}
 use Rattle.trips_isa.specs.Places.{nodes_of, inst_node}
 use Rattle.trips_isa.specs.Tables.{node_gives}
-use Rattle.trips_isa.specs.Blocks.{Responses, Solves, at_place, computes}
+use Rattle.trips_isa.specs.Blocks.{Responses, at_place, computes}
+use Rattle.trips_isa.specs.inside.Blocks.{Solves}
 use Rattle.block_cases.specs.Orders.{slot_of}
 use Rattle.commit_flush_spec.specs.Frames.{Frame, at, slot_node}
 use Rattle.commit_flush_spec.specs.Sending.{token_with}
-use Rattle.commit_flush_spec.specs.Invariant.{Below}
+use Rattle.commit_flush_spec.specs.inside.Invariant.{Below}
 use Rattle.commit_flush_spec.proofs.Lists.{below_is}
-use Rattle.commit_flush_spec.specs.Observers.{is_ready}
+use Rattle.commit_flush_spec.specs.inside.Observers.{is_ready}
 use Rattle.commit_flush_spec.proofs.Producers.{node_of_slot}
 use Rattle.grid_cycle_spec.specs.Grid.{Grid}
-use Rattle.grid_cycle_spec.specs.Arrivals.{is_waiting}
-use Rattle.grid_bound.specs.Course.{Kind, Plain, Serving, is_reading, Task}
-use Rattle.grid_bound.specs.Course as course
-use Rattle.grid_bound.specs.Lane.{Phase, Idle, Working, Asking, Standing, is_idle, all_come, ready}
-use Rattle.grid_bound.specs.Blocks.{slot_tasks, kind_of, if_so, needs_of, slot_task, course_of}
-use Rattle.grid_bound.specs.Seen.{sent_of, asking, after_unit, slot_phase, has_come, front_of}
+use Rattle.grid_cycle_spec.specs.inside.Arrivals.{is_waiting}
+use Rattle.grid_bound.specs.inside.Course.{Kind, Plain, Serving, is_reading, Task}
+use Rattle.grid_bound.specs.inside.Course as course
+use Rattle.grid_bound.specs.inside.Lane.{Phase, Idle, Working, Asking, Standing, is_idle, all_come, ready}
+use Rattle.grid_bound.specs.inside.Blocks.{slot_tasks, kind_of, if_so, needs_of, slot_task, course_of}
+use Rattle.grid_bound.specs.inside.Seen.{sent_of, asking, after_unit, slot_phase, has_come, front_of}
 use Rattle.grid_bound.proofs.Sizes.{slot_is, slot_tasks_is}
 use Rattle.grid_bound.proofs.CourseSpots.{gives_left, gives_right, matched_some, if_parts, some_there}
 

@@ -13,12 +13,12 @@ use Rattle.commit_flush_spec.specs.Frames.{Frame, at, numbers}
 use Rattle.commit_flush_spec.specs.Ends.{all_below, store_came}
 use Rattle.commit_flush_spec.specs.Window.{Load, Store}
 use Rattle.commit_flush_spec.proofs.Committing.{both_true}
-use Rattle.commit_flush_spec.specs.Observers.{has_number}
-use Rattle.grid_cycle_spec.specs.Arrivals.{is_waiting}
+use Rattle.commit_flush_spec.specs.inside.Observers.{has_number}
+use Rattle.grid_cycle_spec.specs.inside.Arrivals.{is_waiting}
 use Rattle.commit_flush_spec.specs.Window.{in_flight}
 use Rattle.commit_flush_spec.proofs.Look.{or_false}
 use Rattle.grid_cycle_spec.specs.DataTiles.{all_resolved}
-use Rattle.grid_bound.specs.UnderWay.{Gives, InUnit, to_come}
+use Rattle.grid_bound.specs.inside.UnderWay.{Gives, InUnit, to_come}
 use Rattle.grid_bound.proofs.EachFrame.{apart}
 use Rattle.grid_bound.proofs.EachFrame.{same}
 use Rattle.grid_bound.proofs.Travels.{and_none, result_of}

@@ -4,14 +4,14 @@ use Rattle.std.proofs.Common.{arith}
 use Rattle.std.proofs.lemmas.Bool.{and_parts, and_from, or_left, or_right, cond_both, cond-false, eq-eqb, ltb-false}
 use Rattle.operand_net.specs.declared.parcel.Stand.{Stand}
 use Rattle.operand_net.specs.declared.parcel.Stand.TheVariants.{Nowhere, Away, Held}
-use Rattle.grid_bound.specs.Course.{Kind, Reading, Plain, Serving, Task, Course, GoodTask}
-use Rattle.grid_bound.specs.Lane.{Phase, Absent, Idle, Working, Asking, Standing, Sent, is_idle, is_there}
-use Rattle.grid_bound.specs.Lane.{first_parcel, second_parcel, Front, unread, unissued, ready}
-use Rattle.grid_bound.specs.Sending.{found, pick, none_busy, station_of, tile_of, launch, sent_from, result}
-use Rattle.grid_bound.specs.Sending.{fresh, reads_front}
-use Rattle.grid_bound.specs.Turning.{finished, finish_front, busy, issued, issue_front, units_after, less_one}
-use Rattle.grid_bound.specs.Moving.{goes, free_at, asked, moved, landed, delivers, move_at, move_front}
-use Rattle.grid_bound.specs.Laws.{Bounded, Landed, FineAt, Fine, Placed}
+use Rattle.grid_bound.specs.inside.Course.{Kind, Reading, Plain, Serving, Task, Course, GoodTask}
+use Rattle.grid_bound.specs.inside.Lane.{Phase, Absent, Idle, Working, Asking, Standing, Sent, is_idle, is_there}
+use Rattle.grid_bound.specs.inside.Lane.{first_parcel, second_parcel, Front, unread, unissued, ready}
+use Rattle.grid_bound.specs.inside.Sending.{found, pick, none_busy, station_of, tile_of, launch, sent_from, result}
+use Rattle.grid_bound.specs.inside.Sending.{fresh, reads_front}
+use Rattle.grid_bound.specs.inside.Turning.{finished, finish_front, busy, issued, issue_front, units_after, less_one}
+use Rattle.grid_bound.specs.inside.Moving.{goes, free_at, asked, moved, landed, delivers, move_at, move_front}
+use Rattle.grid_bound.specs.inside.Laws.{Bounded, Landed, FineAt, Fine, Placed}
 use Rattle.grid_bound.proofs.Counting.{any_from, pick_may, pick_free, found_pos}
 use Rattle.grid_bound.proofs.Mesh.{launch_landed, goes_bounded, landed_kept, way_bounded}
 use Rattle.grid_bound.proofs.PartsLowerWork.{GoodTasks}

@@ -10,13 +10,13 @@ use Rattle.trips_isa.specs.Places.{in_mask}
 use Rattle.commit_flush_spec.specs.Frames.{Frame, at}
 use Rattle.commit_flush_spec.specs.Ends.{all_below, write_came, store_came}
 use Rattle.commit_flush_spec.specs.Ends as ends
-use Rattle.commit_flush_spec.specs.Observers.{is_unread}
+use Rattle.commit_flush_spec.specs.inside.Observers.{is_unread}
 use Rattle.commit_flush_spec.proofs.Stuck.{numbers_are}
 use Rattle.grid_cycle_spec.specs.Grid.{Grid}
-use Rattle.grid_bound.specs.Course.{is_reading}
-use Rattle.grid_bound.specs.Lane.{Phase, Idle, is_idle, all_come, unread, complete}
-use Rattle.grid_bound.specs.Blocks.{slot_tasks, if_so, numbers_in, writes_of, read_task, course_of}
-use Rattle.grid_bound.specs.Seen.{sent_of, read_phase, phase_of, has_come, front_of}
+use Rattle.grid_bound.specs.inside.Course.{is_reading}
+use Rattle.grid_bound.specs.inside.Lane.{Phase, Idle, is_idle, all_come, unread, complete}
+use Rattle.grid_bound.specs.inside.Blocks.{slot_tasks, if_so, numbers_in, writes_of, read_task, course_of}
+use Rattle.grid_bound.specs.inside.Seen.{sent_of, read_phase, phase_of, has_come, front_of}
 use Rattle.grid_bound.proofs.Sizes.{read_is}
 
 and_assoc : (a b c : Bool) → (a && (b && c)) ≡ ((a && b) && c)

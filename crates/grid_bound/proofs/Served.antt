@@ -2,17 +2,17 @@
 use Rattle.std.proofs.Common.{◌≡◌, ℕ, zero, suc, ◌+◌, ◌*◌, ◌<◌, ◌≤◌, Bool, true, false}
 use Rattle.std.proofs.Common.{◌⊎◌, inl, inr, Option, Some, None, refl, sym, ap, ◌∙◌, subst, arith}
 use Rattle.std.proofs.lemmas.Bool.{cond_both, cond-true, cond-false, both_ways, lt-ltb}
-use Rattle.grid_bound.specs.Course.{Course, Good, tasks}
-use Rattle.grid_bound.specs.Lane.{Front, Stage, Running, Fetching, Lane, unread}
-use Rattle.grid_bound.specs.Lane.{is_complete}
-use Rattle.grid_bound.specs.Sending.{station_of, fresh, fetching, reads_front, reading}
-use Rattle.grid_bound.specs.Answering.{TilesAnswer}
-use Rattle.grid_bound.specs.Turning.{less_one}
-use Rattle.grid_bound.specs.Turning.{finish_front, busy, units_after, turning, own_units}
-use Rattle.grid_bound.specs.Moving.{move_front, moving}
-use Rattle.grid_bound.specs.Serving.{Serves, Served}
-use Rattle.grid_bound.specs.Left.{work, most, reserve, fetch_left, stage_left, left, price}
-use Rattle.grid_bound.specs.Laws.{FineAt, AtMost, StageRule, LaneRule, Falls}
+use Rattle.grid_bound.specs.inside.Course.{Course, Good, tasks}
+use Rattle.grid_bound.specs.inside.Lane.{Front, Stage, Running, Fetching, Lane, unread}
+use Rattle.grid_bound.specs.inside.Lane.{is_complete}
+use Rattle.grid_bound.specs.inside.Sending.{station_of, fresh, fetching, reads_front, reading}
+use Rattle.grid_bound.specs.inside.Answering.{TilesAnswer}
+use Rattle.grid_bound.specs.inside.Turning.{less_one}
+use Rattle.grid_bound.specs.inside.Turning.{finish_front, busy, units_after, turning, own_units}
+use Rattle.grid_bound.specs.inside.Moving.{move_front, moving}
+use Rattle.grid_bound.specs.inside.Serving.{Serves, Served}
+use Rattle.grid_bound.specs.inside.Left.{work, most, reserve, fetch_left, stage_left, left, price}
+use Rattle.grid_bound.specs.inside.Laws.{FineAt, AtMost, StageRule, LaneRule, Falls}
 use Rattle.grid_bound.proofs.Stuck.{Active, never_stuck}
 use Rattle.grid_bound.proofs.PartsLowerWork.{read_le, read_drop, move_le, move_drop}
 use Rattle.grid_bound.proofs.CycleUnits.{turn_le, turn_drop}

@@ -11,9 +11,9 @@ use Rattle.trips_isa.specs.Rule.{Answer}
 use Rattle.trips_isa.specs.Limits.{most_nodes}
 use Rattle.block_cases.specs.Orders.{slot_of}
 use Rattle.grid_cycle_spec.specs.Costs.{instructions, size, cost}
-use Rattle.grid_bound.specs.Course.{sum, tasks}
-use Rattle.grid_bound.specs.Left.{price}
-use Rattle.grid_bound.specs.Blocks.{slot_tasks, room, slot_task, read_task, task_of, course_of}
+use Rattle.grid_bound.specs.inside.Course.{sum, tasks}
+use Rattle.grid_bound.specs.inside.Left.{price}
+use Rattle.grid_bound.specs.inside.Blocks.{slot_tasks, room, slot_task, read_task, task_of, course_of}
 
 -- the tasks of slots are 128
 pub slot_tasks_is : slot_tasks ≡ 128

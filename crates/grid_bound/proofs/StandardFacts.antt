@@ -5,17 +5,18 @@ use Rattle.operand_net.specs.declared.parcel.Stand.TheVariants.{Nowhere, Held}
 use Rattle.trips_isa.specs.declared.form.Form.TheVariants as form
 use Rattle.grid_cycle_spec.specs.Cycles.{begun_at}
 use Rattle.grid_cycle_spec.specs.Grid.{Grid}
-use Rattle.grid_bound.specs.Course.{Plain, Serving, Task, Course, tasks}
-use Rattle.grid_bound.specs.Lane.{Phase, Idle, Working, Asking, Standing, Sent, Front, Stage, Running, Fetching}
-use Rattle.grid_bound.specs.Lane.{Lane}
-use Rattle.grid_bound.specs.Lane.{ready, complete}
-use Rattle.grid_bound.specs.Sending.{fresh, fetching, parcel}
-use Rattle.grid_bound.specs.Turning.{turning, own_units}
-use Rattle.grid_bound.specs.Moving.{moving, goes}
-use Rattle.grid_bound.specs.Answering.{answer_one}
-use Rattle.grid_bound.specs.Left.{parcel_left, task_left, wait_left, left, price, total}
-use Rattle.grid_bound.specs.Blocks.{kind_of, numbers_in, writes_of}
-use Rattle.grid_bound.specs.Seen.{lane_of}
+use Rattle.grid_bound.specs.inside.Course.{Plain, Serving, Task, Course, tasks}
+use Rattle.grid_bound.specs.inside.Lane.{Phase, Idle, Working, Asking, Standing, Sent, Front, Stage, Running}
+use Rattle.grid_bound.specs.inside.Lane.{Fetching}
+use Rattle.grid_bound.specs.inside.Lane.{Lane}
+use Rattle.grid_bound.specs.inside.Lane.{ready, complete}
+use Rattle.grid_bound.specs.inside.Sending.{fresh, fetching, parcel}
+use Rattle.grid_bound.specs.inside.Turning.{turning, own_units}
+use Rattle.grid_bound.specs.inside.Moving.{moving, goes}
+use Rattle.grid_bound.specs.inside.Answering.{answer_one}
+use Rattle.grid_bound.specs.inside.Left.{parcel_left, task_left, wait_left, left, price, total}
+use Rattle.grid_bound.specs.inside.Blocks.{kind_of, numbers_in, writes_of}
+use Rattle.grid_bound.specs.inside.Seen.{lane_of}
 
 -- task 0 is at tile 0, and task 1 at tile 1, which is a link away; its data tile is at node 5
 abbrev two_tasks : ℕ → Task

@@ -11,11 +11,11 @@ use Rattle.operand_net.specs.declared.parcel.Stand.{Stand}
 use Rattle.commit_flush_spec.specs.Frames.{Frame, at}
 use Rattle.commit_flush_spec.proofs.Lists.{none_at, other_at}
 use Rattle.grid_cycle_spec.specs.Grid.{Grid}
-use Rattle.grid_cycle_spec.specs.Arrivals.{is_waiting}
-use Rattle.grid_bound.specs.Course.{Kind, Reading, Plain, Serving}
-use Rattle.grid_bound.specs.Lane.{Idle, Sent, is_standing}
-use Rattle.grid_bound.specs.Blocks.{slot_tasks, kind_of}
-use Rattle.grid_bound.specs.Seen.{slot_phase, read_phase, phase_of}
+use Rattle.grid_cycle_spec.specs.inside.Arrivals.{is_waiting}
+use Rattle.grid_bound.specs.inside.Course.{Kind, Reading, Plain, Serving}
+use Rattle.grid_bound.specs.inside.Lane.{Idle, Sent, is_standing}
+use Rattle.grid_bound.specs.inside.Blocks.{slot_tasks, kind_of}
+use Rattle.grid_bound.specs.inside.Seen.{slot_phase, read_phase, phase_of}
 use Rattle.grid_bound.proofs.Fronts.{slot_far, slot_phase_is}
 
 -- who waits with a number has asked for it

@@ -4,7 +4,7 @@ use Rattle.trips_isa.specs.Machine.{State}
 use Rattle.block_predict.specs.Predicts.{Holding}
 use Rattle.grid_cycle_spec.specs.Grid.{Grid}
 use Rattle.grid_cycle_spec.specs.Cycles.{begun_at}
-use Rattle.grid_bound.specs.Rule.{GridRule, GenerationsCounted}
+use Rattle.grid_bound.specs.inside.Rule.{GridRule, GenerationsCounted}
 use Rattle.grid_bound.proofs.StatedStart.{begins_right, begins_counted}
 
 module _ {W : Type 0} where

@@ -3,7 +3,7 @@ use Rattle.std.proofs.Common.{ℕ, zero, suc, ◌≤◌, List, slice_index, refl
 use Rattle.trips_isa.specs.Machine.{State}
 use Rattle.commit_flush_spec.specs.InFlight.{unstarted}
 use Rattle.grid_cycle_spec.specs.Cycles.{begun_at}
-use Rattle.grid_bound.specs.Rule.{GenerationsCounted, GridRule}
+use Rattle.grid_bound.specs.inside.Rule.{GenerationsCounted, GridRule}
 
 unstarted_at : (n : ℕ) → slice_index unstarted n ≤ 0
 unstarted_at zero = omega arith

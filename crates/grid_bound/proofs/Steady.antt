@@ -5,8 +5,8 @@ use Rattle.commit_flush_spec.specs.Frames.{Frame}
 use Rattle.commit_flush_spec.specs.Causes.{Happened, Done, NotNow}
 use Rattle.commit_flush_spec.specs.Window.{Window, Event, can, done, if_done, happens, fetched, lowest_empty}
 use Rattle.commit_flush_spec.specs.Window as window
-use Rattle.commit_flush_spec.specs.Invariant.{AllGood}
-use Rattle.commit_flush_spec.specs.Laws.{WindowOk}
+use Rattle.commit_flush_spec.specs.inside.Invariant.{AllGood}
+use Rattle.commit_flush_spec.specs.inside.Laws.{WindowOk}
 use Rattle.commit_flush_spec.proofs.Events.{state_stays}
 use Rattle.commit_flush_spec.proofs.Whole.{happens_moves}
 use Rattle.grid_cycle_spec.specs.Grid.{Grid}

@@ -2,14 +2,14 @@
 use Rattle.std.proofs.Common.{◌≡◌, ℕ, ◌<◌, Bool, true, false, ◌&&◌, not, ◌⊎◌, inl, inr}
 use Rattle.std.proofs.Common.{refl, sym, ◌∙◌, subst}
 use Rattle.std.proofs.lemmas.Bool.{and_parts, cond-false, cases_Bool, both_ways, not-true}
-use Rattle.grid_bound.specs.Course.{is_reading, Task}
-use Rattle.grid_bound.specs.Lane.{Phase, Absent, Idle, Working, Asking, Standing, Sent, is_idle, is_standing}
-use Rattle.grid_bound.specs.Lane.{Front}
-use Rattle.grid_bound.specs.Lane.{first_parcel, second_parcel, all_come, unread, unissued, ready, answerable}
-use Rattle.grid_bound.specs.Sending.{pick, none_busy, station_of, tile_of, reads_front}
-use Rattle.grid_bound.specs.Turning.{finished, finish_front}
-use Rattle.grid_bound.specs.Turning.{busy, issued, issue_front}
-use Rattle.grid_bound.specs.Moving.{is_nowhere}
+use Rattle.grid_bound.specs.inside.Course.{is_reading, Task}
+use Rattle.grid_bound.specs.inside.Lane.{Phase, Absent, Idle, Working, Asking, Standing, Sent, is_idle, is_standing}
+use Rattle.grid_bound.specs.inside.Lane.{Front}
+use Rattle.grid_bound.specs.inside.Lane.{first_parcel, second_parcel, all_come, unread, unissued, ready, answerable}
+use Rattle.grid_bound.specs.inside.Sending.{pick, none_busy, station_of, tile_of, reads_front}
+use Rattle.grid_bound.specs.inside.Turning.{finished, finish_front}
+use Rattle.grid_bound.specs.inside.Turning.{busy, issued, issue_front}
+use Rattle.grid_bound.specs.inside.Moving.{is_nowhere}
 use Rattle.grid_bound.proofs.Counting.{pick_may}
 use Rattle.grid_bound.proofs.Stuck.{Active, reads, answers, fires, works, travels}
 use Rattle.grid_bound.proofs.PartsLowerWork.{idle_is, standing_is}

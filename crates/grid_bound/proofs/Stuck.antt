@@ -4,12 +4,12 @@ use Rattle.std.proofs.Common.{None, refl, sym, ap, ◌∙◌, subst, arith}
 use Rattle.std.proofs.lemmas.Bool.{and_from, and_cases, cases_Bool, both_ways, not_from_false}
 use Rattle.operand_net.specs.declared.parcel.Stand.{Stand}
 use Rattle.operand_net.specs.declared.parcel.Stand.TheVariants.{Nowhere, Away, Held}
-use Rattle.grid_bound.specs.Course.{is_reading, Target, Member, Hits, Fed, GoodBy}
-use Rattle.grid_bound.specs.Lane.{Phase, Absent, Idle, Working, Asking, Standing, Sent, is_idle, is_standing}
-use Rattle.grid_bound.specs.Lane.{is_there, first_parcel, second_parcel, Front, all_come, unread, unissued}
-use Rattle.grid_bound.specs.Lane.{ready, answerable, complete}
-use Rattle.grid_bound.specs.Moving.{is_nowhere}
-use Rattle.grid_bound.specs.Laws.{Has, OnItsWay, FineAt, Fine, Placed}
+use Rattle.grid_bound.specs.inside.Course.{is_reading, Target, Member, Hits, Fed, GoodBy}
+use Rattle.grid_bound.specs.inside.Lane.{Phase, Absent, Idle, Working, Asking, Standing, Sent, is_idle, is_standing}
+use Rattle.grid_bound.specs.inside.Lane.{is_there, first_parcel, second_parcel, Front, all_come, unread, unissued}
+use Rattle.grid_bound.specs.inside.Lane.{ready, answerable, complete}
+use Rattle.grid_bound.specs.inside.Moving.{is_nowhere}
+use Rattle.grid_bound.specs.inside.Laws.{Has, OnItsWay, FineAt, Fine, Placed}
 
 pub data Active (f : Front) : Type 0 where
   reads : (x : ℕ) → x < f.course.room → unread f x ≡ true → Active f

@@ -18,8 +18,8 @@ use Rattle.commit_flush_spec.specs.Frames.{is_target}
 use Rattle.grid_cycle_spec.specs.Stations.{data_node, data_tile_of, home}
 use Rattle.grid_cycle_spec.specs.DataTiles.{tile_by}
 use Rattle.grid_cycle_spec.proofs.Routes.{bank_inside, tile_inside, home_inside, takes_time}
-use Rattle.grid_bound.specs.Course.{OnMesh, GoodTask}
-use Rattle.grid_bound.specs.Blocks.{slot_tasks, vacant, target_at, first_of, slot_task, read_task, task_of}
+use Rattle.grid_bound.specs.inside.Course.{OnMesh, GoodTask}
+use Rattle.grid_bound.specs.inside.Blocks.{slot_tasks, vacant, target_at, first_of, slot_task, read_task, task_of}
 
 vacant_good : GoodTask vacant
 vacant_good = record {

@@ -14,24 +14,26 @@ use Rattle.block_cases.specs.Orders.{slot_of}
 use Rattle.operand_net.specs.declared.parcel.Parcel.{Parcel}
 use Rattle.operand_net.specs.declared.parcel.Stand.{Stand}
 use Rattle.operand_net.specs.declared.parcel.Stand.TheVariants.{Nowhere, Away, Held}
-use Rattle.operand_net.specs.Places.{Places, come, put}
-use Rattle.operand_net.specs.IsStands.{is_here}
+use Rattle.operand_net.specs.Places.{Places, put}
+use Rattle.operand_net.specs.inside.Places.{come}
+use Rattle.operand_net.specs.inside.IsStands.{is_here}
 use Rattle.operand_net.specs.Tick.{next_of, ticked, Ticked}
 use Rattle.commit_flush_spec.specs.Frames.{Frame, at}
 use Rattle.commit_flush_spec.specs.Window.{Window, Event, happens}
 use Rattle.commit_flush_spec.specs.Window as window
-use Rattle.commit_flush_spec.specs.Invariant.{AllGood}
+use Rattle.commit_flush_spec.specs.inside.Invariant.{AllGood}
 use Rattle.commit_flush_spec.proofs.Lists.{equal_or}
 use Rattle.commit_flush_spec.proofs.Numbers.{nums}
 use Rattle.grid_cycle_spec.specs.Grid.{Grid, is_of, numbers_of}
 use Rattle.grid_cycle_spec.specs.Acting.{act, flushed, gone}
-use Rattle.grid_cycle_spec.specs.Choosing.{each, places, with_frame}
-use Rattle.grid_cycle_spec.specs.Arrivals.{asks, delivers, is_waiting, slot_arrives, inst_arrives}
-use Rattle.grid_cycle_spec.specs.Arrivals.{place_arrives, arrives_if, arrival, arrivals}
+use Rattle.grid_cycle_spec.specs.Choosing.{each, with_frame}
+use Rattle.grid_cycle_spec.specs.inside.Choosing.{places}
+use Rattle.grid_cycle_spec.specs.inside.Arrivals.{asks, delivers, is_waiting, slot_arrives, inst_arrives}
+use Rattle.grid_cycle_spec.specs.inside.Arrivals.{place_arrives, arrives_if, arrival, arrivals}
 use Rattle.grid_cycle_spec.specs.Cycles.{Moves}
 use Rattle.grid_cycle_spec.proofs.Routes.{leads_nearer}
-use Rattle.grid_bound.specs.UnderWay.{Nothing, Tied}
-use Rattle.grid_bound.specs.Rule.{HeldFrom, runs_in}
+use Rattle.grid_bound.specs.inside.UnderWay.{Nothing, Tied}
+use Rattle.grid_bound.specs.inside.Rule.{HeldFrom, runs_in}
 use Rattle.grid_bound.proofs.EachFrame.{any_flight, differ, each_map, equal, runs_flight}
 use Rattle.grid_bound.proofs.Entered.{put_here}
 use Rattle.grid_bound.proofs.GoingGrids.{Going}

@@ -2,7 +2,7 @@
 use Rattle.std.proofs.Common.{ℕ, suc, ◌+◌, ◌≤◌, List, ◌∷◌, arith}
 use Rattle.operand_net.specs.Places.{Places}
 use Rattle.operand_net.specs.Tick.{Ticked, RowTicked, frames_want}
-use Rattle.grid_bound.specs.Parts.{RowMoves}
+use Rattle.grid_bound.specs.inside.Parts.{RowMoves}
 
 pub oldest_ticks : {W : Type 0} (next : W → ℕ) (follows : W → W → Type 0) → ((w : W) → next w ≤ 3)
     → (n k : ℕ) (ns : List ℕ) (before after : Places) (v w : W)

@@ -9,11 +9,11 @@ use Rattle.trips_isa.specs.declared.form.Form.TheVariants.{General, Immediate, L
 use Rattle.trips_isa.specs.Forms.{form_of}
 use Rattle.block_cases.specs.Orders.{slot_of}
 use Rattle.operand_net.specs.declared.parcel.Stand.{Stand}
-use Rattle.operand_net.specs.IsStands.{is_here}
+use Rattle.operand_net.specs.inside.IsStands.{is_here}
 use Rattle.commit_flush_spec.specs.Frames.{Frame, at}
 use Rattle.commit_flush_spec.proofs.Lists.{equal_or, other_at, none_at}
-use Rattle.grid_cycle_spec.specs.Arrivals.{is_waiting}
-use Rattle.grid_bound.specs.UnderWay.{to_come, form_travels, travels, InUnit, Tied}
+use Rattle.grid_cycle_spec.specs.inside.Arrivals.{is_waiting}
+use Rattle.grid_bound.specs.inside.UnderWay.{to_come, form_travels, travels, InUnit, Tied}
 use Rattle.grid_bound.proofs.Travels.{absorbs, and_none, come_by, first_travels, half_first, half_second, halves}
 use Rattle.grid_bound.proofs.Travels.{in_unit_by}
 use Rattle.grid_bound.proofs.Travels.{IsPlace, is_there, none_travels, read_travels, second_travels, slot_travels}

@@ -8,15 +8,15 @@ use Rattle.trips_isa.specs.Forms.{form_of}
 use Rattle.operand_net.specs.declared.parcel.Stand.{Stand}
 use Rattle.operand_net.specs.declared.parcel.Stand.TheVariants.{Nowhere}
 use Rattle.operand_net.specs.Places.{Places}
-use Rattle.operand_net.specs.IsStands.{is_here}
+use Rattle.operand_net.specs.inside.IsStands.{is_here}
 use Rattle.commit_flush_spec.specs.Frames.{Frame, at}
 use Rattle.commit_flush_spec.proofs.Look.{or_false}
 use Rattle.commit_flush_spec.proofs.Lists.{equal_or}
-use Rattle.commit_flush_spec.specs.Work.{none_guessed}
-use Rattle.grid_cycle_spec.specs.Arrivals.{is_waiting}
+use Rattle.commit_flush_spec.specs.inside.Work.{none_guessed}
+use Rattle.grid_cycle_spec.specs.inside.Arrivals.{is_waiting}
 use Rattle.grid_cycle_spec.specs.Grid.{Grid}
-use Rattle.grid_bound.specs.UnderWay.{to_come, Tied, Nothing}
-use Rattle.grid_bound.specs.Rule.{EachFrame, FrameRule, HeldFrom, RuleFrom, FetchRule, UnitsRule, runs_in}
+use Rattle.grid_bound.specs.inside.UnderWay.{to_come, Tied, Nothing}
+use Rattle.grid_bound.specs.inside.Rule.{EachFrame, FrameRule, HeldFrom, RuleFrom, FetchRule, UnitsRule, runs_in}
 use Rattle.grid_cycle_spec.specs.Acting.{known_next}
 use Rattle.grid_bound.proofs.EachFrame.{FrameAt, each_left, each_rest, each_step, runs_join, runs_step, same}
 use Rattle.grid_bound.proofs.Travels.{travels_by, in_unit_by}

@@ -13,20 +13,20 @@ use Rattle.trips_isa.specs.Rule.{Answer}
 use Rattle.trips_isa.specs.Blocks.{at_place}
 use Rattle.block_cases.specs.Orders.{slot_of}
 use Rattle.commit_flush_spec.specs.Frames.{Frame, at}
-use Rattle.commit_flush_spec.specs.Invariant.{AllGood}
-use Rattle.commit_flush_spec.specs.Laws.{WindowOk}
+use Rattle.commit_flush_spec.specs.inside.Invariant.{AllGood}
+use Rattle.commit_flush_spec.specs.inside.Laws.{WindowOk}
 use Rattle.grid_cycle_spec.specs.Stations.{tile_node, tile_of}
 use Rattle.grid_cycle_spec.specs.Grid.{Grid}
 use Rattle.grid_cycle_spec.specs.Choosing.{least, eldest, found_in, slots, with_frame}
 use Rattle.grid_cycle_spec.specs.Units.{result_enters, slot_enters, rests, result_chosen, in_unit, unit_on}
-use Rattle.grid_bound.specs.Course.{Course, Task}
-use Rattle.grid_bound.specs.Lane.{Phase, Working, Front}
-use Rattle.grid_bound.specs.Sending.{tile_of as lane_tile}
-use Rattle.grid_bound.specs.Turning.{finished}
-use Rattle.grid_bound.specs.Blocks.{course_of}
-use Rattle.grid_bound.specs.Seen.{phase_of, front_of}
-use Rattle.grid_bound.specs.Behind.{Behind}
-use Rattle.grid_bound.specs.UnitRule.{UnitRule}
+use Rattle.grid_bound.specs.inside.Course.{Course, Task}
+use Rattle.grid_bound.specs.inside.Lane.{Phase, Working, Front}
+use Rattle.grid_bound.specs.inside.Sending.{tile_of as lane_tile}
+use Rattle.grid_bound.specs.inside.Turning.{finished}
+use Rattle.grid_bound.specs.inside.Blocks.{course_of}
+use Rattle.grid_bound.specs.inside.Seen.{phase_of, front_of}
+use Rattle.grid_bound.specs.inside.Behind.{Behind}
+use Rattle.grid_bound.specs.inside.UnitRule.{UnitRule}
 use Rattle.grid_bound.proofs.Ahead.{same_number, younger_apart}
 use Rattle.grid_bound.proofs.Others.{behind_at, result_other}
 use Rattle.grid_bound.proofs.Fronts.{front_behind}

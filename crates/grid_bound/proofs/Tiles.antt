@@ -6,15 +6,15 @@ use Rattle.std.proofs.lemmas.Bool.{and_parts, and_from, or_left, or_right, cond_
 use Rattle.std.proofs.lemmas.Bool.{eq-eqb, cases_Bool, both_ways, cases_eq}
 use Rattle.operand_net.specs.declared.parcel.Stand.{Stand}
 use Rattle.operand_net.specs.declared.parcel.Stand.TheVariants.{Nowhere, Away, Held}
-use Rattle.grid_bound.specs.Course.{Target, Task, sum, tasks, is_reading, GoodTask}
-use Rattle.grid_bound.specs.Lane.{any, Phase, Absent, Idle, Working, Asking, Standing, Sent, is_idle, is_there}
-use Rattle.grid_bound.specs.Lane.{is_standing, Front, Stage, Running, Fetching, all_come, unissued, ready}
-use Rattle.grid_bound.specs.Lane.{answerable}
-use Rattle.grid_bound.specs.Sending.{station_of}
-use Rattle.grid_bound.specs.Answering.{hits, settled, resolves, answer_one, at_tile, has_at}
-use Rattle.grid_bound.specs.Answering.{spot_of, Retold, RunsOn, Answered, TileAnswers, TilesAnswer}
-use Rattle.grid_bound.specs.Left.{task_left, wait_left, work, reserve, stage_left}
-use Rattle.grid_bound.specs.Laws.{Has, Landed, FineAt, Fine, Placed, FrontRule, StageRule}
+use Rattle.grid_bound.specs.inside.Course.{Target, Task, sum, tasks, is_reading, GoodTask}
+use Rattle.grid_bound.specs.inside.Lane.{any, Phase, Absent, Idle, Working, Asking, Standing, Sent, is_idle, is_there}
+use Rattle.grid_bound.specs.inside.Lane.{is_standing, Front, Stage, Running, Fetching, all_come, unissued, ready}
+use Rattle.grid_bound.specs.inside.Lane.{answerable}
+use Rattle.grid_bound.specs.inside.Sending.{station_of}
+use Rattle.grid_bound.specs.inside.Answering.{hits, settled, resolves, answer_one, at_tile, has_at}
+use Rattle.grid_bound.specs.inside.Answering.{spot_of, Retold, RunsOn, Answered, TileAnswers, TilesAnswer}
+use Rattle.grid_bound.specs.inside.Left.{task_left, wait_left, work, reserve, stage_left}
+use Rattle.grid_bound.specs.inside.Laws.{Has, Landed, FineAt, Fine, Placed, FrontRule, StageRule}
 use Rattle.grid_bound.proofs.Counting.{any_from}
 use Rattle.grid_bound.proofs.Mesh.{landed_more}
 use Rattle.grid_bound.proofs.Work.{calm_drop}

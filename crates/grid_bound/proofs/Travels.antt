@@ -12,12 +12,12 @@ use Rattle.trips_isa.specs.Forms.{form_of, is_load}
 use Rattle.block_cases.specs.Orders.{slot_of}
 use Rattle.commit_flush_spec.specs.Frames.{Frame, at, target, is_target}
 use Rattle.commit_flush_spec.specs.Older.{Older}
-use Rattle.commit_flush_spec.specs.Invariant.{FrameOk, has_sent, slot_sent, inst_sent}
+use Rattle.commit_flush_spec.specs.inside.Invariant.{FrameOk, has_sent, slot_sent, inst_sent}
 use Rattle.commit_flush_spec.proofs.Sends.{slot_sends}
 use Rattle.commit_flush_spec.proofs.Committing.{both_true}
 use Rattle.commit_flush_spec.proofs.Lists.{none_or}
-use Rattle.grid_cycle_spec.specs.Arrivals.{is_waiting}
-use Rattle.grid_bound.specs.UnderWay.{to_come, form_travels, inst_travels, travels, Gives, SlotGives, InUnit}
+use Rattle.grid_cycle_spec.specs.inside.Arrivals.{is_waiting}
+use Rattle.grid_bound.specs.inside.UnderWay.{to_come, form_travels, inst_travels, travels, Gives, SlotGives, InUnit}
 use Rattle.grid_bound.proofs.EachFrame.{same, equal, apart}
 
 -- flags ------------------------------------------------------------------------------------------

@@ -5,16 +5,16 @@ use Rattle.trips_isa.specs.declared.run.Stepped.TheVariants as stepped
 use Rattle.trips_isa.specs.Rule.{Answer}
 use Rattle.commit_flush_spec.specs.Frames.{Frame}
 use Rattle.commit_flush_spec.specs.Older.{committed}
-use Rattle.commit_flush_spec.specs.Invariant.{AllGood, FrameOk, Holds}
-use Rattle.commit_flush_spec.specs.Laws.{WindowOk}
+use Rattle.commit_flush_spec.specs.inside.Invariant.{AllGood, FrameOk, Holds}
+use Rattle.commit_flush_spec.specs.inside.Laws.{WindowOk}
 use Rattle.grid_cycle_spec.specs.Grid.{Grid}
 use Rattle.grid_cycle_spec.specs.Choosing.{each}
 use Rattle.grid_cycle_spec.specs.Units.{unit_turn, works_on}
-use Rattle.grid_bound.specs.Course.{Good}
-use Rattle.grid_bound.specs.Blocks.{course_of}
+use Rattle.grid_bound.specs.inside.Course.{Good}
+use Rattle.grid_bound.specs.inside.Blocks.{course_of}
 use Rattle.grid_bound.proofs.Courses.{course_good}
-use Rattle.grid_bound.specs.UnitRule.{UnitRule}
-use Rattle.grid_bound.specs.Parts.{Tells, Working}
+use Rattle.grid_bound.specs.inside.UnitRule.{UnitRule}
+use Rattle.grid_bound.specs.inside.Parts.{Tells, Working}
 use Rattle.grid_bound.proofs.OldestEnds.{oldest_ok}
 use Rattle.grid_bound.proofs.AllUnits as working
 

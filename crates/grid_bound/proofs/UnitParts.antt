@@ -7,14 +7,14 @@ use Rattle.block_cases.specs.Orders.{slot_of}
 use Rattle.commit_flush_spec.specs.Frames.{Frame}
 use Rattle.commit_flush_spec.specs.Causes.{Done}
 use Rattle.commit_flush_spec.specs.Window.{Fire, can, in_flight}
-use Rattle.commit_flush_spec.specs.Invariant.{AllGood}
+use Rattle.commit_flush_spec.specs.inside.Invariant.{AllGood}
 use Rattle.commit_flush_spec.proofs.Committing.{both_true}
 use Rattle.grid_cycle_spec.specs.Stations.{tile_of}
 use Rattle.grid_cycle_spec.specs.Grid.{Grid}
 use Rattle.grid_cycle_spec.specs.Choosing.{eldest, each, slots}
 use Rattle.grid_cycle_spec.specs.Units.{slot_enters, rests, result_chosen, in_unit, unit_on, ready, takes}
 use Rattle.grid_cycle_spec.specs.Units.{issued, issue_chosen, issues, unit_turn, works_on}
-use Rattle.grid_bound.specs.Rule.{EachFrame, runs_in}
+use Rattle.grid_bound.specs.inside.Rule.{EachFrame, runs_in}
 use Rattle.grid_bound.proofs.EachFrame.{Chosen, each_rest, eldest_is, eldest_none, equal}
 use Rattle.grid_bound.proofs.EachFrame.{find_at, runs_are, same, with_at}
 use Rattle.grid_bound.proofs.GoingGrids.{Going, awake, done_is, each_going, frame_ok}

@@ -21,26 +21,26 @@ use Rattle.operand_net.specs.declared.parcel.Stand.TheVariants.{Nowhere}
 use Rattle.commit_flush_spec.specs.Frames.{Frame, at, target, is_target}
 use Rattle.commit_flush_spec.specs.Older.{committed}
 use Rattle.commit_flush_spec.specs.Window.{Window}
-use Rattle.commit_flush_spec.specs.Invariant.{AllGood, FrameOk}
-use Rattle.commit_flush_spec.specs.Laws.{WindowOk}
+use Rattle.commit_flush_spec.specs.inside.Invariant.{AllGood, FrameOk}
+use Rattle.commit_flush_spec.specs.inside.Laws.{WindowOk}
 use Rattle.commit_flush_spec.proofs.Stored.{inst_fits}
 use Rattle.commit_flush_spec.proofs.Tokens.{inst_in}
 use Rattle.grid_cycle_spec.specs.Stations.{control, data_node, tile_node, tile_of}
 use Rattle.grid_cycle_spec.specs.Grid.{Grid}
-use Rattle.grid_cycle_spec.specs.Arrivals.{is_waiting}
+use Rattle.grid_cycle_spec.specs.inside.Arrivals.{is_waiting}
 use Rattle.grid_cycle_spec.specs.Choosing.{slots}
 use Rattle.grid_cycle_spec.specs.DataTiles.{tile_by}
 use Rattle.grid_cycle_spec.specs.Sending.{enters, enter_both}
 use Rattle.grid_cycle_spec.specs.Units.{result_enters, slot_enters, rests}
-use Rattle.grid_bound.specs.Course.{Kind, Course, Task, Plain, Serving}
-use Rattle.grid_bound.specs.Course as course
-use Rattle.grid_bound.specs.Lane.{Phase, Absent, Idle, Working, Asking, Standing, Sent, Front}
-use Rattle.grid_bound.specs.Sending.{parcel, launch, result, sent_from}
-use Rattle.grid_bound.specs.Turning.{finished}
-use Rattle.grid_bound.specs.Blocks.{slot_tasks, kind_of, first_of, slot_task, target_at, course_of}
-use Rattle.grid_bound.specs.Seen.{slot_phase, read_phase, phase_of, front_of}
+use Rattle.grid_bound.specs.inside.Course.{Kind, Course, Task, Plain, Serving}
+use Rattle.grid_bound.specs.inside.Course as course
+use Rattle.grid_bound.specs.inside.Lane.{Phase, Absent, Idle, Working, Asking, Standing, Sent, Front}
+use Rattle.grid_bound.specs.inside.Sending.{parcel, launch, result, sent_from}
+use Rattle.grid_bound.specs.inside.Turning.{finished}
+use Rattle.grid_bound.specs.inside.Blocks.{slot_tasks, kind_of, first_of, slot_task, target_at, course_of}
+use Rattle.grid_bound.specs.inside.Seen.{slot_phase, read_phase, phase_of, front_of}
 use Rattle.grid_bound.proofs.Sizes.{slot_tasks_is, slot_is}
-use Rattle.grid_bound.specs.UnitRule.{ResultOf, InUnit, UnitRule}
+use Rattle.grid_bound.specs.inside.UnitRule.{ResultOf, InUnit, UnitRule}
 use Rattle.grid_bound.proofs.Ahead.{same_number}
 use Rattle.grid_bound.proofs.OldestEnds.{oldest_ok}
 use Rattle.grid_bound.proofs.Fronts.{left_unit, slot_far, slot_phase_is, task_same, at_slot}

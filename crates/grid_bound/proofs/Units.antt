@@ -9,13 +9,13 @@ use Rattle.trips_isa.specs.declared.form.Form.TheVariants.{General, Immediate, L
 use Rattle.trips_isa.specs.Forms.{form_of, is_load}
 use Rattle.block_cases.specs.Orders.{slot_of}
 use Rattle.operand_net.specs.Places.{Places, put}
-use Rattle.operand_net.specs.IsStands.{is_here}
+use Rattle.operand_net.specs.inside.IsStands.{is_here}
 use Rattle.commit_flush_spec.specs.Frames.{Frame, at}
 use Rattle.trips_isa.specs.declared.block.Token.TheVariants.{Null, Word}
 use Rattle.trips_isa.specs.Rule.{Answer}
 use Rattle.trips_isa.specs.Stores.{address_of}
 use Rattle.commit_flush_spec.specs.Older.{Older}
-use Rattle.commit_flush_spec.specs.Invariant.{AllGood, FrameOk}
+use Rattle.commit_flush_spec.specs.inside.Invariant.{AllGood, FrameOk}
 use Rattle.commit_flush_spec.proofs.Committing.{both_true}
 use Rattle.commit_flush_spec.proofs.Lists.{equal_or}
 use Rattle.grid_cycle_spec.specs.Stations.{control, data_node, tile_node, tile_of}
@@ -25,8 +25,8 @@ use Rattle.grid_cycle_spec.specs.Sending.{enters, enter_both}
 use Rattle.grid_cycle_spec.specs.DataTiles.{tile_by}
 use Rattle.grid_cycle_spec.specs.Units.{result_enters, slot_enters, rests}
 use Rattle.grid_cycle_spec.proofs.Routes.{data_inside, tile_inside}
-use Rattle.grid_bound.specs.UnderWay.{form_travels, Gives, Tied, to_come, travels}
-use Rattle.grid_bound.specs.Rule.{HeldFrom, UnitsRule}
+use Rattle.grid_bound.specs.inside.UnderWay.{form_travels, Gives, Tied, to_come, travels}
+use Rattle.grid_bound.specs.inside.Rule.{HeldFrom, UnitsRule}
 use Rattle.grid_bound.proofs.EachFrame.{FrameAt, apart, equal}
 use Rattle.grid_bound.proofs.EachFrame.{own_at, same}
 use Rattle.grid_bound.proofs.Travels.{IsPlace, Result, and_none, first_travels, none_is, result_of}

@@ -8,20 +8,21 @@ use Rattle.std.proofs.lemmas.Bool.{cases_lt, lt-ltb, le-ltb, eqb-true, eq-eqb, n
 use Rattle.trips_isa.specs.declared.block.Block.{Block}
 use Rattle.trips_isa.specs.declared.run.Stepped.TheVariants as stepped
 use Rattle.trips_isa.specs.Rule.{Answer}
-use Rattle.trips_isa.specs.Blocks.{Responses, Solves, at_place}
+use Rattle.trips_isa.specs.Blocks.{Responses, at_place}
+use Rattle.trips_isa.specs.inside.Blocks.{Solves}
 use Rattle.commit_flush_spec.specs.Frames.{Frame, at}
 use Rattle.commit_flush_spec.specs.Older.{committed}
-use Rattle.commit_flush_spec.specs.Invariant.{Below, AllGood}
-use Rattle.commit_flush_spec.specs.Laws.{WindowOk}
+use Rattle.commit_flush_spec.specs.inside.Invariant.{Below, AllGood}
+use Rattle.commit_flush_spec.specs.inside.Laws.{WindowOk}
 use Rattle.grid_cycle_spec.specs.Grid.{Grid}
 use Rattle.grid_cycle_spec.specs.Units.{unit_on, issues, unit_turn}
-use Rattle.grid_bound.specs.Course.{Course, Task}
-use Rattle.grid_bound.specs.Lane.{any, Phase, Working, Front, ready}
-use Rattle.grid_bound.specs.Sending.{found, tile_of as lane_tile}
-use Rattle.grid_bound.specs.Turning.{less_one, finished, finish_front, busy, issued, units_after}
-use Rattle.grid_bound.specs.Blocks.{course_of}
-use Rattle.grid_bound.specs.Seen.{phase_of, has_come, front_of}
-use Rattle.grid_bound.specs.UnitRule.{UnitRule}
+use Rattle.grid_bound.specs.inside.Course.{Course, Task}
+use Rattle.grid_bound.specs.inside.Lane.{any, Phase, Working, Front, ready}
+use Rattle.grid_bound.specs.inside.Sending.{found, tile_of as lane_tile}
+use Rattle.grid_bound.specs.inside.Turning.{less_one, finished, finish_front, busy, issued, units_after}
+use Rattle.grid_bound.specs.inside.Blocks.{course_of}
+use Rattle.grid_bound.specs.inside.Seen.{phase_of, has_come, front_of}
+use Rattle.grid_bound.specs.inside.UnitRule.{UnitRule}
 use Rattle.grid_bound.proofs.Steady.{Onward, steady}
 use Rattle.grid_bound.proofs.Walk.{unit_keeps}
 use Rattle.grid_bound.proofs.OldestEnds.{oldest_ok}

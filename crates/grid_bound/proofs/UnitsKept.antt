@@ -11,7 +11,7 @@ use Rattle.trips_isa.specs.declared.run.Stepped.TheVariants as stepped
 use Rattle.trips_isa.specs.Forms.{form_of, is_store}
 use Rattle.block_cases.specs.Orders.{slot_of}
 use Rattle.operand_net.specs.declared.parcel.Parcel.{Parcel}
-use Rattle.operand_net.specs.Places.{come, without}
+use Rattle.operand_net.specs.inside.Places.{come, without}
 use Rattle.commit_flush_spec.specs.Frames.{Frame, Exit, at, first_read_place, numbers}
 use Rattle.commit_flush_spec.specs.Memory.{request}
 use Rattle.commit_flush_spec.specs.Window.{Window, happens}
@@ -19,7 +19,8 @@ use Rattle.commit_flush_spec.specs.Window as window
 use Rattle.grid_cycle_spec.specs.Stations.{bank_node, data_node}
 use Rattle.grid_cycle_spec.specs.Grid.{Grid, Fetching, numbers_of}
 use Rattle.grid_cycle_spec.specs.Acting.{may, act, flushed, gone}
-use Rattle.grid_cycle_spec.specs.Choosing.{eldest, each, places, reads, with_frame}
+use Rattle.grid_cycle_spec.specs.Choosing.{eldest, each, reads, with_frame}
+use Rattle.grid_cycle_spec.specs.inside.Choosing.{places}
 use Rattle.grid_cycle_spec.specs.Sending.{enter_both}
 use Rattle.grid_cycle_spec.specs.Ends.{seal_one, seal_each, learning, committed_as, commit_in, commit_oldest, ends}
 use Rattle.grid_cycle_spec.specs.Ends.{one_committed}
@@ -27,8 +28,8 @@ use Rattle.grid_cycle_spec.specs.Fetches.{fill_where, fetch_on, fetch_ends, fetc
 use Rattle.grid_cycle_spec.specs.Banks.{answers_read, read_chosen, bank_turn, reads_answered}
 use Rattle.grid_cycle_spec.specs.DataTiles.{unasked, load_answered, waits_now, by_block, wrong_load, store_resolved}
 use Rattle.grid_cycle_spec.specs.DataTiles.{answers_request, answered_by, answer_chosen, data_turn, answers}
-use Rattle.grid_cycle_spec.specs.Arrivals.{asks, delivers, is_waiting, slot_arrives, inst_arrives}
-use Rattle.grid_cycle_spec.specs.Arrivals.{place_arrives, arrives_if, arrival, arrivals}
+use Rattle.grid_cycle_spec.specs.inside.Arrivals.{asks, delivers, is_waiting, slot_arrives, inst_arrives}
+use Rattle.grid_cycle_spec.specs.inside.Arrivals.{place_arrives, arrives_if, arrival, arrivals}
 use Rattle.grid_bound.proofs.Entering.{both_only}
 use Rattle.grid_bound.proofs.OldestFetches.{begins_begun}
 

@@ -14,9 +14,9 @@ use Rattle.block_cases.specs.Orders.{slot_of}
 use Rattle.commit_flush_spec.specs.Frames.{Frame, at, slot_node}
 use Rattle.commit_flush_spec.specs.Older.{Older}
 use Rattle.commit_flush_spec.specs.Sending.{token_with}
-use Rattle.commit_flush_spec.specs.Invariant.{Below, FrameOk, Asked}
+use Rattle.commit_flush_spec.specs.inside.Invariant.{Below, FrameOk, Asked}
 use Rattle.commit_flush_spec.proofs.Lists.{below_is}
-use Rattle.commit_flush_spec.specs.Observers.{has_number}
+use Rattle.commit_flush_spec.specs.inside.Observers.{has_number}
 use Rattle.commit_flush_spec.proofs.Producers.{node_of_slot}
 use Rattle.commit_flush_spec.proofs.Search.{some_is}
 use Rattle.grid_bound.proofs.CourseSpots.{gives_left, if_parts, some_there}

@@ -2,9 +2,9 @@
 use Rattle.std.proofs.Common.{◌≡◌, ℕ, ◌+◌, ◌*◌, ◌<◌, ◌≤◌, Bool, true, false, cond, ◌==◌, ◌&&◌}
 use Rattle.std.proofs.Common.{refl, sym, subst, arith}
 use Rattle.std.proofs.lemmas.Bool.{and_parts, and_from, eqb-true, eq-eqb, both_ways}
-use Rattle.grid_bound.specs.Course.{Course, sum}
-use Rattle.grid_bound.specs.Lane.{any, Phase, Front, unissued, ready}
-use Rattle.grid_bound.specs.Left.{task_left, wait_left, on_tile, count_on, tile_left, work}
+use Rattle.grid_bound.specs.inside.Course.{Course, sum}
+use Rattle.grid_bound.specs.inside.Lane.{any, Phase, Front, unissued, ready}
+use Rattle.grid_bound.specs.inside.Left.{task_left, wait_left, on_tile, count_on, tile_left, work}
 use Rattle.grid_bound.proofs.Counting.{any_true, any_from, any_more, sum_le, sum_drop}
 
 pub wait_le : (c c2 : ℕ) (r r2 : Bool) (v v2 : ℕ) → c2 ≤ c → c2 ≤ 24 → (r ≡ true → r2 ≡ true) → v2 ≤ v

@@ -2,11 +2,11 @@
 use Rattle.std.proofs.Common.{◌≡◌, ℕ, zero, suc, ◌+◌, ◌*◌, ◌<◌, ◌≤◌, Bool, true, false, cond, ◌==◌, ◌&&◌, refl, sym}
 use Rattle.std.proofs.Common.{◌∙◌, subst, arith}
 use Rattle.std.proofs.lemmas.Bool.{and_parts, eqb-true}
-use Rattle.grid_bound.specs.Course.{Task, sum, tasks}
-use Rattle.grid_bound.specs.Lane.{Phase, Absent, Idle, Working, Asking, Standing, Sent, is_idle, is_there}
-use Rattle.grid_bound.specs.Lane.{Front, unissued, ready}
-use Rattle.grid_bound.specs.Left.{parcel_left, task_left, wait_left, on_tile, count_on, tile_left, work, most}
-use Rattle.grid_bound.specs.Laws.{FineAt, Fine, Placed}
+use Rattle.grid_bound.specs.inside.Course.{Task, sum, tasks}
+use Rattle.grid_bound.specs.inside.Lane.{Phase, Absent, Idle, Working, Asking, Standing, Sent, is_idle, is_there}
+use Rattle.grid_bound.specs.inside.Lane.{Front, unissued, ready}
+use Rattle.grid_bound.specs.inside.Left.{parcel_left, task_left, wait_left, on_tile, count_on, tile_left, work, most}
+use Rattle.grid_bound.specs.inside.Laws.{FineAt, Fine, Placed}
 use Rattle.grid_bound.proofs.Counting.{sum_le}
 use Rattle.grid_bound.proofs.Work.{wait_cap, on, ready_unissued}
 use Rattle.grid_bound.proofs.Mesh.{landed_bounded, way_bounded, bounded_left}

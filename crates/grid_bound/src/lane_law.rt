@@ -2,25 +2,26 @@
 ghost use Rattle.std.specs.Prelude.{◌≡◌, ◌<◌, ◌≤◌, ◌+◌, ℕ, suc, false, List, length};
 ghost use Rattle.trips_isa.specs.declared.block.Block.{Block};
 ghost use Rattle.trips_isa.specs.Rule.{Answer};
-ghost use Rattle.trips_isa.specs.Blocks.{Responses, Solves, at_place};
+ghost use Rattle.trips_isa.specs.Blocks.{Responses, at_place};
+ghost use Rattle.trips_isa.specs.inside.Blocks.{Solves};
 ghost use Rattle.trips_isa.specs.Fits.{FitsBlock};
 ghost use Rattle.trips_isa.specs.Machine.{State, runs};
-ghost use Rattle.commit_flush_spec.specs.Invariant.{Below, IsRunnable};
+ghost use Rattle.commit_flush_spec.specs.inside.Invariant.{Below, IsRunnable};
 ghost use Rattle.commit_flush_spec.specs.Frames.{Frame, at};
 ghost use Rattle.commit_flush_spec.specs.Ends.{complete};
-ghost use Rattle.commit_flush_spec.specs.Observers.{is_ready, is_unread};
+ghost use Rattle.commit_flush_spec.specs.inside.Observers.{is_ready, is_unread};
 ghost use Rattle.grid_cycle_spec.specs.Grid.{Grid};
 ghost use Rattle.grid_cycle_spec.specs.Costs.{cost, cost_of, size};
 ghost use Rattle.grid_cycle_spec.specs.Cycles.{begun_at};
-ghost use Rattle.grid_bound.specs.Course.{Course, Good, tasks};
-ghost use Rattle.grid_bound.specs.Lane.{Lane, ready, unread};
-ghost use Rattle.grid_bound.specs.Lane as lane;
-ghost use Rattle.grid_bound.specs.Serving.{Served};
-ghost use Rattle.grid_bound.specs.Left.{left, price, total};
-ghost use Rattle.grid_bound.specs.Laws.{AfterServed, Falls, LaneRule};
-ghost use Rattle.grid_bound.specs.Blocks.{course_of, slot_tasks};
-ghost use Rattle.grid_bound.specs.Programs.{sizes_from};
-ghost use Rattle.grid_bound.specs.Seen.{front_of, lane_of};
+ghost use Rattle.grid_bound.specs.inside.Course.{Course, Good, tasks};
+ghost use Rattle.grid_bound.specs.inside.Lane.{Lane, ready, unread};
+ghost use Rattle.grid_bound.specs.inside.Lane as lane;
+ghost use Rattle.grid_bound.specs.inside.Serving.{Served};
+ghost use Rattle.grid_bound.specs.inside.Left.{left, price, total};
+ghost use Rattle.grid_bound.specs.inside.Laws.{AfterServed, Falls, LaneRule};
+ghost use Rattle.grid_bound.specs.inside.Blocks.{course_of, slot_tasks};
+ghost use Rattle.grid_bound.specs.inside.Programs.{sizes_from};
+ghost use Rattle.grid_bound.specs.inside.Seen.{front_of, lane_of};
 
 use operand_net::Weather;
 

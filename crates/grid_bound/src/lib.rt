@@ -2,11 +2,12 @@
 //! frame's block, traps, or lowers what is left for the block, whatever the other frames do; so a run costs at most
 //! so many cycles.
 //!
-//! specs/Rule.antt has the rule of a grid, and specs/UnderWay.antt what is under way of one frame: every cycle keeps
-//! it. specs/Lane.antt has the lane, the grid as its oldest frame sees it, specs/Serving.antt its cycle, and
-//! specs/Left.antt what is left for it. specs/Shows.antt has the oldest frame behind a part of a cycle,
-//! specs/Behind.antt what stays of it while other frames act, and specs/ServedFirst.antt a cycle in which one grid of
-//! several comes first. specs/OneCycle.antt has the bound of one cycle, specs/GoesOn.antt the runs that go on.
+//! specs/inside/Rule.antt has the rule of a grid, and specs/inside/UnderWay.antt what is under way of one frame:
+//! every cycle keeps it. specs/inside/Lane.antt has the lane, the grid as its oldest frame sees it,
+//! specs/inside/Serving.antt its cycle, and specs/inside/Left.antt what is left for it. specs/inside/Shows.antt has
+//! the oldest frame behind a part of a cycle, specs/inside/Behind.antt what stays of it while other frames act, and
+//! specs/inside/ServedFirst.antt a cycle in which one grid of several comes first. specs/inside/OneCycle.antt has the
+//! bound of one cycle, specs/inside/GoesOn.antt the runs that go on.
 #![tactic(auto)]
 
 mod lane_law;

@@ -3,8 +3,8 @@ ghost use Rattle.std.specs.Prelude.{◌≡◌, ◌≤◌, ℕ, List};
 ghost use Rattle.trips_isa.specs.declared.block.Block.{Block};
 ghost use Rattle.trips_isa.specs.declared.run.Stepped.TheVariants.{Went};
 ghost use Rattle.trips_isa.specs.Machine.{State};
-ghost use Rattle.commit_flush_spec.specs.Invariant.{AllGood};
-ghost use Rattle.commit_flush_spec.specs.Laws.{WindowOk};
+ghost use Rattle.commit_flush_spec.specs.inside.Invariant.{AllGood};
+ghost use Rattle.commit_flush_spec.specs.inside.Laws.{WindowOk};
 ghost use Rattle.grid_cycle_spec.specs.Grid.{Grid};
 ghost use Rattle.grid_cycle_spec.specs.Ends.{ends};
 ghost use Rattle.grid_cycle_spec.specs.Fetches.{fetches};
@@ -12,8 +12,9 @@ ghost use Rattle.grid_cycle_spec.specs.Banks.{reads_answered};
 ghost use Rattle.grid_cycle_spec.specs.Choosing.{each};
 ghost use Rattle.grid_cycle_spec.specs.DataTiles.{answers, data_turn};
 ghost use Rattle.grid_cycle_spec.specs.Units.{unit_turn, works_on};
-ghost use Rattle.grid_cycle_spec.specs.Cycles.{AfterCycles, Eager, Moves, begun_at};
-ghost use Rattle.grid_bound.specs.Rule.{GenerationsCounted, GridRule};
+ghost use Rattle.grid_cycle_spec.specs.Cycles.{Eager, Moves, begun_at};
+ghost use Rattle.grid_cycle_spec.specs.inside.Cycles.{AfterCycles};
+ghost use Rattle.grid_bound.specs.inside.Rule.{GenerationsCounted, GridRule};
 
 use operand_net::Weather;
 

@@ -15,15 +15,15 @@ use Rattle.operand_net.specs.declared.weather.PcgWeather.{PcgWeather}
 use Rattle.block_predict.specs.Predicts.{Holding, holding}
 use Rattle.block_predict.specs.Seeded as exits
 use Rattle.commit_flush_spec.specs.InFlight.{opened}
-use Rattle.commit_flush_spec.specs.Invariant.{AllGood}
-use Rattle.commit_flush_spec.specs.Laws.{WindowOk}
+use Rattle.commit_flush_spec.specs.inside.Invariant.{AllGood}
+use Rattle.commit_flush_spec.specs.inside.Laws.{WindowOk}
 use Rattle.commit_flush_spec.proofs.Events.{opens}
 use Rattle.grid_cycle_spec.specs.Costs.{cost_in, cost_of, greatest_cost}
 use Rattle.grid_cycle_spec.specs.Grid.{Grid}
 use Rattle.grid_machine.specs.Answered.{ComesTo, IsCutOff}
 use Rattle.grid_machine.specs.Endings.{ending_of, is_going}
 use Rattle.grid_machine.specs.WholeRuns.{most_cycles}
-use Rattle.grid_bound.specs.GoesOn.{GoesOn}
+use Rattle.grid_bound.specs.inside.GoesOn.{GoesOn}
 use Rattle.grid_machine.specs.Seeds.{IsAfter, IsRan, next_hold}
 use Rattle.grid_cycle.specs.Traps.{is_trap}
 use Rattle.grid_cycle.proofs.Making.{runs_inside, steps_made}

@@ -20,12 +20,12 @@ use Rattle.grid_cycle_spec.specs.Acting.{is_done, may}
 use Rattle.grid_cycle_spec.specs.Fetches.{begun_after, fetch_ends, fetch_on, fill_where, fills, has_room}
 use Rattle.grid_cycle_spec.specs.Grid.{Fetching, Grid}
 use Rattle.grid_bound.proofs.OldestFetches.{done_is, going}
-use Rattle.grid_parts.specs.Asked.{block_of, found_in, frame_of}
+use Rattle.grid_parts.specs.inside.Asked.{block_of, found_in, frame_of}
 use Rattle.grid_parts.proofs.PartFacts.{with_fetching}
-use Rattle.grid_parts.specs.Fetches.{due}
+use Rattle.grid_parts.specs.inside.Fetches.{due}
 use Rattle.grid_parts.proofs.FetchFacts.{begun_youngest}
-use Rattle.grid_parts.specs.Youngest.{IsYoungest}
-use Rattle.grid_cycle.specs.Follows.{any_empty, behind_fetched, idle_fetch, is_taken}
+use Rattle.grid_parts.specs.inside.Youngest.{IsYoungest}
+use Rattle.grid_cycle.specs.inside.Follows.{any_empty, behind_fetched, idle_fetch, is_taken}
 use Rattle.grid_cycle.specs.Nexts.{begun_on, block_in, next_fetch}
 use Rattle.grid_cycle.proofs.FetchFacts.{predicted_is}
 

@@ -5,19 +5,21 @@ use Rattle.trips_isa.specs.declared.block.Block.{Block}
 use Rattle.trips_isa.specs.declared.run.Ending.{Ending}
 use Rattle.trips_isa.specs.Machine.{State}
 use Rattle.block_predict.specs.Predicts.{Holding}
-use Rattle.commit_flush_spec.specs.Invariant.{AllGood}
-use Rattle.commit_flush_spec.specs.Laws.{WindowOk}
+use Rattle.commit_flush_spec.specs.inside.Invariant.{AllGood}
+use Rattle.commit_flush_spec.specs.inside.Laws.{WindowOk}
 use Rattle.grid_cycle_spec.specs.Costs.{cost_of, greatest, greatest_cost}
 use Rattle.grid_cycle_spec.specs.Grid.{Grid}
-use Rattle.grid_parts.specs.Changes.{begun_with}
+use Rattle.grid_parts.specs.inside.Changes.{begun_with}
 use Rattle.grid_machine.specs.Answered.{HasCome, IsCutOff}
 use Rattle.grid_machine.specs.Endings.{ended, ending_of, is_going}
-use Rattle.grid_machine.specs.WholeRuns.{IsKept, IsRun, going_cycles, most_cycles}
+use Rattle.grid_machine.specs.WholeRuns.{IsRun, going_cycles, most_cycles}
+use Rattle.grid_machine.specs.inside.WholeRuns.{IsKept}
 use Rattle.grid_machine.proofs.Starts.{most_is}
 use Rattle.grid_cycle.specs.Traps.{is_trap}
 use Rattle.grid_cycle.proofs.Bounded.{no_trap}
 use Rattle.grid_cycle.proofs.RunCosts.{any_cost, end_cost, goes_short, some_cost}
-use Rattle.grid_cycle.specs.Engines.{IsEngine, IsTallied, IsWithinCost}
+use Rattle.grid_cycle.specs.Engines.{IsTallied, IsWithinCost}
+use Rattle.grid_cycle.specs.inside.Engines.{IsEngine}
 use Rattle.grid_cycle.proofs.History.{runs_none, runs_on}
 
 -- endings ----------------------------------------------------------------------------------------

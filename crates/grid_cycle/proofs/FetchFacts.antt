@@ -6,8 +6,8 @@ use Rattle.block_predict.specs.Predicts.{Holding, predicted}
 use Rattle.commit_flush_spec.specs.Frames.{Exit, Frame}
 use Rattle.grid_cycle_spec.specs.Fetches.{begun_after, begun_behind, begun_guess, begun_predicted, has_room}
 use Rattle.grid_cycle_spec.specs.Grid.{Grid}
-use Rattle.grid_parts.specs.Youngest.{IsYoungest}
-use Rattle.grid_cycle.specs.Follows.{after, behind, guess, idle_fetch}
+use Rattle.grid_parts.specs.inside.Youngest.{IsYoungest}
+use Rattle.grid_cycle.specs.inside.Follows.{after, behind, guess, idle_fetch}
 use Rattle.grid_cycle.specs.Nexts.{block_in}
 
 module _ {W : Type 0} (blocks : List Block) where

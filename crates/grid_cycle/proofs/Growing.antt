@@ -13,7 +13,7 @@ use Rattle.commit_flush_spec.specs.Ends.{outputs, cause_held}
 use Rattle.commit_flush_spec.specs.InFlight.{commit, commit_to}
 use Rattle.commit_flush_spec.specs.Window.{Window, can, done, happens, if_done}
 use Rattle.commit_flush_spec.specs.Window as event
-use Rattle.commit_flush_spec.specs.Invariant.{AllGood}
+use Rattle.commit_flush_spec.specs.inside.Invariant.{AllGood}
 use Rattle.commit_flush_spec.proofs.Applying.{apply_trace}
 use Rattle.commit_flush_spec.proofs.Events.{state_stays}
 use Rattle.grid_cycle_spec.specs.Grid.{Grid, numbers_of, forget}

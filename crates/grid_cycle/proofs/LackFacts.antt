@@ -5,7 +5,8 @@ use Rattle.std.specs.Prelude.{is_none}
 use Rattle.std.proofs.lemmas.Bool.{eq-eqb}
 use Rattle.commit_flush_spec.specs.Ends.{complete}
 use Rattle.commit_flush_spec.specs.Frames.{Frame}
-use Rattle.commit_flush.specs.Places.{frame_of, numbers_of}
+use Rattle.commit_flush.specs.Places.{numbers_of}
+use Rattle.commit_flush.specs.inside.Places.{frame_of}
 use Rattle.frame_state.specs.declared.parts.Lack.{Lack}
 use Rattle.frame_state.specs.Lacks.{least_lack}
 use Rattle.frame_state.proofs.LackFacts.{lacks_none}

@@ -10,7 +10,8 @@ use Rattle.trips_isa.specs.Blocks.{leaving_of, token_of}
 use Rattle.trips_isa.specs.Marks.{cause}
 use Rattle.trips_isa.specs.Outcomes.{Effects, plain, unless}
 use Rattle.trips_isa.specs.Machine.{State, come_to, goes_on, runs, step_in, step_of}
-use Rattle.commit_flush_spec.specs.Laws.{IsWhole, Reached}
+use Rattle.commit_flush_spec.specs.Laws.{Reached}
+use Rattle.commit_flush_spec.specs.inside.Laws.{IsWhole}
 use Rattle.commit_flush_spec.proofs.Applying.{apply_next, apply_trace, apply_whole, next_in}
 
 -- a run that ended with a block made a step

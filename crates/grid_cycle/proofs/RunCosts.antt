@@ -11,19 +11,21 @@ use Rattle.trips_isa.specs.Machine.{State, runs}
 use Rattle.block_predict.specs.Predicts.{Holding}
 use Rattle.commit_flush_spec.specs.Window.{Window}
 use Rattle.commit_flush_spec.specs.InFlight.{opened}
-use Rattle.commit_flush_spec.specs.Invariant.{AllGood}
-use Rattle.commit_flush_spec.specs.Laws.{Reached, TakesSteps, WindowOk}
+use Rattle.commit_flush_spec.specs.inside.Invariant.{AllGood}
+use Rattle.commit_flush_spec.specs.Laws.{Reached, TakesSteps}
+use Rattle.commit_flush_spec.specs.inside.Laws.{WindowOk}
 use Rattle.grid_machine.specs.Going.{goes}
 use Rattle.grid_cycle_spec.specs.Costs.{cost_in, cost_of, greatest_cost}
 use Rattle.grid_cycle_spec.specs.Grid.{Grid}
-use Rattle.grid_cycle_spec.specs.Cycles.{AfterCycles, Eager}
+use Rattle.grid_cycle_spec.specs.Cycles.{Eager}
+use Rattle.grid_cycle_spec.specs.inside.Cycles.{AfterCycles}
 use Rattle.grid_cycle_spec.proofs.Agreeing.{takes_steps}
-use Rattle.grid_parts.specs.Changes.{begun_with}
+use Rattle.grid_parts.specs.inside.Changes.{begun_with}
 use Rattle.grid_machine.specs.Endings.{is_going}
 use Rattle.grid_machine.specs.WholeRuns.{GoesFor, IsRun, at_end, most_cycles}
 use Rattle.grid_machine.proofs.CallFacts.{closed_cycles}
 use Rattle.grid_machine.proofs.RunFacts.{closed_window, end_closed, end_going, going_by}
-use Rattle.grid_bound.specs.GoesOn.{GoesOn}
+use Rattle.grid_bound.specs.inside.GoesOn.{GoesOn}
 use Rattle.grid_bound.proofs.CycleGrows.{cycles_before, steps}
 use Rattle.grid_bound.proofs.GridsOfRuns.{reached_state, stands}
 use Rattle.grid_bound.proofs.Costs as costs

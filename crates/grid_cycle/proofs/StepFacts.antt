@@ -5,8 +5,8 @@ use Rattle.std.proofs.Common.{arith, IfSome}
 use Rattle.trips_isa.specs.declared.block.Block.{Block}
 use Rattle.trips_isa.specs.declared.run.Stepped.TheVariants.{Went}
 use Rattle.commit_flush_spec.specs.Frames.{Frame}
-use Rattle.commit_flush_spec.specs.Invariant.{AllGood}
-use Rattle.commit_flush_spec.specs.Laws.{WindowOk}
+use Rattle.commit_flush_spec.specs.inside.Invariant.{AllGood}
+use Rattle.commit_flush_spec.specs.inside.Laws.{WindowOk}
 use Rattle.commit_flush_spec.specs.Window.{Window}
 use Rattle.frame_state.specs.declared.parts.Lack.{Lack}
 use Rattle.commit_flush_spec.proofs.Next.{never_stuck}

@@ -1,5 +1,5 @@
 pub mod Engines
 pub mod Lacks
 pub mod Nexts
-pub mod Follows
 pub mod Traps
+pub mod inside

@@ -2,13 +2,14 @@
 ghost use Rattle.std.specs.Prelude.{◌≡◌, ◌<◌, All, Some, length, slice_get};
 ghost use Rattle.trips_isa.specs.declared.block.Block.{Block};
 ghost use Rattle.commit_flush_spec.specs.Frames.{Frame};
-ghost use Rattle.commit_flush_spec.specs.Laws.{AreNumbers};
+ghost use Rattle.commit_flush_spec.specs.inside.Laws.{AreNumbers};
 ghost use Rattle.grid_cycle_spec.specs.Grid.{Fetching, numbers_of};
 ghost use Rattle.grid_parts.specs.Seen.{seen};
-ghost use Rattle.grid_parts.specs.Asked.{frame_of};
-ghost use Rattle.grid_parts.specs.Youngest.{IsYoungest};
+ghost use Rattle.grid_parts.specs.inside.Asked.{frame_of};
+ghost use Rattle.grid_parts.specs.inside.Youngest.{IsYoungest};
 ghost use Rattle.grid_cycle.specs.Nexts.{next_fetch};
-ghost use Rattle.grid_cycle.specs.Follows.{after, any_empty, behind, behind_fetched, guess, idle_fetch, is_taken};
+ghost use Rattle.grid_cycle.specs.inside.Follows.{after, any_empty, behind, behind_fetched, guess, idle_fetch};
+ghost use Rattle.grid_cycle.specs.inside.Follows.{is_taken};
 
 use frame_state::{block_at, is_serial};
 use grid_parts::{Grid, Windows};

@@ -3,7 +3,7 @@ ghost use Rattle.std.specs.Prelude.{◌≡◌, ◌<◌, ◌||◌, is_none};
 ghost use Rattle.grid_cycle_spec.specs.Choosing.{eldest, slots};
 ghost use Rattle.grid_cycle.specs.Nexts.{fire_of, is_busy, next_firing, ready_entry};
 ghost use Rattle.grid_parts.specs.Seen.{seen};
-ghost use Rattle.grid_parts.specs.Choices.{fires};
+ghost use Rattle.grid_parts.specs.inside.Choices.{fires};
 
 use frame_state::Event;
 use grid_parts::{Grid, Windows, ready_slot};

@@ -4,7 +4,7 @@ ghost use Rattle.std.specs.Prelude.{is_none, slice_get};
 ghost use Rattle.trips_isa.specs.Machine.{start};
 ghost use Rattle.commit_flush.specs.Observed.{is_whole_in};
 ghost use Rattle.grid_cycle_spec.specs.Costs.{cost_of};
-ghost use Rattle.grid_parts.specs.Changes.{begun_with};
+ghost use Rattle.grid_parts.specs.inside.Changes.{begun_with};
 ghost use Rattle.grid_machine.specs.Answered.{ComesTo};
 ghost use Rattle.grid_machine.specs.Endings.{ended, is_going};
 ghost use Rattle.grid_machine.specs.Tallies.{CountsCommits};
@@ -39,7 +39,8 @@ impl<W: Weather> Model for Grid<W> {
 
     ghost Value = { Held Seen W };
 
-    ghost use Rattle.grid_cycle.specs.Engines.{IsEngine, blocks_of, grid_of};
+    ghost use Rattle.grid_cycle.specs.Engines.{blocks_of, grid_of};
+    ghost use Rattle.grid_cycle.specs.inside.Engines.{IsEngine};
 
     ghost view = { λ g. g.parts };
 

@@ -6,7 +6,7 @@ ghost use Rattle.trips_isa.specs.declared.run.Ending.{Ending};
 ghost use Rattle.trips_isa.specs.declared.run.Ending.TheVariants as ending;
 ghost use Rattle.trips_isa.specs.Stores.{data_size};
 ghost use Rattle.operand_net.specs.declared.weather.PcgWeather.{PcgWeather};
-ghost use Rattle.commit_flush_spec.specs.Invariant.{AllGood};
+ghost use Rattle.commit_flush_spec.specs.inside.Invariant.{AllGood};
 ghost use Rattle.grid_cycle_spec.specs.Costs.{cost_in, cost_of, greatest_cost};
 ghost use Rattle.grid_cycle_spec.specs.Grid.{Grid};
 ghost use Rattle.grid_machine.specs.Seeds.{IsRan};

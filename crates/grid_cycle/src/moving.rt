@@ -2,12 +2,13 @@
 ghost use Rattle.std.specs.Prelude.{◌≡◌, ◌<◌, ◌≤◌, ◌+◌, ◌-◌, IfOk, [], length, Some, true, false};
 ghost use Rattle.trips_isa.specs.Machine.{start};
 ghost use Rattle.frame_state.specs.declared.parts.Lack.{Lack};
-ghost use Rattle.grid_parts.specs.Changes.{begun_with};
+ghost use Rattle.grid_parts.specs.inside.Changes.{begun_with};
 ghost use Rattle.grid_machine.specs.Answered.{ComesTo};
 ghost use Rattle.grid_machine.specs.Endings.{ended, is_going};
 ghost use Rattle.grid_machine.specs.Tallies.{CountsCommits};
 ghost use Rattle.grid_machine.specs.WholeRuns.{IsRun, going_cycles, most_cycles};
-ghost use Rattle.grid_cycle.specs.Engines.{IsCycle, IsEngine, IsTallied, IsWithinCost, blocks_of, grid_of};
+ghost use Rattle.grid_cycle.specs.Engines.{IsCycle, IsTallied, IsWithinCost, blocks_of, grid_of};
+ghost use Rattle.grid_cycle.specs.inside.Engines.{IsEngine};
 ghost use Rattle.grid_cycle.specs.Lacks.{OldestSteps, oldest_lacks};
 
 use base::Memory;

@@ -5,10 +5,11 @@ use Rattle.trips_isa.specs.declared.run.Stepped.{Stepped}
 use Rattle.trips_isa.specs.declared.run.Stepped.TheVariants as stepped
 use Rattle.trips_isa.specs.Machine.{State, runs}
 use Rattle.commit_flush_spec.specs.Window.{Window}
-use Rattle.commit_flush_spec.specs.Invariant.{AllGood}
-use Rattle.commit_flush_spec.specs.Laws.{Reached, TakesSteps, WindowOk}
+use Rattle.commit_flush_spec.specs.inside.Invariant.{AllGood}
+use Rattle.commit_flush_spec.specs.Laws.{Reached, TakesSteps}
+use Rattle.commit_flush_spec.specs.inside.Laws.{WindowOk}
 use Rattle.commit_flush_spec.proofs.Whole.{from_here}
-use Rattle.grid_cycle_spec.specs.Laws.{ByEvents}
+use Rattle.grid_cycle_spec.specs.inside.Laws.{ByEvents}
 
 -- what events do to the committed state is steps of the machine
 pub takes_steps : (blocks : List Block) → AllGood blocks → (budget : ℕ) (v w : Window) → WindowOk blocks budget v

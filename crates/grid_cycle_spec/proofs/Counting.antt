@@ -31,7 +31,8 @@ use Rattle.grid_cycle_spec.specs.Grid.{Grid, Fetching}
 use Rattle.grid_cycle_spec.specs.Acting.{is_done, may, flushed, gone, act}
 use Rattle.grid_cycle_spec.specs.Ends.{one_committed, learning, committed_as, commit_in}
 use Rattle.grid_cycle_spec.specs.Fetches.{fills}
-use Rattle.grid_cycle_spec.specs.Cycles.{AfterCycles, closed}
+use Rattle.grid_cycle_spec.specs.Cycles.{closed}
+use Rattle.grid_cycle_spec.specs.inside.Cycles.{AfterCycles}
 use Rattle.grid_cycle_spec.proofs.KeptByCycles.{IsSingle, IsFlushing, Keeps, cycles_keep}
 
 -- frames in flight -------------------------------------------------------------------------------

@@ -6,11 +6,12 @@ use Rattle.trips_isa.specs.declared.run.Stepped.TheVariants as stepped
 use Rattle.commit_flush_spec.specs.Frames.{Frame, Exit}
 use Rattle.commit_flush_spec.specs.Window.{Window, Event, happens, plays}
 use Rattle.commit_flush_spec.specs.Window as window
-use Rattle.grid_cycle_spec.specs.Laws.{ByEvents}
+use Rattle.grid_cycle_spec.specs.inside.Laws.{ByEvents}
 use Rattle.grid_cycle_spec.specs.Grid.{Grid}
 use Rattle.grid_cycle_spec.specs.Acting.{flushed, gone}
 use Rattle.grid_cycle_spec.specs.Ends.{learning, committed_as, commit_in}
-use Rattle.grid_cycle_spec.specs.Cycles.{Eager, AfterCycles}
+use Rattle.grid_cycle_spec.specs.Cycles.{Eager}
+use Rattle.grid_cycle_spec.specs.inside.Cycles.{AfterCycles}
 use Rattle.grid_cycle_spec.proofs.KeptByCycles.{Keeps, eager_keeps, cycles_keep}
 
 plays_on : (blocks : List Block) (budget : ℕ) (es fs : List Event) (w : Window)

@@ -12,14 +12,14 @@ use Rattle.commit_flush_spec.specs.Frames.{Frame, Taken, at, numbers, slot_node}
 use Rattle.commit_flush_spec.specs.Sending.{mark_with}
 use Rattle.commit_flush_spec.specs.Older.{Older, after, committed, nearest, passes, took_touched, violated, cut}
 use Rattle.commit_flush_spec.specs.Memory.{request, is_request, can_store, with_store, store, store_resolved}
-use Rattle.commit_flush_spec.specs.Invariant.{FramesOk}
-use Rattle.commit_flush_spec.specs.Laws.{WindowOk}
+use Rattle.commit_flush_spec.specs.inside.Invariant.{FramesOk}
+use Rattle.commit_flush_spec.specs.inside.Laws.{WindowOk}
 use Rattle.commit_flush_spec.specs.Window.{Window, Store, on_frame, change, can, can_now, unless_over}
 use Rattle.commit_flush_spec.specs.Window.{done, if_done, happens}
 use Rattle.grid_cycle_spec.specs.Acting.{gone, is_done}
 use Rattle.grid_cycle_spec.specs.Choosing.{found_in, least}
 use Rattle.grid_cycle_spec.specs.DataTiles.{stored_by, wrong_behind, wrong_from, wrong_in, wrong_load}
-use Rattle.grid_cycle_spec.specs.Laws.{first_number, frame_named}
+use Rattle.grid_cycle_spec.specs.inside.Laws.{first_number, frame_named}
 
 -- loads ------------------------------------------------------------------------------------------
 

@@ -10,7 +10,7 @@ use Rattle.trips_isa.specs.declared.run.Stepped.TheVariants as stepped
 use Rattle.trips_isa.specs.Forms.{form_of, is_store}
 use Rattle.block_cases.specs.Orders.{slot_of}
 use Rattle.operand_net.specs.declared.parcel.Parcel.{Parcel}
-use Rattle.operand_net.specs.Places.{come, without}
+use Rattle.operand_net.specs.inside.Places.{come, without}
 use Rattle.block_predict.specs.Predicts.{predicted}
 use Rattle.commit_flush_spec.specs.Frames.{Frame, Exit, at, target, first_read_place, token_places, numbers}
 use Rattle.commit_flush_spec.specs.Memory.{request}
@@ -20,7 +20,8 @@ use Rattle.grid_cycle_spec.specs.Stations.{bank_node, data_node, tile_node, tile
 use Rattle.grid_cycle_spec.specs.Stations.{banks, data_tiles, tiles}
 use Rattle.grid_cycle_spec.specs.Grid.{Grid, Fetching, numbers_of, forget}
 use Rattle.grid_cycle_spec.specs.Acting.{may, act}
-use Rattle.grid_cycle_spec.specs.Choosing.{eldest, each, with_frame, places, slots, reads}
+use Rattle.grid_cycle_spec.specs.Choosing.{eldest, each, with_frame, slots, reads}
+use Rattle.grid_cycle_spec.specs.inside.Choosing.{places}
 use Rattle.grid_cycle_spec.specs.Sending.{enters, enters_if, enter_both}
 use Rattle.grid_cycle_spec.specs.Ends.{seal_one, seal_each, commit_in, commit_oldest, ends}
 use Rattle.grid_cycle_spec.specs.Fetches.{fills, fill_where, fetch_on, fetch_ends, begun_predicted}
@@ -31,9 +32,10 @@ use Rattle.grid_cycle_spec.specs.DataTiles.{unasked, load_answered, waits_now, b
 use Rattle.grid_cycle_spec.specs.DataTiles.{answers_request, answered_by, answer_chosen, data_turn, answers}
 use Rattle.grid_cycle_spec.specs.Units.{result_enters, slot_enters, rests, result_chosen, in_unit, unit_on}
 use Rattle.grid_cycle_spec.specs.Units.{ready, takes, issued, issue_chosen, issues, unit_turn, works_on}
-use Rattle.grid_cycle_spec.specs.Arrivals.{asks, delivers, is_waiting, load_arrives, slot_arrives}
-use Rattle.grid_cycle_spec.specs.Arrivals.{inst_arrives, place_arrives, arrives_if, arrival, arrivals}
-use Rattle.grid_cycle_spec.specs.Cycles.{acts, counted, Moves, Follows, Eager, AfterCycles}
+use Rattle.grid_cycle_spec.specs.inside.Arrivals.{asks, delivers, is_waiting, load_arrives, slot_arrives}
+use Rattle.grid_cycle_spec.specs.inside.Arrivals.{inst_arrives, place_arrives, arrives_if, arrival, arrivals}
+use Rattle.grid_cycle_spec.specs.Cycles.{acts, counted, Moves, Follows, Eager}
+use Rattle.grid_cycle_spec.specs.inside.Cycles.{AfterCycles}
 
 -- an event of one frame, which flushes none
 abbrev pub IsSingle : Event → Type 0

@@ -12,9 +12,10 @@ use Rattle.trips_isa.specs.declared.run.Traced.{Traced}
 use Rattle.trips_isa.specs.PlaceNumbers.{first_write}
 use Rattle.trips_isa.specs.Fits.{FitsBlock}
 use Rattle.operand_net.specs.Tick.{next_of}
-use Rattle.grid_cycle_spec.specs.Stations.{bank_of, bank_node, data_tile_of, data_node, far, home, tile_of, tile_node}
+use Rattle.grid_cycle_spec.specs.Stations.{bank_of, bank_node, data_tile_of, data_node, home, tile_of, tile_node}
+use Rattle.grid_cycle_spec.specs.inside.Stations.{far}
 use Rattle.grid_cycle_spec.specs.Costs.{instructions, cost, cost_of, greatest}
-use Rattle.grid_cycle_spec.specs.Laws.{IsNearer, TakesTime}
+use Rattle.grid_cycle_spec.specs.inside.Laws.{IsNearer, TakesTime}
 
 -- a test of a pair of nodes that holds of all pairs below 25, the pair being a number below 625
 pair_holds : (test : ℕ → ℕ → Bool) → ((i : ℕ) → i < 625 → test (i / 25) (i % 25) ≡ true) → (a b : ℕ) → a < 25

@@ -7,7 +7,8 @@ use Rattle.commit_flush_spec.specs.Frames.{Frame, Bytes, fresh, numbers}
 use Rattle.commit_flush_spec.specs.Window.{opened}
 use Rattle.operand_net.specs.Tick.{next_of}
 use Rattle.grid_cycle_spec.specs.Stations.{control, bank_node, data_node, tile_node, tile_of, bank_of}
-use Rattle.grid_cycle_spec.specs.Stations.{data_tile_of, far}
+use Rattle.grid_cycle_spec.specs.Stations.{data_tile_of}
+use Rattle.grid_cycle_spec.specs.inside.Stations.{far}
 use Rattle.grid_cycle_spec.specs.Costs.{latency}
 use Rattle.grid_cycle_spec.specs.Choosing.{least, each}
 use Rattle.grid_cycle_spec.specs.Grid.{Grid}

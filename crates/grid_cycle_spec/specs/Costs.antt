@@ -15,10 +15,6 @@ latency Divs = 24
 latency Divu = 24
 latency _ = 1
 
--- the greatest latency
-abbrev pub longest : ℕ
-longest = 24
-
 -- the cycles from the begin of a fetch to the frame that it fills
 abbrev pub fetch_latency : ℕ
 fetch_latency = 8

@@ -1,5 +1,5 @@
 -- A cycle of the grid, and runs of cycles (docs/GRID.md, "A cycle").
-use Rattle.std.specs.Prelude.{◌≡◌, ℕ, zero, suc, ◌+◌, List, [], length, false, None}
+use Rattle.std.specs.Prelude.{◌≡◌, ℕ, ◌+◌, List, [], length, false, None}
 use Rattle.trips_isa.specs.declared.block.Block.{Block}
 use Rattle.trips_isa.specs.declared.run.Counts.{Counts}
 use Rattle.trips_isa.specs.declared.run.Stepped.{Stepped}
@@ -15,7 +15,7 @@ use Rattle.grid_cycle_spec.specs.Fetches.{fetches}
 use Rattle.grid_cycle_spec.specs.Banks.{reads_answered}
 use Rattle.grid_cycle_spec.specs.DataTiles.{answers}
 use Rattle.grid_cycle_spec.specs.Units.{works_on}
-use Rattle.grid_cycle_spec.specs.Arrivals.{arrivals}
+use Rattle.grid_cycle_spec.specs.inside.Arrivals.{arrivals}
 use Rattle.grid_cycle_spec.specs.Acting.{flushed}
 
 -- parts (2) to (5)
@@ -53,12 +53,6 @@ pub record Then {W : Type 0} (first last : Grid W → Type 0) : Type 0 where
   pub between : Grid W
   pub before : first between
   pub after : last between
-
--- n eager cycles, one after another
-abbrev pub AfterCycles : {W : Type 0} → (W → ℕ) → (W → W → Type 0) → List Block → ℕ → ℕ → Grid W → Grid W → Type 0
-AfterCycles next follows blocks budget zero g h = h ≡ g
-AfterCycles next follows blocks budget (suc n) g h =
-    Then (λ m. AfterCycles next follows blocks budget n g m) (λ m. Eager next follows blocks budget m h)
 
 -- the start and the end of a run -----------------------------------------------------------------
 

@@ -9,6 +9,6 @@ pub mod Fetches
 pub mod Banks
 pub mod DataTiles
 pub mod Units
-pub mod Arrivals
 pub mod Cycles
 pub mod Laws
+pub mod inside

@@ -55,11 +55,3 @@ data_tile_of address = address / 64 % data_tiles
 abbrev pub home : Block → ℕ → ℕ
 home b q = cond (nat_lt q first_write) (tile_node (tile_of (q % 128)))
     (bank_node (bank_of (slice_index_or b.writes.items (q - first_write) 0)))
-
--- how far two numbers are apart
-abbrev pub apart : ℕ → ℕ → ℕ
-apart a b = (a - b) + (b - a)
-
--- how many links a parcel takes from a node to another, at most eight: along the row, then along the column
-abbrev pub far : ℕ → ℕ → ℕ
-far from to = apart (from % 5) (to % 5) + apart (from / 5) (to / 5)

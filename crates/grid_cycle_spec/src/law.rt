@@ -5,17 +5,21 @@ ghost use Rattle.trips_isa.specs.declared.op.Op.{Op};
 ghost use Rattle.trips_isa.specs.declared.run.Traced.{Traced};
 ghost use Rattle.trips_isa.specs.declared.run.Stepped.TheVariants.{Went};
 ghost use Rattle.trips_isa.specs.Fits.{FitsBlock};
-ghost use Rattle.commit_flush_spec.specs.Invariant.{AllGood};
-ghost use Rattle.commit_flush_spec.specs.Laws.{TakesSteps, WindowOk};
+ghost use Rattle.commit_flush_spec.specs.inside.Invariant.{AllGood};
+ghost use Rattle.commit_flush_spec.specs.Laws.{TakesSteps};
+ghost use Rattle.commit_flush_spec.specs.inside.Laws.{WindowOk};
 ghost use Rattle.commit_flush_spec.specs.Window.{Store, Window, happens};
 ghost use Rattle.grid_cycle_spec.specs.Stations.{bank_of, bank_node, data_tile_of, data_node};
-ghost use Rattle.grid_cycle_spec.specs.Stations.{far, home, tile_of, tile_node};
+ghost use Rattle.grid_cycle_spec.specs.Stations.{home, tile_of, tile_node};
+ghost use Rattle.grid_cycle_spec.specs.inside.Stations.{far};
 ghost use Rattle.grid_cycle_spec.specs.Costs.{cost, cost_of, greatest};
 ghost use Rattle.grid_cycle_spec.specs.Grid.{Grid};
 ghost use Rattle.grid_cycle_spec.specs.Acting.{gone};
 ghost use Rattle.grid_cycle_spec.specs.DataTiles.{wrong_load};
-ghost use Rattle.grid_cycle_spec.specs.Cycles.{AfterCycles, Eager, closed};
-ghost use Rattle.grid_cycle_spec.specs.Laws.{AddsUp, ByEvents, IsNearer, TakesTime, first_number, frame_named};
+ghost use Rattle.grid_cycle_spec.specs.Cycles.{Eager, closed};
+ghost use Rattle.grid_cycle_spec.specs.inside.Cycles.{AfterCycles};
+ghost use Rattle.grid_cycle_spec.specs.Laws.{AddsUp};
+ghost use Rattle.grid_cycle_spec.specs.inside.Laws.{ByEvents, IsNearer, TakesTime, first_number, frame_named};
 
 use operand_net::Weather;
 

@@ -15,14 +15,14 @@ use Rattle.trips_isa.specs.Forms.{form_of}
 use Rattle.block_cases.specs.Orders.{slot_of}
 use Rattle.commit_flush_spec.specs.Frames.{Frame}
 use Rattle.commit_flush_spec.specs.InFlight.{Window}
-use Rattle.commit_flush_spec.specs.Invariant.{AllGood, IsRunnable, IsSized}
-use Rattle.commit_flush_spec.specs.Laws.{WindowOk}
+use Rattle.commit_flush_spec.specs.inside.Invariant.{AllGood, IsRunnable, IsSized}
+use Rattle.commit_flush_spec.specs.inside.Laws.{WindowOk}
 use Rattle.commit_flush_spec.specs.Older.{committed}
-use Rattle.commit_flush.specs.Places.{frame_of}
+use Rattle.commit_flush.specs.inside.Places.{frame_of}
 use Rattle.commit_flush.proofs.FrameFacts.{frame_ok, has_age}
-use Rattle.frame_state.specs.Held.{Held, as_frame}
-use Rattle.frame_state.specs.Told.{block_in}
-use Rattle.commit_flush.specs.Lent.{IsLent}
+use Rattle.frame_state.specs.inside.Held.{Held, as_frame}
+use Rattle.frame_state.specs.inside.Told.{block_in}
+use Rattle.commit_flush.specs.inside.Lent.{IsLent}
 
 module _ (blocks : List Block) (budget : ℕ) (w : Window) (ok : WindowOk blocks budget w) where
   -- the block of a frame in flight is its block of the image

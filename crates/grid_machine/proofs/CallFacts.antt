@@ -13,9 +13,10 @@ use Rattle.grid_cycle_spec.specs.Acting.{flushed, known_next}
 use Rattle.grid_cycle_spec.specs.Cycles.{Eager, closed}
 use Rattle.grid_cycle_spec.specs.Laws.{AddsUp}
 use Rattle.grid_cycle_spec.proofs.Counting.{closed_adds_up}
-use Rattle.grid_machine.specs.Counted.{IsCounted}
+use Rattle.grid_machine.specs.inside.Counted.{IsCounted}
 use Rattle.grid_machine.specs.Endings.{ended, ending_of, is_going}
-use Rattle.grid_machine.specs.WholeRuns.{GoesFor, IsKept, IsRun, at_end, going_cycles}
+use Rattle.grid_machine.specs.WholeRuns.{GoesFor, IsRun, at_end, going_cycles}
+use Rattle.grid_machine.specs.inside.WholeRuns.{IsKept}
 use Rattle.grid_machine.proofs.RunFacts.{closed_same, closed_window, end_closed, end_going, going_by}
 
 -- with no frame in flight the next block is the committed one

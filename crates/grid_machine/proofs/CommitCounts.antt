@@ -7,7 +7,7 @@ use Rattle.trips_isa.specs.declared.run.Stepped.{Stepped}
 use Rattle.trips_isa.specs.declared.run.Stepped.TheVariants as stepped
 use Rattle.trips_isa.specs.Outcomes.{Outcome, Comes, Faults, unless}
 use Rattle.trips_isa.specs.Machine.{State}
-use Rattle.block_cases.specs.Plain.{IsTrap}
+use Rattle.block_cases.specs.inside.Plain.{IsTrap}
 use Rattle.block_cases.proofs.Traps.{applied_goes}
 use Rattle.commit_flush_spec.specs.Causes.{Happened, Done, NotNow}
 use Rattle.commit_flush_spec.specs.Frames.{Frame, Exit}
@@ -21,7 +21,8 @@ use Rattle.grid_cycle_spec.specs.Grid.{Grid, Fetching}
 use Rattle.grid_cycle_spec.specs.Acting.{is_done, may, flushed, gone, act}
 use Rattle.grid_cycle_spec.specs.Ends.{one_committed, learning, committed_as, commit_in}
 use Rattle.grid_cycle_spec.specs.Fetches.{fills}
-use Rattle.grid_cycle_spec.specs.Cycles.{AfterCycles, closed}
+use Rattle.grid_cycle_spec.specs.Cycles.{closed}
+use Rattle.grid_cycle_spec.specs.inside.Cycles.{AfterCycles}
 use Rattle.grid_cycle_spec.proofs.KeptByCycles.{IsSingle, IsFlushing, Keeps, cycles_keep}
 use Rattle.grid_machine.specs.Tallies.{CountsCommits}
 

@@ -7,7 +7,8 @@ use Rattle.operand_net.specs.Tick.{Ticked}
 use Rattle.commit_flush_spec.specs.Frames.{Frame}
 use Rattle.grid_cycle_spec.specs.Grid.{Grid, numbers_of}
 use Rattle.grid_cycle_spec.specs.Ends.{ends}
-use Rattle.grid_cycle_spec.specs.Cycles.{AfterCycles, Eager, Follows, Moves, acts}
+use Rattle.grid_cycle_spec.specs.Cycles.{Eager, Follows, Moves, acts}
+use Rattle.grid_cycle_spec.specs.inside.Cycles.{AfterCycles}
 use Rattle.grid_parts.proofs.FlushFacts.{as_many}
 
 module _ {W : Type 0} (next : W → ℕ) (follows : W → W → Type 0) (blocks : List Block) (budget : ℕ) where

@@ -14,17 +14,17 @@ use Rattle.commit_flush_spec.specs.Causes.{NotNow, NotReady, NotYet, judged}
 use Rattle.commit_flush_spec.specs.Dataflow.{can_fire, can_read, read_seen}
 use Rattle.commit_flush_spec.specs.Frames.{Frame, slot_node}
 use Rattle.commit_flush_spec.specs.InFlight.{on_frame}
-use Rattle.commit_flush_spec.specs.Numbered.{seen_at}
+use Rattle.commit_flush_spec.specs.inside.Numbered.{seen_at}
 use Rattle.commit_flush_spec.specs.Older.{Older}
 use Rattle.commit_flush_spec.specs.Sending.{token_with}
 use Rattle.commit_flush_spec.specs.Window.{unless_over}
-use Rattle.commit_flush.specs.Places.{frame_of}
+use Rattle.commit_flush.specs.inside.Places.{frame_of}
 use Rattle.commit_flush.proofs.FrameFacts.{none_asked, one_asked}
-use Rattle.frame_state.specs.Held.{Held, running}
-use Rattle.frame_state.specs.Shapes.{is_ready}
-use Rattle.commit_flush.specs.Observed.{unread_in}
-use Rattle.frame_state.specs.Events as events
-use Rattle.frame_state.specs.Phases.{IsIdle}
+use Rattle.frame_state.specs.inside.Held.{Held, running}
+use Rattle.frame_state.specs.inside.Shapes.{is_ready}
+use Rattle.commit_flush.specs.inside.Observed.{unread_in}
+use Rattle.frame_state.specs.inside.Events as events
+use Rattle.frame_state.specs.inside.Phases.{IsIdle}
 use Rattle.operand_net.specs.Marks.{has_bit}
 use Rattle.grid_cycle_spec.specs.Acting.{is_done}
 use Rattle.grid_machine.proofs.WordFacts.{no_bit}

@@ -8,8 +8,8 @@ use Rattle.std.proofs.lemmas.Bool.Decides.{nat_tests}
 use Rattle.trips_isa.specs.declared.block.Stored.{Stored}
 use Rattle.commit_flush_spec.specs.Frames.{Taken, NoBytes, Bytes, at}
 use Rattle.commit_flush_spec.specs.Older.{covers, passes, nearest, any_touched, took_touched}
-use Rattle.lsq_order.specs.Reached.{narrowed}
-use Rattle.lsq_order.specs.Wrong.{is_wrong}
+use Rattle.lsq_order.specs.inside.Reached.{narrowed}
+use Rattle.lsq_order.specs.inside.Wrong.{is_wrong}
 use Rattle.lsq_order.proofs.WrongFacts.{narrowed_start, narrowed_next}
 
 -- from number 0 on, what is left is what passes the stores

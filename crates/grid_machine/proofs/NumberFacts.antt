@@ -5,11 +5,11 @@ use Rattle.std.specs.Prelude.{All}
 use Rattle.std.proofs.lemmas.Bool.{eq-eqb}
 use Rattle.std.proofs.lemmas.List.Elements.{All-nil, All-cons}
 use Rattle.std.proofs.lemmas.List.Folds.{list_any_at}
-use Rattle.operand_net.specs.Places.{Once}
+use Rattle.operand_net.specs.inside.Places.{Once}
 use Rattle.commit_flush_spec.specs.Frames.{Frame}
 use Rattle.commit_flush_spec.specs.InFlight.{lowest_empty}
-use Rattle.commit_flush_spec.specs.Laws.{AreNumbers}
-use Rattle.commit_flush.specs.Places.{free_number}
+use Rattle.commit_flush_spec.specs.inside.Laws.{AreNumbers}
+use Rattle.commit_flush.specs.inside.Places.{free_number}
 
 pub all_below : (ns : List ℕ) → AreNumbers ns → All (λ n. n < 8) ns
 all_below [] h = All-nil (λ n. n < 8)

@@ -8,11 +8,11 @@ use Rattle.trips_isa.specs.Places.{in_mask}
 use Rattle.commit_flush_spec.specs.Ends.{all_below, store_came}
 use Rattle.commit_flush_spec.specs.Frames.{Frame, at, numbers}
 use Rattle.commit_flush.specs.Places.{numbers_of}
-use Rattle.frame_state.specs.Held.{Held, as_frame}
-use Rattle.commit_flush.specs.Lent.{IsLent}
+use Rattle.frame_state.specs.inside.Held.{Held, as_frame}
+use Rattle.commit_flush.specs.inside.Lent.{IsLent}
 use Rattle.grid_cycle_spec.specs.DataTiles.{all_resolved}
 use Rattle.lsq_order.proofs.WrongFacts.{numbers_are}
-use Rattle.grid_machine.specs.Named.{is_named}
+use Rattle.grid_machine.specs.inside.Named.{is_named}
 
 -- frames by age ----------------------------------------------------------------------------------
 

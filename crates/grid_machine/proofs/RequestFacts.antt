@@ -5,10 +5,10 @@ use Rattle.trips_isa.specs.declared.block.Inst.{Inst}
 use Rattle.trips_isa.specs.declared.block.Block.{Block}
 use Rattle.block_cases.specs.Orders.{slot_of}
 use Rattle.commit_flush_spec.specs.Frames.{at}
-use Rattle.commit_flush_spec.specs.Invariant.{IsRunnable}
+use Rattle.commit_flush_spec.specs.inside.Invariant.{IsRunnable}
 use Rattle.commit_flush_spec.specs.Memory.{request, with_inst, with_slot}
-use Rattle.frame_state.specs.Held.{Held, running}
-use Rattle.grid_parts.specs.Asked.{request_at}
+use Rattle.frame_state.specs.inside.Held.{Held, running}
+use Rattle.grid_parts.specs.inside.Asked.{request_at}
 use Rattle.grid_parts.specs.declared.windows.Request.{Request}
 use Rattle.grid_machine.proofs.BlockFacts.{slot_below}
 

@@ -15,13 +15,13 @@ use Rattle.grid_cycle_spec.specs.Fetches.{begins, fetch_ends, fetch_on, fetches,
 use Rattle.grid_cycle_spec.specs.Banks.{reads_answered}
 use Rattle.grid_cycle_spec.specs.DataTiles.{answers}
 use Rattle.grid_cycle_spec.specs.Units.{works_on}
-use Rattle.grid_cycle_spec.specs.Arrivals.{arrivals}
+use Rattle.grid_cycle_spec.specs.inside.Arrivals.{arrivals}
 use Rattle.grid_cycle_spec.specs.Cycles.{Moves, counted}
 use Rattle.grid_cycle_spec.proofs.KeptByCycles.{Keeps, answers_keep, arrivals_keep, banks_keep, begins_keeps}
 use Rattle.grid_cycle_spec.proofs.KeptByCycles.{ends_keep}
 use Rattle.grid_cycle_spec.proofs.KeptByCycles.{fetches_keep, works_keep}
 use Rattle.grid_cycle_spec.proofs.Counting as counting
-use Rattle.grid_machine.specs.Counted.{IsCounted}
+use Rattle.grid_machine.specs.inside.Counted.{IsCounted}
 
 -- the frames add up, at most so many have been fetched, and so many cycles have been made
 pub record Room {W : Type 0} (most made : ℕ) (g : Grid W) : Type 0 where

@@ -10,21 +10,25 @@ use Rattle.trips_isa.specs.declared.run.Stepped.TheVariants.{Went, Ended, StackF
 use Rattle.trips_isa.specs.Machine.{State, runs}
 use Rattle.commit_flush_spec.specs.Frames.{Frame}
 use Rattle.commit_flush_spec.specs.Window.{Window}
-use Rattle.commit_flush_spec.specs.Invariant.{AllGood}
-use Rattle.commit_flush_spec.specs.Laws.{TakesSteps, WindowOk}
+use Rattle.commit_flush_spec.specs.inside.Invariant.{AllGood}
+use Rattle.commit_flush_spec.specs.Laws.{TakesSteps}
+use Rattle.commit_flush_spec.specs.inside.Laws.{WindowOk}
 use Rattle.commit_flush_spec.proofs.Whole.{plays_ok}
 use Rattle.grid_machine.specs.Going.{goes}
 use Rattle.grid_cycle_spec.specs.Grid.{Grid}
 use Rattle.grid_cycle_spec.specs.Acting.{flushed}
-use Rattle.grid_cycle_spec.specs.Cycles.{AfterCycles, closed}
-use Rattle.grid_cycle_spec.specs.Laws.{AddsUp, ByEvents}
+use Rattle.grid_cycle_spec.specs.Cycles.{closed}
+use Rattle.grid_cycle_spec.specs.inside.Cycles.{AfterCycles}
+use Rattle.grid_cycle_spec.specs.Laws.{AddsUp}
+use Rattle.grid_cycle_spec.specs.inside.Laws.{ByEvents}
 use Rattle.grid_cycle_spec.proofs.Agreeing.{takes_steps}
 use Rattle.grid_cycle_spec.proofs.Counting.{closed_adds_up, cycles_add_up}
 use Rattle.grid_cycle_spec.proofs.Events.{cycles_steps}
 use Rattle.grid_machine.specs.Answered.{ComesTo, HasCome}
 use Rattle.grid_machine.specs.Endings.{ended, ending_of, is_going}
 use Rattle.grid_machine.specs.Tallies.{CountsCommits}
-use Rattle.grid_machine.specs.WholeRuns.{AreCycles, GoesFor, IsRun, at_end}
+use Rattle.grid_machine.specs.WholeRuns.{GoesFor, IsRun, at_end}
+use Rattle.grid_machine.specs.inside.WholeRuns.{AreCycles}
 use Rattle.grid_machine.proofs.CommitCounts.{chained, closed_counts, cycles_count}
 use Rattle.grid_machine.proofs.MachineRuns.{came_to}
 use Rattle.grid_machine.proofs.TrapRooms.{HasRoom, TrapFits, going_fits, plays_fit}

@@ -3,8 +3,8 @@ use Rattle.std.proofs.Common.{◌≡◌, ℕ, zero, suc, ◌+◌, ◌≤◌, Lis
 use Rattle.std.proofs.Common.{refl, sym, ap, subst, arith}
 use Rattle.trips_isa.specs.declared.block.Block.{Block}
 use Rattle.frame_state.specs.declared.shape.Shape.{Shape}
-use Rattle.frame_state.specs.Shapes.{IsShape}
-use Rattle.grid_machine.specs.Shaped.{AreShapes}
+use Rattle.frame_state.specs.inside.Shapes.{IsShape}
+use Rattle.grid_machine.specs.inside.Shaped.{AreShapes}
 
 -- one more
 pub more_shapes : (bs : List Block) (k : ℕ) (ss : List Shape) (b : Block) (s : Shape) → AreShapes (take k bs) ss

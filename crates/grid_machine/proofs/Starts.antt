@@ -14,16 +14,17 @@ use Rattle.block_predict.specs.Predicts.{Holding, holding}
 use Rattle.block_predict.specs.Seeded as exits
 use Rattle.commit_flush_spec.specs.Window.{Window, opened}
 use Rattle.grid_machine.specs.Going.{goes}
-use Rattle.commit_flush_spec.specs.Invariant.{AllGood}
-use Rattle.commit_flush_spec.specs.Laws.{WindowOk}
+use Rattle.commit_flush_spec.specs.inside.Invariant.{AllGood}
+use Rattle.commit_flush_spec.specs.inside.Laws.{WindowOk}
 use Rattle.grid_cycle_spec.specs.Costs.{greatest, greatest_cost}
 use Rattle.grid_cycle_spec.specs.Grid.{Grid}
 use Rattle.grid_cycle_spec.specs.Laws.{AddsUp}
-use Rattle.grid_parts.specs.Changes.{begun_with}
+use Rattle.grid_parts.specs.inside.Changes.{begun_with}
 use Rattle.grid_machine.specs.Answered.{HasCome}
 use Rattle.grid_machine.specs.Endings.{ended, is_going}
 use Rattle.grid_machine.specs.Tallies.{CountsCommits}
-use Rattle.grid_machine.specs.WholeRuns.{IsKept, IsRun, most_cycles}
+use Rattle.grid_machine.specs.WholeRuns.{IsRun, most_cycles}
+use Rattle.grid_machine.specs.inside.WholeRuns.{IsKept}
 use Rattle.grid_machine.proofs.RunFacts.{has_come}
 use Rattle.grid_machine.specs.Seeds.{IsAfter, IsRan, next_hold, started}
 

@@ -5,14 +5,14 @@ use Rattle.trips_isa.specs.declared.block.Inst.{Inst}
 use Rattle.trips_isa.specs.declared.block.Block.{Block}
 use Rattle.block_cases.specs.Orders.{slot_of}
 use Rattle.commit_flush_spec.specs.Frames.{Frame, Exit, at, target}
-use Rattle.frame_state.specs.Held.{Held, as_frame}
-use Rattle.frame_state.specs.Told.{block_in, exit_come}
-use Rattle.commit_flush.specs.Places as places
-use Rattle.commit_flush.specs.Telling.{number_of_exit}
-use Rattle.commit_flush.specs.Lent.{IsLent}
+use Rattle.frame_state.specs.inside.Held.{Held, as_frame}
+use Rattle.frame_state.specs.inside.Told.{block_in, exit_come}
+use Rattle.commit_flush.specs.inside.Places as places
+use Rattle.commit_flush.specs.inside.Telling.{number_of_exit}
+use Rattle.commit_flush.specs.inside.Lent.{IsLent}
 use Rattle.grid_cycle_spec.specs.DataTiles.{tile_by}
 use Rattle.grid_cycle_spec.specs.Stations.{home}
-use Rattle.grid_parts.specs.Asked.{block_of, exit_of, found_in, frame_of, holds_of, number_of}
+use Rattle.grid_parts.specs.inside.Asked.{block_of, exit_of, found_in, frame_of, holds_of, number_of}
 
 -- the frame of a number is the same in both crates' words
 pub same_frame : (n : ℕ) (fs : List Frame) → frame_of n fs ≡ places.frame_of n fs

@@ -7,7 +7,7 @@ use Rattle.trips_isa.specs.declared.run.Stepped.{Stepped}
 use Rattle.trips_isa.specs.declared.run.Stepped.TheVariants.{Went, Ended, StackFull, Trap}
 use Rattle.trips_isa.specs.Outcomes.{Outcome, Comes, Faults, unless}
 use Rattle.trips_isa.specs.Machine.{State, apply}
-use Rattle.block_cases.specs.Plain.{IsTrap}
+use Rattle.block_cases.specs.inside.Plain.{IsTrap}
 use Rattle.block_cases.proofs.Traps.{applied_goes}
 use Rattle.commit_flush_spec.specs.Frames.{Frame}
 use Rattle.commit_flush_spec.specs.Causes.{Happened, Done, NotNow, Spent, Unsealed}

@@ -11,21 +11,21 @@ use Rattle.trips_isa.specs.declared.block.Stored.{Stored}
 use Rattle.commit_flush_spec.specs.Frames.{Frame, Taken, at, numbers}
 use Rattle.commit_flush_spec.specs.Memory.{request, with_store}
 use Rattle.commit_flush_spec.specs.Older.{covers, nearest, passes, took_touched}
-use Rattle.commit_flush_spec.specs.Laws.{AreNumbers}
+use Rattle.commit_flush_spec.specs.inside.Laws.{AreNumbers}
 use Rattle.commit_flush_spec.proofs.Lists.{other_at, set_here}
-use Rattle.frame_state.specs.Held.{Held, as_frame, running}
-use Rattle.lsq_order.specs.Reached.{FitsReach, narrowed}
-use Rattle.lsq_order.specs.Wrong.{Finds, is_wrong}
+use Rattle.frame_state.specs.inside.Held.{Held, as_frame, running}
+use Rattle.lsq_order.specs.inside.Reached.{FitsReach, narrowed}
+use Rattle.lsq_order.specs.inside.Wrong.{Finds, is_wrong}
 use Rattle.lsq_order.proofs.WrongFacts.{numbers_are, own_left}
 use Rattle.grid_machine.proofs.NearFacts.{near_low, own_at, passes_is, took_none}
-use Rattle.commit_flush.specs.Places.{age_of, later}
+use Rattle.commit_flush.specs.inside.Places.{age_of, later}
 use Rattle.commit_flush.proofs.LoadFacts.{fits_reach}
 use Rattle.commit_flush.proofs.StoreFacts.{finds_same, narrowed_same}
 use Rattle.grid_cycle_spec.specs.Choosing.{found_in, least}
 use Rattle.grid_cycle_spec.specs.Grid.{numbers_of}
 use Rattle.grid_cycle_spec.specs.DataTiles.{stored_by, wrong_behind, wrong_from, wrong_in}
 use Rattle.grid_parts.proofs.SlotFacts.{least_is, least_none}
-use Rattle.commit_flush.specs.Lent.{IsLent}
+use Rattle.commit_flush.specs.inside.Lent.{IsLent}
 use Rattle.grid_machine.proofs.OlderFacts.{drop_here, drop_past, lent_at}
 
 -- the least number for which a test holds

@@ -3,7 +3,5 @@ pub mod Endings
 pub mod WholeRuns
 pub mod Answered
 pub mod Tallies
-pub mod Counted
 pub mod Going
-pub mod Shaped
-pub mod Named
+pub mod inside

@@ -1,12 +1,11 @@
 -- Runs of the grid: eager cycles while the run goes on, and at its end the flush of the frames in flight
 -- (docs/GRID.md, "Runs").
-use Rattle.std.specs.Prelude.{◌≡◌, ℕ, zero, suc, ◌*◌, true, false, cond, List, []}
+use Rattle.std.specs.Prelude.{◌≡◌, ℕ, zero, suc, ◌*◌, true, cond, List}
 use Rattle.trips_isa.specs.declared.block.Block.{Block}
 use Rattle.commit_flush_spec.specs.Window.{Window}
 use Rattle.grid_cycle_spec.specs.Grid.{Grid}
 use Rattle.grid_cycle_spec.specs.Costs.{greatest}
-use Rattle.grid_cycle_spec.specs.Cycles.{AfterCycles, Eager, Then, closed}
-use Rattle.grid_machine.specs.Counted.{IsCounted}
+use Rattle.grid_cycle_spec.specs.Cycles.{Eager, Then, closed}
 use Rattle.grid_machine.specs.Endings.{is_going}
 
 -- n eager cycles, one after another, before each of which the run goes on
@@ -28,22 +27,9 @@ pub record IsRun {W : Type 0} (next : W → ℕ) (follows : W → W → Type 0) 
   pub cycles : GoesFor next follows blocks budget n g last
   pub ends : h ≡ at_end budget last
 
--- n eager cycles lead from a grid to another, whose frames in flight are flushed where the run has ended
-pub record AreCycles {W : Type 0} (next : W → ℕ) (follows : W → W → Type 0) (blocks : List Block) (budget n : ℕ)
-    (g h : Grid W) : Type 0 where
-  -- the grid behind the last cycle, before the flush
-  pub last : Grid W
-  pub cycles : AfterCycles next follows blocks budget n g last
-  pub ends : h ≡ at_end budget last
-
 -- how many cycles a single call makes: one where the run goes on
 abbrev pub going_cycles : ℕ → Window → ℕ
 going_cycles budget w = cond (is_going budget w) 1 0
-
--- what stands of a grid between two cycles: its counts have room, and at the end of a run no frame is in flight
-pub record IsKept {W : Type 0} (budget : ℕ) (g : Grid W) : Type 0 where
-  pub counted : IsCounted g
-  pub rests : is_going budget g.window ≡ false → g.window.frames ≡ []
 
 -- the greatest number of cycles that a run makes: the greatest cost of a block, for each block of the budget
 unfoldable pub most_cycles : ℕ → ℕ

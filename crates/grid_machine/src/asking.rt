@@ -1,13 +1,13 @@
 //! What is asked of the frames in flight, and of the frame of a number.
 ghost use Rattle.std.specs.Prelude.{◌≡◌, ◌≤◌, ◌<◌, All, IfSome, length, slice_get};
 ghost use Rattle.block_cases.specs.Orders.{slot_of};
-ghost use Rattle.operand_net.specs.Places.{Once};
-ghost use Rattle.commit_flush_spec.specs.Laws.{AreNumbers};
+ghost use Rattle.operand_net.specs.inside.Places.{Once};
+ghost use Rattle.commit_flush_spec.specs.inside.Laws.{AreNumbers};
 ghost use Rattle.commit_flush_spec.specs.InFlight.{lowest_empty};
 ghost use Rattle.grid_cycle_spec.specs.Fetches.{has_room};
 ghost use Rattle.grid_cycle_spec.specs.Grid.{numbers_of};
-ghost use Rattle.grid_parts.specs.Asked as asked;
-ghost use Rattle.grid_parts.specs.Asked.{register_in};
+ghost use Rattle.grid_parts.specs.inside.Asked as asked;
+ghost use Rattle.grid_parts.specs.inside.Asked.{register_in};
 
 use arrayvec::ArrayVec;
 use commit_flush::Window;

@@ -2,7 +2,7 @@
 ghost use Rattle.std.specs.Prelude.{◌≡◌, ◌<◌, ◌≤◌, ◌+◌, ◌^◌};
 ghost use Rattle.grid_cycle_spec.specs.Cycles.{Eager, Moves, acts, closed};
 ghost use Rattle.grid_parts.specs.Seen.{seen};
-ghost use Rattle.grid_machine.specs.Counted.{IsCounted};
+ghost use Rattle.grid_machine.specs.inside.Counted.{IsCounted};
 
 use grid_parts::{Grid, Windows, arrivals};
 use operand_net::Weather;

@@ -1,8 +1,8 @@
 //! Runs of cycles.
 ghost use Rattle.std.specs.Prelude.{◌≡◌, ◌≤◌, ◌+◌, ◌^◌, true};
-ghost use Rattle.grid_cycle_spec.specs.Cycles.{AfterCycles};
+ghost use Rattle.grid_cycle_spec.specs.inside.Cycles.{AfterCycles};
 ghost use Rattle.grid_parts.specs.Seen.{seen};
-ghost use Rattle.grid_machine.specs.Counted.{IsCounted};
+ghost use Rattle.grid_machine.specs.inside.Counted.{IsCounted};
 ghost use Rattle.grid_machine.specs.Going.{goes};
 
 use crate::cycling::cycle;

@@ -3,12 +3,13 @@ ghost use Rattle.std.specs.Prelude.{◌≡◌, ◌-◌, ◌<◌, ◌≤◌, ◌*
 ghost use Rattle.trips_isa.specs.declared.block.Block.{Block};
 ghost use Rattle.trips_isa.specs.declared.run.Ending.{Ending};
 ghost use Rattle.trips_isa.specs.declared.run.Stepped.TheVariants.{Went};
-ghost use Rattle.commit_flush_spec.specs.Invariant.{AllGood};
-ghost use Rattle.commit_flush_spec.specs.Laws.{WindowOk};
+ghost use Rattle.commit_flush_spec.specs.inside.Invariant.{AllGood};
+ghost use Rattle.commit_flush_spec.specs.inside.Laws.{WindowOk};
 ghost use Rattle.grid_cycle_spec.specs.Grid.{Grid};
 ghost use Rattle.grid_cycle_spec.specs.Laws.{AddsUp};
 ghost use Rattle.grid_machine.specs.Endings.{ended};
-ghost use Rattle.grid_machine.specs.WholeRuns.{AreCycles, IsRun};
+ghost use Rattle.grid_machine.specs.WholeRuns.{IsRun};
+ghost use Rattle.grid_machine.specs.inside.WholeRuns.{AreCycles};
 ghost use Rattle.grid_machine.specs.Answered.{ComesTo};
 ghost use Rattle.grid_machine.specs.Tallies.{CountsCommits};
 

@@ -7,7 +7,7 @@
 //!
 //! [`GridWindow`] is the window in code as the grid moves it: each event is the window's own, and what the grid asks
 //! of a frame is read off what the frame holds. Beside the window stands the shape of each block of the image
-//! (specs/Shaped.antt), so that the slots which may fire are a few operations on words.
+//! (specs/inside/Shaped.antt), so that the slots which may fire are a few operations on words.
 #![tactic(auto)]
 
 mod asking;

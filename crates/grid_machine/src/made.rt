@@ -2,9 +2,9 @@
 ghost use Rattle.std.specs.Prelude.{◌≡◌, ◌<◌, ◌≤◌, IfOk, [], length};
 ghost use Rattle.trips_isa.specs.Machine.{start};
 ghost use Rattle.commit_flush_spec.specs.InFlight.{opened};
-ghost use Rattle.grid_parts.specs.Changes.{begun_with};
+ghost use Rattle.grid_parts.specs.inside.Changes.{begun_with};
 ghost use Rattle.grid_parts.specs.Seen.{seen};
-ghost use Rattle.grid_machine.specs.WholeRuns.{IsKept};
+ghost use Rattle.grid_machine.specs.inside.WholeRuns.{IsKept};
 
 use crate::window::GridWindow;
 use base::Memory;

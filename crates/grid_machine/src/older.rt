@@ -4,7 +4,7 @@ ghost use Rattle.trips_isa.specs.Places.{in_mask};
 ghost use Rattle.commit_flush_spec.specs.Ends.{all_below, store_came};
 ghost use Rattle.commit_flush_spec.specs.Frames.{Frame, at};
 ghost use Rattle.grid_cycle_spec.specs.DataTiles.{all_resolved};
-ghost use Rattle.grid_machine.specs.Named.{is_named};
+ghost use Rattle.grid_machine.specs.inside.Named.{is_named};
 
 use commit_flush::Window;
 use frame_state::Body;

@@ -9,12 +9,12 @@ ghost use Rattle.commit_flush_spec.specs.InFlight.{on_frame};
 ghost use Rattle.commit_flush_spec.specs.Older.{committed};
 ghost use Rattle.commit_flush_spec.specs.Window as event;
 ghost use Rattle.commit_flush_spec.specs.Window.{can};
-ghost use Rattle.commit_flush.specs.Places.{frame_of};
-ghost use Rattle.commit_flush.specs.Observed.{unread_in};
-ghost use Rattle.frame_state.specs.Held.{running};
-ghost use Rattle.frame_state.specs.Shapes.{IsShape, is_ready};
+ghost use Rattle.commit_flush.specs.inside.Places.{frame_of};
+ghost use Rattle.commit_flush.specs.inside.Observed.{unread_in};
+ghost use Rattle.frame_state.specs.inside.Held.{running};
+ghost use Rattle.frame_state.specs.inside.Shapes.{IsShape, is_ready};
 ghost use Rattle.grid_cycle_spec.specs.Acting.{is_done};
-ghost use Rattle.grid_machine.specs.Shaped.{AreShapes};
+ghost use Rattle.grid_machine.specs.inside.Shaped.{AreShapes};
 
 use crate::bits::joined;
 use crate::shapes::Shapes;

@@ -6,11 +6,11 @@ ghost use Rattle.trips_isa.specs.declared.block.Block.{Block};
 ghost use Rattle.trips_isa.specs.declared.block.Inst as instruction;
 ghost use Rattle.block_cases.specs.Orders.{slot_of};
 ghost use Rattle.commit_flush_spec.specs.Frames.{Frame, at};
-ghost use Rattle.frame_state.specs.Held.{as_frame};
+ghost use Rattle.frame_state.specs.inside.Held.{as_frame};
 ghost use Rattle.grid_cycle_spec.specs.DataTiles.{tile_by};
 ghost use Rattle.grid_cycle_spec.specs.Stations.{data_tile_of};
-ghost use Rattle.grid_parts.specs.Asked as asked;
-ghost use Rattle.grid_parts.specs.Asked.{frame_of, request_at};
+ghost use Rattle.grid_parts.specs.inside.Asked as asked;
+ghost use Rattle.grid_parts.specs.inside.Asked.{frame_of, request_at};
 
 use crate::asking::slot_of;
 use commit_flush::Window;

@@ -4,7 +4,8 @@ ghost use Rattle.grid_parts.specs.Seen.{seen};
 ghost use Rattle.grid_machine.specs.Answered.{HasCome};
 ghost use Rattle.grid_machine.specs.Endings.{ended, is_going};
 ghost use Rattle.grid_machine.specs.Tallies.{CountsCommits};
-ghost use Rattle.grid_machine.specs.WholeRuns.{IsKept, IsRun, going_cycles, most_cycles};
+ghost use Rattle.grid_machine.specs.WholeRuns.{IsRun, going_cycles, most_cycles};
+ghost use Rattle.grid_machine.specs.inside.WholeRuns.{IsKept};
 
 use crate::window::GridWindow;
 use grid_parts::Grid;

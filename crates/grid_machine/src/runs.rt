@@ -1,10 +1,11 @@
 //! Runs of the grid over any window.
 ghost use Rattle.std.specs.Prelude.{◌≡◌, ◌<◌, ◌≤◌, ◌+◌, ◌-◌, ◌^◌, [], true, false};
-ghost use Rattle.grid_machine.specs.Counted.{IsCounted};
+ghost use Rattle.grid_machine.specs.inside.Counted.{IsCounted};
 ghost use Rattle.grid_machine.specs.Going.{goes};
 ghost use Rattle.grid_parts.specs.Seen.{seen};
 ghost use Rattle.grid_machine.specs.Endings.{ended, ending_of, is_going};
-ghost use Rattle.grid_machine.specs.WholeRuns.{GoesFor, IsKept, IsRun, at_end, going_cycles};
+ghost use Rattle.grid_machine.specs.WholeRuns.{GoesFor, IsRun, at_end, going_cycles};
+ghost use Rattle.grid_machine.specs.inside.WholeRuns.{IsKept};
 
 use crate::cycling::close;
 use grid_parts::{Grid, Windows};

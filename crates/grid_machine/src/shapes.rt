@@ -1,6 +1,6 @@
 //! The shapes of the blocks of an image.
 ghost use Rattle.std.specs.Prelude.{◌≡◌, ◌<◌, IfOk, Some, length, slice_get};
-ghost use Rattle.grid_machine.specs.Shaped.{AreShapes};
+ghost use Rattle.grid_machine.specs.inside.Shaped.{AreShapes};
 
 use base::Memory;
 use block_check::CheckedImage;

@@ -2,8 +2,8 @@
 ghost use Rattle.std.specs.Prelude.{◌≡◌, ◌<◌, Some, slice_index_or};
 ghost use Rattle.commit_flush_spec.specs.Frames.{Frame, target};
 ghost use Rattle.grid_cycle_spec.specs.Stations as stations;
-ghost use Rattle.grid_parts.specs.Asked as asked;
-ghost use Rattle.grid_parts.specs.Asked.{frame_of};
+ghost use Rattle.grid_parts.specs.inside.Asked as asked;
+ghost use Rattle.grid_parts.specs.inside.Asked.{frame_of};
 
 use commit_flush::Window;
 use trips_isa::{Block, FIRST_WRITE};

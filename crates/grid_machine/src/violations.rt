@@ -4,10 +4,10 @@ ghost use Rattle.trips_isa.specs.declared.block.Block.{Block};
 ghost use Rattle.commit_flush_spec.specs.Frames.{Frame, at, numbers};
 ghost use Rattle.commit_flush_spec.specs.Memory.{request, with_store};
 ghost use Rattle.commit_flush_spec.specs.Older.{passes, took_touched};
-ghost use Rattle.frame_state.specs.Held.{as_frame};
+ghost use Rattle.frame_state.specs.inside.Held.{as_frame};
 ghost use Rattle.grid_cycle_spec.specs.Choosing.{found_in, least};
 ghost use Rattle.grid_cycle_spec.specs.DataTiles.{stored_by, wrong_behind, wrong_from, wrong_in, wrong_load};
-ghost use Rattle.lsq_order.specs.Reached.{reached};
+ghost use Rattle.lsq_order.specs.inside.Reached.{reached};
 
 use crate::events::may;
 use commit_flush::Window;

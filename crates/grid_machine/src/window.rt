@@ -1,7 +1,7 @@
 //! The window with the shapes of its blocks.
 ghost use Rattle.std.specs.Prelude.{◌≡◌, IfOk};
-ghost use Rattle.commit_flush_spec.specs.Invariant.{AllGood};
-ghost use Rattle.commit_flush_spec.specs.Laws.{WindowOk};
+ghost use Rattle.commit_flush_spec.specs.inside.Invariant.{AllGood};
+ghost use Rattle.commit_flush_spec.specs.inside.Laws.{WindowOk};
 
 use crate::shapes::Shapes;
 use base::Memory;
@@ -19,7 +19,7 @@ pub struct GridWindow {
 
 impl Model for GridWindow {
     ghost use Rattle.commit_flush.specs.Seen.{Seen};
-    ghost use Rattle.grid_machine.specs.Shaped.{AreShapes};
+    ghost use Rattle.grid_machine.specs.inside.Shaped.{AreShapes};
 
     ghost Value = { Seen };
 

@@ -6,18 +6,18 @@ use Rattle.trips_isa.specs.declared.block.Inst.{Inst}
 use Rattle.trips_isa.specs.declared.block.ReadSlot.{ReadSlot}
 use Rattle.trips_isa.specs.declared.block.Block.{Block}
 use Rattle.commit_flush_spec.specs.Frames.{Frame, numbers}
-use Rattle.commit_flush_spec.specs.Laws.{AreNumbers}
+use Rattle.commit_flush_spec.specs.inside.Laws.{AreNumbers}
 use Rattle.commit_flush_spec.specs.Window.{Window, Read, can}
 use Rattle.grid_cycle_spec.specs.Grid.{Grid, numbers_of}
 use Rattle.grid_cycle_spec.specs.Acting.{is_done}
 use Rattle.grid_cycle_spec.specs.Banks.{is_bank, bank_in}
 use Rattle.grid_cycle_spec.specs.Choosing.{least, slots, reads, eldest}
 use Rattle.grid_cycle_spec.specs.DataTiles.{tile_for, asks_store, answers_request}
-use Rattle.grid_parts.specs.EldestChoices.{first_found}
+use Rattle.grid_parts.specs.inside.EldestChoices.{first_found}
 use Rattle.grid_parts.proofs.ChoiceFacts.{first_found_is}
-use Rattle.grid_parts.specs.Asked.{frame_of, found_in, holds_of, register_in, request_at, tile_in, store_in}
-use Rattle.grid_parts.specs.Choices.{fires, lowest_ready, in_bank, lowest_read}
-use Rattle.grid_parts.specs.Choices.{answers, lowest_request, load_goes, served}
+use Rattle.grid_parts.specs.inside.Asked.{frame_of, found_in, holds_of, register_in, request_at, tile_in, store_in}
+use Rattle.grid_parts.specs.inside.Choices.{fires, lowest_ready, in_bank, lowest_read}
+use Rattle.grid_parts.specs.inside.Choices.{answers, lowest_request, load_goes, served}
 use Rattle.commit_flush_spec.specs.Memory.{request}
 use Rattle.grid_parts.proofs.FrameFacts.{frame_number}
 use Rattle.grid_parts.proofs.NamedFacts.{all_named, first_named}

@@ -5,7 +5,8 @@ use Rattle.std.specs.Option.{option_or}
 use Rattle.operand_net.specs.declared.parcel.Parcel.{Parcel}
 use Rattle.operand_net.specs.declared.parcel.Stand.{Stand}
 use Rattle.operand_net.specs.declared.parcel.Stand.TheVariants.{Nowhere, Away, Held}
-use Rattle.operand_net.specs.Places.{Places, come, lowest, in_frame, eldest}
+use Rattle.operand_net.specs.Places.{Places}
+use Rattle.operand_net.specs.inside.Places.{come, lowest, in_frame, eldest}
 
 abbrev Within : Option Parcel → Type 0
 Within None = Unit {0}

@@ -14,16 +14,18 @@ use Rattle.block_cases.specs.Orders.{slot_of}
 use Rattle.operand_net.specs.declared.parcel.Parcel.{Parcel}
 use Rattle.operand_net.specs.declared.parcel.Stand.{Stand}
 use Rattle.operand_net.specs.declared.parcel.Stand.TheVariants.{Nowhere, Away, Held}
-use Rattle.operand_net.specs.Places.{Places, come, eldest, lowest, in_frame, without}
+use Rattle.operand_net.specs.Places.{Places}
+use Rattle.operand_net.specs.inside.Places.{come, eldest, lowest, in_frame, without}
 use Rattle.commit_flush_spec.specs.Frames.{Frame, at, first_read_place}
 use Rattle.commit_flush_spec.specs.Window as window
 use Rattle.commit_flush_spec.specs.Window.{Window, happens}
 use Rattle.grid_cycle_spec.specs.Grid.{Grid, is_of}
 use Rattle.grid_cycle_spec.specs.Acting.{act, flushed, gone}
-use Rattle.grid_cycle_spec.specs.Choosing.{each, places, with_frame}
-use Rattle.grid_cycle_spec.specs.Arrivals.{asks, delivers, is_waiting, slot_arrives, inst_arrives}
-use Rattle.grid_cycle_spec.specs.Arrivals.{place_arrives, arrives_if, arrival}
-use Rattle.grid_parts.specs.EmptyPlaces.{AreQuiet}
+use Rattle.grid_cycle_spec.specs.Choosing.{each, with_frame}
+use Rattle.grid_cycle_spec.specs.inside.Choosing.{places}
+use Rattle.grid_cycle_spec.specs.inside.Arrivals.{asks, delivers, is_waiting, slot_arrives, inst_arrives}
+use Rattle.grid_cycle_spec.specs.inside.Arrivals.{place_arrives, arrives_if, arrival}
+use Rattle.grid_parts.specs.inside.EmptyPlaces.{AreQuiet}
 
 places_are : places ≡ 320
 unfolding places

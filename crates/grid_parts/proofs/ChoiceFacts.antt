@@ -10,7 +10,7 @@ use Rattle.grid_cycle_spec.specs.Stations.{tile_of}
 use Rattle.grid_cycle_spec.specs.Grid.{numbers_of}
 use Rattle.grid_cycle_spec.specs.Choosing.{least, slots, found_in, eldest}
 use Rattle.grid_parts.specs.Bits.{frame_bit}
-use Rattle.grid_parts.specs.EldestChoices.{found_for, first_found, lowest_slot}
+use Rattle.grid_parts.specs.inside.EldestChoices.{found_for, first_found, lowest_slot}
 
 -- what is found for a number is what is found in the frame
 pub first_found_is : (find : ℕ → Option ℕ) (test : Frame → ℕ → Bool) (n : ℕ)

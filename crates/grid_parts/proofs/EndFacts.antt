@@ -4,7 +4,7 @@ use Rattle.std.proofs.Common.{refl, ap, ◌∙◌, arith}
 use Rattle.std.proofs.lemmas.Bool.{eq-eqb}
 use Rattle.commit_flush_spec.specs.Frames.{Frame}
 use Rattle.grid_cycle_spec.specs.Grid.{numbers_of}
-use Rattle.grid_parts.specs.Asked.{frame_of}
+use Rattle.grid_parts.specs.inside.Asked.{frame_of}
 
 -- the oldest of some frames, and the others
 pub record HasOldest (frames : List Frame) (order : List ℕ) : Type 0 where

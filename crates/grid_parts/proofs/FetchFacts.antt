@@ -8,19 +8,19 @@ use Rattle.trips_isa.specs.declared.run.Stepped.{Stepped}
 use Rattle.trips_isa.specs.declared.run.Stepped.TheVariants as stepped
 use Rattle.commit_flush_spec.specs.Causes.{Happened, NotNow, NoFrame}
 use Rattle.commit_flush_spec.specs.Frames.{Frame, Exit}
-use Rattle.commit_flush_spec.specs.Laws.{AreNumbers}
+use Rattle.commit_flush_spec.specs.inside.Laws.{AreNumbers}
 use Rattle.commit_flush_spec.specs.Older.{Older, after, after_all, successor_of}
 use Rattle.commit_flush_spec.specs.Window.{Window, Fetch, can, happens, lowest_empty, unless_over}
 use Rattle.grid_cycle_spec.specs.Grid.{Grid, Fetching, numbers_of}
 use Rattle.grid_cycle_spec.specs.Acting.{is_done, may}
 use Rattle.grid_cycle_spec.specs.Fetches.{fetch_ends, fetch_on, fill_where, fills, filled, begun_after, begun_behind}
 use Rattle.grid_cycle_spec.specs.Fetches.{begins, fetch_begins, has_room as has_room_for}
-use Rattle.grid_parts.specs.Fetches.{due, nearer, with_less}
-use Rattle.grid_parts.specs.Changes.{fetch_nearer, filled_by}
+use Rattle.grid_parts.specs.inside.Fetches.{due, nearer, with_less}
+use Rattle.grid_parts.specs.inside.Changes.{fetch_nearer, filled_by}
 use Rattle.grid_parts.proofs.PartFacts.{with_fetching}
-use Rattle.grid_parts.specs.Asked.{frame_of, found_in, number_of}
+use Rattle.grid_parts.specs.inside.Asked.{frame_of, found_in, number_of}
 use Rattle.grid_parts.proofs.NamedFacts.{AreNamed, all_named}
-use Rattle.grid_parts.specs.Youngest.{IsYoungest}
+use Rattle.grid_parts.specs.inside.Youngest.{IsYoungest}
 
 -- the end of a fetch -------------------------------------------------------------------------------
 

@@ -7,7 +7,8 @@ use Rattle.trips_isa.specs.declared.block.Block.{Block}
 use Rattle.block_predict.specs.Predicts.{Holding, branch, predicted, after, after_by}
 use Rattle.grid_cycle_spec.specs.Grid.{Fetching}
 use Rattle.grid_cycle_spec.specs.Acting.{still}
-use Rattle.grid_parts.specs.Fetches.{under_way, fetch_by, due, nearer}
+use Rattle.grid_parts.specs.Fetches.{under_way, fetch_by}
+use Rattle.grid_parts.specs.inside.Fetches.{due, nearer}
 
 pub idle_is : (b : Bool) (l k h : ℕ) (c : Bool) → not b ≡ is_none (fetch_by b l k h c)
 idle_is true l k h c = refl

@@ -13,7 +13,7 @@ use Rattle.grid_cycle_spec.specs.Grid.{Grid, numbers_of}
 use Rattle.grid_cycle_spec.specs.Acting.{flushed, settled}
 use Rattle.grid_cycle_spec.specs.Choosing.{with_frame}
 use Rattle.grid_cycle_spec.specs.DataTiles.{answer_chosen, answered_by, by_block}
-use Rattle.grid_parts.specs.Asked.{block_of, frame_of, found_in, request_at}
+use Rattle.grid_parts.specs.inside.Asked.{block_of, frame_of, found_in, request_at}
 use Rattle.grid_parts.specs.declared.windows.Request.{Request}
 use Rattle.grid_parts.proofs.FrameFacts.{by_frame, with_frame_is}
 

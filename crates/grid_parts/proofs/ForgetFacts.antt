@@ -10,7 +10,7 @@ use Rattle.block_predict.specs.Predicts.{Holding, holding}
 use Rattle.commit_flush_spec.specs.Frames.{Frame}
 use Rattle.grid_cycle_spec.specs.Grid.{Grid, Fetching, numbers_of, is_of, forget}
 use Rattle.grid_cycle_spec.specs.Acting.{repaired, flushed_more, flushed}
-use Rattle.grid_parts.specs.Changes.{forget_each, flushed_under}
+use Rattle.grid_parts.specs.inside.Changes.{forget_each, flushed_under}
 
 -- a grid with other parcels, requests and results
 abbrev pub with_three : {W : Type 0} → Places → (ℕ → ℕ → Bool) → (ℕ → ℕ → Bool) → Grid W → Grid W

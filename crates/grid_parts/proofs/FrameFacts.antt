@@ -7,7 +7,7 @@ use Rattle.grid_cycle_spec.specs.Stations.{home}
 use Rattle.grid_cycle_spec.specs.Grid.{Grid}
 use Rattle.grid_cycle_spec.specs.Choosing.{with_frame}
 use Rattle.grid_cycle_spec.specs.Sending.{enters, enters_if}
-use Rattle.grid_parts.specs.Asked.{frame_of, has_token, holds_of}
+use Rattle.grid_parts.specs.inside.Asked.{frame_of, has_token, holds_of}
 
 abbrev number_in : Option Frame → ℕ
 number_in None = 0

@@ -3,7 +3,8 @@ use Rattle.std.proofs.Common.{◌≡◌, ℕ, zero, suc, ◌+◌, ◌<◌, ◌�
 use Rattle.std.proofs.Common.{◌⊎◌, inl, inr, refl, sym, ap, ◌∙◌, arith}
 use Rattle.std.proofs.Common.{◌≢◌}
 use Rattle.std.proofs.lemmas.Bool.{cases_lt, cases_eq}
-use Rattle.operand_net.specs.Marks.{has_bit, IsLowestBit}
+use Rattle.operand_net.specs.Marks.{has_bit}
+use Rattle.operand_net.specs.inside.Marks.{IsLowestBit}
 use Rattle.commit_flush_spec.specs.Frames.{numbers}
 use Rattle.grid_cycle_spec.specs.Choosing.{least, slots, reads}
 use Rattle.grid_parts.proofs.SlotFacts.{least_is, least_none}

@@ -7,7 +7,8 @@ use Rattle.std.proofs.lemmas.Bool.{cases_lt, cases_eq, eq-eqb, ne_eqb, and_left,
 use Rattle.std.proofs.lemmas.Grind.{get_or-set_at}
 use Rattle.std.proofs.lemmas.Nat.Bits.{bit_at-zero}
 use Rattle.trips_isa.specs.declared.block.Block.{Block}
-use Rattle.operand_net.specs.Marks.{has_bit, IsLowestBit}
+use Rattle.operand_net.specs.Marks.{has_bit}
+use Rattle.operand_net.specs.inside.Marks.{IsLowestBit}
 use Rattle.commit_flush_spec.specs.Frames.{Frame, numbers}
 use Rattle.commit_flush_spec.specs.Window.{Window, Fire, Read, can, happens}
 use Rattle.grid_cycle_spec.specs.Stations.{tile_of}
@@ -16,11 +17,11 @@ use Rattle.grid_cycle_spec.specs.Acting.{is_done}
 use Rattle.grid_cycle_spec.specs.Choosing.{least, slots, reads, eldest}
 use Rattle.grid_cycle_spec.specs.DataTiles.{answers_request}
 use Rattle.grid_parts.specs.Bits.{frame_bit}
-use Rattle.grid_parts.specs.EldestChoices.{found_for, first_found, is_on, lowest_slot}
+use Rattle.grid_parts.specs.inside.EldestChoices.{found_for, first_found, is_on, lowest_slot}
 use Rattle.grid_parts.proofs.SlotFacts.{least_none}
-use Rattle.grid_parts.specs.Asked.{frame_of, holds_of, register_of}
-use Rattle.grid_parts.specs.Choices.{fires, may_fire, lowest_ready, in_bank, may_read}
-use Rattle.grid_parts.specs.Marked.{SlotsMarked, ReadsMarked}
+use Rattle.grid_parts.specs.inside.Asked.{frame_of, holds_of, register_of}
+use Rattle.grid_parts.specs.inside.Choices.{fires, may_fire, lowest_ready, in_bank, may_read}
+use Rattle.grid_parts.specs.inside.Marked.{SlotsMarked, ReadsMarked}
 use Rattle.grid_parts.proofs.LeastFacts.{slots_are, reads_are, numbers_are, none_least}
 use Rattle.grid_parts.proofs.FrameFacts.{frame_number}
 use Rattle.grid_parts.proofs.AnswerFacts.{ready_is}

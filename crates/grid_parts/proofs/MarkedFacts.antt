@@ -13,9 +13,9 @@ use Rattle.grid_cycle_spec.specs.Banks.{answers_read, bank_turn, read_chosen}
 use Rattle.grid_cycle_spec.specs.Choosing.{eldest, slots, reads, with_frame}
 use Rattle.grid_cycle_spec.specs.Sending.{enters, enters_if, enter_both}
 use Rattle.grid_cycle_spec.specs.Units.{issued, issue_chosen, issues, ready, takes}
-use Rattle.grid_parts.specs.EldestChoices.{lowest_slot}
-use Rattle.grid_parts.specs.Asked.{frame_of}
-use Rattle.grid_parts.specs.Marked.{SlotsMarked, ReadsMarked}
+use Rattle.grid_parts.specs.inside.EldestChoices.{lowest_slot}
+use Rattle.grid_parts.specs.inside.Asked.{frame_of}
+use Rattle.grid_parts.specs.inside.Marked.{SlotsMarked, ReadsMarked}
 use Rattle.grid_parts.proofs.FrameFacts.{by_frame, with_frame_is}
 use Rattle.grid_parts.proofs.MarkFacts.{reads_left, slots_left, none_issued}
 

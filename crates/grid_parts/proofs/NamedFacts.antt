@@ -4,11 +4,11 @@ use Rattle.std.proofs.Common.{refl, sym, ap, ap₂, ◌∙◌}
 use Rattle.std.specs.List.{list_any}
 use Rattle.std.proofs.lemmas.Bool.{eq-eqb, ne_eqb, or_parts, both_ways}
 use Rattle.commit_flush_spec.specs.Frames.{Frame}
-use Rattle.commit_flush_spec.specs.Laws.{AreNumbers}
+use Rattle.commit_flush_spec.specs.inside.Laws.{AreNumbers}
 use Rattle.grid_cycle_spec.specs.Grid.{numbers_of}
 use Rattle.grid_cycle_spec.specs.Choosing.{least, found_in, eldest}
-use Rattle.grid_parts.specs.EldestChoices.{found_for, first_found}
-use Rattle.grid_parts.specs.Asked.{frame_of}
+use Rattle.grid_parts.specs.inside.EldestChoices.{found_for, first_found}
+use Rattle.grid_parts.specs.inside.Asked.{frame_of}
 
 -- each of some frames is found by its number among all
 abbrev pub AreNamed : List Frame → List Frame → Type 0

@@ -9,8 +9,8 @@ use Rattle.block_cases.specs.Orders.{slot_of}
 use Rattle.commit_flush_spec.specs.Frames.{Frame}
 use Rattle.grid_cycle_spec.specs.Grid.{Grid}
 use Rattle.grid_cycle_spec.specs.Choosing.{with_frame}
-use Rattle.grid_cycle_spec.specs.Arrivals.{delivers, inst_arrives, place_arrives, slot_arrives}
-use Rattle.grid_parts.specs.Asked.{frame_of}
+use Rattle.grid_cycle_spec.specs.inside.Arrivals.{delivers, inst_arrives, place_arrives, slot_arrives}
+use Rattle.grid_parts.specs.inside.Asked.{frame_of}
 use Rattle.grid_parts.proofs.FrameFacts.{by_frame, frame_number, with_frame_is}
 
 module _ {W : Type 0} (blocks : List Block) (budget n p : ℕ) (g : Grid W) where

@@ -5,7 +5,7 @@ use Rattle.std.proofs.Math.Path.{fun_ext}
 use Rattle.std.proofs.lemmas.Bool.{cases_eq, eq-eqb, ne_eqb}
 use Rattle.std.proofs.lemmas.Grind.{get_or-set_at}
 use Rattle.std.proofs.lemmas.List.{length-replicate}
-use Rattle.grid_parts.specs.Fetches.{AreHistories}
+use Rattle.grid_parts.specs.inside.Fetches.{AreHistories}
 use Rattle.grid_parts.proofs.FlagFacts.{zeros, zero_at}
 
 -- one place of a row

@@ -9,7 +9,7 @@ use Rattle.std.proofs.Math.Nat.{div-div-eq-div-mul}
 use Rattle.std.specs.Int.{bit_at, trailing_zeros, w128}
 use Rattle.operand_net.specs.Marks.{has_bit}
 use Rattle.grid_cycle_spec.specs.Choosing.{least, slots}
-use Rattle.grid_parts.specs.EldestChoices.{is_on, lowest_slot}
+use Rattle.grid_parts.specs.inside.EldestChoices.{is_on, lowest_slot}
 
 -- the least number ---------------------------------------------------------------------------------
 

@@ -10,7 +10,7 @@ use Rattle.block_predict.specs.Predicts.{Holding}
 use Rattle.commit_flush_spec.specs.Window.{opened}
 use Rattle.grid_cycle_spec.specs.Grid.{Grid, Fetching}
 use Rattle.grid_cycle_spec.specs.Cycles.{uncounted}
-use Rattle.grid_parts.specs.Changes.{begun_with}
+use Rattle.grid_parts.specs.inside.Changes.{begun_with}
 
 -- no flag of a cleared row is set
 pub unset_flags : (n : ℕ) (xs : List Bool) → xs ≡ no_flags n → (x : ℕ) → slice_index_or xs x false ≡ false

@@ -12,9 +12,9 @@ use Rattle.grid_cycle_spec.specs.Grid.{Grid}
 use Rattle.grid_cycle_spec.specs.Choosing.{eldest, slots}
 use Rattle.grid_cycle_spec.specs.Units.{in_unit, result_chosen, unit_on, rests, slot_enters, result_enters}
 use Rattle.grid_cycle_spec.specs.Units.{issued, issue_chosen, issues, ready, takes}
-use Rattle.grid_parts.specs.Changes.{less_busy}
+use Rattle.grid_parts.specs.inside.Changes.{less_busy}
 use Rattle.grid_parts.proofs.PartFacts.{with_units}
-use Rattle.grid_parts.specs.Asked.{frame_of, found_in}
+use Rattle.grid_parts.specs.inside.Asked.{frame_of, found_in}
 use Rattle.grid_parts.proofs.FrameFacts.{by_frame, with_frame_is}
 
 -- frames -------------------------------------------------------------------------------------------

@@ -1,10 +1,4 @@
-pub mod Youngest
-pub mod EmptyPlaces
-pub mod Asked
-pub mod Choices
-pub mod Marked
 pub mod Bits
 pub mod Fetches
 pub mod Seen
-pub mod Changes
-pub mod EldestChoices
+pub mod inside

@@ -4,12 +4,13 @@ ghost use Rattle.trips_isa.specs.Forms as forms;
 ghost use Rattle.commit_flush_spec.specs.Frames.{Frame};
 ghost use Rattle.commit_flush_spec.specs.Window as event;
 ghost use Rattle.grid_cycle_spec.specs.Acting as acting;
-ghost use Rattle.grid_cycle_spec.specs.Arrivals as spec;
+ghost use Rattle.grid_cycle_spec.specs.inside.Arrivals as spec;
 ghost use Rattle.operand_net.specs.Places.{at};
-ghost use Rattle.grid_cycle_spec.specs.Choosing.{each, places, with_frame};
+ghost use Rattle.grid_cycle_spec.specs.Choosing.{each, with_frame};
+ghost use Rattle.grid_cycle_spec.specs.inside.Choosing.{places};
 ghost use Rattle.grid_parts.specs.Seen.{seen};
-ghost use Rattle.grid_parts.specs.Asked.{frame_of};
-ghost use Rattle.grid_parts.specs.EmptyPlaces.{AreQuiet};
+ghost use Rattle.grid_parts.specs.inside.Asked.{frame_of};
+ghost use Rattle.grid_parts.specs.inside.EmptyPlaces.{AreQuiet};
 
 use crate::grid::Grid;
 use crate::windows::Windows;

@@ -2,7 +2,7 @@
 ghost use Rattle.std.specs.Prelude.{◌≡◌, ◌<◌, Some};
 ghost use Rattle.grid_cycle_spec.specs.Banks as spec;
 ghost use Rattle.grid_parts.specs.Seen.{seen};
-ghost use Rattle.grid_parts.specs.Marked.{ReadsMarked};
+ghost use Rattle.grid_parts.specs.inside.Marked.{ReadsMarked};
 
 use crate::grid::Grid;
 use crate::read_marks::{ReadMarks, marked_reads, readable_among};

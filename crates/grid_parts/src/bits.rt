@@ -1,6 +1,7 @@
 //! The bits of a word, one after another.
 ghost use Rattle.std.specs.Prelude.{◌≡◌, ◌<◌, ℕ, false};
-ghost use Rattle.operand_net.specs.Marks.{has_bit, IsLowestBit};
+ghost use Rattle.operand_net.specs.Marks.{has_bit};
+ghost use Rattle.operand_net.specs.inside.Marks.{IsLowestBit};
 
 /// The bits of 32 numbers.
 const LOW_32: u128 = 0xFFFF_FFFF;

@@ -4,9 +4,9 @@ ghost use Rattle.commit_flush_spec.specs.Window.{Window};
 ghost use Rattle.grid_cycle_spec.specs.Choosing.{eldest, slots};
 ghost use Rattle.grid_cycle_spec.specs.Grid.{numbers_of};
 ghost use Rattle.grid_cycle_spec.specs.Units as spec;
-ghost use Rattle.grid_parts.specs.EldestChoices.{lowest_slot};
+ghost use Rattle.grid_parts.specs.inside.EldestChoices.{lowest_slot};
 ghost use Rattle.grid_parts.specs.Seen.{seen};
-ghost use Rattle.grid_parts.specs.Changes.{less_busy, taken_up};
+ghost use Rattle.grid_parts.specs.inside.Changes.{less_busy, taken_up};
 
 use crate::slots::lowest_on;
 use crate::state::State;

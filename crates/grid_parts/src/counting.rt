@@ -3,7 +3,7 @@ ghost use Rattle.std.specs.Prelude.{◌≡◌, ◌<◌, ◌+◌, ◌^◌};
 ghost use Rattle.commit_flush_spec.specs.Window.{Window};
 ghost use Rattle.grid_cycle_spec.specs.Cycles as cycle_spec;
 ghost use Rattle.grid_parts.specs.Seen.{seen};
-ghost use Rattle.grid_parts.specs.Changes.{committed_more, learned_of};
+ghost use Rattle.grid_parts.specs.inside.Changes.{committed_more, learned_of};
 
 use crate::state::State;
 

@@ -4,9 +4,9 @@ ghost use Rattle.commit_flush_spec.specs.Frames.{Frame};
 ghost use Rattle.grid_cycle_spec.specs.Acting as acting;
 ghost use Rattle.grid_cycle_spec.specs.Ends as spec;
 ghost use Rattle.grid_cycle_spec.specs.Grid.{forget, numbers_of};
-ghost use Rattle.grid_parts.specs.Changes.{committed_more};
+ghost use Rattle.grid_parts.specs.inside.Changes.{committed_more};
 ghost use Rattle.grid_parts.specs.Seen.{seen};
-ghost use Rattle.grid_parts.specs.Asked.{number_of};
+ghost use Rattle.grid_parts.specs.inside.Asked.{number_of};
 
 use crate::grid::Grid;
 use crate::windows::Windows;

@@ -2,7 +2,8 @@
 ghost use Rattle.std.specs.Prelude.{◌≡◌, ◌<◌, None, Some, is_none};
 ghost use Rattle.grid_cycle_spec.specs.Grid.{Fetching};
 ghost use Rattle.grid_cycle_spec.specs.Acting as acting;
-ghost use Rattle.grid_parts.specs.Fetches.{under_way, due, nearer};
+ghost use Rattle.grid_parts.specs.Fetches.{under_way};
+ghost use Rattle.grid_parts.specs.inside.Fetches.{due, nearer};
 
 use std::marker::Model;
 

@@ -2,14 +2,14 @@
 ghost use Rattle.std.specs.Prelude.{◌≡◌, ◌<◌, ◌+◌, ◌^◌, Some, All, length};
 ghost use Rattle.commit_flush_spec.specs.Frames as framing;
 ghost use Rattle.commit_flush_spec.specs.Frames.{Frame};
-ghost use Rattle.commit_flush_spec.specs.Laws.{AreNumbers};
+ghost use Rattle.commit_flush_spec.specs.inside.Laws.{AreNumbers};
 ghost use Rattle.commit_flush_spec.specs.Window as event;
 ghost use Rattle.grid_cycle_spec.specs.Acting.{may};
 ghost use Rattle.grid_cycle_spec.specs.Fetches as spec;
 ghost use Rattle.grid_cycle_spec.specs.Grid.{Fetching, numbers_of};
 ghost use Rattle.grid_parts.specs.Seen.{seen};
-ghost use Rattle.grid_parts.specs.Asked.{frame_of};
-ghost use Rattle.grid_parts.specs.Youngest.{IsYoungest};
+ghost use Rattle.grid_parts.specs.inside.Asked.{frame_of};
+ghost use Rattle.grid_parts.specs.inside.Youngest.{IsYoungest};
 
 use crate::grid::Grid;
 use crate::windows::Windows;

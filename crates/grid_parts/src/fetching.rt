@@ -5,9 +5,9 @@ ghost use Rattle.commit_flush_spec.specs.Window.{Window};
 ghost use Rattle.grid_cycle_spec.specs.Acting as acting;
 ghost use Rattle.grid_cycle_spec.specs.Fetches as spec;
 ghost use Rattle.grid_cycle_spec.specs.Grid.{Fetching};
-ghost use Rattle.grid_parts.specs.Fetches.{due};
+ghost use Rattle.grid_parts.specs.inside.Fetches.{due};
 ghost use Rattle.grid_parts.specs.Seen.{seen};
-ghost use Rattle.grid_parts.specs.Changes.{fetch_nearer, filled_by, given_up};
+ghost use Rattle.grid_parts.specs.inside.Changes.{fetch_nearer, filled_by, given_up};
 
 use crate::state::State;
 use block_check::CheckedImage;

@@ -9,7 +9,7 @@ ghost use Rattle.grid_cycle_spec.specs.Acting as acting;
 ghost use Rattle.grid_cycle_spec.specs.Acting.{known_next};
 ghost use Rattle.grid_parts.specs.Seen.{seen};
 ghost use Rattle.grid_cycle_spec.specs.Cycles as cycle_spec;
-ghost use Rattle.grid_parts.specs.Changes.{begun_with, flushed_under, forget_each};
+ghost use Rattle.grid_parts.specs.inside.Changes.{begun_with, flushed_under, forget_each};
 
 use crate::fetch_unit::FetchUnit;
 use crate::frame_flags::FrameFlags;

@@ -11,7 +11,7 @@ pub struct Histories {
 
 impl Model for Histories {
     ghost use Rattle.std.specs.Prelude.{List, ℕ};
-    ghost use Rattle.grid_parts.specs.Fetches.{AreHistories};
+    ghost use Rattle.grid_parts.specs.inside.Fetches.{AreHistories};
 
     ghost Value = { List ℕ };
 

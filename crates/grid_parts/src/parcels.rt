@@ -1,12 +1,13 @@
 //! Parcels: how they enter, travel and arrive.
 ghost use Rattle.std.specs.Prelude.{◌≡◌, ◌<◌, All, IfSome, length, slice_index};
-ghost use Rattle.operand_net.specs.Places as places;
-ghost use Rattle.operand_net.specs.Places.{at, Once};
+ghost use Rattle.operand_net.specs.inside.Places as places;
+ghost use Rattle.operand_net.specs.Places.{at};
+ghost use Rattle.operand_net.specs.inside.Places.{Once};
 ghost use Rattle.operand_net.specs.Tick.{Ticked};
 ghost use Rattle.commit_flush_spec.specs.Window.{Window};
 ghost use Rattle.grid_cycle_spec.specs.Sending as spec;
 ghost use Rattle.grid_parts.specs.Seen.{seen};
-ghost use Rattle.grid_parts.specs.Changes.{travelled, with_parcels};
+ghost use Rattle.grid_parts.specs.inside.Changes.{travelled, with_parcels};
 
 use crate::state::State;
 use operand_net::{Parcel, Weather};

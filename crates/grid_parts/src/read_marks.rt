@@ -1,14 +1,14 @@
 //! Which read a register bank answers.
 ghost use Rattle.std.specs.Prelude.{◌≡◌, ◌<◌, ◌&&◌, ℕ, false, All, IfSome};
 ghost use Rattle.operand_net.specs.Marks.{has_bit};
-ghost use Rattle.commit_flush_spec.specs.Laws.{AreNumbers};
+ghost use Rattle.commit_flush_spec.specs.inside.Laws.{AreNumbers};
 ghost use Rattle.commit_flush_spec.specs.Window as event;
 ghost use Rattle.commit_flush_spec.specs.Window.{can};
 ghost use Rattle.grid_cycle_spec.specs.Acting.{is_done};
 ghost use Rattle.grid_cycle_spec.specs.Choosing.{eldest, reads};
 ghost use Rattle.grid_cycle_spec.specs.Grid.{numbers_of};
-ghost use Rattle.grid_parts.specs.Choices.{answers, in_bank, lowest_read, may_read};
-ghost use Rattle.grid_parts.specs.Marked.{ReadsMarked};
+ghost use Rattle.grid_parts.specs.inside.Choices.{answers, in_bank, lowest_read, may_read};
+ghost use Rattle.grid_parts.specs.inside.Marked.{ReadsMarked};
 
 use crate::bits::{lowest_bit, with_bit};
 use crate::windows::Windows;

@@ -1,7 +1,7 @@
 //! Requests at data tiles, and which loads wait.
 ghost use Rattle.std.specs.Prelude.{◌≡◌, ◌<◌, ◌||◌, ℕ, Some};
 ghost use Rattle.commit_flush_spec.specs.Window.{Window};
-ghost use Rattle.grid_cycle_spec.specs.Arrivals as arrivals;
+ghost use Rattle.grid_cycle_spec.specs.inside.Arrivals as arrivals;
 ghost use Rattle.grid_cycle_spec.specs.DataTiles as spec;
 ghost use Rattle.grid_parts.specs.Bits.{frame_bit};
 ghost use Rattle.grid_parts.specs.Seen.{seen};

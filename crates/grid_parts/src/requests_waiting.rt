@@ -1,14 +1,14 @@
 //! Which request a data tile answers.
 ghost use Rattle.std.specs.Prelude.{◌≡◌, ◌<◌, ℕ, false, All, IfSome, length, slice_index_or};
 ghost use Rattle.commit_flush_spec.specs.Frames.{numbers};
-ghost use Rattle.commit_flush_spec.specs.Laws.{AreNumbers};
+ghost use Rattle.commit_flush_spec.specs.inside.Laws.{AreNumbers};
 ghost use Rattle.grid_cycle_spec.specs.Choosing.{eldest};
 ghost use Rattle.grid_cycle_spec.specs.DataTiles as spec;
 ghost use Rattle.grid_cycle_spec.specs.Grid.{numbers_of};
 ghost use Rattle.grid_parts.specs.Bits.{frame_bit};
 ghost use Rattle.grid_parts.specs.Seen.{seen};
-ghost use Rattle.grid_parts.specs.Asked.{frame_of, holds_of, request_of, tile_in, store_in};
-ghost use Rattle.grid_parts.specs.Choices.{load_goes, lowest_request, served};
+ghost use Rattle.grid_parts.specs.inside.Asked.{frame_of, holds_of, request_of, tile_in, store_in};
+ghost use Rattle.grid_parts.specs.inside.Choices.{load_goes, lowest_request, served};
 
 use crate::bits::{low_bits, lowest_bit};
 use crate::state::State;

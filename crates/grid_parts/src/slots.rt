@@ -1,6 +1,6 @@
 //! The lowest of a tile's slots that is marked.
 ghost use Rattle.std.specs.Prelude.{◌≡◌, ◌<◌, IfSome};
-ghost use Rattle.grid_parts.specs.EldestChoices.{lowest_slot};
+ghost use Rattle.grid_parts.specs.inside.EldestChoices.{lowest_slot};
 
 /// The slots of tile 0, as bits.
 const EVERY_16: u128 = 0x0001_0001_0001_0001_0001_0001_0001_0001;

@@ -2,8 +2,8 @@
 ghost use Rattle.std.specs.Prelude.{◌≡◌, ◌<◌, All, IfSome};
 ghost use Rattle.grid_cycle_spec.specs.Choosing.{eldest, slots};
 ghost use Rattle.grid_cycle_spec.specs.Grid.{numbers_of};
-ghost use Rattle.grid_parts.specs.Choices.{fires, lowest_ready};
-ghost use Rattle.grid_parts.specs.Marked.{SlotsMarked};
+ghost use Rattle.grid_parts.specs.inside.Choices.{fires, lowest_ready};
+ghost use Rattle.grid_parts.specs.inside.Marked.{SlotsMarked};
 
 use crate::slots::lowest_on;
 use crate::windows::Windows;

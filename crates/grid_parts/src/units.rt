@@ -10,10 +10,10 @@ ghost use Rattle.grid_cycle_spec.specs.Costs as costs;
 ghost use Rattle.grid_cycle_spec.specs.Sending as sending;
 ghost use Rattle.grid_cycle_spec.specs.Stations as stations;
 ghost use Rattle.grid_cycle_spec.specs.Units as spec;
-ghost use Rattle.grid_parts.specs.EldestChoices.{lowest_slot};
+ghost use Rattle.grid_parts.specs.inside.EldestChoices.{lowest_slot};
 ghost use Rattle.grid_parts.specs.Seen.{seen};
-ghost use Rattle.grid_parts.specs.Asked.{frame_of};
-ghost use Rattle.grid_parts.specs.Marked.{SlotsMarked};
+ghost use Rattle.grid_parts.specs.inside.Asked.{frame_of};
+ghost use Rattle.grid_parts.specs.inside.Marked.{SlotsMarked};
 
 use crate::grid::Grid;
 use crate::sending::{enter_both, enter_request};

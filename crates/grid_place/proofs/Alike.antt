@@ -16,12 +16,14 @@ use Rattle.trips_isa.specs.Places.{targets, names, nodes_of}
 use Rattle.trips_isa.specs.Tables.{taken, or_else, first, deepest, IsRanked}
 use Rattle.trips_isa.specs.Stores.{listed, listed_below}
 use Rattle.trips_isa.specs.Blocks.{is_read, inst_at, at_place, store_of, Leaving, leaves_with}
-use Rattle.trips_isa.specs.Blocks.{leaves_if_read, leaving_of, responses_in, given, token_of, Solves}
+use Rattle.trips_isa.specs.Blocks.{leaves_if_read, leaving_of, responses_in, given, token_of}
+use Rattle.trips_isa.specs.inside.Blocks.{Solves}
 use Rattle.trips_isa.specs.Outcomes.{next_of, is_system, exit_of, next_by, or_null, writes_from}
 use Rattle.trips_isa.specs.Outcomes.{all_stores, Effects, plain_by, plain}
 use Rattle.block_cases.specs.Good.{GoodBlock}
 use Rattle.block_cases.proofs.Settled.{token_settled, token_solves, only_table}
-use Rattle.grid_place.specs.Moves.{Permutes, IsMoved, renamed_inst}
+use Rattle.grid_place.specs.Moves.{Permutes}
+use Rattle.grid_place.specs.inside.Moves.{IsMoved, renamed_inst}
 use Rattle.grid_place.proofs.Renaming.{place_goes, place_stays}
 use Rattle.grid_place.proofs.MovedNodes.{Standing, standing, node_goes, still_read, as_many}
 use Rattle.grid_place.proofs.MovedNodes.{inst_moved}

@@ -24,7 +24,8 @@ use Rattle.block_cases.specs.Cases.{bit}
 use Rattle.block_cases.specs.Cases.{token, has_bit, is_case, count, cases, weighed, tokens}
 use Rattle.block_cases.specs.CaseRule.{no}
 use Rattle.block_cases.specs.Cases.{IsCase, GetsTwo, GetsNone}
-use Rattle.block_cases.specs.Good.{Good, IsPlaced}
+use Rattle.block_cases.specs.Good.{Good}
+use Rattle.block_cases.specs.inside.Good.{IsPlaced}
 use Rattle.block_cases.proofs.Steady.{fire_same, settled, only_one}
 use Rattle.block_cases.proofs.AnyBits.{any_bits}
 use Rattle.grid_place.proofs.Found.{Once}

@@ -16,7 +16,8 @@ use Rattle.trips_isa.specs.Places.{read_node, inst_node, inst_nodes, nodes_of}
 use Rattle.trips_isa.specs.Blocks.{is_read, slot_at, inst_at}
 use Rattle.block_cases.specs.Orders.{slot_of}
 use Rattle.block_cases.proofs.Nodes.{past_reads, not_read, slot_got}
-use Rattle.grid_place.specs.Moves.{KeepsSlots, Permutes, IsMoved, renamed_read, renamed_inst}
+use Rattle.grid_place.specs.Moves.{KeepsSlots, Permutes}
+use Rattle.grid_place.specs.inside.Moves.{IsMoved, renamed_read, renamed_inst}
 use Rattle.grid_place.proofs.Renaming.{place_goes, place_same, moved_node, read_goes, inst_goes}
 use Rattle.grid_place.proofs.Renaming.{left_goes, right_goes, pred_goes, place_stays, place_low}
 use Rattle.grid_place.proofs.Renaming.{place_middle}

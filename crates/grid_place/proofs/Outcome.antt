@@ -20,14 +20,16 @@ use Rattle.trips_isa.specs.Tables.{first, node_gives}
 use Rattle.trips_isa.specs.Stores.{stored_of, bytes_seen}
 use Rattle.trips_isa.specs.Blocks.{is_read, slot_at, inst_at, computes_if_read, computes}
 use Rattle.trips_isa.specs.Blocks.{slot_computes}
-use Rattle.trips_isa.specs.Blocks.{form_computes, Solves, at_place, stored_in, stored_if_read}
+use Rattle.trips_isa.specs.Blocks.{form_computes, at_place, stored_in, stored_if_read}
+use Rattle.trips_isa.specs.inside.Blocks.{Solves}
 use Rattle.trips_isa.specs.Blocks.{stored_by}
 use Rattle.trips_isa.specs.Blocks.{store_of, leaves_with, leaves_if_read}
 use Rattle.trips_isa.specs.Blocks.{read_word, slot_answered, answered_if_read, responses_in, given}
-use Rattle.block_cases.specs.Good.{GoodBlock, NamesPlace}
+use Rattle.block_cases.specs.Good.{GoodBlock}
+use Rattle.block_cases.specs.inside.Good.{NamesPlace}
 use Rattle.block_cases.specs.Blocks.{wanted_of}
 use Rattle.block_cases.specs.Orders.{slot_of}
-use Rattle.block_cases.specs.Shapes.{shape}
+use Rattle.block_cases.specs.inside.Shapes.{shape}
 use Rattle.block_cases.proofs.Placed.{nodes_placed}
 use Rattle.block_cases.proofs.OneToken.{good_machine}
 use Rattle.block_cases.proofs.AnyBits.{one_producer, one_at_most}
@@ -35,7 +37,8 @@ use Rattle.block_cases.proofs.Unique.{present_shape}
 use Rattle.block_cases.proofs.Settled.{bytes_seen_same, load_same}
 use Rattle.block_cases.proofs.Nodes.{slot_got}
 use Rattle.trips_isa.specs.Blocks.{Responses}
-use Rattle.grid_place.specs.Moves.{Permutes, IsMoved, renamed_read, renamed_inst}
+use Rattle.grid_place.specs.Moves.{Permutes}
+use Rattle.grid_place.specs.inside.Moves.{IsMoved, renamed_read, renamed_inst}
 use Rattle.grid_place.proofs.Found.{Given, Once, taken_alike}
 use Rattle.grid_place.proofs.Renaming.{place_goes, left_goes, right_goes, place_stays}
 use Rattle.grid_place.proofs.Renaming.{moved_node, names_same}

@@ -21,7 +21,8 @@ use Rattle.trips_isa.specs.Fits.{FitsTarget, FitsOperand, FitsSecond, FitsRead, 
 use Rattle.trips_isa.specs.Places.{place_of, place_at, first_place, load_bound, read_node}
 use Rattle.trips_isa.specs.Places.{inst_node}
 use Rattle.trips_isa.specs.Places.{targets, names}
-use Rattle.grid_place.specs.Moves.{KeepsSlots, Permutes, renamed, renamed_read, renamed_inst}
+use Rattle.grid_place.specs.Moves.{KeepsSlots, Permutes}
+use Rattle.grid_place.specs.inside.Moves.{renamed, renamed_read, renamed_inst}
 
 -- where each place stands once slot s stands at p s
 unfoldable pub place_goes : (ℕ → ℕ) → ℕ → ℕ

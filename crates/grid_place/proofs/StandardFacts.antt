@@ -2,7 +2,8 @@
 use Rattle.std.proofs.Common.{◌≡◌, ℕ, List, [], ◌∷◌, refl}
 use Rattle.std.specs.List.{swap}
 use Rattle.trips_isa.specs.declared.block.Spot.TheVariants as spot
-use Rattle.grid_place.specs.Moves.{goes, renamed}
+use Rattle.grid_place.specs.Moves.{goes}
+use Rattle.grid_place.specs.inside.Moves.{renamed}
 use Rattle.grid_place.specs.Seeded.{in_place, shuffled, generator, seeded}
 
 abbrev turned : List ℕ

@@ -17,11 +17,12 @@ use Rattle.trips_isa.specs.Places.{read_node, nodes_of}
 use Rattle.trips_isa.specs.Tables.{deepest}
 use Rattle.trips_isa.specs.Operands.{operands}
 use Rattle.trips_isa.specs.Blocks.{is_read, slot_at, inst_at, at_place, responses_in, token_of}
-use Rattle.trips_isa.specs.Acts.{Act, is_clean, acts_in, own_acts, acts_if_read, acts_by, fired_acts}
-use Rattle.trips_isa.specs.Acts.{node_acts, IsClean}
+use Rattle.trips_isa.specs.inside.Acts.{Act, is_clean, acts_in, own_acts, acts_if_read, acts_by, fired_acts}
+use Rattle.trips_isa.specs.inside.Acts.{node_acts, IsClean}
 use Rattle.block_cases.specs.Good.{GoodBlock}
 use Rattle.block_cases.proofs.Nodes.{slot_got}
-use Rattle.grid_place.specs.Moves.{Permutes, IsMoved, renamed_inst}
+use Rattle.grid_place.specs.Moves.{Permutes}
+use Rattle.grid_place.specs.inside.Moves.{IsMoved, renamed_inst}
 use Rattle.grid_place.proofs.Renaming.{place_goes, moved_node}
 use Rattle.grid_place.proofs.MovedNodes.{Standing, standing, node_goes, still_read, as_many}
 use Rattle.grid_place.proofs.MovedNodes.{inst_moved, read_is, slot_is, slot_low}

@@ -16,8 +16,9 @@ use Rattle.trips_isa.specs.Fits.{FitsTarget, FitsTargets, FitsOperand, FitsSecon
 use Rattle.trips_isa.specs.Fits.{FitsForm}
 use Rattle.trips_isa.specs.Fits.{FitsNoTarget, FitsOneTarget, FitsSlot, FitsBlock}
 use Rattle.block_cases.specs.Orders.{slot_of}
-use Rattle.grid_place.specs.Moves.{KeepsSlots, Permutes, IsMoved, renamed, renamed_read}
-use Rattle.grid_place.specs.Moves.{renamed_inst}
+use Rattle.grid_place.specs.Moves.{KeepsSlots, Permutes}
+use Rattle.grid_place.specs.inside.Moves.{IsMoved, renamed, renamed_read}
+use Rattle.grid_place.specs.inside.Moves.{renamed_inst}
 use Rattle.grid_place.proofs.MovedNodes.{slot_fits}
 
 pub renamed_back : (p q : ℕ → ℕ) → ((s : ℕ) → q (p s) ≡ s) → (t : Spot)

@@ -19,7 +19,8 @@ use Rattle.block_cases.specs.Cases.{cases, GetsTwo, GetsNone}
 use Rattle.block_cases.specs.Good.{Good, GoodBlock}
 use Rattle.block_cases.proofs.Placed.{nodes_placed}
 use Rattle.block_cases.proofs.Nodes.{slot_got}
-use Rattle.grid_place.specs.Moves.{Permutes, IsMoved}
+use Rattle.grid_place.specs.Moves.{Permutes}
+use Rattle.grid_place.specs.inside.Moves.{IsMoved}
 use Rattle.grid_place.proofs.Renaming.{place_goes, place_stays, place_back, place_low}
 use Rattle.grid_place.proofs.MovedNodes.{Standing, standing, node_goes, as_many, read_is, slot_is}
 use Rattle.grid_place.proofs.MovedNodes.{slot_low}

@@ -19,7 +19,8 @@ use Rattle.block_cases.specs.Orders.{bad_read_slot, bad_slot, loads, has_load}
 use Rattle.block_cases.specs.Orders.{bad_slot_number, bad_number, has_item, NoneBelow}
 use Rattle.block_cases.specs.Orders.{IsInOrder}
 use Rattle.block_cases.specs.Good.{GoodBlock}
-use Rattle.grid_place.specs.Moves.{Permutes, IsMoved, renamed, renamed_read, renamed_inst}
+use Rattle.grid_place.specs.Moves.{Permutes}
+use Rattle.grid_place.specs.inside.Moves.{IsMoved, renamed, renamed_read, renamed_inst}
 use Rattle.grid_place.proofs.MovedNodes.{read_at, as_many}
 use Rattle.grid_place.proofs.Alike.{moved_ranked}
 use Rattle.grid_place.proofs.StillGood.{good_nodes}

@@ -1,3 +1,4 @@
 pub mod Moves
 pub mod Seeded
 pub mod Placings
+pub mod inside

@@ -4,10 +4,11 @@ ghost use Rattle.trips_isa.specs.declared.block.Block.{Block};
 ghost use Rattle.trips_isa.specs.Fits.{FitsBlock};
 ghost use Rattle.trips_isa.specs.Tables.{deepest};
 ghost use Rattle.trips_isa.specs.Blocks.{token_of};
-ghost use Rattle.trips_isa.specs.Acts.{IsClean};
+ghost use Rattle.trips_isa.specs.inside.Acts.{IsClean};
 ghost use Rattle.trips_isa.specs.Outcomes.{plain};
 ghost use Rattle.block_cases.specs.Good.{GoodBlock};
-ghost use Rattle.grid_place.specs.Moves.{Permutes, IsPermutation, IsMoved};
+ghost use Rattle.grid_place.specs.Moves.{Permutes, IsPermutation};
+ghost use Rattle.grid_place.specs.inside.Moves.{IsMoved};
 ghost use Rattle.grid_place.specs.Seeded.{seeded};
 
 /// A good block means the same in every state, whatever permutation of its slots it is placed by.

@@ -4,11 +4,13 @@ ghost use Rattle.trips_isa.specs.declared.block.Block.{Block};
 ghost use Rattle.trips_isa.specs.Fits.{FitsBlock};
 ghost use Rattle.trips_isa.specs.Tables.{deepest};
 ghost use Rattle.trips_isa.specs.Blocks.{token_of};
-ghost use Rattle.trips_isa.specs.Acts.{IsClean};
+ghost use Rattle.trips_isa.specs.inside.Acts.{IsClean};
 ghost use Rattle.trips_isa.specs.Outcomes.{plain};
 ghost use Rattle.block_cases.specs.Good.{GoodBlock};
-ghost use Rattle.grid_place.specs.Moves.{HasSizes, IsPermutation, IsMoved, goes};
-ghost use Rattle.grid_place.specs.Placings.{IsPlaced, IsPlacing};
+ghost use Rattle.grid_place.specs.Moves.{IsPermutation, goes};
+ghost use Rattle.grid_place.specs.inside.Moves.{HasSizes, IsMoved};
+ghost use Rattle.grid_place.specs.Placings.{IsPlacing};
+ghost use Rattle.grid_place.specs.inside.Placings.{IsPlaced};
 
 use crate::{placement, shuffle, slots};
 use arrayvec::ArrayVec;

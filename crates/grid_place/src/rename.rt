@@ -1,6 +1,7 @@
 //! Targets renamed.
 ghost use Rattle.std.specs.Prelude.{◌≡◌, option_map};
 ghost use Rattle.grid_place.specs.Moves as spec;
+ghost use Rattle.grid_place.specs.inside.Moves as inside_spec;
 
 use trips_isa::{Inst, ReadSlot, Spot};
 
@@ -16,7 +17,7 @@ pub fn goes(to: &[u8], s: u8) -> u8
 
 /// What a target names once each slot stands where it goes.
 pub fn renamed(to: &[u8], spot: Spot) -> Spot
-    ensures value { result ≡ spec.renamed (spec.goes to.now) spot }
+    ensures value { result ≡ inside_spec.renamed (spec.goes to.now) spot }
 {
     match spot {
         Spot::Inst(s) => Spot::Inst(goes(to, s)),
@@ -30,7 +31,7 @@ pub fn renamed(to: &[u8], spot: Spot) -> Spot
 }
 
 fn renamed_or_none(to: &[u8], spot: Option<Spot>) -> Option<Spot>
-    ensures value { result ≡ option_map (spec.renamed (spec.goes to.now)) spot }
+    ensures value { result ≡ option_map (inside_spec.renamed (spec.goes to.now)) spot }
 {
     match spot {
         Some(spot) => Some(renamed(to, spot)),
@@ -39,7 +40,7 @@ fn renamed_or_none(to: &[u8], spot: Option<Spot>) -> Option<Spot>
 }
 
 pub fn renamed_read(to: &[u8], read: ReadSlot) -> ReadSlot
-    ensures value { result ≡ spec.renamed_read (spec.goes to.now) read }
+    ensures value { result ≡ inside_spec.renamed_read (spec.goes to.now) read }
 {
     ReadSlot {
         register: read.register,
@@ -49,7 +50,7 @@ pub fn renamed_read(to: &[u8], read: ReadSlot) -> ReadSlot
 }
 
 pub fn renamed_inst(to: &[u8], slot: Option<Inst>) -> Option<Inst>
-    ensures value { result ≡ option_map (spec.renamed_inst (spec.goes to.now)) slot }
+    ensures value { result ≡ option_map (inside_spec.renamed_inst (spec.goes to.now)) slot }
 {
     match slot {
         Some(inst) => Some(Inst {

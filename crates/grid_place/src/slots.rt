@@ -1,7 +1,8 @@
 //! The reads, writes and slots of a moved block.
 ghost use Rattle.std.specs.Prelude.{◌≡◌, ◌<◌, ◌≤◌, ℕ, [], length, map, replicate};
 ghost use Rattle.std.specs.Prelude.{None, option_map, slice_index_or};
-ghost use Rattle.grid_place.specs.Moves.{IsPermutation, goes, renamed_read, renamed_inst};
+ghost use Rattle.grid_place.specs.Moves.{IsPermutation, goes};
+ghost use Rattle.grid_place.specs.inside.Moves.{renamed_read, renamed_inst};
 
 use crate::rename;
 use arrayvec::ArrayVec;

@@ -3,10 +3,10 @@ use Rattle.std.proofs.Common.{◌≡◌, sym, ap, ◌∙◌, subst, refl, arith}
 use Rattle.block_predict.specs.Predicts.{Holding}
 use Rattle.commit_flush_spec.specs.InFlight.{Window, opened}
 use Rattle.grid_cycle_spec.specs.Grid.{Grid}
-use Rattle.grid_parts.specs.Changes.{begun_with}
+use Rattle.grid_parts.specs.inside.Changes.{begun_with}
 use Rattle.grid_parts.specs.Seen.{seen}
 use Rattle.grid_parts.specs.declared.state.State.{State}
-use Rattle.grid_machine.specs.Counted.{IsCounted}
+use Rattle.grid_machine.specs.inside.Counted.{IsCounted}
 use Rattle.trips_isa.specs.Machine as machine
 
 module _ {W : Type 0} (t : machine.State) (v : Window) (s : State W) (p : Holding) (weather : W)

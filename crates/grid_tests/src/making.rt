@@ -3,7 +3,7 @@
 ghost use Rattle.std.specs.Prelude.{◌≡◌, IfOk};
 ghost use Rattle.trips_isa.specs.Images.{FitsImage};
 ghost use Rattle.grid_parts.specs.Seen.{seen};
-ghost use Rattle.grid_machine.specs.Counted.{IsCounted};
+ghost use Rattle.grid_machine.specs.inside.Counted.{IsCounted};
 
 use base::Memory;
 use block_check::{CheckedImage, ImageRefusal};

@@ -2,7 +2,7 @@
 
 ghost use Rattle.std.specs.Prelude.{◌≡◌};
 ghost use Rattle.grid_parts.specs.Seen.{seen};
-ghost use Rattle.grid_machine.specs.Counted.{IsCounted};
+ghost use Rattle.grid_machine.specs.inside.Counted.{IsCounted};
 
 use crate::making::grid;
 use grid_machine::{GridWindow, eager_run as run};

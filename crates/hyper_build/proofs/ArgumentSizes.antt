@@ -1,8 +1,8 @@
 -- The blocks that arguments begin, one argument before the others.
 use Rattle.std.proofs.Common.{◌≡◌, ℕ, zero, suc, ◌+◌, ◌<◌, Bool, List, [], ◌∷◌, length, drop, refl, arith}
 use Rattle.ir_forms.specs.declared.flat.Arg.{Arg}
-use Rattle.hyper_build.specs.Parts.{cut_size, moved_size}
-use Rattle.hyper_build.specs.Passing.{argument_moves, argument_cuts}
+use Rattle.hyper_build.specs.inside.Parts.{cut_size, moved_size}
+use Rattle.hyper_build.specs.inside.Passing.{argument_moves, argument_cuts}
 
 more_from : (cuts : ℕ → Bool) (j i : ℕ) (args : List Arg) → i < length args
     → moved_size cuts j (argument_moves j (drop i args))

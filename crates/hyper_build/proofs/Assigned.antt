@@ -2,16 +2,16 @@
 use Rattle.std.proofs.Common.{◌≡◌, ℕ, zero, suc, ◌≤◌, Bool, List, [], ◌∷◌}
 use Rattle.std.proofs.Common.{length, Some, refl, sym, ap, subst, arith, slice_get}
 use mathlib.Core.Path.{fun_ext}
-use Rattle.ir_forms.specs.FlatCode.{Function, Program}
-use Rattle.ir_forms.specs.FlatRuns.{flat_run}
-use Rattle.ir_forms.specs.HyperRuns.{hyper_run}
-use Rattle.reg_assign.specs.Live.{AreSmall, AreCut, AreFew, VarSet}
-use Rattle.reg_assign.specs.Keeps.{is_among, kept_by, keeping_all, assigned_program, tame_and, KeepsOwn}
-use Rattle.hyper_build.specs.Tree.{is_saved}
-use Rattle.hyper_build.specs.Whole.{EndsSo}
-use Rattle.hyper_build.specs.Laws.{saved_program, built_program, FitsGroups, groups_by, plan_of}
-use Rattle.hyper_build.specs.Laws.{AreAssigned, KeepsAssigned, GivesAssigned}
-use Rattle.hyper_build.specs.Smallness.{CutsAll, AssignedAreLittle}
+use Rattle.ir_forms.specs.inside.FlatCode.{Function, Program}
+use Rattle.ir_forms.specs.inside.FlatRuns.{flat_run}
+use Rattle.ir_forms.specs.inside.HyperRuns.{hyper_run}
+use Rattle.reg_assign.specs.inside.Live.{AreSmall, AreCut, AreFew, VarSet}
+use Rattle.reg_assign.specs.inside.Keeps.{is_among, kept_by, keeping_all, assigned_program, tame_and, KeepsOwn}
+use Rattle.hyper_build.specs.inside.Tree.{is_saved}
+use Rattle.hyper_build.specs.inside.Whole.{EndsSo}
+use Rattle.hyper_build.specs.inside.Laws.{saved_program, built_program, FitsGroups, groups_by, plan_of}
+use Rattle.hyper_build.specs.inside.Laws.{AreAssigned, KeepsAssigned, GivesAssigned}
+use Rattle.hyper_build.specs.inside.Smallness.{CutsAll, AssignedAreLittle}
 use Rattle.hyper_build.proofs.Built.{build_gives, build_keeps, cut_blocks_little}
 
 -- a call saves what is kept over it

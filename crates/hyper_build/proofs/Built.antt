@@ -6,24 +6,24 @@ use Rattle.std.specs.Prelude.{All}
 use Rattle.std.proofs.lemmas.List.Elements.{All-head, All-tail}
 use Rattle.ir_forms.specs.declared.flat.Arg.{Arg}
 use Rattle.ir_forms.specs.declared.flat.Arg.TheVariants.{Const, Var}
-use Rattle.ir_forms.specs.FlatCode.{Step, Code, Nop, ◌▹◌, Let, Frame, Load, Save, Call, Put, Get, If}
-use Rattle.ir_forms.specs.FlatCode.{Loop, Break, Continue, Return, Function, Program}
-use Rattle.ir_forms.specs.FlatFits.{FitsArg, FitsLastings, FitsReturn, FitsStep, FitsCode}
-use Rattle.ir_forms.specs.FlatFits.{FitsFunction, FitsProgram, steps_in, steps_of}
-use Rattle.ir_forms.specs.FlatRuns.{flat_run}
-use Rattle.ir_forms.specs.Frames.{frames_at}
-use Rattle.ir_forms.specs.HyperRuns.{Layout, labels_alone, hyper_run}
-use Rattle.ir_forms.specs.HyperWords as words
-use Rattle.reg_assign.specs.Keeps.{calls_in, calls, keeping_in, keeping, keeping_all, with_body}
-use Rattle.reg_assign.specs.Keeps.{KeepsOwnIn, KeepsOwn, tame_and}
-use Rattle.hyper_build.specs.Tree.{Plan, Routine, function_of, goes_on, annotated_in, annotated}
-use Rattle.hyper_build.specs.Tree.{annotated_all, is_saved}
-use Rattle.hyper_build.specs.World.{World, AreBytes}
-use Rattle.hyper_build.specs.Fits.{IsWordArg, AreWordArgs, IsWordReturn, FitsStmt, FitsTree, FitsRoutine}
-use Rattle.hyper_build.specs.Whole.{world_of, FitsWorld, EndsSo}
-use Rattle.hyper_build.specs.Laws.{built_program, FitsGroups, BuildKeepsMeaning}
-use Rattle.hyper_build.specs.Laws.{BuildGivesBlocks}
-use Rattle.hyper_build.specs.Smallness.{CutsAll, CutBlocksAreLittle}
+use Rattle.ir_forms.specs.inside.FlatCode.{Step, Code, Nop, ◌▹◌, Let, Frame, Load, Save, Call, Put, Get, If}
+use Rattle.ir_forms.specs.inside.FlatCode.{Loop, Break, Continue, Return, Function, Program}
+use Rattle.ir_forms.specs.inside.FlatFits.{FitsArg, FitsLastings, FitsReturn, FitsStep, FitsCode}
+use Rattle.ir_forms.specs.inside.FlatFits.{FitsFunction, FitsProgram, steps_in, steps_of}
+use Rattle.ir_forms.specs.inside.FlatRuns.{flat_run}
+use Rattle.ir_forms.specs.inside.Frames.{frames_at}
+use Rattle.ir_forms.specs.inside.HyperRuns.{Layout, labels_alone, hyper_run}
+use Rattle.ir_forms.specs.inside.HyperWords as words
+use Rattle.reg_assign.specs.inside.Keeps.{calls_in, calls, keeping_in, keeping, keeping_all, with_body}
+use Rattle.reg_assign.specs.inside.Keeps.{KeepsOwnIn, KeepsOwn, tame_and}
+use Rattle.hyper_build.specs.inside.Tree.{Plan, Routine, function_of, goes_on, annotated_in, annotated}
+use Rattle.hyper_build.specs.inside.Tree.{annotated_all, is_saved}
+use Rattle.hyper_build.specs.inside.World.{World, AreBytes}
+use Rattle.hyper_build.specs.inside.Fits.{IsWordArg, AreWordArgs, IsWordReturn, FitsStmt, FitsTree, FitsRoutine}
+use Rattle.hyper_build.specs.inside.Whole.{world_of, FitsWorld, EndsSo}
+use Rattle.hyper_build.specs.inside.Laws.{built_program, FitsGroups, BuildKeepsMeaning}
+use Rattle.hyper_build.specs.inside.Laws.{BuildGivesBlocks}
+use Rattle.hyper_build.specs.inside.Smallness.{CutsAll, CutBlocksAreLittle}
 use Rattle.hyper_build.proofs.SmallBlocks.{IsCutStmt, IsCutTree, IsCutRoutine, built_little}
 use Rattle.hyper_build.proofs.Counts.{sizes_few}
 use Rattle.hyper_build.proofs.SoundWhole.{length_built, built_blocks}

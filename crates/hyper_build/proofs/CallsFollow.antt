@@ -2,31 +2,31 @@
 use Rattle.std.proofs.Common.{◌≡◌, ℕ, zero, suc, ◌+◌, false, List, map, Some, refl, sym, ◌∙◌, subst, arith}
 use Rattle.std.proofs.Common.{nat_lt, slice_get}
 use Rattle.std.proofs.lemmas.Option.{slice_get-map}
-use Rattle.ir_forms.specs.Frames.{frame_limit}
-use Rattle.ir_forms.specs.FlatSteps.{State, Res, Gone, Broke, Again, Gave, TooDeep, Unfinished, Wild, Calls}
-use Rattle.ir_forms.specs.FlatSteps.{act, exec, then_run}
-use Rattle.ir_forms.specs.FlatRuns.{calls_within, enter_if}
-use Rattle.ir_forms.specs.HyperCode.{Block}
-use Rattle.ir_forms.specs.HyperRuns.{Machine, block_at}
-use Rattle.hyper_build.specs.Tree.{Stmt, LetAt, FrameAt, LoadAt, SaveAt, CallAt, PutAt, GetAt, IfAt, LoopAt}
-use Rattle.hyper_build.specs.Tree.{BreakAt, ContinueAt, ReturnAt, Tree, End, ◌▸◌, Routine, function_of}
-use Rattle.hyper_build.specs.Tree.{plain_in, plain}
-use Rattle.hyper_build.specs.Straight.{Place, is_item}
-use Rattle.hyper_build.specs.Legs.{is_test, is_loop_test}
-use Rattle.hyper_build.specs.Sizes.{size_in}
-use Rattle.hyper_build.specs.Entries.{entry, part_entry, turn_entry}
-use Rattle.hyper_build.specs.Build.{blocks_in, test_blocks}
-use Rattle.hyper_build.specs.Merging.{SetsLow}
-use Rattle.hyper_build.specs.Routines.{parameters_size, place_of, way_out, body_label}
-use Rattle.hyper_build.specs.World.{World, Has, Stack, Rel, IsFrame, frame, checks_of, env_in}
-use Rattle.hyper_build.specs.Follow.{Follows, Does, ways_of, CallsFollow}
-use Rattle.hyper_build.specs.Fits.{IsBuilt, FitsStmt, IsPlace}
+use Rattle.ir_forms.specs.inside.Frames.{frame_limit}
+use Rattle.ir_forms.specs.inside.FlatSteps.{State, Res, Gone, Broke, Again, Gave, TooDeep, Unfinished, Wild, Calls}
+use Rattle.ir_forms.specs.inside.FlatSteps.{act, exec, then_run}
+use Rattle.ir_forms.specs.inside.FlatRuns.{calls_within, enter_if}
+use Rattle.ir_forms.specs.inside.HyperCode.{Block}
+use Rattle.ir_forms.specs.inside.HyperRuns.{Machine, block_at}
+use Rattle.hyper_build.specs.inside.Tree.{Stmt, LetAt, FrameAt, LoadAt, SaveAt, CallAt, PutAt, GetAt, IfAt, LoopAt}
+use Rattle.hyper_build.specs.inside.Tree.{BreakAt, ContinueAt, ReturnAt, Tree, End, ◌▸◌, Routine, function_of}
+use Rattle.hyper_build.specs.inside.Tree.{plain_in, plain}
+use Rattle.hyper_build.specs.inside.Straight.{Place, is_item}
+use Rattle.hyper_build.specs.inside.Legs.{is_test, is_loop_test}
+use Rattle.hyper_build.specs.inside.Sizes.{size_in}
+use Rattle.hyper_build.specs.inside.Entries.{entry, part_entry, turn_entry}
+use Rattle.hyper_build.specs.inside.Build.{blocks_in, test_blocks}
+use Rattle.hyper_build.specs.inside.Merging.{SetsLow}
+use Rattle.hyper_build.specs.inside.Routines.{parameters_size, place_of, way_out, body_label}
+use Rattle.hyper_build.specs.inside.World.{World, Has, Stack, Rel, IsFrame, frame, checks_of, env_in}
+use Rattle.hyper_build.specs.inside.Follow.{Follows, Does, ways_of, CallsFollow}
+use Rattle.hyper_build.specs.inside.Fits.{IsBuilt, FitsStmt, IsPlace}
 use Rattle.trips_isa.proofs.WordLemmas.{alu_fits}
-use Rattle.hyper_build.specs.Premises.{AluGivesWords, StmtDoes, TreeDoes, TurnDoes}
+use Rattle.hyper_build.specs.inside.Premises.{AluGivesWords, StmtDoes, TreeDoes, TurnDoes}
 use Rattle.hyper_build.proofs.MergedTests.{LegDoes, loop_test_does}
 use Rattle.hyper_build.proofs.Straights.{item_does}
 use Rattle.hyper_build.proofs.LoopsFollow.{loop_does}
-use Rattle.hyper_build.specs.CallsClaim.{CallsClaim}
+use Rattle.hyper_build.specs.inside.CallsClaim.{CallsClaim}
 use Rattle.hyper_build.proofs.Goes.{goes_here}
 use Rattle.hyper_build.proofs.Following.{kept_here, follows_then, settled, stands_here, has_front, has_back}
 use Rattle.hyper_build.proofs.Sizes.{length_in}

@@ -2,20 +2,20 @@
 use Rattle.std.proofs.Common.{◌≡◌, ℕ, zero, suc, ◌+◌, ◌≤◌, Bool, true, false, cond, List, [], ◌∷◌}
 use Rattle.std.proofs.Common.{length, Some, refl, arith, slice_get, length-append}
 use Rattle.ir_forms.specs.declared.flat.Arg.{Arg}
-use Rattle.ir_forms.specs.FlatCode.{Step, Code, Nop, ◌▹◌, Let, Frame, Load, Save, Call, Put, Get, If}
-use Rattle.ir_forms.specs.FlatCode.{Loop, Break, Continue, Return, Function}
-use Rattle.ir_forms.specs.FlatFits.{FitsStep, FitsCode, FitsFunction, steps_in, steps_of}
-use Rattle.ir_forms.specs.FlatFits.{code_blocks_in, code_blocks, code_blocks_of_all}
-use Rattle.reg_assign.specs.Keeps.{calls_in, calls}
-use Rattle.hyper_build.specs.Tree.{Plan, Routine, Tree, End, ◌▸◌, LetAt, FrameAt, LoadAt, SaveAt}
-use Rattle.hyper_build.specs.Tree.{CallAt, PutAt, GetAt, IfAt, LoopAt, BreakAt, ContinueAt, ReturnAt}
-use Rattle.hyper_build.specs.Tree.{goes_on, annotated_in, annotated, annotated_all}
-use Rattle.hyper_build.specs.Parts.{cut_size, moved_size}
-use Rattle.hyper_build.specs.Passing.{argument_moves, argument_cuts, parameter_moves, parameter_cuts}
-use Rattle.hyper_build.specs.Straight.{is_item}
-use Rattle.hyper_build.specs.Legs.{is_loop_test, leg_size, is_bare}
-use Rattle.hyper_build.specs.Sizes.{arguments_size, size_in, size, test_size, turn_size}
-use Rattle.hyper_build.specs.Routines.{routine_size, all_blocks, routine_blocks}
+use Rattle.ir_forms.specs.inside.FlatCode.{Step, Code, Nop, ◌▹◌, Let, Frame, Load, Save, Call, Put, Get, If}
+use Rattle.ir_forms.specs.inside.FlatCode.{Loop, Break, Continue, Return, Function}
+use Rattle.ir_forms.specs.inside.FlatFits.{FitsStep, FitsCode, FitsFunction, steps_in, steps_of}
+use Rattle.ir_forms.specs.inside.FlatFits.{code_blocks_in, code_blocks, code_blocks_of_all}
+use Rattle.reg_assign.specs.inside.Keeps.{calls_in, calls}
+use Rattle.hyper_build.specs.inside.Tree.{Plan, Routine, Tree, End, ◌▸◌, LetAt, FrameAt, LoadAt, SaveAt}
+use Rattle.hyper_build.specs.inside.Tree.{CallAt, PutAt, GetAt, IfAt, LoopAt, BreakAt, ContinueAt, ReturnAt}
+use Rattle.hyper_build.specs.inside.Tree.{goes_on, annotated_in, annotated, annotated_all}
+use Rattle.hyper_build.specs.inside.Parts.{cut_size, moved_size}
+use Rattle.hyper_build.specs.inside.Passing.{argument_moves, argument_cuts, parameter_moves, parameter_cuts}
+use Rattle.hyper_build.specs.inside.Straight.{is_item}
+use Rattle.hyper_build.specs.inside.Legs.{is_loop_test, leg_size, is_bare}
+use Rattle.hyper_build.specs.inside.Sizes.{arguments_size, size_in, size, test_size, turn_size}
+use Rattle.hyper_build.specs.inside.Routines.{routine_size, all_blocks, routine_blocks}
 use Rattle.hyper_build.proofs.Moving.{cut_most}
 use Rattle.hyper_build.proofs.Follows.{length_routine}
 use Rattle.hyper_build.proofs.LoopPosts.{post_most}

@@ -5,33 +5,33 @@ use Rattle.trips_isa.specs.declared.op.Op.TheVariants.{Mov, Sub}
 use Rattle.ir_forms.specs.declared.flat.Arg.{Arg}
 use Rattle.ir_forms.specs.declared.hyper.Source.TheVariants.{Const, Reg}
 use Rattle.ir_forms.specs.declared.hyper.Exit.TheVariants as exit
-use Rattle.ir_forms.specs.Frames.{register_of}
-use Rattle.ir_forms.specs.FlatCode.{Step, Let, Frame, Load, Save, Call, Put, Get, If, Loop, Break, Continue}
-use Rattle.ir_forms.specs.FlatCode.{Return, Code, Nop, ◌▹◌}
-use Rattle.ir_forms.specs.FlatFits.{steps_in, steps_of, is_empty}
-use Rattle.ir_forms.specs.HyperCode.{Items, Done, Leave, Test, Block}
-use Rattle.ir_forms.specs.HyperCode as hyper
-use Rattle.ir_forms.specs.HyperRuns.{jump}
-use Rattle.reg_assign.specs.Keeps.{calls_in, calls}
+use Rattle.ir_forms.specs.inside.Frames.{register_of}
+use Rattle.ir_forms.specs.inside.FlatCode.{Step, Let, Frame, Load, Save, Call, Put, Get, If, Loop, Break, Continue}
+use Rattle.ir_forms.specs.inside.FlatCode.{Return, Code, Nop, ◌▹◌}
+use Rattle.ir_forms.specs.inside.FlatFits.{steps_in, steps_of, is_empty}
+use Rattle.ir_forms.specs.inside.HyperCode.{Items, Done, Leave, Test, Block}
+use Rattle.ir_forms.specs.inside.HyperCode as hyper
+use Rattle.ir_forms.specs.inside.HyperRuns.{jump}
+use Rattle.reg_assign.specs.inside.Keeps.{calls_in, calls}
 use Rattle.hyper_build.specs.declared.emitting.Note.{Note}
-use Rattle.hyper_build.specs.Tree.{Tree, goes_on, annotated_in, annotated}
-use Rattle.hyper_build.specs.Parts.{source, capped, set_then, load_then, save_then, cut, cut_blocks, cut_size}
-use Rattle.hyper_build.specs.Straight.{Place, in_loop, items_in, items_of}
-use Rattle.hyper_build.specs.Legs.{leg_blocks, leg_size, exit_leg, label_or, post_exit, post_size}
-use Rattle.hyper_build.specs.Sizes.{size_in, size, turn_size, part_size}
-use Rattle.hyper_build.specs.Entries.{body_end, choose, entry_in, entry, test_entry, part_entry}
-use Rattle.hyper_build.specs.Entries.{turn_entry}
-use Rattle.hyper_build.specs.Build.{blocks_in, blocks, test_blocks, turn_blocks}
-use Rattle.hyper_build.specs.Ground.{Ground, plan, place, entry_at}
-use Rattle.hyper_build.specs.Backward.{Emission, with_rest, put_out, cut_at, fall, fall_by, before}
-use Rattle.hyper_build.specs.Backward.{last_note, without_note, front_notes}
-use Rattle.hyper_build.specs.BackwardStatements.{put_byte, get_byte, leaving}
-use Rattle.hyper_build.specs.BackwardItems.{is_straight, is_if_item, items_before, if_then, straight_items_in}
-use Rattle.hyper_build.specs.BackwardItems.{straight_items}
-use Rattle.hyper_build.specs.BackwardCode.{exit_of, is_test_step, leg_out, test_block, items_out, end_of_body}
-use Rattle.hyper_build.specs.BackwardCode.{is_bare_code, emit_in, emit, test_out, emit_turn}
-use Rattle.hyper_build.specs.Notes.{note_of, notes_in, notes_of, test_notes, turn_notes}
-use Rattle.hyper_build.specs.Reached.{Reached, IsReached}
+use Rattle.hyper_build.specs.inside.Tree.{Tree, goes_on, annotated_in, annotated}
+use Rattle.hyper_build.specs.inside.Parts.{source, capped, set_then, load_then, save_then, cut, cut_blocks, cut_size}
+use Rattle.hyper_build.specs.inside.Straight.{Place, in_loop, items_in, items_of}
+use Rattle.hyper_build.specs.inside.Legs.{leg_blocks, leg_size, exit_leg, label_or, post_exit, post_size}
+use Rattle.hyper_build.specs.inside.Sizes.{size_in, size, turn_size, part_size}
+use Rattle.hyper_build.specs.inside.Entries.{body_end, choose, entry_in, entry, test_entry, part_entry}
+use Rattle.hyper_build.specs.inside.Entries.{turn_entry}
+use Rattle.hyper_build.specs.inside.Build.{blocks_in, blocks, test_blocks, turn_blocks}
+use Rattle.hyper_build.specs.inside.Ground.{Ground, plan, place, entry_at}
+use Rattle.hyper_build.specs.inside.Backward.{Emission, with_rest, put_out, cut_at, fall, fall_by, before}
+use Rattle.hyper_build.specs.inside.Backward.{last_note, without_note, front_notes}
+use Rattle.hyper_build.specs.inside.BackwardStatements.{put_byte, get_byte, leaving}
+use Rattle.hyper_build.specs.inside.BackwardItems.{is_straight, is_if_item, items_before, if_then, straight_items_in}
+use Rattle.hyper_build.specs.inside.BackwardItems.{straight_items}
+use Rattle.hyper_build.specs.inside.BackwardCode.{exit_of, is_test_step, leg_out, test_block, items_out, end_of_body}
+use Rattle.hyper_build.specs.inside.BackwardCode.{is_bare_code, emit_in, emit, test_out, emit_turn}
+use Rattle.hyper_build.specs.inside.Notes.{note_of, notes_in, notes_of, test_notes, turn_notes}
+use Rattle.hyper_build.specs.inside.Reached.{Reached, IsReached}
 use Rattle.hyper_build.proofs.ItemLegs.{and_parts, straight_code, item_is, if_size, no_calls, no_notes}
 use Rattle.hyper_build.proofs.ItemLegs.{item_calls, item_notes}
 use Rattle.hyper_build.proofs.LoopPosts.{bare_is, bare_straight}

@@ -11,19 +11,19 @@ use Rattle.ir_forms.specs.declared.hyper.HyperItem.{HyperItem}
 use Rattle.ir_forms.specs.declared.hyper.HyperItem.TheVariants as item
 use Rattle.ir_forms.specs.declared.hyper.Tail as declared
 use Rattle.ir_forms.specs.declared.hyper.Tail.TheVariants as tail
-use Rattle.ir_forms.specs.HyperCode.{Items, Block}
-use Rattle.ir_forms.specs.HyperCode as hyper_code
+use Rattle.ir_forms.specs.inside.HyperCode.{Items, Block}
+use Rattle.ir_forms.specs.inside.HyperCode as hyper_code
 use Rattle.ir_forms.specs.declared.hyper.HyperBlock.{HyperBlock}
-use Rattle.ir_forms.specs.HyperViews.{items_of, tail_of, then_items, block_of}
-use Rattle.ir_forms.specs.HyperRuns as hyper
+use Rattle.ir_forms.specs.inside.HyperViews.{items_of, tail_of, then_items, block_of}
+use Rattle.ir_forms.specs.inside.HyperRuns as hyper
 use Rattle.ir_forms.proofs.Views.{then_set, then_load, then_save, then_if, tail_leave, tail_test}
 use Rattle.hyper_build.specs.declared.rest.Rest.{Rest}
-use Rattle.hyper_build.specs.Parts.{source, set_then, load_then, save_then}
-use Rattle.hyper_build.specs.Emitted.{rest_of, out_of}
-use Rattle.hyper_build.specs.BackwardStatements.{left_by}
-use Rattle.hyper_build.specs.BackwardItems.{if_then}
-use Rattle.hyper_build.specs.BackwardCode.{test_block}
-use Rattle.hyper_build.specs.Merging.{fork}
+use Rattle.hyper_build.specs.inside.Parts.{source, set_then, load_then, save_then}
+use Rattle.hyper_build.specs.inside.Emitted.{rest_of, out_of}
+use Rattle.hyper_build.specs.inside.BackwardStatements.{left_by}
+use Rattle.hyper_build.specs.inside.BackwardItems.{if_then}
+use Rattle.hyper_build.specs.inside.BackwardCode.{test_block}
+use Rattle.hyper_build.specs.inside.Merging.{fork}
 
 -- a rest, and one item before it
 abbrev with_item : Rest → HyperItem → Rest

@@ -2,14 +2,17 @@
 use Rattle.std.proofs.Common.{◌≡◌, ℕ, zero, suc, ◌+◌, ◌-◌, ◌%◌, Bool, true, false, cond, ◌||◌, List, Option, Some}
 use Rattle.std.proofs.Common.{None, refl, nat_lt}
 use Rattle.ir_forms.specs.declared.flat.Arg.{Arg}
-use Rattle.ir_forms.specs.Cells.{Checks, apply, load, save}
-use Rattle.ir_forms.specs.FlatCode.{Step, Let, Frame, Load, Save, Call, Put, Get, If, Loop, Break, Continue}
-use Rattle.ir_forms.specs.FlatCode.{Return, Code, Nop, ◌▹◌}
-use Rattle.ir_forms.specs.FlatSteps.{State, Env, Res, Gone, Broke, Again, Gave, TooDeep, Unfinished, Wild, Calls}
-use Rattle.ir_forms.specs.FlatSteps.{unfinished, settle, turn, must, then_run, read, read_all, with_var, with_memory}
-use Rattle.ir_forms.specs.FlatSteps.{with_output, with_next, counted, after_post, after_body, loop_turns, after_call}
-use Rattle.ir_forms.specs.FlatSteps.{return_of, chosen, act, exec}
-use Rattle.hyper_build.specs.Legs.{continues_in, continues}
+use Rattle.ir_forms.specs.inside.Cells.{Checks, apply, load, save}
+use Rattle.ir_forms.specs.inside.FlatCode.{Step, Let, Frame, Load, Save, Call, Put, Get, If, Loop, Break, Continue}
+use Rattle.ir_forms.specs.inside.FlatCode.{Return, Code, Nop, ◌▹◌}
+use Rattle.ir_forms.specs.inside.FlatSteps.{State, Env, Res, Gone, Broke, Again, Gave, TooDeep, Unfinished, Wild}
+use Rattle.ir_forms.specs.inside.FlatSteps.{Calls}
+use Rattle.ir_forms.specs.inside.FlatSteps.{unfinished, settle, turn, must, then_run, read, read_all, with_var}
+use Rattle.ir_forms.specs.inside.FlatSteps.{with_memory}
+use Rattle.ir_forms.specs.inside.FlatSteps.{with_output, with_next, counted, after_post, after_body, loop_turns}
+use Rattle.ir_forms.specs.inside.FlatSteps.{after_call}
+use Rattle.ir_forms.specs.inside.FlatSteps.{return_of, chosen, act, exec}
+use Rattle.hyper_build.specs.inside.Legs.{continues_in, continues}
 
 -- a run that does not go on with the last part of a loop around it
 abbrev pub IsOther : Res → Type 0

@@ -2,32 +2,33 @@
 use Rattle.std.proofs.Common.{◌≡◌, ℕ, suc, ◌+◌, ◌≤◌, Bool, true, false, cond, not, ◌&&◌, ◌||◌}
 use Rattle.std.proofs.Common.{List, [], ◌∷◌, ◌++◌, map, length, Option, Some, None, refl, sym, ap, ap₂, ◌∙◌}
 use Rattle.std.proofs.Common.{arith}
-use Rattle.ir_forms.specs.FlatCode.{Step, Let, Frame, Load, Save, Call, Put, Get, If, Loop, Break, Continue}
-use Rattle.ir_forms.specs.FlatCode.{Return, Code, Nop, ◌▹◌, Function}
-use Rattle.ir_forms.specs.FlatFits.{steps_in, steps_of, is_small_leg, is_empty, small_if, small_ifs_in, small_ifs}
-use Rattle.ir_forms.specs.FlatFits.{small_ifs_of_all}
-use Rattle.ir_forms.specs.Frames.{frames_at, frame_limit}
-use Rattle.ir_forms.specs.HyperCode.{Items, Done, Block}
-use Rattle.ir_forms.specs.HyperFits.{is_filled, filled_ifs, filled_in}
-use Rattle.ir_forms.specs.HyperRuns.{jump}
-use Rattle.reg_assign.specs.Keeps.{calls_in, calls}
-use Rattle.hyper_build.specs.Tree.{Plan, Routine, leaves, goes_on, annotated_in, annotated, annotated_all}
-use Rattle.hyper_build.specs.Parts.{source, Move, cut, cut_blocks, cut_size, chain, chain_blocks, moved}
-use Rattle.hyper_build.specs.Parts.{moved_blocks}
-use Rattle.hyper_build.specs.Passing.{saving, restoring, argument_moves, argument_cuts, result_then}
-use Rattle.hyper_build.specs.Passing.{parameter_moves, parameter_cuts}
-use Rattle.hyper_build.specs.Straight.{Place, in_loop, items_in, items_of, is_small_if, is_item}
-use Rattle.hyper_build.specs.Legs.{exit_leg, label_or, leg_blocks, leg_size, is_loop_test, is_bare}
-use Rattle.hyper_build.specs.Legs.{post_exit, post_size}
-use Rattle.hyper_build.specs.Sizes.{arguments_size, size_in, size, turn_size, part_size}
-use Rattle.hyper_build.specs.Entries.{call_block, choose, body_end, entry_in, entry, test_entry, turn_entry}
-use Rattle.hyper_build.specs.Entries.{back_block}
-use Rattle.hyper_build.specs.Build.{blocks_in, blocks, test_blocks, turn_blocks}
-use Rattle.hyper_build.specs.BackwardItems.{is_straight_in, is_straight, is_if_item, if_then}
-use Rattle.hyper_build.specs.BackwardCode.{is_break_code, is_test_step, test_block}
-use Rattle.hyper_build.specs.Routines.{place_of, way_out, body_entry, body_label}
-use Rattle.hyper_build.specs.Routines.{parameters_size, routine_size, routine_blocks, all_blocks, entry_from}
-use Rattle.hyper_build.specs.Laws.{KeepsSmallIfs}
+use Rattle.ir_forms.specs.inside.FlatCode.{Step, Let, Frame, Load, Save, Call, Put, Get, If, Loop, Break, Continue}
+use Rattle.ir_forms.specs.inside.FlatCode.{Return, Code, Nop, ◌▹◌, Function}
+use Rattle.ir_forms.specs.inside.FlatFits.{steps_in, steps_of, is_small_leg, is_empty, small_if, small_ifs_in}
+use Rattle.ir_forms.specs.inside.FlatFits.{small_ifs}
+use Rattle.ir_forms.specs.inside.FlatFits.{small_ifs_of_all}
+use Rattle.ir_forms.specs.inside.Frames.{frames_at, frame_limit}
+use Rattle.ir_forms.specs.inside.HyperCode.{Items, Done, Block}
+use Rattle.ir_forms.specs.inside.HyperFits.{is_filled, filled_ifs, filled_in}
+use Rattle.ir_forms.specs.inside.HyperRuns.{jump}
+use Rattle.reg_assign.specs.inside.Keeps.{calls_in, calls}
+use Rattle.hyper_build.specs.inside.Tree.{Plan, Routine, leaves, goes_on, annotated_in, annotated, annotated_all}
+use Rattle.hyper_build.specs.inside.Parts.{source, Move, cut, cut_blocks, cut_size, chain, chain_blocks, moved}
+use Rattle.hyper_build.specs.inside.Parts.{moved_blocks}
+use Rattle.hyper_build.specs.inside.Passing.{saving, restoring, argument_moves, argument_cuts, result_then}
+use Rattle.hyper_build.specs.inside.Passing.{parameter_moves, parameter_cuts}
+use Rattle.hyper_build.specs.inside.Straight.{Place, in_loop, items_in, items_of, is_small_if, is_item}
+use Rattle.hyper_build.specs.inside.Legs.{exit_leg, label_or, leg_blocks, leg_size, is_loop_test, is_bare}
+use Rattle.hyper_build.specs.inside.Legs.{post_exit, post_size}
+use Rattle.hyper_build.specs.inside.Sizes.{arguments_size, size_in, size, turn_size, part_size}
+use Rattle.hyper_build.specs.inside.Entries.{call_block, choose, body_end, entry_in, entry, test_entry, turn_entry}
+use Rattle.hyper_build.specs.inside.Entries.{back_block}
+use Rattle.hyper_build.specs.inside.Build.{blocks_in, blocks, test_blocks, turn_blocks}
+use Rattle.hyper_build.specs.inside.BackwardItems.{is_straight_in, is_straight, is_if_item, if_then}
+use Rattle.hyper_build.specs.inside.BackwardCode.{is_break_code, is_test_step, test_block}
+use Rattle.hyper_build.specs.inside.Routines.{place_of, way_out, body_entry, body_label}
+use Rattle.hyper_build.specs.inside.Routines.{parameters_size, routine_size, routine_blocks, all_blocks, entry_from}
+use Rattle.hyper_build.specs.inside.Laws.{KeepsSmallIfs}
 use Rattle.hyper_build.proofs.ItemLegs.{and_parts, item_is, legs_straight}
 use Rattle.hyper_build.proofs.LoopTests.{break_is, loop_test_is}
 use Rattle.hyper_build.proofs.LoopPosts.{post_none}

@@ -5,33 +5,33 @@ use mathlib.Core.Path.{fun_ext}
 use Rattle.ir_forms.specs.declared.hyper.Source.TheVariants.{Reg}
 use Rattle.ir_forms.specs.declared.hyper.Exit.TheVariants as exit
 use Rattle.ir_forms.specs.declared.hyper.Tail.TheVariants as tail
-use Rattle.ir_forms.specs.Frames.{frame_of, frame_limit, frames_at}
-use Rattle.ir_forms.specs.FlatCode.{Function}
-use Rattle.ir_forms.specs.FlatFits.{steps_of, steps_of_all}
-use Rattle.ir_forms.specs.HyperCode.{Block}
-use Rattle.ir_forms.specs.HyperCode as hyper
-use Rattle.ir_forms.specs.HyperViews.{items_of}
-use Rattle.ir_forms.specs.HyperRuns.{jump}
+use Rattle.ir_forms.specs.inside.Frames.{frame_of, frame_limit, frames_at}
+use Rattle.ir_forms.specs.inside.FlatCode.{Function}
+use Rattle.ir_forms.specs.inside.FlatFits.{steps_of, steps_of_all}
+use Rattle.ir_forms.specs.inside.HyperCode.{Block}
+use Rattle.ir_forms.specs.inside.HyperCode as hyper
+use Rattle.ir_forms.specs.inside.HyperViews.{items_of}
+use Rattle.ir_forms.specs.inside.HyperRuns.{jump}
 use Rattle.ir_forms.proofs.Views.{tail_leave, tail_test}
-use Rattle.reg_assign.specs.Keeps.{calls, calls_of_all}
+use Rattle.reg_assign.specs.inside.Keeps.{calls, calls_of_all}
 use Rattle.hyper_build.specs.declared.emitting.Note.{Note}
 use Rattle.hyper_build.specs.declared.numbering.Numbering.{Numbering}
-use Rattle.hyper_build.specs.Tree.{annotated_all}
-use Rattle.hyper_build.specs.Parts.{cut, cut_blocks, moved, moved_blocks}
-use Rattle.hyper_build.specs.Passing.{parameter_moves, parameter_cuts}
-use Rattle.hyper_build.specs.Routines.{body_label, parameters_size, routine_size, routine_blocks, all_blocks}
-use Rattle.hyper_build.specs.Routines.{entry_from}
-use Rattle.hyper_build.specs.Laws.{plan_of}
-use Rattle.hyper_build.specs.Emitted.{rest_of}
-use Rattle.hyper_build.specs.Ground.{Ground, plan, entry_at, left}
-use Rattle.hyper_build.specs.Backward.{Emission, with_rest, put_out, before}
-use Rattle.hyper_build.specs.BackwardStatements.{moving}
-use Rattle.hyper_build.specs.BackwardCode.{emit}
-use Rattle.hyper_build.specs.BackwardProgram.{entering, forked, parameter_out, testing, ground_of}
-use Rattle.hyper_build.specs.BackwardProgram.{way_in_out, function_out, functions_out, emission_end}
-use Rattle.hyper_build.specs.BackwardProgram.{first_blocks, program_ground, EmissionBuilds}
-use Rattle.hyper_build.specs.Forward.{numbers_start, number_all, entries_from}
-use Rattle.hyper_build.specs.Reached.{Reached}
+use Rattle.hyper_build.specs.inside.Tree.{annotated_all}
+use Rattle.hyper_build.specs.inside.Parts.{cut, cut_blocks, moved, moved_blocks}
+use Rattle.hyper_build.specs.inside.Passing.{parameter_moves, parameter_cuts}
+use Rattle.hyper_build.specs.inside.Routines.{body_label, parameters_size, routine_size, routine_blocks, all_blocks}
+use Rattle.hyper_build.specs.inside.Routines.{entry_from}
+use Rattle.hyper_build.specs.inside.Laws.{plan_of}
+use Rattle.hyper_build.specs.inside.Emitted.{rest_of}
+use Rattle.hyper_build.specs.inside.Ground.{Ground, plan, entry_at, left}
+use Rattle.hyper_build.specs.inside.Backward.{Emission, with_rest, put_out, before}
+use Rattle.hyper_build.specs.inside.BackwardStatements.{moving}
+use Rattle.hyper_build.specs.inside.BackwardCode.{emit}
+use Rattle.hyper_build.specs.inside.BackwardProgram.{entering, forked, parameter_out, testing, ground_of}
+use Rattle.hyper_build.specs.inside.BackwardProgram.{way_in_out, function_out, functions_out, emission_end}
+use Rattle.hyper_build.specs.inside.BackwardProgram.{first_blocks, program_ground, EmissionBuilds}
+use Rattle.hyper_build.specs.inside.Forward.{numbers_start, number_all, entries_from}
+use Rattle.hyper_build.specs.inside.Reached.{Reached}
 use Rattle.hyper_build.proofs.Reaching.{joined, mapped, rested, put_reached, before_reached, moving_reached}
 use Rattle.hyper_build.proofs.Emissions.{reached}
 use Rattle.hyper_build.proofs.NumbersForward.{routine_at, function_notes, all_notes, sizes_of}

@@ -7,13 +7,13 @@ use Rattle.trips_isa.specs.Alu.{alu_of}
 use Rattle.trips_isa.specs.Forms.{size_of}
 use Rattle.trips_isa.specs.Stores.{data_size, is_good_address, put_bytes}
 use Rattle.ir_forms.specs.declared.hyper.Source.{Source}
-use Rattle.trips_isa.specs.Acts.{Act, Accessed, divisions, is_clean, is_fault}
-use Rattle.ir_forms.specs.HyperCode.{Block}
-use Rattle.ir_forms.specs.HyperRuns.{Machine, Standing, Unclean, with_register, with_memory, value_of}
-use Rattle.ir_forms.specs.HyperRuns.{number_in, loaded, saved, after_items, acts, exit_of, leave, run, jump}
-use Rattle.ir_forms.specs.HyperRuns.{block_or}
-use Rattle.hyper_build.specs.Parts.{set_then, load_then, save_then, cut, cut_blocks, cut_size}
-use Rattle.hyper_build.specs.World.{World, Has, Goes}
+use Rattle.trips_isa.specs.inside.Acts.{Act, Accessed, divisions, is_clean, is_fault}
+use Rattle.ir_forms.specs.inside.HyperCode.{Block}
+use Rattle.ir_forms.specs.inside.HyperRuns.{Machine, Standing, Unclean, with_register, with_memory, value_of}
+use Rattle.ir_forms.specs.inside.HyperRuns.{number_in, loaded, saved, after_items, acts, exit_of, leave, run, jump}
+use Rattle.ir_forms.specs.inside.HyperRuns.{block_or}
+use Rattle.hyper_build.specs.inside.Parts.{set_then, load_then, save_then, cut, cut_blocks, cut_size}
+use Rattle.hyper_build.specs.inside.World.{World, Has, Goes}
 
 clean_next : (c d : Bool) (x y : Standing) → d ≡ true → cond (c && not d) x y ≡ y
 clean_next true d x y e = ap (λ b. cond (not b) x y) e

@@ -1,17 +1,17 @@
 -- What the two passes do at an if, by whether it is an item.
 use Rattle.std.proofs.Common.{◌≡◌, ℕ, ◌-◌, Bool, true, false, cond, sym, ap, ap₂, ◌∙◌}
 use Rattle.ir_forms.specs.declared.flat.Arg.{Arg}
-use Rattle.ir_forms.specs.FlatCode.{Step, If, Code}
-use Rattle.ir_forms.specs.FlatFits.{steps_in}
-use Rattle.ir_forms.specs.HyperRuns.{jump}
+use Rattle.ir_forms.specs.inside.FlatCode.{Step, If, Code}
+use Rattle.ir_forms.specs.inside.FlatFits.{steps_in}
+use Rattle.ir_forms.specs.inside.HyperRuns.{jump}
 use Rattle.hyper_build.specs.declared.numbering.Numbering.{Numbering}
-use Rattle.hyper_build.specs.Legs.{label_or}
-use Rattle.hyper_build.specs.Ground.{Ground, plan}
-use Rattle.hyper_build.specs.Backward.{Emission, with_rest, put_out}
-use Rattle.hyper_build.specs.BackwardStatements.{leaving}
-use Rattle.hyper_build.specs.BackwardItems.{is_if_item}
-use Rattle.hyper_build.specs.BackwardCode.{exit_of, leg_out, test_block, items_out, emit_in, emit}
-use Rattle.hyper_build.specs.Forward.{with_blocks, with_statement, number_items, led, number_in, number}
+use Rattle.hyper_build.specs.inside.Legs.{label_or}
+use Rattle.hyper_build.specs.inside.Ground.{Ground, plan}
+use Rattle.hyper_build.specs.inside.Backward.{Emission, with_rest, put_out}
+use Rattle.hyper_build.specs.inside.BackwardStatements.{leaving}
+use Rattle.hyper_build.specs.inside.BackwardItems.{is_if_item}
+use Rattle.hyper_build.specs.inside.BackwardCode.{exit_of, leg_out, test_block, items_out, emit_in, emit}
+use Rattle.hyper_build.specs.inside.Forward.{with_blocks, with_statement, number_items, led, number_in, number}
 
 -- FORWARD
 

@@ -1,18 +1,18 @@
 -- Ifs that are items of their block: flat legs say so already, and have no calls and no notes.
 use Rattle.std.proofs.Common.{◌≡◌, ℕ, ◌+◌, Bool, true, false, ◌&&◌, ◌||◌, not, cond, List, [], ◌++◌, refl, ap₂}
 use Rattle.ir_forms.specs.declared.flat.Arg.{Arg}
-use Rattle.ir_forms.specs.FlatCode.{Step, Let, Frame, Load, Save, Call, Put, Get, If, Loop, Break, Continue}
-use Rattle.ir_forms.specs.FlatCode.{Return, Code, Nop, ◌▹◌}
-use Rattle.ir_forms.specs.FlatFits.{steps_in, steps_of, is_small_leg, is_empty}
-use Rattle.reg_assign.specs.Keeps.{calls_in, calls}
+use Rattle.ir_forms.specs.inside.FlatCode.{Step, Let, Frame, Load, Save, Call, Put, Get, If, Loop, Break, Continue}
+use Rattle.ir_forms.specs.inside.FlatCode.{Return, Code, Nop, ◌▹◌}
+use Rattle.ir_forms.specs.inside.FlatFits.{steps_in, steps_of, is_small_leg, is_empty}
+use Rattle.reg_assign.specs.inside.Keeps.{calls_in, calls}
 use Rattle.hyper_build.specs.declared.emitting.Note.{Note}
-use Rattle.hyper_build.specs.Tree.{Tree, Plan, plain, goes_on, annotated_in, annotated}
-use Rattle.hyper_build.specs.Parts.{cut_size}
-use Rattle.hyper_build.specs.Straight.{straight_in, straight, is_small_if, is_item}
-use Rattle.hyper_build.specs.Legs.{leg_size}
-use Rattle.hyper_build.specs.Sizes.{size_in, size}
-use Rattle.hyper_build.specs.BackwardItems.{is_straight_in, is_straight, is_if_item}
-use Rattle.hyper_build.specs.Notes.{notes_in, notes_of}
+use Rattle.hyper_build.specs.inside.Tree.{Tree, Plan, plain, goes_on, annotated_in, annotated}
+use Rattle.hyper_build.specs.inside.Parts.{cut_size}
+use Rattle.hyper_build.specs.inside.Straight.{straight_in, straight, is_small_if, is_item}
+use Rattle.hyper_build.specs.inside.Legs.{leg_size}
+use Rattle.hyper_build.specs.inside.Sizes.{size_in, size}
+use Rattle.hyper_build.specs.inside.BackwardItems.{is_straight_in, is_straight, is_if_item}
+use Rattle.hyper_build.specs.inside.Notes.{notes_in, notes_of}
 
 -- what both together are, each is
 pub and_parts : (a b : Bool) → a && b ≡ true → (a ≡ true) × (b ≡ true)

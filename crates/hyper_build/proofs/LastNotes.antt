@@ -1,7 +1,7 @@
 -- The last of a list of notes, and those before it.
 use Rattle.std.proofs.Common.{◌≡◌, List, [], ◌∷◌, ◌++◌, refl, ap}
 use Rattle.hyper_build.specs.declared.emitting.Note.{Note}
-use Rattle.hyper_build.specs.Backward.{last_note, front_notes}
+use Rattle.hyper_build.specs.inside.Backward.{last_note, front_notes}
 
 pub last_behind : (xs : List Note) (x : Note) → last_note (xs ++ x ∷ []) ≡ x
 last_behind [] x = refl

@@ -1,16 +1,17 @@
 -- What the two passes do at a loop, by whether its last part has no block of its own.
 use Rattle.std.proofs.Common.{◌≡◌, ℕ, Bool, true, false, cond, sym, ap, ◌∙◌}
-use Rattle.ir_forms.specs.FlatCode.{Step, Loop, Code}
-use Rattle.ir_forms.specs.FlatFits.{steps_of}
-use Rattle.ir_forms.specs.HyperRuns.{jump}
+use Rattle.ir_forms.specs.inside.FlatCode.{Step, Loop, Code}
+use Rattle.ir_forms.specs.inside.FlatFits.{steps_of}
+use Rattle.ir_forms.specs.inside.HyperRuns.{jump}
 use Rattle.hyper_build.specs.declared.emitting.Note.{Note}
 use Rattle.hyper_build.specs.declared.numbering.Numbering.{Numbering}
-use Rattle.hyper_build.specs.Ground.{Ground, plan}
-use Rattle.hyper_build.specs.Backward.{Emission, with_rest, put_out, fall, fall_by, last_note, without_note}
-use Rattle.hyper_build.specs.BackwardCode.{is_bare_code, end_of_body, emit_in, emit, emit_turn}
-use Rattle.hyper_build.specs.Forward.{with_blocks, with_statement, with_statements, with_note, number_in, number}
-use Rattle.hyper_build.specs.Forward.{number_turn}
-use Rattle.hyper_build.specs.Notes.{note_of}
+use Rattle.hyper_build.specs.inside.Ground.{Ground, plan}
+use Rattle.hyper_build.specs.inside.Backward.{Emission, with_rest, put_out, fall, fall_by, last_note, without_note}
+use Rattle.hyper_build.specs.inside.BackwardCode.{is_bare_code, end_of_body, emit_in, emit, emit_turn}
+use Rattle.hyper_build.specs.inside.Forward.{with_blocks, with_statement, with_statements, with_note, number_in}
+use Rattle.hyper_build.specs.inside.Forward.{number}
+use Rattle.hyper_build.specs.inside.Forward.{number_turn}
+use Rattle.hyper_build.specs.inside.Notes.{note_of}
 
 -- FORWARD
 

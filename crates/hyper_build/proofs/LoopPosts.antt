@@ -1,19 +1,20 @@
 -- The last part of a loop: where it has no block of its own, and that nothing but the body's block leads to it then.
 use Rattle.std.proofs.Common.{◌≡◌, ◌⊎◌, inl, inr, ℕ, ◌+◌, ◌<◌, ◌≤◌, Bool, true, false, ◌&&◌, ◌||◌, not, List, length}
 use Rattle.std.proofs.Common.{Some, None, refl, sym, ap, ap₂, ◌∙◌, arith}
-use Rattle.ir_forms.specs.FlatCode.{Step, Let, Frame, Load, Save, Call, Put, Get, If, Loop, Break, Continue}
-use Rattle.ir_forms.specs.FlatCode.{Return, Code, Nop, ◌▹◌}
-use Rattle.ir_forms.specs.FlatFits.{steps_in, steps_of, is_empty, small_ifs_in, small_ifs}
-use Rattle.ir_forms.specs.HyperCode.{Block}
-use Rattle.reg_assign.specs.Keeps.{calls_in, calls}
-use Rattle.hyper_build.specs.Tree.{Plan, Stmt, LetAt, FrameAt, LoadAt, SaveAt, CallAt, PutAt, GetAt, IfAt, LoopAt}
-use Rattle.hyper_build.specs.Tree.{BreakAt, ContinueAt, ReturnAt, Tree, End, ◌▸◌, plain_in, plain, goes_on}
-use Rattle.hyper_build.specs.Tree.{annotated_in, annotated}
-use Rattle.hyper_build.specs.Straight.{straight_in, straight}
-use Rattle.hyper_build.specs.Legs.{label_or, leg_blocks, is_end, is_operation, are_operations, continues_in}
-use Rattle.hyper_build.specs.Legs.{continues, is_bare, post_exit, post_size}
-use Rattle.hyper_build.specs.BackwardItems.{is_straight_in, is_straight}
-use Rattle.hyper_build.specs.BackwardCode.{is_bare_code}
+use Rattle.ir_forms.specs.inside.FlatCode.{Step, Let, Frame, Load, Save, Call, Put, Get, If, Loop, Break, Continue}
+use Rattle.ir_forms.specs.inside.FlatCode.{Return, Code, Nop, ◌▹◌}
+use Rattle.ir_forms.specs.inside.FlatFits.{steps_in, steps_of, is_empty, small_ifs_in, small_ifs}
+use Rattle.ir_forms.specs.inside.HyperCode.{Block}
+use Rattle.reg_assign.specs.inside.Keeps.{calls_in, calls}
+use Rattle.hyper_build.specs.inside.Tree.{Plan, Stmt, LetAt, FrameAt, LoadAt, SaveAt, CallAt, PutAt, GetAt, IfAt}
+use Rattle.hyper_build.specs.inside.Tree.{LoopAt}
+use Rattle.hyper_build.specs.inside.Tree.{BreakAt, ContinueAt, ReturnAt, Tree, End, ◌▸◌, plain_in, plain, goes_on}
+use Rattle.hyper_build.specs.inside.Tree.{annotated_in, annotated}
+use Rattle.hyper_build.specs.inside.Straight.{straight_in, straight}
+use Rattle.hyper_build.specs.inside.Legs.{label_or, leg_blocks, is_end, is_operation, are_operations, continues_in}
+use Rattle.hyper_build.specs.inside.Legs.{continues, is_bare, post_exit, post_size}
+use Rattle.hyper_build.specs.inside.BackwardItems.{is_straight_in, is_straight}
+use Rattle.hyper_build.specs.inside.BackwardCode.{is_bare_code}
 use Rattle.hyper_build.proofs.ItemLegs.{and_parts}
 
 -- BLOCKS AND LABELS

@@ -2,14 +2,14 @@
 use Rattle.std.proofs.Common.{◌≡◌, ℕ, zero, suc, ◌+◌, ◌<◌, ◌≤◌, Bool, true, false, ◌&&◌, List, [], ◌∷◌, length}
 use Rattle.std.proofs.Common.{refl, ap, ap₂, arith, drop}
 use Rattle.ir_forms.specs.declared.flat.FlatStmt.{FlatStmt}
-use Rattle.ir_forms.specs.FlatViews.{code_of}
-use Rattle.ir_forms.specs.FlatCode.{Step, Let, Frame, Load, Save, Call, Put, Get, If, Loop, Break, Continue}
-use Rattle.ir_forms.specs.FlatCode.{Return, Code, Nop, ◌▹◌}
-use Rattle.ir_forms.specs.FlatFits.{steps_in, steps_of, is_empty}
-use Rattle.reg_assign.specs.Keeps.{calls_in, calls}
-use Rattle.hyper_build.specs.Tree.{Plan, goes_on, annotated_in, annotated}
-use Rattle.hyper_build.specs.Legs.{is_break, is_end, is_test, is_loop_test}
-use Rattle.hyper_build.specs.BackwardCode.{is_break_code, is_test_step}
+use Rattle.ir_forms.specs.inside.FlatViews.{code_of}
+use Rattle.ir_forms.specs.inside.FlatCode.{Step, Let, Frame, Load, Save, Call, Put, Get, If, Loop, Break, Continue}
+use Rattle.ir_forms.specs.inside.FlatCode.{Return, Code, Nop, ◌▹◌}
+use Rattle.ir_forms.specs.inside.FlatFits.{steps_in, steps_of, is_empty}
+use Rattle.reg_assign.specs.inside.Keeps.{calls_in, calls}
+use Rattle.hyper_build.specs.inside.Tree.{Plan, goes_on, annotated_in, annotated}
+use Rattle.hyper_build.specs.inside.Legs.{is_break, is_end, is_test, is_loop_test}
+use Rattle.hyper_build.specs.inside.BackwardCode.{is_break_code, is_test_step}
 
 -- WHAT STANDS BEHIND A PLACE
 

@@ -1,22 +1,22 @@
 -- A loop does what it means where its body and the part behind it do.
 use Rattle.std.proofs.Common.{◌≡◌, ◌⊎◌, inl, inr, ℕ, zero, suc, ◌+◌, Bool, true, false, cond, not, ◌||◌}
 use Rattle.std.proofs.Common.{true≢false, [], ◌∷◌, ◌++◌, Some, refl, sym, ap, ◌∙◌, subst, arith, slice_get}
-use Rattle.ir_forms.specs.FlatSteps.{State, Res, Gone, Broke, Again, Gave, TooDeep, Unfinished, Wild}
-use Rattle.ir_forms.specs.FlatSteps.{Calls, counted, after_post, after_body}
-use Rattle.ir_forms.specs.FlatSteps.{loop_turns, exec}
-use Rattle.ir_forms.specs.HyperCode.{Block}
-use Rattle.ir_forms.specs.HyperRuns.{Machine, jump}
-use Rattle.hyper_build.specs.Tree.{Tree, End, LoopAt, Routine, plain}
-use Rattle.hyper_build.specs.Straight.{Place, in_loop, straight, items_of}
-use Rattle.hyper_build.specs.Legs.{label_or, leg_blocks, continues, is_bare, post_exit, post_size}
-use Rattle.hyper_build.specs.Sizes.{size, turn_size}
-use Rattle.hyper_build.specs.Entries.{body_end, entry, turn_entry}
-use Rattle.hyper_build.specs.Build.{blocks, turn_blocks}
-use Rattle.hyper_build.specs.Merging.{SetsLow}
-use Rattle.hyper_build.specs.World.{World, Has, Rel, IsFrame, checks_of, env_in}
-use Rattle.hyper_build.specs.Follow.{Way, Follows, ways_of}
-use Rattle.hyper_build.specs.Fits.{IsBuilt, FitsTree, IsPlace}
-use Rattle.hyper_build.specs.Premises.{StmtDoes, TreeDoes, TurnDoes, AluGivesWords}
+use Rattle.ir_forms.specs.inside.FlatSteps.{State, Res, Gone, Broke, Again, Gave, TooDeep, Unfinished, Wild}
+use Rattle.ir_forms.specs.inside.FlatSteps.{Calls, counted, after_post, after_body}
+use Rattle.ir_forms.specs.inside.FlatSteps.{loop_turns, exec}
+use Rattle.ir_forms.specs.inside.HyperCode.{Block}
+use Rattle.ir_forms.specs.inside.HyperRuns.{Machine, jump}
+use Rattle.hyper_build.specs.inside.Tree.{Tree, End, LoopAt, Routine, plain}
+use Rattle.hyper_build.specs.inside.Straight.{Place, in_loop, straight, items_of}
+use Rattle.hyper_build.specs.inside.Legs.{label_or, leg_blocks, continues, is_bare, post_exit, post_size}
+use Rattle.hyper_build.specs.inside.Sizes.{size, turn_size}
+use Rattle.hyper_build.specs.inside.Entries.{body_end, entry, turn_entry}
+use Rattle.hyper_build.specs.inside.Build.{blocks, turn_blocks}
+use Rattle.hyper_build.specs.inside.Merging.{SetsLow}
+use Rattle.hyper_build.specs.inside.World.{World, Has, Rel, IsFrame, checks_of, env_in}
+use Rattle.hyper_build.specs.inside.Follow.{Way, Follows, ways_of}
+use Rattle.hyper_build.specs.inside.Fits.{IsBuilt, FitsTree, IsPlace}
+use Rattle.hyper_build.specs.inside.Premises.{StmtDoes, TreeDoes, TurnDoes, AluGivesWords}
 use Rattle.hyper_build.proofs.Goes.{goes_here, goes_then, goes_jump}
 use Rattle.hyper_build.proofs.Following.{kept_here, follows_then, follows_more, settled, stands_here}
 use Rattle.hyper_build.proofs.Following.{has_front, has_back}

@@ -3,20 +3,20 @@ use Rattle.std.proofs.Common.{◌≡◌, ℕ, suc, ◌+◌, ◌<◌, ◌≤◌, 
 use Rattle.std.proofs.Common.{map, length, Option, Some, None, arith, slice_get}
 use Rattle.ir_forms.specs.declared.flat.Arg.{Arg}
 use Rattle.ir_forms.specs.declared.hyper.Exit.TheVariants as exit
-use Rattle.ir_forms.specs.Frames.{register_of}
-use Rattle.ir_forms.specs.FlatFits.{FitsVar}
-use Rattle.ir_forms.specs.HyperCode.{Items, Done, Leave, Block}
-use Rattle.ir_forms.specs.HyperRuns.{jump}
-use Rattle.hyper_build.specs.Tree.{Stmt, LetAt, FrameAt, LoadAt, SaveAt, CallAt, PutAt, GetAt, IfAt}
-use Rattle.hyper_build.specs.Tree.{LoopAt, BreakAt, ContinueAt, ReturnAt, Tree, End, ◌▸◌, Routine}
-use Rattle.hyper_build.specs.Parts.{cut, cut_size, chain, Move, moved}
-use Rattle.hyper_build.specs.Passing.{saving, argument_moves, argument_cuts}
-use Rattle.hyper_build.specs.Straight.{Place, straight, items_in, items_of, is_item}
-use Rattle.hyper_build.specs.Sizes.{arguments_size, size_in}
-use Rattle.hyper_build.specs.Entries.{call_block, give, body_end, choose, entry_in, entry}
-use Rattle.hyper_build.specs.Merging.{SetsLow}
-use Rattle.hyper_build.specs.World.{World}
-use Rattle.hyper_build.specs.Fits.{FitsStmt, FitsTree}
+use Rattle.ir_forms.specs.inside.Frames.{register_of}
+use Rattle.ir_forms.specs.inside.FlatFits.{FitsVar}
+use Rattle.ir_forms.specs.inside.HyperCode.{Items, Done, Leave, Block}
+use Rattle.ir_forms.specs.inside.HyperRuns.{jump}
+use Rattle.hyper_build.specs.inside.Tree.{Stmt, LetAt, FrameAt, LoadAt, SaveAt, CallAt, PutAt, GetAt, IfAt}
+use Rattle.hyper_build.specs.inside.Tree.{LoopAt, BreakAt, ContinueAt, ReturnAt, Tree, End, ◌▸◌, Routine}
+use Rattle.hyper_build.specs.inside.Parts.{cut, cut_size, chain, Move, moved}
+use Rattle.hyper_build.specs.inside.Passing.{saving, argument_moves, argument_cuts}
+use Rattle.hyper_build.specs.inside.Straight.{Place, straight, items_in, items_of, is_item}
+use Rattle.hyper_build.specs.inside.Sizes.{arguments_size, size_in}
+use Rattle.hyper_build.specs.inside.Entries.{call_block, give, body_end, choose, entry_in, entry}
+use Rattle.hyper_build.specs.inside.Merging.{SetsLow}
+use Rattle.hyper_build.specs.inside.World.{World}
+use Rattle.hyper_build.specs.inside.Fits.{FitsStmt, FitsTree}
 use Rattle.hyper_build.proofs.Registers.{register_low}
 use Rattle.hyper_build.proofs.Simple.{variable_small}
 

@@ -1,22 +1,22 @@
 -- A loop's test and its leg do, as one block, what they mean.
 use Rattle.std.proofs.Common.{◌≡◌, ℕ, zero, suc, ◌+◌, Bool, true, false, ◌++◌, arith}
 use Rattle.ir_forms.specs.declared.flat.Arg.{Arg}
-use Rattle.ir_forms.specs.FlatSteps.{State, Res, Calls, read, exec, act}
-use Rattle.ir_forms.specs.HyperCode.{Block}
-use Rattle.ir_forms.specs.HyperRuns.{Machine, jump}
-use Rattle.hyper_build.specs.Tree.{Stmt, LetAt, FrameAt, LoadAt, SaveAt, CallAt, PutAt, GetAt, IfAt, LoopAt}
-use Rattle.hyper_build.specs.Tree.{BreakAt, ContinueAt, ReturnAt, Tree, End, ◌▸◌, Routine, plain, plain_in}
-use Rattle.hyper_build.specs.Parts.{source, cut, cut_blocks}
-use Rattle.hyper_build.specs.Straight.{Place}
-use Rattle.hyper_build.specs.Legs.{is_break, is_test}
-use Rattle.hyper_build.specs.Sizes.{size}
-use Rattle.hyper_build.specs.Entries.{entry, test_entry}
-use Rattle.hyper_build.specs.Build.{blocks, test_blocks}
-use Rattle.hyper_build.specs.Merging.{merged, test_register, SetsLow}
-use Rattle.hyper_build.specs.World.{World, Has, Rel, IsFrame, checks_of, env_in}
-use Rattle.hyper_build.specs.Follow.{Follows, Does, ways_of}
-use Rattle.hyper_build.specs.Fits.{IsBuilt, FitsStmt, FitsTree, IsPlace}
-use Rattle.hyper_build.specs.Premises.{AluGivesWords, TreeDoes}
+use Rattle.ir_forms.specs.inside.FlatSteps.{State, Res, Calls, read, exec, act}
+use Rattle.ir_forms.specs.inside.HyperCode.{Block}
+use Rattle.ir_forms.specs.inside.HyperRuns.{Machine, jump}
+use Rattle.hyper_build.specs.inside.Tree.{Stmt, LetAt, FrameAt, LoadAt, SaveAt, CallAt, PutAt, GetAt, IfAt, LoopAt}
+use Rattle.hyper_build.specs.inside.Tree.{BreakAt, ContinueAt, ReturnAt, Tree, End, ◌▸◌, Routine, plain, plain_in}
+use Rattle.hyper_build.specs.inside.Parts.{source, cut, cut_blocks}
+use Rattle.hyper_build.specs.inside.Straight.{Place}
+use Rattle.hyper_build.specs.inside.Legs.{is_break, is_test}
+use Rattle.hyper_build.specs.inside.Sizes.{size}
+use Rattle.hyper_build.specs.inside.Entries.{entry, test_entry}
+use Rattle.hyper_build.specs.inside.Build.{blocks, test_blocks}
+use Rattle.hyper_build.specs.inside.Merging.{merged, test_register, SetsLow}
+use Rattle.hyper_build.specs.inside.World.{World, Has, Rel, IsFrame, checks_of, env_in}
+use Rattle.hyper_build.specs.inside.Follow.{Follows, Does, ways_of}
+use Rattle.hyper_build.specs.inside.Fits.{IsBuilt, FitsStmt, FitsTree, IsPlace}
+use Rattle.hyper_build.specs.inside.Premises.{AluGivesWords, TreeDoes}
 use Rattle.hyper_build.proofs.Goes.{goes_here}
 use Rattle.hyper_build.proofs.Following.{kept_here, follows_more, stands_here, must_follow, has_front, has_back}
 use Rattle.hyper_build.proofs.Sizes.{length_blocks}

@@ -1,17 +1,17 @@
 -- A block that goes on as one of two rests does what the chosen one does.
 use Rattle.std.proofs.Common.{◌≡◌, ℕ, zero, suc, ◌+◌, ◌≤◌, List, [], ◌∷◌, ◌++◌, refl, ap, ◌∙◌, arith}
-use Rattle.trips_isa.specs.Acts.{Act}
+use Rattle.trips_isa.specs.inside.Acts.{Act}
 use Rattle.ir_forms.specs.declared.hyper.Source.{Source}
-use Rattle.ir_forms.specs.Frames.{register_of}
-use Rattle.ir_forms.specs.FlatSteps.{State, Res, chosen}
-use Rattle.ir_forms.specs.HyperCode.{Items, Done, Set, Load, Save, If, Block}
-use Rattle.ir_forms.specs.HyperRuns.{Machine, with_register, with_memory, value_of, pick}
-use Rattle.ir_forms.specs.HyperRuns.{after_items, acts, loaded, saved, run}
+use Rattle.ir_forms.specs.inside.Frames.{register_of}
+use Rattle.ir_forms.specs.inside.FlatSteps.{State, Res, chosen}
+use Rattle.ir_forms.specs.inside.HyperCode.{Items, Done, Set, Load, Save, If, Block}
+use Rattle.ir_forms.specs.inside.HyperRuns.{Machine, with_register, with_memory, value_of, pick}
+use Rattle.ir_forms.specs.inside.HyperRuns.{after_items, acts, loaded, saved, run}
 use Rattle.trips_isa.specs.Alu.{alu_of}
-use Rattle.hyper_build.specs.Tree.{Routine}
-use Rattle.hyper_build.specs.World.{World, Goes, Rel, frame}
-use Rattle.hyper_build.specs.Follow.{Way, Follows}
-use Rattle.hyper_build.specs.Merging.{merged, SetsLow}
+use Rattle.hyper_build.specs.inside.Tree.{Routine}
+use Rattle.hyper_build.specs.inside.World.{World, Goes, Rel, frame}
+use Rattle.hyper_build.specs.inside.Follow.{Way, Follows}
+use Rattle.hyper_build.specs.inside.Merging.{merged, SetsLow}
 use Rattle.hyper_build.proofs.Goes.{goes_same}
 use Rattle.hyper_build.proofs.Following.{follows_then, follows_more}
 use Rattle.hyper_build.proofs.Registers.{same_at, other_at, register_low}

@@ -2,25 +2,25 @@
 use Rattle.std.proofs.Common.{◌≡◌, ◌⊎◌, inl, inr, ℕ, zero, suc, ◌+◌, Bool, List, [], ◌∷◌, ◌++◌}
 use Rattle.std.proofs.Common.{true, false, cond, ◌&&◌, refl, sym, ap, ◌∙◌, arith, append_assoc, append-nil}
 use Rattle.ir_forms.specs.declared.flat.Arg.{Arg}
-use Rattle.ir_forms.specs.FlatCode.{Step, Let, Frame, Load, Save, Call, Put, Get, If, Loop, Break, Continue}
-use Rattle.ir_forms.specs.FlatCode.{Return, Code, Nop, ◌▹◌, Function}
-use Rattle.ir_forms.specs.FlatFits.{steps_in, steps_of, steps_of_all, is_empty}
-use Rattle.reg_assign.specs.Keeps.{calls_in, calls, calls_of_all}
+use Rattle.ir_forms.specs.inside.FlatCode.{Step, Let, Frame, Load, Save, Call, Put, Get, If, Loop, Break, Continue}
+use Rattle.ir_forms.specs.inside.FlatCode.{Return, Code, Nop, ◌▹◌, Function}
+use Rattle.ir_forms.specs.inside.FlatFits.{steps_in, steps_of, steps_of_all, is_empty}
+use Rattle.reg_assign.specs.inside.Keeps.{calls_in, calls, calls_of_all}
 use Rattle.hyper_build.specs.declared.emitting.Note.{Note}
 use Rattle.hyper_build.specs.declared.numbering.Numbering.{Numbering}
-use Rattle.hyper_build.specs.Tree.{Plan, goes_on, annotated_in, annotated, Routine, annotated_all}
-use Rattle.hyper_build.specs.Parts.{cut_size}
-use Rattle.hyper_build.specs.Legs.{leg_size, label_or, post_exit, post_size}
-use Rattle.hyper_build.specs.Sizes.{size_in, size, test_size, turn_size, part_size}
-use Rattle.hyper_build.specs.Routines.{body_label, routine_size, entry_from}
-use Rattle.hyper_build.specs.Ground.{Ground, plan, entry_at}
-use Rattle.hyper_build.specs.BackwardItems.{is_straight, is_if_item}
-use Rattle.hyper_build.specs.Forward.{with_blocks, with_statement, with_statements, with_note, number_items}
-use Rattle.hyper_build.specs.Forward.{led_by, led, number_in}
-use Rattle.hyper_build.specs.Forward.{number, number_test, number_turn, way_in_size}
-use Rattle.hyper_build.specs.Forward.{number_function, number_all, entries_from}
-use Rattle.hyper_build.specs.BackwardCode.{is_bare_code, is_break_code, is_test_step}
-use Rattle.hyper_build.specs.Notes.{note_of, notes_in, notes_of, test_notes, turn_notes}
+use Rattle.hyper_build.specs.inside.Tree.{Plan, goes_on, annotated_in, annotated, Routine, annotated_all}
+use Rattle.hyper_build.specs.inside.Parts.{cut_size}
+use Rattle.hyper_build.specs.inside.Legs.{leg_size, label_or, post_exit, post_size}
+use Rattle.hyper_build.specs.inside.Sizes.{size_in, size, test_size, turn_size, part_size}
+use Rattle.hyper_build.specs.inside.Routines.{body_label, routine_size, entry_from}
+use Rattle.hyper_build.specs.inside.Ground.{Ground, plan, entry_at}
+use Rattle.hyper_build.specs.inside.BackwardItems.{is_straight, is_if_item}
+use Rattle.hyper_build.specs.inside.Forward.{with_blocks, with_statement, with_statements, with_note, number_items}
+use Rattle.hyper_build.specs.inside.Forward.{led_by, led, number_in}
+use Rattle.hyper_build.specs.inside.Forward.{number, number_test, number_turn, way_in_size}
+use Rattle.hyper_build.specs.inside.Forward.{number_function, number_all, entries_from}
+use Rattle.hyper_build.specs.inside.BackwardCode.{is_bare_code, is_break_code, is_test_step}
+use Rattle.hyper_build.specs.inside.Notes.{note_of, notes_in, notes_of, test_notes, turn_notes}
 use Rattle.hyper_build.proofs.ItemLegs.{and_parts, item_is, if_size, no_calls, no_notes, item_calls, item_notes}
 use Rattle.hyper_build.proofs.LoopPosts.{bare_is, bare_straight}
 use Rattle.hyper_build.proofs.LoopTests.{break_steps, break_calls, loop_test_is}

@@ -4,19 +4,19 @@ use Rattle.std.proofs.Common.{map, Option, refl, sym, ap, ap₂, ◌∙◌, subs
 use Rattle.trips_isa.specs.declared.op.Op.TheVariants.{Mov}
 use Rattle.ir_forms.specs.declared.flat.Arg.{Arg}
 use Rattle.ir_forms.specs.declared.hyper.Source.TheVariants.{Const}
-use Rattle.ir_forms.specs.HyperCode.{Block}
-use Rattle.ir_forms.specs.HyperRuns.{jump}
+use Rattle.ir_forms.specs.inside.HyperCode.{Block}
+use Rattle.ir_forms.specs.inside.HyperRuns.{jump}
 use Rattle.hyper_build.specs.declared.emitting.Note.{Note}
-use Rattle.hyper_build.specs.Tree.{Plan}
-use Rattle.hyper_build.specs.Parts.{set_then, cut, cut_blocks, cut_size, chain, chain_blocks, Move}
-use Rattle.hyper_build.specs.Parts.{moved, moved_blocks, moved_size}
-use Rattle.hyper_build.specs.Passing.{saving, restoring, argument_moves, argument_cuts, result_then}
-use Rattle.hyper_build.specs.Sizes.{arguments_size}
-use Rattle.hyper_build.specs.Entries.{call_block}
-use Rattle.hyper_build.specs.Backward.{Emission, with_rest, put_out, cut_at, fall, fall_by, fall_call, before}
-use Rattle.hyper_build.specs.Backward.{before_by}
-use Rattle.hyper_build.specs.BackwardStatements.{chained, moving, back_out, call_out}
-use Rattle.hyper_build.specs.Reached.{Reached}
+use Rattle.hyper_build.specs.inside.Tree.{Plan}
+use Rattle.hyper_build.specs.inside.Parts.{set_then, cut, cut_blocks, cut_size, chain, chain_blocks, Move}
+use Rattle.hyper_build.specs.inside.Parts.{moved, moved_blocks, moved_size}
+use Rattle.hyper_build.specs.inside.Passing.{saving, restoring, argument_moves, argument_cuts, result_then}
+use Rattle.hyper_build.specs.inside.Sizes.{arguments_size}
+use Rattle.hyper_build.specs.inside.Entries.{call_block}
+use Rattle.hyper_build.specs.inside.Backward.{Emission, with_rest, put_out, cut_at, fall, fall_by, fall_call, before}
+use Rattle.hyper_build.specs.inside.Backward.{before_by}
+use Rattle.hyper_build.specs.inside.BackwardStatements.{chained, moving, back_out, call_out}
+use Rattle.hyper_build.specs.inside.Reached.{Reached}
 
 -- one stretch after another
 pub joined : {o : List Block} {m t : Emission} {l1 i1 k1 l i k : ℕ} {M N : List Note}

@@ -1,20 +1,20 @@
 -- Emission puts out the blocks of annotated code: legs of ifs.
 use Rattle.std.proofs.Common.{◌≡◌, ◌⊎◌, inl, inr, ℕ, ◌+◌, List, [], ◌∷◌, ◌++◌, Option, Some, None}
 use Rattle.std.proofs.Common.{refl, sym, ap, ap₂, ◌∙◌, subst, arith}
-use Rattle.ir_forms.specs.FlatCode.{Let, Frame, Load, Save, Call, Put, Get, If, Loop, Break, Continue}
-use Rattle.ir_forms.specs.FlatCode.{Return, Code, Nop, ◌▹◌}
-use Rattle.ir_forms.specs.HyperCode.{Block}
+use Rattle.ir_forms.specs.inside.FlatCode.{Let, Frame, Load, Save, Call, Put, Get, If, Loop, Break, Continue}
+use Rattle.ir_forms.specs.inside.FlatCode.{Return, Code, Nop, ◌▹◌}
+use Rattle.ir_forms.specs.inside.HyperCode.{Block}
 use Rattle.hyper_build.specs.declared.emitting.Note.{Note}
-use Rattle.hyper_build.specs.Tree.{annotated}
-use Rattle.hyper_build.specs.Legs.{exit_leg, label_or, leg_blocks, leg_size}
-use Rattle.hyper_build.specs.Sizes.{size}
-use Rattle.hyper_build.specs.Entries.{entry}
-use Rattle.hyper_build.specs.Build.{blocks}
-use Rattle.hyper_build.specs.Ground.{Ground, plan, place}
-use Rattle.hyper_build.specs.Backward.{Emission}
-use Rattle.hyper_build.specs.BackwardCode.{exit_of, leg_out, emit}
-use Rattle.hyper_build.specs.Notes.{notes_of}
-use Rattle.hyper_build.specs.Reached.{Reached}
+use Rattle.hyper_build.specs.inside.Tree.{annotated}
+use Rattle.hyper_build.specs.inside.Legs.{exit_leg, label_or, leg_blocks, leg_size}
+use Rattle.hyper_build.specs.inside.Sizes.{size}
+use Rattle.hyper_build.specs.inside.Entries.{entry}
+use Rattle.hyper_build.specs.inside.Build.{blocks}
+use Rattle.hyper_build.specs.inside.Ground.{Ground, plan, place}
+use Rattle.hyper_build.specs.inside.Backward.{Emission}
+use Rattle.hyper_build.specs.inside.BackwardCode.{exit_of, leg_out, emit}
+use Rattle.hyper_build.specs.inside.Notes.{notes_of}
+use Rattle.hyper_build.specs.inside.Reached.{Reached}
 use Rattle.hyper_build.proofs.Reaching.{one_less}
 
 -- a leg with blocks of its own

@@ -2,25 +2,25 @@
 use Rattle.std.proofs.Common.{◌≡◌, ℕ, ◌+◌, ◌-◌, Bool, true, false, cond, List, ◌++◌, refl, sym, ap}
 use Rattle.std.proofs.Common.{◌∙◌, subst, arith}
 use Rattle.ir_forms.specs.declared.flat.Arg.{Arg}
-use Rattle.ir_forms.specs.FlatCode.{Step, Let, Frame, Load, Save, Call, Put, Get, If, Loop, Break, Continue}
-use Rattle.ir_forms.specs.FlatCode.{Return, Code}
-use Rattle.ir_forms.specs.FlatFits.{steps_in, steps_of}
-use Rattle.ir_forms.specs.HyperCode.{Block}
-use Rattle.ir_forms.specs.HyperRuns.{jump}
-use Rattle.reg_assign.specs.Keeps.{calls_in, calls}
+use Rattle.ir_forms.specs.inside.FlatCode.{Step, Let, Frame, Load, Save, Call, Put, Get, If, Loop, Break, Continue}
+use Rattle.ir_forms.specs.inside.FlatCode.{Return, Code}
+use Rattle.ir_forms.specs.inside.FlatFits.{steps_in, steps_of}
+use Rattle.ir_forms.specs.inside.HyperCode.{Block}
+use Rattle.ir_forms.specs.inside.HyperRuns.{jump}
+use Rattle.reg_assign.specs.inside.Keeps.{calls_in, calls}
 use Rattle.hyper_build.specs.declared.emitting.Note.{Note}
-use Rattle.hyper_build.specs.Tree.{annotated_in, annotated}
-use Rattle.hyper_build.specs.Parts.{source, cut, cut_blocks}
-use Rattle.hyper_build.specs.Sizes.{size, test_size}
-use Rattle.hyper_build.specs.Entries.{choose, entry, test_entry}
-use Rattle.hyper_build.specs.Build.{blocks, test_blocks}
-use Rattle.hyper_build.specs.Merging.{merged, test_register}
-use Rattle.hyper_build.specs.Ground.{Ground, plan, place}
-use Rattle.hyper_build.specs.Backward.{Emission, cut_at, fall}
-use Rattle.hyper_build.specs.BackwardStatements.{leaving}
-use Rattle.hyper_build.specs.BackwardCode.{is_break_code, is_test_step, test_out, emit}
-use Rattle.hyper_build.specs.Notes.{notes_of, test_notes}
-use Rattle.hyper_build.specs.Reached.{Reached, IsReached}
+use Rattle.hyper_build.specs.inside.Tree.{annotated_in, annotated}
+use Rattle.hyper_build.specs.inside.Parts.{source, cut, cut_blocks}
+use Rattle.hyper_build.specs.inside.Sizes.{size, test_size}
+use Rattle.hyper_build.specs.inside.Entries.{choose, entry, test_entry}
+use Rattle.hyper_build.specs.inside.Build.{blocks, test_blocks}
+use Rattle.hyper_build.specs.inside.Merging.{merged, test_register}
+use Rattle.hyper_build.specs.inside.Ground.{Ground, plan, place}
+use Rattle.hyper_build.specs.inside.Backward.{Emission, cut_at, fall}
+use Rattle.hyper_build.specs.inside.BackwardStatements.{leaving}
+use Rattle.hyper_build.specs.inside.BackwardCode.{is_break_code, is_test_step, test_out, emit}
+use Rattle.hyper_build.specs.inside.Notes.{notes_of, test_notes}
+use Rattle.hyper_build.specs.inside.Reached.{Reached, IsReached}
 use Rattle.hyper_build.proofs.ItemLegs.{and_parts}
 use Rattle.hyper_build.proofs.LoopTests.{break_steps, break_calls}
 use Rattle.hyper_build.proofs.Reaching.{joined, one_less, cut_reached}

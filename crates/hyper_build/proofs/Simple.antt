@@ -11,24 +11,25 @@ use Rattle.ir_forms.specs.declared.flat.Arg.{Arg}
 use Rattle.ir_forms.specs.declared.flat.Arg.TheVariants as arg
 use Rattle.ir_forms.specs.declared.hyper.Source.TheVariants.{Const, Reg}
 use Rattle.ir_forms.specs.declared.hyper.Exit.TheVariants as exit
-use Rattle.trips_isa.specs.Acts.{Divided, divisions, is_clean}
+use Rattle.trips_isa.specs.inside.Acts.{Divided, divisions, is_clean}
 use Rattle.trips_isa.specs.Faults.{divides}
-use Rattle.ir_forms.specs.Frames.{register_of, frame_limit}
-use Rattle.ir_forms.specs.Cells.{Checks, breach, apply, load, save}
-use Rattle.ir_forms.specs.FlatFits.{is_lasting, is_variable, FitsArg}
-use Rattle.ir_forms.specs.FlatSteps.{State, Res, Calls, read, if_set, turn, settle, with_var, with_memory}
-use Rattle.ir_forms.specs.FlatSteps.{with_output, with_next}
-use Rattle.ir_forms.specs.HyperCode.{Block, Done, Set, Leave}
-use Rattle.ir_forms.specs.HyperRuns.{Machine, with_register, value_of, loaded, saved, run, block_or}
-use Rattle.ir_forms.specs.HyperRuns as machine
-use Rattle.hyper_build.specs.Tree.{Routine, LetAt, FrameAt, LoadAt, SaveAt, PutAt, GetAt, BreakAt}
-use Rattle.hyper_build.specs.Tree.{ContinueAt, ReturnAt}
-use Rattle.hyper_build.specs.Parts.{source, capped, set_then, save_then, cut, cut_blocks, cut_size}
-use Rattle.hyper_build.specs.Straight.{Place}
-use Rattle.hyper_build.specs.World.{World, Has, Goes, Rel, Kept, AreBytes, IsFrame, frame, slots, checks_of}
-use Rattle.hyper_build.specs.Follow.{Way, Next, Breaks, Continues, Returns, IsGiven, Relation, Came, Follows, ways_of}
-use Rattle.hyper_build.specs.Fits.{IsBuilt, IsWordArg}
-use Rattle.hyper_build.specs.Premises.{StmtDoes, AluGivesWords}
+use Rattle.ir_forms.specs.inside.Frames.{register_of, frame_limit}
+use Rattle.ir_forms.specs.inside.Cells.{Checks, breach, apply, load, save}
+use Rattle.ir_forms.specs.inside.FlatFits.{is_lasting, is_variable, FitsArg}
+use Rattle.ir_forms.specs.inside.FlatSteps.{State, Res, Calls, read, if_set, turn, settle, with_var, with_memory}
+use Rattle.ir_forms.specs.inside.FlatSteps.{with_output, with_next}
+use Rattle.ir_forms.specs.inside.HyperCode.{Block, Done, Set, Leave}
+use Rattle.ir_forms.specs.inside.HyperRuns.{Machine, with_register, value_of, loaded, saved, run, block_or}
+use Rattle.ir_forms.specs.inside.HyperRuns as machine
+use Rattle.hyper_build.specs.inside.Tree.{Routine, LetAt, FrameAt, LoadAt, SaveAt, PutAt, GetAt, BreakAt}
+use Rattle.hyper_build.specs.inside.Tree.{ContinueAt, ReturnAt}
+use Rattle.hyper_build.specs.inside.Parts.{source, capped, set_then, save_then, cut, cut_blocks, cut_size}
+use Rattle.hyper_build.specs.inside.Straight.{Place}
+use Rattle.hyper_build.specs.inside.World.{World, Has, Goes, Rel, Kept, AreBytes, IsFrame, frame, slots, checks_of}
+use Rattle.hyper_build.specs.inside.Follow.{Way, Next, Breaks, Continues, Returns, IsGiven, Relation, Came, Follows}
+use Rattle.hyper_build.specs.inside.Follow.{ways_of}
+use Rattle.hyper_build.specs.inside.Fits.{IsBuilt, IsWordArg}
+use Rattle.hyper_build.specs.inside.Premises.{StmtDoes, AluGivesWords}
 use Rattle.hyper_build.proofs.Goes.{goes_here, goes_then, goes_block, goes_set, goes_set_any, goes_load_any}
 use Rattle.hyper_build.proofs.Goes.{goes_save_any, goes_cut}
 use Rattle.hyper_build.proofs.Memories.{load_is, save_is}

@@ -4,29 +4,29 @@ use Rattle.std.proofs.Common.{◌||◌, List, [], ◌∷◌, ◌++◌, map, leng
 use Rattle.std.proofs.Common.{arith, slice_get}
 use Rattle.ir_forms.specs.declared.flat.Arg.{Arg}
 use Rattle.ir_forms.specs.declared.hyper.Exit.TheVariants as exit
-use Rattle.ir_forms.specs.FlatFits.{is_small_leg, is_empty}
-use Rattle.ir_forms.specs.Frames.{frame_limit}
-use Rattle.ir_forms.specs.HyperCode.{Done, Block}
-use Rattle.ir_forms.specs.HyperFits.{items_in, ifs_in, tests_in, exits_in, is_filled}
-use Rattle.ir_forms.specs.HyperRuns.{jump}
-use Rattle.reg_assign.specs.Live.{AreSmall}
-use Rattle.hyper_build.specs.Tree.{Stmt, LetAt, FrameAt, LoadAt, SaveAt, CallAt, PutAt, GetAt, IfAt}
-use Rattle.hyper_build.specs.Tree.{LoopAt, BreakAt, ContinueAt, ReturnAt, Tree, End, ◌▸◌, Routine, plain}
-use Rattle.hyper_build.specs.Parts.{source, cut, cut_blocks, chain, chain_blocks, moved, moved_blocks}
-use Rattle.hyper_build.specs.Passing.{saving, restoring, argument_moves, argument_cuts, result_then}
-use Rattle.hyper_build.specs.Passing.{parameter_moves, parameter_cuts}
-use Rattle.hyper_build.specs.Straight.{Place, in_loop, straight, items_of, is_small_if, is_item}
-use Rattle.hyper_build.specs.Legs.{exit_leg, leg_blocks, leg_size, is_break, is_end, is_test, is_loop_test}
-use Rattle.hyper_build.specs.Legs.{label_or, is_bare, post_exit, post_size}
-use Rattle.hyper_build.specs.Sizes.{arguments_size, size_in, size, turn_size, part_size}
-use Rattle.hyper_build.specs.Entries.{call_block, choose, give, entry_in, entry, test_entry}
-use Rattle.hyper_build.specs.Entries.{turn_entry}
-use Rattle.hyper_build.specs.Build.{blocks_in, blocks, test_blocks, turn_blocks}
-use Rattle.hyper_build.specs.Routines.{way_out, place_of, parameters_size, body_label}
-use Rattle.hyper_build.specs.Routines.{body_entry, routine_size, routine_blocks, all_blocks, entry_from}
-use Rattle.hyper_build.specs.Routines.{built}
-use Rattle.hyper_build.specs.SmallIfs.{IsShortLeg, if_block}
-use Rattle.hyper_build.specs.Smallness.{TestsJump, IsLittle}
+use Rattle.ir_forms.specs.inside.FlatFits.{is_small_leg, is_empty}
+use Rattle.ir_forms.specs.inside.Frames.{frame_limit}
+use Rattle.ir_forms.specs.inside.HyperCode.{Done, Block}
+use Rattle.ir_forms.specs.inside.HyperFits.{items_in, ifs_in, tests_in, exits_in, is_filled}
+use Rattle.ir_forms.specs.inside.HyperRuns.{jump}
+use Rattle.reg_assign.specs.inside.Live.{AreSmall}
+use Rattle.hyper_build.specs.inside.Tree.{Stmt, LetAt, FrameAt, LoadAt, SaveAt, CallAt, PutAt, GetAt, IfAt}
+use Rattle.hyper_build.specs.inside.Tree.{LoopAt, BreakAt, ContinueAt, ReturnAt, Tree, End, ◌▸◌, Routine, plain}
+use Rattle.hyper_build.specs.inside.Parts.{source, cut, cut_blocks, chain, chain_blocks, moved, moved_blocks}
+use Rattle.hyper_build.specs.inside.Passing.{saving, restoring, argument_moves, argument_cuts, result_then}
+use Rattle.hyper_build.specs.inside.Passing.{parameter_moves, parameter_cuts}
+use Rattle.hyper_build.specs.inside.Straight.{Place, in_loop, straight, items_of, is_small_if, is_item}
+use Rattle.hyper_build.specs.inside.Legs.{exit_leg, leg_blocks, leg_size, is_break, is_end, is_test, is_loop_test}
+use Rattle.hyper_build.specs.inside.Legs.{label_or, is_bare, post_exit, post_size}
+use Rattle.hyper_build.specs.inside.Sizes.{arguments_size, size_in, size, turn_size, part_size}
+use Rattle.hyper_build.specs.inside.Entries.{call_block, choose, give, entry_in, entry, test_entry}
+use Rattle.hyper_build.specs.inside.Entries.{turn_entry}
+use Rattle.hyper_build.specs.inside.Build.{blocks_in, blocks, test_blocks, turn_blocks}
+use Rattle.hyper_build.specs.inside.Routines.{way_out, place_of, parameters_size, body_label}
+use Rattle.hyper_build.specs.inside.Routines.{body_entry, routine_size, routine_blocks, all_blocks, entry_from}
+use Rattle.hyper_build.specs.inside.Routines.{built}
+use Rattle.hyper_build.specs.inside.SmallIfs.{IsShortLeg, if_block}
+use Rattle.hyper_build.specs.inside.Smallness.{TestsJump, IsLittle}
 use Rattle.hyper_build.proofs.ItemLegs.{and_parts}
 
 abbrev AllLittle : List Block → Type 0

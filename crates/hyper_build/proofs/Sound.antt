@@ -3,33 +3,33 @@ use Rattle.std.proofs.Common.{◌≡◌, ℕ, suc, ◌+◌, ◌^◌, ◌<◌, �
 use Rattle.std.proofs.Common.{◌||◌, List, [], ◌∷◌, ◌++◌, map, length, Option, Some, None, refl, sym}
 use Rattle.std.proofs.Common.{subst, arith, inl, inr, nat_eq, slice_get, eq-eqb}
 use Rattle.std.specs.List.{concat}
-use Rattle.reg_assign.specs.Keeps.{is_among}
+use Rattle.reg_assign.specs.inside.Keeps.{is_among}
 use Rattle.std.proofs.lemmas.Bool.{cases_lt}
 use Rattle.ir_forms.specs.declared.flat.Arg.{Arg}
 use Rattle.ir_forms.specs.declared.flat.Arg.TheVariants as arg
 use Rattle.ir_forms.specs.declared.hyper.Exit.{Exit}
 use Rattle.ir_forms.specs.declared.hyper.Exit.TheVariants as exit
-use Rattle.ir_forms.specs.Frames.{register_of, frame_limit}
-use Rattle.ir_forms.specs.FlatFits.{FitsArg, FitsLastings, FitsResult, FitsReturn}
-use Rattle.ir_forms.specs.HyperCode.{Items, Done, Tail, Leave, Test, Block}
-use Rattle.ir_forms.specs.HyperFits.{FitsSource, FitsItems}
-use Rattle.ir_forms.specs.HyperRuns.{jump}
-use Rattle.hyper_build.specs.Tree.{Stmt, LetAt, FrameAt, LoadAt, SaveAt, CallAt, PutAt, GetAt, IfAt}
-use Rattle.hyper_build.specs.Tree.{LoopAt, BreakAt, ContinueAt, ReturnAt, Tree, End, ◌▸◌, Routine}
-use Rattle.hyper_build.specs.Tree.{is_saved}
-use Rattle.hyper_build.specs.Parts.{source, capped, cut, cut_blocks, cut_size, chain, chain_blocks}
-use Rattle.hyper_build.specs.Parts.{Move, moved, moved_blocks, moved_size}
-use Rattle.hyper_build.specs.Passing.{saving, restoring, argument_moves, argument_cuts}
-use Rattle.hyper_build.specs.Passing.{result_then}
-use Rattle.hyper_build.specs.Straight.{Place, in_loop, straight, items_in, items_of, is_item}
-use Rattle.hyper_build.specs.Legs.{exit_leg, label_or, leg_blocks, leg_size, is_loop_test, is_bare}
-use Rattle.hyper_build.specs.Legs.{post_exit, post_size}
-use Rattle.hyper_build.specs.Sizes.{arguments_size, size_in, size, test_size, turn_size, part_size}
-use Rattle.hyper_build.specs.Entries.{call_block, give, body_end, choose, entry_in}
-use Rattle.hyper_build.specs.Entries.{entry, test_entry, turn_entry}
-use Rattle.hyper_build.specs.Build.{blocks_in, blocks, test_blocks, turn_blocks}
-use Rattle.hyper_build.specs.World.{World}
-use Rattle.hyper_build.specs.Fits.{FitsCallAt, FitsStmt, FitsTree}
+use Rattle.ir_forms.specs.inside.Frames.{register_of, frame_limit}
+use Rattle.ir_forms.specs.inside.FlatFits.{FitsArg, FitsLastings, FitsResult, FitsReturn}
+use Rattle.ir_forms.specs.inside.HyperCode.{Items, Done, Tail, Leave, Test, Block}
+use Rattle.ir_forms.specs.inside.HyperFits.{FitsSource, FitsItems}
+use Rattle.ir_forms.specs.inside.HyperRuns.{jump}
+use Rattle.hyper_build.specs.inside.Tree.{Stmt, LetAt, FrameAt, LoadAt, SaveAt, CallAt, PutAt, GetAt, IfAt}
+use Rattle.hyper_build.specs.inside.Tree.{LoopAt, BreakAt, ContinueAt, ReturnAt, Tree, End, ◌▸◌, Routine}
+use Rattle.hyper_build.specs.inside.Tree.{is_saved}
+use Rattle.hyper_build.specs.inside.Parts.{source, capped, cut, cut_blocks, cut_size, chain, chain_blocks}
+use Rattle.hyper_build.specs.inside.Parts.{Move, moved, moved_blocks, moved_size}
+use Rattle.hyper_build.specs.inside.Passing.{saving, restoring, argument_moves, argument_cuts}
+use Rattle.hyper_build.specs.inside.Passing.{result_then}
+use Rattle.hyper_build.specs.inside.Straight.{Place, in_loop, straight, items_in, items_of, is_item}
+use Rattle.hyper_build.specs.inside.Legs.{exit_leg, label_or, leg_blocks, leg_size, is_loop_test, is_bare}
+use Rattle.hyper_build.specs.inside.Legs.{post_exit, post_size}
+use Rattle.hyper_build.specs.inside.Sizes.{arguments_size, size_in, size, test_size, turn_size, part_size}
+use Rattle.hyper_build.specs.inside.Entries.{call_block, give, body_end, choose, entry_in}
+use Rattle.hyper_build.specs.inside.Entries.{entry, test_entry, turn_entry}
+use Rattle.hyper_build.specs.inside.Build.{blocks_in, blocks, test_blocks, turn_blocks}
+use Rattle.hyper_build.specs.inside.World.{World}
+use Rattle.hyper_build.specs.inside.Fits.{FitsCallAt, FitsStmt, FitsTree}
 use Rattle.hyper_build.proofs.Registers.{lasting_below, register_lasting, register_scratch, or_left}
 use Rattle.hyper_build.proofs.Registers.{or_right, among_left, among_right}
 use Rattle.hyper_build.proofs.Simple.{variable_small}

@@ -2,21 +2,21 @@
 use Rattle.std.proofs.Common.{◌≡◌, ℕ, zero, suc, ◌+◌, ◌^◌, ◌<◌, ◌≤◌, false, List, [], ◌∷◌}
 use Rattle.std.proofs.Common.{length, Some, refl, subst, arith, slice_get}
 use Rattle.trips_isa.specs.Stores.{data_size}
-use Rattle.ir_forms.specs.Limits.{label_count}
+use Rattle.ir_forms.specs.inside.Limits.{label_count}
 use Rattle.ir_forms.specs.declared.hyper.Exit.{Exit}
 use Rattle.ir_forms.specs.declared.hyper.Exit.TheVariants as exit
-use Rattle.ir_forms.specs.Frames.{frame_limit}
-use Rattle.ir_forms.specs.HyperCode.{Tail, Leave, Test, Block}
-use Rattle.ir_forms.specs.HyperFits.{FitsExit, FitsTail, FitsHyper, LeadsOn, AllLeadOn, IsFollowed}
-use Rattle.hyper_build.specs.Tree.{Routine}
-use Rattle.hyper_build.specs.Parts.{cut_blocks, moved_blocks}
-use Rattle.hyper_build.specs.Passing.{parameter_moves, parameter_cuts}
-use Rattle.hyper_build.specs.Routines.{way_out, place_of, parameters_size, body_label}
-use Rattle.hyper_build.specs.Routines.{body_entry, to_body, routine_size, routine_blocks, entry_from}
-use Rattle.hyper_build.specs.Routines.{all_blocks, built}
-use Rattle.hyper_build.specs.World.{World}
-use Rattle.hyper_build.specs.Fits.{FitsRoutine}
-use Rattle.hyper_build.specs.Followed.{FollowedExit, FollowedTail, AreFollowed}
+use Rattle.ir_forms.specs.inside.Frames.{frame_limit}
+use Rattle.ir_forms.specs.inside.HyperCode.{Tail, Leave, Test, Block}
+use Rattle.ir_forms.specs.inside.HyperFits.{FitsExit, FitsTail, FitsHyper, LeadsOn, AllLeadOn, IsFollowed}
+use Rattle.hyper_build.specs.inside.Tree.{Routine}
+use Rattle.hyper_build.specs.inside.Parts.{cut_blocks, moved_blocks}
+use Rattle.hyper_build.specs.inside.Passing.{parameter_moves, parameter_cuts}
+use Rattle.hyper_build.specs.inside.Routines.{way_out, place_of, parameters_size, body_label}
+use Rattle.hyper_build.specs.inside.Routines.{body_entry, to_body, routine_size, routine_blocks, entry_from}
+use Rattle.hyper_build.specs.inside.Routines.{all_blocks, built}
+use Rattle.hyper_build.specs.inside.World.{World}
+use Rattle.hyper_build.specs.inside.Fits.{FitsRoutine}
+use Rattle.hyper_build.specs.inside.Followed.{FollowedExit, FollowedTail, AreFollowed}
 use Rattle.hyper_build.proofs.Sound.{SoundExit, SoundTail, Sound, AllSound, MovesFit, GoodPlace}
 use Rattle.hyper_build.proofs.Sound.{register_small, capped_word, sound_append, cut_sound, cuts_sound}
 use Rattle.hyper_build.proofs.Sound.{moved_sound, moves_sound, sound_tree}

@@ -2,9 +2,9 @@
 use Rattle.std.proofs.Common.{◌≡◌, true, false, None, refl}
 use Rattle.trips_isa.specs.declared.op.Op.TheVariants.{Mov}
 use Rattle.ir_forms.specs.declared.flat.Arg.{Arg}
-use Rattle.ir_forms.specs.FlatCode.{Let, Put, If, Break, Continue, Return, Nop, ◌▹◌}
-use Rattle.hyper_build.specs.Tree.{Plan, goes_on, annotated}
-use Rattle.hyper_build.specs.Sizes.{size}
+use Rattle.ir_forms.specs.inside.FlatCode.{Let, Put, If, Break, Continue, Return, Nop, ◌▹◌}
+use Rattle.hyper_build.specs.inside.Tree.{Plan, goes_on, annotated}
+use Rattle.hyper_build.specs.inside.Sizes.{size}
 
 -- nothing stands behind the last statement of a list
 nothing : goes_on Nop ≡ false

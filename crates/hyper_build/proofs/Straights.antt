@@ -10,30 +10,30 @@ use Rattle.trips_isa.specs.Stores.{is_good_address}
 use Rattle.ir_forms.specs.declared.flat.Arg.{Arg}
 use Rattle.ir_forms.specs.declared.hyper.Source.{Source}
 use Rattle.ir_forms.specs.declared.hyper.Source.TheVariants.{Const, Reg}
-use Rattle.trips_isa.specs.Acts.{Act, Accessed, divisions, is_clean}
-use Rattle.ir_forms.specs.Frames.{register_of, frame_limit}
-use Rattle.ir_forms.specs.Cells.{apply, load, save}
-use Rattle.ir_forms.specs.FlatSteps.{State, Res, Gone, Broke, Again, Gave, TooDeep, Unfinished, Wild}
-use Rattle.ir_forms.specs.FlatSteps.{Calls, read, turn, must, settle, with_var, with_memory}
-use Rattle.ir_forms.specs.FlatSteps.{chosen, then_run, act, exec}
+use Rattle.trips_isa.specs.inside.Acts.{Act, Accessed, divisions, is_clean}
+use Rattle.ir_forms.specs.inside.Frames.{register_of, frame_limit}
+use Rattle.ir_forms.specs.inside.Cells.{apply, load, save}
+use Rattle.ir_forms.specs.inside.FlatSteps.{State, Res, Gone, Broke, Again, Gave, TooDeep, Unfinished, Wild}
+use Rattle.ir_forms.specs.inside.FlatSteps.{Calls, read, turn, must, settle, with_var, with_memory}
+use Rattle.ir_forms.specs.inside.FlatSteps.{chosen, then_run, act, exec}
 use Rattle.ir_forms.specs.declared.hyper.Exit.TheVariants as exit
-use Rattle.ir_forms.specs.HyperCode.{Items, Done, Set, Load, Save, If, Leave, Test, Block}
-use Rattle.ir_forms.specs.HyperRuns.{Machine, Standing, Unclean, with_register, value_of, loaded, saved}
-use Rattle.ir_forms.specs.HyperRuns.{pick, after_items, acts, exit_of, leave, run, jump}
-use Rattle.ir_forms.specs.HyperRuns as machine
-use Rattle.hyper_build.specs.Tree.{Stmt, LetAt, FrameAt, LoadAt, SaveAt, CallAt, PutAt, GetAt, IfAt}
-use Rattle.hyper_build.specs.Tree.{LoopAt, BreakAt, ContinueAt, ReturnAt, Tree, End, ◌▸◌, Routine}
-use Rattle.hyper_build.specs.Tree.{plain_in, plain}
-use Rattle.hyper_build.specs.Parts.{source, capped, cut, cut_blocks, cut_size}
-use Rattle.hyper_build.specs.Straight.{Place, straight_in, straight, items_in, items_of, is_small_if, is_item}
-use Rattle.hyper_build.specs.Legs.{exit_leg, label_or, leg_blocks, leg_size}
-use Rattle.hyper_build.specs.Sizes.{size}
-use Rattle.hyper_build.specs.Entries.{choose, entry}
-use Rattle.hyper_build.specs.Build.{blocks}
-use Rattle.hyper_build.specs.World.{World, Has, Goes, Rel, Kept, IsFrame, slots, checks_of, env_in}
-use Rattle.hyper_build.specs.Follow.{Way, Next, Follows, ways_of}
-use Rattle.hyper_build.specs.Fits.{IsBuilt, FitsStmt, FitsTree, IsPlace}
-use Rattle.hyper_build.specs.Premises.{StmtDoes, AluGivesWords}
+use Rattle.ir_forms.specs.inside.HyperCode.{Items, Done, Set, Load, Save, If, Leave, Test, Block}
+use Rattle.ir_forms.specs.inside.HyperRuns.{Machine, Standing, Unclean, with_register, value_of, loaded, saved}
+use Rattle.ir_forms.specs.inside.HyperRuns.{pick, after_items, acts, exit_of, leave, run, jump}
+use Rattle.ir_forms.specs.inside.HyperRuns as machine
+use Rattle.hyper_build.specs.inside.Tree.{Stmt, LetAt, FrameAt, LoadAt, SaveAt, CallAt, PutAt, GetAt, IfAt}
+use Rattle.hyper_build.specs.inside.Tree.{LoopAt, BreakAt, ContinueAt, ReturnAt, Tree, End, ◌▸◌, Routine}
+use Rattle.hyper_build.specs.inside.Tree.{plain_in, plain}
+use Rattle.hyper_build.specs.inside.Parts.{source, capped, cut, cut_blocks, cut_size}
+use Rattle.hyper_build.specs.inside.Straight.{Place, straight_in, straight, items_in, items_of, is_small_if, is_item}
+use Rattle.hyper_build.specs.inside.Legs.{exit_leg, label_or, leg_blocks, leg_size}
+use Rattle.hyper_build.specs.inside.Sizes.{size}
+use Rattle.hyper_build.specs.inside.Entries.{choose, entry}
+use Rattle.hyper_build.specs.inside.Build.{blocks}
+use Rattle.hyper_build.specs.inside.World.{World, Has, Goes, Rel, Kept, IsFrame, slots, checks_of, env_in}
+use Rattle.hyper_build.specs.inside.Follow.{Way, Next, Follows, ways_of}
+use Rattle.hyper_build.specs.inside.Fits.{IsBuilt, FitsStmt, FitsTree, IsPlace}
+use Rattle.hyper_build.specs.inside.Premises.{StmtDoes, AluGivesWords}
 use Rattle.hyper_build.proofs.ItemLegs.{and_parts}
 use Rattle.hyper_build.proofs.Goes.{clean_append, goes_same, goes_then, goes_cut}
 use Rattle.hyper_build.proofs.Following.{kept_here, kept_then, must_follow}

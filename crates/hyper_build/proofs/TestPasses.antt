@@ -1,17 +1,17 @@
 -- What the two passes do at a statement of a loop's body, by whether it is the loop's test.
 use Rattle.std.proofs.Common.{◌≡◌, ℕ, ◌-◌, Bool, true, false, cond, ◌&&◌, sym, ap, ◌∙◌, refl}
 use Rattle.ir_forms.specs.declared.flat.Arg.{Arg}
-use Rattle.ir_forms.specs.FlatCode.{Step, If, Code}
-use Rattle.ir_forms.specs.FlatFits.{steps_in}
-use Rattle.ir_forms.specs.HyperRuns.{jump}
+use Rattle.ir_forms.specs.inside.FlatCode.{Step, If, Code}
+use Rattle.ir_forms.specs.inside.FlatFits.{steps_in}
+use Rattle.ir_forms.specs.inside.HyperRuns.{jump}
 use Rattle.hyper_build.specs.declared.numbering.Numbering.{Numbering}
-use Rattle.hyper_build.specs.Parts.{source, cut_size}
-use Rattle.hyper_build.specs.Merging.{merged, test_register}
-use Rattle.hyper_build.specs.Ground.{Ground, plan}
-use Rattle.hyper_build.specs.Backward.{Emission, cut_at, fall}
-use Rattle.hyper_build.specs.BackwardStatements.{leaving}
-use Rattle.hyper_build.specs.BackwardCode.{is_break_code, is_test_step, emit_in, emit, test_out, part_out}
-use Rattle.hyper_build.specs.Forward.{with_blocks, with_statement, number_in, number, number_test, number_part}
+use Rattle.hyper_build.specs.inside.Parts.{source, cut_size}
+use Rattle.hyper_build.specs.inside.Merging.{merged, test_register}
+use Rattle.hyper_build.specs.inside.Ground.{Ground, plan}
+use Rattle.hyper_build.specs.inside.Backward.{Emission, cut_at, fall}
+use Rattle.hyper_build.specs.inside.BackwardStatements.{leaving}
+use Rattle.hyper_build.specs.inside.BackwardCode.{is_break_code, is_test_step, emit_in, emit, test_out, part_out}
+use Rattle.hyper_build.specs.inside.Forward.{with_blocks, with_statement, number_in, number, number_test, number_part}
 
 -- what is not so makes both not so
 and_none : (a b : Bool) → b ≡ false → a && b ≡ false

@@ -6,22 +6,23 @@ use Rattle.std.proofs.lemmas.Option.{slice_get_within}
 use Rattle.std.proofs.Math.ListN.{length-replicate}
 use Rattle.trips_isa.specs.Stores.{data_size}
 use Rattle.trips_isa.specs.Machine.{memory_of}
-use Rattle.ir_forms.specs.Frames.{frames_at, frame_limit}
-use Rattle.ir_forms.specs.Cells.{Closed}
-use Rattle.ir_forms.specs.FlatSteps.{State, Res, Gone, Broke, Again, Gave, TooDeep, Unfinished, Wild}
-use Rattle.ir_forms.specs.FlatRuns.{first_memory, flat_run}
-use Rattle.ir_forms.specs.FlatRuns as flat
-use Rattle.ir_forms.specs.HyperCode.{Block}
-use Rattle.ir_forms.specs.HyperRuns.{Machine, Layout, Standing, Ended, with_register, run, start, hyper_run, block_at}
-use Rattle.hyper_build.specs.Tree.{Routine}
-use Rattle.hyper_build.specs.Passing.{parameter_moves, parameter_cuts}
-use Rattle.hyper_build.specs.Parts.{moved_size}
-use Rattle.hyper_build.specs.Routines.{parameters_size, routine_blocks, routine_size, entry_from, all_blocks}
-use Rattle.hyper_build.specs.Routines.{start_block, system_block, built}
-use Rattle.hyper_build.specs.World.{World, Has, Goes, Stack, AreBytes}
-use Rattle.hyper_build.specs.Follow.{Way, Next, Came, Follows}
-use Rattle.hyper_build.specs.Fits.{IsBuilt}
-use Rattle.hyper_build.specs.Whole.{world_of, flat_of, FitsWorld, Stops, EndsSo, WholeClaim}
+use Rattle.ir_forms.specs.inside.Frames.{frames_at, frame_limit}
+use Rattle.ir_forms.specs.inside.Cells.{Closed}
+use Rattle.ir_forms.specs.inside.FlatSteps.{State, Res, Gone, Broke, Again, Gave, TooDeep, Unfinished, Wild}
+use Rattle.ir_forms.specs.inside.FlatRuns.{first_memory, flat_run}
+use Rattle.ir_forms.specs.inside.FlatRuns as flat
+use Rattle.ir_forms.specs.inside.HyperCode.{Block}
+use Rattle.ir_forms.specs.inside.HyperRuns.{Machine, Layout, Standing, Ended, with_register, run, start, hyper_run}
+use Rattle.ir_forms.specs.inside.HyperRuns.{block_at}
+use Rattle.hyper_build.specs.inside.Tree.{Routine}
+use Rattle.hyper_build.specs.inside.Passing.{parameter_moves, parameter_cuts}
+use Rattle.hyper_build.specs.inside.Parts.{moved_size}
+use Rattle.hyper_build.specs.inside.Routines.{parameters_size, routine_blocks, routine_size, entry_from, all_blocks}
+use Rattle.hyper_build.specs.inside.Routines.{start_block, system_block, built}
+use Rattle.hyper_build.specs.inside.World.{World, Has, Goes, Stack, AreBytes}
+use Rattle.hyper_build.specs.inside.Follow.{Way, Next, Came, Follows}
+use Rattle.hyper_build.specs.inside.Fits.{IsBuilt}
+use Rattle.hyper_build.specs.inside.Whole.{world_of, flat_of, FitsWorld, Stops, EndsSo, WholeClaim}
 use Rattle.hyper_build.proofs.Goes.{goes_block}
 use Rattle.hyper_build.proofs.Following.{has_front, has_back}
 use Rattle.hyper_build.proofs.Follows.{length_routine}

@@ -1,13 +1,13 @@
 //! Whole programs.
 
 ghost use Rattle.std.specs.Prelude.{◌≡◌, ◌+◌, ◌∷◌, map, IfOk, OnOk};
-ghost use Rattle.ir_forms.specs.FlatViews.{function_of, program_of};
-ghost use Rattle.ir_forms.specs.HyperViews.{block_of, blocks_of};
-ghost use Rattle.ir_forms.specs.Frames as frames;
-ghost use Rattle.hyper_build.specs.Emitted.{out_of};
-ghost use Rattle.hyper_build.specs.Routines as routines;
-ghost use Rattle.hyper_build.specs.BackwardProgram as program;
-ghost use Rattle.hyper_build.specs.Laws.{plan_of, built_program};
+ghost use Rattle.ir_forms.specs.inside.FlatViews.{function_of, program_of};
+ghost use Rattle.ir_forms.specs.inside.HyperViews.{block_of, blocks_of};
+ghost use Rattle.ir_forms.specs.inside.Frames as frames;
+ghost use Rattle.hyper_build.specs.inside.Emitted.{out_of};
+ghost use Rattle.hyper_build.specs.inside.Routines as routines;
+ghost use Rattle.hyper_build.specs.inside.BackwardProgram as program;
+ghost use Rattle.hyper_build.specs.inside.Laws.{plan_of, built_program};
 
 use crate::counting::plus;
 use crate::emitting::Emitting;
@@ -46,7 +46,7 @@ fn frames_at(bytes: &[u8]) -> Result<u64, Memory>
 }
 
 /// Where they end.
-#[tactic(auto, unfolding(ir_forms::specs::Frames::frame_limit))]
+#[tactic(auto, unfolding(ir_forms::specs::inside::Frames::frame_limit))]
 fn frames_end(base: u64) -> Result<u64, Memory>
     ensures { IfOk result (λ n. n ≡ base + frames.frame_limit) }
 {

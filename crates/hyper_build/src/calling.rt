@@ -1,13 +1,13 @@
 //! Calls before what is put out.
 
 ghost use Rattle.std.specs.Prelude.{◌≡◌, ◌+◌, OnOk, IfOk};
-ghost use Rattle.ir_forms.specs.Frames.{argument_register};
-ghost use Rattle.hyper_build.specs.Passing.{saving, restoring, result_then};
-ghost use Rattle.hyper_build.specs.Passing as passing;
-ghost use Rattle.hyper_build.specs.Backward as back;
-ghost use Rattle.hyper_build.specs.BackwardStatements as code;
-ghost use Rattle.hyper_build.specs.Backward.{emission_of};
-ghost use Rattle.hyper_build.specs.Ground as ground;
+ghost use Rattle.ir_forms.specs.inside.Frames.{argument_register};
+ghost use Rattle.hyper_build.specs.inside.Passing.{saving, restoring, result_then};
+ghost use Rattle.hyper_build.specs.inside.Passing as passing;
+ghost use Rattle.hyper_build.specs.inside.Backward as back;
+ghost use Rattle.hyper_build.specs.inside.BackwardStatements as code;
+ghost use Rattle.hyper_build.specs.inside.Backward.{emission_of};
+ghost use Rattle.hyper_build.specs.inside.Ground as ground;
 
 use crate::emitting::{Emitting, cut, fall_call, put_move, put_out, put_rest};
 use crate::ground::Site;

@@ -1,13 +1,13 @@
 //! All statements before what is put out.
 
 ghost use Rattle.std.specs.Prelude.{◌≡◌, OnOk, IfOk, drop};
-ghost use Rattle.ir_forms.specs.FlatViews.{code_of, step_of};
-ghost use Rattle.hyper_build.specs.Backward as back;
-ghost use Rattle.hyper_build.specs.BackwardCode as code;
-ghost use Rattle.hyper_build.specs.Backward.{emission_of};
-ghost use Rattle.hyper_build.specs.BackwardStatements.{leaving};
-ghost use Rattle.hyper_build.specs.Emitted.{rest_of};
-ghost use Rattle.hyper_build.specs.Ground as ground;
+ghost use Rattle.ir_forms.specs.inside.FlatViews.{code_of, step_of};
+ghost use Rattle.hyper_build.specs.inside.Backward as back;
+ghost use Rattle.hyper_build.specs.inside.BackwardCode as code;
+ghost use Rattle.hyper_build.specs.inside.Backward.{emission_of};
+ghost use Rattle.hyper_build.specs.inside.BackwardStatements.{leaving};
+ghost use Rattle.hyper_build.specs.inside.Emitted.{rest_of};
+ghost use Rattle.hyper_build.specs.inside.Ground as ground;
 
 use crate::calling::{put_back, put_call};
 use crate::counting::{steps_in, steps_of};

@@ -1,11 +1,11 @@
 //! How many blocks cuts begin, and how many statements there are; sums that do not fit are want of memory.
 
 ghost use Rattle.std.specs.Prelude.{◌≡◌, ◌+◌, IfOk};
-ghost use Rattle.ir_forms.specs.FlatFits as flat;
-ghost use Rattle.ir_forms.specs.FlatViews.{code_of, step_of};
-ghost use Rattle.hyper_build.specs.Parts as parts;
-ghost use Rattle.hyper_build.specs.Passing as passing;
-ghost use Rattle.hyper_build.specs.Sizes as sizes;
+ghost use Rattle.ir_forms.specs.inside.FlatFits as flat;
+ghost use Rattle.ir_forms.specs.inside.FlatViews.{code_of, step_of};
+ghost use Rattle.hyper_build.specs.inside.Parts as parts;
+ghost use Rattle.hyper_build.specs.inside.Passing as passing;
+ghost use Rattle.hyper_build.specs.inside.Sizes as sizes;
 
 use crate::calling::argument_cuts;
 use crate::functions::parameter_cuts;

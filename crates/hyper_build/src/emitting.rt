@@ -2,9 +2,9 @@
 
 ghost use Rattle.std.specs.Prelude.{◌≡◌, ◌-◌, OnOk};
 ghost use Rattle.trips_isa.specs.declared.op.Op.TheVariants.{Mov};
-ghost use Rattle.hyper_build.specs.Emitted.{rest_of};
-ghost use Rattle.hyper_build.specs.Backward as back;
-ghost use Rattle.hyper_build.specs.Backward.{emission_of};
+ghost use Rattle.hyper_build.specs.inside.Emitted.{rest_of};
+ghost use Rattle.hyper_build.specs.inside.Backward as back;
+ghost use Rattle.hyper_build.specs.inside.Backward.{emission_of};
 
 use crate::rest::{Rest, closed, jump, put_set};
 use base::{Items, Memory};

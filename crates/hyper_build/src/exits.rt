@@ -1,10 +1,10 @@
 //! Code that has no block of its own, and where it leads.
 
 ghost use Rattle.std.specs.Prelude.{◌≡◌, drop};
-ghost use Rattle.ir_forms.specs.FlatViews.{code_of, step_of};
-ghost use Rattle.hyper_build.specs.Tree as tree;
-ghost use Rattle.hyper_build.specs.Legs.{label_or};
-ghost use Rattle.hyper_build.specs.BackwardCode as code;
+ghost use Rattle.ir_forms.specs.inside.FlatViews.{code_of, step_of};
+ghost use Rattle.hyper_build.specs.inside.Tree as tree;
+ghost use Rattle.hyper_build.specs.inside.Legs.{label_or};
+ghost use Rattle.hyper_build.specs.inside.BackwardCode as code;
 
 use ir_forms::FlatStmt;
 

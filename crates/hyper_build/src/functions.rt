@@ -1,13 +1,13 @@
 //! Functions before what is put out.
 
 ghost use Rattle.std.specs.Prelude.{◌≡◌, map, OnOk, IfOk};
-ghost use Rattle.ir_forms.specs.FlatViews.{code_of, function_of};
-ghost use Rattle.ir_forms.specs.Frames as frames;
-ghost use Rattle.hyper_build.specs.Passing as passing;
-ghost use Rattle.hyper_build.specs.BackwardStatements as statements;
-ghost use Rattle.hyper_build.specs.BackwardProgram as program;
-ghost use Rattle.hyper_build.specs.Backward.{emission_of};
-ghost use Rattle.hyper_build.specs.Emitted.{rest_of};
+ghost use Rattle.ir_forms.specs.inside.FlatViews.{code_of, function_of};
+ghost use Rattle.ir_forms.specs.inside.Frames as frames;
+ghost use Rattle.hyper_build.specs.inside.Passing as passing;
+ghost use Rattle.hyper_build.specs.inside.BackwardStatements as statements;
+ghost use Rattle.hyper_build.specs.inside.BackwardProgram as program;
+ghost use Rattle.hyper_build.specs.inside.Backward.{emission_of};
+ghost use Rattle.hyper_build.specs.inside.Emitted.{rest_of};
 
 use crate::calling::argument_at;
 use crate::code::put_stmts;

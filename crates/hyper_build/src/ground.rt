@@ -1,8 +1,8 @@
 //! What emission knows of a function and its program.
 
 ghost use Rattle.std.specs.Prelude.{◌≡◌, MatchOption, [], IfOk};
-ghost use Rattle.hyper_build.specs.Laws.{cuts_by, joins_by, groups_by};
-ghost use Rattle.hyper_build.specs.Ground.{entry_at};
+ghost use Rattle.hyper_build.specs.inside.Laws.{cuts_by, joins_by, groups_by};
+ghost use Rattle.hyper_build.specs.inside.Ground.{entry_at};
 
 use crate::plan::{CutPlan, is_cut, is_joined};
 use base::Items;
@@ -20,7 +20,7 @@ pub struct Site<'a> {
 }
 
 impl<'a> Model for Site<'a> {
-    ghost use Rattle.hyper_build.specs.Ground.{Ground};
+    ghost use Rattle.hyper_build.specs.inside.Ground.{Ground};
 
     ghost Value = { Ground };
 

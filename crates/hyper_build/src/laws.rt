@@ -1,11 +1,11 @@
-ghost use Rattle.hyper_build.specs.CallsClaim.{CallsClaim};
-ghost use Rattle.hyper_build.specs.Followed.{FollowedClaim};
-ghost use Rattle.hyper_build.specs.Laws.{BuildGivesBlocks, BuildKeepsMeaning, KeepsSmallIfs};
-ghost use Rattle.hyper_build.specs.Laws.{GivesAssigned, KeepsAssigned};
-ghost use Rattle.hyper_build.specs.Smallness.{AssignedAreLittle, CutBlocksAreLittle};
-ghost use Rattle.hyper_build.specs.Annotated.{PlainClaim};
-ghost use Rattle.hyper_build.specs.Reached.{EmissionPutsBlocks};
-ghost use Rattle.hyper_build.specs.BackwardProgram.{EmissionBuilds};
+ghost use Rattle.hyper_build.specs.inside.CallsClaim.{CallsClaim};
+ghost use Rattle.hyper_build.specs.inside.Followed.{FollowedClaim};
+ghost use Rattle.hyper_build.specs.inside.Laws.{BuildGivesBlocks, BuildKeepsMeaning, KeepsSmallIfs};
+ghost use Rattle.hyper_build.specs.inside.Laws.{GivesAssigned, KeepsAssigned};
+ghost use Rattle.hyper_build.specs.inside.Smallness.{AssignedAreLittle, CutBlocksAreLittle};
+ghost use Rattle.hyper_build.specs.inside.Annotated.{PlainClaim};
+ghost use Rattle.hyper_build.specs.inside.Reached.{EmissionPutsBlocks};
+ghost use Rattle.hyper_build.specs.inside.BackwardProgram.{EmissionBuilds};
 
 /// Calls of a built program do what the flat program's calls do, in all their endings.
 pub fn calls_follow()

@@ -1,16 +1,16 @@
 //! Loops' tests, with which the rest of the block goes on.
 
 ghost use Rattle.std.specs.Prelude.{◌≡◌, ◌&&◌, OnOk, IfOk, drop};
-ghost use Rattle.ir_forms.specs.FlatFits as flat;
-ghost use Rattle.ir_forms.specs.FlatViews.{code_of};
-ghost use Rattle.ir_forms.specs.HyperViews.{tail_of};
-ghost use Rattle.ir_forms.specs.HyperRuns as hyper;
-ghost use Rattle.hyper_build.specs.Backward.{emission_of};
-ghost use Rattle.hyper_build.specs.BackwardCode as code;
-ghost use Rattle.hyper_build.specs.BackwardStatements.{leaving};
-ghost use Rattle.hyper_build.specs.Emitted.{rest_of};
-ghost use Rattle.hyper_build.specs.Merging as merging;
-ghost use Rattle.hyper_build.specs.Parts as parts;
+ghost use Rattle.ir_forms.specs.inside.FlatFits as flat;
+ghost use Rattle.ir_forms.specs.inside.FlatViews.{code_of};
+ghost use Rattle.ir_forms.specs.inside.HyperViews.{tail_of};
+ghost use Rattle.ir_forms.specs.inside.HyperRuns as hyper;
+ghost use Rattle.hyper_build.specs.inside.Backward.{emission_of};
+ghost use Rattle.hyper_build.specs.inside.BackwardCode as code;
+ghost use Rattle.hyper_build.specs.inside.BackwardStatements.{leaving};
+ghost use Rattle.hyper_build.specs.inside.Emitted.{rest_of};
+ghost use Rattle.hyper_build.specs.inside.Merging as merging;
+ghost use Rattle.hyper_build.specs.inside.Parts as parts;
 
 use crate::emitting::{Emitting, fall, put_rest};
 use crate::exits::exit_of;

@@ -1,10 +1,10 @@
 //! Numbers of blocks, statements and calls, forward, with the notes of the loops.
 
 ghost use Rattle.std.specs.Prelude.{◌≡◌, ◌+◌, ◌-◌, ◌++◌, ◌∷◌, [], map, IfOk, OnOk};
-ghost use Rattle.ir_forms.specs.FlatViews.{code_of, step_of, function_of};
-ghost use Rattle.hyper_build.specs.Parts as parts;
-ghost use Rattle.hyper_build.specs.Ground as ground;
-ghost use Rattle.hyper_build.specs.Forward as forward;
+ghost use Rattle.ir_forms.specs.inside.FlatViews.{code_of, step_of, function_of};
+ghost use Rattle.hyper_build.specs.inside.Parts as parts;
+ghost use Rattle.hyper_build.specs.inside.Ground as ground;
+ghost use Rattle.hyper_build.specs.inside.Forward as forward;
 
 use crate::counting::{
     arguments_size, cut_size, narrow, parameters_size, plus, steps_in, steps_of,

@@ -1,10 +1,10 @@
 //! Registers, slots and operands.
 
 ghost use Rattle.std.specs.Prelude.{◌≡◌, [], ◌∷◌, IfOk, OnOk};
-ghost use Rattle.ir_forms.specs.Frames as frames;
-ghost use Rattle.hyper_build.specs.Parts as parts;
-ghost use Rattle.hyper_build.specs.Passing as passing;
-ghost use Rattle.hyper_build.specs.Emitted.{rest_of};
+ghost use Rattle.ir_forms.specs.inside.Frames as frames;
+ghost use Rattle.hyper_build.specs.inside.Parts as parts;
+ghost use Rattle.hyper_build.specs.inside.Passing as passing;
+ghost use Rattle.hyper_build.specs.inside.Emitted.{rest_of};
 
 use crate::rest::{Rest, put_load, put_save, put_set};
 use base::Memory;
@@ -38,7 +38,7 @@ fn slot_of(v: u16) -> u64
 }
 
 /// A number of bytes as a constant of the code.
-#[tactic(auto, unfolding(ir_forms::specs::Frames::frame_limit))]
+#[tactic(auto, unfolding(ir_forms::specs::inside::Frames::frame_limit))]
 pub fn capped(n: u64) -> u64
     ensures { result ≡ parts.capped n }
 {

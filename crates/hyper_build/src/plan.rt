@@ -1,5 +1,5 @@
 ghost use Rattle.std.specs.Prelude.{◌≡◌, [], IfOk};
-ghost use Rattle.hyper_build.specs.Laws.{cuts_by, joins_by};
+ghost use Rattle.hyper_build.specs.inside.Laws.{cuts_by, joins_by};
 
 use base::{Items, Memory};
 use reg_assign::Assigned;

@@ -1,9 +1,9 @@
 //! The last parts of loops, and whether they have blocks of their own.
 
 ghost use Rattle.std.specs.Prelude.{◌≡◌, ◌&&◌, not};
-ghost use Rattle.ir_forms.specs.FlatViews.{code_of, step_of};
-ghost use Rattle.hyper_build.specs.Legs as legs;
-ghost use Rattle.hyper_build.specs.BackwardCode as code;
+ghost use Rattle.ir_forms.specs.inside.FlatViews.{code_of, step_of};
+ghost use Rattle.hyper_build.specs.inside.Legs as legs;
+ghost use Rattle.hyper_build.specs.inside.BackwardCode as code;
 
 use crate::straight::{both, either, is_no_leg};
 use ir_forms::FlatStmt;

@@ -1,10 +1,10 @@
 //! The rest of a block, to which items are put in front.
 
 ghost use Rattle.std.specs.Prelude.{◌≡◌, OnOk};
-ghost use Rattle.ir_forms.specs.HyperViews.{block_of};
-ghost use Rattle.ir_forms.specs.HyperRuns as hyper;
-ghost use Rattle.hyper_build.specs.Parts.{set_then, load_then, save_then};
-ghost use Rattle.hyper_build.specs.Emitted.{rest_of};
+ghost use Rattle.ir_forms.specs.inside.HyperViews.{block_of};
+ghost use Rattle.ir_forms.specs.inside.HyperRuns as hyper;
+ghost use Rattle.hyper_build.specs.inside.Parts.{set_then, load_then, save_then};
+ghost use Rattle.hyper_build.specs.inside.Emitted.{rest_of};
 
 use base::{Items, Memory};
 use ir_forms::{Exit, HyperBlock, HyperItem, Source, Tail};

@@ -1,13 +1,13 @@
 //! Single statements before what is put out.
 
 ghost use Rattle.std.specs.Prelude.{◌≡◌, ◌-◌, OnOk, IfOk, Some, None};
-ghost use Rattle.ir_forms.specs.HyperRuns as hyper;
-ghost use Rattle.hyper_build.specs.Entries as entries;
-ghost use Rattle.hyper_build.specs.Backward as back;
-ghost use Rattle.hyper_build.specs.BackwardStatements as code;
-ghost use Rattle.hyper_build.specs.Backward.{emission_of};
-ghost use Rattle.hyper_build.specs.Emitted.{rest_of};
-ghost use Rattle.hyper_build.specs.Ground as ground;
+ghost use Rattle.ir_forms.specs.inside.HyperRuns as hyper;
+ghost use Rattle.hyper_build.specs.inside.Entries as entries;
+ghost use Rattle.hyper_build.specs.inside.Backward as back;
+ghost use Rattle.hyper_build.specs.inside.BackwardStatements as code;
+ghost use Rattle.hyper_build.specs.inside.Backward.{emission_of};
+ghost use Rattle.hyper_build.specs.inside.Emitted.{rest_of};
+ghost use Rattle.hyper_build.specs.inside.Ground as ground;
 
 use crate::emitting::{Emitting, cut, fall, fall_by, put_move, put_out, put_rest};
 use crate::ground::Site;

@@ -1,14 +1,14 @@
 //! Code that is items alone.
 
 ghost use Rattle.std.specs.Prelude.{◌≡◌, ◌&&◌, ◌||◌, OnOk};
-ghost use Rattle.ir_forms.specs.FlatCode.{◌▹◌, Nop};
-ghost use Rattle.ir_forms.specs.FlatFits as flat;
-ghost use Rattle.ir_forms.specs.FlatViews.{code_of, step_of};
-ghost use Rattle.ir_forms.specs.HyperViews.{items_of};
-ghost use Rattle.hyper_build.specs.Parts as parts;
-ghost use Rattle.hyper_build.specs.BackwardItems as code;
-ghost use Rattle.hyper_build.specs.Straight as annotated;
-ghost use Rattle.hyper_build.specs.Emitted.{rest_of};
+ghost use Rattle.ir_forms.specs.inside.FlatCode.{◌▹◌, Nop};
+ghost use Rattle.ir_forms.specs.inside.FlatFits as flat;
+ghost use Rattle.ir_forms.specs.inside.FlatViews.{code_of, step_of};
+ghost use Rattle.ir_forms.specs.inside.HyperViews.{items_of};
+ghost use Rattle.hyper_build.specs.inside.Parts as parts;
+ghost use Rattle.hyper_build.specs.inside.BackwardItems as code;
+ghost use Rattle.hyper_build.specs.inside.Straight as annotated;
+ghost use Rattle.hyper_build.specs.inside.Emitted.{rest_of};
 
 use crate::operands::{capped, register_of, source};
 use crate::rest::{Rest, closed, jump, put_load, put_save, put_set};

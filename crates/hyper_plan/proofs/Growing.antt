@@ -2,7 +2,7 @@
 use Rattle.std.proofs.Common.{◌≡◌, ℕ, zero, suc, Bool, true, List, [], ◌∷◌, ◌++◌, length, refl, ap}
 use Rattle.std.specs.Prelude.{slice_set, ◌==◌}
 use Rattle.std.proofs.lemmas.Bool.{and_parts, and_from}
-use Rattle.hyper_plan.specs.Answers.{only_cuts}
+use Rattle.hyper_plan.specs.inside.Answers.{only_cuts}
 
 -- a cut behind others
 pub only_pushed : (cs : List Bool) (c : Bool) → c ≡ true → only_cuts cs ≡ true → only_cuts (cs ++ (c ∷ [])) ≡ true

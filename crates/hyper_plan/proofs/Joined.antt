@@ -3,8 +3,8 @@ use Rattle.std.proofs.Common.{◌≡◌, ℕ, zero, suc, ◌+◌, ◌<◌, ◌�
 use Rattle.std.proofs.Common.{refl, sym, ap, subst, ◌∙◌, arith}
 use Rattle.std.proofs.lemmas.List.{take_all}
 use Rattle.ir_forms.specs.declared.flat.FlatFunc.{FlatFunc}
-use Rattle.ir_forms.specs.FlatViews.{function_of}
-use Rattle.hyper_plan.specs.Answers.{AreAnswers, AreAnswersOf, none, more}
+use Rattle.ir_forms.specs.inside.FlatViews.{function_of}
+use Rattle.hyper_plan.specs.inside.Answers.{AreAnswers, AreAnswersOf, none, more}
 
 -- no function
 pub no_answers : (rooms : List ℕ) (fs : List FlatFunc) (cs : List Bool) → cs ≡ []

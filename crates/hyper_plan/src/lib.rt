@@ -1,6 +1,6 @@
 //! Plans that put as much into each block as it has room for.
 //!
-//! `specs/Answers.antt` says what is known of every plan. How well it is chosen is a matter of speed alone:
+//! `specs/inside/Answers.antt` says what is known of every plan. How well it is chosen is a matter of speed alone:
 //! the program of a flat program means the same for every plan.
 #![tactic(auto)]
 

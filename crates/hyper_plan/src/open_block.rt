@@ -4,7 +4,7 @@
 //! host's stack.
 
 ghost use Rattle.std.specs.Prelude.{◌≡◌, ◌+◌, length, true, OnOk};
-ghost use Rattle.hyper_plan.specs.Answers.{only_cuts};
+ghost use Rattle.hyper_plan.specs.inside.Answers.{only_cuts};
 
 use crate::estimate::Estimate;
 use crate::items::{Frame, add_result, add_return, add_statement};

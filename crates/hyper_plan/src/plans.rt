@@ -1,8 +1,8 @@
 //! The answers of all functions.
 
 ghost use Rattle.std.specs.Prelude.{◌≡◌, IfOk, get_or};
-ghost use Rattle.ir_forms.specs.FlatViews.{function_of, program_of};
-ghost use Rattle.hyper_plan.specs.Answers.{AreAnswersOf, AreAnswers};
+ghost use Rattle.ir_forms.specs.inside.FlatViews.{function_of, program_of};
+ghost use Rattle.hyper_plan.specs.inside.Answers.{AreAnswersOf, AreAnswers};
 
 use crate::estimate::Estimate;
 use crate::items::{add_way_in, frame_of};

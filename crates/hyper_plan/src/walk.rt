@@ -5,9 +5,9 @@
 //! host's stack.
 
 ghost use Rattle.std.specs.Prelude.{◌≡◌, ◌+◌, length, true, OnOk};
-ghost use Rattle.ir_forms.specs.FlatFits.{steps_in, steps_of};
-ghost use Rattle.ir_forms.specs.FlatViews.{code_of, step_of};
-ghost use Rattle.hyper_plan.specs.Answers.{only_cuts};
+ghost use Rattle.ir_forms.specs.inside.FlatFits.{steps_in, steps_of};
+ghost use Rattle.ir_forms.specs.inside.FlatViews.{code_of, step_of};
+ghost use Rattle.hyper_plan.specs.inside.Answers.{only_cuts};
 
 use crate::estimate::Estimate;
 use crate::if_items::{add_item, add_items, are_items, is_break, is_small_if};

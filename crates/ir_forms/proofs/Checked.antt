@@ -9,19 +9,19 @@ use Rattle.trips_isa.specs.Stores.{is_good_address}
 use Rattle.ir_forms.specs.declared.flat.Arg.{Arg}
 use Rattle.ir_forms.specs.declared.flat.Arg.TheVariants.{Const, Var}
 use Rattle.trips_isa.specs.Faults.{is_bad_divisor}
-use Rattle.ir_forms.specs.FlatCode.{Step, Let, Frame, Load, Save, Call, Put, Get, If, Loop, Break}
-use Rattle.ir_forms.specs.FlatCode.{Continue, Return, Code, Nop, ◌▹◌, Function}
-use Rattle.ir_forms.specs.Frames.{frames_at, frame_limit, frame_of, arrays_at}
-use Rattle.ir_forms.specs.Cells.{Memory, Checks, breach, provided, all_held, all_open, number_at}
-use Rattle.ir_forms.specs.Cells.{number_put, apply, load, save}
-use Rattle.ir_forms.specs.FlatSteps.{State, Env, Res, Gone, Broke, Again, Gave, TooDeep, Unfinished}
-use Rattle.ir_forms.specs.FlatSteps.{Wild, unfinished, settle, turn, ten_turns, must, then_run}
-use Rattle.ir_forms.specs.FlatSteps.{if_set, read, beside, read_all, with_var, with_memory}
-use Rattle.ir_forms.specs.FlatSteps.{with_output, with_next, counted, after_post, after_body}
-use Rattle.ir_forms.specs.FlatSteps.{loop_turns, Calls, after_call, return_of, chosen, act, exec}
-use Rattle.ir_forms.specs.FlatRuns.{closing, env_of, begun, enter, enter_if, calls_within, flat_run}
-use Rattle.ir_forms.specs.FlatRuns.{start}
-use Rattle.ir_forms.specs.Laws.{Weaker, Agrees, ChecksChangeNothing}
+use Rattle.ir_forms.specs.inside.FlatCode.{Step, Let, Frame, Load, Save, Call, Put, Get, If, Loop, Break}
+use Rattle.ir_forms.specs.inside.FlatCode.{Continue, Return, Code, Nop, ◌▹◌, Function}
+use Rattle.ir_forms.specs.inside.Frames.{frames_at, frame_limit, frame_of, arrays_at}
+use Rattle.ir_forms.specs.inside.Cells.{Memory, Checks, breach, provided, all_held, all_open, number_at}
+use Rattle.ir_forms.specs.inside.Cells.{number_put, apply, load, save}
+use Rattle.ir_forms.specs.inside.FlatSteps.{State, Env, Res, Gone, Broke, Again, Gave, TooDeep, Unfinished}
+use Rattle.ir_forms.specs.inside.FlatSteps.{Wild, unfinished, settle, turn, ten_turns, must, then_run}
+use Rattle.ir_forms.specs.inside.FlatSteps.{if_set, read, beside, read_all, with_var, with_memory}
+use Rattle.ir_forms.specs.inside.FlatSteps.{with_output, with_next, counted, after_post, after_body}
+use Rattle.ir_forms.specs.inside.FlatSteps.{loop_turns, Calls, after_call, return_of, chosen, act, exec}
+use Rattle.ir_forms.specs.inside.FlatRuns.{closing, env_of, begun, enter, enter_if, calls_within, flat_run}
+use Rattle.ir_forms.specs.inside.FlatRuns.{start}
+use Rattle.ir_forms.specs.inside.Laws.{Weaker, Agrees, ChecksChangeNothing}
 
 -- the first is none, or both are the same
 abbrev Below : {A : Type 0} → Option A → Option A → Type 0

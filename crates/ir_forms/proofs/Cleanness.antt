@@ -2,12 +2,12 @@
 use Rattle.std.proofs.Common.{ℕ, zero, suc, ◌%◌, Bool, true, false, cond, List, [], ◌∷◌, ◌++◌, refl}
 use Rattle.std.specs.Prelude.{not, nat_eq}
 use Rattle.ir_forms.specs.declared.hyper.Exit.{Exit}
-use Rattle.trips_isa.specs.Acts.{is_clean}
-use Rattle.ir_forms.specs.HyperCode.{Block}
-use Rattle.ir_forms.specs.HyperRuns.{Machine, Layout, Standing, Running, Ended, Full, Unclean}
-use Rattle.ir_forms.specs.HyperRuns.{after_items, acts, exit_of, leaving, next_label, is_system}
-use Rattle.ir_forms.specs.HyperRuns.{with_next, system, block_at, leave, run, start, hyper_run}
-use Rattle.ir_forms.specs.Laws.{StandsAs, CleanChangesNothing}
+use Rattle.trips_isa.specs.inside.Acts.{is_clean}
+use Rattle.ir_forms.specs.inside.HyperCode.{Block}
+use Rattle.ir_forms.specs.inside.HyperRuns.{Machine, Layout, Standing, Running, Ended, Full, Unclean}
+use Rattle.ir_forms.specs.inside.HyperRuns.{after_items, acts, exit_of, leaving, next_label, is_system}
+use Rattle.ir_forms.specs.inside.HyperRuns.{with_next, system, block_at, leave, run, start, hyper_run}
+use Rattle.ir_forms.specs.inside.Laws.{StandsAs, CleanChangesNothing}
 
 same : (q : Standing) → StandsAs q q
 same (Running out) = refl

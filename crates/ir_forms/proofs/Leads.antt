@@ -1,7 +1,7 @@
 -- Runs of the flat form without their bounds: what a run does after some turns, for all bounds that
 -- suffice.
 use Rattle.std.proofs.Common.{◌≡◌, ℕ, ◌+◌, ◌<◌, ◌≤◌, List, refl, ◌∙◌, arith}
-use Rattle.ir_forms.specs.FlatSteps.{Res, Unfinished}
+use Rattle.ir_forms.specs.inside.FlatSteps.{Res, Unfinished}
 
 -- a run, by what bounds its calls, what bounds its loop, and the turns that are left
 abbrev pub Run : Type 0

@@ -17,19 +17,19 @@ use Rattle.ir_forms.specs.declared.flow.FlowSource.TheVariants.{Read, Node}
 use Rattle.ir_forms.specs.declared.flow.Guard.{Guard}
 use Rattle.ir_forms.specs.declared.flow.FlowNode.{FlowNode}
 use Rattle.ir_forms.specs.declared.flow.FlowBlock.{FlowBlock}
-use Rattle.trips_isa.specs.Acts.{Divided}
-use Rattle.ir_forms.specs.FlatCode.{Step, Let, Frame, Load, Save, Call, Put, Get, If, Loop, Break}
-use Rattle.ir_forms.specs.FlatCode.{Continue, Return, Code, Nop, ◌▹◌, Function, Program}
-use Rattle.ir_forms.specs.FlatViews.{stays}
-use Rattle.ir_forms.specs.Frames.{frame_limit, frames_at, register_of, slot_of}
-use Rattle.ir_forms.specs.Cells.{Checks, apply, load, save, marked}
-use Rattle.ir_forms.specs.FlatSteps.{Res, Gone, Broke, Again, Gave, TooDeep, Unfinished, Wild}
-use Rattle.ir_forms.specs.FlatRuns.{first_memory, flat_run, checked, unchecked, only_tame}
-use Rattle.ir_forms.specs.FlatRuns.{only_clean}
-use Rattle.ir_forms.specs.HyperCode as hyper
-use Rattle.ir_forms.specs.HyperRuns.{Machine, Standing, Running, Ended, Unclean, labels_alone}
-use Rattle.ir_forms.specs.HyperRuns.{block_at, run}
-use Rattle.ir_forms.specs.FlowRuns.{AtStart, written, exits, fired, count, inst_of}
+use Rattle.trips_isa.specs.inside.Acts.{Divided}
+use Rattle.ir_forms.specs.inside.FlatCode.{Step, Let, Frame, Load, Save, Call, Put, Get, If, Loop, Break}
+use Rattle.ir_forms.specs.inside.FlatCode.{Continue, Return, Code, Nop, ◌▹◌, Function, Program}
+use Rattle.ir_forms.specs.inside.FlatViews.{stays}
+use Rattle.ir_forms.specs.inside.Frames.{frame_limit, frames_at, register_of, slot_of}
+use Rattle.ir_forms.specs.inside.Cells.{Checks, apply, load, save, marked}
+use Rattle.ir_forms.specs.inside.FlatSteps.{Res, Gone, Broke, Again, Gave, TooDeep, Unfinished, Wild}
+use Rattle.ir_forms.specs.inside.FlatRuns.{first_memory, flat_run, checked, unchecked, only_tame}
+use Rattle.ir_forms.specs.inside.FlatRuns.{only_clean}
+use Rattle.ir_forms.specs.inside.HyperCode as hyper
+use Rattle.ir_forms.specs.inside.HyperRuns.{Machine, Standing, Running, Ended, Unclean, labels_alone}
+use Rattle.ir_forms.specs.inside.HyperRuns.{block_at, run}
+use Rattle.ir_forms.specs.inside.FlowRuns.{AtStart, written, exits, fired, count, inst_of}
 
 -- FLAT
 

@@ -6,15 +6,15 @@ use Rattle.std.specs.Prelude.{nat_lt}
 use Rattle.std.proofs.lemmas.Bool.Decides.{nat_tests}
 use Rattle.trips_isa.specs.declared.op.Op.{Op}
 use Rattle.ir_forms.specs.declared.flat.Arg.{Arg}
-use Rattle.ir_forms.specs.FlatCode.{Step, Let, Frame, Load, Save, Call, Put, Get, If, Loop, Break}
-use Rattle.ir_forms.specs.FlatCode.{Continue, Return, Code, Nop, ◌▹◌, Then, only, Function}
-use Rattle.ir_forms.specs.Cells.{Memory, Checks, apply, load, save}
-use Rattle.ir_forms.specs.FlatSteps.{State, Env, Res, Gone, Broke, Again, Gave, TooDeep, Unfinished}
-use Rattle.ir_forms.specs.FlatSteps.{Wild, unfinished, settle, ten_turns, must, then_run, read}
-use Rattle.ir_forms.specs.FlatSteps.{read_all, with_var, with_memory, with_output, with_next}
-use Rattle.ir_forms.specs.FlatSteps.{counted, after_post, after_body, loop_turns, Calls, after_call}
-use Rattle.ir_forms.specs.FlatSteps.{chosen, act, exec}
-use Rattle.ir_forms.specs.FlatRuns.{calls_within}
+use Rattle.ir_forms.specs.inside.FlatCode.{Step, Let, Frame, Load, Save, Call, Put, Get, If, Loop, Break}
+use Rattle.ir_forms.specs.inside.FlatCode.{Continue, Return, Code, Nop, ◌▹◌, Then, only, Function}
+use Rattle.ir_forms.specs.inside.Cells.{Memory, Checks, apply, load, save}
+use Rattle.ir_forms.specs.inside.FlatSteps.{State, Env, Res, Gone, Broke, Again, Gave, TooDeep, Unfinished}
+use Rattle.ir_forms.specs.inside.FlatSteps.{Wild, unfinished, settle, ten_turns, must, then_run, read}
+use Rattle.ir_forms.specs.inside.FlatSteps.{read_all, with_var, with_memory, with_output, with_next}
+use Rattle.ir_forms.specs.inside.FlatSteps.{counted, after_post, after_body, loop_turns, Calls, after_call}
+use Rattle.ir_forms.specs.inside.FlatSteps.{chosen, act, exec}
+use Rattle.ir_forms.specs.inside.FlatRuns.{calls_within}
 use Rattle.ir_forms.proofs.Leads.{Run, Leads, Stops, Moves, Waits}
 
 -- RESULTS

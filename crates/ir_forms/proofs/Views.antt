@@ -16,11 +16,11 @@ use Rattle.ir_forms.specs.declared.hyper.Tail as declared
 use Rattle.ir_forms.specs.declared.hyper.Tail.{roll-Tail, fold-Tail, fold-roll-Tail, map-Tail}
 use Rattle.ir_forms.specs.declared.hyper.Tail.TheVariants as tail
 use Rattle.ir_forms.specs.declared.hyper.Tail.TheOpen.{Tail-F}
-use Rattle.ir_forms.specs.FlatCode.{Step, Let, Frame, Load, Save, Call, Put, Get, If, Loop, Break}
-use Rattle.ir_forms.specs.FlatCode.{Continue, Return, ◌▹◌, Then}
-use Rattle.ir_forms.specs.FlatViews.{stays, step_by, step_of, code_of}
-use Rattle.ir_forms.specs.HyperCode as hyper
-use Rattle.ir_forms.specs.HyperViews.{Before, before_by, then_items, items_of, tail_by, tail_of}
+use Rattle.ir_forms.specs.inside.FlatCode.{Step, Let, Frame, Load, Save, Call, Put, Get, If, Loop, Break}
+use Rattle.ir_forms.specs.inside.FlatCode.{Continue, Return, ◌▹◌, Then}
+use Rattle.ir_forms.specs.inside.FlatViews.{stays, step_by, step_of, code_of}
+use Rattle.ir_forms.specs.inside.HyperCode as hyper
+use Rattle.ir_forms.specs.inside.HyperViews.{Before, before_by, then_items, items_of, tail_by, tail_of}
 
 -- STATEMENTS
 

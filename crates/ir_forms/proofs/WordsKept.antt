@@ -12,12 +12,12 @@ use Rattle.ir_forms.specs.declared.hyper.Source.{Source}
 use Rattle.ir_forms.specs.declared.hyper.Source.TheVariants.{Const, Reg}
 use Rattle.ir_forms.specs.declared.hyper.Exit.{Exit}
 use Rattle.ir_forms.specs.declared.hyper.Exit.TheVariants as exit
-use Rattle.ir_forms.specs.HyperCode.{Items, Done, Set, Load, Save, If}
-use Rattle.ir_forms.specs.HyperFits.{FitsSource, FitsItems}
-use Rattle.ir_forms.specs.HyperRuns.{Machine, Layout, with_register, with_memory, value_of, number_in}
-use Rattle.ir_forms.specs.HyperRuns.{loaded, saved, pick, after_items, exit_of, leaving}
-use Rattle.ir_forms.specs.HyperWords.{AreBytes, HasWords, HasAddresses}
-use Rattle.ir_forms.specs.Laws.{KeepsWords}
+use Rattle.ir_forms.specs.inside.HyperCode.{Items, Done, Set, Load, Save, If}
+use Rattle.ir_forms.specs.inside.HyperFits.{FitsSource, FitsItems}
+use Rattle.ir_forms.specs.inside.HyperRuns.{Machine, Layout, with_register, with_memory, value_of, number_in}
+use Rattle.ir_forms.specs.inside.HyperRuns.{loaded, saved, pick, after_items, exit_of, leaving}
+use Rattle.ir_forms.specs.inside.HyperWords.{AreBytes, HasWords, HasAddresses}
+use Rattle.ir_forms.specs.inside.Laws.{KeepsWords}
 use Rattle.trips_isa.proofs.WordLemmas.{alu_fits, loaded_fits, seen_is_word}
 
 -- BYTES

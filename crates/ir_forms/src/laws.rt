@@ -1,5 +1,5 @@
-ghost use Rattle.ir_forms.specs.Laws.{ChecksChangeNothing, CleanChangesNothing, RunsInOrder};
-ghost use Rattle.ir_forms.specs.Laws.{KeepsWords, StandsWithNoTurn};
+ghost use Rattle.ir_forms.specs.inside.Laws.{ChecksChangeNothing, CleanChangesNothing, RunsInOrder};
+ghost use Rattle.ir_forms.specs.inside.Laws.{KeepsWords, StandsWithNoTurn};
 
 /// A run that no check ends is the run with fewer checks: where a run is tame and clean, the run
 /// without checks is the same.

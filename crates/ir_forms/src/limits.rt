@@ -1,7 +1,7 @@
 //! The limits of the forms and the numbers of variables, as the code has them.
 
 ghost use Rattle.std.specs.Prelude.{◌≡◌};
-ghost use Rattle.ir_forms.specs.Limits as limits;
+ghost use Rattle.ir_forms.specs.inside.Limits as limits;
 
 /// How many bytes the frames of all active calls may take (docs/LANGUAGE.md: above them a run is Deep).
 pub const STACK_BYTES: u64 = 1_048_576;

@@ -5,8 +5,9 @@ use Rattle.std.specs.Str.{bytes_eq}
 use Rattle.std.proofs.lemmas.Slice.Eq.{bytes_eq-Decides}
 use Rattle.trips_isa.specs.declared.op.Op.{Op}
 use Rattle.trips_isa.specs.declared.op.Op.TheVariants as op
-use Rattle.isa_table.specs.Operations.{operations}
-use Rattle.isa_table.specs.Mnemonics.{mnemonic_of, op_with_mnemonic}
+use Rattle.isa_table.specs.inside.Operations.{operations}
+use Rattle.isa_table.specs.Mnemonics.{mnemonic_of}
+use Rattle.isa_table.specs.inside.Mnemonics.{op_with_mnemonic}
 use Rattle.isa_table.proofs.Firsts.{first_taken}
 
 -- each operation is the first that has its mnemonic

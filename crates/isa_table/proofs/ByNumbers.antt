@@ -5,8 +5,9 @@ use Rattle.std.proofs.lemmas.Bool.Decides.{nat_tests}
 use Rattle.trips_isa.specs.declared.op.Op.{Op}
 use Rattle.trips_isa.specs.declared.op.Op.TheVariants as op
 use Rattle.trips_isa.specs.Forms.{form_of}
-use Rattle.isa_table.specs.Operations.{operations}
-use Rattle.isa_table.specs.Codes.{code_of, has_numbers, op_with_numbers, GoodCode}
+use Rattle.isa_table.specs.inside.Operations.{operations}
+use Rattle.isa_table.specs.Codes.{code_of}
+use Rattle.isa_table.specs.inside.Codes.{has_numbers, op_with_numbers, GoodCode}
 use Rattle.isa_table.proofs.Firsts.{first_taken}
 
 -- each operation is the first that has its numbers

@@ -2,7 +2,7 @@
 use Rattle.std.proofs.Common.{◌≡◌, Bool, true, false, List, [], ◌∷◌, Some, if◌then◌else◌, refl, subst}
 use Rattle.std.proofs.lemmas.Option.{same_Some}
 use Rattle.trips_isa.specs.declared.op.Op.{Op}
-use Rattle.isa_table.specs.Operations.{first_with}
+use Rattle.isa_table.specs.inside.Operations.{first_with}
 
 -- the first operation that passes a test passes it
 pub first_taken : (test : Op → Bool) (os : List Op) (x : Op) → first_with test os ≡ Some x → test x ≡ true

@@ -6,8 +6,10 @@ use Rattle.std.specs.Str.{bytes_eq}
 use Rattle.std.proofs.lemmas.Slice.Eq.{bytes_eq-Decides}
 use Rattle.trips_isa.specs.declared.op.Op.{Op}
 use Rattle.trips_isa.specs.declared.op.Op.TheVariants as op
-use Rattle.isa_table.specs.Mnemonics.{mnemonic_of, op_with_mnemonic}
-use Rattle.isa_table.specs.Codes.{code_of, has_numbers, op_with_numbers}
+use Rattle.isa_table.specs.Mnemonics.{mnemonic_of}
+use Rattle.isa_table.specs.inside.Mnemonics.{op_with_mnemonic}
+use Rattle.isa_table.specs.Codes.{code_of}
+use Rattle.isa_table.specs.inside.Codes.{has_numbers, op_with_numbers}
 use Rattle.isa_table.specs.inside.Guesses.{candidate_by_mnemonic, guessed_by_mnemonic}
 use Rattle.isa_table.specs.inside.Guesses.{candidate_by_numbers, guessed_by_numbers}
 use Rattle.isa_table.proofs.ByMnemonic.{mnemonic_again, mnemonic_taken}

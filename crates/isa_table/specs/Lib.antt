@@ -1,4 +1,3 @@
-pub mod Operations
 pub mod Codes
 pub mod Mnemonics
 pub mod Spots

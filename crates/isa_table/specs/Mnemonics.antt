@@ -1,9 +1,7 @@
 -- The mnemonic of each operation, as the bytes of its text.
-use Rattle.std.specs.Prelude.{ℕ, List, Option, codes}
-use Rattle.std.specs.Str.{bytes_eq}
+use Rattle.std.specs.Prelude.{ℕ, List, codes}
 use Rattle.trips_isa.specs.declared.op.Op.{Op}
 use Rattle.trips_isa.specs.declared.op.Op.TheVariants as op
-use Rattle.isa_table.specs.Operations.{operations, first_with}
 
 -- in ASCII, another for each operation
 unfoldable pub mnemonic_of : Op → List ℕ
@@ -74,7 +72,3 @@ mnemonic_of op.Scall = codes "scall"
 mnemonic_of op.Genu = codes "genu"
 mnemonic_of op.Gens = codes "gens"
 mnemonic_of op.App = codes "app"
-
--- the operation of a mnemonic
-unfoldable pub op_with_mnemonic : List ℕ → Option Op
-op_with_mnemonic word = first_with (λ o. bytes_eq (mnemonic_of o) word) operations

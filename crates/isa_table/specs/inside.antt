@@ -1,1 +1,4 @@
 pub mod Guesses
+pub mod Codes
+pub mod Mnemonics
+pub mod Operations

@@ -1,7 +1,8 @@
 ghost use Rattle.std.specs.Prelude.{◌≡◌, ◌↔◌, ◌<◌, Some, get_or, length};
 ghost use Rattle.trips_isa.specs.declared.op.Op.{Op};
 ghost use Rattle.trips_isa.specs.declared.op.Op.TheVariants.{Add};
-ghost use Rattle.isa_table.specs.Mnemonics.{mnemonic_of, op_with_mnemonic};
+ghost use Rattle.isa_table.specs.Mnemonics.{mnemonic_of};
+ghost use Rattle.isa_table.specs.inside.Mnemonics.{op_with_mnemonic};
 ghost use Rattle.isa_table.specs.inside.Guesses.{mixed, candidate_by_mnemonic, guessed_by_mnemonic};
 
 use crate::by_mnemonic::BY_MNEMONIC;

@@ -2,7 +2,7 @@ ghost use Rattle.std.specs.Prelude.{◌≡◌, ◌↔◌, ◌<◌, Some, get_or,
 ghost use Rattle.trips_isa.specs.declared.op.Op.{Op};
 ghost use Rattle.trips_isa.specs.declared.op.Op.TheVariants.{Add};
 ghost use Rattle.isa_table.specs.Codes.{general, immediate, alone, code_of};
-ghost use Rattle.isa_table.specs.Codes.{has_numbers, op_with_numbers};
+ghost use Rattle.isa_table.specs.inside.Codes.{has_numbers, op_with_numbers};
 ghost use Rattle.isa_table.specs.inside.Guesses.{place_of_numbers, candidate_by_numbers, guessed_by_numbers};
 
 use crate::by_numbers::BY_NUMBERS;
@@ -151,7 +151,7 @@ fn candidate(opcode: u32, extended: u32) -> Op
     op_at(&BY_NUMBERS, place(opcode, extended))
 }
 
-#[tactic(auto, unfolding(crate::specs::Codes::has_numbers))]
+#[tactic(auto, unfolding(crate::specs::inside::Codes::has_numbers))]
 fn has(op: Op, opcode: u32, extended: u32) -> bool
     ensures value { result ≡ has_numbers op opcode extended }
 {

@@ -7,7 +7,7 @@ use Rattle.std.proofs.lemmas.Bool.{lt-ltb, cases_lt}
 use Rattle.std.proofs.lemmas.Nat.Bits.{bit_at_above, bit_at-trailing_zeros, bit_at_and, bit_at_ones_above}
 use Rattle.std.proofs.lemmas.Nat.Bits.{bit_at_cat_high}
 use Rattle.base.specs.Rows.{has_bit}
-use Rattle.lsq_order.specs.Masks.{IsEnd, IsNext}
+use Rattle.lsq_order.specs.inside.Masks.{IsEnd, IsNext}
 use Rattle.lsq_order.proofs.BitFacts.{is_clear, none_set, both_set, ones_are, led_down_by}
 
 -- the highest bit of a number

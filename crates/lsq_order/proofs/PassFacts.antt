@@ -9,8 +9,8 @@ use Rattle.base.specs.Rows.{has_bit}
 use Rattle.trips_isa.specs.declared.block.Stored.{Stored}
 use Rattle.trips_isa.specs.Stores.{byte_of, byte_seen, or_byte}
 use Rattle.lsq_order.specs.declared.sought.Sought.{Sought}
-use Rattle.lsq_order.specs.Masks.{IsEnd}
-use Rattle.lsq_order.specs.Taking.{bit_taken, taken}
+use Rattle.lsq_order.specs.inside.Masks.{IsEnd}
+use Rattle.lsq_order.specs.inside.Taking.{bit_taken, taken}
 use Rattle.lsq_order.proofs.BitFacts.{low_part, none_set}
 use Rattle.lsq_order.proofs.TakingFacts.{taken_same}
 

@@ -10,7 +10,7 @@ use Rattle.base.specs.Rows.{has_bit}
 use Rattle.trips_isa.specs.declared.block.Stored.{Stored}
 use Rattle.trips_isa.specs.Stores.{byte_stored}
 use Rattle.commit_flush_spec.specs.Older.{covers, any_touched}
-use Rattle.lsq_order.specs.Reached.{is_open, start, FitsReach}
+use Rattle.lsq_order.specs.inside.Reached.{is_open, start, FitsReach}
 use Rattle.lsq_order.proofs.BitFacts.{both_set, is_set, none_set, not_set}
 use Rattle.lsq_order.proofs.MaskFacts.{small_and}
 

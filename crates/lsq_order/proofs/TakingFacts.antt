@@ -14,7 +14,7 @@ use Rattle.base.specs.Rows.{has_bit}
 use Rattle.trips_isa.specs.declared.block.Stored.{Stored}
 use Rattle.trips_isa.specs.Stores.{byte_of, byte_seen, byte_stored, bytes_seen, or_byte}
 use Rattle.lsq_order.specs.declared.sought.Sought.{Sought}
-use Rattle.lsq_order.specs.Taking.{IsSought, bit_taken, byte_bit, number_of, taken, word_bits}
+use Rattle.lsq_order.specs.inside.Taking.{IsSought, bit_taken, byte_bit, number_of, taken, word_bits}
 use Rattle.lsq_order.proofs.BitFacts.{both_set, is_clear, led_down_by, low_part, none_set, not_set}
 
 -- numbers by bits ---------------------------------------------------------------------------------

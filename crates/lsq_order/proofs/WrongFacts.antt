@@ -11,12 +11,12 @@ use Rattle.trips_isa.specs.declared.block.Stored.{Stored}
 use Rattle.commit_flush_spec.specs.Frames.{Taken, NoBytes, Bytes, at, numbers}
 use Rattle.commit_flush_spec.specs.Older.{covers, passes, nearest, any_touched, took_touched, violated}
 use Rattle.frame_state.specs.declared.parts.Took.{Took}
-use Rattle.frame_state.specs.Held.{taken_if, all_taken}
+use Rattle.frame_state.specs.inside.Held.{taken_if, all_taken}
 use Rattle.frame_state.proofs.MarkFacts.{taken_got}
 use Rattle.base.specs.Rows.{has_bit}
-use Rattle.lsq_order.specs.Masks.{IsNext}
-use Rattle.lsq_order.specs.Reached.{narrowed}
-use Rattle.lsq_order.specs.Wrong.{is_wrong, Finds}
+use Rattle.lsq_order.specs.inside.Masks.{IsNext}
+use Rattle.lsq_order.specs.inside.Reached.{narrowed}
+use Rattle.lsq_order.specs.inside.Wrong.{is_wrong, Finds}
 use Rattle.lsq_order.proofs.BitFacts.{or_clear}
 use Rattle.lsq_order.proofs.PassFacts.{not_there}
 

@@ -1,4 +1,1 @@
-pub mod Masks
-pub mod Reached
-pub mod Taking
-pub mod Wrong
+pub mod inside

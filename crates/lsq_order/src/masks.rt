@@ -1,6 +1,6 @@
 //! The numbers of a mask that are there: the next below one, and the next from one on.
 ghost use Rattle.std.specs.Prelude.{◌≡◌, ◌≤◌};
-ghost use Rattle.lsq_order.specs.Masks.{IsEnd, IsNext};
+ghost use Rattle.lsq_order.specs.inside.Masks.{IsEnd, IsNext};
 
 /// One past the highest bit of a mask below a number, and 0 where there is none.
 #[inline]

@@ -4,8 +4,8 @@ ghost use Rattle.std.specs.Prelude.{length, is_some};
 ghost use Rattle.base.specs.Rows.{has_bit};
 ghost use Rattle.commit_flush_spec.specs.Frames.{at, numbers};
 ghost use Rattle.commit_flush_spec.specs.Older.{any_touched, covers, passes, nearest, took_touched, violated};
-ghost use Rattle.frame_state.specs.Held.{taken_if, all_taken};
-ghost use Rattle.lsq_order.specs.Reached.{start};
+ghost use Rattle.frame_state.specs.inside.Held.{taken_if, all_taken};
+ghost use Rattle.lsq_order.specs.inside.Reached.{start};
 
 use crate::masks::next_from;
 use base::Row;
@@ -73,8 +73,8 @@ fn start(stored: Option<Stored>) -> u64
 }
 
 impl Reach {
-    ghost use Rattle.lsq_order.specs.Reached.{reached, narrowed, FitsReach};
-    ghost use Rattle.lsq_order.specs.Wrong.{Finds};
+    ghost use Rattle.lsq_order.specs.inside.Reached.{reached, narrowed, FitsReach};
+    ghost use Rattle.lsq_order.specs.inside.Wrong.{Finds};
 
     /// The addresses of a store's bytes, of which it has at most eight.
     pub fn of(stored: Option<Stored>) -> Reach

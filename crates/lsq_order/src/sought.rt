@@ -49,7 +49,7 @@ fn merged(word: u64, other: u64, mask: u64) -> u64
 }
 
 impl Sought {
-    ghost use Rattle.lsq_order.specs.Taking.{IsSought, bit_taken, byte_bit, taken};
+    ghost use Rattle.lsq_order.specs.inside.Taking.{IsSought, bit_taken, byte_bit, taken};
 
     /// All bytes of a load are to be found, of which there are at most eight.
     pub fn of(address: u64, size: u8) -> Sought

@@ -8,16 +8,17 @@ use Rattle.ir_forms.specs.declared.flow.FlowBlock.{FlowBlock}
 use Rattle.null_outputs.specs.declared.places.Guess.{Guess}
 use Rattle.null_outputs.specs.declared.places.Region.{Region}
 use Rattle.null_outputs.specs.declared.places.Starts.{Starts}
-use Rattle.null_outputs.specs.Completed.{trues, falses, lefts, rights, writes_at, places, cover}
-use Rattle.null_outputs.specs.Completed.{write_size, filled_all, numbers_at, number_part, number_size}
-use Rattle.null_outputs.specs.Completed.{numbers_part, all_numbers, trues_region, falses_region}
-use Rattle.null_outputs.specs.Completed.{lefts_region, rights_region, writes_region, added, completed, write_part}
-use Rattle.null_outputs.specs.Covers.{Sure, Want, Places, Cover, cover_of}
-use Rattle.null_outputs.specs.Groups.{guard_part, left_part, right_part, left_size, right_size}
-use Rattle.null_outputs.specs.Groups.{guard_part_size, region, start_of, end_of}
-use Rattle.null_outputs.specs.Sizes.{starts}
-use Rattle.null_outputs.specs.Surely.{sure_of, firm_of, firms, sure_by}
-use Rattle.null_outputs.specs.Wants.{or_all, wants_of, is_closed, want_by, complete}
+use Rattle.null_outputs.specs.inside.Completed.{trues, falses, lefts, rights, writes_at, places, cover}
+use Rattle.null_outputs.specs.inside.Completed.{write_size, filled_all, numbers_at, number_part, number_size}
+use Rattle.null_outputs.specs.inside.Completed.{numbers_part, all_numbers, trues_region, falses_region}
+use Rattle.null_outputs.specs.inside.Completed.{lefts_region, rights_region, writes_region, added, completed}
+use Rattle.null_outputs.specs.inside.Completed.{write_part}
+use Rattle.null_outputs.specs.inside.Covers.{Sure, Want, Places, Cover, cover_of}
+use Rattle.null_outputs.specs.inside.Groups.{guard_part, left_part, right_part, left_size, right_size}
+use Rattle.null_outputs.specs.inside.Groups.{guard_part_size, region, start_of, end_of}
+use Rattle.null_outputs.specs.inside.Sizes.{starts}
+use Rattle.null_outputs.specs.inside.Surely.{sure_of, firm_of, firms, sure_by}
+use Rattle.null_outputs.specs.inside.Wants.{or_all, wants_of, is_closed, want_by, complete}
 use Rattle.null_outputs.specs.inside.Listed.{start_in, places_in, sure_in_guess, want_in_guess, cover_in}
 use Rattle.null_outputs.specs.inside.Listed.{IsRegion, write_part_by, write_size_by, filled_by, all_filled_by}
 use Rattle.null_outputs.specs.inside.Listed.{numbers_by, all_numbers_by}

@@ -1,9 +1,9 @@
 -- Steps of the code's proofs.
 use Rattle.std.proofs.Common.{◌≡◌, List, [], ◌∷◌, ◌++◌, Bool, true, false, Option, Some, None, refl, sym, ap, subst}
 use Rattle.std.proofs.Common.{◌∙◌, ℕ, suc, ◌<◌, length, get_or, drop, drop-cons}
-use Rattle.null_outputs.specs.Covers.{Sure}
-use Rattle.null_outputs.specs.Surely.{Scope, scope_at, sure_of, firm_of}
-use Rattle.null_outputs.specs.Wants.{spread, spread_at, open_stores, mark_writes, wants_of}
+use Rattle.null_outputs.specs.inside.Covers.{Sure}
+use Rattle.null_outputs.specs.inside.Surely.{Scope, scope_at, sure_of, firm_of}
+use Rattle.null_outputs.specs.inside.Wants.{spread, spread_at, open_stores, mark_writes, wants_of}
 use Rattle.ir_forms.specs.declared.flow.FlowNode.{FlowNode}
 use Rattle.ir_forms.specs.declared.flow.FlowWrite.{FlowWrite}
 use Rattle.ir_forms.specs.declared.flow.FlowBlock.{FlowBlock}

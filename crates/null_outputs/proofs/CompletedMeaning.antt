@@ -14,18 +14,18 @@ use Rattle.ir_forms.specs.declared.flow.FlowSource.{FlowSource}
 use Rattle.ir_forms.specs.declared.flow.FlowNode.{FlowNode}
 use Rattle.ir_forms.specs.declared.flow.FlowWrite.{FlowWrite}
 use Rattle.ir_forms.specs.declared.flow.FlowBlock.{FlowBlock}
-use Rattle.ir_forms.specs.FlowRuns.{got, first, Computes, Obeys, OnPath, count, tokens, exits, fired, stores}
-use Rattle.ir_forms.specs.FlowRuns.{stored_all, meant, word_or, written}
-use Rattle.ir_forms.specs.FlowFits.{FitsFlow, FitsWrite, IsTidy, TakesAtMostOne, TakesOne, in_mask}
+use Rattle.ir_forms.specs.inside.FlowRuns.{got, first, Computes, Obeys, OnPath, count, tokens, exits, fired, stores}
+use Rattle.ir_forms.specs.inside.FlowRuns.{stored_all, meant, word_or, written}
+use Rattle.ir_forms.specs.inside.FlowFits.{FitsFlow, FitsWrite, IsTidy, TakesAtMostOne, TakesOne, in_mask}
 use Rattle.null_outputs.proofs.Oracles.{EachWanted, Closed, Trusty, AllTaken}
-use Rattle.null_outputs.specs.Completed.{trues, falses, lefts, rights, writes_at, places, cover}
-use Rattle.null_outputs.specs.Completed.{write_part, write_size, filled, filled_all, numbers_at}
-use Rattle.null_outputs.specs.Completed.{all_numbers, writes_region, trues_region, falses_region}
-use Rattle.null_outputs.specs.Completed.{lefts_region, rights_region, added, completed}
-use Rattle.null_outputs.specs.Covers.{Want, Sure, Cover, list_top}
-use Rattle.null_outputs.specs.Groups.{guard_part, guard_part_size, left_part, left_size, right_part}
-use Rattle.null_outputs.specs.Groups.{right_size, region, stores_of}
-use Rattle.null_outputs.specs.Laws.{EachMasked, Keeps}
+use Rattle.null_outputs.specs.inside.Completed.{trues, falses, lefts, rights, writes_at, places, cover}
+use Rattle.null_outputs.specs.inside.Completed.{write_part, write_size, filled, filled_all, numbers_at}
+use Rattle.null_outputs.specs.inside.Completed.{all_numbers, writes_region, trues_region, falses_region}
+use Rattle.null_outputs.specs.inside.Completed.{lefts_region, rights_region, added, completed}
+use Rattle.null_outputs.specs.inside.Covers.{Want, Sure, Cover, list_top}
+use Rattle.null_outputs.specs.inside.Groups.{guard_part, guard_part_size, left_part, left_size, right_part}
+use Rattle.null_outputs.specs.inside.Groups.{right_size, region, stores_of}
+use Rattle.null_outputs.specs.inside.Laws.{EachMasked, Keeps}
 use Rattle.null_outputs.proofs.NullsOnPaths.{IsNull, here, Covered, count-append, first_null, here_count}
 use Rattle.null_outputs.proofs.Spaces.{guard_part_length, left_length, right_length, obeys_front, obeys_back}
 use Rattle.null_outputs.proofs.Spaces.{region_obeys, region_rest, region_end}

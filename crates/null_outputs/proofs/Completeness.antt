@@ -10,22 +10,23 @@ use Rattle.trips_isa.specs.Rule.{Answer}
 use Rattle.ir_forms.specs.declared.flow.FlowNode.{FlowNode}
 use Rattle.ir_forms.specs.declared.flow.FlowWrite.{FlowWrite}
 use Rattle.ir_forms.specs.declared.flow.FlowBlock.{FlowBlock}
-use Rattle.ir_forms.specs.HyperRuns.{Layout}
-use Rattle.ir_forms.specs.HyperCode.{Block}
-use Rattle.ir_forms.specs.Agreement.{MeansBlock}
-use Rattle.ir_forms.specs.FlowRuns.{guard_token, Computes, Obeys, OnPath, count}
-use Rattle.ir_forms.specs.FlowFits.{FitsFlow, FitsWrite, IsTidy, TakesAtMostOne, IsComplete, AtMostOne, in_mask}
+use Rattle.ir_forms.specs.inside.HyperRuns.{Layout}
+use Rattle.ir_forms.specs.inside.HyperCode.{Block}
+use Rattle.ir_forms.specs.inside.Agreement.{MeansBlock}
+use Rattle.ir_forms.specs.inside.FlowRuns.{guard_token, Computes, Obeys, OnPath, count}
+use Rattle.ir_forms.specs.inside.FlowFits.{FitsFlow, FitsWrite, IsTidy, TakesAtMostOne, IsComplete, AtMostOne}
+use Rattle.ir_forms.specs.inside.FlowFits.{in_mask}
 use Rattle.null_outputs.proofs.Oracles.{EachWanted, Closed, Trusty}
-use Rattle.null_outputs.specs.Completed.{trues, falses, lefts, rights, writes_at, places, cover}
-use Rattle.null_outputs.specs.Completed.{write_part, write_size, numbers_at, number_part, number_size}
-use Rattle.null_outputs.specs.Completed.{numbers_part, all_numbers, writes_region, trues_region}
-use Rattle.null_outputs.specs.Completed.{falses_region, lefts_region, rights_region, added, completed}
-use Rattle.null_outputs.specs.Covers.{Want, Sure, Cover, list_top, list_nodes, null_store_of}
-use Rattle.null_outputs.specs.Groups.{guard_part, guard_part_size, left_part, left_size, right_part}
-use Rattle.null_outputs.specs.Groups.{right_size, stores_of, number_open}
-use Rattle.null_outputs.specs.Laws.{EachMasked, Keeps}
-use Rattle.null_outputs.specs.Surely.{sure_by}
-use Rattle.null_outputs.specs.Wants.{want_by, complete}
+use Rattle.null_outputs.specs.inside.Completed.{trues, falses, lefts, rights, writes_at, places, cover}
+use Rattle.null_outputs.specs.inside.Completed.{write_part, write_size, numbers_at, number_part, number_size}
+use Rattle.null_outputs.specs.inside.Completed.{numbers_part, all_numbers, writes_region, trues_region}
+use Rattle.null_outputs.specs.inside.Completed.{falses_region, lefts_region, rights_region, added, completed}
+use Rattle.null_outputs.specs.inside.Covers.{Want, Sure, Cover, list_top, list_nodes, null_store_of}
+use Rattle.null_outputs.specs.inside.Groups.{guard_part, guard_part_size, left_part, left_size, right_part}
+use Rattle.null_outputs.specs.inside.Groups.{right_size, stores_of, number_open}
+use Rattle.null_outputs.specs.inside.Laws.{EachMasked, Keeps}
+use Rattle.null_outputs.specs.inside.Surely.{sure_by}
+use Rattle.null_outputs.specs.inside.Wants.{want_by, complete}
 use Rattle.null_outputs.proofs.Spaces.{guard_part_length, left_length, right_length, obeys_front, obeys_back}
 use Rattle.null_outputs.proofs.Outputs.{write_length, number_length, stores_fit}
 use Rattle.null_outputs.proofs.Covers.{all_at, sources_covered}

@@ -17,14 +17,14 @@ use Rattle.ir_forms.specs.declared.flow.FlowSource.TheVariants.{Read, Node}
 use Rattle.ir_forms.specs.declared.flow.Guard.{Guard}
 use Rattle.ir_forms.specs.declared.flow.FlowNode.{FlowNode}
 use Rattle.ir_forms.specs.declared.flow.FlowBlock.{FlowBlock}
-use Rattle.ir_forms.specs.FlowRuns.{first, guard_token, met, Computes, Obeys, present}
-use Rattle.ir_forms.specs.FlowFits.{FitsFlowSource, FitsNode, FitsGuard, RisesFrom, RisesFromGuard, Rises}
+use Rattle.ir_forms.specs.inside.FlowRuns.{first, guard_token, met, Computes, Obeys, present}
+use Rattle.ir_forms.specs.inside.FlowFits.{FitsFlowSource, FitsNode, FitsGuard, RisesFrom, RisesFromGuard, Rises}
 use Rattle.null_outputs.proofs.Oracles.{EachWanted, Closed}
-use Rattle.null_outputs.specs.Covers.{Want, copy_under, both_under, sense_on, guard_on, Sure, Places}
-use Rattle.null_outputs.specs.Covers.{sense_cover, guard_cover, left_open, right_open, one_if}
-use Rattle.null_outputs.specs.Covers.{node_cover, cover_at, cover_of, Cover, list_top, list_nodes}
-use Rattle.null_outputs.specs.Groups.{guard_group, guard_is, sense_is, is_used, guard_part, left_part}
-use Rattle.null_outputs.specs.Groups.{right_part}
+use Rattle.null_outputs.specs.inside.Covers.{Want, copy_under, both_under, sense_on, guard_on, Sure, Places}
+use Rattle.null_outputs.specs.inside.Covers.{sense_cover, guard_cover, left_open, right_open, one_if}
+use Rattle.null_outputs.specs.inside.Covers.{node_cover, cover_at, cover_of, Cover, list_top, list_nodes}
+use Rattle.null_outputs.specs.inside.Groups.{guard_group, guard_is, sense_is, is_used, guard_part, left_part}
+use Rattle.null_outputs.specs.inside.Groups.{right_part}
 use Rattle.null_outputs.proofs.NullsOnPaths.{lacks, bit, present_low, lack_two, parts, here, Covered, none_covered}
 use Rattle.null_outputs.proofs.NullsOnPaths.{append_covered, as_covered, copy_covered, both_covered, EachCovered}
 use Rattle.null_outputs.proofs.NullsOnPaths.{list_covered, guard_covered, node_there}

@@ -6,8 +6,8 @@ use Rattle.std.specs.Prelude.{None}
 use Rattle.ir_forms.specs.declared.flow.FlowNode.{FlowNode}
 use Rattle.ir_forms.specs.declared.flow.FlowWrite.{FlowWrite}
 use Rattle.ir_forms.specs.declared.flow.FlowBlock.{FlowBlock}
-use Rattle.null_outputs.specs.Covers.{Sure, Cover, list_nodes, list_size}
-use Rattle.null_outputs.specs.Groups.{stores_of, number_open}
+use Rattle.null_outputs.specs.inside.Covers.{Sure, Cover, list_nodes, list_size}
+use Rattle.null_outputs.specs.inside.Groups.{stores_of, number_open}
 use Rattle.null_outputs.specs.inside.Listed.{write_part_by, write_size_by, filled_by, all_filled_by}
 use Rattle.null_outputs.specs.inside.Listed.{number_part_by, number_size_by, numbers_by}
 use Rattle.null_outputs.proofs.Spaces.{nodes_length, cond_length}

@@ -15,13 +15,13 @@ use Rattle.ir_forms.specs.declared.flow.FlowSource.TheVariants.{Read, Node}
 use Rattle.ir_forms.specs.declared.flow.Guard.{Guard}
 use Rattle.ir_forms.specs.declared.flow.FlowNode.{FlowNode}
 use Rattle.ir_forms.specs.declared.flow.FlowBlock.{FlowBlock}
-use Rattle.ir_forms.specs.FlowRuns.{got, first, guard_token, met, Computes, Obeys, present}
-use Rattle.ir_forms.specs.FlowFits.{FitsFlow}
+use Rattle.ir_forms.specs.inside.FlowRuns.{got, first, guard_token, met, Computes, Obeys, present}
+use Rattle.ir_forms.specs.inside.FlowFits.{FitsFlow}
 use Rattle.null_outputs.proofs.Oracles.{Trusty}
-use Rattle.null_outputs.specs.Covers.{guard_on, left_open, right_open}
-use Rattle.null_outputs.specs.Surely.{Scope, Firm, same_sense, same_scope, has, scope_at, scope_of}
-use Rattle.null_outputs.specs.Surely.{scopes, split, close, is_always, ask, outer, reaches, sure_of}
-use Rattle.null_outputs.specs.Surely.{is_firm, firm_of, firms_from, firms, sure_by}
+use Rattle.null_outputs.specs.inside.Covers.{guard_on, left_open, right_open}
+use Rattle.null_outputs.specs.inside.Surely.{Scope, Firm, same_sense, same_scope, has, scope_at, scope_of}
+use Rattle.null_outputs.specs.inside.Surely.{scopes, split, close, is_always, ask, outer, reaches, sure_of}
+use Rattle.null_outputs.specs.inside.Surely.{is_firm, firm_of, firms_from, firms, sure_by}
 use Rattle.null_outputs.proofs.NullsOnPaths.{all_there, here, node_there}
 use Rattle.null_outputs.proofs.Spaces.{obeys_at, some_is}
 use Rattle.null_outputs.proofs.Covers.{all_at}

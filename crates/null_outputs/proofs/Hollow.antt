@@ -10,7 +10,7 @@ use Rattle.trips_isa.specs.Stores.{byte_stored, byte_of, or_byte, byte_seen, byt
 use Rattle.trips_isa.specs.Stores.{listed, listed_below}
 use Rattle.trips_isa.specs.Blocks.{form_computes}
 use Rattle.ir_forms.specs.declared.flow.FlowNode.{FlowNode}
-use Rattle.ir_forms.specs.FlowRuns.{meant, inst_of}
+use Rattle.ir_forms.specs.inside.FlowRuns.{meant, inst_of}
 
 abbrev pub Hollow : Option Stored → Type 0
 Hollow None = Unit {0}

@@ -16,20 +16,23 @@ use Rattle.ir_forms.specs.declared.flow.Guard.{Guard}
 use Rattle.ir_forms.specs.declared.flow.FlowNode.{FlowNode}
 use Rattle.ir_forms.specs.declared.flow.FlowWrite.{FlowWrite}
 use Rattle.ir_forms.specs.declared.flow.FlowBlock.{FlowBlock}
-use Rattle.ir_forms.specs.FlowFits.{FitsFlow, FitsFlowSource, FitsNode, FitsWrite, FitsGuard}
-use Rattle.ir_forms.specs.FlowRegular.{same_source, is_among, guards_by, nodes_name, writes_name, is_named}
-use Rattle.ir_forms.specs.FlowRegular.{is_silent, IsRegular}
-use Rattle.null_outputs.specs.Covers.{copy_under, both_under}
-use Rattle.null_outputs.specs.Covers.{Sure, Want, sense_on, sense_cover, guard_cover, left_open}
-use Rattle.null_outputs.specs.Covers.{right_open, one_if, cover_at, Cover, top_of, list_top, pairs, list_nodes}
-use Rattle.null_outputs.specs.Groups.{left_needed, right_needed, guard_group, guard_is, sense_is, is_used, guard_part}
-use Rattle.null_outputs.specs.Groups.{guard_part_size, left_part, left_size, right_part, right_size, region, start_of}
-use Rattle.null_outputs.specs.Groups.{stores_of, number_open}
-use Rattle.null_outputs.specs.Completed.{trues, falses, lefts, rights, writes_at, places, cover}
-use Rattle.null_outputs.specs.Completed.{write_part, write_size}
-use Rattle.null_outputs.specs.Completed.{filled, filled_all, numbers_at, number_part, number_size, numbers_part}
-use Rattle.null_outputs.specs.Completed.{all_numbers, trues_region, falses_region, lefts_region, rights_region}
-use Rattle.null_outputs.specs.Completed.{writes_region, added, completed}
+use Rattle.ir_forms.specs.inside.FlowFits.{FitsFlow, FitsFlowSource, FitsNode, FitsWrite, FitsGuard}
+use Rattle.ir_forms.specs.inside.FlowRegular.{same_source, is_among, guards_by, nodes_name, writes_name, is_named}
+use Rattle.ir_forms.specs.inside.FlowRegular.{is_silent, IsRegular}
+use Rattle.null_outputs.specs.inside.Covers.{copy_under, both_under}
+use Rattle.null_outputs.specs.inside.Covers.{Sure, Want, sense_on, sense_cover, guard_cover, left_open}
+use Rattle.null_outputs.specs.inside.Covers.{right_open, one_if, cover_at, Cover, top_of, list_top, pairs, list_nodes}
+use Rattle.null_outputs.specs.inside.Groups.{left_needed, right_needed, guard_group, guard_is, sense_is, is_used}
+use Rattle.null_outputs.specs.inside.Groups.{guard_part}
+use Rattle.null_outputs.specs.inside.Groups.{guard_part_size, left_part, left_size, right_part, right_size, region}
+use Rattle.null_outputs.specs.inside.Groups.{start_of}
+use Rattle.null_outputs.specs.inside.Groups.{stores_of, number_open}
+use Rattle.null_outputs.specs.inside.Completed.{trues, falses, lefts, rights, writes_at, places, cover}
+use Rattle.null_outputs.specs.inside.Completed.{write_part, write_size}
+use Rattle.null_outputs.specs.inside.Completed.{filled, filled_all, numbers_at, number_part, number_size}
+use Rattle.null_outputs.specs.inside.Completed.{numbers_part}
+use Rattle.null_outputs.specs.inside.Completed.{all_numbers, trues_region, falses_region, lefts_region, rights_region}
+use Rattle.null_outputs.specs.inside.Completed.{writes_region, added, completed}
 use Rattle.null_outputs.proofs.Oracles.{EachWanted, Closed}
 use Rattle.null_outputs.proofs.Spaces.{guard_part_length, left_length, right_length, some_is}
 use Rattle.null_outputs.proofs.Covers.{both_true, used_wants, all_at, within, used_at, guard_is_on}

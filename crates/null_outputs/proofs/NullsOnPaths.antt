@@ -19,10 +19,10 @@ use Rattle.ir_forms.specs.declared.flow.FlowSource.{FlowSource}
 use Rattle.ir_forms.specs.declared.flow.FlowSource.TheVariants.{Node}
 use Rattle.ir_forms.specs.declared.flow.Guard.{Guard}
 use Rattle.ir_forms.specs.declared.flow.FlowNode.{FlowNode}
-use Rattle.ir_forms.specs.FlowRuns.{got, first, gives, met, Computes, Obeys, present, count}
-use Rattle.null_outputs.specs.Covers.{null_under, copy_under, both_under, sense_on, guard_on, Cover}
-use Rattle.null_outputs.specs.Covers.{top_of, list_top, pairs, list_nodes}
-use Rattle.null_outputs.specs.Groups.{guard_group}
+use Rattle.ir_forms.specs.inside.FlowRuns.{got, first, gives, met, Computes, Obeys, present, count}
+use Rattle.null_outputs.specs.inside.Covers.{null_under, copy_under, both_under, sense_on, guard_on, Cover}
+use Rattle.null_outputs.specs.inside.Covers.{top_of, list_top, pairs, list_nodes}
+use Rattle.null_outputs.specs.inside.Groups.{guard_group}
 
 -- ROLES
 

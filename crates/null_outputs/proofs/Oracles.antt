@@ -7,10 +7,10 @@ use Rattle.ir_forms.specs.declared.flow.Guard.{Guard}
 use Rattle.ir_forms.specs.declared.flow.FlowWrite.{FlowWrite}
 use Rattle.ir_forms.specs.declared.flow.FlowNode.{FlowNode}
 use Rattle.ir_forms.specs.declared.flow.FlowBlock.{FlowBlock}
-use Rattle.ir_forms.specs.FlowRuns.{Computes, OnPath, met, first, present}
-use Rattle.ir_forms.specs.FlowFits.{TakesOne}
-use Rattle.null_outputs.specs.Covers.{Sure, Want, left_open, right_open}
-use Rattle.null_outputs.specs.Groups.{stores_of, number_open}
+use Rattle.ir_forms.specs.inside.FlowRuns.{Computes, OnPath, met, first, present}
+use Rattle.ir_forms.specs.inside.FlowFits.{TakesOne}
+use Rattle.null_outputs.specs.inside.Covers.{Sure, Want, left_open, right_open}
+use Rattle.null_outputs.specs.inside.Groups.{stores_of, number_open}
 
 -- what is said to be there is there on every path
 abbrev pub Trusty : Sure → FlowBlock → Type 0

@@ -17,20 +17,20 @@ use Rattle.ir_forms.specs.declared.flow.Guard.{Guard}
 use Rattle.ir_forms.specs.declared.flow.FlowNode.{FlowNode}
 use Rattle.ir_forms.specs.declared.flow.FlowWrite.{FlowWrite}
 use Rattle.ir_forms.specs.declared.flow.FlowBlock.{FlowBlock}
-use Rattle.ir_forms.specs.FlowFits.{FitsFlowSource, FitsNode, FitsNodeForm, FitsGuard, FitsWrite, RisesFrom}
-use Rattle.ir_forms.specs.FlowFits.{RisesFromGuard, HasOrder, in_mask}
+use Rattle.ir_forms.specs.inside.FlowFits.{FitsFlowSource, FitsNode, FitsNodeForm, FitsGuard, FitsWrite, RisesFrom}
+use Rattle.ir_forms.specs.inside.FlowFits.{RisesFromGuard, HasOrder, in_mask}
 use Rattle.null_outputs.proofs.Oracles.{EachWanted, Closed}
-use Rattle.null_outputs.specs.Completed.{trues, falses, lefts, rights, writes_at, places, cover}
-use Rattle.null_outputs.specs.Completed.{write_part, write_size, filled, filled_all, numbers_at}
-use Rattle.null_outputs.specs.Completed.{number_part, number_size, numbers_part, all_numbers}
-use Rattle.null_outputs.specs.Completed.{writes_region, trues_region, falses_region, lefts_region}
-use Rattle.null_outputs.specs.Completed.{rights_region, added, completed}
-use Rattle.null_outputs.specs.Covers.{Want, null_under, copy_under, both_under, guard_on, sense_cover}
-use Rattle.null_outputs.specs.Covers.{guard_cover, left_open, right_open, one_if, cover_at, Cover, Sure}
-use Rattle.null_outputs.specs.Covers.{top_of, list_top, pairs, list_nodes}
-use Rattle.null_outputs.specs.Groups.{left_needed, right_needed, guard_group, guard_is, is_used}
-use Rattle.null_outputs.specs.Groups.{guard_part, guard_part_size, left_part, left_size, right_part}
-use Rattle.null_outputs.specs.Groups.{right_size, region, start_of, store_source, stores_of, number_open}
+use Rattle.null_outputs.specs.inside.Completed.{trues, falses, lefts, rights, writes_at, places, cover}
+use Rattle.null_outputs.specs.inside.Completed.{write_part, write_size, filled, filled_all, numbers_at}
+use Rattle.null_outputs.specs.inside.Completed.{number_part, number_size, numbers_part, all_numbers}
+use Rattle.null_outputs.specs.inside.Completed.{writes_region, trues_region, falses_region, lefts_region}
+use Rattle.null_outputs.specs.inside.Completed.{rights_region, added, completed}
+use Rattle.null_outputs.specs.inside.Covers.{Want, null_under, copy_under, both_under, guard_on, sense_cover}
+use Rattle.null_outputs.specs.inside.Covers.{guard_cover, left_open, right_open, one_if, cover_at, Cover, Sure}
+use Rattle.null_outputs.specs.inside.Covers.{top_of, list_top, pairs, list_nodes}
+use Rattle.null_outputs.specs.inside.Groups.{left_needed, right_needed, guard_group, guard_is, is_used}
+use Rattle.null_outputs.specs.inside.Groups.{guard_part, guard_part_size, left_part, left_size, right_part}
+use Rattle.null_outputs.specs.inside.Groups.{right_size, region, start_of, store_source, stores_of, number_open}
 use Rattle.null_outputs.proofs.Spaces.{guard_part_length, left_length, right_length, some_is}
 use Rattle.null_outputs.proofs.Covers.{all_from, both_true, used_wants, all_at, within, used_at, guard_is_on}
 use Rattle.null_outputs.proofs.Outputs.{write_length, number_length, stores_fit}

@@ -18,16 +18,17 @@ use Rattle.ir_forms.specs.declared.flow.FlowSource.TheVariants.{Node}
 use Rattle.ir_forms.specs.declared.flow.FlowNode.{FlowNode}
 use Rattle.ir_forms.specs.declared.flow.FlowWrite.{FlowWrite}
 use Rattle.ir_forms.specs.declared.flow.FlowBlock.{FlowBlock}
-use Rattle.trips_isa.specs.Acts.{Act}
-use Rattle.ir_forms.specs.FlowRuns.{first, Computes, Obeys, present, count, tokens, numbered, exits, leaving_in}
-use Rattle.ir_forms.specs.FlowRuns.{fired, act_tokens, stores, inst_of}
-use Rattle.ir_forms.specs.FlowFits.{FitsFlowSource, in_mask}
+use Rattle.trips_isa.specs.inside.Acts.{Act}
+use Rattle.ir_forms.specs.inside.FlowRuns.{first, Computes, Obeys, present, count, tokens, numbered, exits}
+use Rattle.ir_forms.specs.inside.FlowRuns.{leaving_in}
+use Rattle.ir_forms.specs.inside.FlowRuns.{fired, act_tokens, stores, inst_of}
+use Rattle.ir_forms.specs.inside.FlowFits.{FitsFlowSource, in_mask}
 use Rattle.null_outputs.proofs.Oracles.{EachWanted}
-use Rattle.null_outputs.specs.Completed.{cover, write_part, write_size, numbers_at, number_part}
-use Rattle.null_outputs.specs.Completed.{number_size, numbers_part, all_numbers}
-use Rattle.null_outputs.specs.Covers.{Want, null_store_of, Sure, list_top, list_nodes, list_size}
-use Rattle.null_outputs.specs.Groups.{store_source, stores_of, number_open}
-use Rattle.null_outputs.specs.Laws.{MaskedIn, EachMasked}
+use Rattle.null_outputs.specs.inside.Completed.{cover, write_part, write_size, numbers_at, number_part}
+use Rattle.null_outputs.specs.inside.Completed.{number_size, numbers_part, all_numbers}
+use Rattle.null_outputs.specs.inside.Covers.{Want, null_store_of, Sure, list_top, list_nodes, list_size}
+use Rattle.null_outputs.specs.inside.Groups.{store_source, stores_of, number_open}
+use Rattle.null_outputs.specs.inside.Laws.{MaskedIn, EachMasked}
 use Rattle.null_outputs.proofs.NullsOnPaths.{all_there, IsNull, here, Covered, count-append, first_null, here_count}
 use Rattle.null_outputs.proofs.NullsOnPaths.{node_there}
 use Rattle.null_outputs.proofs.Spaces.{nodes_length, obeys_front, obeys_back, cond_length}

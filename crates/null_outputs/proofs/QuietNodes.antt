@@ -14,13 +14,13 @@ use Rattle.trips_isa.specs.Tables.{or_else}
 use Rattle.ir_forms.specs.declared.flow.FlowSource.{FlowSource}
 use Rattle.ir_forms.specs.declared.flow.FlowSource.TheVariants.{Node}
 use Rattle.ir_forms.specs.declared.flow.FlowNode.{FlowNode}
-use Rattle.trips_isa.specs.Acts.{Act}
+use Rattle.trips_isa.specs.inside.Acts.{Act}
 use Rattle.trips_isa.specs.Faults.{divides}
-use Rattle.ir_forms.specs.FlowRuns.{first, met, tokens, numbered, exits, leaving_in, fired, act_tokens, stores}
-use Rattle.ir_forms.specs.FlowRuns.{stored_in}
-use Rattle.null_outputs.specs.Covers.{Want, Sure, Cover, pairs, list_nodes}
-use Rattle.null_outputs.specs.Groups.{left_needed, right_needed, guard_group, guard_part, left_part}
-use Rattle.null_outputs.specs.Groups.{right_part, region, is_used}
+use Rattle.ir_forms.specs.inside.FlowRuns.{first, met, tokens, numbered, exits, leaving_in, fired, act_tokens, stores}
+use Rattle.ir_forms.specs.inside.FlowRuns.{stored_in}
+use Rattle.null_outputs.specs.inside.Covers.{Want, Sure, Cover, pairs, list_nodes}
+use Rattle.null_outputs.specs.inside.Groups.{left_needed, right_needed, guard_group, guard_part, left_part}
+use Rattle.null_outputs.specs.inside.Groups.{right_part, region, is_used}
 
 pub record Quiet (n : FlowNode) : Type 0 where
   pub form : form_of n.op ≡ General

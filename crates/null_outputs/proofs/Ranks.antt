@@ -7,11 +7,11 @@ use Rattle.ir_forms.specs.declared.flow.FlowSource.TheVariants.{Read, Node}
 use Rattle.ir_forms.specs.declared.flow.FlowNode.{FlowNode}
 use Rattle.ir_forms.specs.declared.flow.FlowWrite.{FlowWrite}
 use Rattle.ir_forms.specs.declared.flow.FlowBlock.{FlowBlock}
-use Rattle.null_outputs.specs.Completed.{number_part, trues, falses, lefts, rights, writes_at, places}
-use Rattle.null_outputs.specs.Completed.{cover, write_size, number_size, numbers_part}
-use Rattle.null_outputs.specs.Covers.{Want, cover_of, Sure, list_size}
-use Rattle.null_outputs.specs.Groups.{nowhere, left_needed, right_needed, guard_size, guard_part_size}
-use Rattle.null_outputs.specs.Groups.{left_size, right_size, region, is_used, stores_of, number_open}
+use Rattle.null_outputs.specs.inside.Completed.{number_part, trues, falses, lefts, rights, writes_at, places}
+use Rattle.null_outputs.specs.inside.Completed.{cover, write_size, number_size, numbers_part}
+use Rattle.null_outputs.specs.inside.Covers.{Want, cover_of, Sure, list_size}
+use Rattle.null_outputs.specs.inside.Groups.{nowhere, left_needed, right_needed, guard_size, guard_part_size}
+use Rattle.null_outputs.specs.inside.Groups.{left_size, right_size, region, is_used, stores_of, number_open}
 use Rattle.null_outputs.proofs.Spaces.{cond_length, guard_same, cover_length}
 use Rattle.null_outputs.proofs.Outputs.{number_length}
 

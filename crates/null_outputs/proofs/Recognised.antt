@@ -7,10 +7,10 @@ use Rattle.trips_isa.specs.declared.block.Sense.TheVariants.{Always, OnTrue, OnF
 use Rattle.ir_forms.specs.declared.flow.FlowSource.{FlowSource}
 use Rattle.ir_forms.specs.declared.flow.FlowSource.TheVariants.{Node}
 use Rattle.ir_forms.specs.declared.flow.FlowNode.{FlowNode}
-use Rattle.null_outputs.specs.Covers.{guard_on}
-use Rattle.null_outputs.specs.Laws.{RecognisesScope, RecognisesAlways, RecognisesBoth, HasScope}
-use Rattle.null_outputs.specs.Surely.{Scope, Firm, same_sense, same_scope, has, scope_at, scope_of}
-use Rattle.null_outputs.specs.Surely.{scopes, split, close, reaches, outer, sure_of}
+use Rattle.null_outputs.specs.inside.Covers.{guard_on}
+use Rattle.null_outputs.specs.inside.Laws.{RecognisesScope, RecognisesAlways, RecognisesBoth, HasScope}
+use Rattle.null_outputs.specs.inside.Surely.{Scope, Firm, same_sense, same_scope, has, scope_at, scope_of}
+use Rattle.null_outputs.specs.inside.Surely.{scopes, split, close, reaches, outer, sure_of}
 use Rattle.null_outputs.proofs.Spaces.{some_is, same_eq}
 
 scope_same : (g : Scope) → same_scope g g ≡ true

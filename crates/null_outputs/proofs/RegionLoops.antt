@@ -2,8 +2,8 @@
 use Rattle.std.proofs.Common.{◌≡◌, ℕ, suc, ◌+◌, ◌<◌, List, [], ◌∷◌, ◌++◌, length, get_or, drop}
 use Rattle.std.proofs.Common.{sym, ap, ap₂, ◌∙◌, arith, append_assoc, length-append, drop-cons}
 use Rattle.ir_forms.specs.declared.flow.FlowNode.{FlowNode}
-use Rattle.null_outputs.specs.Groups.{region, end_of}
-use Rattle.null_outputs.specs.Sizes.{starts}
+use Rattle.null_outputs.specs.inside.Groups.{region, end_of}
+use Rattle.null_outputs.specs.inside.Sizes.{starts}
 
 -- the item at a place, and those behind it
 pub rest_of : {A : Type 0} (all : List A) (k : ℕ) (x : A) → k < length all → x ≡ get_or all k x

@@ -9,18 +9,18 @@ use Rattle.ir_forms.specs.declared.flow.FlowSource.TheVariants.{Read, Node}
 use Rattle.ir_forms.specs.declared.flow.FlowNode.{FlowNode}
 use Rattle.ir_forms.specs.declared.flow.FlowWrite.{FlowWrite}
 use Rattle.ir_forms.specs.declared.flow.FlowBlock.{FlowBlock}
-use Rattle.ir_forms.specs.FlowFits.{FitsFlow, in_mask}
-use Rattle.ir_forms.specs.FlowRegular.{TakesOnly, IsRegular}
-use Rattle.null_outputs.specs.Completed.{writes_at, numbers_at, cover, write_part, write_size}
-use Rattle.null_outputs.specs.Completed.{filled_all, number_part, number_size, numbers_part, all_numbers}
-use Rattle.null_outputs.specs.Completed.{trues_region, falses_region, lefts_region, rights_region}
-use Rattle.null_outputs.specs.Completed.{writes_region, added, completed}
-use Rattle.null_outputs.specs.Covers.{Sure, Want, Cover, pairs, list_nodes}
-use Rattle.null_outputs.specs.Groups.{left_needed, right_needed, guard_group, guard_part}
-use Rattle.null_outputs.specs.Groups.{guard_part_size, left_part, left_size, right_part, right_size}
-use Rattle.null_outputs.specs.Groups.{region, is_used, stores_of, number_open}
-use Rattle.null_outputs.specs.Surely.{sure_by}
-use Rattle.null_outputs.specs.Wants.{want_by, complete}
+use Rattle.ir_forms.specs.inside.FlowFits.{FitsFlow, in_mask}
+use Rattle.ir_forms.specs.inside.FlowRegular.{TakesOnly, IsRegular}
+use Rattle.null_outputs.specs.inside.Completed.{writes_at, numbers_at, cover, write_part, write_size}
+use Rattle.null_outputs.specs.inside.Completed.{filled_all, number_part, number_size, numbers_part, all_numbers}
+use Rattle.null_outputs.specs.inside.Completed.{trues_region, falses_region, lefts_region, rights_region}
+use Rattle.null_outputs.specs.inside.Completed.{writes_region, added, completed}
+use Rattle.null_outputs.specs.inside.Covers.{Sure, Want, Cover, pairs, list_nodes}
+use Rattle.null_outputs.specs.inside.Groups.{left_needed, right_needed, guard_group, guard_part}
+use Rattle.null_outputs.specs.inside.Groups.{guard_part_size, left_part, left_size, right_part, right_size}
+use Rattle.null_outputs.specs.inside.Groups.{region, is_used, stores_of, number_open}
+use Rattle.null_outputs.specs.inside.Surely.{sure_by}
+use Rattle.null_outputs.specs.inside.Wants.{want_by, complete}
 use Rattle.null_outputs.proofs.Spaces.{some_is}
 use Rattle.null_outputs.proofs.Covers.{both_true}
 use Rattle.null_outputs.proofs.Oracles.{Closed}

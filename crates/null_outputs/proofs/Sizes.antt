@@ -6,14 +6,14 @@ use Rattle.ir_forms.specs.declared.flow.FlowSource.{FlowSource}
 use Rattle.ir_forms.specs.declared.flow.FlowSource.TheVariants.{Node}
 use Rattle.ir_forms.specs.declared.flow.FlowNode.{FlowNode}
 use Rattle.ir_forms.specs.declared.flow.FlowBlock.{FlowBlock}
-use Rattle.null_outputs.specs.Completed.{trues, falses, lefts, rights, writes_at, places, cover}
-use Rattle.null_outputs.specs.Completed.{write_part, write_size, numbers_at, number_part, number_size}
-use Rattle.null_outputs.specs.Completed.{numbers_part, all_numbers, trues_region, falses_region}
-use Rattle.null_outputs.specs.Completed.{lefts_region, rights_region, writes_region, added, completed}
-use Rattle.null_outputs.specs.Covers.{Sure, Want, list_size, left_open, right_open, cover_of}
-use Rattle.null_outputs.specs.Groups.{is_used, guard_size, guard_part, guard_part_size, left_part}
-use Rattle.null_outputs.specs.Groups.{left_size, right_part, right_size, nowhere, region}
-use Rattle.null_outputs.specs.Sizes.{sum_of, numbers_size, growth, guards_used, AllFirm}
+use Rattle.null_outputs.specs.inside.Completed.{trues, falses, lefts, rights, writes_at, places, cover}
+use Rattle.null_outputs.specs.inside.Completed.{write_part, write_size, numbers_at, number_part, number_size}
+use Rattle.null_outputs.specs.inside.Completed.{numbers_part, all_numbers, trues_region, falses_region}
+use Rattle.null_outputs.specs.inside.Completed.{lefts_region, rights_region, writes_region, added, completed}
+use Rattle.null_outputs.specs.inside.Covers.{Sure, Want, list_size, left_open, right_open, cover_of}
+use Rattle.null_outputs.specs.inside.Groups.{is_used, guard_size, guard_part, guard_part_size, left_part}
+use Rattle.null_outputs.specs.inside.Groups.{left_size, right_part, right_size, nowhere, region}
+use Rattle.null_outputs.specs.inside.Sizes.{sum_of, numbers_size, growth, guards_used, AllFirm}
 use Rattle.null_outputs.proofs.Spaces.{guard_part_length, left_length, right_length}
 use Rattle.null_outputs.proofs.Outputs.{write_length, number_length}
 

@@ -10,13 +10,13 @@ use Rattle.ir_forms.specs.declared.flow.FlowSource.{FlowSource}
 use Rattle.ir_forms.specs.declared.flow.FlowSource.TheVariants.{Node}
 use Rattle.ir_forms.specs.declared.flow.Guard.{Guard}
 use Rattle.ir_forms.specs.declared.flow.FlowNode.{FlowNode}
-use Rattle.ir_forms.specs.FlowRuns.{Computes, Obeys, gives}
-use Rattle.null_outputs.specs.Covers.{Want, Sure, Places, sense_cover, guard_cover, left_open}
-use Rattle.null_outputs.specs.Covers.{right_open, one_if, cover_at, cover_of, Cover, pairs, list_nodes}
-use Rattle.null_outputs.specs.Covers.{list_size}
-use Rattle.null_outputs.specs.Groups.{left_needed, right_needed, guard_group, guard_size, guard_part}
-use Rattle.null_outputs.specs.Groups.{guard_part_size, left_part, left_size, right_part, right_size}
-use Rattle.null_outputs.specs.Groups.{nowhere, region, start_of, end_of, is_used}
+use Rattle.ir_forms.specs.inside.FlowRuns.{Computes, Obeys, gives}
+use Rattle.null_outputs.specs.inside.Covers.{Want, Sure, Places, sense_cover, guard_cover, left_open}
+use Rattle.null_outputs.specs.inside.Covers.{right_open, one_if, cover_at, cover_of, Cover, pairs, list_nodes}
+use Rattle.null_outputs.specs.inside.Covers.{list_size}
+use Rattle.null_outputs.specs.inside.Groups.{left_needed, right_needed, guard_group, guard_size, guard_part}
+use Rattle.null_outputs.specs.inside.Groups.{guard_part_size, left_part, left_size, right_part, right_size}
+use Rattle.null_outputs.specs.inside.Groups.{nowhere, region, start_of, end_of, is_used}
 
 -- SIZES
 

@@ -10,10 +10,10 @@ use Rattle.ir_forms.specs.declared.flow.Guard.{Guard}
 use Rattle.ir_forms.specs.declared.flow.FlowNode.{FlowNode}
 use Rattle.ir_forms.specs.declared.flow.FlowWrite.{FlowWrite}
 use Rattle.ir_forms.specs.declared.flow.FlowBlock.{FlowBlock}
-use Rattle.null_outputs.specs.Completed.{all_numbers}
-use Rattle.null_outputs.specs.Covers.{piece, null_store_of}
-use Rattle.null_outputs.specs.Surely.{sure_by}
-use Rattle.null_outputs.specs.Wants.{complete, is_closed, found_wants}
+use Rattle.null_outputs.specs.inside.Completed.{all_numbers}
+use Rattle.null_outputs.specs.inside.Covers.{piece, null_store_of}
+use Rattle.null_outputs.specs.inside.Surely.{sure_by}
+use Rattle.null_outputs.specs.inside.Wants.{complete, is_closed, found_wants}
 
 abbrev node : Op → Option Guard → List FlowSource → List FlowSource → FlowNode
 node o g l r = piece o g l r

@@ -2,8 +2,8 @@
 use Rattle.std.proofs.Common.{◌≡◌, ℕ, zero, suc, ◌+◌, ◌<◌, List, [], ◌∷◌, get_or}
 use Rattle.std.proofs.Common.{refl, ap, ◌∙◌, arith, cond, nat_eq, Bool, true, false}
 use Rattle.std.proofs.lemmas.Bool.Decides.{nat_tests}
-use Rattle.null_outputs.specs.Groups.{start_of, end_of}
-use Rattle.null_outputs.specs.Sizes.{starts}
+use Rattle.null_outputs.specs.inside.Groups.{start_of, end_of}
+use Rattle.null_outputs.specs.inside.Sizes.{starts}
 use Rattle.null_outputs.proofs.Spaces.{same_eq}
 
 other_eq : (i j : ℕ) → j < i → nat_eq i j ≡ false

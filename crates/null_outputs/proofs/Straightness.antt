@@ -10,9 +10,9 @@ use Rattle.ir_forms.specs.declared.flow.Guard.{Guard}
 use Rattle.ir_forms.specs.declared.flow.FlowNode.{FlowNode}
 use Rattle.ir_forms.specs.declared.flow.FlowWrite.{FlowWrite}
 use Rattle.ir_forms.specs.declared.flow.FlowBlock.{FlowBlock}
-use Rattle.ir_forms.specs.FlowFits.{in_mask}
-use Rattle.null_outputs.specs.Groups.{stores_of}
-use Rattle.null_outputs.specs.Straight.{IsBefore, IsFed, IsStraight}
+use Rattle.ir_forms.specs.inside.FlowFits.{in_mask}
+use Rattle.null_outputs.specs.inside.Groups.{stores_of}
+use Rattle.null_outputs.specs.inside.Straight.{IsBefore, IsFed, IsStraight}
 use Rattle.null_outputs.specs.inside.Tested.{is_before, is_fed, fed_if, is_unguarded, is_plain, counted}
 use Rattle.null_outputs.specs.inside.Tested.{plain_front}
 use Rattle.null_outputs.specs.inside.Tested.{all_fed, number_fed, numbers_fed, all_numbers_fed, is_straight}

@@ -11,13 +11,13 @@ use Rattle.ir_forms.specs.declared.flow.FlowSource.TheVariants.{Node}
 use Rattle.ir_forms.specs.declared.flow.Guard.{Guard}
 use Rattle.ir_forms.specs.declared.flow.FlowNode.{FlowNode}
 use Rattle.ir_forms.specs.declared.flow.FlowBlock.{FlowBlock}
-use Rattle.ir_forms.specs.FlowRuns.{guard_token, Computes, Obeys, present, count}
-use Rattle.ir_forms.specs.FlowFits.{FitsFlowSource, FitsNode, AtMostOne, IsTidy}
+use Rattle.ir_forms.specs.inside.FlowRuns.{guard_token, Computes, Obeys, present, count}
+use Rattle.ir_forms.specs.inside.FlowFits.{FitsFlowSource, FitsNode, AtMostOne, IsTidy}
 use Rattle.null_outputs.proofs.Oracles.{EachWanted}
-use Rattle.null_outputs.specs.Covers.{Want, null_under, guard_on, Sure, Places, left_open, right_open}
-use Rattle.null_outputs.specs.Covers.{cover_of, Cover, top_of, list_top, pairs, list_nodes}
-use Rattle.null_outputs.specs.Groups.{left_needed, right_needed, guard_group, guard_is, is_used}
-use Rattle.null_outputs.specs.Groups.{guard_part, left_part, right_part, region}
+use Rattle.null_outputs.specs.inside.Covers.{Want, null_under, guard_on, Sure, Places, left_open, right_open}
+use Rattle.null_outputs.specs.inside.Covers.{cover_of, Cover, top_of, list_top, pairs, list_nodes}
+use Rattle.null_outputs.specs.inside.Groups.{left_needed, right_needed, guard_group, guard_is, is_used}
+use Rattle.null_outputs.specs.inside.Groups.{guard_part, left_part, right_part, region}
 use Rattle.null_outputs.proofs.NullsOnPaths.{Covered, as_covered, append_covered, null_covered}
 use Rattle.null_outputs.proofs.NullsOnPaths.{other_bit, EachCovered}
 use Rattle.null_outputs.proofs.NullsOnPaths.{pairs_covered, list_covered}

@@ -11,23 +11,25 @@ use Rattle.ir_forms.specs.declared.flow.Guard.{Guard}
 use Rattle.ir_forms.specs.declared.flow.FlowNode.{FlowNode}
 use Rattle.ir_forms.specs.declared.flow.FlowWrite.{FlowWrite}
 use Rattle.ir_forms.specs.declared.flow.FlowBlock.{FlowBlock}
-use Rattle.ir_forms.specs.FlowFits.{in_mask}
-use Rattle.null_outputs.specs.Covers.{left_open, right_open, Cover, list_top, list_nodes, copy_under, both_under}
-use Rattle.null_outputs.specs.Covers.{null_store_of}
-use Rattle.null_outputs.specs.Groups.{left_needed, right_needed, guard_group}
-use Rattle.null_outputs.specs.Groups.{guard_is, is_used, guard_part, guard_part_size, left_part}
-use Rattle.null_outputs.specs.Groups.{left_size, right_part}
-use Rattle.null_outputs.specs.Groups.{right_size, region, stores_of, number_open}
-use Rattle.null_outputs.specs.Completed.{writes_at, cover, write_part, write_size}
-use Rattle.null_outputs.specs.Completed.{filled_all, numbers_at, number_size, numbers_part, all_numbers}
-use Rattle.null_outputs.specs.Completed.{added}
-use Rattle.null_outputs.specs.Surely.{Firm, Scope, has, scopes, scope_at, sure_of, is_firm, firm_of}
-use Rattle.null_outputs.specs.Surely.{firms_from, firms}
-use Rattle.null_outputs.specs.Surely.{sure_by}
-use Rattle.null_outputs.specs.Wants.{mark_if, mark_writes, mark_node, spread, spread_at, is_open_store, open_stores}
-use Rattle.null_outputs.specs.Wants.{node_closed, each_wanted, nodes_closed, writes_closed}
-use Rattle.null_outputs.specs.Wants.{is_closed, wants_of, found_wants, want_by, complete}
-use Rattle.null_outputs.specs.Straight.{IsFed, IsStraight}
+use Rattle.ir_forms.specs.inside.FlowFits.{in_mask}
+use Rattle.null_outputs.specs.inside.Covers.{left_open, right_open, Cover, list_top, list_nodes, copy_under}
+use Rattle.null_outputs.specs.inside.Covers.{both_under}
+use Rattle.null_outputs.specs.inside.Covers.{null_store_of}
+use Rattle.null_outputs.specs.inside.Groups.{left_needed, right_needed, guard_group}
+use Rattle.null_outputs.specs.inside.Groups.{guard_is, is_used, guard_part, guard_part_size, left_part}
+use Rattle.null_outputs.specs.inside.Groups.{left_size, right_part}
+use Rattle.null_outputs.specs.inside.Groups.{right_size, region, stores_of, number_open}
+use Rattle.null_outputs.specs.inside.Completed.{writes_at, cover, write_part, write_size}
+use Rattle.null_outputs.specs.inside.Completed.{filled_all, numbers_at, number_size, numbers_part, all_numbers}
+use Rattle.null_outputs.specs.inside.Completed.{added}
+use Rattle.null_outputs.specs.inside.Surely.{Firm, Scope, has, scopes, scope_at, sure_of, is_firm, firm_of}
+use Rattle.null_outputs.specs.inside.Surely.{firms_from, firms}
+use Rattle.null_outputs.specs.inside.Surely.{sure_by}
+use Rattle.null_outputs.specs.inside.Wants.{mark_if, mark_writes, mark_node, spread, spread_at, is_open_store}
+use Rattle.null_outputs.specs.inside.Wants.{open_stores}
+use Rattle.null_outputs.specs.inside.Wants.{node_closed, each_wanted, nodes_closed, writes_closed}
+use Rattle.null_outputs.specs.inside.Wants.{is_closed, wants_of, found_wants, want_by, complete}
+use Rattle.null_outputs.specs.inside.Straight.{IsFed, IsStraight}
 use Rattle.null_outputs.proofs.Covers.{within}
 use Rattle.null_outputs.proofs.Recognised.{recognises_always}
 

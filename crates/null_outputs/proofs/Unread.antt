@@ -13,24 +13,24 @@ use Rattle.ir_forms.specs.declared.flow.FlowSource.TheVariants.{Read, Node}
 use Rattle.ir_forms.specs.declared.flow.FlowNode.{FlowNode}
 use Rattle.ir_forms.specs.declared.flow.FlowWrite.{FlowWrite}
 use Rattle.ir_forms.specs.declared.flow.FlowBlock.{FlowBlock}
-use Rattle.ir_forms.specs.FlowFits.{in_mask}
-use Rattle.null_outputs.specs.Completed.{trues, falses, lefts, rights, writes_at, places, cover}
-use Rattle.null_outputs.specs.Completed.{write_size, filled_all, numbers_at, number_part, number_size}
-use Rattle.null_outputs.specs.Completed.{numbers_part, all_numbers}
-use Rattle.null_outputs.specs.Completed.{lefts_region, rights_region, writes_region, added, completed}
-use Rattle.null_outputs.specs.Covers.{Sure, Want, Places, Cover, left_open, right_open, cover_at, cover_of}
-use Rattle.null_outputs.specs.Covers.{one_if, list_nodes, list_top, null_store_of, list_size}
-use Rattle.null_outputs.specs.Groups.{guard_is, is_used, guard_size, guard_group, guard_part, left_part}
-use Rattle.null_outputs.specs.Groups.{right_part, left_size, right_size, guard_part_size, nowhere, region}
-use Rattle.null_outputs.specs.Groups.{start_of, end_of, is_store_of, stores_of, number_open}
-use Rattle.null_outputs.specs.Immediates.{Immediates, with_immediate, with_immediates, KeepsZeros}
-use Rattle.null_outputs.specs.Laws.{MaskedIn, EachMasked}
-use Rattle.null_outputs.specs.Surely.{Scope, Firm, has, scope_at, scope_of, scopes, split, close, is_always}
-use Rattle.null_outputs.specs.Surely.{ask, reaches, sure_in, sure_of, is_firm, firm_of, firms_from, firms}
-use Rattle.null_outputs.specs.Surely.{sure_by}
-use Rattle.null_outputs.specs.Wants.{spread_at, spread, mark_writes, is_open_store, open_stores, node_closed}
-use Rattle.null_outputs.specs.Wants.{nodes_closed, writes_closed, is_closed, or_all, wants_of}
-use Rattle.null_outputs.specs.Wants.{found_wants, want_by, complete}
+use Rattle.ir_forms.specs.inside.FlowFits.{in_mask}
+use Rattle.null_outputs.specs.inside.Completed.{trues, falses, lefts, rights, writes_at, places, cover}
+use Rattle.null_outputs.specs.inside.Completed.{write_size, filled_all, numbers_at, number_part, number_size}
+use Rattle.null_outputs.specs.inside.Completed.{numbers_part, all_numbers}
+use Rattle.null_outputs.specs.inside.Completed.{lefts_region, rights_region, writes_region, added, completed}
+use Rattle.null_outputs.specs.inside.Covers.{Sure, Want, Places, Cover, left_open, right_open, cover_at, cover_of}
+use Rattle.null_outputs.specs.inside.Covers.{one_if, list_nodes, list_top, null_store_of, list_size}
+use Rattle.null_outputs.specs.inside.Groups.{guard_is, is_used, guard_size, guard_group, guard_part, left_part}
+use Rattle.null_outputs.specs.inside.Groups.{right_part, left_size, right_size, guard_part_size, nowhere, region}
+use Rattle.null_outputs.specs.inside.Groups.{start_of, end_of, is_store_of, stores_of, number_open}
+use Rattle.null_outputs.specs.inside.Immediates.{Immediates, with_immediate, with_immediates, KeepsZeros}
+use Rattle.null_outputs.specs.inside.Laws.{MaskedIn, EachMasked}
+use Rattle.null_outputs.specs.inside.Surely.{Scope, Firm, has, scope_at, scope_of, scopes, split, close, is_always}
+use Rattle.null_outputs.specs.inside.Surely.{ask, reaches, sure_in, sure_of, is_firm, firm_of, firms_from, firms}
+use Rattle.null_outputs.specs.inside.Surely.{sure_by}
+use Rattle.null_outputs.specs.inside.Wants.{spread_at, spread, mark_writes, is_open_store, open_stores, node_closed}
+use Rattle.null_outputs.specs.inside.Wants.{nodes_closed, writes_closed, is_closed, or_all, wants_of}
+use Rattle.null_outputs.specs.inside.Wants.{found_wants, want_by, complete}
 use Rattle.null_outputs.proofs.Added.{all_added, added_stay}
 
 -- places by pairs

@@ -3,7 +3,7 @@ use Rattle.std.proofs.Common.{◌≡◌, ℕ, zero, suc, ◌+◌, ◌<◌, List,
 use Rattle.std.proofs.Common.{length, refl, sym, subst, ◌∙◌, arith, cond, nat_eq, Bool, true, false, length-append}
 use Rattle.std.proofs.lemmas.Bool.Decides.{nat_tests}
 use Rattle.std.specs.Prelude.{Some, slice_get}
-use Rattle.null_outputs.specs.Groups.{region, start_of, end_of}
+use Rattle.null_outputs.specs.inside.Groups.{region, start_of, end_of}
 use Rattle.null_outputs.proofs.Spaces.{some_is, same_eq}
 
 other_eq : (i j : ℕ) → j < i → nat_eq i j ≡ false

@@ -12,11 +12,11 @@ use Rattle.ir_forms.specs.declared.flow.FlowNode.{FlowNode}
 use Rattle.ir_forms.specs.declared.flow.FlowWrite.{FlowWrite}
 use Rattle.ir_forms.specs.declared.flow.FlowBlock.{FlowBlock}
 use Rattle.null_outputs.proofs.Oracles.{EachWanted, Closed}
-use Rattle.null_outputs.specs.Covers.{Want, Sure, left_open, right_open}
-use Rattle.null_outputs.specs.Groups.{store_source, stores_of, number_open}
-use Rattle.null_outputs.specs.Surely.{sure_by}
-use Rattle.null_outputs.specs.Wants.{each_wanted, guard_wanted, node_closed, is_open_store, nodes_closed}
-use Rattle.null_outputs.specs.Wants.{writes_closed, is_closed, or_all, found_wants, want_by}
+use Rattle.null_outputs.specs.inside.Covers.{Want, Sure, left_open, right_open}
+use Rattle.null_outputs.specs.inside.Groups.{store_source, stores_of, number_open}
+use Rattle.null_outputs.specs.inside.Surely.{sure_by}
+use Rattle.null_outputs.specs.inside.Wants.{each_wanted, guard_wanted, node_closed, is_open_store, nodes_closed}
+use Rattle.null_outputs.specs.inside.Wants.{writes_closed, is_closed, or_all, found_wants, want_by}
 use Rattle.null_outputs.proofs.Spaces.{some_is}
 use Rattle.null_outputs.proofs.Covers.{both_true}
 

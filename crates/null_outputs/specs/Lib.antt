@@ -1,11 +1,1 @@
-pub mod Covers
-pub mod Groups
-pub mod Completed
-pub mod Surely
-pub mod Wants
-pub mod Sizes
-pub mod Straight
-pub mod Laws
-pub mod Immediates
-pub mod Refusals
 pub mod inside

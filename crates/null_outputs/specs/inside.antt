@@ -1,2 +1,12 @@
 pub mod Listed
 pub mod Tested
+pub mod Completed
+pub mod Covers
+pub mod Groups
+pub mod Immediates
+pub mod Laws
+pub mod Refusals
+pub mod Sizes
+pub mod Straight
+pub mod Surely
+pub mod Wants

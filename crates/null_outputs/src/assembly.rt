@@ -1,7 +1,7 @@
 //! A block with all that is added.
 ghost use Rattle.std.specs.Prelude.{◌≡◌, IfOk, length, ◌<◌, ◌^◌};
-ghost use Rattle.null_outputs.specs.Completed as defined;
-ghost use Rattle.null_outputs.specs.Wants as wanted;
+ghost use Rattle.null_outputs.specs.inside.Completed as defined;
+ghost use Rattle.null_outputs.specs.inside.Wants as wanted;
 ghost use Rattle.null_outputs.specs.inside.Listed as listed;
 
 use crate::closing::{is_closed, wants};

@@ -1,7 +1,7 @@
 //! The completed block, where none of its parts is above its limit.
 ghost use Rattle.std.specs.Prelude.{◌≡◌, IfErr, IfOk};
-ghost use Rattle.null_outputs.specs.Refusals.{IsOver, IsRefusal, IsWithinLimits};
-ghost use Rattle.null_outputs.specs.Wants as wanted;
+ghost use Rattle.null_outputs.specs.inside.Refusals.{IsOver, IsRefusal, IsWithinLimits};
+ghost use Rattle.null_outputs.specs.inside.Wants as wanted;
 
 use crate::assembly::completed;
 use crate::straight::is_straight;

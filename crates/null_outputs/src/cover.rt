@@ -1,6 +1,6 @@
 //! The cover of a source: what gives a null where it is absent.
 ghost use Rattle.std.specs.Prelude.{◌≡◌, ◌++◌, OnOk, IfOk, length, ◌<◌, ◌^◌, slice_get};
-ghost use Rattle.null_outputs.specs.Covers as covers;
+ghost use Rattle.null_outputs.specs.inside.Covers as covers;
 ghost use Rattle.null_outputs.specs.inside.Listed as listed;
 
 use crate::places::{Guess, Region, Starts};

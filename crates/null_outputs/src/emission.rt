@@ -1,6 +1,6 @@
 //! The nodes that are added, region after region.
 ghost use Rattle.std.specs.Prelude.{◌≡◌, ◌++◌, ◌+◌, OnOk, length, ◌<◌, ◌^◌, drop};
-ghost use Rattle.null_outputs.specs.Groups as groups;
+ghost use Rattle.null_outputs.specs.inside.Groups as groups;
 ghost use Rattle.null_outputs.specs.inside.Listed as listed;
 
 use crate::groups::{push_guard_part, push_left_part, push_right_part};

@@ -1,6 +1,6 @@
 //! Where a group ends that begins at p.
 ghost use Rattle.std.specs.Prelude.{◌≡◌, ◌+◌, IfOk, length, ◌<◌, ◌^◌};
-ghost use Rattle.null_outputs.specs.Groups as groups;
+ghost use Rattle.null_outputs.specs.inside.Groups as groups;
 ghost use Rattle.null_outputs.specs.inside.Listed as listed;
 
 use crate::cover::cover;

@@ -1,6 +1,6 @@
 //! Writes whose sources give exactly one token.
 ghost use Rattle.std.specs.Prelude.{◌≡◌, ◌++◌, ◌+◌, cond, [], None, OnOk, IfOk, length, ◌<◌, ◌^◌, drop};
-ghost use Rattle.null_outputs.specs.Covers as covers;
+ghost use Rattle.null_outputs.specs.inside.Covers as covers;
 ghost use Rattle.null_outputs.specs.inside.Listed as listed;
 
 use crate::layout::list_size;

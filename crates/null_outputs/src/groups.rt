@@ -1,7 +1,7 @@
 //! The groups of nodes that are added for a guard, an operand, a write and a store number.
 ghost use Rattle.std.specs.Prelude.{◌≡◌, ◌++◌, [], Some, cond, not, OnOk, length, ◌<◌, ◌^◌};
-ghost use Rattle.null_outputs.specs.Covers as covers;
-ghost use Rattle.null_outputs.specs.Groups as groups;
+ghost use Rattle.null_outputs.specs.inside.Covers as covers;
+ghost use Rattle.null_outputs.specs.inside.Groups as groups;
 ghost use Rattle.null_outputs.specs.inside.Listed as listed;
 
 use crate::cover::cover;

@@ -1,11 +1,11 @@
 //! Which groups stand, and how large they are.
 
 ghost use Rattle.std.specs.Prelude.{◌≡◌, IfOk, drop, length, ◌<◌, ◌≤◌, ◌^◌, ◌+◌};
-ghost use Rattle.null_outputs.specs.Covers as covers;
-ghost use Rattle.null_outputs.specs.Groups as groups;
-ghost use Rattle.null_outputs.specs.Surely as surely;
-ghost use Rattle.null_outputs.specs.Wants as wanted;
-ghost use Rattle.null_outputs.specs.Surely.{firm_of};
+ghost use Rattle.null_outputs.specs.inside.Covers as covers;
+ghost use Rattle.null_outputs.specs.inside.Groups as groups;
+ghost use Rattle.null_outputs.specs.inside.Surely as surely;
+ghost use Rattle.null_outputs.specs.inside.Wants as wanted;
+ghost use Rattle.null_outputs.specs.inside.Surely.{firm_of};
 
 use crate::surely::{left_open, right_open};
 use crate::wanting::is_marked;

@@ -1,6 +1,6 @@
 //! The nodes that join the covers of a list.
 ghost use Rattle.std.specs.Prelude.{◌≡◌, ◌++◌, ◌∷◌, [], OnOk, IfOk, length, ◌<◌, ◌^◌};
-ghost use Rattle.null_outputs.specs.Covers as covers;
+ghost use Rattle.null_outputs.specs.inside.Covers as covers;
 ghost use Rattle.null_outputs.specs.inside.Listed as listed;
 
 use crate::cover::cover;

@@ -1,13 +1,13 @@
 //! The stores of a number.
 
 ghost use Rattle.std.specs.Prelude.{◌≡◌, ◌++◌, ◌+◌, OnOk, IfOk, drop, length, ◌<◌, ◌≤◌, ◌^◌, None};
-ghost use Rattle.ir_forms.specs.FlowFits as fits;
+ghost use Rattle.ir_forms.specs.inside.FlowFits as fits;
 ghost use Rattle.trips_isa.specs.Forms as forms;
-ghost use Rattle.null_outputs.specs.Covers as covers;
-ghost use Rattle.null_outputs.specs.Groups as groups;
-ghost use Rattle.null_outputs.specs.Surely as surely;
-ghost use Rattle.null_outputs.specs.Wants as wanted;
-ghost use Rattle.null_outputs.specs.Surely.{firm_of};
+ghost use Rattle.null_outputs.specs.inside.Covers as covers;
+ghost use Rattle.null_outputs.specs.inside.Groups as groups;
+ghost use Rattle.null_outputs.specs.inside.Surely as surely;
+ghost use Rattle.null_outputs.specs.inside.Wants as wanted;
+ghost use Rattle.null_outputs.specs.inside.Surely.{firm_of};
 
 use crate::surely::sure;
 use base::{Items, Memory};

@@ -1,6 +1,6 @@
 //! Where the groups of guards and operands begin.
 ghost use Rattle.std.specs.Prelude.{IfOk, length, ◌<◌, ◌^◌, drop};
-ghost use Rattle.null_outputs.specs.Groups as groups;
+ghost use Rattle.null_outputs.specs.inside.Groups as groups;
 ghost use Rattle.null_outputs.specs.inside.Listed as listed;
 
 use crate::ends::{guard_end, left_end, right_end};

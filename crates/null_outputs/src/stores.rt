@@ -1,6 +1,6 @@
 //! The null stores.
 ghost use Rattle.std.specs.Prelude.{◌≡◌, ◌++◌, ◌∷◌, ◌+◌, ◌≤◌, suc, OnOk, IfOk, length, ◌<◌, ◌^◌};
-ghost use Rattle.null_outputs.specs.Covers as covers;
+ghost use Rattle.null_outputs.specs.inside.Covers as covers;
 ghost use Rattle.null_outputs.specs.inside.Listed as listed;
 
 use crate::lists::{list_top, push_list};

@@ -2,9 +2,9 @@
 
 ghost use Rattle.std.specs.Prelude.{◌≡◌, ◌++◌, OnOk, IfOk, drop, slice_get, Some, length, ◌<◌, ◌^◌};
 ghost use Rattle.trips_isa.specs.Forms as forms;
-ghost use Rattle.null_outputs.specs.Covers as covers;
-ghost use Rattle.null_outputs.specs.Surely as surely;
-ghost use Rattle.null_outputs.specs.Surely.{firm_of};
+ghost use Rattle.null_outputs.specs.inside.Covers as covers;
+ghost use Rattle.null_outputs.specs.inside.Surely as surely;
+ghost use Rattle.null_outputs.specs.inside.Surely.{firm_of};
 
 use base::{Items, Memory};
 use ir_forms::{FlowNode, FlowSource, Guard};

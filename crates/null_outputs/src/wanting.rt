@@ -2,9 +2,9 @@
 
 ghost use Rattle.std.specs.Prelude.{◌≡◌, OnOk, IfOk, drop, length, ◌<◌, ◌^◌, slice_set, true};
 ghost use Rattle.std.specs.Prelude.{not, None};
-ghost use Rattle.null_outputs.specs.Surely as surely;
-ghost use Rattle.null_outputs.specs.Wants as wanted;
-ghost use Rattle.null_outputs.specs.Surely.{firm_of};
+ghost use Rattle.null_outputs.specs.inside.Surely as surely;
+ghost use Rattle.null_outputs.specs.inside.Wants as wanted;
+ghost use Rattle.null_outputs.specs.inside.Surely.{firm_of};
 
 use crate::surely::{left_open, right_open, sure};
 use base::{Items, Memory};

@@ -6,7 +6,8 @@ use Rattle.operand_net.specs.declared.parcel.Stand.{Stand}
 use Rattle.operand_net.specs.declared.parcel.Trip.{Trip}
 use Rattle.operand_net.specs.declared.parcel.Stand.TheVariants.{Nowhere, Away, Held}
 use Rattle.operand_net.specs.Places.{Places}
-use Rattle.operand_net.specs.Tick.{next_of, ticked, trip_of, Ticked}
+use Rattle.operand_net.specs.Tick.{next_of, ticked, Ticked}
+use Rattle.operand_net.specs.inside.Tick.{trip_of}
 
 away_trip : (a b c : Bool) (h n m : ℕ) (t : Trip)
     → trip_of (cond a (Held t h) (cond b (cond c (Held t h) (Away t n)) (Away t m))) ≡ trip_of (Away t m)

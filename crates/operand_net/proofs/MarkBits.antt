@@ -11,8 +11,9 @@ use Rattle.std.proofs.lemmas.Nat.Bits.{bit_at-trailing_zeros, bit_at-zero, bit_a
 use Rattle.std.proofs.lemmas.Grind.{get_or-set_at}
 use Rattle.std.proofs.lemmas.List.{get_or-replicate, length-replicate, get_or_past}
 use Rattle.std.proofs.Math.Nat.{div-div-eq-div-mul}
-use Rattle.operand_net.specs.Marks.{has_bit, marked, IsFull, IsLowestBit, IsLowest}
-use Rattle.operand_net.specs.Rows.{taken}
+use Rattle.operand_net.specs.Marks.{has_bit}
+use Rattle.operand_net.specs.inside.Marks.{marked, IsFull, IsLowestBit, IsLowest}
+use Rattle.operand_net.specs.inside.Rows.{taken}
 
 pub ne_eqb : (a b : ℕ) → a ≢ b → (a == b) ≡ false
 ne_eqb a b ne = go (a == b) refl

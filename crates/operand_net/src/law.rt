@@ -1,7 +1,8 @@
 //! A law of ticks, over their definition alone.
 ghost use Rattle.std.specs.Prelude.{◌≡◌, ◌<◌, ℕ, List, length};
 ghost use Rattle.operand_net.specs.Places.{Places};
-ghost use Rattle.operand_net.specs.Tick.{Ticked, trip_of};
+ghost use Rattle.operand_net.specs.Tick.{Ticked};
+ghost use Rattle.operand_net.specs.inside.Tick.{trip_of};
 
 use crate::weather::Weather;
 

@@ -1,6 +1,6 @@
 //! The links that the parcels of a tick have taken.
 ghost use Rattle.std.specs.Prelude.{◌≡◌, ◌<◌, ◌+◌, ◌*◌, ◌||◌, ◌==◌, not, ℕ, false};
-ghost use Rattle.operand_net.specs.Rows.{taken};
+ghost use Rattle.operand_net.specs.inside.Rows.{taken};
 
 /// For each of the 25 nodes a bit for each node that it has a link to: 1 where the link is taken.
 #[derive(Debug, Drop)]

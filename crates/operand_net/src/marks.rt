@@ -1,6 +1,7 @@
 //! Marks on places, by bits.
 ghost use Rattle.std.specs.Prelude.{◌≡◌, ◌<◌, ◌≤◌, ◌+◌, ◌-◌, ◌*◌, ◌==◌, ℕ, cond, true, false};
-ghost use Rattle.operand_net.specs.Marks.{has_bit, marked, IsLowestBit, IsLowest};
+ghost use Rattle.operand_net.specs.Marks.{has_bit};
+ghost use Rattle.operand_net.specs.inside.Marks.{marked, IsLowestBit, IsLowest};
 
 use std::marker::Model;
 
@@ -16,7 +17,7 @@ pub struct Marks {
 
 impl Model for Marks {
     ghost use Rattle.std.specs.Prelude.{List, ℕ};
-    ghost use Rattle.operand_net.specs.Marks.{IsFull};
+    ghost use Rattle.operand_net.specs.inside.Marks.{IsFull};
 
     ghost Value = { List ℕ };
 

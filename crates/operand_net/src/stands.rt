@@ -1,7 +1,8 @@
 //! The table of places: where each parcel stands.
 ghost use Rattle.std.specs.Prelude.{◌≡◌, ◌<◌, ◌≤◌, ◌+◌, ◌*◌, ℕ, IfOk, IfSome, length, get_or, set, true};
-ghost use Rattle.operand_net.specs.Places.{at, in_frame, come, Inside};
-ghost use Rattle.operand_net.specs.IsStands.{is_here, is_come, IsNext};
+ghost use Rattle.operand_net.specs.Places.{at};
+ghost use Rattle.operand_net.specs.inside.Places.{in_frame, come, Inside};
+ghost use Rattle.operand_net.specs.inside.IsStands.{is_here, is_come, IsNext};
 ghost use Rattle.operand_net.specs.declared.parcel.Stand.TheVariants.{Nowhere};
 
 use crate::marks::Marks;
@@ -22,7 +23,7 @@ pub struct Stands {
 impl Model for Stands {
     ghost use Rattle.std.specs.Prelude.{List};
     ghost use Rattle.operand_net.specs.declared.parcel.Stand.{Stand};
-    ghost use Rattle.operand_net.specs.IsStands.{IsStands};
+    ghost use Rattle.operand_net.specs.inside.IsStands.{IsStands};
 
     ghost Value = { List Stand };
 

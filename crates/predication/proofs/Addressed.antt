@@ -4,12 +4,13 @@ use Rattle.trips_isa.specs.declared.block.Token.{Token}
 use Rattle.trips_isa.specs.declared.block.Inst.{Inst}
 use Rattle.ir_forms.specs.declared.hyper.Exit.{Exit}
 use Rattle.ir_forms.specs.declared.hyper.Exit.TheVariants as exit
-use Rattle.ir_forms.specs.HyperCode.{Tail, Leave, Test}
-use Rattle.ir_forms.specs.HyperRuns.{Machine, Layout, labels_alone, value_of, pick, after_items, exit_of, leaving}
-use Rattle.ir_forms.specs.HyperFits.{FitsExit, FitsTail, exits_in}
-use Rattle.ir_forms.specs.Agreement.{IsExit}
-use Rattle.predication.specs.Tails.{exit_with, tail_with, addressed}
-use Rattle.predication.specs.Laws.{HasShortAddresses, ConvertsMeaning, TakesAddressed}
+use Rattle.ir_forms.specs.inside.HyperCode.{Tail, Leave, Test}
+use Rattle.ir_forms.specs.inside.HyperRuns.{Machine, Layout, labels_alone, value_of, pick, after_items, exit_of}
+use Rattle.ir_forms.specs.inside.HyperRuns.{leaving}
+use Rattle.ir_forms.specs.inside.HyperFits.{FitsExit, FitsTail, exits_in}
+use Rattle.ir_forms.specs.inside.Agreement.{IsExit}
+use Rattle.predication.specs.inside.Tails.{exit_with, tail_with, addressed}
+use Rattle.predication.specs.inside.Laws.{HasShortAddresses, ConvertsMeaning, TakesAddressed}
 use Rattle.predication.proofs.Converted.{plain_meaning}
 
 -- the one exit or the other, with its address

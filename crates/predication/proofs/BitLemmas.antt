@@ -4,8 +4,8 @@ use Rattle.std.specs.Prelude.{Some, None}
 use Rattle.trips_isa.specs.declared.op.Op.{Op}
 use Rattle.trips_isa.specs.declared.op.Op.TheVariants as op
 use Rattle.trips_isa.specs.Alu.{alu_of}
-use Rattle.predication.specs.Environments.{Bits, note, left_bits, member}
-use Rattle.predication.specs.Operands.{is_move}
+use Rattle.predication.specs.inside.Environments.{Bits, note, left_bits, member}
+use Rattle.predication.specs.inside.Operands.{is_move}
 use Rattle.predication.proofs.TakenLegs.{member_append}
 
 -- a register that has a bit behind some was none of them, and had it before

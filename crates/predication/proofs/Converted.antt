@@ -10,20 +10,20 @@ use Rattle.trips_isa.specs.declared.block.Inst.{Inst}
 use Rattle.trips_isa.specs.Rule.{Answer}
 use Rattle.ir_forms.specs.declared.flow.FlowSource.{FlowSource}
 use Rattle.ir_forms.specs.declared.flow.FlowNode.{FlowNode}
-use Rattle.trips_isa.specs.Acts.{Act}
-use Rattle.ir_forms.specs.HyperRuns.{register_put, value_of}
-use Rattle.ir_forms.specs.FlowRuns.{Computes, first, guard_token, stores, meant, exits, fired, count}
-use Rattle.ir_forms.specs.FlowFits.{AtMostOne}
-use Rattle.predication.specs.Environments.{Scope, Entry, Env, member, no_bits, at_start}
-use Rattle.predication.specs.Ifs.{touched}
-use Rattle.predication.specs.Tails.{tail_touched, exit_touched}
-use Rattle.predication.specs.Converted.{begun, ended, all_nodes, all_touched, writes_below, predicated}
-use Rattle.ir_forms.specs.HyperCode.{Items, Done, Set, Load, Save, If, Tail, Leave, Test, Block}
-use Rattle.ir_forms.specs.HyperRuns.{Machine, with_register, with_memory, after_items, acts, pick, loaded}
-use Rattle.ir_forms.specs.HyperRuns.{saved, number_in}
+use Rattle.trips_isa.specs.inside.Acts.{Act}
+use Rattle.ir_forms.specs.inside.HyperRuns.{register_put, value_of}
+use Rattle.ir_forms.specs.inside.FlowRuns.{Computes, first, guard_token, stores, meant, exits, fired, count}
+use Rattle.ir_forms.specs.inside.FlowFits.{AtMostOne}
+use Rattle.predication.specs.inside.Environments.{Scope, Entry, Env, member, no_bits, at_start}
+use Rattle.predication.specs.inside.Ifs.{touched}
+use Rattle.predication.specs.inside.Tails.{tail_touched, exit_touched}
+use Rattle.predication.specs.inside.Converted.{begun, ended, all_nodes, all_touched, writes_below, predicated}
+use Rattle.ir_forms.specs.inside.HyperCode.{Items, Done, Set, Load, Save, If, Tail, Leave, Test, Block}
+use Rattle.ir_forms.specs.inside.HyperRuns.{Machine, with_register, with_memory, after_items, acts, pick, loaded}
+use Rattle.ir_forms.specs.inside.HyperRuns.{saved, number_in}
 use Rattle.ir_forms.specs.declared.hyper.Exit.{Exit}
 use Rattle.ir_forms.specs.declared.hyper.Exit.TheVariants as exit
-use Rattle.ir_forms.specs.HyperFits.{FitsItems}
+use Rattle.ir_forms.specs.inside.HyperFits.{FitsItems}
 use Rattle.predication.proofs.Tables.{fired_append, exits_append, quiet_fired, inner_exits, first_none}
 use Rattle.predication.proofs.Tables.{first_word, Sound, Live, Calm, calm_append, none_clear, Runs}
 use Rattle.predication.proofs.Tables.{runs_front, runs_back}
@@ -31,17 +31,17 @@ use Rattle.predication.proofs.TakenLegs.{or_false, member_append, untouched, tai
 use Rattle.predication.proofs.Memory.{Holds, holds_first, holds_none}
 use Rattle.predication.proofs.Operands.{Meant}
 use Rattle.predication.proofs.Taken.{On, no_bit, on_items}
-use Rattle.ir_forms.specs.HyperRuns as HyperRuns
+use Rattle.ir_forms.specs.inside.HyperRuns as HyperRuns
 use Rattle.std.proofs.Common.{◌-◌}
 use Rattle.std.specs.Prelude.{All}
 use Rattle.std.proofs.lemmas.List.Elements.{All-nil, All-cons}
 use Rattle.trips_isa.specs.Stores.{store_all, listed_below}
-use Rattle.ir_forms.specs.HyperRuns.{Layout, exit_of, after_block}
-use Rattle.ir_forms.specs.FlowRuns.{written, word_or, stored_all}
+use Rattle.ir_forms.specs.inside.HyperRuns.{Layout, exit_of, after_block}
+use Rattle.ir_forms.specs.inside.FlowRuns.{written, word_or, stored_all}
 use Rattle.ir_forms.specs.declared.flow.FlowWrite.{FlowWrite}
-use Rattle.ir_forms.specs.Agreement.{IsExit, MeansBlock}
-use Rattle.ir_forms.specs.HyperFits.{FitsHyper}
-use Rattle.predication.specs.Laws.{ConvertsPaths, HasRoom}
+use Rattle.ir_forms.specs.inside.Agreement.{IsExit, MeansBlock}
+use Rattle.ir_forms.specs.inside.HyperFits.{FitsHyper}
+use Rattle.predication.specs.inside.Laws.{ConvertsPaths, HasRoom}
 use Rattle.predication.proofs.WordLemmas.{words_of}
 use Rattle.predication.proofs.Numbers.{Rises, rises_append, quiet_rises, items_rise, stores_high}
 use Rattle.predication.proofs.Numbers.{tokens_most, runs_of}

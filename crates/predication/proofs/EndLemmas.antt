@@ -7,12 +7,12 @@ use Rattle.trips_isa.specs.Forms.{role_of, takes_right}
 use Rattle.ir_forms.specs.declared.hyper.Source.{Source}
 use Rattle.ir_forms.specs.declared.flow.FlowSource.{FlowSource}
 use Rattle.ir_forms.specs.declared.flow.FlowNode.{FlowNode}
-use Rattle.ir_forms.specs.HyperCode.{Items, Set, Load, Save}
+use Rattle.ir_forms.specs.inside.HyperCode.{Items, Set, Load, Save}
 use Rattle.predication.specs.declared.work.Work.{Work}
 use Rattle.predication.specs.declared.work.Names.{Names}
-use Rattle.predication.specs.Environments.{Scope, Env, Bits, put, note, from_node}
-use Rattle.predication.specs.Operands.{Got, node_of, operand, second, bit_set}
-use Rattle.predication.specs.Ifs.{Out, items, touched}
+use Rattle.predication.specs.inside.Environments.{Scope, Env, Bits, put, note, from_node}
+use Rattle.predication.specs.inside.Operands.{Got, node_of, operand, second, bit_set}
+use Rattle.predication.specs.inside.Ifs.{Out, items, touched}
 use Rattle.predication.specs.inside.Emits.{Adds, low, node, env_of, bits_of}
 use Rattle.predication.specs.inside.Ends.{End, behind, out_of, ends}
 use Rattle.predication.proofs.AddLemmas.{more_nodes, count_more, same_work, adds_nodes, adds_number, adds_two}

@@ -14,19 +14,19 @@ use Rattle.ir_forms.specs.declared.flow.FlowNode.{FlowNode}
 use Rattle.ir_forms.specs.declared.hyper.Exit.{Exit}
 use Rattle.ir_forms.specs.declared.hyper.Tail as declared
 use Rattle.ir_forms.specs.declared.hyper.Tail.TheVariants as tails
-use Rattle.ir_forms.specs.HyperCode.{Tail, Leave, Test}
-use Rattle.ir_forms.specs.HyperViews.{tail_of}
+use Rattle.ir_forms.specs.inside.HyperCode.{Tail, Leave, Test}
+use Rattle.ir_forms.specs.inside.HyperViews.{tail_of}
 use Rattle.ir_forms.proofs.Views.{tail_leave, tail_test}
 use Rattle.predication.specs.declared.work.Work.{Work}
 use Rattle.predication.specs.declared.work.Named.{Named}
 use Rattle.predication.specs.declared.work.Noted.{Noted}
 use Rattle.predication.specs.declared.work.Names.{Names}
-use Rattle.predication.specs.Environments.{Scope, no_bits, under, distinct}
-use Rattle.predication.specs.Operands.{Chain, constant_of, operand, tested, mov_of}
-use Rattle.predication.specs.Ifs.{Joined, join}
-use Rattle.predication.specs.Outcomes.{NamesLabel, NamesLabels}
-use Rattle.predication.specs.Tails.{Ending, tail_with, tail, exit_touched, tail_touched, branch_of, high_half}
-use Rattle.predication.specs.Tails.{low_half, address_nodes}
+use Rattle.predication.specs.inside.Environments.{Scope, no_bits, under, distinct}
+use Rattle.predication.specs.inside.Operands.{Chain, constant_of, operand, tested, mov_of}
+use Rattle.predication.specs.inside.Ifs.{Joined, join}
+use Rattle.predication.specs.inside.Outcomes.{NamesLabel, NamesLabels}
+use Rattle.predication.specs.inside.Tails.{Ending, tail_with, tail, exit_touched, tail_touched, branch_of, high_half}
+use Rattle.predication.specs.inside.Tails.{low_half, address_nodes}
 use Rattle.predication.specs.inside.Emits.{Adds, low, env_of, bits_of, joined_at}
 use Rattle.predication.specs.inside.Ends.{label, exit_labelled, tail_labelled, leaving_of, ending_of, work_after}
 use Rattle.predication.specs.inside.Ends.{branched, address_of}

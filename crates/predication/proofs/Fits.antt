@@ -11,10 +11,10 @@ use Rattle.trips_isa.specs.Forms.{form_of}
 use Rattle.ir_forms.specs.declared.flow.FlowSource.{FlowSource}
 use Rattle.ir_forms.specs.declared.flow.FlowSource.TheVariants.{Read, Node}
 use Rattle.ir_forms.specs.declared.flow.FlowNode.{FlowNode}
-use Rattle.predication.specs.Environments.{Scope, Env, member, no_bits, at_start}
-use Rattle.predication.specs.Converted.{begun, ended, all_nodes, all_touched, predicated, writes_below}
-use Rattle.predication.specs.Converted.{has_store, mask_below}
-use Rattle.ir_forms.specs.HyperCode.{Block}
+use Rattle.predication.specs.inside.Environments.{Scope, Env, member, no_bits, at_start}
+use Rattle.predication.specs.inside.Converted.{begun, ended, all_nodes, all_touched, predicated, writes_below}
+use Rattle.predication.specs.inside.Converted.{has_store, mask_below}
+use Rattle.ir_forms.specs.inside.HyperCode.{Block}
 use Rattle.std.proofs.Common.{◌||◌}
 use Rattle.std.specs.Prelude.{All, slice_get}
 use Rattle.std.specs.List.{Contains}
@@ -22,13 +22,13 @@ use Rattle.std.proofs.lemmas.List.Elements.{All-nil, All-cons}
 use Rattle.std.proofs.lemmas.Option.{slice_get_within}
 use Rattle.ir_forms.specs.declared.flow.FlowWrite.{FlowWrite}
 use Rattle.ir_forms.specs.declared.flow.FlowBlock.{FlowBlock}
-use Rattle.ir_forms.specs.FlowFits.{FitsNode, FitsWrite, FitsFlowSource, FitsGuard, RisesFrom, RisesFromGuard}
-use Rattle.predication.specs.Converted.{reads_in, nodes_read, writes_read, reads_below}
-use Rattle.ir_forms.specs.HyperFits.{FitsHyper}
-use Rattle.predication.specs.Laws.{HasRoom, ConvertsFitting}
+use Rattle.ir_forms.specs.inside.FlowFits.{FitsNode, FitsWrite, FitsFlowSource, FitsGuard, RisesFrom, RisesFromGuard}
+use Rattle.predication.specs.inside.Converted.{reads_in, nodes_read, writes_read, reads_below}
+use Rattle.ir_forms.specs.inside.HyperFits.{FitsHyper}
+use Rattle.predication.specs.inside.Laws.{HasRoom, ConvertsFitting}
 use Rattle.predication.proofs.Numbers.{Rises, IsNext, next_after, next_le}
 use Rattle.predication.proofs.Converted.{block_rises, converts_paths}
-use Rattle.ir_forms.specs.FlowRegular.{is_silent}
+use Rattle.ir_forms.specs.inside.FlowRegular.{is_silent}
 use Rattle.predication.proofs.Static.{EachGood, GoodGuard, Well, Static, Heard, GoodEnv, static_append}
 use Rattle.predication.proofs.Static.{heard_front, heard_back, no_bits_good, items_static, tail_static}
 use Rattle.predication.proofs.Static.{tail_number}

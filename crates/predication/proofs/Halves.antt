@@ -1,7 +1,7 @@
 -- The halves of an address of 32 bits are its own.
 use Rattle.std.proofs.Common.{◌≡◌, ℕ, ◌+◌, ◌-◌, ◌*◌, ◌/◌, ◌%◌, ◌^◌, ◌<◌, ap, arith, cond, nat_lt, Bool, true}
 use Rattle.std.proofs.lemmas.Bool.Decides.{nat_tests}
-use Rattle.predication.specs.Tails.{high_half, low_half}
+use Rattle.predication.specs.inside.Tails.{high_half, low_half}
 
 short_is : (w : ℕ) → w < 2 ^ 32 → nat_lt w (2 ^ 32) ≡ true
 short_is w l = grind (arith, nat_tests, l)

@@ -5,8 +5,8 @@ use Rattle.ir_forms.specs.declared.flow.FlowNode.{FlowNode}
 use Rattle.predication.specs.declared.work.Work.{Work}
 use Rattle.predication.specs.declared.work.Named.{Named}
 use Rattle.predication.specs.declared.work.Names.{Names}
-use Rattle.predication.specs.Environments.{Entry, under, put}
-use Rattle.predication.specs.Ifs.{Part, Joined}
+use Rattle.predication.specs.inside.Environments.{Entry, under, put}
+use Rattle.predication.specs.inside.Ifs.{Part, Joined}
 use Rattle.predication.specs.inside.Emits.{Adds, low, leg_part, both_nodes, both_entry, puts, joined_at}
 use Rattle.predication.proofs.AddLemmas.{more_nodes, adds_nodes, adds_count}
 use Rattle.predication.proofs.NameLemmas.{puts_last}

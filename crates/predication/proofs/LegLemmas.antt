@@ -5,16 +5,16 @@ use Rattle.ir_forms.specs.declared.hyper.Source.{Source}
 use Rattle.ir_forms.specs.declared.flow.FlowNode.{FlowNode}
 use Rattle.ir_forms.specs.declared.hyper.HyperItem.{HyperItem}
 use Rattle.ir_forms.specs.declared.hyper.HyperItem.TheVariants as item
-use Rattle.ir_forms.specs.HyperCode.{Items, Done, If}
-use Rattle.ir_forms.specs.HyperViews.{items_of, then_items}
+use Rattle.ir_forms.specs.inside.HyperCode.{Items, Done, If}
+use Rattle.ir_forms.specs.inside.HyperViews.{items_of, then_items}
 use Rattle.ir_forms.proofs.Views.{then_if}
 use Rattle.predication.specs.declared.work.Work.{Work}
 use Rattle.predication.specs.declared.work.Named.{Named}
 use Rattle.predication.specs.declared.work.Noted.{Noted}
 use Rattle.predication.specs.declared.work.Names.{Names}
-use Rattle.predication.specs.Environments.{Scope, Env, no_bits, left_bits, under, distinct}
-use Rattle.predication.specs.Operands.{Chain, tested}
-use Rattle.predication.specs.Ifs.{Joined, Out, join, items, touched}
+use Rattle.predication.specs.inside.Environments.{Scope, Env, no_bits, left_bits, under, distinct}
+use Rattle.predication.specs.inside.Operands.{Chain, tested}
+use Rattle.predication.specs.inside.Ifs.{Joined, Out, join, items, touched}
 use Rattle.predication.specs.inside.Emits.{Adds, low, env_of, bits_of, joined_at}
 use Rattle.predication.specs.inside.Ends.{End, behind, out_of, ends}
 use Rattle.predication.proofs.AddLemmas.{more_nodes, count_more, adds_nodes, adds_number, adds_count}

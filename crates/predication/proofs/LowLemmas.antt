@@ -9,15 +9,16 @@ use Rattle.ir_forms.specs.declared.hyper.Exit.{Exit}
 use Rattle.ir_forms.specs.declared.hyper.Exit.TheVariants as exit
 use Rattle.ir_forms.specs.declared.flow.FlowSource.{FlowSource}
 use Rattle.ir_forms.specs.declared.flow.FlowNode.{FlowNode}
-use Rattle.ir_forms.specs.HyperCode.{Items, Done, Set, Load, Save, If, Tail, Leave, Test, Block}
-use Rattle.predication.specs.Environments.{Scope, Entry, Env, Bits, put, note, from_node, under, no_bits, member}
-use Rattle.predication.specs.Environments.{at_start, left_bits, distinct}
+use Rattle.ir_forms.specs.inside.HyperCode.{Items, Done, Set, Load, Save, If, Tail, Leave, Test, Block}
+use Rattle.predication.specs.inside.Environments.{Scope, Entry, Env, Bits, put, note, from_node, under, no_bits}
+use Rattle.predication.specs.inside.Environments.{member}
+use Rattle.predication.specs.inside.Environments.{at_start, left_bits, distinct}
 use Rattle.trips_isa.specs.declared.op.Op.TheVariants.{Ret}
-use Rattle.predication.specs.Operands.{Got, node_of, chain, longer, movs, read_of, operand, second, bit_set}
-use Rattle.predication.specs.Operands.{fresh_test, test_by, tested, most_apps}
-use Rattle.predication.specs.Ifs.{left_of, side_of, join, items, touched}
-use Rattle.predication.specs.Tails.{branch_of, leaving, tail, tail_touched}
-use Rattle.predication.specs.Converted.{begun, ended, all_nodes}
+use Rattle.predication.specs.inside.Operands.{Got, node_of, chain, longer, movs, read_of, operand, second, bit_set}
+use Rattle.predication.specs.inside.Operands.{fresh_test, test_by, tested, most_apps}
+use Rattle.predication.specs.inside.Ifs.{left_of, side_of, join, items, touched}
+use Rattle.predication.specs.inside.Tails.{branch_of, leaving, tail, tail_touched}
+use Rattle.predication.specs.inside.Converted.{begun, ended, all_nodes}
 use Rattle.predication.specs.inside.Emits.{low}
 use Rattle.predication.proofs.Untaken.{legs_at, test_at, yea_out, nay_at, nay_out, joined, rest_at, rest_out}
 use Rattle.predication.proofs.Tails.{t_yea, t_nay_at, t_nay, t_joined}

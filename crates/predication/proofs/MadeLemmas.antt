@@ -5,8 +5,8 @@ use Rattle.std.specs.Prelude.{None, Result, Ok, Err}
 use Rattle.std.proofs.lemmas.List.{map-append, length-map}
 use Rattle.ir_forms.specs.declared.flow.FlowNode.{FlowNode}
 use Rattle.ir_forms.specs.declared.flow.FlowBlock.{FlowBlock}
-use Rattle.ir_forms.specs.HyperCode.{Items, Done, Block}
-use Rattle.ir_forms.specs.HyperFits.{exits_in}
+use Rattle.ir_forms.specs.inside.HyperCode.{Items, Done, Block}
+use Rattle.ir_forms.specs.inside.HyperFits.{exits_in}
 use Rattle.predication.specs.declared.work.Work.{Work}
 use Rattle.predication.specs.declared.work.Named.{Named}
 use Rattle.predication.specs.declared.work.Noted.{Noted}
@@ -15,11 +15,11 @@ use Rattle.predication.specs.declared.work.Emitted.{Emitted}
 use Rattle.ir_forms.specs.declared.fault.FlowFault.{FlowFault}
 use Rattle.ir_forms.specs.declared.fault.FlowFault.TheVariants.{TooBig, Memory}
 use Rattle.ir_forms.specs.declared.fault.Part.TheVariants.{Insts, Reads, Writes, Numbers, Exits}
-use Rattle.predication.specs.Environments.{Env, Bits, no_bits, at_start}
-use Rattle.predication.specs.Ifs.{Out, items, touched}
-use Rattle.predication.specs.Tails.{Ending, tail, tail_touched}
-use Rattle.predication.specs.Converted.{begun, ended, all_nodes, all_touched, predicated}
-use Rattle.predication.specs.Outcomes.{Counts, counts_of, HasRoomFor, IsRefusal}
+use Rattle.predication.specs.inside.Environments.{Env, Bits, no_bits, at_start}
+use Rattle.predication.specs.inside.Ifs.{Out, items, touched}
+use Rattle.predication.specs.inside.Tails.{Ending, tail, tail_touched}
+use Rattle.predication.specs.inside.Converted.{begun, ended, all_nodes, all_touched, predicated}
+use Rattle.predication.specs.inside.Outcomes.{Counts, counts_of, HasRoomFor, IsRefusal}
 use Rattle.predication.specs.inside.Emits.{low, env_of, bits_of}
 use Rattle.predication.specs.inside.Ends.{End, out_of, ends, ending_of, work_after}
 use Rattle.predication.specs.inside.Made.{writes_of, reads_of, mask_of, flow_of, flow_in, counts_by, counts_in}

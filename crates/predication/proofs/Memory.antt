@@ -14,7 +14,7 @@ use Rattle.trips_isa.specs.declared.block.Inst.{Inst}
 use Rattle.trips_isa.specs.Forms.{size_of}
 use Rattle.trips_isa.specs.Stores.{data_size, is_good_address, word_store, byte_of, or_byte, byte_seen}
 use Rattle.trips_isa.specs.Stores.{bytes_seen, put_bytes, put_value, store_all, listed, listed_below}
-use Rattle.ir_forms.specs.HyperRuns.{saved, number_in}
+use Rattle.ir_forms.specs.inside.HyperRuns.{saved, number_in}
 
 pub store_append : (a b : List Stored) (mem : List ℕ) → store_all mem (a ++ b) ≡ store_all (store_all mem a) b
 store_append [] b mem = refl

@@ -6,7 +6,7 @@ use Rattle.std.proofs.Math.Path.{fun_ext}
 use Rattle.std.proofs.lemmas.Bool.Decides.{nat_tests}
 use Rattle.predication.specs.declared.work.Named.{Named}
 use Rattle.predication.specs.declared.work.Noted.{Noted}
-use Rattle.predication.specs.Environments.{Entry, Env, Bits, put, note}
+use Rattle.predication.specs.inside.Environments.{Entry, Env, Bits, put, note}
 use Rattle.predication.specs.inside.Emits.{puts, env_of, place_from, bits_of, noted_from}
 
 -- PUTTING

@@ -10,13 +10,14 @@ use Rattle.trips_isa.specs.Forms.{form_of, role_of, takes_right}
 use Rattle.trips_isa.specs.Rule.{Answer}
 use Rattle.trips_isa.specs.Tables.{or_else}
 use Rattle.ir_forms.specs.declared.flow.FlowNode.{FlowNode}
-use Rattle.ir_forms.specs.FlowRuns.{Computes, met, Obeys, stored_where, stored_in, stores, present, numbered, tokens}
-use Rattle.predication.specs.Environments.{Scope, Env, Bits, put, from_node, under, no_bits, left_bits}
-use Rattle.predication.specs.Environments.{note, distinct}
-use Rattle.predication.specs.Operands.{node_of, operand, second, bit_set, tested}
-use Rattle.predication.specs.Ifs.{items, touched}
-use Rattle.ir_forms.specs.HyperCode.{Items, Done, Set, Load, Save, If}
-use Rattle.ir_forms.specs.HyperFits.{FitsItems}
+use Rattle.ir_forms.specs.inside.FlowRuns.{Computes, met, Obeys, stored_where, stored_in, stores, present, numbered}
+use Rattle.ir_forms.specs.inside.FlowRuns.{tokens}
+use Rattle.predication.specs.inside.Environments.{Scope, Env, Bits, put, from_node, under, no_bits, left_bits}
+use Rattle.predication.specs.inside.Environments.{note, distinct}
+use Rattle.predication.specs.inside.Operands.{node_of, operand, second, bit_set, tested}
+use Rattle.predication.specs.inside.Ifs.{items, touched}
+use Rattle.ir_forms.specs.inside.HyperCode.{Items, Done, Set, Load, Save, If}
+use Rattle.ir_forms.specs.inside.HyperFits.{FitsItems}
 use Rattle.predication.proofs.Tables.{is_still, Quiet, operand_quiet, second_quiet, present_most, SettledIn, Runs}
 use Rattle.predication.proofs.TakenLegs.{join_quiet}
 use Rattle.predication.proofs.Untaken.{legs_at, test_at, yea_out, nay_at, nay_out, join_at, joined, rest_at}

@@ -12,13 +12,13 @@ use Rattle.ir_forms.specs.declared.hyper.Source.{Source}
 use Rattle.ir_forms.specs.declared.hyper.Source.TheVariants.{Const, Reg}
 use Rattle.ir_forms.specs.declared.flow.FlowSource.TheVariants.{Node}
 use Rattle.ir_forms.specs.declared.flow.FlowNode.{FlowNode}
-use Rattle.ir_forms.specs.HyperRuns.{value_of}
-use Rattle.ir_forms.specs.FlowRuns.{Computes, first, gives, meant}
-use Rattle.predication.specs.Environments.{Env}
-use Rattle.predication.specs.Operands.{constant_of, longer, chain, operand, second}
+use Rattle.ir_forms.specs.inside.HyperRuns.{value_of}
+use Rattle.ir_forms.specs.inside.FlowRuns.{Computes, first, gives, meant}
+use Rattle.predication.specs.inside.Environments.{Env}
+use Rattle.predication.specs.inside.Operands.{constant_of, longer, chain, operand, second}
 use Rattle.predication.proofs.Tables.{Live, Runs, runs_front, runs_back, read_sound}
 use Rattle.trips_isa.specs.Alu.{word, alu_of}
-use Rattle.ir_forms.specs.HyperFits.{FitsSource}
+use Rattle.ir_forms.specs.inside.HyperFits.{FitsSource}
 use Rattle.predication.proofs.Ops.{Right}
 
 abbrev pub below : ℕ → ℕ

@@ -9,10 +9,10 @@ use Rattle.trips_isa.specs.Forms.{form_of, role_of, takes_right}
 use Rattle.trips_isa.specs.Rule.{Answer, gives}
 use Rattle.trips_isa.specs.Alu.{alu_of, test}
 use Rattle.ir_forms.specs.declared.flow.FlowNode.{FlowNode}
-use Rattle.trips_isa.specs.Acts.{divisions}
-use Rattle.ir_forms.specs.FlatFits.{operates}
-use Rattle.ir_forms.specs.FlowRuns.{act_tokens}
-use Rattle.predication.specs.Operands.{is_test}
+use Rattle.trips_isa.specs.inside.Acts.{divisions}
+use Rattle.ir_forms.specs.inside.FlatFits.{operates}
+use Rattle.ir_forms.specs.inside.FlowRuns.{act_tokens}
+use Rattle.predication.specs.inside.Operands.{is_test}
 
 -- an operation on words has the general form
 pub op_form : (o : Op) → operates o ≡ true → form_of o ≡ form.General

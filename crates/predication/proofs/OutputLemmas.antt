@@ -1,8 +1,8 @@
 -- One register more, and one number more.
 use Rattle.std.proofs.Common.{◌≡◌, ℕ, suc, Bool, true, false, cond, List, [], ◌∷◌, ◌++◌, append_assoc}
 use Rattle.ir_forms.specs.declared.flow.FlowWrite.{FlowWrite}
-use Rattle.predication.specs.Environments.{Env, member}
-use Rattle.predication.specs.Converted.{writes_below}
+use Rattle.predication.specs.inside.Environments.{Env, member}
+use Rattle.predication.specs.inside.Converted.{writes_below}
 use Rattle.predication.specs.inside.Made.{write_of, member_of, members_below}
 
 -- one more of a list, or none

@@ -8,9 +8,9 @@ use Rattle.ir_forms.specs.declared.flow.FlowSource.{FlowSource}
 use Rattle.ir_forms.specs.declared.flow.FlowSource.TheVariants.{Read, Node}
 use Rattle.ir_forms.specs.declared.flow.FlowNode.{FlowNode}
 use Rattle.ir_forms.specs.declared.flow.FlowWrite.{FlowWrite}
-use Rattle.predication.specs.Environments.{member}
-use Rattle.predication.specs.Converted.{reads_in, nodes_read, writes_read, reads_below, stores_as}
-use Rattle.predication.specs.Converted.{has_store, mask_below}
+use Rattle.predication.specs.inside.Environments.{member}
+use Rattle.predication.specs.inside.Converted.{reads_in, nodes_read, writes_read, reads_below, stores_as}
+use Rattle.predication.specs.inside.Converted.{has_store, mask_below}
 use Rattle.predication.specs.inside.Made.{Notes, members_below, mask_members}
 use Rattle.predication.proofs.TakenLegs.{member_append}
 

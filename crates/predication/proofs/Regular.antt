@@ -10,23 +10,23 @@ use Rattle.trips_isa.specs.Forms.{form_of}
 use Rattle.ir_forms.specs.declared.flow.FlowSource.{FlowSource}
 use Rattle.ir_forms.specs.declared.flow.FlowSource.TheVariants.{Read, Node}
 use Rattle.ir_forms.specs.declared.flow.FlowNode.{FlowNode}
-use Rattle.predication.specs.Environments.{Scope, Env, member}
-use Rattle.predication.specs.Converted.{begun, ended, all_nodes, all_touched, writes_below, has_store}
-use Rattle.predication.specs.Converted.{stores_as, mask_below}
-use Rattle.ir_forms.specs.HyperCode.{Block}
+use Rattle.predication.specs.inside.Environments.{Scope, Env, member}
+use Rattle.predication.specs.inside.Converted.{begun, ended, all_nodes, all_touched, writes_below, has_store}
+use Rattle.predication.specs.inside.Converted.{stores_as, mask_below}
+use Rattle.ir_forms.specs.inside.HyperCode.{Block}
 use Rattle.std.proofs.Common.{◌||◌, ◌-◌}
 use Rattle.std.specs.Prelude.{slice_get}
 use Rattle.std.proofs.lemmas.Nat.{pow-add, pow_pos}
 use Rattle.std.proofs.Math.Nat.{add-mul-div_right, add-mul-mod_self_right, div-eq_of_lt}
 use Rattle.ir_forms.specs.declared.flow.FlowWrite.{FlowWrite}
-use Rattle.ir_forms.specs.FlowFits.{in_mask, FitsNodeForm}
+use Rattle.ir_forms.specs.inside.FlowFits.{in_mask, FitsNodeForm}
 use Rattle.ir_forms.specs.declared.flow.Guard.{Guard}
 use Rattle.trips_isa.specs.declared.block.Sense.TheVariants.{Always}
-use Rattle.predication.specs.Converted.{reads_in, nodes_read, writes_read, reads_below}
-use Rattle.ir_forms.specs.HyperFits.{FitsHyper}
-use Rattle.predication.specs.Laws.{ConvertsRegular}
+use Rattle.predication.specs.inside.Converted.{reads_in, nodes_read, writes_read, reads_below}
+use Rattle.ir_forms.specs.inside.HyperFits.{FitsHyper}
+use Rattle.predication.specs.inside.Laws.{ConvertsRegular}
 use Rattle.predication.proofs.Converted.{block_rises}
-use Rattle.ir_forms.specs.FlowRegular.{same_source, is_among, guards_by, nodes_name, writes_name, is_silent}
+use Rattle.ir_forms.specs.inside.FlowRegular.{same_source, is_among, guards_by, nodes_name, writes_name, is_silent}
 use Rattle.predication.proofs.Static.{EachGood, GoodGuard, Well, Static}
 use Rattle.predication.proofs.Fits.{all_from, Talks, static_at, made, write_is, mask_lt, numbers_order}
 use Rattle.predication.proofs.Fits.{store_numbered, load_numbered, before_or, is_numbered}

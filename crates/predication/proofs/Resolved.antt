@@ -18,19 +18,20 @@ use Rattle.ir_forms.specs.declared.flow.FlowSource.TheVariants.{Node}
 use Rattle.ir_forms.specs.declared.flow.FlowNode.{FlowNode}
 use Rattle.ir_forms.specs.declared.flow.FlowWrite.{FlowWrite}
 use Rattle.ir_forms.specs.declared.flow.FlowBlock.{FlowBlock}
-use Rattle.ir_forms.specs.HyperCode.{Items, Done, Set, Load, Save, If, Tail, Leave, Test}
-use Rattle.ir_forms.specs.HyperFits.{FitsSource, FitsItems, FitsTail}
-use Rattle.predication.specs.Environments.{Scope, Entry, Env, Bits, no_bits, under, put, note, from_node}
-use Rattle.predication.specs.Environments.{at_start, left_bits, member, distinct}
-use Rattle.predication.specs.Operands.{Got, node_of, constant_of, mov_of, longer, chain, movs, read_of}
-use Rattle.predication.specs.Operands.{operand, second, bit_set, fresh_test, test_by, tested}
-use Rattle.predication.specs.Ifs.{Part, left_of, side_of, Joined, join, items, touched}
-use Rattle.predication.specs.Tails.{exit_with, tail_with, labelled, addressed, high_half, low_half, branch_of}
-use Rattle.predication.specs.Tails.{tail_touched, Ending, leaving, tail}
-use Rattle.predication.specs.Converted.{begun, ended, all_nodes, all_touched, writes_below, nodes_read, writes_read}
-use Rattle.predication.specs.Converted.{reads_in, reads_below, stores_as, has_store, mask_below}
-use Rattle.predication.specs.Labels.{half_of, by_address, resolved_node, resolved}
-use Rattle.predication.specs.Laws.{ResolvesLabels}
+use Rattle.ir_forms.specs.inside.HyperCode.{Items, Done, Set, Load, Save, If, Tail, Leave, Test}
+use Rattle.ir_forms.specs.inside.HyperFits.{FitsSource, FitsItems, FitsTail}
+use Rattle.predication.specs.inside.Environments.{Scope, Entry, Env, Bits, no_bits, under, put, note, from_node}
+use Rattle.predication.specs.inside.Environments.{at_start, left_bits, member, distinct}
+use Rattle.predication.specs.inside.Operands.{Got, node_of, constant_of, mov_of, longer, chain, movs, read_of}
+use Rattle.predication.specs.inside.Operands.{operand, second, bit_set, fresh_test, test_by, tested}
+use Rattle.predication.specs.inside.Ifs.{Part, left_of, side_of, Joined, join, items, touched}
+use Rattle.predication.specs.inside.Tails.{exit_with, tail_with, labelled, addressed, high_half, low_half, branch_of}
+use Rattle.predication.specs.inside.Tails.{tail_touched, Ending, leaving, tail}
+use Rattle.predication.specs.inside.Converted.{begun, ended, all_nodes, all_touched, writes_below, nodes_read}
+use Rattle.predication.specs.inside.Converted.{writes_read}
+use Rattle.predication.specs.inside.Converted.{reads_in, reads_below, stores_as, has_store, mask_below}
+use Rattle.predication.specs.inside.Labels.{half_of, by_address, resolved_node, resolved}
+use Rattle.predication.specs.inside.Laws.{ResolvesLabels}
 use Rattle.predication.proofs.Operands.{below}
 use Rattle.predication.proofs.Halves.{high_is, low_is}
 

@@ -5,11 +5,11 @@ use Rattle.trips_isa.specs.declared.op.Op.TheVariants as op
 use Rattle.ir_forms.specs.declared.hyper.Source.TheVariants.{Const, Reg}
 use Rattle.ir_forms.specs.declared.hyper.Exit.TheVariants as exit
 use Rattle.ir_forms.specs.declared.flow.FlowSource.TheVariants.{Read, Node}
-use Rattle.ir_forms.specs.HyperCode.{Done, Set, Save, If, Leave, Test, Block}
-use Rattle.predication.specs.Environments.{under}
-use Rattle.predication.specs.Operands.{node_of, constant_of, mov_of, test_of}
-use Rattle.predication.specs.Tails.{branch_of, address_nodes}
-use Rattle.predication.specs.Converted.{all_nodes, predicated}
+use Rattle.ir_forms.specs.inside.HyperCode.{Done, Set, Save, If, Leave, Test, Block}
+use Rattle.predication.specs.inside.Environments.{under}
+use Rattle.predication.specs.inside.Operands.{node_of, constant_of, mov_of, test_of}
+use Rattle.predication.specs.inside.Tails.{branch_of, address_nodes}
+use Rattle.predication.specs.inside.Converted.{all_nodes, predicated}
 
 -- a test's word is the guard itself, and the constant has no guard
 abbrev small : Block

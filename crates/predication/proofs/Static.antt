@@ -14,32 +14,32 @@ use Rattle.ir_forms.specs.declared.hyper.Source.TheVariants.{Const, Reg}
 use Rattle.ir_forms.specs.declared.flow.FlowSource.{FlowSource}
 use Rattle.ir_forms.specs.declared.flow.FlowSource.TheVariants.{Read, Node}
 use Rattle.ir_forms.specs.declared.flow.FlowNode.{FlowNode}
-use Rattle.predication.specs.Environments.{Scope, Entry, Env, Bits, put, from_node, both, under, sense_on}
-use Rattle.predication.specs.Environments.{member, distinct, no_bits, left_bits, note}
-use Rattle.predication.specs.Operands.{node_of, constant_of, mov_of, Chain, longer, chain, Got, movs, froms}
-use Rattle.predication.specs.Operands.{read_of, operand, second, bit_of, is_test, is_move, bit_at, bit_set}
-use Rattle.predication.specs.Operands.{fresh_test, test_by, tested, test_of}
-use Rattle.predication.specs.Ifs.{Part, left_of, side_of, Joined, join, Out, items, touched}
-use Rattle.predication.specs.Tails.{branch_of, Ending, leaving, tail, tail_touched, high_half, low_half}
+use Rattle.predication.specs.inside.Environments.{Scope, Entry, Env, Bits, put, from_node, both, under, sense_on}
+use Rattle.predication.specs.inside.Environments.{member, distinct, no_bits, left_bits, note}
+use Rattle.predication.specs.inside.Operands.{node_of, constant_of, mov_of, Chain, longer, chain, Got, movs, froms}
+use Rattle.predication.specs.inside.Operands.{read_of, operand, second, bit_of, is_test, is_move, bit_at, bit_set}
+use Rattle.predication.specs.inside.Operands.{fresh_test, test_by, tested, test_of}
+use Rattle.predication.specs.inside.Ifs.{Part, left_of, side_of, Joined, join, Out, items, touched}
+use Rattle.predication.specs.inside.Tails.{branch_of, Ending, leaving, tail, tail_touched, high_half, low_half}
 use Rattle.predication.proofs.Halves.{high_is, low_is}
 use Rattle.predication.proofs.TakenLegs.{member_distinct}
 use Rattle.trips_isa.specs.Forms.{role_in}
 use Rattle.trips_isa.specs.Rule.{low}
-use Rattle.ir_forms.specs.HyperCode.{Items, Done, Set, Load, Save, If, Tail, Leave, Test}
-use Rattle.ir_forms.specs.FlatFits.{operates, loads}
-use Rattle.ir_forms.specs.FlatFits as flat
+use Rattle.ir_forms.specs.inside.HyperCode.{Items, Done, Set, Load, Save, If, Tail, Leave, Test}
+use Rattle.ir_forms.specs.inside.FlatFits.{operates, loads}
+use Rattle.ir_forms.specs.inside.FlatFits as flat
 use Rattle.ir_forms.specs.declared.hyper.Exit.{Exit}
 use Rattle.ir_forms.specs.declared.hyper.Exit.TheVariants as exit
-use Rattle.ir_forms.specs.HyperFits.{FitsSource, FitsItems, FitsTail}
+use Rattle.ir_forms.specs.inside.HyperFits.{FitsSource, FitsItems, FitsTail}
 use Rattle.predication.proofs.Untaken.{legs_at, test_at, yea_out, nay_at, nay_out, join_at, joined, rest_at}
 use Rattle.predication.proofs.Untaken.{rest_out, load_form, store_form}
 use Rattle.predication.proofs.Ops.{op_form}
 use Rattle.trips_isa.specs.Forms.{takes_left}
 use Rattle.trips_isa.specs.declared.block.Sense.TheVariants.{Always}
-use Rattle.ir_forms.specs.FlowFits.{FitsNodeForm}
+use Rattle.ir_forms.specs.inside.FlowFits.{FitsNodeForm}
 use Rattle.std.proofs.Common.{◌^◌}
-use Rattle.ir_forms.specs.HyperFits.{FitsExit, exits_in}
-use Rattle.ir_forms.specs.FlowRegular.{is_silent}
+use Rattle.ir_forms.specs.inside.HyperFits.{FitsExit, exits_in}
+use Rattle.ir_forms.specs.inside.FlowRegular.{is_silent}
 use Rattle.predication.proofs.Operands.{below}
 use Rattle.predication.proofs.BitLemmas.{bit_left}
 use Rattle.predication.proofs.Numbers.{rises_le, items_rise}

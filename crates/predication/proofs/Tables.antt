@@ -13,14 +13,14 @@ use Rattle.ir_forms.specs.declared.hyper.Source.{Source}
 use Rattle.ir_forms.specs.declared.hyper.Source.TheVariants.{Const, Reg}
 use Rattle.ir_forms.specs.declared.flow.FlowSource.{FlowSource}
 use Rattle.ir_forms.specs.declared.flow.FlowNode.{FlowNode}
-use Rattle.trips_isa.specs.Acts.{Act}
+use Rattle.trips_isa.specs.inside.Acts.{Act}
 use Rattle.trips_isa.specs.Faults.{divides}
-use Rattle.ir_forms.specs.HyperRuns.{register_put}
-use Rattle.ir_forms.specs.FlowRuns.{Computes, got, first, guard_token, gives, met, stored_where, exits}
-use Rattle.ir_forms.specs.FlowRuns.{leaving_in, act_tokens, fired, present, count}
-use Rattle.ir_forms.specs.FlowFits.{AtMostOne}
-use Rattle.predication.specs.Environments.{Scope, Entry, Env, put, from_node, both}
-use Rattle.predication.specs.Operands.{Chain, longer, chain, movs, froms, read_of, operand, second}
+use Rattle.ir_forms.specs.inside.HyperRuns.{register_put}
+use Rattle.ir_forms.specs.inside.FlowRuns.{Computes, got, first, guard_token, gives, met, stored_where, exits}
+use Rattle.ir_forms.specs.inside.FlowRuns.{leaving_in, act_tokens, fired, present, count}
+use Rattle.ir_forms.specs.inside.FlowFits.{AtMostOne}
+use Rattle.predication.specs.inside.Environments.{Scope, Entry, Env, put, from_node, both}
+use Rattle.predication.specs.inside.Operands.{Chain, longer, chain, movs, froms, read_of, operand, second}
 
 -- how many of the scopes are met
 abbrev pub total : (ℕ → Answer) → List Scope → ℕ

@@ -17,21 +17,22 @@ use Rattle.ir_forms.specs.declared.hyper.Source.{Source}
 use Rattle.ir_forms.specs.declared.hyper.Source.TheVariants.{Reg}
 use Rattle.ir_forms.specs.declared.flow.FlowSource.TheVariants.{Node}
 use Rattle.ir_forms.specs.declared.flow.FlowNode.{FlowNode}
-use Rattle.ir_forms.specs.HyperRuns.{register_put, value_of}
-use Rattle.ir_forms.specs.FlowRuns.{Computes, first, gives, met, exits, leaving_in}
-use Rattle.predication.specs.Environments.{Scope, Env, Bits, from_node, under, member, distinct, no_bits, left_bits}
-use Rattle.predication.specs.Operands.{constant_of, mov_of, operand, second, tested}
-use Rattle.predication.specs.Ifs.{Joined, join, items, touched}
-use Rattle.predication.specs.Tails.{branch_of, Ending, leaving, tail, tail_touched, address_nodes}
-use Rattle.predication.specs.Tails.{high_half, low_half}
+use Rattle.ir_forms.specs.inside.HyperRuns.{register_put, value_of}
+use Rattle.ir_forms.specs.inside.FlowRuns.{Computes, first, gives, met, exits, leaving_in}
+use Rattle.predication.specs.inside.Environments.{Scope, Env, Bits, from_node, under, member, distinct, no_bits}
+use Rattle.predication.specs.inside.Environments.{left_bits}
+use Rattle.predication.specs.inside.Operands.{constant_of, mov_of, operand, second, tested}
+use Rattle.predication.specs.inside.Ifs.{Joined, join, items, touched}
+use Rattle.predication.specs.inside.Tails.{branch_of, Ending, leaving, tail, tail_touched, address_nodes}
+use Rattle.predication.specs.inside.Tails.{high_half, low_half}
 use Rattle.predication.proofs.Halves.{halves_make}
 use Rattle.trips_isa.specs.Rule.{low, matched}
-use Rattle.ir_forms.specs.HyperCode.{Items, Done, Set, Load, Save, If, Tail, Leave, Test}
-use Rattle.ir_forms.specs.HyperRuns.{Machine, with_register, with_memory, after_items, acts, pick, loaded}
-use Rattle.ir_forms.specs.HyperRuns.{saved, number_in}
+use Rattle.ir_forms.specs.inside.HyperCode.{Items, Done, Set, Load, Save, If, Tail, Leave, Test}
+use Rattle.ir_forms.specs.inside.HyperRuns.{Machine, with_register, with_memory, after_items, acts, pick, loaded}
+use Rattle.ir_forms.specs.inside.HyperRuns.{saved, number_in}
 use Rattle.ir_forms.specs.declared.hyper.Exit.{Exit}
 use Rattle.ir_forms.specs.declared.hyper.Exit.TheVariants as exit
-use Rattle.ir_forms.specs.HyperFits.{FitsSource, FitsItems, FitsTail}
+use Rattle.ir_forms.specs.inside.HyperFits.{FitsSource, FitsItems, FitsTail}
 use Rattle.predication.proofs.Tables.{is_inner, Quiet, quiet_append, Inner, inner_append, operand_quiet}
 use Rattle.predication.proofs.Tables.{operand_inner, second_inner, exits_append, inner_exits, present_most}
 use Rattle.predication.proofs.Tables.{Clear, Dead, Live, Sparse, live_sparse, from_sound, from_dead, live_put}
@@ -46,12 +47,12 @@ use Rattle.predication.proofs.Untaken.{tested_off, tested_calm}
 use Rattle.predication.proofs.Operands.{Meant, operand_gives}
 use Rattle.predication.proofs.Ops.{op_form}
 use Rattle.trips_isa.specs.Alu.{alu_of}
-use Rattle.ir_forms.specs.FlowRuns.{inst_of}
+use Rattle.ir_forms.specs.inside.FlowRuns.{inst_of}
 use Rattle.predication.proofs.Taken.{BitsAre, no_bit, tested_decides, test_met, met_node, nonzero, pick_yea, pick_nay}
-use Rattle.ir_forms.specs.HyperRuns.{Layout, exit_of}
-use Rattle.ir_forms.specs.HyperRuns as HyperRuns
-use Rattle.ir_forms.specs.HyperFits.{FitsExit}
-use Rattle.ir_forms.specs.Agreement.{IsExit}
+use Rattle.ir_forms.specs.inside.HyperRuns.{Layout, exit_of}
+use Rattle.ir_forms.specs.inside.HyperRuns as HyperRuns
+use Rattle.ir_forms.specs.inside.HyperFits.{FitsExit}
+use Rattle.ir_forms.specs.inside.Agreement.{IsExit}
 
 -- THE PARTS OF A TEST, BY NAME
 

@@ -16,22 +16,25 @@ use Rattle.ir_forms.specs.declared.hyper.Source.{Source}
 use Rattle.ir_forms.specs.declared.hyper.Source.TheVariants.{Const, Reg}
 use Rattle.ir_forms.specs.declared.flow.FlowSource.{FlowSource}
 use Rattle.ir_forms.specs.declared.flow.FlowNode.{FlowNode}
-use Rattle.trips_isa.specs.Acts.{Act}
-use Rattle.ir_forms.specs.HyperRuns.{register_put, value_of}
-use Rattle.ir_forms.specs.FlowRuns.{Computes, first, met, act_tokens, fired}
-use Rattle.predication.specs.Environments.{Scope, Env, Bits, put, from_node, under, no_bits, left_bits, note, member}
-use Rattle.predication.specs.Environments.{distinct}
-use Rattle.predication.specs.Operands.{node_of, Got, operand, second, bit_of, is_test, is_move, bit_at, bit_set}
-use Rattle.predication.specs.Operands.{fresh_test, test_by, tested, test_of}
-use Rattle.predication.specs.Ifs.{Out, items, touched}
+use Rattle.trips_isa.specs.inside.Acts.{Act}
+use Rattle.ir_forms.specs.inside.HyperRuns.{register_put, value_of}
+use Rattle.ir_forms.specs.inside.FlowRuns.{Computes, first, met, act_tokens, fired}
+use Rattle.predication.specs.inside.Environments.{Scope, Env, Bits, put, from_node, under, no_bits, left_bits, note}
+use Rattle.predication.specs.inside.Environments.{member}
+use Rattle.predication.specs.inside.Environments.{distinct}
+use Rattle.predication.specs.inside.Operands.{node_of, Got, operand, second, bit_of, is_test, is_move, bit_at}
+use Rattle.predication.specs.inside.Operands.{bit_set}
+use Rattle.predication.specs.inside.Operands.{fresh_test, test_by, tested, test_of}
+use Rattle.predication.specs.inside.Ifs.{Out, items, touched}
 use Rattle.trips_isa.specs.Forms.{size_of, role_in}
 use Rattle.trips_isa.specs.Rule.{low, matched}
 use Rattle.trips_isa.specs.Stores.{stored_of, address_of, word_store}
-use Rattle.ir_forms.specs.HyperCode.{Items, Done, Set, Load, Save, If}
-use Rattle.ir_forms.specs.HyperRuns.{Machine, with_register, with_memory, after_items, acts, pick, loaded, saved}
-use Rattle.ir_forms.specs.FlatFits.{operates, loads}
-use Rattle.ir_forms.specs.FlatFits as flat
-use Rattle.ir_forms.specs.HyperFits.{FitsSource, FitsItems}
+use Rattle.ir_forms.specs.inside.HyperCode.{Items, Done, Set, Load, Save, If}
+use Rattle.ir_forms.specs.inside.HyperRuns.{Machine, with_register, with_memory, after_items, acts, pick, loaded}
+use Rattle.ir_forms.specs.inside.HyperRuns.{saved}
+use Rattle.ir_forms.specs.inside.FlatFits.{operates, loads}
+use Rattle.ir_forms.specs.inside.FlatFits as flat
+use Rattle.ir_forms.specs.inside.HyperFits.{FitsSource, FitsItems}
 use Rattle.predication.proofs.Tables.{operand_quiet, second_quiet, Clear, Live, live_sparse, from_sound}
 use Rattle.predication.proofs.Tables.{live_put, Calm, calm_append, operand_calm, second_calm, Runs}
 use Rattle.predication.proofs.Tables.{runs_front, runs_back, operand_few, second_few}
@@ -50,8 +53,8 @@ use Rattle.trips_isa.specs.Alu.{alu_of, loaded_as}
 use Rattle.trips_isa.specs.Stores.{is_good_address, bytes_seen}
 use Rattle.std.specs.Prelude.{slice_index}
 use Rattle.trips_isa.specs.Blocks.{form_computes}
-use Rattle.trips_isa.specs.Acts.{Accessed, divisions}
-use Rattle.ir_forms.specs.FlowRuns.{inst_of}
+use Rattle.trips_isa.specs.inside.Acts.{Accessed, divisions}
+use Rattle.ir_forms.specs.inside.FlowRuns.{inst_of}
 
 abbrev pub nonzero : ℕ → Bool
 nonzero zero = false

@@ -6,16 +6,17 @@ use Rattle.std.proofs.lemmas.Bool.Decides.{nat_tests}
 use Rattle.trips_isa.specs.declared.block.Stored.{Stored}
 use Rattle.trips_isa.specs.Rule.{Answer, if_matched}
 use Rattle.ir_forms.specs.declared.flow.FlowSource.{FlowSource}
-use Rattle.ir_forms.specs.FlowRuns.{Computes, first, met}
-use Rattle.predication.specs.Environments.{Scope, Entry, Env, Bits, put, from_node, both, under, member, distinct}
-use Rattle.predication.specs.Operands.{movs, froms}
-use Rattle.predication.specs.Ifs.{Part, left_of, side_of, Joined, join, items, touched}
-use Rattle.predication.specs.Tails.{tail, tail_touched}
+use Rattle.ir_forms.specs.inside.FlowRuns.{Computes, first, met}
+use Rattle.predication.specs.inside.Environments.{Scope, Entry, Env, Bits, put, from_node, both, under, member}
+use Rattle.predication.specs.inside.Environments.{distinct}
+use Rattle.predication.specs.inside.Operands.{movs, froms}
+use Rattle.predication.specs.inside.Ifs.{Part, left_of, side_of, Joined, join, items, touched}
+use Rattle.predication.specs.inside.Tails.{tail, tail_touched}
 use Rattle.predication.proofs.Tables.{total, Quiet, quiet_append, Inner, inner_append, movs_quiet, movs_inner}
 use Rattle.predication.proofs.Tables.{Clear, Sound, Dead, Few, sound_dead, dead_sound, dead_dead, Live}
 use Rattle.predication.proofs.Tables.{Sparse, from_sound, from_dead, Calm, calm_append, movs_calm, Runs}
 use Rattle.predication.proofs.Tables.{runs_front, runs_back, read_sound, read_few}
-use Rattle.ir_forms.specs.HyperCode.{Items, Done, Set, Load, Save, If, Tail, Leave, Test}
+use Rattle.ir_forms.specs.inside.HyperCode.{Items, Done, Set, Load, Save, If, Tail, Leave, Test}
 use Rattle.ir_forms.specs.declared.hyper.Exit.TheVariants as exit
 
 -- ---- what is not touched stays

@@ -12,17 +12,18 @@ use Rattle.trips_isa.specs.Rule.{Answer, if_matched}
 use Rattle.ir_forms.specs.declared.hyper.Source.{Source}
 use Rattle.ir_forms.specs.declared.hyper.Source.TheVariants.{Const, Reg}
 use Rattle.ir_forms.specs.declared.flow.FlowNode.{FlowNode}
-use Rattle.trips_isa.specs.Acts.{Act}
-use Rattle.ir_forms.specs.FlowRuns.{Computes, first, met, stored_where, act_tokens, fired, count}
-use Rattle.predication.specs.Environments.{Scope, Entry, Env, Bits, put, from_node, under, member, no_bits}
-use Rattle.predication.specs.Environments.{left_bits, note, distinct}
-use Rattle.predication.specs.Operands.{node_of, Got, operand, second, bit_of, is_test, is_move, bit_at, bit_set}
-use Rattle.predication.specs.Operands.{fresh_test, test_by, tested, test_of}
-use Rattle.predication.specs.Ifs.{Joined, join, Out, items, touched}
+use Rattle.trips_isa.specs.inside.Acts.{Act}
+use Rattle.ir_forms.specs.inside.FlowRuns.{Computes, first, met, stored_where, act_tokens, fired, count}
+use Rattle.predication.specs.inside.Environments.{Scope, Entry, Env, Bits, put, from_node, under, member, no_bits}
+use Rattle.predication.specs.inside.Environments.{left_bits, note, distinct}
+use Rattle.predication.specs.inside.Operands.{node_of, Got, operand, second, bit_of, is_test, is_move, bit_at}
+use Rattle.predication.specs.inside.Operands.{bit_set}
+use Rattle.predication.specs.inside.Operands.{fresh_test, test_by, tested, test_of}
+use Rattle.predication.specs.inside.Ifs.{Joined, join, Out, items, touched}
 use Rattle.trips_isa.specs.Forms.{is_load, is_store}
-use Rattle.ir_forms.specs.HyperCode.{Items, Done, Set, Load, Save, If}
-use Rattle.ir_forms.specs.FlatFits.{loads}
-use Rattle.ir_forms.specs.HyperFits.{FitsItems}
+use Rattle.ir_forms.specs.inside.HyperCode.{Items, Done, Set, Load, Save, If}
+use Rattle.ir_forms.specs.inside.FlatFits.{loads}
+use Rattle.ir_forms.specs.inside.HyperFits.{FitsItems}
 use Rattle.predication.proofs.Tables.{Quiet, quiet_append, Inner, inner_append, operand_quiet, operand_inner}
 use Rattle.predication.proofs.Tables.{second_quiet, fired_append, quiet_fired, Clear, Dead, Few, dead_few}
 use Rattle.predication.proofs.Tables.{Sparse, from_dead, sparse_put, SettledIn, Calm, calm_append}

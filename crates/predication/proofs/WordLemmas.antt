@@ -11,8 +11,8 @@ use Rattle.trips_isa.specs.Forms.{size_of}
 use Rattle.trips_isa.specs.Alu.{loaded_as}
 use Rattle.trips_isa.specs.Stores.{is_good_address, put_bytes}
 use Rattle.trips_isa.proofs.WordLemmas.{loaded_fits, seen_is_word}
-use Rattle.ir_forms.specs.HyperRuns.{Machine, loaded, saved, number_in}
-use Rattle.ir_forms.specs.HyperWords.{AreBytes, HasWords}
+use Rattle.ir_forms.specs.inside.HyperRuns.{Machine, loaded, saved, number_in}
+use Rattle.ir_forms.specs.inside.HyperWords.{AreBytes, HasWords}
 
 -- each byte is one
 abbrev pub Bytes : List ℕ → Type 0

@@ -1,3 +1,11 @@
 pub mod Emits
 pub mod Ends
 pub mod Made
+pub mod Converted
+pub mod Environments
+pub mod Ifs
+pub mod Labels
+pub mod Laws
+pub mod Operands
+pub mod Outcomes
+pub mod Tails

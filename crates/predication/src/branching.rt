@@ -1,7 +1,7 @@
 //! The nodes of items: of an if both legs one after the other, and then their end.
 ghost use Rattle.std.specs.Prelude.{◌≡◌, OnOk};
-ghost use Rattle.ir_forms.specs.HyperCode as code;
-ghost use Rattle.ir_forms.specs.HyperViews.{items_of, then_items};
+ghost use Rattle.ir_forms.specs.inside.HyperCode as code;
+ghost use Rattle.ir_forms.specs.inside.HyperViews.{items_of, then_items};
 ghost use Rattle.predication.specs.inside.Ends.{ends};
 
 use crate::emitting::{load, save, set};

@@ -1,10 +1,10 @@
 //! The flow block of a hyper block.
 ghost use Rattle.std.specs.Prelude.{◌≡◌, ◌≤◌, ◌↔◌, IsTrue, length, IfOk, IfErr};
-ghost use Rattle.ir_forms.specs.HyperViews.{block_of, tail_of};
-ghost use Rattle.predication.specs.Converted.{predicated};
-ghost use Rattle.predication.specs.Outcomes.{HasRoomFor, IsRefusal, NamesLabel, NamesLabels};
-ghost use Rattle.predication.specs.Outcomes.{counts_of};
-ghost use Rattle.predication.specs.Tails.{labelled};
+ghost use Rattle.ir_forms.specs.inside.HyperViews.{block_of, tail_of};
+ghost use Rattle.predication.specs.inside.Converted.{predicated};
+ghost use Rattle.predication.specs.inside.Outcomes.{HasRoomFor, IsRefusal, NamesLabel, NamesLabels};
+ghost use Rattle.predication.specs.inside.Outcomes.{counts_of};
+ghost use Rattle.predication.specs.inside.Tails.{labelled};
 ghost use Rattle.predication.specs.inside.Made.{IsEmitted, counts_by, counts_in, flow_in};
 
 use crate::branching::items;

@@ -1,9 +1,9 @@
 //! The nodes of single items.
 ghost use Rattle.std.specs.Prelude.{◌≡◌, ◌+◌, [], ◌∷◌, ◌++◌, IfOk, OnOk};
 ghost use Rattle.trips_isa.specs.Forms as forms;
-ghost use Rattle.ir_forms.specs.HyperCode as code;
-ghost use Rattle.predication.specs.Environments.{from_node, note, put};
-ghost use Rattle.predication.specs.Operands as operands;
+ghost use Rattle.ir_forms.specs.inside.HyperCode as code;
+ghost use Rattle.predication.specs.inside.Environments.{from_node, note, put};
+ghost use Rattle.predication.specs.inside.Operands as operands;
 ghost use Rattle.predication.specs.inside.Emits.{bits_of, env_of};
 ghost use Rattle.predication.specs.inside.Ends.{ends};
 

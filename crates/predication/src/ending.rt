@@ -1,8 +1,8 @@
 //! The nodes of a block's end: each exit is a branch under its scope.
 ghost use Rattle.std.specs.Prelude.{◌≡◌, ◌+◌, ◌++◌, [], ◌∷◌, length, suc, IfOk, OnOk};
 ghost use Rattle.ir_forms.specs.declared.hyper.Exit.TheVariants as exits;
-ghost use Rattle.predication.specs.Operands.{constant_of};
-ghost use Rattle.predication.specs.Tails.{exit_touched, half_end, tail_touched};
+ghost use Rattle.predication.specs.inside.Operands.{constant_of};
+ghost use Rattle.predication.specs.inside.Tails.{exit_touched, half_end, tail_touched};
 ghost use Rattle.predication.specs.inside.Emits.{Adds, env_of};
 ghost use Rattle.predication.specs.inside.Ends.{address_of, branched, ending_of, exit_labelled};
 ghost use Rattle.predication.specs.inside.Ends.{label, leaving_of, tail_labelled, work_after};

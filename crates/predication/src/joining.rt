@@ -1,8 +1,8 @@
 //! The end of an if: each register that a leg sets takes its word from both legs.
 ghost use Rattle.std.specs.Prelude.{◌≡◌, ◌++◌, [], Some, length, IfOk, OnOk};
-ghost use Rattle.predication.specs.Environments as names;
-ghost use Rattle.predication.specs.Environments.{distinct, left_bits};
-ghost use Rattle.predication.specs.Ifs as spec;
+ghost use Rattle.predication.specs.inside.Environments as names;
+ghost use Rattle.predication.specs.inside.Environments.{distinct, left_bits};
+ghost use Rattle.predication.specs.inside.Ifs as spec;
 ghost use Rattle.predication.specs.inside.Emits.{Adds, bits_of, both_entry, both_nodes, env_of};
 ghost use Rattle.predication.specs.inside.Emits.{joined_at, leg_part, puts};
 

@@ -1,5 +1,5 @@
-ghost use Rattle.predication.specs.Laws.{ConvertsFitting, ConvertsMeaning, ConvertsPaths};
-ghost use Rattle.predication.specs.Laws.{ConvertsRegular, ResolvesLabels, TakesAddressed};
+ghost use Rattle.predication.specs.inside.Laws.{ConvertsFitting, ConvertsMeaning, ConvertsPaths};
+ghost use Rattle.predication.specs.inside.Laws.{ConvertsRegular, ResolvesLabels, TakesAddressed};
 
 /// On every path of a converted block no null token meets a guard, each operand, write and number
 /// has at most one token, and exactly one exit is taken.

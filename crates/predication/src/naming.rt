@@ -1,6 +1,6 @@
 //! What each register is named: its entry and its bit.
 ghost use Rattle.std.specs.Prelude.{◌≡◌, [], IfOk, OnOk};
-ghost use Rattle.predication.specs.Environments as names;
+ghost use Rattle.predication.specs.inside.Environments as names;
 ghost use Rattle.predication.specs.inside.Emits as spec;
 
 use crate::work::{Entry, Named, Names, Noted};

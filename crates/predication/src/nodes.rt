@@ -1,6 +1,6 @@
 //! Nodes, one at a time.
 ghost use Rattle.std.specs.Prelude.{◌≡◌, [], ◌∷◌, length, pos, IfOk, OnOk};
-ghost use Rattle.predication.specs.Operands as spec;
+ghost use Rattle.predication.specs.inside.Operands as spec;
 ghost use Rattle.predication.specs.inside.Emits.{Adds, node};
 
 use crate::work::Work;

@@ -1,7 +1,7 @@
 //! The writes, the reads and the mask of a flow block.
 ghost use Rattle.std.specs.Prelude.{◌≡◌, ◌++◌, ◌∷◌, ◌||◌, [], ◌<◌, ◌≤◌, ◌+◌, ◌^◌, cond, nat_eq, IfOk, OnOk};
 ghost use Rattle.trips_isa.specs.Forms as forms;
-ghost use Rattle.predication.specs.Converted as spec;
+ghost use Rattle.predication.specs.inside.Converted as spec;
 ghost use Rattle.predication.specs.inside.Emits.{env_of};
 ghost use Rattle.predication.specs.inside.Made as made;
 ghost use Rattle.predication.specs.inside.Made.{Notes, flow_of, mask_of, member_of, reads_of, write_of};

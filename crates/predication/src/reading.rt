@@ -1,6 +1,6 @@
 //! The nodes of operands and tests.
 ghost use Rattle.std.specs.Prelude.{◌≡◌, ◌++◌, [], ◌∷◌, ◌<◌, ◌^◌, length, IfOk, OnOk};
-ghost use Rattle.predication.specs.Operands as spec;
+ghost use Rattle.predication.specs.inside.Operands as spec;
 ghost use Rattle.predication.specs.inside.Emits.{Adds, appended, bits_of, env_of};
 
 use crate::naming::{bit_of, entry_of};

@@ -2,23 +2,23 @@
 use Rattle.std.proofs.Common.{◌≡◌, ℕ, zero, suc, ◌+◌, ◌%◌, Bool, true, false, List, [], ◌∷◌}
 use Rattle.std.proofs.Common.{Option, Some, None, refl, sym, ap, ◌∙◌, subst, nat_lt, slice_get}
 use Rattle.ir_forms.specs.declared.flat.Arg.{Arg}
-use Rattle.ir_forms.specs.FlatCode.{Step, Let, Frame, Load, Save, Call, Put, Get, If, Loop, Break}
-use Rattle.ir_forms.specs.FlatCode.{Continue, Return, Code, Nop, ◌▹◌, Function, Program}
-use Rattle.ir_forms.specs.FlatViews.{stays}
-use Rattle.ir_forms.specs.Frames.{frames_at, frame_limit, frame_of, arrays_at}
-use Rattle.ir_forms.specs.Cells.{Open, marked, apply, load, save}
-use Rattle.ir_forms.specs.FlatSteps.{State, Env, Broke, Again, Gave, TooDeep, Unfinished}
-use Rattle.ir_forms.specs.FlatSteps.{read, read_all, with_var, with_memory, with_output, with_next}
-use Rattle.ir_forms.specs.FlatSteps.{counted, Calls, return_of, act}
-use Rattle.ir_forms.specs.FlatSteps.{exec}
-use Rattle.ir_forms.specs.FlatRuns.{argument, env_of, begun, enter, enter_if, calls_within}
-use Rattle.ir_forms.specs.FlatRuns.{flat_run, start}
-use Rattle.reg_assign.specs.Live.{VarSet, empty, one, both, minus, reads, reads_any, reads_if}
-use Rattle.reg_assign.specs.Live.{result}
-use Rattle.reg_assign.specs.Live.{uses, head, live_in, live, kept_in, kept, kept_over}
-use Rattle.reg_assign.specs.Live.{kept_over_all}
-use Rattle.reg_assign.specs.Keeps.{calls_in, calls, keeping_in, keeping, with_body, keeping_all}
-use Rattle.reg_assign.specs.Keeps.{SameOutside, EndsAs, tame_and}
+use Rattle.ir_forms.specs.inside.FlatCode.{Step, Let, Frame, Load, Save, Call, Put, Get, If, Loop, Break}
+use Rattle.ir_forms.specs.inside.FlatCode.{Continue, Return, Code, Nop, ◌▹◌, Function, Program}
+use Rattle.ir_forms.specs.inside.FlatViews.{stays}
+use Rattle.ir_forms.specs.inside.Frames.{frames_at, frame_limit, frame_of, arrays_at}
+use Rattle.ir_forms.specs.inside.Cells.{Open, marked, apply, load, save}
+use Rattle.ir_forms.specs.inside.FlatSteps.{State, Env, Broke, Again, Gave, TooDeep, Unfinished}
+use Rattle.ir_forms.specs.inside.FlatSteps.{read, read_all, with_var, with_memory, with_output, with_next}
+use Rattle.ir_forms.specs.inside.FlatSteps.{counted, Calls, return_of, act}
+use Rattle.ir_forms.specs.inside.FlatSteps.{exec}
+use Rattle.ir_forms.specs.inside.FlatRuns.{argument, env_of, begun, enter, enter_if, calls_within}
+use Rattle.ir_forms.specs.inside.FlatRuns.{flat_run, start}
+use Rattle.reg_assign.specs.inside.Live.{VarSet, empty, one, both, minus, reads, reads_any, reads_if}
+use Rattle.reg_assign.specs.inside.Live.{result}
+use Rattle.reg_assign.specs.inside.Live.{uses, head, live_in, live, kept_in, kept, kept_over}
+use Rattle.reg_assign.specs.inside.Live.{kept_over_all}
+use Rattle.reg_assign.specs.inside.Keeps.{calls_in, calls, keeping_in, keeping, with_body, keeping_all}
+use Rattle.reg_assign.specs.inside.Keeps.{SameOutside, EndsAs, tame_and}
 use Rattle.reg_assign.proofs.Inclusion.{Within, left_in, right_in, then_in, empty_in}
 use Rattle.reg_assign.proofs.Inclusion.{within_itself, live_within, Covers, covers_front}
 use Rattle.reg_assign.proofs.Inclusion.{covers_back, one_each_in, one_each}

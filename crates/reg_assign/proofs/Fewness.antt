@@ -1,9 +1,9 @@
 -- A call has at most five groups.
 use Rattle.std.proofs.Common.{◌≡◌, ℕ, zero, suc, ◌+◌, ◌*◌, ◌/◌, ◌≤◌, Bool, true, false, cond, List}
 use Rattle.std.proofs.Common.{[], ◌∷◌, ◌++◌, map, length, take, drop, refl, arith, length-append}
-use Rattle.ir_forms.specs.FlatCode.{Program}
-use Rattle.reg_assign.specs.Live.{VarSet, members_below, members, kept_over_all, live_lists}
-use Rattle.reg_assign.specs.Live.{first_groups, groups_of, AreFew}
+use Rattle.ir_forms.specs.inside.FlatCode.{Program}
+use Rattle.reg_assign.specs.inside.Live.{VarSet, members_below, members, kept_over_all, live_lists}
+use Rattle.reg_assign.specs.inside.Live.{first_groups, groups_of, AreFew}
 
 members_few : (n : ℕ) (a : VarSet) → length (members_below n a) ≤ n
 members_few zero a = omega arith

@@ -4,16 +4,16 @@ use Rattle.std.proofs.Common.{◌&&◌, ◌||◌, List, [], ◌∷◌, ◌++◌,
 use Rattle.std.proofs.Common.{ap₂, ◌∙◌, subst, nat_eq, nat_lt, eq-eqb}
 use Rattle.ir_forms.specs.declared.flat.Arg.{Arg}
 use Rattle.ir_forms.specs.declared.flat.Arg.TheVariants.{Const, Var}
-use Rattle.ir_forms.specs.FlatViews.{stays}
-use Rattle.ir_forms.specs.Cells.{Memory, Closed, marked}
-use Rattle.ir_forms.specs.FlatSteps.{State, Res, Gone, Broke, Again, Gave, TooDeep, Unfinished}
-use Rattle.ir_forms.specs.FlatSteps.{Wild, unfinished, settle, turn, ten_turns, must, then_run}
-use Rattle.ir_forms.specs.FlatSteps.{if_set, read, beside, read_all, var_put, with_var, with_memory}
-use Rattle.ir_forms.specs.FlatSteps.{with_output, with_next, counted, after_post, after_body}
-use Rattle.ir_forms.specs.FlatSteps.{loop_turns, result_put, back_in, after_call, chosen}
-use Rattle.ir_forms.specs.FlatRuns.{closed, closing}
-use Rattle.reg_assign.specs.Live.{VarSet, empty, one, minus, reads, reads_any, result}
-use Rattle.reg_assign.specs.Keeps.{SameOutside, EndsAs, tame_and}
+use Rattle.ir_forms.specs.inside.FlatViews.{stays}
+use Rattle.ir_forms.specs.inside.Cells.{Memory, Closed, marked}
+use Rattle.ir_forms.specs.inside.FlatSteps.{State, Res, Gone, Broke, Again, Gave, TooDeep, Unfinished}
+use Rattle.ir_forms.specs.inside.FlatSteps.{Wild, unfinished, settle, turn, ten_turns, must, then_run}
+use Rattle.ir_forms.specs.inside.FlatSteps.{if_set, read, beside, read_all, var_put, with_var, with_memory}
+use Rattle.ir_forms.specs.inside.FlatSteps.{with_output, with_next, counted, after_post, after_body}
+use Rattle.ir_forms.specs.inside.FlatSteps.{loop_turns, result_put, back_in, after_call, chosen}
+use Rattle.ir_forms.specs.inside.FlatRuns.{closed, closing}
+use Rattle.reg_assign.specs.inside.Live.{VarSet, empty, one, minus, reads, reads_any, result}
+use Rattle.reg_assign.specs.inside.Keeps.{SameOutside, EndsAs, tame_and}
 use Rattle.reg_assign.proofs.Inclusion.{Within, or_left, or_right, or_cases, of_left}
 use Rattle.reg_assign.proofs.Inclusion.{of_right}
 

@@ -4,7 +4,7 @@ use Rattle.std.proofs.Common.{length, take, drop, refl, sym, ap, ◌∙◌, arit
 use Rattle.std.proofs.Common.{append_assoc}
 use Rattle.std.proofs.Common.{append-nil, take-add, take_all, length-take}
 use Rattle.std.specs.List.{concat}
-use Rattle.reg_assign.specs.Live.{first_groups, groups_of, AreSmall, IsCut, AreCut}
+use Rattle.reg_assign.specs.inside.Live.{first_groups, groups_of, AreSmall, IsCut, AreCut}
 
 concat_behind : (gs : List (List ℕ)) (g : List ℕ) → concat (gs ++ g ∷ []) ≡ concat gs ++ g
 concat_behind [] g = append-nil g

@@ -2,12 +2,12 @@
 use Rattle.std.proofs.Common.{◌≡◌, ℕ, suc, ◌+◌, Bool, true, false, not, ◌&&◌, ◌||◌}
 use Rattle.std.proofs.Common.{List, [], ◌∷◌, ◌++◌, length, refl}
 use Rattle.std.proofs.Common.{subst, arith}
-use Rattle.ir_forms.specs.FlatCode.{Step, Let, Frame, Load, Save, Call, Put, Get, If, Loop, Break}
-use Rattle.ir_forms.specs.FlatCode.{Continue, Return, Code, Nop, ◌▹◌}
-use Rattle.reg_assign.specs.Live.{VarSet, empty, one, both, minus, reads, reads_any}
-use Rattle.reg_assign.specs.Live.{result}
-use Rattle.reg_assign.specs.Live.{uses_in, uses, head, live_in, live, kept_in, kept}
-use Rattle.reg_assign.specs.Keeps.{calls_in, calls}
+use Rattle.ir_forms.specs.inside.FlatCode.{Step, Let, Frame, Load, Save, Call, Put, Get, If, Loop, Break}
+use Rattle.ir_forms.specs.inside.FlatCode.{Continue, Return, Code, Nop, ◌▹◌}
+use Rattle.reg_assign.specs.inside.Live.{VarSet, empty, one, both, minus, reads, reads_any}
+use Rattle.reg_assign.specs.inside.Live.{result}
+use Rattle.reg_assign.specs.inside.Live.{uses_in, uses, head, live_in, live, kept_in, kept}
+use Rattle.reg_assign.specs.inside.Keeps.{calls_in, calls}
 
 abbrev pub Within : VarSet → VarSet → Type 0
 Within a b = (v : ℕ) → a v ≡ true → b v ≡ true

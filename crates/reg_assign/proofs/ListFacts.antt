@@ -1,10 +1,10 @@
 -- There is a list for each call, and it has scalars and temporaries alone.
 use Rattle.std.proofs.Common.{◌≡◌, ℕ, zero, suc, ◌≤◌, Bool, true, false, cond, List, [], ◌∷◌}
 use Rattle.std.proofs.Common.{◌++◌, map, length, refl, ap, ◌∙◌, arith, lt-ltb}
-use Rattle.ir_forms.specs.FlatCode.{Function, Program}
-use Rattle.reg_assign.specs.Live.{VarSet, empty, kept_over, kept_over_all, members_below, members}
-use Rattle.reg_assign.specs.Live.{live_lists}
-use Rattle.reg_assign.specs.Keeps.{calls_of_all, AreLasting, EachLasting, FitsLists}
+use Rattle.ir_forms.specs.inside.FlatCode.{Function, Program}
+use Rattle.reg_assign.specs.inside.Live.{VarSet, empty, kept_over, kept_over_all, members_below, members}
+use Rattle.reg_assign.specs.inside.Live.{live_lists}
+use Rattle.reg_assign.specs.inside.Keeps.{calls_of_all, AreLasting, EachLasting, FitsLists}
 use Rattle.reg_assign.proofs.Inclusion.{length_append, one_each}
 
 lasting_append : (xs ys : List ℕ) → AreLasting xs → AreLasting ys → AreLasting (xs ++ ys)

@@ -13,15 +13,15 @@ use Rattle.ir_forms.specs.declared.flat.FlatStmt.{fold-roll-FlatStmt, map-FlatSt
 use Rattle.ir_forms.specs.declared.flat.FlatStmt.TheOpen.{FlatStmt-F}
 use Rattle.ir_forms.specs.declared.flat.FlatFunc.{FlatFunc}
 use Rattle.ir_forms.specs.declared.flat.FlatProgram.{FlatProgram}
-use Rattle.ir_forms.specs.FlatCode.{Step, Let, Frame, Load, Save, Call, Put, Get, If, Loop, Break}
-use Rattle.ir_forms.specs.FlatCode.{Continue, Return, Code, Nop, ◌▹◌, Function}
-use Rattle.ir_forms.specs.FlatViews.{stays, code_of_steps, step_by, step_of, code_of, function_of}
-use Rattle.ir_forms.specs.FlatViews.{program_of}
-use Rattle.reg_assign.specs.Live.{VarSet, empty, one, both, reads, reads_any, reads_if}
-use Rattle.reg_assign.specs.Live.{result}
-use Rattle.reg_assign.specs.Live.{uses_in, uses, head, live, kept_in, kept, kept_over}
-use Rattle.reg_assign.specs.Live.{kept_over_all, members_below, members, live_lists}
-use Rattle.reg_assign.specs.Keeps.{is_among, kept_by, KeepsTameRuns}
+use Rattle.ir_forms.specs.inside.FlatCode.{Step, Let, Frame, Load, Save, Call, Put, Get, If, Loop, Break}
+use Rattle.ir_forms.specs.inside.FlatCode.{Continue, Return, Code, Nop, ◌▹◌, Function}
+use Rattle.ir_forms.specs.inside.FlatViews.{stays, code_of_steps, step_by, step_of, code_of, function_of}
+use Rattle.ir_forms.specs.inside.FlatViews.{program_of}
+use Rattle.reg_assign.specs.inside.Live.{VarSet, empty, one, both, reads, reads_any, reads_if}
+use Rattle.reg_assign.specs.inside.Live.{result}
+use Rattle.reg_assign.specs.inside.Live.{uses_in, uses, head, live, kept_in, kept, kept_over}
+use Rattle.reg_assign.specs.inside.Live.{kept_over_all, members_below, members, live_lists}
+use Rattle.reg_assign.specs.inside.Keeps.{is_among, kept_by, KeepsTameRuns}
 use Rattle.reg_assign.proofs.Inclusion.{Within, or_left, or_right, or_cases, both_in, minus_in}
 use Rattle.reg_assign.proofs.Inclusion.{empty_in}
 use Rattle.reg_assign.proofs.Inclusion.{live_within}

@@ -1,6 +1,6 @@
 -- The last of a list, and the items before it.
 use Rattle.std.proofs.Common.{◌≡◌, ℕ, List, [], ◌∷◌, ◌++◌, refl, ap}
-use Rattle.reg_assign.specs.Pass.{last_of, front_of}
+use Rattle.reg_assign.specs.inside.Pass.{last_of, front_of}
 
 pub last_behind : (xs : List ℕ) (x : ℕ) → last_of (xs ++ x ∷ []) ≡ x
 last_behind [] x = refl

@@ -7,17 +7,17 @@ use Rattle.std.specs.Prelude.{nat_le}
 use Rattle.std.proofs.lemmas.Bool.Decides.{nat_tests}
 use Rattle.ir_forms.specs.declared.flat.Arg.{Arg}
 use Rattle.ir_forms.specs.declared.flat.Arg.TheVariants.{Const, Var}
-use Rattle.ir_forms.specs.FlatCode.{Step, Let, Frame, Load, Save, Call, Put, Get, If, Loop, Break}
-use Rattle.ir_forms.specs.FlatCode.{Continue, Return, Code, Nop, ◌▹◌, Function, Program}
-use Rattle.ir_forms.specs.FlatViews.{stays}
-use Rattle.ir_forms.specs.FlatFits.{is_lasting, is_variable, FitsVar, FitsArg, FitsLastings, FitsReturn}
-use Rattle.ir_forms.specs.FlatFits.{FitsCall, FitsStep, FitsCode, FitsFunction, FitsProgram}
-use Rattle.ir_forms.specs.FlatFits.{steps_in, steps_of, steps_of_all}
-use Rattle.reg_assign.specs.Live.{VarSet, empty, one, both, minus, reads, reads_any, reads_if, result}
-use Rattle.reg_assign.specs.Live.{uses_in, uses, head, live, kept_in, kept, kept_over, kept_over_all}
-use Rattle.reg_assign.specs.Live.{members_below, members, live_lists}
-use Rattle.reg_assign.specs.Keeps.{calls_in, calls, keeping_in, keeping, keeping_all, with_body}
-use Rattle.reg_assign.specs.Keeps.{is_among, kept_by, assigned_program, KeepsOwnIn, KeepsOwn, FitsKept}
+use Rattle.ir_forms.specs.inside.FlatCode.{Step, Let, Frame, Load, Save, Call, Put, Get, If, Loop, Break}
+use Rattle.ir_forms.specs.inside.FlatCode.{Continue, Return, Code, Nop, ◌▹◌, Function, Program}
+use Rattle.ir_forms.specs.inside.FlatViews.{stays}
+use Rattle.ir_forms.specs.inside.FlatFits.{is_lasting, is_variable, FitsVar, FitsArg, FitsLastings, FitsReturn}
+use Rattle.ir_forms.specs.inside.FlatFits.{FitsCall, FitsStep, FitsCode, FitsFunction, FitsProgram}
+use Rattle.ir_forms.specs.inside.FlatFits.{steps_in, steps_of, steps_of_all}
+use Rattle.reg_assign.specs.inside.Live.{VarSet, empty, one, both, minus, reads, reads_any, reads_if, result}
+use Rattle.reg_assign.specs.inside.Live.{uses_in, uses, head, live, kept_in, kept, kept_over, kept_over_all}
+use Rattle.reg_assign.specs.inside.Live.{members_below, members, live_lists}
+use Rattle.reg_assign.specs.inside.Keeps.{calls_in, calls, keeping_in, keeping, keeping_all, with_body}
+use Rattle.reg_assign.specs.inside.Keeps.{is_among, kept_by, assigned_program, KeepsOwnIn, KeepsOwn, FitsKept}
 use Rattle.reg_assign.proofs.Inclusion.{Within, or_cases, of_left, of_right, both_in, minus_in, empty_in}
 use Rattle.reg_assign.proofs.Inclusion.{live_within, length_append, one_each}
 

@@ -6,18 +6,18 @@ use Rattle.std.proofs.Common.{append_assoc}
 use Rattle.std.proofs.Common.{append-nil}
 use Rattle.std.proofs.lemmas.List.{reverse-append, reverse-reverse}
 use Rattle.ir_forms.specs.declared.flat.Arg.{Arg}
-use Rattle.ir_forms.specs.FlatCode.{Step, Let, Frame, Load, Save, Call, Put, Get, If, Loop, Break}
-use Rattle.ir_forms.specs.FlatCode.{Continue, Return, Code, Nop, ◌▹◌, Function}
+use Rattle.ir_forms.specs.inside.FlatCode.{Step, Let, Frame, Load, Save, Call, Put, Get, If, Loop, Break}
+use Rattle.ir_forms.specs.inside.FlatCode.{Continue, Return, Code, Nop, ◌▹◌, Function}
 use Rattle.reg_assign.specs.declared.reading.Reading.{Reading}
 use Rattle.reg_assign.specs.declared.walking.Walk.{Walk}
-use Rattle.reg_assign.specs.Live.{VarSet, empty, one, both, minus, reads, reads_any, reads_if}
-use Rattle.reg_assign.specs.Live.{result}
-use Rattle.reg_assign.specs.Live.{uses_in, uses, head, live_in, live, kept_in, kept, kept_over}
-use Rattle.reg_assign.specs.Live.{kept_over_all, members}
-use Rattle.reg_assign.specs.Pass.{seen, bit, without, read_by, set_by, adding}
-use Rattle.reg_assign.specs.Pass.{opened, reading_in, reading, last_of}
-use Rattle.reg_assign.specs.Pass.{front_of, living, at_head, read_if, walk_in, walk, body_lists}
-use Rattle.reg_assign.specs.Pass.{lists_backward}
+use Rattle.reg_assign.specs.inside.Live.{VarSet, empty, one, both, minus, reads, reads_any, reads_if}
+use Rattle.reg_assign.specs.inside.Live.{result}
+use Rattle.reg_assign.specs.inside.Live.{uses_in, uses, head, live_in, live, kept_in, kept, kept_over}
+use Rattle.reg_assign.specs.inside.Live.{kept_over_all, members}
+use Rattle.reg_assign.specs.inside.Pass.{seen, bit, without, read_by, set_by, adding}
+use Rattle.reg_assign.specs.inside.Pass.{opened, reading_in, reading, last_of}
+use Rattle.reg_assign.specs.inside.Pass.{front_of, living, at_head, read_if, walk_in, walk, body_lists}
+use Rattle.reg_assign.specs.inside.Pass.{lists_backward}
 use Rattle.reg_assign.proofs.Seen.{seen_zero, seen_bit, seen_read, seen_read_if, seen_set}
 use Rattle.reg_assign.proofs.Seen.{seen_with, seen_less}
 use Rattle.reg_assign.proofs.Seen.{seen_args, both_assoc, both_comm, both_none, both_turned}

@@ -11,11 +11,11 @@ use Rattle.std.proofs.lemmas.Nat.Bits.{shr_and_one, bit_at_and, bit_at_or, bit_a
 use Rattle.std.proofs.lemmas.Nat.Bits.{bit_at-pow_same, bit_at-pow_other, bit_at-zero}
 use Rattle.ir_forms.specs.declared.flat.Arg.{Arg}
 use Rattle.ir_forms.specs.declared.flat.Arg.TheVariants.{Const, Var}
-use Rattle.ir_forms.specs.FlatViews.{stays}
-use Rattle.reg_assign.specs.Live.{VarSet, empty, one, both, minus, reads, reads_any, reads_if}
-use Rattle.reg_assign.specs.Live.{result}
-use Rattle.reg_assign.specs.Pass.{seen, bit, without, read_by, with_read, set_by}
-use Rattle.reg_assign.specs.Pass.{read_if}
+use Rattle.ir_forms.specs.inside.FlatViews.{stays}
+use Rattle.reg_assign.specs.inside.Live.{VarSet, empty, one, both, minus, reads, reads_any, reads_if}
+use Rattle.reg_assign.specs.inside.Live.{result}
+use Rattle.reg_assign.specs.inside.Pass.{seen, bit, without, read_by, with_read, set_by}
+use Rattle.reg_assign.specs.inside.Pass.{read_if}
 
 is_bit : (n v : ℕ) → seen n v ≡ nat_eq (bit_at n v) 1
 is_bit n v = ap (λ x. nat_eq x 1) (shr_and_one n v)

@@ -2,15 +2,15 @@
 use Rattle.std.proofs.Common.{◌≡◌, ℕ, List, [], ◌∷◌, Option, Some, None, refl}
 use Rattle.trips_isa.specs.declared.op.Op.TheVariants as op
 use Rattle.ir_forms.specs.declared.flat.Arg.TheVariants.{Const, Var}
-use Rattle.ir_forms.specs.FlatCode.{Step, Let, Call, Put, If, Loop, Break, Continue, Return, Code}
-use Rattle.ir_forms.specs.FlatCode.{Nop, ◌▹◌, only, Function, Program}
-use Rattle.ir_forms.specs.FlatViews.{stays}
-use Rattle.ir_forms.specs.Frames.{frame_limit}
-use Rattle.ir_forms.specs.Cells.{apply, load, save, marked}
-use Rattle.ir_forms.specs.FlatSteps.{Res, Gave, Wild}
-use Rattle.ir_forms.specs.FlatRuns.{first_memory, flat_run, checked}
-use Rattle.reg_assign.specs.Live.{members, live_lists, groups_of}
-use Rattle.reg_assign.specs.Keeps.{assigned_program}
+use Rattle.ir_forms.specs.inside.FlatCode.{Step, Let, Call, Put, If, Loop, Break, Continue, Return, Code}
+use Rattle.ir_forms.specs.inside.FlatCode.{Nop, ◌▹◌, only, Function, Program}
+use Rattle.ir_forms.specs.inside.FlatViews.{stays}
+use Rattle.ir_forms.specs.inside.Frames.{frame_limit}
+use Rattle.ir_forms.specs.inside.Cells.{apply, load, save, marked}
+use Rattle.ir_forms.specs.inside.FlatSteps.{Res, Gave, Wild}
+use Rattle.ir_forms.specs.inside.FlatRuns.{first_memory, flat_run, checked}
+use Rattle.reg_assign.specs.inside.Live.{members, live_lists, groups_of}
+use Rattle.reg_assign.specs.inside.Keeps.{assigned_program}
 
 abbrev routine : Code → Function
 routine body = record { params = 0; scalars = 8; arrays = 0; body = body }

@@ -1,3 +1,1 @@
-pub mod Live
-pub mod Keeps
-pub mod Pass
+pub mod inside

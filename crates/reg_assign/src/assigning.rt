@@ -1,9 +1,9 @@
 ghost use Rattle.std.specs.Prelude.{◌≡◌, reverse, map, IfOk};
-ghost use Rattle.ir_forms.specs.FlatViews.{code_of, function_of, program_of};
-ghost use Rattle.ir_forms.specs.FlatFits.{FitsProgram};
-ghost use Rattle.reg_assign.specs.Live.{live_lists, groups_of, AreCut, AreFew};
-ghost use Rattle.reg_assign.specs.Keeps.{FitsKept, FitsLists, KeepsTameRuns};
-ghost use Rattle.reg_assign.specs.Pass.{body_lists, lists_backward};
+ghost use Rattle.ir_forms.specs.inside.FlatViews.{code_of, function_of, program_of};
+ghost use Rattle.ir_forms.specs.inside.FlatFits.{FitsProgram};
+ghost use Rattle.reg_assign.specs.inside.Live.{live_lists, groups_of, AreCut, AreFew};
+ghost use Rattle.reg_assign.specs.inside.Keeps.{FitsKept, FitsLists, KeepsTameRuns};
+ghost use Rattle.reg_assign.specs.inside.Pass.{body_lists, lists_backward};
 
 use crate::grouping::all_groups;
 use crate::reading::{Reading, read_stmts};

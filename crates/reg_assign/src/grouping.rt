@@ -1,7 +1,7 @@
 //! Lists of variables, cut into groups.
 
 ghost use Rattle.std.specs.Prelude.{◌≡◌, ◌+◌, ◌*◌, ◌/◌, ◌<◌, map, take, drop, length, IfOk};
-ghost use Rattle.reg_assign.specs.Live as live;
+ghost use Rattle.reg_assign.specs.inside.Live as live;
 
 use base::{Items, Memory};
 use std::alloc::Global;

@@ -1,9 +1,9 @@
 //! What the loops of a function read: the first pass, forward.
 
 ghost use Rattle.std.specs.Prelude.{◌≡◌, OnOk};
-ghost use Rattle.ir_forms.specs.FlatViews.{code_of, step_of};
-ghost use Rattle.reg_assign.specs.Pass as pass;
-ghost use Rattle.reg_assign.specs.Pass.{behind_loop};
+ghost use Rattle.ir_forms.specs.inside.FlatViews.{code_of, step_of};
+ghost use Rattle.reg_assign.specs.inside.Pass as pass;
+ghost use Rattle.reg_assign.specs.inside.Pass.{behind_loop};
 
 use crate::sets::{read_by, read_if, with_read};
 use base::{Items, Memory};

@@ -1,8 +1,8 @@
 //! Sets of scalars and temporaries: bit v of a number says whether variable v is in it.
 
 ghost use Rattle.std.specs.Prelude.{◌≡◌, ◌<◌, cond, [], ◌∷◌, ◌++◌, IfOk, OnOk};
-ghost use Rattle.reg_assign.specs.Live.{members};
-ghost use Rattle.reg_assign.specs.Pass as pass;
+ghost use Rattle.reg_assign.specs.inside.Live.{members};
+ghost use Rattle.reg_assign.specs.inside.Pass as pass;
 
 use base::{Items, Memory};
 use ir_forms::Arg;

@@ -1,8 +1,8 @@
 //! What is live: the second pass, backward.
 
 ghost use Rattle.std.specs.Prelude.{◌≡◌, OnOk};
-ghost use Rattle.ir_forms.specs.FlatViews.{code_of, step_of};
-ghost use Rattle.reg_assign.specs.Pass as pass;
+ghost use Rattle.ir_forms.specs.inside.FlatViews.{code_of, step_of};
+ghost use Rattle.reg_assign.specs.inside.Pass as pass;
 
 use crate::sets::{bit, members_of, read_by, read_if, set_by, with_read, without};
 use base::{Items, Memory};

@@ -6,7 +6,7 @@ use Rattle.std.proofs.lemmas.List.{take_more}
 use Rattle.std.proofs.lemmas.List.Sums.{sum_by-append, sum_by-cons}
 use Rattle.trips_isa.specs.declared.block.Block.{Block}
 use Rattle.trips_isa.specs.Images.{chunks}
-use Rattle.target_asm_spec.specs.Whole.{chunks_from}
+use Rattle.target_asm_spec.specs.inside.Whole.{chunks_from}
 
 begins_end : (here : ℕ) (bs : List Block) (b : Block)
     → chunks_from here (bs ++ b ∷ []) ≡ chunks_from here bs ++ (here + sum_by chunks bs) ∷ []

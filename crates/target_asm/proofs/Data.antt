@@ -4,9 +4,9 @@ use Rattle.std.proofs.Common.{append_assoc}
 use Rattle.std.proofs.Common.{refl, sym, ap, ◌∙◌, arith, Option, Some, None, Result, Ok, Err}
 use Rattle.target_asm_spec.specs.declared.fault.AsmFault.{AsmFault}
 use Rattle.target_asm_spec.specs.declared.fault.AsmFault.TheVariants.{Syntax}
-use Rattle.target_asm_spec.specs.Blocks.{◌>>>◌, or_fault}
-use Rattle.target_asm_spec.specs.Whole.{byte_fault, data_byte_in, bytes_in}
-use Rattle.target_asm.specs.Taking.{with_bytes}
+use Rattle.target_asm_spec.specs.inside.Blocks.{◌>>>◌, or_fault}
+use Rattle.target_asm_spec.specs.inside.Whole.{byte_fault, data_byte_in, bytes_in}
+use Rattle.target_asm.specs.inside.Taking.{with_bytes}
 
 abbrev Read : Type 0
 Read = Result (List ℕ × List ℕ) AsmFault

@@ -9,8 +9,8 @@ use Rattle.trips_isa.specs.declared.block.Inst.{Inst}
 use Rattle.target_asm_spec.specs.declared.fault.AsmFault.{AsmFault}
 use Rattle.target_asm_spec.specs.declared.fault.AsmFault.TheVariants.{Syntax}
 use Rattle.target_asm_spec.specs.Reading.{field_in}
-use Rattle.target_asm_spec.specs.Blocks.{◌>>>◌, Taken, Begins, begins, in_turn, one_inst, gap, slots_in}
-use Rattle.target_asm.specs.Taking.{with_front}
+use Rattle.target_asm_spec.specs.inside.Blocks.{◌>>>◌, Taken, Begins, begins, in_turn, one_inst, gap, slots_in}
+use Rattle.target_asm.specs.inside.Taking.{with_front}
 
 -- a slot that is in turn is none of those before
 pub turn_after : (next slot : ℕ) (z : ℤ) → in_turn next z ≡ true → field_in z 128 ≡ Some slot

@@ -9,7 +9,7 @@ use Rattle.std.proofs.lemmas.Option.{same_Some}
 use Rattle.std.proofs.lemmas.Slice.Eq.{strip_prefix_is}
 use Rattle.std.proofs.lemmas.Bool.Decides.{Decides-eqb}
 use denote.Ref.{Bor}
-use Rattle.target_asm_spec.specs.Reading.{ReadsAs, after_in}
+use Rattle.target_asm_spec.specs.inside.Reading.{ReadsAs, after_in}
 use Rattle.target_asm_spec.proofs.Numbers.{after_front}
 
 -- a text that has something after a word begins with it

@@ -4,8 +4,8 @@ use Rattle.std.proofs.Common.{append_assoc}
 use Rattle.std.proofs.Common.{refl, sym, ap, ◌∙◌, arith, true, false, Result, Ok, Err}
 use Rattle.target_asm_spec.specs.declared.fault.AsmFault.{AsmFault}
 use Rattle.target_asm_spec.specs.declared.fault.AsmFault.TheVariants.{Syntax}
-use Rattle.target_asm_spec.specs.Blocks.{◌>>>◌, Taken, begins, lines_in}
-use Rattle.target_asm.specs.Taking.{with_front}
+use Rattle.target_asm_spec.specs.inside.Blocks.{◌>>>◌, Taken, begins, lines_in}
+use Rattle.target_asm.specs.inside.Taking.{with_front}
 
 no_front : {A : Type 0} (r : Taken (List A)) → with_front [] r ≡ r
 no_front (Ok r) = refl

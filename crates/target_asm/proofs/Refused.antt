@@ -5,8 +5,8 @@ use Rattle.trips_isa.specs.declared.block.Image.{Image}
 use Rattle.target_asm_spec.specs.declared.fault.AsmFault.{AsmFault}
 use Rattle.target_asm_spec.specs.declared.fault.AsmFault.TheVariants.{Syntax, Range, Label, Memory}
 use Rattle.target_asm_spec.specs.FirstAsmFault.{FirstAsmFault}
-use Rattle.target_asm_spec.specs.Whole.{image_in}
-use Rattle.target_asm.specs.Taking.{Fails, ReturnsOrMemory, IsMemoryOr}
+use Rattle.target_asm_spec.specs.inside.Whole.{image_in}
+use Rattle.target_asm.specs.inside.Taking.{Fails, ReturnsOrMemory, IsMemoryOr}
 use Rattle.target_asm_laws.proofs.Judged.{fault_of}
 use Rattle.target_asm_laws.proofs.FaultExact.{read_fault}
 

@@ -8,8 +8,8 @@ use Rattle.trips_isa.specs.declared.block.Block.{Block}
 use Rattle.trips_isa.specs.Images.{chunks}
 use Rattle.target_asm_spec.specs.declared.fault.AsmFault.{AsmFault}
 use Rattle.target_asm_spec.specs.declared.fault.AsmFault.TheVariants.{Syntax, Range, Label, Memory}
-use Rattle.target_asm_spec.specs.Blocks.{◌>>>◌, Begins, one_block, blocks_in}
-use Rattle.target_asm.specs.Taking.{Fails, with_blocks}
+use Rattle.target_asm_spec.specs.inside.Blocks.{◌>>>◌, Begins, one_block, blocks_in}
+use Rattle.target_asm.specs.inside.Taking.{Fails, with_blocks}
 
 abbrev Blocks : Type 0
 Blocks = Result (List Block) AsmFault

@@ -6,11 +6,11 @@ use Rattle.trips_isa.specs.declared.block.Image.{Image}
 use Rattle.target_asm_spec.specs.Text.{TargetText}
 use Rattle.target_asm_spec.specs.declared.fault.AsmFault.{AsmFault}
 use Rattle.target_asm_spec.specs.declared.fault.AsmFault.TheVariants.{Syntax, Range, Label, Memory}
-use Rattle.target_asm_spec.specs.Blocks.{◌>>>◌, wants}
-use Rattle.target_asm_spec.specs.Whole.{is_empty, front_in, data_in, data_lines, begins_of, unknown}
-use Rattle.target_asm_spec.specs.Whole.{body_in, image_in}
+use Rattle.target_asm_spec.specs.inside.Blocks.{◌>>>◌, wants}
+use Rattle.target_asm_spec.specs.inside.Whole.{is_empty, front_in, data_in, data_lines, begins_of, unknown}
+use Rattle.target_asm_spec.specs.inside.Whole.{body_in, image_in}
 use Rattle.target_asm_spec.proofs.Images.{read_again}
-use Rattle.target_asm.specs.Taking.{Fails, ReturnsOrMemory, IsMemory, after_front, steps_in}
+use Rattle.target_asm.specs.inside.Taking.{Fails, ReturnsOrMemory, IsMemory, after_front, steps_in}
 
 bind_same : {A B : Type 0} (r : Result A AsmFault) (f g : A → Result B AsmFault)
     → ((x : A) → f x ≡ g x) → (r >>> f) ≡ (r >>> g)

@@ -4,7 +4,7 @@ ghost use Rattle.trips_isa.specs.declared.block.Image.{Image};
 ghost use Rattle.target_asm_spec.specs.declared.fault.AsmFault.{AsmFault};
 ghost use Rattle.target_asm_spec.specs.FirstAsmFault.{FirstAsmFault};
 ghost use Rattle.target_asm_spec.specs.Text.{TargetText};
-ghost use Rattle.target_asm.specs.Taking.{IsMemory, IsMemoryOr};
+ghost use Rattle.target_asm.specs.inside.Taking.{IsMemory, IsMemoryOr};
 
 use crate::whole::read_image;
 use std::alloc::Global;

@@ -1,7 +1,7 @@
 //! A block.
 ghost use Rattle.std.specs.Prelude.{◌≡◌, ◌≤◌, ◌<◌, ◌^◌, ◌+◌, length, IfOk};
-ghost use Rattle.target_asm_spec.specs.Blocks.{head_in, one_block};
-ghost use Rattle.target_asm.specs.Taking.{Returns, seen};
+ghost use Rattle.target_asm_spec.specs.inside.Blocks.{head_in, one_block};
+ghost use Rattle.target_asm.specs.inside.Taking.{Returns, seen};
 ghost use Rattle.trips_isa.specs.Limits.{most_chunks};
 
 use crate::branches::Known;
@@ -21,7 +21,7 @@ pub struct ReadBlock<'a> {
 }
 
 /// The mask of block k, of which the line of the block takes two chunks.
-#[tactic(auto, unfolding(target_asm_spec::specs::Blocks::head_in))]
+#[tactic(auto, unfolding(target_asm_spec::specs::inside::Blocks::head_in))]
 fn head(k: usize, here: u32, line: u32, text: &[u8]) -> Result<(u32, &[u8]), AsmFault>
     requires { here < 2 ^ 30 }
     ensures value { Returns (λ r. (r.0, r.1.now)) result (head_in k here line text.now) }
@@ -41,7 +41,7 @@ fn head(k: usize, here: u32, line: u32, text: &[u8]) -> Result<(u32, &[u8]), Asm
 }
 
 /// The lines of block k.
-#[tactic(auto, unfolding(target_asm_spec::specs::Blocks::one_block))]
+#[tactic(auto, unfolding(target_asm_spec::specs::inside::Blocks::one_block))]
 pub fn one_block<'a>(
     known: Known<'_>,
     k: usize,

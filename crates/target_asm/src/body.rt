@@ -1,7 +1,7 @@
 //! The blocks of a text, one after the other.
 ghost use Rattle.std.specs.Prelude.{◌≡◌, ◌≤◌, ◌<◌, ◌^◌, length, All, IfOk};
-ghost use Rattle.target_asm_spec.specs.Whole.{body_in};
-ghost use Rattle.target_asm.specs.Taking.{ReturnsOrMemory, seen};
+ghost use Rattle.target_asm_spec.specs.inside.Whole.{body_in};
+ghost use Rattle.target_asm.specs.inside.Taking.{ReturnsOrMemory, seen};
 
 use crate::block::one_block;
 use crate::branches::Known;
@@ -10,7 +10,7 @@ use target_asm_spec::AsmFault;
 use trips_isa::{Block, chunks};
 
 /// The blocks of a text from the first on, to its end, where it is known where they begin or not.
-#[tactic(auto, unfolding(target_asm_spec::specs::Whole::body_in))]
+#[tactic(auto, unfolding(target_asm_spec::specs::inside::Whole::body_in))]
 pub fn body(alloc: Global, known: Known<'_>, line: u32, text: &[u8]) -> Result<Vec<Block>, AsmFault>
     requires { line < 2 ^ 30 }
     ensures value { ReturnsOrMemory (λ v. v.items) result (body_in (seen known.entry) line text.now) }

@@ -1,9 +1,9 @@
 //! Where branches go.
 ghost use Rattle.std.specs.Prelude.{◌≡◌, ◌+ℤ◌, ◌-ℤ◌, pos};
-ghost use Rattle.target_asm_spec.specs.Chunks.{goal_in};
+ghost use Rattle.target_asm_spec.specs.inside.Chunks.{goal_in};
 ghost use Rattle.target_asm_spec.specs.Judging.{signed_in};
-ghost use Rattle.target_asm_spec.specs.Blocks.{to_block, aimed_at, aimed};
-ghost use Rattle.target_asm.specs.Taking.{Returns, seen};
+ghost use Rattle.target_asm_spec.specs.inside.Blocks.{to_block, aimed_at, aimed};
+ghost use Rattle.target_asm.specs.inside.Taking.{Returns, seen};
 ghost use Rattle.trips_isa.specs.Limits.{offset_half};
 
 use crate::tables::goal;
@@ -55,7 +55,7 @@ fn to_block(chunks: &[u32], here: u32, line: u32, k: i32) -> Result<i32, AsmFaul
     }
 }
 
-#[tactic(auto, unfolding(target_asm_spec::specs::Blocks::aimed_at))]
+#[tactic(auto, unfolding(target_asm_spec::specs::inside::Blocks::aimed_at))]
 fn aimed_at(
     known: Known<'_>,
     here: u32,
@@ -76,7 +76,7 @@ fn aimed_at(
 }
 
 /// The offset of a branch from a block that begins at `here`. It is left where blocks are not known.
-#[tactic(auto, unfolding(target_asm_spec::specs::Blocks::aimed))]
+#[tactic(auto, unfolding(target_asm_spec::specs::inside::Blocks::aimed))]
 pub fn aimed(
     known: Known<'_>,
     here: u32,

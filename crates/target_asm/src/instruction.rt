@@ -1,12 +1,12 @@
 //! The line of an instruction, read as it is spelled.
 ghost use Rattle.std.specs.Prelude.{◌≡◌, ◌≤◌, length, Some, None};
-ghost use Rattle.target_asm_spec.specs.Reading.{ReadsAs};
-ghost use Rattle.target_asm_spec.specs.Instructions.{ends_word, letters_in, sense_by, sense_in};
-ghost use Rattle.target_asm_spec.specs.Instructions.{sense_fits, jumps, goal_by, goal_in, jump_in};
-ghost use Rattle.target_asm_spec.specs.Instructions.{immediate_in};
-ghost use Rattle.target_asm_spec.specs.Instructions.{number_and_immediate_in, exit_in, numbers_in};
-ghost use Rattle.target_asm_spec.specs.Instructions.{two_targets_in, one_target_in, targets_in};
-ghost use Rattle.target_asm_spec.specs.Instructions.{fields_in, sensed_in, operation_in, inst_in};
+ghost use Rattle.target_asm_spec.specs.inside.Reading.{ReadsAs};
+ghost use Rattle.target_asm_spec.specs.inside.Instructions.{ends_word, letters_in, sense_by, sense_in};
+ghost use Rattle.target_asm_spec.specs.inside.Instructions.{sense_fits, jumps, goal_by, goal_in, jump_in};
+ghost use Rattle.target_asm_spec.specs.inside.Instructions.{immediate_in};
+ghost use Rattle.target_asm_spec.specs.inside.Instructions.{number_and_immediate_in, exit_in, numbers_in};
+ghost use Rattle.target_asm_spec.specs.inside.Instructions.{two_targets_in, one_target_in, targets_in};
+ghost use Rattle.target_asm_spec.specs.inside.Instructions.{fields_in, sensed_in, operation_in, inst_in};
 ghost use Rattle.trips_isa.specs.Forms.{form_of};
 ghost use Rattle.trips_isa.specs.declared.form.Form.TheVariants.{Store, Branch};
 
@@ -23,7 +23,7 @@ fn ends_word(b: u8) -> bool
 }
 
 /// How many letters the text begins with.
-#[tactic(auto, unfolding(target_asm_spec::specs::Instructions::letters_in))]
+#[tactic(auto, unfolding(target_asm_spec::specs::inside::Instructions::letters_in))]
 fn letters(text: &[u8]) -> usize
     ensures value { result ≡ letters_in text.now }
     ensures within { result ≤ length text.now }
@@ -37,7 +37,7 @@ fn letters(text: &[u8]) -> usize
 }
 
 /// The predicate.
-#[tactic(auto, unfolding(target_asm_spec::specs::Instructions::sense_in))]
+#[tactic(auto, unfolding(target_asm_spec::specs::inside::Instructions::sense_in))]
 fn sense(text: &[u8]) -> (Sense, &[u8])
     ensures { sense_in text.now ≡ (result.0, result.1.now) }
 {
@@ -95,7 +95,7 @@ fn offset(text: &[u8]) -> Option<(Option<Goal>, &[u8])>
 }
 
 /// Where a branch goes.
-#[tactic(auto, unfolding(target_asm_spec::specs::Instructions::goal_in))]
+#[tactic(auto, unfolding(target_asm_spec::specs::inside::Instructions::goal_in))]
 fn goal(text: &[u8]) -> Option<(Option<Goal>, &[u8])>
     ensures { ReadsAs (λ r. (r.0, r.1.now)) result (goal_in text.now) }
 {
@@ -105,7 +105,7 @@ fn goal(text: &[u8]) -> Option<(Option<Goal>, &[u8])>
     }
 }
 
-#[tactic(auto, unfolding(target_asm_spec::specs::Instructions::jump_in))]
+#[tactic(auto, unfolding(target_asm_spec::specs::inside::Instructions::jump_in))]
 fn jump(has_goal: bool, text: &[u8]) -> Option<(Option<Goal>, &[u8])>
     ensures { ReadsAs (λ r. (r.0, r.1.now)) result (jump_in has_goal text.now) }
 {
@@ -116,7 +116,7 @@ fn jump(has_goal: bool, text: &[u8]) -> Option<(Option<Goal>, &[u8])>
     }
 }
 
-#[tactic(auto, unfolding(target_asm_spec::specs::Instructions::immediate_in))]
+#[tactic(auto, unfolding(target_asm_spec::specs::inside::Instructions::immediate_in))]
 fn immediate(text: &[u8]) -> Option<(Numbers, &[u8])>
     ensures { ReadsAs (λ r. (r.0, r.1.now)) result (immediate_in text.now) }
 {
@@ -133,7 +133,7 @@ fn immediate(text: &[u8]) -> Option<(Numbers, &[u8])>
     }
 }
 
-#[tactic(auto, unfolding(target_asm_spec::specs::Instructions::number_and_immediate_in))]
+#[tactic(auto, unfolding(target_asm_spec::specs::inside::Instructions::number_and_immediate_in))]
 fn number_and_immediate(text: &[u8]) -> Option<(Numbers, &[u8])>
     ensures { ReadsAs (λ r. (r.0, r.1.now)) result (number_and_immediate_in text.now) }
 {
@@ -153,7 +153,7 @@ fn number_and_immediate(text: &[u8]) -> Option<(Numbers, &[u8])>
     }
 }
 
-#[tactic(auto, unfolding(target_asm_spec::specs::Instructions::exit_in))]
+#[tactic(auto, unfolding(target_asm_spec::specs::inside::Instructions::exit_in))]
 fn exit(op: Op, text: &[u8]) -> Option<(Numbers, &[u8])>
     ensures { ReadsAs (λ r. (r.0, r.1.now)) result (exit_in op text.now) }
 {
@@ -174,7 +174,7 @@ fn exit(op: Op, text: &[u8]) -> Option<(Numbers, &[u8])>
 }
 
 /// The numbers of an operation.
-#[tactic(auto, unfolding(target_asm_spec::specs::Instructions::numbers_in))]
+#[tactic(auto, unfolding(target_asm_spec::specs::inside::Instructions::numbers_in))]
 fn numbers(form: Form, op: Op, text: &[u8]) -> Option<(Numbers, &[u8])>
     ensures { ReadsAs (λ r. (r.0, r.1.now)) result (numbers_in form op text.now) }
 {
@@ -195,7 +195,7 @@ fn numbers(form: Form, op: Op, text: &[u8]) -> Option<(Numbers, &[u8])>
     }
 }
 
-#[tactic(auto, unfolding(target_asm_spec::specs::Instructions::two_targets_in))]
+#[tactic(auto, unfolding(target_asm_spec::specs::inside::Instructions::two_targets_in))]
 fn two_targets(text: &[u8]) -> Option<(Targets, &[u8])>
     ensures { ReadsAs (λ r. (r.0, r.1.now)) result (two_targets_in text.now) }
 {
@@ -214,7 +214,7 @@ fn two_targets(text: &[u8]) -> Option<(Targets, &[u8])>
     }
 }
 
-#[tactic(auto, unfolding(target_asm_spec::specs::Instructions::one_target_in))]
+#[tactic(auto, unfolding(target_asm_spec::specs::inside::Instructions::one_target_in))]
 fn one_target(text: &[u8]) -> Option<(Targets, &[u8])>
     ensures { ReadsAs (λ r. (r.0, r.1.now)) result (one_target_in text.now) }
 {
@@ -230,7 +230,7 @@ fn one_target(text: &[u8]) -> Option<(Targets, &[u8])>
     }
 }
 
-#[tactic(auto, unfolding(target_asm_spec::specs::Instructions::targets_in))]
+#[tactic(auto, unfolding(target_asm_spec::specs::inside::Instructions::targets_in))]
 fn no_target(text: &[u8]) -> Option<(Targets, &[u8])>
     ensures store { ReadsAs (λ r. (r.0, r.1.now)) result (targets_in Store text.now) }
     ensures branch { ReadsAs (λ r. (r.0, r.1.now)) result (targets_in Branch text.now) }
@@ -245,7 +245,7 @@ fn no_target(text: &[u8]) -> Option<(Targets, &[u8])>
 }
 
 /// The targets that an operation may have.
-#[tactic(auto, unfolding(target_asm_spec::specs::Instructions::targets_in))]
+#[tactic(auto, unfolding(target_asm_spec::specs::inside::Instructions::targets_in))]
 fn targets(form: Form, text: &[u8]) -> Option<(Targets, &[u8])>
     ensures { ReadsAs (λ r. (r.0, r.1.now)) result (targets_in form text.now) }
 {
@@ -260,7 +260,7 @@ fn targets(form: Form, text: &[u8]) -> Option<(Targets, &[u8])>
 }
 
 /// The numbers, the targets and the end of the line.
-#[tactic(auto, unfolding(target_asm_spec::specs::Instructions::fields_in))]
+#[tactic(auto, unfolding(target_asm_spec::specs::inside::Instructions::fields_in))]
 fn fields(slot: i32, op: Op, sense: Sense, text: &[u8]) -> Option<(SpelledInst, &[u8])>
     ensures { ReadsAs (λ r. (r.0, r.1.now)) result (fields_in slot op sense text.now) }
 {
@@ -296,7 +296,7 @@ fn sensed(slot: i32, op: Op, sense: Sense, rest: &[u8]) -> Option<(SpelledInst, 
 }
 
 /// The operation and what follows, of an instruction in this slot.
-#[tactic(auto, unfolding(target_asm_spec::specs::Instructions::operation_in))]
+#[tactic(auto, unfolding(target_asm_spec::specs::inside::Instructions::operation_in))]
 fn operation(slot: i32, text: &[u8]) -> Option<(SpelledInst, &[u8])>
     ensures { ReadsAs (λ r. (r.0, r.1.now)) result (operation_in slot text.now) }
 {
@@ -311,7 +311,7 @@ fn operation(slot: i32, text: &[u8]) -> Option<(SpelledInst, &[u8])>
 }
 
 /// The line of an instruction.
-#[tactic(auto, unfolding(target_asm_spec::specs::Instructions::inst_in))]
+#[tactic(auto, unfolding(target_asm_spec::specs::inside::Instructions::inst_in))]
 pub fn inst_line(text: &[u8]) -> Option<(SpelledInst, &[u8])>
     ensures { ReadsAs (λ r. (r.0, r.1.now)) result (inst_in text.now) }
 {

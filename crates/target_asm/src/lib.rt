@@ -2,7 +2,7 @@
 //! [`assemble`] reads it back, or gives the first fault of a text that is no image's.
 //!
 //! What a text is and how it is read stands in crates/target_asm_spec/specs, that reading is exact in
-//! `target_asm_laws`. specs/Taking.antt compares what a call returned with what reading gives.
+//! `target_asm_laws`. specs/inside/Taking.antt compares what a call returned with what reading gives.
 #![tactic(auto)]
 
 mod assembling;

@@ -1,10 +1,11 @@
 //! The fields of a line, read: each gives what it reads and what comes after it, or nothing where
 //! no such field stands.
 ghost use Rattle.std.specs.Prelude.{◌≡◌, ◌≤◌, ◌<◌, ◌∷◌, length, IfSome, Some, None};
-ghost use Rattle.target_asm_spec.specs.Reading.{ReadsAs, after_in, is_digit, digits_in, with_digit};
-ghost use Rattle.target_asm_spec.specs.Reading.{value_from, natural_in, number_in, spaced_in, index_in};
-ghost use Rattle.target_asm_spec.specs.Reading.{below_zero, number_by, field_in, hex_value};
-ghost use Rattle.target_asm_spec.specs.Reading.{byte_in, word_in};
+ghost use Rattle.target_asm_spec.specs.inside.Reading.{ReadsAs, after_in, is_digit, digits_in, with_digit};
+ghost use Rattle.target_asm_spec.specs.inside.Reading.{value_from, natural_in, number_in, spaced_in, index_in};
+ghost use Rattle.target_asm_spec.specs.Reading.{field_in};
+ghost use Rattle.target_asm_spec.specs.inside.Reading.{below_zero, number_by, hex_value};
+ghost use Rattle.target_asm_spec.specs.inside.Reading.{byte_in, word_in};
 
 /// What a number of more than nine digits is read as: it is past every field.
 const LARGE: u32 = 1_000_000_000;
@@ -24,7 +25,7 @@ fn is_digit(b: u8) -> bool
 }
 
 /// How many digits the text begins with.
-#[tactic(auto, unfolding(target_asm_spec::specs::Reading::digits_in))]
+#[tactic(auto, unfolding(target_asm_spec::specs::inside::Reading::digits_in))]
 fn digits(text: &[u8]) -> usize
     ensures value { result ≡ digits_in text.now }
     ensures within { result ≤ length text.now }
@@ -37,7 +38,7 @@ fn digits(text: &[u8]) -> usize
     text.len()
 }
 
-#[tactic(auto, unfolding(target_asm_spec::specs::Reading::with_digit))]
+#[tactic(auto, unfolding(target_asm_spec::specs::inside::Reading::with_digit))]
 fn with_digit(value: u32, b: u8) -> u32
     ensures value { result ≡ with_digit value b }
     ensures small { result ≤ 2000000000 }
@@ -49,7 +50,7 @@ fn with_digit(value: u32, b: u8) -> u32
     }
 }
 
-#[tactic(auto, unfolding(target_asm_spec::specs::Reading::value_from))]
+#[tactic(auto, unfolding(target_asm_spec::specs::inside::Reading::value_from))]
 fn value_of(digits: &[u8]) -> u32
     ensures value { result ≡ value_from 0 digits.now }
     ensures small { result ≤ 2000000000 }
@@ -62,7 +63,7 @@ fn value_of(digits: &[u8]) -> u32
 }
 
 /// A number without a sign and without leading zeros.
-#[tactic(auto, unfolding(target_asm_spec::specs::Reading::natural_in))]
+#[tactic(auto, unfolding(target_asm_spec::specs::inside::Reading::natural_in))]
 fn natural(text: &[u8]) -> Option<(u32, &[u8])>
     ensures value { ReadsAs (λ r. (r.0, r.1.now)) result (natural_in text.now) }
     ensures small { IfSome result (λ r. r.0 ≤ 2000000000) }
@@ -105,7 +106,7 @@ fn without_sign(text: &[u8]) -> Option<(i32, &[u8])>
 }
 
 /// A number; one below zero has a sign.
-#[tactic(auto, unfolding(target_asm_spec::specs::Reading::number_in))]
+#[tactic(auto, unfolding(target_asm_spec::specs::inside::Reading::number_in))]
 pub fn number(text: &[u8]) -> Option<(i32, &[u8])>
     ensures { ReadsAs (λ r. (r.0, r.1.now)) result (number_in text.now) }
 {
@@ -116,7 +117,7 @@ pub fn number(text: &[u8]) -> Option<(i32, &[u8])>
 }
 
 /// A number after a space.
-#[tactic(auto, unfolding(target_asm_spec::specs::Reading::spaced_in))]
+#[tactic(auto, unfolding(target_asm_spec::specs::inside::Reading::spaced_in))]
 pub fn spaced(text: &[u8]) -> Option<(i32, &[u8])>
     ensures { ReadsAs (λ r. (r.0, r.1.now)) result (spaced_in text.now) }
 {
@@ -127,7 +128,7 @@ pub fn spaced(text: &[u8]) -> Option<(i32, &[u8])>
 }
 
 /// A number in brackets after a word, as `G[5]`.
-#[tactic(auto, unfolding(target_asm_spec::specs::Reading::index_in))]
+#[tactic(auto, unfolding(target_asm_spec::specs::inside::Reading::index_in))]
 pub fn index<'a>(text: &'a [u8], front: &[u8]) -> Option<(i32, &'a [u8])>
     ensures { ReadsAs (λ r. (r.0, r.1.now)) result (index_in front.now text.now) }
 {
@@ -157,7 +158,7 @@ pub fn field(n: i32, values: u8) -> Option<u8>
 }
 
 /// What a hexadecimal digit is worth.
-#[tactic(auto, unfolding(target_asm_spec::specs::Reading::hex_value))]
+#[tactic(auto, unfolding(target_asm_spec::specs::inside::Reading::hex_value))]
 fn digit(b: u8) -> Option<u8>
     ensures value { result ≡ hex_value b }
     ensures small { IfSome result (λ d. d < 16) }
@@ -172,7 +173,7 @@ fn digit(b: u8) -> Option<u8>
 }
 
 /// The byte of two digits.
-#[tactic(auto, unfolding(target_asm_spec::specs::Reading::byte_in))]
+#[tactic(auto, unfolding(target_asm_spec::specs::inside::Reading::byte_in))]
 pub fn byte(text: &[u8]) -> Option<(u8, &[u8])>
     ensures { ReadsAs (λ r. (r.0, r.1.now)) result (byte_in text.now) }
 {
@@ -182,7 +183,7 @@ pub fn byte(text: &[u8]) -> Option<(u8, &[u8])>
     }
 }
 
-#[tactic(auto, unfolding(target_asm_spec::specs::Reading::byte_in))]
+#[tactic(auto, unfolding(target_asm_spec::specs::inside::Reading::byte_in))]
 fn both_digits(high: u8, low: u8, rest: &[u8]) -> Option<(u8, &[u8])>
     ensures { ReadsAs (λ r. (r.0, r.1.now)) result (byte_in (high ∷ low ∷ rest.now)) }
 {
@@ -196,7 +197,7 @@ fn both_digits(high: u8, low: u8, rest: &[u8]) -> Option<(u8, &[u8])>
 }
 
 /// The word of eight digits.
-#[tactic(auto, unfolding(target_asm_spec::specs::Reading::word_in))]
+#[tactic(auto, unfolding(target_asm_spec::specs::inside::Reading::word_in))]
 pub fn word(text: &[u8]) -> Option<(u32, &[u8])>
     ensures { ReadsAs (λ r. (r.0, r.1.now)) result (word_in text.now) }
 {

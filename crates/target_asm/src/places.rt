@@ -1,8 +1,9 @@
 //! Targets, read.
 ghost use Rattle.std.specs.Prelude.{◌≡◌, Some};
-ghost use Rattle.target_asm_spec.specs.Reading.{ReadsAs};
-ghost use Rattle.target_asm_spec.specs.Places.{left_in, right_in, pred_in, place_in, slot_in, write_in};
-ghost use Rattle.target_asm_spec.specs.Places.{target_in, next_by, next_in, spot_of, maybe_spot};
+ghost use Rattle.target_asm_spec.specs.inside.Reading.{ReadsAs};
+ghost use Rattle.target_asm_spec.specs.inside.Places.{left_in, right_in, pred_in, place_in, slot_in, write_in};
+ghost use Rattle.target_asm_spec.specs.Places.{spot_of, maybe_spot};
+ghost use Rattle.target_asm_spec.specs.inside.Places.{target_in, next_by, next_in};
 
 use crate::line_fields::{after, field, index, number};
 use target_asm_spec::spelled::SpelledTarget;
@@ -36,7 +37,7 @@ fn pred(n: i32, text: &[u8]) -> Option<(SpelledTarget, &[u8])>
 }
 
 /// The place of a slot, after its number.
-#[tactic(auto, unfolding(target_asm_spec::specs::Places::place_in))]
+#[tactic(auto, unfolding(target_asm_spec::specs::inside::Places::place_in))]
 fn place(n: i32, text: &[u8]) -> Option<(SpelledTarget, &[u8])>
     ensures { ReadsAs (λ r. (r.0, r.1.now)) result (place_in n text.now) }
 {
@@ -49,7 +50,7 @@ fn place(n: i32, text: &[u8]) -> Option<(SpelledTarget, &[u8])>
     pred(n, text)
 }
 
-#[tactic(auto, unfolding(target_asm_spec::specs::Places::slot_in))]
+#[tactic(auto, unfolding(target_asm_spec::specs::inside::Places::slot_in))]
 fn slot(text: &[u8]) -> Option<(SpelledTarget, &[u8])>
     ensures { ReadsAs (λ r. (r.0, r.1.now)) result (slot_in text.now) }
 {
@@ -59,7 +60,7 @@ fn slot(text: &[u8]) -> Option<(SpelledTarget, &[u8])>
     }
 }
 
-#[tactic(auto, unfolding(target_asm_spec::specs::Places::write_in))]
+#[tactic(auto, unfolding(target_asm_spec::specs::inside::Places::write_in))]
 fn write(text: &[u8]) -> Option<(SpelledTarget, &[u8])>
     ensures { ReadsAs (λ r. (r.0, r.1.now)) result (write_in text.now) }
 {
@@ -70,7 +71,7 @@ fn write(text: &[u8]) -> Option<(SpelledTarget, &[u8])>
 }
 
 /// A target: `W[3]`, `N[5,p]`, `N[5,0]` or `N[5,1]`.
-#[tactic(auto, unfolding(target_asm_spec::specs::Places::target_in))]
+#[tactic(auto, unfolding(target_asm_spec::specs::inside::Places::target_in))]
 pub fn target(text: &[u8]) -> Option<(SpelledTarget, &[u8])>
     ensures { ReadsAs (λ r. (r.0, r.1.now)) result (target_in text.now) }
 {
@@ -90,7 +91,7 @@ fn found(text: &[u8]) -> Option<(Option<SpelledTarget>, &[u8])>
 }
 
 /// A target after a space, if there is one.
-#[tactic(auto, unfolding(target_asm_spec::specs::Places::next_in))]
+#[tactic(auto, unfolding(target_asm_spec::specs::inside::Places::next_in))]
 pub fn next(text: &[u8]) -> Option<(Option<SpelledTarget>, &[u8])>
     ensures { ReadsAs (λ r. (r.0, r.1.now)) result (next_in text.now) }
 {

@@ -1,10 +1,11 @@
 //! The lines of blocks, reads and writes, read.
 ghost use Rattle.std.specs.Prelude.{◌≡◌};
-ghost use Rattle.target_asm_spec.specs.Reading.{ReadsAs};
-ghost use Rattle.target_asm_spec.specs.Registers.{is_operand, same_number, same_operand, second_fits};
-ghost use Rattle.target_asm_spec.specs.Registers.{same_text};
-ghost use Rattle.target_asm_spec.specs.Registers.{operands_fit, operands_in, read_in, write_line_in};
-ghost use Rattle.target_asm_spec.specs.Registers.{block_line_in, read_of};
+ghost use Rattle.target_asm_spec.specs.inside.Reading.{ReadsAs};
+ghost use Rattle.target_asm_spec.specs.inside.Registers.{is_operand, same_number, same_operand, second_fits};
+ghost use Rattle.target_asm_spec.specs.inside.Registers.{same_text};
+ghost use Rattle.target_asm_spec.specs.inside.Registers.{operands_fit, operands_in, read_in, write_line_in};
+ghost use Rattle.target_asm_spec.specs.Registers.{read_of};
+ghost use Rattle.target_asm_spec.specs.inside.Registers.{block_line_in};
 
 use crate::line_fields::{after, field, index, number, word};
 use crate::places::{maybe_spot, next, spot, target};
@@ -45,7 +46,7 @@ fn same_operand(first: SpelledTarget, second: SpelledTarget) -> bool
 }
 
 /// Whether the next target of `rest` is spelled as the one between `text` and `rest`.
-#[tactic(auto, unfolding(target_asm_spec::specs::Registers::same_text))]
+#[tactic(auto, unfolding(target_asm_spec::specs::inside::Registers::same_text))]
 fn same_text(text: &[u8], rest: &[u8]) -> bool
     ensures value { result ≡ same_text text.now rest.now }
 {
@@ -59,7 +60,7 @@ fn same_text(text: &[u8], rest: &[u8]) -> bool
     }
 }
 
-#[tactic(auto, unfolding(target_asm_spec::specs::Registers::second_fits))]
+#[tactic(auto, unfolding(target_asm_spec::specs::inside::Registers::second_fits))]
 fn second_fits(alike: bool, first: SpelledTarget, second: Option<SpelledTarget>) -> bool
     ensures value { result ≡ second_fits alike first second }
 {
@@ -70,7 +71,7 @@ fn second_fits(alike: bool, first: SpelledTarget, second: Option<SpelledTarget>)
 }
 
 /// Whether a read may name these: one operand, or two different ones.
-#[tactic(auto, unfolding(target_asm_spec::specs::Registers::operands_fit))]
+#[tactic(auto, unfolding(target_asm_spec::specs::inside::Registers::operands_fit))]
 fn operands_fit(alike: bool, first: SpelledTarget, second: Option<SpelledTarget>) -> bool
     ensures value { result ≡ operands_fit alike first second }
 {
@@ -78,7 +79,7 @@ fn operands_fit(alike: bool, first: SpelledTarget, second: Option<SpelledTarget>
 }
 
 /// The operands of a read and the end of its line, after its register.
-#[tactic(auto, unfolding(target_asm_spec::specs::Registers::operands_in))]
+#[tactic(auto, unfolding(target_asm_spec::specs::inside::Registers::operands_in))]
 fn operands(number: i32, register: i32, text: &[u8]) -> Option<(SpelledRead, &[u8])>
     ensures { ReadsAs (λ r. (r.0, r.1.now)) result (operands_in number register text.now) }
 {
@@ -110,7 +111,7 @@ fn operands(number: i32, register: i32, text: &[u8]) -> Option<(SpelledRead, &[u
 }
 
 /// The line of a read.
-#[tactic(auto, unfolding(target_asm_spec::specs::Registers::read_in))]
+#[tactic(auto, unfolding(target_asm_spec::specs::inside::Registers::read_in))]
 pub fn read_line(text: &[u8]) -> Option<(SpelledRead, &[u8])>
     ensures { ReadsAs (λ r. (r.0, r.1.now)) result (read_in text.now) }
 {
@@ -124,7 +125,7 @@ pub fn read_line(text: &[u8]) -> Option<(SpelledRead, &[u8])>
 }
 
 /// The line of a write.
-#[tactic(auto, unfolding(target_asm_spec::specs::Registers::write_line_in))]
+#[tactic(auto, unfolding(target_asm_spec::specs::inside::Registers::write_line_in))]
 pub fn write_line(text: &[u8]) -> Option<(SpelledWrite, &[u8])>
     ensures { ReadsAs (λ r. (r.0, r.1.now)) result (write_line_in text.now) }
 {
@@ -147,7 +148,7 @@ pub fn write_line(text: &[u8]) -> Option<(SpelledWrite, &[u8])>
 }
 
 /// The line of a block.
-#[tactic(auto, unfolding(target_asm_spec::specs::Registers::block_line_in))]
+#[tactic(auto, unfolding(target_asm_spec::specs::inside::Registers::block_line_in))]
 pub fn block_line(text: &[u8]) -> Option<(SpelledBlock, &[u8])>
     ensures { ReadsAs (λ r. (r.0, r.1.now)) result (block_line_in text.now) }
 {

@@ -1,8 +1,8 @@
 //! The lines of reads and of writes, one after the other.
 ghost use Rattle.std.specs.Prelude.{◌≡◌, ◌≤◌, ◌<◌, ◌^◌, ◌+◌, IfOk, []};
-ghost use Rattle.target_asm_spec.specs.Blocks.{begins, is_place, one_read, reads_in, one_write};
-ghost use Rattle.target_asm_spec.specs.Blocks.{writes_in};
-ghost use Rattle.target_asm.specs.Taking.{Returns};
+ghost use Rattle.target_asm_spec.specs.inside.Blocks.{begins, is_place, one_read, reads_in, one_write};
+ghost use Rattle.target_asm_spec.specs.inside.Blocks.{writes_in};
+ghost use Rattle.target_asm.specs.inside.Taking.{Returns};
 
 use crate::line_fields::{after, field};
 use crate::registers::{judged_read, read_line, write_line};
@@ -28,7 +28,7 @@ pub fn is_place(n: i32, place: usize) -> bool
 }
 
 /// The line of read i.
-#[tactic(auto, unfolding(target_asm_spec::specs::Blocks::one_read))]
+#[tactic(auto, unfolding(target_asm_spec::specs::inside::Blocks::one_read))]
 fn one_read(i: usize, line: u32, text: &[u8]) -> Result<(ReadSlot, &[u8]), AsmFault>
     ensures value { Returns (λ r. (r.0, r.1.now)) result (one_read i line text.now) }
     ensures room { IfOk result (λ r. i < 32) }
@@ -49,7 +49,7 @@ fn one_read(i: usize, line: u32, text: &[u8]) -> Result<(ReadSlot, &[u8]), AsmFa
 }
 
 /// The lines of reads: the number of the next line and what is left.
-#[tactic(auto, unfolding(target_asm_spec::specs::Blocks::reads_in))]
+#[tactic(auto, unfolding(target_asm_spec::specs::inside::Blocks::reads_in))]
 pub fn reads<'a>(
     out: &mut ArrayVec<ReadSlot, 32>,
     line: u32,
@@ -77,7 +77,7 @@ pub fn reads<'a>(
 }
 
 /// The line of write i.
-#[tactic(auto, unfolding(target_asm_spec::specs::Blocks::one_write))]
+#[tactic(auto, unfolding(target_asm_spec::specs::inside::Blocks::one_write))]
 fn one_write(i: usize, line: u32, text: &[u8]) -> Result<(u8, &[u8]), AsmFault>
     ensures value { Returns (λ r. (r.0, r.1.now)) result (one_write i line text.now) }
     ensures room { IfOk result (λ r. i < 32) }
@@ -98,7 +98,7 @@ fn one_write(i: usize, line: u32, text: &[u8]) -> Result<(u8, &[u8]), AsmFault>
 }
 
 /// The lines of writes: the number of the next line and what is left.
-#[tactic(auto, unfolding(target_asm_spec::specs::Blocks::writes_in))]
+#[tactic(auto, unfolding(target_asm_spec::specs::inside::Blocks::writes_in))]
 pub fn writes<'a>(
     out: &mut ArrayVec<u8, 32>,
     line: u32,

@@ -1,7 +1,7 @@
 //! The lines of a block's instructions, one after the other.
 ghost use Rattle.std.specs.Prelude.{◌≡◌, ◌≤◌, ◌<◌, ◌^◌, ◌+◌, ◌++◌, length, IfOk, []};
-ghost use Rattle.target_asm_spec.specs.Blocks.{in_turn, one_inst, gap, slots_in};
-ghost use Rattle.target_asm.specs.Taking.{Returns, seen};
+ghost use Rattle.target_asm_spec.specs.inside.Blocks.{in_turn, one_inst, gap, slots_in};
+ghost use Rattle.target_asm.specs.inside.Taking.{Returns, seen};
 
 use crate::branches::{Known, aimed};
 use crate::instruction::inst_line;
@@ -24,7 +24,7 @@ fn in_turn(next: usize, slot: i32) -> bool
 }
 
 /// The slot and the instruction of a line.
-#[tactic(auto, using(crate::proofs::Filling::turn_after), unfolding(target_asm_spec::specs::Blocks::one_inst))]
+#[tactic(auto, using(crate::proofs::Filling::turn_after), unfolding(target_asm_spec::specs::inside::Blocks::one_inst))]
 fn one_inst<'a>(
     known: Known<'_>,
     here: u32,

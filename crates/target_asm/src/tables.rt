@@ -1,7 +1,7 @@
 //! Tables of the places where blocks begin.
 ghost use Rattle.std.specs.Prelude.{◌≡◌, ◌≤◌, ◌<◌, ◌^◌, ◌++◌, ◌+ℤ◌, pos, length, All, IfOk, OnOk};
-ghost use Rattle.target_asm_spec.specs.Chunks.{start_row, start_rows, goal_in, named};
-ghost use Rattle.target_asm_spec.specs.Whole.{chunks_from};
+ghost use Rattle.target_asm_spec.specs.inside.Chunks.{start_row, start_rows, goal_in, named};
+ghost use Rattle.target_asm_spec.specs.inside.Whole.{chunks_from};
 
 use std::alloc::{AllocError, Global};
 use trips_isa::{Block, chunks};

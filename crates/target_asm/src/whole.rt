@@ -5,12 +5,12 @@ ghost use Rattle.trips_isa.specs.declared.block.Image.{Image};
 ghost use Rattle.trips_isa.specs.Images.{last_byte};
 ghost use Rattle.target_asm_spec.specs.Text.{TargetText};
 ghost use Rattle.target_asm_spec.specs.declared.fault.AsmFault.TheVariants.{Syntax};
-ghost use Rattle.target_asm_spec.specs.Reading.{ReadsAs};
-ghost use Rattle.target_asm_spec.specs.Whole.{count_in, bytes_limit, front_in, feed_in};
-ghost use Rattle.target_asm_spec.specs.Whole.{data_byte_in, byte_fault, bytes_in, data_in, body_in};
-ghost use Rattle.target_asm_spec.specs.Whole.{image_in};
-ghost use Rattle.target_asm.specs.Taking.{Returns, ReturnsOrMemory, IsMemory, places_in, after_front};
-ghost use Rattle.target_asm.specs.Taking.{place_table, steps_in};
+ghost use Rattle.target_asm_spec.specs.inside.Reading.{ReadsAs};
+ghost use Rattle.target_asm_spec.specs.inside.Whole.{count_in, bytes_limit, front_in, feed_in};
+ghost use Rattle.target_asm_spec.specs.inside.Whole.{data_byte_in, byte_fault, bytes_in, data_in, body_in};
+ghost use Rattle.target_asm_spec.specs.inside.Whole.{image_in};
+ghost use Rattle.target_asm.specs.inside.Taking.{Returns, ReturnsOrMemory, IsMemory, places_in, after_front};
+ghost use Rattle.target_asm.specs.inside.Taking.{place_table, steps_in};
 
 use crate::body::body;
 use crate::branches::Known;
@@ -22,7 +22,7 @@ use target_asm_spec::AsmFault;
 use trips_isa::Image;
 
 /// The number of data bytes that their line tells.
-#[tactic(auto, unfolding(target_asm_spec::specs::Whole::count_in))]
+#[tactic(auto, unfolding(target_asm_spec::specs::inside::Whole::count_in))]
 fn count_line(text: &[u8]) -> Option<(i32, &[u8])>
     ensures { ReadsAs (λ r. (r.0, r.1.now)) result (count_in text.now) }
 {
@@ -38,7 +38,7 @@ fn count_line(text: &[u8]) -> Option<(i32, &[u8])>
     }
 }
 
-#[tactic(auto, unfolding(target_asm_spec::specs::Whole::bytes_limit))]
+#[tactic(auto, unfolding(target_asm_spec::specs::inside::Whole::bytes_limit))]
 fn limit(n: i32) -> Option<u32>
     ensures value { result ≡ bytes_limit n }
     ensures few { IfSome result (λ n. n ≤ 4194304) }
@@ -51,7 +51,7 @@ fn limit(n: i32) -> Option<u32>
 }
 
 /// The first two lines, which tell the number of data bytes.
-#[tactic(auto, unfolding(target_asm_spec::specs::Whole::front_in))]
+#[tactic(auto, unfolding(target_asm_spec::specs::inside::Whole::front_in))]
 fn front(text: &[u8]) -> Result<(u32, &[u8]), AsmFault>
     ensures value { Returns (λ r. (r.0, r.1.now)) result (front_in text.now) }
     ensures few { IfOk result (λ r. r.0 ≤ 4194304) }
@@ -81,7 +81,7 @@ fn feed(count: usize, at: usize, text: &[u8]) -> Option<&[u8]>
 }
 
 /// The byte at a place of so many.
-#[tactic(auto, unfolding(target_asm_spec::specs::Whole::data_byte_in))]
+#[tactic(auto, unfolding(target_asm_spec::specs::inside::Whole::data_byte_in))]
 fn data_byte(count: usize, at: usize, text: &[u8]) -> Option<(u8, &[u8])>
     requires { at < 2 ^ 32 }
     ensures { ReadsAs (λ r. (r.0, r.1.now)) result (data_byte_in count at text.now) }
@@ -135,7 +135,7 @@ fn last(bytes: &[u8]) -> u8
 }
 
 /// The data bytes, of which the last is not zero.
-#[tactic(auto, unfolding(target_asm_spec::specs::Whole::data_in))]
+#[tactic(auto, unfolding(target_asm_spec::specs::inside::Whole::data_in))]
 fn data(alloc: Global, count: usize, text: &[u8]) -> Result<(Vec<u8>, &[u8]), AsmFault>
     requires { count ≤ 4194304 }
     ensures { ReturnsOrMemory (λ r. (r.0.items, r.1.now)) result (data_in count text.now) }

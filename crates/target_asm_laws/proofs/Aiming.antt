@@ -11,14 +11,14 @@ use Rattle.trips_isa.specs.declared.block.Block.{Block}
 use Rattle.trips_isa.specs.Forms.{form_of}
 use Rattle.trips_isa.specs.Fits.{FitsSigned}
 use Rattle.trips_isa.specs.Limits.{most_chunks, offset_half}
-use Rattle.target_asm_spec.specs.Chunks.{goal_in, start_rows}
+use Rattle.target_asm_spec.specs.inside.Chunks.{goal_in, start_rows}
 use Rattle.target_asm_spec.specs.declared.fault.AsmFault.TheVariants as fault
 use Rattle.target_asm_spec.specs.declared.spelled.Goal.{Goal}
 use Rattle.target_asm_spec.specs.declared.spelled.Goal.TheVariants.{Label, Offset}
 use Rattle.target_asm_spec.specs.declared.spelled.SpelledInst.{SpelledInst}
 use Rattle.target_asm_spec.specs.Judging.{signed_in, inst_of}
-use Rattle.target_asm_spec.specs.Blocks.{or_fault, to_block, aimed_at, aimed}
-use Rattle.target_asm_spec.specs.Whole.{chunks_from, begins_of, unknown}
+use Rattle.target_asm_spec.specs.inside.Blocks.{or_fault, to_block, aimed_at, aimed}
+use Rattle.target_asm_spec.specs.inside.Whole.{chunks_from, begins_of, unknown}
 use Rattle.target_asm_spec.specs.Lines.{MayHaveGoal}
 use Rattle.target_asm_spec.specs.LinePlaces.{GoodGoal}
 use Rattle.target_asm_spec.proofs.Goals.{found_goal, length-chunks_from}

@@ -11,13 +11,13 @@ use Rattle.trips_isa.specs.declared.op.Op.TheVariants.{Bro, Callo}
 use Rattle.trips_isa.specs.Fits.{FitsSigned, FitsOffset}
 use Rattle.trips_isa.specs.Limits.{most_chunks, offset_half}
 use Rattle.target_asm_spec.specs.Fields.{branch_text}
-use Rattle.target_asm_spec.specs.Chunks.{goal_in}
+use Rattle.target_asm_spec.specs.inside.Chunks.{goal_in}
 use Rattle.target_asm_spec.specs.declared.fault.AsmFault.TheVariants as fault
 use Rattle.target_asm_spec.specs.declared.spelled.Goal.{Goal}
 use Rattle.target_asm_spec.specs.declared.spelled.Goal.TheVariants.{Label, Offset}
 use Rattle.target_asm_spec.specs.Judging.{signed_in}
-use Rattle.target_asm_spec.specs.Instructions.{jumps}
-use Rattle.target_asm_spec.specs.Blocks.{or_fault, Begins, to_block, aimed_at, aimed}
+use Rattle.target_asm_spec.specs.inside.Instructions.{jumps}
+use Rattle.target_asm_spec.specs.inside.Blocks.{or_fault, Begins, to_block, aimed_at, aimed}
 use Rattle.target_asm_spec.proofs.Operations.{signed_small}
 use Rattle.target_asm_laws.proofs.Binds.{Holds, gives, or_holds, fork}
 use Rattle.target_asm_laws.proofs.Operations.{goal_decimals, SmallAim, HasGoal}

@@ -10,8 +10,8 @@ use Rattle.target_asm_spec.specs.declared.fault.AsmFault.TheVariants as fault
 use Rattle.target_asm_spec.specs.declared.spelled.Goal.{Goal}
 use Rattle.target_asm_spec.specs.declared.spelled.Goal.TheVariants.{Label, Offset}
 use Rattle.target_asm_spec.specs.Judging.{inst_of}
-use Rattle.target_asm_spec.specs.Whole.{is_empty, data_lines, chunks_from, begins_of, unknown, body_in}
-use Rattle.target_asm_spec.specs.Whole.{image_in}
+use Rattle.target_asm_spec.specs.inside.Whole.{is_empty, data_lines, chunks_from, begins_of, unknown, body_in}
+use Rattle.target_asm_spec.specs.inside.Whole.{image_in}
 use Rattle.target_asm_spec.specs.LinePlaces.{Line, line_words, Place, start, after, MayStand, Below}
 use Rattle.target_asm_spec.specs.LinePlaces.{InFields, AreGood, place_after, lines_words, GoodGoal}
 use Rattle.target_asm_spec.specs.LinePlaces.{goal_of_line, GoodGoals}

@@ -2,8 +2,9 @@
 use Rattle.std.proofs.Common.{◌≡◌, refl, Option, Some, None, Bool, true, false}
 use Rattle.std.specs.Prelude.{Result, Ok, Err, if◌then◌else◌}
 use Rattle.target_asm_spec.specs.declared.fault.AsmFault.{AsmFault}
-use Rattle.target_asm_spec.specs.Reading.{◌>>=◌, or_else}
-use Rattle.target_asm_spec.specs.Blocks.{◌>>>◌, or_fault, wants}
+use Rattle.target_asm_spec.specs.Reading.{◌>>=◌}
+use Rattle.target_asm_spec.specs.inside.Reading.{or_else}
+use Rattle.target_asm_spec.specs.inside.Blocks.{◌>>>◌, or_fault, wants}
 
 -- P holds of what is there
 abbrev pub If : {A : Type 0} → (A → Type 0) → Option A → Type 0

@@ -15,11 +15,11 @@ use Rattle.target_asm_spec.specs.declared.spelled.Goal.{Goal}
 use Rattle.target_asm_spec.specs.declared.spelled.SpelledBlock.{SpelledBlock}
 use Rattle.target_asm_spec.specs.declared.spelled.SpelledRead.{SpelledRead}
 use Rattle.target_asm_spec.specs.declared.spelled.SpelledWrite.{SpelledWrite}
-use Rattle.target_asm_spec.specs.Registers.{block_line_in}
-use Rattle.target_asm_spec.specs.Blocks.{begins, is_place, Begins, one_read}
-use Rattle.target_asm_spec.specs.Blocks.{reads_in, one_write, writes_in, slots_in, head_in, block_of}
-use Rattle.target_asm_spec.specs.Blocks.{one_block, blocks_in}
-use Rattle.target_asm_spec.specs.Whole.{chunks_from}
+use Rattle.target_asm_spec.specs.inside.Registers.{block_line_in}
+use Rattle.target_asm_spec.specs.inside.Blocks.{begins, is_place, Begins, one_read}
+use Rattle.target_asm_spec.specs.inside.Blocks.{reads_in, one_write, writes_in, slots_in, head_in, block_of}
+use Rattle.target_asm_spec.specs.inside.Blocks.{one_block, blocks_in}
+use Rattle.target_asm_spec.specs.inside.Whole.{chunks_from}
 use Rattle.target_asm_spec.specs.Lines.{read_words, write_words, block_words}
 use Rattle.target_asm_spec.specs.LinePlaces.{Line, line_words, Place, after, IsNext, MayStand, InFields}
 use Rattle.target_asm_spec.specs.LinePlaces as line

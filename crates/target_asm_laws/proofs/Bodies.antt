@@ -18,9 +18,9 @@ use Rattle.target_asm_spec.specs.Numbers.{numbered, hex_word}
 use Rattle.target_asm_spec.specs.Text.{block_line, read_line, write_line, slot_text, block_text}
 use Rattle.target_asm_spec.specs.declared.fault.AsmFault.TheVariants.{Syntax, Range}
 use Rattle.target_asm_spec.specs.declared.spelled.SpelledBlock.{SpelledBlock}
-use Rattle.target_asm_spec.specs.Registers.{block_line_in}
-use Rattle.target_asm_spec.specs.Blocks.{or_fault, wants, is_place, Begins, reads_in}
-use Rattle.target_asm_spec.specs.Blocks.{writes_in, slots_in, head_in, block_of, one_block, blocks_in}
+use Rattle.target_asm_spec.specs.inside.Registers.{block_line_in}
+use Rattle.target_asm_spec.specs.inside.Blocks.{or_fault, wants, is_place, Begins, reads_in}
+use Rattle.target_asm_spec.specs.inside.Blocks.{writes_in, slots_in, head_in, block_of, one_block, blocks_in}
 use Rattle.target_asm_spec.proofs.Each.{Each}
 use Rattle.target_asm_laws.proofs.Binds.{Holds, chain, or_holds, wanted}
 use Rattle.target_asm_laws.proofs.Registers.{IsBlockLine, block_line_is}

@@ -10,10 +10,10 @@ use Rattle.trips_isa.specs.Images.{last_byte}
 use Rattle.target_asm_spec.specs.Numbers.{hex_byte, numbered}
 use Rattle.target_asm_spec.specs.Text.{data_end, byte_text, head_lines}
 use Rattle.target_asm_spec.specs.declared.fault.AsmFault.TheVariants.{Syntax, Range}
-use Rattle.target_asm_spec.specs.Reading.{after_in, number_in, byte_in}
-use Rattle.target_asm_spec.specs.Blocks.{or_fault, wants}
-use Rattle.target_asm_spec.specs.Whole.{count_in, bytes_limit, front_in, feed_in}
-use Rattle.target_asm_spec.specs.Whole.{data_byte_in, byte_fault, bytes_in, data_lines, data_in}
+use Rattle.target_asm_spec.specs.inside.Reading.{after_in, number_in, byte_in}
+use Rattle.target_asm_spec.specs.inside.Blocks.{or_fault, wants}
+use Rattle.target_asm_spec.specs.inside.Whole.{count_in, bytes_limit, front_in, feed_in}
+use Rattle.target_asm_spec.specs.inside.Whole.{data_byte_in, byte_fault, bytes_in, data_lines, data_in}
 use Rattle.target_asm_spec.proofs.Numbers.{IsSmall}
 use Rattle.target_asm_spec.proofs.Each.{Each}
 use Rattle.target_asm_laws.proofs.Binds.{If, Holds, bind, chain, when, or_holds, wanted}

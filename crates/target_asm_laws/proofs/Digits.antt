@@ -10,9 +10,11 @@ use Rattle.std.proofs.lemmas.Bool.{eqb-true, eqb-false, lt-ltb, le-ltb, leb-true
 use Rattle.std.proofs.lemmas.Bool.{cases_lt, or_parts}
 use Rattle.std.proofs.lemmas.List.{append-nil}
 use Rattle.std.proofs.lemmas.Fmt.{decimal_digit, decimal_step}
-use Rattle.target_asm_spec.specs.Reading.{◌>>=◌, after_in, is_digit, digits_in, with_digit, value_from}
-use Rattle.target_asm_spec.specs.Reading.{is_no_number, natural_in, below_zero, number_by, number_in}
-use Rattle.target_asm_spec.specs.Reading.{spaced_in, index_in, field_in}
+use Rattle.target_asm_spec.specs.Reading.{◌>>=◌}
+use Rattle.target_asm_spec.specs.inside.Reading.{after_in, is_digit, digits_in, with_digit, value_from}
+use Rattle.target_asm_spec.specs.inside.Reading.{is_no_number, natural_in, below_zero, number_by, number_in}
+use Rattle.target_asm_spec.specs.Reading.{field_in}
+use Rattle.target_asm_spec.specs.inside.Reading.{spaced_in, index_in}
 use Rattle.target_asm_spec.proofs.Numbers.{and_left, and_right, all_digits, IsSmall}
 use Rattle.target_asm_laws.proofs.Binds.{If, bind, gives, unless, when}
 

@@ -17,12 +17,12 @@ use Rattle.trips_isa.specs.Fits.{FitsSigned, FitsConstant, FitsOffset, FitsTarge
 use Rattle.trips_isa.specs.Fits.{FitsInst}
 use Rattle.isa_table.specs.Spots.{indexed}
 use Rattle.target_asm_spec.specs.Fields.{target_text, branch_text, numbers_text}
-use Rattle.target_asm_spec.specs.Chunks.{goal_in}
+use Rattle.target_asm_spec.specs.inside.Chunks.{goal_in}
 use Rattle.target_asm_spec.specs.Text.{inst_line, op_text, targets_text}
 use Rattle.target_asm_spec.specs.declared.spelled.SpelledTarget.{SpelledTarget}
 use Rattle.target_asm_spec.specs.declared.spelled.SpelledInst.{SpelledInst}
-use Rattle.target_asm_spec.specs.Instructions.{sense_fits}
-use Rattle.target_asm_spec.specs.Blocks.{Begins}
+use Rattle.target_asm_spec.specs.inside.Instructions.{sense_fits}
+use Rattle.target_asm_spec.specs.inside.Blocks.{Begins}
 use Rattle.target_asm_spec.proofs.Numbers.{IsSmall}
 use Rattle.target_asm_spec.proofs.Operations.{signed_small, constant_small}
 use Rattle.target_asm_spec.proofs.Targets.{spelled_target}

@@ -5,7 +5,7 @@ use Rattle.trips_isa.specs.declared.block.Image.{Image}
 use Rattle.target_asm_spec.specs.Text.{TargetText}
 use Rattle.target_asm_spec.specs.declared.fault.AsmFault.{AsmFault}
 use Rattle.target_asm_spec.specs.declared.spelled.Goal.TheVariants.{Label, Offset}
-use Rattle.target_asm_spec.specs.Whole.{image_in}
+use Rattle.target_asm_spec.specs.inside.Whole.{image_in}
 use Rattle.target_asm_spec.specs.FirstAsmFault.{FirstAsmFault}
 use Rattle.target_asm_spec.specs.FirstAsmFault as rule
 use Rattle.target_asm_spec.proofs.Images.{read_again}

@@ -10,10 +10,12 @@ use Rattle.target_asm_spec.specs.declared.fault.AsmFault.TheVariants as fault
 use Rattle.target_asm_spec.specs.declared.spelled.Goal.{Goal}
 use Rattle.target_asm_spec.specs.declared.spelled.SpelledRead.{SpelledRead}
 use Rattle.target_asm_spec.specs.declared.spelled.SpelledWrite.{SpelledWrite}
-use Rattle.target_asm_spec.specs.Reading.{after_in, field_in}
-use Rattle.target_asm_spec.specs.Registers.{read_in, write_line_in, read_of}
-use Rattle.target_asm_spec.specs.Blocks.{◌>>>◌, begins, is_place, lines_in, one_read}
-use Rattle.target_asm_spec.specs.Blocks.{one_write}
+use Rattle.target_asm_spec.specs.Reading.{field_in}
+use Rattle.target_asm_spec.specs.inside.Reading.{after_in}
+use Rattle.target_asm_spec.specs.Registers.{read_of}
+use Rattle.target_asm_spec.specs.inside.Registers.{read_in, write_line_in}
+use Rattle.target_asm_spec.specs.inside.Blocks.{◌>>>◌, begins, is_place, lines_in, one_read}
+use Rattle.target_asm_spec.specs.inside.Blocks.{one_write}
 use Rattle.target_asm_spec.specs.Lines.{read_words, write_words}
 use Rattle.target_asm_spec.specs.LinePlaces.{Line, line_words, Place, after, size_of, IsNext, MayStand}
 use Rattle.target_asm_spec.specs.LinePlaces.{Below, InFields}

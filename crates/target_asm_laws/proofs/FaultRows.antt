@@ -8,11 +8,11 @@ use Rattle.target_asm_spec.specs.declared.spelled.SpelledTarget.{SpelledTarget}
 use Rattle.target_asm_spec.specs.declared.spelled.SpelledRead.{SpelledRead}
 use Rattle.target_asm_spec.specs.declared.spelled.SpelledWrite.{SpelledWrite}
 use Rattle.target_asm_spec.specs.declared.spelled.SpelledBlock.{SpelledBlock}
-use Rattle.target_asm_spec.specs.Reading.{after_in, number_in, index_in, word_in}
-use Rattle.target_asm_spec.specs.Places.{target_in, next_in}
-use Rattle.target_asm_spec.specs.Registers.{same_text}
-use Rattle.target_asm_spec.specs.Registers.{operands_fit, operands_in}
-use Rattle.target_asm_spec.specs.Registers.{read_in, write_line_in, block_line_in}
+use Rattle.target_asm_spec.specs.inside.Reading.{after_in, number_in, index_in, word_in}
+use Rattle.target_asm_spec.specs.inside.Places.{target_in, next_in}
+use Rattle.target_asm_spec.specs.inside.Registers.{same_text}
+use Rattle.target_asm_spec.specs.inside.Registers.{operands_fit, operands_in}
+use Rattle.target_asm_spec.specs.inside.Registers.{read_in, write_line_in, block_line_in}
 use Rattle.target_asm_spec.specs.Lines.{number_text, target_words, maybe_words, read_words}
 use Rattle.target_asm_spec.specs.Lines.{write_words, block_words, AreOperands}
 use Rattle.target_asm_spec.proofs.Numbers.{after_front, no_digit}

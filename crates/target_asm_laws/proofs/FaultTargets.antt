@@ -4,9 +4,9 @@ use Rattle.std.proofs.Common.{Option, Some, None}
 use Rattle.std.specs.Prelude.{ℤ, codes}
 use Rattle.target_asm_spec.specs.declared.spelled.SpelledTarget.{SpelledTarget}
 use Rattle.target_asm_spec.specs.declared.spelled.SpelledTarget.TheVariants as spelled
-use Rattle.target_asm_spec.specs.Reading.{or_else, after_in, digits_in, number_in, index_in}
-use Rattle.target_asm_spec.specs.Places.{left_in, right_in, pred_in, place_in, slot_in, write_in}
-use Rattle.target_asm_spec.specs.Places.{target_by, target_in, next_by, next_in}
+use Rattle.target_asm_spec.specs.inside.Reading.{or_else, after_in, digits_in, number_in, index_in}
+use Rattle.target_asm_spec.specs.inside.Places.{left_in, right_in, pred_in, place_in, slot_in, write_in}
+use Rattle.target_asm_spec.specs.inside.Places.{target_by, target_in, next_by, next_in}
 use Rattle.target_asm_spec.specs.Lines.{number_text, target_words, maybe_words}
 use Rattle.target_asm_spec.proofs.Numbers.{after_front, no_digit}
 use Rattle.target_asm_spec.proofs.Targets.{IsEnd, none_again}

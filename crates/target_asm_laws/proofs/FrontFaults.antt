@@ -11,10 +11,10 @@ use Rattle.target_asm_spec.specs.Numbers.{numbered}
 use Rattle.target_asm_spec.specs.Text.{head_lines, byte_text}
 use Rattle.target_asm_spec.specs.declared.fault.AsmFault.{AsmFault}
 use Rattle.target_asm_spec.specs.declared.fault.AsmFault.TheVariants as fault
-use Rattle.target_asm_spec.specs.Reading.{after_in, number_in}
-use Rattle.target_asm_spec.specs.Blocks.{◌>>>◌, or_fault, wants}
-use Rattle.target_asm_spec.specs.Whole.{count_in, bytes_limit, front_in, byte_fault}
-use Rattle.target_asm_spec.specs.Whole.{data_byte_in, bytes_in, data_lines, data_in}
+use Rattle.target_asm_spec.specs.inside.Reading.{after_in, number_in}
+use Rattle.target_asm_spec.specs.inside.Blocks.{◌>>>◌, or_fault, wants}
+use Rattle.target_asm_spec.specs.inside.Whole.{count_in, bytes_limit, front_in, byte_fault}
+use Rattle.target_asm_spec.specs.inside.Whole.{data_byte_in, bytes_in, data_lines, data_in}
 use Rattle.target_asm_spec.specs.Lines.{number_text, count_words}
 use Rattle.target_asm_spec.specs.LinePlaces.{size_of}
 use Rattle.target_asm_spec.specs.LinePlaces.{Below}

@@ -10,11 +10,11 @@ use Rattle.target_asm_spec.specs.Numbers.{numbered}
 use Rattle.target_asm_spec.specs.Text.{byte_text}
 use Rattle.target_asm_spec.specs.declared.fault.AsmFault.{AsmFault}
 use Rattle.target_asm_spec.specs.declared.fault.AsmFault.TheVariants as fault
-use Rattle.target_asm_spec.specs.Reading.{after_in}
-use Rattle.target_asm_spec.specs.Blocks.{◌>>>◌, wants}
-use Rattle.target_asm_spec.specs.Whole.{is_empty, count_in, bytes_limit, front_in, byte_fault}
-use Rattle.target_asm_spec.specs.Whole.{data_byte_in, bytes_in, data_lines, data_in, begins_of, unknown}
-use Rattle.target_asm_spec.specs.Whole.{body_in, image_in}
+use Rattle.target_asm_spec.specs.inside.Reading.{after_in}
+use Rattle.target_asm_spec.specs.inside.Blocks.{◌>>>◌, wants}
+use Rattle.target_asm_spec.specs.inside.Whole.{is_empty, count_in, bytes_limit, front_in, byte_fault}
+use Rattle.target_asm_spec.specs.inside.Whole.{data_byte_in, bytes_in, data_lines, data_in, begins_of, unknown}
+use Rattle.target_asm_spec.specs.inside.Whole.{body_in, image_in}
 use Rattle.target_asm_spec.specs.Lines.{count_words}
 use Rattle.target_asm_spec.specs.LinePlaces.{Below}
 use Rattle.target_asm_spec.specs.FirstAsmFault.{GoodBytes, data_words, GoodFront}

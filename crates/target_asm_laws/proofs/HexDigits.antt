@@ -4,7 +4,7 @@ use Rattle.std.proofs.Common.{refl, ap, ◌∙◌, arith, Some, None, Bool, true
 use Rattle.std.specs.Prelude.{◌&&◌, nat_lt, nat_le, if◌then◌else◌}
 use Rattle.std.proofs.lemmas.Bool.{lt-ltb, le-ltb, leb-true}
 use Rattle.target_asm_spec.specs.Numbers.{hex_digit, hex_byte, hex_word}
-use Rattle.target_asm_spec.specs.Reading.{hex_value, byte_in, word_in}
+use Rattle.target_asm_spec.specs.inside.Reading.{hex_value, byte_in, word_in}
 use Rattle.target_asm_spec.proofs.Numbers.{and_left, and_right}
 use Rattle.target_asm_laws.proofs.Binds.{If, bind}
 

@@ -14,9 +14,9 @@ use Rattle.target_asm_spec.specs.Text.{byte_text, head_lines, block_in, TargetTe
 use Rattle.target_asm_spec.proofs.Starts.{goals_agree}
 use Rattle.target_asm_spec.specs.declared.fault.AsmFault.{AsmFault}
 use Rattle.target_asm_spec.specs.declared.fault.AsmFault.TheVariants.{Syntax}
-use Rattle.target_asm_spec.specs.Blocks.{wants}
-use Rattle.target_asm_spec.specs.Whole.{is_empty, front_in, data_lines, data_in, begins_of, unknown}
-use Rattle.target_asm_spec.specs.Whole.{body_in, image_in}
+use Rattle.target_asm_spec.specs.inside.Blocks.{wants}
+use Rattle.target_asm_spec.specs.inside.Whole.{is_empty, front_in, data_lines, data_in, begins_of, unknown}
+use Rattle.target_asm_spec.specs.inside.Whole.{body_in, image_in}
 use Rattle.target_asm_spec.proofs.Images.{read_again}
 use Rattle.target_asm_laws.proofs.Binds.{Holds, chain, wanted}
 use Rattle.target_asm_laws.proofs.Slots.{goals}

@@ -6,12 +6,13 @@ use Rattle.std.specs.Fmt.{signed_decimal}
 use Rattle.trips_isa.specs.declared.op.Op.{Op}
 use Rattle.trips_isa.specs.declared.block.Sense.{Sense}
 use Rattle.trips_isa.specs.Forms.{form_of}
-use Rattle.isa_table.specs.Mnemonics.{mnemonic_of, op_with_mnemonic}
+use Rattle.isa_table.specs.Mnemonics.{mnemonic_of}
+use Rattle.isa_table.specs.inside.Mnemonics.{op_with_mnemonic}
 use Rattle.target_asm_spec.specs.Fields.{sense_text}
 use Rattle.target_asm_spec.specs.declared.spelled.SpelledInst.{SpelledInst}
-use Rattle.target_asm_spec.specs.Reading.{after_in, index_in}
-use Rattle.target_asm_spec.specs.Instructions.{letters_in, sense_in, sense_fits, numbers_in, targets_in}
-use Rattle.target_asm_spec.specs.Instructions.{fields_in, sensed_in, operation_in, inst_in}
+use Rattle.target_asm_spec.specs.inside.Reading.{after_in, index_in}
+use Rattle.target_asm_spec.specs.inside.Instructions.{letters_in, sense_in, sense_fits, numbers_in, targets_in}
+use Rattle.target_asm_spec.specs.inside.Instructions.{fields_in, sensed_in, operation_in, inst_in}
 use Rattle.target_asm_spec.proofs.Numbers.{IsSmall}
 use Rattle.target_asm_laws.proofs.Binds.{If, bind, when}
 use Rattle.target_asm_laws.proofs.Digits.{IsAfter, after_is, IsIndex, index_is, parts}

@@ -17,12 +17,12 @@ use Rattle.target_asm_spec.specs.declared.spelled.Numbers.{Numbers}
 use Rattle.target_asm_spec.specs.declared.spelled.Targets.{Targets}
 use Rattle.target_asm_spec.specs.declared.spelled.SpelledTarget.{SpelledTarget}
 use Rattle.target_asm_spec.specs.declared.spelled.SpelledInst.{SpelledInst}
-use Rattle.target_asm_spec.specs.Reading.{after_in, digits_in, spaced_in, index_in}
-use Rattle.target_asm_spec.specs.Places.{next_in}
-use Rattle.target_asm_spec.specs.Instructions.{sense_in, sense_fits, jumps, goal_in}
-use Rattle.target_asm_spec.specs.Instructions.{jump_in, numbers_are, immediate_in, exit_in, numbers_in}
-use Rattle.target_asm_spec.specs.Instructions.{number_and_immediate_in, two_targets_in, one_target_in}
-use Rattle.target_asm_spec.specs.Instructions.{targets_in, fields_in, operation_in, inst_in}
+use Rattle.target_asm_spec.specs.inside.Reading.{after_in, digits_in, spaced_in, index_in}
+use Rattle.target_asm_spec.specs.inside.Places.{next_in}
+use Rattle.target_asm_spec.specs.inside.Instructions.{sense_in, sense_fits, jumps, goal_in}
+use Rattle.target_asm_spec.specs.inside.Instructions.{jump_in, numbers_are, immediate_in, exit_in, numbers_in}
+use Rattle.target_asm_spec.specs.inside.Instructions.{number_and_immediate_in, two_targets_in, one_target_in}
+use Rattle.target_asm_spec.specs.inside.Instructions.{targets_in, fields_in, operation_in, inst_in}
 use Rattle.target_asm_spec.specs.Lines.{number_text, maybe_words, goal_words, numbers_words, inst_words}
 use Rattle.target_asm_spec.specs.Lines.{MayHaveSense, MayHaveGoal, MayHaveTargets, IsInstruction}
 use Rattle.target_asm_spec.specs.Lines.{target_words}

@@ -10,10 +10,10 @@ use Rattle.target_asm_spec.specs.declared.fault.AsmFault.{AsmFault}
 use Rattle.target_asm_spec.specs.declared.fault.AsmFault.TheVariants as fault
 use Rattle.target_asm_spec.specs.declared.spelled.Goal.{Goal}
 use Rattle.target_asm_spec.specs.declared.spelled.Goal.TheVariants.{Label, Offset}
-use Rattle.target_asm_spec.specs.Blocks.{◌>>>◌}
-use Rattle.target_asm_spec.specs.Whole.{is_empty, front_in}
-use Rattle.target_asm_spec.specs.Whole.{data_lines, data_in, chunks_from, begins_of}
-use Rattle.target_asm_spec.specs.Whole.{unknown, body_in, image_in}
+use Rattle.target_asm_spec.specs.inside.Blocks.{◌>>>◌}
+use Rattle.target_asm_spec.specs.inside.Whole.{is_empty, front_in}
+use Rattle.target_asm_spec.specs.inside.Whole.{data_lines, data_in, chunks_from, begins_of}
+use Rattle.target_asm_spec.specs.inside.Whole.{unknown, body_in, image_in}
 use Rattle.target_asm_spec.specs.LinePlaces.{Line, line_words, Place, start, after, size_of, MayStand}
 use Rattle.target_asm_spec.specs.LinePlaces.{Below, InFields, AreGood, place_after, lines_words, GoodGoal}
 use Rattle.target_asm_spec.specs.LinePlaces.{goal_of_line, GoodGoals}

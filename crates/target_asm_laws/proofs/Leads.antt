@@ -7,7 +7,7 @@ use Rattle.target_asm_spec.specs.declared.fault.AsmFault.{AsmFault}
 use Rattle.target_asm_spec.specs.declared.fault.AsmFault.TheVariants as fault
 use Rattle.target_asm_spec.specs.declared.spelled.Goal.{Goal}
 use Rattle.target_asm_spec.specs.declared.spelled.Goal.TheVariants.{Label, Offset}
-use Rattle.target_asm_spec.specs.Blocks.{◌>>>◌, or_fault, wants}
+use Rattle.target_asm_spec.specs.inside.Blocks.{◌>>>◌, or_fault, wants}
 use Rattle.target_asm_spec.specs.LinePlaces.{Line, line_words, Place, after, MayStand, InFields}
 use Rattle.target_asm_spec.specs.LinePlaces.{AreGood, place_after, lines_words, goal_of_line}
 use Rattle.target_asm_spec.specs.FirstAsmFault.{NoLine, BadNumber}

@@ -6,8 +6,8 @@ use Rattle.std.proofs.lemmas.List.{length-append}
 use Rattle.trips_isa.specs.declared.block.Block.{Block}
 use Rattle.target_asm_spec.specs.declared.fault.AsmFault.{AsmFault}
 use Rattle.target_asm_spec.specs.declared.fault.AsmFault.TheVariants as fault
-use Rattle.target_asm_spec.specs.Whole.{is_empty, data_lines, chunks_from, unknown, body_in}
-use Rattle.target_asm_spec.specs.Whole.{image_in}
+use Rattle.target_asm_spec.specs.inside.Whole.{is_empty, data_lines, chunks_from, unknown, body_in}
+use Rattle.target_asm_spec.specs.inside.Whole.{image_in}
 use Rattle.target_asm_spec.specs.LinePlaces.{Line, line_words, Place, start, after, size_of, MayStand}
 use Rattle.target_asm_spec.specs.LinePlaces.{Below, InFields, AreGood, place_after, lines_words, GoodGoal}
 use Rattle.target_asm_spec.specs.LinePlaces.{goal_of_line, GoodGoals}

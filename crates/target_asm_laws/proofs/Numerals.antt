@@ -10,9 +10,10 @@ use Rattle.std.proofs.lemmas.Bool.{eqb-false, lt-ltb, le-ltb, cases_lt, or_parts
 use Rattle.std.proofs.lemmas.Int.Digits.{digits_of_step}
 use Rattle.std.proofs.lemmas.List.{append-nil, map-append, take_at, drop_at}
 use Rattle.std.proofs.Math.ListN.{get_or-append, length-append}
-use Rattle.target_asm_spec.specs.Reading.{◌>>=◌, after_in, is_digit, digits_in, with_digit, value_from}
-use Rattle.target_asm_spec.specs.Reading.{is_no_number, natural_in, below_zero, number_by, number_in}
-use Rattle.target_asm_spec.specs.Reading.{spaced_in, index_in}
+use Rattle.target_asm_spec.specs.Reading.{◌>>=◌}
+use Rattle.target_asm_spec.specs.inside.Reading.{after_in, is_digit, digits_in, with_digit, value_from}
+use Rattle.target_asm_spec.specs.inside.Reading.{is_no_number, natural_in, below_zero, number_by, number_in}
+use Rattle.target_asm_spec.specs.inside.Reading.{spaced_in, index_in}
 use Rattle.target_asm_spec.specs.Lines.{natural_text, number_text}
 use Rattle.target_asm_spec.proofs.Numbers.{and_left, and_right, and_both, all_digits, after_front}
 use Rattle.target_asm_spec.proofs.Numbers.{is_in, digits_all, all_append, value_append, no_sign}

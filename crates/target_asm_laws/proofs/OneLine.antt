@@ -14,8 +14,9 @@ use Rattle.target_asm_spec.specs.declared.spelled.Numbers.{Numbers}
 use Rattle.target_asm_spec.specs.declared.spelled.SpelledInst.{SpelledInst}
 use Rattle.target_asm_spec.specs.declared.spelled.SpelledRead.{SpelledRead}
 use Rattle.target_asm_spec.specs.declared.spelled.SpelledWrite.{SpelledWrite}
-use Rattle.target_asm_spec.specs.Registers.{read_in, write_line_in, block_line_in, read_of}
-use Rattle.target_asm_spec.specs.Instructions.{inst_in}
+use Rattle.target_asm_spec.specs.Registers.{read_of}
+use Rattle.target_asm_spec.specs.inside.Registers.{read_in, write_line_in, block_line_in}
+use Rattle.target_asm_spec.specs.inside.Instructions.{inst_in}
 use Rattle.target_asm_spec.specs.Judging.{inst_of}
 use Rattle.target_asm_spec.specs.Lines.{inst_words, read_words, write_words, block_words, MayHaveGoal}
 use Rattle.target_asm_spec.specs.LinePlaces.{Line, line_words, Place, after, size_of, IsNext, MayStand}

@@ -6,10 +6,11 @@ use Rattle.std.specs.Prelude.{ℤ, pos, negsuc, codes, ◌&&◌, if◌then◌els
 use Rattle.std.proofs.lemmas.List.{take_at, length-append, append_cancel_right}
 use Rattle.target_asm_spec.specs.declared.spelled.SpelledTarget.{SpelledTarget}
 use Rattle.target_asm_spec.specs.declared.spelled.SpelledTarget.TheVariants as spelled
-use Rattle.target_asm_spec.specs.Reading.{◌>>=◌, after_in}
-use Rattle.target_asm_spec.specs.Places.{target_in}
-use Rattle.target_asm_spec.specs.Registers.{is_operand, same_number, same_operand, same_text}
-use Rattle.target_asm_spec.specs.Registers.{operands_fit, second_fits}
+use Rattle.target_asm_spec.specs.Reading.{◌>>=◌}
+use Rattle.target_asm_spec.specs.inside.Reading.{after_in}
+use Rattle.target_asm_spec.specs.inside.Places.{target_in}
+use Rattle.target_asm_spec.specs.inside.Registers.{is_operand, same_number, same_operand, same_text}
+use Rattle.target_asm_spec.specs.inside.Registers.{operands_fit, second_fits}
 use Rattle.target_asm_spec.specs.Lines.{target_words, maybe_words}
 use Rattle.target_asm_spec.specs.Lines.{IsOperand, AreOperands}
 use Rattle.target_asm_spec.proofs.Numbers.{after_front}

@@ -11,11 +11,11 @@ use Rattle.target_asm_spec.specs.declared.spelled.Goal.{Goal}
 use Rattle.target_asm_spec.specs.declared.spelled.Goal.TheVariants.{Label, Offset}
 use Rattle.target_asm_spec.specs.declared.spelled.Numbers.{Numbers}
 use Rattle.target_asm_spec.specs.declared.spelled.Targets.{Targets}
-use Rattle.target_asm_spec.specs.Reading.{after_in, number_in, spaced_in}
-use Rattle.target_asm_spec.specs.Places.{next_in}
-use Rattle.target_asm_spec.specs.Instructions.{jumps, goal_by, goal_in, jump_in}
-use Rattle.target_asm_spec.specs.Instructions.{immediate_in, number_and_immediate_in, exit_in}
-use Rattle.target_asm_spec.specs.Instructions.{numbers_in, two_targets_in, one_target_in, targets_in}
+use Rattle.target_asm_spec.specs.inside.Reading.{after_in, number_in, spaced_in}
+use Rattle.target_asm_spec.specs.inside.Places.{next_in}
+use Rattle.target_asm_spec.specs.inside.Instructions.{jumps, goal_by, goal_in, jump_in}
+use Rattle.target_asm_spec.specs.inside.Instructions.{immediate_in, number_and_immediate_in, exit_in}
+use Rattle.target_asm_spec.specs.inside.Instructions.{numbers_in, two_targets_in, one_target_in, targets_in}
 use Rattle.target_asm_spec.proofs.Numbers.{IsSmall}
 use Rattle.target_asm_laws.proofs.Binds.{If, bind, gives}
 use Rattle.target_asm_laws.proofs.Digits.{Spells, IsAfter, after_is, IsNumber, number_is, spaced_words}

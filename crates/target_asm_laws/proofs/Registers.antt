@@ -13,10 +13,10 @@ use Rattle.target_asm_spec.specs.declared.spelled.SpelledTarget.{SpelledTarget}
 use Rattle.target_asm_spec.specs.declared.spelled.SpelledRead.{SpelledRead}
 use Rattle.target_asm_spec.specs.declared.spelled.SpelledWrite.{SpelledWrite}
 use Rattle.target_asm_spec.specs.declared.spelled.SpelledBlock.{SpelledBlock}
-use Rattle.target_asm_spec.specs.Reading.{after_in, number_in, index_in, word_in}
-use Rattle.target_asm_spec.specs.Places.{target_in, next_in}
-use Rattle.target_asm_spec.specs.Registers.{same_text, operands_fit, second_fits, only_if, operands_in}
-use Rattle.target_asm_spec.specs.Registers.{read_in, write_line_in, block_line_in}
+use Rattle.target_asm_spec.specs.inside.Reading.{after_in, number_in, index_in, word_in}
+use Rattle.target_asm_spec.specs.inside.Places.{target_in, next_in}
+use Rattle.target_asm_spec.specs.inside.Registers.{same_text, operands_fit, second_fits, only_if, operands_in}
+use Rattle.target_asm_spec.specs.inside.Registers.{read_in, write_line_in, block_line_in}
 use Rattle.target_asm_spec.proofs.Numbers.{IsSmall, after_front}
 use Rattle.target_asm_spec.proofs.Targets.{spelled_spot, spelled_target}
 use Rattle.target_asm_laws.proofs.Binds.{If, bind, gives}

@@ -16,9 +16,10 @@ use Rattle.target_asm_spec.specs.declared.spelled.SpelledRead.{SpelledRead}
 use Rattle.target_asm_spec.specs.declared.spelled.SpelledWrite.{SpelledWrite}
 use Rattle.target_asm_spec.specs.Reading.{field_in}
 use Rattle.target_asm_spec.specs.Places.{spot_of, maybe_spot}
-use Rattle.target_asm_spec.specs.Registers.{read_in, write_line_in, read_of}
-use Rattle.target_asm_spec.specs.Blocks.{◌>>>◌, or_fault, wants, begins, is_place, lines_in, one_read}
-use Rattle.target_asm_spec.specs.Blocks.{reads_in, one_write, writes_in}
+use Rattle.target_asm_spec.specs.Registers.{read_of}
+use Rattle.target_asm_spec.specs.inside.Registers.{read_in, write_line_in}
+use Rattle.target_asm_spec.specs.inside.Blocks.{◌>>>◌, or_fault, wants, begins, is_place, lines_in, one_read}
+use Rattle.target_asm_spec.specs.inside.Blocks.{reads_in, one_write, writes_in}
 use Rattle.target_asm_spec.proofs.Numbers.{IsSmall}
 use Rattle.target_asm_spec.proofs.Each.{Each}
 use Rattle.target_asm_laws.proofs.Binds.{If, Holds, bind, chain, or_holds, wanted, fork}

@@ -16,10 +16,10 @@ use Rattle.target_asm_spec.specs.declared.spelled.SpelledInst.{SpelledInst}
 use Rattle.target_asm_spec.specs.declared.spelled.SpelledRead.{SpelledRead}
 use Rattle.target_asm_spec.specs.declared.spelled.SpelledWrite.{SpelledWrite}
 use Rattle.target_asm_spec.specs.Reading.{field_in}
-use Rattle.target_asm_spec.specs.Instructions.{inst_in}
+use Rattle.target_asm_spec.specs.inside.Instructions.{inst_in}
 use Rattle.target_asm_spec.specs.Judging.{inst_of}
-use Rattle.target_asm_spec.specs.Blocks.{◌>>>◌, begins, in_turn, Begins, aimed, one_inst}
-use Rattle.target_asm_spec.specs.Blocks.{gap, slots_in}
+use Rattle.target_asm_spec.specs.inside.Blocks.{◌>>>◌, begins, in_turn, Begins, aimed, one_inst}
+use Rattle.target_asm_spec.specs.inside.Blocks.{gap, slots_in}
 use Rattle.target_asm_spec.specs.Lines.{inst_words, IsInstruction}
 use Rattle.target_asm_spec.specs.LinePlaces.{Line, line_words, Place, after, size_of, IsLeft, MayStand}
 use Rattle.target_asm_spec.specs.LinePlaces.{Below, InFields}

@@ -11,15 +11,15 @@ use Rattle.trips_isa.specs.Fits.{FitsInst, FitsSlot}
 use Rattle.trips_isa.specs.Images.{body_chunks}
 use Rattle.trips_isa.specs.Limits.{most_chunks}
 use Rattle.target_asm_spec.specs.Numbers.{numbered}
-use Rattle.target_asm_spec.specs.Chunks.{goal_in}
+use Rattle.target_asm_spec.specs.inside.Chunks.{goal_in}
 use Rattle.target_asm_spec.specs.Text.{inst_line, slot_text}
 use Rattle.target_asm_spec.specs.declared.fault.AsmFault.TheVariants.{Syntax, Range}
 use Rattle.target_asm_spec.specs.declared.spelled.SpelledInst.{SpelledInst}
 use Rattle.target_asm_spec.specs.Reading.{field_in}
-use Rattle.target_asm_spec.specs.Instructions.{inst_in}
+use Rattle.target_asm_spec.specs.inside.Instructions.{inst_in}
 use Rattle.target_asm_spec.specs.Judging.{inst_of}
-use Rattle.target_asm_spec.specs.Blocks.{◌>>>◌, or_fault, wants, begins, in_turn, Begins, aimed}
-use Rattle.target_asm_spec.specs.Blocks.{one_inst, gap, slots_in}
+use Rattle.target_asm_spec.specs.inside.Blocks.{◌>>>◌, or_fault, wants, begins, in_turn, Begins, aimed}
+use Rattle.target_asm_spec.specs.inside.Blocks.{one_inst, gap, slots_in}
 use Rattle.target_asm_spec.proofs.Each.{Each}
 use Rattle.target_asm_spec.proofs.Bodies.{some_body}
 use Rattle.target_asm_laws.proofs.Binds.{Holds, chain, or_holds, wanted, fork}

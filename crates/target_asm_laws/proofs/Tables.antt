@@ -15,8 +15,8 @@ use Rattle.target_asm_spec.specs.Chunks.{goal_of}
 use Rattle.target_asm_spec.specs.Text.{block_text, block_in}
 use Rattle.target_asm_spec.proofs.Starts.{goals_agree}
 use Rattle.target_asm_spec.specs.declared.fault.AsmFault.{AsmFault}
-use Rattle.target_asm_spec.specs.Blocks.{Begins, one_block, blocks_in}
-use Rattle.target_asm_spec.specs.Whole.{chunks_from, begins_of}
+use Rattle.target_asm_spec.specs.inside.Blocks.{Begins, one_block, blocks_in}
+use Rattle.target_asm_spec.specs.inside.Whole.{chunks_from, begins_of}
 use Rattle.target_asm_spec.proofs.Goals.{length-chunks_from}
 use Rattle.target_asm_laws.proofs.Binds.{Holds, chain}
 use Rattle.target_asm_laws.proofs.Aims.{Told}

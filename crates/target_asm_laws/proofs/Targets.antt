@@ -10,9 +10,11 @@ use Rattle.isa_table.specs.Spots.{indexed, at_slot, spot_text}
 use Rattle.target_asm_spec.specs.Fields.{target_text}
 use Rattle.target_asm_spec.specs.declared.spelled.SpelledTarget.{SpelledTarget}
 use Rattle.target_asm_spec.specs.declared.spelled.SpelledTarget.TheVariants as spelled
-use Rattle.target_asm_spec.specs.Reading.{or_else, after_in, number_in, index_in, field_in}
-use Rattle.target_asm_spec.specs.Places.{left_in, right_in, pred_in, place_in, slot_in, write_in}
-use Rattle.target_asm_spec.specs.Places.{target_by, target_in, next_by, next_in, spot_of, maybe_spot}
+use Rattle.target_asm_spec.specs.Reading.{field_in}
+use Rattle.target_asm_spec.specs.inside.Reading.{or_else, after_in, number_in, index_in}
+use Rattle.target_asm_spec.specs.inside.Places.{left_in, right_in, pred_in, place_in, slot_in, write_in}
+use Rattle.target_asm_spec.specs.Places.{spot_of, maybe_spot}
+use Rattle.target_asm_spec.specs.inside.Places.{target_by, target_in, next_by, next_in}
 use Rattle.target_asm_spec.proofs.Numbers.{IsSmall}
 use Rattle.target_asm_spec.proofs.Targets.{spelled_spot, spelled_target}
 use Rattle.target_asm_laws.proofs.Binds.{If, bind, either}

@@ -7,16 +7,16 @@ use Rattle.trips_isa.specs.declared.block.Inst.{Inst}
 use Rattle.trips_isa.specs.declared.block.Block.{Block}
 use Rattle.trips_isa.specs.Images.{body_chunks, chunks}
 use Rattle.trips_isa.specs.Limits.{most_chunks}
-use Rattle.target_asm_spec.specs.Chunks.{start_row, start_rows}
+use Rattle.target_asm_spec.specs.inside.Chunks.{start_row, start_rows}
 use Rattle.target_asm_spec.specs.declared.fault.AsmFault.{AsmFault}
 use Rattle.target_asm_spec.specs.declared.fault.AsmFault.TheVariants.{Syntax, Range}
 use Rattle.target_asm_spec.specs.Reading.{field_in}
-use Rattle.target_asm_spec.specs.Instructions.{inst_in}
+use Rattle.target_asm_spec.specs.inside.Instructions.{inst_in}
 use Rattle.target_asm_spec.specs.Judging.{inst_of}
-use Rattle.target_asm_spec.specs.Blocks.{◌>>>◌, or_fault, wants, begins, in_turn, Begins, aimed, gap}
-use Rattle.target_asm_spec.specs.Blocks.{one_inst, slots_in, head_in, reads_in, writes_in, one_block}
-use Rattle.target_asm_spec.specs.Blocks.{blocks_in}
-use Rattle.target_asm_spec.specs.Whole.{chunks_from, begins_of}
+use Rattle.target_asm_spec.specs.inside.Blocks.{◌>>>◌, or_fault, wants, begins, in_turn, Begins, aimed, gap}
+use Rattle.target_asm_spec.specs.inside.Blocks.{one_inst, slots_in, head_in, reads_in, writes_in, one_block}
+use Rattle.target_asm_spec.specs.inside.Blocks.{blocks_in}
+use Rattle.target_asm_spec.specs.inside.Whole.{chunks_from, begins_of}
 use Rattle.target_asm_laws.proofs.Binds.{Holds}
 use Rattle.target_asm_laws.proofs.Slots.{gap_chunks}
 

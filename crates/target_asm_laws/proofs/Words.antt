@@ -2,11 +2,12 @@
 use Rattle.std.proofs.Common.{◌≡◌, ℕ, List, ◌++◌, refl, sym, Option, Some, None}
 use Rattle.std.specs.Prelude.{codes}
 use Rattle.trips_isa.specs.declared.op.Op.{Op}
-use Rattle.isa_table.specs.Mnemonics.{mnemonic_of, op_with_mnemonic}
+use Rattle.isa_table.specs.Mnemonics.{mnemonic_of}
+use Rattle.isa_table.specs.inside.Mnemonics.{op_with_mnemonic}
 use Rattle.isa_table.proofs.ByMnemonic.{mnemonic_taken}
 use Rattle.target_asm_spec.specs.Fields.{sense_text}
-use Rattle.target_asm_spec.specs.Reading.{after_in}
-use Rattle.target_asm_spec.specs.Instructions.{sense_by, sense_in}
+use Rattle.target_asm_spec.specs.inside.Reading.{after_in}
+use Rattle.target_asm_spec.specs.inside.Instructions.{sense_by, sense_in}
 use Rattle.target_asm_laws.proofs.Binds.{If}
 use Rattle.target_asm_laws.proofs.Digits.{IsAfter, after_is}
 

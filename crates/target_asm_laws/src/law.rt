@@ -4,7 +4,7 @@
 ghost use Rattle.std.specs.Prelude.{◌≡◌, ◌↔◌, ℕ, List, Ok, ◌⊎◌, Err};
 ghost use Rattle.trips_isa.specs.declared.block.Image.{Image};
 ghost use Rattle.target_asm_spec.specs.Text.{TargetText};
-ghost use Rattle.target_asm_spec.specs.Whole.{image_in};
+ghost use Rattle.target_asm_spec.specs.inside.Whole.{image_in};
 ghost use Rattle.target_asm_spec.specs.declared.fault.AsmFault.{AsmFault};
 ghost use Rattle.target_asm_spec.specs.FirstAsmFault.{FirstAsmFault};
 

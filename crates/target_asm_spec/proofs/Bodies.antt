@@ -19,12 +19,12 @@ use Rattle.target_asm_spec.specs.Numbers.{numbered}
 use Rattle.target_asm_spec.specs.Chunks.{goal_of}
 use Rattle.target_asm_spec.specs.Text.{block_line, read_line, write_line, inst_line, slot_text}
 use Rattle.target_asm_spec.specs.Text.{block_text, block_in}
-use Rattle.target_asm_spec.specs.Reading.{after_in}
-use Rattle.target_asm_spec.specs.Blocks.{◌>>>◌, begins, Begins}
-use Rattle.target_asm_spec.specs.Blocks.{reads_in, writes_in}
-use Rattle.target_asm_spec.specs.Blocks.{slots_in}
-use Rattle.target_asm_spec.specs.Blocks.{head_in, block_of, one_block, blocks_in}
-use Rattle.target_asm_spec.specs.Whole.{is_empty}
+use Rattle.target_asm_spec.specs.inside.Reading.{after_in}
+use Rattle.target_asm_spec.specs.inside.Blocks.{◌>>>◌, begins, Begins}
+use Rattle.target_asm_spec.specs.inside.Blocks.{reads_in, writes_in}
+use Rattle.target_asm_spec.specs.inside.Blocks.{slots_in}
+use Rattle.target_asm_spec.specs.inside.Blocks.{head_in, block_of, one_block, blocks_in}
+use Rattle.target_asm_spec.specs.inside.Whole.{is_empty}
 use Rattle.target_asm_spec.proofs.Lines.{block_line_again}
 use Rattle.target_asm_spec.proofs.Rows.{reads_again, writes_again, writes_begin}
 use Rattle.target_asm_spec.proofs.Slots.{Aims, slots_with, used, slots_again}

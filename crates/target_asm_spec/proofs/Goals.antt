@@ -17,11 +17,12 @@ use Rattle.trips_isa.specs.Forms.{form_of}
 use Rattle.trips_isa.specs.Fits.{FitsForm, FitsOffset, FitsSigned}
 use Rattle.trips_isa.specs.Images.{chunks, starting_from}
 use Rattle.trips_isa.specs.Limits.{most_chunks, offset_half}
-use Rattle.target_asm_spec.specs.Chunks.{goal_of, goal_in, start_rows}
+use Rattle.target_asm_spec.specs.Chunks.{goal_of}
+use Rattle.target_asm_spec.specs.inside.Chunks.{goal_in, start_rows}
 use Rattle.target_asm_spec.proofs.Starts.{goals_agree}
-use Rattle.target_asm_spec.specs.Instructions.{jumps}
-use Rattle.target_asm_spec.specs.Blocks.{to_block, aimed_at, aimed}
-use Rattle.target_asm_spec.specs.Whole.{chunks_from, begins_of, unknown}
+use Rattle.target_asm_spec.specs.inside.Instructions.{jumps}
+use Rattle.target_asm_spec.specs.inside.Blocks.{to_block, aimed_at, aimed}
+use Rattle.target_asm_spec.specs.inside.Whole.{chunks_from, begins_of, unknown}
 use Rattle.target_asm_spec.proofs.Operations.{SmallGoal, goal_if, spelled_numbers}
 use Rattle.target_asm_spec.proofs.Instructions.{signed_judged, raw_jump, raw_imm}
 use Rattle.target_asm_spec.proofs.Slots.{Aims}

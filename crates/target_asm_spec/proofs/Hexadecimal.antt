@@ -5,7 +5,7 @@ use Rattle.std.proofs.Common.{inl, inr}
 use Rattle.std.specs.Prelude.{◌&&◌, nat_lt, nat_le}
 use Rattle.std.proofs.lemmas.Bool.{cases_lt, lt-ltb, le-ltb, le-leb, lt-leb}
 use Rattle.target_asm_spec.specs.Numbers.{hex_digit, hex_byte, hex_word}
-use Rattle.target_asm_spec.specs.Reading.{hex_value, byte_in, word_in}
+use Rattle.target_asm_spec.specs.inside.Reading.{hex_value, byte_in, word_in}
 use Rattle.target_asm_spec.proofs.Numbers.{and_both, and_none}
 
 decimal_value : (b : ℕ) → 48 ≤ b → b ≤ 57 → hex_value b ≡ Some (b - 48)

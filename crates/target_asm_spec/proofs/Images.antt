@@ -16,17 +16,18 @@ use Rattle.trips_isa.specs.Fits.{FitsBlock}
 use Rattle.trips_isa.specs.Images.{chunks, last_byte, FitsImage}
 use Rattle.trips_isa.specs.Limits.{most_chunks}
 use Rattle.target_asm_spec.specs.Numbers.{hex_byte, numbered}
-use Rattle.target_asm_spec.specs.Chunks.{start_rows, start_row, goal_of}
+use Rattle.target_asm_spec.specs.Chunks.{goal_of}
+use Rattle.target_asm_spec.specs.inside.Chunks.{start_rows, start_row}
 use Rattle.target_asm_spec.specs.Text.{data_end, byte_text, head_lines, block_in, block_text}
 use Rattle.target_asm_spec.specs.Text.{block_line, image_text}
 use Rattle.target_asm_spec.specs.Text.{TargetText}
 use Rattle.target_asm_spec.specs.declared.fault.AsmFault.{AsmFault}
-use Rattle.target_asm_spec.specs.Reading.{after_in, digits_in, number_in, byte_in}
-use Rattle.target_asm_spec.specs.Blocks.{Begins}
-use Rattle.target_asm_spec.specs.Whole.{is_empty, count_in, bytes_limit, front_in, feed_in}
-use Rattle.target_asm_spec.specs.Whole.{data_byte_in}
-use Rattle.target_asm_spec.specs.Whole.{bytes_in, data_lines, data_in, chunks_from, begins_of, unknown}
-use Rattle.target_asm_spec.specs.Whole.{body_in, image_in}
+use Rattle.target_asm_spec.specs.inside.Reading.{after_in, digits_in, number_in, byte_in}
+use Rattle.target_asm_spec.specs.inside.Blocks.{Begins}
+use Rattle.target_asm_spec.specs.inside.Whole.{is_empty, count_in, bytes_limit, front_in, feed_in}
+use Rattle.target_asm_spec.specs.inside.Whole.{data_byte_in}
+use Rattle.target_asm_spec.specs.inside.Whole.{bytes_in, data_lines, data_in, chunks_from, begins_of, unknown}
+use Rattle.target_asm_spec.specs.inside.Whole.{body_in, image_in}
 use Rattle.target_asm_spec.proofs.Numbers.{after_front, number_pos}
 use Rattle.target_asm_spec.proofs.Hexadecimal.{byte_again}
 use Rattle.target_asm_spec.proofs.Slots.{Aims, slots_with}

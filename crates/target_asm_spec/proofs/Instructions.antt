@@ -22,11 +22,11 @@ use Rattle.target_asm_spec.specs.Fields.{target_text, sense_text, numbers_text}
 use Rattle.target_asm_spec.specs.Text.{inst_line, op_text, targets_text}
 use Rattle.target_asm_spec.specs.declared.spelled.Numbers.{Numbers}
 use Rattle.target_asm_spec.specs.declared.spelled.SpelledInst.{SpelledInst}
-use Rattle.target_asm_spec.specs.Reading.{after_in, index_in}
+use Rattle.target_asm_spec.specs.inside.Reading.{after_in, index_in}
 use Rattle.target_asm_spec.specs.Places.{maybe_spot}
-use Rattle.target_asm_spec.specs.Instructions.{jumps, sense_in, sense_fits}
-use Rattle.target_asm_spec.specs.Instructions.{fields_in}
-use Rattle.target_asm_spec.specs.Instructions.{operation_in, inst_in}
+use Rattle.target_asm_spec.specs.inside.Instructions.{jumps, sense_in, sense_fits}
+use Rattle.target_asm_spec.specs.inside.Instructions.{fields_in}
+use Rattle.target_asm_spec.specs.inside.Instructions.{operation_in, inst_in}
 use Rattle.target_asm_spec.specs.Judging.{signed_in, unsigned_in, number_of, constant_of, offset_of}
 use Rattle.target_asm_spec.specs.Judging.{immediate_of, inst_of}
 use Rattle.target_asm_spec.proofs.Numbers.{after_front, index_again, field_again}

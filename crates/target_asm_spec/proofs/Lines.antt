@@ -14,12 +14,14 @@ use Rattle.target_asm_spec.specs.Numbers.{hex_word}
 use Rattle.target_asm_spec.specs.Fields.{target_text}
 use Rattle.target_asm_spec.specs.Text.{read_line, write_line, block_line}
 use Rattle.target_asm_spec.specs.declared.spelled.SpelledRead.{SpelledRead}
-use Rattle.target_asm_spec.specs.Reading.{after_in, digits_in, number_in, index_in, word_in}
+use Rattle.target_asm_spec.specs.inside.Reading.{after_in, digits_in, number_in, index_in, word_in}
 use Rattle.target_asm_spec.specs.Reading.{field_in}
-use Rattle.target_asm_spec.specs.Places.{target_in, next_in, spot_of, maybe_spot}
-use Rattle.target_asm_spec.specs.Registers.{same_text, operands_fit, second_fits, operands_in}
-use Rattle.target_asm_spec.specs.Registers.{read_in, write_line_in}
-use Rattle.target_asm_spec.specs.Registers.{block_line_in, read_of}
+use Rattle.target_asm_spec.specs.Places.{spot_of, maybe_spot}
+use Rattle.target_asm_spec.specs.inside.Places.{target_in, next_in}
+use Rattle.target_asm_spec.specs.inside.Registers.{same_text, operands_fit, second_fits, operands_in}
+use Rattle.target_asm_spec.specs.inside.Registers.{read_in, write_line_in}
+use Rattle.target_asm_spec.specs.Registers.{read_of}
+use Rattle.target_asm_spec.specs.inside.Registers.{block_line_in}
 use Rattle.target_asm_spec.proofs.Numbers.{after_front, number_pos, index_again}
 use Rattle.target_asm_spec.proofs.Numbers.{field_again}
 use Rattle.target_asm_spec.proofs.Hexadecimal.{word_again}

@@ -10,9 +10,10 @@ use Rattle.std.proofs.lemmas.Bool.{ne_eqb, lt-ltb, le-leb, leb-true}
 use Rattle.std.proofs.lemmas.List.{take_at, drop_at}
 use Rattle.std.proofs.lemmas.Fmt.{decimal_digit, decimal_by_steps, first_decimal, decimal_nonempty}
 use Rattle.isa_table.specs.Spots.{indexed}
-use Rattle.target_asm_spec.specs.Reading.{after_in, is_digit, digits_in, with_digit, value_from}
-use Rattle.target_asm_spec.specs.Reading.{is_no_number, natural_in, number_in, spaced_in}
-use Rattle.target_asm_spec.specs.Reading.{index_in, field_in}
+use Rattle.target_asm_spec.specs.inside.Reading.{after_in, is_digit, digits_in, with_digit, value_from}
+use Rattle.target_asm_spec.specs.inside.Reading.{is_no_number, natural_in, number_in, spaced_in}
+use Rattle.target_asm_spec.specs.Reading.{field_in}
+use Rattle.target_asm_spec.specs.inside.Reading.{index_in}
 
 -- after a word comes what follows it
 pub after_front : (p r : List ℕ) → after_in p (p ++ r) ≡ Some r

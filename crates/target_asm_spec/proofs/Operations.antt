@@ -20,11 +20,11 @@ use Rattle.target_asm_spec.specs.declared.spelled.Goal.{Goal}
 use Rattle.target_asm_spec.specs.declared.spelled.Goal.TheVariants.{Label, Offset}
 use Rattle.target_asm_spec.specs.declared.spelled.Numbers.{Numbers}
 use Rattle.target_asm_spec.specs.declared.spelled.Targets.{Targets}
-use Rattle.target_asm_spec.specs.Reading.{after_in, digits_in, spaced_in}
-use Rattle.target_asm_spec.specs.Instructions.{jumps, goal_in, jump_in, numbers_are, immediate_in}
-use Rattle.target_asm_spec.specs.Instructions.{number_and_immediate_in}
-use Rattle.target_asm_spec.specs.Instructions.{exit_in, numbers_in, two_targets_in, one_target_in}
-use Rattle.target_asm_spec.specs.Instructions.{targets_in}
+use Rattle.target_asm_spec.specs.inside.Reading.{after_in, digits_in, spaced_in}
+use Rattle.target_asm_spec.specs.inside.Instructions.{jumps, goal_in, jump_in, numbers_are, immediate_in}
+use Rattle.target_asm_spec.specs.inside.Instructions.{number_and_immediate_in}
+use Rattle.target_asm_spec.specs.inside.Instructions.{exit_in, numbers_in, two_targets_in, one_target_in}
+use Rattle.target_asm_spec.specs.inside.Instructions.{targets_in}
 use Rattle.target_asm_spec.proofs.Numbers.{after_front, number_pos, number_again, spaced_again, IsSmall}
 use Rattle.target_asm_spec.proofs.Targets.{spelled_target, next_again, none_again, some_again}
 use Rattle.target_asm_spec.proofs.Targets.{feed_ends}

@@ -11,11 +11,13 @@ use Rattle.isa_table.specs.Spots.{indexed}
 use Rattle.target_asm_spec.specs.Numbers.{numbered}
 use Rattle.target_asm_spec.specs.Text.{read_line, write_line}
 use Rattle.target_asm_spec.specs.declared.fault.AsmFault.{AsmFault}
-use Rattle.target_asm_spec.specs.Reading.{after_in, field_in}
-use Rattle.target_asm_spec.specs.Registers.{read_in, read_of}
-use Rattle.target_asm_spec.specs.Blocks.{begins, Taken, lines_in}
-use Rattle.target_asm_spec.specs.Blocks.{one_read, reads_in}
-use Rattle.target_asm_spec.specs.Blocks.{one_write, writes_in}
+use Rattle.target_asm_spec.specs.Reading.{field_in}
+use Rattle.target_asm_spec.specs.inside.Reading.{after_in}
+use Rattle.target_asm_spec.specs.Registers.{read_of}
+use Rattle.target_asm_spec.specs.inside.Registers.{read_in}
+use Rattle.target_asm_spec.specs.inside.Blocks.{begins, Taken, lines_in}
+use Rattle.target_asm_spec.specs.inside.Blocks.{one_read, reads_in}
+use Rattle.target_asm_spec.specs.inside.Blocks.{one_write, writes_in}
 use Rattle.target_asm_spec.proofs.Numbers.{field_again}
 use Rattle.target_asm_spec.proofs.Lines.{spelled_read, read_again, read_judged, write_line_again}
 use Rattle.target_asm_spec.proofs.Each.{Each}

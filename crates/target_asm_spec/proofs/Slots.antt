@@ -15,12 +15,13 @@ use Rattle.isa_table.specs.Spots.{indexed}
 use Rattle.target_asm_spec.specs.Numbers.{numbered}
 use Rattle.target_asm_spec.specs.Text.{inst_line, slot_text}
 use Rattle.target_asm_spec.specs.declared.fault.AsmFault.{AsmFault}
-use Rattle.target_asm_spec.specs.Reading.{after_in, field_in}
-use Rattle.target_asm_spec.specs.Instructions.{inst_in}
+use Rattle.target_asm_spec.specs.Reading.{field_in}
+use Rattle.target_asm_spec.specs.inside.Reading.{after_in}
+use Rattle.target_asm_spec.specs.inside.Instructions.{inst_in}
 use Rattle.target_asm_spec.specs.Judging.{inst_of}
-use Rattle.target_asm_spec.specs.Blocks.{begins, in_turn, Taken, Begins, aimed}
-use Rattle.target_asm_spec.specs.Blocks.{one_inst, gap}
-use Rattle.target_asm_spec.specs.Blocks.{slots_in}
+use Rattle.target_asm_spec.specs.inside.Blocks.{begins, in_turn, Taken, Begins, aimed}
+use Rattle.target_asm_spec.specs.inside.Blocks.{one_inst, gap}
+use Rattle.target_asm_spec.specs.inside.Blocks.{slots_in}
 use Rattle.target_asm_spec.proofs.Numbers.{field_again}
 use Rattle.target_asm_spec.proofs.Operations.{SmallGoal, spelled_numbers}
 use Rattle.target_asm_spec.proofs.Instructions.{spelled_inst, inst_again, inst_judged, raw_inst}

@@ -4,13 +4,14 @@ use Rattle.std.proofs.Common.{get_or, replicate, refl, sym, ap, ◌∙◌, arith
 use Rattle.std.proofs.Common.{false, None, eq-eqb, inl, inr, ◌⊎◌}
 use Rattle.std.proofs.lemmas.List.{replicate_more}
 use Rattle.trips_isa.specs.declared.block.Block.{Block}
-use Rattle.target_asm_spec.specs.Chunks.{start_row}
+use Rattle.target_asm_spec.specs.inside.Chunks.{start_row}
 use Rattle.std.proofs.lemmas.List.{length-replicate, get_or-replicate, get_or-append_right}
 use Rattle.std.proofs.Math.ListN.{get_or-append}
 use Rattle.std.proofs.lemmas.Bool.{ne_eqb, cases_lt}
 use Rattle.std.specs.Prelude.{ℤ, pos, negsuc, ◌==◌}
 use Rattle.trips_isa.specs.Images.{chunks, body_chunks, starting_from}
-use Rattle.target_asm_spec.specs.Chunks.{named, start_rows, goal_of, goal_in}
+use Rattle.target_asm_spec.specs.Chunks.{goal_of}
+use Rattle.target_asm_spec.specs.inside.Chunks.{named, start_rows, goal_in}
 
 -- one zero more
 pub zero_more : (out start new : List ℕ) (counter : ℕ) → 1 ≤ counter

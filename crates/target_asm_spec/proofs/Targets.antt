@@ -10,8 +10,9 @@ use Rattle.isa_table.specs.Spots.{indexed, at_slot, spot_text}
 use Rattle.target_asm_spec.specs.Fields.{target_text}
 use Rattle.target_asm_spec.specs.declared.spelled.SpelledTarget.{SpelledTarget}
 use Rattle.target_asm_spec.specs.declared.spelled.SpelledTarget.TheVariants as spelled
-use Rattle.target_asm_spec.specs.Reading.{after_in, digits_in, number_in, index_in}
-use Rattle.target_asm_spec.specs.Places.{place_in, slot_in, write_in, target_in, next_in, spot_of}
+use Rattle.target_asm_spec.specs.inside.Reading.{after_in, digits_in, number_in, index_in}
+use Rattle.target_asm_spec.specs.Places.{spot_of}
+use Rattle.target_asm_spec.specs.inside.Places.{place_in, slot_in, write_in, target_in, next_in}
 use Rattle.target_asm_spec.specs.Places.{maybe_spot}
 use Rattle.target_asm_spec.proofs.Numbers.{after_front, number_pos, index_again, indexed_is}
 use Rattle.target_asm_spec.proofs.Numbers.{field_again}

@@ -7,11 +7,12 @@ use Rattle.trips_isa.specs.declared.op.Op.{Op}
 use Rattle.trips_isa.specs.declared.op.Op.TheVariants as op
 use Rattle.trips_isa.specs.declared.block.Sense.{Sense}
 use Rattle.trips_isa.specs.declared.block.Sense.TheVariants.{Always, OnTrue, OnFalse}
-use Rattle.isa_table.specs.Mnemonics.{mnemonic_of, op_with_mnemonic}
+use Rattle.isa_table.specs.Mnemonics.{mnemonic_of}
+use Rattle.isa_table.specs.inside.Mnemonics.{op_with_mnemonic}
 use Rattle.isa_table.proofs.ByMnemonic.{mnemonic_again}
 use Rattle.target_asm_spec.specs.Fields.{sense_text}
-use Rattle.target_asm_spec.specs.Reading.{after_in}
-use Rattle.target_asm_spec.specs.Instructions.{ends_word, letters_in, sense_in}
+use Rattle.target_asm_spec.specs.inside.Reading.{after_in}
+use Rattle.target_asm_spec.specs.inside.Instructions.{ends_word, letters_in, sense_in}
 use Rattle.target_asm_spec.proofs.Numbers.{and_left, and_right}
 
 abbrev all_letters : List ℕ → Bool

@@ -5,10 +5,8 @@ pub mod Text
 pub mod Reading
 pub mod Places
 pub mod Registers
-pub mod Instructions
 pub mod Judging
-pub mod Blocks
 pub mod Lines
 pub mod LinePlaces
 pub mod FirstAsmFault
-pub mod Whole
+pub mod inside

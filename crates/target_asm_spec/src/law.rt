@@ -2,9 +2,10 @@
 ghost use Rattle.std.specs.Prelude.{◌≡◌, ℕ, ℤ, List, Ok};
 ghost use Rattle.trips_isa.specs.declared.block.Block.{Block};
 ghost use Rattle.trips_isa.specs.declared.block.Image.{Image};
-ghost use Rattle.target_asm_spec.specs.Chunks.{goal_of, goal_in, start_rows};
+ghost use Rattle.target_asm_spec.specs.Chunks.{goal_of};
+ghost use Rattle.target_asm_spec.specs.inside.Chunks.{goal_in, start_rows};
 ghost use Rattle.target_asm_spec.specs.Text.{TargetText};
-ghost use Rattle.target_asm_spec.specs.Whole.{image_in};
+ghost use Rattle.target_asm_spec.specs.inside.Whole.{image_in};
 
 /// The table of the chunks at which blocks begin tells the block that begins at a chunk.
 pub fn starts_are_told()

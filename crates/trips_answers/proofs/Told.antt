@@ -5,7 +5,7 @@ use Rattle.std.proofs.Common.{inl, inr, refl, sym, ap, subst, arith}
 use Rattle.trips_isa.specs.declared.block.Image.{Image}
 use Rattle.block_image.specs.Spelling.{ImageBytes}
 use Rattle.block_check.specs.Faults.{IsGood}
-use Rattle.block_check.specs.Images.{IsCheckedImage}
+use Rattle.block_check.specs.inside.Images.{IsCheckedImage}
 use Rattle.c_front.specs.declared.refusal.Refusal.{Refusal}
 use Rattle.c_front.specs.declared.refusal.Refusal.TheVariants as stage
 use Rattle.c_front.specs.Refusals.{IsRefused, MayBeRefused}

@@ -26,9 +26,9 @@ TellsResult output digits few (Stopped More out) = few
 TellsResult output digits few (Stopped Deep out) = ⊥
 TellsResult output digits few (Done out value steps) = (output ≡ out) × (digits ≡ signed_decimal value)
 
--- A run of a text was reported to have ended with a result: the file is told to hold an accepted text, and the input is
--- told, as far as they are; and the evaluation of that text is undefined, or done with the output and the result that
--- are reported, whatever the budget.
+-- A run of a text was reported to have ended with a result: the file is told to hold an accepted text, and the input
+-- is told, as far as they are; and the evaluation of that text is undefined, or done with the output and the result
+-- that are reported, whatever the budget.
 pub record ResultMeans (held : List ℕ → Option (List ℕ)) (q : Request) (s : Status) (old new : Option (List ℕ))
     : Type 0 where
   -- the C text of the request's file, and the bytes of its input

@@ -9,7 +9,8 @@ use Rattle.trips_answers.specs.declared.forms.Settings.{Settings}
 use Rattle.trips_answers.specs.Request.{Request, File, request_of}
 use Rattle.trips_answers.specs.Asks.{nothing_shown}
 
--- The request of the words, as `request_of` has it, where they are `run` and the plain name of a text of C; else none.
+-- The request of the words, as `request_of` has it, where they are `run` and the plain name of a text of C; else
+-- none.
 abbrev pub plain_run : {A : Type 0} → List (String A) → Option Request
 plain_run words =
     option_and_then (λ file. request_of words) (line.plain_run (map (λ word. string_bytes word) words))

@@ -18,8 +18,8 @@ ending_of stepped.Ended next = ending.Ended
 ending_of stepped.StackFull next = ending.StackFull
 ending_of (stepped.Trap cause) next = ending.Trap next cause
 
--- the report of a run, from how it ended, the state at its end, what the grid counted and what the committed blocks may
--- cost, and what is shown behind it
+-- the report of a run, from how it ended, the state at its end, what the grid counted and what the committed blocks
+-- may cost, and what is shown behind it
 abbrev pub shown_report : Ending → State → Counts → ℕ → Show → List ℕ
 shown_report ending s counts cost show = reports.run_report ending s counts cost show
 

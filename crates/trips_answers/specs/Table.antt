@@ -40,8 +40,8 @@ abbrev pub IsOneOf : Status → List Status → Type 0
 IsOneOf s [] = ⊥
 IsOneOf s (one ∷ others) = (s ≡ one) ⊎ IsOneOf s others
 
--- The run of an image was reported: with this status, and with this text, behind which stands what is shown of the end
--- of the machine's run and of the counts of the grid's run.
+-- The run of an image was reported: with this status, and with this text, behind which stands what is shown of the
+-- end of the machine's run and of the counts of the grid's run.
 abbrev pub IsReported : Image → List ℕ → Settings → Status → List ℕ → Status → Option (List ℕ)
     → Option (List ℕ) → Type 0
 IsReported image input settings wanted text s old new =

@@ -67,8 +67,8 @@ fn ran_image(
     }
 }
 
-/// Runs an image on an input, on the grid of the settings' seed and for as many blocks as they allow, and tells how its
-/// run ended and what is shown. Want of memory is the only error: each run ends within its cost.
+/// Runs an image on an input, on the grid of the settings' seed and for as many blocks as they allow, and tells how
+/// its run ended and what is shown. Want of memory is the only error: each run ends within its cost.
 pub fn run_image(
     alloc: Global,
     image: CheckedImage,

@@ -158,7 +158,8 @@ pub fn run_plain<F: Files, K: Sink>(
     }
 }
 
-/// Does what the words ask, if they are `compile` and a plain name, and answers the exit status: what `trips_run` answers and writes for these words. Any other words are no request here.
+/// Does what the words ask, if they are `compile` and a plain name, and answers the exit status: what `trips_run`
+/// answers and writes for these words. Any other words are no request here.
 pub fn compile_plain<F: Files, K: Sink>(
     alloc: Global,
     words: &[String],
@@ -220,10 +221,10 @@ pub fn eval_plain<F: Files, K: Sink>(
     trips_eval_answers::eval_plain(alloc, words, files, sink)
 }
 
-/// Does what the words ask, if they are `asm`, `dis` or `check` and a plain name, and answers the exit status: what `trips_run`
-/// answers and writes for these words. Any other words are no request here. It does so by the call of
-/// `trips_tools`, which a program makes that is to stand on little: what that one answers and writes is so
-/// the row of this request.
+/// Does what the words ask, if they are `asm`, `dis` or `check` and a plain name, and answers the exit status: what
+/// `trips_run` answers and writes for these words. Any other words are no request here. It does so by the call of
+/// `trips_tools`, which a program makes that is to stand on little: what that one answers and writes is so the row of
+/// this request.
 pub fn tool_plain<F: Files, K: Sink>(
     alloc: Global,
     words: &[String],

@@ -8,8 +8,8 @@ use std::alloc::{AllocError, Global};
 use trips_isa::{Counts, Ending};
 use trips_report::Show;
 
-/// The report of a run, from how it ended, the machine at its end, what was counted of it and what its blocks may cost,
-/// with what is shown behind it.
+/// The report of a run, from how it ended, the machine at its end, what was counted of it and what its blocks may
+/// cost, with what is shown behind it.
 pub fn run_text(
     alloc: Global,
     ending: Ending,

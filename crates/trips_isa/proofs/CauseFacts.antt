@@ -7,7 +7,8 @@ use Rattle.trips_isa.specs.declared.form.Form.{Form}
 use Rattle.trips_isa.specs.declared.form.Form.TheVariants.{General, Immediate, Load, Store, Branch}
 use Rattle.trips_isa.specs.declared.form.Form.TheVariants.{Constant}
 use Rattle.trips_isa.specs.declared.block.Inst.{Inst}
-use Rattle.trips_isa.specs.TrapCauses.{number_of, no_mark, IsMark, Unmarked, Marked, cause_of}
+use Rattle.trips_isa.specs.TrapCauses.{number_of, no_mark, cause_of}
+use Rattle.trips_isa.specs.inside.TrapCauses.{IsMark, Unmarked, Marked}
 use Rattle.trips_isa.specs.Forms.{form_of, size_of}
 use Rattle.trips_isa.specs.Stores.{data_size, address_of}
 use Rattle.trips_isa.specs.Faults.{is_bad_divisor, fault_of, fault_at, fault_in, own_fault}

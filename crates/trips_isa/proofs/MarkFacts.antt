@@ -19,7 +19,7 @@ use Rattle.trips_isa.specs.TrapCauses.{number_of, no_mark}
 use Rattle.trips_isa.specs.declared.operands.Operands.TheVariants.{Nulls, Words}
 use Rattle.trips_isa.specs.Faults.{fault_of, fault_at}
 use Rattle.trips_isa.specs.Marks.{least, mark_by, mark_given, mask_places}
-use Rattle.trips_isa.specs.Acts.{Divided, Accessed, block_acts}
+use Rattle.trips_isa.specs.inside.Acts.{Divided, Accessed, block_acts}
 use Rattle.trips_isa.specs.Machine.{State, step_of, runs}
 
 -- causes and the least of marks -----------------------------------------------------------------

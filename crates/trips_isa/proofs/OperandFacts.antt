@@ -20,8 +20,9 @@ use Rattle.trips_isa.specs.declared.operands.Operands.{Operands}
 use Rattle.trips_isa.specs.declared.operands.Operands.TheVariants.{Missing, Nulls, Words}
 use Rattle.trips_isa.specs.Forms.{form_of, role_of, role_in, general_role, constant_role, branch_role}
 use Rattle.trips_isa.specs.Blocks.{form_computes, slot_computes}
-use Rattle.trips_isa.specs.Fired.{fired, fired_in, answered}
-use Rattle.trips_isa.specs.Operands.{operands, one_operand, both_operands, given_of, word_of}
+use Rattle.trips_isa.specs.inside.Fired.{fired, fired_in, answered}
+use Rattle.trips_isa.specs.Operands.{operands, one_operand, both_operands}
+use Rattle.trips_isa.specs.inside.Operands.{given_of, word_of}
 
 -- what a role gives is read off its operands
 pub gives_is : (role : Role) (a : ℕ → ℕ → ℕ) (l r : Answer)

@@ -9,10 +9,11 @@ use Rattle.trips_isa.specs.declared.block.ReadSlot.{ReadSlot}
 use Rattle.trips_isa.specs.declared.block.Block.{Block}
 use Rattle.trips_isa.specs.declared.node.Node.{Node}
 use Rattle.trips_isa.specs.Places.{read_node, inst_node, inst_nodes, nodes_of, targets, names}
-use Rattle.trips_isa.specs.Places.{if_named, reads_naming, slots_naming, naming, producers, place_of}
-use Rattle.trips_isa.specs.Places.{IsPlace}
+use Rattle.trips_isa.specs.Places.{place_of}
+use Rattle.trips_isa.specs.inside.Places.{if_named, reads_naming, slots_naming, naming, producers}
+use Rattle.trips_isa.specs.inside.Places.{IsPlace}
 use Rattle.trips_isa.specs.Tables.{taken, or_else, first}
-use Rattle.trips_isa.specs.Blocks.{given_by, first_given}
+use Rattle.trips_isa.specs.inside.Blocks.{given_by, first_given}
 
 slots_first : {A : Type 0} (j : ℕ) (is : List (Option Inst)) (q : ℕ) (f : ℕ → Option A)
     (h : Spot → Option A) → ((k l : ℕ) → l ≡ j + k → h (spot.Inst l) ≡ f k)

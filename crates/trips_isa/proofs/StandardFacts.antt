@@ -16,7 +16,7 @@ use Rattle.trips_isa.specs.declared.run.Stepped.TheVariants.{Went, Ended}
 use Rattle.trips_isa.specs.Alu.{alu_of, word}
 use Rattle.trips_isa.specs.Rule.{matched}
 use Rattle.trips_isa.specs.Tables.{deepest}
-use Rattle.trips_isa.specs.Places.{producers}
+use Rattle.trips_isa.specs.inside.Places.{producers}
 use Rattle.trips_isa.specs.Stores.{byte_seen}
 use Rattle.trips_isa.specs.Blocks.{given}
 use Rattle.trips_isa.specs.Marks.{mask_places, mark_given}

@@ -1,12 +1,10 @@
 -- The tables of a block: whatever its reads and loads are answered, and in an entry state. Own: the
 -- definition by pulling (docs/MACHINE.md, "The step of a block"), over the rule of firing (specs/Rule).
 use Rattle.std.specs.Prelude.{ℕ, zero, suc, ◌+◌, ◌-◌, Bool, true, false, nat_lt, List, length}
-use Rattle.std.specs.Prelude.{[], ◌∷◌, Option, Some, None, slice_get, slice_index, slice_index_or}
+use Rattle.std.specs.Prelude.{Option, Some, None, slice_get, slice_index, slice_index_or}
 use Rattle.trips_isa.specs.declared.form.Form.{Form}
 use Rattle.trips_isa.specs.declared.form.Form.TheVariants.{General, Immediate, Load, Store, Branch, Constant}
 use Rattle.trips_isa.specs.declared.block.Token.{Token}
-use Rattle.trips_isa.specs.declared.block.Spot.{Spot}
-use Rattle.trips_isa.specs.declared.block.Spot.TheVariants as spot
 use Rattle.trips_isa.specs.declared.block.Inst.{Inst}
 use Rattle.trips_isa.specs.declared.block.ReadSlot.{ReadSlot}
 use Rattle.trips_isa.specs.declared.block.Stored.{Stored}
@@ -16,7 +14,7 @@ use Rattle.trips_isa.specs.Alu.{alu_of, word}
 use Rattle.trips_isa.specs.Forms.{form_of, size_of}
 use Rattle.trips_isa.specs.Rule.{Answer}
 use Rattle.trips_isa.specs.Places.{nodes_of}
-use Rattle.trips_isa.specs.Tables.{Computes, IsTable, or_else, first, node_gives}
+use Rattle.trips_isa.specs.Tables.{Computes, first, node_gives}
 use Rattle.trips_isa.specs.Stores.{stored_of, load_of, bytes_seen}
 
 -- what each node is answered at each address: a read its register's word at address 0, a load the
@@ -59,24 +57,9 @@ computes_if_read false b answer x l r = slot_computes (inst_at b x) answer l r
 abbrev pub computes : Block → Responses → Computes
 computes b responses x l r = computes_if_read (is_read b x) b (responses x) x l r
 
--- g gives each node's token where reads and loads are answered so: of a load, at every address
-abbrev pub Solves : Block → Responses → (ℕ → Answer) → Type 0
-Solves b responses g = IsTable (nodes_of b) (computes b responses) g
-
 -- the token at a place where g says what each node gives
 abbrev pub at_place : Block → (ℕ → Answer) → ℕ → Answer
 at_place b g q = first (nodes_of b) q g
-
--- what a read or a slot gives, of a spot that names it, where f says what each node gives
-abbrev pub given_by : {A : Type 0} → Block → (ℕ → Option A) → Spot → Option A
-given_by b f (spot.Read r) = f r
-given_by b f (spot.Inst s) = f (length b.reads.items + s)
-given_by b f _ = None
-
--- the first thing that some spots give
-abbrev pub first_given : {A : Type 0} → (Spot → Option A) → List Spot → Option A
-first_given h [] = None
-first_given h (s ∷ ss) = or_else (h s) (first_given h ss)
 
 -- what the instruction in slot j stores where it gives a token: it is taken at its number like one
 abbrev pub stored_in : Block → (ℕ → Answer) → ℕ → Option Inst → Answer → Option Stored

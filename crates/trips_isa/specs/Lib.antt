@@ -9,11 +9,10 @@ pub mod Operands
 pub mod Places
 pub mod Tables
 pub mod Stores
-pub mod Fired
 pub mod Blocks
 pub mod TrapCauses
 pub mod Faults
-pub mod Acts
 pub mod Marks
 pub mod Outcomes
 pub mod Machine
+pub mod inside

@@ -1,7 +1,7 @@
 -- Marks, pulled beside any fixed table of tokens, and the cause of a block (docs/MACHINE.md,
 -- "Exceptions"). Source: an exception is taken at the block's boundary, TRIPS Processor Reference
 -- Manual, UT Austin TR-05-19. Own: that the least mark of all outputs counts, and what null hides.
-use Rattle.std.specs.Prelude.{◌≡◌, ℕ, zero, suc, ◌+◌, cond, min, List, []}
+use Rattle.std.specs.Prelude.{ℕ, zero, suc, ◌+◌, cond, min, List, []}
 use Rattle.std.specs.Prelude.{◌∷◌, ◌++◌, length, Option, Some, None, slice_get}
 use Rattle.trips_isa.specs.declared.block.Block.{Block}
 use Rattle.trips_isa.specs.declared.node.Node.{Node}
@@ -68,10 +68,6 @@ mark_given b g m x = node_mark (slice_get (nodes_of b) x) (node_fault b x) (at_p
 abbrev pub mark_of : Block → (ℕ → Answer) → ℕ → ℕ → ℕ
 mark_of b g zero x = no_mark
 mark_of b g (suc k) x = mark_given b g (mark_of b g k) x
-
--- m gives each node's mark
-abbrev pub IsMarking : Block → (ℕ → Answer) → (ℕ → ℕ) → Type 0
-IsMarking b g m = (x : ℕ) → m x ≡ mark_given b g m x
 
 -- the cause ------------------------------------------------------------------------------------
 

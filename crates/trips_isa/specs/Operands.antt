@@ -1,7 +1,7 @@
 -- What the tokens at an instruction's operands are to its role: one is missing, one is null, or all
 -- are words. Own (docs/MACHINE.md, "The step of a block"): the analysis; what null does is the rule's
 -- (specs/Rule).
-use Rattle.std.specs.Prelude.{ℕ, Bool, true, false, Some, None}
+use Rattle.std.specs.Prelude.{Bool, true, false, Some, None}
 use Rattle.trips_isa.specs.declared.block.Token.TheVariants.{Null, Word}
 use Rattle.trips_isa.specs.declared.block.Sense.{Sense}
 use Rattle.trips_isa.specs.declared.block.Sense.TheVariants.{Always}
@@ -42,14 +42,3 @@ operands Both l r = both_operands l r
 abbrev pub is_guarded : Sense → Bool
 is_guarded Always = false
 is_guarded _ = true
-
--- the word that a role gives of its operands' words: the left one, or what is computed
-abbrev pub word_of : Role → (ℕ → ℕ → ℕ) → ℕ → ℕ → ℕ
-word_of Copy a l r = l
-word_of _ a l r = a l r
-
--- what a role gives, read off its operands: nothing, null, or a word that is copied or computed
-abbrev pub given_of : Role → (ℕ → ℕ → ℕ) → Operands → Answer
-given_of role a Missing = None
-given_of role a (Nulls left right) = Some Null
-given_of role a (Words l r) = Some (Word (word_of role a l r))

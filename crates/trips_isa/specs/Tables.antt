@@ -1,7 +1,7 @@
 -- Tables of tokens: one for each node, by the rule, from the tokens that its producers give. Own
 -- (docs/MACHINE.md, "Places"): the machine pushes tokens to consumers; here a node pulls from its
 -- producers.
-use Rattle.std.specs.Prelude.{◌≡◌, ℕ, zero, suc, ◌+◌, ◌<◌, Bool, true, false, ◌&&◌, ◌||◌, nat_le}
+use Rattle.std.specs.Prelude.{◌≡◌, ℕ, suc, ◌+◌, ◌<◌, Bool, true, false, ◌&&◌, ◌||◌, nat_le}
 use Rattle.std.specs.Prelude.{nat_lt, List, [], ◌∷◌, Option, Some, None, slice_get}
 use Rattle.trips_isa.specs.declared.node.Node.{Node}
 use Rattle.trips_isa.specs.PlaceNumbers.{first_store}
@@ -34,15 +34,6 @@ node_gives (Some n) a pull = rule n.role n.sense a (pull n.slot) (pull (128 + n.
 -- what each node computes of the words at its operands
 abbrev pub Computes : Type 0
 Computes = ℕ → ℕ → ℕ → ℕ
-
--- g gives each node's token
-abbrev pub IsTable : List Node → Computes → (ℕ → Answer) → Type 0
-IsTable ns a g = (x : ℕ) → g x ≡ node_gives (slice_get ns x) (a x) (λ q. first ns q g)
-
--- what node x gives where it asks its producers at most k deep
-abbrev pub pulled : List Node → Computes → ℕ → ℕ → Answer
-pulled ns a zero x = None
-pulled ns a (suc k) x = node_gives (slice_get ns x) (a x) (λ q. first ns q (pulled ns a k))
 
 -- deeper than any chain of a block without a cycle, which has `most_nodes` nodes; not an `abbrev`, since
 -- it would unroll in each goal

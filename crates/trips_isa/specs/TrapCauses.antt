@@ -1,6 +1,6 @@
 -- The causes of traps and their numbers, by which marks and reports tell them. Own (docs/MACHINE.md,
 -- "Exceptions"): the numbers.
-use Rattle.std.specs.Prelude.{◌≡◌, ℕ, cond, ◌==◌}
+use Rattle.std.specs.Prelude.{ℕ, cond, ◌==◌}
 use Rattle.trips_isa.specs.declared.causes.TrapCause.{TrapCause}
 use Rattle.trips_isa.specs.declared.causes.TrapCause.TheVariants.{DivisionByZero, Misaligned, OutsideMemory}
 
@@ -13,11 +13,6 @@ number_of OutsideMemory = 3
 -- the mark of a token that follows no fault
 abbrev pub no_mark : ℕ
 no_mark = 0
-
--- a mark is none, or the number of a cause
-pub data IsMark : ℕ → Type 0 where
-  Unmarked : IsMark no_mark
-  Marked : (c : TrapCause) → IsMark (number_of c)
 
 -- the cause of which a mark other than none is the number
 abbrev pub cause_of : ℕ → TrapCause

@@ -9,15 +9,19 @@ ghost use Rattle.trips_isa.specs.declared.block.Block.{Block};
 ghost use Rattle.trips_isa.specs.Alu.{alu_of, loaded_as, word};
 ghost use Rattle.trips_isa.specs.Forms.{form_of, role_of, size_of};
 ghost use Rattle.trips_isa.specs.Rule.{Answer, gives};
-ghost use Rattle.trips_isa.specs.Operands.{operands, given_of};
-ghost use Rattle.trips_isa.specs.Fired.{fired, answered};
+ghost use Rattle.trips_isa.specs.Operands.{operands};
+ghost use Rattle.trips_isa.specs.inside.Operands.{given_of};
+ghost use Rattle.trips_isa.specs.inside.Fired.{fired, answered};
 ghost use Rattle.trips_isa.specs.declared.causes.TrapCause.{TrapCause};
-ghost use Rattle.trips_isa.specs.TrapCauses.{number_of, cause_of, no_mark, IsMark};
+ghost use Rattle.trips_isa.specs.TrapCauses.{number_of, cause_of, no_mark};
+ghost use Rattle.trips_isa.specs.inside.TrapCauses.{IsMark};
 ghost use Rattle.trips_isa.specs.Faults.{fault_at, own_fault};
 ghost use Rattle.trips_isa.specs.Stores.{bytes_seen, is_good_address};
-ghost use Rattle.trips_isa.specs.Places.{IsPlace, place_of, producers};
+ghost use Rattle.trips_isa.specs.Places.{place_of};
+ghost use Rattle.trips_isa.specs.inside.Places.{IsPlace, producers};
 ghost use Rattle.trips_isa.specs.declared.block.Spot.TheVariants as spot;
-ghost use Rattle.trips_isa.specs.Blocks.{at_place, given_by, first_given, store_of, stored_by};
+ghost use Rattle.trips_isa.specs.Blocks.{at_place, store_of, stored_by};
+ghost use Rattle.trips_isa.specs.inside.Blocks.{given_by, first_given};
 ghost use Rattle.trips_isa.specs.Blocks.{form_computes, slot_computes};
 
 /// What an operation gives of words is a word, and so is what a load makes of the bytes that it sees.

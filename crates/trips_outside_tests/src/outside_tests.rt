@@ -19,8 +19,8 @@ fn one_file(alloc: Global, bytes: &[u8]) -> Result<Vec<(String, Vec<u8>)>, Alloc
     Ok(files)
 }
 
-// `abcde` is loaded in pieces: a name, a limit, the call that fails (0 for none; the first one opens the file), and the
-// answer.
+// `abcde` is loaded in pieces: a name, a limit, the call that fails (0 for none; the first one opens the file), and
+// the answer.
 #[test]
 fn loads_in_pieces(rt: HostRuntime) -> Result<(), Fail> {
     let alloc = rt.alloc();

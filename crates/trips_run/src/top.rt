@@ -71,9 +71,9 @@ pub fn trips_run<F: Files, K: Sink>(
         → (result ≡ Status.StackFull)
         × Appended (K.written sink.old) (K.written sink.new) (full_report output) }
 
-    // The same reports, whatever is asked for behind them: there is an image of the text, whose blocks are placed as it
-    // is asked for, and a run of it on the grid of the request's seed, of which all this is told: its committed blocks
-    // are the machine's, and it has made no more cycles than they cost. Where it has ended it is as the law of
+    // The same reports, whatever is asked for behind them: there is an image of the text, whose blocks are placed as
+    // it is asked for, and a run of it on the grid of the request's seed, of which all this is told: its committed
+    // blocks are the machine's, and it has made no more cycles than they cost. Where it has ended it is as the law of
     // `grid_meaning` has it (`EndsAsMeant`).
     ensures shown_headline { (most n : ℕ) (show : Show) (text input output : List ℕ) (value : ℤ)
         (steps : ℕ) (program : TypedProgram)
@@ -122,8 +122,8 @@ pub fn trips_run<F: Files, K: Sink>(
         × Appended (K.written sink.old) (K.written sink.new)
         (run_report (ending_of run.1 run.0.next) run.0) }
 
-    // The same of both, and of the run of a target text, whatever is asked for behind the ending: the counts are those of
-    // a grid that comes by exactly as many eager cycles from the stated start of the request's seed.
+    // The same of both, and of the run of a target text, whatever is asked for behind the ending: the counts are
+    // those of a grid that comes by exactly as many eager cycles from the stated start of the request's seed.
     ensures shown_text_run { (most : ℕ) (show : Show) (text input : List ℕ) (program : TypedProgram)
         → (asks : AsksFor (request_of words.now) (F.held files.old) Run form.Source most show text input)
         → IsAccepted text program
@@ -244,8 +244,8 @@ pub fn trips_run<F: Files, K: Sink>(
         → IsOneOf result (Status.Ended ∷ Status.Budget ∷ Status.StackFull ∷ Status.Trap ∷ [])
         → RunEndsAs (F.held files.old) q result }
 
-    // Whenever the run of a text is reported to have ended with a result, whatever its budget and whatever else is told:
-    // the evaluation of the text is undefined, or done with the output and the result that stand in the report.
+    // Whenever the run of a text is reported to have ended with a result, whatever its budget and whatever else is
+    // told: the evaluation of the text is undefined, or done with the output and the result that stand in the report.
     ensures result_means { (q : Request) → request_of words.now ≡ Some q → q.work ≡ Run
         → q.form ≡ form.Source → result ≡ Status.Ended
         → ResultMeans (F.held files.old) q result (K.written sink.old) (K.written sink.new) }

@@ -2,7 +2,7 @@
 
 ghost use Rattle.std.specs.Prelude.{◌≡◌, ◌<◌, length, IfOk};
 ghost use Rattle.trips_isa.specs.Images.{FitsImage};
-ghost use Rattle.frame_state.specs.Phases.{HasBlock};
+ghost use Rattle.frame_state.specs.inside.Phases.{HasBlock};
 
 use block_check::{CheckedImage, ImageRefusal};
 use frame_state::{

@@ -1,5 +1,5 @@
 //! What each event is answered at a frame, and what a sealed frame hands out: rows of steps.
-ghost use Rattle.frame_state.specs.Phases.{HasBlock};
+ghost use Rattle.frame_state.specs.inside.Phases.{HasBlock};
 
 use crate::frame_making::{Step, act, asked, filled, one_block};
 use block_check::CheckedImage;

@@ -13,7 +13,8 @@ use Rattle.block_check.specs.declared.fault.CheckFault.TheVariants.{TooManyCases
 use Rattle.block_check.specs.declared.fault.CheckFault.TheVariants.{NoToken, NoExit, TwoExits}
 use Rattle.block_check.specs.inside.Judged.{IsFault}
 use Rattle.block_cases.specs.Blocks.{nodes_of, wanted_of}
-use Rattle.block_cases.specs.Orders.{bad_read, bad_inst, bad_number, bad_write, IsLeast, NoneBelow}
+use Rattle.block_cases.specs.Orders.{bad_read, bad_inst, bad_number, bad_write, NoneBelow}
+use Rattle.block_cases.specs.inside.Orders.{IsLeast}
 use Rattle.block_cases.specs.Orders.{IsInOrder}
 
 -- the first slot with a bad target, where no read has one

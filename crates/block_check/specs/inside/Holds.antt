@@ -6,7 +6,7 @@ use Rattle.trips_isa.specs.Images.{chunks}
 use Rattle.block_check.specs.declared.refusal.ImageRefusal.{ImageRefusal}
 use Rattle.block_check.specs.declared.refusal.ImageRefusal.TheVariants.{Bad, Memory}
 use Rattle.block_check.specs.Faults.{IsLowestFault}
-use Rattle.block_check.specs.Images.{IsCheckedImage}
+use Rattle.block_check.specs.inside.Images.{IsCheckedImage}
 
 -- the image of these blocks and bytes
 abbrev pub image_of : List Block → List ℕ → Image

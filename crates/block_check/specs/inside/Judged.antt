@@ -4,7 +4,8 @@ use Rattle.trips_isa.specs.declared.node.Node.{Node}
 use Rattle.trips_isa.specs.PlaceNumbers.{exit_place}
 use Rattle.block_cases.specs.Nodes.{HasCycle}
 use Rattle.block_cases.specs.Cases.{bit, cases, GetsTwo, GetsNone}
-use Rattle.block_cases.specs.Good.{IsAcyclic, NoTwo, NoGap}
+use Rattle.block_cases.specs.Good.{NoTwo, NoGap}
+use Rattle.block_cases.specs.inside.Good.{IsAcyclic}
 use Rattle.block_check.specs.declared.fault.NodeFault.{NodeFault}
 use Rattle.block_check.specs.declared.fault.NodeFault.TheVariants.{Cycle, TooManyCases, TwoTokens}
 use Rattle.block_check.specs.declared.fault.NodeFault.TheVariants.{NoToken, NoExit, TwoExits}

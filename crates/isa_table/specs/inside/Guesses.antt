@@ -8,7 +8,7 @@ use Rattle.trips_isa.specs.declared.op.Op.TheVariants as op
 use Rattle.isa_table.specs.declared.by_mnemonic.TheConstants.{BY_MNEMONIC}
 use Rattle.isa_table.specs.declared.by_numbers.TheConstants.{BY_NUMBERS}
 use Rattle.isa_table.specs.Mnemonics.{mnemonic_of}
-use Rattle.isa_table.specs.Codes.{has_numbers}
+use Rattle.isa_table.specs.inside.Codes.{has_numbers}
 
 -- BY MNEMONIC
 

@@ -7,13 +7,13 @@ use Rattle.ir_forms.specs.declared.flow.FlowBlock.{FlowBlock}
 use Rattle.null_outputs.specs.declared.places.Guess.{Guess}
 use Rattle.null_outputs.specs.declared.places.Region.{Region}
 use Rattle.null_outputs.specs.declared.places.Starts.{Starts}
-use Rattle.null_outputs.specs.Covers.{Sure, Want, Places, Cover, cover_of, null_store_of, list_top, list_nodes}
-use Rattle.null_outputs.specs.Covers.{list_size}
-use Rattle.null_outputs.specs.Groups.{guard_part_size, left_size, right_size, end_of, stores_of}
-use Rattle.null_outputs.specs.Groups.{number_open}
-use Rattle.null_outputs.specs.Sizes.{starts}
-use Rattle.null_outputs.specs.Surely.{sure_of, firm_of, firms}
-use Rattle.null_outputs.specs.Wants.{or_all, wants_of, is_closed}
+use Rattle.null_outputs.specs.inside.Covers.{Sure, Want, Places, Cover, cover_of, null_store_of, list_top, list_nodes}
+use Rattle.null_outputs.specs.inside.Covers.{list_size}
+use Rattle.null_outputs.specs.inside.Groups.{guard_part_size, left_size, right_size, end_of, stores_of}
+use Rattle.null_outputs.specs.inside.Groups.{number_open}
+use Rattle.null_outputs.specs.inside.Sizes.{starts}
+use Rattle.null_outputs.specs.inside.Surely.{sure_of, firm_of, firms}
+use Rattle.null_outputs.specs.inside.Wants.{or_all, wants_of, is_closed}
 
 -- where a group begins: what lies past the list is where the region ends
 abbrev pub start_in : Region → ℕ → ℕ

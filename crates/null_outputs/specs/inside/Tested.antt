@@ -8,8 +8,8 @@ use Rattle.ir_forms.specs.declared.flow.Guard.{Guard}
 use Rattle.ir_forms.specs.declared.flow.FlowNode.{FlowNode}
 use Rattle.ir_forms.specs.declared.flow.FlowWrite.{FlowWrite}
 use Rattle.ir_forms.specs.declared.flow.FlowBlock.{FlowBlock}
-use Rattle.ir_forms.specs.FlowFits.{in_mask}
-use Rattle.null_outputs.specs.Groups.{stores_of}
+use Rattle.ir_forms.specs.inside.FlowFits.{in_mask}
+use Rattle.null_outputs.specs.inside.Groups.{stores_of}
 
 -- whether a source stands before node y
 abbrev pub is_before : ℕ → FlowSource → Bool

@@ -10,10 +10,10 @@ use Rattle.predication.specs.declared.work.Work.{Work}
 use Rattle.predication.specs.declared.work.Named.{Named}
 use Rattle.predication.specs.declared.work.Names.{Names}
 use Rattle.predication.specs.declared.work.Noted.{Noted}
-use Rattle.predication.specs.Operands.{constant_of}
-use Rattle.predication.specs.Environments.{Scope, Entry, Env, Bits, put, note, at_start, no_bits}
-use Rattle.predication.specs.Environments.{under, both, member}
-use Rattle.predication.specs.Ifs.{Part, Joined, join, side_of}
+use Rattle.predication.specs.inside.Operands.{constant_of}
+use Rattle.predication.specs.inside.Environments.{Scope, Entry, Env, Bits, put, note, at_start, no_bits}
+use Rattle.predication.specs.inside.Environments.{under, both, member}
+use Rattle.predication.specs.inside.Ifs.{Part, Joined, join, side_of}
 
 -- NODES
 

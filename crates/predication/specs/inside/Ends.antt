@@ -7,15 +7,15 @@ use Rattle.ir_forms.specs.declared.flow.FlowSource.TheVariants.{Node}
 use Rattle.ir_forms.specs.declared.flow.FlowNode.{FlowNode}
 use Rattle.ir_forms.specs.declared.hyper.Exit.{Exit}
 use Rattle.ir_forms.specs.declared.hyper.Tail as declared
-use Rattle.ir_forms.specs.HyperCode.{Items, Tail}
-use Rattle.ir_forms.specs.HyperViews.{tail_of}
+use Rattle.ir_forms.specs.inside.HyperCode.{Items, Tail}
+use Rattle.ir_forms.specs.inside.HyperViews.{tail_of}
 use Rattle.predication.specs.declared.work.Work.{Work}
 use Rattle.predication.specs.declared.work.Names.{Names}
-use Rattle.predication.specs.Environments.{Scope, Env, Bits}
-use Rattle.predication.specs.Ifs.{Out, items, touched}
-use Rattle.predication.specs.Operands.{constant_of, mov_of}
-use Rattle.predication.specs.Tails.{Ending, address_end, half_end, branch_of, exit_with, tail_with, leaving}
-use Rattle.predication.specs.Tails.{tail}
+use Rattle.predication.specs.inside.Environments.{Scope, Env, Bits}
+use Rattle.predication.specs.inside.Ifs.{Out, items, touched}
+use Rattle.predication.specs.inside.Operands.{constant_of, mov_of}
+use Rattle.predication.specs.inside.Tails.{Ending, address_end, half_end, branch_of, exit_with, tail_with, leaving}
+use Rattle.predication.specs.inside.Tails.{tail}
 use Rattle.predication.specs.inside.Emits.{low, env_of, bits_of}
 
 -- ITEMS

@@ -3,13 +3,13 @@ use Rattle.std.specs.Prelude.{◌≡◌, ℕ, zero, suc, ◌+◌, ◌^◌, Bool,
 use Rattle.ir_forms.specs.declared.flow.FlowNode.{FlowNode}
 use Rattle.ir_forms.specs.declared.flow.FlowWrite.{FlowWrite}
 use Rattle.ir_forms.specs.declared.flow.FlowBlock.{FlowBlock}
-use Rattle.ir_forms.specs.HyperCode.{Block}
-use Rattle.ir_forms.specs.HyperFits.{exits_in}
+use Rattle.ir_forms.specs.inside.HyperCode.{Block}
+use Rattle.ir_forms.specs.inside.HyperFits.{exits_in}
 use Rattle.predication.specs.declared.work.Emitted.{Emitted}
-use Rattle.predication.specs.Environments.{Env, member}
-use Rattle.predication.specs.Converted.{register_count, number_count, begun, ended, all_nodes, all_touched}
-use Rattle.predication.specs.Converted.{writes_below, reads_below, mask_below}
-use Rattle.predication.specs.Outcomes.{Counts}
+use Rattle.predication.specs.inside.Environments.{Env, member}
+use Rattle.predication.specs.inside.Converted.{register_count, number_count, begun, ended, all_nodes, all_touched}
+use Rattle.predication.specs.inside.Converted.{writes_below, reads_below, mask_below}
+use Rattle.predication.specs.inside.Outcomes.{Counts}
 use Rattle.predication.specs.inside.Emits.{low, env_of}
 
 -- ONE REGISTER

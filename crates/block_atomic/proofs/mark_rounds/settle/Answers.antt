@@ -2,7 +2,7 @@ use Rattle.std.proofs.Common.{◌≤◌, ◌+◌, ◌⊎◌, ℕ, arith, inl, in
 use Rattle.trips_isa.specs.Rule.{Answer}
 use Rattle.trips_isa.specs.Marks.{mark_of, mark_given}
 use Rattle.trips_isa.specs.Limits.{most_nodes}
-use Rattle.block_atomic.specs.MarkSlots.{IsTold}
+use Rattle.block_atomic.specs.inside.MarkSlots.{IsTold}
 use Rattle.block_cases.proofs.Fixed.{IsFixed}
 use Rattle.block_atomic.proofs.MarkRoundLemmas.{Round, round_next, round_still, settled_at, none_yet}
 use Rattle.block_atomic.proofs.mark_rounds.settle.Goals as goal

@@ -2,10 +2,12 @@ use Rattle.std.proofs.Common.{ℕ}
 use Rattle.trips_isa.specs.declared.block.Block.{Block}
 use Rattle.trips_isa.specs.Fits.{FitsBlock}
 use Rattle.trips_isa.specs.Rule.{Answer}
-use Rattle.trips_isa.specs.Blocks.{Responses, Solves, computes}
+use Rattle.trips_isa.specs.Blocks.{Responses, computes}
+use Rattle.trips_isa.specs.inside.Blocks.{Solves}
 use Rattle.block_cases.specs.Blocks.{nodes_of, wanted_of}
-use Rattle.block_cases.specs.Good.{GoodBlock, OneToken}
-use Rattle.block_cases.specs.Shapes.{shape}
+use Rattle.block_cases.specs.Good.{GoodBlock}
+use Rattle.block_cases.specs.inside.Good.{OneToken}
+use Rattle.block_cases.specs.inside.Shapes.{shape}
 use Rattle.block_cases.proofs.Placed.{nodes_placed}
 use Rattle.block_cases.proofs.OneToken.{good_machine}
 use Rattle.block_cases.proofs.AnyBits.{one_producer, one_at_most}

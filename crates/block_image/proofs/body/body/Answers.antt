@@ -1,6 +1,7 @@
 use Rattle.std.proofs.Common.{sym, ◌∙◌, ap, ◌≡◌, ◌++◌, append_assoc, arith, length, ◌+◌, ◌*◌}
 use Rattle.std.proofs.lemmas.List.{length-append}
-use Rattle.block_image.specs.Reading.{Slots, body_at}
+use Rattle.block_image.specs.Reading.{Slots}
+use Rattle.block_image.specs.inside.Reading.{body_at}
 use Rattle.block_image.proofs.Lists.{body_next, slots_length}
 use Rattle.block_image.proofs.body.body.Goals as goal
 

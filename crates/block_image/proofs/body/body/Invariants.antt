@@ -1,5 +1,6 @@
 use Rattle.std.proofs.Common.{◌≡◌, ◌++◌, ◌+◌, ◌*◌, ◌-◌, length}
-use Rattle.block_image.specs.Reading.{body_at, with_front, Slots}
+use Rattle.block_image.specs.Reading.{Slots}
+use Rattle.block_image.specs.inside.Reading.{body_at, with_front}
 use Rattle.block_image.proofs.body.body.Given as goal
 
 abbrev pub invariant-loop-k : goal.invariant-loop-k

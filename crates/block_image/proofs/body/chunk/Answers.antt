@@ -1,6 +1,6 @@
 use Rattle.std.proofs.Common.{arith, ◌∙◌, refl, ◌≡◌, drop, ◌+◌, ◌-◌, false, nat_lt, length}
 use Rattle.std.proofs.lemmas.Bool.{le-ltb}
-use Rattle.block_image.specs.Reading.{chunk_at, words}
+use Rattle.block_image.specs.inside.Reading.{chunk_at, words}
 use Rattle.block_image.proofs.Lists.{words_take}
 use Rattle.block_image.proofs.body.chunk.Goals as goal
 

@@ -1,5 +1,5 @@
 use Rattle.std.proofs.Common.{sym, ◌∙◌, ap}
-use Rattle.block_image.specs.Reading.{least_at}
+use Rattle.block_image.specs.inside.Reading.{least_at}
 use Rattle.block_image.proofs.BlockLaws.{size_read}
 use Rattle.block_image.proofs.body.fill.Goals as goal
 

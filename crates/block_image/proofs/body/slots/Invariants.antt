@@ -1,5 +1,6 @@
 use Rattle.std.proofs.Common.{◌≡◌, ◌++◌, ◌+◌, ◌*◌, drop, length}
-use Rattle.block_image.specs.Reading.{slots_at, with_front, Slots}
+use Rattle.block_image.specs.Reading.{Slots}
+use Rattle.block_image.specs.inside.Reading.{slots_at, with_front}
 use Rattle.block_image.proofs.body.slots.Given as goal
 
 abbrev pub invariant-loop-i : goal.invariant-loop-i

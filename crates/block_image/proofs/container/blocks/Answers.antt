@@ -1,7 +1,7 @@
 use Rattle.std.proofs.Common.{arith, sym, ap, ◌∙◌, ◌≡◌, ◌+◌, ◌*◌, ◌++◌, ◌∷◌, [], length, slice_set}
 use Rattle.std.proofs.lemmas.List.{length-append}
 use Rattle.trips_isa.specs.declared.block.Block.{Block}
-use Rattle.block_image.specs.ImageReading.{blocks_at}
+use Rattle.block_image.specs.inside.ImageReading.{blocks_at}
 use Rattle.block_image.proofs.Loops.{fails_of, blocks_fail, blocks_next, filled_is, last_pushed}
 use Rattle.block_image.proofs.Loops.{no_block, block_of}
 use Rattle.block_image.proofs.container.blocks.Goals as goal

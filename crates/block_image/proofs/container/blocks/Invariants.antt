@@ -1,5 +1,5 @@
 use Rattle.std.proofs.Common.{◌≡◌, ◌≤◌, ◌+◌, ◌*◌, ◌-◌, length}
-use Rattle.block_image.specs.ImageReading.{blocks_at, with_blocks}
+use Rattle.block_image.specs.inside.ImageReading.{blocks_at, with_blocks}
 use Rattle.block_image.proofs.container.blocks.Given as goal
 use Rattle.trips_isa.specs.Limits.{most_chunks}
 

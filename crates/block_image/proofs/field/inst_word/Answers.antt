@@ -2,7 +2,7 @@ use Rattle.std.proofs.Common.{sym, subst}
 use Rattle.trips_isa.specs.declared.form.Form.{Form}
 use Rattle.trips_isa.specs.Forms.{form_of}
 use Rattle.isa_table.specs.declared.numbers.Code.{Code}
-use Rattle.isa_table.specs.Codes.{GoodCode}
+use Rattle.isa_table.specs.inside.Codes.{GoodCode}
 use Rattle.isa_table.proofs.ByNumbers.{code_good}
 use Rattle.block_image.proofs.field.inst_word.Goals as goal
 

@@ -1,5 +1,5 @@
 use Rattle.std.proofs.Common.{◌≡◌, drop}
-use Rattle.block_image.specs.HeaderReading.{first_bad}
+use Rattle.block_image.specs.inside.HeaderReading.{first_bad}
 use Rattle.block_image.proofs.header.bad_word.Given as goal
 
 abbrev pub invariant-loop-i : goal.invariant-loop-i

@@ -1,6 +1,6 @@
 use Rattle.std.proofs.Common.{subst, sym, ◌∙◌}
 use Rattle.trips_isa.specs.Images.{FitsImage}
-use Rattle.c_compile_layout.specs.Emitted.{image_of}
+use Rattle.c_compile_layout.specs.inside.Emitted.{image_of}
 use Rattle.c_compile.proofs.TriedPlans.{all_good}
 use Rattle.c_compile.proofs.attempts.image_or_none.Goals as goal
 

@@ -1,4 +1,4 @@
-use Rattle.ir_forms.specs.FlatViews.{program_of}
+use Rattle.ir_forms.specs.inside.FlatViews.{program_of}
 use Rattle.c_compile.proofs.CutPrograms.{few_blocks}
 use Rattle.c_compile.proofs.compiling.compile.Goals as goal
 

@@ -1,5 +1,5 @@
 use Rattle.trips_isa.specs.declared.block.Image.{Image}
-use Rattle.ir_forms.specs.FlatViews.{program_of}
+use Rattle.ir_forms.specs.inside.FlatViews.{program_of}
 use Rattle.c_compile.proofs.CutPrograms.{few_blocks}
 use Rattle.c_compile.proofs.TriedPlans.{some_weaker}
 use Rattle.c_compile_laws.specs.Compiled.{IsCompiled}

@@ -1,6 +1,6 @@
 use Rattle.std.proofs.Common.{arith, map}
 use Rattle.std.proofs.lemmas.Grind.{common_steps}
-use Rattle.ir_forms.specs.HyperViews.{block_of}
+use Rattle.ir_forms.specs.inside.HyperViews.{block_of}
 use Rattle.c_compile_blocks.proofs.Programs.{none_passed, one_more, block_there, labels_there}
 use Rattle.c_compile_blocks.proofs.Programs.{refused_there, memory_there}
 use Rattle.c_compile_blocks.proofs.blocks.all_blocks.Goals as goal

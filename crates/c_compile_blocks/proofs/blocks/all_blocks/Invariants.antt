@@ -1,6 +1,6 @@
 use Rattle.std.proofs.Common.{map}
-use Rattle.ir_forms.specs.HyperViews.{block_of}
-use Rattle.c_compile_blocks.specs.Blocks.{AreFirstPassed}
+use Rattle.ir_forms.specs.inside.HyperViews.{block_of}
+use Rattle.c_compile_blocks.specs.inside.Blocks.{AreFirstPassed}
 use Rattle.c_compile_blocks.proofs.blocks.all_blocks.Given as goal
 
 -- those before are done

@@ -1,8 +1,8 @@
 use Rattle.std.proofs.Common.{arith}
 use Rattle.std.proofs.lemmas.Grind.{common_steps}
 use Rattle.ir_forms.specs.declared.fault.FlowFault.{FlowFault}
-use Rattle.ir_forms.specs.HyperViews.{block_of}
-use Rattle.c_compile_blocks.specs.Refusals.{IsRefused}
+use Rattle.ir_forms.specs.inside.HyperViews.{block_of}
+use Rattle.c_compile_blocks.specs.inside.Refusals.{IsRefused}
 use Rattle.c_compile_blocks.proofs.Passes.{passed, is_machine_block, by_first, by_second, by_third}
 use Rattle.c_compile_blocks.proofs.Passes.{handed_on, never_refused, small_never}
 use Rattle.c_compile_blocks.proofs.blocks.machine_block.Goals as goal

@@ -4,9 +4,9 @@ use Rattle.trips_isa.specs.declared.block.Block.{Block}
 use Rattle.ir_forms.specs.declared.fault.FlowFault.{FlowFault}
 use Rattle.ir_forms.specs.declared.fault.FlowFault.TheVariants.{Memory}
 use Rattle.ir_forms.specs.declared.hyper.HyperBlock.{HyperBlock}
-use Rattle.ir_forms.specs.HyperViews.{block_of, blocks_of}
-use Rattle.c_compile_blocks.specs.Blocks.{ArePassed, AreMachineBlocks}
-use Rattle.c_compile_blocks.specs.Refusals.{FitMachine, HasRefused}
+use Rattle.ir_forms.specs.inside.HyperViews.{block_of, blocks_of}
+use Rattle.c_compile_blocks.specs.inside.Blocks.{ArePassed, AreMachineBlocks}
+use Rattle.c_compile_blocks.specs.inside.Refusals.{FitMachine, HasRefused}
 use Rattle.c_compile_blocks.proofs.Programs.{are_machine_blocks, none_refused}
 use Rattle.c_compile_blocks.proofs.blocks.machine_blocks.Goals as goal
 

@@ -1,5 +1,5 @@
 use Rattle.std.proofs.Common.{◌≡◌, ◌≤◌, take}
-use Rattle.c_compile_layout.specs.Standings.{trimmed}
+use Rattle.c_compile_layout.specs.inside.Standings.{trimmed}
 use Rattle.c_compile_layout.proofs.images.kept.Given as goal
 
 abbrev pub invariant-loop-k : goal.invariant-loop-k

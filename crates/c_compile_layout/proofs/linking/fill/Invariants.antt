@@ -1,5 +1,5 @@
 use Rattle.std.proofs.Common.{◌≡◌, map, take, get_or}
-use Rattle.c_compile_layout.specs.Linking.{resolved_slot, by_both}
+use Rattle.c_compile_layout.specs.inside.Linking.{resolved_slot, by_both}
 use Rattle.c_compile_layout.proofs.linking.fill.Given as goal
 
 abbrev pub invariant-loop-inst : goal.invariant-loop-inst

@@ -1,5 +1,5 @@
 use Rattle.std.proofs.Common.{◌≡◌, ◌++◌, take, drop, get_or}
-use Rattle.c_compile_layout.specs.Linking.{linked_from}
+use Rattle.c_compile_layout.specs.inside.Linking.{linked_from}
 use Rattle.c_compile_layout.proofs.linking.link.Given as goal
 
 abbrev pub invariant-loop-k : goal.invariant-loop-k

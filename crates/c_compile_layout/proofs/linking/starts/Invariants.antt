@@ -1,7 +1,7 @@
 use Rattle.std.proofs.Common.{◌≡◌, ◌+◌, ◌++◌, drop}
 use Rattle.std.specs.List.{sum_by}
 use Rattle.trips_isa.specs.Images.{chunks}
-use Rattle.c_compile_layout.specs.Layouts.{begins}
+use Rattle.c_compile_layout.specs.inside.Layouts.{begins}
 use Rattle.c_compile_layout.proofs.linking.starts.Given as goal
 
 abbrev pub invariant-loop-block : goal.invariant-loop-block

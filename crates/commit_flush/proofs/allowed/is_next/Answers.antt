@@ -1,7 +1,7 @@
 use Rattle.std.proofs.Common.{sym, ap, ◌∙◌, arith}
 use Rattle.commit_flush_spec.specs.Older.{committed}
-use Rattle.frame_state.specs.Held.{running}
-use Rattle.commit_flush.specs.Steps.{is_next}
+use Rattle.frame_state.specs.inside.Held.{running}
+use Rattle.commit_flush.specs.inside.Steps.{is_next}
 use Rattle.commit_flush.proofs.StepFacts.{firing_below, read_below, store_below, load_below}
 use Rattle.commit_flush.proofs.allowed.is_next.Goals as goal
 

@@ -1,8 +1,8 @@
 use Rattle.std.proofs.Common.{◌≡◌, ◌+◌, sym, refl, ◌∙◌, arith, ap}
 use Rattle.commit_flush_spec.specs.Ends.{store_came}
-use Rattle.frame_state.specs.Held.{running}
+use Rattle.frame_state.specs.inside.Held.{running}
 use Rattle.frame_state.proofs.CompleteFacts.{all_more, not_all}
-use Rattle.commit_flush_spec.specs.NextEvent.{stores_came}
+use Rattle.commit_flush_spec.specs.inside.NextEvent.{stores_came}
 use Rattle.commit_flush.proofs.allowed.stores_came.Goals as goal
 
 pub returns-then-not-store_came : goal.returns-then-not-store_came

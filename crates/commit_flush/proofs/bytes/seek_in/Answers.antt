@@ -2,7 +2,7 @@ use Rattle.std.proofs.Common.{ap, sym, ◌∙◌}
 use Rattle.std.proofs.lemmas.Option.{same_Some}
 use Rattle.trips_isa.specs.Stores.{byte_seen}
 use Rattle.commit_flush_spec.specs.Frames.{Frame, at}
-use Rattle.lsq_order.specs.Taking.{taken}
+use Rattle.lsq_order.specs.inside.Taking.{taken}
 use Rattle.commit_flush.proofs.bytes.seek_in.Goals as goal
 
 pub returns-in-Some-clause-taken : goal.returns-in-Some-clause-taken

@@ -1,5 +1,5 @@
-use Rattle.commit_flush_spec.specs.Work.{work}
-use Rattle.commit_flush.specs.Known.{IsKnown}
+use Rattle.commit_flush_spec.specs.inside.Work.{work}
+use Rattle.commit_flush.specs.inside.Known.{IsKnown}
 use Rattle.commit_flush.proofs.DriveFacts.{IsOn}
 use Rattle.commit_flush.proofs.driving.drive.Given as goal
 

@@ -1,6 +1,6 @@
 use Rattle.std.proofs.Common.{Some, ap, ◌∙◌}
-use Rattle.commit_flush_spec.specs.NextEvent.{event_of}
-use Rattle.commit_flush.specs.Steps.{event_at}
+use Rattle.commit_flush_spec.specs.inside.NextEvent.{event_of}
+use Rattle.commit_flush.specs.inside.Steps.{event_at}
 use Rattle.commit_flush.proofs.next.next_at.Goals as goal
 
 pub returns-in-None : goal.returns-in-None

@@ -1,5 +1,5 @@
 use Rattle.std.proofs.Common.{slice_get, ap, ◌∙◌}
-use Rattle.frame_state.specs.Held.{running}
+use Rattle.frame_state.specs.inside.Held.{running}
 use Rattle.commit_flush.proofs.PickFacts.{idle_next, found_next}
 use Rattle.commit_flush.proofs.OldestFacts.{code_at, number_oldest}
 use Rattle.commit_flush.proofs.next.next_of_frame.Goals as goal

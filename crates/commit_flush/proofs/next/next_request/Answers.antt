@@ -1,8 +1,8 @@
 use Rattle.std.proofs.Common.{ap, ◌∙◌}
 use Rattle.trips_isa.specs.Tables.{or_else}
 use Rattle.commit_flush_spec.specs.Older.{committed}
-use Rattle.frame_state.specs.Held.{running}
-use Rattle.commit_flush_spec.specs.NextEvent.{next_load, next_exit}
+use Rattle.frame_state.specs.inside.Held.{running}
+use Rattle.commit_flush_spec.specs.inside.NextEvent.{next_load, next_exit}
 use Rattle.commit_flush.proofs.next.next_request.Goals as goal
 
 pub returns-in-Some : goal.returns-in-Some

@@ -3,8 +3,8 @@ use Rattle.trips_isa.specs.Tables.{or_else}
 use Rattle.commit_flush_spec.specs.Frames.{Frame}
 use Rattle.commit_flush_spec.specs.Older.{Older, committed}
 use Rattle.commit_flush_spec.specs.Window.{Event}
-use Rattle.frame_state.specs.Held.{running}
-use Rattle.commit_flush_spec.specs.NextEvent.{next_firing, next_read, next_store, next_load, next_exit}
+use Rattle.frame_state.specs.inside.Held.{running}
+use Rattle.commit_flush_spec.specs.inside.NextEvent.{next_firing, next_read, next_store, next_load, next_exit}
 use Rattle.commit_flush.proofs.next.next_step.Goals as goal
 
 -- the later choices

@@ -1,7 +1,7 @@
 use Rattle.std.proofs.Common.{◌≡◌, ℕ, ◌&&◌, nat_lt}
 use Rattle.commit_flush_spec.specs.Memory.{is_request, request}
-use Rattle.frame_state.specs.Held.{running}
-use Rattle.commit_flush.specs.Observed.{is_access}
+use Rattle.frame_state.specs.inside.Held.{running}
+use Rattle.commit_flush.specs.inside.Observed.{is_access}
 use Rattle.base.specs.Rows.{has_bit}
 use Rattle.commit_flush.proofs.observing.asked_in.Given as goal
 

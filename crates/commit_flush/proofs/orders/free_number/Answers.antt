@@ -1,5 +1,5 @@
 use Rattle.std.proofs.Common.{ap, sym, ◌∙◌, arith}
-use Rattle.commit_flush.specs.Kept.{is_in}
+use Rattle.commit_flush.specs.inside.Kept.{is_in}
 use Rattle.commit_flush.proofs.OrderFacts.{free_found, none_free, flies}
 use Rattle.commit_flush.proofs.orders.free_number.Goals as goal
 

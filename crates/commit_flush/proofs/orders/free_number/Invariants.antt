@@ -1,5 +1,5 @@
 use Rattle.std.proofs.Common.{◌≡◌, ℕ, ◌<◌, true}
-use Rattle.commit_flush.specs.Kept.{is_in}
+use Rattle.commit_flush.specs.inside.Kept.{is_in}
 use Rattle.commit_flush.proofs.orders.free_number.Given as goal
 
 abbrev pub invariant-loop-number : goal.invariant-loop-number

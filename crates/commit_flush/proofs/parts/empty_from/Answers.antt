@@ -1,6 +1,6 @@
 use Rattle.std.proofs.Common.{◌≡◌, ◌+◌, ◌<◌, suc, set, drop, take, length, get_or, sym, ap, ◌∙◌, subst, arith, refl}
 use Rattle.std.proofs.lemmas.Option.{slice_get_read}
-use Rattle.commit_flush.specs.Emptied.{IsEmptied}
+use Rattle.commit_flush.specs.inside.Emptied.{IsEmptied}
 use Rattle.commit_flush.proofs.DropFacts.{none_emptied, more_emptied, taken_more, taken_none, taken_all}
 use Rattle.commit_flush.proofs.parts.empty_from.Goals as goal
 

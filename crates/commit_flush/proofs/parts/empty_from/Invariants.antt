@@ -1,5 +1,5 @@
 use Rattle.std.proofs.Common.{drop, take}
-use Rattle.commit_flush.specs.Emptied.{IsEmptied}
+use Rattle.commit_flush.specs.inside.Emptied.{IsEmptied}
 use Rattle.commit_flush.proofs.parts.empty_from.Given as goal
 
 abbrev pub invariant-loop-a : goal.invariant-loop-a

@@ -1,7 +1,7 @@
 use Rattle.std.proofs.Common.{sym, ◌∙◌, arith}
 use Rattle.commit_flush_spec.specs.Older.{committed}
-use Rattle.frame_state.specs.Held.{running}
-use Rattle.commit_flush.specs.Steps.{is_next}
+use Rattle.frame_state.specs.inside.Held.{running}
+use Rattle.commit_flush.specs.inside.Steps.{is_next}
 use Rattle.commit_flush.proofs.SearchFacts.{passes, stops, over}
 use Rattle.commit_flush.proofs.searching.between.Goals as goal
 

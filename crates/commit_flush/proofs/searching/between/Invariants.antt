@@ -1,9 +1,9 @@
 use Rattle.std.proofs.Common.{◌≡◌, ◌-◌}
 use Rattle.trips_isa.specs.Machine.{State}
 use Rattle.commit_flush_spec.specs.Older.{committed}
-use Rattle.frame_state.specs.Held.{running}
-use Rattle.commit_flush_spec.specs.NextEvent.{lowest}
-use Rattle.commit_flush.specs.Steps.{is_next}
+use Rattle.frame_state.specs.inside.Held.{running}
+use Rattle.commit_flush_spec.specs.inside.NextEvent.{lowest}
+use Rattle.commit_flush.specs.inside.Steps.{is_next}
 use Rattle.commit_flush.proofs.searching.between.Given as goal
 
 abbrev pub invariant-loop-number : goal.invariant-loop-number

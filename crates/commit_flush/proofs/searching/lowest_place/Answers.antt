@@ -1,9 +1,9 @@
 use Rattle.std.proofs.Common.{◌+◌, ◌*◌, ap, ◌∙◌, is_some, arith}
 use Rattle.commit_flush_spec.specs.Frames.{at}
 use Rattle.commit_flush_spec.specs.Older.{committed}
-use Rattle.frame_state.specs.Held.{running}
+use Rattle.frame_state.specs.inside.Held.{running}
 use Rattle.commit_flush.specs.declared.step.Step.TheVariants.{Token}
-use Rattle.commit_flush.specs.Steps.{is_next}
+use Rattle.commit_flush.specs.inside.Steps.{is_next}
 use Rattle.commit_flush.proofs.StepFacts.{place_off, places_are}
 use Rattle.commit_flush.proofs.LowestBitFacts.{word_more, from_place, no_place}
 use Rattle.commit_flush.proofs.searching.lowest_place.Goals as goal

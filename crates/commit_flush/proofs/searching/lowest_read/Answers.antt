@@ -1,8 +1,8 @@
 use Rattle.std.proofs.Common.{arith}
 use Rattle.commit_flush_spec.specs.Older.{committed}
-use Rattle.frame_state.specs.Held.{running}
+use Rattle.frame_state.specs.inside.Held.{running}
 use Rattle.commit_flush.specs.declared.step.Step.TheVariants.{Read}
-use Rattle.commit_flush.specs.Steps.{is_next}
+use Rattle.commit_flush.specs.inside.Steps.{is_next}
 use Rattle.commit_flush.proofs.StepFacts.{read_off, reads_are}
 use Rattle.commit_flush.proofs.SearchFacts.{of_reads}
 use Rattle.commit_flush.proofs.searching.lowest_read.Goals as goal

@@ -1,10 +1,10 @@
 use Rattle.std.proofs.Common.{◌+◌, ◌*◌, ap, ◌∙◌, is_some, arith}
 use Rattle.commit_flush_spec.specs.Frames.{at}
 use Rattle.commit_flush_spec.specs.Older.{committed}
-use Rattle.frame_state.specs.Held.{running}
+use Rattle.frame_state.specs.inside.Held.{running}
 use Rattle.commit_flush_spec.proofs.Stuck.{numbers_are}
 use Rattle.commit_flush.specs.declared.step.Step.TheVariants.{Store}
-use Rattle.commit_flush.specs.Steps.{is_next}
+use Rattle.commit_flush.specs.inside.Steps.{is_next}
 use Rattle.commit_flush.proofs.StepFacts.{store_off}
 use Rattle.commit_flush.proofs.LowestBitFacts.{none_there}
 use Rattle.commit_flush.proofs.SearchFacts.{no_number, of_numbers}

@@ -1,5 +1,5 @@
 use Rattle.std.proofs.Common.{◌≡◌, ◌+◌, ap, sym, ◌∙◌, subst, arith, length, length-append}
-use Rattle.commit_flush.specs.Seen.{AreFresh, IsFresh}
+use Rattle.commit_flush.specs.inside.Seen.{AreFresh, IsFresh}
 use Rattle.commit_flush.proofs.OpenFacts.{one_more}
 use Rattle.commit_flush.proofs.window.empty_frames.Goals as goal
 

@@ -1,5 +1,5 @@
 use Rattle.std.proofs.Common.{◌≡◌, length}
-use Rattle.commit_flush.specs.Seen.{AreFresh}
+use Rattle.commit_flush.specs.inside.Seen.{AreFresh}
 use Rattle.commit_flush.proofs.window.empty_frames.Given as goal
 
 abbrev pub invariant-loop-number : goal.invariant-loop-number

@@ -1,8 +1,8 @@
 use Rattle.std.proofs.Common.{◌≡◌, ◌+◌, suc, ◌∷◌, drop, sym, ap, ◌∙◌, subst, arith}
 use Rattle.std.proofs.Math.Seq.{drop-cons}
-use Rattle.flat_lower.specs.Emitted.{Adds}
-use Rattle.flat_lower.specs.TreeViews.{expr_of}
-use Rattle.flat_lower.specs.Expressions.{expr_code, index_code}
+use Rattle.flat_lower.specs.inside.Emitted.{Adds}
+use Rattle.flat_lower.specs.inside.TreeViews.{expr_of}
+use Rattle.flat_lower.specs.inside.Expressions.{expr_code, index_code}
 use Rattle.flat_lower.proofs.Emits.{two, turned, nothing}
 use Rattle.flat_lower.proofs.EmitTrees.{expr-Number, expr-Name, expr-Element, expr-Call, expr-Unary}
 use Rattle.flat_lower.proofs.EmitTrees.{expr-Cast, expr-Convert, expr-Bump, expr-Binary}

@@ -1,7 +1,7 @@
 use Rattle.std.proofs.Common.{◌≡◌, ◌++◌, drop, map}
-use Rattle.ir_forms.specs.FlatViews.{function_of}
-use Rattle.flat_lower.specs.TreeViews.{func_of}
-use Rattle.flat_lower.specs.Statements.{lowered_from}
+use Rattle.ir_forms.specs.inside.FlatViews.{function_of}
+use Rattle.flat_lower.specs.inside.TreeViews.{func_of}
+use Rattle.flat_lower.specs.inside.Statements.{lowered_from}
 use Rattle.flat_lower.proofs.functions.lower_funcs.Given as goal
 
 abbrev pub invariant-loop-f : goal.invariant-loop-f

@@ -3,7 +3,7 @@ use Rattle.std.proofs.Common.{◌+◌, ◌++◌, drop, map, get_or, sym, ap, ◌
 use Rattle.c_meaning_spec.specs.Call as call
 use Rattle.c_tree.specs.declared.Kind.TheVariants.{Char}
 use Rattle.c_tree.specs.declared.TypedArray.{TypedArray}
-use Rattle.flat_lower.specs.Emitted.{starts_from}
+use Rattle.flat_lower.specs.inside.Emitted.{starts_from}
 use Rattle.flat_lower.proofs.EmitArguments.{drop_all}
 use Rattle.flat_lower.proofs.EmitImages.{item_at, start_more}
 use Rattle.flat_lower.proofs.functions.starts_of.Goals as goal

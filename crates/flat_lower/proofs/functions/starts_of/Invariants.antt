@@ -1,6 +1,6 @@
 use Rattle.std.proofs.Common.{◌≡◌, ◌++◌, drop, map}
 use Rattle.c_meaning_spec.specs.Call as call
-use Rattle.flat_lower.specs.Emitted.{starts_from}
+use Rattle.flat_lower.specs.inside.Emitted.{starts_from}
 use Rattle.flat_lower.proofs.functions.starts_of.Given as goal
 
 abbrev pub invariant-loop-array : goal.invariant-loop-array

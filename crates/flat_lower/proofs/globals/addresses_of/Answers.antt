@@ -1,6 +1,6 @@
 use Rattle.std.proofs.Common.{◌+◌, ◌++◌, drop, map, sym, ap, ◌∙◌, append-nil, arith}
-use Rattle.flat_lower.specs.Objects as objects
-use Rattle.flat_lower.specs.Emitted.{starts_from}
+use Rattle.flat_lower.specs.inside.Objects as objects
+use Rattle.flat_lower.specs.inside.Emitted.{starts_from}
 use Rattle.flat_lower.proofs.EmitArguments.{drop_all}
 use Rattle.flat_lower.proofs.EmitImages.{item_of, start_more}
 use Rattle.flat_lower.proofs.globals.addresses_of.Goals as goal

@@ -1,6 +1,6 @@
 use Rattle.std.proofs.Common.{◌≡◌, ◌++◌, drop, map}
-use Rattle.flat_lower.specs.Objects as objects
-use Rattle.flat_lower.specs.Emitted.{starts_from}
+use Rattle.flat_lower.specs.inside.Objects as objects
+use Rattle.flat_lower.specs.inside.Emitted.{starts_from}
 use Rattle.flat_lower.proofs.globals.addresses_of.Given as goal
 
 abbrev pub invariant-loop-global : goal.invariant-loop-global

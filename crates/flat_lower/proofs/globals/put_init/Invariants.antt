@@ -1,5 +1,5 @@
 use Rattle.std.proofs.Common.{◌≡◌, ◌++◌, drop}
-use Rattle.flat_lower.specs.Statements.{init_bytes}
+use Rattle.flat_lower.specs.inside.Statements.{init_bytes}
 use Rattle.flat_lower.proofs.globals.put_init.Given as goal
 
 abbrev pub invariant-loop-w : goal.invariant-loop-w

@@ -1,7 +1,7 @@
 use Rattle.std.proofs.Common.{ℕ, List, map, ap, ◌∙◌}
-use Rattle.ir_forms.specs.FlatCode.{Function, Program}
-use Rattle.flat_lower.specs.TreeViews.{func_of}
-use Rattle.flat_lower.specs.Statements.{lowered, lowered_from, globals_image}
+use Rattle.ir_forms.specs.inside.FlatCode.{Function, Program}
+use Rattle.flat_lower.specs.inside.TreeViews.{func_of}
+use Rattle.flat_lower.specs.inside.Statements.{lowered, lowered_from, globals_image}
 use Rattle.flat_lower.proofs.lowering.flat_of.Goals as goal
 
 pub returns : goal.returns

@@ -1,4 +1,4 @@
-use Rattle.ir_forms.specs.FlatViews.{program_of}
+use Rattle.ir_forms.specs.inside.FlatViews.{program_of}
 use Rattle.flat_lower.proofs.LoweredMeaning.{meant}
 use Rattle.flat_lower.proofs.lowering.lower.Goals as goal
 

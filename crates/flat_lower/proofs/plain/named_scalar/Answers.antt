@@ -1,5 +1,5 @@
 use Rattle.std.proofs.Common.{ap, arith}
-use Rattle.flat_lower.specs.Statements.{named_scalar}
+use Rattle.flat_lower.specs.inside.Statements.{named_scalar}
 use Rattle.flat_lower.proofs.EmitTrees.{expr-Name}
 use Rattle.flat_lower.proofs.EmitPlain.{unnamed}
 use Rattle.flat_lower.proofs.plain.named_scalar.Goals as goal

@@ -1,5 +1,5 @@
 use Rattle.std.proofs.Common.{ap, arith}
-use Rattle.flat_lower.specs.Statements.{plain_code}
+use Rattle.flat_lower.specs.inside.Statements.{plain_code}
 use Rattle.flat_lower.proofs.EmitTrees.{expr-Assign}
 use Rattle.flat_lower.proofs.EmitPlain.{unassigned}
 use Rattle.flat_lower.proofs.plain.put_plain_value.Goals as goal

@@ -1,5 +1,5 @@
 use Rattle.std.proofs.Common.{ap, arith}
-use Rattle.flat_lower.specs.Statements.{simple_arg}
+use Rattle.flat_lower.specs.inside.Statements.{simple_arg}
 use Rattle.flat_lower.proofs.EmitTrees.{expr-Number, expr-Name}
 use Rattle.flat_lower.proofs.EmitPlain.{complex}
 use Rattle.flat_lower.proofs.plain.simple_arg.Goals as goal

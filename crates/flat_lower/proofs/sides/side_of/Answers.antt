@@ -1,5 +1,5 @@
 use Rattle.std.proofs.Common.{sym, ap}
-use Rattle.flat_lower.specs.Emitted.{side_in}
+use Rattle.flat_lower.specs.inside.Emitted.{side_in}
 use Rattle.flat_lower.proofs.EmitTrees.{expr-Name}
 use Rattle.flat_lower.proofs.EmitSides.{neither, side_element}
 use Rattle.flat_lower.proofs.sides.side_of.Goals as goal

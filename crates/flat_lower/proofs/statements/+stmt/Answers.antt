@@ -1,12 +1,12 @@
-use Rattle.flat_lower.specs.Emitted.{Adds, block_of}
-use Rattle.flat_lower.specs.Switches.{section_code}
+use Rattle.flat_lower.specs.inside.Emitted.{Adds, block_of}
+use Rattle.flat_lower.specs.inside.Switches.{section_code}
 use Rattle.std.proofs.Common.{◌≡◌, ◌+◌, suc, ◌∷◌, drop, sym, ap, ◌∙◌, subst, arith}
 use Rattle.std.proofs.Math.Seq.{drop-cons}
 use Rattle.c_tree.specs.declared.TypedStmt.{TypedStmt}
 use Rattle.c_tree.specs.declared.TypedSection.{TypedSection}
-use Rattle.flat_lower.specs.TreeViews.{stmt_of}
-use Rattle.flat_lower.specs.Statements.{stmt_code, stmts_code, first_code}
-use Rattle.flat_lower.specs.Emitted.{first_of, other_of}
+use Rattle.flat_lower.specs.inside.TreeViews.{stmt_of}
+use Rattle.flat_lower.specs.inside.Statements.{stmt_code, stmts_code, first_code}
+use Rattle.flat_lower.specs.inside.Emitted.{first_of, other_of}
 use Rattle.flat_lower.proofs.Emits.{two, turned, nothing, then_nop}
 use Rattle.flat_lower.proofs.EmitStatements.{stmt-Declare, stmt-Plain, stmt-Compound, stmt-If}
 use Rattle.flat_lower.proofs.EmitStatements.{stmt-While, stmt-Do, stmt-For, stmt-Break}

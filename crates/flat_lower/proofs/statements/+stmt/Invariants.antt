@@ -1,5 +1,5 @@
 use Rattle.std.proofs.Common.{◌+◌, ◌*◌, drop}
-use Rattle.flat_lower.specs.Emitted.{first_of, other_of}
+use Rattle.flat_lower.specs.inside.Emitted.{first_of, other_of}
 use Rattle.flat_lower.proofs.EmitCounts.{StmtsSoFar, stmts_in_all, stmts_in_first, count_stmt}
 use Rattle.flat_lower.proofs.EmitCounts.{count_block, count_sections, SectionsSoFar}
 use Rattle.flat_lower.proofs.statements.+stmt.Given as goal

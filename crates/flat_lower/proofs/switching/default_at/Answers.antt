@@ -1,6 +1,6 @@
 use Rattle.std.proofs.Common.{refl, sym, ap}
-use Rattle.flat_lower.specs.Switches.{default_at}
-use Rattle.flat_lower.specs.Emitted.{sections_in}
+use Rattle.flat_lower.specs.inside.Switches.{default_at}
+use Rattle.flat_lower.specs.inside.Emitted.{sections_in}
 use Rattle.flat_lower.proofs.EmitLabels.{counted}
 use Rattle.flat_lower.proofs.switching.default_at.Goals as goal
 

@@ -1,6 +1,6 @@
 use Rattle.std.proofs.Common.{◌≡◌, drop}
-use Rattle.flat_lower.specs.Switches.{default_at, section_count}
-use Rattle.flat_lower.specs.Emitted.{sections_in}
+use Rattle.flat_lower.specs.inside.Switches.{default_at, section_count}
+use Rattle.flat_lower.specs.inside.Emitted.{sections_in}
 use Rattle.flat_lower.proofs.switching.default_at.Given as goal
 
 abbrev pub invariant-loop-section : goal.invariant-loop-section

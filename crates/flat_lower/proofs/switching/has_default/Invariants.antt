@@ -1,5 +1,5 @@
 use Rattle.std.proofs.Common.{◌≡◌, drop}
-use Rattle.flat_lower.specs.Switches.{has_default}
+use Rattle.flat_lower.specs.inside.Switches.{has_default}
 use Rattle.flat_lower.proofs.switching.has_default.Given as goal
 
 abbrev pub invariant-loop-label : goal.invariant-loop-label

@@ -1,5 +1,5 @@
-use Rattle.flat_lower.specs.Emitted.{Adds}
-use Rattle.flat_lower.specs.Switches.{labels_code}
+use Rattle.flat_lower.specs.inside.Emitted.{Adds}
+use Rattle.flat_lower.specs.inside.Switches.{labels_code}
 use Rattle.std.proofs.Common.{◌≡◌, ◌+◌, suc, ◌∷◌, drop, sym, ap, ◌∙◌, subst, arith}
 use Rattle.std.proofs.Math.Seq.{drop-cons}
 use Rattle.c_tree.specs.declared.TypedSection.{TypedSection}

@@ -1,7 +1,7 @@
 use Rattle.commit_flush_spec.specs.Causes.{NoFrame, NotNow}
 use Rattle.commit_flush_spec.specs.Ends.{can_seal}
-use Rattle.frame_state.specs.Held.{running}
-use Rattle.frame_state.specs.Phases.{frame_in}
+use Rattle.frame_state.specs.inside.Held.{running}
+use Rattle.frame_state.specs.inside.Phases.{frame_in}
 use Rattle.frame_state.proofs.PhaseFacts.{asked}
 use Rattle.frame_state.proofs.answers.can_seal.Goals as goal
 

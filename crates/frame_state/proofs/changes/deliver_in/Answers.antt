@@ -1,7 +1,7 @@
 use Rattle.std.proofs.Common.{ap, sym, ◌∙◌}
 use Rattle.commit_flush_spec.specs.Dataflow.{deliver}
-use Rattle.frame_state.specs.Phases.{changed, frame_in}
-use Rattle.frame_state.specs.Told.{finds_room}
+use Rattle.frame_state.specs.inside.Phases.{changed, frame_in}
+use Rattle.frame_state.specs.inside.Told.{finds_room}
 use Rattle.frame_state.proofs.PhaseFacts.{going}
 use Rattle.frame_state.proofs.TryFacts.{going_is}
 use Rattle.frame_state.proofs.changes.deliver_in.Goals as goal

@@ -1,6 +1,6 @@
 use Rattle.std.proofs.Common.{ap, sym, ◌∙◌}
 use Rattle.commit_flush_spec.specs.Dataflow.{fire}
-use Rattle.frame_state.specs.Phases.{changed, frame_in}
+use Rattle.frame_state.specs.inside.Phases.{changed, frame_in}
 use Rattle.frame_state.proofs.PhaseFacts.{going}
 use Rattle.frame_state.proofs.changes.fire_in.Goals as goal
 

@@ -1,7 +1,7 @@
 use Rattle.std.proofs.Common.{ap, ◌∙◌, arith, length}
 use Rattle.block_cases.specs.Orders.{slot_of}
 use Rattle.base.proofs.FlagFacts.{length_unset}
-use Rattle.frame_state.specs.Wants.{wants}
+use Rattle.frame_state.specs.inside.Wants.{wants}
 use Rattle.frame_state.proofs.WantFacts.{wanted_more}
 use Rattle.frame_state.proofs.shape.wanting.Goals as goal
 

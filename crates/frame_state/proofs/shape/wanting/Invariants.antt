@@ -1,6 +1,6 @@
 use Rattle.std.proofs.Common.{◌≡◌, ◌<◌, ℕ, false, get_or, length}
 use Rattle.block_cases.specs.Orders.{slot_of}
-use Rattle.frame_state.specs.Wants.{wants}
+use Rattle.frame_state.specs.inside.Wants.{wants}
 use Rattle.frame_state.proofs.shape.wanting.Given as goal
 
 abbrev pub invariant-loop-slot : goal.invariant-loop-slot

@@ -1,6 +1,6 @@
 use Rattle.std.proofs.Common.{ap, sym, ◌∙◌}
 use Rattle.commit_flush_spec.specs.Frames.{at, is_target}
-use Rattle.frame_state.specs.Held.{Held, running}
+use Rattle.frame_state.specs.inside.Held.{Held, running}
 use Rattle.frame_state.proofs.TryFacts.{goes_free}
 use Rattle.frame_state.proofs.trying.deliver_running.Goals as goal
 

@@ -1,6 +1,6 @@
 use Rattle.std.proofs.Common.{◌≡◌, cond, true, false, Some, None, option_copied, slice_index_or, sym, ap, ◌∙◌}
 use Rattle.block_cases.specs.Orders.{slot_of}
-use Rattle.frame_state.specs.Held.{Held}
+use Rattle.frame_state.specs.inside.Held.{Held}
 use Rattle.frame_state.proofs.TryFacts.{answers_fired}
 use Rattle.frame_state.proofs.trying.fire_running.Goals as goal
 

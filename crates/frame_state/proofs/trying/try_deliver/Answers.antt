@@ -1,9 +1,9 @@
 use Rattle.std.proofs.Common.{◌≡◌, Some, slice_get, ap, sym, ◌∙◌}
 use Rattle.commit_flush_spec.specs.Causes.{NoToken, NotNow}
 use Rattle.commit_flush_spec.specs.Dataflow.{can_deliver, deliver}
-use Rattle.frame_state.specs.Held.{running}
-use Rattle.frame_state.specs.Phases.{changed, frame_in}
-use Rattle.frame_state.specs.Tried.{arrived, tried}
+use Rattle.frame_state.specs.inside.Held.{running}
+use Rattle.frame_state.specs.inside.Phases.{changed, frame_in}
+use Rattle.frame_state.specs.inside.Tried.{arrived, tried}
 use Rattle.frame_state.proofs.PhaseFacts.{asked, going}
 use Rattle.frame_state.proofs.TryFacts.{going_is}
 use Rattle.frame_state.proofs.trying.try_deliver.Goals as goal

@@ -1,10 +1,10 @@
 use Rattle.std.proofs.Common.{◌≡◌, Some, slice_get, ap, sym, ◌∙◌}
 use Rattle.commit_flush_spec.specs.Causes.{NoFrame, NotNow}
 use Rattle.commit_flush_spec.specs.Dataflow.{can_fire, fire}
-use Rattle.frame_state.specs.Held.{running}
+use Rattle.frame_state.specs.inside.Held.{running}
 use Rattle.frame_state.specs.Events.{as_happened}
-use Rattle.frame_state.specs.Phases.{changed, frame_in}
-use Rattle.frame_state.specs.Tried.{tried}
+use Rattle.frame_state.specs.inside.Phases.{changed, frame_in}
+use Rattle.frame_state.specs.inside.Tried.{tried}
 use Rattle.frame_state.proofs.PhaseFacts.{asked, going}
 use Rattle.frame_state.proofs.TryFacts.{going_is}
 use Rattle.frame_state.proofs.trying.try_fire.Goals as goal

@@ -2,14 +2,14 @@ use Rattle.std.proofs.Common.{◌≡◌, ℕ, List, Some, slice_get, ap, ◌∙�
 use Rattle.trips_isa.specs.declared.block.Block.{Block}
 use Rattle.commit_flush_spec.specs.Frames.{Frame}
 use Rattle.commit_flush_spec.specs.Older.{Older, committed}
-use Rattle.commit_flush_spec.specs.Invariant.{AllGood}
-use Rattle.commit_flush_spec.specs.Laws.{WindowOk}
+use Rattle.commit_flush_spec.specs.inside.Invariant.{AllGood}
+use Rattle.commit_flush_spec.specs.inside.Laws.{WindowOk}
 use Rattle.commit_flush_spec.proofs.Frames.{seen, seen_agrees}
 use Rattle.grid_cycle_spec.specs.Grid.{Grid}
-use Rattle.grid_bound.specs.Lane.{Stage, Running}
-use Rattle.grid_bound.specs.Blocks.{course_of}
-use Rattle.grid_bound.specs.Seen.{front_of}
-use Rattle.grid_bound.specs.Parts.{Tells, StageBehind, Goes, Flushed}
+use Rattle.grid_bound.specs.inside.Lane.{Stage, Running}
+use Rattle.grid_bound.specs.inside.Blocks.{course_of}
+use Rattle.grid_bound.specs.inside.Seen.{front_of}
+use Rattle.grid_bound.specs.inside.Parts.{Tells, StageBehind, Goes, Flushed}
 use Rattle.grid_bound.proofs.OldestEnds.{oldest_ok}
 use Rattle.grid_bound.proofs.FrameTable.{told, table_solves}
 use Rattle.grid_bound.proofs.DataTileAnswers.{StageAt, Held, Emptied}

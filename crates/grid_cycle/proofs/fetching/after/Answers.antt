@@ -1,6 +1,6 @@
 use Rattle.std.proofs.Common.{Some, ap, ◌∙◌, arith}
 use Rattle.commit_flush_spec.specs.Older.{after_all, committed}
-use Rattle.grid_parts.specs.Asked.{found_in}
+use Rattle.grid_parts.specs.inside.Asked.{found_in}
 use Rattle.grid_parts.proofs.FetchFacts.{HasYoungest, has_youngest, none_flies, block_is}
 use Rattle.grid_cycle.proofs.FetchFacts.{after_none, after_youngest}
 use Rattle.grid_cycle.proofs.fetching.after.Goals as goal

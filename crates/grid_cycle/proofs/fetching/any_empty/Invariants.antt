@@ -1,5 +1,5 @@
 use Rattle.std.proofs.Common.{◌≡◌, ℕ, ◌<◌, true}
-use Rattle.grid_cycle.specs.Follows.{is_taken}
+use Rattle.grid_cycle.specs.inside.Follows.{is_taken}
 use Rattle.grid_cycle.proofs.fetching.any_empty.Given as goal
 
 abbrev pub invariant-loop-frame : goal.invariant-loop-frame

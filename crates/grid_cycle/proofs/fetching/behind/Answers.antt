@@ -1,8 +1,8 @@
 use Rattle.std.proofs.Common.{sym, ap, ◌∙◌}
 use Rattle.commit_flush_spec.specs.Older.{committed, successor_of}
-use Rattle.grid_parts.specs.Asked.{found_in, number_of}
+use Rattle.grid_parts.specs.inside.Asked.{found_in, number_of}
 use Rattle.grid_parts.proofs.FetchFacts.{HasNumber, exit_is, known_youngest, no_exit}
-use Rattle.grid_cycle.specs.Follows.{behind, guess}
+use Rattle.grid_cycle.specs.inside.Follows.{behind, guess}
 use Rattle.grid_cycle.proofs.fetching.behind.Goals as goal
 
 pub returns-in-Some : goal.returns-in-Some

@@ -4,7 +4,7 @@ use Rattle.commit_flush_spec.specs.Window.{Fetch, can}
 use Rattle.grid_cycle_spec.specs.Acting.{is_done, may}
 use Rattle.grid_parts.proofs.FetchFacts.{has_room}
 use Rattle.grid_parts.specs.Seen.{seen}
-use Rattle.grid_cycle.specs.Follows.{behind_fetched}
+use Rattle.grid_cycle.specs.inside.Follows.{behind_fetched}
 use Rattle.grid_cycle.proofs.DueFacts.{its_block, next_filled, next_given_up}
 use Rattle.grid_cycle.proofs.fetching.behind_due.Goals as goal
 

@@ -1,6 +1,6 @@
 use Rattle.std.proofs.Common.{sym, ap, ◌∙◌}
 use Rattle.block_predict.specs.Predicts.{predicted}
-use Rattle.grid_cycle.specs.Follows.{guess}
+use Rattle.grid_cycle.specs.inside.Follows.{guess}
 use Rattle.grid_cycle.proofs.fetching.guess.Goals as goal
 
 pub returns-in-Some : goal.returns-in-Some

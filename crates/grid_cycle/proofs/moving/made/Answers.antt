@@ -1,6 +1,6 @@
 use Rattle.std.proofs.Common.{sym, subst, arith}
 use Rattle.trips_isa.specs.Machine.{start}
-use Rattle.grid_machine.specs.WholeRuns.{IsKept}
+use Rattle.grid_machine.specs.inside.WholeRuns.{IsKept}
 use Rattle.grid_cycle.specs.Engines.{blocks_of, grid_of}
 use Rattle.grid_cycle.proofs.EngineFacts.{begins}
 use Rattle.grid_cycle.proofs.moving.made.Goals as goal

@@ -1,7 +1,7 @@
 use Rattle.std.proofs.Common.{◌<◌, ◌≤◌, length, sym, ◌∙◌, subst}
 use Rattle.std.specs.Prelude.{All}
-use Rattle.operand_net.specs.Places.{Once}
-use Rattle.commit_flush_spec.specs.Laws.{AreNumbers}
+use Rattle.operand_net.specs.inside.Places.{Once}
+use Rattle.commit_flush_spec.specs.inside.Laws.{AreNumbers}
 use Rattle.commit_flush.specs.Places.{numbers_of}
 use Rattle.commit_flush.proofs.CountFacts.{at_most_eight}
 use Rattle.grid_machine.proofs.NumberFacts.{all_below, each_once}

@@ -1,6 +1,6 @@
 use Rattle.std.proofs.Common.{slice_get}
 use Rattle.commit_flush_spec.specs.Frames.{Frame}
-use Rattle.grid_parts.specs.Asked.{register_in}
+use Rattle.grid_parts.specs.inside.Asked.{register_in}
 use Rattle.grid_machine.proofs.ToldFacts.{found_none, found_some}
 use Rattle.grid_machine.proofs.asking.register_of.Goals as goal
 

@@ -1,7 +1,7 @@
 use Rattle.std.proofs.Common.{sym, ap, ◌∙◌, arith}
 use Rattle.operand_net.specs.Places.{at}
 use Rattle.grid_cycle_spec.specs.Grid.{numbers_of}
-use Rattle.grid_cycle_spec.specs.Arrivals.{arrivals}
+use Rattle.grid_cycle_spec.specs.inside.Arrivals.{arrivals}
 use Rattle.grid_cycle_spec.specs.Cycles.{counted}
 use Rattle.grid_parts.specs.Seen.{seen}
 use Rattle.grid_machine.proofs.Eagerness.{ticked_named}

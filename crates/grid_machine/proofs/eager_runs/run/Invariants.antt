@@ -1,7 +1,7 @@
 use Rattle.std.proofs.Common.{◌≡◌, ◌≤◌, ◌+◌, ◌-◌}
-use Rattle.grid_cycle_spec.specs.Cycles.{AfterCycles}
+use Rattle.grid_cycle_spec.specs.inside.Cycles.{AfterCycles}
 use Rattle.grid_parts.specs.Seen.{seen}
-use Rattle.grid_machine.specs.Counted.{IsCounted}
+use Rattle.grid_machine.specs.inside.Counted.{IsCounted}
 use Rattle.grid_machine.proofs.eager_runs.run.Given as goal
 
 abbrev pub invariant-loop-made : goal.invariant-loop-made

@@ -1,5 +1,5 @@
 use Rattle.std.proofs.Common.{ap, ◌∙◌}
-use Rattle.frame_state.specs.Events.{is_done}
+use Rattle.frame_state.specs.inside.Events.{is_done}
 use Rattle.grid_machine.proofs.FiringFacts.{same_done}
 use Rattle.grid_machine.proofs.events.may.Goals as goal
 

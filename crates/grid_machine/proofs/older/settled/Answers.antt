@@ -1,5 +1,5 @@
 use Rattle.std.proofs.Common.{true, false, refl, ap, ◌∙◌, arith}
-use Rattle.grid_machine.specs.Named.{is_named}
+use Rattle.grid_machine.specs.inside.Named.{is_named}
 use Rattle.grid_machine.proofs.OlderFacts.{settles_nowhere, walk_here, walk_on, walk_stops}
 use Rattle.grid_machine.proofs.older.settled.Goals as goal
 

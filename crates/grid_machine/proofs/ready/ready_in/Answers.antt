@@ -1,6 +1,6 @@
 use Rattle.std.proofs.Common.{◌∙◌}
-use Rattle.frame_state.specs.Held.{running}
-use Rattle.frame_state.specs.Shapes.{is_ready}
+use Rattle.frame_state.specs.inside.Held.{running}
+use Rattle.frame_state.specs.inside.Shapes.{is_ready}
 use Rattle.grid_machine.proofs.FiringFacts.{both_ready}
 use Rattle.grid_machine.proofs.ready.ready_in.Goals as goal
 

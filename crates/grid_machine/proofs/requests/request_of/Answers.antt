@@ -1,8 +1,8 @@
 use Rattle.std.proofs.Common.{false, ap, ◌∙◌}
 use Rattle.commit_flush_spec.specs.Frames.{Frame}
 use Rattle.commit_flush_spec.specs.Memory.{request}
-use Rattle.frame_state.specs.Held.{as_frame}
-use Rattle.grid_parts.specs.Asked.{request_at}
+use Rattle.frame_state.specs.inside.Held.{as_frame}
+use Rattle.grid_parts.specs.inside.Asked.{request_at}
 use Rattle.grid_machine.proofs.BlockFacts.{lent_runs}
 use Rattle.grid_machine.proofs.RequestFacts.{slot_within}
 use Rattle.grid_machine.proofs.ToldFacts.{found_none, found_some}

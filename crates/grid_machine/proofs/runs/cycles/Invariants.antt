@@ -1,6 +1,6 @@
 use Rattle.std.proofs.Common.{◌≡◌, ◌≤◌, ◌+◌, ◌-◌}
 use Rattle.grid_parts.specs.Seen.{seen}
-use Rattle.grid_machine.specs.Counted.{IsCounted}
+use Rattle.grid_machine.specs.inside.Counted.{IsCounted}
 use Rattle.grid_machine.specs.WholeRuns.{GoesFor}
 use Rattle.grid_machine.proofs.runs.cycles.Given as goal
 

@@ -1,6 +1,6 @@
 use Rattle.std.proofs.Common.{◌≡◌, suc, ◌+◌, sym, subst, arith, take}
-use Rattle.frame_state.specs.Shapes.{IsShape}
-use Rattle.grid_machine.specs.Shaped.{AreShapes}
+use Rattle.frame_state.specs.inside.Shapes.{IsShape}
+use Rattle.grid_machine.specs.inside.Shaped.{AreShapes}
 use Rattle.grid_machine.proofs.ShapeFacts.{all_shapes, more_shapes}
 use Rattle.grid_machine.proofs.shapes.all.Goals as goal
 

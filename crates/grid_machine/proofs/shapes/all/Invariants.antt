@@ -1,5 +1,5 @@
 use Rattle.std.proofs.Common.{take}
-use Rattle.grid_machine.specs.Shaped.{AreShapes}
+use Rattle.grid_machine.specs.inside.Shaped.{AreShapes}
 use Rattle.grid_machine.proofs.shapes.all.Given as goal
 
 abbrev pub invariant-loop-number : goal.invariant-loop-number

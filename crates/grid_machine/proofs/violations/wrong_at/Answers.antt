@@ -2,8 +2,8 @@ use Rattle.std.proofs.Common.{ap, sym, ◌∙◌, refl}
 use Rattle.std.proofs.lemmas.Option.{none-some}
 use Rattle.commit_flush_spec.specs.Frames.{at, numbers}
 use Rattle.commit_flush_spec.specs.Older.{passes}
-use Rattle.frame_state.specs.Held.{as_frame}
-use Rattle.lsq_order.specs.Reached.{reached}
+use Rattle.frame_state.specs.inside.Held.{as_frame}
+use Rattle.lsq_order.specs.inside.Reached.{reached}
 use Rattle.grid_machine.proofs.WrongFacts.{finds_in, none_found, told_here, told_left}
 use Rattle.grid_machine.proofs.violations.wrong_at.Goals as goal
 

@@ -2,8 +2,8 @@ use Rattle.std.proofs.Common.{◌≡◌, ◌+◌, ap, sym, ◌∙◌, suc, arith
 use Rattle.std.proofs.lemmas.Option.{none-some, slice_get_within}
 use Rattle.commit_flush_spec.specs.Frames.{Frame, at, numbers}
 use Rattle.commit_flush_spec.specs.Older.{nearest}
-use Rattle.frame_state.specs.Held.{as_frame}
-use Rattle.lsq_order.specs.Reached.{FitsReach, reached}
+use Rattle.frame_state.specs.inside.Held.{as_frame}
+use Rattle.lsq_order.specs.inside.Reached.{FitsReach, reached}
 use Rattle.grid_cycle_spec.specs.DataTiles.{stored_by}
 use Rattle.grid_machine.proofs.BlockFacts.{sized_at}
 use Rattle.grid_machine.proofs.OlderFacts.{lent_at}

@@ -1,5 +1,5 @@
 use Rattle.std.proofs.Common.{refl, arith}
-use Rattle.lsq_order.specs.Reached.{reached}
+use Rattle.lsq_order.specs.inside.Reached.{reached}
 use Rattle.grid_machine.proofs.OlderFacts.{frame_there}
 use Rattle.grid_machine.proofs.WrongFacts.{behind_here, behind_later, behind_nowhere}
 use Rattle.grid_machine.proofs.violations.wrong_on.Goals as goal

@@ -1,5 +1,5 @@
 use Rattle.std.proofs.Common.{◌≡◌, drop}
-use Rattle.lsq_order.specs.Reached.{reached}
+use Rattle.lsq_order.specs.inside.Reached.{reached}
 use Rattle.grid_cycle_spec.specs.DataTiles.{wrong_behind}
 use Rattle.grid_machine.proofs.violations.wrong_on.Given as goal
 

@@ -1,7 +1,8 @@
 use Rattle.std.proofs.Common.{◌+◌, drop, get_or, sym, ap, ap₂, ◌∙◌, arith}
 use Rattle.std.proofs.lemmas.List.{at_drop_more, at_drop_all}
-use Rattle.grid_cycle_spec.specs.Choosing.{each, places}
-use Rattle.grid_cycle_spec.specs.Arrivals.{arrival, arrivals}
+use Rattle.grid_cycle_spec.specs.Choosing.{each}
+use Rattle.grid_cycle_spec.specs.inside.Choosing.{places}
+use Rattle.grid_cycle_spec.specs.inside.Arrivals.{arrival, arrivals}
 use Rattle.grid_parts.specs.Seen.{seen}
 use Rattle.grid_parts.proofs.arriving.arrivals.Goals as goal
 

@@ -1,5 +1,5 @@
 use Rattle.std.proofs.Common.{◌≡◌, ◌≤◌, ◌+◌, ◌*◌, drop}
-use Rattle.grid_cycle_spec.specs.Arrivals.{arrivals}
+use Rattle.grid_cycle_spec.specs.inside.Arrivals.{arrivals}
 use Rattle.grid_parts.specs.Seen.{seen}
 use Rattle.grid_parts.proofs.arriving.arrivals.Given as goal
 

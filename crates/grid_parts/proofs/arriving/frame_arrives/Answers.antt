@@ -1,6 +1,7 @@
 use Rattle.std.proofs.Common.{sym, ap₂, ◌∙◌, arith}
-use Rattle.grid_cycle_spec.specs.Choosing.{each, places}
-use Rattle.grid_cycle_spec.specs.Arrivals.{arrival}
+use Rattle.grid_cycle_spec.specs.Choosing.{each}
+use Rattle.grid_cycle_spec.specs.inside.Choosing.{places}
+use Rattle.grid_cycle_spec.specs.inside.Arrivals.{arrival}
 use Rattle.grid_parts.specs.Seen.{seen}
 use Rattle.grid_parts.proofs.ArrivalFolds.{all_quiet}
 use Rattle.grid_parts.proofs.arriving.frame_arrives.Goals as goal

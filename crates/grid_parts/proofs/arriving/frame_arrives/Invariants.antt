@@ -1,9 +1,10 @@
 use Rattle.std.proofs.Common.{◌≡◌, ◌≤◌, ◌+◌, ◌-◌, ◌*◌}
 use Rattle.operand_net.specs.Places.{at}
-use Rattle.grid_cycle_spec.specs.Choosing.{each, places}
-use Rattle.grid_cycle_spec.specs.Arrivals.{arrival}
+use Rattle.grid_cycle_spec.specs.Choosing.{each}
+use Rattle.grid_cycle_spec.specs.inside.Choosing.{places}
+use Rattle.grid_cycle_spec.specs.inside.Arrivals.{arrival}
 use Rattle.grid_parts.specs.Seen.{seen}
-use Rattle.grid_parts.specs.EmptyPlaces.{AreQuiet}
+use Rattle.grid_parts.specs.inside.EmptyPlaces.{AreQuiet}
 use Rattle.grid_parts.proofs.arriving.frame_arrives.Given as goal
 
 abbrev pub invariant-loop-from : goal.invariant-loop-from

@@ -1,8 +1,8 @@
 use Rattle.std.proofs.Common.{◌/◌, cond, sym, ap, ◌∙◌}
 use Rattle.commit_flush_spec.specs.Frames.{at}
-use Rattle.grid_cycle_spec.specs.Arrivals.{asks, delivers, is_waiting}
+use Rattle.grid_cycle_spec.specs.inside.Arrivals.{asks, delivers, is_waiting}
 use Rattle.grid_parts.specs.Seen.{seen}
-use Rattle.grid_parts.specs.Asked.{found_in}
+use Rattle.grid_parts.specs.inside.Asked.{found_in}
 use Rattle.grid_parts.proofs.FrameFacts.{frame_number}
 use Rattle.grid_parts.proofs.arriving.load_arrives.Goals as goal
 

@@ -1,9 +1,10 @@
 use Rattle.std.proofs.Common.{◌+◌, sym, ap, ◌∙◌, subst, arith}
 use Rattle.operand_net.specs.Places.{at}
-use Rattle.grid_cycle_spec.specs.Choosing.{each, places, with_frame}
-use Rattle.grid_cycle_spec.specs.Arrivals.{arrival, place_arrives}
+use Rattle.grid_cycle_spec.specs.Choosing.{each, with_frame}
+use Rattle.grid_cycle_spec.specs.inside.Choosing.{places}
+use Rattle.grid_cycle_spec.specs.inside.Arrivals.{arrival, place_arrives}
 use Rattle.grid_parts.specs.Seen.{seen}
-use Rattle.grid_parts.specs.EmptyPlaces.{AreQuiet}
+use Rattle.grid_parts.specs.inside.EmptyPlaces.{AreQuiet}
 use Rattle.grid_parts.proofs.ArrivalFolds.{next_found, next_folds, next_none, next_quiet}
 use Rattle.grid_parts.proofs.arriving.next_arrives.Goals as goal
 

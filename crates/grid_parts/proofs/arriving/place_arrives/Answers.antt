@@ -2,7 +2,7 @@ use Rattle.std.proofs.Common.{◌≡◌, ◌/◌, Some, true, false, is_some, sy
 use Rattle.block_cases.specs.Orders.{slot_of}
 use Rattle.commit_flush_spec.specs.Frames.{Frame}
 use Rattle.grid_parts.specs.Seen.{seen}
-use Rattle.grid_parts.specs.Asked.{frame_of, found_in, block_of}
+use Rattle.grid_parts.specs.inside.Asked.{frame_of, found_in, block_of}
 use Rattle.grid_parts.proofs.UnitFacts.{some_frame, no_frame}
 use Rattle.grid_parts.proofs.PlaceFacts.{placed_nowhere, placed_read, placed_empty, placed_inst}
 use Rattle.grid_parts.proofs.arriving.place_arrives.Goals as goal

@@ -2,7 +2,7 @@ use Rattle.std.proofs.Common.{sym, ap, ◌∙◌, arith}
 use Rattle.trips_isa.specs.declared.run.Counts.{Counts}
 use Rattle.commit_flush_spec.specs.Window.{Exit}
 use Rattle.grid_cycle_spec.specs.Acting.{act}
-use Rattle.grid_cycle_spec.specs.Arrivals.{asks, delivers, slot_arrives}
+use Rattle.grid_cycle_spec.specs.inside.Arrivals.{asks, delivers, slot_arrives}
 use Rattle.grid_parts.specs.Seen.{seen}
 use Rattle.grid_parts.proofs.FrameFacts.{frame_number}
 use Rattle.grid_parts.proofs.arriving.slot_arrives.Goals as goal

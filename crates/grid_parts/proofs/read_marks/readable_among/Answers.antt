@@ -1,8 +1,8 @@
 use Rattle.std.proofs.Common.{ℕ, Option, sym, ap, subst, ◌∙◌, arith}
-use Rattle.commit_flush_spec.specs.Laws.{AreNumbers}
-use Rattle.grid_parts.specs.EldestChoices.{first_found}
+use Rattle.commit_flush_spec.specs.inside.Laws.{AreNumbers}
+use Rattle.grid_parts.specs.inside.EldestChoices.{first_found}
 use Rattle.grid_parts.proofs.ChoiceFacts.{passed, found, none_left}
-use Rattle.grid_parts.specs.Choices.{lowest_read}
+use Rattle.grid_parts.specs.inside.Choices.{lowest_read}
 use Rattle.grid_parts.proofs.AnswerFacts.{readable_is}
 use Rattle.grid_parts.proofs.read_marks.readable_among.Goals as goal
 

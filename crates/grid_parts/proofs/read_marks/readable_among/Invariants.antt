@@ -1,6 +1,6 @@
 use Rattle.std.proofs.Common.{◌≡◌, drop}
-use Rattle.grid_parts.specs.EldestChoices.{first_found}
-use Rattle.grid_parts.specs.Choices.{lowest_read}
+use Rattle.grid_parts.specs.inside.EldestChoices.{first_found}
+use Rattle.grid_parts.specs.inside.Choices.{lowest_read}
 use Rattle.grid_parts.proofs.read_marks.readable_among.Given as goal
 
 abbrev pub invariant-loop-i : goal.invariant-loop-i

@@ -1,6 +1,6 @@
 use Rattle.std.proofs.Common.{◌+◌, ◌<◌, ◌≤◌, sym, arith}
 use Rattle.grid_cycle_spec.specs.Choosing.{reads}
-use Rattle.grid_parts.specs.Choices.{may_read}
+use Rattle.grid_parts.specs.inside.Choices.{may_read}
 use Rattle.grid_parts.proofs.LeastFacts.{none_yet, one_within, passed_over, found_within, none_within, reads_are}
 use Rattle.grid_parts.proofs.MarkFacts.{not_marked}
 use Rattle.grid_parts.proofs.read_marks.readable_in.Goals as goal

@@ -1,6 +1,6 @@
 use Rattle.std.proofs.Common.{◌-◌}
 use Rattle.grid_cycle_spec.specs.Choosing.{reads}
-use Rattle.grid_parts.specs.Choices.{may_read}
+use Rattle.grid_parts.specs.inside.Choices.{may_read}
 use Rattle.grid_parts.proofs.LeastFacts.{NoneWithin}
 use Rattle.grid_parts.proofs.read_marks.readable_in.Given as goal
 

@@ -1,9 +1,9 @@
 use Rattle.std.proofs.Common.{ℕ, Option, sym, ap, subst, ◌∙◌, arith}
-use Rattle.commit_flush_spec.specs.Laws.{AreNumbers}
+use Rattle.commit_flush_spec.specs.inside.Laws.{AreNumbers}
 use Rattle.grid_parts.specs.Seen.{seen}
-use Rattle.grid_parts.specs.EldestChoices.{first_found}
+use Rattle.grid_parts.specs.inside.EldestChoices.{first_found}
 use Rattle.grid_parts.proofs.ChoiceFacts.{passed, found, none_left}
-use Rattle.grid_parts.specs.Choices.{lowest_request}
+use Rattle.grid_parts.specs.inside.Choices.{lowest_request}
 use Rattle.grid_parts.proofs.AnswerFacts.{answerable_is}
 use Rattle.grid_parts.proofs.requests_waiting.answerable.Goals as goal
 

@@ -1,7 +1,7 @@
 use Rattle.std.proofs.Common.{◌≡◌, drop}
 use Rattle.grid_parts.specs.Seen.{seen}
-use Rattle.grid_parts.specs.EldestChoices.{first_found}
-use Rattle.grid_parts.specs.Choices.{lowest_request}
+use Rattle.grid_parts.specs.inside.EldestChoices.{first_found}
+use Rattle.grid_parts.specs.inside.Choices.{lowest_request}
 use Rattle.grid_parts.proofs.requests_waiting.answerable.Given as goal
 
 abbrev pub invariant-loop-i : goal.invariant-loop-i

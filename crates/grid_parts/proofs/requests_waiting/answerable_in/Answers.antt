@@ -3,7 +3,7 @@ use Rattle.operand_net.specs.Marks.{has_bit}
 use Rattle.commit_flush_spec.specs.Frames.{numbers}
 use Rattle.grid_cycle_spec.specs.DataTiles.{answers_request}
 use Rattle.grid_parts.specs.Seen.{seen}
-use Rattle.grid_parts.specs.Asked.{frame_of, holds_of}
+use Rattle.grid_parts.specs.inside.Asked.{frame_of, holds_of}
 use Rattle.grid_parts.proofs.AnswerFacts.{lowest_in}
 use Rattle.grid_parts.proofs.LeastFacts.{none_yet, one_within, passed_over, found_within, none_within, numbers_are}
 use Rattle.grid_parts.proofs.MarkFacts.{unasked_within}

@@ -2,7 +2,7 @@ use Rattle.std.proofs.Common.{◌-◌}
 use Rattle.commit_flush_spec.specs.Frames.{numbers}
 use Rattle.grid_cycle_spec.specs.DataTiles.{answers_request}
 use Rattle.grid_parts.specs.Seen.{seen}
-use Rattle.grid_parts.specs.Asked.{frame_of, holds_of}
+use Rattle.grid_parts.specs.inside.Asked.{frame_of, holds_of}
 use Rattle.grid_parts.proofs.LeastFacts.{NoneWithin}
 use Rattle.grid_parts.proofs.requests_waiting.answerable_in.Given as goal
 

@@ -1,7 +1,7 @@
 use Rattle.std.proofs.Common.{refl, ◌∙◌}
 use Rattle.grid_cycle_spec.specs.DataTiles.{answers_request}
 use Rattle.grid_parts.specs.Seen.{seen}
-use Rattle.grid_parts.specs.Asked.{frame_of}
+use Rattle.grid_parts.specs.inside.Asked.{frame_of}
 use Rattle.grid_parts.proofs.AnswerFacts.{none_served, served_is}
 use Rattle.grid_parts.proofs.requests_waiting.answers.Goals as goal
 

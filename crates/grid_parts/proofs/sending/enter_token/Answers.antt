@@ -1,6 +1,6 @@
 use Rattle.std.proofs.Common.{◌≡◌, true, false, ◌∙◌}
 use Rattle.grid_parts.specs.Seen.{seen}
-use Rattle.grid_parts.specs.Asked.{has_token}
+use Rattle.grid_parts.specs.inside.Asked.{has_token}
 use Rattle.grid_parts.proofs.FrameFacts.{entered, not_entered}
 use Rattle.grid_parts.proofs.sending.enter_token.Goals as goal
 

@@ -1,8 +1,8 @@
 use Rattle.std.proofs.Common.{◌==◌, ◌&&◌, ap, ◌∙◌, arith}
 use Rattle.grid_cycle_spec.specs.Stations.{tile_of}
 use Rattle.grid_cycle_spec.specs.Choosing.{slots}
-use Rattle.grid_parts.specs.EldestChoices.{is_on}
-use Rattle.grid_parts.specs.Choices.{may_fire}
+use Rattle.grid_parts.specs.inside.EldestChoices.{is_on}
+use Rattle.grid_parts.specs.inside.Choices.{may_fire}
 use Rattle.grid_parts.proofs.LeastFacts.{slots_are, least_agrees}
 use Rattle.grid_parts.proofs.slots_ready.ready_in.Goals as goal
 

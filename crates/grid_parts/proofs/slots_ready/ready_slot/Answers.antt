@@ -1,7 +1,7 @@
 use Rattle.std.proofs.Common.{ℕ, Option, sym, ap, ◌∙◌, arith}
-use Rattle.grid_parts.specs.EldestChoices.{first_found}
+use Rattle.grid_parts.specs.inside.EldestChoices.{first_found}
 use Rattle.grid_parts.proofs.ChoiceFacts.{passed, found, none_left}
-use Rattle.grid_parts.specs.Choices.{lowest_ready}
+use Rattle.grid_parts.specs.inside.Choices.{lowest_ready}
 use Rattle.grid_parts.proofs.AnswerFacts.{ready_is}
 use Rattle.grid_parts.proofs.slots_ready.ready_slot.Goals as goal
 

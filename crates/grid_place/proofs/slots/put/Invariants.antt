@@ -1,6 +1,7 @@
 use Rattle.std.proofs.Common.{◌≡◌, ◌<◌, ℕ, None, get_or}
 use Rattle.std.specs.Prelude.{option_map}
-use Rattle.grid_place.specs.Moves.{goes, renamed_inst}
+use Rattle.grid_place.specs.Moves.{goes}
+use Rattle.grid_place.specs.inside.Moves.{renamed_inst}
 use Rattle.grid_place.proofs.slots.put.Given as goal
 
 abbrev pub invariant-loop-s : goal.invariant-loop-s

@@ -1,5 +1,5 @@
 use Rattle.std.proofs.Common.{◌∙◌}
-use Rattle.ir_forms.specs.FlatViews.{program_of}
+use Rattle.ir_forms.specs.inside.FlatViews.{program_of}
 use Rattle.hyper_build.proofs.FunctionsOut.{emitted_is_built}
 use Rattle.hyper_build.proofs.building.build.Goals as goal
 

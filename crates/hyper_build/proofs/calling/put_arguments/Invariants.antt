@@ -1,7 +1,7 @@
 use Rattle.std.proofs.Common.{◌≡◌, ◌≤◌, length, drop}
-use Rattle.hyper_build.specs.Passing.{argument_cuts, argument_moves}
-use Rattle.hyper_build.specs.Backward.{emission_of}
-use Rattle.hyper_build.specs.BackwardStatements.{moving}
+use Rattle.hyper_build.specs.inside.Passing.{argument_cuts, argument_moves}
+use Rattle.hyper_build.specs.inside.Backward.{emission_of}
+use Rattle.hyper_build.specs.inside.BackwardStatements.{moving}
 use Rattle.hyper_build.proofs.calling.put_arguments.Given as goal
 
 abbrev pub invariant-loop-at : goal.invariant-loop-at

@@ -1,7 +1,7 @@
 use Rattle.std.proofs.Common.{◌≡◌, ◌≤◌, length, drop}
-use Rattle.hyper_build.specs.Passing.{restoring}
-use Rattle.hyper_build.specs.Backward.{emission_of}
-use Rattle.hyper_build.specs.BackwardStatements.{chained}
+use Rattle.hyper_build.specs.inside.Passing.{restoring}
+use Rattle.hyper_build.specs.inside.Backward.{emission_of}
+use Rattle.hyper_build.specs.inside.BackwardStatements.{chained}
 use Rattle.hyper_build.proofs.calling.put_restores.Given as goal
 
 abbrev pub invariant-loop-at : goal.invariant-loop-at

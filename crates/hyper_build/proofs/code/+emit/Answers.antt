@@ -1,16 +1,16 @@
 use Rattle.std.proofs.Common.{◌≡◌, true, false, ◌&&◌, ap, ◌∙◌, arith, drop}
-use Rattle.ir_forms.specs.FlatCode.{Step}
-use Rattle.ir_forms.specs.FlatViews.{code_of, step_of}
+use Rattle.ir_forms.specs.inside.FlatCode.{Step}
+use Rattle.ir_forms.specs.inside.FlatViews.{code_of, step_of}
 use Rattle.ir_forms.proofs.Views.{step_let, step_frame, step_load, step_save, step_call, step_put}
 use Rattle.ir_forms.proofs.Views.{step_get, step_if, step_loop, step_break, step_continue}
 use Rattle.ir_forms.proofs.Views.{step_return}
-use Rattle.hyper_build.specs.Backward.{emission_of, last_note}
-use Rattle.hyper_build.specs.Laws.{cuts_by, joins_by}
-use Rattle.hyper_build.specs.BackwardItems.{is_if_item}
-use Rattle.hyper_build.specs.BackwardCode as code
+use Rattle.hyper_build.specs.inside.Backward.{emission_of, last_note}
+use Rattle.hyper_build.specs.inside.Laws.{cuts_by, joins_by}
+use Rattle.hyper_build.specs.inside.BackwardItems.{is_if_item}
+use Rattle.hyper_build.specs.inside.BackwardCode as code
 use Rattle.hyper_build.proofs.IfPasses.{emit_item, emit_test}
 use Rattle.hyper_build.proofs.LoopPasses.{emit_bare, emit_full}
-use Rattle.hyper_build.specs.BackwardCode.{is_bare_code, is_break_code, is_test_step}
+use Rattle.hyper_build.specs.inside.BackwardCode.{is_bare_code, is_break_code, is_test_step}
 use Rattle.hyper_build.proofs.TestPasses.{part_plain, part_tests, part_ifs}
 use Rattle.hyper_build.proofs.code.+emit.Goals as goal
 

@@ -1,7 +1,7 @@
 use Rattle.std.proofs.Common.{◌≡◌, ◌≤◌, length, drop}
-use Rattle.ir_forms.specs.FlatViews.{code_of}
-use Rattle.hyper_build.specs.Backward.{emission_of}
-use Rattle.hyper_build.specs.BackwardCode as code
+use Rattle.ir_forms.specs.inside.FlatViews.{code_of}
+use Rattle.hyper_build.specs.inside.Backward.{emission_of}
+use Rattle.hyper_build.specs.inside.BackwardCode as code
 use Rattle.hyper_build.proofs.code.+emit.Given as goal
 
 abbrev pub invariant-put_stmts-loop-at : goal.invariant-put_stmts-loop-at

@@ -1,6 +1,6 @@
 use Rattle.std.proofs.Common.{◌≡◌, ◌≤◌, length, drop}
-use Rattle.ir_forms.specs.FlatFits as flat
-use Rattle.ir_forms.specs.FlatViews.{code_of}
+use Rattle.ir_forms.specs.inside.FlatFits as flat
+use Rattle.ir_forms.specs.inside.FlatViews.{code_of}
 use Rattle.hyper_build.proofs.counting.+steps.Given as goal
 
 abbrev pub invariant-steps_of-loop-at : goal.invariant-steps_of-loop-at

@@ -1,6 +1,6 @@
 use Rattle.std.proofs.Common.{◌≡◌, ◌≤◌, length, drop}
-use Rattle.hyper_build.specs.Parts.{moved_size}
-use Rattle.hyper_build.specs.Passing.{argument_cuts, argument_moves}
+use Rattle.hyper_build.specs.inside.Parts.{moved_size}
+use Rattle.hyper_build.specs.inside.Passing.{argument_cuts, argument_moves}
 use Rattle.hyper_build.proofs.counting.arguments_size.Given as goal
 
 abbrev pub invariant-loop-at : goal.invariant-loop-at

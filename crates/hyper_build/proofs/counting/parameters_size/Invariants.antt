@@ -1,6 +1,6 @@
 use Rattle.std.proofs.Common.{◌≡◌, ◌≤◌, ◌-◌}
-use Rattle.hyper_build.specs.Parts.{moved_size}
-use Rattle.hyper_build.specs.Passing.{parameter_cuts, parameter_moves}
+use Rattle.hyper_build.specs.inside.Parts.{moved_size}
+use Rattle.hyper_build.specs.inside.Passing.{parameter_cuts, parameter_moves}
 use Rattle.hyper_build.proofs.counting.parameters_size.Given as goal
 
 abbrev pub invariant-loop-at : goal.invariant-loop-at

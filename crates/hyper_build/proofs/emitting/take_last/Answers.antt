@@ -1,5 +1,5 @@
 use Rattle.std.proofs.Common.{sym, ap, ◌∙◌}
-use Rattle.hyper_build.specs.Backward.{last_note, front_notes}
+use Rattle.hyper_build.specs.inside.Backward.{last_note, front_notes}
 use Rattle.hyper_build.proofs.LastNotes.{last_behind, front_before}
 use Rattle.hyper_build.proofs.emitting.take_last.Goals as goal
 

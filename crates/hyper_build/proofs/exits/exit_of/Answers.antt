@@ -2,8 +2,8 @@ use Rattle.std.proofs.Common.{◌≡◌, ℕ, true, false, List, [], ◌∷◌, 
 use Rattle.std.proofs.Common.{sym, ap, ◌∙◌}
 use Rattle.std.specs.Prelude.{◌==◌}
 use Rattle.ir_forms.specs.declared.flat.FlatStmt.{FlatStmt}
-use Rattle.ir_forms.specs.FlatViews.{code_of}
-use Rattle.hyper_build.specs.BackwardCode.{exit_of}
+use Rattle.ir_forms.specs.inside.FlatViews.{code_of}
+use Rattle.hyper_build.specs.inside.BackwardCode.{exit_of}
 use Rattle.hyper_build.proofs.exits.exit_of.Goals as goal
 
 -- two statements or more have blocks

@@ -1,10 +1,10 @@
 use Rattle.std.proofs.Common.{ap, ◌∙◌, arith}
-use Rattle.ir_forms.specs.FlatCode.{Step}
-use Rattle.ir_forms.specs.FlatViews.{step_of}
+use Rattle.ir_forms.specs.inside.FlatCode.{Step}
+use Rattle.ir_forms.specs.inside.FlatViews.{step_of}
 use Rattle.ir_forms.proofs.Views.{step_let, step_frame, step_load, step_save, step_call, step_put}
 use Rattle.ir_forms.proofs.Views.{step_get, step_if, step_loop, step_break, step_continue}
 use Rattle.ir_forms.proofs.Views.{step_return}
-use Rattle.hyper_build.specs.Tree.{leaves}
+use Rattle.hyper_build.specs.inside.Tree.{leaves}
 use Rattle.hyper_build.proofs.exits.leaves.Goals as goal
 
 pub returns-in-Let : goal.returns-in-Let

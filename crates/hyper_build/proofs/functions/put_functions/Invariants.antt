@@ -1,7 +1,7 @@
 use Rattle.std.proofs.Common.{◌≡◌, ◌≤◌, length, drop, map}
-use Rattle.ir_forms.specs.FlatViews.{function_of}
-use Rattle.hyper_build.specs.Backward.{emission_of}
-use Rattle.hyper_build.specs.BackwardProgram.{functions_out}
+use Rattle.ir_forms.specs.inside.FlatViews.{function_of}
+use Rattle.hyper_build.specs.inside.Backward.{emission_of}
+use Rattle.hyper_build.specs.inside.BackwardProgram.{functions_out}
 use Rattle.hyper_build.proofs.functions.put_functions.Given as goal
 
 abbrev pub invariant-loop-at : goal.invariant-loop-at

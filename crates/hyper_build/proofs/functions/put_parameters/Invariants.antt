@@ -1,7 +1,7 @@
 use Rattle.std.proofs.Common.{◌≡◌, ◌≤◌, ◌-◌}
-use Rattle.hyper_build.specs.Passing.{parameter_cuts, parameter_moves}
-use Rattle.hyper_build.specs.Backward.{emission_of}
-use Rattle.hyper_build.specs.BackwardStatements.{moving}
+use Rattle.hyper_build.specs.inside.Passing.{parameter_cuts, parameter_moves}
+use Rattle.hyper_build.specs.inside.Backward.{emission_of}
+use Rattle.hyper_build.specs.inside.BackwardStatements.{moving}
 use Rattle.hyper_build.proofs.functions.put_parameters.Given as goal
 
 abbrev pub invariant-loop-at : goal.invariant-loop-at

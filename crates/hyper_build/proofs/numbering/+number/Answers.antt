@@ -1,13 +1,13 @@
 use Rattle.std.proofs.Common.{◌≡◌, true, false, ◌&&◌, ap, ◌∙◌, arith}
-use Rattle.ir_forms.specs.FlatCode.{Step}
-use Rattle.ir_forms.specs.FlatViews.{code_of, step_of}
+use Rattle.ir_forms.specs.inside.FlatCode.{Step}
+use Rattle.ir_forms.specs.inside.FlatViews.{code_of, step_of}
 use Rattle.ir_forms.proofs.Views.{step_let, step_frame, step_load, step_save, step_call, step_put}
 use Rattle.ir_forms.proofs.Views.{step_get, step_if, step_loop, step_break, step_continue}
 use Rattle.ir_forms.proofs.Views.{step_return}
-use Rattle.hyper_build.specs.Ground.{plan}
-use Rattle.hyper_build.specs.BackwardItems.{is_if_item}
-use Rattle.hyper_build.specs.BackwardCode.{is_bare_code, is_break_code, is_test_step}
-use Rattle.hyper_build.specs.Forward.{number_in}
+use Rattle.hyper_build.specs.inside.Ground.{plan}
+use Rattle.hyper_build.specs.inside.BackwardItems.{is_if_item}
+use Rattle.hyper_build.specs.inside.BackwardCode.{is_bare_code, is_break_code, is_test_step}
+use Rattle.hyper_build.specs.inside.Forward.{number_in}
 use Rattle.hyper_build.proofs.IfPasses.{number_item, number_test}
 use Rattle.hyper_build.proofs.LoopPasses.{number_bare, number_full}
 use Rattle.hyper_build.proofs.TestPasses.{numbers_plain, numbers_test, numbers_ifs}

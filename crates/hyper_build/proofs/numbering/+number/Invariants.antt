@@ -1,7 +1,7 @@
 use Rattle.std.proofs.Common.{◌≡◌, ◌≤◌, ◌-◌, length, drop}
-use Rattle.ir_forms.specs.FlatViews.{code_of}
-use Rattle.hyper_build.specs.Ground.{plan}
-use Rattle.hyper_build.specs.Forward.{number, number_turn}
+use Rattle.ir_forms.specs.inside.FlatViews.{code_of}
+use Rattle.hyper_build.specs.inside.Ground.{plan}
+use Rattle.hyper_build.specs.inside.Forward.{number, number_turn}
 use Rattle.hyper_build.proofs.numbering.+number.Given as goal
 
 abbrev pub invariant-number_stmts-loop-at : goal.invariant-number_stmts-loop-at

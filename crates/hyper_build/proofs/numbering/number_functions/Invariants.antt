@@ -1,7 +1,7 @@
 use Rattle.std.proofs.Common.{◌≡◌, ◌++◌, drop, map}
-use Rattle.ir_forms.specs.FlatViews.{function_of}
-use Rattle.hyper_build.specs.Ground.{plan}
-use Rattle.hyper_build.specs.Forward.{number_all, entries_from}
+use Rattle.ir_forms.specs.inside.FlatViews.{function_of}
+use Rattle.hyper_build.specs.inside.Ground.{plan}
+use Rattle.hyper_build.specs.inside.Forward.{number_all, entries_from}
 use Rattle.hyper_build.proofs.numbering.number_functions.Given as goal
 
 abbrev pub invariant-loop-f : goal.invariant-loop-f

@@ -1,6 +1,6 @@
 use Rattle.std.proofs.Common.{◌≡◌, ◌≤◌, length, drop}
-use Rattle.hyper_build.specs.Passing as passing
-use Rattle.hyper_build.specs.Emitted.{rest_of}
+use Rattle.hyper_build.specs.inside.Passing as passing
+use Rattle.hyper_build.specs.inside.Emitted.{rest_of}
 use Rattle.hyper_build.proofs.operands.put_restoring.Given as goal
 
 abbrev pub invariant-loop-at : goal.invariant-loop-at

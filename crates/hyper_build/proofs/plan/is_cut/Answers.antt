@@ -1,6 +1,6 @@
 use Rattle.std.proofs.Common.{◌≡◌, ℕ, zero, suc, Bool, true, List, [], ◌∷◌, Option, Some, None, refl}
 use Rattle.std.proofs.Common.{sym, ap, ◌∙◌, slice_get}
-use Rattle.hyper_build.specs.Laws.{cuts_by}
+use Rattle.hyper_build.specs.inside.Laws.{cuts_by}
 use Rattle.hyper_build.proofs.plan.is_cut.Goals as goal
 
 abbrev or_cut : Option Bool → Bool

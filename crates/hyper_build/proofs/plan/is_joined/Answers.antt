@@ -1,6 +1,6 @@
 use Rattle.std.proofs.Common.{◌≡◌, ℕ, zero, suc, Bool, false, List, [], ◌∷◌, Option, Some, None, refl}
 use Rattle.std.proofs.Common.{sym, ap, ◌∙◌, slice_get}
-use Rattle.hyper_build.specs.Laws.{joins_by}
+use Rattle.hyper_build.specs.inside.Laws.{joins_by}
 use Rattle.hyper_build.proofs.plan.is_joined.Goals as goal
 
 abbrev or_not : Option Bool → Bool

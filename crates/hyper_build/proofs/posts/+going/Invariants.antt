@@ -1,6 +1,6 @@
 use Rattle.std.proofs.Common.{◌≡◌, ◌≤◌, length, drop}
-use Rattle.ir_forms.specs.FlatViews.{code_of}
-use Rattle.hyper_build.specs.Legs as legs
+use Rattle.ir_forms.specs.inside.FlatViews.{code_of}
+use Rattle.hyper_build.specs.inside.Legs as legs
 use Rattle.hyper_build.proofs.posts.+going.Given as goal
 
 abbrev pub invariant-continues-loop-at : goal.invariant-continues-loop-at

@@ -1,6 +1,6 @@
 use Rattle.std.proofs.Common.{◌≡◌, ◌≤◌, length, drop}
-use Rattle.ir_forms.specs.FlatViews.{code_of}
-use Rattle.hyper_build.specs.Legs as legs
+use Rattle.ir_forms.specs.inside.FlatViews.{code_of}
+use Rattle.hyper_build.specs.inside.Legs as legs
 use Rattle.hyper_build.proofs.posts.are_operations.Given as goal
 
 abbrev pub invariant-loop-at : goal.invariant-loop-at

@@ -1,11 +1,11 @@
 use Rattle.std.proofs.Common.{ap, ◌∙◌, arith}
-use Rattle.ir_forms.specs.FlatCode.{Step}
-use Rattle.ir_forms.specs.FlatViews.{step_of}
+use Rattle.ir_forms.specs.inside.FlatCode.{Step}
+use Rattle.ir_forms.specs.inside.FlatViews.{step_of}
 use Rattle.ir_forms.proofs.Views.{step_let, step_frame, step_load, step_save, step_call, step_put}
 use Rattle.ir_forms.proofs.Views.{step_get, step_if, step_loop, step_break, step_continue}
 use Rattle.ir_forms.proofs.Views.{step_return}
-use Rattle.hyper_build.specs.Emitted.{rest_of}
-use Rattle.hyper_build.specs.BackwardItems as code
+use Rattle.hyper_build.specs.inside.Emitted.{rest_of}
+use Rattle.hyper_build.specs.inside.BackwardItems as code
 use Rattle.hyper_build.proofs.straight.+items.Goals as goal
 
 pub put_item-returns-in_ok-put_set-in-Let : goal.put_item-returns-in_ok-put_set-in-Let

@@ -1,7 +1,7 @@
 use Rattle.std.proofs.Common.{◌≡◌, ◌≤◌, length, drop}
-use Rattle.ir_forms.specs.FlatViews.{code_of}
-use Rattle.hyper_build.specs.Emitted.{rest_of}
-use Rattle.hyper_build.specs.BackwardItems as code
+use Rattle.ir_forms.specs.inside.FlatViews.{code_of}
+use Rattle.hyper_build.specs.inside.Emitted.{rest_of}
+use Rattle.hyper_build.specs.inside.BackwardItems as code
 use Rattle.hyper_build.proofs.straight.+items.Given as goal
 
 abbrev pub invariant-put_items-loop-at : goal.invariant-put_items-loop-at

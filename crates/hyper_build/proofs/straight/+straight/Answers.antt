@@ -1,10 +1,10 @@
 use Rattle.std.proofs.Common.{◌≡◌, ap, ◌∙◌, arith, drop}
-use Rattle.ir_forms.specs.FlatCode.{Step}
-use Rattle.ir_forms.specs.FlatViews.{code_of, step_of}
+use Rattle.ir_forms.specs.inside.FlatCode.{Step}
+use Rattle.ir_forms.specs.inside.FlatViews.{code_of, step_of}
 use Rattle.ir_forms.proofs.Views.{step_let, step_frame, step_load, step_save, step_call, step_put}
 use Rattle.ir_forms.proofs.Views.{step_get, step_if, step_loop, step_break, step_continue}
 use Rattle.ir_forms.proofs.Views.{step_return}
-use Rattle.hyper_build.specs.BackwardItems as code
+use Rattle.hyper_build.specs.inside.BackwardItems as code
 use Rattle.hyper_build.proofs.straight.+straight.Goals as goal
 
 pub is_straight_stmt-returns-in-Let : goal.is_straight_stmt-returns-in-Let

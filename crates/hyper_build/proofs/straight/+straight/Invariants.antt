@@ -1,6 +1,6 @@
 use Rattle.std.proofs.Common.{◌≡◌, ◌≤◌, length, drop}
-use Rattle.ir_forms.specs.FlatViews.{code_of}
-use Rattle.hyper_build.specs.BackwardItems as code
+use Rattle.ir_forms.specs.inside.FlatViews.{code_of}
+use Rattle.hyper_build.specs.inside.BackwardItems as code
 use Rattle.hyper_build.proofs.straight.+straight.Given as goal
 
 abbrev pub invariant-is_straight-loop-at : goal.invariant-is_straight-loop-at

@@ -1,7 +1,7 @@
 use Rattle.std.proofs.Common.{ap, ◌∙◌, arith}
-use Rattle.ir_forms.specs.FlatCode.{Step, Nop, ◌▹◌}
-use Rattle.ir_forms.specs.FlatFits.{is_small_leg}
-use Rattle.ir_forms.specs.FlatViews.{step_of}
+use Rattle.ir_forms.specs.inside.FlatCode.{Step, Nop, ◌▹◌}
+use Rattle.ir_forms.specs.inside.FlatFits.{is_small_leg}
+use Rattle.ir_forms.specs.inside.FlatViews.{step_of}
 use Rattle.ir_forms.proofs.Views.{step_let, step_frame, step_load, step_save, step_call, step_put}
 use Rattle.ir_forms.proofs.Views.{step_get, step_if, step_loop, step_break, step_continue}
 use Rattle.ir_forms.proofs.Views.{step_return}

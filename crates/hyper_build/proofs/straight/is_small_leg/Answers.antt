@@ -1,10 +1,10 @@
 use Rattle.std.proofs.Common.{◌≡◌, true, false, List, [], ◌∷◌, length, refl, sym, ap, ◌∙◌}
 use Rattle.std.specs.Prelude.{◌==◌}
 use Rattle.ir_forms.specs.declared.flat.FlatStmt.{FlatStmt}
-use Rattle.ir_forms.specs.FlatCode.{Step, Let, Frame, Load, Save, Call, Put, Get, If, Loop, Break, Continue}
-use Rattle.ir_forms.specs.FlatCode.{Return, Code, ◌▹◌}
-use Rattle.ir_forms.specs.FlatFits.{is_small_leg}
-use Rattle.ir_forms.specs.FlatViews.{code_of, step_of}
+use Rattle.ir_forms.specs.inside.FlatCode.{Step, Let, Frame, Load, Save, Call, Put, Get, If, Loop, Break, Continue}
+use Rattle.ir_forms.specs.inside.FlatCode.{Return, Code, ◌▹◌}
+use Rattle.ir_forms.specs.inside.FlatFits.{is_small_leg}
+use Rattle.ir_forms.specs.inside.FlatViews.{code_of, step_of}
 use Rattle.hyper_build.proofs.straight.is_small_leg.Goals as goal
 
 -- two statements or more are too many

@@ -1,6 +1,6 @@
 use Rattle.std.proofs.Common.{map, take}
-use Rattle.ir_forms.specs.FlatViews.{function_of}
-use Rattle.hyper_plan.specs.Answers.{AreAnswers}
+use Rattle.ir_forms.specs.inside.FlatViews.{function_of}
+use Rattle.hyper_plan.specs.inside.Answers.{AreAnswers}
 use Rattle.hyper_plan.proofs.plans.greedy.Given as goal
 
 -- the answers of the functions before

@@ -1,6 +1,6 @@
 use Rattle.std.proofs.Common.{ap, ◌∙◌, arith}
-use Rattle.ir_forms.specs.FlatFits.{steps_in}
-use Rattle.ir_forms.specs.FlatViews.{step_of}
+use Rattle.ir_forms.specs.inside.FlatFits.{steps_in}
+use Rattle.ir_forms.specs.inside.FlatViews.{step_of}
 use Rattle.ir_forms.proofs.Views.{step_let, step_frame, step_load, step_save, step_call, step_put}
 use Rattle.ir_forms.proofs.Views.{step_get, step_if, step_loop, step_break, step_continue}
 use Rattle.ir_forms.proofs.Views.{step_return}

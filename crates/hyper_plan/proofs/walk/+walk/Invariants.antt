@@ -1,7 +1,7 @@
 use Rattle.std.proofs.Common.{◌≡◌, ◌+◌, length, drop, true}
-use Rattle.ir_forms.specs.FlatFits.{steps_of}
-use Rattle.ir_forms.specs.FlatViews.{code_of}
-use Rattle.hyper_plan.specs.Answers.{only_cuts}
+use Rattle.ir_forms.specs.inside.FlatFits.{steps_of}
+use Rattle.ir_forms.specs.inside.FlatViews.{code_of}
+use Rattle.hyper_plan.specs.inside.Answers.{only_cuts}
 use Rattle.hyper_plan.proofs.walk.+walk.Given as goal
 
 abbrev pub invariant-walk_stmts-loop-s : goal.invariant-walk_stmts-loop-s

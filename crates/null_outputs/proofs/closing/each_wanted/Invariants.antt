@@ -1,6 +1,6 @@
 use Rattle.std.proofs.Common.{◌≡◌, drop}
-use Rattle.null_outputs.specs.Surely as surely
-use Rattle.null_outputs.specs.Wants as wanted
+use Rattle.null_outputs.specs.inside.Surely as surely
+use Rattle.null_outputs.specs.inside.Wants as wanted
 use Rattle.null_outputs.proofs.closing.each_wanted.Given as goal
 
 abbrev pub invariant-loop-s : goal.invariant-loop-s

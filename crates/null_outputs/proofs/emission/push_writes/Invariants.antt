@@ -1,5 +1,5 @@
 use Rattle.std.proofs.Common.{◌≡◌, ◌++◌, ◌+◌, drop, length}
-use Rattle.null_outputs.specs.Groups as groups
+use Rattle.null_outputs.specs.inside.Groups as groups
 use Rattle.null_outputs.specs.inside.Listed as listed
 use Rattle.null_outputs.proofs.emission.push_writes.Given as goal
 

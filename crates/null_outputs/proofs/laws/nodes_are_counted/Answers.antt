@@ -1,5 +1,5 @@
-use Rattle.null_outputs.specs.Surely.{sure_by}
-use Rattle.null_outputs.specs.Wants.{want_by}
+use Rattle.null_outputs.specs.inside.Surely.{sure_by}
+use Rattle.null_outputs.specs.inside.Wants.{want_by}
 use Rattle.null_outputs.proofs.Sizes.{nodes_counted}
 use Rattle.null_outputs.proofs.laws.nodes_are_counted.Goals as goal
 

@@ -1,7 +1,7 @@
 use Rattle.std.proofs.Common.{◌≡◌, drop}
-use Rattle.null_outputs.specs.Groups as groups
-use Rattle.null_outputs.specs.Surely as surely
-use Rattle.null_outputs.specs.Wants as wanted
+use Rattle.null_outputs.specs.inside.Groups as groups
+use Rattle.null_outputs.specs.inside.Surely as surely
+use Rattle.null_outputs.specs.inside.Wants as wanted
 use Rattle.null_outputs.proofs.layout.is_used.Given as goal
 
 abbrev pub invariant-loop-n : goal.invariant-loop-n

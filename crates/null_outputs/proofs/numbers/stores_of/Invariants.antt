@@ -1,5 +1,5 @@
 use Rattle.std.proofs.Common.{◌≡◌, ◌++◌, drop}
-use Rattle.null_outputs.specs.Groups as groups
+use Rattle.null_outputs.specs.inside.Groups as groups
 use Rattle.null_outputs.proofs.numbers.stores_of.Given as goal
 
 abbrev pub invariant-loop-n : goal.invariant-loop-n

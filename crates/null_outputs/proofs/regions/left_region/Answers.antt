@@ -1,5 +1,5 @@
 use Rattle.std.proofs.Common.{arith, ◌∙◌}
-use Rattle.null_outputs.specs.Groups as groups
+use Rattle.null_outputs.specs.inside.Groups as groups
 use Rattle.null_outputs.specs.inside.Listed as listed
 use Rattle.null_outputs.proofs.RegionLoops.{starts_turn, end_turn}
 use Rattle.null_outputs.proofs.regions.left_region.Goals as goal

@@ -1,6 +1,6 @@
 use Rattle.std.proofs.Common.{◌≡◌, ◌++◌, drop}
-use Rattle.null_outputs.specs.Groups as groups
-use Rattle.null_outputs.specs.Sizes as sizes
+use Rattle.null_outputs.specs.inside.Groups as groups
+use Rattle.null_outputs.specs.inside.Sizes as sizes
 use Rattle.null_outputs.specs.inside.Listed as listed
 use Rattle.null_outputs.proofs.regions.left_region.Given as goal
 

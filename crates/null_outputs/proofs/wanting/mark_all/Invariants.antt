@@ -1,5 +1,5 @@
 use Rattle.std.proofs.Common.{◌≡◌, drop}
-use Rattle.null_outputs.specs.Wants as wanted
+use Rattle.null_outputs.specs.inside.Wants as wanted
 use Rattle.null_outputs.proofs.wanting.mark_all.Given as goal
 
 abbrev pub invariant-loop-s : goal.invariant-loop-s

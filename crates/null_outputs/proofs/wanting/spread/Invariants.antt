@@ -1,6 +1,6 @@
 use Rattle.std.proofs.Common.{◌≡◌, ◌≤◌, drop, length}
-use Rattle.null_outputs.specs.Surely as surely
-use Rattle.null_outputs.specs.Wants as wanted
+use Rattle.null_outputs.specs.inside.Surely as surely
+use Rattle.null_outputs.specs.inside.Wants as wanted
 use Rattle.null_outputs.proofs.wanting.spread.Given as goal
 
 abbrev pub invariant-loop-at : goal.invariant-loop-at

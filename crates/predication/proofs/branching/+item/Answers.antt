@@ -2,8 +2,8 @@ use Rattle.std.proofs.Common.{◌≡◌, ℕ, suc, ◌+◌, List, ◌∷◌, dro
 use Rattle.std.specs.Prelude.{Some}
 use Rattle.std.proofs.Math.Seq.{drop-cons}
 use Rattle.ir_forms.specs.declared.hyper.HyperItem.{HyperItem}
-use Rattle.ir_forms.specs.HyperCode.{Items}
-use Rattle.ir_forms.specs.HyperViews.{items_of, then_items}
+use Rattle.ir_forms.specs.inside.HyperCode.{Items}
+use Rattle.ir_forms.specs.inside.HyperViews.{items_of, then_items}
 use Rattle.ir_forms.proofs.Views.{then_set, then_load, then_save}
 use Rattle.predication.specs.inside.Ends.{ends}
 use Rattle.predication.proofs.LegLemmas.{branch_ends, if_is}

@@ -1,5 +1,5 @@
 use Rattle.std.proofs.Common.{◌≡◌, drop}
-use Rattle.ir_forms.specs.HyperViews.{items_of}
+use Rattle.ir_forms.specs.inside.HyperViews.{items_of}
 use Rattle.predication.specs.inside.Ends.{ends}
 use Rattle.predication.proofs.branching.+item.Given as goal
 

@@ -1,5 +1,5 @@
-use Rattle.ir_forms.specs.HyperViews.{block_of}
-use Rattle.predication.specs.Tails.{labelled}
+use Rattle.ir_forms.specs.inside.HyperViews.{block_of}
+use Rattle.predication.specs.inside.Tails.{labelled}
 use Rattle.predication.proofs.MadeLemmas.{block_is, has_room, is_refused, if_ok, if_err}
 use Rattle.predication.proofs.conversion.convert.Goals as goal
 

@@ -1,11 +1,11 @@
 use Rattle.std.proofs.Common.{List, refl, ap, ◌∙◌}
 use Rattle.std.specs.Prelude.{None}
 use Rattle.ir_forms.specs.declared.hyper.HyperItem.{HyperItem}
-use Rattle.ir_forms.specs.HyperViews.{block_of, items_of}
+use Rattle.ir_forms.specs.inside.HyperViews.{block_of, items_of}
 use Rattle.predication.specs.declared.work.Work.{Work}
 use Rattle.predication.specs.declared.work.Names.{Names}
 use Rattle.predication.specs.declared.work.Emitted.{Emitted}
-use Rattle.predication.specs.Tails.{labelled}
+use Rattle.predication.specs.inside.Tails.{labelled}
 use Rattle.predication.specs.inside.Ends.{ends}
 use Rattle.predication.proofs.MadeLemmas.{all_emitted}
 use Rattle.predication.proofs.conversion.emitted.Goals as goal

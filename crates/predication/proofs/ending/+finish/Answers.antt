@@ -1,7 +1,7 @@
 use Rattle.std.proofs.Common.{◌∙◌}
 use Rattle.std.specs.Prelude.{Some}
 use Rattle.predication.specs.inside.Ends.{tail_labelled}
-use Rattle.ir_forms.specs.HyperCode.{Test}
+use Rattle.ir_forms.specs.inside.HyperCode.{Test}
 use Rattle.predication.proofs.ExitLemmas.{finished, leave_finished, test_finished, test_labelled}
 use Rattle.predication.proofs.ending.+finish.Goals as goal
 

@@ -1,5 +1,5 @@
 use Rattle.std.proofs.Common.{◌≡◌, ◌++◌, length}
-use Rattle.predication.specs.Environments.{distinct}
+use Rattle.predication.specs.inside.Environments.{distinct}
 use Rattle.predication.proofs.joining.each_once.Given as goal
 
 abbrev pub decreases-loop-rest : goal.decreases-loop-rest

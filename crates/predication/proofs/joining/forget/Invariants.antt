@@ -1,5 +1,5 @@
 use Rattle.std.proofs.Common.{◌≡◌, drop}
-use Rattle.predication.specs.Environments.{left_bits}
+use Rattle.predication.specs.inside.Environments.{left_bits}
 use Rattle.predication.specs.inside.Emits.{bits_of}
 use Rattle.predication.proofs.joining.forget.Given as goal
 

@@ -1,5 +1,5 @@
 use Rattle.std.proofs.Common.{◌≡◌, drop}
-use Rattle.predication.specs.Environments.{member}
+use Rattle.predication.specs.inside.Environments.{member}
 use Rattle.predication.proofs.joining.is_member.Given as goal
 
 abbrev pub invariant-loop-other : goal.invariant-loop-other

@@ -1,6 +1,6 @@
 use Rattle.std.proofs.Common.{List, sym, ap, ◌∙◌}
 use Rattle.predication.specs.declared.work.Named.{Named}
-use Rattle.predication.specs.Environments.{Env}
+use Rattle.predication.specs.inside.Environments.{Env}
 use Rattle.predication.specs.inside.Emits.{env_of, puts}
 use Rattle.predication.proofs.NameLemmas.{puts_last}
 use Rattle.predication.proofs.naming.put_all.Goals as goal

@@ -1,5 +1,5 @@
 use Rattle.std.proofs.Common.{ℕ, ◌||◌, List, ap, ◌∙◌}
-use Rattle.predication.specs.Environments.{member}
+use Rattle.predication.specs.inside.Environments.{member}
 use Rattle.predication.proofs.ReadLemmas.{noted_last}
 use Rattle.predication.proofs.outputs.note.Goals as goal
 

@@ -1,5 +1,5 @@
 use Rattle.std.proofs.Common.{◌≡◌, ◌++◌}
-use Rattle.predication.specs.Converted.{writes_below}
+use Rattle.predication.specs.inside.Converted.{writes_below}
 use Rattle.predication.specs.inside.Emits.{env_of}
 use Rattle.predication.proofs.outputs.writes_below.Given as goal
 

@@ -1,10 +1,10 @@
 use Rattle.std.proofs.Common.{map, sym, ap, ◌∙◌, subst}
-use Rattle.reg_assign.specs.Live.{groups_of, AreCut, AreFew}
+use Rattle.reg_assign.specs.inside.Live.{groups_of, AreCut, AreFew}
 use Rattle.reg_assign.proofs.Groups.{all_cut}
 use Rattle.reg_assign.proofs.Fewness.{live_few}
-use Rattle.ir_forms.specs.FlatFits.{FitsProgram}
-use Rattle.ir_forms.specs.FlatViews.{program_of}
-use Rattle.reg_assign.specs.Keeps.{FitsKept, FitsLists, KeepsTameRuns}
+use Rattle.ir_forms.specs.inside.FlatFits.{FitsProgram}
+use Rattle.ir_forms.specs.inside.FlatViews.{program_of}
+use Rattle.reg_assign.specs.inside.Keeps.{FitsKept, FitsLists, KeepsTameRuns}
 use Rattle.reg_assign.proofs.Own.{lists_are_own}
 use Rattle.reg_assign.proofs.ListFacts.{lists_fit}
 use Rattle.reg_assign.proofs.Listed.{lists_keep_meaning}

@@ -1,6 +1,6 @@
 use Rattle.std.proofs.Common.{◌≡◌, ◌≤◌, length, drop, map}
-use Rattle.ir_forms.specs.FlatViews.{function_of}
-use Rattle.reg_assign.specs.Pass.{lists_backward}
+use Rattle.ir_forms.specs.inside.FlatViews.{function_of}
+use Rattle.reg_assign.specs.inside.Pass.{lists_backward}
 use Rattle.reg_assign.proofs.assigning.backward.Given as goal
 
 abbrev pub invariant-loop-at : goal.invariant-loop-at

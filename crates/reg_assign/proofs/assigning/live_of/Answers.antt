@@ -1,6 +1,6 @@
 use Rattle.std.proofs.Common.{reverse, map, ap, ◌∙◌}
-use Rattle.ir_forms.specs.FlatViews.{function_of}
-use Rattle.reg_assign.specs.Pass.{lists_backward}
+use Rattle.ir_forms.specs.inside.FlatViews.{function_of}
+use Rattle.reg_assign.specs.inside.Pass.{lists_backward}
 use Rattle.reg_assign.proofs.Passes.{turned_round}
 use Rattle.reg_assign.proofs.assigning.live_of.Goals as goal
 

@@ -1,6 +1,6 @@
 use Rattle.std.proofs.Common.{◌^◌, cond, sym, ap, ◌∙◌, arith, lt-ltb, le-ltb}
 use Rattle.std.proofs.lemmas.Nat.{one_shl}
-use Rattle.reg_assign.specs.Pass as pass
+use Rattle.reg_assign.specs.inside.Pass as pass
 use Rattle.reg_assign.proofs.sets.bit.Goals as goal
 
 pub returns-then-v-lt80 : goal.returns-then-v-lt80

@@ -1,6 +1,6 @@
 use Rattle.std.proofs.Common.{◌≡◌, ap, ◌∙◌, arith}
-use Rattle.reg_assign.specs.Live.{members_below, members}
-use Rattle.reg_assign.specs.Pass.{seen}
+use Rattle.reg_assign.specs.inside.Live.{members_below, members}
+use Rattle.reg_assign.specs.inside.Pass.{seen}
 use Rattle.reg_assign.proofs.sets.members_of.Goals as goal
 
 pub returns : goal.returns

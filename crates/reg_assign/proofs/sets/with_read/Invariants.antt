@@ -1,5 +1,5 @@
 use Rattle.std.proofs.Common.{◌≡◌, drop}
-use Rattle.reg_assign.specs.Pass as pass
+use Rattle.reg_assign.specs.inside.Pass as pass
 use Rattle.reg_assign.proofs.sets.with_read.Given as goal
 
 abbrev pub invariant-loop-x : goal.invariant-loop-x

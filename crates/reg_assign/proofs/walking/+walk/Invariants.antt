@@ -1,6 +1,6 @@
 use Rattle.std.proofs.Common.{◌≡◌, ◌≤◌, length, drop}
-use Rattle.ir_forms.specs.FlatViews.{code_of}
-use Rattle.reg_assign.specs.Pass as pass
+use Rattle.ir_forms.specs.inside.FlatViews.{code_of}
+use Rattle.reg_assign.specs.inside.Pass as pass
 use Rattle.reg_assign.proofs.walking.+walk.Given as goal
 
 abbrev pub invariant-walk_stmts-loop-at : goal.invariant-walk_stmts-loop-at

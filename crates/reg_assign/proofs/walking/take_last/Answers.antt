@@ -1,5 +1,5 @@
 use Rattle.std.proofs.Common.{sym, ap, ◌∙◌}
-use Rattle.reg_assign.specs.Pass.{last_of, front_of}
+use Rattle.reg_assign.specs.inside.Pass.{last_of, front_of}
 use Rattle.reg_assign.proofs.Notes.{last_behind, front_before}
 use Rattle.reg_assign.proofs.walking.take_last.Goals as goal
 

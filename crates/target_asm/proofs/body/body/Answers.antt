@@ -2,8 +2,8 @@ use Rattle.std.proofs.Common.{◌≤◌, ◌+◌, ℕ, ◌∙◌, sym, ap, arith
 use Rattle.std.proofs.lemmas.List.{length-append}
 use Rattle.std.proofs.lemmas.List.Elements.{All-same, All-push}
 use Rattle.trips_isa.specs.declared.block.Block.{Block}
-use Rattle.target_asm_spec.specs.Whole.{body_in}
-use Rattle.target_asm.specs.Taking.{seen}
+use Rattle.target_asm_spec.specs.inside.Whole.{body_in}
+use Rattle.target_asm.specs.inside.Taking.{seen}
 use Rattle.target_asm.proofs.Several.{several_next, several_end, several_fail, several_over}
 use Rattle.target_asm.proofs.body.body.Goals as goal
 

@@ -1,7 +1,7 @@
 use Rattle.std.proofs.Common.{◌≡◌, ◌+◌, ◌-◌, ◌*◌, ◌≤◌, length}
 use Rattle.std.specs.Prelude.{All}
-use Rattle.target_asm_spec.specs.Blocks.{blocks_in}
-use Rattle.target_asm.specs.Taking.{with_blocks, seen}
+use Rattle.target_asm_spec.specs.inside.Blocks.{blocks_in}
+use Rattle.target_asm.specs.inside.Taking.{with_blocks, seen}
 use Rattle.target_asm.proofs.body.body.Given as goal
 
 -- the blocks so far, and those that are still read, are all

@@ -1,5 +1,5 @@
 use Rattle.std.proofs.Common.{◌≡◌, ◌+◌, drop}
-use Rattle.target_asm_spec.specs.Instructions.{letters_in}
+use Rattle.target_asm_spec.specs.inside.Instructions.{letters_in}
 use Rattle.target_asm.proofs.instruction.letters.Given as goal
 
 -- the letters so far, and those that follow

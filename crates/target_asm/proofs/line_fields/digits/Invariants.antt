@@ -1,5 +1,5 @@
 use Rattle.std.proofs.Common.{◌≡◌, ◌+◌, drop}
-use Rattle.target_asm_spec.specs.Reading.{digits_in}
+use Rattle.target_asm_spec.specs.inside.Reading.{digits_in}
 use Rattle.target_asm.proofs.line_fields.digits.Given as goal
 
 -- the digits so far, and those that follow

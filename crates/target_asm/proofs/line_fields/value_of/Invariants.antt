@@ -1,5 +1,5 @@
 use Rattle.std.proofs.Common.{◌≡◌, ◌≤◌, drop}
-use Rattle.target_asm_spec.specs.Reading.{value_from}
+use Rattle.target_asm_spec.specs.inside.Reading.{value_from}
 use Rattle.target_asm.proofs.line_fields.value_of.Given as goal
 
 -- the digits that follow go on with the value, to that of all

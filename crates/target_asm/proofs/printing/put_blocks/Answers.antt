@@ -1,6 +1,6 @@
 use Rattle.std.proofs.Common.{ap, ◌∙◌, ◌++◌}
 use Rattle.trips_isa.specs.Images.{chunks, chunk_of}
-use Rattle.target_asm_spec.specs.Chunks.{goal_in}
+use Rattle.target_asm_spec.specs.inside.Chunks.{goal_in}
 use Rattle.target_asm_spec.specs.Text.{block_text}
 use Rattle.target_asm_spec.proofs.Numbered.{numbered_step}
 use Rattle.target_asm.proofs.Blocks.{next_chunk}

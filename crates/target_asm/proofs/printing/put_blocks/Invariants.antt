@@ -1,7 +1,7 @@
 use Rattle.std.proofs.Common.{◌≡◌, ◌++◌, take}
 use Rattle.trips_isa.specs.Images.{chunk_of}
 use Rattle.target_asm_spec.specs.Numbers.{numbered}
-use Rattle.target_asm_spec.specs.Chunks.{goal_in}
+use Rattle.target_asm_spec.specs.inside.Chunks.{goal_in}
 use Rattle.target_asm_spec.specs.Text.{block_text}
 use Rattle.target_asm.proofs.printing.put_blocks.Given as goal
 

@@ -1,4 +1,4 @@
-use Rattle.target_asm_spec.specs.Chunks.{goal_in}
+use Rattle.target_asm_spec.specs.inside.Chunks.{goal_in}
 use Rattle.target_asm_spec.specs.Text.{slot_text}
 use Rattle.target_asm_spec.proofs.Numbered.{numbered_step}
 use Rattle.target_asm.proofs.printing.put_slots.Goals as goal

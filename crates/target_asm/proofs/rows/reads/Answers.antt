@@ -1,7 +1,7 @@
 use Rattle.std.proofs.Common.{◌∙◌, sym, ap, arith, length, ◌∷◌, []}
 use Rattle.std.specs.Prelude.{codes}
 use Rattle.std.proofs.lemmas.List.{length-append}
-use Rattle.target_asm_spec.specs.Blocks.{one_read, reads_in}
+use Rattle.target_asm_spec.specs.inside.Blocks.{one_read, reads_in}
 use Rattle.target_asm.proofs.LineLoops.{rows_next, rows_stop, rows_fail, rows_over}
 use Rattle.target_asm.proofs.rows.reads.Goals as goal
 

@@ -1,7 +1,7 @@
 use Rattle.std.proofs.Common.{◌≡◌, ◌+◌, ◌-◌, length}
 use Rattle.std.specs.Prelude.{codes}
-use Rattle.target_asm_spec.specs.Blocks.{lines_in, one_write}
-use Rattle.target_asm.specs.Taking.{with_front}
+use Rattle.target_asm_spec.specs.inside.Blocks.{lines_in, one_write}
+use Rattle.target_asm.specs.inside.Taking.{with_front}
 use Rattle.target_asm.proofs.rows.writes.Given as goal
 
 -- the lines so far, and those that are still read, are all

@@ -1,5 +1,5 @@
 use Rattle.std.proofs.Common.{◌≡◌, ◌++◌, length}
-use Rattle.target_asm_spec.specs.Blocks.{gap}
+use Rattle.target_asm_spec.specs.inside.Blocks.{gap}
 use Rattle.target_asm.proofs.slots.pad.Given as goal
 
 -- the slots so far are empty

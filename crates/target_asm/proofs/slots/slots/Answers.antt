@@ -1,6 +1,6 @@
 use Rattle.std.proofs.Common.{◌≡◌, ◌+◌, ◌∙◌, sym, ap, arith, length, ◌∷◌, [], Some}
 use Rattle.std.proofs.lemmas.List.{length-append}
-use Rattle.target_asm.specs.Taking.{seen}
+use Rattle.target_asm.specs.inside.Taking.{seen}
 use Rattle.target_asm.proofs.Filling.{fill_next, fill_stop, fill_fail, fill_over}
 use Rattle.target_asm.proofs.slots.slots.Goals as goal
 

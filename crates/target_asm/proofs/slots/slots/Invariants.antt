@@ -1,6 +1,6 @@
 use Rattle.std.proofs.Common.{◌≡◌, ◌+◌, ◌-◌, ◌≤◌, length}
-use Rattle.target_asm_spec.specs.Blocks.{slots_in}
-use Rattle.target_asm.specs.Taking.{with_front, seen}
+use Rattle.target_asm_spec.specs.inside.Blocks.{slots_in}
+use Rattle.target_asm.specs.inside.Taking.{with_front, seen}
 use Rattle.target_asm.proofs.slots.slots.Given as goal
 
 -- the slots so far, and those that are still read, are all

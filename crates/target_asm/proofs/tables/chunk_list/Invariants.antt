@@ -1,7 +1,7 @@
 use Rattle.std.proofs.Common.{◌≡◌, ◌*◌, ◌≤◌, take}
 use Rattle.std.specs.List.{sum_by}
 use Rattle.trips_isa.specs.Images.{chunks}
-use Rattle.target_asm_spec.specs.Whole.{chunks_from}
+use Rattle.target_asm_spec.specs.inside.Whole.{chunks_from}
 use Rattle.target_asm.proofs.tables.chunk_list.Given as goal
 
 -- the chunks of the blocks so far, and the next one

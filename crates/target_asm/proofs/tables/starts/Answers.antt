@@ -1,6 +1,6 @@
 use Rattle.std.proofs.Common.{[], ◌∙◌, ap, ◌++◌}
 use Rattle.trips_isa.specs.Images.{chunks}
-use Rattle.target_asm_spec.specs.Chunks.{start_row}
+use Rattle.target_asm_spec.specs.inside.Chunks.{start_row}
 use Rattle.target_asm_spec.proofs.Numbered.{numbered_step}
 use Rattle.target_asm.proofs.tables.starts.Goals as goal
 

@@ -1,5 +1,5 @@
 use Rattle.std.proofs.Common.{◌≡◌, take}
-use Rattle.target_asm_spec.specs.Chunks.{start_rows}
+use Rattle.target_asm_spec.specs.inside.Chunks.{start_rows}
 use Rattle.target_asm.proofs.tables.starts.Given as goal
 
 -- the table of the blocks so far

@@ -1,6 +1,6 @@
 use Rattle.std.proofs.Common.{◌≡◌, ◌-◌}
-use Rattle.target_asm_spec.specs.Whole.{bytes_in}
-use Rattle.target_asm.specs.Taking.{with_bytes}
+use Rattle.target_asm_spec.specs.inside.Whole.{bytes_in}
+use Rattle.target_asm.specs.inside.Taking.{with_bytes}
 use Rattle.target_asm.proofs.whole.bytes.Given as goal
 
 -- the bytes so far, and those that are still read, are all

@@ -1,4 +1,4 @@
-use Rattle.frame_state.specs.Phases.{HasBlock}
+use Rattle.frame_state.specs.inside.Phases.{HasBlock}
 use Rattle.window_tests.proofs.frame_tests.assert_rows.Given as goal
 
 abbrev pub invariant-loop-row : goal.invariant-loop-row

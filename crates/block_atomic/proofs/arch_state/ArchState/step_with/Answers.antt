@@ -13,8 +13,8 @@ use Rattle.trips_isa.specs.Outcomes.{all_stores, writes_from}
 use Rattle.trips_isa.specs.Machine.{Machine, State, step_of, then_system, write_all}
 use Rattle.trips_isa.specs.declared.run.Stepped.{Stepped}
 use Rattle.block_atomic.proofs.Telling.{cause_is, step_goes, step_traps}
-use Rattle.block_atomic.specs.Bounds.{StoreFits}
-use Rattle.block_atomic.specs.Slots.{slots_give, left_by, IsUsedTo}
+use Rattle.block_atomic.specs.inside.Bounds.{StoreFits}
+use Rattle.block_atomic.specs.inside.Slots.{slots_give, left_by, IsUsedTo}
 use Rattle.block_atomic.proofs.Storing.{stores_fit}
 use Rattle.block_atomic.proofs.Stepping.{step_is}
 use Rattle.block_atomic.proofs.arch_state.ArchState.step_with.Goals as goal

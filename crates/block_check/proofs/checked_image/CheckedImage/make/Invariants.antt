@@ -1,7 +1,7 @@
 use Rattle.std.proofs.Common.{◌≡◌, ◌++◌, All, length}
 use Rattle.std.specs.List.{sum_by}
 use Rattle.trips_isa.specs.Images.{chunks}
-use Rattle.block_check.specs.IsChecked.{IsChecked}
+use Rattle.block_check.specs.inside.IsChecked.{IsChecked}
 use Rattle.block_check.specs.inside.Holds.{first_chunks}
 use Rattle.block_check.proofs.checked_image.CheckedImage.make.Given as goal
 

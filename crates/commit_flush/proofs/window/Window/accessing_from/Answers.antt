@@ -1,5 +1,5 @@
 use Rattle.std.proofs.Common.{arith, subst}
-use Rattle.commit_flush.specs.Accesses.{NoneStores, NoneLoads}
+use Rattle.commit_flush.specs.inside.Accesses.{NoneStores, NoneLoads}
 use Rattle.commit_flush.specs.Seen.{Seen}
 use Rattle.commit_flush.proofs.BitFacts.{both_clear}
 use Rattle.commit_flush.proofs.GapFacts.{none_stores, none_loads}

@@ -1,8 +1,8 @@
 use Rattle.std.proofs.Common.{false, sym, ap, ◌∙◌}
 use Rattle.std.specs.Prelude.{is_some}
-use Rattle.frame_state.specs.Held.{running}
-use Rattle.commit_flush.specs.Places.{frame_of}
-use Rattle.commit_flush.specs.Observed.{address_by, address_in, waits_in}
+use Rattle.frame_state.specs.inside.Held.{running}
+use Rattle.commit_flush.specs.inside.Places.{frame_of}
+use Rattle.commit_flush.specs.inside.Observed.{address_by, address_in, waits_in}
 use Rattle.commit_flush.proofs.ObserveFacts.{idle_address, idle_waits, waits_told}
 use Rattle.commit_flush.proofs.window.Window.address_of.Goals as goal
 

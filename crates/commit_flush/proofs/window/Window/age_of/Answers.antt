@@ -1,5 +1,5 @@
 use Rattle.std.proofs.Common.{ap, sym, ◌∙◌}
-use Rattle.commit_flush.specs.Places.{place_of, age_of}
+use Rattle.commit_flush.specs.inside.Places.{place_of, age_of}
 use Rattle.commit_flush.specs.Seen.{Seen}
 use Rattle.commit_flush.proofs.SeenFacts.{numbers_seen}
 use Rattle.commit_flush.proofs.window.Window.age_of.Goals as goal

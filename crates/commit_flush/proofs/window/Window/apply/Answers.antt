@@ -1,12 +1,12 @@
 use Rattle.std.proofs.Common.{sym, subst, arith, ◌<◌, length}
 use Rattle.std.specs.Prelude.{All, Some}
-use Rattle.block_atomic.specs.Bounds.{StoreFits}
-use Rattle.block_atomic.specs.Applied.{HasTokens}
+use Rattle.block_atomic.specs.inside.Bounds.{StoreFits}
+use Rattle.block_atomic.specs.inside.Applied.{HasTokens}
 use Rattle.commit_flush_spec.specs.Window as event
 use Rattle.commit_flush.proofs.SeenFacts.{eight}
 use Rattle.commit_flush.proofs.CommitFacts.{may_told, applies_told, hands_on, oldest_below, keeps_read}
 use Rattle.commit_flush.proofs.MoveFacts.{outside}
-use Rattle.commit_flush.specs.Seen.{window_of}
+use Rattle.commit_flush.specs.inside.Seen.{window_of}
 use Rattle.commit_flush.proofs.AccessFacts.{commit_told, stands}
 use Rattle.commit_flush.proofs.window.Window.apply.Goals as goal
 

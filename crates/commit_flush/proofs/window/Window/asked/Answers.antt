@@ -1,6 +1,6 @@
 use Rattle.std.proofs.Common.{sym, ap, ◌∙◌}
-use Rattle.commit_flush.specs.Places.{frame_of}
-use Rattle.commit_flush.specs.Observed.{waits_in}
+use Rattle.commit_flush.specs.inside.Places.{frame_of}
+use Rattle.commit_flush.specs.inside.Observed.{waits_in}
 use Rattle.commit_flush.proofs.BitFacts.{no_bit}
 use Rattle.commit_flush.proofs.ObserveFacts.{idle_waits}
 use Rattle.commit_flush.proofs.window.Window.asked.Goals as goal

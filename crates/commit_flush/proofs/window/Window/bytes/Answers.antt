@@ -2,7 +2,7 @@ use Rattle.std.proofs.Common.{◌≡◌, ◌<◌, ap, ◌∙◌, subst, take, sl
 use Rattle.trips_isa.specs.Machine.{State}
 use Rattle.commit_flush_spec.specs.Frames.{Frame, at}
 use Rattle.commit_flush_spec.specs.Older.{after_all, committed}
-use Rattle.lsq_order.specs.Taking.{taken}
+use Rattle.lsq_order.specs.inside.Taking.{taken}
 use Rattle.commit_flush.proofs.LoadFacts.{bytes_low}
 use Rattle.commit_flush.proofs.window.Window.bytes.Goals as goal
 

@@ -2,10 +2,10 @@ use Rattle.std.proofs.Common.{ap, sym, ◌∙◌, subst}
 use Rattle.trips_isa.specs.declared.block.Image.{Image}
 use Rattle.commit_flush_spec.specs.Causes.{NoFrame, NotNow}
 use Rattle.commit_flush_spec.specs.Older.{committed}
-use Rattle.commit_flush_spec.specs.Numbered.{seen_at}
+use Rattle.commit_flush_spec.specs.inside.Numbered.{seen_at}
 use Rattle.commit_flush_spec.specs.Dataflow.{can_read}
-use Rattle.frame_state.specs.Changes.{IsSeen}
-use Rattle.frame_state.specs.Phases.{answered, frame_in}
+use Rattle.frame_state.specs.inside.Changes.{IsSeen}
+use Rattle.frame_state.specs.inside.Phases.{answered, frame_in}
 use Rattle.commit_flush.proofs.FrameFacts.{none_asked}
 use Rattle.commit_flush.proofs.AskFacts.{asked, same_blocks}
 use Rattle.commit_flush.proofs.LookFacts.{seen_word}

@@ -2,7 +2,7 @@ use Rattle.std.proofs.Common.{◌<◌, ap, sym, arith, refl}
 use Rattle.commit_flush_spec.specs.Causes.{NoFrame}
 use Rattle.commit_flush_spec.specs.Window.{can_now}
 use Rattle.commit_flush_spec.specs.Window as event
-use Rattle.reg_bank.specs.Ages.{at}
+use Rattle.reg_bank.specs.inside.Ages.{at}
 use Rattle.commit_flush.proofs.SeenFacts.{eight, has_block, orders_within}
 use Rattle.commit_flush.proofs.PhaseFacts.{read_phase}
 use Rattle.commit_flush.proofs.AskFacts.{goes_on, has_age}
@@ -10,7 +10,7 @@ use Rattle.commit_flush.proofs.MoveFacts.{inside, outside, below}
 use Rattle.commit_flush_spec.specs.Ends.{can_exit}
 use Rattle.commit_flush.proofs.CutFacts.{exits_told}
 use Rattle.commit_flush_spec.specs.Older.{committed}
-use Rattle.commit_flush.specs.Seen.{flying}
+use Rattle.commit_flush.specs.inside.Seen.{flying}
 use Rattle.commit_flush.proofs.AccessFacts.{exit_told, stands}
 use Rattle.commit_flush.proofs.window.Window.exit.Goals as goal
 

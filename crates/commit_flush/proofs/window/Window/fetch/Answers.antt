@@ -2,15 +2,16 @@ use Rattle.std.proofs.Common.{◌≡◌, ◌<◌, lit<, arith, ap, sym, ◌∙�
 use Rattle.std.specs.Prelude.{All}
 use Rattle.std.proofs.lemmas.Option.{slice_get_within}
 use Rattle.commit_flush_spec.specs.Window as event
-use Rattle.reg_bank.specs.Ages.{at}
-use Rattle.commit_flush.specs.Seen.{Seen, flying, window_of}
+use Rattle.reg_bank.specs.inside.Ages.{at}
+use Rattle.commit_flush.specs.Seen.{Seen}
+use Rattle.commit_flush.specs.inside.Seen.{flying, window_of}
 use Rattle.commit_flush.proofs.SeenFacts.{eight, count_seen}
 use Rattle.commit_flush.proofs.FetchFacts.{fetches_told, free_seen, may_fill, there_is_block, one_fits, fits_block}
 use Rattle.commit_flush.proofs.FetchFacts.{never_full}
 use Rattle.commit_flush.proofs.MoveFacts.{inside, outside}
 use Rattle.commit_flush.proofs.PhaseFacts.{few_seen}
 use Rattle.commit_flush_spec.specs.InFlight.{lowest_empty}
-use Rattle.commit_flush.specs.Accesses.{Stands}
+use Rattle.commit_flush.specs.inside.Accesses.{Stands}
 use Rattle.commit_flush.proofs.AccessFacts.{fetch_told, stands}
 use Rattle.commit_flush.proofs.window.Window.fetch.Goals as goal
 

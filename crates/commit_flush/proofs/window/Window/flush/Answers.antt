@@ -2,13 +2,13 @@ use Rattle.std.proofs.Common.{ap, sym}
 use Rattle.commit_flush_spec.specs.Causes.{NoFrame, Done}
 use Rattle.commit_flush_spec.specs.Window.{can_now}
 use Rattle.commit_flush_spec.specs.Window as event
-use Rattle.reg_bank.specs.Ages.{at}
+use Rattle.reg_bank.specs.inside.Ages.{at}
 use Rattle.commit_flush.proofs.SeenFacts.{orders_below}
 use Rattle.commit_flush.proofs.AskFacts.{goes_on, has_age}
 use Rattle.commit_flush.proofs.MoveFacts.{outside}
 use Rattle.commit_flush.proofs.CutFacts.{flushes_told}
 use Rattle.commit_flush_spec.specs.Older.{committed}
-use Rattle.commit_flush.specs.Seen.{flying}
+use Rattle.commit_flush.specs.inside.Seen.{flying}
 use Rattle.commit_flush.proofs.AccessFacts.{flush_told, stands}
 use Rattle.commit_flush.proofs.window.Window.flush.Goals as goal
 

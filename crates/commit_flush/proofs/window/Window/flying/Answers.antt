@@ -1,7 +1,7 @@
 use Rattle.std.proofs.Common.{sym, ◌∙◌}
-use Rattle.frame_state.specs.Phases.{is_done}
-use Rattle.commit_flush.specs.Places.{frame_of}
-use Rattle.commit_flush.specs.Lent.{IsLent}
+use Rattle.frame_state.specs.inside.Phases.{is_done}
+use Rattle.commit_flush.specs.inside.Places.{frame_of}
+use Rattle.commit_flush.specs.inside.Lent.{IsLent}
 use Rattle.commit_flush.proofs.AskFacts.{same_blocks, told_of}
 use Rattle.commit_flush.proofs.PhaseFacts.{match_map}
 use Rattle.commit_flush.proofs.window.Window.flying.Goals as goal

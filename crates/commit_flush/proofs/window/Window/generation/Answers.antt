@@ -1,6 +1,6 @@
 use Rattle.std.proofs.Common.{◌<◌, ap, sym, ◌∙◌, arith, length, map, refl, get_or}
 use Rattle.std.proofs.lemmas.Option.{slice_get_read, get_or_from_slice_get}
-use Rattle.frame_state.specs.Phases.{generation_of}
+use Rattle.frame_state.specs.inside.Phases.{generation_of}
 use Rattle.commit_flush.specs.Seen.{Seen}
 use Rattle.commit_flush.proofs.SeenFacts.{eight, mapped_at}
 use Rattle.commit_flush.proofs.window.Window.generation.Goals as goal

@@ -1,7 +1,7 @@
 use Rattle.std.proofs.Common.{ap, sym, ◌∙◌}
 use Rattle.trips_isa.specs.declared.block.Image.{Image}
-use Rattle.frame_state.specs.Phases.{frame_in}
-use Rattle.frame_state.specs.Told.{is_sealed_in}
+use Rattle.frame_state.specs.inside.Phases.{frame_in}
+use Rattle.frame_state.specs.inside.Told.{is_sealed_in}
 use Rattle.commit_flush.proofs.AskFacts.{same_blocks}
 use Rattle.commit_flush.proofs.PhaseFacts.{sealed_first}
 use Rattle.commit_flush.proofs.window.Window.is_sealed.Goals as goal

@@ -1,8 +1,8 @@
 use Rattle.std.proofs.Common.{ap, sym, ◌∙◌}
 use Rattle.trips_isa.specs.declared.block.Image.{Image}
 use Rattle.commit_flush_spec.specs.Older.{after_all, committed}
-use Rattle.frame_state.specs.Phases.{frame_in}
-use Rattle.frame_state.specs.Told.{is_serial_in}
+use Rattle.frame_state.specs.inside.Phases.{frame_in}
+use Rattle.frame_state.specs.inside.Told.{is_serial_in}
 use Rattle.commit_flush.proofs.AskFacts.{same_blocks}
 use Rattle.commit_flush.proofs.PhaseFacts.{serial_behind}
 use Rattle.commit_flush.proofs.window.Window.is_serial.Goals as goal

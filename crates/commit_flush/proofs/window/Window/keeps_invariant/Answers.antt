@@ -1,6 +1,6 @@
 use Rattle.std.proofs.Common.{subst}
-use Rattle.commit_flush_spec.specs.Invariant.{AllGood}
-use Rattle.commit_flush_spec.specs.Laws.{WindowOk}
+use Rattle.commit_flush_spec.specs.inside.Invariant.{AllGood}
+use Rattle.commit_flush_spec.specs.inside.Laws.{WindowOk}
 use Rattle.commit_flush.specs.Seen.{Seen}
 use Rattle.commit_flush.proofs.SeenFacts.{good}
 use Rattle.commit_flush.proofs.window.Window.keeps_invariant.Goals as goal

@@ -1,5 +1,5 @@
 use Rattle.std.proofs.Common.{sym, ap, ◌∙◌}
-use Rattle.commit_flush.specs.Places.{frame_of}
+use Rattle.commit_flush.specs.inside.Places.{frame_of}
 use Rattle.commit_flush.specs.Observed.{is_whole_in, lack_in}
 use Rattle.commit_flush.proofs.ObserveFacts.{idle_lack, idle_whole}
 use Rattle.commit_flush.proofs.window.Window.lacks.Goals as goal

@@ -1,6 +1,6 @@
 use Rattle.std.proofs.Common.{◌≡◌, ◌+◌, ◌-◌, ◌≤◌, drop, length}
 use Rattle.commit_flush_spec.specs.Dropping.{untouched}
-use Rattle.lsq_order.specs.Reached.{reached}
+use Rattle.lsq_order.specs.inside.Reached.{reached}
 use Rattle.commit_flush.proofs.window.Window.left_from.Given as goal
 
 abbrev pub invariant-loop-a : goal.invariant-loop-a

@@ -6,11 +6,11 @@ use Rattle.commit_flush_spec.specs.Window as event
 use Rattle.commit_flush.proofs.SeenFacts.{eight, has_block}
 use Rattle.commit_flush.proofs.PhaseFacts.{read_phase}
 use Rattle.commit_flush.proofs.MoveFacts.{inside, outside, below, loads_seen}
-use Rattle.commit_flush.specs.Places.{age_of}
+use Rattle.commit_flush.specs.inside.Places.{age_of}
 use Rattle.commit_flush.specs.Seen.{Seen}
 use Rattle.commit_flush.proofs.AskFacts.{goes_on, has_age}
 use Rattle.commit_flush_spec.specs.Older.{committed}
-use Rattle.commit_flush.specs.Seen.{flying}
+use Rattle.commit_flush.specs.inside.Seen.{flying}
 use Rattle.commit_flush.proofs.AccessFacts.{load_told, stands}
 use Rattle.commit_flush.proofs.window.Window.load.Goals as goal
 

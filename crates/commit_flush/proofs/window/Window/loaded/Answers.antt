@@ -1,6 +1,6 @@
 use Rattle.std.proofs.Common.{sym, ap, Some, ◌∙◌}
 use Rattle.commit_flush_spec.specs.Older.{committed}
-use Rattle.frame_state.specs.Held.{taken_of}
+use Rattle.frame_state.specs.inside.Held.{taken_of}
 use Rattle.commit_flush.proofs.BankFacts.{age_below}
 use Rattle.commit_flush.proofs.LoadTold.{seen_word_is}
 use Rattle.commit_flush.proofs.window.Window.loaded.Goals as goal

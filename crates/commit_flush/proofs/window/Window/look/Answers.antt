@@ -1,5 +1,5 @@
 use Rattle.std.proofs.Common.{ap, sym, ◌∙◌}
-use Rattle.commit_flush.specs.Banked.{word_read}
+use Rattle.commit_flush.specs.inside.Banked.{word_read}
 use Rattle.commit_flush.proofs.PhaseFacts.{look_is}
 use Rattle.commit_flush.proofs.window.Window.look.Goals as goal
 

@@ -2,8 +2,8 @@ use Rattle.std.proofs.Common.{◌≤◌, ◌<◌, ap, sym, ◌∙◌, subst, len
 use Rattle.trips_isa.specs.declared.run.Stepped.TheVariants.{Went}
 use Rattle.trips_isa.specs.Machine.{State}
 use Rattle.commit_flush_spec.specs.InFlight.{opened}
-use Rattle.reg_bank.specs.Ages.{at}
-use Rattle.commit_flush.specs.Seen.{IsSound, window_of}
+use Rattle.reg_bank.specs.inside.Ages.{at}
+use Rattle.commit_flush.specs.inside.Seen.{IsSound, window_of}
 use Rattle.commit_flush.proofs.OpenFacts.{opens, sound}
 use Rattle.commit_flush.proofs.AccessFacts.{empty_stands}
 use Rattle.commit_flush.proofs.window.Window.make_at.Goals as goal

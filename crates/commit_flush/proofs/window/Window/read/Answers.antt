@@ -7,7 +7,7 @@ use Rattle.commit_flush.proofs.PhaseFacts.{read_phase}
 use Rattle.commit_flush.proofs.MoveFacts.{inside, outside, below, reads_seen, declares_seen}
 use Rattle.commit_flush.proofs.AskFacts.{never_unknown}
 use Rattle.commit_flush_spec.specs.Older.{committed}
-use Rattle.commit_flush.specs.Seen.{flying}
+use Rattle.commit_flush.specs.inside.Seen.{flying}
 use Rattle.commit_flush.proofs.AccessFacts.{read_told, stands}
 use Rattle.commit_flush.proofs.window.Window.read.Goals as goal
 

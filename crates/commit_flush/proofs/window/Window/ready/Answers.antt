@@ -1,6 +1,6 @@
 use Rattle.std.proofs.Common.{◌+◌, refl, arith}
 use Rattle.commit_flush_spec.specs.Window.{Fire, can}
-use Rattle.frame_state.specs.Events.{is_done}
+use Rattle.frame_state.specs.inside.Events.{is_done}
 use Rattle.commit_flush.proofs.BitFacts.{all_set, none_yet, one_more}
 use Rattle.commit_flush.proofs.window.Window.ready.Goals as goal
 

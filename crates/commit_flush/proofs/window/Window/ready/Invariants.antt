@@ -1,6 +1,6 @@
 use Rattle.std.proofs.Common.{◌≡◌, ℕ, ◌&&◌, nat_lt}
 use Rattle.commit_flush_spec.specs.Window.{Fire, can}
-use Rattle.frame_state.specs.Events.{is_done}
+use Rattle.frame_state.specs.inside.Events.{is_done}
 use Rattle.base.specs.Rows.{has_bit}
 use Rattle.commit_flush.proofs.window.Window.ready.Given as goal
 

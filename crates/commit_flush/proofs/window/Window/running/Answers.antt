@@ -1,5 +1,5 @@
 use Rattle.std.proofs.Common.{sym, ◌∙◌, subst}
-use Rattle.frame_state.specs.Phases.{IsIdle}
+use Rattle.frame_state.specs.inside.Phases.{IsIdle}
 use Rattle.commit_flush.proofs.AskFacts.{same_blocks, told_of}
 use Rattle.commit_flush.proofs.PhaseFacts.{match_map}
 use Rattle.commit_flush.proofs.window.Window.running.Goals as goal

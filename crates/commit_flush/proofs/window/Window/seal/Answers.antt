@@ -6,7 +6,7 @@ use Rattle.commit_flush.proofs.SeenFacts.{eight, has_block}
 use Rattle.commit_flush.proofs.PhaseFacts.{read_phase}
 use Rattle.commit_flush.proofs.MoveFacts.{inside, outside, below, seals}
 use Rattle.commit_flush_spec.specs.Older.{committed}
-use Rattle.commit_flush.specs.Seen.{flying}
+use Rattle.commit_flush.specs.inside.Seen.{flying}
 use Rattle.commit_flush.proofs.AccessFacts.{seal_told, stands}
 use Rattle.commit_flush.proofs.window.Window.seal.Goals as goal
 

@@ -1,6 +1,6 @@
 use Rattle.std.proofs.Common.{◌≡◌, ◌-◌, ap, sym, ◌∙◌, take, arith}
 use Rattle.commit_flush_spec.specs.Older.{after_all, committed}
-use Rattle.lsq_order.specs.Taking.{taken}
+use Rattle.lsq_order.specs.inside.Taking.{taken}
 use Rattle.commit_flush.proofs.GapFacts.{memory_gap}
 use Rattle.commit_flush.proofs.LoadFacts.{taken_more}
 use Rattle.commit_flush.proofs.LoadTold.{frame_there}

@@ -1,6 +1,6 @@
 use Rattle.std.proofs.Common.{◌≡◌, ◌≤◌, take}
 use Rattle.commit_flush_spec.specs.Older.{after_all, committed}
-use Rattle.lsq_order.specs.Taking.{IsSought, taken}
+use Rattle.lsq_order.specs.inside.Taking.{IsSought, taken}
 use Rattle.commit_flush.proofs.window.Window.seek_older.Given as goal
 
 abbrev pub invariant-loop-end : goal.invariant-loop-end

@@ -1,5 +1,5 @@
 use Rattle.std.proofs.Common.{arith, subst}
-use Rattle.commit_flush.specs.Accesses.{NoneStores}
+use Rattle.commit_flush.specs.inside.Accesses.{NoneStores}
 use Rattle.commit_flush.specs.Seen.{Seen}
 use Rattle.commit_flush.proofs.GapFacts.{none_stores}
 use Rattle.commit_flush.proofs.PhaseFacts.{few_seen}

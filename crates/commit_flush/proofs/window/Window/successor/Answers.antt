@@ -2,8 +2,8 @@ use Rattle.std.proofs.Common.{ap, sym, ◌∙◌, Some}
 use Rattle.trips_isa.specs.declared.block.Image.{Image}
 use Rattle.trips_isa.specs.Machine.{State}
 use Rattle.commit_flush_spec.specs.Older.{after_all, committed, successor_of}
-use Rattle.frame_state.specs.Phases.{frame_in}
-use Rattle.frame_state.specs.Told.{exit_come}
+use Rattle.frame_state.specs.inside.Phases.{frame_in}
+use Rattle.frame_state.specs.inside.Told.{exit_come}
 use Rattle.commit_flush.proofs.AskFacts.{same_blocks}
 use Rattle.commit_flush.proofs.PhaseFacts.{known_behind}
 use Rattle.commit_flush.proofs.window.Window.successor.Goals as goal

@@ -2,13 +2,13 @@ use Rattle.std.proofs.Common.{◌/◌, ◌%◌, Some, sym, ap, ◌∙◌, subst}
 use Rattle.commit_flush_spec.specs.Causes.{NoToken, Done, NotNow}
 use Rattle.commit_flush_spec.specs.Frames.{token_places}
 use Rattle.commit_flush_spec.specs.Window as event
-use Rattle.reg_bank.specs.Ages.{at}
-use Rattle.commit_flush.specs.Places.{place_of}
-use Rattle.commit_flush.specs.Tokens.{with_token, AwaitsToken}
+use Rattle.reg_bank.specs.inside.Ages.{at}
+use Rattle.commit_flush.specs.inside.Places.{place_of}
+use Rattle.commit_flush.specs.inside.Tokens.{with_token, AwaitsToken}
 use Rattle.commit_flush.proofs.TryFacts.{answers_deliver, awaits_arrival, came, not_delivered, stayed}
 use Rattle.commit_flush.proofs.TryFacts.{went_inside, told, shown}
 use Rattle.commit_flush_spec.specs.Older.{committed}
-use Rattle.commit_flush.specs.Seen.{flying}
+use Rattle.commit_flush.specs.inside.Seen.{flying}
 use Rattle.commit_flush.proofs.AccessFacts.{deliver_told, turned_stands}
 use Rattle.commit_flush.proofs.DeliverFacts.{goes_free}
 use Rattle.commit_flush.proofs.PhaseFacts.{read_phase}

@@ -4,7 +4,7 @@ use Rattle.commit_flush_spec.specs.Window as event
 use Rattle.frame_state.specs.Events.{as_happened}
 use Rattle.commit_flush.proofs.TryFacts.{fired, not_fired, went_inside, told, shown}
 use Rattle.commit_flush_spec.specs.Older.{committed}
-use Rattle.commit_flush.specs.Seen.{flying}
+use Rattle.commit_flush.specs.inside.Seen.{flying}
 use Rattle.commit_flush.proofs.AccessFacts.{fire_told, turned_stands}
 use Rattle.commit_flush.proofs.window.Window.try_fire.Goals as goal
 

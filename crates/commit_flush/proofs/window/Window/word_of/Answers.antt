@@ -1,7 +1,7 @@
 use Rattle.std.proofs.Common.{sym, ◌∙◌, arith}
 use Rattle.commit_flush_spec.specs.Older.{committed}
-use Rattle.commit_flush_spec.specs.Numbered.{seen_at}
-use Rattle.frame_state.specs.Told.{read_register}
+use Rattle.commit_flush_spec.specs.inside.Numbered.{seen_at}
+use Rattle.frame_state.specs.inside.Told.{read_register}
 use Rattle.commit_flush.proofs.FrameFacts.{has_age}
 use Rattle.commit_flush.proofs.LookFacts.{word_some, read_below}
 use Rattle.commit_flush.proofs.AskFacts.{told_of}

@@ -1,6 +1,6 @@
 use Rattle.std.proofs.Common.{◌≡◌, map, rules, ap, ◌∙◌}
 use Rattle.c_meaning_spec.specs.Call.{array_bytes}
-use Rattle.flat_lower.specs.Objects.{Context, array_at}
+use Rattle.flat_lower.specs.inside.Objects.{Context, array_at}
 use Rattle.flat_lower.proofs.EmitStarts.{found}
 use Rattle.flat_lower.proofs.places.Places.array.Goals as goal
 

@@ -1,5 +1,5 @@
 use Rattle.std.proofs.Common.{◌≡◌, map, rules, ap, ◌∙◌}
-use Rattle.flat_lower.specs.Objects.{Context, global_bytes, global_at}
+use Rattle.flat_lower.specs.inside.Objects.{Context, global_bytes, global_at}
 use Rattle.flat_lower.proofs.EmitStarts.{found}
 use Rattle.flat_lower.proofs.places.Places.global.Goals as goal
 

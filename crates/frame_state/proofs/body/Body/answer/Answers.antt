@@ -1,6 +1,6 @@
 use Rattle.std.proofs.Common.{None, Some, set, ap, refl, ◌∙◌}
-use Rattle.frame_state.specs.Held.{Held, running, taken_of}
-use Rattle.frame_state.specs.Moves.{slot_token, slot_mark}
+use Rattle.frame_state.specs.inside.Held.{Held, running, taken_of}
+use Rattle.frame_state.specs.inside.Moves.{slot_token, slot_mark}
 use Rattle.frame_state.proofs.NodeFacts.{answers}
 use Rattle.frame_state.proofs.StayFacts.{stays_as, sent_stays}
 use Rattle.frame_state.proofs.body.Body.answer.Goals as goal

@@ -1,7 +1,7 @@
 use Rattle.std.proofs.Common.{ap, ◌∙◌}
 use Rattle.std.specs.Prelude.{is_none}
 use Rattle.commit_flush_spec.specs.Frames.{at}
-use Rattle.frame_state.specs.Held.{running}
+use Rattle.frame_state.specs.inside.Held.{running}
 use Rattle.frame_state.proofs.NodeFacts.{comes}
 use Rattle.frame_state.proofs.StayFacts.{stays_as, moved_stays, keeps_as, moved_keeps}
 use Rattle.frame_state.proofs.body.Body.deliver.Goals as goal

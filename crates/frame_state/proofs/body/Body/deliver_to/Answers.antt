@@ -1,8 +1,8 @@
 use Rattle.std.proofs.Common.{Some, ap, sym, ◌∙◌}
 use Rattle.std.specs.Prelude.{is_none}
 use Rattle.commit_flush_spec.specs.Frames.{at}
-use Rattle.frame_state.specs.Held.{Held, running}
-use Rattle.frame_state.specs.Moves.{moved}
+use Rattle.frame_state.specs.inside.Held.{Held, running}
+use Rattle.frame_state.specs.inside.Moves.{moved}
 use Rattle.frame_state.proofs.NodeFacts.{comes}
 use Rattle.frame_state.proofs.StayFacts.{stays_as, moved_stays, keeps_as, moved_keeps}
 use Rattle.frame_state.proofs.body.Body.deliver_to.Goals as goal

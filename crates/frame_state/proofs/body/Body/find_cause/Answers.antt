@@ -1,7 +1,7 @@
 use Rattle.std.proofs.Common.{sym, ap, ap₂, ◌∙◌}
 use Rattle.trips_isa.specs.Marks.{least, least_at, writes_to}
 use Rattle.commit_flush_spec.specs.Marks.{mark_held}
-use Rattle.frame_state.specs.Held.{Held}
+use Rattle.frame_state.specs.inside.Held.{Held}
 use Rattle.frame_state.proofs.LeastFacts.{owed_is}
 use Rattle.frame_state.proofs.body.Body.find_cause.Goals as goal
 

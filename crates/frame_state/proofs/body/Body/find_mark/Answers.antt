@@ -1,7 +1,7 @@
 use Rattle.std.proofs.Common.{◌+◌, ap, ◌∙◌}
 use Rattle.commit_flush_spec.specs.Marks.{mark_on}
 use Rattle.commit_flush_spec.specs.Frames.{at}
-use Rattle.frame_state.specs.Held.{Held}
+use Rattle.frame_state.specs.inside.Held.{Held}
 use Rattle.frame_state.proofs.NodeFacts.{marked_by}
 use Rattle.frame_state.proofs.body.Body.find_mark.Goals as goal
 

@@ -1,6 +1,6 @@
 use Rattle.std.proofs.Common.{true, set, ap, refl, ◌∙◌}
-use Rattle.frame_state.specs.Held.{Held, running}
-use Rattle.frame_state.specs.Moves.{fired_slot}
+use Rattle.frame_state.specs.inside.Held.{Held, running}
+use Rattle.frame_state.specs.inside.Moves.{fired_slot}
 use Rattle.frame_state.proofs.NodeFacts.{fires}
 use Rattle.frame_state.proofs.StayFacts.{stays_as, slot_stays}
 use Rattle.frame_state.proofs.body.Body.fire.Goals as goal

@@ -1,7 +1,7 @@
 use Rattle.std.proofs.Common.{cond, ap, sym, ◌∙◌}
 use Rattle.commit_flush_spec.specs.Dataflow.{fire}
-use Rattle.frame_state.specs.Held.{Held, running}
-use Rattle.frame_state.specs.Moves.{slot_token}
+use Rattle.frame_state.specs.inside.Held.{Held, running}
+use Rattle.frame_state.specs.inside.Moves.{slot_token}
 use Rattle.frame_state.proofs.FiringFacts.{fires_if, same_unless, stays_if}
 use Rattle.frame_state.proofs.StayFacts.{stays_as}
 use Rattle.frame_state.proofs.body.Body.fire_if.Goals as goal

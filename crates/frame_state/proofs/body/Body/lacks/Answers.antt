@@ -1,6 +1,6 @@
 use Rattle.std.proofs.Common.{ap, ◌∙◌}
 use Rattle.std.specs.Prelude.{is_none}
-use Rattle.frame_state.specs.Held.{running}
+use Rattle.frame_state.specs.inside.Held.{running}
 use Rattle.frame_state.proofs.LackFacts.{lacks_none}
 use Rattle.frame_state.proofs.body.Body.lacks.Goals as goal
 

@@ -1,8 +1,8 @@
 use Rattle.std.proofs.Common.{sym, ap, ◌∙◌}
 use Rattle.trips_isa.specs.Outcomes.{writes_from, all_stores}
 use Rattle.commit_flush_spec.specs.Frames.{at}
-use Rattle.frame_state.specs.Held.{Held, as_exit}
-use Rattle.frame_state.specs.Effects.{exit_or_first}
+use Rattle.frame_state.specs.inside.Held.{Held, as_exit}
+use Rattle.frame_state.specs.inside.Effects.{exit_or_first}
 use Rattle.frame_state.proofs.OutputFacts.{outputs_are}
 use Rattle.frame_state.proofs.body.Body.outputs.Goals as goal
 

@@ -1,5 +1,5 @@
 use Rattle.std.proofs.Common.{ap, refl, ◌∙◌}
-use Rattle.frame_state.specs.Held.{running}
+use Rattle.frame_state.specs.inside.Held.{running}
 use Rattle.frame_state.proofs.NodeFacts.{reads}
 use Rattle.frame_state.proofs.StayFacts.{stays_as}
 use Rattle.frame_state.proofs.body.Body.read.Goals as goal

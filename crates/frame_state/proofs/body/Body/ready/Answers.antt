@@ -4,8 +4,8 @@ use Rattle.trips_isa.specs.declared.block.Block.{Block}
 use Rattle.trips_isa.specs.declared.block.Sense.TheVariants.{OnTrue, OnFalse}
 use Rattle.trips_isa.specs.Rule.{matched}
 use Rattle.commit_flush_spec.specs.Frames.{at}
-use Rattle.frame_state.specs.Held.{Held}
-use Rattle.frame_state.specs.Shapes.{IsShape}
+use Rattle.frame_state.specs.inside.Held.{Held}
+use Rattle.frame_state.specs.inside.Shapes.{IsShape}
 use Rattle.frame_state.proofs.ReadyFacts.{ready_by}
 use Rattle.frame_state.proofs.body.Body.ready.Goals as goal
 

@@ -1,5 +1,5 @@
 use Rattle.std.proofs.Common.{false, sym, ◌∙◌}
-use Rattle.frame_state.specs.Held.{running}
+use Rattle.frame_state.specs.inside.Held.{running}
 use Rattle.frame_state.proofs.NodeFacts.{token_is}
 use Rattle.frame_state.proofs.TargetFacts.{empty_token}
 use Rattle.frame_state.proofs.body.Body.token_at.Goals as goal

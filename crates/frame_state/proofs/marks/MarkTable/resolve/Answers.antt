@@ -1,5 +1,5 @@
 use Rattle.std.proofs.Common.{subst, arith}
-use Rattle.frame_state.specs.MarkRows.{HasNoMark}
+use Rattle.frame_state.specs.inside.MarkRows.{HasNoMark}
 use Rattle.frame_state.proofs.BareFacts.{stored_bare}
 use Rattle.frame_state.proofs.marks.MarkTable.resolve.Goals as goal
 

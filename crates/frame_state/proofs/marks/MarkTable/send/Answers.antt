@@ -1,5 +1,5 @@
 use Rattle.std.proofs.Common.{subst, arith}
-use Rattle.frame_state.specs.MarkRows.{HasNoMark}
+use Rattle.frame_state.specs.inside.MarkRows.{HasNoMark}
 use Rattle.frame_state.proofs.BareFacts.{sent_bare}
 use Rattle.frame_state.proofs.marks.MarkTable.send.Goals as goal
 

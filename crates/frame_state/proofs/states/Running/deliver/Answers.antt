@@ -1,7 +1,7 @@
 use Rattle.std.proofs.Common.{ap, subst, ◌∙◌}
 use Rattle.commit_flush_spec.specs.Dataflow.{deliver}
-use Rattle.frame_state.specs.Held.{Held, Stays, running}
-use Rattle.frame_state.specs.Moves.{KeepsSpots}
+use Rattle.frame_state.specs.inside.Held.{Held, Stays, running}
+use Rattle.frame_state.specs.inside.Moves.{KeepsSpots}
 use Rattle.frame_state.proofs.states.Running.deliver.Goals as goal
 
 pub returns : goal.returns

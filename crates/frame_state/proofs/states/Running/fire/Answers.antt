@@ -1,6 +1,6 @@
 use Rattle.std.proofs.Common.{ap, subst, ◌∙◌}
 use Rattle.commit_flush_spec.specs.Dataflow.{fire}
-use Rattle.frame_state.specs.Held.{Held, Stays, running}
+use Rattle.frame_state.specs.inside.Held.{Held, Stays, running}
 use Rattle.frame_state.proofs.states.Running.fire.Goals as goal
 
 pub returns : goal.returns

@@ -1,8 +1,8 @@
 use Rattle.std.proofs.Common.{cond, ap, subst, ◌∙◌}
 use Rattle.std.specs.Prelude.{is_some}
 use Rattle.commit_flush_spec.specs.Dataflow.{fire}
-use Rattle.frame_state.specs.Held.{Held, Stays, running}
-use Rattle.frame_state.specs.Moves.{slot_token}
+use Rattle.frame_state.specs.inside.Held.{Held, Stays, running}
+use Rattle.frame_state.specs.inside.Moves.{slot_token}
 use Rattle.frame_state.proofs.states.Running.fire_if.Goals as goal
 
 pub returns : goal.returns

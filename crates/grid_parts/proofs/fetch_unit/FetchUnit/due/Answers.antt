@@ -1,5 +1,5 @@
 use Rattle.std.proofs.Common.{ap, ◌∙◌}
-use Rattle.grid_parts.specs.Fetches.{due}
+use Rattle.grid_parts.specs.inside.Fetches.{due}
 use Rattle.grid_parts.proofs.FetchUnitFacts.{due_now, due_later, never_due}
 use Rattle.grid_parts.proofs.fetch_unit.FetchUnit.due.Goals as goal
 

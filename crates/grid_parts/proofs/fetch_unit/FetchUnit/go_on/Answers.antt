@@ -1,5 +1,5 @@
 use Rattle.std.proofs.Common.{sym, ap, ◌∙◌, arith}
-use Rattle.grid_parts.specs.Fetches.{nearer}
+use Rattle.grid_parts.specs.inside.Fetches.{nearer}
 use Rattle.grid_parts.proofs.FetchUnitFacts.{one_less, none_less}
 use Rattle.grid_parts.proofs.fetch_unit.FetchUnit.go_on.Goals as goal
 

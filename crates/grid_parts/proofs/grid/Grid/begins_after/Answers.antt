@@ -2,7 +2,7 @@ use Rattle.std.proofs.Common.{Some, sym, ap, ◌∙◌, arith}
 use Rattle.commit_flush_spec.specs.Older.{after_all, committed}
 use Rattle.grid_cycle_spec.specs.Fetches.{begun, begun_after, stands}
 use Rattle.grid_parts.specs.Seen.{seen}
-use Rattle.grid_parts.specs.Asked.{found_in}
+use Rattle.grid_parts.specs.inside.Asked.{found_in}
 use Rattle.grid_parts.proofs.FetchFacts.{HasYoungest, has_youngest, none_flies, block_is, begun_youngest, block_in}
 use Rattle.grid_parts.proofs.grid.Grid.begins_after.Goals as goal
 

@@ -2,7 +2,7 @@ use Rattle.std.proofs.Common.{sym, ap, ◌∙◌}
 use Rattle.commit_flush_spec.specs.Older.{committed, successor_of}
 use Rattle.grid_cycle_spec.specs.Fetches.{begun_behind}
 use Rattle.grid_parts.specs.Seen.{seen}
-use Rattle.grid_parts.specs.Asked.{found_in, number_of}
+use Rattle.grid_parts.specs.inside.Asked.{found_in, number_of}
 use Rattle.grid_parts.proofs.FrameFacts.{frame_number}
 use Rattle.grid_parts.proofs.FetchFacts.{HasNumber, exit_is, known_youngest, next_is, no_exit, not_next}
 use Rattle.grid_parts.proofs.grid.Grid.begins_behind.Goals as goal

@@ -2,7 +2,7 @@ use Rattle.std.proofs.Common.{Some, sym, ap, ◌∙◌, arith}
 use Rattle.grid_cycle_spec.specs.Ends.{commit_in, committed_as}
 use Rattle.grid_cycle_spec.specs.Grid.{numbers_of}
 use Rattle.grid_parts.specs.Seen.{seen}
-use Rattle.grid_parts.specs.Asked.{found_in, number_of}
+use Rattle.grid_parts.specs.inside.Asked.{found_in, number_of}
 use Rattle.grid_parts.proofs.EndFacts.{HasOldest, has_oldest}
 use Rattle.grid_parts.proofs.FetchFacts.{block_is, none_flies}
 use Rattle.grid_parts.proofs.grid.Grid.commit_first.Goals as goal

@@ -2,7 +2,7 @@ use Rattle.std.proofs.Common.{◌==◌, sym, ap, ◌∙◌}
 use Rattle.grid_cycle_spec.specs.Acting.{settled}
 use Rattle.grid_cycle_spec.specs.Ends.{learning}
 use Rattle.grid_cycle_spec.specs.Grid.{forget}
-use Rattle.grid_parts.specs.Changes.{committed_more}
+use Rattle.grid_parts.specs.inside.Changes.{committed_more}
 use Rattle.grid_parts.specs.Seen.{seen}
 use Rattle.grid_parts.proofs.grid.Grid.commits.Goals as goal
 

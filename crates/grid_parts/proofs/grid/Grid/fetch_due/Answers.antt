@@ -2,7 +2,7 @@ use Rattle.std.proofs.Common.{◌≡◌, true, false, sym, ap, ◌∙◌}
 use Rattle.commit_flush_spec.specs.Window.{Fetch, can}
 use Rattle.grid_cycle_spec.specs.Acting.{is_done, may}
 use Rattle.grid_cycle_spec.specs.Fetches.{fill_where}
-use Rattle.grid_parts.specs.Changes.{filled_by}
+use Rattle.grid_parts.specs.inside.Changes.{filled_by}
 use Rattle.grid_parts.specs.Seen.{seen}
 use Rattle.grid_parts.proofs.FetchFacts.{fills_is, has_room}
 use Rattle.grid_parts.proofs.grid.Grid.fetch_due.Goals as goal

@@ -4,7 +4,7 @@ use Rattle.block_cases.specs.Orders.{slot_of}
 use Rattle.commit_flush_spec.specs.Frames.{Frame}
 use Rattle.grid_cycle_spec.specs.Units.{result_enters}
 use Rattle.grid_parts.specs.Seen.{seen}
-use Rattle.grid_parts.specs.Asked.{frame_of, found_in, block_of}
+use Rattle.grid_parts.specs.inside.Asked.{frame_of, found_in, block_of}
 use Rattle.grid_parts.proofs.UnitFacts.{some_frame, no_frame, given_none, given_rest, given}
 use Rattle.grid_parts.proofs.grid.Grid.give.Goals as goal
 

@@ -2,9 +2,9 @@ use Rattle.std.proofs.Common.{◌≡◌, Some, true, false, is_some, ap, ◌∙�
 use Rattle.block_cases.specs.Orders.{slot_of}
 use Rattle.commit_flush_spec.specs.Frames.{Frame}
 use Rattle.grid_cycle_spec.specs.Units.{issued, takes}
-use Rattle.grid_parts.specs.Changes.{taken_up}
+use Rattle.grid_parts.specs.inside.Changes.{taken_up}
 use Rattle.grid_parts.specs.Seen.{seen}
-use Rattle.grid_parts.specs.Asked.{frame_of, found_in, block_of}
+use Rattle.grid_parts.specs.inside.Asked.{frame_of, found_in, block_of}
 use Rattle.grid_parts.proofs.UnitFacts.{some_frame, no_frame, issued_none, issued_is}
 use Rattle.grid_parts.proofs.grid.Grid.issue.Goals as goal
 

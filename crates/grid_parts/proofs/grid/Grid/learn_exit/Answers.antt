@@ -1,6 +1,6 @@
 use Rattle.std.proofs.Common.{sym, ap, ap₂, ◌∙◌}
 use Rattle.grid_cycle_spec.specs.Ends.{learning}
-use Rattle.grid_parts.specs.Changes.{learned_of}
+use Rattle.grid_parts.specs.inside.Changes.{learned_of}
 use Rattle.grid_parts.specs.Seen.{seen}
 use Rattle.grid_parts.proofs.FetchFacts.{HasNumber, exit_is, no_exit}
 use Rattle.grid_parts.proofs.grid.Grid.learn_exit.Goals as goal

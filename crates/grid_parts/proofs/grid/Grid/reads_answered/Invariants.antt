@@ -2,7 +2,7 @@ use Rattle.std.proofs.Common.{◌≡◌}
 use Rattle.grid_cycle_spec.specs.Choosing.{each}
 use Rattle.grid_cycle_spec.specs.Banks.{bank_turn}
 use Rattle.grid_parts.specs.Seen.{seen}
-use Rattle.grid_parts.specs.Marked.{ReadsMarked}
+use Rattle.grid_parts.specs.inside.Marked.{ReadsMarked}
 use Rattle.grid_parts.proofs.grid.Grid.reads_answered.Given as goal
 
 abbrev pub invariant-loop-bank : goal.invariant-loop-bank

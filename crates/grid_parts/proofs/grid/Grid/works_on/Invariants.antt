@@ -2,7 +2,7 @@ use Rattle.std.proofs.Common.{◌≡◌}
 use Rattle.grid_cycle_spec.specs.Choosing.{each}
 use Rattle.grid_cycle_spec.specs.Units.{unit_turn}
 use Rattle.grid_parts.specs.Seen.{seen}
-use Rattle.grid_parts.specs.Marked.{SlotsMarked}
+use Rattle.grid_parts.specs.inside.Marked.{SlotsMarked}
 use Rattle.grid_parts.proofs.grid.Grid.works_on.Given as goal
 
 abbrev pub invariant-loop-tile : goal.invariant-loop-tile

@@ -1,6 +1,6 @@
 use Rattle.std.proofs.Common.{ap}
 use Rattle.grid_parts.specs.Seen.{seen}
-use Rattle.grid_parts.specs.Changes.{with_parcels}
+use Rattle.grid_parts.specs.inside.Changes.{with_parcels}
 use Rattle.grid_parts.proofs.ArrivalFacts.{arrived_within}
 use Rattle.grid_parts.proofs.state.State.arrived.Goals as goal
 

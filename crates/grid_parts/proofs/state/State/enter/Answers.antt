@@ -2,7 +2,7 @@ use Rattle.std.proofs.Common.{ℕ, sym, ap, ◌∙◌}
 use Rattle.operand_net.specs.Places.{at, injected}
 use Rattle.operand_net.specs.declared.parcel.Parcel.{Parcel}
 use Rattle.grid_parts.specs.Seen.{seen}
-use Rattle.grid_parts.specs.Changes.{with_parcels}
+use Rattle.grid_parts.specs.inside.Changes.{with_parcels}
 use Rattle.grid_parts.proofs.state.State.enter.Goals as goal
 
 pub returns : goal.returns

@@ -1,7 +1,7 @@
 use Rattle.std.proofs.Common.{◌+◌, drop, sym, ap, ◌∙◌, arith}
 use Rattle.std.proofs.lemmas.List.{at_drop_more, at_drop_all}
 use Rattle.grid_parts.specs.Seen.{seen}
-use Rattle.grid_parts.specs.Changes.{forget_each}
+use Rattle.grid_parts.specs.inside.Changes.{forget_each}
 use Rattle.grid_parts.proofs.state.State.forget_all.Goals as goal
 
 pub loop-n-preserved : goal.loop-n-preserved

@@ -1,7 +1,7 @@
 use Rattle.std.proofs.Common.{◌≡◌, drop}
 use Rattle.commit_flush_spec.specs.Window.{Window}
 use Rattle.grid_parts.specs.Seen.{seen}
-use Rattle.grid_parts.specs.Changes.{forget_each}
+use Rattle.grid_parts.specs.inside.Changes.{forget_each}
 use Rattle.grid_parts.proofs.state.State.forget_all.Given as goal
 
 abbrev pub invariant-loop-n : goal.invariant-loop-n

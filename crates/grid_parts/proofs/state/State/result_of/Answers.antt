@@ -1,5 +1,5 @@
 use Rattle.std.proofs.Common.{ℕ, Option, slice_index_or, sym, ap, ◌∙◌, arith}
-use Rattle.grid_parts.specs.EldestChoices.{first_found, lowest_slot}
+use Rattle.grid_parts.specs.inside.EldestChoices.{first_found, lowest_slot}
 use Rattle.grid_parts.proofs.ChoiceFacts.{passed, found, none_left, result_is}
 use Rattle.grid_parts.proofs.state.State.result_of.Goals as goal
 

@@ -1,5 +1,5 @@
 use Rattle.std.proofs.Common.{◌≡◌, drop, slice_index_or}
-use Rattle.grid_parts.specs.EldestChoices.{first_found, lowest_slot}
+use Rattle.grid_parts.specs.inside.EldestChoices.{first_found, lowest_slot}
 use Rattle.grid_parts.proofs.state.State.result_of.Given as goal
 
 abbrev pub invariant-loop-i : goal.invariant-loop-i

@@ -1,6 +1,6 @@
 use Rattle.std.proofs.Common.{◌≡◌, ℕ, zero, suc, List, [], ◌∷◌, Option, Some, None, refl}
 use Rattle.std.proofs.Common.{sym, ap, ◌∙◌, slice_get}
-use Rattle.hyper_build.specs.Ground.{Ground, entry_at}
+use Rattle.hyper_build.specs.inside.Ground.{Ground, entry_at}
 use Rattle.hyper_build.proofs.ground.Site.entry.Goals as goal
 
 abbrev or_zero : Option ℕ → ℕ

@@ -1,7 +1,7 @@
 use Rattle.std.proofs.Common.{◌≡◌, ℕ, zero, suc, List, [], ◌∷◌, Option, Some, None, refl}
 use Rattle.std.proofs.Common.{sym, ap, ◌∙◌, slice_get}
-use Rattle.hyper_build.specs.Laws.{groups_by}
-use Rattle.hyper_build.specs.Ground.{Ground}
+use Rattle.hyper_build.specs.inside.Laws.{groups_by}
+use Rattle.hyper_build.specs.inside.Ground.{Ground}
 use Rattle.hyper_build.proofs.ground.Site.groups_of.Goals as goal
 
 abbrev or_none : Option (List (List ℕ)) → List (List ℕ)

@@ -4,9 +4,9 @@ use Rattle.std.proofs.lemmas.Bool.{cases_eq, cases_lt}
 use Rattle.trips_isa.specs.declared.block.Stored.{Stored}
 use Rattle.commit_flush_spec.specs.Frames.{at, numbers}
 use Rattle.commit_flush_spec.specs.Older.{covers}
-use Rattle.frame_state.specs.Held.{all_taken}
-use Rattle.lsq_order.specs.Reached.{reached, narrowed}
-use Rattle.lsq_order.specs.Wrong.{is_wrong}
+use Rattle.frame_state.specs.inside.Held.{all_taken}
+use Rattle.lsq_order.specs.inside.Reached.{reached, narrowed}
+use Rattle.lsq_order.specs.inside.Wrong.{is_wrong}
 use Rattle.lsq_order.proofs.WrongFacts.{numbers_are, narrowed_start, narrowed_next, narrowed_gap, wrong_is}
 use Rattle.lsq_order.proofs.WrongFacts.{found_is, own_found, left_is, own_left}
 use Rattle.lsq_order.proofs.WrongFacts.{no_load_between, no_store_between, unanswered}

@@ -1,8 +1,8 @@
 use Rattle.std.proofs.Common.{◌≡◌, ◌<◌, ◌≤◌, ◌-◌, ℕ, false}
 use Rattle.commit_flush_spec.specs.Frames.{at}
-use Rattle.frame_state.specs.Held.{all_taken}
-use Rattle.lsq_order.specs.Reached.{reached, narrowed}
-use Rattle.lsq_order.specs.Wrong.{is_wrong}
+use Rattle.frame_state.specs.inside.Held.{all_taken}
+use Rattle.lsq_order.specs.inside.Reached.{reached, narrowed}
+use Rattle.lsq_order.specs.inside.Wrong.{is_wrong}
 use Rattle.lsq_order.proofs.reach.Reach.first_wrong.Given as goal
 
 abbrev pub invariant-loop-n : goal.invariant-loop-n

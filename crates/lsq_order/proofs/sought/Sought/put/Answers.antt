@@ -1,5 +1,5 @@
 use Rattle.std.proofs.Common.{arith}
-use Rattle.lsq_order.specs.Taking.{byte_bit}
+use Rattle.lsq_order.specs.inside.Taking.{byte_bit}
 use Rattle.lsq_order.proofs.MaskFacts.{small_and}
 use Rattle.lsq_order.proofs.TakingFacts.{put_off, put_bit}
 use Rattle.lsq_order.proofs.sought.Sought.put.Goals as goal

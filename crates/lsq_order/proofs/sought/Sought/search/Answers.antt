@@ -1,7 +1,7 @@
 use Rattle.std.proofs.Common.{◌≡◌, ◌-◌, ℕ, Option, None, get_or, sym, ap, ◌∙◌, arith}
 use Rattle.trips_isa.specs.declared.block.Stored.{Stored}
 use Rattle.trips_isa.specs.Stores.{byte_seen}
-use Rattle.lsq_order.specs.Taking.{bit_taken}
+use Rattle.lsq_order.specs.inside.Taking.{bit_taken}
 use Rattle.lsq_order.proofs.PassFacts.{no_store, taken_gap, turned}
 use Rattle.lsq_order.proofs.TakingFacts.{found_bit, taken_same}
 use Rattle.lsq_order.proofs.sought.Sought.search.Goals as goal

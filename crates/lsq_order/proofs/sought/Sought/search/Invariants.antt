@@ -1,7 +1,7 @@
 use Rattle.std.proofs.Common.{◌≡◌, ◌<◌, ◌≤◌, ℕ, get_or}
 use Rattle.std.specs.Prelude.{None}
 use Rattle.trips_isa.specs.Stores.{byte_seen}
-use Rattle.lsq_order.specs.Taking.{IsSought, bit_taken}
+use Rattle.lsq_order.specs.inside.Taking.{IsSought, bit_taken}
 use Rattle.lsq_order.proofs.sought.Sought.search.Given as goal
 
 abbrev pub invariant-loop-end : goal.invariant-loop-end

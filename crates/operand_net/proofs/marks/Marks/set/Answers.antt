@@ -1,5 +1,5 @@
 use Rattle.std.proofs.Common.{◌<◌, ◌*◌, ◌==◌, cond, length, ap, ◌∙◌, arith}
-use Rattle.operand_net.specs.Marks.{marked}
+use Rattle.operand_net.specs.inside.Marks.{marked}
 use Rattle.operand_net.proofs.MarkBits.{set_mark}
 use Rattle.operand_net.proofs.marks.Marks.set.Goals as goal
 

@@ -1,7 +1,7 @@
 use Rattle.std.proofs.Common.{◌≡◌, length, subst, refl, arith}
 use Rattle.operand_net.specs.Places.{at}
 use Rattle.operand_net.specs.Tick.{Ticked}
-use Rattle.operand_net.specs.Rows.{taken}
+use Rattle.operand_net.specs.inside.Rows.{taken}
 use Rattle.operand_net.proofs.Frames.{begins, one_frame}
 use Rattle.operand_net.proofs.mesh.Mesh.tick_frames.Goals as goal
 

@@ -1,4 +1,4 @@
-use Rattle.operand_net.specs.Rows.{taken}
+use Rattle.operand_net.specs.inside.Rows.{taken}
 use Rattle.operand_net.proofs.Frames.{Going}
 use Rattle.operand_net.proofs.mesh.Mesh.tick_frames.Given as goal
 

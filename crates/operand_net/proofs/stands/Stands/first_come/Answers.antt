@@ -1,8 +1,8 @@
 use Rattle.std.proofs.Common.{◌≡◌, ◌+◌, ◌*◌, ℕ, sym, ap, ◌∙◌, get_or, arith}
 use Rattle.operand_net.specs.declared.parcel.Stand.TheVariants.{Nowhere}
-use Rattle.operand_net.specs.Places.{come}
-use Rattle.operand_net.specs.Marks.{marked}
-use Rattle.operand_net.specs.IsStands.{is_come}
+use Rattle.operand_net.specs.inside.Places.{come}
+use Rattle.operand_net.specs.inside.Marks.{marked}
+use Rattle.operand_net.specs.inside.IsStands.{is_come}
 use Rattle.operand_net.proofs.Places.{first_is, none_is}
 use Rattle.operand_net.proofs.stands.Stands.first_come.Goals as goal
 

@@ -1,0 +1,4 @@
+pub mod HeaderReading
+pub mod ImageReading
+pub mod Reading
+pub mod WordReading

@@ -1,0 +1,3 @@
+pub mod Branches
+pub mod IsPredictor
+pub mod Predicts

@@ -1,0 +1,76 @@
+-- What the passes make of a hyper program before its labels are resolved: a machine block of each
+-- hyper block.
+use Rattle.std.specs.Prelude.{◌≡◌, ℕ, ◌≤◌, List, length, slice_get, Some}
+use Rattle.trips_isa.specs.declared.block.Block.{Block}
+use Rattle.trips_isa.specs.Places.{nodes_of}
+use Rattle.block_cases.specs.Cases.{cases}
+use Rattle.ir_forms.specs.declared.flow.FlowBlock.{FlowBlock}
+use Rattle.ir_forms.specs.inside.HyperCode as hyper
+use Rattle.ir_forms.specs.inside.HyperFits.{FitsHyper, IsFollowed}
+use Rattle.predication.specs.inside.Tails.{labelled}
+use Rattle.predication.specs.inside.Converted.{predicated}
+use Rattle.predication.specs.inside.Laws as convert
+use Rattle.null_outputs.specs.inside.Wants.{complete}
+use Rattle.fan_out.specs.inside.Targeted.{HasRoom, IsTargeted}
+use Rattle.grid_place.specs.declared.placed.Placing.{Placing}
+use Rattle.grid_place.specs.inside.Placings.{IsPlaced}
+use Rattle.c_compile_layout.specs.inside.Emitted.{most_blocks}
+
+-- the flow block of a hyper block: guards in place of branches, and a token for each output on every
+-- path; its constants still hold labels
+abbrev pub flow_of : hyper.Block → FlowBlock
+flow_of b = complete (predicated (labelled b))
+
+-- u is the machine block that the passes make of a hyper block, in the slots that a placing says; it
+-- is within the limits
+pub record IsMachineBlock (p : Placing) (b : hyper.Block) (u : Block) : Type 0 where
+  -- the loads and stores, and the exits
+  pub numbers : convert.HasRoom b
+  -- the instructions, reads and writes
+  pub room : HasRoom (flow_of b)
+  -- with targets, in the slots of the flow block's nodes
+  pub target : Block
+  -- each node at its number, the `mov`s that spread its result behind all
+  pub targeted : IsTargeted (flow_of b) target
+  -- the checker takes no more
+  pub cases : cases (nodes_of target) ≤ 256
+  -- its instructions moved to other slots, with every target that names them
+  pub placed : IsPlaced p target u
+
+-- the same, whatever the number of its cases
+pub record IsPassed (p : Placing) (b : hyper.Block) (u : Block) : Type 0 where
+  pub numbers : convert.HasRoom b
+  pub room : HasRoom (flow_of b)
+  pub target : Block
+  pub targeted : IsTargeted (flow_of b) target
+  pub placed : IsPlaced p target u
+
+-- us are those of the first n blocks of a hyper program
+pub record AreFirstPassed (p : Placing) (B : List hyper.Block) (n : ℕ) (us : List Block) : Type 0
+  where
+    pub size : length us ≡ n
+    -- each from the hyper block of the same number
+    pub each : (k : ℕ) (b : hyper.Block) (u : Block) → slice_get B k ≡ Some b
+        → slice_get us k ≡ Some u → IsPassed p b u
+
+-- us are those of a hyper program
+abbrev pub ArePassed : Placing → List hyper.Block → List Block → Type 0
+ArePassed p B us = AreFirstPassed p B (length B) us
+
+-- us are the machine blocks of a hyper program
+pub record AreMachineBlocks (p : Placing) (B : List hyper.Block) (us : List Block) : Type 0 where
+  pub size : length us ≡ length B
+  -- each from the hyper block of the same number
+  pub each : (k : ℕ) (b : hyper.Block) (u : Block) → slice_get B k ≡ Some b
+      → slice_get us k ≡ Some u → IsMachineBlock p b u
+
+-- a hyper program that the passes take: its blocks fit, lead to its blocks, and are as many as an
+-- image holds of whatever size
+pub record FitsPasses (B : List hyper.Block) : Type 0 where
+  -- a run begins with block 0
+  pub some : 1 ≤ length B
+  -- each block has at most five chunks
+  pub few : length B ≤ most_blocks
+  -- and a call or a system call comes back to the block behind
+  pub followed : IsFollowed B
+  pub fit : (k : ℕ) (b : hyper.Block) → slice_get B k ≡ Some b → FitsHyper b

@@ -1,0 +1,16 @@
+pub mod Accesses
+pub mod Banked
+pub mod Bits
+pub mod Emptied
+pub mod Endings
+pub mod Kept
+pub mod Known
+pub mod Left
+pub mod Lent
+pub mod Observed
+pub mod Places
+pub mod Seen
+pub mod Steps
+pub mod Telling
+pub mod Tokens
+pub mod Youngest

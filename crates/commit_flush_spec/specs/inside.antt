@@ -1,0 +1,9 @@
+pub mod Driving
+pub mod DrivingLaws
+pub mod Dropping
+pub mod Invariant
+pub mod Laws
+pub mod NextEvent
+pub mod Numbered
+pub mod Observers
+pub mod Work

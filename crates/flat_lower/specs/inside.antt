@@ -1,0 +1,13 @@
+pub mod Emitted
+pub mod Expressions
+pub mod Fits
+pub mod FitsSwitches
+pub mod Keeps
+pub mod Kinds
+pub mod Objects
+pub mod Operations
+pub mod Sizes
+pub mod Statements
+pub mod Switches
+pub mod Tree
+pub mod TreeViews

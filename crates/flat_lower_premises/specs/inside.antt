@@ -1,0 +1,11 @@
+pub mod Assigners
+pub mod Jumps
+pub mod Laws
+pub mod Limits
+pub mod Most
+pub mod Nodes
+pub mod Sizes
+pub mod SourceNodes
+pub mod Trees
+pub mod TypedTrees
+pub mod Words

@@ -1,0 +1,13 @@
+pub mod Changes
+pub mod Effects
+pub mod Events
+pub mod Faulting
+pub mod Held
+pub mod MarkRows
+pub mod Moves
+pub mod Phases
+pub mod Predicates
+pub mod Shapes
+pub mod Told
+pub mod Tried
+pub mod Wants

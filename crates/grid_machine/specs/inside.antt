@@ -1,0 +1,4 @@
+pub mod Counted
+pub mod Named
+pub mod Shaped
+pub mod WholeRuns

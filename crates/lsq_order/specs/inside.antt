@@ -1,0 +1,4 @@
+pub mod Masks
+pub mod Reached
+pub mod Taking
+pub mod Wrong
