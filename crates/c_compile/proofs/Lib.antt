@@ -2,5 +2,6 @@ pub mod Placed
 pub mod SmallRows
 pub mod Accepted
 pub mod Images
+pub mod Meant
 pub mod CutPrograms
 pub mod TriedPlans

@@ -13,14 +13,17 @@ use Rattle.trips_answers.specs.Settings.{settings_of}
 use Rattle.trips_answers.specs.Refused.{MayBeRefused, IsRefused}
 use Rattle.trips_answers.specs.Worked.{IsWorked}
 use Rattle.trips_answers.specs.Answer.{IsAnswer}
-use Rattle.trips_answers.specs.Table.{IsAnswered, IsCutOff, IsOneOf, EndsAs, EvalEnds}
+use Rattle.trips_answers.specs.Table.{IsAnswered, IsCutOff, EndsAs, EvalEnds}
+use Rattle.trips_requests.specs.Table.{IsOneOf}
+use Rattle.trips_answers.specs.Causes.{IsUnfit}
 use Rattle.trips_answers.specs.Evaluated.{RunEndsAs}
 use Rattle.trips_answers.specs.Ended.{ResultMeans}
 use Rattle.trips_answers.proofs.Rows.{kind, usage_row, read_fault_row, refused_row, no_row}
 use Rattle.trips_answers.proofs.Rows.{usage_comes_row, refused_comes_row, is_told}
 use Rattle.trips_answers.proofs.Compiled as compiled
 use Rattle.trips_answers.proofs.Compiled.{run_ends_as}
-use Rattle.trips_answers.proofs.Ends.{ends_row, ends_row_with, undefined_row}
+use Rattle.trips_answers.proofs.Ends.{ends_row, ends_row_with, some_asked, undefined_row}
+use Rattle.trips_answers.proofs.Plainly.{unfit_row}
 
 module _ (held : List ℕ → Option (List ℕ)) (rose : Type 0) (old new : Option (List ℕ))
     (cut : Type 0) (q : Option Request) where
@@ -113,6 +116,16 @@ module _ (held : List ℕ → Option (List ℕ)) (rose : Type 0) (old new : Opti
         [ inl r ↦ inl r | inr f ↦ inr (inl f) ]
   ]
 
+  pub unfit_comes : (s : Status) → IsAnswered q held rose old new cut s → IsUnfit q held
+      → IsOneOf s (status.Refused ∷ status.ReadFault ∷ status.Memory ∷ status.WriteFault ∷ [])
+  unfolding IsWhole
+  unfit_comes s a out = elim (split s a) [
+    | inl m ↦ inr (inr (inl m))
+    | inr (inl w) ↦ inr (inr (inr (inl w.0)))
+    | inr (inr row) ↦ elim (unfit_row q held rose s row.0 row.1 out)
+        [ inl r ↦ inl r | inr f ↦ inr (inl f) ]
+  ]
+
   -- the whole report was written, where no write failed and memory was not refused
   pub whole_of : (s : Status) → IsAnswered q held rose old new cut s → (cut → ⊥) → s ≢ status.Memory
       → (report : List ℕ) × IsAnswer q held rose s report × Appended old new report
@@ -138,8 +151,18 @@ module _ (held : List ℕ → Option (List ℕ)) (rose : Type 0) (old new : Opti
   unfolding is_told
   not_cut s t e = let none : is_told s ≡ false = ap is_told e in absurd (cc)
 
+  -- an end that is told is that of a request
+  pub asked_end : (s : Status) → IsAnswered q held rose old new cut s → is_told s ≡ true
+      → (x : Request) × (q ≡ Some x)
+  unfolding IsWhole
+  asked_end s a told = elim (split s a) [
+    | inl none ↦ absurd (not_memory s told none)
+    | inr (inl w) ↦ absurd (not_cut s told w.0)
+    | inr (inr row) ↦ some_asked q held rose s row.0 row.1 told
+  ]
+
   -- work whose end is told
-  ends : (s : Status) → IsAnswered q held rose old new cut s → (x : Request) → q ≡ Some x
+  pub ends : (s : Status) → IsAnswered q held rose old new cut s → (x : Request) → q ≡ Some x
       → is_told s ≡ true → EndsAs held x s
   unfolding IsWhole
   ends s a x e told = elim (split s a) [
@@ -147,6 +170,17 @@ module _ (held : List ℕ → Option (List ℕ)) (rose : Type 0) (old new : Opti
     | inr (inl w) ↦ absurd (not_cut s told w.0)
     | inr (inr row) ↦ ends_row q held rose s row.0 x row.1 e told
   ]
+
+  -- the statuses that tell an end are these
+  pub end_told : (s : Status) → IsOneOf s
+      (status.Ended ∷ status.Budget ∷ status.StackFull ∷ status.Trap ∷ status.Undefined ∷ []) → is_told s ≡ true
+  unfolding is_told
+  end_told s (inl e) = ap is_told e
+  end_told s (inr (inl e)) = ap is_told e
+  end_told s (inr (inr (inl e))) = ap is_told e
+  end_told s (inr (inr (inr (inl e)))) = ap is_told e
+  end_told s (inr (inr (inr (inr (inl e))))) = ap is_told e
+  end_told s (inr (inr (inr (inr (inr none))))) = absurd none
 
   eval_told : (s : Status)
       → IsOneOf s (status.Ended ∷ status.Budget ∷ status.StackFull ∷ status.Undefined ∷ [])

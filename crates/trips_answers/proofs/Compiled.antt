@@ -40,13 +40,12 @@ use Rattle.trips_report.specs.declared.show.Show.{Show}
 use Rattle.trips_requests.specs.Texts.{output_and}
 use Rattle.trips_report.specs.Runs.{signed}
 use Rattle.trips_report.proofs.ListedTexts.{shows_nothing}
-use Rattle.trips_answers.specs.Report.{ending_of, run_report, shown_report, shown_behind}
+use Rattle.trips_answers.specs.Report.{ending_of, run_report, shown_report, shown_behind, status_of, full_report}
 use Rattle.trips_answers.specs.Asks.{nothing_shown, ended_report}
-use Rattle.trips_answers.specs.Worked.{status_of, IsRunOfText}
-use Rattle.trips_answers.specs.Table.{full_report}
+use Rattle.trips_answers.specs.Worked.{IsRunOfText}
 use Rattle.trips_outside.specs.Outside.{Appended}
-use Rattle.trips_answers.specs.Evaluated.{SaysOf, HasNotEnded, RunEndsAs}
-use Rattle.trips_answers.specs.Ended.{ResultMeans, TellsResult}
+use Rattle.trips_answers.specs.Evaluated.{SaysOf, HasNotEnded, RunEndsAs, TellsResult}
+use Rattle.trips_answers.specs.Ended.{ResultMeans}
 use Rattle.trips_answers.proofs.Results.{signed_number}
 
 -- an image of a text has a block
@@ -68,7 +67,7 @@ pub plain_told : (r : State × Stepped) (counts : Counts) (cost : ℕ) (show : S
 plain_told r counts cost show report none told =
     told ∙ nothing_behind (run_report (ending_of r.1 r.0.next) r.0) r.0 counts cost show none
 
-ended : (r : State × Stepped) (output : List ℕ) (value : ℤ) → HasEnded output value r
+pub ended : (r : State × Stepped) (output : List ℕ) (value : ℤ) → HasEnded output value r
     → run_report (ending_of r.1 r.0.next) r.0 ≡ ended_report output value
 ended r output value h =
     let e : ending_of r.1 r.0.next ≡ ending.Ended = ap (λ (a : Stepped). ending_of a r.0.next) h.answer in
@@ -77,7 +76,7 @@ ended r output value h =
     ∙ ap (λ (t : List ℕ). output_and r.0.output (codes "result " ++ t)) digits
     ∙ ap (λ (o : List ℕ). output_and o (codes "result " ++ signed_decimal value)) h.output
 
-full : (r : State × Stepped) (output : List ℕ) → IsFull output r
+pub full : (r : State × Stepped) (output : List ℕ) → IsFull output r
     → run_report (ending_of r.1 r.0.next) r.0 ≡ full_report output
 full r output h =
     let e : ending_of r.1 r.0.next ≡ ending.StackFull = ap (λ (a : Stepped). ending_of a r.0.next) h.answer in

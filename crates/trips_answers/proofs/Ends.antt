@@ -21,8 +21,8 @@ use Rattle.trips_answers.specs.Settings.{settings_of}
 use Rattle.trips_answers.specs.Read.{IsInputRead, HoldsInput}
 use Rattle.trips_answers.specs.Asks.{limit_of}
 use Rattle.trips_requests.specs.Read.{IsRead, AfterReading}
-use Rattle.trips_answers.specs.Report.{ending_of}
-use Rattle.trips_answers.specs.Worked.{status_of, IsRunBy, IsWorked, IsDone}
+use Rattle.trips_answers.specs.Report.{ending_of, status_of}
+use Rattle.trips_answers.specs.Worked.{IsRunBy, IsWorked, IsDone}
 use Rattle.trips_answers.specs.Answer.{IsAnswerBehind, IsAnswer}
 use Rattle.trips_answers.specs.Table.{EndsAs, EvalEnds}
 use Rattle.trips_answers.proofs.Rows.{is_told}
@@ -92,6 +92,14 @@ pub ends_row : (request : Option Request) (held : List ℕ → Option (List ℕ)
     → request ≡ Some q → is_told s ≡ true → EndsAs held q s
 ends_row request held rose s report q a e told = (ends_row_with request held rose s report q a e told).0
 
+-- and it is the work of a request
+pub some_asked : (request : Option Request) (held : List ℕ → Option (List ℕ)) (rose : Type 0)
+    (s : Status) (report : List ℕ) → IsAnswer request held rose s report → is_told s ≡ true
+    → (q : Request) × (request ≡ Some q)
+unfolding is_told
+some_asked None held rose s report a told = absurd (not_told s status.Usage a.0 refl told)
+some_asked (Some q) held rose s report a told = (q, refl)
+
 -- no run is undefined
 run_is_defined : (blocks : List Block) (bytes input : List ℕ) (settings : Settings) (s : Status)
     (report : List ℕ) → IsRunBy blocks bytes input settings s report → s ≡ status.Undefined → ⊥
@@ -110,7 +118,7 @@ not_made : (s : Status) → s ≡ status.Ended → s ≡ status.Undefined → �
 not_made s made e = let both : status.Ended ≡ status.Undefined = sym made ∙ e in absurd (cc)
 
 -- only an evaluation is undefined
-is_evaluation : (work : Work) (how : FileForm) (settings : Settings) (bytes input : List ℕ)
+pub is_evaluation : (work : Work) (how : FileForm) (settings : Settings) (bytes input : List ℕ)
     (s : Status) (report : List ℕ) → IsWorked work how settings bytes input s report
     → s ≡ status.Undefined → work ≡ Evaluate
 is_evaluation Evaluate how settings bytes input s report run e = refl

@@ -33,18 +33,19 @@ use Rattle.trips_requests.specs.declared.status.Status.{Status}
 use Rattle.trips_requests.specs.declared.status.Status.TheVariants as status
 use Rattle.trips_answers.specs.Request.{Request, origin_held}
 use Rattle.trips_answers.specs.Settings.{settings_with, settings_of}
-use Rattle.trips_answers.specs.Read.{IsInputRead}
+use Rattle.trips_answers.specs.Read.{IsInputRead, IsLarge}
 use Rattle.trips_answers.specs.Asks.{IsInput, limit_of, most_input_bytes, AsksFor}
 use Rattle.trips_requests.specs.Read.{IsRead, AfterReading}
 use Rattle.trips_report.specs.Refusals.{image_text, asm_text, check_text}
 use Rattle.trips_requests.specs.Texts.{too_large_text, IsFixed}
 use Rattle.trips_eval_answers.specs.Refusals.{front_refusal}
-use Rattle.trips_answers.specs.Refused.{IsBadText, IsRefusedAs, IsLarge}
+use Rattle.trips_answers.specs.Refused.{IsBadText, IsRefusedAs}
 use Rattle.trips_tools.specs.ToolAnswers.{IsNoImage, IsBadImage, IsNoText}
 use Rattle.trips_eval_answers.specs.Evaluation.{IsRefusedByFront, IsEvaluation}
 use Rattle.trips_answers.specs.Worked.{IsRunBy, IsRunOfText, IsCompiled, IsWorked, IsDone}
+use Rattle.trips_answers.specs.Done.{CanBeDone}
 use Rattle.trips_answers.specs.Answer.{IsAnswerBehind, IsAnswer}
-use Rattle.trips_answers.specs.Table.{HasLargeFile, HasLargeInput}
+use Rattle.trips_answers.specs.Causes.{HasLargeFile, HasLargeInput}
 use Rattle.trips_answers.proofs.OneFault.{first_bad_once}
 
 -- images ----------------------------------------------------------------------------------------
@@ -98,6 +99,18 @@ not_worked Disassemble how settings bytes input s report out bad run =
     decoded.not_both run.0.0 bytes bad.0 run.0.2 bad.1
 not_worked Check how settings bytes input s report out bad run =
     image_not_refused bytes out run.0.0 run.0.1 run.0.2 bad
+
+-- nor can the work be done with them
+pub refused_cannot : (work : Work) (how : FileForm) (bytes out : List ℕ) → IsRefusedAs work how bytes out
+    → CanBeDone work how bytes → ⊥
+refused_cannot Evaluate how bytes out bad can = not_both bytes can.0 bad.0 can.1 bad.1
+refused_cannot Run form.Source bytes out bad can = not_both bytes can.0 bad.0 can.1 bad.1
+refused_cannot Run form.Target bytes out bad can = target_not_refused bytes out can.0 can.1.0 can.1.1 bad
+refused_cannot Run form.Image bytes out bad can = image_not_refused bytes out can.0 can.1.0 can.1.1 bad
+refused_cannot Compile how bytes out bad can = not_both bytes can.0 bad.0 can.1 bad.1
+refused_cannot Assemble how bytes out bad can = faults.not_both can.1.0 bytes bad.0 can.1.1 bad.1
+refused_cannot Disassemble how bytes out bad can = decoded.not_both can.1.0 bytes bad.0 can.1.2 bad.1
+refused_cannot Check how bytes out bad can = image_not_refused bytes out can.1.0 can.1.1 can.1.2 bad
 
 front_once : (text a b : List ℕ) → IsRefusedByFront text a → IsRefusedByFront text b → a ≡ b
 front_once text a b x y =

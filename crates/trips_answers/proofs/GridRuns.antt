@@ -19,8 +19,8 @@ use Rattle.grid_cycle.specs.Traps.{is_trap}
 use Rattle.trips_answers.specs.declared.forms.Settings.{Settings}
 use Rattle.trips_requests.specs.declared.answer.Answer.{Answer}
 use Rattle.trips_requests.specs.declared.status.Status.{Status}
-use Rattle.trips_answers.specs.Report.{ending_of, shown_report}
-use Rattle.trips_answers.specs.Worked.{status_of, IsRunBy}
+use Rattle.trips_answers.specs.Report.{ending_of, shown_report, status_of}
+use Rattle.trips_answers.specs.Worked.{IsRunBy}
 use Rattle.trips_requests.specs.Texts.{IsFixed}
 
 -- a run of the grid ends as one of the machine

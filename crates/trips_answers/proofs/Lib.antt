@@ -2,9 +2,12 @@ pub mod GridRuns
 pub mod Told
 pub mod Rows
 pub mod Ends
+pub mod Plainly
 pub mod Causes
 pub mod Reported
 pub mod ShownRuns
+pub mod Promises
+pub mod Meanings
 pub mod OneFault
 pub mod Results
 pub mod Compiled

@@ -23,15 +23,15 @@ use Rattle.trips_requests.specs.declared.status.Status.{Status}
 use Rattle.trips_requests.specs.declared.status.Status.TheVariants as status
 use Rattle.trips_answers.specs.Request.{Request}
 use Rattle.trips_answers.specs.Settings.{settings_with}
-use Rattle.trips_eval_answers.specs.Reports.{eval_report}
+use Rattle.trips_eval_answers.specs.Evaluation.{eval_report, eval_status, outcome_of}
 use Rattle.trips_requests.specs.Texts.{too_large_text}
-use Rattle.trips_answers.specs.Report.{ending_of, run_report}
-use Rattle.trips_answers.specs.Asks.{nothing_shown, ended_report, Asks, AsksFor}
+use Rattle.trips_answers.specs.Report.{ending_of, run_report, status_of, full_report}
+use Rattle.trips_answers.specs.Asks.{nothing_shown, ended_report, AsksFor}
 use Rattle.trips_answers.specs.Refused.{IsRefusedAs}
-use Rattle.trips_answers.specs.Worked.{status_of, IsRunOfText}
-use Rattle.trips_eval_answers.specs.Evaluation.{eval_status, outcome_of}
+use Rattle.trips_answers.specs.Worked.{IsRunOfText}
 use Rattle.trips_answers.specs.Answer.{IsAnswer}
-use Rattle.trips_answers.specs.Table.{IsAnswered, full_report, HasLargeFile, HasLargeInput}
+use Rattle.trips_answers.specs.Table.{IsAnswered}
+use Rattle.trips_answers.specs.Causes.{HasLargeFile, HasLargeInput}
 use Rattle.trips_answers.proofs.Exact.{complete, large_file, large_input, refused_exact, eval_exact}
 use Rattle.trips_answers.proofs.Exact.{image_exact, text_exact}
 use Rattle.trips_answers.proofs.Exact.{compiled_exact, assembled_exact, disassembled_exact, checked_exact}
@@ -58,7 +58,7 @@ module _ (held : List ℕ → Option (List ℕ)) (rose : Type 0) (old new : Opti
 
   pub headline : (s : Status) → IsAnswered q held rose old new cut s → (most n : ℕ)
       (text input output : List ℕ) (value : ℤ) (steps : ℕ) (program : TypedProgram)
-      → Asks q held Run form.Source most text input → IsAccepted text program
+      → AsksFor q held Run form.Source most nothing_shown text input → IsAccepted text program
       → eval program input n ≡ Done output value steps → 16 * n + 16 ≤ most → (rose → ⊥) → (cut → ⊥)
       → s ≢ status.Memory → (s ≡ status.Ended) × Appended old new (ended_report output value)
   headline s a most n text input output value steps program asks is done enough r c m =
@@ -70,7 +70,7 @@ module _ (held : List ℕ → Option (List ℕ)) (rose : Type 0) (old new : Opti
 
   pub deep : (s : Status) → IsAnswered q held rose old new cut s → (most n : ℕ)
       (text input output : List ℕ) (program : TypedProgram)
-      → Asks q held Run form.Source most text input → IsAccepted text program
+      → AsksFor q held Run form.Source most nothing_shown text input → IsAccepted text program
       → eval program input n ≡ Stopped Deep output → 16 * n + 16 ≤ most → (rose → ⊥) → (cut → ⊥)
       → s ≢ status.Memory → (s ≡ status.StackFull) × Appended old new (full_report output)
   deep s a most n text input output program asks is full enough r c m =
@@ -82,7 +82,7 @@ module _ (held : List ℕ → Option (List ℕ)) (rose : Type 0) (old new : Opti
 
   pub text_run : (s : Status) → IsAnswered q held rose old new cut s → (most : ℕ)
       (text input : List ℕ) (program : TypedProgram)
-      → (asks : Asks q held Run form.Source most text input) → IsAccepted text program
+      → (asks : AsksFor q held Run form.Source most nothing_shown text input) → IsAccepted text program
       → (rose → ⊥) → (cut → ⊥) → s ≢ status.Memory
       → (image : Image) × IsImageOf text asks.q.placing image
       × let run = runs image.blocks (start image.bytes input) most in
@@ -98,7 +98,7 @@ module _ (held : List ℕ → Option (List ℕ)) (rose : Type 0) (old new : Opti
 
   pub evaluation : (s : Status) → IsAnswered q held rose old new cut s → (how : FileForm)
       (steps : ℕ) (text input : List ℕ) (program : TypedProgram)
-      → Asks q held Evaluate how steps text input → IsAccepted text program → (rose → ⊥)
+      → AsksFor q held Evaluate how steps nothing_shown text input → IsAccepted text program → (rose → ⊥)
       → (cut → ⊥) → s ≢ status.Memory → (s ≡ eval_status (outcome_of program input steps))
       × Appended old new (eval_report (outcome_of program input steps))
   evaluation s a how steps text input program asks is r c m =
@@ -109,7 +109,7 @@ module _ (held : List ℕ → Option (List ℕ)) (rose : Type 0) (old new : Opti
       (told.0, subst (Appended old new) told.1 row.2)
 
   pub image_run : (s : Status) → IsAnswered q held rose old new cut s → (blocks : ℕ)
-      (bytes input : List ℕ) (image : Image) → Asks q held Run form.Image blocks bytes input
+      (bytes input : List ℕ) (image : Image) → AsksFor q held Run form.Image blocks nothing_shown bytes input
       → ImageBytes image bytes → All IsGood image.blocks → (rose → ⊥) → (cut → ⊥)
       → s ≢ status.Memory → let run = runs image.blocks (start image.bytes input) blocks in
       (s ≡ status_of (ending_of run.1 run.0.next))

@@ -22,14 +22,14 @@ use Rattle.trips_requests.specs.declared.status.Status.{Status}
 use Rattle.trips_requests.specs.declared.status.Status.TheVariants as status
 use Rattle.trips_answers.specs.Request.{Request, origin_held}
 use Rattle.trips_answers.specs.Settings.{settings_of}
-use Rattle.trips_answers.specs.Read.{IsInputRead}
+use Rattle.trips_answers.specs.Read.{IsInputRead, MayBeLarge, IsLarge}
 use Rattle.trips_answers.specs.Asks.{limit_of, most_input_bytes}
 use Rattle.trips_requests.specs.Read.{IsRead, AfterReading}
-use Rattle.trips_answers.specs.Report.{ending_of}
-use Rattle.trips_answers.specs.Worked.{status_of, IsRunBy, IsWorked, IsDone}
+use Rattle.trips_answers.specs.Report.{ending_of, status_of}
+use Rattle.trips_answers.specs.Worked.{IsRunBy, IsWorked, IsDone}
 use Rattle.trips_eval_answers.specs.Evaluation.{eval_status, outcome_of}
 use Rattle.trips_answers.specs.Answer.{IsAnswerBehind, IsAnswer}
-use Rattle.trips_answers.specs.Refused.{IsBad, MayBeLarge, IsLarge, MayBeRefused, IsRefused}
+use Rattle.trips_answers.specs.Refused.{IsBad, MayBeRefused, IsRefused}
 use Rattle.trips_answers.proofs.Exact.{not_worked}
 
 -- the statuses that tell how a run or an evaluation ended
@@ -96,7 +96,7 @@ of_told P None bytes h p = tt
 of_told P (Some held) bytes h p = subst P h p
 
 -- and the other way round
-of_read : (P : List ℕ → Type 0) (told : Option (List ℕ)) (bytes : List ℕ) → Holds told bytes
+pub of_read : (P : List ℕ → Type 0) (told : Option (List ℕ)) (bytes : List ℕ) → Holds told bytes
     → IsSomeAnd told P → P bytes
 of_read P None bytes h p = absurd p
 of_read P (Some held) bytes h p = subst P (sym h) p
@@ -119,7 +119,7 @@ input_too_large : (input : Option (List ℕ)) (held : List ℕ → Option (List 
 input_too_large None held rose h = absurd (cc)
 input_too_large (Some name) held rose h = h
 
-not_large_input : (input : Option (List ℕ)) (held : List ℕ → Option (List ℕ)) (rose : Type 0)
+pub not_large_input : (input : Option (List ℕ)) (held : List ℕ → Option (List ℕ)) (rose : Type 0)
     (bytes : List ℕ) → IsInputRead input held rose (Bytes bytes) → IsLarge input held → ⊥
 not_large_input None held rose bytes h large = large
 not_large_input (Some name) held rose bytes h large =

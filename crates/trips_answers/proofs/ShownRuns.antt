@@ -22,9 +22,9 @@ use Rattle.trips_requests.specs.declared.status.Status.{Status}
 use Rattle.trips_requests.specs.declared.status.Status.TheVariants as status
 use Rattle.trips_answers.specs.Request.{Request}
 use Rattle.trips_answers.specs.Settings.{settings_with}
-use Rattle.trips_answers.specs.Report.{ending_of, run_report}
-use Rattle.trips_answers.specs.Worked.{status_of, IsRunBy, IsRunOfText}
-use Rattle.trips_answers.specs.Table.{IsAnswered, IsReported, full_report}
+use Rattle.trips_answers.specs.Report.{ending_of, run_report, status_of, full_report}
+use Rattle.trips_answers.specs.Worked.{IsRunBy, IsRunOfText}
+use Rattle.trips_answers.specs.Table.{IsAnswered, IsReported}
 use Rattle.trips_answers.specs.Asks.{AsksFor, ended_report}
 use Rattle.trips_answers.proofs.Compiled.{finished_shown, finished_grid, deep_shown}
 use Rattle.trips_answers.proofs.Exact.{complete, image_exact, text_exact, target_exact}

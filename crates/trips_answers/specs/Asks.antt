@@ -1,5 +1,5 @@
--- What the words ask for: a work, with the bytes of a file and of an input within their limits.
-use Rattle.std.specs.Prelude.{◌≡◌, ℕ, ◌≤◌, List, [], Option, None, Some, length, false, ◌++◌, codes, ℤ}
+-- What words ask for: a work, with the bytes of a file and of an input within their limits; and that it is served.
+use Rattle.std.specs.Prelude.{◌≡◌, ◌≢◌, ℕ, ◌≤◌, List, [], Option, None, Some, length, false, ◌++◌, codes, ℤ}
 use Rattle.std.specs.Fmt.{signed_decimal}
 use Rattle.trips_answers.specs.declared.forms.FileForm.{FileForm}
 use Rattle.trips_answers.specs.declared.forms.FileForm.TheVariants.{Source, Target, Image}
@@ -9,6 +9,9 @@ use Rattle.trips_requests.specs.Limits.{most_image_bytes, most_target_bytes}
 use Rattle.trips_report.specs.declared.show.Show.{Show}
 use Rattle.trips_requests.specs.declared.commands.Command.{Command as Work}
 use Rattle.trips_requests.specs.Texts.{output_and}
+use Rattle.trips_requests.specs.declared.status.Status.{Status}
+use Rattle.trips_requests.specs.declared.status.Status.TheVariants.{Memory}
+use Rattle.trips_outside.specs.Outside.{Undisturbed}
 
 -- how many bytes an input may have
 unfoldable pub most_input_bytes : ℕ
@@ -26,8 +29,7 @@ IsInput None held bytes = bytes ≡ []
 IsInput (Some name) held bytes = held name ≡ Some bytes
 
 -- The request's file and its input are told, and within their limits: these are their bytes.
-pub record IsTold (q : Request) (held : List ℕ → Option (List ℕ)) (bytes input : List ℕ)
-    : Type 0 where
+pub record IsTold (q : Request) (held : List ℕ → Option (List ℕ)) (bytes input : List ℕ) : Type 0 where
   pub told : origin_held held q.origin ≡ Some bytes
   pub few : length bytes ≤ limit_of q.form
   pub told_input : IsInput q.input held input
@@ -53,8 +55,10 @@ pub record AsksFor (request : Option Request) (held : List ℕ → Option (List 
   pub is_show : q.show ≡ show
   pub told : IsTold q held bytes input
 
--- the same where nothing is shown behind the ending
-abbrev pub Asks : Option Request → (List ℕ → Option (List ℕ)) → Work → FileForm → ℕ → List ℕ
-    → List ℕ → Type 0
-Asks request held work how most bytes input =
-    AsksFor request held work how most nothing_shown bytes input
+-- It is asked for so and served: nothing came between, no fault of the files or of the sink and no want of memory.
+pub record IsServed (request : Option Request) (held : List ℕ → Option (List ℕ)) (work : Work)
+    (how : FileForm) (most : ℕ) (show : Show) (bytes input : List ℕ)
+    (files_before files_after sink_before sink_after : ℕ) (s : Status) : Type 0 where
+  pub asks : AsksFor request held work how most show bytes input
+  pub undisturbed : Undisturbed files_before files_after sink_before sink_after
+  pub memory : s ≢ Memory

@@ -1,14 +1,12 @@
 -- What a run of a text that ended with a result says of the text's evaluation.
-use Rattle.std.specs.Prelude.{◌≡◌, ℕ, ◌+◌, ◌*◌, ◌≤◌, List, ◌++◌, Option, length, codes}
-use Rattle.std.specs.Fmt.{signed_decimal}
+use Rattle.std.specs.Prelude.{ℕ, ◌+◌, ◌*◌, ◌≤◌, List, ◌++◌, Option, length, codes}
 use Rattle.trips_outside.specs.Outside.{Holds}
 use Rattle.trips_isa.specs.declared.block.Image.{Image}
 use Rattle.c_tree.specs.declared.typed.TypedProgram.{TypedProgram}
 use Rattle.c_lex.specs.Lexes.{Tokens, Lexed}
 use Rattle.c_tree.specs.Limits.{most_tokens}
 use Rattle.c_front.specs.Fronts.{IsAccepted}
-use Rattle.c_meaning_spec.specs.declared.signal.Ending.TheVariants.{More, Undefined, Deep}
-use Rattle.c_meaning_spec.specs.Eval.{Outcome, Stopped, Done, eval}
+use Rattle.c_meaning_spec.specs.Eval.{eval}
 use Rattle.c_compile.specs.Images.{IsImageOf}
 use Rattle.trips_requests.specs.declared.status.Status.{Status}
 use Rattle.trips_requests.specs.declared.status.Status.TheVariants as status
@@ -17,14 +15,7 @@ use Rattle.trips_answers.specs.Request.{Request, origin_held}
 use Rattle.trips_answers.specs.Settings.{settings_of}
 use Rattle.trips_answers.specs.Read.{HoldsInput}
 use Rattle.trips_answers.specs.Table.{IsReported}
-
--- An evaluation of so many steps, where a result of these digits is reported behind this output: it is undefined, or
--- done with that output and that result; or it has not been given as many steps as the run's blocks could do.
-abbrev pub TellsResult : List ℕ → List ℕ → Type 0 → Outcome → Type 0
-TellsResult output digits few (Stopped Undefined out) = Unit {0}
-TellsResult output digits few (Stopped More out) = few
-TellsResult output digits few (Stopped Deep out) = ⊥
-TellsResult output digits few (Done out value steps) = (output ≡ out) × (digits ≡ signed_decimal value)
+use Rattle.trips_answers.specs.Evaluated.{TellsResult}
 
 -- A run of a text was reported to have ended with a result: the file is told to hold an accepted text, and the input
 -- is told, as far as they are; and the evaluation of that text is undefined, or done with the output and the result

@@ -1,16 +1,24 @@
 -- What the end of a compiled program's run says of its evaluation.
-use Rattle.std.specs.Prelude.{◌≡◌, ℕ, ◌+◌, ◌*◌, ◌<◌, ◌≤◌, List, Option, length}
-use Rattle.trips_outside.specs.Outside.{Holds}
+use Rattle.std.specs.Prelude.{◌≡◌, ℕ, ◌+◌, ◌*◌, ◌<◌, ◌≤◌, List, ◌++◌, Option, length, codes}
+use Rattle.std.specs.Fmt.{signed_decimal}
+use Rattle.trips_outside.specs.Outside.{Appended, Holds}
+use Rattle.trips_isa.specs.declared.block.Image.{Image}
+use Rattle.trips_isa.specs.declared.run.Counts.{Counts}
+use Rattle.trips_isa.specs.Machine.{runs, start}
+use Rattle.grid_cycle_spec.specs.Costs.{cost_of}
 use Rattle.c_tree.specs.declared.typed.TypedProgram.{TypedProgram}
 use Rattle.c_lex.specs.Lexes.{Tokens, Lexed}
 use Rattle.c_tree.specs.Limits.{most_tokens}
 use Rattle.c_front.specs.Fronts.{IsAccepted}
 use Rattle.c_meaning_spec.specs.declared.signal.Ending.TheVariants.{More, Undefined, Deep}
 use Rattle.c_meaning_spec.specs.Eval.{Outcome, Stopped, Done, eval}
+use Rattle.c_compile.specs.Meant.{DoesText}
 use Rattle.trips_requests.specs.declared.status.Status.{Status}
 use Rattle.trips_requests.specs.declared.status.Status.TheVariants as status
 use Rattle.trips_answers.specs.Request.{Request, origin_held}
 use Rattle.trips_answers.specs.Read.{HoldsInput}
+use Rattle.trips_requests.specs.Texts.{output_and}
+use Rattle.trips_answers.specs.Report.{CountsRun, ending_of, shown_behind}
 
 -- Each status of a run and what the evaluation then came to, where that was given as many steps as the
 -- run's blocks could do: a run ends only where it is done, has a full stack only where its frames are too
@@ -47,3 +55,42 @@ pub record RunEndsAs (held : List ℕ → Option (List ℕ)) (q : Request) (s : 
   -- the budget is spent only on what 16 blocks a step, and 16 more, do not end
   pub spent : s ≡ status.Budget → (n : ℕ) → 16 * n + 16 ≤ q.most
       → HasNotEnded (eval program input n)
+
+-- An evaluation of so many steps, where a result of these digits is reported behind this output: it is undefined, or
+-- done with that output and that result; or it has not been given as many steps as the run's blocks could do.
+abbrev pub TellsResult : List ℕ → List ℕ → Type 0 → Outcome → Type 0
+TellsResult output digits few (Stopped Undefined out) = Unit {0}
+TellsResult output digits few (Stopped More out) = few
+TellsResult output digits few (Stopped Deep out) = ⊥
+TellsResult output digits few (Done out value steps) = (output ≡ out) × (digits ≡ signed_decimal value)
+
+-- A run of a text was reported to have ended with a result: the file is told to hold an accepted text, and the input
+-- is told, as far as they are; an image has run that does what the text means; and the evaluation of that text is
+-- undefined, or done with the output and the result that are reported, whatever the budget.
+pub record ResultTells (held : List ℕ → Option (List ℕ)) (q : Request) (old new : Option (List ℕ)) : Type 0 where
+  -- the C text of the request's file, and the bytes of its input
+  pub text : List ℕ
+  pub input : List ℕ
+  pub holds : Holds (origin_held held q.origin) text
+  pub holds_input : HoldsInput q.input held input
+  -- the typed program that the front end makes of the text, which is what is evaluated
+  pub program : TypedProgram
+  pub accepted : IsAccepted text program
+  -- the text's tokens; their number bounds the steps that one block does
+  pub tokens : Tokens
+  pub lexed : Lexed most_tokens text tokens
+  -- the image that has run
+  pub image : Image
+  pub does : DoesText text image
+  -- what was reported of its run: an output and the digits of a result, and behind them what is shown
+  pub output : List ℕ
+  pub digits : List ℕ
+  pub counts : Counts
+  pub counted : CountsRun image.blocks (runs image.blocks (start image.bytes input) q.most).0.trace
+      (ending_of (runs image.blocks (start image.bytes input) q.most).1
+      (runs image.blocks (start image.bytes input) q.most).0.next) counts
+  pub reported : Appended old new (shown_behind (output_and output (codes "result " ++ digits))
+      (runs image.blocks (start image.bytes input) q.most).0 counts
+      (cost_of image.blocks (runs image.blocks (start image.bytes input) q.most).0.trace) q.show)
+  -- what the evaluation within any number of steps comes to
+  pub means : (n : ℕ) → TellsResult output digits (n ≤ length tokens * (q.most + 1)) (eval program input n)

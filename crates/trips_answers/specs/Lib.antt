@@ -1,6 +1,9 @@
 pub mod Request
 pub mod Read
 pub mod Report
+pub mod Done
+pub mod Causes
+pub mod Laws
 pub mod Counted
 pub mod Worked
 pub mod Answer

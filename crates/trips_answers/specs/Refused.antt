@@ -11,7 +11,8 @@ use Rattle.trips_requests.specs.declared.commands.Command.TheVariants.{Assemble,
 use Rattle.trips_answers.specs.declared.forms.FileForm.{FileForm}
 use Rattle.trips_answers.specs.declared.forms.FileForm.TheVariants as form
 use Rattle.trips_answers.specs.Request.{Request, origin_held}
-use Rattle.trips_answers.specs.Asks.{most_input_bytes, limit_of}
+use Rattle.trips_answers.specs.Read.{MayBeLarge, IsLarge}
+use Rattle.trips_answers.specs.Asks.{limit_of}
 use Rattle.trips_report.specs.Refusals.{check_text}
 use Rattle.trips_eval_answers.specs.Evaluation.{IsRefusedByFront}
 use Rattle.trips_tools.specs.ToolAnswers.{IsNoImage, IsBadImage, IsNoText}
@@ -38,16 +39,6 @@ IsRefusedAs Check how bytes report = IsNoImage bytes report ⊎ IsBadImage bytes
 abbrev pub IsBad : Request → List ℕ → Type 0
 IsBad q bytes = (limit_of q.form < length bytes)
     ⊎ ((report : List ℕ) × IsRefusedAs q.work q.form bytes report)
-
--- an input that is named has too many bytes, as far as it is told
-abbrev pub MayBeLarge : Option (List ℕ) → (List ℕ → Option (List ℕ)) → Type 0
-MayBeLarge None held = ⊥
-MayBeLarge (Some name) held = IfSome (held name) (λ bytes. most_input_bytes < length bytes)
-
--- and it is told to have too many
-abbrev pub IsLarge : Option (List ℕ) → (List ℕ → Option (List ℕ)) → Type 0
-IsLarge None held = ⊥
-IsLarge (Some name) held = IsSomeAnd (held name) (λ bytes. most_input_bytes < length bytes)
 
 -- the request is refused only where this holds
 abbrev pub MayBeRefused : Option Request → (List ℕ → Option (List ℕ)) → Type 0

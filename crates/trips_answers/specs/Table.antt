@@ -1,5 +1,5 @@
 -- What a call of the program answered and wrote, status by status.
-use Rattle.std.specs.Prelude.{◌≡◌, ℕ, ◌<◌, ◌≤◌, List, [], ◌∷◌, length, Option, Some, codes, IsSomeAnd, ◌⊎◌}
+use Rattle.std.specs.Prelude.{◌≡◌, ℕ, List, Option, Some}
 use Rattle.trips_outside.specs.Outside.{Appended, Holds}
 use Rattle.trips_isa.specs.declared.block.Image.{Image}
 use Rattle.trips_isa.specs.declared.run.Counts.{Counts}
@@ -12,9 +12,6 @@ use Rattle.trips_requests.specs.Table.{IsCutShort, IsWritten}
 use Rattle.trips_answers.specs.Request.{Request, origin_held}
 use Rattle.trips_answers.specs.Settings.{settings_of}
 use Rattle.trips_answers.specs.Read.{HoldsInput}
-use Rattle.trips_answers.specs.Asks.{limit_of}
-use Rattle.trips_answers.specs.Refused.{IsLarge}
-use Rattle.trips_requests.specs.Texts.{output_and}
 use Rattle.trips_answers.specs.Report.{ending_of, shown_behind}
 use Rattle.trips_answers.specs.Counted.{IsCountedRun}
 use Rattle.trips_answers.specs.Worked.{IsWorked}
@@ -31,17 +28,8 @@ abbrev pub IsAnswered : Option Request → (List ℕ → Option (List ℕ)) → 
     → Option (List ℕ) → Option (List ℕ) → Type 0 → Status → Type 0
 IsAnswered request held rose old new cut s = IsWritten (IsAnswer request held rose) old new cut s
 
--- the report of a run whose stack was full, with the output so far
-abbrev pub full_report : List ℕ → List ℕ
-full_report output = output_and output (codes "stack full")
-
--- one of these statuses
-abbrev pub IsOneOf : Status → List Status → Type 0
-IsOneOf s [] = ⊥
-IsOneOf s (one ∷ others) = (s ≡ one) ⊎ IsOneOf s others
-
--- The run of an image was reported: with this status, and with this text, behind which stands what is shown of the
--- end of the machine's run and of the counts of the grid's run.
+-- The run of an image was reported: with this status, and with this text, behind which stands what is shown of the end
+-- of the machine's run and of the counts of the grid's run.
 abbrev pub IsReported : Image → List ℕ → Settings → Status → List ℕ → Status → Option (List ℕ)
     → Option (List ℕ) → Type 0
 IsReported image input settings wanted text s old new =
@@ -49,17 +37,6 @@ IsReported image input settings wanted text s old new =
     (counts : Counts) × IsCountedRun image.blocks image.bytes input settings.seed settings.most
     (ending_of run.1 run.0.next) counts × (s ≡ wanted)
     × Appended old new (shown_behind text run.0 counts (cost_of image.blocks run.0.trace) settings.show)
-
--- the request's file is told, and is longer than its limit
-abbrev pub HasLargeFile : Request → (List ℕ → Option (List ℕ)) → Type 0
-HasLargeFile q held =
-    IsSomeAnd (origin_held held q.origin) (λ bytes. limit_of q.form < length bytes)
-
--- the file is told and within its limit, and the input is told and longer than its own
-abbrev pub HasLargeInput : Request → (List ℕ → Option (List ℕ)) → Type 0
-HasLargeInput q held =
-    IsSomeAnd (origin_held held q.origin) (λ bytes. length bytes ≤ limit_of q.form)
-    × IsLarge q.input held
 
 -- A request's work ended with this status: the file and the input are those that the names hold, as
 -- far as they are told, and the status and some report are those of the work with them.

@@ -3,11 +3,9 @@ use Rattle.std.specs.Prelude.{◌≡◌, ◌⊎◌, ℕ, List, All}
 use Rattle.trips_isa.specs.declared.block.Block.{Block}
 use Rattle.trips_isa.specs.declared.block.Image.{Image}
 use Rattle.trips_isa.specs.declared.run.Counts.{Counts}
-use Rattle.trips_isa.specs.declared.run.Ending.{Ending}
-use Rattle.trips_isa.specs.declared.run.Ending.TheVariants as ending
 use Rattle.trips_isa.specs.Machine.{runs, start}
 use Rattle.c_compile.specs.Images.{IsImageOf}
-use Rattle.flat_lower.specs.Keeps as bytes
+use Rattle.flat_lower.specs.Keeps.{IsInput}
 use Rattle.grid_place.specs.declared.placed.Placing.{Placing}
 use Rattle.grid_cycle_spec.specs.Costs.{cost_of}
 use Rattle.block_image.specs.Spelling.{ImageBytes}
@@ -24,18 +22,11 @@ use Rattle.trips_requests.specs.declared.status.Status.{Status}
 use Rattle.trips_requests.specs.declared.status.Status.TheVariants as status
 use Rattle.trips_requests.specs.Texts.{IsFixed}
 use Rattle.trips_eval_answers.specs.Evaluation.{IsEvaluationOf}
-use Rattle.trips_answers.specs.Report.{ending_of, shown_report}
+use Rattle.trips_answers.specs.Report.{ending_of, shown_report, status_of}
 use Rattle.trips_answers.specs.Refused.{IsRefusedAs}
 use Rattle.trips_answers.specs.Counted.{IsCountedRun}
 
 -- Runs ------------------------------------------------------------------------------------------
-
--- the status that tells an ending
-abbrev pub status_of : Ending → Status
-status_of ending.Ended = status.Ended
-status_of ending.StackFull = status.StackFull
-status_of ending.Budget = status.Budget
-status_of (ending.Trap block cause) = status.Trap
 
 -- These tell the sequential machine's run of an image on an input, within a budget of blocks, and what the grid
 -- counted of it.
@@ -52,7 +43,7 @@ IsRunBy blocks bytes input settings s report =
 -- the image that is compiled from the text is run, on an input of bytes
 abbrev pub IsRunOfText : Settings → List ℕ → List ℕ → Status → List ℕ → Type 0
 IsRunOfText settings text input s report = (image : Image) × IsImageOf text settings.placing image
-    × bytes.IsInput input × IsRunBy image.blocks image.bytes input settings s report
+    × IsInput input × IsRunBy image.blocks image.bytes input settings s report
 
 -- the image is run, all of whose blocks are good
 abbrev pub IsRunOfImage : Settings → List ℕ → List ℕ → Status → List ℕ → Type 0

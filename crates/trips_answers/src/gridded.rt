@@ -4,8 +4,8 @@ ghost use Rattle.std.specs.Prelude.{◌≡◌, ◌<◌, IfOk, Some};
 ghost use Rattle.grid_cycle_spec.specs.Costs.{cost_of};
 ghost use Rattle.grid_machine.specs.Seeds.{IsRan};
 ghost use Rattle.grid_cycle.specs.Engines.{IsWithinCost, blocks_of, grid_of};
-ghost use Rattle.trips_answers.specs.Report.{shown_report};
-ghost use Rattle.trips_answers.specs.Worked.{status_of, IsRunBy};
+ghost use Rattle.trips_answers.specs.Report.{shown_report, status_of};
+ghost use Rattle.trips_answers.specs.Worked.{IsRunBy};
 ghost use Rattle.trips_requests.specs.Texts.{IsFixed};
 
 use crate::forms::Settings;

@@ -10,12 +10,14 @@ mod asked_answer;
 mod forms;
 mod gridded;
 mod image_answer;
+mod law;
 mod loading;
 mod plain;
 mod report;
 mod text_answer;
 
 pub use asked_answer::answer_to;
+pub use law::reports_tell_evaluations;
 pub use loading::{MOST_INPUT_BYTES, constants_are_the_definitions};
 pub use plain::{compile_plain, eval_plain, run_plain, tool_plain};
 pub use trips_requests::{Answer, Status, exit_code};

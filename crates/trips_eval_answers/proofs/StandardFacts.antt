@@ -7,7 +7,7 @@ use Rattle.c_parse.specs.declared.unit.ParseFault.TheVariants as parse
 use Rattle.c_type_expr.specs.declared.fault.TypeFault.TheVariants as typing
 use Rattle.c_front.specs.declared.refusal.Refusal.TheVariants as stage
 use Rattle.c_meaning.specs.declared.outcome.Outcome.TheVariants as outcome
-use Rattle.trips_eval_answers.specs.Reports.{eval_report}
+use Rattle.trips_eval_answers.specs.Evaluation.{eval_report}
 use Rattle.trips_eval_answers.specs.Refusals.{front_refusal}
 
 pub done_is : eval_report (outcome.Done [] (pos 7) 4) ≡ codes "output 0\n\nresult 7\nsteps 4\n"

@@ -1,5 +1,6 @@
 -- What the evaluation of a text of C is answered: the status and the report.
-use Rattle.std.specs.Prelude.{◌≡◌, ◌≢◌, ◌⊎◌, ℕ, List}
+use Rattle.std.specs.Prelude.{◌≡◌, ◌≢◌, ◌⊎◌, ℕ, ℤ, List, ◌++◌, codes, decimal}
+use Rattle.std.specs.Fmt.{signed_decimal}
 use Rattle.c_tree.specs.declared.typed.TypedProgram.{TypedProgram}
 use Rattle.c_front.specs.declared.refusal.Refusal.{Refusal}
 use Rattle.c_front.specs.declared.refusal.Refusal.TheVariants.{Memory}
@@ -11,8 +12,7 @@ use Rattle.c_meaning.specs.declared.outcome.Outcome.TheVariants as outcome
 use Rattle.c_meaning.specs.Answer.{answer}
 use Rattle.trips_requests.specs.declared.status.Status.{Status}
 use Rattle.trips_requests.specs.declared.status.Status.TheVariants as status
-use Rattle.trips_requests.specs.Texts.{IsFixed}
-use Rattle.trips_eval_answers.specs.Reports.{eval_report}
+use Rattle.trips_requests.specs.Texts.{IsFixed, output_and}
 use Rattle.trips_eval_answers.specs.Refusals.{front_refusal}
 
 -- a refusal that is no want of memory, with its report
@@ -34,6 +34,18 @@ eval_status outcome.More = status.Budget
 eval_status outcome.Undefined = status.Undefined
 eval_status outcome.Deep = status.StackFull
 eval_status (outcome.Done output result steps) = status.Ended
+
+-- the lines of what main returned and of how many steps were taken
+abbrev pub done_lines : ℤ → ℕ → List ℕ
+done_lines result steps =
+    codes "result " ++ (signed_decimal result ++ (codes "\nsteps " ++ decimal steps))
+
+-- the report of an evaluation
+abbrev pub eval_report : Outcome → List ℕ
+eval_report outcome.More = codes "more\n"
+eval_report outcome.Undefined = codes "undefined\n"
+eval_report outcome.Deep = codes "deep\n"
+eval_report (outcome.Done output result steps) = output_and output (done_lines result steps)
 
 -- what the definition says of a program, an input and a number of steps
 abbrev pub outcome_of : TypedProgram → List ℕ → ℕ → Outcome

@@ -1,4 +1,3 @@
-pub mod Reports
 pub mod Refusals
 pub mod Evaluation
 pub mod Answer

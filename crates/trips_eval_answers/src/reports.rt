@@ -1,7 +1,7 @@
 //! The report of an evaluation.
 
 ghost use Rattle.std.specs.Prelude.{◌≡◌, IfOk, string_bytes};
-ghost use Rattle.trips_eval_answers.specs.Reports.{done_lines, eval_report};
+ghost use Rattle.trips_eval_answers.specs.Evaluation.{done_lines, eval_report};
 
 use c_meaning::Outcome;
 use std::alloc::{AllocError, Global};

@@ -17,6 +17,11 @@ pub record HasCause {T E : Type 0} (before now : ℕ) (result : Result T E) : Ty
   -- an error has a fault behind it that was counted
   pub failed : OnErr result (Rose before now)
 
+-- No fault of the files and none of the sink was counted in a call.
+pub record Undisturbed (files_before files_after sink_before sink_after : ℕ) : Type 0 where
+  pub read : Rose files_before files_after → ⊥
+  pub written : Rose sink_before sink_after → ⊥
+
 -- These are the bytes, where they are told.
 abbrev pub Holds : Option (List ℕ) → List ℕ → Type 0
 Holds told bytes = IfSome told (λ held. bytes ≡ held)

@@ -8,8 +8,7 @@ use Rattle.target_asm_spec.specs.Numbers.{numbered}
 use Rattle.trips_isa.specs.declared.run.Counts.{Counts}
 use Rattle.trips_isa.specs.Machine.{State}
 use Rattle.trips_report.specs.declared.show.Show.{Show}
-use Rattle.trips_report.specs.Lines.{with_part}
-use Rattle.trips_report.specs.Runs.{with_shown}
+use Rattle.trips_report.specs.Runs.{with_part, with_shown}
 
 -- a loop's step: one item more
 pub item_step : {A : Type 0} (f : A → List ℕ) (i : ℕ) (xs : List A) (d : A) (start out new : List ℕ)

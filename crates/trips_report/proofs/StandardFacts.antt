@@ -13,8 +13,7 @@ use Rattle.target_asm_spec.specs.declared.fault.AsmFault.TheVariants as asm
 use Rattle.block_check.specs.declared.fault.CheckFault.TheVariants as check
 use Rattle.trips_report.specs.declared.said.Said.TheVariants as said
 use Rattle.trips_report.specs.declared.show.Show.{Show}
-use Rattle.trips_report.specs.Lines.{word_digits, register_line, traced_line, count_line, count_lines}
-use Rattle.trips_report.specs.Lines.{with_part}
+use Rattle.trips_report.specs.Runs.{word_digits, register_line, traced_line, count_line, count_lines, with_part}
 use Rattle.trips_report.specs.Runs.{signed, run_report}
 use Rattle.trips_report.specs.Refusals.{refusal_report}
 

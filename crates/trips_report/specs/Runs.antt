@@ -1,14 +1,19 @@
--- The report of a run (README.md of this crate).
-use Rattle.std.specs.Prelude.{ℕ, ◌-◌, ◌^◌, nat_lt, if◌then◌else◌, List, ◌++◌, length}
+-- The report of a run, and the lines that it shows behind its ending (README.md of this crate).
+use Rattle.std.specs.Prelude.{ℕ, ◌-◌, ◌^◌, nat_lt, Bool, if◌then◌else◌, List, [], ◌∷◌, ◌++◌, length}
 use Rattle.std.specs.Prelude.{codes, slice_index, decimal}
+use Rattle.std.specs.List.{flat_map}
+use Rattle.std.specs.Int.{w64, to_be_bytes}
+use Rattle.hex.specs.Hex.{encode_lower}
 use Rattle.trips_isa.specs.declared.run.Counts.{Counts}
 use Rattle.trips_isa.specs.declared.run.Ending.{Ending}
 use Rattle.trips_isa.specs.declared.run.Ending.TheVariants as ending
+use Rattle.trips_isa.specs.declared.run.Traced.{Traced}
 use Rattle.trips_isa.specs.TrapCauses.{number_of}
+use Rattle.isa_table.specs.Spots.{indexed}
+use Rattle.target_asm_spec.specs.Numbers.{numbered}
 use Rattle.trips_isa.specs.Machine.{State}
 use Rattle.trips_requests.specs.Texts.{output_and}
 use Rattle.trips_report.specs.declared.show.Show.{Show}
-use Rattle.trips_report.specs.Lines.{with_part, register_lines, trace_lines, count_lines}
 
 -- a word as a signed number in decimal digits
 abbrev pub signed : ℕ → List ℕ
@@ -26,6 +31,46 @@ ending_line (ending.Trap block cause) word blocks =
 abbrev pub plain_report : Ending → State → List ℕ
 plain_report ending s =
     output_and s.output (ending_line ending (slice_index s.registers 3) (length s.trace))
+
+-- LINES THAT MAY BE SHOWN
+
+-- a word in sixteen hexadecimal digits, lower-case and the most significant first
+unfoldable pub word_digits : ℕ → List ℕ
+word_digits word = encode_lower (to_be_bytes w64 word)
+
+-- a register and its word, as `G[3] 0000000000000007`
+unfoldable pub register_line : ℕ → ℕ → List ℕ
+register_line r word = indexed 71 r ++ (32 ∷ (word_digits word ++ 10 ∷ []))
+
+-- a line for each register, in order
+abbrev pub register_lines : List ℕ → List ℕ
+register_lines words = numbered register_line 0 words
+
+-- a committed block and the exit that it took, as `block 0 exit 1`
+unfoldable pub traced_line : Traced → List ℕ
+traced_line t = codes "block " ++ (decimal t.block ++ (codes " exit " ++ (decimal t.exit ++ 10 ∷ [])))
+
+-- a line for each committed block, in order
+abbrev pub trace_lines : List Traced → List ℕ
+trace_lines trace = flat_map traced_line trace
+
+-- a name with a number
+unfoldable pub count_line : List ℕ → ℕ → List ℕ
+count_line name n = name ++ (decimal n ++ 10 ∷ [])
+
+-- what a run took: five lines, of which the last has the most cycles that its blocks could cost
+unfoldable pub count_lines : Counts → ℕ → List ℕ
+count_lines counts cost =
+    count_line (codes "blocks ") counts.committed
+    ++ (count_line (codes "cycles ") counts.cycles
+    ++ (count_line (codes "fetched ") counts.fetched
+    ++ (count_line (codes "flushed ") counts.flushed ++ count_line (codes "cost ") cost)))
+
+-- a text, and behind it a part of the report where that is shown
+unfoldable pub with_part : Bool → List ℕ → List ℕ → List ℕ
+with_part shown part text = if shown then text ++ part else text
+
+-- THE REPORT
 
 -- A text, and behind it the registers, the committed blocks and what the run took, as far as they are shown.
 abbrev pub with_shown : List ℕ → State → Counts → ℕ → Show → List ℕ

@@ -1,8 +1,8 @@
 //! The lines that a run shows behind its ending.
 
 ghost use Rattle.std.specs.Prelude.{◌≡◌, ◌++◌, OnOk, length};
-ghost use Rattle.trips_report.specs.Lines.{word_digits, register_line, traced_line, count_line};
-ghost use Rattle.trips_report.specs.Lines.{register_lines, trace_lines, count_lines, with_part};
+ghost use Rattle.trips_report.specs.Runs.{word_digits, register_line, traced_line, count_line};
+ghost use Rattle.trips_report.specs.Runs.{register_lines, trace_lines, count_lines, with_part};
 
 use block_atomic::Arch;
 use hex::encode;
@@ -11,7 +11,7 @@ use std::alloc::{AllocError, Global};
 use trips_isa::{Counts, Traced};
 
 // Writes a word in sixteen hexadecimal digits.
-#[tactic(auto, unfolding(crate::specs::Lines::word_digits))]
+#[tactic(auto, unfolding(crate::specs::Runs::word_digits))]
 fn put_word(alloc: Global, out: &mut Vec<u8>, word: u64) -> Result<(), AllocError>
     ensures ok { OnOk result (out.new.items ≡ out.old.items ++ word_digits word) }
 {
@@ -20,7 +20,7 @@ fn put_word(alloc: Global, out: &mut Vec<u8>, word: u64) -> Result<(), AllocErro
 }
 
 // Writes the line of a register.
-#[tactic(auto, unfolding(crate::specs::Lines::register_line))]
+#[tactic(auto, unfolding(crate::specs::Runs::register_line))]
 fn put_register(alloc: Global, out: &mut Vec<u8>, r: u8, word: u64) -> Result<(), AllocError>
     ensures ok { OnOk result (out.new.items ≡ out.old.items ++ register_line r word) }
 {
@@ -44,7 +44,7 @@ fn put_registers(alloc: Global, out: &mut Vec<u8>, arch: &Arch) -> Result<(), Al
 }
 
 /// Writes a line for each register, where they are shown.
-#[tactic(auto, unfolding(crate::specs::Lines::with_part))]
+#[tactic(auto, unfolding(crate::specs::Runs::with_part))]
 pub fn show_registers(
     alloc: Global,
     out: &mut Vec<u8>,
@@ -63,7 +63,7 @@ pub fn show_registers(
 }
 
 // Writes the line of a committed block.
-#[tactic(auto, unfolding(crate::specs::Lines::traced_line))]
+#[tactic(auto, unfolding(crate::specs::Runs::traced_line))]
 fn put_traced(out: &mut Vec<u8>, traced: Traced) -> Result<(), AllocError>
     ensures ok { OnOk result (out.new.items ≡ out.old.items ++ traced_line traced) }
 {
@@ -86,7 +86,7 @@ fn put_trace(out: &mut Vec<u8>, trace: &[Traced]) -> Result<(), AllocError>
 }
 
 /// Writes a line for each committed block, where they are shown.
-#[tactic(auto, unfolding(crate::specs::Lines::with_part))]
+#[tactic(auto, unfolding(crate::specs::Runs::with_part))]
 pub fn show_trace(out: &mut Vec<u8>, shown: bool, trace: &[Traced]) -> Result<(), AllocError>
     ensures ok { OnOk result (out.new.items ≡ with_part shown (trace_lines trace.now)
         out.old.items) }
@@ -95,7 +95,7 @@ pub fn show_trace(out: &mut Vec<u8>, shown: bool, trace: &[Traced]) -> Result<()
 }
 
 // Writes a name with a number.
-#[tactic(auto, unfolding(crate::specs::Lines::count_line))]
+#[tactic(auto, unfolding(crate::specs::Runs::count_line))]
 fn put_count(out: &mut Vec<u8>, name: &[u8], n: u64) -> Result<(), AllocError>
     ensures ok { OnOk result (out.new.items ≡ out.old.items ++ count_line name.now n) }
 {
@@ -106,7 +106,7 @@ fn put_count(out: &mut Vec<u8>, name: &[u8], n: u64) -> Result<(), AllocError>
 }
 
 // Writes what a run took.
-#[tactic(auto, unfolding(crate::specs::Lines::count_lines))]
+#[tactic(auto, unfolding(crate::specs::Runs::count_lines))]
 fn put_counts(out: &mut Vec<u8>, counts: Counts, cost: u64) -> Result<(), AllocError>
     ensures ok { OnOk result (out.new.items ≡ out.old.items ++ count_lines counts cost) }
 {
@@ -119,7 +119,7 @@ fn put_counts(out: &mut Vec<u8>, counts: Counts, cost: u64) -> Result<(), AllocE
 }
 
 /// Writes what a run took, where it is shown.
-#[tactic(auto, unfolding(crate::specs::Lines::with_part))]
+#[tactic(auto, unfolding(crate::specs::Runs::with_part))]
 pub fn show_counts(
     out: &mut Vec<u8>,
     shown: bool,

@@ -34,10 +34,9 @@ command_of verb.Assemble = command.Assemble
 command_of verb.Disassemble = command.Disassemble
 command_of verb.Check = command.Check
 
--- What is asked for: a command and its file, or how many functions the benchmark's text has that is run
--- in its place, the name of the input if there is one, how many blocks or steps it may take, the number by
--- which compiled blocks are placed if one is said, the seed of the grid, and whether registers, committed
--- blocks and the counts of the grid are shown.
+-- What is asked for: a command and its file, or how many functions the benchmark's text has that is run in place of
+-- it, the name of the input if there is one, how many blocks or steps it may take, the number by which compiled
+-- blocks are placed if one is said, the seed of the grid, and whether registers, trace and counts are shown.
 pub record Request : Type 0 where
   pub command : Command
   pub file : Text
@@ -49,8 +48,7 @@ pub record Request : Type 0 where
   -- without a number instructions are placed greedily
   pub place : Option ℕ
   pub seed : ℕ
-  -- what is shown behind the ending of a run: registers, committed blocks with their exits, and the
-  -- grid's counts
+  -- what is shown behind the ending of a run: registers, committed blocks with their exits, and the grid's counts
   pub regs : Bool
   pub trace : Bool
   pub cycles : Bool
@@ -62,8 +60,7 @@ most_said (Some word) = number_to most_count word
 
 -- the file is C, by the ending of its name
 abbrev pub is_c_name : Text → Bool
-is_c_name file =
-    not (ends_with nat_eq file (codes ".img")) && not (ends_with nat_eq file (codes ".tasl"))
+is_c_name file = not (ends_with nat_eq file (codes ".img")) && not (ends_with nat_eq file (codes ".tasl"))
 
 -- The number by which compiled blocks are placed, if one is said. It is said of C alone, and may be any word
 -- of the machine.
@@ -115,8 +112,7 @@ request_of k said = request_with k (value_said file_name said) (options_said k s
 
 -- the request of a command and its words
 abbrev pub request_by : List Text → Verb → Option Request
-request_by words k =
-    option_and_then (request_of k) (words_read (options_of k) None [] words)
+request_by words k = option_and_then (request_of k) (words_read (options_of k) None [] words)
 
 -- the request of the words of a command line, without the program's name
 abbrev pub asked : List Text → Option Request

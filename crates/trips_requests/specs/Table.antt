@@ -1,8 +1,21 @@
 -- What a call answers and writes, status by status.
-use Rattle.std.specs.Prelude.{ℕ, List, [], Option}
+use Rattle.std.specs.Prelude.{◌≡◌, ◌⊎◌, ℕ, List, [], ◌∷◌, Option}
 use Rattle.trips_outside.specs.Outside.{Appended, AppendedPart}
 use Rattle.trips_requests.specs.declared.status.Status.{Status}
 use Rattle.trips_requests.specs.declared.status.Status.TheVariants as status
+
+-- one of these statuses
+abbrev pub IsOneOf : Status → List Status → Type 0
+IsOneOf s [] = ⊥
+IsOneOf s (one ∷ others) = (s ≡ one) ⊎ IsOneOf s others
+
+-- this status was answered, and just this report was written
+abbrev pub Reports : Status → Option (List ℕ) → Option (List ℕ) → Status → List ℕ → Type 0
+Reports s old new told report = (s ≡ told) × Appended old new report
+
+-- just a report was written of which this holds
+abbrev pub Wrote : Option (List ℕ) → Option (List ℕ) → (List ℕ → Type 0) → Type 0
+Wrote old new holds = (report : List ℕ) × holds report × Appended old new report
 
 -- Some answer that holds was cut off: the first part of its report was written.
 abbrev pub IsCutShort : (Status → List ℕ → Type 0) → Option (List ℕ) → Option (List ℕ) → Type 0

@@ -1,12 +1,14 @@
 //! What the program does: one request, from the words of the command line to the exit status.
 //!
-//! [`trips_run`] makes the whole report before it writes the first byte of it. Its contract is a
-//! table by status over one relation that has a row for each command (`specs/Answer.antt` of
-//! `trips_answers`), with a clause beside it for the cause of each answer.
+//! [`trips_run`] makes the whole report before it writes the first byte of it. Its contract says what the program
+//! promises, of texts, images and the machine alone; that of [`answer_words`], the one call that it makes, names the
+//! image that the compiler makes of a text, the grid that is run and the report of each refusal.
 #![tactic(auto)]
 
+mod answering;
 mod command_line;
 mod top;
 
+pub use answering::answer_words;
 pub use top::trips_run;
 pub use trips_answers::{Status, exit_code};

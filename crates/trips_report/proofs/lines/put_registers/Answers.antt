@@ -1,7 +1,7 @@
 use Rattle.std.proofs.Common.{◌∙◌, ◌++◌, ap, arith}
 use Rattle.target_asm_spec.proofs.Numbered.{numbered_step}
-use Rattle.trips_report.specs.Lines.{register_line}
 use Rattle.trips_report.proofs.ListedTexts.{numbered_all}
+use Rattle.trips_report.specs.Runs.{register_line}
 use Rattle.trips_report.proofs.lines.put_registers.Goals as goal
 
 pub loop-r-preserved : goal.loop-r-preserved

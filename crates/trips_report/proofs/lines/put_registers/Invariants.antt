@@ -1,6 +1,6 @@
 use Rattle.std.proofs.Common.{◌≡◌, ◌++◌, take}
 use Rattle.target_asm_spec.specs.Numbers.{numbered}
-use Rattle.trips_report.specs.Lines.{register_line}
+use Rattle.trips_report.specs.Runs.{register_line}
 use Rattle.trips_report.proofs.lines.put_registers.Given as goal
 
 -- the lines of those so far are written

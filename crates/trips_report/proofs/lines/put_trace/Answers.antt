@@ -1,5 +1,5 @@
-use Rattle.trips_report.specs.Lines.{traced_line}
 use Rattle.trips_report.proofs.ListedTexts.{item_step}
+use Rattle.trips_report.specs.Runs.{traced_line}
 use Rattle.trips_report.proofs.lines.put_trace.Goals as goal
 
 pub loop-traced-preserved : goal.loop-traced-preserved

@@ -1,6 +1,6 @@
 use Rattle.std.proofs.Common.{◌≡◌, ◌++◌, take}
 use Rattle.std.specs.List.{flat_map}
-use Rattle.trips_report.specs.Lines.{traced_line}
+use Rattle.trips_report.specs.Runs.{traced_line}
 use Rattle.trips_report.proofs.lines.put_trace.Given as goal
 
 -- the lines of those so far are written

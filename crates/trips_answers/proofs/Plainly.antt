@@ -1,0 +1,293 @@
+-- From the answers over the compiler's passes and the grid to those said of texts, images and the machine alone.
+use Rattle.std.proofs.Common.{◌≡◌, ℕ, ◌+◌, ◌≤◌, false, List, length, Option, None, Some, slice_get}
+use Rattle.std.proofs.Common.{IfSome, ◌⊎◌, inl, inr, refl, sym, ap, ◌∙◌, subst, arith}
+use Rattle.trips_outside.specs.Outside.{Holds}
+use Rattle.trips_isa.specs.declared.block.Block.{Block}
+use Rattle.trips_isa.specs.declared.block.Image.{Image}
+use Rattle.trips_isa.specs.declared.causes.TrapCause.{TrapCause}
+use Rattle.trips_isa.specs.declared.run.Counts.{Counts}
+use Rattle.trips_isa.specs.declared.run.Ending.{Ending}
+use Rattle.trips_isa.specs.declared.run.Ending.TheVariants as ending
+use Rattle.trips_isa.specs.declared.run.Stepped.{Stepped}
+use Rattle.trips_isa.specs.Machine.{State, runs, start}
+use Rattle.c_compile.specs.Images.{MeansText}
+use Rattle.c_compile.proofs.Images.{images_mean}
+use Rattle.c_compile.proofs.Meant.{does_text, good_blocks}
+use Rattle.grid_cycle_spec.specs.Costs.{cost_in, cost_of}
+use Rattle.grid_machine.specs.Answered.{ComesTo}
+use Rattle.grid_cycle.specs.Traps.{is_trap}
+use Rattle.trips_requests.specs.declared.commands.Command.{Command as Work}
+use Rattle.trips_requests.specs.declared.commands.Command.TheVariants.{Run, Evaluate, Compile}
+use Rattle.trips_requests.specs.declared.commands.Command.TheVariants.{Assemble, Disassemble, Check}
+use Rattle.trips_requests.specs.declared.loading.Loaded.{Loaded}
+use Rattle.trips_requests.specs.declared.loading.Loaded.TheVariants.{Fault, TooLarge, Bytes}
+use Rattle.trips_requests.specs.declared.status.Status.{Status}
+use Rattle.trips_requests.specs.declared.status.Status.TheVariants as status
+use Rattle.trips_requests.specs.Read.{IsRead, AfterReading}
+use Rattle.trips_requests.specs.Table.{Wrote}
+use Rattle.trips_answers.specs.declared.forms.FileForm.{FileForm}
+use Rattle.trips_answers.specs.declared.forms.FileForm.TheVariants as form
+use Rattle.trips_answers.specs.declared.forms.Settings.{Settings}
+use Rattle.trips_answers.specs.Request.{Request, origin_held}
+use Rattle.trips_answers.specs.Settings.{settings_of}
+use Rattle.trips_answers.specs.Asks.{limit_of}
+use Rattle.trips_answers.specs.Read.{IsInputRead, IsLarge}
+use Rattle.trips_answers.specs.Report.{CountsRun, TellsRun, ending_of, run_report, shown_report, status_of, trap_cost}
+use Rattle.trips_answers.specs.Counted.{IsCountedRun}
+use Rattle.trips_answers.specs.Refused.{IsBad, MayBeRefused}
+use Rattle.trips_answers.specs.Worked.{IsRunBy, IsWorked, IsDone}
+use Rattle.trips_answers.specs.Answer.{IsAnswerBehind, IsAnswer}
+use Rattle.trips_answers.specs.Table.{EndsAs, IsReported}
+use Rattle.trips_answers.specs.Ended.{ResultMeans}
+use Rattle.trips_answers.specs.Evaluated.{ResultTells}
+use Rattle.trips_answers.specs.Done.{CanBeDone, DoesWork}
+use Rattle.trips_answers.specs.Causes.{CannotBeDone, EndsOrRefuses, EndsWork, IsUnfit, MayAnswer}
+use Rattle.trips_answers.specs.Causes.{MayAnswerBehind, MayBeUnfit}
+use Rattle.trips_answers.proofs.Exact.{refused_cannot}
+use Rattle.trips_answers.proofs.Rows.{of_read, not_large_input}
+use Rattle.trips_answers.proofs.Ends.{is_evaluation}
+
+-- COUNTS
+
+-- what a run may cost is the cost of its trace, and of the block that trapped
+within_cost : (blocks : List Block) (cost cycles : ℕ) (ended : Ending) → (is_trap ended ≡ false → cycles ≤ cost)
+    → ((block : ℕ) (cause : TrapCause) → ended ≡ ending.Trap block cause
+    → cycles ≤ cost + cost_in (slice_get blocks block))
+    → cycles ≤ cost + trap_cost blocks ended
+within_cost blocks cost cycles ending.Ended within trapped =
+    let few : cycles ≤ cost = within refl in
+    let none : trap_cost blocks ending.Ended ≡ 0 = refl in omega (arith, few, none)
+within_cost blocks cost cycles ending.StackFull within trapped =
+    let few : cycles ≤ cost = within refl in
+    let none : trap_cost blocks ending.StackFull ≡ 0 = refl in omega (arith, few, none)
+within_cost blocks cost cycles ending.Budget within trapped =
+    let few : cycles ≤ cost = within refl in
+    let none : trap_cost blocks ending.Budget ≡ 0 = refl in omega (arith, few, none)
+within_cost blocks cost cycles (ending.Trap block cause) within trapped = trapped block cause refl
+
+-- what the grid counts, as far as the machine tells it
+counts_run : (blocks : List Block) (bytes input : List ℕ) (seed budget : ℕ) (ended : Ending) (counts : Counts)
+    → IsCountedRun blocks bytes input seed budget ended counts
+    → CountsRun blocks (runs blocks (start bytes input) budget).0.trace ended counts
+counts_run blocks bytes input seed budget ended counts c =
+    let came : ComesTo blocks (start bytes input) budget ended c.grid = c.ran.comes in
+    record {
+      committed = ap (λ (x : Counts). x.committed) c.counted ∙ c.ran.committed
+          ∙ ap (λ (t : State). length t.trace) came.state;
+      fetched = subst (λ (x : Counts). x.fetched ≡ x.committed + x.flushed) (sym c.counted) came.counted;
+      within = within_cost blocks (cost_of blocks (runs blocks (start bytes input) budget).0.trace) counts.cycles
+          ended c.within c.trapped;
+      at_most = c.at_most;
+    }
+
+-- a run that was made is told
+tells_run : (image : Image) (input : List ℕ) (settings : Settings) (s : Status) (report : List ℕ)
+    → IsRunBy image.blocks image.bytes input settings s report
+    → TellsRun image input settings.most settings.show s report
+tells_run image input settings s report run =
+    let r : State × Stepped = runs image.blocks (start image.bytes input) settings.most in (
+      run.0,
+      counts_run image.blocks image.bytes input settings.seed settings.most (ending_of r.1 r.0.next) run.0 run.1,
+      run.2,
+    )
+
+-- and one that was reported
+pub reported_tells : (image : Image) (input : List ℕ) (settings : Settings) (s : Status) (old new : Option (List ℕ))
+    → IsReported image input settings
+    (status_of (ending_of (runs image.blocks (start image.bytes input) settings.most).1
+    (runs image.blocks (start image.bytes input) settings.most).0.next))
+    (run_report (ending_of (runs image.blocks (start image.bytes input) settings.most).1
+    (runs image.blocks (start image.bytes input) settings.most).0.next)
+    (runs image.blocks (start image.bytes input) settings.most).0) s old new
+    → Wrote old new (TellsRun image input settings.most settings.show s)
+reported_tells image input settings s old new told =
+    let r : State × Stepped = runs image.blocks (start image.bytes input) settings.most in
+    let e : Ending = ending_of r.1 r.0.next in (
+      shown_report e r.0 told.0 (cost_of image.blocks r.0.trace) settings.show,
+      (
+        told.0,
+        counts_run image.blocks image.bytes input settings.seed settings.most e told.0 told.1,
+        (told.2, refl),
+      ),
+      told.3,
+    )
+
+-- THE WORK
+
+-- work that was done, said of texts, images and the machine
+does_work : (work : Work) (how : FileForm) (settings : Settings) (bytes input : List ℕ) (s : Status)
+    (report : List ℕ) → IsWorked work how settings bytes input s report
+    → DoesWork work how settings.most settings.show bytes input s report
+does_work Evaluate how settings bytes input s report run = run
+does_work Run form.Source settings bytes input s report run = (
+  run.0,
+  does_text bytes settings.placing run.0 (images_mean bytes settings.placing run.0 run.1),
+  run.2,
+  tells_run run.0 input settings s report run.3,
+)
+does_work Run form.Target settings bytes input s report run =
+    (run.0, (run.1, run.2), tells_run run.0 input settings s report run.3)
+does_work Run form.Image settings bytes input s report run =
+    (run.0, (run.1, run.2), tells_run run.0 input settings s report run.3)
+does_work Compile how settings bytes input s report run =
+    let means : MeansText bytes settings.placing run.0 = images_mean bytes settings.placing run.0 run.1 in (
+      (
+        run.0,
+        does_text bytes settings.placing run.0 means,
+        good_blocks bytes settings.placing run.0 means,
+        run.2,
+      ),
+      run.3,
+    )
+does_work Assemble how settings bytes input s report run = run
+does_work Disassemble how settings bytes input s report run = run
+does_work Check how settings bytes input s report run = run
+
+-- it could be done
+worked_can : (work : Work) (how : FileForm) (settings : Settings) (bytes input : List ℕ) (s : Status)
+    (report : List ℕ) → IsWorked work how settings bytes input s report → CanBeDone work how bytes
+worked_can Evaluate how settings bytes input s report run = (run.0, run.1)
+worked_can Run form.Source settings bytes input s report run = (run.1.lowered.program, run.1.lowered.accepted)
+worked_can Run form.Target settings bytes input s report run = (run.0, (run.1, run.2))
+worked_can Run form.Image settings bytes input s report run = (run.0, (run.1, run.2))
+worked_can Compile how settings bytes input s report run = (run.1.lowered.program, run.1.lowered.accepted)
+worked_can Assemble how settings bytes input s report run = (report, run.0)
+worked_can Disassemble how settings bytes input s report run = (report, run.0)
+worked_can Check how settings bytes input s report run = (report, run.0)
+
+-- how a request's work ended
+pub ends_work : (held : List ℕ → Option (List ℕ)) (q : Request) (s : Status) → EndsAs held q s → EndsWork held q s
+ends_work held q s e = record {
+  bytes = e.bytes;
+  input = e.input;
+  report = e.report;
+  holds = e.holds;
+  holds_input = e.holds_input;
+  done = does_work q.work q.form (settings_of q) e.bytes e.input s e.report e.worked;
+  undefined = λ u. is_evaluation q.work q.form (settings_of q) e.bytes e.input s e.report e.worked u;
+}
+
+-- what a result that was reported says
+pub result_tells : (held : List ℕ → Option (List ℕ)) (q : Request) (s : Status) (old new : Option (List ℕ))
+    → ResultMeans held q s old new → ResultTells held q old new
+result_tells held q s old new m =
+    let r : State × Stepped = runs m.image.blocks (start m.image.bytes m.input) q.most in
+    record {
+      text = m.text;
+      input = m.input;
+      holds = m.holds;
+      holds_input = m.holds_input;
+      program = m.program;
+      accepted = m.accepted;
+      tokens = m.tokens;
+      lexed = m.lexed;
+      image = m.image;
+      does = does_text m.text q.placing m.image (images_mean m.text q.placing m.image m.made);
+      output = m.output;
+      digits = m.digits;
+      counts = m.reported.0;
+      counted = counts_run m.image.blocks m.image.bytes m.input q.seed q.most (ending_of r.1 r.0.next) m.reported.0
+          m.reported.1;
+      reported = m.reported.3;
+      means = m.means;
+    }
+
+-- REFUSALS
+
+cannot : (q : Request) (bytes : List ℕ) → IsBad q bytes → CannotBeDone q bytes
+cannot q bytes (inl large) = inl large
+cannot q bytes (inr bad) = inr (λ can. refused_cannot q.work q.form bytes bad.0 bad.1 can)
+
+-- what is said of some bytes is said of those that are told
+if_so : (P Q : List ℕ → Type 0) (told : Option (List ℕ)) → ((bytes : List ℕ) → P bytes → Q bytes) → IfSome told P
+    → IfSome told Q
+if_so P Q None so h = tt
+if_so P Q (Some bytes) so h = so bytes h
+
+-- a request that may be refused may be unfit
+pub may_be_unfit : (q : Option Request) (held : List ℕ → Option (List ℕ)) → MayBeRefused q held → MayBeUnfit q held
+may_be_unfit None held may = absurd may
+may_be_unfit (Some q) held (inl bad) =
+    inl (if_so (IsBad q) (CannotBeDone q) (origin_held held q.origin) (cannot q) bad)
+may_be_unfit (Some q) held (inr large) = inr large
+
+-- one whose work is done is not
+not_unfit : (q : Request) (bytes input : List ℕ) (s : Status) (report : List ℕ) → length bytes ≤ limit_of q.form
+    → IsWorked q.work q.form (settings_of q) bytes input s report → CannotBeDone q bytes → ⊥
+not_unfit q bytes input s report few run (inl large) = absurd (omega (arith, few, large))
+not_unfit q bytes input s report few run (inr none) =
+    none (worked_can q.work q.form (settings_of q) bytes input s report run)
+
+module _ (q : Request) (held : List ℕ → Option (List ℕ)) (rose : Type 0) (s : Status) (report : List ℕ) where
+  fit : (bytes input : List ℕ) → Holds (origin_held held q.origin) bytes → length bytes ≤ limit_of q.form
+      → (IsLarge q.input held → ⊥) → IsWorked q.work q.form (settings_of q) bytes input s report
+      → IsUnfit (Some q) held → ⊥
+  fit bytes input h few small run (inl bad) = not_unfit q bytes input s report few run
+      (of_read (CannotBeDone q) (origin_held held q.origin) bytes h bad)
+  fit bytes input h few small run (inr large) = small large
+
+  done_unfit : (bytes input : List ℕ) → IsUnfit (Some q) held → Holds (origin_held held q.origin) bytes
+      → length bytes ≤ limit_of q.form → (IsLarge q.input held → ⊥)
+      → IsDone q.work q.form (settings_of q) bytes input s report → (s ≡ status.Refused) ⊎ (s ≡ status.ReadFault)
+  done_unfit bytes input bad h few small (inl out) = inl out.2.0
+  done_unfit bytes input bad h few small (inr run) = absurd (fit bytes input h few small run bad)
+
+  input_unfit : (bytes : List ℕ) (loaded : Loaded) → IsUnfit (Some q) held → Holds (origin_held held q.origin) bytes
+      → length bytes ≤ limit_of q.form → IsInputRead q.input held rose loaded
+      → AfterReading loaded (λ input. IsDone q.work q.form (settings_of q) bytes input s report) s report
+      → (s ≡ status.Refused) ⊎ (s ≡ status.ReadFault)
+  input_unfit bytes Fault bad h few i a = inr a.0
+  input_unfit bytes TooLarge bad h few i a = inl a.0
+  input_unfit bytes (Bytes input) bad h few i a =
+      done_unfit bytes input bad h few (not_large_input q.input held rose input i) a
+
+  asked_unfit : (loaded : Loaded) → IsUnfit (Some q) held
+      → IsRead (origin_held held q.origin) rose (limit_of q.form) loaded
+      → AfterReading loaded (λ bytes. IsAnswerBehind q held rose bytes s report) s report
+      → (s ≡ status.Refused) ⊎ (s ≡ status.ReadFault)
+  asked_unfit Fault bad h a = inr a.0
+  asked_unfit TooLarge bad h a = inl a.0
+  asked_unfit (Bytes bytes) bad h a = input_unfit bytes a.0 bad h.0 h.1 a.1 a.2
+
+-- what is answered to an unfit request
+pub unfit_row : (q : Option Request) (held : List ℕ → Option (List ℕ)) (rose : Type 0) (s : Status) (report : List ℕ)
+    → IsAnswer q held rose s report → IsUnfit q held → (s ≡ status.Refused) ⊎ (s ≡ status.ReadFault)
+unfit_row None held rose s report a bad = absurd bad
+unfit_row (Some q) held rose s report a bad = asked_unfit q held rose s report a.0 bad a.1 a.2
+
+-- THE TABLE
+
+-- what follows a reading follows it in other words
+after_so : (loaded : Loaded) (P Q : List ℕ → Type 0) (s : Status) (report : List ℕ)
+    → ((bytes : List ℕ) → P bytes → Q bytes) → AfterReading loaded P s report → AfterReading loaded Q s report
+after_so Fault P Q s report so a = a
+after_so TooLarge P Q s report so a = a
+after_so (Bytes bytes) P Q s report so a = so bytes a
+
+done_so : (q : Request) (bytes input : List ℕ) (s : Status) (report : List ℕ)
+    → IsDone q.work q.form (settings_of q) bytes input s report → EndsOrRefuses q bytes input s report
+done_so q bytes input s report (inl out) =
+    inl ((λ can. refused_cannot q.work q.form bytes out.0 out.1 can), out.2.0)
+done_so q bytes input s report (inr run) =
+    inr (does_work q.work q.form (settings_of q) bytes input s report run)
+
+behind_so : (q : Request) (held : List ℕ → Option (List ℕ)) (rose : Type 0) (bytes : List ℕ) (s : Status)
+    (report : List ℕ) → IsAnswerBehind q held rose bytes s report → MayAnswerBehind q held rose bytes s report
+behind_so q held rose bytes s report b = (
+  b.0,
+  b.1,
+  after_so b.0 (λ input. IsDone q.work q.form (settings_of q) bytes input s report)
+      (λ input. EndsOrRefuses q bytes input s report) s report (λ input d. done_so q bytes input s report d) b.2,
+)
+
+-- each answer that holds is one that may come
+pub answer_so : (q : Option Request) (held : List ℕ → Option (List ℕ)) (rose : Type 0) (s : Status) (report : List ℕ)
+    → IsAnswer q held rose s report → MayAnswer q held rose s report
+answer_so None held rose s report a = a
+answer_so (Some q) held rose s report a = (
+  a.0,
+  a.1,
+  after_so a.0 (λ bytes. IsAnswerBehind q held rose bytes s report)
+      (λ bytes. MayAnswerBehind q held rose bytes s report) s report
+      (λ bytes b. behind_so q held rose bytes s report b) a.2,
+)

@@ -1,0 +1,134 @@
+-- What the program promises in plain words, from the table.
+use Rattle.std.proofs.Common.{◌≡◌, ◌≢◌, ℕ, List, [], ◌∷◌, Option, Some, inl, inr}
+use Rattle.trips_isa.specs.declared.block.Image.{Image}
+use Rattle.c_tree.specs.declared.typed.TypedProgram.{TypedProgram}
+use Rattle.c_front.specs.Fronts.{IsAccepted}
+use Rattle.c_compile.specs.Images.{MeansText}
+use Rattle.c_compile.specs.Meant.{DoesText}
+use Rattle.c_compile.proofs.Images.{images_mean}
+use Rattle.c_compile.proofs.Meant.{does_text, good_blocks}
+use Rattle.trips_report.specs.declared.show.Show.{Show}
+use Rattle.trips_requests.specs.declared.commands.Command.{Command as Work}
+use Rattle.trips_requests.specs.declared.commands.Command.TheVariants.{Run, Evaluate, Compile}
+use Rattle.trips_requests.specs.declared.commands.Command.TheVariants.{Assemble, Disassemble, Check}
+use Rattle.trips_requests.specs.declared.status.Status.{Status}
+use Rattle.trips_requests.specs.declared.status.Status.TheVariants as status
+use Rattle.trips_requests.specs.Table.{IsOneOf, IsWritten, Reports, Wrote}
+use Rattle.trips_requests.specs.Texts.{too_large_text}
+use Rattle.trips_requests.proofs.Written.{written_so}
+use Rattle.trips_answers.specs.declared.forms.FileForm.{FileForm}
+use Rattle.trips_answers.specs.declared.forms.FileForm.TheVariants as form
+use Rattle.trips_answers.specs.Request.{Request}
+use Rattle.trips_answers.specs.Settings.{settings_with}
+use Rattle.trips_answers.specs.Asks.{AsksFor}
+use Rattle.trips_answers.specs.Report.{TellsRun}
+use Rattle.trips_answers.specs.Answer.{IsAnswer}
+use Rattle.trips_answers.specs.Table.{IsAnswered}
+use Rattle.trips_answers.specs.Evaluated.{ResultTells}
+use Rattle.trips_answers.specs.Done.{IsImageIn, Makes, WritesImage}
+use Rattle.trips_answers.specs.Causes.{EndsWork, HasCauses, IsTooLarge, MayAnswer, RefusesUnfit}
+use Rattle.trips_answers.proofs.Causes as causes
+use Rattle.trips_answers.proofs.Reported as reported
+use Rattle.trips_answers.proofs.ShownRuns as shown
+use Rattle.trips_answers.proofs.Plainly.{answer_so, ends_work, may_be_unfit, reported_tells, result_tells}
+
+module _ (held : List ℕ → Option (List ℕ)) (rose : Type 0) (old new : Option (List ℕ))
+    (cut : Type 0) (q : Option Request) (s : Status) (a : IsAnswered q held rose old new cut s) where
+  -- the run of an image that does what the text means
+  pub text_run : (most : ℕ) (show : Show) (text input : List ℕ) (program : TypedProgram)
+      → AsksFor q held Run form.Source most show text input → IsAccepted text program
+      → (rose → ⊥) → (cut → ⊥) → s ≢ status.Memory
+      → (image : Image) × DoesText text image × Wrote old new (TellsRun image input most show s)
+  text_run most show text input program asks is r c m =
+      let run = shown.text_run held rose old new cut q s a most show text input program asks is r c m in (
+        run.0,
+        does_text text asks.q.placing run.0 (images_mean text asks.q.placing run.0 run.1),
+        reported_tells run.0 input (settings_with asks.q most show) s old new run.2,
+      )
+
+  -- the run of an image, or of that of a target text
+  pub image_run : (how : FileForm) (most : ℕ) (show : Show) (bytes input : List ℕ) (image : Image)
+      → AsksFor q held Run how most show bytes input → IsImageIn how bytes image
+      → (rose → ⊥) → (cut → ⊥) → s ≢ status.Memory → Wrote old new (TellsRun image input most show s)
+  image_run form.Source most show bytes input image asks is r c m = absurd is
+  image_run form.Target most show bytes input image asks is r c m =
+      reported_tells image input (settings_with asks.q most show) s old new
+      (shown.target_run held rose old new cut q s a most show bytes input image asks is.0 is.1 r c m)
+  image_run form.Image most show bytes input image asks is r c m =
+      reported_tells image input (settings_with asks.q most show) s old new
+      (shown.image_run held rose old new cut q s a most show bytes input image asks is.0 is.1 r c m)
+
+  -- what is compiled
+  pub compiled : (how : FileForm) (most : ℕ) (show : Show) (text input : List ℕ) (program : TypedProgram)
+      → AsksFor q held Compile how most show text input → IsAccepted text program
+      → (rose → ⊥) → (cut → ⊥) → s ≢ status.Memory
+      → (bytes : List ℕ) × WritesImage text bytes × Reports s old new status.Ended bytes
+  compiled how most show text input program asks is r c m =
+      let made = reported.compiled held rose old new cut q s a how most show text input program asks is r c m in
+      let means : MeansText text asks.q.placing made.0 = images_mean text asks.q.placing made.0 made.1 in (
+        made.2,
+        (
+          made.0,
+          does_text text asks.q.placing made.0 means,
+          good_blocks text asks.q.placing made.0 means,
+          made.3,
+        ),
+        (made.4, made.5),
+      )
+
+  -- what a tool makes
+  pub made : (work : Work) (how : FileForm) (most : ℕ) (show : Show) (bytes input out : List ℕ)
+      → AsksFor q held work how most show bytes input → Makes work bytes out
+      → (rose → ⊥) → (cut → ⊥) → s ≢ status.Memory → Reports s old new status.Ended out
+  made Run how most show bytes input out asks is r c m = absurd is
+  made Evaluate how most show bytes input out asks is r c m = absurd is
+  made Compile how most show bytes input out asks is r c m = absurd is
+  made Assemble how most show bytes input out asks is r c m =
+      reported.assembled held rose old new cut q s a how most show bytes input out asks is r c m
+  made Disassemble how most show bytes input out asks is r c m =
+      reported.disassembled held rose old new cut q s a how most show bytes input out asks is r c m
+  made Check how most show bytes input out asks is r c m =
+      reported.checked held rose old new cut q s a how most show bytes input out asks is r c m
+
+  -- what is too large
+  pub too_large : (x : Request) → q ≡ Some x → IsTooLarge x held → (rose → ⊥) → (cut → ⊥) → s ≢ status.Memory
+      → Reports s old new status.Refused too_large_text
+  too_large x e (inl large) r c m = reported.too_large_file held rose old new cut q s a x e large r c m
+  too_large x e (inr large) r c m = reported.too_large_input held rose old new cut q s a x e large r c m
+
+  -- what is refused
+  pub unfit : RefusesUnfit q held s
+  unfit = record {
+    usage = λ e. causes.usage_comes held rose old new cut q s a e;
+    unfit = λ bad. causes.unfit_comes held rose old new cut q s a bad;
+  }
+
+  -- the causes
+  pub has_causes : HasCauses q held rose cut old new s
+  has_causes = record {
+    usage = λ e. causes.usage_only held rose old new cut q s a e;
+    read_fault = λ e. causes.read_fault held rose old new cut q s a e;
+    refused = λ e. may_be_unfit q held (causes.refused_only held rose old new cut q s a e);
+    write_fault = λ e. causes.write_fault held rose old new cut q s a e;
+    memory = λ e. causes.memory held rose old new cut q s a e;
+  }
+
+  -- how the work ended
+  pub ends : IsOneOf s
+      (status.Ended ∷ status.Budget ∷ status.StackFull ∷ status.Trap ∷ status.Undefined ∷ [])
+      → (x : Request) × (q ≡ Some x) × EndsWork held x s
+  ends one =
+      let told = causes.end_told held rose old new cut q s one in
+      let x = causes.asked_end held rose old new cut q s a told in
+      (x.0, x.1, ends_work held x.0 s (causes.ends held rose old new cut q s a x.0 x.1 told))
+
+  -- what a result says
+  pub result : (x : Request) → q ≡ Some x → x.work ≡ Run → x.form ≡ form.Source → s ≡ status.Ended
+      → ResultTells held x old new
+  result x e w f ended =
+      result_tells held x s old new (causes.result_means held rose old new cut q s a x e w f ended)
+
+  -- the table
+  pub answered : IsWritten (MayAnswer q held rose) old new cut s
+  answered = written_so (IsAnswer q held rose) (MayAnswer q held rose) old new cut s
+      (λ t report h. answer_so q held rose t report h) a
