@@ -14,7 +14,8 @@ use Rattle.c_tree.specs.declared.Mark.TheVariants as mark
 use Rattle.c_tree.specs.declared.Kind.{Kind}
 use Rattle.c_tree.specs.declared.Kind.TheVariants.{Int}
 use Rattle.c_lex.specs.declared.piece.Reading.TheVariants as reads
-use Rattle.c_lex.specs.Bytes.{Bytes, Goes, by_class, is_space, is_digit, is_letter, is_word, in_number, feeds, is_feed, is_sign, is_exponent}
+use Rattle.c_lex.specs.Bytes.{Bytes, Goes, by_class, is_space, is_digit, is_letter, is_word, in_number, feeds}
+use Rattle.c_lex.specs.Bytes.{is_feed, is_sign, is_exponent}
 use Rattle.c_lex.specs.inside.Runs.{run_len}
 use Rattle.c_lex.specs.Tables.{lookup, keywords, marks}
 use Rattle.c_lex.specs.inside.Scans.{constant_of}

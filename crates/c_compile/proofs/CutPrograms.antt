@@ -38,8 +38,8 @@ use Rattle.c_compile_layout.proofs.Linked.{good_image}
 use Rattle.c_compile_blocks.specs.inside.Blocks.{AreMachineBlocks, FitsPasses}
 use Rattle.c_compile_blocks.specs.inside.Refusals.{FitMachine}
 use Rattle.c_compile_blocks.proofs.Emitted.{chunks_few, gives_emitted, sizes}
-use Rattle.c_compile_laws.specs.Compiled.{IsCompiled}
-use Rattle.c_compile.specs.Flat.{IsFlatOf}
+use Rattle.c_compile_laws.specs.inside.Compiled.{IsCompiled}
+use Rattle.c_compile.specs.inside.Flat.{IsFlatOf}
 
 -- the text's tokens leave room for the blocks of its program
 pub few_blocks : (text : List ℕ) (F : Program) → IsFlatOf text F

@@ -11,13 +11,14 @@ use Rattle.c_compile_laws.specs.PlainIfs.{plain_ifs}
 use Rattle.c_compile_laws.proofs.Programs.{lowers_plain}
 use Rattle.grid_place.specs.declared.placed.Placing.{Placing}
 use Rattle.c_compile_laws.specs.Counts.{guarded_in}
-use Rattle.c_compile_laws.specs.Compiled.{FlatMeans}
+use Rattle.c_compile_laws.specs.inside.Compiled.{FlatMeans}
 use Rattle.c_compile_laws.proofs.Bounds.{has_bounds}
 use Rattle.c_compile_laws.proofs.Compiled.{does_deep, does_finished, does_unfinished}
 use Rattle.c_compile_laws.proofs.EndedRuns.{ends_as, never_ends}
 use Rattle.c_compile_laws.proofs.Guards.{guards_small_ifs}
-use Rattle.c_compile.specs.Flat.{IsFlatOf}
-use Rattle.c_compile.specs.Images.{IsImageOf, ImagesMeanTexts}
+use Rattle.c_compile.specs.inside.Flat.{IsFlatOf}
+use Rattle.c_compile.specs.Images.{IsImageOf}
+use Rattle.c_compile.specs.inside.Images.{ImagesMeanTexts}
 
 flat_means : (text : List ℕ) (p : Placing) (i : Image) (o : IsImageOf text p i)
     → FlatMeans (o.lowered).program o.flat (length (o.lowered).tokens)

@@ -20,7 +20,7 @@ use Rattle.hyper_build.proofs.Assigned.{gives_assigned}
 use Rattle.grid_place.specs.declared.placed.Placing.{Placing}
 use Rattle.c_compile_layout.specs.inside.Emitted.{image_of, most_blocks}
 use Rattle.c_compile_blocks.specs.inside.Blocks.{ArePassed, AreMachineBlocks, FitsPasses}
-use Rattle.c_compile_laws.specs.Compiled.{IsCompiled}
+use Rattle.c_compile_laws.specs.inside.Compiled.{IsCompiled}
 use Rattle.c_compile_blocks.specs.inside.Checked.{AreChecked}
 use Rattle.c_compile_blocks.proofs.Passed.{are_checked}
 use Rattle.c_compile.proofs.CutPrograms.{data_fits, some_blocks}

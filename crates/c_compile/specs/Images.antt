@@ -10,9 +10,9 @@ use Rattle.c_compile_laws.specs.PlainIfs.{plain_ifs}
 use Rattle.grid_place.specs.declared.placed.Placing.{Placing}
 use Rattle.c_compile_laws.specs.Counts.{guarded_in}
 use Rattle.c_compile_laws.specs.Bounds.{HasBounds}
-use Rattle.c_compile_laws.specs.Compiled.{IsCompiled}
+use Rattle.c_compile_laws.specs.inside.Compiled.{IsCompiled}
 use Rattle.c_compile_laws.specs.Runs.{DoesDeep, DoesFinished, DoesUnfinished, EndsAsEvaluated, NeverEnds}
-use Rattle.c_compile.specs.Flat.{IsFlatOf}
+use Rattle.c_compile.specs.inside.Flat.{IsFlatOf}
 
 -- i is made of the text's flat program, and its blocks stand in the slots that a placing says
 pub record IsImageOf (text : List ℕ) (p : Placing) (i : Image) : Type 0 where
@@ -45,8 +45,3 @@ pub record MeansText (text : List ℕ) (p : Placing) (i : Image) : Type 0 where
   pub bounds : HasBounds (length tokens) p i
   -- each plain if has a guarded instruction that is no branch
   pub guards : plain_ifs program ≤ guarded_in i.blocks
-
--- so does each image of a text
-abbrev pub ImagesMeanTexts : Type 0
-ImagesMeanTexts =
-    (text : List ℕ) (p : Placing) (i : Image) → IsImageOf text p i → MeansText text p i

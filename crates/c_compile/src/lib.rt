@@ -1,6 +1,6 @@
 //! From C texts to images that do what the texts mean (docs/LANGUAGE.md).
 //!
-//! `specs/Flat.antt` says what the flat program of a text is, `specs/Images.antt` what its image is.
+//! `specs/inside/Flat.antt` says what the flat program of a text is, `specs/Images.antt` what its image is.
 #![tactic(auto)]
 
 mod attempts;

@@ -4,7 +4,7 @@ ghost use Rattle.c_front.specs.Refusals.{MayBeRefused};
 ghost use Rattle.ir_forms.specs.inside.FlatFits.{FitsProgram, code_blocks_of_all};
 ghost use Rattle.ir_forms.specs.inside.FlatViews.{program_of};
 ghost use Rattle.c_compile_layout.specs.inside.Emitted.{most_blocks};
-ghost use Rattle.c_compile_laws.specs.Compiled.{IsCompiled};
+ghost use Rattle.c_compile_laws.specs.inside.Compiled.{IsCompiled};
 ghost use Rattle.c_compile.specs.Images.{IsImageOf};
 
 use crate::attempts::{Tried, image_within};

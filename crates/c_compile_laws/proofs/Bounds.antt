@@ -11,7 +11,7 @@ use Rattle.grid_place.specs.declared.placed.Placing.{Placing}
 use Rattle.c_compile_layout.proofs.Linked.{made, good_image}
 use Rattle.c_compile_blocks.proofs.UsedSlots.{uses_slots}
 use Rattle.c_compile_laws.specs.Bounds.{HasBounds}
-use Rattle.c_compile_laws.specs.Compiled.{FlatMeans, IsCompiled}
+use Rattle.c_compile_laws.specs.inside.Compiled.{FlatMeans, IsCompiled}
 use Rattle.c_compile_laws.proofs.Compiled.{data_fits, emitted}
 
 pub has_bounds : (P : TypedProgram) (F : Program) (t : ℕ) (p : Placing) (i : Image)

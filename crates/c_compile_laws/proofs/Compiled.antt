@@ -34,7 +34,7 @@ use Rattle.c_compile_layout.proofs.Faithful.{faithful}
 use Rattle.c_compile_layout.proofs.Linked.{image_means}
 use Rattle.c_compile_blocks.specs.inside.Blocks.{FitsPasses}
 use Rattle.c_compile_blocks.proofs.Emitted.{chunks_few, gives_emitted}
-use Rattle.c_compile_laws.specs.Compiled.{FlatMeans, IsCompiled}
+use Rattle.c_compile_laws.specs.inside.Compiled.{FlatMeans, IsCompiled}
 use Rattle.c_compile_laws.specs.Runs.{run_of}
 use Rattle.c_compile_laws.specs.Runs.{DoesFinished, DoesDeep, DoesUnfinished}
 use Rattle.c_compile_laws.proofs.RunStandings.{running_is, full_is, ended_is}

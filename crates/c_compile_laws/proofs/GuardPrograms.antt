@@ -5,7 +5,7 @@ use Rattle.ir_forms.specs.inside.HyperCode.{Block}
 use Rattle.ir_forms.specs.inside.HyperFits.{filled_ifs, filled_in}
 use Rattle.c_compile_layout.specs.inside.Linking.{by_both, linked_from}
 use Rattle.c_compile_laws.specs.Counts.{guarded_insts, guarded_in}
-use Rattle.c_compile_laws.specs.GuardLaws.{ProgramsGuarded}
+use Rattle.c_compile_laws.specs.inside.GuardLaws.{ProgramsGuarded}
 use Rattle.c_compile_laws.proofs.Targets.{resolves}
 
 summed : (B : List Block) (us : List MachineBlock) → length us ≡ length B

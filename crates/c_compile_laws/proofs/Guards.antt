@@ -13,11 +13,11 @@ use Rattle.predication.specs.inside.Tails.{labelled}
 use Rattle.grid_place.specs.declared.placed.Placing.{Placing}
 use Rattle.grid_place.specs.Moves.{goes}
 use Rattle.c_compile_laws.specs.Counts.{guarded_in}
-use Rattle.c_compile_laws.specs.GuardLaws.{AreGuarded}
+use Rattle.c_compile_laws.specs.inside.GuardLaws.{AreGuarded}
 use Rattle.c_compile_laws.proofs.Machines.{machines}
 use Rattle.c_compile_laws.proofs.GuardPrograms.{programs}
 use Rattle.c_compile_blocks.specs.inside.Blocks.{AreMachineBlocks}
-use Rattle.c_compile_laws.specs.Laws.{GuardsSmallIfs}
+use Rattle.c_compile_laws.specs.inside.Laws.{GuardsSmallIfs}
 
 -- each machine block has as many guarded instructions as its hyper block has filled if-items
 are_guarded : (p : Placing) (B : List hyper.Block) (us : List Block) → AreMachineBlocks p B us

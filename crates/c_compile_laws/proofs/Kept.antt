@@ -7,7 +7,7 @@ use Rattle.ir_forms.specs.inside.FlatFits.{is_small_leg, is_empty, small_if, sma
 use Rattle.ir_forms.specs.inside.FlatFits.{small_ifs_of_all}
 use Rattle.reg_assign.specs.inside.Live.{VarSet}
 use Rattle.reg_assign.specs.inside.Keeps.{calls, calls_in, keeping_in, keeping, keeping_all, kept_by}
-use Rattle.c_compile_laws.specs.PlainLaws.{AssignsSmallIfs}
+use Rattle.c_compile_laws.specs.inside.PlainLaws.{AssignsSmallIfs}
 
 module _ (keep : ℕ → VarSet) where
   small_same : (k : ℕ) (a : Code) → is_small_leg (keeping keep k a) ≡ is_small_leg a

@@ -7,7 +7,7 @@ use Rattle.predication.specs.inside.Converted.{predicated}
 use Rattle.null_outputs.specs.inside.Wants.{complete}
 use Rattle.fan_out.specs.declared.wiring.Placed.{Placed}
 use Rattle.fan_out.specs.inside.Targeted.{slots, slot_of, filled}
-use Rattle.c_compile_laws.specs.GuardLaws.{MachinesGuarded}
+use Rattle.c_compile_laws.specs.inside.GuardLaws.{MachinesGuarded}
 use Rattle.c_compile_laws.proofs.NodeCounts.{completes_sensed}
 use Rattle.c_compile_laws.proofs.Conversions.{converts_sensed}
 use Rattle.c_compile_laws.proofs.Targets.{targets_sensed}

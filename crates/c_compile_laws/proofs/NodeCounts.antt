@@ -14,7 +14,7 @@ use Rattle.ir_forms.specs.inside.FlowFits.{has_guard, guarded_nodes}
 use Rattle.null_outputs.specs.inside.Completed.{added}
 use Rattle.null_outputs.specs.inside.Surely.{sure_by}
 use Rattle.null_outputs.specs.inside.Wants.{want_by, complete}
-use Rattle.c_compile_laws.specs.GuardLaws.{CompletesGuarded}
+use Rattle.c_compile_laws.specs.inside.GuardLaws.{CompletesGuarded}
 
 -- whether there is a guard that has a sense
 abbrev pub has_sense : Option Guard → Bool

@@ -9,7 +9,7 @@ use Rattle.grid_place.specs.inside.Moves.{renamed_inst}
 use Rattle.grid_place.proofs.Totals.{total, led_apart, total_map, total_same, indices, index_in, index_low}
 use Rattle.grid_place.proofs.Totals.{indices_distinct}
 use Rattle.c_compile_laws.specs.Counts.{guarded_slot, guarded_slots}
-use Rattle.c_compile_laws.specs.GuardLaws.{PlacesGuarded}
+use Rattle.c_compile_laws.specs.inside.GuardLaws.{PlacesGuarded}
 
 -- the guards of slots as a sum over their numbers
 summed : (is : List (Option Inst))

@@ -9,7 +9,7 @@ use Rattle.flat_lower.specs.declared.around.Around.TheVariants.{Nowhere}
 use Rattle.flat_lower.specs.inside.Statements.{stmt_code, end_code, context_of, lowered_from, lowered}
 use Rattle.flat_lower.specs.inside.Statements.{lowered_program}
 use Rattle.c_compile_laws.specs.PlainIfs.{ifs_of_funcs}
-use Rattle.c_compile_laws.specs.PlainLaws.{LowersPlainIfs, AssignsPlainIfs}
+use Rattle.c_compile_laws.specs.inside.PlainLaws.{LowersPlainIfs, AssignsPlainIfs}
 use Rattle.c_compile_laws.proofs.SmallIfs.{then_small}
 use Rattle.c_compile_laws.proofs.Statements.{shows}
 use Rattle.c_compile_laws.proofs.Kept.{assigns_small}

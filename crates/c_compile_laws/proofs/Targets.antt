@@ -12,7 +12,7 @@ use Rattle.fan_out.specs.inside.Targeted.{fan_of_node, placed_nodes, movs_of_rea
 use Rattle.fan_out.specs.inside.Targeted.{slots_of_nodes, slots, slot_of, IsTargeted}
 use Rattle.c_compile_layout.specs.inside.Linking.{Resolves, resolved_slot}
 use Rattle.c_compile_laws.specs.Counts.{guarded_slot, guarded_slots, guarded_insts}
-use Rattle.c_compile_laws.specs.GuardLaws.{TargetsGuarded, ResolvesGuarded}
+use Rattle.c_compile_laws.specs.inside.GuardLaws.{TargetsGuarded, ResolvesGuarded}
 use Rattle.c_compile_laws.proofs.NodeCounts.{sensed_nodes, all_sensed}
 
 -- the slots of nodes hold as many guards as the nodes have senses

@@ -1,5 +1,6 @@
-ghost use Rattle.c_compile_laws.specs.GuardLaws.{CompletesGuarded, ConvertsGuarded, MachinesGuarded};
-ghost use Rattle.c_compile_laws.specs.GuardLaws.{PlacesGuarded, ProgramsGuarded, ResolvesGuarded, TargetsGuarded};
+ghost use Rattle.c_compile_laws.specs.inside.GuardLaws.{CompletesGuarded, ConvertsGuarded, MachinesGuarded};
+ghost use Rattle.c_compile_laws.specs.inside.GuardLaws.{PlacesGuarded, ProgramsGuarded, ResolvesGuarded};
+ghost use Rattle.c_compile_laws.specs.inside.GuardLaws.{TargetsGuarded};
 
 /// A converted block has at least as many guarded nodes other than branches as the hyper block has
 /// filled if-items.

@@ -1,6 +1,6 @@
 ghost use Rattle.c_compile_laws.specs.Bounds.{HasBounds};
-ghost use Rattle.c_compile_laws.specs.Laws.{GuardsSmallIfs, OfCompiled};
-ghost use Rattle.c_compile_laws.specs.Limits.{TakesCuts};
+ghost use Rattle.c_compile_laws.specs.inside.Laws.{GuardsSmallIfs, OfCompiled};
+ghost use Rattle.c_compile_laws.specs.inside.Limits.{TakesCuts};
 ghost use Rattle.c_compile_laws.specs.Runs.{DoesDeep, DoesFinished, DoesUnfinished, EndsAsEvaluated};
 ghost use Rattle.c_compile_laws.specs.Runs.{NeverEnds};
 

@@ -1,4 +1,4 @@
-ghost use Rattle.c_compile_laws.specs.PlainLaws.{AssignsPlainIfs, AssignsSmallIfs, LowersPlainIfs};
+ghost use Rattle.c_compile_laws.specs.inside.PlainLaws.{AssignsPlainIfs, AssignsSmallIfs, LowersPlainIfs};
 
 /// The flat program of a typed program has at least as many small ifs as that has plain ifs.
 pub fn lowering_keeps_plain_ifs()

@@ -13,7 +13,8 @@ use Rattle.trips_answers.specs.Settings.{settings_of}
 use Rattle.trips_answers.specs.Refused.{MayBeRefused, IsRefused}
 use Rattle.trips_answers.specs.Worked.{IsWorked}
 use Rattle.trips_answers.specs.Answer.{IsAnswer}
-use Rattle.trips_answers.specs.Table.{IsAnswered, IsCutOff, EndsAs, EvalEnds}
+use Rattle.trips_answers.specs.Table.{IsAnswered, EndsAs, EvalEnds}
+use Rattle.trips_answers.specs.inside.Table.{IsCutOff}
 use Rattle.trips_requests.specs.Table.{IsOneOf}
 use Rattle.trips_answers.specs.Causes.{IsUnfit}
 use Rattle.trips_answers.specs.Evaluated.{RunEndsAs}

@@ -126,12 +126,14 @@ module _ (settings : Settings) (n : ℕ) (text input : List ℕ) (program : Type
       let e : ending_of r.1 r.0.next ≡ ending.Ended =
       ap (λ (a : Stepped). ending_of a r.0.next) (finished_run output value steps done).answer in
       let ran : IsRan run.0.blocks run.0.bytes input settings.most settings.seed (Some ending.Ended) h =
-      subst (λ (x : Ending). IsRan run.0.blocks run.0.bytes input settings.most settings.seed (Some x) h) e run.3.1.ran in
+      subst (λ (x : Ending). IsRan run.0.blocks run.0.bytes input settings.most settings.seed (Some x) h) e
+      run.3.1.ran in
       let came : ComesTo run.0.blocks (start run.0.bytes input) settings.most ending.Ended h = ran.comes in
       let cost : h.counts.cycles ≤ cost_of run.0.blocks r.0.trace =
-      subst (λ (c : Counts). c.cycles ≤ cost_of run.0.blocks r.0.trace) run.3.1.counted (run.3.1.within (ap is_trap e)) in
-      runs.seed_as_meant text input settings.placing run.0 means settings.most settings.seed ending.Ended h ran n program
-      output value steps accepted run.2 done enough
+      subst (λ (c : Counts). c.cycles ≤ cost_of run.0.blocks r.0.trace) run.3.1.counted
+      (run.3.1.within (ap is_trap e)) in
+      runs.seed_as_meant text input settings.placing run.0 means settings.most settings.seed ending.Ended h ran n
+      program output value steps accepted run.2 done enough
       (subst (λ (t : State). h.counts.cycles ≤ cost_of run.0.blocks t.trace) (sym came.state) cost)
 
   pub finished_told : (output : List ℕ) (value : ℤ) (steps : ℕ) → settings.show ≡ nothing_shown

@@ -35,7 +35,7 @@ use Rattle.trips_answers.specs.Request.{Request, origin_held}
 use Rattle.trips_answers.specs.Settings.{settings_with, settings_of}
 use Rattle.trips_answers.specs.Read.{IsInputRead, IsLarge}
 use Rattle.trips_answers.specs.Asks.{IsInput, limit_of, most_input_bytes, AsksFor}
-use Rattle.trips_requests.specs.Read.{IsRead, AfterReading}
+use Rattle.trips_requests.specs.Table.{IsRead, AfterReading}
 use Rattle.trips_report.specs.Refusals.{image_text, asm_text, check_text}
 use Rattle.trips_requests.specs.Texts.{too_large_text, IsFixed}
 use Rattle.trips_eval_answers.specs.Refusals.{front_refusal}

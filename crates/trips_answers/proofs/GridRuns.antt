@@ -74,7 +74,8 @@ module _ (blocks : List Block) (bytes input : List ℕ) (settings : Settings) (s
               ≤ cost_of blocks (runs blocks (start bytes input) settings.most).0.trace + cost_in (slice_get blocks k))
               (trap_at (runs blocks (start bytes input) settings.most).1
               (runs blocks (start bytes input) settings.most).0.next block cause is)
-              (subst (λ (t : State). g.counts.cycles ≤ cost_of blocks t.trace + cost_in (slice_get blocks t.next)) c.state
+              (subst (λ (t : State). g.counts.cycles ≤ cost_of blocks t.trace + cost_in (slice_get blocks t.next))
+              c.state
               (subst (λ (bs : List Block). g.counts.cycles
               ≤ cost_of bs g.window.state.trace + cost_in (slice_get bs g.window.state.next)) same soon));
           at_most = subst (λ (t : State). g.counts.cycles ≤ cost_of blocks t.trace + greatest_cost) c.state at_most;

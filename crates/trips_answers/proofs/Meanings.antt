@@ -14,7 +14,7 @@ use Rattle.c_compile_laws.specs.Runs.{HasEnded, IsFull, run_of}
 use Rattle.grid_cycle_spec.specs.Costs.{cost_of}
 use Rattle.grid_meaning.proofs.TextRuns.{settled}
 use Rattle.trips_answers.specs.Report.{ending_of, shown_behind, status_of}
-use Rattle.trips_answers.specs.Laws.{TellsDeep, TellsDone}
+use Rattle.trips_answers.specs.inside.Laws.{TellsDeep, TellsDone}
 use Rattle.trips_answers.proofs.Compiled.{ended, full}
 
 -- an evaluation of the text's program is one of the program that the image means

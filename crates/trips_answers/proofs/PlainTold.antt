@@ -5,7 +5,7 @@ use Rattle.std.specs.Prelude.{◌&&◌, not, nat_eq, String, string_bytes, optio
 use Rattle.std.specs.List.{ends_with}
 use Rattle.trips_requests.specs.declared.commands.Command.{Command as Work}
 use Rattle.trips_requests.specs.declared.commands.Command.TheVariants.{Run, Evaluate, Compile}
-use Rattle.trips_requests.specs.Plain as line
+use Rattle.trips_requests.specs.inside.Plain as line
 use Rattle.trips_requests.specs.Requests as line_requests
 use Rattle.trips_requests.specs.Limits.{default_count}
 use Rattle.trips_requests.specs.declared.commands.Tool.{Tool}
@@ -20,19 +20,19 @@ use Rattle.trips_requests.specs.declared.loading.Loaded.TheVariants.{Fault, TooL
 use Rattle.trips_answers.specs.Request.{Request, form_named, planned, request_of}
 use Rattle.trips_answers.specs.Settings.{settings_of}
 use Rattle.trips_answers.specs.Asks.{limit_of}
-use Rattle.trips_requests.specs.Read.{IsRead, AfterReading}
+use Rattle.trips_requests.specs.Table.{IsRead, AfterReading}
 use Rattle.trips_requests.specs.Table.{IsWritten}
 use Rattle.trips_requests.proofs.Written.{written_so}
-use Rattle.trips_eval_answers.specs.Evaluation.{IsTextEvaluated}
-use Rattle.trips_eval_answers.specs.Answer.{IsEvalAnswer}
-use Rattle.trips_tools.specs.ToolAnswers.{IsToolDone}
-use Rattle.trips_tools.specs.Answer as tools
-use Rattle.trips_tools.specs.Answer.{IsToolAnswer}
+use Rattle.trips_eval_answers.specs.inside.Evaluation.{IsTextEvaluated}
+use Rattle.trips_eval_answers.specs.inside.Answer.{IsEvalAnswer}
+use Rattle.trips_tools.specs.inside.ToolAnswers.{IsToolDone}
+use Rattle.trips_tools.specs.inside.Answer as tools
+use Rattle.trips_tools.specs.inside.Answer.{IsToolAnswer}
 use Rattle.trips_answers.specs.Worked.{IsDone}
 use Rattle.trips_answers.specs.Answer.{IsAnswerBehind, IsAnswer}
 use Rattle.trips_answers.specs.Table.{IsAnswered}
-use Rattle.trips_answers.specs.Plain.{plain_run, plain_eval, plain_compile, plain_tool}
-use Rattle.trips_answers.specs.Plain.{default_settings, text_request}
+use Rattle.trips_answers.specs.inside.Plain.{plain_run, plain_eval, plain_compile, plain_tool}
+use Rattle.trips_answers.specs.inside.Plain.{default_settings, text_request}
 use Rattle.trips_answers.proofs.Told.{tool_row, tool_back}
 
 -- where the file was read, the answer for its text on no input is that to the request

@@ -24,7 +24,7 @@ use Rattle.trips_answers.specs.Request.{Request, origin_held}
 use Rattle.trips_answers.specs.Settings.{settings_of}
 use Rattle.trips_answers.specs.Read.{IsInputRead, MayBeLarge, IsLarge}
 use Rattle.trips_answers.specs.Asks.{limit_of, most_input_bytes}
-use Rattle.trips_requests.specs.Read.{IsRead, AfterReading}
+use Rattle.trips_requests.specs.Table.{IsRead, AfterReading}
 use Rattle.trips_answers.specs.Report.{ending_of, status_of}
 use Rattle.trips_answers.specs.Worked.{IsRunBy, IsWorked, IsDone}
 use Rattle.trips_eval_answers.specs.Evaluation.{eval_status, outcome_of}

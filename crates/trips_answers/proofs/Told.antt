@@ -27,22 +27,24 @@ use Rattle.std.proofs.Common.{option_map}
 use Rattle.trips_requests.specs.declared.commands.Asked.{Asked}
 use Rattle.trips_requests.specs.declared.commands.Tool.{Tool}
 use Rattle.trips_requests.specs.declared.commands.Tool.TheVariants as tools
-use Rattle.trips_requests.specs.Plain as line_plain
+use Rattle.trips_requests.specs.inside.Plain as line_plain
 use Rattle.trips_requests.specs.Requests as line
-use Rattle.trips_tools.specs.ToolAnswers.{IsToolDone}
+use Rattle.trips_requests.specs.inside.Requests as inside_line
+use Rattle.trips_tools.specs.inside.ToolAnswers.{IsToolDone}
 use Rattle.trips_answers.specs.Request.{Request, origin_held, planned}
-use Rattle.trips_answers.specs.Settings.{request_seen}
+use Rattle.trips_answers.specs.inside.Settings.{request_seen}
 use Rattle.trips_answers.specs.Read.{IsInputRead}
 use Rattle.trips_answers.specs.Asks.{limit_of, most_input_bytes}
-use Rattle.trips_requests.specs.Read.{IsRead, AfterReading}
+use Rattle.trips_requests.specs.Table.{IsRead, AfterReading}
 use Rattle.trips_requests.specs.Limits.{most_target_bytes, most_image_bytes}
 use Rattle.c_tree.specs.Limits.{most_source_bytes}
 use Rattle.target_asm_spec.specs.Text.{TargetText}
 use Rattle.trips_eval_answers.specs.Refusals.{front_refusal}
-use Rattle.trips_eval_answers.specs.Evaluation.{IsRefusedByFront, IsRefusalBy, IsTextEvaluated}
+use Rattle.trips_eval_answers.specs.Evaluation.{IsRefusedByFront}
+use Rattle.trips_eval_answers.specs.inside.Evaluation.{IsRefusalBy, IsTextEvaluated}
 use Rattle.trips_answers.specs.Worked.{IsRunBy, IsDone}
 use Rattle.trips_answers.specs.Answer.{IsAnswerBehind, IsAnswer}
-use Rattle.trips_answers.specs.Checked.{IsRunOfChecked}
+use Rattle.trips_answers.specs.inside.Checked.{IsRunOfChecked}
 
 -- every block of a checked image is good
 pub checked_good : (image : Image) → IsCheckedImage image → All IsGood image.blocks
@@ -259,7 +261,7 @@ behind_told q held kept old now new bytes (Ok a) same le next h told =
     )
 
 -- the request of the code is that of the words
-pub seen_told : (r : Option Asked) (o : Option line.Request) → option_map line.request_seen r ≡ o
+pub seen_told : (r : Option Asked) (o : Option line.Request) → option_map inside_line.request_seen r ≡ o
     → option_map request_seen r ≡ option_map planned o
 seen_told None o e = ap (option_map planned) e
 seen_told (Some asked) o e = ap (option_map planned) e

@@ -7,7 +7,7 @@ use Rattle.trips_answers.specs.Request.{Request, origin_held}
 use Rattle.trips_answers.specs.Settings.{settings_of}
 use Rattle.trips_answers.specs.Read.{IsInputRead}
 use Rattle.trips_answers.specs.Asks.{limit_of}
-use Rattle.trips_requests.specs.Read.{IsRead, AfterReading}
+use Rattle.trips_requests.specs.Table.{IsRead, AfterReading}
 use Rattle.trips_requests.specs.Texts.{usage_text, IsFixed}
 use Rattle.trips_answers.specs.Worked.{IsDone}
 

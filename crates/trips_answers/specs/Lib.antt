@@ -3,15 +3,13 @@ pub mod Read
 pub mod Report
 pub mod Done
 pub mod Causes
-pub mod Laws
 pub mod Counted
 pub mod Worked
 pub mod Answer
-pub mod Checked
 pub mod Refused
 pub mod Table
 pub mod Evaluated
-pub mod Plain
 pub mod Ended
 pub mod Asks
 pub mod Settings
+pub mod inside

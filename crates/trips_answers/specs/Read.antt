@@ -3,7 +3,7 @@ use Rattle.std.specs.Prelude.{◌≡◌, ℕ, ◌<◌, List, [], Option, None, S
 use Rattle.trips_outside.specs.Outside.{Holds}
 use Rattle.trips_requests.specs.declared.loading.Loaded.{Loaded}
 use Rattle.trips_requests.specs.declared.loading.Loaded.TheVariants.{Bytes}
-use Rattle.trips_requests.specs.Read.{IsRead}
+use Rattle.trips_requests.specs.Table.{IsRead}
 use Rattle.trips_answers.specs.Asks.{most_input_bytes}
 
 -- what reading the input's file comes to; where none is named the input is empty

@@ -33,8 +33,8 @@ status_of ending.StackFull = status.StackFull
 status_of ending.Budget = status.Budget
 status_of (ending.Trap block cause) = status.Trap
 
--- the report of a run, from how it ended, the state at its end, what the grid counted and what the committed blocks may
--- cost, and what is shown behind it
+-- the report of a run, from how it ended, the state at its end, what the grid counted and what the committed blocks
+-- may cost, and what is shown behind it
 abbrev pub shown_report : Ending → State → Counts → ℕ → Show → List ℕ
 shown_report ending s counts cost show = reports.run_report ending s counts cost show
 

@@ -1,10 +1,8 @@
 -- How the work of a request is done, and the request of the code.
 use Rattle.std.specs.Prelude.{ℕ}
 use Rattle.trips_report.specs.declared.show.Show.{Show}
-use Rattle.trips_requests.specs.declared.commands.Asked.{Asked}
-use Rattle.trips_requests.specs.Requests as line
 use Rattle.trips_answers.specs.declared.forms.Settings.{Settings}
-use Rattle.trips_answers.specs.Request.{planned, Request}
+use Rattle.trips_answers.specs.Request.{Request}
 
 -- how a request's work is done within so many blocks or steps, where this is shown
 abbrev pub settings_with : Request → ℕ → Show → Settings
@@ -13,7 +11,3 @@ settings_with q most show = record { placing = q.placing; seed = q.seed; most = 
 -- how the work of a request is done
 abbrev pub settings_of : Request → Settings
 settings_of q = settings_with q q.most q.show
-
--- a request of the code
-abbrev pub request_seen : Asked → Request
-request_seen request = planned (line.request_seen request)

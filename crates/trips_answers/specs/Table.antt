@@ -8,7 +8,7 @@ use Rattle.grid_cycle_spec.specs.Costs.{cost_of}
 use Rattle.trips_requests.specs.declared.commands.Command.TheVariants.{Evaluate}
 use Rattle.trips_answers.specs.declared.forms.Settings.{Settings}
 use Rattle.trips_requests.specs.declared.status.Status.{Status}
-use Rattle.trips_requests.specs.Table.{IsCutShort, IsWritten}
+use Rattle.trips_requests.specs.Table.{IsWritten}
 use Rattle.trips_answers.specs.Request.{Request, origin_held}
 use Rattle.trips_answers.specs.Settings.{settings_of}
 use Rattle.trips_answers.specs.Read.{HoldsInput}
@@ -17,19 +17,14 @@ use Rattle.trips_answers.specs.Counted.{IsCountedRun}
 use Rattle.trips_answers.specs.Worked.{IsWorked}
 use Rattle.trips_answers.specs.Answer.{IsAnswer}
 
--- Some answer that holds was cut off: the first part of its report was written.
-abbrev pub IsCutOff : Option Request → (List ℕ → Option (List ℕ)) → Type 0
-    → Option (List ℕ) → Option (List ℕ) → Type 0
-IsCutOff request held rose old new = IsCutShort (IsAnswer request held rose) old new
-
 -- The table over the answers to this request: nothing was appended, the first part of a report where the
 -- sink's count of faults rose (`cut`), or all of the report of this very answer.
 abbrev pub IsAnswered : Option Request → (List ℕ → Option (List ℕ)) → Type 0
     → Option (List ℕ) → Option (List ℕ) → Type 0 → Status → Type 0
 IsAnswered request held rose old new cut s = IsWritten (IsAnswer request held rose) old new cut s
 
--- The run of an image was reported: with this status, and with this text, behind which stands what is shown of the end
--- of the machine's run and of the counts of the grid's run.
+-- The run of an image was reported: with this status, and with this text, behind which stands what is shown of the
+-- end of the machine's run and of the counts of the grid's run.
 abbrev pub IsReported : Image → List ℕ → Settings → Status → List ℕ → Status → Option (List ℕ)
     → Option (List ℕ) → Type 0
 IsReported image input settings wanted text s old new =

@@ -3,11 +3,12 @@
 ghost use Rattle.std.specs.Prelude.{◌≡◌, ◌<◌, ◌≤◌, length, Some, IfOk, IfSome, option_map};
 ghost use Rattle.trips_outside.specs.Outside.{Rose};
 ghost use Rattle.trips_answers.specs.Request.{form_of};
-ghost use Rattle.trips_answers.specs.Settings.{settings_of, request_seen};
+ghost use Rattle.trips_answers.specs.Settings.{settings_of};
+ghost use Rattle.trips_answers.specs.inside.Settings.{request_seen};
 ghost use Rattle.trips_answers.specs.Asks.{limit_of};
 ghost use Rattle.trips_answers.specs.Worked.{IsDone};
 ghost use Rattle.trips_answers.specs.Answer.{IsAnswerBehind, IsAnswer};
-ghost use Rattle.trips_requests.specs.Read.{AfterReading};
+ghost use Rattle.trips_requests.specs.Table.{AfterReading};
 
 use crate::forms::{FileForm, Settings, form_of, settings_for};
 use crate::image_answer::{bytes_answer, target_answer};

@@ -2,7 +2,8 @@
 
 ghost use Rattle.std.specs.Prelude.{◌≡◌};
 ghost use Rattle.trips_answers.specs.Request.{form_named, form_of, placing_of};
-ghost use Rattle.trips_answers.specs.Settings.{settings_of, request_seen};
+ghost use Rattle.trips_answers.specs.Settings.{settings_of};
+ghost use Rattle.trips_answers.specs.inside.Settings.{request_seen};
 
 use grid_place::Placing;
 use trips_report::Show;

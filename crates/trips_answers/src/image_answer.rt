@@ -5,7 +5,7 @@ ghost use Rattle.trips_isa.specs.Images.{FitsImage};
 ghost use Rattle.trips_requests.specs.declared.commands.Command.TheVariants.{Run};
 ghost use Rattle.trips_answers.specs.declared.forms.FileForm.TheVariants as form;
 ghost use Rattle.trips_answers.specs.Worked.{IsDone};
-ghost use Rattle.trips_answers.specs.Checked.{IsRunOfChecked};
+ghost use Rattle.trips_answers.specs.inside.Checked.{IsRunOfChecked};
 
 use crate::forms::Settings;
 use crate::gridded::run_image;

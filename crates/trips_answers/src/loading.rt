@@ -5,7 +5,8 @@ ghost use Rattle.trips_outside.specs.Outside.{Rose};
 ghost use Rattle.trips_answers.specs.Request.{origin_held, origin_of};
 ghost use Rattle.trips_answers.specs.Read.{IsInputRead};
 ghost use Rattle.trips_answers.specs.Asks.{most_input_bytes};
-ghost use Rattle.trips_requests.specs.Read.{IsRead, IsWithin};
+ghost use Rattle.trips_requests.specs.Table.{IsRead};
+ghost use Rattle.trips_requests.specs.inside.Read.{IsWithin};
 
 use base::Items;
 use bench_text::bench_text;

@@ -4,16 +4,16 @@
 ghost use Rattle.std.specs.Prelude.{◌≡◌, ◌≤◌, ◌↔◌, ℕ, List, [], length, map, string_bytes, Some, IfOk};
 ghost use Rattle.trips_outside.specs.Outside.{Rose, Appended};
 ghost use Rattle.trips_requests.specs.declared.commands.Command.TheVariants.{Run, Compile};
-ghost use Rattle.trips_requests.specs.Plain as line;
-ghost use Rattle.trips_eval_answers.specs.Answer.{IsEvalAnswer};
-ghost use Rattle.trips_tools.specs.Answer.{IsToolAnswer};
+ghost use Rattle.trips_requests.specs.inside.Plain as line;
+ghost use Rattle.trips_eval_answers.specs.inside.Answer.{IsEvalAnswer};
+ghost use Rattle.trips_tools.specs.inside.Answer.{IsToolAnswer};
 ghost use Rattle.trips_answers.specs.declared.forms.FileForm.TheVariants.{Source};
 ghost use Rattle.trips_answers.specs.Asks.{limit_of};
 ghost use Rattle.trips_answers.specs.Worked.{IsDone};
 ghost use Rattle.trips_answers.specs.Answer.{IsAnswer};
 ghost use Rattle.trips_answers.specs.Table.{IsAnswered};
-ghost use Rattle.trips_answers.specs.Plain.{plain_run, plain_eval, plain_compile, plain_tool};
-ghost use Rattle.trips_answers.specs.Plain.{default_settings, text_request};
+ghost use Rattle.trips_answers.specs.inside.Plain.{plain_run, plain_eval, plain_compile, plain_tool};
+ghost use Rattle.trips_answers.specs.inside.Plain.{default_settings, text_request};
 
 use crate::forms::Settings;
 use crate::text_answer::{text_answer, text_compiled};

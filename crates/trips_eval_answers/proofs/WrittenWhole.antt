@@ -7,11 +7,12 @@ use Rattle.trips_requests.specs.declared.loading.Loaded.{Loaded}
 use Rattle.trips_requests.specs.declared.loading.Loaded.TheVariants.{Fault, TooLarge, Bytes}
 use Rattle.trips_requests.specs.declared.status.Status.{Status}
 use Rattle.trips_requests.specs.declared.status.Status.TheVariants as status
-use Rattle.trips_requests.specs.Read.{AfterReading}
+use Rattle.trips_requests.specs.Table.{AfterReading}
 use Rattle.trips_requests.specs.Table.{IsWritten}
 use Rattle.trips_requests.proofs.Written.{IsWhole, fixed_whole, whole_written}
-use Rattle.trips_eval_answers.specs.Evaluation.{eval_status, IsTextEvaluated}
-use Rattle.trips_eval_answers.specs.Answer.{IsEvalAnswer}
+use Rattle.trips_eval_answers.specs.Evaluation.{eval_status}
+use Rattle.trips_eval_answers.specs.inside.Evaluation.{IsTextEvaluated}
+use Rattle.trips_eval_answers.specs.inside.Answer.{IsEvalAnswer}
 
 -- no outcome tells want of memory or a fault of the writing
 outcome_whole : (o : Outcome) → IsWhole (eval_status o)

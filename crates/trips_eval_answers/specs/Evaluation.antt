@@ -1,9 +1,8 @@
 -- What the evaluation of a text of C is answered: the status and the report.
-use Rattle.std.specs.Prelude.{◌≡◌, ◌≢◌, ◌⊎◌, ℕ, ℤ, List, ◌++◌, codes, decimal}
+use Rattle.std.specs.Prelude.{◌≡◌, ℕ, ℤ, List, ◌++◌, codes, decimal}
 use Rattle.std.specs.Fmt.{signed_decimal}
 use Rattle.c_tree.specs.declared.typed.TypedProgram.{TypedProgram}
 use Rattle.c_front.specs.declared.refusal.Refusal.{Refusal}
-use Rattle.c_front.specs.declared.refusal.Refusal.TheVariants.{Memory}
 use Rattle.c_front.specs.Fronts.{IsAccepted}
 use Rattle.c_front.specs.Refusals.{IsRefused}
 use Rattle.c_meaning_spec.specs.Eval.{eval}
@@ -15,18 +14,9 @@ use Rattle.trips_requests.specs.declared.status.Status.TheVariants as status
 use Rattle.trips_requests.specs.Texts.{IsFixed, output_and}
 use Rattle.trips_eval_answers.specs.Refusals.{front_refusal}
 
--- a refusal that is no want of memory, with its report
-abbrev pub IsRefusalBy : Refusal → Status → List ℕ → Type 0
-IsRefusalBy r s report = (r ≢ Memory) × IsFixed status.Refused (front_refusal r) s report
-
 -- a stage of the front end refuses the text, and this is its report
 abbrev pub IsRefusedByFront : List ℕ → List ℕ → Type 0
 IsRefusedByFront text report = (r : Refusal) × IsRefused text r × (report ≡ front_refusal r)
-
--- the text is refused with the report that says why
-abbrev pub IsFrontRefusal : List ℕ → Status → List ℕ → Type 0
-IsFrontRefusal text s report =
-    (said : List ℕ) × IsRefusedByFront text said × IsFixed status.Refused said s report
 
 -- the status that tells an outcome
 abbrev pub eval_status : Outcome → Status
@@ -60,8 +50,3 @@ IsEvaluation program input steps s report = let o = outcome_of program input ste
 abbrev pub IsEvaluationOf : ℕ → List ℕ → List ℕ → Status → List ℕ → Type 0
 IsEvaluationOf most text input s report = (program : TypedProgram) × IsAccepted text program
     × IsEvaluation program input most s report
-
--- the text is refused, or its program is evaluated
-abbrev pub IsTextEvaluated : ℕ → List ℕ → List ℕ → Status → List ℕ → Type 0
-IsTextEvaluated most text input s report =
-    IsFrontRefusal text s report ⊎ IsEvaluationOf most text input s report

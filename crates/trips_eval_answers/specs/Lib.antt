@@ -1,3 +1,3 @@
 pub mod Refusals
 pub mod Evaluation
-pub mod Answer
+pub mod inside

@@ -1,5 +1,5 @@
 -- The reports of the refusals of texts of C: `refused STAGE NUMBER NAME`, and the line (README.md of this crate).
-use Rattle.std.specs.Prelude.{ℕ, ◌≢◌, List, [], codes}
+use Rattle.std.specs.Prelude.{ℕ, List, [], codes}
 use Rattle.c_lex.specs.declared.fault.LexFault.{LexFault}
 use Rattle.c_lex.specs.declared.fault.LexFault.TheVariants as lexical
 use Rattle.c_parse.specs.declared.unit.ParseFault.{ParseFault}
@@ -44,10 +44,3 @@ front_refusal (stage.Lex fault) = lex_text fault
 front_refusal (stage.Parse fault) = parse_text fault
 front_refusal (stage.Typing fault) = type_text fault
 front_refusal stage.Memory = []
-
--- the fault of the refusal is no want of memory
-abbrev pub IsFault : Refusal → Type 0
-IsFault (stage.Lex fault) = fault ≢ lexical.Memory
-IsFault (stage.Parse fault) = fault ≢ parse.Memory
-IsFault (stage.Typing fault) = fault ≢ typing.Memory
-IsFault stage.Memory = ⊥

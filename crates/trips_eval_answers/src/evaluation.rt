@@ -1,7 +1,8 @@
 //! The evaluation of a text of C.
 
 ghost use Rattle.std.specs.Prelude.{◌≡◌, ◌<◌, length, IfOk};
-ghost use Rattle.trips_eval_answers.specs.Evaluation.{eval_status, IsEvaluation, IsTextEvaluated};
+ghost use Rattle.trips_eval_answers.specs.Evaluation.{eval_status, IsEvaluation};
+ghost use Rattle.trips_eval_answers.specs.inside.Evaluation.{IsTextEvaluated};
 
 use crate::refusals::stage_refused;
 use crate::reports::eval_report;

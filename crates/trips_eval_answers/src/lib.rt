@@ -1,7 +1,7 @@
 //! What the evaluation of a text of C is answered. It stands over the front end and the evaluator alone,
 //! so that a program which calls [`eval_plain`] is read and compiled soon.
 //!
-//! `specs/Evaluation` says what a text is answered, and `specs/Answer` what the file of two plain words.
+//! `specs/Evaluation` says what a text is answered, and `specs/inside/Answer` what the file of two plain words.
 #![tactic(auto)]
 
 mod evaluation;

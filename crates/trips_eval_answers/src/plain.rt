@@ -3,11 +3,11 @@
 ghost use Rattle.std.specs.Prelude.{◌≡◌, ◌≤◌, [], length, map, string_bytes, Some, IfOk};
 ghost use Rattle.trips_outside.specs.Outside.{Rose, Appended};
 ghost use Rattle.c_tree.specs.Limits.{most_source_bytes};
-ghost use Rattle.trips_requests.specs.Plain as line;
+ghost use Rattle.trips_requests.specs.inside.Plain as line;
 ghost use Rattle.trips_requests.specs.Limits.{default_count};
 ghost use Rattle.trips_requests.specs.Table.{IsWritten};
-ghost use Rattle.trips_eval_answers.specs.Evaluation.{IsTextEvaluated};
-ghost use Rattle.trips_eval_answers.specs.Answer.{IsEvalAnswer};
+ghost use Rattle.trips_eval_answers.specs.inside.Evaluation.{IsTextEvaluated};
+ghost use Rattle.trips_eval_answers.specs.inside.Answer.{IsEvalAnswer};
 
 use crate::evaluation::text_evaluated;
 use c_tree::MOST_SOURCE_BYTES;

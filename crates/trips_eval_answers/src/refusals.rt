@@ -2,7 +2,7 @@
 
 ghost use Rattle.std.specs.Prelude.{◌≡◌, ◌≢◌, IfOk};
 ghost use Rattle.trips_eval_answers.specs.Refusals.{lex_text, parse_text, type_text, front_refusal};
-ghost use Rattle.trips_eval_answers.specs.Refusals.{IsFault};
+ghost use Rattle.trips_eval_answers.specs.inside.Refusals.{IsFault};
 ghost use Rattle.trips_requests.specs.Texts.{IsFixed};
 
 use c_front::Refusal;

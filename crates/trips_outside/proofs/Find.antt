@@ -4,7 +4,7 @@ use Rattle.std.proofs.Common.{map, Some, option_map, refl, sym, ◌∙◌, ap, s
 use Rattle.std.proofs.lemmas.List.{drop_all}
 use Rattle.std.proofs.lemmas.Option.{slice_get-map, slice_get_read, slice_get_past}
 use Rattle.std.specs.Prelude.{bytes_eq}
-use Rattle.trips_outside.specs.MemoryFiles.{held_among, left_in}
+use Rattle.trips_outside.specs.inside.MemoryFiles.{held_among, left_in}
 
 module _ {E : Type 0} (entry : E → List ℕ × List ℕ) (files : List E) (name : List ℕ) (i : ℕ) (e : E)
     (within : i < length files) (is : e ≡ get_or files i e) where

@@ -2,10 +2,10 @@
 use Rattle.std.proofs.Common.{◌≡◌, ◌^◌, ◌-◌, [], ◌∷◌, Some, None, refl, codes, true, false, arith}
 use Rattle.std.proofs.Common.{lit≤}
 use Rattle.trips_outside.specs.Outside.{next_count, Rose, Appended}
-use Rattle.trips_outside.specs.MemoryFiles.{held_among, held_by, is_closed, after_open, count_given}
-use Rattle.trips_outside.specs.MemoryFiles.{after_read, ListedFiles}
-use Rattle.trips_outside.specs.MemorySinks.{count_taken, after_write, told_by, after_keeping}
-use Rattle.trips_outside.specs.MemorySinks.{ListedSink, KeepingSink}
+use Rattle.trips_outside.specs.inside.MemoryFiles.{held_among, held_by, is_closed, after_open, count_given}
+use Rattle.trips_outside.specs.inside.MemoryFiles.{after_read, ListedFiles}
+use Rattle.trips_outside.specs.inside.MemorySinks.{count_taken, after_write, told_by, after_keeping}
+use Rattle.trips_outside.specs.inside.MemorySinks.{ListedSink, KeepingSink}
 
 -- a count stands still at the greatest 64-bit number
 pub counts : (next_count 0 ≡ 1) × (next_count (2 ^ 64 - 1) ≡ 2 ^ 64 - 1)

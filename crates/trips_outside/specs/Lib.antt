@@ -1,3 +1,2 @@
 pub mod Outside
-pub mod MemoryFiles
-pub mod MemorySinks
+pub mod inside

@@ -3,8 +3,8 @@ ghost use Rattle.std.specs.Prelude.{Ok, None, Some, false};
 ghost use Rattle.std.specs.Result.{result_ok};
 ghost use Rattle.std.specs.String.{string_bytes};
 ghost use Rattle.trips_outside.specs.Outside.{Gives, HasCause};
-ghost use Rattle.trips_outside.specs.MemoryFiles.{held_among, or_empty, held_by, left_in, is_closed};
-ghost use Rattle.trips_outside.specs.MemoryFiles.{after_open, count_of, count_given, after_read};
+ghost use Rattle.trips_outside.specs.inside.MemoryFiles.{held_among, or_empty, held_by, left_in, is_closed};
+ghost use Rattle.trips_outside.specs.inside.MemoryFiles.{after_open, count_of, count_given, after_read};
 
 use crate::{Failed, Files};
 use std::marker::Model;
@@ -62,7 +62,7 @@ pub struct MemFiles {
 impl Model for MemFiles {
     ghost use Rattle.std.specs.Prelude.{◌<◌, map};
     ghost use Rattle.std.specs.String.{string_bytes};
-    ghost use Rattle.trips_outside.specs.MemoryFiles.{ListedFiles, left_in};
+    ghost use Rattle.trips_outside.specs.inside.MemoryFiles.{ListedFiles, left_in};
 
     ghost Value = { ListedFiles };
 
@@ -161,7 +161,7 @@ pub struct HonestFiles {
 impl Model for HonestFiles {
     ghost use Rattle.std.specs.Prelude.{map};
     ghost use Rattle.std.specs.String.{string_bytes};
-    ghost use Rattle.trips_outside.specs.MemoryFiles.{HonestEntries, left_in, or_empty};
+    ghost use Rattle.trips_outside.specs.inside.MemoryFiles.{HonestEntries, left_in, or_empty};
 
     ghost Value = { HonestEntries };
 

@@ -3,7 +3,7 @@ ghost use Rattle.std.specs.Prelude.{MatchResult, Ok, Some, None, []};
 ghost use Rattle.std.specs.List.{list_any};
 ghost use Rattle.std.specs.Result.{result_ok};
 ghost use Rattle.trips_outside.specs.Outside.{Appended, HasCause};
-ghost use Rattle.trips_outside.specs.MemorySinks.{count_taken, after_write, told_by, after_keeping};
+ghost use Rattle.trips_outside.specs.inside.MemorySinks.{count_taken, after_write, told_by, after_keeping};
 
 use crate::{Failed, Sink};
 use base::Memory;
@@ -26,7 +26,7 @@ pub struct MemSink {
 impl Model for MemSink {
     ghost use Rattle.std.specs.Prelude.{◌<◌, ◌≤◌, length};
     ghost use Rattle.std.specs.Vec.{vec_capacity};
-    ghost use Rattle.trips_outside.specs.MemorySinks.{ListedSink};
+    ghost use Rattle.trips_outside.specs.inside.MemorySinks.{ListedSink};
 
     ghost Value = { ListedSink };
 
@@ -134,7 +134,7 @@ pub struct HonestSink {
 impl Model for HonestSink {
     ghost use Rattle.std.specs.Prelude.{◌≤◌, length};
     ghost use Rattle.std.specs.Vec.{vec_capacity};
-    ghost use Rattle.trips_outside.specs.MemorySinks.{KeepingSink};
+    ghost use Rattle.trips_outside.specs.inside.MemorySinks.{KeepingSink};
 
     ghost Value = { KeepingSink };
 

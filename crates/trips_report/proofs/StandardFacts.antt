@@ -15,7 +15,7 @@ use Rattle.trips_report.specs.declared.said.Said.TheVariants as said
 use Rattle.trips_report.specs.declared.show.Show.{Show}
 use Rattle.trips_report.specs.Runs.{word_digits, register_line, traced_line, count_line, count_lines, with_part}
 use Rattle.trips_report.specs.Runs.{signed, run_report}
-use Rattle.trips_report.specs.Refusals.{refusal_report}
+use Rattle.trips_report.specs.inside.Refusals.{refusal_report}
 
 -- four registers, of which the last has what main returned, and one committed block
 abbrev ended : State

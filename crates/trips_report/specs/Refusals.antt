@@ -1,6 +1,6 @@
 -- The reports of the refusals of images and target texts: `refused STAGE NUMBER NAME`, and where (README.md
 -- of this crate).
-use Rattle.std.specs.Prelude.{ℕ, ◌≢◌, List, [], ◌++◌, codes, decimal}
+use Rattle.std.specs.Prelude.{ℕ, List, [], ◌++◌, codes, decimal}
 use Rattle.isa_table.specs.Spots.{spot_text}
 use Rattle.trips_requests.specs.Texts.{on_line}
 use Rattle.block_image.specs.declared.fault.ImageFault.{ImageFault}
@@ -9,8 +9,6 @@ use Rattle.target_asm_spec.specs.declared.fault.AsmFault.{AsmFault}
 use Rattle.target_asm_spec.specs.declared.fault.AsmFault.TheVariants as asm
 use Rattle.block_check.specs.declared.fault.CheckFault.{CheckFault}
 use Rattle.block_check.specs.declared.fault.CheckFault.TheVariants as check
-use Rattle.trips_report.specs.declared.said.Said.{Said}
-use Rattle.trips_report.specs.declared.said.Said.TheVariants as said
 
 -- a fault's number and name, and the place of its first byte
 abbrev pub at_place : List ℕ → ℕ → List ℕ
@@ -48,15 +46,3 @@ abbrev pub check_text : ℕ → CheckFault → List ℕ
 check_text number fault =
     codes "refused check "
     ++ (fault_text fault ++ (codes " block " ++ (decimal number ++ codes "\n")))
-
--- the report of a refusal
-abbrev pub refusal_report : Said → List ℕ
-refusal_report (said.Image fault) = image_text fault
-refusal_report (said.Asm fault) = asm_text fault
-refusal_report (said.Check number fault) = check_text number fault
-
--- it is no want of memory that is said
-abbrev pub IsFault : Said → Type 0
-IsFault (said.Image fault) = fault ≢ image.Memory
-IsFault (said.Asm fault) = fault ≢ asm.Memory
-IsFault s = Unit {0}

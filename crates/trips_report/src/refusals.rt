@@ -3,7 +3,7 @@
 ghost use Rattle.std.specs.Prelude.{◌≡◌, ◌≢◌, ◌++◌, OnOk, IfOk};
 ghost use Rattle.isa_table.specs.Spots.{spot_text};
 ghost use Rattle.trips_report.specs.Refusals.{at_place, image_text, asm_text, fault_text, check_text};
-ghost use Rattle.trips_report.specs.Refusals.{IsFault, refusal_report};
+ghost use Rattle.trips_report.specs.inside.Refusals.{IsFault, refusal_report};
 
 use crate::said::Said;
 use base::Memory;

@@ -8,7 +8,8 @@ use Rattle.trips_requests.specs.declared.commands.Asked.{Asked}
 use Rattle.trips_requests.specs.Limits.{most_count, is_number, value_from, number_to}
 use Rattle.trips_requests.specs.Words.{Text, file_name, value_said, words_read}
 use Rattle.trips_requests.specs.Options.{Options, options_of, options_said}
-use Rattle.trips_requests.specs.Requests.{Request, verb_named, request_seen, asked}
+use Rattle.trips_requests.specs.Requests.{Request, verb_named, asked}
+use Rattle.trips_requests.specs.inside.Requests.{request_seen}
 use Rattle.trips_requests.specs.Requests.{functions_said, most_said, place_said, seed_said, request_counted}
 use Rattle.trips_requests.specs.Requests.{request_of_file, request_with, request_of, request_by}
 

@@ -15,8 +15,8 @@ use Rattle.trips_requests.specs.Words.{Text, Named, Said, file_name, words_read,
 use Rattle.trips_requests.specs.Words.{is_dashed, behind_dashes, goes_on, and_said}
 use Rattle.trips_requests.specs.Options.{run_options, eval_options, compile_options}
 use Rattle.trips_requests.specs.Requests.{verb_named, request_of, asked, is_c_name}
-use Rattle.trips_requests.specs.Plain.{begins_with_dash, file_behind, plain_file, c_file, default_request}
-use Rattle.trips_requests.specs.Plain.{tool_named, work_of, tool_of, plain_tool, tool_seen}
+use Rattle.trips_requests.specs.inside.Plain.{begins_with_dash, file_behind, plain_file, c_file, default_request}
+use Rattle.trips_requests.specs.inside.Plain.{tool_named, work_of, tool_of, plain_tool, tool_seen}
 
 -- a word that begins with no dash is not two dashes, has no name behind two of them, and is no option
 not_two : (word : Text) → begins_with_dash word ≡ false → bytes_eq word (codes "--") ≡ false

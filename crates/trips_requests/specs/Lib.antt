@@ -2,8 +2,6 @@ pub mod Limits
 pub mod Words
 pub mod Options
 pub mod Requests
-pub mod Plain
 pub mod Texts
-pub mod Read
 pub mod Table
-pub mod ExitCodes
+pub mod inside

@@ -1,7 +1,6 @@
 -- The options of each command, and what words say of them (README.md of this crate).
-use Rattle.std.specs.Prelude.{Bool, false, List, [], ◌∷◌, codes, Option, None, Some, option_copied}
+use Rattle.std.specs.Prelude.{Bool, false, List, [], ◌∷◌, codes, Option, None, Some}
 use Rattle.std.specs.Str.{bytes_eq}
-use Rattle.trips_requests.specs.declared.asking.FoundOptions.{FoundOptions}
 use Rattle.trips_requests.specs.declared.commands.Verb.{Verb}
 use Rattle.trips_requests.specs.declared.commands.Verb.TheVariants as verb
 use Rattle.trips_requests.specs.Words.{Text, Named, valued, flag, Said, value_said}
@@ -64,16 +63,4 @@ options_said k said = record {
   regs = is_on (value_said (codes "regs") said);
   trace = is_on (value_said (codes "trace") said);
   cycles = is_on (value_said (codes "cycles") said);
-}
-
--- options of the code
-abbrev pub options_seen : FoundOptions → Options
-options_seen options = record {
-  input = option_copied options.input;
-  number = option_copied options.number;
-  place = option_copied options.place;
-  seed = option_copied options.seed;
-  regs = options.regs;
-  trace = options.trace;
-  cycles = options.cycles;
 }

@@ -1,11 +1,10 @@
 -- Which request the words of a command line make (README.md of this crate).
 use Rattle.std.specs.Prelude.{ℕ, Bool, not, ◌&&◌, if◌then◌else◌, nat_eq, List, [], ◌∷◌, codes}
-use Rattle.std.specs.Prelude.{Option, None, Some, option_map, option_and_then, option_copied}
+use Rattle.std.specs.Prelude.{Option, None, Some, option_map, option_and_then}
 use Rattle.std.specs.List.{ends_with}
 use Rattle.std.specs.Str.{bytes_eq}
 use Rattle.trips_requests.specs.declared.commands.Command.{Command}
 use Rattle.trips_requests.specs.declared.commands.Command.TheVariants as command
-use Rattle.trips_requests.specs.declared.commands.Asked.{Asked}
 use Rattle.trips_requests.specs.declared.commands.Verb.{Verb}
 use Rattle.trips_requests.specs.declared.commands.Verb.TheVariants as verb
 use Rattle.trips_requests.specs.Limits.{default_count, most_count, most_functions, most_seed}
@@ -118,18 +117,3 @@ request_by words k = option_and_then (request_of k) (words_read (options_of k) N
 abbrev pub asked : List Text → Option Request
 asked [] = None
 asked (name ∷ words) = option_and_then (request_by words) (verb_named name)
-
--- a request of the code
-abbrev pub request_seen : Asked → Request
-request_seen asked = record {
-  command = asked.command;
-  file = asked.file.now;
-  functions = asked.functions;
-  input = option_copied asked.input;
-  most = asked.most;
-  place = asked.place;
-  seed = asked.seed;
-  regs = asked.regs;
-  trace = asked.trace;
-  cycles = asked.cycles;
-}

@@ -1,10 +1,12 @@
 //! The request of a command, of its file and of what was found of its options.
 
 ghost use Rattle.std.specs.Prelude.{◌≡◌, option_map, option_copied};
-ghost use Rattle.trips_requests.specs.Options.{counted, is_on, options_seen};
+ghost use Rattle.trips_requests.specs.Options.{counted, is_on};
+ghost use Rattle.trips_requests.specs.inside.Options.{options_seen};
 ghost use Rattle.trips_requests.specs.Requests.{verb_named, command_of, most_said};
 ghost use Rattle.trips_requests.specs.Requests.{functions_said, is_c_name, place_said, seed_said};
-ghost use Rattle.trips_requests.specs.Requests.{request_of_file, request_with, request_seen};
+ghost use Rattle.trips_requests.specs.Requests.{request_of_file, request_with};
+ghost use Rattle.trips_requests.specs.inside.Requests.{request_seen};
 
 use crate::commands::{Asked, Command, DEFAULT_COUNT, MOST_COUNT, MOST_FUNCTIONS, MOST_SEED, Verb};
 use crate::number::{number, number_within};

@@ -3,9 +3,9 @@
 //! answers to all requests share: the status and its number, an answer and those that need no work, the reading of a
 //! file, and two pieces of reports. No command's work is here, so that a program for one command reaches no other.
 //!
-//! What words say stands in specs/Words, specs/Options and specs/Plain, numbers and their limits in specs/Limits, the
-//! request in specs/Requests, what reading a file comes to in specs/Read, what a call writes in specs/Table and
-//! specs/Texts, and with which number the program ends in specs/ExitCodes.
+//! What words say stands in specs/Words, specs/Options and specs/inside/Plain, numbers and their limits in
+//! specs/Limits, the request in specs/Requests, what reading a file comes to and what a call writes in
+//! specs/Table and specs/Texts, and with which number the program ends in specs/inside/ExitCodes.
 #![tactic(auto)]
 
 mod answer;

@@ -2,7 +2,8 @@
 
 ghost use Rattle.std.specs.Prelude.{◌≡◌, ◌≤◌, IfOk};
 ghost use Rattle.trips_outside.specs.Outside.{Rose};
-ghost use Rattle.trips_requests.specs.Read.{IsRead, IsWithin};
+ghost use Rattle.trips_requests.specs.Table.{IsRead};
+ghost use Rattle.trips_requests.specs.inside.Read.{IsWithin};
 
 use base::Items;
 use std::alloc::{AllocError, Global};

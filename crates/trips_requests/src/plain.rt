@@ -2,9 +2,9 @@
 
 ghost use Rattle.std.specs.Prelude.{◌≡◌, true, Some, IfSome, option_map, map, string_bytes};
 ghost use Rattle.trips_requests.specs.declared.commands.Command.TheVariants.{Run, Evaluate, Compile};
-ghost use Rattle.trips_requests.specs.Plain.{begins_with_dash, file_behind, plain_file, c_file};
-ghost use Rattle.trips_requests.specs.Plain.{plain_run, plain_eval, plain_compile, default_request};
-ghost use Rattle.trips_requests.specs.Plain.{tool_named, work_of, tool_of, plain_tool, tool_seen};
+ghost use Rattle.trips_requests.specs.inside.Plain.{begins_with_dash, file_behind, plain_file, c_file};
+ghost use Rattle.trips_requests.specs.inside.Plain.{plain_run, plain_eval, plain_compile, default_request};
+ghost use Rattle.trips_requests.specs.inside.Plain.{tool_named, work_of, tool_of, plain_tool, tool_seen};
 ghost use Rattle.trips_requests.specs.Requests.{asked, is_c_name};
 
 use crate::asking::is_c_name;

@@ -2,7 +2,7 @@
 
 ghost use Rattle.std.specs.Prelude.{◌≡◌};
 ghost use Rattle.std.specs.Process.{exit_status};
-ghost use Rattle.trips_requests.specs.ExitCodes.{number_of};
+ghost use Rattle.trips_requests.specs.inside.ExitCodes.{number_of};
 
 use std::process::ExitCode;
 

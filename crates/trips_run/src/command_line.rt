@@ -3,7 +3,7 @@
 ghost use Rattle.std.specs.Prelude.{◌≡◌, ◌<◌, ◌≤◌, IfOk, IfSome, option_map};
 ghost use Rattle.trips_outside.specs.Outside.{Rose};
 ghost use Rattle.trips_answers.specs.Request.{request_of};
-ghost use Rattle.trips_answers.specs.Settings.{request_seen};
+ghost use Rattle.trips_answers.specs.inside.Settings.{request_seen};
 ghost use Rattle.trips_answers.specs.Answer.{IsAnswer};
 
 use std::alloc::{AllocError, Global};

@@ -3,12 +3,14 @@ use Rattle.std.proofs.Common.{ℕ, List, Result, Ok, Err, IfOk, ◌⊎◌, inl, 
 use Rattle.trips_requests.specs.declared.commands.Tool.TheVariants.{Assemble, Disassemble, Check}
 use Rattle.trips_requests.specs.declared.answer.Answer.{Answer}
 use Rattle.trips_report.specs.declared.said.Said.{Said}
-use Rattle.trips_report.specs.Refusals.{refusal_report}
+use Rattle.trips_report.specs.inside.Refusals.{refusal_report}
 use Rattle.trips_tools.specs.declared.made.Made.{Made}
 use Rattle.trips_tools.specs.declared.made.Made.TheVariants as tool
-use Rattle.trips_tools.specs.Tools as tools
-use Rattle.trips_tools.specs.Tools.{IsOneImage, IsGoodImage, Makes}
-use Rattle.trips_tools.specs.ToolAnswers.{IsMade, IsNoImage, IsBadImage, IsToolDone}
+use Rattle.trips_tools.specs.inside.Tools as tools
+use Rattle.trips_tools.specs.Tools.{IsOneImage, IsGoodImage}
+use Rattle.trips_tools.specs.inside.Tools.{Makes}
+use Rattle.trips_tools.specs.ToolAnswers.{IsNoImage, IsBadImage}
+use Rattle.trips_tools.specs.inside.ToolAnswers.{IsMade, IsToolDone}
 
 -- the image of a target text, or its refusal
 pub assembled_told : {E : Type 0} (text : List ℕ) (made : Made) (r : Result Answer E)

@@ -6,11 +6,11 @@ use Rattle.trips_requests.specs.declared.loading.Loaded.{Loaded}
 use Rattle.trips_requests.specs.declared.loading.Loaded.TheVariants.{Fault, TooLarge, Bytes}
 use Rattle.trips_requests.specs.declared.status.Status.{Status}
 use Rattle.trips_requests.specs.declared.status.Status.TheVariants as status
-use Rattle.trips_requests.specs.Read.{AfterReading}
+use Rattle.trips_requests.specs.Table.{AfterReading}
 use Rattle.trips_requests.specs.Table.{IsWritten}
 use Rattle.trips_requests.proofs.Written.{IsWhole, fixed_whole, whole_written}
-use Rattle.trips_tools.specs.ToolAnswers.{IsToolDone}
-use Rattle.trips_tools.specs.Answer.{IsToolAnswer}
+use Rattle.trips_tools.specs.inside.ToolAnswers.{IsToolDone}
+use Rattle.trips_tools.specs.inside.Answer.{IsToolAnswer}
 
 done_whole : (tool : Tool) (bytes : List ℕ) (s : Status) (report : List ℕ) → IsToolDone tool bytes s report
     → IsWhole s

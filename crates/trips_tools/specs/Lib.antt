@@ -1,3 +1,3 @@
 pub mod Tools
 pub mod ToolAnswers
-pub mod Answer
+pub mod inside

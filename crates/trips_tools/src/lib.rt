@@ -3,7 +3,7 @@
 //! target texts and the block checker alone, so that a program which calls [`tool_plain`] is read and compiled soon.
 //!
 //! What is made of a file's bytes, and why they are refused, stands in specs/Tools, what these bytes are answered in
-//! specs/ToolAnswers, and what the file of two plain words is answered in specs/Answer.
+//! specs/ToolAnswers, and what the file of two plain words is answered in specs/inside/Answer.
 #![tactic(auto)]
 
 mod made;

@@ -2,9 +2,9 @@
 
 ghost use Rattle.std.specs.Prelude.{◌≡◌, ◌≤◌, [], map, string_bytes, Some, IfOk};
 ghost use Rattle.trips_outside.specs.Outside.{Rose, Appended};
-ghost use Rattle.trips_requests.specs.Plain as line;
+ghost use Rattle.trips_requests.specs.inside.Plain as line;
 ghost use Rattle.trips_requests.specs.Table.{IsWritten};
-ghost use Rattle.trips_tools.specs.Answer.{limit_of, IsToolAnswer};
+ghost use Rattle.trips_tools.specs.inside.Answer.{limit_of, IsToolAnswer};
 ghost use Rattle.trips_requests.specs.Limits as limits;
 
 use crate::tool_answers::tool_done;

@@ -2,9 +2,9 @@
 
 ghost use Rattle.std.specs.Prelude.{IfOk};
 ghost use Rattle.trips_requests.specs.declared.commands.Tool.TheVariants as tool;
-ghost use Rattle.trips_report.specs.Refusals.{refusal_report};
+ghost use Rattle.trips_report.specs.inside.Refusals.{refusal_report};
 ghost use Rattle.trips_requests.specs.Texts.{IsFixed};
-ghost use Rattle.trips_tools.specs.ToolAnswers.{IsMade, IsToolDone};
+ghost use Rattle.trips_tools.specs.inside.ToolAnswers.{IsMade, IsToolDone};
 
 use crate::made::Made;
 use crate::tools::{assembled, checked, disassembled};

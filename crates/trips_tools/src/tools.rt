@@ -5,8 +5,9 @@ ghost use Rattle.trips_isa.specs.declared.block.Image.{Image};
 ghost use Rattle.trips_isa.specs.Images.{FitsImage};
 ghost use Rattle.block_image.specs.Spelling.{ImageBytes};
 ghost use Rattle.target_asm_spec.specs.Text.{TargetText};
-ghost use Rattle.trips_tools.specs.Tools.{IsOneImage, good_report, IsGoodImage, IsNoText};
-ghost use Rattle.trips_tools.specs.Tools.{IsNoImage, IsBadImage, Makes};
+ghost use Rattle.trips_tools.specs.Tools.{IsOneImage, good_report, IsGoodImage};
+ghost use Rattle.trips_tools.specs.inside.Tools.{IsNoText};
+ghost use Rattle.trips_tools.specs.inside.Tools.{IsNoImage, IsBadImage, Makes};
 
 use crate::made::Made;
 use base::{Items, Memory};

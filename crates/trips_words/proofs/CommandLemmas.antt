@@ -15,7 +15,7 @@ use Rattle.trips_requests.specs.Words.{Text, Named, Said, file_name, value_said}
 use Rattle.trips_requests.specs.Options.{run_options, bench_options, eval_options, compile_options, options_of}
 use Rattle.trips_requests.specs.Options.{counted, is_on, Options}
 use Rattle.trips_requests.specs.Requests.{Request, verb_named, request_of, request_by, asked}
-use Rattle.trips_words.specs.Read.{IsRead, is_flag, or_off, FindsSaid, Tells}
+use Rattle.trips_words.specs.inside.Read.{IsRead, is_flag, or_off, FindsSaid, Tells}
 
 pub run_read : IsRead (codes "run") run_options
 run_read = record { builds = refl; simple = refl; no_file = refl }

@@ -13,7 +13,7 @@ use Rattle.clap.specs.Faults.{check_fault, defaults_fault}
 use Rattle.clap.specs.declared.builder.value_parser.Reading.TheVariants.{AsWritten}
 use Rattle.clap.specs.declared.parser.matches.ValueSource.TheVariants.{DefaultValue}
 use Rattle.trips_requests.specs.Words.{Text, Named, valued, flag, file_name}
-use Rattle.trips_words.specs.Read.{single, rule_for, rules_for, shape_for, is_flag}
+use Rattle.trips_words.specs.inside.Read.{single, rule_for, rules_for, shape_for, is_flag}
 use Rattle.trips_words.proofs.Rules.{or_this}
 use Rattle.trips_words.proofs.Rows.{at_end}
 

@@ -17,7 +17,7 @@ use Rattle.clap.specs.declared.error.kind.ErrorKind.TheVariants.{OutOfMemory}
 use Rattle.clap.specs.declared.parser.matches.ArgMatches.{ArgMatches}
 use Rattle.clap.proofs.WalkLemmas.{both, find-map, first_value-rows}
 use Rattle.trips_requests.specs.Words.{Text, Named, Said, value_said, words_read}
-use Rattle.trips_words.specs.Read.{raw_app, rules_for, shape_for, IsRead, is_flag, or_off, FindsSaid, Tells}
+use Rattle.trips_words.specs.inside.Read.{raw_app, rules_for, shape_for, IsRead, is_flag, or_off, FindsSaid, Tells}
 use Rattle.trips_words.proofs.Rows.{row_for, rows_for}
 use Rattle.trips_words.proofs.Defaults.{row_of, kept, stays, turned_off}
 use Rattle.trips_words.proofs.Settling.{settles_none}

@@ -17,7 +17,7 @@ use Rattle.clap.specs.Faults.{flags_fault, long_fault, other_fault, positional_f
 use Rattle.clap.specs.Faults.{short_fault, step_fault, stray_fault, turn_fault, word_fault}
 use Rattle.trips_requests.specs.Words.{Text, Named, valued, flag, named, file_name, is_dashed, behind_dashes}
 use Rattle.trips_requests.specs.Words.{name_in, value_in}
-use Rattle.trips_words.specs.Read.{rule_for, file_rule, rules_for, shape_for}
+use Rattle.trips_words.specs.inside.Read.{rule_for, file_rule, rules_for, shape_for}
 use Rattle.trips_words.proofs.Rules.{by_long, by_short, by_index}
 use Rattle.trips_words.proofs.Dashes.{dashes, not_dashes, long_is, not_long, not_short, not_behind, short_is}
 use Rattle.trips_words.proofs.Dashes.{some_char}

@@ -7,7 +7,7 @@ use Rattle.std.proofs.lemmas.Slice.Eq.{bytes_eq-Decides}
 use Rattle.std.proofs.lemmas.Option.{none-some}
 use Rattle.clap.specs.Walk.{Rule, arg_by_id, arg_by_long, arg_by_short, arg_by_index}
 use Rattle.trips_requests.specs.Words.{Text, Named, valued, flag, name_of, named, file_name}
-use Rattle.trips_words.specs.Read.{rule_for, file_rule, rules_for}
+use Rattle.trips_words.specs.inside.Read.{rule_for, file_rule, rules_for}
 
 -- by its long name
 pub by_long : (options : List Named) (name : Text)

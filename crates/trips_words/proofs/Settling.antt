@@ -5,7 +5,7 @@ use Rattle.std.specs.Option.{option_map_or}
 use Rattle.clap.specs.Walk.{Held, Rule, arg_by_id, has_row, settled, settled_rows, used, used_by_id}
 use Rattle.clap.specs.Faults.{settle_fault, use_fault}
 use Rattle.trips_requests.specs.Words.{Text, Named, valued, named, Said, is_said}
-use Rattle.trips_words.specs.Read.{single, rules_for}
+use Rattle.trips_words.specs.inside.Read.{single, rules_for}
 use Rattle.trips_words.proofs.Rows.{rows_for, has_said, put_said}
 use Rattle.trips_words.proofs.Faults.{Fails, fails_as, conflict, no_conflict, some_conflict}
 

@@ -18,7 +18,7 @@ use Rattle.clap.specs.declared.parser.matches.ValueSource.TheVariants.{CommandLi
 use Rattle.trips_requests.specs.Words.{Text, Named, valued, flag, named, Said, file_name, is_said, and_said}
 use Rattle.trips_requests.specs.Words.{is_dashed, behind_dashes, name_in, value_in, goes_on, option_read}
 use Rattle.trips_requests.specs.Words.{word_read, files_read, words_read}
-use Rattle.trips_words.specs.Read.{rule_for, rules_for, shape_for}
+use Rattle.trips_words.specs.inside.Read.{rule_for, rules_for, shape_for}
 use Rattle.trips_words.proofs.Rules.{option_by_id, file_by_id, renamed, not_file}
 use Rattle.trips_words.proofs.Rows.{rows_for, has_said, put_said, same_said, now_said, place}
 use Rattle.trips_words.proofs.Faults.{Fails, fails_as, fails_first, fails_second, some_kind, else_assoc}

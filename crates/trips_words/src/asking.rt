@@ -3,9 +3,11 @@
 ghost use Rattle.std.specs.Prelude.{◌≡◌, ◌<◌, Option, IfOk, IfSome, option_map, option_and_then, option_copied};
 ghost use Rattle.std.specs.Prelude.{drop, map, string_bytes};
 ghost use Rattle.trips_requests.specs.Words.{Said};
-ghost use Rattle.trips_requests.specs.Options.{options_of, options_said, options_seen};
-ghost use Rattle.trips_requests.specs.Requests.{verb_named, request_of, request_by, request_seen, asked};
-ghost use Rattle.trips_words.specs.Read.{FindsSaid, Tells};
+ghost use Rattle.trips_requests.specs.Options.{options_of, options_said};
+ghost use Rattle.trips_requests.specs.inside.Options.{options_seen};
+ghost use Rattle.trips_requests.specs.Requests.{verb_named, request_of, request_by, asked};
+ghost use Rattle.trips_requests.specs.inside.Requests.{request_seen};
+ghost use Rattle.trips_words.specs.inside.Read.{FindsSaid, Tells};
 
 use crate::reading::read;
 use base::Memory;

@@ -5,7 +5,7 @@ ghost use Rattle.clap.specs.Words.{rule_of, app_of, kind_of};
 ghost use Rattle.clap.specs.declared.error.kind.ErrorKind.TheVariants.{OutOfMemory};
 ghost use Rattle.trips_requests.specs.Words.{Text, Named, words_read, valued, flag};
 ghost use Rattle.trips_requests.specs.Options.{options_of, run_options, bench_options, eval_options, compile_options};
-ghost use Rattle.trips_words.specs.Read.{raw_rule, raw_app, IsRead, Tells};
+ghost use Rattle.trips_words.specs.inside.Read.{raw_rule, raw_app, IsRead, Tells};
 
 use base::Memory;
 use clap::error::ErrorKind;

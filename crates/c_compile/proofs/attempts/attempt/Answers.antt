@@ -8,7 +8,7 @@ use Rattle.block_cases.specs.Good.{GoodBlock}
 use Rattle.ir_forms.specs.inside.FlatViews.{program_of}
 use Rattle.ir_forms.specs.inside.HyperViews.{blocks_of}
 use Rattle.c_compile_layout.specs.inside.Emitted.{image_of}
-use Rattle.c_compile_laws.specs.Compiled.{IsCompiled}
+use Rattle.c_compile_laws.specs.inside.Compiled.{IsCompiled}
 use Rattle.c_compile.proofs.TriedPlans.{some_weaker, followed, low, checked, is_compiled}
 use Rattle.c_compile.proofs.attempts.attempt.Goals as goal
 

@@ -4,7 +4,7 @@ use Rattle.trips_isa.specs.declared.block.Image.{Image}
 use Rattle.ir_forms.specs.inside.FlatViews.{program_of}
 use Rattle.c_compile_layout.specs.Emitted.{IsGoodImage}
 use Rattle.c_compile_layout.specs.inside.Emitted.{image_of}
-use Rattle.c_compile_laws.specs.Compiled.{IsCompiled}
+use Rattle.c_compile_laws.specs.inside.Compiled.{IsCompiled}
 use Rattle.c_compile.proofs.CutPrograms.{few_chunks, at_most_128, good, is_compiled}
 use Rattle.c_compile.proofs.compiling.cut_image.Goals as goal
 

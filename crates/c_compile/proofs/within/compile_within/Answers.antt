@@ -2,7 +2,7 @@ use Rattle.trips_isa.specs.declared.block.Image.{Image}
 use Rattle.ir_forms.specs.inside.FlatViews.{program_of}
 use Rattle.c_compile.proofs.CutPrograms.{few_blocks}
 use Rattle.c_compile.proofs.TriedPlans.{some_weaker}
-use Rattle.c_compile_laws.specs.Compiled.{IsCompiled}
+use Rattle.c_compile_laws.specs.inside.Compiled.{IsCompiled}
 use Rattle.c_compile.specs.Images.{IsImageOf}
 use Rattle.c_compile.proofs.within.compile_within.Goals as goal
 

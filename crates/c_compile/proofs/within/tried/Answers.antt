@@ -5,7 +5,7 @@ use Rattle.trips_isa.specs.declared.block.Image.{Image}
 use Rattle.ir_forms.specs.declared.flat.FlatProgram.{FlatProgram}
 use Rattle.ir_forms.specs.inside.FlatViews.{program_of}
 use Rattle.c_compile.specs.declared.attempts.Tried.{Tried}
-use Rattle.c_compile_laws.specs.Compiled.{IsCompiled}
+use Rattle.c_compile_laws.specs.inside.Compiled.{IsCompiled}
 use Rattle.c_compile.proofs.CutPrograms.{are_assigned, fits_given, few_given}
 use Rattle.c_compile.proofs.within.tried.Goals as goal
 

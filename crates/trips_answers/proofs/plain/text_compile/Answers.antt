@@ -1,7 +1,7 @@
 use Rattle.std.proofs.Common.{arith, refl, []}
 use Rattle.trips_requests.specs.declared.commands.Command.TheVariants.{Compile}
 use Rattle.trips_answers.specs.declared.forms.FileForm.TheVariants.{Source}
-use Rattle.trips_answers.specs.Plain.{default_settings}
+use Rattle.trips_answers.specs.inside.Plain.{default_settings}
 use Rattle.trips_answers.proofs.Told.{few_bytes, compile_told}
 use Rattle.trips_answers.proofs.plain.text_compile.Goals as goal
 

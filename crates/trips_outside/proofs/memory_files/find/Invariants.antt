@@ -1,5 +1,5 @@
 use Rattle.std.proofs.Common.{◌≡◌, drop, map, string_bytes}
-use Rattle.trips_outside.specs.MemoryFiles.{held_among}
+use Rattle.trips_outside.specs.inside.MemoryFiles.{held_among}
 use Rattle.trips_outside.proofs.memory_files.find.Given as goal
 
 abbrev pub invariant-loop-file : goal.invariant-loop-file

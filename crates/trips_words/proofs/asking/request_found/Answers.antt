@@ -1,8 +1,8 @@
 use Rattle.std.proofs.Common.{subst, Option, option_map}
 use Rattle.clap.specs.declared.parser.matches.ArgMatches.{ArgMatches}
-use Rattle.trips_requests.specs.Requests.{request_seen}
+use Rattle.trips_requests.specs.inside.Requests.{request_seen}
 use Rattle.trips_requests.specs.Options.{options_of}
-use Rattle.trips_words.specs.Read.{Tells}
+use Rattle.trips_words.specs.inside.Read.{Tells}
 use Rattle.trips_words.proofs.CommandLemmas.{told_some, told_none}
 use Rattle.trips_words.proofs.asking.request_found.Goals as goal
 

@@ -3,7 +3,7 @@ use Rattle.std.specs.Prelude.{string_bytes}
 use Rattle.clap.specs.Simple.{App, HasMatchesOf}
 use Rattle.clap.specs.Faults.{fault_of, is_simple_and_free}
 use Rattle.clap.specs.Kinds.{HasKind}
-use Rattle.trips_words.specs.Read.{raw_app}
+use Rattle.trips_words.specs.inside.Read.{raw_app}
 use Rattle.trips_requests.specs.Words.{Text}
 use Rattle.trips_words.proofs.Matches.{last, parse_told, finds, tells_some, tells_none, texts_behind}
 use Rattle.trips_words.proofs.reading.matched.Goals as goal

@@ -3,7 +3,7 @@ use Rattle.std.specs.Prelude.{string_bytes}
 use Rattle.trips_requests.specs.declared.commands.Verb.{Verb}
 use Rattle.trips_requests.specs.Words.{Named, words_read}
 use Rattle.trips_requests.specs.Options.{run_options, bench_options, eval_options, compile_options, options_of}
-use Rattle.trips_words.specs.Read.{Tells}
+use Rattle.trips_words.specs.inside.Read.{Tells}
 use Rattle.trips_words.proofs.CommandLemmas.{run_read, bench_read, eval_read, compile_read, plain_read, no_options}
 use Rattle.trips_words.proofs.reading.read.Goals as goal
 

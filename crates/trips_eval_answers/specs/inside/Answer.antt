@@ -6,8 +6,8 @@ use Rattle.trips_requests.specs.declared.loading.Loaded.{Loaded}
 use Rattle.trips_requests.specs.declared.status.Status.{Status}
 use Rattle.trips_requests.specs.declared.status.Status.TheVariants as status
 use Rattle.trips_requests.specs.Texts.{usage_text, IsFixed}
-use Rattle.trips_requests.specs.Read.{IsRead, AfterReading}
-use Rattle.trips_eval_answers.specs.Evaluation.{IsTextEvaluated}
+use Rattle.trips_requests.specs.Table.{IsRead, AfterReading}
+use Rattle.trips_eval_answers.specs.inside.Evaluation.{IsTextEvaluated}
 
 -- Of the file whose text is to be evaluated on no input (none where the words name none), of what names hold,
 -- and of whether the count of the files' faults rose, this is the answer.

@@ -6,7 +6,7 @@ use Rattle.ir_forms.specs.inside.FlatCode.{Program}
 use Rattle.ir_forms.specs.inside.FlatFits.{small_ifs_of_all}
 use Rattle.grid_place.specs.declared.placed.Placing.{Placing}
 use Rattle.c_compile_laws.specs.Counts.{guarded_in}
-use Rattle.c_compile_laws.specs.Compiled.{FlatMeans, IsCompiled}
+use Rattle.c_compile_laws.specs.inside.Compiled.{FlatMeans, IsCompiled}
 
 -- of the image i of a program P, of a text of t tokens, whose blocks stand in the slots that a placing p says
 abbrev pub OfCompiled : (TypedProgram → ℕ → Placing → Image → Type 0) → Type 0

@@ -3,7 +3,7 @@ use Rattle.std.specs.Prelude.{ℕ, List, map, String, Option, None, option_and_t
 use Rattle.grid_place.specs.declared.placed.Placing.TheVariants.{Greedy}
 use Rattle.trips_requests.specs.declared.commands.Command.{Command as Work}
 use Rattle.trips_requests.specs.Limits.{default_count}
-use Rattle.trips_requests.specs.Plain as line
+use Rattle.trips_requests.specs.inside.Plain as line
 use Rattle.trips_answers.specs.declared.forms.FileForm.TheVariants.{Source}
 use Rattle.trips_answers.specs.declared.forms.Settings.{Settings}
 use Rattle.trips_answers.specs.Request.{Request, File, request_of}

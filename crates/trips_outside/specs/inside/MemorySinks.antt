@@ -2,7 +2,7 @@
 use Rattle.std.specs.Prelude.{ℕ, ◌+◌, ◌-◌, ◌==◌, ◌^◌, min, List, ◌++◌, length, take, Option, None}
 use Rattle.std.specs.Prelude.{Some, if◌then◌else◌}
 use Rattle.trips_outside.specs.Outside.{next_count}
-use Rattle.trips_outside.specs.MemoryFiles.{is_listed}
+use Rattle.trips_outside.specs.inside.MemoryFiles.{is_listed}
 
 -- A sink that takes at most a piece a call, has room for so many bytes in all, and fails at the
 -- listed calls, numbered from 1.

@@ -6,8 +6,8 @@ use Rattle.trips_requests.specs.declared.loading.Loaded.{Loaded}
 use Rattle.trips_requests.specs.declared.status.Status.{Status}
 use Rattle.trips_requests.specs.declared.status.Status.TheVariants as status
 use Rattle.trips_requests.specs.Texts.{usage_text, IsFixed}
-use Rattle.trips_requests.specs.Read.{IsRead, AfterReading}
-use Rattle.trips_tools.specs.ToolAnswers.{IsToolDone}
+use Rattle.trips_requests.specs.Table.{IsRead, AfterReading}
+use Rattle.trips_tools.specs.inside.ToolAnswers.{IsToolDone}
 use Rattle.trips_requests.specs.Limits.{most_image_bytes, most_target_bytes}
 
 -- how many bytes a tool's file may have

@@ -1,0 +1,5 @@
+pub mod Compiled
+pub mod GuardLaws
+pub mod Laws
+pub mod Limits
+pub mod PlainLaws

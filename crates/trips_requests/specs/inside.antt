@@ -1,0 +1,5 @@
+pub mod ExitCodes
+pub mod Options
+pub mod Plain
+pub mod Read
+pub mod Requests

@@ -1,0 +1,17 @@
+-- Beside what is believed of Options.antt: the options of each command, and what words say of them (README.md
+-- of this crate).
+use Rattle.std.specs.Prelude.{option_copied}
+use Rattle.trips_requests.specs.declared.asking.FoundOptions.{FoundOptions}
+use Rattle.trips_requests.specs.Options.{Options}
+
+-- options of the code
+abbrev pub options_seen : FoundOptions → Options
+options_seen options = record {
+  input = option_copied options.input;
+  number = option_copied options.number;
+  place = option_copied options.place;
+  seed = option_copied options.seed;
+  regs = options.regs;
+  trace = options.trace;
+  cycles = options.cycles;
+}
