@@ -81,9 +81,11 @@ module _ (F : Program) (lists : List (List ℕ)) (groups : List (List (List ℕ)
       let n = shape.few in programs_fit F lists groups fits a (omega (arith, n, few))
 
   module _ (P : List hyper.Block) (is : P ≡ B) where
+    -- the blocks are numbered so that each call and each system call is followed
     pub followed : IsFollowed P
     followed = subst IsFollowed (sym is) passes.followed
 
+    -- there are no more blocks than labels
     pub low : length P ≤ label_count
     low =
         let n = passes.few in
@@ -94,18 +96,22 @@ module _ (F : Program) (lists : List (List ℕ)) (groups : List (List (List ℕ)
     fit = subst FitMachine (sym is) fit_machine
 
   module _ (p : Placing) (us : List Block) (made : AreMachineBlocks p B us) where
+    -- the machine blocks are few enough in chunks
     pub few_chunks : layouts.AreFew us
     few_chunks = chunks_few p B us passes made
 
+    -- each machine block has at most 128 slots
     pub at_most_128 : All (λ (u : Block). length u.insts.items ≤ 128) us
     at_most_128 = λ i d l. let e = sizes p B us made i d l in omega (arith, e)
 
     pub emitted : AreEmitted B us
     emitted = gives_emitted p B us passes made
 
+    -- the image of the machine blocks is good
     pub good : IsGoodImage (image_of us F.bytes)
     good = good_image B us F.bytes emitted fits.bytes (data_fits F.bytes frame_limit data_size fits.room)
 
+    -- the image of the machine blocks is the compiled one
     pub is_compiled : KeepsTameRuns F lists → (i : Image) → i ≡ image_of us F.bytes → IsCompiled F p i
     is_compiled keeps i e = record {
       lists = lists;
@@ -128,6 +134,7 @@ pub built_cut : (F : Program) (groups : List (List (List ℕ))) (cuts joins : Li
 built_cut F groups cuts joins P c j e =
     e ∙ ap₂ (λ (cs js : List Bool). built_program (plan_of cs js groups) F) c j
 
+-- an error for a part that is too big is not want of memory
 pub not_too_big : (e : FlowFault) (p : Part) (n : ℕ) → e ≡ TooBig p n → e ≡ Memory → ⊥
 not_too_big e p n a b = cc
 
@@ -140,10 +147,12 @@ are_assigned flat given lists groups e fits kept cut few =
     subst (λ (g : FlatProgram). AreAssigned (program_of g) lists groups) (sym e)
     (record { kept = kept fits; cut = cut; few = few })
 
+-- a flat program that is the same fits too
 pub fits_given : (flat given : FlatProgram) → given ≡ flat → FitsProgram (program_of flat)
     → FitsProgram (program_of given)
 fits_given flat given e h = subst (λ (g : FlatProgram). FitsProgram (program_of g)) (sym e) h
 
+-- a flat program that is the same has few blocks too
 pub few_given : (flat given : FlatProgram) → given ≡ flat
     → 3 + code_blocks_of_all (program_of flat).functions ≤ most_blocks
     → 3 + code_blocks_of_all (program_of given).functions ≤ most_blocks

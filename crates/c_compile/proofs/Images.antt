@@ -43,6 +43,7 @@ guards_plain text p i o =
     let g = guards_small_ifs l.program o.flat (length l.tokens) p i (flat_means text p i o) o.compiled in
     omega (arith, a, e, g)
 
+-- each image of a text does what the text means
 pub images_mean : ImagesMeanTexts
 images_mean text p i o =
     let l : IsFlatOf text o.flat = o.lowered in

@@ -51,16 +51,20 @@ module _ (F : Program) (lists : List (List ℕ)) (groups : List (List (List ℕ)
         fit = shape.fit (omega (arith, n, few));
       })
 
+  -- the blocks are numbered so that each call and each system call is followed
   pub followed : IsFollowed P
   followed = passes.followed
 
+  -- there are no more blocks than labels
   pub low : length P ≤ label_count
   low = let n = passes.few in omega (arith, n)
 
   module _ (p : Placing) (us : List Block) (all : ArePassed p P us) where
+    -- the machine blocks are what the passes made, and the checker may take their image
     pub checked : AreChecked p P us F.bytes
     checked = are_checked p P us F.bytes passes all fits.bytes (data_fits F.bytes frame_limit data_size fits.room)
 
+    -- an image whose blocks are all good is the compiled one
     pub is_compiled : KeepsTameRuns F lists → (i : Image) → i ≡ image_of us F.bytes
         → All GoodBlock (image_of us F.bytes).blocks → IsCompiled F p i
     is_compiled keeps i e good = record {

@@ -373,6 +373,7 @@ module _ (sure : Sure) (want : Want) (b : FlowBlock) (c : ℕ) (guards : AreBy c
       top true = omega arith
       top false = top_few (cover sure want b) covers p w.sources
 
+  -- writes are filled one by one, so there are as many as before
   pub filled_length : (p j : ℕ) (ws : List FlowWrite) → length (filled_all sure want b p j ws) ≡ length ws
   filled_length p j [] = refl
   filled_length p j (w ∷ ws) =

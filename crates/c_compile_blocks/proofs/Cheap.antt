@@ -39,6 +39,7 @@ apps_most (suc d) w = go (nat_lt w 65536) (apps_most d (w / 65536))
     go true h = omega arith
     go false h = omega (arith, h)
 
+-- a source costs at most four
 pub source_most : (a : Source) → source_cost a ≤ 4
 source_most (Const w) = let h = apps_most 3 w in omega (arith, h)
 source_most (Reg r) = omega arith
@@ -54,6 +55,7 @@ apps_short w l = go (nat_lt w 65536)
     go true = omega arith
     go false = let e = ap (λ (c : Bool). cond c 0 (suc (apps 1 (w / 65536 / 65536)))) high in omega (arith, e)
 
+-- the address below the end of a frame has 32 bits
 pub below_short : (frame v : ℕ) → below_end frame v < 2 ^ 32
 unfolding frame_limit
 below_short frame v = omega arith
@@ -73,6 +75,7 @@ jumps_with f (Test t (Leave (exit.Jump a)) (Leave exit.Return)) u = absurd (u.1)
 jumps_with f (Test t (Leave (exit.Jump a)) (Leave (exit.System l))) u = absurd (u.1)
 jumps_with f (Test t (Leave (exit.Jump a)) (Test s x y)) u = absurd (u.1)
 
+-- a tail has as many exits with other labels
 pub exits_with : (f : ℕ → ℕ) (t : Tail) → exits_in (tail_with f t) ≡ exits_in t
 exits_with f (Leave e) = refl
 exits_with f (Test t one other) =

@@ -61,6 +61,7 @@ count_few (suc n) p f h =
         let w : 2 ^ (0 + c) ≡ 2 ^ c = ap (λ (x : ℕ). 2 ^ x) z in
         omega (arith, k, none, w)
 
+-- there are no more cases than choices of a bit for each chooser
 pub few_cases : CasesAreFew
 few_cases ns =
     count_few (length ns) (is_case ns) (λ x. is_chooser ns x (slice_get ns x))

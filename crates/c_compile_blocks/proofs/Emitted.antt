@@ -112,6 +112,7 @@ pub record From (B : List hyper.Block) (k : ℕ) : Type 0 where
   pub block : hyper.Block
   pub there : slice_get B k ≡ Some block
 
+-- each machine block is made from the hyper block at its place
 pub made_from : (B : List hyper.Block) (us : List Block) (k : ℕ) (u : Block) → length us ≡ length B
     → slice_get us k ≡ Some u → From B k
 made_from B [] k u s e = absurd (cc)
@@ -134,6 +135,7 @@ chunks_few p B us fits all =
     let l = fits.few in
     few_chunks us (omega (arith, n, l)) (sizes p B us all)
 
+-- whatever permutation places each block, the layout takes what the passes give
 pub gives_emitted : GivesEmitted
 gives_emitted p B us fits all =
     let few = chunks_few p B us fits all in

@@ -37,6 +37,7 @@ module _ (all : List FlowNode) where
   pub choice_later : (j k : ℕ) (g : Scope) (i : ℕ) → j ≤ k → IsChoice j g i → IsChoice k g i
   choice_later j k g i m (n, e, h, z, l) = (n, e, h, z, omega (arith, l, m))
 
+  -- a node that may choose under a scope stands under it
   pub choice_under : (k : ℕ) (g : Scope) (i : ℕ) → IsChoice k g i → IsUnder k g i
   choice_under k g i (n, e, h, z, l) = (n, e, h, l)
 
@@ -75,6 +76,7 @@ module _ (all : List FlowNode) where
   single_later j k g e l (inr (inl x)) = inr (inl (own_later j k None e l x))
   single_later j k g e l (inr (inr x)) = inr (inr (own_later j k g e l x))
 
+  -- what a leg leaves at a node it leaves at a later one
   pub side_later : (j k : ℕ) (g : Scope) (e : Entry) → j ≤ k → IsSide j g e → IsSide k g e
   side_later j k g e l (inl x) = inl (own_later j k g e l x)
   side_later j k g e l (inr x) = inr x
@@ -101,6 +103,7 @@ module _ (all : List FlowNode) where
   single_inward k g e (inr (inl x)) = inr (inl x)
   single_inward k g e (inr (inr x)) = inr (inl x)
 
+  -- what is known within a leg is as the block found it, or given by one node
   pub known_single : (c k : ℕ) (g : Scope) (e : Entry) → IsKnown c false k g e → IsSingle k g e
   known_single c k g e (inl x) = x
   known_single c k g e (inr (t, z, x)) = absurd (cc)
@@ -114,6 +117,7 @@ module _ (all : List FlowNode) where
       go true = inl (inr (inr (k, u, refl)))
       go false = known_later c m j (suc k) g (env q) l (h q)
 
+  -- a register whose word a node of the scope gives keeps so, with one register more set in the scope
   pub put_own : (j k : ℕ) (g : Scope) (env : Env) (r q : ℕ) → j ≤ suc k → IsUnder (suc k) g k
       → IsOwn j g (env q) → IsOwn (suc k) g (put env r (from_node k) q)
   put_own j k g env r q l u h = go (nat_eq q r)
@@ -122,6 +126,7 @@ module _ (all : List FlowNode) where
       go true = (k, u, refl)
       go false = own_later j (suc k) g (env q) l h
 
+  -- a register that a node of the scope sets has its word from the scope
   pub put_first : (k : ℕ) (g : Scope) (env : Env) (r q : ℕ) → IsUnder (suc k) g k → nat_eq q r ≡ true
       → IsOwn (suc k) g (put env r (from_node k) q)
   put_first k g env r q u e = (k, u, ap (λ (b : Bool). cond b (from_node k) (env q)) e)
@@ -181,6 +186,7 @@ side_scant : (all : List FlowNode) (k : ℕ) (g : Scope) (e : Entry) → IsSide 
 side_scant all k g e (inl x) = own_scant all 1 k g e (omega arith) x
 side_scant all k g e (inr x) = none_scant 1 e (ap (λ (y : Entry). y.given) x)
 
+-- what is known of a register has at most two sources, no read among them
 pub known_scant : (all : List FlowNode) (c : ℕ) (m : Bool) (k : ℕ) (g : Scope) (e : Entry)
     → IsKnown all c m k g e → IsScant 2 e
 known_scant all c m k g e (inl (inl x)) = found_scant 2 e x

@@ -35,6 +35,7 @@ use Rattle.c_compile_blocks.proofs.Served.{none_served, operand_served}
 use Rattle.c_compile_blocks.proofs.Steps.{IsTest, tested_is}
 use Rattle.c_compile_blocks.proofs.Joins.{distinct_most, IsJoined, joined}
 
+-- an exit touches at most one register
 pub exit_few : (x : Exit) → length (exit_touched x) ≤ 1
 exit_few (exit.Jump l) = omega arith
 exit_few (exit.Call l back) = omega arith
@@ -163,6 +164,7 @@ module _ (P : ℕ → Type 0) (all : List FlowNode) (c : ℕ) where
 
   -- ANY EXIT
 
+  -- an exit under a scope costs at most ten, its guards are node c's, and its own nodes set what it touches
   pub left_held : (x : Exit) (m : Bool) (g : Scope) (j e : ℕ) (env : Env) → IsGuardBy c g → NamesExit P x
       → ((q : ℕ) → IsKnown all c m j g (env q)) → AreAt all j (leaving g j e env x).nodes
       → IsLeft g j x (leaving g j e env x)
@@ -276,6 +278,7 @@ module _ (P : ℕ → Type 0) (all : List FlowNode) (t : Source) (one other : Ex
       (λ q d. own_later all i2 i3 (under chooser true) (y.env q) (omega arith) (a.sets q d)) (λ q d. b.sets q d)
       (at_back all i2 z.nodes w.nodes other_at)
 
+  -- a test between two exits costs at most 42, its guards are one node's, and each register is known behind it
   pub test_end : IsTested P all j (tail None j e env bits (Test t (Leave one) (Leave other)))
   test_end =
       let k = test in

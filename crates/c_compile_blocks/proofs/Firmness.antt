@@ -51,6 +51,7 @@ module _ (all : List FlowNode) where
   abbrev pub IsBare : ℕ → Type 0
   IsBare i = (n : FlowNode) × (slice_get all i ≡ Some n) × (n.guard ≡ None)
 
+  -- a list with a read is there under each scope
   pub read_there : (j : ℕ) (g : Scope) (r : ℕ) (ss : List FlowSource) → IsThere j g (Read r ∷ ss)
   read_there j g r ss firm f = recognises_always all firm g (Read r ∷ ss) refl
 
@@ -70,6 +71,7 @@ module _ (all : List FlowNode) where
   AreFirm j [] = Unit {0}
   AreFirm j (n ∷ ns) = IsFirmNode j n × AreFirm (suc j) ns
 
+  -- firm nodes behind firm ones are firm
   pub firm_append : (j : ℕ) (a b : List FlowNode) → AreFirm j a → AreFirm (j + length a) b → AreFirm j (a ++ b)
   firm_append j [] b x y = let e : j + 0 ≡ j = omega arith in subst (λ (i : ℕ). AreFirm i b) e y
   firm_append j (n ∷ a) b x y =
@@ -117,6 +119,7 @@ module _ (all : List FlowNode) where
       firms_all ns (found ++ (v ∷ [])) (suc j) (omega (arith, e, size)) (found_more found v j e f is) a.1 i
       (omega (arith, l))
 
+-- where each operand has a source that is surely there, all nodes are found to be firm
 pub all_firm : (b : FlowBlock) → AreFirm b.nodes 0 b.nodes → AllFirm (sure_by b) b
 all_firm b a y n e =
     let l = below b.nodes y n e in

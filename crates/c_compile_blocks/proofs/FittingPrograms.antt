@@ -15,6 +15,7 @@ use Rattle.fan_out.proofs.Rooms.{few_nodes}
 use Rattle.c_compile_blocks.specs.inside.Limits.{CutProgramsFit, OnlyMemoryRefuses}
 use Rattle.c_compile_blocks.proofs.Machine.{fits_machine}
 
+-- each block of an assigned program whose plan cuts everywhere fits the machine
 pub programs_fit : CutProgramsFit
 programs_fit P lists groups fits assigned few k b e =
     let all = gives_assigned [] [] P lists groups fits assigned in
@@ -42,6 +43,7 @@ complete_alone c room (TooBig part.Writes n) r =
 complete_alone c room (TooBig part.Numbers n) r = absurd r
 complete_alone c room (TooBig part.Exits n) r = absurd r
 
+-- a block within the limits is refused for want of memory only
 pub only_memory : OnlyMemoryRefuses
 only_memory b fits =
     let f = complete (predicated (labelled b)) in

@@ -32,6 +32,7 @@ abbrev pub AreFlat : ℕ → List FlowNode → Type 0
 AreFlat j [] = Unit {0}
 AreFlat j (n ∷ ns) = IsFlat j n × AreFlat (suc j) ns
 
+-- flat nodes behind flat ones are flat
 pub flat_append : (j : ℕ) (a b : List FlowNode) → AreFlat j a → AreFlat (j + length a) b
     → AreFlat j (a ++ b)
 flat_append j [] b x y = let e : j + 0 ≡ j = omega arith in subst (λ (i : ℕ). AreFlat i b) e y
@@ -39,6 +40,7 @@ flat_append j (n ∷ a) b x y =
     let e : j + length (n ∷ a) ≡ suc j + length a = omega arith in
     (x.0, flat_append (suc j) a b x.1 (subst (λ (i : ℕ). AreFlat i b) e y))
 
+-- each of some flat nodes is flat at its number
 pub flat_at : (j : ℕ) (ns : List FlowNode) (i k : ℕ) (n : FlowNode) → AreFlat j ns → k ≡ j + i
     → slice_get ns i ≡ Some n → IsFlat k n
 flat_at j [] i k n a e s = absurd (cc)
@@ -90,6 +92,7 @@ abbrev pub AreUsed : List FlowNode → ℕ → List FlowNode → Type 0
 AreUsed l j [] = Unit {0}
 AreUsed l j (n ∷ ns) = (form_of n.op ≡ form.Constant → 1 ≤ uses (Node j) l) × AreUsed l (suc j) ns
 
+-- constants that are used, behind such constants, are used
 pub used_append : (l : List FlowNode) (j : ℕ) (a b : List FlowNode) → AreUsed l j a
     → AreUsed l (j + length a) b → AreUsed l j (a ++ b)
 used_append l j [] b x y = let e : j + 0 ≡ j = omega arith in subst (λ (i : ℕ). AreUsed l i b) e y
@@ -97,6 +100,7 @@ used_append l j (n ∷ a) b x y =
     let e : j + length (n ∷ a) ≡ suc j + length a = omega arith in
     (x.0, used_append l (suc j) a b x.1 (subst (λ (i : ℕ). AreUsed l i b) e y))
 
+-- constants that are used are so among nodes that use each source as often at least
 pub used_grow : (k l : List FlowNode) → ((s : FlowSource) → uses s k ≤ uses s l) → (j : ℕ)
     (ns : List FlowNode) → AreUsed k j ns → AreUsed l j ns
 used_grow k l h j [] x = tt
@@ -110,6 +114,7 @@ pub price_append : (a b : List FlowNode) → price (a ++ b) ≡ price a + price 
 price_append [] b = omega arith
 price_append (n ∷ a) b = let h = price_append a b in omega (arith, h)
 
+-- a node costs one instruction at most
 pub own_most : (e : Form) → own e ≤ 1
 own_most form.General = omega arith
 own_most form.Immediate = omega arith
@@ -127,6 +132,7 @@ ReadOnly P (n ∷ ns) =
     ((q : ℕ) → reads_in n.left q ≡ true → P q) × ((q : ℕ) → reads_in n.right q ≡ true → P q)
     × ReadOnly P ns
 
+-- nodes that read these registers only, behind such nodes, read these only
 pub read_append : (P : ℕ → Type 0) (a b : List FlowNode) → ReadOnly P a → ReadOnly P b
     → ReadOnly P (a ++ b)
 read_append P [] b x y = y
@@ -136,6 +142,7 @@ or_cases : {Q : Type 0} (a b : Bool) → (a || b) ≡ true → (a ≡ true → Q
 or_cases true b e x y = x refl
 or_cases false b e x y = y e
 
+-- a register that some nodes read is one of those that they may read
 pub read_of_all : (P : ℕ → Type 0) (ns : List FlowNode) (q : ℕ) → ReadOnly P ns → nodes_read ns q ≡ true
     → P q
 read_of_all P [] q x e = absurd (cc)
@@ -150,10 +157,12 @@ abbrev pub Told : (ℕ → Type 0) → ℕ → List FlowNode → Type 0
 Told T j [] = Unit {0}
 Told T j (n ∷ ns) = (is_copy (role_of n.op) ≡ false → T j) × Told T (suc j) ns
 
+-- what is told of nodes is told of the first ones
 pub told_front : (T : ℕ → Type 0) (j : ℕ) (a b : List FlowNode) → Told T j (a ++ b) → Told T j a
 told_front T j [] b x = tt
 told_front T j (n ∷ a) b x = (x.0, told_front T (suc j) a b x.1)
 
+-- what is told of nodes is told of the later ones
 pub told_back : (T : ℕ → Type 0) (j : ℕ) (a b : List FlowNode) → Told T j (a ++ b)
     → Told T (j + length a) b
 told_back T j [] b x = let e : j ≡ j + 0 = omega arith in subst (λ (i : ℕ). Told T i b) e x
@@ -161,6 +170,7 @@ told_back T j (n ∷ a) b x =
     let e : suc j + length a ≡ j + length (n ∷ a) = omega arith in
     subst (λ (i : ℕ). Told T i b) e (told_back T (suc j) a b x.1)
 
+-- what holds of each node that is no mov is told of all
 pub told_from : (T : ℕ → Type 0) (ns : List FlowNode) (j : ℕ)
     → ((i k : ℕ) (n : FlowNode) → k ≡ j + i → slice_get ns i ≡ Some n → is_copy (role_of n.op) ≡ false → T k)
     → Told T j ns
@@ -179,9 +189,11 @@ pub record Good (P : ℕ → Type 0) (j : ℕ) (ns : List FlowNode) (c : ℕ) : 
   pub reads : ReadOnly P ns
   pub cost : price ns ≤ c
 
+-- no nodes cost nothing
 pub nothing : (P : ℕ → Type 0) (j : ℕ) → Good P j [] 0
 nothing P j = record { nodes = tt; used = tt; reads = tt; cost = omega arith }
 
+-- nodes behind nodes cost what both do
 pub good_append : (P : ℕ → Type 0) (j : ℕ) (a b : List FlowNode) (c d : ℕ) → Good P j a c
     → Good P (j + length a) b d → Good P j (a ++ b) (c + d)
 good_append P j a b c d x y =

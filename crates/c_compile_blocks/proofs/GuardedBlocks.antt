@@ -185,6 +185,7 @@ module _ (b : Block) (qs : List ℕ) (few_named : length qs ≤ 32) (x : IsGuard
       let n = few_named in
       omega (arith, r, n)
 
+  -- the completed block has room in the machine
   pub room : fan_out.HasRoom g
   room =
       let n : count_insts g ≤ price f.nodes + 3 * saves f.nodes + (10 + 6 * length f.writes) =
@@ -202,6 +203,7 @@ module _ (b : Block) (qs : List ℕ) (few_named : length qs ≤ 32) (x : IsGuard
         writes = omega (arith, l, w, m);
       }
 
+  -- the block has room for its numbers and exits
   pub numbered : predication.HasRoom b
   numbered = record { numbers = x.number; exits = x.exits }
 
@@ -224,6 +226,7 @@ module _ (b : Block) (qs : List ℕ) (few_named : length qs ≤ 32) (x : IsGuard
       let size = length-append f.nodes (added (sure_by f) (want_by f) f) in
       omega (arith, n, size)
 
+  -- each part of the block's flow block is within the machine's limit
   pub within : FitsParts b
   within =
       let w = written in
@@ -236,6 +239,7 @@ module _ (b : Block) (qs : List ℕ) (few_named : length qs ≤ 32) (x : IsGuard
         exits = x.exits;
       }
 
+  -- the machine block has at most two cases
   pub few_cases : FitsHyper b → (u : MachineBlock) → fan_out.IsTargeted g u → cases (nodes_of u) ≤ 2
   few_cases fits u is =
       let flow = converts_fitting b fits numbered in

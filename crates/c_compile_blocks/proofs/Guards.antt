@@ -217,6 +217,7 @@ module _ (f : FlowBlock) (g : Given f) (c : ℕ)
           let h = and_true (no (is_copy m.role)) (leads ns deepest x) d in
           stands_at x m (slice_get ns x) (slice_get (owners f) x) (stands f x) i (lead deepest x h.1) h.0
 
+  -- a targeted block whose guards are all one node has at most two cases
   pub two_cases : (t : Block) → IsTargeted f t → cases (nodes_of t) ≤ 2
   two_cases t is =
       subst (λ (l : List NodeOf). cases l ≤ 2) (sym (nodes_are f t is))

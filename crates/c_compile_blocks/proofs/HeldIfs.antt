@@ -184,6 +184,7 @@ module _ (P : ℕ → Type 0) (all : List FlowNode) (t : Source) (one other rest
 -- AND WHAT STANDS BEFORE IT
 
 module _ (P : ℕ → Type 0) (all : List FlowNode) where
+  -- items with one if cost little, and their guards are the node of its test
   pub holds_if : (is : Items) (j n : ℕ) (env : Env) (bits : Bits) → FitsItems is → ifs_in is ≡ 1 → NamesIn P is
       → ((q : ℕ) → IsSingle all j None (env q)) → AreBits (IsChoice all j None) bits
       → AreAt all j (items None j n env bits is).nodes → HoldsIf P all j n is (items None j n env bits is)

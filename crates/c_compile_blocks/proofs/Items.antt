@@ -18,12 +18,15 @@ use Rattle.c_compile_blocks.proofs.Flat.{Told, told_back, Good, nothing, no_piec
 use Rattle.c_compile_blocks.proofs.Pieces.{IsSet, ArePlain, set_later, plains_later, put_plain, put_kept, put_here}
 use Rattle.c_compile_blocks.proofs.Pieces.{AreBits, note_bits, set_is, Names, operand_piece, second_piece}
 
+-- a general form is no constant
 pub not_constant : (e : Form) → e ≡ form.General → e ≡ form.Constant → ⊥
 not_constant e a b = absurd (cc)
 
+-- a load is no constant
 pub load_not_constant : (e : Form) → e ≡ form.Load → e ≡ form.Constant → ⊥
 load_not_constant e a b = absurd (cc)
 
+-- a store is no constant
 pub store_not_constant : (e : Form) → e ≡ form.Store → e ≡ form.Constant → ⊥
 store_not_constant e a b = absurd (cc)
 
@@ -63,6 +66,7 @@ module _ (T P : ℕ → Type 0) where
     pub bits : AreBits T o.bits
     pub number : o.number ≤ m + items_in is
 
+  -- items without ifs come to flat nodes of their cost
   pub items_out : (is : Items) (j m : ℕ) (env : Env) (bits : Bits) → FitsItems is → ifs_in is ≡ 0
       → NamesIn P is → ArePlain j env → AreBits T bits → Told T j (items None j m env bits is).nodes
       → IsOut j m env is (items None j m env bits is)

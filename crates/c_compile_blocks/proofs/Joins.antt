@@ -85,6 +85,7 @@ module _ (P : ℕ → Type 0) (all : List FlowNode) (c : ℕ) where
 
   -- BOTH LEGS
 
+  -- what joining the registers of both legs comes to: what it costs, and what is known behind it
   pub record IsJoined (j k : ℕ) (o : Joined) : Type 0 where
     pub held : IsHeld P all c j o.nodes (6 * k)
     pub known : (q : ℕ) → IsKnown all c true (j + length o.nodes) None (o.env q)
@@ -98,6 +99,7 @@ module _ (P : ℕ → Type 0) (all : List FlowNode) (c : ℕ) where
       go true = inr (refl, refl, (a, b, t, x, y, refl))
       go false = h
 
+  -- joining k registers of both legs costs at most 6 k, and each register is known behind it
   pub joined : (env yea nay : Env) (ty tn rs : List ℕ) (j : ℕ) → IsUnder all j None c
       → ((q : ℕ) → IsSingle all j None (env q))
       → ((q : ℕ) → member q ty ≡ true → IsOwn all j (under c true) (yea q))

@@ -62,6 +62,7 @@ writes_marked env rs qs (suc n) h =
     size true = omega arith
     size false = omega arith
 
+-- a block writes no more registers than a list has that has all that it writes
 pub few_writes : (env : Env) (rs qs : List ℕ) (n : ℕ)
     → ((r : ℕ) → member r rs ≡ true → member r qs ≡ true) → length (writes_below env rs n) ≤ length qs
 few_writes env rs qs n h =
@@ -82,6 +83,7 @@ reads_marked ns ws qs (suc n) h =
     size true = omega arith
     size false = omega arith
 
+-- a block reads no more registers than a list has that has all that it reads
 pub few_reads : (ns : List FlowNode) (ws : List FlowWrite) (qs : List ℕ) (n : ℕ)
     → ((r : ℕ) → (nodes_read ns r || writes_read ws r) ≡ true → member r qs ≡ true)
     → length (reads_below ns ws n) ≤ length qs
@@ -90,6 +92,7 @@ few_reads ns ws qs n h =
 
 -- MEMBERS
 
+-- what is among the tail of a list is in the list
 pub member_tail : (r q : ℕ) (qs : List ℕ) → member r qs ≡ true → member r (q ∷ qs) ≡ true
 member_tail r q qs e = go (nat_eq r q)
   where
@@ -97,6 +100,7 @@ member_tail r q qs e = go (nat_eq r q)
     go true = refl
     go false = e
 
+-- what is in two lists together is in one of them
 pub member_split : (r : ℕ) (a b : List ℕ) → member r (a ++ b) ≡ true
     → (member r a ≡ true) ⊎ (member r b ≡ true)
 member_split r [] b e = inr e
@@ -108,6 +112,7 @@ member_split r (q ∷ a) b e = go (nat_eq r q) e (λ x. member_split r a b x)
     go true x f = inl refl
     go false x f = f x
 
+-- what is in the first of two lists is in both together
 pub member_front : (r : ℕ) (a b : List ℕ) → member r a ≡ true → member r (a ++ b) ≡ true
 member_front r [] b e = absurd (cc)
 member_front r (q ∷ a) b e = go (nat_eq r q) e (λ x. member_front r a b x)
@@ -117,10 +122,12 @@ member_front r (q ∷ a) b e = go (nat_eq r q) e (λ x. member_front r a b x)
     go true x f = refl
     go false x f = f x
 
+-- what is in the second of two lists is in both together
 pub member_back : (r : ℕ) (a b : List ℕ) → member r b ≡ true → member r (a ++ b) ≡ true
 member_back r [] b e = e
 member_back r (q ∷ a) b e = member_tail r q (a ++ b) (member_back r a b e)
 
+-- the head of a list is in it
 pub member_head : (r : ℕ) (qs : List ℕ) → member r (r ∷ qs) ≡ true
 member_head r qs =
     let e : nat_eq r r ≡ true = grind (arith, nat_tests) in

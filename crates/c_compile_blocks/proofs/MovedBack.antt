@@ -10,6 +10,7 @@ use Rattle.block_cases.specs.Orders.{slot_of}
 use Rattle.grid_place.specs.Moves.{Permutes}
 use Rattle.grid_place.specs.inside.Moves.{IsMoved, renamed, renamed_read, renamed_inst}
 
+-- a permutation with its inverse, turned round, is one
 pub turned : (p q : ℕ → ℕ) → Permutes p q → Permutes q p
 turned p q m = record { there = m.back; back = m.there; returns = m.returned; returned = m.returns }
 
@@ -49,6 +50,7 @@ module _ (p q : ℕ → ℕ) (m : Permutes p q) where
   slot_back None = refl
   slot_back (Some i) = ap Some (inst_back i)
 
+  -- a moved block is moved back by the inverse permutation
   pub moved_back : (t u : Block) → IsMoved p t u → length t.insts.items ≡ 128 → IsMoved q u t
   moved_back t u w n = record {
     reads = sym (ap (map (renamed_read q)) w.reads ∙ reads_back t.reads.items);

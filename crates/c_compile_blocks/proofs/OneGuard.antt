@@ -30,10 +30,12 @@ abbrev pub AreBy : ℕ → List FlowNode → Type 0
 AreBy c [] = Unit {0}
 AreBy c (n ∷ ns) = IsGuardBy c n.guard × AreBy c ns
 
+-- nodes whose guards are one node, behind such nodes, have this one
 pub by_append : (c : ℕ) (a b : List FlowNode) → AreBy c a → AreBy c b → AreBy c (a ++ b)
 by_append c [] b x y = y
 by_append c (n ∷ a) b x y = (x.0, by_append c a b x.1 y)
 
+-- each of some nodes whose guards are one node has this guard or none
 pub by_at : (c : ℕ) (ns : List FlowNode) (i : ℕ) (n : FlowNode) → AreBy c ns → slice_get ns i ≡ Some n
     → IsGuardBy c n.guard
 by_at c [] i n a e = absurd (cc)
@@ -48,6 +50,7 @@ unguarded c g e = absurd (cc)
 pub under_by : (c : ℕ) (s : Bool) → IsGuardBy c (under c s)
 under_by c s g e = cc
 
+-- a guard has one source at most
 pub guard_one : (g : Option Guard) → length (guard_sources g) ≤ 1
 guard_one None = omega arith
 guard_one (Some g) = omega arith
@@ -72,6 +75,7 @@ pub saves_append : (a b : List FlowNode) → saves (a ++ b) ≡ saves a + saves 
 saves_append [] b = omega arith
 saves_append (n ∷ a) b = let h = saves_append a b in omega (arith, h)
 
+-- a node is one store at most
 pub one_most : (e : Form) → one_store e ≤ 1
 one_most form.Store = omega arith
 one_most form.General = omega arith
@@ -80,6 +84,7 @@ one_most form.Load = omega arith
 one_most form.Branch = omega arith
 one_most form.Constant = omega arith
 
+-- nodes without a store have no store among them
 pub none_saved : (ns : List FlowNode) → NoStores ns → saves ns ≡ 0
 none_saved [] a = refl
 none_saved (n ∷ ns) a = go (form_of n.op) a.0 (none_saved ns a.1)
@@ -119,9 +124,11 @@ module _ (P : ℕ → Type 0) (all : List FlowNode) (c : ℕ) where
     pub reads : ReadOnly P ns
     pub cost : price ns + 3 * saves ns ≤ k
 
+  -- no nodes cost nothing
   pub held_none : (j k : ℕ) → IsHeld j [] k
   held_none j k = record { guards = tt; firm = tt; used = tt; reads = tt; cost = omega arith }
 
+  -- nodes behind nodes cost what both do
   pub held_append : (j : ℕ) (a b : List FlowNode) (k l : ℕ) → IsHeld j a k → IsHeld (j + length a) b l
       → IsHeld j (a ++ b) (k + l)
   held_append j a b k l x y =
@@ -139,6 +146,7 @@ module _ (P : ℕ → Type 0) (all : List FlowNode) (c : ℕ) where
         cost = omega (arith, e, d, u, v);
       }
 
+  -- nodes that cost at most a number cost at most a greater one
   pub held_wider : (j : ℕ) (ns : List FlowNode) (k l : ℕ) → k ≤ l → IsHeld j ns k → IsHeld j ns l
   held_wider j ns k l w x = record {
     guards = x.guards;

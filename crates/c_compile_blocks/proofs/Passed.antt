@@ -277,6 +277,7 @@ module _ (B : List hyper.Block) (us : List Block) (p : Placing) (fits : FitsPass
         };
   }
 
+-- where each block of an image that the passes made is good, its blocks are machine blocks
 pub are_checked : CheckedImagesAreOfMachineBlocks
 are_checked p B us bytes fits all a l = record {
   sizes = at_most_128 B us p fits all;

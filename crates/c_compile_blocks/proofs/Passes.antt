@@ -55,6 +55,7 @@ has_room b r =
     let x = r.exits in
     record { numbers = r.numbers; exits = omega (arith, e, x) }
 
+-- a block that went through all passes has passed
 pub passed : (p : Placing) (b : hyper.Block) (f g : FlowBlock) (t u : Block)
     → f ≡ predicated (labelled b) → HasRoomFor (counts_of (labelled b)) → g ≡ wants.complete f
     → HasRoom g → IsTargeted g t → IsPlaced p t u → IsPassed p b u
@@ -128,6 +129,7 @@ by_second b f e is_f room h = record {
   }));
 }
 
+-- a block that the third pass refuses is refused
 pub by_third : (b : hyper.Block) (f g : FlowBlock) (e : FlowFault) → f ≡ predicated (labelled b)
     → HasRoomFor (counts_of (labelled b)) → g ≡ wants.complete f → IsWithinLimits g
     → target.IsRefusal g e → IsRefused b e

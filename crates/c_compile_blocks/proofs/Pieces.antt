@@ -106,9 +106,11 @@ found = record { given = []; kept = None ∷ [] }
 abbrev pub IsPlain : ℕ → Entry → Type 0
 IsPlain k e = (e ≡ found) ⊎ IsSet k e
 
+-- each register is as the block found it, or one earlier node sets it
 abbrev pub ArePlain : ℕ → Env → Type 0
 ArePlain k env = (r : ℕ) → IsPlain k (env r)
 
+-- a register that an earlier node sets is set by an earlier node still at a later one
 pub set_later : (j k : ℕ) (e : Entry) → j ≤ k → IsSet j e → IsSet k e
 set_later j k e l (i, m, q) = (i, omega (arith, l, m), q)
 
@@ -116,6 +118,7 @@ plain_later : (j k : ℕ) (e : Entry) → j ≤ k → IsPlain j e → IsPlain k 
 plain_later j k e l (inl q) = inl q
 plain_later j k e l (inr s) = inr (set_later j k e l s)
 
+-- registers that are plain at a node are so at a later one
 pub plains_later : (j k : ℕ) (env : Env) → j ≤ k → ArePlain j env → ArePlain k env
 plains_later j k env l p r = plain_later j k (env r) l (p r)
 
@@ -128,6 +131,7 @@ put_plain j k env r l p q = go (nat_eq q r)
     go true = inr (k, omega arith, refl)
     go false = plain_later j (suc k) (env q) (omega (arith, l)) (p q)
 
+-- a register that was set stays so, with one register more set by a node
 pub put_kept : (j k : ℕ) (env : Env) (r q : ℕ) → j ≤ k → IsSet j (env q)
     → IsSet (suc k) (put env r (from_node k) q)
 put_kept j k env r q l s = go (nat_eq q r)
@@ -136,6 +140,7 @@ put_kept j k env r q l s = go (nat_eq q r)
     go true = (k, omega arith, refl)
     go false = set_later j (suc k) (env q) (omega (arith, l)) s
 
+-- a register that a node sets is set
 pub put_here : (k : ℕ) (env : Env) (r q : ℕ) → nat_eq q r ≡ true
     → IsSet (suc k) (put env r (from_node k) q)
 put_here k env r q e = (k, omega arith, ap (λ (b : Bool). cond b (from_node k) (env q)) e)
@@ -146,6 +151,7 @@ put_here k env r q e = (k, omega arith, ap (λ (b : Bool). cond b (from_node k) 
 abbrev pub AreBits : (ℕ → Type 0) → Bits → Type 0
 AreBits T bits = (r k : ℕ) → bits r ≡ Some k → T k
 
+-- with one bit noted that fulfils T, all bits do
 pub note_bits : (T : ℕ → Type 0) (bits : Bits) (r : ℕ) (c : Option ℕ) → AreBits T bits
     → ((k : ℕ) → c ≡ Some k → T k) → AreBits T (note bits r c)
 note_bits T bits r c g x q k e = go (nat_eq q r) e
@@ -167,6 +173,7 @@ copied_is : (T : ℕ → Type 0) (bits : Bits) (a : Source) (i : ℕ) → ((r k 
 copied_is T bits (Const w) i b e = absurd (cc e)
 copied_is T bits (Reg r) i b e = b r i e
 
+-- the bit of a register that is set fulfils T where those before do, and its node does where it is no mov
 pub set_is : (T : ℕ → Type 0) (o : Op) (bits : Bits) (a : Source) (k i : ℕ) → ((r k : ℕ) → bits r ≡ Some k → T k)
     → (is_copy (role_of o) ≡ false → T k) → bit_set o bits a k ≡ Some i → T i
 set_is T o bits a k i b t e = go (is_move o) e
@@ -236,6 +243,7 @@ module _ (P : ℕ → Type 0) where
   chain_piece (suc d) j w =
       longer_piece (nat_lt w 65536) j w (chain d j (w / 65536)) (apps d (w / 65536)) (chain_piece d j (w / 65536))
 
+  -- a register that is read alone is the one that may be read
   pub read_named : (r q : ℕ) → P r → reads_in (Read r ∷ []) q ≡ true → P q
   read_named r q p e = go (nat_eq r q) refl e
     where
@@ -273,6 +281,7 @@ module _ (P : ℕ → Type 0) where
   Names (Const w) = Unit {0}
   Names (Reg r) = P r
 
+  -- the nodes of an operand serve it, at the cost of its source
   pub operand_piece : (j : ℕ) (env : Env) (a : Source) → ArePlain j env → Names a
       → Piece P true j (operand j env a).nodes (operand j env a).sources (source_cost a)
   operand_piece j env (Const w) g p = chain_piece 3 j w
@@ -289,6 +298,7 @@ module _ (P : ℕ → Type 0) where
     cost = (let y = x.cost in omega (arith, y, l));
   }
 
+  -- the nodes of a second operand serve it, at the cost of its source
   pub second_piece : (t : Bool) (j : ℕ) (env : Env) (a : Source) → ArePlain j env → Names a
       → Piece P t j (second t j env a).nodes (second t j env a).sources (source_cost a)
   second_piece true j env a g p = operand_piece j env a g p
@@ -322,6 +332,7 @@ module _ (P : ℕ → Type 0) where
   by_tested T j env r None g p x t =
       fresh_tested T j (operand j env (Reg r)) 1 (operand_piece j env (Reg r) g p) t
 
+  -- the nodes of a test cost one more than its source, and its last is no mov
   pub tested_is : (T : ℕ → Type 0) (j : ℕ) (env : Env) (bits : Bits) (a : Source) → ArePlain j env
       → AreBits T bits → Names a → Told T j (tested None j env bits a).nodes
       → IsTested T j (tested None j env bits a) (1 + source_cost a)

@@ -78,6 +78,7 @@ behind_got (x ∷ xs) ys (suc i) l =
     let e : i - length xs ≡ suc i - suc (length xs) = omega arith in
     behind_got xs ys i (omega (arith, l)) ∙ ap (slice_get ys) e
 
+-- an item of the first of two lists stands in both together at the same place
 pub front_got : (xs ys : List FlowNode) (i : ℕ) → i < length xs → slice_get (xs ++ ys) i ≡ slice_get xs i
 front_got [] ys i l = absurd (omega (arith, l))
 front_got (x ∷ xs) ys zero l = refl
@@ -148,10 +149,12 @@ stored_fed c k (n ∷ a) b j g e =
 
 -- WRITES
 
+-- something holds of each of some writes
 abbrev pub EachWrite : (FlowWrite → Type 0) → List FlowWrite → Type 0
 EachWrite Q [] = Unit {0}
 EachWrite Q (w ∷ ws) = Q w × EachWrite Q ws
 
+-- what holds of the write of each register of a list holds of all writes
 pub writes_each : (Q : FlowWrite → Type 0) (env : Env) (rs : List ℕ) (n : ℕ)
     → ((r : ℕ) → member r rs ≡ true → Q (record { register = r; sources = (env r).given }))
     → EachWrite Q (writes_below env rs n)
@@ -336,6 +339,7 @@ module _ (P : ℕ → Type 0) (b : Block) (st : IsPlainBlock P b) where
     feeding (suc j) ms a.1,
   )
 
+  -- a plain block has no more instructions than its items, its tail and its writes cost
   pub insts_few : count_insts (predicated b) ≤ items_cost b.items + tail_cost b.tail + length (predicated b).writes
   insts_few =
       let a = few_insts (predicated b) (λ i j r x y. read_once ns (predicated b).writes 128 i j r x y)
@@ -344,6 +348,7 @@ module _ (P : ℕ → Type 0) (b : Block) (st : IsPlainBlock P b) where
       let d = fronts_price (length ahead) (predicated b).writes writes in
       omega (arith, a, c, d)
 
+  -- each register that a plain block reads is one that it may read
   pub reads_are : (q : ℕ) → (nodes_read ns q || writes_read (predicated b).writes q) ≡ true → P q
   reads_are q e = go (nodes_read ns q) refl e
     where
@@ -352,6 +357,7 @@ module _ (P : ℕ → Type 0) (b : Block) (st : IsPlainBlock P b) where
       go false x y =
           absurd (let z = sym (fronts_read (length ahead) q (predicated b).writes writes) ∙ y in cc)
 
+  -- a plain block has no more loads and stores than items
   pub number_few : (begun b).number ≤ items_in b.items
   number_few = let o = out in let h = o.number in omega (arith, h)
 
@@ -388,6 +394,7 @@ module _ (P : ℕ → Type 0) (b : Block) (st : IsPlainBlock P b) where
   past [] n e = absurd (cc)
   past (x ∷ xs) n e = past xs n e
 
+  -- one node, which is no mov, gives all guards of a plain block
   pub one_guard : HasOneGuard
   one_guard = go finish.test
     where

@@ -49,6 +49,7 @@ room_of b c =
       writes = omega (arith, w, few_written);
     }
 
+-- no null has to be added to a plain small block, nor to one of a save group
 pub plain_stays : PlainBlocksStay
 plain_stays b fits plain =
     let c = little_cheap (λ l. address_end + l) b fits.items plain in

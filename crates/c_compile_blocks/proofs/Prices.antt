@@ -268,6 +268,7 @@ module _ (f : FlowBlock) where
   priced [] = refl
   priced (n ∷ ns) = let h = priced ns in omega (arith, h)
 
+  -- a block has no more instructions than its nodes and its writes are priced
   pub few_insts : Different f.reads → Feeding 0 f.nodes
       → count_insts f ≤ price f.nodes + write_price f.writes
   few_insts d h =

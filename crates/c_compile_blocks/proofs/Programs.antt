@@ -72,6 +72,7 @@ mapped f [] k x e = absurd (cc)
 mapped f (y ∷ xs) zero x e = let same : y ≡ x = cc in ap (λ z. Some (f z)) same
 mapped f (y ∷ xs) (suc k) x e = mapped f xs k x e
 
+-- each block of a hyper program stands at its place
 pub block_there : (bs : List HyperBlock) (k : ℕ) (x : HyperBlock) → k < length bs → x ≡ get_or bs k x
     → slice_get (map block_of bs) k ≡ Some (block_of x)
 block_there bs k x l e =
@@ -85,6 +86,7 @@ labels_there bs k x l e f n =
 
 -- THE FIRST THAT IS REFUSED
 
+-- a block that is refused, behind blocks that passed, makes the program refused
 pub refused_there : (p : Placing) (bs : List HyperBlock) (k : ℕ) (x : HyperBlock) (us : List Block) (e : FlowFault)
     → k < length bs → x ≡ get_or bs k x → AreFirstPassed p (map block_of bs) k us → IsRefused (block_of x) e
     → HasRefused p (map block_of bs) e

@@ -76,6 +76,7 @@ either_below : (n : ℕ) (ns : List FlowNode) (j : ℕ) (x : FlowNode) → AllBe
 either_below n ns j x h (inl e) = below_at n ns j x h e
 either_below n ns j x h (inr a) = added_below n x.op x.imm a.op
 
+-- what holds of the item at each place holds of all
 pub all_by_index : {A : Type 0} (P : A → Type 0) (xs : List A)
     → ((i : ℕ) (x : A) → slice_get xs i ≡ Some x → P x) → All P xs
 all_by_index P xs f i d l = f i (get_or xs i d) (slice_get-get_or xs i d l)

@@ -26,13 +26,16 @@ use Rattle.c_compile_blocks.proofs.Steps.{own_under, step_held}
 
 -- BITS
 
+-- all bits of a table without bits fulfil T
 pub no_bits_are : (T : ℕ → Type 0) → AreBits T no_bits
 no_bits_are T r k e = absurd (cc)
 
+-- where all bits fulfil T, those that are left do
 pub left_are : (T : ℕ → Type 0) (bits : Bits) (rs : List ℕ) → AreBits T bits → AreBits T (left_bits bits rs)
 left_are T bits [] h = h
 left_are T bits (r ∷ rs) h = left_are T (note bits r None) rs (note_bits T bits r None h (λ k e. absurd (cc)))
 
+-- bits whose nodes may choose at a node may do so at a later one
 pub bits_later : (all : List FlowNode) (j k : ℕ) (g : Scope) (bits : Bits) → j ≤ k
     → AreBits (IsChoice all j g) bits → AreBits (IsChoice all k g) bits
 bits_later all j k g bits l h r i e = choice_later all j k g i l (h r i e)
@@ -49,6 +52,7 @@ set_bits all g o n t j env bits r a b rest at h =
     (λ i e. set_is (IsChoice all (suc k) g) o bits a k i more
     (λ z. let w = at_own all g o n t j env a b rest at in (own_node g o n t j env a b, w.0, refl, z, omega arith)) e)
 
+-- bits whose nodes may choose at a node may do so at a later one, with one bit taken away
 pub none_bits : (all : List FlowNode) (j k : ℕ) (g : Scope) (bits : Bits) (r : ℕ) → j ≤ k
     → AreBits (IsChoice all j g) bits → AreBits (IsChoice all k g) (note bits r None)
 none_bits all j k g bits r l h =
@@ -76,6 +80,7 @@ module _ (P : ℕ → Type 0) (all : List FlowNode) (c : ℕ) where
     pub bits : AreBits (IsChoice all (j + length o.nodes) g) o.bits
     pub number : o.number ≤ n + items_in is
 
+  -- items without ifs under a scope cost little, and what each register comes to is known
   pub run : (is : Items) (m : Bool) (g : Scope) (j n : ℕ) (env : Env) (bits : Bits) → IsGuardBy c g
       → FitsItems is → ifs_in is ≡ 0 → NamesIn P is → ((q : ℕ) → IsKnown all c m j g (env q))
       → AreBits (IsChoice all j g) bits → AreAt all j (items g j n env bits is).nodes

@@ -133,6 +133,7 @@ no_more r a t to e m =
     go (inl x) = x
     go (inr x) = absurd (let y = ap (λ (u : Tail). member r (tail_touched u)) (sym e) ∙ x in cc)
 
+-- a block that saves a group of at most 16 variables costs little
 pub saves_cheap : (f : ℕ → ℕ) (frame to : ℕ) (vs : List ℕ) → length vs ≤ 16
     → FitsItems (saving frame vs (jump to)).items → IsCheap (block_with f (saving frame vs (jump to)))
 saves_cheap f frame to vs few fits =
@@ -165,6 +166,7 @@ saves_cheap f frame to vs few fits =
       exits = omega (arith, x);
     }
 
+-- a block that restores a group of at most 16 variables costs little
 pub restores_cheap : (f : ℕ → ℕ) (frame to : ℕ) (vs : List ℕ) → length vs ≤ 16
     → FitsItems (restoring frame vs (jump to)).items → IsCheap (block_with f (restoring frame vs (jump to)))
 restores_cheap f frame to vs few fits =

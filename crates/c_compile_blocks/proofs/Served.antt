@@ -81,6 +81,7 @@ module _ (P : ℕ → Type 0) (all : List FlowNode) (c : ℕ) where
     there = λ e i z. y.sources e i g z;
   }
 
+  -- no nodes serve no sources
   pub none_served : (g : Scope) (j k : ℕ) → IsServed P all c false g j [] [] k
   none_served g j k = record {
     guards = tt;
@@ -209,12 +210,14 @@ module _ (P : ℕ → Type 0) (all : List FlowNode) (c : ℕ) where
 
   -- OPERANDS
 
+  -- the nodes of an operand serve it under the scope, at a cost of five
   pub operand_served : (m : Bool) (g : Scope) (j : ℕ) (env : Env) (a : Source) → Names P a
       → ((q : ℕ) → IsKnown all c m j g (env q)) → AreAt all j (operand j env a).nodes
       → IsServed P all c true g j (operand j env a).nodes (operand j env a).sources 5
   operand_served m g j env (Const w) p h x = const_served g j w x
   operand_served m g j env (Reg r) p h x = register_served m g j r (env r) p (h r) x
 
+  -- the nodes of a second operand serve it under the scope, at a cost of five
   pub second_served : (t m : Bool) (g : Scope) (j : ℕ) (env : Env) (a : Source) → Names P a
       → ((q : ℕ) → IsKnown all c m j g (env q)) → AreAt all j (second t j env a).nodes
       → IsServed P all c t g j (second t j env a).nodes (second t j env a).sources 5

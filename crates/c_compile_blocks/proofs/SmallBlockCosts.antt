@@ -12,6 +12,7 @@ use Rattle.c_compile_blocks.proofs.Cheap.{IsCheap}
 use Rattle.c_compile_blocks.proofs.SmallBlocks.{simple_cheap}
 use Rattle.c_compile_blocks.proofs.SaveGroups.{saves_cheap, restores_cheap}
 
+-- a simple block, or one of a save group, costs little
 pub little_cheap : (f : ℕ → ℕ) (b : Block) → FitsItems b.items → IsSimple b ⊎ IsGroupBlock b
     → IsCheap (block_with f b)
 little_cheap f b fits (inl s) = simple_cheap f b fits s

@@ -18,10 +18,12 @@ use Rattle.c_compile_blocks.proofs.TailNodes.{NamesExit, NamesEnd}
 use Rattle.c_compile_blocks.proofs.Members.{member_front, member_back, member_head}
 use Rattle.c_compile_blocks.proofs.Cheap.{IsCheap, source_most, jumps_with, exits_with}
 
+-- the registers of a source
 abbrev pub registers : Source → List ℕ
 registers (Const w) = []
 registers (Reg r) = r ∷ []
 
+-- the registers that the operands of items read
 abbrev pub items_registers : Items → List ℕ
 items_registers Done = []
 items_registers (Set r op a b rest) = registers a ++ (registers b ++ items_registers rest)
@@ -30,6 +32,7 @@ items_registers (Save op a v rest) = registers a ++ (registers v ++ items_regist
 items_registers (If t one other rest) =
     registers t ++ (items_registers one ++ (items_registers other ++ items_registers rest))
 
+-- the registers that an exit reads
 abbrev pub exit_registers : Exit → List ℕ
 exit_registers (exit.Jump l) = []
 exit_registers (exit.Call l back) = []
@@ -40,10 +43,12 @@ abbrev pub end_registers : Tail → List ℕ
 end_registers (Leave e) = exit_registers e
 end_registers (Test t one other) = registers t
 
+-- a source has at most one register
 pub one_register : (a : Source) → length (registers a) ≤ 1
 one_register (Const w) = omega arith
 one_register (Reg r) = omega arith
 
+-- items read at most two registers each, and an if one more
 pub few_registers : (is : Items) → length (items_registers is) ≤ 2 * items_in is + ifs_in is
 few_registers Done = omega arith
 few_registers (Set r op a b rest) =
@@ -75,6 +80,7 @@ few_registers (If t one other rest) =
     let w = length-append (items_registers other) (items_registers rest) in
     omega (arith, x, h, i, j, u, v, w)
 
+-- a tail reads at most one register
 pub end_few : (t : Tail) → length (end_registers t) ≤ 1
 end_few (Leave (exit.Jump l)) = omega arith
 end_few (Leave (exit.Call l back)) = omega arith
@@ -83,10 +89,12 @@ end_few (Leave (exit.System l)) = omega arith
 end_few (Test t one other) = one_register t
 
 module _ (P : ℕ → Type 0) where
+  -- a source may be read where its registers may
   pub names_of : (a : Source) → ((q : ℕ) → member q (registers a) ≡ true → P q) → Names P a
   names_of (Const w) f = tt
   names_of (Reg r) f = f r (member_head r [])
 
+  -- the operands of items may be read where the items' registers may
   pub names_in : (is : Items) → ((q : ℕ) → member q (items_registers is) ≡ true → P q) → NamesIn P is
   names_in Done f = tt
   names_in (Set r op a b rest) f = (
@@ -119,6 +127,7 @@ module _ (P : ℕ → Type 0) where
         names_in rest (λ q m. h q (member_back q (items_registers other) (items_registers rest) m)),
       )
 
+  -- an exit may be read where its registers may
   pub exit_named : (e : Exit) → ((q : ℕ) → member q (exit_registers e) ≡ true → P q) → NamesExit P e
   exit_named (exit.Jump l) f = tt
   exit_named (exit.Call l back) f = tt
@@ -167,6 +176,7 @@ end_touched (Test t (Leave (exit.Jump a)) (Leave exit.Return)) u = absurd (u.1)
 end_touched (Test t (Leave (exit.Jump a)) (Leave (exit.System l))) u = absurd (u.1)
 end_touched (Test t (Leave (exit.Jump a)) (Test s x y)) u = absurd (u.1)
 
+-- a simple block costs little
 pub simple_cheap : (f : ℕ → ℕ) (b : Block) → FitsItems b.items → IsSimple b → IsCheap (block_with f b)
 simple_cheap f b fits s =
     let t = tail_with f b.tail in

@@ -302,6 +302,7 @@ parts_fit is (Test t (Leave one) (Leave other)) fits small =
 parts_fit is (Test t (Test u x y) z) fits small = absurd (let s = small.tests in omega (arith, s))
 parts_fit is (Test t (Leave one) (Test u x y)) fits small = absurd (let s = small.tests in omega (arith, s))
 
+-- each small block fits the machine
 pub small_fits : SmallBlocksFit
 small_fits b small fits = parts_fit b.items b.tail fits small
 
@@ -338,6 +339,7 @@ if_small t one other out x y =
     let e = leg_plain other y in
     record { items = omega (arith, a, b); tests = omega (arith, d, e); exits = omega arith }
 
+-- each block of one small if alone fits the machine
 pub small_ifs : SmallIfsFit
 small_ifs b fits h =
     subst FitsMachine (sym h.is)

@@ -37,6 +37,7 @@ abbrev pub item_nodes : Scope → Op → ℕ → Bool → ℕ → Env → Source
 item_nodes g o n t j env a b rest =
     (operand j env a).nodes ++ ((behind_first t j env a b).nodes ++ own_node g o n t j env a b ∷ rest)
 
+-- the nodes of an item and of the rest are those up to the item's own, and the rest
 pub item_size : (g : Scope) (o : Op) (n : ℕ) (t : Bool) (j : ℕ) (env : Env) (a b : Source) (rest : List FlowNode)
     → suc (own_place t j env a b) + length rest ≡ j + length (item_nodes g o n t j env a b rest)
 item_size g o n t j env a b rest =
@@ -45,6 +46,7 @@ item_size g o n t j env a b rest =
     let v = length-append (behind_first t j env a b).nodes (own_node g o n t j env a b ∷ rest) in
     omega (arith, u, v)
 
+-- the place behind an item's own node is not before the item
 pub item_from : (t : Bool) (j : ℕ) (env : Env) (a b : Source) → j ≤ suc (own_place t j env a b)
 item_from t j env a b = omega arith
 
@@ -56,14 +58,17 @@ module _ (all : List FlowNode) (g : Scope) (o : Op) (n : ℕ) (t : Bool) (j : �
       at_back all j (operand j env a).nodes
       ((behind_first t j env a b).nodes ++ own_node g o n t j env a b ∷ rest) at
 
+  -- from an item's own place on stand its own node and the rest
   pub at_own : AreAt all (own_place t j env a b) (own_node g o n t j env a b ∷ rest)
   at_own =
       at_back all (j + length (operand j env a).nodes) (behind_first t j env a b).nodes
       (own_node g o n t j env a b ∷ rest) at_second
 
+  -- behind an item's own place stands the rest
   pub at_rest : AreAt all (suc (own_place t j env a b)) rest
   at_rest = let h = at_own in h.1
 
+  -- an item's own node stands under the scope
   pub own_under : IsUnder all (suc (own_place t j env a b)) g (own_place t j env a b)
   own_under = let h = at_own in (own_node g o n t j env a b, h.0, refl, omega arith)
 
@@ -91,6 +96,7 @@ module _ (all : List FlowNode) (g : Scope) (o : Op) (n : ℕ) (t : Bool) (j : �
 
 -- the nodes of a test that stands outside of legs, and the node that gives its bit
 module _ (P : ℕ → Type 0) (all : List FlowNode) (c : ℕ) where
+  -- the nodes of a test that stands outside of legs, and the node that gives its bit
   pub record IsTest (j : ℕ) (x : Chain) : Type 0 where
     pub held : IsHeld P all c j x.nodes 10
     pub choice : IsChoice all (j + length x.nodes) None x.last
@@ -119,6 +125,7 @@ module _ (P : ℕ → Type 0) (all : List FlowNode) (c : ℕ) where
   }
   test_by_is m j env r None p known f at = fresh_is m j env (Reg r) p known at
 
+  -- the nodes of a test outside of legs cost at most ten, and its last may choose
   pub tested_is : (m : Bool) (j : ℕ) (env : Env) (bits : Bits) (a : Source) → Names P a
       → ((q : ℕ) → IsKnown all c m j None (env q)) → AreBits (IsChoice all j None) bits
       → AreAt all j (tested None j env bits a).nodes → IsTest j (tested None j env bits a)

@@ -95,6 +95,7 @@ module _ (all : List FlowNode) where
   chain_supplied (suc d) j w b =
       longer_supplied (nat_lt w 65536) j w (chain d j (w / 65536)) b (λ x. chain_supplied d j (w / 65536) x)
 
+  -- an operand that a register as found or a constant comes to is surely there
   pub operand_supplied : (j : ℕ) (a : Source) → AreAt j (operand j at_start a).nodes
       → IsSupplied true j (operand j at_start a).nodes (operand j at_start a).sources
   operand_supplied j (Const w) b = chain_supplied 3 j w b
@@ -104,5 +105,6 @@ module _ (all : List FlowNode) where
     sources = λ e k g l. read_there all k g r [];
   }
 
+-- the nodes of a list are those of the whole list from node 0 on
 pub at_all : (ns : List FlowNode) → AreAt ns 0 ns
 at_all ns = at_from ns ns 0 (λ i k n q e. let at : k ≡ i = omega (arith, q) in ap (slice_get ns) at ∙ e)

@@ -33,6 +33,7 @@ pub record IsGuarded (c : ℕ) (n : FlowNode) : Type 0 where
   pub right : n.right ≡ []
   pub guard : (g : Guard) → n.guard ≡ Some g → g.node ≡ c
 
+-- each of some nodes is an exit under a guard that node c gives
 abbrev pub AreGuarded : ℕ → List FlowNode → Type 0
 AreGuarded c [] = Unit {0}
 AreGuarded c (n ∷ ns) = IsGuarded c n × AreGuarded c ns
@@ -55,6 +56,7 @@ NamesExit P (exit.Call l back) = Unit {0}
 NamesExit P exit.Return = P 2
 NamesExit P (exit.System l) = Unit {0}
 
+-- the registers of an end may be read
 abbrev pub NamesEnd : (ℕ → Type 0) → Tail → Type 0
 NamesEnd P (Leave e) = NamesExit P e
 NamesEnd P (Test t one other) = Names P t
@@ -247,6 +249,7 @@ module _ (T P : ℕ → Type 0) where
         sets = λ r d. absurd (cc);
       }
 
+  -- an end that is one exit or a test between two jumps comes to flat nodes and exits under one guard
   pub tail_end : (t : Tail) (j e : ℕ) (env : Env) (bits : Bits) → TestsJump t → NamesEnd P t → ArePlain j env
       → AreBits T bits → Told T j (tail None j e env bits t).nodes → IsEnd j env t (tail None j e env bits t)
   tail_end (Leave x) j e env bits u p g h k = exit_end x j e env p g

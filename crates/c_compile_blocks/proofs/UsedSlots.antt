@@ -76,6 +76,7 @@ has_placed_slots : (r : Resolves) (p : Placing) (b : hyper.Block) (u : Block) â†
     â†’ HasPlacedSlots p (resolved_block r u)
 has_placed_slots r p b u m = record { to = m.placed.to; is = m.placed.is; slots = has_slots r p b u m }
 
+-- the used slots of a placed block are those to which its first slots went
 pub uses_slots : UsesSlots
 uses_slots p B us all k t e =
     let c = came (chunk_of us) 0 us k t e in

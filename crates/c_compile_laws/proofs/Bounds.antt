@@ -14,6 +14,7 @@ use Rattle.c_compile_laws.specs.Bounds.{HasBounds}
 use Rattle.c_compile_laws.specs.inside.Compiled.{FlatMeans, IsCompiled}
 use Rattle.c_compile_laws.proofs.Compiled.{data_fits, emitted}
 
+-- the image of a program is good, and has at most twelve blocks a token
 pub has_bounds : (P : TypedProgram) (F : Program) (t : ℕ) (p : Placing) (i : Image)
     → FlatMeans P F t → IsCompiled F p i → HasBounds t p i
 has_bounds P F t p i m c =

@@ -74,6 +74,7 @@ module _ (P : TypedProgram) (F : Program) (t : ℕ) (p : Placing) (i : Image)
   abbrev at : Layout
   at = laid_out c.blocks
 
+  -- the blocks of the image are what the layout takes
   pub emitted : AreEmitted program c.blocks
   emitted = gives_emitted p program c.blocks (blocks_pass P F t p i m c) c.made
 
@@ -102,6 +103,7 @@ module _ (P : TypedProgram) (F : Program) (t : ℕ) (p : Placing) (i : Image)
       (image_means program c.blocks emitted F.bytes input n (m.fits).bytes (bytes_of_input input h)
       (data_fits F.bytes frame_limit data_size (m.fits).room))
 
+  -- where the evaluation is done within n steps, the run ends so within 16 n + 6 blocks
   pub does_finished : DoesFinished P i
   does_finished input h n out result steps e =
       let f : Finishes (flat_run checked F input) m.most steps out result =
@@ -131,6 +133,7 @@ module _ (P : TypedProgram) (F : Program) (t : ℕ) (p : Placing) (i : Image)
             };
       }
 
+  -- where the evaluation's frames are too large within n steps, the stack is full within 16 n + 6 blocks
   pub does_deep : DoesDeep P i
   does_deep input h n out e =
       let f : Overflows (flat_run checked F input) n out =
@@ -153,6 +156,7 @@ module _ (P : TypedProgram) (F : Program) (t : ℕ) (p : Placing) (i : Image)
             let w = full_is r.0 r.1 out z in record { answer = w.0; output = w.1 };
       }
 
+  -- where the evaluation has not ended after n steps, neither has the run, as far as that
   pub does_unfinished : DoesUnfinished t P i
   does_unfinished input h n out e =
       let f : flat.GoesOn (flat_run checked F input) m.most n out =

@@ -125,6 +125,7 @@ items_guarded (If t one other rest) g j m env bits f =
     (items_guarded other (under x.last false) (i + length y.nodes) y.number env no_bits f.2)
     (items_guarded rest g at n.number c.env lb f.3)
 
+-- each filled if-item gives a node whose guard has a sense
 pub converts_sensed : (b : Block) → FitsItems b.items → filled_ifs b.items ≤ sensed_nodes (predicated b).nodes
 converts_sensed b f =
     let h : filled_ifs b.items + 0 ≤ sensed_nodes (begun b).nodes =
@@ -133,6 +134,7 @@ converts_sensed b f =
     sensed_append (begun b).nodes (ended b).nodes in
     omega (arith, h, e)
 
+-- each filled if-item gives a guarded node, also where the block still holds labels
 pub converts : ConvertsGuarded
 converts b f =
     let h = converts_sensed b f in

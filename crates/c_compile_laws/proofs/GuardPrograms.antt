@@ -24,6 +24,7 @@ linked_same chunk k [] = refl
 linked_same chunk k (u ∷ us) =
     ap₂ (λ (a b : ℕ). a + b) (resolves (by_both chunk k) u) (linked_same chunk (suc k) us)
 
+-- all blocks of a program have at least as many guarded instructions as filled if-items
 pub programs : ProgramsGuarded
 programs chunk k B us g =
     let a = summed B us g.size g.each in

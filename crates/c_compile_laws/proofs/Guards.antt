@@ -30,6 +30,7 @@ are_guarded p B us all fit = record {
       m.targeted m.placed.permutes.permutes m.placed.moved;
 }
 
+-- the image has at least as many guarded instructions other than branches as the flat program has small ifs
 pub guards_small_ifs : GuardsSmallIfs
 guards_small_ifs P F t p i m c =
     let plan = plan_of c.cuts c.joins c.groups in

@@ -74,5 +74,6 @@ module _ (keep : ℕ → VarSet) where
       let q = all_same (k + calls f.body) fs in
       omega (arith, p, q)
 
+-- what calls keep changes no small if
 pub assigns_small : AssignsSmallIfs
 assigns_small P lists = all_same (kept_by lists) 0 P.functions

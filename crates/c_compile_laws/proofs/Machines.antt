@@ -22,6 +22,7 @@ all_slots ps few =
     let c : length rest ≡ 128 - length ps = length-replicate (128 - length ps) None in
     omega (arith, few, a, b, c)
 
+-- a machine block has at least as many guarded instructions as its hyper block has filled if-items
 pub machines : MachinesGuarded
 machines p q b t u fits room is permutes moved =
     let a = converts_sensed b fits in

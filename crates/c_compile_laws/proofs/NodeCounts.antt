@@ -33,6 +33,7 @@ guarded_append : (a b : List FlowNode) → guarded_nodes (a ++ b) ≡ guarded_no
 guarded_append [] b = omega arith
 guarded_append (n ∷ a) b = let h = guarded_append a b in omega (arith, h)
 
+-- nodes behind nodes have the guards with a sense of both
 pub sensed_append : (a b : List FlowNode) → sensed_nodes (a ++ b) ≡ sensed_nodes a + sensed_nodes b
 sensed_append [] b = omega arith
 sensed_append (n ∷ a) b = let h = sensed_append a b in omega (arith, h)
@@ -59,6 +60,7 @@ one_guarded : (o : Option Guard) (v : Bool) → cond (has_sense o && v) 1 0 ≤ 
 one_guarded None v = none_sensed v
 one_guarded (Some g) v = fewer (is_guarded g.sense) v
 
+-- guards with a sense are no more than guards
 pub sensed_fewer : (ns : List FlowNode) → sensed_nodes ns ≤ guarded_nodes ns
 sensed_fewer [] = omega arith
 sensed_fewer (n ∷ ns) =
@@ -87,6 +89,7 @@ all_sensed (n ∷ ns) f =
 
 -- COMPLETING
 
+-- completing takes no guarded node away
 pub completes : CompletesGuarded
 completes f =
     let more = added (sure_by f) (want_by f) f in
@@ -94,6 +97,7 @@ completes f =
     guarded_append f.nodes more in
     omega (arith, e)
 
+-- completing takes no node away whose guard has a sense
 pub completes_sensed : (f : FlowBlock) → sensed_nodes f.nodes ≤ sensed_nodes (complete f).nodes
 completes_sensed f =
     let more = added (sure_by f) (want_by f) f in

@@ -38,6 +38,7 @@ led n p q t u within returns moved =
     (λ x y i k z. sym (returns x) ∙ (ap q z ∙ returns y)) in
     omega (arith, e, h)
 
+-- a placed block has no fewer guarded instructions
 pub places : PlacesGuarded
 places p q t u permutes size moved =
     let there = permutes.there in

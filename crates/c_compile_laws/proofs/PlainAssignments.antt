@@ -17,6 +17,7 @@ use Rattle.flat_lower.proofs.TreeFacts.{plain_node, expr_is}
 use Rattle.c_compile_laws.specs.PlainIfs.{is_scalar, is_simple, is_plain_assignment, assigns}
 use Rattle.c_compile_laws.proofs.SmallIfs.{IsSet, set_known}
 
+-- false is not true
 pub not_so : false ≡ true → ⊥
 not_so e = cc e
 

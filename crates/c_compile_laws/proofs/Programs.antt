@@ -25,10 +25,12 @@ module _ (globals : List TypedGlobal) (main : ℕ) where
       let rest = functions_show (suc n) fs in
       omega (arith, h, w, rest)
 
+-- each plain if becomes a small one
 pub lowers_plain : LowersPlainIfs
 unfolding lowered
 lowers_plain P = functions_show P.globals P.main 0 P.functions
 
+-- each plain if is a small one of the program whose calls keep what the lists say
 pub assigns_plain : AssignsPlainIfs
 assigns_plain P lists =
     let a = lowers_plain P in

@@ -33,6 +33,7 @@ module _ (c : Context) where
 
   -- IFS
 
+  -- the code of an if without a second leg has the small ifs of its leg, and itself where it is one
   pub if_alone : (a : Around) (m : Counted) (t : Expr) (x : Stmt) → Shows c a m x
       → cond (m.leg && true) 1 0 + (m.ifs + 0) ≤ small_ifs (stmt_code c a (If t x NoStmts))
   if_alone a m t x s =
@@ -41,6 +42,7 @@ module _ (c : Context) where
       let w = then_small (expr_code c 0 t) (only (flat.If (Var (temp 0)) (stmt_code c a x) Nop)) in
       omega (arith, i, h, w)
 
+  -- the code of an if has the small ifs of both legs, and itself where it is one
   pub if_else : (a : Around) (m n : Counted) (t : Expr) (x y : Stmt) → Shows c a m x → Shows c a n y
       → cond (m.leg && n.leg) 1 0 + (m.ifs + n.ifs) ≤
       small_ifs (stmt_code c a (If t x (WithStmt y NoStmts)))
@@ -69,6 +71,7 @@ module _ (c : Context) where
       let h = then_small (set_word (temp 0) 1) (only (flat.Loop (if_so body) (expr_code c 0 t))) in
       omega (arith, h)
 
+  -- the code of a `for` has the small ifs of its first part and its body
   pub for_keeps : (a : Around) (n : ℕ) (m : Counted) (first : First) (test post : Option Expr) (x : Stmt)
       → n ≤ small_ifs (first_code c a first) → Shows c around.Loop m x
       → n + m.ifs ≤ small_ifs (stmt_code c a (For first test post x))
@@ -78,6 +81,7 @@ module _ (c : Context) where
       let w = then_small (first_code c a first) (loop_code c test post (stmt_code c around.Loop x)) in
       omega (arith, i, b, h, w)
 
+  -- the code of a `while` has the small ifs of its body
   pub while_keeps : (a : Around) (m : Counted) (t : Expr) (x : Stmt) → Shows c around.Loop m x
       → m.ifs ≤ small_ifs (stmt_code c a (While t x))
   while_keeps a m t x s =
@@ -85,6 +89,7 @@ module _ (c : Context) where
       let h = loop_keeps (Some t) None (stmt_code c around.Loop x) in
       omega (arith, b, h)
 
+  -- the code of a `do` loop has the small ifs of its body
   pub do_shows : (a : Around) (m : Counted) (t : Expr) (x : Stmt) → Shows c around.Loop m x
       → m.ifs ≤ small_ifs (stmt_code c a (Do x t))
   do_shows a m t x s =
@@ -108,6 +113,7 @@ module _ (c : Context) where
       let w = then_small (chosen_code xs) (Then r (behind_code a)) in
       omega (arith, h, v, w)
 
+  -- the code of a switch has the small ifs of its sections
   pub switch_keeps : (a : Around) (n : ℕ) (t : Expr) (xs : Sections)
       → n ≤ small_ifs (sections_code c (in_switch a) xs)
       → n ≤ small_ifs (stmt_code c a (Switch t xs))

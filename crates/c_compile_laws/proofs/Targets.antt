@@ -28,6 +28,7 @@ slots_more : (a b : List Placed) (rest : List (Option Inst))
 slots_more [] b rest = omega arith
 slots_more (p ∷ a) b rest = let h = slots_more a b rest in omega (arith, h)
 
+-- each node whose guard has a sense stands in a guarded instruction
 pub targets_sensed : (f : FlowBlock) (t : Block) → IsTargeted f t → sensed_nodes f.nodes ≤ guarded_insts t
 targets_sensed f t is =
     let same = nodes_same (wires f) (next_of_nodes f) 0 f.nodes in
@@ -36,6 +37,7 @@ targets_sensed f t is =
     let e = ap guarded_slots is.insts in
     omega (arith, same, more, e)
 
+-- each guarded node becomes a guarded instruction
 pub targets : TargetsGuarded
 targets f t regular is =
     let a = all_sensed f.nodes regular.guards in
@@ -50,5 +52,6 @@ resolved_same : (r : Resolves) (is : List (Option Inst)) → guarded_slots (map 
 resolved_same r [] = refl
 resolved_same r (i ∷ is) = ap₂ (λ (a b : ℕ). a + b) (slot_same r i) (resolved_same r is)
 
+-- resolving labels changes no guard
 pub resolves : ResolvesGuarded
 resolves r t = resolved_same r t.insts.items

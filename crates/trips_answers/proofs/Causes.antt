@@ -69,31 +69,37 @@ module _ (held : List ℕ → Option (List ℕ)) (rose : Type 0) (old new : Opti
       → AppendedPart old new report → cut → IsAnswered q held rose old new cut status.WriteFault
   part other report a w fault = (fault, (other, report, a, w))
 
+  -- the status for usage is answered only where the words ask for nothing
   pub usage_only : (s : Status) → IsAnswered q held rose old new cut s → s ≡ status.Usage → q ≡ None
   usage_only s a e =
       let row = subst (IsAnswered q held rose old new cut) e a in
       usage_row q held rose status.Usage (kind q held rose status.Usage row.0 row.1) refl
 
+  -- the status for a fault of reading is answered only where such a fault rose
   pub read_fault : (s : Status) → IsAnswered q held rose old new cut s → s ≡ status.ReadFault → rose
   read_fault s a e =
       let row = subst (IsAnswered q held rose old new cut) e a in
       read_fault_row q held rose status.ReadFault
       (kind q held rose status.ReadFault row.0 row.1) refl
 
+  -- the status for a refusal is answered only where the request may be refused
   pub refused_only : (s : Status) → IsAnswered q held rose old new cut s → s ≡ status.Refused
       → MayBeRefused q held
   refused_only s a e =
       let row = subst (IsAnswered q held rose old new cut) e a in
       refused_row q held rose status.Refused (kind q held rose status.Refused row.0 row.1) refl
 
+  -- the status for a fault of writing is answered only where the writing was cut
   pub write_fault : (s : Status) → IsAnswered q held rose old new cut s → s ≡ status.WriteFault
       → cut
   write_fault s a e = (subst (IsAnswered q held rose old new cut) e a).0
 
+  -- where the status is that for a fault of writing, the text that is written is the beginning of a report
   pub cut_off : (s : Status) → IsAnswered q held rose old new cut s → s ≡ status.WriteFault
       → IsCutOff q held rose old new
   cut_off s a e = (subst (IsAnswered q held rose old new cut) e a).1
 
+  -- where memory lacked, nothing is written
   pub memory : (s : Status) → IsAnswered q held rose old new cut s → s ≡ status.Memory
       → Appended old new []
   memory s a e = subst (IsAnswered q held rose old new cut) e a
@@ -107,6 +113,7 @@ module _ (held : List ℕ → Option (List ℕ)) (rose : Type 0) (old new : Opti
     | inr (inr row) ↦ inl (usage_comes_row q held rose s row.0 row.1 e)
   ]
 
+  -- a request that is refused is answered so, or with a fault of reading or writing, or a lack of memory
   pub refused_comes : (s : Status) → IsAnswered q held rose old new cut s → IsRefused q held
       → IsOneOf s (status.Refused ∷ status.ReadFault ∷ status.Memory ∷ status.WriteFault ∷ [])
   unfolding IsWhole
@@ -137,6 +144,7 @@ module _ (held : List ℕ → Option (List ℕ)) (rose : Type 0) (old new : Opti
     | inr (inr row) ↦ row
   ]
 
+  -- the status for what C leaves undefined is answered only where an evaluation ended so
   pub undefined_only : (s : Status) → IsAnswered q held rose old new cut s → s ≡ status.Undefined
       → EvalEnds q held s
   undefined_only s a e =
@@ -193,6 +201,7 @@ module _ (held : List ℕ → Option (List ℕ)) (rose : Type 0) (old new : Opti
   eval_told s (inr (inr (inr (inl e)))) = ap is_told e
   eval_told s (inr (inr (inr (inr none)))) = absurd none
 
+  -- the status of an evaluation that ended is that of its end
   pub eval_ends : (s : Status) → IsAnswered q held rose old new cut s → (x : Request)
       → q ≡ Some x → x.work ≡ Evaluate
       → IsOneOf s (status.Ended ∷ status.Budget ∷ status.StackFull ∷ status.Undefined ∷ [])
@@ -215,6 +224,7 @@ module _ (held : List ℕ → Option (List ℕ)) (rose : Type 0) (old new : Opti
   run_told s (inr (inr (inr (inl e)))) = ap is_told e
   run_told s (inr (inr (inr (inr none)))) = absurd none
 
+  -- the status of a run that ended is that of its end
   pub run_ends : (s : Status) → IsAnswered q held rose old new cut s → (x : Request)
       → q ≡ Some x → x.work ≡ Run
       → IsOneOf s (status.Ended ∷ status.Budget ∷ status.StackFull ∷ status.Trap ∷ [])

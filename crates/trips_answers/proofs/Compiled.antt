@@ -104,6 +104,8 @@ module _ (settings : Settings) (n : ℕ) (text input : List ℕ) (program : Type
       run.3.2.0 ∙ ap (λ (a : Stepped). status_of (ending_of a (run_of run.0 input settings.most).0.next))
       (finished_run output value steps done).answer
 
+  -- where the program's meaning ends with a value, its run ends, and the report tells this value, and behind it
+  -- what is to be shown
   pub finished_shown : (output : List ℕ) (value : ℤ) (steps : ℕ)
       → eval program input n ≡ Done output value steps
       → (s ≡ status.Ended) × ((run_of run.0 input settings.most).1 ≡ stepped.Ended)
@@ -136,6 +138,7 @@ module _ (settings : Settings) (n : ℕ) (text input : List ℕ) (program : Type
       program output value steps accepted run.2 done enough
       (subst (λ (t : State). h.counts.cycles ≤ cost_of run.0.blocks t.trace) (sym came.state) cost)
 
+  -- where nothing is to be shown, the report of such a run tells the value alone
   pub finished_told : (output : List ℕ) (value : ℤ) (steps : ℕ) → settings.show ≡ nothing_shown
       → eval program input n ≡ Done output value steps
       → (s ≡ status.Ended) × (report ≡ ended_report output value)
@@ -160,6 +163,8 @@ module _ (settings : Settings) (n : ℕ) (text input : List ℕ) (program : Type
       run.3.2.0 ∙ ap (λ (a : Stepped). status_of (ending_of a (run_of run.0 input settings.most).0.next))
       (deep_run output deep).answer
 
+  -- where the program's meaning is stopped for its depth, the machine's stack is full, and the report tells
+  -- this, and behind it what is to be shown
   pub deep_shown : (output : List ℕ) → eval program input n ≡ Stopped Deep output
       → (s ≡ status.StackFull) × ((run_of run.0 input settings.most).1 ≡ stepped.StackFull)
       × (report ≡ shown_behind (full_report output) (run_of run.0 input settings.most).0 run.3.0
@@ -172,6 +177,7 @@ module _ (settings : Settings) (n : ℕ) (text input : List ℕ) (program : Type
         (full (run_of run.0 input settings.most) output (deep_run output deep)),
   )
 
+  -- where nothing is to be shown, the report of such a run tells the full stack alone
   pub deep_told : (output : List ℕ) → settings.show ≡ nothing_shown
       → eval program input n ≡ Stopped Deep output
       → (s ≡ status.StackFull) × (report ≡ full_report output)

@@ -87,6 +87,7 @@ ends_row_with request held rose s report q a e told =
     let row = subst (λ (x : Option Request). IsAnswer x held rose s report) e a in
     asked_ends q held rose s report told row.0 row.1 row.2
 
+-- work that was told of a request ended with the status that is answered
 pub ends_row : (request : Option Request) (held : List ℕ → Option (List ℕ)) (rose : Type 0)
     (s : Status) (report : List ℕ) (q : Request) → IsAnswer request held rose s report
     → request ≡ Some q → is_told s ≡ true → EndsAs held q s
@@ -133,6 +134,7 @@ is_evaluation Assemble how settings bytes input s report run e = absurd (not_mad
 is_evaluation Disassemble how settings bytes input s report run e = absurd (not_made s run.1 e)
 is_evaluation Check how settings bytes input s report run e = absurd (not_made s run.1 e)
 
+-- where what C leaves undefined is answered, an evaluation ended so
 pub undefined_row : (request : Option Request) (held : List ℕ → Option (List ℕ)) (rose : Type 0)
     (s : Status) (report : List ℕ) → IsAnswer request held rose s report → s ≡ status.Undefined
     → EvalEnds request held s

@@ -56,6 +56,7 @@ module _ (held : List ℕ → Option (List ℕ)) (rose : Type 0) (old new : Opti
       text_exact (settings_with asks.q most show) text input s row.0 program
       (complete q held rose s row.0 row.1 r Run form.Source most show text input asks) is
 
+  -- a run of a program whose meaning ends with a value, with blocks enough, ends and writes this value
   pub headline : (s : Status) → IsAnswered q held rose old new cut s → (most n : ℕ)
       (text input output : List ℕ) (value : ℤ) (steps : ℕ) (program : TypedProgram)
       → AsksFor q held Run form.Source most nothing_shown text input → IsAccepted text program
@@ -68,6 +69,8 @@ module _ (held : List ℕ → Option (List ℕ)) (rose : Type 0) (old new : Opti
       run is enough output value steps refl done in
       (told.0, subst (Appended old new) told.1 row.2)
 
+  -- a run of a program whose meaning is stopped for its depth, with blocks enough, answers and writes the full
+  -- stack
   pub deep : (s : Status) → IsAnswered q held rose old new cut s → (most n : ℕ)
       (text input output : List ℕ) (program : TypedProgram)
       → AsksFor q held Run form.Source most nothing_shown text input → IsAccepted text program
@@ -80,6 +83,7 @@ module _ (held : List ℕ → Option (List ℕ)) (rose : Type 0) (old new : Opti
       run is enough output refl full in
       (told.0, subst (Appended old new) told.1 row.2)
 
+  -- a run of a program's text writes the report of the machine's run of its image
   pub text_run : (s : Status) → IsAnswered q held rose old new cut s → (most : ℕ)
       (text input : List ℕ) (program : TypedProgram)
       → (asks : AsksFor q held Run form.Source most nothing_shown text input) → IsAccepted text program
@@ -96,6 +100,7 @@ module _ (held : List ℕ → Option (List ℕ)) (rose : Type 0) (old new : Opti
       run.3.2.1 in
       (run.0, run.1, (run.3.2.0, subst (Appended old new) plain row.2))
 
+  -- an evaluation of a program's text writes what its meaning comes to
   pub evaluation : (s : Status) → IsAnswered q held rose old new cut s → (how : FileForm)
       (steps : ℕ) (text input : List ℕ) (program : TypedProgram)
       → AsksFor q held Evaluate how steps nothing_shown text input → IsAccepted text program → (rose → ⊥)
@@ -108,6 +113,7 @@ module _ (held : List ℕ → Option (List ℕ)) (rose : Type 0) (old new : Opti
       done is in
       (told.0, subst (Appended old new) told.1 row.2)
 
+  -- a run of the bytes of an image writes the report of the machine's run of it
   pub image_run : (s : Status) → IsAnswered q held rose old new cut s → (blocks : ℕ)
       (bytes input : List ℕ) (image : Image) → AsksFor q held Run form.Image blocks nothing_shown bytes input
       → ImageBytes image bytes → All IsGood image.blocks → (rose → ⊥) → (cut → ⊥)
@@ -124,6 +130,7 @@ module _ (held : List ℕ → Option (List ℕ)) (rose : Type 0) (old new : Opti
       told.2.1 in
       (told.2.0, subst (Appended old new) plain row.2)
 
+  -- a program's text that is compiled gives the bytes of its image
   pub compiled : (s : Status) → IsAnswered q held rose old new cut s → (how : FileForm) (most : ℕ)
       (show : Show) (text input : List ℕ) (program : TypedProgram)
       → (asks : AsksFor q held Compile how most show text input) → IsAccepted text program
@@ -138,6 +145,7 @@ module _ (held : List ℕ → Option (List ℕ)) (rose : Type 0) (old new : Opti
       done is in
       (run.0, run.1, row.0, run.2, run.3, row.2)
 
+  -- a target text that is assembled gives the bytes of its image
   pub assembled : (s : Status) → IsAnswered q held rose old new cut s → (how : FileForm) (most : ℕ)
       (show : Show) (text input bytes : List ℕ)
       → AsksFor q held Assemble how most show text input → IsOneImage text bytes
@@ -150,6 +158,7 @@ module _ (held : List ℕ → Option (List ℕ)) (rose : Type 0) (old new : Opti
       done one in
       (told.0, subst (Appended old new) told.1 row.2)
 
+  -- the bytes of an image that are disassembled give its target text
   pub disassembled : (s : Status) → IsAnswered q held rose old new cut s → (how : FileForm) (most : ℕ)
       (show : Show) (bytes input text : List ℕ)
       → AsksFor q held Disassemble how most show bytes input → IsOneImage text bytes
@@ -162,6 +171,7 @@ module _ (held : List ℕ → Option (List ℕ)) (rose : Type 0) (old new : Opti
       done one in
       (told.0, subst (Appended old new) told.1 row.2)
 
+  -- the bytes of a good image that are checked give the report of it
   pub checked : (s : Status) → IsAnswered q held rose old new cut s → (how : FileForm) (most : ℕ)
       (show : Show) (bytes input report : List ℕ)
       → AsksFor q held Check how most show bytes input → IsGoodImage bytes report
@@ -174,6 +184,7 @@ module _ (held : List ℕ → Option (List ℕ)) (rose : Type 0) (old new : Opti
       done good in
       (told.0, subst (Appended old new) told.1 row.2)
 
+  -- a file that is refused is answered so, and the reason is written
   pub refusal : (s : Status) → IsAnswered q held rose old new cut s → (work : Work)
       (how : FileForm) (most : ℕ) (show : Show) (bytes input report : List ℕ)
       → AsksFor q held work how most show bytes input → IsRefusedAs work how bytes report → (rose → ⊥)
@@ -185,6 +196,7 @@ module _ (held : List ℕ → Option (List ℕ)) (rose : Type 0) (old new : Opti
       done bad in
       (told.0, subst (Appended old new) told.1 row.2)
 
+  -- a file that is too large is refused as such
   pub too_large_file : (s : Status) → IsAnswered q held rose old new cut s → (x : Request)
       → q ≡ Some x → HasLargeFile x held → (rose → ⊥) → (cut → ⊥) → s ≢ status.Memory
       → (s ≡ status.Refused) × Appended old new too_large_text
@@ -193,6 +205,7 @@ module _ (held : List ℕ → Option (List ℕ)) (rose : Type 0) (old new : Opti
       let told = large_file q held rose s row.0 row.1 r x e large in
       (told.0, subst (Appended old new) told.1 row.2)
 
+  -- an input that is too large is refused as such
   pub too_large_input : (s : Status) → IsAnswered q held rose old new cut s → (x : Request)
       → q ≡ Some x → HasLargeInput x held → (rose → ⊥) → (cut → ⊥) → s ≢ status.Memory
       → (s ≡ status.Refused) × Appended old new too_large_text

@@ -21,6 +21,7 @@ negative w below high =
     let is : w ≡ 2 ^ 64 - suc (2 ^ 64 - suc w) = omega (arith, below) in
     ap (cast_signed w64) is ∙ to_z-neg w64 (2 ^ 64 - suc w) (omega (arith, high))
 
+-- a word is written as the signed number that it stands for
 pub signed_number : (w : ℕ) → w < 2 ^ 64 → signed w ≡ signed_decimal (cast_signed w64 w)
 signed_number w below = go (nat_lt w (2 ^ 63)) refl
   where

@@ -178,6 +178,7 @@ kind (Some q) held rose s report a = asked_kind q held rose s report a.0 a.1 a.2
 
 -- the causes ----------------------------------------------------------------------------------
 
+-- the status for usage is answered only where the words ask for nothing
 pub usage_row : (q : Option Request) (held : List ℕ → Option (List ℕ)) (rose : Type 0) (s : Status)
     → Kind q held rose s → s ≡ status.Usage → q ≡ None
 unfolding is_told
@@ -186,6 +187,7 @@ usage_row q held rose s (unread is up) e = absurd (cc)
 usage_row q held rose s (refused is may) e = absurd (cc)
 usage_row q held rose s (ran is out) e = let t : is_told s ≡ false = ap is_told e in absurd (cc)
 
+-- the status for a fault of reading is answered only where such a fault rose
 pub read_fault_row : (q : Option Request) (held : List ℕ → Option (List ℕ)) (rose : Type 0)
     (s : Status)
     → Kind q held rose s → s ≡ status.ReadFault → rose
@@ -196,6 +198,7 @@ read_fault_row q held rose s (refused is may) e = absurd (cc)
 read_fault_row q held rose s (ran is out) e = let t : is_told s ≡ false = ap is_told e in absurd
     (cc)
 
+-- the status for a refusal is answered only where the request may be refused
 pub refused_row : (q : Option Request) (held : List ℕ → Option (List ℕ)) (rose : Type 0)
     (s : Status)
     → Kind q held rose s → s ≡ status.Refused → MayBeRefused q held
@@ -223,6 +226,7 @@ not_refused_without : (q : Option Request) (held : List ℕ → Option (List ℕ
 not_refused_without None held e out = out
 not_refused_without (Some r) held e out = absurd (cc)
 
+-- a request that is refused is answered so, or with a fault of reading
 pub refused_comes_row : (q : Option Request) (held : List ℕ → Option (List ℕ)) (rose : Type 0)
     (s : Status)
     → Kind q held rose s → IsRefused q held → (s ≡ status.Refused) ⊎ (s ≡ status.ReadFault)
@@ -231,6 +235,7 @@ refused_comes_row q held rose s (unread is up) bad = inr is
 refused_comes_row q held rose s (refused is may) bad = inl is
 refused_comes_row q held rose s (ran is out) bad = absurd (out bad)
 
+-- where the words ask for nothing, the status for usage is answered
 pub usage_comes_row : (q : Option Request) (held : List ℕ
     → Option (List ℕ)) (rose : Type 0) (s : Status) (report : List ℕ)
     → IsAnswer q held rose s report → q ≡ None → s ≡ status.Usage

@@ -52,6 +52,7 @@ module _ (held : List ℕ → Option (List ℕ)) (rose : Type 0) (old new : Opti
       text_exact (settings_with asks.q most show) bytes input s row.0 program
       (complete q held rose s row.0 row.1 r Run form.Source most show bytes input asks) is
 
+  -- a run of a program's text reports the machine's run of its image, and behind it what is to be shown
   pub text_run : (program : TypedProgram)
       → (asks : AsksFor q held Run form.Source most show bytes input)
       → IsAccepted bytes program → (rose → ⊥) → (cut → ⊥) → s ≢ status.Memory
@@ -64,6 +65,7 @@ module _ (held : List ℕ → Option (List ℕ)) (rose : Type 0) (old new : Opti
       let run = text_done c m program asks is r in
       (run.0, run.1, ran run.0 input (settings_with asks.q most show) s row.0 old new run.3 row.2)
 
+  -- a run of the bytes of an image reports the machine's run of it, and behind it what is to be shown
   pub image_run : (image : Image)
       → (asks : AsksFor q held Run form.Image most show bytes input)
       → ImageBytes image bytes → All IsGood image.blocks → (rose → ⊥) → (cut → ⊥) → s ≢ status.Memory
@@ -76,6 +78,7 @@ module _ (held : List ℕ → Option (List ℕ)) (rose : Type 0) (old new : Opti
       ran image input (settings_with asks.q most show) s row.0 old new
       (image_exact (settings_with asks.q most show) bytes input s row.0 image done spelled good) row.2
 
+  -- a run of a target text reports the machine's run of its image, and behind it what is to be shown
   pub target_run : (image : Image)
       → (asks : AsksFor q held Run form.Target most show bytes input)
       → TargetText image bytes → All IsGood image.blocks → (rose → ⊥) → (cut → ⊥) → s ≢ status.Memory
@@ -88,6 +91,8 @@ module _ (held : List ℕ → Option (List ℕ)) (rose : Type 0) (old new : Opti
       ran image input (settings_with asks.q most show) s row.0 old new
       (target_exact (settings_with asks.q most show) bytes input s row.0 image done spelled good) row.2
 
+  -- a run of a program whose meaning ends with a value, with blocks enough, reports this value, and behind it
+  -- what is to be shown of the grid's run, which ends as it is meant to
   pub headline : (n : ℕ) (output : List ℕ) (value : ℤ) (steps : ℕ) (program : TypedProgram)
       → (asks : AsksFor q held Run form.Source most show bytes input)
       → IsAccepted bytes program → eval program input n ≡ Done output value steps → 16 * n + 16 ≤ most
@@ -109,6 +114,8 @@ module _ (held : List ℕ → Option (List ℕ)) (rose : Type 0) (old new : Opti
             done,
       )
 
+  -- a run of a program whose meaning is stopped for its depth, with blocks enough, reports the full stack, and
+  -- behind it what is to be shown
   pub deep : (n : ℕ) (output : List ℕ) (program : TypedProgram)
       → (asks : AsksFor q held Run form.Source most show bytes input)
       → IsAccepted bytes program → eval program input n ≡ Stopped Deep output → 16 * n + 16 ≤ most

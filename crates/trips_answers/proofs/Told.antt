@@ -189,6 +189,7 @@ tool_row tools.Assemble how settings bytes input s report done = done
 tool_row tools.Disassemble how settings bytes input s report done = done
 tool_row tools.Check how settings bytes input s report done = done
 
+-- where the work of a tool is done for a request, the tool's work is done
 pub tool_back : (tool : Tool) (how : FileForm) (settings : Settings) (bytes input : List ℕ) (s : Status)
     (report : List ℕ) → IsDone (line_plain.work_of tool) how settings bytes input s report
     → IsToolDone tool bytes s report

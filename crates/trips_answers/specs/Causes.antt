@@ -5,8 +5,7 @@ use Rattle.trips_requests.specs.declared.commands.Command.TheVariants.{Evaluate}
 use Rattle.trips_requests.specs.declared.loading.Loaded.{Loaded}
 use Rattle.trips_requests.specs.declared.status.Status.{Status}
 use Rattle.trips_requests.specs.declared.status.Status.TheVariants as status
-use Rattle.trips_requests.specs.Table.{IsRead, AfterReading}
-use Rattle.trips_requests.specs.Table.{IsOneOf}
+use Rattle.trips_requests.specs.Table.{IsRead, AfterReading, IsOneOf}
 use Rattle.trips_requests.specs.Texts.{usage_text, IsFixed}
 use Rattle.trips_answers.specs.Request.{Request, origin_held}
 use Rattle.trips_answers.specs.Asks.{limit_of}

@@ -53,7 +53,7 @@ full_report output = output_and output (codes "stack full")
 -- what the block costs at which a run trapped, and nothing of any other run
 abbrev pub trap_cost : List Block → Ending → ℕ
 trap_cost blocks (ending.Trap block cause) = cost_in (slice_get blocks block)
-trap_cost blocks ended = 0
+trap_cost blocks _ = 0
 
 -- What is counted of a run whose committed blocks are this trace, and which ended so. Whose counts they are stands in
 -- `IsCountedRun`: those of a grid that exactly so many cycles lead to from the seed's start.
