@@ -277,21 +277,26 @@ Placed ns = (x : ℕ) (n : Node) → slice_get ns x ≡ Some n → (n.slot < 128
 
 -- the case of a table ------------------------------------------------------------------------
 
+-- the bit that a token stands for; one that is absent or null has the bit 0
 abbrev pub own : CaseToken → Bool
 own Absent = false
 own Null = false
 own (Bit v) = v
 
+-- whether node x leads to a predicate and its token is the bit 1
 abbrev pub chosen : List Node → (ℕ → CaseToken) → ℕ → Bool
 chosen ns h x = is_chooser ns x (slice_get ns x) && own (h x)
 
+-- the first n values of a function, in order
 abbrev pub tabulate : ℕ → (ℕ → Bool) → List Bool
 tabulate zero f = []
 tabulate (suc n) f = f 0 ∷ tabulate n (λ x. f (suc x))
 
+-- the case of a table of tokens: for each node, its chosen bit
 abbrev pub case_of : List Node → (ℕ → CaseToken) → List Bool
 case_of ns h = tabulate (length ns) (chosen ns h)
 
+-- n values are tabulated as a list of length n
 pub tabulate_size : (n : ℕ) (f : ℕ → Bool) → length (tabulate n f) ≡ n
 tabulate_size zero f = refl
 tabulate_size (suc n) f = ap suc (tabulate_size n (λ x. f (suc x)))
@@ -362,6 +367,8 @@ alike_at ns rank o w h s x below = subst (λ t. Alike (leads ns deepest x) t (f 
         by (inr al) = ap (λ z. matches z (first ns (256 + n.slot) h)) al
             ∙ sym (ap (λ z. matches z (first ns (256 + n.slot) f)) al)
 
+-- the token of a node in a table that solves the block is the one in the table's case, but for bits that lead
+-- nowhere
 pub alike : (ns : List Node) (rank : ℕ → ℕ) → Ranked ns rank → Placed ns → (h : ℕ → CaseToken)
     → Solves ns (λ x. own (h x)) h → (k x : ℕ) → rank x < k
     → Alike (leads ns deepest x) (h x) (token ns (case_of ns h) x)

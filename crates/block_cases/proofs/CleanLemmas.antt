@@ -89,6 +89,7 @@ beyond [] x l = refl
 beyond (n ∷ ns) zero l = absurd (omega (arith, l))
 beyond (n ∷ ns) (suc x) l = beyond ns x (omega (arith, l))
 
+-- where nothing in the list of a block's acts faults, nothing that a node does faults
 pub clean_parts : (b : Block) (g : ℕ → Answer) → is_clean (block_acts b g) ≡ true → IsClean b g
 clean_parts b g clean x = go (nat_lt x (length (nodes_of b))) refl
   where

@@ -107,6 +107,7 @@ one_of zero h i = absurd (i refl)
 one_of (suc zero) h i = refl
 one_of (suc (suc n)) h i = absurd (omega arith)
 
+-- in a good block any table of tokens that solves it gives each place the tokens that it must get
 pub one_token : (ns : List Node) (wanted : ℕ → Bool) → IsRanked ns → Placed ns → Good ns wanted
     → (h : ℕ → CaseToken) → Solves ns (λ x. own (h x)) h → OneToken ns wanted h
 one_token ns wanted r w good h s = record {

@@ -99,6 +99,7 @@ enough ns rank o c (suc k) (suc m) x h i =
     pulled_same ns x (c x) (fires ns c k) (fires ns c m) (λ y e. let lt : rank y < rank x = o.rises y x e in
     enough ns rank o c k m y (omega arith) (omega arith))
 
+-- each node's token is what it gives where its producers' tokens are those of the table and its bit is c's
 abbrev pub Solves : List Node → (ℕ → Bool) → (ℕ → CaseToken) → Type 0
 Solves ns c h = (x : ℕ) → h x ≡ pulled (slice_get ns x) (c x) (λ q. first ns q h)
 

@@ -48,6 +48,7 @@ only_at ns rank o a g t (suc k) x l =
     t x ∙ gives_below ns (a x) g (pulled ns a k) x (λ y e. let up : rank y < rank x = o.rises y x e in
     only_at ns rank o a g t k y (omega arith))
 
+-- in nodes without a cycle a table has for each node what is pulled there
 pub only_table : (ns : List Node) → IsRanked ns → (a : Computes) (g : ℕ → Answer) → IsTable ns a g
     → (x : ℕ) → g x ≡ pulled ns a deepest x
 only_table ns r a g t x = only_at ns r.0 r.1 a g t deepest x (let o : Ranked ns r.0 = r.1 in

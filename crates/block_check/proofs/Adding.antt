@@ -56,6 +56,7 @@ or_sum true m n = refl
 or_sum false zero n = ap (nat_lt 0) (omega arith)
 or_sum false (suc m) n = let lt : 0 < suc m + n = omega arith in grind arith
 
+-- what is added for some cases and then for others is added for both together
 pub added_both : (ns : List Node) (ps qs : List (List Bool)) (c0 c1 c2 : ℕ) (t0 t1 t2 n0 n1 n2 :
     List Bool) → Added ns ps c0 c1 t0 t1 n0 n1 → Added ns qs c1 c2 t1 t2 n1 n2 →
     Added ns (ps ++ qs) c0 c2 t0 t2 n0 n2
@@ -111,6 +112,7 @@ drop_at order at h = let one : suc at ≡ at + 1 = omega arith in go order at h
     go (x ∷ xs) zero h = refl
     go (x ∷ xs) (suc at) h = go xs at (omega arith)
 
+-- where more than 256 cases were found, what is added from the next node on is added from this one
 pub at_full : (ns : List Node) (order : List ℕ) (at : ℕ) (c : List Bool) (c0 c1 : ℕ) (t0 t1 n0 n1 :
     List Bool) → at < length order → AddedAt ns order (at + 1) c c0 c1 t0 t1 n0 n1 → 256 < c1 →
     AddedAt ns order at c c0 c1 t0 t1 n0 n1
@@ -129,6 +131,8 @@ at_without ns order at c c0 c1 t0 t1 n0 n1 h a e =
     (subst (λ l. Added ns l c0 c1 t0 t1 n0 n1) (sym (append_nil (others ns (drop (at + 1)
     order) c))) a))
 
+-- where a node has a bit, what is added without it, for the case with it, and behind it is added from this node
+-- on
 pub at_with : (ns : List Node) (order : List ℕ) (at : ℕ) (c d : List Bool) (c0 c1 c2 c3 : ℕ) (t0 t1
     t2 t3 n0 n1 n2 n3 : List Bool) → at < length order →
     d ≡ slice_set c (get_or order at 0) true → has_bit ns c (get_or order at 0) ≡ true →
@@ -145,6 +149,7 @@ at_with ns order at c d c0 c1 c2 c3 t0 t1 t2 t3 n0 n1 n2 n3 h s e a b f =
     (added_both ns _ _ c0 c1 c3 t0 t1 t3 n0 n1 n3 a (added_both ns (d ∷ []) (others ns
     (drop (at + 1) order) d) c1 c2 c3 t1 t2 t3 n1 n2 n3 b f))))
 
+-- a bit that is set and then given back leaves the case as it was
 pub restore : (c : List Bool) (x : ℕ) (v : Bool) → slice_set (slice_set c x v) x (get_or c x false)
     ≡ c
 restore [] x v = refl
@@ -174,12 +179,14 @@ walk_others ns (x ∷ xs) c t = go (has_bit ns c x) (walk_others ns xs c t) (wal
 abbrev pub blank : Node
 blank = record { slot = 0; role = Empty; sense = Always; first = 0; second = 0; below = 0 }
 
+-- a node that fires adds the tokens that it sends to a place
 pub count_more : (ns : List Node) (x : ℕ) (n : Node) (f : ℕ → CaseToken) (q old new : ℕ) →
     slice_get ns x ≡ Some n → present (f x) ≡ true → old ≡ tokens (take x ns) f q →
     new ≡ old + hits (targets n) q → new ≡ tokens (take (x + 1) ns) f q
 count_more ns x n f q old new e p a b = b ∙ ap₂ (λ k m. k + m) a (sym (weighed_there (f x) (hits
     (targets n) q) p)) ∙ sym (tokens_more ns x n f q e)
 
+-- a node that does not fire adds no token to a place
 pub count_same : (ns : List Node) (x : ℕ) (n : Node) (f : ℕ → CaseToken) (q old : ℕ) →
     slice_get ns x ≡ Some n → present (f x) ≡ false → old ≡ tokens (take x ns) f q →
     old ≡ tokens (take (x + 1) ns) f q
@@ -187,6 +194,7 @@ count_same ns x n f q old e p a = a ∙ sym (omega arith)
     ∙ ap (λ m. tokens (take x ns) f q + m) (sym (weighed_absent (f x) (hits (targets n) q) p))
     ∙ sym (tokens_more ns x n f q e)
 
+-- each node sends at most two tokens to a place
 pub room_more : (n : Node) (q x old new : ℕ) → old ≤ 2 * x → new ≡ old + hits (targets n) q →
     new ≤ 2 * (x + 1)
 room_more n q x old new a b = let two = hits_le n q in omega (arith, a, b, two)

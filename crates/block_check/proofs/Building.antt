@@ -16,6 +16,7 @@ or_none : (a : Bool) → (a || false) ≡ a
 or_none true = refl
 or_none false = refl
 
+-- a load of a number is among the first k + 1 instructions where it is among the first k or is instruction k
 pub has_load_more : (is : List (Option Inst)) (k n : ℕ) (found new : Bool) → k < length is →
     found ≡ has_load (take k is) n → new ≡ (found || loads (get_or is k None) n) →
     new ≡ has_load (take (k + 1) is) n
@@ -29,6 +30,7 @@ has_load_more is k n found new lt a b = let one : suc k ≡ k + 1 = omega arith 
     go (i ∷ is) (suc k) lt = sym (or_move (loads i n) (has_load (take k is) n) (loads (get_or is k
         None) n)) ∙ ap (λ v. loads i n || v) (go is k (omega arith))
 
+-- a number is among the first k + 1 items where it is among the first k or is item k
 pub has_item_more : (l : List ℕ) (k n : ℕ) (found new : Bool) → k < length l →
     found ≡ has_item (take k l) n → new ≡ (found || (get_or l k 0 == n)) →
     new ≡ has_item (take (k + 1) l) n
@@ -55,6 +57,7 @@ reads_more rs i d old new lt a b = let one : suc i ≡ i + 1 = omega arith in b
     go (r ∷ rs) zero lt = refl
     go (r ∷ rs) (suc i) lt = ap (λ v. read_node r ∷ v) (go rs i (omega arith))
 
+-- the nodes of the first j + 1 slots are those of the first j and that of slot j
 pub insts_more : (front : List Node) (is : List (Option Inst)) (j : ℕ) (old new : List Node) →
     j < length is → old ≡ front ++ inst_nodes 0 (take j is) →
     new ≡ old ++ (inst_node j (get_or is j None) ∷ []) →

@@ -95,6 +95,7 @@ high_slot (m ∷ ms) q f h le = ap₂ (λ p r. p || r) here (high_slot ms q (λ 
         go true = refl
         go false = refl
 
+-- past its end a list has no bit set
 pub bit_past : (l : List Bool) (x : ℕ) → length l ≤ x → bit l x ≡ false
 bit_past [] x h = refl
 bit_past (v ∷ vs) zero h = absurd (omega arith)
@@ -133,6 +134,7 @@ slot_none (m ∷ ms) s f h = ap₂ (λ p r. p || r) (ap (λ v. is_copy m.role &&
     both true false = refl
     both false b = refl
 
+-- what leads to a slot is the same without nodes that lead nowhere
 pub slot_spare : (ns : List Node) (used s : ℕ) (f : ℕ → Bool) → ((x : ℕ) → used ≤ x → f x ≡ false) →
     at_slot (take used ns) s f ≡ at_slot ns s f
 slot_spare ns zero s f h = sym (slot_none ns s f (λ x. h x (omega arith)))
@@ -157,6 +159,7 @@ nowhere_led ns used x f all s le = go (slice_get ns x) refl
         ∙ through_slots ns 700 700 f
         ∙ ap₂ (λ a b. a || b) high high
 
+-- one step along the chains, made for the used nodes only, is one step for all nodes
 pub led_spare : (ns : List Node) (used : ℕ) (left lead lead' : List Bool) → AllInPlace ns →
     Spare ns used → length left ≡ 512 → ((s : ℕ) → s < 512 → bit left s ≡ at_slot ns s (bit lead)) →
     ((x : ℕ) → x < used → bit lead' x ≡ leads_at (slice_get ns x) (bit left)) →
@@ -209,6 +212,8 @@ many_led ns rank o f (suc k) (suc m) x h i =
     leads_same ns x (led_from ns f k) (leads ns m) (λ y e. let up : rank x < rank y = o.rises x y e in
     many_led ns rank o f k m y (omega arith) (omega arith))
 
+-- steps along the chains that have come to rest, or are as many as nodes may be, tell which nodes lead to a
+-- predicate
 pub all_led : (ns : List Node) → IsRanked ns → (k : ℕ) (f g : ℕ → Bool) → k ≤ most_nodes → ((x : ℕ) →
     g x ≡ led_from ns f k x) → ((x : ℕ) → g x ≡ leads_from ns (slice_get ns x) g) ⊎ (most_nodes ≤ k) →
     (x : ℕ) → g x ≡ leads ns deepest x
@@ -217,12 +222,15 @@ all_led ns r k f g le e (inl s) x = only_led ns r.0 r.1 g s deepest x (let d : d
 all_led ns r k f g le e (inr all) x = e x ∙ many_led ns r.0 r.1 f k deepest x (omega arith) (let d
     : deepest ≡ most_nodes = deepest_is in omega arith)
 
+-- a slot is marked by the first x + 1 nodes where it is by the first x, or where node x is a copy there that
+-- leads on
 pub mark_more : (ns : List Node) (x : ℕ) (n : Node) (s : ℕ) (f : ℕ → Bool) (old new : Bool) →
     slice_get ns x ≡ Some n → old ≡ at_slot (take x ns) s f →
     new ≡ (old || (is_copy n.role && ((n.slot == s) && f x))) → new ≡ at_slot (take (x + 1) ns) s f
 mark_more ns x n s f old new e a b = b ∙ ap (λ v. v || (is_copy n.role && ((n.slot == s) && f x))) a
     ∙ sym (at_slot_more ns x n s f e)
 
+-- an empty slot at the end names no predicate
 pub spare_names_none : (ns : List Node) (used x : ℕ) (n : Node) → Spare ns used → used ≤ x →
     slice_get ns x ≡ Some n → names_predicate (targets n) ≡ false
 spare_names_none ns used x n s le e = let spare = s x n le e in
@@ -248,5 +256,6 @@ none_lead ns h (suc k) x = go (slice_get ns x) refl (λ y. none_lead ns h k y)
     go None e r = refl
     go (Some n) e r = ap₂ (λ a b. a || b) (h x n e) (none_through ns (targets n) (leads ns k) r)
 
+-- where no node names a predicate, none leads to one
 pub no_leads : (ns : List Node) → NoneNamesPredicate ns → (x : ℕ) → false ≡ leads ns deepest x
 no_leads ns h x = sym (none_lead ns h deepest x)

@@ -228,6 +228,7 @@ all_waiting ns ranks f q h g = go ns f (waiting ranks) (λ k lt. g k lt
     go (n ∷ ns) f g h = ap₂ (λ a b. a + b) (ap (λ t. weighed t (hits (targets n) q)) (h 0 (omega
         arith))) (go ns (λ y. f (suc y)) (λ y. g (suc y)) (λ k lt. h (suc k) (omega arith)))
 
+-- a node whose places wait for no token is fed by no node that is not placed yet
 pub not_blocked : (ns : List Node) (ranks counts : List ℕ) (n : Node) (l r g any : Bool) →
     Counting ns ranks counts → InPlace n →
     l ≡ nat_lt 0 (get_or counts n.slot 0) → r ≡ nat_lt 0 (get_or counts (128 + n.slot) 0) →
@@ -241,6 +242,7 @@ not_blocked ns ranks counts n l r g any k p a b c s e =
     let w = or_falses _ _ v.1 in
     is_free ns ranks counts n l r g any k p (sym a ∙ u.0) (sym b ∙ v.0) (sym c ∙ w.0) (s w.1)
 
+-- a node of which a place waits for a token is stuck
 pub blocked : (ns : List Node) (ranks counts : List ℕ) (n : Node) (l r g any : Bool) →
     Counting ns ranks counts → InPlace n →
     l ≡ nat_lt 0 (get_or counts n.slot 0) → r ≡ nat_lt 0 (get_or counts (128 + n.slot) 0) →
@@ -253,12 +255,14 @@ blocked ns ranks counts n l r g any k p a b c s e =
     ∙ ap (λ z. nat_lt 0 (get_or counts n.slot 0) || (nat_lt 0 (get_or counts (128 + n.slot) 0)
     || (z || any))) c) ∙ e)
 
+-- a place waits for at least the tokens of each node that is not placed yet
 pub held : (ns : List Node) (ranks counts : List ℕ) (x : ℕ) (n : Node) (q : ℕ) →
     Counting ns ranks counts → q < 768 → slice_get ns x ≡ Some n → x < length ranks →
     get_or ranks x 0 ≡ 255 → hits (targets n) q ≤ get_or counts q 0
 held ns ranks counts x n q k lt e l r = let p = placed_one ns ranks x 0 n q e l r (omega arith) in
     let c = k q lt in omega (arith, p, c)
 
+-- where a node is placed and its tokens are taken off the counts, these count the nodes that are left
 pub counts_on : (ns : List Node) (ranks ranks' counts counts' : List ℕ) (x v : ℕ) (n : Node) →
     Counting ns ranks counts → slice_get ns x ≡ Some n → x < length ranks → get_or ranks x 0 ≡ 255 →
     v < 255 → ranks' ≡ slice_set ranks x v →

@@ -121,6 +121,7 @@ none_full ns u q c h = some_full (λ k. k ≡ 0) ns u q c.spare c.within h
 few_full : (ns : List Node) (u : ℕ) → CutAt ns u → cases (take u ns) ≤ 256 → cases ns ≤ 256
 few_full ns u c h = subst (λ k. k ≤ 256) (sym (cases_cut ns u c.spare c.within)) h
 
+-- where the nodes before the empty slots are good, all nodes are
 pub good_full : (ns : List Node) (u : ℕ) (wanted : ℕ → Bool) → CutAt ns u →
     Good (take u ns) wanted → Good ns wanted
 good_full ns u wanted c g = record {
@@ -132,6 +133,7 @@ good_full ns u wanted c g = record {
   one_exit = λ h. g.one_exit (two_cut ns u 448 c h);
 }
 
+-- a fault of the nodes before the empty slots is a fault of all nodes
 pub fault_full : (ns : List Node) (u : ℕ) (wanted : ℕ → Bool) → CutAt ns u → (f : NodeFault) →
     IsFault (take u ns) wanted f → IsFault ns wanted f
 fault_full ns u wanted c net.Cycle g = (g.0, walk_full ns u g.0 g.0 g.1)
@@ -171,6 +173,7 @@ fault_full ns u wanted c net.TwoExits g = record {
   two = two_full ns u 448 c g.two;
 }
 
+-- the nodes before the empty slots lie in their places where all nodes do
 pub places_cut : (ns : List Node) (u : ℕ) → AllInPlace ns → AllInPlace (take u ns)
 places_cut ns zero a k d lt = absurd (omega arith)
 places_cut [] (suc u) a k d lt = absurd (omega arith)

@@ -40,6 +40,7 @@ get_low [] (suc u) x h = refl
 get_low (n ∷ ns) (suc u) zero h = refl
 get_low (n ∷ ns) (suc u) (suc x) h = get_low ns u x (omega arith)
 
+-- behind the first u nodes there is no node among them
 pub get_high : (ns : List Node) (u x : ℕ) → u ≤ x → slice_get (take u ns) x ≡ None
 get_high ns zero x h = refl
 get_high [] (suc u) x h = refl
@@ -228,6 +229,7 @@ tokens_cut ns u c d q s h =
 abbrev pub Sometimes : (ℕ → Type 0) → List Node → ℕ → Type 0
 Sometimes P ns q = InSomeCase ns (λ c. P (tokens ns (token ns c) q))
 
+-- what is so in some case of all nodes is so in some case of those before the empty slots
 pub some_cut : (P : ℕ → Type 0) (ns : List Node) (u q : ℕ) → Spare ns u → u ≤ length ns →
     Sometimes P ns q → Sometimes P (take u ns) q
 some_cut P ns u q s le g = (
@@ -237,6 +239,7 @@ some_cut P ns u q s le g = (
       g.1.bits)))) g.2,
 )
 
+-- what is so in some case of the nodes before the empty slots is so in some case of all
 pub some_full : (P : ℕ → Type 0) (ns : List Node) (u q : ℕ) → Spare ns u → u ≤ length ns →
     Sometimes P (take u ns) q → Sometimes P ns q
 some_full P ns u q s le g = (
@@ -273,6 +276,7 @@ bool_same true b h g = sym (h refl)
 bool_same false true h g = g refl
 bool_same false false h g = refl
 
+-- the nodes before the empty slots have as many cases as all nodes
 pub cases_cut : (ns : List Node) (u : ℕ) → Spare ns u → u ≤ length ns →
     cases ns ≡ cases (take u ns)
 cases_cut ns u s le =

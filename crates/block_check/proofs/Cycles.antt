@@ -38,6 +38,7 @@ eq_is a b e = grind arith
 pub eq_not : (a b : ℕ) → (a == b) ≡ false → a ≡ b → ⊥
 eq_not a b e i = grind arith
 
+-- a number below n + 1 that is not n is below n
 pub near : (z n : ℕ) → z < suc n → (z ≡ n → ⊥) → z < n
 near z n lt ne = go (nat_lt z n) refl
   where
@@ -108,11 +109,13 @@ inside [] x e = absurd (cc)
 inside (r ∷ rs) zero e = omega arith
 inside (r ∷ rs) (suc x) e = let h = inside rs x e in omega (arith, h)
 
+-- each number below the count of nodes is that of a node
 pub some_node : (ns : List Node) (x : ℕ) → x < length ns → (n : Node) × (slice_get ns x ≡ Some n)
 some_node [] x h = absurd (omega arith)
 some_node (m ∷ ms) zero h = (m, refl)
 some_node (m ∷ ms) (suc x) h = some_node ms x (omega arith)
 
+-- where all nodes that are left are stuck, the nodes have a cycle
 pub stuck_cycle : (ns : List Node) (ranks order : List ℕ) (placed : ℕ) →
     PartOrder ns ranks order placed → AllStuck ns ranks (length ns) → placed < length ns → HasCycle ns
 stuck_cycle ns ranks order placed p s lt =

@@ -18,6 +18,7 @@ rises ns rank o x y (Step e) = o.rises x y e
 rises ns rank o x y (Then {y = z} e w) = let a : rank x < rank z = o.rises x z e in
     let b = rises ns rank o z y w in omega (arith, a, b)
 
+-- nodes with an order along their edges have no cycle
 pub ranked_acyclic : (ns : List Node) → (rank : ℕ → ℕ) × Ranked ns rank → IsAcyclic ns
 ranked_acyclic ns r h = let lt = rises ns r.0 r.1 h.0 h.0 h.1 in omega (arith, lt)
 
@@ -91,6 +92,7 @@ is_zero k e = grind arith
 zero_is : (k : ℕ) → k ≡ 0 → (k == 0) ≡ true
 zero_is k h = grind arith
 
+-- a search that starts without marks at the case of no bit, and goes on to all others, explores every case
 pub explored : (ns : List Node) (order : List ℕ) (bits : List Bool) (c1 c2 : ℕ) (t0 t1 t2 n0 n1 n2
     : List Bool) → IsOrdered ns order → length bits ≡ length ns → ((k : ℕ) → k < length ns →
     bit bits k ≡ false) →

@@ -180,17 +180,20 @@ insts_in_place j (i ∷ is) b h zero d lt = inst_in_place j i (omega arith) (h 0
 insts_in_place j (i ∷ is) b h (suc k) d lt = insts_in_place (suc j) is (omega arith) (λ m e l. h
     (suc m) e (omega arith)) k d (omega arith)
 
+-- the nodes of a block that fits lie in their places
 pub nodes_in_place : (b : Block) → FitsBlock b → AllInPlace (nodes_of b)
 nodes_in_place b f = reads_in_place b.reads.items (inst_nodes 0 b.insts.items) f.each_read
     (insts_in_place 0 b.insts.items (let s : length b.insts.items ≡ 128 = f.insts in
     omega arith) f.each_inst)
 
+-- what an answer without a fault says of nodes and marks it says of the same nodes and the same marks
 pub ok_same : (r : Result (Unit {0}) NodeFault) (ns ms : List Node) (w : List Bool) (v : ℕ → Bool) →
     ms ≡ ns → ((q : ℕ) → q < 449 → bit w q ≡ v q) → IfOk r (λ u. Good ms (bit w)) →
     IfOk r (λ u. Good ns v)
 ok_same (Ok u) ns ms w v e h g = good_same ns w v h (subst (λ l. Good l (bit w)) e g)
 ok_same (Err f) ns ms w v e h g = g
 
+-- what an answer with a fault says of nodes and marks it says of the same nodes and the same marks
 pub err_same : (r : Result (Unit {0}) NodeFault) (ns ms : List Node) (w : List Bool) (v : ℕ →
     Bool) → ms ≡ ns → ((q : ℕ) → q < 449 → bit w q ≡ v q) → IfErr r (λ f. IsFault ms (bit w) f) →
     IfErr r (λ f. IsFault ns v f)

@@ -10,6 +10,7 @@ use Rattle.block_cases.proofs.Alike.{both_true, and_true}
 
 -- tests -----------------------------------------------------------------------------------------
 
+-- two tests of which each implies the other are one
 pub same_test : (a b : Bool) → (a ≡ true → b ≡ true) → (b ≡ true → a ≡ true) → a ≡ b
 same_test true b h i = sym (h refl)
 same_test false true h i = i refl
@@ -22,6 +23,7 @@ not_true false h = refl
 
 -- counting --------------------------------------------------------------------------------------
 
+-- two tests that agree on the lists of a length pass as many of them
 pub count_same : (n : ℕ) (p q : List Bool → Bool) → ((l : List Bool) → length l ≡ n → p l ≡ q l) →
     count n p ≡ count n q
 count_same zero p q h = ap one_if (h [] refl)
@@ -33,6 +35,7 @@ split_one true true = refl
 split_one true false = refl
 split_one false b = refl
 
+-- the lists that pass a test are those that fail a second one and those that pass it too
 pub count_split : (n : ℕ) (p t : List Bool → Bool) → count n p ≡ count n (λ l. p l
     && no (t l)) + count n (λ l. p l && t l)
 count_split zero p t = split_one (p []) (t [])
@@ -41,6 +44,7 @@ count_split (suc n) p t =
     let b = count_split n (λ l. p (true ∷ l)) (λ l. t (true ∷ l)) in
     omega (arith, a, b)
 
+-- of a test that each list fails none passes
 pub count_none : (n : ℕ) (p : List Bool → Bool) → ((l : List Bool) → length l ≡ n → p l ≡ false) →
     count n p ≡ 0
 count_none zero p h = ap one_if (h [] refl)
@@ -74,6 +78,7 @@ pub or_rest : (a b : Bool) → (a || b) ≡ true → a ≡ false → b ≡ true
 or_rest true b e h = absurd (cc)
 or_rest false b e h = e
 
+-- lists that agree but at the nodes in r have the same bit at each other node
 pub agree_at : (r : ℕ → Bool) (c l : List Bool) → length c ≡ length l → agree r c l ≡ true
     → (y : ℕ) →
     r y ≡ false → bit c y ≡ bit l y
@@ -84,6 +89,7 @@ agree_at r (u ∷ us) (v ∷ vs) s e zero h = same_bit_is u v (or_rest _ _ (and_
 agree_at r (u ∷ us) (v ∷ vs) s e (suc y) h = agree_at (λ z. r (suc z)) us vs (omega arith)
     (and_true _ _ e).1 y h
 
+-- lists that have the same bit at each node outside r agree but at the nodes in r
 pub agree_from : (r : ℕ → Bool) (c l : List Bool) → ((y : ℕ) → r y ≡ false → bit c y ≡ bit l y) →
     agree r c l ≡ true
 agree_from r [] l h = refl

@@ -54,6 +54,7 @@ no_number b o (Store s) h = h
 
 -- the answers ------------------------------------------------------------------------------------
 
+-- a number that is not below another is at least as great
 pub at_most : (p q : ℕ) → (p < q → ⊥) → q ≤ p
 at_most p q h = go (nat_lt p q) refl
   where
@@ -346,6 +347,7 @@ found_good b fits g (say.NoToken s) h = g.good.no_gap (place_of s) (takes_below 
 found_good b fits g say.NoExit h = g.good.exit h
 found_good b fits g say.TwoExits h = g.good.one_exit h
 
+-- a good block that fits is checked
 pub found_checked : (b : Block) → FitsBlock b → GoodBlock b → IsChecked b
 found_checked b fits g = record {
   fits = fits;

@@ -41,6 +41,7 @@ done_short image done queue rest b w q =
     let l = length-append done (b ∷ rest) in
     omega (arith, e, l)
 
+-- the next block of an image that fits does so too
 pub turn_fits : (image : Image) (done queue rest : List Block) (b : Block) → FitsImage image →
     done ++ queue ≡ image.blocks → queue ≡ b ∷ rest → FitsBlock b
 turn_fits image done queue rest b f w q =
@@ -49,6 +50,7 @@ turn_fits image done queue rest b f w q =
     ∙ middle done rest b b)
     (f.each (length done) b (done_short image done queue rest b w q))
 
+-- fewer than 2 ^ 32 blocks are done before the next one
 pub turn_count : (image : Image) (done queue rest : List Block) (b : Block) → FitsImage image →
     done ++ queue ≡ image.blocks → queue ≡ b ∷ rest → length done < 2 ^ 32
 turn_count image done queue rest b f w q =
@@ -65,6 +67,7 @@ turn_room image done queue rest b next f w n =
     let t : sum_by chunks image.blocks ≤ most_chunks = f.total in
     omega (arith, l, e, t, n)
 
+-- the blocks that are done with the next one, and those that are left, are the image's
 pub turn_whole : (image : Image) (done queue rest new : List Block) (b : Block) →
     done ++ queue ≡ image.blocks → queue ≡ b ∷ rest → new ≡ done ++ (b ∷ []) →
     new ++ rest ≡ image.blocks
@@ -75,11 +78,13 @@ one_is : (b : Block) → IsChecked b → All IsChecked (b ∷ [])
 one_is b h zero d lt = h
 one_is b h (suc k) d lt = absurd (omega arith)
 
+-- with the next block checked, each block that is done is
 pub turn_each : (done new : List Block) (b : Block) → All IsChecked done → IsChecked b →
     new ≡ done ++ (b ∷ []) → All IsChecked new
 turn_each done new b h k n = subst (All IsChecked) (sym n) (All-append IsChecked done (b ∷ []) h
     (one_is b k))
 
+-- with the chunk at which the next block begins, the list has the first chunks of all that are done
 pub turn_starts : (done new : List Block) (starts starts' : List ℕ) (b : Block) (next : ℕ) →
     starts ≡ first_chunks 0 done → next ≡ sum_by chunks done → new ≡ done ++ (b ∷ []) →
     starts' ≡ starts ++ (next ∷ []) → starts' ≡ first_chunks 0 new
@@ -88,6 +93,7 @@ turn_starts done new starts starts' b next s n w p =
     p ∙ ap (λ l. l ++ (next ∷ [])) s ∙ ap (λ k. first_chunks 0 done ++ (k ∷ [])) (sym zero_is)
     ∙ sym (starts_push 0 done b) ∙ ap (first_chunks 0) (sym w)
 
+-- with the chunks of the next block, the sum is that of all blocks that are done
 pub turn_next : (done new : List Block) (b : Block) (next next' : ℕ) → next ≡ sum_by chunks done →
     new ≡ done ++ (b ∷ []) → next' ≡ next + chunks b → next' ≡ sum_by chunks new
 turn_next done new b next next' n w p = p ∙ ap (λ k. k + chunks b) n ∙ sym (sum_push done b)
@@ -105,6 +111,7 @@ before_good done queue image w each k b lt e = subst IsChecked (got done queue k
     got (x ∷ xs) ys zero b lt e = cc
     got (x ∷ xs) ys (suc k) b lt e = got xs ys k b (omega arith) e
 
+-- where the next block is bad and those before it are checked, the image is refused for it
 pub turn_bad : (image : Image) (done queue rest : List Block) (b : Block) (r : ImageRefusal) →
     done ++ queue ≡ image.blocks → queue ≡ b ∷ rest → All IsChecked done →
     IsBadBlock b (length done) r → IsRefusal image r
@@ -121,16 +128,19 @@ turn_bad image done queue rest b (refusal.Bad number fault) w q each bad = recor
 
 -- what a checked image answers of its starts ---------------------------------------------------
 
+-- an image that fits has fewer than 2 ^ 32 blocks
 pub small_count : (image : Image) → FitsImage image → length image.blocks < 2 ^ 32
 small_count image f = let l = sum_least image.blocks in
     let t : sum_by chunks image.blocks ≤ most_chunks = f.total in omega (arith, l, t)
 
+-- the index of an image has one first chunk for each block
 pub indexed_length : (blocks : List Block) (starts bytes : List ℕ) (image : Image) →
     IsIndexed blocks starts bytes → image_of blocks bytes ≡ image →
     length starts ≡ length image.blocks
 indexed_length blocks starts bytes image i v = ap length i.starts_are ∙ starts_length 0 blocks
     ∙ ap (λ (k : Image). length k.blocks) v
 
+-- item k of an image's index is the chunk at which block k begins
 pub indexed_at : (blocks : List Block) (starts bytes : List ℕ) (image : Image) (k d : ℕ) →
     IsIndexed blocks starts bytes → image_of blocks bytes ≡ image → k < length image.blocks →
     get_or starts k d ≡ chunk_of image.blocks k
@@ -149,6 +159,7 @@ indexed_at blocks starts bytes image k d i v lt =
     any_default (x ∷ l) zero d h = refl
     any_default (x ∷ l) (suc k) d h = any_default l k d (omega arith)
 
+-- a search of the index for a chunk finds the block that begins there, or tells that none does
 pub indexed_search : (blocks : List Block) (starts bytes slice : List ℕ) (image : Image) (chunk :
     ℕ) (r : Result ℕ ℕ) → IsIndexed blocks starts bytes → image_of blocks bytes ≡ image →
     slice ≡ starts →

@@ -40,5 +40,6 @@ faultless_good b f g = record {
   ranked = acyclic_ranked (nodes_of b) (nodes_few b f) (λ h. g say.Cycle h);
 }
 
+-- a block that fits is good by the rules of its cases exactly where it has no fault
 pub one_good : (b : Block) → FitsBlock b → (IsGood b ↔ GoodBlock b)
 one_good b f = (faultless_good b f, found_good b f)

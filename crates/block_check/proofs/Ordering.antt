@@ -42,6 +42,7 @@ one_fewer (a ∷ l) zero v h e lt =
     omega (arith, s, t)
 one_fewer (a ∷ l) (suc x) v h e lt = let k = one_fewer l x v (omega arith) e lt in omega (arith, k)
 
+-- where a node is not placed yet, fewer nodes are placed than there are
 pub some_room : (ns : List Node) (ranks order : List ℕ) (placed x : ℕ) →
     PartOrder ns ranks order placed → x < length ns → get_or ranks x 0 ≡ 255 → placed < length ns
 some_room ns ranks order placed x p lt e =
@@ -53,6 +54,7 @@ some_room ns ranks order placed x p lt e =
 below_255 : (r : ℕ) → r ≤ 255 → (r ≡ 255 → ⊥) → r < 255
 below_255 r le ne = near r 255 (omega arith) ne
 
+-- where a node that none of the nodes left feeds is placed next, the order of what is placed goes on
 pub placing_more : (ns : List Node) (ranks order ranks' order' : List ℕ) (placed x : ℕ) (n : Node) →
     PartOrder ns ranks order placed → length ns ≤ most_nodes → x < length ns → slice_get ns x ≡ Some n →
     get_or ranks x 0 ≡ 255 →
@@ -240,6 +242,7 @@ default_any [] k d h = absurd (omega arith)
 default_any (a ∷ l) zero d h = refl
 default_any (a ∷ l) (suc k) d h = default_any l k d (omega arith)
 
+-- where all nodes are placed, they are in order
 pub all_ordered : (ns : List Node) (ranks order : List ℕ) (placed : ℕ) →
     PartOrder ns ranks order placed → length ns ≤ most_nodes → placed ≡ length ns → IsOrdered ns order
 all_ordered ns ranks order placed p size e = (
@@ -282,6 +285,7 @@ full_unplaced (r ∷ rs) (suc n) s h =
     let q = full_unplaced rs n (omega arith) (λ k lt. h (suc k) (omega arith)) in
     omega (arith, p, q)
 
+-- with no rank given yet, none of the nodes is placed, and these are in order
 pub placing_none : (ns : List Node) (ranks order : List ℕ) → length ranks ≡ length ns →
     length order ≡ length ns → ((k : ℕ) → k < length ns → get_or ranks k 0 ≡ 255) →
     PartOrder ns ranks order 0

@@ -47,6 +47,7 @@ lt_more q n h = go (nat_lt q n) refl
             by true e = grind arith
             by false e = absurd (h (let m : q < n + 1 = grind arith in omega arith))
 
+-- with one declared write more marked, exactly the declared writes so far are marked
 pub write_marked : (l l' : List Bool) (w q : ℕ) → length l ≡ 449 → 384 + w < 449 →
     l' ≡ slice_set l (384 + w) true → bit l q ≡ (nat_le 384 q && nat_lt q (384 + w)) →
     bit l' q ≡ (nat_le 384 q && nat_lt q (384 + (w + 1)))
@@ -67,6 +68,7 @@ write_marked l l' w q size lt e h = ap (λ k. bit k q) e ∙ go (q == 384 + w) r
         ∙ ap (λ v. nat_le 384 q && v) (lt_more q (384 + w) (eq_not q (384 + w) i)
         ∙ ap (nat_lt q) next)
 
+-- with one number of the mask more marked, exactly the numbers of the mask so far are marked
 pub number_marked : (l l' : List Bool) (n q : ℕ) (v : Bool) (writes : Bool) (mask : ℕ → Bool) →
     length l ≡ 449 → 416 + n < 449 → l' ≡ slice_set l (416 + n) v → v ≡ mask n → (q ≡ 416 + n →
     writes ≡ false) →
@@ -113,6 +115,7 @@ no_write q = go (nat_le 384 q) refl
     go true e = lt_false q (384 + 0) (let l : 384 ≤ q = grind arith in omega arith)
     go false e = refl
 
+-- before the first number nothing is added to the marks of the writes
 pub no_number : (q : ℕ) (writes : Bool) (mask : Bool) → writes ≡ (writes || (nat_le 416 q
     && (nat_lt q (416 + 0) && mask)))
 no_number q true mask = refl

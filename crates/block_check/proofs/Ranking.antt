@@ -143,21 +143,25 @@ copies_at zero v k lt = absurd (omega arith)
 copies_at (suc n) v zero lt = refl
 copies_at (suc n) v (suc k) lt = copies_at n v k (omega arith)
 
+-- nodes without a cycle, no more than a block may have, have an order along their edges
 pub acyclic_ranked : (ns : List Node) → length ns ≤ most_nodes → IsAcyclic ns → IsRanked ns
 acyclic_ranked ns size a = ranked_from ns size a (length ns) (copies (length ns) 255) (copies
     (length ns) 0) 0 (placing_none ns (copies (length ns) 255) (copies (length ns) 0)
     (copies_length (length ns) 255) (copies_length (length ns) 0) (λ k lt. copies_at (length ns)
     255 k lt)) (omega arith)
 
+-- each slot is one node
 pub insts_count : (j : ℕ) (is : List (Option Inst)) → length (inst_nodes j is) ≡ length is
 insts_count j [] = refl
 insts_count j (i ∷ is) = ap suc (insts_count (suc j) is)
 
+-- the nodes of a block are its reads and the others
 pub nodes_count : (rs : List ReadSlot) (rest : List Node) →
     length (map read_node rs ++ rest) ≡ length rs + length rest
 nodes_count [] rest = sym (omega arith)
 nodes_count (r ∷ rs) rest = let h = nodes_count rs rest in omega (arith, h)
 
+-- a block that fits has no more nodes than a block may have
 pub nodes_few : (b : Block) → FitsBlock b → length (nodes_of b) ≤ most_nodes
 nodes_few b f =
     let a = nodes_count b.reads.items (inst_nodes 0 b.insts.items) in

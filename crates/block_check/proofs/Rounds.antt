@@ -44,6 +44,7 @@ first_all ns q f = λ i. first (drop 0 ns) q (λ y. zero_of y i)
     zero_of : (y : ℕ) → f (0 + y) ≡ f y
     zero_of y = ap f (omega arith)
 
+-- where the tokens below x are right, and that of x is set rightly, the tokens up to x are right
 pub set_more : (ts us : List CaseToken) (x : ℕ) (t : CaseToken) (g : ℕ → CaseToken) →
     x < length ts → us ≡ slice_set ts x t → ((y : ℕ) → y < x → tok_at ts y ≡ g y) → t ≡ g x →
     (y : ℕ) → y < x + 1 → tok_at us y ≡ g y
@@ -58,6 +59,7 @@ set_more ts us x t g lt e h i y below = ap (λ l. tok_at l y) e ∙ go ts x lt g
     go (v ∷ vs) (suc x) lt g h i (suc y) below = go vs x (omega arith) (λ z. g (suc z)) (λ z l. h
         (suc z) (omega arith)) i y (omega arith)
 
+-- to set a token to what it is changes none
 pub set_other : (ts : List CaseToken) (x y : ℕ) (t : CaseToken) → (tok_at ts x ≡ t) →
     x < length ts → tok_at (slice_set ts x t) y ≡ tok_at ts y
 set_other [] x y t e lt = refl
@@ -66,6 +68,7 @@ set_other (v ∷ vs) zero (suc y) t e lt = refl
 set_other (v ∷ vs) (suc x) zero t e lt = refl
 set_other (v ∷ vs) (suc x) (suc y) t e lt = set_other vs x y t e (omega arith)
 
+-- to set token x changes none behind it
 pub set_away : (ts : List CaseToken) (x y : ℕ) (t : CaseToken) → x < y →
     tok_at (slice_set ts x t) y ≡ tok_at ts y
 set_away [] x y t lt = refl
@@ -74,11 +77,13 @@ set_away (v ∷ vs) zero (suc y) t lt = refl
 set_away (v ∷ vs) (suc x) zero t lt = absurd (omega arith)
 set_away (v ∷ vs) (suc x) (suc y) t lt = set_away vs x y t (omega arith)
 
+-- past the end of a list of tokens none is present
 pub far : (ts : List CaseToken) (x : ℕ) → length ts ≤ x → tok_at ts x ≡ Absent
 far [] x h = refl
 far (t ∷ ts) zero h = absurd (omega arith)
 far (t ∷ ts) (suc x) h = far ts x (omega arith)
 
+-- past the end of the nodes there is none
 pub far_node : (ns : List Node) (x : ℕ) → length ns ≤ x → slice_get ns x ≡ None
 far_node [] x h = refl
 far_node (n ∷ ns) zero h = absurd (omega arith)
@@ -106,6 +111,7 @@ rounds_are ns rank o c h (suc k) (suc m) x lt le = pulled_same ns x (c x) (round
     (fires ns c m) (λ y e. let up : rank y < rank x = o.rises y x e in
     rounds_are ns rank o c h k m y (omega arith) (omega arith))
 
+-- rounds that have come to rest, or are as many as nodes may be, give each node's token
 pub settled_from : (ns : List Node) (r : (rank : ℕ → ℕ) × Ranked ns rank) (c : ℕ → Bool) (h g : ℕ →
     CaseToken) (k : ℕ) → ((x : ℕ) → g x ≡ rounds_from ns c h k x) → k ≤ most_nodes → ((x : ℕ) →
     g x ≡ once ns c g x) ⊎ (most_nodes ≤ k) → (x : ℕ) → g x ≡ fires ns c deepest x
@@ -113,6 +119,8 @@ settled_from ns r c h g k e le (inl s) x = only_one ns r.0 r.1 c g s x
 settled_from ns r c h g k e le (inr all) x = e x ∙ rounds_are ns r.0 r.1 c h k deepest x (let b :
     r.0 x < most_nodes = r.1.below x in omega arith) (let d : deepest ≡ most_nodes = deepest_is in omega arith)
 
+-- a place gets the first token of those from node k on: the one of node k where it names the place, else what
+-- it gets behind it
 pub spread_more : (ns : List Node) (x k : ℕ) (n : Node) (q : ℕ) (f : ℕ →
     CaseToken) (t u v : CaseToken) → slice_get ns k ≡ Some n → t ≡ f k → suc k ≡ x →
     u ≡ first (drop x ns) q (λ y. f (x + y)) → v ≡ or_else (cond (names (targets n) q) t Absent) u →
@@ -124,6 +132,7 @@ spread_more ns x k n q f t u v e d s a b =
     ∙ ap (λ w. first (drop w ns) q (λ y. f (w + y))) (sym s))
     ∙ sym (first_step ns k n q f e)
 
+-- what a node gives is what the node of its number gives
 pub pulled_here : (ns : List Node) (x : ℕ) (n : Node) (v : Bool) (f : ℕ →
     CaseToken) (t : CaseToken) → slice_get ns x ≡ Some n → t ≡ pulled (Some n) v f →
     t ≡ pulled (slice_get ns x) v f
@@ -134,6 +143,7 @@ some_lt [] x n e = absurd (cc)
 some_lt (m ∷ ms) zero n e = omega arith
 some_lt (m ∷ ms) (suc x) n e = let h = some_lt ms x n e in omega (arith, h)
 
+-- the slot of a node is below 512
 pub slot_fits : (ns : List Node) (x : ℕ) → AllInPlace ns → (n : Node) → slice_get ns x ≡ Some n →
     n.slot < 512
 slot_fits ns x all n e = subst (λ k. k.slot < 512) (get_or_from_slice_get ns x n n e) (all x n

@@ -36,10 +36,12 @@ seen_at l p v q lt e low = go (p == q) refl
         ∙ ap (λ k. min 2 (get_or l k 0 + 1)) is
     go false i = set_there l p q v (eq_not p q i) ∙ at_most_two (get_or l q 0) low
 
+-- a count up to 2 that is seen after two additions is the one of both together
 pub seen_two : (old mid new x y : ℕ) → mid ≡ min 2 (old + x) → new ≡ min 2 (mid + y) →
     new ≡ min 2 (old + (x + (y + 0)))
 seen_two old mid new x y a b = omega (arith, a, b)
 
+-- a count that is seen is at most 2
 pub seen_low : (old k x : ℕ) → k ≡ min 2 (old + x) → k ≤ 2
 seen_low old k x a = omega (arith, a)
 
@@ -54,6 +56,7 @@ seen_more ns x n f q old new e p a b = seen_sum (tokens (take x ns) f q) old new
     q) a b ∙ ap (λ k. min 2 k) (count_more ns x n f q (tokens (take x ns) f q) (tokens (take x ns)
     f q + hits (targets n) q) e p refl refl)
 
+-- a node that does not fire leaves the count of a place as it is seen
 pub seen_same : (ns : List Node) (x : ℕ) (n : Node) (f : ℕ → CaseToken) (q old : ℕ) →
     slice_get ns x ≡ Some n → present (f x) ≡ false → old ≡ min 2 (tokens (take x ns) f q) →
     old ≡ min 2 (tokens (take (x + 1) ns) f q)
@@ -67,6 +70,7 @@ lt_true a b h = grind arith
 lt_false : (a b : ℕ) → b ≤ a → nat_lt a b ≡ false
 lt_false a b h = grind arith
 
+-- a count that is seen is above 1 exactly where the true one is
 pub tells_two : (s t : ℕ) → s ≡ min 2 t → nat_lt 1 s ≡ nat_lt 1 t
 tells_two s t e = go (nat_lt 1 t) refl
   where
@@ -81,6 +85,7 @@ not_same a b h = go (a == b) refl
     go true e = absurd (h (eq_is a b e))
     go false e = refl
 
+-- a count that is seen is 0 exactly where the true one is
 pub tells_none : (s t : ℕ) → s ≡ min 2 t → (s == 0) ≡ (t == 0)
 tells_none s t e = go (t == 0) refl
   where

@@ -13,6 +13,7 @@ taken_none : (b : Bool) (f : ℕ → CaseToken) → f 0 ≡ Absent → taken b f
 taken_none true f h = h
 taken_none false f h = refl
 
+-- where no node gives a token, a place gets none
 pub first_none : (ns : List Node) (q : ℕ) (f : ℕ → CaseToken) → ((y : ℕ) → f y ≡ Absent) →
     first ns q f ≡ Absent
 first_none [] q f h = refl
@@ -25,6 +26,7 @@ pub spread_none : (ns : List Node) (used : ℕ) (ts : List CaseToken) (q : ℕ) 
 spread_none ns used ts q h = first_none (drop used ns) q (λ y. tok_at ts (used + y)) (λ y. h (used
     + y) (omega arith))
 
+-- an empty slot at the end gives no token
 pub pulled_spare : (ns : List Node) (used x : ℕ) (v : Bool) (f : ℕ → CaseToken) → Spare ns used →
     used ≤ x → pulled (slice_get ns x) v f ≡ Absent
 pulled_spare ns used x v f s le = go (slice_get ns x) refl

@@ -13,6 +13,7 @@ use Rattle.block_check.specs.Faults.{TakesTokens, IsOwed}
 use Rattle.block_check.specs.Faults.{spot_order}
 use Rattle.block_check.specs.inside.Checked.{spot_of}
 
+-- a place that passes a test is not before k where none before k passes
 pub not_before : (p : ℕ → Bool) (k j : ℕ) → ((i : ℕ) → i < k → p i ≡ false) → p j ≡ true → k ≤ j
 not_before p k j h e = go (nat_lt j k) refl
   where
@@ -20,6 +21,7 @@ not_before p k j h e = go (nat_lt j k) refl
     go true i = absurd (true≢false (sym e ∙ h j (grind arith)))
     go false i = grind arith
 
+-- in the order of spots one that takes tokens stands below 2,048
 pub spot_low : (s : Spot) → TakesTokens s → spot_order s < 2048
 spot_low (Left s) h = omega arith
 spot_low (Right s) h = omega arith
@@ -75,6 +77,7 @@ pub record SpotAt (q : ℕ) (s : Spot) : Type 0 where
   pub place : place_of s ≡ q
   pub takes : TakesTokens s
 
+-- each place below 448 is that of its spot
 pub at_spot : (q : ℕ) → q < 448 → SpotAt q (spot_of q)
 at_spot q h = by_left (nat_lt q 128) refl
   where
@@ -116,6 +119,7 @@ at_spot q h = by_left (nat_lt q 128) refl
     by_left true e = record { place = refl; takes = grind arith }
     by_left false e = by_right (nat_lt q 256) refl (grind arith)
 
+-- the place of a spot that takes tokens is below 448
 pub takes_below : (s : Spot) → TakesTokens s → place_of s < 448
 takes_below (Left s) h = omega arith
 takes_below (Right s) h = omega arith
@@ -137,6 +141,7 @@ lt_true a b h = grind arith
 pub true_le : (a b : ℕ) → nat_le a b ≡ true → a ≤ b
 true_le a b h = grind arith
 
+-- where the test of less is true, the one number is less than the other
 pub true_lt : (a b : ℕ) → nat_lt a b ≡ true → a < b
 true_lt a b h = grind arith
 
@@ -160,6 +165,7 @@ owed_wanted b (Left s) h = absurd h
 owed_wanted b (Right s) h = absurd h
 owed_wanted b (Pred s) h = absurd h
 
+-- a spot that is owed a token takes tokens
 pub owed_takes : (b : Block) → length b.writes.items ≤ 32 → (s : Spot) → IsOwed b s → TakesTokens s
 owed_takes b few (Write w) h = omega arith
 owed_takes b few (Store n) h = mask_below b.mask n h
@@ -178,6 +184,7 @@ wanted_high b q e = go (or_true _ _ e)
     go (inl h) = true_le 384 q (and_true _ _ h).0
     go (inr h) = let l : 416 ≤ q = true_le 416 q (and_true _ _ h).0 in omega arith
 
+-- a spot whose place is wanted is owed a token
 pub wanted_owed : (b : Block) → length b.writes.items ≤ 32 → (s : Spot) → TakesTokens s →
     wanted_of b (place_of s) ≡ true → IsOwed b s
 wanted_owed b few (Left s) h e = absurd (let l : 384 ≤ s = wanted_high b s e in omega arith)

@@ -16,10 +16,12 @@ body_least j (i ∷ is) = let h = body_least (suc j) is in omega (arith, h)
 pub chunks_least : (b : Block) → 2 ≤ chunks b
 chunks_least b = let h = body_least 0 b.insts.items in omega (arith, h)
 
+-- each block has one first chunk
 pub starts_length : (here : ℕ) (bs : List Block) → length (first_chunks here bs) ≡ length bs
 starts_length here [] = refl
 starts_length here (b ∷ bs) = ap suc (starts_length (here + chunks b) bs)
 
+-- block k begins behind the chunks of the first k blocks
 pub starts_at : (here : ℕ) (bs : List Block) (k : ℕ) → k < length bs →
     get_or (first_chunks here bs) k 0 ≡ here + sum_by chunks (take k bs)
 starts_at here [] k h = absurd (omega arith)
@@ -29,6 +31,7 @@ starts_at here (b ∷ bs) (suc k) h =
     let s = sum_by-cons chunks b (take k bs) in
     r ∙ omega (arith, s)
 
+-- a block behind others begins behind the chunks of all of them
 pub starts_push : (here : ℕ) (bs : List Block) (b : Block) →
     first_chunks here (bs ++ (b ∷ [])) ≡ first_chunks here bs ++ ((here + sum_by chunks bs) ∷ [])
 starts_push here [] b = ap (λ n. n ∷ []) (omega arith)
@@ -41,14 +44,17 @@ starts_push here (a ∷ bs) b =
     ap (λ l. here ∷ l) (starts_push (here + chunks a) bs b
     ∙ ap (λ n. first_chunks (here + chunks a) bs ++ (n ∷ [])) same)
 
+-- one block more adds its chunks
 pub sum_push : (bs : List Block) (b : Block) → sum_by chunks (bs ++ (b ∷ [])) ≡ sum_by chunks bs +
     chunks b
 sum_push bs b = let a = sum_by-append chunks bs (b ∷ []) in let c = sum_by-cons chunks b [] in
     omega (arith, a, c)
 
+-- the chunks of some blocks are at most those of these and more
 pub sum_front : (xs ys : List Block) → sum_by chunks xs ≤ sum_by chunks (xs ++ ys)
 sum_front xs ys = let a = sum_by-append chunks xs ys in omega (arith, a)
 
+-- each block has at least two chunks
 pub sum_least : (bs : List Block) → 2 * length bs ≤ sum_by chunks bs
 sum_least [] = omega arith
 sum_least (b ∷ bs) = let r = sum_least bs in let c = chunks_least b in
@@ -58,6 +64,7 @@ above : (here : ℕ) (bs : List Block) (k : ℕ) → k < length bs →
     here ≤ get_or (first_chunks here bs) k 0
 above here bs k h = let r = starts_at here bs k h in omega (arith, r)
 
+-- the first chunks of blocks rise
 pub starts_rise : (here : ℕ) (bs : List Block) (i j : ℕ) → i ≤ j →
     j < length (first_chunks here bs) → get_or (first_chunks here bs) i 0 ≤ get_or (first_chunks here
     bs) j 0
@@ -77,6 +84,7 @@ same_is a = grind arith
 below_not : (a b : ℕ) → a < b → (a == b) ≡ false
 below_not a b h = grind arith
 
+-- a chunk at which block k begins finds block k
 pub starts_found : (number here : ℕ) (bs : List Block) (k chunk : ℕ) → k < length bs →
     get_or (first_chunks here bs) k 0 ≡ chunk → starting_from bs number here chunk ≡ Some (number +
     k)
@@ -102,6 +110,7 @@ starts_found number here (b ∷ bs) (suc k) chunk h e =
 eq_is : (a b : ℕ) → (a == b) ≡ true → a ≡ b
 eq_is a b e = grind arith
 
+-- a chunk at which no block begins finds none
 pub starts_missing : (number here : ℕ) (bs : List Block) (chunk : ℕ) → ((k : ℕ) → k < length bs →
     get_or (first_chunks here bs) k 0 ≡ chunk → ⊥) → starting_from bs number here chunk ≡ None
 starts_missing number here [] chunk h = refl

@@ -35,10 +35,12 @@ past_none [] j h = refl
 past_none (i ∷ is) zero h = absurd (omega arith)
 past_none (i ∷ is) (suc j) h = past_none is j (omega arith)
 
+-- an empty slot is no bad instruction
 pub past_inst : (b : Block) (used : ℕ) → IsEmptyFrom b used → (j : ℕ) → used ≤ j →
     bad_inst b j ≡ false
 past_inst b used h j le = ap (λ (o : Option Inst). bad_slot b o) (h j le)
 
+-- an empty slot has no bad number
 pub past_number : (b : Block) (used : ℕ) → IsEmptyFrom b used → (j : ℕ) → used ≤ j →
     bad_number b j ≡ false
 past_number b used h j le = ap (λ (o : Option Inst). bad_slot_number b j o) (h j le)
@@ -72,6 +74,7 @@ take_reads (r ∷ rs) rest u zero e = absurd (omega arith)
 take_reads (r ∷ rs) rest u (suc k) e = ap (λ l. read_node r ∷ l) (take_reads rs rest u k (omega
     arith))
 
+-- the nodes of the reads and of the first u slots are the first of all nodes
 pub nodes_taken : (rs : List ReadSlot) (is : List (Option Inst)) (u : ℕ) →
     take (length rs + u) (map read_node rs ++ inst_nodes 0 is) ≡ map read_node rs ++ inst_nodes 0
     (take u is)
@@ -164,6 +167,7 @@ cut_at b used f w h = record {
 pub unwanted : (b : Block) (q : ℕ) → q < first_write → wanted_of b q ≡ false
 unwanted b q lt = not_true _ (λ e. let l : first_write ≤ q = wanted_high b q e in omega (arith, l, lt))
 
+-- where the nodes of the used slots are good, those of the whole block are
 pub ok_whole : (b : Block) (used : ℕ) → FitsBlock b → used ≤ 128 → IsEmptyFrom b used →
     (r : Result (Unit {0}) NodeFault) (ms : List Node) (w : List Bool) → ms ≡ nodes_below b used →
     ((q : ℕ) → q < 449 → bit w q ≡ wanted_of b q) → IfOk r (λ u. Good ms (bit w)) →
@@ -176,11 +180,13 @@ ok_whole b used f l h r ms w e v g = go r (ok_same r (nodes_below b used) ms w (
         f l h) g
     go (Err x) g = g
 
+-- where a block's nodes are good, they have an order along their edges
 pub ok_ranked : (b : Block) → FitsBlock b → (r : Result (Unit {0}) NodeFault) →
     IfOk r (λ u. Good (nodes_of b) (wanted_of b)) → IfOk r (λ u. IsRanked (nodes_of b))
 ok_ranked b f (Ok u) g = acyclic_ranked (nodes_of b) (nodes_few b f) g.acyclic
 ok_ranked b f (Err x) g = g
 
+-- a fault of the nodes of the used slots is a fault of the whole block's
 pub err_whole : (b : Block) (used : ℕ) → FitsBlock b → used ≤ 128 → IsEmptyFrom b used →
     (r : Result (Unit {0}) NodeFault) (ms : List Node) (w : List Bool) → ms ≡ nodes_below b used →
     ((q : ℕ) → q < 449 → bit w q ≡ wanted_of b q) → IfErr r (λ x. IsFault ms (bit w) x) →

@@ -16,6 +16,7 @@ use Rattle.block_check.proofs.Lists.{agree_from, one_list}
 
 -- cases -----------------------------------------------------------------------------------------
 
+-- where all ones of a list pass a test, each bit that is set passes it
 pub ones_at : (l : List Bool) (f : ℕ → Bool) → ones_pass l f ≡ true → (x : ℕ) → bit l x ≡ true →
     f x ≡ true
 ones_at [] f e x h = absurd (cc)
@@ -24,6 +25,7 @@ ones_at (true ∷ vs) f e (suc x) h = ones_at vs (λ y. f (suc y)) (and_true _ _
 ones_at (false ∷ vs) f e zero h = absurd (cc)
 ones_at (false ∷ vs) f e (suc x) h = ones_at vs (λ y. f (suc y)) e x h
 
+-- where each bit that is set passes a test, all ones of the list do
 pub ones_from : (l : List Bool) (f : ℕ → Bool) → ((x : ℕ) → bit l x ≡ true → f x ≡ true) →
     ones_pass l f ≡ true
 ones_from [] f h = refl
@@ -157,6 +159,7 @@ past_set ns rank o x xs c f e = record {
 abbrev left_over : List Node → List ℕ → List Bool → (List Bool → Bool) → List Bool → Bool
 left_over ns rest c t l = agree (names rest) c l && (is_case ns l && t l)
 
+-- of two lists of cases as many pass as of the one and of the other
 pub tally_append : (t : List Bool → Bool) (a b : List (List Bool)) →
     tally t (a ++ b) ≡ tally t a + tally t b
 tally_append t [] b = sym (omega arith)
@@ -292,11 +295,13 @@ visits ns rank o (x ∷ xs) c f t =
 
 -- the whole search --------------------------------------------------------------------------------
 
+-- of a list of zeros no bit is set
 pub bit_zeros : (n x : ℕ) → bit (zeros n) x ≡ false
 bit_zeros zero x = refl
 bit_zeros (suc n) zero = refl
 bit_zeros (suc n) (suc x) = bit_zeros n x
 
+-- a list of n zeros has length n
 pub zeros_size : (n : ℕ) → length (zeros n) ≡ n
 zeros_size zero = refl
 zeros_size (suc n) = ap suc (zeros_size n)

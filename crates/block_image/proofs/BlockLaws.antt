@@ -55,6 +55,7 @@ each_none : (n : ℕ) → Each FitsSlot (replicate n None)
 each_none zero = tt
 each_none (suc n) = (tt, each_none n)
 
+-- the words of a header that was read: their info bits, no bad word, and room for the body's chunks
 pub record HeaderTaken (total info : ℕ) (ws : List ℕ) : Type 0 where
   pub info_is : info_from 0 ws ≡ info
   pub none : first_bad info 0 ws ≡ None
@@ -64,11 +65,13 @@ no_fault : (at : ℕ) (o : Option ℕ) (u : Unit {0}) → fault_at at o ≡ Ok u
 no_fault at None u e = refl
 no_fault at (Some i) u e = absurd cc
 
+-- an answer without a fault has passed the test before it
 pub cond_ok : {A : Type 0} (b : Bool) (d : ImageFault) (r : Result A ImageFault) (y : A)
     → cond b (Err d) r ≡ Ok y → (b ≡ false) × (r ≡ Ok y)
 cond_ok true d r y e = absurd cc
 cond_ok false d r y e = (refl, e)
 
+-- a header that is read has such words
 pub header_takes : (total at : ℕ) (ws : List ℕ) (info : ℕ) → header_at total at ws ≡ Ok info
     → HeaderTaken total info ws
 unfolding header_at
@@ -164,6 +167,7 @@ made_takes total at info bytes ws s ck hd bd least =
           (at + 128 + 128 * x) bytes) (sym ch);
     }
 
+-- a block that is read fits, and its bytes stand there
 pub block_takes : (total at : ℕ) (bytes : List ℕ) (b : Block) → AreBytes bytes
     → block_at total at bytes ≡ Ok b → BlockTaken total at bytes b
 unfolding block_at least_at

@@ -24,9 +24,11 @@ use Rattle.block_image.proofs.Lists.{bind_ok, ok_is, length-words, slots_length}
 
 -- ---- one word
 
+-- four bytes that were written of a number are read as this number
 pub number_again : (w : ℕ) (rest : List ℕ) → w < 2 ^ 32 → big_number 4 (big_bytes 4 w ++ rest) ≡ w
 number_again w rest l = omega arith
 
+-- a number that is read of four bytes is below 2 ^ 32 and is written as these bytes
 pub number_takes : (bytes : List ℕ) → 4 ≤ length bytes → AreBytes bytes
     → (big_bytes 4 (big_number 4 bytes) ++ drop 4 bytes ≡ bytes) × (big_number 4 bytes < 2 ^ 32)
 number_takes [] l f = absurd (omega arith)
@@ -52,6 +54,7 @@ number_takes (a ∷ b ∷ c ∷ d ∷ rest) l f =
 
 -- ---- words of bytes
 
+-- each word has four bytes
 pub length-words_bytes : (ws : List ℕ) → length (words_bytes ws) ≡ 4 * length ws
 length-words_bytes [] = refl
 length-words_bytes (w ∷ ws) = let r = length-words_bytes ws in omega arith
@@ -93,23 +96,28 @@ words_bytes_both (w ∷ a) b = ap (λ (x : List ℕ). big_bytes 4 w ++ x) (words
 
 -- ---- slots
 
+-- slots that fit are written as words
 pub slots_are_words : (s : Slots) → Each FitsSlot s → AreWords (map slot_word s)
 slots_are_words [] f = tt
 slots_are_words (x ∷ s) f = (slot_below x f.0, slots_are_words s f.1)
 
+-- slots that fit are read again from their words
 pub slots_again : (at : ℕ) (s : Slots) → Each FitsSlot s → slots_at at (map slot_word s) ≡ Ok s
 slots_again at [] f = refl
 slots_again at (x ∷ s) f = rw (slot_again x f.0, slots_again (at + 4) s f.1) refl
 
+-- slots that were read: they fit, and they are written as these words
 pub record SlotsTaken (ws : List ℕ) (s : Slots) : Type 0 where
   pub fits : Each FitsSlot s
   pub spelled : map slot_word s ≡ ws
 
+-- a slot that is read without a fault was found
 pub slot_found : (at w : ℕ) (o : Option (Option Inst)) (x : Option Inst) → slot_or_fault at o ≡ Ok x
     → o ≡ Some x
 slot_found at w None x e = absurd cc
 slot_found at w (Some y) x e = ap (λ z. Some z) (ok_is y x e)
 
+-- slots that are read of words fit, and are written as these words
 pub slots_takes : (at : ℕ) (ws : List ℕ) (s : Slots) → AreWords ws → slots_at at ws ≡ Ok s
     → SlotsTaken ws s
 slots_takes at [] s f e = subst (SlotsTaken []) (ok_is [] s e)
@@ -129,17 +137,20 @@ slots_takes at (w ∷ ws) s f e =
 
 -- ---- chunks
 
+-- a chunk that was read: 32 words, whose bytes stand there
 pub record ChunkTaken (at : ℕ) (bytes ws : List ℕ) : Type 0 where
   pub words_are : AreWords ws
   pub size : length ws ≡ 32
   pub inside : at + 128 ≤ length bytes
   pub spelled : drop at bytes ≡ words_bytes ws ++ drop (at + 128) bytes
 
+-- an answer of a test that has not failed is the one behind it
 pub test_false : {A : Type 0} (b : Bool) (d : ImageFault) (x y : A) → cond b (Err d) (Ok x) ≡ Ok y
     → (b ≡ false) × (x ≡ y)
 test_false true d x y e = absurd cc
 test_false false d x y e = (refl, ok_is x y e)
 
+-- a chunk that is read is 32 words, whose bytes stand there
 pub chunk_takes : (at : ℕ) (bytes ws : List ℕ) → AreBytes bytes → chunk_at at bytes ≡ Ok ws
     → ChunkTaken at bytes ws
 unfolding chunk_at
@@ -157,6 +168,7 @@ chunk_takes at bytes ws f e =
           (sym (drop-drop 128 at bytes)) ∙ p.0);
     })
 
+-- the bytes of 32 words are read as these words
 pub chunk_again : (at : ℕ) (bytes ws rest : List ℕ) → AreWords ws → length ws ≡ 32
     → drop at bytes ≡ words_bytes ws ++ rest → chunk_at at bytes ≡ Ok ws
 unfolding chunk_at
@@ -169,6 +181,7 @@ chunk_again at bytes ws rest f e h =
     let t : nat_lt (length bytes) (at + 128) ≡ false = le-ltb _ _ (omega arith) in
     rw (t, h, words_again 32 ws rest e f) refl
 
+-- behind the bytes of a chunk stands the rest
 pub after_chunk : (at : ℕ) (bytes ws rest : List ℕ) → length ws ≡ 32
     → drop at bytes ≡ words_bytes ws ++ rest → drop (at + 128) bytes ≡ rest
 after_chunk at bytes ws rest e h = sym (drop-drop 128 at bytes) ∙ ap (drop 128) h
@@ -183,6 +196,7 @@ pub record BodyTaken (c at : ℕ) (bytes : List ℕ) (s : Slots) : Type 0 where
   pub inside : at + 128 * c ≤ length bytes
   pub spelled : drop at bytes ≡ words_bytes (map slot_word s) ++ drop (at + 128 * c) bytes
 
+-- a body that is read fits, and its bytes stand there
 pub body_takes : (c at : ℕ) (bytes : List ℕ) (s : Slots) → at ≤ length bytes → AreBytes bytes
     → body_at c at bytes ≡ Ok s → BodyTaken c at bytes s
 body_takes zero at bytes s l f e =
@@ -217,6 +231,7 @@ body_takes (suc c) at bytes s l f e =
           ∙ ap (λ (x : ℕ). words_bytes (map slot_word (a.0 ++ b.0)) ++ drop x bytes) p;
     })
 
+-- the bytes of slots that fit are read as these slots
 pub body_again : (c at : ℕ) (bytes rest : List ℕ) (s : Slots) → Each FitsSlot s → length s ≡ 32 * c
     → drop at bytes ≡ words_bytes (map slot_word s) ++ rest → body_at c at bytes ≡ Ok s
 body_again zero at bytes rest [] f e h = refl

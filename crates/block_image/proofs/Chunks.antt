@@ -83,6 +83,7 @@ chunks_is s e =
 
 -- ---- the least number of chunks
 
+-- two lists of slots are all empty together where each is
 pub empty_both : (a b : Slots) → all_empty (a ++ b) ≡ (all_empty a && all_empty b)
 empty_both [] b = refl
 empty_both (None ∷ a) b = empty_both a b
@@ -108,6 +109,7 @@ earlier k m s l e =
     ∙ ap (λ x. all_empty (take (m - k) (drop k s)) && x) e
     ∙ false_right (all_empty (take (m - k) (drop k s)))
 
+-- slots filled up to 128 with empty ones
 unfoldable pub padded : Slots → Slots
 padded s = s ++ replicate (128 - length s) None
 
@@ -144,6 +146,7 @@ least_takes (suc (suc (suc (suc zero)))) s a b e h =
     ) refl
 least_takes (suc (suc (suc (suc (suc c))))) s a b e h = absurd (omega arith)
 
+-- c is the least number of chunks, 1 to 4, outside which all slots are empty
 pub record Least (c : ℕ) (s : Slots) : Type 0 where
   pub some : 1 ≤ c
   pub most : c ≤ 4
@@ -180,14 +183,17 @@ length-padded s l = omega (
   length-replicate {A = Option Inst} (128 - length s) None,
 )
 
+-- slots of c chunks, of which the last is not empty unless it is the only one, have c chunks
 pub chunks_takes : (c : ℕ) (s : Slots) → 0 < c → c ≤ 4 → length s ≡ 32 * c
     → (nat_lt 1 c && all_empty (drop (32 * (c - 1)) s)) ≡ false → chunks_of (padded s) ≡ c
 chunks_takes c s a b e h = chunks_is (padded s) (length-padded s (omega arith))
     ∙ least_takes c s a b e h
 
+-- the chunks of 128 slots are the least that hold them
 pub chunks_least : (s : Slots) → length s ≡ 128 → Least (chunks_of s) s
 chunks_least s e = subst (λ (c : ℕ). Least c s) (sym (chunks_is s e)) (least_is s e)
 
+-- slots that are all empty are as many empty slots
 pub empty_is : (s : Slots) → all_empty s ≡ true → s ≡ replicate (length s) None
 empty_is [] e = refl
 empty_is (None ∷ s) e = ap (λ (x : Slots). None ∷ x) (empty_is s e)

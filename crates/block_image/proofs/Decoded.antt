@@ -33,6 +33,7 @@ pub not_both : (i : Image) (bytes : List ℕ) (f : ImageFault) → ImageBytes i 
     → FirstFault bytes f → ⊥
 not_both i bytes f a b = let x = read_again i bytes a in let y = image_fault_again bytes f b in cc
 
+-- bytes spell an image, or have a first fault
 pub either : (bytes : List ℕ) → All (λ b. b < 256) bytes
     → ((i : Image) × ImageBytes i bytes) ⊎ ((f : ImageFault) × FirstFault bytes f)
 either bytes a = by (image_at bytes) refl
@@ -44,6 +45,7 @@ either bytes a = by (image_at bytes) refl
 
 -- ---- the answers
 
+-- an image that is decoded from bytes is spelled by them
 pub decoded : (bytes : List ℕ) (r : Result Image ImageFault) → ((i : ℕ) → get_or bytes i 0 < 256)
     → DecodesOrMemory (λ v. v) r (image_at bytes) → IfOk r (λ v. ImageBytes v bytes)
 decoded bytes (Ok v) f h = image_takes bytes v (each_byte bytes f) h
@@ -57,6 +59,7 @@ no_fails (Trailing n) i h = absurd cc
 no_fails (BadField n) i h = absurd cc
 no_fails Memory i h = refl
 
+-- decoding the bytes of an image answers this image or a lack of memory
 pub decoded_only : (bytes : List ℕ) (r : Result Image ImageFault)
     → DecodesOrMemory (λ v. v) r (image_at bytes) → (i : Image) → ImageBytes i bytes
     → MatchResult r (λ v. v ≡ i) IsMemory
@@ -77,6 +80,7 @@ fails_first bytes (Trailing n) a h = inr (image_fault bytes (Trailing n) a h)
 fails_first bytes (BadField n) a h = inr (image_fault bytes (BadField n) a h)
 fails_first bytes Memory a h = inl refl
 
+-- an error of decoding is a lack of memory or the first fault of the bytes
 pub refused : (bytes : List ℕ) (r : Result Image ImageFault) → ((i : ℕ) → get_or bytes i 0 < 256)
     → DecodesOrMemory (λ v. v) r (image_at bytes) → IfErr r (IsMemoryOr (FirstFault bytes))
 refused bytes (Ok v) f h = tt
@@ -90,6 +94,7 @@ fails_alone (Trailing n) f h = inr (sym (err_is {A = Image} f (Trailing n) h))
 fails_alone (BadField n) f h = inr (sym (err_is {A = Image} f (BadField n) h))
 fails_alone Memory f h = inl refl
 
+-- decoding bytes with a first fault answers this fault or a lack of memory
 pub refused_only : (bytes : List ℕ) (r : Result Image ImageFault)
     → DecodesOrMemory (λ v. v) r (image_at bytes) → (f : ImageFault) → FirstFault bytes f
     → MatchResult r (λ v. ⊥) (IsMemoryOr (λ e. e ≡ f))

@@ -13,6 +13,7 @@ Each P (x ∷ xs) = P x × Each P xs
 abbrev pub AreBytes : List ℕ → Type 0
 AreBytes bs = Each (λ b. b < 256) bs
 
+-- a number of 32 bits
 abbrev pub IsWord : ℕ → Type 0
 IsWord w = w < 2 ^ 32
 

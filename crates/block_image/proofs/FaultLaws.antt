@@ -33,6 +33,7 @@ use Rattle.block_image.proofs.WordsTaken.{slot_takes}
 
 -- ---- results that fail
 
+-- two errors that are equal have equal faults
 pub err_is : {A : Type 0} (d e : ImageFault) → ◌≡◌ {A = Result A ImageFault} (Err d) (Err e) → d ≡ e
 err_is d e h = cc
 
@@ -43,6 +44,7 @@ pub err_as : {A B : Type 0} (d e : ImageFault) → ◌≡◌ {A = Result B Image
     → ◌≡◌ {A = Result A ImageFault} (Err d) (Err e)
 err_as {A} {B} d e h = ap (λ x. fail {A = A} x) (err_is {A = B} d e h)
 
+-- a fault of two steps in a row is one of the first, or one of the second after what the first gave
 pub split : {A B : Type 0} (r : Result A ImageFault) (f : A → Result B ImageFault) (e : ImageFault)
     → (r >>= f) ≡ Err e → (r ≡ Err e) ⊎ ((x : A) × (r ≡ Ok x) × (f x ≡ Err e))
 split (Ok x) f e h = inr (x, refl, h)
@@ -347,6 +349,7 @@ good_fails : (info : ℕ) (ws : List ℕ) (r : Result Slots ImageFault) (f : Ima
 good_fails info ws (Ok u) f e = absurd cc
 good_fails info ws (Err d) f e = cc
 
+-- the fault that reading a block gives is a fault of this block's bytes
 pub block_fault : (total at : ℕ) (bytes : List ℕ) (f : ImageFault) → AreBytes bytes
     → block_at total at bytes ≡ Err f → BlockFault total at bytes f
 unfolding block_at

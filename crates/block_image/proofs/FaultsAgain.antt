@@ -276,6 +276,7 @@ least_bad : (at c : ℕ) (s : Slots) → 1 < c → all_empty (drop (32 * (c - 1)
 unfolding least_at
 least_bad at c s l e = rw (true_lt 1 c l, e) refl
 
+-- reading a block whose bytes have a fault gives this fault
 pub block_fault_again : (total at : ℕ) (bytes : List ℕ) (f : ImageFault)
     → BlockFault total at bytes f → block_at total at bytes ≡ Err f
 unfolding block_at

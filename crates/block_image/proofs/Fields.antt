@@ -16,6 +16,7 @@ use Rattle.block_image.specs.Words.{word_of, sense_number, target_number, signed
 use Rattle.block_image.specs.inside.WordReading.{◌>>=◌, part, sense_at, Target, target_at, signed_at}
 use Rattle.block_image.specs.inside.WordReading.{offset_at, constant_of}
 
+-- where two steps in a row give something, the first gave something, and the second did of it
 pub bind_some : {A B : Type 0} (o : Option A) (f : A → Option B) (y : B) → (o >>= f) ≡ Some y
     → (x : A) × (o ≡ Some x) × (f x ≡ Some y)
 bind_some None f y e = absurd cc
@@ -23,6 +24,7 @@ bind_some (Some x) f y e = (x, refl, e)
 
 -- ---- parts of a word
 
+-- the fields of a word in the common form
 pub record Parts (w a b c d e : ℕ) : Type 0 where
   pub opcode : part w 33554432 128 ≡ a
   pub sense : part w 8388608 4 ≡ b
@@ -30,6 +32,7 @@ pub record Parts (w a b c d e : ℕ) : Type 0 where
   pub upper : part w 512 512 ≡ d
   pub lower : part w 1 512 ≡ e
 
+-- a word that is written of such fields has them
 pub parts : (a b c d e : ℕ) → a < 128 → b < 4 → c < 32 → d < 512 → e < 512
     → Parts (word_of ((7, a) ∷ (2, b) ∷ (5, c) ∷ (9, d) ∷ (9, e) ∷ [])) a b c d e
 parts a b c d e la lb lc ld le =
@@ -41,6 +44,7 @@ parts a b c d e la lb lc ld le =
       lower = omega arith;
     }
 
+-- a word with such fields is written of them
 pub whole : (w a b c d e : ℕ) → w < 2 ^ 32 → Parts w a b c d e
     → word_of ((7, a) ∷ (2, b) ∷ (5, c) ∷ (9, d) ∷ (9, e) ∷ []) ≡ w
 whole w a b c d e lt p =
@@ -51,17 +55,20 @@ whole w a b c d e lt p =
     let q4 : w / 1 % 512 ≡ e = p.lower in
     omega arith
 
+-- the fields of a word in the form of a branch
 pub record BranchParts (w a b c d : ℕ) : Type 0 where
   pub opcode : part w 33554432 128 ≡ a
   pub sense : part w 8388608 4 ≡ b
   pub exit : part w 1048576 8 ≡ c
   pub offset : part w 1 1048576 ≡ d
 
+-- a branch's word that is written of such fields has them
 pub branch_parts : (a b c d : ℕ) → a < 128 → b < 4 → c < 8 → d < 1048576
     → BranchParts (word_of ((7, a) ∷ (2, b) ∷ (3, c) ∷ (20, d) ∷ [])) a b c d
 branch_parts a b c d la lb lc ld =
     record { opcode = omega arith; sense = omega arith; exit = omega arith; offset = omega arith }
 
+-- a branch's word with such fields is written of them
 pub branch_whole : (w a b c d : ℕ) → w < 2 ^ 32 → BranchParts w a b c d
     → word_of ((7, a) ∷ (2, b) ∷ (3, c) ∷ (20, d) ∷ []) ≡ w
 branch_whole w a b c d lt p =
@@ -71,16 +78,19 @@ branch_whole w a b c d lt p =
     let q3 : w / 1 % 1048576 ≡ d = p.offset in
     omega arith
 
+-- the fields of a word in the form of a constant
 pub record ConstantParts (w a b c : ℕ) : Type 0 where
   pub opcode : part w 33554432 128 ≡ a
   pub constant : part w 512 65536 ≡ b
   pub lower : part w 1 512 ≡ c
 
+-- a constant's word that is written of such fields has them
 pub constant_parts : (a b c : ℕ) → a < 128 → b < 65536 → c < 512
     → ConstantParts (word_of ((7, a) ∷ (16, b) ∷ (9, c) ∷ [])) a b c
 constant_parts a b c la lb lc =
     record { opcode = omega arith; constant = omega arith; lower = omega arith }
 
+-- a constant's word with such fields is written of them
 pub constant_whole : (w a b c : ℕ) → w < 2 ^ 32 → ConstantParts w a b c
     → word_of ((7, a) ∷ (16, b) ∷ (9, c) ∷ []) ≡ w
 constant_whole w a b c lt p =
@@ -91,17 +101,20 @@ constant_whole w a b c lt p =
 
 -- ---- fields
 
+-- the number of a sense is below 4
 pub sense_below : (s : Sense) → sense_number s < 4
 sense_below Always = lit< tt
 sense_below OnTrue = lit< tt
 sense_below OnFalse = lit< tt
 
+-- a sense is read again from its number
 pub sense_again : (s : Sense) → sense_at (sense_number s) ≡ Some s
 unfolding sense_at
 sense_again Always = refl
 sense_again OnTrue = refl
 sense_again OnFalse = refl
 
+-- where the test of equality is true, the numbers are equal
 pub eq_is : (a b : ℕ) → nat_eq a b ≡ true → a ≡ b
 eq_is a b e = grind (arith, nat_tests)
 
@@ -111,12 +124,15 @@ pub pick : {A : Type 0} (P : A → Type 0) (b : Bool) (x y : Option A) (t : A)
 pick P true x y t f g e = f refl e
 pick P false x y t f g e = g refl e
 
+-- what holds of the item that is given holds of the one that is found
 pub found : {A : Type 0} (P : A → Type 0) (u t : A) → P u → Some u ≡ Some t → P t
 found P u t p e = subst P (same_Some u t e) p
 
+-- where no item is given, none is found
 pub nothing : {A : Type 0} (P : A → Type 0) (t : A) → None ≡ Some t → P t
 nothing P t e = absurd cc
 
+-- a sense that is read of a number has this number
 pub sense_takes : (n : ℕ) (s : Sense) → sense_at n ≡ Some s → sense_number s ≡ n
 unfolding sense_at
 sense_takes n s =
@@ -125,6 +141,7 @@ sense_takes n s =
     pick P (nat_eq n 2) _ _ s (λ b. found P OnFalse s (sym (eq_is n 2 b))) (λ b1.
     pick P (nat_eq n 3) _ _ s (λ b. found P OnTrue s (sym (eq_is n 3 b))) (λ b2. nothing P s)))
 
+-- the number of a target that fits is below 512
 pub target_below : (t : Target) → FitsTarget t → target_number t < 512
 target_below None h = lit< tt
 target_below (Some (spot.Write w)) h = let l : w < 32 = h in omega arith
@@ -135,12 +152,15 @@ target_below (Some (spot.Read s)) h = absurd h
 target_below (Some (spot.Inst s)) h = absurd h
 target_below (Some (spot.Store s)) h = absurd h
 
+-- numbers that differ test as not equal
 pub eq_no : (a b : ℕ) → (a ≡ b → ⊥) → nat_eq a b ≡ false
 eq_no a b h = grind (arith, nat_tests)
 
+-- of a lesser number the test of less is true
 pub lt_yes : (a b : ℕ) → a < b → nat_lt a b ≡ true
 lt_yes a b h = grind (arith, nat_tests)
 
+-- of a number that is not less the test of less is false
 pub lt_no : (a b : ℕ) → b ≤ a → nat_lt a b ≡ false
 lt_no a b h = grind (arith, nat_tests)
 
@@ -150,6 +170,7 @@ lt_is a b h = grind (arith, nat_tests)
 pub le_is : (a b : ℕ) → nat_lt a b ≡ false → b ≤ a
 le_is a b h = grind (arith, nat_tests)
 
+-- a target that fits is read again from its number
 pub target_again : (t : Target) → FitsTarget t → target_at (target_number t) ≡ Some t
 unfolding target_at
 target_again None h = refl
@@ -202,9 +223,11 @@ target_again (Some (spot.Read s)) h = absurd h
 target_again (Some (spot.Inst s)) h = absurd h
 target_again (Some (spot.Store s)) h = absurd h
 
+-- a target that fits and has this number
 abbrev pub Spells : Target → ℕ → Type 0
 Spells t n = FitsTarget t × (target_number t ≡ n)
 
+-- a target that is read of a number fits and has this number
 pub target_takes : (n : ℕ) (t : Target) → n < 512 → target_at n ≡ Some t → Spells t n
 unfolding target_at
 target_takes n t lt =
@@ -227,10 +250,12 @@ target_takes n t lt =
     (λ b5. let l5 : 384 ≤ n = le_is n 384 b5 in
     found P (Some (spot.Right (n - 384))) t (omega arith, omega arith)))))))
 
+-- the number of a signed value that fits lies below the count of values
 pub signed_below : (values : ℕ) (z : ℤ) → FitsSigned values z → signed_number values z < values
 signed_below values (pos n) h = h
 signed_below values (negsuc n) h = let l : n < values = h in omega arith
 
+-- a signed value that fits is read again from its number
 pub signed_again : (half : ℕ) (z : ℤ) → FitsSigned half z
     → signed_at half (signed_number (half + half) z) ≡ z
 unfolding signed_at
@@ -240,6 +265,7 @@ signed_again half (negsuc n) h =
     let e : half + half - 1 - (half + half - 1 - n) ≡ n = omega arith in
     rw (lt_no (half + half - 1 - n) half (omega arith), e) refl
 
+-- a signed value that is read of a number fits and has this number
 pub signed_takes : (half n : ℕ) → n < half + half → FitsSigned half (signed_at half n)
     × (signed_number (half + half) (signed_at half n) ≡ n)
 unfolding signed_at
@@ -261,6 +287,7 @@ no_offset z e = rw e refl
 abbrev some : {A : Type 0} → A → Option A
 some x = Some x
 
+-- an offset that fits its operation is read again from its number
 pub offset_again : (op : Op) (z : ℤ) → FitsOffset op z
     → offset_at op (signed_number 1048576 z) ≡ Some z
 unfolding offset_at
@@ -278,6 +305,7 @@ no_offset_takes : (n : ℕ) (z : ℤ) → cond (nat_eq n 0) (Some (pos 0)) None 
 no_offset_takes n z = pick (NoOffset n) (nat_eq n 0) _ _ z
     (λ b. found (NoOffset n) (pos 0) z (refl, sym (eq_is n 0 b))) (λ b. nothing (NoOffset n) z)
 
+-- an offset that is read of a number fits its operation and has this number
 pub offset_takes : (op : Op) (n : ℕ) (z : ℤ) → n < 1048576 → offset_at op n ≡ Some z
     → OffsetIs op n z
 unfolding offset_at
@@ -291,6 +319,7 @@ unsigned_again : (z : ℤ) → FitsUnsigned 65536 z → pos (signed_number 65536
 unsigned_again (pos n) f = refl
 unsigned_again (negsuc n) f = absurd f
 
+-- a constant that fits its operation is read again from its number
 pub constant_again : (op : Op) (z : ℤ) → FitsConstant op z
     → constant_of op (signed_number 65536 z) ≡ z
 unfolding constant_of
@@ -300,6 +329,7 @@ constant_again op z f = unsigned_again z f
 abbrev pub ConstantIs : Op → ℕ → ℤ → Type 0
 ConstantIs op n z = FitsConstant op z × (signed_number 65536 z ≡ n)
 
+-- a constant that is read of a number fits its operation and has this number
 pub constant_takes : (op : Op) (n : ℕ) → n < 65536 → ConstantIs op n (constant_of op n)
 unfolding constant_of
 constant_takes Gens n lt = signed_takes 32768 n lt

@@ -336,6 +336,7 @@ cut : (bytes x : List ℕ) → bytes ≡ x → image_at x ≡ Err (Truncated (le
     → image_at bytes ≡ Err (Truncated (length bytes))
 cut bytes x e h = subst (λ (y : List ℕ). image_at y ≡ Err (Truncated (length y))) (sym e) h
 
+-- reading bytes with a first fault gives this fault
 pub image_fault_again : (bytes : List ℕ) (f : ImageFault) → FirstFault bytes f
     → image_at bytes ≡ Err f
 image_fault_again bytes f g = elim g as (λ f g. image_at bytes ≡ Err f) [

@@ -112,6 +112,7 @@ length-blocks (b ∷ bs) f =
     let others = length-blocks bs f.1 in
     omega (arith, length-append (block_bytes b) (flat_map block_bytes bs))
 
+-- an image is spelled by 20 bytes, its data bytes and 128 bytes for each chunk
 pub length-spelling : (i : Image) → Each FitsBlock i.blocks
     → length (spelling i) ≡ 20 + length i.bytes + 128 * chunks_in_all i.blocks
 length-spelling i f =
@@ -167,6 +168,7 @@ made_fails front (Err d) f e = cc
 abbrev made : List ℕ → List Block → Result Image ImageFault
 made front bs = Ok (record { blocks = bs; bytes = front })
 
+-- the fault that reading an image gives is the first fault of its bytes
 pub image_fault : (bytes : List ℕ) (f : ImageFault) → AreBytes bytes → image_at bytes ≡ Err f
     → FirstFault bytes f
 unfolding image_at

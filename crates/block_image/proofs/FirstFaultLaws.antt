@@ -33,6 +33,7 @@ use Rattle.block_image.proofs.ImageLaws.{number_found}
 false_le : (a b : ℕ) → nat_le a b ≡ false → b < a
 false_le a b e = grind (arith, nat_tests)
 
+-- where the test of equality is false, the numbers differ
 pub false_eq : (a b : ℕ) → nat_eq a b ≡ false → a ≡ b → ⊥
 false_eq a b e f = grind (arith, nat_tests)
 
@@ -72,6 +73,7 @@ pub record MagicRead (bytes : List ℕ) : Type 0 where
   pub long : 8 ≤ length bytes
   pub spelled : bytes ≡ magic ++ drop 8 bytes
 
+-- where the first bytes are read, the image begins with them
 pub magic_read : (bytes : List ℕ) (u : Unit {0}) → magic_at bytes ≡ Ok u → MagicRead bytes
 unfolding magic_at
 magic_read bytes u e =
@@ -85,6 +87,7 @@ magic_read bytes u e =
           ∙ ap (λ (x : List ℕ). x ++ drop 8 bytes) is;
     }
 
+-- a fault of the first bytes is the first fault
 pub magic_fault : (bytes : List ℕ) (f : ImageFault) → magic_at bytes ≡ Err f → FirstFault bytes f
 unfolding magic_at
 magic_fault bytes f e =
@@ -101,6 +104,7 @@ magic_fault bytes f e =
 short_rest : (at : ℕ) (bytes : List ℕ) → length bytes < at + 4 → length (drop at bytes) < 4
 short_rest at bytes l = let e = length-drop at bytes in omega arith
 
+-- a fault of the version is the first fault
 pub version_fault : (bytes : List ℕ) (f : ImageFault) → AreBytes bytes → MagicRead bytes
     → version_at bytes ≡ Err f → FirstFault bytes f
 unfolding version_at
@@ -120,6 +124,7 @@ version_fault bytes f a m e =
 pub record VersionRead (bytes : List ℕ) : Type 0 where
   pub spelled : bytes ≡ magic ++ (big_bytes 4 1 ++ drop 12 bytes)
 
+-- where the version is read, it stands behind the first bytes
 pub version_read : (bytes : List ℕ) (u : Unit {0}) → AreBytes bytes → MagicRead bytes
     → version_at bytes ≡ Ok u → VersionRead bytes
 unfolding version_at
@@ -130,6 +135,7 @@ version_read bytes u a m e =
     subst (NumberTaken 8 bytes) is (number_found 8 bytes v.0 a v.1) in
     record { spelled = m.spelled ∙ ap (λ (x : List ℕ). magic ++ x) t.spelled }
 
+-- a fault of the count of blocks is the first fault
 pub count_fault : (bytes : List ℕ) (f : ImageFault) → AreBytes bytes → VersionRead bytes
     → count_at bytes ≡ Err f → FirstFault bytes f
 unfolding count_at
@@ -153,6 +159,7 @@ pub record CountRead (n : ℕ) (bytes : List ℕ) : Type 0 where
   pub below : n < 2 ^ 32
   pub spelled : bytes ≡ counted n ++ drop 16 bytes
 
+-- where the count of blocks is read, it stands behind the version
 pub count_read : (n : ℕ) (bytes : List ℕ) → AreBytes bytes → VersionRead bytes
     → count_at bytes ≡ Ok n
     → CountRead n bytes
@@ -171,6 +178,7 @@ count_read n bytes a v e =
           ∙ ap (λ (x : List ℕ). magic ++ (big_bytes 4 1 ++ x)) t.spelled;
     })
 
+-- a fault of the size of the data is the first fault
 pub size_fault : (n : ℕ) (bytes : List ℕ) (f : ImageFault) → AreBytes bytes → CountRead n bytes
     → size_at bytes ≡ Err f → FirstFault bytes f
 unfolding size_at
@@ -195,6 +203,7 @@ pub record SizeRead (n d : ℕ) (bytes : List ℕ) : Type 0 where
   pub inside : 20 ≤ length bytes
   pub spelled : bytes ≡ sized n d ++ drop 20 bytes
 
+-- where the size of the data is read, it stands behind the count
 pub size_read : (n d : ℕ) (bytes : List ℕ) → AreBytes bytes → CountRead n bytes
     → size_at bytes ≡ Ok d
     → SizeRead n d bytes
@@ -212,6 +221,7 @@ size_read n d bytes a c e =
       spelled = c.spelled ∙ ap (λ (x : List ℕ). counted n ++ x) t.spelled;
     })
 
+-- a fault of the data bytes is the first fault
 pub data_fault : (n d : ℕ) (bytes : List ℕ) (f : ImageFault) → SizeRead n d bytes
     → data_at d bytes ≡ Err f → FirstFault bytes f
 unfolding data_at
@@ -241,6 +251,7 @@ data_fault n d bytes f s e =
     (zero_last n front (drop d (drop 20 bytes)) whole c.some c.below (omega arith) (omega arith)))
     e
 
+-- the front of an image that was read: it is good, has its size, and its bytes stand there
 pub record DataRead (n d : ℕ) (bytes front : List ℕ) : Type 0 where
   pub good : GoodFront n front
   pub size : length front ≡ d
@@ -248,6 +259,7 @@ pub record DataRead (n d : ℕ) (bytes front : List ℕ) : Type 0 where
   pub each : AreBytes bytes → AreBytes front
   pub spelled : bytes ≡ container n front ++ drop (20 + d) bytes
 
+-- where the data bytes are read, the front of the image is good and stands there
 pub data_read : (n d : ℕ) (bytes front : List ℕ) → SizeRead n d bytes → data_at d bytes ≡ Ok front
     → DataRead n d bytes front
 unfolding data_at

@@ -20,6 +20,7 @@ use Rattle.block_image.proofs.HeaderLaws.{FitReads, FitWrites, digit_below, rest
 
 -- ---- what is written is read again
 
+-- a header of n words has n words
 pub length-words_from : (n info : ℕ) (rs : List ReadSlot) (ws : List ℕ)
     → length (words_from n info rs ws) ≡ n
 unfolding words_from
@@ -27,6 +28,7 @@ length-words_from zero info rs ws = refl
 length-words_from (suc n) info rs ws =
     ap suc (length-words_from n (info % 4 ^ n) (rest_of rs) (rest_of ws))
 
+-- the words of a header whose reads and writes fit are words of 32 bits
 pub words_from_below : (n info : ℕ) (rs : List ReadSlot) (ws : List ℕ) → info < 4 ^ n → FitReads rs
     → FitWrites ws → AreWords (words_from n info rs ws)
 unfolding words_from
@@ -40,6 +42,7 @@ words_from_below (suc n) info rs ws l f g =
           (each_rest FitsRead rs f) (each_rest (λ w. w < 128) ws g),
     )
 
+-- the reads of a header are read again from its words
 pub reads_again : (n info : ℕ) (rs : List ReadSlot) (ws : List ℕ) → info < 4 ^ n → FitReads rs
     → FitWrites ws → length rs ≤ n → map read_at (take (length rs) (words_from n info rs ws)) ≡ rs
 unfolding words_from
@@ -52,6 +55,7 @@ reads_again (suc n) info (r ∷ rs) ws l f g h =
           (each_rest (λ w. w < 128) ws g) (omega arith),
     ) refl
 
+-- the writes of a header are read again from its words
 pub writes_again : (n info : ℕ) (rs : List ReadSlot) (ws : List ℕ) → info < 4 ^ n → FitReads rs
     → FitWrites ws → length ws ≤ n → map write_at (take (length ws) (words_from n info rs ws)) ≡ ws
 unfolding words_from
@@ -96,6 +100,7 @@ length-rest : {A : Type 0} (xs : List A) → length (rest_of xs) ≡ length xs -
 length-rest [] = refl
 length-rest (x ∷ xs) = omega arith
 
+-- of the words of a header with good info bits none is bad
 pub none_bad : (all n i info : ℕ) (rs : List ReadSlot) (ws : List ℕ) → info < 4 ^ n → FitReads rs
     → FitWrites ws → is_good_info all ≡ true
     → length rs ≡ reads_in all - i → length ws ≡ writes_in all - i
@@ -116,6 +121,7 @@ none_bad all (suc n) i info rs ws l f g h a b =
 
 -- ---- the info bits
 
+-- info bits that are good and hold this mask and these counts
 pub record InfoIs (info mask reads writes chunks : ℕ) : Type 0 where
   pub below : info < 2 ^ 64
   pub mask_is : mask_in info ≡ mask
@@ -124,6 +130,7 @@ pub record InfoIs (info mask reads writes chunks : ℕ) : Type 0 where
   pub chunks_are : chunks_in info ≡ chunks
   pub good : is_good_info info ≡ true
 
+-- info bits that are made of a mask and counts within their limits hold them and are good
 pub info_is : (mask reads writes chunks : ℕ) → mask < 2 ^ 32 → reads ≤ 32 → writes ≤ 32 → 1 ≤ chunks
     → chunks ≤ 4 → InfoIs (info_of mask reads writes chunks) mask reads writes chunks
 info_is mask reads writes chunks a b c d e =
@@ -147,6 +154,7 @@ info_is mask reads writes chunks a b c d e =
       ) refl;
     }
 
+-- info bits within the limits are made of the mask and the counts that they hold
 pub info_takes : (info : ℕ) → info < 2 ^ 64 → Counts info
     → info_of (mask_in info) (reads_in info) (writes_in info) (chunks_in info) ≡ info
 info_takes info l c = let z : info % 131072 ≡ 0 = c.zeros in omega arith

@@ -24,6 +24,7 @@ use Rattle.trips_isa.specs.declared.block.Spot.TheVariants as spot
 eq_no : (a b : ℕ) → (a ≡ b → ⊥) → nat_eq a b ≡ false
 eq_no a b h = grind (arith, nat_tests)
 
+-- of equal numbers the test of equality is true
 pub eq_yes : (a b : ℕ) → a ≡ b → nat_eq a b ≡ true
 eq_yes a b h = grind (arith, nat_tests)
 
@@ -33,6 +34,7 @@ eq_is a b e = grind (arith, nat_tests)
 not_eq : (a b : ℕ) → nat_eq a b ≡ false → a ≡ b → ⊥
 not_eq a b e f = grind (arith, nat_tests)
 
+-- of a lesser number the test of less is true
 pub lt_yes : (a b : ℕ) → a < b → nat_lt a b ≡ true
 lt_yes a b h = grind (arith, nat_tests)
 
@@ -45,9 +47,11 @@ lt_is a b h = grind (arith, nat_tests)
 lt_not : (a b : ℕ) → nat_lt a b ≡ false → b ≤ a
 lt_not a b h = grind (arith, nat_tests)
 
+-- of a number that is at most another the test of this is true
 pub le_yes : (a b : ℕ) → a ≤ b → nat_le a b ≡ true
 le_yes a b h = grind (arith, nat_tests)
 
+-- where the test of at most is true, the one number is at most the other
 pub le_is : (a b : ℕ) → nat_le a b ≡ true → a ≤ b
 le_is a b h = grind (arith, nat_tests)
 
@@ -113,6 +117,7 @@ read_from w r f e1 e2 e3 =
       second_again r.first r.second f.first f.second,
     ) refl
 
+-- a read that is read of a word fits
 pub read_fits : (w : ℕ) → FitsRead (read_at w)
 unfolding read_at
 read_fits w =
@@ -167,6 +172,7 @@ pub FitsWrite : Option ℕ → Type 0
 FitsWrite None = Unit {0}
 FitsWrite (Some w) = w < 128
 
+-- the fields of a read that fits take 23 bits
 pub fields_below : (r : Option ReadSlot) → FitsFirst r → read_fields r < 8388608
 unfolding FitsFirst
 fields_below None f = lit< tt
@@ -176,16 +182,19 @@ fields_below (Some r) f =
     let c : operand_number r.first < 256 = operand_below r.first f.first in
     omega arith
 
+-- the field of a write that fits takes 7 bits
 pub write_below : (w : Option ℕ) → FitsWrite w → write_field w < 128
 unfolding FitsWrite
 write_below None f = lit< tt
 write_below (Some w) f = f
 
+-- a word of a header holds its two info bits, its read and its write
 pub one_word : (q : ℕ) (r : Option ReadSlot) (w : Option ℕ) → q < 4 → FitsFirst r → FitsWrite w
     → HeaderParts (header_word q r w) q (read_fields r) (write_field w)
 one_word q r w l f g = header_parts q (read_fields r) (write_field w) l (fields_below r f)
     (write_below w g)
 
+-- a read that fits is read again from its word
 pub read_again : (q : ℕ) (r : ReadSlot) (w : Option ℕ) → q < 4 → FitsRead r → FitsWrite w
     → read_at (header_word q (Some r) w) ≡ r
 unfolding FitsFirst
@@ -197,15 +206,18 @@ read_again q r w l f g =
     let c : operand_number r.first < 256 = operand_below r.first f.first in
     read_from h r f (omega arith) (omega arith) (omega arith)
 
+-- of reads that all fit the first one does, where there is one
 pub each_first : (rs : List ReadSlot) → Each FitsRead rs → FitsFirst (first_of rs)
 unfolding FitsFirst
 each_first [] f = tt
 each_first (r ∷ rs) f = f.0
 
+-- what holds of each item holds of each behind the first
 pub each_rest : {A : Type 0} (P : A → Type 0) (rs : List A) → Each P rs → Each P (rest_of rs)
 each_rest P [] f = tt
 each_rest P (r ∷ rs) f = f.1
 
+-- of writes that all fit the first one does, where there is one
 pub each_write : (ws : List ℕ) → Each (λ w. w < 128) ws → FitsWrite (first_of ws)
 unfolding FitsWrite
 each_write [] f = tt
@@ -213,19 +225,23 @@ each_write (w ∷ ws) f = f.0
 
 -- ---- the info bits as digits of base 4
 
+-- each read fits
 abbrev pub FitReads : List ReadSlot → Type 0
 FitReads rs = Each FitsRead rs
 
+-- each write is one of the 128 registers
 abbrev pub FitWrites : List ℕ → Type 0
 FitWrites ws = Each (λ w. w < 128) ws
 
 pub power : (n : ℕ) → 4 ^ suc n ≡ 4 * 4 ^ n
 power n = pow-succ' 4 n
 
+-- the info bits of the first of some words are below 4
 pub digit_below : (n info : ℕ) → info < 4 ^ suc n → info / 4 ^ n < 4
 digit_below n info l = div_below info (4 ^ n) 4 (one-le-pow n 4 (omega arith))
     (subst (λ (p : ℕ). info < p) (power n) l)
 
+-- the info bits of the words behind the first are two for each
 pub rest_below : (n info : ℕ) → info % 4 ^ n < 4 ^ n
 rest_below n info = mod_below info (4 ^ n) (one-le-pow n 4 (omega arith))
 
@@ -234,6 +250,7 @@ shift acc q p r = ap (λ (x : ℕ). x + r)
     (add-mul (acc * 4) q p ∙ ap (λ (x : ℕ). x + q * p) (mul_assoc acc 4 p))
     ∙ add_assoc (acc * (4 * p)) (q * p) r
 
+-- the info bits of a header are read again from its words, behind those that were read before
 pub info_again : (n acc info : ℕ) (rs : List ReadSlot) (ws : List ℕ) → info < 4 ^ n → FitReads rs
     → FitWrites ws → info_from acc (words_from n info rs ws) ≡ acc * 4 ^ n + info
 unfolding words_from
@@ -265,6 +282,7 @@ info_moves (suc n) acc (w ∷ ws) e =
     a ∙ shift acc q (4 ^ n) (info_from 0 ws) ∙ ap (λ (x : ℕ). acc * (4 * 4 ^ n) + x) (sym b')
     ∙ ap (λ (x : ℕ). acc * x + info_from (0 * 4 + q) ws) (sym (power n))
 
+-- n words have two info bits each
 pub info_below : (n : ℕ) (ws : List ℕ) → length ws ≡ n → AreWords ws → info_from 0 ws < 4 ^ n
 info_below zero [] e f = omega arith
 info_below zero (w ∷ ws) e f = absurd (omega arith)
@@ -332,6 +350,7 @@ first_none info i w ws = by (is_bad info i w)
     by true e = absurd (let q : Some i ≡ None = e in cc)
     by false e = (refl, e)
 
+-- words of which none is bad are written again of their info bits, their reads and their writes
 pub words_takes : (info n i : ℕ) (ws : List ℕ) → length ws ≡ n → AreWords ws
     → first_bad info i ws ≡ None
     → words_from n (info_from 0 ws) (map read_at (take (reads_in info - i) ws))

@@ -33,22 +33,28 @@ use Rattle.block_image.proofs.Chunks.{chunks_least}
 use Rattle.block_image.proofs.HeaderAgain.{length-words_from}
 use Rattle.std.proofs.lemmas.List.Sums.{sum_by-cons}
 
+-- what is wanted and gives no fault is so
 pub want_ok : (b : Bool) (f : ImageFault) (u : Unit {0}) → wants b f ≡ Ok u → b ≡ true
 want_ok true f u e = refl
 want_ok false f u e = absurd cc
 
+-- where the test of less is true, the one number is less than the other
 pub lt_true : (a b : ℕ) → nat_lt a b ≡ true → a < b
 lt_true a b e = grind (arith, nat_tests)
 
+-- of a lesser number the test of less is true
 pub true_lt : (a b : ℕ) → a < b → nat_lt a b ≡ true
 true_lt a b e = grind (arith, nat_tests)
 
+-- where the test of at most is true, the one number is at most the other
 pub le_true : (a b : ℕ) → nat_le a b ≡ true → a ≤ b
 le_true a b e = grind (arith, nat_tests)
 
+-- of a number that is at most another the test of this is true
 pub true_le : (a b : ℕ) → a ≤ b → nat_le a b ≡ true
 true_le a b e = grind (arith, nat_tests)
 
+-- where the test of equality is true, the numbers are equal
 pub eq_true : (a b : ℕ) → nat_eq a b ≡ true → a ≡ b
 eq_true a b e = grind (arith, nat_tests)
 
@@ -57,11 +63,13 @@ true_eq a b e = grind (arith, nat_tests)
 
 -- ---- numbers
 
+-- a number of 32 bits, whose four bytes stand there
 pub record NumberTaken (at : ℕ) (bytes : List ℕ) (n : ℕ) : Type 0 where
   pub inside : at + 4 ≤ length bytes
   pub below : n < 2 ^ 32
   pub spelled : drop at bytes ≡ big_bytes 4 n ++ drop (at + 4) bytes
 
+-- a number that is read has 32 bits, and its four bytes stand there
 pub number_found : (at : ℕ) (bytes : List ℕ) (n : ℕ) → AreBytes bytes → number_at at bytes ≡ Ok n
     → NumberTaken at bytes n
 unfolding number_at
@@ -175,6 +183,7 @@ blocks_again (suc n) total at bytes (b ∷ bs) c f t l e =
 
 -- ---- the container
 
+-- an image that is read is spelled by the bytes
 pub image_takes : (bytes : List ℕ) (i : Image) → AreBytes bytes → image_at bytes ≡ Ok i
     → ImageBytes i bytes
 unfolding image_at magic_at version_at count_at size_at data_at
@@ -277,6 +286,7 @@ image_takes bytes i f e =
           (big_bytes 4 x ++ (take d (drop 20 bytes) ++ flat_map block_bytes bs))))) (sym ld);
     })
 
+-- where the bytes of a number of 32 bits stand, this number is read
 pub number_again_at : (at n : ℕ) (bytes rest : List ℕ) → n < 2 ^ 32
     → drop at bytes ≡ big_bytes 4 n ++ rest → number_at at bytes ≡ Ok n
 unfolding number_at
@@ -287,10 +297,12 @@ number_again_at at n bytes rest l e =
     length-append (big_bytes 4 n) rest in
     rw (le-ltb (length bytes) (at + 4) (omega arith), e, number_again n rest l) refl
 
+-- each block has at least one chunk
 pub least_total : (bs : List Block) → length bs ≤ chunks_in_all bs
 least_total [] = lit≤ tt
 least_total (b ∷ bs) = let r = least_total bs in omega arith
 
+-- a number that is not 0 is above 0
 pub positive : (n : ℕ) → (n ≡ 0 → ⊥) → 0 < n
 positive zero h = absurd (h refl)
 positive (suc n) h = omega arith
@@ -339,6 +351,7 @@ pub long_enough : (bytes a b : List ℕ) → drop 20 bytes ≡ a ++ b → 20 ≤
 long_enough bytes a b e l = let s : length bytes - 20 ≡ length a + length b =
     sym (length-drop 20 bytes) ∙ ap length e ∙ length-append a b in omega arith
 
+-- an image that fits is read again from its bytes
 pub image_again : (i : Image) → FitsImage i → image_at (spelling i) ≡ Ok i
 image_again i f =
     let bytes = spelling i in

@@ -17,6 +17,7 @@ use Rattle.block_image.specs.declared.fault.ImageFault.{ImageFault}
 use Rattle.block_image.specs.inside.WordReading.{slot_of_word}
 use Rattle.std.proofs.lemmas.Bool.Decides.{nat_tests}
 
+-- what is read as big-endian numbers of four bytes is the words of these bytes
 pub words_is : (n : ℕ) (src dst : List ℕ) → length dst ≡ n → IsRead big_number 4 src dst
     → dst ≡ words n src
 unfolding words
@@ -32,24 +33,29 @@ words_is (suc n) src (w ∷ ws) e h =
     let rest : ws ≡ words n (drop 4 src) = words_is n (drop 4 src) ws (omega arith) others in
     rw (first, rest) refl
 
+-- two info bits more than those of fewer than 32 words fit 64 bits
 pub info_fits : (k info : ℕ) → k < 32 → info < 4 ^ k → info * 4 + 3 < 2 ^ 64
 info_fits k info l h = let a : zero < 4 = omega arith in let b : k ≤ 31 = omega arith in
     let p : 4 ^ k ≤ 4 ^ 31 = pow-le-pow_right a b in omega arith
 
+-- where word i is bad, the first bad word from i on is i
 pub bad_here : (info i : ℕ) (ws : List ℕ) → i < length ws → is_bad info i (get_or ws i 0) ≡ true
     → first_bad info i (drop i ws) ≡ Some i
 unfolding first_bad
 bad_here info i ws l e = rw (drop_more ws i 0 l, e) refl
 
+-- where word i is not bad, the first bad word is looked for from i + 1 on
 pub bad_next : (info i : ℕ) (ws : List ℕ) → i < length ws → is_bad info i (get_or ws i 0) ≡ false
     → first_bad info i (drop i ws) ≡ first_bad info (i + 1) (drop (i + 1) ws)
 unfolding first_bad
 bad_next info i ws l e = let s : suc i ≡ i + 1 = omega arith in rw (drop_more ws i 0 l, e, s) refl
 
+-- past the words none is bad
 pub bad_end : (info i : ℕ) (ws : List ℕ) → length ws ≤ i → first_bad info i (drop i ws) ≡ None
 unfolding first_bad
 bad_end info i ws l = rw (drop_all i ws l) refl
 
+-- the first n words are the same of all bytes that hold them
 pub words_take : (n m : ℕ) (bytes : List ℕ) → 4 * n ≤ m → words n (take m bytes) ≡ words n bytes
 unfolding words
 words_take zero m bytes l = refl
@@ -63,6 +69,7 @@ words_take (suc n) m bytes l =
     ap (λ (x : ℕ). x ∷ words n (drop 4 (take m bytes))) a
     ∙ ap (λ (xs : List ℕ). big_number 4 bytes ∷ xs) c
 
+-- n words are read as n
 pub length-words : (n : ℕ) (bytes : List ℕ) → length (words n bytes) ≡ n
 unfolding words
 length-words zero bytes = refl
@@ -85,6 +92,7 @@ pub with_front_twice : (a b : Slots) (r : Result Slots ImageFault)
 with_front_twice a b (Ok s) = ap (λ (l : Slots). Ok l) (sym (append_assoc a b s))
 with_front_twice a b (Err e) = refl
 
+-- as many slots are read as there are words
 pub slots_length : (at : ℕ) (ws : List ℕ) (s : Slots) → slots_at at ws ≡ Ok s → length s ≡ length ws
 slots_length at [] s e = ap length (sym (ok_is [] s e))
 slots_length at (w ∷ ws) s e =
@@ -94,6 +102,7 @@ slots_length at (w ∷ ws) s e =
     let l : length b.0 ≡ length ws = slots_length (at + 4) ws b.0 b.1 in
     ap length (sym (ok_is (a.0 ∷ b.0) s b.2)) ∙ ap suc l
 
+-- where the next chunk of a body is read, what is read on the whole stays the same
 pub body_next : (front s : Slots) (n k at : ℕ) (bytes ws : List ℕ) (total : Result Slots ImageFault)
     → k < n → chunk_at (at + 128 * k) bytes ≡ Ok ws → slots_at (at + 128 * k) ws ≡ Ok s
     → with_front front (body_at (n - k) (at + 128 * k) bytes) ≡ total
@@ -129,6 +138,7 @@ body_fails_slots front n k at bytes ws f total l c r h =
 
 -- ---- a header without a bad word has good info bits
 
+-- where no word is the first bad one, none is bad
 pub no_bad_at : (info i : ℕ) (ws : List ℕ) → first_bad info i ws ≡ None → (k : ℕ) → k < length ws
     → is_bad info (i + k) (get_or ws k 0) ≡ false
 unfolding first_bad
@@ -145,6 +155,7 @@ no_bad_at info i (w ∷ ws) e k l = by (is_bad info i w) k refl e l (no_bad_at i
     by false (suc k) p e l r = let s : i + suc k ≡ suc i + k = omega arith in
         rw s (r e k (omega arith))
 
+-- a disjunction is false where both parts are
 pub or_false : (a b : Bool) → (a || b) ≡ false → (a ≡ false) × (b ≡ false)
 or_false true b e = absurd cc
 or_false false b e = (refl, e)
@@ -153,6 +164,7 @@ pub not_false : (a : Bool) → not a ≡ false → a ≡ true
 not_false true e = refl
 not_false false e = absurd cc
 
+-- where none of the 32 words is bad, the info bits are good
 pub good_info : (info : ℕ) (ws : List ℕ) → length ws ≡ 32 → first_bad info 0 ws ≡ None
     → is_good_info info ≡ true
 unfolding is_bad
@@ -163,6 +175,7 @@ good_info info ws l e =
     (or_false ((nat_le (reads_in info) 16 && not (nat_eq (w / 128 % 8388608) 0)) ||
     (nat_le (writes_in info) 16 && not (nat_eq (w % 128) 0))) (not (is_good_info info)) b).1
 
+-- the counts of the info bits lie within their limits, and the bits that are not used are 0
 pub record Counts (info : ℕ) : Type 0 where
   pub reads : reads_in info ≤ 32
   pub writes : writes_in info ≤ 32
@@ -170,6 +183,7 @@ pub record Counts (info : ℕ) : Type 0 where
   pub chunks : chunks_in info ≤ 4
   pub zeros : info % 131072 ≡ 0
 
+-- a conjunction is true where both parts are
 pub and_true : (a b : Bool) → (a && b) ≡ true → (a ≡ true) × (b ≡ true)
 and_true true b e = (refl, e)
 and_true false b e = absurd cc
@@ -177,12 +191,14 @@ and_true false b e = absurd cc
 le_true : (a b : ℕ) → nat_le a b ≡ true → a ≤ b
 le_true a b e = grind (arith, nat_tests)
 
+-- where the test of less is true, the one number is less than the other
 pub lt_true : (a b : ℕ) → nat_lt a b ≡ true → a < b
 lt_true a b e = grind (arith, nat_tests)
 
 eq_true : (a b : ℕ) → nat_eq a b ≡ true → a ≡ b
 eq_true a b e = grind (arith, nat_tests)
 
+-- info bits that are good have counts within their limits
 pub counts : (info : ℕ) → is_good_info info ≡ true → Counts info
 counts info e =
     let r = nat_le (reads_in info) 32 in

@@ -14,6 +14,7 @@ use Rattle.block_image.specs.inside.Reading.{chunk_at, rest_at, block_at}
 use Rattle.trips_isa.specs.Images.{last_byte}
 use Rattle.block_image.specs.inside.ImageReading.{blocks_at, with_blocks, Fails, wants}
 
+-- a reading that gives a fault fails with it
 pub fails_of : {Y : Type 0} (e : ImageFault) (read : Result Y ImageFault) → read ≡ Err e
     → Fails e read
 fails_of Magic read h = h
@@ -38,6 +39,7 @@ regroup : (front : List Block) (b : Block) (r : Result (List Block) ImageFault)
 regroup front b (Ok bs) = ap (λ (x : List Block). Ok x) (sym (append_assoc front (b ∷ []) bs))
 regroup front b (Err e) = refl
 
+-- where the next block is read, what is read on the whole stays the same
 pub blocks_next : (front : List Block) (b : Block) (n k total size at : ℕ) (bytes : List ℕ)
     (all : Result (List Block) ImageFault) → k < n → size ≡ 1 + chunks_of b.insts.items
     → block_at total (at + 128 * total) bytes ≡ Ok b
@@ -55,6 +57,7 @@ blocks_next front b n k total size at bytes all l s e h =
     sym (regroup front b (blocks_at (n - (k + 1)) (total + size) (at + 128 * (total + size)) bytes))
     ∙ sym (ap (with_blocks front) one) ∙ h
 
+-- where the next block has a fault, the whole has this fault
 pub blocks_fail : (front : List Block) (n k total at : ℕ) (bytes : List ℕ) (f : ImageFault)
     (all : Result (List Block) ImageFault) → k < n → block_at total (at + 128 * total) bytes ≡ Err f
     → with_blocks front (blocks_at (n - k) total (at + 128 * total) bytes) ≡ all → all ≡ Err f
@@ -86,6 +89,7 @@ pub empty_rest : (k : ℕ) (s : Slots)
     → all_empty (take (length s - k) (drop k s)) ≡ all_empty (drop k s)
 empty_rest k s = ap all_empty (take_rest s k)
 
+-- the last byte of some bytes stands at one less than their length
 pub last_is : (bs : List ℕ) → 0 < length bs → get_or bs (length bs - 1) 0 ≡ last_byte bs
 last_is [] l = absurd (omega arith)
 last_is (b ∷ []) l = refl
@@ -95,21 +99,25 @@ last_is (b ∷ c ∷ bs) l =
 
 -- ---- a block that was put at the end and filled there
 
+-- to set the item that was added last is to have added the other item
 pub filled_is : (xs new : List Block) (y b : Block) (k : ℕ) → new ≡ xs ++ y ∷ [] → length xs ≡ k
     → slice_set new k b ≡ xs ++ b ∷ []
 filled_is xs new y b k e l = ap (λ (x : List Block). slice_set x k b) e ∙ set_at xs y [] b k l
 
+-- the item at the end is the one that was added
 pub last_pushed : (xs new : List Block) (y d : Block) (k : ℕ) → new ≡ xs ++ y ∷ [] → length xs ≡ k
     → d ≡ get_or new k d → d ≡ y
 last_pushed xs new y d k e l h =
     h ∙ ap (λ (x : List Block). get_or x k d) e ∙ ap (λ (n : ℕ). get_or (xs ++ y ∷ []) n d) (sym l)
     ∙ get_or-append_seam xs y [] d
 
+-- a block whose header chunk has a fault has this fault
 pub no_block : (total at : ℕ) (bytes : List ℕ) (f : ImageFault) → chunk_at at bytes ≡ Err f
     → block_at total at bytes ≡ Err f
 unfolding block_at
 no_block total at bytes f e = rw e refl
 
+-- a block whose header chunk is read is what the rest of it gives
 pub block_of : (total at : ℕ) (bytes ws : List ℕ) (r : Result Block ImageFault)
     → chunk_at at bytes ≡ Ok ws → rest_at total at bytes ws ≡ r → block_at total at bytes ≡ r
 unfolding block_at

@@ -39,10 +39,12 @@ unfolding op_in
 large_again w op c e l z o =
     rw (o, lt_no c.opcode 3 l) (subst (λ (n : ℕ). op_with_numbers c.opcode n ≡ Some op) z e)
 
+-- the fields of a word by which an operation is known
 pub record OpIs (w : ℕ) (c : Code) : Type 0 where
   pub opcode : c.opcode ≡ part w 33554432 128
   pub small : c.opcode < 3 → c.extended ≡ part w 262144 32
 
+-- an operation that is read of a word has the code of its fields
 pub op_is : (w : ℕ) (op : Op) → op_in w ≡ Some op → OpIs w (code_of op)
 unfolding op_in
 op_is w op e =
@@ -67,6 +69,7 @@ pub record Paired (a b : Target) (p : Target × Target) : Type 0 where
   pub first : p.0 ≡ a
   pub second : p.1 ≡ b
 
+-- where two targets make a pair, it is these two, and it fits
 pub pair_takes : (a b : Target) (p : Target × Target) → pair_of a b ≡ Some p → Paired a b p
 unfolding pair_of
 pair_takes None None p e =
@@ -332,6 +335,7 @@ form_below Constant c i g h =
     let b = signed_below 65536 i.imm (constant_fits i.op i.imm h.1) in
     let d = target_below i.first h.0.first in omega arith
 
+-- the word of a slot that fits has 32 bits
 pub slot_below : (s : Option Inst) → FitsSlot s → slot_word s < 2 ^ 32
 slot_below None f = lit< tt
 slot_below (Some i) f = form_below (form_of i.op) (code_of i.op) i (code_good i.op) f

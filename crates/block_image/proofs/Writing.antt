@@ -39,6 +39,7 @@ pub record HeaderWritten (i info : ℕ) (words : List ℕ) (rs : List ReadSlot)
   pub size : length words ≡ 32
   pub so_far : take i words ++ words_from (32 - i) rest (drop i rs) (drop i ws) ≡ all
 
+-- before the first word all info bits are left, and no word is written
 pub header_begun : (info : ℕ) (words : List ℕ) (rs : List ReadSlot) (ws : List ℕ) → info < 2 ^ 64
     → length words ≡ 32 → HeaderWritten 0 info words rs ws (words_from 32 info rs ws)
 header_begun info words rs ws l n =
@@ -76,6 +77,7 @@ left_is i info rest l e =
     ap (λ (n : ℕ). n * 4) m ∙ mul_assoc (rest % 4 ^ (31 - i)) (4 ^ i) 4
     ∙ ap (λ (n : ℕ). (rest % 4 ^ (31 - i)) * n) (sym (pow-add 4 i 1))
 
+-- of the info bits that are left the upper two are below 4
 pub pair_small : (i info : ℕ) (words : List ℕ) (rs : List ReadSlot) (ws all : List ℕ) → i < 32
     → HeaderWritten i info words rs ws all → info / 4611686018427387904 < 4
 pair_small i info words rs ws all l h =
@@ -83,6 +85,7 @@ pair_small i info words rs ws all l h =
     subst (λ (x : ℕ). x < 4) (sym (pair_is i info h.rest l h.is))
     (digit_below (31 - i) h.rest (subst (λ (x : ℕ). h.rest < 4 ^ x) s h.below))
 
+-- where the word of the upper two info bits is written, one word more is written
 pub header_step : (i info w : ℕ) (words : List ℕ) (rs : List ReadSlot) (ws all : List ℕ) → i < 32
     → HeaderWritten i info words rs ws all
     → w ≡ header_word (info / 4611686018427387904) (first_of (drop i rs)) (first_of (drop i ws))
@@ -117,6 +120,7 @@ header_step i info w words rs ws all l h e =
           ∙ ap (λ (x : List ℕ). take i words ++ x) (sym same) ∙ h.so_far;
     }
 
+-- where 32 words are written, these are the whole header
 pub header_end : (i info : ℕ) (words : List ℕ) (rs : List ReadSlot) (ws all : List ℕ) → 32 ≤ i
     → HeaderWritten i info words rs ws all → words ≡ all
 unfolding words_from
@@ -134,6 +138,7 @@ pub all_part : {A : Type 0} (P : A → Type 0) (n k : ℕ) (xs : List A) → All
 all_part P n k xs f = all_of P (take n (drop k xs))
     (each_take P n (drop k xs) (each_drop P k xs (each_of P xs f)))
 
+-- where one chunk more of slots is written, the words of all slots so far are
 pub slots_step : (k : ℕ) (out new front : List ℕ) (insts : List (Option Inst))
     → out ≡ front ++ words_bytes (map slot_word (take (32 * k) insts))
     → new ≡ out ++ words_bytes (map slot_word (take 32 (drop (32 * k) insts)))
@@ -151,6 +156,7 @@ slots_step k out new front insts e n =
     ∙ ap words_bytes (sym (map-append slot_word a b)))
     ∙ ap (λ (x : List (Option Inst)). front ++ words_bytes (map slot_word x)) (sym both)
 
+-- an image that fits has fewer than 2 ^ 32 blocks
 pub few_blocks : (i : Image) → FitsImage i → length i.blocks < 2 ^ 32
 few_blocks i h = let a = least_total i.blocks in let b = h.total in let c = all_chunks i.blocks in
     omega arith

@@ -5,9 +5,8 @@
 //! The instruction words of an image and the lines of a target text both read this table.
 #![tactic(auto)]
 
-mod by_mnemonic;
-mod by_numbers;
 mod digits;
+mod lists;
 mod names;
 mod numbers;
 mod spots;

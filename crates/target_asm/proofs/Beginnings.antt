@@ -30,6 +30,7 @@ begins_more blocks k here d list new l e h n =
     ∙ sym (begins_end 0 (take k blocks) (get_or blocks k d))
     ∙ ap (chunks_from 0) (sym (take_more blocks k d l))
 
+-- the chunks of the first k + 1 blocks are those of the first k and those of block k
 pub sum_more : (blocks : List Block) (k here size : ℕ) (d : Block) → k < length blocks
     → here ≡ sum_by chunks (take k blocks)
     → size ≡ chunks (get_or blocks k d) → here + size ≡ sum_by chunks (take (k + 1) blocks)

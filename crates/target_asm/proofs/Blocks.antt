@@ -10,7 +10,7 @@ use Rattle.trips_isa.specs.declared.block.Block.{Block}
 use Rattle.trips_isa.specs.declared.block.Image.{Image}
 use Rattle.trips_isa.specs.Images.{chunks, chunk_of, FitsImage}
 use Rattle.target_asm_spec.specs.Numbers.{numbered}
-use Rattle.target_asm_spec.specs.Chunks.{goal_of}
+use Rattle.target_asm_spec.specs.Text.{goal_of}
 use Rattle.target_asm_spec.specs.inside.Chunks.{goal_in, start_rows}
 use Rattle.target_asm_spec.specs.Text.{TargetText, block_text, block_in, head_lines, byte_text}
 use Rattle.target_asm_spec.specs.Text.{slot_text, block_line, read_line, write_line, inst_line}

@@ -36,6 +36,7 @@ data_start count text out e =
     by (Ok r) = refl
     by (Err e) = refl
 
+-- where the next data byte is read, what is read on the whole stays the same
 pub data_next : (count at x : ℕ) (text rest out new : List ℕ) (total : Read) → at < count
     → data_byte_in count at text ≡ Some (x, rest) → new ≡ out ++ x ∷ []
     → with_bytes out (bytes_in count (count - at) at text) ≡ total
@@ -50,6 +51,7 @@ data_next count at x text rest out new total l o e t =
     ap (λ (l : List ℕ). with_bytes l more) e ∙ sym (more_bytes out x more)
     ∙ ap (with_bytes out) (sym step) ∙ t
 
+-- where the next data byte cannot be read, the whole is a fault of syntax at its line
 pub data_fail : (count at line : ℕ) (text out : List ℕ) (total : Read) → at < count
     → data_byte_in count at text ≡ None → byte_fault at ≡ Syntax line
     → with_bytes out (bytes_in count (count - at) at text) ≡ total → total ≡ Err (Syntax line)
@@ -62,6 +64,7 @@ data_fail count at line text out total l o e t =
     let f : AsmFault → Read = λ d. Err d in
     sym t ∙ ap (with_bytes out) step ∙ ap f e
 
+-- where all data bytes were read, the whole is those that were read
 pub data_end : (count at : ℕ) (text out : List ℕ) (total : Read) → count ≤ at
     → with_bytes out (bytes_in count (count - at) at text) ≡ total → total ≡ Ok (out, text)
 data_end count at text out total l t =

@@ -63,6 +63,8 @@ fill_start b here line text out e =
     by (Ok r) = refl
     by (Err d) = refl
 
+-- where the next instruction is read, behind the empty slots before it, what is read on the whole stays the
+-- same
 pub fill_next : (b : Begins) (here t line slot next : ℕ) (text rest : List ℕ)
     (out padded new : Slots) (i : Inst) (total : Taken Slots)
     → t < 129 → next ≡ length out → begins (codes "N[") text ≡ true
@@ -89,6 +91,7 @@ fill_next b here t line slot next text rest out padded new i total l q e o p n s
     ∙ sym (more_slots out padded i (gap (length out) slot) more p)
     ∙ ap (with_front out) (sym step) ∙ h
 
+-- where no line of an instruction follows, the slots that are left are empty, and the whole is these
 pub fill_stop : (b : Begins) (here t line : ℕ) (text : List ℕ) (out padded : Slots)
     (total : Taken Slots) → t < 129
     → begins (codes "N[") text ≡ false → padded ≡ out ++ gap (length out) 128
@@ -102,6 +105,7 @@ fill_stop b here t line text out padded total l e p h =
     let f : Slots → Taken Slots = λ x. Ok (x, line + t, text) in
     sym h ∙ ap (with_front out) step ∙ ap f (sym p)
 
+-- where the next line of an instruction has a fault, the whole has this fault
 pub fill_fail : (b : Begins) (here t line next : ℕ) (text : List ℕ) (out : Slots)
     (total : Taken Slots) (d : AsmFault) → t < 129
     → next ≡ length out → begins (codes "N[") text ≡ true → one_inst b here next (line + t) text ≡ Err d
@@ -119,6 +123,7 @@ fill_fail b here t line next text out total d l q e o h =
     Ok (gap (length out) p.0 ++ Some p.1 ∷ ss.0, ss.1, ss.2)) o2 in
     sym h ∙ ap (with_front out) step
 
+-- after 129 lines of instructions the whole is a fault of syntax
 pub fill_over : (b : Begins) (here t line : ℕ) (text : List ℕ) (out : Slots) (total : Taken Slots)
     → 129 ≤ t → t ≤ 129
     → with_front out (slots_in b here (129 - t) (length out) (line + t) text) ≡ total

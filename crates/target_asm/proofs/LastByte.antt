@@ -3,6 +3,7 @@ use Rattle.std.proofs.Common.{◌≡◌, ℕ, suc, ◌<◌, ◌-◌, List, [], �
 use Rattle.std.proofs.Common.{arith}
 use Rattle.trips_isa.specs.Images.{last_byte}
 
+-- the last byte of some bytes stands at one less than their length
 pub last_is : (bs : List ℕ) → 0 < length bs → get_or bs (length bs - 1) 0 ≡ last_byte bs
 last_is [] l = absurd (omega arith)
 last_is (b ∷ []) l = refl

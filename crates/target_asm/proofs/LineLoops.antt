@@ -44,6 +44,7 @@ module _ {A : Type 0} (front : List ℕ) (one : ℕ → ℕ → List ℕ → Res
       let b : line + 0 ≡ line = omega arith in
       rw (e, a, b) (no_front (lines_in front one n 0 line text))
 
+  -- where the next line is read, what is read on the whole stays the same
   pub rows_next : (n i line : ℕ) (text rest : List ℕ) (out new : List A) (x : A)
       (total : Taken (List A)) → i < n
       → begins front text ≡ true → one i (line + i) text ≡ Ok (x, rest) → new ≡ out ++ x ∷ []
@@ -62,6 +63,7 @@ module _ {A : Type 0} (front : List ℕ) (one : ℕ → ℕ → List ℕ → Res
       ∙ ap (λ (l : List A). with_front l more) e ∙ sym (one_more out x more)
       ∙ ap (with_front out) (sym step) ∙ t
 
+  -- where no such line follows, the whole is what was read so far
   pub rows_stop : (n i line : ℕ) (text : List ℕ) (out : List A) (total : Taken (List A)) → i < n
       → begins front text ≡ false → with_front out (lines_in front one (n - i) i (line + i) text)
       ≡ total
@@ -78,6 +80,7 @@ module _ {A : Type 0} (front : List ℕ) (one : ℕ → ℕ → List ℕ → Res
       append_nil [] = refl
       append_nil (x ∷ l) = ap (λ (m : List A). x ∷ m) (append_nil l)
 
+  -- where the next such line has a fault, the whole has this fault
   pub rows_fail : (n i line : ℕ) (text : List ℕ) (out : List A) (total : Taken (List A))
       (e : AsmFault) → i < n
       → begins front text ≡ true → one i (line + i) text ≡ Err e
@@ -91,6 +94,7 @@ module _ {A : Type 0} (front : List ℕ) (one : ℕ → ℕ → List ℕ → Res
       (i + 1) (line + i + 1) r.1 >>> λ rs. Ok (r.0 ∷ rs.0, rs.1, rs.2)) o in
       sym t ∙ ap (with_front out) step
 
+  -- after n lines the whole is a fault of syntax
   pub rows_over : (n i line : ℕ) (text : List ℕ) (out : List A) (total : Taken (List A)) → n ≤ i
       → i ≤ n
       → with_front out (lines_in front one (n - i) i (line + i) text) ≡ total

@@ -17,6 +17,7 @@ fails_first text (Range n) h = inr (fault_of text (Range n) h)
 fails_first text (Label n) h = inr (fault_of text (Label n) h)
 fails_first text Memory h = inl refl
 
+-- the error of a call that reads a text is a lack of memory or the text's first fault
 pub refused : (text : List ℕ) (r : Result Image AsmFault)
     → ReturnsOrMemory (λ v. v) r (image_in text) → IfErr r (IsMemoryOr (FirstAsmFault text))
 refused text (Ok v) h = tt
@@ -31,6 +32,7 @@ fails_alone (Range n) f h = inr (sym (err_is f (Range n) h))
 fails_alone (Label n) f h = inr (sym (err_is f (Label n) h))
 fails_alone Memory f h = inl refl
 
+-- a call that reads a text with a first fault answers this fault or a lack of memory
 pub refused_only : (text : List ℕ) (r : Result Image AsmFault)
     → ReturnsOrMemory (λ v. v) r (image_in text) → (f : AsmFault) → FirstAsmFault text f
     → MatchResult r (λ v. ⊥) (IsMemoryOr (λ e. e ≡ f))

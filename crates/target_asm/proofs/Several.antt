@@ -58,6 +58,7 @@ module _ (b : Begins) (n : ℕ) where
       by (Ok bs) = refl
       by (Err e) = refl
 
+  -- where the next block is read, what is read on the whole stays the same
   pub several_next : (k here line line2 here2 : ℕ) (text rest : List ℕ) (front new : List Block)
       (x : Block) (total : Blocks)
       → k < n → (length text == 0) ≡ false → one_block b k here line text ≡ Ok (x, line2, rest)
@@ -77,6 +78,7 @@ module _ (b : Begins) (n : ℕ) where
       ∙ ap (λ (l : List Block). with_blocks l more) e ∙ sym (more_blocks front x more)
       ∙ ap (with_blocks front) (sym step) ∙ t
 
+  -- where the text has ended, the whole is the blocks that were read
   pub several_end : (k here line : ℕ) (text : List ℕ) (front : List Block) (total : Blocks) → k < n
       → (length text == 0) ≡ true
       → with_blocks front (blocks_in b (n - k) k here line text) ≡ total → total ≡ Ok front
@@ -92,6 +94,7 @@ module _ (b : Begins) (n : ℕ) where
       append_nil [] = refl
       append_nil (x ∷ l) = ap (λ (m : List Block). x ∷ m) (append_nil l)
 
+  -- where the next block has a fault, the whole has this fault
   pub several_fail : (k here line : ℕ) (text : List ℕ) (front : List Block) (total : Blocks)
       (e : AsmFault) → k < n
       → (length text == 0) ≡ false → one_block b k here line text ≡ Err e
@@ -105,6 +108,7 @@ module _ (b : Begins) (n : ℕ) where
       (k + 1) (here + chunks t.0) t.1 t.2 >>> λ bs. Ok (t.0 ∷ bs)) o in
       fails_of e total (sym t ∙ ap (with_blocks front) step)
 
+  -- after n blocks the whole is a fault of syntax
   pub several_over : (k here line : ℕ) (text : List ℕ) (front : List Block) (total : Blocks) → n ≤ k
       → with_blocks front (blocks_in b (n - k) k here line text) ≡ total → total ≡ Err (Syntax line)
   several_over k here line text front total l t =

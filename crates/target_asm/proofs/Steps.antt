@@ -42,6 +42,7 @@ no_fails Memory i h = refl
 ok_is : (x y : Image) → ◌≡◌ {A = Result Image AsmFault} (Ok x) (Ok y) → x ≡ y
 ok_is x y e = cc
 
+-- an answer that is right of the reading in steps is right of the reading at once
 pub answers_same : (text : List ℕ) (r : Result Image AsmFault) → ReturnsOrMemory (λ v. v) r (steps_in text)
     → ReturnsOrMemory (λ v. v) r (image_in text)
 answers_same text r h = subst (λ (x : Result Image AsmFault). ReturnsOrMemory (λ v. v) r x)
@@ -52,6 +53,7 @@ only : (i : Image) (r : Result Image AsmFault) → ReturnsOrMemory (λ v. v) r (
 only i (Ok v) h = sym (ok_is i v h)
 only i (Err e) h = no_fails e i h
 
+-- a call that reads the text of an image answers this image or a lack of memory
 pub read_only : (text : List ℕ) (r : Result Image AsmFault) → ReturnsOrMemory (λ v. v) r (image_in text)
     → (i : Image) → TargetText i text → MatchResult r (λ v. v ≡ i) IsMemory
 read_only text r h i t =

@@ -6,7 +6,7 @@ ghost use Rattle.isa_table.specs.Mnemonics.{mnemonic_of};
 ghost use Rattle.trips_isa.specs.Fits.{FitsBlock};
 ghost use Rattle.trips_isa.specs.Images.{FitsImage, chunks, chunk_of};
 ghost use Rattle.target_asm_spec.specs.Numbers.{numbered};
-ghost use Rattle.target_asm_spec.specs.Chunks.{goal_of};
+ghost use Rattle.target_asm_spec.specs.Text.{goal_of};
 ghost use Rattle.target_asm_spec.specs.inside.Chunks.{goal_in, start_rows};
 ghost use Rattle.target_asm_spec.specs.Text.{TargetText, image_text, head_lines, byte_text, block_text};
 ghost use Rattle.target_asm_spec.specs.Text.{block_line, read_line, write_line, inst_line, op_text};

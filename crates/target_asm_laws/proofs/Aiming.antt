@@ -36,18 +36,22 @@ use Rattle.target_asm_laws.proofs.SlotLines.{no_block, hits, AimResult, Aims}
 
 -- ---- the first reading does not look
 
+-- a branch may go anywhere
 abbrev pub Anywhere : Aim
 Anywhere here g = Unit {0}
 
+-- no goal is bad
 abbrev pub Nowhere : ℕ → Goal → Type 0
 Nowhere here g = ⊥
 
+-- the first reading, which knows of no block where it begins, lets a branch go anywhere
 pub first_aims : Aims Anywhere Nowhere unknown
 unfolding aimed
 first_aims s here at i f j l = tt
 
 -- ---- the second does
 
+-- a goal that is not good, given where the blocks begin
 abbrev pub BadAim : List ℕ → ℕ → Goal → Type 0
 BadAim begins here g = GoodGoal begins here (Some g) → ⊥
 
@@ -92,6 +96,7 @@ label_aim cs here at k near few room = by (nat_lt (capped k) (length cs)) refl
     by false e = no_block (pos k) refl (λ z. clash (nat_lt k (length cs)) (lt-ltb k (length cs) z)
         (sym same ∙ e))
 
+-- a number that fits an offset is kept as it is
 pub signed_kept : (z : ℤ) → FitsSigned offset_half z → capped_z z ≡ z
 signed_kept (pos n) f = ap pos (capped_small n (omega (arith, f)))
 signed_kept (negsuc n) f =
@@ -146,12 +151,15 @@ goal_aim first here at (Some (Label (negsuc k))) imm near few room small =
 goal_aim first here at (Some (Offset n)) imm near few room small =
     offset_aim first here at n imm few (small n refl)
 
+-- an offset that is judged fits its field
 pub offset_fits : (op : Op) (g : Option Goal) (n z : ℤ) → MayHaveGoal op g → g ≡ Some (Offset n)
     → (s : SpelledInst) → s.numbers.goal ≡ g → ImmIs (form_of op) s z → FitsSigned offset_half n
 offset_fits Bro g n z h e s w i = (subst (λ (x : Option Goal). OffsetIs x z) (w ∙ e) i).1
 offset_fits Callo g n z h e s w i = (subst (λ (x : Option Goal). OffsetIs x z) (w ∙ e) i).1
 offset_fits op g n z h e s w i = absurd (none_some g (Offset n) h e)
 
+-- the second reading lets a branch go where a block of the first reading begins, and a fault of it is a bad
+-- goal
 pub second_aims : (first : List Block) → Near (chunks_from 0 first) → length first ≤ 262145
     → Aims (GoodGoal (chunks_from 0 first)) (BadAim (chunks_from 0 first)) (begins_of first)
 unfolding aimed

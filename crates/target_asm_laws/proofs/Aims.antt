@@ -38,6 +38,7 @@ pub record IsLabel (b : Begins) (here : ℕ) (k z : ℤ) : Type 0 where
   pub fits : FitsSigned offset_half z
   pub goal : goal_in b.starts (pos here +ℤ z) ≡ Some at
 
+-- where a branch goes that is read: by a label to its block, by an offset to where none begins, else nowhere
 abbrev pub AimIs : Begins → ℕ → Option Goal → ℤ → ℤ → Type 0
 AimIs b here None imm z = z ≡ imm
 AimIs b here (Some (Label k)) imm z = IsLabel b here k z
@@ -81,6 +82,7 @@ aimed_at_is b here line (Some (Offset n)) imm t =
     (Err (fault.Range line)) (Ok imm) (λ e. tt)
     (λ e. (refl, none_is (goal_in b.starts (pos here +ℤ n)) e))
 
+-- what is aimed at without a fault is where the branch goes
 pub aimed_is : (b : Begins) (here line : ℕ) (goal : Option Goal) (imm : ℤ) → Told b
     → Holds (AimIs b here goal imm) (aimed b here line goal imm)
 unfolding aimed
@@ -135,6 +137,7 @@ offset_words b here Bro goal imm z h o a = jump_words b here goal imm z h o a
 offset_words b here Callo goal imm z h o a = jump_words b here goal imm z h o a
 offset_words b here op goal imm z h o a = ap goal_decimals h
 
+-- the number by which a branch's goal is named is small
 pub aim_small : (b : Begins) (here : ℕ) (goal : Option Goal) (imm z : ℤ) → Told b
     → OffsetIs goal imm → AimIs b here goal imm z → SmallAim goal
 aim_small b here None imm z t o a = tt

@@ -316,6 +316,7 @@ some_line : (ls : List Line) (l : Line) (back : List Line) → [] ≡ lines_word
 some_line [] l back e = no_empty l (lines_words back []) e
 some_line (k ∷ ls) l back e = no_empty k (lines_words (ls ++ l ∷ back) []) e
 
+-- where the first bad goal stands behind good lines, reading gives its fault at its line
 pub goal_found : (text bytes rest : List ℕ) (ls : List Line) (g : Goal) → GoodFront text bytes rest
     → BadGoal rest ls g → image_in text ≡ Err (goal_fault g (first_line bytes + length ls))
 goal_found text bytes rest ls g a b = after_data text bytes rest a ∙ by rest b

@@ -297,6 +297,7 @@ block_goes G B b free aims k here at c p cs text e a l =
 
 -- ---- all blocks
 
+-- where the lines of blocks end: behind the last block, with the chunks at which blocks begin
 pub record BlocksEnd (bs : List ℕ) (here : ℕ) (x : List Block) (q : Place) (m : ℕ)
     (rest : List ℕ) : Type 0 where
   pub begins : q.begins ≡ bs ++ chunks_from here x
@@ -309,6 +310,7 @@ near_more : (c : ℕ) (cs : List ℕ) → c ≤ 524286
 near_more c cs l h zero w = l
 near_more c cs l h (suc k) w = h k (omega (arith, w))
 
+-- the reading of the lines of blocks leads to their end, or to a fault
 pub blocks_go : (G : Aim) (B : ℕ → Goal → Type 0) (b : Begins) → Free G → Aims G B b
     → (turns k here at : ℕ) (p : Place) (text : List ℕ) → Between k here p text
     → k + turns ≡ 262145 → 2 * k ≤ here → here ≤ most_chunks

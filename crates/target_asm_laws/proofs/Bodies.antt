@@ -29,6 +29,7 @@ use Rattle.target_asm_laws.proofs.Rows.{writes_are}
 use Rattle.target_asm_laws.proofs.Aims.{Told}
 use Rattle.target_asm_laws.proofs.Slots.{goals, AreSlots, slots_are}
 
+-- what holds of each item holds of all
 pub all_of : {A : Type 0} (P : A → Type 0) (xs : List A) → Each P xs → All P xs
 all_of P [] f = All-nil P
 all_of P (x ∷ xs) f = All-cons P x xs f.0 (all_of P xs f.1)
@@ -136,6 +137,7 @@ texts_from goal here k [] = []
 texts_from goal here k (b ∷ bs) =
     block_text goal here k b ++ texts_from goal (here + chunks b) (suc k) bs
 
+-- blocks that were read: each fits, there is room for all, and the text is theirs
 pub record AreBlocks (b : Begins) (k here : ℕ) (text : List ℕ) (bs : List Block) : Type 0 where
   pub each : Each FitsBlock bs
   pub total : here + sum_by chunks bs ≤ most_chunks
@@ -156,6 +158,7 @@ blocks_more b k here line text t x bs p q =
           ∙ ap (λ (m : ℕ). texts_from (goals b) (here + chunks x) m bs) one);
     }
 
+-- the lines that are read as blocks are the text of these blocks
 pub blocks_are : (b : Begins) → Told b → (turns k here line : ℕ) (text : List ℕ)
     → k + turns ≤ 999999999 → here ≤ most_chunks
     → Holds (AreBlocks b k here text) (blocks_in b turns k here line text)

@@ -29,6 +29,7 @@ use Rattle.target_asm_laws.proofs.FaultRows.{capped_read}
 
 -- ---- one number
 
+-- whether a number lies below a limit is seen of the number that is read
 pub below_capped : (n m : ℕ) → m ≤ 999999999 → nat_lt (capped n) m ≡ nat_lt n m
 below_capped n m l = by (cases_lt n 1000000000)
   where
@@ -38,6 +39,7 @@ below_capped n m l = by (cases_lt n 1000000000)
         ap (λ (x : ℕ). nat_lt x m) (capped_large n h)
         ∙ le-ltb 1000000000 m (omega (arith, l)) ∙ sym (le-ltb n m (omega (arith, l, h)))
 
+-- a number that is read as one below a thousand million is this one
 pub same_capped : (n : ℕ) → n < 1000000000 → (m : ℕ) → capped m ≡ n → m ≡ n
 same_capped n l m e = by (cases_lt m 1000000000)
   where
@@ -73,6 +75,7 @@ kept_below n m l e =
     let h = ltb-true n m e in
     let c = capped_small (suc n) (omega (arith, h, l)) in omega (arith, c)
 
+-- whether a number lies in its field is seen of the number that is read
 pub field_capped : (z : ℤ) (m : ℕ) → m ≤ 999999999 → field_in (capped_z z) m ≡ field_in z m
 unfolding field_in
 field_capped (pos n) m l =

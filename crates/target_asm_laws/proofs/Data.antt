@@ -46,6 +46,7 @@ limit_is (pos n) = when (IsLimited (pos n)) (nat_le n 4194304) (Some n)
     (λ e. record { is = refl; few = leb-true n 4194304 e })
 limit_is (negsuc n) = tt
 
+-- the front of a text: its first lines, with a count of data bytes within its limit
 pub record IsFront (text : List ℕ) (r : ℕ × List ℕ) : Type 0 where
   pub few : r.0 ≤ 4194304
   pub is : text ≡ head_lines r.0 ++ r.1
@@ -67,6 +68,7 @@ front_by text a rest z n h c l = record {
       ∙ sym (head_words_are n rest);
 }
 
+-- a front that is read is the text's first lines
 pub front_is : (text : List ℕ) → Holds (IsFront text) (front_in text)
 unfolding front_in
 front_is text =
@@ -93,6 +95,7 @@ feed_by false text = refl
 feed_is : (count at : ℕ) (text : List ℕ) → If (IsFeed count at text) (feed_in count at text)
 feed_is count at text = feed_by (((at + 1) % 32 == 0) || (at + 1 == count)) text
 
+-- a data byte with what stands before and behind it in its line
 pub record IsDataByte (count at : ℕ) (text : List ℕ) (r : ℕ × List ℕ) : Type 0 where
   pub below : r.0 < 256
   pub is : text ≡ byte_text count at r.0 ++ r.1
@@ -107,6 +110,7 @@ data_byte_by count at byte text t rest b f = record {
       ∙ sym (append_assoc (hex_byte byte) (data_end count at) rest);
 }
 
+-- a data byte that is read stands there in the text
 pub data_byte_is : (count at : ℕ) (text : List ℕ)
     → If (IsDataByte count at text) (data_byte_in count at text)
 unfolding data_byte_in
@@ -115,9 +119,11 @@ data_byte_is count at text =
     bind (IsFeed count at b.1) (IsDataByte count at text) (feed_in count at b.1) _
     (feed_is count at b.1) (λ rest f. data_byte_by count at b.0 text b.1 rest h f))
 
+-- a number below 256
 abbrev pub Byte : ℕ → Type 0
 Byte b = b < 256
 
+-- some data bytes, one after the other, as the text has them
 pub record AreBytes (count n at : ℕ) (text : List ℕ) (r : List ℕ × List ℕ) : Type 0 where
   pub size : length r.0 ≡ n
   pub each : Each Byte r.0
@@ -137,6 +143,7 @@ bytes_more count n at b text t bs rest p q =
           rest);
     }
 
+-- data bytes that are read stand there in the text
 pub bytes_are : (count n at : ℕ) (text : List ℕ)
     → Holds (AreBytes count n at text) (bytes_in count n at text)
 unfolding bytes_in
@@ -150,6 +157,7 @@ bytes_are count (suc n) at text =
     (bytes_are count n (at + 1) b.1) (λ bs q.
     bytes_more count n at b.0 text b.1 bs.0 bs.1 p q))
 
+-- all data bytes of a text, of which the last is not 0
 pub record IsData (count : ℕ) (text : List ℕ) (r : List ℕ × List ℕ) : Type 0 where
   pub bytes : AreBytes count count 0 text r
   pub last : last_byte r.0 ≡ 0 → ⊥
@@ -157,6 +165,7 @@ pub record IsData (count : ℕ) (text : List ℕ) (r : List ℕ × List ℕ) : T
 pub above : (n : ℕ) → nat_lt 0 n ≡ true → n ≡ 0 → ⊥
 above n e z = let l : 0 < n = ltb-true 0 n e in omega (arith, l, z)
 
+-- where the data bytes are read, the text has them, and the last is not 0
 pub data_is : (count : ℕ) (text : List ℕ) → Holds (IsData count text) (data_in count text)
 unfolding data_in
 data_is count text =

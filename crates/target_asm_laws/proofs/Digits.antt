@@ -38,6 +38,7 @@ after_is (c ∷ cs) (d ∷ ds) =
 
 -- ---- digits
 
+-- the digits at the front of a text are all digits
 pub front_digits : (text : List ℕ) → all_digits (take (digits_in text) text) ≡ true
 unfolding digits_in
 front_digits [] = refl
@@ -74,6 +75,7 @@ pub record IsDigit (d : ℕ) : Type 0 where
   pub low : 48 ≤ d
   pub high : d ≤ 57
 
+-- a letter that tests as a digit is one
 pub digit_is : (d : ℕ) → is_digit d ≡ true → IsDigit d
 digit_is d e = record {
   low = leb-true 48 d (and_left (nat_le 48 d) (nat_le d 57) e);
@@ -130,6 +132,7 @@ digits_are d (e ∷ ds) a z l =
     by (inl h) w some is = omega (arith, h, w)
     by (inr h) w some is = absurd (some (omega (arith, h, is.low)))
 
+-- the front of digits is as long as there are digits
 pub length-front : (text : List ℕ) → length (take (digits_in text) text) ≡ digits_in text
 unfolding digits_in
 length-front [] = refl
@@ -191,6 +194,7 @@ number_is text = number_by_is text (after_in (codes "-") text) (after_is (codes 
 abbrev pub spaced_words : ℤ → List ℕ
 spaced_words z = 32 ∷ signed_decimal z
 
+-- a number that is read behind a space, if it is small, is the text's
 pub spaced_is : (text : List ℕ) → If (Spells spaced_words IsSmall text) (spaced_in text)
 unfolding spaced_in
 spaced_is text = bind (IsAfter (codes " ") text) (Spells spaced_words IsSmall text)

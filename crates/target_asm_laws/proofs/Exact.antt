@@ -165,6 +165,7 @@ numbers_small b here Branch s i z a = (
 
 -- ---- they are spelled as in its line
 
+-- the block that begins where a branch goes, if one does
 abbrev pub goal_at : Begins → ℕ → ℤ → Option ℕ
 goal_at b here z = goal_in b.starts (pos here +ℤ z)
 
@@ -206,6 +207,7 @@ inst_line_is : (s : ℕ) (i : Inst) (goal : Option ℕ) (rest : List ℕ) → in
 unfolding inst_line indexed op_text targets_text
 inst_line_is s i goal rest = simp append_assoc refl
 
+-- the text that is read as the line of an instruction is the line of the instruction that is aimed
 pub line_is : (b : Begins) (here slot : ℕ) (text rest : List ℕ) (s : SpelledInst) (i : Inst)
     (z : ℤ) → InField s.slot 128 slot → IsInstLine text (s, rest)
     → IsAimed b here (form_of s.op) s i z
@@ -238,6 +240,7 @@ line_is b here slot text rest s i z f l a =
     (sym a.same)
     ∙ sym (inst_line_is slot j g rest)
 
+-- the instruction that is aimed fits
 pub inst_fits : (b : Begins) (here : ℕ) (s : SpelledInst) (i : Inst) (z : ℤ)
     → IsAimed b here (form_of s.op) s i z → FitsInst (aimed_inst i z)
 inst_fits b here s i z a =

@@ -29,6 +29,7 @@ read_fault text e (rule.bad_number bytes rest t ls a good is n) =
 read_fault text e (rule.no_block bytes rest ls k a b) = goal_found text bytes rest ls (Label k) a b
 read_fault text e (rule.hits_block bytes rest ls n a b) = goal_found text bytes rest ls (Offset n) a b
 
+-- reading a text gives a fault exactly where it is the text's first fault
 pub met : (text : List ℕ) (e : AsmFault) → (image_in text ≡ Err e) ↔ FirstAsmFault text e
 met text e = (fault_of text e, read_fault text e)
 

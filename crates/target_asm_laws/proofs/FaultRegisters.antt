@@ -61,6 +61,7 @@ at_place z i l e =
 
 -- ---- the first letter of a text
 
+-- a text that begins with a word begins with its first letter
 pub first_letter : (c : ℕ) (cs text : List ℕ) → begins (c ∷ cs) text ≡ true → get_or text 0 0 ≡ c
 unfolding after_in
 first_letter c cs [] e = absurd cc
@@ -139,6 +140,7 @@ other_read p text i s e l c f wrong = no_read p text c (λ r more st is.
     (ap (λ (x : SpelledRead). is_place x.number i) same ∙ at_place r.number i (omega (arith, l)) n)
     wrong)
 
+-- the reading of the line of a read leads behind it, or to a fault
 pub read_goes : (G : Aim) (B : ℕ → Goal → Type 0) (p : Place) (i at : ℕ) (text : List ℕ)
     → G p.here None → p.next_read ≡ Some i → i ≤ 32 → begins (codes "R[") text ≡ true
     → Goes G B p at text (AfterRead p i at) (one_read i at text)
@@ -179,6 +181,7 @@ no_write p text e h = only_kind p text 87 e (omega arith) by
     by (line.inst s) more c st is = absurd (omega (arith, c))
     by (line.block k m) more c st is = absurd (omega (arith, c))
 
+-- behind the line of write i the next write is the one after it
 abbrev pub AfterWrite : Place → ℕ → ℕ → ℕ × List ℕ → Place → ℕ → List ℕ → Type 0
 AfterWrite p i at x q m rest =
     (q ≡ record p { next_read = None; next_write = Some (suc i) }) × (x.1 ≡ rest) × (m ≡ at + 1)
@@ -229,6 +232,7 @@ field_below z g e =
     let f : InField z 128 g = found (InField z 128) (field_in z 128) g (field_is z 128) e in
     subst (Below 128) (sym f.is) f.below
 
+-- the reading of the line of a write leads behind it, or to a fault
 pub write_goes : (G : Aim) (B : ℕ → Goal → Type 0) (p : Place) (i at : ℕ) (text : List ℕ)
     → G p.here None → p.next_write ≡ Some i → i ≤ 32 → begins (codes "W[") text ≡ true
     → Goes G B p at text (AfterWrite p i at) (one_write i at text)
@@ -265,6 +269,7 @@ write_goes G B p i at text g e l b =
 
 -- ---- one line after the other
 
+-- where rows of one kind end: the next line is of another kind
 pub record RowsEnd {A : Type 0} (At : Place → ℕ → List ℕ → Type 0) (front : List ℕ)
     (x : List A × ℕ × List ℕ) (q : Place) (m : ℕ) (rest : List ℕ) : Type 0 where
   pub line : x.1 ≡ m
@@ -273,6 +278,7 @@ pub record RowsEnd {A : Type 0} (At : Place → ℕ → List ℕ → Type 0) (fr
   pub at : At q i rest
   pub none : begins front rest ≡ false
 
+-- behind one row more there are as many rows, at most 32
 pub record RowsMore {A : Type 0} (At : Place → ℕ → List ℕ → Type 0) (at i : ℕ)
     (x : A × List ℕ) (q : Place) (m : ℕ) (rest : List ℕ) : Type 0 where
   pub left : x.1 ≡ rest
@@ -280,6 +286,8 @@ pub record RowsMore {A : Type 0} (At : Place → ℕ → List ℕ → Type 0) (a
   pub below : i < 32
   pub more : At q (i + 1) rest
 
+-- where the reading of each row leads behind it or to a fault, that of all rows leads to their end or to a
+-- fault
 pub rows_go : {A : Type 0} (G : Aim) (B : ℕ → Goal → Type 0) (At : Place → ℕ → List ℕ → Type 0)
     (front : List ℕ) (one : ℕ → ℕ → List ℕ → Result (A × List ℕ) AsmFault)
     → ((p : Place) (i at : ℕ) (text : List ℕ) → At p i text → i ≤ 32 → begins front text ≡ true

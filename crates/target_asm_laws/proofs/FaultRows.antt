@@ -57,6 +57,7 @@ operands_read n g t u rest f =
     let e = fit_read t u (10 ∷ rest) f in
     rw (a, b, c, d, e) refl
 
+-- the words of a read are read as this read, its numbers kept up to what lies past every field
 pub read_read : (s : SpelledRead) (rest : List ℕ) → AreOperands s.first s.second
     → read_in (read_words s rest) ≡ Some (capped_read s, rest)
 unfolding read_in read_words
@@ -116,6 +117,7 @@ parts_of n g text =
           ∙ ap (λ (x : Option SpelledTarget). operands_fit (same_text a t.1) t.0 x) c.same ∙ e);
     })))))
 
+-- a text that is read as the line of a read is the words of one
 pub record IsReadOf (text : List ℕ) (r : SpelledRead × List ℕ) : Type 0 where
   pub s : SpelledRead
   pub same : capped_read s ≡ r.0
@@ -147,6 +149,7 @@ read_by n g text t u rest s a b c = record {
   fits = c.fits;
 }
 
+-- what is read as the line of a read is its text
 pub read_of_text : (text : List ℕ) → If (IsReadOf text) (read_in text)
 unfolding read_in
 read_of_text text =
@@ -159,9 +162,11 @@ read_of_text text =
 
 -- ---- writes
 
+-- a write whose numbers are kept up to what lies past every field
 abbrev pub capped_write : SpelledWrite → SpelledWrite
 capped_write s = record { number = capped_z s.number; register = capped_z s.register }
 
+-- the words of a write are read as this write, its numbers so kept
 pub write_line_read : (s : SpelledWrite) (rest : List ℕ)
     → write_line_in (write_words s rest) ≡ Some (capped_write s, rest)
 unfolding write_line_in write_words
@@ -174,11 +179,13 @@ write_line_read s rest =
     let d : after_in (codes "\n") (10 ∷ rest) ≡ Some rest = after_front (codes "\n") rest in
     rw (a, b, d) refl
 
+-- a text that is read as the line of a write is the words of one
 pub record IsWriteOf (text : List ℕ) (r : SpelledWrite × List ℕ) : Type 0 where
   pub s : SpelledWrite
   pub same : capped_write s ≡ r.0
   pub is : text ≡ write_words s r.1
 
+-- what is read as the line of a write is its text
 pub write_of_text : (text : List ℕ) → If (IsWriteOf text) (write_line_in text)
 unfolding write_line_in write_words
 write_of_text text =
@@ -199,6 +206,7 @@ write_of_text text =
 
 -- ---- blocks
 
+-- the words of a block's line are read as this line, its number so kept
 pub block_read : (k : ℤ) (mask : ℕ) (rest : List ℕ) → mask < 2 ^ 32
     → block_line_in (block_words k mask rest)
     ≡ Some (record { number = capped_z k; mask = mask }, rest)
@@ -215,12 +223,14 @@ block_read k mask rest m =
     let e : after_in (codes "\n") (10 ∷ rest) ≡ Some rest = after_front (codes "\n") rest in
     rw (a, b, c, d, e) refl
 
+-- a text that is read as the line of a block is the words of one
 pub record IsBlockOf (text : List ℕ) (r : SpelledBlock × List ℕ) : Type 0 where
   pub k : ℤ
   pub same : capped_z k ≡ r.0.number
   pub mask : r.0.mask < 2 ^ 32
   pub is : text ≡ block_words k r.0.mask r.1
 
+-- what is read as the line of a block is its text
 pub block_of_text : (text : List ℕ) → If (IsBlockOf text) (block_line_in text)
 unfolding block_line_in block_words
 block_of_text text =

@@ -65,6 +65,7 @@ write_read n rest =
     index_read (codes "W[") n rest in
     rw (a, b) refl
 
+-- the words of a target are read as this target, its number kept up to what lies past every field
 pub target_read : (t : SpelledTarget) (rest : List ℕ)
     → target_in (target_words t rest) ≡ Some (capped_target t, rest)
 unfolding target_words
@@ -79,6 +80,7 @@ target_read (spelled.Pred n) rest =
     (pred_place (capped_z n) rest)
 target_read (spelled.Write n) rest = write_read n rest
 
+-- a target behind a space is read
 pub some_read : (t : SpelledTarget) (rest : List ℕ)
     → next_in (32 ∷ target_words t rest) ≡ Some (Some (capped_target t), rest)
 unfolding next_in
@@ -87,6 +89,7 @@ some_read t rest =
     after_front (codes " ") (target_words t rest) in
     rw (a, target_read t rest) refl
 
+-- a target that is there or is not is read where no other follows
 pub next_read : (t : Option SpelledTarget) (rest : List ℕ) → IsEnd rest
     → next_in (maybe_words t rest) ≡ Some (capped_maybe t, rest)
 unfolding maybe_words
@@ -95,6 +98,7 @@ next_read (Some t) rest e = some_read t rest
 
 -- ---- what is read as a target is the text of one
 
+-- a text that is read as a target is the words of one
 pub record IsTargetOf (text : List ℕ) (r : SpelledTarget × List ℕ) : Type 0 where
   pub t : SpelledTarget
   pub same : capped_target t ≡ r.0
@@ -149,10 +153,12 @@ target_by_of : (text : List ℕ) (o : Option (List ℕ)) → If (IsAfter (codes 
 target_by_of text None h = write_of text
 target_by_of text (Some inner) h = slot_of text inner h
 
+-- what is read as a target is its text
 pub target_of : (text : List ℕ) → If (IsTargetOf text) (target_in text)
 unfolding target_in
 target_of text = target_by_of text (after_in (codes "N[") text) (after_is (codes "N[") text)
 
+-- a text that is read as a target that may be there is the words of one, or none stands there
 pub record IsNextOf (text : List ℕ) (r : Option SpelledTarget × List ℕ) : Type 0 where
   pub t : Option SpelledTarget
   pub same : capped_maybe t ≡ r.0
@@ -175,6 +181,7 @@ next_by_of text (Some rest) e h =
       none = λ n. absurd cc;
     })
 
+-- what is read as a target that may be there is its text
 pub next_of : (text : List ℕ) → If (IsNextOf text) (next_in text)
 unfolding next_in
 next_of text = next_by_of text (after_in (codes " ") text) refl (after_is (codes " ") text)

@@ -40,6 +40,7 @@ abbrev pub Tells : {A : Type 0} → List ℕ → (A → Type 0) → Result A Asm
 Tells text P (Ok x) = P x
 Tells text P (Err e) = FirstAsmFault text e
 
+-- where a first step tells its fault and the next one its own, both steps tell theirs
 pub tells : {A C : Type 0} (text : List ℕ) (P Q : A → Type 0) (S : C → Type 0) (r : Result A AsmFault)
     (f : A → Result C AsmFault) → Tells text P r → Holds Q r
     → ((x : A) → P x → Q x → Tells text S (f x)) → Tells text S (r >>> f)
@@ -52,17 +53,20 @@ pub tell_some : {A C : Type 0} (text : List ℕ) (S : C → Type 0) (o : Option 
 tell_some text S None e f a k = a refl
 tell_some text S (Some x) e f a k = k x refl
 
+-- where what is wanted is not so, its fault is the first one; else what follows tells its own
 pub tell_wants : {C : Type 0} (text : List ℕ) (S : C → Type 0) (b : Bool) (e : AsmFault)
     (f : Unit {0} → Result C AsmFault) → (b ≡ false → FirstAsmFault text e)
     → (b ≡ true → Tells text S (f tt)) → Tells text S (wants b e >>> f)
 tell_wants text S false e f a k = a refl
 tell_wants text S true e f a k = k refl
 
+-- nothing is said of what is given
 abbrev pub Any : {A : Type 0} → A → Type 0
 Any x = Unit {0}
 
 -- ---- the first two lines
 
+-- the words of a count are read as this count, kept up to what lies past every field
 pub count_read : (z : ℤ) (rest : List ℕ) → count_in (count_words z rest) ≡ Some (capped_z z, rest)
 unfolding count_in count_words
 count_read z rest =
@@ -72,11 +76,13 @@ count_read z rest =
     let c : after_in (codes "\n") (10 ∷ rest) ≡ Some rest = after_front (codes "\n") rest in
     rw (a, b, c) refl
 
+-- a text that is read as a count is the words of one
 pub record IsCountOf (text : List ℕ) (r : ℤ × List ℕ) : Type 0 where
   pub z : ℤ
   pub same : capped_z z ≡ r.0
   pub is : text ≡ count_words z r.1
 
+-- what is read as a count is its text
 pub count_of : (text : List ℕ) → If (IsCountOf text) (count_in text)
 unfolding count_in count_words
 count_of text =
@@ -100,6 +106,7 @@ limit_read (pos n) b =
     rw (c, e) refl
 limit_read (negsuc n) b = absurd b
 
+-- a fault of the first lines is the text's first fault
 pub front_tells : (text : List ℕ) → Tells text Any (front_in text)
 unfolding front_in
 front_tells text =
@@ -161,6 +168,7 @@ not_above : (n : ℕ) → nat_lt 0 n ≡ false → n ≡ 0
 not_above zero e = refl
 not_above (suc n) e = absurd (clash (nat_lt 0 (suc n)) (lt-ltb 0 (suc n) (omega arith)) e)
 
+-- a fault of the data bytes is the text's first fault
 pub data_tells : (text : List ℕ) (count : ℕ) (t : List ℕ) → IsFront text (count, t)
     → Tells text Any (data_in count t)
 unfolding data_in
@@ -181,6 +189,7 @@ data_tells text count t a =
     (a.is ∙ ap (λ (x : List ℕ). head_lines count ++ x) b.is
     ∙ ap (λ (n : ℕ). data_words n bs.0 bs.1) (sym size)))) (λ w. tt))
 
+-- where the first lines and the data bytes are read, the text has a good front
 pub front_good : (text : List ℕ) (count : ℕ) (t bytes rest : List ℕ) → IsFront text (count, t)
     → IsData count t (bytes, rest) → GoodFront text bytes rest
 front_good text count t bytes rest a b =

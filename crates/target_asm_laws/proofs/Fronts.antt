@@ -47,6 +47,7 @@ no_front : (text : List ℕ) → after_in (codes "trips 1\n") text ≡ None
 unfolding front_in
 no_front text none = rw none refl
 
+-- a text that does not begin with its head has a fault of syntax in line 1
 pub head_found : (text : List ℕ) → ((rest : List ℕ) → text ≡ codes "trips 1\n" ++ rest → ⊥)
     → image_in text ≡ Err (fault.Syntax 1)
 head_found text h =
@@ -68,6 +69,7 @@ after_head : (text t : List ℕ) → text ≡ codes "trips 1\n" ++ t
     → after_in (codes "trips 1\n") text ≡ Some t
 after_head text t e = ap (after_in (codes "trips 1\n")) e ∙ after_front (codes "trips 1\n") t
 
+-- a text whose count is no count has a fault of syntax in line 2
 pub count_found : (text t : List ℕ) → text ≡ codes "trips 1\n" ++ t
     → ((n : ℤ) (rest : List ℕ) → t ≡ count_words n rest → ⊥) → image_in text ≡ Err (fault.Syntax 2)
 count_found text t e h =
@@ -92,6 +94,7 @@ unfolding bytes_limit
 limit_of (negsuc n) k e = absurd cc
 limit_of (pos n) k e = limit_by n k (nat_le (capped n) 4194304) refl e
 
+-- a text whose count is past its limit has a fault of range in line 2
 pub limit_found : (text : List ℕ) (n : ℤ) (rest : List ℕ)
     → text ≡ codes "trips 1\n" ++ count_words n rest → (Below 4194305 n → ⊥)
     → image_in text ≡ Err (fault.Range 2)
@@ -150,6 +153,7 @@ bytes_fail : (count : ℕ) (t : List ℕ) (e : AsmFault) → bytes_in count coun
 unfolding data_in
 bytes_fail count t e h = rw h refl
 
+-- a text in which the next data byte does not stand has a fault of syntax in the line of this byte
 pub byte_found : (text : List ℕ) (count : ℕ) (bytes t : List ℕ) → GoodBytes count bytes
     → length bytes < count → text ≡ data_words count bytes t
     → ((b : ℕ) (rest : List ℕ) → b < 256 → t ≡ byte_text count (length bytes) b ++ rest → ⊥)
@@ -180,6 +184,7 @@ last_fails bytes rest f z =
     let b : nat_lt 0 (last_byte bytes) ≡ false = ap (nat_lt 0) z in
     rw (a, b) refl
 
+-- a text whose last data byte is 0 has a fault of range in the line of this byte
 pub last_found : (text bytes rest : List ℕ) → GoodBytes (length bytes) bytes → last_byte bytes ≡ 0
     → text ≡ data_words (length bytes) bytes rest
     → image_in text ≡ Err (fault.Range (2 + (length bytes + 31) / 32))
@@ -204,6 +209,7 @@ part_read : (text t bytes rest : List ℕ) (count : ℕ) → front_in text ≡ O
 unfolding image_in
 part_read text t bytes rest count a b = rw (a, b) refl
 
+-- behind a good front reading goes on with the blocks
 pub after_data : (text bytes rest : List ℕ) → GoodFront text bytes rest
     → image_in text ≡ blocks_part (length bytes) bytes rest
 after_data text bytes rest a =

@@ -37,6 +37,7 @@ pub hex_is : (b : ℕ) → If (IsHex b) (hex_value b)
 unfolding hex_value
 hex_is b = hex_by b (nat_le 48 b && nat_le b 57) (nat_le 97 b && nat_le b 102) refl refl
 
+-- a byte, whose two hexadecimal digits the text begins with
 pub record IsByte (text : List ℕ) (r : ℕ × List ℕ) : Type 0 where
   pub below : r.0 < 256
   pub is : text ≡ hex_byte r.0 ++ r.1
@@ -53,6 +54,7 @@ two_digits h l x y rest a b =
           ∙ ap (λ (z : ℕ). hex_digit x ∷ z ∷ rest) b.is);
     }
 
+-- what is read as a byte is the text of this byte
 pub byte_is : (text : List ℕ) → If (IsByte text) (byte_in text)
 unfolding byte_in
 byte_is [] = tt
@@ -62,6 +64,7 @@ byte_is (h ∷ l ∷ rest) =
     bind (IsHex l) (IsByte (h ∷ l ∷ rest)) (hex_value l) _ (hex_is l) (λ y b.
     two_digits h l x y rest a b))
 
+-- a word of 32 bits, whose eight hexadecimal digits the text begins with
 pub record IsWord (text : List ℕ) (r : ℕ × List ℕ) : Type 0 where
   pub below : r.0 < 4294967296
   pub is : text ≡ hex_word r.0 ++ r.1
@@ -78,6 +81,7 @@ four_bytes a b c d text rest i j k l e =
     let fourth : w % 256 ≡ d = omega (arith, l) in
     record { below = omega (arith, i, j, k, l); is = rw (first, second, third, fourth) e }
 
+-- what is read as a word is the text of this word
 pub word_is : (text : List ℕ) → If (IsWord text) (word_in text)
 unfolding word_in
 word_is text =

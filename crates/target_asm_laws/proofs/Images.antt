@@ -9,7 +9,7 @@ use Rattle.trips_isa.specs.Fits.{FitsBlock}
 use Rattle.trips_isa.specs.Images.{chunks}
 use Rattle.trips_isa.specs.Limits.{most_chunks}
 use Rattle.target_asm_spec.specs.Numbers.{numbered}
-use Rattle.target_asm_spec.specs.Chunks.{goal_of}
+use Rattle.target_asm_spec.specs.Text.{goal_of}
 use Rattle.target_asm_spec.specs.Text.{byte_text, head_lines, block_in, TargetText}
 use Rattle.target_asm_spec.proofs.Starts.{goals_agree}
 use Rattle.target_asm_spec.specs.declared.fault.AsmFault.{AsmFault}
@@ -131,6 +131,7 @@ image_is text =
 pub read_is : (text : List ℕ) (i : Image) → image_in text ≡ Ok i → IsText text i
 read_is text i e = subst (Holds (IsText text)) e (image_is text)
 
+-- a text that is read as an image is the text of this image
 pub exact : (text : List ℕ) (i : Image) → image_in text ≡ Ok i → TargetText i text
 exact text i e = read_is text i e
 

@@ -203,6 +203,7 @@ targets_of Branch text = no_targets_of Branch text (refl, refl)
 
 -- ---- what is read as the line of an instruction is the text of one
 
+-- a text that is read as the line of an instruction is the words of one
 pub record IsInstOf (text : List ℕ) (r : SpelledInst × List ℕ) : Type 0 where
   pub s : SpelledInst
   pub same : capped_inst s ≡ r.0
@@ -294,6 +295,7 @@ operation_of text inner z slot c h =
     ∙ ap (λ (x : List ℕ). codes "N[" ++ (number_text z ++ 93 ∷ 32 ∷ x))
     (parts n inner ∙ ap (λ (x : List ℕ). x ++ drop n inner) e)))
 
+-- what is read as the line of an instruction is its text
 pub inst_of_text : (text : List ℕ) → If (IsInstOf text) (inst_in text)
 unfolding inst_in
 inst_of_text text =

@@ -30,6 +30,7 @@ abbrev pub inst_decimals : SpelledInst → List ℕ → List ℕ
 inst_decimals s rest = op_words s.slot s.op s.sense (number_words (form_of s.op) s.numbers
     ++ (maybe_decimals s.targets.first ++ (maybe_decimals s.targets.second ++ 10 ∷ rest)))
 
+-- the line of an instruction: its text, if its numbers are small, and what fits its form
 pub record IsInstLine (text : List ℕ) (r : SpelledInst × List ℕ) : Type 0 where
   pub spells : IsSmall r.0.slot → SmallNumbers (form_of r.0.op) r.0.numbers
       → SmallMaybe r.0.targets.first → SmallMaybe r.0.targets.second → text ≡ inst_decimals r.0 r.1
@@ -80,6 +81,7 @@ operation_is text inner slot h =
     ∙ ap (λ (x : List ℕ). codes "N[" ++ (signed_decimal slot ++ 93 ∷ 32 ∷ x))
     (parts n inner ∙ ap (λ (x : List ℕ). x ++ drop n inner) e)))
 
+-- what is read as the line of an instruction is such a line
 pub inst_is : (text : List ℕ) → If (IsInstLine text) (inst_in text)
 unfolding inst_in
 inst_is text =

@@ -50,6 +50,7 @@ capped_numbers Load n = numbers_are (capped_z n.number) (capped_z n.imm) None
 capped_numbers Store n = numbers_are (capped_z n.number) (capped_z n.imm) None
 capped_numbers Branch n = numbers_are (capped_z n.number) (pos 0) (capped_goal n.goal)
 
+-- targets whose numbers are kept up to what lies past every field
 abbrev pub capped_targets : Targets → Targets
 capped_targets t = record { first = capped_maybe t.first; second = capped_maybe t.second }
 
@@ -278,6 +279,7 @@ operation_read s rest h =
     let b = sense_good (form_of s.op) s.sense h.sense in
     rw (w.found, w.left, a, b) (fields_read s rest h)
 
+-- the words of an instruction are read as this instruction, its numbers so kept
 pub inst_read : (s : SpelledInst) (rest : List ℕ) → IsInstruction s
     → inst_in (inst_words s rest) ≡ Some (capped_inst s, rest)
 unfolding inst_in inst_words

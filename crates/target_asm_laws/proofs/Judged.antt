@@ -92,6 +92,7 @@ cover p q (l ∷ ls) (m ∷ ms) t e a b h =
     let next : after p l ≡ after q m = s.next a.1 ∙ ap (λ (x : Place). after x m) e in
     cover (after p l) (after q m) ls ms t next a.2 b.2 s.rest
 
+-- lines whose branches all go where a block begins have good goals
 pub goals_of : (cs : List ℕ) (p : Place) (ls : List Line) → AllAim (GoodGoal cs) p ls
     → GoodGoals cs p ls
 goals_of cs p [] h = tt
@@ -176,6 +177,7 @@ second_goes first at rest x few = blocks_go (GoodGoal (chunks_from 0 first))
     (second_aims first x.holds.near few) 262145 0 0 at start rest
     (at_start rest) refl (omega arith) (omega arith)
 
+-- where the reading of all lines has come to the end, the rest of the text is whole lines
 pub whole_of : (G : Aim) (first : List Block) (at : ℕ) (rest : List ℕ)
     (x : Came G start at rest (BlocksEnd [] 0) first) → WholeLines rest (chunks_from 0 first)
 whole_of G first at rest x = record {
@@ -185,6 +187,7 @@ whole_of G first at rest x = record {
   begins = ap (λ (y : Place). y.begins) x.led.to ∙ x.holds.begins;
 }
 
+-- a body that is read has at most 262,145 blocks
 pub few_body : (at : ℕ) (rest : List ℕ)
     → Holds (λ bs. length bs ≤ 262145) (body_in unknown at rest)
 unfolding body_in

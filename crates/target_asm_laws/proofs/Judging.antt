@@ -22,9 +22,11 @@ use Rattle.target_asm_laws.proofs.Binds.{If, bind, when}
 use Rattle.target_asm_laws.proofs.Digits.{InField, field_is}
 use Rattle.target_asm_laws.proofs.Targets.{IsMaybe, maybe_is}
 
+-- a number that fits a signed field, taken as it is
 abbrev pub IsSigned : ℕ → ℤ → ℤ → Type 0
 IsSigned half z y = (y ≡ z) × FitsSigned half z
 
+-- a number that is taken for a signed field fits it
 pub signed_is : (half : ℕ) (z : ℤ) → If (IsSigned half z) (signed_in half z)
 unfolding signed_in
 signed_is half (pos n) = when (IsSigned half (pos n)) (nat_lt n half) (Some (pos n))
@@ -41,6 +43,7 @@ unsigned_is values (pos n) = when (IsUnsigned values (pos n)) (nat_lt n values) 
     (λ e. (refl, ltb-true n values e))
 unsigned_is values (negsuc n) = tt
 
+-- the number of an instruction, by its form: a load's, a store's or an exit's, in its field
 abbrev pub NumberIs : Form → ℤ → ℕ → Type 0
 NumberIs Load z n = InField z 32 n
 NumberIs Store z n = InField z 32 n
@@ -64,6 +67,7 @@ unfolding constant_of
 constant_is Gens z = signed_is 32768 z
 constant_is op z = unsigned_is 65536 z
 
+-- the offset of a goal: none has the offset 0, and one that is said fits
 abbrev pub OffsetIs : Option Goal → ℤ → Type 0
 OffsetIs None z = z ≡ pos 0
 OffsetIs (Some (Label k)) z = Unit {0}
@@ -74,6 +78,7 @@ offset_is None = refl
 offset_is (Some (Label k)) = tt
 offset_is (Some (Offset n)) = signed_is offset_half n
 
+-- the constant or the offset of an instruction, by its form, in its field
 abbrev pub ImmIs : Form → SpelledInst → ℤ → Type 0
 ImmIs General s z = z ≡ pos 0
 ImmIs Immediate s z = IsSigned 256 s.numbers.imm z
@@ -91,6 +96,7 @@ imm_is Store s = signed_is 256 s.numbers.imm
 imm_is Constant s = constant_is s.op s.numbers.imm
 imm_is Branch s = offset_is s.numbers.goal
 
+-- an instruction whose parts are those of its line, each in its field
 pub record IsJudged (s : SpelledInst) (i : Inst) : Type 0 where
   pub op : i.op ≡ s.op
   pub sense : i.sense ≡ s.sense

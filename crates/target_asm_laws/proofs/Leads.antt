@@ -16,6 +16,7 @@ use Rattle.target_asm_spec.specs.FirstAsmFault.{NoLine, BadNumber}
 abbrev pub Aim : Type 1
 Aim = ℕ → Option Goal → Type 0
 
+-- each of some lines, from a place on, goes where G allows it
 abbrev pub AllAim : Aim → Place → List Line → Type 0
 AllAim G p [] = Unit {0}
 AllAim G p (l ∷ ls) = G p.here (goal_of_line l) × AllAim G (after p l) ls
@@ -40,6 +41,7 @@ pub data Cause (B : ℕ → Goal → Type 0) (q : Place) (m : ℕ) (rest : List 
       → rest ≡ line_words l more → goal_of_line l ≡ Some (Offset n) → B q.here (Offset n)
       → Cause B q m rest (fault.Range m)
 
+-- a reading that ends in a fault: good lines to a place, and there the fault's cause
 pub record Failed (G : Aim) (B : ℕ → Goal → Type 0) (p : Place) (at : ℕ) (text : List ℕ)
     (e : AsmFault) : Type 0 where
   pub lines : List Line
@@ -49,6 +51,7 @@ pub record Failed (G : Aim) (B : ℕ → Goal → Type 0) (p : Place) (at : ℕ)
   pub is : text ≡ lines_words lines rest
   pub cause : Cause B (place_after p lines) (at + length lines) rest e
 
+-- a reading that comes to a place: good lines that lead there, and what then holds
 pub record Came {A : Type 0} (G : Aim) (p : Place) (at : ℕ) (text : List ℕ)
     (Q : A → Place → ℕ → List ℕ → Type 0) (x : A) : Type 0 where
   pub q : Place
@@ -65,6 +68,7 @@ Goes G B p at text Q (Err e) = Failed G B p at text e
 
 -- ---- lines after lines
 
+-- good lines, and behind them good lines, are good lines
 pub good_append : (p : Place) (ls ms : List Line) → AreGood p ls → AreGood (place_after p ls) ms
     → AreGood p (ls ++ ms)
 good_append p [] ms a b = b
@@ -75,6 +79,7 @@ pub aims_append : (G : Aim) (p : Place) (ls ms : List Line) → AllAim G p ls
 aims_append G p [] ms a b = b
 aims_append G p (l ∷ ls) ms a b = (a.0, aims_append G (after p l) ls ms a.1 b)
 
+-- the place behind two lists of lines is the place behind the second, from behind the first
 pub place_append : (p : Place) (ls ms : List Line)
     → place_after p (ls ++ ms) ≡ place_after (place_after p ls) ms
 place_append p [] ms = refl
@@ -135,6 +140,7 @@ goes_on G B p q at n t u Q (Ok x) a b =
 
 -- ---- steps of a reading
 
+-- where a first step leads somewhere and the next one leads on from there, both steps lead on or to a fault
 pub goes : {A C : Type 0} (G : Aim) (B : ℕ → Goal → Type 0) (p : Place) (at : ℕ) (t : List ℕ)
     (Q : A → Place → ℕ → List ℕ → Type 0) (S : C → Place → ℕ → List ℕ → Type 0)
     (r : Result A AsmFault) (f : A → Result C AsmFault) → Goes G B p at t Q r
@@ -144,6 +150,7 @@ goes G B p at t Q S (Err e) f a k = a
 goes G B p at t Q S (Ok x) f a k =
     goes_on G B p a.q at a.n t a.rest S (f x) a.led (k x a.q (at + a.n) a.rest a.holds)
 
+-- a step that gives nothing fails, and else leads on
 pub step_some : {A C : Type 0} (G : Aim) (B : ℕ → Goal → Type 0) (p : Place) (at : ℕ) (t : List ℕ)
     (S : C → Place → ℕ → List ℕ → Type 0) (o : Option A) (e : AsmFault)
     (f : A → Result C AsmFault) → (o ≡ None → Failed G B p at t e)
@@ -152,6 +159,7 @@ pub step_some : {A C : Type 0} (G : Aim) (B : ℕ → Goal → Type 0) (p : Plac
 step_some G B p at t S None e f a k = a refl
 step_some G B p at t S (Some x) e f a k = k x refl
 
+-- a step that wants something fails where it is not so, and else leads on
 pub step_wants : {C : Type 0} (G : Aim) (B : ℕ → Goal → Type 0) (p : Place) (at : ℕ) (t : List ℕ)
     (S : C → Place → ℕ → List ℕ → Type 0) (b : Bool) (e : AsmFault)
     (f : Unit {0} → Result C AsmFault) → (b ≡ false → Failed G B p at t e)
@@ -160,6 +168,7 @@ pub step_wants : {C : Type 0} (G : Aim) (B : ℕ → Goal → Type 0) (p : Place
 step_wants G B p at t S false e f a k = a refl
 step_wants G B p at t S true e f a k = k refl
 
+-- a step of two ways leads on where each way does
 pub step_if : {C : Type 0} (G : Aim) (B : ℕ → Goal → Type 0) (p : Place) (at : ℕ) (t : List ℕ)
     (S : C → Place → ℕ → List ℕ → Type 0) (b : Bool) (x y : Result C AsmFault)
     → (b ≡ true → Goes G B p at t S x) → (b ≡ false → Goes G B p at t S y)

@@ -19,6 +19,8 @@ longer p q k l ls ms t u (together n h w) = together (ap suc n) h w
 longer p q k l ls ms t u (first m more a b h) = first m more a b h
 longer p q k l ls ms t u (second m more a b h) = second m more a b h
 
+-- two lists of good lines of one text from one place end together, or one of them may go on where the other
+-- ends
 pub meet : (p q : Place) (ls ms : List Line) (t u : List ℕ) → p ≡ q → AreGood p ls → AreGood q ms
     → lines_words ls t ≡ lines_words ms u → Meets p q ls ms t u
 meet p q [] [] t u e a b h = together refl h e

@@ -59,6 +59,7 @@ not_broken : (p : Place) → Broken p [] → (p.begins ≡ [] → ⊥) → ⊥
 not_broken p (syntax n) h = h (n.wanted refl)
 not_broken p (range n) h = no_empty n.line n.more n.is
 
+-- in a rest of whole lines nothing is broken before its end
 pub no_break : (rest cs : List ℕ) → WholeLines rest cs → (rest ≡ [] → ⊥) → (ls : List Line)
     → (t : List ℕ) → AreGood start ls → rest ≡ lines_words ls t → Broken (place_after start ls) t → ⊥
 no_break rest cs w some ls t good is b =
@@ -126,6 +127,7 @@ none_left : (count : ℕ) (bytes rest : List ℕ) → rest ≡ []
 none_left count bytes [] e = refl
 none_left count bytes (c ∷ cs) e = absurd cc
 
+-- a text with a letter is not empty
 pub is_some_text : (c : ℕ) (cs : List ℕ) → (c ∷ cs) ≡ [] → ⊥
 is_some_text c cs e = absurd cc
 
@@ -137,6 +139,7 @@ at_end at (l ∷ ls) t is b = absurd (no_empty l (lines_words ls t) is)
 at_end at [] t is (syntax n) = let e : at + 0 ≡ at = omega arith in ap fault.Syntax e
 at_end at [] t is (range n) = absurd (no_empty n.line n.more (is ∙ n.is))
 
+-- where a line is broken behind good lines, reading gives its fault at its line
 pub line_found : (text bytes rest : List ℕ) (ls : List Line) (t : List ℕ) → GoodFront text bytes rest
     → AreGood start ls → rest ≡ lines_words ls t → (b : Broken (place_after start ls) t)
     → image_in text ≡ Err (broken_fault (place_after start ls) t b (first_line bytes + length ls))

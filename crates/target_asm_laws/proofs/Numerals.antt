@@ -187,6 +187,7 @@ number_read (negsuc n) rest z =
     ap (λ (m : ℕ). below_zero m rest) (capped_some n) in
     rw (a, b) c
 
+-- a number of any size behind a space is read, kept up to what lies past every field
 pub spaced_read : (z : ℤ) (rest : List ℕ) → digits_in rest ≡ 0
     → spaced_in (32 ∷ (number_text z ++ rest)) ≡ Some (capped_z z, rest)
 unfolding spaced_in
@@ -311,11 +312,13 @@ pub number_of_text : (text : List ℕ) → If (IsNumberOf text) (number_in text)
 unfolding number_in
 number_of_text text = number_by_of text (after_in (codes "-") text) (after_is (codes "-") text)
 
+-- a text that is read as a number behind a space is the text of one
 pub record IsSpacedOf (text : List ℕ) (r : ℤ × List ℕ) : Type 0 where
   pub z : ℤ
   pub same : capped_z z ≡ r.0
   pub is : text ≡ 32 ∷ (number_text z ++ r.1)
 
+-- what is read as a number behind a space is its text
 pub spaced_of : (text : List ℕ) → If (IsSpacedOf text) (spaced_in text)
 unfolding spaced_in
 spaced_of text = bind (IsAfter (codes " ") text) (IsSpacedOf text)
@@ -323,6 +326,7 @@ spaced_of text = bind (IsAfter (codes " ") text) (IsSpacedOf text)
     gives (IsNumberOf rest) (IsSpacedOf text) (number_in rest) (number_of_text rest)
     (λ r h. record { z = h.z; same = h.same; is = a ∙ ap (λ (t : List ℕ). 32 ∷ t) h.is }))
 
+-- a text that is read as an index is its front, a number and the bracket
 pub record IsIndexOf (front text : List ℕ) (r : ℤ × List ℕ) : Type 0 where
   pub z : ℤ
   pub same : capped_z z ≡ r.0

@@ -42,6 +42,7 @@ pub next_same : (o : Option ℕ) (y z : ℤ) → IsNext o y → IsNext o z → y
 next_same None y z a b = absurd a
 next_same (Some i) y z a b = a ∙ sym b
 
+-- a number below a limit is the only one that is read as it
 pub small_same : (m : ℕ) (y z : ℤ) → m ≤ 999999999 → Below m y → capped_z y ≡ capped_z z → y ≡ z
 small_same m (pos n) (pos k) l b e =
     let c : capped n ≡ n = capped_small n (omega (arith, l, b)) in
@@ -59,6 +60,7 @@ letter (line.read s) = 82
 letter (line.write s) = 87
 letter (line.inst s) = 78
 
+-- the words of a line begin with its letter
 pub letter_is : (l : Line) (t : List ℕ) → get_or (line_words l t) 0 0 ≡ letter l
 unfolding line_words block_words read_words write_words inst_words
 letter_is (line.block k mask) t = refl
@@ -122,11 +124,13 @@ abbrev pub HasGoal : Form → Op → Option Goal → Type 0
 HasGoal Branch op goal = MayHaveGoal op goal
 HasGoal form op goal = goal ≡ None
 
+-- an operation that may have this goal has it in its form
 pub has_goal : (op : Op) (g : Option Goal) → MayHaveGoal op g → HasGoal (form_of op) op g
 has_goal Bro g h = h
 has_goal Callo g h = h
 has_goal op g h = h
 
+-- the goal of an instruction's numbers is kept with them
 pub goal_kept : (f : Form) (op : Op) (n : Numbers) → HasGoal f op n.goal
     → (capped_numbers f n).goal ≡ capped_goal n.goal
 goal_kept Branch op n h = refl

@@ -24,11 +24,13 @@ use Rattle.target_asm_laws.proofs.Targets.{maybe_decimals, SmallMaybe, IsNext, n
 
 -- ---- where a branch goes
 
+-- the text of a goal: none, a label or an offset, behind a space
 abbrev pub goal_decimals : Option Goal → List ℕ
 goal_decimals None = []
 goal_decimals (Some (Label k)) = 32 ∷ 64 ∷ signed_decimal k
 goal_decimals (Some (Offset n)) = 32 ∷ 33 ∷ signed_decimal n
 
+-- the number of a goal is small
 abbrev pub SmallAim : Option Goal → Type 0
 SmallAim None = Unit {0}
 SmallAim (Some (Label k)) = IsSmall k
@@ -70,6 +72,7 @@ jump_is false text = record { spells = λ l. refl; has = refl }
 
 -- ---- the numbers by form
 
+-- the text of an instruction's numbers, by its form
 abbrev pub number_words : Form → Numbers → List ℕ
 number_words General n = []
 number_words Immediate n = 32 ∷ signed_decimal n.imm
@@ -78,6 +81,7 @@ number_words Load n = 32 ∷ (signed_decimal n.number ++ 32 ∷ signed_decimal n
 number_words Store n = 32 ∷ (signed_decimal n.number ++ 32 ∷ signed_decimal n.imm)
 number_words Branch n = 32 ∷ (signed_decimal n.number ++ goal_decimals n.goal)
 
+-- the numbers that an instruction's form has are small
 abbrev pub SmallNumbers : Form → Numbers → Type 0
 SmallNumbers General n = Unit {0}
 SmallNumbers Immediate n = IsSmall n.imm
@@ -86,10 +90,12 @@ SmallNumbers Load n = IsSmall n.number × IsSmall n.imm
 SmallNumbers Store n = IsSmall n.number × IsSmall n.imm
 SmallNumbers Branch n = IsSmall n.number × SmallAim n.goal
 
+-- the goal fits the form and the operation: only a branch has one
 abbrev pub GoalFits : Form → Op → Option Goal → Type 0
 GoalFits Branch op goal = HasGoal (jumps op) goal
 GoalFits form op goal = goal ≡ None
 
+-- the numbers of an instruction that were read: their text, if they are small, and a goal that fits
 pub record AreNumbers (f : Form) (op : Op) (text : List ℕ) (r : Numbers × List ℕ) : Type 0 where
   pub spells : Spells (number_words f) (SmallNumbers f) text r
   pub goal : GoalFits f op r.0.goal
@@ -141,6 +147,7 @@ exit_is op text =
       goal = k.has;
     }))
 
+-- what is read as the numbers of an instruction is their text
 pub numbers_is : (f : Form) (op : Op) (text : List ℕ)
     → If (AreNumbers f op text) (numbers_in f op text)
 unfolding numbers_in
@@ -161,6 +168,7 @@ numbers_is Branch op text = exit_is op text
 
 -- ---- the targets by form
 
+-- the targets fit the form: as many as it has, and no second one without a first
 abbrev pub TargetsFit : Form → Targets → Type 0
 TargetsFit General t = t.first ≡ None → t.second ≡ None
 TargetsFit Immediate t = t.second ≡ None
@@ -169,6 +177,7 @@ TargetsFit Load t = t.second ≡ None
 TargetsFit Store t = (t.first ≡ None) × (t.second ≡ None)
 TargetsFit Branch t = (t.first ≡ None) × (t.second ≡ None)
 
+-- the targets of an instruction that were read: their text, if they are small, and as many as fit
 pub record AreTargets (f : Form) (text : List ℕ) (r : Targets × List ℕ) : Type 0 where
   pub spells : SmallMaybe r.0.first → SmallMaybe r.0.second
       → text ≡ maybe_decimals r.0.first ++ (maybe_decimals r.0.second ++ r.1)
@@ -192,6 +201,7 @@ one_target f text p =
       fit = p (record { first = a.0; second = None }) refl;
     })
 
+-- what is read as the targets of an instruction is their text
 pub targets_is : (f : Form) (text : List ℕ) → If (AreTargets f text) (targets_in f text)
 unfolding targets_in
 targets_is General text = two_targets text

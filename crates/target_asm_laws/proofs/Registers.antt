@@ -121,6 +121,7 @@ pub record AreRead (number register : ℤ) (text : List ℕ) (r : SpelledRead ×
   pub spells : SmallTarget r.0.first → SmallMaybe r.0.second → text ≡ operand_words r.0 r.1
   pub fits : AreReadOperands r.0.first r.0.second
 
+-- what is given only if a test is true holds where it holds then
 pub only : {A : Type 0} (P : A → Type 0) (b : Bool) (x : A) → (b ≡ true → P x) → If P (only_if b x)
 only P true x p = p refl
 only P false x p = tt
@@ -148,6 +149,7 @@ abbrev pub read_decimals : SpelledRead → List ℕ → List ℕ
 read_decimals s rest = codes "R[" ++ (signed_decimal s.number ++ 93 ∷
     (codes " read G[" ++ (signed_decimal s.register ++ 93 ∷ operand_words s rest)))
 
+-- the line of a read: its text, if its numbers are small, and targets that are operands
 pub record IsReadLine (text : List ℕ) (r : SpelledRead × List ℕ) : Type 0 where
   pub spells : IsSmall r.0.number → IsSmall r.0.register → SmallTarget r.0.first
       → SmallMaybe r.0.second → text ≡ read_decimals r.0 r.1
@@ -169,6 +171,7 @@ read_line_by text t u n g s rest a b c = record {
   fits = c.fits;
 }
 
+-- what is read as the line of a read is its text
 pub read_line_is : (text : List ℕ) → If (IsReadLine text) (read_in text)
 unfolding read_in
 read_line_is text =
@@ -181,11 +184,13 @@ read_line_is text =
 
 -- ---- writes and blocks
 
+-- the line of a write: its text, if its numbers are small
 abbrev pub IsWriteLine : List ℕ → SpelledWrite × List ℕ → Type 0
 IsWriteLine text r = IsSmall r.0.number → IsSmall r.0.register
     → text ≡ codes "W[" ++ (signed_decimal r.0.number ++ 93 ∷
     (codes " write G[" ++ (signed_decimal r.0.register ++ 93 ∷ 10 ∷ r.1)))
 
+-- what is read as the line of a write is its text
 pub write_line_is : (text : List ℕ) → If (IsWriteLine text) (write_line_in text)
 unfolding write_line_in
 write_line_is text =
@@ -198,11 +203,13 @@ write_line_is text =
     a k ∙ ap (λ (z : List ℕ). codes "W[" ++ (signed_decimal n.0 ++ 93 ∷ z)) (b l
     ∙ ap (λ (z : List ℕ). codes " write G[" ++ (signed_decimal g.0 ++ 93 ∷ z)) c))))
 
+-- the line of a block: its mask of 32 bits, and its text, if its number is small
 pub record IsBlockLine (text : List ℕ) (r : SpelledBlock × List ℕ) : Type 0 where
   pub mask : r.0.mask < 4294967296
   pub spells : IsSmall r.0.number → text ≡ codes "block " ++ (signed_decimal r.0.number ++
       (codes " mask " ++ (hex_word r.0.mask ++ 10 ∷ r.1)))
 
+-- what is read as the line of a block is its text
 pub block_line_is : (text : List ℕ) → If (IsBlockLine text) (block_line_in text)
 unfolding block_line_in
 block_line_is text =

@@ -39,6 +39,7 @@ pub record IsRow {A : Type 0} (f : ℕ → A → List ℕ) (P : A → Type 0) (i
   pub fits : P r.0
   pub is : text ≡ f i r.0 ++ r.1
 
+-- some rows that were read: at most 32, each as it must be, and their text
 pub record AreRows {A : Type 0} (f : ℕ → A → List ℕ) (P : A → Type 0) (i : ℕ) (text : List ℕ)
     (r : List A × ℕ × List ℕ) : Type 0 where
   pub few : i + length r.0 ≤ 32
@@ -82,6 +83,7 @@ pub place_is : (z : ℤ) (k : ℕ) → is_place z k ≡ true → z ≡ pos k
 place_is (pos n) k e = ap pos (eqb-true n k e)
 place_is (negsuc n) k e = absurd cc
 
+-- a number that is a small count is small
 pub place_small : (z : ℤ) (k : ℕ) → z ≡ pos k → k < 999999999 → IsSmall z
 place_small z k e l = subst IsSmall (sym e) l
 
@@ -161,6 +163,7 @@ one_read_is i line text =
       is = read_text i text s.1 s.0 r l (place_is s.0.number i b) a d;
     }))))
 
+-- the lines that are read as reads are the text of these reads
 pub reads_are : (line : ℕ) (text : List ℕ)
     → Holds (AreRows read_line FitsRead 0 text) (reads_in line text)
 unfolding reads_in
@@ -169,6 +172,7 @@ reads_are line text =
 
 -- ---- writes
 
+-- a write of one of the 128 registers
 abbrev pub FitsWrite : ℕ → Type 0
 FitsWrite register = register < 128
 
@@ -212,6 +216,7 @@ one_write_is i line text =
       is = write_text i g text s.1 s.0 l (place_is s.0.number i b) a d;
     }))))
 
+-- the lines that are read as writes are the text of these writes
 pub writes_are : (line : ℕ) (text : List ℕ)
     → Holds (AreRows write_line FitsWrite 0 text) (writes_in line text)
 unfolding writes_in

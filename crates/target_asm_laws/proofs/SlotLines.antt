@@ -47,6 +47,7 @@ pub data AimCause (B : ℕ → Goal → Type 0) (here at : ℕ) (g : Option Goal
   no_block : (k : ℤ) → g ≡ Some (Label k) → B here (Label k) → AimCause B here at g (fault.Label at)
   hits : (n : ℤ) → g ≡ Some (Offset n) → B here (Offset n) → AimCause B here at g (fault.Range at)
 
+-- an aim that is given is one that G allows, and a fault has its cause
 abbrev pub AimResult : Aim → (ℕ → Goal → Type 0) → ℕ → ℕ → Option Goal → Result ℤ AsmFault → Type 0
 AimResult G B here at g (Ok z) = G here g
 AimResult G B here at g (Err e) = AimCause B here at g e
@@ -230,10 +231,12 @@ abbrev pub NoRead : Place → List ℕ → Type 0
 NoRead p text = (s : SpelledRead) (more : List ℕ) → MayStand p (line.read s)
     → text ≡ line_words (line.read s) more → ⊥
 
+-- no line of a write that may stand here stands here
 abbrev pub NoWrite : Place → List ℕ → Type 0
 NoWrite p text = (s : SpelledWrite) (more : List ℕ) → MayStand p (line.write s)
     → text ≡ line_words (line.write s) more → ⊥
 
+-- no line of an instruction that may stand here stands here
 abbrev pub NoInst : Place → List ℕ → Type 0
 NoInst p text = (s : SpelledInst) (more : List ℕ) → MayStand p (line.inst s)
     → text ≡ line_words (line.inst s) more → ⊥
@@ -263,6 +266,7 @@ pub record SlotsEnd (bs : List ℕ) (here next c : ℕ) (x : List (Option Inst) 
   pub no_write : NoWrite q rest
   pub no_inst : NoInst q rest
 
+-- a front with something behind it begins with this front
 pub begun : (front t : List ℕ) → begins front (front ++ t) ≡ true
 begun front t = ap is_some (after_front front t)
 
@@ -338,6 +342,7 @@ slots_led bs here next c slot i ss m q line_no rest left l s a =
       no_inst = a.no_inst;
     }
 
+-- the reading of the lines of a block's instructions leads to their end, or to a fault
 pub slots_go : (G : Aim) (B : ℕ → Goal → Type 0) (b : Begins) → Aims G B b
     → (bs : List ℕ) (here turns next c at : ℕ) (p : Place) (text : List ℕ)
     → SlotsAt bs here next c p text → next ≤ 128 → 129 ≤ next + turns

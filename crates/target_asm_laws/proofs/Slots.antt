@@ -102,6 +102,7 @@ gap_text f e j (suc n) ss =
     ap (λ (t : List ℕ). t ++ numbered f (suc j) (replicate n None ++ ss)) (e j)
     ∙ gap_text f e (suc j) n ss ∙ ap (λ (m : ℕ). numbered f m ss) (omega arith)
 
+-- empty slots before others take no chunk of their own
 pub gap_chunks : (j n : ℕ) (ss : List (Option Inst))
     → body_chunks j (replicate n None ++ ss) ≡ body_chunks (j + n) ss
 gap_chunks j zero ss = ap (λ (m : ℕ). body_chunks m ss) (omega arith)
@@ -129,6 +130,7 @@ gap_length (suc n) ss = omega (arith, gap_length n ss)
 abbrev pub goals : Begins → ℤ → Option ℕ
 goals b z = goal_in b.starts z
 
+-- the slots of a block that were read: up to 128, each fits, there is room for their chunks, and their text
 pub record AreSlots (b : Begins) (here next : ℕ) (text : List ℕ)
     (r : List (Option Inst) × ℕ × List ℕ) : Type 0 where
   pub size : next + length r.0 ≡ 128
@@ -186,6 +188,7 @@ slots_more b here next slot line text t rest i ss a c =
           ∙ ap (λ (x : List ℕ). x ++ rest) (sym words);
     }
 
+-- the lines that are read as a block's instructions are the text of its slots
 pub slots_are : (b : Begins) (here : ℕ) → Told b → here + 2 ≤ most_chunks
     → (turns next line : ℕ) (text : List ℕ) → next ≤ 128
     → Holds (AreSlots b here next text) (slots_in b here turns next line text)

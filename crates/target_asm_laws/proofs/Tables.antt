@@ -11,7 +11,7 @@ use Rattle.trips_isa.specs.declared.block.Block.{Block}
 use Rattle.trips_isa.specs.Images.{chunks, chunk_of, starting_from}
 use Rattle.trips_isa.specs.Limits.{most_chunks}
 use Rattle.target_asm_spec.specs.Numbers.{numbered}
-use Rattle.target_asm_spec.specs.Chunks.{goal_of}
+use Rattle.target_asm_spec.specs.Text.{goal_of}
 use Rattle.target_asm_spec.specs.Text.{block_text, block_in}
 use Rattle.target_asm_spec.proofs.Starts.{goals_agree}
 use Rattle.target_asm_spec.specs.declared.fault.AsmFault.{AsmFault}
@@ -47,6 +47,7 @@ started (b ∷ bs) k here (suc j) l =
     rw e (started bs (suc k) (here + chunks b) j (omega (arith, l))
     ∙ ap (λ (m : ℕ). Some m) n)
 
+-- the tables of some blocks tell where each of them begins
 pub told : (bs : List Block) → length bs ≤ most_chunks → Told (begins_of bs)
 told bs l = record {
   known = refl;
@@ -60,6 +61,7 @@ told bs l = record {
 
 -- ---- a text of so many turns has fewer blocks
 
+-- as many turns read at most as many blocks
 pub few_are : (b : Begins) (turns k here line : ℕ) (text : List ℕ)
     → Holds (λ bs. length bs ≤ turns) (blocks_in b turns k here line text)
 unfolding blocks_in
@@ -100,6 +102,7 @@ summed pre x here s =
     let z : sum_by chunks [] ≡ 0 = refl in
     omega (arith, a, b, s, z)
 
+-- the text of some blocks of a list, each from where it begins, is the text that names them by their numbers
 pub texts_are : (all : List Block) (k here : ℕ) (pre bs : List Block) → all ≡ pre ++ bs
     → k ≡ length pre → here ≡ sum_by chunks pre
     → texts_from (goal_of all) here k bs ≡ numbered (block_in all) k bs

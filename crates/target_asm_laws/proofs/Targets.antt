@@ -28,12 +28,14 @@ target_decimals (spelled.Left n) = 78 ∷ 91 ∷ (signed_decimal n ++ 44 ∷ 48 
 target_decimals (spelled.Right n) = 78 ∷ 91 ∷ (signed_decimal n ++ 44 ∷ 49 ∷ 93 ∷ [])
 target_decimals (spelled.Pred n) = 78 ∷ 91 ∷ (signed_decimal n ++ 44 ∷ 112 ∷ 93 ∷ [])
 
+-- the number of a target is small
 abbrev pub SmallTarget : SpelledTarget → Type 0
 SmallTarget (spelled.Write n) = IsSmall n
 SmallTarget (spelled.Left n) = IsSmall n
 SmallTarget (spelled.Right n) = IsSmall n
 SmallTarget (spelled.Pred n) = IsSmall n
 
+-- a text that is read as a target is its text, if its number is small
 abbrev pub IsTarget : List ℕ → SpelledTarget × List ℕ → Type 0
 IsTarget text r = Spells target_decimals SmallTarget text r
 
@@ -80,6 +82,7 @@ target_by_is : (text : List ℕ) (o : Option (List ℕ)) → If (IsAfter (codes 
 target_by_is text None h = write_is text
 target_by_is text (Some inner) h = slot_is text inner h
 
+-- what is read as a target is its text
 pub target_is : (text : List ℕ) → If (IsTarget text) (target_in text)
 unfolding target_in
 target_is text = target_by_is text (after_in (codes "N[") text) (after_is (codes "N[") text)
@@ -96,6 +99,7 @@ abbrev pub SmallMaybe : Option SpelledTarget → Type 0
 SmallMaybe None = Unit {0}
 SmallMaybe (Some t) = SmallTarget t
 
+-- a target that may be there: its text, if its number is small, or none stands there
 pub record IsNext (text : List ℕ) (r : Option SpelledTarget × List ℕ) : Type 0 where
   pub spells : Spells maybe_decimals SmallMaybe text r
   pub ends : r.0 ≡ None → after_in (codes " ") r.1 ≡ None
@@ -113,16 +117,19 @@ next_by_is text (Some rest) e h =
       none = λ n. absurd cc;
     })
 
+-- what is read as a target that may be there is its text
 pub next_is : (text : List ℕ) → If (IsNext text) (next_in text)
 unfolding next_in
 next_is text = next_by_is text (after_in (codes " ") text) refl (after_is (codes " ") text)
 
 -- ---- targets whose numbers lie in their fields
 
+-- a spelled target that is the target s, which fits
 pub record IsSpot (t : SpelledTarget) (s : Spot) : Type 0 where
   pub is : t ≡ spelled_spot s
   pub fits : FitsTarget (Some s)
 
+-- a spelled target that is judged to be one is this target, and it fits
 pub spot_is : (t : SpelledTarget) → If (IsSpot t) (spot_of t)
 unfolding spot_of
 spot_is (spelled.Write n) =
@@ -138,10 +145,12 @@ spot_is (spelled.Pred n) =
     bind (InField n 128) (IsSpot (spelled.Pred n)) (field_in n 128) _ (field_is n 128)
     (λ w f. record { is = ap spelled.Pred f.is; fits = f.below })
 
+-- a spelled target, or none, that is the target s, or none
 pub record IsMaybe (t : Option SpelledTarget) (s : Option Spot) : Type 0 where
   pub is : t ≡ spelled_target s
   pub fits : FitsTarget s
 
+-- a spelled target, or none, that is judged to be one is this one
 pub maybe_is : (t : Option SpelledTarget) → If (IsMaybe t) (maybe_spot t)
 unfolding maybe_spot
 maybe_is None = record { is = refl; fits = tt }
@@ -160,6 +169,7 @@ spot_words (spot.Read n) f = absurd f
 spot_words (spot.Inst n) f = absurd f
 spot_words (spot.Store n) f = absurd f
 
+-- the number of a target that fits is small
 pub spot_small : (s : Spot) → FitsTarget (Some s) → SmallTarget (spelled_spot s)
 spot_small (spot.Write w) f = omega (arith, f)
 spot_small (spot.Left n) f = omega (arith, f)
@@ -174,6 +184,7 @@ pub maybe_small : (s : Option Spot) → FitsTarget s → SmallMaybe (spelled_tar
 maybe_small None f = tt
 maybe_small (Some s) f = spot_small s f
 
+-- the text of a spelled target, or of none, is the text of the target
 pub maybe_text : (s : Option Spot) → FitsTarget s → maybe_decimals (spelled_target s) ≡ target_text s
 maybe_text None f = refl
 maybe_text (Some s) f = ap (λ (x : List ℕ). 32 ∷ x) (spot_words s f)

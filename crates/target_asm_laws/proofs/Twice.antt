@@ -150,6 +150,7 @@ moved d n k h1 h2 l1 l2 t1 t2 x p q r s =
     (subst (λ (l : ℕ). Both SameChunks x (blocks_in d n k h2 l t1)) q
     (subst (λ (h : ℕ). Both SameChunks x (blocks_in d n k h l1 t1)) p s))
 
+-- a text that is read with two tables gives blocks of the same chunks
 pub blocks_same : (b d : Begins) (turns k here line : ℕ) (text : List ℕ)
     → Both SameChunks (blocks_in b turns k here line text) (blocks_in d turns k here line text)
 unfolding blocks_in
@@ -194,6 +195,7 @@ same_starts k (x ∷ xs) (y ∷ ys) h =
     ap (λ (n : ℕ). start_row k n ++ start_rows (suc k) xs) h.0
     ∙ ap (λ (l : List ℕ). start_row k (chunks y) ++ l) (same_starts (suc k) xs ys h.1)
 
+-- blocks of the same chunks begin at the same chunks
 pub same_begins : (xs ys : List Block) → SameChunks xs ys → begins_of xs ≡ begins_of ys
 same_begins xs ys h =
     ap (λ (c : List ℕ). record { known = true; chunks = c; starts = start_rows 0 xs })

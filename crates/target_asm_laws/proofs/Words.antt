@@ -11,6 +11,7 @@ use Rattle.target_asm_spec.specs.inside.Instructions.{sense_by, sense_in}
 use Rattle.target_asm_laws.proofs.Binds.{If}
 use Rattle.target_asm_laws.proofs.Digits.{IsAfter, after_is}
 
+-- a word that is the mnemonic of an operation
 abbrev pub IsMnemonic : List ℕ → Op → Type 0
 IsMnemonic word op = word ≡ mnemonic_of op
 
@@ -18,6 +19,7 @@ mnemonic_by : (word : List ℕ) (o : Option Op) → op_with_mnemonic word ≡ o 
 mnemonic_by word None e = tt
 mnemonic_by word (Some op) e = sym (mnemonic_taken word op e)
 
+-- what is read as a mnemonic is the operation's
 pub mnemonic_is : (word : List ℕ) → If (IsMnemonic word) (op_with_mnemonic word)
 mnemonic_is word = mnemonic_by word (op_with_mnemonic word) refl
 
@@ -29,6 +31,7 @@ sense_by_is text (Some rest) b p q = p
 sense_by_is text None (Some rest) p q = q
 sense_by_is text None None p q = refl
 
+-- a text begins with the sense that is read of it
 pub sense_is : (text : List ℕ) → text ≡ sense_text (sense_in text).0 ++ (sense_in text).1
 unfolding sense_in
 sense_is text = sense_by_is text (after_in (codes "_t") text) (after_in (codes "_f") text)

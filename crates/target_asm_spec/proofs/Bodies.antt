@@ -16,7 +16,7 @@ use Rattle.trips_isa.specs.Images.{body_chunks, chunks_to, chunks, chunk_of}
 use Rattle.trips_isa.specs.Limits.{most_chunks}
 use Rattle.isa_table.specs.Spots.{indexed}
 use Rattle.target_asm_spec.specs.Numbers.{numbered}
-use Rattle.target_asm_spec.specs.Chunks.{goal_of}
+use Rattle.target_asm_spec.specs.Text.{goal_of}
 use Rattle.target_asm_spec.specs.Text.{block_line, read_line, write_line, inst_line, slot_text}
 use Rattle.target_asm_spec.specs.Text.{block_text, block_in}
 use Rattle.target_asm_spec.specs.inside.Reading.{after_in}
@@ -69,6 +69,7 @@ some_body j (s ∷ ss) = omega (arith, some_body (suc j) ss)
 
 -- ---- one block
 
+-- a block whose instructions have the offsets that h gives them
 unfoldable pub block_with : (Inst → ℤ) → Block → Block
 block_with h b = block_of b.mask b.reads.items b.writes.items (slots_with h b.insts.items)
 
@@ -134,6 +135,7 @@ same_body h j [] = refl
 same_body h j (None ∷ ss) = ap (λ (n : ℕ). max 1 n) (same_body h (suc j) ss)
 same_body h j (Some i ∷ ss) = ap (λ (n : ℕ). max (chunks_to (Some i) j) n) (same_body h (suc j) ss)
 
+-- other offsets leave the chunks of a block as they were
 pub same_chunks : (h : Inst → ℤ) (b : Block) → chunks (block_with h b) ≡ chunks b
 unfolding block_with
 same_chunks h b = ap (λ (n : ℕ). 1 + n) (same_body h 0 b.insts.items)
@@ -167,6 +169,7 @@ begins_at all pre bs k e l =
     ap (λ (x : List Block). sum_by chunks (take k x)) e
     ∙ ap (sum_by chunks) (take_at pre bs k (sym l))
 
+-- the lines of some blocks of a text are read as these blocks, with the offsets that the aims give
 pub blocks_again : (b : Begins) (all : List Block) (h : ℕ → Inst → ℤ)
     → ((here : ℕ) → Aims b (goal_of all) here (h here))
     → (turns k line here : ℕ) (pre bs : List Block) → all ≡ pre ++ bs → k ≡ length pre

@@ -17,7 +17,7 @@ use Rattle.trips_isa.specs.Forms.{form_of}
 use Rattle.trips_isa.specs.Fits.{FitsForm, FitsOffset, FitsSigned}
 use Rattle.trips_isa.specs.Images.{chunks, starting_from}
 use Rattle.trips_isa.specs.Limits.{most_chunks, offset_half}
-use Rattle.target_asm_spec.specs.Chunks.{goal_of}
+use Rattle.target_asm_spec.specs.Text.{goal_of}
 use Rattle.target_asm_spec.specs.inside.Chunks.{goal_in, start_rows}
 use Rattle.target_asm_spec.proofs.Starts.{goals_agree}
 use Rattle.target_asm_spec.specs.inside.Instructions.{jumps}
@@ -94,6 +94,7 @@ goals_small all l z = by (goal_of all z) refl
 unfoldable pub raw_at : List Block → ℕ → Inst → ℤ
 raw_at all here i = raw_imm (form_of i.op) i.op (goal_of all (pos here +ℤ i.imm)) i.imm
 
+-- where it is not known where blocks begin, each branch is given the offset of its line
 pub aims_before : (all : List Block) → length all ≤ most_chunks → (here : ℕ)
     → Aims unknown (goal_of all) here (raw_at all here)
 unfolding aimed raw_at
@@ -151,9 +152,11 @@ inst_known all here line Store i f = refl
 inst_known all here line Constant i f = refl
 inst_known all here line Branch i f = branch_known all here line i.op i.imm f.1
 
+-- the offset that an instruction has itself
 abbrev pub own_imm : ℕ → Inst → ℤ
 own_imm here i = i.imm
 
+-- where it is known where all blocks begin, each branch is given its own offset
 pub aims_after : (all : List Block) → length all ≤ most_chunks → (here : ℕ)
     → Aims (begins_of all) (goal_of all) here (own_imm here)
 unfolding aimed

@@ -40,6 +40,7 @@ digit_again d h = by (cases_lt d 10)
         rw e (letter_value (87 + d) (omega (arith, l)) (omega (arith, h))
         ∙ ap (λ (x : ℕ). Some x) n)
 
+-- a byte is read again from its two hexadecimal digits
 pub byte_again : (b : ℕ) (rest : List ℕ) → b < 256 → byte_in (hex_byte b ++ rest) ≡ Some (b, rest)
 unfolding byte_in
 byte_again b rest l =

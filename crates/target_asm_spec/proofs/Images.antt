@@ -16,7 +16,7 @@ use Rattle.trips_isa.specs.Fits.{FitsBlock}
 use Rattle.trips_isa.specs.Images.{chunks, last_byte, FitsImage}
 use Rattle.trips_isa.specs.Limits.{most_chunks}
 use Rattle.target_asm_spec.specs.Numbers.{hex_byte, numbered}
-use Rattle.target_asm_spec.specs.Chunks.{goal_of}
+use Rattle.target_asm_spec.specs.Text.{goal_of}
 use Rattle.target_asm_spec.specs.inside.Chunks.{start_rows, start_row}
 use Rattle.target_asm_spec.specs.Text.{data_end, byte_text, head_lines, block_in, block_text}
 use Rattle.target_asm_spec.specs.Text.{block_line, image_text}
@@ -238,6 +238,7 @@ read_again i text t = ap image_in t.spelled ∙ image_again i t.fits
 pub one_image : (i j : Image) (text : List ℕ) → TargetText i text → TargetText j text → i ≡ j
 one_image i j text a b = ok_is i j (sym (read_again i text a) ∙ read_again j text b)
 
+-- two texts of one image are the same
 pub one_text : (i : Image) (text other : List ℕ) → TargetText i text → TargetText i other
     → text ≡ other
 one_text i text other a b = a.spelled ∙ sym b.spelled

@@ -37,6 +37,7 @@ use Rattle.target_asm_spec.proofs.Operations.{after_numbers, targets_stop, Small
 use Rattle.target_asm_spec.proofs.Operations.{spelled_numbers}
 use Rattle.target_asm_spec.proofs.Operations.{numbers_again, spelled_targets, targets_again}
 
+-- an instruction in slot s as its line spells it, with the block that it names
 unfoldable pub spelled_inst : ℕ → Inst → Option ℕ → SpelledInst
 spelled_inst s i goal = record {
   slot = pos s;
@@ -141,6 +142,7 @@ raw_jump true (Some k) imm = pos 0
 raw_jump true None imm = imm
 raw_jump false goal imm = imm
 
+-- the number of an instruction whose line is judged: of a branch the offset of its line, else its own
 unfoldable pub raw_imm : Form → Op → Option ℕ → ℤ → ℤ
 raw_imm Branch op goal imm = raw_jump (jumps op) goal imm
 raw_imm General op goal imm = imm
@@ -149,6 +151,7 @@ raw_imm Load op goal imm = imm
 raw_imm Store op goal imm = imm
 raw_imm Constant op goal imm = imm
 
+-- an instruction as its line alone tells it
 unfoldable pub raw_inst : Inst → Option ℕ → Inst
 raw_inst i goal = record i { imm = raw_imm (form_of i.op) i.op goal i.imm }
 
@@ -204,6 +207,7 @@ second_fits Load i f = subst FitsTarget (sym f.0.second) tt
 second_fits Store i f = subst FitsTarget (sym f.0.second) tt
 second_fits Branch i f = subst FitsTarget (sym f.0.second) tt
 
+-- the line of an instruction that fits is judged to be this instruction, as its line alone tells it
 pub inst_judged : (s : ℕ) (i : Inst) (goal : Option ℕ) → FitsInst i
     → inst_of (spelled_inst s i goal) ≡ Some (raw_inst i goal)
 unfolding inst_of spelled_inst raw_inst

@@ -29,6 +29,7 @@ use Rattle.target_asm_spec.proofs.Targets.{spelled_spot, spelled_target, target_
 use Rattle.target_asm_spec.proofs.Targets.{feed_ends, spot_again}
 use Rattle.target_asm_spec.proofs.Targets.{maybe_again}
 
+-- a read as its line spells it
 abbrev pub spelled_read : ℕ → ReadSlot → SpelledRead
 spelled_read i r = record {
   number = pos i;
@@ -117,6 +118,7 @@ read_line_is : (i : ℕ) (r : ReadSlot) (rest : List ℕ) → read_line i r ++ r
 unfolding read_line indexed after_register
 read_line_is i r rest = simp append_assoc refl
 
+-- the line of a read that fits is read again
 pub read_again : (i : ℕ) (r : ReadSlot) (rest : List ℕ) → i < 1000000000 → FitsRead r
     → read_in (read_line i r ++ rest) ≡ Some (spelled_read i r, rest)
 unfolding read_in after_register
@@ -131,6 +133,7 @@ read_again i r rest l f =
     let c = operands_again (pos i) (pos r.register) r.first r.second rest f.first f.second in
     ap read_in (read_line_is i r rest) ∙ rw (a, b) c
 
+-- the line of a read that fits is judged to be this read
 pub read_judged : (i : ℕ) (r : ReadSlot) → FitsRead r → read_of (spelled_read i r) ≡ Some r
 unfolding read_of
 read_judged i r f =
@@ -147,6 +150,7 @@ write_line_is : (i g : ℕ) (rest : List ℕ) → write_line i g ++ rest
 unfolding write_line indexed
 write_line_is i g rest = simp append_assoc refl
 
+-- the line of a write is read again
 pub write_line_again : (i g : ℕ) (rest : List ℕ) → i < 1000000000 → g < 1000000000
     → write_line_in (write_line i g ++ rest)
     ≡ Some (record { number = pos i; register = pos g }, rest)
@@ -169,6 +173,7 @@ space : (rest : List ℕ) → digits_in (32 ∷ rest) ≡ 0
 unfolding digits_in
 space rest = refl
 
+-- the line of a block is read again
 pub block_line_again : (k mask : ℕ) (rest : List ℕ) → k < 1000000000 → mask < 4294967296
     → block_line_in (block_line k mask ++ rest)
     ≡ Some (record { number = pos k; mask = mask }, rest)

@@ -37,6 +37,7 @@ and_right false b h = absurd cc
 pub and_both : (a b : Bool) → a ≡ true → b ≡ true → (a && b) ≡ true
 and_both a b x y = rw (x, y) refl
 
+-- a conjunction with what is false is false
 pub and_none : (a : Bool) → (a && false) ≡ false
 and_none true = refl
 and_none false = refl
@@ -169,6 +170,7 @@ abbrev pub IsSmall : ℤ → Type 0
 IsSmall (pos n) = n < 999999999
 IsSmall (negsuc n) = n < 999999999
 
+-- a small number is read again from its text
 pub number_again : (z : ℤ) (rest : List ℕ) → IsSmall z → digits_in rest ≡ 0
     → number_in (signed_decimal z ++ rest) ≡ Some (z, rest)
 unfolding number_in
@@ -180,6 +182,7 @@ number_again (negsuc n) rest l z =
     natural_again (suc n) rest (omega (arith, l)) z in
     rw (a, b) refl
 
+-- a small number behind a space is read again
 pub spaced_again : (z : ℤ) (rest : List ℕ) → IsSmall z → digits_in rest ≡ 0
     → spaced_in (32 ∷ (signed_decimal z ++ rest)) ≡ Some (z, rest)
 unfolding spaced_in

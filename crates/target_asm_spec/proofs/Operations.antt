@@ -71,6 +71,7 @@ SmallGoal (Some k) = k < 1000000000
 
 -- ---- the goal of a branch
 
+-- the goal of an instruction that jumps: the block's label, or its offset where no block begins there
 abbrev pub goal_if : Bool → Option ℕ → ℤ → Option Goal
 goal_if true (Some k) imm = Some (Label (pos k))
 goal_if true None imm = Some (Offset imm)
@@ -115,6 +116,7 @@ branch_stops op goal imm rest z = z
 
 -- ---- the numbers by form
 
+-- the numbers of an instruction as its line spells them, by its form
 unfoldable pub spelled_numbers : Form → Inst → Option ℕ → Numbers
 spelled_numbers General i goal = numbers_are (pos 0) (pos 0) None
 spelled_numbers Immediate i goal = numbers_are (pos 0) i.imm None
@@ -161,6 +163,7 @@ exit_again i goal rest l g f z =
     ) = jump_again i.op goal i.imm rest g f z in
     rw (e, a, b) refl
 
+-- the numbers of an instruction that fits are read again from their text
 pub numbers_again : (f : Form) (i : Inst) (goal : Option ℕ) (rest : List ℕ) → FitsForm f i
     → SmallGoal goal
     → digits_in rest ≡ 0
@@ -178,6 +181,7 @@ numbers_again Branch i goal rest f g z = exit_again i goal rest f.2 g f.1 z
 
 -- ---- the targets by form
 
+-- the targets of an instruction as its line spells them
 abbrev pub spelled_targets : Inst → Targets
 spelled_targets i = record { first = spelled_target i.first; second = spelled_target i.second }
 
@@ -217,6 +221,7 @@ no_target : (first second : Option Spot) (rest : List ℕ) → first ≡ None �
     (Some (record { first = spelled_target first; second = spelled_target second }, 10 ∷ rest))
 no_target first second rest e g = rw (e, g) refl
 
+-- the targets of an instruction that fits are read again from their text
 pub targets_again : (f : Form) (i : Inst) (rest : List ℕ) → FitsForm f i
     → targets_in f (after_numbers i.first i.second rest) ≡ Some (spelled_targets i, 10 ∷ rest)
 unfolding targets_in

@@ -81,6 +81,7 @@ one_read_again i line r rest l f =
     let d : read_of (spelled_read i r) ≡ Some r = read_judged i r f in
     rw (a, b, c, d) refl
 
+-- the lines of at most 32 reads that fit are read again
 pub reads_again : (line : ℕ) (rs : List ReadSlot) (rest : List ℕ) → Each FitsRead rs
     → length rs ≤ 32
     → begins (codes "R[") rest ≡ false
@@ -106,6 +107,7 @@ one_write_again i line g rest l f =
     let d : field_in (pos g) 128 ≡ Some g = field_again g 128 f in
     rw (a, b, c, d) refl
 
+-- the lines of at most 32 writes are read again
 pub writes_again : (line : ℕ) (gs : List ℕ) (rest : List ℕ) → Each (λ g. g < 128) gs
     → length gs ≤ 32
     → begins (codes "W[") rest ≡ false

@@ -40,11 +40,13 @@ pub record Aims (b : Begins) (goal : ℤ → Option ℕ) (here : ℕ) (h : Inst 
 abbrev pub with_imm : (Inst → ℤ) → Inst → Inst
 with_imm h i = record i { imm = h i }
 
+-- slots whose instructions have the offsets that h gives them
 abbrev pub slots_with : (Inst → ℤ) → List (Option Inst) → List (Option Inst)
 slots_with h [] = []
 slots_with h (None ∷ ss) = None ∷ slots_with h ss
 slots_with h (Some i ∷ ss) = Some (with_imm h i) ∷ slots_with h ss
 
+-- how many slots hold an instruction
 abbrev pub used : List (Option Inst) → ℕ
 used [] = 0
 used (None ∷ ss) = used ss

@@ -10,7 +10,7 @@ use Rattle.std.proofs.Math.ListN.{get_or-append}
 use Rattle.std.proofs.lemmas.Bool.{ne_eqb, cases_lt}
 use Rattle.std.specs.Prelude.{ℤ, pos, negsuc, ◌==◌}
 use Rattle.trips_isa.specs.Images.{chunks, body_chunks, starting_from}
-use Rattle.target_asm_spec.specs.Chunks.{goal_of}
+use Rattle.target_asm_spec.specs.Text.{goal_of}
 use Rattle.target_asm_spec.specs.inside.Chunks.{named, start_rows, goal_in}
 
 -- one zero more

@@ -81,6 +81,7 @@ write_again w rest l =
     index_again (codes "W[") w rest (omega (arith, l)) in
     rw (e, a, b) refl
 
+-- a target that fits is read again from its text
 pub target_again : (s : Spot) (rest : List ℕ) → FitsTarget (Some s)
     → target_in (spot_text s ++ rest) ≡ Some (spelled_spot s, rest)
 target_again (spot.Write w) rest f = write_again w rest f
@@ -103,6 +104,7 @@ pub feed_ends : (rest : List ℕ) → IsEnd (10 ∷ rest)
 unfolding after_in
 feed_ends rest = refl
 
+-- a target behind a space is read again
 pub some_again : (s : Spot) (rest : List ℕ) → FitsTarget (Some s)
     → next_in (32 ∷ (spot_text s ++ rest)) ≡ Some (Some (spelled_spot s), rest)
 unfolding next_in
@@ -116,6 +118,7 @@ pub none_again : (rest : List ℕ) → IsEnd rest → next_in rest ≡ Some (Non
 unfolding next_in
 none_again rest e = rw e refl
 
+-- a target that is there or is not is read again where no other follows
 pub next_again : (t : Option Spot) (rest : List ℕ) → FitsTarget t → IsEnd rest
     → next_in (target_text t ++ rest) ≡ Some (spelled_target t, rest)
 next_again None rest f e = none_again rest e
@@ -132,6 +135,7 @@ spot_again (spot.Read n) f = absurd f
 spot_again (spot.Inst n) f = absurd f
 spot_again (spot.Store n) f = absurd f
 
+-- a target that fits, or none, is judged to be itself
 pub maybe_again : (t : Option Spot) → FitsTarget t → maybe_spot (spelled_target t) ≡ Some t
 unfolding maybe_spot
 maybe_again None f = refl

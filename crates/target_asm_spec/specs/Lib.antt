@@ -1,6 +1,5 @@
 pub mod Numbers
 pub mod Fields
-pub mod Chunks
 pub mod Text
 pub mod Reading
 pub mod Places

@@ -1,5 +1,5 @@
 -- The text of an image (docs/MACHINE.md, "Target text"): its lines, each ended by a line feed.
-use Rattle.std.specs.Prelude.{◌≡◌, ℕ, ℤ, pos, ◌+ℤ◌, ◌+◌, ◌%◌, ◌==◌, List, [], ◌∷◌, ◌++◌, length}
+use Rattle.std.specs.Prelude.{◌≡◌, ℕ, ℤ, pos, negsuc, ◌+ℤ◌, ◌+◌, ◌%◌, ◌==◌, List, [], ◌∷◌, ◌++◌, length}
 use Rattle.std.specs.Prelude.{◌||◌, Option, Some, None, codes, if◌then◌else◌}
 use Rattle.std.specs.Fmt.{decimal}
 use Rattle.trips_isa.specs.declared.block.Inst.{Inst}
@@ -7,12 +7,16 @@ use Rattle.trips_isa.specs.declared.block.ReadSlot.{ReadSlot}
 use Rattle.trips_isa.specs.declared.block.Block.{Block}
 use Rattle.trips_isa.specs.declared.block.Image.{Image}
 use Rattle.trips_isa.specs.Forms.{form_of}
-use Rattle.trips_isa.specs.Images.{chunk_of, FitsImage}
+use Rattle.trips_isa.specs.Images.{chunk_of, starting_at, FitsImage}
 use Rattle.isa_table.specs.Mnemonics.{mnemonic_of}
 use Rattle.isa_table.specs.Spots.{indexed}
 use Rattle.target_asm_spec.specs.Numbers.{hex_byte, hex_word, numbered}
 use Rattle.target_asm_spec.specs.Fields.{target_text, sense_text, numbers_text}
-use Rattle.target_asm_spec.specs.Chunks.{goal_of}
+
+-- the block that begins at a chunk, if one does; none begins before the first chunk
+abbrev pub goal_of : List Block → ℤ → Option ℕ
+goal_of blocks (pos n) = starting_at blocks n
+goal_of blocks (negsuc n) = None
 
 -- the line of read i: `R[i] read G[r]`, and its one or two operands
 unfoldable pub read_line : ℕ → ReadSlot → List ℕ

@@ -2,7 +2,7 @@
 ghost use Rattle.std.specs.Prelude.{◌≡◌, ℕ, ℤ, List, Ok};
 ghost use Rattle.trips_isa.specs.declared.block.Block.{Block};
 ghost use Rattle.trips_isa.specs.declared.block.Image.{Image};
-ghost use Rattle.target_asm_spec.specs.Chunks.{goal_of};
+ghost use Rattle.target_asm_spec.specs.Text.{goal_of};
 ghost use Rattle.target_asm_spec.specs.inside.Chunks.{goal_in, start_rows};
 ghost use Rattle.target_asm_spec.specs.Text.{TargetText};
 ghost use Rattle.target_asm_spec.specs.inside.Whole.{image_in};

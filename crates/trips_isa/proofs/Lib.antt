@@ -5,3 +5,4 @@ pub mod WordLemmas
 pub mod OperandFacts
 pub mod ProducerLemmas
 pub mod CauseFacts
+pub mod Rows

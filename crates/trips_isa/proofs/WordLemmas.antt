@@ -196,17 +196,7 @@ bytes_seen_fit stores mem n address (suc k) h =
 
 -- the bytes of a load make a word
 word_of_bytes : (o : Op) (v : ℕ) → v < 256 ^ size_of o → v < 2 ^ 64
-word_of_bytes op.Lb v h = omega arith
-word_of_bytes op.Lbs v h = omega arith
-word_of_bytes op.Lh v h = omega arith
-word_of_bytes op.Lhs v h = omega arith
-word_of_bytes op.Lw v h = omega arith
-word_of_bytes op.Lws v h = omega arith
 word_of_bytes op.Ld v h = omega arith
-word_of_bytes op.Sb v h = omega arith
-word_of_bytes op.Sh v h = omega arith
-word_of_bytes op.Sw v h = omega arith
-word_of_bytes op.Sd v h = omega arith
 word_of_bytes _ v h = omega arith
 
 -- what a load sees is a word

@@ -2,59 +2,19 @@
 -- I, L, S, B and C of the TRIPS Processor Reference Manual, UT Austin TR-05-19. Own: the roles.
 use Rattle.std.specs.Prelude.{ℕ, Bool, true, false}
 use Rattle.trips_isa.specs.declared.op.Op.{Op}
-use Rattle.trips_isa.specs.declared.op.Op.TheVariants.{Extsb, Extsh, Extsw, Extub, Extuh, Extuw}
-use Rattle.trips_isa.specs.declared.op.Op.TheVariants.{Mov, Null, Addi, Subi, Muli, Andi, Ori, Xori}
-use Rattle.trips_isa.specs.declared.op.Op.TheVariants.{Slli, Srli, Srai, Teqi, Tnei, Tlti, Tlei}
-use Rattle.trips_isa.specs.declared.op.Op.TheVariants.{Tgti, Tgei, Tltui, Tleui, Tgtui, Tgeui, Lb}
-use Rattle.trips_isa.specs.declared.op.Op.TheVariants.{Lbs, Lh, Lhs, Lw, Lws, Ld, Sb, Sh, Sw, Sd}
-use Rattle.trips_isa.specs.declared.op.Op.TheVariants.{Bro, Callo, Br, Ret, Scall, Genu, Gens, App}
+use Rattle.trips_isa.specs.declared.op.Op.TheVariants.{Extsb, Extsh, Extsw, Extub, Extuh, Extuw, Mov}
+use Rattle.trips_isa.specs.declared.op.Op.TheVariants.{Null, Lb, Lbs, Lh, Lhs, Lw, Lws, Ld, Sb, Sh, Sw}
+use Rattle.trips_isa.specs.declared.op.Op.TheVariants.{Sd, Br, Ret, App}
 use Rattle.trips_isa.specs.declared.form.Form.{Form}
 use Rattle.trips_isa.specs.declared.form.Form.TheVariants.{General, Immediate, Load, Store, Branch}
 use Rattle.trips_isa.specs.declared.form.Form.TheVariants.{Constant}
 use Rattle.trips_isa.specs.declared.form.Role.{Role}
 use Rattle.trips_isa.specs.declared.form.Role.TheVariants.{Free, Nothing, Copy, One, Both}
+use Rattle.trips_isa.specs.OperationTable.{row_of}
 
 -- the form of an operation's word
 abbrev pub form_of : Op → Form
-form_of Addi = Immediate
-form_of Subi = Immediate
-form_of Muli = Immediate
-form_of Andi = Immediate
-form_of Ori = Immediate
-form_of Xori = Immediate
-form_of Slli = Immediate
-form_of Srli = Immediate
-form_of Srai = Immediate
-form_of Teqi = Immediate
-form_of Tnei = Immediate
-form_of Tlti = Immediate
-form_of Tlei = Immediate
-form_of Tgti = Immediate
-form_of Tgei = Immediate
-form_of Tltui = Immediate
-form_of Tleui = Immediate
-form_of Tgtui = Immediate
-form_of Tgeui = Immediate
-form_of Lb = Load
-form_of Lbs = Load
-form_of Lh = Load
-form_of Lhs = Load
-form_of Lw = Load
-form_of Lws = Load
-form_of Ld = Load
-form_of Sb = Store
-form_of Sh = Store
-form_of Sw = Store
-form_of Sd = Store
-form_of Bro = Branch
-form_of Callo = Branch
-form_of Br = Branch
-form_of Ret = Branch
-form_of Scall = Branch
-form_of Genu = Constant
-form_of Gens = Constant
-form_of App = Constant
-form_of _ = General
+form_of o = (row_of o).form
 
 -- the role of an operation of form G: most take both operands
 abbrev pub general_role : Op → Role

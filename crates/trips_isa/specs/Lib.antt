@@ -1,6 +1,7 @@
 pub mod PlaceNumbers
 pub mod Limits
 pub mod Alu
+pub mod OperationTable
 pub mod Forms
 pub mod Fits
 pub mod Images

@@ -3,6 +3,7 @@ pub mod Blocks
 pub mod Fired
 pub mod Marks
 pub mod Operands
+pub mod OperationTable
 pub mod Places
 pub mod Tables
 pub mod TrapCauses

@@ -2,7 +2,7 @@
 ghost use Rattle.std.specs.Prelude.{◌≡◌, ◌≤◌};
 ghost use Rattle.trips_isa.specs.Forms.{form_of, role_of, size_of};
 
-use crate::Op;
+use crate::{Op, row_of};
 
 /// The form of an operation's word (docs/MACHINE.md, "Operations").
 #[derive(Clone, Copy, Debug, PartialEq, Eq)]
@@ -44,17 +44,7 @@ pub enum Role {
 pub fn form_of(op: Op) -> Form
     ensures value { result ≡ form_of op }
 {
-    match op {
-        Op::Addi | Op::Subi | Op::Muli | Op::Andi | Op::Ori | Op::Xori => Form::Immediate,
-        Op::Slli | Op::Srli | Op::Srai => Form::Immediate,
-        Op::Teqi | Op::Tnei | Op::Tlti | Op::Tlei | Op::Tgti | Op::Tgei => Form::Immediate,
-        Op::Tltui | Op::Tleui | Op::Tgtui | Op::Tgeui => Form::Immediate,
-        Op::Lb | Op::Lbs | Op::Lh | Op::Lhs | Op::Lw | Op::Lws | Op::Ld => Form::Load,
-        Op::Sb | Op::Sh | Op::Sw | Op::Sd => Form::Store,
-        Op::Bro | Op::Callo | Op::Br | Op::Ret | Op::Scall => Form::Branch,
-        Op::Genu | Op::Gens | Op::App => Form::Constant,
-        _ => Form::General,
-    }
+    row_of(op).form
 }
 
 /// How an operation makes its token.

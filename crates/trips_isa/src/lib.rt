@@ -25,8 +25,10 @@ pub use fired::Fired;
 pub use form::{Form, Role, form_of, role_of, size_of};
 pub use law::{first_producers_give, operands_say_the_rule, traps_have_numbers, words_give_words};
 pub use node::Node;
-pub use op::Op;
+pub use op::{OPERATIONS, Op, Row, row_of};
 pub use operands::{Operands, is_guarded, least, mark_by, only_if, operands_of};
-pub use places::{EXIT, FIRST_STORE, FIRST_WRITE, NO_PLACE, PLACES, constants_are_the_definitions};
+pub use places::{
+    EXIT, FIRST_STORE, FIRST_WRITE, NO_PLACE, PLACES, constants_are_the_definitions, in_mask,
+};
 pub use run::{Counts, Ending, Stepped, Traced};
 pub use size::chunks;

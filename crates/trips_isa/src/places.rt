@@ -1,7 +1,8 @@
-//! The numbers of a block's places (docs/MACHINE.md, "Places"), as the code has them.
+//! The numbers of a block's places (docs/MACHINE.md, "Places"), as the code has them, and the store mask.
 
 ghost use Rattle.std.specs.Prelude.{◌≡◌};
 ghost use Rattle.trips_isa.specs.PlaceNumbers as numbers;
+ghost use Rattle.trips_isa.specs.Places.{in_mask};
 
 /// The place of write 0; write w is `FIRST_WRITE + w`.
 pub const FIRST_WRITE: u16 = 384;
@@ -27,3 +28,10 @@ pub fn constants_are_the_definitions()
     ensures places { PLACES ≡ numbers.place_count }
     ensures no_place { NO_PLACE ≡ numbers.no_place }
 {}
+
+/// Whether a mask has this store number.
+pub fn in_mask(mask: u32, number: u8) -> bool
+    ensures { result ≡ in_mask mask number }
+{
+    number < 32 && (mask >> number) % 2 == 1
+}

@@ -4,7 +4,8 @@ use Rattle.trips_isa.specs.declared.op.Op.{Op}
 use Rattle.trips_isa.specs.declared.form.Form.{Form}
 use Rattle.trips_isa.specs.declared.form.Form.TheVariants as form
 use Rattle.isa_table.specs.declared.numbers.Code.{Code}
-use Rattle.isa_table.specs.inside.Operations.{operations, first_with}
+use Rattle.trips_isa.specs.OperationTable.{operations}
+use Rattle.isa_table.specs.inside.Operations.{first_with}
 use Rattle.isa_table.specs.Codes.{code_of}
 
 -- the opcodes and extended opcodes that a form may have

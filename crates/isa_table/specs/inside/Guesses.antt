@@ -5,22 +5,21 @@ use Rattle.std.specs.Prelude.{nat_lt, get_or}
 use Rattle.std.specs.Str.{bytes_eq}
 use Rattle.trips_isa.specs.declared.op.Op.{Op}
 use Rattle.trips_isa.specs.declared.op.Op.TheVariants as op
-use Rattle.isa_table.specs.declared.by_mnemonic.TheConstants.{BY_MNEMONIC}
-use Rattle.isa_table.specs.declared.by_numbers.TheConstants.{BY_NUMBERS}
+use Rattle.isa_table.specs.declared.lists.TheConstants.{BY_MNEMONIC, BY_NUMBERS, MODULUS, MULTIPLIER, PLACES}
 use Rattle.isa_table.specs.Mnemonics.{mnemonic_of}
 use Rattle.isa_table.specs.inside.Codes.{has_numbers}
 
 -- BY MNEMONIC
 
--- A number below 2027 of a word, which goes on with the number of what stands before it.
+-- a number below `MODULUS` of a word, which goes on with the number of what stands before it.
 abbrev pub mixed : ℕ → List ℕ → ℕ
 mixed start [] = start
-mixed start (letter ∷ letters) = mixed ((start * 1495 + letter) % 2027) letters
+mixed start (letter ∷ letters) = mixed ((start * MULTIPLIER + letter) % MODULUS) letters
 
--- the one operation that a word may name, by a perfect hash: the list's 145 entries have every
--- operation at the place of its own mnemonic
+-- the one operation that a word may name, by a perfect hash: the list has every operation at the place
+-- of its own mnemonic
 unfoldable pub candidate_by_mnemonic : List ℕ → Op
-candidate_by_mnemonic word = get_or BY_MNEMONIC (mixed 0 word % 145) op.Add
+candidate_by_mnemonic word = get_or BY_MNEMONIC (mixed 0 word % PLACES) op.Add
 
 -- that operation, where it has the mnemonic
 unfoldable pub guessed_by_mnemonic : List ℕ → Option Op

@@ -2,7 +2,8 @@
 use Rattle.std.specs.Prelude.{ℕ, List, Option}
 use Rattle.std.specs.Str.{bytes_eq}
 use Rattle.trips_isa.specs.declared.op.Op.{Op}
-use Rattle.isa_table.specs.inside.Operations.{operations, first_with}
+use Rattle.trips_isa.specs.OperationTable.{operations}
+use Rattle.isa_table.specs.inside.Operations.{first_with}
 use Rattle.isa_table.specs.Mnemonics.{mnemonic_of}
 
 -- the operation of a mnemonic

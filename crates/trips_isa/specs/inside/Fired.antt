@@ -18,6 +18,7 @@ use Rattle.trips_isa.specs.Rule.{Answer}
 use Rattle.trips_isa.specs.Operands.{operands}
 use Rattle.trips_isa.specs.inside.Operands.{word_of}
 use Rattle.trips_isa.specs.Stores.{address_of, loaded_at}
+use Rattle.trips_isa.specs.Outcomes.{or_null}
 
 -- of the words of all its operands
 abbrev pub of_words : Form → Inst → ℕ → ℕ → Fired
@@ -33,15 +34,10 @@ abbrev pub addressed : Inst → Answer → Token
 addressed i (Some (Word l)) = Word (address_of i l)
 addressed i _ = Null
 
--- a token that is not there counts as null
-abbrev pub token_or_null : Answer → Token
-token_or_null None = Null
-token_or_null (Some t) = t
-
 -- where an operand is null, or for `null` itself: a store has the tokens as they are
 abbrev pub of_nulls : Form → Inst → Answer → Answer → Fired
 of_nulls Load i l r = Loads i.number Null
-of_nulls Store i l r = Stores i.number (addressed i l) (token_or_null r)
+of_nulls Store i l r = Stores i.number (addressed i l) (or_null r)
 of_nulls Branch i l r = Leaves i.number Null
 of_nulls _ i l r = Value Null
 
