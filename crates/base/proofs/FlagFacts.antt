@@ -15,6 +15,7 @@ use Rattle.std.proofs.lemmas.Grind.{get_or-set_at}
 use Rattle.base.specs.Rows.{has_bit, has_flag, flags}
 use Rattle.base.specs.inside.Rows.{no_flags}
 
+-- There are as many flags as were asked for.
 pub length_flags : (n : ℕ) (ws : List ℕ) → length (flags n ws) ≡ n
 unfolding flags
 length_flags n ws = length-map-range_with_len (has_flag ws) 0 n
@@ -62,6 +63,7 @@ changed n ws q v b h wide same other =
           | inr far ↦ ap (λ z. has_bit z (j % 64)) (get_or-set_other ws (q / 64) (j / 64) v 0 far)
         ]
 
+-- setting the bit of a flag in its word sets that flag and no other
 pub put_flag : (n : ℕ) (ws : List ℕ) (q : ℕ) → q < n → n ≤ 64 * length ws
     → flags n (set ws (q / 64) (bit_or (get_or ws (q / 64) 0) (1 * 2 ^ (q % 64) % 2 ^ 64))) ≡ set (flags n ws) q true
 put_flag n ws q h wide =
@@ -69,6 +71,7 @@ put_flag n ws q h wide =
     changed n ws q _ true h wide (ap (λ z. z == 1) (bit_at_set_same w64 (get_or ws (q / 64) 0) (q % 64) near))
     (λ j fits ne. ap (λ z. z == 1) (bit_at_set_other w64 (get_or ws (q / 64) 0) (q % 64) near j ne))
 
+-- clearing the bit of a flag in its word clears that flag and no other
 pub take_flag : (n : ℕ) (ws : List ℕ) (q : ℕ) → q < n → n ≤ 64 * length ws
     → flags n (set ws (q / 64) (bit_and (get_or ws (q / 64) 0) (2 ^ 64 - 1 - 1 * 2 ^ (q % 64) % 2 ^ 64)))
     ≡ set (flags n ws) q false
@@ -94,10 +97,12 @@ none_set n m = sym (fill_by_all (has_flag (zeros_of m)) (replicate n false) n fa
           get_or_past (replicate m z) i 0 e
     ]
 
+-- There are as many unset flags as were asked for.
 pub length_unset : (n : ℕ) → length (no_flags n) ≡ n
 unfolding no_flags
 length_unset n = length-replicate n false
 
+-- A flag that is not set is not there.
 pub get_unset : (n q : ℕ) → get_or (no_flags n) q false ≡ false
 unfolding no_flags
 get_unset n q = elim (cases_lt q n) [

@@ -13,17 +13,20 @@ use Rattle.base.proofs.FlagFacts.{get_unset}
 
 -- lists -----------------------------------------------------------------------------------------
 
+-- a function over a list that was changed at one place is that list of values changed there
 pub map_set : {A B : Type 0} → (f : A → B) (xs : List A) (i : ℕ) (x : A) → map f (set xs i x) ≡ set (map f xs) i (f x)
 map_set f [] i x = refl
 map_set f (y ∷ xs) zero x = refl
 map_set f (y ∷ xs) (suc i) x = ap (λ zs. f y ∷ zs) (map_set f xs i x)
 
+-- what is read of a mapped list is the function of what is read of the list
 pub get_map : {A B : Type 0} → (f : A → B) (xs : List A) (i : ℕ) (d : A)
     → get_or (map f xs) i (f d) ≡ f (get_or xs i d)
 get_map f [] i d = refl
 get_map f (y ∷ xs) zero d = refl
 get_map f (y ∷ xs) (suc i) d = get_map f xs i d
 
+-- a function over equal items gives as many equal values
 pub map_blank : {A B : Type 0} → (f : A → B) (n : ℕ) (x : A) → map f (replicate n x) ≡ replicate n (f x)
 map_blank f zero x = refl
 map_blank f (suc n) x = ap (λ zs. f x ∷ zs) (map_blank f n x)
@@ -54,6 +57,7 @@ got_other (y ∷ xs) (suc i) (suc j) x n = got_other xs i j x (λ e. n (ap suc e
 -- rows ------------------------------------------------------------------------------------------
 
 module _ {A : Type 0} (n : ℕ) where
+  -- A row has as many items as it was made for.
   pub length_row : (there : List Bool) (items : List A) → length (row n there items) ≡ n
   unfolding row
   length_row there items = length-map-range_with_len (item_at there items) 0 n
@@ -79,10 +83,12 @@ module _ {A : Type 0} (n : ℕ) where
       go true = sym (item_some items q (omega arith))
       go false = refl
 
+  -- a row has nothing at or past its length
   pub item_past : (there : List Bool) (items : List A) (q : ℕ) → n ≤ q
       → None ≡ get_or (row n there items) q None
   item_past there items q h = sym (get_or_past (row n there items) q None (omega (arith, length_row there items)))
 
+  -- a row has nothing where no item is flagged
   pub item_gone : (there : List Bool) (items : List A) (q : ℕ) → false ≡ get_or there q false
       → None ≡ get_or (row n there items) q None
   item_gone there items q t = elim (cases_lt q n) [
@@ -100,6 +106,7 @@ module _ {A : Type 0} (n : ℕ) where
         | inr ne ↦ get_or-set_other xs i k b None ne ∙ sym (off k below ne)
       ]
 
+  -- an item that is written and flagged is put into the row
   pub put_item : (there : List Bool) (items : List A) (q : ℕ) (x : A) → q < n → length there ≡ n → length items ≡ n
       → row n (set there q true) (set items q x) ≡ set (row n there items) q (Some x)
   unfolding row
@@ -110,6 +117,7 @@ module _ {A : Type 0} (n : ℕ) where
       (λ j below ne. ap (λ b. cond b (slice_get (set items q x) j) None) (get_or-set_other there q j true false ne)
       ∙ ap (λ y. cond (get_or there j false) y None) (got_other items q j x ne) ∙ sym (get_row there items j below))
 
+  -- an item whose flag is taken away is taken from the row
   pub take_item : (there : List Bool) (items : List A) (q : ℕ) → length there ≡ n
       → row n (set there q false) items ≡ set (row n there items) q None
   unfolding row
@@ -125,17 +133,20 @@ module _ {A : Type 0} (n : ℕ) where
           (λ j below ne. ap (λ b. cond b (slice_get items j) None) (get_or-set_other there q j false false ne)
           ∙ sym (get_row there items j below))
 
+  -- a flag at or past the length changes a row no more than a write there does
   pub put_past : (there : List Bool) (items : List A) (q : ℕ) (x : A) → n ≤ q → length there ≡ n
       → row n (set there q true) items ≡ set (row n there items) q (Some x)
   put_past there items q x h lt =
       ap (λ z. row n z items) (set_past there q true (omega arith))
       ∙ sym (set_past (row n there items) q (Some x) (omega (arith, length_row there items)))
 
+  -- a row without a flag has no items
   pub none_there : (items : List A) → row n (no_flags n) items ≡ no_items n
   unfolding row no_items
   none_there items = sym (fill_by_all (item_at (no_flags n) items) (replicate n None) n None (length-replicate n None)
       (λ k h. get_or-replicate n k None None h ∙ sym (ap (λ b. cond b (slice_get items k) None) (get_unset n k))))
 
+  -- a row without items is any row of its length, each item taken away
   pub none_mapped : (xs : List (Option A)) → length xs ≡ n
       → no_items {A = A} n ≡ map {A = Option A} {B = Option A} (λ x. None) xs
   unfolding no_items

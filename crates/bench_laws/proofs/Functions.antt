@@ -33,6 +33,7 @@ filled x =
     (x + 7) ∷ Some (x + 8) ∷ Some (x + 9) ∷ Some (x + 10) ∷ Some (x + 11) ∷ Some (x + 12) ∷ Some (x + 13) ∷ Some (x
     + 14) ∷ Some (x + 15) ∷ []
 
+-- the array behind the second loop: the sums of its first elements
 abbrev pub sums : ℕ → List (Option ℕ)
 sums x =
     Some (partial x 0) ∷ Some (partial x 1) ∷ Some (partial x 2) ∷ Some (partial x 3) ∷ Some (partial x 4) ∷ Some

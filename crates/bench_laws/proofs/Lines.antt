@@ -48,6 +48,7 @@ is_numeral (d ∷ ds) = not (is_space d) && (is_digit d && each_digit ds)
 abbrev numeral_at : ℕ → Bool
 numeral_at k = is_numeral (decimal k)
 
+-- the answer yes for each number
 abbrev pub is_yes : ℕ → Bool
 is_yes k = true
 
@@ -196,6 +197,7 @@ body_scan : (rest : Bytes) → scan 115 (function_body ++ rest) ≡ (body_forms,
 unfolding keywords marks function_body
 body_scan rest = refl
 
+-- the line of function k has its tokens
 pub function_is_cut : (k : ℕ) (rest : Bytes) → k < 64 → Line (function_text k rest) (function_forms k) (10 ∷ rest)
 unfolding keywords marks function_body
 function_is_cut k rest h =
@@ -215,6 +217,7 @@ function_is_cut k rest h =
 abbrev pub call_text : ℕ → Bytes → Bytes
 call_text k rest = codes "x = f" ++ (decimal k ++ (codes "(x) % 1000; putchar(65 + (int) (x % 26));" ++ 10 ∷ rest))
 
+-- the line that calls function k has its tokens
 pub call_is_cut : (k : ℕ) (rest : Bytes) → k < 64 → Line (call_text k rest) (call_forms k) (10 ∷ rest)
 unfolding keywords marks
 call_is_cut k rest h =
@@ -226,14 +229,17 @@ call_is_cut k rest h =
     (row_same keyword_at no_keyword 64 k all_names h)
     (found 50 tail behind_call_forms (10 ∷ rest) refl))
 
+-- the line of the array has its tokens
 pub array_is_cut : (rest : Bytes) → Line (codes "long a[16];" ++ 10 ∷ rest) array_forms (10 ∷ rest)
 unfolding keywords marks
 array_is_cut rest = found 20 (codes "long a[16];" ++ 10 ∷ rest) array_forms (10 ∷ rest) refl
 
+-- the first line of main has its tokens
 pub main_is_cut : (rest : Bytes) → Line (codes "int main(void) { long x = 1;" ++ 10 ∷ rest) main_forms (10 ∷ rest)
 unfolding keywords marks
 main_is_cut rest = found 40 (codes "int main(void) { long x = 1;" ++ 10 ∷ rest) main_forms (10 ∷ rest) refl
 
+-- the last line of main has its tokens
 pub end_is_cut : (rest : Bytes) → Line (codes "return (int) x; }" ++ 10 ∷ rest) end_forms (10 ∷ rest)
 unfolding keywords marks
 end_is_cut rest = found 20 (codes "return (int) x; }" ++ 10 ∷ rest) end_forms (10 ∷ rest) refl

@@ -53,22 +53,27 @@ frame zero = bound name_a array_meaning ∷ bound eof_name meaning.EndOfFile ∷
     ∷ bound getchar_name get_char ∷ []
 frame (suc n) = bound (name_f n) (function_meaning n) ∷ frame n
 
+-- behind n functions, `a` is the array
 pub find_a : (n : ℕ) → find (frame n) name_a ≡ Some array_meaning
 find_a zero = refl
 find_a (suc n) = find_a n
 
+-- behind n functions, `putchar` is the function that stands without a definition
 pub find_putchar : (n : ℕ) → find (frame n) putchar_name ≡ Some put_char
 find_putchar zero = refl
 find_putchar (suc n) = find_putchar n
 
+-- behind n functions, `x` is not declared
 pub find_x : (n : ℕ) → find (frame n) name_x ≡ None
 find_x zero = refl
 find_x (suc n) = find_x n
 
+-- behind n functions, `i` is not declared
 pub find_i : (n : ℕ) → find (frame n) name_i ≡ None
 find_i zero = refl
 find_i (suc n) = find_i n
 
+-- behind n functions, `main` is not declared
 pub find_main : (n : ℕ) → find (frame n) (codes "main") ≡ None
 find_main zero = refl
 find_main (suc n) = find_main n
@@ -115,6 +120,7 @@ from_is a (suc m) =
     ap (λ (ts : List Top). function (function_at a) a ∷ ts) (from_is (suc a) m
     ∙ ap (λ (b : ℕ). functions_from (suc a) m ++ function (function_at b) b ∷ []) e)
 
+-- the functions below n are those from 0 on
 pub functions_are : (n : ℕ) → functions n ≡ functions_from 0 n
 functions_are zero = refl
 functions_are (suc n) =

@@ -78,6 +78,7 @@ ending = give (cast Int (scalar Long 0)) ∷ []
 abbrev pub main_code : ℕ → List Code
 main_code n = initialise 0 (convert Long 1) ∷ (calls n ++ ending)
 
+-- main, which calls the functions below n
 abbrev pub main : ℕ → TypedFunc
 main n = record {
   result = Some Int;

@@ -86,10 +86,12 @@ first_of e = ap (λ (x : TypedForInit). out-TypedForInit x) (sym (firsts.rolls-F
 
 -- EXPRESSIONS
 
+-- a number gives its word in a step
 pub r_number : {P : TypedProgram} {c : Kind} {w : ℕ} {s : State} {k : ℕ} → Gives P (number c w) s (suc k) w s k
 r_number {P = P} {c = c} {w = w} {s = s} {k = k} =
     record { is = of_node P c _ (Number w) (at s (suc k)) (nodes.rolls-Number w) }
 
+-- a scalar gives its word in a step
 pub r_scalar : {P : TypedProgram} {c : Kind} {i w : ℕ} {s : State} {k : ℕ} → slice_get s.scalars i ≡ Some (Some w)
     → Gives P (scalar c i) s (suc k) w s k
 r_scalar {P = P} {c = c} {i = i} {w = w} {s = s} {k = k} h = record {
@@ -97,6 +99,7 @@ r_scalar {P = P} {c = c} {i = i} {w = w} {s = s} {k = k} h = record {
       ∙ ap (λ (x : Option (Option ℕ)). given (held x) (at s k)) h;
 }
 
+-- an element gives the word at its index, in a step more than the index takes
 pub r_element : {P : TypedProgram} {c : Kind} {g w v k j : ℕ} {e : Term} {row : List (Option ℕ)} {s s' : State}
     → Gives P e s k w s' j → slice_get s'.arrays g ≡ Some row → slice_get row w ≡ Some (Some v)
     → Gives P (element c g e) s (suc k) v s' j
@@ -114,6 +117,7 @@ abbrev pub IsEager : BinaryOp → Type 0
 IsEager op = (rec : Parts) (x y : TypedExpr) (s : State)
     → binary rec op x y s ≡ then (rec (Of x) s) (after_left rec op x.kind y)
 
+-- an operation gives what it makes of its operands, in a step more than they take
 pub r_operation : {P : TypedProgram} {c : Kind} {op : BinaryOp} {a b r k j i : ℕ} {x y : Term} {s s' s'' : State}
     → IsEager op
     → Gives P x s k a s' j → Gives P y s' j b s'' i → binary_of op (typed x).kind a b ≡ Some r
@@ -127,6 +131,7 @@ r_operation {P = P} {c = c} {op = op} {a = a} {b = b} {k = k} {j = j} {i = i} {x
           ∙ ap (λ (r : Option ℕ). given r (at s'' i)) e;
     }
 
+-- a number that is converted gives its word in the new type, in a step
 pub r_convert : {P : TypedProgram} {c : Kind} {w w' : ℕ} {s : State} {k : ℕ} → converted c w ≡ w'
     → Gives P (convert c w) s (suc k) w' s k
 r_convert {P = P} {c = c} {w = w} {s = s} {k = k} e = record {
@@ -137,6 +142,7 @@ r_convert {P = P} {c = c} {w = w} {s = s} {k = k} e = record {
       ∙ ap (λ (n : ℕ). Go (Value n) (at s k)) e;
 }
 
+-- a cast gives the word of its operand in the new type, in a step more than it takes
 pub r_cast : {P : TypedProgram} {c : Kind} {w w' k j : ℕ} {e : Term} {s s' : State}
     → Gives P e s k w s' j → converted c w ≡ w' → Gives P (cast c e) s (suc k) w' s' j
 r_cast {P = P} {c = c} {k = k} {j = j} {e = e} {s = s} {s' = s'} h f = record {
@@ -145,6 +151,7 @@ r_cast {P = P} {c = c} {k = k} {j = j} {e = e} {s = s} {s' = s'} h f = record {
       ∙ ap (λ (n : ℕ). Go (Value n) (at s' j)) f;
 }
 
+-- an assignment to a scalar sets it and gives the value, in a step more than the value takes
 pub r_assign : {P : TypedProgram} {c : Kind} {p w k j : ℕ} {e : Term} {s s' s'' : State} {old : Option ℕ}
     → Gives P e s k w s' j → slice_get s'.scalars p ≡ Some old
     → record s' { scalars = slice_set s'.scalars p (Some w) } ≡ s''
@@ -159,6 +166,7 @@ r_assign {P = P} {c = c} {p = p} {w = w} {k = k} {j = j} {e = e} {s = s} {s' = s
       ∙ ap (λ (x : State). Go (Value w) (at x j)) g;
 }
 
+-- an assignment to an element sets it and gives the value, in a step more than value and index take
 pub r_set : {P : TypedProgram} {c : Kind} {g w v k j i : ℕ} {e x : Term} {s s' s'' u : State} {row : List (Option ℕ)}
     {old : Option ℕ}
     → Gives P x s k w s' j → Gives P e s' j v s'' i
@@ -221,6 +229,7 @@ r_call {P = P} {c = c} {f = f} {w = w} {v = v} {k = k} {j = j} {i = i} {e = e} {
           ∙ ap (λ (y : State). Go (Value v) (at y i)) ends;
     }
 
+-- a call of `putchar` puts a byte out, in two steps more than its argument takes
 pub r_put : {P : TypedProgram} {w k j : ℕ} {e : Term} {s s' s'' : State}
     → Gives P e s k w s' (suc j)
     → record s' { output = s'.output ++ (w % 256) ∷ [] } ≡ s''
@@ -233,6 +242,7 @@ r_put {P = P} {w = w} {k = k} {j = j} {e = e} {s = s} {s' = s'} h f = record {
 
 -- STATEMENTS
 
+-- an expression statement does what its expression does, in a step more
 pub r_plain : {P : TypedProgram} {k j w : ℕ} {e : Term} {s s' : State} → Gives P e s k w s' j
     → Runs P (plain e) s (suc k) Nothing s' j
 r_plain {P = P} {k = k} {e = e} {s = s} h = record {
@@ -243,18 +253,21 @@ r_plain {P = P} {k = k} {e = e} {s = s} h = record {
 pub r_none : {P : TypedProgram} {s : State} {k : ℕ} → Follow P [] s k Nothing s k
 r_none = record { is = refl }
 
+-- a statement that ends is followed by those behind it
 pub r_next : {P : TypedProgram} {st : Code} {all : List Code} {v : Signal} {k j i : ℕ} {s s' s'' : State}
     → Runs P st s k Nothing s' j → Follow P all s' j v s'' i → Follow P (st ∷ all) s k v s'' i
 r_next {P = P} {all = all} h f = record {
   is = ap (λ (r : Result). then r (λ v s. going_on v s (sequence (meaning P) (map stated all)))) h.is ∙ f.is;
 }
 
+-- a statement that returns is followed by none
 pub r_last : {P : TypedProgram} {st : Code} {all : List Code} {w : Option ℕ} {k j : ℕ} {s s' : State}
     → Runs P st s k (Returns w) s' j → Follow P (st ∷ all) s k (Returns w) s' j
 r_last {P = P} {all = all} h = record {
   is = ap (λ (r : Result). then r (λ v s. going_on v s (sequence (meaning P) (map stated all)))) h.is;
 }
 
+-- a declaration unsets its scalar, in a step
 pub r_declare : {P : TypedProgram} {i k : ℕ} {s s' : State} {old : Option ℕ} → slice_get s.scalars i ≡ Some old
     → record s { scalars = slice_set s.scalars i None } ≡ s'
     → Runs P (declare i) s (suc k) Nothing s' k
@@ -264,6 +277,7 @@ r_declare {P = P} {i = i} {k = k} {s = s} h f = record {
       ∙ ap (λ (x : State). Go Nothing (at x k)) f;
 }
 
+-- a declaration with a first value sets its scalar, in a step more than the value takes
 pub r_initialise : {P : TypedProgram} {i w k j : ℕ} {e : Term} {s s' s'' u : State} {old new : Option ℕ}
     → slice_get s.scalars i ≡ Some old → record s { scalars = slice_set s.scalars i None } ≡ s'
     → Gives P e s' k w s'' j → slice_get s''.scalars i ≡ Some new
@@ -279,6 +293,7 @@ r_initialise {P = P} {i = i} {w = w} {k = k} {j = j} {e = e} {s = s} {s' = s'} {
       ∙ ap (λ (x : State). Go Nothing (at x j)) q;
 }
 
+-- a `return` gives the value of its expression, in a step more than it takes
 pub r_give : {P : TypedProgram} {e : Term} {w k j : ℕ} {s s' : State} → Gives P e s k w s' j
     → Runs P (give e) s (suc k) (Returns (Some w)) s' j
 r_give {P = P} {e = e} {k = k} {s = s} h = record {
@@ -288,6 +303,7 @@ r_give {P = P} {e = e} {k = k} {s = s} h = record {
 
 -- LOOPS
 
+-- a loop does its first expression and then its turns, in a step more than they take
 pub r_loop : {P : TypedProgram} {e t p : Term} {c : Code} {w k j i : ℕ} {s s' s'' : State}
     → Gives P e s k w s' j → Turns P t p c s' j s'' i → Runs P (loop e t p c) s (suc k) Nothing s'' i
 r_loop {P = P} {e = e} {t = t} {p = p} {c = c} {k = k} {s = s} h f = record {

@@ -165,6 +165,7 @@ step_right (b ∷ bs) = by_letter (is_letter b) refl
 
 -- LINES
 
+-- bytes that are found without a line feed have none
 pub quiet_is : (bs : Bytes) → is_quiet bs ≡ true → feeds bs ≡ 0
 quiet_is [] e = refl
 quiet_is (b ∷ bs) e = go (quiet_is bs) (is_feed b) e
@@ -268,6 +269,7 @@ feed_cuts l b rest s before e =
       line_is = (let s : feeds (before ++ 10 ∷ []) ≡ feeds before + 1 = feeds_append before (10 ∷ []) in omega arith);
     }
 
+-- a line feed at the end is cut into no token and ends its line
 pub last_cuts : (l : ℕ) → Cuts l (10 ∷ []) [] [] (suc l)
 last_cuts l before e =
     record {

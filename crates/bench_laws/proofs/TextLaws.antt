@@ -29,9 +29,11 @@ use Rattle.bench_laws.proofs.EvaluationEnds.{ends}
 has_program : (n : ℕ) → n ≤ 64 → IsAccepted (bench_text n) (program n)
 has_program n few = (record { items = tree n }, (tokens n, lexed n few, is_unit n), accepted n few)
 
+-- the benchmark's text is a program of the profile
 pub is_accepted : BenchIsAccepted
 is_accepted n few = (program n, has_program n few)
 
+-- no stage of the front end refuses the benchmark's text
 pub is_not_refused : BenchIsNotRefused
 is_not_refused n r few refused = not_both (bench_text n) (program n) r (has_program n few) refused
 
@@ -86,6 +88,7 @@ calls_length (suc n) few =
     let f : length (call n) ≤ 200 = call_length n (omega arith) in
     omega (arith, length-append (calls n) (call n))
 
+-- the benchmark's text has no more bytes than a source text may have
 pub is_short : BenchIsShort
 unfolding most_source_bytes head main_head main_end
 is_short n few =

@@ -20,6 +20,7 @@ use Rattle.c_grammar.specs.Units as u
 abbrev pub name : ℕ → List ℕ → Expr
 name l w = at l (node.Name w)
 
+-- the number v at line l
 abbrev pub number : ℕ → ℕ → Expr
 number l v = at l (node.Number v Int)
 
@@ -27,12 +28,15 @@ number l v = at l (node.Number v Int)
 abbrev pub name_i : List ℕ
 name_i = codes "i"
 
+-- the name `x`
 abbrev pub name_x : List ℕ
 name_x = codes "x"
 
+-- the name `a`
 abbrev pub name_a : List ℕ
 name_a = codes "a"
 
+-- the name of function k
 abbrev pub name_f : ℕ → List ℕ
 name_f k = 102 ∷ decimal k
 
@@ -40,6 +44,7 @@ name_f k = 102 ∷ decimal k
 abbrev pub i_of : ℕ → Expr
 i_of l = name l name_i
 
+-- the name `x` as an expression at line l
 abbrev pub x_of : ℕ → Expr
 x_of l = name l name_x
 
@@ -84,9 +89,11 @@ sum l k = operation l Add (element l (number l 15)) (number l k)
 abbrev pub plain : ℕ → Expr → Stmt
 plain l e = s.at l (statement.Plain (Some e))
 
+-- for (i = v; i < 16; i = i + 1) e;
 abbrev pub loop : ℕ → ℕ → Expr → Stmt
 loop l v e = s.at l (statement.For (first.First (set_i l v)) (Some (below_16 l)) (Some (step l)) (plain l e))
 
+-- return e;
 abbrev pub returned : ℕ → Expr → Stmt
 returned l e = s.at l (statement.Return (Some e))
 
@@ -113,6 +120,7 @@ low l = at l (node.Cast Int (at l (node.Group (operation l Remainder (x_of l) (n
 abbrev pub advance : ℕ → ℕ → Stmt
 advance l k = plain l (assigned l (x_of l) (next_x l k))
 
+-- putchar(65 + (int) (x % 26));
 abbrev pub show : ℕ → Stmt
 show l = plain l (at l (node.Call (codes "putchar") (operation l Add (number l 65) (low l) ∷ [])))
 
@@ -124,9 +132,11 @@ result l = at l (node.Cast Int (x_of l))
 abbrev pub function_at : ℕ → ℕ
 function_at k = suc (2 + k)
 
+-- the line of main behind n functions
 abbrev pub main_at : ℕ → ℕ
 main_at n = suc (2 + n)
 
+-- the line of call k in a main behind n functions
 abbrev pub call_at : ℕ → ℕ → ℕ
 call_at n k = suc (main_at n + k)
 
@@ -145,6 +155,7 @@ abbrev pub main_body : ℕ → List Stmt
 main_body n = s.declared (main_at n) Long name_x (sizes.Scalar, Some (number (main_at n) 1))
     ∷ (calls n n ++ returned (call_at n n) (result (call_at n n)) ∷ [])
 
+-- main, which calls the functions below n
 abbrev pub main : ℕ → Top
 main n = u.function (main_at n) (Some Int) (codes "main") []
     (Some (s.at (main_at n) (statement.Compound (main_body n))))

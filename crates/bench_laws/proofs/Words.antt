@@ -18,6 +18,7 @@ use Rattle.c_constant.proofs.Conversions.{converted_is}
 pub long_is : (a : ℕ) → a < 2 ^ 63 → number Long a ≡ pos a
 long_is a h = to_z_pos w64 a h
 
+-- a word below 2^63 as an int is this number
 pub int_is : (a : ℕ) → a < 2 ^ 63 → number Int a ≡ pos a
 int_is a h = to_z_pos w64 a h
 
@@ -28,6 +29,7 @@ in_long a h = grind (arith, common_steps)
 pub in_int : (a : ℕ) → a < 2 ^ 31 → in_kind Int (pos a) ≡ Some (pos a)
 in_int a h = grind (arith, common_steps)
 
+-- a sum of longs below 2^63 is the sum of the words
 pub add_long : (a b : ℕ) → a + b < 2 ^ 63 → operate Add Long a b ≡ Some (a + b)
 unfolding operate
 add_long a b h =
@@ -35,6 +37,7 @@ add_long a b h =
     ∙ ap (λ z. word_of (in_kind Long (pos a +ℤ z))) (long_is b (omega arith))
     ∙ ap word_of (in_long (a + b) h)
 
+-- a sum of ints below 2^31 is the sum of the words
 pub add_int : (a b : ℕ) → a + b < 2 ^ 31 → operate Add Int a b ≡ Some (a + b)
 unfolding operate
 add_int a b h =

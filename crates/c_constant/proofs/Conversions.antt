@@ -130,6 +130,7 @@ pub converted_long : (w : ℕ) → w < 2 ^ 64 → converted Long w ≡ w
 unfolding converted
 converted_long w h = omega arith
 
+-- a word converted to an unsigned long stays as it is
 pub converted_ulong : (w : ℕ) → w < 2 ^ 64 → converted ULong w ≡ w
 unfolding converted
 converted_ulong w h = omega arith

@@ -133,14 +133,17 @@ not_refused text p (Typing e) t n r =
     absurd (cc)
 not_refused text p Memory t n r = absurd r
 
+-- A text is accepted with at most one typed program.
 pub accepted_once : AcceptedOnce
 accepted_once text p q a b =
     (typed_is a.0 p a.2).1 ∙ ap program_tree (tree_once text a.0 b.0 a.1 b.1)
     ∙ sym (typed_is b.0 q b.2).1
 
+-- No text is both accepted and refused.
 pub not_both : NotBoth
 not_both text p r a out = not_refused text a.0 r a.1 (typed_is a.0 p a.2).0 out
 
+-- a text has one refusal at most
 pub refused_once : RefusedOnce
 refused_once text (Lex e) (Lex f) r s = ap (λ (x : LexFault). Lex x) (lexer_once text e f r s)
 refused_once text (Lex e) (Parse f) r s = absurd (no_tokens text e s.0 r s.1)

@@ -80,10 +80,12 @@ stmt_begins break = refl
 stmt_begins continue = refl
 stmt_begins (return x) = refl
 
+-- an inner statement begins as statements do
 pub inner_begins : {may : May} {b : Bool} {d : ℕ} {s : Stmt} {f t : Tokens}
     → Writes may (inner b s) d f t → first begins_statement f ≡ true
 inner_begins (inner_is ok x) = stmt_begins x
 
+-- a keyword that begins no statement does not stand where one begins
 pub begins_no_word : (k : Key) → begins_statement (form.Key k) ≡ false → (ts : Tokens)
     → first begins_statement ts ≡ true → is_word k ts ≡ false
 begins_no_word k no' ts h = apart begins_statement (is_key k)
@@ -94,6 +96,7 @@ pub begins_no_mark : (k : Mark) → begins_statement (form.Mark k) ≡ false →
 begins_no_mark k no' ts h = apart begins_statement (is_mark k)
     (λ f p q. false≢true (sym no' ∙ ap begins_statement (sym (mark_is k f q)) ∙ p)) ts h
 
+-- no keyword stands where an expression begins
 pub starts_no_word : (k : Key) → (ts : Tokens) → first begins_expression ts ≡ true
     → is_word k ts ≡ false
 starts_no_word k ts h = apart begins_expression (is_key k)
@@ -113,24 +116,29 @@ no_type_form (form.Key key.Continue) h = refl
 no_type_form (form.Key key.Return) h = refl
 no_type_form _ h = absurd (false≢true h)
 
+-- no type stands where a statement begins
 pub begins_no_type : (ts : Tokens) → first begins_statement ts ≡ true → begins_type ts ≡ false
 begins_no_type ts h = apart begins_statement is_type
     (λ f p q. false≢true (sym (no_type_form f p) ∙ q)) ts h
 
+-- no type stands where an expression that may be absent begins
 pub until_no_type : {may : May} {d : ℕ} {o : Option Expr} {f t : Tokens}
     → Writes may (until semicolon o) d f t → begins_type f ≡ false
 until_no_type (absent semicolon) = refl
 until_no_type (given semicolon x) = starts_no_type _ (level_starts x)
 
+-- a declaration of locals begins with a type
 pub locals_begin : {may : May} {d : ℕ} {ss : List Stmt} {f t : Tokens}
     → Writes may (locals ss) d f t → begins_type f ≡ true
 locals_begin (declaration x y) = types_begin x
 
+-- a keyword that is no type does not stand where a type begins
 pub type_no_word : (k : Key) → is_type (form.Key k) ≡ false → (ts : Tokens) → begins_type ts ≡ true
     → is_word k ts ≡ false
 type_no_word k no' ts h = apart is_type (is_key k)
     (λ f p q. false≢true (sym no' ∙ ap is_type (sym (key_is k f q)) ∙ p)) ts h
 
+-- no mark stands where a type begins
 pub type_no_mark : (k : Mark) → (ts : Tokens) → begins_type ts ≡ true → is_next k ts ≡ false
 type_no_mark k ts h = apart is_type (is_mark k)
     (λ f p q. false≢true (ap is_type (sym (mark_is k f q)) ∙ p)) ts h
@@ -140,11 +148,13 @@ pub entry_no_else : {may : May} {d : ℕ} {ss : List Stmt} {f t : Tokens}
 entry_no_else (entry_stmt x) = begins_no_word key.Else refl _ (inner_begins x)
 entry_no_else (entry_local {f = f} ok x) = type_no_word key.Else refl f (locals_begin x)
 
+-- an entry of a block does not begin with its right brace
 pub entry_no_brace : {may : May} {d : ℕ} {ss : List Stmt} {f t : Tokens}
     → Writes may (entry ss) d f t → is_next mark.RightBrace f ≡ false
 entry_no_brace (entry_stmt x) = begins_no_mark mark.RightBrace refl _ (inner_begins x)
 entry_no_brace (entry_local {f = f} ok x) = type_no_mark mark.RightBrace f (locals_begin x)
 
+-- the entries of a block do not begin with `else`
 pub entries_no_else : {may : May} {d : ℕ} {ss : List Stmt} {f t : Tokens}
     → Writes may (entries ss) d f t → is_word key.Else f ≡ false
 entries_no_else stop = refl
@@ -157,11 +167,13 @@ pub label_begins : {may : May} {d : ℕ} {x : Label} {f t : Tokens} → Writes m
 label_begins (a_case x) = refl
 label_begins a_default = refl
 
+-- labels begin with a label
 pub labels_begin : {may : May} {d : ℕ} {xs : List Label} {f t : Tokens} → Writes may (labels xs) d f t
     → first begins_label f ≡ true
 labels_begin (last_label x) = label_begins x
 labels_begin (next_label x y) = label_begins x
 
+-- the body of a section begins as statements do
 pub body_begins : {may : May} {d : ℕ} {ss : List Stmt} {f t : Tokens} → Writes may (body ss) d f t
     → first begins_statement f ≡ true
 body_begins (last_stmt x) = inner_begins x
@@ -182,6 +194,7 @@ pub label_no_statement : (ts : Tokens) → first begins_label ts ≡ true
 label_no_statement ts h = apart begins_label begins_statement
     (λ f p q. false≢true (sym (label_form f p) ∙ q)) ts h
 
+-- no label stands where a statement begins
 pub statement_no_label : (ts : Tokens) → first begins_statement ts ≡ true
     → first begins_label ts ≡ false
 statement_no_label ts h = apart begins_statement begins_label
@@ -196,6 +209,7 @@ label_no_mark : (k : Mark) → (ts : Tokens) → first begins_label ts ≡ true 
 label_no_mark k ts h = apart begins_label (is_mark k)
     (λ f p q. false≢true (ap begins_label (sym (mark_is k f q)) ∙ p)) ts h
 
+-- a section does not begin with a right brace
 pub section_no_brace : {may : May} {d : ℕ} {x : Section} {f t : Tokens}
     → Writes may (section x) d f t → is_next mark.RightBrace f ≡ false
 section_no_brace x = label_no_mark mark.RightBrace _ (section_begins x)
@@ -215,6 +229,7 @@ abbrev pub Takes : Phrase → Tokens → Tokens → Type 0
 Takes (shape s) f t = length t ≤ length f
 Takes _ f t = length t < length f
 
+-- A phrase takes at least one token, what stands behind a local's name maybe none.
 pub writes_shorter : {may : May} {p : Phrase} {d : ℕ} {f t : Tokens} → Writes may p d f t
     → Takes p f t
 writes_shorter (absent c) = omega arith
@@ -421,6 +436,7 @@ form_shortest l (form.Mark mark.Semicolon) h =
     }
 form_shortest l _ h = absurd (false≢true h)
 
+-- where a statement begins stands a token that a shortest statement begins with
 pub begins_is : (ts : Tokens) → first begins_statement ts ≡ true
     → (t : Lexeme) × (o : Tokens) × (ts ≡ t ∷ o) × Shortest t
 begins_is [] h = absurd (false≢true h)

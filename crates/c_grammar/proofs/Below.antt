@@ -153,6 +153,7 @@ nest_sound {m = m} h ts (stuck s o) =
       completes = λ u. let c = o.completes u in (c.0, h (before m (o.more u)) (opens m (o.more u)) c.0 _ u c.1);
     })
 
+-- the parser of statements with so many depths left is sound and complete
 pub below_good : (m left d : ℕ) → d + left ≡ m → Good (below_at left) m d
 unfolding below_at
 below_good m zero d fits =

@@ -262,6 +262,7 @@ module _ (m d : ℕ) (nested : Nested) (known : Deeper nested m d) where
       (subst (λ (k : ℕ). Spells may (expr k e) d f' t') h x) s f tied
       (is_next mark.LeftParen f') refl
 
+  -- the parser of casts is sound and complete
   pub cast_piece : Piece same_tree (Level 3 d) any always (ends_at 3) zero_first m (cast_of nested)
   cast_piece =
       record {

@@ -51,6 +51,7 @@ append_nil (x ∷ xs) = ap (λ (u : Tokens). x ∷ u) (append_nil xs)
 abbrev err : {A : Type 0} → Stop → Out A
 err s = Err s
 
+-- where a test follows from another, it does so beside a third
 pub or_mono : (a b c : Bool) → (a ≡ true → b ≡ true) → a || c ≡ true → b || c ≡ true
 or_mono true b c h e = by b (h refl)
   where

@@ -72,6 +72,8 @@ pub data Among {X P : Type 0} (R : P → Rel X) (S : Rel X) (may : May) (x : X) 
   by : (p : P) → R p may x f t → Among R S may x f t
   plain : S may x f t → Among R S may x f t
 
+-- a parser that looks at the first form for one of several parts, and reads another one where there is none, is
+-- sound and complete where they are
 pub among : {X A P : Type 0} {tree : X → A} {R : P → Rel X} {S : Rel X} {Ends : X → Tokens → Type 0}
     {after : Tokens → Tokens} {m : ℕ} {run : P → Tokens → Out A}
     {run' : Tokens → Out A} (look : Form → Option P)
@@ -113,6 +115,7 @@ module _ (m d : ℕ) (nested : Nested) (known : Deeper nested m d) where
   abbrev GroupIs : Rel Expr
   GroupIs = Then (OpenIs mark.LeftParen d) GroupRest
 
+  -- the parser of what stands behind the parenthesis of a group is sound and complete
   pub group_rest : (l : ℕ) → nested.allowed ≡ true
       → Piece same_tree (GroupRest l) any always (ends_at 0)
       (λ t. zero_token ∷ punct 0 mark.RightParen ∷ t) m
@@ -544,6 +547,7 @@ module _ (m d : ℕ) (nested : Nested) (known : Deeper nested m d) where
   unary_from may i f t (up {n = n} x) e =
       let h : n ≡ 1 = omega (arith, e) in plain (subst (λ (k : ℕ). Spells may (expr k i) d f t) h x)
 
+  -- the parser of unary expressions is sound and complete
   pub unary_piece : Piece same_tree (Level 2 d) any always (ends_at 2) zero_first m
       (unary_of nested)
   unfolding unary_of

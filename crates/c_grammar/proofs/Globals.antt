@@ -57,6 +57,7 @@ ValuesAre may es f t = Units may (values es) f t
 abbrev ShapeIs : Rel (ArraySize × List (List Expr))
 ShapeIs may s f t = Units may (shape s) f t
 
+-- the spelling of some globals of one declaration
 abbrev pub GlobalsAre : Kind → Rel (List Top)
 GlobalsAre k may gs f t = Units may (globals k gs) f t
 
@@ -66,6 +67,7 @@ ParamIs may p f t = Units may (param p) f t
 abbrev ParamList : Rel (List Param)
 ParamList may ps f t = Units may (param_list ps) f t
 
+-- the spelling of some parameters
 abbrev pub ParamsAre : Rel (List Param)
 ParamsAre may ps f t = Units may (params ps) f t
 
@@ -660,9 +662,11 @@ module _ (m : ℕ) (nested : Nested) (known : Deeper nested m 0) where
       (λ x l t. (omega arith, omega arith))
       (λ may xs f t r e. absurd (false≢true e)) x
 
+  -- the spelling of globals behind the name of the first
   abbrev pub GlobalsFrom : Kind → ℕ → List ℕ → Rel (List Top)
   GlobalsFrom k l w = Then ShapeIs (λ s. Tail (GlobalsAre k) mark.Semicolon false (global l k w s))
 
+  -- the parser of globals behind the name of the first is sound and complete
   pub globals_piece : (k : Kind) (l : ℕ) (w : List ℕ)
       → Piece same_tree (GlobalsFrom k l w) any always always (λ t. punct 0 mark.Semicolon ∷ t) m
       (globals_of nested k l w)
@@ -916,6 +920,7 @@ module _ (m : ℕ) (nested : Nested) (known : Deeper nested m 0) where
   type_no_void : (f : Tokens) → begins_type f ≡ true → is_word key.Void f ≡ false
   type_no_void f e = type_no_word key.Void refl f e
 
+  -- the parser of parameters is sound and complete
   pub params_piece : Piece same_tree ParamsAre any always always
       (λ t. type_first (punct 0 mark.RightParen ∷ t)) m (params_of nested)
   unfolding params_of

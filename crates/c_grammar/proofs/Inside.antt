@@ -30,6 +30,7 @@ use Rattle.c_grammar.proofs.Joins.{joins_meets}
 use Rattle.c_grammar.proofs.Expressions.{Deeper, Among, by, plain, among, unary_piece}
 use Rattle.c_grammar.proofs.Casts.{cast_piece}
 
+-- the levels of binary operators count from the level of casts on
 pub level_is : (n : ℕ) → binary_level n ≡ 3 + n
 level_is zero = refl
 level_is (suc n) = let h = level_is n in omega (arith, h)
@@ -50,6 +51,7 @@ comma_joins = record {
 }
 
 module _ (m d : ℕ) (nested : Nested) (known : Deeper nested m d) where
+  -- the parser of binary expressions of each level is sound and complete
   pub binary_piece : (n : ℕ) → n ≤ 10 → Piece same_tree (Level (binary_level n) d) any always
       (ends_at (binary_level n)) zero_first m (binary_of nested n)
   unfolding binary_of
@@ -149,6 +151,7 @@ module _ (m d : ℕ) (nested : Nested) (known : Deeper nested m d) where
       let h : n ≡ 13 = omega (arith, q) in
       (e, t, subst (λ (k : ℕ). Spells may (expr k e) d f t) h x, that (refl, refl))
 
+  -- the parser of conditional expressions is sound and complete
   pub conditional_piece : Piece same_tree (Level 14 d) any always (ends_at 14) zero_first m
       (conditional_of nested)
   unfolding conditional_of
@@ -235,6 +238,7 @@ module _ (m d : ℕ) (nested : Nested) (known : Deeper nested m d) where
       let h : n ≡ 14 = omega (arith, q) in
       (e, t, subst (λ (k : ℕ). Spells may (expr k e) d f t) h x, plain (refl, refl))
 
+  -- the parser of assignments is sound and complete
   pub assignment_piece : Piece same_tree (Level 15 d) any always (ends_at 15) zero_first m
       (assignment_of nested)
   unfolding assignment_of
@@ -243,6 +247,7 @@ module _ (m d : ℕ) (nested : Nested) (known : Deeper nested m d) where
       (λ t. omega arith) assign_meets) (λ may e f t r. assign_to may r.0 e f r.1 t r.2 r.3)
       (λ may e f t x. assign_in may e f t x refl)
 
+  -- the parser of expressions is sound and complete
   pub expression_piece : Piece same_tree (Level 16 d) any always (ends_at 16) zero_first m
       (expression_of nested)
   unfolding expression_of
@@ -252,12 +257,15 @@ module _ (m d : ℕ) (nested : Nested) (known : Deeper nested m d) where
       (joins_meets m d 15 (assignment_of nested) assignment_piece)) joins_to
       (joins_from comma_joins)
 
+-- where no depth is left, one deeper is too deep
 pub not_deeper : (m d : ℕ) → d + 0 ≡ m → leb (suc d) m ≡ false
 not_deeper m d e = is_false (leb (suc d) m) (λ h. let h' = leb-true (suc d) m h in omega (arith, e, h'))
 
+-- what is false gives anything
 pub never : {A : Type 0} → false ≡ true → A
 never e = absurd (false≢true e)
 
+-- the parser of expressions one deeper is sound and complete, with so many depths left
 pub inside_known : (m left d : ℕ) → d + left ≡ m → Deeper (inside left) m d
 unfolding inside
 inside_known m zero d fits =

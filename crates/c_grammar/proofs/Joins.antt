@@ -21,12 +21,15 @@ use Rattle.c_grammar.proofs.Stops.{Joining, below_joins, suffix_self, suffix_is,
 use Rattle.c_grammar.proofs.Stops.{bind_suffix}
 use Rattle.c_grammar.proofs.Levels.{zero_first}
 
+-- the spelling of an expression of a level at a depth
 abbrev pub Level : ℕ → ℕ → Rel Expr
 Level n d may e f t = Spells may (expr n e) d f t
 
+-- tokens that do not go on with an expression of a level
 abbrev pub ends_at : ℕ → Expr → Tokens → Type 0
 ends_at n e t = Stops n t
 
+-- an expression that takes no further token
 abbrev pub expr_here : Expr → Tokens → Out Expr
 expr_here e t = Ok (e, t)
 
@@ -57,6 +60,7 @@ join_to : {may : May} {d k : ℕ} {r a : Expr} {f u t : Tokens} → Spells may (
 join_to x over = x
 join_to {k = k} x (on j e y js) = join_to (join_at j k e x y) js
 
+-- an expression with what is joined to it makes one of the next level
 pub joins_to : {d k : ℕ} (may : May) (r : Expr) (f t : Tokens)
     → Then (Level k d) (JoinsFrom d k) may r f t → Level (suc k) d may r f t
 joins_to may r f t q = join_to (up q.2) q.3
@@ -82,6 +86,7 @@ join_from {may} {d = d} {r} {a} {f} {u} k g (up {n = n} x) e js =
     let i : n ≡ k = omega (arith, e) in
     (a, u, subst (λ (k : ℕ). Spells may (expr k a) d f u) i x, js)
 
+-- an expression of the next level is one of the level with what is joined to it
 pub joins_from : {d k : ℕ} → Joining k → (may : May) (r : Expr) (f t : Tokens)
     → Level (suc k) d may r f t → Then (Level k d) (JoinsFrom d k) may r f t
 joins_from {k = k} g may r f t x = join_from k g x refl over
@@ -173,6 +178,7 @@ module _ (m d k : ℕ) (inner : Tokens → Out Expr)
       }))
       le
 
+  -- the loop that joins phrases to the left is sound and complete
   pub joins_piece : (a : Expr) → Piece same_tree (JoinsFrom d k a) any always (ends_at (suc k))
       (λ t. t) m (λ ts. loop inner k (length ts) a ts)
   joins_piece a =
@@ -184,6 +190,7 @@ module _ (m d k : ℕ) (inner : Tokens → Out Expr)
             (length f) a r f' t' x s f (omega arith) tied;
       }
 
+  -- what is joined to an expression begins with a token that does not go on with one of its level
   pub joins_meets : (may : May) (a r : Expr) (u t : Tokens) → JoinsFrom d k a may r u t
       → Stops (suc k) t → Stops k u
   joins_meets may a r u t js s = joins_stop js s
@@ -195,9 +202,11 @@ pub data Suffixes (may : May) (r : Expr) : Expr → Tokens → Tokens → Type 0
   on' : {l : ℕ} {a : Expr} {u t : Tokens} → (s : Suffix) → Suffixes may r (suffixed s a) u t
       → Suffixes may r a (punct l (suffix_mark s) ∷ u) t
 
+-- the spelling of suffixes of an expression
 abbrev pub SuffixesOf : Expr → Rel Expr
 SuffixesOf a may r f t = Suffixes may r a f t
 
+-- suffixes begin with a token that does not go on with a primary expression
 pub suffixes_stop : (may : May) (a r : Expr) (u t : Tokens) → SuffixesOf a may r u t → Stops 1 t
     → Stops 0 u
 suffixes_stop may a _ _ t over' s = lower 0 1 t (omega arith) s
@@ -208,6 +217,7 @@ suffix_to : {may : May} {d : ℕ} {r a : Expr} {f u t : Tokens} → Spells may (
 suffix_to x over' = x
 suffix_to x (on' s js) = suffix_to (suffix s x) js
 
+-- a primary expression with its suffixes is a postfix expression
 pub suffixes_to : {d : ℕ} (may : May) (r : Expr) (f t : Tokens)
     → Then (Level 0 d) SuffixesOf may r f t → Level 1 d may r f t
 suffixes_to may r f t q = suffix_to (up q.2) q.3
@@ -230,6 +240,7 @@ suffix_from {may} {d = d} {r} {a} {f} {u} (up {n = n} x) e js =
     let i : n ≡ 0 = omega (arith, e) in
     (a, u, subst (λ (k : ℕ). Spells may (expr k a) d f u) i x, js)
 
+-- a postfix expression is a primary one with its suffixes
 pub suffixes_from : {d : ℕ} (may : May) (r : Expr) (f t : Tokens) → Level 1 d may r f t
     → Then (Level 0 d) SuffixesOf may r f t
 suffixes_from may r f t x = suffix_from x refl over'
@@ -281,6 +292,7 @@ module _ (m : ℕ) where
       }))
       le
 
+  -- the loop of suffixes is sound and complete
   pub suffixes_piece : (a : Expr) → Piece same_tree (SuffixesOf a) any always (ends_at 1) (λ t. t) m
       (λ ts. suffixes (length ts) a ts)
   suffixes_piece a =

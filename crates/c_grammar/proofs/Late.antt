@@ -121,6 +121,7 @@ abbrev Needs : u.Phrase → Tokens → ℕ
 Needs (u.shape s) t = length t
 Needs _ t = suc (length t)
 
+-- a phrase of a unit is spelled by another test as well, which lets pass what stands far enough before the end
 pub units_far : {may may' : May} {p : u.Phrase} {f t : Tokens} → Passes may may' (Needs p t)
     → Units may p f t → Units may' p f t
 units_far h u.no_size = u.no_size

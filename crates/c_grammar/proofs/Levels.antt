@@ -31,26 +31,32 @@ use Rattle.c_grammar.proofs.Types.{types_shorter}
 
 -- ---- the shortest expression
 
+-- the token of the number 0
 abbrev pub zero_token : Lexeme
 zero_token = token 0 (form.Number 0 kind.Int)
 
+-- the expression 0
 abbrev pub zero_expr : Expr
 zero_expr = at 0 (node.Number 0 kind.Int)
 
+-- some tokens behind the number 0
 abbrev pub zero_first : Tokens → Tokens
 zero_first t = zero_token ∷ t
 
+-- A zero alone spells an expression of each level.
 pub shortest : {may : May} {d : ℕ} {t : Tokens} → (n : ℕ)
     → Spells may (expr n zero_expr) d (zero_token ∷ t) t
 shortest zero = number
 shortest (suc n) = up (shortest n)
 
+-- a unary expression is a conditional one
 pub as_conditional : {may : May} {d : ℕ} {e : Expr} {f t : Tokens} → Spells may (expr 2 e) d f t
     → Spells may (expr 14 e) d f t
 as_conditional x = up (up (up (up (up (up (up (up (up (up (up (up x)))))))))))
 
 -- ---- first tokens
 
+-- Tokens that spell an expression begin as expressions do.
 pub level_starts : {may : May} {n d : ℕ} {e : Expr} {f t : Tokens} → Spells may (expr n e) d f t
     → first begins_expression f ≡ true
 level_starts number = refl
@@ -70,11 +76,13 @@ level_starts (choice x ok y z) = level_starts x
 level_starts (assign s x ok y) = level_starts x
 level_starts (up x) = level_starts x
 
+-- a list of arguments begins as expressions do
 pub list_starts : {may : May} {d : ℕ} {es : List Expr} {f t : Tokens}
     → Spells may (arg_list es) d f t → first begins_expression f ≡ true
 list_starts (last x) = level_starts x
 list_starts (next x y) = level_starts x
 
+-- Where an expression begins, no punctuator stands with which none begins.
 pub starts_no_mark : (k : Mark) → begins_expression (form.Mark k) ≡ false → (ts : Tokens)
     → first begins_expression ts ≡ true → is_next k ts ≡ false
 starts_no_mark k no' ts e = apart begins_expression (is_mark k)
@@ -86,6 +94,7 @@ starts_no_type_form (form.Number v k) e = refl
 starts_no_type_form (form.Mark m) e = refl
 starts_no_type_form _ e = absurd (false≢true e)
 
+-- no type stands where an expression begins
 pub starts_no_type : (ts : Tokens) → first begins_expression ts ≡ true → begins_type ts ≡ false
 starts_no_type [] e = absurd (false≢true e)
 starts_no_type (t ∷ ts) e = starts_no_type_form t.form e
@@ -135,6 +144,7 @@ paren_opens (up x) h = paren_opens x h
 
 -- ---- what may be assigned to
 
+-- an expression of the level of unary ones, or of a lower one, is unary
 pub unary_is : {may : May} {n d : ℕ} {e : Expr} {f t : Tokens} → Spells may (expr n e) d f t → n ≤ 2
     → is_unary e ≡ true
 unfolding is_unary
@@ -156,6 +166,7 @@ unary_is (choice x ok y z) le = absurd (omega (arith, le))
 unary_is (assign s x ok y) le = absurd (omega (arith, le))
 unary_is (up x) le = unary_is x (omega (arith, le))
 
+-- a unary expression of any level is spelled at the level of unary ones
 pub unary_only : {may : May} {n d : ℕ} {e : Expr} {f t : Tokens} → Spells may (expr n e) d f t
     → is_unary e ≡ true → Spells may (expr 2 e) d f t
 unfolding is_unary
@@ -181,6 +192,7 @@ unary_only (up x) h = unary_only x h
 
 -- ---- lengths
 
+-- What is left behind a phrase is shorter.
 pub spells_shorter : {may : May} {p : Phrase} {d : ℕ} {f t : Tokens} → Spells may p d f t
     → length t < length f
 spells_shorter number = omega arith

@@ -241,6 +241,7 @@ module _ {A : Type 0} (R : Rel A) (L : Rel (List A)) (Ends : A → Tokens → Ty
         (λ c lt. past c (behind_short cut g g' n x g (omega arith)))
         lt)
 
+    -- what follows an item of a list is what an item may end at
     pub tail_meets : (may : May) (x : A) (ys : List A) (u t : Tokens)
         → Tail L k trailing x may ys u t → Ends x u
     tail_meets may x _ _ t (ends {l = l}) = (meets x l t).1
@@ -266,6 +267,7 @@ module _ {A : Type 0} (R : Rel A) (L : Rel (List A)) (Ends : A → Tokens → Ty
           ap (λ (o : Out A). length (place o)) i,
         )) tm)
 
+    -- the parser of a list with commas is sound and complete where that of its items is
     pub listed_piece : Piece same_tree L any always always (λ t. after (punct 0 k ∷ t)) m
         (λ ts. listed k trailing run (suc (length ts)) ts)
     listed_piece =
@@ -295,6 +297,7 @@ module _ {A : Type 0} (R : Rel A) (L : Rel (List A)) (Ends : A → Tokens → Ty
 abbrev appended : {A : Type 0} → List A → Rel (List A) → Rel (List A)
 appended {A} x L may ys u t = (xs : List A) × L may xs u t × (ys ≡ x ++ xs)
 
+-- groups of items, one after the other, up to a mark
 pub data Many {A : Type 0} (R L : Rel (List A)) (k : Mark) (may : May) : List A → Tokens → Tokens → Type 0 where
   over : {l : ℕ} {t : Tokens} → Many R L k may [] (punct l k ∷ t) t
   more : {x xs : List A} {f u t : Tokens} → R may x f u → L may xs u t
@@ -391,6 +394,7 @@ module _ {A : Type 0} (R L : Rel (List A)) (Ends : List A → Tokens → Type 0)
         many_turn cut g g' may n (λ xs f' t' l f lt tied. many_complete cut g g' may n xs f' t' l f lt
         tied) xs f' t' (from may xs f' t' l) f lt tied
 
+    -- the parser of groups up to a mark is sound and complete where that of one group is
     pub many_piece : Piece same_tree L any always always (λ t. punct 0 k ∷ t) m
         (λ ts. many k run (suc (length ts)) ts)
     many_piece =
@@ -517,6 +521,7 @@ module _ {A : Type 0} (R : Rel A) (L : Rel (List A)) (Ends : A → Tokens → Ty
         t' r.3 b mid
         (let h = read_shorter shorter f r.0 (run f) mid (item.sound f tt) i in omega (arith, lt, h)) tm)
 
+    -- the parser of items as long as another one begins is sound and complete where that of its items is
     pub repeated_piece : Piece same_tree L any always (λ xs t. Behind t) after m
         (λ ts. repeated begins run (suc (length ts)) ts)
     repeated_piece =
@@ -639,6 +644,7 @@ module _ {A : Type 0} (R L : Rel (List A)) (after : Tokens → Tokens) (m : ℕ)
       (λ xs f' t' l z f lt tied. to_end_complete cut g g' may n xs f' t' l z f lt tied) f lt r.0
       xs r.1 t' r.3 z mid (read_shorter strict f r.0 (run f) mid (one'.sound f tt) i) tm)
 
+  -- the parser of groups up to the end is sound and complete where that of one group is
   pub to_end_piece : Piece same_tree L any at_end at_end after m
       (λ ts. to_end run (suc (length ts)) ts)
   to_end_piece =

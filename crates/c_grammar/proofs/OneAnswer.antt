@@ -221,6 +221,7 @@ module _ (tokens : Tokens) where
   one_depth : (l l' : ℕ) → IsTooDeep tokens l → IsTooDeep tokens l' → l ≡ l'
   one_depth _ _ (opener s) (opener s') = ap (λ (t : Lexeme). t.line) (deep_once s s')
 
+  -- two answers to the same tokens are one
   pub same_answer : (a b : Answer) → Answers tokens a → Answers tokens b → b ≡ a
   same_answer (tree xs) (tree ys) r s = ap (λ (zs : List Top). tree zs)
       (one_tree limit tokens ys xs s r)
@@ -262,6 +263,7 @@ pub model_answers : (tokens : Tokens) → Answers tokens
     (answer_of tokens (settle (unit_of 63 tokens)))
 model_answers tokens = exact_answers tokens (settle (unit_of 63 tokens)) (unit_exact 63 tokens)
 
+-- each list of tokens has one answer
 pub one_answer : OneAnswer
 one_answer tokens =
     let a = answer_of tokens (settle (unit_of 63 tokens)) in

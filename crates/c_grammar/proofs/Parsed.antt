@@ -13,10 +13,12 @@ use Rattle.c_grammar.proofs.Units.{unit_first, unit_piece}
 use Rattle.c_grammar.proofs.Late.{Passes, units_far}
 use Rattle.c_grammar.proofs.ExactReading.{exact, only}
 
+-- a unit is spelled by another test as well, which lets pass what stands before the last token
 pub unit_far : (may may' : May) (xs : List Top) (f : Tokens) → Passes may may' 1
     → UnitIs may xs f [] → UnitIs may' xs f []
 unit_far may may' xs f h r = units_far h r
 
+-- the parser of units accepts exactly what is spelled, and stops exactly where the fault stands
 pub unit_exact : (left : ℕ) (ts : Tokens) → Exact UnitIs (suc left) ts (settle (unit_of left ts))
 unit_exact left ts = exact UnitIs unit_first (suc left) (unit_of left)
     (unit_piece (suc left) left (omega arith)) unit_far ts
@@ -41,6 +43,7 @@ ok_tree : (xs : List Top) → tree_in (Ok (xs, [])) ≡ xs
 unfolding tree_in
 ok_tree xs = refl
 
+-- each list of tokens has one tree
 pub one_tree : OneTree
 one_tree m ts xs ys r s =
     sym (ok_tree xs) ∙ ap tree_in (sym (unit_only m ts xs (looser m xs ts r))

@@ -18,6 +18,7 @@ use Rattle.c_grammar.proofs.Agree.{stay, one, both, behind, Grows, Held, held_af
 use Rattle.c_grammar.proofs.Agree.{Frees, frees_after, frees_all, place, Tied, head_step}
 use Rattle.c_grammar.proofs.Agree.{tied_first, Lands, good, past, deep, lands_by}
 
+-- what a part of the grammar spells: a thing, from some tokens up to others, with a test of what may open
 abbrev pub Rel : Type 0 → Type 1
 Rel X = May → X → Tokens → Tokens → Type 0
 
@@ -39,12 +40,14 @@ pub record Open {X : Type 0} (R : Rel X) (m : ℕ) (ts : Tokens) (s : Stop) : Ty
   pub held : Held s.deep s.rest more
   pub completes : (u : Tokens) → (x : X) × R (before m (more u)) x (put (more u)) u
 
+-- what a part reads is spelled so, and where it stops it was still going on with what is spelled
 pub data Sound {X A : Type 0} (tree : X → A) (R : Rel X) (Kept : X → Tokens → Type 0) (m : ℕ) (ts : Tokens) : Out A
     → Type 0 where
   read : (x : X) (t : Tokens) → Front R m x ts t → Kept x t
       → Sound tree R Kept m ts (Ok (tree x, t))
   stuck : (s : Stop) → Open R m ts s → Sound tree R Kept m ts (Err s)
 
+-- what is spelled so is read, on every list of tokens that agrees with the spelling
 abbrev pub Complete : {X A : Type 0} → (X → A) → Rel X → (X → Tokens → Type 0) → ℕ
     → (Tokens → Out A) → Type 0
 Complete {X} {A} tree R Ends m run =
@@ -57,15 +60,19 @@ abbrev pub Least : {X : Type 0} → Rel X → (Tokens → Tokens) → Type 0
 Least {X} R after = (may : May) (t : Tokens) → Frees t may → Frees (after t) may
     → (x : X) × R may x (after t) t
 
+-- one part and another one behind it, which may look at the first
 abbrev pub Then : {X Y : Type 0} → Rel X → (X → Rel Y) → Rel Y
 Then {X} {Y} R S may y f t = (x : X) × (u : Tokens) × R may x f u × S x may y u t
 
+-- an end without a condition
 abbrev pub always : {X : Type 0} → X → Tokens → Type 0
 always x t = Unit {0}
 
+-- tokens without a condition
 abbrev pub any : Tokens → Type 0
 any ts = Unit {0}
 
+-- the tree of a thing that is its own tree
 abbrev pub same_tree : {X : Type 0} → X → X
 same_tree x = x
 
@@ -78,6 +85,7 @@ pub record Piece {X A : Type 0} (tree : X → A) (R : Rel X) (Given : Tokens →
   pub complete : Complete tree R Ends m run
 
 module _ {X A : Type 0} (tree : X → A) (R : Rel X) (Kept : X → Tokens → Type 0) (m : ℕ) where
+  -- A sound answer stands at no more tokens than there were.
   pub sound_short : (ts : Tokens) (out : Out A) → Sound tree R Kept m ts out
       → length (place out) ≤ length ts
   sound_short ts _ (read x t a k) = behind a.put a.way ts t a.is
@@ -124,6 +132,7 @@ module _ {X A Y B : Type 0} (tree : X → A) (tree' : Y → B) (R : Rel X) (S : 
             (l.0, (c.0, after v, c.1, l.1));
       }
 
+  -- two parts, one behind the other, are sound where each is
   pub seq_sound : (ts : Tokens) (out : Out A) (f : A → Tokens → Out B) (after : Tokens → Tokens)
       → Grows after → ((x : X) → Least (S x) after) → Sound tree R Kept m ts out
       → ((x : X) (u : Tokens) → Kept x u → Sound tree' (S x) Kept' m u (f (tree x) u))
@@ -217,6 +226,7 @@ forget p = record {
 abbrev pub Done : {X : Type 0} → X → Rel X
 Done v may y u t = (v ≡ y) × (u ≡ t)
 
+-- the part that takes no token and gives a value is sound and complete
 pub done : {X A : Type 0} (tree : X → A) (v : X) {Given : Tokens → Type 0}
     {Kept Ends : X → Tokens → Type 0} (m : ℕ) → ((t : Tokens) → Given t → Kept v t)
     → Piece tree (Done v) Given Kept Ends (λ t. t) m (λ ts. Ok (tree v, ts))
@@ -234,12 +244,14 @@ done tree v m kept =
           (subst (λ (u : Tokens). Tied cut g g' f u) r.1 tied) (ap (λ y. Ok (tree y, f)) r.0);
     }
 
+-- What holds of a thing and the tokens behind it holds of equal ones.
 pub ends_with : {X : Type 0} (P : X → Tokens → Type 0) {v y : X} {u t : Tokens} → P v u
     → (v ≡ y) × (u ≡ t) → P y t
 ends_with P {v = v} {y = y} {u = u} {t = t} p e = subst (λ t. P y t) e.1 (subst (λ y. P y u) e.0 p)
 
 -- ---- the same under another name
 
+-- what is sound for a spelling is so for another one that allows more
 pub turn : {X A : Type 0} {tree : X → A} {R R' : Rel X} {Kept : X → Tokens → Type 0} {m : ℕ}
     → ((may : May) (x : X) (f t : Tokens) → R may x f t → R' may x f t)
     → (ts : Tokens) {out : Out A} → Sound tree R Kept m ts out → Sound tree R' Kept m ts out
@@ -260,6 +272,7 @@ turn h ts (stuck s o) =
       completes = λ u. let c = o.completes u in (c.0, h (_) c.0 _ u c.1);
     })
 
+-- what is sound and complete for a spelling is so for an equal one
 pub iff : {X A : Type 0} {tree : X → A} {R R' : Rel X} {Given : Tokens → Type 0}
     {Kept Ends : X → Tokens → Type 0} {after : Tokens → Tokens} {m : ℕ} {run : Tokens → Out A}
     → Piece tree R Given Kept Ends after m run
@@ -313,6 +326,7 @@ ends_by p h = record {
 
 -- ---- one or another, by the first token
 
+-- the one spelling or the other
 pub data Either {X : Type 0} (R S : Rel X) (may : May) (x : X) (f t : Tokens) : Type 0 where
   this : R may x f t → Either R S may x f t
   that : S may x f t → Either R S may x f t
@@ -363,9 +377,11 @@ either_of p a b is_this is_that = either p (λ ts h e. a.sound ts tt) a.complete
 
 -- ---- a mark, a word, a name
 
+-- the spelling of a mark, at its line
 abbrev pub Is : Mark → Rel ℕ
 Is k may l f t = f ≡ punct l k ∷ t
 
+-- A punctuator is read where it stands, and where none stands the fault is there.
 pub mark_piece : (k : Mark) (m : ℕ) → Piece same_tree (Is k) any always always
     (λ t. punct 0 k ∷ t) m (expect k)
 mark_piece k m =
@@ -400,9 +416,11 @@ mark_piece k m =
     at_cut : (l : ℕ) (g : Tokens) → length (place (expect k (punct l k ∷ g))) ≤ length g
     at_cut l g = rw (mark_self k) (omega arith)
 
+-- the spelling of a keyword, at its line
 abbrev pub IsWord : Key → Rel ℕ
 IsWord k may l f t = f ≡ word l k ∷ t
 
+-- A keyword is read where it stands, and where none stands the fault is there.
 pub word_piece : (k : Key) (m : ℕ) → Piece same_tree (IsWord k) any always always
     (λ t. word 0 k ∷ t) m (expect_keyword k)
 word_piece k m =
@@ -437,12 +455,15 @@ word_piece k m =
     at_cut : (l : ℕ) (g : Tokens) → length (place (expect_keyword k (word l k ∷ g))) ≤ length g
     at_cut l g = rw (key_self k) (omega arith)
 
+-- the spelling of a name, with its line
 abbrev pub Named : Rel (ℕ × List ℕ)
 Named may n f t = f ≡ named n.0 n.1 ∷ t
 
+-- some tokens behind a name
 abbrev pub name_first : Tokens → Tokens
 name_first t = named 0 (120 ∷ []) ∷ t
 
+-- A name is read where one stands, and where none stands the fault is there.
 pub name_piece : (m : ℕ) → Piece same_tree Named any always always name_first m name_of
 name_piece m =
     record {
@@ -483,6 +504,7 @@ abbrev pub Reach : Nested → ℕ → ℕ → Type 0
 Reach nested m d = (nested.allowed ≡ true → leb (suc d) m ≡ true)
     × (nested.allowed ≡ false → leb (suc d) m ≡ false)
 
+-- the spelling of a mark that opens a depth, where it may
 abbrev pub OpenIs : Mark → ℕ → Rel ℕ
 OpenIs k d may l f t = (f ≡ punct l k ∷ t) × (may (punct l k ∷ t) (suc d) ≡ true)
 
@@ -602,6 +624,7 @@ module _ {Y B : Type 0} (tree : Y → B) (S : ℕ → Rel Y) (Kept Ends : Y → 
         complete = barred_complete (nope refl);
       }
 
+  -- a part behind a mark that opens a depth is sound and complete where the part is
   pub opening : (nested : Nested) → Reach nested m d
       → (nested.allowed ≡ true → (l : ℕ) → Piece tree (S l) any Kept Ends after m (f l))
       → Piece tree Whole any Kept Ends (λ t. punct 0 k ∷ after t) m

@@ -43,15 +43,19 @@ closer_no_start : (c : Closer) → begins_expression (form.Mark (closer_mark c))
 closer_no_start semicolon = refl
 closer_no_start paren = refl
 
+-- some tokens behind the mark that closes an expression which may be absent
 abbrev pub closer_first : Closer → Tokens → Tokens
 closer_first c t = punct 0 (closer_mark c) ∷ t
 
+-- the spelling of an expression that may be absent, up to its mark
 abbrev pub Until : Closer → ℕ → Rel (Option Expr)
 Until c d may o f t = Writes may (until c o) d f t
 
+-- the spelling of a condition in its parentheses
 abbrev pub Test : ℕ → Rel Expr
 Test d may e f t = Writes may (test e) d f t
 
+-- some tokens behind a shortest condition
 abbrev pub test_first : Tokens → Tokens
 test_first t = punct 0 mark.LeftParen ∷ zero_token ∷ punct 0 mark.RightParen ∷ t
 
@@ -64,6 +68,7 @@ shape_ends s t = Stops 15 t
 abbrev pub LocalsAre : ℕ → Rel (List Stmt)
 LocalsAre d may ss f t = Writes may (locals ss) d f t
 
+-- some tokens behind a shortest declaration of locals
 abbrev pub locals_first : Tokens → Tokens
 locals_first t = type_first (name_first (punct 0 mark.Semicolon ∷ t))
 
@@ -79,6 +84,7 @@ expr_is e t = Ok (e, t)
 abbrev shape_here : ArraySize × Option Expr → Tokens → Out (ArraySize × Option Expr)
 shape_here s t = Ok (s, t)
 
+-- a statement that takes no further token
 abbrev pub stmt_here : Stmt → Tokens → Out Stmt
 stmt_here s t = Ok (s, t)
 
@@ -101,6 +107,7 @@ module _ (m d : ℕ) (nested : Nested) (known : Deeper nested m d) where
   given_piece c = closed (closer_mark c) (closer_binds c) (λ e. Some e)
       (expression_piece m d nested known)
 
+  -- the parser of an expression that may be absent is sound and complete
   pub until_piece : (c : Closer) → Piece same_tree (Until c d) any always always
       (λ t. zero_token ∷ closer_first c t) m (until_of nested c)
   unfolding until_of
@@ -128,6 +135,7 @@ module _ (m d : ℕ) (nested : Nested) (known : Deeper nested m d) where
   TestChain = Then (Is mark.LeftParen) (λ k. Then (Level 16 d)
       (λ e. Then (Is mark.RightParen) (λ l. Done e)))
 
+  -- the parser of conditions is sound and complete
   pub test_piece : Piece same_tree (Test d) any always always test_first m (test_of nested)
   unfolding test_of
   test_piece =
@@ -392,6 +400,7 @@ module _ (m d : ℕ) (nested : Nested) (known : Deeper nested m d) where
   abbrev LocalsChain : Rel (List Stmt)
   LocalsChain = Then TypeIs (λ k. DeclsAre k.1)
 
+  -- the parser of declarations of locals is sound and complete
   pub locals_piece : Piece same_tree (LocalsAre d) any always always locals_first m
       (locals_of nested)
   unfolding locals_of

@@ -55,6 +55,7 @@ use Rattle.c_grammar.proofs.Begins.{starts_no_word, entry_no_brace, entries_no_e
 use Rattle.c_grammar.proofs.StatementParts.{Until, closer_first, until_piece, Test, test_first, test_piece}
 use Rattle.c_grammar.proofs.StatementParts.{locals_first, stmt_here}
 
+-- the statement of a pair
 abbrev pub pair_tree : Bool × Stmt → Stmt
 pair_tree p = p.1
 
@@ -65,9 +66,11 @@ closed_off p t = p.0 ≡ true → is_word key.Else t ≡ false
 abbrev pub StmtIs : ℕ → Rel (Bool × Stmt)
 StmtIs d may p f t = Writes may (stmt p.0 p.1) d f t
 
+-- the spelling of an inner statement
 abbrev pub InnerIs : ℕ → Rel (Bool × Stmt)
 InnerIs d may p f t = Writes may (inner p.0 p.1) d f t
 
+-- the spelling of a declaration of locals one deeper, where it may stand
 abbrev pub LocalsIn : ℕ → Rel (List Stmt)
 LocalsIn d may ss f t = (may f (suc d) ≡ true) × Writes may (locals ss) (suc d) f t
 
@@ -113,6 +116,7 @@ label_here x t = Ok (x, t)
 abbrev sections_here : List Section → Tokens → Out (List Section)
 sections_here xs t = Ok (xs, t)
 
+-- the spelling of a block behind its left brace
 abbrev pub BodyIs : ℕ → Rel Stmt
 BodyIs d = Then (Is mark.LeftBrace) (λ l. Then (EntriesAre d)
     (λ ss. Done (at l (node.Compound ss))))
@@ -120,6 +124,7 @@ BodyIs d = Then (Is mark.LeftBrace) (λ l. Then (EntriesAre d)
 abbrev no_else : List Stmt → Tokens → Type 0
 no_else s t = is_word key.Else t ≡ false
 
+-- some tokens behind a shortest statement
 abbrev pub stmt_first : Tokens → Tokens
 stmt_first t = zero_token ∷ punct 0 mark.Semicolon ∷ t
 
@@ -1006,6 +1011,7 @@ module _ (m d : ℕ) (nested : Nested) (deeper : Deeper nested m d) (below : Bel
         (k, t, refl, (refl, refl)),
       )))))
 
+  -- the parser of statements is sound and complete
   pub stmt_piece : Piece pair_tree (StmtIs d) any closed_off closed_off stmt_first m
       (stmt_of nested below)
   stmt_piece = iff chain_piece stmt_to (λ may y f t x. stmt_from may y.0 y.1 f t x)

@@ -210,9 +210,11 @@ module _ (m : ℕ) where
   unfolding plain_of
   plain_piece w k = word_then m w (λ l. (l, k))
 
+-- the spelling of a type, with its line
 abbrev pub TypeIs : Rel (ℕ × Kind)
 TypeIs may x f t = Types x.0 x.1 f t
 
+-- some tokens behind a shortest type
 abbrev pub type_first : Tokens → Tokens
 type_first t = word 0 key.Unsigned ∷ t
 
@@ -323,6 +325,7 @@ type_from may l _ _ t (unsigned_long {k = k}) =
 type_from may l _ _ t (unsigned_long_int {k = k} {j = j}) =
     is_unsigned (l, word k key.Long ∷ word j key.Int ∷ t, refl, longs given)
 
+-- A type is read exactly where one is spelled.
 pub type_piece : (m : ℕ) → Piece same_tree TypeIs any always type_ends type_first m type_of
 unfolding type_of
 type_piece m =
@@ -392,6 +395,7 @@ types_shorter signed_long_int = omega arith
 types_shorter unsigned_long = omega arith
 types_shorter unsigned_long_int = omega arith
 
+-- Tokens that spell a type begin as types do.
 pub types_begin : {l : ℕ} {k : Kind} {f t : Tokens} → Types l k f t → begins_type f ≡ true
 types_begin char = refl
 types_begin signed_char = refl

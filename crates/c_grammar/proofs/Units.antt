@@ -63,6 +63,7 @@ Takes (label l n) f t = length t ≤ length f
 Takes (brackets a) f t = length t ≤ length f
 Takes _ f t = length t < length f
 
+-- each phrase of a unit takes a token at least; a shape, a label and brackets maybe none
 pub units_shorter : {may : May} {p : Phrase} {f t : Tokens} → Units may p f t → Takes p f t
 units_shorter no_size = omega arith
 units_shorter (some_size x) = let h = spells_shorter x in omega arith
@@ -476,6 +477,7 @@ module _ (m : ℕ) (nested : Nested) (known : Deeper nested m 0) (body : Tokens 
       from may xs f t (last_item x) = (xs, t, x, end_here)
       from may _ f t (next_item {xs = xs} {m = u} x y) = (xs, u, x, goes_on y)
 
+-- some tokens behind a shortest item of a unit
 abbrev pub unit_first : Tokens → Tokens
 unit_first t = type_first (name_first (punct 0 mark.Semicolon ∷ t))
 

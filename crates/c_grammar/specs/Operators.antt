@@ -1,15 +1,15 @@
 -- The operators of expressions (C17 6.5): their marks, their levels and what they make.
-use Rattle.std.specs.Prelude.{ℕ, Option, Some, None}
+use Rattle.std.specs.Prelude.{ℕ, ◌+◌, Option, Some, None}
 use Rattle.c_tree.specs.declared.token.Mark.{Mark}
 use Rattle.c_tree.specs.declared.token.Mark.TheVariants as mark
 use Rattle.c_tree.specs.declared.tree.UnaryOp.{UnaryOp}
 use Rattle.c_tree.specs.declared.tree.UnaryOp.TheVariants as unary
 use Rattle.c_tree.specs.declared.tree.BumpOp.TheVariants as bump
 use Rattle.c_tree.specs.declared.tree.BinaryOp.{BinaryOp}
-use Rattle.c_tree.specs.declared.tree.BinaryOp.TheVariants as binary
 use Rattle.c_tree.specs.declared.tree.Expr.{Expr}
 use Rattle.c_tree.specs.declared.tree.ExprNode.{ExprNode}
 use Rattle.c_tree.specs.declared.tree.ExprNode.TheVariants as node
+use Rattle.c_tree.specs.Marks.{operator, IsCompound, compound_mark}
 
 -- Levels of an expression, from the tightest: 0 primary, 1 postfix, 2 unary, 3 cast, 4 to 13 the
 -- binary operators from `*` to `||`, 14 conditional, 15 assignment, 16 comma.
@@ -43,46 +43,12 @@ pub data Joiner : Type 0 where
 
 -- the mark of an operator
 abbrev pub joiner_mark : Joiner → Mark
-joiner_mark (op binary.Multiply) = mark.Star
-joiner_mark (op binary.Divide) = mark.Slash
-joiner_mark (op binary.Remainder) = mark.Percent
-joiner_mark (op binary.Add) = mark.Plus
-joiner_mark (op binary.Subtract) = mark.Minus
-joiner_mark (op binary.ShiftLeft) = mark.ShiftLeft
-joiner_mark (op binary.ShiftRight) = mark.ShiftRight
-joiner_mark (op binary.Less) = mark.Less
-joiner_mark (op binary.Greater) = mark.Greater
-joiner_mark (op binary.LessEqual) = mark.LessEqual
-joiner_mark (op binary.GreaterEqual) = mark.GreaterEqual
-joiner_mark (op binary.Equal) = mark.Equal
-joiner_mark (op binary.NotEqual) = mark.NotEqual
-joiner_mark (op binary.BitAnd) = mark.And
-joiner_mark (op binary.BitXor) = mark.Xor
-joiner_mark (op binary.BitOr) = mark.Or
-joiner_mark (op binary.LogicalAnd) = mark.AndAnd
-joiner_mark (op binary.LogicalOr) = mark.OrOr
+joiner_mark (op o) = (operator o).token
 joiner_mark comma = mark.Comma
 
 -- the level of the right side, which is one tighter than that of the left side and of the whole
 abbrev pub below : Joiner → ℕ
-below (op binary.Multiply) = 3
-below (op binary.Divide) = 3
-below (op binary.Remainder) = 3
-below (op binary.Add) = 4
-below (op binary.Subtract) = 4
-below (op binary.ShiftLeft) = 5
-below (op binary.ShiftRight) = 5
-below (op binary.Less) = 6
-below (op binary.Greater) = 6
-below (op binary.LessEqual) = 6
-below (op binary.GreaterEqual) = 6
-below (op binary.Equal) = 7
-below (op binary.NotEqual) = 7
-below (op binary.BitAnd) = 8
-below (op binary.BitXor) = 9
-below (op binary.BitOr) = 10
-below (op binary.LogicalAnd) = 11
-below (op binary.LogicalOr) = 12
+below (op o) = cast_level + (operator o).level
 below comma = 15
 
 -- two expressions joined by an operator
@@ -132,44 +98,17 @@ abbrev pub suffixed : Suffix → Expr → Expr
 suffixed increased e = at e.line (node.Bump bump.PostInc e)
 suffixed decreased e = at e.line (node.Bump bump.PostDec e)
 
--- the operator of an assignment: none, or that of a compound one
+-- the operator of an assignment: none, or one that has a compound assignment
 pub data Assigner : Type 0 where
   simple : Assigner
-  times : Assigner
-  over : Assigner
-  modulo : Assigner
-  plus : Assigner
-  minus : Assigner
-  left : Assigner
-  right : Assigner
-  and : Assigner
-  xor : Assigner
-  or : Assigner
+  compound : (o : BinaryOp) → IsCompound o → Assigner
 
 -- the mark of an assignment operator
 abbrev pub assigner_mark : Assigner → Mark
 assigner_mark simple = mark.Assign
-assigner_mark times = mark.StarAssign
-assigner_mark over = mark.SlashAssign
-assigner_mark modulo = mark.PercentAssign
-assigner_mark plus = mark.PlusAssign
-assigner_mark minus = mark.MinusAssign
-assigner_mark left = mark.ShiftLeftAssign
-assigner_mark right = mark.ShiftRightAssign
-assigner_mark and = mark.AndAssign
-assigner_mark xor = mark.XorAssign
-assigner_mark or = mark.OrAssign
+assigner_mark (compound o c) = compound_mark o c
 
 -- the operation that an assignment operator does first
 abbrev pub assigner_op : Assigner → Option BinaryOp
 assigner_op simple = None
-assigner_op times = Some binary.Multiply
-assigner_op over = Some binary.Divide
-assigner_op modulo = Some binary.Remainder
-assigner_op plus = Some binary.Add
-assigner_op minus = Some binary.Subtract
-assigner_op left = Some binary.ShiftLeft
-assigner_op right = Some binary.ShiftRight
-assigner_op and = Some binary.BitAnd
-assigner_op xor = Some binary.BitXor
-assigner_op or = Some binary.BitOr
+assigner_op (compound o c) = Some o

@@ -56,6 +56,7 @@ over-given v n0 fs e =
     ap (λ (m : Next). is_over m (frames fs)) e
     ∙ (is_empty-len (frames fs) ∙ ap (λ (k : ℕ). nat_eq k 0) (frames-length fs))
 
+-- where no frame is left, a result that was given is the end
 pub no-frame : (v : Signal) (n0 : Next) (fs : List Frame) → n0 ≡ Given v → length fs ≡ 0
     → is_over n0 (frames fs) ≡ false → ⊥
 no-frame v n0 fs e l h =

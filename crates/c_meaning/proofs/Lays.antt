@@ -22,37 +22,44 @@ pub spans-later : (last later : ℕ) (spans : List Span) → last ≤ later → 
 spans-later last later [] le h = tt
 spans-later last later (s ∷ spans) le h = let a = h.0 in (omega arith, spans-later last later spans le h.1)
 
+-- cells without a stamp later than one have none later than a later one
 pub cells-later : (last later : ℕ) (cells : List Cell) → last ≤ later → CellsKnown last cells
     → CellsKnown later cells
 cells-later last later [] le h = tt
 cells-later last later (c ∷ cells) le h = let a = h.0 in (omega arith, cells-later last later cells le h.1)
 
+-- cells behind cells have no later stamp where neither have
 pub cells-append : (last : ℕ) (cells more : List Cell) → CellsKnown last cells
     → CellsKnown last more → CellsKnown last (cells ++ more)
 cells-append last [] more h g = g
 cells-append last (c ∷ cells) more h g = (h.0, cells-append last cells more h.1 g)
 
+-- equal cells have no later stamp where the one has none
 pub cells-replicate : (last n : ℕ) (c : Cell) → c.stamp ≤ last → CellsKnown last (replicate n c)
 cells-replicate last zero c h = tt
 cells-replicate last (suc n) c h = (h, cells-replicate last n c h)
 
+-- words with a stamp that is not later are cells without a later one
 pub cells-worded : (last stamp : ℕ) (words : List ℕ) → stamp ≤ last
     → CellsKnown last (map (worded stamp) words)
 cells-worded last stamp [] h = tt
 cells-worded last stamp (w ∷ words) h = (h, cells-worded last stamp words h)
 
+-- cells of which one is set have no later stamp where the new one has none
 pub cells-set : (last i : ℕ) (cells : List Cell) (c : Cell) → c.stamp ≤ last → CellsKnown last cells
     → CellsKnown last (set cells i c)
 cells-set last i [] c le h = tt
 cells-set last zero (d ∷ cells) c le h = (le, h.1)
 cells-set last (suc i) (d ∷ cells) c le h = (h.0, cells-set last i cells c le h.1)
 
+-- the first of some cells have no later stamp where all have none
 pub cells-take : (last n : ℕ) (cells : List Cell) → CellsKnown last cells
     → CellsKnown last (take n cells)
 cells-take last zero cells h = tt
 cells-take last (suc n) [] h = tt
 cells-take last (suc n) (c ∷ cells) h = (h.0, cells-take last n cells h.1)
 
+-- the stamp of a span that is there is not later than the last
 pub stamp-known : (last a : ℕ) (spans : List Span) (span : Span) → SpansKnown last spans
     → slice_get spans a ≡ Some span → span.stamp ≤ last
 stamp-known last a [] span h g = absurd (cc)
@@ -118,6 +125,7 @@ total-set zero (s ∷ spans) span new g l =
 total-set (suc a) (s ∷ spans) span new g l =
     ap (λ (n : ℕ). s.length + n) (total-set a spans span new g l)
 
+-- arrays of which one has a new stamp are laid as before
 pub laid-unset : (a : ℕ) (spans : List Span) (cells : List Cell) (used last stamp : ℕ) (span : Span)
     → slice_get spans a ≡ Some span → stamp ≡ last + 1 → IsLaid spans cells used last
     → IsLaid (set spans a (record { start = span.start; length = span.length; stamp = stamp })) cells
@@ -172,6 +180,7 @@ unset_from (suc a) (s ∷ spans) cells last stamp span g lt le h =
     (unset_from a spans (drop s.length cells) last stamp span g lt (omega arith)
     (drop-known last s.length cells h))
 
+-- an array with a new stamp has its elements unset, and the others stay
 pub rows-unset : (a : ℕ) (spans : List Span) (cells : List Cell) (used last stamp : ℕ) (span : Span)
     → slice_get spans a ≡ Some span → stamp ≡ last + 1 → IsLaid spans cells used last
     → rows (set spans a (record { start = span.start; length = span.length; stamp = stamp })) cells
@@ -362,6 +371,7 @@ total-least zero spans = omega arith
 total-least (suc n) [] = omega arith
 total-least (suc n) (s ∷ spans) = let h = total-least n spans in omega arith
 
+-- the first arrays of those that are laid are laid, up to the start of the next one
 pub laid-kept : (n : ℕ) (spans : List Span) (cells : List Cell) (used last : ℕ) (span : Span)
     → n < length spans → span ≡ get_or spans n span → IsLaid spans cells used last
     → IsLaid (take n spans) cells span.start last
@@ -376,6 +386,7 @@ laid-kept n spans cells used last span lt g h =
       cells_known = h.cells_known;
     }
 
+-- the first spans have the first rows
 pub rows-kept : (n : ℕ) (spans : List Span) (cells : List Cell) (spans' : List Span)
     (view : List (List (Option ℕ))) → spans' ≡ take n spans → rows spans cells ≡ view
     → rows spans' cells ≡ take n view
@@ -389,6 +400,7 @@ take-all (suc n) [] h = refl
 take-all (suc n) (r ∷ rs) h = ap (λ (x : List (List (Option ℕ))). r ∷ x)
     (take-all n rs (omega arith))
 
+-- as many rows as there are, or more, are all rows
 pub rows-all : (n : ℕ) (spans : List Span) (cells : List Cell) (view : List (List (Option ℕ)))
     → length spans ≤ n → rows spans cells ≡ view → view ≡ take n view
 rows-all n spans cells view le v =
@@ -410,6 +422,7 @@ laid-cells spans cells used last spans' cells' last' h e le l k =
       cells_known = k;
     })
 
+-- an array behind those that are laid is laid, where the cells are enough
 pub laid-add : (spans : List Span) (cells : List Cell) (used last : ℕ) (spans' : List Span)
     (cells' : List Cell) (used' stamp n : ℕ) → IsLaid spans cells used last → stamp ≡ last + 1
     → used' ≡ used + n → spans' ≡ spans ++ record { start = used; length = n; stamp = stamp } ∷ []
@@ -421,6 +434,7 @@ laid-add spans cells used last spans' cells' used' stamp n h e u s le k =
     (laid-added spans cells cells' used last stamp
     (record { start = used; length = n; stamp = stamp }) h refl refl e (omega arith) k))
 
+-- an array that is added has its elements unset, and the others stay
 pub rows-unset_added : (spans : List Span) (cells : List Cell) (used last : ℕ) (spans' : List Span)
     (cells' more : List Cell) (stamp n : ℕ) (view : List (List (Option ℕ)))
     → IsLaid spans cells used last → rows spans cells ≡ view → stamp ≡ last + 1
@@ -439,11 +453,13 @@ rows-unset_added spans cells used last spans' cells' more stamp n view h v e s c
     ∙ rows-add_unset spans cells more used last stamp n h e k' le'
     ∙ ap (λ (rs : List (List (Option ℕ))). rs ++ replicate n None ∷ []) v
 
+-- cells padded up to a number are enough for it
 pub enough-padded : (cells : List Cell) (c : Cell) (count used : ℕ) (cells' : List Cell)
     → count ≡ used - length cells → cells' ≡ cells ++ replicate count c → used ≤ length cells'
 enough-padded cells c count used cells' e g =
     let l : length cells' ≡ length cells + count = ap length g ∙ simp (length-append, length-replicate) in omega arith
 
+-- an array that is added with its first words has these, then zeros, and the others stay
 pub rows-set_added : (spans : List Span) (cells : List Cell) (used last : ℕ) (spans' : List Span)
     (cells0 cells1 cells2 : List Cell) (stamp n blanks : ℕ) (words : List ℕ)
     (view : List (List (Option ℕ))) → IsLaid spans cells used last → rows spans cells ≡ view
@@ -471,6 +487,7 @@ rows-set_added spans cells used last spans' cells0 cells1 cells2 stamp n blanks 
     ∙ ap (λ (rs : List (List (Option ℕ))). rs ++ (map Some words ++ replicate blanks (Some 0)) ∷ [])
     v
 
+-- cells filled with words and blanks are enough for the array of both
 pub enough-filled : (used blanks : ℕ) (words : List ℕ) (stamp n : ℕ)
     (cells cells0 cells1 cells2 : List Cell) → used ≤ length cells → n ≡ length words + blanks
     → cells0 ≡ take used cells → cells1 ≡ cells0 ++ map (worded stamp) words
@@ -481,6 +498,7 @@ enough-filled used blanks words stamp n cells cells0 cells1 cells2 le e c0 c1 c2
     let l2 : length cells2 ≡ length cells1 + blanks = ap length c2 ∙ simp (length-append, length-replicate) in
     omega arith
 
+-- as many cells as are used are taken
 pub taken-length : (used : ℕ) (cells cells0 : List Cell) → used ≤ length cells
     → cells0 ≡ take used cells → length cells0 ≡ used
 taken-length used cells cells0 le c = ap length c ∙ length-taken used cells le

@@ -7,6 +7,7 @@ use Rattle.c_meaning_spec.specs.Call.{array_bytes, all_bytes}
 use Rattle.c_meaning.specs.inside.View.{follow}
 use Rattle.c_meaning.specs.declared.frame.Frame.{Frame}
 
+-- a frame put behind the frames is the first thing that follows
 pub stack_push : (xs : List Frame) (f : Frame)
     → reverse (map follow (xs ++ f ∷ [])) ≡ follow f ∷ reverse (map follow xs)
 stack_push xs f = simp (map-append, reverse-append)

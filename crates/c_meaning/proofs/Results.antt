@@ -11,6 +11,7 @@ by-sign : (low : ℕ) (b : Bool) → low < 4294967296 → nat_lt low 2147483648 
     → cast_signed w32 low ≡ cast_signed w64 (by_sign 2147483648 low)
 by-sign low b h e = grind (arith, ints)
 
+-- the low 32 bits of a word by sign are its number as an int
 pub low-bits : (w : ℕ) → cast_signed w32 (w % 4294967296) ≡ number Int (converted Int w)
 unfolding converted
 low-bits w = by-sign (w % 4294967296) (nat_lt (w % 4294967296) 2147483648) (omega arith) refl

@@ -14,22 +14,26 @@ use Rattle.c_meaning.specs.inside.Cells.{shown, row_of, rows, total, Follows}
 
 -- WHAT A BOOL TELLS
 
+-- of what is not there, the right answer is that it is not
 pub never : {A : Type 0} (o : Option A) → o ≡ None
     → (IsTrue false → IsSome o) × (IsSome o → IsTrue false)
 never {A = A} o e = (λ h. absurd (cc), λ h. let g : IsSome {T = A} None = subst IsSome e h in absurd (cc))
 
+-- of what is there, the right answer is that it is
 pub always : {A : Type 0} (o : Option A) → IsSome o
     → (IsTrue true → IsSome o) × (IsSome o → IsTrue true)
 always o h = (λ t. h, λ g. refl)
 
 -- READING
 
+-- Where there is no span there is no row.
 pub absent : (spans : List Span) (cells : List Cell) (a : ℕ) → slice_get spans a ≡ None
     → slice_get (rows spans cells) a ≡ None
 absent [] cells a h = refl
 absent (span ∷ spans) cells zero h = absurd (cc)
 absent (span ∷ spans) cells (suc a) h = absent spans (drop span.length cells) a h
 
+-- an array that has a span has a row
 pub row-present : (spans : List Span) (cells : List Cell) (a : ℕ) (span : Span)
     → slice_get spans a ≡ Some span → IsSome (slice_get (rows spans cells) a)
 row-present [] cells a span h = absurd (cc)
@@ -41,6 +45,7 @@ length-shown stamp zero cells = omega arith
 length-shown stamp (suc n) [] = omega arith
 length-shown stamp (suc n) (c ∷ cells) = let h = length-shown stamp n cells in omega arith
 
+-- an array has no element past its length
 pub outside : (spans : List Span) (cells : List Cell) (a i : ℕ) (span : Span)
     → slice_get spans a ≡ Some span → span.length ≤ i
     → cell_in (slice_get (rows spans cells) a) i ≡ None
@@ -124,12 +129,14 @@ present spans cells a i span d f h lt fits =
     ∙ ap (λ (n : ℕ). option_map (shown span.stamp) (slice_get cells n)) k
     ∙ ap (option_map (shown span.stamp)) (slice_get-get_or cells (span.start + i) d l)
 
+-- an array has each element within its length
 pub is-present : (spans : List Span) (cells : List Cell) (a i : ℕ) (span : Span) → Follows 0 spans
     → slice_get spans a ≡ Some span → i < span.length → total spans ≤ length cells
     → IsSome (cell_in (slice_get (rows spans cells) a) i)
 is-present spans cells a i span f h lt fits =
     rw (present spans cells a i span (record { stamp = 0; word = 0 }) f h lt fits) refl
 
+-- there are as many rows as spans
 pub length-rows : (spans : List Span) (cells : List Cell) → length (rows spans cells) ≡ length spans
 length-rows [] cells = refl
 length-rows (s ∷ spans) cells = ap suc (length-rows spans (drop s.length cells))
@@ -176,6 +183,7 @@ set_from (first ∷ spans) cells (suc a) i at w span f h lt =
     ∙ ap (λ (rs : List (List (Option ℕ))). row_of first cells ∷ rs)
     (set_from spans (drop first.length cells) a i (at + first.length) w span f.1 h lt)
 
+-- a cell of an array's span that is set sets this element and no other
 pub rows-set : (spans : List Span) (cells : List Cell) (a i w : ℕ) (span : Span) → Follows 0 spans
     → slice_get spans a ≡ Some span → i < span.length
     → rows spans (set cells (span.start + i) (record { stamp = span.stamp; word = w }))

@@ -23,11 +23,13 @@ weight-le (Of e) n = omega arith
 weight-le (Run st) n = omega arith
 weight-le (Turn test post body) n = omega arith
 
+-- every task weighs something
 pub weight-some : (t : Task) (n : ℕ) → 0 < weight t n
 weight-some (Of e) n = omega arith
 weight-some (Run st) n = omega arith
 weight-some (Turn test post body) n = omega arith
 
+-- what grew with fewer steps at most did so with more
 pub weaker : (d m n : ℕ) (r r' : Result) → m ≤ n → Grew d m r r' → Grew d n r r'
 weaker d m n (Go v s) r' h g = let lt : s.stock < m = g.grows.1 in record { grows = (g.grows.0, omega arith) }
 weaker d m n (Over More s) r' h g = record { grows = g.grows }

@@ -80,6 +80,7 @@ Grows d n (Over More s) r' = (d ≡ 0 → r' ≡ Over More (more d s)) × IsPref
     × Within d r'
 Grows d n (Over why s) r' = r' ≡ Over why (more d s)
 
+-- a result with more steps, beside the one with fewer
 pub record Grew (d n : ℕ) (r r' : Result) : Type 0 where
   pub grows : Grows d n r r'
 
@@ -356,6 +357,7 @@ module _ (d n : ℕ) (rec rec' : Parts) (below : (t : Task) (s : State) → s.st
       (g-entered_if is_main (nat_le (s.room + frame f) most_frame_bytes) f done s h)
       (g-undefined d n s)
 
+  -- a call of what is called grows where its parts do
   pub g-called : (P : TypedProgram) (f : Callee) (done : List ℕ) (s : State) → s.stock ≤ n
       → Grew d n (called rec P f done s) (called rec' P f done (more d s))
   g-called P (Func f) done s h =
@@ -491,6 +493,7 @@ module _ (d n : ℕ) (rec rec' : Parts) (below : (t : Task) (s : State) → s.st
       → Grew d n (node rec P e s) (node rec' P e (more d s))
   g-node P e s h = g-spend d n s _ _ h (λ s h. g-opened P e s h) (p-opened rec' puts P e)
 
+  -- an expression grows where its parts do
   pub g-expression : (P : TypedProgram) (e : Node) (s : State) → s.stock ≤ n
       → Grew d n (expression rec P e s) (expression rec' P e (more d s))
   g-expression P (Convert to e) s h =
@@ -626,10 +629,12 @@ module _ (d n : ℕ) (rec rec' : Parts) (below : (t : Task) (s : State) → s.st
   g-begun (Return None) s h = g-go d n _ s h
   g-begun (Return (Some e)) s h = g-of e s _ _ h (g-returning d n) (p-returning rec' puts)
 
+  -- a statement grows where its parts do
   pub g-statement : (st : Level) (s : State) → s.stock ≤ n
       → Grew d n (statement rec st s) (statement rec' st (more d s))
   g-statement st s h = g-spend d n s _ _ h (λ s h. g-begun st s h) (p-begun rec' puts st)
 
+  -- a loop's turn grows where its parts do
   pub g-turn : (test post : Option TypedExpr) (body : TypedStmt) (s : State)
       → ((e : TypedExpr) → Grew d n (rec (Of e) s) (rec' (Of e) (more d s)))
       → ((st : TypedStmt) → Grew d n (rec (Run st) s) (rec' (Run st) (more d s)))

@@ -51,6 +51,7 @@ use Rattle.c_meaning_spec.specs.Statement.{after_body, after_test, turn, returni
 use Rattle.c_meaning_spec.specs.Statement.{after_sections, run_from, compared_by, compared, after_switch}
 use Rattle.c_meaning_spec.specs.Eval.{perform, evaluated, enough, meaning}
 
+-- the steps that a result leaves
 abbrev pub stock_of : Result → ℕ
 stock_of (Go v s) = s.stock
 stock_of (Over why s) = s.stock
@@ -60,21 +61,25 @@ pub record Puts (out : List ℕ) (n : ℕ) (r : Result) : Type 0 where
   pub puts : IsPrefix out (output_of r)
   pub spends : stock_of r ≤ n
 
+-- an output is a prefix of itself
 pub same-prefix : (out : List ℕ) → IsPrefix out out
 same-prefix out = record { rest = []; joined = sym (append-nil out) }
 
+-- a prefix of a prefix is a prefix
 pub prefix-prefix : (a b c : List ℕ) → IsPrefix a b → IsPrefix b c → IsPrefix a c
 prefix-prefix a b c h g = record {
   rest = h.rest ++ g.rest;
   joined = g.joined ∙ (ap (λ xs. xs ++ g.rest) h.joined ∙ append_assoc a h.rest g.rest);
 }
 
+-- what goes on as it is takes nothing back
 pub p-go : (v : Signal) (s : State) → Puts s.output s.stock (Go v s)
 p-go v s = record { puts = same-prefix s.output; spends = omega arith }
 
 pub p-over : (why : Ending) (s : State) → Puts s.output s.stock (Over why s)
 p-over why s = record { puts = same-prefix s.output; spends = omega arith }
 
+-- what follows a result takes nothing back where the result and all that may follow it do not
 pub p-then : (out : List ℕ) (n : ℕ) (r : Result) (f : Signal → State → Result) → Puts out n r
     → ((v : Signal) (s : State) → Puts s.output s.stock (f v s)) → Puts out n (then r f)
 p-then out n (Go v s) f h g =
@@ -95,6 +100,7 @@ pub p-some : {A : Type 0} (o : Option A) (s : State) (f : A → Result)
 p-some None s f h = p-over Undefined s
 p-some (Some x) s f h = h x
 
+-- a choice takes nothing back where neither leg does
 pub p-cond : (b : Bool) (out : List ℕ) (n : ℕ) (r q : Result) → Puts out n r → Puts out n q
     → Puts out n (cond b r q)
 p-cond true out n r q h g = h
@@ -137,15 +143,18 @@ p-name P (place.Global g) s = p-cond (is_array (slice_get P.globals g)) s.output
 p-name P (place.Scalar i) s = p-load (InScalar i) s
 p-name P (place.Array a) s = p-go _ s
 
+-- an element that is read takes nothing back
 pub p-element : (p : Place) (v : Signal) (s : State) → Puts s.output s.stock (element p v s)
 p-element p v s = p-want v s _ (λ w. p-some (element_of p w s) s _ (λ x. p-load x s))
 
+-- an element of a row that is read takes nothing back
 pub p-row_element : (p : Place) (i : ℕ) (v : Signal) (s : State)
     → Puts s.output s.stock (row_element p i v s)
 p-row_element p i v s = p-want v s _ (λ j. p-some (row_element_of p i j s) s _ (λ x. p-load x s))
 
 -- SWITCHES
 
+-- the end of a switch takes nothing back
 pub p-after_sections : (v : Signal) (s : State) → Puts s.output s.stock (after_sections v s)
 p-after_sections Breaks s = p-go _ s
 p-after_sections _ s = p-go _ s
@@ -168,6 +177,7 @@ p-returned is_main (Returns None) s = p-go _ s
 p-returned is_main Nothing s = p-go _ s
 p-returned is_main _ s = p-over Undefined s
 
+-- leaving a function takes nothing back
 pub p-left : (is_main : Bool) (scalars : List (Option ℕ)) (count base room : ℕ) (v : Signal)
     (s : State) → Puts s.output s.stock (left is_main scalars count base room v s)
 p-left is_main scalars count base room v s = p-returned is_main v _
@@ -176,10 +186,12 @@ p-read : (input : List ℕ) (s : State) → Puts s.output s.stock (read_from inp
 p-read [] s = p-go _ s
 p-read (b ∷ rest) s = p-go _ (record s { input = rest })
 
+-- a call of `getchar` takes nothing back
 pub p-get_char : (done : List ℕ) (s : State) → Puts s.output s.stock (get_char done s)
 p-get_char [] s = p-read s.input s
 p-get_char (w ∷ rest) s = p-over Undefined s
 
+-- a call of `putchar` takes nothing back
 pub p-put_char : (done : List ℕ) (s : State) → Puts s.output s.stock (put_char done s)
 p-put_char (w ∷ []) s = record {
   puts = record { rest = (w % 256) ∷ []; joined = refl };
@@ -208,12 +220,14 @@ module _ (rec : Parts) (below : (t : Task) (s : State) → Puts s.output s.stock
       p-cond fits s.output s.stock _ _ (p-run f.body (entered f done s) _
       (p-left is_main s.scalars (length s.arrays) s.base s.room)) (p-over Deep s)
 
+  -- entering a function takes nothing back where its body does not
   pub p-enter : (is_main : Bool) (f : Option TypedFunc) (done : List ℕ) (s : State)
       → Puts s.output s.stock (enter rec is_main f done s)
   p-enter is_main None done s = p-over Undefined s
   p-enter is_main (Some f) done s = p-cond (nat_eq (length done) f.params) s.output s.stock _ _
       (p-entered_if is_main _ f done s) (p-over Undefined s)
 
+  -- a call of what is called takes nothing back where the parts do not
   pub p-called : (P : TypedProgram) (f : Callee) (done : List ℕ) (s : State)
       → Puts s.output s.stock (called rec P f done s)
   p-called P (Func f) done s =
@@ -227,6 +241,7 @@ module _ (rec : Parts) (below : (t : Task) (s : State) → Puts s.output s.stock
   p-arguments P f (e ∷ es) done s = p-of e s _
       (λ v u. p-want v u _ (λ w. p-arguments P f es (done ++ w ∷ []) u))
 
+  -- an argument and those behind it take nothing back where the parts do not
   pub p-argument : (P : TypedProgram) (f : Callee) (es : List TypedExpr) (done : List ℕ)
       (v : Signal) (s : State) → Puts s.output s.stock
       (want v s (λ w. arguments rec P f es (done ++ w ∷ []) s))
@@ -234,30 +249,37 @@ module _ (rec : Parts) (below : (t : Task) (s : State) → Puts s.output s.stock
 
   -- EXPRESSIONS
 
+  -- a conversion takes nothing back
   pub p-converting : (to : Kind) (v : Signal) (s : State)
       → Puts s.output s.stock (converting to v s)
   p-converting to v s = p-want v s _ (λ w. p-go _ s)
 
+  -- an operation on one value takes nothing back
   pub p-unary : (op : UnaryOp) (k : Option Kind) (v : Signal) (s : State)
       → Puts s.output s.stock (unary op k v s)
   p-unary op k v s = p-want v s _ (λ w. p-given _ s)
 
+  -- an operation on two values takes nothing back
   pub p-operated : (op : BinaryOp) (k : Option Kind) (a : ℕ) (v : Signal) (s : State)
       → Puts s.output s.stock (operated op k a v s)
   p-operated op k a v s = p-want v s _ (λ w. p-given _ s)
 
+  -- what follows a left operand takes nothing back
   pub p-after_left : (op : BinaryOp) (k : Option Kind) (r : TypedExpr) (v : Signal) (s : State)
       → Puts s.output s.stock (after_left rec op k r v s)
   p-after_left op k r v s = p-want v s _ (λ a. p-of r s _ (p-operated op k a))
 
+  -- a value's truth takes nothing back
   pub p-truth : (v : Signal) (s : State) → Puts s.output s.stock (truth v s)
   p-truth v s = p-want v s _ (λ w. p-go _ s)
 
+  -- what follows the left side of `&&` takes nothing back
   pub p-after_and : (r : TypedExpr) (v : Signal) (s : State)
       → Puts s.output s.stock (after_and rec r v s)
   p-after_and r v s = p-want v s _ (λ w. p-cond (is_false w) s.output s.stock _ _ (p-go _ s)
       (p-of r s _ p-truth))
 
+  -- what follows the left side of `||` takes nothing back
   pub p-after_or : (r : TypedExpr) (v : Signal) (s : State)
       → Puts s.output s.stock (after_or rec r v s)
   p-after_or r v s = p-want v s _ (λ w. p-cond (is_false w) s.output s.stock _ _
@@ -269,21 +291,26 @@ module _ (rec : Parts) (below : (t : Task) (s : State) → Puts s.output s.stock
   p-binary LogicalOr l r s = p-of l s _ (p-after_or r)
   p-binary _ l r s = p-of l s _ (p-after_left _ l.kind r)
 
+  -- a value that is wanted takes nothing back
   pub p-valued : (v : Signal) (s : State) → Puts s.output s.stock (valued v s)
   p-valued v s = p-want v s _ (λ w. p-go _ s)
 
+  -- what follows the test of a choice takes nothing back
   pub p-after_choice : (a b : TypedExpr) (v : Signal) (s : State)
       → Puts s.output s.stock (after_choice rec a b v s)
   p-after_choice a b v s = p-want v s _ (λ w. p-cond (is_false w) s.output s.stock _ _
       (p-of b s _ p-valued) (p-of a s _ p-valued))
 
+  -- what follows the left side of a comma takes nothing back
   pub p-after_comma : (r : TypedExpr) (v : Signal) (s : State)
       → Puts s.output s.stock (after_comma rec r v s)
   p-after_comma r v s = p-of r s _ p-valued
 
+  -- an assignment of a value takes nothing back
   pub p-assigned : (x : Object) (v : Signal) (s : State) → Puts s.output s.stock (assigned x v s)
   p-assigned x v s = p-want v s _ (λ w. p-store s x w)
 
+  -- a compound assignment of a value takes nothing back
   pub p-compounded : (op : BinaryOp) (to : Option Kind) (at : Kind) (x : Object) (old : ℕ)
       (v : Signal) (s : State) → Puts s.output s.stock (compounded op to at x old v s)
   p-compounded op to at x old v s = p-want v s _
@@ -295,18 +322,21 @@ module _ (rec : Parts) (below : (t : Task) (s : State) → Puts s.output s.stock
   p-assign_to (Some op) to at r s x = p-some (held (cell s x)) s _
       (λ old. p-of r s _ (p-compounded op to at x old))
 
+  -- an assignment to an element takes nothing back, from its index on
   pub p-assign_element : (op : Option BinaryOp) (to : Option Kind) (at : Kind) (p : Place)
       (r : TypedExpr) (v : Signal) (s : State)
       → Puts s.output s.stock (assign_element rec op to at p r v s)
   p-assign_element op to at p r v s = p-want v s _
       (λ w. p-some (element_of p w s) s _ (λ x. p-assign_to op to at r s x))
 
+  -- an assignment to an element of a row takes nothing back, from its last index on
   pub p-assign_row : (op : Option BinaryOp) (to : Option Kind) (at : Kind) (p : Place) (i : ℕ)
       (r : TypedExpr) (v : Signal) (s : State)
       → Puts s.output s.stock (assign_row rec op to at p i r v s)
   p-assign_row op to at p i r v s = p-want v s _
       (λ j. p-some (row_element_of p i j s) s _ (λ x. p-assign_to op to at r s x))
 
+  -- an assignment to an element of a row takes nothing back, from its first index on
   pub p-assign_after_row : (op : Option BinaryOp) (to : Option Kind) (at : Kind) (p : Place)
       (index r : TypedExpr) (v : Signal) (s : State)
       → Puts s.output s.stock (assign_after_row rec op to at p index r v s)
@@ -331,16 +361,19 @@ module _ (rec : Parts) (below : (t : Task) (s : State) → Puts s.output s.stock
       p-then s.output s.stock (store s x new) _ (p-store s x new)
       (p-giving (bump_value op old new))))
 
+  -- a bump of an element takes nothing back, from its index on
   pub p-bump_element : (op : BumpOp) (k : Option Kind) (p : Place) (v : Signal) (s : State)
       → Puts s.output s.stock (bump_element op k p v s)
   p-bump_element op k p v s = p-want v s _
       (λ w. p-some (element_of p w s) s _ (λ x. p-bump_object op k s x))
 
+  -- a bump of an element of a row takes nothing back, from its last index on
   pub p-bump_row : (op : BumpOp) (k : Option Kind) (p : Place) (i : ℕ) (v : Signal) (s : State)
       → Puts s.output s.stock (bump_row op k p i v s)
   p-bump_row op k p i v s = p-want v s _
       (λ j. p-some (row_element_of p i j s) s _ (λ x. p-bump_object op k s x))
 
+  -- a bump of an element of a row takes nothing back, from its first index on
   pub p-bump_after_row : (op : BumpOp) (k : Option Kind) (p : Place) (index : TypedExpr) (v : Signal)
       (s : State) → Puts s.output s.stock (bump_after_row rec op k p index v s)
   p-bump_after_row op k p index v s = p-want v s _ (λ i. p-of index s _ (p-bump_row op k p i))
@@ -352,10 +385,12 @@ module _ (rec : Parts) (below : (t : Task) (s : State) → Puts s.output s.stock
   p-bump op k (Element p (Some row) index) s = p-of row s _ (p-bump_after_row op k p index)
   p-bump op k _ s = p-over Undefined s
 
+  -- an element of a row that is read takes nothing back, from its first index on
   pub p-after_row : (p : Place) (index : TypedExpr) (v : Signal) (s : State)
       → Puts s.output s.stock (after_row rec p index v s)
   p-after_row p index v s = p-want v s _ (λ i. p-of index s _ (p-row_element p i))
 
+  -- no node of an expression takes anything back where its parts do not
   pub p-opened : (P : TypedProgram) (n : Node) (s : State)
       → Puts s.output s.stock (opened rec P n s)
   p-opened P (Number w) s = p-go _ s
@@ -383,19 +418,23 @@ module _ (rec : Parts) (below : (t : Task) (s : State) → Puts s.output s.stock
 
   -- STATEMENTS
 
+  -- what goes on where nothing broke off takes nothing back
   pub p-going_on : (v : Signal) (s : State) (f : State → Result)
       → ((u : State) → Puts u.output u.stock (f u)) → Puts s.output s.stock (going_on v s f)
   p-going_on Nothing s f h = h s
   p-going_on _ s f h = p-go _ s
 
+  -- statements one after another take nothing back where each does not
   pub p-sequence : (all : List TypedStmt) (s : State) → Puts s.output s.stock (sequence rec all s)
   p-sequence [] s = p-go _ s
   p-sequence (st ∷ rest) s = p-run st s _ (λ v u. p-going_on v u _ (p-sequence rest))
 
+  -- the statements of a switch's sections take nothing back where each does not
   pub p-run_from : (all : List TypedStmt) (s : State)
       → Puts s.output s.stock (run_from rec all s)
   p-run_from all s = p-then s.output s.stock (sequence rec all s) _ (p-sequence all s) p-after_sections
 
+  -- the labels of a switch that are compared, and what runs behind, take nothing back
   pub p-compared : (w : ℕ) (ts : List Target) (other : List TypedStmt) (s : State)
       → Puts s.output s.stock (compared rec w ts other s)
   p-compared w [] other s = p-run_from other s
@@ -403,13 +442,16 @@ module _ (rec : Parts) (below : (t : Task) (s : State) → Puts s.output s.stock
       p-compared_by w t.label _ _ _ (p-run_from t.statements) (p-compared w ts other)
       (p-compared w ts t.statements) s
 
+  -- what follows the test of a switch takes nothing back
   pub p-after_switch : (xs : List TypedSection) (v : Signal) (s : State)
       → Puts s.output s.stock (after_switch rec xs v s)
   p-after_switch xs v s = p-want v s _ (λ w. p-compared w (targets xs) [] s)
 
+  -- a value that is dropped takes nothing back
   pub p-dropped : (v : Signal) (s : State) → Puts s.output s.stock (dropped v s)
   p-dropped v s = p-go _ s
 
+  -- a scalar's first value takes nothing back
   pub p-initialised : (i : ℕ) (v : Signal) (s : State) → Puts s.output s.stock (initialised i v s)
   p-initialised i v s = p-want v s _ (λ w. p-then s.output s.stock (store s (InScalar i) w) _
       (p-store s (InScalar i) w) p-dropped)
@@ -439,6 +481,7 @@ module _ (rec : Parts) (below : (t : Task) (s : State) → Puts s.output s.stock
   p-run_if None s = p-go _ s
   p-run_if (Some st) s = below (Run st) s
 
+  -- what follows the test of an `if` takes nothing back
   pub p-after_if : (a : TypedStmt) (b : Option TypedStmt) (v : Signal) (s : State)
       → Puts s.output s.stock (after_if rec a b v s)
   p-after_if a b v s = p-want v s _ (λ w. p-cond (is_false w) s.output s.stock _ _ (p-run_if b s)
@@ -449,6 +492,7 @@ module _ (rec : Parts) (below : (t : Task) (s : State) → Puts s.output s.stock
   p-then_turn None test post body s = below (Turn test post body) s
   p-then_turn (Some e) test post body s = p-of e s _ (λ v u. below (Turn test post body) u)
 
+  -- a loop behind the locals of its first part takes nothing back
   pub p-locals : (all : List TypedStmt) (test post : Option TypedExpr) (body : TypedStmt)
       (s : State) → Puts s.output s.stock (locals rec all test post body s)
   p-locals [] test post body s = below (Turn test post body) s
@@ -461,6 +505,7 @@ module _ (rec : Parts) (below : (t : Task) (s : State) → Puts s.output s.stock
   p-begin (init.First e) test post body s = p-then_turn (Some e) test post body s
   p-begin (init.Locals all) test post body s = p-locals all test post body s
 
+  -- what follows the body of a loop takes nothing back
   pub p-after_body : (test post : Option TypedExpr) (body : TypedStmt) (v : Signal) (s : State)
       → Puts s.output s.stock (after_body rec test post body v s)
   p-after_body test post body Nothing s = p-then_turn post test post body s
@@ -468,6 +513,7 @@ module _ (rec : Parts) (below : (t : Task) (s : State) → Puts s.output s.stock
   p-after_body test post body Breaks s = p-go _ s
   p-after_body test post body _ s = p-go _ s
 
+  -- what follows the test of a loop takes nothing back
   pub p-after_test : (test post : Option TypedExpr) (body : TypedStmt) (v : Signal) (s : State)
       → Puts s.output s.stock (after_test rec test post body v s)
   p-after_test test post body v s =
@@ -479,9 +525,11 @@ module _ (rec : Parts) (below : (t : Task) (s : State) → Puts s.output s.stock
   p-turn None post body s = p-run body s _ (p-after_body None post body)
   p-turn (Some t) post body s = p-of t s _ (p-after_test (Some t) post body)
 
+  -- a value that is returned takes nothing back
   pub p-returning : (v : Signal) (s : State) → Puts s.output s.stock (returning v s)
   p-returning v s = p-want v s _ (λ w. p-go _ s)
 
+  -- no statement takes anything back where its parts do not
   pub p-begun : (st : Level) (s : State) → Puts s.output s.stock (begun rec st s)
   p-begun (Declare p e) s = p-declare p e s
   p-begun (Plain None) s = p-go _ s
@@ -503,12 +551,14 @@ module _ (rec : Parts) (below : (t : Task) (s : State) → Puts s.output s.stock
   p-perform P (Run st) s = p-spend s _ (λ u. p-begun (out-TypedStmt st) u)
   p-perform P (Turn test post body) s = p-turn test post body s
 
+-- no task takes anything back, at any depth of evaluation
 pub p-evaluated : (k : ℕ) (P : TypedProgram) (t : Task) (s : State)
     → Puts s.output s.stock (evaluated k P t s)
 unfolding evaluated
 p-evaluated zero P t s = p-over More s
 p-evaluated (suc k) P t s = p-perform (evaluated k P) (p-evaluated k P) P t s
 
+-- what a task means takes nothing back
 pub p-meaning : (P : TypedProgram) (t : Task) (s : State) → Puts s.output s.stock (meaning P t s)
 unfolding meaning
 p-meaning P t s = p-evaluated (enough s.stock) P t s

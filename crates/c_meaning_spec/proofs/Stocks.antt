@@ -51,6 +51,7 @@ stays n d (Over More s) r' g h = absurd (h tt)
 stays n d (Over Undefined s) r' g h = ap (outcome (n + d)) g.grows
 stays n d (Over Deep s) r' g h = ap (outcome (n + d)) g.grows
 
+-- a result other than More stays with more steps
 pub stays-with-more-steps : StaysWithMoreSteps
 unfolding eval
 stays-with-more-steps P input n d h = stays n d (run P input n) (run P input (n + d))
@@ -102,6 +103,7 @@ prefix-outcome n m r r' h =
     subst (λ (o : List ℕ). IsPrefix o (output_in (outcome m r'))) (sym (output-outcome n r))
     (subst (λ (o : List ℕ). IsPrefix (output_of r) o) (sym (output-outcome m r')) h)
 
+-- the output so far goes on with more steps
 pub output-goes-on : OutputGoesOn
 unfolding eval
 output-goes-on P input n d =
@@ -168,10 +170,12 @@ exact P input n out result steps (Go v s) is e l whole =
           (more_or_not (eval P input k)),
     )
 
+-- the steps of Done are the least that give it
 pub steps-are-least : StepsAreLeast
 unfolding eval
 steps-are-least P input n out result steps e =
     exact P input n out result steps (run P input n) refl e (spent P input n) e
 
+-- what a task means is what it does with the meaning of its parts
 pub means-by-parts : MeansByParts
 means-by-parts P t s = meaning-is P t s

@@ -40,16 +40,19 @@ has_depth_fault tokens (t ∷ u ∷ rest) e = opener (exact_here tokens (too_dee
 
 -- the same of what the parser answers
 module _ (tokens rest : Tokens) (r : Result (List Top) Stopped) (reads : Reads (unit_of 63 tokens) r rest) where
+  -- where the model reads the tokens, they are a unit with its tree
   pub answers_unit : (xs : List Top) → r ≡ Ok xs → IsUnit tokens xs
   answers_unit xs e =
       is_unit tokens rest xs (subst (λ (r : Result (List Top) Stopped). Reads (unit_of 63 tokens) r rest) e reads)
 
+  -- where the model stops at a syntax fault, the tokens have one at the line of the fault
   pub answers_syntax : (line : ℕ) → r ≡ Err stopped.Syntax → fault_line tokens rest ≡ line
       → HasSyntaxFault tokens line
   answers_syntax line e f =
       subst (HasSyntaxFault tokens) f (has_fault tokens rest
       (subst (λ (r : Result (List Top) Stopped). Reads (unit_of 63 tokens) r rest) e reads))
 
+  -- where the model stops at an opener that is too deep, the tokens fail by the fault of the depth
   pub answers_depth : (fault : ParseFault) → r ≡ Err stopped.TooDeep → depth_fault tokens rest ≡ fault
       → ParseFails tokens fault
   answers_depth fault e f =

@@ -19,6 +19,7 @@ use Rattle.c_parse.proofs.ParserLoops.{binary_next, binary_zero}
 abbrev here : Expr → Tokens → Out Expr
 here a ts = Ok (a, ts)
 
+-- parts one behind the other may be grouped either way
 pub then_then : {A B C : Type 0} (o : Out A) (f : A → Tokens → Out B) (g : B → Tokens → Out C)
     → and_then (and_then o f) g ≡ and_then o (λ a ts. and_then (f a ts) g)
 then_then (Ok p) f g = refl
@@ -122,12 +123,14 @@ module _ (left level b : ℕ) (most : level ≤ 10) (a : Expr) (ts : Tokens) (p 
       ∙ ap (λ (o : Out Expr). and_then o (climb left m (suc (p.0))))
       (turn_off left (p.0) (omega (arith, most, found.2)) a ts (p.1) s is_at h)
 
+  -- where the operand behind an operator fails, the climb fails there
   pub climb_fails : (e : Stopped) (new : Tokens) → Fails (binary_of (inside left) (p.0) (tail ts)) e new
       → Fails (climb left (level - b) b a ts) e new
   climb_fails stopped.Syntax new h = climb_stop _ h
   climb_fails stopped.TooDeep new h = climb_stop _ h
   climb_fails stopped.Memory new h = tt
 
+  -- an operator and its operand take at least a token
   pub climb_shorter : (r : Expr) (rest : Tokens) → binary_of (inside left) (p.0) (tail ts) ≡ Ok (r, rest)
       → length rest < length ts
   climb_shorter r rest h =

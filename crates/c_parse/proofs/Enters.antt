@@ -25,6 +25,7 @@ enter_by k n b ts e h =
     ∙ ap (λ (b : Bool). cond b (line_here (line_of ts) (tail ts)) (too_deep ts))
     e
 
+-- a mark that is there opens a depth where one is left
 pub enters_ok : (k : Mark) (left l : ℕ) (old new : Tokens) → is_next k old ≡ true → left ≡ suc l → new ≡ tail old
     → Enters k left old (Ok l) new
 enters_ok k left l old new h e t =
@@ -35,6 +36,7 @@ enters_ok k left l old new h e t =
           ∙ ap (λ (u : Tokens). line_here (line_of old) u) (sym t),
     )
 
+-- a mark that is there is too deep where no depth is left
 pub enters_deep : (k : Mark) (left : ℕ) (old : Tokens) → is_next k old ≡ true → left ≡ 0
     → enter k (inside left) old ≡ too_deep old
 enters_deep k left old h e = enter_by k (inside left) false old (ap (λ (n : ℕ). (inside n).allowed) e ∙ inside_none) h

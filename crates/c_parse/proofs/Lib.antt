@@ -1,6 +1,7 @@
 pub mod Enters
 pub mod ParserLoops
 pub mod Climbs
+pub mod Assigners
 pub mod Operands
 pub mod Nested
 pub mod Lists

@@ -111,12 +111,14 @@ module _ {A : Type 0} (k : Mark) (run : Tokens → Out A) where
       let i : turns - 0 ≡ suc (length ts) = omega (arith, e) in
       behind_none _ ∙ ap (λ (n : ℕ). listed k true run n ts) i
 
+-- at its start the loop of values will find what the model of them finds
 pub values_init : (left turns : ℕ) (ts : Tokens) → turns ≡ length ts + 1
     → behind [] (listed mark.RightBrace true (conditional_of (inside left)) (turns - 0) ts) ≡ values_of (inside left)
     ts
 unfolding values_of
 values_init left turns ts e = trailed_init mark.RightBrace (conditional_of (inside left)) turns ts e
 
+-- at its start the loop of rows will find what the model of them finds
 pub rows_init : (left turns : ℕ) (ts : Tokens) → turns ≡ length ts + 1
     → behind [] (listed mark.RightBrace true (row_of (inside left)) (turns - 0) ts) ≡ rows_of (inside left) ts
 unfolding rows_of
@@ -124,6 +126,7 @@ rows_init left turns ts e = trailed_init mark.RightBrace (row_of (inside left)) 
 
 -- ---- parameters and globals
 
+-- at its start the loop of parameters will find what the model of them finds
 pub params_init : (left turns : ℕ) (ts : Tokens) → turns ≡ length ts + 1
     → behind [] (listed mark.RightParen false (param_of (inside left)) (turns - 0) ts) ≡ param_list_of (inside left)
     ts
@@ -231,6 +234,7 @@ module _ {A : Type 0} (run : Tokens → Out (List A)) where
   end_init turns ts e =
       let i : turns - 0 ≡ suc (length ts) = omega (arith, e) in behind_none _ ∙ ap (λ (n : ℕ). to_end run n ts) i
 
+-- at its start the loop of a unit's items will find what the model of units finds
 pub unit_init : (n turns : ℕ) (ts : Tokens) → turns ≡ length ts + 1
     → behind [] (to_end (item_of (inside (suc n)) (compound_of (inside n) (below_at n))) (turns - 0) ts) ≡ unit_of n
     ts

@@ -30,10 +30,12 @@ use Rattle.c_tree.specs.declared.tree.Stmt.{Stmt}
 abbrev err : {A : Type 0} → Stop → Out A
 err s = Err s
 
+-- where no depth is left, an inner statement is too deep, or a syntax fault where none begins
 pub inner_zero : (ts : Tokens) → (below_at 0).inner ts ≡ cond (first begins_statement ts) (too_deep ts) (syntax ts)
 unfolding below_at
 inner_zero ts = refl
 
+-- where no depth is left, a declaration of locals is too deep, or a syntax fault where none begins
 pub locals_zero : (ts : Tokens) → (below_at 0).locals ts ≡ cond (begins_type ts) (too_deep ts) (syntax ts)
 unfolding below_at
 locals_zero ts = refl
@@ -46,9 +48,11 @@ locals_next : (n : ℕ) (ts : Tokens) → (below_at (suc n)).locals ts ≡ local
 unfolding below_at
 locals_next n ts = refl
 
+-- an inner statement with no depth left is read as at 0
 pub inner_none : (left : ℕ) (ts : Tokens) → left ≡ 0 → (below_at left).inner ts ≡ (below_at 0).inner ts
 inner_none left ts e = ap (λ (n : ℕ). (below_at n).inner ts) e
 
+-- an inner statement with a depth left is a statement one deeper
 pub inner_some : (left : ℕ) (ts : Tokens) → (left ≡ 0 → ⊥)
     → (below_at left).inner ts ≡ stmt_of (inside (left - 1)) (below_at (left - 1)) ts
 inner_some left ts h =
@@ -85,9 +89,11 @@ inner_return left [] h e = absurd (false≢true e)
 inner_return left (t ∷ ts) h e =
     inner_some left (t ∷ ts) h ∙ return_next (left - 1) t ts (key_is key.Return t.form e)
 
+-- a declaration of locals with no depth left is read as at 0
 pub locals_none : (left : ℕ) (ts : Tokens) → left ≡ 0 → (below_at left).locals ts ≡ (below_at 0).locals ts
 locals_none left ts e = ap (λ (n : ℕ). (below_at n).locals ts) e
 
+-- a declaration of locals with a depth left is one that is read one deeper
 pub locals_some : (left : ℕ) (ts : Tokens) → (left ≡ 0 → ⊥)
     → (below_at left).locals ts ≡ locals_of (inside (left - 1)) ts
 locals_some left ts h =
@@ -127,6 +133,8 @@ module _ {A : Type 0} (k : Mark) (run : Tokens → Out (List A)) where
       → behind found (many k run n ts) ≡ Err s
   many_err n n' found ts s e c h = rw e (rw c (rw h refl))
 
+  -- a turn of the loop of groups puts a group behind what was found, and what will be found in all stays the
+  -- same
   pub many_keeps : (turns turn' : ℕ) (found found' : List A) (ts rest : Tokens) (xs : List A) (whole : Out (List A))
       → turn' < turns → behind found (many k run (turns - turn') ts) ≡ whole → is_next k ts ≡ false
       → run ts ≡ Ok (xs, rest)
@@ -172,12 +180,14 @@ module _ {A : Type 0} (k : Mark) (run : Tokens → Out (List A)) where
   many_init turns ts e =
       let i : turns - 0 ≡ suc (length ts) = omega (arith, e) in behind_none _ ∙ ap (λ (n : ℕ). many k run n ts) i
 
+-- at its start the loop of entries will find what the model of them finds
 pub entries_init : (left turns : ℕ) (ts : Tokens) → turns ≡ length ts + 1
     → behind [] (many mark.RightBrace (entry_of (inside left) (below_at left)) (turns - 0) ts) ≡ entries_of
     (inside left) (below_at left) ts
 unfolding entries_of
 entries_init left turns ts e = many_init mark.RightBrace (entry_of (inside left) (below_at left)) turns ts e
 
+-- at its start the loop of sections will find what the model of them finds
 pub sections_init : (left turns : ℕ) (ts : Tokens) → turns ≡ length ts + 1
     → behind [] (many mark.RightBrace (section_of (inside left) (below_at left)) (turns - 0) ts) ≡ sections_of
     (inside left) (below_at left) ts
@@ -207,11 +217,13 @@ module _ {A : Type 0} (begins : Form → Bool) (run : Tokens → Out A) where
       let i : turns - 0 ≡ suc (length ts) = omega (arith, e) in
       behind_none _ ∙ ap (λ (n : ℕ). repeated begins run n ts) i
 
+-- at its start the loop of labels will find what the model of them finds
 pub labels_init : (left turns : ℕ) (ts : Tokens) → turns ≡ length ts + 1
     → behind [] (repeated begins_label (label_of (inside left)) (turns - 0) ts) ≡ labels_of (inside left) ts
 unfolding labels_of
 labels_init left turns ts e = repeated_init begins_label (label_of (inside left)) turns ts e
 
+-- at its start the loop of a section's statements will find what the model of them finds
 pub body_init : (left turns : ℕ) (ts : Tokens) → turns ≡ length ts + 1
     → behind [] (repeated begins_statement (below_at left).inner (turns - 0) ts) ≡ body_of (inside left)
     (below_at left) ts

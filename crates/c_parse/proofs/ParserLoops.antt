@@ -12,6 +12,8 @@ use Rattle.c_tree.specs.declared.token.Mark.TheVariants as mark
 use Rattle.c_tree.specs.declared.tree.Expr.{Expr}
 use Rattle.c_tree.specs.declared.tree.BinaryOp.{BinaryOp}
 use Rattle.c_tree.specs.declared.tree.BinaryOp.TheVariants as binary
+use Rattle.c_tree.specs.Marks.{operator}
+use Rattle.c_tree.specs.ByMark.{marked_operator, with_level}
 use Rattle.c_grammar.specs.Tokens.{Tokens}
 use Rattle.c_grammar.specs.Operators.{Joiner, op, comma, joiner_mark, joined, below, Suffix, suffixed}
 use Rattle.c_grammar.specs.inside.Operators.{binary_level}
@@ -19,7 +21,8 @@ use Rattle.c_grammar.specs.Operators.{Assigner, assigner_mark, assigner_op}
 use Rattle.c_grammar.specs.inside.Numbers.{is_mark}
 use Rattle.c_grammar.specs.inside.Parsing.{Stop, Out, and_then, by_option, syntax, tail, line_of, is_next, expect}
 use Rattle.c_grammar.specs.inside.Parsing.{listed}
-use Rattle.c_grammar.specs.inside.ModelExpressions.{joiner, marked_joiner, if_below, seen, loop, suffixes, suffix_of}
+use Rattle.c_grammar.specs.inside.ModelExpressions.{joiner, joiner_of, marked_joiner, if_below, seen, loop}
+use Rattle.c_grammar.specs.inside.ModelExpressions.{suffixes, suffix_of}
 use Rattle.c_grammar.specs.inside.ModelExpressions.{assigner_for, assigned_of, assign_from, arg_list_of, inside}
 use Rattle.c_grammar.specs.inside.ModelExpressions.{cast_of}
 use Rattle.c_grammar.specs.inside.ModelExpressions.{binary_of, assignment_of, expression_of, postfix_of, primary_of}
@@ -70,33 +73,21 @@ pick_comma k = by (eqb (below comma) k)
     by true = refl
     by false = refl
 
+by_operator : (n : ℕ) (x : Option BinaryOp)
+    → operator_of (if_below (binary_level n) (joiner_of x)) ≡ of_level n (with_level x)
+by_operator n None = refl
+by_operator n (Some o) = pick o (operator o).level n refl
+
 mark_operator : (n : ℕ) (m : Mark) → operator_of (if_below (binary_level n) (marked_joiner m)) ≡ of_level n
     (joins_by (form.Mark m))
-mark_operator n mark.Star = pick binary.Multiply 0 n refl
-mark_operator n mark.Slash = pick binary.Divide 0 n refl
-mark_operator n mark.Percent = pick binary.Remainder 0 n refl
-mark_operator n mark.Plus = pick binary.Add 1 n refl
-mark_operator n mark.Minus = pick binary.Subtract 1 n refl
-mark_operator n mark.ShiftLeft = pick binary.ShiftLeft 2 n refl
-mark_operator n mark.ShiftRight = pick binary.ShiftRight 2 n refl
-mark_operator n mark.Less = pick binary.Less 3 n refl
-mark_operator n mark.Greater = pick binary.Greater 3 n refl
-mark_operator n mark.LessEqual = pick binary.LessEqual 3 n refl
-mark_operator n mark.GreaterEqual = pick binary.GreaterEqual 3 n refl
-mark_operator n mark.Equal = pick binary.Equal 4 n refl
-mark_operator n mark.NotEqual = pick binary.NotEqual 4 n refl
-mark_operator n mark.And = pick binary.BitAnd 5 n refl
-mark_operator n mark.Xor = pick binary.BitXor 6 n refl
-mark_operator n mark.Or = pick binary.BitOr 7 n refl
-mark_operator n mark.AndAnd = pick binary.LogicalAnd 8 n refl
-mark_operator n mark.OrOr = pick binary.LogicalOr 9 n refl
 mark_operator n mark.Comma = pick_comma (binary_level n)
-mark_operator n _ = refl
+mark_operator n m = by_operator n (marked_operator m)
 
 form_operator : (n : ℕ) (f : Form) → operator_of (joiner (binary_level n) f) ≡ of_level n (joins_by f)
 form_operator n (form.Mark m) = mark_operator n m
 form_operator n _ = refl
 
+-- the operator of a level is the one that joins, if it is of this level
 pub operator_is : (n : ℕ) (ts : Tokens) → operator_at n ts ≡ of_level n (seen joins_by ts)
 operator_is n [] = refl
 operator_is n (t ∷ ts) = form_operator n t.form
@@ -192,6 +183,7 @@ module _ (left n : ℕ) (lt : n < 10) where
   abbrev sides : Tokens → Out Expr
   sides = binary_of (inside left) n
 
+  -- an operator and a right side are joined to the whole, and the loop goes on behind them
   pub turn_on : (whole r : Expr) (rest rest2 : Tokens) (o : BinaryOp) → operator_at n rest ≡ Some o
       → sides (tail rest) ≡ Ok (r, rest2)
       → loop sides (binary_level n) (length rest) whole rest ≡ loop sides (binary_level n) (length rest2)
@@ -200,6 +192,7 @@ module _ (left n : ℕ) (lt : n < 10) where
       loop_on sides (binary_short left n (omega (arith, lt))) (binary_level n) whole r rest rest2 (op o)
       (joiner_some _ o e) h
 
+  -- where the right side behind an operator fails, the loop fails there
   pub turn_off : (whole : Expr) (rest : Tokens) (o : BinaryOp) (s : Stop) → operator_at n rest ≡ Some o
       → sides (tail rest) ≡ Err s → loop sides (binary_level n) (length rest) whole rest ≡ Err s
   turn_off whole rest o s e h =
@@ -207,18 +200,21 @@ module _ (left n : ℕ) (lt : n < 10) where
       (joiner_some _ o e)
       h
 
+  -- without an operator of the level the loop ends with the whole
   pub turns_end : (whole : Expr) (rest : Tokens) → operator_at n rest ≡ None
       → loop sides (binary_level n) (length rest) whole rest ≡ Ok (whole, rest)
   turns_end whole rest e =
       loop_end sides (binary_short left n (omega (arith, lt))) (binary_level n) whole rest
       (no_joiner n rest _ lt refl e)
 
+  -- an operator and its right side take at least a token
   pub turn_shorter : (rest rest2 : Tokens) (r : Expr) (o : BinaryOp) → operator_at n rest ≡ Some o
       → sides (tail rest) ≡ Ok (r, rest2) → length rest2 < length rest
   turn_shorter rest rest2 r o e h =
       loop_shorter sides (binary_short left n (omega (arith, lt))) (binary_level n) rest rest2 r (op o)
       (joiner_some _ o e) h
 
+-- a binary expression of a level is one of the level below with what is joined to it
 pub binary_next : (left n : ℕ) (ts : Tokens) → binary_of (inside left) (suc n) ts ≡ and_then
     (binary_of (inside left) n ts) (λ a ts. loop (binary_of (inside left) n) (binary_level n) (length ts) a ts)
 unfolding binary_of
@@ -248,6 +244,7 @@ module _ (left : ℕ) where
   abbrev parts : Tokens → Out Expr
   parts = assignment_of (inside left)
 
+  -- a comma and its right side are joined to the whole, and the loop goes on behind them
   pub comma_on : (whole r : Expr) (rest rest2 : Tokens) → is_next mark.Comma rest ≡ true
       → parts (tail rest) ≡ Ok (r, rest2) → loop parts 15 (length rest) whole rest ≡ loop parts 15 (length rest2)
       (joined comma whole r) rest2
@@ -263,11 +260,13 @@ module _ (left : ℕ) where
       → loop parts 15 (length rest) whole rest ≡ Ok (whole, rest)
   commas_end whole rest e = loop_end parts (assignment_short left) 15 whole rest (no_comma rest _ refl e)
 
+  -- a comma and its right side take at least a token
   pub comma_shorter : (rest rest2 : Tokens) (r : Expr) → is_next mark.Comma rest ≡ true
       → parts (tail rest) ≡ Ok (r, rest2) → length rest2 < length rest
   comma_shorter rest rest2 r e h =
       loop_shorter parts (assignment_short left) 15 rest rest2 r comma (comma_seen rest e) h
 
+-- an expression is an assignment with what commas join to it
 pub commas_of : (left : ℕ) (ts : Tokens) → expression_of (inside left) ts ≡ and_then (assignment_of (inside left) ts)
     (λ a ts. loop (assignment_of (inside left)) 15 (length ts) a ts)
 unfolding expression_of
@@ -306,6 +305,7 @@ behind_twice : {A : Type 0} (found : List A) (x : A) (out : Out (List A))
 behind_twice found x (Ok p) = ap (λ xs. Ok (xs, p.1)) (sym (append_assoc found (x ∷ []) p.0))
 behind_twice found x (Err s) = refl
 
+-- behind nothing that was found is what will be found
 pub behind_none : {A : Type 0} (out : Out (List A)) → behind [] out ≡ out
 behind_none (Ok p) = refl
 behind_none (Err s) = refl
@@ -344,12 +344,14 @@ zero_is : (left : ℕ) (ts : Tokens) → binary_of (inside left) 0 ts ≡ cast_o
 unfolding binary_of
 zero_is left ts = refl
 
+-- a binary expression of the lowest level is a cast
 pub binary_zero : (left level : ℕ) (ts : Tokens) → level ≡ 0
     → binary_of (inside left) level ts ≡ cast_of (inside left) ts
 binary_zero left level ts e = ap (λ (k : ℕ). binary_of (inside left) k ts) e ∙ zero_is left ts
 
 -- ---- an assignment
 
+-- an assignment reads as what stands behind its operator does
 pub assign_with : (left : ℕ) (to : Expr) (ts new : Tokens) (r : Result Expr Stopped) (p : Mark × Option BinaryOp)
     (o : Option Assigner) → seen (assigner_for to) ts ≡ o → IsAssigner (Some p) o
     → ((s : Assigner) → p.0 ≡ assigner_mark s → p.1 ≡ assigner_op s → Reads (assigned_of (inside left) s to ts) r new)
@@ -365,12 +367,14 @@ assign_with left to ts new r p (Some s) i q h =
 
 -- ---- lists: the loop's start, and its faults
 
+-- at its start the loop of a list will find what the model of the list finds
 pub listed_init : {A : Type 0} (k : Mark) (run : Tokens → Out A) (turns : ℕ) (ts : Tokens) → turns ≡ length ts + 1
     → behind [] (listed k false run (turns - 0) ts) ≡ listed k false run (suc (length ts)) ts
 listed_init k run turns ts e =
     let i : turns - 0 ≡ suc (length ts) = omega (arith, e) in
     behind_none _ ∙ ap (λ (n : ℕ). listed k false run n ts) i
 
+-- at its start the loop of arguments will find what the model of them finds
 pub arg_list_init : (left turns : ℕ) (ts : Tokens) → turns ≡ length ts + 1
     → behind [] (listed mark.RightParen false (assignment_of (inside left)) (turns - 0) ts) ≡ arg_list_of
     (opened left) ts

@@ -11,7 +11,7 @@ use crate::fault::Stopped;
 use crate::make;
 use crate::parser::Parser;
 use base::Boxed;
-use c_tree::{BinaryOp, Expr, ExprNode, Form, Mark};
+use c_tree::{BinaryOp, Expr, ExprNode, Form, Mark, assigned_by, joined_by};
 
 #[tactic(auto, unfolding(c_grammar::specs::inside::ModelExpressions::is_unary))]
 fn is_unary(e: &Expr) -> bool
@@ -33,24 +33,7 @@ fn joins(form: &Form) -> Option<(u8, BinaryOp)>
     ensures { result ≡ joins_by form.now }
 {
     match form {
-        Form::Mark(Mark::Star) => Some((0, BinaryOp::Multiply)),
-        Form::Mark(Mark::Slash) => Some((0, BinaryOp::Divide)),
-        Form::Mark(Mark::Percent) => Some((0, BinaryOp::Remainder)),
-        Form::Mark(Mark::Plus) => Some((1, BinaryOp::Add)),
-        Form::Mark(Mark::Minus) => Some((1, BinaryOp::Subtract)),
-        Form::Mark(Mark::ShiftLeft) => Some((2, BinaryOp::ShiftLeft)),
-        Form::Mark(Mark::ShiftRight) => Some((2, BinaryOp::ShiftRight)),
-        Form::Mark(Mark::Less) => Some((3, BinaryOp::Less)),
-        Form::Mark(Mark::Greater) => Some((3, BinaryOp::Greater)),
-        Form::Mark(Mark::LessEqual) => Some((3, BinaryOp::LessEqual)),
-        Form::Mark(Mark::GreaterEqual) => Some((3, BinaryOp::GreaterEqual)),
-        Form::Mark(Mark::Equal) => Some((4, BinaryOp::Equal)),
-        Form::Mark(Mark::NotEqual) => Some((4, BinaryOp::NotEqual)),
-        Form::Mark(Mark::And) => Some((5, BinaryOp::BitAnd)),
-        Form::Mark(Mark::Xor) => Some((6, BinaryOp::BitXor)),
-        Form::Mark(Mark::Or) => Some((7, BinaryOp::BitOr)),
-        Form::Mark(Mark::AndAnd) => Some((8, BinaryOp::LogicalAnd)),
-        Form::Mark(Mark::OrOr) => Some((9, BinaryOp::LogicalOr)),
+        Form::Mark(mark) => joined_by(*mark),
         _ => None,
     }
 }
@@ -273,24 +256,19 @@ fn assigner_of(form: &Form) -> Option<(Mark, Option<BinaryOp>)>
     ensures { IsAssigner result (model.assigner_of form.now) }
 {
     match form {
-        Form::Mark(Mark::Assign) => Some((Mark::Assign, None)),
-        Form::Mark(Mark::StarAssign) => Some((Mark::StarAssign, Some(BinaryOp::Multiply))),
-        Form::Mark(Mark::SlashAssign) => Some((Mark::SlashAssign, Some(BinaryOp::Divide))),
-        Form::Mark(Mark::PercentAssign) => Some((Mark::PercentAssign, Some(BinaryOp::Remainder))),
-        Form::Mark(Mark::PlusAssign) => Some((Mark::PlusAssign, Some(BinaryOp::Add))),
-        Form::Mark(Mark::MinusAssign) => Some((Mark::MinusAssign, Some(BinaryOp::Subtract))),
-        Form::Mark(Mark::ShiftLeftAssign) => Some((
-            Mark::ShiftLeftAssign,
-            Some(BinaryOp::ShiftLeft),
-        )),
-        Form::Mark(Mark::ShiftRightAssign) => Some((
-            Mark::ShiftRightAssign,
-            Some(BinaryOp::ShiftRight),
-        )),
-        Form::Mark(Mark::AndAssign) => Some((Mark::AndAssign, Some(BinaryOp::BitAnd))),
-        Form::Mark(Mark::XorAssign) => Some((Mark::XorAssign, Some(BinaryOp::BitXor))),
-        Form::Mark(Mark::OrAssign) => Some((Mark::OrAssign, Some(BinaryOp::BitOr))),
+        Form::Mark(mark) => assigner_by(*mark),
         _ => None,
+    }
+}
+
+/// The mark with its operator, if it is that of an assignment.
+#[tactic(auto, using(crate::proofs::Assigners::some_assigner, crate::proofs::Assigners::no_assigner))]
+fn assigner_by(mark: Mark) -> Option<(Mark, Option<BinaryOp>)>
+    ensures { IsAssigner result (model.assigner_by mark) }
+{
+    match assigned_by(mark) {
+        Some(op) => Some((mark, op)),
+        None => None,
     }
 }
 

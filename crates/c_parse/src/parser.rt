@@ -1,6 +1,7 @@
 //! The tokens that are left, and what is taken from them.
 
 ghost use Rattle.std.specs.Prelude.{◌≡◌, ◌<◌, ◌≤◌, length, IfOk, [], ◌∷◌};
+ghost use Rattle.c_tree.specs.Marks as marks;
 ghost use Rattle.c_grammar.specs.inside.Numbers as numbers;
 ghost use Rattle.c_grammar.specs.inside.Parsing as model;
 ghost use Rattle.c_grammar.specs.inside.ModelTypes as types;
@@ -154,7 +155,7 @@ fn is_key(key: Key, form: &Form) -> bool
 
 /// The place of the mark in its type.
 fn mark_number(mark: Mark) -> u8
-    ensures { result ≡ numbers.mark_number mark }
+    ensures { result ≡ marks.mark_number mark }
 {
     mark as u8
 }

@@ -5,6 +5,7 @@
 #![tactic(auto)]
 
 mod limits;
+mod marks;
 mod token;
 mod tree;
 mod typed;
@@ -14,6 +15,7 @@ pub use limits::{
     MOST_FRAME_BYTES, MOST_NEED, MOST_NESTING, MOST_OBJECT_BYTES, MOST_PARAMETERS, MOST_SCALARS,
     MOST_SOURCE_BYTES, MOST_TOKENS, limits_are_the_profiles,
 };
+pub use marks::{MARKS, assigned_by, joined_by, marks_are_the_languages};
 pub use token::{Form, Key, Kind, Lexeme, Mark};
 pub use tree::{
     ArraySize, BinaryOp, BumpOp, Expr, ExprNode, ForInit, Label, Param, Program, Section, Stmt,

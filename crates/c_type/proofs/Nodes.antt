@@ -57,10 +57,12 @@ abbrev pub deepest : List Stmt → ℕ
 deepest [] = 0
 deepest (s ∷ ss) = max (size-Stmt s) (deepest ss)
 
+-- the greatest size of a statement in some sections of a switch
 abbrev pub deepest_in : List Section → ℕ
 deepest_in [] = 0
 deepest_in (x ∷ xs) = max (deepest (statements_in x)) (deepest_in xs)
 
+-- the size of the statement behind `else`, if there is one
 abbrev pub else_size : Option Stmt → ℕ
 else_size None = 0
 else_size (Some s) = size-Stmt s
@@ -71,11 +73,13 @@ pub after-Declare : (l : ℕ) (k : Kind) (w : List ℕ) (size : ArraySize) (init
 after-Declare l k w size init v =
     ap (λ (p : Part). p.after v) (part_by l _ (StmtNode-F.Declare k w size init) (node.rolls-Declare k w size init))
 
+-- The first fault of a declaration.
 pub fault-Declare : (l : ℕ) (k : Kind) (w : List ℕ) (size : ArraySize) (init : Option Expr) (b : Around) (v : State)
     → (part (at l (node.Declare k w size init))).fault b v ≡ declare_fault size k w init l v
 fault-Declare l k w size init b v =
     ap (λ (p : Part). p.fault b v) (part_by l _ (StmtNode-F.Declare k w size init) (node.rolls-Declare k w size init))
 
+-- The typed tree of a declaration.
 pub tree-Declare : (l : ℕ) (k : Kind) (w : List ℕ) (size : ArraySize) (init : Option Expr) (v : State)
     → (part (at l (node.Declare k w size init))).tree v ≡ declare_tree size k w init v
 tree-Declare l k w size init v =
@@ -87,10 +91,12 @@ pub ruleset on_declare = (after-Declare, fault-Declare, tree-Declare)
 pub after-Plain : (l : ℕ) (e : Option Expr) (v : State) → (part (at l (node.Plain e))).after v ≡ v
 after-Plain l e v = ap (λ (p : Part). p.after v) (part_by l _ (StmtNode-F.Plain e) (node.rolls-Plain e))
 
+-- The first fault of an expression as a statement.
 pub fault-Plain : (l : ℕ) (e : Option Expr) (b : Around) (v : State)
     → (part (at l (node.Plain e))).fault b v ≡ full_if e Free v.names
 fault-Plain l e b v = ap (λ (p : Part). p.fault b v) (part_by l _ (StmtNode-F.Plain e) (node.rolls-Plain e))
 
+-- The typed tree of an expression as a statement.
 pub tree-Plain : (l : ℕ) (e : Option Expr) (v : State)
     → (part (at l (node.Plain e))).tree v ≡ typed.Plain (tree_if e v.names)
 tree-Plain l e v = ap (λ (p : Part). p.tree v) (part_by l _ (StmtNode-F.Plain e) (node.rolls-Plain e))
@@ -102,11 +108,13 @@ pub after-Compound : (l : ℕ) (ss : List Stmt) (v : State)
     → (part (at l (node.Compound ss))).after v ≡ left (all_after (map part ss) (entered v))
 after-Compound l ss v = ap (λ (p : Part). p.after v) (part_by l _ (StmtNode-F.Compound ss) (node.rolls-Compound ss))
 
+-- The first fault of a block.
 pub fault-Compound : (l : ℕ) (ss : List Stmt) (b : Around) (v : State)
     → (part (at l (node.Compound ss))).fault b v ≡ all_fault (map part ss) b (entered v)
 fault-Compound l ss b v =
     ap (λ (p : Part). p.fault b v) (part_by l _ (StmtNode-F.Compound ss) (node.rolls-Compound ss))
 
+-- The typed tree of a block.
 pub tree-Compound : (l : ℕ) (ss : List Stmt) (v : State)
     → (part (at l (node.Compound ss))).tree v ≡ typed.Compound (all_trees (map part ss) (entered v))
 tree-Compound l ss v = ap (λ (p : Part). p.tree v) (part_by l _ (StmtNode-F.Compound ss) (node.rolls-Compound ss))
@@ -119,11 +127,13 @@ pub after-While : (l : ℕ) (test : Expr) (body : Stmt) (v : State)
 after-While l test body v =
     ap (λ (p : Part). p.after v) (part_by l _ (StmtNode-F.While test body) (node.rolls-While test body))
 
+-- The first fault of a `while`.
 pub fault-While : (l : ℕ) (test : Expr) (body : Stmt) (b : Around) (v : State)
     → (part (at l (node.While test body))).fault b v ≡ first (full test Value v.names) ((part body).fault in_loop v)
 fault-While l test body b v =
     ap (λ (p : Part). p.fault b v) (part_by l _ (StmtNode-F.While test body) (node.rolls-While test body))
 
+-- The typed tree of a `while`.
 pub tree-While : (l : ℕ) (test : Expr) (body : Stmt) (v : State)
     → (part (at l (node.While test body))).tree v ≡ typed.While (tree test v.names) ((part body).tree v)
 tree-While l test body v =
@@ -137,12 +147,14 @@ pub after-Do : (l : ℕ) (body : Stmt) (test : Expr) (v : State)
 after-Do l body test v =
     ap (λ (p : Part). p.after v) (part_by l _ (StmtNode-F.Do body test) (node.rolls-Do body test))
 
+-- The first fault of a `do`.
 pub fault-Do : (l : ℕ) (body : Stmt) (test : Expr) (b : Around) (v : State)
     → (part (at l (node.Do body test))).fault b v ≡ first ((part body).fault in_loop v)
     (full test Value ((part body).after v).names)
 fault-Do l body test b v =
     ap (λ (p : Part). p.fault b v) (part_by l _ (StmtNode-F.Do body test) (node.rolls-Do body test))
 
+-- The typed tree of a `do`.
 pub tree-Do : (l : ℕ) (body : Stmt) (test : Expr) (v : State)
     → (part (at l (node.Do body test))).tree v ≡ typed.Do ((part body).tree v) (tree test ((part body).after v).names)
 tree-Do l body test v = ap (λ (p : Part). p.tree v) (part_by l _ (StmtNode-F.Do body test) (node.rolls-Do body test))
@@ -158,6 +170,7 @@ after-For l init test post body v =
     ap (λ (p : Part). p.after v) (part_by l _ (StmtNode-F.For init test post body)
     (node.rolls-For init test post body))
 
+-- The first fault of a `for`.
 pub fault-For : (l : ℕ) (init : ForInit) (test post : Option Expr) (body : Stmt) (b : Around) (v : State)
     → (part (at l (node.For init test post body))).fault b v ≡ for_fault (beginning_of init) test post (part body) b
     (entered v)
@@ -166,6 +179,7 @@ fault-For l init test post body b v =
     ap (λ (p : Part). p.fault b v) (part_by l _ (StmtNode-F.For init test post body)
     (node.rolls-For init test post body))
 
+-- The typed tree of a `for`.
 pub tree-For : (l : ℕ) (init : ForInit) (test post : Option Expr) (body : Stmt) (v : State)
     → (part (at l (node.For init test post body))).tree v ≡ for_tree (beginning_of init) test post (part body)
     (entered v)
@@ -180,10 +194,12 @@ pub ruleset on_for = (after-For, fault-For, tree-For)
 pub after-Break : (l : ℕ) (v : State) → (part (at l node.Break)).after v ≡ v
 after-Break l v = ap (λ (p : Part). p.after v) (part_by l _ StmtNode-F.Break node.rolls-Break)
 
+-- The first fault of a break.
 pub fault-Break : (l : ℕ) (b : Around) (v : State)
     → (part (at l node.Break)).fault b v ≡ unless b.may_break (Mismatch l)
 fault-Break l b v = ap (λ (p : Part). p.fault b v) (part_by l _ StmtNode-F.Break node.rolls-Break)
 
+-- The typed tree of a break.
 pub tree-Break : (l : ℕ) (v : State) → (part (at l node.Break)).tree v ≡ typed.Break
 tree-Break l v = ap (λ (p : Part). p.tree v) (part_by l _ StmtNode-F.Break node.rolls-Break)
 
@@ -193,10 +209,12 @@ pub ruleset on_break = (after-Break, fault-Break, tree-Break)
 pub after-Continue : (l : ℕ) (v : State) → (part (at l node.Continue)).after v ≡ v
 after-Continue l v = ap (λ (p : Part). p.after v) (part_by l _ StmtNode-F.Continue node.rolls-Continue)
 
+-- The first fault of a continue.
 pub fault-Continue : (l : ℕ) (b : Around) (v : State)
     → (part (at l node.Continue)).fault b v ≡ unless b.may_continue (Mismatch l)
 fault-Continue l b v = ap (λ (p : Part). p.fault b v) (part_by l _ StmtNode-F.Continue node.rolls-Continue)
 
+-- The typed tree of a continue.
 pub tree-Continue : (l : ℕ) (v : State) → (part (at l node.Continue)).tree v ≡ typed.Continue
 tree-Continue l v = ap (λ (p : Part). p.tree v) (part_by l _ StmtNode-F.Continue node.rolls-Continue)
 
@@ -206,10 +224,12 @@ pub ruleset on_continue = (after-Continue, fault-Continue, tree-Continue)
 pub after-Return : (l : ℕ) (e : Option Expr) (v : State) → (part (at l (node.Return e))).after v ≡ v
 after-Return l e v = ap (λ (p : Part). p.after v) (part_by l _ (StmtNode-F.Return e) (node.rolls-Return e))
 
+-- The first fault of a return.
 pub fault-Return : (l : ℕ) (e : Option Expr) (b : Around) (v : State)
     → (part (at l (node.Return e))).fault b v ≡ first (full_if e Value v.names) (return_fault v.result e l)
 fault-Return l e b v = ap (λ (p : Part). p.fault b v) (part_by l _ (StmtNode-F.Return e) (node.rolls-Return e))
 
+-- The typed tree of a return.
 pub tree-Return : (l : ℕ) (e : Option Expr) (v : State)
     → (part (at l (node.Return e))).tree v ≡ typed.Return (return_tree v.result e v.names)
 tree-Return l e v = ap (λ (p : Part). p.tree v) (part_by l _ (StmtNode-F.Return e) (node.rolls-Return e))
@@ -224,6 +244,7 @@ after-If l test one None v =
 after-If l test one (Some s) v =
     ap (λ (p : Part). p.after v) (part_by l _ (StmtNode-F.If test one (Some s)) (node.rolls-If test one (Some s)))
 
+-- The first fault of an if.
 pub fault-If : (l : ℕ) (test : Expr) (one : Stmt) (other : Option Stmt) (b : Around) (v : State)
     → (part (at l (node.If test one other))).fault b v ≡ first (full test Value v.names)
     (first ((part one).fault b v) (else_fault (option_map part other) b ((part one).after v)))
@@ -232,6 +253,7 @@ fault-If l test one None b v =
 fault-If l test one (Some s) b v =
     ap (λ (p : Part). p.fault b v) (part_by l _ (StmtNode-F.If test one (Some s)) (node.rolls-If test one (Some s)))
 
+-- The typed tree of an if.
 pub tree-If : (l : ℕ) (test : Expr) (one : Stmt) (other : Option Stmt) (v : State)
     → (part (at l (node.If test one other))).tree v ≡ typed.If (tree test v.names) ((part one).tree v)
     (else_tree (option_map part other) ((part one).after v))
@@ -264,15 +286,18 @@ part-Switch l test xs =
     part_by l _ (StmtNode-F.Switch test xs) (node.rolls-Switch test xs)
     ∙ ap (λ ys. switch_part test ys l) (all_sections xs)
 
+-- The state behind a switch.
 pub after-Switch : (l : ℕ) (test : Expr) (xs : List Section) (v : State)
     → (part (at l (node.Switch test xs))).after v ≡ sections_after (map section_of xs)
     (with_switch (switch_kind test v.names) v)
 after-Switch l test xs v = ap (λ (p : Part). p.after v) (part-Switch l test xs)
 
+-- The first fault of a switch.
 pub fault-Switch : (l : ℕ) (test : Expr) (xs : List Section) (b : Around) (v : State)
     → (part (at l (node.Switch test xs))).fault b v ≡ switch_fault test (map section_of xs) l b v
 fault-Switch l test xs b v = ap (λ (p : Part). p.fault b v) (part-Switch l test xs)
 
+-- The typed tree of a switch.
 pub tree-Switch : (l : ℕ) (test : Expr) (xs : List Section) (v : State)
     → (part (at l (node.Switch test xs))).tree v ≡ switch_tree test (map section_of xs) v
 tree-Switch l test xs v = ap (λ (p : Part). p.tree v) (part-Switch l test xs)
@@ -296,9 +321,11 @@ init_by i x e = ap (λ (m : ForInit). fold-ForInit Beginning A SectionPart Part 
 pub after-Nothing : (v : State) → (beginning_of first_part.Nothing).after v ≡ v
 after-Nothing v = ap (λ (p : Beginning). p.after v) (init_by _ ForInit-F.Nothing first_part.rolls-Nothing)
 
+-- The first fault of a `for` that begins with nothing.
 pub fault-Nothing : (b : Around) (v : State) → (beginning_of first_part.Nothing).fault b v ≡ None
 fault-Nothing b v = ap (λ (p : Beginning). p.fault b v) (init_by _ ForInit-F.Nothing first_part.rolls-Nothing)
 
+-- The typed tree of a `for` that begins with nothing.
 pub tree-Nothing : (v : State) → (beginning_of first_part.Nothing).tree v ≡ typed_init.Nothing
 tree-Nothing v = ap (λ (p : Beginning). p.tree v) (init_by _ ForInit-F.Nothing first_part.rolls-Nothing)
 
@@ -306,10 +333,12 @@ tree-Nothing v = ap (λ (p : Beginning). p.tree v) (init_by _ ForInit-F.Nothing 
 pub after-First : (e : Expr) (v : State) → (beginning_of (first_part.First e)).after v ≡ v
 after-First e v = ap (λ (p : Beginning). p.after v) (init_by _ (ForInit-F.First e) (first_part.rolls-First e))
 
+-- The first fault of a `for` that begins with an expression.
 pub fault-First : (e : Expr) (b : Around) (v : State)
     → (beginning_of (first_part.First e)).fault b v ≡ full e Free v.names
 fault-First e b v = ap (λ (p : Beginning). p.fault b v) (init_by _ (ForInit-F.First e) (first_part.rolls-First e))
 
+-- The typed tree of a `for` that begins with an expression.
 pub tree-First : (e : Expr) (v : State)
     → (beginning_of (first_part.First e)).tree v ≡ typed_init.First (tree e v.names)
 tree-First e v = ap (λ (p : Beginning). p.tree v) (init_by _ (ForInit-F.First e) (first_part.rolls-First e))
@@ -319,11 +348,13 @@ pub after-Locals : (ss : List Stmt) (v : State)
     → (beginning_of (first_part.Locals ss)).after v ≡ all_after (map part ss) v
 after-Locals ss v = ap (λ (p : Beginning). p.after v) (init_by _ (ForInit-F.Locals ss) (first_part.rolls-Locals ss))
 
+-- The first fault of a `for` that begins with declarations.
 pub fault-Locals : (ss : List Stmt) (b : Around) (v : State)
     → (beginning_of (first_part.Locals ss)).fault b v ≡ all_fault (map part ss) b v
 fault-Locals ss b v =
     ap (λ (p : Beginning). p.fault b v) (init_by _ (ForInit-F.Locals ss) (first_part.rolls-Locals ss))
 
+-- The typed tree of a `for` that begins with declarations.
 pub tree-Locals : (ss : List Stmt) (v : State)
     → (beginning_of (first_part.Locals ss)).tree v ≡ typed_init.Locals (all_trees (map part ss) v)
 tree-Locals ss v = ap (λ (p : Beginning). p.tree v) (init_by _ (ForInit-F.Locals ss) (first_part.rolls-Locals ss))

@@ -142,6 +142,7 @@ walk_at n xs q m next le h places =
       places = places ∙ sym t.place_there;
     }
 
+-- a walk for a name begins at the head of its chain
 pub walk_begins : (n : ℕ) (xs : List Entry) (heads : List (Option ℕ)) (q : List ℕ) (next : Option ℕ)
     → KeptIn n (reverse xs) heads → next ≡ get_or heads (chain_of n q) None → Walk n xs q next
 walk_begins n xs heads q next k h =
@@ -184,6 +185,7 @@ head_is_of n e es k i l h = by (is_of n e k) refl
         let a : suc i ≤ length es = subst (λ o. above o ≤ length es) (sym o) (above_in n es k) in
         absurd (omega (arith, a, l))
 
+-- from an entry of another name, a walk goes on with the next older one of its chain
 pub walk_goes_on : (n : ℕ) (xs : List Entry) (q : List ℕ) (i : ℕ) (d : Entry)
     → Walk n xs q (Some i) → Chained n (reverse xs)
     → same_name (get_or xs i d).binding.name q ≡ false → Walk n xs q (get_or xs i d).older
@@ -201,6 +203,7 @@ walk_goes_on n xs q i d w c other =
     (w.places ∙ ap (λ (t : List Entry). place_in t q) at
     ∙ ap (λ b. cond b (Some (length es)) (place_in es q)) other)
 
+-- where the name of an entry is the one that is sought, the walk has found its place
 pub walk_finds : (n : ℕ) (xs : List Entry) (q : List ℕ) (i : ℕ) (d : Entry)
     → Walk n xs q (Some i) → same_name (get_or xs i d).binding.name q ≡ true
     → Some i ≡ place_in (reverse xs) q
@@ -310,6 +313,7 @@ pub same_count : (es : List Entry) (heads : List (Option ℕ)) (k : ℕ) (o : Op
 same_count es heads k o kept =
     subst (λ (n : ℕ). KeptIn n es (set heads k o)) (sym (length-set heads k o)) kept
 
+-- the bindings of the entries turned over are the bindings turned over
 pub bindings_reversed : (xs : List Entry) → bindings (reverse xs) ≡ reverse (bindings xs)
 bindings_reversed [] = refl
 bindings_reversed (e ∷ es) =
@@ -375,6 +379,7 @@ module _ (xs ys : List Entry) (e : Entry) (q : List ℕ) (chain : ℕ) (heads : 
   chain_is : chain_of (length heads) e.binding.name ≡ chain
   chain_is = ap (λ (w : List ℕ). chain_of (length heads) w) (sym name) ∙ sym c
 
+  -- the chain of the last entry has a head
   pub last_has_head : chain < length heads
   last_has_head =
       subst (λ (k : ℕ). k < length heads) chain_is

@@ -13,65 +13,17 @@ use Rattle.c_type_expr.specs.Conversions.{a, kind_of, with_convert, binary}
 -- it is done in int
 left_int : (o : BinaryOp) → left_at o Int Int ≡ Int
 left_int op.LogicalOr = refl
-left_int op.LogicalAnd = refl
-left_int op.BitOr = refl
-left_int op.BitXor = refl
-left_int op.BitAnd = refl
-left_int op.Equal = refl
-left_int op.NotEqual = refl
-left_int op.Less = refl
-left_int op.Greater = refl
-left_int op.LessEqual = refl
-left_int op.GreaterEqual = refl
-left_int op.ShiftLeft = refl
-left_int op.ShiftRight = refl
-left_int op.Add = refl
-left_int op.Subtract = refl
-left_int op.Multiply = refl
-left_int op.Divide = refl
-left_int op.Remainder = refl
+left_int _ = refl
 
 -- and wants an int on its right
 right_int : (o : BinaryOp) → right_at o Int Int ≡ Int
 right_int op.LogicalOr = refl
-right_int op.LogicalAnd = refl
-right_int op.BitOr = refl
-right_int op.BitXor = refl
-right_int op.BitAnd = refl
-right_int op.Equal = refl
-right_int op.NotEqual = refl
-right_int op.Less = refl
-right_int op.Greater = refl
-right_int op.LessEqual = refl
-right_int op.GreaterEqual = refl
-right_int op.ShiftLeft = refl
-right_int op.ShiftRight = refl
-right_int op.Add = refl
-right_int op.Subtract = refl
-right_int op.Multiply = refl
-right_int op.Divide = refl
-right_int op.Remainder = refl
+right_int _ = refl
 
 -- and gives one
 result_int : (o : BinaryOp) → result_of o Int ≡ Int
 result_int op.LogicalOr = refl
-result_int op.LogicalAnd = refl
-result_int op.BitOr = refl
-result_int op.BitXor = refl
-result_int op.BitAnd = refl
-result_int op.Equal = refl
-result_int op.NotEqual = refl
-result_int op.Less = refl
-result_int op.Greater = refl
-result_int op.LessEqual = refl
-result_int op.GreaterEqual = refl
-result_int op.ShiftLeft = refl
-result_int op.ShiftRight = refl
-result_int op.Add = refl
-result_int op.Subtract = refl
-result_int op.Multiply = refl
-result_int op.Divide = refl
-result_int op.Remainder = refl
+result_int _ = refl
 
 -- an int that is wanted as an int stays as it is
 kept : (e : TypedExpr) → kind_of e ≡ Int → with_convert Int e ≡ e

@@ -97,13 +97,16 @@ find_some (e ∷ es) q i h = by (find_some es q i) (same_name e.binding.name q) 
         }
 
 module _ (ss : List ℕ) (items : List Entry) (q : List ℕ) where
+  -- a name that stands in no entry means nothing
   pub look_none : place_in (reverse items) q ≡ None → look_up (frames ss (reverse items)) q ≡ None
   look_none h = flat ss (reverse items) q ∙ find_none (reverse items) q h
 
+  -- the place of a name is within the entries
   pub look_within : (i : ℕ) → place_in (reverse items) q ≡ Some i → i < length items
   look_within i h =
       let f = find_some (reverse items) q i h in omega (arith, f.within, length-reverse items)
 
+  -- a name means what the entry at its place says
   pub look_some : (i : ℕ) (d : Entry) → place_in (reverse items) q ≡ Some i
       → look_up (frames ss (reverse items)) q ≡ Some (get_or items i d).binding.meaning
   look_some i d h =
@@ -159,6 +162,7 @@ here_some s (e ∷ es) q i le h = ⊎_elim inside (outside (λ l. here_some s es
             (find (bindings (take (length es - s) es)) q))) p
             ∙ rec ge (sym (ap (λ b. cond b (Some (length es)) (place_in es q)) p) ∙ h)
 
+-- a name is declared in the innermost block where its place is not before the block's start
 pub here_is : (ss : List ℕ) (es : List Entry) (q : List ℕ) (i : ℕ) → StartsFit ss (length es)
     → place_in es q ≡ Some i → nat_le (first_start ss) i ≡ is_here (frames ss es) q
 here_is [] es q i fit h =
@@ -171,6 +175,7 @@ here_is [] es q i fit h =
     some_entry (e ∷ es) lt = e
 here_is (s ∷ ss) es q i fit h = sym (here_some s es q i fit.0 h)
 
+-- a name that stands in no entry is not declared in the innermost block
 pub not_here : (ss : List ℕ) (es : List Entry) (q : List ℕ) → place_in es q ≡ None
     → false ≡ is_here (frames ss es) q
 not_here [] es q h = sym (ap is_some (find_none es q h))
@@ -204,6 +209,7 @@ cuts (s ∷ ss) es =
     (sym (take-map (λ (e : Entry). e.binding) (length es - s) es))
     ∙ ap (λ (n : ℕ). take (n - s) (bindings es) ∷ cut ss (drop (n - s) (bindings es))) (sym l)
 
+-- equal bindings make equal blocks
 pub same_blocks : (ss : List ℕ) (old new : List Entry) → bindings new ≡ bindings old
     → frames ss new ≡ frames ss old
 same_blocks ss old new h =
@@ -226,6 +232,7 @@ pub still_fits : (ss : List ℕ) (old new : List Entry)
     → StartsFit ss (length new)
 still_fits ss old new h fit = subst (λ (n : ℕ). StartsFit ss n) (sym (same_count_of old new h)) fit
 
+-- a binding put in front of the entries is declared in the innermost block
 pub added : (ss : List ℕ) (old new : List Entry) (b : Binding) → StartsFit ss (length old)
     → bindings (reverse new) ≡ b ∷ bindings (reverse old) → (frames ss (reverse new)
     ≡ declared_in b (frames ss (reverse old))) × StartsFit ss (length new)
@@ -264,6 +271,7 @@ left_block s ss old new fit h =
       subst (StartsFit ss) (sym (ap (length {A = Entry}) h ∙ length-take-le s old fit.0)) fit.1,
     )
 
+-- the entries up to the start of the innermost block are the blocks with that one closed
 pub close_to : (s : ℕ) (starts less : List ℕ) (old new : List Entry) → starts ≡ less ++ s ∷ []
     → StartsFit (reverse starts) (length old) → new ≡ take s old
     → (frames (reverse less) (reverse new) ≡ closed (frames (reverse starts) (reverse old)))

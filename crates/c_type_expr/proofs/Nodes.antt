@@ -57,6 +57,7 @@ tree_by l n x e =
     ∙ ap (λ (m : ExprNode). fold-ExprNode C C node_tree of_node m) (sym e)
     ∙ fold-roll-ExprNode C C node_tree of_node x
 
+-- the greatest size of some expressions
 abbrev pub deepest : List Expr → ℕ
 deepest [] = 0
 deepest (e ∷ es) = max (size-Expr e) (deepest es)
@@ -79,16 +80,19 @@ trees_same slots (e ∷ es) G = ap (λ (ts : List TypedExpr). argument slots (tr
     (trees_same (rest_of slots) es G)
 
 module _ (G : Scope) (r : Role) (l : ℕ) where
+  -- The first fault of a number.
   pub fault-Number : (v : ℕ) (k : Kind) → fault (at l (node.Number v k)) G r ≡ unwanted_value r l
   unfolding fault is_place
   fault-Number v k = ap (λ (j : Judged). j.blame G r)
       (judged_by l _ (ExprNode-F.Number v k) (node.rolls-Number v k))
 
+  -- The first fault of a name.
   pub fault-Name : (w : List ℕ) → fault (at l (node.Name w)) G r ≡ name_fault (look_up G w) r l
   unfolding fault is_place
   fault-Name w = ap (λ (j : Judged). j.blame G r)
       (judged_by l _ (ExprNode-F.Name w) (node.rolls-Name w))
 
+  -- The first fault of an element.
   pub fault-Element : (w : List ℕ) (i : Expr)
       → fault (at l (node.Element w None i)) G r
       ≡ first (fault i G Value) (element_fault (look_up G w) false r l)
@@ -96,6 +100,7 @@ module _ (G : Scope) (r : Role) (l : ℕ) where
   fault-Element w i = ap (λ (j : Judged). j.blame G r)
       (judged_by l _ (ExprNode-F.Element w None i) (node.rolls-Element w None i))
 
+  -- The first fault of an element of two indexes.
   pub fault-Row : (w : List ℕ) (x i : Expr)
       → fault (at l (node.Element w (Some x) i)) G r
       ≡ first (fault x G Value) (first (fault i G Value) (element_fault (look_up G w) true r l))
@@ -103,6 +108,7 @@ module _ (G : Scope) (r : Role) (l : ℕ) where
   fault-Row w x i = ap (λ (j : Judged). j.blame G r)
       (judged_by l _ (ExprNode-F.Element w (Some x) i) (node.rolls-Element w (Some x) i))
 
+  -- The first fault of a call.
   pub fault-Call : (w : List ℕ) (es : List Expr)
       → fault (at l (node.Call w es)) G r ≡ first (args_fault (slots_of (look_up G w)) es G)
       (call_fault (look_up G w) (length es) r l)
@@ -114,23 +120,27 @@ module _ (G : Scope) (r : Role) (l : ℕ) where
       ∙ ap (λ n. first (args_fault (slots_of (look_up G w)) es G) (call_fault (look_up G w) n r l))
       (length_map judged es)
 
+  -- The first fault of an expression in parentheses.
   pub fault-Group : (e : Expr) → fault (at l (node.Group e)) G r ≡ fault e G r
   unfolding fault is_place
   fault-Group e = ap (λ (j : Judged). j.blame G r)
       (judged_by l _ (ExprNode-F.Group e) (node.rolls-Group e))
 
+  -- The first fault of an operation on one operand.
   pub fault-Unary : (op : UnaryOp) (e : Expr)
       → fault (at l (node.Unary op e)) G r ≡ first (fault e G Value) (unwanted_value r l)
   unfolding fault is_place
   fault-Unary op e = ap (λ (j : Judged). j.blame G r)
       (judged_by l _ (ExprNode-F.Unary op e) (node.rolls-Unary op e))
 
+  -- The first fault of a cast.
   pub fault-Cast : (to : Kind) (e : Expr)
       → fault (at l (node.Cast to e)) G r ≡ first (fault e G Value) (unwanted_value r l)
   unfolding fault is_place
   fault-Cast to e = ap (λ (j : Judged). j.blame G r)
       (judged_by l _ (ExprNode-F.Cast to e) (node.rolls-Cast to e))
 
+  -- The first fault of `++` and `--`.
   pub fault-Bump : (op : BumpOp) (e : Expr)
       → fault (at l (node.Bump op e)) G r ≡ first (fault e G (left_role (is_place e)))
       (first (unless (is_place e) (Mismatch l)) (unwanted_value r l))
@@ -138,6 +148,7 @@ module _ (G : Scope) (r : Role) (l : ℕ) where
   fault-Bump op e = ap (λ (j : Judged). j.blame G r)
       (judged_by l _ (ExprNode-F.Bump op e) (node.rolls-Bump op e))
 
+  -- The first fault of an operation on two operands.
   pub fault-Binary : (op : BinaryOp) (x y : Expr)
       → fault (at l (node.Binary op x y)) G r
       ≡ first (fault x G Value) (first (fault y G Value) (unwanted_value r l))
@@ -145,12 +156,14 @@ module _ (G : Scope) (r : Role) (l : ℕ) where
   fault-Binary op x y = ap (λ (j : Judged). j.blame G r)
       (judged_by l _ (ExprNode-F.Binary op x y) (node.rolls-Binary op x y))
 
+  -- The first fault of a choice.
   pub fault-Choice : (t x y : Expr) → fault (at l (node.Choice t x y)) G r
       ≡ first (fault t G Value) (first (fault x G Value) (first (fault y G Value) (unwanted_value r l)))
   unfolding fault is_place
   fault-Choice t x y = ap (λ (j : Judged). j.blame G r)
       (judged_by l _ (ExprNode-F.Choice t x y) (node.rolls-Choice t x y))
 
+  -- The first fault of an assignment.
   pub fault-Assign : (op : Option BinaryOp) (x y : Expr)
       → fault (at l (node.Assign op x y)) G r
       ≡ first (fault x G (left_role (is_place x)))
@@ -159,6 +172,7 @@ module _ (G : Scope) (r : Role) (l : ℕ) where
   fault-Assign op x y = ap (λ (j : Judged). j.blame G r)
       (judged_by l _ (ExprNode-F.Assign op x y) (node.rolls-Assign op x y))
 
+  -- The first fault of a comma.
   pub fault-Comma : (x y : Expr) → fault (at l (node.Comma x y)) G r
       ≡ first (fault x G Free) (first (fault y G Value) (unwanted_value r l))
   unfolding fault is_place
@@ -166,26 +180,31 @@ module _ (G : Scope) (r : Role) (l : ℕ) where
       (judged_by l _ (ExprNode-F.Comma x y) (node.rolls-Comma x y))
 
 module _ (G : Scope) (l : ℕ) where
+  -- The typed tree of a number.
   pub tree-Number : (v : ℕ) (k : Kind) → tree (at l (node.Number v k)) G
       ≡ a (Some k) (typed.Number v)
   tree-Number v k = ap (λ (f : C). f G) (tree_by l _ (ExprNode-F.Number v k)
       (node.rolls-Number v k))
 
+  -- The typed tree of a name.
   pub tree-Name : (w : List ℕ) → tree (at l (node.Name w)) G ≡ name_tree (look_up G w)
   tree-Name w = ap (λ (f : C). f G) (tree_by l _ (ExprNode-F.Name w) (node.rolls-Name w))
 
+  -- The typed tree of an element.
   pub tree-Element : (w : List ℕ) (i : Expr)
       → tree (at l (node.Element w None i)) G ≡ a (Some (array_kind (look_up G w)))
       (typed.Element (array_place (look_up G w)) None (tree i G))
   tree-Element w i = ap (λ (f : C). f G) (tree_by l _ (ExprNode-F.Element w None i)
       (node.rolls-Element w None i))
 
+  -- The typed tree of an element of two indexes.
   pub tree-Row : (w : List ℕ) (x i : Expr)
       → tree (at l (node.Element w (Some x) i)) G ≡ a (Some (array_kind (look_up G w)))
       (typed.Element (array_place (look_up G w)) (Some (tree x G)) (tree i G))
   tree-Row w x i = ap (λ (f : C). f G) (tree_by l _ (ExprNode-F.Element w (Some x) i)
       (node.rolls-Element w (Some x) i))
 
+  -- The typed tree of a call.
   pub tree-Call : (w : List ℕ) (es : List Expr)
       → tree (at l (node.Call w es)) G ≡ a (result_kind (look_up G w))
       (typed.Call (callee_of (look_up G w)) (args_tree (slots_of (look_up G w)) es G))
@@ -194,49 +213,60 @@ module _ (G : Scope) (l : ℕ) where
       ∙ ap (λ (ts : List TypedExpr). a (result_kind (look_up G w))
       (typed.Call (callee_of (look_up G w)) ts)) (trees_same (slots_of (look_up G w)) es G)
 
+  -- The typed tree of an expression in parentheses.
   pub tree-Group : (e : Expr) → tree (at l (node.Group e)) G ≡ tree e G
   tree-Group e = ap (λ (f : C). f G) (tree_by l _ (ExprNode-F.Group e) (node.rolls-Group e))
 
+  -- The typed tree of an operation on one operand.
   pub tree-Unary : (op : UnaryOp) (e : Expr) → tree (at l (node.Unary op e)) G ≡ unary op (tree e G)
   tree-Unary op e = ap (λ (f : C). f G) (tree_by l _ (ExprNode-F.Unary op e)
       (node.rolls-Unary op e))
 
+  -- The typed tree of a cast.
   pub tree-Cast : (to : Kind) (e : Expr) → tree (at l (node.Cast to e)) G ≡ cast to (tree e G)
   tree-Cast to e = ap (λ (f : C). f G) (tree_by l _ (ExprNode-F.Cast to e) (node.rolls-Cast to e))
 
+  -- The typed tree of `++` and `--`.
   pub tree-Bump : (op : BumpOp) (e : Expr) → tree (at l (node.Bump op e)) G ≡ bump op (tree e G)
   tree-Bump op e = ap (λ (f : C). f G) (tree_by l _ (ExprNode-F.Bump op e) (node.rolls-Bump op e))
 
+  -- The typed tree of an operation on two operands.
   pub tree-Binary : (op : BinaryOp) (x y : Expr)
       → tree (at l (node.Binary op x y)) G ≡ binary op (tree x G) (tree y G)
   tree-Binary op x y = ap (λ (f : C). f G)
       (tree_by l _ (ExprNode-F.Binary op x y) (node.rolls-Binary op x y))
 
+  -- The typed tree of a choice.
   pub tree-Choice : (t x y : Expr) → tree (at l (node.Choice t x y)) G
       ≡ choice (tree t G) (tree x G) (tree y G)
   tree-Choice t x y = ap (λ (f : C). f G)
       (tree_by l _ (ExprNode-F.Choice t x y) (node.rolls-Choice t x y))
 
+  -- The typed tree of an assignment.
   pub tree-Assign : (op : Option BinaryOp) (x y : Expr)
       → tree (at l (node.Assign op x y)) G ≡ assign op (tree x G) (tree y G)
   tree-Assign op x y = ap (λ (f : C). f G)
       (tree_by l _ (ExprNode-F.Assign op x y) (node.rolls-Assign op x y))
 
+  -- The typed tree of a comma.
   pub tree-Comma : (x y : Expr) → tree (at l (node.Comma x y)) G ≡ comma (tree x G) (tree y G)
   tree-Comma x y = ap (λ (f : C). f G) (tree_by l _ (ExprNode-F.Comma x y) (node.rolls-Comma x y))
 
 module _ (f : Expr) where
+  -- Whether a number is a place that may be written to.
   pub place-Number : (v : ℕ) (k : Kind) → f.node ≡ node.Number v k → is_place f ≡ false
   unfolding is_place
   place-Number v k h = ap (λ n. is_place (at f.line n)) h
       ∙ ap (λ (j : Judged). j.place) (judged_by f.line _ (ExprNode-F.Number v k)
       (node.rolls-Number v k))
 
+  -- Whether a name is a place that may be written to.
   pub place-Name : (w : List ℕ) → f.node ≡ node.Name w → is_place f ≡ true
   unfolding is_place
   place-Name w h = ap (λ n. is_place (at f.line n)) h
       ∙ ap (λ (j : Judged). j.place) (judged_by f.line _ (ExprNode-F.Name w) (node.rolls-Name w))
 
+  -- Whether an element is a place that may be written to.
   pub place-Element : (w : List ℕ) (r : Option Expr) (i : Expr) → f.node ≡ node.Element w r i
       → is_place f ≡ true
   unfolding is_place
@@ -244,47 +274,55 @@ module _ (f : Expr) where
       ∙ ap (λ (j : Judged). j.place) (judged_by f.line _ (ExprNode-F.Element w r i)
       (node.rolls-Element w r i))
 
+  -- Whether a call is a place that may be written to.
   pub place-Call : (w : List ℕ) (es : List Expr) → f.node ≡ node.Call w es → is_place f ≡ false
   unfolding is_place
   place-Call w es h = ap (λ n. is_place (at f.line n)) h
       ∙ ap (λ (j : Judged). j.place) (judged_by f.line _ (ExprNode-F.Call w es)
       (node.rolls-Call w es))
 
+  -- Whether an expression in parentheses is a place that may be written to.
   pub place-Group : (e : Expr) → f.node ≡ node.Group e → is_place f ≡ is_place e
   unfolding is_place
   place-Group e h = ap (λ n. is_place (at f.line n)) h
       ∙ ap (λ (j : Judged). j.place) (judged_by f.line _ (ExprNode-F.Group e) (node.rolls-Group e))
 
+  -- Whether an operation on one operand is a place that may be written to.
   pub place-Unary : (op : UnaryOp) (e : Expr) → f.node ≡ node.Unary op e → is_place f ≡ false
   unfolding is_place
   place-Unary op e h = ap (λ n. is_place (at f.line n)) h
       ∙ ap (λ (j : Judged). j.place) (judged_by f.line _ (ExprNode-F.Unary op e)
       (node.rolls-Unary op e))
 
+  -- Whether a cast is a place that may be written to.
   pub place-Cast : (to : Kind) (e : Expr) → f.node ≡ node.Cast to e → is_place f ≡ false
   unfolding is_place
   place-Cast to e h = ap (λ n. is_place (at f.line n)) h
       ∙ ap (λ (j : Judged). j.place) (judged_by f.line _ (ExprNode-F.Cast to e)
       (node.rolls-Cast to e))
 
+  -- Whether `++` and `--` are places that may be written to.
   pub place-Bump : (op : BumpOp) (e : Expr) → f.node ≡ node.Bump op e → is_place f ≡ false
   unfolding is_place
   place-Bump op e h = ap (λ n. is_place (at f.line n)) h
       ∙ ap (λ (j : Judged). j.place) (judged_by f.line _ (ExprNode-F.Bump op e)
       (node.rolls-Bump op e))
 
+  -- Whether an operation on two operands is a place that may be written to.
   pub place-Binary : (op : BinaryOp) (x y : Expr) → f.node ≡ node.Binary op x y → is_place f ≡ false
   unfolding is_place
   place-Binary op x y h = ap (λ n. is_place (at f.line n)) h
       ∙ ap (λ (j : Judged). j.place) (judged_by f.line _ (ExprNode-F.Binary op x y)
       (node.rolls-Binary op x y))
 
+  -- Whether a choice is a place that may be written to.
   pub place-Choice : (t x y : Expr) → f.node ≡ node.Choice t x y → is_place f ≡ false
   unfolding is_place
   place-Choice t x y h = ap (λ n. is_place (at f.line n)) h
       ∙ ap (λ (j : Judged). j.place) (judged_by f.line _ (ExprNode-F.Choice t x y)
       (node.rolls-Choice t x y))
 
+  -- Whether an assignment is a place that may be written to.
   pub place-Assign : (op : Option BinaryOp) (x y : Expr) → f.node ≡ node.Assign op x y
       → is_place f ≡ false
   unfolding is_place
@@ -292,6 +330,7 @@ module _ (f : Expr) where
       ∙ ap (λ (j : Judged). j.place) (judged_by f.line _ (ExprNode-F.Assign op x y)
       (node.rolls-Assign op x y))
 
+  -- Whether a comma is a place that may be written to.
   pub place-Comma : (x y : Expr) → f.node ≡ node.Comma x y → is_place f ≡ false
   unfolding is_place
   place-Comma x y h = ap (λ n. is_place (at f.line n)) h

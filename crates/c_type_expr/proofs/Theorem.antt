@@ -66,6 +66,7 @@ call_fits m result slots c d n r l e h len =
     (fine (nat_eq n (length slots)) (Arity l) (eq-eqb n (length slots) len))
 
 mutual
+  -- An expression to which the rules give a typed tree has no fault, and that tree.
   pub sound : (G : Scope) (r : Role) (e : Expr) (t : TypedExpr) → Typed G r e t → Sound G r e t
   sound G _ _ _ (number {r = r} {l = l} {v = v} {k = k} h) =
       (fault-Number G r l v k ∙ fine _ _ h, sym (tree-Number G l v k))
@@ -326,6 +327,7 @@ module _ (N E : Type 0) (node_of : N → ExprNode) (of : E → Expr) (whole : (e
       subst (Typed G r _) (sym (tree-Comma G l (of x) (of y)))
       (sequence (whole x G Free s.0) (whole y G Value u.0) (held _ _ u.1)))
 
+-- The rules give an expression without a fault its typed tree.
 pub complete : (e : Expr) → Whole e
 complete =
     ind-Expr WholeNode Whole

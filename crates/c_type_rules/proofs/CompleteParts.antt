@@ -36,13 +36,16 @@ pub held : (b : Bool) (f : TypeFault) → unless b f ≡ None → b ≡ true
 held true f e = refl
 held false f e = absurd (cc)
 
+-- a test without its fault does not hold
 pub not_held : (b : Bool) (f : TypeFault) → unless (not b) f ≡ None → b ≡ false
 not_held false f e = refl
 not_held true f e = absurd (cc)
 
+-- A number that the test finds smaller is so.
 pub less : (n m : ℕ) → nat_lt n m ≡ true → n < m
 less n m h = grind arith
 
+-- A number that the test finds at most another is so.
 pub at_most : (n m : ℕ) → nat_le n m ≡ true → n ≤ m
 at_most n m h = grind arith
 
@@ -50,10 +53,12 @@ at_most n m h = grind arith
 pub full_typed : (G : Scope) (r : Role) (e : Expr) → full e r G ≡ None → Full G r e (tree e G)
 full_typed G r e h = let q = split _ _ h in (complete e G r q.0, held _ _ q.1)
 
+-- an optional full expression without a fault has its tree
 pub full_if_typed : (G : Scope) (r : Role) (e : Option Expr) → full_if e r G ≡ None → FullIf G r e (tree_if e G)
 full_if_typed G r None h = absent
 full_if_typed G r (Some e) h = present (full_typed G r e h)
 
+-- an optional first value without a fault has its tree, converted to the kind
 pub initialises : (G : Scope) (k : Kind) (e : Option Expr) → full_if e Value G ≡ None
     → Initialises G k e (value_of e k G)
 initialises G k None h = without_value

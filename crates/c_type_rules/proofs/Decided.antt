@@ -15,5 +15,6 @@ decided_by : (p : Program) (o : Blame) → program_fault p ≡ o
 decided_by p None e = inl (program_tree p, accepts_typed p e)
 decided_by p (Some f) e = inr (f, unit_good p f e)
 
+-- a program is accepted with a typed program, or has a fault
 pub decided : (p : Program) → ((t : TypedProgram) × Accepts p t) ⊎ ((f : TypeFault) × UnitFails p f)
 decided p = decided_by p (program_fault p) refl

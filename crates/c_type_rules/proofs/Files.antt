@@ -79,6 +79,7 @@ NamedBy (callee.Func n) w = Unit {0}
 NamedBy callee.GetChar w = getchar_name ≡ w
 NamedBy callee.PutChar w = putchar_name ≡ w
 
+-- the functions that stand without a definition: `getchar` and `putchar`
 pub data BuiltIn : List ℕ → Option Kind → List Slot → Option Callee → Type 0 where
   reads : BuiltIn getchar_name (Some Int) [] (Some callee.GetChar)
   writes : BuiltIn putchar_name (Some Int) int_slots (Some callee.PutChar)

@@ -54,10 +54,12 @@ no_fault a f p d = let e : None ≡ Some f = sym (passes_none a p) ∙ fault_is 
 abbrev pub Good : Judgement → Type 0
 Good a = (f : TypeFault) → fault_of a ≡ Some f → FirstFault a f
 
+-- each of some judgements is good
 abbrev pub AllGood : List Judgement → Type 0
 AllGood [] = Unit {0}
 AllGood (x ∷ xs) = Good x × AllGood xs
 
+-- good judgements behind good ones are good
 pub good_append : (xs ys : List Judgement) → AllGood xs → AllGood ys → AllGood (xs ++ ys)
 good_append [] ys g h = h
 good_append (x ∷ xs) ys g h = (g.0, good_append xs ys g.1 h)

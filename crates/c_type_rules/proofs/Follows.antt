@@ -178,6 +178,7 @@ abbrev pub Follows : Judgement → Type 0
 Follows (a_test b) = Unit {0}
 Follows a = fault_of a ≡ first_of (parts a)
 
+-- in each judgement of a statement, what the folds find first is what is found first in the text
 pub follows : (a : Judgement) → Follows a
 follows (a_test b) = tt
 follows (an_expression G r e) = expression_follows G r e (out-ExprNode e.node) refl

@@ -81,10 +81,12 @@ first_of xs = firsts (map fault_of xs)
 node_is : (n : ExprNode) (x : ExprNode-F ExprNode Expr) → out-ExprNode n ≡ x → n ≡ roll-ExprNode x
 node_is n x e = sym (roll-out-ExprNode n) ∙ ap roll-ExprNode e
 
+-- a statement's node is the one that was opened
 pub statement_is : (n : StmtNode) (x : StmtNode-F ForInit StmtNode Section Stmt) → out-StmtNode n ≡ x
     → n ≡ roll-StmtNode x
 statement_is n x e = sym (roll-out-StmtNode n) ∙ ap roll-StmtNode e
 
+-- the first part of a `for` is the one that was opened
 pub beginning_is : (i : ForInit) (x : ForInit-F ForInit StmtNode Section Stmt) → out-ForInit i ≡ x
     → i ≡ roll-ForInit x
 beginning_is i x e = sym (roll-out-ForInit i) ∙ ap roll-ForInit e
@@ -113,6 +115,7 @@ module _ (G : Scope) (r : Role) (e : Expr) where
   by_node : (n : ExprNode) → e.node ≡ n → fault e G r ≡ fault (at e.line n) G r
   by_node n h = ap (λ n. fault (at e.line n) G r) h
 
+  -- the fault of an expression is the first one of its parts
   pub expression_follows : (x : ExprNode-F ExprNode Expr) → out-ExprNode e.node ≡ x
       → fault e G r ≡ first_of (expression_parts G r e.line x)
   expression_follows (ExprNode-F.Number v k) h =
@@ -144,6 +147,7 @@ module _ (G : Scope) (r : Role) (e : Expr) where
       by_node _ (node_is _ _ h ∙ node.rolls-Comma x y) ∙ fault-Comma G r e.line x y
 
 module _ (G : Scope) (e : Expr) where
+  -- the fault of a constant expression is the first one of its parts
   pub constant_follows : (x : ExprNode-F ExprNode Expr) → out-ExprNode e.node ≡ x
       → not_fixed e G ≡ first_of (constant_parts G e.line x)
   constant_follows (ExprNode-F.Number v k) h = fixed-Number e G v k (node_is _ _ h ∙ node.rolls-Number v k)

@@ -128,14 +128,17 @@ good_expr =
 pub full_good : (G : Scope) (r : Role) (e : Expr) → Good (a_full G r e)
 full_good G r e = good_by (a_full G r e) refl ((good_expr e).asked G r, last _ (sane_need e))
 
+-- the judgement of an optional expression is good
 pub optional_good : (G : Scope) (r : Role) (e : Option Expr) → Good (an_optional G r e)
 optional_good G r None = good_by (an_optional G r None) refl tt
 optional_good G r (Some e) = good_by (an_optional G r (Some e)) refl (full_good G r e, tt)
 
+-- the judgement of a full constant expression is good
 pub full_constant_good : (G : Scope) (e : Expr) → Good (a_full_constant G e)
 full_constant_good G e =
     good_by (a_full_constant G e) refl
     ((good_expr e).fixed G, (test_good _ (sane_word (constant ends e).value e.line), last _ (sane_need e)))
 
+-- the judgement of an array's size is good
 pub size_good : (G : Scope) (e : Expr) → Good (a_size G e)
 size_good G e = good_by (a_size G e) refl ((good_expr e).fixed G, last _ (sane_word (length_of e) e.line))

@@ -38,19 +38,23 @@ pub sane_first : (a b : Blame) → Sane a → Sane b → Sane (first a b)
 sane_first None b s t = t
 sane_first (Some f) b s t = s
 
+-- a test whose fault is none of memory does not fail for want of memory
 pub sane_unless : (b : Bool) (f : TypeFault) → Sane (Some f) → Sane (unless b f)
 sane_unless true f s = tt
 sane_unless false f s = s
 
 -- EXPRESSIONS
 
+-- the test of an unwanted value does not fail for want of memory
 pub sane_value : (r : Role) (l : ℕ) → Sane (unwanted_value r l)
 sane_value r l = sane_unless (takes_value r) (Mismatch l) tt
 
+-- nor does the test of a name
 pub sane_name : (m : Option Meaning) (r : Role) (l : ℕ) → Sane (name_fault m r l)
 sane_name None r l = tt
 sane_name (Some m) r l = sane_unless (takes_name m r) (Mismatch l) tt
 
+-- nor does the test of an element
 pub sane_element : (m : Option Meaning) (two : Bool) (r : Role) (l : ℕ) → Sane (element_fault m two r l)
 sane_element None two r l = tt
 sane_element (Some (meaning.Array k q p)) two r l =
@@ -65,6 +69,7 @@ sane_callee None g ps n r l = tt
 sane_callee (Some c) g ps n r l =
     sane_first _ _ (sane_unless (takes_result g r) (Mismatch l) tt) (sane_unless (nat_eq n (length ps)) (Arity l) tt)
 
+-- nor does the test of a call
 pub sane_call : (m : Option Meaning) (n : ℕ) (r : Role) (l : ℕ) → Sane (call_fault m n r l)
 sane_call None n r l = tt
 sane_call (Some (meaning.Function g ps c d)) n r l = sane_callee c g ps n r l
@@ -72,10 +77,12 @@ sane_call (Some (meaning.Scalar k p)) n r l = tt
 sane_call (Some (meaning.Array k q p)) n r l = tt
 sane_call (Some meaning.EndOfFile) n r l = tt
 
+-- nor does the test of a node that is no constant
 pub sane_constant : (b : Bool) (l : ℕ) → Sane (constants.no_constant b l)
 sane_constant true l = tt
 sane_constant false l = tt
 
+-- nor does the test of a name in a constant expression
 pub sane_named : (m : Option Meaning) (l : ℕ) → Sane (constants.name_fixed m l)
 sane_named None l = tt
 sane_named (Some meaning.EndOfFile) l = tt
@@ -83,9 +90,11 @@ sane_named (Some (meaning.Scalar k p)) l = tt
 sane_named (Some (meaning.Array k q p)) l = tt
 sane_named (Some (meaning.Function g ps c d)) l = tt
 
+-- nor does the test of a constant's value
 pub sane_word : (o : Option ℕ) (l : ℕ) → Sane (constants.value_fault o l)
 sane_word o l = sane_unless (is_some o) (Mismatch l) tt
 
+-- nor does the test of what a constant expression needs
 pub sane_need : (e : Expr) → Sane (constants.need_fault e)
 sane_need e = sane_unless (need_fits e) (Need e.line) tt
 
@@ -94,17 +103,21 @@ sane_need e = sane_unless (need_fits e) (Need e.line) tt
 sane_twice : (G : Scope) (w : List ℕ) (l : ℕ) → Sane (twice_fault G w l)
 sane_twice G w l = sane_unless (not (is_taken G w)) (Twice l) tt
 
+-- nor does the test of a scalar that is declared
 pub sane_scalar : (w : List ℕ) (l : ℕ) (v : State) → Sane (scalar_fault w l v)
 sane_scalar w l v =
     sane_first _ _ (sane_twice v.names w l) (sane_unless _ (TooManyScalars l) tt)
 
+-- nor does the test of an array that is declared
 pub sane_array : (n : ℕ) (k : Kind) (w : List ℕ) (l : ℕ) (G : Scope) → Sane (array_fault n k w l G)
 sane_array n k w l G = sane_first _ _ (sane_twice G w l) (sane_unless _ (TooLarge l) tt)
 
+-- nor does the test of a first value that is missing
 pub sane_init : (init : Option Expr) (l : ℕ) → Sane (no_init init l)
 sane_init None l = tt
 sane_init (Some e) l = tt
 
+-- nor does the test of a `return`
 pub sane_return : (r : Option Kind) (e : Option Expr) (l : ℕ) → Sane (return_fault r e l)
 sane_return None None l = tt
 sane_return None (Some e) l = tt
@@ -113,12 +126,14 @@ sane_return (Some k) (Some e) l = tt
 
 -- UNITS
 
+-- nor does the test of a parameter's name
 pub sane_param : (d : Bool) (G : Scope) (seen : List Param) (o : Option (List ℕ)) (l : ℕ)
     → Sane (functions.name_fault d G seen o l)
 sane_param d G seen None l = sane_unless (not d) (Mismatch l) tt
 sane_param d G seen (Some w) l =
     sane_unless (not (named_among seen w || is_end (look_up G w))) (Twice l) tt
 
+-- nor does the test of a row's bytes
 pub sane_row_bytes : (s : ArraySize) (k : Kind) (l : ℕ) → Sane (functions.row_bytes_fault s k l)
 sane_row_bytes size.Scalar k l = tt
 sane_row_bytes size.Open k l = tt
@@ -140,6 +155,7 @@ sane_type g ps (Some (meaning.Scalar k p)) l = tt
 sane_type g ps (Some (meaning.Array k q p)) l = tt
 sane_type g ps (Some meaning.EndOfFile) l = tt
 
+-- nor does the test of a function that is declared
 pub sane_function : (d : Bool) (g : Option Kind) (ps : List Slot) (m : Option Meaning) (l : ℕ)
     → Sane (function_fault d g ps m l)
 sane_function d g ps m l = sane_first _ _ (sane_defined d m l) (sane_type g ps m l)
@@ -156,8 +172,10 @@ sane_by : (b : Bool) (f : Blame) → Sane f → Sane (cond b None f)
 sane_by true f s = tt
 sane_by false f s = s
 
+-- nor does the test of an include line
 pub sane_include : (G : Scope) (l : ℕ) → Sane (include_fault G l)
 sane_include G l = sane_by (is_end (look_up G eof_name)) _ (sane_clash G l)
 
+-- nor does the test of a global's place
 pub sane_place : (n : ℕ) (k : Kind) (w : List ℕ) (l : ℕ) (U : FileScope) → Sane (place_fault n k w l U)
 sane_place n k w l U = sane_first _ _ (sane_twice U.names w l) (sane_unless _ (TooLarge l) tt)

@@ -67,9 +67,11 @@ free G w l h = fine (not (is_taken G w)) (Twice l) (ap not h)
 pub size_fine : (G : Scope) (e : Expr) (n : ℕ) → Size G e n → size_fault e G ≡ None
 size_fine G e n s = both _ _ (constant_fine G e s.0) (ap (λ o. value_fault o e.line) s.1)
 
+-- A smaller number is found to be so.
 pub less : (n m : ℕ) → n < m → nat_lt n m ≡ true
 less n m h = grind arith
 
+-- a number that is at most another is found so
 pub at_most : (n m : ℕ) → n ≤ m → nat_le n m ≡ true
 at_most n m h = grind arith
 
@@ -90,6 +92,7 @@ sized_fine G s n k w l f e h m =
 pub one_extent : (e : Expr) (n : ℕ) → length_of e ≡ Some n → n ≡ extent (size.Sized e)
 one_extent e n s = sym (one_row_of n) ∙ ap (λ o. 1 * word_in o) (sym s)
 
+-- the product of two constant sizes is the extent of the array of rows
 pub two_extent : (r e : Expr) (m n : ℕ) → length_of r ≡ Some m → length_of e ≡ Some n
     → m * n ≡ extent (size.Rows (Some r) e)
 two_extent r e m n s s' =

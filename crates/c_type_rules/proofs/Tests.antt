@@ -52,6 +52,7 @@ params_are (s ∷ ss) (t ∷ ts) h =
     let q = both_hold (same_slot s t) (same_slots ss ts) h in
     ap (λ s. s ∷ ss) (slots_are s t q.0) ∙ ap (λ ss. t ∷ ss) (params_are ss ts q.1)
 
+-- parameters are the same as themselves
 pub params_themselves : (ss : List Slot) → same_slots ss ss ≡ true
 params_themselves [] = refl
 params_themselves (s ∷ ss) = ap (λ b. b && same_slots ss ss) (slot_itself s) ∙ params_themselves ss
@@ -63,6 +64,7 @@ results_are None (Some k) h = absurd (false≢true h)
 results_are (Some j) None h = absurd (false≢true h)
 results_are (Some j) (Some k) h = ap Some (kinds_are j k h)
 
+-- a result is the same as itself
 pub result_itself : (r : Option Kind) → same_result r r ≡ true
 result_itself None = refl
 result_itself (Some k) = kind_itself k

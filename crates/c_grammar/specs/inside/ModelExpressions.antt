@@ -6,18 +6,19 @@ use Rattle.c_tree.specs.declared.token.Form.TheVariants as form
 use Rattle.c_tree.specs.declared.token.Mark.{Mark}
 use Rattle.c_tree.specs.declared.token.Mark.TheVariants as mark
 use Rattle.c_tree.specs.declared.tree.UnaryOp.TheVariants as unary
-use Rattle.c_tree.specs.declared.tree.BinaryOp.TheVariants as binary
+use Rattle.c_tree.specs.declared.tree.BinaryOp.{BinaryOp}
 use Rattle.c_tree.specs.declared.tree.Expr.{Expr}
 use Rattle.c_tree.specs.declared.tree.ExprNode.{ExprNode, out-ExprNode}
 use Rattle.c_tree.specs.declared.tree.ExprNode.TheVariants as node
 use Rattle.c_tree.specs.declared.tree.ExprNode.TheOpen.{ExprNode-F}
+use Rattle.c_tree.specs.Marks.{operator, Holds}
+use Rattle.c_tree.specs.ByMark.{marked_operator, assigned_by}
 use Rattle.c_grammar.specs.Tokens.{Tokens}
 use Rattle.c_grammar.specs.Operators.{at, Joiner, op, comma, below, joined, Prefix}
 use Rattle.c_grammar.specs.inside.Operators.{binary_level}
 use Rattle.c_grammar.specs.Operators.{sign, increase, decrease, prefix_mark, prefixed, Suffix}
-use Rattle.c_grammar.specs.Operators.{increased, decreased, suffixed, Assigner, simple, times, over}
-use Rattle.c_grammar.specs.Operators.{modulo, plus, minus, left, right, and, xor, or, assigner_mark}
-use Rattle.c_grammar.specs.Operators.{assigner_op}
+use Rattle.c_grammar.specs.Operators.{increased, decreased, suffixed, Assigner, simple, compound}
+use Rattle.c_grammar.specs.Operators.{assigner_mark, assigner_op}
 use Rattle.c_grammar.specs.inside.Parsing.{Out, and_then, syntax, too_deep, by_option, tail, line_of}
 use Rattle.c_grammar.specs.inside.Parsing.{first, is_next, expect, name_of, listed}
 use Rattle.c_grammar.specs.inside.ModelTypes.{begins_type, type_of}
@@ -53,28 +54,15 @@ abbrev pub number_of : Tokens → Out Expr
 number_of [] = syntax []
 number_of (t ∷ ts) = number_by t.line t.form (t ∷ ts)
 
+-- an operator as a joiner
+abbrev pub joiner_of : Option BinaryOp → Option Joiner
+joiner_of None = None
+joiner_of (Some o) = Some (op o)
+
 -- the operator that the mark is
 abbrev pub marked_joiner : Mark → Option Joiner
-marked_joiner mark.Star = Some (op binary.Multiply)
-marked_joiner mark.Slash = Some (op binary.Divide)
-marked_joiner mark.Percent = Some (op binary.Remainder)
-marked_joiner mark.Plus = Some (op binary.Add)
-marked_joiner mark.Minus = Some (op binary.Subtract)
-marked_joiner mark.ShiftLeft = Some (op binary.ShiftLeft)
-marked_joiner mark.ShiftRight = Some (op binary.ShiftRight)
-marked_joiner mark.Less = Some (op binary.Less)
-marked_joiner mark.Greater = Some (op binary.Greater)
-marked_joiner mark.LessEqual = Some (op binary.LessEqual)
-marked_joiner mark.GreaterEqual = Some (op binary.GreaterEqual)
-marked_joiner mark.Equal = Some (op binary.Equal)
-marked_joiner mark.NotEqual = Some (op binary.NotEqual)
-marked_joiner mark.And = Some (op binary.BitAnd)
-marked_joiner mark.Xor = Some (op binary.BitXor)
-marked_joiner mark.Or = Some (op binary.BitOr)
-marked_joiner mark.AndAnd = Some (op binary.LogicalAnd)
-marked_joiner mark.OrOr = Some (op binary.LogicalOr)
 marked_joiner mark.Comma = Some comma
-marked_joiner _ = None
+marked_joiner m = joiner_of (marked_operator m)
 
 -- the operator, where it joins at this level
 abbrev pub if_below : ℕ → Option Joiner → Option Joiner
@@ -102,19 +90,24 @@ suffix_of (form.Mark mark.PlusPlus) = Some increased
 suffix_of (form.Mark mark.MinusMinus) = Some decreased
 suffix_of _ = None
 
+-- what is made of a mark that is held, if one is
+abbrev pub holding : {A : Type 0} → (x : Option Mark) → (Holds x → A) → Option A
+holding None f = None
+holding (Some m) f = Some (f tt)
+
+-- the assignment operator with that operation, or with none
+abbrev pub assigner_with : Option (Option BinaryOp) → Option Assigner
+assigner_with None = None
+assigner_with (Some None) = Some simple
+assigner_with (Some (Some o)) = holding (operator o).compound (compound o)
+
+-- the assignment operator that the mark is
+abbrev pub assigner_by : Mark → Option Assigner
+assigner_by m = assigner_with (assigned_by m)
+
 -- the assignment operator that the token is
 abbrev pub assigner_of : Form → Option Assigner
-assigner_of (form.Mark mark.Assign) = Some simple
-assigner_of (form.Mark mark.StarAssign) = Some times
-assigner_of (form.Mark mark.SlashAssign) = Some over
-assigner_of (form.Mark mark.PercentAssign) = Some modulo
-assigner_of (form.Mark mark.PlusAssign) = Some plus
-assigner_of (form.Mark mark.MinusAssign) = Some minus
-assigner_of (form.Mark mark.ShiftLeftAssign) = Some left
-assigner_of (form.Mark mark.ShiftRightAssign) = Some right
-assigner_of (form.Mark mark.AndAssign) = Some and
-assigner_of (form.Mark mark.XorAssign) = Some xor
-assigner_of (form.Mark mark.OrAssign) = Some or
+assigner_of (form.Mark m) = assigner_by m
 assigner_of _ = None
 
 -- what the first token is

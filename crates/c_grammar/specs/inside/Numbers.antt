@@ -3,55 +3,9 @@ use Rattle.std.specs.Prelude.{ℕ, Bool, false, nat_eq}
 use Rattle.c_tree.specs.declared.token.Form.{Form}
 use Rattle.c_tree.specs.declared.token.Form.TheVariants as form
 use Rattle.c_tree.specs.declared.token.Mark.{Mark}
-use Rattle.c_tree.specs.declared.token.Mark.TheVariants as mark
 use Rattle.c_tree.specs.declared.token.Key.{Key}
 use Rattle.c_tree.specs.declared.token.Key.TheVariants as key
-
--- each mark has its number
-abbrev pub mark_number : Mark → ℕ
-mark_number mark.LeftParen = 0
-mark_number mark.RightParen = 1
-mark_number mark.LeftBrace = 2
-mark_number mark.RightBrace = 3
-mark_number mark.LeftBracket = 4
-mark_number mark.RightBracket = 5
-mark_number mark.Semicolon = 6
-mark_number mark.Comma = 7
-mark_number mark.Question = 8
-mark_number mark.Colon = 9
-mark_number mark.Tilde = 10
-mark_number mark.Not = 11
-mark_number mark.Plus = 12
-mark_number mark.Minus = 13
-mark_number mark.Star = 14
-mark_number mark.Slash = 15
-mark_number mark.Percent = 16
-mark_number mark.ShiftLeft = 17
-mark_number mark.ShiftRight = 18
-mark_number mark.Less = 19
-mark_number mark.Greater = 20
-mark_number mark.LessEqual = 21
-mark_number mark.GreaterEqual = 22
-mark_number mark.Equal = 23
-mark_number mark.NotEqual = 24
-mark_number mark.And = 25
-mark_number mark.Xor = 26
-mark_number mark.Or = 27
-mark_number mark.AndAnd = 28
-mark_number mark.OrOr = 29
-mark_number mark.Assign = 30
-mark_number mark.PlusAssign = 31
-mark_number mark.MinusAssign = 32
-mark_number mark.StarAssign = 33
-mark_number mark.SlashAssign = 34
-mark_number mark.PercentAssign = 35
-mark_number mark.ShiftLeftAssign = 36
-mark_number mark.ShiftRightAssign = 37
-mark_number mark.AndAssign = 38
-mark_number mark.XorAssign = 39
-mark_number mark.OrAssign = 40
-mark_number mark.PlusPlus = 41
-mark_number mark.MinusMinus = 42
+pub use Rattle.c_tree.specs.Marks.{mark_number}
 
 -- each keyword has its number
 abbrev pub key_number : Key → ℕ

@@ -4,12 +4,11 @@ use Rattle.std.specs.Prelude.{◌++◌, Option, Some, None, Result, Ok, Err}
 use Rattle.c_tree.specs.declared.token.Form.{Form}
 use Rattle.c_tree.specs.declared.token.Form.TheVariants as form
 use Rattle.c_tree.specs.declared.token.Mark.{Mark}
-use Rattle.c_tree.specs.declared.token.Mark.TheVariants as mark
-use Rattle.c_tree.specs.declared.tree.BinaryOp.TheVariants as binary
 use Rattle.c_tree.specs.declared.tree.BinaryOp.{BinaryOp}
 use Rattle.c_tree.specs.declared.tree.BumpOp.{BumpOp}
 use Rattle.c_tree.specs.declared.tree.BumpOp.TheVariants as bump
 use Rattle.c_tree.specs.declared.tree.UnaryOp.TheVariants as unary
+use Rattle.c_tree.specs.ByMark.{joined_by}
 use Rattle.c_grammar.specs.Tokens.{Tokens}
 use Rattle.c_grammar.specs.Operators.{Joiner, op, comma, Prefix, sign, increase}
 use Rattle.c_grammar.specs.inside.Operators.{binary_level}
@@ -87,24 +86,7 @@ IsAssigner (Some p) (Some s) = (p.0 ≡ assigner_mark s) × (p.1 ≡ assigner_op
 
 -- a binary operator, and how many levels above a cast its right side is
 abbrev pub joins_by : Form → Option (ℕ × BinaryOp)
-joins_by (form.Mark mark.Star) = Some (0, binary.Multiply)
-joins_by (form.Mark mark.Slash) = Some (0, binary.Divide)
-joins_by (form.Mark mark.Percent) = Some (0, binary.Remainder)
-joins_by (form.Mark mark.Plus) = Some (1, binary.Add)
-joins_by (form.Mark mark.Minus) = Some (1, binary.Subtract)
-joins_by (form.Mark mark.ShiftLeft) = Some (2, binary.ShiftLeft)
-joins_by (form.Mark mark.ShiftRight) = Some (2, binary.ShiftRight)
-joins_by (form.Mark mark.Less) = Some (3, binary.Less)
-joins_by (form.Mark mark.Greater) = Some (3, binary.Greater)
-joins_by (form.Mark mark.LessEqual) = Some (3, binary.LessEqual)
-joins_by (form.Mark mark.GreaterEqual) = Some (3, binary.GreaterEqual)
-joins_by (form.Mark mark.Equal) = Some (4, binary.Equal)
-joins_by (form.Mark mark.NotEqual) = Some (4, binary.NotEqual)
-joins_by (form.Mark mark.And) = Some (5, binary.BitAnd)
-joins_by (form.Mark mark.Xor) = Some (6, binary.BitXor)
-joins_by (form.Mark mark.Or) = Some (7, binary.BitOr)
-joins_by (form.Mark mark.AndAnd) = Some (8, binary.LogicalAnd)
-joins_by (form.Mark mark.OrOr) = Some (9, binary.LogicalOr)
+joins_by (form.Mark m) = joined_by m
 joins_by _ = None
 
 -- no operator of the levels from `b` to before `n` is found
