@@ -73,6 +73,7 @@ marked_same (Some k) j (Some t) p p' m m' a b u v w =
         (cond (takes_left (role_of k.op)) x 0) (cond (takes_right (role_of k.op)) y 0)
         (cond (is_guarded k.sense) z 0)
 
+-- one round over the slots: each place's mark of the marks before, and each slot's mark of its places
 pub record Round (b : Block) (table places : List Answer) (old new at : List ℕ) : Type 0 where
   pub slots : length b.insts.items ≡ 128
   pub size : length new ≡ 128
@@ -122,6 +123,7 @@ rest_unmarked b g m x size r l = ap (λ (s : Option Node). node_mark s (node_fau
     (past_reads b.reads.items b.insts.items x (slot_at b x) (not_read b x r)
     ∙ no_slot b.insts.items 0 (slot_at b x) (omega arith))
 
+-- a read has no mark
 pub reads_unmarked : (b : Block) (g : ℕ → Answer) (m : ℕ → ℕ) (x : ℕ) → is_read b x ≡ true
     → mark_given b g m x ≡ 0
 unfolding mark_given

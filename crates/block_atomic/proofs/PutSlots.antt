@@ -89,10 +89,12 @@ pub either_side : {A : Type 0} → (old new v x : Option A) → old ≡ x → ne
 either_side old new v x e behind before =
     ap (or_else v) (sym e) ∙ sym before ∙ behind ∙ ap (λ u. or_else u v) e
 
+-- to set one slot changes no other
 pub same_slot : {A : Type 0} (old new : List A) (s j : ℕ) (v d : A) → new ≡ set old s v → j ≢ s
     → get_or new j d ≡ get_or old j d
 same_slot old new s j v d e ne = rw e (rw get_or-set_other refl)
 
+-- a slot that is set has what it was set to
 pub own_slot : {A : Type 0} (old new : List A) (s : ℕ) (v d : A) → s < length old → new ≡ set old s v
     → get_or new s d ≡ v
 own_slot old new s v d l e = rw e (rw get_or-set_same refl)

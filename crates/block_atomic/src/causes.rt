@@ -13,16 +13,9 @@ ghost use Rattle.trips_isa.specs.Faults.{divides};
 
 use crate::mark_rounds::settle;
 use trips_isa::{
-    Block, EXIT, FIRST_STORE, FIRST_WRITE, Form, Inst, NO_MARK, Op, PLACES, Token, form_of, least,
-    mark_by, operands_of, role_of,
+    Block, EXIT, FIRST_STORE, FIRST_WRITE, Form, Inst, NO_MARK, Op, PLACES, Token, form_of,
+    in_mask, least, mark_by, operands_of, role_of,
 };
-
-// Whether the mask has this store number.
-fn in_mask(mask: u32, number: u8) -> bool
-    ensures { result ≡ in_mask mask number }
-{
-    number < 32 && (mask >> number) % 2 == 1
-}
 
 // The least mark of the first writes.
 fn least_of_writes(at: &[u8], count: usize) -> u8

@@ -16,6 +16,7 @@ one_word xs (suc left) g lt =
     ap (λ n. (xs ++ (pcg32 g).0 % 8 ∷ []) ++ drawn n (pcg32 g).1) e
     ∙ append_assoc xs ((pcg32 g).0 % 8 ∷ []) (drawn left (pcg32 g).1)
 
+-- where no word is left to draw, none is added
 pub no_word : (xs : List ℕ) (left : ℕ) (g : Lcg) → left ≤ 0 → xs ++ drawn left g ≡ xs
 unfolding drawn
 no_word xs zero g le = append-nil xs
@@ -26,6 +27,7 @@ unfolding drawn
 length_drawn zero g = refl
 length_drawn (suc n) g = ap suc (length_drawn n (pcg32 g).1)
 
+-- a seed has 1,024 entries
 pub length_entries : (seed : ℕ) → length (entries_of seed) ≡ 1024
 unfolding entries_of
 length_entries seed = length_drawn 1024 (generator seed)

@@ -221,34 +221,42 @@ store_loads n o f = go (request f n)
     go (Some q) = refl
 
 module _ {storing loading : ℕ} (o : Older) (fs : List Frame) (k : AreTold storing loading fs) (n : ℕ) where
+  -- a Read leaves which frames have stores and loads as it was told
   pub read_told : (r : ℕ) → AreTold storing loading (change (alone (read r)) o fs n)
   read_told r = stay_told k (age_of n fs) (changed Alike (read r) (read_alike r) o fs n)
 
+  -- a Fire leaves which frames have stores and loads as it was told
   pub fire_told : (s : ℕ) → AreTold storing loading (change (alone (fire s)) o fs n)
   fire_told s = stay_told k (age_of n fs) (changed Alike (fire s) (fire_alike s) o fs n)
 
+  -- a Deliver leaves which frames have stores and loads as it was told
   pub deliver_told : (p : ℕ) → AreTold storing loading (change (alone (deliver p)) o fs n)
   deliver_told p = stay_told k (age_of n fs) (changed Alike (deliver p) (deliver_alike p) o fs n)
 
+  -- a Seal leaves which frames have stores and loads as it was told
   pub seal_told : AreTold storing loading (change (alone seal) o fs n)
   seal_told = stay_told k (age_of n fs) (changed Alike seal (λ o f. (refl, refl)) o fs n)
 
+  -- an Exit leaves which frames have stores and loads as it was told
   pub exit_told : (blocks : List Block) → AreTold storing loading (change (exit blocks) o fs n)
   exit_told blocks = subst (AreTold storing loading) (sym (exits_drop blocks o fs n))
       (stay_told k (age_of n fs) (cut_from Alike (age_of n fs) fs (change (alone (exited_alone blocks)) o fs n)
       (left_by (exit_left blocks) o fs n) (changed Alike (exited_alone blocks) (λ o f. (refl, refl)) o fs n)))
 
+  -- a Flush leaves which frames have stores and loads as it was told
   pub flush_told : AreTold storing loading (change flush o fs n)
   flush_told = subst (AreTold storing loading) (sym (flushes_drop o fs n))
       (stay_told k (age_of n fs) (cut_from Alike (age_of n fs) fs (change (alone unchanged) o fs n)
       (left_by none_left o fs n) (changed Alike unchanged (λ o f. (refl, refl)) o fs n)))
 
+  -- a Load sets the bit of its frame among those that have answered loads
   pub load_told : (m age loading2 : ℕ) → age_of n fs ≡ Some age → Sets age loading loading2
       → AreTold storing loading2 (change (alone (load m)) o fs n)
   load_told m age loading2 aged s = loaded_told k age loading2 s
       (subst (λ z. IsFrom SameStores z fs (change (alone (load m)) o fs n)) aged
       (changed SameStores (load m) (load_stores m) o fs n))
 
+  -- a Store sets the bit of its frame among those that have resolved stores
   pub store_told : (m age storing2 : ℕ) → age_of n fs ≡ Some age → Sets age storing storing2
       → AreTold storing2 loading (change (store m) o fs n)
   store_told m age storing2 aged s = subst (AreTold storing2 loading) (sym (stores_drop m o fs n))
@@ -284,6 +292,7 @@ module _ {storing loading : ℕ} (w : Window) (k : AreTold storing loading w.fra
       within (x ∷ xs) zero f e = omega arith
       within (x ∷ xs) (suc a) f e = let l = within xs a f e in omega (arith, l)
 
+  -- a Fetch leaves which frames have stores and loads as it was told, the new one having none
   pub fetch_told : (block : ℕ) (n : Option ℕ) (b : Option Block)
       → AreTold storing2 loading2 (fetched block n b w).frames
   fetch_told block None b = still

@@ -44,6 +44,7 @@ once_of (x ∷ xs) h = (
       (neither (x == get_or xs w 0) (has_item (take w xs) (get_or xs w 0)) (h (suc w) (omega arith))).1),
 )
 
+-- a block without a bad write declares each register once
 pub writes_once : (b : Block) → NoneBelow (bad_write b) (length b.writes.items) → AreOnce b.writes.items
 writes_once b h = once_of b.writes.items h
 

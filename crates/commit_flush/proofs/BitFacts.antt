@@ -16,12 +16,15 @@ no_bit s = ap (λ z. z == 1) (bit_at-zero s)
 pub bit_same : (n k i : ℕ) → k < 32 → i ≢ k → has_bit (bit_or n (1 * 2 ^ k % 2 ^ 32)) i ≡ has_bit n i
 bit_same n k i below other = ap (λ z. z == 1) (bit_at_set_other w32 n k below i other)
 
+-- a bit below 32 that is set is set
 pub bit_here : (n k : ℕ) → k < 32 → has_bit (bit_or n (1 * 2 ^ k % 2 ^ 32)) k ≡ true
 bit_here n k below = ap (λ z. z == 1) (bit_at_set_same w32 n k below)
 
+-- to set one of 128 bits leaves each other
 pub wide_same : (n k i : ℕ) → k < 128 → i ≢ k → has_bit (bit_or n (1 * 2 ^ k % 2 ^ 128)) i ≡ has_bit n i
 wide_same n k i below other = ap (λ z. z == 1) (bit_at_set_other w128 n k below i other)
 
+-- a bit below 128 that is set is set
 pub wide_here : (n k : ℕ) → k < 128 → has_bit (bit_or n (1 * 2 ^ k % 2 ^ 128)) k ≡ true
 wide_here n k below = ap (λ z. z == 1) (bit_at_set_same w128 n k below)
 
@@ -32,6 +35,7 @@ set_true v true false e w = e
 set_true v false true e w = e
 set_true v false false e w = absurd (true≢false w)
 
+-- to set a bit by what is not set leaves it
 pub set_false : (b s : Bool) → false ≡ s → b ≡ (b || s)
 set_false true true w = refl
 set_false true false w = refl
@@ -84,6 +88,7 @@ all_to w n p rest past k = go (cases_lt k n)
 pub low_same : (n k i : ℕ) → i < k → has_bit (n % 2 ^ k) i ≡ has_bit n i
 low_same n k i l = ap (λ z. z == 1) (low_part k n i l)
 
+-- of the lower k bits of a word none from k on is set
 pub low_clear : (n k i : ℕ) → k ≤ i → has_bit (n % 2 ^ k) i ≡ false
 low_clear n k i l =
     let some = pow-le-pow_right {n = 2} (omega arith) {i = 0} {j = k} (omega arith) in

@@ -272,6 +272,7 @@ module _ {image : Image} {budget : ℕ} {machine : Machine} {over : Stepped} {ph
       → slice_get (numbers_of was.frames) 0 ≡ Some n
   first_number v w n e = ap (λ (z : Seen). slice_get (numbers_of z.window.frames) 0) w ∙ e
 
+  -- where the oldest frame has a fault, Commit ends the run by its cause and empties all frames
   pub traps_told : (n c : ℕ) (k : TrapCause) → k ≡ cause_of c → (v : Seen) → seen s ≡ v
       → can v.image.blocks v.budget Commit v.window ≡ Done
       → slice_get (numbers_of v.window.frames) 0 ≡ Some n → c ≡ cause_in (frame_of n v.window.frames) → 0 < c
@@ -303,6 +304,7 @@ module _ {image : Image} {budget : ℕ} {machine : Machine} {over : Stepped} {ph
       ∙ ap (λ b. cond b (Some (outputs f)) None) h.sealed in
       same_Some o (outputs f) both
 
+  -- the outputs of a frame that may commit may be applied to the machine's state
   pub may_told : (v : Seen) → seen s ≡ v → can v.image.blocks v.budget Commit v.window ≡ Done → (n : ℕ)
       → slice_get (numbers_of v.window.frames) 0 ≡ Some n → (p : Phase) → p ≡ get_or phases n p → (o : Effects)
       → Some o ≡ outputs_in (frame_in image.blocks p) → MayApply image.blocks machine.state o
@@ -328,6 +330,7 @@ module _ {image : Image} {budget : ℕ} {machine : Machine} {over : Stepped} {ph
       ∙ frame_is s t.0 t.1 t.2 n (first_number v w n e) in
       none-some (outputs t.0) (told ∙ ap outputs_in is ∙ ap (λ b. cond b (Some (outputs t.0)) None) t.2.sealed)
 
+  -- where the oldest frame has no fault, Commit applies its outputs to the state and takes it out of the order
   pub applies_told : (v : Seen) → seen s ≡ v → can v.image.blocks v.budget Commit v.window ≡ Done → (n : ℕ)
       → slice_get (numbers_of v.window.frames) 0 ≡ Some n → cause_in (frame_of n v.window.frames) ≡ 0
       → (p q : Phase) → p ≡ get_or phases n p → (o : Effects) → Some o ≡ outputs_in (frame_in image.blocks p)

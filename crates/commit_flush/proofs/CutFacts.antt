@@ -42,6 +42,7 @@ module _ {image : Image} {budget : ℕ} {machine : Machine} {over : Stepped} {ph
   abbrev old : Window
   old = window_of image.blocks machine.state over phases order
 
+  -- to empty the frames from one on, with their registers, is the Flush of this frame
   pub flushes_told : (n a : ℕ) (v : Seen) → seen s ≡ v
       → can v.image.blocks v.budget (event.Flush n) v.window ≡ Done → Some a ≡ age_of n v.window.frames
       → (phases2 : List Phase) → IsEmptied (drop a order) phases phases2
@@ -54,6 +55,7 @@ module _ {image : Image} {budget : ℕ} {machine : Machine} {over : Stepped} {ph
       (ap (λ (z : Seen). age_of n z.window.frames) w ∙ sym age) phases2 emptied registers2
       (forgotten s a registers2 dropped same))
 
+  -- to resolve a frame's exit, and to empty the frames that it does not lead to, is its Exit
   pub exits_told : (n a : ℕ) (v : Seen) → seen s ≡ v
       → can v.image.blocks v.budget (event.Exit n) v.window ≡ Done → Some a ≡ age_of n v.window.frames
       → (k : ℕ) → k ≡ left_behind a (leads_to v.image.blocks (frame_of n v.window.frames))
@@ -89,6 +91,7 @@ module _ {image : Image} {budget : ℕ} {machine : Machine} {over : Stepped} {ph
       (λ f e. frame (seen_at o old.frames n) ∙ ap (changed (exited_alone image.blocks (seen_at o old.frames n))) e)
       has keeps phases2 emptied registers2 (forgotten s k registers2 dropped same))
 
+  -- to resolve a frame's store, and to empty the frames that took its bytes too early, is its Store
   pub stores_told : (n a m : ℕ) (v : Seen) → seen s ≡ v
       → can v.image.blocks v.budget (event.Store n m) v.window ≡ Done
       → (k : ℕ) → k ≡ left_by (store_left m) (committed v.window.state) v.window.frames n

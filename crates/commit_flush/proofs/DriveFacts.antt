@@ -39,6 +39,7 @@ turn a v u e on good ok next is = subst (IsOn a) (sym is) (record {
         × HasGenerations v.budget (happens v.image.blocks v.budget e v.window)
     steps = driven_steps v.image.blocks v.budget e v.window good ok on.room (sym next)
 
+-- the next event of a window lowers the work that is left
 pub falls : (a v u : Seen) (e : Event) → IsOn a v → AllGood v.image.blocks → WindowOk v.image.blocks v.budget v.window
     → Some e ≡ next_event v.budget v.window
     → u ≡ record v { window = happens v.image.blocks v.budget e v.window }
@@ -56,6 +57,7 @@ ends a v on none =
     ∙ ap (λ w. (let z : Seen = record a { window = w } in z))
     (sym (driven_rests v.image.blocks v.budget v.window (sym none)) ∙ on.goal)
 
+-- a window that is driven to its end comes to where the machine runs to within the budget
 pub comes_to : (a v : Seen) (o : Stepped) → v ≡ record a { window = driven a.image.blocks a.budget a.window }
     → o ≡ v.window.over → AllGood a.image.blocks → WindowOk a.image.blocks a.budget a.window
     → HasGenerations a.budget a.window → a.window.over ≡ Went

@@ -33,6 +33,7 @@ use Rattle.commit_flush.proofs.EventFacts.{below_eight, changed_slots, changed_f
 
 -- emptied frames ---------------------------------------------------------------------------------
 
+-- to empty no frame changes nothing
 pub none_emptied : (ps : List Phase) → IsEmptied [] ps ps
 none_emptied ps = record {
   size = refl;
@@ -73,12 +74,14 @@ taken_more (x ∷ xs) zero (suc a) l h = ap (λ ys. x ∷ ys) (taken_more xs zer
 taken_more (x ∷ xs) (suc from) zero l h = absurd (omega arith)
 taken_more (x ∷ xs) (suc from) (suc a) l h = taken_more xs from a (omega arith) (omega arith)
 
+-- of the first items none is left behind as many
 pub taken_none : (xs : List ℕ) (from : ℕ) → drop from (take from xs) ≡ []
 taken_none [] zero = refl
 taken_none [] (suc from) = refl
 taken_none (x ∷ xs) zero = refl
 taken_none (x ∷ xs) (suc from) = taken_none xs from
 
+-- what is left of the first items of a list that has no more is what is left of the list
 pub taken_all : (xs : List ℕ) (from a : ℕ) → length xs ≤ a → drop from (take a xs) ≡ drop from xs
 taken_all xs from a l = ap (drop from) (whole xs a l)
   where

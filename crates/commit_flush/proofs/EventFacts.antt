@@ -83,10 +83,12 @@ module _ {image : Image} {budget : ℕ} {machine : Machine} {over : Stepped} {ph
         (mapped_at number_of phases n p e ∙ ap Some (sym keeps.number))
         ∙ s.numbers
 
+    -- the number of a frame in flight is below eight
     pub below_eight : n < 8
     below_eight = let l : n < length phases = slice_get_within phases n p e in
         let eight_of : length phases ≡ 8 = eight s in omega arith
 
+    -- to change the phase of one number changes the frame of this number
     pub changed_slots : (g : Frame) → frame_in image.blocks q ≡ Some g
         → slots_of image.blocks (set phases n q) ≡ set (slots_of image.blocks phases) n (Some g)
     changed_slots g w =

@@ -47,6 +47,7 @@ block_past a b count k e c l =
     ap (λ (i : Image). is_none (slice_get i.blocks k)) (sym e)
     ∙ ap is_none (slice_get_past a.blocks k (omega arith))
 
+-- at a number below the count of blocks there is a block
 pub block_there : (a b : Image) (count k : ℕ) → a ≡ b → count ≡ length a.blocks → k < count
     → is_none (slice_get b.blocks k) ≡ false
 block_there a b count k e c l =

@@ -85,6 +85,7 @@ module _ {image : Image} {budget : ℕ} {machine : Machine} {over : Stepped} {ph
 
   -- what a fetch that is done wants of the image and of the frame ------------------------------------
 
+  -- where a Fetch may be done, there is the block that it names
   pub there_is_block : (k n : ℕ) → can image.blocks budget (Fetch k) old ≡ Done
       → (b : Block) × (slice_get image.blocks k ≡ Some b)
   there_is_block k n d =
@@ -120,6 +121,7 @@ module _ {image : Image} {budget : ℕ} {machine : Machine} {over : Stepped} {ph
   pub one_fits : (n : ℕ) → free_number old.frames ≡ Some n → length order < 8
   one_fits n free = let t = free_apart n free in room_for order n s.kept.once t.0 t.1
 
+  -- each block of the image fits
   pub fits_block : (k : ℕ) (b : Block) → slice_get image.blocks k ≡ Some b → FitsBlock b
   fits_block k b e = (good s k b e).fits
 
@@ -145,6 +147,7 @@ module _ {image : Image} {budget : ℕ} {machine : Machine} {over : Stepped} {ph
       (λ a x. ap (λ z. z a x) (two ∙ ap (λ z. declare registers z writes) aged
       ∙ ap (declare registers (length order)) writes_are))
 
+  -- the lowest free number of the window that is seen is that of the window in code
   pub free_seen : (v : Seen) → seen s ≡ v → (n : ℕ) → Some n ≡ free_number v.window.frames
       → free_number old.frames ≡ Some n
   free_seen v w n free = ap (λ (z : Seen). free_number z.window.frames) w ∙ sym free

@@ -184,15 +184,18 @@ module _ (v u : Seen) (ok : WindowOk v.image.blocks v.budget v.window) where
       (from_here v.image.blocks good v.budget es v.window ok went)
 
   module _ (e : Event) (is : u ≡ record v { window = happens v.image.blocks v.budget e v.window }) where
+    -- an event other than Commit leaves the committed state
     pub stays_seen : e ≢ event.Commit → u.window.state ≡ v.window.state
     stays_seen n = ap (λ (z : Seen). z.window.state) is ∙ state_stays v.image.blocks v.budget e v.window n
 
+    -- an event that may flush leaves nothing of the frames that it flushes
     pub flushed_seen : can v.image.blocks v.budget e v.window ≡ Done → MayFlush e u.window.over
         → LeavesNothing (left_of v.image.blocks e v.window) v.window.frames u.window.frames
     flushed_seen d t = subst (λ (z : Seen). MayFlush e z.window.over
         → LeavesNothing (left_of v.image.blocks e v.window) v.window.frames z.window.frames) (sym is)
         (leaves v.image.blocks v.budget v.window ok e d) t
 
+    -- where the run has ended, an event changes nothing
     pub rests_seen : v.window.over ≢ stepped.Went → u ≡ v
     rests_seen n = is ∙ ap (λ (x : Window). (let z : Seen = record v { window = x } in z))
         (rests v.image.blocks v.budget v.window ok e n)
@@ -204,6 +207,7 @@ all_rest blocks budget [] w ok n = refl
 all_rest blocks budget (e ∷ es) w ok n = ap (plays blocks budget es) (rests blocks budget w ok e n)
     ∙ all_rest blocks budget es w ok n
 
+-- where the run has ended, no events change anything
 pub all_rest_seen : (v u : Seen) (es : List Event) → WindowOk v.image.blocks v.budget v.window
     → v.window.over ≢ stepped.Went → u ≡ record v { window = plays v.image.blocks v.budget es v.window } → u ≡ v
 all_rest_seen v u es ok n is = is ∙ ap (λ (x : Window). (let z : Seen = record v { window = x } in z))

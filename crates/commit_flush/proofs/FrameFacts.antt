@@ -143,6 +143,7 @@ oldest [] n e = absurd (cc)
 oldest (f ∷ fs) n e =
     let same : f.number ≡ n = cc in ap (λ b. cond b (Some f) (frame_of n fs)) (is_equal f.number n same)
 
+-- where no number is the oldest frame's, no frame is in flight
 pub none_oldest : (fs : List Frame) → slice_get (numbers_of fs) 0 ≡ None → fs ≡ []
 none_oldest [] e = refl
 none_oldest (f ∷ fs) e = absurd (cc)

@@ -21,6 +21,7 @@ unseen stores mem none (suc k) a =
 memory_after : (f : Frame) (o : Older) → NoStores f → (after f o).memory ≡ o.memory
 memory_after f o none = fun_ext (λ a. unseen (at f.stores) o.memory none numbers a)
 
+-- frames without stores leave the bytes that are seen behind them
 pub memory_gap : (fs : List Frame) (o : Older) (low high : ℕ) → low ≤ high → NoneStores low high fs
     → (after_all (take high fs) o).memory ≡ (after_all (take low fs) o).memory
 memory_gap [] o zero zero l none = refl
@@ -59,6 +60,7 @@ one_passed touched f fs stores loads =
     (not_violated (λ n. passes (at f.stores) n touched) f.loads loads)
     ∙ ap (λ t. suc (untouched t fs)) (fun_ext (λ a. all_pass (at f.stores) touched stores numbers a))
 
+-- frames without stores and loads are passed over by the count of frames that touched bytes leave
 pub untouched_gap : (touched : ℕ → Bool) (fs : List Frame) (low high : ℕ) → low ≤ high → high ≤ length fs
     → NoneStores low high fs → NoneLoads low high fs
     → low + untouched touched (drop low fs) ≡ high + untouched touched (drop high fs)
@@ -87,6 +89,7 @@ pub none_stores : (word : ℕ) (fs : List Frame) → WhereClear NoStores word fs
     → ((a : ℕ) → low ≤ a → a < high → has_bit word a ≡ false) → NoneStores low high fs
 none_stores word fs k low high none a f from below e = k a f e (none a from below)
 
+-- frames whose bits are clear in the word of loads have none
 pub none_loads : (word : ℕ) (fs : List Frame) → WhereClear NoLoads word fs → (low high : ℕ)
     → ((a : ℕ) → low ≤ a → a < high → has_bit word a ≡ false) → NoneLoads low high fs
 none_loads word fs k low high none a f from below e = k a f e (none a from below)

@@ -22,6 +22,7 @@ sent_held : (x p : ℕ) (t : Answer) (f : Frame) (r : ℕ) → held (send x p t 
 sent_held x p None f r = refl
 sent_held x p (Some t) f r = refl
 
+-- a Read leaves what a frame has for each register
 pub read_held : (q : ℕ) (o : Older) (f : Frame) (r : ℕ) → held (read q o f) r ≡ held f r
 read_held q o f r = go (read_seen o (slice_get f.code.reads.items q))
   where
@@ -29,6 +30,7 @@ read_held q o f r = go (read_seen o (slice_get f.code.reads.items q))
     go None = refl
     go (Some v) = sent_held q (256 + 2 * q) (token_with f q v) (record f { reads = set f.reads q true }) r
 
+-- a Fire leaves what a frame has for each register
 pub fire_held : (s : ℕ) (o : Older) (f : Frame) (r : ℕ) → held (fire s o f) r ≡ held f r
 fire_held s o f r = inst (slot_of f.code s)
   where
@@ -44,6 +46,7 @@ fire_held s o f r = inst (slot_of f.code s)
     inst None = refl
     inst (Some i) = form (form_of i.op) i
 
+-- a Load leaves what a frame has for each register
 pub load_held : (n : ℕ) (o : Older) (f : Frame) (r : ℕ) → held (load n o f) r ≡ held f r
 load_held n o f r = go (request f n)
   where
@@ -54,9 +57,11 @@ load_held n o f r = go (request f n)
       loads = set f.loads n (Some (taken_of q.1 (at f.spots q.0)));
     }) r
 
+-- a Seal leaves what a frame has for each register
 pub seal_held : (o : Older) (f : Frame) (r : ℕ) → held (seal o f) r ≡ held f r
 seal_held o f r = refl
 
+-- a Store leaves what a frame has for each register
 pub store_held : (n : ℕ) (o : Older) (f : Frame) (r : ℕ) → held (stored_alone n o f) r ≡ held f r
 store_held n o f r = go (request f n)
   where
@@ -64,5 +69,6 @@ store_held n o f r = go (request f n)
     go None = refl
     go (Some q) = refl
 
+-- an Exit leaves what a frame has for each register
 pub exit_held : (blocks : List Block) (o : Older) (f : Frame) (r : ℕ) → held (exited_alone blocks o f) r ≡ held f r
 exit_held blocks o f r = refl

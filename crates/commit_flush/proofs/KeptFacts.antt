@@ -360,6 +360,7 @@ pub oldest_left : (slots : List (Option Frame)) (n : ℕ) (order : List ℕ) (re
     → AreKept slots (n ∷ order) registers → by_age (set slots n None) order ≡ by_age slots order
 oldest_left slots n order registers kept = unnamed slots order n None kept.once.1
 
+-- where the frames from age k on are cleared, the frames by age are the first k
 pub youngest_left : (slots : List (Option Frame)) (order : List ℕ) (registers : Ages) → AreKept slots order registers
     → (k : ℕ) → by_age (cleared (drop k order) slots) (take k order) ≡ take k (by_age slots order)
 youngest_left slots order registers kept k =

@@ -6,14 +6,17 @@ use Rattle.frame_state.specs.inside.Held.{Held, as_frame, running}
 use Rattle.frame_state.specs.inside.Phases.{IsIdle}
 use Rattle.frame_state.specs.inside.Told.{is_sealed_in}
 
+-- a frame that is sealed does not run
 pub sealed_idle : (z : Option Frame) → true ≡ is_sealed_in z → IsIdle z
 sealed_idle None e = tt
 sealed_idle (Some f) e = sym e
 
+-- where there is no frame, none runs
 pub none_idle : (z : Option Frame) → z ≡ None → IsIdle z
 none_idle None e = tt
 none_idle (Some f) e = absurd (cc)
 
+-- a frame that is not sealed runs
 pub open_runs : (z : Option Frame) (b : Block) (h : Held) (s : Bool) → z ≡ Some (as_frame s b h)
     → false ≡ is_sealed_in z → z ≡ Some (running b h)
 open_runs z b h s e runs =

@@ -3,7 +3,7 @@ use Rattle.std.proofs.Common.{◌≡◌, ℕ, suc, ◌+◌, ◌<◌, ◌≤◌, 
 use Rattle.std.proofs.Common.{List, [], ◌∷◌, Option, Some, None, take, slice_get, refl, sym, ap, ◌∙◌, subst, arith}
 use Rattle.std.proofs.lemmas.Bool.Decides.{nat_tests}
 use Rattle.trips_isa.specs.declared.op.Op.{Op}
-use Rattle.trips_isa.specs.declared.op.Op.TheVariants.{Sb, Sh, Sw, Sd, Lb, Lbs, Lh, Lhs, Lw, Lws, Ld}
+use Rattle.trips_isa.specs.declared.op.Op.TheVariants.{Sb}
 use Rattle.trips_isa.specs.declared.block.Token.TheVariants.{Null, Word}
 use Rattle.trips_isa.specs.declared.block.Inst.{Inst}
 use Rattle.trips_isa.specs.Forms.{size_of}
@@ -25,16 +25,6 @@ use Rattle.frame_state.specs.inside.Told.{taken_by, waiting_load}
 
 pub small_size : (op : Op) → size_of op ≤ 8
 small_size Sb = omega arith
-small_size Sh = omega arith
-small_size Sw = omega arith
-small_size Sd = omega arith
-small_size Lb = omega arith
-small_size Lbs = omega arith
-small_size Lh = omega arith
-small_size Lhs = omega arith
-small_size Lw = omega arith
-small_size Lws = omega arith
-small_size Ld = omega arith
 small_size _ = omega arith
 
 good_bound : (a size : ℕ) → is_good_address a size ≡ true → a + size ≤ data_size

@@ -78,6 +78,7 @@ from_place test m a l off e =
     e ∙ sym (behind test 0 m 320 (omega arith) l (λ i x y. off i y))
     ∙ (let z : 320 - 0 ≡ places = omega (arith, places_are) in ap (λ n. lowest test n 0) z)
 
+-- where no place of 320 passes a test, none is the lowest
 pub no_place : (test : ℕ → Bool) (m : ℕ) → m ≡ 320 → ((p : ℕ) → p < m → test p ≡ false)
     → None ≡ lowest test places 0
 no_place test m e off =
@@ -110,15 +111,18 @@ module _ (test : ℕ → Bool) (v a w b : ℕ) (low : IsLowestBit v a) (high : I
     | inr h ↦ above i h l m
   ]
 
+  -- where the lower word of two has no bit and the upper has one, the lowest slot is that of the upper
   pub by_high : 64 ≤ a → b < 64 → Some (64 + b) ≡ lowest test slots 0
   by_high full l = slot_found test (64 + b) (omega (arith, l)) (sym (highs b l) ∙ high.found l)
       (λ i m. both full i m (omega (arith, l, m)))
 
+  -- where neither of two words has a bit, no slot is the lowest
   pub by_none : 64 ≤ a → 64 ≤ b → None ≡ lowest test slots 0
   by_none full done =
       sym (none_between test 0 128 (omega arith) (λ i x y. both full i (omega (arith, y, done)) y))
       ∙ (let z : 128 - 0 ≡ slots = omega (arith, slots_are) in ap (λ n. lowest test n 0) z)
 
+-- where the lower word has a bit, the lowest slot is that of it
 pub by_low : (test : ℕ → Bool) (v a : ℕ) → IsLowestBit v a
     → ((s : ℕ) → s < 64 → has_bit v s ≡ test (64 * 0 + s)) → a < 64 → Some a ≡ lowest test slots 0
 by_low test v a low lows l =

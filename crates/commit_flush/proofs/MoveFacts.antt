@@ -66,6 +66,7 @@ module _ {image : Image} {budget : ℕ} {machine : Machine} {over : Stepped} {ph
 
   -- events -----------------------------------------------------------------------------------------
 
+  -- to fire an instruction of a frame is the Fire of the window
   pub fires : (n slot : ℕ) → can image.blocks budget (event.Fire n slot) old ≡ Done → (p q : Phase)
       → p ≡ get_or phases n p
       → ((o : Older) → frame_in image.blocks q ≡ changed (fire slot o) (frame_in image.blocks p))
@@ -95,6 +96,7 @@ module _ {image : Image} {budget : ℕ} {machine : Machine} {over : Stepped} {ph
       (sym (found s n p (read_phase s n p l r))) word)
       ∙ ap (changed (load m (seen_at (committed machine.state) old.frames n))) w) has keeps
 
+  -- to seal a frame is the Seal of the window
   pub seals : (n : ℕ) → can image.blocks budget (event.Seal n) old ≡ Done → (p q : Phase)
       → p ≡ get_or phases n p
       → ((o : Older) → frame_in image.blocks q ≡ changed (sealed_if o) (frame_in image.blocks p))
@@ -151,6 +153,7 @@ module _ {image : Image} {budget : ℕ} {machine : Machine} {over : Stepped} {ph
 
   -- the same with what is known of the window that is seen -------------------------------------------
 
+  -- to answer a load of a frame with the word that it sees is the Load of the window
   pub loads_seen : (n m bytes : ℕ) (v : Seen) → seen s ≡ v
       → can v.image.blocks v.budget (event.Load n m) v.window ≡ Done → (p q : Phase) → p ≡ get_or phases n p
       → IsWord (seen_at (committed v.window.state) v.window.frames n) m bytes (frame_of n v.window.frames)
@@ -167,6 +170,7 @@ module _ {image : Image} {budget : ℕ} {machine : Machine} {over : Stepped} {ph
   IsKnown n r word z = (f : Frame) → frame_of n z.window.frames ≡ Some f → Some word
       ≡ read_seen (seen_at (committed z.window.state) z.window.frames n) (slice_get f.code.reads.items r)
 
+  -- to answer a read of a frame with the word that it sees is the Read of the window
   pub reads_seen : (n r word : ℕ) (v : Seen) → seen s ≡ v
       → can v.image.blocks v.budget (event.Read n r) v.window ≡ Done → (p q : Phase) → p ≡ get_or phases n p
       → ((f : Frame) → frame_of n v.window.frames ≡ Some f → Some word
@@ -177,6 +181,7 @@ module _ {image : Image} {budget : ℕ} {machine : Machine} {over : Stepped} {ph
   reads_seen n r word v w d p q g known frame has keeps =
       reads n r word (inside (event.Read n r) v w d) p q g (subst (IsKnown n r word) (sym w) known) frame has keeps
 
+  -- a read that may be answered is one that its frame declares
   pub declares_seen : (n r word : ℕ) (v : Seen) → seen s ≡ v
       → can v.image.blocks v.budget (event.Read n r) v.window ≡ Done → (p : Phase) → p ≡ get_or phases n p
       → ((f : Frame) → frame_of n v.window.frames ≡ Some f → Some word

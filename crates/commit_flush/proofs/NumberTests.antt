@@ -20,6 +20,7 @@ apart a b ne = go (a == b) refl
     go true e = absurd (ne (equal_is a b e))
     go false e = e
 
+-- numbers that test as not equal differ
 pub are_apart : (a b : ℕ) → (a == b) ≡ false → a ≢ b
 are_apart a b e same = true≢false (sym (is_equal a b same) ∙ e)
 
@@ -27,6 +28,7 @@ are_apart a b e same = true≢false (sym (is_equal a b same) ∙ e)
 pub flipped : (a b : ℕ) → (a == b) ≡ false → (b == a) ≡ false
 flipped a b e = apart b a (λ z. are_apart a b e (sym z))
 
+-- two numbers are equal where those one higher are
 pub same_suc : (a b : ℕ) → (suc a == suc b) ≡ (a == b)
 same_suc a b = go (a == b) refl
   where
@@ -34,9 +36,11 @@ same_suc a b = go (a == b) refl
     go true e = is_equal (suc a) (suc b) (ap suc (equal_is a b e))
     go false e = apart (suc a) (suc b) (λ z. let same : a ≡ b = omega arith in are_apart a b e same)
 
+-- of a lesser number the test of less is true
 pub below : (a b : ℕ) → a < b → nat_lt a b ≡ true
 below a b l = grind (arith, nat_tests)
 
+-- of a number that is not less the test of less is false
 pub not_below : (a b : ℕ) → b ≤ a → nat_lt a b ≡ false
 not_below a b l = go (nat_lt a b) refl
   where
@@ -44,6 +48,7 @@ not_below a b l = go (nat_lt a b) refl
     go true e = let bad : a < b = grind (arith, nat_tests) in absurd (omega arith)
     go false e = e
 
+-- where the test of less is true, the one number is less than the other
 pub below_is : (a b : ℕ) → nat_lt a b ≡ true → a < b
 below_is a b e = grind (arith, nat_tests)
 

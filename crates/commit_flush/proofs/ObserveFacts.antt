@@ -32,14 +32,17 @@ use Rattle.commit_flush.specs.inside.Observed.{unread_in, waits_in}
 
 -- where no frame runs ----------------------------------------------------------------------------
 
+-- where no frame runs, nothing waits with a number
 pub idle_waits : (n : ℕ) (z : Option Frame) → IsIdle z → waits_in n z ≡ false
 idle_waits n None i = refl
 idle_waits n (Some f) i = ap (λ s. not s && is_request is_access (request f n)) i
 
+-- where no frame runs, no address is told
 pub idle_address : (n : ℕ) (z : Option Frame) → IsIdle z → address_in n z ≡ None
 idle_address n None i = refl
 idle_address n (Some f) i = ap (λ s. cond s None (address_by f (request f n))) i
 
+-- where no frame runs, no output is missing
 pub idle_lack : (z : Option Frame) → IsIdle z → lack_in z ≡ None
 idle_lack None i = refl
 idle_lack (Some f) i = ap (λ s. cond s None (least_lack f)) i
@@ -48,10 +51,12 @@ or_true : (b : Bool) → (true || b) ≡ true
 or_true true = refl
 or_true false = refl
 
+-- where no frame runs, all outputs are there
 pub idle_whole : (z : Option Frame) → IsIdle z → is_whole_in z ≡ true
 idle_whole None i = refl
 idle_whole (Some f) i = ap (λ s. s || complete f) i ∙ or_true (complete f)
 
+-- where no frame runs, no read waits
 pub idle_unread : (r : ℕ) (z : Option Frame) → IsIdle z → unread_in r z ≡ false
 idle_unread r None i = refl
 idle_unread r (Some f) i =

@@ -47,6 +47,7 @@ numbers_are slots (n ∷ ns) named t =
     ap (λ h. numbers_of (before h (by_age slots ns))) t.0.1
     ∙ ap₂ (λ x xs. x ∷ xs) (named n t.0.0 t.0.1) (numbers_are slots ns named t.1)
 
+-- the frames of two lists of numbers are those of the first and those of the second
 pub by_age_append : (slots : List (Option Frame)) (xs ys : List ℕ)
     → by_age slots (xs ++ ys) ≡ by_age slots xs ++ by_age slots ys
 by_age_append slots [] ys = refl
@@ -178,15 +179,18 @@ lowest_none (suc k) m fs all =
     ap (λ b. cond b (lowest_empty k (suc m) fs) (Some m)) (all m (omega arith) (omega arith))
     ∙ lowest_none k (suc m) fs (λ j p q. all j (omega arith) (omega arith))
 
+-- where all numbers below n are in flight and n is not, n is the lowest free one
 pub free_found : (fs : List Frame) (n : ℕ) → ((j : ℕ) → j < n → in_flight j fs ≡ true) → n < 8
     → in_flight n fs ≡ false → free_number fs ≡ Some n
 unfolding free_number
 free_found fs n all h e = lowest_found 8 0 fs n (λ j p q. all j q) (omega arith) (omega arith) e
 
+-- where all eight numbers are in flight, none is free
 pub none_free : (fs : List Frame) → ((j : ℕ) → j < 8 → in_flight j fs ≡ true) → free_number fs ≡ None
 unfolding free_number
 none_free fs all = lowest_none 8 0 fs (λ j p q. all j (omega arith))
 
+-- the lowest free number is the lowest of eight at which no frame is in flight
 pub free_is : (fs : List Frame) → free_number fs ≡ lowest_empty 8 0 fs
 unfolding free_number
 free_is fs = refl

@@ -52,6 +52,7 @@ module _ {image : Image} {budget : ℕ} {machine : Machine} {over : Stepped} {ph
       subst (λ (z : Seen). frame_in z.image.blocks p ≡ frame_of n z.window.frames) e
       (found s n p (read_phase n p l r))
 
+  -- the phase at a number has a block of the image
   pub phase_block : (v : Seen) → seen ≡ v → (n : ℕ) (p : Phase) → n < 8 → p ≡ get_or phases n p
       → HasBlock v.image.blocks p
   phase_block v e n p l r =
@@ -61,6 +62,7 @@ module _ {image : Image} {budget : ℕ} {machine : Machine} {over : Stepped} {ph
   pub phase_past : (v : Seen) → seen ≡ v → (n : ℕ) → 8 ≤ n → frame_of n v.window.frames ≡ None
   phase_past v e n l = subst (λ (z : Seen). frame_of n z.window.frames ≡ None) e (not_found s n l)
 
+  -- a frame in flight has a block that can run
   pub phase_runs : (v : Seen) → seen ≡ v → (n : ℕ) (f : Frame) → frame_of n v.window.frames ≡ Some f
       → IsRunnable f.code
   phase_runs v e n f w =
@@ -71,6 +73,7 @@ module _ {image : Image} {budget : ℕ} {machine : Machine} {over : Stepped} {ph
   pub age_below : (a n : ℕ) → slice_get order a ≡ Some n → n < 8
   age_below a n e = number_below order s.kept.once a n e
 
+  -- the frame of the number at an age is the frame of this age
   pub age_found : (v : Seen) → seen ≡ v → (a n : ℕ) (p : Phase) → slice_get order a ≡ Some n → p ≡ get_or phases n p
       → frame_in v.image.blocks p ≡ slice_get v.window.frames a
   age_found v e a n p o r =
@@ -79,10 +82,12 @@ module _ {image : Image} {budget : ℕ} {machine : Machine} {over : Stepped} {ph
       ∙ ap (slot_at (slots_of image.blocks phases)) (sym o)
       ∙ sym (frame_at (slots_of image.blocks phases) order s.kept.there a))
 
+  -- the phase of the number at an age has a block of the image
   pub age_block : (v : Seen) → seen ≡ v → (a n : ℕ) (p : Phase) → slice_get order a ≡ Some n → p ≡ get_or phases n p
       → HasBlock v.image.blocks p
   age_block v e a n p o r = phase_block v e n p (age_below a n o) r
 
+  -- past the last age there is no frame
   pub age_past : (v : Seen) → seen ≡ v → (a : ℕ) → slice_get order a ≡ None → slice_get v.window.frames a ≡ None
   age_past v e a o =
       ap (λ (z : Seen). slice_get z.window.frames a) (sym e)
@@ -109,6 +114,7 @@ is_youngest fs (suc n) z e ne w =
         deeper h hs None y = absurd y
         deeper h hs (Some f) y = (suc y.0, y.1, ap suc y.2)
 
+-- of no length there are no frames
 pub none_flies : (fs : List Frame) → length fs ≡ 0 → fs ≡ []
 none_flies [] e = refl
 none_flies (f ∷ fs) e = absurd (omega arith)
@@ -119,6 +125,7 @@ pub known_behind : (z : Option Frame) (fs : List Frame) (o : Older) → IsYounge
 known_behind None fs o y = absurd y
 known_behind (Some f) fs o y = sym (ap (λ (p : Older). p.known) (youngest fs o y.0 f y.1 y.2))
 
+-- the frames are serial behind the youngest where this is so of it
 pub serial_behind : (z : Option Frame) (fs : List Frame) (o : Older) → IsYoungest z fs
     → is_serial_in z ≡ (after_all fs o).serial
 serial_behind None fs o y = absurd y
@@ -126,6 +133,7 @@ serial_behind (Some f) fs o y = sym (ap (λ (p : Older). p.serial) (youngest fs 
 
 -- the oldest -------------------------------------------------------------------------------------
 
+-- the frames are sealed where the first one is
 pub sealed_first : (z : Option Frame) (fs : List Frame) → z ≡ slice_get fs 0 → is_sealed_in z ≡ is_sealed fs
 sealed_first z [] e = ap is_sealed_in e
 sealed_first z (f ∷ fs) e = ap is_sealed_in e

@@ -56,6 +56,7 @@ le_false a b l = go (nat_le a b) refl
     go false i = refl
     go true i = absurd (let e : a ≤ b = grind (arith, nat_tests) in omega (arith, e, l))
 
+-- while the budget is not spent and the run goes on, the next event is the one that frames and state call for
 pub unspent : (budget : ℕ) (w : Window) → length w.state.trace < budget → w.over ≡ Went
     → next_in w.frames w.state ≡ next_event budget w
 unspent budget w l went =

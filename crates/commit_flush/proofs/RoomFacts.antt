@@ -28,6 +28,7 @@ most_work blocks budget w ok =
 fits : (g n b p q r : ℕ) → g < p → n ≤ b * 1638 + 1637 → b < q → p + q * 1638 ≤ r → g + n < r
 fits g n b p q r a c d e = omega (arith, a, c, d, e)
 
+-- below 2 ^ 62 a generation can rise as often as events are left
 pub has_generations : (blocks : List Block) (budget : ℕ) (w : Window) → WindowOk blocks budget w → budget < 2 ^ 32
     → slice_index w.generations 0 < 2 ^ 62 → HasGenerations budget w
 has_generations blocks budget w ok small young =

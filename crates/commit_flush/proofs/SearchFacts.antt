@@ -62,6 +62,7 @@ split test k m t a b =
     ap (λ n. lowest test n k) all ∙ parts test (m - k) (t - m) k
     ∙ ap (λ x. or_else (lowest test (m - k) k) (lowest test (t - m) x)) here
 
+-- where no number from k up to t passes a test, none is the lowest
 pub none_between : (test : ℕ → Bool) (k t : ℕ) → k ≤ t → ((i : ℕ) → k ≤ i → i < t → test i ≡ false)
     → lowest test (t - k) k ≡ None
 none_between test k t l h = nothing test (t - k) k (λ i a b. h i a (omega (arith, l, b)))
@@ -102,5 +103,6 @@ of_reads test x a l off e =
 pub of_numbers : (test : ℕ → Bool) (a : Option ℕ) → a ≡ lowest test (32 - 0) 0 → a ≡ lowest test numbers 0
 of_numbers test a e = whole test 32 numbers a e (sym numbers_are)
 
+-- where none of 32 numbers passes a test, none is the lowest
 pub no_number : (test : ℕ → Bool) → ((k : ℕ) → k < 32 → test k ≡ false) → None ≡ lowest test numbers 0
 no_number test off = of_numbers test None (sym (none_between test 0 32 (omega arith) (λ i a b. off i b)))

@@ -89,6 +89,7 @@ module _ {image : Image} {budget : ℕ} {machine : Machine} {over : Stepped} {ph
   pub count_seen : length (flying image.blocks phases order) ≡ length order
   count_seen = count (slots_of image.blocks phases) order s.kept.there
 
+  -- at most eight frames are in flight
   pub few : length order ≤ 8
   few = at_most_eight order s.kept.once
 

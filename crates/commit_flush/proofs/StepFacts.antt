@@ -30,10 +30,12 @@ pub slots_are : slots ≡ 128
 unfolding slots
 slots_are = refl
 
+-- a block has at most 32 reads
 pub reads_are : reads ≡ 32
 unfolding reads
 reads_are = refl
 
+-- a frame has 320 places for tokens on their way
 pub places_are : places ≡ 320
 unfolding places
 places_are = refl
@@ -96,6 +98,7 @@ not_asked false y e = refl
 
 -- what may not be taken ---------------------------------------------------------------------------
 
+-- where no token stands in a place, none is delivered from it next
 pub place_off : (b : Block) (h : Held) (o : Older) (p : ℕ) → at h.places p ≡ None
     → is_next Token o (running b h) p ≡ false
 place_off b h o p e =
@@ -127,6 +130,7 @@ pub store_off : (b : Block) (h : Held) (o : Older) (k : ℕ) → at h.requests k
     → is_next Store o (running b h) k ≡ false
 store_off b h o k e = no_request is_store b (at h.requests k) _ e
 
+-- where no load waits with a number, none is answered next
 pub load_off : (b : Block) (h : Held) (o : Older) (k : ℕ) → at h.requests k ≡ None
     → is_next Load o (running b h) k ≡ false
 load_off b h o k e = no_request is_load b (at h.requests k) _ e
@@ -139,6 +143,7 @@ ready_is true (Some v) = refl
 ready_is false None = refl
 ready_is false (Some v) = refl
 
+-- an instruction is ready where it may be fired next
 pub ready_next : (b : Block) (h : Held) (o : Older) (k : ℕ)
     → is_ready (running b h) k ≡ is_next Firing o (running b h) k
 ready_next b h o k = ready_is (is_none (slot_of b k) || slice_index_or h.fired k false)
@@ -149,15 +154,19 @@ ready_next b h o k = ready_is (is_none (slot_of b k) || slice_index_or h.fired k
 at_step : (t u : Step) (k : ℕ) → t ≡ u → k < count_of t → k < count_of u
 at_step t u k e l = subst (λ s. k < count_of s) e l
 
+-- a slot that may fire is below 128
 pub firing_below : (t : Step) (k : ℕ) → t ≡ Firing → k < count_of t → k < 128
 firing_below t k e l = let b = at_step t Firing k e l in let z = slots_are in omega (arith, b, z)
 
+-- a read is below 32
 pub read_below : (t : Step) (k : ℕ) → t ≡ Read → k < count_of t → k < 32
 read_below t k e l = let b = at_step t Read k e l in let z = reads_are in omega (arith, b, z)
 
+-- a store's number is below 32
 pub store_below : (t : Step) (k : ℕ) → t ≡ Store → k < count_of t → k < 32
 store_below t k e l = let b = at_step t Store k e l in let z = numbers_are in omega (arith, b, z)
 
+-- a load's number is below 32
 pub load_below : (t : Step) (k : ℕ) → t ≡ Load → k < count_of t → k < 32
 load_below t k e l = let b = at_step t Load k e l in let z = numbers_are in omega (arith, b, z)
 
@@ -165,14 +174,18 @@ load_below t k e l = let b = at_step t Load k e l in let z = numbers_are in omeg
 pub counts_places : (t : Step) (n : ℕ) → t ≡ Token → n ≡ 320 → n ≡ count_of t
 counts_places t n e m = m ∙ sym places_are ∙ ap count_of (sym e)
 
+-- there are 128 slots to fire
 pub counts_slots : (t : Step) (n : ℕ) → t ≡ Firing → n ≡ 128 → n ≡ count_of t
 counts_slots t n e m = m ∙ sym slots_are ∙ ap count_of (sym e)
 
+-- there are 32 reads
 pub counts_reads : (t : Step) (n : ℕ) → t ≡ Read → n ≡ 32 → n ≡ count_of t
 counts_reads t n e m = m ∙ sym reads_are ∙ ap count_of (sym e)
 
+-- there are 32 numbers of stores
 pub counts_stores : (t : Step) (n : ℕ) → t ≡ Store → n ≡ 32 → n ≡ count_of t
 counts_stores t n e m = m ∙ sym numbers_are ∙ ap count_of (sym e)
 
+-- there are 32 numbers of loads
 pub counts_loads : (t : Step) (n : ℕ) → t ≡ Load → n ≡ 32 → n ≡ count_of t
 counts_loads t n e m = m ∙ sym numbers_are ∙ ap count_of (sym e)

@@ -85,6 +85,7 @@ module _ {image : Image} {budget : ℕ} {machine : Machine} {over : Stepped} {ph
   abbrev old : Window
   old = window_of image.blocks machine.state over phases order
 
+  -- of a store that may be done its frame, its number and its bytes are found
   pub store_found : (n a m : ℕ) (v : Seen) → seen s ≡ v
       → can v.image.blocks v.budget (event.Store n m) v.window ≡ Done → age_of n v.window.frames ≡ Some a
       → StoreFound v n a m
@@ -124,6 +125,7 @@ module _ (fs : List Frame) (a : ℕ) (f : Frame) (touched : ℕ → Bool) (found
       (found_is (at f.stores) f.loads touched 0 found finds refl size)
       (λ h x. is h x ∙ left_is (at f.stores) touched 0 x refl)
 
+  -- where no load of a frame took a touched byte, the count of frames that are left goes on behind it
   pub more_left : is_some found ≡ false
       → a + untouched touched (drop a fs) ≡ (a + 1) + untouched left (drop (a + 1) fs)
   more_left h =
@@ -133,6 +135,7 @@ module _ (fs : List Frame) (a : ℕ) (f : Frame) (touched : ℕ → Bool) (found
       ap (λ j. a + j) (one_more ∙ ap (λ b. cond b 0 (suc k)) h)
       ∙ sum ∙ ap (λ j. (a + 1) + untouched left (drop j fs)) next
 
+  -- where a load of a frame took a touched byte, the count of frames that are left ends before it
   pub none_left : is_some found ≡ true → a + untouched touched (drop a fs) ≡ a
   none_left h =
       let none : a + 0 ≡ a = omega arith in

@@ -106,6 +106,7 @@ module _ {image : Image} {budget : ℕ} {machine : Machine} {over : Stepped} {ph
       subst (λ xs. Turns image budget old e (NotNow c) machine over xs order registers)
       (sym (set_stays phases n q (is ∙ ap Some (sym same)))) (unturned e c a)
 
+  -- to try to fire an instruction is a turn of the window with the Fire of it
   pub fired : (n slot : ℕ) → over ≡ Went → n < 8 → (h : Happened) (p q : Phase) → p ≡ get_or phases n p
       → ((o : Older) → h ≡ answered (NotNow NoFrame) (can_fire slot) o (frame_in image.blocks p))
       → ((o : Older) → frame_in image.blocks q ≡ changed (tried h (fire slot o)) (frame_in image.blocks p))
@@ -132,6 +133,7 @@ module _ {image : Image} {budget : ℕ} {machine : Machine} {over : Stepped} {ph
       (sym (none_asked (NotNow NoFrame) (can_fire slot) n old.frames (committed machine.state) (not_found s n l))
       ∙ now_is over (can_now image.blocks budget (event.Fire n slot) old) went)
 
+  -- a token of a frame past the eighth is not delivered, and nothing changes
   pub not_delivered : (token : ℕ) → over ≡ Went → 8 ≤ token / token_places
       → Turns image budget old (Deliver token) (NotNow NoToken) machine over phases order registers
   not_delivered token went l = unturned (Deliver token) NoToken
@@ -212,13 +214,16 @@ module _ {image : Image} {budget : ℕ} {machine : Machine} {over : Stepped} {ph
 
   -- what is seen of it ----------------------------------------------------------------------------
 
+  -- where the window that is seen goes on, the window in code does
   pub went_inside : (v : Seen) → seen s ≡ v → v.window.over ≡ Went → over ≡ Went
   went_inside v w e = ap (λ (z : Seen). z.window.over) w ∙ e
 
+  -- what an event is answered of the window in code it is answered of the window that is seen
   pub told : (e : Event) (h : Happened) (v : Seen) → seen s ≡ v → h ≡ can image.blocks budget e old
       → h ≡ can v.image.blocks v.budget e v.window
   told e h v w a = a ∙ ap (λ (z : Seen). can z.image.blocks z.budget e z.window) w
 
+  -- what an event makes of the window in code is seen as what it makes of the window that is seen
   pub shown : (e : Event) (v : Seen) → seen s ≡ v → (new : Window) → new ≡ happens image.blocks budget e old
       → (let z : Seen = record { image = image; budget = budget; window = new } in z)
       ≡ record v { window = happens v.image.blocks v.budget e v.window }

@@ -14,7 +14,7 @@ ghost use Rattle.commit_flush.specs.declared.step.Step.TheVariants as step;
 
 use crate::step::Step;
 use frame_state::Body;
-use trips_isa::{Block, FIRST_STORE, Form, Inst, form_of};
+use trips_isa::{Block, FIRST_STORE, Form, Inst, form_of, in_mask};
 
 // Whether tokens are delivered to a place of a block.
 fn is_target(place: usize) -> bool
@@ -83,13 +83,6 @@ fn is_store(held: &Body, block: &Block, number: u8) -> bool
     } else {
         false
     }
-}
-
-// Whether a mask has a store number.
-fn in_mask(mask: u32, number: u8) -> bool
-    ensures { result ≡ in_mask mask number }
-{
-    number < 32 && (mask >> number) % 2 == 1
 }
 
 // Whether a number has its store, or wants none.

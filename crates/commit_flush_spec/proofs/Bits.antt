@@ -55,6 +55,7 @@ unread_tells s f r = by f.sealed (slice_get f.code.reads.items r) (get_or f.read
     by false (Some x) true = refl
     by false (Some x) false = refl
 
+-- a request is asked for exactly where its load or its store may be done
 pub asked_tells : (o : Older) (f : Frame) (n : ℕ)
     → is_asked f n ≡ (is_done (can_load n o f) || is_done (can_store n o f))
 asked_tells o f n = by f.sealed (request f n)

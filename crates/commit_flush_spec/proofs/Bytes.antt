@@ -102,6 +102,7 @@ store_all_both : (mem : List ℕ) (xs ys : List Stored) → store_all mem (xs ++
 store_all_both mem [] ys = refl
 store_all_both mem (x ∷ xs) ys = store_all_both (put_value mem x x.value) xs ys
 
+-- stores leave the size of memory as it was
 pub all_size : (mem : List ℕ) (xs : List Stored) → length (store_all mem xs) ≡ length mem
 all_size mem [] = refl
 all_size mem (x ∷ xs) = all_size (put_value mem x x.value) xs ∙ value_size mem x x.value

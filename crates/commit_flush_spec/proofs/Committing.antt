@@ -239,6 +239,8 @@ module _ (blocks : List Block) (good : AllGood blocks) (s : State) (f : Frame) (
       (owed_each (λ q. mark_held f.marks q ≡ mark_at (nodes_of b) g m q) b write_held store_held exit_held)
       ∙ ap (cause b) atomic
 
+  -- what Commit makes of the state, by the oldest frame's outputs or its fault, is the machine's step of its
+  -- block
   pub commits : s.next ≡ f.block → come_to b.writes.items (unless (cause_held f) (outputs f)) s ≡ step_of blocks s
   commits e =
       ap₂ (λ c o. come_to b.writes.items (unless c o) s) same_cause
@@ -314,6 +316,7 @@ module _ (blocks : List Block) (good : AllGood blocks) (s : State) (f : Frame) (
       serial = λ e. refl;
     }
 
+    -- the frames behind a frame that commits are right behind the state that it leaves
     pub go_on : (fs : List Frame) → FramesOk blocks (after f (committed s)) fs
         → FramesOk blocks (committed (apply b.writes.items (outputs f) s).0) fs
     go_on [] all = tt

@@ -19,6 +19,7 @@ open_in xs = count_by not xs
 abbrev pub standing : {A : Type 0} → List (Option A) → ℕ
 standing xs = count_by is_some xs
 
+-- one flag counts at most 1
 pub one_most : (b : Bool) → cond b 1 0 ≤ 1
 one_most true = omega arith
 one_most false = omega arith
@@ -53,21 +54,26 @@ module _ {A : Type 0} where
       let k = thing_rises xs i t in
       omega (arith, a, c, k)
 
+  -- in a list that is emptied nothing stands
   pub none_stands : (xs : List (Option A)) → standing (emptied xs) ≡ 0
   none_stands [] = refl
   none_stands (x ∷ xs) = none_stands xs
 
+  -- at most as many things stand in a list as it is long
   pub most_stand : (xs : List (Option A)) → standing xs ≤ length xs
   most_stand xs = count_by-le-length is_some xs
 
+-- in a list that is made empty nothing stands
 pub blank_stands : (A : Type 0) (n : ℕ) → standing {A = A} (blank n) ≡ 0
 unfolding blank
 blank_stands A zero = refl
 blank_stands A (suc n) = blank_stands A n
 
+-- at most as many flags are not set as there are
 pub most_open : (xs : List Bool) → open_in xs ≤ length xs
 most_open xs = count_by-le-length not xs
 
+-- of n flags that are made unset none is set
 pub all_open : (n : ℕ) → open_in (unset n) ≡ n
 unfolding unset
 all_open zero = refl
@@ -81,6 +87,7 @@ put_rises : (b : Bool) (xs : List Answer) (p : ℕ) (t : Token) → standing (pu
 put_rises true xs p t = thing_rises xs p (Some t)
 put_rises false xs p t = omega arith
 
+-- a node that sends its token puts at most two more in place
 pub sent_rises : (o : Option Node) (xs : List Answer) (p : ℕ) (t : Token) → standing (sent o xs p t) ≤ standing xs + 2
 sent_rises None xs p t = omega arith
 sent_rises (Some n) xs p t =

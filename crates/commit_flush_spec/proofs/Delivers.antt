@@ -205,6 +205,7 @@ module _ (blocks : List Block) (good : AllGood blocks) (o : Older) (f : Frame) (
     };
   }
 
+-- a Deliver that is done leaves its frame right
 pub deliver_ok : (blocks : List Block) → AllGood blocks → (p : ℕ) (o : Older) (f : Frame) → can_deliver p o f ≡ Done
     → FrameOk blocks o f → Goes blocks o f (deliver p o f)
 deliver_ok blocks good p o f c ok =

@@ -57,6 +57,7 @@ drives_end blocks good budget (suc n) w ok room l =
         ap (λ t. next_event budget (drives blocks budget n (given blocks budget t w))) h
         ∙ rest (happens blocks budget e w) v.ok v.room (let f = v.less in omega (arith, f, l))
 
+-- behind a window that is driven to its end there is no next event
 pub driven_ends : (blocks : List Block) (budget : ℕ) (w : Window) → AllGood blocks → WindowOk blocks budget w
     → HasGenerations budget w → next_event budget (driven blocks budget w) ≡ None
 driven_ends blocks budget w good ok room = drives_end blocks good budget (work budget w) w ok room (omega arith)

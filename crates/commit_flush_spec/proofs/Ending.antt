@@ -204,6 +204,7 @@ module _ (blocks : List Block) (good : AllGood blocks) (o : Older) (f : Frame) (
       → FramesOk blocks o (with_exit E (mark_with f x) f ∷ kept (successor_of E) fs)
   exited_ok fs all = (all.0, all.1, now, kept_ok blocks (after f o) (successor_of E) fs all.3)
 
+-- an Exit that is done leaves its frame right, and those that it keeps behind it
 pub exit_ok : (blocks : List Block) → AllGood blocks → (o : Older) (f : Frame) (fs : List Frame)
     → can_exit o f ≡ Done → FramesOk blocks o (f ∷ fs) → FramesOk blocks o (exit blocks o f fs)
 exit_ok blocks good o f fs c ok =
@@ -216,6 +217,7 @@ exit_ok blocks good o f fs c ok =
 
 -- seals ------------------------------------------------------------------------------------------
 
+-- a Seal that is done leaves its frame right
 pub seal_ok : (blocks : List Block) (o : Older) (f : Frame) → can_seal o f ≡ Done → FrameOk blocks o f
     → Goes blocks o f (seal o f)
 seal_ok blocks o f c ok =
@@ -321,6 +323,7 @@ fresh_ok blocks o n k b e = record {
   whole = λ h. absurd (cc);
 }
 
+-- a frame that is fetched behind others, where they lead to its block, is right
 pub fetch_ok : (blocks : List Block) (n k : ℕ) (b : Block) → slice_get blocks k ≡ Some b
     → (o : Older) (fs : List Frame) → (after_all fs o).serial ≡ false → follows (after_all fs o).known k ≡ true
     → FramesOk blocks o fs → FramesOk blocks o (fs ++ fresh n k b ∷ [])

@@ -19,6 +19,7 @@ use Rattle.commit_flush_spec.specs.Window.{fetched, commit, can, can_now, done, 
 use Rattle.commit_flush_spec.specs.Window as event
 use Rattle.commit_flush_spec.specs.inside.Laws.{IsBeginning, WindowOk}
 
+-- an event that is refused changes nothing
 pub refused : (blocks : List Block) (budget : ℕ) (e : Event) (w : Window) (c : Cause)
     → can blocks budget e w ≡ NotNow c → happens blocks budget e w ≡ w
 refused blocks budget e w c h = ap (λ x. if_done x (done blocks e w) w) h
@@ -48,6 +49,7 @@ beginning o (f ∷ fs) n = go (f.number == n) (beginning (after f o) fs n)
     go true h = (f ∷ fs, refl)
     go false h = (h.0, ap (λ x. f ∷ x) h.1)
 
+-- a Flush leaves a beginning of the frames, without the frame that it names
 pub flush_leaves : (blocks : List Block) (budget n : ℕ) (w : Window) → can blocks budget (event.Flush n) w ≡ Done
     → (in_flight n (happens blocks budget (event.Flush n) w).frames ≡ false)
     × IsBeginning (happens blocks budget (event.Flush n) w).frames w.frames
@@ -60,6 +62,7 @@ flush_leaves blocks budget n w h =
 
 -- commits ----------------------------------------------------------------------------------------
 
+-- Commit applies the oldest frame's outputs to the state, or ends the run by its fault
 pub commit_applies : (blocks : List Block) (budget : ℕ) (w : Window) (f : Frame) (fs : List Frame)
     → w.frames ≡ f ∷ fs → can blocks budget event.Commit w ≡ Done
     → ((happens blocks budget event.Commit w).state, (happens blocks budget event.Commit w).over)

@@ -63,6 +63,7 @@ sends_fall x p t f h l c = record {
 
 -- reads and firing -------------------------------------------------------------------------------
 
+-- a Read that is done lowers what its frame has left
 pub read_falls : (blocks : List Block) → AllGood blocks → (r : ℕ) (o : Older) (f : Frame) → can_read r o f ≡ Done
     → FrameOk blocks o f → Falls f (read r o f)
 read_falls blocks good r o f c ok =
@@ -106,6 +107,7 @@ fired_falls s i f t k = by t
     by Store = waits
     by Branch = leaves
 
+-- a Fire that is done lowers what its frame has left
 pub fire_falls : (blocks : List Block) → AllGood blocks → (s : ℕ) (o : Older) (f : Frame) → can_fire s o f ≡ Done
     → FrameOk blocks o f → Falls f (fire s o f)
 fire_falls blocks good s o f c ok =
@@ -121,6 +123,7 @@ fire_falls blocks good s o f c ok =
 
 -- delivery ---------------------------------------------------------------------------------------
 
+-- a Deliver that is done lowers what its frame has left
 pub deliver_falls : (p : ℕ) (o : Older) (f : Frame) → can_deliver p o f ≡ Done → Falls f (deliver p o f)
 deliver_falls p o f c =
     let a = not_now f.sealed NoToken _ c in
@@ -141,6 +144,7 @@ waiting : (f : Frame) (n s : ℕ) → at f.requests n ≡ Some s
     → suc (standing (set f.requests n None)) ≡ standing f.requests
 waiting f n s e = thing_falls f.requests n (λ z. let bad : Some s ≡ None = sym e ∙ z in cc)
 
+-- a Load that is done, where all lower stores have come, lowers what its frame has left
 pub load_falls : (n : ℕ) (o : Older) (f : Frame) → can_load n o f ≡ Done → stores_came f n ≡ true
     → Falls f (load n o f)
 load_falls n o f c came =
@@ -159,6 +163,7 @@ load_falls n o f c came =
 
 -- stores -----------------------------------------------------------------------------------------
 
+-- a store that waits and is resolved lowers what its frame has left
 pub stored_falls : (f : Frame) (n s c : ℕ) (v : Option Stored) → at f.requests n ≡ Some s → at f.stores n ≡ None
     → Falls f (with_store n v c f)
 stored_falls f n s c v e open' = record {
@@ -178,6 +183,7 @@ masked b good s i e k =
 
 -- ends -------------------------------------------------------------------------------------------
 
+-- a branch that waits and is resolved lowers what its frame has left
 pub exit_falls : (f : Frame) (e : Option Exit) (c : ℕ) → f.leaving ≢ None → Falls f (with_exit e c f)
 exit_falls f e c n = record { less = left f.leaving refl n; stays = λ h. h }
   where
@@ -187,6 +193,7 @@ exit_falls f e c n = record { less = left f.leaving refl n; stays = λ h. h }
         let k : cond {A = ℕ} (is_some f.leaving) 1 0 ≡ 1 = ap (λ t. cond (is_some t) 1 0) z in
         omega (arith, k)
 
+-- a Seal lowers what its frame has left
 pub seal_falls : (o : Older) (f : Frame) → f.sealed ≡ false → Falls f (seal o f)
 seal_falls o f e = record {
   less = (let k : cond {A = ℕ} f.sealed 0 1 ≡ 1 = ap (λ b. cond b 0 1) e in let a = none_stands f.places in

@@ -35,6 +35,7 @@ some_of (Some v) e = (v, refl)
 
 -- reads ------------------------------------------------------------------------------------------
 
+-- a Read that is done leaves its frame right
 pub read_ok : (blocks : List Block) → AllGood blocks → (r : ℕ) (o : Older) (f : Frame) → can_read r o f ≡ Done
     → FrameOk blocks o f → Goes blocks o f (read r o f)
 read_ok blocks good r o f c ok =
@@ -285,6 +286,7 @@ module _ (blocks : List Block) (good : AllGood blocks) (o : Older) (f : Frame) (
   by_form Store e = waits
   by_form Branch e = leaves e
 
+-- a Fire that is done leaves its frame right
 pub fire_ok : (blocks : List Block) → AllGood blocks → (s : ℕ) (o : Older) (f : Frame) → can_fire s o f ≡ Done
     → FrameOk blocks o f → Goes blocks o f (fire s o f)
 fire_ok blocks good s o f c ok =

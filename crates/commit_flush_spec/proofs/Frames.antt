@@ -54,6 +54,7 @@ frame_more blocks o p f h k = record {
   whole = k.whole;
 }
 
+-- frames that are right stay so where the older ones show them more
 pub frames_more : (blocks : List Block) (fs : List Frame) (o p : Older) → OlderLe o p → FramesOk blocks o fs
     → FramesOk blocks p fs
 frames_more blocks [] o p h k = tt
@@ -95,6 +96,7 @@ frame_but blocks touched o p f h z k = record {
   whole = k.whole;
 }
 
+-- of frames that are right those before the first that took a touched byte stay right
 pub frames_cut : (blocks : List Block) (touched : ℕ → Bool) (fs : List Frame) (o p : Older) → OlderBut touched o p
     → FramesOk blocks o fs → FramesOk blocks p (cut touched fs)
 frames_cut blocks touched [] o p h k = tt
@@ -164,6 +166,7 @@ pub not_now : (b : Bool) (c : Cause) (h : Happened) → cond b (NotNow c) h ≡ 
 not_now true c h e = absurd (cc)
 not_now false c h e = (refl, e)
 
+-- a change that keeps the frames from its own on right, where it may be done, keeps all frames right
 pub change_ok : (blocks : List Block) (can : Older → Frame → Happened)
     (does : Older → Frame → List Frame → List Frame)
     → ((o : Older) (f : Frame) (fs : List Frame) → can o f ≡ Done → FramesOk blocks o (f ∷ fs)
@@ -187,6 +190,7 @@ pub record Goes (blocks : List Block) (o : Older) (f g : Frame) : Type 0 where
   pub block : g.block ≡ f.block
   pub later : OlderLe (after f o) (after g o)
 
+-- a change that leaves its own frame right keeps those behind it right
 pub alone_ok : (blocks : List Block) (can : Older → Frame → Happened) (does : Older → Frame → Frame)
     → ((o : Older) (f : Frame) → can o f ≡ Done → FrameOk blocks o f → Goes blocks o f (does o f))
     → (o : Older) (f : Frame) (fs : List Frame) → can o f ≡ Done → FramesOk blocks o (f ∷ fs)

@@ -212,6 +212,7 @@ fresh_left n k b =
 pub fresh_unguessed : (n k : ℕ) (b : Block) → none_guessed (fresh n k b) ≡ true
 fresh_unguessed n k b = all_from _ numbers (λ j l. or_left _ _ (ap is_none (blank_at 32 j)))
 
+-- as the oldest a fresh frame has 609 events left
 pub fresh_least : (n k : ℕ) (b : Block) → oldest_left (fresh n k b ∷ []) ≡ 609
 fresh_least n k b =
     let a = fresh_left n k b in

@@ -59,6 +59,7 @@ module _ (f : Frame) (F R : List Bool) (Q : List (Option ℕ)) (V : Option ℕ) 
         exits;
   }
 
+  -- a node that sends its token to its two places loses none
   pub sends_kept : (x p : ℕ) (T : Answer) → T ≢ None → p % 2 ≡ 0 → suc p < length f.places → (source f.code p ≡ x)
       × (source f.code (suc p) ≡ x)
       → ((q : ℕ) → has_sent (moved f F R Q V L) q ≡ true → (has_sent f q ≡ true) ⊎ ((q ≡ p) ⊎ (q ≡ suc p)))
@@ -102,6 +103,7 @@ read_token f r w slot e z =
     sym (ap (λ q. node_gives q (computes f.code (λ y a. w) r) (at f.spots))
     (read_got f.code.reads.items (inst_nodes 0 f.code.insts.items) r slot e)) ∙ z in cc
 
+-- a Read that is done loses no token
 pub read_kept : (blocks : List Block) → AllGood blocks → (r : ℕ) (o : Older) (f : Frame) → can_read r o f ≡ Done
     → FrameOk blocks o f → NoneLost f → NoneLost (read r o f)
 read_kept blocks good r o f c ok lost =
@@ -347,6 +349,7 @@ module _ (blocks : List Block) (good : AllGood blocks) (o : Older) (f : Frame) (
   form_kept Store e = store_waits e
   form_kept Branch e = branch_waits e
 
+-- a Fire that is done loses no token
 pub fire_kept : (blocks : List Block) → AllGood blocks → (s : ℕ) (o : Older) (f : Frame) → can_fire s o f ≡ Done
     → FrameOk blocks o f → NoneLost f → NoneLost (fire s o f)
 fire_kept blocks good s o f c ok lost =

@@ -145,6 +145,7 @@ module _ (blocks : List Block) (good : AllGood blocks) (o : Older) (f : Frame) (
       (token_there f (slot_node f.code s) 0 (taken_word o f n T) (asked_is).ready) even room
       (slot_source f.code s small) newly
 
+-- a Load that is done loses no token
 pub load_kept : (blocks : List Block) → AllGood blocks → (n : ℕ) (o : Older) (f : Frame) → can_load n o f ≡ Done
     → FrameOk blocks o f → NoneLost f → NoneLost (load n o f)
 load_kept blocks good n o f c ok lost =
@@ -176,6 +177,7 @@ moved_kept blocks o f ok lost p t goes = record {
     here = set_here f.spots (target f.code p) (Some t) (let a : length f.spots ≡ 416 = ok.sized.spots in
         let l : target f.code p < 416 = grind (arith, nat_tests, goes) in omega arith)
 
+-- a Deliver that is done loses no token
 pub deliver_kept : (blocks : List Block) (p : ℕ) (o : Older) (f : Frame) → can_deliver p o f ≡ Done
     → FrameOk blocks o f → NoneLost f → NoneLost (deliver p o f)
 deliver_kept blocks p o f c ok lost =
@@ -240,6 +242,7 @@ stored_kept blocks o f ok lost n s i asks is isstore = record {
         let a : length f.requests ≡ 32 = ok.sized.requests in let b : length f.stores ≡ 32 = ok.sized.stores in
         omega arith)
 
+-- a Store that is done loses no token of the frames that it keeps
 pub store_kept : (blocks : List Block) (n : ℕ) (o : Older) (f : Frame) (fs : List Frame) → can_store n o f ≡ Done
     → FramesOk blocks o (f ∷ fs) → AllKept (f ∷ fs) → AllKept (store n o f fs)
 store_kept blocks n o f fs c ok all =
@@ -280,6 +283,7 @@ left_kept blocks o f ok lost s leaves = record {
     there t n z = some t n (ap (λ o. exit_by blocks f.block (leaves_with o t)) (sym (ok.leaving s leaves).is_inst)
         ∙ z)
 
+-- an Exit that is done loses no token of the frames that it keeps
 pub exit_kept : (blocks : List Block) (o : Older) (f : Frame) (fs : List Frame) → can_exit o f ≡ Done
     → FramesOk blocks o (f ∷ fs) → AllKept (f ∷ fs) → AllKept (exit blocks o f fs)
 exit_kept blocks o f fs c ok all =
@@ -290,6 +294,7 @@ exit_kept blocks o f fs c ok all =
     (successor_of (exit_by blocks f.block (branch_of f y))) fs)) (sym s.1)
     (λ z. left_kept blocks o f ok.2 (all.0 a.0) s.0 s.1, rest_kept _ fs all.1)
 
+-- a Seal loses no token
 pub seal_kept : (o : Older) (f : Frame) (fs : List Frame) → AllKept (f ∷ fs) → AllKept (alone seal o f fs)
 seal_kept o f fs all = (λ z. absurd (true≢false z), all.1)
 
@@ -312,12 +317,14 @@ fresh_kept n k b = record {
     go true p e = none_set 128 (p / 2) (both_true _ _ e).0
     go false p e = none_set 32 ((p - 256) / 2) e
 
+-- a fresh frame behind others has lost no token
 pub fetch_kept : (n k : ℕ) (b : Block) (fs : List Frame) → AllKept fs → AllKept (fs ++ fresh n k b ∷ [])
 fetch_kept n k b [] all = (λ z. fresh_kept n k b, tt)
 fetch_kept n k b (f ∷ fs) all = (all.0, fetch_kept n k b fs all.1)
 
 -- a change of one frame --------------------------------------------------------------------------
 
+-- a change that loses no token of the frames from its own on, where it may be done, loses none of all frames
 pub change_kept : (blocks : List Block) (can : Older → Frame → Happened) (does : Older → Frame → List Frame
     → List Frame)
     → ((o : Older) (f : Frame) (fs : List Frame) → can o f ≡ Done → FramesOk blocks o (f ∷ fs) → AllKept (f ∷ fs)
@@ -334,6 +341,7 @@ change_kept blocks can does k c o (f ∷ fs) n e ok all =
     go true d rest = k o f fs d ok all
     go false d rest = (all.0, rest d)
 
+-- a change that loses no token of its own frame loses none of those behind it
 pub alone_kept : (blocks : List Block) (can : Older → Frame → Happened) (does : Older → Frame → Frame)
     → ((o : Older) (f : Frame) → can o f ≡ Done → f.sealed ≡ false)
     → ((o : Older) (f : Frame) → can o f ≡ Done → FrameOk blocks o f → NoneLost f → NoneLost (does o f))

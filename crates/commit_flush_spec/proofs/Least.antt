@@ -41,6 +41,7 @@ none_passes test (suc n) k h =
     ap (λ b. cond b (Some k) (lowest test n (suc k))) (h k (omega arith) (omega arith))
     ∙ none_passes test n (suc k) (λ i a b. h i (omega (arith, a)) (omega (arith, b)))
 
+-- the number that is found is the least that passes the test
 pub finds : (test : ℕ → Bool) (n j : ℕ) → (lowest test n 0 ≡ Some j) ↔ IsLeast test n j
 finds test n j = (
   λ h. let k = lowest_is test n 0 j h in record {
@@ -51,6 +52,7 @@ finds test n j = (
   λ h. let l = h.below in found test n 0 j (omega arith) (omega (arith, l)) h.holds (λ i a b. h.least i b),
 )
 
+-- none is found exactly where none passes the test
 pub finds_none : (test : ℕ → Bool) (n : ℕ) → (lowest test n 0 ≡ None) ↔ NoneBelow test n
 finds_none test n = (
   λ h j l. lowest_none test n 0 h j (omega arith) (omega (arith, l)),

@@ -15,6 +15,7 @@ equal_or a b = go (a == b) refl
     go false e = inr (λ z. let bad : (a == b) ≡ true = grind (arith, nat_tests, z) in true≢false (sym bad ∙ e))
 
 module _ {A : Type 0} where
+  -- each thing, come or not, is below itself
   pub below_refl : (t : Option A) → Below t t
   below_refl None = tt
   below_refl (Some t) = refl
@@ -29,6 +30,7 @@ module _ {A : Type 0} where
   is_below None u e = tt
   is_below (Some t) u e = e
 
+  -- what is below a thing is below what that is below
   pub below_trans : (t u v : Option A) → Below t u → Below u v → Below t v
   below_trans None u v h k = tt
   below_trans (Some t) u v h k = subst (λ w. Below w v) (sym h) k
@@ -117,10 +119,12 @@ module _ {A : Type 0} where
   emptied_at (x ∷ xs) zero = refl
   emptied_at (x ∷ xs) (suc q) = emptied_at xs q
 
+  -- a list that is emptied keeps its length
   pub emptied_size : (xs : List (Option A)) → length (emptied xs) ≡ length xs
   emptied_size [] = refl
   emptied_size (x ∷ xs) = ap suc (emptied_size xs)
 
+-- a list that is made empty has its length
 pub blank_size : (A : Type 0) (n : ℕ) → length (blank {A = A} n) ≡ n
 unfolding blank
 blank_size A zero = refl
@@ -136,6 +140,7 @@ flag_keeps (x ∷ xs) zero (suc j) e = e
 flag_keeps (x ∷ xs) (suc i) zero e = e
 flag_keeps (x ∷ xs) (suc i) (suc j) e = flag_keeps xs i j e
 
+-- a flag is set after one was set only where it is this one or was set before
 pub flag_or : (xs : List Bool) (i j : ℕ) → get_or (set xs i true) j false ≡ true → (j ≡ i)
     ⊎ (get_or xs j false ≡ true)
 flag_or [] i j e = inr e
@@ -157,6 +162,7 @@ unset_at zero q = refl
 unset_at (suc n) zero = refl
 unset_at (suc n) (suc q) = unset_at n q
 
+-- n flags that are made unset are n
 pub unset_size : (n : ℕ) → length (unset n) ≡ n
 unfolding unset
 unset_size zero = refl

@@ -308,6 +308,7 @@ stands kind f n e = go (at f.requests n) refl (not_false _ e)
     go None a k = absurd (cc)
     go (Some s) a k = inner s a (slot_of f.code s) refl k
 
+-- a Load that is done leaves its frame right
 pub load_ok : (blocks : List Block) → AllGood blocks → (n : ℕ) (o : Older) (f : Frame) → can_load n o f ≡ Done
     → FrameOk blocks o f → Goes blocks o f (load n o f)
 load_ok blocks good n o f c ok =

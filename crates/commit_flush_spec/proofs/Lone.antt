@@ -243,6 +243,7 @@ drives_alone blocks good budget (suc n) w ok room lone m =
               ∙ ap (next_event budget) (rests blocks budget n (happens blocks budget e w) none) ∙ none))
         ])
 
+-- an empty window that is driven makes at most 611 events for each block that joins the trace, and for one more
 pub fewer_events : (blocks : List Block) (budget n : ℕ) (w : Window) → AllGood blocks → WindowOk blocks budget w
     → HasGenerations budget w → w.frames ≡ [] → next_event budget (drives blocks budget n w) ≢ None
     → n ≤ (length (drives blocks budget n w).state.trace - length w.state.trace + 1) * 611

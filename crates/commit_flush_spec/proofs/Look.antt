@@ -22,6 +22,7 @@ use Rattle.commit_flush_spec.proofs.Lists.{below_refl}
 
 -- registers --------------------------------------------------------------------------------------
 
+-- what the one look knows of a register the other knows too
 abbrev pub LookLe : (ℕ → Option ℕ) → (ℕ → Option ℕ) → Type 0
 LookLe l m = (q v : ℕ) → l q ≡ Some v → m q ≡ Some v
 
@@ -39,6 +40,7 @@ over_more r t t' l m b h q v = go (q == r)
     go true e = forwarded_more t t' (l q) (m q) b (h q) v e
     go false e = h q v e
 
+-- where more has come of a frame's writes, and more is known before them, more is known behind them
 pub through_more : (rs : List ℕ) (w : ℕ) (f g : ℕ → Answer) (l m : ℕ → Option ℕ) → ((q : ℕ) → Below (f q) (g q))
     → LookLe l m → LookLe (through rs w f l) (through rs w g m)
 through_more [] w f g l m b h = h
@@ -73,6 +75,7 @@ written_size : (regs : List ℕ) (r : ℕ) (t : Token) → length (written regs 
 written_size regs r Null = refl
 written_size regs r (Word v) = length-set regs r v
 
+-- what is known behind a frame's writes is so of the registers that these writes were written to
 pub through_changed : (rs : List ℕ) (w : ℕ) (f : ℕ → Answer) (l : ℕ → Option ℕ) (regs : List ℕ) → length regs ≡ 128
     → All (λ r. r < 128) rs → LookLe l (words regs)
     → LookLe (through rs w f l) (words (write_all regs rs (writes_from f w rs)))
@@ -94,12 +97,14 @@ byte_apart : (o : Option ℕ) (p : Bool) (x y : ℕ) → (not (is_some o) && p) 
 byte_apart None p x y e h = h e
 byte_apart (Some b) p x y e h = refl
 
+-- what is seen of two memories behind the same stores is the same where no touched byte passes them
 pub passes_apart : (st : ℕ → Option Stored) (n : ℕ) (touched : ℕ → Bool) (l m : ℕ → ℕ) → Apart touched l m
     → Apart (passes st n touched) (byte_seen st l n) (byte_seen st m n)
 passes_apart st zero touched l m h x e = h x e
 passes_apart st (suc n) touched l m h x e =
     byte_apart (byte_of (st n) x) (passes st n touched x) _ _ e (passes_apart st n touched l m h x)
 
+-- what is seen of two equal memories behind the same stores is the same
 pub over_same : (st : ℕ → Option Stored) (n : ℕ) (l m : ℕ → ℕ) → ((x : ℕ) → l x ≡ m x) → (x : ℕ)
     → byte_seen st l n x ≡ byte_seen st m n x
 over_same st zero l m h x = h x
@@ -128,6 +133,7 @@ module _ (st st' : ℕ → Option Stored) (m : ℕ) (others : (k : ℕ) → k �
       old None b = refl
       old (Some s) b = ap (λ z. byte_of z x) b ∙ none
 
+  -- where one store comes, what is seen behind all is the same but at the addresses at which it is the nearest
   pub nearest_apart : (l : ℕ → ℕ) (n : ℕ) → Apart (nearest st' m n) (byte_seen st l n) (byte_seen st' l n)
   nearest_apart l zero x e = refl
   nearest_apart l (suc n) x e = go (n == m) refl e (nearest_apart l n x)
@@ -164,12 +170,14 @@ bytes_apart st st' l m n touched h a (suc k) e =
     let p = or_false (touched (a + k)) (any_touched touched a k) e in
     ap₂ (λ x y. x * 256 + y) (bytes_apart st st' l m n touched h a k p.1) (h (a + k) p.0)
 
+-- where each byte that is seen is the same, so is each number that is made of them
 pub bytes_same : (st st' : ℕ → Option Stored) (l m : ℕ → ℕ) (n : ℕ)
     → ((x : ℕ) → byte_seen st l n x ≡ byte_seen st' m n x) → (a k : ℕ)
     → bytes_seen st l n a k ≡ bytes_seen st' m n a k
 bytes_same st st' l m n h a zero = refl
 bytes_same st st' l m n h a (suc k) = ap₂ (λ x y. x * 256 + y) (bytes_same st st' l m n h a k) (h (a + k))
 
+-- where no load was violated, none of the bytes that a load took was touched
 pub not_hit : (touched : ℕ → ℕ → Bool) (ts : List (Option Taken)) (n a k : ℕ) → violated touched ts ≡ false
     → at ts n ≡ Some (Bytes a k) → any_touched (touched n) a k ≡ false
 not_hit touched [] n a k z e = absurd (cc)
@@ -185,9 +193,11 @@ pub record OlderLe (o p : Older) : Type 0 where
   pub known : (k : ℕ) → follows o.known k ≡ true → follows p.known k ≡ true
   pub serial : o.serial ≡ false → p.serial ≡ false
 
+-- what is seen is at least itself
 pub older_refl : (o : Older) → OlderLe o o
 older_refl o = record { look = λ q v e. e; memory = λ x. refl; known = λ b e. e; serial = λ e. e }
 
+-- behind a frame at least as much is seen as before, where this holds before it
 pub after_more : (f : Frame) (o p : Older) → OlderLe o p → OlderLe (after f o) (after f p)
 after_more f o p h = record {
   look = through_more f.code.writes.items 0 (at f.spots) (at f.spots) o.look p.look (λ q. below_refl (at f.spots q))
@@ -204,6 +214,7 @@ pub record OlderBut (touched : ℕ → Bool) (o p : Older) : Type 0 where
   pub known : (k : ℕ) → follows o.known k ≡ true → follows p.known k ≡ true
   pub serial : o.serial ≡ false → p.serial ≡ false
 
+-- behind a frame what is seen is the same but for the touched bytes that pass its stores
 pub after_but : (touched : ℕ → Bool) (f : Frame) (o p : Older) → OlderBut touched o p
     → OlderBut (passes (at f.stores) numbers touched) (after f o) (after f p)
 after_but touched f o p h = record {

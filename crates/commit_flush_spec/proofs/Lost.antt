@@ -36,6 +36,7 @@ stands (x ∷ xs) zero (suc q) t e n = absurd (omega arith)
 stands (x ∷ xs) (suc p) zero t e n = absurd (omega arith)
 stands (x ∷ xs) (suc p) (suc q) t e n = stands xs p q t (omega arith) n
 
+-- to put a token somewhere takes none from a place
 pub put_there : (b : Bool) (xs : List Answer) (p : ℕ) (t : Token) (q : ℕ) → at xs q ≢ None
     → at (put_if b xs p t) q ≢ None
 put_there true xs p t q n = go (q == p) refl
@@ -46,6 +47,7 @@ put_there true xs p t q n = go (q == p) refl
         λ z. n (sym (other_at xs p q (Some t) other) ∙ z)
 put_there false xs p t q n = n
 
+-- to send a node's token takes none from a place
 pub sent_there : (o : Option Node) (xs : List Answer) (p : ℕ) (t : Token) (q : ℕ) → at xs q ≢ None
     → at (sent o xs p t) q ≢ None
 sent_there None xs p t q n = n

@@ -27,6 +27,7 @@ use Rattle.commit_flush_spec.proofs.FramesSeen.{Lowers, step_lowers, seal_lowers
 
 -- fetches ----------------------------------------------------------------------------------------
 
+-- each number below the count of blocks is that of a block
 pub there : (blocks : List Block) (k : ℕ) → k < length blocks → (b : Block) × (slice_get blocks k ≡ Some b)
 there [] k l = absurd (omega (arith, l))
 there (b ∷ bs) zero l = (b, refl)
@@ -188,6 +189,7 @@ has_work budget w e h =
     let d : 1638 ≤ (budget - length w.state.trace) * 1638 = omega (arith, room) in
     omega (arith, a, d)
 
+-- an event that lowers the work that is left keeps generations for what is left
 pub generations_last : (blocks : List Block) (budget : ℕ) (e : Event) (w : Window) → HasGenerations budget w
     → work budget (happens blocks budget e w) < work budget w → HasGenerations budget (happens blocks budget e w)
 generations_last blocks budget e w h f =

@@ -43,6 +43,7 @@ mark_other (x ∷ xs) zero (suc j) c n = refl
 mark_other (x ∷ xs) (suc i) zero c n = refl
 mark_other (x ∷ xs) (suc i) (suc j) c n = mark_other xs i j c (λ e. n (ap suc e))
 
+-- a list of n zeros has length n
 pub zeros_size : (n : ℕ) → length (zeros n) ≡ n
 unfolding zeros
 zeros_size n = length-replicate {A = ℕ} n 0

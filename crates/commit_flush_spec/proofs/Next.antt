@@ -28,6 +28,7 @@ use Rattle.commit_flush_spec.proofs.Search.{clear}
 use Rattle.commit_flush_spec.proofs.Stuck.{quiet_is_complete}
 use Rattle.commit_flush_spec.proofs.Steps.{Stepping, Delivers, Fires, Reads, Stores, Loads, Exits, step_is, quiet_of}
 
+-- a number is equal to itself
 pub same : (n : ℕ) → (n == n) ≡ true
 same n = grind arith
 
@@ -45,6 +46,7 @@ pub oldest : (none : Happened) (can : Older → Frame → Happened) (w : Window)
 oldest none can w f fs e d = ap (λ l. on_frame none can (committed w.state) l f.number) e
     ∙ at_oldest none can (committed w.state) f fs ∙ d
 
+-- a place of a frame is told again from its number and the frame's
 pub place_of : (n p : ℕ) → p < 320 → ((n * 320 + p) % 320 ≡ p) × ((n * 320 + p) / 320 ≡ n)
 place_of n p l = (omega (arith, l), omega (arith, l))
 
@@ -135,6 +137,7 @@ parts budget w e h =
     let k = going w.over (nat_le budget (length w.state.trace)) (next_in w.frames w.state) e h in
     (k.0, false_le budget (length w.state.trace) k.1, next_is w e k.2)
 
+-- the event that is next is one that the frames and the state call for
 pub which : (budget : ℕ) (e : Event) (w : Window) → next_event budget w ≡ Some e → IsNextIn w.frames w.state e
 which budget e w h = by (parts budget w e h).2
   where
@@ -262,6 +265,7 @@ stopped Ended spent t n h = inl (λ z. cc)
 stopped StackFull spent t n h = inl (λ z. cc)
 stopped (Trap c) spent t n h = inl (λ z. cc)
 
+-- there is no next event only where the run has ended or the budget is spent
 pub why_none : (blocks : List Block) → AllGood blocks → (budget : ℕ) (w : Window) → WindowOk blocks budget w
     → next_event budget w ≡ None → (w.over ≢ Went) ⊎ (budget ≤ length w.state.trace)
 why_none blocks good budget w ok h =
@@ -276,6 +280,7 @@ none_spent budget w l =
     ap (λ b. while_going w.over b (next_in w.frames w.state)) (le_true budget (length w.state.trace) l)
     ∙ all_spent w.over (next_in w.frames w.state)
 
+-- there is no next event exactly where the run has ended or the budget is spent
 pub exactly_none : (blocks : List Block) (budget : ℕ) (w : Window) → AllGood blocks → WindowOk blocks budget w
     → (next_event budget w ≡ None) ↔ ((w.over ≢ Went) ⊎ (budget ≤ length w.state.trace))
 exactly_none blocks budget w good ok = (

@@ -27,6 +27,7 @@ use Rattle.commit_flush_spec.proofs.Look.{or_false}
 abbrev pub nums : List Frame → List ℕ
 nums fs = map (λ (f : Frame). f.number) fs
 
+-- the one list of numbers is a beginning of the other
 abbrev pub Begins : List ℕ → List ℕ → Type 0
 Begins ns ms = (rest : List ℕ) × (ms ≡ ns ++ rest)
 
@@ -40,6 +41,7 @@ front : (ns rest : List ℕ) → AreNumbers (ns ++ rest) → AreNumbers ns
 front [] rest h = tt
 front (n ∷ ns) rest h = (h.0, any_front n ns rest h.1, front ns rest h.2)
 
+-- a beginning of numbers that differ and lie below eight are such numbers
 pub beginning : (ns ms : List ℕ) → Begins ns ms → AreNumbers ms → AreNumbers ns
 beginning ns ms b h = front ns b.0 (subst AreNumbers b.1 h)
 
@@ -52,6 +54,7 @@ begins_after n m ns ms e b = (b.0, ap₂ (λ x ys. x ∷ ys) e b.1)
 
 -- events -----------------------------------------------------------------------------------------
 
+-- a change that leaves a beginning of the numbers from its frame on leaves one of all
 pub change_numbers : (does : Older → Frame → List Frame → List Frame)
     → ((o : Older) (f : Frame) (fs : List Frame) → Begins (nums (does o f fs)) (nums (f ∷ fs)))
     → (o : Older) (fs : List Frame) (n : ℕ) → Begins (nums (change does o fs n)) (nums fs)
@@ -63,6 +66,7 @@ change_numbers does h o (f ∷ fs) n = go (f.number == n) (change_numbers does h
     go true r = h o f fs
     go false r = begins_after f.number f.number _ _ refl r
 
+-- a change that leaves its frame's number leaves the numbers behind it
 pub alone_numbers : (does : Older → Frame → Frame) → ((o : Older) (f : Frame) → (does o f).number ≡ f.number)
     → (o : Older) (f : Frame) (fs : List Frame) → Begins (nums (alone does o f fs)) (nums (f ∷ fs))
 alone_numbers does h o f fs = begins_after _ f.number (nums fs) (nums fs) (sym (h o f)) ([], no_more (nums fs))
@@ -126,6 +130,7 @@ cut_numbers touched (f ∷ fs) =
     go true r = (nums (f ∷ fs), refl)
     go false r = begins_after f.number f.number _ _ refl r
 
+-- a Store leaves a beginning of the numbers
 pub store_numbers : (n : ℕ) (o : Older) (f : Frame) (fs : List Frame) → Begins (nums (store n o f fs)) (nums (f ∷ fs))
 store_numbers n o f fs = go (request f n)
   where
@@ -140,6 +145,7 @@ store_numbers n o f fs = go (request f n)
         (mark_with f (slot_node f.code q.0)) f) refl
         (violated (nearest (at (set f.stores n (stored_of q.1 (at f.spots q.0) (at f.spots (128 + q.0))))) n) f.loads)
 
+-- an Exit leaves a beginning of the numbers
 pub exit_numbers : (blocks : List Block) (o : Older) (f : Frame) (fs : List Frame)
     → Begins (nums (exit blocks o f fs)) (nums (f ∷ fs))
 exit_numbers blocks o f fs =
@@ -153,6 +159,7 @@ exit_numbers blocks o f fs =
         go true = ([], no_more (nums (g ∷ gs)))
         go false = (nums (g ∷ gs), refl)
 
+-- a Flush leaves a beginning of the numbers
 pub flush_numbers : (o : Older) (f : Frame) (fs : List Frame) → Begins (nums (flush o f fs)) (nums (f ∷ fs))
 flush_numbers o f fs = (nums (f ∷ fs), refl)
 
@@ -173,6 +180,7 @@ lowest_is (suc k) m fs n e = go (in_flight m fs) refl e (lowest_is k (suc m) fs 
 swapped : (m n : ℕ) → (m == n) ≡ false → (n == m) ≡ false
 swapped m n e = grind (arith, nat_tests)
 
+-- a fresh frame with a number below eight that is not in flight leaves numbers that differ
 pub fetch_numbers : (n k : ℕ) (b : Block) (fs : List Frame) → n < 8 → in_flight n fs ≡ false → AreNumbers (nums fs)
     → AreNumbers (nums (fs ++ fresh n k b ∷ []))
 fetch_numbers n k b [] l e h = (l, refl, tt)

@@ -14,6 +14,7 @@ each_both : (P : ℕ → Type 0) (xs ys : List ℕ) → EachAt P xs → EachAt P
 each_both P [] ys h k = k
 each_both P (x ∷ xs) ys h k = (h.0, each_both P xs ys h.1 k)
 
+-- marks that agree at each of some places have the same least one there
 pub least_same : (f h : ℕ → ℕ) (qs : List ℕ) → EachAt (λ q. f q ≡ h q) qs → least_at f qs ≡ least_at h qs
 least_same f h [] e = refl
 least_same f h (q ∷ qs) e = ap₂ least e.0 (least_same f h qs e.1)
@@ -38,6 +39,8 @@ mask_each : (P : ℕ → Type 0) (mask : ℕ) → ((k : ℕ) → k < 32 → in_m
 unfolding mask_places
 mask_each P mask h = numbers_each P mask 32 h
 
+-- what holds at each declared write, at each number of the mask and at the exit holds at each place that is
+-- owed
 pub owed_each : (P : ℕ → Type 0) (b : Block) → ((w : ℕ) → w < length b.writes.items → P (384 + w))
     → ((k : ℕ) → k < 32 → in_mask b.mask k ≡ true → P (416 + k)) → P 448 → EachAt P (owed b)
 owed_each P b h k e = each_both P (writes_to (length b.writes.items)) _ (writes_each P (length b.writes.items) h)

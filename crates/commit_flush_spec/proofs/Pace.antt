@@ -99,6 +99,7 @@ drives_paced blocks good budget (suc n) w ok room m =
               ∙ ap (next_event budget) (rests blocks budget n (happens blocks budget e w) none) ∙ none))
         ])
 
+-- a window that is driven makes at most 1,638 events for each block that joins the trace, and for one more
 pub few_events : (blocks : List Block) (budget n : ℕ) (w : Window) → AllGood blocks → WindowOk blocks budget w
     → HasGenerations budget w → next_event budget (drives blocks budget n w) ≢ None
     → n ≤ (length (drives blocks budget n w).state.trace - length w.state.trace + 1) * 1638

@@ -189,6 +189,7 @@ role_gives Both c d (Some (Word x)) None = refl
 role_gives Both c d (Some (Word x)) (Some Null) = refl
 role_gives Both c d (Some (Word x)) (Some (Word y)) = refl
 
+-- whether a node gives a token does not depend on what it computes
 pub node_gives_too : (n : Node) (c d : ℕ → ℕ → ℕ) (p : ℕ → Answer)
     → is_some (node_gives (Some n) c p) ≡ is_some (node_gives (Some n) d p)
 node_gives_too n c d p = go (matched n.sense (p (256 + n.slot)))

@@ -96,6 +96,7 @@ trace_grows blocks budget w f fs i c o =
 
 -- driving ----------------------------------------------------------------------------------------
 
+-- a run has gone on, or it has not
 pub went_or : (o : Stepped) → (o ≡ Went) ⊎ (o ≢ Went)
 went_or Went = inl refl
 went_or Ended = inr (λ z. cc)

@@ -235,6 +235,7 @@ module _ (blocks : List Block) (o : Older) (f : Frame) (F R : List Bool) (Q : Li
     later = older_refl (after f o);
   }
 
+  -- a node that sends its token leaves its frame right
   pub sends : (T : Answer) → Sends blocks o f F R Q V L x p T → Goes blocks o f (send x p T (moved f F R Q V L))
   sends None h = sends_with None h f.places h.was.sized.places f.marks
       (h.was.sized.spot_marks, h.was.sized.place_marks, h.was.sized.store_marks)

@@ -56,6 +56,7 @@ pub data Stepping (o : Older) (f : Frame) (e : Event) : Type 0 where
 
 -- what is found --------------------------------------------------------------------------------
 
+-- the next step of a frame may be done where it stands
 pub step_is : (o : Older) (f : Frame) (e : Event) → next_step o f ≡ Some e → Stepping o f e
 step_is o f e h = elim (or_some (next_token o f) _ e h) [
   | inl z ↦
@@ -135,6 +136,7 @@ module _ (blocks : List Block) (good : AllGood blocks) (o : Older) (f : Frame) (
       let k = numbers_are in
       omega (arith, l, e, k)
 
+  -- a frame without a next step is quiet
   pub quiet_of : next_step o f ≡ None → Quiet f
   quiet_of none = record {
     tokens = λ p g. elim (none_or (at f.places p)) [

@@ -85,6 +85,7 @@ names_store Store i n l f (inr e) = absurd (none_not i.second n l (f.0).second e
 names_store Branch i n l f (inl e) = absurd (omega arith)
 names_store Branch i n l f (inr e) = absurd (none_not i.second n l (f.0).second e)
 
+-- where the opposite of a test is false, the test is true
 pub no_false : (b : Bool) → no b ≡ false → b ≡ true
 no_false true e = refl
 no_false false e = absurd (cc)
@@ -111,6 +112,7 @@ none_first A (n ∷ ns) q = go (names (targets n) q) (none_first A ns q)
     go true e = e
     go false e = e
 
+-- a good block stores nothing under a number outside its mask
 pub unmasked : (b : Block) → IsRunnable b → (g : ℕ → Answer) (n : ℕ) → n < 32 → in_mask b.mask n ≡ false
     → store_of b g n ≡ None
 unmasked b good g n l off = taken_same (nodes_of b) (416 + n) (stored_by b g) (λ y. None) each
@@ -170,6 +172,7 @@ module _ {A : Type 0} (P : Option A → Type 0) (z : P None) where
   took true f h = h
   took false f h = z
 
+  -- what holds of nothing, and of what each node gives, holds of the first that is given
   pub first_holds : (ns : List Node) (q : ℕ) (f : ℕ → Option A) → ((x : ℕ) → P (f x)) → P (first ns q f)
   first_holds [] q f h = z
   first_holds (n ∷ ns) q f h =

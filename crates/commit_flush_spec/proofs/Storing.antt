@@ -302,6 +302,7 @@ module _ (blocks : List Block) (good : AllGood blocks) (o : Older) (f : Frame) (
         frames_cut blocks (nearest (at (set f.stores n S)) n numbers) fs (after f o) (after W o) but all.3,
       )
 
+-- a Store that is done leaves its frame right, and those that it keeps behind it
 pub store_ok : (blocks : List Block) → AllGood blocks → (n : ℕ) (o : Older) (f : Frame) (fs : List Frame)
     → can_store n o f ≡ Done → FramesOk blocks o (f ∷ fs) → FramesOk blocks o (store n o f fs)
 store_ok blocks good n o f fs c ok =

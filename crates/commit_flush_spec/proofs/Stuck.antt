@@ -322,6 +322,7 @@ module _ (blocks : List Block) (good : AllGood blocks) (o : Older) (f : Frame) (
             ]
           ]
 
+  -- a quiet frame that has lost no token has all its outputs
   pub quiet_is_complete : complete f ≡ true
   quiet_is_complete = both_are _ _ (all_from (write_came f) (length b.writes.items) writes)
       (both_are _ _ (all_from (store_came f) numbers (λ n l. stores n)) exits)

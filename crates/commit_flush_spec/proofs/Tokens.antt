@@ -77,6 +77,7 @@ gated_below false b' v v' e h = tt
 gated_below true true v v' e h = h
 gated_below true false v v' e h = absurd (true≢false (sym (e refl)))
 
+-- where more has come, what a node gives is the same or comes only now
 pub node_below : (o : Option Node) (a : ℕ → ℕ → ℕ) (p p' : ℕ → Answer) → ((q : ℕ) → Below (p q) (p' q))
     → Below (node_gives o a p) (node_gives o a p')
 node_below None a p p' h = tt
@@ -111,6 +112,7 @@ read_got (x ∷ rs) rest (suc r) slot e = read_got rs rest r slot e
 pub slot_not_read : (b : Block) (s : ℕ) → is_read b (slot_node b s) ≡ false
 slot_not_read b s = grind (arith, nat_tests)
 
+-- the slot of a slot's node is this slot
 pub slot_at_is : (b : Block) (s : ℕ) → slot_at b (slot_node b s) ≡ s
 slot_at_is b s = omega arith
 
@@ -161,6 +163,7 @@ same_computed b a c s i e k = fun_ext (λ l. fun_ext (λ r.
     ∙ sym (ap (λ o. slot_computes o (c (slot_node b s)) l r) e)
     ∙ sym (slot_computed b c s l r)))
 
+-- a load takes one operand
 pub load_one : (t : Form) (op : Op) → is_load t ≡ true → role_in t op ≡ One
 load_one General op e = absurd (cc)
 load_one Immediate op e = absurd (cc)
@@ -205,6 +208,7 @@ by_table f x w a g s h e = below_trans _ _ _
     (node_below (slice_get (nodes_of f.code) x) (computes f.code (λ y z. w) x) (at f.spots) (at_place f.code g) h)
     (is_below _ _ (e ∙ sym (s x)))
 
+-- what an instruction that is no load gives of what has come is what the table has
 pub fired_below : (f : Frame) (s w : ℕ) (i : Inst) (a : Responses) (g : ℕ → Answer) → Solves f.code a g
     → SpotsBelow f g
     → slot_of f.code s ≡ Some i → is_load (form_of i.op) ≡ false
@@ -213,6 +217,7 @@ fired_below f s w i a g sol h e k = by_table f (slot_node f.code s) w a g sol h
     (ap (λ c. node_gives (slice_get (nodes_of f.code) (slot_node f.code s)) c (at_place f.code g))
     (same_computed f.code (λ y z. w) a s i e k))
 
+-- what a read gives of its word is what the table has
 pub read_below : (f : Frame) (r w : ℕ) (slot : ReadSlot) (a : Responses) (g : ℕ → Answer) → Solves f.code a g
     → SpotsBelow f g
     → slice_get f.code.reads.items r ≡ Some slot → a r 0 ≡ w → Below (token_with f r w) (g r)
@@ -277,6 +282,7 @@ load_word i p w v h = go (is_good_address (address_of i v) (size_of i.op)) refl
     go true e = ap (loaded_as i.op) (sym (h e))
     go false e = refl
 
+-- what a load gives of its word, where its address has come, is what the table has
 pub load_below : (f : Frame) (s w : ℕ) (i : Inst) (a : Responses) (g : ℕ → Answer) → Solves f.code a g
     → SpotsBelow f g
     → slot_of f.code s ≡ Some i → is_load (form_of i.op) ≡ true
@@ -334,6 +340,7 @@ one_law b good a g t =
     good_machine (nodes_of b) (wanted_of b) good.good.ranked (nodes_placed b good.fits) good.good.good (computes b a)
     g t
 
+-- in a good block only one node that names a place gives a token
 pub producer : (b : Block) → IsRunnable b → (a : Responses) (g : ℕ → Answer) → Solves b a g → (q x y : ℕ) → q < 449
     → NamesPlace (nodes_of b) x q → NamesPlace (nodes_of b) y q → g x ≢ None → g y ≢ None → x ≡ y
 producer b good a g t q x y lt n k p r = one_producer (nodes_of b) (λ z. shape (g z)) q
@@ -351,6 +358,7 @@ placed_is b good a g t f from q x lt n p = first_is (nodes_of b) q f x n.0 n.1 n
 pub table : Block → Responses → ℕ → Answer
 table b a = pulled (nodes_of b) (computes b a) deepest
 
+-- a good block's table solves it
 pub table_solves : (b : Block) → IsRunnable b → (a : Responses) → Solves b a (table b a)
 unfolding table
 table_solves b good a = pulled_is_table (nodes_of b) good.good.ranked (computes b a)

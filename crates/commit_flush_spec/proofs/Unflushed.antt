@@ -74,6 +74,7 @@ exit_stays blocks o f fs c sure =
     (exit_falls f (exit_by blocks f.block (branch_of f f.leaving)) (branch_mark f f.leaving)
     (λ z. true≢false (sym (ap is_none z) ∙ b.0))).stays sure
 
+-- a step of the oldest frame, of which no load was guessed, leaves it in flight
 pub step_stays : (blocks : List Block) → AllGood blocks → (w : Window) (f : Frame) (fs : List Frame)
     → w.frames ≡ f ∷ fs → none_guessed f ≡ true → FrameOk blocks (committed w.state) f → (e : Event)
     → Stepping (committed w.state) f e → StaysOldest (done blocks e w).frames
@@ -101,6 +102,7 @@ step_stays blocks good w f fs i sure ok e (Exits z d) =
     subst (λ x. StaysOldest (done blocks x w).frames) (sym z)
     (by_change w f fs i sure (exit blocks) (exit_stays blocks (committed w.state) f fs d sure))
 
+-- a next event leaves the oldest frame in flight where no load of it was guessed and it is not sealed
 pub oldest_stays : (blocks : List Block) (budget : ℕ) (e : Event) (w : Window) (f : Frame) (fs : List Frame)
     → AllGood blocks → WindowOk blocks budget w → MayFill w → next_event budget w ≡ Some e → w.frames ≡ f ∷ fs
     → f.sealed ≡ false → none_guessed f ≡ true → StaysOldest (happens blocks budget e w).frames

@@ -35,6 +35,7 @@ zeros_bare n q = go n q
     go (suc k) zero = refl
     go (suc k) (suc j) = go k j
 
+-- rows of zeros and an exit of zero have no mark
 pub none_bare : AreBare (zeros 416) (zeros 320) (zeros 32) 0
 none_bare = record {
   at_spots = zeros_bare 416;
@@ -51,6 +52,7 @@ stays_zero (x ∷ xs) (suc q) e = ap (λ ys. x ∷ ys) (stays_zero xs q e)
 
 -- tables -----------------------------------------------------------------------------------------
 
+-- to send a token without a mark changes nothing where no mark is set
 pub sent_bare : (m : Marks) (p c : ℕ) → HasNoMark m → c ≡ 0 → m ≡ mark_sent p c m
 sent_bare m p c h e =
     let first : set m.places p c ≡ m.places = ap (set m.places p) e ∙ stays_zero m.places p (h.at_places p) in
@@ -59,12 +61,14 @@ sent_bare m p c h e =
     ∙ stays_zero m.places (suc p) (h.at_places (suc p)) in
     λ k. record m { places = sym both k }
 
+-- to deliver a mark changes nothing where no mark is set
 pub delivered_bare : (m : Marks) (p q : ℕ) → HasNoMark m → m ≡ mark_delivered p q m
 delivered_bare m p q h =
     let same : set m.spots q (mark_on m.places p) ≡ m.spots =
     ap (set m.spots q) (h.at_places p) ∙ stays_zero m.spots q (h.at_spots q) in
     λ k. record m { spots = sym same k }
 
+-- to resolve a store without a mark changes nothing where no mark is set
 pub stored_bare : (m : Marks) (n c : ℕ) → HasNoMark m → c ≡ 0 → m ≡ mark_stored n c m
 stored_bare m n c h e =
     let same : set m.stores n c ≡ m.stores = ap (set m.stores n) e ∙ stays_zero m.stores n (h.at_stores n) in

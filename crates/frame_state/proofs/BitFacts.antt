@@ -31,6 +31,7 @@ one_not zero h = refl
 one_not (suc zero) h = refl
 one_not (suc (suc x)) h = absurd (omega arith)
 
+-- a bit of the union of two words is set where it is set in one of them
 pub has_or : (a b i : ℕ) → has_bit (bit_or a b) i ≡ (has_bit a i || has_bit b i)
 has_or a b i = ap (λ z. z == 1) (bit_at_or a b i) ∙ one_max (bit_at a i) (bit_at b i) (bit_at-lt a i) (bit_at-lt b i)
 

@@ -21,6 +21,7 @@ not_all p (suc n) w l e = elim (cases_lt w n) [
   | inr h ↦ let same : n ≡ w = omega arith in ap (λ k. p k && all_below p n) same ∙ ap (λ b. b && all_below p n) e
 ]
 
+-- a frame has 32 numbers
 pub numbers_are : numbers ≡ 32
 unfolding numbers
 numbers_are = refl
@@ -29,5 +30,6 @@ numbers_are = refl
 pub all_numbers : (p : ℕ → Bool) (n : ℕ) → n ≡ 32 → all_below p n ≡ all_below p numbers
 all_numbers p n e = ap (all_below p) (e ∙ sym numbers_are)
 
+-- where one number has not come, not all have
 pub not_all_numbers : (p : ℕ → Bool) (w : ℕ) → w < 32 → p w ≡ false → all_below p numbers ≡ false
 not_all_numbers p w l e = let z = numbers_are in not_all p numbers w (omega (arith, z, l)) e

@@ -10,17 +10,21 @@ use Rattle.frame_state.proofs.CompleteFacts.{not_all, numbers_are}
 
 -- a walk -----------------------------------------------------------------------------------------
 
+-- the first that is missing of n is looked for from 0 on
 pub starts : (p : ℕ → Bool) (n : ℕ) → first_missing p n 0 ≡ first_missing p (n - 0) 0
 starts p n = let e : n ≡ n - 0 = omega arith in ap (λ m. first_missing p m 0) e
 
+-- the first number that is missing is looked for among 32, from 0 on
 pub starts_numbers : (p : ℕ → Bool) → first_missing p numbers 0 ≡ first_missing p 32 0
 starts_numbers p = ap (λ m. first_missing p m 0) numbers_are
 
+-- where number k has not come, it is the first from k on that is missing
 pub missing_here : (p : ℕ → Bool) (n k : ℕ) → k < n → p k ≡ false → first_missing p (n - k) k ≡ Some k
 missing_here p n k l e =
     let c : n - k ≡ suc (n - suc k) = omega (arith, l) in
     ap (λ m. first_missing p m k) c ∙ ap (λ b. cond b (first_missing p (n - suc k) (suc k)) (Some k)) e
 
+-- where number k has come, the first that is missing is looked for from k + 1 on
 pub come_here : (p : ℕ → Bool) (n k m : ℕ) → k < n → m ≡ k + 1 → p k ≡ true
     → first_missing p (n - k) k ≡ first_missing p (n - m) m
 come_here p n k m l s e =
@@ -29,6 +33,7 @@ come_here p n k m l s e =
     ap (λ j. first_missing p j k) c ∙ ap (λ b. cond b (first_missing p (n - suc k) (suc k)) (Some k)) e
     ∙ ap (λ j. first_missing p (n - j) j) next
 
+-- from n on none of n is missing
 pub none_left : (p : ℕ → Bool) (n k : ℕ) → n ≡ k → first_missing p (n - k) k ≡ None
 none_left p n k e = let c : n - k ≡ 0 = omega (arith, e) in ap (λ m. first_missing p m k) c
 

@@ -65,6 +65,7 @@ mark_of_parts i l r p ml mr mp = cond (matched i.sense p)
     (mark_by (own_fault (Some i)) (operands (role_of i.op) l r) (cond (takes_left (role_of i.op)) ml 0)
     (cond (takes_right (role_of i.op)) mr 0) (cond (is_guarded i.sense) mp 0)) 0
 
+-- the mark of an instruction is that of the tokens and the marks at its three places
 pub marked_by : (h : Held) (i : Inst) (s : ℕ) (l r p : Answer) (ml mr mp : ℕ)
     → l ≡ at h.spots s → r ≡ at h.spots (128 + s) → p ≡ at h.spots (256 + s)
     → ml ≡ mark_on h.marks.spots s → mr ≡ mark_on h.marks.spots (128 + s) → mp ≡ mark_on h.marks.spots (256 + s)
@@ -106,6 +107,7 @@ module _ (b : Block) (s : ℕ) (i : Inst) (is : slot_of b s ≡ Some i) where
   pub token_is : (c : Bool) (h : Held) (w : ℕ) → token_with (as_frame c b h) (slot_node b s) w ≡ slot_token h i s w
   token_is c h w = ap₂ (λ n a. node_gives n a (at h.spots)) got (computes_is w)
 
+  -- the mark of an instruction's node in a frame is the mark of its slot
   pub mark_is : (c : Bool) (h : Held) → mark_with (as_frame c b h) (slot_node b s) ≡ slot_mark h i s
   mark_is c h = λ k. node_mark (got k) (fault_is k) (at h.spots) (mark_on h.marks.spots) (token_is c h 0 k)
 
@@ -239,6 +241,7 @@ module _ (b : Block) (r : ℕ) (slot : ReadSlot) (is : slice_get b.reads.items r
     marks = mark_sent (256 + 2 * r) (read_mark g k) g.marks;
   }
 
+-- where a read gets its word, its tokens are sent to the places that the read names, and it is answered
 pub reads : (b : Block) (r w first second : ℕ) (h : Held) → r < length b.reads.items
     → first ≡ named_at (slice_get (nodes_of b) r) true → second ≡ named_at (slice_get (nodes_of b) r) false
     → running b (sent_to (256 + 2 * r) first second (Word w) 0 (record h { reads = set h.reads r true }))

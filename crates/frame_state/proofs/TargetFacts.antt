@@ -75,12 +75,14 @@ past_last [] s h = refl
 past_last (x ∷ is) zero h = absurd (omega arith)
 past_last (x ∷ is) (suc s) h = past_last is s (omega arith)
 
+-- a node of a slot names the places that the block's node of this slot names
 pub item_named : (b : Block) (is : List (Option Inst)) (s : ℕ) (d : Option Inst) (f : Bool) → is ≡ b.insts.items
     → s < length is → named_at (Some (inst_node s (get_or is s d))) f
     ≡ named_at (slice_get (nodes_of b) (slot_node b s)) f
 item_named b is s d f e h = ap (λ i. named_at (Some (inst_node s i)) f)
     (item_at is s d h ∙ ap (λ js. get_or js s None) e) ∙ slot_named b s f
 
+-- a slot past the instructions names no place
 pub past_named : (b : Block) (is : List (Option Inst)) (s : ℕ) (f : Bool) → is ≡ b.insts.items → length is ≤ s
     → no_place ≡ named_at (slice_get (nodes_of b) (slot_node b s)) f
 past_named b is s f e h = sym (nowhere f)

@@ -5,6 +5,7 @@ use Rattle.std.proofs.Common.{length-set, get_or-set_other}
 use Rattle.std.proofs.lemmas.Bool.{cases_eq}
 use Rattle.std.proofs.lemmas.Grind.{get_or-set_at}
 
+-- a list of 128 flags that is right below i, with the right flag set at i, is right below i + 1
 pub wanted_more : (xs ys : List Bool) (f : ℕ → Bool) (i : ℕ) (b : Bool) → length xs ≡ 128 → i < 128
     → ((k : ℕ) → k < i → get_or xs k false ≡ f k) → ys ≡ set xs i b → b ≡ f i
     → (length ys ≡ 128) × ((k : ℕ) → k < i + 1 → get_or ys k false ≡ f k)

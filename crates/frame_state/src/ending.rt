@@ -8,9 +8,9 @@ ghost use Rattle.commit_flush_spec.specs.Ends.{complete, outputs, cause_held};
 ghost use Rattle.frame_state.specs.inside.Held.{running, sealed};
 
 use crate::body::Body;
-use crate::outcome::{in_mask, stores_came, writes_came};
+use crate::outcome::{stores_came, writes_came};
 use crate::outputs::{Outputs, exit_or_first, stores_of, write_tokens};
-use trips_isa::{Block, FIRST_WRITE, NO_MARK, least};
+use trips_isa::{Block, FIRST_WRITE, NO_MARK, in_mask, least};
 
 impl Body {
     // Whether the exit has come.

@@ -7,14 +7,7 @@ ghost use Rattle.commit_flush_spec.specs.Ends.{all_below};
 
 use crate::spots::Spots;
 use base::Row;
-use trips_isa::{FIRST_WRITE, Stored};
-
-/// Whether the mask has this store number.
-pub fn in_mask(mask: u32, number: u8) -> bool
-    ensures { result ≡ in_mask mask number }
-{
-    number < 32 && (mask >> number) % 2 == 1
-}
+use trips_isa::{FIRST_WRITE, Stored, in_mask};
 
 /// Whether a write has its token.
 pub fn write_came(spots: &Spots, w: usize) -> bool

@@ -18,6 +18,7 @@ use Rattle.grid_bound.specs.inside.Behind.{Apart}
 
 -- tests of numbers --------------------------------------------------------------------------------
 
+-- that two numbers differ is told either way round
 pub swapped : (m n : ℕ) → (m == n) ≡ false → (n == m) ≡ false
 swapped m n e = grind (arith, nat_tests)
 
@@ -29,9 +30,11 @@ same_number n = grind arith
 pub other_of : (n m k : ℕ) → (n == m) ≡ false → (k == m) ≡ true → (n == k) ≡ false
 other_of n m k e h = let it : k ≡ m = grind (arith, nat_tests) in ap (λ z. n == z) it ∙ e
 
+-- the frame of a place of all frames is told of its number
 pub frame_of_place : (n p : ℕ) → p < 320 → (token_places * n + p) / token_places ≡ n
 frame_of_place n p l = omega (arith, l)
 
+-- the place in its frame is told of the number of a place of all frames
 pub place_in_frame : (n p : ℕ) → p < 320 → (token_places * n + p) % token_places ≡ p
 place_in_frame n p l = omega (arith, l)
 
@@ -95,6 +98,7 @@ module _ (blocks : List Block) (budget : ℕ) (w : Window) (f : Frame) (fs : Lis
   same_leads : Leads f w w
   same_leads = (fs, ap (λ (l : List Frame). record w { frames = l }) i)
 
+  -- an event of another frame leaves the oldest frame and all but the frames
   pub event_leads : (e : Event) → IsOther f.number e → Leads f w (happens blocks budget e w)
   event_leads e n = go (can blocks budget e w)
     where

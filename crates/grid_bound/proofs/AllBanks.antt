@@ -11,8 +11,8 @@ use Rattle.commit_flush_spec.specs.inside.Invariant.{AllGood}
 use Rattle.commit_flush_spec.specs.inside.Laws.{WindowOk}
 use Rattle.grid_cycle_spec.specs.Stations.{bank_of}
 use Rattle.grid_cycle_spec.specs.Grid.{Grid}
-use Rattle.grid_cycle_spec.specs.Choosing.{eldest, each, reads}
-use Rattle.grid_cycle_spec.specs.Banks.{answers_read, bank_turn, reads_answered}
+use Rattle.grid_cycle_spec.specs.Choosing.{each}
+use Rattle.grid_cycle_spec.specs.Banks.{bank_turn, reads_answered}
 use Rattle.grid_bound.specs.inside.Course.{Task}
 use Rattle.grid_bound.specs.inside.Lane.{Front, unread}
 use Rattle.grid_bound.specs.inside.Sending.{pick, none_busy, station_of, sent_from, reads_front}
@@ -20,10 +20,11 @@ use Rattle.grid_bound.specs.inside.Blocks.{read_task, course_of}
 use Rattle.grid_bound.specs.inside.Seen.{front_of}
 use Rattle.grid_bound.proofs.Sizes.{read_is}
 use Rattle.grid_bound.specs.inside.Shows.{Shows, QuietReads}
-use Rattle.grid_bound.proofs.Walk.{each_keeps, read_keeps}
-use Rattle.grid_bound.proofs.Steady.{Onward, steady}
+use Rattle.grid_cycle_spec.proofs.KeptByCycles.{each_keeps, bank_keeps}
+use Rattle.grid_bound.proofs.Steady.{Onward, On, steady}
 use Rattle.grid_bound.proofs.Fronts.{same_front}
-use Rattle.grid_bound.proofs.BankAnswers.{Unread, AtBank, read_front, unread_is, bank_turns}
+use Rattle.grid_bound.proofs.BankAnswers.{Unread, AtBank, read_front, unread_is}
+use Rattle.grid_bound.proofs.AnsweredReads.{bank_turns}
 
 module _ {W : Type 0} (blocks : List Block) (good : AllGood blocks) (budget : ℕ) (t : ℕ → Answer) (f : Frame)
     (g : Grid W) (fs : List Frame) (i : g.window.frames ≡ f ∷ fs) (ok : WindowOk blocks budget g.window)
@@ -47,10 +48,8 @@ module _ {W : Type 0} (blocks : List Block) (good : AllGood blocks) (budget : �
   }
 
   onward : (k : ℕ) → Onward blocks budget g.window (each (bank_turn blocks budget) k g).window
-  onward k = each_keeps blocks budget (λ (g h : Grid W). Onward blocks budget g.window h.window)
-      (steady blocks budget good) (bank_turn blocks budget)
-      (λ bank x. read_keeps blocks budget (λ (g h : Grid W). Onward blocks budget g.window h.window)
-      (steady blocks budget good) bank (eldest (answers_read blocks budget x bank) reads x.window.frames) x) k g
+  onward k = each_keeps blocks budget (On blocks budget) (steady blocks budget good) (bank_turn blocks budget)
+      (bank_keeps blocks budget (On blocks budget) (steady blocks budget good) (λ n. tt) tt) k g
 
   after : (k : ℕ) → AtBank blocks good budget t f g k (each (bank_turn blocks budget) k g)
   after zero = begins

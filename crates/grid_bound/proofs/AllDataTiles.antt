@@ -14,8 +14,8 @@ use Rattle.grid_bound.specs.inside.Answering.{TileAnswers, TilesAnswer}
 use Rattle.grid_bound.specs.inside.Blocks.{course_of}
 use Rattle.grid_bound.specs.inside.Seen.{front_of}
 use Rattle.grid_bound.specs.inside.DataRule.{DataRule}
-use Rattle.grid_bound.proofs.Steady.{Onward, steady}
-use Rattle.grid_bound.proofs.Walk.{each_keeps, chosen_keeps}
+use Rattle.grid_cycle_spec.proofs.KeptByCycles.{each_keeps, data_keeps}
+use Rattle.grid_bound.proofs.Steady.{Onward, On, steady}
 use Rattle.grid_bound.proofs.FrameTable.{told}
 use Rattle.grid_bound.proofs.DataTileAnswers.{StageAt, Held, Emptied, Turned, data_turns}
 
@@ -24,12 +24,14 @@ idle_turn : {W : Type 0} (blocks : List Block) (budget d : ℕ) (h : Grid W) →
     → data_turn blocks budget d h ≡ h
 idle_turn blocks budget d h i = ap (λ l. answer_chosen blocks budget d (eldest (answers_request h d) numbers l) h) i
 
+-- without a frame in flight the data tiles change nothing
 pub idle_tiles : {W : Type 0} (blocks : List Block) (budget n : ℕ) (g : Grid W) → g.window.frames ≡ []
     → each (data_turn blocks budget) n g ≡ g
 idle_tiles blocks budget zero g i = refl
 idle_tiles blocks budget (suc n) g i =
     ap (data_turn blocks budget n) (idle_tiles blocks budget n g i) ∙ idle_turn blocks budget n g i
 
+-- while a fetch goes on, the data tiles leave it as it is
 pub fetch_waits : (n : ℕ) (o : Option ℕ) (b : Bool) → TilesAnswer n (Fetching o b) (Fetching o b)
 fetch_waits zero o b = refl
 fetch_waits (suc n) o b = record { middle = Fetching o b; before = fetch_waits n o b; after = refl }
@@ -49,11 +51,10 @@ module _ {W : Type 0} (blocks : List Block) (good : AllGood blocks) (budget : �
   abbrev at : ℕ → Grid W
   at d = each (data_turn blocks budget) d g
 
+  -- the data tiles commit nothing
   pub onward : (d : ℕ) → Onward blocks budget g.window (at d).window
-  onward d = each_keeps blocks budget (λ (g h : Grid W). Onward blocks budget g.window h.window)
-      (steady blocks budget good) (data_turn blocks budget)
-      (λ tile x. chosen_keeps blocks budget (λ (g h : Grid W). Onward blocks budget g.window h.window)
-      (steady blocks budget good) tile (eldest (answers_request x tile) numbers x.window.frames) x) d g
+  onward d = each_keeps blocks budget (On blocks budget) (steady blocks budget good) (data_turn blocks budget)
+      (data_keeps blocks budget (On blocks budget) (steady blocks budget good) (λ n. tt) tt) d g
 
   -- the stage behind the first d tiles
   pub record AtTile (d : ℕ) : Type 0 where
@@ -98,6 +99,7 @@ module _ {W : Type 0} (blocks : List Block) (good : AllGood blocks) (budget : �
         seen = subst (λ h. StageAt o f h a.stage) (sym (idle_turn blocks budget d (at d) fr)) (Emptied fr z e);
       }
 
+  -- the first d data tiles lead the oldest frame to a stage to which the lane's may come
   pub tiles_serve : (d : ℕ) → AtTile d
   tiles_serve zero = record { stage = first; answered = refl; seen = Held f fs i refl refl runs refl }
   tiles_serve (suc d) = next d (tiles_serve d)

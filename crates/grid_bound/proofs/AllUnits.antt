@@ -21,8 +21,8 @@ use Rattle.grid_bound.specs.inside.Turning.{less_one, finish_front, issue_front,
 use Rattle.grid_bound.specs.inside.Blocks.{course_of}
 use Rattle.grid_bound.specs.inside.Seen.{front_of}
 use Rattle.grid_bound.specs.inside.UnitRule.{UnitRule}
-use Rattle.grid_bound.proofs.Steady.{Onward, steady}
-use Rattle.grid_bound.proofs.Walk.{each_keeps, turn_keeps}
+use Rattle.grid_cycle_spec.proofs.KeptByCycles.{each_keeps, turn_keeps}
+use Rattle.grid_bound.proofs.Steady.{Onward, On, steady}
 use Rattle.grid_bound.proofs.Fronts.{same_front}
 use Rattle.grid_bound.proofs.UnitsByTile.{AtTile, unit_front, unit_turns}
 
@@ -58,10 +58,8 @@ module _ {W : Type 0} (blocks : List Block) (good : AllGood blocks) (budget : �
   }
 
   onward : (k : ℕ) → Onward blocks budget g.window (each (unit_turn blocks budget) k g).window
-  onward k = each_keeps blocks budget (λ (g h : Grid W). Onward blocks budget g.window h.window)
-      (steady blocks budget good) (unit_turn blocks budget)
-      (turn_keeps blocks budget (λ (g h : Grid W). Onward blocks budget g.window h.window)
-      (steady blocks budget good)) k g
+  onward k = each_keeps blocks budget (On blocks budget) (steady blocks budget good) (unit_turn blocks budget)
+      (turn_keeps blocks budget (On blocks budget) (steady blocks budget good) (λ n. tt) tt tt) k g
 
   after : (k : ℕ) → AtTile blocks good budget a t f g solves below k (each (unit_turn blocks budget) k g)
   after zero = begins
@@ -90,6 +88,7 @@ module _ {W : Type 0} (blocks : List Block) (good : AllGood blocks) (budget : �
         → (each (unit_turn blocks budget) 16 g).units n
         ≡ units_after (less_one g.units) (finish_front (less_one g.units) F) n
 
+  -- the units of all tiles turn for the oldest frame as the lane's do
   pub tiles_work : Worked
   tiles_work = let s = after 16 in record {
     frame = s.frame;

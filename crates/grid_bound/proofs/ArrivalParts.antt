@@ -30,7 +30,6 @@ use Rattle.commit_flush_spec.proofs.Numbers.{nums}
 use Rattle.commit_flush_spec.proofs.Search.{clear, not_none}
 use Rattle.grid_cycle_spec.specs.Grid.{Grid}
 use Rattle.grid_cycle_spec.specs.Acting.{act}
-use Rattle.grid_cycle_spec.specs.inside.Choosing.{places}
 use Rattle.grid_cycle_spec.specs.inside.Arrivals.{asks, delivers, is_waiting, slot_arrives, inst_arrives}
 use Rattle.grid_cycle_spec.specs.inside.Arrivals.{place_arrives}
 use Rattle.grid_bound.specs.inside.UnderWay.{form_travels, Tied, to_come}
@@ -347,6 +346,7 @@ module _ {W : Type 0} (blocks : List Block) (good : AllGood blocks) (budget : â„
     slot_going = subst (Î» q. Going blocks budget 0 (inst_arrives blocks budget q p f G)) (sym k.is_inst)
         (form_going (form_of k.inst.op) refl)
 
+  -- what arrives in a place of a frame keeps the rule
   pub arrives_going : Going blocks budget 0 (place_arrives blocks budget p f G)
   arrives_going = by (nat_lt p 256) refl
     where

@@ -1,5 +1,5 @@
 -- Part (6) of a cycle, place by place: what has come in the places of all frames is delivered, and the rule is kept.
-use Rattle.std.proofs.Common.{◌≡◌, ◌≢◌, ℕ, zero, suc, ◌<◌}
+use Rattle.std.proofs.Common.{◌≡◌, ℕ, zero, suc, ◌<◌}
 use Rattle.std.proofs.Common.{Bool, true, false}
 use Rattle.std.proofs.Common.{List, [], ◌∷◌, Option, Some, None}
 use Rattle.std.proofs.Common.{refl, sym, ap, ap₂, ◌∙◌, subst, true≢false, arith}
@@ -10,12 +10,12 @@ use Rattle.operand_net.specs.declared.parcel.Stand.TheVariants.{Nowhere, Away, H
 use Rattle.operand_net.specs.Places.{put}
 use Rattle.operand_net.specs.inside.Places.{come}
 use Rattle.operand_net.specs.inside.IsStands.{is_here}
-use Rattle.commit_flush_spec.specs.Window as window
 use Rattle.commit_flush_spec.specs.inside.Invariant.{AllGood}
 use Rattle.grid_cycle_spec.specs.Grid.{Grid}
 use Rattle.grid_cycle_spec.specs.Choosing.{each, with_frame}
 use Rattle.grid_cycle_spec.specs.inside.Choosing.{places}
 use Rattle.grid_cycle_spec.specs.inside.Arrivals.{place_arrives, arrives_if, arrival, arrivals}
+use Rattle.grid_cycle_spec.proofs.KeptByCycles.{places_are}
 use Rattle.grid_bound.specs.inside.Rule.{runs_in}
 use Rattle.grid_bound.proofs.EachFrame.{find_at}
 use Rattle.grid_bound.proofs.EachFrame.{runs_are, with_at}
@@ -24,10 +24,6 @@ use Rattle.grid_bound.proofs.GoingGrids.{each_going}
 use Rattle.grid_bound.proofs.ArrivalParts.{arrives_going}
 
 -- places -----------------------------------------------------------------------------------------
-
-pub places_are : places ≡ 320
-unfolding places
-places_are = refl
 
 come_here : (n p : ℕ) (s : Stand) (c : Parcel) → come n p s ≡ Some c
     → (is_here s ≡ true) × ((c.frame ≡ n) × (c.place ≡ p))
@@ -73,6 +69,7 @@ module _ {W : Type 0} (blocks : List Block) (good : AllGood blocks) (budget : �
           (record g { parcels = put g.parcels x p Nowhere }))) a.number
           (arrives_going blocks good budget g go n p l a (ap (λ x. is_here (g.parcels x p)) a.number ∙ here)))
 
+  -- what arrives in the places of all frames keeps the rule
   pub arrivals_going : (ns : List ℕ) (g : Grid W) → Going blocks budget 0 g
       → Going blocks budget 0 (arrivals blocks budget ns g)
   arrivals_going [] g go = go

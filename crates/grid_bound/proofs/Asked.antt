@@ -26,7 +26,8 @@ use Rattle.grid_bound.proofs.BankParts.{banks_going}
 use Rattle.grid_bound.proofs.DataParts.{answers_going, data_turns_going}
 use Rattle.grid_bound.proofs.UnitParts.{unit_turns_going, works_going}
 use Rattle.grid_bound.proofs.GoingGrids.{Going}
-use Rattle.grid_bound.proofs.Oldest.{data_rule, move_rule, quiet_reads, unit_rule}
+use Rattle.grid_bound.proofs.Oldest.{data_rule, quiet_reads, unit_rule}
+use Rattle.grid_bound.proofs.OldestMoves.{move_rule}
 
 -- the fetch --------------------------------------------------------------------------------------
 
@@ -38,6 +39,7 @@ fetch_due : {W : Type 0} (g : Grid W) (known : Option ℕ) (o : Option Fetching)
 fetch_due g known None e h = tt
 fetch_due g known (Some x) e h = sym (next_is g.window.state.next x.block (sym (ap (λ k. follows k x.block) e) ∙ h.1))
 
+-- without a frame in flight a fetch under way is of the committed next block
 pub due : {W : Type 0} (g : Grid W) → GridRule g → g.window.frames ≡ [] → IsDue g g.fetching
 due g rule e = fetch_due g (known_next g.window) g.fetching
     (ap (λ l. (after_all l (committed g.window.state)).known) e) rule.fetch
@@ -90,6 +92,7 @@ module _ {W : Type 0} (blocks : List Block) (good : AllGood blocks) (budget : �
             (works_going blocks good budget 1 b go_b) f fs e runs;
       }
 
+  -- a grid that has its rule gives parts (3) to (6) of its cycle what they ask of the oldest frame
   pub cycle_rule : (g : Grid W) → WindowOk blocks budget g.window → g.window.over ≡ Went → GridRule g
       → CycleRule blocks budget g
   cycle_rule g ok went rule =

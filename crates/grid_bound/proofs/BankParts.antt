@@ -125,7 +125,8 @@ module _ {W : Type 0} (blocks : List Block) (good : AllGood blocks) (budget leas
         (sym (change).is) placed
 
 module _ {W : Type 0} (blocks : List Block) (good : AllGood blocks) (budget least : ℕ) where
-  chosen_going : (bank : ℕ) → bank < 4 → (o : Option (ℕ × ℕ)) (g : Grid W) → Going blocks budget least g
+  -- that a bank answers the read that it has chosen keeps the rule
+  pub chosen_going : (bank : ℕ) → bank < 4 → (o : Option (ℕ × ℕ)) (g : Grid W) → Going blocks budget least g
       → eldest (answers_read blocks budget g bank) reads g.window.frames ≡ o
       → Going blocks budget least (read_chosen blocks budget bank o g)
   chosen_going bank low None g go e = go

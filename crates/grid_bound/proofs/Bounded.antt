@@ -54,10 +54,13 @@ module _ {W : Type 0} (blocks : List Block) (good : AllGood blocks) (budget : �
 
   module _ (n : ℕ) (m : Grid W) (a : AfterStanding next follows blocks budget sizes n g m)
       (s : Stands blocks budget sizes m) where
+    -- the cycles so far, with what is left, are at most the prices of the blocks committed meanwhile and of the
+    -- next one
     pub moment : n + left sizes (lane_in m) + total sizes (length g.window.state.trace)
         ≤ total sizes (length m.window.state.trace) + price (sizes (length m.window.state.trace))
     moment = (after_served sizes (lane_in g) (lane_first n m a s) n (lane_in m) (lanes n m a s)).1
 
+    -- at a commit the cycles so far are at most the prices of the blocks committed meanwhile
     pub commit : (h : Grid W) → length h.window.state.trace ≡ suc (length m.window.state.trace)
         → suc n + total sizes (length g.window.state.trace) ≤ total sizes (length h.window.state.trace)
     commit h e = at_a_commit sizes (lane_in g) (lane_first n m a s) n (lane_in m) (lane_in h) (lanes n m a s) e

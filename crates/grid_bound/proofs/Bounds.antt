@@ -1,39 +1,39 @@
--- Runs of served cycles.
-use Rattle.std.proofs.Common.{◌≡◌, ℕ, zero, suc, ◌+◌, ◌<◌, ◌≤◌, inl, inr, sym, ap, subst, arith}
-use Rattle.grid_bound.specs.inside.Lane.{Lane}
+-- Runs of served cycles: those in which no other has the fetch unit.
+use Rattle.std.proofs.Common.{◌≡◌, ℕ, zero, suc, ◌+◌, ◌≤◌, inl, Some, None, refl, arith}
+use Rattle.grid_bound.specs.inside.Lane.{Lane, Stage, Running, Fetching}
 use Rattle.grid_bound.specs.inside.Left.{left, price, total}
-use Rattle.grid_bound.specs.inside.Laws.{LaneRule, Falls, AfterServed}
-use Rattle.grid_bound.proofs.Served.{left_some, left_most, served_falls}
+use Rattle.grid_bound.specs.inside.Laws.{LaneRule, AfterServed}
+use Rattle.grid_bound.specs.inside.Held.{AfterHeld, held}
+use Rattle.grid_bound.proofs.HeldRuns.{after_held, held_commit}
+
+none_held : (s : Stage) → held 0 s ≡ 0
+none_held (Running f) = refl
+none_held (Fetching None s) = refl
+none_held (Fetching (Some n) s) = refl
 
 -- the bound of a lane after n cycles
 abbrev Within : (ℕ → ℕ) → ℕ → Lane → Lane → Type 0
 Within sizes n l m = n + left sizes m + total sizes l.done ≤ total sizes m.done + price (sizes m.done)
 
 module _ (sizes : ℕ → ℕ) (l : Lane) (rule : LaneRule sizes l) where
-  step : (n : ℕ) (k m : Lane) → LaneRule sizes m → Within sizes n l k → Falls sizes k m → Within sizes (suc n) l m
-  step n k m r b (inl e) =
-      let a : 1 ≤ left sizes k = left_some sizes k in
-      let c : left sizes m ≤ price (sizes m.done) = left_most sizes m r in
-      let t : total sizes m.done ≡ price (sizes k.done) + total sizes k.done = ap (total sizes) e in
-      omega (arith, a, b, c, t)
-  step n k m r b (inr h) =
-      let i : left sizes m < left sizes k = h.2 in
-      let t : total sizes m.done + price (sizes m.done) ≡ total sizes k.done + price (sizes k.done) =
-      ap (λ d. total sizes d + price (sizes d)) h.0 in
-      omega (arith, i, b, t)
+  none_waits : (n : ℕ) (m : Lane) → AfterServed sizes n l m → AfterHeld sizes n 0 l 0 m
+  none_waits zero m e = (e, refl)
+  none_waits (suc n) m a = record {
+    between = a.between;
+    holds = 0;
+    before = none_waits n a.between a.before;
+    served = inl a.served;
+    rule = a.rule;
+    few = omega arith;
+  }
 
   -- the bound, and the rule
   pub after_served : (n : ℕ) (m : Lane) → AfterServed sizes n l m → LaneRule sizes m × Within sizes n l m
-  after_served zero m e = subst (λ m. LaneRule sizes m × Within sizes 0 l m) (sym e)
-      (rule, (let c : left sizes l ≤ price (sizes l.done) = left_most sizes l rule in omega (arith, c)))
-  after_served (suc n) m a =
-      let k : LaneRule sizes a.between × Within sizes n l a.between = after_served n a.between a.before in
-      (a.rule, step n a.between m a.rule k.1 (served_falls sizes a.between m k.0 a.served))
+  after_served n m a =
+      let b = after_held sizes 0 l (omega arith) rule n 0 m (none_waits n m a) in
+      (b.0, (let w = b.1 in let h = none_held m.stage in omega (arith, w, h)))
 
+  -- at a commit the served cycles so far are at most the prices of the blocks committed meanwhile
   pub at_a_commit : (n : ℕ) (m k : Lane) → AfterServed sizes n l m → k.done ≡ suc m.done
       → suc n + total sizes l.done ≤ total sizes k.done
-  at_a_commit n m k a e =
-      let b : Within sizes n l m = (after_served n m a).1 in
-      let c : 1 ≤ left sizes m = left_some sizes m in
-      let t : total sizes k.done ≡ price (sizes m.done) + total sizes m.done = ap (total sizes) e in
-      omega (arith, b, c, t)
+  at_a_commit n m k a e = held_commit sizes 0 l (omega arith) rule n 0 m k (none_waits n m a) e

@@ -90,6 +90,8 @@ module _ {W : Type 0} (blocks : List Block) (good : AllGood blocks) (budget : â„
     last : Stands blocks budget sizes m
     last = stands blocks good budget next follows bound s predictor weather opens n m a on few
 
+    -- the cycles so far, with the cost of the first trace, are below the cost of the trace now and the greatest
+    -- cost of a block
     pub moment : n + cost_of blocks s.trace < cost_of blocks m.window.state.trace + greatest_cost
     moment =
         let b : n + left sizes (lane_in m) + total sizes (length s.trace)

@@ -27,6 +27,7 @@ any_from (suc n) p x l e = go (λ m. any_from n p x m e) (cases_eq x n)
     go ih (inl h) = or_left (p n) _ (subst (λ k. p k ≡ true) h e)
     go ih (inr h) = or_right (p n) _ (ih (omega arith))
 
+-- where some number passes a test, and what passes it passes a second one, some number passes the second
 pub any_more : (n : ℕ) (p q : ℕ → Bool) → ((x : ℕ) → x < n → p x ≡ true → q x ≡ true) → any n p ≡ true
     → any n q ≡ true
 any_more n p q h e = let r : (x : ℕ) × (x < n) × (p x ≡ true) = any_true n p e in any_from n q r.0 r.1 (h r.0 r.1 r.2)
@@ -83,15 +84,18 @@ pub pick_may : (may : ℕ → Bool) (station : ℕ → ℕ) (taken : ℕ → Boo
     → may x ≡ true
 pick_may may station taken x e = (and_parts (may x) _ e).0
 
+-- what is chosen has a station that is not busy
 pub pick_free : (may : ℕ → Bool) (station : ℕ → ℕ) (taken : ℕ → Bool) (x : ℕ) → pick may station taken x ≡ true
     → taken (station x) ≡ false
 pick_free may station taken x e = not-true _ (and_parts (not (taken (station x))) _ (and_parts (may x) _ e).1).0
 
+-- a sum whose terms are at most those of another is at most the other
 pub sum_le : (n : ℕ) (f g : ℕ → ℕ) → ((x : ℕ) → x < n → f x ≤ g x) → sum n f ≤ sum n g
 sum_le zero f g h = omega arith
 sum_le (suc n) f g h = let a : f n ≤ g n = h n (omega arith) in
     let b : sum n f ≤ sum n g = sum_le n f g (λ x l. h x (omega arith)) in omega (arith, a, b)
 
+-- a sum of such terms, one of which is lower by d, is lower by d
 pub sum_drop : (n : ℕ) (f g : ℕ → ℕ) (d x : ℕ) → ((y : ℕ) → y < n → f y ≤ g y) → x < n → f x + d ≤ g x
     → sum n f + d ≤ sum n g
 sum_drop zero f g d x h l e = absurd (omega arith)
@@ -115,6 +119,7 @@ found_le (suc n) p f m h = go (found_le n p f m (λ x l. h x (omega arith))) (p 
     go ih true = h n (omega arith)
     go ih false = ih
 
+-- where some number passes a test, what is found of positive numbers is positive
 pub found_pos : (n : ℕ) (p : ℕ → Bool) (f : ℕ → ℕ) (x : ℕ) → ((y : ℕ) → y < n → 1 ≤ f y) → x < n → p x ≡ true
     → 1 ≤ found n p f
 found_pos zero p f x h l e = absurd (omega arith)

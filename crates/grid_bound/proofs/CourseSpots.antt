@@ -1,5 +1,5 @@
 -- The places that a block asks for, what an instruction takes that gives a token, and which reads there are.
-use Rattle.std.proofs.Common.{◌≡◌, ◌≢◌, ℕ, zero, suc, ◌+◌, ◌-◌, ◌<◌, ◌⊎◌, inl, inr, Bool, true, false}
+use Rattle.std.proofs.Common.{◌≡◌, ◌≢◌, ℕ, zero, suc, ◌+◌, ◌<◌, ◌⊎◌, inl, inr, Bool, true, false}
 use Rattle.std.proofs.Common.{List, [], ◌∷◌, ◌++◌, length, Some, None, is_some, slice_get}
 use Rattle.std.proofs.Common.{refl, sym, ap, ◌∙◌, subst, arith}
 use Rattle.std.specs.Prelude.{All}
@@ -26,11 +26,13 @@ use Rattle.grid_bound.specs.inside.Blocks.{writes_of}
 
 -- spots -------------------------------------------------------------------------------------------
 
+-- a member of a list with one item more, if a test says so, is this item or a member of the list
 pub member_if : (b : Bool) (p q : ℕ) (qs : List ℕ) → Member q (if_so b p qs) → ((b ≡ true) × (p ≡ q)) ⊎ Member q qs
 member_if true p q qs (inl e) = inl (refl, e)
 member_if true p q qs (inr m) = inr m
 member_if false p q qs m = inr m
 
+-- a member of two lists together is one of the first or of the second
 pub member_both : (q : ℕ) (ps qs : List ℕ) → Member q (ps ++ qs) → Member q ps ⊎ Member q qs
 member_both q [] qs m = inr m
 member_both q (p ∷ ps) qs (inl e) = inl (inl e)
@@ -44,6 +46,7 @@ member_both q (p ∷ ps) qs (inr m) = go (member_both q ps qs m)
 abbrev pub NumberOf : ℕ → ℕ → ℕ → Type 0
 NumberOf mask n q = (m : ℕ) × (m < n) × (in_mask mask m ≡ true) × (416 + m ≡ q)
 
+-- a member of the numbers of a mask is the spot of one of its numbers
 pub a_number : (mask n q : ℕ) → Member q (numbers_in mask n) → NumberOf mask n q
 a_number mask zero q m = absurd m
 a_number mask (suc n) q m = go (a_number mask n q) (member_if (in_mask mask n) (416 + n) q (numbers_in mask n) m)
@@ -53,6 +56,7 @@ a_number mask (suc n) q m = go (a_number mask n q) (member_if (in_mask mask n) (
     go ih (inl h) = (n, omega arith, h.0, h.1)
     go ih (inr h) = let d : NumberOf mask n q = ih h in let l : d.0 < n = d.1 in (d.0, omega (arith, l), d.2, d.3)
 
+-- a member of the writes of a block is the spot of one of them
 pub a_write : (n q : ℕ) → Member q (writes_of n) → (w : ℕ) × (w < n) × (384 + w ≡ q)
 a_write zero q m = absurd m
 a_write (suc n) q (inl e) = (n, omega arith, e)
@@ -74,6 +78,7 @@ gives_left Reading c l r h t = absurd (cc)
 gives_left Free c l r h t = absurd (cc)
 gives_left Nothing c l r h t = absurd (cc)
 
+-- an instruction that takes a right operand gives a token only where this has come
 pub gives_right : (e : Role) (c : ℕ → ℕ → ℕ) (l r : Answer) → is_some (gives e c l r) ≡ true → takes_right e ≡ true
     → is_some r ≡ true
 gives_right Both c None r h t = absurd (cc)
@@ -87,6 +92,7 @@ gives_right Reading c l r h t = absurd (cc)
 gives_right Free c l r h t = absurd (cc)
 gives_right Nothing c l r h t = absurd (cc)
 
+-- a predicate that matches has come, where the instruction has one
 pub matched_some : (s : Sense) (p : Answer) → matched s p ≡ true → is_guarded s ≡ true → is_some p ≡ true
 matched_some Always p h t = absurd (cc)
 matched_some OnTrue None h t = absurd (cc)
@@ -104,6 +110,7 @@ abbrev pub GivenAt : List Node → ℕ → (ℕ → Answer) → Type 0
 GivenAt ns q f = (y : ℕ) × (m : Node) × (slice_get ns y ≡ Some m) × (names (targets m) q ≡ true)
     × (is_some (f y) ≡ true)
 
+-- a token that is first at a place is given there by a node
 pub first_from : (ns : List Node) (q : ℕ) (f : ℕ → Answer) → is_some (first ns q f) ≡ true → GivenAt ns q f
 first_from [] q f e = absurd (cc)
 first_from (n ∷ ns) q f e = go (names (targets n) q) refl (f 0) refl (first_from ns q (λ y. f (suc y))) e
@@ -122,25 +129,30 @@ first_from (n ∷ ns) q f e = go (names (targets n) q) refl (f 0) refl (first_fr
 pub some_there : (t : Answer) → is_some t ≡ true → t ≢ None
 some_there t e z = let k : is_some t ≡ false = ap is_some z in cc
 
+-- what is not nothing is something
 pub there_some : (t : Answer) → t ≢ None → is_some t ≡ true
 there_some None n = absurd (n refl)
 there_some (Some k) n = refl
 
+-- the number of a read is below the count of reads
 pub read_below : (rs : List ReadSlot) (y : ℕ) (slot : ReadSlot) → slice_get rs y ≡ Some slot → y < length rs
 read_below [] y slot e = absurd (cc)
 read_below (r ∷ rs) zero slot e = omega arith
 read_below (r ∷ rs) (suc y) slot e = let l = read_below rs y slot e in omega (arith, l)
 
+-- of reads that all fit each one does
 pub each_read : (rs : List ReadSlot) → All FitsRead rs → (k : ℕ) (slot : ReadSlot) → slice_get rs k ≡ Some slot
     → FitsRead slot
 each_read [] all k slot i = absurd (cc)
 each_read (x ∷ rs) all zero slot i = let same : x ≡ slot = cc in subst FitsRead same (All-head FitsRead x rs all)
 each_read (x ∷ rs) all (suc k) slot i = each_read rs (All-tail FitsRead x rs all) k slot i
 
+-- a node that names a number names one below each greater number
 pub below_number : (ts : List ℕ) (m k : ℕ) → m < k → names ts (416 + m) ≡ true → stores_below ts (416 + k) ≡ true
 below_number [] m k l e = absurd (cc)
 below_number (t ∷ ts) m k l e = grind (arith, nat_tests, below_number ts m k l)
 
+-- a load waits for the stores of the numbers below its own
 pub bound_of_load : (t : Form) (n : ℕ) → is_load t ≡ true → load_bound t n ≡ 416 + n
 bound_of_load Load n e = refl
 bound_of_load General n e = absurd (cc)

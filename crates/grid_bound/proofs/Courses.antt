@@ -18,7 +18,7 @@ use Rattle.trips_isa.specs.Rule.{Answer, matched, gives, rule}
 use Rattle.trips_isa.specs.Places.{nodes_of, inst_node, read_node, targets, names, place_of}
 use Rattle.trips_isa.specs.Places.{place_at}
 use Rattle.trips_isa.specs.Places.{first_place}
-use Rattle.trips_isa.specs.Tables.{node_gives, first, stores_below, Edge, Ranked}
+use Rattle.trips_isa.specs.Tables.{node_gives, stores_below, Edge, Ranked}
 use Rattle.trips_isa.specs.Blocks.{Responses, at_place, computes}
 use Rattle.trips_isa.specs.inside.Blocks.{Solves}
 use Rattle.trips_isa.specs.Limits.{most_nodes}

@@ -57,12 +57,14 @@ module _ {W : Type 0} (blocks : List Block) (good : AllGood blocks) (budget : �
     cycles_ruled (suc n) g h cycles r =
         eager_ruled cycles.between h cycles.after (cycles_ruled n g cycles.between cycles.before r)
 
+    -- an eager cycle keeps the grid's rule
     pub cycle_rule : (g h : Grid W) → WindowOk blocks budget g.window → GridRule g
         → Eager next follows blocks budget g h → GridRule h
     cycle_rule g h ok rule cycle =
         let k = eager_ruled g h cycle (record { ok = ok; ties = ties_of 1 g rule; fetch = rule.fetch }) in
         rule_of 1 h k.ties k.fetch
 
+    -- eager cycles keep the grid's rule
     pub cycles_rule : (n : ℕ) (g h : Grid W) → WindowOk blocks budget g.window → GridRule g
         → AfterCycles next follows blocks budget n g h → GridRule h
     cycles_rule n g h ok rule cycles =

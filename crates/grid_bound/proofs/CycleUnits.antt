@@ -297,9 +297,11 @@ module _ (u u2 : ℕ → ℕ) (fits : (t : ℕ) → u t ≤ 24) (fits2 : (t : �
       at (inl l) = busy_outcome t (omega arith)
       at (inr l) = free_outcome t (omega arith)
 
+  -- the turn of the units raises no work
   pub turn_le : work u2 f2 ≤ work u f
   turn_le = work_le u u2 f f2 (λ t l. (outcome t).0)
 
+  -- the turn of the units lowers the work where a task has its turn
   pub turn_drop : (x : ℕ) → x < f.course.room → Turns x → work u2 f2 + 1 ≤ work u f
   turn_drop x l w = work_drop u u2 f f2 (tile_of f x) (λ t k. (outcome t).0) (good x).tile
       ((outcome (tile_of f x)).1 x l refl w)

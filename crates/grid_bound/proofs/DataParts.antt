@@ -358,7 +358,8 @@ tile_low f None = omega arith
 tile_low f (Some q) = tile_below q.1 (at f.spots q.0)
 
 module _ {W : Type 0} (blocks : List Block) (good : AllGood blocks) (budget least : ℕ) where
-  chosen_going : (tile : ℕ) (o : Option (ℕ × ℕ)) (g : Grid W) → Going blocks budget least g
+  -- that a data tile answers the request that it has chosen keeps the rule
+  pub chosen_going : (tile : ℕ) (o : Option (ℕ × ℕ)) (g : Grid W) → Going blocks budget least g
       → eldest (answers_request g tile) numbers g.window.frames ≡ o
       → Going blocks budget least (answer_chosen blocks budget tile o g)
   chosen_going tile None g go e = go

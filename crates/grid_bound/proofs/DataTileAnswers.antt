@@ -40,8 +40,8 @@ use Rattle.grid_bound.proofs.Sizes.{room_is, slot_is}
 use Rattle.grid_bound.specs.inside.Behind.{Behind}
 use Rattle.grid_bound.specs.inside.DataRule.{DataRule}
 use Rattle.grid_bound.proofs.Ahead.{same_number, younger_apart}
-use Rattle.grid_bound.proofs.Steady.{Onward, steady}
-use Rattle.grid_bound.proofs.Walk.{chosen_keeps}
+use Rattle.grid_bound.proofs.Steady.{Onward, On, steady}
+use Rattle.grid_cycle_spec.proofs.KeptByCycles.{answer_keeps}
 use Rattle.grid_bound.proofs.Others.{behind_at, answer_other}
 use Rattle.grid_bound.proofs.OldestEnds.{oldest_ok}
 use Rattle.grid_bound.proofs.Fronts.{front_behind}
@@ -207,8 +207,7 @@ module _ {W : Type 0} (blocks : List Block) (good : AllGood blocks) (budget : �
         }
 
     onward : Onward blocks budget h.window (answer_chosen blocks budget d (Some (e.number, k)) h).window
-    onward = chosen_keeps blocks budget (λ (g h : Grid W). Onward blocks budget g.window h.window)
-        (steady blocks budget good) d (Some (e.number, k)) h
+    onward = answer_keeps blocks budget (On blocks budget) (steady blocks budget good) tt d (e.number, k) tt h
 
     abbrev R : Grid W
     R = answered_by blocks budget d e.number k (Some (s, j)) h
@@ -281,6 +280,7 @@ module _ {W : Type 0} (blocks : List Block) (good : AllGood blocks) (budget : �
 
   -- the tile's turn ---------------------------------------------------------------------------------
 
+  -- the turn of a data tile leads the oldest frame to a stage to which the lane's tile may come
   pub data_turns : Turned o e d (data_turn blocks budget d h) (Running F)
   data_turns = subst (λ l. Turned o e d (answer_chosen blocks budget d (eldest (answers_request h d) numbers l) h)
       (Running F))
@@ -288,11 +288,10 @@ module _ {W : Type 0} (blocks : List Block) (good : AllGood blocks) (budget : �
     where
       tail : (q : Option (ℕ × ℕ)) → eldest (answers_request h d) numbers younger ≡ q
           → Behind e h (answer_chosen blocks budget d q h)
-      tail None z = behind_at blocks budget e h younger i
-      tail (Some q) z = answer_other blocks budget e h d q
+      tail None z = behind_at e h younger i
+      tail (Some q) z = answer_other blocks good budget e h h ok (behind_at e h younger i) d q
           (elder_other (answers_request h d) numbers e.number younger q
           (younger_apart blocks budget h.window e younger ok i) z)
-          h ok (behind_at blocks budget e h younger i)
 
       go : (q : Option ℕ) → least test numbers 0 ≡ q
           → Turned o e d (answer_chosen blocks budget d

@@ -34,6 +34,7 @@ apart m n ne = go (m == n) refl
     go true e = absurd (ne (equal m n e))
     go false e = e
 
+-- numbers that test as not equal differ
 pub differ : (m n : ℕ) → (m == n) ≡ false → m ≢ n
 differ m n e z = true≢false (sym (same n) ∙ ap (λ k. k == n) (sym z) ∙ e)
 
@@ -59,6 +60,7 @@ module _ (P : Frame → Type 0) where
   each_join (f ∷ fs) gs h k = (h.0, each_join fs gs h.1 k)
 
 module _ (P Q : Frame → Type 0) where
+  -- what holds of each frame, and has something else follow, has this hold of each
   pub each_map : ((f : Frame) → P f → Q f) → (fs : List Frame) → EachFrame P fs → EachFrame Q fs
   each_map h [] e = tt
   each_map h (f ∷ fs) e = (h f e.0, each_map h fs e.1)
@@ -84,6 +86,7 @@ pub any_flight : (n : ℕ) (fs : List Frame) → list_any (λ m. m == n) (nums f
 any_flight n [] = refl
 any_flight n (f ∷ fs) = ap (λ b. (f.number == n) || b) (any_flight n fs)
 
+-- a frame of a number is among some frames exactly where this number is in flight
 pub of_flight : (n : ℕ) (fs : List Frame) → is_of fs n ≡ in_flight n fs
 of_flight n [] = refl
 of_flight n (f ∷ fs) = ap (λ b. (f.number == n) || b) (of_flight n fs)
@@ -92,6 +95,7 @@ or_assoc : (a b c : Bool) → ((a || b) || c) ≡ (a || (b || c))
 or_assoc true b c = refl
 or_assoc false b c = refl
 
+-- a number is in flight in two lists together where it is in one of them
 pub flight_join : (n : ℕ) (fs gs : List Frame) → in_flight n (fs ++ gs) ≡ (in_flight n fs || in_flight n gs)
 flight_join n [] gs = refl
 flight_join n (f ∷ fs) gs = ap (λ b. (f.number == n) || b) (flight_join n fs gs)
@@ -126,6 +130,7 @@ and_none : (a : Bool) → (a && false) ≡ false
 and_none true = refl
 and_none false = refl
 
+-- whether a frame of another number runs is asked of the frames behind
 pub runs_one : (m : ℕ) (f : Frame) (gs : List Frame) → f.number ≢ m → runs_in m (f ∷ gs) ≡ runs_in m gs
 runs_one m f gs d = ap (λ b. (b && not f.sealed) || runs_in m gs) (apart f.number m d)
 

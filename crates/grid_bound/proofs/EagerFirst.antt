@@ -1,7 +1,7 @@
 -- A grid of its own comes first at each station, so every eager cycle serves its oldest frame.
 use Rattle.std.proofs.Common.{◌≡◌, ◌≢◌, ℕ, ◌-◌, ◌^◌, ◌<◌, ◌≤◌, ◌⊎◌, inl, inr, List, []}
 use Rattle.std.proofs.Common.{length, Some, slice_get, slice_index}
-use Rattle.std.proofs.Common.{refl, sym, ap, ◌∙◌, subst, arith}
+use Rattle.std.proofs.Common.{refl, ap, ◌∙◌, subst, arith}
 use Rattle.trips_isa.specs.declared.block.Block.{Block}
 use Rattle.trips_isa.specs.declared.run.Stepped.{Stepped}
 use Rattle.trips_isa.specs.declared.run.Stepped.TheVariants as stepped
@@ -12,7 +12,7 @@ use Rattle.grid_cycle_spec.specs.Grid.{Grid, numbers_of}
 use Rattle.grid_cycle_spec.specs.Costs.{size}
 use Rattle.grid_cycle_spec.specs.Ends.{ends}
 use Rattle.grid_cycle_spec.specs.Fetches.{fetches}
-use Rattle.grid_cycle_spec.specs.Cycles.{acts, Moves, Follows, Eager}
+use Rattle.grid_cycle_spec.specs.Cycles.{Moves, Follows, Eager}
 use Rattle.grid_bound.specs.inside.Serving.{Served}
 use Rattle.grid_bound.specs.inside.Shows.{IsDue, Traps}
 use Rattle.grid_bound.specs.inside.CycleRule.{CycleRule}

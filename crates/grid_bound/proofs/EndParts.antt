@@ -220,10 +220,12 @@ module _ {W : Type 0} (blocks : List Block) (good : AllGood blocks) (budget leas
       go false e = r
       go true e = frames g.window.frames refl (done_is (can blocks budget Commit g.window) e)
 
+  -- part (1) of a cycle keeps the rule of window and grid
   pub ends_ruled : (g : Grid W) → Ruled blocks budget least g → Ruled blocks budget least (ends blocks budget g)
   ends_ruled g r = commit_ruled (seal_each blocks budget (numbers_of g.window.frames) g)
       (seals_ruled blocks good budget least (numbers_of g.window.frames) g r)
 
+  -- part (1) of a cycle keeps the rule of the grid
   pub ends_rule : (g : Grid W) → WindowOk blocks budget g.window → RuleFrom least g
       → RuleFrom least (ends blocks budget g)
   ends_rule g ok rule =

@@ -20,6 +20,7 @@ use Rattle.grid_bound.proofs.Travels.{IsPlace}
 pub put_here : (m : Places) (n p : ℕ) (s : Stand) → put m n p s n p ≡ s
 put_here m n p s = ap₂ (λ a b. cond (a && b) s (m n p)) (same n) (same p)
 
+-- to put something in a place changes no other
 pub put_other : (m : Places) (n p : ℕ) (s : Stand) (k q : ℕ) → (k ≢ n) ⊎ (q ≢ p) → put m n p s k q ≡ m k q
 put_other m n p s k q (inl d) = ap (λ a. cond (a && (q == p)) s (m k q)) (apart k n d)
 put_other m n p s k q (inr d) = ap (λ b. cond ((k == n) && b) s (m k q)) (apart q p d) ∙ none (k == n)
@@ -115,6 +116,7 @@ module _ {W : Type 0} where
     other k q (inr d) = one_other (is_some (at f.places (suc p))) middle f.number (suc p) s2 k q (inr d.1)
         ∙ one_other (is_some (at f.places p)) g.parcels f.number p s1 k q (inr d.0)
 
+    -- where both tokens of a node enter the mesh, only the parcels change, in its two places
     pub both_enter : (after : Places) × (enter_both from f p g ≡ record g { parcels = after })
         × Entered f p g.parcels after
     both_enter = (

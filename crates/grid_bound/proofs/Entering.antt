@@ -48,6 +48,7 @@ slot_targets b s i l e =
       second_goes b (slot_node b s) (2 * s) even (slot_source b s l) ∙ ap (λ n. named_at n false) n,
     )
 
+-- the places of a read have the targets that it names
 pub read_targets : (b : Block) (r : ℕ) (slot : ReadSlot) → slice_get b.reads.items r ≡ Some slot
     → (target b (256 + 2 * r) ≡ place_of slot.first) × (target b (suc (256 + 2 * r)) ≡ place_at slot.second)
 read_targets b r slot e =
@@ -104,9 +105,11 @@ launched from f n b q old e z =
     go false = refl
 
 module _ {W : Type 0} (from : ℕ) (f : Frame) where
+  -- the generation of a frame's number
   abbrev pub born : Grid W → ℕ
   born g = slice_index g.window.generations f.number
 
+  -- a token that enters makes a parcel in its own place, and changes no other
   pub one_entered : (g : Grid W) (b : Bool) (place to q : ℕ)
       → (cond b (enters f.number place from to g) g).parcels f.number q
       ≡ cond (b && q == place) (parcel (born g) from to) (g.parcels f.number q)
@@ -142,6 +145,7 @@ module _ {W : Type 0} (from : ℕ) (f : Frame) where
       ∙ one_entered g (is_some (at f.places place)) place (home f.code (target f.code place)) q
       ∙ cond-false _ _ _ (and_off _ _ (ne_eqb q place n))
 
+  -- the first token of a node enters the mesh on its way to its target, if there is one
   pub first_enters : (g : Grid W) (place : ℕ) → is_some (at f.places place) ≡ is_target (target f.code place)
       → g.parcels f.number place ≡ Nowhere
       → (enter_both from f place g).parcels f.number place
@@ -155,6 +159,7 @@ module _ {W : Type 0} (from : ℕ) (f : Frame) where
       (and_on (is_some (at f.places place)) (place == place) (eq-eqb place place refl))
       ∙ launched from f (born g) (is_some (at f.places place)) (target f.code place) (g.parcels f.number place) e z
 
+  -- the second token of a node enters the mesh on its way to its target, if there is one
   pub second_enters : (g : Grid W) (place : ℕ)
       → is_some (at f.places (suc place)) ≡ is_target (target f.code (suc place))
       → g.parcels f.number (suc place) ≡ Nowhere

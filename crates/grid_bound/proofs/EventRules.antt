@@ -5,13 +5,12 @@ use Rattle.std.proofs.Common.{List, [], ◌∷◌, ◌++◌, Option, Some, None,
 use Rattle.std.proofs.Common.{◌∙◌, subst}
 use Rattle.trips_isa.specs.declared.block.Stored.{Stored}
 use Rattle.trips_isa.specs.declared.block.Block.{Block}
-use Rattle.trips_isa.specs.declared.form.Form.TheVariants.{Load, Store}
 use Rattle.trips_isa.specs.declared.run.Stepped.{Stepped}
 use Rattle.trips_isa.specs.declared.run.Stepped.TheVariants as stepped
 use Rattle.trips_isa.specs.Forms.{is_store}
 use Rattle.trips_isa.specs.Outcomes.{Outcome, Comes, Faults, unless}
 use Rattle.trips_isa.specs.Stores.{stored_of}
-use Rattle.commit_flush_spec.specs.Frames.{Frame, Exit, at, fresh, numbers}
+use Rattle.commit_flush_spec.specs.Frames.{Frame, at, fresh, numbers}
 use Rattle.commit_flush_spec.specs.Frames.{slot_node}
 use Rattle.commit_flush_spec.specs.Sending.{mark_with}
 use Rattle.commit_flush_spec.specs.Older.{Older, after, follows, successor_of, passes, nearest, violated, cut}

@@ -190,7 +190,8 @@ module _ {W : Type 0} (blocks : List Block) (good : AllGood blocks) (budget leas
           let done = done_is (can blocks budget (Fetch f.block) g.window) i in
           fills_going blocks good budget least f g r done (filled_so blocks good budget least f g r done)
 
-  ended_going : (o : Option Fetching) (g : Grid W) → g.fetching ≡ o → Going blocks budget least g
+  -- that a fetch goes on or ends keeps the rule
+  pub ended_going : (o : Option Fetching) (g : Grid W) → g.fetching ≡ o → Going blocks budget least g
       → Going blocks budget least (fetch_ends blocks budget o g)
   ended_going None g e r = r
   ended_going (Some f) g e r = on_going f.left f g refl (subst (FetchRule (known_next g.window)) e r.fetch) r
@@ -234,7 +235,8 @@ module _ {W : Type 0} (blocks : List Block) (good : AllGood blocks) (budget leas
       (ap (λ y. follows y g.window.state.next) e ∙ same g.window.state.next) r
   after_going (f ∷ fs) g e r = youngest_going f fs (committed g.window.state) g e r
 
-  begins_going : (o : Option Fetching) (g : Grid W) → Going blocks budget least g
+  -- that a fetch begins keeps the rule
+  pub begins_going : (o : Option Fetching) (g : Grid W) → Going blocks budget least g
       → Going blocks budget least (fetch_begins blocks o g)
   begins_going (Some f) g r = r
   begins_going None g r = go (has_room g.window)

@@ -102,6 +102,7 @@ fires_form k i s e = by k
     by form.Immediate = sends (token_with (record e { fired = set e.fired s true }) (slot_node e.code s) 0)
     by form.Constant = sends (token_with (record e { fired = set e.fired s true }) (slot_node e.code s) 0)
 
+-- a frame whose slot fires keeps all but what firing changes
 pub fires_slot : (s : ℕ) (o : Older) (e : Frame) (i : Inst) → slot_of e.code s ≡ Some i → Fires e (fire s o e) s i
 fires_slot s o e i z =
     subst (λ q. Fires e (fire_inst q s (record e { fired = set e.fired s true })) s i) (sym z)

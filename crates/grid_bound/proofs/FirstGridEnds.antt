@@ -1,24 +1,20 @@
 -- Behind a cycle in which a grid comes first, the state is that behind part (1), and the run has ended as there.
-use Rattle.std.proofs.Common.{◌≡◌, ◌≢◌, ℕ, ◌==◌, inl, inr}
-use Rattle.std.proofs.Common.{List, [], ◌∷◌}
+use Rattle.std.proofs.Common.{◌≡◌, ◌≢◌, ℕ, inl, inr}
+use Rattle.std.proofs.Common.{List, []}
 use Rattle.std.proofs.Common.{refl, sym, ap, ◌∙◌, subst}
 use Rattle.std.proofs.lemmas.Bool.{cond_both}
 use Rattle.trips_isa.specs.declared.block.Block.{Block}
 use Rattle.trips_isa.specs.declared.run.Stepped.{Stepped}
 use Rattle.trips_isa.specs.declared.run.Stepped.TheVariants as stepped
-use Rattle.commit_flush_spec.specs.Window.{Window, happens}
+use Rattle.commit_flush_spec.specs.Window.{Window}
 use Rattle.commit_flush_spec.specs.Window as window
 use Rattle.commit_flush_spec.specs.inside.Invariant.{AllGood}
-use Rattle.grid_cycle_spec.specs.Grid.{Grid, forget, numbers_of}
+use Rattle.grid_cycle_spec.specs.Grid.{Grid, numbers_of}
 use Rattle.grid_cycle_spec.specs.Acting.{may}
-use Rattle.grid_cycle_spec.specs.Ends.{seal_one, seal_each, commit_in, commit_oldest, ends}
-use Rattle.grid_cycle_spec.specs.Banks.{reads_answered}
-use Rattle.grid_cycle_spec.specs.DataTiles.{answers}
-use Rattle.grid_bound.specs.inside.Sending.{fetching}
+use Rattle.grid_cycle_spec.specs.Ends.{seal_each, commit_in, commit_oldest, ends}
 use Rattle.grid_bound.specs.inside.ServedFirst.{worked, RestFirst, FetchesFirst, ActsFirst, ServedFirst}
-use Rattle.grid_bound.proofs.Steady.{Onward, then_onward, event_onward, steady}
-use Rattle.grid_bound.proofs.Walk.{fetches_keep, fetched_keeps, banks_keep, answers_keep, works_keep}
-use Rattle.grid_bound.proofs.Walk.{arrivals_keep}
+use Rattle.grid_cycle_spec.proofs.KeptByCycles.{seals_keep, fetches_keep, fetched_keeps, worked_keep, arrivals_keep}
+use Rattle.grid_bound.proofs.Steady.{On, then_onward, steady}
 
 -- without a frame in flight nothing is sealed or committed
 pub idle_ends : {W : Type 0} (blocks : List Block) (budget : ℕ) (g : Grid W) → g.window.frames ≡ []
@@ -29,40 +25,19 @@ idle_ends blocks budget g i =
     (λ z. ap (λ l. commit_in blocks budget l g) i) (λ z. refl)
 
 module _ {W : Type 0} (blocks : List Block) (good : AllGood blocks) (budget : ℕ) where
-  sealed_onward : (n : ℕ) (m : Grid W) → Onward blocks budget m.window (seal_one blocks budget n m).window
-  sealed_onward n m = cond_both (may blocks budget (window.Seal n) m)
-      (forget (λ j. j == n) (record m { window = happens blocks budget (window.Seal n) m.window })) m
-      (λ h. Onward blocks budget m.window h.window)
-      (λ z. event_onward blocks budget good (window.Seal n) (λ e. cc) m.window _ refl)
-      (λ z. (steady blocks budget good).same m)
-
-  pub seals_onward : (ns : List ℕ) (m : Grid W) → Onward blocks budget m.window (seal_each blocks budget ns m).window
-  seals_onward [] m = (steady blocks budget good).same m
-  seals_onward (n ∷ ns) m = let k : Grid W = seal_one blocks budget n m in
-      then_onward blocks budget m.window k.window (seal_each blocks budget ns k).window (sealed_onward n m)
-      (seals_onward ns k)
+  -- the seals of part (1) commit nothing
+  pub seals_onward : (ns : List ℕ) (m : Grid W) → On blocks budget m (seal_each blocks budget ns m)
+  seals_onward = seals_keep blocks budget (On blocks budget) (steady blocks budget good) tt
 
   -- behind part (1) a cycle commits nothing, and does not end the run
-  abbrev On : Grid W → Grid W → Type 0
-  On m h = Onward blocks budget m.window h.window
-
-  worked_on : (m : Grid W) → On m (worked blocks budget m)
-  worked_on m =
-      let b : Grid W = reads_answered blocks budget m in
-      let c : Grid W = answers blocks budget b in
-      then_onward blocks budget m.window b.window (worked blocks budget m).window
-      (banks_keep blocks budget On (steady blocks budget good) m)
-      (then_onward blocks budget b.window c.window (worked blocks budget m).window
-      (answers_keep blocks budget On (steady blocks budget good) b)
-      (works_keep blocks budget On (steady blocks budget good) c))
-
-  rest_on : (m h : Grid W) → RestFirst blocks budget m h → On m h
+  rest_on : (m h : Grid W) → RestFirst blocks budget m h → On blocks budget m h
   rest_on m h s =
       let d : Grid W = worked blocks budget m in
       let n : Grid W = record d { units = s.units; parcels = s.parcels; weather = s.weather } in
-      then_onward blocks budget m.window d.window h.window (worked_on m)
-      (subst (On d) (sym s.arrived) (arrivals_keep blocks budget On (steady blocks budget good)
-      (numbers_of d.window.frames) n))
+      then_onward blocks budget m.window d.window h.window
+      (worked_keep blocks budget (On blocks budget) (steady blocks budget good) (λ n. tt) tt tt m)
+      (subst (λ k. On blocks budget d k) (sym s.arrived) (arrivals_keep blocks budget (On blocks budget)
+      (steady blocks budget good) (λ n. tt) (numbers_of d.window.frames) n))
 
   -- the committed state and the ending are those behind part (1)
   abbrev Alike : Grid W → Grid W → Type 0
@@ -70,15 +45,18 @@ module _ {W : Type 0} (blocks : List Block) (good : AllGood blocks) (budget : �
       × (h.window.over ≡ (ends blocks budget g).window.over)
 
   module _ (held_from held_to : ℕ) where
-    pub fetches_on : (m h : Grid W) → FetchesFirst blocks budget held_from held_to m h → On m h
-    fetches_on m h (inl e) = subst (On m) (sym e) (fetches_keep blocks budget On (steady blocks budget good) m)
-    fetches_on m h (inr e) =
-        subst (On m) (sym e.0) (fetched_keeps blocks budget On (steady blocks budget good) m.fetching m)
+    -- part (2), where the grid comes first, commits nothing
+    pub fetches_on : (m h : Grid W) → FetchesFirst blocks budget held_from held_to m h → On blocks budget m h
+    fetches_on m h (inl e) = subst (λ k. On blocks budget m k) (sym e)
+        (fetches_keep blocks budget (On blocks budget) (steady blocks budget good) tt m)
+    fetches_on m h (inr e) = subst (λ k. On blocks budget m k) (sym e.0)
+        (fetched_keeps blocks budget (On blocks budget) (steady blocks budget good) tt m.fetching m)
 
-    acts_on : (m h : Grid W) → ActsFirst blocks budget held_from held_to m h → On m h
+    acts_on : (m h : Grid W) → ActsFirst blocks budget held_from held_to m h → On blocks budget m h
     acts_on m h a = then_onward blocks budget m.window (a.fetched).window h.window
         (fetches_on m a.fetched a.is_fetched) (rest_on a.fetched h a.rest)
 
+    -- a cycle in which a grid comes first leaves the state and the end of the run as part (1) does
     pub ends_alike : (g h : Grid W) → ServedFirst blocks budget held_from held_to g h → Alike g h
     ends_alike g h first = by (ends blocks budget g).window.over refl
       where

@@ -10,13 +10,11 @@ use Rattle.trips_isa.specs.Rule.{Answer}
 use Rattle.commit_flush_spec.specs.Frames.{Frame, fresh}
 use Rattle.commit_flush_spec.specs.Ends.{complete}
 use Rattle.commit_flush_spec.specs.Older.{committed}
-use Rattle.commit_flush_spec.specs.Window as window
 use Rattle.commit_flush_spec.specs.inside.Invariant.{AllGood, FrameOk}
 use Rattle.commit_flush_spec.specs.inside.Laws.{WindowOk}
 use Rattle.grid_cycle_spec.specs.Grid.{Grid, Fetching, numbers_of}
 use Rattle.grid_cycle_spec.specs.Costs.{size}
 use Rattle.grid_cycle_spec.specs.Ends.{ends}
-use Rattle.grid_cycle_spec.specs.DataTiles.{answers}
 use Rattle.grid_cycle_spec.specs.Fetches.{fetch_on, fetch_ends, begins, fetches, stands}
 use Rattle.grid_bound.specs.inside.Course.{Course}
 use Rattle.grid_bound.specs.inside.Lane.{Stage, Running, is_complete}
@@ -321,6 +319,8 @@ module _ {W : Type 0} (blocks : List Block) (good : AllGood blocks) (budget held
         by (inl j) = inl (served (subst C (sym j) come))
         by (inr j) = other g.fetching refl j.0 (j.1 i)
 
+  -- a cycle in which a grid comes first traps, or serves the block that commits next, or this block waits for
+  -- the fetch unit
   pub serve_first : Traps h ⊎ ServedHeld sizes held_from held_to (lane_in g) (lane_in h)
   serve_first = by g.window.frames refl
     where

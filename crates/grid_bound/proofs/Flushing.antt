@@ -50,6 +50,7 @@ kept_rest known (f ∷ fs) = go (follows known f.block)
     go true = ([], no_more (f ∷ fs))
     go false = (f ∷ fs, refl)
 
+-- three lists together are the same whichever two are taken first
 pub append_more : (ds bs cs : List Frame) → (ds ++ bs) ++ cs ≡ ds ++ (bs ++ cs)
 append_more [] bs cs = refl
 append_more (a ∷ ds) bs cs = ap (λ l. a ∷ l) (append_more ds bs cs)
@@ -140,6 +141,7 @@ module _ {W : Type 0} (blocks : List Block) (good : AllGood blocks) (budget leas
   }
   flushed_going (x ∷ xs) t k = record { ok = k; went = went; ties = t; fetch = tt }
 
+  -- an event that leaves a beginning of the frames keeps the rule, the others being forgotten
   pub act_going : Going blocks budget least (act blocks budget e g)
   act_going = subst (λ (w : Window). Going blocks budget least
       (settled (flushed (gone g.window w) (record g { window = w })))) (sym is)

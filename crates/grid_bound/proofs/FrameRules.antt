@@ -41,6 +41,7 @@ use Rattle.commit_flush_spec.proofs.Stored.{number_small}
 use Rattle.commit_flush_spec.specs.inside.Observers.{has_number}
 use Rattle.commit_flush_spec.proofs.Fills.{fills}
 use Rattle.grid_bound.specs.inside.Rule.{StoredBy, Waits, FrameRule}
+use Rattle.grid_bound.proofs.RequestNumbers.{number_kind}
 
 -- sending ----------------------------------------------------------------------------------------
 
@@ -91,6 +92,7 @@ module _ (blocks : List Block) (good : AllGood blocks) (o : Older) (f : Frame) (
     pub small : r < 32
     pub is : read r o f ≡ send r (256 + 2 * r) token (record f { reads = set f.reads r true })
 
+  -- what is known of a read that may be answered
   pub reads : (r : ℕ) → can_read r o f ≡ Done → Reads r
   reads r c =
       let x = not_now f.sealed NoFrame _ c in
@@ -122,6 +124,7 @@ module _ (blocks : List Block) (good : AllGood blocks) (o : Older) (f : Frame) (
     pub ready : token_with f (slot_node f.code s) 0 ≢ None
     pub small : s < 128
 
+  -- what is known of an instruction that may be fired
   pub fires : (s : ℕ) → can_fire s o f ≡ Done → Fires s
   fires s c =
       let a = not_now f.sealed NoFrame _ c in
@@ -160,6 +163,7 @@ module _ (blocks : List Block) (good : AllGood blocks) (o : Older) (f : Frame) (
       loads = set f.loads n (Some taken);
     })
 
+  -- what is known of a load that may be answered
   pub loads : (n : ℕ) → can_load n o f ≡ Done → Loads n
   loads n c =
       let a = not_now f.sealed NoFrame _ c in
@@ -177,6 +181,7 @@ module _ (blocks : List Block) (good : AllGood blocks) (o : Older) (f : Frame) (
         is = ap (load_answered n o f) q.is_request;
       }
 
+  -- a load that is answered sends its tokens to its two places
   pub load_sends : (n : ℕ) (k : Loads n) → Sent (record f {
     requests = set f.requests n None;
     loads = set f.loads n (Some k.taken);
@@ -189,6 +194,7 @@ module _ (blocks : List Block) (good : AllGood blocks) (o : Older) (f : Frame) (
       (slot_source f.code k.waits.slot k.small))
 
   module _ (rule : FrameRule f) where
+    -- a Read keeps its frame's rule
     pub read_rule : (r : ℕ) → can_read r o f ≡ Done → FrameRule (read r o f)
     read_rule r c =
         let k = reads r c in
@@ -218,14 +224,6 @@ module _ (blocks : List Block) (good : AllGood blocks) (o : Older) (f : Frame) (
           → is_store (form_of j.op) ≡ true → j.number ≡ (k.inst).number → ⊥
       load_store e t j d h z = load_not_store f.code (good f.block f.code ok.code) s t k.inst j k.is_inst d e h
           (sym z)
-
-      number_kind : (t : Form) → has_number t ≡ true → (is_load t ≡ true) ⊎ (is_store t ≡ true)
-      number_kind General e = absurd (true≢false (sym e))
-      number_kind Immediate e = absurd (true≢false (sym e))
-      number_kind Constant e = absurd (true≢false (sym e))
-      number_kind Branch e = absurd (true≢false (sym e))
-      number_kind Load e = inl refl
-      number_kind Store e = inr refl
 
       pub open_number : has_number (form_of (k.inst).op) ≡ true → at f.stores (k.inst).number ≡ None
       open_number e = elim (none_or (at f.stores (k.inst).number)) [
@@ -257,6 +255,7 @@ module _ (blocks : List Block) (good : AllGood blocks) (o : Older) (f : Frame) (
             ]
           ]
 
+      -- with the number of a load or a store that may be fired nothing waits
       pub free_number : has_number (form_of (k.inst).op) ≡ true → at f.requests (k.inst).number ≡ None
       free_number e = go (at f.requests (k.inst).number) refl
         where
@@ -319,12 +318,14 @@ module _ (blocks : List Block) (good : AllGood blocks) (o : Older) (f : Frame) (
         waits = rule.waits;
       }
 
+    -- a Fire keeps its frame's rule
     pub fire_rule : (s : ℕ) → can_fire s o f ≡ Done → FrameRule (fire s o f)
     fire_rule s c =
         let k = fires s c in
         subst (λ q. FrameRule (fire_inst q s (record f { fired = set f.fired s true }))) (sym k.is_inst)
         (form_rule s k (form_of (k.inst).op) refl)
 
+    -- a Deliver keeps its frame's rule
     pub deliver_rule : (p : ℕ) → can_deliver p o f ≡ Done → FrameRule (deliver p o f)
     deliver_rule p c = go (at f.places p)
       where
@@ -339,6 +340,7 @@ module _ (blocks : List Block) (good : AllGood blocks) (o : Older) (f : Frame) (
           waits = rule.waits;
         }
 
+    -- a Load keeps its frame's rule
     pub load_rule : (n : ℕ) → can_load n o f ≡ Done → FrameRule (load n o f)
     load_rule n c =
         let k = loads n c in
@@ -352,6 +354,7 @@ module _ (blocks : List Block) (good : AllGood blocks) (o : Older) (f : Frame) (
           ];
         })
 
+    -- a store that is resolved keeps its frame's rule
     pub store_rule : (n s : ℕ) (i : Inst) (v : Option Stored) (c : ℕ) → at f.requests n ≡ Some s
         → slot_of f.code s ≡ Some i → is_store (form_of i.op) ≡ true → FrameRule (with_store n v c f)
     store_rule n s i v c asks is kind = record {
@@ -381,9 +384,11 @@ module _ (blocks : List Block) (good : AllGood blocks) (o : Older) (f : Frame) (
       ];
     }
 
+    -- an exit that is resolved keeps its frame's rule
     pub exit_rule : (e : Option Exit) (c : ℕ) → FrameRule (with_exit e c f)
     exit_rule e c = record { targets = rule.targets; stored = rule.stored; waits = rule.waits }
 
+    -- a Seal keeps its frame's rule
     pub seal_rule : FrameRule (seal o f)
     seal_rule = record {
       targets = λ p h. absurd (h (emptied_at f.places p));

@@ -43,24 +43,29 @@ use Rattle.grid_bound.proofs.Fronts.{at_read}
 unfoldable pub told : Older → Frame → ℕ → Answer
 told o f = pulled (nodes_of f.code) (computes f.code (seen o f)) deepest
 
+-- the table of what a frame of a good block sees solves the block
 pub table_solves : (blocks : List Block) → AllGood blocks → (o : Older) (f : Frame)
     → slice_get blocks f.block ≡ Some f.code → Solves f.code (seen o f) (told o f)
 unfolding told
 table_solves blocks good o f code =
     pulled_is_table (nodes_of f.code) (good f.block f.code code).good.ranked (computes f.code (seen o f))
 
+-- the course of a good block by the table of what its frame sees is good
 pub table_good : (blocks : List Block) → AllGood blocks → (o : Older) (f : Frame)
     → slice_get blocks f.block ≡ Some f.code → Good (course_of f.code (told o f))
 table_good blocks good o f code =
     course_good f.code (good f.block f.code code) (seen o f) (told o f) (table_solves blocks good o f code)
 
 module _ (blocks : List Block) (good : AllGood blocks) (o : Older) (f : Frame) (ok : FrameOk blocks o f) where
+  -- the table of what this frame sees solves its block
   pub told_solves : Solves f.code (seen o f) (told o f)
   told_solves = table_solves blocks good o f ok.code
 
+  -- the table of what this frame sees holds of it
   pub told_holds : Holds blocks f (told o f)
   told_holds = ok.holds (seen o f) (told o f) told_solves (seen_agrees o f)
 
+  -- the course of this frame's block by its table is good
   pub told_good : Good (course_of f.code (told o f))
   told_good = course_good f.code (good f.block f.code ok.code) (seen o f) (told o f) told_solves
 

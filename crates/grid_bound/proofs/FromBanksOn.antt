@@ -34,8 +34,8 @@ use Rattle.grid_bound.specs.inside.Parts.{RowMoves, Working}
 use Rattle.grid_bound.specs.inside.CycleRule.{CycleRule}
 use Rattle.grid_bound.specs.inside.ServedFirst.{RestFirst}
 use Rattle.grid_bound.specs.inside.Lanes.{course_in}
-use Rattle.grid_bound.proofs.Steady.{Onward, steady}
-use Rattle.grid_bound.proofs.Walk.{banks_keep, answers_keep, works_keep, arrivals_keep}
+use Rattle.grid_cycle_spec.proofs.KeptByCycles.{banks_keep, answers_keep, works_keep, arrivals_keep}
+use Rattle.grid_bound.proofs.Steady.{Onward, On, steady}
 use Rattle.grid_bound.proofs.OldestEnds.{oldest_ok}
 use Rattle.grid_bound.specs.inside.MoveRule.{MoveRule}
 use Rattle.grid_bound.proofs.FrameTable.{told, told_table, told_same, told_solves, told_good}
@@ -82,20 +82,17 @@ module _ {W : Type 0} (blocks : List Block) (good : AllGood blocks) (budget : �
   N = record D { units = cycle.units; parcels = cycle.parcels; weather = cycle.weather }
 
   to_b : Onward blocks budget g.window B.window
-  to_b = banks_keep blocks budget (λ (g h : Grid W). Onward blocks budget g.window h.window)
-      (steady blocks budget good) g
+  to_b = banks_keep blocks budget (On blocks budget) (steady blocks budget good) (λ n. tt) tt g
 
   to_c : Onward blocks budget B.window C.window
-  to_c = answers_keep blocks budget (λ (g h : Grid W). Onward blocks budget g.window h.window)
-      (steady blocks budget good) B
+  to_c = answers_keep blocks budget (On blocks budget) (steady blocks budget good) (λ n. tt) tt B
 
   to_d : Onward blocks budget C.window D.window
-  to_d = works_keep blocks budget (λ (g h : Grid W). Onward blocks budget g.window h.window)
-      (steady blocks budget good) C
+  to_d = works_keep blocks budget (On blocks budget) (steady blocks budget good) (λ n. tt) tt tt C
 
   to_h : Onward blocks budget D.window (arrivals blocks budget (numbers_of D.window.frames) N).window
-  to_h = arrivals_keep blocks budget (λ (g h : Grid W). Onward blocks budget g.window h.window)
-      (steady blocks budget good) (numbers_of D.window.frames) N
+  to_h = arrivals_keep blocks budget (On blocks budget) (steady blocks budget good) (λ n. tt)
+      (numbers_of D.window.frames) N
 
   state_b : B.window.state ≡ g.window.state
   state_b = to_b.state
@@ -185,6 +182,7 @@ module _ {W : Type 0} (blocks : List Block) (good : AllGood blocks) (budget : �
               ∙ cond-true (nat_lt t 16) _ _ (lt-ltb t 16 m) ∙ ap (λ (u : ℕ → ℕ). u t - 1) units_c in
               ap (λ (u : ℕ → ℕ). u t) units_h ∙ cycle.own t (subst (λ j. 1 ≤ j) (sym e) l) ∙ e
 
+  -- without a frame in flight the lane makes of the fetch what the grid does from part (3) on
   pub waits : g.window.frames ≡ [] → Rest (fetch_of g g.fetching)
   waits i = by g.fetching refl
     where

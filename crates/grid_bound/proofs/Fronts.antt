@@ -94,6 +94,7 @@ pub record SameTask {W : Type 0} (g h : Grid W) (f e : Frame) (x : ℕ) : Type 0
   pub first : h.parcels e.number (2 * x) ≡ g.parcels f.number (2 * x)
   pub second : h.parcels e.number (suc (2 * x)) ≡ g.parcels f.number (suc (2 * x))
 
+-- how far a task is hangs on what is under way of it alone
 pub far_same : (k : Kind) (a a2 b b2 c c2 d d2 : Bool) (p p2 q q2 : Stand) → a2 ≡ a → b2 ≡ b → c2 ≡ c
     → (c ≡ true → d2 ≡ d) → p2 ≡ p → q2 ≡ q → slot_far k a2 b2 c2 d2 p2 q2 ≡ slot_far k a b c d p q
 far_same k a a2 b b2 c c2 d d2 p p2 q q2 ea eb ec ed ep eq =

@@ -55,6 +55,7 @@ known_of : (gs : List Frame) (o p : Older) → o.known ≡ p.known → (after_al
 known_of [] o p e = e
 known_of (g ∷ gs) o p e = known_of gs (after g o) (after g p) refl
 
+-- a frame that changes but keeps its exit leaves what is known of the next block
 pub known_same : (fs : List Frame) (f g : Frame) (gs : List Frame) (o : Older) → g.exit ≡ f.exit
     → (after_all (fs ++ g ∷ gs) o).known ≡ (after_all (fs ++ f ∷ gs) o).known
 known_same [] f g gs o e = known_of gs (after g o) (after f o) (ap (λ x. (after (record f { exit = x }) o).known) e)
@@ -82,6 +83,7 @@ pub record Acted (can : Older → Frame → Happened) (n : ℕ) (w : Window) : T
   pub there : FrameAt n w.frames
   pub asks : can (after_all there.older (committed w.state)) there.frame ≡ Done
 
+-- an event that is done acts at its frame in flight, where it may be done
 pub acted : (blocks : List Block) (budget : ℕ) (c : Cause) (can : Older → Frame → Happened) (n : ℕ) (w : Window)
     → WindowOk blocks budget w → on_frame (NotNow c) can (committed w.state) w.frames n ≡ Done → Acted can n w
 acted blocks budget c can n w ok d =

@@ -88,6 +88,7 @@ module _ {W : Type 0} (blocks : List Block) (good : AllGood blocks) (budget : �
   next_block : (x : Block) × (slice_get blocks h.window.state.next ≡ Some x)
   next_block = item_at blocks h.window.state.next ok.next
 
+  -- a grid that has its rule, and whose run goes on, stands as its next cycle asks
   pub stands_here : Stands blocks budget sizes h
   stands_here = record {
     ok = ok;
@@ -164,6 +165,7 @@ module _ {W : Type 0} (blocks : List Block) (good : AllGood blocks) (budget : �
       let room : length h.window.state.trace < budget = on.room in
       record { went = went; room = omega (arith, grown, room) }
 
+  -- each grid that eager cycles lead to from the stated start stands as its next cycle asks
   pub all_stand : (n : ℕ) (h : Grid W) → After n h → GoesOn budget h → h.counts.cycles < 2 ^ 64 - 1
       → AfterStanding next follows blocks budget sizes n g h
   all_stand zero h a on few = a

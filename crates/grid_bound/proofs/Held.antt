@@ -10,9 +10,9 @@ use Rattle.grid_bound.specs.inside.Answering.{answer_one, RunsOn, TileAnswers, T
 use Rattle.grid_bound.specs.inside.Turning.{turning}
 use Rattle.grid_bound.specs.inside.Moving.{moving}
 use Rattle.grid_bound.specs.inside.Serving.{Serves, Served}
-use Rattle.grid_bound.specs.inside.Left.{most, reserve, stage_left, left, price}
+use Rattle.grid_bound.specs.inside.Left.{reserve, stage_left, left, price}
 use Rattle.grid_bound.specs.inside.Laws.{StageRule, LaneRule, Falls}
-use Rattle.grid_bound.proofs.Served.{left_some, left_most, served_falls}
+use Rattle.grid_bound.proofs.Served.{left_some, left_most, served_falls, reserve_most}
 use Rattle.grid_bound.specs.inside.Held.{Waits, ServedHeld, held, left_held, FallsHeld}
 
 -- what is left of a stage
@@ -122,15 +122,12 @@ module _ (sizes : ℕ → ℕ) (l m : Lane) (rule : LaneRule sizes l) (j : ℕ) 
       fine : StageRule (sizes m.done) m.units (Fetching None w.careful)
       fine = tt
 
+  -- a cycle commits the block, or keeps the rule and lowers what is left, the wait for the fetch unit with it
   pub falls_held : (k : ℕ) → ServedHeld sizes k j l m → FallsHeld sizes k j l m
   falls_held k (inl s) = served_held k s
   falls_held k (inr w) = waits_held k w
 
 -- within the price
-reserve_most : (b : Bool) (n : ℕ) → reserve b n ≤ 256 + 128 * n
-reserve_most true n = omega arith
-reserve_most false n = omega arith
-
 pub held_most : (sizes : ℕ → ℕ) (l : Lane) (k : ℕ) → k < fetch_latency → LaneRule sizes l
     → left_held sizes k l ≤ price (sizes l.done)
 held_most sizes l k small r = by l.stage refl
@@ -147,5 +144,6 @@ held_most sizes l k small r = by l.stage refl
         let d : reserve c (sizes l.done) ≤ 256 + 128 * sizes l.done = reserve_most c (sizes l.done) in
         omega (arith, b, d, small)
 
+-- something is always left
 pub held_some : (sizes : ℕ → ℕ) (l : Lane) (k : ℕ) → 1 ≤ left_held sizes k l
 held_some sizes l k = let a : 1 ≤ left sizes l = left_some sizes l in omega (arith, a)

@@ -1,5 +1,5 @@
 -- Cycles in which a grid comes first are within the prices of the blocks that it commits meanwhile, and of the next.
-use Rattle.std.proofs.Common.{◌≡◌, ℕ, zero, suc, ◌+◌, ◌<◌, ◌≤◌, inl, inr, sym, ap, subst, subst₂, arith}
+use Rattle.std.proofs.Common.{◌≡◌, ℕ, zero, suc, ◌+◌, ◌<◌, ◌≤◌, inl, inr, sym, ap, subst₂, arith}
 use Rattle.grid_cycle_spec.specs.Costs.{fetch_latency}
 use Rattle.grid_bound.specs.inside.Lane.{Lane}
 use Rattle.grid_bound.specs.inside.Left.{price, total}

@@ -12,6 +12,7 @@ use Rattle.grid_cycle_spec.specs.Units.{in_unit, result_chosen, unit_on, issue_c
 use Rattle.grid_bound.proofs.TileResults.{units_on}
 
 module _ {W : Type 0} (blocks : List Block) (budget : ℕ) where
+  -- without a frame in flight the banks change nothing
   pub idle_banks : (n : ℕ) (g : Grid W) → g.window.frames ≡ [] → each (bank_turn blocks budget) n g ≡ g
   idle_banks zero g i = refl
   idle_banks (suc n) g i = ap (bank_turn blocks budget n) (idle_banks n g i)

@@ -1,5 +1,5 @@
 -- A slot that a unit issues keeps the rule.
-use Rattle.std.proofs.Common.{◌≡◌, ◌≢◌, ℕ, suc, ◌*◌, ◌&&◌, ◌||◌, not, Bool, true, false}
+use Rattle.std.proofs.Common.{◌≡◌, ◌≢◌, ℕ, suc, ◌*◌, ◌&&◌, not, Bool, true, false}
 use Rattle.std.proofs.Common.{inl, inr, List, Some, None, set, get_or, length}
 use Rattle.std.proofs.Common.{refl, sym, ap, ap₂, ◌∙◌, subst, arith}
 use Rattle.trips_isa.specs.declared.block.Inst.{Inst}
@@ -33,7 +33,7 @@ use Rattle.grid_bound.proofs.EachFrame.{FrameAt, answered_at}
 use Rattle.grid_bound.proofs.EachFrame.{own_at, same}
 use Rattle.grid_bound.proofs.FrameRules.{Fires, Sent, fire_sends, fires, free_exit, free_number}
 use Rattle.grid_bound.proofs.EventRules.{went}
-use Rattle.grid_bound.proofs.Travels.{IsPlace, and_none, come_by, false_of, first_travels, none_is}
+use Rattle.grid_bound.proofs.Travels.{IsPlace, and_none, no_travels, come_by, false_of, first_travels, none_is}
 use Rattle.grid_bound.proofs.Travels.{second_travels, unfired_none, waits_none, waits_other}
 use Rattle.grid_bound.proofs.TiedFrames.{fired_tied}
 use Rattle.grid_bound.proofs.GoingGrids.{Going, Moved, alone_is, frame_ok, frame_rule, frame_sure}
@@ -41,15 +41,6 @@ use Rattle.grid_bound.proofs.Units.{is_issued, more_frame, more_here, more_slot,
 use Rattle.grid_bound.proofs.GoingGrids.{frame_tied, moved, moved_to, sees, stepped}
 
 -- issues -----------------------------------------------------------------------------------------
-
--- in the places of a slot with no token and nothing to come there is no parcel
-quiet : (t : Form) (b : Bool) → form_travels t b false false ≡ false
-quiet General b = refl
-quiet Immediate b = refl
-quiet Constant b = refl
-quiet Load b = ap (λ x. x || false) (and_none b)
-quiet Store b = and_none b
-quiet Branch b = and_none b
 
 module _ {W : Type 0} (blocks : List Block) (good : AllGood blocks) (budget least : ℕ) (g : Grid W)
     (go : Going blocks budget least g) (tile : ℕ) (free : g.units tile ≡ 0) (n s : ℕ)
@@ -111,7 +102,7 @@ module _ {W : Type 0} (blocks : List Block) (good : AllGood blocks) (budget leas
         ∙ ap₂ (λ c t. not (g.works m s) && form_travels (form_of k.inst.op) true c t)
         (nothing_comes (form_of k.inst.op) refl)
         (none_is (at f.places (2 * s)) (unfired_none blocks o f ok s (2 * s) k.small (inl refl) k.unfired))
-        ∙ ap (λ b. not (g.works m s) && b) (quiet (form_of k.inst.op) true) ∙ and_none (not (g.works m s))
+        ∙ ap (λ b. not (g.works m s) && b) (no_travels (form_of k.inst.op) true) ∙ and_none (not (g.works m s))
     no_parcel q (inr e) = ap (λ j. is_here (g.parcels m j)) e
         ∙ (tied).travelling (suc (2 * s)) (let j = k.small in omega (arith, j))
         ∙ second_travels (g.asked m) (g.works m) f s k.inst k.small k.is_inst
@@ -119,7 +110,7 @@ module _ {W : Type 0} (blocks : List Block) (good : AllGood blocks) (budget leas
         (nothing_comes (form_of k.inst.op) refl)
         (none_is (at f.places (suc (2 * s)))
         (unfired_none blocks o f ok s (suc (2 * s)) k.small (inr refl) k.unfired))
-        ∙ ap (λ b. not (g.works m s) && b) (quiet (form_of k.inst.op) false) ∙ and_none (not (g.works m s))
+        ∙ ap (λ b. not (g.works m s) && b) (no_travels (form_of k.inst.op) false) ∙ and_none (not (g.works m s))
 
     -- the frame after the event, by what it has
     issued_going : (F : Frame) → fire s o f ≡ F → F.code ≡ f.code → F.number ≡ m → F.sealed ≡ false → F.exit ≡ f.exit
@@ -258,5 +249,6 @@ module _ {W : Type 0} (blocks : List Block) (good : AllGood blocks) (budget leas
     issue_going = subst (λ q. Going blocks budget least (issued blocks budget tile m s (takes q) g)) (sym k.is_inst)
         (form_going (form_of k.inst.op) refl)
 
+  -- a slot that a free unit issues keeps the rule
   pub fire_going : Going blocks budget least (issued blocks budget tile m s (takes (slot_of f.code s)) g)
   fire_going = issue_going (fires blocks good o f ok s asks)

@@ -331,6 +331,7 @@ module _ {W : Type 0} (g : Grid W) (f : Frame) where
       go true = asking_there s i.number
       go false = refl
 
+  -- a slot has a task exactly where the block has an instruction there
   pub slot_placed : (table : ℕ → Answer) (s : ℕ) (i : Option Inst)
       → is_there (slot_phase g f s i) ≡ (slot_task f.code table s i).declared
   slot_placed table s None = refl
@@ -341,6 +342,7 @@ module _ {W : Type 0} (g : Grid W) (f : Frame) where
       go true false = after_there s i (kind_of (form_of i.op))
       go false c = refl
 
+  -- a read has a task exactly where the block has it
   pub read_placed : (r : ℕ) (q : Option ReadSlot) → is_there (read_phase g f r q) ≡ (read_task f.code q).declared
   read_placed r None = refl
   read_placed r (Some slot) = go (get_or f.reads r false)

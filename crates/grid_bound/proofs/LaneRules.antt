@@ -40,6 +40,7 @@ fetch_rule : {W : Type 0} (n : ℕ) (u : ℕ → ℕ) (g : Grid W) (known : Opti
 fetch_rule n u g known None h = tt
 fetch_rule n u g known (Some f) h = let l = h.0 in omega (arith, l)
 
+-- a grid without a frame in flight has a lane that has its rule
 pub no_lane : {W : Type 0} (sizes : ℕ → ℕ) (g : Grid W) (c : Course) → GridRule g → g.window.frames ≡ []
     → LaneRule sizes (lane_of c g)
 no_lane sizes g c rule e = record {
@@ -124,6 +125,7 @@ module _ {W : Type 0} (blocks : List Block) (good : AllGood blocks) (g : Grid W)
     fine = fine;
   }
 
+-- a grid with a frame in flight has a lane that has its rule
 pub frame_lane : {W : Type 0} (blocks : List Block) (budget : ℕ) (sizes : ℕ → ℕ) (g : Grid W) (f : Frame)
     (fs : List Frame) (a : Responses) (t : ℕ → Answer) → AllGood blocks → WindowOk blocks budget g.window → GridRule g
     → g.window.frames ≡ f ∷ fs → Solves f.code a t

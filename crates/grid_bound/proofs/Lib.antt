@@ -6,6 +6,7 @@ pub mod OneCycle
 pub mod Landing
 pub mod LaneRules
 pub mod Oldest
+pub mod OldestMoves
 pub mod Asked
 pub mod EachFrame
 pub mod FrameRules
@@ -31,7 +32,6 @@ pub mod TickParts
 pub mod CycleParts
 pub mod Generations
 pub mod Ahead
-pub mod Walk
 pub mod Steady
 pub mod Others
 pub mod OldestEnds
@@ -41,6 +41,7 @@ pub mod Ticks
 pub mod Choosing
 pub mod Entering
 pub mod BankAnswers
+pub mod AnsweredReads
 pub mod AllBanks
 pub mod UnitResults
 pub mod TileResults
@@ -58,7 +59,9 @@ pub mod DataTileAnswers
 pub mod AllDataTiles
 pub mod OldestLands
 pub mod PlaceArrivals
+pub mod DueArrivals
 pub mod OldestArrivals
+pub mod SlotArrivals
 pub mod OldestParcels
 pub mod UnitsKept
 pub mod Idle

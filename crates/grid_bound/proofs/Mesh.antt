@@ -85,6 +85,7 @@ goes_drop free h (Away trip a) l b g = away_both free h trip a (λ s. parcel_lef
 
 -- bounds ----------------------------------------------------------------------------------------
 
+-- a parcel that goes on stays on the mesh, held for 1 to 3 cycles at most
 pub goes_bounded : (free : Bool) (h : ℕ) (p : Stand) → h ≤ 3 → Bounded p → Bounded (goes free h p)
 goes_bounded free h Nowhere l b = tt
 goes_bounded free h (Held trip zero) l b = tt
@@ -93,6 +94,7 @@ goes_bounded free h (Held trip (suc (suc k))) l b = (omega arith, (let i : suc (
 goes_bounded free h (Away trip a) l b = away_both free h trip a Bounded
     (λ e. held_bounded trip h l) (λ e k. onward_bounded h trip a l b e) (λ e k. b)
 
+-- a parcel that is where it is to be is on the mesh
 pub landed_bounded : (come : ℕ → Bool) (p : Stand) (t : Option Target) → Landed come p t → Bounded p
 landed_bounded come Nowhere t h = tt
 landed_bounded come (Away trip a) t h = h
@@ -104,6 +106,7 @@ way_bounded Nowhere h = tt
 way_bounded (Away trip a) h = h
 way_bounded (Held trip k) h = h
 
+-- a parcel on the mesh has at most 12 cycles left
 pub bounded_left : (p : Stand) → Bounded p → parcel_left p ≤ 12
 bounded_left Nowhere b = omega arith
 bounded_left (Away trip a) b = let i : far a trip.to ≤ 8 = far_at_most a trip.to b.0 b.1 in omega (arith, i)
@@ -116,6 +119,7 @@ has_more : (come come2 : ℕ → Bool) (t : Option Target) → ((s : ℕ) → co
 has_more come come2 None more h = tt
 has_more come come2 (Some t) more h = more t.spot h
 
+-- where more spots have their token, a parcel is still where it is to be
 pub landed_more : (come come2 : ℕ → Bool) (p : Stand) (t : Option Target)
     → ((s : ℕ) → come s ≡ true → come2 s ≡ true) → Landed come p t → Landed come2 p t
 landed_more come come2 Nowhere t more h = has_more come come2 t more h
@@ -141,10 +145,12 @@ landed_kept m h come come2 (Held trip c) t l more new k =
 
 -- launching -------------------------------------------------------------------------------------
 
+-- a parcel that is launched on the mesh is where it is to be
 pub launch_landed : (come : ℕ → Bool) (g p : ℕ) (t : Option Target) → p < 25 → OnMesh t → Landed come (launch g p t) t
 launch_landed come g p None l n = tt
 launch_landed come g p (Some t) l n = (l, n)
 
+-- a parcel that is launched on the mesh has at most 12 cycles left
 pub launch_left : (g p : ℕ) (t : Option Target) → p < 25 → OnMesh t → parcel_left (launch g p t) ≤ 12
 launch_left g p None l n = omega arith
 launch_left g p (Some t) l n = bounded_left (parcel g p t.there) (l, n)
@@ -165,6 +171,7 @@ Both (Asking p) = Bounded p
 Both Standing = Unit {0}
 Both (Sent p q) = Bounded p × Bounded q
 
+-- a tick raises nothing of what a task has left
 pub moved_left : (m k : Bool) (h j c : ℕ) (w : Phase) → h ≤ 3 → j ≤ 3 → Both w
     → task_left c (moved m k h j w) ≤ task_left c w
 moved_left m k h j c Absent l i b = omega arith
@@ -180,6 +187,7 @@ moved_left m k h j c (Sent p q) l i b =
     let d : parcel_left (goes k j q) ≤ parcel_left q = goes_left k j q i b.1 in
     omega (arith, a, d)
 
+-- a tick in which the first parcel of a task moves lowers what the task has left
 pub moved_drop_first : (m k : Bool) (h j c : ℕ) (w : Phase) (p : Stand) → h ≤ 3 → j ≤ 3 → Both w
     → (w ≡ Asking p) ⊎ ((q : Stand) × (w ≡ Sent p q)) → Leaves m p
     → task_left c (moved m k h j w) + 1 ≤ task_left c w
@@ -196,6 +204,7 @@ moved_drop_first m k h j c w p l i b (inr r) g =
     let d : parcel_left (goes k j r.0) ≤ parcel_left r.0 = goes_left k j r.0 i n.1 in
     omega (arith, a, d))
 
+-- a tick in which the second parcel of a task moves lowers what the task has left
 pub moved_drop_second : (m k : Bool) (h j c : ℕ) (p q : Stand) → h ≤ 3 → j ≤ 3 → Bounded p × Bounded q → Leaves k q
     → task_left c (moved m k h j (Sent p q)) + 1 ≤ task_left c (Sent p q)
 moved_drop_second m k h j c p q l i b g =

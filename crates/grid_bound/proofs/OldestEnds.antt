@@ -1,6 +1,6 @@
 -- Part (1): the oldest frame stays as it is where it lacks an output; else its block is committed, or the run traps.
 use Rattle.std.proofs.Common.{◌≡◌, ℕ, suc, ◌<◌, ◌==◌, ◌&&◌, inl, inr, Bool, true, false, cond, not, nat_le}
-use Rattle.std.proofs.Common.{List, [], ◌∷◌, length, Option, Some, None, refl, sym, ap, ap₂, ◌∙◌, subst, arith}
+use Rattle.std.proofs.Common.{List, [], ◌∷◌, length, refl, sym, ap, ap₂, ◌∙◌, subst, arith}
 use Rattle.std.proofs.lemmas.Bool.{cond_both, cond-true, cond-false, both_ways, and_right, false_from_ne_true}
 use Rattle.std.proofs.lemmas.Bool.{lt-leb}
 use Rattle.trips_isa.specs.declared.block.Block.{Block}
@@ -11,7 +11,7 @@ use Rattle.trips_isa.specs.Outcomes.{Outcome, Comes, Faults, unless}
 use Rattle.trips_isa.specs.Machine.{State}
 use Rattle.operand_net.specs.declared.parcel.Stand.TheVariants.{Nowhere}
 use Rattle.commit_flush_spec.specs.Causes.{NoFrame, Missing, Unsealed, Spent, Happened, Done, NotNow, judged}
-use Rattle.commit_flush_spec.specs.Frames.{Frame, Exit}
+use Rattle.commit_flush_spec.specs.Frames.{Frame}
 use Rattle.commit_flush_spec.specs.Older.{Older, committed}
 use Rattle.commit_flush_spec.specs.Ends.{complete, seal, can_seal, outputs, cause_held}
 use Rattle.commit_flush_spec.specs.InFlight.{commit_to}
@@ -25,13 +25,13 @@ use Rattle.commit_flush_spec.proofs.FramesSeen.{change_oldest}
 use Rattle.commit_flush_spec.proofs.Next.{at_oldest}
 use Rattle.grid_cycle_spec.specs.Grid.{Grid, numbers_of, forget}
 use Rattle.grid_cycle_spec.specs.Acting.{is_done, may}
-use Rattle.grid_cycle_spec.specs.Ends.{seal_one, seal_each, learning, committed_as, commit_in}
-use Rattle.grid_cycle_spec.specs.Ends.{commit_oldest, ends}
+use Rattle.grid_cycle_spec.specs.Ends.{seal_one, seal_each, committed_as, commit_in, commit_oldest, ends}
+use Rattle.grid_cycle_spec.proofs.Events.{committed_window}
 use Rattle.grid_bound.proofs.Programs.{applied_trace, length_more}
 use Rattle.grid_bound.specs.inside.Behind.{Apart, Behind}
 use Rattle.grid_bound.specs.inside.Shows.{Commits}
 use Rattle.grid_bound.proofs.Ahead.{younger_apart, event_leads}
-use Rattle.grid_bound.proofs.Others.{behind_at, windowed}
+use Rattle.grid_bound.proofs.Others.{behind_at, behind_same, windowed}
 
 -- tests --------------------------------------------------------------------------------------------
 
@@ -66,17 +66,8 @@ oldest_ok blocks budget w f fs ok i = (subst (FramesOk blocks (committed w.state
 
 module _ {W : Type 0} (blocks : List Block) (budget : ℕ) (f : Frame) (g : Grid W) where
   forgotten : (m : Grid W) (goes : ℕ → Bool) → goes f.number ≡ false → Behind f g m → Behind f g (forget goes m)
-  forgotten m goes e b = record {
-    younger = b.younger;
-    frames = b.frames;
-    state = b.state;
-    over = b.over;
-    generation = b.generation;
-    parcels = ap (λ t p. cond t Nowhere (m.parcels f.number p)) e ∙ b.parcels;
-    asked = ap (λ t k. cond t false (m.asked f.number k)) e ∙ b.asked;
-    works = ap (λ t s. cond t false (m.works f.number s)) e ∙ b.works;
-    careful = b.careful;
-  }
+  forgotten m goes e = behind_same f g m (forget goes m) refl (ap (λ t p. cond t Nowhere (m.parcels f.number p)) e)
+      (ap (λ t k. cond t false (m.asked f.number k)) e) (ap (λ t s. cond t false (m.works f.number s)) e) refl
 
   sealed_other : (k : ℕ) → (f.number == k) ≡ false → (m : Grid W) → Behind f g m
       → Behind f g (seal_one blocks budget k m)
@@ -84,7 +75,7 @@ module _ {W : Type 0} (blocks : List Block) (budget : ℕ) (f : Frame) (g : Grid
       let v : Window = happens blocks budget (window.Seal k) m.window in
       cond_both (may blocks budget (window.Seal k) m) (forget (λ j. j == k) (record m { window = v })) m (Behind f g)
       (λ h. forgotten (record m { window = v }) (λ j. j == k) e
-      (windowed blocks budget f g m v b (event_leads blocks budget m.window f b.younger b.frames (window.Seal k) e)))
+      (windowed f g m v b (event_leads blocks budget m.window f b.younger b.frames (window.Seal k) e)))
       (λ h. b)
 
   seals_other : (fs : List Frame) → Apart f.number fs → (m : Grid W) → Behind f g m
@@ -95,16 +86,6 @@ module _ {W : Type 0} (blocks : List Block) (budget : ℕ) (f : Frame) (g : Grid
 -- a commit -----------------------------------------------------------------------------------------
 
 module _ {W : Type 0} (f : Frame) where
-  learning_window : (e : Option Exit) (g : Grid W) → (learning f e g).window ≡ g.window
-  learning_window None g = refl
-  learning_window (Some e) g = refl
-
-  committed_window : (s : Stepped) (fs : List Frame) (g : Grid W) → (committed_as s f fs g).window ≡ g.window
-  committed_window stepped.Went fs g = learning_window f.exit _
-  committed_window stepped.Ended fs g = learning_window f.exit _
-  committed_window stepped.StackFull fs g = learning_window f.exit _
-  committed_window (stepped.Trap c) fs g = refl
-
   committed_to : (g : Grid W) (m : Grid W) (o : Outcome) (fs : List Frame) (w : Window)
       → length w.state.trace ≡ length g.window.state.trace → m.window ≡ commit_to o f fs w → Commits g m
   committed_to g m (Comes o) fs w e i = inr (
@@ -128,6 +109,7 @@ module _ {W : Type 0} (blocks : List Block) (budget : ℕ) (g : Grid W) (f : Fra
   -- an output is lacking ---------------------------------------------------------------------------
 
   module _ (open' : complete f ≡ false) where
+    -- a frame that lacks an output is not sealed
     pub unsealed : f.sealed ≡ false
     unsealed = false_from_ne_true f.sealed
         (λ s. both_ways (complete f) open' ((oldest_ok blocks budget g.window f fs ok i).whole s))
@@ -140,7 +122,7 @@ module _ {W : Type 0} (blocks : List Block) (budget : ℕ) (g : Grid W) (f : Fra
     seals_stay = subst (λ l. Behind f g (seal_each blocks budget l g)) (sym numbers_are)
         (subst (λ m. Behind f g (seal_each blocks budget (numbers_of fs) m)) (sym not_sealed)
         (seals_other blocks budget f g fs (younger_apart blocks budget g.window f fs ok i) g
-        (behind_at blocks budget f g fs i)))
+        (behind_at f g fs i)))
 
     no_commit : (m : Grid W) → Behind f g m → commit_oldest blocks budget m ≡ m
     no_commit m b = cond-false (may blocks budget window.Commit m) _ _
@@ -213,7 +195,7 @@ module _ {W : Type 0} (blocks : List Block) (budget : ℕ) (g : Grid W) (f : Fra
         (record m { window = happens blocks budget window.Commit m.window }))
         (unless (cause_held h) (outputs h)) b.younger m.window
         (ap (λ (s : State). length s.trace) same)
-        (committed_window h (happens blocks budget window.Commit m.window).over b.younger
+        (committed_window (happens blocks budget window.Commit m.window).over h b.younger
         (record m { window = happens blocks budget window.Commit m.window }) ∙ now))
 
     -- the block of the oldest frame is committed
@@ -225,4 +207,4 @@ module _ {W : Type 0} (blocks : List Block) (budget : ℕ) (g : Grid W) (f : Fra
         subst (λ n. Apart n fs) (sym q.number) (younger_apart blocks budget g.window f fs ok i) in
         subst (λ l. Commits g (commit_oldest blocks budget (seal_each blocks budget l g))) (sym numbers_are)
         (commits q.head m q.sealed q.state q.over (seal_each blocks budget (numbers_of fs) m)
-        (seals_other blocks budget q.head m fs apart m (behind_at blocks budget q.head m fs q.frames)))
+        (seals_other blocks budget q.head m fs apart m (behind_at q.head m fs q.frames)))

@@ -40,6 +40,7 @@ use Rattle.grid_bound.specs.inside.Blocks.{slot_tasks, slot_task, read_task, cou
 use Rattle.grid_bound.specs.inside.Seen.{slot_phase, read_phase, phase_of, has_come, front_of, fetch_of, stage_of}
 use Rattle.grid_bound.specs.inside.Behind.{Behind}
 use Rattle.grid_bound.specs.inside.Shows.{IsDue}
+use Rattle.grid_bound.proofs.Others.{behind_at, behind_same}
 
 -- answers ------------------------------------------------------------------------------------------
 
@@ -106,6 +107,7 @@ module _ {W : Type 0} (blocks : List Block) (budget : ℕ) where
   after_begun (f ∷ []) g = behind_begun f f.exit g
   after_begun (f ∷ (h ∷ fs)) g = after_begun (h ∷ fs) g
 
+  -- where a fetch begins, this changes only the fetch unit and the predictor
   pub begins_begun : (g : Grid W) → Begun g (begins blocks g)
   begins_begun g = go g.fetching
     where
@@ -116,33 +118,14 @@ module _ {W : Type 0} (blocks : List Block) (budget : ℕ) where
 
   -- what is seen of a frame hangs on neither
   begun_same : (g m h : Grid W) (f : Frame) → Begun m h → Behind f g m → Behind f g h
-  begun_same g m h f e b = subst (Behind f g) (sym e) (record {
-    younger = b.younger;
-    frames = b.frames;
-    state = b.state;
-    over = b.over;
-    generation = b.generation;
-    parcels = b.parcels;
-    asked = b.asked;
-    works = b.works;
-    careful = b.careful;
-  })
+  begun_same g m h f e b = subst (Behind f g) (sym e)
+      (behind_same f g m (record m { fetching = h.fetching; predictor = h.predictor }) refl refl refl refl refl b)
 
   -- with a frame in flight -------------------------------------------------------------------------
 
   module _ (g : Grid W) (f : Frame) (fs : List Frame) (i : g.window.frames ≡ f ∷ fs) where
     quiet : (x : Option Fetching) → Behind f g (record g { fetching = x })
-    quiet x = record {
-      younger = fs;
-      frames = i;
-      state = refl;
-      over = refl;
-      generation = refl;
-      parcels = refl;
-      asked = refl;
-      works = refl;
-      careful = refl;
-    }
+    quiet x = behind_same f g g (record g { fetching = x }) refl refl refl refl refl (behind_at f g fs i)
 
     filled_behind : (x : Fetching) → may blocks budget (window.Fetch x.block) g ≡ true
         → Behind f g (fills blocks budget x g)
@@ -175,23 +158,14 @@ module _ {W : Type 0} (blocks : List Block) (budget : ℕ) where
     fill_behind x false e = quiet None
 
     fetch_behind : (o : Option Fetching) → Behind f g (fetch_ends blocks budget o g)
-    fetch_behind None = record {
-      younger = fs;
-      frames = i;
-      state = refl;
-      over = refl;
-      generation = refl;
-      parcels = refl;
-      asked = refl;
-      works = refl;
-      careful = refl;
-    }
+    fetch_behind None = behind_at f g fs i
     fetch_behind (Some x) = go x.left
       where
         go : (n : ℕ) → Behind f g (fetch_on blocks budget n x g)
         go zero = fill_behind x (may blocks budget (window.Fetch x.block) g) refl
         go (suc n) = quiet (Some (record x { left = n }))
 
+    -- with a frame in flight part (2) leaves the oldest frame as it is
     pub fetches_behind : Behind f g (fetches blocks budget g)
     fetches_behind =
         let m : Grid W = fetch_ends blocks budget g.fetching g in

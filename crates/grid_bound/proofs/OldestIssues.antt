@@ -359,11 +359,10 @@ module _ {W : Type 0} (blocks : List Block) (good : AllGood blocks) (budget : �
     where
       tail : (q : Option (ℕ × ℕ)) → eldest (unit_ready blocks budget m k) slots younger ≡ q
           → Behind e m (issue_chosen blocks budget k q m)
-      tail None z = behind_at blocks budget e m younger i
-      tail (Some q) z = issue_other blocks budget e m k q
+      tail None z = behind_at e m younger i
+      tail (Some q) z = issue_other blocks good budget e m m ok (behind_at e m younger i) k q
           (elder_other (unit_ready blocks budget m k) slots e.number younger q
           (younger_apart blocks budget m.window e younger ok i) z)
-          m (behind_at blocks budget e m younger i)
 
       none : least test slots 0 ≡ None → (x : ℕ) → picked x ≡ false
       none z x = false_from_ne_true (picked x) (λ p.
@@ -387,9 +386,10 @@ module _ {W : Type 0} (blocks : List Block) (good : AllGood blocks) (budget : �
           least_of : (s : ℕ) → least test slots 0 ≡ Some s → IsLeast test 128 s
           least_of s z = subst (λ n. IsLeast test n s) slots_are (is_least test slots s z)
 
+  -- a tile's issue leads the oldest frame to where the lane's does
   pub after_issue : AfterIssue (issues blocks budget k m)
   after_issue = cond_both (m.units k == 0)
       (issue_chosen blocks budget k (eldest (unit_ready blocks budget m k) slots m.window.frames) m) m AfterIssue
       (λ z. free_issues (eqb-true (m.units k) 0 z))
-      (λ z. unchanged m (behind_at blocks budget e m younger i) (λ t z. refl) (λ l. refl)
+      (λ z. unchanged m (behind_at e m younger i) (λ t z. refl) (λ l. refl)
       (λ x. and_left (m.units k == 0) (picked x) z))

@@ -26,6 +26,7 @@ due (Away trip a) = false
 due (Held trip zero) = true
 due (Held trip (suc h)) = false
 
+-- a parcel that is due is held for no cycle more
 pub due_is : (s : Stand) → due s ≡ true → (trip : Trip) × (s ≡ Held trip 0)
 due_is Nowhere e = absurd (cc)
 due_is (Away trip a) e = absurd (cc)
@@ -52,11 +53,13 @@ ticked_there free h (Away trip a) = cond_both (a == trip.to) (Held trip h)
     (λ e. cond_both (next_of a trip.to == trip.to) (Held trip h) (Away trip (next_of a trip.to))
     (λ s. is_nowhere s ≡ false) (λ e. refl) (λ e. refl)) (λ e. refl))
 
+-- what does not test as nowhere is somewhere
 pub there_is : (s : Stand) → is_nowhere s ≡ false → s ≢ Nowhere
 there_is Nowhere e = absurd (cc)
 there_is (Away trip a) e = λ z. cc
 there_is (Held trip h) e = λ z. cc
 
+-- what is somewhere does not test as nowhere
 pub not_there : (s : Stand) → s ≢ Nowhere → is_nowhere s ≡ false
 not_there Nowhere n = absurd (n refl)
 not_there (Away trip a) n = refl
@@ -96,6 +99,7 @@ any_same zero r q l h = refl
 any_same (suc n) r q l h = ap₂ (λ s b. wants s l || b) (h n (omega arith))
     (any_same n r q l (λ p m. h p (omega (arith, m))))
 
+-- whether a link is free for a place hangs on the lower places alone
 pub free_same : (busy : ℕ → Bool) (r q : ℕ → Stand) (p : ℕ) (s : Stand) → ((k : ℕ) → k < p → r k ≡ q k)
     → is_free busy r p s ≡ is_free busy q p s
 free_same busy r q p Nowhere h = refl
@@ -112,6 +116,7 @@ orders false true false = refl
 orders false false true = refl
 orders false false false = refl
 
+-- one spot more that has its token is told first or last
 pub one_more : (a b c d : Bool) → d ≡ (a || b) → (d || c) ≡ (a || (c || b))
 one_more a b c d e = ap (λ z. z || c) e ∙ orders a b c
 

@@ -118,6 +118,7 @@ module _ {W : Type 0} (blocks : List Block) (good : AllGood blocks) (budget : �
     abbrev after : Window
     after = happens blocks budget (window.Load e.number k) h.window
 
+    -- a load that is answered changes the oldest frame alone
     pub after_is : after ≡ record h.window { frames = E ∷ younger }
     after_is = taken blocks budget (window.Load e.number k) h.window it
         ∙ ap (λ (l : List Frame). record h.window { frames = l })
@@ -127,9 +128,11 @@ module _ {W : Type 0} (blocks : List Block) (good : AllGood blocks) (budget : �
     abbrev M : Grid W
     M = unasked e.number k (record h { window = after })
 
+    -- the grid behind a load that is answered, its tokens having entered the mesh at the data tile
     abbrev pub H : Grid W
     H = enter_both (data_node d) E (2 * s) M
 
+    -- only the parcels change as the tokens enter
     pub only : H ≡ record M { parcels = H.parcels }
     only = both_only (data_node d) E M (2 * s)
 
@@ -233,11 +236,13 @@ module _ {W : Type 0} (blocks : List Block) (good : AllGood blocks) (budget : �
         by (inr n) = asking.others_same blocks good budget h e younger i ok rule k asked E H answers x n
             ∙ sym (cond-false (x == s) _ _ (ne_eqb x s n))
 
+    -- the front of the frame behind the load is the lane's behind its answer
     pub front_is : front_of c H E ≡ answer_one s F
     front_is = same_front (front_of c H E) (answer_one s F) refl
         (ap (λ (m : Grid W). slice_index m.window.generations e.number) only ∙ born_is) (fun_ext phases)
         (fun_ext come_is) (ap (λ (m : Grid W). m.careful e.number) only)
 
+    -- the data tile's turn answers this load
     pub turn_is : tiles.load_answered blocks budget d e.number k s h ≡ H
     turn_is = ap (λ l. with_frame e.number (λ f h. enter_both (data_node d) f (2 * s) h) l M)
         (ap (λ (w : Window). w.frames) after_is)

@@ -18,7 +18,6 @@ use Rattle.block_cases.specs.Orders.{slot_of}
 use Rattle.operand_net.specs.declared.parcel.Stand.{Stand}
 use Rattle.operand_net.specs.declared.parcel.Stand.TheVariants.{Nowhere, Away, Held}
 use Rattle.operand_net.specs.Places.{Places}
-use Rattle.operand_net.specs.inside.Places.{come}
 use Rattle.operand_net.specs.Tick.{ticked, is_free}
 use Rattle.commit_flush_spec.specs.Frames.{Frame, at}
 use Rattle.commit_flush_spec.specs.Older.{committed}
@@ -40,23 +39,19 @@ use Rattle.grid_bound.specs.inside.Moving as moving
 use Rattle.grid_bound.specs.inside.Blocks.{slot_tasks, room, kind_of, course_of}
 use Rattle.grid_bound.specs.inside.Seen.{slot_phase, read_phase, phase_of, has_come, front_of}
 use Rattle.grid_bound.proofs.Sizes.{slot_tasks_is, room_is}
-use Rattle.grid_bound.specs.inside.Behind.{Apart, Behind}
+use Rattle.grid_bound.specs.inside.Behind.{Apart}
 use Rattle.grid_bound.specs.inside.Shows.{Shows}
 use Rattle.grid_bound.specs.inside.MoveRule.{Travels, MoveRule}
 use Rattle.grid_bound.proofs.Ahead.{younger_apart}
-use Rattle.grid_bound.proofs.Steady.{Onward, then_onward, steady}
-use Rattle.grid_bound.proofs.Walk.{each_keeps, comes_keeps}
-use Rattle.grid_bound.proofs.Others.{behind_at, arrival_other}
+use Rattle.grid_cycle_spec.proofs.KeptByCycles.{places_are, places_keep}
+use Rattle.grid_bound.proofs.Steady.{Onward, On, steady}
+use Rattle.grid_bound.proofs.Others.{behind_at, Stays, places_other}
 use Rattle.grid_bound.proofs.OldestEnds.{oldest_ok}
 use Rattle.grid_bound.proofs.Fronts.{front_behind, left_unit, slot_far, slot_phase_is}
 use Rattle.grid_bound.proofs.Fronts.{far_same, same_front, at_slot, at_read}
 use Rattle.grid_bound.proofs.OldestLands.{due, ticked_there, there_is, not_there, free_same, any_pairs}
 use Rattle.grid_bound.proofs.PlaceArrivals.{land_first, land_second, AtPlace, T, lands}
 use Rattle.grid_bound.proofs.OldestArrivals.{place_turns}
-
-places_are : places ≡ 320
-unfolding places
-places_are = refl
 
 -- a request that has come stands, and one that has not goes on
 request_by : (s p q : Stand) → s ≢ Nowhere → p ≡ moving.taken s
@@ -149,16 +144,14 @@ module _ {W : Type 0} (blocks : List Block) (good : AllGood blocks) (budget : �
           (subst (λ z. Travels f z j (2 * x)) b
           (rule.slots (2 * x) j (omega (arith, l)) n (ap (slot_of f.code) half ∙ s))).0 ∙ ap Some half
 
-  onward : (k : ℕ) → Onward blocks budget m.window (each (arrival blocks budget f.number) k N).window
-  onward k = each_keeps blocks budget (λ (g h : Grid W). Onward blocks budget g.window h.window)
-      (steady blocks budget good) (arrival blocks budget f.number)
-      (λ p x. comes_keeps blocks budget (λ (g h : Grid W). Onward blocks budget g.window h.window)
-      (steady blocks budget good) f.number p (come f.number p (x.parcels f.number p)) x) k N
+  onward : (k : ℕ) → k ≤ 320 → Onward blocks budget m.window (each (arrival blocks budget f.number) k N).window
+  onward k l = places_keep blocks budget (On blocks budget) (steady blocks budget good) f.number tt k
+      (subst (λ n. k ≤ n) (sym places_are) l) N
 
   after : (k : ℕ) → k ≤ 320 → AtPlace blocks good budget t f m rule hold k (each (arrival blocks budget f.number) k N)
   after zero l = starts
   after (suc k) l = place_turns blocks good budget t f m rule hold k l (each (arrival blocks budget f.number) k N)
-      (after k (omega (arith, l))) ((onward k).ok ok) ((onward k).over ∙ went)
+      (after k (omega (arith, l))) ((onward k (omega (arith, l))).ok ok) ((onward k (omega (arith, l))).over ∙ went)
 
   -- all places have been looked at ------------------------------------------------------------------
 
@@ -354,27 +347,11 @@ module _ {W : Type 0} (blocks : List Block) (good : AllGood blocks) (budget : �
 
   -- other frames -------------------------------------------------------------------------------------
 
-  abbrev Others : Grid W → Type 0
-  Others h = Behind e H h × Onward blocks budget m.window h.window
-
-  each_other : (n : ℕ) → (e.number == n) ≡ false → (k : ℕ) → k ≤ 320 → (h : Grid W) → Others h
-      → Others (each (arrival blocks budget n) k h)
-  each_other n o zero l h b = b
-  each_other n o (suc k) l h b =
-      let x : Grid W = each (arrival blocks budget n) k h in
-      let d : Others x = each_other n o k (omega (arith, l)) h b in (
-        arrival_other blocks budget e H n k l o x ((d.1).ok ok) d.0,
-        then_onward blocks budget m.window x.window (arrival blocks budget n k x).window d.1
-            (comes_keeps blocks budget (λ (g h : Grid W). Onward blocks budget g.window h.window)
-            (steady blocks budget good) n k (come n k (x.parcels n k)) x),
-      )
-
-  others : (gs : List Frame) → Apart e.number gs → (h : Grid W) → Others h
-      → Others (arrivals blocks budget (numbers_of gs) h)
+  others : (gs : List Frame) → Apart e.number gs → (h : Grid W) → Stays blocks good budget e H h
+      → Stays blocks good budget e H (arrivals blocks budget (numbers_of gs) h)
   others [] a h b = b
   others (x ∷ gs) a h b = others gs a.1 (each (arrival blocks budget x.number) places h)
-      (subst (λ n. Others (each (arrival blocks budget x.number) n h)) (sym places_are)
-      (each_other x.number a.0 320 (omega arith) h b))
+      (places_other blocks good budget e H h b.1 b.0 x.number places (omega arith) a.0)
 
   -- the frames move as the lane does
   pub arrivals_serve : Shows c f (arrivals blocks budget (numbers_of m.window.frames) N) (move_front hold F)
@@ -383,9 +360,9 @@ module _ {W : Type 0} (blocks : List Block) (good : AllGood blocks) (budget : �
       let apart : Apart e.number fs =
       subst (λ n. Apart n fs) (sym last.number) (younger_apart blocks budget m.window f fs ok i) in
       let b = (others fs apart H (
-        behind_at blocks budget e H last.younger last.frames,
-        subst (λ n. Onward blocks budget m.window (each (arrival blocks budget f.number) n N).window) (sym places_are)
-            (onward 320),
+        behind_at e H last.younger last.frames,
+        subst (λ n. WindowOk blocks budget (each (arrival blocks budget f.number) n N).window) (sym places_are)
+            ((onward 320 (omega arith)).ok ok),
       )).0 in
       subst (λ l. Shows c f (arrivals blocks budget (numbers_of l) N) (move_front hold F)) (sym i) (record {
         frame = e;

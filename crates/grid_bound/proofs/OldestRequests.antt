@@ -34,6 +34,7 @@ use Rattle.grid_bound.proofs.StandingRequests.{waiting_is, released}
 use Rattle.grid_bound.proofs.FrameTable.{told, told_holds}
 use Rattle.grid_bound.proofs.Waiting.{address_came}
 
+-- a load or a store is a task that a data tile serves
 pub serves : (k : Form) → has_number k ≡ true → kind_of k ≡ Serving
 serves form.Load h = refl
 serves form.Store h = refl
@@ -45,51 +46,66 @@ serves form.Constant h = absurd (cc)
 module _ {W : Type 0} (blocks : List Block) (good : AllGood blocks) (budget : ℕ) (h : Grid W) (e : Frame)
     (younger : List Frame) (i : h.window.frames ≡ e ∷ younger) (ok : WindowOk blocks budget h.window)
     (rule : DataRule h e) (k : ℕ) (asked : h.asked e.number k ≡ true) where
+  -- what the oldest frame sees: the committed state
   abbrev pub o : Older
   o = committed h.window.state
 
+  -- the table of what the oldest frame sees
   abbrev pub t : ℕ → Answer
   t = told o e
 
+  -- the course of its block by this table
   abbrev pub c : Course
   c = course_of e.code t
 
+  -- its front
   abbrev pub F : Front
   F = front_of c h e
 
+  -- the oldest frame is right
   pub own_ok : FrameOk blocks o e
   own_ok = oldest_ok blocks budget h.window e younger ok i
 
+  -- what stands at the data tile for the number
   abbrev pub here : StandsFor h e k
   here = rule.standing k asked
 
+  -- the slot of what is asked
   abbrev pub s : ℕ
   s = here.slot
 
+  -- what is known of what waits with the number
   abbrev pub ask : Asked e k s
   ask = own_ok.asked k s here.waits
 
+  -- the instruction of this slot
   abbrev pub j : Inst
   j = ask.inst
 
+  -- its slot is below 128
   pub small : s < 128
   small = let l : s < length e.code.insts.items = inst_in e.code.insts.items s j ask.is_inst in
       let z : length e.code.insts.items ≡ 128 = (good e.block e.code own_ok.code).fits.insts in omega (arith, l, z)
 
+  -- its slot is one of the tasks
   pub in_tasks : s < slot_tasks
   in_tasks = let z = slot_tasks_is in let l = small in omega (arith, l, z)
 
+  -- its number is below 32
   pub number_fits : k < 32
   number_fits =
       let l : j.number < 32 = number_small e.code (good e.block e.code own_ok.code).fits s j ask.is_inst in
       let z : j.number ≡ k = ask.number in omega (arith, l, z)
 
+  -- what waits with the number is this instruction in this slot
   pub request_is : request e k ≡ Some (s, j)
   request_is = ap (with_inst e.code) here.waits ∙ ap (with_slot s) ask.is_inst
 
+  -- its form has a number
   pub numbered : has_number (form_of j.op) ≡ true
   numbered = rule.numbered k s here.waits j ask.is_inst
 
+  -- the task of its slot is that of the instruction
   pub task_s : c.task s ≡ slot_task e.code t s (Some j)
   task_s = slot_is e.code t s in_tasks ∙ ap (slot_task e.code t s) ask.is_inst
 
@@ -110,9 +126,11 @@ module _ {W : Type 0} (blocks : List Block) (good : AllGood blocks) (budget : �
   pub address : at e.spots s ≡ at_place e.code t s
   address = address_came blocks o e own_ok rule.numbered t (told_holds blocks good o e own_ok).spots s k here.waits
 
+  -- its data tile is told by its address
   pub tile_is : tile_for e (request e k) ≡ tile_by j (at_place e.code t s)
   tile_is = ap (tile_for e) request_is ∙ ap (tile_by j) address
 
+  -- the station at which its task is served is this data tile
   pub station_is : station_of F s ≡ tile_by j (at_place e.code t s)
   station_is = ap (λ (k : Task). k.station) task_s
 

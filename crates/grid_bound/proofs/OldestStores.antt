@@ -55,7 +55,7 @@ use Rattle.grid_bound.specs.inside.Seen.{slot_phase, phase_of, has_come, front_o
 use Rattle.grid_bound.specs.inside.Behind.{Behind}
 use Rattle.grid_bound.specs.inside.DataRule.{DataRule}
 use Rattle.grid_bound.proofs.Ahead.{same_number}
-use Rattle.grid_bound.proofs.Others.{behind_at, was_flushed, acted_leaving, waiting_now}
+use Rattle.grid_bound.proofs.Others.{behind_at, behind_same, was_flushed, acted_leaving, waiting_now}
 use Rattle.grid_bound.proofs.OldestEnds.{asks_oldest}
 use Rattle.grid_bound.proofs.Fronts.{front_behind, slot_far, slot_phase_is, same_front, at_slot}
 use Rattle.grid_bound.proofs.Choosing.{none_least}
@@ -125,6 +125,7 @@ module _ {W : Type 0} (blocks : List Block) (good : AllGood blocks) (budget : �
     abbrev pub V : Frame
     V = with_store k value (mark_with e (slot_node e.code s)) e
 
+    -- whether the store makes a load of its own frame wrong
     abbrev pub wrong : Bool
     wrong = violated (nearest (at V.stores) k) e.loads
 
@@ -143,6 +144,7 @@ module _ {W : Type 0} (blocks : List Block) (good : AllGood blocks) (budget : �
     abbrev base : Grid W
     base = record A { window = after }
 
+    -- the grid behind the store that is resolved
     abbrev pub H : Grid W
     H = tiles.store_resolved blocks budget e.number k h
 
@@ -200,9 +202,11 @@ module _ {W : Type 0} (blocks : List Block) (good : AllGood blocks) (budget : �
       flushed_is : H ≡ waits_now (Some (e.block, some_found.0)) (settled (flushed (e ∷ younger) base))
       flushed_is = ap₂ (λ q l. waits_now q (settled (flushed l base))) block_is all_gone
 
+      -- a store that makes a load of the oldest frame wrong leaves no frame in flight
       pub emptied : H.window.frames ≡ []
       emptied = ap (λ (m : Grid W). m.window.frames) flushed_is ∙ none_left
 
+      -- behind such a store the same block is to be fetched again, with care
       pub fetch_is : fetch_of H H.fetching ≡ lane.Fetching None true
       fetch_is = ap (λ (m : Grid W). fetch_of m m.fetching) flushed_is
           ∙ ap (λ (w : Window). lane.Fetching None (e.block == w.state.next)) after_is
@@ -223,25 +227,17 @@ module _ {W : Type 0} (blocks : List Block) (good : AllGood blocks) (budget : �
       in_front = ap (λ (w : Window). w.frames) left
 
       only_younger : Behind V base (flushed (gone h.window after) base)
-      only_younger = was_flushed blocks budget V base (gone h.window after) base
-          (acted_leaving blocks budget e A A (window.Store e.number k) ok younger rest i V refl in_front)
-          (behind_at blocks budget V base rest in_front)
+      only_younger = was_flushed V base (gone h.window after) base
+          (acted_leaving e A blocks budget A (window.Store e.number k) ok younger rest i V refl in_front)
+          (behind_at V base rest in_front)
 
       -- what else the store does is of younger frames
       pub stays : Behind V base H
-      stays = waiting_now blocks budget V base
+      stays = waiting_now V base
           (by_block h.window.frames (wrong_load blocks budget e.number k h.window))
-          (act blocks budget (window.Store e.number k) A) (record {
-            younger = only_younger.younger;
-            frames = only_younger.frames;
-            state = only_younger.state;
-            over = only_younger.over;
-            generation = only_younger.generation;
-            parcels = only_younger.parcels;
-            asked = only_younger.asked;
-            works = only_younger.works;
-            careful = only_younger.careful;
-          })
+          (act blocks budget (window.Store e.number k) A)
+          (behind_same V base (flushed (gone h.window after) base) (act blocks budget (window.Store e.number k) A)
+          refl refl refl refl refl only_younger)
 
       -- the store has come
       lost : NoneLost V
@@ -367,6 +363,8 @@ module _ {W : Type 0} (blocks : List Block) (good : AllGood blocks) (budget : �
           by (inr n) = asking.others_same blocks good budget h e younger i ok rule k asked V base answers x n
               ∙ sym (cond-false (x == s) _ _ (ne_eqb x s n))
 
+      -- behind a store that makes no load of its frame wrong the front of the frame is the lane's behind the
+      -- answer
       pub front_is : front_of c H V ≡ answer_one s F
       front_is = front_behind c V base H stays
           ∙ same_front (front_of c base V) (answer_one s F) refl

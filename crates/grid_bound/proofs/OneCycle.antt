@@ -1,9 +1,8 @@
 -- One eager cycle of a grid that has its rule commits, traps, or lowers what is left.
-use Rattle.std.proofs.Common.{◌≡◌, ℕ, zero, suc, ◌+◌, ◌-◌, ◌^◌, ◌<◌, ◌≤◌, ◌⊎◌, inl, inr, List}
+use Rattle.std.proofs.Common.{◌≡◌, ℕ, ◌+◌, ◌-◌, ◌^◌, ◌<◌, ◌≤◌, ◌⊎◌, inl, inr, List}
 use Rattle.std.proofs.Common.{[], length, slice_get, refl, sym}
 use Rattle.std.proofs.Common.{ap, ◌∙◌, subst, arith}
 use Rattle.trips_isa.specs.declared.block.Block.{Block}
-use Rattle.trips_isa.specs.declared.run.Stepped.TheVariants as stepped
 use Rattle.trips_isa.specs.Machine.{State, runs}
 use Rattle.block_predict.specs.Predicts.{holding}
 use Rattle.commit_flush_spec.specs.InFlight.{opened}
@@ -15,7 +14,6 @@ use Rattle.grid_cycle_spec.specs.Grid.{Grid}
 use Rattle.grid_cycle_spec.specs.Cycles.{Eager, begun_at}
 use Rattle.grid_cycle_spec.specs.inside.Cycles.{AfterCycles}
 use Rattle.grid_cycle_spec.proofs.Agreeing.{takes_steps}
-use Rattle.grid_bound.specs.inside.Laws.{LaneRule}
 use Rattle.grid_bound.specs.inside.Left.{left, price}
 use Rattle.grid_bound.specs.inside.Programs.{size_in}
 use Rattle.grid_bound.specs.inside.Serving.{Served}
@@ -114,6 +112,7 @@ module _ {W : Type 0} (blocks : List Block) (good : AllGood blocks) (budget : �
   served s = from_either (served_falls sizes (lane_in g) (lane_in h) here.lane s) (λ e. inl (inr e))
       (λ f. lower f.0 f.2)
 
+  -- an eager cycle of a grid that has its rule commits the next block, traps, or lowers what is left
   pub one_cycle : OneCycle blocks budget g h
   one_cycle = record {
     least = left_some sizes (lane_in g);

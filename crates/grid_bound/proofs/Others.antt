@@ -1,38 +1,33 @@
 -- What other frames do, the oldest frame does not see.
-use Rattle.std.proofs.Common.{◌≡◌, ℕ, zero, suc, ◌+◌, ◌*◌, ◌/◌, ◌<◌, ◌==◌, ◌&&◌, ◌||◌, Bool, false, cond, nat_lt}
-use Rattle.std.proofs.Common.{List, [], ◌∷◌, Option, Some, None, length, drop, is_some, slice_index}
-use Rattle.std.proofs.Common.{refl, sym, ap, ap₂}
-use Rattle.std.proofs.Common.{◌∙◌}
-use Rattle.std.proofs.lemmas.Bool.{cond_both, or_from}
+use Rattle.std.proofs.Common.{◌≡◌, ℕ, zero, suc, ◌+◌, ◌*◌, ◌<◌, ◌≤◌, ◌==◌, ◌&&◌, ◌||◌, false, cond}
+use Rattle.std.proofs.Common.{List, [], ◌∷◌, Option, Some, None, length, drop, slice_index}
+use Rattle.std.proofs.Common.{refl, sym, ap, ap₂, ◌∙◌, subst}
+use Rattle.std.proofs.lemmas.Bool.{or_from}
 use Rattle.trips_isa.specs.declared.block.Block.{Block}
-use Rattle.trips_isa.specs.declared.block.Inst.{Inst}
-use Rattle.trips_isa.specs.declared.form.Form.{Form}
-use Rattle.trips_isa.specs.declared.form.Form.TheVariants as form
-use Rattle.trips_isa.specs.Forms.{form_of, is_store}
-use Rattle.block_cases.specs.Orders.{slot_of}
 use Rattle.operand_net.specs.declared.parcel.Parcel.{Parcel}
 use Rattle.operand_net.specs.declared.parcel.Stand.{Stand}
 use Rattle.operand_net.specs.declared.parcel.Stand.TheVariants.{Nowhere, Away, Held}
 use Rattle.operand_net.specs.Places.{Places, put}
 use Rattle.operand_net.specs.inside.Places.{come}
-use Rattle.commit_flush_spec.specs.Frames.{Frame, at, target, first_read_place, token_places}
-use Rattle.commit_flush_spec.specs.Memory.{request}
+use Rattle.commit_flush_spec.specs.Frames.{Frame, token_places}
 use Rattle.commit_flush_spec.specs.Window.{Window, Event, happens}
 use Rattle.commit_flush_spec.specs.Window as window
+use Rattle.commit_flush_spec.specs.inside.Invariant.{AllGood}
 use Rattle.commit_flush_spec.specs.inside.Laws.{WindowOk}
-use Rattle.grid_cycle_spec.specs.Stations.{bank_node, data_node, tile_node, tile_of, home, control}
+use Rattle.commit_flush_spec.proofs.Whole.{happens_moves}
 use Rattle.grid_cycle_spec.specs.Grid.{Grid, is_of}
 use Rattle.grid_cycle_spec.specs.Acting.{act, flushed, gone}
-use Rattle.grid_cycle_spec.specs.Choosing.{with_frame}
-use Rattle.grid_cycle_spec.specs.Sending.{enters, enters_if, enter_both}
+use Rattle.grid_cycle_spec.specs.Choosing.{each}
+use Rattle.grid_cycle_spec.specs.inside.Choosing.{places}
 use Rattle.grid_cycle_spec.specs.Banks.{read_chosen}
-use Rattle.grid_cycle_spec.specs.DataTiles.{tile_by, unasked, load_answered, waits_now, wrong_load, store_resolved}
-use Rattle.grid_cycle_spec.specs.DataTiles.{answered_by, answer_chosen, by_block}
-use Rattle.grid_cycle_spec.specs.Units.{result_enters, slot_enters, rests, result_chosen, takes, issued, issue_chosen}
-use Rattle.grid_cycle_spec.specs.inside.Arrivals.{asks, delivers, is_waiting, slot_arrives}
-use Rattle.grid_cycle_spec.specs.inside.Arrivals.{inst_arrives, place_arrives, arrives_if, arrival}
+use Rattle.grid_cycle_spec.specs.DataTiles.{unasked, waits_now, answer_chosen}
+use Rattle.grid_cycle_spec.specs.Units.{result_chosen, issue_chosen}
+use Rattle.grid_cycle_spec.specs.inside.Arrivals.{arrival}
+use Rattle.grid_cycle_spec.proofs.KeptByCycles.{Kinds, every, Keeps, read_keeps, answer_keeps, result_kept}
+use Rattle.grid_cycle_spec.proofs.KeptByCycles.{issue_keeps, places_are, places_keep}
+use Rattle.grid_cycle_spec.proofs.Events.{flushed_window}
 use Rattle.grid_bound.specs.inside.Behind.{Apart, Behind}
-use Rattle.grid_bound.proofs.Ahead.{swapped, other_of, frame_of_place, younger_apart, IsOther, Leads, event_leads}
+use Rattle.grid_bound.proofs.Ahead.{swapped, frame_of_place, younger_apart, IsOther, Leads, event_leads}
 
 put_other : (m : Places) (n k p : ℕ) (s : Stand) → (n == k) ≡ false → put m k p s n ≡ m n
 put_other m n k p s e = ap (λ t q. cond (t && q == p) s (m n q)) e
@@ -58,7 +53,7 @@ come_from f p (Away t a) c e = absurd (cc)
 come_from f p (Held t zero) c e = ap frame_in e
 come_from f p (Held t (suc h)) c e = absurd (cc)
 
-module _ {W : Type 0} (blocks : List Block) (budget : ℕ) (f : Frame) (g : Grid W) where
+module _ {W : Type 0} (f : Frame) (g : Grid W) where
   abbrev n : ℕ
   n = f.number
 
@@ -76,17 +71,19 @@ module _ {W : Type 0} (blocks : List Block) (budget : ℕ) (f : Frame) (g : Grid
     careful = refl;
   }
 
-  pub behind_then : (m h : Grid W) → Behind f g m → Behind f m h → Behind f g h
-  behind_then m h a b = record {
+  -- where the window and what is under way of the frame are the same
+  pub behind_same : (m h : Grid W) → h.window ≡ m.window → h.parcels n ≡ m.parcels n → h.asked n ≡ m.asked n
+      → h.works n ≡ m.works n → h.careful n ≡ m.careful n → Behind f g m → Behind f g h
+  behind_same m h w p a k c b = record {
     younger = b.younger;
-    frames = b.frames;
-    state = b.state ∙ a.state;
-    over = b.over ∙ a.over;
-    generation = b.generation ∙ a.generation;
-    parcels = b.parcels ∙ a.parcels;
-    asked = b.asked ∙ a.asked;
-    works = b.works ∙ a.works;
-    careful = b.careful ∙ a.careful;
+    frames = ap (λ (w : Window). w.frames) w ∙ b.frames;
+    state = ap (λ (w : Window). w.state) w ∙ b.state;
+    over = ap (λ (w : Window). w.over) w ∙ b.over;
+    generation = ap (λ (w : Window). slice_index w.generations n) w ∙ b.generation;
+    parcels = p ∙ b.parcels;
+    asked = a ∙ b.asked;
+    works = k ∙ b.works;
+    careful = c ∙ b.careful;
   }
 
   -- the window changes, and its oldest frame stays
@@ -103,81 +100,14 @@ module _ {W : Type 0} (blocks : List Block) (budget : ℕ) (f : Frame) (g : Grid
     careful = b.careful;
   }
 
-  -- where it is the same parcels, requests and results that change -----------------------------------
-
-  pub with_parcels : (m : Grid W) (p : Places) → p n ≡ m.parcels n → Behind f g m
-      → Behind f g (record m { parcels = p })
-  with_parcels m p e b = record {
-    younger = b.younger;
-    frames = b.frames;
-    state = b.state;
-    over = b.over;
-    generation = b.generation;
-    parcels = e ∙ b.parcels;
-    asked = b.asked;
-    works = b.works;
-    careful = b.careful;
-  }
-
-  with_asked : (m : Grid W) (a : ℕ → ℕ → Bool) → a n ≡ m.asked n → Behind f g m → Behind f g (record m { asked = a })
-  with_asked m a e b = record {
-    younger = b.younger;
-    frames = b.frames;
-    state = b.state;
-    over = b.over;
-    generation = b.generation;
-    parcels = b.parcels;
-    asked = e ∙ b.asked;
-    works = b.works;
-    careful = b.careful;
-  }
-
-  with_works : (m : Grid W) (u : ℕ → ℕ) (a : ℕ → ℕ → Bool) → a n ≡ m.works n → Behind f g m
-      → Behind f g (record m { units = u; works = a })
-  with_works m u a e b = record {
-    younger = b.younger;
-    frames = b.frames;
-    state = b.state;
-    over = b.over;
-    generation = b.generation;
-    parcels = b.parcels;
-    asked = b.asked;
-    works = e ∙ b.works;
-    careful = b.careful;
-  }
-
-  entered : (m : Grid W) (k place from to : ℕ) → (n == k) ≡ false → Behind f g m
-      → Behind f g (enters k place from to m)
-  entered m k place from to e b =
-      let s : Stand = Away (record { generation = slice_index m.window.generations k; from = from; to = to }) from in
-      with_parcels m (put m.parcels k place s) (put_other m.parcels n k place s e) b
-
-  entered_if : (m : Grid W) (from : ℕ) (x : Frame) (place : ℕ) → (n == x.number) ≡ false → Behind f g m
-      → Behind f g (enters_if from x place m)
-  entered_if m from x place e b = cond_both (is_some (at x.places place))
-      (enters x.number place from (home x.code (target x.code place)) m) m (Behind f g)
-      (λ h. entered m x.number place from (home x.code (target x.code place)) e b) (λ h. b)
-
-  both_entered : (m : Grid W) (from : ℕ) (x : Frame) (place : ℕ) → (n == x.number) ≡ false → Behind f g m
-      → Behind f g (enter_both from x place m)
-  both_entered m from x place e b =
-      entered_if (enters_if from x place m) from x (suc place) e (entered_if m from x place e b)
-
   -- flushes ----------------------------------------------------------------------------------------
 
+  -- the flush of other frames leaves the oldest frame as it is
   pub was_flushed : (fs : List Frame) (m : Grid W) → is_of fs n ≡ false → Behind f g m → Behind f g (flushed fs m)
   was_flushed [] m e b = b
-  was_flushed (x ∷ fs) m e b = record {
-    younger = b.younger;
-    frames = b.frames;
-    state = b.state;
-    over = b.over;
-    generation = b.generation;
-    parcels = ap (λ t p. cond t Nowhere (m.parcels n p)) e ∙ b.parcels;
-    asked = ap (λ t k. cond t false (m.asked n k)) e ∙ b.asked;
-    works = ap (λ t s. cond t false (m.works n s)) e ∙ b.works;
-    careful = b.careful;
-  }
+  was_flushed (x ∷ fs) m e b = behind_same m (flushed (x ∷ fs) m) refl
+      (ap (λ t p. cond t Nowhere (m.parcels n p)) e) (ap (λ t k. cond t false (m.asked n k)) e)
+      (ap (λ t s. cond t false (m.works n s)) e) refl b
 
   -- what goes are younger frames
   none_gone : (v w : Window) (fs gs : List Frame) → v.frames ≡ f ∷ fs → w.frames ≡ f ∷ gs → Apart n fs
@@ -185,193 +115,150 @@ module _ {W : Type 0} (blocks : List Block) (budget : ℕ) (f : Frame) (g : Grid
   none_gone v w fs gs i j a =
       ap₂ (λ k l. is_of (drop (length k) l) n) j i ∙ none_dropped n (length gs) fs a
 
-  -- an event of the oldest frame or of another one that leaves the oldest one in flight
-  pub acted_leaving : (m : Grid W) (e : Event) → WindowOk blocks budget m.window → (fs gs : List Frame)
-      → m.window.frames ≡ f ∷ fs → (h : Frame) → h.number ≡ f.number
-      → (happens blocks budget e m.window).frames ≡ h ∷ gs
-      → is_of (gone m.window (happens blocks budget e m.window)) n ≡ false
-  acted_leaving m e ok fs gs i h same j =
-      ap₂ (λ k l. is_of (drop (length k) l) n) j i
-      ∙ none_dropped n (length gs) fs (younger_apart blocks budget m.window f fs ok i)
-
-  acted : (m : Grid W) (e : Event) → IsOther n e → WindowOk blocks budget m.window → Behind f g m
-      → Behind f g (act blocks budget e m)
-  acted m e o ok b =
-      let v : Window = happens blocks budget e m.window in
-      let l : Leads f m.window v = event_leads blocks budget m.window f b.younger b.frames e o in
-      let c : Behind f g (flushed (gone m.window v) (record m { window = v })) =
-      was_flushed (gone m.window v) (record m { window = v })
-      (none_gone m.window v b.younger l.0 b.frames (ap (λ (w : Window). w.frames) l.1)
-      (younger_apart blocks budget m.window f b.younger ok b.frames)) (windowed m v b l) in
-      record {
-        younger = c.younger;
-        frames = c.frames;
-        state = c.state;
-        over = c.over;
-        generation = c.generation;
-        parcels = c.parcels;
-        asked = c.asked;
-        works = c.works;
-        careful = c.careful;
-      }
-
-  -- what is done with another frame ----------------------------------------------------------------
-
-  with_other : (P : Grid W → Type 0) (k : ℕ) (does : Frame → Grid W → Grid W) (m : Grid W) → (n == k) ≡ false
-      → ((x : Frame) → (n == x.number) ≡ false → P (does x m)) → P m → (fs : List Frame)
-      → P (with_frame k does fs m)
-  with_other P k does m e h p [] = p
-  with_other P k does m e h p (x ∷ fs) = cond_both (x.number == k) (does x m) (with_frame k does fs m) P
-      (λ z. h x (other_of n k x.number e z)) (λ z. with_other P k does m e h p fs)
-
-  -- parts (3) to (5) -------------------------------------------------------------------------------
-
-  pub read_other : (bank : ℕ) (q : ℕ × ℕ) → (n == q.0) ≡ false → (m : Grid W) → Behind f g m
-      → Behind f g (read_chosen blocks budget bank (Some q) m)
-  read_other bank q e m b =
-      let v : Window = happens blocks budget (window.Read q.0 q.1) m.window in
-      let c : Behind f g (record m { window = v }) = windowed m v b
-      (event_leads blocks budget m.window f b.younger b.frames (window.Read q.0 q.1) e) in
-      with_other (Behind f g) q.0 (λ x h. enter_both (bank_node bank) x (first_read_place + 2 * q.1) h)
-      (record m { window = v }) e (λ x o. both_entered (record m { window = v }) (bank_node bank) x
-      (first_read_place + 2 * q.1) o c) c v.frames
-
-  not_asked : (m : Grid W) (k j : ℕ) → (n == k) ≡ false → Behind f g m → Behind f g (unasked k j m)
-  not_asked m k j e b = with_asked m (λ x i. cond ((x == k) && (i == j)) false (m.asked x i))
-      (ap (λ t i. cond (t && (i == j)) false (m.asked n i)) e) b
-
-  load_other : (tile k j slot : ℕ) → (n == k) ≡ false → (m : Grid W) → Behind f g m
-      → Behind f g (load_answered blocks budget tile k j slot m)
-  load_other tile k j slot e m b =
-      let v : Window = happens blocks budget (window.Load k j) m.window in
-      let c : Behind f g (unasked k j (record m { window = v })) = not_asked (record m { window = v }) k j e
-      (windowed m v b (event_leads blocks budget m.window f b.younger b.frames (window.Load k j) e)) in
-      with_other (Behind f g) k (λ x h. enter_both (data_node tile) x (2 * slot) h)
-      (unasked k j (record m { window = v })) e
-      (λ x o. both_entered (unasked k j (record m { window = v })) (data_node tile) x (2 * slot) o c) c v.frames
-
+  -- a waiting bit that is set leaves the oldest frame as it is
   pub waiting_now : (o : Option (ℕ × ℕ)) (m : Grid W) → Behind f g m → Behind f g (waits_now o m)
   waiting_now None m b = b
-  waiting_now (Some q) m b = record {
-    younger = b.younger;
-    frames = b.frames;
-    state = b.state;
-    over = b.over;
-    generation = b.generation;
-    parcels = b.parcels;
-    asked = b.asked;
-    works = b.works;
-    careful = b.careful;
+  waiting_now (Some q) m b = behind_same m (waits_now (Some q) m) refl refl refl refl refl b
+
+  module _ (blocks : List Block) (budget : ℕ) (m : Grid W) (e : Event) (ok : WindowOk blocks budget m.window) where
+    -- an event of the oldest frame or of another one that leaves the oldest one in flight
+    pub acted_leaving : (fs gs : List Frame) → m.window.frames ≡ f ∷ fs → (h : Frame) → h.number ≡ f.number
+        → (happens blocks budget e m.window).frames ≡ h ∷ gs
+        → is_of (gone m.window (happens blocks budget e m.window)) n ≡ false
+    acted_leaving fs gs i h same j =
+        ap₂ (λ k l. is_of (drop (length k) l) n) j i
+        ∙ none_dropped n (length gs) fs (younger_apart blocks budget m.window f fs ok i)
+
+    acted : IsOther n e → Behind f g m → Behind f g (act blocks budget e m)
+    acted o b =
+        let v : Window = happens blocks budget e m.window in
+        let l : Leads f m.window v = event_leads blocks budget m.window f b.younger b.frames e o in
+        let fs : List Frame = gone m.window v in
+        let k : Grid W = record m { window = v } in
+        behind_same (flushed fs k) (act blocks budget e m) refl refl refl refl refl (was_flushed fs k
+        (none_gone m.window v b.younger l.0 b.frames (ap (λ (w : Window). w.frames) l.1)
+        (younger_apart blocks budget m.window f b.younger ok b.frames)) (windowed m v b l))
+
+-- turns of other frames ----------------------------------------------------------------------------
+
+-- the changes of parts (3) to (6) by other frames than that of a number
+abbrev pub others : ℕ → Kinds
+others n = record every {
+  of = λ k. (n == k) ≡ false;
+  sealing = ⊥;
+  committing = ⊥;
+  filling = ⊥;
+  ticking = ⊥;
+}
+
+module _ {W : Type 0} (blocks : List Block) (good : AllGood blocks) (budget : ℕ) (f : Frame) (g : Grid W) where
+  abbrev number : ℕ
+  number = f.number
+
+  -- a grid with a good window in which the oldest frame stands as before
+  abbrev pub Stays : Grid W → Type 0
+  Stays m = Behind f g m × WindowOk blocks budget m.window
+
+  abbrev pub Stay : Grid W → Grid W → Type 0
+  Stay m h = Stays m → Stays h
+
+  happened : (e : Event) → IsOther number e → (m : Grid W)
+      → Stay m (record m { window = happens blocks budget e m.window })
+  happened e o m s = (
+    windowed f g m (happens blocks budget e m.window) s.0
+        (event_leads blocks budget m.window f (s.0).younger (s.0).frames e o),
+    (happens_moves blocks good budget e m.window s.1).ok,
+  )
+
+  acted_so : (e : Event) → IsOther number e → (m : Grid W) → Stay m (act blocks budget e m)
+  acted_so e o m s = (
+    acted f g blocks budget m e s.1 o s.0,
+    subst (WindowOk blocks budget) (sym (flushed_window (gone m.window (happens blocks budget e m.window))
+        (record m { window = happens blocks budget e m.window })))
+        (happens_moves blocks good budget e m.window s.1).ok,
+  )
+
+  delivered : (k p : ℕ) → p < places → (number == k) ≡ false → IsOther number (window.Deliver (token_places * k + p))
+  delivered k p l e = ap (λ z. number == z)
+      (frame_of_place k p (subst (λ z. p < z) places_are l)) ∙ e
+
+  not_asked : (k j : ℕ) → (number == k) ≡ false → (m : Grid W) → Stay m (unasked k j m)
+  not_asked k j e m s = (
+    behind_same f g m (unasked k j m) refl refl
+        (ap (λ t i. cond (t && (i == j)) false (m.asked number i)) e) refl refl s.0,
+    s.1,
+  )
+
+  -- what other frames do, one does not see
+  pub stay : Keeps (others number) blocks budget Stay
+  stay = record {
+    same = λ m s. s;
+    chain = λ m x h a b s. b (a s);
+    sealing = λ z. absurd z;
+    committing = λ z. absurd z;
+    filling = λ z. absurd z;
+    fetching = λ o p m s. (behind_same f g m _ refl refl refl refl refl s.0, s.1);
+    reading = λ k e r. happened (window.Read k r) e;
+    entering = λ z k e place from to m s. (
+      behind_same f g m _ refl
+          (put_other m.parcels number k place
+          (Away (record { generation = slice_index m.window.generations k; from = from; to = to }) from) e)
+          refl refl refl s.0,
+      s.1,
+    );
+    loading = λ k e j m s. not_asked k j e (record m { window = happens blocks budget (window.Load k j) m.window })
+        (happened (window.Load k j) e m s);
+    unasking = λ k e j. not_asked k j e;
+    storing = λ k e j. acted_so (window.Store k j) e;
+    waiting = λ q m s. (waiting_now f g (Some q) m s.0, s.1);
+    turning = λ z tile time m s. (behind_same f g m _ refl refl refl refl refl s.0, s.1);
+    resting = λ k e slot m s. (
+      behind_same f g m _ refl refl refl
+          (ap (λ t i. cond (t && (i == slot)) false (m.works number i)) e) refl s.0,
+      s.1,
+    );
+    issuing = λ z k e tile slot time m s.
+        let t = happened (window.Fire k slot) e m s in (
+          behind_same f g (record m { window = happens blocks budget (window.Fire k slot) m.window }) _ refl refl refl
+              (ap (λ t i. (t && (i == slot)) || m.works number i) e) refl t.0,
+          t.1,
+        );
+    ticking = λ z. absurd z;
+    taking = λ k e p c m i s. (
+      behind_same f g m _ refl (put_other m.parcels number c.frame c.place Nowhere
+          (ap (λ z. number == z) (sym (come_from k p (m.parcels k p) c i)) ∙ e)) refl refl refl s.0,
+      s.1,
+    );
+    asking = λ k e j m s. (
+      behind_same f g m _ refl refl (ap (λ t i. (t && (i == j)) || m.asked number i) e) refl refl
+          s.0,
+      s.1,
+    );
+    delivering = λ k e p l. happened (window.Deliver (token_places * k + p)) (delivered k p l e);
+    exiting = λ k e. acted_so (window.Exit k) e;
+    counting = λ z m s. (behind_same f g m _ refl refl refl refl refl s.0, s.1);
   }
 
-  store_other : (k j : ℕ) → (n == k) ≡ false → (m : Grid W) → WindowOk blocks budget m.window → Behind f g m
-      → Behind f g (store_resolved blocks budget k j m)
-  store_other k j e m ok b =
-      waiting_now (by_block m.window.frames (wrong_load blocks budget k j m.window))
-      (act blocks budget (window.Store k j) (unasked k j m))
-      (acted (unasked k j m) (window.Store k j) e ok (not_asked m k j e b))
+  module _ (m : Grid W) (ok : WindowOk blocks budget m.window) (b : Behind f g m) where
+    -- a read of another frame leaves the oldest one as it stands
+    pub read_other : (bank : ℕ) (q : ℕ × ℕ) → (number == q.0) ≡ false
+        → Behind f g (read_chosen blocks budget bank (Some q) m)
+    read_other bank q e = (read_keeps blocks budget Stay stay tt bank q e m (b, ok)).0
 
-  answered_other : (tile k j : ℕ) (o : Option (ℕ × Inst)) → (n == k) ≡ false → (m : Grid W)
-      → WindowOk blocks budget m.window → Behind f g m → Behind f g (answered_by blocks budget tile k j o m)
-  answered_other tile k j None e m ok b = b
-  answered_other tile k j (Some q) e m ok b = cond_both (is_store (form_of (q.1).op))
-      (store_resolved blocks budget k j m) (load_answered blocks budget tile k j q.0 m) (Behind f g)
-      (λ h. store_other k j e m ok b) (λ h. load_other tile k j q.0 e m b)
+    -- a data tile's answer to another frame leaves the oldest one as it stands
+    pub answer_other : (tile : ℕ) (q : ℕ × ℕ) → (number == q.0) ≡ false
+        → Behind f g (answer_chosen blocks budget tile (Some q) m)
+    answer_other tile q e = (answer_keeps blocks budget Stay stay tt tile q e m (b, ok)).0
 
-  pub answer_other : (tile : ℕ) (q : ℕ × ℕ) → (n == q.0) ≡ false → (m : Grid W) → WindowOk blocks budget m.window
-      → Behind f g m → Behind f g (answer_chosen blocks budget tile (Some q) m)
-  answer_other tile q e m ok b =
-      with_other (Behind f g) q.0 (λ x h. answered_by blocks budget tile q.0 q.1 (request x q.1) h) m e
-      (λ x o. answered_other tile q.0 q.1 (request x q.1) e m ok b) b m.window.frames
+    -- a result of another frame leaves the oldest one as it stands
+    pub result_other : (q : ℕ × ℕ) → (number == q.0) ≡ false → Behind f g (result_chosen (Some q) m)
+    result_other q e = (result_kept blocks budget Stay stay tt q e m (b, ok)).0
 
-  rested : (m : Grid W) (k s : ℕ) → (n == k) ≡ false → Behind f g m → Behind f g (rests k s m)
-  rested m k s e b = with_works m m.units (λ x i. cond ((x == k) && (i == s)) false (m.works x i))
-      (ap (λ t i. cond (t && (i == s)) false (m.works n i)) e) b
+    -- an issue of another frame leaves the oldest one as it stands
+    pub issue_other : (tile : ℕ) (q : ℕ × ℕ) → (number == q.0) ≡ false
+        → Behind f g (issue_chosen blocks budget tile (Some q) m)
+    issue_other tile q e = (issue_keeps blocks budget Stay stay tt tile q e m (b, ok)).0
 
-  result_entered : (m : Grid W) (t : Form) (i : Inst) (s : ℕ) (x : Frame) → (n == x.number) ≡ false → Behind f g m
-      → Behind f g (result_enters t i s x m)
-  result_entered m form.Load i s x e b =
-      entered m x.number (2 * s) (tile_node (tile_of s)) (data_node (tile_by i (at x.spots s))) e b
-  result_entered m form.Store i s x e b =
-      entered m x.number (2 * s) (tile_node (tile_of s)) (data_node (tile_by i (at x.spots s))) e b
-  result_entered m form.Branch i s x e b = entered m x.number (2 * s) (tile_node (tile_of s)) control e b
-  result_entered m form.General i s x e b = both_entered m (tile_node (tile_of s)) x (2 * s) e b
-  result_entered m form.Immediate i s x e b = both_entered m (tile_node (tile_of s)) x (2 * s) e b
-  result_entered m form.Constant i s x e b = both_entered m (tile_node (tile_of s)) x (2 * s) e b
-
-  slot_entered : (m : Grid W) (o : Option Inst) (s : ℕ) (x : Frame) → (n == x.number) ≡ false → Behind f g m
-      → Behind f g (slot_enters o s x m)
-  slot_entered m None s x e b = b
-  slot_entered m (Some i) s x e b = result_entered m (form_of i.op) i s x e b
-
-  pub result_other : (q : ℕ × ℕ) → (n == q.0) ≡ false → (m : Grid W) → Behind f g m
-      → Behind f g (result_chosen (Some q) m)
-  result_other q e m b =
-      with_other (Behind f g) q.0 (λ x h. slot_enters (slot_of x.code q.1) q.1 x (rests q.0 q.1 h)) m e
-      (λ x o. slot_entered (rests q.0 q.1 m) (slot_of x.code q.1) q.1 x o (rested m q.0 q.1 e b)) b m.window.frames
-
-  issued_other : (tile k s time : ℕ) → (n == k) ≡ false → (m : Grid W) → Behind f g m
-      → Behind f g (issued blocks budget tile k s time m)
-  issued_other tile k s time e m b =
-      let v : Window = happens blocks budget (window.Fire k s) m.window in
-      with_works (record m { window = v }) (λ t. cond (t == tile) time (m.units t))
-      (λ x i. ((x == k) && (i == s)) || m.works x i) (ap (λ t i. (t && (i == s)) || m.works n i) e)
-      (windowed m v b (event_leads blocks budget m.window f b.younger b.frames (window.Fire k s) e))
-
-  pub issue_other : (tile : ℕ) (q : ℕ × ℕ) → (n == q.0) ≡ false → (m : Grid W) → Behind f g m
-      → Behind f g (issue_chosen blocks budget tile (Some q) m)
-  issue_other tile q e m b =
-      with_other (Behind f g) q.0
-      (λ x h. issued blocks budget tile q.0 q.1 (takes (slot_of x.code q.1)) h) m e
-      (λ x o. issued_other tile q.0 q.1 (takes (slot_of x.code q.1)) e m b) b m.window.frames
-
-  -- part (6) ---------------------------------------------------------------------------------------
-
-  asks_other : (m : Grid W) (k j : ℕ) → (n == k) ≡ false → Behind f g m → Behind f g (asks k j m)
-  asks_other m k j e b = with_asked m (λ x i. ((x == k) && (i == j)) || m.asked x i)
-      (ap (λ t i. (t && (i == j)) || m.asked n i) e) b
-
-  delivers_other : (m : Grid W) (k p : ℕ) → p < 320 → (n == k) ≡ false → Behind f g m
-      → Behind f g (delivers blocks budget k p m)
-  delivers_other m k p l e b = windowed m (happens blocks budget (window.Deliver (token_places * k + p)) m.window) b
-      (event_leads blocks budget m.window f b.younger b.frames (window.Deliver (token_places * k + p))
-      (ap (λ z. n == z) (frame_of_place k p l) ∙ e))
-
-  slot_other : (t : Form) (i : Inst) (p : ℕ) → p < 320 → (x : Frame) → (n == x.number) ≡ false → (m : Grid W)
-      → WindowOk blocks budget m.window → Behind f g m → Behind f g (slot_arrives blocks budget t i p x m)
-  slot_other form.Load i p l x e m ok b = cond_both (is_waiting (at x.requests i.number) (p / 2))
-      (asks x.number i.number m) (delivers blocks budget x.number p m) (Behind f g)
-      (λ h. asks_other m x.number i.number e b) (λ h. delivers_other m x.number p l e b)
-  slot_other form.Store i p l x e m ok b = asks_other m x.number i.number e b
-  slot_other form.Branch i p l x e m ok b = acted m (window.Exit x.number) e ok b
-  slot_other form.General i p l x e m ok b = delivers_other m x.number p l e b
-  slot_other form.Immediate i p l x e m ok b = delivers_other m x.number p l e b
-  slot_other form.Constant i p l x e m ok b = delivers_other m x.number p l e b
-
-  inst_other : (o : Option Inst) (p : ℕ) → p < 320 → (x : Frame) → (n == x.number) ≡ false → (m : Grid W)
-      → WindowOk blocks budget m.window → Behind f g m → Behind f g (inst_arrives blocks budget o p x m)
-  inst_other None p l x e m ok b = b
-  inst_other (Some i) p l x e m ok b = slot_other (form_of i.op) i p l x e m ok b
-
-  place_other : (p : ℕ) → p < 320 → (x : Frame) → (n == x.number) ≡ false → (m : Grid W)
-      → WindowOk blocks budget m.window → Behind f g m → Behind f g (place_arrives blocks budget p x m)
-  place_other p l x e m ok b = cond_both (nat_lt p first_read_place)
-      (inst_arrives blocks budget (slot_of x.code (p / 2)) p x m) (delivers blocks budget x.number p m) (Behind f g)
-      (λ h. inst_other (slot_of x.code (p / 2)) p l x e m ok b) (λ h. delivers_other m x.number p l e b)
-
-  pub arrival_other : (k p : ℕ) → p < 320 → (n == k) ≡ false → (m : Grid W) → WindowOk blocks budget m.window
-      → Behind f g m → Behind f g (arrival blocks budget k p m)
-  arrival_other k p l e m ok b = go (come k p (m.parcels k p)) refl
-    where
-      go : (o : Option Parcel) → come k p (m.parcels k p) ≡ o → Behind f g (arrives_if blocks budget k p o m)
-      go None h = b
-      go (Some c) h =
-          let other : (n == c.frame) ≡ false =
-          ap (λ z. n == z) (sym (come_from k p (m.parcels k p) c h)) ∙ e in
-          let d : Behind f g (record m { parcels = put m.parcels c.frame c.place Nowhere }) =
-          with_parcels m (put m.parcels c.frame c.place Nowhere) (put_other m.parcels n c.frame c.place Nowhere other)
-          b in
-          with_other (Behind f g) k (place_arrives blocks budget p)
-          (record m { parcels = put m.parcels c.frame c.place Nowhere }) e
-          (λ x o. place_other p l x o (record m { parcels = put m.parcels c.frame c.place Nowhere }) ok d) d
-          m.window.frames
+    -- what arrives in another frame leaves the oldest one as it stands
+    pub places_other : (k p : ℕ) → p ≤ places → (number == k) ≡ false → Stays (each (arrival blocks budget k) p m)
+    places_other k p l e = places_keep blocks budget Stay stay k e p l m (b, ok)

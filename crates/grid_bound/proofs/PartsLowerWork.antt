@@ -20,6 +20,7 @@ use Rattle.grid_bound.proofs.Work.{calm, calm_drop}
 use Rattle.grid_bound.proofs.Mesh.{Both, launch_left, moved_left, moved_drop_first, moved_drop_second, Leaves}
 use Rattle.grid_bound.proofs.Mesh.{landed_bounded, way_bounded}
 
+-- each task of the frame's block is good
 abbrev pub GoodTasks : Front → Type 0
 GoodTasks f = (x : ℕ) → GoodTask (f.course.task x)
 
@@ -34,6 +35,7 @@ idle_is (Asking p) e = absurd (cc)
 idle_is Standing e = absurd (cc)
 idle_is (Sent p q) e = absurd (cc)
 
+-- what tests as standing at a data tile stands there
 pub standing_is : (w : Phase) → is_standing w ≡ true → w ≡ Standing
 standing_is Absent e = absurd (cc)
 standing_is Idle e = absurd (cc)
@@ -82,9 +84,11 @@ sent_left g p n c l k =
     let b : parcel_left (launch g p n.second) ≤ 12 = launch_left g p n.second l k.second in
     omega (arith, a, b)
 
+-- a good task whose tokens enter at its own node has at most 24 cycles left
 pub here_left : (g : ℕ) (n : Task) (c : ℕ) → GoodTask n → task_left c (sent_from g n.here n) ≤ 24
 here_left g n c k = sent_left g n.here n c k.here k
 
+-- a good task whose tokens enter at its data tile has at most 24 cycles left
 pub there_left : (g : ℕ) (n : Task) (c : ℕ) → GoodTask n → task_left c (sent_from g n.served_at n) ≤ 24
 there_left g n c k = sent_left g n.served_at n c k.served_at k
 
@@ -108,10 +112,12 @@ module _ (u : ℕ → ℕ) (fits : (t : ℕ) → u t ≤ 24) (f : Front) (good :
       subst (λ w. task_left c (sent_from f.generation (f.course.task x).here (f.course.task x)) + 1 ≤ task_left c w)
       (sym i) (omega (arith, a))
 
+  -- the banks raise no work
   pub read_le : work u (reads_front f) ≤ work u f
   read_le = picked_le u fits f (λ x. pick (unread f) (station_of f) none_busy x)
       (λ x. sent_from f.generation (f.course.task x).here (f.course.task x)) read_gone (λ x e. refl) read_falls
 
+  -- the banks lower the work where a read is not answered yet
   pub read_drop : (x : ℕ) → x < f.course.room → unread f x ≡ true → work u (reads_front f) + 1 ≤ work u f
   read_drop x l e = let y : (y : ℕ) × (y < f.course.room) × (station_of f y ≡ station_of f x)
       × (pick (unread f) (station_of f) none_busy y ≡ true) =
@@ -135,6 +141,7 @@ moved_idle m k h j (Asking p) = asked_idle (goes m h p)
 moved_idle m k h j Standing = refl
 moved_idle m k h j (Sent p q) = refl
 
+-- where more spots have their token, those that all had theirs still have
 pub all_come_more : (come come2 : ℕ → Bool) (qs : List ℕ) → ((s : ℕ) → come s ≡ true → come2 s ≡ true)
     → all_come come qs ≡ true → all_come come2 qs ≡ true
 all_come_more come come2 [] more e = refl
@@ -234,6 +241,7 @@ module _ (u : ℕ → ℕ) (fits : (t : ℕ) → u t ≤ 24) (f : Front) (good :
   move_low x c l = moved_left (one x) (two x) (hold (2 * x)) (hold (suc (2 * x))) c (f.at x) (holds (2 * x))
       (holds (suc (2 * x))) (both x l)
 
+  -- the mesh raises no work
   pub move_le : work u (move_front hold f) ≤ work u f
   move_le = calm u fits f (move_at hold f) come2 move_keeps move_more move_low
 
@@ -305,6 +313,7 @@ module _ (u : ℕ → ℕ) (fits : (t : ℕ) → u t ≤ 24) (f : Front) (good :
   below_falls zero x b l t = absurd (omega arith)
   below_falls (suc k) x b l t = one_falls x l (λ y i j. below_falls k y (omega (arith, i, b)) j) t
 
+  -- the mesh lowers the work where something travels
   pub move_drop : (x : ℕ) → x < f.course.room → Travels x → work u (move_front hold f) + 1 ≤ work u f
   move_drop x l t = let s : SomeFalls = below_falls (suc x) x (omega arith) l t in
       calm_drop u fits f (move_at hold f) come2 move_keeps move_more move_low s.0 s.1 (good s.0).tile s.2

@@ -32,6 +32,7 @@ call_trace call s = cond_both (call == 1) _ _ Same (λ e. refl)
     Same : State × Stepped → Type 0
     Same p = (p.0).trace ≡ s.trace
 
+-- a block that is committed adds itself and its exit to the trace
 pub applied_trace : (writes : List ℕ) (o : Effects) (s : State)
     → (apply writes o s).0.trace ≡ s.trace ++ (record { block = s.next; exit = o.exit }) ∷ []
 applied_trace writes o s = go o.system
@@ -65,6 +66,7 @@ goes_adds blocks s Ended = inl refl
 goes_adds blocks s StackFull = inl refl
 goes_adds blocks s (Trap c) = inl refl
 
+-- a list with one item more is longer by one
 pub length_more : (xs : List Traced) (x : Traced) → length (xs ++ x ∷ []) ≡ suc (length xs)
 length_more [] x = refl
 length_more (y ∷ xs) x = ap suc (length_more xs x)

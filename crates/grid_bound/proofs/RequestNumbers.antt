@@ -1,5 +1,5 @@
 -- What waits with a number: its form, the requests that stand without it, and the stores that are resolved before it.
-use Rattle.std.proofs.Common.{◌≡◌, ◌≢◌, ℕ, ◌+◌, ◌==◌, ◌&&◌, not, Bool, true}
+use Rattle.std.proofs.Common.{◌≡◌, ◌≢◌, ℕ, ◌==◌, ◌&&◌, not, Bool, true}
 use Rattle.std.proofs.Common.{false, cond, ◌⊎◌, inl}
 use Rattle.std.proofs.Common.{inr}
 use Rattle.std.proofs.Common.{List, [], ◌∷◌, ◌++◌, Some, refl, sym, ap, ap₂, ◌∙◌}
@@ -25,6 +25,7 @@ use Rattle.grid_bound.proofs.Travels.{and_none, result_of}
 
 -- what waits -------------------------------------------------------------------------------------
 
+-- a form with a number is that of a load or of a store
 pub number_kind : (t : Form) → has_number t ≡ true → (is_load t ≡ true) ⊎ (is_store t ≡ true)
 number_kind General e = absurd (true≢false (sym e))
 number_kind Immediate e = absurd (true≢false (sym e))
@@ -33,6 +34,7 @@ number_kind Branch e = absurd (true≢false (sym e))
 number_kind Load e = inl refl
 number_kind Store e = inr refl
 
+-- a form that is a load's is that of a load
 pub load_form : (t : Form) → is_load t ≡ true → t ≡ Load
 load_form General e = absurd (true≢false (sym e))
 load_form Immediate e = absurd (true≢false (sym e))
@@ -43,6 +45,7 @@ load_form Branch e = absurd (true≢false (sym e))
 
 -- what has come to its data tile is to come no more, and is in no unit
 module _ (asked : ℕ → Bool) (f : Frame) (s : ℕ) (i : Inst) (had : asked i.number ≡ true) where
+  -- a request that has come to its data tile is not still to come
   pub came : (t : Form) → has_number t ≡ true → to_come asked f t i s ≡ false
   came Load e = ap (λ b. is_waiting (at f.requests i.number) s && not b) had ∙ and_none _
   came Store e = ap (λ b. is_waiting (at f.requests i.number) s && not b) had ∙ and_none _
@@ -59,6 +62,7 @@ module _ (asked : ℕ → Bool) (f : Frame) (s : ℕ) (i : Inst) (had : asked i.
   given Constant e h = absurd (true≢false (sym e))
   given Branch e h = absurd (true≢false (sym e))
 
+  -- the result of a load or a store that has come to its data tile is in no unit
   pub no_result : slot_of f.code s ≡ Some i → has_number (form_of i.op) ≡ true → InUnit asked f s → ⊥
   no_result is kind u =
       let r = result_of asked f s u in
@@ -73,13 +77,16 @@ abbrev pub asked_but : (ℕ → ℕ → Bool) → ℕ → ℕ → ℕ → ℕ �
 asked_but asked m k x j = cond ((x == m) && (j == k)) false (asked x j)
 
 module _ (asked : ℕ → ℕ → Bool) (m k : ℕ) where
+  -- the request that is taken away is not asked any more
   pub but_here : asked_but asked m k m k ≡ false
   but_here = ap₂ (λ x y. cond (x && y) false (asked m k)) (same m) (same k)
 
+  -- a request of another number stays as it was
   pub but_number : (j : ℕ) → j ≢ k → asked_but asked m k m j ≡ asked m j
   but_number j d = ap (λ y. cond ((m == m) && y) false (asked m j)) (apart j k d)
       ∙ ap (λ y. cond y false (asked m j)) (and_none (m == m))
 
+  -- a request of another frame stays as it was
   pub but_frame : (x : ℕ) → x ≢ m → (j : ℕ) → asked_but asked m k x j ≡ asked x j
   but_frame x d j = ap (λ y. cond (y && (j == k)) false (asked x j)) (apart x m d)
 

@@ -16,16 +16,19 @@ use Rattle.grid_bound.proofs.Counting.{any_from, pick_may, pick_free, found_pos}
 use Rattle.grid_bound.proofs.Mesh.{launch_landed, goes_bounded, landed_kept, way_bounded}
 use Rattle.grid_bound.proofs.PartsLowerWork.{GoodTasks}
 
+-- both parcels of a good task that are launched on the mesh are where they are to be
 pub sent_fine : (come : ℕ → Bool) (g p : ℕ) (n : Task) → p < 25 → GoodTask n
     → Landed come (launch g p n.first) n.first × Landed come (launch g p n.second) n.second
 sent_fine come g p n l k = (launch_landed come g p n.first l k.first, launch_landed come g p n.second l k.second)
 
+-- the banks keep the rule of tasks
 pub fine_read : (u : ℕ → ℕ) (f : Front) → GoodTasks f → Fine u f → Fine u (reads_front f)
 fine_read u f good fine x l = cond_both (pick (unread f) (station_of f) none_busy x)
     (sent_from f.generation (f.course.task x).here (f.course.task x)) (f.at x) (FineAt u f.come (f.course.task x))
     (λ e. sent_fine f.come f.generation (f.course.task x).here (f.course.task x) (good x).here (good x))
     (λ e. fine x l)
 
+-- the banks leave which tasks there are
 pub placed_read : (f : Front) → Placed f → Placed (reads_front f)
 placed_read f placed x l = cond_both (pick (unread f) (station_of f) none_busy x)
     (sent_from f.generation (f.course.task x).here (f.course.task x)) (f.at x)
@@ -41,10 +44,12 @@ placed_read f placed x l = cond_both (pick (unread f) (station_of f) none_busy x
     there Standing h = refl
     there (Sent p q) h = refl
 
+-- a fresh front has the rule of tasks
 pub fine_fresh : (u : ℕ → ℕ) (g : ℕ) (c : Course) (s : Bool) → Fine u (fresh g c s)
 fine_fresh u g c s x l =
     cond_both (c.task x).declared Idle Absent (FineAt u (λ q. false) (c.task x)) (λ e. tt) (λ e. tt)
 
+-- a fresh front has the tasks that its block has
 pub placed_fresh : (g : ℕ) (c : Course) (s : Bool) → Placed (fresh g c s)
 placed_fresh g c s x l = go (c.task x).declared
   where
@@ -89,6 +94,7 @@ finished_there g (Asking p) c n = refl
 finished_there g Standing c n = refl
 finished_there g (Sent p q) c n = refl
 
+-- the units leave which tasks there are
 pub placed_units : (u : ℕ → ℕ) (f : Front) → Placed f → Placed (issue_front u (finish_front u f))
 placed_units u f placed x l = cond_both (issued u (finish_front u f) x) Working ((finish_front u f).at x)
     (λ w. is_there w ≡ (f.course.task x).declared)
@@ -117,6 +123,7 @@ module _ (u ud : ℕ → ℕ) (f : Front) where
   abbrev f1 : Front
   f1 = finish_front (less_one u) f
 
+  -- the units keep the rule of tasks
   pub fine_units : GoodTasks f → ((t : ℕ) → units_after (less_one u) (finish_front (less_one u) f) t ≤ ud t)
       → Fine u f
       → Fine ud (issue_front (less_one u) (finish_front (less_one u) f))
@@ -177,10 +184,12 @@ moved_there m k h j Standing = refl
 moved_there m k h j (Sent p q) = refl
 
 module _ (f : Front) (hold : ℕ → ℕ) where
+  -- the mesh leaves which tasks there are
   pub placed_move : Placed f → Placed (move_front hold f)
   placed_move placed x l = moved_there (free_at f (2 * x) (first_parcel (f.at x)))
       (free_at f (suc (2 * x)) (second_parcel (f.at x))) (hold (2 * x)) (hold (suc (2 * x))) (f.at x) ∙ placed x l
 
+  -- the mesh keeps the rule of tasks
   pub fine_move : (u : ℕ → ℕ) → ((p : ℕ) → hold p ≤ 3) → Fine u f → Fine u (move_front hold f)
   fine_move u holds fine x l = moved_fine u f.come (move_front hold f).come (f.course.task x)
       (free_at f (2 * x) (first_parcel (f.at x))) (free_at f (suc (2 * x)) (second_parcel (f.at x))) (hold (2 * x))

@@ -49,6 +49,7 @@ module _ (f : Frame) where
   writes_seen zero l = refl
   writes_seen (suc n) l = ap₂ (λ a b. a && b) (write_seen n (omega (arith, l))) (writes_seen n (omega (arith, l)))
 
+  -- all numbers of the mask below n have come to the lane exactly where they have in the window
   pub numbers_seen : (n : ℕ) → n ≤ 32 → all_come (has_come f) (numbers_in f.code.mask n) ≡ all_below (store_came f) n
   numbers_seen zero l = refl
   numbers_seen (suc n) l = go (in_mask f.code.mask n)

@@ -167,7 +167,8 @@ stage_some n u (Running f) = omega arith
 stage_some n u (Fetching None s) = omega arith
 stage_some n u (Fetching (Some k) s) = omega arith
 
-reserve_most : (b : Bool) (n : ℕ) → reserve b n ≤ 256 + 128 * n
+-- what is kept for a flush is at most a fetch and its work
+pub reserve_most : (b : Bool) (n : ℕ) → reserve b n ≤ 256 + 128 * n
 reserve_most true n = omega arith
 reserve_most false n = omega arith
 

@@ -123,6 +123,7 @@ module _ (b : Block) (g : ℕ → Answer) where
       let e = slot_tasks_is in let r = room_is in let i = fits.insts in
       split_tasks 32 (omega (arith, e, r)) (omega (arith, e, i)) fits.reads
 
+-- the price of a block by its size is its cost
 pub price_is : (b : Block) → price (size b) ≡ cost b
 unfolding cost
 price_is b = refl

@@ -41,6 +41,7 @@ pub record StandsAt {W : Type 0} (h : Grid W) (e : Frame) (x : ℕ) : Type 0 whe
   pub waits : at e.requests inst.number ≡ Some x
   pub asked : h.asked e.number inst.number ≡ true
 
+-- a task that stands at its data tile in the lane does so in the grid
 pub standing_is : {W : Type 0} (h : Grid W) (e : Frame) (x : ℕ) → is_standing (phase_of h e x) ≡ true
     → StandsAt h e x
 standing_is h e x z = by (nat_lt x slot_tasks) refl z

@@ -19,10 +19,12 @@ module _ {W : Type 0} where
     fetch = r.fetch;
   }
 
+  -- the stated start has the grid's rule with any predictor
   pub begun_rule : (s : State) (p : Holding) (weather : W)
       → GridRule (record (begun_at s [] weather) { predictor = p })
   begun_rule s p weather = predicting p (begun_at s [] weather) (begins_right s [] weather)
 
+  -- the stated start counts generations right with any predictor
   pub begun_counted : (s : State) (p : Holding) (weather : W)
       → GenerationsCounted (record (begun_at s [] weather) { predictor = p })
   begun_counted s p weather = begins_counted s [] weather

@@ -16,6 +16,7 @@ unstarted_at (suc (suc (suc (suc (suc (suc zero)))))) = omega arith
 unstarted_at (suc (suc (suc (suc (suc (suc (suc zero))))))) = omega arith
 unstarted_at (suc (suc (suc (suc (suc (suc (suc (suc n)))))))) = omega arith
 
+-- the stated start has the grid's rule
 pub begins_right : {W : Type 0} (s : State) (entries : List ℕ) (weather : W) → GridRule (begun_at s entries weather)
 begins_right s entries weather = record {
   frames = tt;
@@ -31,6 +32,7 @@ begins_right s entries weather = record {
   fetch = tt;
 }
 
+-- the stated start counts generations right
 pub begins_counted : {W : Type 0} (s : State) (entries : List ℕ) (weather : W)
     → GenerationsCounted (begun_at s entries weather)
 begins_counted s entries weather = unstarted_at

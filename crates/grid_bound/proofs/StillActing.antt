@@ -18,6 +18,7 @@ use Rattle.grid_bound.proofs.PartsLowerWork.{idle_is, standing_is}
 abbrev pub Carries : Phase → Type 0
 Carries w = (is_nowhere (first_parcel w) ≡ false) ⊎ (is_nowhere (second_parcel w) ≡ false)
 
+-- a task has a parcel on the mesh
 abbrev pub HasParcel : Front → Type 0
 HasParcel f = (x : ℕ) × (x < f.course.room) × Carries (f.at x)
 
@@ -28,6 +29,7 @@ UsesUnit f = (x : ℕ) × (x < f.course.room) × ((ready f x ≡ true) ⊎ (f.at
 abbrev pub Later5 : Front → Type 0
 Later5 f = UsesUnit f ⊎ HasParcel f
 
+-- a task may be answered by a data tile, or acts or travels from part (5) on
 abbrev pub Later4 : Front → Type 0
 Later4 f = ((x : ℕ) × (x < f.course.room) × (answerable f x ≡ true)) ⊎ Later5 f
 
@@ -88,6 +90,7 @@ module _ (f : Front) where
         (sym (same_at x (λ e. idle_bare (f.at x) (read_idle x e).0 t))) t,
   )
 
+  -- what acts or travels from part (4) on still does behind the banks
   pub read_later4 : Later4 f → Later4 (reads_front f)
   read_later4 (inl (x, l, a)) = inl (
     x,

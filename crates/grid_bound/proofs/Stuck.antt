@@ -11,6 +11,7 @@ use Rattle.grid_bound.specs.inside.Lane.{ready, answerable, complete}
 use Rattle.grid_bound.specs.inside.Moving.{is_nowhere}
 use Rattle.grid_bound.specs.inside.Laws.{Has, OnItsWay, FineAt, Fine, Placed}
 
+-- some task acts or travels: a read to answer, a request to serve, a slot to issue, a result, or a parcel
 pub data Active (f : Front) : Type 0 where
   reads : (x : ℕ) → x < f.course.room → unread f x ≡ true → Active f
   answers : (x : ℕ) → x < f.course.room → answerable f x ≡ true → Active f
@@ -106,5 +107,6 @@ module _ (u : ℕ → ℕ) (f : Front) (rank : ℕ → ℕ) (top : ℕ) (good : 
   ranked (suc r) y l m k = node_active y l m (λ z i j n. ranked r z i j (omega (arith, n, k))) (f.at y) refl
       (fine y l)
 
+  -- a frame that lacks an output has a task that acts or travels
   pub never_stuck : complete f ≡ false → Active f
   never_stuck e = missing_active top f.course.outputs (ranked top) good.ends e

@@ -87,6 +87,7 @@ read_good b (Some r) = record {
   second = target_inside b (place_at r.second);
 }
 
+-- each task of a block is good
 pub tasks_good : (b : Block) (g : ℕ → Answer) (x : ℕ) → GoodTask (task_of b g x)
 tasks_good b g x = cond_both (nat_lt x slot_tasks) (slot_task b g x (slot_of b x))
     (read_task b (slice_get b.reads.items (x - slot_tasks))) GoodTask

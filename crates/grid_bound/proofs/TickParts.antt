@@ -1,16 +1,11 @@
 -- Part (6) of a cycle: the mesh ticks, and what has come is delivered, so that nothing has come any more.
 use Rattle.std.specs.List.{list_any}
-use Rattle.std.proofs.Common.{◌≡◌, ◌≢◌, ℕ, zero, suc, ◌/◌, ◌<◌, ◌≤◌, ◌==◌, ◌&&◌, ◌||◌, Bool}
-use Rattle.std.proofs.Common.{true, false, cond, nat_lt}
+use Rattle.std.proofs.Common.{◌≡◌, ◌≢◌, ℕ, zero, suc, ◌<◌, ◌≤◌, ◌==◌, ◌&&◌, ◌||◌, Bool}
+use Rattle.std.proofs.Common.{true, false, cond}
 use Rattle.std.proofs.Common.{◌⊎◌}
-use Rattle.std.proofs.Common.{inl, inr, List, [], ◌∷◌, length, Option, Some, None, get_or, refl, sym, ap}
+use Rattle.std.proofs.Common.{inl, inr, List, [], ◌∷◌, length, get_or, refl, sym, ap}
 use Rattle.std.proofs.Common.{◌∙◌, subst, true≢false, arith}
-use Rattle.trips_isa.specs.declared.block.Inst.{Inst}
 use Rattle.trips_isa.specs.declared.block.Block.{Block}
-use Rattle.trips_isa.specs.declared.form.Form.{Form}
-use Rattle.trips_isa.specs.declared.form.Form.TheVariants.{General, Immediate, Load, Store, Branch, Constant}
-use Rattle.trips_isa.specs.Forms.{form_of}
-use Rattle.block_cases.specs.Orders.{slot_of}
 use Rattle.operand_net.specs.declared.parcel.Parcel.{Parcel}
 use Rattle.operand_net.specs.declared.parcel.Stand.{Stand}
 use Rattle.operand_net.specs.declared.parcel.Stand.TheVariants.{Nowhere, Away, Held}
@@ -18,7 +13,7 @@ use Rattle.operand_net.specs.Places.{Places, put}
 use Rattle.operand_net.specs.inside.Places.{come}
 use Rattle.operand_net.specs.inside.IsStands.{is_here}
 use Rattle.operand_net.specs.Tick.{next_of, ticked, Ticked}
-use Rattle.commit_flush_spec.specs.Frames.{Frame, at}
+use Rattle.commit_flush_spec.specs.Frames.{Frame}
 use Rattle.commit_flush_spec.specs.Window.{Window, Event, happens}
 use Rattle.commit_flush_spec.specs.Window as window
 use Rattle.commit_flush_spec.specs.inside.Invariant.{AllGood}
@@ -28,16 +23,17 @@ use Rattle.grid_cycle_spec.specs.Grid.{Grid, is_of, numbers_of}
 use Rattle.grid_cycle_spec.specs.Acting.{act, flushed, gone}
 use Rattle.grid_cycle_spec.specs.Choosing.{each, with_frame}
 use Rattle.grid_cycle_spec.specs.inside.Choosing.{places}
-use Rattle.grid_cycle_spec.specs.inside.Arrivals.{asks, delivers, is_waiting, slot_arrives, inst_arrives}
 use Rattle.grid_cycle_spec.specs.inside.Arrivals.{place_arrives, arrives_if, arrival, arrivals}
 use Rattle.grid_cycle_spec.specs.Cycles.{Moves}
 use Rattle.grid_cycle_spec.proofs.Routes.{leads_nearer}
+use Rattle.grid_cycle_spec.proofs.KeptByCycles.{Kinds, every, Keeps, places_are, there_keeps, arrival_keeps}
+use Rattle.grid_cycle_spec.proofs.KeptByCycles.{places_keep, arrivals_keep}
 use Rattle.grid_bound.specs.inside.UnderWay.{Nothing, Tied}
 use Rattle.grid_bound.specs.inside.Rule.{HeldFrom, runs_in}
 use Rattle.grid_bound.proofs.EachFrame.{any_flight, differ, each_map, equal, runs_flight}
 use Rattle.grid_bound.proofs.Entered.{put_here}
 use Rattle.grid_bound.proofs.GoingGrids.{Going}
-use Rattle.grid_bound.proofs.ArrivalPlaces.{arrivals_going, places_are}
+use Rattle.grid_bound.proofs.ArrivalPlaces.{arrivals_going}
 
 -- a tick -----------------------------------------------------------------------------------------
 
@@ -55,6 +51,7 @@ here_ticked free h (Away t a) = go (a == t.to) free (next_of a t.to == t.to)
     go false true false = refl
     go false false z = refl
 
+-- what is not here is nowhere
 pub not_here : (s : Stand) → is_here s ≡ false → s ≡ Nowhere
 not_here Nowhere e = refl
 not_here (Away t a) e = absurd (true≢false e)
@@ -73,7 +70,8 @@ held_ticked free h l (Away t a) k = go (a == t.to) refl free (next_of a t.to == 
     go false e true false = ((leads_nearer a t.to k.0 k.1 (differ a t.to e)).inside, k.1)
     go false e false z = k
 
-still_held : (s : Stand) → HeldFrom 1 s → HeldFrom 0 s
+-- a hold that is at least one is at least zero
+pub still_held : (s : Stand) → HeldFrom 1 s → HeldFrom 0 s
 still_held Nowhere k = tt
 still_held (Away t a) k = k
 still_held (Held t h) k = (omega arith, k.1)
@@ -186,80 +184,72 @@ module _ {W : Type 0} where
       go true = inr refl
       go false = inl refl
 
-  frame_fewer : (does : Frame → Grid W → Grid W) → ((f : Frame) (x : Grid W) → Fewer x (does f x)) → (n : ℕ)
-      (fs : List Frame) (g : Grid W) → Fewer g (with_frame n does fs g)
-  frame_fewer does h n [] g = same_parcels g g refl
-  frame_fewer does h n (f ∷ fs) g = go (f.number == n) (frame_fewer does h n fs g)
-    where
-      go : (b : Bool) → Fewer g (with_frame n does fs g) → Fewer g (cond b (does f g) (with_frame n does fs g))
-      go true r = h f g
-      go false r = r
+-- the changes of arrivals
+abbrev arriving : Kinds
+arriving = record every {
+  sealing = ⊥;
+  committing = ⊥;
+  filling = ⊥;
+  sending = ⊥;
+  turning = ⊥;
+  ticking = ⊥;
+}
 
 module _ {W : Type 0} (blocks : List Block) (budget : ℕ) where
+  abbrev Less : Grid W → Grid W → Type 0
+  Less g h = Fewer g h
+
   act_fewer : (e : Event) (g : Grid W) → Fewer g (act blocks budget e g)
   act_fewer e g =
       let v : Window = happens blocks budget e g.window in
       flushed_fewer (gone g.window v) (record g { window = v })
 
-  form_fewer : (t : Form) (i : Inst) (p : ℕ) (f : Frame) (g : Grid W) → Fewer g (slot_arrives blocks budget t i p f g)
-  form_fewer General i p f g = same_parcels g (delivers blocks budget f.number p g) refl
-  form_fewer Immediate i p f g = same_parcels g (delivers blocks budget f.number p g) refl
-  form_fewer Constant i p f g = same_parcels g (delivers blocks budget f.number p g) refl
-  form_fewer Store i p f g = same_parcels g (asks f.number i.number g) refl
-  form_fewer Branch i p f g = act_fewer (window.Exit f.number) g
-  form_fewer Load i p f g = go (is_waiting (at f.requests i.number) (p / 2))
+  taken_fewer : (c : Parcel) (g : Grid W) → Fewer g (record g { parcels = put g.parcels c.frame c.place Nowhere })
+  taken_fewer c g k q = go ((k == c.frame) && (q == c.place))
     where
-      go : (b : Bool) → Fewer g (cond b (asks f.number i.number g) (delivers blocks budget f.number p g))
-      go true = same_parcels g (asks f.number i.number g) refl
-      go false = same_parcels g (delivers blocks budget f.number p g) refl
+      go : (b : Bool) → (cond b Nowhere (g.parcels k q) ≡ g.parcels k q) ⊎ (cond b Nowhere (g.parcels k q) ≡ Nowhere)
+      go true = inr refl
+      go false = inl refl
 
-  place_fewer : (p : ℕ) (f : Frame) (g : Grid W) → Fewer g (place_arrives blocks budget p f g)
-  place_fewer p f g = go (nat_lt p 256) (slot_of f.code (p / 2))
-    where
-      inst : (o : Option Inst) → Fewer g (inst_arrives blocks budget o p f g)
-      inst None = same_parcels g g refl
-      inst (Some i) = form_fewer (form_of i.op) i p f g
+  -- what arrives takes parcels away, and puts none
+  taking : Keeps arriving blocks budget Less
+  taking = record {
+    same = λ g n p. inl refl;
+    chain = fewer_chain;
+    sealing = λ e. absurd e;
+    committing = λ e. absurd e;
+    filling = λ e. absurd e;
+    fetching = λ o q g n p. inl refl;
+    reading = λ n e r g k p. inl refl;
+    entering = λ e. absurd e;
+    loading = λ n e j g k p. inl refl;
+    unasking = λ n e j g k p. inl refl;
+    storing = λ n e j. act_fewer (window.Store n j);
+    waiting = λ q g k p. inl refl;
+    turning = λ e. absurd e;
+    resting = λ n e slot g k p. inl refl;
+    issuing = λ e. absurd e;
+    ticking = λ e. absurd e;
+    taking = λ n e place c g i. taken_fewer c g;
+    asking = λ n e j g k p. inl refl;
+    delivering = λ n e place l g k p. inl refl;
+    exiting = λ n e. act_fewer (window.Exit n);
+    counting = λ e g k p. inl refl;
+  }
 
-      go : (b : Bool) (o : Option Inst)
-          → Fewer g (cond b (inst_arrives blocks budget o p f g) (delivers blocks budget f.number p g))
-      go true o = inst o
-      go false o = same_parcels g (delivers blocks budget f.number p g) refl
+  arrival_fewer : (n p : ℕ) → p < places → (g : Grid W) → Fewer g (arrival blocks budget n p g)
+  arrival_fewer n = arrival_keeps blocks budget Less taking n tt
 
-  come_fewer : (n p : ℕ) (q : Option Parcel) (g : Grid W) → Fewer g (arrives_if blocks budget n p q g)
-  come_fewer n p None g = same_parcels g g refl
-  come_fewer n p (Some c) g =
-      let m : Grid W = record g { parcels = put g.parcels c.frame c.place Nowhere } in
-      fewer_chain g m (with_frame n (place_arrives blocks budget p) g.window.frames m) taken
-      (frame_fewer (place_arrives blocks budget p) (place_fewer p) n g.window.frames m)
-    where
-      taken : (k q : ℕ) → (put g.parcels c.frame c.place Nowhere k q ≡ g.parcels k q)
-          ⊎ (put g.parcels c.frame c.place Nowhere k q ≡ Nowhere)
-      taken k q = go ((k == c.frame) && (q == c.place))
-        where
-          go : (b : Bool) → (cond b Nowhere (g.parcels k q) ≡ g.parcels k q) ⊎ (cond b Nowhere (g.parcels k q)
-              ≡ Nowhere)
-          go true = inr refl
-          go false = inl refl
-
-  arrival_fewer : (n p : ℕ) (g : Grid W) → Fewer g (arrival blocks budget n p g)
-  arrival_fewer n p g = come_fewer n p (come n p (g.parcels n p)) g
-
-  each_fewer : (n k : ℕ) (g : Grid W) → Fewer g (each (arrival blocks budget n) k g)
-  each_fewer n zero g = same_parcels g g refl
-  each_fewer n (suc k) g = fewer_chain g (each (arrival blocks budget n) k g)
-      (each (arrival blocks budget n) (suc k) g)
-      (each_fewer n k g) (arrival_fewer n k (each (arrival blocks budget n) k g))
+  each_fewer : (n k : ℕ) → k ≤ places → (g : Grid W) → Fewer g (each (arrival blocks budget n) k g)
+  each_fewer n = places_keep blocks budget Less taking n tt
 
   arrivals_fewer : (ns : List ℕ) (g : Grid W) → Fewer g (arrivals blocks budget ns g)
-  arrivals_fewer [] g = same_parcels g g refl
-  arrivals_fewer (n ∷ ns) g =
-      let m : Grid W = each (arrival blocks budget n) places g in
-      fewer_chain g m (arrivals blocks budget ns m) (each_fewer n places g) (arrivals_fewer ns m)
+  arrivals_fewer = arrivals_keep blocks budget Less taking (λ n. tt)
 
   -- after its arrival nothing stands in a place that has come
-  clears : (n p : ℕ) (g : Grid W) → HeldFrom 0 (g.parcels n p)
+  clears : (n p : ℕ) → p < places → (g : Grid W) → HeldFrom 0 (g.parcels n p)
       → HeldFrom 1 ((arrival blocks budget n p g).parcels n p)
-  clears n p g k = go (g.parcels n p) refl k
+  clears n p l g k = go (g.parcels n p) refl k
     where
       go : (s : Stand) → g.parcels n p ≡ s → HeldFrom 0 s
           → HeldFrom 1 ((arrives_if blocks budget n p (come n p (g.parcels n p)) g).parcels n p)
@@ -274,19 +264,20 @@ module _ {W : Type 0} (blocks : List Block) (budget : ℕ) where
           subst (λ x. HeldFrom 1 ((arrives_if blocks budget n p (come n p x) g).parcels n p)) (sym e)
           (let m : Grid W = record g { parcels = put g.parcels n p Nowhere } in
           fewer_held 1 m (with_frame n (place_arrives blocks budget p) g.window.frames m) n p
-          (frame_fewer (place_arrives blocks budget p) (place_fewer p) n g.window.frames m)
+          (there_keeps blocks budget Less taking n tt p l g.window.frames m)
           (subst (HeldFrom 1) (sym (put_here g.parcels n p Nowhere)) tt))
 
-  each_clears : (n k : ℕ) (g : Grid W) → ((q : ℕ) → q < k → HeldFrom 0 (g.parcels n q)) → (p : ℕ) → p < k
-      → HeldFrom 1 ((each (arrival blocks budget n) k g).parcels n p)
-  each_clears n zero g h p l = absurd (omega (arith, l))
-  each_clears n (suc k) g h p l =
+  each_clears : (n k : ℕ) → k ≤ places → (g : Grid W) → ((q : ℕ) → q < k → HeldFrom 0 (g.parcels n q)) → (p : ℕ)
+      → p < k → HeldFrom 1 ((each (arrival blocks budget n) k g).parcels n p)
+  each_clears n zero most g h p l = absurd (omega (arith, l))
+  each_clears n (suc k) most g h p l =
       let m : Grid W = each (arrival blocks budget n) k g in
       elim (equal_or p k) [
         | inl e ↦ subst (λ j. HeldFrom 1 ((arrival blocks budget n k m).parcels n j)) (sym e)
-            (clears n k m (fewer_held 0 g m n k (each_fewer n k g) (h k (omega arith))))
-        | inr d ↦ fewer_held 1 m (arrival blocks budget n k m) n p (arrival_fewer n k m)
-            (each_clears n k g (λ q j. h q (omega (arith, j))) p (omega (arith, l, d)))
+            (clears n k (omega (arith, most)) m (fewer_held 0 g m n k (each_fewer n k (omega (arith, most)) g)
+            (h k (omega arith))))
+        | inr d ↦ fewer_held 1 m (arrival blocks budget n k m) n p (arrival_fewer n k (omega (arith, most)) m)
+            (each_clears n k (omega (arith, most)) g (λ q j. h q (omega (arith, j))) p (omega (arith, l, d)))
       ]
 
   arrivals_clear : (ns : List ℕ) (g : Grid W) → ((n q : ℕ) → q < 320 → HeldFrom 0 (g.parcels n q)) → (n p : ℕ)
@@ -294,8 +285,8 @@ module _ {W : Type 0} (blocks : List Block) (budget : ℕ) where
   arrivals_clear [] g h n p l e = absurd (true≢false (sym e))
   arrivals_clear (k ∷ ns) g h n p l e = go (k == n) refl e (λ z. arrivals_clear ns (each
       (arrival blocks budget k) places g)
-      (λ j q lq. fewer_held 0 g (each (arrival blocks budget k) places g) j q (each_fewer k places g) (h j q lq))
-      n p l z)
+      (λ j q lq. fewer_held 0 g (each (arrival blocks budget k) places g) j q (each_fewer k places (omega arith) g)
+      (h j q lq)) n p l z)
     where
       go : (b : Bool) → (k == n) ≡ b → (b || list_any (λ j. j == n) ns) ≡ true
           → (list_any (λ j. j == n) ns ≡ true
@@ -306,24 +297,31 @@ module _ {W : Type 0} (blocks : List Block) (budget : ℕ) where
           (arrivals blocks budget ns (each (arrival blocks budget k) places g)) n p
           (arrivals_fewer ns (each (arrival blocks budget k) places g))
           (subst (λ j. HeldFrom 1 ((each (arrival blocks budget k) places g).parcels j p)) (equal k n i)
-          (subst (λ x. HeldFrom 1 ((each (arrival blocks budget k) x g).parcels k p)) (sym places_are)
-          (each_clears k 320 g (λ q j. h k q j) p l)))
+          (each_clears k places (omega arith) g (λ q j. h k q (subst (λ m. q < m) places_are j)) p
+          (subst (λ m. p < m) (sym places_are) l)))
       go false i z rest = rest z
 
 -- part (6) keeps the rule ------------------------------------------------------------------------
 
-module _ {W : Type 0} (blocks : List Block) (good : AllGood blocks) (budget : ℕ) (next : W → ℕ)
-    (follows : W → W → Type 0) (bound : (w : W) → next w ≤ 3) where
-  pub moves_going : (g h : Grid W) → Going blocks budget 1 g → Moves next follows blocks budget g h
-      → Going blocks budget 1 h
-  moves_going g h go moves =
-      let ns : List ℕ = numbers_of g.window.frames in
-      let x : Grid W = record g { parcels = moves.parcels; weather = moves.weather } in
-      let mid : Going blocks budget 0 x = ticked_going blocks budget g go moves.parcels moves.weather
-      (after_tick next follows bound ns g.parcels moves.parcels g.weather moves.weather (length g.window.frames)
-      moves.ticked) in
-      let last : Going blocks budget 0 (arrivals blocks budget ns x) = arrivals_going blocks good budget ns x mid in
-      subst (Going blocks budget 1) (sym moves.arrived) (record {
+module _ {W : Type 0} (blocks : List Block) (good : AllGood blocks) (budget : ℕ) where
+  cleared : (x : Grid W) → Going blocks budget 0 x → (n p : ℕ) → p < 320 → (b : Bool)
+      → list_any (λ m. m == n) (nums x.window.frames) ≡ b
+      → HeldFrom 1 ((arrivals blocks budget (numbers_of x.window.frames) x).parcels n p)
+  cleared x mid n p l true e = arrivals_clear blocks budget (numbers_of x.window.frames) x mid.ties.mesh n p l e
+  cleared x mid n p l false e =
+      let free : runs_in n x.window.frames ≡ false =
+      runs_flight n x.window.frames (sym (any_flight n x.window.frames) ∙ e) in
+      fewer_held 1 x (arrivals blocks budget (numbers_of x.window.frames) x) n p
+      (arrivals_fewer blocks budget (numbers_of x.window.frames) x)
+      (subst (HeldFrom 1) (sym ((mid.ties.nothing n free).none_travels p l)) tt)
+
+  -- behind a tick, once what has come is delivered nothing has come any more
+  pub arrived_going : (x : Grid W) → Going blocks budget 0 x
+      → Going blocks budget 1 (arrivals blocks budget (numbers_of x.window.frames) x)
+  arrived_going x mid =
+      let last : Going blocks budget 0 (arrivals blocks budget (numbers_of x.window.frames) x) =
+      arrivals_going blocks good budget (numbers_of x.window.frames) x mid in
+      record {
         ok = last.ok;
         went = last.went;
         ties = record {
@@ -335,15 +333,18 @@ module _ {W : Type 0} (blocks : List Block) (good : AllGood blocks) (budget : �
           mesh = λ n p l. cleared x mid n p l (list_any (λ m. m == n) (nums x.window.frames)) refl;
         };
         fetch = last.fetch;
-      })
-    where
-      cleared : (x : Grid W) → Going blocks budget 0 x → (n p : ℕ) → p < 320 → (b : Bool)
-          → list_any (λ m. m == n) (nums x.window.frames) ≡ b
-          → HeldFrom 1 ((arrivals blocks budget (numbers_of x.window.frames) x).parcels n p)
-      cleared x mid n p l true e = arrivals_clear blocks budget (numbers_of x.window.frames) x mid.ties.mesh n p l e
-      cleared x mid n p l false e =
-          let free : runs_in n x.window.frames ≡ false =
-          runs_flight n x.window.frames (sym (any_flight n x.window.frames) ∙ e) in
-          fewer_held 1 x (arrivals blocks budget (numbers_of x.window.frames) x) n p
-          (arrivals_fewer blocks budget (numbers_of x.window.frames) x)
-          (subst (HeldFrom 1) (sym ((mid.ties.nothing n free).none_travels p l)) tt)
+      }
+
+  module _ (next : W → ℕ) (follows : W → W → Type 0) (bound : (w : W) → next w ≤ 3) where
+    -- the moves of a cycle leave a grid that goes on going
+    pub moves_going : (g h : Grid W) → Going blocks budget 1 g → Moves next follows blocks budget g h
+        → Going blocks budget 1 h
+    moves_going g h go moves =
+        let x : Grid W = record g { parcels = moves.parcels; weather = moves.weather } in
+        let mid : Going blocks budget 0 x = ticked_going blocks budget g go moves.parcels moves.weather
+        (after_tick next follows bound (numbers_of g.window.frames) g.parcels moves.parcels g.weather moves.weather
+        (length g.window.frames) moves.ticked) in
+        let last : Going blocks budget 1 (arrivals blocks budget (numbers_of g.window.frames) x) =
+        arrived_going x mid in
+        subst (Going blocks budget 1) (sym moves.arrived)
+        (record { ok = last.ok; went = last.went; ties = last.ties; fetch = last.fetch })

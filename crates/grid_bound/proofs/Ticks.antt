@@ -4,6 +4,7 @@ use Rattle.operand_net.specs.Places.{Places}
 use Rattle.operand_net.specs.Tick.{Ticked, RowTicked, frames_want}
 use Rattle.grid_bound.specs.inside.Parts.{RowMoves}
 
+-- in a tick the parcels of the oldest frame move as if there were no others
 pub oldest_ticks : {W : Type 0} (next : W → ℕ) (follows : W → W → Type 0) → ((w : W) → next w ≤ 3)
     → (n k : ℕ) (ns : List ℕ) (before after : Places) (v w : W)
     → Ticked next follows (n ∷ ns) before after v w (suc k) → RowMoves (before n) (after n)

@@ -56,6 +56,7 @@ module _ (c c' : ℕ → Stand) (asked asked' works : ℕ → Bool) (f g : Frame
     (was : (q : ℕ) → IsPlace p q → travels asked works f q ≡ is_some (at f.places q))
     (is : (q : ℕ) → IsPlace p q → travels asked' works g q ≡ is_some (at g.places q))
     (standing : (n : ℕ) → asked' n ≡ true → at g.requests n ≢ None) where
+  -- what is under way of a frame stays what is to be where tokens are sent from two places
   pub sent_tied : Tied c asked works f → Tied c' asked' works g
   sent_tied t = record {
     travelling = λ q l. elim (place_or p q) [
@@ -89,6 +90,7 @@ module _ (asked asked' : ℕ → Bool) (f g : Frame) (n : ℕ) (requests : g.req
         (others k d)
   ]
 
+  -- where a request is answered, what is still to come of others stays
   pub answered_come : (i : Inst) (s : ℕ) (t : Form) → to_come asked' g t i s ≡ to_come asked f t i s
   answered_come i s General = refl
   answered_come i s Immediate = refl
@@ -97,6 +99,7 @@ module _ (asked asked' : ℕ → Bool) (f g : Frame) (n : ℕ) (requests : g.req
   answered_come i s Store = request_come i.number s
   answered_come i s Branch = ap (λ o. is_waiting o s) leaving
 
+  -- where a request is answered, each other that stands is one that waits
   pub answered_standing : ((k : ℕ) → asked k ≡ true → at f.requests k ≢ None) → (k : ℕ) → asked' k ≡ true
       → at g.requests k ≢ None
   answered_standing h k e = elim (equal_or k n) [
@@ -108,6 +111,7 @@ module _ (asked asked' : ℕ → Bool) (f g : Frame) (n : ℕ) (requests : g.req
 -- a load whose request has come to its data tile is in no unit, and only a token of it travels
 module _ (asked works : ℕ → Bool) (f : Frame) (s : ℕ) (i : Inst) (small : s < 128) (is : slot_of f.code s ≡ Some i)
     (load : form_of i.op ≡ Load) (rests : works s ≡ false) (none : to_come asked f Load i s ≡ false) where
+  -- in the two places of a load a parcel travels exactly where a token stands
   pub load_travels : (q : ℕ) → IsPlace (2 * s) q → travels asked works f q ≡ is_some (at f.places q)
   load_travels q (inl e) = ap (travels asked works f) e ∙ first_travels asked works f s i small is
       ∙ ap₂ (λ b t. not b && form_travels t true (to_come asked f t i s) (is_some (at f.places (2 * s)))) rests load
@@ -133,6 +137,7 @@ module _ (c : ℕ → Stand) (asked works works' : ℕ → Bool) (f g : Frame) (
   low : (q : ℕ) → q / 2 ≡ s → nat_lt q 256 ≡ true
   low q e = grind (arith, nat_tests)
 
+  -- what is under way of a frame stays what is to be where a slot fires and a unit takes it
   pub fired_tied : Tied c asked works f → Tied c asked works' g
   fired_tied t = record {
     travelling = λ q l. elim (equal_or (q / 2) s) [
@@ -162,6 +167,7 @@ module _ (c c' : ℕ → Stand) (asked works works' : ℕ → Bool) (f : Frame) 
     (is_some (at f.places (2 * s))))
     (second : is_here (c' (suc (2 * s))) ≡ form_travels (form_of i.op) false (to_come asked f (form_of i.op) i s)
     (is_some (at f.places (suc (2 * s))))) where
+  -- what is under way of a frame stays what is to be where a result leaves its unit
   pub result_tied : Tied c asked works f → Tied c' asked works' f
   result_tied t = record {
     travelling = λ q l. elim (equal_or (q / 2) s) [
@@ -202,6 +208,7 @@ module _ (c : ℕ → Stand) (asked works : ℕ → Bool) (f : Frame) (t : Tied 
   travelled : travels asked works f p ≡ true
   travelled = sym (t.travelling p inside) ∙ here
 
+  -- what is here in a place of a slot comes as the slot's request, its branch or its token
   pub comes : nat_lt p 256 ≡ true → Comes asked works f p
   comes low = go (slot_of f.code (p / 2)) refl
     where
@@ -215,6 +222,7 @@ module _ (c : ℕ → Stand) (asked works : ℕ → Bool) (f : Frame) (t : Tied 
       go None e = absurd (true≢false (sym travelled ∙ none_travels asked works f p low e))
       go (Some i) e = parts i (works (p / 2)) refl e (sym (slot_travels asked works f p i low e) ∙ travelled)
 
+  -- what is here in a place of a read is a token
   pub token_comes : nat_lt p 256 ≡ false → at f.places p ≢ None
   token_comes high = is_there (at f.places p) (sym (read_travels asked works f p high) ∙ travelled)
 
@@ -270,6 +278,7 @@ module _ (c c' : ℕ → Stand) (asked works : ℕ → Bool) (f g : Frame) (p : 
       let low : nat_lt p 256 ≡ true = grind (arith, nat_tests) in
       true≢false (sym w ∙ sym (ap works half) ∙ (comes c asked works f t p inside here low).rests)
 
+  -- what is under way of a frame stays what is to be where a token is delivered
   pub delivered_tied : ((s : ℕ) → get_or f.fired s false ≡ true → s < 128) → Tied c' asked works g
   delivered_tied small = taken_tied c c' asked asked works f g p gone others (no_parcel (nat_lt p 256) refl)
       (λ q n. travels_by asked works asked works f g q code refl (λ i e. delivered_come i (q / 2) (form_of i.op))
@@ -324,6 +333,7 @@ module _ (c c' : ℕ → Stand) (asked asked' works : ℕ → Bool) (f g : Frame
       (to_come asked f (form_of (k.inst).op) k.inst (q / 2)) (is_some (at f.places q))) odd)
       ∙ sym (slot_travels asked works f q k.inst near is)
 
+  -- what is under way of a frame stays what is to be where a request comes to its data tile
   pub served_tied : Tied c' asked' works g
   served_tied = taken_tied c c' asked asked' works f g p gone others none
       (λ q n. elim (equal_or (q / 2) (p / 2)) [
@@ -347,6 +357,7 @@ module _ (asked asked' : ℕ → Bool) (f : Frame) (n r : ℕ) (waits : at f.req
     | inr m ↦ ap (λ b. is_waiting (at f.requests k) s && not b) (kept k m)
   ]
 
+  -- where a request comes to its data tile, what is to come of other slots stays
   pub asks_other : (i : Inst) (s : ℕ) → s ≢ r → (k : Form) → to_come asked' f k i s ≡ to_come asked f k i s
   asks_other i s d General = refl
   asks_other i s d Immediate = refl
@@ -355,6 +366,7 @@ module _ (asked asked' : ℕ → Bool) (f : Frame) (n r : ℕ) (waits : at f.req
   asks_other i s d Load = request_other i.number s d
   asks_other i s d Store = request_other i.number s d
 
+  -- where a request comes to its data tile, each that stands is one that waits
   pub asks_standing : ((k : ℕ) → asked k ≡ true → at f.requests k ≢ None) → (k : ℕ) → asked' k ≡ true
       → at f.requests k ≢ None
   asks_standing h k e = elim (equal_or k n) [

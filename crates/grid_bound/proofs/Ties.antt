@@ -31,6 +31,7 @@ pub record Ties (least : ℕ) (fs : List Frame) (parcels : Places) (asked works 
   pub busy : UnitsRule units works
   pub mesh : (n p : ℕ) → p < 320 → HeldFrom least (parcels n p)
 
+-- the rule of the frames of a grid
 abbrev pub TiesOf : {W : Type 0} → ℕ → Grid W → Type 0
 TiesOf least g = Ties least g.window.frames g.parcels g.asked g.works g.careful g.units
 
@@ -77,6 +78,7 @@ come_asked asked asked' f i s e Branch = refl
 
 module _ (parcels parcels' : ℕ → Stand) (asked asked' works works' : ℕ → Bool)
     (a : Alike parcels parcels' asked asked' works works') where
+  -- what is under way of a frame stays what is to be where the same is under way
   pub tied_alike : (f : Frame) → Tied parcels asked works f → Tied parcels' asked' works' f
   tied_alike f t = record {
     travelling = λ p l. ap is_here (a.parcels_are p) ∙ t.travelling p l
@@ -149,6 +151,7 @@ module _ (least : ℕ) (n : ℕ) (fs : List Frame) (a : FrameAt n fs) (g : Frame
 
 -- frames forgotten -------------------------------------------------------------------------------
 
+-- frames that are forgotten keep the rule of the units
 pub forgotten_units : (units : ℕ → ℕ) (works : ℕ → ℕ → Bool) (gone : ℕ → Bool) → UnitsRule units works
     → UnitsRule units (λ n s. cond (gone n) false (works n s))
 forgotten_units units works gone u = record {
@@ -164,6 +167,7 @@ forgotten_units units works gone u = record {
         go true z = absurd (true≢false (sym z))
         go false z = z
 
+-- frames that are forgotten keep how long parcels are held
 pub forgotten_held : (least : ℕ) (parcels : Places) (gone : ℕ → Bool)
     → ((n p : ℕ) → p < 320 → HeldFrom least (parcels n p))
     → (n p : ℕ) → p < 320 → HeldFrom least (cond (gone n) Nowhere (parcels n p))

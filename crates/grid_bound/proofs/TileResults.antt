@@ -28,7 +28,7 @@ use Rattle.grid_bound.specs.inside.Seen.{phase_of, front_of}
 use Rattle.grid_bound.specs.inside.Behind.{Behind}
 use Rattle.grid_bound.specs.inside.UnitRule.{UnitRule}
 use Rattle.grid_bound.proofs.Ahead.{same_number, younger_apart}
-use Rattle.grid_bound.proofs.Others.{behind_at, result_other}
+use Rattle.grid_bound.proofs.Others.{behind_at, behind_same, result_other}
 use Rattle.grid_bound.proofs.Fronts.{front_behind}
 use Rattle.grid_bound.proofs.Choosing.{IsLeast, is_least, none_least, elder_other}
 use Rattle.grid_bound.proofs.Entering.{both_only}
@@ -132,17 +132,7 @@ module _ {W : Type 0} (blocks : List Block) (good : AllGood blocks) (budget : �
   less = record h { units = λ t. cond (t == k) 0 (h.units t) }
 
   less_behind : Behind e h less
-  less_behind = record {
-    younger = younger;
-    frames = i;
-    state = refl;
-    over = refl;
-    generation = refl;
-    parcels = refl;
-    asked = refl;
-    works = refl;
-    careful = refl;
-  }
+  less_behind = behind_same e h h less refl refl refl refl refl (behind_at e h younger i)
 
   -- the unit gives the result that it has of the oldest frame
   module _ (one : h.units k ≡ 1) (s : ℕ) (works : h.works e.number s ≡ true) (tile : tile_of s ≡ k) where
@@ -197,9 +187,8 @@ module _ {W : Type 0} (blocks : List Block) (good : AllGood blocks) (budget : �
     where
       tail : (q : Option (ℕ × ℕ)) → eldest (in_unit h k) slots younger ≡ q → Behind e h (result_chosen q less)
       tail None z = less_behind
-      tail (Some q) z = result_other blocks budget e h q
+      tail (Some q) z = result_other blocks good budget e h less ok less_behind q
           (elder_other (in_unit h k) slots e.number younger q (younger_apart blocks budget h.window e younger ok i) z)
-          less less_behind
 
       go : (o : Option ℕ) → least (in_unit h k e) slots 0 ≡ o
           → AfterUnit (result_chosen (found_in e o (eldest (in_unit h k) slots younger)) less)
@@ -215,23 +204,15 @@ module _ {W : Type 0} (blocks : List Block) (good : AllGood blocks) (budget : �
           subst AfterUnit (sym (turn_is one s p.0 (eqb-true (tile_of s) k p.1)))
           (by_own one s p.0 (eqb-true (tile_of s) k p.1))
 
+  -- a unit's result leads the oldest frame to where the lane's does
   pub after_unit : (n : ℕ) → h.units k ≡ n → AfterUnit (unit_on k n h)
-  after_unit zero z = unchanged h (behind_at blocks budget e h younger i) (none_given (λ s w tile.
+  after_unit zero z = unchanged h (behind_at e h younger i) (none_given (λ s w tile.
       let b : 1 ≤ h.units (tile_of s) = (rule.working s w).busy in
       let u : h.units (tile_of s) ≡ h.units k = ap h.units tile in absurd (omega (arith, b, u, z))))
   after_unit (suc zero) z = is_over z
   after_unit (suc (suc n)) z = unchanged (record h { units = λ t. cond (t == k) (suc n) (h.units t) })
-      (record {
-        younger = younger;
-        frames = i;
-        state = refl;
-        over = refl;
-        generation = refl;
-        parcels = refl;
-        asked = refl;
-        works = refl;
-        careful = refl;
-      })
+      (behind_same e h h (record h { units = λ t. cond (t == k) (suc n) (h.units t) }) refl refl refl refl refl
+      (behind_at e h younger i))
       (λ x. sym (cond_both (lane_tile F x == k) (finished F.generation (F.at x) (h.units k - 1) (c.task x)) (F.at x)
       (λ p. p ≡ F.at x)
       (λ b. ap (λ n. finished F.generation (F.at x) n (c.task x))

@@ -273,6 +273,7 @@ module _ (n : ℕ) (u : ℕ → ℕ) (fits : (t : ℕ) → u t ≤ 24) where
   After d s t = StageRule n u t
       × ((stage_left n u t + 1 ≤ stage_left n u s) ⊎ ((t ≡ s) × ((k : ℕ) → k < d → Here k s → ⊥)))
 
+  -- the first data tiles keep the rule of the stage, and lower what is left unless nothing stands at them
   pub some_tiles : (d : ℕ) (s t : Stage) → StageRule n u s → TilesAnswer d s t → After d s t
   some_tiles zero s t r a = (subst (StageRule n u) (sym a) r, inr (a, λ k l. absurd (omega arith)))
   some_tiles (suc d) s t r a = go (some_tiles d s a.middle r a.before)

@@ -56,6 +56,15 @@ pub and_none : (a : Bool) → (a && false) ≡ false
 and_none true = refl
 and_none false = refl
 
+-- in the places of a slot with no token and nothing to come there is no parcel
+pub no_travels : (t : Form) (b : Bool) → form_travels t b false false ≡ false
+no_travels General b = refl
+no_travels Immediate b = refl
+no_travels Constant b = refl
+no_travels Load b = ap (λ x. x || false) (and_none b)
+no_travels Store b = and_none b
+no_travels Branch b = and_none b
+
 pub waits_same : (s : ℕ) → is_waiting (Some s) s ≡ true
 waits_same s = same s
 
@@ -68,6 +77,7 @@ waits_for (Some k) s e = ap Some (equal k s e)
 pub waits_other : (q : Option ℕ) (s t : ℕ) → q ≡ Some s → t ≢ s → is_waiting q t ≡ false
 waits_other q s t e n = ap (λ o. is_waiting o t) e ∙ apart s t (λ z. n (sym z))
 
+-- where nothing waits with a number, no slot does
 pub waits_none : (q : Option ℕ) (t : ℕ) → q ≡ None → is_waiting q t ≡ false
 waits_none q t e = ap (λ o. is_waiting o t) e
 
@@ -77,15 +87,19 @@ waits_none q t e = ap (λ o. is_waiting o t) e
 abbrev pub IsPlace : ℕ → ℕ → Type 0
 IsPlace p q = (q ≡ p) ⊎ (q ≡ suc p)
 
+-- the first place of a slot is that of the slot
 pub half_first : (s : ℕ) → 2 * s / 2 ≡ s
 half_first s = omega arith
 
+-- the second place of a slot is that of the slot
 pub half_second : (s : ℕ) → suc (2 * s) / 2 ≡ s
 half_second s = omega arith
 
+-- the first place of a slot is even
 pub even_first : (s : ℕ) → (2 * s % 2 == 0) ≡ true
 even_first s = let z : 2 * s % 2 ≡ 0 = omega arith in grind (arith, nat_tests)
 
+-- the second place of a slot is odd
 pub odd_second : (s : ℕ) → (suc (2 * s) % 2 == 0) ≡ false
 odd_second s = let z : suc (2 * s) % 2 ≡ 1 = omega arith in grind (arith, nat_tests)
 
@@ -104,9 +118,11 @@ sides p true i = let z : p % 2 ≡ 0 = grind (arith, nat_tests) in omega arith
 sides p false i = let z : p % 2 ≢ 0 = (λ w. let bad : (p % 2 == 0) ≡ true = grind (arith, w) in absurd (cc)) in
     omega arith
 
+-- the first place of a slot is below 256
 pub first_low : (s : ℕ) → s < 128 → nat_lt (2 * s) 256 ≡ true
 first_low s l = grind (arith, nat_tests)
 
+-- the second place of a slot is below 256
 pub second_low : (s : ℕ) → s < 128 → nat_lt (suc (2 * s)) 256 ≡ true
 second_low s l = grind (arith, nat_tests)
 
@@ -224,6 +240,7 @@ pub record Result (asked : ℕ → Bool) (f : Frame) (s : ℕ) : Type 0 where
   pub is_inst : slot_of f.code s ≡ Some inst
   pub gives : Gives asked f (form_of inst.op) inst s
 
+-- a result in a unit is that of an instruction, by whose form it is given
 pub result_of : (asked : ℕ → Bool) (f : Frame) (s : ℕ) → InUnit asked f s → Result asked f s
 result_of asked f s u = go (slot_of f.code s) refl u.gives
   where

@@ -18,6 +18,7 @@ use Rattle.grid_bound.specs.inside.Parts.{Tells, Working}
 use Rattle.grid_bound.proofs.OldestEnds.{oldest_ok}
 use Rattle.grid_bound.proofs.AllUnits as working
 
+-- by any table that tells what the oldest frame gives, the units turn for it as the lane's do
 pub units_work : {W : Type 0} (blocks : List Block) → AllGood blocks → (budget : ℕ) (t : ℕ → Answer) (g : Grid W)
     (f : Frame) (fs : List Frame) → g.window.frames ≡ f ∷ fs → WindowOk blocks budget g.window
     → g.window.over ≡ stepped.Went → f.sealed ≡ false → Tells (committed g.window.state) f t

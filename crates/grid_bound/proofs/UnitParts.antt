@@ -24,6 +24,7 @@ use Rattle.grid_bound.proofs.GoingGrids.{frame_tied}
 
 -- turns ------------------------------------------------------------------------------------------
 
+-- the number of a flag that is set is below the count of flags
 pub flag_below : (xs : List Bool) (s : ℕ) → get_or xs s false ≡ true → s < length xs
 flag_below [] s e = absurd (true≢false (sym e))
 flag_below (x ∷ xs) zero e = omega arith
@@ -83,7 +84,8 @@ module _ {W : Type 0} (blocks : List Block) (good : AllGood blocks) (budget leas
       (subst (λ n. Going blocks budget least (slot_enters (slot_of a.frame.code q.1) q.1 a.frame (rests n q.1 h)))
       a.number (out_going blocks good budget least g go tile q.0 q.1 a p.0 (equal (tile_of q.1) tile p.1) low))
 
-  unit_going : (tile left : ℕ) (g : Grid W) → g.units tile ≡ left → Going blocks budget least g
+  -- that a unit goes on, and gives its result where its time is over, keeps the rule
+  pub unit_going : (tile left : ℕ) (g : Grid W) → g.units tile ≡ left → Going blocks budget least g
       → Going blocks budget least (unit_on tile left g)
   unit_going tile zero g e go = go
   unit_going tile (suc zero) g e go =
@@ -119,7 +121,8 @@ module _ {W : Type 0} (blocks : List Block) (good : AllGood blocks) (budget leas
       (subst (λ n. Going blocks budget least (issued blocks budget tile n q.1 (takes (slot_of a.frame.code q.1)) g))
       a.number (fire_going blocks good budget least g go tile free q.0 q.1 a (equal (tile_of q.1) tile p.0) d))
 
-  issues_going : (tile : ℕ) (g : Grid W) → Going blocks budget least g
+  -- that a free unit issues keeps the rule
+  pub issues_going : (tile : ℕ) (g : Grid W) → Going blocks budget least g
       → Going blocks budget least (issues blocks budget tile g)
   issues_going tile g go = by (g.units tile == 0) refl
     where

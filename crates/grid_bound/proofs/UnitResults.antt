@@ -47,6 +47,7 @@ use Rattle.grid_bound.proofs.Fronts.{left_unit, slot_far, slot_phase_is, task_sa
 use Rattle.grid_bound.proofs.Entering.{born, one_entered, both_only, both_other, first_enters, second_enters}
 use Rattle.grid_bound.proofs.Entering.{slot_targets}
 
+-- a block has 128 slots
 pub slots_are : slots â‰¡ 128
 unfolding slots
 slots_are = refl
@@ -130,6 +131,7 @@ module _ {W : Type 0} (blocks : List Block) (good : AllGood blocks) (budget : â„
     abbrev j : Inst
     j = in'.inst
 
+    -- the slot of the result is below 128
     pub small : s < 128
     small = let l : s < length e.code.insts.items = inst_in e.code.insts.items s j in'.is_inst in
         let z : length e.code.insts.items â‰¡ 128 = (good e.block e.code own_ok.code).fits.insts in omega (arith, l, z)
@@ -137,6 +139,7 @@ module _ {W : Type 0} (blocks : List Block) (good : AllGood blocks) (budget : â„
     pub in_tasks : s < slot_tasks
     in_tasks = let z = slot_tasks_is in let l = small in omega (arith, l, z)
 
+    -- the task of the slot is that of its instruction
     pub task_s : c.task s â‰¡ slot_task e.code t s (Some j)
     task_s = slot_is e.code t s in_tasks âˆ™ ap (slot_task e.code t s) in'.is_inst
 
@@ -156,6 +159,7 @@ module _ {W : Type 0} (blocks : List Block) (good : AllGood blocks) (budget : â„
     form_only form.Immediate i = both_only (tile_node (tile_of s)) e R (2 * s)
     form_only form.Constant i = both_only (tile_node (tile_of s)) e R (2 * s)
 
+    -- only the parcels change as the result enters the mesh
     pub enters_only : H â‰¡ record R { parcels = H.parcels }
     enters_only = go (slot_of e.code s)
       where

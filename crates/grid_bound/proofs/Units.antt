@@ -42,9 +42,11 @@ use Rattle.grid_bound.proofs.GoingGrids.{frame_tied, sees, stayed}
 abbrev pub works_but : (ℕ → ℕ → Bool) → ℕ → ℕ → ℕ → ℕ → Bool
 works_but works n s m k = cond ((m == n) && (k == s)) false (works m k)
 
+-- the results in units with one more
 abbrev pub works_more : (ℕ → ℕ → Bool) → ℕ → ℕ → ℕ → ℕ → Bool
 works_more works n s m k = ((m == n) && (k == s)) || works m k
 
+-- the units with one that is busy for some time
 abbrev pub units_to : (ℕ → ℕ) → ℕ → ℕ → ℕ → ℕ
 units_to units tile time t = cond (t == tile) time (units t)
 
@@ -59,13 +61,16 @@ module _ (works : ℕ → ℕ → Bool) (n s : ℕ) where
   but_frame : (m : ℕ) → m ≢ n → (k : ℕ) → works_but works n s m k ≡ works m k
   but_frame m d k = ap (λ y. cond (y && (k == s)) false (works m k)) (apart m n d)
 
+  -- the result that joins is in its unit
   pub more_here : works_more works n s n s ≡ true
   more_here = ap₂ (λ x y. (x && y) || works n s) (same n) (same s)
 
+  -- a result of another slot stays as it was
   pub more_slot : (k : ℕ) → k ≢ s → works_more works n s n k ≡ works n k
   more_slot k d = ap (λ y. ((n == n) && y) || works n k) (apart k s d)
       ∙ ap (λ y. y || works n k) (and_none (n == n))
 
+  -- a result of another frame stays as it was
   pub more_frame : (m : ℕ) → m ≢ n → (k : ℕ) → works_more works n s m k ≡ works m k
   more_frame m d k = ap (λ y. (y && (k == s)) || works m k) (apart m n d)
 
@@ -106,6 +111,7 @@ module _ (units : ℕ → ℕ) (tile time : ℕ) where
       go true = l
       go false = h t
 
+-- a block has 128 slots
 pub slots_are : slots ≡ 128
 unfolding slots
 slots_are = refl
@@ -322,5 +328,6 @@ module _ {W : Type 0} (blocks : List Block) (good : AllGood blocks) (budget leas
     slot_going = subst (λ x. Going blocks budget least (slot_enters x s f G)) (sym r.is_inst)
         (result_form (form_of r.inst.op) refl r.gives)
 
+  -- a result that leaves its unit keeps the rule
   pub out_going : s < 128 → Going blocks budget least (slot_enters (slot_of f.code s) s f G)
   out_going small = slot_going (result_of (g.asked m) f s ((tied).working s had)) small

@@ -23,8 +23,8 @@ use Rattle.grid_bound.specs.inside.Turning.{less_one, finished, finish_front, bu
 use Rattle.grid_bound.specs.inside.Blocks.{course_of}
 use Rattle.grid_bound.specs.inside.Seen.{phase_of, has_come, front_of}
 use Rattle.grid_bound.specs.inside.UnitRule.{UnitRule}
-use Rattle.grid_bound.proofs.Steady.{Onward, steady}
-use Rattle.grid_bound.proofs.Walk.{unit_keeps}
+use Rattle.grid_cycle_spec.proofs.KeptByCycles.{unit_keeps}
+use Rattle.grid_bound.proofs.Steady.{Onward, On, steady}
 use Rattle.grid_bound.proofs.OldestEnds.{oldest_ok}
 use Rattle.grid_bound.proofs.Fronts.{same_front}
 use Rattle.grid_bound.proofs.TileResults.{AfterUnit, after_unit, units_on}
@@ -72,6 +72,7 @@ module _ {W : Type 0} (blocks : List Block) (good : AllGood blocks) (budget : �
   abbrev own : ℕ → ℕ
   own = units_after (less_one g.units) G
 
+  -- how the oldest frame stands behind the first k tiles
   pub record AtTile (k : ℕ) (h : Grid W) : Type 0 where
     pub frame : Frame
     pub younger : List Frame
@@ -113,8 +114,7 @@ module _ {W : Type 0} (blocks : List Block) (good : AllGood blocks) (budget : �
     solves' = subst (λ b. Solves b a t) (sym s.code) solves
 
     onward : Onward blocks budget h.window M.window
-    onward = unit_keeps blocks budget (λ (g h : Grid W). Onward blocks budget g.window h.window)
-        (steady blocks budget good) k (h.units k) h
+    onward = unit_keeps blocks budget (On blocks budget) (steady blocks budget good) (λ n. tt) tt tt k (h.units k) h
 
     u : AfterUnit blocks good budget h e s.younger s.frames ok rule t
         (address_came blocks (committed h.window.state) e (oldest_ok blocks budget h.window e s.younger ok s.frames)
@@ -247,6 +247,7 @@ module _ {W : Type 0} (blocks : List Block) (good : AllGood blocks) (budget : �
             let x = and_parts (M.units k == 0) (picks q.0) w in
             v.own q.0 (eqb-true (M.units k) 0 x.0) x.1 ∙ ap (λ (z : Task). z.latency) (task_same q.0) ∙ sym q.2
 
+    -- where the oldest frame stands right behind the first k tiles, it does behind one more
     pub unit_turns : AtTile (suc k) (unit_turn blocks budget k h)
     unit_turns = record {
       frame = v.frame;

@@ -45,6 +45,7 @@ left_there e s i z n l =
     (gives_left (role_of i.op) (computes e.code (λ y z. 0) (slot_node e.code s)) (at e.spots s)
     (at e.spots (128 + s)) k.1 l)
 
+-- what waits with a number has its address, which is that of the table
 pub address_came : (blocks : List Block) (o : Older) (e : Frame) → FrameOk blocks o e
     → ((n s : ℕ) → at e.requests n ≡ Some s → (i : Inst) → slot_of e.code s ≡ Some i
     → has_number (form_of i.op) ≡ true) → (t : ℕ → Answer)

@@ -7,6 +7,8 @@ use Rattle.grid_bound.specs.inside.Lane.{any, Phase, Front, unissued, ready}
 use Rattle.grid_bound.specs.inside.Left.{task_left, wait_left, on_tile, count_on, tile_left, work}
 use Rattle.grid_bound.proofs.Counting.{any_true, any_from, any_more, sum_le, sum_drop}
 
+-- the wait of entries on a tile does not rise where their unit is less busy, or free for what is ready, and
+-- they are no more
 pub wait_le : (c c2 : ℕ) (r r2 : Bool) (v v2 : ℕ) → c2 ≤ c → c2 ≤ 24 → (r ≡ true → r2 ≡ true) → v2 ≤ v
     → (r2 ≡ true → 1 ≤ v2) → wait_left c2 r2 v2 ≤ wait_left c r v
 wait_le c c2 true true v v2 l m a b k = omega arith
@@ -14,10 +16,12 @@ wait_le c c2 true false v v2 l m a b k = absurd (both_ways false refl (a refl))
 wait_le c c2 false true v v2 l m a b k = let i : 1 ≤ v2 = k refl in omega (arith, i)
 wait_le c c2 false false v v2 l m a b k = omega arith
 
+-- entries on a tile wait at most 24 cycles each
 pub wait_cap : (c : ℕ) (r : Bool) (v : ℕ) → c ≤ 24 → (r ≡ true → 1 ≤ v) → wait_left c r v ≤ 24 * v
 wait_cap c true v l k = let i : 1 ≤ v = k refl in omega (arith, i)
 wait_cap c false v l k = omega arith
 
+-- what the tasks of a tile have left together
 abbrev pub on : Course → (ℕ → ℕ) → (ℕ → Phase) → ℕ → ℕ
 on c u at t = sum c.room (λ x. cond ((c.task x).tile == t) (task_left (u t) (at x)) 0)
 
@@ -29,11 +33,13 @@ one_le false x y h = omega arith
 abbrev pub Low : Course → (ℕ → ℕ) → (ℕ → ℕ) → (ℕ → Phase) → (ℕ → Phase) → ℕ → Type 0
 Low c u u2 at at2 t = (x : ℕ) → x < c.room → (c.task x).tile ≡ t → task_left (u2 t) (at2 x) ≤ task_left (u t) (at x)
 
+-- where nothing rises for the tasks of a tile, nothing does for them together
 pub on_le : (c : Course) (u u2 : ℕ → ℕ) (at at2 : ℕ → Phase) (t : ℕ) → Low c u u2 at at2 t
     → on c u2 at2 t ≤ on c u at t
 on_le c u u2 at at2 t low =
     sum_le c.room _ _ (λ x l. one_le ((c.task x).tile == t) _ _ (λ e. low x l (eqb-true _ _ e)))
 
+-- where one task of a tile is lower by d, and none rises, all together are lower by d
 pub on_drop : (c : Course) (u u2 : ℕ → ℕ) (at at2 : ℕ → Phase) (t d x : ℕ) → Low c u u2 at at2 t → x < c.room
     → (c.task x).tile ≡ t → task_left (u2 t) (at2 x) + d ≤ task_left (u t) (at x) → on c u2 at2 t + d ≤ on c u at t
 on_drop c u u2 at at2 t d x low l e h =
@@ -49,6 +55,7 @@ tile_more f f2 p q t e h k = subst (λ (c : Course). any c.room (λ x. q x && (c
     (λ x l i. let b : (p x ≡ true) × (((f.course.task x).tile == t) ≡ true) = and_parts (p x) _ i in
     and_from (q x) _ (h x l (eqb-true _ _ b.1) b.0) b.1) k)
 
+-- where a task of a tile passes a test, some task of the tile does
 pub on_tile_at : (f : Front) (p : ℕ → Bool) (x t : ℕ) → x < f.course.room → (f.course.task x).tile ≡ t → p x ≡ true
     → on_tile f p t ≡ true
 on_tile_at f p x t l e h =
@@ -69,6 +76,7 @@ count_less f f2 p q t e h =
     (λ i. let b : (q x ≡ true) × (((f.course.task x).tile == t) ≡ true) = and_parts (q x) _ i in
     and_from (p x) _ (h x l b.0) b.1)))
 
+-- where one task of a tile no longer passes a test, and none begins to, fewer of the tile pass
 pub count_drop : (f f2 : Front) (p q : ℕ → Bool) (t x : ℕ) → f2.course ≡ f.course
     → ((x : ℕ) → x < f.course.room → q x ≡ true → p x ≡ true) → x < f.course.room → (f.course.task x).tile ≡ t
     → p x ≡ true → q x ≡ false → count_on f2 q t + 1 ≤ count_on f p t
@@ -89,14 +97,17 @@ count_some f p t e =
     (λ x l. omega arith) r.1 (simp r.2 (omega arith)) in
     omega (arith, z)
 
+-- where an entry of a tile is ready, one of the tile is unissued
 pub ready_unissued : (f : Front) (t : ℕ) → on_tile f (ready f) t ≡ true → 1 ≤ count_on f (unissued f) t
 ready_unissued f t e = count_some f (unissued f) t
     (tile_more f f (ready f) (unissued f) t refl (λ x l e h. (and_parts (unissued f x) _ h).0) e)
 
+-- where nothing rises on any tile, the work does not rise
 pub work_le : (u u2 : ℕ → ℕ) (f f2 : Front) → ((t : ℕ) → t < 16 → tile_left u2 f2 t ≤ tile_left u f t)
     → work u2 f2 ≤ work u f
 work_le u u2 f f2 h = let a : sum 16 (tile_left u2 f2) ≤ sum 16 (tile_left u f) = sum_le 16 _ _ h in omega (arith, a)
 
+-- where one tile has less, and none has more, the work is lower
 pub work_drop : (u u2 : ℕ → ℕ) (f f2 : Front) (t : ℕ) → ((t : ℕ) → t < 16 → tile_left u2 f2 t ≤ tile_left u f t)
     → t < 16 → tile_left u2 f2 t + 1 ≤ tile_left u f t → work u2 f2 + 1 ≤ work u f
 work_drop u u2 f f2 t h l d = let a : sum 16 (tile_left u2 f2) + 1 ≤ sum 16 (tile_left u f) =
@@ -124,9 +135,11 @@ module _ (u : ℕ → ℕ) (fits : (t : ℕ) → u t ≤ 24) (f : Front) (at2 : 
       let b : on f.course u at2 t ≤ on f.course u f.at t = on_le f.course u u f.at at2 t (λ x i e. low x (u t) i) in
       omega (arith, a, b)
 
+  -- where no task has more left, and no entry becomes unissued, the work does not rise
   pub calm : work u f2 ≤ work u f
   calm = work_le u u f f2 tile
 
+  -- where one task has less left besides, however long its unit is busy, the work is lower
   pub calm_drop : (x : ℕ) → x < f.course.room → (f.course.task x).tile < 16
       → ((c : ℕ) → task_left c (at2 x) + 1 ≤ task_left c (f.at x)) → work u f2 + 1 ≤ work u f
   calm_drop x l k d = work_drop u u f f2 (f.course.task x).tile tile k

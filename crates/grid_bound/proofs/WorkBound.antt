@@ -138,6 +138,7 @@ module _ (u : ℕ → ℕ) (fits : (t : ℕ) → u t ≤ 24) (f : Front) (placed
       both false true = omega arith
       both false false = omega arith
 
+  -- the work of a front is at most what its tasks may have
   pub work_most : work u f ≤ most (tasks f.course)
   work_most =
       let a : sum 16 (tile_left u f) ≤ sum 16 (Each f 87) = sum_le 16 _ _ (λ t l. tile_in t) in

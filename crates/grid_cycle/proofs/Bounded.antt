@@ -118,12 +118,14 @@ module _ (blocks : List Block) (good : AllGood blocks) (some : 0 < length blocks
 
 -- the laws -------------------------------------------------------------------------------------------
 
+-- the run of a seed ends within its budget
 pub runs_end : (blocks : List Block) (bytes input : List ℕ) (budget seed : ℕ) (h : Grid PcgWeather) → AllGood blocks
     → 0 < length blocks → length bytes ≤ data_size → 0 < budget → budget < 2 ^ 32
     → IsRan blocks bytes input budget seed None h → ⊥
 runs_end blocks bytes input budget seed h good some fits positive small ran =
     ends blocks good some bytes input fits budget seed small None h ran ran.comes
 
+-- a run that ends in no trap makes no more cycles than the blocks of its trace cost
 pub runs_within : (blocks : List Block) (bytes input : List ℕ) (budget seed : ℕ) (e : Ending) (h : Grid PcgWeather)
     → AllGood blocks → 0 < length blocks → length bytes ≤ data_size → 0 < budget → budget < 2 ^ 32
     → is_trap e ≡ false → IsRan blocks bytes input budget seed (Some e) h
@@ -131,6 +133,7 @@ pub runs_within : (blocks : List Block) (bytes input : List ℕ) (budget seed : 
 runs_within blocks bytes input budget seed e h good some fits positive small plain ran =
     within blocks good some bytes input fits budget seed small (Some e) h ran e plain ran.comes
 
+-- a run that ends in a trap makes at most one greatest cost of a block more
 pub runs_trapped : (blocks : List Block) (bytes input : List ℕ) (budget seed : ℕ) (e : Ending) (h : Grid PcgWeather)
     → AllGood blocks → 0 < length blocks → length bytes ≤ data_size → 0 < budget → budget < 2 ^ 32
     → IsRan blocks bytes input budget seed (Some e) h
@@ -138,6 +141,7 @@ pub runs_trapped : (blocks : List Block) (bytes input : List ℕ) (budget seed :
 runs_trapped blocks bytes input budget seed e h good some fits positive small ran =
     trapped blocks good some bytes input fits budget seed small (Some e) h ran
 
+-- a run that ends in a trap makes at most the cost of the block that traps more
 pub runs_trapped_at : (blocks : List Block) (bytes input : List ℕ) (budget seed block : ℕ) (cause : TrapCause)
     (h : Grid PcgWeather) → AllGood blocks → 0 < length blocks → length bytes ≤ data_size → 0 < budget
     → budget < 2 ^ 32

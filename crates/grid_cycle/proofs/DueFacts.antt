@@ -146,6 +146,7 @@ module _ {W : Type 0} (blocks : List Block) (budget : ℕ) (g : Grid W) where
   goes_late (suc n) f l e d = sym (ap (λ o. begun_on blocks (fetch_ends blocks budget o g)) e
       ∙ ap (λ k. begun_on blocks (fetch_on blocks budget k f g)) l)
 
+  -- while a fetch goes on that is not due, part (2) of a cycle begins none
   pub next_busy : (o : Option Fetching) → g.fetching ≡ o → due o ≡ None → is_none o ≡ false
       → None ≡ next_fetch blocks budget g
   next_busy None e d i = absurd (false≢true (sym i))
@@ -192,6 +193,7 @@ module _ {W : Type 0} (blocks : List Block) (budget : ℕ) (g : Grid W) where
       room = ap₂ (λ x y. x && not y) (some_empty 8 0 g.window.frames new)
           (last_serial new g.window.frames (committed g.window.state))
 
+      -- where the fetch that is due fills a frame, part (2) of a cycle begins the fetch behind it
       pub next_filled : behind_fetched blocks g.predictor f.block m b g.window.frames ≡ next_fetch blocks budget g
       next_filled = sym (next_due
           ∙ ap (λ x. begun_on blocks (fill_where x blocks budget f g)) d

@@ -46,6 +46,7 @@ far_below budget n small few =
 -- at the start -----------------------------------------------------------------------------------
 
 module _ {W : Type 0} (next : W → ℕ) (follows : W → W → Type 0) (blocks : List Block) (budget : ℕ) where
+  -- the grid with which a run begins keeps what stands of every grid between two calls
   pub begins : (s : State) (p : Holding) (w : W) (g : Grid W) → AllGood blocks → budget < 2 ^ 32
       → WindowOk blocks budget g.window → g ≡ begun_with s p w → IsKept budget g
       → IsEngine next follows blocks budget g
@@ -71,6 +72,7 @@ module _ {W : Type 0} (next : W → ℕ) (follows : W → W → Type 0) (blocks 
   abbrev Engine : Grid W → Type 0
   Engine g = IsEngine next follows blocks budget g
 
+  -- of such a grid each frame that was fetched has been committed or flushed, or is in flight
   pub tallied : (g : Grid W) → Engine g → IsTallied budget g
   tallied g e = record {
     frames = e.kept.counted.adds;
@@ -111,6 +113,7 @@ module _ {W : Type 0} (next : W → ℕ) (follows : W → W → Type 0) (blocks 
       subst (λ k. IsEngine next follows bs k g) (sym y) (subst (λ k. IsEngine next follows k budget g) (sym x) e)
 
   module _ (holds : (w : W) → next w ≤ 3) where
+    -- such a grid has made no more cycles than its trace costs with one block more
     pub within : (g : Grid W) → Engine g → IsWithinCost blocks budget g
     within g e = record {
       moment = to_greatest g.counts.cycles (cost_of blocks g.window.state.trace)
@@ -131,6 +134,7 @@ module _ {W : Type 0} (next : W → ℕ) (follows : W → W → Type 0) (blocks 
     short g e on = goes_short next follows holds blocks e.good budget (e.begun).state (e.begun).predictor
         (e.begun).weather (e.begun).opens e.small g (e.begun).run e.few on
 
+    -- a cycle more of such a grid stays within the most cycles of the budget
     pub cycle_few : (g h : Grid W) → Engine g → h.counts.cycles ≡ g.counts.cycles + going_cycles budget g.window
         → h.counts.cycles ≤ most_cycles budget
     cycle_few g h e sum = go (is_going budget g.window) refl

@@ -11,6 +11,7 @@ use Rattle.grid_cycle.specs.inside.Follows.{after, behind, guess, idle_fetch}
 use Rattle.grid_cycle.specs.Nexts.{block_in}
 
 module _ {W : Type 0} (blocks : List Block) where
+  -- the block of a fetch that begins as it is predicted is the predicted one, if there is one
   pub predicted_is : (k : ℕ) (o : Option ℕ) (g : Grid W) → g.fetching ≡ None
       → block_in (begun_predicted blocks k o g).fetching ≡ o
   predicted_is k None g e = ap block_in e
@@ -36,11 +37,13 @@ module _ {W : Type 0} (blocks : List Block) where
   abbrev idle : Grid W → Grid W
   idle g = record g { fetching = None }
 
+  -- where there is room for a frame, an idle fetch unit begins the block behind the frames
   pub fetch_room : (g : Grid W) → has_room g.window ≡ true
       → after blocks g.predictor g.standing g.window.state g.window.frames ≡ idle_fetch blocks g
   fetch_room g e = sym (ap (λ b. block_in (cond b (begun_after blocks g.window.frames (idle g)) (idle g)).fetching) e
       ∙ after_is g.window.frames (idle g) refl)
 
+  -- where there is no room for a frame, an idle fetch unit begins none
   pub fetch_full : (g : Grid W) → has_room g.window ≡ false → None ≡ idle_fetch blocks g
   fetch_full g e = sym (ap (λ b. block_in (cond b (begun_after blocks g.window.frames (idle g)) (idle g)).fetching) e)
 
@@ -52,5 +55,6 @@ module _ (blocks : List Block) (p : Holding) (standing : Option ℕ) (s : State)
   after_youngest f (h ∷ []) y = ap (λ (x : Frame). behind blocks p standing x x.exit) (sym y)
   after_youngest f (h ∷ (i ∷ fs)) y = after_youngest f (i ∷ fs) y
 
+  -- behind no frames the next block is the one that the state is at
   pub after_none : (fs : List Frame) → fs ≡ [] → Some s.next ≡ after blocks p standing s fs
   after_none fs e = ap (after blocks p standing s) (sym e)

@@ -17,6 +17,7 @@ pub record Lacking (f : Frame) : Type 0 where
   pub runs : f.sealed ≡ false
   pub lacks : complete f ≡ false
 
+-- a frame of which an output is told to be missing lacks this output
 pub lacking : (f : Frame) (l : Lack) → lack_in (Some f) ≡ Some l → Lacking f
 lacking f l e = go f.sealed refl e
   where

@@ -20,6 +20,7 @@ unfolding runs
 ended_later blocks s t zero r = absurd (let bad : Ended ≡ Went = ap (λ (p : State × Stepped). p.1) r in cc)
 ended_later blocks s t (suc n) r = omega arith
 
+-- the machine's stack is full only after a step
 pub full_later : (blocks : List Block) (s t : State) (n : ℕ) → Reached blocks s n t StackFull → 0 < n
 unfolding runs
 full_later blocks s t zero r = absurd (let bad : StackFull ≡ Went = ap (λ (p : State × Stepped). p.1) r in cc)

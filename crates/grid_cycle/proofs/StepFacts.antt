@@ -32,6 +32,7 @@ module _ (blocks : List Block) (good : AllGood blocks) (budget : ℕ) (w : Windo
       let s = never_stuck blocks budget w f fs good ok (went f fs e) e k.runs k.lacks in
       record { event = s.0; is_step = s.1; done = s.3 }
 
+  -- where the oldest frame lacks an output, some event of it would be done
   pub steps : (l : Lack) → oldest_lacks w.frames ≡ Some l → OldestSteps blocks budget w w.frames
   steps l h = steps_in w.frames l refl h
 

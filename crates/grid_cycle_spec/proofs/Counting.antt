@@ -33,7 +33,7 @@ use Rattle.grid_cycle_spec.specs.Ends.{one_committed, learning, committed_as, co
 use Rattle.grid_cycle_spec.specs.Fetches.{fills}
 use Rattle.grid_cycle_spec.specs.Cycles.{closed}
 use Rattle.grid_cycle_spec.specs.inside.Cycles.{AfterCycles}
-use Rattle.grid_cycle_spec.proofs.KeptByCycles.{IsSingle, IsFlushing, Keeps, cycles_keep}
+use Rattle.grid_cycle_spec.proofs.KeptByCycles.{IsSingle, IsFlushing, Keeps, every, by_window, cycles_keep}
 
 -- frames in flight -------------------------------------------------------------------------------
 
@@ -312,9 +312,12 @@ module _ {W : Type 0} (blocks : List Block) (budget : ℕ) where
           (sym (happens_done blocks budget window.Commit g.window may ∙ ap (λ xs. commit xs g.window) e))
           (outcome_adds (unless (cause_held f) (outputs f)) f fs g e adds)
 
+  abbrev pub Adds : Grid W → Grid W → Type 0
+  Adds g h = AddsUp g → AddsUp h
+
   -- that the frames add up is kept by each primitive change
-  pub keeps : Keeps (Unit {0}) blocks budget (λ (g h : Grid W). AddsUp g → AddsUp h)
-  keeps = record {
+  pub keeps : Keeps every blocks budget Adds
+  keeps = by_window every blocks budget Adds (record {
     same = λ g a. a;
     chain = λ g m h f k a. k (f a);
     quiet = λ g h e c. quiet_adds g h (ap (λ (w : Window). length w.frames) e) c;
@@ -322,15 +325,15 @@ module _ {W : Type 0} (blocks : List Block) (budget : ℕ) where
         (ap (λ (w : Window). length w.frames) is ∙ single_frames blocks budget e l g.window) c;
     flushing = act_adds;
     filling = λ c. fill_adds;
-    committing = commit_adds;
+    committing = λ c. commit_adds;
     counting = λ c g a. a;
-  }
+  })
 
   -- the frames still add up after some cycles
   pub cycles_add_up : (next : W → ℕ) (follows : W → W → Type 0) (n : ℕ) (g h : Grid W) → AddsUp g
       → AfterCycles next follows blocks budget n g h → AddsUp h
   cycles_add_up next follows n g h adds cycles =
-      cycles_keep blocks budget (λ (g h : Grid W). AddsUp g → AddsUp h) keeps tt next follows n g h cycles adds
+      cycles_keep blocks budget Adds keeps next follows n g h cycles adds
 
 -- at the end of a run no frame is in flight
 pub closed_adds_up : {W : Type 0} (g : Grid W) → AddsUp g

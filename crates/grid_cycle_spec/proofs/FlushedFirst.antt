@@ -138,6 +138,7 @@ while_on stepped.Ended h e = absurd (cc)
 while_on stepped.StackFull h e = absurd (cc)
 while_on (stepped.Trap c) h e = absurd (cc)
 
+-- the frame of the wrong load that a store meets first is the first frame that the store flushes
 pub flushed_first : (blocks : List Block) (budget m n : ℕ) (w : Window) → WindowOk blocks budget w
     → frame_named (wrong_load blocks budget m n w) ≡ first_number (gone w (happens blocks budget (Store m n) w))
 flushed_first blocks budget m n w ok = go (can blocks budget (Store m n) w) refl

@@ -5,7 +5,7 @@ use Rattle.std.proofs.Common.{sym, ap₂, ◌∙◌, true≢false, arith}
 use Rattle.std.proofs.Common.{◌-◌, cond, slice_index_or}
 use Rattle.std.proofs.lemmas.Bool.{agree_below_at, leb-true, ltb-true, eqb-true}
 use Rattle.trips_isa.specs.declared.op.Op.{Op}
-use Rattle.trips_isa.specs.declared.op.Op.TheVariants.{Mul, Muli, Divs, Divu}
+use Rattle.trips_isa.specs.declared.op.Op.TheVariants.{Mul}
 use Rattle.trips_isa.specs.declared.block.Inst.{Inst}
 use Rattle.trips_isa.specs.declared.block.Block.{Block}
 use Rattle.trips_isa.specs.declared.run.Traced.{Traced}
@@ -102,6 +102,7 @@ few_instructions [] = omega arith
 few_instructions (None ∷ slots) = let h = few_instructions slots in omega (arith, h)
 few_instructions (Some i ∷ slots) = let h = few_instructions slots in omega (arith, h)
 
+-- a block costs at least 512 cycles
 pub cost_least : (b : Block) → 512 ≤ cost b
 unfolding cost
 cost_least b = omega arith
@@ -126,7 +127,4 @@ cost_more blocks (x ∷ s) t = let h = cost_more blocks s t in omega (arith, h)
 -- each operation takes from one cycle to the longest latency
 pub takes_time : (op : Op) → TakesTime op
 takes_time Mul = record { some = omega arith; most = omega arith }
-takes_time Muli = record { some = omega arith; most = omega arith }
-takes_time Divs = record { some = omega arith; most = omega arith }
-takes_time Divu = record { some = omega arith; most = omega arith }
 takes_time _ = record { some = omega arith; most = omega arith }

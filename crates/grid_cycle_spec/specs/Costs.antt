@@ -1,19 +1,15 @@
 -- How long operations take, and what a block may cost in cycles (docs/GRID.md, "Time" and "Cost"). Own.
 use Rattle.std.specs.Prelude.{ℕ, zero, suc, ◌+◌, ◌*◌, List, [], ◌∷◌, length, Option, Some, None, slice_get}
 use Rattle.trips_isa.specs.declared.op.Op.{Op}
-use Rattle.trips_isa.specs.declared.op.Op.TheVariants.{Mul, Muli, Divs, Divu}
+use Rattle.trips_isa.specs.OperationTable.{row_of}
 use Rattle.trips_isa.specs.declared.block.Inst.{Inst}
 use Rattle.trips_isa.specs.declared.block.Block.{Block}
 use Rattle.trips_isa.specs.declared.run.Traced.{Traced}
 use Rattle.trips_isa.specs.Limits.{most_nodes}
 
--- the cycles from the issue of an operation to its result
+-- the cycles from the issue of an operation to its result, of its row of the table
 abbrev pub latency : Op → ℕ
-latency Mul = 3
-latency Muli = 3
-latency Divs = 24
-latency Divu = 24
-latency _ = 1
+latency o = (row_of o).latency
 
 -- the cycles from the begin of a fetch to the frame that it fills
 abbrev pub fetch_latency : ℕ

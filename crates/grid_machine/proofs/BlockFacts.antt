@@ -30,6 +30,7 @@ module _ (blocks : List Block) (budget : ℕ) (w : Window) (ok : WindowOk blocks
   code_at n f e = let a = has_age n w.frames f e in
       (frame_ok blocks w.frames (committed w.state) ok.frames a.0 f a.2).code
 
+  -- the block of a frame in flight is one of the image's
   pub block_within : (n : ℕ) (r : Option ℕ) → r ≡ block_in (frame_of n w.frames) → IfSome r (λ k. k < length blocks)
   block_within n r e =
       subst (λ x. IfSome x (λ k. k < length blocks)) (sym e) (go (frame_of n w.frames) refl)
@@ -38,6 +39,7 @@ module _ (blocks : List Block) (budget : ℕ) (w : Window) (ok : WindowOk blocks
       go None is = tt
       go (Some f) is = slice_get_within blocks f.block f.code (code_at n f is)
 
+  -- the block that is lent of a frame in flight is the image's
   pub lent_code : (n : ℕ) (h : Held) (b : Block) → IsLent h b (frame_of n w.frames)
       → slice_get blocks h.block ≡ Some b
   lent_code n h b l = code_at n (as_frame l.0 b h) l.1
@@ -65,6 +67,7 @@ number_in : (z : Option Inst) → FitsSlot z → IfSome z (λ (i : Inst). i.numb
 number_in None h = tt
 number_in (Some i) h = number_fits (form_of i.op) i h
 
+-- the number of an instruction is below 32
 pub number_below : (b : Block) → IsRunnable b → (s : ℕ) (r : Option Inst) → r ≡ slot_of b s
     → IfSome r (λ (i : Inst). i.number < 32)
 number_below b runs s r e =

@@ -72,18 +72,23 @@ module _ {W : Type 0} (budget : ℕ) where
 
   -- the grid h comes from a run that does not go on by its end
   module _ (g h : Grid W) (stopped : is_going budget g.window ≡ false) (is : h ≡ closed g) where
+    -- a grid whose run has ended, with its frames flushed, is the grid at the end of the run
     pub end_is : h ≡ at_end budget g
     end_is = is ∙ sym (end_closed budget g stopped)
 
+    -- at the end of a run the counts have room, and no frame is in flight
     pub end_kept : IsCounted g → IsKept budget h
     end_kept counted = subst (IsKept budget) (sym is) (closed_kept g counted)
 
+    -- at the end of a run no frame is in flight
     pub end_rests : h.window.frames ≡ []
     end_rests = ap (λ (x : Grid W). x.window.frames) is ∙ closed_frames g
 
+    -- the flush at the end of a run makes no cycle
     pub end_cycles : h.counts.cycles ≡ g.counts.cycles
     end_cycles = ap (λ (x : Grid W). x.counts.cycles) is ∙ closed_cycles g
 
+    -- at the end of a run its window tells how it has ended
     pub end_ended : (e : Ending) → e ≡ ending_of h.window.over h.window.state.next
         → Some e ≡ ended budget h.window
     end_ended e tells =
@@ -132,6 +137,7 @@ module _ {W : Type 0} (next : W → ℕ) (follows : W → W → Type 0) (blocks 
         after = subst (λ k. Eager next follows blocks k g h) y last;
       })
 
+  -- where the run has ended, no cycle is made
   pub no_cycle : (g h : Grid W) → is_going budget g.window ≡ false → h ≡ g
       → GoesFor next follows blocks budget (going_cycles budget g.window) g h
   no_cycle g h off e =
@@ -143,23 +149,28 @@ module _ {W : Type 0} (next : W → ℕ) (follows : W → W → Type 0) (blocks 
   began_going zero g h c = subst (λ (x : Grid W). is_going budget x.window ≡ true) (c.before).0 (c.before).1
   began_going (suc n) g h c = began_going n g c.between (c.before).0
 
+  -- where the run has ended, the grid stays as it is
   pub none_made : (n : ℕ) (g h : Grid W) → is_going budget g.window ≡ false
       → GoesFor next follows blocks budget n g h → h ≡ g
   none_made zero g h off c = c
   none_made (suc n) g h off c = absurd (true≢false (sym (began_going n g h c) ∙ off))
 
+  -- eager cycles, each of a run that goes on, and then the end make a run
   pub is_run : (n : ℕ) (g m h : Grid W) → GoesFor next follows blocks budget n g m → h ≡ at_end budget m
       → IsRun next follows blocks budget n g h
   is_run n g m h cycles is = record { last = m; cycles = cycles; ends = is }
 
+-- where the run goes on, its next cycle counts
 pub cycles_going : (budget : ℕ) (w : Window) (n m : ℕ) → is_going budget w ≡ true → m ≡ n + 1
     → m ≡ n + going_cycles budget w
 cycles_going budget w n m on e = e ∙ ap (λ x. n + cond x 1 0) (sym on)
 
+-- where the run has ended, no cycle counts
 pub cycles_stopped : (budget : ℕ) (w : Window) (n : ℕ) → is_going budget w ≡ false
     → n ≡ n + going_cycles budget w
 cycles_stopped budget w n off = let none : n ≡ n + 0 = omega arith in none ∙ ap (λ x. n + cond x 1 0) (sym off)
 
+-- at most one cycle counts at a time
 pub going_few : (budget : ℕ) (w : Window) → going_cycles budget w ≤ 1
 going_few budget w = go (is_going budget w)
   where

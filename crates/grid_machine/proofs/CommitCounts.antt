@@ -1,5 +1,5 @@
 -- Every part of a cycle counts as many committed blocks as the trace grows by.
-use Rattle.std.proofs.Common.{◌≡◌, ℕ, ◌+◌, true, false, List, [], ◌∷◌, length, Option, Some, None}
+use Rattle.std.proofs.Common.{◌≡◌, ℕ, ◌+◌, true, List, [], ◌∷◌, length, Option, Some, None}
 use Rattle.std.proofs.Common.{refl, sym, ap, ◌∙◌, subst, arith}
 use Rattle.trips_isa.specs.declared.block.Block.{Block}
 use Rattle.trips_isa.specs.declared.run.Counts.{Counts}
@@ -13,17 +13,17 @@ use Rattle.commit_flush_spec.specs.Causes.{Happened, Done, NotNow}
 use Rattle.commit_flush_spec.specs.Frames.{Frame, Exit}
 use Rattle.commit_flush_spec.specs.Ends.{outputs, cause_held}
 use Rattle.commit_flush_spec.specs.InFlight.{commit, commit_to}
-use Rattle.commit_flush_spec.specs.Window.{Window, Event, can, happens}
+use Rattle.commit_flush_spec.specs.Window.{Window, Event, happens}
 use Rattle.commit_flush_spec.specs.Window as event
 use Rattle.commit_flush_spec.proofs.Applying.{apply_trace}
 use Rattle.commit_flush_spec.proofs.Events.{state_stays, taken}
-use Rattle.grid_cycle_spec.specs.Grid.{Grid, Fetching}
+use Rattle.grid_cycle_spec.specs.Grid.{Grid}
 use Rattle.grid_cycle_spec.specs.Acting.{is_done, may, flushed, gone, act}
 use Rattle.grid_cycle_spec.specs.Ends.{one_committed, learning, committed_as, commit_in}
 use Rattle.grid_cycle_spec.specs.Fetches.{fills}
 use Rattle.grid_cycle_spec.specs.Cycles.{closed}
 use Rattle.grid_cycle_spec.specs.inside.Cycles.{AfterCycles}
-use Rattle.grid_cycle_spec.proofs.KeptByCycles.{IsSingle, IsFlushing, Keeps, cycles_keep}
+use Rattle.grid_cycle_spec.proofs.KeptByCycles.{IsSingle, IsFlushing, Keeps, every, by_window, cycles_keep}
 use Rattle.grid_machine.specs.Tallies.{CountsCommits}
 
 done_of : (h : Happened) → is_done h ≡ true → h ≡ Done
@@ -43,6 +43,7 @@ module _ {W : Type 0} where
       let c = s.committed in
       omega (arith, l, c)
 
+  -- where two parts count the blocks that they commit, both together do
   pub chained : (g m h : Grid W) → CountsCommits g m → CountsCommits m h → CountsCommits g h
   chained g m h a b = omega (arith, a, b)
 
@@ -50,6 +51,7 @@ module _ {W : Type 0} where
   flushed_same [] g = record { state = refl; committed = refl }
   flushed_same (f ∷ fs) g = record { state = refl; committed = refl }
 
+  -- the flush at the end commits nothing
   pub closed_counts : (g : Grid W) → CountsCommits g (closed g)
   closed_counts g =
       let m : Grid W = record g { window = record g.window { frames = [] } } in
@@ -111,8 +113,11 @@ module _ {W : Type 0} (blocks : List Block) (budget : ℕ) where
           (sym (taken blocks budget event.Commit g.window (done_of _ may) ∙ ap (λ xs. commit xs g.window) e))
           (outcome_counts (unless (cause_held f) (outputs f)) f fs g)
 
-  keeps : Keeps (Unit {0}) blocks budget (λ (g h : Grid W). CountsCommits g h)
-  keeps = record {
+  abbrev Tallied : Grid W → Grid W → Type 0
+  Tallied g h = CountsCommits g h
+
+  keeps : Keeps every blocks budget Tallied
+  keeps = by_window every blocks budget Tallied (record {
     same = λ g. refl;
     chain = chained;
     quiet = λ g h e c. unchanged g h (record {
@@ -129,10 +134,11 @@ module _ {W : Type 0} (blocks : List Block) (budget : ℕ) where
       state = state_stays blocks budget (event.Fetch f.block) g.window (λ z. cc);
       committed = refl;
     });
-    committing = commit_counts;
+    committing = λ c. commit_counts;
     counting = λ c g. refl;
-  }
+  })
 
+  -- n cycles count as many committed blocks as the trace grows by
   pub cycles_count : (next : W → ℕ) (follows : W → W → Type 0) (n : ℕ) (g h : Grid W)
       → AfterCycles next follows blocks budget n g h → CountsCommits g h
-  cycles_count next follows = cycles_keep blocks budget (λ (g h : Grid W). CountsCommits g h) keeps tt next follows
+  cycles_count = cycles_keep blocks budget Tallied keeps

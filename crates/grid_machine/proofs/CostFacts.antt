@@ -20,6 +20,7 @@ slot_more xs i count one all d x l is counts e =
     let sum = counts (drop (i + 1) xs) in
     omega (arith, next, same, sum, e)
 
+-- behind the last slot the count is that of all instructions
 pub slots_all : (xs : List (Option Inst)) (i count all : ℕ) → length xs ≤ i
     → count + instructions (drop i xs) ≡ all → count ≡ all
 slots_all xs i count all l e =

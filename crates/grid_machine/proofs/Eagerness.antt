@@ -12,6 +12,7 @@ use Rattle.grid_cycle_spec.specs.inside.Cycles.{AfterCycles}
 use Rattle.grid_parts.proofs.FlushFacts.{as_many}
 
 module _ {W : Type 0} (next : W → ℕ) (follows : W → W → Type 0) (blocks : List Block) (budget : ℕ) where
+  -- part (1) of a cycle and what follows it make an eager cycle
   pub eager_by : (o : Stepped) (g m h : Grid W) → m ≡ ends blocks budget g → o ≡ m.window.over
       → Follows o next follows blocks budget m h → Eager next follows blocks budget g h
   eager_by o g m h e is done =

@@ -61,6 +61,7 @@ ready_fires n s fs o b h x e is =
     is ∙ two (is_none (slot_of b s) || slice_index_or h.fired s false) (token_with (running b h) (slot_node b s) 0)
     ∙ sym (ap is_done (one_asked (NotNow NoFrame) (can_fire s) n fs o (running b h) e))
 
+-- where no frame runs, no slot may fire
 pub idle_fires : (n s : ℕ) (fs : List Frame) (o : Older) → IsIdle (frame_of n fs)
     → has_bit 0 s ≡ is_done (on_frame (NotNow NoFrame) (can_fire s) o fs n)
 idle_fires n s fs o i =

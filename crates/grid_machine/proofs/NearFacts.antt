@@ -20,6 +20,7 @@ passes_at stores (suc n) touched a =
     narrowed_next stores 0 n (suc n) touched a (omega arith) (omega arith)
     ∙ ap (λ b. not (covers (stores n) a) && b) (passes_at stores n touched a)
 
+-- the touched bytes that a search has left behind stores are those that pass them
 pub passes_is : (stores : ℕ → Option Stored) (n : ℕ) (touched : ℕ → Bool)
     → narrowed stores 0 n touched ≡ passes stores n touched
 passes_is stores n touched = fun_ext (passes_at stores n touched)
@@ -34,6 +35,7 @@ any_none : (a n : ℕ) → any_touched (λ z. false) a n ≡ false
 any_none a zero = refl
 any_none a (suc n) = any_none a n
 
+-- where no byte is touched, no load took a touched one
 pub took_none : (t : Option Taken) → took_touched (λ z. false) t ≡ false
 took_none None = refl
 took_none (Some NoBytes) = refl

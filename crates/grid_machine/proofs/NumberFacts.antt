@@ -11,10 +11,12 @@ use Rattle.commit_flush_spec.specs.InFlight.{lowest_empty}
 use Rattle.commit_flush_spec.specs.inside.Laws.{AreNumbers}
 use Rattle.commit_flush.specs.inside.Places.{free_number}
 
+-- the number of each frame in flight is below 8
 pub all_below : (ns : List ℕ) → AreNumbers ns → All (λ n. n < 8) ns
 all_below [] h = All-nil (λ n. n < 8)
 all_below (n ∷ ns) h = All-cons (λ m. m < 8) n ns h.0 (all_below ns h.2)
 
+-- the number of each frame in flight stands once
 pub each_once : (ns : List ℕ) → AreNumbers ns → Once ns
 each_once [] h i j l m e = absurd (omega arith)
 each_once (n ∷ ns) h zero zero l m e = absurd (omega arith)

@@ -16,17 +16,20 @@ use Rattle.grid_machine.specs.inside.Named.{is_named}
 
 -- frames by age ----------------------------------------------------------------------------------
 
+-- the frames from an age on are the frame of this age and those behind it
 pub drop_here : (fs : List Frame) (a : ℕ) (f : Frame) → slice_get fs a ≡ Some f → drop a fs ≡ f ∷ drop (suc a) fs
 drop_here [] a f e = absurd (cc)
 drop_here (g ∷ gs) zero f e = let same : g ≡ f = cc in ap (λ h. h ∷ gs) same
 drop_here (g ∷ gs) (suc a) f e = drop_here gs a f e
 
+-- past the last age there are no frames
 pub drop_past : (fs : List Frame) (a : ℕ) → length fs ≤ a → drop a fs ≡ []
 drop_past [] zero l = refl
 drop_past [] (suc a) l = refl
 drop_past (g ∷ gs) zero l = absurd (omega arith)
 drop_past (g ∷ gs) (suc a) l = drop_past gs a (omega arith)
 
+-- at an age below the count of frames there is a frame
 pub frame_there : (fs : List Frame) (a : ℕ) → a < length fs → (f : Frame) × (slice_get fs a ≡ Some f)
 frame_there [] a l = absurd (omega arith)
 frame_there (g ∷ gs) zero l = (g, refl)
@@ -107,10 +110,13 @@ module _ (m n a : ℕ) (fs : List Frame) (so_far : all_resolved m n (drop a fs) 
   abbrev tests : named ≡ (there.0.number == m)
   tests = is ∙ is_named_by fs a m there.0 there.1
 
+  -- at the frame of the number the walk ends: the older stores are resolved where the frame's own lower ones
+  -- are
   pub walk_here : named ≡ true → (x : Bool)
       → ((f : Frame) → slice_get fs a ≡ Some f → x ≡ all_below (store_came f) n) → x ≡ all_resolved m n fs
   walk_here own x came = settles_here m n a fs so_far there.0 there.1 (sym tests ∙ own) x (came there.0 there.1)
 
+  -- where all stores of an older frame are resolved, the walk goes on behind it
   pub walk_on : named ≡ false → (k : ℕ) → k ≡ 32
       → ((f : Frame) → slice_get fs a ≡ Some f → true ≡ all_below (store_came f) k)
       → all_resolved m n (drop (a + 1) fs) ≡ all_resolved m n fs
@@ -118,6 +124,7 @@ module _ (m n a : ℕ) (fs : List Frame) (so_far : all_resolved m n (drop a fs) 
       settles_later m n a fs so_far there.0 there.1 (sym tests ∙ other)
       (ap (all_below (store_came there.0)) (numbers_are ∙ sym e) ∙ sym (came there.0 there.1))
 
+  -- where not all stores of an older frame are resolved, those before the number are not
   pub walk_stops : named ≡ false → (k : ℕ) → k ≡ 32
       → ((f : Frame) → slice_get fs a ≡ Some f → false ≡ all_below (store_came f) k) → false ≡ all_resolved m n fs
   walk_stops other k e came =

@@ -12,6 +12,7 @@ use Rattle.grid_parts.specs.inside.Asked.{request_at}
 use Rattle.grid_parts.specs.declared.windows.Request.{Request}
 use Rattle.grid_machine.proofs.BlockFacts.{slot_below}
 
+-- what waits with a number waits in one of the 128 slots
 pub slot_within : (b : Block) → IsRunnable b → (h : Held) (k : ℕ) (q : Option (ℕ × Inst)) (r : Option Request)
     → q ≡ request (running b h) k → r ≡ request_at (running b h) q → IfSome r (λ (p : Request). p.slot < 128)
 slot_within b runs h k q r asked is =

@@ -1,26 +1,21 @@
 -- What each part of a cycle counts: the frames add up, part (2) fetches one frame at most, the other parts none.
-use Rattle.std.proofs.Common.{◌≡◌, ℕ, zero, suc, ◌+◌, ◌≤◌, Bool, true, false, List, [], ◌∷◌, Option, Some, None}
-use Rattle.std.proofs.Common.{refl, sym, ap, ◌∙◌, subst, arith}
+use Rattle.std.proofs.Common.{◌≡◌, ℕ, ◌+◌, ◌≤◌, List, refl, sym, ap, ◌∙◌, subst, arith}
 use Rattle.trips_isa.specs.declared.block.Block.{Block}
-use Rattle.trips_isa.specs.declared.run.Counts.{Counts}
-use Rattle.trips_isa.specs.declared.run.Stepped.{Stepped}
-use Rattle.trips_isa.specs.declared.run.Stepped.TheVariants as stepped
-use Rattle.commit_flush_spec.specs.Frames.{Frame, Exit}
-use Rattle.commit_flush_spec.specs.Window.{Window, Commit, Fetch, happens}
-use Rattle.grid_cycle_spec.specs.Grid.{Grid, Fetching, numbers_of}
+use Rattle.trips_isa.specs.declared.run.Stepped.TheVariants.{Went}
+use Rattle.grid_cycle_spec.specs.Grid.{Grid}
 use Rattle.grid_cycle_spec.specs.Laws.{AddsUp}
-use Rattle.grid_cycle_spec.specs.Acting.{flushed, gone, may}
-use Rattle.grid_cycle_spec.specs.Ends.{commit_in, committed_as, ends, learning, one_committed}
-use Rattle.grid_cycle_spec.specs.Fetches.{begins, fetch_ends, fetch_on, fetches, fill_where}
+use Rattle.grid_cycle_spec.specs.Ends.{ends}
+use Rattle.grid_cycle_spec.specs.Fetches.{fetches}
 use Rattle.grid_cycle_spec.specs.Banks.{reads_answered}
 use Rattle.grid_cycle_spec.specs.DataTiles.{answers}
 use Rattle.grid_cycle_spec.specs.Units.{works_on}
 use Rattle.grid_cycle_spec.specs.inside.Arrivals.{arrivals}
-use Rattle.grid_cycle_spec.specs.Cycles.{Moves, counted}
-use Rattle.grid_cycle_spec.proofs.KeptByCycles.{Keeps, answers_keep, arrivals_keep, banks_keep, begins_keeps}
-use Rattle.grid_cycle_spec.proofs.KeptByCycles.{ends_keep}
-use Rattle.grid_cycle_spec.proofs.KeptByCycles.{fetches_keep, works_keep}
-use Rattle.grid_cycle_spec.proofs.Counting as counting
+use Rattle.grid_cycle_spec.specs.Cycles.{acts, Moves, Eager}
+use Rattle.grid_cycle_spec.proofs.KeptByCycles.{ends_keep, fetches_keep, banks_keep, answers_keep, works_keep}
+use Rattle.grid_cycle_spec.proofs.KeptByCycles.{arrivals_keep, follows_keep, eager_keeps}
+use Rattle.grid_cycle_spec.proofs.Counting.{Adds, keeps}
+use Rattle.grid_cycle_spec.proofs.FetchedOnce.{Uncounted, OneMore, OneCycle, Silent, silent, fetches_more}
+use Rattle.grid_cycle_spec.proofs.FetchedOnce.{follows_once, eager_once}
 use Rattle.grid_machine.specs.inside.Counted.{IsCounted}
 
 -- the frames add up, at most so many have been fetched, and so many cycles have been made
@@ -29,174 +24,113 @@ pub record Room {W : Type 0} (most made : ℕ) (g : Grid W) : Type 0 where
   pub fetched : g.counts.fetched ≤ most
   pub cycles : g.counts.cycles ≡ made
 
--- neither a fetched frame nor a cycle is counted
-record Quiet {W : Type 0} (g h : Grid W) : Type 0 where
-  fetched : h.counts.fetched ≡ g.counts.fetched
-  cycles : h.counts.cycles ≡ g.counts.cycles
-
 module _ {W : Type 0} where
+  -- at most as many frames have been flushed as have been fetched
   pub flushed_fit : (most made : ℕ) (g : Grid W) → Room most made g → g.counts.flushed ≤ most
   flushed_fit most made g r = let a = r.adds in let f = r.fetched in omega (arith, a, f)
 
-  pub committed_fit : (most made : ℕ) (g : Grid W) → Room most made g → g.counts.committed ≤ most
-  committed_fit most made g r = let a = r.adds in let f = r.fetched in omega (arith, a, f)
-
+  -- a grid that counts right has room for as many frames as cycles have been made
   pub room_of : (g : Grid W) → IsCounted g → Room g.counts.cycles g.counts.cycles g
   room_of g c = record { adds = c.adds; fetched = c.fetched; cycles = refl }
 
-  pub counted_of : (most made : ℕ) (g : Grid W) → most ≤ made → Room most made g → IsCounted g
-  counted_of most made g le r = record {
-    adds = r.adds;
-    fetched = let f = r.fetched in let c = r.cycles in omega (arith, le, f, c);
-  }
-
-  pub after_count : (most made : ℕ) (g k : Grid W) → k ≡ counted g → Room most made g
-      → Room most (made + 1) k
-  after_count most made g k e r = subst (λ x. Room most (made + 1) x) (sym e) (record {
-    adds = r.adds;
-    fetched = r.fetched;
-    cycles = ap (λ n. n + 1) r.cycles;
-  })
-
-  alike : (g h : Grid W) → h.counts ≡ g.counts → Quiet g h
-  alike g h e = record {
-    fetched = ap (λ (c : Counts). c.fetched) e;
-    cycles = ap (λ (c : Counts). c.cycles) e;
-  }
-
-  same : (g : Grid W) → Quiet g g
-  same g = alike g g refl
-
-  chained : (g m h : Grid W) → Quiet g m → Quiet m h → Quiet g h
-  chained g m h a b = record { fetched = b.fetched ∙ a.fetched; cycles = b.cycles ∙ a.cycles }
-
-  flushed_quiet : (fs : List Frame) (g : Grid W) → Quiet g (flushed fs g)
-  flushed_quiet [] g = same g
-  flushed_quiet (f ∷ fs) g = record { fetched = refl; cycles = refl }
-
-  learning_quiet : (f : Frame) (o : Option Exit) (g : Grid W) → Quiet g (learning f o g)
-  learning_quiet f None g = same g
-  learning_quiet f (Some e) g = alike g (learning f (Some e) g) refl
-
-  -- a frame that has committed
-  after_learning : (f : Frame) (g h : Grid W)
-      → h.counts ≡ (learning f f.exit (record g { counts = one_committed g.counts })).counts → Quiet g h
-  after_learning f g h e =
-      let m : Grid W = record g { counts = one_committed g.counts } in
-      chained g m h (record { fetched = refl; cycles = refl }) (chained m (learning f f.exit m) h
-      (learning_quiet f f.exit m) (alike (learning f f.exit m) h e))
-
-  committed_quiet : (s : Stepped) (f : Frame) (fs : List Frame) (g : Grid W) → Quiet g (committed_as s f fs g)
-  committed_quiet (stepped.Trap c) f fs g = flushed_quiet (f ∷ fs) g
-  committed_quiet stepped.Went f fs g = after_learning f g (committed_as stepped.Went f fs g) refl
-  committed_quiet stepped.Ended f fs g = after_learning f g (committed_as stepped.Ended f fs g) refl
-  committed_quiet stepped.StackFull f fs g = after_learning f g (committed_as stepped.StackFull f fs g) refl
-
 module _ {W : Type 0} (blocks : List Block) (budget : ℕ) where
-  commit_quiet : (fs : List Frame) (g : Grid W) → Quiet g (commit_in blocks budget fs g)
-  commit_quiet [] g = same g
-  commit_quiet (f ∷ fs) g =
-      let v : Window = happens blocks budget Commit g.window in
-      let m : Grid W = record g { window = v } in
-      let done : Quiet m (committed_as v.over f fs m) = committed_quiet v.over f fs m in
-      record { fetched = done.fetched; cycles = done.cycles }
-
-  keeps : Keeps ⊥ blocks budget (λ (g h : Grid W). Quiet g h)
-  keeps = record {
-    same = same;
-    chain = chained;
-    quiet = λ g h e c. alike g h c;
-    single = λ e l g h is c. alike g h c;
-    flushing = λ e l g.
-        let v : Window = happens blocks budget e g.window in
-        let q = flushed_quiet (gone g.window v) (record g { window = v }) in
-        record { fetched = q.fetched; cycles = q.cycles };
-    filling = λ n. absurd n;
-    committing = λ g may. commit_quiet g.window.frames g;
-    counting = λ n. absurd n;
-  }
-
   -- a part that keeps the sum, and counts neither
-  kept : (most made : ℕ) (g h k : Grid W) → k ≡ h → (AddsUp g → AddsUp h) → Quiet g h → Room most made g
+  kept : (most made : ℕ) (g h k : Grid W) → k ≡ h → (AddsUp g → AddsUp h) → Uncounted g h → Room most made g
       → Room most made k
   kept most made g h k e adds quiet r = subst (λ x. Room most made x) (sym e) (record {
     adds = adds r.adds;
-    fetched = let f = r.fetched in let q = quiet.fetched in omega (arith, f, q);
-    cycles = quiet.cycles ∙ r.cycles;
+    fetched = let f = r.fetched in let q = quiet.0 in omega (arith, f, q);
+    cycles = quiet.1 ∙ r.cycles;
   })
 
-  abbrev Adds : Grid W → Grid W → Type 0
-  Adds g h = AddsUp g → AddsUp h
-
-  abbrev Silent : Grid W → Grid W → Type 0
-  Silent g h = Quiet g h
-
   module _ (most made : ℕ) (g k : Grid W) where
-    pub after_ends : k ≡ ends blocks budget g → Room most made g → Room most made k
-    after_ends e = kept most made g (ends blocks budget g) k e
-        (ends_keep blocks budget Adds (counting.keeps blocks budget) g) (ends_keep blocks budget Silent keeps g)
-
+    -- part (3) of a cycle leaves the room for frames
     pub after_banks : k ≡ reads_answered blocks budget g → Room most made g → Room most made k
     after_banks e = kept most made g (reads_answered blocks budget g) k e
-        (banks_keep blocks budget Adds (counting.keeps blocks budget) g) (banks_keep blocks budget Silent keeps g)
+        (banks_keep blocks budget (Adds blocks budget) (keeps blocks budget) (λ n. tt) tt g)
+        (banks_keep blocks budget (Silent blocks budget) (silent blocks budget) (λ n. tt) tt g)
 
+    -- part (4) of a cycle leaves the room for frames
     pub after_answers : k ≡ answers blocks budget g → Room most made g → Room most made k
     after_answers e = kept most made g (answers blocks budget g) k e
-        (answers_keep blocks budget Adds (counting.keeps blocks budget) g) (answers_keep blocks budget Silent keeps g)
+        (answers_keep blocks budget (Adds blocks budget) (keeps blocks budget) (λ n. tt) tt g)
+        (answers_keep blocks budget (Silent blocks budget) (silent blocks budget) (λ n. tt) tt g)
 
+    -- part (5) of a cycle leaves the room for frames
     pub after_works : k ≡ works_on blocks budget g → Room most made g → Room most made k
     after_works e = kept most made g (works_on blocks budget g) k e
-        (works_keep blocks budget Adds (counting.keeps blocks budget) g) (works_keep blocks budget Silent keeps g)
+        (works_keep blocks budget (Adds blocks budget) (keeps blocks budget) (λ n. tt) tt tt g)
+        (works_keep blocks budget (Silent blocks budget) (silent blocks budget) (λ n. tt) tt tt g)
 
-    pub after_arrivals : (ns : List ℕ) → k ≡ arrivals blocks budget ns g → Room most made g → Room most made k
-    after_arrivals ns e = kept most made g (arrivals blocks budget ns g) k e
-        (arrivals_keep blocks budget Adds (counting.keeps blocks budget) ns g)
-        (arrivals_keep blocks budget Silent keeps ns g)
+    -- part (2) fetches one frame at most
+    pub after_fetches : k ≡ fetches blocks budget g → Room most made g → Room (most + 1) made k
+    after_fetches e r =
+        let more : OneMore g (fetches blocks budget g) = fetches_more blocks budget g in
+        subst (λ x. Room (most + 1) made x) (sym e) (record {
+          adds = fetches_keep blocks budget (Adds blocks budget) (keeps blocks budget) tt g r.adds;
+          fetched = let f = r.fetched in let m = more.0 in omega (arith, f, m);
+          cycles = more.1 ∙ r.cycles;
+        })
 
+  -- part (1) counts neither a fetched frame nor a cycle
+  pub ends_counted : (g k : Grid W) → k ≡ ends blocks budget g → IsCounted g → IsCounted k
+  ends_counted g k e c =
+      let quiet : Uncounted g (ends blocks budget g) =
+      ends_keep blocks budget (Silent blocks budget) (silent blocks budget) tt tt g in
+      subst (λ x. IsCounted x) (sym e) (record {
+        adds = ends_keep blocks budget (Adds blocks budget) (keeps blocks budget) tt tt g c.adds;
+        fetched = let f = c.fetched in let q = quiet.0 in let r = quiet.1 in omega (arith, f, q, r);
+      })
+
+  -- the end of a cycle does not count it
+  pub ends_cycles : (g k : Grid W) → k ≡ ends blocks budget g → k.counts.cycles ≡ g.counts.cycles
+  ends_cycles g k e = ap (λ (x : Grid W). x.counts.cycles) e
+      ∙ (ends_keep blocks budget (Silent blocks budget) (silent blocks budget) tt tt g).1
+
+  -- arrivals make no cycle
   pub arrivals_cycles : (ns : List ℕ) (g k : Grid W) → k ≡ arrivals blocks budget ns g
       → k.counts.cycles ≡ g.counts.cycles
   arrivals_cycles ns g k e = ap (λ (x : Grid W). x.counts.cycles) e
-      ∙ (arrivals_keep blocks budget Silent keeps ns g).cycles
+      ∙ (arrivals_keep blocks budget (Silent blocks budget) (silent blocks budget) (λ n. tt) ns g).1
 
-  -- part (2) fetches one frame at most
-  record OneMore (g h : Grid W) : Type 0 where
-    fetched : h.counts.fetched ≤ g.counts.fetched + 1
-    cycles : h.counts.cycles ≡ g.counts.cycles
+-- behind parts (2) and (3), each over the image and the budget that it finds
+pub after_reads : {W : Type 0} (bs cs : List Block) (b d : ℕ) (g x y : Grid W) → x ≡ fetches bs b g
+    → y ≡ reads_answered cs d x → IsCounted g → Room (g.counts.cycles + 1) g.counts.cycles y
+after_reads bs cs b d g x y e f c = after_banks cs d (g.counts.cycles + 1) g.counts.cycles x y f
+    (after_fetches bs b g.counts.cycles g.counts.cycles g x e (room_of g c))
 
-  filled_more : (b : Bool) (f : Fetching) (g : Grid W) → OneMore g (fill_where b blocks budget f g)
-  filled_more true f g = record { fetched = omega arith; cycles = refl }
-  filled_more false f g = record { fetched = omega arith; cycles = refl }
+-- behind parts (4) and (5)
+pub after_units : {W : Type 0} (bs cs : List Block) (b d most made : ℕ) (g x y : Grid W) → x ≡ answers bs b g
+    → y ≡ works_on cs d x → Room most made g → Room most made y
+after_units bs cs b d most made g x y e f r =
+    after_works cs d most made x y f (after_answers bs b most made g x e r)
 
-  on_more : (left : ℕ) (f : Fetching) (g : Grid W) → OneMore g (fetch_on blocks budget left f g)
-  on_more zero f g = filled_more (may blocks budget (Fetch f.block) g) f g
-  on_more (suc left) f g = record { fetched = omega arith; cycles = refl }
+-- a whole cycle ----------------------------------------------------------------------------------
 
-  ends_more : (o : Option Fetching) (g : Grid W) → OneMore g (fetch_ends blocks budget o g)
-  ends_more None g = record { fetched = omega arith; cycles = refl }
-  ends_more (Some f) g = on_more f.left f g
+module _ {W : Type 0} (next : W → ℕ) (follows : W → W → Type 0) (blocks : List Block) (budget : ℕ)
+    (g h : Grid W) where
+  counted_by : IsCounted g → (AddsUp g → AddsUp h) → OneCycle g h → IsCounted h
+  counted_by c adds one = record {
+    adds = adds c.adds;
+    fetched = let f = c.fetched in let a = one.0 in let b = one.1 in omega (arith, f, a, b);
+  }
 
-  pub after_fetches : (most made : ℕ) (g k : Grid W) → k ≡ fetches blocks budget g → Room most made g
-      → Room (most + 1) made k
-  after_fetches most made g k e r = subst (λ x. Room (most + 1) made x) (sym e) (record {
-    adds = fetches_keep blocks budget Adds (counting.keeps blocks budget) tt g r.adds;
-    fetched = let f = r.fetched in let m = more.fetched in let b = begun.fetched in omega (arith, f, m, b);
-    cycles = begun.cycles ∙ more.cycles ∙ r.cycles;
-  })
-    where
-      middle : Grid W
-      middle = fetch_ends blocks budget g.fetching g
+  -- what follows part (1) leaves room for a cycle more, and is counted
+  pub moves_counted : IsCounted g → Moves next follows blocks budget (acts blocks budget g) h → IsCounted h
+  moves_counted c moves = counted_by c (follows_keep blocks budget (Adds blocks budget) (keeps blocks budget)
+      (λ n. tt) tt tt tt tt tt next follows Went g h moves) (follows_once blocks budget next follows Went g h moves)
 
-      more : OneMore g middle
-      more = ends_more g.fetching g
+  -- what follows the acts of a cycle counts it
+  pub moves_cycles : Moves next follows blocks budget (acts blocks budget g) h
+      → h.counts.cycles ≡ g.counts.cycles + 1
+  moves_cycles moves = (follows_once blocks budget next follows Went g h moves).1
 
-      begun : Quiet middle (begins blocks middle)
-      begun = begins_keeps blocks budget Silent keeps middle.fetching middle
+  -- so does a whole cycle
+  pub eager_counted : IsCounted g → Eager next follows blocks budget g h → IsCounted h
+  eager_counted c cycle = counted_by c
+      (eager_keeps blocks budget (Adds blocks budget) (keeps blocks budget) next follows g h cycle)
+      (eager_once blocks budget next follows g h cycle)
 
-  pub after_moves : (next : W → ℕ) (follows : W → W → Type 0) (most made : ℕ) (g k : Grid W)
-      → Moves next follows blocks budget g k → Room most made g → Room most (made + 1) k
-  after_moves next follows most made g k moves r =
-      let m : Grid W = record g { parcels = moves.parcels; weather = moves.weather } in
-      let a : Grid W = arrivals blocks budget (numbers_of g.window.frames) m in
-      let there : Room most made a = after_arrivals most made m a (numbers_of g.window.frames) refl
-      (record { adds = r.adds; fetched = r.fetched; cycles = r.cycles }) in
-      after_count most made a k moves.arrived there
+  -- a cycle with all its parts counts itself
+  pub eager_cycles : Eager next follows blocks budget g h → h.counts.cycles ≡ g.counts.cycles + 1
+  eager_cycles cycle = (eager_once blocks budget next follows g h cycle).1

@@ -97,6 +97,7 @@ module _ {W : Type 0} (blocks : List Block) (budget : ℕ) (next : W → ℕ) (f
   are_cycles (suc n) g h c =
       record { between = c.between; before = are_cycles n g c.between (c.before).0; after = c.after }
 
+  -- a run is eager cycles, and the flush of the frames in flight at its end
   pub run_is_cycles : (n : ℕ) (g h : Grid W) → IsRun next follows blocks budget n g h
       → AreCycles next follows blocks budget n g h
   run_is_cycles n g h r = record { last = r.last; cycles = are_cycles n g r.last r.cycles; ends = r.ends }
@@ -120,6 +121,7 @@ module _ {W : Type 0} (blocks : List Block) (budget : ℕ) (next : W → ℕ) (f
       let none : length (closed g).window.frames ≡ 0 = ap (λ (w : Window). length w.frames) (closed_window g) in
       omega (arith, sum, none)
 
+  -- where the frames add up before a run, they do behind it
   pub run_adds : (n : ℕ) (g h : Grid W) → AddsUp g → IsRun next follows blocks budget n g h → AddsUp h
   run_adds n g h adds r =
       let last : AddsUp r.last = cycles_add_up blocks budget next follows n g r.last adds

@@ -21,6 +21,7 @@ whole [] (suc k) l = refl
 whole (b ∷ bs) zero l = absurd (omega arith)
 whole (b ∷ bs) (suc k) l = ap (λ xs. b ∷ xs) (whole bs k (omega arith))
 
+-- shapes of as many blocks as there are are those of all blocks
 pub all_shapes : (bs : List Block) (k : ℕ) (ss : List Shape) → AreShapes (take k bs) ss → length bs ≤ k
     → AreShapes bs ss
 all_shapes bs k ss h l = subst (λ xs. AreShapes xs ss) (whole bs k l) h

@@ -36,6 +36,7 @@ pub holds_none : (test : Frame → Bool) (n : ℕ) (fs : List Frame) → places.
     → false ≡ holds_of test (frame_of n fs)
 holds_none test n fs e = sym (ap (holds_of test) (same_frame n fs ∙ e))
 
+-- what is told of what a frame lends is told of the frame, be it sealed or not
 pub holds_some : (test : Frame → Bool) (n : ℕ) (fs : List Frame) (h : Held) (b : Block) (x : Bool)
     → IsLent h b (places.frame_of n fs) → ((sealed : Bool) → x ≡ test (as_frame sealed b h))
     → x ≡ holds_of test (frame_of n fs)
@@ -49,6 +50,7 @@ block_told n fs = go (places.frame_of n fs) ∙ sym (ap (found_in (λ (f : Frame
     go None = refl
     go (Some f) = refl
 
+-- the number of the exit that has come is that of the frame of the number
 pub exit_told : (n : ℕ) (fs : List Frame) → number_of_exit (exit_come (places.frame_of n fs)) ≡ exit_of n fs
 exit_told n fs =
     go (places.frame_of n fs) ∙ sym (ap (found_in (λ (f : Frame). number_of f.exit)) (same_frame n fs))
@@ -82,5 +84,6 @@ module _ (n : ℕ) (fs : List Frame) (h : Held) (b : Block) (l : IsLent h b (pla
       let same : j ≡ i = same_Some j i (sym here ∙ ap (λ (g : Frame). slot_of g.code s) lent_is ∙ there) in
       is ∙ ap (λ (g : Frame). tile_by j (at g.spots s)) lent_is ∙ ap (λ k. tile_by k (at f.spots s)) same
 
+  -- a slot that is empty in the block that is lent is empty in the frame's
   pub no_slot : (s : ℕ) (i : Inst) → slot_of b s ≡ None → slot_of f.code s ≡ Some i → ⊥
   no_slot s i none there = none-some i (sym none ∙ ap (λ (g : Frame). slot_of g.code s) lent_is ∙ there)

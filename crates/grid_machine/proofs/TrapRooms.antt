@@ -1,6 +1,6 @@
 -- A run traps only while fewer blocks have been committed than the budget has.
-use Rattle.std.proofs.Common.{◌≡◌, ℕ, ◌<◌, Bool, true, false, not, nat_le, List, [], ◌∷◌, length, Option, Some, None}
-use Rattle.std.proofs.Common.{slice_get, ◌⊎◌, inl, inr, refl, sym, ap, ◌∙◌, subst, arith}
+use Rattle.std.proofs.Common.{◌≡◌, ℕ, ◌<◌, not, nat_le, List, [], ◌∷◌, length}
+use Rattle.std.proofs.Common.{◌⊎◌, inl, inr, refl, sym, subst}
 use Rattle.std.proofs.lemmas.Bool.{leb-false}
 use Rattle.trips_isa.specs.declared.block.Block.{Block}
 use Rattle.trips_isa.specs.declared.run.Stepped.{Stepped}
@@ -12,11 +12,12 @@ use Rattle.block_cases.proofs.Traps.{applied_goes}
 use Rattle.commit_flush_spec.specs.Frames.{Frame}
 use Rattle.commit_flush_spec.specs.Causes.{Happened, Done, NotNow, Spent, Unsealed}
 use Rattle.commit_flush_spec.specs.Ends.{outputs, cause_held}
-use Rattle.commit_flush_spec.specs.InFlight.{can_commit, commit, commit_to, fetched, is_sealed, lowest_empty}
+use Rattle.commit_flush_spec.specs.InFlight.{can_commit, commit, commit_to, is_sealed}
 use Rattle.commit_flush_spec.specs.Window.{Window, Event, can, done, happens, if_done, plays, unless_over}
 use Rattle.commit_flush_spec.specs.Window as event
 use Rattle.commit_flush_spec.proofs.Events.{state_stays}
 use Rattle.commit_flush_spec.proofs.Frames.{not_now}
+use Rattle.grid_cycle_spec.proofs.Events.{over_stays}
 
 -- where the run has trapped, fewer blocks have been committed than the budget has
 abbrev pub HasRoom : Stepped → ℕ → ℕ → Type 0
@@ -27,39 +28,17 @@ HasRoom o committed budget = Unit {0}
 abbrev pub TrapFits : ℕ → Window → Type 0
 TrapFits budget w = HasRoom w.over (length w.state.trace) budget
 
--- an event other than Commit
-abbrev IsOther : Event → Type 0
-IsOther event.Commit = ⊥
-IsOther e = Unit {0}
-
-which : (e : Event) → (e ≡ event.Commit) ⊎ IsOther e
-which (event.Fetch k) = inr tt
-which (event.Read a b) = inr tt
-which (event.Fire a b) = inr tt
-which (event.Deliver a) = inr tt
-which (event.Load a b) = inr tt
-which (event.Store a b) = inr tt
-which (event.Exit a) = inr tt
-which (event.Seal a) = inr tt
-which (event.Flush a) = inr tt
+which : (e : Event) → (e ≡ event.Commit) ⊎ (e ≡ event.Commit → ⊥)
+which (event.Fetch k) = inr (λ z. cc)
+which (event.Read a b) = inr (λ z. cc)
+which (event.Fire a b) = inr (λ z. cc)
+which (event.Deliver a) = inr (λ z. cc)
+which (event.Load a b) = inr (λ z. cc)
+which (event.Store a b) = inr (λ z. cc)
+which (event.Exit a) = inr (λ z. cc)
+which (event.Seal a) = inr (λ z. cc)
+which (event.Flush a) = inr (λ z. cc)
 which event.Commit = inl refl
-
-fetch_over : (k : ℕ) (n : Option ℕ) (b : Option Block) (w : Window) → (fetched k n b w).over ≡ w.over
-fetch_over k None b w = refl
-fetch_over k (Some n) None w = refl
-fetch_over k (Some n) (Some b) w = refl
-
-done_over : (blocks : List Block) (e : Event) (w : Window) → IsOther e → (done blocks e w).over ≡ w.over
-done_over blocks (event.Fetch k) w o = fetch_over k (lowest_empty 8 0 w.frames) (slice_get blocks k) w
-done_over blocks (event.Read a b) w o = refl
-done_over blocks (event.Fire a b) w o = refl
-done_over blocks (event.Deliver a) w o = refl
-done_over blocks (event.Load a b) w o = refl
-done_over blocks (event.Store a b) w o = refl
-done_over blocks (event.Exit a) w o = refl
-done_over blocks (event.Seal a) w o = refl
-done_over blocks (event.Flush a) w o = refl
-done_over blocks event.Commit w o = absurd o
 
 no_trap : (o : Stepped) (committed budget : ℕ) → (IsTrap o → ⊥) → HasRoom o committed budget
 no_trap Went committed budget ne = tt
@@ -74,18 +53,12 @@ went_on StackFull h e = absurd (cc)
 went_on (Trap c) h e = absurd (cc)
 
 module _ (blocks : List Block) (budget : ℕ) where
-  other_fits : (e : Event) → IsOther e → (w : Window) → TrapFits budget w
+  other_fits : (e : Event) → (e ≡ event.Commit → ⊥) → (w : Window) → TrapFits budget w
       → TrapFits budget (happens blocks budget e w)
   other_fits e o w fits =
       let v : Window = happens blocks budget e w in
-      let over : v.over ≡ w.over = by (can blocks budget e w) in
-      let state : v.state ≡ w.state = state_stays blocks budget e w (λ z. subst IsOther z o) in
-      subst (λ x. HasRoom x (length v.state.trace) budget) (sym over)
-      (subst (λ (s : State). HasRoom w.over (length s.trace) budget) (sym state) fits)
-    where
-      by : (h : Happened) → (if_done h (done blocks e w) w).over ≡ w.over
-      by Done = done_over blocks e w o
-      by (NotNow c) = refl
+      subst (λ x. HasRoom x (length v.state.trace) budget) (sym (over_stays blocks budget e w o))
+      (subst (λ (s : State). HasRoom w.over (length s.trace) budget) (sym (state_stays blocks budget e w o)) fits)
 
   -- a commit that is Done leaves room for a trap
   has_room : (w : Window) → can blocks budget event.Commit w ≡ Done → length w.state.trace < budget
@@ -120,6 +93,7 @@ module _ (blocks : List Block) (budget : ℕ) where
     | inr o ↦ other_fits e o w fits
   ]
 
+  -- events keep that a run has trapped only while fewer blocks were committed than the budget has
   pub plays_fit : (es : List Event) (w : Window) → TrapFits budget w → TrapFits budget (plays blocks budget es w)
   plays_fit [] w fits = fits
   plays_fit (e ∷ es) w fits = plays_fit es (happens blocks budget e w) (event_fits e w fits)

@@ -103,12 +103,14 @@ module _ (stores : List (Option Stored)) (m : ℕ) (s : Option Stored) (l : m < 
   covered : (a : ℕ) → touched a ≡ covers (at (set stores m s) m) a
   covered a = same a ∙ ap (λ z. covers z a) (sym (set_here stores m s l))
 
+  -- the load of a frame that its own store makes wrong is the lowest above it that took a byte of it too early
   pub own_least : (loads : List (Option Taken)) (o : Option ℕ) → Finds (at stores) loads touched (m + 1) o
       → o ≡ least (is_own (at (set stores m s)) loads m) numbers 0
   own_least loads o h =
       least_own (at (set stores m s)) loads touched m covered o
       (finds_same (at stores) (at (set stores m s)) loads touched (m + 1) o (λ k z. stays k z) h)
 
+  -- the bytes that are left of a store behind its own frame are those at which it is the nearest
   pub own_behind : m < 32 → (left : ℕ → Bool) → ((a : ℕ) → left a ≡ narrowed (at stores) (m + 1) numbers touched a)
       → left ≡ nearest (at (set stores m s)) m numbers
   own_behind small left is = fun_ext (λ a. is a
@@ -133,6 +135,7 @@ pub found_later : (f : Frame) (o : Option ℕ) (behind : Option (ℕ × ℕ)) �
 found_later f None behind e = refl
 found_later f (Some n) behind e = absurd (none-some (f.number, n) e)
 
+-- where a frame tells no wrong load, it found none
 pub none_found : (f : Frame) (o : Option ℕ) → None ≡ found_in f o None → o ≡ None
 none_found f None e = refl
 none_found f (Some n) e = absurd (none-some (f.number, n) e)
@@ -149,9 +152,11 @@ module _ (fs : List Frame) (a : ℕ) (f : Frame) (e : slice_get fs a ≡ Some f)
   one : wrong_behind touched (drop a fs) ≡ found_in f found behind
   one = ap (wrong_behind touched) (drop_here fs a f e)
 
+  -- where a frame has a wrong load, it is the one that is looked for
   pub behind_here : (x : ℕ × ℕ) → Some x ≡ found_in f found None → Some x ≡ all
   behind_here x is = found_first f found x behind is ∙ sym one ∙ so_far
 
+  -- where a frame has no wrong load, the bytes that pass its stores are looked for behind it
   pub behind_later : None ≡ found_in f found None → (left : ℕ → Bool)
       → ((z : ℕ) → left z ≡ passes (at f.stores) numbers touched z) → wrong_behind left (drop (a + 1) fs) ≡ all
   behind_later is left same =
@@ -160,6 +165,7 @@ module _ (fs : List Frame) (a : ℕ) (f : Frame) (e : slice_get fs a ≡ Some f)
       ∙ ap (λ g. wrong_behind g (drop (suc a) fs)) (fun_ext same)
       ∙ sym (found_later f found behind is) ∙ sym one ∙ so_far
 
+-- behind the last frame there is no wrong load
 pub behind_nowhere : (fs : List Frame) (a : ℕ) (touched : ℕ → Bool) (all : Option (ℕ × ℕ))
     → wrong_behind touched (drop a fs) ≡ all → length fs ≤ a → None ≡ all
 behind_nowhere fs a touched all so_far l = sym (ap (wrong_behind touched) (drop_past fs a l)) ∙ so_far
@@ -170,6 +176,7 @@ behind_nowhere fs a touched all so_far l = sym (ap (wrong_behind touched) (drop_
 abbrev pub wrong_of : ℕ → Frame → List Frame → Option (ℕ × ℕ)
 wrong_of k f fs = wrong_from k (with_store k (stored_by f (request f k)) 0 f) fs
 
+-- a store of a frame that is not in flight makes no load wrong
 pub no_load : (fs : List Frame) (n k : ℕ) → None ≡ age_of n fs → None ≡ wrong_in n k fs
 no_load [] n k e = refl
 no_load (f ∷ fs) n k e = go (f.number == n) e (age_of n fs) refl (no_load fs n k)
@@ -180,6 +187,7 @@ no_load (f ∷ fs) n k e = go (f.number == n) e (age_of n fs) refl (no_load fs n
     go false w None q rest = rest (sym q)
     go false w (Some a) q rest = absurd (none-some (suc a) (w ∙ ap later q))
 
+-- the load that a store makes wrong is found from the frame of its age on
 pub load_of_age : (fs : List Frame) (n k a : ℕ) → Some a ≡ age_of n fs → (x : Option (ℕ × ℕ))
     → ((f : Frame) → slice_get fs a ≡ Some f → x ≡ wrong_of k f (drop (suc a) fs)) → x ≡ wrong_in n k fs
 load_of_age [] n k a e x is = absurd (none-some a (sym e))
@@ -213,6 +221,7 @@ behind_small touched (f ∷ fs) h =
     (wrong_behind (passes (at f.stores) numbers touched) fs) h.0
     (behind_small (passes (at f.stores) numbers touched) fs h.2)
 
+-- the frame of a wrong load has a number below 8
 pub wrong_small : (fs : List Frame) (n k : ℕ) → AreNumbers (numbers_of fs)
     → IfSome (wrong_in n k fs) (λ c. c.0 < 8)
 wrong_small [] n k h = tt
@@ -250,6 +259,7 @@ finds_in stores rows loads taken touched from o e w h =
 -- what is found in the frame of an age, by what is lent of it
 module _ (fs : List Frame) (a : ℕ) (h : Held) (b : Block) (l : IsLent h b (slice_get fs a)) (touched : ℕ → Bool)
     (o : Option ℕ) (f : Frame) (e : slice_get fs a ≡ Some f) where
+  -- what is found of the loads that a frame lends is the wrong load of the frame
   pub told_here : Finds (at h.stores) h.loads touched 0 o → (x : Option (ℕ × ℕ))
       → x ≡ found_in (as_frame l.0 b h) o None
       → x ≡ found_in f (least (is_passed (at f.stores) f.loads touched) numbers 0) None
@@ -258,6 +268,7 @@ module _ (fs : List Frame) (a : ℕ) (h : Held) (b : Block) (l : IsLent h b (sli
       ∙ ap (λ (g : Frame). found_in g (least (is_passed (at g.stores) g.loads touched) numbers 0) None)
       (lent_at fs a h b l f e)
 
+  -- the bytes that pass the stores that a frame lends pass the frame's
   pub told_left : (z : ℕ) (left : Bool) → left ≡ passes (at h.stores) numbers touched z
       → left ≡ passes (at f.stores) numbers touched z
   told_left z left is = is ∙ ap (λ (g : Frame). passes (at g.stores) numbers touched z) (lent_at fs a h b l f e)

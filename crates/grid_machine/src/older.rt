@@ -8,13 +8,7 @@ ghost use Rattle.grid_machine.specs.inside.Named.{is_named};
 
 use commit_flush::Window;
 use frame_state::Body;
-
-// Whether a mask has a number.
-fn in_mask(mask: u32, number: u8) -> bool
-    ensures { result ≡ in_mask mask number }
-{
-    number < 32 && (mask >> number) % 2 == 1
-}
+use trips_isa::in_mask;
 
 // Whether a number has its store, or wants none.
 fn store_came(held: &Body, mask: u32, number: u8) -> bool

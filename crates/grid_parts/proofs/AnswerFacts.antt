@@ -24,6 +24,7 @@ use Rattle.grid_parts.proofs.NamedFacts.{all_named, first_named}
 
 -- units ----------------------------------------------------------------------------------------
 
+-- the first frame with a ready slot, and the lowest such slot, is the eldest of those that may fire
 pub ready_is : (blocks : List Block) (budget : ℕ) (w : Window) (tile : ℕ) (fs : List Frame)
     → first_found (lowest_ready blocks budget w tile) (numbers_of fs) ≡ eldest (fires blocks budget w tile) slots fs
 ready_is blocks budget w tile fs =
@@ -35,6 +36,7 @@ bank_is : (bank : ℕ) (o : Option ReadSlot) → in_bank bank (register_in o) �
 bank_is bank None = refl
 bank_is bank (Some r) = refl
 
+-- the first frame with a read that a bank may answer, and the lowest such read, is the eldest of those
 pub readable_is : (blocks : List Block) (budget : ℕ) (w : Window) (bank : ℕ) → AreNumbers (numbers_of w.frames)
     → first_found (lowest_read blocks budget w bank) (numbers_of w.frames)
     ≡ eldest (answers blocks budget w bank) reads w.frames
@@ -48,6 +50,8 @@ readable_is blocks budget w bank distinct =
 
 -- data tiles -----------------------------------------------------------------------------------
 
+-- the first frame with a request that a data tile may answer, and the lowest such request, is the eldest of
+-- those
 pub answerable_is : {W : Type 0} (g : Grid W) (tile : ℕ) → AreNumbers (numbers_of g.window.frames)
     → first_found (lowest_request g tile) (numbers_of g.window.frames)
     ≡ eldest (answers_request g tile) numbers g.window.frames
@@ -113,6 +117,7 @@ goes_now r m s e f = ap not f ∙ first s ∙ ap (λ b. not b || s) (sym f ∙ e
     first true = refl
     first false = refl
 
+-- a load that waits goes where the older stores are resolved
 pub goes_later : (r m s t : Bool) → r ≡ m → r ≡ true → t ≡ s → t ≡ (not m || s)
 goes_later r m s t e f d = d ∙ second s ∙ ap (λ b. not b || s) (sym f ∙ e)
   where

@@ -35,6 +35,7 @@ pub eldest_within : (m : Places) (order : List ℕ) → Within (eldest m order)
 eldest_within m [] = tt
 eldest_within m (f ∷ fs) = either_within (in_frame m f) (eldest m fs) (frame_within m f) (eldest_within m fs)
 
+-- the parcel that has come is in one of the 320 places
 pub arrived_within : (m : Places) (order : List ℕ) (o : Option Parcel) → o ≡ eldest m order
     → IfSome o (λ c. c.place < 320)
 arrived_within m order o e = go o (subst Within (sym e) (eldest_within m order))

@@ -263,6 +263,7 @@ pub record IsNext (m : Places) (n from : ℕ) (c : Parcel) : Type 0 where
   pub here : come n c.place (m n c.place) ≡ Some c
   pub first : AreQuiet m n c.place
 
+-- the eldest parcel that has come, where none has before a place, is the next one from there on
 pub next_found : (m : Places) (n from : ℕ) (c : Parcel) → Some c ≡ eldest m (n ∷ []) → AreQuiet m n from
     → IsNext m n from c
 next_found m n from c e quiet = go (in_frame_found m n c (sym (eldest_in (in_frame m n)) ∙ sym e))
@@ -283,11 +284,13 @@ next_found m n from c e quiet = go (in_frame_found m n c (sym (eldest_in (in_fra
           first = λ i x. l.first i (omega arith) (subst (λ k. i < k) (sym is) x);
         }
 
+-- where no parcel of a frame has come, none has in its 320 places
 pub next_none : (m : Places) (n : ℕ) → None ≡ eldest m (n ∷ []) → AreQuiet m n 320
 next_none m n e = in_frame_none m n (sym (eldest_in (in_frame m n)) ∙ sym e)
 
 module _ {W : Type 0} (blocks : List Block) (budget n from : ℕ) (c : Parcel) (g : Grid W)
     (next : IsNext g.parcels n from c) where
+  -- once the next parcel is handled, what is left to do over the places is the same
   pub next_folds : c.place < 320 → each (arrival blocks budget n) places (handled blocks budget n c.place c g)
       ≡ each (arrival blocks budget n) places g
   next_folds near = sym (each_handled blocks budget n c.place c g next.here next.first places in_places)
@@ -295,5 +298,6 @@ module _ {W : Type 0} (blocks : List Block) (budget n from : ℕ) (c : Parcel) (
       in_places : c.place < places
       in_places = let e = places_are in omega (arith, near, e)
 
+  -- once the next parcel is handled, none has come up to its place
   pub next_quiet : AreQuiet (handled blocks budget n c.place c g).parcels n (c.place + 1)
   next_quiet p l = after_quiet blocks budget n c.place c g next.here next.first p (omega arith)

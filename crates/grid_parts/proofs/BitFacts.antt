@@ -14,6 +14,7 @@ ones : (i : ℕ) → i < 32 → bit_at low_32 i ≡ 1
 unfolding low_32
 ones i l = bit_at_ones 32 i l
 
+-- the low 32 bits of a word are its bits below 32
 pub low_at : (n i : ℕ) → i < 32 → has_bit (bit_and n low_32) i ≡ has_bit n i
 low_at n i l = ap (λ z. z == 1)
     (bit_at_and n low_32 i ∙ small (bit_at n i) (bit_at low_32 i) (bit_at-lt n i) (ones i l))

@@ -14,6 +14,7 @@ pub record HasOldest (frames : List Frame) (order : List ℕ) : Type 0 where
   pub number : get_or order 0 0 ≡ frame.number
   pub named : frame_of (get_or order 0 0) frames ≡ Some frame
 
+-- where frames are in flight, there is an oldest one
 pub has_oldest : (frames : List Frame) (order : List ℕ) → order ≡ numbers_of frames → 0 < length order
     → HasOldest frames order
 has_oldest [] order e some = absurd (let none : length order ≡ 0 = ap length e in omega (arith, none))

@@ -172,6 +172,7 @@ over_fewer StackFull h k less e = refl
 over_fewer (Trap c) h k less e = refl
 
 module _ (blocks : List Block) (budget : ℕ) (w : Window) (n : ℕ) where
+  -- a Read lets no other read be answered
   pub read_enables_none : (r m k : ℕ) → is_done (can blocks budget (Read m k) w) ≡ false
       → is_done (can blocks budget (Read m k) (happens blocks budget (Read n r) w)) ≡ false
   read_enables_none r m k e = go (can blocks budget (Read n r) w)
@@ -192,6 +193,7 @@ module _ (blocks : List Block) (budget : ℕ) (w : Window) (n : ℕ) where
           (committed w.state) w.frames n
       go (NotNow c) = refl
 
+  -- a Fire lets no other slot fire
   pub fire_enables_none : (s m t : ℕ) → is_done (can blocks budget (Fire m t) w) ≡ false
       → is_done (can blocks budget (Fire m t) (happens blocks budget (Fire n s) w)) ≡ false
   fire_enables_none s m t e = go (can blocks budget (Fire n s) w)
@@ -204,6 +206,7 @@ module _ (blocks : List Block) (budget : ℕ) (w : Window) (n : ℕ) where
           (λ o f. fire_fewer s o f t) (committed w.state) w.frames n m) e
       go (NotNow c) = e
 
+  -- a Fire leaves the numbers of the frames
   pub fire_numbers : (s : ℕ) → numbers_of (happens blocks budget (Fire n s) w).frames ≡ numbers_of w.frames
   fire_numbers s = go (can blocks budget (Fire n s) w)
     where

@@ -50,6 +50,7 @@ module _ {W : Type 0} (blocks : List Block) (budget : ℕ) (g : Grid W) where
   not_due None e d = ap (λ o. with_fetching (nearer o) g) e ∙ ap (λ o. with_fetching o g) (sym e)
   not_due (Some f) e d = late f.left f refl e d
 
+  -- a fetch with no cycle left is due: nothing comes nearer, and its frame is filled where it may be
   pub in_time : (n : ℕ) (f : Fetching) → f.left ≡ n → g.fetching ≡ Some f → n ≡ 0
       → (fetch_nearer g ≡ g) × (fetch_on blocks budget n f g
       ≡ fill_where (may blocks budget (Fetch f.block) g) blocks budget f g)
@@ -108,6 +109,7 @@ pub record IsDue (o : Option Fetching) (k : ℕ) : Type 0 where
   pub block : fetch.block ≡ k
   pub left : fetch.left ≡ 0
 
+-- the number of a block, or 0 where none is told
 abbrev pub block_in : Option ℕ → ℕ
 block_in None = 0
 block_in (Some k) = k
@@ -147,6 +149,7 @@ pub no_exit : (o : Option Exit) → None ≡ number_of o → o ≡ None
 no_exit None e = refl
 no_exit (Some x) e = absurd (cc)
 
+-- the block that an exit leads to is its successor
 pub next_is : (k : ℕ) (x : Exit) → Some k ≡ successor_of (Some x) → x.successor ≡ k
 next_is k x e = sym (ap block_in e)
 
@@ -190,10 +193,12 @@ module _ {W : Type 0} (blocks : List Block) (g : Grid W) where
   idle_begins None b e r = ap (λ x. cond x (begun_after blocks g.window.frames g) g) (sym r)
   idle_begins (Some f) b e r = absurd (false≢true e)
 
+  -- an idle fetch unit with room begins the fetch behind the frames
   pub begins_idle : is_none g.fetching ≡ true → has_room_for g.window ≡ true
       → begun_after blocks g.window.frames g ≡ begins blocks g
   begins_idle e r = idle_begins g.fetching true e r
 
+  -- where there is no room for a frame, no fetch begins
   pub begins_full : is_none g.fetching ≡ true → has_room_for g.window ≡ false → g ≡ begins blocks g
   begins_full e r = idle_begins g.fetching false e r
 
@@ -201,8 +206,10 @@ module _ {W : Type 0} (blocks : List Block) (g : Grid W) where
   busy_begins None e = absurd (false≢true (sym e))
   busy_begins (Some f) e = refl
 
+  -- where a fetch goes on, no other begins
   pub begins_busy : is_none g.fetching ≡ false → g ≡ begins blocks g
   begins_busy e = busy_begins g.fetching e
 
+-- an exit leads to a block
 pub not_next : (x : Exit) → None ≡ successor_of (Some x) → ⊥
 not_next x e = cc

@@ -33,6 +33,7 @@ pair_in None = None
 pair_in (Some q) = Some (q.slot, q.inst)
 
 module _ {W : Type 0} where
+  -- where no frame stands behind those that are left, none is flushed
   pub none_behind : (fs : List Frame) (left : ℕ) (g : Grid W) → length fs ≤ left → g ≡ flushed (drop left fs) g
   none_behind fs left g le = sym (at_drop_all (λ xs. flushed xs g) fs left le)
 
@@ -40,6 +41,7 @@ module _ {W : Type 0} where
   flushed_few [] g = omega arith
   flushed_few (f ∷ fs) g = omega arith
 
+  -- the count of flushed frames rises by at most the number of frames
   pub behind_few : (fs : List Frame) (left : ℕ) (g : Grid W)
       → (settled (flushed (drop left fs) g)).counts.flushed ≤ g.counts.flushed + length fs
   behind_few fs left g =
@@ -60,6 +62,7 @@ module _ {W : Type 0} where
       ∙ if_counts (is_some (at f.places place)) (enters f.number place from (home f.code (target f.code place)) g)
       g refl
 
+  -- tokens that enter the mesh leave the counts
   pub frame_counts : (n from place : ℕ) (fs : List Frame) (g : Grid W)
       → (with_frame n (λ f h. enter_both from f place h) fs g).counts ≡ g.counts
   frame_counts n from place [] g = refl
@@ -123,8 +126,10 @@ block_told fs n k o e = ap (with_load k) e ∙ go (frame_of n fs)
     go None = refl
     go (Some f) = refl
 
+-- where a frame is not found, it tells no load by its block
 pub no_block : (fs : List Frame) (n k : ℕ) → None ≡ block_of n fs → None ≡ by_block fs (Some (n, k))
 no_block fs n k e = block_told fs n k None e
 
+-- a frame that is found tells the load by its block
 pub some_block : (fs : List Frame) (n k b : ℕ) → Some b ≡ block_of n fs → Some (b, k) ≡ by_block fs (Some (n, k))
 some_block fs n k b e = block_told fs n k (Some b) e

@@ -16,6 +16,7 @@ use Rattle.grid_parts.specs.inside.Changes.{forget_each, flushed_under}
 abbrev pub with_three : {W : Type 0} → Places → (ℕ → ℕ → Bool) → (ℕ → ℕ → Bool) → Grid W → Grid W
 with_three parcels asked works g = record g { parcels = parcels; asked = asked; works = works }
 
+-- a grid with other parcels, requests and results is the same where these are the same
 pub three_same : {W : Type 0} (g : Grid W) (m m2 : Places) (a a2 k k2 : ℕ → ℕ → Bool) → m ≡ m2 → a ≡ a2 → k ≡ k2
     → with_three m a k g ≡ with_three m2 a2 k2 g
 three_same g m m2 a a2 k k2 p q r = ap (λ x. with_three x a k g) p ∙ ap (λ x. with_three m2 x k g) q
@@ -57,6 +58,7 @@ abbrev under : {W : Type 0} → ℕ → ℕ → Grid W → Grid W
 under history n g =
     repaired history (record g { fetching = None; standing = None; counts = flushed_more n g.counts })
 
+-- to flush the frames of some numbers, and to take up the history of the first, is to flush these frames
 pub flushed_is : {W : Type 0} (g : Grid W) (gone : List ℕ) (fs : List Frame) (h : ℕ) → numbers_of fs ≡ gone
     → 0 < length gone → h ≡ g.histories (get_or gone 0 0) → flushed_under h gone g ≡ flushed fs g
 flushed_is g gone [] h e some eh = absurd (let l : 0 ≡ length gone = ap length e in omega (arith, l))
@@ -66,6 +68,7 @@ flushed_is g gone (f ∷ fs) h e some eh =
     ∙ ap₂ (λ a n. under a n (forget (is_of (f ∷ fs)) g)) (eh ∙ ap (λ ns. g.histories (get_or ns 0 0)) (sym e))
     (length-map (f ∷ fs) (λ (x : Frame). x.number))
 
+-- to flush no frame changes nothing
 pub flushed_none : {W : Type 0} (g : Grid W) (gone : List ℕ) (fs : List Frame) → numbers_of fs ≡ gone
     → length gone ≤ 0 → g ≡ flushed fs g
 flushed_none g gone [] e none = refl

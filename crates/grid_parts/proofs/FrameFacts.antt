@@ -54,6 +54,7 @@ with_two n first second fs g =
 
 -- the token in a place of a frame enters, or there is none
 module _ {W : Type 0} (n place from : ℕ) (fs : List Frame) (g : Grid W) where
+  -- where a frame has a token in a place, it enters the grid on its way to the tile of its target
   pub entered : (to : ℕ) → has_token n place fs ≡ true
       → ((f : Frame) → frame_of n fs ≡ Some f → to ≡ home f.code (target f.code place))
       → enters n place from to g ≡ with_frame n (λ f h. enters_if from f place h) fs g
@@ -67,6 +68,7 @@ module _ {W : Type 0} (n place from : ℕ) (fs : List Frame) (g : Grid W) where
           ap₂ (λ m t. enters m place from t g) (sym (frame_number n fs f e)) (is f e)
           ∙ ap (λ b. cond b (enters f.number place from (home f.code (target f.code place)) g) g) (sym s)
 
+  -- where a frame has no token in a place, nothing enters the grid from it
   pub not_entered : has_token n place fs ≡ false → g ≡ with_frame n (λ f h. enters_if from f place h) fs g
   not_entered none = go (frame_of n fs) none ∙ sym (with_frame_is n (λ f h. enters_if from f place h) fs g)
     where

@@ -9,14 +9,17 @@ use Rattle.commit_flush_spec.specs.Frames.{numbers}
 use Rattle.grid_cycle_spec.specs.Choosing.{least, slots, reads}
 use Rattle.grid_parts.proofs.SlotFacts.{least_is, least_none}
 
+-- a block has 128 slots
 pub slots_are : slots ≡ 128
 unfolding slots
 slots_are = refl
 
+-- a block has at most 32 reads
 pub reads_are : reads ≡ 32
 unfolding reads
 reads_are = refl
 
+-- a block has 32 numbers of loads and stores
 pub numbers_are : numbers ≡ 32
 unfolding numbers
 numbers_are = refl
@@ -35,9 +38,11 @@ least_agrees f g (suc n) k is =
 abbrev pub NoneWithin : (ℕ → Bool) → ℕ → ℕ → Type 0
 NoneWithin test n r = (i : ℕ) → i < r → i < n → test i ≡ false
 
+-- before the first number none passes the test
 pub none_yet : (test : ℕ → Bool) (n : ℕ) → NoneWithin test n 0
 none_yet test n i l m = absurd (omega arith)
 
+-- where none below r passes the test and r does not, none below r + 1 does
 pub one_within : (test : ℕ → Bool) (n r : ℕ) → NoneWithin test n r → test r ≡ false → NoneWithin test n (r + 1)
 one_within test n r below here i l m = go (cases_lt i r)
   where
@@ -54,10 +59,12 @@ passed_over test n word from bit low unmarked before i l m = go (cases_lt i from
     go (inl a) = before i a m
     go (inr a) = unmarked i m (low.clear i a l)
 
+-- where none below r passes the test and r does, r is the least that does
 pub found_within : (test : ℕ → Bool) (n r : ℕ) → r < n → NoneWithin test n r → test r ≡ true → Some r ≡ least test n 0
 found_within test n r l below here =
     sym (least_is test n 0 r (omega arith) (omega arith) here (λ i a b. below i b (omega arith)))
 
+-- where none of all numbers passes the test, there is no least one
 pub none_within : (test : ℕ → Bool) (n r : ℕ) → n ≤ r → NoneWithin test n r → None ≡ least test n 0
 none_within test n r l below = sym (least_none test n 0 (λ i a b. below i (omega arith) (omega arith)))
 

@@ -42,6 +42,7 @@ abbrev pub FlagsBelow : List ℕ → List ℕ → ℕ → ℕ → Type 0
 FlagsBelow words order all i = (j n : ℕ) → j < i → has_bit all n ≡ false
     → frame_bit words (slice_index_or order j 0) n ≡ false
 
+-- with the word of one frame more, all flags of the frames so far are held
 pub flags_more : (words order : List ℕ) (before word i : ℕ) → word ≡ slice_index_or words (slice_index_or order i 0) 0
     → FlagsBelow words order before i → FlagsBelow words order (bit_or before word) (i + 1)
 flags_more words order before word i is below j n l e = go (cases_lt j i)
@@ -52,6 +53,7 @@ flags_more words order before word i is below j n l e = go (cases_lt j i)
         ap (λ k. frame_bit words (slice_index_or order k 0) n) d ∙ ap (λ z. has_bit z n) (sym is)
         ∙ (or_bits before word n e).1
 
+-- where all flags together are 0, no flag of a frame is set
 pub no_flags : (words order : List ℕ) (all i : ℕ) → all ≡ 0 → length order ≤ i → FlagsBelow words order all i
     → (j n : ℕ) → j < length order → frame_bit words (slice_index_or order j 0) n ≡ false
 no_flags words order all i zero_word past below j n l = below j n (omega arith)
@@ -72,11 +74,13 @@ unasked_within g tile n word low same is k l e =
 abbrev pub MarkedBelow : (ℕ → Bool) → ℕ → ℕ → Type 0
 MarkedBelow test marks read = (r : ℕ) → r < read → r < 32 → has_bit marks r ≡ false → test r ≡ false
 
+-- below the lowest read that waits none may be answered
 pub marked_first : (test : ℕ → Bool) (unread bit : ℕ)
     → ((r : ℕ) → r < 32 → has_bit unread r ≡ false → test r ≡ false) → IsLowestBit unread 0 bit
     → (marks : ℕ) → MarkedBelow test marks bit
 marked_first test unread bit none low marks r l m e = none r m (low.clear r (omega arith) l)
 
+-- where one read that waits is marked rightly, the marks are right up to the next one that waits
 pub marked_more : (test : ℕ → Bool) (unread before marks read bit : ℕ) (on : Bool)
     → ((r : ℕ) → r < 32 → has_bit unread r ≡ false → test r ≡ false) → on ≡ test read
     → ((i : ℕ) → has_bit marks i ≡ false → has_bit before i ≡ false) → (has_bit marks read ≡ false → on ≡ false)
@@ -94,6 +98,7 @@ abbrev pub FramesMarked : (ℕ → ℕ → Bool) → List ℕ → ℕ → Type 0
 FramesMarked test words k = (n r : ℕ) → n < k → r < 32 → has_bit (slice_index_or words n 0) r ≡ false
     → test n r ≡ false
 
+-- with the marks of one frame more, those of all frames so far are right
 pub frame_marked : (test : ℕ → ℕ → Bool) (words : List ℕ) (f v : ℕ) → f < length words
     → ((r : ℕ) → r < 32 → has_bit v r ≡ false → test f r ≡ false) → FramesMarked test words f
     → FramesMarked test (slice_set words f v) (f + 1)
@@ -127,6 +132,7 @@ module _ (blocks : List Block) (budget : ℕ) (w : Window) where
   SlotsBelow order marks i = (s j : ℕ) → s < 128 → j < i → has_bit marks s ≡ false
       → is_done (can blocks budget (Fire (get_or order j 0) s) w) ≡ false
 
+  -- with the word of one frame more, all slots that may fire in the frames so far are marked
   pub slots_more : (order : List ℕ) (marks word i : ℕ) → ((s : ℕ) → s < 128
       → has_bit word s ≡ is_done (can blocks budget (Fire (get_or order i 0) s) w)) → SlotsBelow order marks i
       → SlotsBelow order (bit_or marks word) (i + 1)
@@ -138,6 +144,7 @@ module _ (blocks : List Block) (budget : ℕ) (w : Window) where
           ap (λ k. is_done (can blocks budget (Fire (get_or order k 0) s) w)) d
           ∙ sym (is s l) ∙ (or_bits marks word s e).1
 
+  -- behind the last frame all slots that may fire are marked
   pub slots_marked : (order : List ℕ) (marks i : ℕ) → order ≡ numbers_of w.frames → length order ≤ i
       → SlotsBelow order marks i → SlotsMarked blocks budget w marks
   slots_marked order marks i is past below = record {

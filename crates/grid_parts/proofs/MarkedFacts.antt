@@ -26,6 +26,7 @@ reads_moved bs cs b d v w words e f h m =
     subst (λ x. ReadsMarked x d w words) (sym e)
     (subst (λ x. ReadsMarked bs x w words) (sym f) (subst (λ x. ReadsMarked bs b x words) (sym h) m))
 
+-- marks of slots that may fire stay right of the same blocks, budget and window
 pub slots_moved : (bs cs : List Block) (b d : ℕ) (v w : Window) (marks : ℕ) → cs ≡ bs → d ≡ b → w ≡ v
     → SlotsMarked bs b v marks → SlotsMarked cs d w marks
 slots_moved bs cs b d v w marks e f h m =
@@ -57,6 +58,7 @@ module _ {W : Type 0} where
       go None = refl
       go (Some f) = both_window from place f g
 
+  -- marks of reads that may be answered stay right while a bank has its turn
   pub reads_kept : (blocks : List Block) (budget bank : ℕ) (g : Grid W) (words : List ℕ)
       → ReadsMarked blocks budget g.window words
       → ReadsMarked blocks budget (bank_turn blocks budget bank g).window words
@@ -74,6 +76,7 @@ module _ {W : Type 0} where
 
   module _ (blocks : List Block) (budget tile : ℕ) (g : Grid W) (marks : ℕ)
       (m : SlotsMarked blocks budget g.window marks) where
+    -- marks of slots that may fire stay right while a tile issues
     pub slots_kept : SlotsMarked blocks budget (issues blocks budget tile g).window marks
     slots_kept = go (g.units tile == 0)
       where
@@ -93,6 +96,7 @@ module _ {W : Type 0} where
         go true = by (eldest (ready blocks budget g tile) slots g.window.frames)
         go false = m
 
+    -- a tile without a marked slot issues nothing
     pub not_issued : false ≡ is_some (lowest_slot marks tile) → g ≡ issues blocks budget tile g
     not_issued off = same (g.units tile == 0)
         (issue_chosen blocks budget tile (eldest (ready blocks budget g tile) slots g.window.frames) g)

@@ -28,6 +28,7 @@ behind h all (f ∷ fs) e named =
       behind h all fs parts.1 named.1,
     )
 
+-- frames whose numbers differ are each found by their own
 pub all_named : (fs : List Frame) → AreNumbers (numbers_of fs) → AreNamed fs fs
 all_named [] distinct = tt
 all_named (f ∷ fs) distinct = (

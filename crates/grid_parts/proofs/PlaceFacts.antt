@@ -48,6 +48,7 @@ module _ {W : Type 0} (blocks : List Block) (budget n p : ℕ) (g : Grid W) wher
   placed_empty f e near none =
       ap (λ o. inst_arrives blocks budget o p f g) (sym none) ∙ slot_lands f near ∙ in_frame f e
 
+  -- a parcel that arrives at a slot arrives as the form of its instruction has it
   pub placed_inst : (f : Frame) (i : Inst) → frame_of n g.window.frames ≡ Some f → p < 256
       → slot_of f.code (p / 2) ≡ Some i
       → slot_arrives blocks budget (form_of i.op) i p f g

@@ -27,6 +27,7 @@ module _ {W : Type 0} (blocks : List Block) (budget : ℕ) (g : Grid W) where
     all_idle (suc n) = ap (data_turn blocks budget n) (all_idle n)
         ∙ ap (λ o. answer_chosen blocks budget n o g) (none_of n g.window.frames off)
 
+  -- where no frame asks anything of the data tiles, these answer nothing
   pub none_answered : (order : List ℕ) → order ≡ numbers_of g.window.frames
       → ((j n : ℕ) → j < length order → g.asked (get_or order j 0) n ≡ false) → g ≡ answers blocks budget g
   none_answered order is off = sym (all_idle

@@ -46,6 +46,7 @@ set_history ws n h inside below are = record {
         let v = get_or-set_at ws n f h 0 e l in omega (arith, v)
     go f (inr ne) = let v = get_or-set_other ws n f h 0 ne in let b = are.below f in omega (arith, v, b)
 
+-- eight zeros are histories
 pub no_histories : AreHistories (zeros 8)
 no_histories = record {
   size = let z : ℕ = 0 in length-replicate 8 z;

@@ -77,11 +77,13 @@ module _ (n t : ℕ) (lt : t < 16) where
       go (inl e) = and_right (r % 16 == t) (has_bit n r) (ap (λ z. z == 1) (h e))
       go (inr ne) = and_left (r % 16 == t) (has_bit n r) (ne_eqb (r % 16) t ne)
 
+  -- where the mask of a tile's slots is 0, the tile has no marked slot
   pub none_on : bit_and (n / 2 ^ t) every_16 ≡ 0 → lowest_slot n t ≡ None
   none_on z = least_none (is_on n t) slots 0
       (λ i l m. let few = slots_are in
       not_on i (λ e. lacks i (omega (arith, few)) e (ap (λ k. bit_at k (i - t)) z ∙ bit_at-zero (i - t))))
 
+  -- the lowest marked slot of a tile is told by the trailing zeros of the mask of its slots
   pub first_on : n < 2 ^ 128 → bit_and (n / 2 ^ t) every_16 ≢ 0 → bit_and (n / 2 ^ t) every_16 < 2 ^ 128
       → (lowest_slot n t ≡ Some (t + trailing_zeros w128 (bit_and (n / 2 ^ t) every_16)))
       × (t + trailing_zeros w128 (bit_and (n / 2 ^ t) every_16) < 128)
@@ -116,6 +118,7 @@ module _ (n t : ℕ) (lt : t < 16) where
             s,
           )
 
+-- the mask of a tile's slots has 128 bits
 pub row_below : (n t : ℕ) → bit_and (n / 2 ^ t) every_16 < 2 ^ 128
 unfolding every_16
 row_below n t = let a : bit_and (n / 2 ^ t) every_16 ≤ every_16 = and_le_r (n / 2 ^ t) every_16 in omega (arith, a)

@@ -45,6 +45,7 @@ zeros x = 0
 abbrev clear : ℕ → Bool
 clear x = false
 
+-- a grid whose parts are all empty is the one that a run starts with
 pub starts : {W : Type 0} (t : State) (p : Holding) (z : W) (m : Places) (a k : ℕ → ℕ → Bool) (u h : ℕ → ℕ)
     (v c : ℕ → Bool)
     (f : Option Fetching) (n : Counts) → m ≡ none → ((x y : ℕ) → a x y ≡ false) → ((x y : ℕ) → k x y ≡ false)

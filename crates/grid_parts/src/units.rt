@@ -20,7 +20,7 @@ use crate::sending::{enter_both, enter_request};
 use crate::slots::lowest_on;
 use crate::slots_ready::{marked_slots, ready_slot};
 use crate::windows::Windows;
-use trips_isa::{Form, Inst, Op, form_of};
+use trips_isa::{Form, Inst, Op, form_of, row_of};
 
 // The node of the tile on which a slot lies.
 fn tile_node(slot: u8) -> u8
@@ -44,11 +44,7 @@ fn data_node(tile: u8) -> u8
 fn latency(op: Op) -> u8
     ensures { result ≡ costs.latency op }
 {
-    match op {
-        Op::Mul | Op::Muli => 3,
-        Op::Divs | Op::Divu => 24,
-        _ => 1,
-    }
+    row_of(op).latency
 }
 
 // How long what a slot holds takes.

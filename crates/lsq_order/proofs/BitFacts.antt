@@ -46,6 +46,7 @@ low_part k n i l =
 pub led_down_by : (n s i : ℕ) → bit_at (n / 2 ^ s) i ≡ bit_at n (s + i)
 led_down_by n s i = ap (λ k. k % 2) (div-div-eq-div-mul n (2 ^ s) (2 ^ i) ∙ ap (λ k. n / k) (sym (pow-add 2 s i)))
 
+-- a word divided by a power of 256 has at each place the bit that many bytes higher
 pub led_down_is : (n bytes i : ℕ) → bit_at (n / 2 ^ (8 * bytes)) i ≡ bit_at n (i + 8 * bytes)
 led_down_is n bytes i =
     let same : 8 * bytes + i ≡ i + 8 * bytes = omega arith in
@@ -65,6 +66,7 @@ led_up_by n s i l up =
     ∙ ap (λ m. bit_at m i) whole
     ∙ bit_at_cat_high n s 0 i (pow_pos s) up
 
+-- a word multiplied by a power of 256 has at each place from there on the bit that many bytes lower
 pub led_up_is : (n bytes i : ℕ) → i < 64 → 8 * bytes ≤ i
     → bit_at (n * 2 ^ (8 * bytes) % 2 ^ 64) i ≡ bit_at n (i - 8 * bytes)
 led_up_is n bytes i l up = led_up_by n (8 * bytes) i l up
@@ -91,15 +93,19 @@ ones_are k i = go (cases_lt i k)
     go (inl l) = is_set (2 ^ k - 1) i (bit_at_ones k i l) ∙ sym (lt-ltb i k l)
     go (inr l) = is_clear (2 ^ k - 1) i (bit_at_ones_above k i l) ∙ sym (le-ltb i k l)
 
+-- of a mask of n bits, fewer than 64, exactly those below n are set
 pub low_bits_few : (n i : ℕ) → n < 64 → has_bit (1 * 2 ^ n % 2 ^ 64 - 1) i ≡ nat_lt i n
 low_bits_few n i l = ap (λ m. has_bit (m - 1) i) (one_shl n 64 l) ∙ ones_are n i
 
+-- of a mask of all 64 bits each one is below any n from 64 on
 pub low_bits_all : (n i : ℕ) → 64 ≤ n → i < 64 → has_bit (2 ^ 64 - 1) i ≡ nat_lt i n
 low_bits_all n i l below = is_set (2 ^ 64 - 1) i (bit_at_ones 64 i below) ∙ sym (lt-ltb i n (omega arith))
 
+-- of a mask of n bytes, fewer than 8, exactly the bits below 8 * n are set
 pub low_bytes_few : (n i : ℕ) → n < 8 → has_bit (1 * 2 ^ (8 * n) % 2 ^ 64 - 1) i ≡ nat_lt i (8 * n)
 low_bytes_few n i l = ap (λ m. has_bit (m - 1) i) (one_shl (8 * n) 64 (omega arith)) ∙ ones_are (8 * n) i
 
+-- of a mask of all 8 bytes each bit is below 8 * n for any n from 8 on
 pub low_bytes_all : (n i : ℕ) → 8 ≤ n → i < 64 → has_bit (2 ^ 64 - 1) i ≡ nat_lt i (8 * n)
 low_bytes_all n i l below =
     is_set (2 ^ 64 - 1) i (bit_at_ones 64 i below) ∙ sym (lt-ltb i (8 * n) (omega arith))

@@ -45,6 +45,7 @@ no_end mask below bits small is e = record {
   none = λ i from l. kept mask below i small l ∙ ap (λ b. has_bit b i) (sym is ∙ e) ∙ none_set i;
 }
 
+-- where bits of a mask are set below a number, its end below it is behind the highest of them
 pub some_end : (mask below bits : ℕ) → below ≤ 32 → bits ≡ bit_and mask (1 * 2 ^ below % 2 ^ 64 - 1) → 0 < bits
     → bits < 2 ^ 64 → IsEnd mask below (64 - leading_zeros w64 bits)
 some_end mask below bits small is some fits = go (leading_top 64 bits some fits)
@@ -76,6 +77,7 @@ led : (mask from i : ℕ) → from ≤ i → has_bit mask i ≡ has_bit (mask / 
 led mask from i l = let same : from + (i - from) ≡ i = omega arith in
     ap (has_bit mask) (sym same) ∙ sym (ap (λ z. z == 1) (led_down_by mask from (i - from)))
 
+-- where no bit of a mask is set from a number on, its next number is 32
 pub no_next : (mask from rest : ℕ) → from ≤ 32 → rest ≡ mask / 2 ^ from → rest ≡ 0 → IsNext mask from 32
 no_next mask from rest small is e = record {
   onward = small;
@@ -83,6 +85,7 @@ no_next mask from rest small is e = record {
   none = λ i on l. led mask from i on ∙ ap (λ b. has_bit b (i - from)) (sym is ∙ e) ∙ none_set (i - from);
 }
 
+-- where a bit of a mask is set from a number on, its next number is the lowest such bit
 pub some_next : (mask from rest : ℕ) → rest ≡ mask / 2 ^ from → mask < 2 ^ 32 → 0 < rest → rest < 2 ^ 64
     → IsNext mask from (from + trailing_zeros w64 rest)
 some_next mask from rest is small some fits = go (bit_at-trailing_zeros w64 rest some fits)

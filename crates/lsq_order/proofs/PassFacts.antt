@@ -29,6 +29,7 @@ seen_gap stores mem low (suc high) a le h =
     go rest (inl l) = let same : suc high ≡ low = omega (arith, l, le) in ap (λ n. byte_seen stores mem n a) same
     go rest (inr l) = ap (λ o. or_byte (byte_of o a) (byte_seen stores mem high a)) (h high l (omega arith)) ∙ rest l
 
+-- numbers without a store add nothing to what is taken of a bit
 pub taken_gap : (s : Sought) (stores : ℕ → Option Stored) (mem : ℕ → ℕ) (low high i : ℕ) → low ≤ high
     → ((n : ℕ) → low ≤ n → n < high → stores n ≡ None)
     → bit_taken s (byte_seen stores mem low) i ≡ bit_taken s (byte_seen stores mem high) i

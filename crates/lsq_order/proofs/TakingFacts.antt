@@ -164,6 +164,7 @@ all_wanted s address ends none small bits stores mem n low =
 
 -- all is found ------------------------------------------------------------------------------------
 
+-- where nothing is wanted any more, each bit that is taken is the word's
 pub found_bit : (s : Sought) (mem : ℕ → ℕ) (i : ℕ) → s.wanted ≡ 0 → bit_taken s mem i ≡ bit_at s.word i
 found_bit s mem i e = ap (λ w. cond (has_bit w i) (byte_bit s.end mem i) (bit_at s.word i)) e
     ∙ ap (λ b. cond b (byte_bit s.end mem i) (bit_at s.word i)) (none_set i)
@@ -182,11 +183,14 @@ pick false false x y z = refl
 and_left : (a b : Bool) → a ≡ false → (a && b) ≡ false
 and_left a b e = ap (λ x. x && b) e
 
+-- a bit that was not wanted is not wanted after some wanted bits were found
 pub put_off : (wanted bits i : ℕ) → has_bit wanted i ≡ false
     → has_bit (bit_and wanted (2 ^ 64 - 1 - bit_and bits wanted)) i ≡ false
 put_off wanted bits i e = both_set wanted (2 ^ 64 - 1 - bit_and bits wanted) i
     ∙ and_left (has_bit wanted i) (has_bit (2 ^ 64 - 1 - bit_and bits wanted) i) e
 
+-- to take the bits that are found and then the rest is to take each wanted bit from there where it is found,
+-- else from the rest
 pub put_bit : (wanted bits word from x i new : ℕ) → bit_and bits wanted < 2 ^ 64 → i < 64
     → bit_at new i ≡ cond (has_bit (bit_and bits wanted) i) (bit_at from i) (bit_at word i)
     → cond (has_bit (bit_and wanted (2 ^ 64 - 1 - bit_and bits wanted)) i) x (bit_at new i)

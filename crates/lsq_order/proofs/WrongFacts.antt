@@ -78,12 +78,14 @@ module _ (stores : List (Option Stored)) (loads : List (Option Took)) (kept aske
     (has_stores : (n : ℕ) → n < 64 → 64 * 0 + n < 32 → has_bit kept n ≡ is_some (get_or stores (64 * 0 + n) None))
     (has_loads : (n : ℕ) → n < 64 → 64 * 0 + n < 32 → has_bit asked n ≡ is_some (get_or loads (64 * 0 + n) None))
     (next : IsNext (bit_or kept asked % 2 ^ 32) low high) where
+  -- where the mask of stores has no bit from `low` up to `high`, no store stands there
   pub no_store_between : (n : ℕ) → low ≤ n → n < high → get_or stores n None ≡ None
   no_store_between n f l =
       let w = next.within in
       not_there stores kept has_stores n (omega (arith, l, w))
       (or_clear kept asked n (omega (arith, l, w)) (next.none n f l)).0
 
+  -- where the mask of asked loads has no bit from `low` up to `high`, no load stands there
   pub no_load_between : (n : ℕ) → low ≤ n → n < high → get_or loads n None ≡ None
   no_load_between n f l =
       let w = next.within in

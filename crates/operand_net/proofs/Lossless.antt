@@ -39,6 +39,7 @@ of_age (suc n) f order = go (cases_eq (get_or order n 0) f) (of_age n f order)
         last a l e (inl d) = ne (ap (λ z. get_or order z 0) (sym d) ∙ e)
         last a l e (inr d) = none a (omega arith) e
 
+-- what travels in a place of a frame before a tick travels there after it
 pub keeps_trips : {W : Type 0} (next : W → ℕ) (follows : W → W → Type 0) (order : List ℕ)
     (before after : Places) (v w : W) (n : ℕ)
     → Ticked next follows order before after v w n → (f p : ℕ) → p < 320 → trip_of (after f p) ≡ trip_of (before f p)

@@ -15,6 +15,7 @@ use Rattle.operand_net.specs.Marks.{has_bit}
 use Rattle.operand_net.specs.inside.Marks.{marked, IsFull, IsLowestBit, IsLowest}
 use Rattle.operand_net.specs.inside.Rows.{taken}
 
+-- numbers that differ test as not equal
 pub ne_eqb : (a b : ℕ) → a ≢ b → (a == b) ≡ false
 ne_eqb a b ne = go (a == b) refl
   where
@@ -24,6 +25,7 @@ ne_eqb a b ne = go (a == b) refl
 
 -- one bit of a word ----------------------------------------------------------------------------
 
+-- setting bit k of a word sets this bit and leaves the others
 pub with_one : (n k i : ℕ) → k < 64 → i < 64
     → has_bit (bit_or n (1 * 2 ^ k % 2 ^ 64)) i ≡ cond (i == k) true (has_bit n i)
 with_one n k i below within = go (cases_eq i k)
@@ -34,6 +36,7 @@ with_one n k i below within = go (cases_eq i k)
     go (inr ne) = ap (λ z. z == 1) (bit_at_set_other w64 n k below i ne)
         ∙ ap (λ b. cond b true (has_bit n i)) (sym (ne_eqb i k ne))
 
+-- clearing bit k of a word clears this bit and leaves the others
 pub without_one : (n k i : ℕ) → k < 64 → i < 64
     → has_bit (bit_and n (2 ^ 64 - 1 - 1 * 2 ^ k % 2 ^ 64)) i ≡ cond (i == k) false (has_bit n i)
 without_one n k i below within = go (cases_eq i k)
@@ -159,6 +162,7 @@ zeros_at n w = go (cases_lt w n)
 pub no_marks : (n q : ℕ) → marked (zeros n) q ≡ false
 no_marks n q = ap (λ z. has_bit z (q % 64)) (zeros_at n (q / 64)) ∙ zero_bit (q % 64)
 
+-- where all words are 0, the word of marks over them is 0
 pub none_full : (n : ℕ) → IsFull (zeros n) 0
 none_full n w lt = zero_bit w ∙ ap (λ z. not (z == 0)) (sym (zeros_at n w))
 

@@ -5,8 +5,7 @@ use Rattle.grid_cycle_spec.specs.Units.{works_on}
 use Rattle.grid_cycle_spec.specs.Cycles.{acts}
 use Rattle.grid_parts.specs.Seen.{seen}
 use Rattle.grid_machine.proofs.Eagerness.{moves_from}
-use Rattle.grid_machine.proofs.Rooms.{room_of, counted_of, flushed_fit}
-use Rattle.grid_machine.proofs.Rooms.{after_answers, after_banks, after_fetches, after_moves, after_works}
+use Rattle.grid_machine.proofs.Rooms.{flushed_fit, after_reads, after_units, moves_counted, moves_cycles}
 use Rattle.grid_machine.proofs.cycling.goes_on.Goals as goal
 
 pub fetches-requires : goal.fetches-requires
@@ -19,14 +18,12 @@ pub answers-requires : goal.answers-requires
 answers-requires g c =
     let v = c.args.grid.now.window in
     let n = c.args.grid.now.state.counts.cycles in
-    let start = seen (g.V.Windows.held v) c.args.grid.now.state in
     let x = c.fetches.new.self in
     let y = c.reads_answered.new.self in
-    let one = after_fetches (g.V.Windows.blocks v) (g.V.Windows.budget v) n n start
-    (seen (g.V.Windows.held x.window) x.state) c.fetches.ensures.change (room_of start c.requires.counted) in
-    let two = after_banks (g.V.Windows.blocks x.window) (g.V.Windows.budget x.window) (n + 1) n
-    (seen (g.V.Windows.held x.window) x.state) (seen (g.V.Windows.held y.window) y.state)
-    c.reads_answered.ensures.change one in
+    let two = after_reads (g.V.Windows.blocks v) (g.V.Windows.blocks x.window) (g.V.Windows.budget v)
+    (g.V.Windows.budget x.window) (seen (g.V.Windows.held v) c.args.grid.now.state)
+    (seen (g.V.Windows.held x.window) x.state) (seen (g.V.Windows.held y.window) y.state) c.fetches.ensures.change
+    c.reads_answered.ensures.change c.requires.counted in
     let few = flushed_fit (n + 1) n (seen (g.V.Windows.held y.window) y.state) two in
     let room = c.requires.cycles in
     omega (arith, few, room)
@@ -35,22 +32,18 @@ pub moves-requires-clause-cycles : goal.moves-requires-clause-cycles
 moves-requires-clause-cycles g c =
     let v = c.args.grid.now.window in
     let n = c.args.grid.now.state.counts.cycles in
-    let start = seen (g.V.Windows.held v) c.args.grid.now.state in
     let x = c.fetches.new.self in
     let y = c.reads_answered.new.self in
-    let one = after_fetches (g.V.Windows.blocks v) (g.V.Windows.budget v) n n start
-    (seen (g.V.Windows.held x.window) x.state) c.fetches.ensures.change (room_of start c.requires.counted) in
-    let two = after_banks (g.V.Windows.blocks x.window) (g.V.Windows.budget x.window) (n + 1) n
-    (seen (g.V.Windows.held x.window) x.state) (seen (g.V.Windows.held y.window) y.state)
-    c.reads_answered.ensures.change one in
     let z = c.answers.new.self in
     let t = c.works_on.new.self in
-    let three = after_answers (g.V.Windows.blocks y.window) (g.V.Windows.budget y.window) (n + 1) n
-    (seen (g.V.Windows.held y.window) y.state) (seen (g.V.Windows.held z.window) z.state)
-    c.answers.ensures.change two in
-    let four = after_works (g.V.Windows.blocks z.window) (g.V.Windows.budget z.window) (n + 1) n
-    (seen (g.V.Windows.held z.window) z.state) (seen (g.V.Windows.held t.window) t.state)
-    c.works_on.ensures.change three in
+    let two = after_reads (g.V.Windows.blocks v) (g.V.Windows.blocks x.window) (g.V.Windows.budget v)
+    (g.V.Windows.budget x.window) (seen (g.V.Windows.held v) c.args.grid.now.state)
+    (seen (g.V.Windows.held x.window) x.state) (seen (g.V.Windows.held y.window) y.state) c.fetches.ensures.change
+    c.reads_answered.ensures.change c.requires.counted in
+    let four = after_units (g.V.Windows.blocks y.window) (g.V.Windows.blocks z.window) (g.V.Windows.budget y.window)
+    (g.V.Windows.budget z.window) (n + 1) n (seen (g.V.Windows.held y.window) y.state)
+    (seen (g.V.Windows.held z.window) z.state) (seen (g.V.Windows.held t.window) t.state) c.answers.ensures.change
+    c.works_on.ensures.change two in
     let made = four.cycles in
     let room = c.requires.cycles in
     omega (arith, made, room)
@@ -59,79 +52,21 @@ pub moves-requires-clause-flushed : goal.moves-requires-clause-flushed
 moves-requires-clause-flushed g c =
     let v = c.args.grid.now.window in
     let n = c.args.grid.now.state.counts.cycles in
-    let start = seen (g.V.Windows.held v) c.args.grid.now.state in
     let x = c.fetches.new.self in
     let y = c.reads_answered.new.self in
-    let one = after_fetches (g.V.Windows.blocks v) (g.V.Windows.budget v) n n start
-    (seen (g.V.Windows.held x.window) x.state) c.fetches.ensures.change (room_of start c.requires.counted) in
-    let two = after_banks (g.V.Windows.blocks x.window) (g.V.Windows.budget x.window) (n + 1) n
-    (seen (g.V.Windows.held x.window) x.state) (seen (g.V.Windows.held y.window) y.state)
-    c.reads_answered.ensures.change one in
     let z = c.answers.new.self in
     let t = c.works_on.new.self in
-    let three = after_answers (g.V.Windows.blocks y.window) (g.V.Windows.budget y.window) (n + 1) n
-    (seen (g.V.Windows.held y.window) y.state) (seen (g.V.Windows.held z.window) z.state)
-    c.answers.ensures.change two in
-    let four = after_works (g.V.Windows.blocks z.window) (g.V.Windows.budget z.window) (n + 1) n
-    (seen (g.V.Windows.held z.window) z.state) (seen (g.V.Windows.held t.window) t.state)
-    c.works_on.ensures.change three in
+    let two = after_reads (g.V.Windows.blocks v) (g.V.Windows.blocks x.window) (g.V.Windows.budget v)
+    (g.V.Windows.budget x.window) (seen (g.V.Windows.held v) c.args.grid.now.state)
+    (seen (g.V.Windows.held x.window) x.state) (seen (g.V.Windows.held y.window) y.state) c.fetches.ensures.change
+    c.reads_answered.ensures.change c.requires.counted in
+    let four = after_units (g.V.Windows.blocks y.window) (g.V.Windows.blocks z.window) (g.V.Windows.budget y.window)
+    (g.V.Windows.budget z.window) (n + 1) n (seen (g.V.Windows.held y.window) y.state)
+    (seen (g.V.Windows.held z.window) z.state) (seen (g.V.Windows.held t.window) t.state) c.answers.ensures.change
+    c.works_on.ensures.change two in
     let few = flushed_fit (n + 1) n (seen (g.V.Windows.held t.window) t.state) four in
     let room = c.requires.cycles in
     omega (arith, few, room)
-
-pub returns-clause-counted : goal.returns-clause-counted
-returns-clause-counted g c =
-    let v = c.args.grid.now.window in
-    let n = c.args.grid.now.state.counts.cycles in
-    let start = seen (g.V.Windows.held v) c.args.grid.now.state in
-    let x = c.fetches.new.self in
-    let y = c.reads_answered.new.self in
-    let one = after_fetches (g.V.Windows.blocks v) (g.V.Windows.budget v) n n start
-    (seen (g.V.Windows.held x.window) x.state) c.fetches.ensures.change (room_of start c.requires.counted) in
-    let two = after_banks (g.V.Windows.blocks x.window) (g.V.Windows.budget x.window) (n + 1) n
-    (seen (g.V.Windows.held x.window) x.state) (seen (g.V.Windows.held y.window) y.state)
-    c.reads_answered.ensures.change one in
-    let z = c.answers.new.self in
-    let t = c.works_on.new.self in
-    let three = after_answers (g.V.Windows.blocks y.window) (g.V.Windows.budget y.window) (n + 1) n
-    (seen (g.V.Windows.held y.window) y.state) (seen (g.V.Windows.held z.window) z.state)
-    c.answers.ensures.change two in
-    let four = after_works (g.V.Windows.blocks z.window) (g.V.Windows.budget z.window) (n + 1) n
-    (seen (g.V.Windows.held z.window) z.state) (seen (g.V.Windows.held t.window) t.state)
-    c.works_on.ensures.change three in
-    let h = c.moves.new.grid in
-    let five = after_moves (g.V.Windows.blocks t.window) (g.V.Windows.budget t.window) g.W.Weather.next
-    g.W.Weather.follows (n + 1) n (seen (g.V.Windows.held t.window) t.state)
-    (seen (g.V.Windows.held h.window) h.state)
-    c.moves.ensures.change four in
-    counted_of (n + 1) (n + 1) (seen (g.V.Windows.held h.window) h.state) (omega arith) five
-
-pub returns-clause-cycles : goal.returns-clause-cycles
-returns-clause-cycles g c =
-    let v = c.args.grid.now.window in
-    let n = c.args.grid.now.state.counts.cycles in
-    let start = seen (g.V.Windows.held v) c.args.grid.now.state in
-    let x = c.fetches.new.self in
-    let y = c.reads_answered.new.self in
-    let one = after_fetches (g.V.Windows.blocks v) (g.V.Windows.budget v) n n start
-    (seen (g.V.Windows.held x.window) x.state) c.fetches.ensures.change (room_of start c.requires.counted) in
-    let two = after_banks (g.V.Windows.blocks x.window) (g.V.Windows.budget x.window) (n + 1) n
-    (seen (g.V.Windows.held x.window) x.state) (seen (g.V.Windows.held y.window) y.state)
-    c.reads_answered.ensures.change one in
-    let z = c.answers.new.self in
-    let t = c.works_on.new.self in
-    let three = after_answers (g.V.Windows.blocks y.window) (g.V.Windows.budget y.window) (n + 1) n
-    (seen (g.V.Windows.held y.window) y.state) (seen (g.V.Windows.held z.window) z.state)
-    c.answers.ensures.change two in
-    let four = after_works (g.V.Windows.blocks z.window) (g.V.Windows.budget z.window) (n + 1) n
-    (seen (g.V.Windows.held z.window) z.state) (seen (g.V.Windows.held t.window) t.state)
-    c.works_on.ensures.change three in
-    let h = c.moves.new.grid in
-    let five = after_moves (g.V.Windows.blocks t.window) (g.V.Windows.budget t.window) g.W.Weather.next
-    g.W.Weather.follows (n + 1) n (seen (g.V.Windows.held t.window) t.state)
-    (seen (g.V.Windows.held h.window) h.state)
-    c.moves.ensures.change four in
-    five.cycles
 
 pub returns-clause-change : goal.returns-clause-change
 returns-clause-change g c =
@@ -163,3 +98,19 @@ returns-clause-change g c =
     ∙ ap₂ (λ i j. reads_answered i j (seen (g.V.Windows.held x.window) x.state)) image_one budget_one
     ∙ ap (reads_answered bs b) c.fetches.ensures.change)))
     c.moves.ensures.change
+
+pub returns-clause-counted : goal.returns-clause-counted
+returns-clause-counted g c =
+    let v = c.args.grid.now.window in
+    let h = c.moves.new.grid in
+    moves_counted g.W.Weather.next g.W.Weather.follows (g.V.Windows.blocks v) (g.V.Windows.budget v)
+    (seen (g.V.Windows.held v) c.args.grid.now.state) (seen (g.V.Windows.held h.window) h.state) c.requires.counted
+    (returns-clause-change g c)
+
+pub returns-clause-cycles : goal.returns-clause-cycles
+returns-clause-cycles g c =
+    let v = c.args.grid.now.window in
+    let h = c.moves.new.grid in
+    moves_cycles g.W.Weather.next g.W.Weather.follows (g.V.Windows.blocks v) (g.V.Windows.budget v)
+    (seen (g.V.Windows.held v) c.args.grid.now.state) (seen (g.V.Windows.held h.window) h.state)
+    (returns-clause-change g c)
