@@ -7,10 +7,8 @@ use Rattle.std.proofs.lemmas.Bool.Decides.{nat_tests}
 use Rattle.c_tree.specs.declared.Kind.{Kind}
 use Rattle.c_tree.specs.declared.UnaryOp.{UnaryOp}
 use Rattle.c_tree.specs.declared.BinaryOp.{BinaryOp}
-use Rattle.c_tree.specs.declared.BinaryOp.TheVariants.{LogicalOr, LogicalAnd, BitOr, BitXor, BitAnd}
-use Rattle.c_tree.specs.declared.BinaryOp.TheVariants.{Equal, NotEqual, Less, Greater, LessEqual}
-use Rattle.c_tree.specs.declared.BinaryOp.TheVariants.{GreaterEqual, ShiftLeft, ShiftRight, Add}
-use Rattle.c_tree.specs.declared.BinaryOp.TheVariants.{Subtract, Multiply, Divide, Remainder}
+use Rattle.c_tree.specs.declared.BinaryOp.TheVariants.{LogicalOr, LogicalAnd}
+use Rattle.c_tree.specs.declared.BinaryOp.TheVariants.{ShiftLeft, ShiftRight}
 use Rattle.c_tree.specs.declared.Place.{Place}
 use Rattle.c_tree.specs.declared.Place.TheVariants.{Global, Scalar, Array}
 use Rattle.c_tree.specs.declared.Slot.TheVariants as slot
@@ -40,7 +38,7 @@ use Rattle.ir_forms.specs.inside.Cells as cells
 use Rattle.ir_forms.specs.inside.FlatSteps.{State, read}
 use Rattle.ir_forms.specs.inside.FlatRuns.{checked}
 use Rattle.ir_forms.proofs.Steps.{if_one, if_other}
-use Rattle.flat_lower.specs.inside.Tree.{kind_of}
+use Rattle.flat_lower.specs.inside.Tree.{Expr, kind_of}
 use Rattle.flat_lower.specs.inside.Tree as tree
 use Rattle.flat_lower.specs.inside.TreeViews.{expr_of}
 use Rattle.c_constant.specs.Kinds.{IsWord}
@@ -49,14 +47,16 @@ use Rattle.flat_lower.specs.inside.Operations.{temp, scratch, set_word, copied, 
 use Rattle.flat_lower.specs.inside.Operations.{binary_code, unary_code, load_op}
 use Rattle.flat_lower.specs.inside.Objects.{Context, global_at, address_code}
 use Rattle.flat_lower.specs.inside.Expressions.{with_kind, global_code, name_code, element_code, tested}
-use Rattle.flat_lower.specs.inside.Expressions.{binary_end, operand_at, expr_code}
+use Rattle.flat_lower.specs.inside.Expressions.{binary_end, strict_code, operand_at, expr_code}
+use Rattle.flat_lower.specs.inside.Powers.{immediate_for, immediate_code}
 use Rattle.flat_lower.specs.inside.Fits.{GlobalIs, FitsName, FitsWhole, IsOperand, FitsRight, FitsStrict}
 use Rattle.flat_lower.specs.inside.Fits.{FitsBinary, FitsUnary, FitsExpr, FitsKind}
 use Rattle.flat_lower.specs.inside.Sizes.{nodes}
 use Rattle.c_constant.proofs.Conversions.{converted_is}
 use Rattle.flat_lower.proofs.Straight.{Puts, puts_none, puts_let, puts_both, puts_as, puts_within}
-use Rattle.flat_lower.proofs.Straight.{var_read, IsRight, IsStrict, Works, binary_works}
-use Rattle.flat_lower.proofs.Straight.{unary_works, here_works}
+use Rattle.flat_lower.proofs.Straight.{var_read}
+use Rattle.flat_lower.proofs.OperationWorks.{IsRight, IsStrict, Works, binary_works}
+use Rattle.flat_lower.proofs.UnaryWorks.{unary_works, here_works}
 use Rattle.flat_lower.proofs.Objects.{element_at, Holds}
 use Rattle.flat_lower.proofs.TreeFacts.{kind_is}
 use Rattle.flat_lower.proofs.Follows.{Post, Follows, needed, wanted, moved}
@@ -68,6 +68,8 @@ use Rattle.flat_lower.proofs.Values.{KeptIs, ValueIs, Valued, value_at, kept_at,
 use Rattle.flat_lower.proofs.Values.{keeps_both, functions, base, FollowsOf, run, code, keeps_set}
 use Rattle.flat_lower.proofs.Values.{value_end, operand, spending}
 use Rattle.flat_lower.proofs.Simple.{FollowsHere}
+use Rattle.flat_lower.proofs.PowerLaws.{has_constant, immediate_works}
+use Rattle.flat_lower.proofs.Constants.{then_spent, constant_means, constant_fits, constant_nodes}
 
 module _ (P : TypedProgram) (most : ℕ) (S : Scene) (y : IsScene P S) where
   -- TWO OPERANDS
@@ -78,108 +80,33 @@ module _ (P : TypedProgram) (most : ℕ) (S : Scene) (y : IsScene P S) where
       ≡ then (meaning P (Of l) s) (after_left (meaning P) o l.kind r)
   binary_is LogicalOr t l r s = absurd t
   binary_is LogicalAnd t l r s = absurd t
-  binary_is BitOr t l r s = refl
-  binary_is BitXor t l r s = refl
-  binary_is BitAnd t l r s = refl
-  binary_is Equal t l r s = refl
-  binary_is NotEqual t l r s = refl
-  binary_is Less t l r s = refl
-  binary_is Greater t l r s = refl
-  binary_is LessEqual t l r s = refl
-  binary_is GreaterEqual t l r s = refl
-  binary_is ShiftLeft t l r s = refl
-  binary_is ShiftRight t l r s = refl
-  binary_is Add t l r s = refl
-  binary_is Subtract t l r s = refl
-  binary_is Multiply t l r s = refl
-  binary_is Divide t l r s = refl
-  binary_is Remainder t l r s = refl
+  binary_is _ t l r s = refl
 
+  -- the right operand of an operation that evaluates both goes one temporary higher
   pub depth_is : (o : BinaryOp) → IsStrict (functions P most) (base P most) S.env o → (d : ℕ)
       → operand_at o d ≡ suc d
   depth_is LogicalOr t d = absurd t
   depth_is LogicalAnd t d = absurd t
-  depth_is BitOr t d = refl
-  depth_is BitXor t d = refl
-  depth_is BitAnd t d = refl
-  depth_is Equal t d = refl
-  depth_is NotEqual t d = refl
-  depth_is Less t d = refl
-  depth_is Greater t d = refl
-  depth_is LessEqual t d = refl
-  depth_is GreaterEqual t d = refl
-  depth_is ShiftLeft t d = refl
-  depth_is ShiftRight t d = refl
-  depth_is Add t d = refl
-  depth_is Subtract t d = refl
-  depth_is Multiply t d = refl
-  depth_is Divide t d = refl
-  depth_is Remainder t d = refl
+  depth_is _ t d = refl
 
   pub end_is : (o : BinaryOp) → IsStrict (functions P most) (base P most) S.env o
-      → (k : Option Kind) (d : ℕ) (right : Code)
-      → binary_end o k d right ≡ Then right
-      (with_kind k (λ k. binary_code o k (temp d) (temp (suc d))))
-  end_is LogicalOr t k d right = absurd t
-  end_is LogicalAnd t k d right = absurd t
-  end_is BitOr t k d right = refl
-  end_is BitXor t k d right = refl
-  end_is BitAnd t k d right = refl
-  end_is Equal t k d right = refl
-  end_is NotEqual t k d right = refl
-  end_is Less t k d right = refl
-  end_is Greater t k d right = refl
-  end_is LessEqual t k d right = refl
-  end_is GreaterEqual t k d right = refl
-  end_is ShiftLeft t k d right = refl
-  end_is ShiftRight t k d right = refl
-  end_is Add t k d right = refl
-  end_is Subtract t k d right = refl
-  end_is Multiply t k d right = refl
-  end_is Divide t k d right = refl
-  end_is Remainder t k d right = refl
+      → (k : Option Kind) (d : ℕ) (m : Option ℕ) (right : Code)
+      → binary_end o k d m right ≡ strict_code o k d m right
+  end_is LogicalOr t k d m right = absurd t
+  end_is LogicalAnd t k d m right = absurd t
+  end_is _ t k d m right = refl
 
   pub strict_is : (o : BinaryOp) → IsStrict (functions P most) (base P most) S.env o
       → (j : Kind) (r : Option Kind) (k : Kind) → FitsBinary o (Some j) r k → FitsStrict o j r k
   strict_is LogicalOr t j r k h = absurd t
   strict_is LogicalAnd t j r k h = absurd t
-  strict_is BitOr t j r k h = h
-  strict_is BitXor t j r k h = h
-  strict_is BitAnd t j r k h = h
-  strict_is Equal t j r k h = h
-  strict_is NotEqual t j r k h = h
-  strict_is Less t j r k h = h
-  strict_is Greater t j r k h = h
-  strict_is LessEqual t j r k h = h
-  strict_is GreaterEqual t j r k h = h
-  strict_is ShiftLeft t j r k h = h
-  strict_is ShiftRight t j r k h = h
-  strict_is Add t j r k h = h
-  strict_is Subtract t j r k h = h
-  strict_is Multiply t j r k h = h
-  strict_is Divide t j r k h = h
-  strict_is Remainder t j r k h = h
+  strict_is _ t j r k h = h
 
   pub no_kind : (o : BinaryOp) → IsStrict (functions P most) (base P most) S.env o
       → (r : Option Kind) (k : Kind) → FitsBinary o None r k → ⊥
   no_kind LogicalOr t r k h = t
   no_kind LogicalAnd t r k h = t
-  no_kind BitOr t r k h = h
-  no_kind BitXor t r k h = h
-  no_kind BitAnd t r k h = h
-  no_kind Equal t r k h = h
-  no_kind NotEqual t r k h = h
-  no_kind Less t r k h = h
-  no_kind Greater t r k h = h
-  no_kind LessEqual t r k h = h
-  no_kind GreaterEqual t r k h = h
-  no_kind ShiftLeft t r k h = h
-  no_kind ShiftRight t r k h = h
-  no_kind Add t r k h = h
-  no_kind Subtract t r k h = h
-  no_kind Multiply t r k h = h
-  no_kind Divide t r k h = h
-  no_kind Remainder t r k h = h
+  no_kind _ t r k h = h
 
   same_right : (kr j : Kind) (b : ℕ) → Some kr ≡ Some j → IsWord kr b → IsWord j b
   same_right kr j b e f = subst (λ k. IsWord k b) (cc e) f
@@ -189,22 +116,7 @@ module _ (P : TypedProgram) (most : ℕ) (S : Scene) (y : IsScene P S) where
       → FitsRight o j r → IsWord kr b → IsRight (functions P most) (base P most) S.env o j b
   right_fits ShiftLeft j r kr b e h f = f.below
   right_fits ShiftRight j r kr b e h f = f.below
-  right_fits LogicalOr j r kr b e h f = same_right kr j b (sym e ∙ h) f
-  right_fits LogicalAnd j r kr b e h f = same_right kr j b (sym e ∙ h) f
-  right_fits BitOr j r kr b e h f = same_right kr j b (sym e ∙ h) f
-  right_fits BitXor j r kr b e h f = same_right kr j b (sym e ∙ h) f
-  right_fits BitAnd j r kr b e h f = same_right kr j b (sym e ∙ h) f
-  right_fits Equal j r kr b e h f = same_right kr j b (sym e ∙ h) f
-  right_fits NotEqual j r kr b e h f = same_right kr j b (sym e ∙ h) f
-  right_fits Less j r kr b e h f = same_right kr j b (sym e ∙ h) f
-  right_fits Greater j r kr b e h f = same_right kr j b (sym e ∙ h) f
-  right_fits LessEqual j r kr b e h f = same_right kr j b (sym e ∙ h) f
-  right_fits GreaterEqual j r kr b e h f = same_right kr j b (sym e ∙ h) f
-  right_fits Add j r kr b e h f = same_right kr j b (sym e ∙ h) f
-  right_fits Subtract j r kr b e h f = same_right kr j b (sym e ∙ h) f
-  right_fits Multiply j r kr b e h f = same_right kr j b (sym e ∙ h) f
-  right_fits Divide j r kr b e h f = same_right kr j b (sym e ∙ h) f
-  right_fits Remainder j r kr b e h f = same_right kr j b (sym e ∙ h) f
+  right_fits _ j r kr b e h f = same_right kr j b (sym e ∙ h) f
 
   -- the operation itself, where both values stand in their temporaries
   pub strict_end : (o : BinaryOp) (k j : Kind) (r : Option Kind) (d a b top low : ℕ) (f0 g : State)
@@ -247,6 +159,69 @@ module _ (P : TypedProgram) (most : ℕ) (S : Scene) (y : IsScene P S) where
       (strict_end o k j (kind_of (expr_of r)) d a b top low f0 g2 s2 st ld ts
       (keeps_both S d (suc d) f0 g g2 s1 s2 (omega arith) va.keeps vb.keeps) ha vb.is fa fb hu hl)
 
+  -- an operation on a constant has its right operand of its type
+  right_kind : (o : BinaryOp) (j : Kind) (r : Expr) (m : ℕ) → immediate_for o (Some j) r ≡ Some m
+      → FitsRight o j (kind_of r) → kind_of r ≡ Some j
+  right_kind ShiftLeft j r m e h = absurd (cc e)
+  right_kind ShiftRight j r m e h = absurd (cc e)
+  right_kind _ j r m e h = h
+
+  -- the operation on the left operand and a constant
+  constant_end : (o : BinaryOp) (k j : Kind) (l r : TypedExpr) (m : ℕ) → Some j ≡ l.kind
+      → immediate_for o (Some j) (expr_of r) ≡ Some m → (d a top low : ℕ) (f0 g : State)
+      (s : eval.State) → d < 16 → FitsExpr (scope P S) (suc d) (expr_of r)
+      → FitsStrict o j (kind_of (expr_of r)) k → ValueIs S d l.kind f0 a s g → 8 * s.stock + 7 ≤ top
+      → low ≤ s.stock + most * g.rounds - nodes (expr_of r)
+      → FollowsHere P most S y d (Some k) f0 (immediate_code o m (temp d)) g top low
+      (then (meaning P (Of r) s) (operated o l.kind a))
+  constant_end o k j l r m ej em d a top low f0 g s ld fr t v hu hl =
+      let c = has_constant o j (expr_of r) m em in
+      let b = immediate_code o m (temp d) in
+      let kinds : j ≡ v.kind = cc (ej ∙ v.is_kind) in
+      let fa : IsWord j a = subst (λ k. IsWord k a) (sym kinds) v.fits in
+      let fw = constant_fits (scope P S) (suc d) (expr_of r) j c.word fr
+      (right_kind o j (expr_of r) m em t.1) c.is in
+      let some = constant_nodes (expr_of r) c.word c.is in
+      let z = ap (λ z. then z (operated o l.kind a)) (constant_means P r c.word s c.is)
+      ∙ then_spent s.stock s c.word (operated o l.kind a) in
+      subst (λ z. FollowsHere P most S y d (Some k) f0 b g top low z) (sym z)
+      (spending P most S y (Valued S d (Some k) f0) b s g top low
+      (λ (s1 : eval.State). operated o l.kind a (Value c.word) s1) v.keeps.rel (omega arith) (λ n q rn.
+      let s0 = record s { stock = n } in
+      subst (λ i. FollowsHere P most S y d (Some k) f0 b g top low (given (binary_of o i a c.word) s0)) ej
+      (needed most (Valued S d (Some k) f0) (run P most S y b g) top low (operate o j a c.word) s0
+      (λ w. Go (Value w) s0) (λ w ew.
+      let x = immediate_works (functions P most) (base P most) S.env o j (expr_of r) m g (temp d) a c.word w
+      em c.is t.0 v.is fa fw ew in
+      value_end P most S y d (Some k) f0 g b 3 80 w top low s0 k ld (omega arith) refl
+      (subst (λ k. IsWord k w) (sym t.2) x.fits) (record { rel = rn; kept = v.keeps.kept })
+      x.puts (omega arith) (omega arith)))))
+
+  -- the right operand behind the left one, and the operation
+  right_end : (o : BinaryOp) (k j : Option Kind) (l r : TypedExpr) (m : Option ℕ) → j ≡ l.kind
+      → immediate_for o j (expr_of r) ≡ m → (d a top low : ℕ) (f0 g : State) (s : eval.State)
+      → IsStrict (functions P most) (base P most) S.env o → suc d < 16 → FollowsOf P most r s
+      → FitsExpr (scope P S) (suc d) (expr_of r) → FitsKind k (FitsBinary o j (kind_of (expr_of r)))
+      → ValueIs S d l.kind f0 a s g → 8 * s.stock + 7 ≤ top
+      → low ≤ s.stock + most * g.rounds - nodes (expr_of r)
+      → FollowsHere P most S y d k f0 (strict_code o j d m (code P most S y (suc d) r)) g top low
+      (then (meaning P (Of r) s) (operated o l.kind a))
+  right_end o k j l r None ej em d a top low f0 g s st ld h fr t v hu hl =
+      let c = with_kind j (λ k. binary_code o k (temp d) (temp (suc d))) in
+      operand P most S y (Valued S d k f0) r (suc d) c s g top low (operated o l.kind a) h fr v.keeps.rel
+      (omega arith) hl
+      (λ v2 s2 g2 t2 hv ls us ds.
+      wanted most (Valued S d k f0) (run P most S y c g2) (top - t2) low v2 s2
+      (λ b. given (binary_of o l.kind a b) s2) (λ b eb.
+      let vb = value_at S (suc d) r.kind g v2 b s2 g2 eb hv in
+      second_end o k j l r ej d a b (top - t2) low f0 g g2 s s2 st ld t v vb (omega arith) (omega arith)))
+  right_end o None j l r (Some m) ej em d a top low f0 g s st ld h fr t v hu hl = absurd t
+  right_end o (Some k) None l r (Some m) ej em d a top low f0 g s st ld h fr t v hu hl =
+      absurd (no_kind o st (kind_of (expr_of r)) k t)
+  right_end o (Some k) (Some j) l r (Some m) ej em d a top low f0 g s st ld h fr t v hu hl =
+      constant_end o k j l r m ej em d a top low f0 g s (omega arith) fr
+      (strict_is o st j (kind_of (expr_of r)) k t) v hu hl
+
   -- an operation on both operands
   pub strict_node : (k : Option Kind) (o : BinaryOp) (l r : TypedExpr) (d top low : ℕ)
       (s : eval.State) (f : State) → IsStrict (functions P most) (base P most) S.env o → suc d < 16
@@ -258,35 +233,28 @@ module _ (P : TypedProgram) (most : ℕ) (S : Scene) (y : IsScene P S) where
       (tree.Binary k o (expr_of l) (expr_of r))) f top low
       (spend s (opened (meaning P) P (node.Binary o l r)))
   strict_node k o l r d top low s f st ld h t rl hu hl =
-      let c = with_kind (kind_of (expr_of l)) (λ k. binary_code o k (temp d) (temp (suc d))) in
-      let whole : expr_code (context P S) d (tree.Binary k o (expr_of l) (expr_of r)) ≡ Then (code P most S y d l)
-      (Then (code P most S y (suc d) r) c) =
+      let j = kind_of (expr_of l) in
+      let m = immediate_for o j (expr_of r) in
+      let c = strict_code o j d m (code P most S y (suc d) r) in
+      let whole : expr_code (context P S) d (tree.Binary k o (expr_of l) (expr_of r)) ≡ Then (code P most S y d l) c =
       ap (λ (x : Code). Then (code P most S y d l) x)
-      (end_is o st (kind_of (expr_of l)) d (code P most S y (operand_at o d) r)
-      ∙ ap (λ n. Then (code P most S y n r) c) (depth_is o st d)) in
+      (end_is o st j d m (code P most S y (operand_at o d) r)
+      ∙ ap (λ n. strict_code o j d m (code P most S y n r)) (depth_is o st d)) in
       let fits_r : FitsExpr (scope P S) (suc d) (expr_of r) = subst (λ n. FitsExpr (scope P S) n (expr_of r))
       (depth_is o st d) t.1 in
       subst (λ a. FollowsHere P most S y d k f a f top low
       (spend s (opened (meaning P) P (node.Binary o l r)))) (sym whole)
-      (spending P most S y (Valued S d k f)
-      (Then (code P most S y d l) (Then (code P most S y (suc d) r) c)) s f top low
+      (spending P most S y (Valued S d k f) (Then (code P most S y d l) c) s f top low
       (opened (meaning P) P (node.Binary o l r)) rl (omega arith) (λ n q rn.
       let s0 = record s { stock = n } in
-      subst (λ x. FollowsHere P most S y d k f
-      (Then (code P most S y d l) (Then (code P most S y (suc d) r) c)) f top low x)
+      subst (λ x. FollowsHere P most S y d k f (Then (code P most S y d l) c) f top low x)
       (sym (binary_is o st l r s0))
-      (operand P most S y (Valued S d k f) l d (Then (code P most S y (suc d) r) c) s0 f top low
+      (operand P most S y (Valued S d k f) l d c s0 f top low
       (after_left (meaning P) o l.kind r) (h l s0 (omega arith)) t.0 rn (omega arith)
       (omega arith)
       (λ v s1 g t1 hv ls us ds.
-      wanted most (Valued S d k f) (run P most S y (Then (code P most S y (suc d) r) c) g)
+      wanted most (Valued S d k f) (run P most S y c g)
       (top - t1) low v s1 (λ a. then (meaning P (Of r) s1) (operated o l.kind a)) (λ a ea.
       let va = value_at S d l.kind f v a s1 g ea hv in
-      operand P most S y (Valued S d k f) r (suc d) c s1 g (top - t1) low (operated o l.kind a)
-      (h r s1 (omega arith)) fits_r va.keeps.rel (omega arith) (omega arith)
-      (λ v2 s2 g2 t2 hv2 ls2 us2 ds2.
-      wanted most (Valued S d k f) (run P most S y c g2) (top - t1 - t2) low v2 s2
-      (λ b. given (binary_of o l.kind a b) s2) (λ b eb.
-      let vb = value_at S (suc d) r.kind g v2 b s2 g2 eb hv2 in
-      second_end o k (kind_of (expr_of l)) l r (kind_is l) d a b
-      (top - t1 - t2) low f g g2 s1 s2 st ld t.2 va vb (omega arith) (omega arith))))))))
+      right_end o k j l r m (kind_is l) refl d a (top - t1) low f g s1 st ld (h r s1 (omega arith))
+      fits_r t.2 va (omega arith) (omega arith))))))

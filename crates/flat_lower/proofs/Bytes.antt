@@ -39,6 +39,7 @@ held_same m n a zero h = refl
 held_same m n a (suc k) h = ap₂ (λ x c. x && is_held c.mark) (held_same m n a k (fewer m n a k h))
     (h k (omega arith))
 
+-- memories that are the same on some bytes have these open alike
 pub open_same : (m n : Memory) (a k : ℕ) → SameOn m n a k → all_open m a k ≡ all_open n a k
 open_same m n a zero h = refl
 open_same m n a (suc k) h = ap₂ (λ x c. x && is_open c.mark) (open_same m n a k (fewer m n a k h))
@@ -70,6 +71,7 @@ load_same k m n a h = go k h
 
 -- WHAT A SAVE DOES
 
+-- where a byte was put stands this byte
 pub byte_here : (m : Memory) (a b : ℕ) → byte_put m a b a ≡ record { mark = Held; byte = b }
 byte_here m a b =
     let e : nat_eq a a ≡ true = grind (arith, nat_tests) in
@@ -142,12 +144,14 @@ open_each m a (suc k) h i lt = go (open_each m a k
         let q : i ≢ k = grind (arith, nat_tests) in
         rest (omega arith)
 
+-- bytes of which each is open are all open
 pub each_open : (m : Memory) (a k : ℕ) → ((i : ℕ) → i < k → is_open (m (a + i)).mark ≡ true)
     → all_open m a k ≡ true
 each_open m a zero h = refl
 each_open m a (suc k) h = ap₂ (λ x y. x && y) (each_open m a k (λ i lt. h i (omega arith)))
     (h k (omega arith))
 
+-- a word that is put leaves open the bytes that were
 pub put_open : (k : ℕ) (m : Memory) (a v b n : ℕ) → all_open m b n ≡ true
     → all_open (number_put m a k v) b n ≡ true
 put_open k m a v b n h = each_open (number_put m a k v) b n

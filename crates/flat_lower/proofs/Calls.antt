@@ -70,12 +70,14 @@ pub record TypedAt (fs : List TypedFunc) (j : ℕ) (g : Func) : Type 0 where
   pub found : slice_get fs j ≡ Some f
   pub is : func_of f ≡ g
 
+-- each function of the source is the one of a typed function
 pub typed_at : (fs : List TypedFunc) (j : ℕ) (g : Func) → slice_get (map func_of fs) j ≡ Some g
     → TypedAt fs j g
 typed_at [] j g h = absurd (cc h)
 typed_at (f ∷ fs) zero g h = record { f = f; found = refl; is = cc h }
 typed_at (f ∷ fs) (suc j) g h = let x = typed_at fs j g h in record { f = x.f; found = x.found; is = x.is }
 
+-- each typed function is one of the source
 pub func_at : (fs : List TypedFunc) (j : ℕ) (f : TypedFunc) → slice_get fs j ≡ Some f
     → slice_get (map func_of fs) j ≡ Some (func_of f)
 func_at [] j f h = absurd (cc h)
@@ -86,15 +88,18 @@ func_at (g ∷ fs) (suc j) f h = func_at fs j f h
 pub within : (x m : ℕ) → nat_le x m ≡ true → nat_lt m x ≡ false
 within x m h = grind (arith, nat_tests)
 
+-- a number that is not found at most another is found larger
 pub beyond : (x m : ℕ) → nat_le x m ≡ false → nat_lt m x ≡ true
 beyond x m h = grind (arith, nat_tests)
 
+-- a number that is found at most another is so
 pub under : (x m : ℕ) → nat_le x m ≡ true → x ≤ m
 under x m h = grind (arith, nat_tests)
 
 same_count : (n m : ℕ) → nat_eq n m ≡ true → n ≡ m
 same_count n m h = grind (arith, nat_tests)
 
+-- the limit of frames is 2^20 bytes
 pub limit : frame_limit ≡ 1048576
 unfolding frame_limit
 limit = refl
@@ -297,6 +302,7 @@ module _ (P : TypedProgram) (most : ℕ) (sound : FitsSource (source_of P)) (lar
 
   -- THE NODE
 
+  -- the code of a call follows the evaluation, where its arguments and the functions' bodies do
   pub call_node : (k : Option Kind) (c : Callee) (es : List TypedExpr) (d top low : ℕ)
       (s : eval.State) (f : State) → ((e : TypedExpr) (s1 : eval.State) → s1.stock < s.stock
       → FollowsOf P most e s1) → ((st : TypedStmt) (s1 : eval.State) → s1.stock < s.stock

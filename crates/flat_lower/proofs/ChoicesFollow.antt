@@ -8,10 +8,7 @@ use Rattle.c_tree.specs.declared.Kind.{Kind}
 use Rattle.c_tree.specs.declared.Kind.TheVariants.{Int}
 use Rattle.c_tree.specs.declared.UnaryOp.{UnaryOp}
 use Rattle.c_tree.specs.declared.BinaryOp.{BinaryOp}
-use Rattle.c_tree.specs.declared.BinaryOp.TheVariants.{LogicalOr, LogicalAnd, BitOr, BitXor, BitAnd}
-use Rattle.c_tree.specs.declared.BinaryOp.TheVariants.{Equal, NotEqual, Less, Greater, LessEqual}
-use Rattle.c_tree.specs.declared.BinaryOp.TheVariants.{GreaterEqual, ShiftLeft, ShiftRight, Add}
-use Rattle.c_tree.specs.declared.BinaryOp.TheVariants.{Subtract, Multiply, Divide, Remainder}
+use Rattle.c_tree.specs.declared.BinaryOp.TheVariants.{LogicalOr, LogicalAnd}
 use Rattle.c_tree.specs.declared.Place.{Place}
 use Rattle.c_tree.specs.declared.Place.TheVariants.{Global, Scalar, Array}
 use Rattle.c_tree.specs.declared.Slot.TheVariants as slot
@@ -58,8 +55,9 @@ use Rattle.flat_lower.specs.inside.Sizes.{nodes}
 use Rattle.c_constant.proofs.Conversions.{converted_is}
 use Rattle.flat_lower.proofs.Operators.{test_fits}
 use Rattle.flat_lower.proofs.Straight.{Puts, puts_none, puts_let, puts_both, puts_as, puts_within}
-use Rattle.flat_lower.proofs.Straight.{var_read, IsRight, IsStrict, Works, binary_works}
-use Rattle.flat_lower.proofs.Straight.{unary_works, here_works}
+use Rattle.flat_lower.proofs.Straight.{var_read}
+use Rattle.flat_lower.proofs.OperationWorks.{IsRight, IsStrict, Works, binary_works}
+use Rattle.flat_lower.proofs.UnaryWorks.{unary_works, here_works}
 use Rattle.flat_lower.proofs.Objects.{element_at, Holds}
 use Rattle.flat_lower.proofs.TreeFacts.{kind_is}
 use Rattle.flat_lower.proofs.Follows.{Post, Follows, needed, wanted, moved}
@@ -145,6 +143,7 @@ module _ (P : TypedProgram) (most : ℕ) (S : Scene) (y : IsScene P S) where
       (suc w) v.is)) lt
       (leg k one d (top - 1) low s f0 g h1 t1 e1 v.keeps (omega arith) (omega arith)))
 
+  -- the code of a choice follows the evaluation, where its parts do
   pub choice_node : (k : Option Kind) (c one other : TypedExpr) (d top low : ℕ) (s : eval.State)
       (f : State) → d < 16 → ((e : TypedExpr) (s1 : eval.State) → s1.stock < s.stock
       → FollowsOf P most e s1) → FitsExpr (scope P S) d
@@ -169,6 +168,7 @@ module _ (P : TypedProgram) (most : ℕ) (S : Scene) (y : IsScene P S) where
       (h other s1 (omega arith)) t.1 t.2 (sym (kind_is one) ∙ t.3) (sym (kind_is other) ∙ t.4)
       (value_at S d c.kind f v w s1 g ew hv) (omega arith) (omega arith) (omega arith))))
 
+  -- the code of a comma follows the evaluation, where its parts do
   pub comma_node : (k : Option Kind) (l e : TypedExpr) (d top low : ℕ) (s : eval.State) (f : State)
       → d < 16 → ((e : TypedExpr) (s1 : eval.State) → s1.stock < s.stock → FollowsOf P most e s1)
       → FitsExpr (scope P S) d (tree.Comma k (expr_of l) (expr_of e)) → Related S s f
@@ -283,6 +283,7 @@ module _ (P : TypedProgram) (most : ℕ) (S : Scene) (y : IsScene P S) where
       (puts_let (functions P most) (base P most) S.env op.Mov (Const 1) (Const 0) g 1
       (temp d) 80 1 0 1 (omega arith) refl refl refl) (omega arith) (omega arith)))
 
+  -- the code of `&&` follows the evaluation, where its parts do
   pub and_node : (k : Option Kind) (l e : TypedExpr) (d top low : ℕ) (s : eval.State) (f : State)
       → d < 16 → ((e : TypedExpr) (s1 : eval.State) → s1.stock < s.stock → FollowsOf P most e s1)
       → FitsExpr (scope P S) d (tree.Binary k LogicalAnd (expr_of l) (expr_of e)) → Related S s f
@@ -307,6 +308,7 @@ module _ (P : TypedProgram) (most : ℕ) (S : Scene) (y : IsScene P S) where
       and_end e d w (top - t1) low s1 f g l.kind ld (h e s1 (omega arith)) t.1
       (value_at S d l.kind f v w s1 g ew hv) (omega arith) (omega arith) (omega arith)))))
 
+  -- the code of `||` follows the evaluation, where its parts do
   pub or_node : (k : Option Kind) (l e : TypedExpr) (d top low : ℕ) (s : eval.State) (f : State)
       → d < 16 → ((e : TypedExpr) (s1 : eval.State) → s1.stock < s.stock → FollowsOf P most e s1)
       → FitsExpr (scope P S) d (tree.Binary k LogicalOr (expr_of l) (expr_of e)) → Related S s f

@@ -59,6 +59,7 @@ pub ends : (c : Context) (d at : ℕ) (all : List TypedExpr) (old code : List Fl
     → SoFar c d at all [] old code vars → Adds old code (args_code c d (args_of all))
 ends c d at all old code vars s = record { is = sym (then_nop (code_of code)) ∙ s.written }
 
+-- once all arguments are placed, their variables are the temporaries from d on
 pub placed_all : (c : Context) (d at : ℕ) (all : List TypedExpr) (old code : List FlatStmt)
     (vars : List Arg)
     → SoFar c d at all [] old code vars → vars ≡ temps d (args_of all)

@@ -31,6 +31,7 @@ abbrev mutual
   stmts_in Continue = 1
   stmts_in (Return e) = 1
 
+  -- the statements in some statements, with those inside them
   pub stmts_in_all : Stmts → ℕ
   stmts_in_all NoStmts = 0
   stmts_in_all (WithStmt s rest) = stmts_in s + stmts_in_all rest
@@ -39,14 +40,17 @@ abbrev mutual
   stmts_in_sections NoSections = 0
   stmts_in_sections (WithSection ls body rest) = suc (stmts_in_all body + stmts_in_sections rest)
 
+  -- the statements in the first part of a `for`
   pub stmts_in_first : First → ℕ
   stmts_in_first Nothing = 0
   stmts_in_first (FirstOf e) = 0
   stmts_in_first (Locals all) = suc (stmts_in_all all)
 
+-- the statements in a typed statement, itself included
 abbrev pub count_stmt : TypedStmt → ℕ
 count_stmt s = stmts_in (stmt_of s)
 
+-- the statements in a block
 abbrev pub count_block : List TypedStmt → ℕ
 count_block all = stmts_in_all (block_of all)
 
@@ -80,6 +84,7 @@ pub stmts_end : (c : Context) (b : Around) (all : List TypedStmt) (old code : Li
     → StmtsSoFar c b all [] old code → Adds old code (stmts_code c b (block_of all))
 stmts_end c b all old code s = record { is = sym (then_nop (code_of code)) ∙ s.written }
 
+-- the statements in some sections of a switch
 abbrev pub count_sections : List TypedSection → ℕ
 count_sections xs = stmts_in_sections (sections_in xs)
 

@@ -28,8 +28,10 @@ abbrev mutual
   all_nodes NoExprs = 0
   all_nodes (WithExpr e rest) = nodes e + all_nodes rest
 
+-- the nodes in a typed expression
 abbrev pub count : TypedExpr → ℕ
 count e = nodes (expr_of e)
 
+-- the nodes in some arguments
 abbrev pub count_all : List TypedExpr → ℕ
 count_all args = all_nodes (args_of args)

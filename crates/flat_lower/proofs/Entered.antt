@@ -48,11 +48,13 @@ get_second (x ∷ xs) ys i =
     let e : suc (length xs) + i ≡ suc (length xs + i) = omega arith in
     ap (slice_get (x ∷ (xs ++ ys))) e ∙ get_second xs ys i
 
+-- a list of nothing has something nowhere
 pub none_of : {A : Type 0} (n i : ℕ) (a : A) → slice_get (replicate n None) i ≡ Some (Some a) → ⊥
 none_of zero i a h = cc h
 none_of (suc n) zero a h = cc h
 none_of (suc n) (suc i) a h = none_of n i a h
 
+-- n equal items are n items
 pub replicate_length : {A : Type 0} (n : ℕ) (a : A) → length (replicate n a) ≡ n
 replicate_length zero a = refl
 replicate_length (suc n) a = ap suc (replicate_length n a)
@@ -158,6 +160,7 @@ own_stored m lo size at (a ∷ rest) h t =
 -- THE SCENE
 
 module _ (P : TypedProgram) where
+  -- the scene of a function that is called from another one
   abbrev pub called_scene : Scene → TypedFunc → Function → Scene
   called_scene S f F = record {
     func = f;
@@ -171,6 +174,7 @@ module _ (P : TypedProgram) where
     pub scalars : F.scalars ≡ length f.scalars
     pub arrays : F.arrays ≡ all_bytes f.arrays
 
+  -- a typed function and its flat one have frames of one size
   pub frame_is : (f : TypedFunc) (F : Function) → LoweredIs f F → frame f ≡ frame_of F
   frame_is f F l = omega (arith, l.scalars, l.arrays)
 
@@ -180,6 +184,7 @@ module _ (P : TypedProgram) where
       go : (n : ℕ) → ((n + 7) / 8 * 8) % 8 ≡ 0
       go n = omega arith
 
+  -- the scene of a function that is called is one of the program
   pub called_is : (S : Scene) → IsScene P S → (f : TypedFunc) (F : Function) → LoweredIs f F
       → length f.scalars ≤ 64 → frames_from P + (S.env.used + frame_of F) ≤ data_size
       → IsScene P (called_scene S f F)
@@ -248,6 +253,7 @@ module _ (P : TypedProgram) where
   args_set objects (z ∷ zs) (a ∷ all) (w0 ∷ ws) (v ∷ vs) n (suc i) w x h sub e g =
       args_set objects zs all ws vs n i w x h.1 (λ j u k. sub (suc j) u k) e g
 
+  -- there are as many words as slots of arguments
   pub args_count : (objects : List Object) (slots : List Slot) (ws vs : List ℕ)
       → ArgsAre objects slots ws vs → length ws ≡ length slots
   args_count objects [] [] [] h = refl
@@ -272,6 +278,7 @@ module _ (P : TypedProgram) where
   append_length [] ys = omega arith
   append_length (x ∷ xs) ys = let e = append_length xs ys in omega arith
 
+  -- the state in which a called function begins is related to the one in which its evaluation does
   pub begins : (S : Scene) → IsScene P S → (f : TypedFunc) (F : Function) → LoweredIs f F
       → (ws vs : List ℕ) (s : eval.State) (g : State) → length ws ≤ length f.scalars
       → ArgsAre S.objects (take f.params f.scalars) ws vs → Related S s g

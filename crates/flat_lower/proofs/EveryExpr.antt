@@ -4,10 +4,7 @@ use Rattle.std.proofs.Common.{◌≡◌, ◌≢◌, ℕ, zero, suc, ◌+◌, ◌
 use Rattle.std.proofs.Common.{Option, Some, None, refl, sym, ap, ◌∙◌, subst, arith}
 use Rattle.c_tree.specs.declared.Kind.{Kind}
 use Rattle.c_tree.specs.declared.BinaryOp.{BinaryOp}
-use Rattle.c_tree.specs.declared.BinaryOp.TheVariants.{LogicalOr, LogicalAnd, BitOr, BitXor, BitAnd}
-use Rattle.c_tree.specs.declared.BinaryOp.TheVariants.{Equal, NotEqual, Less, Greater, LessEqual}
-use Rattle.c_tree.specs.declared.BinaryOp.TheVariants.{GreaterEqual, ShiftLeft, ShiftRight, Add}
-use Rattle.c_tree.specs.declared.BinaryOp.TheVariants.{Subtract, Multiply, Divide, Remainder}
+use Rattle.c_tree.specs.declared.BinaryOp.TheVariants.{LogicalOr, LogicalAnd}
 use Rattle.c_tree.specs.declared.TypedExpr.{TypedExpr}
 use Rattle.c_tree.specs.declared.TypedStmt.{TypedStmt}
 use Rattle.c_tree.specs.declared.TypedProgram.{TypedProgram}
@@ -32,7 +29,7 @@ use Rattle.flat_lower.specs.inside.Operations.{temp, converted_here}
 use Rattle.flat_lower.specs.inside.Expressions.{operand_at, expr_code}
 use Rattle.flat_lower.specs.inside.Fits.{FitsExpr, FitsSource}
 use Rattle.flat_lower.specs.inside.Sizes.{nodes, IsMost}
-use Rattle.flat_lower.proofs.Straight.{IsStrict}
+use Rattle.flat_lower.proofs.OperationWorks.{IsStrict}
 use Rattle.flat_lower.proofs.TreeFacts.{plain_node, expr_is, kind_is}
 use Rattle.flat_lower.proofs.Depths.{depth_fits}
 use Rattle.flat_lower.proofs.Follows.{Follows, then_follows, wanted}
@@ -117,22 +114,7 @@ module _ (P : TypedProgram) (most : ℕ) (sound : FitsSource (source_of P)) (lar
     node_follows (node.Binary LogicalAnd l e) hu t hl =
         and_node P most S y j l e d top low s f
         (depth_fits (scope P S) d (expr_of l) t.0) h.0 t r hu hl
-    node_follows (node.Binary BitOr l e) hu t hl = strict_here BitOr tt hu l e t hl
-    node_follows (node.Binary BitXor l e) hu t hl = strict_here BitXor tt hu l e t hl
-    node_follows (node.Binary BitAnd l e) hu t hl = strict_here BitAnd tt hu l e t hl
-    node_follows (node.Binary Equal l e) hu t hl = strict_here Equal tt hu l e t hl
-    node_follows (node.Binary NotEqual l e) hu t hl = strict_here NotEqual tt hu l e t hl
-    node_follows (node.Binary Less l e) hu t hl = strict_here Less tt hu l e t hl
-    node_follows (node.Binary Greater l e) hu t hl = strict_here Greater tt hu l e t hl
-    node_follows (node.Binary LessEqual l e) hu t hl = strict_here LessEqual tt hu l e t hl
-    node_follows (node.Binary GreaterEqual l e) hu t hl = strict_here GreaterEqual tt hu l e t hl
-    node_follows (node.Binary ShiftLeft l e) hu t hl = strict_here ShiftLeft tt hu l e t hl
-    node_follows (node.Binary ShiftRight l e) hu t hl = strict_here ShiftRight tt hu l e t hl
-    node_follows (node.Binary Add l e) hu t hl = strict_here Add tt hu l e t hl
-    node_follows (node.Binary Subtract l e) hu t hl = strict_here Subtract tt hu l e t hl
-    node_follows (node.Binary Multiply l e) hu t hl = strict_here Multiply tt hu l e t hl
-    node_follows (node.Binary Divide l e) hu t hl = strict_here Divide tt hu l e t hl
-    node_follows (node.Binary Remainder l e) hu t hl = strict_here Remainder tt hu l e t hl
+    node_follows (node.Binary o l e) hu t hl = strict_here o tt hu l e t hl
 
   -- an expression's level; a conversion stands over a node and costs no step
   level_follows : (x : Node) (S : Scene) (y : IsScene P S) (s : eval.State) → Parts s
@@ -144,6 +126,7 @@ module _ (P : TypedProgram) (most : ℕ) (sound : FitsSource (source_of P)) (lar
   level_follows (node.Convert to e) S y s h j d top low f r hu t hl =
       let X = plain_node (node_of e) e.kind in
       let down = s.stock + most * f.rounds - nodes X in
+      let b = converted_here (tree.kind_of (expr_of e)) to (temp d) in
       let lower : low ≤ down = subst (λ x. low ≤ s.stock + most * f.rounds - nodes x) (expr_is e) hl in
       let inner : FollowsHere P most S y d e.kind f (code P most S y d e) f (top - 1) down
       (level.node (meaning P) P (node_of e) s) =
@@ -152,15 +135,15 @@ module _ (P : TypedProgram) (most : ℕ) (sound : FitsSource (source_of P)) (lar
       (node_follows S y s h e.kind d (top - 1) down f r (node_of e) (omega arith)
       (subst (FitsExpr (scope P S) d) (expr_is e) t.0) (omega arith)) in
       then_follows (functions P most) (base P most) most S.env (Valued S d e.kind f)
-      (Valued S d j f) (code P most S y d e) (converted_here to (temp d)) f (top - 1) down top low
+      (Valued S d j f) (code P most S y d e) b f (top - 1) down top low
       (level.node (meaning P) P (node_of e) s) (converting to) inner (omega arith)
       lower
       (λ v s1 g t1 eq holds u l. let some = spent_some s.stock s (opened (meaning P) P (node_of e)) v s1 eq in (
         valued_settles S d e.kind f v s1 g holds,
-        wanted most (Valued S d j f) (run P most S y (converted_here to (temp d)) g)
+        wanted most (Valued S d j f) (run P most S y b g)
             (top - t1) low v s1 (λ a. Go (Value (converted to a)) s1) (λ a ea.
-            convert_end P most S y to j e.kind d a (top - t1) low f g s1
-            (depth_fits (scope P S) d (expr_of e) t.0) t.1
+            convert_end P most S y to j (tree.kind_of (expr_of e)) e.kind d a (top - t1) low f g s1
+            (depth_fits (scope P S) d (expr_of e) t.0) t.1 (kind_is e)
             (value_at S d e.kind f v a s1 g ea holds) (omega arith)
             (omega (arith, l, lower))),
       ))
@@ -189,6 +172,7 @@ module _ (P : TypedProgram) (most : ℕ) (sound : FitsSource (source_of P)) (lar
   level_follows (node.Comma l e) S y s h j d top low f r hu t hl =
       node_follows S y s h j d top low f r (node.Comma l e) (omega arith) t hl
 
+  -- the code of each expression follows the evaluation, where its parts do
   pub expr_follows : (e : TypedExpr) (s : eval.State) → Parts s → FollowsOf P most e s
   expr_follows e s h S y d top low f t r hu hl =
       subst (λ x. FollowsHere P most S y d e.kind f (code P most S y d e) f top low x)

@@ -43,6 +43,7 @@ Settles Breaks = ⊥
 Settles Continues = ⊥
 Settles (Returns w) = ⊥
 
+-- what is to hold of an end: of its signal and of both states
 abbrev pub Post : Type 1
 Post = Signal → eval.State → State → Type 0
 
@@ -60,11 +61,13 @@ pub record GoesIn (x : Around) (most : ℕ) (P : Post) (run : Run) (top low : �
 abbrev pub Goes : ℕ → Post → Run → ℕ → ℕ → Signal → eval.State → Type 0
 Goes most P run top low v s = GoesIn around.Loop most P run top low v s
 
+-- a run that ends too deep, within some turns and with the output so far
 pub record Dives (run : Run) (top : ℕ) (out : List ℕ) : Type 0 where
   pub t : ℕ
   pub upper : t ≤ top
   pub leads : Leads run t (λ k. TooDeep out)
 
+-- a run that has not ended with some turns, and has counted enough rounds
 pub record Halts (most : ℕ) (run : Run) (top low : ℕ) (out : List ℕ) : Type 0 where
   pub t : ℕ
   pub r : ℕ
@@ -72,11 +75,13 @@ pub record Halts (most : ℕ) (run : Run) (top low : ℕ) (out : List ℕ) : Typ
   pub lower : low ≤ most * r
   pub stops : Stops run t out r
 
+-- what a flat run does where the evaluation is over: it has not ended, or ends too deep, or does anything
 abbrev pub FollowsOver : ℕ → Run → ℕ → ℕ → Ending → List ℕ → Type 0
 FollowsOver most run top low More out = Halts most run top low out
 FollowsOver most run top low Undefined out = Unit {0}
 FollowsOver most run top low Deep out = Dives run top out
 
+-- what a flat run does inside a loop, a switch or neither, where the evaluation has this result
 abbrev pub FollowsIn : Around → ℕ → Post → Run → ℕ → ℕ → Result → Type 0
 FollowsIn x most P run top low (Go v s) = GoesIn x most P run top low v s
 FollowsIn x most P run top low (Over why s) = FollowsOver most run top low why s.output
@@ -195,6 +200,7 @@ weaker most P Q run top low (Go v s) h g =
 weaker most P Q run top low (Over why s) h g = g
 
 module _ (fs : List Function) (base most : ℕ) (e : Env) where
+  -- the run of some code in a state
   abbrev pub run_of : Code → State → Run
   run_of a f = code_run checked fs base e a f
 
@@ -222,6 +228,7 @@ module _ (fs : List Function) (base most : ℕ) (e : Env) where
   settles_in x Continues h = absurd h
   settles_in x (Returns w) h = absurd h
 
+  -- where a signal settles, a run inside a loop settles too
   pub settles_is : (v : Signal) → Settles v → ends_in around.Loop v ≡ settle
   settles_is = settles_in around.Loop
 
@@ -243,6 +250,7 @@ module _ (fs : List Function) (base most : ℕ) (e : Env) where
   then_follows_in z x P Q a b f up down top low (Over why s) next g hu hd h =
       over_first a b f up down top low why s.output hu hd g
 
+  -- two codes in a row follow the evaluation of two parts in a row, where each does
   pub then_follows : (P Q : Post) (a b : Code) (f : State) (up down top low : ℕ) (r : Result)
       (next : Signal → eval.State → Result) → Follows most P (run_of a f) up down r → up ≤ top
       → low ≤ down

@@ -38,6 +38,7 @@ ImageAt m lo bytes = (b : ℕ) → b < length bytes → m (lo + b) ≡ may_load 
 
 -- LISTS
 
+-- lists one behind the other are as long as both together
 pub both_length : {A : Type 0} (xs ys : List A) → length (xs ++ ys) ≡ length xs + length ys
 both_length [] ys = omega arith
 both_length (x ∷ xs) ys = let e = both_length xs ys in omega arith
@@ -67,6 +68,7 @@ pub image_first : (m : Memory) (lo : ℕ) (xs ys : List ℕ) → ImageAt m lo (x
 image_first m lo xs ys h b lt = h b (omega (arith, both_length xs ys))
     ∙ ap may_load (in_first xs ys b lt)
 
+-- behind the first bytes of an image stand its other ones
 pub image_rest : (m : Memory) (lo n : ℕ) (xs ys : List ℕ) → length xs ≡ n → ImageAt m lo (xs ++ ys)
     → ImageAt m (lo + n) ys
 image_rest m lo n xs ys e h b lt =
@@ -211,11 +213,13 @@ room_enough n = omega arith
 rounded_whole : (n : ℕ) → rounded n % 8 ≡ 0
 rounded_whole n = omega arith
 
+-- the elements of a global have room in its bytes
 pub global_room : (g : TypedGlobal) → bytes g.kind * length_of g.length ≤ global_bytes g
 global_room g =
     let e = all_bytes g.kind (length_of g.length) in let x = room_enough (length_of g.length * bytes g.kind) in
     omega arith
 
+-- the image of a global has its number of bytes
 pub global_length : (g : TypedGlobal) → FitsGlobal g → length (global_image g) ≡ global_bytes g
 global_length g t =
     let fits = fewer_bytes g.kind (length g.init) (length_of g.length) t.few in
@@ -232,6 +236,7 @@ all_words P [] h j v e = absurd (cc e)
 all_words P (w ∷ ws) h zero v e = let same : w ≡ v = cc e in subst P same (h 0 w (omega arith))
 all_words P (w ∷ ws) h (suc j) v e = all_words P ws (λ k d lt. h (suc k) d (omega arith)) j v e
 
+-- where a global's image stands, its first values are stored
 pub global_stored : (m : Memory) (lo : ℕ) (g : TypedGlobal) → FitsGlobal g
     → ImageAt m lo (global_image g) → lo % 8 ≡ 0 → lo + global_bytes g ≤ data_size
     → Stored (object lo g.kind (length_of g.length) g.row) (first_cells g) m

@@ -107,6 +107,7 @@ returned_word c (Some k) e j w h ej f =
     subst (λ k. IsWord k w) same f
 
 module _ (P : TypedProgram) (most : ℕ) (S : Scene) (y : IsScene P S) (x : Around) where
+  -- what the run of a statement's code does where its evaluation has this result
   abbrev pub EndsHere : Code → State → ℕ → ℕ → Result → Type 0
   EndsHere a f top low r = FollowsIn x most (EndedIn x S) (run P most S y a f) top low r
 
@@ -157,6 +158,7 @@ module _ (P : TypedProgram) (most : ℕ) (S : Scene) (y : IsScene P S) (x : Arou
         leads = p.leads;
       }
 
+  -- the code of a declaration follows the evaluation, where its first value does
   pub declare_ends : (p : Place) (e : Option TypedExpr) (top low : ℕ) (s : eval.State) (f : State)
       → ((e : TypedExpr) (s1 : eval.State) → s1.stock ≤ s.stock → FollowsOf P most e s1)
       → FitsDeclare (scope P S) p (expr_if e) → Related S s f → 8 * s.stock ≤ top
@@ -214,6 +216,7 @@ module _ (P : TypedProgram) (most : ℕ) (S : Scene) (y : IsScene P S) (x : Arou
 
   -- WHAT LEAVES
 
+  -- a return without a value follows the evaluation
   pub return_ends : (s : eval.State) (f : State) (top low : ℕ)
       → FitsReturn (scope P S) S.func.result None → Related S s f → 1 + 8 * s.stock ≤ top
       → low ≤ s.stock + most * f.rounds → EndsHere (only (flat.Return None)) f top low
@@ -228,6 +231,7 @@ module _ (P : TypedProgram) (most : ℕ) (S : Scene) (y : IsScene P S) (x : Arou
         return_none_leads checked (functions P most) (base P most) S.env f;
   }
 
+  -- a return with a value follows the evaluation, where the value does
   pub value_ends : (e : TypedExpr) (s : eval.State) (f : State) (top low : ℕ) → FollowsOf P most e s
       → FitsReturn (scope P S) S.func.result (Some (expr_of e)) → Related S s f → 8 * s.stock ≤ top
       → low ≤ s.stock + most * f.rounds - nodes (expr_of e)
@@ -288,6 +292,7 @@ module _ (P : TypedProgram) (most : ℕ) (S : Scene) (y : IsScene P S) where
     leads = break_leads checked (functions P most) (base P most) S.env f;
   }
 
+  -- the code of a break follows the evaluation
   pub break_ends : (x : Around) (s : eval.State) (f : State) (top low : ℕ) → Related S s f
       → 2 + 8 * s.stock ≤ top → low ≤ s.stock + most * f.rounds
       → EndsHere P most S y x (break_code x) f top low (Go Breaks s)

@@ -1,10 +1,17 @@
 pub mod Words
 pub mod Operators
+pub mod Quotients
 pub mod Patterns
+pub mod Narrowings
 pub mod Straight
+pub mod OperationWorks
+pub mod UnaryWorks
+pub mod BumpWorks
+pub mod PowerLaws
 pub mod Bytes
 pub mod Objects
 pub mod TreeFacts
+pub mod Constants
 pub mod Follows
 pub mod Related
 pub mod Pieces
@@ -17,7 +24,10 @@ pub mod Binary
 pub mod ChoicesFollow
 pub mod Stores
 pub mod Bumps
+pub mod BumpedPlaces
 pub mod Assigns
+pub mod CompoundStores
+pub mod AssignedPlaces
 pub mod Entered
 pub mod Returns
 pub mod CallsFollow
@@ -27,6 +37,7 @@ pub mod EveryExpr
 pub mod LeafStatements
 pub mod PlainEnds
 pub mod Loops
+pub mod DoLoops
 pub mod SwitchLabels
 pub mod Sequences
 pub mod SwitchSections
@@ -34,6 +45,7 @@ pub mod SwitchCounts
 pub mod SwitchEnds
 pub mod SwitchWhole
 pub mod EveryStmt
+pub mod LoopBeginnings
 pub mod Image
 pub mod Starts
 pub mod LoweredMeaning
@@ -45,6 +57,7 @@ pub mod EmitAddresses
 pub mod EmitTrees
 pub mod EmitSides
 pub mod EmitPlain
+pub mod EmitConstants
 pub mod EmitWeights
 pub mod EmitArguments
 pub mod EmitImages

@@ -1,6 +1,6 @@
 -- The turns of loops follow the evaluation.
-use Rattle.std.proofs.Common.{◌≡◌, ◌≢◌, ℕ, zero, suc, ◌+◌, ◌-◌, ◌*◌, ◌<◌, ◌≤◌, Bool, true, false}
-use Rattle.std.proofs.Common.{cond, List, [], ◌∷◌, Option, Some, None, refl, sym, ap, ◌∙◌, subst}
+use Rattle.std.proofs.Common.{◌≡◌, ℕ, zero, suc, ◌+◌, ◌-◌, ◌*◌, ◌<◌, ◌≤◌, Bool, true, false}
+use Rattle.std.proofs.Common.{cond, Option, Some, None, refl, sym, ap, ◌∙◌, subst}
 use Rattle.std.proofs.Common.{mul-suc, arith}
 use Rattle.c_tree.specs.declared.TypedExpr.{TypedExpr}
 use Rattle.c_tree.specs.declared.TypedStmt.{TypedStmt}
@@ -15,14 +15,14 @@ use Rattle.c_meaning_spec.specs.State as eval
 use Rattle.c_meaning_spec.specs.Word.{is_false}
 use Rattle.c_meaning_spec.specs.Task.{Of, Turn}
 use Rattle.c_meaning_spec.specs.Task as task
-use Rattle.c_meaning_spec.specs.Statement.{then_turn, after_body, after_test, turn}
+use Rattle.c_meaning_spec.specs.Statement.{then_turn, after_body, after_test}
 use Rattle.c_meaning_spec.specs.Eval.{meaning}
 use Rattle.c_meaning_spec.proofs.Equations.{meaning-is}
 use Rattle.c_meaning_spec.proofs.Induction.{meaning-falls}
-use Rattle.ir_forms.specs.declared.flat.Arg.TheVariants.{Const, Var}
-use Rattle.ir_forms.specs.inside.FlatCode.{Code, Nop, Then, only}
+use Rattle.ir_forms.specs.declared.flat.Arg.TheVariants.{Var}
+use Rattle.ir_forms.specs.inside.FlatCode.{Code, Nop, only}
 use Rattle.ir_forms.specs.inside.FlatCode as flat
-use Rattle.ir_forms.specs.inside.FlatSteps.{State, Res, Broke, Again, Gave, TooDeep, settle, counted}
+use Rattle.ir_forms.specs.inside.FlatSteps.{State, Broke, Gave, TooDeep, settle, counted}
 use Rattle.ir_forms.specs.inside.FlatRuns.{checked}
 use Rattle.ir_forms.proofs.Leads.{Run, Leads}
 use Rattle.ir_forms.proofs.Steps.{loop_run, post_run, nop_leads, if_one, if_other, turn_goes}
@@ -54,9 +54,11 @@ module _ (P : TypedProgram) (most : ℕ) where
   turn_part None body s = meaning P (task.Run body) s
   turn_part (Some t) body s = then (meaning P (Of t) s) (λ v s. want v s (λ w. so_part w body s))
 
+  -- what the evaluation does behind a loop's body
   abbrev pub after : Option TypedExpr → Option TypedExpr → TypedStmt → Signal → eval.State → Result
   after test post body v s = after_body (meaning P) test post body v s
 
+  -- what stands behind a test is a body under the tested word, and what the loop does behind it
   pub test_is : (t : TypedExpr) (post : Option TypedExpr) (body : TypedStmt) (v : Signal)
       (s : eval.State) → after_test (meaning P) (Some t) post body v s
       ≡ then (want v s (λ w. so_part w body s)) (after (Some t) post body)
@@ -112,9 +114,11 @@ module _ (P : TypedProgram) (most : ℕ) where
       go (Over why s0) q e = absurd (cc e)
 
   module _ (S : Scene) (y : IsScene P S) where
+    -- the run of a loop of a body and a last part
     abbrev pub loop_of : Code → Code → State → Run
     loop_of a b f = loop_run checked (functions P most) (base P most) S.env a b f
 
+    -- the run of a loop from the last part of its turn on
     abbrev pub post_of : Code → Code → State → Run
     post_of a b f = post_run checked (functions P most) (base P most) S.env a b f
 
@@ -203,6 +207,7 @@ module _ (P : TypedProgram) (most : ℕ) where
           (λ k. TooDeep s1.output) (λ k. TooDeep s1.output) (λ k next. refl) h.leads;
     }
 
+    -- the code of a statement inside a loop
     abbrev pub stmt : TypedStmt → Code
     stmt body = stmt_code (context P S) around.Loop (stmt_of body)
 
@@ -264,16 +269,7 @@ module _ (P : TypedProgram) (most : ℕ) where
       → FollowsIn x most (EndedIn x S) (loop_of S y (turn_code (context P S) (expr_if test) (stmt S y body))
       (expr_if_code (context P S) (expr_if post)) f) top low (meaning P (Turn test post body) s)
 
-  -- a do, from its test on
-  abbrev pub FollowsDo : TypedExpr → TypedStmt → eval.State → Type 0
-  FollowsDo t body s =
-      (S : Scene) (y : IsScene P S) (x : Around) (top low : ℕ) (f : State) → FitsExpr (scope P S) 0 (expr_of t)
-      → FitsStmt (scope P S) S.func.result around.Loop (stmt_of body)
-      → nodes (expr_of t) + size_of (stmt_of body) ≤ most → Related S s f → 8 * s.stock ≤ top
-      → low ≤ s.stock + most * f.rounds - nodes (expr_of t)
-      → FollowsIn x most (EndedIn x S) (post_of S y (if_so (stmt S y body)) (code P most S y 0 t) f) top low
-      (meaning P (Turn (Some t) None body) s)
-
+  -- a loop's turn follows the evaluation, where its parts do and later turns with fewer steps
   pub turn_follows : (test post : Option TypedExpr) (body : TypedStmt) (s : eval.State)
       → ((e : TypedExpr) (s1 : eval.State) → s1.stock ≤ s.stock → FollowsOf P most e s1)
       → ((s1 : eval.State) → s1.stock ≤ s.stock → FollowsRun P most body s1)
@@ -340,60 +336,3 @@ module _ (P : TypedProgram) (most : ℕ) where
                 (kept_at S 0 q.kind g v s2 g2 hv).rel (omega arith)
                 (omega (arith, mul-suc most f.rounds))),
           ))
-
-  -- a do's turn, where a word stands in temporary 0
-  pub so_loop : (w : ℕ) (t : TypedExpr) (body : TypedStmt) (s : eval.State) (bound : ℕ)
-      → FollowsRun P most body s → ((s1 : eval.State) → s1.stock < bound → FollowsDo t body s1)
-      → ((v : Signal) (s1 : eval.State) → so_part w body s ≡ Go v s1 → s1.stock < bound)
-      → (S : Scene) (y : IsScene P S) (x : Around) (top low : ℕ) (f : State) → FitsExpr (scope P S) 0 (expr_of t)
-      → FitsStmt (scope P S) S.func.result around.Loop (stmt_of body)
-      → nodes (expr_of t) + size_of (stmt_of body) ≤ most → Related S s f
-      → f.vars (temp 0) ≡ Some w → 3 + 8 * s.stock ≤ top → low ≤ s.stock + most * f.rounds
-      → FollowsIn x most (EndedIn x S) (loop_of S y (if_so (stmt S y body)) (code P most S y 0 t) f) top low
-      (then (so_part w body s) (after (Some t) None body))
-  so_loop w t body s bound hs hd falls S y x top low f te tb z r e hu hl =
-      let a = if_so (stmt S y body) in
-      let b = code P most S y 0 t in
-      let up = 8 * s.stock + 2 in
-      let down = s.stock + most * suc f.rounds - size_of (stmt_of body) in
-      loop_follows S y x a b f up down top low (so_part w body s) (Some t) None body
-      (so_ends S y w body s (counted f) up down hs tb (omega arith) (recounted S s f r) e
-      (omega arith) (omega arith))
-      (omega arith) (omega (arith, mul-suc most f.rounds))
-      (λ v s1 g t1 eq rel us ds.
-      hd s1 (falls v s1 eq) S y x (top - suc t1) low g te tb z rel (omega arith)
-      (omega (arith, mul-suc most f.rounds)))
-
-  pub do_follows : (t : TypedExpr) (body : TypedStmt) (s : eval.State) → FollowsOf P most t s
-      → ((s1 : eval.State) → s1.stock ≤ s.stock → FollowsRun P most body s1)
-      → ((s1 : eval.State) → s1.stock < s.stock → FollowsDo t body s1) → FollowsDo t body s
-  do_follows t body s he hs hd S y x top low f te tb z r hu hl =
-      let a = if_so (stmt S y body) in
-      let b = code P most S y 0 t in
-      let up = 8 * s.stock - 3 in
-      let down = s.stock + most * f.rounds - nodes (expr_of t) in
-      subst (λ q. FollowsIn x most (EndedIn x S) (post_of S y a b f) top low q)
-      (sym (meaning-is P (Turn (Some t) None body) s))
-      (post_follows S y x (Valued S 0 t.kind f) a b f up down top low (meaning P (Of t) s)
-      (after_test (meaning P) (Some t) None body)
-      (he S y 0 up down f te r (omega arith) (omega arith)) (omega arith) (omega arith)
-      (λ v s1 g t1 eq hv us ds. let falls = meaning-falls P (Of t) s v s1 eq in (
-        valued_settles S 0 t.kind f v s1 g hv,
-        subst (λ q. FollowsIn x most (EndedIn x S) (loop_of S y a b g) (top - t1) low q)
-            (sym (test_is t None body v s1))
-            (tested v s1 g t1 falls hv (omega arith) (omega arith)),
-      )))
-    where
-      tested : (v : Signal) (s1 : eval.State) (g : State) (t1 : ℕ) → s1.stock < s.stock
-          → Valued S 0 t.kind f v s1 g → 3 + 8 * s1.stock ≤ top - t1
-          → low ≤ s1.stock + most * g.rounds
-          → FollowsIn x most (EndedIn x S) (loop_of S y (if_so (stmt S y body)) (code P most S y 0 t) g)
-          (top - t1) low (then (want v s1 (λ w. so_part w body s1)) (after (Some t) None body))
-      tested Nothing s1 g t1 falls hv hu1 hl1 = tt
-      tested (Value w) s1 g t1 falls hv hu1 hl1 =
-          so_loop w t body s1 s.stock (hs s1 (omega arith)) hd
-          (λ v s2 eq. let le = so_falls w body s1 v s2 eq in omega arith) S y x
-          (top - t1) low g te tb z hv.keeps.rel hv.is hu1 hl1
-      tested Breaks s1 g t1 falls hv hu1 hl1 = tt
-      tested Continues s1 g t1 falls hv hu1 hl1 = tt
-      tested (Returns w) s1 g t1 falls hv hu1 hl1 = tt

@@ -37,7 +37,7 @@ use Rattle.c_constant.specs.Kinds.{IsWord}
 use Rattle.flat_lower.specs.inside.Statements.{end_code, stmt_code, lowered, lowered_program}
 use Rattle.flat_lower.specs.inside.Fits.{FitsFunc, FitsSource}
 use Rattle.flat_lower.specs.inside.Sizes.{size_of, IsMost}
-use Rattle.flat_lower.specs.Keeps.{IsInput}
+use Rattle.c_meaning_spec.specs.Laws.{IsInput}
 use Rattle.flat_lower.specs.inside.Keeps.{Finishes, Overflows, GoesOn, Keeps, Means, KeepsMeaning}
 use Rattle.c_constant.proofs.Conversions.{converted_is}
 use Rattle.flat_lower.specs.declared.around.Around.TheVariants as around
@@ -299,6 +299,7 @@ module _ (P : TypedProgram) (most : ℕ) (sound : FitsSource (source_of P)) (lar
   main_keeps n = keeps n (called (meaning P) P (callee.Func P.main) [] (evaluation.start P input n))
       (main_ends n)
 
+-- the lowered program keeps the meaning of its source
 pub keeps_meaning : KeepsMeaning
 keeps_meaning P most sound large input bytes n =
     let main = sound.main in

@@ -25,12 +25,15 @@ pub record Object : Type 0 where
   -- the second size, where it has two
   pub row : Option ℕ
 
+-- the elements in a row of an object, if it has rows
 abbrev pub object_row : Object → Option ℕ
 object_row o = o.row
 
+-- the address of an object's element
 abbrev pub element_at : Object → ℕ → ℕ
 element_at o i = o.at + bytes o.kind * i
 
+-- the address behind an object
 abbrev pub end_of : Object → ℕ
 end_of o = o.at + bytes o.kind * o.length
 
@@ -43,10 +46,12 @@ pub laid_within : (lo hi : ℕ) (os : List Object) → Laid lo hi os → lo ≤ 
 laid_within lo hi [] h = h
 laid_within lo hi (o ∷ os) h = let a = h.0 in let b = laid_within (end_of o) hi os h.2 in omega arith
 
+-- objects that are laid from an address on are so from a lower one on
 pub laid_lower : (lo low hi : ℕ) (os : List Object) → low ≤ lo → Laid lo hi os → Laid low hi os
 laid_lower lo low hi [] le h = omega arith
 laid_lower lo low hi (o ∷ os) le h = let a = h.0 in (omega arith, h.1, h.2)
 
+-- objects laid behind others are laid with them
 pub laid_append : (lo mid hi : ℕ) (os ps : List Object) → Laid lo mid os → Laid mid hi ps
     → Laid lo hi (os ++ ps)
 laid_append lo mid hi [] ps h k = laid_lower mid lo hi ps h k
@@ -58,6 +63,7 @@ pub record Stands (lo hi : ℕ) (o : Object) : Type 0 where
   pub below : end_of o ≤ hi
   pub aligned : o.at % 8 ≡ 0
 
+-- each of the objects that are laid stands within their bounds
 pub laid_at : (lo hi : ℕ) (os : List Object) (k : ℕ) (o : Object) → Laid lo hi os
     → slice_get os k ≡ Some o → Stands lo hi o
 laid_at lo hi [] k o h e = absurd (cc e)
@@ -80,6 +86,7 @@ laid_at lo hi (p ∷ os) (suc k) o h e =
 abbrev pub SizeIs : ℕ → Type 0
 SizeIs s = (s ≡ 1) ⊎ ((s ≡ 2) ⊎ ((s ≡ 4) ⊎ (s ≡ 8)))
 
+-- each kind has a size that machine accesses have
 pub size_is : (k : Kind) → SizeIs (bytes k)
 size_is Char = inl refl
 size_is UChar = inl refl
@@ -122,6 +129,7 @@ good_tests a s p e h =
     let z : nat_le (a + s) data_size ≡ true = grind (arith, nat_tests) in
     ap₂ (λ u v. u && (nat_eq (a % s) 0 && v)) x z ∙ ap (λ u. u && true) y
 
+-- the address of an element within data memory is a good one for its size
 pub good_element : (k : Kind) (at i : ℕ) → at % 8 ≡ 0 → at + bytes k * i + bytes k ≤ data_size
     → is_good_address (at + bytes k * i) (bytes k) ≡ true
 good_element k at i e h =
@@ -145,6 +153,7 @@ pub record Stored (o : Object) (row : List (Option ℕ)) (m : Memory) : Type 0 w
   pub holds : (i w : ℕ) → slice_get row i ≡ Some (Some w) → Holds o m i w
   pub opens : (i : ℕ) → i < o.length → all_open m (element_at o i) (bytes o.kind) ≡ true
 
+-- each object's row is stored
 abbrev pub AllStored : List Object → List (List (Option ℕ)) → Memory → Type 0
 AllStored [] [] m = Unit {0}
 AllStored [] (r ∷ rs) m = ⊥
@@ -178,6 +187,7 @@ stored_same o row m n h s = record {
     same i lt j jt = let k = element_in o.kind o.at o.length i lt in
         h (element_at o i + j) (omega arith) (omega arith)
 
+-- a memory that is the same on the objects' bytes stores the same rows
 pub all_same : (lo hi : ℕ) (os : List Object) (rows : List (List (Option ℕ))) (m n : Memory)
     → Laid lo hi os → ((b : ℕ) → lo ≤ b → b < hi → n b ≡ m b) → AllStored os rows m
     → AllStored os rows n
@@ -191,6 +201,7 @@ all_same lo hi (o ∷ os) (r ∷ rs) m n l h s =
       all_same (end_of o) hi os rs m n l.2 (λ b x y. h b (omega arith) y) s.1,
     )
 
+-- rows stored for some objects and for others are stored for all of them
 pub all_append : (os ps : List Object) (rows more : List (List (Option ℕ))) (m : Memory)
     → AllStored os rows m → AllStored ps more m → AllStored (os ++ ps) (rows ++ more) m
 all_append [] ps [] more m a b = b
@@ -205,6 +216,7 @@ all_first [] ps rows m a = tt
 all_first (o ∷ os) ps [] m a = absurd a
 all_first (o ∷ os) ps (r ∷ rs) m a = (a.0, all_first os ps rs m a.1)
 
+-- there are as many rows as objects
 pub all_length : (os : List Object) (rows : List (List (Option ℕ))) (m : Memory)
     → AllStored os rows m → length rows ≡ length os
 all_length [] [] m a = refl
@@ -212,6 +224,7 @@ all_length [] (r ∷ rs) m a = absurd a
 all_length (o ∷ os) [] m a = absurd a
 all_length (o ∷ os) (r ∷ rs) m a = ap suc (all_length os rs m a.1)
 
+-- each object's row is stored
 pub all_at : (os : List Object) (rows : List (List (Option ℕ))) (m : Memory) (k : ℕ) (o : Object)
     (row : List (Option ℕ)) → AllStored os rows m → slice_get os k ≡ Some o
     → slice_get rows k ≡ Some row → Stored o row m
@@ -225,12 +238,14 @@ all_at (p ∷ os) (r ∷ rs) m (suc k) o row a e f = all_at os rs m k o row a.1 
 
 -- A SAVE
 
+-- what was set at a place of a row stands there
 pub set_here : {A : Type 0} (row : List A) (i : ℕ) (a b : A) → slice_get row i ≡ Some a
     → slice_get (slice_set row i b) i ≡ Some b
 set_here [] i a b h = absurd (cc h)
 set_here (x ∷ row) zero a b h = refl
 set_here (x ∷ row) (suc i) a b h = set_here row i a b h
 
+-- what was set at a place of a row leaves the others
 pub set_there : {A : Type 0} (row : List A) (i j : ℕ) (b : A) → j ≢ i
     → slice_get (slice_set row i b) j ≡ slice_get row j
 set_there [] i j b h = refl
@@ -239,12 +254,14 @@ set_there (x ∷ row) zero (suc j) b h = refl
 set_there (x ∷ row) (suc i) zero b h = refl
 set_there (x ∷ row) (suc i) (suc j) b h = set_there row i j b (λ e. h (ap suc e))
 
+-- a row that was changed is as long as before
 pub set_length : {A : Type 0} (row : List A) (i : ℕ) (b : A)
     → length (slice_set row i b) ≡ length row
 set_length [] i b = refl
 set_length (x ∷ row) zero b = refl
 set_length (x ∷ row) (suc i) b = ap suc (set_length row i b)
 
+-- memory with a word put into an object's element
 abbrev pub put_element : Object → Memory → ℕ → ℕ → Memory
 put_element o m i v = number_put m (element_at o i) (bytes o.kind) v
 

@@ -1,10 +1,10 @@
 -- Operations on bits, shifts, operations on one number, and bumps: the words that the machine's
 -- operations give.
-use Rattle.std.proofs.Common.{◌≡◌, ◌≢◌, ℕ, zero, suc, ◌+◌, ◌-◌, ◌*◌, ◌/◌, ◌%◌, ◌^◌, ◌<◌, ◌≤◌, ◌⊎◌}
-use Rattle.std.proofs.Common.{inl, inr, ℤ, pos, negsuc, Bool, true, false, cond, Option, Some, None}
-use Rattle.std.proofs.Common.{refl, sym, ap, ap₂, ◌∙◌, subst, arith}
-use Rattle.std.specs.Prelude.{◌+ℤ◌, ◌-ℤ◌, ◌*ℤ◌, not, ◌&&◌, nat_eq, nat_lt, int_le, FitsSigned}
-use Rattle.std.specs.Prelude.{unsigned_abs, bit_and, bit_or, bit_xor}
+use Rattle.std.proofs.Common.{◌≡◌, ◌≢◌, ℕ, zero, suc, ◌+◌, ◌-◌, ◌*◌, ◌/◌, ◌%◌, ◌^◌, ◌<◌, ◌≤◌, ◌⊎◌, inl, inr, ℤ, pos}
+use Rattle.std.proofs.Common.{negsuc, Bool, true, false, cond, Option, Some, None, refl, sym, ap, ap₂, ◌∙◌, subst}
+use Rattle.std.proofs.Common.{arith}
+use Rattle.std.specs.Prelude.{◌+ℤ◌, ◌-ℤ◌, ◌*ℤ◌, not, ◌&&◌, nat_eq, nat_lt, int_le, FitsSigned, unsigned_abs, bit_and}
+use Rattle.std.specs.Prelude.{bit_or, bit_xor}
 use Rattle.std.specs.Int.{w64, cast_signed, cast_unsigned, int_shr}
 use Rattle.std.proofs.lemmas.Int.{ints}
 use Rattle.std.proofs.lemmas.Bool.Decides.{nat_tests}
@@ -15,18 +15,15 @@ use Rattle.c_tree.specs.declared.Kind.TheVariants.{Char, UChar, Short, UShort, I
 use Rattle.c_tree.specs.declared.UnaryOp.{UnaryOp}
 use Rattle.c_tree.specs.declared.UnaryOp.TheVariants.{Plus, Minus, Complement, Not}
 use Rattle.c_tree.specs.declared.BinaryOp.TheVariants.{BitOr, BitXor, BitAnd, ShiftLeft, ShiftRight}
-use Rattle.c_constant.specs.Kinds.{width, number, word, word_of, reduced, in_kind}
-use Rattle.c_constant.specs.Operation.{answer, is_zero, shifted_left, shifted_right, on_bits}
-use Rattle.c_constant.specs.Operation.{operate, operate_one}
+use Rattle.c_constant.specs.Kinds.{width, number, word, word_of, reduced, in_kind, IsWord}
+use Rattle.c_constant.specs.Operation.{answer, is_zero, shifted_left, shifted_right, on_bits, operate, operate_one}
 use Rattle.trips_isa.specs.Alu.{test}
 use Rattle.trips_isa.specs.Alu as alu
-use Rattle.c_constant.specs.Kinds.{IsWord}
 use Rattle.flat_lower.specs.inside.Kinds.{IsArithmetic}
 use Rattle.c_constant.proofs.Conversions.{word_signed, word_number, order}
-use Rattle.flat_lower.proofs.Words.{sub_word, word_of_is, Lies}
-use Rattle.flat_lower.proofs.Words.{between_is, fits_int, fits_long, narrow_int}
-use Rattle.flat_lower.proofs.Operators.{reduced_word, Gives, answered, long_word, int_near}
-use Rattle.flat_lower.proofs.Operators.{less_uint, less_ulong}
+use Rattle.flat_lower.proofs.Words.{sub_word, word_of_is, Lies, between_is, fits_int, fits_long, narrow_int}
+use Rattle.flat_lower.proofs.Operators.{reduced_word, Gives, answered, less_uint, less_ulong}
+use Rattle.flat_lower.proofs.Quotients.{long_word, int_near}
 
 -- BITS
 
@@ -105,15 +102,18 @@ module _ (f : ℕ → ℕ → ℕ)
       record { is = g; fits = subst (IsWord k) g c }
 
 module _ (k : Kind) (t : IsArithmetic k) (a b w : ℕ) (x : IsWord k a) (y : IsWord k b) where
+  -- the word of `&` is the machine's
   pub and_gives : operate BitAnd k a b ≡ Some w → Gives k (bit_and a b) w
   unfolding operate
   and_gives h = bits_give bit_and and_block and_lt refl (inl refl) (inl refl)
       (inr refl) k t a b w x y h
 
+  -- the word of `|` is the machine's
   pub or_gives : operate BitOr k a b ≡ Some w → Gives k (bit_or a b) w
   unfolding operate
   or_gives h = bits_give bit_or or_block or_lt refl (inr refl) (inr refl) (inr refl) k t a b w x y h
 
+  -- the word of `^` is the machine's
   pub xor_gives : operate BitXor k a b ≡ Some w → Gives k (bit_xor a b) w
   unfolding operate
   xor_gives h = bits_give bit_xor xor_block xor_lt refl (inr refl) (inr refl)
@@ -163,6 +163,7 @@ module _ (a b w : ℕ) (p : a < 2 ^ 64) (q : b < 2 ^ 64) where
       let r : n * 2 ^ m ≡ w = ap word l.is ∙ v.2 in
       record { is = g ∙ r; fits = subst (IsWord Long) r (long_word (pos (n * 2 ^ m)) v.0 l) }
 
+  -- the word of a left shift is the machine's left shift, at the kind
   pub left_gives : (k : Kind) → IsArithmetic k → operate ShiftLeft k a b ≡ Some w
       → Gives k (reduced_word k ((a * 2 ^ (b % 64)) % 2 ^ 64)) w
   unfolding operate
@@ -257,6 +258,7 @@ shifted Long a b = word (int_shr (alu.signed a) (b % 64))
 shifted ULong a b = a / 2 ^ (b % 64)
 
 module _ (a b w : ℕ) (q : b < 2 ^ 64) where
+  -- the word of a right shift is the machine's right shift, by sign or without
   pub right_gives : (k : Kind) → IsArithmetic k → IsWord k a → operate ShiftRight k a b ≡ Some w
       → Gives k (shifted k a b) w
   unfolding operate
@@ -327,6 +329,7 @@ module _ (a w : ℕ) where
   turned : negsuc 0 -ℤ pos a ≡ negsuc a
   turned = omega (arith, ints)
 
+  -- the word of `~` is what the machine takes from -1, at the kind
   pub complement_gives : (k : Kind) → IsArithmetic k → IsWord k a
       → operate_one Complement k a ≡ Some w
       → Gives k (reduced_word k ((18446744073709551615 + (2 ^ 64 - a)) % 2 ^ 64)) w
@@ -358,6 +361,7 @@ module _ (a w : ℕ) where
       let e : (18446744073709551616 - 1) - a % 18446744073709551616 ≡ w = cc in
       record { is = omega arith; fits = record { below = omega arith; narrow = omega arith } }
 
+  -- the word of `!` is the machine's test for 0
   pub not_gives : a < 2 ^ 64 → (k : Kind) → operate_one Not k a ≡ Some w
       → Gives Int (test (nat_eq a 0)) w
   unfolding operate_one
@@ -385,6 +389,7 @@ module _ (a w : ℕ) where
       zero_is Int = signed_zero
       zero_is Long = signed_zero
 
+  -- the word of a unary `+` is the word itself
   pub plus_gives : (k : Kind) → IsWord k a → operate_one Plus k a ≡ Some w → Gives k a w
   unfolding operate_one
   plus_gives k f h =

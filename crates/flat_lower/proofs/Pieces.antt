@@ -157,6 +157,7 @@ module _ (P : TypedProgram) (fs : List Function) (base : ℕ) where
   scaled zero w = w
   scaled (suc n) w = (w * 2 ^ (suc n % 64)) % 2 ^ 64
 
+  -- the address of an element: its scaled index and its object's address
   abbrev pub addressed : Kind → ℕ → ℕ → ℕ
   addressed k w at = (scaled (shift_of k) w + at) % 2 ^ 64
 

@@ -269,6 +269,7 @@ module _ (P : TypedProgram) (most : ℕ) (S : Scene) (y : IsScene P S) where
   }
   any_around x a f top low (Over why s) h = h
 
+  -- the code of an expression statement follows the evaluation, where its expression does
   pub plain_ends_in : (x : Around) (e : TypedExpr) (s : eval.State) (f : State) (top low : ℕ)
       → FollowsOf P most e s → FitsExpr (scope P S) 0 (expr_of e) → Related S s f
       → 8 * s.stock ≤ top + 3 → low ≤ s.stock + most * f.rounds - nodes (expr_of e)

@@ -55,9 +55,11 @@ pub record Scene : Type 0 where
   pub first : ℕ
   pub env : Env
 
+-- what a scene's function sees of the program
 abbrev pub scope : TypedProgram → Scene → Scope
 scope P S = scope_of (source_of P) (func_of S.func)
 
+-- what the lowering of a scene's function knows
 abbrev pub context : TypedProgram → Scene → Context
 context P S = context_of P.globals (func_of S.func)
 
@@ -65,6 +67,7 @@ context P S = context_of P.globals (func_of S.func)
 abbrev pub frames_from : TypedProgram → ℕ
 frames_from P = frames_at (globals_image P.globals)
 
+-- an object of n elements of a kind at an address
 abbrev pub object : ℕ → Kind → ℕ → Option ℕ → Object
 object at k n q = record { at = at; kind = k; length = n; row = q }
 
@@ -92,10 +95,12 @@ pub record AddressIs (objects : List Object) (w : ℕ) (k : Kind) (q o : Option 
   pub wide : array.it.row ≡ q
   pub is : o ≡ Some array.it.at
 
+-- a variable holds what stands for a scalar's word: the word, or the address of its array
 abbrev pub IsScalar : List Object → Slot → ℕ → Option ℕ → Type 0
 IsScalar objects (slot.Scalar k) w o = (o ≡ Some w) × IsWord k w
 IsScalar objects (slot.Address k q) w o = AddressIs objects w k q o
 
+-- a flat state stands for a state of the evaluation
 pub record Related (S : Scene) (s : eval.State) (f : State) : Type 0 where
   pub scalars : (i w : ℕ) (x : Slot) → slice_get S.func.scalars i ≡ Some x
       → slice_get s.scalars i ≡ Some (Some w) → IsScalar S.objects x w (f.vars i)
@@ -234,6 +239,7 @@ pub record RowIs (s : eval.State) (n i : ℕ) (c : Option ℕ) : Type 0 where
   pub found : slice_get s.arrays n ≡ Some row
   pub is : slice_get row i ≡ Some c
 
+-- a cell of an array stands in the array's row
 pub row_of : (s : eval.State) (n i : ℕ) (c : Option ℕ) → cell s (InArray n i) ≡ Some c
     → RowIs s n i c
 row_of s n i c h = go (slice_get s.arrays n) refl h

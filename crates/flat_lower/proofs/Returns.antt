@@ -118,9 +118,11 @@ module _ (P : TypedProgram) (most : ℕ) where
       lowered_at P.globals P.main 0 j P.functions f h
       ∙ ap (λ m. Some (lowered_func P.globals (nat_eq m P.main) (func_of f))) z
 
+  -- the flat function of a typed one
   abbrev pub lowered_of : TypedFunc → Bool → Function
   lowered_of f is_main = lowered_func P.globals is_main (func_of f)
 
+  -- the flat function of a typed one is its lowering
   pub lowered_is : (f : TypedFunc) (b : Bool) → LoweredIs P f (lowered_of f b)
   lowered_is f b = record { scalars = refl; arrays = refl }
 
@@ -136,10 +138,12 @@ module _ (P : TypedProgram) (most : ℕ) where
     abbrev first : State
     first = begun (base P most) called vs used c
 
+    -- the run of code in the first state of a called function
     abbrev pub body_run : Code → Run
     body_run a = code_run checked (functions P most) (base P most)
         (env_of (base P most) called used) a first
 
+    -- the run of the call
     abbrev pub this_call : Run
     this_call = call_run checked (functions P most) (base P most) j vs used c
 
@@ -152,6 +156,7 @@ module _ (P : TypedProgram) (most : ℕ) where
         ∙ ap (λ b. enter b checked (calls_within checked (functions P most) (base P most) d)
         (base P most) called vs used c m) e
 
+    -- a call for whose frame no room is left ends too deep, in a turn
     pub call_dives : nat_lt frame_limit (used + frame_of called) ≡ true
         → Leads this_call 1 (λ k. TooDeep c.output)
     call_dives e = record {
@@ -164,6 +169,7 @@ module _ (P : TypedProgram) (most : ℕ) where
           ∙ ap (λ m. turn c m (λ m. TooDeep c.output)) q1;
     }
 
+    -- with no turn a call has done nothing
     pub call_waits : Waits this_call c.output c.rounds
     call_waits = record {
       by = λ d i lt. ap
@@ -180,6 +186,7 @@ module _ (P : TypedProgram) (most : ℕ) where
             (at_zero checked (functions P most) (base P most) d
             (env_of (base P most) called used) called.body first)
 
+    -- where the body of a called function leads, the call does, with the function's arrays closed
     pub closed_leads : nat_lt frame_limit (used + frame_of called) ≡ false → (t : ℕ) (h k : ℕ → Res)
         → ((n : ℕ) → closing own called.arrays (h n) ≡ k n) → Leads (body_run called.body) t h
         → Leads this_call t k
@@ -188,6 +195,7 @@ module _ (P : TypedProgram) (most : ℕ) where
           ∙ ap (closing own called.arrays) (l.by n m d i q le lt) ∙ w n;
     }
 
+    -- where the body of a called function has not ended, the call has not
     pub closed_stops : nat_lt frame_limit (used + frame_of called) ≡ false
         → (t : ℕ) (out : List ℕ) (r : ℕ) → Stops (body_run called.body) t out r
         → Stops this_call t out r
@@ -206,6 +214,7 @@ module _ (P : TypedProgram) (most : ℕ) where
 
     -- THE CALLER AGAIN
 
+    -- the caller's state behind the call
     abbrev pub after : State → Option ℕ → Option ℕ → State
     after h to o = back_in g stays to o (closed at F.arrays h)
 
@@ -228,6 +237,7 @@ module _ (P : TypedProgram) (most : ℕ) where
       room = s.room;
     }
 
+    -- the caller's state behind a call is related to the one of the evaluation
     pub returns : (s s2 : eval.State) (h : State) (d : ℕ) (to o : Option ℕ)
         → ((v : ℕ) → to ≡ Some v → v ≡ temp d) → d < 16 → Related S s g
         → Related (called_scene P S f F) s2 h → KeptIs S d g (resumed s s2) (after h to o)

@@ -29,11 +29,13 @@ use Rattle.ir_forms.proofs.Leads.{Run}
 use Rattle.ir_forms.proofs.Steps.{then_then, then_moves}
 use Rattle.flat_lower.specs.inside.TreeViews.{expr_of}
 use Rattle.flat_lower.specs.inside.Operations.{temp}
+use Rattle.flat_lower.specs.inside.Powers.{exponent_of, scaled_by}
 use Rattle.flat_lower.specs.inside.Objects.{global_row, slot_row, array_row, row_of}
 use Rattle.flat_lower.specs.inside.Expressions.{joined_by, joined_code}
 use Rattle.flat_lower.specs.inside.Fits.{FitsExpr, FitsWhole}
 use Rattle.flat_lower.specs.inside.Sizes.{nodes}
 use Rattle.flat_lower.proofs.Straight.{Puts, puts_let, puts_both, var_read}
+use Rattle.flat_lower.proofs.PowerLaws.{scaled_puts}
 use Rattle.flat_lower.proofs.Objects.{Object, object_row, Stored, AllStored, laid_at, element_in}
 use Rattle.flat_lower.proofs.Follows.{Post, Follows, needed, wanted, moved}
 use Rattle.flat_lower.proofs.Related.{Scene, IsScene, scope, context, frames_from, ObjectIs, Related}
@@ -130,6 +132,7 @@ module _ (P : TypedProgram) (most : ℕ) (S : Scene) (y : IsScene P S) where
     pub is : x ≡ InArray number index
     pub same : (o : ObjectIs S.objects number k) → index < o.it.length → joined q i j ≡ index
 
+  -- an element by two indexes that is there is the one at the joined index
   pub row_element_is : (p : Place) (k : Kind) (q i j : ℕ) (s : eval.State) (f : State) (x : meant.Object)
       → Related S s f → FitsWhole (scope P S) k (Some q) p → row_element_of p i j s ≡ Some x
       → RowElementIs p k q i j s x
@@ -191,17 +194,18 @@ module _ (P : TypedProgram) (most : ℕ) (S : Scene) (y : IsScene P S) where
       let fs = functions P most in
       let b = base P most in
       let v = (i * q) % 2 ^ 64 in
-      let a1 = puts_let fs b S.env op.Mul (Var (temp d)) (Const q) f 1 (temp d) 81 i q v (omega arith)
-      (var_read fs b S.env f (temp d) i ei) refl refl in
+      let scaled = scaled_by (exponent_of q) q (temp d) in
+      let a1 = scaled_puts fs b S.env q i f (temp d) ei in
       let other : a1.to.vars (temp (suc d)) ≡ Some j = a1.sets.others (temp (suc d)) (λ e. omega arith)
       (λ e. omega arith) ∙ ej in
       subst (λ o. Puts fs b S.env (joined_by o d) f 2 (temp d) 81 (joined q i j)) (sym (row_is p k q t))
-      (puts_both fs b S.env (only (Let (temp d) op.Mul (Var (temp d)) (Const q)))
+      (puts_both fs b S.env scaled
       (only (Let (temp d) op.Add (Var (temp d)) (Var (temp (suc d))))) f 1 1 (temp d) 81 v (joined q i j) a1
       (puts_let fs b S.env op.Add (Var (temp d)) (Var (temp (suc d))) a1.to 1 (temp d) 81 v j (joined q i j)
       (omega arith) (var_read fs b S.env a1.to (temp d) v a1.sets.value)
       (var_read fs b S.env a1.to (temp (suc d)) j other) refl))
 
+  -- the code of two indexes follows the evaluation and leaves their joined index, where both do
   pub row_operands : (Q : Post) (p : Place) (k : Kind) (q : ℕ) (row index : TypedExpr) (d : ℕ) (b : Code)
       (s : eval.State) (f : State) (top low : ℕ) (next : ℕ → ℕ → eval.State → Result) → suc d < 16
       → ((e : TypedExpr) (s1 : eval.State) → s1.stock ≤ s.stock → FollowsOf P most e s1)

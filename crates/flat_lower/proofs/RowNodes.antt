@@ -26,6 +26,7 @@ use Rattle.flat_lower.proofs.Simple.{FollowsHere, element_end}
 use Rattle.flat_lower.proofs.RowElements.{row_operands, row_reads}
 
 module _ (P : TypedProgram) (most : ℕ) (S : Scene) (y : IsScene P S) where
+  -- the code of an element by two indexes follows the evaluation, where its indexes do
   pub row_element_node : (k : Option Kind) (p : Place) (row e : TypedExpr) (d top low : ℕ)
       (s : eval.State) (f : State) → d < 16
       → ((e : TypedExpr) (s1 : eval.State) → s1.stock < s.stock → FollowsOf P most e s1)

@@ -47,6 +47,7 @@ module _ (P : TypedProgram) where
       meaning-is P (task.Run st) s
       ∙ ap (λ k. spend_of k s (begun (meaning P) (out-TypedStmt st))) e
 
+  -- statements of which one takes a step give More where no step is left
   pub no_steps : (all : List TypedStmt) (s : eval.State) → s.stock ≡ 0 → IsFilled (block_of all)
       → sequence (meaning P) all s ≡ Over More s
   no_steps [] s e h = absurd h

@@ -7,10 +7,6 @@ use Rattle.std.proofs.lemmas.Bool.Decides.{nat_tests}
 use Rattle.c_tree.specs.declared.Kind.{Kind}
 use Rattle.c_tree.specs.declared.UnaryOp.{UnaryOp}
 use Rattle.c_tree.specs.declared.BinaryOp.{BinaryOp}
-use Rattle.c_tree.specs.declared.BinaryOp.TheVariants.{LogicalOr, LogicalAnd, BitOr, BitXor, BitAnd}
-use Rattle.c_tree.specs.declared.BinaryOp.TheVariants.{Equal, NotEqual, Less, Greater, LessEqual}
-use Rattle.c_tree.specs.declared.BinaryOp.TheVariants.{GreaterEqual, ShiftLeft, ShiftRight, Add}
-use Rattle.c_tree.specs.declared.BinaryOp.TheVariants.{Subtract, Multiply, Divide, Remainder}
 use Rattle.c_tree.specs.declared.Place.{Place}
 use Rattle.c_tree.specs.declared.Place.TheVariants.{Global, Scalar, Array}
 use Rattle.c_tree.specs.declared.Slot.TheVariants as slot
@@ -55,8 +51,9 @@ use Rattle.flat_lower.specs.inside.Fits.{FitsBinary, FitsUnary, FitsExpr, FitsKi
 use Rattle.flat_lower.specs.inside.Sizes.{nodes}
 use Rattle.c_constant.proofs.Conversions.{converted_is}
 use Rattle.flat_lower.proofs.Straight.{Puts, puts_none, puts_let, puts_both, puts_as, puts_within}
-use Rattle.flat_lower.proofs.Straight.{var_read, IsRight, IsStrict, Works, binary_works}
-use Rattle.flat_lower.proofs.Straight.{unary_works, here_works}
+use Rattle.flat_lower.proofs.Straight.{var_read}
+use Rattle.flat_lower.proofs.OperationWorks.{IsRight, IsStrict, Works, binary_works}
+use Rattle.flat_lower.proofs.UnaryWorks.{unary_works, here_works}
 use Rattle.flat_lower.proofs.Objects.{element_at, Holds}
 use Rattle.flat_lower.proofs.TreeFacts.{kind_is}
 use Rattle.flat_lower.proofs.Follows.{Post, Follows, needed, wanted, moved}
@@ -69,11 +66,13 @@ use Rattle.flat_lower.proofs.Values.{keeps_both, functions, base, FollowsOf, run
 use Rattle.flat_lower.proofs.Values.{value_end, operand, spending}
 
 module _ (P : TypedProgram) (most : ℕ) (S : Scene) (y : IsScene P S) where
+  -- the run of an expression's code follows the evaluation to this result
   abbrev pub FollowsHere : ℕ → Option Kind → State → Code → State → ℕ → ℕ → Result → Type 0
   FollowsHere d k f0 a f top low r = Follows most (Valued S d k f0) (run P most S y a f) top low r
 
   -- CONSTANTS AND NAMES
 
+  -- the code of a number follows the evaluation
   pub number_node : (k : Option Kind) (w d top low : ℕ) (s : eval.State) (f : State)
       → FitsExpr (scope P S) d (tree.Number k w) → Related S s f → 8 * s.stock ≤ top + 4
       → low ≤ s.stock + most * f.rounds - 1
@@ -118,6 +117,7 @@ module _ (P : TypedProgram) (most : ℕ) (S : Scene) (y : IsScene P S) where
         subst (λ k. IsWord k w) x.kind v.fits,
       )
 
+  -- a global that is no array is found to be none
   pub is_scalar : (g : ℕ) (k : Kind) → GlobalIs (scope P S) g k None None
       → is_array (slice_get P.globals g) ≡ false
   is_scalar g k x = ap is_array x.found ∙ go x.global.length x.long
@@ -156,6 +156,7 @@ module _ (P : TypedProgram) (most : ℕ) (S : Scene) (y : IsScene P S) where
       (puts_load P (functions P most) (base P most) S.env (load_op k)
       (Const (global_at P.globals g)) f (temp d) 80 (global_at P.globals g) w refl x.0) hu hl)
 
+  -- the code of a name follows the evaluation
   pub name_node : (k : Option Kind) (p : Place) (d top low : ℕ) (s : eval.State) (f : State)
       → FitsExpr (scope P S) d (tree.Name k p) → Related S s f → 8 * s.stock ≤ top + 4
       → low ≤ s.stock + most * f.rounds - 1
@@ -178,6 +179,7 @@ module _ (P : TypedProgram) (most : ℕ) (S : Scene) (y : IsScene P S) where
 
   -- ONE OPERAND
 
+  -- the code of an operation on one operand follows the evaluation, where its operand does
   pub unary_node : (k : Option Kind) (o : UnaryOp) (e : TypedExpr) (d top low : ℕ) (s : eval.State)
       (f : State) → d < 16 → ((s1 : eval.State) → s1.stock < s.stock → FollowsOf P most e s1)
       → FitsExpr (scope P S) d (tree.Unary k o (expr_of e)) → Related S s f → 8 * s.stock ≤ top + 4
@@ -217,15 +219,18 @@ module _ (P : TypedProgram) (most : ℕ) (S : Scene) (y : IsScene P S) where
           (omega arith) refl (subst (λ k. IsWord k w) (sym t.1) x.fits) v.keeps x.puts hu hl)
 
   -- a conversion, also one that costs no step
-  pub convert_end : (to : Kind) (k j : Option Kind) (d a top low : ℕ) (f0 g : State)
-      (s : eval.State) → d < 16 → k ≡ Some to → ValueIs S d j f0 a s g → 1 + 8 * s.stock ≤ top
+  pub convert_end : (to : Kind) (k i j : Option Kind) (d a top low : ℕ) (f0 g : State)
+      (s : eval.State) → d < 16 → k ≡ Some to → i ≡ j → ValueIs S d j f0 a s g → 1 + 8 * s.stock ≤ top
       → low ≤ s.stock + most * g.rounds
-      → FollowsHere d k f0 (converted_here to (temp d)) g top low (Go (Value (converted to a)) s)
-  convert_end to k j d a top low f0 g s ld hk v hu hl =
-      let x = here_works (functions P most) (base P most) S.env to g (temp d) a v.is v.fits.below in
-      value_end P most S y d k f0 g (converted_here to (temp d)) 1 80
-      (converted to a) top low s to ld (omega arith) hk x.fits v.keeps x.puts hu hl
+      → FollowsHere d k f0 (converted_here i to (temp d)) g top low (Go (Value (converted to a)) s)
+  convert_end to k i j d a top low f0 g s ld hk same v hu hl =
+      let x = here_works (functions P most) (base P most) S.env v.kind to g (temp d) a v.is v.fits in
+      subst (λ i. FollowsHere d k f0 (converted_here i to (temp d)) g top low (Go (Value (converted to a)) s))
+      (sym (same ∙ v.is_kind))
+      (value_end P most S y d k f0 g (converted_here (Some v.kind) to (temp d)) 1 80
+      (converted to a) top low s to ld (omega arith) hk x.fits v.keeps x.puts hu hl)
 
+  -- the code of a cast follows the evaluation, where its operand does
   pub cast_node : (k : Option Kind) (to : Kind) (e : TypedExpr) (d top low : ℕ) (s : eval.State)
       (f : State) → d < 16 → ((s1 : eval.State) → s1.stock < s.stock → FollowsOf P most e s1)
       → FitsExpr (scope P S) d (tree.Cast k to (expr_of e)) → Related S s f → 8 * s.stock ≤ top + 4
@@ -233,7 +238,7 @@ module _ (P : TypedProgram) (most : ℕ) (S : Scene) (y : IsScene P S) where
       → FollowsHere d k f (expr_code (context P S) d (tree.Cast k to (expr_of e))) f top low
       (spend s (opened (meaning P) P (node.Cast to e)))
   cast_node k to e d top low s f ld h t r hu hl =
-      let b = converted_here to (temp d) in
+      let b = converted_here (kind_of (expr_of e)) to (temp d) in
       spending P most S y (Valued S d k f) (Then (code P most S y d e) b) s f top low
       (opened (meaning P) P (node.Cast to e)) r (omega arith) (λ n q rn.
       let s0 = record s { stock = n } in
@@ -242,7 +247,7 @@ module _ (P : TypedProgram) (most : ℕ) (S : Scene) (y : IsScene P S) where
       (λ v s1 g tt1 hv ls us ds.
       wanted most (Valued S d k f) (run P most S y b g) (top - tt1) low v s1
       (λ a. Go (Value (converted to a)) s1) (λ a ea.
-      convert_end to k e.kind d a (top - tt1) low f g s1 ld t.1
+      convert_end to k (kind_of (expr_of e)) e.kind d a (top - tt1) low f g s1 ld t.1 (kind_is e)
       (value_at S d e.kind f v a s1 g ea hv) (omega arith) (omega arith))))
 
   -- ELEMENTS
@@ -253,6 +258,7 @@ module _ (P : TypedProgram) (most : ℕ) (S : Scene) (y : IsScene P S) where
     pub array : array_of p s ≡ Some number
     pub is : x ≡ InArray number w
 
+  -- an element that is there is the one at its index
   pub element_is : (p : Place) (k : Kind) (w : ℕ) (s : eval.State) (x : Object)
       → element_of p w s ≡ Some x → ElementIs p k w s x
   element_is p k w s x h = go (array_of p s) refl h
@@ -277,6 +283,7 @@ module _ (P : TypedProgram) (most : ℕ) (S : Scene) (y : IsScene P S) where
         subst (λ k. IsWord k v) o.kind x.fits,
       )
 
+  -- the code of an element behind its index follows the evaluation
   pub element_end : (p : Place) (q : Option ℕ) (k : Kind) (d w top low : ℕ) (f0 g : State) (s : eval.State)
       (j : Option Kind) → d < 16 → FitsWhole (scope P S) k q p → ValueIs S d j f0 w s g
       → 4 + 8 * s.stock ≤ top → low ≤ s.stock + most * g.rounds
@@ -304,6 +311,7 @@ module _ (P : TypedProgram) (most : ℕ) (S : Scene) (y : IsScene P S) where
       (omega arith) refl z.1 v.keeps
       (puts_both fs b S.env a l g 3 1 (temp d) 81 (addressed P fs b k w o.it.at) u pa pl) hu hl)))
 
+  -- the code of an element follows the evaluation, where its index does
   pub element_node : (k : Option Kind) (p : Place) (e : TypedExpr) (d top low : ℕ) (s : eval.State)
       (f : State) → d < 16 → ((s1 : eval.State) → s1.stock < s.stock → FollowsOf P most e s1)
       → FitsExpr (scope P S) d (tree.Element k p (expr_of e)) → Related S s f → 8 * s.stock ≤ top + 4

@@ -24,36 +24,49 @@ use Rattle.flat_lower.specs.inside.Tree.{Binary, Choice, Assign, Comma, Exprs, N
 use Rattle.flat_lower.specs.inside.Tree.{Declare, Plain, Compound, If, While, Do, For, Break, Continue}
 use Rattle.flat_lower.specs.inside.Tree.{Return, Stmts, NoStmts, WithStmt, First, Nothing, FirstOf, Locals}
 use Rattle.flat_lower.specs.inside.Tree.{Func, Source}
+use Rattle.trips_isa.specs.declared.op.Op.TheVariants as isa
+use Rattle.c_constant.specs.Kinds.{converted}
+use Rattle.flat_lower.specs.inside.Narrowing.{narrowing_from}
+use Rattle.flat_lower.specs.inside.Powers.{exponent_of}
 use Rattle.flat_lower.specs.inside.Objects.{global_at, array_at}
 use Rattle.flat_lower.specs.inside.Statements.{lowered}
 
 -- PROGRAMS
 
+-- a number
 abbrev pub n : ℕ → Expr
 n w = Number (Some Int) w
 
+-- the scalar i, an int
 abbrev pub int : ℕ → Expr
 int i = Name (Some Int) (place.Scalar i)
 
+-- an operation on two ints
 abbrev pub two : BinaryOp → Expr → Expr → Expr
 two o l r = Binary (Some Int) o l r
 
+-- an assignment of an int
 abbrev pub set : Expr → Expr → Expr
 set l r = Assign (Some Int) None Int l r
 
+-- an expression statement
 abbrev pub does : Expr → Stmt
 does e = Plain (Some e)
 
+-- a return of a value
 abbrev pub gives : Expr → Stmt
 gives e = Return (Some e)
 
+-- some statements
 abbrev pub stmts : List Stmt → Stmts
 stmts [] = NoStmts
 stmts (s ∷ rest) = WithStmt s (stmts rest)
 
+-- a block of statements
 abbrev pub block : List Stmt → Stmt
 block all = Compound (stmts all)
 
+-- some arguments
 abbrev pub exprs : List Expr → Exprs
 exprs [] = NoExprs
 exprs (e ∷ es) = WithExpr e (exprs es)
@@ -70,6 +83,7 @@ func params scalars arrays all = record {
 abbrev ints : List Slot
 ints = slot.Scalar Int ∷ slot.Scalar Int ∷ []
 
+-- a program of one function
 abbrev pub main : List TypedGlobal → List TypedArray → List Stmt → Source
 main globals arrays all = record {
   globals = globals;
@@ -94,6 +108,7 @@ seen (TooDeep out) = 5 ∷ out
 seen (Unfinished out r) = 6 ∷ out
 seen Wild = 7 ∷ []
 
+-- what the flat code of a program puts out on an input
 abbrev pub run : Source → List ℕ → List ℕ
 run P input = seen (flat_run checked (lowered P) input 400)
 
@@ -259,3 +274,39 @@ pub echoes : run (main [] [] (does (Call (Some Int) callee.PutChar
     (Call (Some Int) callee.GetChar NoExprs) ∷ [])) (65 ∷ []) ≡ 4 ∷ (2 ^ 64 - 1) ∷ 65 ∷ []
 unfolding flat_run frame_limit first_memory apply load save marked lowered global_at array_at
 echoes = refl
+
+-- CONVERSIONS AND POWERS OF TWO
+
+-- a char is a short, an int and a long as it stands, but no unsigned int
+pub char_is_int : narrowing_from (Some Char) Int ≡ None
+char_is_int = refl
+
+pub char_is_no_uint : narrowing_from (Some Char) UInt ≡ Some isa.Extuw
+char_is_no_uint = refl
+
+-- an unsigned short is an int, an unsigned int is none
+pub ushort_is_int : narrowing_from (Some UShort) Int ≡ None
+ushort_is_int = refl
+
+pub uint_is_no_int : narrowing_from (Some UInt) Int ≡ Some isa.Extsw
+uint_is_no_int = refl
+
+-- 8 is 2^3; 6 and 0 are no powers of two
+pub eight : exponent_of 8 ≡ Some 3
+unfolding exponent_of
+eight = refl
+
+pub six : exponent_of 6 ≡ None
+unfolding exponent_of
+six = refl
+
+pub no_zero : exponent_of 0 ≡ None
+unfolding exponent_of
+no_zero = refl
+
+-- return 103u / 8 * 10 + 103u % 8;
+pub shifts_and_masks : run (returns (Binary (Some UInt) op.Add (Binary (Some UInt) op.Multiply
+    (Binary (Some UInt) op.Divide (unsigned 103) (Convert (Some UInt) UInt (n 8))) (unsigned 10))
+    (Binary (Some UInt) op.Remainder (unsigned 103) (Convert (Some UInt) UInt (n 8))))) [] ≡ 4 ∷ 127 ∷ []
+unfolding flat_run frame_limit first_memory apply load save marked lowered global_at array_at exponent_of converted
+shifts_and_masks = refl

@@ -20,7 +20,7 @@ use Rattle.flat_lower.specs.inside.TreeViews.{source_of}
 use Rattle.flat_lower.specs.inside.Objects.{global_bytes, bytes_before, global_at}
 use Rattle.flat_lower.specs.inside.Statements.{global_image, globals_image}
 use Rattle.flat_lower.specs.inside.Fits.{FitsGlobal, FitsSource}
-use Rattle.flat_lower.specs.Keeps.{IsInput}
+use Rattle.c_meaning_spec.specs.Laws.{IsInput}
 use Rattle.flat_lower.proofs.Objects.{Object, object_row, end_of, Laid, laid_lower, AllStored}
 use Rattle.flat_lower.proofs.Related.{Scene, IsScene, object, frames_from, Related}
 use Rattle.flat_lower.proofs.Image.{ImageAt, both_length, image_first, image_rest, global_room}
@@ -33,6 +33,7 @@ objects_from lo [] = []
 objects_from lo (g ∷ gs) = object lo g.kind (length_of g.length) g.row ∷ objects_from
     (lo + global_bytes g) gs
 
+-- the bytes of some globals
 abbrev pub room_of : List TypedGlobal → ℕ
 room_of [] = 0
 room_of (g ∷ gs) = global_bytes g + room_of gs
@@ -93,6 +94,7 @@ rest_fits g gs h k d lt = h (suc k) d (omega arith)
 first_fits : (g : TypedGlobal) (gs : List TypedGlobal) → All FitsGlobal (g ∷ gs) → FitsGlobal g
 first_fits g gs h = h 0 g (omega arith)
 
+-- the images of globals have as many bytes as these
 pub images_length : (gs : List TypedGlobal) → All FitsGlobal gs → length (globals_image gs) ≡ room_of gs
 images_length [] h = refl
 images_length (g ∷ gs) h = both_length (global_image g) (globals_image gs)
@@ -147,6 +149,7 @@ module _ (P : TypedProgram) (sound : FitsSource (source_of P)) where
       go : (n : ℕ) → n % 8 ≡ 0 → rounded n ≡ n
       go n h = omega arith
 
+  -- the scene of the first function is one of the program
   pub first_is : (f : TypedFunc) → IsScene P (first_scene f)
   unfolding global_at
   first_is f =
@@ -166,6 +169,7 @@ module _ (P : TypedProgram) (sound : FitsSource (source_of P)) where
         arrays = λ a x h. absurd (cc h);
       }
 
+  -- the first state of a run
   abbrev pub first_state : List ℕ → State
   first_state input = record {
     vars = λ v. None;

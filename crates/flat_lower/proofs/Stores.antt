@@ -77,10 +77,12 @@ module _ (P : TypedProgram) (most : ℕ) (S : Scene) (y : IsScene P S) where
     pub few : t ≤ n
     pub leads : Leads (run P most S y a f) t (settle g)
 
+  -- code that puts a word into a variable reaches the state with it
   pub put_reaches : (a : Code) (f : State) (m x spare w : ℕ)
       (p : Puts (functions P most) (base P most) S.env a f m x spare w) → Reaches a f m p.to
   put_reaches a f m x spare w p = record { t = p.t; few = p.few; leads = p.leads }
 
+  -- two codes in a row reach what the second does
   pub both_reach : (a b : Code) (f g h : State) (m n : ℕ) → Reaches a f m g → Reaches b g n h
       → Reaches (Then a b) f (m + n) h
   both_reach a b f g h m n p q =

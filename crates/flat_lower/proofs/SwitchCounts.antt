@@ -28,6 +28,7 @@ counts : (xs : Sections) → section_count xs ≤ cases_in xs + free_sections xs
 counts NoSections = omega arith
 counts (WithSection ls body rest) = let h = counts rest in let two = one_of_two (case_count ls) in omega arith
 
+-- the sections before the default one are no more than three for each case
 pub default_small : (c : Scope) (k j : Option Kind) (x : Around) (xs : Sections) → FitsSections c k x j xs
     → free_sections xs ≤ 1 → default_at 0 (section_count xs) xs ≤ 3 * cases_in xs
 default_small c k j x NoSections t h = omega arith
@@ -55,14 +56,17 @@ cases_small NoSections = omega arith
 cases_small (WithSection ls body rest) =
     let h = cases_small rest in let few = few_cases ls in omega arith
 
+-- there are as many sections in code as in the tree
 pub count_is : (xs : List TypedSection) → section_count (sections_in xs) ≡ length xs
 count_is [] = refl
 count_is (x ∷ xs) = ap suc (count_is xs)
 
+-- without its first 0 sections a switch has all
 pub drop_none : (xs : List TypedSection) → drop 0 xs ≡ xs
 drop_none [] = refl
 drop_none (x ∷ xs) = refl
 
+-- the later ones of sections that fit, fit
 pub fits_drop : (c : Scope) (k j : Option Kind) (x : Around) (xs : List TypedSection) (m : ℕ)
     → FitsSections c k x j (sections_in xs) → FitsSections c k x j (sections_in (drop m xs))
 fits_drop c k j x [] zero t = t
@@ -70,6 +74,7 @@ fits_drop c k j x [] (suc m) t = t
 fits_drop c k j x (z ∷ xs) zero t = t
 fits_drop c k j x (z ∷ xs) (suc m) t = fits_drop c k j x xs m t.4
 
+-- the later ones of some sections are no larger than all
 pub size_drop : (xs : List TypedSection) (m : ℕ)
     → size_of_sections (sections_in (drop m xs)) ≤ size_of_sections (sections_in xs)
 size_drop [] zero = omega arith

@@ -122,6 +122,7 @@ module _ (P : TypedProgram) (most : ℕ) (S : Scene) (y : IsScene P S) where
         (leads_from (run P most S y (only (Loop A Nop)) f) (loop_of P most S y A Nop f) 0 (suc t) h
         (loop_moves checked (functions P most) (base P most) S.env A Nop f) m)
 
+    -- where the body of a switch's loop breaks, what stands behind it goes on, a turn later
     pub loop_left : (t : ℕ) (to : State) → Leads (run P most S y A (counted f)) t (Broke to)
         → Moves whole (suc t) (run P most S y B to)
     loop_left t to l =
@@ -146,6 +147,7 @@ module _ (P : TypedProgram) (most : ℕ) (S : Scene) (y : IsScene P S) where
         (turn_leads checked (functions P most) (base P most) S.env A Nop f t (λ k. TooDeep out)
         (λ k. TooDeep out) (λ k p next. refl) l))
 
+    -- where the body of a switch's loop has not ended, the switch has not
     pub loop_stops : (t : ℕ) (out : List ℕ) (r : ℕ) → Stops (run P most S y A (counted f)) t out r
         → Stops whole (suc t) out r
     loop_stops t out r l =
@@ -157,6 +159,7 @@ module _ (P : TypedProgram) (most : ℕ) (S : Scene) (y : IsScene P S) where
 
   -- THE SECTIONS THAT RUN
 
+  -- a switch follows the evaluation, where its body comes to the sections and these do
   pub runs_out : (a : Around) (all Secs : Code) (f g : State) (t0 up down top low : ℕ) (r : Result)
       → Moves (run P most S y (Then all (only flat.Break)) (counted f)) t0
       (run P most S y (Then Secs (only flat.Break)) g)

@@ -11,6 +11,7 @@ use Rattle.ir_forms.specs.inside.FlatRuns.{first_memory, flat_run}
 use Rattle.flat_lower.specs.inside.Tree.{Expr, RowElement, Call, Bump, Stmt, Declare, While, Switch, Break, Continue}
 use Rattle.flat_lower.specs.inside.Tree.{Sections, NoSections, WithSection}
 use Rattle.flat_lower.specs.inside.Objects.{global_at, array_at}
+use Rattle.flat_lower.specs.inside.Powers.{exponent_of}
 use Rattle.flat_lower.specs.inside.Statements.{lowered}
 use Rattle.flat_lower.proofs.StandardFacts.{n, int, two, set, does, gives, stmts, block, exprs, main, run}
 
@@ -65,5 +66,5 @@ a i j = RowElement (Some Int) (place.Array 0) (n i) (n j)
 pub rows_lie_one_behind_another : run (main [] (record { kind = Int; length = 6; row = Some 3 } ∷ [])
     (does (set (a 0 2) (n 5)) ∷ does (set (a 1 0) (n 6))
     ∷ gives (two op.Add (two op.Multiply (a 0 2) (n 10)) (a 1 0)) ∷ [])) [] ≡ 4 ∷ 56 ∷ []
-unfolding flat_run frame_limit first_memory apply load save marked lowered global_at array_at
+unfolding flat_run frame_limit first_memory apply load save marked lowered global_at array_at exponent_of
 rows_lie_one_behind_another = refl

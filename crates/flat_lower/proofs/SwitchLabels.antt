@@ -80,6 +80,7 @@ module _ (P : TypedProgram) (most : ℕ) (S : Scene) (y : IsScene P S) where
     pub rounds : to.rounds ≡ f.rounds
     pub leads : Leads (run P most S y a f) t (Broke to)
 
+  -- what comparing the labels comes to: no step is left, or the sections to skip are found
   pub data Choice (all : List TypedSection) (a : Code) (f : State) (s : eval.State) (l c : ℕ)
       (r : Result) : Type 0 where
     Ends_there : Stopped a f s c r → Choice all a f s l c r

@@ -62,6 +62,7 @@ module _ (P : TypedProgram) (most : ℕ) (S : Scene) (y : IsScene P S) (x : Arou
   abbrev pub block : List TypedStmt → Code
   block all = stmts_code (context P S) x (block_of all)
 
+  -- the code of the sections that are left
   abbrev pub rest_of : List TypedSection → Code
   rest_of xs = sections_code (context P S) x (sections_in xs)
 
@@ -76,6 +77,7 @@ module _ (P : TypedProgram) (most : ℕ) (S : Scene) (y : IsScene P S) (x : Arou
     pub rounds : to.rounds ≡ f.rounds
     pub moves : Moves (run P most S y a f) t (run P most S y b to)
 
+  -- so many sections are skipped, two turns for each
   pub skipping : (xs : List TypedSection) (m : ℕ) (b : Code) (s : eval.State) (f : State)
       → m ≤ length xs → m < 2 ^ 64 → Related S s f → f.vars (temp 0) ≡ Some m
       → Skipped (Then (rest_of xs) b) f s (2 * m) (Then (rest_of (drop m xs)) b)

@@ -63,6 +63,7 @@ module _ (P : TypedProgram) (most : ℕ) (S : Scene) (y : IsScene P S) where
       (fits_drop (scope P S) S.func.result j x all m t) (omega arith) sk.rel sk.word (omega arith) there)
       (omega arith) (omega arith)
 
+  -- a switch behind its test follows the evaluation, where blocks inside it do
   pub switch_ends : (a : Around) (n : ℕ) → FollowsBlock P most S y (in_switch a) n → (j : Option Kind)
       (all : List TypedSection) (w : ℕ) (s : eval.State) (g : State) (top low : ℕ) → s.stock ≤ n
       → FitsSections (scope P S) S.func.result (in_switch a) j (sections_in all)

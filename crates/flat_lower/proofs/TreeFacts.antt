@@ -66,6 +66,7 @@ expr_is e =
     ∙ ap (λ (x : Kindless). x e.kind) (fold_out-TypedNode Kindless Expr node_by expr_by e.node)
     ∙ levels (node_of e) e.kind
 
+-- the kind of a plain expression is the one of its tree
 pub kind_levels : (x : Node) (k : Option Kind) → kind_of (plain_node x k) ≡ k
 kind_levels (node.Number w) k = refl
 kind_levels (node.Name p) k = refl
@@ -85,6 +86,7 @@ kind_levels (node.Comma l r) k = refl
 pub kind_is : (e : TypedExpr) → kind_of (expr_of e) ≡ e.kind
 kind_is e = ap kind_of (expr_is e) ∙ kind_levels (node_of e) e.kind
 
+-- the first part of a `for`, as plain data
 unfoldable pub first_of : TypedForInit → First
 first_of i = fold-TypedForInit First Stmt Section first_by stmt_by section_by i
 
@@ -105,6 +107,7 @@ plain_stmt stmt.Break = Break
 plain_stmt stmt.Continue = Continue
 plain_stmt (stmt.Return e) = Return (expr_if e)
 
+-- the first part of a `for` by its parts, as plain data
 abbrev pub plain_first : level.Beginning → First
 plain_first stmt.Nothing = Nothing
 plain_first (stmt.First e) = FirstOf (expr_of e)

@@ -51,6 +51,7 @@ pub record ValueIs (S : Scene) (d : ℕ) (k : Option Kind) (f0 : State) (w : ℕ
   pub fits : IsWord kind w
   pub is : f.vars (temp d) ≡ Some w
 
+-- a value stands in the temporary at this depth; without a value, what was kept is
 abbrev pub Valued : Scene → ℕ → Option Kind → State → Post
 Valued S d k f0 Nothing s f = KeptIs S d f0 s f
 Valued S d k f0 (Value w) s f = ValueIs S d k f0 w s f
@@ -58,6 +59,7 @@ Valued S d k f0 Breaks s f = ⊥
 Valued S d k f0 Continues s f = ⊥
 Valued S d k f0 (Returns w) s f = ⊥
 
+-- the end of an expression is one that settles
 pub valued_settles : (S : Scene) (d : ℕ) (k : Option Kind) (f0 : State) (v : Signal)
     (s : eval.State) (f : State) → Valued S d k f0 v s f → Settles v
 valued_settles S d k f0 Nothing s f h = tt
@@ -94,9 +96,11 @@ keeps_both S d d1 f0 f g s s1 le a b = record {
 }
 
 module _ (P : TypedProgram) (most : ℕ) where
+  -- the flat functions of the program
   abbrev pub functions : List Function
   functions = lowered_from P.globals P.main 0 (map func_of P.functions)
 
+  -- the address from which frames stand
   abbrev pub base : ℕ
   base = frames_from P
 
@@ -112,9 +116,11 @@ module _ (P : TypedProgram) (most : ℕ) where
       (meaning P (Of e) s)
 
   module _ (S : Scene) (y : IsScene P S) where
+    -- the run of some code in the scene
     abbrev pub run : Code → State → Run
     run a f = run_of functions base most S.env a f
 
+    -- the code of an expression at a depth
     abbrev pub code : ℕ → TypedExpr → Code
     code d e = expr_code (context P S) d (expr_of e)
 

@@ -24,17 +24,20 @@ wraps_to : (n : ℕ) (z : ℤ) → n < 2 ^ 64 → FitsSigned w64 z → cast_sign
     → n ≡ word z
 wraps_to n z lt f e = sym (of_z-to_z w64 n lt) ∙ ap (cast_unsigned w64) (e ∙ int_wrap_fits w64 z f)
 
+-- a sum by sign that fits is the machine's sum
 pub add_word : (a b : ℕ) → a < 2 ^ 64 → b < 2 ^ 64
     → FitsSigned w64 (cast_signed w64 a +ℤ cast_signed w64 b)
     → (a + b) % 2 ^ 64 ≡ word (cast_signed w64 a +ℤ cast_signed w64 b)
 add_word a b p q f = wraps_to ((a + b) % 2 ^ 64) _ (omega arith) f (wrapping_add-bits w64 a b p q)
 
+-- a difference by sign that fits is the machine's difference
 pub sub_word : (a b : ℕ) → a < 2 ^ 64 → b < 2 ^ 64
     → FitsSigned w64 (cast_signed w64 a -ℤ cast_signed w64 b)
     → (a + (2 ^ 64 - b)) % 2 ^ 64 ≡ word (cast_signed w64 a -ℤ cast_signed w64 b)
 sub_word a b p q f = wraps_to ((a + (2 ^ 64 - b)) % 2 ^ 64) _ (omega arith) f
     (wrapping_sub-bits w64 a b p q)
 
+-- a product by sign that fits is the machine's product
 pub mul_word : (a b : ℕ) → a < 2 ^ 64 → b < 2 ^ 64
     → FitsSigned w64 (cast_signed w64 a *ℤ cast_signed w64 b)
     → (a * b) % 2 ^ 64 ≡ word (cast_signed w64 a *ℤ cast_signed w64 b)
@@ -53,6 +56,7 @@ pub record Lies (least greatest z r : ℤ) : Type 0 where
   pub above : int_le least z ≡ true
   pub below : int_le z greatest ≡ true
 
+-- a number that is found between two bounds lies there
 pub between_is : (least greatest z r : ℤ) → between least greatest z ≡ Some r
     → Lies least greatest z r
 between_is least greatest z r h = go (int_le least z) refl (int_le z greatest) refl h
@@ -67,9 +71,11 @@ between_is least greatest z r h = go (int_le least z) refl (int_le z greatest) r
 pub fits_char : (z r : ℤ) → Lies (negsuc 127) (pos 127) z r → FitsSigned w64 z
 fits_char z r l = let a = l.above in let b = l.below in omega (arith, ints)
 
+-- a number in the range of int fits 64 bits
 pub fits_int : (z r : ℤ) → Lies (negsuc 2147483647) (pos 2147483647) z r → FitsSigned w64 z
 fits_int z r l = let a = l.above in let b = l.below in omega (arith, ints)
 
+-- a number in the range of long fits 64 bits
 pub fits_long : (z r : ℤ) → Lies (negsuc 9223372036854775807) (pos 9223372036854775807) z r
     → FitsSigned w64 z
 fits_long z r l = let a = l.above in let b = l.below in omega (arith, ints)

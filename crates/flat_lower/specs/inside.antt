@@ -4,8 +4,10 @@ pub mod Fits
 pub mod FitsSwitches
 pub mod Keeps
 pub mod Kinds
+pub mod Narrowing
 pub mod Objects
 pub mod Operations
+pub mod Powers
 pub mod Sizes
 pub mod Statements
 pub mod Switches

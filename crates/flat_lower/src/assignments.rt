@@ -53,7 +53,7 @@ fn put_old_global(
     ensures { OnOk result (Adds code.old code.new (old_name places.now (Global g) d at kind)) }
 {
     put_load(code, temp(d), load_op(kind), Arg::Const(places.global(g)?))?;
-    put_converted_here(code, at, temp(d))?;
+    put_converted_here(code, Some(kind), at, temp(d))?;
     Ok(())
 }
 
@@ -71,7 +71,7 @@ fn put_old_name(
 {
     match place {
         Place::Global(g) => put_old_global(code, places, g, d, at, kind),
-        Place::Scalar(i) => put_converted_to(code, at, temp(d), scalar(i)?),
+        Place::Scalar(i) => put_converted_to(code, Some(kind), at, temp(d), scalar(i)?),
         Place::Array(_) => Ok(()),
     }
 }
@@ -88,7 +88,7 @@ fn put_compound(
     ensures { OnOk result (Adds code.old code.new (compound_code op d y at kind)) }
 {
     put_binary(code, op, at, temp(d), temp(y))?;
-    put_converted_here(code, kind, temp(d))?;
+    put_converted_here(code, Some(at), kind, temp(d))?;
     Ok(())
 }
 
@@ -106,7 +106,7 @@ fn put_old_element(
     let next = deeper(d)?;
     put_address(code, places, array, kind, temp(next), temp(d))?;
     put_load(code, temp(d), load_op(kind), Arg::Var(temp(next)))?;
-    put_converted_here(code, at, temp(d))?;
+    put_converted_here(code, Some(kind), at, temp(d))?;
     Ok(())
 }
 

@@ -9,7 +9,9 @@ ghost use Rattle.flat_lower.specs.inside.Tree as tree;
 ghost use Rattle.flat_lower.specs.inside.TreeViews.{expr_of};
 ghost use Rattle.flat_lower.specs.inside.Expressions as expressions;
 ghost use Rattle.flat_lower.specs.inside.Expressions.{expr_code, args_code, index_code, temps};
-ghost use Rattle.flat_lower.specs.inside.Expressions.{binary_end, operand_at, with_kind, joined_code};
+ghost use Rattle.flat_lower.specs.inside.Expressions.{binary_end, strict_code, operand_at, with_kind};
+ghost use Rattle.flat_lower.specs.inside.Expressions.{joined_code};
+ghost use Rattle.flat_lower.specs.inside.Powers as powers;
 ghost use Rattle.flat_lower.specs.inside.Operations as operations;
 ghost use Rattle.flat_lower.specs.inside.Operations.{set_word, unary_code, binary_code};
 ghost use Rattle.flat_lower.specs.inside.Emitted.{Adds, args_of, side_in};
@@ -21,6 +23,7 @@ use crate::emit::{deeper, put_if, temp};
 use crate::names::{put_element, put_joined, put_name};
 use crate::operations::{put_converted_here, put_word};
 use crate::places::Places;
+use crate::powers::{immediate_for, put_immediate};
 use crate::results::{put_binary_at, put_tested, put_unary_at, truth};
 use crate::sides::{kind_of, side_of};
 use base::{Boxed, Items, Memory};
@@ -62,7 +65,7 @@ fn put_conversion(
         (expr_code places.now d (tree.Convert None to (expr_of e.now)))) }
 {
     put_value(code, alloc, places, d, e)?;
-    put_converted_here(code, to, temp(d))?;
+    put_converted_here(code, kind_of(e), to, temp(d))?;
     Ok(())
 }
 
@@ -245,7 +248,7 @@ fn put_and(
     e: &TypedExpr,
 ) -> Result<(), Memory>
     ensures { OnOk result (Adds code.old code.new
-        (binary_end LogicalAnd None d (expr_code places.now d (expr_of e.now)))) }
+        (binary_end LogicalAnd None d None (expr_code places.now d (expr_of e.now)))) }
 {
     let yes = tested(alloc, places, d, e)?;
     put_if(code, Arg::Var(temp(d)), yes, Items::new(alloc))?;
@@ -262,7 +265,7 @@ fn put_or(
     e: &TypedExpr,
 ) -> Result<(), Memory>
     ensures { OnOk result (Adds code.old code.new
-        (binary_end LogicalOr None d (expr_code places.now d (expr_of e.now)))) }
+        (binary_end LogicalOr None d None (expr_code places.now d (expr_of e.now)))) }
 {
     let yes = truth(alloc, d)?;
     let no = tested(alloc, places, d, e)?;
@@ -291,6 +294,27 @@ fn put_operation(
     Ok(())
 }
 
+// The operation on both operands, or on the left one and a constant.
+#[cycle(value)]
+fn put_strict(
+    code: &mut Items<FlatStmt>,
+    alloc: Global,
+    places: &Places,
+    d: u8,
+    op: BinaryOp,
+    kind: Option<Kind>,
+    e: &TypedExpr,
+) -> Result<(), Memory>
+    ensures { OnOk result (Adds code.old code.new
+        (strict_code op kind d (powers.immediate_for op kind (expr_of e.now))
+        (expr_code places.now (suc d) (expr_of e.now)))) }
+{
+    match immediate_for(op, kind, e) {
+        None => put_operation(code, alloc, places, d, op, kind, e),
+        Some(m) => put_immediate(code, op, m, temp(d)),
+    }
+}
+
 /// What follows the left operand.
 #[cycle(value)]
 #[inline(never)]
@@ -304,12 +328,13 @@ fn put_right(
     e: &TypedExpr,
 ) -> Result<(), Memory>
     ensures { OnOk result (Adds code.old code.new
-        (binary_end op kind d (expr_code places.now (operand_at op d) (expr_of e.now)))) }
+        (binary_end op kind d (powers.immediate_for op kind (expr_of e.now))
+        (expr_code places.now (operand_at op d) (expr_of e.now)))) }
 {
     match op {
         BinaryOp::LogicalAnd => put_and(code, alloc, places, d, e),
         BinaryOp::LogicalOr => put_or(code, alloc, places, d, e),
-        _ => put_operation(code, alloc, places, d, op, kind, e),
+        _ => put_strict(code, alloc, places, d, op, kind, e),
     }
 }
 

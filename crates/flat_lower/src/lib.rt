@@ -19,6 +19,7 @@ mod names;
 mod operations;
 mod places;
 mod plain;
+mod powers;
 mod results;
 mod side;
 mod sides;

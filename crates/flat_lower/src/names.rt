@@ -12,6 +12,7 @@ use crate::addressing::{put_address, put_whole};
 use crate::emit::{put_let, put_load, scalar, temp};
 use crate::operations::{load_op, put_copy};
 use crate::places::Places;
+use crate::powers::put_scaled;
 use base::{Items, Memory};
 use c_tree::{Kind, Place};
 use ir_forms::{Arg, FlatStmt};
@@ -135,13 +136,7 @@ fn put_joined_by(code: &mut Items<FlatStmt>, size: u32, d: u8, next: u8) -> Resu
     requires { next ≡ suc d }
     ensures { OnOk result (Adds code.old code.new (joined_by (Some size) d)) }
 {
-    put_let(
-        code,
-        temp(d),
-        Op::Mul,
-        Arg::Var(temp(d)),
-        Arg::Const(size as u64),
-    )?;
+    put_scaled(code, size as u64, temp(d))?;
     put_let(
         code,
         temp(d),

@@ -3,6 +3,7 @@
 ghost use Rattle.std.specs.Prelude.{◌≡◌, OnOk};
 ghost use Rattle.c_tree.specs.declared.UnaryOp.TheVariants.{Minus, Complement};
 ghost use Rattle.ir_forms.specs.inside.FlatCode.{Then};
+ghost use Rattle.flat_lower.specs.inside.Narrowing as narrowings;
 ghost use Rattle.flat_lower.specs.inside.Operations as operations;
 ghost use Rattle.flat_lower.specs.inside.Operations.{set_word, copied, one_done, two_done, narrowed_by};
 ghost use Rattle.flat_lower.specs.inside.Operations.{converted_to, narrowed_here, converted_here};
@@ -12,6 +13,7 @@ ghost use Rattle.flat_lower.specs.inside.Emitted.{Adds};
 
 use crate::emit::{put_let, scratch};
 use base::{Items, Memory};
+use c_constant::{row, width};
 use c_tree::{BinaryOp, BumpOp, Kind, UnaryOp};
 use ir_forms::{Arg, FlatStmt};
 use trips_isa::Op;
@@ -46,7 +48,7 @@ fn put_two(code: &mut Items<FlatStmt>, to: u16, op: Op, x: u16, y: u16) -> Resul
 
 // What makes a word of a type of any word; none where each word is one.
 fn narrowing(kind: Kind) -> Option<Op>
-    ensures { result ≡ operations.narrowing kind }
+    ensures { result ≡ narrowings.narrowing kind }
 {
     match kind {
         Kind::Char => Some(Op::Extsb),
@@ -57,6 +59,35 @@ fn narrowing(kind: Kind) -> Option<Op>
         Kind::UInt => Some(Op::Extuw),
         Kind::Long => None,
         Kind::ULong => None,
+    }
+}
+
+// Whether each word of a type is one of another.
+fn is_within(from: Kind, kind: Kind) -> bool
+    ensures { result ≡ narrowings.is_within from kind }
+{
+    if row(from).signed {
+        row(kind).signed && width(from) <= width(kind)
+    } else if row(kind).signed {
+        width(from) < width(kind)
+    } else {
+        width(from) <= width(kind)
+    }
+}
+
+// What makes a word of a type of a word of another, if this type is known; none where each word is one.
+fn narrowing_from(from: Option<Kind>, kind: Kind) -> Option<Op>
+    ensures { result ≡ narrowings.narrowing_from from kind }
+{
+    match from {
+        None => narrowing(kind),
+        Some(from) => {
+            if is_within(from, kind) {
+                None
+            } else {
+                narrowing(kind)
+            }
+        }
     }
 }
 
@@ -75,16 +106,17 @@ fn put_narrowed_by(
     }
 }
 
-/// A word as one of a type, in another variable.
+/// A word of one type as one of another, in another variable.
 pub fn put_converted_to(
     code: &mut Items<FlatStmt>,
+    from: Option<Kind>,
     kind: Kind,
     to: u16,
     x: u16,
 ) -> Result<(), Memory>
-    ensures { OnOk result (Adds code.old code.new (converted_to kind to x)) }
+    ensures { OnOk result (Adds code.old code.new (converted_to from kind to x)) }
 {
-    put_narrowed_by(code, narrowing(kind), to, x)
+    put_narrowed_by(code, narrowing_from(from, kind), to, x)
 }
 
 // A word narrowed where it stands.
@@ -98,11 +130,16 @@ fn put_narrowed_here(code: &mut Items<FlatStmt>, op: Option<Op>, x: u16) -> Resu
     }
 }
 
-/// A word as one of a type, where it stands.
-pub fn put_converted_here(code: &mut Items<FlatStmt>, kind: Kind, x: u16) -> Result<(), Memory>
-    ensures { OnOk result (Adds code.old code.new (converted_here kind x)) }
+/// A word of one type as one of another, where it stands; no code where it is one already.
+pub fn put_converted_here(
+    code: &mut Items<FlatStmt>,
+    from: Option<Kind>,
+    kind: Kind,
+    x: u16,
+) -> Result<(), Memory>
+    ensures { OnOk result (Adds code.old code.new (converted_here from kind x)) }
 {
-    put_narrowed_here(code, narrowing(kind), x)
+    put_narrowed_here(code, narrowing_from(from, kind), x)
 }
 
 // An unsigned int that overflows 32 bits is narrowed.

@@ -19,13 +19,16 @@ use Rattle.flat_lower.proofs.TreeFacts.{plain_node, expr_is}
 use Rattle.flat_lower_premises.proofs.NodeNeeds.{need, level_needs, needs_is}
 use Rattle.flat_lower_premises.proofs.NodeNeeds.{Room}
 
+-- a typed expression as a plain tree, by its kind and its node
 pub at_level : (e : TypedExpr) (k : Option Kind) (x : Node) → e.kind ≡ k → node_of e ≡ x
     → expr_of e ≡ plain_node x k
 at_level e k x q n = expr_is e ∙ ap₂ (λ x k. plain_node x k) n q
 
+-- the needs of a typed expression are those of its node
 pub needs_at : (e : TypedExpr) (x : Node) → node_of e ≡ x → typed_needs e ≡ level_needs x
 needs_at e x n = needs_is e ∙ ap level_needs n
 
+-- where an expression finds room, what its node needs does
 pub room_at : (e : TypedExpr) (x : Node) (d : ℕ) → node_of e ≡ x → d + need e ≤ 16
     → d + (level_needs x).need ≤ 16
 room_at e x d n l = subst (λ (s : Needs). d + s.need ≤ 16) (needs_at e x n) l
@@ -36,10 +39,12 @@ pub assign_at : (e : TypedExpr) (x : Node) (d m : ℕ) → node_of e ≡ x
 assign_at e x d m n l =
     subst (λ (s : Needs). d + assign_need s.index m ≤ 16) (needs_at e x n) l
 
+-- where an expression's index finds room, the index of its node does
 pub index_at : (e : TypedExpr) (x : Node) (d : ℕ) → node_of e ≡ x → Room d (typed_needs e).index
     → Room d (level_needs x).index
 index_at e x d n r = subst (λ (s : Needs). Room d s.index) (needs_at e x n) r
 
+-- an expression whose numbers are words has a node whose numbers are
 pub words_at : (e : TypedExpr) (k : Option Kind) (x : Node) → e.kind ≡ k → node_of e ≡ x
     → NodeHasWords e.kind (node_of e) → NodeHasWords k x
 words_at e k x q n w = subst (NodeHasWords k) n (subst (λ k. NodeHasWords k (node_of e)) q w)
@@ -49,10 +54,12 @@ pub index_words : (r : Option Kind) (p : Place) (i : TypedExpr) → NodeHasWords
     → NodeHasWords i.kind (node_of i)
 index_words r p i (word.element w) = w
 
+-- an element by two indexes whose numbers are words has indexes whose numbers are
 pub row_words : (r : Option Kind) (p : Place) (x i : TypedExpr) → NodeHasWords r (node.Element p (Some x) i)
     → NodeHasWords x.kind (node_of x) × NodeHasWords i.kind (node_of i)
 row_words r p x i (word.row_element w u) = (w, u)
 
+-- a conversion whose numbers are words has an operand whose numbers are
 pub converted_words : (r : Option Kind) (k : Kind) (i : TypedExpr) → NodeHasWords r (node.Convert k i)
     → NodeHasWords i.kind (node_of i)
 converted_words r k i (word.conversion w) = w
@@ -68,11 +75,13 @@ pub right_named : (o : Option BinaryOp) (k : Option Kind) (p : Place) (d n : ℕ
 right_named None k p d n l = omega (arith, l)
 right_named (Some o) k p d n l = omega (arith, l)
 
+-- behind an element on the left, the right side of an assignment finds room
 pub right_indexed : (o : Option BinaryOp) (k : Option Kind) (p : Place) (x : Expr) (d i n : ℕ)
     → d + assign_need (Some i) n ≤ 16 → right_at o d (Element k p x) + n ≤ 16
 right_indexed None k p x d i n l = omega (arith, l)
 right_indexed (Some o) k p x d i n l = omega (arith, l)
 
+-- behind an element by two indexes on the left, the right side of an assignment finds room
 pub right_row : (o : Option BinaryOp) (k : Option Kind) (p : Place) (x y : Expr) (d i n : ℕ)
     → d + assign_need (Some i) n ≤ 16 → right_at o d (RowElement k p x y) + n ≤ 16
 right_row None k p x y d i n l = omega (arith, l)

@@ -71,6 +71,7 @@ counted may _ f t (spelled.next_param x y) = tt
 counted may _ f t spelled.void = tt
 counted may _ f t (spelled.typed x) = tt
 
+-- a unit has no more items than tokens
 pub items_few : (ts : Tokens) (xs : List Top) → IsUnit ts xs → length xs ≤ length ts
 items_few ts xs h = let i = counted (within limit) (unit xs) ts [] h in omega arith
 
@@ -93,6 +94,7 @@ items_add T U _ _ typing.no_item = omega arith
 items_add T U _ W (typing.one_item {V = V} {t = t} {ts = ts} x y) =
     let h = item_adds T U t.node V x in let i = items_add T V ts W y in omega arith
 
+-- a typed program has no more globals than its unit has items
 pub globals_few : (p : Program) (t : TypedProgram) → Accepts p t
     → length t.globals ≤ length p.items
 globals_few p _ (typing.accepts {U = U} h m) =

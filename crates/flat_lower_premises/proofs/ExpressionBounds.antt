@@ -1,20 +1,17 @@
 -- A pass through a typed expression costs no more than the expression has nodes, and a typed
 -- expression has fewer than twice as many.
-use Rattle.std.proofs.Common.{◌≡◌, ◌+◌, ◌*◌, ◌≤◌, List, Option, Some, None, arith}
-use Rattle.c_tree.specs.declared.token.Kind.{Kind}
+use Rattle.std.proofs.Common.{◌≡◌, ◌+◌, ◌*◌, ◌≤◌, List, Some, None, arith}
 use Rattle.c_tree.specs.declared.token.Kind.TheVariants.{Int}
 use Rattle.c_tree.specs.declared.tree.Expr.{Expr}
 use Rattle.c_tree.specs.declared.typed.Slot.{Slot}
 use Rattle.c_tree.specs.declared.typed.TypedExpr.{TypedExpr}
-use Rattle.c_tree.specs.declared.typed.TypedNode.{TypedNode, roll-TypedNode}
 use Rattle.c_tree.specs.declared.typed.TypedNode.TheVariants as typed
 use Rattle.c_tree.specs.declared.typed.TypedNode.TheOpen as node
-use Rattle.c_tree.specs.TypedTrees.{Node}
 use Rattle.c_type_expr.specs.Scope.{Scope}
 use Rattle.c_constant.specs.Kinds.{common}
 use Rattle.c_constant.specs.Operation.{left_at, right_at, result_of, unary_at, unary_result}
 use Rattle.c_type_expr.specs.declared.role.Role.{Role}
-use Rattle.c_type_expr.specs.Conversions.{a, kind_of, with_convert, end_of_file, assigned_at, assigned_from}
+use Rattle.c_type_expr.specs.Conversions.{kind_of, with_convert, end_of_file, assigned_at, assigned_from}
 use Rattle.c_type_expr.specs.Typed.{Typed, Passed, number, scalar, array, ending, element, row_element, call}
 use Rattle.c_type_expr.specs.Typed.{group, operator, conversion, step, operation, either}
 use Rattle.c_type_expr.specs.Typed.{assignment, sequence, none, value, address}
@@ -23,24 +20,8 @@ use Rattle.flat_lower_premises.proofs.TreeSizes.{nodes-Number, nodes-Name, nodes
 use Rattle.flat_lower_premises.proofs.TreeSizes.{nodes-Unary, nodes-Cast, nodes-Bump, nodes-Binary, nodes-Choice}
 use Rattle.flat_lower_premises.proofs.TreeSizes.{nodes-Assign, nodes-Comma}
 use Rattle.flat_lower.specs.inside.TreeViews.{expr_of}
-use Rattle.flat_lower.specs.inside.Sizes as plain
-use Rattle.flat_lower.proofs.TreeFacts.{plain_node}
-use Rattle.flat_lower_premises.specs.inside.SourceNodes as limits
-use Rattle.flat_lower_premises.proofs.CostTrees as cost_trees
-use Rattle.flat_lower_premises.proofs.CostTrees.{cost, costs, left_few}
-use Rattle.flat_lower_premises.proofs.TypedTreeSizes as sizes
-use Rattle.flat_lower_premises.proofs.TypedTreeSizes.{typed_nodes, typed_list_nodes}
-
--- what a typed expression costs and how many nodes it has, by its node
-at_node : (k : Option Kind) (n : TypedNode) (x : Node) → roll-TypedNode x ≡ n
-    → (cost (a k n) ≡ plain.nodes (plain_node x k))
-    × (typed_nodes (a k n) ≡ limits.expr_nodes (plain_node x k))
-at_node k n x e = (cost_trees.by_node k n x e, sizes.by_node k n x e)
-
--- a conversion costs nothing, and adds one node at most
-pub converted_few : (k : Kind) (t : TypedExpr)
-    → (cost (with_convert k t) ≤ cost t) × (typed_nodes (with_convert k t) ≤ 1 + typed_nodes t)
-converted_few k t = (cost_trees.converted_few k t, sizes.converted_few k t)
+use Rattle.flat_lower_premises.proofs.TypedTreeSizes.{cost, costs, typed_nodes, typed_list_nodes, at_node}
+use Rattle.flat_lower_premises.proofs.TypedTreeSizes.{converted_few, left_few}
 
 -- EOF is one number
 ending_one : (cost end_of_file ≡ 1) × (typed_nodes end_of_file ≡ 1)

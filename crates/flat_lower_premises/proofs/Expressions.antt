@@ -1,5 +1,5 @@
 -- The code of an expression fits.
-use Rattle.std.proofs.Common.{◌≡◌, ℕ, suc, ◌<◌, Bool, List, []}
+use Rattle.std.proofs.Common.{◌≡◌, ℕ, suc, ◌^◌, ◌<◌, Bool, List, []}
 use Rattle.std.proofs.Common.{◌∷◌, length, take, Option, Some, None, refl, sym, ap, ◌∙◌, subst, arith}
 use Rattle.std.specs.Prelude.{slice_get}
 use Rattle.std.proofs.lemmas.Option.{slice_get_within}
@@ -27,18 +27,22 @@ use Rattle.flat_lower.specs.inside.Operations.{temp, set_word, unary_code, binar
 use Rattle.flat_lower.specs.inside.Objects.{Context}
 use Rattle.flat_lower.specs.inside.Expressions.{name_code, element_code, bump_code, before_right, right_at}
 use Rattle.flat_lower.specs.inside.Expressions.{after_right, temps, result_var, tested, binary_end}
-use Rattle.flat_lower.specs.inside.Expressions.{operand_at, joined_code}
+use Rattle.flat_lower.specs.inside.Expressions.{operand_at, joined_code, strict_code}
+use Rattle.flat_lower.specs.inside.Powers.{immediate_for}
 use Rattle.flat_lower.specs.inside.Expressions.{expr_code, index_code, args_code, call_code}
 use Rattle.flat_lower.proofs.Depths.{depth_fits}
+use Rattle.flat_lower.proofs.PowerLaws.{immediate_small}
 use Rattle.flat_lower_premises.proofs.Fitting.{Fitting, nothing_fits, single_fits, let_fits, if_fits}
 use Rattle.flat_lower_premises.proofs.Fitting.{with_kind_fits, joined, scalar_fits, temp_fits, temp_lasts}
 use Rattle.flat_lower_premises.proofs.Operations.{word_fits, converted_here_fits, binary_fits, unary_fits}
+use Rattle.flat_lower_premises.proofs.Operations.{immediate_fits}
 use Rattle.flat_lower_premises.proofs.Places.{HasPlaces, FitsPlace, FitsSide, name_fits, element_fits, bump_fits}
 use Rattle.flat_lower_premises.proofs.Places.{joined_code_fits, before_fits, after_fits}
 
 -- PLACES
 
 module _ (c : Scope) where
+  -- the place of a name that fits is one of the function
   pub name_place : (k : Kind) (p : Place) → FitsName c k p → FitsPlace (length c.scalars) p
   name_place k (Global g) t = tt
   name_place k (Scalar j) t = scalar_fits (length c.scalars) j
@@ -65,6 +69,7 @@ module _ (c : Scope) where
   row_element_place None p t = absurd t
   row_element_place (Some k) p t = whole_place k (Some t.0) p t.1
 
+  -- the place of a left side that fits is one of the function
   pub side_place : (d : ℕ) (k : Option Kind) (e : Expr) → FitsLeft c d k e
       → FitsSide (length c.scalars) e
   side_place d k (Name j p) t = named_place d k p t.1
@@ -126,18 +131,23 @@ module _ (fs : List Function) (c : Scope) (bytes : ℕ) (i : Bool) (x : Context)
       let q = depth d h in
       let_fits (temp d) op.Tne (Var (temp d)) (Const 0) refl q q (omega arith)
 
-  binary_end_fits : (o : BinaryOp) (k : Option Kind) (d : ℕ) (right : Code) → d < 16
-      → operand_at o d < 16 → Fits right → Fits (binary_end o k d right)
-  binary_end_fits LogicalAnd k d right h g p =
-      if_fits (Var (temp d)) (Then right (tested d)) Nop (depth d h) (joined p (tested_fits d h))
-      nothing_fits
-  binary_end_fits LogicalOr k d right h g p =
-      let q = depth d h in
-      if_fits (Var (temp d)) (set_word (temp d) 1) (Then right (tested d)) q
-      (word_fits (temp d) 1 q (omega arith)) (joined p (tested_fits d h))
-  binary_end_fits o k d right h g p = joined p
+  strict_fits : (o : BinaryOp) (k : Option Kind) (d : ℕ) (m : Option ℕ) (right : Code) → d < 16 → suc d < 16
+      → ((i : ℕ) → m ≡ Some i → i < 2 ^ 64) → Fits right → Fits (strict_code o k d m right)
+  strict_fits o k d None right h g q p = joined p
       (with_kind_fits k (λ k. binary_code o k (temp d) (temp (suc d)))
       (λ k. binary_fits o k (temp d) (temp (suc d)) (depth d h) (depth (suc d) g)))
+  strict_fits o k d (Some m) right h g q p = immediate_fits o m (temp d) (q m refl) (depth d h)
+
+  binary_end_fits : (o : BinaryOp) (k : Option Kind) (d : ℕ) (m : Option ℕ) (right : Code) → d < 16
+      → operand_at o d < 16 → ((i : ℕ) → m ≡ Some i → i < 2 ^ 64) → Fits right → Fits (binary_end o k d m right)
+  binary_end_fits LogicalAnd k d m right h g q p =
+      if_fits (Var (temp d)) (Then right (tested d)) Nop (depth d h) (joined p (tested_fits d h))
+      nothing_fits
+  binary_end_fits LogicalOr k d m right h g q p =
+      let v = depth d h in
+      if_fits (Var (temp d)) (set_word (temp d) 1) (Then right (tested d)) v
+      (word_fits (temp d) 1 v (omega arith)) (joined p (tested_fits d h))
+  binary_end_fits o k d m right h g q p = strict_fits o k d m right h g q p
 
   called_fits : (k : Option Kind) (f d : ℕ) (args : Exprs) (g : Func)
       → slice_get c.functions f ≡ Some g → FitsArgs c d (take g.params g.scalars) args → d < 16
@@ -179,6 +189,7 @@ module _ (fs : List Function) (c : Scope) (bytes : ℕ) (i : Bool) (x : Context)
       (depth_fits c (suc d) index t) u v
 
   mutual
+    -- the code of an expression that fits, fits
     pub expr_fits : (d : ℕ) (e : Expr) → FitsExpr c d e → Fits (expr_code x d e)
     expr_fits d (Number None w) t = absurd t
     expr_fits d (Number (Some k) w) t = word_fits (temp d) w (depth d t.0) t.1.below
@@ -203,15 +214,16 @@ module _ (fs : List Function) (c : Scope) (bytes : ℕ) (i : Bool) (x : Context)
         (with_kind_fits (kind_of e) (λ j. unary_code o j (temp d))
         (λ j. unary_fits o j (temp d) (depth d (depth_fits c d e t.0))))
     expr_fits d (Cast k to e) t = joined (expr_fits d e t.0)
-        (converted_here_fits to (temp d) (depth d (depth_fits c d e t.0)))
+        (converted_here_fits (kind_of e) to (temp d) (depth d (depth_fits c d e t.0)))
     expr_fits d (Convert k to e) t = joined (expr_fits d e t.0)
-        (converted_here_fits to (temp d) (depth d (depth_fits c d e t.0)))
+        (converted_here_fits (kind_of e) to (temp d) (depth d (depth_fits c d e t.0)))
     expr_fits d (Bump k o e) t = joined (index_fits d k e t)
         (with_kind_fits (kind_of e) (bump_code x o d e)
         (λ j. bump_fits x low o d e j (side_place c d k e t) (left_depth c d k e t)))
     expr_fits d (Binary k o l r) t = joined (expr_fits d l t.0)
-        (binary_end_fits o (kind_of l) d (expr_code x (operand_at o d) r) (depth_fits c d l t.0)
-        (depth_fits c (operand_at o d) r t.1) (expr_fits (operand_at o d) r t.1))
+        (binary_end_fits o (kind_of l) d (immediate_for o (kind_of l) r) (expr_code x (operand_at o d) r)
+        (depth_fits c d l t.0) (depth_fits c (operand_at o d) r t.1) (immediate_small o (kind_of l) r)
+        (expr_fits (operand_at o d) r t.1))
     expr_fits d (Choice k b one other) t = joined (expr_fits d b t.0)
         (if_fits (Var (temp d)) (expr_code x d one) (expr_code x d other)
         (depth d (depth_fits c d b t.0)) (expr_fits d one t.1) (expr_fits d other t.2))

@@ -22,14 +22,17 @@ module _ (top : ℕ) where
     IsFew Continue = Unit {0}
     IsFew (Return e) = Unit {0}
 
+    -- each switch in some statements has few sections
     pub AllFew : Stmts → Type 0
     AllFew NoStmts = Unit {0}
     AllFew (WithStmt s rest) = IsFew s × AllFew rest
 
+    -- each switch in some sections has few sections
     pub SectionsFew : Sections → Type 0
     SectionsFew NoSections = Unit {0}
     SectionsFew (WithSection ls body rest) = AllFew body × SectionsFew rest
 
+    -- each switch in the first part of a `for` has few sections
     pub FirstFew : First → Type 0
     FirstFew Nothing = Unit {0}
     FirstFew (FirstOf e) = Unit {0}
@@ -41,6 +44,7 @@ module _ (top : ℕ) where
   counted (WithSection ls body rest) = let h = counted rest in omega (arith, h)
 
   mutual
+    -- a statement of few nodes has few sections in each switch
     pub few : (s : Stmt) → stmt_nodes s < top → IsFew s
     few (Declare p e) h = tt
     few (Plain e) h = tt

@@ -28,7 +28,7 @@ use Rattle.flat_lower.specs.inside.Statements.{global_image, globals_image, lowe
 use Rattle.flat_lower.specs.inside.Fits.{FitsFunc, FitsGlobal, FitsMain, FitsSource}
 use Rattle.flat_lower.specs.inside.Sizes as sizes
 use Rattle.flat_lower.specs.inside.Sizes.{IsMost}
-use Rattle.flat_lower.specs.Keeps.{IsInput}
+use Rattle.c_meaning_spec.specs.Laws.{IsInput}
 use Rattle.flat_lower.specs.inside.Keeps.{Keeps}
 use Rattle.flat_lower.proofs.Image.{both_length, global_length}
 use Rattle.flat_lower.proofs.Calls.{limit, typed_at, func_at}
@@ -143,6 +143,7 @@ module _ (P : TypedProgram) (h : WellFormed P) (w : ProgramHasWords P) where
       let e = limit in
       omega (arith, l, b, near, e, few)
 
+  -- the source of a well formed program with few globals and nodes fits
   pub source_fits : HasFewGlobals P → HasFewNodes P → FitsSource (source_of P)
   source_fits few nodes =
       record {
@@ -165,12 +166,14 @@ below_largest (g ∷ fs) (suc n) f h =
     let x = below_largest fs n f h in
     omega (arith, x)
 
+-- the greatest cost of a function's body, and a step for a call, is the most of the source
 pub most_is : (P : Source) → IsMost P (most_of P)
 unfolding most_of
 most_is P n f h = let x = below_largest P.functions n f h in omega (arith, x)
 
 -- MEANING
 
+-- a well formed program with few globals and nodes keeps its meaning when it is lowered
 pub meaning_kept : (P : TypedProgram) → WellFormed P → ProgramHasWords P → HasFewGlobals P → HasFewNodes P
     → (input : List ℕ) → IsInput input → (n : ℕ)
     → Keeps (most_of (source_of P)) (flat_run checked (lowered_program P) input) n (eval P input n)

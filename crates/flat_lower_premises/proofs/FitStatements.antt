@@ -43,7 +43,7 @@ abbrev Continues : TypedAround → Around → Type 0
 Continues b x = b.may_continue ≡ true → IsLooped x
 
 -- in a switch as around it
-still_looped : (x : Around) → IsLooped x → IsLooped (in_switch x)
+pub still_looped : (x : Around) → IsLooped x → IsLooped (in_switch x)
 still_looped around.Nowhere h = absurd h
 still_looped around.Loop h = tt
 still_looped around.Switch h = absurd h

@@ -1,7 +1,7 @@
 -- The labels and sections of a well formed switch are as the lowering takes them.
-use Rattle.std.proofs.Common.{◌≡◌, ℕ, zero, suc, ◌+◌, ◌≤◌, Bool, true, false, List, [], ◌∷◌, ◌++◌, map, Option}
+use Rattle.std.proofs.Common.{◌≡◌, ℕ, zero, suc, ◌+◌, ◌≤◌, true, false, List, [], ◌∷◌, ◌++◌, map, Option}
 use Rattle.std.proofs.Common.{Some, None, refl, sym, subst, arith, append-nil, append_assoc}
-use Rattle.std.specs.Prelude.{◌||◌}
+use Rattle.std.proofs.lemmas.Bool.{or_parts}
 use Rattle.c_tree.specs.declared.Kind.{Kind}
 use Rattle.c_tree.specs.declared.TypedFunc.{TypedFunc}
 use Rattle.c_tree.specs.declared.TypedProgram.{TypedProgram}
@@ -40,16 +40,10 @@ defaults_joined [] ys = omega arith
 defaults_joined (None ∷ xs) ys = let h = defaults_joined xs ys in omega (arith, h)
 defaults_joined (Some w ∷ xs) ys = defaults_joined xs ys
 
-neither : (a b : Bool) → (a || b) ≡ false → (a ≡ false) × (b ≡ false)
-neither true true h = absurd (cc h)
-neither true false h = absurd (cc h)
-neither false true h = absurd (cc h)
-neither false false h = (refl, refl)
-
 no_default : (ls : List (Option ℕ)) → label_among None ls ≡ false → defaults ls ≡ 0
 no_default [] h = refl
-no_default (None ∷ ls) h = let e = (neither true (label_among None ls) h).0 in absurd (cc e)
-no_default (Some w ∷ ls) h = no_default ls (neither false (label_among None ls) h).1
+no_default (None ∷ ls) h = let e = (or_parts true (label_among None ls) h).0 in absurd (cc e)
+no_default (Some w ∷ ls) h = no_default ls (or_parts false (label_among None ls) h).1
 
 -- no more than once, since each label is another than those before it
 one_default : (k : Kind) (seen ls : List (Option ℕ)) → Labels k seen ls → defaults seen ≤ 1
@@ -78,10 +72,12 @@ free_has_default (Some w ∷ ls) h = omega arith
 
 -- SECTIONS
 
+-- a section with labels is labelled
 pub labelled : (ls : List (Option ℕ)) → IsFilled ls → IsLabelled ls
 labelled [] h = absurd h
 labelled (l ∷ ls) h = tt
 
+-- a section with statements has statements as plain data
 pub filled : (ss : List TypedStmt) → IsFilled ss → plain.IsFilled (stmts_of (map stmt_of ss))
 filled [] h = absurd h
 filled (s ∷ ss) h = tt
@@ -99,6 +95,7 @@ module _ (P : TypedProgram) (f : TypedFunc) where
       let rest = one_free k (seen ++ s.labels) b ss rs ws d in
       omega (arith, e, g, rest)
 
+  -- a well formed switch has at most one section without a case
   pub few_free : (k : Kind) (b : Around) (xs : List TypedSection) → RunsSections P f k [] b xs
       → SectionsHaveWords xs → free_sections (sections_in xs) ≤ 1
   few_free k b xs r w = let h = one_free k [] b xs r w (omega arith) in omega (arith, h)

@@ -130,5 +130,6 @@ cut_has before text after rest ts (cut.space l c) = cut_has _ _ after rest ts c
 cut_has before text after rest _ (cut.next {ts = ts} {f = f} l c) =
     (piece_has _ _ (reads.Token f) l.is, cut_has _ _ after rest ts c)
 
+-- the numbers of a text's tokens are words of their types
 pub lexed_has : (most : ℕ) (text : Bytes) (ts : Tokens) → Lexed most text ts → TokensHaveWords ts
 lexed_has most text ts h = cut_has [] text text [] ts h.0

@@ -1,7 +1,5 @@
 pub mod Agrees
 pub mod ByNodes
-pub mod CostTrees
-pub mod CostUnits
 pub mod Counted
 pub mod ExpressionBounds
 pub mod FewSections
@@ -32,12 +30,10 @@ pub mod Rooms
 pub mod Expressions
 pub mod Statements
 pub mod Programs
-pub mod OperationLengths
+pub mod Weights
+pub mod OperationWeights
 pub mod SectionNodes
-pub mod SwitchLengths
-pub mod CodeLengths
-pub mod BlockCounts
-pub mod SwitchBlocks
-pub mod BlockLengths
+pub mod SwitchWeights
+pub mod CodeWeights
 pub mod LoweredSources
 pub mod WorkedSources

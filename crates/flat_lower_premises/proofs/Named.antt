@@ -20,6 +20,7 @@ use Rattle.flat_lower.specs.inside.Fits.{Scope, scope_of, FitsName, FitsWhole}
 abbrev pub scope : TypedProgram → TypedFunc → Scope
 scope P f = scope_of (source_of P) (func_of f)
 
+-- a scalar that a name finds is one for the lowering
 pub scalar_fits : (P : TypedProgram) (f : TypedFunc) → Each GlobalFits P.globals → (k : Kind) (p : Place)
     → scalar_at P f p ≡ Some k → FitsName (scope P f) k p
 scalar_fits P f w k (Global g) h =
@@ -34,6 +35,7 @@ scalar_fits P f w k (Global g) h =
 scalar_fits P f w k (Scalar i) h = scalar_slot P f i k h
 scalar_fits P f w k (Array a) h = absurd (cc h)
 
+-- an array that a place finds is one for the lowering
 pub array_fits : (P : TypedProgram) (f : TypedFunc) (k : Kind) (q : Option ℕ) (p : Place)
     → array_at P f p ≡ Some (shape k q) → FitsWhole (scope P f) k q p
 array_fits P f k q (Global g) h =
@@ -64,6 +66,7 @@ by_signature P n r slots (Some g) e h =
       params = sym (ap (λ (s : Signature). s.params) is);
     }
 
+-- a function that a call finds is one for the lowering
 pub found_by : (P : TypedProgram) (n : ℕ) (r : Option Kind) (slots : List Slot)
     → option_map of_function (slice_get P.functions n) ≡ Some (signature r slots)
     → Found P n r slots

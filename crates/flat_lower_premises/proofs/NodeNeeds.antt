@@ -58,26 +58,33 @@ needs_is e =
 
 -- ROOM FOR OPERANDS
 
+-- where an operation on two operands finds room, its left operand does
 pub binary_left : (d a b : ℕ) → d + max a (1 + b) ≤ 16 → d + a ≤ 16
 binary_left d a b l = omega (arith, l)
 
+-- where an operation on two operands finds room, its right operand does, at its depth
 pub binary_right : (o : BinaryOp) (d a b : ℕ) → d + max a (1 + b) ≤ 16 → operand_at o d + b ≤ 16
 binary_right LogicalOr d a b l = omega (arith, l)
 binary_right LogicalAnd d a b l = omega (arith, l)
 binary_right _ d a b l = omega (arith, l)
 
+-- where a choice finds room, its test does
 pub choice_test : (d a b c : ℕ) → d + max a (max b c) ≤ 16 → d + a ≤ 16
 choice_test d a b c l = omega (arith, l)
 
+-- where a choice finds room, its first leg does
 pub choice_one : (d a b c : ℕ) → d + max a (max b c) ≤ 16 → d + b ≤ 16
 choice_one d a b c l = omega (arith, l)
 
+-- where a choice finds room, its second leg does
 pub choice_other : (d a b c : ℕ) → d + max a (max b c) ≤ 16 → d + c ≤ 16
 choice_other d a b c l = omega (arith, l)
 
+-- where a comma finds room, its left side does
 pub comma_left : (d a b : ℕ) → d + max a b ≤ 16 → d + a ≤ 16
 comma_left d a b l = omega (arith, l)
 
+-- where a comma finds room, its right side does
 pub comma_right : (d a b : ℕ) → d + max a b ≤ 16 → d + b ≤ 16
 comma_right d a b l = omega (arith, l)
 
@@ -85,6 +92,7 @@ comma_right d a b l = omega (arith, l)
 pub row_first : (d a b : ℕ) → d + max a (1 + b) ≤ 16 → d + a ≤ 16
 row_first d a b l = omega (arith, l)
 
+-- where two indexes find room, the second does, one temporary higher
 pub row_second : (d a b : ℕ) → d + max a (1 + b) ≤ 16 → suc d + b ≤ 16
 row_second d a b l = omega (arith, l)
 
@@ -93,6 +101,7 @@ abbrev pub Room : ℕ → Option ℕ → Type 0
 Room d None = d < 16
 Room d (Some n) = d + n ≤ 16
 
+-- where an assignment finds room, the index of its left side does
 pub assign_room : (d : ℕ) (index : Option ℕ) (n : ℕ) → d + assign_need index n ≤ 16 → Room d index
 assign_room d None n l = omega (arith, l)
 assign_room d (Some i) n l = omega (arith, l)
@@ -101,5 +110,6 @@ assign_room d (Some i) n l = omega (arith, l)
 pub arg_room : (d i t n m : ℕ) → t ≡ d + i → d + max (n + i) m ≤ 16 → t + n ≤ 16
 arg_room d i t n m e l = omega (arith, e, l)
 
+-- where some arguments find room, those behind the first do
 pub args_room : (d i n m : ℕ) → d + max (n + i) m ≤ 16 → d + m ≤ 16
 args_room d i n m l = omega (arith, l)

@@ -1,14 +1,15 @@
 -- The code of operations and conversions fits where its variables do.
-use Rattle.std.proofs.Common.{◌≡◌, ℕ, ◌^◌, ◌<◌, Bool, true, false, cond, List, refl, arith}
+use Rattle.std.proofs.Common.{◌≡◌, ℕ, ◌^◌, ◌<◌, Bool, true, false, cond, List, Option, Some, None}
+use Rattle.std.proofs.Common.{refl, arith}
 use Rattle.c_tree.specs.declared.Kind.{Kind}
-use Rattle.c_tree.specs.declared.Kind.TheVariants.{Char, UChar, Short, UShort, Int, UInt, Long, ULong}
+use Rattle.c_tree.specs.declared.Kind.TheVariants.{Char, Int, UInt, Long, ULong}
 use Rattle.c_tree.specs.declared.UnaryOp.{UnaryOp}
 use Rattle.c_tree.specs.declared.UnaryOp.TheVariants.{Plus, Minus, Complement, Not}
 use Rattle.c_tree.specs.declared.BumpOp.{BumpOp}
-use Rattle.c_tree.specs.declared.BumpOp.TheVariants.{PreInc, PreDec, PostInc, PostDec}
+use Rattle.c_tree.specs.declared.BumpOp.TheVariants.{PreInc}
 use Rattle.c_tree.specs.declared.BinaryOp.{BinaryOp}
-use Rattle.c_tree.specs.declared.BinaryOp.TheVariants.{LogicalOr, LogicalAnd, BitOr, BitXor, BitAnd}
-use Rattle.c_tree.specs.declared.BinaryOp.TheVariants.{Equal, NotEqual, Less, Greater, LessEqual}
+use Rattle.c_tree.specs.declared.BinaryOp.TheVariants.{LogicalOr, LogicalAnd}
+use Rattle.c_tree.specs.declared.BinaryOp.TheVariants.{Less, Greater, LessEqual}
 use Rattle.c_tree.specs.declared.BinaryOp.TheVariants.{GreaterEqual, ShiftLeft, ShiftRight, Add}
 use Rattle.c_tree.specs.declared.BinaryOp.TheVariants.{Subtract, Multiply, Divide, Remainder}
 use Rattle.c_constant.specs.Kinds.{is_signed}
@@ -18,9 +19,13 @@ use Rattle.ir_forms.specs.declared.flat.Arg.TheVariants.{Const, Var}
 use Rattle.ir_forms.specs.inside.FlatCode.{Function}
 use Rattle.ir_forms.specs.inside.FlatFits.{operates, loads, stores, FitsVar}
 use Rattle.flat_lower.specs.inside.Operations.{scratch, set_word, copied, one_done, two_done}
-use Rattle.flat_lower.specs.inside.Operations.{narrowed_here, converted_to, converted_here, reduced_here}
-use Rattle.flat_lower.specs.inside.Operations.{by_sign, remainder_code, binary_code, unary_code, bump_op}
-use Rattle.flat_lower.specs.inside.Operations.{bump_narrowing, bumped, load_op, save_op}
+use Rattle.flat_lower.specs.inside.Narrowing.{narrowing, narrowing_from, is_within}
+use Rattle.flat_lower.specs.inside.Operations.{narrowed_by, narrowed_here, converted_to}
+use Rattle.flat_lower.specs.inside.Operations.{converted_here, reduced_here, by_sign, remainder_code}
+use Rattle.flat_lower.specs.inside.Operations.{binary_code, unary_code, bump_op, bump_narrowing, bumped}
+use Rattle.flat_lower.specs.inside.Operations.{load_op, save_op}
+use Rattle.flat_lower.specs.inside.Powers.{exponent_of, immediate_code, scaled_by}
+use Rattle.flat_lower.proofs.PowerLaws.{exponent_is}
 use Rattle.flat_lower_premises.proofs.Fitting.{Fitting, nothing_fits, let_fits, joined, scratch_fits}
 
 -- OPERATIONS
@@ -36,36 +41,51 @@ signed k s u p q = chosen (is_signed k) s u p q
 
 bumps : (o : BumpOp) → operates (bump_op o) ≡ true
 bumps PreInc = refl
-bumps PreDec = refl
-bumps PostInc = refl
-bumps PostDec = refl
+bumps _ = refl
 
+-- an operation that narrows, where there is one
+abbrev IfOperates : Option Op → Type 0
+IfOperates None = Unit {0}
+IfOperates (Some o) = operates o ≡ true
+
+narrowing_works : (k : Kind) → IfOperates (narrowing k)
+narrowing_works Long = tt
+narrowing_works ULong = tt
+narrowing_works _ = refl
+
+-- what is left of it behind a test
+unless_works : (b : Bool) (o : Option Op) → IfOperates o → IfOperates (cond b None o)
+unless_works true o h = tt
+unless_works false o h = h
+
+narrowing_from_works : (j : Option Kind) (k : Kind) → IfOperates (narrowing_from j k)
+narrowing_from_works None k = narrowing_works k
+narrowing_from_works (Some j) k = unless_works (is_within j k) (narrowing k) (narrowing_works k)
+
+bump_narrowing_works : (k : Kind) → IfOperates (bump_narrowing k)
+bump_narrowing_works Int = tt
+bump_narrowing_works Long = tt
+bump_narrowing_works ULong = tt
+bump_narrowing_works _ = refl
+
+-- the load of each kind is an operation that loads
 pub loads_fit : (k : Kind) → loads (load_op k) ≡ true
 loads_fit Char = refl
-loads_fit UChar = refl
-loads_fit Short = refl
-loads_fit UShort = refl
-loads_fit Int = refl
-loads_fit UInt = refl
-loads_fit Long = refl
-loads_fit ULong = refl
+loads_fit _ = refl
 
+-- the store of each kind is an operation that stores
 pub saves_fit : (k : Kind) → stores (save_op k) ≡ true
 saves_fit Char = refl
-saves_fit UChar = refl
-saves_fit Short = refl
-saves_fit UShort = refl
-saves_fit Int = refl
-saves_fit UInt = refl
-saves_fit Long = refl
-saves_fit ULong = refl
+saves_fit _ = refl
 
 -- CODE
 
 module _ {fs : List Function} {n bytes : ℕ} {i : Bool} where
+  -- code that sets a variable to a word fits
   pub word_fits : (to w : ℕ) → FitsVar n to → w < 2 ^ 64 → Fitting fs n bytes i (set_word to w)
   word_fits to w p h = let_fits to op.Mov (Const w) (Const 0) refl p h (omega arith)
 
+  -- code that copies a variable fits
   pub copied_fits : (to x : ℕ) → FitsVar n to → FitsVar n x → Fitting fs n bytes i (copied to x)
   copied_fits to x p q = let_fits to op.Mov (Var x) (Const 0) refl p q (omega arith)
 
@@ -77,26 +97,24 @@ module _ {fs : List Function} {n bytes : ℕ} {i : Bool} where
       → Fitting fs n bytes i (two_done to o x y)
   two to o x y e p q r = let_fits to o (Var x) (Var y) e p q r
 
-  pub converted_to_fits : (k : Kind) (to x : ℕ) → FitsVar n to → FitsVar n x
-      → Fitting fs n bytes i (converted_to k to x)
-  converted_to_fits Char to x p q = one to op.Extsb x refl p q
-  converted_to_fits UChar to x p q = one to op.Extub x refl p q
-  converted_to_fits Short to x p q = one to op.Extsh x refl p q
-  converted_to_fits UShort to x p q = one to op.Extuh x refl p q
-  converted_to_fits Int to x p q = one to op.Extsw x refl p q
-  converted_to_fits UInt to x p q = one to op.Extuw x refl p q
-  converted_to_fits Long to x p q = copied_fits to x p q
-  converted_to_fits ULong to x p q = copied_fits to x p q
+  narrowed_fits : (o : Option Op) (x : ℕ) → IfOperates o → FitsVar n x → Fitting fs n bytes i (narrowed_here o x)
+  narrowed_fits None x e p = nothing_fits
+  narrowed_fits (Some o) x e p = one x o x e p p
 
-  pub converted_here_fits : (k : Kind) (x : ℕ) → FitsVar n x → Fitting fs n bytes i (converted_here k x)
-  converted_here_fits Char x p = one x op.Extsb x refl p p
-  converted_here_fits UChar x p = one x op.Extub x refl p p
-  converted_here_fits Short x p = one x op.Extsh x refl p p
-  converted_here_fits UShort x p = one x op.Extuh x refl p p
-  converted_here_fits Int x p = one x op.Extsw x refl p p
-  converted_here_fits UInt x p = one x op.Extuw x refl p p
-  converted_here_fits Long x p = nothing_fits
-  converted_here_fits ULong x p = nothing_fits
+  narrowed_to_fits : (o : Option Op) (to x : ℕ) → IfOperates o → FitsVar n to → FitsVar n x
+      → Fitting fs n bytes i (narrowed_by o to x)
+  narrowed_to_fits None to x e p q = copied_fits to x p q
+  narrowed_to_fits (Some o) to x e p q = one to o x e p q
+
+  -- the code of a conversion into another variable fits
+  pub converted_to_fits : (j : Option Kind) (k : Kind) (to x : ℕ) → FitsVar n to → FitsVar n x
+      → Fitting fs n bytes i (converted_to j k to x)
+  converted_to_fits j k to x p q = narrowed_to_fits (narrowing_from j k) to x (narrowing_from_works j k) p q
+
+  -- the code of a conversion in place fits
+  pub converted_here_fits : (j : Option Kind) (k : Kind) (x : ℕ) → FitsVar n x
+      → Fitting fs n bytes i (converted_here j k x)
+  converted_here_fits j k x p = narrowed_fits (narrowing_from j k) x (narrowing_from_works j k) p
 
   reduced_fits : (k : Kind) (x : ℕ) → FitsVar n x → Fitting fs n bytes i (reduced_here k x)
   reduced_fits UInt x p = one x op.Extuw x refl p p
@@ -110,15 +128,11 @@ module _ {fs : List Function} {n bytes : ℕ} {i : Bool} where
       (joined (two (scratch 0) op.Mul (scratch 0) y refl s s q)
       (two x op.Sub x (scratch 0) refl p p s))
 
+  -- the code of an operation on two variables fits
   pub binary_fits : (o : BinaryOp) (k : Kind) (x y : ℕ) → FitsVar n x → FitsVar n y
       → Fitting fs n bytes i (binary_code o k x y)
   binary_fits LogicalOr k x y p q = nothing_fits
   binary_fits LogicalAnd k x y p q = nothing_fits
-  binary_fits BitOr k x y p q = two x op.Or x y refl p p q
-  binary_fits BitXor k x y p q = two x op.Xor x y refl p p q
-  binary_fits BitAnd k x y p q = two x op.And x y refl p p q
-  binary_fits Equal k x y p q = two x op.Teq x y refl p p q
-  binary_fits NotEqual k x y p q = two x op.Tne x y refl p p q
   binary_fits Less k x y p q = two x (by_sign k op.Tlt op.Tltu) x y
       (signed k op.Tlt op.Tltu refl refl) p p q
   binary_fits Greater k x y p q = two x (by_sign k op.Tgt op.Tgtu) x y
@@ -137,7 +151,26 @@ module _ {fs : List Function} {n bytes : ℕ} {i : Bool} where
       (signed k op.Divs op.Divu refl refl) p p q
   binary_fits Remainder k x y p q = remainder_fits (by_sign k op.Divs op.Divu) x y
       (signed k op.Divs op.Divu refl refl) p q
+  binary_fits _ k x y p q = two x _ x y refl p p q
 
+  -- the code of an operation on a variable and a word fits
+  pub immediate_fits : (o : BinaryOp) (m x : ℕ) → m < 2 ^ 64 → FitsVar n x
+      → Fitting fs n bytes i (immediate_code o m x)
+  immediate_fits Divide m x h p = let_fits x op.Srl (Var x) (Const m) refl p p h
+  immediate_fits _ m x h p = let_fits x op.And (Var x) (Const m) refl p p h
+
+  scaled_with_fits : (o : Option ℕ) (q x : ℕ) → exponent_of q ≡ o → q < 2 ^ 64 → FitsVar n x
+      → Fitting fs n bytes i (scaled_by o q x)
+  scaled_with_fits None q x e h p = let_fits x op.Mul (Var x) (Const q) refl p p h
+  scaled_with_fits (Some k) q x e h p =
+      let l = (exponent_is q k e).below in
+      let_fits x op.Sll (Var x) (Const k) refl p p (omega arith)
+
+  -- the code of a product with a word fits
+  pub scaled_fits : (q x : ℕ) → q < 2 ^ 64 → FitsVar n x → Fitting fs n bytes i (scaled_by (exponent_of q) q x)
+  scaled_fits q x h p = scaled_with_fits (exponent_of q) q x refl h p
+
+  -- the code of an operation on one variable fits
   pub unary_fits : (o : UnaryOp) (k : Kind) (x : ℕ) → FitsVar n x
       → Fitting fs n bytes i (unary_code o k x)
   unary_fits Plus k x p = nothing_fits
@@ -147,18 +180,8 @@ module _ {fs : List Function} {n bytes : ℕ} {i : Bool} where
       (Var x) refl p (omega arith) p) (reduced_fits k x p)
   unary_fits Not k x p = let_fits x op.Teq (Var x) (Const 0) refl p p (omega arith)
 
-  bump_narrowed_fits : (k : Kind) (x : ℕ) → FitsVar n x
-      → Fitting fs n bytes i (narrowed_here (bump_narrowing k) x)
-  bump_narrowed_fits Char x p = one x op.Extsb x refl p p
-  bump_narrowed_fits UChar x p = one x op.Extub x refl p p
-  bump_narrowed_fits Short x p = one x op.Extsh x refl p p
-  bump_narrowed_fits UShort x p = one x op.Extuh x refl p p
-  bump_narrowed_fits Int x p = nothing_fits
-  bump_narrowed_fits UInt x p = one x op.Extuw x refl p p
-  bump_narrowed_fits Long x p = nothing_fits
-  bump_narrowed_fits ULong x p = nothing_fits
-
+  -- the code of a bumped word fits
   pub bumped_fits : (o : BumpOp) (k : Kind) (to x : ℕ) → FitsVar n to → FitsVar n x
       → Fitting fs n bytes i (bumped o k to x)
   bumped_fits o k to x p q = joined (let_fits to (bump_op o) (Var x) (Const 1) (bumps o) p q (omega arith))
-      (bump_narrowed_fits k to p)
+      (narrowed_fits (bump_narrowing k) to (bump_narrowing_works k) p)

@@ -27,7 +27,7 @@ use Rattle.flat_lower_premises.specs.inside.Laws.{IsSmallRow}
 use Rattle.flat_lower_premises.proofs.Fitting.{Fitting, nothing_fits, let_fits, frame_fits, load_fits}
 use Rattle.flat_lower_premises.proofs.Fitting.{save_fits, joined, temp_fits, scratch_fits}
 use Rattle.flat_lower_premises.proofs.Operations.{loads_fit, saves_fit, copied_fits, converted_to_fits}
-use Rattle.flat_lower_premises.proofs.Operations.{converted_here_fits, binary_fits, bumped_fits}
+use Rattle.flat_lower_premises.proofs.Operations.{converted_here_fits, binary_fits, bumped_fits, scaled_fits}
 
 -- a place that names no scalar which the function has not
 abbrev pub FitsPlace : ℕ → Place → Type 0
@@ -97,12 +97,14 @@ module _ {fs : List Function} {n bytes : ℕ} {i : Bool} (c : Context) (low : Ha
   global_fits false g to k p = load_fits to (load_op k) (Const (global_at c.globals g))
       (loads_fit k) p (low.globals g)
 
+  -- the code of a name fits
   pub name_fits : (p : Place) (to : ℕ) (k : Kind) → FitsPlace n p → FitsVar n to
       → Fitting fs n bytes i (name_code c p to k)
   name_fits (Global g) to k t p = global_fits (is_array (slice_get c.globals g)) g to k p
   name_fits (Scalar j) to k t p = copied_fits to j p t
   name_fits (Array a) to k t p = whole_fits (Array a) to tt p
 
+  -- the code of an element behind its index fits
   pub element_fits : (p : Place) (d : ℕ) (k : Kind) → FitsPlace n p → d < 16
       → Fitting fs n bytes i (element_code c p d k)
   element_fits p d k t h =
@@ -116,9 +118,10 @@ module _ {fs : List Function} {n bytes : ℕ} {i : Bool} (c : Context) (low : Ha
   joined_by_fits None d r h = nothing_fits
   joined_by_fits (Some q) d r h =
       let p = temp_fits n d (omega arith) in
-      joined (let_fits (temp d) op.Mul (Var (temp d)) (Const q) refl p p r)
+      joined (scaled_fits q (temp d) r p)
       (let_fits (temp d) op.Add (Var (temp d)) (Var (temp (suc d))) refl p p (temp_fits n (suc d) h))
 
+  -- the code of two indexes fits where each one's does
   pub joined_code_fits : (p : Place) (d : ℕ) (row index : Code) → suc d < 16
       → Fitting fs n bytes i row → Fitting fs n bytes i index
       → Fitting fs n bytes i (joined_code c p d row index)
@@ -162,6 +165,7 @@ module _ {fs : List Function} {n bytes : ℕ} {i : Bool} (c : Context) (low : Ha
       joined (address_fits p k (scratch 0) (temp d) t s (temp_fits n d h))
       (bump_memory_fits o (is_before o) (Var (scratch 0)) d k s h)
 
+  -- the code of a bump fits
   pub bump_fits : (o : BumpOp) (d : ℕ) (e : Expr) (k : Kind) → FitsSide n e → d < 16
       → Fitting fs n bytes i (bump_code c o d e k)
   bump_fits o d (Name j p) k t h = bump_name_fits o p d k t h
@@ -183,14 +187,14 @@ module _ {fs : List Function} {n bytes : ℕ} {i : Bool} (c : Context) (low : Ha
   old_name_fits (Global g) d at k t h =
       let q = temp_fits n d h in
       joined (load_fits (temp d) (load_op k) (Const (global_at c.globals g)) (loads_fit k) q (low.globals g))
-      (converted_here_fits at (temp d) q)
-  old_name_fits (Scalar j) d at k t h = converted_to_fits at (temp d) j (temp_fits n d h) t
+      (converted_here_fits (Some k) at (temp d) q)
+  old_name_fits (Scalar j) d at k t h = converted_to_fits (Some k) at (temp d) j (temp_fits n d h) t
   old_name_fits (Array a) d at k t h = nothing_fits
 
   compound_fits : (o : BinaryOp) (d y : ℕ) (at k : Kind) → d < 16 → y < 16
       → Fitting fs n bytes i (compound_code o d y at k)
   compound_fits o d y at k h g = joined (binary_fits o at (temp d) (temp y) (temp_fits n d h)
-      (temp_fits n y g)) (converted_here_fits k (temp d) (temp_fits n d h))
+      (temp_fits n y g)) (converted_here_fits (Some at) k (temp d) (temp_fits n d h))
 
   old_element_fits : (p : Place) (d : ℕ) (at k : Kind) → FitsPlace n p → suc d < 16
       → Fitting fs n bytes i (old_element c p d at k)
@@ -199,7 +203,7 @@ module _ {fs : List Function} {n bytes : ℕ} {i : Bool} (c : Context) (low : Ha
       let r = temp_fits n (suc d) h in
       joined (address_fits p k (temp (suc d)) (temp d) t r q)
       (joined (load_fits (temp d) (load_op k) (Var (temp (suc d))) (loads_fit k) q r)
-      (converted_here_fits at (temp d) q))
+      (converted_here_fits (Some k) at (temp d) q))
 
   assign_element_fits : (d : ℕ) (k : Kind) → suc d < 16 → Fitting fs n bytes i (assign_element d k)
   assign_element_fits d k h =
@@ -218,6 +222,7 @@ module _ {fs : List Function} {n bytes : ℕ} {i : Bool} (c : Context) (low : Ha
       joined (compound_fits o d (suc (suc d)) at k (omega arith) h)
       (save_fits (save_op k) (Var (temp (suc d))) (Var (temp d)) (saves_fit k) r q)
 
+  -- the code before the right side of an assignment fits
   pub before_fits : (o : Option BinaryOp) (at : Kind) (d : ℕ) (l : Expr) (k : Kind) → FitsSide n l
       → right_at o d l < 16 → Fitting fs n bytes i (before_right c o at d l k)
   before_fits None at d (Element j p index) k t h =
@@ -231,6 +236,7 @@ module _ {fs : List Function} {n bytes : ℕ} {i : Bool} (c : Context) (low : Ha
   before_fits (Some o) at d (Name j p) k t h = old_name_fits p d at k t (omega arith)
   before_fits o at d _ k t h = nothing_fits
 
+  -- the code behind the right side of an assignment fits
   pub after_fits : (o : Option BinaryOp) (at : Kind) (d : ℕ) (l : Expr) (k : Kind) → FitsSide n l
       → right_at o d l < 16 → Fitting fs n bytes i (after_right c o at d l k)
   after_fits None at d (Name j p) k t h = assign_name_fits p d k t h

@@ -4,6 +4,7 @@ use Rattle.std.proofs.Common.{[], ◌∷◌, Some, refl, sym, ap, ◌∙◌, sub
 use Rattle.std.proofs.Common.{arith}
 use Rattle.std.specs.Prelude.{slice_get, nat_eq}
 use Rattle.std.proofs.lemmas.List.{length-take-le}
+use Rattle.std.proofs.lemmas.Option.{same_Some}
 use Rattle.c_tree.specs.declared.Place.{Place}
 use Rattle.c_tree.specs.declared.TypedArray.{TypedArray}
 use Rattle.c_tree.specs.declared.TypedGlobal.{TypedGlobal}
@@ -42,9 +43,6 @@ pub record Comes (globals : List TypedGlobal) (fs : List Func) (j : ℕ) (h : Fu
   pub found : slice_get fs j ≡ Some func
   pub lowers : Lowered globals func h
 
-same_some : {A : Type 0} (x y : A) → Some x ≡ Some y → x ≡ y
-same_some x y h = cc h
-
 module _ (globals : List TypedGlobal) (main : ℕ) where
   pub found_at : (n j : ℕ) (fs : List Func) (f : Func) → slice_get fs j ≡ Some f
       → Found globals (lowered_from globals main n fs) j f
@@ -54,7 +52,7 @@ module _ (globals : List TypedGlobal) (main : ℕ) where
     found = refl;
     lowers = record {
       is_main = nat_eq n main;
-      is = ap (lowered_func globals (nat_eq n main)) (sym (same_some g f h));
+      is = ap (lowered_func globals (nat_eq n main)) (sym (same_Some g f h));
     };
   }
   found_at n (suc j) (g ∷ fs) f h =
@@ -69,7 +67,7 @@ module _ (globals : List TypedGlobal) (main : ℕ) where
     found = refl;
     lowers = record {
       is_main = nat_eq n main;
-      is = same_some (lowered_func globals (nat_eq n main) g) h e;
+      is = same_Some (lowered_func globals (nat_eq n main) g) h e;
     };
   }
   comes_from n (suc j) (g ∷ fs) h e =
@@ -118,6 +116,7 @@ module _ (P : Source) (s : FitsSource P) where
         (end_fits b)).fits;
   }
 
+-- the flat program of a source that fits does so, but for its length
 pub fits_at_any_length : FitsOfAnyLength
 unfolding lowered functions
 fits_at_any_length P s few jumps rows = record {

@@ -35,6 +35,7 @@ globals_inside (x ∷ rest) (suc g) = let h = globals_inside rest g in omega (ar
 rounded_up : (n limit : ℕ) → (n + 7) / 8 * 8 + limit ≤ data_size → n < 2 ^ 64
 rounded_up n limit h = omega (arith, h)
 
+-- in the context of a function the places of globals and arrays are as the lowering takes them
 pub places : (P : Source) → FitsSource P → (f : Func)
     → ((p : Place) → IsSmallRow (row_of (context_of P.globals f) p))
     → HasPlaces (context_of P.globals f) (all_bytes f.arrays)
@@ -73,6 +74,7 @@ global_is_bytes g =
     (init_is_bytes (bytes g.kind) g.init)
     (All-replicate (λ b. b < 256) rest 0 (omega arith))
 
+-- the image of some globals is made of bytes
 pub image_is_bytes : (gs : List TypedGlobal) → Bytes (globals_image gs)
 image_is_bytes [] = All-nil (λ b. b < 256)
 image_is_bytes (g ∷ gs) =

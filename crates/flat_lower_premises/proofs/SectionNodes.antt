@@ -14,6 +14,7 @@ abbrev pub bodies_nodes : Sections → ℕ
 bodies_nodes NoSections = 0
 bodies_nodes (WithSection ls body rest) = 1 + (stmts_nodes body + bodies_nodes rest)
 
+-- the nodes of some sections are those of their labels and the rest
 pub in_two : (xs : Sections) → sections_nodes xs ≡ labels_nodes xs + bodies_nodes xs
 in_two NoSections = omega arith
 in_two (WithSection ls body rest) = let h = in_two rest in omega (arith, h)

@@ -11,14 +11,14 @@ use Rattle.c_grammar.specs.Types.{Types}
 use Rattle.c_grammar.specs.Types as type
 use Rattle.c_grammar.specs.Operators.{Joiner, op, comma, joined, Prefix, sign, increase, decrease}
 use Rattle.c_grammar.specs.Operators.{prefixed, Suffix, increased, decreased, suffixed}
-use Rattle.c_grammar.specs.Operators.{Assigner, simple, assigner_op}
+use Rattle.c_grammar.specs.Operators.{Assigner, simple, compound, assigner_op}
 use Rattle.c_grammar.specs.Expressions.{Phrase, Spells}
 use Rattle.c_grammar.specs.Expressions as e
 use Rattle.flat_lower_premises.specs.inside.Words.{TokensHaveWords}
 use Rattle.flat_lower_premises.specs.inside.Assigners.{IsAssigner}
 use Rattle.c_tree.specs.inside.Trees.{Node}
-use Rattle.flat_lower_premises.specs.inside.Trees.{NodeHasWords, ExprHasWords, ExprsHaveWords}
-use Rattle.flat_lower_premises.specs.inside.Trees as has
+use Rattle.flat_lower_premises.specs.inside.ExpressionWords.{NodeHasWords, ExprHasWords, ExprsHaveWords}
+use Rattle.flat_lower_premises.specs.inside.ExpressionWords as has
 
 -- each number of the phrase is a word of its type
 abbrev pub PhraseHasWords : Phrase → Type 0
@@ -40,7 +40,7 @@ joined_has comma a b h k = made _ _ (node.rolls-Comma a b) (has.sequence h k)
 -- the operators of assignments are C's
 assigner_is : (s : Assigner) → IsAssigner (assigner_op s)
 assigner_is simple = tt
-assigner_is _ = tt
+assigner_is (compound o c) = c
 
 prefixed_has : (l : ℕ) (p : Prefix) (x : Expr) → ExprHasWords x → ExprHasWords (prefixed l p x)
 prefixed_has l (sign o) x h = made _ _ (node.rolls-Unary o x) (has.operator h)

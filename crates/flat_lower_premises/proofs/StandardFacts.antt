@@ -34,7 +34,7 @@ use Rattle.flat_lower_premises.specs.inside.Limits.{HasFewGlobals, HasFewNodes}
 use Rattle.flat_lower_premises.specs.inside.Most.{most_of}
 use Rattle.flat_lower_premises.proofs.NodeNeeds.{level_needs, needs_is}
 use Rattle.flat_lower_premises.proofs.FitPrograms.{source_fits}
-use Rattle.flat_lower_premises.proofs.TypedTreeSizes.{body_nodes, by_stmt, by_node}
+use Rattle.flat_lower_premises.proofs.TypedTreeSizes.{body_nodes, at_stmt, at_node}
 
 -- A PROGRAM
 
@@ -128,10 +128,10 @@ seven_words = record {
 -- the compound, the return and the number
 seven_body : body_nodes main.body ≡ 3
 seven_body =
-    let b = by_stmt main.body (stmt.Compound (returned ∷ [])) refl in
-    let r = by_stmt returned (stmt.Return (Some number)) refl in
-    let n = by_node (Some Int) number.node (node.Number 7) refl in
-    omega (arith, b, r, n)
+    let b = at_stmt main.body (stmt.Compound (returned ∷ [])) refl in
+    let r = at_stmt returned (stmt.Return (Some number)) refl in
+    let n = at_node (Some Int) number.node (node.Number 7) refl in
+    omega (arith, b.1, r.1, n.1)
 
 seven_nodes : HasFewNodes seven
 seven_nodes = let b = seven_body in omega (arith, b)

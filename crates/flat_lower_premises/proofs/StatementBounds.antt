@@ -11,12 +11,11 @@ use Rattle.c_tree.specs.declared.tree.ForInit.{ForInit}
 use Rattle.c_tree.specs.declared.typed.Place.TheVariants as place
 use Rattle.c_tree.specs.declared.typed.TypedExpr.{TypedExpr}
 use Rattle.c_tree.specs.declared.typed.TypedSection.{TypedSection}
-use Rattle.c_tree.specs.declared.typed.TypedStmt.{TypedStmt, roll-TypedStmt}
+use Rattle.c_tree.specs.declared.typed.TypedStmt.{TypedStmt}
 use Rattle.c_tree.specs.declared.typed.TypedStmt.TheVariants as typed
-use Rattle.c_tree.specs.declared.typed.TypedForInit.{TypedForInit, roll-TypedForInit}
+use Rattle.c_tree.specs.declared.typed.TypedForInit.{TypedForInit}
 use Rattle.c_tree.specs.declared.typed.TypedForInit.TheVariants as begin
 use Rattle.c_tree.specs.declared.typed.TypedForInit.TheOpen as level
-use Rattle.c_tree.specs.TypedTrees.{Level, Beginning}
 use Rattle.c_type_expr.specs.Scope.{Scope}
 use Rattle.c_type_expr.specs.declared.role.Role.{Role}
 use Rattle.c_constant.specs.Kinds.{promoted}
@@ -34,30 +33,16 @@ use Rattle.c_type_rules.specs.Statements.{with_else, Begins, no_first, first_val
 use Rattle.flat_lower.specs.inside.Sizes as plain
 use Rattle.flat_lower.specs.inside.Sizes.{label_count}
 use Rattle.flat_lower.specs.inside.Emitted.{sections_in}
-use Rattle.flat_lower.proofs.TreeFacts.{plain_stmt, plain_first}
 use Rattle.flat_lower_premises.specs.inside.SourceNodes as limits
 use Rattle.flat_lower_premises.specs.inside.Nodes as nodes
 use Rattle.flat_lower_premises.proofs.TreeSizes.{nodes-Declare, nodes-Plain, nodes-Compound, nodes-If, nodes-While}
 use Rattle.flat_lower_premises.proofs.TreeSizes.{nodes-Do, nodes-For, nodes-Break, nodes-Continue, nodes-Return}
 use Rattle.flat_lower_premises.proofs.TreeSizes.{nodes-Switch, nodes-section, nodes-Nothing}
 use Rattle.flat_lower_premises.proofs.TreeSizes.{nodes-First, nodes-Locals}
-use Rattle.flat_lower_premises.proofs.CostTrees as cost_trees
-use Rattle.flat_lower_premises.proofs.CostTrees.{cost_if, body_cost, first_cost, bodies_cost}
-use Rattle.flat_lower_premises.proofs.TypedTreeSizes as sizes
-use Rattle.flat_lower_premises.proofs.TypedTreeSizes.{typed_if_nodes, body_nodes, first_nodes}
-use Rattle.flat_lower_premises.proofs.TypedTreeSizes.{bodies_nodes}
-use Rattle.flat_lower_premises.proofs.ExpressionBounds.{typed_few, converted_few}
-
--- what a typed statement costs and how many nodes it has, by its level
-at_stmt : (s : TypedStmt) (x : Level) → roll-TypedStmt x ≡ s
-    → (body_cost s ≡ plain.size_of (plain_stmt x)) × (body_nodes s ≡ limits.stmt_nodes (plain_stmt x))
-at_stmt s x e = (cost_trees.by_stmt s x e, sizes.by_stmt s x e)
-
--- the same of what begins a `for`
-at_first : (i : TypedForInit) (x : Beginning) → roll-TypedForInit x ≡ i
-    → (first_cost i ≡ plain.size_of_first (plain_first x))
-    × (first_nodes i ≡ limits.first_nodes (plain_first x))
-at_first i x e = (cost_trees.by_first i x e, sizes.by_first i x e)
+use Rattle.flat_lower_premises.proofs.TypedTreeSizes.{cost_if, body_cost, first_cost, bodies_cost}
+use Rattle.flat_lower_premises.proofs.TypedTreeSizes.{typed_if_nodes, body_nodes, first_nodes, bodies_nodes}
+use Rattle.flat_lower_premises.proofs.TypedTreeSizes.{converted_few, at_stmt, at_first}
+use Rattle.flat_lower_premises.proofs.ExpressionBounds.{typed_few}
 
 -- a full expression that may be left out
 full_few : {G : Scope} {r : Role} {e : Option Expr} {t : Option TypedExpr} → FullIf G r e t
@@ -90,6 +75,8 @@ abbrev sections_nodes : List TypedSection → ℕ
 sections_nodes xs = limits.sections_nodes (sections_in xs)
 
 mutual
+  -- a pass through a typed statement costs no more than the statement has nodes, and it has fewer than twice as
+  -- many
   pub types_few : {b : Around} {v w : State} {s : Stmt} {t : TypedStmt} → Types b v s t w
       → (body_cost t ≤ nodes.stmt_nodes s) × (1 + body_nodes t ≤ 2 * nodes.stmt_nodes s)
   types_few {v = v} (scalar_declared {l = l} {k = k} {w = w} {init = init} {t = t} i j x) =
@@ -164,6 +151,8 @@ mutual
       let m = at_stmt _ (level.Return u) (typed.rolls-Return u) in
       (omega (arith, c.0, d.0, m.0), omega (arith, c.1, d.1, m.1))
 
+  -- a pass through typed statements costs no more than the statements have nodes, and they have at most twice
+  -- as many
   pub all_few : {b : Around} {v w : State} {ss : List Stmt} {ts : List TypedStmt}
       → TypesAll b v ss ts w
       → (bodies_cost ts ≤ nodes.stmts_nodes ss) × (bodies_nodes ts ≤ 2 * nodes.stmts_nodes ss)

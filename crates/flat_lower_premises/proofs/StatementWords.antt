@@ -37,6 +37,7 @@ use Rattle.c_type_rules.specs.Statements.{TypesSections}
 use Rattle.c_type_rules.specs.Statements as typing
 use Rattle.flat_lower_premises.specs.inside.Words.{IsFilled}
 use Rattle.flat_lower_premises.specs.inside.Trees as plain
+use Rattle.flat_lower_premises.specs.inside.ExpressionWords as expressions
 use Rattle.flat_lower_premises.specs.inside.TypedTrees as words
 use Rattle.flat_lower_premises.proofs.TypedWords.{converted_has, typed_has}
 
@@ -44,13 +45,13 @@ use Rattle.flat_lower_premises.proofs.TypedWords.{converted_has, typed_has}
 
 -- one that may be left out
 full_if_has : (G : Scope) (r : Role) (e : Option Expr) (t : Option TypedExpr) → FullIf G r e t
-    → plain.ExprIfHasWords e → words.ExprIfHasWords t
+    → expressions.ExprIfHasWords e → words.ExprIfHasWords t
 full_if_has G r _ _ typing.absent w = tt
 full_if_has G r _ _ (typing.present {e = e} {t = t} d) w = typed_has G r e t d.0 w
 
 -- an initialiser
 initialises_has : (G : Scope) (k : Kind) (e : Option Expr) (t : Option TypedExpr)
-    → Initialises G k e t → plain.ExprIfHasWords e → words.ExprIfHasWords t
+    → Initialises G k e t → expressions.ExprIfHasWords e → words.ExprIfHasWords t
 initialises_has G k _ _ typing.without_value w = tt
 initialises_has G k _ _ (typing.with_value {e = e} {t = t} d) w =
     converted_has k t (typed_has G Value e t d.0 w)
@@ -69,18 +70,19 @@ first_opened n x e h = subst plain.BeginningHasWords (ap out-ForInit (sym e) ∙
 
 -- what has words has parts that have words
 in_declare : {k : Kind} {w : List ℕ} {a : ArraySize} {init : Option Expr}
-    → plain.LevelHasWords (Declare k w a init) → plain.ExprIfHasWords init
+    → plain.LevelHasWords (Declare k w a init) → expressions.ExprIfHasWords init
 in_declare (plain.declared h h') = h'
 
-in_plain : {e : Option Expr} → plain.LevelHasWords (Plain e) → plain.ExprIfHasWords e
+in_plain : {e : Option Expr} → plain.LevelHasWords (Plain e) → expressions.ExprIfHasWords e
 in_plain (plain.plain h) = h
 
+-- a block whose numbers are words has statements whose numbers are
 pub in_compound : {ss : List Stmt} → plain.LevelHasWords (Compound ss) → plain.StmtsHaveWords ss
 in_compound (plain.compound h) = h
 
 -- the parts of an `if`
 record OfIf (c : Expr) (s : Stmt) (other : Option Stmt) : Type 0 where
-  test : plain.ExprHasWords c
+  test : expressions.ExprHasWords c
   body : plain.StmtHasWords s
   alternative : plain.ElseHasWords other
 
@@ -89,18 +91,18 @@ in_if : {c : Expr} {s : Stmt} {other : Option Stmt} → plain.LevelHasWords (If 
 in_if (plain.choice h h' h'') = record { test = h; body = h'; alternative = h'' }
 
 in_while : {c : Expr} {s : Stmt} → plain.LevelHasWords (While c s)
-    → plain.ExprHasWords c × plain.StmtHasWords s
+    → expressions.ExprHasWords c × plain.StmtHasWords s
 in_while (plain.while_loop h h') = (h, h')
 
 in_do : {c : Expr} {s : Stmt} → plain.LevelHasWords (Do s c)
-    → plain.StmtHasWords s × plain.ExprHasWords c
+    → plain.StmtHasWords s × expressions.ExprHasWords c
 in_do (plain.do_loop h h') = (h, h')
 
 -- the parts of a `for`
 record OfFor (i : ForInit) (c p : Option Expr) (s : Stmt) : Type 0 where
   beginning : plain.BeginningHasWords (out-ForInit i)
-  test : plain.ExprIfHasWords c
-  progress : plain.ExprIfHasWords p
+  test : expressions.ExprIfHasWords c
+  progress : expressions.ExprIfHasWords p
   body : plain.StmtHasWords s
 
 in_for : {i : ForInit} {c p : Option Expr} {s : Stmt} → plain.LevelHasWords (For i c p s)
@@ -108,7 +110,7 @@ in_for : {i : ForInit} {c p : Option Expr} {s : Stmt} → plain.LevelHasWords (F
 in_for (plain.for_loop h h1 h2 h3) = record { beginning = h; test = h1; progress = h2; body = h3 }
 
 in_switch_of : {c : Expr} {xs : List Section} → plain.LevelHasWords (Switch c xs)
-    → plain.ExprHasWords c × plain.SectionsHaveWords xs
+    → expressions.ExprHasWords c × plain.SectionsHaveWords xs
 in_switch_of (plain.switch h h') = (h, h')
 
 -- the parts of a section
@@ -143,13 +145,13 @@ stmts_filled : (b : Around) (v : State) (ss : List Stmt) (ts : List TypedStmt) (
 stmts_filled b _ _ _ _ typing.no_more f = f
 stmts_filled b _ _ _ _ (typing.one_more p q) f = tt
 
-in_return : {e : Option Expr} → plain.LevelHasWords (Return e) → plain.ExprIfHasWords e
+in_return : {e : Option Expr} → plain.LevelHasWords (Return e) → expressions.ExprIfHasWords e
 in_return (plain.returns h) = h
 
 in_else : {s : Stmt} → plain.ElseHasWords (Some s) → plain.StmtHasWords s
 in_else (plain.with_else h) = h
 
-in_first : {e : Expr} → plain.BeginningHasWords (First e) → plain.ExprHasWords e
+in_first : {e : Expr} → plain.BeginningHasWords (First e) → expressions.ExprHasWords e
 in_first (plain.first h) = h
 
 in_locals : {ss : List Stmt} → plain.BeginningHasWords (Locals ss) → plain.StmtsHaveWords ss

@@ -42,6 +42,7 @@ use Rattle.flat_lower_premises.proofs.Places.{HasPlaces, FitsSide}
 use Rattle.flat_lower_premises.proofs.Expressions.{Callable, name_place, side_place, expr_fits}
 
 module _ {fs : List Function} {n bytes : ℕ} {i : Bool} where
+  -- the code at the end of a function fits
   pub end_fits : (b : Bool) → Fitting fs n bytes i (end_code b)
   end_fits true = single_fits (flat.Return (Some (Const 0))) (omega arith)
   end_fits false = nothing_fits
@@ -223,6 +224,7 @@ module _ (fs : List Function) (c : Scope) (bytes : ℕ) (k : Option Kind) (x : C
   -- STATEMENTS
 
   mutual
+    -- the code of a statement that fits does so, where its jumps stand in loops
     pub stmt_fits : (a : Around) (s : Stmt) → FitsStmt c k a s → JumpsInLoops a s
         → Fits (inside a) (stmt_code x a s)
     stmt_fits a (Declare p e) t j = declare_fits (inside a) p e t

@@ -181,6 +181,7 @@ by_first i x e =
     (sym e)
     ∙ fold-roll-ForInit ℕ ℕ ℕ ℕ first_level_nodes stmt_level_nodes section_level_nodes of_stmt_level x
 
+-- a section has a node, one for each label, and those of its statements
 pub nodes-section : (ls : List Label) (ss : List Stmt)
     → section_nodes (s.sectioned ls ss) ≡ 1 + (length ls + stmts_nodes ss)
 unfolding section_nodes stmt_nodes
@@ -202,11 +203,13 @@ nodes-Locals ss = by_first _ (ForInit-F.Locals ss) (first.rolls-Locals ss)
 
 -- LISTS
 
+-- statements behind others have the nodes of both
 pub stmts_append : (ss rest : List Stmt)
     → stmts_nodes (ss ++ rest) ≡ stmts_nodes ss + stmts_nodes rest
 stmts_append [] rest = omega arith
 stmts_append (b ∷ ss) rest = let h = stmts_append ss rest in omega arith
 
+-- items behind others have the nodes of both
 pub units_append : (xs ys : List Top) → unit_nodes (xs ++ ys) ≡ unit_nodes xs + unit_nodes ys
 units_append [] ys = omega arith
 units_append (x ∷ xs) ys = let h = units_append xs ys in omega arith

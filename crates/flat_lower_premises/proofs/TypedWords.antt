@@ -30,7 +30,7 @@ use Rattle.c_type_expr.specs.Typed.{Typed, Passed}
 use Rattle.c_type_expr.specs.Typed as typing
 use Rattle.c_constant.specs.Kinds.{IsWord}
 use Rattle.flat_lower_premises.specs.inside.Assigners.{IsAssigner}
-use Rattle.flat_lower_premises.specs.inside.Trees as plain
+use Rattle.flat_lower_premises.specs.inside.ExpressionWords as plain
 use Rattle.flat_lower_premises.specs.inside.TypedTrees as words
 
 -- NODES OF AN EXPRESSION

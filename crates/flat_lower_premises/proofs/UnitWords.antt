@@ -9,9 +9,11 @@ use Rattle.c_grammar.specs.Units.{Phrase, Units}
 use Rattle.c_grammar.specs.Units as u
 use Rattle.c_grammar.specs.Accepted.{IsUnit}
 use Rattle.flat_lower_premises.specs.inside.Words.{TokensHaveWords}
-use Rattle.flat_lower_premises.specs.inside.Trees.{ExprIfHasWords, ExprsHaveWords, RowsHaveWords, SizeHasWords}
+use Rattle.flat_lower_premises.specs.inside.ExpressionWords.{ExprIfHasWords, ExprsHaveWords, RowsHaveWords}
+use Rattle.flat_lower_premises.specs.inside.ExpressionWords.{SizeHasWords}
 use Rattle.flat_lower_premises.specs.inside.Trees.{TopHasWords, UnitHasWords}
 use Rattle.flat_lower_premises.specs.inside.Trees as has
+use Rattle.flat_lower_premises.specs.inside.ExpressionWords as expressions
 use Rattle.flat_lower_premises.proofs.SpelledWords.{named_type, spelled}
 use Rattle.flat_lower_premises.proofs.WrittenWords.{made, written}
 
@@ -42,16 +44,16 @@ united : {may : May} {p : Phrase} {f t : Tokens} → Units may p f t → TokensH
     → PhraseHasWords p × TokensHaveWords t
 united u.no_size h = (tt, h.1)
 united (u.some_size x) h = let a = spelled x h in (a.0, a.1.1)
-united (u.last_value x) h = let a = spelled x h in (has.one_expr a.0 has.no_expr, a.1.1)
-united (u.last_comma x) h = let a = spelled x h in (has.one_expr a.0 has.no_expr, a.1.1.1)
+united (u.last_value x) h = let a = spelled x h in (expressions.one_expr a.0 expressions.no_expr, a.1.1)
+united (u.last_comma x) h = let a = spelled x h in (expressions.one_expr a.0 expressions.no_expr, a.1.1.1)
 united (u.next_value x y) h =
-    let a = spelled x h in let b = united y a.1.1 in (has.one_expr a.0 b.0, b.1)
+    let a = spelled x h in let b = united y a.1.1 in (expressions.one_expr a.0 b.0, b.1)
 united (u.last_row x) h = let a = united x h.1 in ((a.0, tt), a.1.1)
 united (u.last_row_comma x) h = let a = united x h.1 in ((a.0, tt), a.1.1.1)
 united (u.next_row x y) h =
     let a = united x h.1 in let b = united y a.1.1 in ((a.0, b.0), b.1)
 united u.bare h = ((tt, tt), h)
-united (u.valued x) h = let a = spelled x h.1 in ((tt, (has.one_expr a.0 has.no_expr, tt)), a.1)
+united (u.valued x) h = let a = spelled x h.1 in ((tt, (expressions.one_expr a.0 expressions.no_expr, tt)), a.1)
 united (u.sized x) h = let a = united x h.1 in ((a.0, tt), a.1)
 united (u.filled {o = o} x y) h =
     let a = united x h.1 in let b = united y a.1.1.1 in ((one_size_has o a.0, (b.0, tt)), b.1)

@@ -14,6 +14,7 @@ use Rattle.flat_lower.specs.inside.Tree.{Stmt, Compound, If, While, Switch, Brea
 use Rattle.flat_lower.specs.inside.Tree.{WithStmt, NoSections, WithSection, Func, Source}
 use Rattle.flat_lower.specs.inside.Fits.{FitsFunc, FitsSource}
 use Rattle.flat_lower.specs.inside.Objects.{row_of}
+use Rattle.flat_lower.specs.inside.Powers.{exponent_of}
 use Rattle.flat_lower.specs.inside.Expressions.{joined_by}
 use Rattle.flat_lower.specs.inside.Statements.{context_of, lowered}
 use Rattle.flat_lower_premises.specs.inside.SourceNodes.{expr_nodes, stmt_nodes, source_size}
@@ -69,6 +70,7 @@ stray h = h.1.0
 
 -- one that is no word stands in no code that fits
 too_wide : FitsCode [] 0 0 false (joined_by (Some (2 ^ 64)) 0) → ⊥
+unfolding exponent_of
 too_wide h = let k = h.0.3 in omega (arith, k)
 
 -- LENGTHS

@@ -16,9 +16,10 @@ use Rattle.c_grammar.specs.Statements.{Phrase, for_init, Writes}
 use Rattle.c_grammar.specs.Statements as s
 use Rattle.flat_lower_premises.specs.inside.Words.{IsFilled, TokensHaveWords}
 use Rattle.c_tree.specs.inside.Trees.{Level, Beginning}
-use Rattle.flat_lower_premises.specs.inside.Trees.{ExprHasWords, ExprIfHasWords, SizeHasWords}
+use Rattle.flat_lower_premises.specs.inside.ExpressionWords.{ExprHasWords, ExprIfHasWords, SizeHasWords}
 use Rattle.flat_lower_premises.specs.inside.Trees.{LevelHasWords, StmtHasWords, StmtsHaveWords, BeginningHasWords}
-use Rattle.flat_lower_premises.specs.inside.Trees.{LabelsHaveWords, SectionsHaveWords}
+use Rattle.flat_lower_premises.specs.inside.Trees.{SectionsHaveWords}
+use Rattle.flat_lower_premises.specs.inside.ExpressionWords.{LabelsHaveWords}
 use Rattle.flat_lower_premises.specs.inside.Trees as has
 use Rattle.flat_lower_premises.proofs.SpelledWords.{named_type, spelled}
 

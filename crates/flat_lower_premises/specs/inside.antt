@@ -7,5 +7,6 @@ pub mod Nodes
 pub mod Sizes
 pub mod SourceNodes
 pub mod Trees
+pub mod ExpressionWords
 pub mod TypedTrees
 pub mod Words

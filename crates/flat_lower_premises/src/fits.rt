@@ -10,7 +10,7 @@ ghost use Rattle.flat_lower.specs.inside.TreeViews.{source_of};
 ghost use Rattle.flat_lower.specs.inside.Fits.{FitsSource};
 ghost use Rattle.flat_lower.specs.inside.Tree.{Source};
 ghost use Rattle.flat_lower.specs.inside.Sizes.{IsMost};
-ghost use Rattle.flat_lower.specs.Keeps.{IsInput};
+ghost use Rattle.c_meaning_spec.specs.Laws.{IsInput};
 ghost use Rattle.flat_lower.specs.inside.Keeps.{Keeps};
 ghost use Rattle.flat_lower.specs.inside.Statements.{lowered_program};
 ghost use Rattle.flat_lower_premises.specs.inside.Limits.{HasFewGlobals, HasFewNodes};

@@ -165,3 +165,24 @@ int main(void) {
   return (int) h;
 }
 ";
+
+/// Divisions, remainders and rows by powers of two, beside some by other numbers.
+pub const POWERS: &str = "#include <stdio.h>
+unsigned h;
+void say(long x) {
+  h = h * 31 + (unsigned) (x ^ x >> 32);
+  putchar((int) (h & 255));
+}
+@ g[3][8] = {{1, 2, 3}, {4, 5, 6, 7}, {8}};
+int main(void) {
+  @ a = (@) -9000; unsigned u = 4294967291u; unsigned long w = 18446744073709551607u; int i;
+  for (i = 0; i < 40; i++) {
+    say(a / 1u); say(a % 1u); say(a / 8u); say(a % 8u); say(a / 6u); say(a % 6u); say(a / 8); say(a % 8);
+    say(u / 2147483648u); say(u % 2147483648u); say(u / 16); say(u % 16); say((long) (u / 64ul)); say(u % 1);
+    say((long) (w / 9223372036854775808u)); say((long) (w % 9223372036854775808u)); say((long) (w % 4096));
+    g[i % 3u][(unsigned) a % 8u] += 1; say(g[i % 3u][(unsigned) (a + 1) % 8u]);
+    a = (@) (a + 1237); u = u - 98765432u; w = w / 2u + u;
+  }
+  return (int) h;
+}
+";

@@ -249,6 +249,7 @@ module _ (c : Checks) (fs : List Function) (base : ℕ) where
         ap (exec c (call_at d) e (only a) s) e1 ∙ ap (λ r. then_run r settle) (h k d) ∙ w k;
   }
 
+  -- an operation whose operands have words puts its result into its variable, in a turn
   pub let_leads : (e : Env) (to : ℕ) (op : Op) (x y : Arg) (s : State) (u v w : ℕ)
       → read c s x ≡ Some u → read c s y
       ≡ Some v → apply c op u v ≡ Some w → Leads (code_run e (only (Let to op x y)) s) 1
@@ -261,6 +262,7 @@ module _ (c : Checks) (fs : List Function) (base : ℕ) where
       ∙ must_is (read c s y) v (λ v. must (apply c op u v) (λ w. settle (with_var s to w) m)) hy
       ∙ must_is (apply c op u v) w (λ w. settle (with_var s to w) m) ho)
 
+  -- the address of an array is put into a variable, in a turn
   pub frame_leads : (e : Env) (to at : ℕ) (s : State) → Leads (code_run e (only (Frame to at)) s) 1
       (settle (with_var s to (e.arrays + at)))
   frame_leads e to at s =
@@ -268,6 +270,7 @@ module _ (c : Checks) (fs : List Function) (base : ℕ) where
       (settle_settled (with_var s to (e.arrays + at)))
       (λ m d. refl)
 
+  -- a load puts what memory holds into its variable, in a turn
   pub load_leads : (e : Env) (to : ℕ) (op : Op) (x : Arg) (s : State) (a w : ℕ)
       → read c s x ≡ Some a
       → load c op s.memory a ≡ Some w → Leads (code_run e (only (Load to op x)) s) 1
@@ -278,6 +281,7 @@ module _ (c : Checks) (fs : List Function) (base : ℕ) where
       must_is (read c s x) a (λ a. must (load c op s.memory a) (λ w. settle (with_var s to w) m)) hx
       ∙ must_is (load c op s.memory a) w (λ w. settle (with_var s to w) m) hl)
 
+  -- a store changes memory, in a turn
   pub save_leads : (e : Env) (op : Op) (x y : Arg) (s : State) (a v : ℕ) (mem : Memory)
       → read c s x ≡ Some a
       → read c s y ≡ Some v → save c op s.memory a v ≡ Some mem
@@ -291,6 +295,7 @@ module _ (c : Checks) (fs : List Function) (base : ℕ) where
       (λ mem. settle (with_memory s mem) m)) hy
       ∙ must_is (save c op s.memory a v) mem (λ mem. settle (with_memory s mem) m) hs)
 
+  -- a byte is put out, in a turn
   pub put_leads : (e : Env) (x : Arg) (s : State) (v : ℕ) → read c s x ≡ Some v
       → Leads (code_run e (only (Put x)) s) 1 (settle (with_output s (v % 256)))
   put_leads e x s v hx =
@@ -298,6 +303,7 @@ module _ (c : Checks) (fs : List Function) (base : ℕ) where
       (settle_settled (with_output s (v % 256))) (λ m d.
       must_is (read c s x) v (λ v. settle (with_output s (v % 256)) m) hx)
 
+  -- the next byte of the input is put into a variable, in a turn
   pub get_leads : (e : Env) (to : ℕ) (s : State) → Leads (code_run e (only (Get to)) s) 1
       (settle (with_next s to s.input))
   get_leads e to s =
@@ -311,13 +317,16 @@ module _ (c : Checks) (fs : List Function) (base : ℕ) where
       single e (Return (Some x)) s (Gave (Some v) s) (λ m. refl)
       (λ m d. must_is (read c s x) v (λ v. Gave (Some v) s m) hx)
 
+  -- a return without a value ends the function, in a turn
   pub return_none_leads : (e : Env) (s : State)
       → Leads (code_run e (only (Return None)) s) 1 (Gave None s)
   return_none_leads e s = single e (Return None) s (Gave None s) (λ m. refl) (λ m d. refl)
 
+  -- a break ends the loop, in a turn
   pub break_leads : (e : Env) (s : State) → Leads (code_run e (only Break) s) 1 (Broke s)
   break_leads e s = single e Break s (Broke s) (λ m. refl) (λ m d. refl)
 
+  -- a continue ends the loop's turn, in a turn
   pub continue_leads : (e : Env) (s : State) → Leads (code_run e (only Continue) s) 1 (Again s)
   continue_leads e s = single e Continue s (Again s) (λ m. refl) (λ m d. refl)
 
@@ -401,6 +410,7 @@ module _ (c : Checks) (fs : List Function) (base : ℕ) where
         (loop_turns x.0 (exec c (call_at d) e a) (exec c (call_at d) e b));
   }
 
+  -- where a loop's body has not ended, the loop has not, with a turn more
   pub turn_stops : (e : Env) (a b : Code) (s : State) (t : ℕ) (out : List ℕ) (r : ℕ)
       → Stops (code_run e a (counted s)) t out r → Stops (loop_run e a b s) (suc t) out r
   turn_stops e a b s t out r l = record { by = λ d j le lt. stop d j le lt }
@@ -432,6 +442,7 @@ module _ (c : Checks) (fs : List Function) (base : ℕ) where
         (x.0, x.1, x.2 ∙ body_settled d x.0 e a b g k);
   }
 
+  -- where a loop's body continues, the loop goes on with its last part, a turn later
   pub turn_continues : (e : Env) (a b : Code) (s g : State) (t : ℕ)
       → Leads (code_run e a (counted s)) t (Again g)
       → Moves (loop_run e a b s) (suc t) (post_run e a b g)
@@ -461,6 +472,7 @@ module _ (c : Checks) (fs : List Function) (base : ℕ) where
         );
   }
 
+  -- where the last part of a loop's turn leads, what follows it does
   pub post_leads : (e : Env) (a b : Code) (s : State) (t : ℕ) (g h : ℕ → Res)
       → ((k : ℕ) (next : State → ℕ → Res) → after_post (g k) next ≡ h k)
       → Leads (code_run e b s) t g
@@ -472,6 +484,7 @@ module _ (c : Checks) (fs : List Function) (base : ℕ) where
         ∙ w k (loop_turns j (exec c (call_at d) e a) (exec c (call_at d) e b));
   }
 
+  -- where the last part of a loop's turn has not ended, the loop has not
   pub post_stops : (e : Env) (a b : Code) (s : State) (t : ℕ) (out : List ℕ) (r : ℕ)
       → Stops (code_run e b s) t out r
       → Stops (post_run e a b s) t out r
@@ -515,6 +528,7 @@ module _ (c : Checks) (fs : List Function) (base : ℕ) where
           (omega arith))
           ∙ w k
 
+  -- where the function that is called has not ended, the call has not
   pub call_stops : (e : Env) (f : ℕ) (xs : List Arg) (to : Option ℕ) (kept : ℕ → Bool) (s : State)
       (ws : List ℕ) (t : ℕ)
       (out : List ℕ) (r : ℕ) → read_all c s xs ≡ Some ws

@@ -92,23 +92,27 @@ unfolding then_items
 before_is x i e = ap (fold-HyperItem Before before_by) (sym e)
     ∙ fold-roll-HyperItem Before before_by x
 
+-- an operation in front of items, as its plain form
 pub then_set : (to : ℕ) (op : Op) (a b : Source) (rest : hyper.Items)
     → then_items (item.Set to op a b) rest
     ≡ hyper.Set to op a b rest
 then_set to op a b rest = ap (λ f. f rest)
     (before_is (HyperItem-F.Set to op a b) _ (item.rolls-Set to op a b))
 
+-- a load in front of items, as its plain form
 pub then_load : (to : ℕ) (op : Op) (a : Source) (rest : hyper.Items)
     → then_items (item.Load to op a) rest
     ≡ hyper.Load to op a rest
 then_load to op a rest = ap (λ f. f rest)
     (before_is (HyperItem-F.Load to op a) _ (item.rolls-Load to op a))
 
+-- a store in front of items, as its plain form
 pub then_save : (op : Op) (a v : Source) (rest : hyper.Items) → then_items (item.Save op a v) rest
     ≡ hyper.Save op a v rest
 then_save op a v rest = ap (λ f. f rest) (before_is (HyperItem-F.Save op a v) _
     (item.rolls-Save op a v))
 
+-- an `if` in front of items, as its plain form
 pub then_if : (t : Source) (a b : List HyperItem) (rest : hyper.Items)
     → then_items (item.If t a b) rest
     ≡ hyper.If t (items_of a) (items_of b) rest
@@ -121,9 +125,11 @@ tail_is : (x : Tail-F declared.Tail) (t : declared.Tail) → roll-Tail x ≡ t �
 unfolding tail_of
 tail_is x t e = ap (fold-Tail hyper.Tail tail_by) (sym e) ∙ fold-roll-Tail hyper.Tail tail_by x
 
+-- an exit, as its plain form
 pub tail_leave : (e : Exit) → tail_of (tail.Leave e) ≡ hyper.Leave e
 tail_leave e = tail_is (Tail-F.Leave e) _ (tail.rolls-Leave e)
 
+-- a test with two tails, as its plain form
 pub tail_test : (t : Source) (a b : declared.Tail)
     → tail_of (tail.Test t a b) ≡ hyper.Test t (tail_of a) (tail_of b)
 tail_test t a b = tail_is (Tail-F.Test t a b) _ (tail.rolls-Test t a b)

@@ -120,6 +120,7 @@ leaving_words at (exit.Call l back) m f words = words_put m 2 (at.address back) 
 leaving_words at exit.Return m f words = words
 leaving_words at (exit.System l) m f words = words
 
+-- a block that fits leaves words where it begins with words
 pub keeps_words : KeepsWords
 keeps_words at b f fits m words =
     leaving_words at (exit_of b.tail (after_items b.items m).registers) (after_items b.items m) f

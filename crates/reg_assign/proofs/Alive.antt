@@ -30,6 +30,7 @@ use Rattle.reg_assign.proofs.Follows.{closing_alike}
 
 -- each call keeps scalars and temporaries alone
 abbrev mutual
+  -- each call in a step keeps scalars and temporaries alone
   pub Lasting_in : Step → Type 0
   Lasting_in (Let to op x y) = Unit {0}
   Lasting_in (Frame to at) = Unit {0}
@@ -44,6 +45,7 @@ abbrev mutual
   Lasting_in Continue = Unit {0}
   Lasting_in (Return x) = Unit {0}
 
+  -- each call in some code keeps scalars and temporaries alone
   pub Lasting : Code → Type 0
   Lasting Nop = Unit {0}
   Lasting (s ▹ rest) = Lasting_in s × Lasting rest

@@ -32,5 +32,6 @@ all_few : (sets : List VarSet) → AreFew (map groups_of (map members sets))
 all_few [] = tt
 all_few (a ∷ sets) = (groups_few a, all_few sets)
 
+-- the live variables of each call make at most five groups
 pub live_few : (P : Program) → AreFew (map groups_of (live_lists P))
 live_few P = all_few (kept_over_all P.functions)

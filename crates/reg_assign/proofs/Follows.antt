@@ -22,6 +22,7 @@ abbrev pub Below : {A : Type 0} → Option A → Option A → Type 0
 Below None p = Unit {0}
 Below (Some a) p = p ≡ Some a
 
+-- what is the same is the same or less
 pub below : {A : Type 0} (o p : Option A) → p ≡ o → Below o p
 below None p e = tt
 below (Some a) p e = e
@@ -35,6 +36,7 @@ pub record Agree (a : VarSet) (s t : State) : Type 0 where
   pub vars : (v : ℕ) → matters a v ≡ true → Below (s.vars v) (t.vars v)
   pub outside : SameOutside s t
 
+-- states that agree on a set agree on one within it
 pub agree_less : (a b : VarSet) (s t : State) → Within a b → Agree b s t → Agree a s t
 agree_less a b s t w g = record {
   vars = λ v e. g.vars v (or_cases (a v) (not (stays v)) e
@@ -59,6 +61,7 @@ Follow n b k (TooDeep out) r = r ≡ TooDeep out
 Follow n b k (Unfinished out c) r = r ≡ Unfinished out c
 Follow n b k Wild r = Unit {0}
 
+-- states that agree meet at an end
 pub met : (end : State → Res) (a : VarSet) (s t : State) → Agree a s t → Meets end a s (end t)
 met end a s t g = record { state = t; same = refl; agree = g }
 
@@ -66,10 +69,12 @@ unfinished_alike : (s t : State) → SameOutside s t → unfinished t ≡ unfini
 unfinished_alike s t g = ap₂ Unfinished g.output g.rounds
 
 module _ (n b k : VarSet) where
+  -- states that agree settle alike
   pub settle_alike : (s t : State) (m : ℕ) → Agree n s t → Follow n b k (settle s m) (settle t m)
   settle_alike s t zero g = unfinished_alike s t g.outside
   settle_alike s t (suc m) g = met (λ t. Gone t (suc m)) n s t g
 
+  -- a turn in states alike outside goes on alike where what follows does
   pub turn_alike : (s t : State) (m : ℕ) (f h : ℕ → Res) → SameOutside s t
       → ((m : ℕ) → Follow n b k (f m) (h m)) → Follow n b k (turn s m f) (turn t m h)
   turn_alike s t zero f h g go = unfinished_alike s t g
@@ -80,17 +85,20 @@ module _ (n b k : VarSet) where
   cond_alike true r q x y h g = h
   cond_alike false r q x y h g = g
 
+  -- ten turns in states alike outside go on alike where what follows does
   pub ten_alike : (s t : State) (m : ℕ) (f h : ℕ → Res) → SameOutside s t
       → ((m : ℕ) → Follow n b k (f m) (h m)) → Follow n b k (ten_turns s m f) (ten_turns t m h)
   ten_alike s t m f h g go =
       cond_alike (nat_lt m 10) (unfinished s) (f (m - 10)) (unfinished t) (h (m - 10))
       (unfinished_alike s t g) (go (m - 10))
 
+  -- what must be there, and is the same or less, goes on alike where what follows does
   pub must_alike : {A : Type 0} (o p : Option A) (f h : A → Res) → Below o p
       → ((a : A) → Follow n b k (f a) (h a)) → Follow n b k (must o f) (must p h)
   must_alike None p f h e go = tt
   must_alike (Some a) p f h e go = subst (λ p. Follow n b k (f a) (must p h)) (sym e) (go a)
 
+  -- a choice by one word goes on alike where both legs do
   pub chosen_alike : (w : ℕ) (r q x y : Res) → Follow n b k r x → Follow n b k q y
       → Follow n b k (chosen w r q) (chosen w x y)
   chosen_alike zero r q x y h g = g
@@ -189,11 +197,13 @@ it_matters a v w = go (stays v) refl
     go false is = or_right (a v) (not (stays v)) (ap not is)
 
 module _ (clean : Bool) (a : VarSet) (s t : State) (g : Agree a s t) where
+  -- an operand within what states agree on reads alike
   pub read_alike : (x : Arg) → Within (reads x) a
       → Below (read (tame_and clean) s x) (read (tame_and clean) t x)
   read_alike (Const w) h = refl
   read_alike (Var v) h = set_alike (s.vars v) (t.vars v) (g.vars v (it_matters a v h))
 
+  -- operands within what states agree on read alike
   pub reads_alike : (xs : List Arg) → Within (reads_any xs) a
       → Below (read_all (tame_and clean) s xs) (read_all (tame_and clean) t xs)
   reads_alike [] h = refl
@@ -227,6 +237,7 @@ vars_put n a to s t w h g v e = go (nat_eq v to) refl
     go true is = below w w refl
     go false is = g v (not_set n a to v is h e)
 
+-- states that agree do so with one variable set to a word
 pub agree_var : (n a : VarSet) (to : ℕ) (s t : State) (w : ℕ) → Within (minus n (one to)) a
     → Agree a s t → Agree n (with_var s to w) (with_var t to w)
 agree_var n a to s t w h g = record {
@@ -239,6 +250,7 @@ agree_var n a to s t w h g = record {
   };
 }
 
+-- states that agree do so with one variable set to the next byte of the input
 pub agree_next : (n a : VarSet) (to : ℕ) (s t : State) → Within (minus n (one to)) a → Agree a s t
     → Agree n (with_next s to s.input) (with_next t to t.input)
 agree_next n a to s t h g =
@@ -257,6 +269,7 @@ agree_next n a to s t h g =
       };
     }
 
+-- states that agree do so with one memory
 pub agree_memory : (a : VarSet) (s t : State) (m : Memory) → Agree a s t
     → Agree a (with_memory s m) (with_memory t m)
 agree_memory a s t m g = record {
@@ -269,6 +282,7 @@ agree_memory a s t m g = record {
   };
 }
 
+-- states that agree do so with one more byte put out
 pub agree_output : (a : VarSet) (s t : State) (w : ℕ) → Agree a s t
     → Agree a (with_output s w) (with_output t w)
 agree_output a s t w g = record {
@@ -337,6 +351,7 @@ module _ (n a old keep : VarSet) (lasting : Within old stays) where
       outside = record { memory = o.memory; input = o.input; output = o.output; rounds = o.rounds };
     }
 
+    -- calls that end alike go on alike, where what is live after them is kept
     pub call_alike : (b c : VarSet) (r q : Res) → EndsAs r q
         → Follow n b c (after_call s old to r) (after_call t keep to q)
     call_alike b c (Gone x m) q e =
@@ -364,6 +379,7 @@ module _ (at size : ℕ) where
     rounds = g.outside.rounds;
   }
 
+  -- bodies that follow one another end alike with their arrays closed
   pub closing_alike : (r q : Res) → Follow empty empty empty r q
       → EndsAs (closing at size r) (closing at size q)
   closing_alike (Gone s m) q g = record {

@@ -38,6 +38,7 @@ cut vs = (
   first_are_small ((length vs + 15) / 16) vs,
 )
 
+-- each list is made up of its groups, and these are small
 pub all_cut : (lists : List (List ℕ)) → AreCut lists (map groups_of lists)
 all_cut [] = tt
 all_cut (vs ∷ lists) = (cut vs, all_cut lists)

@@ -39,6 +39,7 @@ as_many_as_calls (f ∷ fs) =
     let h = length_append (kept_over f) (kept_over_all fs) in
     let hf = one_each f.body empty empty empty in let hs = as_many_as_calls fs in omega arith
 
+-- there is a list for each call of the program, and it has scalars and temporaries alone
 pub lists_fit : (P : Program) → FitsLists P (live_lists P)
 lists_fit P = record {
   each = as_many (kept_over_all P.functions) ∙ as_many_as_calls P.functions;

@@ -53,9 +53,11 @@ seen_without a b = fun_ext (λ v.
     ∙ less_bits (bit_at a v) (bit_at b v) (bit_at-lt a v) (bit_at-lt b v)
     ∙ sym (ap₂ (λ x y. x && not y) (is_bit a v) (is_bit b v)))
 
+-- 0 is the empty set
 pub seen_zero : seen 0 ≡ empty
 seen_zero = fun_ext (λ v. is_bit 0 v ∙ ap (λ x. nat_eq x 1) (bit_at-zero v))
 
+-- one bit is the set of one variable
 pub seen_bit : (k : ℕ) → seen (bit k) ≡ one k
 unfolding bit
 seen_bit k = fun_ext (λ v. each v (stays k))
@@ -84,12 +86,15 @@ or_none : (a : Bool) → a || false ≡ a
 or_none true = refl
 or_none false = refl
 
+-- the union of sets may be grouped either way
 pub both_assoc : (a b c : VarSet) → both (both a b) c ≡ both a (both b c)
 both_assoc a b c = fun_ext (λ v. or_assoc (a v) (b v) (c v))
 
+-- the union of two sets is the same in either order
 pub both_comm : (a b : VarSet) → both a b ≡ both b a
 both_comm a b = fun_ext (λ v. or_comm (a v) (b v))
 
+-- the union with the empty set is the set
 pub both_none : (a : VarSet) → both a empty ≡ a
 both_none a = fun_ext (λ v. or_none (a v))
 
@@ -102,14 +107,17 @@ both_turned a b c = both_assoc a b c ∙ both_comm a (both b c)
 
 -- OPERANDS
 
+-- the number for an operand is the set of the variables that it reads
 pub seen_read : (x : Arg) → seen (read_by x) ≡ reads x
 seen_read (Const w) = seen_zero
 seen_read (Var k) = seen_bit k
 
+-- so is the number for an operand that may be absent
 pub seen_read_if : (x : Option Arg) → seen (read_if x) ≡ reads_if x
 seen_read_if None = seen_zero
 seen_read_if (Some x) = seen_read x
 
+-- the number for a result is the set of its variable, if it has one
 pub seen_set : (to : Option ℕ) → seen (set_by to) ≡ result to
 seen_set None = seen_zero
 seen_set (Some k) = seen_bit k
@@ -118,9 +126,11 @@ seen_set (Some k) = seen_bit k
 pub seen_with : (a b : ℕ) (x y : VarSet) → seen a ≡ x → seen b ≡ y → seen (bit_or a b) ≡ both x y
 seen_with a b x y e h = seen_or a b ∙ ap₂ both e h
 
+-- a number with another one's bits taken out is the first set without the second
 pub seen_less : (a b : ℕ) (x y : VarSet) → seen a ≡ x → seen b ≡ y → seen (without a b) ≡ minus x y
 seen_less a b x y e h = seen_without a b ∙ ap₂ minus e h
 
+-- a number with the bits of some operands is its set and what they read
 pub seen_args : (set : ℕ) (xs : List Arg) → seen (with_read set xs) ≡ both (seen set) (reads_any xs)
 seen_args set [] = sym (both_none (seen set))
 seen_args set (x ∷ xs) =

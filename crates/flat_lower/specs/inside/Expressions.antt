@@ -24,6 +24,7 @@ use Rattle.flat_lower.specs.inside.Tree.{Binary, Choice, Assign, Comma, Exprs, N
 use Rattle.flat_lower.specs.inside.Operations.{temp, scratch, set_word, copied, converted_to}
 use Rattle.flat_lower.specs.inside.Operations.{converted_here, binary_code, unary_code, bumped, is_before}
 use Rattle.flat_lower.specs.inside.Operations.{load_op, save_op}
+use Rattle.flat_lower.specs.inside.Powers.{exponent_of, immediate_for, immediate_code, scaled_by}
 use Rattle.flat_lower.specs.inside.Objects.{Context, global_at, address_code, whole_code, row_of}
 
 -- where a kind is known
@@ -49,7 +50,7 @@ name_code c (Array a) to k = whole_code c (Array a) to
 abbrev pub joined_by : Option ℕ → ℕ → Code
 joined_by None d = Nop
 joined_by (Some q) d =
-    Then (only (Let (temp d) op.Mul (Var (temp d)) (Const q)))
+    Then (scaled_by (exponent_of q) q (temp d))
     (only (Let (temp d) op.Add (Var (temp d)) (Var (temp (suc d)))))
 
 -- the code of two indexes of an array, by that of each
@@ -109,19 +110,21 @@ assign_name c (Array a) d k = Nop
 abbrev pub old_name : Context → Place → ℕ → Kind → Kind → Code
 old_name c (Global g) d at k =
     Then (only (Load (temp d) (load_op k) (Const (global_at c.globals g))))
-    (converted_here at (temp d))
-old_name c (Scalar i) d at k = converted_to at (temp d) i
+    (converted_here (Some k) at (temp d))
+old_name c (Scalar i) d at k = converted_to (Some k) at (temp d) i
 old_name c (Array a) d at k = Nop
 
 -- the operation on temporaries d and y, and the result's conversion to the left side's type
 abbrev pub compound_code : BinaryOp → ℕ → ℕ → Kind → Kind → Code
-compound_code o d y at k = Then (binary_code o at (temp d) (temp y)) (converted_here k (temp d))
+compound_code o d y at k =
+    Then (binary_code o at (temp d) (temp y)) (converted_here (Some at) k (temp d))
 
 -- to an element: the address stands in temporary d + 1, the old value in temporary d
 abbrev pub old_element : Context → Place → ℕ → Kind → Kind → Code
 old_element c p d at k =
     Then (address_code c p k (temp (suc d)) (temp d))
-    (Then (only (Load (temp d) (load_op k) (Var (temp (suc d))))) (converted_here at (temp d)))
+    (Then (only (Load (temp d) (load_op k) (Var (temp (suc d)))))
+    (converted_here (Some k) at (temp d)))
 
 -- the address in temporary d, the value in temporary d + 1
 abbrev pub assign_element : ℕ → Kind → Code
@@ -188,12 +191,18 @@ call_code PutChar k d args =
 abbrev pub tested : ℕ → Code
 tested d = only (Let (temp d) op.Tne (Var (temp d)) (Const 0))
 
+-- the right operand in the next temporary and the operation on both, or the operation on a constant
+abbrev pub strict_code : BinaryOp → Option Kind → ℕ → Option ℕ → Code → Code
+strict_code o k d None right =
+    Then right (with_kind k (λ k. binary_code o k (temp d) (temp (suc d))))
+strict_code o k d (Some m) right = immediate_code o m (temp d)
+
 -- the right side is done only where the left one does not tell; what is 0 stands there already
-abbrev pub binary_end : BinaryOp → Option Kind → ℕ → Code → Code
-binary_end LogicalAnd k d right = only (If (Var (temp d)) (Then right (tested d)) Nop)
-binary_end LogicalOr k d right = only (If (Var (temp d)) (set_word (temp d) 1)
+abbrev pub binary_end : BinaryOp → Option Kind → ℕ → Option ℕ → Code → Code
+binary_end LogicalAnd k d m right = only (If (Var (temp d)) (Then right (tested d)) Nop)
+binary_end LogicalOr k d m right = only (If (Var (temp d)) (set_word (temp d) 1)
     (Then right (tested d)))
-binary_end o k d right = Then right (with_kind k (λ k. binary_code o k (temp d) (temp (suc d))))
+binary_end o k d m right = strict_code o k d m right
 
 -- the temporary of the right operand
 abbrev pub operand_at : BinaryOp → ℕ → ℕ
@@ -213,11 +222,12 @@ abbrev mutual
   expr_code c d (Call k f args) = Then (args_code c d args) (call_code f k d (temps d args))
   expr_code c d (Unary k o e) =
       Then (expr_code c d e) (with_kind (kind_of e) (λ j. unary_code o j (temp d)))
-  expr_code c d (Cast k to e) = Then (expr_code c d e) (converted_here to (temp d))
-  expr_code c d (Convert k to e) = Then (expr_code c d e) (converted_here to (temp d))
+  expr_code c d (Cast k to e) = Then (expr_code c d e) (converted_here (kind_of e) to (temp d))
+  expr_code c d (Convert k to e) = Then (expr_code c d e) (converted_here (kind_of e) to (temp d))
   expr_code c d (Bump k o e) = Then (index_code c d e) (with_kind (kind_of e) (bump_code c o d e))
   expr_code c d (Binary k o l r) =
-      Then (expr_code c d l) (binary_end o (kind_of l) d (expr_code c (operand_at o d) r))
+      Then (expr_code c d l)
+      (binary_end o (kind_of l) d (immediate_for o (kind_of l) r) (expr_code c (operand_at o d) r))
   expr_code c d (Choice k t one other) =
       Then (expr_code c d t) (only (If (Var (temp d)) (expr_code c d one) (expr_code c d other)))
   expr_code c d (Assign k o at l r) =

@@ -14,7 +14,7 @@ use Rattle.c_constant.specs.Kinds.{IsWord}
 use Rattle.flat_lower.specs.inside.Statements.{lowered_program}
 use Rattle.flat_lower.specs.inside.Fits.{FitsSource}
 use Rattle.flat_lower.specs.inside.Sizes.{IsMost}
-use Rattle.flat_lower.specs.Keeps.{IsInput}
+use Rattle.c_meaning_spec.specs.Laws.{IsInput}
 
 -- A run here is one by the turns that it has. A turn is paid by the steps, eight a step; and the
 -- steps are paid by the rounds, with as many a round as one pass through a function can cost.

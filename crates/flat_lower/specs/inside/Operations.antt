@@ -16,6 +16,7 @@ use Rattle.trips_isa.specs.declared.op.Op.{Op}
 use Rattle.trips_isa.specs.declared.op.Op.TheVariants as op
 use Rattle.ir_forms.specs.declared.flat.Arg.TheVariants.{Const, Var}
 use Rattle.ir_forms.specs.inside.FlatCode.{Code, Nop, Then, only, Let}
+use Rattle.flat_lower.specs.inside.Narrowing.{narrowing, narrowing_from}
 
 -- VARIABLES
 
@@ -45,34 +46,23 @@ two_done to o x y = only (Let to o (Var x) (Var y))
 
 -- CONVERSIONS
 
--- what makes a word of a type of any word; none where each word is one
-abbrev pub narrowing : Kind → Option Op
-narrowing Char = Some op.Extsb
-narrowing UChar = Some op.Extub
-narrowing Short = Some op.Extsh
-narrowing UShort = Some op.Extuh
-narrowing Int = Some op.Extsw
-narrowing UInt = Some op.Extuw
-narrowing Long = None
-narrowing ULong = None
-
 -- a word narrowed into another variable
 abbrev pub narrowed_by : Option Op → ℕ → ℕ → Code
 narrowed_by None to x = copied to x
 narrowed_by (Some o) to x = one_done to o x
 
--- a word becomes one of a type, in another variable
-abbrev pub converted_to : Kind → ℕ → ℕ → Code
-converted_to k to x = narrowed_by (narrowing k) to x
+-- a word of one type becomes one of another, in another variable
+abbrev pub converted_to : Option Kind → Kind → ℕ → ℕ → Code
+converted_to j k to x = narrowed_by (narrowing_from j k) to x
 
 -- a word narrowed where it stands
 abbrev pub narrowed_here : Option Op → ℕ → Code
 narrowed_here None x = Nop
 narrowed_here (Some o) x = one_done x o x
 
--- and where it stands
-abbrev pub converted_here : Kind → ℕ → Code
-converted_here k x = narrowed_here (narrowing k) x
+-- and where it stands, without code where it is one already
+abbrev pub converted_here : Option Kind → Kind → ℕ → Code
+converted_here j k x = narrowed_here (narrowing_from j k) x
 
 -- only an unsigned int that overflows 32 bits is not yet a word of its type; what is defined of a
 -- signed type fits

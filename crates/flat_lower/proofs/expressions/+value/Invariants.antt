@@ -21,6 +21,9 @@ decreases-put_or l = 8 * count l.e.now + 2
 abbrev pub decreases-put_operation : goal.decreases-put_operation
 decreases-put_operation l = 8 * count l.e.now + 1
 
+abbrev pub decreases-put_strict : goal.decreases-put_strict
+decreases-put_strict l = 8 * count l.e.now + 2
+
 abbrev pub decreases-put_right : goal.decreases-put_right
 decreases-put_right l = 8 * count l.e.now + 3
 

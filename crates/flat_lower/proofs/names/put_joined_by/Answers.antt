@@ -3,4 +3,4 @@ use Rattle.flat_lower.proofs.Emits.{two}
 use Rattle.flat_lower.proofs.names.put_joined_by.Goals as goal
 
 pub returns : goal.returns
-returns c = let h = two c.in_ok-put_let.ensures c.in_ok-put_let-2.ensures in grind (arith, h)
+returns c = let h = two c.in_ok-put_scaled.ensures c.in_ok-put_let.ensures in grind (arith, h)

@@ -1,4 +1,4 @@
-use Rattle.flat_lower_premises.proofs.BlockLengths.{few_blocks}
+use Rattle.flat_lower_premises.proofs.CodeWeights.{few_blocks}
 use Rattle.flat_lower_premises.proofs.law.blocks_are_few.Goals as goal
 
 pub returns : goal.returns

@@ -1,4 +1,4 @@
-use Rattle.flat_lower_premises.proofs.CostUnits.{blocks_few}
+use Rattle.flat_lower_premises.proofs.UnitSizes.{blocks_few}
 use Rattle.flat_lower_premises.proofs.lengths.blocks_are_few.Goals as goal
 
 pub returns : goal.returns

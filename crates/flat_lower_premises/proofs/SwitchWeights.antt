@@ -1,0 +1,74 @@
+-- What the code of a switch weighs, but for its test and its statements.
+use Rattle.std.proofs.Common.{ℕ, suc, ◌+◌, ◌*◌, List, [], ◌∷◌, Option, Some, None, refl, ap, arith}
+use Rattle.trips_isa.specs.declared.op.Op.TheVariants as op
+use Rattle.ir_forms.specs.declared.flat.Arg.TheVariants.{Const, Var}
+use Rattle.ir_forms.specs.inside.FlatCode.{Code, Let, Break}
+use Rattle.flat_lower.specs.declared.around.Around.{Around}
+use Rattle.flat_lower.specs.declared.around.Around.TheVariants as around
+use Rattle.flat_lower.specs.inside.Tree.{Sections, NoSections, WithSection}
+use Rattle.flat_lower.specs.inside.Operations.{temp}
+use Rattle.flat_lower.specs.inside.Sizes.{label_count}
+use Rattle.flat_lower.specs.inside.Switches.{break_code, continue_code, behind_code, found_code, label_code}
+use Rattle.flat_lower.specs.inside.Switches.{labels_code, compared_code, default_at, section_count, chosen_code}
+use Rattle.flat_lower.specs.inside.Switches.{section_code, switched_code}
+use Rattle.flat_lower_premises.specs.inside.SourceNodes.{sections_nodes}
+use Rattle.flat_lower_premises.proofs.SectionNodes.{labels_nodes, bodies_nodes, in_two}
+use Rattle.flat_lower_premises.proofs.Weights.{Weight, share, Takes, after, eased, none, one_more, chosen, looped}
+
+module _ (w : Weight) where
+  -- JUMPS
+
+  -- the code of a break weighs at most 2
+  pub break_takes : (a : Around) → Takes w 0 2 (break_code a)
+  break_takes around.Nowhere = record { few = omega arith }
+  break_takes _ = record { few = omega arith }
+
+  -- the code of a continue weighs at most 2
+  pub continue_takes : (a : Around) → Takes w 0 2 (continue_code a)
+  continue_takes around.Nowhere = record { few = omega arith }
+  continue_takes _ = record { few = omega arith }
+
+  behind_takes : (a : Around) → Takes w 0 (w.branch + 2) (behind_code a)
+  behind_takes around.Nowhere = none (w.branch + 2)
+  behind_takes around.Switch = none (w.branch + 2)
+  behind_takes _ = record { few = omega arith }
+
+  -- LABELS
+
+  found_takes : (n : ℕ) → Takes w 0 2 (found_code n)
+  found_takes n = record { few = omega arith }
+
+  label_takes : (n : ℕ) (l : Option ℕ) → Takes w 0 (share w 1) (label_code n l)
+  label_takes n None = none (share w 1)
+  label_takes n (Some v) = record { few = omega arith }
+
+  labels_take : (n : ℕ) (ls : List (Option ℕ)) → Takes w 0 (share w (label_count ls)) (labels_code n ls)
+  labels_take n [] = record { few = omega arith }
+  labels_take n (l ∷ ls) = eased (after (label_takes n l) (labels_take n ls)) (omega arith)
+
+  compared_takes : (n : ℕ) (xs : Sections) → Takes w 0 (share w (labels_nodes xs)) (compared_code n xs)
+  compared_takes n NoSections = record { few = omega arith }
+  compared_takes n (WithSection ls body rest) =
+      eased (after (labels_take n ls) (compared_takes (suc n) rest)) (omega arith)
+
+  chosen_takes : (xs : Sections) → Takes w 0 (share w (labels_nodes xs) + (w.branch + 2)) (chosen_code xs)
+  chosen_takes xs =
+      eased (looped (after (compared_takes 0 xs) (found_takes (default_at 0 (section_count xs) xs))) (none 0))
+      (omega arith)
+
+  -- SECTIONS
+
+  -- a section by its statements
+  pub section_takes : (body : Code) (n : ℕ) → Takes w 0 (share w n) body
+      → Takes w 0 (share w (1 + n)) (section_code body)
+  section_takes body n p =
+      eased (chosen (Var (temp 0)) (one_more (Let (temp 0) op.Sub (Var (temp 0)) (Const 1)) refl)
+      (after p (one_more (Let (temp 0) op.Mov (Const 0) (Const 0)) refl))) (omega arith)
+
+  -- a switch behind its test by its sections
+  pub switched_takes : (a : Around) (xs : Sections) (body : Code) → Takes w 0 (share w (bodies_nodes xs)) body
+      → Takes w 0 (share w (sections_nodes xs) + (3 * w.branch + 5)) (switched_code a xs body)
+  switched_takes a xs body p =
+      let h = ap (share w) (in_two xs) in
+      eased (after (chosen_takes xs) (after (looped (after p (one_more Break refl)) (none 0))
+      (behind_takes a))) (omega (arith, h))
