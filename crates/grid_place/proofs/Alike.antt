@@ -111,6 +111,7 @@ module _ (p q : ℕ → ℕ) (b c : Block) (fits : FitsBlock b) (good : GoodBloc
   stand : Standing (nodes_of b) (nodes_of c) (place_goes p) (node_goes p b) (node_goes q c)
   stand = standing p q b c fits m w
 
+  -- the nodes of a moved block are ranked
   pub moved_ranked : IsRanked (nodes_of c)
   moved_ranked = ranked_back (nodes_of b) (nodes_of c) (place_goes p) (node_goes p b)
       (node_goes q c)
@@ -123,9 +124,11 @@ module _ (p q : ℕ → ℕ) (b c : Block) (fits : FitsBlock b) (good : GoodBloc
     abbrev moved : ℕ → Answer
     moved y = tokens (node_goes q c y)
 
+    -- a node of the moved block has the token of the block's node
     pub same : (x : ℕ) → moved (node_goes p b x) ≡ tokens x
     same x = ap tokens (stand.returns x)
 
+    -- the block's tokens solve its equations
     pub solves : Solves b (responses_in b regs mem tokens) tokens
     solves = token_solves b regs mem good.ranked
 
@@ -136,6 +139,7 @@ module _ (p q : ℕ → ℕ) (b c : Block) (fits : FitsBlock b) (good : GoodBloc
         regs mem (node_goes q c y))
         ∙ ap (given c regs mem moved) (stand.returned y)
 
+    -- the tokens of the moved block are those of the block, each at its node's new place
     pub moved_tokens : moved ≡ token_of c regs mem deepest
     moved_tokens = fun_ext (only_table c regs mem moved_ranked moved settled)
 
@@ -187,6 +191,7 @@ module _ (p q : ℕ → ℕ) (b c : Block) (fits : FitsBlock b) (good : GoodBloc
         (ap is_system leaving_alike ∙ system_same p (leaving_of b tokens))
         (ap (next_of blocks k) leaving_alike ∙ next_same p blocks k (leaving_of b tokens))
 
+    -- a moved block comes to what the block comes to
     pub same_plain : (blocks : List Block) (k : ℕ) → plain blocks k c regs mem
         ≡ plain blocks k b regs mem
     same_plain blocks k = sym (ap (plain_by blocks k c) moved_tokens) ∙ moved_plain blocks k

@@ -328,6 +328,7 @@ module _ (ns ms : List Node) (place to from : ℕ → ℕ) (s : Standing ns ms p
       ∙ sym (bit_alike c k (from y)) ∙ ap (λ z. bit z (from y)) e ∙ bit_alike d l (from y)
       ∙ ap (bit d) (s.returned y))
 
+  -- a moved block has no more cases than the block
   pub as_few : cases ms ≤ cases ns
   as_few =
       let n = length ns in
@@ -380,8 +381,10 @@ module _ (ns ms : List Node) (place to from : ℕ → ℕ) (s : Standing ns ms p
   gets_alike c i q = tokens_alike (token ns (read_off c)) (token ms c)
       (token_alike c (i.size ∙ size)) q
 
+  -- a place that gets two tokens in the moved block gets two in the block
   pub two_back : (q : ℕ) → GetsTwo ms (place q) → GetsTwo ns q
   two_back q (c, i, l) = (read_off c, case_back c i, subst (λ k. 1 < k) (gets_alike c i q) l)
 
+  -- a place that gets no token in the moved block gets none in the block
   pub none_back : (q : ℕ) → GetsNone ms (place q) → GetsNone ns q
   none_back q (c, i, e) = (read_off c, case_back c i, sym (gets_alike c i q) ∙ e)

@@ -74,6 +74,7 @@ module _ (ns ms : List Node) (place to from : ℕ → ℕ) (s : Standing ns ms p
             ∙ sym (ap₂ feeds m.2 n.2) ∙ e.fed;
       }
 
+  -- where the block's nodes are ranked, so are those of the moved block
   pub ranked_back : IsRanked ns → IsRanked ms
   ranked_back (rank, r) = (
     λ y. rank (from y),

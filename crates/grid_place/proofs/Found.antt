@@ -13,6 +13,7 @@ pub record Given {A : Type 0} (ns : List Node) (q : ℕ) (f : ℕ → Option A) 
   pub named : names (targets node) q ≡ true
   pub value : f x ≡ Some v
 
+-- what nodes give at a place is never two different things
 abbrev pub Once : {A : Type 0} → List Node → ℕ → (ℕ → Option A) → Type 0
 Once {A} ns q f = (x y : ℕ) (u v : A) → Given ns q f x u → Given ns q f y v → u ≡ v
 

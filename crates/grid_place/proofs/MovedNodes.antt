@@ -26,6 +26,7 @@ use Rattle.grid_place.proofs.Renaming.{place_middle}
 abbrev pub node_goes : (ℕ → ℕ) → Block → ℕ → ℕ
 node_goes p b x = cond (is_read b x) x (length b.reads.items + p (slot_at b x))
 
+-- a read stays where it is
 pub goes_read : (p : ℕ → ℕ) (b : Block) (x : ℕ) → is_read b x ≡ true → node_goes p b x ≡ x
 goes_read p b x e = ap (λ v. cond v x (length b.reads.items + p (slot_at b x))) e
 
@@ -35,6 +36,7 @@ goes_slot p b x e = ap (λ v. cond v x (length b.reads.items + p (slot_at b x)))
 
 -- two blocks with as many reads
 module _ (p q : ℕ → ℕ) (b c : Block) (n : length c.reads.items ≡ length b.reads.items) where
+  -- a node of the moved block is a read where the block's is
   pub still_read : (x : ℕ) → is_read c (node_goes p b x) ≡ is_read b x
   still_read x = by (is_read b x) refl
     where
@@ -43,6 +45,7 @@ module _ (p q : ℕ → ℕ) (b c : Block) (n : length c.reads.items ≡ length 
       by false e = ap (is_read c) (goes_slot p b x e)
           ∙ le-ltb (length b.reads.items + p (slot_at b x)) (length c.reads.items) (omega arith)
 
+  -- a node that is no read stands at the new place of its slot
   pub slot_goes : (x : ℕ) → is_read b x ≡ false → slot_at c (node_goes p b x) ≡ p (slot_at b x)
   slot_goes x e =
       let same : length b.reads.items + p (slot_at b x) - length c.reads.items ≡ p (slot_at b x) =
@@ -93,11 +96,13 @@ none_stands [] j k l = refl
 none_stands (i ∷ is) j zero l = absurd (omega arith)
 none_stands (i ∷ is) j (suc k) l = none_stands is (suc j) k (omega arith)
 
+-- past the end of the instructions there is none
 pub past_end : (is : List (Option Inst)) (k : ℕ) → length is ≤ k → get_or is k None ≡ None
 past_end [] k l = refl
 past_end (i ∷ is) zero l = absurd (omega arith)
 past_end (i ∷ is) (suc k) l = past_end is k (omega arith)
 
+-- what stands in each slot of a block that fits, fits
 pub slot_fits : (b : Block) → FitsBlock b → (s : ℕ) → FitsSlot (slot_of b s)
 slot_fits b f s = by (nat_lt s 128) refl
   where
@@ -122,10 +127,12 @@ pub read_is : (b : Block) (x : ℕ) (n : Node) → is_read b x ≡ true
 read_is b x n e i = read_got b.reads.items (inst_nodes 0 b.insts.items) x n
     (ltb-true x (length b.reads.items) e) i
 
+-- the node of an instruction stands at its slot
 pub slot_is : (j : ℕ) (o : Option Inst) → (inst_node j o).slot ≡ j
 slot_is j None = refl
 slot_is j (Some i) = refl
 
+-- a node that is no read stands at a slot below 128
 pub slot_low : (b : Block) → FitsBlock b → (x : ℕ) (n : Node) → is_read b x ≡ false
     → slice_get (nodes_of b) x ≡ Some n → slot_at b x < 128
 slot_low b f x n e i = by (nat_lt (slot_at b x) 128) refl
@@ -187,10 +194,12 @@ module _ (p q : ℕ → ℕ) (b c : Block) (f : FitsBlock b) (m : Permutes p q) 
   pub as_many : length c.reads.items ≡ length b.reads.items
   as_many = ap length w.reads ∙ length-map b.reads.items (renamed_read p)
 
+  -- each read of the moved block is the block's, renamed
   pub read_at : (x : ℕ) → slice_get c.reads.items x
       ≡ option_map (renamed_read p) (slice_get b.reads.items x)
   read_at x = ap (λ rs. slice_get rs x) w.reads ∙ slice_get-map (renamed_read p) b.reads.items x
 
+  -- each instruction of the moved block is the block's, renamed
   pub inst_moved : (x : ℕ) → is_read b x ≡ false
       → inst_at c (node_goes p b x) ≡ option_map (renamed_inst p) (inst_at b x)
   inst_moved x e = ap (slot_of c) (slot_goes p q b c as_many x e) ∙ w.insts (slot_at b x)
@@ -241,6 +250,7 @@ module _ (p q : ℕ → ℕ) (b c : Block) (f : FitsBlock b) (m : Permutes p q) 
           ∙ sym (ap (option_map (moved_node (place_goes p)))
           (past_reads b.reads.items b.insts.items x (slot_at b x) (not_read b x e)))
 
+  -- the nodes of the moved block stand where those of the block go
   pub standing : Standing (nodes_of b) (nodes_of c) (place_goes p) (node_goes p b) (node_goes q c)
   standing = record {
     apart = place_same p q m;

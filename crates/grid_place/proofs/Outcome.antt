@@ -81,6 +81,7 @@ module _ {A : Type 0} (ns ms : List Node) (place to from : ℕ → ℕ)
               sym h.is ∙ there ∙ ap (option_map (moved_node place)) e in
               cc
 
+  -- what is taken at a place is the same in both blocks
   pub first_alike : (q : ℕ) → Once ns q f → first ns q f ≡ first ms (place q) g
   first_alike q once = taken_alike ns ms q (place q) f g once
       (λ x v h. (to x, given_there q x v h)) (λ y v h. (from y, given_back q y v h))
@@ -96,6 +97,7 @@ module _ (b : Block) (fits : FitsBlock b) (good : GoodBlock b) (responses : Resp
       (nodes_placed b fits) good.good _ f solves)
       q lt) x y n k (present_shape (f x) u) (present_shape (f y) v)
 
+  -- at each place of a good block at most one thing is given
   pub one_gives : {A : Type 0} → (h : ℕ → Option A) → ((x : ℕ) → f x ≡ None → h x ≡ None) → (q : ℕ)
       → q < 449 → Once (nodes_of b) q h
   one_gives h silent q lt x y u v a c =
@@ -124,6 +126,7 @@ silent_out None t e = refl
 silent_out (Some i) None e = refl
 silent_out (Some i) (Some t) e = absurd (cc)
 
+-- a node without a token leaves by no exit
 pub leaves_silent : (b : Block) (f : ℕ → Answer) (x : ℕ) → f x ≡ None
     → leaves_if_read (is_read b x) b f x ≡ None
 leaves_silent b f x e = by (is_read b x)
@@ -167,6 +170,7 @@ module _ (p q : ℕ → ℕ) (b c : Block) (fits : FitsBlock b) (good : GoodBloc
   slot_to : (x : ℕ) → is_read b x ≡ false → slot_at c (node_goes p b x) ≡ p (slot_at b x)
   slot_to = slot_goes p q b c (as_many p q b c fits m w)
 
+  -- each place of the moved block gets the token of the block's place
   pub token_alike : (r : ℕ) → r < 449 → at_place b f r ≡ at_place c g (place_goes p r)
   token_alike r lt = first_alike (nodes_of b) (nodes_of c) (place_goes p) (node_goes p b)
       (node_goes q c) stand f g same r
@@ -220,6 +224,7 @@ module _ (p q : ℕ → ℕ) (b c : Block) (fits : FitsBlock b) (good : GoodBloc
           (same x)
           ∙ stored_slot (slot_at b x) (f x)
 
+  -- what is stored under a number is the same in both blocks
   pub store_alike : (n : ℕ) → n < 33 → store_of b f n ≡ store_of c g n
   store_alike n lt = first_alike (nodes_of b) (nodes_of c) (place_goes p) (node_goes p b)
       (node_goes q c) stand (stored_by b f) (stored_by c g) stored_alike (416 + n)
@@ -299,6 +304,7 @@ module _ (p q : ℕ → ℕ) (b c : Block) (fits : FitsBlock b) (good : GoodBloc
             (at_place c g (128 + place_goes p n.slot)))
             (token_alike (256 + n.slot) (omega arith) ∙ ap (at_place c g) (stand.predicate x n i)))
 
+    -- what each node is given is the same in both blocks
     pub given_alike : (x : ℕ) → given c regs mem g (node_goes p b x) ≡ given b regs mem f x
     unfolding given
     given_alike x =

@@ -39,10 +39,12 @@ three p q a b c x y z =
     (cond (nat_lt q 384) (256 + p (q - 256)) q))) y
     ∙ ap (λ v. cond a (p q) (cond b (128 + p (q - 128)) (cond v (256 + p (q - 256)) q))) z
 
+-- the left operand of a slot goes with the slot
 pub left_goes : (p : ℕ → ℕ) (s : ℕ) → s < 128 → place_goes p s ≡ p s
 left_goes p s l = three p s true true true (lt-ltb s 128 l) (lt-ltb s 256 (omega arith))
     (lt-ltb s 384 (omega arith))
 
+-- the right operand of a slot goes with the slot
 pub right_goes : (p : ℕ → ℕ) (s : ℕ) → s < 128 → place_goes p (128 + s) ≡ 128 + p s
 right_goes p s l =
     let same : 128 + s - 128 ≡ s = omega arith in
@@ -50,6 +52,7 @@ right_goes p s l =
     (lt-ltb (128 + s) 256 (omega arith)) (lt-ltb (128 + s) 384 (omega arith))
     ∙ ap (λ t. 128 + p t) same
 
+-- the predicate of a slot goes with the slot
 pub pred_goes : (p : ℕ → ℕ) (s : ℕ) → s < 128 → place_goes p (256 + s) ≡ 256 + p s
 pred_goes p s l =
     let same : 256 + s - 256 ≡ s = omega arith in
@@ -87,6 +90,7 @@ part q = by (nat_lt q 128) (nat_lt q 256) (nat_lt q 384) refl refl refl
         part_is q (256 + (q - 256)) (omega arith) (predicate (q - 256) (omega arith))
     by false false false x y z = other q (ltb-false q 384 z)
 
+-- a place that goes, and goes back, is where it was
 pub place_back : (p q : ℕ → ℕ) → Permutes p q → (x : ℕ) → place_goes q (place_goes p x) ≡ x
 place_back p q m x = by x (part x)
   where
@@ -99,9 +103,11 @@ place_back p q m x = by x (part x)
         ∙ pred_goes q (p s) (m.there.within s l) ∙ ap (λ t. 256 + t) (m.returns s)
     by x (other s l) = ap (place_goes q) (place_stays p s l) ∙ place_stays q s l
 
+-- places that go to one place are the same
 pub place_same : (p q : ℕ → ℕ) → Permutes p q → (x y : ℕ) → place_goes p x ≡ place_goes p y → x ≡ y
 place_same p q m x y e = sym (place_back p q m x) ∙ ap (place_goes q) e ∙ place_back p q m y
 
+-- the place of an operand goes to the place of one
 pub place_low : (p : ℕ → ℕ) → KeepsSlots p → (x : ℕ) → x < 384 → place_goes p x < 384
 place_low p k x l = by x (part x) l
   where
@@ -154,6 +160,7 @@ moved_node r n = record {
   below = n.below;
 }
 
+-- numbers are equal where their images are, under a renaming that keeps apart
 pub eq_same : (r : ℕ → ℕ) → ((a b : ℕ) → r a ≡ r b → a ≡ b) → (a b : ℕ) → (r a == r b) ≡ (a == b)
 eq_same r inj a b = by (r a == r b) (a == b) refl refl
   where
@@ -163,6 +170,7 @@ eq_same r inj a b = by (r a == r b) (a == b) refl refl
     by true false x y = absurd (eqb-false a b y (inj a b (eqb-true (r a) (r b) x)))
     by false true x y = absurd (eqb-false (r a) (r b) x (ap r (eqb-true a b y)))
 
+-- a renamed node names a renamed place where the node names the place
 pub names_same : (r : ℕ → ℕ) → ((a b : ℕ) → r a ≡ r b → a ≡ b) → (n : Node) (q : ℕ)
     → names (targets (moved_node r n)) (r q) ≡ names (targets n) q
 names_same r inj n q = ap₂ (λ u v. u || (v || false)) (eq_same r inj n.first q)
@@ -213,6 +221,7 @@ node_is : (r : Role) (e : Sense) (w s s' a a' b b' : ℕ) → s ≡ s' → a ≡
 node_is r e w s s' a a' b b' x y z = ap (λ t. node t r e a b w) x ∙ ap (λ t. node s' r e t b w) y
     ∙ ap (λ t. node s' r e a' t w) z
 
+-- the node of a renamed read is the read's node, renamed
 pub read_goes : (p : ℕ → ℕ) (r : ReadSlot) → FitsRead r
     → read_node (renamed_read p r) ≡ moved_node (place_goes p) (read_node r)
 read_goes p r f = node_is _ _ 0 449 (place_goes p 449) _ _ _ _
@@ -238,6 +247,7 @@ other_goes p i Constant f = absent_goes p i.second f.0.second
 other_goes p i Store f = absent_goes p i.second f.0.second
 other_goes p i Branch f = absent_goes p i.second f.0.second
 
+-- the node of a renamed instruction is the instruction's node, renamed
 pub inst_goes : (p : ℕ → ℕ) (j : ℕ) (o : Option Inst) → j < 128 → FitsSlot o
     → inst_node (p j) (option_map (renamed_inst p) o) ≡ moved_node (place_goes p) (inst_node j o)
 inst_goes p j None l f = node_is _ _ 0 (p j) (place_goes p j) _ _ _ _ (sym (left_goes p j l))

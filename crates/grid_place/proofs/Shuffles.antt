@@ -105,6 +105,7 @@ swap_length [] i j = refl
 swap_length (d ∷ ys) i j = length-set (set (d ∷ ys) i (get_or (d ∷ ys) j d)) j (get_or (d ∷ ys) i d)
     ∙ length-set (d ∷ ys) i (get_or (d ∷ ys) j d)
 
+-- a permutation with two slots exchanged is one
 pub swap_permutes : (p : List ℕ) (i j : ℕ) → i < 128 → j < 128 → IsPermutation p
     → IsPermutation (swap p i j)
 swap_permutes p i j l m h = record {
@@ -156,6 +157,7 @@ pub in_place_length : length in_place ≡ 128
 unfolding in_place
 in_place_length = counted_length 0 128
 
+-- leaving each slot in place is a permutation
 pub in_place_permutes : IsPermutation in_place
 in_place_permutes = record {
   size = in_place_length;
@@ -180,6 +182,7 @@ shuffled_permutes (suc i) g p l h =
     shuffled_permutes i (pcg32 g).1 (swap p (suc i) ((pcg32 g).0 % (suc i + 1))) (omega arith)
     (swap_permutes p (suc i) ((pcg32 g).0 % (suc i + 1)) l (omega arith) h)
 
+-- the shuffle of a seed is a permutation
 pub seeded_permutes : (seed : ℕ) → IsPermutation (seeded seed)
 unfolding seeded
 seeded_permutes seed = shuffled_permutes 127 (generator seed) in_place
@@ -187,6 +190,7 @@ seeded_permutes seed = shuffled_permutes 127 (generator seed) in_place
 
 -- the loops ------------------------------------------------------------------------------------
 
+-- with one slot more set to its own number, all below the next one are
 pub one_more : (xs : List ℕ) (i : ℕ) → i < length xs
     → ((k d : ℕ) → k < i → get_or xs k d ≡ k) → (k d : ℕ) → k < i + 1 → get_or (set xs i i) k d ≡ k
 one_more xs i l h k d m = ⊎_elim
@@ -201,6 +205,7 @@ same_list (x ∷ xs) [] l h = absurd (omega (arith, l))
 same_list (x ∷ xs) (y ∷ ys) l h = ap₂ (λ a b. a ∷ b) (h 0 x (omega arith))
     (same_list xs ys (omega (arith, l)) (λ k d m. h (suc k) d (omega arith)))
 
+-- where all slots are set to their own numbers, each is in place
 pub all_in_place : (xs : List ℕ) (i : ℕ) → length xs ≡ 128 → 128 ≤ i
     → ((k d : ℕ) → k < i → get_or xs k d ≡ k) → xs ≡ in_place
 all_in_place xs i l far h = same_list xs in_place (l ∙ sym in_place_length) (λ k d m.
@@ -208,11 +213,13 @@ all_in_place xs i l far h = same_list xs in_place (l ∙ sym in_place_length) (�
     ∙ sym (same_item in_place k d k (let n = in_place_length in omega (arith, m, l, n))
     ∙ place_of_slot k))
 
+-- the shuffle of all slots, from the generator of a seed, is the seed's
 pub seeded_is : (seed : ℕ)
     → shuffled 127 (started 64 multiplier_64 seed 7) in_place ≡ seeded seed
 unfolding seeded generator
 seeded_is seed = refl
 
+-- a turn of the shuffle exchanges two slots and goes on with one slot less
 pub one_less : (i : ℕ) (g : Lcg) (p : List ℕ) → 0 < i
     → shuffled (i - 1) (pcg32 g).1 (swap p i ((pcg32 g).0 % (i + 1))) ≡ shuffled i g p
 unfolding shuffled
@@ -221,6 +228,7 @@ one_less (suc i) g p l =
     let e : suc i - 1 ≡ i = omega arith in
     ap (λ k. shuffled k (pcg32 g).1 (swap p (suc i) ((pcg32 g).0 % (suc i + 1)))) e
 
+-- with no slot left the shuffle is done
 pub none_left : (i : ℕ) (g : Lcg) (p : List ℕ) → i ≤ 0 → shuffled i g p ≡ p
 unfolding shuffled
 none_left zero g p l = refl

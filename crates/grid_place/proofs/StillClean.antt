@@ -116,6 +116,7 @@ module _ (p q : ℕ → ℕ) (b c : Block) (fits : FitsBlock b) (good : GoodBloc
       by None i = refl
       by (Some n) i = fired_alike x n i (acts_if_read (is_read b x) (inst_at b x)) (tokens x)
 
+  -- where nothing that a block does faults, nothing that the moved block does faults
   pub still_clean : IsClean b tokens → IsClean c (token_of c regs mem deepest)
   still_clean h = subst (IsClean c) (moved_tokens p q b c fits good m w regs mem)
       (λ y. subst (λ x. is_clean (node_acts c moved x) ≡ true) (stand.returned y)

@@ -105,6 +105,7 @@ module _ (p q : ℕ → ℕ) (b c : Block) (fits : FitsBlock b) (good : GoodBloc
   wanted_same r = ap₂ (λ (n k : ℕ). (nat_le 384 r && nat_lt r (384 + n))
       || (nat_le 416 r && (nat_lt r 448 && in_mask k (r - 416)))) (ap length w.writes) w.mask
 
+  -- the nodes of a moved block are good where the block is
   pub good_nodes : Good (nodes_of c) (wanted_of c)
   good_nodes = record {
     acyclic = ranked_acyclic (nodes_of c) (moved_ranked p q b c fits good m w);

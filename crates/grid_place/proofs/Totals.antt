@@ -9,6 +9,7 @@ use Rattle.std.proofs.lemmas.Option.{slice_get-map}
 use Rattle.block_cases.specs.Nodes.{one_if}
 use Rattle.block_cases.specs.Cases.{count}
 
+-- the sum of a weight over a list
 abbrev pub total : {A : Type 0} → (A → ℕ) → List A → ℕ
 total w [] = 0
 total w (x ∷ xs) = w x + total w xs
@@ -58,6 +59,7 @@ led_apart (x ∷ xs) ys e w d into apart =
 
 -- maps and joins ---------------------------------------------------------------------------------
 
+-- the sum over a mapped list is that of the weights of its images
 pub total_map : {A B : Type 0} → (h : A → B) (w : B → ℕ) (xs : List A)
     → total w (map h xs) ≡ total (λ x. w (h x)) xs
 total_map h w [] = refl
@@ -68,6 +70,7 @@ total_append : {A : Type 0} → (w : A → ℕ) (xs ys : List A)
 total_append w [] ys = omega arith
 total_append w (x ∷ xs) ys = let h = total_append w xs ys in omega (arith, h)
 
+-- weights that are the same on a list's members have the same sum
 pub total_same : {A : Type 0} → (w v : A → ℕ) (xs : List A) → ((x : A) → In x xs → w x ≡ v x)
     → total w xs ≡ total v xs
 total_same w v [] h = refl
@@ -120,16 +123,19 @@ distinct_append (x ∷ xs) ys d e n = (
 
 -- the numbers below n ---------------------------------------------------------------------------
 
+-- the numbers below n, in order
 abbrev pub indices : ℕ → List ℕ
 indices zero = []
 indices (suc n) = 0 ∷ map suc (indices n)
 
+-- a number below n is at its own place of the indices
 pub index_in : (n x : ℕ) → x < n → slice_get (indices n) x ≡ Some x
 index_in zero x l = absurd (omega arith)
 index_in (suc n) zero l = refl
 index_in (suc n) (suc x) l = slice_get-map suc (indices n) x
     ∙ ap (option_map suc) (index_in n x (omega arith))
 
+-- each of the indices below n is below n
 pub index_low : (n x : ℕ) → In x (indices n) → x < n
 index_low zero x i = absurd (let e = i.1 in cc)
 index_low (suc n) x (zero, e) = let s : 0 ≡ x = (let k : Some 0 ≡ Some x = e in cc) in omega arith
@@ -139,6 +145,7 @@ index_low (suc n) x (suc k, e) =
     let s : suc m.0 ≡ x = m.2 in
     omega (arith, low, s)
 
+-- the indices are distinct
 pub indices_distinct : (n : ℕ) → Distinct (indices n)
 indices_distinct zero = tt
 indices_distinct (suc n) = (
@@ -149,10 +156,12 @@ indices_distinct (suc n) = (
 
 -- the lists of n bits ----------------------------------------------------------------------------
 
+-- all lists of n bits
 abbrev pub bits : ℕ → List (List Bool)
 bits zero = [] ∷ []
 bits (suc n) = map (λ l. false ∷ l) (bits n) ++ map (λ l. true ∷ l) (bits n)
 
+-- the count of lists of n bits that pass a test is a sum over all of them
 pub count_total : (n : ℕ) (p : List Bool → Bool) → count n p ≡ total (λ l. one_if (p l)) (bits n)
 count_total zero p = omega arith
 count_total (suc n) p =
@@ -164,6 +173,7 @@ count_total (suc n) p =
     ∙ sym (total_append (λ l. one_if (p l)) (map (λ l. false ∷ l) (bits n))
     (map (λ l. true ∷ l) (bits n)))
 
+-- each list of n bits is among them
 pub bits_in : (n : ℕ) (l : List Bool) → length l ≡ n → In l (bits n)
 bits_in zero [] e = (0, refl)
 bits_in zero (v ∷ l) e = absurd (omega (arith, e))
@@ -180,6 +190,7 @@ longer : (n : ℕ) (l : List Bool) (v : Bool) → ((m : List Bool) → In m (bit
 longer n l v h i =
     let m = map_in (λ m. v ∷ m) (bits n) l i in sym (ap length m.2) ∙ ap suc (h m.0 m.1)
 
+-- each of them has n bits
 pub bits_long : (n : ℕ) (l : List Bool) → In l (bits n) → length l ≡ n
 bits_long zero l (zero, e) =
     let s : [] ≡ l = (let k : Some [] ≡ Some l = e in cc) in sym (ap length s)
@@ -188,6 +199,7 @@ bits_long (suc n) l i = ⊎_elim (longer n l false (λ m h. bits_long n m h))
     (longer n l true (λ m h. bits_long n m h))
     (append_in (map (λ l. false ∷ l) (bits n)) (map (λ l. true ∷ l) (bits n)) l i)
 
+-- all lists of n bits are distinct
 pub bits_distinct : (n : ℕ) → Distinct (bits n)
 bits_distinct zero = (λ i. (let e = i.1 in absurd (cc)), tt)
 bits_distinct (suc n) = distinct_append (map (λ l. false ∷ l) (bits n))

@@ -2,7 +2,7 @@
 ghost use Rattle.std.specs.Prelude.{◌<◌};
 
 use crate::node::{CONTROL, Node, bank_node, data_node, tile_node, way};
-use trips_isa::{Form, Inst, Op, Spot, form_of};
+use trips_isa::{Form, Inst, Op, Spot, form_of, row_of};
 
 /// What is expected of the tiles while instructions are placed. Times are cycles from the first read.
 #[derive(Drop)]
@@ -33,11 +33,7 @@ fn earlier(a: Choice, b: Choice) -> Choice
 
 /// How long an operation takes.
 pub fn latency(op: Op) -> u16 {
-    match op {
-        Op::Mul | Op::Muli => 3,
-        Op::Divs | Op::Divu => 24,
-        _ => 1,
-    }
+    u16::from(row_of(op).latency)
 }
 
 // The way of a token from a tile to a target outside the tiles, the bank of a write's register; 0 for any other.

@@ -11,6 +11,7 @@ more_from cuts j i [] h = omega (arith, h)
 more_from cuts j zero (a ∷ args) h = refl
 more_from cuts j (suc i) (a ∷ args) h = more_from cuts j i args (omega (arith, h))
 
+-- the blocks that arguments begin are those of the first and those of the others
 pub argument_more : (small : Bool) (i : ℕ) (args : List Arg) → i < length args
     → moved_size (argument_cuts small) i (argument_moves i (drop i args))
     ≡ cut_size (argument_cuts small i)

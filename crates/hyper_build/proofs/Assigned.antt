@@ -58,6 +58,7 @@ groups_fit cuts joins P lists groups a = record {
   few = few_at groups a.few;
 }
 
+-- the lists that `assign` gives are as `build` wants them
 pub keeps_assigned : KeepsAssigned
 keeps_assigned check at cuts joins P lists groups input n t a faithful bytes =
     subst (λ F. EndsSo (hyper_run check at (built_program (plan_of cuts joins groups) P) P.bytes input) n
@@ -79,6 +80,7 @@ cuts_all lists groups h = record {
   groups = small_at lists groups h;
 }
 
+-- all blocks of what `assign` gives are little, where every answer is to cut and no if is joined
 pub assigned_little : AssignedAreLittle
 assigned_little P lists groups t a =
     cut_blocks_little (plan_of [] [] groups) P t (groups_fit [] [] P lists groups a)

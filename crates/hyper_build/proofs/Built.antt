@@ -241,6 +241,7 @@ module _ (check : Bool) (at : Layout) (p : Plan) (P : Program) (t : FitsProgram 
         alone = r.params ∙ sym t.main.arity;
       }
 
+-- `build` gives blocks
 pub build_gives : BuildGivesBlocks
 build_gives p P t groups =
     let fs = annotated_all p 0 0 P.functions in
@@ -317,11 +318,13 @@ cut_routines all each p cuts i k (h ∷ fs) t (suc f) g e =
     cut_routines all each p cuts (i + 1 + steps_of h.body) (k + calls h.body) fs
     (λ j x q. t (suc j) x q) f g e
 
+-- under a plan that cuts everywhere, each block is small, has one group, or holds one small if
 pub cut_blocks_little : CutBlocksAreLittle
 cut_blocks_little p P t groups cuts =
     built_little (frames_at P.bytes) (annotated_all p 0 0 P.functions) P.main
     (cut_routines P.functions (λ f h e. (t.each f h e).few) p cuts 0 0 P.functions t.each)
 
+-- `build` keeps the meaning of a flat program
 pub build_keeps : BuildKeepsMeaning
 build_keeps check at p P input n t groups faithful bytes =
     let fs = annotated_all p 0 0 P.functions in

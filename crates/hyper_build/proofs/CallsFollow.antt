@@ -142,6 +142,7 @@ found_plain fs f g e = slice_get-map function_of fs f ∙ (rw e refl)
 alu_gives : AluGivesWords
 alu_gives op a b fits ha hb = alu_fits op a b ha hb
 
+-- calls of every depth follow
 pub calls_follow : CallsClaim
 calls_follow W built zero f g found used words low ws s m n back arity passed label faithful stack =
     stands_here W _ s m n (3 + parameters_size g) stack.output

@@ -160,10 +160,12 @@ module _ (fs : List Function) (each : (f : ℕ) (h : Function) → slice_get fs 
 
 -- FUNCTIONS
 
+-- the blocks of some routines
 abbrev pub sizes : List Routine → ℕ
 sizes [] = 0
 sizes (g ∷ gs) = routine_size g + sizes gs
 
+-- the blocks of all routines are as many as their sizes say
 pub length_all : (end : ℕ) (entries : ℕ → ℕ) (e : ℕ) (gs : List Routine)
     → length (all_blocks end entries e gs) ≡ sizes gs
 length_all end entries e [] = refl
@@ -177,6 +179,7 @@ length_all end entries e (g ∷ gs) =
 abbrev EachFits : List Function → List Function → Type 0
 EachFits all fs = (f : ℕ) (h : Function) → slice_get fs f ≡ Some h → FitsFunction all h
 
+-- the annotated functions have no more blocks than the flat code says
 pub sizes_few : (all : List Function)
     → ((f : ℕ) (h : Function) → slice_get all f ≡ Some h → h.params ≤ 8) → (p : Plan)
     → ((k : ℕ) → length (p.groups k) ≤ 5) → (i k : ℕ) (fs : List Function) → EachFits all fs

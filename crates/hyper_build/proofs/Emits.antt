@@ -38,22 +38,27 @@ before : (r : Rest) (i : HyperItem) (its : Items) → then_items i (items_of (re
 before r i its e =
     ap (λ (k : Items). record { items = k; tail = tail_of r.tail }) (pushed r.items i ∙ e)
 
+-- a rest that only jumps, as its plain block
 pub jump_is : (l : ℕ)
     → rest_of (record { items = []; tail = tail.Leave (exit.Jump l) }) ≡ hyper.jump l
 jump_is l = ap (λ t. record { items = items_of []; tail = t }) (tail_leave (exit.Jump l))
 
+-- a rest that only leaves, as its plain block
 pub leave_is : (e : Exit) → rest_of (record { items = []; tail = tail.Leave e }) ≡ left_by e
 leave_is e = ap (λ t. record { items = items_of []; tail = t }) (tail_leave e)
 
+-- an operation put before a rest, as its plain block
 pub set_is : (r : Rest) (to : ℕ) (op : Op) (a b : Source)
     → rest_of (with_item r (item.Set to op a b)) ≡ set_then to op a b (rest_of r)
 set_is r to op a b =
     before r (item.Set to op a b) _ (then_set to op a b (items_of (reverse r.items)))
 
+-- an if put before a rest, as its plain block
 pub if_is : (r : Rest) (t : Source) (a b : List HyperItem)
     → rest_of (with_item r (item.If t a b)) ≡ if_then t (items_of a) (items_of b) (rest_of r)
 if_is r t a b = before r (item.If t a b) _ (then_if t a b (items_of (reverse r.items)))
 
+-- a rest that only tests, as its plain block
 pub test_is : (x : Arg) (t : Source) (one other : ℕ) → t ≡ source x
     → rest_of (record {
       items = [];
@@ -65,6 +70,7 @@ test_is x t one other e =
     ∙ ap₂ (hyper_code.Test t) (tail_leave (exit.Jump one)) (tail_leave (exit.Jump other))
     ∙ ap (λ y. hyper_code.Test y (hyper_code.Leave (exit.Jump one)) (hyper_code.Leave (exit.Jump other))) e)
 
+-- a tail behind the test of the stack, as its plain block
 pub fork_is : (t : declared.Tail) (out : ℕ)
     → rest_of (record { items = []; tail = tail.Test (Reg 92) t (tail.Leave (exit.Jump out)) })
     ≡ fork (tail_of t) out
@@ -73,10 +79,12 @@ fork_is t out =
     (tail_test (Reg 92) t (tail.Leave (exit.Jump out))
     ∙ ap (hyper_code.Test (Reg 92) (tail_of t)) (tail_leave (exit.Jump out)))
 
+-- a load put before a rest, as its plain block
 pub load_is : (r : Rest) (to : ℕ) (op : Op) (a : Source)
     → rest_of (with_item r (item.Load to op a)) ≡ load_then to op a (rest_of r)
 load_is r to op a = before r (item.Load to op a) _ (then_load to op a (items_of (reverse r.items)))
 
+-- a store put before a rest, as its plain block
 pub save_is : (r : Rest) (op : Op) (a v : Source)
     → rest_of (with_item r (item.Save op a v)) ≡ save_then op a v (rest_of r)
 save_is r op a v = before r (item.Save op a v) _ (then_save op a v (items_of (reverse r.items)))

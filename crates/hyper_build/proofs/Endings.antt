@@ -153,6 +153,7 @@ module _ (c : Checks) (call : Calls) (e : Env) where
     act_other Continue h s m = absurd (cc h)
     act_other (Return x) h s m = turned s m (λ n. return_of c s n x) (λ n. return_other c s n x)
 
+    -- code without a continue does not end by one
     pub exec_other : (p : Code) → continues p ≡ false → (s : State) (m : ℕ) → IsOther (exec c call e p s m)
     exec_other Nop h s m = settled s m
     exec_other (x ▹ rest) h s m =

@@ -47,6 +47,7 @@ parameters_from small i n s h =
     let e : n - i ≡ suc (n - suc i) = omega (arith, h) in
     ap (λ m. moving (parameter_cuts small) i (parameter_moves i m) s) e
 
+-- a rest that only tests register 0, as its plain block
 pub forked_is : (one other : ℕ)
     → rest_of (record {
       items = [];

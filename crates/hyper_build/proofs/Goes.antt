@@ -19,6 +19,7 @@ clean_next : (c d : Bool) (x y : Standing) → d ≡ true → cond (c && not d) 
 clean_next true d x y e = ap (λ b. cond (not b) x y) e
 clean_next false d x y e = refl
 
+-- acts behind clean ones are clean where they are
 pub clean_append : (xs ys : List Act) → is_clean xs ≡ true → is_clean (xs ++ ys) ≡ is_clean ys
 clean_append [] ys e = refl
 clean_append (x ∷ xs) ys e = go (not (is_fault x)) (is_clean xs) (clean_append xs ys) e
@@ -28,6 +29,7 @@ clean_append (x ∷ xs) ys e = go (not (is_fault x)) (is_clean xs) (clean_append
     go true b h e = h e
     go false b h e = let bad : false ≡ true = e in cc
 
+-- the address of a word within data memory is a good one
 pub good_word : (a : ℕ) → a % 8 ≡ 0 → a + 8 ≤ data_size → is_good_address a 8 ≡ true
 good_word a e le = rw (eq-eqb (a % 8) 0 e, le-leb (a + 8) data_size le) refl
 
@@ -165,6 +167,7 @@ skip_access W a s n rest h = go W.check h
     go true h = ap (λ g. cond (not (not (not g) && is_clean rest)) Unclean n) (h refl)
     go false h = refl
 
+-- a load before a block puts what memory holds into its register and goes on with the block
 pub goes_load_any : (W : World) (r : ℕ) (op : Op) (x : Source) (k : Block) (m : Machine)
     → (W.check ≡ true → is_good_address (value_of m.registers x) (size_of op) ≡ true)
     → Goes W (load_then r op x k) m 0 k (with_register m r (loaded op m.memory (value_of m.registers x)))
@@ -179,6 +182,7 @@ goes_load_any W r op x k m good = goes_same W _ k m _ go
         (leave W.at W.program (run W.check W.at W.program n)
         (exit_of k.tail (after_items k.items m1).registers) (after_items k.items m1)) (acts k.items m1) good
 
+-- a store before a block changes memory and goes on with the block
 pub goes_save_any : (W : World) (op : Op) (x y : Source) (k : Block) (m : Machine)
     → (W.check ≡ true → is_good_address (value_of m.registers x) (size_of op) ≡ true)
     → Goes W (save_then op x y k) m 0 k (with_memory m

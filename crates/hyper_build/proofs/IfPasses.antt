@@ -29,12 +29,14 @@ number_by g on st x one other s joined z e ej ez =
     ∙ ap (λ y. cond y (number_items (plan g) (If x one other) s) (test_numbers g one other s))
     (ap (λ y. is_if_item y one other) (sym ej) ∙ ez)
 
+-- an if that is an item is numbered without a block
 pub number_item : (g : Ground) (on : Bool) (st : Step) (x : Arg) (one other : Code) (s : Numbering) (joined : Bool)
     → st ≡ If x one other → joined ≡ (plan g).joined s.place → is_if_item joined one other ≡ true
     → number_in (plan g) on st s ≡ number_items (plan g) st s
 number_item g on st x one other s joined e ej ez =
     number_by g on st x one other s joined true e ej ez ∙ ap (λ y. number_items (plan g) y s) (sym e)
 
+-- an if that is no item is numbered as a test
 pub number_test : (g : Ground) (on : Bool) (st : Step) (x : Arg) (one other : Code) (s : Numbering) (joined : Bool)
     → st ≡ If x one other → joined ≡ (plan g).joined s.place → is_if_item joined one other ≡ false
     → number_in (plan g) on st s ≡ test_numbers g one other s
@@ -65,6 +67,7 @@ emit_by g b a on st x one other s n joined z e en ej ez =
     (ap (λ m. is_if_item ((plan g).joined (s.place - m)) one other) (sym (en ∙ ap steps_in e))
     ∙ ap (λ y. is_if_item y one other) (sym ej) ∙ ez)
 
+-- an if that is an item is emitted as items
 pub emit_item : (g : Ground) (b a : ℕ) (on : Bool) (st : Step) (x : Arg) (one other : Code) (s : Emission) (n : ℕ)
     (joined : Bool) → st ≡ If x one other → n ≡ steps_in st → joined ≡ (plan g).joined (s.place - n)
     → is_if_item joined one other ≡ true
@@ -73,6 +76,7 @@ emit_item g b a on st x one other s n joined e en ej ez =
     emit_by g b a on st x one other s n joined true e en ej ez
     ∙ ap₂ (λ m y. items_out (plan g) g.arrays m y s) (sym (en ∙ ap steps_in e)) (sym e)
 
+-- an if that is no item is emitted as a test
 pub emit_test : (g : Ground) (b a : ℕ) (on : Bool) (st : Step) (x : Arg) (one other : Code) (s : Emission) (n : ℕ)
     (joined : Bool) → st ≡ If x one other → n ≡ steps_in st → joined ≡ (plan g).joined (s.place - n)
     → is_if_item joined one other ≡ false

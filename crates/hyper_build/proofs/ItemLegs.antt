@@ -38,6 +38,7 @@ mutual
   straight_step p i k on Continue = refl
   straight_step p i k on (Return x) = refl
 
+  -- annotated code is straight where the flat code is
   pub straight_code : (p : Plan) (i k : ℕ) (c : Code)
       → straight (annotated p i k c) ≡ is_straight c
   straight_code p i k Nop = refl
@@ -73,6 +74,7 @@ small_if_is p i k j m one other =
     (ap₂ (λ y z. y && z) (small_leg_is p i k one) (small_leg_is p j m other))
     (ap₂ (λ y z. y && z) (empty_is p i k one) (empty_is p j m other))
 
+-- an annotated if is an item where the flat if is
 pub item_is : (p : Plan) (i k : ℕ) (joined : Bool) (one other : Code)
     → is_item joined (annotated p (i + 1) k one) (annotated p (i + 1 + steps_of one) (k + calls one) other)
     ≡ is_if_item joined one other
@@ -88,6 +90,7 @@ if_size z c one other = cond z (cut_size c) (leg_size one (size one) + (leg_size
 
 -- NO CALLS, NO NOTES
 
+-- an if that is an item has straight legs
 pub legs_straight : (joined : Bool) (one other : Code) → is_if_item joined one other ≡ true
     → (is_straight one ≡ true) × (is_straight other ≡ true)
 legs_straight joined one other e =
@@ -111,6 +114,7 @@ mutual
   no_calls_in Continue e = refl
   no_calls_in (Return x) e = refl
 
+  -- straight code has no call
   pub no_calls : (c : Code) → is_straight c ≡ true → calls c ≡ 0
   no_calls Nop e = refl
   no_calls (x ▹ c) e =
@@ -136,6 +140,7 @@ mutual
   no_notes_in p l i k Continue e = refl
   no_notes_in p l i k (Return x) e = refl
 
+  -- straight code has no note
   pub no_notes : (p : Plan) (l i k : ℕ) (c : Code) → is_straight c ≡ true → notes_of p l i k c ≡ []
   no_notes p l i k Nop e = refl
   no_notes p l i k (x ▹ c) e =
@@ -150,6 +155,7 @@ item_calls joined x one other e =
     let q = legs_straight joined one other e in
     ap₂ (λ y z. y + z) (no_calls one q.0) (no_calls other q.1)
 
+-- an if that is an item has no note
 pub item_notes : (p : Plan) (l i k : ℕ) (joined : Bool) (x : Arg) (one other : Code)
     → is_if_item joined one other ≡ true → notes_in p l i k (If x one other) ≡ []
 item_notes p l i k joined x one other e =

@@ -34,11 +34,13 @@ number_by g on st body post s ends z e ec ez =
     ∙ ap (λ y. cond y (bare_numbers g body post s) (full_numbers g body post s))
     (ap (λ y. is_bare_code y body post) (sym ec) ∙ ez)
 
+-- a loop whose last part has no block of its own is numbered so
 pub number_bare : (g : Ground) (on : Bool) (st : Step) (body post : Code) (s : Numbering) (ends : Bool)
     → st ≡ Loop body post → ends ≡ (plan g).cut s.place → is_bare_code ends body post ≡ true
     → number_in (plan g) on st s ≡ bare_numbers g body post s
 number_bare g on st body post s ends e ec ez = number_by g on st body post s ends true e ec ez
 
+-- a loop whose last part has blocks of its own is numbered so
 pub number_full : (g : Ground) (on : Bool) (st : Step) (body post : Code) (s : Numbering) (ends : Bool)
     → st ≡ Loop body post → ends ≡ (plan g).cut s.place → is_bare_code ends body post ≡ false
     → number_in (plan g) on st s ≡ full_numbers g body post s
@@ -75,12 +77,14 @@ emit_by g b a on st body post s note ends z e en ec ez =
     ∙ ap (λ y. loop_out (is_bare_code y body post) y g body post note (put_out s)) (sym ec)
     ∙ ap (λ y. loop_out y ends g body post note (put_out s)) ez
 
+-- a loop whose last part has no block of its own is emitted so
 pub emit_bare : (g : Ground) (b a : ℕ) (on : Bool) (st : Step) (body post : Code) (s : Emission) (note : Note)
     (ends : Bool) → st ≡ Loop body post → note ≡ last_note s.notes → ends ≡ (plan g).cut note.place
     → is_bare_code ends body post ≡ true
     → emit_in g b a on st s ≡ bare_out ends g body post note (put_out s)
 emit_bare g b a on st body post s note ends e en ec ez = emit_by g b a on st body post s note ends true e en ec ez
 
+-- a loop whose last part has blocks of its own is emitted so
 pub emit_full : (g : Ground) (b a : ℕ) (on : Bool) (st : Step) (body post : Code) (s : Emission) (note : Note)
     (ends : Bool) → st ≡ Loop body post → note ≡ last_note s.notes → ends ≡ (plan g).cut note.place
     → is_bare_code ends body post ≡ false

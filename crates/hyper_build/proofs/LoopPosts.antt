@@ -19,11 +19,13 @@ use Rattle.hyper_build.proofs.ItemLegs.{and_parts}
 
 -- BLOCKS AND LABELS
 
+-- the last part of a loop has as many blocks as its size says
 pub length_post : (bare : Bool) (head : ℕ) (first : Block) (others : List Block)
     → length (leg_blocks (post_exit bare head) first others) ≡ post_size bare (length others)
 length_post true head first others = refl
 length_post false head first others = omega arith
 
+-- the last part of a loop has at most one block more than its code begins
 pub post_most : (bare : Bool) (n : ℕ) → post_size bare n ≤ 1 + n
 post_most true n = omega arith
 post_most false n = omega arith
@@ -87,6 +89,7 @@ mutual
   continues_code p i k (x ▹ c) = ap₂ (λ y z. y || z) (continues_step p i k (goes_on c) x)
       (continues_code p (i + steps_in x) (k + calls_in x) c)
 
+-- annotated loops have a last part without a block where flat ones do
 pub bare_is : (p : Plan) (i k j m : ℕ) (c : Bool) (body post : Code)
     → is_bare c (annotated p i k body) (annotated p j m post) ≡ is_bare_code c body post
 bare_is p i k j m c body post =
@@ -180,6 +183,7 @@ bare_operations c body Nop e = refl
 bare_operations true body (x ▹ post) e = absurd (cc e)
 bare_operations false body (x ▹ post) e = (and_parts (are_operations (x ▹ post)) (not (continues body)) e).0
 
+-- a last part without a block of its own is straight code
 pub bare_straight : (c : Bool) (body post : Code) → is_bare_code c body post ≡ true → is_straight post ≡ true
 bare_straight c body post e = code_straight post (bare_operations c body post e)
 

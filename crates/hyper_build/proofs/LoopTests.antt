@@ -13,11 +13,13 @@ use Rattle.hyper_build.specs.inside.BackwardCode.{is_break_code, is_test_step}
 
 -- WHAT STANDS BEHIND A PLACE
 
+-- behind a place within some statements stands code
 pub some_behind : (xs : List FlatStmt) (at : ℕ) → at < length xs → false ≡ is_empty (code_of (drop at xs))
 some_behind [] at lt = absurd (omega (arith, lt))
 some_behind (x ∷ xs) zero lt = refl
 some_behind (x ∷ xs) (suc at) lt = some_behind xs at (omega (arith, lt))
 
+-- behind the end of some statements stands no code
 pub none_behind : (xs : List FlatStmt) (at : ℕ) → length xs ≤ at → true ≡ is_empty (code_of (drop at xs))
 none_behind [] zero le = refl
 none_behind [] (suc at) le = refl
@@ -26,6 +28,7 @@ none_behind (x ∷ xs) (suc at) le = none_behind xs at (omega (arith, le))
 
 -- A BREAK ALONE
 
+-- code that is found to be a break alone is one
 pub break_is : (c : Code) → is_break_code c ≡ true → c ≡ (Break ▹ Nop)
 break_is Nop e = absurd (cc e)
 break_is (Let to op x y ▹ Nop) e = absurd (cc e)
@@ -46,6 +49,7 @@ break_is (s ▹ (t ▹ more)) e = absurd (cc e)
 pub break_steps : (c : Code) → is_break_code c ≡ true → steps_of c ≡ 1
 break_steps c e = ap steps_of (break_is c e)
 
+-- a break alone has no call
 pub break_calls : (c : Code) → is_break_code c ≡ true → calls c ≡ 0
 break_calls c e = ap calls (break_is c e)
 

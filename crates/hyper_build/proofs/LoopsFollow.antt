@@ -239,6 +239,7 @@ module _ (W : World) (built : IsBuilt W) (words : AluGivesWords) (call : Calls) 
         (λ z. exec_other (checks_of W) call (env_in W start g) (plain body) z (counted s) n)
         (λ s1 m1 n1 rel2. turns_follow j s1 m1 n1 rel2)))
 
+  -- a loop does what it means, where its body and the part behind it do
   pub loop_does : (c : Bool) (body post : Tree) → TurnDoes W call start g body
       → TreeDoes W call start g post → StmtDoes W call start g (LoopAt c body post)
   loop_does c body post does_body does_post inside p fits is l k has s m n rel =

@@ -322,9 +322,11 @@ routine_at p i k f = record {
   body = annotated p (i + 1) k f.body;
 }
 
+-- the notes of a function's loops
 abbrev pub function_notes : Plan → ℕ → ℕ → ℕ → Function → List Note
 function_notes p l i k f = notes_of p (body_label (routine_at p i k f) l) (i + 1) k f.body
 
+-- the notes of the loops of some functions
 abbrev pub all_notes : Plan → ℕ → ℕ → ℕ → List Function → List Note
 all_notes p l i k [] = []
 all_notes p l i k (f ∷ fs) =
@@ -332,6 +334,7 @@ all_notes p l i k (f ∷ fs) =
     ++ all_notes p (l + routine_size (routine_at p i k f)) (i + 1 + steps_of f.body)
     (k + calls f.body) fs
 
+-- the blocks of some routines
 abbrev pub sizes_of : List Routine → ℕ
 sizes_of [] = 0
 sizes_of (r ∷ rs) = routine_size r + sizes_of rs
@@ -348,6 +351,7 @@ function_numbers g l i k f N =
     ∙ numbers g l1 (i + 1) k f.body N
     ∙ same (omega arith) refl refl refl
 
+-- numbering functions gives the labels, places, calls and notes of the annotated ones
 pub all_numbers : (g : Ground) (l i k : ℕ) (fs : List Function) (N : List Note)
     → number_all (plan g) fs (numbers_at l i k N)
     ≡ numbers_at (l + sizes_of (annotated_all (plan g) i k fs)) (i + steps_of_all fs)
@@ -362,6 +366,7 @@ all_numbers g l i k (f ∷ fs) N =
     ∙ same (omega arith) (omega arith) (omega arith)
     (append_assoc N (function_notes (plan g) l i k f) (all_notes (plan g) l1 i1 k1 fs))
 
+-- the entries that are numbered are those of the annotated functions
 pub entries_are : (g : Ground) (l i k : ℕ) (fs : List Function) (N : List Note) (n : ℕ)
     → entry_at (entries_from (plan g) fs (numbers_at l i k N)) n
     ≡ entry_from l (annotated_all (plan g) i k fs) n

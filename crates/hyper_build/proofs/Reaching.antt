@@ -45,6 +45,7 @@ mapped f p = record {
   rest = ap f p.rest;
 }
 
+-- what is reached with a rest is reached with an equal one
 pub rested : {o : List Block} {t : Emission} {l i k : ℕ} {N : List Note} {B : List Block} {E : Block} (k1 k2 : Block)
     → k1 ≡ k2 → Reached o t l i k N B E → Reached o (with_rest k1 t) l i k N B k2
 rested k1 k2 e p = record {
@@ -68,9 +69,11 @@ restated {o = o} et eb ee p = record {
   rest = ap (λ (x : Emission). x.rest) et ∙ p.rest ∙ sym ee;
 }
 
+-- one less than one more is the number
 pub one_less : (n l : ℕ) → n ≡ l + 1 → n - 1 ≡ l
 one_less n l e = omega (arith, e)
 
+-- putting the rest out reaches one block more and a jump to it
 pub put_reached : (s : Emission) (l i k : ℕ) (N : List Note) → s.label ≡ l + 1 → s.place ≡ i
     → s.calls ≡ k → s.notes ≡ N → Reached s.out (put_out s) l i k N (s.rest ∷ []) (jump l)
 put_reached s l i k N e ei ek en = record {
@@ -82,6 +85,7 @@ put_reached s l i k N e ei ek en = record {
   rest = ap jump (one_less s.label l e);
 }
 
+-- a cut reaches its blocks and what is left of the rest
 pub cut_reached : (c : Bool) (s : Emission) (l i k : ℕ) (N : List Note)
     → s.label ≡ l + cut_size c → s.place ≡ i → s.calls ≡ k → s.notes ≡ N
     → Reached s.out (cut_at c s) l i k N (cut_blocks c s.rest) (cut c l s.rest)
@@ -89,6 +93,7 @@ cut_reached true s l i k N e ei ek en = put_reached s l i k N e ei ek en
 cut_reached false s l i k N e ei ek en =
     record { label = omega (arith, e); place = ei; calls = ek; notes = en; out = refl; rest = refl }
 
+-- what is done before a statement reaches the blocks of its cut
 pub before_reached : (p : Plan) (s : Emission) (l i k : ℕ) (N : List Note)
     → s.label ≡ l + cut_size (p.cut i) → s.place ≡ i + 1 → s.calls ≡ k → s.notes ≡ N
     → Reached s.out (before p s) l i k N (cut_blocks (p.cut i) s.rest) (cut (p.cut i) l s.rest)
@@ -126,6 +131,7 @@ chained_reached part (g ∷ gs) s l i k N e ei ek en =
       rest = ap (λ j. part g (jump j)) (one_less m.label l r.label);
     }
 
+-- moves before the rest reach their blocks
 pub moving_reached : (cuts : ℕ → Bool) (n : ℕ) (xs : List Move) (s : Emission) (l i k : ℕ)
     (N : List Note) → s.label ≡ l + moved_size cuts n xs → s.place ≡ i → s.calls ≡ k → s.notes ≡ N
     → Reached s.out (moving cuts n xs s) l i k N (moved_blocks cuts n xs l s.rest)
@@ -204,6 +210,7 @@ by_reached frame entry small gs args to u l i k N B E p =
     joined (chain_blocks (map (saving frame) gs) l) (chain (map (saving frame) gs) l) r5
     (chained_reached (saving frame) gs z l i k N r5.label r5.place r5.calls r5.notes)
 
+-- a call before the rest reaches its blocks
 pub call_reached : (p : Plan) (frame entry : ℕ) (args : List Arg) (to : Option ℕ) (s : Emission)
     (l i k : ℕ) (N : List Note)
     → s.label ≡ l + (length (p.groups k) + (arguments_size (p.small i) args

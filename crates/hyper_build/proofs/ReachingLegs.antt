@@ -33,6 +33,7 @@ pub record HasExit (g : Ground) (b a join i k : ℕ) (c : Code) : Type 0 where
   pub bare : (l : ℕ) (r : Block) → blocks (place g b a) (annotated (plan g) i k c) l r ≡ []
   pub silent : (l : ℕ) → notes_of (plan g) l i k c ≡ []
 
+-- a leg has an exit of its own or none
 pub kind : (g : Ground) (b a join i k : ℕ) (c : Code)
     → NoExit g b a join i k c ⊎ HasExit g b a join i k c
 kind g b a join i k Nop =
@@ -176,6 +177,7 @@ led_by g b a join i k c s l N (inr n) e en f =
     subst (λ y. LegAt s.out t (exit_of join b a c) y l i k N first others) (sym n.tree)
     (subst (λ y. LegAt s.out t y (Some n.to) l i k N first others) (sym n.code) q)
 
+-- emission of a leg reaches its annotated blocks
 pub leg_reached : (g : Ground) (b a join i k : ℕ) (c : Code) (s : Emission) (l : ℕ) (N : List Note)
     → IsLed g b a join i k c s l N
 leg_reached g b a join i k c s l N = led_by g b a join i k c s l N (kind g b a join i k c)

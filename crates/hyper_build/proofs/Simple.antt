@@ -52,6 +52,7 @@ turn_follow W lo R b s m zero ways go out f = stands_here W b s m 0 0 out
 turn_follow W lo R b s m (suc i) ways go out f =
     follows_more W lo R b s m (suc i) i 2 0 ways (go i) (omega arith) (f i)
 
+-- a variable of a routine has a number below 88
 pub variable_small : (n v : ℕ) → n ≤ 64 → is_variable n v ≡ true → v < 88
 variable_small n v le e = elim (or_cases (is_lasting n v) (nat_le 80 v && nat_lt v 88) e) [
   | inl a ↦ elim (lasting_cases n v a) [ inl b ↦ omega arith | inr b ↦ (let c = b.1 in omega arith) ]
@@ -77,6 +78,7 @@ apply_is c op a b w e = go (divides op) (nat_eq b 0) c.clean refl e
 
 module _ (W : World) (built : IsBuilt W) (words : AluGivesWords) (call : Calls) (start : ℕ) (g : Routine)
     (fr : IsFrame W start g) where
+  -- an operand that is read has its word in the machine too
   pub any_operand : (s : State) (m : Machine) → Rel W start g s m → (x : Arg) (u : ℕ) → FitsArg g.scalars x
       → IsWordArg x → read (checks_of W) s x ≡ Some u → (value_of m.registers (source x) ≡ u) × (u < 2 ^ 64)
   any_operand s m rel (arg.Const w) u fits word e = let q = some_is w u e in (q, subst (λ z. z < 2 ^ 64) q word)
@@ -87,6 +89,7 @@ module _ (W : World) (built : IsBuilt W) (words : AluGivesWords) (call : Calls) 
       set None e = e
       set (Some x) e = e
 
+  -- the relation stands with a variable and its register set to one word
   pub rel_var : (s : State) (m : Machine) (to u x : ℕ) → to < 88 → x ≡ u → u < 2 ^ 64 → Rel W start g s m
       → Rel W start g (with_var s to u) (with_register m (register_of to) x)
   rel_var s m to u x lt is word rel = record {
@@ -140,6 +143,7 @@ module _ (W : World) (built : IsBuilt W) (words : AluGivesWords) (call : Calls) 
       (goes_then W b (cut c l k) k m m1 m1 0 (cut_size c) go (goes_cut W c l k m1 has))
       (rel_var s m to u x lt is word rel) (kept_same (W.base + start + 8) s (with_var s to u) m m1 refl refl) tt refl)
 
+  -- an operation does what it means
   pub let_does : (c : Bool) (to : ℕ) (op : Op) (a b : Arg) → StmtDoes W call start g (LetAt c to op a b)
   let_does c to op a b inside p fits is l k has s m n rel =
       let lo = W.base + start + 8 in
@@ -158,6 +162,7 @@ module _ (W : World) (built : IsBuilt W) (words : AluGivesWords) (call : Calls) 
       (goes_set_any W (register_of to) op (source a) (source b) (cut c l k) m
       (λ t. subst (λ z. is_clean (divisions op z) ≡ true) (sym ov.0) (h.1 t)))))))
 
+  -- taking an array's address does what it means
   pub frame_does : (c : Bool) (to at : ℕ) → StmtDoes W call start g (FrameAt c to at)
   frame_does c to at inside p fits is l k has s m n rel =
       turn_follow W (W.base + start + 8) (Rel W start g) _ s m n (ways_of p k) _ rel.stack.output (λ i.
@@ -175,16 +180,19 @@ module _ (W : World) (built : IsBuilt W) (words : AluGivesWords) (call : Calls) 
           omega (arith, rel.stack.top, fr.room, built.room) in
           ap (λ x. (m.registers 1 + (2 ^ 64 - x)) % 2 ^ 64) z ∙ y
 
+  -- a break does what it means
   pub break_does : (c : Bool) → StmtDoes W call start g (BreakAt c)
   break_does c inside p fits is l k has s m n rel =
       turn_follow W (W.base + start + 8) (Rel W start g) _ s m n (ways_of p k) _ rel.stack.output
       (λ i. came _ s m i 0 _ Breaks s m (omega arith) (goes_here W _ m) rel (kept_here _ s m) tt refl)
 
+  -- a continue does what it means
   pub continue_does : (c : Bool) → StmtDoes W call start g (ContinueAt c)
   continue_does c inside p fits is l k has s m n rel =
       turn_follow W (W.base + start + 8) (Rel W start g) _ s m n (ways_of p k) _ rel.stack.output
       (λ i. came _ s m i 0 _ Continues s m (omega arith) (goes_here W _ m) rel (kept_here _ s m) tt refl)
 
+  -- a return does what it means
   pub return_does : (c : Bool) (a : Option Arg) → StmtDoes W call start g (ReturnAt c a)
   return_does c None inside p fits is l k has s m n rel =
       turn_follow W (W.base + start + 8) (Rel W start g) _ s m n (ways_of p k) _ rel.stack.output
@@ -198,6 +206,7 @@ module _ (W : World) (built : IsBuilt W) (words : AluGivesWords) (call : Calls) 
       (rel_register W start g s m 3 _ (omega arith) (λ q. omega arith) rel) (kept_same _ s s m m1 refl refl)
       (any_operand s m rel x w fits.0 fits.1 e) refl))
 
+  -- putting a byte out does what it means
   pub put_does : (a : Arg) → StmtDoes W call start g (PutAt a)
   put_does x inside p fits is l k has s m n rel =
       turn_follow W (W.base + start + 8) (Rel W start g) _ s m n (ways_of p k) _ rel.stack.output (λ i.
@@ -246,6 +255,7 @@ module _ (W : World) (built : IsBuilt W) (words : AluGivesWords) (call : Calls) 
             slots = r.slots;
           }
 
+  -- getting a byte does what it means
   pub get_does : (c : Bool) (to : ℕ) → StmtDoes W call start g (GetAt c to)
   get_does c to inside p fits is l k has s m n rel =
       turn_follow W (W.base + start + 8) (Rel W start g) _ s m n (ways_of p k) _ rel.stack.output
@@ -326,6 +336,7 @@ module _ (W : World) (built : IsBuilt W) (words : AluGivesWords) (call : Calls) 
           })
           (kept_same (W.base + start + 8) s (record (with_var s to x) { input = rest }) m m3 refl refl) tt refl)
 
+  -- a load does what it means
   pub load_does : (c : Bool) (to : ℕ) (op : Op) (a : Arg) → StmtDoes W call start g (LoadAt c to op a)
   load_does c to op x inside p fits is l k has s m n rel =
       let lo = W.base + start + 8 in
@@ -340,6 +351,7 @@ module _ (W : World) (built : IsBuilt W) (words : AluGivesWords) (call : Calls) 
       (goes_load_any W (register_of to) op (source x) (cut c l k) m
       (λ t. subst (λ z. is_good_address z (size_of op) ≡ true) (sym o.0) (h.good t))))))
 
+  -- a store does what it means
   pub save_does : (c : Bool) (op : Op) (a v : Arg) → StmtDoes W call start g (SaveAt c op a v)
   save_does c op x y inside p fits is l k has s m n rel =
       let lo = W.base + start + 8 in

@@ -1,70 +1,41 @@
 -- Where a plan cuts everywhere, each block is small, has one group, or holds one small if.
-use Rattle.std.proofs.Common.{◌≡◌, inl, inr, ℕ, zero, suc, ◌+◌, ◌≤◌, Bool, true, false, cond, not, ◌&&◌}
-use Rattle.std.proofs.Common.{◌||◌, List, [], ◌∷◌, ◌++◌, map, length, Option, Some, None, refl, ap, ap₂, ◌∙◌, subst}
+use Rattle.std.proofs.Common.{◌≡◌, inr, ℕ, zero, suc, ◌+◌, ◌≤◌, Bool, true, false, cond, not, ◌&&◌, []}
+use Rattle.std.proofs.Common.{◌||◌, List, ◌∷◌, ◌++◌, map, length, Option, Some, None, refl, ap, ap₂, ◌∙◌, subst}
 use Rattle.std.proofs.Common.{arith, slice_get}
 use Rattle.ir_forms.specs.declared.flat.Arg.{Arg}
 use Rattle.ir_forms.specs.declared.hyper.Exit.TheVariants as exit
 use Rattle.ir_forms.specs.inside.FlatFits.{is_small_leg, is_empty}
 use Rattle.ir_forms.specs.inside.Frames.{frame_limit}
 use Rattle.ir_forms.specs.inside.HyperCode.{Done, Block}
-use Rattle.ir_forms.specs.inside.HyperFits.{items_in, ifs_in, tests_in, exits_in, is_filled}
+use Rattle.ir_forms.specs.inside.HyperFits.{is_filled}
 use Rattle.ir_forms.specs.inside.HyperRuns.{jump}
 use Rattle.reg_assign.specs.inside.Live.{AreSmall}
 use Rattle.hyper_build.specs.inside.Tree.{Stmt, LetAt, FrameAt, LoadAt, SaveAt, CallAt, PutAt, GetAt, IfAt}
 use Rattle.hyper_build.specs.inside.Tree.{LoopAt, BreakAt, ContinueAt, ReturnAt, Tree, End, ◌▸◌, Routine, plain}
-use Rattle.hyper_build.specs.inside.Parts.{source, cut, cut_blocks, chain, chain_blocks, moved, moved_blocks}
-use Rattle.hyper_build.specs.inside.Passing.{saving, restoring, argument_moves, argument_cuts, result_then}
+use Rattle.hyper_build.specs.inside.Parts.{source, cut_blocks, chain_blocks, moved_blocks}
+use Rattle.hyper_build.specs.inside.Passing.{saving, restoring, argument_moves, argument_cuts}
 use Rattle.hyper_build.specs.inside.Passing.{parameter_moves, parameter_cuts}
 use Rattle.hyper_build.specs.inside.Straight.{Place, in_loop, straight, items_of, is_small_if, is_item}
 use Rattle.hyper_build.specs.inside.Legs.{exit_leg, leg_blocks, leg_size, is_break, is_end, is_test, is_loop_test}
 use Rattle.hyper_build.specs.inside.Legs.{label_or, is_bare, post_exit, post_size}
 use Rattle.hyper_build.specs.inside.Sizes.{arguments_size, size_in, size, turn_size, part_size}
-use Rattle.hyper_build.specs.inside.Entries.{call_block, choose, give, entry_in, entry, test_entry}
+use Rattle.hyper_build.specs.inside.Entries.{choose, give, entry_in, entry, test_entry}
 use Rattle.hyper_build.specs.inside.Entries.{turn_entry}
 use Rattle.hyper_build.specs.inside.Build.{blocks_in, blocks, test_blocks, turn_blocks}
 use Rattle.hyper_build.specs.inside.Routines.{way_out, place_of, parameters_size, body_label}
 use Rattle.hyper_build.specs.inside.Routines.{body_entry, routine_size, routine_blocks, all_blocks, entry_from}
 use Rattle.hyper_build.specs.inside.Routines.{built}
 use Rattle.hyper_build.specs.inside.SmallIfs.{IsShortLeg, if_block}
-use Rattle.hyper_build.specs.inside.Smallness.{TestsJump, IsLittle}
+use Rattle.hyper_build.specs.inside.Smallness.{IsLittle}
 use Rattle.hyper_build.proofs.ItemLegs.{and_parts}
-
-abbrev AllLittle : List Block → Type 0
-AllLittle [] = Unit {0}
-AllLittle (b ∷ bs) = IsLittle b × AllLittle bs
-
-little_append : (xs ys : List Block) → AllLittle xs → AllLittle ys → AllLittle (xs ++ ys)
-little_append [] ys a b = b
-little_append (x ∷ xs) ys a b = (a.0, little_append xs ys a.1 b)
-
--- at most n items, and an end of a small block
-pub record Rest (n : ℕ) (b : Block) : Type 0 where
-  pub items : items_in b.items ≤ n
-  pub tests : ifs_in b.items + tests_in b.tail ≤ 1
-  pub exits : exits_in b.tail ≤ 2
-  pub plain : ifs_in b.items ≡ 0
-  pub jumps : TestsJump b.tail
-
-little : (b : Block) → Rest 3 b → IsLittle b
-little b r = inl (record {
-  small = record { items = r.items; tests = r.tests; exits = r.exits };
-  plain = r.plain;
-  jumps = r.jumps;
-})
-
-simple : (b : Block) → items_in b.items ≤ 3 → ifs_in b.items + tests_in b.tail ≤ 1
-    → exits_in b.tail ≤ 2 → ifs_in b.items ≡ 0 → TestsJump b.tail → IsLittle b
-simple b i t e p j = little b (record { items = i; tests = t; exits = e; plain = p; jumps = j })
-
-jump_rest : (l : ℕ) → Rest 0 (jump l)
-jump_rest l = record { items = omega arith; tests = omega arith; exits = omega arith; plain = refl; jumps = tt }
-
-little_jump : (l : ℕ) → IsLittle (jump l)
-little_jump l = simple _ (omega arith) (omega arith) (omega arith) refl tt
+use Rattle.hyper_build.proofs.SmallGroups.{AllLittle, little_append, Rest, little, simple, little_jump, saves_little}
+use Rattle.hyper_build.proofs.SmallGroups.{saves_all, restores_little, restores_all, result_little, arguments_little}
+use Rattle.hyper_build.proofs.SmallGroups.{parameters_little}
 
 -- CUT CODE
 
 abbrev mutual
+  -- an annotated statement is cut everywhere
   pub IsCutStmt : Stmt → Type 0
   IsCutStmt (LetAt c to op a b) = c ≡ true
   IsCutStmt (FrameAt c to at) = c ≡ true
@@ -81,146 +52,10 @@ abbrev mutual
   IsCutStmt (ContinueAt c) = Unit {0}
   IsCutStmt (ReturnAt c v) = Unit {0}
 
+  -- annotated code is cut everywhere
   pub IsCutTree : Tree → Type 0
   IsCutTree End = Unit {0}
   IsCutTree (s ▸ rest) = IsCutStmt s × IsCutTree rest
-
--- GROUPS
-
-saves_little : (frame : ℕ) (gs : List (List ℕ)) (l : ℕ) (k : Block) → AreSmall gs → IsLittle k
-    → IsLittle (chain (map (saving frame) gs) l k)
-saves_little frame [] l k a s = s
-saves_little frame (g ∷ gs) l k a s =
-    inr (inl (record { frame = frame; variables = g; to = l; few = a.0; is = inl refl }))
-
-saves_all : (frame : ℕ) (gs : List (List ℕ)) (l : ℕ) (k : Block) → AreSmall gs → IsLittle k
-    → AllLittle (chain_blocks (map (saving frame) gs) l k)
-saves_all frame [] l k a s = tt
-saves_all frame (g ∷ gs) l k a s =
-    (saves_little frame gs (l + 1) k a.1 s, saves_all frame gs (l + 1) k a.1 s)
-
-restores_little : (frame : ℕ) (gs : List (List ℕ)) (l : ℕ) (k : Block) → AreSmall gs → IsLittle k
-    → IsLittle (chain (map (restoring frame) gs) l k)
-restores_little frame [] l k a s = s
-restores_little frame (g ∷ gs) l k a s =
-    inr (inl (record { frame = frame; variables = g; to = l; few = a.0; is = inr refl }))
-
-restores_all : (frame : ℕ) (gs : List (List ℕ)) (l : ℕ) (k : Block) → AreSmall gs → IsLittle k
-    → AllLittle (chain_blocks (map (restoring frame) gs) l k)
-restores_all frame [] l k a s = tt
-restores_all frame (g ∷ gs) l k a s =
-    (restores_little frame gs (l + 1) k a.1 s, restores_all frame gs (l + 1) k a.1 s)
-
-result_little : (to : Option ℕ) (l : ℕ) → IsLittle (result_then to (jump l))
-result_little None l = little_jump l
-result_little (Some v) l = simple _ (omega arith) (omega arith) (omega arith) refl tt
-
--- PASSING
-
--- the arguments of a call, three in a block
-arguments_little : (xs : List Arg) (l f back : ℕ) → length xs ≤ 8
-    → IsLittle (moved (argument_cuts true) 0 (argument_moves 0 xs) l (call_block f back))
-    × AllLittle (moved_blocks (argument_cuts true) 0 (argument_moves 0 xs) l (call_block f back))
-arguments_little [] l f back le = (simple _ (omega arith) (omega arith) (omega arith) refl tt, tt)
-arguments_little (a ∷ []) l f back le = (simple _ (omega arith) (omega arith) (omega arith) refl tt, tt)
-arguments_little (a ∷ b ∷ []) l f back le = (simple _ (omega arith) (omega arith) (omega arith) refl tt, tt)
-arguments_little (a ∷ b ∷ c ∷ []) l f back le = (
-  simple _ (omega arith) (omega arith) (omega arith) refl tt,
-  (simple _ (omega arith) (omega arith) (omega arith) refl tt, tt),
-)
-arguments_little (a ∷ b ∷ c ∷ d ∷ []) l f back le = (
-  simple _ (omega arith) (omega arith) (omega arith) refl tt,
-  (simple _ (omega arith) (omega arith) (omega arith) refl tt, tt),
-)
-arguments_little (a ∷ b ∷ c ∷ d ∷ e ∷ []) l f back le = (
-  simple _ (omega arith) (omega arith) (omega arith) refl tt,
-  (simple _ (omega arith) (omega arith) (omega arith) refl tt, tt),
-)
-arguments_little (a ∷ b ∷ c ∷ d ∷ e ∷ g ∷ []) l f back le = (
-  simple _ (omega arith) (omega arith) (omega arith) refl tt,
-  (
-    simple _ (omega arith) (omega arith) (omega arith) refl tt,
-    (simple _ (omega arith) (omega arith) (omega arith) refl tt, tt),
-  ),
-)
-arguments_little (a ∷ b ∷ c ∷ d ∷ e ∷ g ∷ h ∷ []) l f back le = (
-  simple _ (omega arith) (omega arith) (omega arith) refl tt,
-  (
-    simple _ (omega arith) (omega arith) (omega arith) refl tt,
-    (simple _ (omega arith) (omega arith) (omega arith) refl tt, tt),
-  ),
-)
-arguments_little (a ∷ b ∷ c ∷ d ∷ e ∷ g ∷ h ∷ i ∷ []) l f back le = (
-  simple _ (omega arith) (omega arith) (omega arith) refl tt,
-  (
-    simple _ (omega arith) (omega arith) (omega arith) refl tt,
-    (simple _ (omega arith) (omega arith) (omega arith) refl tt, tt),
-  ),
-)
-arguments_little (a ∷ b ∷ c ∷ d ∷ e ∷ g ∷ h ∷ i ∷ j ∷ xs) l f back le = absurd (omega (arith, le))
-
--- parameters, after two items of the way in
-parameters_little : (small : Bool) (n l x : ℕ) (body : Block) → small ≡ true → n ≤ 8
-    → Rest 1 (moved (parameter_cuts small) 0 (parameter_moves 0 n) l (cut small x body))
-    × AllLittle (moved_blocks (parameter_cuts small) 0 (parameter_moves 0 n) l (cut small x body))
-parameters_little false n l x body e le = absurd (cc e)
-parameters_little true zero l x body e le =
-    (record { items = omega arith; tests = omega arith; exits = omega arith; plain = refl; jumps = tt }, tt)
-parameters_little true (suc zero) l x body e le = (
-  record { items = omega arith; tests = omega arith; exits = omega arith; plain = refl; jumps = tt },
-  (simple _ (omega arith) (omega arith) (omega arith) refl tt, tt),
-)
-parameters_little true (suc (suc zero)) l x body e le = (
-  record { items = omega arith; tests = omega arith; exits = omega arith; plain = refl; jumps = tt },
-  (simple _ (omega arith) (omega arith) (omega arith) refl tt, tt),
-)
-parameters_little true (suc (suc (suc zero))) l x body e le = (
-  record { items = omega arith; tests = omega arith; exits = omega arith; plain = refl; jumps = tt },
-  (simple _ (omega arith) (omega arith) (omega arith) refl tt, tt),
-)
-parameters_little true (suc (suc (suc (suc zero)))) l x body e le = (
-  record { items = omega arith; tests = omega arith; exits = omega arith; plain = refl; jumps = tt },
-  (
-    simple _ (omega arith) (omega arith) (omega arith) refl tt,
-    (simple _ (omega arith) (omega arith) (omega arith) refl tt, tt),
-  ),
-)
-parameters_little true (suc (suc (suc (suc (suc zero))))) l x body e le = (
-  record { items = omega arith; tests = omega arith; exits = omega arith; plain = refl; jumps = tt },
-  (
-    simple _ (omega arith) (omega arith) (omega arith) refl tt,
-    (simple _ (omega arith) (omega arith) (omega arith) refl tt, tt),
-  ),
-)
-parameters_little true (suc (suc (suc (suc (suc (suc zero)))))) l x body e le = (
-  record { items = omega arith; tests = omega arith; exits = omega arith; plain = refl; jumps = tt },
-  (
-    simple _ (omega arith) (omega arith) (omega arith) refl tt,
-    (simple _ (omega arith) (omega arith) (omega arith) refl tt, tt),
-  ),
-)
-parameters_little true (suc (suc (suc (suc (suc (suc (suc zero))))))) l x body e le = (
-  record { items = omega arith; tests = omega arith; exits = omega arith; plain = refl; jumps = tt },
-  (
-    simple _ (omega arith) (omega arith) (omega arith) refl tt,
-    (
-      simple _ (omega arith) (omega arith) (omega arith) refl tt,
-      (simple _ (omega arith) (omega arith) (omega arith) refl tt, tt),
-    ),
-  ),
-)
-parameters_little true (suc (suc (suc (suc (suc (suc (suc (suc zero)))))))) l x body e le = (
-  record { items = omega arith; tests = omega arith; exits = omega arith; plain = refl; jumps = tt },
-  (
-    simple _ (omega arith) (omega arith) (omega arith) refl tt,
-    (
-      simple _ (omega arith) (omega arith) (omega arith) refl tt,
-      (simple _ (omega arith) (omega arith) (omega arith) refl tt, tt),
-    ),
-  ),
-)
-parameters_little true (suc (suc (suc (suc (suc (suc (suc (suc (suc n))))))))) l x body e le =
-    absurd (omega (arith, le))
 
 -- SMALL IFS
 
@@ -504,6 +339,7 @@ little_at [] k b e s = absurd (cc e)
 little_at (x ∷ bs) zero b e s = let q : x ≡ b = cc e in subst IsLittle q s.0
 little_at (x ∷ bs) (suc k) b e s = little_at bs k b e s.1
 
+-- where routines are cut everywhere, each block is small, has one group, or holds one small if
 pub built_little : (base : ℕ) (gs : List Routine) (main : ℕ)
     → ((f : ℕ) (g : Routine) → slice_get gs f ≡ Some g → IsCutRoutine g) → (k : ℕ) (b : Block)
     → slice_get (built base gs main) k ≡ Some b → IsLittle b

@@ -17,9 +17,11 @@ use Rattle.hyper_build.specs.inside.Routines.{all_blocks, built}
 use Rattle.hyper_build.specs.inside.World.{World}
 use Rattle.hyper_build.specs.inside.Fits.{FitsRoutine}
 use Rattle.hyper_build.specs.inside.Followed.{FollowedExit, FollowedTail, AreFollowed}
-use Rattle.hyper_build.proofs.Sound.{SoundExit, SoundTail, Sound, AllSound, MovesFit, GoodPlace}
-use Rattle.hyper_build.proofs.Sound.{register_small, capped_word, sound_append, cut_sound, cuts_sound}
-use Rattle.hyper_build.proofs.Sound.{moved_sound, moves_sound, sound_tree}
+use Rattle.hyper_build.proofs.Sound.{GoodPlace}
+use Rattle.hyper_build.proofs.SoundMoves.{SoundExit, SoundTail, Sound, AllSound, MovesFit}
+use Rattle.hyper_build.proofs.SoundMoves.{register_small, capped_word, sound_append, cut_sound, cuts_sound}
+use Rattle.hyper_build.proofs.Sound.{sound_tree}
+use Rattle.hyper_build.proofs.SoundMoves.{moved_sound, moves_sound}
 use Rattle.hyper_build.proofs.Counts.{sizes, length_all}
 use Rattle.hyper_build.proofs.Follows.{built_followed}
 
@@ -106,6 +108,7 @@ entries_within e (g ∷ gs) zero le = omega (arith, le)
 entries_within e (g ∷ gs) (suc f) le =
     let h = entries_within (e + routine_size g) gs f (omega (arith, le)) in omega (arith, h)
 
+-- a program has three blocks besides those of its routines
 pub length_built : (base : ℕ) (gs : List Routine) (main : ℕ)
     → length (built base gs main) ≡ 3 + sizes gs
 length_built base gs main =
@@ -193,6 +196,7 @@ pub record AreBlocks (B : List Block) : Type 0 where
   pub followed : IsFollowed B
   pub fit : length B ≤ label_count → (k : ℕ) (b : Block) → slice_get B k ≡ Some b → FitsHyper b
 
+-- routines that fit make blocks that are sound and followed
 pub built_blocks : (W : World) (base : ℕ) (gs : List Routine) (main : ℕ) (r : Routine)
     → slice_get gs main ≡ Some r
     → ((f : ℕ) (g : Routine) → slice_get gs f ≡ Some g → FitsRoutine W g)

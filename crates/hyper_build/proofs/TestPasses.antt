@@ -50,6 +50,7 @@ pub part_plain : (g : Ground) (b a : ℕ) (last on : Bool) (st : Step) (e : Emis
 part_plain g b a last on st e h =
     ap (part_by g b a on st e) (and_none last (is_test_step ((plan g).joined (e.place - steps_in st)) st) (h _))
 
+-- the last statement of a loop's body is emitted as the loop's test, where it is one
 pub part_tests : (g : Ground) (b a : ℕ) (last on : Bool) (st : Step) (x : Arg) (one other : Code)
     (e : Emission) (n : ℕ)
     (joined c : Bool) → st ≡ If x one other → n ≡ steps_in st → joined ≡ (plan g).joined (e.place - n)
@@ -61,6 +62,7 @@ part_tests g b a last on st x one other e n joined c es en ej q ec =
     (ej ∙ ap (λ m. (plan g).joined (e.place - m)) en) ∙ q)
     ∙ test_out_is g b a st x one other e n c es en ec
 
+-- an if that is not the loop's test is emitted as an if
 pub part_ifs : (g : Ground) (b a : ℕ) (last on : Bool) (st : Step) (x : Arg) (one other : Code) (e : Emission) (n : ℕ)
     (joined : Bool) → st ≡ If x one other → n ≡ steps_in st → joined ≡ (plan g).joined (e.place - n)
     → last && (joined && is_break_code other) ≡ false → part_out g b a last on st e ≡ emit_in g b a on st e
@@ -74,11 +76,13 @@ part_ifs g b a last on st x one other e n joined es en ej q =
 abbrev number_by : Ground → Bool → Step → Numbering → Bool → Numbering
 number_by g on st s z = cond z (number_test (plan g) st s) (number_in (plan g) on st s)
 
+-- a statement that is no test is numbered as it is elsewhere
 pub numbers_plain : (g : Ground) (last on : Bool) (st : Step) (s : Numbering)
     → ((j : Bool) → is_test_step j st ≡ false) → number_part (plan g) last on st s ≡ number_in (plan g) on st s
 numbers_plain g last on st s h =
     ap (number_by g on st s) (and_none last (is_test_step ((plan g).joined s.place) st) (h _))
 
+-- the last statement of a loop's body is numbered as the loop's test, where it is one
 pub numbers_test : (g : Ground) (last on : Bool) (st : Step) (x : Arg) (one other : Code) (s : Numbering)
     (joined : Bool)
     → st ≡ If x one other → joined ≡ (plan g).joined s.place → last && (joined && is_break_code other) ≡ true
@@ -88,6 +92,7 @@ numbers_test g last on st x one other s joined es ej q =
     ap (number_by g on st s) (kind_is last joined ((plan g).joined s.place) st x one other es ej ∙ q)
     ∙ ap (λ y. number_test (plan g) y s) es
 
+-- an if that is not the loop's test is numbered as an if
 pub numbers_ifs : (g : Ground) (last on : Bool) (st : Step) (x : Arg) (one other : Code) (s : Numbering)
     (joined : Bool)
     → st ≡ If x one other → joined ≡ (plan g).joined s.place → last && (joined && is_break_code other) ≡ false

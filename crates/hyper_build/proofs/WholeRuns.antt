@@ -180,6 +180,7 @@ module _ (check : Bool) (at : Layout) (bytes : List ℕ) (fs : List Routine) (ma
   }
   ends Wild f = tt
 
+-- the blocks of a whole program follow its meaning
 pub whole_follows : WholeClaim
 unfolding hyper_run flat_run
 whole_follows check at bytes fs main input n w are =

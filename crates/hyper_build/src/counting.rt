@@ -82,13 +82,6 @@ pub fn steps_in(s: &FlatStmt) -> Result<u32, Memory>
     ensures { IfOk result (λ n. n ≡ flat.steps_in (step_of s.now)) }
 {
     match s {
-        FlatStmt::Let { .. } => Ok(1),
-        FlatStmt::Frame { .. } => Ok(1),
-        FlatStmt::Load { .. } => Ok(1),
-        FlatStmt::Save { .. } => Ok(1),
-        FlatStmt::Call { .. } => Ok(1),
-        FlatStmt::Put(_) => Ok(1),
-        FlatStmt::Get { .. } => Ok(1),
         FlatStmt::If { yes, no, .. } => {
             let one = steps_of(yes.as_slice())?;
             let other = steps_of(no.as_slice())?;
@@ -101,9 +94,7 @@ pub fn steps_in(s: &FlatStmt) -> Result<u32, Memory>
             let all = with_parts(one, other)?;
             Ok(all)
         }
-        FlatStmt::Break => Ok(1),
-        FlatStmt::Continue => Ok(1),
-        FlatStmt::Return(_) => Ok(1),
+        _ => Ok(1),
     }
 }
 

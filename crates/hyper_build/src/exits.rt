@@ -13,18 +13,9 @@ fn exit_in(s: &FlatStmt, broke: u32, again: u32) -> Option<u32>
     ensures { result ≡ code.exit_in broke again (step_of s.now) }
 {
     match s {
-        FlatStmt::Let { .. } => None,
-        FlatStmt::Frame { .. } => None,
-        FlatStmt::Load { .. } => None,
-        FlatStmt::Save { .. } => None,
-        FlatStmt::Call { .. } => None,
-        FlatStmt::Put(_) => None,
-        FlatStmt::Get { .. } => None,
-        FlatStmt::If { .. } => None,
-        FlatStmt::Loop { .. } => None,
         FlatStmt::Break => Some(broke),
         FlatStmt::Continue => Some(again),
-        FlatStmt::Return(_) => None,
+        _ => None,
     }
 }
 
@@ -48,18 +39,10 @@ fn leaves(s: &FlatStmt) -> bool
     ensures { result ≡ tree.leaves (step_of s.now) }
 {
     match s {
-        FlatStmt::Let { .. } => false,
-        FlatStmt::Frame { .. } => false,
-        FlatStmt::Load { .. } => false,
-        FlatStmt::Save { .. } => false,
-        FlatStmt::Call { .. } => false,
-        FlatStmt::Put(_) => false,
-        FlatStmt::Get { .. } => false,
-        FlatStmt::If { .. } => false,
-        FlatStmt::Loop { .. } => false,
         FlatStmt::Break => true,
         FlatStmt::Continue => true,
         FlatStmt::Return(_) => true,
+        _ => false,
     }
 }
 

@@ -26,4 +26,6 @@ pub use laws::{
     built_programs_keep_meaning, calls_follow, cut_blocks_are_little, emission_builds_programs,
     emission_puts_blocks, plans_change_nothing, small_ifs_are_filled,
 };
+pub use merging::is_break;
 pub use plan::{CutPlan, cut_all, is_cut, is_joined};
+pub use straight::is_small_if;

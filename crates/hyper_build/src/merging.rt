@@ -34,7 +34,7 @@ pub fn is_last(stmts: &[FlatStmt], at: usize) -> bool
 }
 
 /// Whether statements are a break alone.
-fn is_break(stmts: &[FlatStmt]) -> bool
+pub fn is_break(stmts: &[FlatStmt]) -> bool
     ensures { result ≡ code.is_break_code (code_of stmts.now) }
 {
     match exit_of(stmts, 0, 1, 0) {

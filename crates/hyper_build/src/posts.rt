@@ -17,14 +17,7 @@ fn is_operation(s: &FlatStmt) -> bool
         FlatStmt::Frame { .. } => true,
         FlatStmt::Load { .. } => true,
         FlatStmt::Save { .. } => true,
-        FlatStmt::Call { .. } => false,
-        FlatStmt::Put(_) => false,
-        FlatStmt::Get { .. } => false,
-        FlatStmt::If { .. } => false,
-        FlatStmt::Loop { .. } => false,
-        FlatStmt::Break => false,
-        FlatStmt::Continue => false,
-        FlatStmt::Return(_) => false,
+        _ => false,
     }
 }
 
@@ -48,22 +41,13 @@ fn continues_stmt(s: &FlatStmt) -> bool
     ensures { result ≡ legs.continues_in (step_of s.now) }
 {
     match s {
-        FlatStmt::Let { .. } => false,
-        FlatStmt::Frame { .. } => false,
-        FlatStmt::Load { .. } => false,
-        FlatStmt::Save { .. } => false,
-        FlatStmt::Call { .. } => false,
-        FlatStmt::Put(_) => false,
-        FlatStmt::Get { .. } => false,
         FlatStmt::If { yes, no, .. } => {
             let one = continues(yes.as_slice());
             let other = continues(no.as_slice());
             either(one, other)
         }
-        FlatStmt::Loop { .. } => false,
-        FlatStmt::Break => false,
         FlatStmt::Continue => true,
-        FlatStmt::Return(_) => false,
+        _ => false,
     }
 }
 

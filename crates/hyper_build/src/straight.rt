@@ -42,18 +42,12 @@ fn is_straight_stmt(s: &FlatStmt) -> bool
         FlatStmt::Frame { .. } => true,
         FlatStmt::Load { .. } => true,
         FlatStmt::Save { .. } => true,
-        FlatStmt::Call { .. } => false,
-        FlatStmt::Put(_) => false,
-        FlatStmt::Get { .. } => false,
         FlatStmt::If { yes, no, .. } => {
             let one = is_straight(yes.as_slice());
             let other = is_straight(no.as_slice());
             both(one, other)
         }
-        FlatStmt::Loop { .. } => false,
-        FlatStmt::Break => false,
-        FlatStmt::Continue => false,
-        FlatStmt::Return(_) => false,
+        _ => false,
     }
 }
 
@@ -73,22 +67,12 @@ pub fn is_straight(stmts: &[FlatStmt]) -> bool
 }
 
 /// Whether a statement alone is a leg of a small if.
-fn is_operation(s: &FlatStmt) -> bool
+fn is_leg(s: &FlatStmt) -> bool
     ensures { result ≡ flat.is_small_leg (step_of s.now ▹ Nop) }
 {
     match s {
         FlatStmt::Let { .. } => true,
-        FlatStmt::Frame { .. } => false,
-        FlatStmt::Load { .. } => false,
-        FlatStmt::Save { .. } => false,
-        FlatStmt::Call { .. } => false,
-        FlatStmt::Put(_) => false,
-        FlatStmt::Get { .. } => false,
-        FlatStmt::If { .. } => false,
-        FlatStmt::Loop { .. } => false,
-        FlatStmt::Break => false,
-        FlatStmt::Continue => false,
-        FlatStmt::Return(_) => false,
+        _ => false,
     }
 }
 
@@ -101,7 +85,7 @@ fn is_small_leg(stmts: &[FlatStmt]) -> bool
         Some(parts) => parts,
     };
     if rest.is_empty() {
-        is_operation(first)
+        is_leg(first)
     } else {
         false
     }
@@ -117,8 +101,9 @@ pub fn is_no_leg(stmts: &[FlatStmt]) -> bool
     }
 }
 
-/// Whether an if is a small one: its legs are each empty or one operation, and not both empty.
-fn is_small_if(yes: &[FlatStmt], no: &[FlatStmt]) -> bool
+/// Whether an if is a small one, which is an item under every plan: its legs are each empty or one operation, and
+/// not both empty.
+pub fn is_small_if(yes: &[FlatStmt], no: &[FlatStmt]) -> bool
     ensures { result ≡ annotated.is_small_if (code_of yes.now) (code_of no.now) }
 {
     let one = is_small_leg(yes);

@@ -24,6 +24,7 @@ only_set (d ∷ cs) (suc k) h =
     let p = and_parts d (only_cuts cs) h in
     and_from d (only_cuts (slice_set cs k true)) p.0 (only_set cs k p.1)
 
+-- answers of which one is set to yes are as many as before
 pub size_set : (cs : List Bool) (k : ℕ) → length (slice_set cs k true) ≡ length cs
 size_set [] k = refl
 size_set (c ∷ cs) zero = refl

@@ -23,6 +23,7 @@ counted fs zero l = refl
 counted [] (suc k) l = absurd (omega (arith, l))
 counted (f ∷ fs) (suc k) l = ap suc (counted fs k (omega (arith, l)))
 
+-- the answers of one function more are those so far and its own
 pub more_answers : (rooms : List ℕ) (fs : List FlatFunc) (k : ℕ) (g : FlatFunc) (room : ℕ) (cs own new : List Bool)
     → k < length fs → g ≡ get_or fs k g → room ≡ get_or rooms k 0
     → AreAnswers rooms (map function_of (take k fs)) cs → AreAnswersOf room (function_of g) own → new ≡ cs ++ own

@@ -35,41 +35,6 @@ fn ifs_left(s: &FlatStmt, left: u32) -> Option<u32> {
     }
 }
 
-/// Whether a statement is an operation.
-fn is_operation(s: &FlatStmt) -> bool {
-    match s {
-        FlatStmt::Let { .. } => true,
-        _ => false,
-    }
-}
-
-/// Whether a leg is empty or one operation.
-fn is_small_leg(stmts: &[FlatStmt]) -> bool {
-    let (first, rest) = match stmts.split_first() {
-        None => return true,
-        Some(parts) => parts,
-    };
-    rest.is_empty() && is_operation(first)
-}
-
-/// Whether an if is a small one, which is an item under every plan: its legs are each empty or one operation,
-/// and not both empty.
-pub fn is_small_if(yes: &[FlatStmt], no: &[FlatStmt]) -> bool {
-    is_small_leg(yes) && is_small_leg(no) && !(yes.is_empty() && no.is_empty())
-}
-
-/// Whether statements are a break alone.
-pub fn is_break(stmts: &[FlatStmt]) -> bool {
-    let (first, rest) = match stmts.split_first() {
-        None => return false,
-        Some(parts) => parts,
-    };
-    match first {
-        FlatStmt::Break => rest.is_empty(),
-        _ => false,
-    }
-}
-
 /// What a statement does that is items alone.
 #[cycle(item)]
 pub fn add_item(s: &FlatStmt, block: &mut Estimate, frame: Frame) {

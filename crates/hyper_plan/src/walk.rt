@@ -10,12 +10,13 @@ ghost use Rattle.ir_forms.specs.inside.FlatViews.{code_of, step_of};
 ghost use Rattle.hyper_plan.specs.inside.Answers.{only_cuts};
 
 use crate::estimate::Estimate;
-use crate::if_items::{add_item, add_items, are_items, is_break, is_small_if};
+use crate::if_items::{add_item, add_items, are_items};
 use crate::items::{add_call, add_result, add_saves, add_statement, is_plain};
 use crate::open_block::{
     Site, Walk, answer, close, cut_at, cut_last, ending, fits, get, guard, open, single,
 };
 use base::Memory;
+use hyper_build::{is_break, is_small_if};
 use ir_forms::{Arg, FlatStmt};
 
 /// What an if is: an item of its block, a loop's test with which the block goes on, or the end of its block.

@@ -21,6 +21,7 @@ use Rattle.null_outputs.specs.inside.Surely.{sure_by}
 use Rattle.null_outputs.specs.inside.Wants.{want_by, complete}
 use Rattle.null_outputs.proofs.Spaces.{some_is}
 
+-- each of some nodes is one that completing adds
 abbrev pub AllAdded : List FlowNode → Type 0
 AllAdded [] = Unit {0}
 AllAdded (n ∷ ns) = IsAdded n × AllAdded ns
@@ -76,6 +77,7 @@ module _ (sure : Sure) (want : Want) (b : FlowBlock) where
       go true = tt
       go false = nodes_added (cover sure want b) p w.sources
 
+  -- each node that completing adds is a null, a copy, a join or a null store, with immediate 0
   pub all_added : AllAdded (added sure want b)
   all_added =
       let c = cover sure want b in
@@ -119,6 +121,7 @@ old_or_added [] (y ∷ ys) a (suc j) n e = later (old_or_added [] ys a.1 j n e)
 old_or_added (x ∷ xs) ys a zero n e = inl e
 old_or_added (x ∷ xs) ys a (suc j) n e = old_or_added xs ys a j n e
 
+-- a node of a completed block is the block's own or one that was added
 pub own_or_added : (b : FlowBlock) (j : ℕ) (n : FlowNode) → slice_get (complete b).nodes j ≡ Some n
     → (slice_get b.nodes j ≡ Some n) ⊎ IsAdded n
 own_or_added b j n e = old_or_added b.nodes (added (sure_by b) (want_by b) b)
@@ -133,6 +136,7 @@ module _ (r : Immediates) (zeros : KeepsZeros r) where
   node_stays : (n : FlowNode) → IsAdded n → with_immediate r n ≡ n
   node_stays n a = ap (λ (i : ℤ). record n { imm = i }) (ap (r n.op) a.imm ∙ (zeros n.op a.op ∙ sym a.imm))
 
+  -- nodes that were added stay as they are with new immediates, where these keep zeros
   pub added_stay : (ns : List FlowNode) → AllAdded ns → map (with_immediate r) ns ≡ ns
   added_stay [] a = refl
   added_stay (n ∷ ns) a = ap₂ (λ (m : FlowNode) (ms : List FlowNode). m ∷ ms) (node_stays n a.0) (added_stay ns a.1)

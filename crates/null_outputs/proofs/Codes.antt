@@ -12,6 +12,7 @@ same_end : {A : Type 0} (xs : List A) → xs ≡ xs ++ []
 same_end [] = refl
 same_end (x ∷ xs) = ap (λ (l : _). x ∷ l) (same_end xs)
 
+-- without a node no scope is put behind the others
 pub no_scope : (t : Bool) (o : Option FlowNode) (xs : List Scope) → o ≡ None → xs ≡ xs ++ scope_at t o
 no_scope t None xs e = go t
   where
@@ -20,6 +21,7 @@ no_scope t None xs e = go t
     go false = same_end xs
 no_scope t (Some n) xs e = absurd (cc)
 
+-- with a node its guard is put behind the others
 pub one_scope : (t : Bool) (o : Option FlowNode) (xs : List Scope) (n : FlowNode) → t ≡ true → o ≡ Some n
     → xs ++ (n.guard ∷ []) ≡ xs ++ scope_at t o
 one_scope true o xs n e f = ap (λ (z : Option FlowNode). xs ++ scope_at true z) (sym f)

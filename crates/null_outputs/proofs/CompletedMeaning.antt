@@ -117,6 +117,7 @@ module _ (sure : Sure) (want : Want) (b : FlowBlock) (fits : FitsFlow b) (masked
   pub old_path : OnPath regs f h b
   old_path = obeys_front regs h f 0 b.nodes (added sure want b) o
 
+  -- the table agrees with the nodes that were added, from those for true guards on
   pub at_trues : Obeys regs f h (trues sure want b) (added sure want b)
   at_trues = obeys_back regs h f 0 b.nodes (added sure want b) o (length b.nodes) (omega arith)
 
@@ -128,37 +129,45 @@ module _ (sure : Sure) (want : Want) (b : FlowBlock) (fits : FitsFlow b) (masked
       → length (guard_part want b.nodes c false p j n) ≡ guard_part_size want b.nodes sure false j n
   false_length = guard_part_length want b.nodes sure (places sure want b) false
 
+  -- the table agrees with the nodes that were added, from those for false guards on
   pub at_falses : Obeys regs f h (falses sure want b)
       (falses_region sure want b ++ (lefts_region sure want b ++
       (rights_region sure want b ++ (writes_region sure want b ++ all_numbers sure want b))))
   at_falses = region_rest (guard_part want b.nodes c true)
       (guard_part_size want b.nodes sure true) true_length regs h f (trues sure want b) 0 b.nodes _ at_trues
 
+  -- the table agrees with the nodes that were added, from those for left operands on
   pub at_lefts : Obeys regs f h (lefts sure want b)
       (lefts_region sure want b ++ (rights_region sure want b ++
       (writes_region sure want b ++ all_numbers sure want b)))
   at_lefts = region_rest (guard_part want b.nodes c false)
       (guard_part_size want b.nodes sure false) false_length regs h f (falses sure want b) 0 b.nodes _ at_falses
 
+  -- the table agrees with the nodes that were added, from those for right operands on
   pub at_rights : Obeys regs f h (rights sure want b)
       (rights_region sure want b ++ (writes_region sure want b ++ all_numbers sure want b))
   at_rights = region_rest (left_part sure want c) (left_size sure want) (left_length sure want c) regs h f
       (lefts sure want b) 0 b.nodes _ at_lefts
 
+  -- the table agrees with the nodes that were added, from those for writes on
   pub at_writes : Obeys regs f h (writes_at sure want b) (writes_region sure want b ++ all_numbers sure want b)
   at_writes = region_rest (right_part sure want c) (right_size sure want) (right_length sure want c) regs h f
       (rights sure want b) 0 b.nodes _ at_rights
 
+  -- the table agrees with the nodes that were added for the numbers of the mask
   pub at_numbers : Obeys regs f h (numbers_at sure want b) (all_numbers sure want b)
   at_numbers = region_rest (write_part sure want b) (write_size sure want b) (write_length sure want b) regs h f
       (writes_at sure want b) 0 b.writes _ at_writes
 
+  -- the block as it was is tidy on the completed block's path
   pub old_tidy : IsTidy regs h b
   old_tidy = fits.tidy regs f h old_path
 
+  -- each output of the block as it was takes at most one token on the completed block's path
   pub old_one : TakesAtMostOne regs h b
   old_one = fits.one regs f h old_path
 
+  -- what is known of the completed block's path
   pub known : Known regs h f b sure want (places sure want b) (fits.order.0)
   known = record {
     obeys = old_path;
@@ -277,6 +286,7 @@ module _ (sure : Sure) (want : Want) (b : FlowBlock) (fits : FitsFlow b) (masked
   number_once : (k : ℕ) → tokens h 0 (completed sure want b).nodes k ≡ cond (in_mask b.mask k) 1 0
   number_once k = new_tokens k ∙ number_at k (in_mask b.mask k) (sure None (stores_of 0 b.nodes k)) refl refl
 
+  -- each output of the completed block takes exactly one token
   pub takes_one : TakesOne regs h (completed sure want b)
   takes_one = record {
     writes = writes_once sure want b regs h f ready surely_none
@@ -285,6 +295,7 @@ module _ (sure : Sure) (want : Want) (b : FlowBlock) (fits : FitsFlow b) (masked
     numbers = number_once;
   }
 
+  -- the completed block has the exits that the block had
   pub new_exits : exits h 0 (completed sure want b).nodes ≡ exits h 0 b.nodes
   new_exits = exits_append regs h 0 (trues sure want b) b.nodes (added sure want b) (omega arith)
       ∙ append_end regs h (exits h 0 b.nodes) (exits h (trues sure want b) (added sure want b)) added_does.leaves
@@ -308,6 +319,7 @@ module _ (sure : Sure) (want : Want) (b : FlowBlock) (fits : FitsFlow b) (masked
 
 -- EXACTLY ONE
 
+-- on every path each write and each number of the mask of a completed block gets exactly one token
 pub completes : (sure : Sure) (want : Want) (b : FlowBlock) → FitsFlow b → EachMasked b b.nodes → Trusty sure b
     → Closed sure want b → AllTaken (completed sure want b)
 completes sure want b fits masked trusty closed regs f h o =
@@ -321,6 +333,7 @@ stored_same : (regs : ℕ → ℕ) (h : ℕ → Answer) (ns ms : List FlowNode) 
 unfolding stored_all
 stored_same regs h ns ms mem s = same_memory (stores regs h ns) (stores regs h ms) s mem 32
 
+-- a completed block does what the block did
 pub keeps : (sure : Sure) (want : Want) (b : FlowBlock) → FitsFlow b → EachMasked b b.nodes → Trusty sure b
     → Closed sure want b → Keeps b (completed sure want b)
 keeps sure want b fits masked trusty closed regs mem h o =

@@ -189,6 +189,7 @@ is_complete b fits masked = record {
   all = completes (sure_by b) (want_by b) b fits masked (sure_is_trusty b fits) (want_is_closed b);
 }
 
+-- a block completed by the covers that are made does what it did
 pub keeps_meaning : (b : FlowBlock) → FitsFlow b → EachMasked b b.nodes → Keeps b (complete b)
 keeps_meaning b fits masked = keeps (sure_by b) (want_by b) b fits masked (sure_is_trusty b fits) (want_is_closed b)
 
@@ -204,6 +205,7 @@ module _ (at : Layout) (x : Block) (b d : FlowBlock) (keep : Keeps b d) (means :
         acts = k.acts ∙ v.acts;
       }
 
+-- a completed block means the hyper block that the block meant
 pub means_block : (at : Layout) (x : Block) (b : FlowBlock) → FitsFlow b → EachMasked b b.nodes
     → MeansBlock at x b → MeansBlock at x (complete b)
 means_block at x b fits masked means = moved at x b (complete b) (keeps_meaning b fits masked) means

@@ -36,6 +36,7 @@ all_at P [] a k x e = absurd (cc)
 all_at P (y ∷ xs) a zero x e = subst P (some_is y x e) (All-head P y xs a)
 all_at P (y ∷ xs) a (suc k) x e = all_at P xs (All-tail P y xs a) k x e
 
+-- what holds of each item of a list holds of all
 pub all_from : {A : Type 0} (P : A → Type 0) (xs : List A) → ((k : ℕ) (x : A) → slice_get xs k ≡ Some x → P x)
     → All P xs
 all_from P [] f = All-nil P
@@ -59,6 +60,7 @@ guard_is_on s g e = both (nat_eq g.node g.node) (sense_is s g.sense) (same_eq g.
     same true = refl
     same false = refl
 
+-- a node whose guard waits for this sense of another, and that is wanted, uses it
 pub used_at : (want : Want) (j : ℕ) (nodes : List FlowNode) (s : Bool) (y k : ℕ) (n : FlowNode) (i : ℕ)
     → i ≡ j + k → slice_get nodes k ≡ Some n → want i ≡ true → guard_is s y n.guard ≡ true
     → is_used want j nodes s y ≡ true
@@ -113,6 +115,7 @@ used_has want P j (n ∷ ns) s y f u =
     go true false false ev e d r = absurd (cc)
     go false false false ev e d r = absurd (cc)
 
+-- where a sense of a node is used, the node's own cover is wanted
 pub used_wants : (sure : Sure) (want : Want) (b : FlowBlock) → Closed sure want b → (s : Bool) (y : ℕ)
     → is_used want 0 b.nodes s y ≡ true → want y ≡ true
 used_wants sure want b c s y u =
@@ -316,10 +319,12 @@ module _ (regs : ℕ → ℕ) (h : ℕ → Answer) (f : Computes) (b : FlowBlock
   all_below zero y n e w l = absurd (omega (arith, l))
   all_below (suc i) y n e w l = node_covered y n e w (λ z m ez wz lz. all_below i z m ez wz (omega (arith, l, lz)))
 
+  -- a node whose cover is wanted is covered: one null where it has no token, else none
   pub number_covered : (y : ℕ) (n : FlowNode) → slice_get b.nodes y ≡ Some n → want y ≡ true
       → Covered regs h (1 - present (h y)) (c (Node y))
   number_covered y n e w = at_node y n e (all_below (suc (rank y)) y n e w (omega arith))
 
+  -- sources whose covers are wanted are covered
   pub sources_covered : (ss : List FlowSource) → All (FitsFlowSource b) ss → EachWanted want ss
       → EachCovered regs h c ss
   sources_covered [] fit w = tt

@@ -14,6 +14,7 @@ use Rattle.null_outputs.proofs.Spaces.{nodes_length, cond_length}
 use Rattle.null_outputs.proofs.RegionLoops.{rest_of}
 
 module _ (sure : Sure) (c : Cover) where
+  -- the nodes for a write are as many as its size says
   pub write_by_length : (p j : ℕ) (w : FlowWrite) → length (write_part_by sure c p j w) ≡ write_size_by sure j w
   write_by_length p j w = go (sure None w.sources)
     where

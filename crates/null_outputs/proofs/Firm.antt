@@ -284,6 +284,7 @@ module _ (regs : ℕ → ℕ) (h : ℕ → Answer) (f : Computes) (b : FlowBlock
           let nm : n ≡ m = some_is n m (sym z ∙ e) in
           is_firm_good (firm_of found) ok y m e (ap (is_firm b.nodes (firm_of found)) (sym nm) ∙ q.1) me
 
+-- what is said to be there is there on every path
 pub sure_is_trusty : (b : FlowBlock) → FitsFlow b → Trusty (sure_by b) b
 sure_is_trusty b fits regs f h o g ss e m =
     let clear = (fits.tidy regs f h o).clear in

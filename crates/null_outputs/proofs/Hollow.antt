@@ -12,10 +12,12 @@ use Rattle.trips_isa.specs.Blocks.{form_computes}
 use Rattle.ir_forms.specs.declared.flow.FlowNode.{FlowNode}
 use Rattle.ir_forms.specs.inside.FlowRuns.{meant, inst_of}
 
+-- nothing is stored, or a store of no value
 abbrev pub Hollow : Option Stored → Type 0
 Hollow None = Unit {0}
 Hollow (Some s) = s.value ≡ None
 
+-- of two hollow stores the one that is taken is hollow
 pub hollow_or : (a b : Option Stored) → Hollow a → Hollow b → Hollow (or_else a b)
 hollow_or None b x y = y
 hollow_or (Some s) b x y = x
@@ -57,6 +59,7 @@ module _ (st old : ℕ → Option Stored) (adds : (n : ℕ)
       ap (λ (x : ℕ). x * 256 + byte_seen st mem n (a + k)) (same_bytes mem n a k)
       ∙ ap (λ (x : ℕ). bytes_seen old mem n a k * 256 + x) (same_seen mem n (a + k))
 
+  -- hollow stores besides leave what loads see
   pub same_meant : (mem : List ℕ) → meant st mem ≡ meant old mem
   same_meant mem =
       fun_ext (λ (j : ℕ).
@@ -64,6 +67,7 @@ module _ (st old : ℕ → Option Stored) (adds : (n : ℕ)
       ap (form_computes (form_of n.op) (inst_of n))
       (fun_ext (λ (a : ℕ). same_bytes (slice_index mem) n.number a (size_of n.op)))))
 
+  -- hollow stores besides leave memory
   pub same_memory : (mem : List ℕ) (n : ℕ) → store_all mem (listed_below st n) ≡ store_all mem (listed_below old n)
   same_memory mem zero = refl
   same_memory mem (suc n) =

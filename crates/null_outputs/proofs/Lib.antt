@@ -9,6 +9,9 @@ pub mod Tidy
 pub mod Walks
 pub mod Ranks
 pub mod Order
+pub mod RankPlaces
+pub mod CoverOrder
+pub mod NumberOrder
 pub mod CompletedMeaning
 pub mod Firm
 pub mod Wanted
@@ -21,6 +24,9 @@ pub mod Assembled
 pub mod Straightness
 pub mod Recognised
 pub mod Named
+pub mod NamedSources
+pub mod LoudPlaces
+pub mod LoudGroups
 pub mod Regular
 pub mod Unguarded
 pub mod Added

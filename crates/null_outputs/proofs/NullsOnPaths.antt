@@ -63,6 +63,7 @@ filled o = filled_in (form_of o) o
 
 -- COUNTS OF ANSWERS
 
+-- the tokens that two operands give together: those of the second, where the first is there
 abbrev pub all_there : ℕ → ℕ → ℕ
 all_there zero r = 0
 all_there (suc l) r = r
@@ -72,9 +73,11 @@ abbrev pub lacks : ℕ → ℕ → ℕ
 lacks zero r = 0
 lacks (suc l) r = 1 - r
 
+-- 1 for yes and 0 for no
 abbrev pub bit : Bool → ℕ
 bit b = cond b 1 0
 
+-- an answer that is no word
 abbrev pub IsNull : Answer → Type 0
 IsNull None = Unit {0}
 IsNull (Some Null) = Unit {0}
@@ -112,6 +115,7 @@ if_there : (b : Bool) (t : Answer) → present (if_matched b t) ≡ cond b (pres
 if_there true t = refl
 if_there false t = refl
 
+-- at most one token is there
 pub present_low : (t : Answer) → present t ≤ 1
 present_low None = omega arith
 present_low (Some t) = omega arith
@@ -124,10 +128,12 @@ lack_more : (t u : Answer) → all_there (1 - present t) (1 - present u) ≡ 1 -
 lack_more None u = refl
 lack_more (Some t) u = refl
 
+-- an operand together with the want of another is where the first is there and the second is not
 pub lack_two : (l r : ℕ) → all_there l (1 - r) ≡ lacks l r
 lack_two zero r = refl
 lack_two (suc l) r = refl
 
+-- where a node has no token, exactly one of guard, left and right operand is wanting
 pub parts : (b : Bool) (p l r : ℕ) → l ≤ 1 → r ≤ 1 → p ≡ cond b (all_there l r) 0
     → (1 - bit b) + (cond b (1 - l) 0 + cond b (lacks l r) 0) ≡ 1 - p
 parts false p l r x y e = omega arith
@@ -173,6 +179,7 @@ other_bit (Some (Word w)) false c = go (low w)
     go false = refl
 
 module _ (regs : ℕ → ℕ) (h : ℕ → Answer) where
+  -- whether one of some sources is there
   abbrev pub here : List FlowSource → ℕ
   here ss = present (first regs h ss)
 
@@ -185,6 +192,7 @@ module _ (regs : ℕ → ℕ) (h : ℕ → Answer) where
     pub number : count regs h ms ≡ k
     pub null : AllNull ms
 
+  -- sources behind sources are there as often as both together
   pub count-append : (xs ys : List FlowSource) → count regs h (xs ++ ys) ≡ count regs h xs + count regs h ys
   count-append [] ys = omega arith
   count-append (x ∷ xs) ys = let e = count-append xs ys in omega (arith, e)
@@ -193,6 +201,7 @@ module _ (regs : ℕ → ℕ) (h : ℕ → Answer) where
   null_append [] b x y = y
   null_append (s ∷ a) b x y = (x.0, null_append a b x.1 y)
 
+  -- sources that give nulls only give no word
   pub first_null : (ms : List FlowSource) → AllNull ms → IsNull (first regs h ms)
   first_null [] a = tt
   first_null (s ∷ ms) a = go (got regs h s) (first regs h ms) a.0 (first_null ms a.1)
@@ -202,6 +211,7 @@ module _ (regs : ℕ → ℕ) (h : ℕ → Answer) where
       go (Some Null) u x y = x
       go (Some (Word w)) u x y = absurd x
 
+  -- of sources of which at most one is there, so many are there
   pub here_count : (ms : List FlowSource) → count regs h ms ≤ 1 → here ms ≡ count regs h ms
   here_count [] l = refl
   here_count (s ∷ ms) l = go (got regs h s) (first regs h ms) (count regs h ms) (λ e. here_count ms e) l
@@ -211,27 +221,32 @@ module _ (regs : ℕ → ℕ) (h : ℕ → Answer) where
       go None u c f l = let e : present u ≡ c = f (omega arith) in omega (arith, e)
       go (Some t) u c f l = omega arith
 
+  -- no source gives no token
   pub none_covered : Covered 0 []
   none_covered = record { number = refl; null = tt }
 
   pub one_covered : (p k : ℕ) → Nulled k (h p) → Covered k (Node p ∷ [])
   one_covered p k n = record { number = omega (arith, n.there); null = (n.null, tt) }
 
+  -- sources behind sources give the tokens of both, and only nulls
   pub append_covered : (j k : ℕ) (a b : List FlowSource) → Covered j a → Covered k b → Covered (j + k) (a ++ b)
   append_covered j k a b x y = record {
     number = omega (arith, count-append a b, x.number, y.number);
     null = null_append a b x.null y.null;
   }
 
+  -- sources that give so many nulls give an equal number
   pub as_covered : (j k : ℕ) (a : List FlowSource) → j ≡ k → Covered j a → Covered k a
   as_covered j k a e x = record { number = x.number ∙ e; null = x.null }
 
   -- PIECES
 
+  -- a null under a guard is there where the guard is met
   pub null_covered : (a : ℕ → ℕ → ℕ) (g : Option Guard) (p : ℕ) → h p ≡ gives regs h a (null_under g)
       → Covered (bit (met h g)) (Node p ∷ [])
   null_covered a g p e = one_covered p _ (nothing_nulled (met h g) (h p) e)
 
+  -- a copy of nulls under a guard is there where they are and the guard is met
   pub copy_covered : (a : ℕ → ℕ → ℕ) (g : Option Guard) (p k : ℕ) (ms : List FlowSource) → k ≤ 1 → Covered k ms
       → h p ≡ gives regs h a (copy_under g ms)
       → Covered (cond (met h g) k 0) (Node p ∷ [])
@@ -239,6 +254,7 @@ module _ (regs : ℕ → ℕ) (h : ℕ → Answer) where
       one_covered p _ (null_if (met h g) (h p) (first regs h ms) k e
       (record { there = here_count ms (omega (arith, c.number)) ∙ c.number; null = first_null ms c.null }))
 
+  -- a join of a source with nulls under a guard is there where both are and the guard is met
   pub both_covered : (a : ℕ → ℕ → ℕ) (g : Option Guard) (p k : ℕ) (l ms : List FlowSource) → k ≤ 1
       → Covered k ms → h p ≡ gives regs h a (both_under g l ms)
       → Covered (cond (met h g) (all_there (here l) k) 0) (Node p ∷ [])
@@ -255,6 +271,7 @@ module _ (regs : ℕ → ℕ) (h : ℕ → Answer) where
   EachCovered c [] = Unit {0}
   EachCovered c (s ∷ rest) = Covered (1 - present (got regs h s)) (c s) × EachCovered c rest
 
+  -- the joins of the covers of some sources give one null where no source is there
   pub pairs_covered : (c : Cover) (f : Computes) (p : ℕ) (s : FlowSource) (rest : List FlowSource)
       → EachCovered c (s ∷ rest)
       → Obeys regs f h p (pairs c p s rest) → Covered (1 - here (s ∷ rest)) (top_of c p s rest)
@@ -269,6 +286,7 @@ module _ (regs : ℕ → ℕ) (h : ℕ → Answer) where
       as_covered _ _ (Node p ∷ []) (ap (λ (i : ℕ). all_there i (1 - here (t ∷ rest))) e
       ∙ lack_more (got regs h s) (first regs h (t ∷ rest))) w
 
+  -- the nodes of a list of sources give one null where no source is there
   pub list_covered : (c : Cover) (f : Computes) (p : ℕ) (ss : List FlowSource) → EachCovered c ss
       → Obeys regs f h p (list_nodes c p ss) → Covered (1 - here ss) (list_top c p ss)
   list_covered c f p [] k o = null_covered (f p (null_under None)) None p o.0
@@ -292,6 +310,7 @@ module _ (regs : ℕ → ℕ) (h : ℕ → Answer) where
       copy_covered (f p (copy_under None (Node (suc p) ∷ m ∷ ms))) None p _ (Node (suc p) ∷ m ∷ ms)
       (omega arith) all o.0
 
+  -- the nodes for a guard give one null where the guard is not met
   pub guard_covered : (f : Computes) (p : ℕ) (s : Bool) (y : ℕ) (ms : List FlowSource) → (h y ≢ Some Null)
       → Covered (1 - present (h y)) ms → Obeys regs f h p (guard_group p s y ms)
       → Covered (1 - bit (met h (Some (guard_on s y)))) (Node p ∷ [])
@@ -299,6 +318,7 @@ module _ (regs : ℕ → ℕ) (h : ℕ → Answer) where
 
   -- NODES
 
+  -- a node has a token where its guard is met and each operand that it takes is there
   pub node_there : (a : ℕ → ℕ → ℕ) (x : ℕ) (n : FlowNode) → h x ≡ gives regs h a n
       → present (h x) ≡ cond (met h n.guard)
       (all_there (cond (takes_left (role_of n.op)) (here n.left) 1)

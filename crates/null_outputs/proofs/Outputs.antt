@@ -52,6 +52,7 @@ module _ (sure : Sure) (want : Want) (b : FlowBlock) where
   source_fits form.Branch n j k l = All-nil (FitsFlowSource b)
   source_fits form.Constant n j k l = All-nil (FitsFlowSource b)
 
+  -- the stores of a number are nodes of the block
   pub stores_fit : (j : ℕ) (ns : List FlowNode) (k : ℕ) → j + length ns ≤ length b.nodes
       → All (FitsFlowSource b) (stores_of j ns k)
   stores_fit j [] k l = All-nil (FitsFlowSource b)
@@ -87,6 +88,7 @@ module _ (sure : Sure) (want : Want) (b : FlowBlock) where
     count_source form.Branch n j k = refl
     count_source form.Constant n j k = refl
 
+    -- the stores of a number are there as often as the number has tokens
     pub count_stores : (j : ℕ) (ns : List FlowNode) (k : ℕ) → count regs h (stores_of j ns k) ≡ tokens h j ns k
     count_stores j [] k = refl
     count_stores j (n ∷ ns) k =
@@ -115,6 +117,7 @@ module _ (sure : Sure) (want : Want) (b : FlowBlock) where
     masked_numbered form.Branch n t k m e = refl
     masked_numbered form.Constant n t k m e = refl
 
+    -- a number outside the mask has no token
     pub masked_tokens : (j : ℕ) (ns : List FlowNode) (k : ℕ) → EachMasked b ns → in_mask b.mask k ≡ false
         → tokens h j ns k ≡ 0
     masked_tokens j [] k m e = refl
@@ -162,6 +165,7 @@ module _ (sure : Sure) (want : Want) (b : FlowBlock) (regs : ℕ → ℕ) (h : �
       → Obeys regs f h p (cond s [] (list_nodes (cover sure want b) p ss))
       → Covered regs h (1 - here regs h ss) (cond s [] (list_top (cover sure want b) p ss))
 
+  -- how many tokens a number of the mask wants
   abbrev pub lack : ℕ → ℕ
   lack k = cond (number_open sure b k) (1 - here regs h (stores_of 0 b.nodes k)) 0
 
@@ -172,6 +176,7 @@ module _ (sure : Sure) (want : Want) (b : FlowBlock) (regs : ℕ → ℕ) (h : �
     pub acts : fired regs h ns ≡ []
     pub hollow : (q : ℕ) → Hollow (stores regs h ns q)
 
+  -- nodes behind nodes give the tokens of both
   pub does_append : (p i : ℕ) (xs ys : List FlowNode) (x y : ℕ → ℕ) → p + length xs ≡ i → Does p xs x
       → Does i ys y → Does p (xs ++ ys) (λ q. x q + y q)
   does_append p i xs ys x y e c d = record {
@@ -184,6 +189,7 @@ module _ (sure : Sure) (want : Want) (b : FlowBlock) (regs : ℕ → ℕ) (h : �
         (hollow_or (stores regs h xs q) (stores regs h ys q) (c.hollow q) (d.hollow q));
   }
 
+  -- quiet nodes give no number a token
   pub does_quiet : (p : ℕ) (ns : List FlowNode) → AllQuiet ns → Does p ns (λ q. 0)
   does_quiet p ns z = record {
     gets = λ q. quiet_tokens regs h ns z p q;
@@ -259,6 +265,7 @@ module _ (sure : Sure) (want : Want) (b : FlowBlock) (regs : ℕ → ℕ) (h : �
       (numbers_does ready wants m (p + number_size sure want b k) (suc k)
       (obeys_back regs h f p (number_part sure want b p k) _ o _ i))
 
+  -- the nodes for some numbers give no token to others
   pub lacks_out : (m k q : ℕ) → (q < k) ⊎ (k + m ≤ q) → lacks_from k m q ≡ 0
   lacks_out zero k q out = refl
   lacks_out (suc m) k q out =
@@ -278,6 +285,7 @@ module _ (sure : Sure) (want : Want) (b : FlowBlock) (regs : ℕ → ℕ) (h : �
       zero_at true f = absurd (f refl)
       zero_at false f = refl
 
+  -- the nodes for some numbers give each the token that it wants
   pub lacks_in : (m k q : ℕ) → k ≤ q → q < k + m → lacks_from k m q ≡ lack q
   lacks_in zero k q l g = absurd (omega (arith, l, g))
   lacks_in (suc m) k q l g = go (nat_eq k q) refl (λ d. lacks_in m (suc k) q (omega (arith, l, d)) (omega (arith, g)))
@@ -295,6 +303,7 @@ module _ (sure : Sure) (want : Want) (b : FlowBlock) (regs : ℕ → ℕ) (h : �
   abbrev pub all_lacks : ℕ → ℕ
   all_lacks q = lacks_from 0 32 q
 
+  -- the nodes for all numbers give each the token that it wants
   pub all_numbers_do : Ready → ((k : ℕ) → number_open sure b k ≡ true → EachWanted want (sources k)) → (p : ℕ)
       → p ≡ numbers_at sure want b → Obeys regs f h p (all_numbers sure want b)
       → Does p (all_numbers sure want b) (lacks_from 0 32)

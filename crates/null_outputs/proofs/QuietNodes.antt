@@ -26,6 +26,7 @@ pub record Quiet (n : FlowNode) : Type 0 where
   pub form : form_of n.op ≡ General
   pub calm : divides n.op ≡ false
 
+-- each of some nodes stores nothing, leaves by no exit and does nothing that can fault
 abbrev pub AllQuiet : List FlowNode → Type 0
 AllQuiet [] = Unit {0}
 AllQuiet (n ∷ ns) = Quiet n × AllQuiet ns
@@ -42,6 +43,7 @@ pairs_quiet : (c : Cover) (p : ℕ) (s : FlowSource) (rest : List FlowSource) �
 pairs_quiet c p s [] = tt
 pairs_quiet c p s (t ∷ rest) = (record { form = refl; calm = refl }, pairs_quiet c (suc p) t rest)
 
+-- the nodes of a list of sources are quiet
 pub nodes_quiet : (c : Cover) (p : ℕ) (ss : List FlowSource) → AllQuiet (list_nodes c p ss)
 nodes_quiet c p [] = (record { form = refl; calm = refl }, tt)
 nodes_quiet c p (s ∷ rest) = pairs_quiet c p s rest
@@ -50,23 +52,28 @@ group_quiet : (p : ℕ) (s : Bool) (y : ℕ) (ms : List FlowSource) → AllQuiet
 group_quiet p s y [] = (record { form = refl; calm = refl }, tt)
 group_quiet p s y (m ∷ ms) = (record { form = refl; calm = refl }, (record { form = refl; calm = refl }, tt))
 
+-- the nodes for a guard are quiet
 pub guard_quiet : (want : Want) (nodes : List FlowNode) (c : Cover) (s : Bool) (p j : ℕ) (n : FlowNode)
     → AllQuiet (guard_part want nodes c s p j n)
 guard_quiet want nodes c s p j n = quiet_if (is_used want 0 nodes s j) _ [] (group_quiet p s j (c (Node j))) tt
 
+-- the nodes for a left operand are quiet
 pub left_quiet : (sure : Sure) (want : Want) (c : Cover) (p j : ℕ) (n : FlowNode)
     → AllQuiet (left_part sure want c p j n)
 left_quiet sure want c p j n = quiet_if (left_needed sure want j n) _ []
     (record { form = refl; calm = refl }, nodes_quiet c (suc p) n.left) tt
 
+-- the nodes for a right operand are quiet
 pub right_quiet : (sure : Sure) (want : Want) (c : Cover) (p j : ℕ) (n : FlowNode)
     → AllQuiet (right_part sure want c p j n)
 right_quiet sure want c p j n = quiet_if (right_needed sure want j n) _ []
     (record { form = refl; calm = refl }, nodes_quiet c (suc p) n.right) tt
 
+-- the nodes of a list of sources that may be sure are quiet
 pub list_quiet : (c : Cover) (p : ℕ) (s : Bool) (ss : List FlowSource) → AllQuiet (cond s [] (list_nodes c p ss))
 list_quiet c p s ss = quiet_if s [] _ tt (nodes_quiet c p ss)
 
+-- a region of quiet groups is quiet
 pub region_quiet : {A : Type 0} (part : ℕ → ℕ → A → List FlowNode) (size : ℕ → A → ℕ)
     → ((p j : ℕ) (x : A) → AllQuiet (part p j x))
     → (p j : ℕ) (xs : List A) → AllQuiet (region part size p j xs)
@@ -77,6 +84,7 @@ region_quiet part size q p j (x ∷ rest) =
 module _ (regs : ℕ → ℕ) (h : ℕ → Answer) where
   -- LISTS PUT TOGETHER
 
+  -- nodes behind nodes give a number the tokens of both
   pub tokens_append : (j i : ℕ) (a b : List FlowNode) (k : ℕ) → j + length a ≡ i
       → tokens h j (a ++ b) k ≡ tokens h j a k + tokens h i b k
   tokens_append j i [] b k e = let e2 : j ≡ i = omega (arith, e) in
@@ -87,6 +95,7 @@ module _ (regs : ℕ → ℕ) (h : ℕ → Answer) where
   append_again [] b c = refl
   append_again (x ∷ a) b c = ap (λ (l : _). x ∷ l) (append_again a b c)
 
+  -- nodes behind nodes have the exits of both, in this order
   pub exits_append : (j i : ℕ) (a b : List FlowNode) → j + length a ≡ i
       → exits h j (a ++ b) ≡ exits h j a ++ exits h i b
   exits_append j i [] b e = let e2 : j ≡ i = omega (arith, e) in ap (λ (z : ℕ). exits h z b) e2
@@ -95,6 +104,7 @@ module _ (regs : ℕ → ℕ) (h : ℕ → Answer) where
       (exits_append (suc j) i a b (omega (arith, e)))
       ∙ sym (append_again (leaving_in (form_of n.op) n (h j)) (exits h (suc j) a) (exits h i b))
 
+  -- nodes behind nodes do the acts of both, in this order
   pub fired_append : (a b : List FlowNode) → fired regs h (a ++ b) ≡ fired regs h a ++ fired regs h b
   fired_append [] b = refl
   fired_append (n ∷ a) b =
@@ -106,6 +116,7 @@ module _ (regs : ℕ → ℕ) (h : ℕ → Answer) where
   or_again None b c = refl
   or_again (Some t) b c = refl
 
+  -- nodes behind nodes store under a number what the first do, or else the others
   pub stores_append : (a b : List FlowNode) (k : ℕ)
       → stores regs h (a ++ b) k ≡ or_else (stores regs h a k) (stores regs h b k)
   stores_append [] b k = refl
@@ -113,12 +124,14 @@ module _ (regs : ℕ → ℕ) (h : ℕ → Answer) where
       ap (or_else (stored_in (form_of n.op) regs h n k)) (stores_append a b k)
       ∙ sym (or_again (stored_in (form_of n.op) regs h n k) (stores regs h a k) (stores regs h b k))
 
+  -- a list with nothing behind it is the list
   pub append_end : {A : Type 0} (a b : List A) → b ≡ [] → a ++ b ≡ a
   append_end [] b e = e
   append_end (x ∷ a) b e = ap (λ (l : _). x ∷ l) (append_end a b e)
 
   -- QUIET NODES
 
+  -- quiet nodes give no number a token
   pub quiet_tokens : (ns : List FlowNode) → AllQuiet ns → (j k : ℕ) → tokens h j ns k ≡ 0
   quiet_tokens [] q j k = refl
   quiet_tokens (n ∷ ns) q j k =
@@ -130,6 +143,7 @@ module _ (regs : ℕ → ℕ) (h : ℕ → Answer) where
   general_leaves n None = refl
   general_leaves n (Some t) = refl
 
+  -- quiet nodes have no exit
   pub quiet_exits : (ns : List FlowNode) → AllQuiet ns → (j : ℕ) → exits h j ns ≡ []
   quiet_exits [] q j = refl
   quiet_exits (n ∷ ns) q j =
@@ -148,6 +162,7 @@ module _ (regs : ℕ → ℕ) (h : ℕ → Answer) where
   no_act true l e = e
   no_act false l e = refl
 
+  -- quiet nodes do no act
   pub quiet_fired : (ns : List FlowNode) → AllQuiet ns → fired regs h ns ≡ []
   quiet_fired [] q = refl
   quiet_fired (n ∷ ns) q =
@@ -156,6 +171,7 @@ module _ (regs : ℕ → ℕ) (h : ℕ → Answer) where
       ∙ general_acts n (q.0).calm (first regs h n.left) (first regs h n.right) in
       ap (λ (l : List Act). l ++ fired regs h ns) (no_act (met h n.guard) _ e) ∙ quiet_fired ns q.1
 
+  -- quiet nodes store nothing
   pub quiet_stores : (ns : List FlowNode) → AllQuiet ns → (k : ℕ) → stores regs h ns k ≡ None
   quiet_stores [] q k = refl
   quiet_stores (n ∷ ns) q k =

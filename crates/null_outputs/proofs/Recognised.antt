@@ -108,18 +108,22 @@ sure_same nodes firm g ss e =
     or_right (has (close firm 0 nodes (scopes nodes firm ss)) None) _
     (reaches_has nodes (close firm 0 nodes (scopes nodes firm ss)) (length nodes) g e)
 
+-- a list is found sure where one of its scopes is the guard's
 pub recognises_scope : RecognisesScope
 recognises_scope nodes firm g ss e = sure_same nodes firm g ss (close_keeps firm 0 nodes (scopes nodes firm ss) g e)
 
+-- a list is found sure where one of its scopes has no condition
 pub recognises_always : RecognisesAlways
 recognises_always nodes firm g ss e =
     or_left (has (close firm 0 nodes (scopes nodes firm ss)) None) _
     (close_keeps firm 0 nodes (scopes nodes firm ss) None e)
 
+-- a list is found sure where it has both senses of a firm node whose scope is the guard's
 pub recognises_both : RecognisesBoth
 recognises_both nodes firm x n ss e f t u =
     sure_same nodes firm n.guard ss (close_makes firm 0 nodes (scopes nodes firm ss) x n x (omega arith) e f t u)
 
+-- a firm node gives its guard
 pub has_scope : HasScope
 has_scope nodes firm y n ss e f = go ss
   where

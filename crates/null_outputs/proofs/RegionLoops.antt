@@ -51,6 +51,7 @@ module _ {A : Type 0} (part : ℕ → ℕ → A → List FlowNode) (size : ℕ �
       ap₂ (λ (xs : List FlowNode) (q : ℕ). xs ++ region part size q (suc j) rest) e l
       ∙ append_assoc out (part (base + length out) j x) (region part size (base + length out + size j x) (suc j) rest)
 
+  -- a turn over a region puts the group of an item behind those before, and the whole stays the same
   pub region_turn : (all : List A) (out new : List FlowNode) (p j k : ℕ) (x : A) → k < length all → x ≡ get_or all k x
       → p ≡ base + length out → new ≡ out ++ part p j x
       → new ++ region part size (base + length new) (j + 1) (drop (k + 1) all)

@@ -24,10 +24,12 @@ pairs_length : (c : Cover) (p : ℕ) (s : FlowSource) (rest : List FlowSource) �
 pairs_length c p s [] = refl
 pairs_length c p s (t ∷ rest) = let e = pairs_length c (suc p) t rest in omega (arith, e)
 
+-- the nodes of a list of sources are as many as its size says
 pub nodes_length : (c : Cover) (p : ℕ) (ss : List FlowSource) → length (list_nodes c p ss) ≡ list_size ss
 nodes_length c p [] = refl
 nodes_length c p (s ∷ rest) = pairs_length c p s rest
 
+-- a list that is left out where a test fails has its length or none
 pub cond_length : {A : Type 0} (b : Bool) (xs : List A) (k : ℕ) → length xs ≡ k → length (cond b xs []) ≡ cond b k 0
 cond_length true xs k e = e
 cond_length false xs k e = refl
@@ -58,6 +60,7 @@ one_length : (b : Bool) (p q : ℕ) → length (one_if b p) ≡ length (one_if b
 one_length true p q = refl
 one_length false p q = refl
 
+-- a cover has as many sources wherever groups stand
 pub cover_length : (sure : Sure) (at : Places) (y : ℕ) (n : Option FlowNode)
     → length (cover_at sure at y n) ≡ length (cover_at sure nowhere y n)
 cover_length sure at y None = refl
@@ -81,6 +84,7 @@ cover_length sure at y (Some n) =
       length-append v w,
     )
 
+-- lists of one length take groups of one size
 pub guard_same : (xs ys : List FlowSource) → length xs ≡ length ys → guard_size xs ≡ guard_size ys
 guard_same [] [] e = refl
 guard_same [] (y ∷ ys) e = absurd (omega (arith, e))
@@ -130,6 +134,7 @@ module _ (regs : ℕ → ℕ) (h : ℕ → Answer) (f : Computes) where
   obeys_back j [] b r k e = let e2 : j ≡ k = omega (arith, e) in subst (λ (i : ℕ). Obeys regs f h i b) e2 r
   obeys_back j (n ∷ a) b r k e = obeys_back (suc j) a b r.1 k (omega (arith, e))
 
+  -- a table that agrees with nodes agrees with each of them
   pub obeys_at : (j : ℕ) (ns : List FlowNode) → Obeys regs f h j ns → (y : ℕ) (n : FlowNode) (i : ℕ) → i ≡ j + y
       → slice_get ns y ≡ Some n
       → h i ≡ gives regs h (f i n) n
@@ -142,6 +147,7 @@ module _ (regs : ℕ → ℕ) (h : ℕ → Answer) (f : Computes) where
 
 module _ {A : Type 0} (part : ℕ → ℕ → A → List FlowNode) (size : ℕ → A → ℕ)
     (fits : (p j : ℕ) (x : A) → length (part p j x) ≡ size j x) where
+  -- a region ends where its sizes say
   pub region_end : (p j : ℕ) (xs : List A) → p + length (region part size p j xs) ≡ end_of size p j xs
   region_end p j [] = omega arith
   region_end p j (x ∷ rest) =
@@ -151,6 +157,7 @@ module _ {A : Type 0} (part : ℕ → ℕ → A → List FlowNode) (size : ℕ �
       omega (arith, a, b) ∙ e
 
   module _ (regs : ℕ → ℕ) (h : ℕ → Answer) (f : Computes) where
+    -- a table that agrees with a region agrees with each of its groups
     pub region_obeys : (p j : ℕ) (xs : List A) → Obeys regs f h p (region part size p j xs)
         → (y : ℕ) (x : A) (i : ℕ) → i ≡ j + y → slice_get xs y ≡ Some x
         → Obeys regs f h (start_of size p j xs i) (part (start_of size p j xs i) i x)
@@ -179,6 +186,7 @@ module _ {A : Type 0} (part : ℕ → ℕ → A → List FlowNode) (size : ℕ �
         at_false true e p q P x = absurd (cc)
         at_false false e p q P x = x
 
+    -- a table that agrees with a region and what stands behind it agrees with that
     pub region_rest : (p j : ℕ) (xs : List A) (ns : List FlowNode)
         → Obeys regs f h p (region part size p j xs ++ ns) → Obeys regs f h (end_of size p j xs) ns
     region_rest p j xs ns o = obeys_back regs h f p (region part size p j xs) ns o _ (region_end p j xs)

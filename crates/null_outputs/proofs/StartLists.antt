@@ -12,6 +12,7 @@ other_eq i j e = grind (arith, nat_tests)
 pick : (b c : Bool) (p q : ℕ) → b ≡ c → cond b p q ≡ cond c p q
 pick b c p q e = ap (λ (x : Bool). cond x p q) e
 
+-- where a group begins is in the list of beginnings, at its number
 pub starts_are_listed : {A : Type 0} (size : ℕ → A → ℕ) (p j : ℕ) (xs : List A) (y i : ℕ) → i ≡ j + y
     → start_of size p j xs i ≡ get_or (starts size p j xs) y (end_of size p j xs)
 starts_are_listed size p j [] y i e = refl

@@ -24,6 +24,7 @@ use Rattle.null_outputs.proofs.NullsOnPaths.{pairs_covered, list_covered}
 use Rattle.null_outputs.proofs.Spaces.{obeys_front, obeys_back}
 use Rattle.null_outputs.proofs.Covers.{both_true, used_wants, Known, all_at, number_covered, sources_covered}
 
+-- nothing is not something
 pub some_differs : {A : Type 0} (x : A) → None ≢ Some x
 some_differs x e = absurd (cc)
 
@@ -41,10 +42,12 @@ module _ (regs : ℕ → ℕ) (h : ℕ → Answer) where
     pub left : count regs h n.left ≤ 1
     pub right : count regs h n.right ≤ 1
 
+  -- each of some nodes is tidy
   abbrev pub AllTidy : List FlowNode → Type 0
   AllTidy [] = Unit {0}
   AllTidy (n ∷ ns) = TidyNode n × AllTidy ns
 
+  -- tidy nodes behind tidy ones are tidy
   pub tidy_append : (a b : List FlowNode) → AllTidy a → AllTidy b → AllTidy (a ++ b)
   tidy_append [] b x y = y
   tidy_append (n ∷ a) b x y = (x.0, tidy_append a b x.1 y)
@@ -65,11 +68,13 @@ module _ (regs : ℕ → ℕ) (h : ℕ → Answer) where
     pairs_tidy c f (suc p) t rest k.1 o.1,
   )
 
+  -- the nodes of a list of sources are tidy
   pub list_tidy : (c : Cover) (f : Computes) (p : ℕ) (ss : List FlowSource) → EachCovered regs h c ss
       → Obeys regs f h p (list_nodes c p ss) → AllTidy (list_nodes c p ss)
   list_tidy c f p [] k o = (record { clear = some_differs Null; left = omega arith; right = omega arith }, tt)
   list_tidy c f p (s ∷ rest) k o = pairs_tidy c f p s rest k o
 
+  -- the top nodes of a list of sources give at most one token
   pub list_low : (c : Cover) (f : Computes) (p : ℕ) (ss : List FlowSource) → EachCovered regs h c ss
       → Obeys regs f h p (list_nodes c p ss) → count regs h (list_top c p ss) ≤ 1
   list_low c f p ss k o = low _ (list_top c p ss) (omega arith) (list_covered regs h c f p ss k o)
@@ -127,6 +132,7 @@ module _ (regs : ℕ → ℕ) (h : ℕ → Answer) (f : Computes) (b : FlowBlock
       → Obeys regs f h p ns
   when_true t p ns o e = subst (λ (u : Bool). Obeys regs f h p (cond u ns [])) e o
 
+  -- the nodes for a guard are tidy
   pub guard_tidy : (s : Bool) (p y : ℕ) (n : FlowNode) → slice_get b.nodes y ≡ Some n
       → Obeys regs f h p (guard_part want b.nodes c s p y n) → AllTidy regs h (guard_part want b.nodes c s p y n)
   guard_tidy s p y n e o =
@@ -135,6 +141,7 @@ module _ (regs : ℕ → ℕ) (h : ℕ → Answer) (f : Computes) (b : FlowBlock
       (number_covered regs h f b sure want at rank k y n e (used_wants sure want b k.closed s y u))
       (when_true (is_used want 0 b.nodes s y) p _ o u))
 
+  -- the nodes for a left operand are tidy
   pub left_tidy : (p y : ℕ) (n : FlowNode) → slice_get b.nodes y ≡ Some n
       → Obeys regs f h p (left_part sure want c p y n) → AllTidy regs h (left_part sure want c p y n)
   left_tidy p y n e o =
@@ -152,6 +159,7 @@ module _ (regs : ℕ → ℕ) (h : ℕ → Answer) (f : Computes) (b : FlowBlock
         list_tidy regs h c f (suc p) n.left each o2.1,
       ))
 
+  -- the nodes for a right operand are tidy
   pub right_tidy : (p y : ℕ) (n : FlowNode) → slice_get b.nodes y ≡ Some n
       → Obeys regs f h p (right_part sure want c p y n) → AllTidy regs h (right_part sure want c p y n)
   right_tidy p y n e o =
@@ -169,6 +177,7 @@ module _ (regs : ℕ → ℕ) (h : ℕ → Answer) (f : Computes) (b : FlowBlock
         list_tidy regs h c f (suc p) n.right each o2.1,
       ))
 
+  -- a region of tidy groups is tidy
   pub region_tidy : {A : Type 0} (part : ℕ → ℕ → A → List FlowNode) (size : ℕ → A → ℕ)
       → ((p j : ℕ) (x : A) → length (part p j x) ≡ size j x) → (all : List A)
       → ((p j : ℕ) (x : A) → slice_get all j ≡ Some x → Obeys regs f h p (part p j x) → AllTidy regs h (part p j x))
@@ -184,6 +193,7 @@ module _ (regs : ℕ → ℕ) (h : ℕ → Answer) (f : Computes) (b : FlowBlock
       (λ i y z ez d. at (suc i) y z (omega (arith, ez)) d)
       (obeys_back regs h f p (part p j x) _ o _ (omega (arith, e))))
 
+  -- the nodes for an output are tidy
   pub output_tidy : (p : ℕ) (s : Bool) (ss : List FlowSource) → All (FitsFlowSource b) ss
       → (s ≡ false → EachWanted want ss) → Obeys regs f h p (cond s [] (list_nodes c p ss))
       → AllTidy regs h (cond s [] (list_nodes c p ss))

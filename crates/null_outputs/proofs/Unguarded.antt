@@ -293,6 +293,7 @@ module _ (b : FlowBlock) (st : IsStraight b) where
       (ap (λ (t : Bool). w.sources ++ cond t [] (list_top c p w.sources)) (f zero w refl) ∙ no_end w.sources)
       (filled_same (p + write_size (sure_by b) (want_by b) b j w) (suc j) xs (λ i x e. f (suc i) x e))
 
+  -- a block whose outputs hang on unguarded nodes stays as it is
   pub stays : complete b ≡ b
   stays =
       ap₂ (λ (ns : List FlowNode) (ws : List FlowWrite).

@@ -382,6 +382,7 @@ module _ (r : Immediates) where
   one_masked Store b n m = m
   one_masked _ b n m = tt
 
+  -- each store's number is still in the mask with new immediates
   pub each_masked : (b : FlowBlock) (ns : List FlowNode) → EachMasked b ns
       → EachMasked (with_immediates r b) (map new ns)
   each_masked b [] m = tt

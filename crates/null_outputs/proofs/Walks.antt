@@ -10,28 +10,34 @@ other_eq : (i j : ℕ) → j < i → nat_eq i j ≡ false
 other_eq i j e = grind (arith, nat_tests)
 
 module _ {X : Type 0} (Q : ℕ → X → Type 0) where
+  -- something holds of each item of a list, at its place
   abbrev pub Each : ℕ → List X → Type 0
   Each p [] = Unit {0}
   Each p (x ∷ xs) = Q p x × Each (suc p) xs
 
+  -- what holds of each item of two lists holds of each of both together
   pub each_append : (p i : ℕ) (a b : List X) → p + length a ≡ i → Each p a → Each i b → Each p (a ++ b)
   each_append p i [] b e x y = let d : i ≡ p = omega (arith, e) in subst (λ (z : ℕ). Each z b) d y
   each_append p i (n ∷ a) b e x y = (x.0, each_append (suc p) i a b (omega (arith, e)) x.1 y)
 
+  -- what holds of each item of two lists together holds of each of the first
   pub each_front : (p : ℕ) (a b : List X) → Each p (a ++ b) → Each p a
   each_front p [] b r = tt
   each_front p (n ∷ a) b r = (r.0, each_front (suc p) a b r.1)
 
+  -- what holds of each item of two lists together holds of each of the second
   pub each_back : (p : ℕ) (a b : List X) → Each p (a ++ b) → (k : ℕ) → p + length a ≡ k → Each k b
   each_back p [] b r k e = let e2 : p ≡ k = omega (arith, e) in subst (λ (i : ℕ). Each i b) e2 r
   each_back p (n ∷ a) b r k e = each_back (suc p) a b r.1 k (omega (arith, e))
 
+  -- what holds of each item holds of the one at a place
   pub each_at : (p : ℕ) (xs : List X) → Each p xs → (y : ℕ) (x : X) (i : ℕ) → i ≡ p + y
       → slice_get xs y ≡ Some x → Q i x
   each_at p [] o y x i e s = absurd (cc)
   each_at p (m ∷ xs) o zero x i e s = subst (λ (k : ℕ). Q k x) (omega (arith, e)) (subst (Q p) (some_is m x s) o.0)
   each_at p (m ∷ xs) o (suc y) x i e s = each_at (suc p) xs o.1 y x i (omega (arith, e)) s
 
+  -- what holds of the item at each place holds of each
   pub each_of : (p : ℕ) (xs : List X) → ((y : ℕ) (x : X) (i : ℕ) → i ≡ p + y → slice_get xs y ≡ Some x → Q i x)
       → Each p xs
   each_of p [] f = tt
@@ -42,6 +48,7 @@ module _ {X : Type 0} (Q : ℕ → X → Type 0) where
 
   module _ {A : Type 0} (part : ℕ → ℕ → A → List X) (size : ℕ → A → ℕ)
       (fits : (p j : ℕ) (x : A) → length (part p j x) ≡ size j x) where
+    -- a region of items ends where its sizes say
     pub spread_end : (p j : ℕ) (xs : List A) → p + length (region part size p j xs) ≡ end_of size p j xs
     spread_end p j [] = omega arith
     spread_end p j (x ∷ rest) =

@@ -136,6 +136,7 @@ all_closed sure b = record {
   numbers = λ k o. all_wanted (stores_of 0 b.nodes k);
 }
 
+-- the covers that are made are closed under what they need
 pub want_is_closed : (b : FlowBlock) → Closed (sure_by b) (want_by b) b
 want_is_closed b = go (is_closed (sure_by b) (found_wants b) b) refl
   where

@@ -13,14 +13,7 @@ use crate::surely::sure;
 use base::{Items, Memory};
 use ir_forms::{FlowBlock, FlowNode, FlowSource};
 use std::alloc::Global;
-use trips_isa::{Form, form_of};
-
-/// Whether the mask has a number.
-pub fn in_mask(mask: u32, k: u8) -> bool
-    ensures { result ≡ fits.in_mask mask k }
-{
-    if k < 32 { (mask >> k) & 1 == 1 } else { false }
-}
+use trips_isa::{Form, form_of, in_mask};
 
 // Whether a node is a store of number k.
 fn is_store_of(n: &FlowNode, k: u8) -> bool

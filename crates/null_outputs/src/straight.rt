@@ -2,12 +2,12 @@
 ghost use Rattle.std.specs.Prelude.{◌≡◌, ◌+◌, ◌≤◌, IfOk, length, ◌<◌, ◌^◌, drop};
 ghost use Rattle.null_outputs.specs.inside.Tested as tested;
 
-use crate::numbers::{in_mask, stores_of};
+use crate::numbers::stores_of;
 use crate::surely::{takes_left, takes_right};
 use base::Memory;
 use ir_forms::{FlowBlock, FlowNode, FlowSource, FlowWrite, Guard};
 use std::alloc::Global;
-use trips_isa::role_of;
+use trips_isa::{in_mask, role_of};
 
 // Whether a source stands before node y.
 fn is_before(y: usize, s: FlowSource) -> bool

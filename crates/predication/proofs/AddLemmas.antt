@@ -5,10 +5,12 @@ use Rattle.ir_forms.specs.declared.flow.FlowNode.{FlowNode}
 use Rattle.predication.specs.declared.work.Work.{Work}
 use Rattle.predication.specs.inside.Emits.{Adds, low}
 
+-- nodes put behind nodes twice are those put behind together
 pub more_nodes : (a x y : List FlowNode) → (a ++ map low x) ++ map low y ≡ a ++ map low (x ++ y)
 more_nodes a x y =
     append_assoc a (map low x) (map low y) ∙ ap (λ (l : List FlowNode). a ++ l) (sym (map-append low x y))
 
+-- nodes behind nodes are as many as both together
 pub count_more : (a x : List FlowNode) → length (a ++ map low x) ≡ length a + length x
 count_more a x = length-append a (map low x) ∙ ap (λ (n : ℕ). length a + n) (length-map x low)
 
@@ -24,9 +26,11 @@ same_work a b e f =
 pub adds_nodes : (a b : Work) (x : List FlowNode) → Adds a b x → b.nodes ≡ a.nodes ++ map low x
 adds_nodes a b x p = ap (λ (w : Work). w.nodes) p
 
+-- more nodes leave the next number as it is
 pub adds_number : (a b : Work) (x : List FlowNode) → Adds a b x → b.number ≡ a.number
 adds_number a b x p = ap (λ (w : Work). w.number) p
 
+-- nodes added twice are added together
 pub adds_two : (a b c : Work) (x y : List FlowNode) → Adds a b x → Adds b c y → Adds a c (x ++ y)
 adds_two a b c x y p q =
     same_work c (record a { nodes = a.nodes ++ map low (x ++ y) })

@@ -56,6 +56,8 @@ exits_stay : (f : ℕ → ℕ) (t : Tail) → exits_in (tail_with f t) ≡ exits
 exits_stay f (Leave e) = refl
 exits_stay f (Test t one other) = let a = exits_stay f one in let b = exits_stay f other in omega (arith, a, b)
 
+-- a block that holds its labels is taken with addresses in their place, in every layout whose addresses are
+-- short
 pub takes_addressed : TakesAddressed
 takes_addressed at b low fits room = record {
   fits = record { items = fits.items; tail = tail_fits at b.tail low fits.tail };
@@ -64,6 +66,7 @@ takes_addressed at b low fits room = record {
 
 -- WHAT IT MEANS
 
+-- the converted block leaves the registers, the memory and the exit of the hyper block, and does its acts
 pub converts_meaning : ConvertsMeaning
 converts_meaning at b low fits room m h ws o =
     let t = takes_addressed at b low fits room in

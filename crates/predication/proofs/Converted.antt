@@ -47,6 +47,7 @@ use Rattle.predication.proofs.Numbers.{Rises, rises_append, quiet_rises, items_r
 use Rattle.predication.proofs.Numbers.{tokens_most, runs_of}
 use Rattle.predication.proofs.Tails.{items_inner, tail_quiet, TailOn, tail_on}
 
+-- the numbers of loads and stores of a converted block rise from 0 up to its count
 pub block_rises : (b : Block) → FitsHyper b → Rises 0 (all_nodes b) (begun b).number
 block_rises b t =
     rises_append 0 (begun b).number (begun b).number (begun b).nodes _
@@ -54,6 +55,7 @@ block_rises b t =
     (quiet_rises (begun b).number (ended b).nodes (tail_quiet b.tail None (length (begun b).nodes) 0 (begun b).env
     (begun b).bits))
 
+-- registers of two lists are below 128 where those of each are
 pub either_low : (q : ℕ) (a b : List ℕ) → (member q a ≡ true → q < 128) → (member q b ≡ true → q < 128)
     → member q (a ++ b) ≡ true → q < 128
 either_low q a b x y e = go (member q a) (member q b) x y (sym (member_append q a b) ∙ e)
@@ -86,6 +88,7 @@ exit_low (exit.Call l back) q e = cons_low q 2 [] (omega arith) (λ z. absurd (c
 exit_low exit.Return q e = absurd (cc)
 exit_low (exit.System l) q e = absurd (cc)
 
+-- a tail touches registers below 128 only
 pub tail_low : (t : Tail) (q : ℕ) → member q (tail_touched t) ≡ true → q < 128
 tail_low (Leave x) q e = exit_low x q e
 tail_low (Test t yea nay) q e = either_low q (tail_touched yea) (tail_touched nay) (tail_low yea q) (tail_low nay q) e
@@ -204,6 +207,7 @@ holds_more st mem m bytes z w (suc d) =
     subst (λ (i : ℕ). Holds st mem i bytes) e (holds_none st mem (d + m) bytes (z (d + m) (omega arith))
     (holds_more st mem m bytes z w d))
 
+-- on each path the converted block does what the hyper block does, and each output has at most one token
 pub converts_paths : ConvertsPaths
 converts_paths b t regs f h o =
     let st = stores regs h (all_nodes b) in

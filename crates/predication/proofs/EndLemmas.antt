@@ -18,6 +18,7 @@ use Rattle.predication.specs.inside.Ends.{End, behind, out_of, ends}
 use Rattle.predication.proofs.AddLemmas.{more_nodes, count_more, same_work, adds_nodes, adds_number, adds_two}
 use Rattle.predication.proofs.AddLemmas.{adds_count}
 
+-- what a list of items comes to, with the registers that it sets and its nodes
 abbrev pub end_of : Out → List ℕ → List FlowNode → End
 end_of o set ns = record { nodes = ns; env = o.env; bits = o.bits; number = o.number; sets = set }
 

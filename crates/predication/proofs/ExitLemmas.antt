@@ -77,6 +77,7 @@ branched_is w w1 w2 x g o l left p q =
     same_work w2 (record { nodes = w.nodes ++ map low (x ++ b ∷ []); number = suc w.number }) e
     (ap (λ (a : Work). a.number) q ∙ ap (λ (k : ℕ). suc k) m)
 
+-- a call that is emitted is that of the definition
 pub call_after : (g : Scope) (w w1 w2 : Work) (n : Names) (to back : ℕ) (left : List FlowSource)
     → Adds w w1 (address_of g (length w.nodes) back) → left ≡ [] → w2 ≡ branched w1 g Callo to left
     → w2 ≡ work_after w (leaving_of g w n (exit.Call to (label back)))
@@ -86,6 +87,7 @@ call_after g w w1 w2 n to back left p z q =
     ∙ ap (λ (ns : List FlowNode). record { nodes = w.nodes ++ map low ns; number = suc w.number })
     (address_is g (length w.nodes) back (branch_of Callo to w.number g [] ∷ []))
 
+-- a return that is emitted is that of the definition
 pub return_after : (g : Scope) (w w1 w2 : Work) (n : Names) (left : List FlowSource)
     → Adds w w1 (operand (length w.nodes) (env_of n.entries) (Reg 2)).nodes
     → left ≡ (operand (length w.nodes) (env_of n.entries) (Reg 2)).sources → w2 ≡ branched w1 g Ret 0 left
@@ -125,6 +127,7 @@ pub record Finished (g : Scope) (w w2 : Work) (n n2 : Names) (t : Tail) : Type 0
   pub env : env_of n2.entries ≡ (ending_of g w n t).env
   pub sets : n2.sets ≡ n.sets ++ tail_touched t
 
+-- a tail equal to one that is emitted is emitted
 pub finished : (g : Scope) (w w2 : Work) (n n2 : Names) (t t2 : Tail) → Finished g w w2 n n2 t2 → t ≡ t2
     → Finished g w w2 n n2 t
 finished g w w2 n n2 t t2 f e = subst (λ (x : Tail). Finished g w w2 n n2 x) (sym e) f
@@ -133,6 +136,7 @@ pub leave_labelled : (x : declared.Tail) (e : Exit) → x ≡ tails.Leave e
     → tail_labelled x ≡ Leave (exit_labelled e)
 leave_labelled x e q = ap (tail_with label) (ap tail_of q ∙ tail_leave e)
 
+-- an exit that is emitted is a tail that is
 pub leave_finished : (g : Scope) (w w2 : Work) (n n2 : Names) (x : declared.Tail) (e : Exit) → x ≡ tails.Leave e
     → w2 ≡ work_after w (leaving_of g w n (exit_labelled e))
     → env_of n2.entries ≡ (leaving_of g w n (exit_labelled e)).env
@@ -141,6 +145,7 @@ leave_finished g w w2 n n2 x e q a b c =
     finished g w w2 n n2 (tail_labelled x) (Leave (exit_labelled e)) (record { work = a; env = b; sets = c })
     (leave_labelled x e q)
 
+-- a test whose legs are emitted and joined is a tail that is
 pub test_finished : (g gy gn : Scope) (w wt wy wn w3 : Work) (n n3 fy sy fn sn : Names) (t : Source)
     (one other : Tail) (at : ℕ)
     → at ≡ (tested g (length w.nodes) (env_of n.entries) (bits_of n.bits) t).last
@@ -194,6 +199,7 @@ test_finished g gy gn w wt wy wn w3 n n3 fy sy fn sn t one other at ea p ey begu
 
 -- DECLARED TAILS
 
+-- the labels of a test are those of its legs
 pub test_labelled : (x : declared.Tail) (t : Source) (y n y2 n2 : declared.Tail) → x ≡ tails.Test t y n → y2 ≡ y
     → n2 ≡ n → tail_labelled x ≡ Test t (tail_labelled y2) (tail_labelled n2)
 test_labelled x t y n y2 n2 e f g =
@@ -203,6 +209,7 @@ test_labelled x t y n y2 n2 e f g =
 
 -- THE TEST OF LABELS
 
+-- a tail that leaves has labels that fit where its exit has
 pub leave_fits : (x : declared.Tail) (e : Exit) (b : Bool) → x ≡ tails.Leave e → IsTrue b ↔ NamesLabel e
     → IsTrue b ↔ NamesLabels (tail_of x)
 leave_fits x e b q h = subst (λ (z : Tail). IsTrue b ↔ NamesLabels z) (sym (ap tail_of q ∙ tail_leave e)) h

@@ -33,6 +33,7 @@ use Rattle.predication.proofs.Static.{EachGood, GoodGuard, Well, Static, Heard, 
 use Rattle.predication.proofs.Static.{heard_front, heard_back, no_bits_good, items_static, tail_static}
 use Rattle.predication.proofs.Static.{tail_number}
 
+-- what holds of each item of a list holds of all
 pub all_from : {A : Type 0} (P : A → Type 0) (xs : List A) → ((k : ℕ) (x : A) → slice_get xs k ≡ Some x → P x)
     → All P xs
 all_from P [] f = All-nil P
@@ -61,6 +62,7 @@ heard_all ns = heard_from (Talks ns) ns 0 (λ i n e s.
     subst (Talks ns) z (λ m e2. ap (λ (q : FlowNode). is_silent (form_of q.op)) (same_node m n (slice_get ns i) e2 e)
     ∙ s))
 
+-- each of some nodes that are well is so at its number
 pub static_at : (T : ℕ → Type 0) (ns : List FlowNode) (j i : ℕ) (n : FlowNode) → Static T j ns → slice_get ns i
     ≡ Some n → Well T (j + i) n
 static_at T [] j i n s e = absurd (cc)
@@ -80,6 +82,7 @@ pub record Made (b : Block) : Type 0 where
 start_good : (T : ℕ → Type 0) (j : ℕ) → GoodEnv T j at_start
 start_good T j q = (tt, (tt, tt))
 
+-- a hyper block that fits and has room is made into nodes that are well
 pub made : (b : Block) → FitsHyper b → HasRoom b → Made b
 made b t room =
     let all = all_nodes b in
@@ -205,6 +208,7 @@ node_fits b i n e w =
 
 -- WRITES
 
+-- each write is of a register below n, and takes what stands for it
 pub write_is : (env : Env) (rs : List ℕ) (n i : ℕ) (w : FlowWrite) → slice_get (writes_below env rs n) i ≡ Some w
     → (w.register < n) × (w.sources ≡ (env w.register).given)
 write_is env rs zero i w e = absurd (cc)
@@ -244,6 +248,7 @@ write_fits b mk i w e =
 
 -- THE MASK
 
+-- a mask of n numbers is below 2^n
 pub mask_lt : (ns : List FlowNode) (n : ℕ) → mask_below ns n < 2 ^ n
 mask_lt ns zero = omega arith
 mask_lt ns (suc n) = go (has_store ns n) (mask_lt ns n)
@@ -309,12 +314,15 @@ numbers_order m m2 (k ∷ ns) zero (suc j) a b r x y p q l =
 numbers_order m m2 (k ∷ ns) (suc i) (suc j) a b r x y p q l =
     numbers_order (next_after (form_of k.op) m) m2 ns i j a b r.1 x y p q (omega arith)
 
+-- a store has a number
 pub store_numbered : (F : Form) → F ≡ form.Store → is_numbered F ≡ true
 store_numbered F e = ap is_numbered e
 
+-- a load has a number
 pub load_numbered : (F : Form) → F ≡ form.Load → is_numbered F ≡ true
 load_numbered F e = ap is_numbered e
 
+-- of two numbers one is less, or they are equal
 pub before_or : (i j : ℕ) → (i < j) ⊎ ((i ≡ j) ⊎ (j < i))
 before_or i j = go (cases_lt i j) (cases_lt j i)
   where
@@ -339,6 +347,7 @@ stores_before b t i j m n x y s l less = go (before_or i j)
         (load_numbered (form_of n.op) l) (store_numbered (form_of m.op) s) p in
         absurd (omega (arith, z, less))
 
+-- the converted block fits
 pub converts_fitting : ConvertsFitting
 converts_fitting b t room =
     let mk = made b t room in

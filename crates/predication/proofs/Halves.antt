@@ -6,9 +6,11 @@ use Rattle.predication.specs.inside.Tails.{high_half, low_half}
 short_is : (w : ℕ) → w < 2 ^ 32 → nat_lt w (2 ^ 32) ≡ true
 short_is w l = grind (arith, nat_tests, l)
 
+-- the high half of an address of 32 bits
 pub high_is : (w : ℕ) → w < 2 ^ 32 → high_half w ≡ w / 65536
 high_is w l = ap (λ (c : Bool). cond c (w / 65536) (65536 + (w - 2 ^ 32))) (short_is w l)
 
+-- the low half of an address of 32 bits
 pub low_is : (w : ℕ) → w < 2 ^ 32 → low_half w ≡ w % 65536
 low_is w l = ap (λ (c : Bool). cond c (w % 65536) (65536 + (w - 2 ^ 32))) (short_is w l)
 

@@ -31,6 +31,7 @@ module _ (t : ℕ) (w w1 : Work) (before : List Named) (one other : Names) (r : 
       let e = adds_count w w1 (first.nodes ++ second.nodes) p in
       let l = length-append first.nodes second.nodes in omega (arith, e, l)
 
+  -- the nodes of the first register that is joined and of the others are those of all
   pub join_nodes : w1.nodes ++ map low (joined_at t (length w1.nodes) before one other rest).nodes
       ≡ w.nodes ++ map low (joined_at t (length w.nodes) before one other (r ∷ rest)).nodes
   join_nodes =
@@ -41,6 +42,7 @@ module _ (t : ℕ) (w w1 : Work) (before : List Named) (one other : Names) (r : 
       ∙ ap (λ (ns : List FlowNode). w.nodes ++ map low ns)
       (append_assoc first.nodes second.nodes (others next).nodes)
 
+  -- the entries of the first register that is joined and of the others are those of all
   pub join_env : (named : List Named) (e : Entry) → e ≡ both_entry t (length w.nodes) before one other r
       → puts (named ++ record { register = r; entry = e } ∷ [])
       (joined_at t (length w1.nodes) before one other rest).env

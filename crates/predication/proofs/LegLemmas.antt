@@ -27,6 +27,7 @@ pub record Came (w w2 : Work) (n2 : Names) (X : List FlowNode) (m : ℕ) (v : En
   pub env : env_of n2.entries ≡ v
   pub sets : n2.sets ≡ set
 
+-- where a state has come from another by some nodes, it has as many more
 pub came_count : (w w2 : Work) (n2 : Names) (X : List FlowNode) (m : ℕ) (env : Env) (set : List ℕ)
     → Came w w2 n2 X m env set → length w2.nodes ≡ length w.nodes + length X
 came_count w w2 n2 X m env set c = ap (λ (ns : List FlowNode). length ns) c.nodes ∙ count_more w.nodes X
@@ -91,9 +92,11 @@ same_join t t2 j j2 es f s yea nay ty tn et ej ey en ery ern =
     ∙ ap (λ (x : List ℕ). join t2 j2 env yea nay x s.sets (distinct (x ++ s.sets))) ery
     ∙ ap (λ (x : List ℕ). join t2 j2 env yea nay ty x (distinct (ty ++ x))) ern
 
+-- the scope of the first leg of a test is the one under its node
 pub same_scope : (g : Scope) (k i : ℕ) → g ≡ under k true → k ≡ i → g ≡ under i true
 same_scope g k i e f = e ∙ ap (λ (x : ℕ). under x true) f
 
+-- the scope of the second leg of a test is the one under its node
 pub other_scope : (g : Scope) (k i : ℕ) → g ≡ under k false → k ≡ i → g ≡ under i false
 other_scope g k i e f = e ∙ ap (λ (x : ℕ). under x false) f
 

@@ -42,6 +42,7 @@ all_bits w w2 n n2 is b l m h =
     (ap (λ (x : List Noted). bits_of x) b.bits) in
     ap (λ (e : End). e.bits) h ∙ ap (λ (x : Out). x.bits) eo
 
+-- items and tail emitted one after the other are the block that is emitted
 pub all_emitted : (b : Block) (w0 w1 w2 : Work) (n0 n1 n2 : Names) (e : Emitted) → w0.nodes ≡ [] → w0.number ≡ 0
     → Begins [] n0 → ends None w1 n1 Done ≡ ends None w0 n0 b.items
     → Finished None (record w1 { number = 0 }) w2 n1 n2 b.tail
@@ -109,9 +110,11 @@ module _ (b : Block) (e : Emitted) (m : IsEmitted b e) where
   unfolding counts_of
   insts_same = ap (λ (x : List FlowNode). length x) m.nodes ∙ length-map (all_nodes b) low
 
+  -- a block whose counts have room as emitted has room
   pub has_room : HasRoomFor (counts_in e) → HasRoomFor (counts_of b)
   has_room r = subst (λ (c : Counts). HasRoomFor c) (counts_same r.insts) r
 
+  -- a block that is refused by its counts as emitted is refused
   pub is_refused : (x : FlowFault) → IsRefusal (counts_in e) x → IsRefusal (counts_of b) x
   is_refused (TooBig Insts n) r = (r.0 ∙ insts_same, r.1)
   is_refused (TooBig Reads n) r = subst (λ (c : Counts). IsRefusal c (TooBig Reads n)) (counts_same r.0) r
@@ -120,15 +123,18 @@ module _ (b : Block) (e : Emitted) (m : IsEmitted b e) where
   is_refused (TooBig Exits n) r = subst (λ (c : Counts). IsRefusal c (TooBig Exits n)) (counts_same r.0) r
   is_refused Memory r = tt
 
+  -- the flow block put together from what is emitted is the block's own
   pub block_is : (f : FlowBlock) → (f ≡ flow_in e) × HasRoomFor (counts_in e) → f ≡ predicated b
   block_is f r = r.0 ∙ is_predicated r.1.insts
 
 -- RESULTS
 
+-- what follows for each value follows for a result that has one
 pub if_ok : {A E : Type 0} → (r : Result A E) (P Q : A → Type 0) → ((x : A) → P x → Q x) → IfOk r P → IfOk r Q
 if_ok (Ok x) P Q f h = f x h
 if_ok (Err e) P Q f h = h
 
+-- what follows for each error follows for a result that has one
 pub if_err : {A E : Type 0} → (r : Result A E) (P Q : E → Type 0) → ((x : E) → P x → Q x) → IfErr r P → IfErr r Q
 if_err (Ok x) P Q f h = h
 if_err (Err e) P Q f h = f e h

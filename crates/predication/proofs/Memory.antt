@@ -85,9 +85,11 @@ pub record Holds (st : ℕ → Option Stored) (mem : List ℕ) (m : ℕ) (bytes 
   pub seen : (a : ℕ) → byte_seen st (slice_index mem) m a ≡ slice_index bytes a
   pub length : length bytes ≡ data_size
 
+-- before all numbers memory is what it was
 pub holds_first : (st : ℕ → Option Stored) (mem : List ℕ) → length mem ≡ data_size → Holds st mem 0 mem
 holds_first st mem l = record { listed = refl; seen = λ a. refl; length = l }
 
+-- a number under which nothing is stored changes no byte
 pub holds_none : (st : ℕ → Option Stored) (mem : List ℕ) (m : ℕ) (bytes : List ℕ) → st m ≡ None
     → Holds st mem m bytes → Holds st mem (suc m) bytes
 holds_none st mem m bytes e w = record {
@@ -128,6 +130,7 @@ saved_length o bytes a v = go (is_good_address a (size_of o)) refl
     go true e = rw e (put_length (size_of o) bytes a v)
     go false e = rw e refl
 
+-- a number under which a word is stored changes memory as its store does
 pub holds_store : (st : ℕ → Option Stored) (mem : List ℕ) (m : ℕ) (bytes : List ℕ) (i : Inst) (a v : ℕ) → st m
     ≡ Some (word_store i a v)
     → Holds st mem m bytes → Holds st mem (suc m) (saved i.op bytes a v)
@@ -143,6 +146,7 @@ holds_store st mem m bytes i a v e w = record {
   length = saved_length i.op bytes a v ∙ w.length;
 }
 
+-- a load under a number sees memory as the lower stores have made it
 pub holds_number : (st : ℕ → Option Stored) (mem : List ℕ) (m : ℕ) (bytes : List ℕ) → Holds st mem m bytes → (a k : ℕ)
     → bytes_seen st (slice_index mem) m a k ≡ number_in bytes a k
 holds_number st mem m bytes w a zero = refl

@@ -92,9 +92,11 @@ placed r i ns x =
     let q : y.0 ≡ i = omega (arith, y.1) in
     subst (λ (d : ℕ). Placed ns r d) q y.2
 
+-- the place of a register is within the table
 pub placed_within : (r i : ℕ) (ns : List Named) → place_from 0 r ns ≡ Some i → i < length ns
 placed_within r i ns x = (placed r i ns x).within
 
+-- a new entry at a register's place is what the register now stands for
 pub placed_env : (r i : ℕ) (ns : List Named) (e : Entry) → place_from 0 r ns ≡ Some i
     → env_of (set ns i (record { register = r; entry = e })) ≡ put (env_of ns) r e
 placed_env r i ns e x = (placed r i ns x).env e
@@ -113,6 +115,7 @@ named_from at r (n ∷ ns) e x = go (nat_eq n.register r) refl x (λ y. named_fr
     go false b x ih = ap (λ (z : Env). put z n.register n.entry) (ih x)
         ∙ put_swap (env_of ns) n.register r n.entry e b
 
+-- a new entry behind the table is what its register now stands for
 pub unplaced_env : (r : ℕ) (ns : List Named) (e : Entry) → place_from 0 r ns ≡ None
     → env_of (ns ++ record { register = r; entry = e } ∷ []) ≡ put (env_of ns) r e
 unplaced_env r ns e x = named_from 0 r ns e x
@@ -164,9 +167,11 @@ bit_placed r i ns x =
     let q : y.0 ≡ i = omega (arith, y.1) in
     subst (λ (d : ℕ). PlacedBit ns r d) q y.2
 
+-- the place of a register's bit is within the table
 pub placed_bit_within : (r i : ℕ) (ns : List Noted) → noted_from 0 r ns ≡ Some i → i < length ns
 placed_bit_within r i ns x = (bit_placed r i ns x).within
 
+-- a new bit at a register's place is its bit now
 pub placed_bit : (r i : ℕ) (ns : List Noted) (b : Option ℕ) → noted_from 0 r ns ≡ Some i
     → bits_of (set ns i (record { register = r; bit = b })) ≡ note (bits_of ns) r b
 placed_bit r i ns b x = (bit_placed r i ns x).bits b
@@ -184,6 +189,7 @@ noted_past at r (n ∷ ns) b x = go (nat_eq n.register r) refl x (λ y. noted_pa
     go false c x ih = ap (λ (z : Bits). note z n.register n.bit) (ih x)
         ∙ note_swap (bits_of ns) n.register r n.bit b c
 
+-- a new bit behind the table is its register's bit now
 pub unplaced_bit : (r : ℕ) (ns : List Noted) (b : Option ℕ) → noted_from 0 r ns ≡ None
     → bits_of (ns ++ record { register = r; bit = b } ∷ []) ≡ note (bits_of ns) r b
 unplaced_bit r ns b x = noted_past 0 r ns b x

@@ -24,11 +24,13 @@ use Rattle.predication.proofs.Untaken.{legs_at, test_at, yea_out, nay_at, nay_ou
 use Rattle.predication.proofs.Untaken.{tested_quiet, load_form, store_form}
 use Rattle.predication.proofs.Ops.{op_form}
 
+-- a load or store has the next number
 abbrev pub IsNext : Form → FlowNode → ℕ → Type 0
 IsNext form.Load n m = n.number ≡ m
 IsNext form.Store n m = n.number ≡ m
 IsNext _ n m = Unit {0}
 
+-- the number behind a node: one more behind a load or a store
 abbrev pub next_after : Form → ℕ → ℕ
 next_after form.Load m = suc m
 next_after form.Store m = suc m
@@ -39,6 +41,7 @@ abbrev pub Rises : ℕ → List FlowNode → ℕ → Type 0
 Rises m [] m2 = m ≡ m2
 Rises m (n ∷ ns) m2 = IsNext (form_of n.op) n m × Rises (next_after (form_of n.op) m) ns m2
 
+-- numbers that rise to another and on from there rise all the way
 pub rises_append : (m i m2 : ℕ) (a b : List FlowNode) → Rises m a i → Rises i b m2 → Rises m (a ++ b) m2
 rises_append m i m2 [] b x y = let P : ℕ → Type 0 = λ k. Rises k b m2 in subst P (sym x) y
 rises_append m i m2 (n ∷ a) b x y = (x.0, rises_append (next_after (form_of n.op) m) i m2 a b x.1 y)
@@ -58,6 +61,7 @@ rises_still m m2 n o e r =
     let s = still_next (form_of n.op) n m e in
     let P : ℕ → Type 0 = λ k. Rises k o m2 in (s.0, subst P (sym s.1) r)
 
+-- nodes without a load or store have no number
 pub quiet_rises : (m : ℕ) (a : List FlowNode) → Quiet a → Rises m a m
 quiet_rises m [] q = refl
 quiet_rises m (n ∷ a) q = rises_still m m n a q.0.0 (quiet_rises m a q.1)
@@ -72,6 +76,7 @@ rises_store : (F : Form) (m m2 : ℕ) (n : FlowNode) (o : List FlowNode) → F �
 rises_store F m m2 n o e i r =
     let P : Form → Type 0 = λ G. IsNext G n m × Rises (next_after G m) o m2 in subst P (sym e) (i, r)
 
+-- the numbers of emitted items rise from the first to the next free one
 pub items_rise : (is : Items) (g : Scope) (j m : ℕ) (env : Env) (bits : Bits) → FitsItems is
     → Rises m (items g j m env bits is).nodes (items g j m env bits is).number
 items_rise Done g j m env bits tk = refl
@@ -122,6 +127,7 @@ items_rise (If t yea nay rest) g j m env bits tk =
     (items_rise rest g (rest_at g j m env bits t yea nay) n.number c.env
     (left_bits bits (touched yea ++ touched nay)) tk.3))))
 
+-- the number behind a node is no less
 pub next_le : (F : Form) (m : ℕ) → m ≤ next_after F m
 next_le form.General m = omega arith
 next_le form.Immediate m = omega arith
@@ -130,6 +136,7 @@ next_le form.Store m = omega arith
 next_le form.Branch m = omega arith
 next_le form.Constant m = omega arith
 
+-- rising numbers end no lower than they begin
 pub rises_le : (m m2 : ℕ) (a : List FlowNode) → Rises m a m2 → m ≤ m2
 rises_le m m2 [] r = omega arith
 rises_le m m2 (n ∷ a) r = omega (arith, rises_le (next_after (form_of n.op) m) m2 a r.1, next_le (form_of n.op) m)
@@ -170,6 +177,7 @@ module _ (regs : ℕ → ℕ) (h : ℕ → Answer) where
   past_store form.Branch n m k x l = refl
   past_store form.Constant n m k x l = refl
 
+  -- from the next free number on nothing is stored
   pub stores_high : (m m2 : ℕ) (a : List FlowNode) → Rises m a m2 → (k : ℕ) → m2 ≤ k → stores regs h a k ≡ None
   stores_high m m2 [] r k l = refl
   stores_high m m2 (n ∷ a) r k l =
@@ -218,6 +226,7 @@ module _ (regs : ℕ → ℕ) (h : ℕ → Answer) where
         tokens_low (suc j) (next_after (form_of n.op) m) m2 a r.1 k (omega (arith, next_le (form_of n.op) m)),
       )
 
+  -- each number has at most one token
   pub tokens_most : (j m m2 : ℕ) (a : List FlowNode) → Rises m a m2 → (k : ℕ) → tokens h j a k ≤ 1
   tokens_most j m m2 [] r k = omega arith
   tokens_most j m m2 (n ∷ a) r k = go (nat_eq m k) refl (numbered_passes (form_of n.op) n (h j) m)

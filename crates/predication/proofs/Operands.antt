@@ -21,6 +21,7 @@ use Rattle.trips_isa.specs.Alu.{word, alu_of}
 use Rattle.ir_forms.specs.inside.HyperFits.{FitsSource}
 use Rattle.predication.proofs.Ops.{Right}
 
+-- the bound of the numbers that have d + 1 halves
 abbrev pub below : ℕ → ℕ
 below zero = 65536
 below (suc d) = 65536 * below d
@@ -105,6 +106,7 @@ module _ (regs : ℕ → ℕ) (h : ℕ → Answer) (f : Computes) (st : ℕ → 
     pub right : Right taken r word
     pub means : Meant → word ≡ v
 
+  -- a second operand gives the word of its source
   pub second_gives : (b : Bool) (j : ℕ) (env : Env) (a : Source) (vals : ℕ → ℕ) → FitsSource a → Live regs h env vals
       → Runs regs h f st j (second b j env a).nodes
       → Second b (first regs h (second b j env a).sources) (value_of vals a)

@@ -124,6 +124,7 @@ behind_is x xs =
     let e : length (x ∷ xs) - 1 ≡ length xs = omega arith in
     ap (λ n. take n xs) e ∙ take_all xs
 
+-- the registers that some sources read are those of the first and of the others
 pub first_source : (ss : List FlowSource) (d : FlowSource) (old mid new : List ℕ) → 1 ≤ length ss
     → Notes old mid (λ r. reads_in (get_or ss 0 d ∷ []) r) → Notes mid new (λ r. reads_in (behind_first ss) r)
     → Notes old new (λ r. reads_in ss r)
@@ -132,6 +133,7 @@ first_source (s ∷ ss) d old mid new le f g =
     noted_sources s ss old mid new f
     (subst (λ (x : List FlowSource). Notes mid new (λ r. reads_in x r)) (behind_is s ss) g)
 
+-- the registers that some nodes read are those of the first, left and right, and of the others
 pub first_node : (ns : List FlowNode) (n : FlowNode) (ls rs : List FlowSource) (old one two new : List ℕ)
     → 1 ≤ length ns → n ≡ get_or ns 0 n → ls ≡ n.left → rs ≡ n.right
     → Notes old one (λ r. reads_in ls r) → Notes one two (λ r. reads_in rs r)
@@ -143,6 +145,7 @@ first_node (m ∷ ns) n ls rs old one two new le e el er f g h =
     (subst (λ (x : List FlowSource). Notes one two (λ r. reads_in x r)) er g)
     (subst (λ (x : List FlowNode). Notes two new (λ r. nodes_read x r)) (behind_is m ns) h))
 
+-- the registers that some writes read are those of the first and of the others
 pub first_write : (ws : List FlowWrite) (w : FlowWrite) (ss : List FlowSource) (old mid new : List ℕ)
     → 1 ≤ length ws → w ≡ get_or ws 0 w → ss ≡ w.sources → Notes old mid (λ r. reads_in ss r)
     → Notes mid new (λ r. writes_read (behind_first ws) r) → Notes old new (λ r. writes_read ws r)
@@ -152,6 +155,7 @@ first_write (v ∷ ws) w ss old mid new le e es f g =
     (noted_writes w ws old mid new (subst (λ (x : List FlowSource). Notes old mid (λ r. reads_in x r)) es f)
     (subst (λ (x : List FlowWrite). Notes mid new (λ r. writes_read x r)) (behind_is v ws) g))
 
+-- the numbers that some nodes store under are that of the first and those of the others
 pub first_store : (ns : List FlowNode) (n : FlowNode) (old mid new : List ℕ) → 1 ≤ length ns → n ≡ get_or ns 0 n
     → Notes old mid (λ k. stores_as (form_of n.op) n k) → Notes mid new (λ k. has_store (behind_first ns) k)
     → Notes old new (λ k. has_store ns k)
@@ -178,6 +182,7 @@ below_same ns ws found h (suc n) =
     ap (λ (b : Bool). cond b (n ∷ members_below found n) (members_below found n)) (h n)
     ∙ ap (λ (rs : List ℕ). cond (nodes_read ns n || writes_read ws n) (n ∷ rs) rs) (below_same ns ws found h n)
 
+-- the registers that are found in one walk are those that are read
 pub found_reads : (ns : List FlowNode) (ws : List FlowWrite) (none mid found : List ℕ) → none ≡ []
     → Notes none mid (λ r. nodes_read ns r) → Notes mid found (λ r. writes_read ws r) → (n : ℕ)
     → members_below found n ≡ reads_below ns ws n
@@ -198,10 +203,12 @@ mask_same ns found h (suc n) =
     ap (λ (b : Bool). mask_members found n + cond b (2 ^ n) 0) (h n)
     ∙ ap (λ (m : ℕ). m + cond (has_store ns n) (2 ^ n) 0) (mask_same ns found h n)
 
+-- the numbers that are found in one walk make the mask
 pub found_mask : (ns : List FlowNode) (none found : List ℕ) → none ≡ [] → Notes none found (λ k. has_store ns k)
     → (n : ℕ) → mask_members found n ≡ mask_below ns n
 found_mask ns none found e f n = mask_same ns found (λ k. stores_all ns none found e f k) n
 
+-- a mask of numbers that are found below n is below 2^n
 pub members_lt : (found : List ℕ) (n : ℕ) → mask_members found n < 2 ^ n
 members_lt found zero = omega arith
 members_lt found (suc n) = go (member n found) (members_lt found n)

@@ -81,6 +81,7 @@ mask_bit ns (suc n) k l = go (nat_eq k n) refl (has_store ns n) refl (λ m. mask
         let z : mask_below ns n + 0 ≡ mask_below ns n = omega arith in
         ap (λ (x : ℕ). x / 2 ^ k % 2) z ∙ ih (omega arith)
 
+-- a number is in the mask where a node stores under it
 pub mask_says : (ns : List FlowNode) (k : ℕ) (c : Bool) → k < 32 → has_store ns k ≡ c
     → in_mask (mask_below ns 32) k ≡ c
 mask_says ns k c l e = go c (mask_bit ns 32 k l ∙ ap (λ (x : Bool). cond x 1 0) e)
@@ -192,6 +193,7 @@ read_is ns ws (suc n) i r e = go (nodes_read ns n || writes_read ws n) refl i e 
     go true z (suc i) e ih = less (ih i e)
     go false z i e ih = less (ih i e)
 
+-- each register is read once
 pub read_once : (ns : List FlowNode) (ws : List FlowWrite) (n i j r : ℕ) → slice_get (reads_below ns ws n) i ≡ Some r
     → slice_get (reads_below ns ws n) j ≡ Some r → i ≡ j
 read_once ns ws zero i j r x y = absurd (cc)
@@ -304,6 +306,7 @@ store_number F n e x = let y : FitsNodeForm form.Store n = subst (λ (G : Form).
 store_not_load : (F : Form) → F ≡ form.Store → F ≡ form.Load → ⊥
 store_not_load F x y = absurd (cc)
 
+-- the converted block is regular
 pub converts_regular : ConvertsRegular
 converts_regular b t room =
     let mk = made b t room in

@@ -72,72 +72,7 @@ module _ (address : ℕ → ℕ) where
 
   zero_kept : (o : Op) → by_address address o (pos 0) ≡ pos 0
   zero_kept op.Add = refl
-  zero_kept op.Sub = refl
-  zero_kept op.Mul = refl
-  zero_kept op.Divs = refl
-  zero_kept op.Divu = refl
-  zero_kept op.And = refl
-  zero_kept op.Or = refl
-  zero_kept op.Xor = refl
-  zero_kept op.Sll = refl
-  zero_kept op.Srl = refl
-  zero_kept op.Sra = refl
-  zero_kept op.Extsb = refl
-  zero_kept op.Extsh = refl
-  zero_kept op.Extsw = refl
-  zero_kept op.Extub = refl
-  zero_kept op.Extuh = refl
-  zero_kept op.Extuw = refl
-  zero_kept op.Teq = refl
-  zero_kept op.Tne = refl
-  zero_kept op.Tlt = refl
-  zero_kept op.Tle = refl
-  zero_kept op.Tgt = refl
-  zero_kept op.Tge = refl
-  zero_kept op.Tltu = refl
-  zero_kept op.Tleu = refl
-  zero_kept op.Tgtu = refl
-  zero_kept op.Tgeu = refl
-  zero_kept op.Mov = refl
-  zero_kept op.Null = refl
-  zero_kept op.Addi = refl
-  zero_kept op.Subi = refl
-  zero_kept op.Muli = refl
-  zero_kept op.Andi = refl
-  zero_kept op.Ori = refl
-  zero_kept op.Xori = refl
-  zero_kept op.Slli = refl
-  zero_kept op.Srli = refl
-  zero_kept op.Srai = refl
-  zero_kept op.Teqi = refl
-  zero_kept op.Tnei = refl
-  zero_kept op.Tlti = refl
-  zero_kept op.Tlei = refl
-  zero_kept op.Tgti = refl
-  zero_kept op.Tgei = refl
-  zero_kept op.Tltui = refl
-  zero_kept op.Tleui = refl
-  zero_kept op.Tgtui = refl
-  zero_kept op.Tgeui = refl
-  zero_kept op.Lb = refl
-  zero_kept op.Lbs = refl
-  zero_kept op.Lh = refl
-  zero_kept op.Lhs = refl
-  zero_kept op.Lw = refl
-  zero_kept op.Lws = refl
-  zero_kept op.Ld = refl
-  zero_kept op.Sb = refl
-  zero_kept op.Sh = refl
-  zero_kept op.Sw = refl
-  zero_kept op.Sd = refl
-  zero_kept op.Bro = refl
-  zero_kept op.Callo = refl
-  zero_kept op.Br = refl
-  zero_kept op.Ret = refl
-  zero_kept op.Scall = refl
-  zero_kept op.Genu = refl
-  zero_kept op.Gens = refl
-  zero_kept op.App = refl
+  zero_kept _ = refl
 
   node_kept : (o : Op) (m : ℕ) (g : Scope) (l r : List FlowSource) → res (node_of o m g l r) ≡ node_of o m g l r
   node_kept o m g l r =
@@ -419,6 +354,7 @@ built_resolved address ns ws =
     ap₂ (λ (r : List ℕ) (m : ℕ). record { nodes = map (resolved_node address) ns; reads = r; writes = ws; mask = m })
     (sym (listed_stay address ns ws 128)) (sym (mask_stays address ns 32))
 
+-- the block that holds its labels becomes, once these are resolved, the block with addresses
 pub resolves_labels : ResolvesLabels
 resolves_labels at b short fits =
     let x = begun b in

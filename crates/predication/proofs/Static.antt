@@ -48,73 +48,13 @@ use Rattle.predication.proofs.Converted.{touched_low, tail_low, either_low}
 
 -- the left operand is taken
 op_left : (o : Op) → operates o ≡ true → takes_left (role_of o) ≡ true
-op_left op.Add e = refl
-op_left op.Sub e = refl
-op_left op.Mul e = refl
-op_left op.Divs e = refl
-op_left op.Divu e = refl
-op_left op.And e = refl
-op_left op.Or e = refl
-op_left op.Xor e = refl
-op_left op.Sll e = refl
-op_left op.Srl e = refl
-op_left op.Sra e = refl
-op_left op.Extsb e = refl
-op_left op.Extsh e = refl
-op_left op.Extsw e = refl
-op_left op.Extub e = refl
-op_left op.Extuh e = refl
-op_left op.Extuw e = refl
-op_left op.Teq e = refl
-op_left op.Tne e = refl
-op_left op.Tlt e = refl
-op_left op.Tle e = refl
-op_left op.Tgt e = refl
-op_left op.Tge e = refl
-op_left op.Tltu e = refl
-op_left op.Tleu e = refl
-op_left op.Tgtu e = refl
-op_left op.Tgeu e = refl
-op_left op.Mov e = refl
 op_left op.Null e = absurd (cc)
-op_left op.Addi e = absurd (cc)
-op_left op.Subi e = absurd (cc)
-op_left op.Muli e = absurd (cc)
-op_left op.Andi e = absurd (cc)
-op_left op.Ori e = absurd (cc)
-op_left op.Xori e = absurd (cc)
-op_left op.Slli e = absurd (cc)
-op_left op.Srli e = absurd (cc)
-op_left op.Srai e = absurd (cc)
-op_left op.Teqi e = absurd (cc)
-op_left op.Tnei e = absurd (cc)
-op_left op.Tlti e = absurd (cc)
-op_left op.Tlei e = absurd (cc)
-op_left op.Tgti e = absurd (cc)
-op_left op.Tgei e = absurd (cc)
-op_left op.Tltui e = absurd (cc)
-op_left op.Tleui e = absurd (cc)
-op_left op.Tgtui e = absurd (cc)
-op_left op.Tgeui e = absurd (cc)
-op_left op.Lb e = absurd (cc)
-op_left op.Lbs e = absurd (cc)
-op_left op.Lh e = absurd (cc)
-op_left op.Lhs e = absurd (cc)
-op_left op.Lw e = absurd (cc)
-op_left op.Lws e = absurd (cc)
-op_left op.Ld e = absurd (cc)
-op_left op.Sb e = absurd (cc)
-op_left op.Sh e = absurd (cc)
-op_left op.Sw e = absurd (cc)
-op_left op.Sd e = absurd (cc)
 op_left op.Bro e = absurd (cc)
 op_left op.Callo e = absurd (cc)
-op_left op.Br e = absurd (cc)
-op_left op.Ret e = absurd (cc)
 op_left op.Scall e = absurd (cc)
 op_left op.Genu e = absurd (cc)
 op_left op.Gens e = absurd (cc)
-op_left op.App e = absurd (cc)
+op_left _ e = refl
 
 module _ (T : ℕ → Type 0) where
   -- a register, or an earlier node that gives tokens to others
@@ -122,10 +62,12 @@ module _ (T : ℕ → Type 0) where
   GoodSource j (Read r) = r < 128
   GoodSource j (Node i) = (i < j) × T i
 
+  -- each of some sources is good for a node at this number
   abbrev pub EachGood : ℕ → List FlowSource → Type 0
   EachGood j [] = Unit {0}
   EachGood j (s ∷ ss) = GoodSource j s × EachGood j ss
 
+  -- a guard names an earlier node whose token may be taken, and has a sense
   abbrev pub GoodGuard : ℕ → Scope → Type 0
   GoodGuard j None = Unit {0}
   GoodGuard j (Some g) = (g.node < j) × (T g.node × (g.sense ≢ Always))
@@ -134,6 +76,7 @@ module _ (T : ℕ → Type 0) where
   GoodGuards j [] = Unit {0}
   GoodGuards j (g ∷ gs) = GoodGuard j g × GoodGuards j gs
 
+  -- a node is well at its number: its fields, its operands and its guard are as a block wants them
   pub record Well (j : ℕ) (n : FlowNode) : Type 0 where
     pub form : FitsNodeForm (form_of n.op) n
     pub taken_left : takes_left (role_of n.op) ≡ false → n.left ≡ []
@@ -142,6 +85,7 @@ module _ (T : ℕ → Type 0) where
     pub right : EachGood j n.right
     pub guard : GoodGuard j n.guard
 
+  -- each of some nodes is well at its number
   abbrev pub Static : ℕ → List FlowNode → Type 0
   Static j [] = Unit {0}
   Static j (n ∷ ns) = Well j n × Static (suc j) ns
@@ -154,6 +98,7 @@ module _ (T : ℕ → Type 0) where
   abbrev pub GoodEntry : ℕ → Entry → Type 0
   GoodEntry j e = EachGood j e.given × GoodGuards j e.kept
 
+  -- what each register stands for is good at this number
   abbrev pub GoodEnv : ℕ → Env → Type 0
   GoodEnv j env = (q : ℕ) → GoodEntry j (env q)
 
@@ -190,16 +135,19 @@ module _ (T : ℕ → Type 0) where
   guards_append j [] b x y = y
   guards_append j (s ∷ a) b x y = (x.0, guards_append j a b x.1 y)
 
+  -- nodes that are well behind such nodes are well
   pub static_append : (j : ℕ) (a b : List FlowNode) → Static j a → Static (j + length a) b → Static j (a ++ b)
   static_append j [] b x y = let e : j + 0 ≡ j = omega arith in subst (λ (i : ℕ). Static i b) e y
   static_append j (n ∷ a) b x y =
       let e : j + length (n ∷ a) ≡ suc j + length a = omega arith in
       (x.0, static_append (suc j) a b x.1 (subst (λ (i : ℕ). Static i b) e y))
 
+  -- where what may be taken from nodes gives tokens, so does what may be from the first ones
   pub heard_front : (j : ℕ) (a b : List FlowNode) → Heard j (a ++ b) → Heard j a
   heard_front j [] b x = tt
   heard_front j (n ∷ a) b x = (x.0, heard_front (suc j) a b x.1)
 
+  -- where what may be taken from nodes gives tokens, so does what may be from the later ones
   pub heard_back : (j : ℕ) (a b : List FlowNode) → Heard j (a ++ b) → Heard (j + length a) b
   heard_back j [] b x = let e : j ≡ j + 0 = omega arith in subst (λ (i : ℕ). Heard i b) e x
   heard_back j (n ∷ a) b x = let e : suc j + length a ≡ j + length (n ∷ a) =
@@ -227,6 +175,7 @@ module _ (T : ℕ → Type 0) where
       go true z = x k z
       go false z = g q k z
 
+  -- a table without bits is good
   pub no_bits_good : (j : ℕ) → GoodBits j no_bits
   no_bits_good j r k e = absurd (cc)
 
@@ -526,6 +475,7 @@ module _ (T : ℕ → Type 0) where
   loud_general : (F : Form) → F ≡ form.General → is_silent F ≡ false
   loud_general F e = ap is_silent e
 
+  -- the nodes of emitted items are well, and what stands for registers behind them is good
   pub items_static : (is : Items) (g : Scope) (j m : ℕ) (env : Env) (bits : Bits) → FitsItems is → GoodGuard j g
       → GoodEnv j env → GoodBits j bits
       → Heard j (items g j m env bits is).nodes → (items g j m env bits is).number ≤ 32
@@ -799,6 +749,7 @@ module _ (T : ℕ → Type 0) where
             (((omega (arith, z), hd.1.1.0 refl), tt), tt);
       }
 
+  -- the nodes of an emitted tail are well, and what stands for registers behind them is good
   pub tail_static : (t : Tail) (g : Scope) (j e : ℕ) (env : Env) (bits : Bits) → FitsTail t → GoodGuard j g
       → GoodEnv j env → GoodBits j bits
       → Heard j (tail g j e env bits t).nodes → (tail g j e env bits t).number ≤ 8 → Closed j (tail g j e env bits t)

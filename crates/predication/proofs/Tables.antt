@@ -35,6 +35,7 @@ Is (Some (Word w)) v = w ≡ v
 
 -- NODES OF NO STORE, LOAD OR DIVISION
 
+-- forms that neither load nor store
 abbrev pub is_still : Form → Bool
 is_still form.Load = false
 is_still form.Store = false
@@ -43,14 +44,17 @@ is_still _ = true
 abbrev pub Still : FlowNode → Type 0
 Still n = (is_still (form_of n.op) ≡ true) × (divides n.op ≡ false)
 
+-- none of some nodes loads or stores
 abbrev pub Quiet : List FlowNode → Type 0
 Quiet [] = Unit {0}
 Quiet (n ∷ ns) = Still n × Quiet ns
 
+-- quiet nodes behind quiet ones are quiet
 pub quiet_append : (a b : List FlowNode) → Quiet a → Quiet b → Quiet (a ++ b)
 quiet_append [] b x y = y
 quiet_append (n ∷ a) b x y = (x.0, quiet_append a b x.1 y)
 
+-- forms that are no branch
 abbrev pub is_inner : Form → Bool
 is_inner form.Branch = false
 is_inner _ = true
@@ -60,14 +64,17 @@ abbrev pub Inner : List FlowNode → Type 0
 Inner [] = Unit {0}
 Inner (n ∷ ns) = (is_inner (form_of n.op) ≡ true) × Inner ns
 
+-- nodes without a branch behind such nodes have none
 pub inner_append : (a b : List FlowNode) → Inner a → Inner b → Inner (a ++ b)
 inner_append [] b x y = y
 inner_append (n ∷ a) b x y = (x.0, inner_append a b x.1 y)
 
+-- the movs of a register neither load nor store
 pub movs_quiet : (r : ℕ) (gs : List Scope) → Quiet (movs r gs)
 movs_quiet r [] = tt
 movs_quiet r (g ∷ gs) = ((refl, refl), movs_quiet r gs)
 
+-- the movs of a register are no branches
 pub movs_inner : (r : ℕ) (gs : List Scope) → Inner (movs r gs)
 movs_inner r [] = tt
 movs_inner r (g ∷ gs) = (refl, movs_inner r gs)
@@ -101,14 +108,17 @@ pub operand_quiet : (j : ℕ) (env : Env) (a : Source) → Quiet (operand j env 
 operand_quiet j env (Const w) = chain_quiet 3 j w
 operand_quiet j env (Reg r) = read_quiet j r (env r).given (env r).kept
 
+-- the nodes of an operand are no branches
 pub operand_inner : (j : ℕ) (env : Env) (a : Source) → Inner (operand j env a).nodes
 operand_inner j env (Const w) = chain_inner 3 j w
 operand_inner j env (Reg r) = read_inner j r (env r).given (env r).kept
 
+-- the nodes of a second operand neither load nor store
 pub second_quiet : (b : Bool) (j : ℕ) (env : Env) (a : Source) → Quiet (second b j env a).nodes
 second_quiet true j env a = operand_quiet j env a
 second_quiet false j env a = tt
 
+-- the nodes of a second operand are no branches
 pub second_inner : (b : Bool) (j : ℕ) (env : Env) (a : Source) → Inner (second b j env a).nodes
 second_inner true j env a = operand_inner j env a
 second_inner false j env a = tt
@@ -116,10 +126,12 @@ second_inner false j env a = tt
 module _ (regs : ℕ → ℕ) (h : ℕ → Answer) where
   -- LISTS OF NODES IN TWO PARTS
 
+  -- nodes behind nodes do the acts of both, in this order
   pub fired_append : (a b : List FlowNode) → fired regs h (a ++ b) ≡ fired regs h a ++ fired regs h b
   fired_append [] b = refl
   fired_append (n ∷ a) b = rw (fired_append a b) (simp append_assoc)
 
+  -- nodes behind nodes have the exits of both, in this order
   pub exits_append : (j : ℕ) (a b : List FlowNode) → exits h j (a ++ b) ≡ exits h j a ++ exits h (j + length a) b
   exits_append j [] b = let e : j ≡ j + 0 = omega arith in ap (λ (i : ℕ). exits h i b) e
   exits_append j (n ∷ a) b =
@@ -156,6 +168,7 @@ module _ (regs : ℕ → ℕ) (h : ℕ → Answer) where
   acts_other form.Constant n (Some (Word x)) (Some Null) e d = refl
   acts_other form.Constant n (Some (Word x)) (Some (Word y)) e d = rw d refl
 
+  -- quiet nodes do no act
   pub quiet_fired : (a : List FlowNode) → Quiet a → fired regs h a ≡ []
   quiet_fired [] q = refl
   quiet_fired (n ∷ a) q = rw (
@@ -172,6 +185,7 @@ module _ (regs : ℕ → ℕ) (h : ℕ → Answer) where
   inner_leaving form.Store n t e = refl
   inner_leaving form.Constant n t e = refl
 
+  -- nodes without a branch have no exit
   pub inner_exits : (j : ℕ) (a : List FlowNode) → Inner a → exits h j a ≡ []
   inner_exits j [] q = refl
   inner_exits j (n ∷ a) q = rw (inner_leaving (form_of n.op) n (h j) q.0, inner_exits (suc j) a q.1) refl
@@ -207,6 +221,7 @@ module _ (regs : ℕ → ℕ) (h : ℕ → Answer) where
   absent_none None e = refl
   absent_none (Some t) e = absurd (omega arith)
 
+  -- sources of which none is there give nothing
   pub first_none : (a : List FlowSource) → count regs h a ≡ 0 → first regs h a ≡ None
   first_none [] e = refl
   first_none (s ∷ a) e = rw (absent_none (got regs h s) (omega arith), first_none a (omega arith)) refl
@@ -217,11 +232,13 @@ module _ (regs : ℕ → ℕ) (h : ℕ → Answer) where
   first_step (Some Null) u n v e i f = absurd i
   first_step (Some (Word w)) u n v e i f = ap (λ (x : ℕ). Some (Word x)) i
 
+  -- sources of which one is there, each with this word where it is, give the word
   pub first_word : (a : List FlowSource) (v : ℕ) → count regs h a ≡ 1 → Each a v → first regs h a ≡ Some (Word v)
   first_word [] v e x = absurd (omega arith)
   first_word (s ∷ a) v e x = first_step (got regs h s) (first regs h a) (count regs h a) v e x.0
       (λ o. first_word a v o x.1)
 
+  -- at most one token is there
   pub present_most : (t : Answer) → present t ≤ 1
   present_most None = omega arith
   present_most (Some t) = omega arith
@@ -247,11 +264,13 @@ module _ (regs : ℕ → ℕ) (h : ℕ → Answer) where
     pub same : count regs h e.given ≡ 0 → v ≡ old
     pub clear : AllClear e.kept
 
+  -- nothing that stands for a register is there
   pub record Dead (e : Entry) : Type 0 where
     pub given : count regs h e.given ≡ 0
     pub kept : total h e.kept ≡ 0
     pub clear : AllClear e.kept
 
+  -- at most one of what stands for a register is there
   pub record Few (e : Entry) : Type 0 where
     pub most : count regs h e.given + total h e.kept ≤ 1
     pub clear : AllClear e.kept
@@ -259,9 +278,11 @@ module _ (regs : ℕ → ℕ) (h : ℕ → Answer) where
   pub sound_few : (e : Entry) (v old : ℕ) → Sound e v old → Few e
   sound_few e v old s = record { most = omega (arith, s.single); clear = s.clear }
 
+  -- where none is there, at most one is
   pub dead_few : (e : Entry) → Dead e → Few e
   dead_few e d = record { most = omega (arith, d.given, d.kept); clear = d.clear }
 
+  -- a sound entry beside a dead one is sound
   pub sound_dead : (a b : Entry) (v old : ℕ) → Sound a v old → Dead b → Sound (both a b) v old
   sound_dead a b v old s d = record {
     single = omega (arith, count_append a.given b.given, total_append a.kept b.kept, s.single, d.given, d.kept);
@@ -270,6 +291,7 @@ module _ (regs : ℕ → ℕ) (h : ℕ → Answer) where
     clear = clear_append a.kept b.kept s.clear d.clear;
   }
 
+  -- a dead entry beside a sound one is sound
   pub dead_sound : (a b : Entry) (v old : ℕ) → Dead a → Sound b v old → Sound (both a b) v old
   dead_sound a b v old d s = record {
     single = omega (arith, count_append a.given b.given, total_append a.kept b.kept, s.single, d.given, d.kept);
@@ -278,6 +300,7 @@ module _ (regs : ℕ → ℕ) (h : ℕ → Answer) where
     clear = clear_append a.kept b.kept d.clear s.clear;
   }
 
+  -- a dead entry beside a dead one is dead
   pub dead_dead : (a b : Entry) → Dead a → Dead b → Dead (both a b)
   dead_dead a b x y = record {
     given = omega (arith, count_append a.given b.given, x.given, y.given);
@@ -289,12 +312,15 @@ module _ (regs : ℕ → ℕ) (h : ℕ → Answer) where
   abbrev pub Live : Env → (ℕ → ℕ) → Type 0
   Live env vals = (q : ℕ) → Sound (env q) (vals q) (regs q)
 
+  -- of what stands for each register at most one is there
   abbrev pub Sparse : Env → Type 0
   Sparse env = (q : ℕ) → Few (env q)
 
+  -- where each register stands for its word, at most one of its sources is there
   pub live_sparse : (env : Env) (vals : ℕ → ℕ) → Live env vals → Sparse env
   live_sparse env vals l q = sound_few (env q) (vals q) (regs q) (l q)
 
+  -- a node with a word stands for this word
   pub from_sound : (j v old : ℕ) → h j ≡ Some (Word v) → Sound (from_node j) v old
   from_sound j v old e = record {
     single = let p : present (h j) ≡ 1 = rw e refl in omega arith;
@@ -303,6 +329,7 @@ module _ (regs : ℕ → ℕ) (h : ℕ → Answer) where
     clear = tt;
   }
 
+  -- a node without a token stands for nothing
   pub from_dead : (j : ℕ) → h j ≡ None → Dead (from_node j)
   from_dead j e = record { given = let p : present (h j) ≡ 0 = rw e refl in omega arith; kept = refl; clear = tt }
 
@@ -311,6 +338,7 @@ module _ (regs : ℕ → ℕ) (h : ℕ → Answer) where
   put_case true e d v w old x y = x
   put_case false e d v w old x y = y
 
+  -- with one register set to what stands for a word, each register still stands for its word
   pub live_put : (env : Env) (vals : ℕ → ℕ) (r v : ℕ) (e : Entry) → Live env vals → ((old : ℕ) → Sound e v old)
       → Live (put env r e) (register_put vals r v)
   live_put env vals r v e l s q = put_case (nat_eq q r) e (env q) v (vals q) (regs q) (s (regs q)) (l q)
@@ -319,6 +347,7 @@ module _ (regs : ℕ → ℕ) (h : ℕ → Answer) where
   few_case true e d x y = x
   few_case false e d x y = y
 
+  -- with one register set to an entry of which at most one is there, this holds of each
   pub sparse_put : (env : Env) (r : ℕ) (e : Entry) → Sparse env → Few e → Sparse (put env r e)
   sparse_put env r e l s q = few_case (nat_eq q r) e (env q) s (l q)
 
@@ -334,9 +363,11 @@ module _ (regs : ℕ → ℕ) (h : ℕ → Answer) where
   calm_append [] b x y = y
   calm_append (n ∷ a) b x y = (x.0, x.1, calm_append a b x.2 y)
 
+  -- where there is no guard, no null stands at it
   pub none_clear : Clear None
   none_clear = λ e. absurd (cc)
 
+  -- the movs of a register are calm where its guards are clear
   pub movs_calm : (r : ℕ) (gs : List Scope) → AllClear gs → Calm (movs r gs)
   movs_calm r [] c = tt
   movs_calm r (g ∷ gs) c = (c.0, (omega arith, omega arith), movs_calm r gs c.1)
@@ -354,10 +385,12 @@ module _ (regs : ℕ → ℕ) (h : ℕ → Answer) where
   read_calm j r [] kept c = tt
   read_calm j r (s ∷ ss) kept c = movs_calm r kept c
 
+  -- the nodes of an operand are calm
   pub operand_calm : (j : ℕ) (env : Env) (a : Source) → Sparse env → Calm (operand j env a).nodes
   operand_calm j env (Const w) s = chain_calm 3 j w
   operand_calm j env (Reg r) s = read_calm j r (env r).given (env r).kept (s r).clear
 
+  -- the nodes of a second operand are calm
   pub second_calm : (b : Bool) (j : ℕ) (env : Env) (a : Source) → Sparse env → Calm (second b j env a).nodes
   second_calm true j env a s = operand_calm j env a s
   second_calm false j env a s = tt
@@ -365,6 +398,7 @@ module _ (regs : ℕ → ℕ) (h : ℕ → Answer) where
   -- TABLES
 
   module _ (f : Computes) (st : ℕ → Option Stored) where
+    -- what is stored under a node's number is what the node stores
     abbrev pub SettledIn : Form → FlowNode → Type 0
     SettledIn form.Store n = st n.number ≡ stored_where (met h n.guard) regs h n
     SettledIn form.Load n = st n.number ≡ None
@@ -407,6 +441,7 @@ module _ (regs : ℕ → ℕ) (h : ℕ → Answer) where
     froms_each zero ss ts kept v old e o s c x = subst (λ (w : ℕ). Each ts w) (sym (s e)) x
     froms_each (suc n) ss ts kept v old e o s c x = dead_each ts v (omega arith)
 
+    -- the sources of a register that is read give its word
     pub read_sound : (j r : ℕ) (ss : List FlowSource) (kept : List Scope) (v : ℕ)
         → Sound (record { given = ss; kept = kept }) v (regs r) → Runs j (read_of j r ss kept).nodes
         → first regs h (read_of j r ss kept).sources ≡ Some (Word v)
@@ -418,16 +453,19 @@ module _ (regs : ℕ → ℕ) (h : ℕ → Answer) where
         (froms_each (count regs h (p ∷ ss)) (p ∷ ss) (froms j kept) kept v (regs r) refl s.single s.same
         (movs_count j r kept x) (movs_each j r kept x)))
 
+    -- of the sources of a register that is read at most one is there
     pub read_few : (j r : ℕ) (ss : List FlowSource) (kept : List Scope) → count regs h ss + total h kept ≤ 1
         → Runs j (read_of j r ss kept).nodes → count regs h (read_of j r ss kept).sources ≤ 1
     read_few j r [] kept s x = omega arith
     read_few j r (p ∷ ss) kept s x = omega (arith, count_append (p ∷ ss) (froms j kept), movs_count j r kept x)
 
+    -- of the sources of an operand at most one is there
     pub operand_few : (j : ℕ) (env : Env) (a : Source) → Sparse env → Runs j (operand j env a).nodes
         → count regs h (operand j env a).sources ≤ 1
     operand_few j env (Const w) s x = omega (arith, present_most (h (chain 3 j w).last))
     operand_few j env (Reg r) s x = read_few j r (env r).given (env r).kept (s r).most x
 
+    -- of the sources of a second operand at most one is there
     pub second_few : (b : Bool) (j : ℕ) (env : Env) (a : Source) → Sparse env → Runs j (second b j env a).nodes
         → count regs h (second b j env a).sources ≤ 1
     second_few true j env a s x = operand_few j env a s x

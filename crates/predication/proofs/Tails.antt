@@ -56,19 +56,24 @@ use Rattle.ir_forms.specs.inside.Agreement.{IsExit}
 
 -- THE PARTS OF A TEST, BY NAME
 
+-- the first leg of a test at the end, emitted
 abbrev pub t_yea : Scope → ℕ → ℕ → Env → Bits → Source → Tail → Ending
 t_yea g j e env bits t yea = tail (under (test_at g j env bits t) true) (legs_at g j env bits t) e env no_bits yea
 
+-- where the second leg of a test at the end begins
 abbrev pub t_nay_at : Scope → ℕ → ℕ → Env → Bits → Source → Tail → ℕ
 t_nay_at g j e env bits t yea = legs_at g j env bits t + length (t_yea g j e env bits t yea).nodes
 
+-- the second leg of a test at the end, emitted
 abbrev pub t_nay : Scope → ℕ → ℕ → Env → Bits → Source → Tail → Tail → Ending
 t_nay g j e env bits t yea nay = tail (under (test_at g j env bits t) false) (t_nay_at g j e env bits t yea)
     (t_yea g j e env bits t yea).number env no_bits nay
 
+-- where the registers of both legs are joined
 abbrev pub t_join_at : Scope → ℕ → ℕ → Env → Bits → Source → Tail → Tail → ℕ
 t_join_at g j e env bits t yea nay = t_nay_at g j e env bits t yea + length (t_nay g j e env bits t yea nay).nodes
 
+-- the registers of both legs, joined
 abbrev pub t_joined : Scope → ℕ → ℕ → Env → Bits → Source → Tail → Tail → Joined
 t_joined g j e env bits t yea nay =
     join (test_at g j env bits t) (t_join_at g j e env bits t yea nay) env (t_yea g j e env bits t yea).env
@@ -82,6 +87,7 @@ leaving_quiet exit.Return g j e env = quiet_append (operand j env (Reg 2)).nodes
     ((refl, refl), tt)
 leaving_quiet (exit.System l) g j e env = ((refl, refl), tt)
 
+-- the nodes of a tail neither load nor store
 pub tail_quiet : (t : Tail) (g : Scope) (j e : ℕ) (env : Env) (bits : Bits) → Quiet (tail g j e env bits t).nodes
 tail_quiet (Leave x) g j e env bits = leaving_quiet x g j e env
 tail_quiet (Test t yea nay) g j e env bits =
@@ -95,6 +101,7 @@ tail_quiet (Test t yea nay) g j e env bits =
     (t_join_at g j e env bits t yea nay) env y.env n.env
     (tail_touched yea) (tail_touched nay))))
 
+-- the nodes of items are no branches
 pub items_inner : (is : Items) (g : Scope) (j m : ℕ) (env : Env) (bits : Bits) → FitsItems is
     → Inner (items g j m env bits is).nodes
 items_inner Done g j m env bits tk = tt
@@ -290,6 +297,7 @@ module _ (regs : ℕ → ℕ) (h : ℕ → Answer) (f : Computes) (st : ℕ → 
         ≡ (HyperRuns.leaving at (exit_of t s.registers) s).registers
     pub is : IsExit (exit_of t s.registers) s exit
 
+  -- what a tail does where its guard is met: one exit, which is the tail's
   pub record TailOn (g : Scope) (j e : ℕ) (env : Env) (bits : Bits) (t : Tail) (s : Machine) : Type 0 where
     pub after : ℕ → ℕ
     pub exit : Inst × Token
@@ -388,6 +396,7 @@ module _ (regs : ℕ → ℕ) (h : ℕ → Answer) (f : Computes) (st : ℕ → 
             };
       }
 
+  -- where its guard is met, a tail takes exactly one exit, and it is the tail's
   pub tail_on : (t : Tail) (g : Scope) (j e : ℕ) (env : Env) (bits : Bits) (s : Machine) → FitsTail t
       → Clear regs h g → met h g ≡ true → Live regs h env s.registers → BitsAre regs h f st mem bits s.registers
       → Runs regs h f st j (tail g j e env bits t).nodes → TailOn g j e env bits t s

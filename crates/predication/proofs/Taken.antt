@@ -56,6 +56,7 @@ use Rattle.trips_isa.specs.Blocks.{form_computes}
 use Rattle.trips_isa.specs.inside.Acts.{Accessed, divisions}
 use Rattle.ir_forms.specs.inside.FlowRuns.{inst_of}
 
+-- a number is not 0
 abbrev pub nonzero : ℕ → Bool
 nonzero zero = false
 nonzero (suc n) = true
@@ -64,9 +65,11 @@ pub pick_by : {A : Type 0} (v : ℕ) (a b : A) → pick v a b ≡ cond (nonzero 
 pick_by zero a b = refl
 pick_by (suc v) a b = refl
 
+-- a word that is not 0 picks the first
 pub pick_yea : {A : Type 0} (v : ℕ) (a b : A) → nonzero v ≡ true → pick v a b ≡ a
 pick_yea v a b e = pick_by v a b ∙ rw e refl
 
+-- the word 0 picks the second
 pub pick_nay : {A : Type 0} (v : ℕ) (a b : A) → nonzero v ≡ false → pick v a b ≡ b
 pick_nay v a b e = pick_by v a b ∙ rw e refl
 
@@ -108,6 +111,7 @@ module _ (regs : ℕ → ℕ) (h : ℕ → Answer) (f : Computes) (st : ℕ → 
     pub gives : h k ≡ Some (Word word)
     pub means : Meant regs h f st mem → (word ≡ v) × (v < 2)
 
+  -- each register with a bit has the bit of its word
   abbrev pub BitsAre : Bits → (ℕ → ℕ) → Type 0
   BitsAre bits vals = (r k : ℕ) → bits r ≡ Some k → BitIs k (vals r)
 
@@ -120,6 +124,7 @@ module _ (regs : ℕ → ℕ) (h : ℕ → Answer) (f : Computes) (st : ℕ → 
     pub kept : (q : ℕ) → member q (touched is) ≡ false → after.registers q ≡ s.registers q
     pub means : Meant regs h f st mem → Words s → Holds st mem m s.memory → Means (items g j m env bits is) s after is
 
+  -- a table without bits has the right ones
   pub no_bit : (vals : ℕ → ℕ) → BitsAre no_bits vals
   no_bit vals r k e = absurd (cc)
 
@@ -176,6 +181,7 @@ module _ (regs : ℕ → ℕ) (h : ℕ → Answer) (f : Computes) (st : ℕ → 
       let z = bit_left rs bits q k e in
       subst (λ (v : ℕ). BitIs k v) (sym (same q z.0)) (bs q k z.1)
 
+  -- a node whose guard is met has the token that it gives
   pub met_node : (g : Scope) (t u : Answer) → met h g ≡ true → t ≡ if_matched (met h g) u → t ≡ u
   met_node g t u m e = let e2 : if_matched (met h g) u ≡ u = rw m refl in e ∙ e2
 
@@ -223,12 +229,14 @@ module _ (regs : ℕ → ℕ) (h : ℕ → Answer) (f : Computes) (st : ℕ → 
       a k refl in record
       { word = b.word; gives = b.gives; means = λ m. ap low (b.means m).0 ∙ low_bit (vals r) (b.means m).1 }
 
+  -- the node of a test decides as the tested word does
   pub tested_decides : (g : Scope) (j : ℕ) (env : Env) (bits : Bits) (t : Source) (vals : ℕ → ℕ) → FitsSource t
       → met h g ≡ true → Live regs h env vals → BitsAre bits vals
       → Runs regs h f st j (tested g j env bits t).nodes → Decides (tested g j env bits t).last (value_of vals t)
   tested_decides g j env bits (Const w) vals tk u l a y = operand_decides g j env (Const w) vals tk u l y
   tested_decides g j env bits (Reg r) vals tk u l a y = test_decides g j env r (bits r) vals tk u l (a r) y
 
+  -- where the node of a test has a word, its low bit says which leg is met
   pub test_met : (k : ℕ) (w : ℕ) (b : Bool) → h k ≡ Some (Word w) → low w ≡ b
       → (met h (under k true) ≡ b) × (met h (under k false) ≡ not b)
   test_met k w b e o = (rw e o, rw e (ap not o))
@@ -649,6 +657,7 @@ module _ (regs : ℕ → ℕ) (h : ℕ → Answer) (f : Computes) (st : ℕ → 
           (live_sparse regs h env s.registers l) (absent_none regs h) p.yea_runs)
           (ins (word_clear regs h k w false e) ms.1) ir
 
+  -- where their guard is met, the nodes of items do what the items do
   pub on_items :
       (is : Items) (g : Scope) (j m : ℕ) (env : Env) (bits : Bits) (s : Machine) → FitsItems is → Clear regs h g
       → met h g ≡ true → Live regs h env s.registers → BitsAre bits s.registers

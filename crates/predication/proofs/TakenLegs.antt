@@ -24,6 +24,7 @@ use Rattle.ir_forms.specs.declared.hyper.Exit.TheVariants as exit
 pub put_at : (env : Env) (r : ℕ) (e : Entry) (q : ℕ) → nat_eq q r ≡ false → put env r e q ≡ env q
 put_at env r e q n = rw n refl
 
+-- where neither of two tests holds, each is false
 pub or_false : (b c : Bool) → cond b true c ≡ false → (b ≡ false) × (c ≡ false)
 or_false true c e = (e, absurd (cc))
 or_false false c e = (refl, e)
@@ -57,6 +58,7 @@ taken_once : (q r : ℕ) (rs ds : List ℕ) → member q ds ≡ member q rs → 
 taken_once q r rs ds h true m = h ∙ covered q r rs (nat_eq q r) refl m
 taken_once q r rs ds h false m = ap (λ (b : Bool). cond (nat_eq q r) true b) h
 
+-- without repetitions a list has the same members
 pub member_distinct : (q : ℕ) (rs : List ℕ) → member q (distinct rs) ≡ member q rs
 member_distinct q [] = refl
 member_distinct q (r ∷ rs) = taken_once q r rs (distinct rs) (member_distinct q rs) (member r rs) refl
@@ -81,6 +83,7 @@ pub joins_out :
 joins_out t j env yea nay ty tn q e =
     join_out (distinct (ty ++ tn)) t j env yea nay ty tn q (member_distinct q (ty ++ tn) ∙ e)
 
+-- items leave a register that they do not touch standing for what it did
 pub untouched : (is : Items) (g : Scope) (j m : ℕ) (env : Env) (bits : Bits) (q : ℕ) → member q (touched is) ≡ false
     → (items g j m env bits is).env q ≡ env q
 untouched Done g j m env bits q e = refl
@@ -96,6 +99,7 @@ untouched (If t yea nay rest) g j m env bits q e =
     (sym (member_append q (touched yea ++ touched nay) (touched rest)) ∙ e) in
     untouched rest g _ _ _ _ q n.1 ∙ joins_out _ _ env _ _ (touched yea) (touched nay) q n.0
 
+-- a tail leaves a register that it does not touch standing for what it did
 pub tail_untouched : (t : Tail) (g : Scope) (j e : ℕ) (env : Env) (bits : Bits) (q : ℕ) → member q (tail_touched t)
     ≡ false → (tail g j e env bits t).env q ≡ env q
 tail_untouched (Leave (exit.Jump l)) g j e env bits q z = refl
@@ -132,6 +136,7 @@ join_quiet (r ∷ rs) t j env yea nay ty tn =
     quiet_append _ _ (side_quiet (member r ty) _ _ r (env r) (yea r))
     (quiet_append _ _ (side_quiet (member r tn) _ _ r (env r) (nay r)) (join_quiet rs t _ env yea nay ty tn))
 
+-- the nodes of a join are no branches
 pub join_inner : (rs : List ℕ) (t j : ℕ) (env yea nay : Env) (ty tn : List ℕ)
     → Inner (join t j env yea nay ty tn rs).nodes
 join_inner [] t j env yea nay ty tn = tt
@@ -309,6 +314,7 @@ module _ (regs : ℕ → ℕ) (h : ℕ → Answer) (f : Computes) (st : ℕ → 
   side_calm true g j r before mine c w x = tt
   side_calm false g j r before mine c w x = left_calm g j r before.given before.kept c w x
 
+  -- the nodes of a join are calm
   pub join_calm : (rs : List ℕ) (t j : ℕ) (env yea nay : Env) (ty tn : List ℕ) → Clear regs h (under t true)
       → Clear regs h (under t false) → Sparse regs h env
       → Runs regs h f st j (join t j env yea nay ty tn rs).nodes → Calm regs h (join t j env yea nay ty tn rs).nodes

@@ -35,35 +35,44 @@ use Rattle.predication.proofs.BitLemmas.{bit_left}
 
 -- THE PARTS OF AN IF, BY NAME
 
+-- where the legs of an if begin
 abbrev pub legs_at : Scope → ℕ → Env → Bits → Source → ℕ
 legs_at g j env bits t = j + length (tested g j env bits t).nodes
 
+-- the node of an if's test
 abbrev pub test_at : Scope → ℕ → Env → Bits → Source → ℕ
 test_at g j env bits t = (tested g j env bits t).last
 
+-- the first leg of an if, emitted
 abbrev pub yea_out : Scope → ℕ → ℕ → Env → Bits → Source → Items → Out
 yea_out g j m env bits t yea = items (under (test_at g j env bits t) true) (legs_at g j env bits t) m env no_bits yea
 
+-- where the second leg of an if begins
 abbrev pub nay_at : Scope → ℕ → ℕ → Env → Bits → Source → Items → ℕ
 nay_at g j m env bits t yea = legs_at g j env bits t + length (yea_out g j m env bits t yea).nodes
 
+-- the second leg of an if, emitted
 abbrev pub nay_out : Scope → ℕ → ℕ → Env → Bits → Source → Items → Items → Out
 nay_out g j m env bits t yea nay =
     items (under (test_at g j env bits t) false) (nay_at g j m env bits t yea)
     (yea_out g j m env bits t yea).number env no_bits nay
 
+-- where the registers of both legs of an if are joined
 abbrev pub join_at : Scope → ℕ → ℕ → Env → Bits → Source → Items → Items → ℕ
 join_at g j m env bits t yea nay = nay_at g j m env bits t yea + length (nay_out g j m env bits t yea nay).nodes
 
+-- the registers of both legs of an if, joined
 abbrev pub joined : Scope → ℕ → ℕ → Env → Bits → Source → Items → Items → Joined
 joined g j m env bits t yea nay =
     join (test_at g j env bits t) (join_at g j m env bits t yea nay) env (yea_out g j m env bits t yea).env
     (nay_out g j m env bits t yea nay).env (touched yea) (touched nay)
     (distinct (touched yea ++ touched nay))
 
+-- where the items behind an if begin
 abbrev pub rest_at : Scope → ℕ → ℕ → Env → Bits → Source → Items → Items → ℕ
 rest_at g j m env bits t yea nay = join_at g j m env bits t yea nay + length (joined g j m env bits t yea nay).nodes
 
+-- the items behind an if, emitted
 abbrev pub rest_out : Scope → ℕ → ℕ → Env → Bits → Source → Items → Items → Items → Out
 rest_out g j m env bits t yea nay rest =
     items g (rest_at g j m env bits t yea nay) (nay_out g j m env bits t yea nay).number
@@ -76,6 +85,7 @@ pub test_quiet : (g : Scope) (j : ℕ) (env : Env) (r : ℕ) (b : Option ℕ) �
 test_quiet g j env r None = fresh_quiet g j (operand j env (Reg r)) (operand_quiet j env (Reg r))
 test_quiet g j env r (Some k) = tt
 
+-- the nodes of a test neither load nor store
 pub tested_quiet : (g : Scope) (j : ℕ) (env : Env) (bits : Bits) (t : Source) → Quiet (tested g j env bits t).nodes
 tested_quiet g j env bits (Const w) = fresh_quiet g j (operand j env (Const w)) (operand_quiet j env (Const w))
 tested_quiet g j env bits (Reg r) = test_quiet g j env r (bits r)
@@ -87,6 +97,7 @@ test_inner : (g : Scope) (j : ℕ) (env : Env) (r : ℕ) (b : Option ℕ) → In
 test_inner g j env r None = fresh_inner g j (operand j env (Reg r)) (operand_inner j env (Reg r))
 test_inner g j env r (Some k) = tt
 
+-- the nodes of a test are no branches
 pub tested_inner : (g : Scope) (j : ℕ) (env : Env) (bits : Bits) (t : Source) → Inner (tested g j env bits t).nodes
 tested_inner g j env bits (Const w) = fresh_inner g j (operand j env (Const w)) (operand_inner j env (Const w))
 tested_inner g j env bits (Reg r) = test_inner g j env r (bits r)
@@ -110,13 +121,16 @@ store_form form.Branch e = absurd (cc)
 store_form form.Constant e = absurd (cc)
 
 module _ (regs : ℕ → ℕ) (h : ℕ → Answer) where
+  -- the acts of one node
   abbrev pub node_acts : FlowNode → List Act
   node_acts n = cond (met h n.guard) (act_tokens (form_of n.op) n (first regs h n.left) (first regs h n.right)) []
 
+  -- behind quiet nodes come the acts of a node and of those behind it
   pub fired_one : (x : List FlowNode) (n : FlowNode) (o : List FlowNode) → Quiet x → fired regs h (x ++ n ∷ o)
       ≡ node_acts n ++ fired regs h o
   fired_one x n o q = rw (fired_append regs h x (n ∷ o), quiet_fired regs h x q) refl
 
+  -- behind two groups of quiet nodes come the acts of a node and of those behind it
   pub fired_two : (x y : List FlowNode) (n : FlowNode) (o : List FlowNode) → Quiet x → Quiet y
       → fired regs h (x ++ (y ++ n ∷ o)) ≡ node_acts n ++ fired regs h o
   fired_two x y n o q r = rw (fired_append regs h x (y ++ n ∷ o), quiet_fired regs h x q) (fired_one y n o r)
@@ -134,16 +148,20 @@ module _ (regs : ℕ → ℕ) (h : ℕ → Answer) where
         quiet_fired regs h c r,
       ) refl
 
+  -- no null stands at a guard whose node has no token
   pub absent_clear : (k : ℕ) (s : Bool) → h k ≡ None → Clear regs h (under k s)
   absent_clear k s e = λ n. absurd (cc)
 
+  -- no null stands at a guard whose node has a word
   pub word_clear : (k w : ℕ) (s : Bool) → h k ≡ Some (Word w) → Clear regs h (under k s)
   word_clear k w s e = λ n. absurd (cc)
 
+  -- a guard whose node has no token is not met
   pub absent_test : (k : ℕ) (s : Bool) → h k ≡ None → met h (under k s) ≡ false
   absent_test k true e = rw e refl
   absent_test k false e = rw e refl
 
+  -- a node whose guard is not met has no token
   pub unmet : (g : Scope) (t u : Answer) → met h g ≡ false → t ≡ if_matched (met h g) u → t ≡ None
   unmet g t u m e = let e2 : if_matched (met h g) u ≡ None = rw m refl in e ∙ e2
 
@@ -161,6 +179,7 @@ module _ (regs : ℕ → ℕ) (h : ℕ → Answer) where
   dead_after q true false d e x y z t = subst (λ (p : Entry). Dead regs h p) (sym (y refl)) (z refl)
   dead_after q false false d e x y z t = absurd (cc)
 
+  -- a choice is dead where the entry that it takes is
   pub dead_here : (b : Bool) (d e : Entry) → Dead regs h d → b ≡ true → Dead regs h (cond b d e)
   dead_here true d e x t = x
   dead_here false d e x t = absurd (cc)
@@ -179,6 +198,7 @@ module _ (regs : ℕ → ℕ) (h : ℕ → Answer) where
   abbrev pub Absent : Bits → Type 0
   Absent bits = (r k : ℕ) → bits r ≡ Some k → h k ≡ None
 
+  -- a table without bits has none that is there
   pub absent_none : Absent no_bits
   absent_none r k e = absurd (cc)
 
@@ -224,6 +244,7 @@ module _ (regs : ℕ → ℕ) (h : ℕ → Answer) where
     test_off g j env r None u a y = fresh_off g j (operand j env (Reg r)) u y
     test_off g j env r (Some k) u a y = a k refl
 
+    -- where its guard is not met, the node of a test has no token
     pub tested_off : (g : Scope) (j : ℕ) (env : Env) (bits : Bits) (t : Source) → met h g ≡ false → Absent bits
         → Runs regs h f st j (tested g j env bits t).nodes → h (tested g j env bits t).last ≡ None
     tested_off g j env bits (Const w) u a y = fresh_off g j (operand j env (Const w)) u y
@@ -246,6 +267,7 @@ module _ (regs : ℕ → ℕ) (h : ℕ → Answer) where
     test_calm g j env r None c s y = operand_fresh g j env (Reg r) c s y
     test_calm g j env r (Some k) c s y = tt
 
+    -- the nodes of a test are calm
     pub tested_calm : (g : Scope) (j : ℕ) (env : Env) (bits : Bits) (t : Source) → Clear regs h g → Sparse regs h env
         → Runs regs h f st j (tested g j env bits t).nodes → Calm regs h (tested g j env bits t).nodes
     tested_calm g j env bits (Const w) c s y = operand_fresh g j env (Const w) c s y
@@ -253,6 +275,7 @@ module _ (regs : ℕ → ℕ) (h : ℕ → Answer) where
 
     -- ITEMS
 
+    -- what items do where their guard is not met: nothing
     pub record Off (g : Scope) (j m : ℕ) (env : Env) (bits : Bits) (is : Items) : Type 0 where
       pub dead : (q : ℕ) → member q (touched is) ≡ true → Dead regs h ((items g j m env bits is).env q)
       pub acts : fired regs h (items g j m env bits is).nodes ≡ []
@@ -263,10 +286,12 @@ module _ (regs : ℕ → ℕ) (h : ℕ → Answer) where
     load_settled : (F : Form) (n : FlowNode) → F ≡ form.Load → SettledIn regs h f st F n → st n.number ≡ None
     load_settled F n e s = subst (λ (G : Form). SettledIn regs h f st G n) e s
 
+    -- what is stored under the number of a store is what the store stores
     pub store_settled : (F : Form) (n : FlowNode) → F ≡ form.Store → SettledIn regs h f st F n → st n.number
         ≡ stored_where (met h n.guard) regs h n
     store_settled F n e s = subst (λ (G : Form). SettledIn regs h f st G n) e s
 
+    -- nothing is stored under the number of a load
     pub load_none : (op : Op) (n : FlowNode) → n.op ≡ op → loads op ≡ true → SettledIn regs h f st (form_of n.op) n
         → st n.number ≡ None
     load_none op n e l s = load_settled (form_of n.op) n (ap form_of e ∙ load_form (form_of op) l) s
@@ -281,6 +306,7 @@ module _ (regs : ℕ → ℕ) (h : ℕ → Answer) where
       pub rest_runs : Runs regs h f st (rest_at g j m env bits t yea nay)
           (rest_out g j m env bits t yea nay rest).nodes
 
+    -- the nodes of an if run part by part
     pub parts_of : (g : Scope) (j m : ℕ) (env : Env) (bits : Bits) (t : Source) (yea nay rest : Items)
         → Runs regs h f st j (items g j m env bits (If t yea nay rest)).nodes → Parts g j m env bits t yea nay rest
     parts_of g j m env bits t yea nay rest x =
@@ -301,6 +327,7 @@ module _ (regs : ℕ → ℕ) (h : ℕ → Answer) where
           rest_runs = runs_back regs h f st (i + length a + length b) c o x3;
         }
 
+    -- the nodes of an if are calm where each part's are
     pub calm_if : (x a b c o : List FlowNode) → Calm regs h x → Calm regs h a → Calm regs h b → Calm regs h c
         → Calm regs h o → Calm regs h (x ++ (a ++ (b ++ (c ++ o))))
     calm_if x a b c o kx ka kb kc ko =
@@ -361,6 +388,7 @@ module _ (regs : ℕ → ℕ) (h : ℕ → Answer) where
           memory = λ bytes l. w.memory bytes (z.memory bytes (y.memory bytes l));
         }
 
+    -- where their guard is not met, the nodes of items do nothing
     pub off_items :
         (is : Items) (g : Scope) (j m : ℕ) (env : Env) (bits : Bits) → FitsItems is → Clear regs h g → met h g
         ≡ false → Sparse regs h env → Absent bits

@@ -1,70 +1,15 @@
 use Rattle.std.proofs.Common.{◌≡◌, ap, ◌∙◌, arith, drop}
 use Rattle.ir_forms.specs.inside.FlatCode.{Step}
 use Rattle.ir_forms.specs.inside.FlatViews.{code_of, step_of}
-use Rattle.ir_forms.proofs.Views.{step_let, step_frame, step_load, step_save, step_call, step_put}
-use Rattle.ir_forms.proofs.Views.{step_get, step_if, step_loop, step_break, step_continue}
-use Rattle.ir_forms.proofs.Views.{step_return}
+use Rattle.ir_forms.proofs.Views.{step_if, step_continue}
 use Rattle.hyper_build.specs.inside.Legs as legs
+use Rattle.hyper_build.proofs.FormArms.{no_continue}
 use Rattle.hyper_build.proofs.posts.+going.Goals as goal
-
-pub continues_stmt-returns-in-Let : goal.continues_stmt-returns-in-Let
-continues_stmt-returns-in-Let t c =
-    let h = ap (λ (st : Step). legs.continues_in st)
-    (ap step_of c.in-Let.is ∙ step_let c.in-Let.to c.in-Let.op c.in-Let.a c.in-Let.b) in
-    grind (arith, h)
-
-pub continues_stmt-returns-in-Frame : goal.continues_stmt-returns-in-Frame
-continues_stmt-returns-in-Frame t c =
-    let h = ap (λ (st : Step). legs.continues_in st)
-    (ap step_of c.in-Frame.is ∙ step_frame c.in-Frame.to c.in-Frame.at) in
-    grind (arith, h)
-
-pub continues_stmt-returns-in-Load : goal.continues_stmt-returns-in-Load
-continues_stmt-returns-in-Load t c =
-    let h = ap (λ (st : Step). legs.continues_in st)
-    (ap step_of c.in-Load.is ∙ step_load c.in-Load.to c.in-Load.op c.in-Load.address) in
-    grind (arith, h)
-
-pub continues_stmt-returns-in-Save : goal.continues_stmt-returns-in-Save
-continues_stmt-returns-in-Save t c =
-    let h = ap (λ (st : Step). legs.continues_in st)
-    (ap step_of c.in-Save.is ∙ step_save c.in-Save.op c.in-Save.address c.in-Save.value) in
-    grind (arith, h)
-
-pub continues_stmt-returns-in-Call : goal.continues_stmt-returns-in-Call
-continues_stmt-returns-in-Call t c =
-    let h = ap (λ (st : Step). legs.continues_in st)
-    (ap step_of c.in-Call.is ∙ step_call c.in-Call.function c.in-Call.args c.in-Call.to) in
-    grind (arith, h)
-
-pub continues_stmt-returns-in-Put : goal.continues_stmt-returns-in-Put
-continues_stmt-returns-in-Put t c =
-    let h = ap (λ (st : Step). legs.continues_in st)
-    (ap step_of c.in-Put.is ∙ step_put _) in
-    grind (arith, h)
-
-pub continues_stmt-returns-in-Get : goal.continues_stmt-returns-in-Get
-continues_stmt-returns-in-Get t c =
-    let h = ap (λ (st : Step). legs.continues_in st)
-    (ap step_of c.in-Get.is ∙ step_get c.in-Get.to) in
-    grind (arith, h)
 
 pub continues_stmt-returns-in-If : goal.continues_stmt-returns-in-If
 continues_stmt-returns-in-If t c =
     let h = ap (λ (st : Step). legs.continues_in st)
     (ap step_of c.in-If.is ∙ step_if c.in-If.test c.in-If.yes c.in-If.no) in
-    grind (arith, h)
-
-pub continues_stmt-returns-in-Loop : goal.continues_stmt-returns-in-Loop
-continues_stmt-returns-in-Loop t c =
-    let h = ap (λ (st : Step). legs.continues_in st)
-    (ap step_of c.in-Loop.is ∙ step_loop c.in-Loop.body c.in-Loop.post) in
-    grind (arith, h)
-
-pub continues_stmt-returns-in-Break : goal.continues_stmt-returns-in-Break
-continues_stmt-returns-in-Break t c =
-    let h = ap (λ (st : Step). legs.continues_in st)
-    (ap step_of c.in-Break.is ∙ step_break) in
     grind (arith, h)
 
 pub continues_stmt-returns-in-Continue : goal.continues_stmt-returns-in-Continue
@@ -73,11 +18,9 @@ continues_stmt-returns-in-Continue t c =
     (ap step_of c.in-Continue.is ∙ step_continue) in
     grind (arith, h)
 
-pub continues_stmt-returns-in-Return : goal.continues_stmt-returns-in-Return
-continues_stmt-returns-in-Return t c =
-    let h = ap (λ (st : Step). legs.continues_in st)
-    (ap step_of c.in-Return.is ∙ step_return _) in
-    grind (arith, h)
+pub continues_stmt-returns-in_default : goal.continues_stmt-returns-in_default
+continues_stmt-returns-in_default t c =
+    let h = no_continue c.args.s.now c.in_default.not-If c.in_default.not-Continue in grind (arith, h)
 
 pub continues-returns : goal.continues-returns
 continues-returns t c =

@@ -1,10 +1,9 @@
 use Rattle.std.proofs.Common.{◌≡◌, ap, ◌∙◌, arith, drop}
 use Rattle.ir_forms.specs.inside.FlatCode.{Step}
 use Rattle.ir_forms.specs.inside.FlatViews.{code_of, step_of}
-use Rattle.ir_forms.proofs.Views.{step_let, step_frame, step_load, step_save, step_call, step_put}
-use Rattle.ir_forms.proofs.Views.{step_get, step_if, step_loop, step_break, step_continue}
-use Rattle.ir_forms.proofs.Views.{step_return}
+use Rattle.ir_forms.proofs.Views.{step_let, step_frame, step_load, step_save, step_if}
 use Rattle.hyper_build.specs.inside.BackwardItems as code
+use Rattle.hyper_build.proofs.FormArms.{no_item}
 use Rattle.hyper_build.proofs.straight.+straight.Goals as goal
 
 pub is_straight_stmt-returns-in-Let : goal.is_straight_stmt-returns-in-Let
@@ -31,52 +30,16 @@ is_straight_stmt-returns-in-Save t c =
     (ap step_of c.in-Save.is ∙ step_save c.in-Save.op c.in-Save.address c.in-Save.value) in
     grind (arith, h)
 
-pub is_straight_stmt-returns-in-Call : goal.is_straight_stmt-returns-in-Call
-is_straight_stmt-returns-in-Call t c =
-    let h = ap (λ (st : Step). code.is_straight_in st)
-    (ap step_of c.in-Call.is ∙ step_call c.in-Call.function c.in-Call.args c.in-Call.to) in
-    grind (arith, h)
-
-pub is_straight_stmt-returns-in-Put : goal.is_straight_stmt-returns-in-Put
-is_straight_stmt-returns-in-Put t c =
-    let h = ap (λ (st : Step). code.is_straight_in st)
-    (ap step_of c.in-Put.is ∙ step_put _) in
-    grind (arith, h)
-
-pub is_straight_stmt-returns-in-Get : goal.is_straight_stmt-returns-in-Get
-is_straight_stmt-returns-in-Get t c =
-    let h = ap (λ (st : Step). code.is_straight_in st)
-    (ap step_of c.in-Get.is ∙ step_get c.in-Get.to) in
-    grind (arith, h)
-
 pub is_straight_stmt-returns-in-If : goal.is_straight_stmt-returns-in-If
 is_straight_stmt-returns-in-If t c =
     let h = ap (λ (st : Step). code.is_straight_in st)
     (ap step_of c.in-If.is ∙ step_if c.in-If.test c.in-If.yes c.in-If.no) in
     grind (arith, h)
 
-pub is_straight_stmt-returns-in-Loop : goal.is_straight_stmt-returns-in-Loop
-is_straight_stmt-returns-in-Loop t c =
-    let h = ap (λ (st : Step). code.is_straight_in st)
-    (ap step_of c.in-Loop.is ∙ step_loop c.in-Loop.body c.in-Loop.post) in
-    grind (arith, h)
-
-pub is_straight_stmt-returns-in-Break : goal.is_straight_stmt-returns-in-Break
-is_straight_stmt-returns-in-Break t c =
-    let h = ap (λ (st : Step). code.is_straight_in st)
-    (ap step_of c.in-Break.is ∙ step_break) in
-    grind (arith, h)
-
-pub is_straight_stmt-returns-in-Continue : goal.is_straight_stmt-returns-in-Continue
-is_straight_stmt-returns-in-Continue t c =
-    let h = ap (λ (st : Step). code.is_straight_in st)
-    (ap step_of c.in-Continue.is ∙ step_continue) in
-    grind (arith, h)
-
-pub is_straight_stmt-returns-in-Return : goal.is_straight_stmt-returns-in-Return
-is_straight_stmt-returns-in-Return t c =
-    let h = ap (λ (st : Step). code.is_straight_in st)
-    (ap step_of c.in-Return.is ∙ step_return _) in
+pub is_straight_stmt-returns-in_default : goal.is_straight_stmt-returns-in_default
+is_straight_stmt-returns-in_default t c =
+    let h = no_item c.args.s.now
+    c.in_default.not-Let c.in_default.not-Frame c.in_default.not-Load c.in_default.not-Save c.in_default.not-If in
     grind (arith, h)
 
 pub is_straight-returns : goal.is_straight-returns

@@ -1,8 +1,7 @@
 use Rattle.std.proofs.Common.{◌≡◌, true, false, List, [], ◌∷◌, length, refl, sym, ap, ◌∙◌}
 use Rattle.std.specs.Prelude.{◌==◌}
 use Rattle.ir_forms.specs.declared.flat.FlatStmt.{FlatStmt}
-use Rattle.ir_forms.specs.inside.FlatCode.{Step, Let, Frame, Load, Save, Call, Put, Get, If, Loop, Break, Continue}
-use Rattle.ir_forms.specs.inside.FlatCode.{Return, Code, ◌▹◌}
+use Rattle.ir_forms.specs.inside.FlatCode.{Step, Let, Code, ◌▹◌}
 use Rattle.ir_forms.specs.inside.FlatFits.{is_small_leg}
 use Rattle.ir_forms.specs.inside.FlatViews.{code_of, step_of}
 use Rattle.hyper_build.proofs.straight.is_small_leg.Goals as goal
@@ -10,17 +9,7 @@ use Rattle.hyper_build.proofs.straight.is_small_leg.Goals as goal
 -- two statements or more are too many
 two_are_many : (x y : Step) (c : Code) → false ≡ is_small_leg (x ▹ (y ▹ c))
 two_are_many (Let to op a b) y c = refl
-two_are_many (Frame to at) y c = refl
-two_are_many (Load to op a) y c = refl
-two_are_many (Save op a v) y c = refl
-two_are_many (Call f args to kept) y c = refl
-two_are_many (Put a) y c = refl
-two_are_many (Get to) y c = refl
-two_are_many (If t one other) y c = refl
-two_are_many (Loop body post) y c = refl
-two_are_many Break y c = refl
-two_are_many Continue y c = refl
-two_are_many (Return v) y c = refl
+two_are_many _ y c = refl
 
 more_are_many : (s : FlatStmt) (rest : List FlatStmt) → (length rest == 0) ≡ false
     → false ≡ is_small_leg (code_of (s ∷ rest))
