@@ -1,0 +1,11 @@
+pub mod Members
+pub mod Keeps
+pub mod Runs
+pub mod Shapes
+pub mod Walks
+pub mod Judged
+pub mod Forwards
+pub mod Programs
+pub mod Counts
+pub mod Lists
+pub mod Forwarded

@@ -1,0 +1,7 @@
+pub mod Alive
+pub mod Entries
+pub mod Forward
+pub mod Laws
+pub mod Sets
+pub mod Trim
+pub mod Walked
