@@ -1,0 +1,9 @@
+pub mod Implied
+pub mod Before
+pub mod Paths
+pub mod Fitting
+pub mod Meaning
+pub mod Regular
+pub mod Labels
+pub mod Chosen
+pub mod StandardFacts

@@ -1,0 +1,91 @@
+//! The nodes that lose their guards: all that are pure and guarded, but those that are seen where their guard is not
+//! met. Nothing is claimed of them, since they are judged.
+use crate::guards::{guard_at, implies, is_pure};
+use base::{Items, Memory};
+use ir_forms::{FlowBlock, FlowNode, FlowSource, FlowWrite, Guard};
+use std::alloc::Global;
+
+// A mark of each node that is pure and has a guard.
+fn pure_nodes(alloc: Global, nodes: &[FlowNode]) -> Result<Items<bool>, Memory> {
+    let mut marks = Items::new(alloc);
+    for n in nodes {
+        marks.push(n.guard.is_some() && is_pure(n.op))?;
+    }
+    Ok(marks)
+}
+
+// Node k keeps its guard.
+fn keep(marks: &mut Items<bool>, k: u32) {
+    if (k as usize) < marks.len() {
+        marks.set(k as usize, false);
+    }
+}
+
+// Each node of a list does.
+fn keep_all(marks: &mut Items<bool>, sources: &[FlowSource]) {
+    for x in sources {
+        match *x {
+            FlowSource::Read(_) => {}
+            FlowSource::Node(k) => keep(marks, k),
+        }
+    }
+}
+
+// The only source of an operand of a node with this guard, where it may be seen without its own.
+fn keep_one(marks: &mut Items<bool>, nodes: &[FlowNode], inner: Option<Guard>, x: FlowSource) {
+    match x {
+        FlowSource::Read(_) => {}
+        FlowSource::Node(k) => {
+            if !implies(nodes, guard_at(nodes, k), inner) {
+                keep(marks, k);
+            }
+        }
+    }
+}
+
+// What an operand of a node with this guard keeps.
+fn keep_operand(
+    marks: &mut Items<bool>,
+    nodes: &[FlowNode],
+    inner: Option<Guard>,
+    sources: &[FlowSource],
+) {
+    match sources {
+        [] => {}
+        [x] => keep_one(marks, nodes, inner, *x),
+        _ => keep_all(marks, sources),
+    }
+}
+
+// The node of a guard.
+fn keep_guard(marks: &mut Items<bool>, guard: Option<Guard>) {
+    match guard {
+        None => {}
+        Some(g) => keep(marks, g.node),
+    }
+}
+
+// What the nodes keep.
+fn keep_nodes(marks: &mut Items<bool>, nodes: &[FlowNode]) {
+    for n in nodes {
+        keep_guard(marks, n.guard);
+        keep_operand(marks, nodes, n.guard, n.left.as_slice());
+        keep_operand(marks, nodes, n.guard, n.right.as_slice());
+    }
+}
+
+// What the writes keep.
+fn keep_writes(marks: &mut Items<bool>, writes: &[FlowWrite]) {
+    for w in writes {
+        keep_all(marks, w.sources.as_slice());
+    }
+}
+
+/// A mark of each node that loses its guard.
+pub fn guessed(alloc: Global, block: &FlowBlock) -> Result<Items<bool>, Memory> {
+    let nodes = block.nodes.as_slice();
+    let mut marks = pure_nodes(alloc, nodes)?;
+    keep_nodes(&mut marks, nodes);
+    keep_writes(&mut marks, block.writes.as_slice());
+    Ok(marks)
+}
