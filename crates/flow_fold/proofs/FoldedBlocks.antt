@@ -1,0 +1,201 @@
+-- A block with a folded node may stand for the block.
+use Rattle.std.proofs.Common.{◌≡◌, ◌≢◌, ℕ, List, sym, ap, subst, ◌∙◌, map, true}
+use Rattle.std.specs.Prelude.{ℤ, Some, Option, slice_get, option_map}
+use Rattle.std.proofs.lemmas.List.{map-set}
+use Rattle.std.proofs.lemmas.Option.{slice_get-map, same_Some}
+use Rattle.trips_isa.specs.declared.op.Op.{Op}
+use Rattle.ir_forms.specs.declared.flow.FlowSource.{FlowSource}
+use Rattle.ir_forms.specs.declared.flow.Guard.{Guard}
+use Rattle.ir_forms.specs.declared.flow.FlowNode.{FlowNode}
+use Rattle.ir_forms.specs.declared.flow.FlowBlock.{FlowBlock}
+use Rattle.ir_forms.specs.inside.Agreement.{MeansBlock}
+use Rattle.ir_forms.specs.inside.FlowFits.{IsComplete}
+use Rattle.flow_fold.specs.inside.Immediates.{immediate_of, gives_constant}
+use Rattle.flow_fold.specs.inside.Folds.{with_constant, with_left, with_right, with_node, Turns, immediate}
+use Rattle.flow_fold.specs.inside.Folds.{left_copy, right_copy}
+use Rattle.flow_fold.specs.inside.Folds.{Folds}
+use Rattle.flow_fold.specs.inside.Replaces.{Immediates, with_immediate, with_immediates, LeavesOwn, Replaces}
+use Rattle.flow_fold.proofs.ConstantFacts.{immediate_is, constants_stay, small_own, Small, small_is}
+use Rattle.flow_fold.proofs.Turned.{Written, Works}
+use Rattle.flow_fold.proofs.Turning.{constant_written, constant_works}
+use Rattle.flow_fold.proofs.Forwarded.{Copied, copied_is}
+use Rattle.flow_fold.proofs.CopyRules.{left_written, left_works, right_written, right_works}
+use Rattle.flow_fold.proofs.Replacing.{regular_kept, complete_kept, means_kept, labels_kept}
+
+-- both parts of what a turned node has to do
+record Stands (f : FlowBlock) (j : ℕ) (n m : FlowNode) : Type 0 where
+  written : Written f j n m
+  works : Works f j n m
+
+-- the rule of small constants, with the node that gives one
+record Constantly (nodes : List FlowNode) (n m : FlowNode) : Type 0 where
+  number : ℤ
+  op : Op
+  small : Small nodes n.right number
+  form : immediate_of n.op ≡ Some op
+  is : m ≡ with_constant n op number
+
+constantly : (f : FlowBlock) (j : ℕ) (n m : FlowNode) → slice_get f.nodes j ≡ Some n → Constantly f.nodes n m
+    → Stands f j n m
+constantly f j n m there c =
+    let p = immediate_is n.op c.op c.form in
+    subst (λ (x : FlowNode). Stands f j n x) (sym c.is)
+    (record {
+      written = constant_written f j n c.number c.op there c.small p apart;
+      works = constant_works f j n c.number c.op there c.small p apart;
+    })
+  where
+    apart : c.small.place ≢ j
+    apart e =
+        let same : c.small.node ≡ n = same_Some c.small.node n
+        (sym c.small.there ∙ (ap (λ (i : ℕ). slice_get f.nodes i) e ∙ there)) in
+        constants_stay n.op c.op (subst (λ (x : FlowNode). gives_constant x.op ≡ true) same c.small.gives) c.form
+
+-- a rule by which a node takes what a copy takes, with the copy
+record Leftly (nodes : List FlowNode) (j : ℕ) (n m : FlowNode) : Type 0 where
+  sources : List FlowSource
+  copy : Copied nodes j n.guard n.left sources
+  is : m ≡ with_left n sources
+
+-- the same at the right
+record Rightly (nodes : List FlowNode) (j : ℕ) (n m : FlowNode) : Type 0 where
+  sources : List FlowSource
+  copy : Copied nodes j n.guard n.right sources
+  is : m ≡ with_right n sources
+
+leftly : (f : FlowBlock) (j : ℕ) (n m : FlowNode) → slice_get f.nodes j ≡ Some n → Leftly f.nodes j n m
+    → Stands f j n m
+leftly f j n m there c =
+    subst (λ (x : FlowNode). Stands f j n x) (sym c.is)
+    (record {
+      written = left_written f j n there c.sources c.copy;
+      works = left_works f j n there c.sources c.copy;
+    })
+
+rightly : (f : FlowBlock) (j : ℕ) (n m : FlowNode) → slice_get f.nodes j ≡ Some n → Rightly f.nodes j n m
+    → Stands f j n m
+rightly f j n m there c =
+    subst (λ (x : FlowNode). Stands f j n x) (sym c.is)
+    (record {
+      written = right_written f j n there c.sources c.copy;
+      works = right_works f j n there c.sources c.copy;
+    })
+
+-- the rules, with the nodes that they look at
+data How (nodes : List FlowNode) (j : ℕ) (n m : FlowNode) : Type 0 where
+  by_constant : Constantly nodes n m → How nodes j n m
+  by_left : Leftly nodes j n m → How nodes j n m
+  by_right : Rightly nodes j n m → How nodes j n m
+
+how_stands : (f : FlowBlock) (j : ℕ) (n m : FlowNode) → slice_get f.nodes j ≡ Some n → How f.nodes j n m
+    → Stands f j n m
+how_stands f j n m there (by_constant c) = constantly f j n m there c
+how_stands f j n m there (by_left c) = leftly f j n m there c
+how_stands f j n m there (by_right c) = rightly f j n m there c
+
+module _ (r : Immediates) (own : LeavesOwn r) where
+  abbrev new : FlowNode → FlowNode
+  new = with_immediate r
+
+  -- new immediates leave a small constant
+  small_kept : (nodes : List FlowNode) (n m : FlowNode) → Constantly nodes n m
+      → Constantly (map new nodes) (new n) (new m)
+  small_kept nodes n m c =
+      let s = c.small in
+      let o = small_own c.number s.small in
+      record {
+        number = c.number;
+        op = c.op;
+        small = record {
+          place = s.place;
+          node = new s.node;
+          sources = s.sources;
+          there = slice_get-map new nodes s.place ∙ ap (option_map new) s.there;
+          gives = s.gives;
+          guard = s.guard;
+          imm = ap (r s.node.op) s.imm ∙ own s.node.op c.number o;
+          small = s.small;
+        };
+        form = c.form;
+        is = ap new c.is ∙ ap (λ (z : ℤ). record (with_constant n c.op c.number) { imm = z }) (own c.op c.number o);
+      }
+
+  -- and a copy
+  copy_kept : (nodes : List FlowNode) (j : ℕ) (g : Option Guard) (ss ls : List FlowSource)
+      → Copied nodes j g ss ls → Copied (map new nodes) j g ss ls
+  copy_kept nodes j g ss ls c = record {
+    place = c.place;
+    node = new c.node;
+    sources = c.sources;
+    there = slice_get-map new nodes c.place ∙ ap (option_map new) c.there;
+    apart = c.apart;
+    mov = c.mov;
+    guard = c.guard;
+    left = c.left;
+  }
+
+  -- so each rule still applies
+  how_kept : (nodes : List FlowNode) (j : ℕ) (n m : FlowNode) → How nodes j n m
+      → How (map new nodes) j (new n) (new m)
+  how_kept nodes j n m (by_constant c) = by_constant (small_kept nodes n m c)
+  how_kept nodes j n m (by_left c) = by_left (record {
+    sources = c.sources;
+    copy = copy_kept nodes j n.guard n.left c.sources c.copy;
+    is = ap new c.is;
+  })
+  how_kept nodes j n m (by_right c) = by_right (record {
+    sources = c.sources;
+    copy = copy_kept nodes j n.guard n.right c.sources c.copy;
+    is = ap new c.is;
+  })
+
+turned : (nodes : List FlowNode) (j : ℕ) (n m : FlowNode) → Turns nodes j n m → How nodes j n m
+turned nodes j n m (immediate i o s p e) =
+    by_constant (record { number = i; op = o; small = small_is nodes n.right i s; form = p; is = e })
+turned nodes j n m (left_copy ss s e) =
+    by_left (record { sources = ss; copy = copied_is nodes j n.guard n.left ss s; is = e })
+turned nodes j n m (right_copy ss s e) =
+    by_right (record { sources = ss; copy = copied_is nodes j n.guard n.right ss s; is = e })
+
+module _ (f : FlowBlock) (j : ℕ) (n m : FlowNode) (there : slice_get f.nodes j ≡ Some n) (c : How f.nodes j n m)
+  where
+    abbrev g : FlowBlock
+    g = with_node f j m
+
+    plain : Stands f j n m
+    plain = how_stands f j n m there c
+
+    module _ (r : Immediates) (own : LeavesOwn r) where
+      abbrev ff : FlowBlock
+      ff = with_immediates r f
+
+      there_too : slice_get ff.nodes j ≡ Some (with_immediate r n)
+      there_too = slice_get-map (with_immediate r) f.nodes j ∙ ap (option_map (with_immediate r)) there
+
+      resolved : Stands ff j (with_immediate r n) (with_immediate r m)
+      resolved = how_stands ff j (with_immediate r n) (with_immediate r m) there_too
+          (how_kept r own f.nodes j n m c)
+
+      same : with_node ff j (with_immediate r m) ≡ with_immediates r g
+      same = ap (λ (ns : List FlowNode). record f { nodes = ns }) (sym (map-set (with_immediate r) f.nodes j m))
+
+    stands_for : Replaces f g
+    stands_for = record {
+      regular = λ r own t. regular_kept f j n m there plain.written t.regular;
+      complete = λ r own t.
+          let s = resolved r own in
+          subst (λ (b : FlowBlock). IsComplete b) (same r own)
+          (complete_kept (ff r own) j (with_immediate r n) (with_immediate r m) (there_too r own) s.written s.works
+          t.complete);
+      means = λ r own t at b x.
+          let s = resolved r own in
+          subst (λ (z : FlowBlock). MeansBlock at b z) (same r own)
+          (means_kept (ff r own) j (with_immediate r n) (with_immediate r m) (there_too r own) s.written s.works at b
+          x);
+      labels = λ y x e t. labels_kept f j n m there plain.written y x e t;
+    }
+
+-- a block with a folded node may stand for the block
+pub folding_stands : (f g : FlowBlock) → Folds f g → Replaces f g
+folding_stands f g s = subst (λ (z : FlowBlock). Replaces f z) (sym s.becomes)
+    (stands_for f s.place s.old s.new s.there (turned f.nodes s.place s.old s.new s.turns))

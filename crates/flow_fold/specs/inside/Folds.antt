@@ -1,0 +1,45 @@
+-- A step of the pass *fold*: one node of a block becomes another, which does the same with fewer tokens.
+use Rattle.std.specs.Prelude.{◌≡◌, ℕ, ℤ, List, [], Some, slice_get, slice_set}
+use Rattle.trips_isa.specs.declared.op.Op.{Op}
+use Rattle.ir_forms.specs.declared.flow.FlowSource.{FlowSource}
+use Rattle.ir_forms.specs.declared.flow.FlowNode.{FlowNode}
+use Rattle.ir_forms.specs.declared.flow.FlowBlock.{FlowBlock}
+use Rattle.flow_fold.specs.inside.Copies.{copied}
+use Rattle.flow_fold.specs.inside.Immediates.{immediate_of, small_of}
+
+-- a node whose right operand is the immediate of its new operation
+abbrev pub with_constant : FlowNode → Op → ℤ → FlowNode
+with_constant n o i = record n { op = o; imm = i; right = [] }
+
+-- a node with another left operand
+abbrev pub with_left : FlowNode → List FlowSource → FlowNode
+with_left n ss = record n { left = ss }
+
+-- a node with another right operand
+abbrev pub with_right : FlowNode → List FlowSource → FlowNode
+with_right n ss = record n { right = ss }
+
+-- the rules by which node j becomes another, among the nodes of its block
+pub data Turns (nodes : List FlowNode) (j : ℕ) (n m : FlowNode) : Type 0 where
+  -- a small constant at the right moves into the immediate
+  immediate : (i : ℤ) (o : Op) → small_of nodes n.right ≡ Some i → immediate_of n.op ≡ Some o
+      → m ≡ with_constant n o i → Turns nodes j n m
+  -- what a copy at the left copies is taken itself
+  left_copy : (ss : List FlowSource) → copied nodes j n.guard n.left ≡ Some ss → m ≡ with_left n ss
+      → Turns nodes j n m
+  -- what a copy at the right copies is taken itself
+  right_copy : (ss : List FlowSource) → copied nodes j n.guard n.right ≡ Some ss → m ≡ with_right n ss
+      → Turns nodes j n m
+
+-- a block with another node at a place
+abbrev pub with_node : FlowBlock → ℕ → FlowNode → FlowBlock
+with_node f j m = record f { nodes = slice_set f.nodes j m }
+
+-- g is f with one node turned
+pub record Folds (f g : FlowBlock) : Type 0 where
+  pub place : ℕ
+  pub old : FlowNode
+  pub new : FlowNode
+  pub there : slice_get f.nodes place ≡ Some old
+  pub turns : Turns f.nodes place old new
+  pub becomes : g ≡ with_node f place new

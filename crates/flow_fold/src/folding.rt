@@ -1,0 +1,210 @@
+//! The pass *fold*.
+
+ghost use Rattle.std.specs.Prelude.{◌≡◌, ◌<◌, length, IfOk, MatchOption};
+ghost use Rattle.flow_fold.specs.inside.Folds as folds;
+ghost use Rattle.flow_fold.specs.inside.Replaces.{Replaces};
+
+use crate::constants::{immediate_of, small_of};
+use crate::copies::copied;
+use crate::uses::feeds_several;
+use base::{Items, Memory};
+use ir_forms::{FlowBlock, FlowNode, FlowSource};
+use std::alloc::Global;
+use trips_isa::Op;
+
+// A node whose right operand is the immediate of its new operation.
+fn with_constant(alloc: Global, n: &FlowNode, op: Op, imm: i32) -> Result<FlowNode, Memory>
+    ensures { IfOk result (λ m. m ≡ folds.with_constant n.now op imm) }
+{
+    let left = Items::from_slice(alloc, n.left.as_slice())?;
+    Ok(FlowNode {
+        op,
+        imm,
+        number: n.number,
+        guard: n.guard,
+        left,
+        right: Items::new(alloc),
+    })
+}
+
+// A node with another left operand.
+fn with_left(alloc: Global, n: &FlowNode, sources: Items<FlowSource>) -> Result<FlowNode, Memory>
+    ensures { IfOk result (λ m. m ≡ folds.with_left n.now sources) }
+{
+    let right = Items::from_slice(alloc, n.right.as_slice())?;
+    Ok(FlowNode {
+        op: n.op,
+        imm: n.imm,
+        number: n.number,
+        guard: n.guard,
+        left: sources,
+        right,
+    })
+}
+
+// A node with another right operand.
+fn with_right(alloc: Global, n: &FlowNode, sources: Items<FlowSource>) -> Result<FlowNode, Memory>
+    ensures { IfOk result (λ m. m ≡ folds.with_right n.now sources) }
+{
+    let left = Items::from_slice(alloc, n.left.as_slice())?;
+    Ok(FlowNode {
+        op: n.op,
+        imm: n.imm,
+        number: n.number,
+        guard: n.guard,
+        left,
+        right: sources,
+    })
+}
+
+// What node j becomes where a small constant stands at its right.
+fn constant_turn(
+    alloc: Global,
+    nodes: &[FlowNode],
+    j: usize,
+    n: &FlowNode,
+) -> Result<Option<FlowNode>, Memory>
+    ensures { IfOk result (λ o. MatchOption o Unit (λ m. folds.Turns nodes.now j n.now m)) }
+{
+    match immediate_of(n.op) {
+        None => Ok(None),
+        Some(op) => match small_of(nodes, n.right.as_slice()) {
+            None => Ok(None),
+            Some(imm) => {
+                let m = with_constant(alloc, n, op, imm)?;
+                Ok(Some(m))
+            }
+        },
+    }
+}
+
+// What node j becomes where a copy stands at its left.
+fn left_turn(
+    alloc: Global,
+    nodes: &[FlowNode],
+    j: usize,
+    n: &FlowNode,
+) -> Result<Option<FlowNode>, Memory>
+    ensures { IfOk result (λ o. MatchOption o Unit (λ m. folds.Turns nodes.now j n.now m)) }
+{
+    match copied(alloc, nodes, j, n.guard, n.left.as_slice())? {
+        None => Ok(None),
+        Some(sources) => {
+            let m = with_left(alloc, n, sources)?;
+            Ok(Some(m))
+        }
+    }
+}
+
+// What node j becomes where a copy stands at its right.
+fn right_turn(
+    alloc: Global,
+    nodes: &[FlowNode],
+    j: usize,
+    n: &FlowNode,
+) -> Result<Option<FlowNode>, Memory>
+    ensures { IfOk result (λ o. MatchOption o Unit (λ m. folds.Turns nodes.now j n.now m)) }
+{
+    match copied(alloc, nodes, j, n.guard, n.right.as_slice())? {
+        None => Ok(None),
+        Some(sources) => {
+            let m = with_right(alloc, n, sources)?;
+            Ok(Some(m))
+        }
+    }
+}
+
+// The rules, each of which looks at one operand.
+#[derive(Clone, Copy)]
+enum Rule {
+    Left,
+    Right,
+    Constant,
+}
+
+// What node j becomes by a rule, where it applies.
+fn turned(
+    alloc: Global,
+    nodes: &[FlowNode],
+    j: usize,
+    n: &FlowNode,
+    rule: Rule,
+) -> Result<Option<FlowNode>, Memory>
+    ensures { IfOk result (λ o. MatchOption o Unit (λ m. folds.Turns nodes.now j n.now m)) }
+{
+    match rule {
+        Rule::Left => left_turn(alloc, nodes, j, n),
+        Rule::Right => right_turn(alloc, nodes, j, n),
+        Rule::Constant => constant_turn(alloc, nodes, j, n),
+    }
+}
+
+// A block with another node at a place.
+fn with_node(block: FlowBlock, j: usize, m: FlowNode) -> FlowBlock
+    requires { j < length block.nodes }
+    ensures { result ≡ folds.with_node block j m }
+{
+    let FlowBlock {
+        mut nodes,
+        reads,
+        writes,
+        mask,
+    } = block;
+    nodes.set(j, m);
+    FlowBlock {
+        nodes,
+        reads,
+        writes,
+        mask,
+    }
+}
+
+// A block whose node j is turned by a rule, where there is one and the rule applies.
+fn turned_at(alloc: Global, block: FlowBlock, j: usize, rule: Rule) -> Result<FlowBlock, Memory>
+    ensures { IfOk result (λ g. Replaces block g) }
+{
+    let nodes = block.nodes.as_slice();
+    match nodes.get(j) {
+        None => Ok(block),
+        Some(n) => {
+            let found = turned(alloc, nodes, j, n, rule)?;
+            match found {
+                None => Ok(block),
+                Some(m) => Ok(with_node(block, j, m)),
+            }
+        }
+    }
+}
+
+// A block whose node j takes a small constant as its immediate, where it then needs no `mov` more.
+fn constant_at(alloc: Global, block: FlowBlock, j: usize) -> Result<FlowBlock, Memory>
+    ensures { IfOk result (λ g. Replaces block g) }
+{
+    if feeds_several(&block, j) {
+        return Ok(block);
+    }
+    turned_at(alloc, block, j, Rule::Constant)
+}
+
+// A block whose node j is folded: what it takes first looks through copies, then for a constant.
+fn folded_at(alloc: Global, block: FlowBlock, j: usize) -> Result<FlowBlock, Memory>
+    ensures { IfOk result (λ g. Replaces block g) }
+{
+    let left = turned_at(alloc, block, j, Rule::Left)?;
+    let right = turned_at(alloc, left, j, Rule::Right)?;
+    let last = constant_at(alloc, right, j)?;
+    Ok(last)
+}
+
+/// The block with each node folded where a rule applies; the nodes keep their numbers.
+#[tactic(auto, using(crate::proofs::Following::stands_on, crate::proofs::Following::stands_for_itself))]
+pub fn fold(alloc: Global, block: FlowBlock) -> Result<FlowBlock, Memory>
+    ensures { IfOk result (λ g. Replaces block g) }
+{
+    let count = block.nodes.len();
+    let mut now = block;
+    for j in 0..count {
+        now = folded_at(alloc, now, j)?;
+    }
+    Ok(now)
+}
