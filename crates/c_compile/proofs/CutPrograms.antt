@@ -39,6 +39,7 @@ use Rattle.c_compile_blocks.specs.inside.Blocks.{AreMachineBlocks, FitsPasses}
 use Rattle.c_compile_blocks.specs.inside.Refusals.{FitMachine}
 use Rattle.c_compile_blocks.proofs.Emitted.{chunks_few, gives_emitted, sizes}
 use Rattle.c_compile_laws.specs.inside.Compiled.{IsCompiled}
+use Rattle.hyper_trim.proofs.Programs.{trims_itself}
 use Rattle.c_compile.specs.inside.Flat.{IsFlatOf}
 
 -- the text's tokens leave room for the blocks of its program
@@ -120,6 +121,8 @@ module _ (F : Program) (lists : List (List ℕ)) (groups : List (List (List ℕ)
       keeps = keeps;
       cuts = [];
       joins = [];
+      left = B;
+      trims = trims_itself B;
       blocks = us;
       made = made;
       is = e;

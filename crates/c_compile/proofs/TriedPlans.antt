@@ -1,5 +1,5 @@
--- The image of a flat program by any plan, where no pass refuses a block of it and the checker takes each.
-use Rattle.std.proofs.Common.{◌≡◌, ℕ, ◌+◌, ◌≤◌, Bool, List, length, sym, subst, arith}
+-- The image of a flat program by any plan, trimmed, where no pass refuses a block of it and the checker takes each.
+use Rattle.std.proofs.Common.{◌≡◌, ℕ, ◌+◌, ◌≤◌, Bool, true, List, length, sym, subst, arith}
 use Rattle.std.specs.List.{All}
 use Rattle.std.specs.Prelude.{Option, Some, None, IfSome}
 use Rattle.trips_isa.specs.declared.block.Block.{Block}
@@ -19,8 +19,10 @@ use Rattle.hyper_build.specs.inside.Tree.{annotated_all}
 use Rattle.hyper_build.proofs.Assigned.{gives_assigned}
 use Rattle.grid_place.specs.declared.placed.Placing.{Placing}
 use Rattle.c_compile_layout.specs.inside.Emitted.{image_of, most_blocks}
-use Rattle.c_compile_blocks.specs.inside.Blocks.{ArePassed, AreMachineBlocks, FitsPasses}
+use Rattle.c_compile_blocks.specs.inside.Blocks.{ArePassed, FitsPasses}
 use Rattle.c_compile_laws.specs.inside.Compiled.{IsCompiled}
+use Rattle.c_compile_laws.proofs.TrimmedPrograms.{trimmed_fits}
+use Rattle.hyper_trim.specs.inside.Laws.{Trims}
 use Rattle.c_compile_blocks.specs.inside.Checked.{AreChecked}
 use Rattle.c_compile_blocks.proofs.Passed.{are_checked}
 use Rattle.c_compile.proofs.CutPrograms.{data_fits, some_blocks}
@@ -37,19 +39,21 @@ all_good i image e h =
 
 module _ (F : Program) (lists : List (List ℕ)) (groups : List (List (List ℕ))) (fits : FitsProgram F)
     (a : AreAssigned F lists groups) (few : 3 + code_blocks_of_all F.functions ≤ most_blocks) (cuts joins : List Bool)
-    (P : List hyper.Block) (is : P ≡ built_program (plan_of cuts joins groups) F) where
+    (P : List hyper.Block) (t : Trims (built_program (plan_of cuts joins groups) F) P) where
   shape : AreBlocksOf F (built_program (plan_of cuts joins groups) F)
   shape = gives_assigned cuts joins F lists groups fits a
 
   pub passes : FitsPasses P
   passes =
       let n = shape.few in
-      subst FitsPasses (sym is) (record {
+      trimmed_fits (built_program (plan_of cuts joins groups) F) P
+      (record {
         some = some_blocks (frames_at F.bytes) (annotated_all (plan_of cuts joins groups) 0 0 F.functions) F.main;
         few = omega (arith, n, few);
         followed = shape.followed;
         fit = shape.fit (omega (arith, n, few));
       })
+      t
 
   -- the blocks are numbered so that each call and each system call is followed
   pub followed : IsFollowed P
@@ -59,10 +63,11 @@ module _ (F : Program) (lists : List (List ℕ)) (groups : List (List (List ℕ)
   pub low : length P ≤ label_count
   low = let n = passes.few in omega (arith, n)
 
-  module _ (p : Placing) (us : List Block) (all : ArePassed p P us) where
+  module _ (p : Placing) (us : List Block) (all : ArePassed true p P us) where
     -- the machine blocks are what the passes made, and the checker may take their image
     pub checked : AreChecked p P us F.bytes
-    checked = are_checked p P us F.bytes passes all fits.bytes (data_fits F.bytes frame_limit data_size fits.room)
+    checked =
+        are_checked true p P us F.bytes passes all fits.bytes (data_fits F.bytes frame_limit data_size fits.room)
 
     -- an image whose blocks are all good is the compiled one
     pub is_compiled : KeepsTameRuns F lists → (i : Image) → i ≡ image_of us F.bytes
@@ -74,7 +79,9 @@ module _ (F : Program) (lists : List (List ℕ)) (groups : List (List (List ℕ)
       keeps = keeps;
       cuts = cuts;
       joins = joins;
+      left = P;
+      trims = t;
       blocks = us;
-      made = subst (λ (B : List hyper.Block). AreMachineBlocks p B us) is (checked.machine good);
+      made = checked.machine good;
       is = e;
     }

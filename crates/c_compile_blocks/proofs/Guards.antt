@@ -26,7 +26,7 @@ use Rattle.fan_out.proofs.Totals.{Given, owners, all_movs, targeted_nodes, got_b
 use Rattle.fan_out.proofs.Totals.{wired_guard, wired_mov, nodes_are}
 use Rattle.fan_out.proofs.TargetedNodes.{Stands, a_read, a_node, a_mov, empty, nothing, stands, is_mov}
 use Rattle.fan_out.proofs.Ranks.{owner_among}
-use Rattle.fan_out.proofs.Edges.{zero_at, has_owner, nobody}
+use Rattle.fan_out.proofs.Owners.{zero_at, has_owner, nobody}
 use Rattle.null_outputs.proofs.Covers.{within}
 use Rattle.c_compile_blocks.specs.inside.Choosers.{choosers}
 use Rattle.c_compile_blocks.proofs.Choosing.{few_cases, one_passes}

@@ -1,7 +1,9 @@
 pub mod BranchLabels
 pub mod Resolving
+pub mod EasedFlows
 pub mod Emitted
 pub mod UsedSlots
+pub mod FilledItems
 pub mod Passes
 pub mod Programs
 pub mod MovedBack
@@ -36,3 +38,4 @@ pub mod PlainFit
 pub mod SmallFit
 pub mod Machine
 pub mod FittingPrograms
+pub mod NeverRefused

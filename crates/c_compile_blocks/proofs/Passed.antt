@@ -1,15 +1,12 @@
 -- Blocks that passed, whatever the number of their cases: their image fits, and where each of its blocks is
 -- good they are machine blocks.
-use Rattle.std.proofs.Common.{◌≡◌, ℕ, zero, suc, ◌+◌, ◌*◌, ◌<◌, ◌≤◌, true, List, [], ◌∷◌, map, length, Some}
+use Rattle.std.proofs.Common.{◌≡◌, ℕ, zero, suc, ◌+◌, ◌*◌, ◌<◌, ◌≤◌, Bool, List, [], ◌∷◌, map, length, Some}
 use Rattle.std.proofs.Common.{slice_get, refl, sym, ap, ap₂, subst, ◌∙◌, arith}
 use Rattle.std.specs.List.{All, sum_by}
 use Rattle.std.proofs.lemmas.List.Sums.{sum_by-cons}
-use Rattle.std.proofs.lemmas.Option.{slice_get_within, get_or_from_slice_get}
+use Rattle.std.proofs.lemmas.Option.{slice_get_within}
 use Rattle.trips_isa.specs.declared.block.Block.{Block}
-use Rattle.trips_isa.specs.declared.form.Form.{Form}
-use Rattle.trips_isa.specs.declared.form.Form.TheVariants.{Store}
 use Rattle.trips_isa.specs.Fits.{FitsBlock}
-use Rattle.trips_isa.specs.Forms.{form_of}
 use Rattle.trips_isa.specs.Images.{chunks, chunk_of, FitsImage}
 use Rattle.trips_isa.specs.Places.{nodes_of}
 use Rattle.trips_isa.specs.Stores.{data_size}
@@ -17,22 +14,11 @@ use Rattle.block_cases.specs.Cases.{cases}
 use Rattle.block_cases.specs.Good.{GoodBlock}
 use Rattle.ir_forms.specs.declared.flow.FlowNode.{FlowNode}
 use Rattle.ir_forms.specs.declared.flow.FlowBlock.{FlowBlock}
-use Rattle.ir_forms.specs.inside.FlowFits.{in_mask, IsComplete}
+use Rattle.ir_forms.specs.inside.FlowFits.{IsComplete}
 use Rattle.ir_forms.specs.inside.FlowRegular.{IsRegular}
 use Rattle.ir_forms.specs.inside.HyperCode as hyper
 use Rattle.ir_forms.specs.inside.HyperFits.{FitsHyper, AllLeadOn}
 use Rattle.ir_forms.specs.inside.HyperWords.{AreBytes}
-use Rattle.predication.specs.inside.Tails.{addressed, labelled}
-use Rattle.predication.specs.inside.Converted.{predicated}
-use Rattle.predication.specs.inside.Laws.{IsTaken}
-use Rattle.predication.proofs.Addressed.{takes_addressed}
-use Rattle.predication.proofs.Fits.{converts_fitting}
-use Rattle.predication.proofs.Regular.{converts_regular}
-use Rattle.predication.proofs.Resolved.{resolves_labels}
-use Rattle.null_outputs.specs.inside.Laws.{MaskedIn, EachMasked, Takes}
-use Rattle.null_outputs.specs.inside.Wants.{complete}
-use Rattle.null_outputs.proofs.Completeness.{is_complete}
-use Rattle.null_outputs.proofs.Regular.{stays_regular}
 use Rattle.fan_out.specs.inside.Targeted.{IsTargeted}
 use Rattle.fan_out.proofs.Given.{given}
 use Rattle.fan_out.proofs.Totals.{Given}
@@ -52,31 +38,15 @@ use Rattle.c_compile_layout.proofs.Faithful.{has_places}
 use Rattle.c_compile_layout.proofs.Fields.{forms_fit, labels_named}
 use Rattle.c_compile_layout.proofs.Fitting.{complete_resolved}
 use Rattle.c_compile_layout.proofs.Linked.{chunks_same, came, moved_resolved, nodes_same}
-use Rattle.c_compile_layout.proofs.Regularity.{regular_before, regular_resolved}
+use Rattle.c_compile_layout.proofs.Regularity.{regular_resolved}
 use Rattle.c_compile_layout.proofs.Sums.{few_chunks}
 use Rattle.c_compile_layout.proofs.Targets.{targeted_resolved, room_resolved}
-use Rattle.c_compile_blocks.specs.inside.Blocks.{flow_of, IsPassed, ArePassed, AreMachineBlocks, FitsPasses}
-use Rattle.c_compile_blocks.proofs.BranchLabels.{labels_below}
+use Rattle.c_compile_blocks.specs.inside.Blocks.{IsPassed, ArePassed, AreMachineBlocks, FitsPasses}
 use Rattle.c_compile_blocks.proofs.Emitted.{made_from}
-use Rattle.c_compile_blocks.proofs.Resolving.{resolved_same, completed_resolved, completed_below, all_by_index}
+use Rattle.c_compile_blocks.proofs.EasedFlows.{all_at, eased_complete, eased_regular, eased_labels}
+use Rattle.c_compile_blocks.proofs.Resolving.{all_by_index}
 use Rattle.c_compile_blocks.specs.inside.Checked.{CheckedImagesAreOfMachineBlocks}
 use Rattle.c_compile_blocks.proofs.MovedBack.{turned, moved_back}
-
--- STORES
-
-masked_in : (b : FlowBlock) (n : FlowNode) (x : Form) → (x ≡ Store → in_mask b.mask n.number ≡ true)
-    → MaskedIn x b n
-masked_in b n Store h = h refl
-masked_in b n _ h = tt
-
--- the stores of a regular block have numbers of the mask
-each_masked : (b : FlowBlock) (ns : List FlowNode)
-    → ((j : ℕ) (n : FlowNode) → slice_get ns j ≡ Some n → form_of n.op ≡ Store
-    → in_mask b.mask n.number ≡ true)
-    → EachMasked b ns
-each_masked b [] h = tt
-each_masked b (n ∷ ns) h =
-    (masked_in b n (form_of n.op) (h 0 n refl), each_masked b ns (λ j m e s. h (suc j) m e s))
 
 -- OFFSETS AND ADDRESSES
 
@@ -95,7 +65,7 @@ both_are chunk k f = ap (λ ns. record f { nodes = ns }) (twice chunk k f.nodes)
 -- A BLOCK
 
 module _ (us : List Block) (few : AreFew us) (k : ℕ) (low : k < length us) (pl : Placing)
-    (b : hyper.Block) (u : Block) (m : IsPassed pl b u) (fits : FitsHyper b)
+    (b : hyper.Block) (u : Block) (t : Bool) (m : IsPassed t pl b u) (fits : FitsHyper b)
     (leads : AllLeadOn k (length us) b.tail) where
   -- where each slot goes, and back
   abbrev p : ℕ → ℕ
@@ -113,54 +83,31 @@ module _ (us : List Block) (few : AreFew us) (k : ℕ) (low : k < length us) (pl
   abbrev both : Resolves
   both = by_both (chunk_of us) k
 
-  -- with addresses in the place of labels
-  abbrev after : FlowBlock
-  after = predicated (addressed (laid_out us) b)
+  whole_named : IsComplete (resolved named m.flow)
+  whole_named = eased_complete (laid_out us) (has_places us few).low b m.numbers fits m.flow m.stands.eases
 
-  same : resolved named (flow_of b) ≡ complete after
-  same =
-      completed_resolved (laid_out us).address (predicated (labelled b))
-      ∙ ap complete (resolved_same (laid_out us).address (predicated (labelled b))
-      ∙ resolves_labels (laid_out us) b (has_places us few).low fits)
+  regular_flow : IsRegular m.flow
+  regular_flow = eased_regular (laid_out us) (has_places us few).low b m.numbers fits m.flow m.stands.eases
 
-  taken : IsTaken (addressed (laid_out us) b)
-  taken = takes_addressed (laid_out us) b (has_places us few).low fits m.numbers
-
-  regular : IsRegular after
-  regular = converts_regular (addressed (laid_out us) b) taken.fits taken.room
-
-  takes : Takes after
-  takes = record {
-    fits = converts_fitting (addressed (laid_out us) b) taken.fits taken.room;
-    masked = each_masked after after.nodes regular.masked;
-  }
-
-  whole_named : IsComplete (resolved named (flow_of b))
-  whole_named = subst (λ (f : FlowBlock). IsComplete f) (sym same) (is_complete after takes.fits takes.masked)
-
-  regular_flow : IsRegular (flow_of b)
-  regular_flow = regular_before named (flow_of b)
-      (subst (λ (f : FlowBlock). IsRegular f) (sym same) (stays_regular after takes.fits regular))
-
-  labels : All (λ (x : FlowNode). LabelBelow (length us) x.op x.imm) (flow_of b).nodes
-  labels = completed_below (length us) (predicated (labelled b)) (labels_below (length us) k b fits leads)
+  labels : All (λ (x : FlowNode). LabelBelow (length us) x.op x.imm) m.flow.nodes
+  labels = eased_labels (length us) k b fits leads m.flow m.stands.eases
 
   abbrev linked_flow : FlowBlock
-  linked_flow = resolved both (flow_of b)
+  linked_flow = resolved both m.flow
 
   -- the flow block is complete once all is resolved
   whole : IsComplete linked_flow
-  whole = subst (λ (f : FlowBlock). IsComplete f) (both_are (chunk_of us) k (flow_of b))
-      (complete_resolved (by_offset (chunk_of us) k) (resolved named (flow_of b)) whole_named
-      (forms_fit us k few low (resolved named (flow_of b)) whole_named.fits
-      (labels_named (laid_out us).address (length us) (flow_of b).nodes labels)))
+  whole = subst (λ (f : FlowBlock). IsComplete f) (both_are (chunk_of us) k m.flow)
+      (complete_resolved (by_offset (chunk_of us) k) (resolved named m.flow) whole_named
+      (forms_fit us k few low (resolved named m.flow) whole_named.fits
+      (labels_named (laid_out us).address (length us) m.flow.nodes labels)))
 
   is : IsTargeted linked_flow (resolved_block both m.target)
-  is = targeted_resolved both refl (flow_of b) m.target m.targeted
+  is = targeted_resolved both refl m.flow m.target m.targeted
 
   all : Given linked_flow
-  all = given linked_flow whole.fits (regular_resolved both (flow_of b) regular_flow)
-      (room_resolved both refl (flow_of b) m.room)
+  all = given linked_flow whole.fits (regular_resolved both m.flow regular_flow)
+      (room_resolved both refl m.flow m.room)
 
   fits_target : FitsBlock (resolved_block both m.target)
   fits_target = fits_block linked_flow all (resolved_block both m.target) is
@@ -206,12 +153,8 @@ module _ (chunk : ℕ → ℕ) where
       let z : suc k + i ≡ k + suc i = omega arith in
       linked_at (suc k) i ts t e ∙ ap (λ (n : ℕ). Some (resolved_block (by_both chunk n) t)) z
 
--- an item of a list of which all have a property
-all_at : {A : Type 0} (P : A → Type 0) (xs : List A) (k : ℕ) (x : A) → All P xs → slice_get xs k ≡ Some x → P x
-all_at P xs k x h e = subst P (get_or_from_slice_get xs k x x e) (h k x (slice_get_within xs k x e))
-
-module _ (B : List hyper.Block) (us : List Block) (p : Placing) (fits : FitsPasses B)
-    (passed : ArePassed p B us) where
+module _ (B : List hyper.Block) (us : List Block) (t : Bool) (p : Placing) (fits : FitsPasses B)
+    (passed : ArePassed t p B us) where
   -- each has 128 slots
   pub sizes : All (λ (u : Block). length u.insts.items ≡ 128) us
   sizes = all_by_index (λ (u : Block). length u.insts.items ≡ 128) us (λ k u e.
@@ -229,15 +172,15 @@ module _ (B : List hyper.Block) (us : List Block) (p : Placing) (fits : FitsPass
   leads : (k : ℕ) (b : hyper.Block) → slice_get B k ≡ Some b → AllLeadOn k (length us) b.tail
   leads k b e = subst (λ (m : ℕ). AllLeadOn k m b.tail) (sym passed.size) (fits.followed k b e)
 
-  each_fits : (k : ℕ) (t : Block) → slice_get (linked us) k ≡ Some t → FitsBlock t
-  each_fits k t e =
-      let c = came (chunk_of us) 0 us k t e in
+  each_fits : (k : ℕ) (x : Block) → slice_get (linked us) k ≡ Some x → FitsBlock x
+  each_fits k x e =
+      let c = came (chunk_of us) 0 us k x e in
       let z : 0 + k ≡ k = omega arith in
-      let is : resolved_block (by_both (chunk_of us) k) c.block ≡ t =
+      let is : resolved_block (by_both (chunk_of us) k) c.block ≡ x =
       ap (λ (n : ℕ). resolved_block (by_both (chunk_of us) n) c.block) (sym z) ∙ c.is in
       let f = made_from B us k c.block passed.size c.there in
       subst FitsBlock is
-      (fits_there us few k (slice_get_within us k c.block c.there) p f.block c.block
+      (fits_there us few k (slice_get_within us k c.block c.there) p f.block c.block t
       (passed.each k f.block c.block f.there c.there) (fits.fit k f.block f.there) (leads k f.block f.there))
 
   -- their image fits
@@ -268,10 +211,12 @@ module _ (B : List hyper.Block) (us : List Block) (p : Placing) (fits : FitsPass
         (linked_at (chunk_of us) 0 k us u is_u)) in
         record {
           numbers = it.numbers;
+          flow = it.flow;
+          stands = it.stands;
           room = it.room;
           target = it.target;
           targeted = it.targeted;
-          cases = few_cases us few k (slice_get_within us k u is_u) p b u it (fits.fit k b is_b)
+          cases = few_cases us few k (slice_get_within us k u is_u) p b u t it (fits.fit k b is_b)
               (leads k b is_b) g;
           placed = it.placed;
         };
@@ -279,9 +224,9 @@ module _ (B : List hyper.Block) (us : List Block) (p : Placing) (fits : FitsPass
 
 -- where each block of an image that the passes made is good, its blocks are machine blocks
 pub are_checked : CheckedImagesAreOfMachineBlocks
-are_checked p B us bytes fits all a l = record {
-  sizes = at_most_128 B us p fits all;
-  few = few B us p fits all;
-  fits = fits_image B us p fits all bytes a l;
-  machine = are_machine_blocks B us p fits all bytes;
+are_checked t p B us bytes fits all a l = record {
+  sizes = at_most_128 B us t p fits all;
+  few = few B us t p fits all;
+  fits = fits_image B us t p fits all bytes a l;
+  machine = are_machine_blocks B us t p fits all bytes;
 }

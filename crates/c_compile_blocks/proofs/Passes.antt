@@ -1,35 +1,35 @@
 -- One hyper block through the passes.
-use Rattle.std.proofs.Common.{◌≡◌, ℕ, ◌+◌, ◌≤◌, ◌⊎◌, inl, inr, refl, sym, ap, subst, ◌∙◌, arith}
-use Rattle.std.specs.Prelude.{Result, Err, IfErr}
+use Rattle.std.proofs.Common.{◌≡◌, ℕ, ◌+◌, ◌≤◌, inl, inr, Bool, true, false, refl, sym, ap, subst, ◌∙◌, arith}
+use Rattle.std.specs.Prelude.{Option, Some, None, Result, Err, IfErr, IfSome}
 use Rattle.trips_isa.specs.declared.block.Block.{Block}
 use Rattle.ir_forms.specs.inside.Limits.{label_count}
-use Rattle.ir_forms.specs.declared.fault.Part.TheVariants.{Insts, Reads, Writes, Numbers, Exits}
 use Rattle.ir_forms.specs.declared.fault.FlowFault.{FlowFault}
-use Rattle.ir_forms.specs.declared.fault.FlowFault.TheVariants.{TooBig, Memory}
+use Rattle.ir_forms.specs.declared.fault.FlowFault.TheVariants.{Memory}
 use Rattle.ir_forms.specs.declared.flow.FlowBlock.{FlowBlock}
 use Rattle.ir_forms.specs.declared.hyper.Exit.{Exit}
 use Rattle.ir_forms.specs.declared.hyper.Exit.TheVariants as exit
 use Rattle.ir_forms.specs.inside.HyperCode.{Tail, Leave, Test}
 use Rattle.ir_forms.specs.inside.HyperCode as hyper
-use Rattle.ir_forms.specs.inside.HyperFits.{AllLeadOn, FitsHyper, IsSmall, LeadsOn}
+use Rattle.ir_forms.specs.inside.HyperFits.{AllLeadOn, LeadsOn, filled_ifs}
 use Rattle.predication.specs.inside.Tails.{labelled, address_end}
 use Rattle.predication.specs.inside.Converted.{predicated}
-use Rattle.predication.specs.inside.Outcomes.{Counts, HasRoomFor, counts_of, NamesLabel, NamesLabels}
+use Rattle.predication.specs.inside.Outcomes.{HasRoomFor, counts_of, NamesLabel, NamesLabels}
 use Rattle.predication.specs.inside.Outcomes as convert
 use Rattle.predication.specs.inside.Laws as predication
 use Rattle.null_outputs.specs.inside.Refusals.{IsWithinLimits}
 use Rattle.null_outputs.specs.inside.Refusals as complete
 use Rattle.null_outputs.specs.inside.Wants as wants
-use Rattle.fan_out.specs.inside.Targeted.{HasRoom, IsTargeted}
+use Rattle.flow_ease.specs.inside.Eases.{Eases}
+use Rattle.flow_ease.proofs.Standing.{eases_itself}
+use Rattle.fan_out.specs.inside.Targeted.{IsTargeted}
 use Rattle.fan_out.specs.inside.Refusals as target
 use Rattle.grid_place.specs.declared.placed.Placing.{Placing}
-use Rattle.grid_place.specs.inside.Placings.{IsPlaced}
 use Rattle.c_compile_blocks.specs.inside.Limits.{FitsMachine}
 use Rattle.c_compile_blocks.proofs.Cheap.{exits_with}
-use Rattle.c_compile_blocks.proofs.FittingPrograms.{only_memory}
-use Rattle.c_compile_blocks.proofs.SmallFit.{small_fits}
-use Rattle.c_compile_blocks.specs.inside.Blocks.{flow_of, IsMachineBlock, IsPassed}
-use Rattle.c_compile_blocks.specs.inside.Refusals.{IsRefused, IsIncomplete, IsUntargeted}
+use Rattle.c_compile_blocks.specs.inside.Blocks.{flow_of, IsMachineBlock, IsPassed, StandsFor}
+use Rattle.c_compile_blocks.specs.inside.Guarded.{sensed_nodes}
+use Rattle.c_compile_blocks.specs.inside.Passing.{IsFlow, IsPlacedFlow}
+use Rattle.c_compile_blocks.specs.inside.Refusals.{IsRefused}
 
 -- LABELS
 
@@ -55,65 +55,84 @@ has_room b r =
     let x = r.exits in
     record { numbers = r.numbers; exits = omega (arith, e, x) }
 
--- a block that went through all passes has passed
-pub passed : (p : Placing) (b : hyper.Block) (f g : FlowBlock) (t u : Block)
-    → f ≡ predicated (labelled b) → HasRoomFor (counts_of (labelled b)) → g ≡ wants.complete f
-    → HasRoom g → IsTargeted g t → IsPlaced p t u → IsPassed p b u
-passed p b f g t u is_f room is_g has is moved =
-    let e : g ≡ flow_of b = is_g ∙ ap wants.complete is_f in
-    record {
-      numbers = has_room b room;
-      room = subst HasRoom e has;
-      target = t;
-      targeted = subst (λ (h : FlowBlock). IsTargeted h t) e is;
-      placed = moved;
-    }
+-- what predication and completing gave is the flow block
+pub is_flow : (b : hyper.Block) (f g : FlowBlock) → f ≡ predicated (labelled b) → HasRoomFor (counts_of (labelled b))
+    → g ≡ wants.complete f → IsWithinLimits g → IsFlow b g
+is_flow b f g is_f room is_g limits = record { is = is_g ∙ ap wants.complete is_f; room = room; limits = limits }
 
--- what passes is the machine block of a block within all limits
-pub is_machine_block : (p : Placing) (b : hyper.Block) (u : Block) → IsPassed p b u → FitsMachine b
-    → IsMachineBlock p b u
-is_machine_block p b u h f = record {
-  numbers = h.numbers;
+-- a flow block stands for itself
+pub stands_itself : (b : hyper.Block) (f : FlowBlock) → f ≡ flow_of b → StandsFor b f
+stands_itself b f e = record {
+  eases = subst (λ (g : FlowBlock). Eases (flow_of b) g) (sym e) (eases_itself (flow_of b));
+  guards = inl e;
+}
+
+-- a block that went through all passes as it is has passed
+pub plain_passed : (p : Placing) (b : hyper.Block) (f : FlowBlock) (u : Block) → IsFlow b f → IsPlacedFlow p f u
+    → IsPassed false p b u
+plain_passed p b f u i h = record {
+  numbers = has_room b i.room;
+  flow = f;
+  stands = stands_itself b f i.is;
+  plain = λ z. i.is;
   room = h.room;
   target = h.target;
   targeted = h.targeted;
-  cases = f.cases h.target h.targeted;
+  placed = h.placed;
+}
+
+-- what is not eased may be where easing is asked for
+pub either_passed : (t : Bool) (p : Placing) (b : hyper.Block) (u : Block) → IsPassed false p b u → IsPassed t p b u
+either_passed t p b u h = record {
+  numbers = h.numbers;
+  flow = h.flow;
+  stands = h.stands;
+  plain = λ z. h.plain refl;
+  room = h.room;
+  target = h.target;
+  targeted = h.targeted;
+  placed = h.placed;
+}
+
+-- a block whose flow block was eased has passed, where the guards are still enough
+pub eased_passed : (p : Placing) (b : hyper.Block) (f g : FlowBlock) (u : Block) → IsFlow b f → Eases f g
+    → filled_ifs b.items ≤ sensed_nodes g.nodes → IsPlacedFlow p g u → IsPassed true p b u
+eased_passed p b f g u i eases guards h = record {
+  numbers = has_room b i.room;
+  flow = g;
+  stands = record {
+    eases = subst (λ (x : FlowBlock). Eases x g) i.is eases;
+    guards = inr guards;
+  };
+  plain = λ z. absurd (cc);
+  room = h.room;
+  target = h.target;
+  targeted = h.targeted;
+  placed = h.placed;
+}
+
+-- so of what is there, if something is
+pub some_passed : (p : Placing) (b : hyper.Block) (f g : FlowBlock) (o : Option Block) → IsFlow b f → Eases f g
+    → filled_ifs b.items ≤ sensed_nodes g.nodes → IfSome o (λ u. IsPlacedFlow p g u)
+    → IfSome o (λ u. IsPassed true p b u)
+some_passed p b f g None i eases guards h = h
+some_passed p b f g (Some u) i eases guards h = eased_passed p b f g u i eases guards h
+
+-- what passes as it is is the machine block of a block within all limits
+pub is_machine_block : (t : Bool) (p : Placing) (b : hyper.Block) (u : Block) → IsPassed t p b u → t ≡ false
+    → FitsMachine b → IsMachineBlock p b u
+is_machine_block t p b u h e f = record {
+  numbers = h.numbers;
+  flow = h.flow;
+  stands = h.stands;
+  room = h.room;
+  target = h.target;
+  targeted = h.targeted;
+  cases = f.cases h.target (subst (λ (g : FlowBlock). IsTargeted g h.target) (h.plain e) h.targeted);
   placed = h.placed;
 }
 
 -- WHAT IS REFUSED
-
-room_for : (b : hyper.Block) → FitsMachine b → HasRoomFor (counts_of (labelled b))
-unfolding counts_of
-room_for b f =
-    let p = f.parts in
-    record { insts = p.nodes; reads = p.reads; writes = p.writes; numbers = p.numbers; exits = p.exits }
-
-by_convert : (c : Counts) (e : FlowFault) → HasRoomFor c → convert.IsRefusal c e → e ≡ Memory
-by_convert c Memory r h = refl
-by_convert c (TooBig Insts n) r h =
-    let a = r.insts in let x = h.0 in let y = h.1 in absurd (omega (arith, a, x, y))
-by_convert c (TooBig Reads n) r h =
-    let a = r.reads in let x = h.1 in let y = h.2 in absurd (omega (arith, a, x, y))
-by_convert c (TooBig Writes n) r h =
-    let a = r.writes in let x = h.2 in let y = h.3 in absurd (omega (arith, a, x, y))
-by_convert c (TooBig Numbers n) r h =
-    let a = r.numbers in let x = h.3 in let y = h.4 in absurd (omega (arith, a, x, y))
-by_convert c (TooBig Exits n) r h =
-    let a = r.exits in let x = h.4 in let y = h.5 in absurd (omega (arith, a, x, y))
-
--- no pass refuses a block within all limits
-pub never_refused : (b : hyper.Block) (e : FlowFault) → IsRefused b e → FitsMachine b → e ≡ Memory
-never_refused b e h f = go h.first
-  where
-    go : convert.IsRefusal (counts_of (labelled b)) e ⊎ IsIncomplete b e ⊎ IsUntargeted b e → e ≡ Memory
-    go (inl x) = by_convert (counts_of (labelled b)) e (room_for b f) x
-    go (inr (inl x)) = let n = only_memory b f in n.completing e x.refused
-    go (inr (inr x)) = let n = only_memory b f in n.targeting e x.refused
-
--- nor a small one
-pub small_never : (b : hyper.Block) (e : FlowFault) → IsRefused b e → IsSmall b → FitsHyper b → e ≡ Memory
-small_never b e h small fits = never_refused b e h (small_fits b small fits)
 
 -- the refusals of the first pass
 pub by_first : (b : hyper.Block) (e : FlowFault) → convert.IsRefusal (counts_of (labelled b)) e → IsRefused b e
@@ -130,18 +149,18 @@ by_second b f e is_f room h = record {
 }
 
 -- a block that the third pass refuses is refused
-pub by_third : (b : hyper.Block) (f g : FlowBlock) (e : FlowFault) → f ≡ predicated (labelled b)
-    → HasRoomFor (counts_of (labelled b)) → g ≡ wants.complete f → IsWithinLimits g
-    → target.IsRefusal g e → IsRefused b e
-by_third b f g e is_f room is_g limits h =
-    let q : g ≡ flow_of b = is_g ∙ ap wants.complete is_f in
-    record {
-      first = inr (inr (record {
-        room = room;
-        limits = subst IsWithinLimits q limits;
-        refused = subst (λ (x : FlowBlock). target.IsRefusal x e) q h;
-      }));
-    }
+pub by_third : (b : hyper.Block) (f : FlowBlock) (e : FlowFault) → IsFlow b f → target.IsRefusal f e → IsRefused b e
+by_third b f e i h = record {
+  first = inr (inr (record {
+    room = i.room;
+    limits = subst IsWithinLimits i.is i.limits;
+    refused = subst (λ (x : FlowBlock). target.IsRefusal x e) i.is h;
+  }));
+}
+
+-- want of memory is always a refusal
+pub by_memory : (b : hyper.Block) (e : FlowFault) → e ≡ Memory → IsRefused b e
+by_memory b e m = subst (IsRefused b) (sym m) (by_first b Memory tt)
 
 -- a refusal is handed on
 pub handed_on : {X : Type 0} (P : FlowFault → Type 0) (r : Result X FlowFault) (e : FlowFault) → r ≡ Err e → P e

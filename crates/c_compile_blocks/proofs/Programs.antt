@@ -1,5 +1,5 @@
 -- The machine blocks of a hyper program, one after the other.
-use Rattle.std.proofs.Common.{◌≡◌, ℕ, zero, suc, ◌+◌, ◌<◌, ◌≤◌, ◌⊎◌, inl, inr, List, [], ◌∷◌, ◌++◌, map}
+use Rattle.std.proofs.Common.{◌≡◌, ℕ, zero, suc, ◌+◌, ◌<◌, ◌≤◌, ◌⊎◌, inl, inr, Bool, false, List, [], ◌∷◌, ◌++◌, map}
 use Rattle.std.proofs.Common.{length, Some, slice_get, refl, sym, ap, subst, ◌∙◌, arith}
 use Rattle.std.proofs.Common.{get_or, length-append}
 use Rattle.std.proofs.lemmas.Option.{slice_get-get_or}
@@ -15,12 +15,14 @@ use Rattle.predication.specs.inside.Outcomes.{NamesLabels}
 use Rattle.grid_place.specs.declared.placed.Placing.{Placing}
 use Rattle.c_compile_blocks.specs.inside.Blocks.{IsPassed, AreFirstPassed, ArePassed, AreMachineBlocks}
 use Rattle.c_compile_blocks.specs.inside.Refusals.{FitMachine, HasRefused, IsRefused}
-use Rattle.c_compile_blocks.proofs.Passes.{by_first, is_machine_block, names_labels, never_refused}
+use Rattle.c_compile_blocks.proofs.NeverRefused.{never_refused}
+use Rattle.c_compile_blocks.proofs.Passes.{by_memory, is_machine_block, names_labels}
 
 -- none at first
-pub none_passed : (p : Placing) (B : List hyper.Block) (us : List Block) → us ≡ [] → AreFirstPassed p B 0 us
-none_passed p B us e =
-    subst (AreFirstPassed p B 0) (sym e) (record { size = refl; each = λ k b u is_b is_u. absurd (cc) })
+pub none_passed : (t : Bool) (p : Placing) (B : List hyper.Block) (us : List Block) → us ≡ []
+    → AreFirstPassed t p B 0 us
+none_passed t p B us e =
+    subst (AreFirstPassed t p B 0) (sym e) (record { size = refl; each = λ k b u is_b is_u. absurd (cc) })
 
 -- an item of a list to whose end one was put
 pushed : {A : Type 0} (xs : List A) (x y : A) (k : ℕ) → slice_get (xs ++ (x ∷ [])) k ≡ Some y
@@ -36,34 +38,34 @@ pushed (z ∷ xs) x y (suc k) e = go (pushed xs x y k e)
     go (inr h) = inr (ap suc h.0, h.1)
 
 -- one more
-pub one_more : (p : Placing) (B : List hyper.Block) (n : ℕ) (us new : List Block) (b : hyper.Block) (u : Block)
-    → AreFirstPassed p B n us → slice_get B n ≡ Some b → IsPassed p b u → new ≡ us ++ (u ∷ [])
-    → AreFirstPassed p B (n + 1) new
-one_more p B n us new b u all is_b it e = subst (AreFirstPassed p B (n + 1)) (sym e) (record {
+pub one_more : (t : Bool) (p : Placing) (B : List hyper.Block) (n : ℕ) (us new : List Block) (b : hyper.Block)
+    (u : Block) → AreFirstPassed t p B n us → slice_get B n ≡ Some b → IsPassed t p b u → new ≡ us ++ (u ∷ [])
+    → AreFirstPassed t p B (n + 1) new
+one_more t p B n us new b u all is_b it e = subst (AreFirstPassed t p B (n + 1)) (sym e) (record {
   size = let l = length-append us (u ∷ []) in let s = all.size in omega (arith, l, s);
   each = λ k c w is_c is_w. go k c w is_c (pushed us u w k is_w);
 })
   where
     go : (k : ℕ) (c : hyper.Block) (w : Block) → slice_get B k ≡ Some c
-        → (slice_get us k ≡ Some w) ⊎ ((k ≡ length us) × (u ≡ w)) → IsPassed p c w
+        → (slice_get us k ≡ Some w) ⊎ ((k ≡ length us) × (u ≡ w)) → IsPassed t p c w
     go k c w is_c (inl h) = all.each k c w is_c h
     go k c w is_c (inr h) =
         let there : slice_get B n ≡ Some c = subst (λ (i : ℕ). slice_get B i ≡ Some c) (h.0 ∙ all.size) is_c in
         let same : b ≡ c = cc in
-        subst (λ (x : hyper.Block). IsPassed p x w) same (subst (IsPassed p b) h.1 it)
+        subst (λ (x : hyper.Block). IsPassed t p x w) same (subst (IsPassed t p b) h.1 it)
 
--- all are machine blocks, where each hyper block is within all limits
-pub are_machine_blocks : (p : Placing) (B : List hyper.Block) (us : List Block) → ArePassed p B us
-    → FitMachine B → AreMachineBlocks p B us
-are_machine_blocks p B us all f = record {
+-- all are machine blocks, where each hyper block is within all limits and none is eased
+pub are_machine_blocks : (t : Bool) (p : Placing) (B : List hyper.Block) (us : List Block) → ArePassed t p B us
+    → t ≡ false → FitMachine B → AreMachineBlocks p B us
+are_machine_blocks t p B us all e f = record {
   size = all.size;
-  each = λ k b u is_b is_u. is_machine_block p b u (all.each k b u is_b is_u) (f k b is_b);
+  each = λ k b u is_b is_u. is_machine_block t p b u (all.each k b u is_b is_u) e (f k b is_b);
 }
 
 -- and none of them is refused
-pub none_refused : (p : Placing) (B : List hyper.Block) (e : FlowFault) → HasRefused p B e → FitMachine B
-    → e ≡ Memory
-none_refused p B e h f = never_refused h.block e h.refused (f h.number h.block h.there)
+pub none_refused : (t : Bool) (p : Placing) (B : List hyper.Block) (e : FlowFault) → HasRefused t p B e
+    → FitMachine B → e ≡ Memory
+none_refused t p B e h f = never_refused h.block e h.refused (f h.number h.block h.there)
 
 -- an item of the blocks of a program
 pub mapped : {A C : Type 0} (f : A → C) (xs : List A) (k : ℕ) (x : A) → slice_get xs k ≡ Some x
@@ -87,10 +89,10 @@ labels_there bs k x l e f n =
 -- THE FIRST THAT IS REFUSED
 
 -- a block that is refused, behind blocks that passed, makes the program refused
-pub refused_there : (p : Placing) (bs : List HyperBlock) (k : ℕ) (x : HyperBlock) (us : List Block) (e : FlowFault)
-    → k < length bs → x ≡ get_or bs k x → AreFirstPassed p (map block_of bs) k us → IsRefused (block_of x) e
-    → HasRefused p (map block_of bs) e
-refused_there p bs k x us e l is all r = record {
+pub refused_there : (t : Bool) (p : Placing) (bs : List HyperBlock) (k : ℕ) (x : HyperBlock) (us : List Block)
+    (e : FlowFault) → k < length bs → x ≡ get_or bs k x → AreFirstPassed t p (map block_of bs) k us
+    → IsRefused (block_of x) e → HasRefused t p (map block_of bs) e
+refused_there t p bs k x us e l is all r = record {
   number = k;
   block = block_of x;
   there = block_there bs k x l is;
@@ -100,8 +102,8 @@ refused_there p bs k x us e l is all r = record {
 }
 
 -- want of memory to keep a block is one of its refusals
-pub memory_there : (p : Placing) (bs : List HyperBlock) (k : ℕ) (x : HyperBlock) (us : List Block) (e : FlowFault)
-    → k < length bs → x ≡ get_or bs k x → AreFirstPassed p (map block_of bs) k us → e ≡ Memory
-    → HasRefused p (map block_of bs) e
-memory_there p bs k x us e l is all m =
-    refused_there p bs k x us e l is all (subst (IsRefused (block_of x)) (sym m) (by_first (block_of x) Memory tt))
+pub memory_there : (t : Bool) (p : Placing) (bs : List HyperBlock) (k : ℕ) (x : HyperBlock) (us : List Block)
+    (e : FlowFault) → k < length bs → x ≡ get_or bs k x → AreFirstPassed t p (map block_of bs) k us → e ≡ Memory
+    → HasRefused t p (map block_of bs) e
+memory_there t p bs k x us e l is all m =
+    refused_there t p bs k x us e l is all (by_memory (block_of x) e m)

@@ -14,7 +14,7 @@ use Rattle.ir_forms.specs.inside.HyperCode.{Items, Done, Set, Load, Save, If, Ta
 use Rattle.ir_forms.specs.inside.HyperFits.{FitsHyper, FitsItems, IsSmall, items_in, ifs_in}
 use Rattle.hyper_build.specs.inside.SmallIfs.{IsShortLeg, if_block}
 use Rattle.predication.specs.inside.Environments.{no_bits, at_start, member}
-use Rattle.predication.specs.inside.Ifs.{touched, items}
+use Rattle.predication.specs.inside.Ifs.{touched}
 use Rattle.predication.specs.inside.Tails.{labelled, addressed, address_end, exit_with, block_with, exit_touched}
 use Rattle.predication.specs.inside.Converted.{begun, ended, all_nodes, predicated}
 use Rattle.predication.specs.inside.Labels.{by_address}

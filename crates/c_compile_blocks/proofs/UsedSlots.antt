@@ -14,7 +14,7 @@ use Rattle.grid_place.specs.Moves.{goes}
 use Rattle.grid_place.specs.inside.Moves.{renamed_inst}
 use Rattle.c_compile_layout.specs.inside.Linking.{Resolves, resolved_slot, resolved_block, by_both}
 use Rattle.c_compile_layout.proofs.Linked.{index_map, came}
-use Rattle.c_compile_blocks.specs.inside.Blocks.{flow_of, IsMachineBlock}
+use Rattle.c_compile_blocks.specs.inside.Blocks.{IsMachineBlock}
 use Rattle.c_compile_blocks.specs.Laws.{is_used, HasSlots, HasPlacedSlots}
 use Rattle.c_compile_blocks.specs.inside.Laws.{UsesSlots}
 use Rattle.c_compile_blocks.proofs.Emitted.{made_from}
@@ -62,14 +62,14 @@ used_resolved r (Some i) = refl
 has_slots : (r : Resolves) (p : Placing) (b : hyper.Block) (u : Block) (m : IsMachineBlock p b u)
     → HasSlots (goes m.placed.to) (resolved_block r u)
 has_slots r p b u m = record {
-  count = count_insts (flow_of b);
+  count = count_insts m.flow;
   used = λ s.
       ap is_used (index_map r u.insts.items (goes m.placed.to s))
       ∙ (used_resolved r (orders.slot_of u (goes m.placed.to s))
       ∙ (ap is_used (m.placed.moved.insts s)
       ∙ (used_renamed (goes m.placed.to) (orders.slot_of m.target s)
       ∙ (ap (λ (is : List (Option Inst)). is_used (slice_index_or is s None)) m.targeted.insts
-      ∙ first_used (slots (flow_of b)) (128 - length (slots (flow_of b))) s))));
+      ∙ first_used (slots m.flow) (128 - length (slots m.flow)) s))));
 }
 
 has_placed_slots : (r : Resolves) (p : Placing) (b : hyper.Block) (u : Block) → IsMachineBlock p b u

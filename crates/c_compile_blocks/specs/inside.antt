@@ -2,7 +2,9 @@ pub mod Blocks
 pub mod Checked
 pub mod Choosers
 pub mod Costs
+pub mod Guarded
 pub mod Laws
 pub mod Limits
+pub mod Passing
 pub mod Prices
 pub mod Refusals

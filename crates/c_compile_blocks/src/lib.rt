@@ -3,12 +3,13 @@
 //! the checker took, whatever the number of their cases, and that the blocks of a plan which cuts everywhere are
 //! within the limits of the machine.
 //!
-//! The passes stand in specs/inside/Blocks and specs/inside/Refusals, checked blocks in specs/inside/Checked, the
-//! laws in specs/Laws and specs/inside/Limits, and what a block costs at most in specs/inside/Costs,
-//! specs/inside/Prices and specs/inside/Choosers.
+//! The passes stand in specs/inside/Blocks, specs/inside/Passing and specs/inside/Refusals, guarded nodes in
+//! specs/inside/Guarded, checked blocks in specs/inside/Checked, the laws in specs/Laws and specs/inside/Limits, and
+//! what a block costs at most in specs/inside/Costs, specs/inside/Prices and specs/inside/Choosers.
 #![tactic(auto)]
 
 mod blocks;
+mod filled;
 mod law;
 mod laws;
 mod limit_laws;

@@ -5,7 +5,6 @@ use Rattle.trips_isa.specs.Stores.{data_size}
 use Rattle.c_tree.specs.declared.typed.TypedProgram.{TypedProgram}
 use Rattle.ir_forms.specs.inside.FlatCode.{Program}
 use Rattle.ir_forms.specs.inside.Frames.{frame_limit}
-use Rattle.hyper_build.specs.inside.Laws.{built_program, plan_of}
 use Rattle.hyper_build.proofs.Assigned.{gives_assigned}
 use Rattle.grid_place.specs.declared.placed.Placing.{Placing}
 use Rattle.c_compile_layout.proofs.Linked.{made, good_image}
@@ -18,13 +17,14 @@ use Rattle.c_compile_laws.proofs.Compiled.{data_fits, emitted}
 pub has_bounds : (P : TypedProgram) (F : Program) (t : ℕ) (p : Placing) (i : Image)
     → FlatMeans P F t → IsCompiled F p i → HasBounds t p i
 has_bounds P F t p i m c =
-    let B = built_program (plan_of c.cuts c.joins c.groups) F in
     let all = emitted P F t p i m c in
     let n = (gives_assigned c.cuts c.joins F c.lists c.groups m.fits c.assigned).few in
     let b = m.blocks in
-    let s = (made B c.blocks all).size in
+    let e = (c.trims).count in
+    let s = (made c.left c.blocks all).size in
     subst (λ (j : Image). HasBounds t p j) (sym c.is) (record {
-      few = omega (arith, n, b, s);
-      good = good_image B c.blocks F.bytes all (m.fits).bytes (data_fits F.bytes frame_limit data_size (m.fits).room);
-      slots = uses_slots p B c.blocks c.made;
+      few = omega (arith, n, b, e, s);
+      good = good_image c.left c.blocks F.bytes all (m.fits).bytes
+          (data_fits F.bytes frame_limit data_size (m.fits).room);
+      slots = uses_slots p c.left c.blocks c.made;
     })

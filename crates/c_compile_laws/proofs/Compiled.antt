@@ -17,7 +17,7 @@ use Rattle.ir_forms.specs.inside.HyperCode as hyper
 use Rattle.ir_forms.specs.inside.HyperRuns.{Layout, Standing, Running, Ended, Full, hyper_run}
 use Rattle.ir_forms.specs.inside.HyperWords.{AreBytes, IsFaithful}
 use Rattle.ir_forms.specs.inside.Laws.{StandsAs}
-use Rattle.flat_lower.specs.Keeps.{IsInput}
+use Rattle.c_meaning_spec.specs.Laws.{IsInput}
 use Rattle.flat_lower.specs.inside.Keeps.{Keeps, Finishes, Overflows}
 use Rattle.flat_lower.specs.inside.Keeps as flat
 use Rattle.reg_assign.specs.inside.Keeps.{tame_and, assigned_program, EndsAs, Reaches}
@@ -25,7 +25,7 @@ use Rattle.hyper_build.specs.inside.Routines.{built}
 use Rattle.hyper_build.specs.inside.Tree.{annotated_all, Routine}
 use Rattle.hyper_build.specs.inside.Whole.{EndsSo, Stops, IsUnended}
 use Rattle.hyper_build.specs.inside.Laws.{built_program, plan_of}
-use Rattle.hyper_build.proofs.Assigned.{keeps_assigned, gives_assigned}
+use Rattle.hyper_build.proofs.Assigned.{gives_assigned}
 use Rattle.grid_place.specs.declared.placed.Placing.{Placing}
 use Rattle.c_compile_layout.specs.inside.Layouts.{laid_out}
 use Rattle.c_compile_layout.specs.inside.Emitted.{AreEmitted}
@@ -37,6 +37,7 @@ use Rattle.c_compile_blocks.proofs.Emitted.{chunks_few, gives_emitted}
 use Rattle.c_compile_laws.specs.inside.Compiled.{FlatMeans, IsCompiled}
 use Rattle.c_compile_laws.specs.Runs.{run_of}
 use Rattle.c_compile_laws.specs.Runs.{DoesFinished, DoesDeep, DoesUnfinished}
+use Rattle.c_compile_laws.proofs.TrimmedPrograms.{trimmed_fits, trimmed_keeps}
 use Rattle.c_compile_laws.proofs.RunStandings.{running_is, full_is, ended_is}
 
 -- an input is bytes
@@ -51,25 +52,27 @@ data_fits bytes limit size l = omega (arith, l)
 built_some : (base : ℕ) (fs : List Routine) (main : ℕ) → 1 ≤ length (built base fs main)
 built_some base fs main = omega arith
 
--- the passes take the blocks that are built of a flat program
+-- the passes take what is left of the blocks that are built of a flat program
 pub blocks_pass : (P : TypedProgram) (F : Program) (t : ℕ) (p : Placing) (i : Image) → FlatMeans P F t
-    → (c : IsCompiled F p i) → FitsPasses (built_program (plan_of c.cuts c.joins c.groups) F)
+    → (c : IsCompiled F p i) → FitsPasses c.left
 blocks_pass P F t p i m c =
     let shape = gives_assigned c.cuts c.joins F c.lists c.groups m.fits c.assigned in
     let n = shape.few in
     let b = m.blocks in
     let f = m.few in
-    record {
+    trimmed_fits (built_program (plan_of c.cuts c.joins c.groups) F) c.left
+    (record {
       some = built_some (frames_at F.bytes) (annotated_all (plan_of c.cuts c.joins c.groups) 0 0 F.functions) F.main;
       few = omega (arith, n, b, f);
       followed = shape.followed;
       fit = shape.fit (omega (arith, n, b, f));
-    }
+    })
+    c.trims
 
 module _ (P : TypedProgram) (F : Program) (t : ℕ) (p : Placing) (i : Image)
     (m : FlatMeans P F t) (c : IsCompiled F p i) where
   abbrev program : List hyper.Block
-  program = built_program (plan_of c.cuts c.joins c.groups) F
+  program = c.left
 
   abbrev at : Layout
   at = laid_out c.blocks
@@ -93,7 +96,7 @@ module _ (P : TypedProgram) (F : Program) (t : ℕ) (p : Placing) (i : Image)
   blocks_end : (input : List ℕ) → IsInput input → (n : ℕ)
       → EndsSo (hyper_of input) n (assigned_of input n)
   blocks_end input h n =
-      keeps_assigned true at c.cuts c.joins F c.lists c.groups input n m.fits c.assigned found_again
+      trimmed_keeps true at c.cuts c.joins F c.lists c.groups program input n m.fits c.assigned c.trims found_again
       (bytes_of_input input h)
 
   image_stands : (input : List ℕ) → IsInput input → (n : ℕ)

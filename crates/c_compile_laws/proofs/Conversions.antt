@@ -18,7 +18,8 @@ use Rattle.predication.specs.inside.Converted.{begun, ended, predicated}
 use Rattle.predication.proofs.Ops.{op_form}
 use Rattle.predication.proofs.Untaken.{load_form, store_form}
 use Rattle.c_compile_laws.specs.inside.GuardLaws.{ConvertsGuarded}
-use Rattle.c_compile_laws.proofs.NodeCounts.{has_sense, sensed_nodes, sensed_append, own_counts, sensed_fewer}
+use Rattle.c_compile_blocks.specs.inside.Guarded.{has_sense, sensed_nodes}
+use Rattle.c_compile_laws.proofs.NodeCounts.{sensed_append, own_counts, sensed_fewer}
 
 -- what items give besides in a leg, where they are one
 abbrev directly : Bool → Items → ℕ

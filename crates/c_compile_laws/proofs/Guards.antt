@@ -6,16 +6,16 @@ use Rattle.trips_isa.specs.Images.{chunk_of}
 use Rattle.ir_forms.specs.inside.FlatFits.{small_ifs_of_all}
 use Rattle.ir_forms.specs.inside.HyperCode as hyper
 use Rattle.ir_forms.specs.inside.HyperFits.{FitsHyper}
-use Rattle.hyper_build.specs.inside.Laws.{built_program, plan_of}
-use Rattle.hyper_build.proofs.Assigned.{gives_assigned}
-use Rattle.hyper_build.proofs.FilledIfs.{keeps_small_ifs}
+use Rattle.hyper_build.specs.inside.Laws.{plan_of}
 use Rattle.predication.specs.inside.Tails.{labelled}
 use Rattle.grid_place.specs.declared.placed.Placing.{Placing}
 use Rattle.grid_place.specs.Moves.{goes}
 use Rattle.c_compile_laws.specs.Counts.{guarded_in}
 use Rattle.c_compile_laws.specs.inside.GuardLaws.{AreGuarded}
+use Rattle.c_compile_laws.proofs.Compiled.{blocks_pass}
 use Rattle.c_compile_laws.proofs.Machines.{machines}
 use Rattle.c_compile_laws.proofs.GuardPrograms.{programs}
+use Rattle.c_compile_laws.proofs.TrimmedPrograms.{trimmed_ifs}
 use Rattle.c_compile_blocks.specs.inside.Blocks.{AreMachineBlocks}
 use Rattle.c_compile_laws.specs.inside.Laws.{GuardsSmallIfs}
 
@@ -26,20 +26,15 @@ are_guarded p B us all fit = record {
   size = all.size;
   each = λ k b u is_b is_u.
       let m = all.each k b u is_b is_u in
-      machines (goes m.placed.to) m.placed.permutes.back (labelled b) m.target u (fit k b is_b).items m.room
-      m.targeted m.placed.permutes.permutes m.placed.moved;
+      machines (goes m.placed.to) m.placed.permutes.back (labelled b) m.flow m.target u (fit k b is_b).items
+      m.stands.guards m.room m.targeted m.placed.permutes.permutes m.placed.moved;
 }
 
 -- the image has at least as many guarded instructions other than branches as the flat program has small ifs
 pub guards_small_ifs : GuardsSmallIfs
 guards_small_ifs P F t p i m c =
-    let plan = plan_of c.cuts c.joins c.groups in
-    let B = built_program plan F in
-    let shape = gives_assigned c.cuts c.joins F c.lists c.groups m.fits c.assigned in
-    let n = shape.few in
-    let b = m.blocks in
-    let f = m.few in
-    let g = are_guarded p B c.blocks c.made (λ k x e. shape.fit (omega (arith, n, b, f)) k x e) in
-    let x = keeps_small_ifs plan F in
-    let y = programs (chunk_of c.blocks) 0 B c.blocks g in
+    let pass = blocks_pass P F t p i m c in
+    let g = are_guarded p c.left c.blocks c.made (λ k x e. pass.fit k x e) in
+    let x = trimmed_ifs (plan_of c.cuts c.joins c.groups) F c.left c.trims in
+    let y = programs (chunk_of c.blocks) 0 c.left c.blocks g in
     subst (λ (j : Image). small_ifs_of_all F.functions ≤ guarded_in j.blocks) (sym c.is) (omega (arith, x, y))

@@ -1,12 +1,16 @@
 -- From the filled if-items to the guarded instructions of a machine block.
-use Rattle.std.proofs.Common.{◌≡◌, ◌-◌, ◌≤◌, List, length, map, replicate, Option, None, ap, ◌∙◌, arith}
-use Rattle.std.proofs.Common.{length-append}
+use Rattle.std.proofs.Common.{◌≡◌, ◌⊎◌, inl, inr, ◌-◌, ◌≤◌, List, length, map, replicate, Option, None, ap, ◌∙◌}
+use Rattle.std.proofs.Common.{arith, length-append}
 use Rattle.std.proofs.lemmas.List.{length-map, length-replicate}
 use Rattle.trips_isa.specs.declared.block.Inst.{Inst}
+use Rattle.ir_forms.specs.declared.flow.FlowBlock.{FlowBlock}
+use Rattle.ir_forms.specs.inside.HyperCode.{Block}
+use Rattle.ir_forms.specs.inside.HyperFits.{FitsItems, filled_ifs}
 use Rattle.predication.specs.inside.Converted.{predicated}
 use Rattle.null_outputs.specs.inside.Wants.{complete}
 use Rattle.fan_out.specs.declared.wiring.Placed.{Placed}
 use Rattle.fan_out.specs.inside.Targeted.{slots, slot_of, filled}
+use Rattle.c_compile_blocks.specs.inside.Guarded.{sensed_nodes}
 use Rattle.c_compile_laws.specs.inside.GuardLaws.{MachinesGuarded}
 use Rattle.c_compile_laws.proofs.NodeCounts.{completes_sensed}
 use Rattle.c_compile_laws.proofs.Conversions.{converts_sensed}
@@ -22,13 +26,24 @@ all_slots ps few =
     let c : length rest ≡ 128 - length ps = length-replicate (128 - length ps) None in
     omega (arith, few, a, b, c)
 
--- a machine block has at least as many guarded instructions as its hyper block has filled if-items
-pub machines : MachinesGuarded
-machines p q b t u fits room is permutes moved =
+-- a flow block has a guarded node for each filled if-item, if it is the block's own or has as many
+guarded : (b : Block) (f : FlowBlock) → FitsItems b.items
+    → (f ≡ complete (predicated b)) ⊎ (filled_ifs b.items ≤ sensed_nodes f.nodes)
+    → filled_ifs b.items ≤ sensed_nodes f.nodes
+guarded b f fits (inl e) =
     let a = converts_sensed b fits in
     let c = completes_sensed (predicated b) in
-    let d = targets_sensed (complete (predicated b)) t is in
+    let d : sensed_nodes f.nodes ≡ sensed_nodes (complete (predicated b)).nodes =
+    ap (λ (g : FlowBlock). sensed_nodes g.nodes) e in
+    omega (arith, a, c, d)
+guarded b f fits (inr h) = h
+
+-- a machine block has at least as many guarded instructions as its hyper block has filled if-items
+pub machines : MachinesGuarded
+machines p q b f t u fits guards room is permutes moved =
+    let a = guarded b f fits guards in
+    let d = targets_sensed f t is in
     let size : length t.insts.items ≡ 128 =
-    ap (λ (l : List (Option Inst)). length l) is.insts ∙ all_slots (slots (complete (predicated b))) room.insts in
+    ap (λ (l : List (Option Inst)). length l) is.insts ∙ all_slots (slots f) room.insts in
     let e = places p q t u permutes size moved in
-    omega (arith, a, c, d, e)
+    omega (arith, a, d, e)

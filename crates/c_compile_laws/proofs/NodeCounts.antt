@@ -8,24 +8,13 @@ use Rattle.trips_isa.specs.Operands.{is_guarded}
 use Rattle.ir_forms.specs.declared.flow.Guard.{Guard}
 use Rattle.ir_forms.specs.declared.flow.FlowNode.{FlowNode}
 use Rattle.ir_forms.specs.declared.flow.FlowBlock.{FlowBlock}
-use Rattle.ir_forms.specs.inside.FlowRuns.{sense_of}
 use Rattle.ir_forms.specs.FlowFits.{is_branch}
 use Rattle.ir_forms.specs.inside.FlowFits.{has_guard, guarded_nodes}
 use Rattle.null_outputs.specs.inside.Completed.{added}
 use Rattle.null_outputs.specs.inside.Surely.{sure_by}
 use Rattle.null_outputs.specs.inside.Wants.{want_by, complete}
+use Rattle.c_compile_blocks.specs.inside.Guarded.{has_sense, sensed_nodes}
 use Rattle.c_compile_laws.specs.inside.GuardLaws.{CompletesGuarded}
-
--- whether there is a guard that has a sense
-abbrev pub has_sense : Option Guard → Bool
-has_sense g = is_guarded (sense_of g)
-
--- The nodes other than branches that become guarded instructions. Where each guard has a sense, these are
--- the guarded nodes.
-abbrev pub sensed_nodes : List FlowNode → ℕ
-sensed_nodes [] = 0
-sensed_nodes (n ∷ rest) =
-    cond (has_sense n.guard && not (is_branch (form_of n.op))) 1 0 + sensed_nodes rest
 
 -- LISTS
 

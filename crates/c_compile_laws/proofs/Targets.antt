@@ -13,7 +13,8 @@ use Rattle.fan_out.specs.inside.Targeted.{slots_of_nodes, slots, slot_of, IsTarg
 use Rattle.c_compile_layout.specs.inside.Linking.{Resolves, resolved_slot}
 use Rattle.c_compile_laws.specs.Counts.{guarded_slot, guarded_slots, guarded_insts}
 use Rattle.c_compile_laws.specs.inside.GuardLaws.{TargetsGuarded, ResolvesGuarded}
-use Rattle.c_compile_laws.proofs.NodeCounts.{sensed_nodes, all_sensed}
+use Rattle.c_compile_blocks.specs.inside.Guarded.{sensed_nodes}
+use Rattle.c_compile_laws.proofs.NodeCounts.{all_sensed}
 
 -- the slots of nodes hold as many guards as the nodes have senses
 nodes_same : (ws : List Wire) (next j : ℕ) (ns : List FlowNode)

@@ -3,3 +3,4 @@ pub mod GuardLaws
 pub mod Laws
 pub mod Limits
 pub mod PlainLaws
+pub mod TrimLaws

@@ -74,6 +74,7 @@ next_below (t ∷ ts) (suc l) h =
     let r = next_below ts l (omega arith) in
     omega (arith, s, u, r)
 
+-- the chunk of each of few blocks is one that an image may have
 pub chunk_low : (ts : List Block) (l : ℕ) → AreFew ts → l < length ts → chunk_of ts l < most_chunks
 chunk_low ts l f h = let b = next_below ts l h in omega (arith, b, f)
 
@@ -83,15 +84,18 @@ there_again ts c l e =
     let d : (128 * c) / 128 ≡ c = mul-div_right c (omega arith) in
     ap (λ v. cond (v == 0) (block_at ts ((128 * c) / 128)) 0) m ∙ ap (block_at ts) d ∙ e
 
+-- the layout of few blocks has an address of 32 bits for each label, where a chunk begins
 pub has_places : (ts : List Block) → AreFew ts → HasPlaces (laid_out ts)
 has_places ts f = record {
   low = λ l. let b = chunk_few ts l f in omega (arith, b);
   aligned = λ l. mul-mod_right 128 (chunk_of ts l);
 }
 
+-- the layout of few blocks has addresses
 pub has_addresses : (ts : List Block) → AreFew ts → HasAddresses (laid_out ts)
 has_addresses ts f l = let b = chunk_few ts l f in omega (arith, b)
 
+-- the addresses of few blocks lead back to their labels
 pub faithful : (ts : List Block) → AreFew ts → IsFaithful (laid_out ts) (length ts)
 faithful ts f = record {
   again = λ l h. there_again ts (chunk_of ts l) l (block_there ts l h);
@@ -114,6 +118,7 @@ offset_adds here there h t = go (nat_le here there) refl
         let s : here + (2 ^ 64 - suc (here - there - 1)) ≡ there + 2 ^ 64 = omega arith in
         ap (λ n. n % 2 ^ 64) s ∙ add-mod_right there (2 ^ 64) ∙ mod-eq_of_lt (omega arith)
 
+-- the offset from one of few blocks to another leads to the other
 pub offset_leads : (ts : List Block) (k l : ℕ) → AreFew ts → l < length ts
     → to_offset ts k (word (offset (chunk_of ts k) (chunk_of ts l))) ≡ l
 offset_leads ts k l f h =
@@ -140,6 +145,7 @@ block_within ts c some = go (starting_from ts 0 0 c) refl
     go None e = omega (arith, some)
     go (Some n) e = let w = within_from ts 0 0 c n e in omega (arith, w)
 
+-- the address in a word leads to one of the blocks
 pub address_within : (ts : List Block) (a : ℕ) → 1 ≤ length ts → to_address ts (Word a) < length ts
 address_within ts a some = go (a % 128 == 0)
   where

@@ -56,6 +56,7 @@ module _ (us : List Block) (k : ℕ) (few : AreFew us) (low : k < length us) whe
       go Store s h = other Store (λ b. absurd (cc)) h
       go Constant s h = other Constant (λ b. absurd (cc)) h
 
+  -- the offsets of a block whose labels are below the number of blocks lie in their fields
   pub forms_fit : (f : FlowBlock) → FitsFlow f → All (λ (x : FlowNode). LabelBelow (length us) x.op x.imm) f.nodes
       → FormsFit (by_offset (chunk_of us) k) f.nodes
   forms_fit f fits labels i d l =
@@ -68,6 +69,7 @@ label_named address n Bro imm h = h
 label_named address n Callo imm h = h
 label_named address n _ imm h = tt
 
+-- labels stay below a number where addresses are resolved
 pub labels_named : (address : ℕ → ℕ) (n : ℕ) (ns : List FlowNode)
     → All (λ (x : FlowNode). LabelBelow n x.op x.imm) ns
     → All (λ (x : FlowNode). LabelBelow n x.op x.imm) (map (resolved_node (by_address address)) ns)

@@ -131,6 +131,7 @@ module _ (r : Resolves) (f : FlowBlock) where
         };
   }
 
+  -- a complete block whose resolved immediates lie in their fields is complete once it is resolved
   pub complete_resolved : IsComplete f → FormsFit r f.nodes → IsComplete (resolved r f)
   complete_resolved c forms = record {
     fits = fits_resolved c.fits forms;

@@ -34,6 +34,7 @@ all_cons : (x : ℕ) (xs : List ℕ) → x < 256 → All (λ x. x < 256) xs → 
 all_cons x xs h a zero d l = h
 all_cons x xs h a (suc i) d l = a i d (omega arith)
 
+-- an item stands at each place below the length
 pub there : {A : Type 0} (ts : List A) (k : ℕ) → k < length ts → slice_get ts k ≡ None → ⊥
 there [] k l e = omega arith
 there (t ∷ ts) zero l e = absurd (cc)
@@ -292,6 +293,7 @@ begun B ts made check go step run_by takes bytes input n a b l =
     (does B ts made check go step run_by takes n) made.some (hypers.start bytes input)
     (start bytes input) (start_words bytes input a b l) (start_same bytes input)
 
+-- blocks of a hyper program, checked or not, are as many blocks of the image whose marks nothing looks at
 pub does_plainly : (B : List hyper.Block) (ts : List Block) → AreMade B ts → DoesPlainly B ts
 does_plainly B ts made check bytes input n a b l =
     begun B ts made check (plain_runs ts) (plain_step ts) (plainly_runs ts)
@@ -301,6 +303,7 @@ was_clean : (c : Bool) → (true && not c) ≡ false → c ≡ true
 was_clean true e = refl
 was_clean false e = absurd (cc)
 
+-- blocks of a hyper program, checked for faults, are as many blocks of the image
 pub does_the_same : (B : List hyper.Block) (ts : List Block) → AreMade B ts → DoesTheSame B ts
 does_the_same B ts made bytes input n a b l =
     begun B ts made true (runs ts) (step_of ts) (machine_runs ts)

@@ -28,6 +28,7 @@ turn ch j (suc k) (x ∷ xs) d new l e =
     (turn ch (suc j) k xs d new (omega arith)
     (e ∙ ap (λ n. resolved_block (by_both ch n) (get_or (so_far ch (suc j) k xs) k d)) z))
 
+-- a turn of the loop resolves the next block
 pub turned : (ch : ℕ → ℕ) (k m : ℕ) (xs cur : List Block) (old new : Block) → k < length xs
     → m ≡ suc k → cur ≡ linked_from ch 0 (take k xs) ++ drop k xs
     → new ≡ resolved_block (by_both ch k) (get_or cur k old)
@@ -55,6 +56,7 @@ begin_at here (suc l) (u ∷ us) =
     omega (arith, b) in
     ap (λ n. get_or (begins (here + chunks u) us) l n) e ∙ begin_at (here + chunks u) l us ∙ f
 
+-- blocks resolved by the table of their beginnings are linked
 pub linked_by : (table : List ℕ) (end : ℕ) (us vs : List Block) → table ≡ begins 0 us → end ≡ sum_by chunks us
     → vs ≡ linked_from (λ l. get_or table l end) 0 us → vs ≡ linked us
 linked_by table end us vs t e is =
@@ -63,6 +65,7 @@ linked_by table end us vs t e is =
     let y : 0 + sum_by chunks (take l us) ≡ sum_by chunks (take l us) = omega arith in
     ap₂ (λ (a : List ℕ) (b : ℕ). get_or a l b) t (e ∙ sym z) ∙ begin_at 0 l us ∙ y))
 
+-- no block begins behind the chunks of all
 pub begins_low : (here top : ℕ) (us : List Block) → here + sum_by chunks us ≤ top
     → All (λ c. c ≤ top) (begins here us)
 begins_low here top [] l = λ i d k. absurd (omega arith)

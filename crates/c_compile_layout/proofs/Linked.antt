@@ -75,6 +75,7 @@ body_same r j [] = refl
 body_same r j (None ∷ is) = ap (max 1) (body_same r (suc j) is)
 body_same r j (Some i ∷ is) = ap (max (chunks_to (Some i) j)) (body_same r (suc j) is)
 
+-- a block has as many chunks once its labels are resolved
 pub chunks_same : (r : Resolves) (t : Block) → chunks (resolved_block r t) ≡ chunks t
 chunks_same r t = ap (λ n. 1 + n) (body_same r 0 t.insts.items)
 
@@ -112,6 +113,7 @@ module _ (chunk : ℕ → ℕ) where
     pub there : slice_get us i ≡ Some block
     pub is : resolved_block (by_both chunk (k + i)) block ≡ t
 
+  -- each linked block came from one by resolving its labels
   pub came : (k : ℕ) (us : List Block) (i : ℕ) (t : Block)
       → slice_get (linked_from chunk k us) i ≡ Some t → Came k us i t
   came k [] i t e = absurd (cc)
@@ -159,9 +161,11 @@ inst_nodes_same r j [] = refl
 inst_nodes_same r j (None ∷ is) = ap (λ x. inst_node j None ∷ x) (inst_nodes_same r (suc j) is)
 inst_nodes_same r j (Some i ∷ is) = ap (λ x. inst_node j (Some i) ∷ x) (inst_nodes_same r (suc j) is)
 
+-- a block has the same nodes once its labels are resolved
 pub nodes_same : (r : Resolves) (t : Block) → nodes_of (resolved_block r t) ≡ nodes_of t
 nodes_same r t = ap (λ x. map read_node t.reads.items ++ x) (inst_nodes_same r 0 t.insts.items)
 
+-- what stands in a slot once labels are resolved is the slot's instruction, resolved
 pub index_map : (r : Resolves) (is : List (Option Inst)) (s : ℕ)
     → slice_index_or (map (resolved_slot r) is) s None ≡ resolved_slot r (slice_index_or is s None)
 index_map r [] s = refl
@@ -328,6 +332,7 @@ all_by_index : {A : Type 0} (P : A → Type 0) (xs : List A)
     → ((i : ℕ) (x : A) → slice_get xs i ≡ Some x → P x) → All P xs
 all_by_index P xs f i d l = f i (get_or xs i d) (slice_get-get_or xs i d l)
 
+-- the image of blocks that the passes made is good
 pub good_image : (B : List hyper.Block) (us : List Block) (bytes : List ℕ) → AreEmitted B us
     → AreBytes bytes → length bytes ≤ data_size → IsGoodImage (image_of us bytes)
 good_image B us bytes all a l = record {
@@ -342,6 +347,7 @@ good_image B us bytes all a l = record {
   good = all_by_index GoodBlock (linked us) (λ i x e. (each_good B us all i x e).1);
 }
 
+-- blocks of the image come to what as many blocks of the hyper program do, where none of these faults
 pub image_means : (B : List hyper.Block) (us : List Block) → AreEmitted B us → ImageMeans B us
 image_means B us all bytes input n a b l =
     subst (λ at. StandsAs (hyper_run true at B bytes input n)
@@ -356,6 +362,7 @@ no_trap (Ended out w) s c clean h = absurd (cc)
 no_trap (Full out) s c clean h = absurd (cc)
 no_trap Unclean s c clean h = clean tt
 
+-- where no block of the hyper program faults, none of its image traps
 pub never_traps : (B : List hyper.Block) (us : List Block) → AreEmitted B us → NeverTraps B us
 never_traps B us all bytes input n c a b l clean trap =
     no_trap (hyper_run true (laid_out us) B bytes input n)
@@ -364,6 +371,8 @@ never_traps B us all bytes input n c a b l clean trap =
     (standing_by (runs (linked us) (start (trimmed bytes) input) n).0 r)) trap
     (image_means B us all bytes input n a b l))
 
+-- whatever faults, blocks of the hyper program come to what as many blocks of its image do, whose marks nothing
+-- looks at
 pub image_means_plainly : (B : List hyper.Block) (us : List Block) → AreEmitted B us
     → ImageMeansPlainly B us
 image_means_plainly B us all bytes input n a b l =

@@ -36,6 +36,7 @@ module _ (chunk : ℕ → ℕ) (k : ℕ) where
   keeps Callo imm e = absurd (e refl)
   keeps _ imm e = refl
 
+  -- a node that is no branch stays as it is
   pub kept : (n : FlowNode) → (form_of n.op ≡ Branch → ⊥) → moved n ≡ n
   kept n e = ap (λ i. record n { imm = i }) (keeps n.op n.imm e)
 
@@ -74,6 +75,7 @@ module _ (chunk : ℕ → ℕ) (k : ℕ) where
   stores_at regs h [] i = refl
   stores_at regs h (n ∷ ns) i = ap₂ or_else (stored_same regs h n i) (stores_at regs h ns i)
 
+  -- offsets in place of labels change nothing that is stored
   pub stores_same : (regs : ℕ → ℕ) (h : ℕ → Answer) (ns : List FlowNode)
       → stores regs h (map moved ns) ≡ stores regs h ns
   stores_same regs h ns = fun_ext (stores_at regs h ns)
@@ -91,6 +93,7 @@ module _ (chunk : ℕ → ℕ) (k : ℕ) where
   obeys_same regs h st mem j (n ∷ ns) o =
       (o.0 ∙ sym (gives_same regs h st mem j n), obeys_same regs h st mem (suc j) ns o.1)
 
+  -- offsets in place of labels leave a table of an entry state one
   pub start_same : (regs mem : List ℕ) (rg : ℕ → ℕ) (h : ℕ → Answer) (f : FlowBlock)
       → AtStart rg mem h f → AtStart rg mem h (resolved (by_offset chunk k) f)
   start_same regs mem rg h f o =
@@ -107,6 +110,7 @@ module _ (chunk : ℕ → ℕ) (k : ℕ) where
   leaving_same Branch n (Some t) = refl
   leaving_same _ n t = refl
 
+  -- offsets in place of labels change an exit by its offset alone
   pub exits_same : (h : ℕ → Answer) (j : ℕ) (ns : List FlowNode)
       → exits h j (map moved ns) ≡ map moved_exit (exits h j ns)
   exits_same h j [] = refl
@@ -131,6 +135,7 @@ module _ (chunk : ℕ → ℕ) (k : ℕ) where
       ap (λ e. act_tokens e (moved n) l r) s ∙ branch_acts n l r
       ∙ sym (ap (λ e. act_tokens e n l r) s))
 
+  -- offsets in place of labels change no act
   pub fired_same : (regs : ℕ → ℕ) (h : ℕ → Answer) (ns : List FlowNode)
       → fired regs h (map moved ns) ≡ fired regs h ns
   fired_same regs h [] = refl

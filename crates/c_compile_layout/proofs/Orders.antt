@@ -31,6 +31,7 @@ rises_forth : (r : Resolves) (rank : ℕ → ℕ) (k : ℕ) (n : FlowNode) → R
     → Rises rank k (resolved_node r n)
 rises_forth r rank k n h = record { left = h.left; right = h.right; guard = h.guard }
 
+-- the order of a flow block is one once it is resolved
 pub order_forth : (r : Resolves) (f : FlowBlock) (rank : ℕ → ℕ) → HasOrder f rank
     → HasOrder (resolved r f) rank
 order_forth r f rank o = record {

@@ -19,6 +19,7 @@ pub record Was (r : Resolves) (ns : List FlowNode) (j : ℕ) (n : FlowNode) : Ty
   pub there : slice_get ns j ≡ Some node
   pub is : resolved_node r node ≡ n
 
+-- each resolved node was one with its immediate as it stood
 pub was : (r : Resolves) (ns : List FlowNode) (j : ℕ) (n : FlowNode)
     → slice_get (map (resolved_node r) ns) j ≡ Some n → Was r ns j n
 was r ns j n e = go (slice_get ns j) refl (sym (slice_get-map (resolved_node r) ns j) ∙ e)
@@ -43,6 +44,7 @@ named_same r f s = ap (λ x. x || writes_name s f.writes) (names_same r s f.node
 takes_same : (r : Resolves) (n : FlowNode) → TakesOnly n → TakesOnly (resolved_node r n)
 takes_same r n t = record { left = t.left; right = t.right }
 
+-- a regular flow block is regular once it is resolved
 pub regular_resolved : (r : Resolves) (f : FlowBlock) → IsRegular f → IsRegular (resolved r f)
 regular_resolved r f g = record {
   registers = g.registers;

@@ -10,6 +10,7 @@ use Rattle.block_cases.specs.inside.Plain.{plain_step, plain_on, plain_runs}
 abbrev pub Steps : Type 0
 Steps = State → ℕ → State × Stepped
 
+-- one step of a run: the next state, and how it stepped
 abbrev pub Step : Type 0
 Step = State → State × Stepped
 
@@ -27,6 +28,7 @@ resumed_by go n s Ended = (s, Ended)
 resumed_by go n s StackFull = (s, StackFull)
 resumed_by go n s (Trap c) = (s, Trap c)
 
+-- a run that goes on behind a step
 abbrev pub resumed : Steps → ℕ → State × Stepped → State × Stepped
 resumed go n r = resumed_by go n r.0 r.1
 
@@ -71,6 +73,7 @@ plain_onward ts s Ended = refl
 plain_onward ts s StackFull = refl
 plain_onward ts s (Trap c) = refl
 
+-- a run of the machine goes by its steps
 pub machine_runs : (ts : List Block) → IsRun (runs ts) (step_of ts)
 unfolding runs
 machine_runs ts = record {
@@ -78,6 +81,7 @@ machine_runs ts = record {
   more = λ s n. goes_onward ts (runs ts s n).0 (runs ts s n).1;
 }
 
+-- a run that looks at no mark goes by its steps
 pub plainly_runs : (ts : List Block) → IsRun (plain_runs ts) (plain_step ts)
 unfolding plain_runs
 plainly_runs ts = record {

@@ -25,6 +25,7 @@ reads_size ws next [] = refl
 reads_size ws next (r ∷ rs) =
     ap suc (reads_size ws (next + length (fan_of_read ws next r).movs) rs)
 
+-- the machine block of a flow block has its parts in their sizes
 pub has_sizes : (f : FlowBlock) (t : Block) → HasRoom f → IsTargeted f t → HasSizes t
 has_sizes f t room is = record {
   reads =

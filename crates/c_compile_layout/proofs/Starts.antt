@@ -180,5 +180,6 @@ module _ (f : FlowBlock) (rank : ℕ → ℕ) (order : HasOrder f rank) (regs : 
 pub starts_in_order : (f : FlowBlock) (rank : ℕ → ℕ) → HasOrder f rank → HasStarts f
 starts_in_order f rank order regs mem = (table f rank order regs mem, starts f rank order regs mem)
 
+-- each entry state of a flow block that fits has a table
 pub has_starts : (f : FlowBlock) → FitsFlow f → HasStarts f
 has_starts f fits = let o = fits.order in starts_in_order f o.0 o.1

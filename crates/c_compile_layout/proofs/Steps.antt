@@ -263,6 +263,7 @@ module _ (B : List hyper.Block) (ts : List Block) (made : AreMade B ts) (k : ℕ
   at_next : plain_step ts s ≡ apply t.writes.items (plain ts s.next t s.registers s.memory) s
   at_next = ap (λ x. plain_in ts x s) (ap (slice_get ts) same.next ∙ is_t)
 
+  -- the machine steps to the state that the hyper block leaves
   pub steps : Steps ts b m s
   steps = record {
     after = after;

@@ -114,10 +114,12 @@ last_kept (suc b) [] f e = omega (arith, e)
 last_kept zero (c ∷ cs) f e = f e
 last_kept (suc b) (c ∷ cs) f e = f e
 
+-- trimmed bytes do not end in a zero
 pub trimmed_last : (bytes : List ℕ) → last_byte (trimmed bytes) ≡ 0 → ⊥
 trimmed_last [] e = omega (arith, e)
 trimmed_last (b ∷ bs) e = last_kept b (trimmed bs) (trimmed_last bs) e
 
+-- trimmed bytes are no more than before
 pub trimmed_length : (bytes : List ℕ) → length (trimmed bytes) ≤ length bytes
 trimmed_length bytes =
     let n = trims_length (trimmed bytes) bytes (trims bytes) in omega (arith, n)
@@ -128,6 +130,7 @@ kept_bytes (suc b) [] l a = All-cons (λ b. b < 256) (suc b) [] l a
 kept_bytes zero (c ∷ cs) l a = All-cons (λ b. b < 256) zero (c ∷ cs) l a
 kept_bytes (suc b) (c ∷ cs) l a = All-cons (λ b. b < 256) (suc b) (c ∷ cs) l a
 
+-- trimmed bytes are bytes
 pub trimmed_bytes : (bytes : List ℕ) → AreBytes bytes → AreBytes (trimmed bytes)
 trimmed_bytes [] a = a
 trimmed_bytes (b ∷ bs) a =
@@ -141,6 +144,8 @@ clean : (at : Layout) (B : List hyper.Block) (bytes input : List ℕ) (n : ℕ)
 unfolding hyper_run
 clean at B bytes input n = c-run at B n (block_at B 0) (hypers.start bytes input)
 
+-- whatever faults, blocks of the hyper program come to what as many blocks of the image do, whose marks nothing
+-- looks at
 pub means_plainly : (B : List hyper.Block) (ts : List Block) → AreMade B ts → MeansPlainly B ts
 means_plainly B ts made bytes input n a b l =
     stands_is (hyper_run false (laid_out ts) B bytes input n) (plain_runs ts (start bytes input) n)
@@ -148,6 +153,8 @@ means_plainly B ts made bytes input n a b l =
     ∙ ap (λ mem. standing_of (plain_runs ts (record (start bytes input) { memory = mem }) n))
     (sym (trimmed_memory bytes l))
 
+-- blocks of the image, with trimmed data, come to what as many blocks of the hyper program do, where none of
+-- these faults
 pub means_the_same : (B : List hyper.Block) (ts : List Block) → AreMade B ts → MeansTheSame B ts
 means_the_same B ts made bytes input n a b l =
     subst (λ mem. StandsAs (hyper_run true (laid_out ts) B bytes input n)

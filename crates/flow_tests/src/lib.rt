@@ -1,5 +1,5 @@
 //! Hyper blocks with their flow blocks as text, blocks with too much of each part, and small flow blocks with what
-//! completing adds to them: all as tests.
+//! completing adds to them and which guards they keep: all as tests.
 #![tactic(auto)]
 
 #[cfg(test)]
@@ -12,3 +12,5 @@ mod making;
 mod shown;
 #[cfg(test)]
 mod too_big_tests;
+#[cfg(test)]
+mod unguard_tests;

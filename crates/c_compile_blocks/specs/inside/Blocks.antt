@@ -1,61 +1,77 @@
 -- What the passes make of a hyper program before its labels are resolved: a machine block of each
 -- hyper block.
-use Rattle.std.specs.Prelude.{◌≡◌, ℕ, ◌≤◌, List, length, slice_get, Some}
+use Rattle.std.specs.Prelude.{◌≡◌, ◌⊎◌, ℕ, ◌≤◌, Bool, false, List, length, slice_get, Some}
 use Rattle.trips_isa.specs.declared.block.Block.{Block}
 use Rattle.trips_isa.specs.Places.{nodes_of}
 use Rattle.block_cases.specs.Cases.{cases}
 use Rattle.ir_forms.specs.declared.flow.FlowBlock.{FlowBlock}
 use Rattle.ir_forms.specs.inside.HyperCode as hyper
-use Rattle.ir_forms.specs.inside.HyperFits.{FitsHyper, IsFollowed}
+use Rattle.ir_forms.specs.inside.HyperFits.{FitsHyper, IsFollowed, filled_ifs}
 use Rattle.predication.specs.inside.Tails.{labelled}
 use Rattle.predication.specs.inside.Converted.{predicated}
 use Rattle.predication.specs.inside.Laws as convert
 use Rattle.null_outputs.specs.inside.Wants.{complete}
+use Rattle.flow_ease.specs.inside.Eases.{Eases}
 use Rattle.fan_out.specs.inside.Targeted.{HasRoom, IsTargeted}
 use Rattle.grid_place.specs.declared.placed.Placing.{Placing}
 use Rattle.grid_place.specs.inside.Placings.{IsPlaced}
 use Rattle.c_compile_layout.specs.inside.Emitted.{most_blocks}
+use Rattle.c_compile_blocks.specs.inside.Guarded.{sensed_nodes}
 
 -- the flow block of a hyper block: guards in place of branches, and a token for each output on every
 -- path; its constants still hold labels
 abbrev pub flow_of : hyper.Block → FlowBlock
 flow_of b = complete (predicated (labelled b))
 
+-- f may be given targets in the place of the flow block of a hyper block
+pub record StandsFor (b : hyper.Block) (f : FlowBlock) : Type 0 where
+  -- it is as complete and as regular, and means the same
+  pub eases : Eases (flow_of b) f
+  -- it is the flow block itself, or has a guard for each if-item with a leg that is filled
+  pub guards : (f ≡ flow_of b) ⊎ (filled_ifs b.items ≤ sensed_nodes f.nodes)
+
 -- u is the machine block that the passes make of a hyper block, in the slots that a placing says; it
 -- is within the limits
 pub record IsMachineBlock (p : Placing) (b : hyper.Block) (u : Block) : Type 0 where
   -- the loads and stores, and the exits
   pub numbers : convert.HasRoom b
+  -- the flow block that is given targets
+  pub flow : FlowBlock
+  pub stands : StandsFor b flow
   -- the instructions, reads and writes
-  pub room : HasRoom (flow_of b)
+  pub room : HasRoom flow
   -- with targets, in the slots of the flow block's nodes
   pub target : Block
   -- each node at its number, the `mov`s that spread its result behind all
-  pub targeted : IsTargeted (flow_of b) target
+  pub targeted : IsTargeted flow target
   -- the checker takes no more
   pub cases : cases (nodes_of target) ≤ 256
   -- its instructions moved to other slots, with every target that names them
   pub placed : IsPlaced p target u
 
--- the same, whatever the number of its cases
-pub record IsPassed (p : Placing) (b : hyper.Block) (u : Block) : Type 0 where
+-- the same, whatever the number of its cases; where nothing is eased, of the flow block itself
+pub record IsPassed (is_eased : Bool) (p : Placing) (b : hyper.Block) (u : Block) : Type 0 where
   pub numbers : convert.HasRoom b
-  pub room : HasRoom (flow_of b)
+  pub flow : FlowBlock
+  pub stands : StandsFor b flow
+  -- no pass eased it
+  pub plain : is_eased ≡ false → flow ≡ flow_of b
+  pub room : HasRoom flow
   pub target : Block
-  pub targeted : IsTargeted (flow_of b) target
+  pub targeted : IsTargeted flow target
   pub placed : IsPlaced p target u
 
 -- us are those of the first n blocks of a hyper program
-pub record AreFirstPassed (p : Placing) (B : List hyper.Block) (n : ℕ) (us : List Block) : Type 0
+pub record AreFirstPassed (is_eased : Bool) (p : Placing) (B : List hyper.Block) (n : ℕ) (us : List Block) : Type 0
   where
     pub size : length us ≡ n
     -- each from the hyper block of the same number
     pub each : (k : ℕ) (b : hyper.Block) (u : Block) → slice_get B k ≡ Some b
-        → slice_get us k ≡ Some u → IsPassed p b u
+        → slice_get us k ≡ Some u → IsPassed is_eased p b u
 
 -- us are those of a hyper program
-abbrev pub ArePassed : Placing → List hyper.Block → List Block → Type 0
-ArePassed p B us = AreFirstPassed p B (length B) us
+abbrev pub ArePassed : Bool → Placing → List hyper.Block → List Block → Type 0
+ArePassed is_eased p B us = AreFirstPassed is_eased p B (length B) us
 
 -- us are the machine blocks of a hyper program
 pub record AreMachineBlocks (p : Placing) (B : List hyper.Block) (us : List Block) : Type 0 where

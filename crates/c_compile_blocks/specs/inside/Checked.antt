@@ -1,5 +1,5 @@
 -- What is known of blocks that the passes made, before and after they are checked.
-use Rattle.std.specs.Prelude.{ℕ, ◌≤◌, List, length, All}
+use Rattle.std.specs.Prelude.{ℕ, ◌≤◌, Bool, List, length, All}
 use Rattle.trips_isa.specs.declared.block.Block.{Block}
 use Rattle.trips_isa.specs.Images.{FitsImage}
 use Rattle.trips_isa.specs.Stores.{data_size}
@@ -25,5 +25,5 @@ pub record AreChecked (p : Placing) (B : List hyper.Block) (us : List Block) (by
 -- so of the blocks that the passes made of a hyper program, each in the slots of any permutation
 abbrev pub CheckedImagesAreOfMachineBlocks : Type 0
 CheckedImagesAreOfMachineBlocks =
-    (p : Placing) (B : List hyper.Block) (us : List Block) (bytes : List ℕ) → FitsPasses B → ArePassed p B us
-    → AreBytes bytes → length bytes ≤ data_size → AreChecked p B us bytes
+    (is_eased : Bool) (p : Placing) (B : List hyper.Block) (us : List Block) (bytes : List ℕ) → FitsPasses B
+    → ArePassed is_eased p B us → AreBytes bytes → length bytes ≤ data_size → AreChecked p B us bytes

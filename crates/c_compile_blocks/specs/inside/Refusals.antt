@@ -1,5 +1,5 @@
 -- The first pass that refuses a hyper block, and the first hyper block that is refused.
-use Rattle.std.specs.Prelude.{◌≡◌, ◌⊎◌, ℕ, List, Some, slice_get}
+use Rattle.std.specs.Prelude.{◌≡◌, ◌⊎◌, ℕ, Bool, List, Some, slice_get}
 use Rattle.trips_isa.specs.declared.block.Block.{Block}
 use Rattle.ir_forms.specs.declared.fault.FlowFault.{FlowFault}
 use Rattle.ir_forms.specs.inside.HyperCode as hyper
@@ -33,14 +33,14 @@ pub record IsRefused (b : hyper.Block) (e : FlowFault) : Type 0 where
   pub first : convert.IsRefusal (counts_of (labelled b)) e ⊎ IsIncomplete b e ⊎ IsUntargeted b e
 
 -- the first block of a hyper program that is refused; those before it pass
-pub record HasRefused (p : Placing) (B : List hyper.Block) (e : FlowFault) : Type 0 where
+pub record HasRefused (is_eased : Bool) (p : Placing) (B : List hyper.Block) (e : FlowFault) : Type 0 where
   pub number : ℕ
   pub block : hyper.Block
   pub there : slice_get B number ≡ Some block
   pub refused : IsRefused block e
   -- what the passes make of the blocks before it
   pub before : List Block
-  pub passed : AreFirstPassed p B number before
+  pub passed : AreFirstPassed is_eased p B number before
 
 -- each block of a hyper program is within all limits of the machine
 abbrev pub FitMachine : List hyper.Block → Type 0

@@ -1,5 +1,5 @@
 -- That no pass leaves fewer guards than it takes.
-use Rattle.std.specs.Prelude.{◌≡◌, ℕ, ◌≤◌, List, length, Some, slice_get}
+use Rattle.std.specs.Prelude.{◌≡◌, ◌⊎◌, ℕ, ◌≤◌, List, length, Some, slice_get}
 use Rattle.trips_isa.specs.declared.block.Block.{Block as MachineBlock}
 use Rattle.ir_forms.specs.declared.flow.FlowBlock.{FlowBlock}
 use Rattle.ir_forms.specs.inside.FlowFits.{guarded_nodes}
@@ -12,6 +12,7 @@ use Rattle.fan_out.specs.inside.Targeted.{HasRoom, IsTargeted}
 use Rattle.grid_place.specs.Moves.{Permutes}
 use Rattle.grid_place.specs.inside.Moves.{IsMoved}
 use Rattle.c_compile_layout.specs.inside.Linking.{Resolves, resolved_block, linked_from}
+use Rattle.c_compile_blocks.specs.inside.Guarded.{sensed_nodes}
 use Rattle.c_compile_laws.specs.Counts.{guarded_insts, guarded_in}
 
 -- each filled if-item gives a guarded node, also where the block still holds labels
@@ -35,12 +36,13 @@ PlacesGuarded =
     (p q : ℕ → ℕ) (t u : MachineBlock) → Permutes p q → length t.insts.items ≡ 128 → IsMoved p t u
     → guarded_insts t ≤ guarded_insts u
 
--- so a machine block has at least as many guarded instructions as its hyper block has filled if-items
+-- so a machine block has at least as many guarded instructions as its hyper block has filled if-items, of its own
+-- flow block and of each that has as many guarded nodes
 abbrev pub MachinesGuarded : Type 0
 MachinesGuarded =
-    (p q : ℕ → ℕ) (b : Block) (t u : MachineBlock) → FitsItems b.items
-    → HasRoom (complete (predicated b)) → IsTargeted (complete (predicated b)) t → Permutes p q → IsMoved p t u
-    → filled_ifs b.items ≤ guarded_insts u
+    (p q : ℕ → ℕ) (b : Block) (f : FlowBlock) (t u : MachineBlock) → FitsItems b.items
+    → (f ≡ complete (predicated b)) ⊎ (filled_ifs b.items ≤ sensed_nodes f.nodes)
+    → HasRoom f → IsTargeted f t → Permutes p q → IsMoved p t u → filled_ifs b.items ≤ guarded_insts u
 
 -- an immediate is no guard
 abbrev pub ResolvesGuarded : Type 0

@@ -17,9 +17,9 @@ machine_blocks-requires c =
     let g = c.args.assigned.now in
     record {
       followed = followed (program_of g.flat) g.live g.groups c.requires.fits c.requires.assigned c.requires.few
-          c.args.plan.now.cuts c.args.plan.now.joins (blocks_of c.args.program.now) c.requires.built;
+          c.args.plan.now.cuts c.args.plan.now.joins (blocks_of c.args.program.now) c.requires.trims;
       few = low (program_of g.flat) g.live g.groups c.requires.fits c.requires.assigned c.requires.few
-          c.args.plan.now.cuts c.args.plan.now.joins (blocks_of c.args.program.now) c.requires.built;
+          c.args.plan.now.cuts c.args.plan.now.joins (blocks_of c.args.program.now) c.requires.trims;
     }
 
 pub image_or_none-requires : goal.image_or_none-requires
@@ -27,7 +27,7 @@ image_or_none-requires c =
     let g = c.args.assigned.now in
     let us = c.in-Ok.blocks in
     let ready = checked (program_of g.flat) g.live g.groups c.requires.fits c.requires.assigned c.requires.few
-    c.args.plan.now.cuts c.args.plan.now.joins (blocks_of c.args.program.now) c.requires.built c.args.placing us
+    c.args.plan.now.cuts c.args.plan.now.joins (blocks_of c.args.program.now) c.requires.trims c.args.placing us
     c.in-Ok.ensures.ok in
     record {
       sizes = ready.sizes;
@@ -46,7 +46,7 @@ returns-in-Ok c =
     IfOk-weaker c.image_or_none.result (λ (o : Option Image). IfSome o Good) (λ (o : Option Image). IfSome o Made)
     (λ (o : Option Image) h. some_weaker Good Made o
     (λ i h. is_compiled (program_of g.flat) g.live g.groups c.requires.fits c.requires.assigned c.requires.few
-    c.args.plan.now.cuts c.args.plan.now.joins (blocks_of c.args.program.now) c.requires.built c.args.placing us
+    c.args.plan.now.cuts c.args.plan.now.joins (blocks_of c.args.program.now) c.requires.trims c.args.placing us
     c.in-Ok.ensures.ok c.requires.keeps i
     (h.0 ∙ ap (λ (bs : List ℕ). image_of us bs) e)
     (subst (λ (bs : List ℕ). All GoodBlock (image_of us bs).blocks) e h.1)) h)

@@ -7,7 +7,7 @@ use Rattle.c_compile_blocks.proofs.blocks.all_blocks.Goals as goal
 
 pub loop-block-init : goal.loop-block-init
 loop-block-init c =
-    none_passed c.args.placing (map block_of c.args.program.now) c.new-blocks.result
+    none_passed c.args.is_eased c.args.placing (map block_of c.args.program.now) c.new-blocks.result
     c.new-blocks.ensures.value
 
 pub machine_block-requires : goal.machine_block-requires
@@ -18,21 +18,21 @@ machine_block-requires c = record {
 
 pub returns-in_err-machine_block-clause-err : goal.returns-in_err-machine_block-clause-err
 returns-in_err-machine_block-clause-err c =
-    let bad = refused_there c.args.placing c.args.program.now c.loop-block.block-index
+    let bad = refused_there c.args.is_eased c.args.placing c.args.program.now c.loop-block.block-index
     c.block-item.result c.loop-block.blocks c.in_err-machine_block.field-0.0 c.loop-block-test.true
     c.block-item.is c.loop-block.invariant c.in_err-machine_block.ensures.err in
     grind (arith, common_steps, bad)
 
 pub returns-in_err-keep-clause-err : goal.returns-in_err-keep-clause-err
 returns-in_err-keep-clause-err c =
-    let bad = memory_there c.args.placing c.args.program.now c.loop-block.block-index
+    let bad = memory_there c.args.is_eased c.args.placing c.args.program.now c.loop-block.block-index
     c.block-item.result c.loop-block.blocks c.in_err-keep.field-0.0 c.loop-block-test.true
     c.block-item.is c.loop-block.invariant c.in_err-keep.ensures.err in
     grind (arith, common_steps, bad)
 
 pub loop-block-preserved : goal.loop-block-preserved
 loop-block-preserved c =
-    one_more c.args.placing (map block_of c.args.program.now) c.loop-block.block-index
+    one_more c.args.is_eased c.args.placing (map block_of c.args.program.now) c.loop-block.block-index
     c.loop-block.blocks c.keep.new.blocks (block_of c.block-item.result) c.in_ok-machine_block.field-0
     c.loop-block.invariant
     (block_there c.args.program.now c.loop-block.block-index c.block-item.result c.loop-block-test.true

@@ -6,4 +6,4 @@ use Rattle.c_compile_blocks.proofs.blocks.all_blocks.Given as goal
 -- those before are done
 abbrev pub invariant-loop-block : goal.invariant-loop-block
 invariant-loop-block l =
-    AreFirstPassed l.placing (map block_of l.program) l.block-index l.blocks
+    AreFirstPassed l.is_eased l.placing (map block_of l.program) l.block-index l.blocks

@@ -1,4 +1,4 @@
-use Rattle.std.proofs.Common.{◌≡◌, List, map, subst}
+use Rattle.std.proofs.Common.{◌≡◌, false, List, map, subst}
 use Rattle.std.proofs.lemmas.Result.{IfOk-weaker, IfErr-weaker}
 use Rattle.trips_isa.specs.declared.block.Block.{Block}
 use Rattle.ir_forms.specs.declared.fault.FlowFault.{FlowFault}
@@ -12,18 +12,20 @@ use Rattle.c_compile_blocks.proofs.blocks.machine_blocks.Goals as goal
 
 pub returns-clause-machine : goal.returns-clause-machine
 returns-clause-machine c =
+    let t = c.args.is_eased in
     let p = c.args.placing in
     let B = blocks_of c.args.program.now in
-    IfOk-weaker c.all_blocks.result (λ (us : List Block). ArePassed p (map block_of c.as_slice.result.now) us)
-    (λ (us : List Block). FitMachine B → AreMachineBlocks p B us)
-    (λ us h f. are_machine_blocks p B us (subst (λ (bs : List HyperBlock). ArePassed p (map block_of bs) us)
-    c.as_slice.ensures.value h) f) c.all_blocks.ensures.ok
+    IfOk-weaker c.all_blocks.result (λ (us : List Block). ArePassed t p (map block_of c.as_slice.result.now) us)
+    (λ (us : List Block). t ≡ false → FitMachine B → AreMachineBlocks p B us)
+    (λ us h e f. are_machine_blocks t p B us (subst (λ (bs : List HyperBlock). ArePassed t p (map block_of bs) us)
+    c.as_slice.ensures.value h) e f) c.all_blocks.ensures.ok
 
 pub returns-clause-fits : goal.returns-clause-fits
 returns-clause-fits c =
+    let t = c.args.is_eased in
     let p = c.args.placing in
     let B = blocks_of c.args.program.now in
-    IfErr-weaker c.all_blocks.result (λ (e : FlowFault). HasRefused p (map block_of c.as_slice.result.now) e)
+    IfErr-weaker c.all_blocks.result (λ (e : FlowFault). HasRefused t p (map block_of c.as_slice.result.now) e)
     (λ (e : FlowFault). FitMachine B → e ≡ Memory)
-    (λ e h f. none_refused p B e (subst (λ (bs : List HyperBlock). HasRefused p (map block_of bs) e)
+    (λ e h f. none_refused t p B e (subst (λ (bs : List HyperBlock). HasRefused t p (map block_of bs) e)
     c.as_slice.ensures.value h) f) c.all_blocks.ensures.err

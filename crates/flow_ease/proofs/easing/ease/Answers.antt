@@ -1,0 +1,16 @@
+use Rattle.std.proofs.Common.{rules}
+use Rattle.flow_guards.specs.inside.Unguards.{Unguards}
+use Rattle.flow_fold.specs.inside.Replaces.{Replaces}
+use Rattle.flow_ease.proofs.Unguarding.{eases_unguarded}
+use Rattle.flow_ease.proofs.Folding.{eases_then_replaced}
+use Rattle.flow_ease.proofs.easing.ease.Goals as goal
+
+-- src/easing.rt:13:1
+pub returns : goal.returns
+returns c =
+    let u : Unguards c.args.block c.in_ok-loose.loose = search rules in
+    let f : Replaces c.in_ok-loose.loose c.in_ok-folded.folded = search rules in
+    let s : Replaces c.in_ok-folded.folded c.in_ok-swept.swept = search rules in
+    eases_then_replaced c.args.block c.in_ok-folded.folded c.in_ok-swept.swept
+    (eases_then_replaced c.args.block c.in_ok-loose.loose c.in_ok-folded.folded
+    (eases_unguarded c.args.block c.in_ok-loose.loose u) f) s

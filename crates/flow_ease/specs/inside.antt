@@ -1,0 +1,3 @@
+pub mod Eases
+pub mod Laws
+pub mod Tables
