@@ -104,6 +104,7 @@ module _ (held : List ℕ → Option (List ℕ)) (rose : Type 0) (old new : Opti
       → Appended old new []
   memory s a e = subst (IsAnswered q held rose old new cut) e a
 
+  -- words that ask nothing are answered with the usage, a lack of memory or a fault of writing
   pub usage_comes : (s : Status) → IsAnswered q held rose old new cut s → q ≡ None
       → IsOneOf s (status.Usage ∷ status.Memory ∷ status.WriteFault ∷ [])
   unfolding IsWhole
@@ -124,6 +125,7 @@ module _ (held : List ℕ → Option (List ℕ)) (rose : Type 0) (old new : Opti
         [ inl r ↦ inl r | inr f ↦ inr (inl f) ]
   ]
 
+  -- what is unfit is refused, or answered with a fault of reading or writing, or a lack of memory
   pub unfit_comes : (s : Status) → IsAnswered q held rose old new cut s → IsUnfit q held
       → IsOneOf s (status.Refused ∷ status.ReadFault ∷ status.Memory ∷ status.WriteFault ∷ [])
   unfolding IsWhole

@@ -67,6 +67,7 @@ pub plain_told : (r : State × Stepped) (counts : Counts) (cost : ℕ) (show : S
 plain_told r counts cost show report none told =
     told ∙ nothing_behind (run_report (ending_of r.1 r.0.next) r.0) r.0 counts cost show none
 
+-- the report of a run that has ended tells its output and value
 pub ended : (r : State × Stepped) (output : List ℕ) (value : ℤ) → HasEnded output value r
     → run_report (ending_of r.1 r.0.next) r.0 ≡ ended_report output value
 ended r output value h =
@@ -76,6 +77,7 @@ ended r output value h =
     ∙ ap (λ (t : List ℕ). output_and r.0.output (codes "result " ++ t)) digits
     ∙ ap (λ (o : List ℕ). output_and o (codes "result " ++ signed_decimal value)) h.output
 
+-- the report of a run whose stack is full tells the output so far
 pub full : (r : State × Stepped) (output : List ℕ) → IsFull output r
     → run_report (ending_of r.1 r.0.next) r.0 ≡ full_report output
 full r output h =

@@ -8,7 +8,7 @@ use Rattle.c_front.specs.Fronts.{IsAccepted}
 use Rattle.c_front.proofs.Once.{accepted_once}
 use Rattle.c_meaning_spec.specs.declared.signal.Ending.TheVariants.{Deep}
 use Rattle.c_meaning_spec.specs.Eval.{Outcome, Stopped, Done, eval}
-use Rattle.flat_lower.specs.Keeps.{IsInput}
+use Rattle.c_meaning_spec.specs.Laws.{IsInput}
 use Rattle.c_compile.specs.Meant.{DoesText}
 use Rattle.c_compile_laws.specs.Runs.{HasEnded, IsFull, run_of}
 use Rattle.grid_cycle_spec.specs.Costs.{cost_of}
@@ -24,6 +24,7 @@ as_here : (text input : List ℕ) (image : Image) (program : TypedProgram) (n : 
 as_here text input image program n o does accepted e =
     ap (λ (p : TypedProgram). eval p input n) (accepted_once text does.program program does.accepted accepted) ∙ e
 
+-- where the evaluation is done, its output and its result are told
 pub tells_done : TellsDone
 tells_done text input output image program value most n steps show s report does accepted bytes e enough told =
     let r : State × Stepped = run_of image input most in
@@ -36,6 +37,7 @@ tells_done text input output image program value most n steps show s report does
           (ended r output value h),
     )
 
+-- where it is too deep, a full stack is told, with the output so far
 pub tells_deep : TellsDeep
 tells_deep text input output image program most n show s report does accepted bytes e enough told =
     let r : State × Stepped = run_of image input most in

@@ -119,6 +119,7 @@ input_too_large : (input : Option (List ℕ)) (held : List ℕ → Option (List 
 input_too_large None held rose h = absurd (cc)
 input_too_large (Some name) held rose h = h
 
+-- input that was read is not too large
 pub not_large_input : (input : Option (List ℕ)) (held : List ℕ → Option (List ℕ)) (rose : Type 0)
     (bytes : List ℕ) → IsInputRead input held rose (Bytes bytes) → IsLarge input held → ⊥
 not_large_input None held rose bytes h large = large

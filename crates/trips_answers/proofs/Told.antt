@@ -10,7 +10,7 @@ use Rattle.c_front.specs.declared.refusal.Refusal.{Refusal}
 use Rattle.c_front.specs.declared.refusal.Refusal.TheVariants as stage
 use Rattle.c_front.specs.Refusals.{IsRefused, MayBeRefused}
 use Rattle.c_compile.specs.Images.{IsImageOf}
-use Rattle.flat_lower.specs.Keeps.{IsInput}
+use Rattle.c_meaning_spec.specs.Laws.{IsInput}
 use Rattle.grid_place.specs.declared.placed.Placing.{Placing}
 use Rattle.trips_outside.specs.Outside.{Rose}
 use Rattle.trips_requests.specs.declared.status.Status.{Status}

@@ -4,7 +4,7 @@ use Rattle.std.specs.Prelude.{◌≡◌, ℕ, List, All}
 use Rattle.trips_isa.specs.declared.block.Image.{Image}
 use Rattle.c_tree.specs.declared.typed.TypedProgram.{TypedProgram}
 use Rattle.c_front.specs.Fronts.{IsAccepted}
-use Rattle.flat_lower.specs.Keeps.{IsInput}
+use Rattle.c_meaning_spec.specs.Laws.{IsInput}
 use Rattle.c_compile.specs.Meant.{DoesText}
 use Rattle.block_image.specs.Spelling.{ImageBytes}
 use Rattle.block_check.specs.Faults.{IsGood}

@@ -5,7 +5,7 @@ use Rattle.trips_isa.specs.declared.block.Image.{Image}
 use Rattle.trips_isa.specs.declared.run.Counts.{Counts}
 use Rattle.trips_isa.specs.Machine.{runs, start}
 use Rattle.c_compile.specs.Images.{IsImageOf}
-use Rattle.flat_lower.specs.Keeps.{IsInput}
+use Rattle.c_meaning_spec.specs.Laws.{IsInput}
 use Rattle.grid_place.specs.declared.placed.Placing.{Placing}
 use Rattle.grid_cycle_spec.specs.Costs.{cost_of}
 use Rattle.block_image.specs.Spelling.{ImageBytes}

@@ -6,7 +6,7 @@ ghost use Rattle.trips_requests.specs.declared.commands.Command.TheVariants.{Run
 ghost use Rattle.trips_answers.specs.declared.forms.FileForm.{FileForm};
 ghost use Rattle.trips_answers.specs.declared.forms.FileForm.TheVariants as form;
 ghost use Rattle.trips_answers.specs.declared.forms.Settings.{Settings};
-ghost use Rattle.flat_lower.specs.Keeps.{IsInput};
+ghost use Rattle.c_meaning_spec.specs.Laws.{IsInput};
 ghost use Rattle.trips_answers.specs.Worked.{IsDone};
 
 use crate::forms::Settings;

@@ -110,6 +110,7 @@ pub run_asked : (words : List Text) (file : Text) → plain_file (codes "run") w
 run_asked words file e =
     let plain = plain_is (codes "run") words file e in ap asked plain.are ∙ run_of file plain.no_dash
 
+-- the plain words of an evaluation ask for it with the file that they name
 pub eval_asked : (words : List Text) (file : Text) → plain_file (codes "eval") words ≡ Some file
     → asked words ≡ Some (default_request Evaluate file)
 eval_asked words file e =
@@ -127,6 +128,7 @@ pub compile_asked : (words : List Text) (file : Text) → plain_file (codes "com
 compile_asked words file e =
     let plain = plain_is (codes "compile") words file e in ap asked plain.are ∙ compile_of file plain.no_dash
 
+-- the file that is found in the plain words of a compilation is the one that they ask for
 pub compile_told : {A : Type 0} (now : A → Text) (found : Option A) (words : List Text)
     → option_map now found ≡ plain_file (codes "compile") words
     → IfSome found (λ a. asked words ≡ Some (default_request Compile (now a)))
@@ -175,6 +177,7 @@ behind_named first file (Some tool) found n s = go (begins_with_dash file) refl 
         subst (λ (x : Tool × Text). asked (first ∷ file ∷ []) ≡ Some (default_request (work_of x.0) x.1)) same
         (named_of first file tool n e)
 
+-- the plain words of a tool ask for its work with the file that they name
 pub tool_asked : (words : List Text) (found : Tool × Text) → plain_tool words ≡ Some found
     → asked words ≡ Some (default_request (work_of found.0) found.1)
 tool_asked [] found e = absurd (none-some found e)
@@ -182,6 +185,7 @@ tool_asked (first ∷ []) found e = absurd (none-some found e)
 tool_asked (first ∷ file ∷ []) found e = behind_named first file (tool_named first) found refl e
 tool_asked (first ∷ file ∷ third ∷ words) found e = absurd (none-some found e)
 
+-- the tool and the file that are found in plain words are those that they ask for
 pub tool_told : (found : Option AskedTool) (words : List Text) → option_map tool_seen found ≡ plain_tool words
     → IfSome found (λ a. asked words ≡ Some (default_request (work_of a.tool) a.file.now))
 tool_told None words e = tt
@@ -198,6 +202,7 @@ c_is file other e = go (is_c_name file) refl e
         (same, subst (λ (x : Text). is_c_name x ≡ true) same c)
     go false c s = absurd (none-some other (sym s))
 
+-- the file of C that is found in the plain words of a run is the one that they ask for
 pub run_told : {A : Type 0} (now : A → Text) (found : Option A) (words : List Text) (file : Text)
     → Some file ≡ plain_file (codes "run") words → option_map now found ≡ c_file file
     → IfSome found (λ a. asked words ≡ Some (default_request Run (now a)))
@@ -205,6 +210,7 @@ run_told now None words file f e = tt
 run_told now (Some a) words file f e = run_asked words (now a)
     (sym f ∙ ap (λ (x : Text). Some x) (c_is file (now a) e).0)
 
+-- a file that is found as one of C has the name of one
 pub is_c : {A : Type 0} (now : A → Text) (found : Option A) (file : Text) → option_map now found ≡ c_file file
     → IfSome found (λ a. is_c_name (now a) ≡ true)
 is_c now None file e = tt

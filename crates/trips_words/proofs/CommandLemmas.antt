@@ -17,18 +17,23 @@ use Rattle.trips_requests.specs.Options.{counted, is_on, Options}
 use Rattle.trips_requests.specs.Requests.{Request, verb_named, request_of, request_by, asked}
 use Rattle.trips_words.specs.inside.Read.{IsRead, is_flag, or_off, FindsSaid, Tells}
 
+-- the command `run` is read as its words say
 pub run_read : IsRead (codes "run") run_options
 run_read = record { builds = refl; simple = refl; no_file = refl }
 
+-- the command `bench` is read as its words say
 pub bench_read : IsRead (codes "bench") bench_options
 bench_read = record { builds = refl; simple = refl; no_file = refl }
 
+-- the command `eval` is read as its words say
 pub eval_read : IsRead (codes "eval") eval_options
 eval_read = record { builds = refl; simple = refl; no_file = refl }
 
+-- the command `compile` is read as its words say
 pub compile_read : IsRead (codes "compile") compile_options
 compile_read = record { builds = refl; simple = refl; no_file = refl }
 
+-- the command without options is read as its words say
 pub plain_read : IsRead (codes "trips") []
 plain_read = record { builds = refl; simple = refl; no_file = refl }
 
@@ -65,6 +70,7 @@ no_flag_file verb.Assemble = refl
 no_flag_file verb.Disassemble = refl
 no_flag_file verb.Check = refl
 
+-- the input is no flag of a command
 pub no_flag_input : (k : Verb) → is_flag (codes "input") (options_of k) ≡ false
 no_flag_input verb.Run = refl
 no_flag_input verb.Bench = refl
@@ -74,6 +80,7 @@ no_flag_input verb.Assemble = refl
 no_flag_input verb.Disassemble = refl
 no_flag_input verb.Check = refl
 
+-- the count of a command is no flag
 pub no_flag_count : (k : Verb) → is_flag (counted k) (options_of k) ≡ false
 no_flag_count verb.Run = refl
 no_flag_count verb.Bench = refl
@@ -83,6 +90,7 @@ no_flag_count verb.Assemble = refl
 no_flag_count verb.Disassemble = refl
 no_flag_count verb.Check = refl
 
+-- the placing is no flag of a command
 pub no_flag_place : (k : Verb) → is_flag (codes "place") (options_of k) ≡ false
 no_flag_place verb.Run = refl
 no_flag_place verb.Bench = refl
@@ -92,6 +100,7 @@ no_flag_place verb.Assemble = refl
 no_flag_place verb.Disassemble = refl
 no_flag_place verb.Check = refl
 
+-- the seed is no flag of a command
 pub no_flag_seed : (k : Verb) → is_flag (codes "seed") (options_of k) ≡ false
 no_flag_seed verb.Run = refl
 no_flag_seed verb.Bench = refl
@@ -153,6 +162,7 @@ pub told_some : (k : Verb) (said : Option Said) (m : ArgMatches) (r : Option Req
 told_some k None m r t f = absurd t
 told_some k (Some said) m r t f = f said t
 
+-- where the matches have nothing, nothing is asked
 pub told_none : (k : Verb) (said : Option Said) → Tells (options_of k) said None
     → None ≡ option_and_then (request_of k) said
 told_none k None t = refl
@@ -170,6 +180,7 @@ asked_first {Z} (first ∷ words) name word e n =
     ap (λ (t : Text). option_and_then (request_by (map (λ w. string_bytes w) words)) (verb_named t))
     (sym same)
 
+-- without words nothing is asked
 pub asked_none : {Z : Type 0} (words : List (String Z)) → slice_get words 0 ≡ None
     → None ≡ asked (map (λ w. string_bytes w) words)
 asked_none [] e = refl

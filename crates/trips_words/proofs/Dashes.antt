@@ -14,6 +14,7 @@ use Rattle.trips_requests.specs.Words.{Text, is_dashed, behind_dashes, name_in, 
 abbrev pub dashes : Text
 dashes = codes "--"
 
+-- a word with a text behind its dashes is not the dashes alone
 pub not_dashes : (word text : Text) → behind_dashes word ≡ Some text → bytes_eq word dashes ≡ false
 not_dashes word text e = go (bytes_eq word dashes) refl
   where

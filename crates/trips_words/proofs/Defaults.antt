@@ -23,6 +23,7 @@ no_kind : (b : Bool) → ◌≡◌ {A = Kinds} (cond b [] []) []
 no_kind true = refl
 no_kind false = refl
 
+-- no default value makes a fault
 pub no_defaults : (options : List Named) (rows : List Row)
     → defaults_fault rows (rules_for options) ≡ []
 unfolding defaults_fault
@@ -44,6 +45,7 @@ none_wanted [] rows = not_wanted (is_given file_name rows) false refl
 none_wanted (valued n ∷ options) rows = not_wanted (is_given n rows) _ (none_wanted options rows)
 none_wanted (flag n ∷ options) rows = not_wanted (is_given n rows) _ (none_wanted options rows)
 
+-- the check of a command that is built finds no fault
 pub no_check : (name : Text) (options : List Named) (rows : List Row)
     → check_fault (shape_for name options) rows false ≡ []
 no_check name options rows = go (list_any (λ r. Rattle.clap.specs.Facts.explicit_source r.source) rows)

@@ -82,6 +82,7 @@ first_is options said id = go (is_flag id options) refl (find (λ s. bytes_eq s.
     go true f (Some x) e = ap (option_and_then first)
         (stays options id (row_for x) (rows_for said) (said_row said id ∙ ap (option_map row_for) e))
 
+-- the matches of words that are read have what is said
 pub finds : (name : Text) (options : List Named) → IsRead name options → (words : List Text)
     → (m : ArgMatches) → HasMatchesOf (raw_app name options) words m → (said : Said)
     → (settled (rules_for options) (last options words)).rows ≡ rows_for said → FindsSaid options said m
@@ -101,6 +102,7 @@ pub tells_some : (options : List Named) (o : Option Said) (kinds : Kinds) (h : H
 tells_some options None kinds h m t e f = absurd (t e)
 tells_some options (Some said) kinds h m t e f = f said t.1
 
+-- where a parse fails, but not for memory, nothing is said
 pub tells_none : (options : List Named) (o : Option Said) (kinds : Kinds) (h : Held) (error : Error)
     → Told options o kinds h → HasKind kinds error → (kind_of error ≡ OutOfMemory → ⊥)
     → Tells options o None
@@ -116,6 +118,7 @@ all_texts : {Z : Type 0} (words : List (String Z)) → AllTexts (map (λ word. s
 all_texts [] = tt
 all_texts (word ∷ words) = (IsUtf8-string_bytes word, all_texts words)
 
+-- the words behind the first are text
 pub texts_behind : {Z : Type 0} (words : List (String Z))
     → AllTexts (drop 1 (map (λ word. string_bytes word) words))
 texts_behind [] = tt

@@ -80,11 +80,13 @@ module _ (name : Text) (options : List Named) where
       ap (λ o. subcommand_or_other c o waiting position word h) (no_sub waiting word)
       ∙ ap (λ b. cond b (h, trailing position) (long_or_other c waiting word (long_of word) h)) e
 
+  -- the dashes alone make no fault
   pub dashes_turn : (h : Held) (waiting : Waiting) (position : ℕ) (word : Text)
       → bytes_eq word dashes ≡ true → turn_fault s [] (at h waiting position false) word ≡ []
   dashes_turn h waiting position word e = turn_by h waiting position false word [] (h, trailing position)
       (dashes_fault h waiting word e) (dashes_met h waiting position word e)
 
+  -- behind the dashes alone each word is a plain one
   pub dashes_walk : (h : Held) (waiting : Waiting) (position : ℕ) (word : Text)
       → bytes_eq word dashes ≡ true
       → walked c [] (at h waiting position false) word ≡ at h waiting position true
@@ -119,6 +121,7 @@ module _ (name : Text) (options : List Named) where
       ∙ ap (λ r. long_after waiting word (value_in text) h r) (by_long options (name_in text))
       ∙ ap₂ (λ r x. long_after waiting word x h (option_map rule_for r)) g f
 
+  -- a word with dashes has the fault of the option that it names, or of the step behind it
   pub long_turn : (h : Held) (waiting : Waiting) (position : ℕ) (word text : Text) (v : Option Text)
       (found : Option Named) → behind_dashes word ≡ Some text → value_in text ≡ v
       → named (name_in text) options ≡ found
@@ -130,6 +133,7 @@ module _ (name : Text) (options : List Named) where
       turn_by h waiting position false word _ _ (long_word_fault h waiting word text v found e f g)
       (long_word_met h waiting position word text v found e f g)
 
+  -- a word with dashes leads where the option that it names does
   pub long_walk : (h : Held) (waiting : Waiting) (position : ℕ) (word text : Text) (v : Option Text)
       (found : Option Named) → behind_dashes word ≡ Some text → value_in text ≡ v
       → named (name_in text) options ≡ found
@@ -206,6 +210,7 @@ module _ (name : Text) (options : List Named) where
       ∙ ap (λ l. flag_word_fault c false l word h) (not_long word n.0)
       ∙ ap (λ o. option_map_or (λ flags. bundle_fault c false flags h) o []) (not_short word i)
 
+  -- a word without dashes is met as a plain one
   pub plain_met : (h : Held) (waiting : Waiting) (position : ℕ) (word : Text)
       → is_dashed word ≡ false
       → word_met c [] false waiting position word h ≡ plain_word c waiting word h
@@ -216,12 +221,14 @@ module _ (name : Text) (options : List Named) where
       ∙ ap (λ l. long_or_other c waiting word l h) (not_long word n.0)
       ∙ ap (λ o. short_or_plain c waiting word o h) (not_short word i)
 
+  -- a word without dashes has the fault of the step behind it
   pub plain_turn : (h : Held) (waiting : Waiting) (position : ℕ) (word : Text)
       → is_dashed word ≡ false → turn_fault s [] (at h waiting position false) word
       ≡ step_fault s position (plain_word c waiting word h).0 (plain_word c waiting word h).1
   plain_turn h waiting position word i = turn_by h waiting position false word [] (plain_word c waiting word h)
       (plain_fault h waiting word i) (plain_met h waiting position word i)
 
+  -- a word without dashes leads where a plain one does
   pub plain_walk : (h : Held) (waiting : Waiting) (position : ℕ) (word : Text)
       → is_dashed word ≡ false → walked c [] (at h waiting position false) word
       ≡ after_step c word (at h waiting position false) (plain_word c waiting word h).0
@@ -246,6 +253,7 @@ module _ (name : Text) (options : List Named) where
   held_is h word = ap (λ b. pushed file_name word (cond b h (settled c h)))
       (and_false (is_pending file_rule h.pending))
 
+  -- where what is held has a fault, so has a value behind it
   pub value_fails : (h : Held) (position : ℕ) → Fails (settle_fault c false h)
       → Fails (step_fault s position h value)
   value_fails h position f =
@@ -257,15 +265,18 @@ module _ (name : Text) (options : List Named) where
       go true = fails_as _ _ (positional_is h) f
       go false = some_kind _ _
 
+  -- a second plain word is a fault
   pub second_fails : (h : Held) → Fails (step_fault s 2 h value)
   second_fails h =
       fails_as _ _ (ap (λ o. option_map_or (λ a. positional_fault c false a h) o (stray_fault s))
       (by_index options 2)) (some_kind _ _)
 
+  -- the first plain word has no fault but that of what is held
   pub file_fault : (h : Held) → step_fault s 1 h value ≡ settle_fault c false h
   file_fault h = ap (λ o. option_map_or (λ a. positional_fault c false a h) o (stray_fault s))
       (by_index options 1) ∙ positional_is h
 
+  -- the first plain word is the file
   pub file_walk : (h : Held) (b : Bool) (word : Text)
       → word_met c [] b idle 1 word h ≡ (h, value)
       → walked c [] (at h idle 1 b) word ≡ at (pushed file_name word (settled c h)) idle 2 b

@@ -10,6 +10,7 @@ use Rattle.clap.specs.declared.parser.matches.ValueSource.TheVariants.{CommandLi
 use Rattle.clap.proofs.WalkLemmas.{list_any-map}
 use Rattle.trips_requests.specs.Words.{Text, Said, file_name, is_said}
 
+-- the row of the matches for what is said under a name
 abbrev pub row_for : Text × Text → Row
 row_for s = record {
   id = s.0;
@@ -19,9 +20,11 @@ row_for s = record {
   reading = AsWritten;
 }
 
+-- the rows of the matches for all that is said
 abbrev pub rows_for : Said → List Row
 rows_for said = map row_for said
 
+-- there is a row for a name exactly where something is said under it
 pub has_said : (said : Said) (name : Text) → has_row name (rows_for said) ≡ is_said name said
 has_said said name = sym (list_any-map (λ r. bytes_eq r.id name) row_for said)
 

@@ -59,11 +59,13 @@ by_id (flag other ∷ options) name = go (bytes_eq other name) (by_id options na
     go true e = refl
     go false e = e
 
+-- the rule that a parse finds for an option is the one that is made for it
 pub option_by_id : (options : List Named) (name : Text) (o : Named) → named name options ≡ Some o
     → arg_by_id (rules_for options) name ≡ Some (rule_for o)
 option_by_id options name o e = by_id options name
     ∙ ap (λ x. or_this (option_map rule_for x) (file_if (bytes_eq file_name name))) e
 
+-- the rule that a parse finds for the file is the file's
 pub file_by_id : (options : List Named) → named file_name options ≡ None
     → arg_by_id (rules_for options) file_name ≡ Some file_rule
 file_by_id options e = by_id options file_name
@@ -104,6 +106,7 @@ pub renamed : (options : List Named) (name : Text) (o : Named) → named name op
     → named (name_of o) options ≡ Some o
 renamed options name o e = ap (λ n. named n options) (same_name options name o e) ∙ e
 
+-- an option does not have the name of the file
 pub not_file : (options : List Named) (name : Text) (o : Named) → named file_name options ≡ None
     → named name options ≡ Some o → bytes_eq (name_of o) file_name ≡ false
 not_file options name o none e = go (bytes_eq (name_of o) file_name) refl

@@ -45,6 +45,7 @@ ending_fault name options h = or_else (settle_fault (rules_for options) false h)
     (or_else (defaults_fault (settled (rules_for options) h).rows (rules_for options))
     (check_fault (shape_for name options) (finished (rules_for options) h) false))
 
+-- the fault of the words that are left, or of the end behind them
 abbrev pub rest_fault : Text → List Named → Walk → List Text → Kinds
 rest_fault name options w words = or_else (walk_fault (shape_for name options) [] w words)
     (ending_fault name options (end_of options w words))
@@ -55,6 +56,7 @@ Told options None kinds h = Fails kinds
 Told options (Some said) kinds h =
     (kinds ≡ []) × ((settled (rules_for options) h).rows ≡ rows_for said)
 
+-- what a parse tells is told of the same fault and the same matches
 pub told_as : (options : List Named) (o : Option Said) (a b : Kinds) (h g : Held) → a ≡ b → h ≡ g
     → Told options o b g → Told options o a h
 told_as options None a b h g e q f = fails_as a b e f
@@ -368,6 +370,7 @@ module _ (name : Text) (options : List Named) (no_file : named file_name options
 
   -- all words -------------------------------------------------------------------------------------
 
+  -- words that are text are read as they say
   pub words_are : (words : List Text) → AllTexts words → Reads words
   words_are [] u None said h position set p = ended (at h idle position false) said set
   words_are [] u (Some n) said h position w p =

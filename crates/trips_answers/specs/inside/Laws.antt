@@ -6,7 +6,7 @@ use Rattle.c_tree.specs.declared.typed.TypedProgram.{TypedProgram}
 use Rattle.c_front.specs.Fronts.{IsAccepted}
 use Rattle.c_meaning_spec.specs.declared.signal.Ending.TheVariants.{Deep}
 use Rattle.c_meaning_spec.specs.Eval.{Stopped, Done, eval}
-use Rattle.flat_lower.specs.Keeps.{IsInput}
+use Rattle.c_meaning_spec.specs.Laws.{IsInput}
 use Rattle.c_compile.specs.Meant.{DoesText}
 use Rattle.grid_cycle_spec.specs.Costs.{cost_of}
 use Rattle.trips_report.specs.declared.show.Show.{Show}

@@ -1,5 +1,5 @@
 use Rattle.std.proofs.Common.{subst}
-use Rattle.flat_lower.specs.Keeps.{IsInput}
+use Rattle.c_meaning_spec.specs.Laws.{IsInput}
 use Rattle.trips_answers.proofs.Told.{compiled_told, run_refused_told}
 use Rattle.trips_answers.proofs.text_answer.text_answer.Goals as goal
 
