@@ -1,6 +1,8 @@
 pub mod Rows
 pub mod InPlace
 pub mod Lays
+pub mod Stamps
+pub mod AddedArrays
 pub mod Lists
 pub mod Filled
 pub mod EvaluatorLoop

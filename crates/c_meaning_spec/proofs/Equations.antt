@@ -9,8 +9,11 @@ use Rattle.c_meaning_spec.specs.State.{State, Result, Go, Over}
 use Rattle.c_meaning_spec.specs.Task.{Task, Of, Run, Turn, Parts}
 use Rattle.c_tree.specs.TypedTrees.{node_of}
 use Rattle.c_meaning_spec.specs.Eval.{perform, evaluated, enough, meaning}
-use Rattle.c_meaning_spec.proofs.Puts.{Puts, p-evaluated, p-meaning}
-use Rattle.c_meaning_spec.proofs.Grows.{more, Grew, g-expression, g-statement, g-turn}
+use Rattle.c_meaning_spec.proofs.Puts.{Puts}
+use Rattle.c_meaning_spec.proofs.StatementsPut.{p-evaluated, p-meaning}
+use Rattle.c_meaning_spec.proofs.Grows.{more, Grew}
+use Rattle.c_meaning_spec.proofs.ExpressionsGrow.{g-expression}
+use Rattle.c_meaning_spec.proofs.StatementsGrow.{g-statement, g-turn}
 
 -- the depth that a task needs
 abbrev pub weight : Task → ℕ → ℕ

@@ -1,6 +1,10 @@
 mod StandardFacts
 pub mod Puts
+pub mod ExpressionsPut
+pub mod StatementsPut
 pub mod Grows
+pub mod ExpressionsGrow
+pub mod StatementsGrow
 pub mod Equations
 pub mod Induction
 pub mod Stocks

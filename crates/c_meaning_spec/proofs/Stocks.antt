@@ -14,8 +14,11 @@ use Rattle.c_meaning_spec.specs.Eval.{Outcome, Stopped, Done, meaning, ended, st
 use Rattle.c_meaning_spec.specs.Laws.{IsMore}
 use Rattle.c_meaning_spec.specs.inside.Laws.{output_in, StaysWithMoreSteps, StepsAreLeast, OutputGoesOn}
 use Rattle.c_meaning_spec.specs.inside.Laws.{MeansByParts}
-use Rattle.c_meaning_spec.proofs.Puts.{Puts, stock_of, same-prefix, p-meaning, p-called}
-use Rattle.c_meaning_spec.proofs.Grows.{more, Grew, Within, g-called}
+use Rattle.c_meaning_spec.proofs.Puts.{Puts, stock_of, same-prefix}
+use Rattle.c_meaning_spec.proofs.ExpressionsPut.{p-called}
+use Rattle.c_meaning_spec.proofs.StatementsPut.{p-meaning}
+use Rattle.c_meaning_spec.proofs.Grows.{more, Grew, Within}
+use Rattle.c_meaning_spec.proofs.ExpressionsGrow.{g-called}
 use Rattle.c_meaning_spec.proofs.Equations.{weaker, meaning-more, meaning-is}
 
 -- the call of main, with n steps

@@ -37,7 +37,7 @@ use Rattle.ir_forms.specs.inside.Cells.{apply}
 use Rattle.ir_forms.specs.inside.Cells as cells
 use Rattle.ir_forms.specs.inside.FlatSteps.{State, read}
 use Rattle.ir_forms.specs.inside.FlatRuns.{checked}
-use Rattle.ir_forms.proofs.Steps.{if_one, if_other}
+use Rattle.ir_forms.proofs.Statements.{if_one, if_other}
 use Rattle.flat_lower.specs.inside.Tree.{Expr, kind_of}
 use Rattle.flat_lower.specs.inside.Tree as tree
 use Rattle.flat_lower.specs.inside.TreeViews.{expr_of}

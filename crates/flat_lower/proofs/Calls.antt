@@ -39,7 +39,9 @@ use Rattle.ir_forms.specs.inside.FlatSteps.{State, TooDeep, counted, settle, rea
 use Rattle.ir_forms.specs.inside.FlatSteps.{with_next, with_var, var_put}
 use Rattle.ir_forms.specs.inside.FlatRuns.{checked}
 use Rattle.ir_forms.proofs.Leads.{Leads}
-use Rattle.ir_forms.proofs.Steps.{call_leads, get_leads, put_leads, then_moves, then_nop}
+use Rattle.ir_forms.proofs.Steps.{then_moves, then_nop}
+use Rattle.ir_forms.proofs.Statements.{get_leads, put_leads}
+use Rattle.ir_forms.proofs.CallRuns.{call_leads}
 use Rattle.flat_lower.specs.inside.Tree.{Func}
 use Rattle.flat_lower.specs.inside.Tree as tree
 use Rattle.flat_lower.specs.inside.TreeViews.{func_of, expr_of, exprs_of, stmt_of, source_of}

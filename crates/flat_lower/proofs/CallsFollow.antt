@@ -35,8 +35,9 @@ use Rattle.ir_forms.specs.inside.FlatSteps.{after_call, counted, exec}
 use Rattle.ir_forms.specs.inside.FlatRuns.{checked, closed, closing, begun, env_of, enter, enter_if}
 use Rattle.ir_forms.specs.inside.FlatRuns.{calls_within}
 use Rattle.ir_forms.proofs.Leads.{Run, Leads, Stops}
-use Rattle.ir_forms.proofs.Steps.{code_run, call_run, call_leads, call_stops, first_leads}
-use Rattle.ir_forms.proofs.Steps.{first_stops, both_lead, nop_leads, return_leads}
+use Rattle.ir_forms.proofs.Steps.{code_run, first_leads, first_stops, both_lead, nop_leads}
+use Rattle.ir_forms.proofs.CallRuns.{call_run, call_leads, call_stops}
+use Rattle.ir_forms.proofs.Statements.{return_leads}
 use Rattle.flat_lower.specs.inside.Tree.{Func}
 use Rattle.flat_lower.specs.inside.TreeViews.{func_of, stmt_of}
 use Rattle.c_constant.specs.Kinds.{IsWord}

@@ -22,7 +22,8 @@ use Rattle.ir_forms.specs.declared.flat.Arg.TheVariants.{Var}
 use Rattle.ir_forms.specs.inside.FlatCode.{Code, Nop, Then, only, If}
 use Rattle.ir_forms.specs.inside.FlatSteps.{State}
 use Rattle.ir_forms.specs.inside.FlatRuns.{checked}
-use Rattle.ir_forms.proofs.Steps.{then_nop, if_one, if_other}
+use Rattle.ir_forms.proofs.Steps.{then_nop}
+use Rattle.ir_forms.proofs.Statements.{if_one, if_other}
 use Rattle.flat_lower.specs.inside.TreeViews.{expr_of, expr_if, stmt_of, stmts_of, source_of}
 use Rattle.flat_lower.specs.inside.Operations.{temp}
 use Rattle.flat_lower.specs.inside.Statements.{loop_code, do_code}

@@ -28,8 +28,8 @@ use Rattle.ir_forms.specs.inside.FlatCode as flat
 use Rattle.ir_forms.specs.inside.Cells.{Memory, apply}
 use Rattle.ir_forms.specs.inside.FlatSteps.{State, Broke, read}
 use Rattle.ir_forms.specs.inside.FlatRuns.{checked}
-use Rattle.ir_forms.proofs.Steps.{then_nop, nop_leads, break_leads, continue_leads, return_leads}
-use Rattle.ir_forms.proofs.Steps.{return_none_leads, both_lead}
+use Rattle.ir_forms.proofs.Steps.{then_nop, nop_leads, both_lead}
+use Rattle.ir_forms.proofs.Statements.{break_leads, continue_leads, return_leads, return_none_leads}
 use Rattle.ir_forms.proofs.Leads.{Leads}
 use Rattle.flat_lower.specs.inside.Tree as tree
 use Rattle.flat_lower.specs.inside.TreeViews.{expr_of, expr_if}

@@ -25,7 +25,8 @@ use Rattle.ir_forms.specs.inside.Cells.{apply}
 use Rattle.ir_forms.specs.inside.FlatSteps.{State}
 use Rattle.ir_forms.specs.inside.FlatRuns.{checked}
 use Rattle.ir_forms.proofs.Leads.{Run, Moves}
-use Rattle.ir_forms.proofs.Steps.{then_then, then_moves, loop_moves}
+use Rattle.ir_forms.proofs.Steps.{then_then, then_moves}
+use Rattle.ir_forms.proofs.LoopRuns.{loop_moves}
 use Rattle.flat_lower.specs.inside.TreeViews.{expr_of, expr_if, stmt_of, stmts_of}
 use Rattle.flat_lower.specs.inside.Operations.{temp, set_word}
 use Rattle.flat_lower.specs.inside.Statements.{expr_if_code, if_so, turn_code, loop_code, do_code}

@@ -25,9 +25,10 @@ use Rattle.ir_forms.specs.inside.FlatCode as flat
 use Rattle.ir_forms.specs.inside.FlatSteps.{State, Broke, Gave, TooDeep, settle, counted}
 use Rattle.ir_forms.specs.inside.FlatRuns.{checked}
 use Rattle.ir_forms.proofs.Leads.{Run, Leads}
-use Rattle.ir_forms.proofs.Steps.{loop_run, post_run, nop_leads, if_one, if_other, turn_goes}
-use Rattle.ir_forms.proofs.Steps.{turn_continues, turn_leads, turn_stops, post_moves, post_leads}
-use Rattle.ir_forms.proofs.Steps.{post_stops}
+use Rattle.ir_forms.proofs.Steps.{nop_leads}
+use Rattle.ir_forms.proofs.Statements.{if_one, if_other}
+use Rattle.ir_forms.proofs.LoopRuns.{loop_run, post_run, turn_goes, turn_continues, turn_leads}
+use Rattle.ir_forms.proofs.LoopRuns.{turn_stops, post_moves, post_leads, post_stops}
 use Rattle.flat_lower.specs.inside.TreeViews.{expr_of, expr_if, stmt_of}
 use Rattle.flat_lower.specs.inside.Operations.{temp}
 use Rattle.flat_lower.specs.inside.Statements.{expr_if_code, if_so, turn_code, stmt_code}

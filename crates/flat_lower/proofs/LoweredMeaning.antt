@@ -30,7 +30,8 @@ use Rattle.ir_forms.specs.inside.Frames.{frame_limit, frame_of, arrays_at}
 use Rattle.ir_forms.specs.inside.FlatSteps.{State, Env, Res, Gave, TooDeep, Unfinished, settle}
 use Rattle.ir_forms.specs.inside.FlatRuns.{checked, closed, begun, env_of, flat_run}
 use Rattle.ir_forms.proofs.Leads.{Run, Leads, Stops, waits_stop}
-use Rattle.ir_forms.proofs.Steps.{first_leads, first_stops, both_lead, return_leads}
+use Rattle.ir_forms.proofs.Steps.{first_leads, first_stops, both_lead}
+use Rattle.ir_forms.proofs.Statements.{return_leads}
 use Rattle.flat_lower.specs.inside.Tree.{Func}
 use Rattle.flat_lower.specs.inside.TreeViews.{func_of, stmt_of, source_of}
 use Rattle.c_constant.specs.Kinds.{IsWord}

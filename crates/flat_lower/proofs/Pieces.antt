@@ -24,7 +24,7 @@ use Rattle.ir_forms.specs.inside.FlatCode.{Code, Then, only, Let, Frame, Load, F
 use Rattle.ir_forms.specs.inside.Cells.{Memory, apply, load}
 use Rattle.ir_forms.specs.inside.FlatSteps.{State, Env, settle, read, with_var}
 use Rattle.ir_forms.specs.inside.FlatRuns.{checked}
-use Rattle.ir_forms.proofs.Steps.{frame_leads, load_leads}
+use Rattle.ir_forms.proofs.Statements.{frame_leads, load_leads}
 use Rattle.c_constant.specs.Kinds.{IsWord}
 use Rattle.flat_lower.specs.inside.Operations.{temp, scratch, load_op, shift_of}
 use Rattle.flat_lower.specs.inside.Objects.{Context, global_at, array_at, based, address_by, address_code}

@@ -33,7 +33,8 @@ use Rattle.ir_forms.specs.inside.FlatSteps.{State, Env, settle, counted, var_put
 use Rattle.ir_forms.specs.inside.FlatSteps.{read}
 use Rattle.ir_forms.specs.inside.FlatRuns.{checked}
 use Rattle.ir_forms.proofs.Leads.{Leads}
-use Rattle.ir_forms.proofs.Steps.{code_run, frame_leads}
+use Rattle.ir_forms.proofs.Steps.{code_run}
+use Rattle.ir_forms.proofs.Statements.{frame_leads}
 use Rattle.flat_lower.specs.inside.TreeViews.{func_of, source_of}
 use Rattle.c_constant.specs.Kinds.{IsWord}
 use Rattle.flat_lower.specs.inside.Operations.{temp, scratch, load_op, save_op, shift_of}

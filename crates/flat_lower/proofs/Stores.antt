@@ -23,7 +23,8 @@ use Rattle.ir_forms.specs.inside.Cells as cells
 use Rattle.ir_forms.specs.inside.FlatSteps.{State, read, settle, with_var, with_memory}
 use Rattle.ir_forms.specs.inside.FlatRuns.{checked}
 use Rattle.ir_forms.proofs.Leads.{Leads}
-use Rattle.ir_forms.proofs.Steps.{save_leads, both_lead}
+use Rattle.ir_forms.proofs.Steps.{both_lead}
+use Rattle.ir_forms.proofs.Statements.{save_leads}
 use Rattle.c_constant.specs.Kinds.{IsWord}
 use Rattle.flat_lower.specs.inside.Operations.{temp, save_op}
 use Rattle.flat_lower.proofs.Straight.{put_at, put_other, Sets, Puts}

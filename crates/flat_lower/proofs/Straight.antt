@@ -16,7 +16,8 @@ use Rattle.ir_forms.specs.inside.Cells.{apply}
 use Rattle.ir_forms.specs.inside.FlatSteps.{State, Env, settle, read, var_put, with_var}
 use Rattle.ir_forms.specs.inside.FlatRuns.{checked}
 use Rattle.ir_forms.proofs.Leads.{Leads}
-use Rattle.ir_forms.proofs.Steps.{code_run, nop_leads, let_leads, both_lead}
+use Rattle.ir_forms.proofs.Steps.{code_run, nop_leads, both_lead}
+use Rattle.ir_forms.proofs.Statements.{let_leads}
 use Rattle.flat_lower.specs.inside.Operations.{one_done, two_done}
 use Rattle.flat_lower.specs.inside.Operations.{reduced_here}
 use Rattle.flat_lower.proofs.Operators.{reduced_word, Gives}

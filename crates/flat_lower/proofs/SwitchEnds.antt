@@ -19,8 +19,9 @@ use Rattle.ir_forms.specs.inside.FlatCode as flat
 use Rattle.ir_forms.specs.inside.FlatSteps.{State, Res, Broke, Gave, TooDeep, settle, counted}
 use Rattle.ir_forms.specs.inside.FlatRuns.{checked}
 use Rattle.ir_forms.proofs.Leads.{Run, Leads, Stops, Moves, leads_from, stops_from}
-use Rattle.ir_forms.proofs.Steps.{then_moves, both_lead, first_leads, first_stops, if_one, if_other}
-use Rattle.ir_forms.proofs.Steps.{break_leads, loop_moves, turn_leads, turn_stops}
+use Rattle.ir_forms.proofs.Steps.{then_moves, both_lead, first_leads, first_stops}
+use Rattle.ir_forms.proofs.Statements.{if_one, if_other, break_leads}
+use Rattle.ir_forms.proofs.LoopRuns.{loop_moves, turn_leads, turn_stops}
 use Rattle.flat_lower.specs.declared.around.Around.{Around}
 use Rattle.flat_lower.specs.declared.around.Around.TheVariants as around
 use Rattle.flat_lower.specs.inside.Operations.{temp}

@@ -19,7 +19,8 @@ use Rattle.ir_forms.specs.inside.Cells.{apply}
 use Rattle.ir_forms.specs.inside.FlatSteps.{State, Broke, settle}
 use Rattle.ir_forms.specs.inside.FlatRuns.{checked}
 use Rattle.ir_forms.proofs.Leads.{Leads, Stops, Moves, leads_from, stops_from, waits_stop, moves_from}
-use Rattle.ir_forms.proofs.Steps.{code_waits, then_moves, then_then, first_leads, if_one, if_other, nop_leads}
+use Rattle.ir_forms.proofs.Steps.{code_waits, then_moves, then_then, first_leads, nop_leads}
+use Rattle.ir_forms.proofs.Statements.{if_one, if_other}
 use Rattle.flat_lower.specs.inside.Tree.{NoSections, WithSection}
 use Rattle.flat_lower.specs.inside.Operations.{temp, scratch}
 use Rattle.flat_lower.specs.inside.Switches.{found_code, label_code, labels_code, compared_code, has_default}

@@ -19,8 +19,8 @@ use Rattle.ir_forms.specs.inside.Cells.{apply}
 use Rattle.ir_forms.specs.inside.FlatSteps.{State, settle}
 use Rattle.ir_forms.specs.inside.FlatRuns.{checked}
 use Rattle.ir_forms.proofs.Leads.{Run, Moves, leads_from, moves_from, waits_stop}
-use Rattle.ir_forms.proofs.Steps.{then_moves, both_lead, first_leads, if_one, if_other, nop_leads}
-use Rattle.ir_forms.proofs.Steps.{code_waits}
+use Rattle.ir_forms.proofs.Steps.{then_moves, both_lead, first_leads, nop_leads, code_waits}
+use Rattle.ir_forms.proofs.Statements.{if_one, if_other}
 use Rattle.flat_lower.specs.declared.around.Around.{Around}
 use Rattle.flat_lower.specs.inside.TreeViews.{stmt_of, stmts_of}
 use Rattle.flat_lower.specs.inside.Operations.{temp, set_word}

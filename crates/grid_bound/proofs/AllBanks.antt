@@ -20,7 +20,8 @@ use Rattle.grid_bound.specs.inside.Blocks.{read_task, course_of}
 use Rattle.grid_bound.specs.inside.Seen.{front_of}
 use Rattle.grid_bound.proofs.Sizes.{read_is}
 use Rattle.grid_bound.specs.inside.Shows.{Shows, QuietReads}
-use Rattle.grid_cycle_spec.proofs.KeptByCycles.{each_keeps, bank_keeps}
+use Rattle.grid_cycle_spec.proofs.KeptByCycles.{bank_keeps}
+use Rattle.grid_cycle_spec.proofs.KeptByTurns.{each_keeps}
 use Rattle.grid_bound.proofs.Steady.{Onward, On, steady}
 use Rattle.grid_bound.proofs.Fronts.{same_front}
 use Rattle.grid_bound.proofs.BankAnswers.{Unread, AtBank, read_front, unread_is}

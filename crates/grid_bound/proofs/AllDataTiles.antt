@@ -14,7 +14,8 @@ use Rattle.grid_bound.specs.inside.Answering.{TileAnswers, TilesAnswer}
 use Rattle.grid_bound.specs.inside.Blocks.{course_of}
 use Rattle.grid_bound.specs.inside.Seen.{front_of}
 use Rattle.grid_bound.specs.inside.DataRule.{DataRule}
-use Rattle.grid_cycle_spec.proofs.KeptByCycles.{each_keeps, data_keeps}
+use Rattle.grid_cycle_spec.proofs.KeptByCycles.{data_keeps}
+use Rattle.grid_cycle_spec.proofs.KeptByTurns.{each_keeps}
 use Rattle.grid_bound.proofs.Steady.{Onward, On, steady}
 use Rattle.grid_bound.proofs.FrameTable.{told}
 use Rattle.grid_bound.proofs.DataTileAnswers.{StageAt, Held, Emptied, Turned, data_turns}

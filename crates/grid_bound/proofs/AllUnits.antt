@@ -21,7 +21,8 @@ use Rattle.grid_bound.specs.inside.Turning.{less_one, finish_front, issue_front,
 use Rattle.grid_bound.specs.inside.Blocks.{course_of}
 use Rattle.grid_bound.specs.inside.Seen.{front_of}
 use Rattle.grid_bound.specs.inside.UnitRule.{UnitRule}
-use Rattle.grid_cycle_spec.proofs.KeptByCycles.{each_keeps, turn_keeps}
+use Rattle.grid_cycle_spec.proofs.KeptByCycles.{turn_keeps}
+use Rattle.grid_cycle_spec.proofs.KeptByTurns.{each_keeps}
 use Rattle.grid_bound.proofs.Steady.{Onward, On, steady}
 use Rattle.grid_bound.proofs.Fronts.{same_front}
 use Rattle.grid_bound.proofs.UnitsByTile.{AtTile, unit_front, unit_turns}

@@ -15,7 +15,7 @@ use Rattle.grid_cycle_spec.specs.Grid.{Grid}
 use Rattle.grid_cycle_spec.specs.Choosing.{each, with_frame}
 use Rattle.grid_cycle_spec.specs.inside.Choosing.{places}
 use Rattle.grid_cycle_spec.specs.inside.Arrivals.{place_arrives, arrives_if, arrival, arrivals}
-use Rattle.grid_cycle_spec.proofs.KeptByCycles.{places_are}
+use Rattle.grid_cycle_spec.proofs.KeptChanges.{places_are}
 use Rattle.grid_bound.specs.inside.Rule.{runs_in}
 use Rattle.grid_bound.proofs.EachFrame.{find_at}
 use Rattle.grid_bound.proofs.EachFrame.{runs_are, with_at}

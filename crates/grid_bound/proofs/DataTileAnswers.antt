@@ -41,7 +41,7 @@ use Rattle.grid_bound.specs.inside.Behind.{Behind}
 use Rattle.grid_bound.specs.inside.DataRule.{DataRule}
 use Rattle.grid_bound.proofs.Ahead.{same_number, younger_apart}
 use Rattle.grid_bound.proofs.Steady.{Onward, On, steady}
-use Rattle.grid_cycle_spec.proofs.KeptByCycles.{answer_keeps}
+use Rattle.grid_cycle_spec.proofs.KeptByTurns.{answer_keeps}
 use Rattle.grid_bound.proofs.Others.{behind_at, answer_other}
 use Rattle.grid_bound.proofs.OldestEnds.{oldest_ok}
 use Rattle.grid_bound.proofs.Fronts.{front_behind}

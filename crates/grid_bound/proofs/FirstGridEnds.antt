@@ -13,7 +13,9 @@ use Rattle.grid_cycle_spec.specs.Grid.{Grid, numbers_of}
 use Rattle.grid_cycle_spec.specs.Acting.{may}
 use Rattle.grid_cycle_spec.specs.Ends.{seal_each, commit_in, commit_oldest, ends}
 use Rattle.grid_bound.specs.inside.ServedFirst.{worked, RestFirst, FetchesFirst, ActsFirst, ServedFirst}
-use Rattle.grid_cycle_spec.proofs.KeptByCycles.{seals_keep, fetches_keep, fetched_keeps, worked_keep, arrivals_keep}
+use Rattle.grid_cycle_spec.proofs.KeptByCycles.{worked_keep}
+use Rattle.grid_cycle_spec.proofs.KeptByTurns.{seals_keep, fetches_keep, fetched_keeps}
+use Rattle.grid_cycle_spec.proofs.KeptByArrivals.{arrivals_keep}
 use Rattle.grid_bound.proofs.Steady.{On, then_onward, steady}
 
 -- without a frame in flight nothing is sealed or committed

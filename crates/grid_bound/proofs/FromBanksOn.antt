@@ -34,7 +34,8 @@ use Rattle.grid_bound.specs.inside.Parts.{RowMoves, Working}
 use Rattle.grid_bound.specs.inside.CycleRule.{CycleRule}
 use Rattle.grid_bound.specs.inside.ServedFirst.{RestFirst}
 use Rattle.grid_bound.specs.inside.Lanes.{course_in}
-use Rattle.grid_cycle_spec.proofs.KeptByCycles.{banks_keep, answers_keep, works_keep, arrivals_keep}
+use Rattle.grid_cycle_spec.proofs.KeptByCycles.{banks_keep, answers_keep, works_keep}
+use Rattle.grid_cycle_spec.proofs.KeptByArrivals.{arrivals_keep}
 use Rattle.grid_bound.proofs.Steady.{Onward, On, steady}
 use Rattle.grid_bound.proofs.OldestEnds.{oldest_ok}
 use Rattle.grid_bound.specs.inside.MoveRule.{MoveRule}

@@ -15,7 +15,8 @@ use Rattle.grid_cycle_spec.specs.Acting.{gone, act}
 use Rattle.grid_cycle_spec.specs.Ends.{commit_in}
 use Rattle.grid_cycle_spec.specs.Cycles.{counted}
 use Rattle.grid_cycle_spec.specs.inside.Cycles.{AfterCycles}
-use Rattle.grid_cycle_spec.proofs.KeptByCycles.{IsFlushing, IsSingle, Keeps, every, by_window, cycles_keep}
+use Rattle.grid_cycle_spec.proofs.KeptByCycles.{cycles_keep}
+use Rattle.grid_cycle_spec.proofs.KeptChanges.{IsFlushing, IsSingle, Keeps, every, by_window}
 use Rattle.grid_cycle_spec.proofs.Events.{flushed_window, committed_window}
 use Rattle.grid_cycle_spec.proofs.FetchedOnce.{flushed_uncounted, commit_uncounted, cycles_once}
 use Rattle.grid_bound.specs.inside.Rule.{GenerationsCounted}

@@ -43,7 +43,8 @@ use Rattle.grid_bound.specs.inside.Behind.{Apart}
 use Rattle.grid_bound.specs.inside.Shows.{Shows}
 use Rattle.grid_bound.specs.inside.MoveRule.{Travels, MoveRule}
 use Rattle.grid_bound.proofs.Ahead.{younger_apart}
-use Rattle.grid_cycle_spec.proofs.KeptByCycles.{places_are, places_keep}
+use Rattle.grid_cycle_spec.proofs.KeptChanges.{places_are}
+use Rattle.grid_cycle_spec.proofs.KeptByArrivals.{places_keep}
 use Rattle.grid_bound.proofs.Steady.{Onward, On, steady}
 use Rattle.grid_bound.proofs.Others.{behind_at, Stays, places_other}
 use Rattle.grid_bound.proofs.OldestEnds.{oldest_ok}

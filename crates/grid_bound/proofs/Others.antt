@@ -23,8 +23,9 @@ use Rattle.grid_cycle_spec.specs.Banks.{read_chosen}
 use Rattle.grid_cycle_spec.specs.DataTiles.{unasked, waits_now, answer_chosen}
 use Rattle.grid_cycle_spec.specs.Units.{result_chosen, issue_chosen}
 use Rattle.grid_cycle_spec.specs.inside.Arrivals.{arrival}
-use Rattle.grid_cycle_spec.proofs.KeptByCycles.{Kinds, every, Keeps, read_keeps, answer_keeps, result_kept}
-use Rattle.grid_cycle_spec.proofs.KeptByCycles.{issue_keeps, places_are, places_keep}
+use Rattle.grid_cycle_spec.proofs.KeptChanges.{Kinds, every, Keeps, places_are}
+use Rattle.grid_cycle_spec.proofs.KeptByTurns.{read_keeps, answer_keeps, result_kept, issue_keeps}
+use Rattle.grid_cycle_spec.proofs.KeptByArrivals.{places_keep}
 use Rattle.grid_cycle_spec.proofs.Events.{flushed_window}
 use Rattle.grid_bound.specs.inside.Behind.{Apart, Behind}
 use Rattle.grid_bound.proofs.Ahead.{swapped, frame_of_place, younger_apart, IsOther, Leads, event_leads}

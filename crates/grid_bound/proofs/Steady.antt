@@ -9,7 +9,7 @@ use Rattle.commit_flush_spec.proofs.Events.{state_stays}
 use Rattle.commit_flush_spec.proofs.Whole.{happens_moves}
 use Rattle.grid_cycle_spec.specs.Grid.{Grid}
 use Rattle.grid_cycle_spec.specs.Acting.{gone}
-use Rattle.grid_cycle_spec.proofs.KeptByCycles.{IsSingle, IsFlushing, Kinds, Keeps, every, by_window}
+use Rattle.grid_cycle_spec.proofs.KeptChanges.{IsSingle, IsFlushing, Kinds, Keeps, every, by_window}
 use Rattle.grid_cycle_spec.proofs.Events.{flushed_window, over_stays}
 
 -- a window comes from another by events that commit nothing

@@ -26,8 +26,9 @@ use Rattle.grid_cycle_spec.specs.inside.Choosing.{places}
 use Rattle.grid_cycle_spec.specs.inside.Arrivals.{place_arrives, arrives_if, arrival, arrivals}
 use Rattle.grid_cycle_spec.specs.Cycles.{Moves}
 use Rattle.grid_cycle_spec.proofs.Routes.{leads_nearer}
-use Rattle.grid_cycle_spec.proofs.KeptByCycles.{Kinds, every, Keeps, places_are, there_keeps, arrival_keeps}
-use Rattle.grid_cycle_spec.proofs.KeptByCycles.{places_keep, arrivals_keep}
+use Rattle.grid_cycle_spec.proofs.KeptChanges.{Kinds, every, Keeps, places_are}
+use Rattle.grid_cycle_spec.proofs.KeptByArrivals.{there_keeps, arrival_keeps, places_keep}
+use Rattle.grid_cycle_spec.proofs.KeptByArrivals.{arrivals_keep}
 use Rattle.grid_bound.specs.inside.UnderWay.{Nothing, Tied}
 use Rattle.grid_bound.specs.inside.Rule.{HeldFrom, runs_in}
 use Rattle.grid_bound.proofs.EachFrame.{any_flight, differ, each_map, equal, runs_flight}

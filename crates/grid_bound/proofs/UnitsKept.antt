@@ -13,8 +13,10 @@ use Rattle.grid_cycle_spec.specs.Fetches.{fetches}
 use Rattle.grid_cycle_spec.specs.Banks.{reads_answered}
 use Rattle.grid_cycle_spec.specs.DataTiles.{answers}
 use Rattle.grid_cycle_spec.specs.inside.Arrivals.{arrivals}
-use Rattle.grid_cycle_spec.proofs.KeptByCycles.{Kinds, every, Keeps, ends_keep, fetches_keep, banks_keep}
-use Rattle.grid_cycle_spec.proofs.KeptByCycles.{answers_keep, arrivals_keep}
+use Rattle.grid_cycle_spec.proofs.KeptByCycles.{banks_keep, answers_keep}
+use Rattle.grid_cycle_spec.proofs.KeptChanges.{Kinds, every, Keeps}
+use Rattle.grid_cycle_spec.proofs.KeptByTurns.{ends_keep, fetches_keep}
+use Rattle.grid_cycle_spec.proofs.KeptByArrivals.{arrivals_keep}
 
 -- all changes but those of units
 abbrev still : Kinds

@@ -19,7 +19,8 @@ use Rattle.grid_cycle_spec.specs.Ends.{seal_each, commit_in, commit_oldest, ends
 use Rattle.grid_cycle_spec.specs.Cycles.{Eager}
 use Rattle.grid_bound.proofs.Steady.{On, steady}
 use Rattle.grid_cycle_spec.proofs.Events.{committed_window}
-use Rattle.grid_cycle_spec.proofs.KeptByCycles.{seals_keep, follows_keep}
+use Rattle.grid_cycle_spec.proofs.KeptByCycles.{follows_keep}
+use Rattle.grid_cycle_spec.proofs.KeptByTurns.{seals_keep}
 
 -- a commit -----------------------------------------------------------------------------------------
 

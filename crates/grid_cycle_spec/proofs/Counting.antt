@@ -33,7 +33,8 @@ use Rattle.grid_cycle_spec.specs.Ends.{one_committed, learning, committed_as, co
 use Rattle.grid_cycle_spec.specs.Fetches.{fills}
 use Rattle.grid_cycle_spec.specs.Cycles.{closed}
 use Rattle.grid_cycle_spec.specs.inside.Cycles.{AfterCycles}
-use Rattle.grid_cycle_spec.proofs.KeptByCycles.{IsSingle, IsFlushing, Keeps, every, by_window, cycles_keep}
+use Rattle.grid_cycle_spec.proofs.KeptByCycles.{cycles_keep}
+use Rattle.grid_cycle_spec.proofs.KeptChanges.{IsSingle, IsFlushing, Keeps, every, by_window}
 
 -- frames in flight -------------------------------------------------------------------------------
 

@@ -13,7 +13,8 @@ use Rattle.grid_cycle_spec.specs.Acting.{flushed, gone}
 use Rattle.grid_cycle_spec.specs.Ends.{learning, committed_as, commit_in}
 use Rattle.grid_cycle_spec.specs.Cycles.{Eager}
 use Rattle.grid_cycle_spec.specs.inside.Cycles.{AfterCycles}
-use Rattle.grid_cycle_spec.proofs.KeptByCycles.{Keeps, every, by_window, eager_keeps, cycles_keep}
+use Rattle.grid_cycle_spec.proofs.KeptByCycles.{eager_keeps, cycles_keep}
+use Rattle.grid_cycle_spec.proofs.KeptChanges.{Keeps, every, by_window}
 
 plays_on : (blocks : List Block) (budget : ℕ) (es fs : List Event) (w : Window)
     → plays blocks budget (es ++ fs) w ≡ plays blocks budget fs (plays blocks budget es w)

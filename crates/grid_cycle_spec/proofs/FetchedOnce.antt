@@ -14,8 +14,10 @@ use Rattle.grid_cycle_spec.specs.Fetches.{begins, fetch_ends, fetch_on, fetches,
 use Rattle.grid_cycle_spec.specs.inside.Arrivals.{arrivals}
 use Rattle.grid_cycle_spec.specs.Cycles.{acts, counted, Eager, Follows}
 use Rattle.grid_cycle_spec.specs.inside.Cycles.{AfterCycles}
-use Rattle.grid_cycle_spec.proofs.KeptByCycles.{Kinds, every, Keeps, by_window, ends_keep, begins_keeps, worked_keep}
-use Rattle.grid_cycle_spec.proofs.KeptByCycles.{arrivals_keep}
+use Rattle.grid_cycle_spec.proofs.KeptByCycles.{worked_keep}
+use Rattle.grid_cycle_spec.proofs.KeptChanges.{Kinds, every, Keeps, by_window}
+use Rattle.grid_cycle_spec.proofs.KeptByTurns.{ends_keep, begins_keeps}
+use Rattle.grid_cycle_spec.proofs.KeptByArrivals.{arrivals_keep}
 
 -- neither a fetched frame nor a cycle is counted
 abbrev pub Uncounted : {W : Type 0} → Grid W → Grid W → Type 0

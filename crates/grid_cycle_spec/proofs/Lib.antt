@@ -1,4 +1,7 @@
 pub mod KeptByCycles
+pub mod KeptChanges
+pub mod KeptByTurns
+pub mod KeptByArrivals
 pub mod Events
 pub mod Counting
 pub mod FetchedOnce

@@ -11,8 +11,10 @@ use Rattle.grid_cycle_spec.specs.DataTiles.{answers}
 use Rattle.grid_cycle_spec.specs.Units.{works_on}
 use Rattle.grid_cycle_spec.specs.inside.Arrivals.{arrivals}
 use Rattle.grid_cycle_spec.specs.Cycles.{acts, Moves, Eager}
-use Rattle.grid_cycle_spec.proofs.KeptByCycles.{ends_keep, fetches_keep, banks_keep, answers_keep, works_keep}
-use Rattle.grid_cycle_spec.proofs.KeptByCycles.{arrivals_keep, follows_keep, eager_keeps}
+use Rattle.grid_cycle_spec.proofs.KeptByCycles.{banks_keep, answers_keep, works_keep, follows_keep}
+use Rattle.grid_cycle_spec.proofs.KeptByCycles.{eager_keeps}
+use Rattle.grid_cycle_spec.proofs.KeptByTurns.{ends_keep, fetches_keep}
+use Rattle.grid_cycle_spec.proofs.KeptByArrivals.{arrivals_keep}
 use Rattle.grid_cycle_spec.proofs.Counting.{Adds, keeps}
 use Rattle.grid_cycle_spec.proofs.FetchedOnce.{Uncounted, OneMore, OneCycle, Silent, silent, fetches_more}
 use Rattle.grid_cycle_spec.proofs.FetchedOnce.{follows_once, eager_once}

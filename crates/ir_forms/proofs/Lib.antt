@@ -1,5 +1,8 @@
 pub mod Leads
 pub mod Steps
+pub mod Statements
+pub mod LoopRuns
+pub mod CallRuns
 pub mod Views
 pub mod Checked
 pub mod Cleanness

@@ -2,7 +2,7 @@ use Rattle.std.proofs.Common.{◌≡◌, ◌++◌, ◌-◌, ◌+◌, ◌∙◌, 
 use Rattle.std.proofs.lemmas.List.{take_all}
 use Rattle.c_meaning.specs.declared.arrays.Cell.{Cell}
 use Rattle.c_meaning.specs.inside.Cells.{CellsKnown}
-use Rattle.c_meaning.proofs.Lays.{cells-append, cells-replicate}
+use Rattle.c_meaning.proofs.Stamps.{cells-append, cells-replicate}
 use Rattle.c_meaning.proofs.arrays.pad.Goals as goal
 
 pub returns-in_ok-resize-in-Some-clause-known : goal.returns-in_ok-resize-in-Some-clause-known

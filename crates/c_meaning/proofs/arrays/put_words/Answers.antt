@@ -1,6 +1,6 @@
 use Rattle.std.proofs.Common.{subst, sym, ◌∙◌, map, take}
 use Rattle.c_meaning.specs.inside.Cells.{CellsKnown, worded}
-use Rattle.c_meaning.proofs.Lays.{cells-append, cells-worded}
+use Rattle.c_meaning.proofs.Stamps.{cells-append, cells-worded}
 use Rattle.c_meaning.proofs.arrays.put_words.Goals as goal
 
 pub returns-clause-known : goal.returns-clause-known

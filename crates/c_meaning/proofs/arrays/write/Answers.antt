@@ -2,7 +2,7 @@ use Rattle.std.proofs.Common.{◌+◌, sym, ap, arith, Option, List, ℕ}
 use Rattle.c_meaning_spec.specs.State.{cell_in}
 use Rattle.c_meaning.specs.inside.Cells.{worded}
 use Rattle.c_meaning.proofs.Rows.{absent, outside, within, is-present, never, always, rows-set}
-use Rattle.c_meaning.proofs.Lays.{cells-set, stamp-known}
+use Rattle.c_meaning.proofs.Stamps.{cells-set, stamp-known}
 use Rattle.c_meaning.proofs.arrays.write.Goals as goal
 
 pub overflow_add-span : goal.overflow_add-span

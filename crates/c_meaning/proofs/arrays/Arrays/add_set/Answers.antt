@@ -1,7 +1,8 @@
 use Rattle.std.proofs.Common.{refl, sym, subst, arith, take}
 use Rattle.c_meaning.specs.inside.Cells.{CellsKnown}
-use Rattle.c_meaning.proofs.Lays.{laid-cells, laid-add, rows-set_added, enough-filled, taken-length}
-use Rattle.c_meaning.proofs.Lays.{cells-later, cells-take}
+use Rattle.c_meaning.proofs.Lays.{laid-cells, taken-length}
+use Rattle.c_meaning.proofs.AddedArrays.{laid-add, rows-set_added, enough-filled}
+use Rattle.c_meaning.proofs.Stamps.{cells-later, cells-take}
 use Rattle.c_meaning.proofs.arrays.Arrays.add_set.Goals as goal
 
 pub invariant_of-self : goal.invariant_of-self

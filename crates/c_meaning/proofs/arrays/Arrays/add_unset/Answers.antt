@@ -1,7 +1,8 @@
 use Rattle.std.proofs.Common.{◌≡◌, ◌-◌, length, refl, arith}
 use Rattle.c_meaning.specs.inside.Cells.{worded}
-use Rattle.c_meaning.proofs.Lays.{laid-cells, laid-add, rows-unset_added, enough-padded}
-use Rattle.c_meaning.proofs.Lays.{cells-later}
+use Rattle.c_meaning.proofs.Lays.{laid-cells}
+use Rattle.c_meaning.proofs.AddedArrays.{laid-add, rows-unset_added, enough-padded}
+use Rattle.c_meaning.proofs.Stamps.{cells-later}
 use Rattle.c_meaning.proofs.arrays.Arrays.add_unset.Goals as goal
 
 pub invariant_of-self : goal.invariant_of-self
