@@ -124,13 +124,12 @@ owed_same f h b same l =
     (ap₂ least (mask_same f h same b.mask) (same 448 (omega arith)))
     ∙ sym (owed_is h b)
 
--- where no slot faults of itself, no mark comes up, and there is no cause
-pub no_fault_no_cause : (b : Block) (table places : List Answer) (g : ℕ → Answer)
+-- where no slot faults of itself, no mark comes up
+pub no_fault_no_mark : (b : Block) (table places : List Answer) (g : ℕ → Answer)
     → length b.insts.items ≡ 128 → IsTold b table places g
     → ((j : ℕ) → j < 128 → slot_marked (λ q. get_or places q None) (λ q. 0) j
-    (get_or b.insts.items j None) (get_or table j None) ≡ 0) → 0 ≡ cause b g
-no_fault_no_cause b table places g size told quiet =
-    sym (least_none _ (λ q. place_unmarked (nodes_of b) g (mark_of b g deepest) q unmarked) (owed b))
+    (get_or b.insts.items j None) (get_or table j None) ≡ 0) → (x : ℕ) → mark_of b g deepest x ≡ 0
+no_fault_no_mark b table places g size told quiet = unmarked
   where
     places_none : (q : ℕ) → q < 449 → get_or [] q 0 ≡ mark_at (nodes_of b) g (λ y. 0) q
     places_none q l = sym (place_unmarked (nodes_of b) g (λ y. 0) q (λ y. refl))
@@ -157,6 +156,15 @@ no_fault_no_cause b table places g size told quiet =
         let e : deepest ≡ most_nodes = deepest_is in
         still (mark_given b g) (mark_of b g) (marks_pulled b g) 0 (λ y. sym (step y)) most_nodes deepest x
         (omega arith)
+
+-- and there is no cause
+pub no_fault_no_cause : (b : Block) (table places : List Answer) (g : ℕ → Answer)
+    → length b.insts.items ≡ 128 → IsTold b table places g
+    → ((j : ℕ) → j < 128 → slot_marked (λ q. get_or places q None) (λ q. 0) j
+    (get_or b.insts.items j None) (get_or table j None) ≡ 0) → 0 ≡ cause b g
+no_fault_no_cause b table places g size told quiet =
+    sym (least_none _ (λ q. place_unmarked (nodes_of b) g (mark_of b g deepest) q
+    (no_fault_no_mark b table places g size told quiet)) (owed b))
 
 -- a machine may add the own fault last, as the window does with an address's
 pub own_last : (own : ℕ → ℕ → ℕ) (l r ml mr mp : ℕ) → mark_by own (Words l r) ml mr mp

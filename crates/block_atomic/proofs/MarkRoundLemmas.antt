@@ -4,6 +4,7 @@ use Rattle.std.proofs.Common.{◌≡◌, ℕ, zero, suc, ◌+◌, ◌-◌, ◌<�
 use Rattle.std.proofs.Common.{cond, nat_lt, List, [], ◌∷◌, ◌++◌, map, length, get_or, Option, Some}
 use Rattle.std.proofs.Common.{None, slice_get, refl, sym, ap, ◌∙◌, arith}
 use Rattle.std.proofs.Math.Path.{fun_ext}
+use Rattle.std.proofs.lemmas.Bool.{le-ltb}
 use Rattle.std.proofs.lemmas.Bool.Decides.{nat_tests}
 use Rattle.trips_isa.specs.declared.node.Node.{Node}
 use Rattle.trips_isa.specs.declared.block.Inst.{Inst}
@@ -203,6 +204,24 @@ settled_at b table places marks at g k told before few done filled q l =
     filled q l ∙ sym (place_mark_is b table places marks g q told)
     ∙ ap (λ f. mark_at (nodes_of b) g f q)
     (fun_ext (λ x. before x ∙ deep_enough b g k few done x))
+
+-- a slot's mark is that of its node
+slot_mark_is : (b : Block) (marks : List ℕ) (j : ℕ)
+    → marks_in b marks (length b.reads.items + j) ≡ get_or marks j 0
+slot_mark_is b marks j =
+    let high : is_read b (length b.reads.items + j) ≡ false =
+    le-ltb (length b.reads.items + j) (length b.reads.items) (omega arith) in
+    let same : slot_at b (length b.reads.items + j) ≡ j = omega arith in
+    ap (λ v. mark_if_read v b marks (length b.reads.items + j)) high ∙ ap (λ k. get_or marks k 0) same
+
+-- so the list holds the marks of the slots
+pub settled_slots : (b : Block) (marks : List ℕ) (g : ℕ → Answer) (k : ℕ)
+    → ((x : ℕ) → marks_in b marks x ≡ mark_of b g k x) → k ≤ most_nodes
+    → (most_nodes ≤ k) ⊎ IsFixed (mark_given b g) (mark_of b g k)
+    → (j : ℕ) → get_or marks j 0 ≡ mark_of b g deepest (length b.reads.items + j)
+settled_slots b marks g k before few done j =
+    sym (slot_mark_is b marks j) ∙ before (length b.reads.items + j)
+    ∙ deep_enough b g k few done (length b.reads.items + j)
 
 -- marks that are all 0 are those of no depth
 pub none_yet : (b : Block) (marks : List ℕ) (g : ℕ → Answer)

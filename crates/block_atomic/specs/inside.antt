@@ -3,3 +3,4 @@ pub mod Applied
 pub mod Bounds
 pub mod MarkSlots
 pub mod Slots
+pub mod Held

@@ -1,9 +1,10 @@
-ghost use Rattle.std.specs.Prelude.{◌≡◌, ◌<◌, ◌≤◌, ◌+◌, All, IfOk, Some, length, slice_index};
+ghost use Rattle.std.specs.Prelude.{◌≡◌, ◌<◌, ◌≤◌, ◌+◌, [], All, IfOk, Some, length, slice_index};
 ghost use Rattle.trips_isa.specs.Stores.{data_size};
-ghost use Rattle.trips_isa.specs.Machine.{start, step_of};
+ghost use Rattle.trips_isa.specs.Machine.{memory_of, start, step_of};
 ghost use Rattle.block_cases.specs.inside.Plain.{IsTrap};
 ghost use Rattle.block_atomic.specs.inside.Bounds.{StoreFits};
 ghost use Rattle.block_atomic.specs.inside.Applied.{HasTokens, IsApplied};
+ghost use Rattle.block_atomic.specs.Told.{TellsNext};
 
 use crate::arch_state::ArchState;
 use base::Memory;
@@ -30,7 +31,7 @@ impl Model for Arch {
 
     ghost Value = { Machine };
 
-    ghost view = { λ a. a.state };
+    ghost view = { λ a. a.state.machine };
 }
 
 impl Arch {
@@ -47,6 +48,40 @@ impl Arch {
         ensures next { IfOk result (λ arch. arch.state.next < length image.now.blocks) }
     {
         let state = ArchState::make(alloc, image, input, budget)?;
+        Ok(Arch {
+            state,
+            places: [None; 416],
+            stores: [None; 32],
+            table: [None; 128],
+        })
+    }
+
+    /// A machine of an image in a given state, whose memory begins with these bytes, with an empty trace and room for
+    /// `budget` steps. Want of memory is the only error.
+    pub fn restore(
+        alloc: Global,
+        image: &CheckedImage,
+        registers: &[u64],
+        memory: &[u8],
+        next: u32,
+        rest: Vec<u8>,
+        output: Vec<u8>,
+        budget: u32,
+    ) -> Result<Arch, Memory>
+        requires registers { length registers.now ≡ 128 }
+        requires memory { length memory.now ≤ data_size }
+        requires next { next < length image.now.blocks }
+        ensures state { IfOk result (λ arch. arch.state ≡ record {
+          registers = registers.now;
+          memory = memory_of memory.now;
+          next = next;
+          rest = rest.items;
+          output = output.items;
+          trace = [];
+        }) }
+        ensures budget { IfOk result (λ arch. arch.budget ≡ budget) }
+    {
+        let state = ArchState::restore(alloc, registers, memory, next, rest, output, budget)?;
         Ok(Arch {
             state,
             places: [None; 416],
@@ -79,6 +114,24 @@ impl Arch {
     {
         self.state
             .step_with(image, &mut self.places, &mut self.stores, &mut self.table)
+    }
+
+    /// Tells the token that each slot of the next block gives, and its mark, and the exit that the block takes. Nothing
+    /// changes but the lists.
+    pub fn tell(
+        &mut self,
+        image: &CheckedImage,
+        tokens: &mut [Option<Token>],
+        marks: &mut [u8],
+    ) -> u8
+        requires next { self.old.state.next < length image.now.blocks }
+        requires tokens { length tokens.old ≡ 128 }
+        requires marks { length marks.old ≡ 128 }
+        ensures tells { TellsNext image.now.blocks self.old.state tokens.new marks.new result }
+        ensures same { self.new ≡ self.old }
+    {
+        self.state
+            .tell_with(image, &mut self.places, &mut self.stores, tokens, marks)
     }
 
     /// Makes the change of a step from given effects of the next block, and counts as one: token i goes

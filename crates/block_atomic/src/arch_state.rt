@@ -10,8 +10,9 @@ ghost use Rattle.block_check.specs.inside.Images.{IsCheckedImage};
 ghost use Rattle.block_cases.specs.inside.Plain.{IsTrap};
 ghost use Rattle.block_atomic.specs.inside.Bounds.{StoreFits};
 ghost use Rattle.block_atomic.specs.inside.Applied.{HasTokens, IsApplied};
+ghost use Rattle.block_atomic.specs.Told.{TellsNext};
 
-use crate::causes::cause;
+use crate::causes::{cause, slot_marks};
 use crate::effects::{apply_stores, make_stores, write_registers, write_tokens};
 use crate::exits::{exit, is_system, leaving, successor};
 use crate::memory::data_memory;
@@ -40,27 +41,30 @@ pub struct ArchState {
 }
 
 impl Model for ArchState {
-    ghost use Rattle.std.specs.Prelude.{◌≡◌, ◌≤◌, drop, vec_len, vec_capacity};
+    ghost use Rattle.std.specs.Prelude.{◌≡◌, ◌≤◌, ◌+◌, ◌-◌, drop, vec_len, vec_capacity};
     ghost use Rattle.trips_isa.specs.Stores.{data_size};
-    ghost use Rattle.trips_isa.specs.Machine.{Machine};
+    ghost use Rattle.block_atomic.specs.inside.Held.{Held};
 
-    ghost Value = { Machine };
+    ghost Value = { Held };
 
     ghost view = { λ a. record {
-      state = record {
-        registers = a.registers;
-        memory = a.memory.items;
-        next = a.next;
-        rest = drop a.taken a.input.items;
-        output = a.output.items;
-        trace = a.trace.items;
+      machine = record {
+        state = record {
+          registers = a.registers;
+          memory = a.memory.items;
+          next = a.next;
+          rest = drop a.taken a.input.items;
+          output = a.output.items;
+          trace = a.trace.items;
+        };
+        budget = a.budget;
       };
-      budget = a.budget;
+      spare = vec_capacity a.output - vec_len a.output;
     } };
 
     ghost invariant = { λ a. (vec_len a.memory ≡ data_size) × (a.taken ≤ vec_len a.input)
-        × (vec_len a.output ≤ vec_len a.trace) × (vec_len a.trace ≤ a.budget)
-        × (a.budget ≤ vec_capacity a.output) × (a.budget ≤ vec_capacity a.trace) };
+        × (vec_len a.trace ≤ a.budget) × (vec_len a.output + a.budget ≤ vec_capacity a.output + vec_len a.trace)
+        × (a.budget ≤ vec_capacity a.trace) };
 }
 
 // Data memory at the start of an image's run.
@@ -81,9 +85,9 @@ impl ArchState {
         input: Vec<u8>,
         budget: u32,
     ) -> Result<ArchState, Memory>
-        ensures state { IfOk result (λ arch. arch.state ≡ start image.now.bytes input.items) }
-        ensures budget { IfOk result (λ arch. arch.budget ≡ budget) }
-        ensures next { IfOk result (λ arch. arch.state.next < length image.now.blocks) }
+        ensures state { IfOk result (λ arch. arch.machine.state ≡ start image.now.bytes input.items) }
+        ensures budget { IfOk result (λ arch. arch.machine.budget ≡ budget) }
+        ensures next { IfOk result (λ arch. arch.machine.state.next < length image.now.blocks) }
     {
         let memory = image_memory(alloc, image)?;
         let output = Vec::with_capacity(alloc, budget as usize)?;
@@ -100,12 +104,52 @@ impl ArchState {
         })
     }
 
+    /// A machine in a given state, with an empty trace and room for `budget` steps. Want of memory is the only error.
+    pub fn restore(
+        alloc: Global,
+        registers: &[u64],
+        memory: &[u8],
+        next: u32,
+        rest: Vec<u8>,
+        output: Vec<u8>,
+        budget: u32,
+    ) -> Result<ArchState, Memory>
+        requires registers { length registers.now ≡ 128 }
+        requires memory { length memory.now ≤ data_size }
+        ensures state { IfOk result (λ arch. arch.machine.state ≡ record {
+          registers = registers.now;
+          memory = memory_of memory.now;
+          next = next;
+          rest = rest.items;
+          output = output.items;
+          trace = [];
+        }) }
+        ensures budget { IfOk result (λ arch. arch.machine.budget ≡ budget) }
+    {
+        let mut words = [0; 128];
+        words.copy_from_slice(registers);
+        let memory = data_memory(alloc, memory)?;
+        let mut output = output;
+        output.reserve(budget as usize)?;
+        let trace = Vec::with_capacity(alloc, budget as usize)?;
+        Ok(ArchState {
+            registers: words,
+            memory,
+            next,
+            input: rest,
+            taken: 0,
+            output,
+            trace,
+            budget,
+        })
+    }
+
     /// Lowers the budget to this one. The room that was taken stays.
     pub fn keep_within(&mut self, budget: u32)
-        requires spent { length self.old.state.trace ≤ budget }
-        requires room { budget ≤ self.old.budget }
-        ensures state { self.new.state ≡ self.old.state }
-        ensures budget { self.new.budget ≡ budget }
+        requires spent { length self.old.machine.state.trace ≤ budget }
+        requires room { budget ≤ self.old.machine.budget }
+        ensures state { self.new.machine.state ≡ self.old.machine.state }
+        ensures budget { self.new.machine.budget ≡ budget }
     {
         self.budget = budget;
     }
@@ -119,17 +163,17 @@ impl ArchState {
         stores: &mut [Option<Stored>],
         table: &mut [Option<Token>],
     ) -> Stepped
-        requires next { self.old.state.next < length image.now.blocks }
-        requires room { length self.old.state.trace < self.old.budget }
+        requires next { self.old.machine.state.next < length image.now.blocks }
+        requires room { length self.old.machine.state.trace < self.old.machine.budget }
         requires places { length places.old ≡ 416 }
         requires stores { length stores.old ≡ 32 }
         requires table { length table.old ≡ 128 }
-        ensures step { (self.new.state, result) ≡ step_of image.now.blocks self.old.state }
-        ensures next { self.new.state.next < length image.now.blocks }
-        ensures trap { IsTrap result → self.new.state ≡ self.old.state }
+        ensures step { (self.new.machine.state, result) ≡ step_of image.now.blocks self.old.machine.state }
+        ensures next { self.new.machine.state.next < length image.now.blocks }
+        ensures trap { IsTrap result → self.new.machine.state ≡ self.old.machine.state }
         ensures trace { (IsTrap result → ⊥)
-            → length self.new.state.trace ≡ length self.old.state.trace + 1 }
-        ensures budget { self.new.budget ≡ self.old.budget }
+            → length self.new.machine.state.trace ≡ length self.old.machine.state.trace + 1 }
+        ensures budget { self.new.machine.budget ≡ self.old.machine.budget }
     {
         let block = image.at(self.next).block();
         let insts = block.insts.as_slice();
@@ -155,6 +199,39 @@ impl ArchState {
         }
     }
 
+    /// What each slot of the next block gives, with its mark, and the exit that the block takes, with room for the tokens at the places and the stores.
+    pub fn tell_with(
+        &self,
+        image: &CheckedImage,
+        places: &mut [Option<Token>],
+        stores: &mut [Option<Stored>],
+        tokens: &mut [Option<Token>],
+        marks: &mut [u8],
+    ) -> u8
+        requires next { self.now.machine.state.next < length image.now.blocks }
+        requires places { length places.old ≡ 416 }
+        requires stores { length stores.old ≡ 32 }
+        requires tokens { length tokens.old ≡ 128 }
+        requires marks { length marks.old ≡ 128 }
+        ensures tells { TellsNext image.now.blocks self.now.machine.state tokens.new marks.new result }
+    {
+        let block = image.at(self.next).block();
+        let insts = block.insts.as_slice();
+        let used = used_slots(insts);
+        clear_table(tokens);
+        settle(
+            block,
+            used,
+            &self.registers,
+            &self.memory,
+            places,
+            stores,
+            tokens,
+        );
+        slot_marks(block, used, tokens, places, marks);
+        exit(leaving(insts, used, tokens))
+    }
+
     /// Makes the change of a step from given effects of the next block: token i goes to the register of
     /// its write i, the stores that are not null to memory, and the system call follows where one does.
     pub fn apply(
@@ -166,9 +243,9 @@ impl ArchState {
         system: bool,
         successor: u32,
     ) -> Stepped
-        requires next { self.old.state.next < length image.now.blocks }
-        requires room { length self.old.state.trace < self.old.budget }
-        requires writes { HasTokens image.now.blocks self.old.state.next writes.now }
+        requires next { self.old.machine.state.next < length image.now.blocks }
+        requires room { length self.old.machine.state.trace < self.old.machine.budget }
+        requires writes { HasTokens image.now.blocks self.old.machine.state.next writes.now }
         requires stores { All (λ s. StoreFits (Some s)) stores.now }
         requires successor { successor < length image.now.blocks }
         ensures applied { IsApplied image.now.blocks (record {
@@ -177,11 +254,11 @@ impl ArchState {
           exit = exit;
           system = system;
           successor = successor;
-        }) self.old.state (self.new.state, result) }
-        ensures next { self.new.state.next < length image.now.blocks }
+        }) self.old.machine.state (self.new.machine.state, result) }
+        ensures next { self.new.machine.state.next < length image.now.blocks }
         ensures trap { IsTrap result → ⊥ }
-        ensures trace { length self.new.state.trace ≡ length self.old.state.trace + 1 }
-        ensures budget { self.new.budget ≡ self.old.budget }
+        ensures trace { length self.new.machine.state.trace ≡ length self.old.machine.state.trace + 1 }
+        ensures budget { self.new.machine.budget ≡ self.old.machine.budget }
     {
         let block = image.at(self.next).block();
         self.change_by(block.writes.as_slice(), writes, stores, exit, successor);
@@ -200,17 +277,17 @@ impl ArchState {
         requires registers { All (λ r. r < 128) registers.now }
         requires count { length writes.now ≡ length registers.now }
         requires stores { All (λ s. StoreFits (Some s)) stores.now }
-        requires room { length self.old.state.trace < self.old.budget }
-        ensures registers { self.new.state.registers
-            ≡ write_all self.old.state.registers registers.now writes.now }
-        ensures memory { self.new.state.memory ≡ store_all self.old.state.memory stores.now }
-        ensures trace { self.new.state.trace ≡ self.old.state.trace
-            ++ (record { block = self.old.state.next; exit = exit }) ∷ [] }
-        ensures next { self.new.state.next ≡ successor }
-        ensures rest { self.new.state.rest ≡ self.old.state.rest }
-        ensures output { self.new.state.output ≡ self.old.state.output }
-        ensures room { length self.new.state.output < length self.new.state.trace }
-        ensures budget { self.new.budget ≡ self.old.budget }
+        requires room { length self.old.machine.state.trace < self.old.machine.budget }
+        ensures registers { self.new.machine.state.registers
+            ≡ write_all self.old.machine.state.registers registers.now writes.now }
+        ensures memory { self.new.machine.state.memory ≡ store_all self.old.machine.state.memory stores.now }
+        ensures trace { self.new.machine.state.trace ≡ self.old.machine.state.trace
+            ++ (record { block = self.old.machine.state.next; exit = exit }) ∷ [] }
+        ensures next { self.new.machine.state.next ≡ successor }
+        ensures rest { self.new.machine.state.rest ≡ self.old.machine.state.rest }
+        ensures output { self.new.machine.state.output ≡ self.old.machine.state.output }
+        ensures room { self.new.machine.budget < self.new.spare + length self.new.machine.state.trace }
+        ensures budget { self.new.machine.budget ≡ self.old.machine.budget }
     {
         write_tokens(&mut self.registers, registers, writes);
         apply_stores(&mut self.memory, stores);
@@ -235,18 +312,18 @@ impl ArchState {
         requires places { length places.now ≡ 416 }
         requires stores { length stores.now ≡ 32 }
         requires fits { (n : ℕ) → n < 32 → StoreFits (slice_index_or stores.now n None) }
-        requires room { length self.old.state.trace < self.old.budget }
-        ensures registers { self.new.state.registers ≡ write_all self.old.state.registers writes.now
+        requires room { length self.old.machine.state.trace < self.old.machine.budget }
+        ensures registers { self.new.machine.state.registers ≡ write_all self.old.machine.state.registers writes.now
             (writes_from (λ q. slice_index_or places.now q None) 0 writes.now) }
-        ensures memory { self.new.state.memory ≡ store_all self.old.state.memory
+        ensures memory { self.new.machine.state.memory ≡ store_all self.old.machine.state.memory
             (all_stores (λ n. slice_index_or stores.now n None)) }
-        ensures trace { self.new.state.trace ≡ self.old.state.trace
-            ++ (record { block = self.old.state.next; exit = exit }) ∷ [] }
-        ensures next { self.new.state.next ≡ successor }
-        ensures rest { self.new.state.rest ≡ self.old.state.rest }
-        ensures output { self.new.state.output ≡ self.old.state.output }
-        ensures room { length self.new.state.output < length self.new.state.trace }
-        ensures budget { self.new.budget ≡ self.old.budget }
+        ensures trace { self.new.machine.state.trace ≡ self.old.machine.state.trace
+            ++ (record { block = self.old.machine.state.next; exit = exit }) ∷ [] }
+        ensures next { self.new.machine.state.next ≡ successor }
+        ensures rest { self.new.machine.state.rest ≡ self.old.machine.state.rest }
+        ensures output { self.new.machine.state.output ≡ self.old.machine.state.output }
+        ensures room { self.new.machine.budget < self.new.spare + length self.new.machine.state.trace }
+        ensures budget { self.new.machine.budget ≡ self.old.machine.budget }
     {
         write_registers(&mut self.registers, writes, places);
         make_stores(&mut self.memory, stores);
@@ -259,12 +336,12 @@ impl ArchState {
 
     // The system call, where one follows.
     fn then_system(&mut self, system: bool) -> Stepped
-        requires { length self.old.state.output < length self.old.state.trace }
-        ensures answer { (self.new.state, result) ≡ then_system system self.old.state }
+        requires { self.old.machine.budget < self.old.spare + length self.old.machine.state.trace }
+        ensures answer { (self.new.machine.state, result) ≡ then_system system self.old.machine.state }
         ensures trap { IsTrap result → ⊥ }
-        ensures next { self.new.state.next ≡ self.old.state.next }
-        ensures trace { self.new.state.trace ≡ self.old.state.trace }
-        ensures budget { self.new.budget ≡ self.old.budget }
+        ensures next { self.new.machine.state.next ≡ self.old.machine.state.next }
+        ensures trace { self.new.machine.state.trace ≡ self.old.machine.state.trace }
+        ensures budget { self.new.machine.budget ≡ self.old.machine.budget }
     {
         if system {
             self.system_call()
@@ -275,13 +352,13 @@ impl ArchState {
 
     // Does what register 0 says.
     fn system_call(&mut self) -> Stepped
-        requires { length self.old.state.output < length self.old.state.trace }
-        ensures answer { (self.new.state, result)
-            ≡ system_call (slice_index self.old.state.registers 0) self.old.state }
+        requires { self.old.machine.budget < self.old.spare + length self.old.machine.state.trace }
+        ensures answer { (self.new.machine.state, result)
+            ≡ system_call (slice_index self.old.machine.state.registers 0) self.old.machine.state }
         ensures trap { IsTrap result → ⊥ }
-        ensures next { self.new.state.next ≡ self.old.state.next }
-        ensures trace { self.new.state.trace ≡ self.old.state.trace }
-        ensures budget { self.new.budget ≡ self.old.budget }
+        ensures next { self.new.machine.state.next ≡ self.old.machine.state.next }
+        ensures trace { self.new.machine.state.trace ≡ self.old.machine.state.trace }
+        ensures budget { self.new.machine.budget ≡ self.old.machine.budget }
     {
         match self.registers[0] {
             1 => {
@@ -306,8 +383,8 @@ impl ArchState {
     /// A register's word.
     pub fn register(&self, r: u8) -> u64
         requires { r < 128 }
-        ensures value { result ≡ slice_index self.now.state.registers r }
-        ensures count { length self.now.state.registers ≡ 128 }
+        ensures value { result ≡ slice_index self.now.machine.state.registers r }
+        ensures count { length self.now.machine.state.registers ≡ 128 }
     {
         let registers: &[u64] = &self.registers;
         registers[r as usize]
@@ -315,7 +392,7 @@ impl ArchState {
 
     /// Data memory.
     pub fn memory(&self) -> &[u8]
-        ensures value { result.now ≡ self.now.state.memory }
+        ensures value { result.now ≡ self.now.machine.state.memory }
         ensures size { length result.now ≡ data_size }
     {
         &self.memory
@@ -323,28 +400,28 @@ impl ArchState {
 
     /// The number of the next block.
     pub fn next(&self) -> u32
-        ensures value { result ≡ self.now.state.next }
+        ensures value { result ≡ self.now.machine.state.next }
     {
         self.next
     }
 
     /// The input that was not read yet.
     pub fn rest(&self) -> &[u8]
-        ensures { result.now ≡ self.now.state.rest }
+        ensures { result.now ≡ self.now.machine.state.rest }
     {
         &self.input[self.taken..]
     }
 
     /// The bytes that were put out.
     pub fn output(&self) -> &[u8]
-        ensures { result.now ≡ self.now.state.output }
+        ensures { result.now ≡ self.now.machine.state.output }
     {
         &self.output
     }
 
     /// The blocks that were executed, in order, each with its exit.
     pub fn trace(&self) -> &[Traced]
-        ensures { result.now ≡ self.now.state.trace }
+        ensures { result.now ≡ self.now.machine.state.trace }
     {
         &self.trace
     }

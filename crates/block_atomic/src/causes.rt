@@ -7,10 +7,12 @@ ghost use Rattle.trips_isa.specs.Places.{inst_node};
 ghost use Rattle.trips_isa.specs.Rule.{Answer};
 ghost use Rattle.trips_isa.specs.Places.{in_mask};
 ghost use Rattle.trips_isa.specs.Faults.{own_fault};
-ghost use Rattle.trips_isa.specs.Marks.{fired_mark, least_at, writes_to, mask_places, owed, cause};
+ghost use Rattle.trips_isa.specs.Marks.{fired_mark, least_at, writes_to, mask_places, owed, cause, mark_of};
+ghost use Rattle.trips_isa.specs.Tables.{deepest};
 ghost use Rattle.block_atomic.specs.inside.MarkSlots.{IsTold, slot_marked, can_fault};
 ghost use Rattle.trips_isa.specs.Faults.{divides};
 
+use crate::mark_places::clear;
 use crate::mark_rounds::settle;
 use trips_isa::{
     Block, EXIT, FIRST_STORE, FIRST_WRITE, Form, Inst, NO_MARK, Op, PLACES, Token, form_of,
@@ -177,5 +179,31 @@ pub fn cause(block: &Block, used: usize, table: &[Option<Token>], places: &[Opti
         traced(block, table, places)
     } else {
         NO_MARK
+    }
+}
+
+/// The marks of a block's slots, of any table of tokens of which the lists tell; the slots from number `used` on are
+/// empty. Where no operation that fires faults there is none.
+pub fn slot_marks(
+    block: &Block,
+    used: usize,
+    table: &[Option<Token>],
+    places: &[Option<Token>],
+    marks: &mut [u8],
+)
+    requires fits { FitsBlock block.now }
+    requires used { (j : ℕ) → used ≤ j → slice_index_or block.now.insts.items j None ≡ None }
+    requires bound { used ≤ 128 }
+    requires table { length table.now ≡ 128 }
+    requires places { length places.now ≡ 416 }
+    requires marks { length marks.old ≡ 128 }
+    ensures value { (g : ℕ → Answer) → IsTold block.now table.now places.now g → (j : ℕ)
+        → slice_index_or marks.new j 0 ≡ mark_of block.now g deepest (length block.now.reads.items + j) }
+{
+    if faults(block.insts.as_slice(), used, table, places) {
+        let mut at = [NO_MARK; PLACES as usize];
+        settle(block, table, places, &mut at, marks);
+    } else {
+        clear(marks);
     }
 }

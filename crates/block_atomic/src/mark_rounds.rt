@@ -1,5 +1,5 @@
 //! The marks of a block's slots, by rounds until they hold still.
-ghost use Rattle.std.specs.Prelude.{◌≡◌, ◌<◌, ℕ, false, Some, length, slice_index_or, slice_set, None};
+ghost use Rattle.std.specs.Prelude.{◌≡◌, ◌+◌, ◌<◌, ℕ, false, Some, length, slice_index_or, slice_set, None};
 ghost use Rattle.trips_isa.specs.PlaceNumbers.{place_count};
 ghost use Rattle.trips_isa.specs.Forms.{takes_left, takes_right};
 ghost use Rattle.trips_isa.specs.Places.{nodes_of, inst_node};
@@ -104,8 +104,8 @@ fn sweep(
     changed
 }
 
-/// The marks at the places of a block, of any table of tokens of which the lists tell. What `at` and
-/// `marks` hold before is of no account.
+/// The marks at the places of a block and those of its slots, of any table of tokens of which the lists tell. What
+/// `at` and `marks` hold before is of no account.
 pub fn settle(
     block: &Block,
     table: &[Option<Token>],
@@ -120,6 +120,8 @@ pub fn settle(
     requires marks { length marks.old ≡ 128 }
     ensures value { (g : ℕ → Answer) → IsTold block.now table.now places.now g → (q : ℕ) → q < place_count
         → slice_index_or at.new q 0 ≡ mark_at (nodes_of block.now) g (mark_of block.now g deepest) q }
+    ensures marks { (g : ℕ → Answer) → IsTold block.now table.now places.now g → (j : ℕ)
+        → slice_index_or marks.new j 0 ≡ mark_of block.now g deepest (length block.now.reads.items + j) }
 {
     clear(marks);
     let mut rounds: u8 = 0;

@@ -4,7 +4,7 @@ use Rattle.trips_isa.specs.Marks.{mark_of, mark_given}
 use Rattle.trips_isa.specs.Limits.{most_nodes}
 use Rattle.block_atomic.specs.inside.MarkSlots.{IsTold}
 use Rattle.block_cases.proofs.Fixed.{IsFixed}
-use Rattle.block_atomic.proofs.MarkRoundLemmas.{Round, round_next, round_still, settled_at, none_yet}
+use Rattle.block_atomic.proofs.MarkRoundLemmas.{Round, round_next, round_still, settled_at, settled_slots, none_yet}
 use Rattle.block_atomic.proofs.mark_rounds.settle.Goals as goal
 use Rattle.block_atomic.proofs.mark_rounds.settle.Goals.{then-loop-changed-test+else-rounds-lt160}
 use Rattle.block_atomic.proofs.mark_rounds.settle.Goals.{else-loop-changed-test}
@@ -45,6 +45,8 @@ returns c = record {
       c.loop-changed.marks c.fill-2.new.at g c.loop-changed.rounds told
       (c.loop-changed.invariant.answers g told) c.loop-changed.invariant.few (done g told)
       c.fill-2.ensures.value q l;
+  marks = λ g told j. settled_slots c.args.block.now c.loop-changed.marks g c.loop-changed.rounds
+      (c.loop-changed.invariant.answers g told) c.loop-changed.invariant.few (done g told) j;
 }
   where
     done : (g : ℕ → Answer) → IsTold c.args.block.now c.args.table.now c.args.places.now g
