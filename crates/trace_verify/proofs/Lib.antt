@@ -1,0 +1,16 @@
+pub mod StandardFacts
+pub mod Nexts
+pub mod Records
+pub mod Forward
+pub mod Verdicts
+pub mod EntryEnds
+pub mod Described
+pub mod Sound
+pub mod Listing
+pub mod Recording
+pub mod Holding
+pub mod Shortness
+pub mod BoundedBytes
+pub mod HeldBounds
+pub mod Answering
+pub mod Relations

@@ -1,0 +1,5 @@
+pub mod Recording
+pub mod Judging
+pub mod Fronting
+pub mod Verifying
+pub mod Within
