@@ -1,11 +1,9 @@
 -- A block whose nodes lose guards that nobody needs means what it meant.
-use Rattle.std.proofs.Common.{◌≡◌, ℕ, List, refl, sym, ap, subst, ◌∙◌, cond, Bool, true, false}
-use Rattle.std.specs.Prelude.{Option, Some, None, slice_index}
+use Rattle.std.proofs.Common.{◌≡◌, ℕ, List, refl, sym, ap, subst, ◌∙◌, Bool, true}
+use Rattle.std.specs.Prelude.{Option, slice_index}
 use Rattle.std.proofs.Math.Path.{fun_ext}
 use Rattle.trips_isa.specs.declared.form.Form.{Form}
 use Rattle.trips_isa.specs.declared.form.Form.TheVariants.{General, Immediate, Load, Store, Branch, Constant}
-use Rattle.trips_isa.specs.declared.block.Inst.{Inst}
-use Rattle.trips_isa.specs.declared.block.Token.{Token}
 use Rattle.trips_isa.specs.declared.block.Stored.{Stored}
 use Rattle.trips_isa.specs.Blocks.{form_computes}
 use Rattle.trips_isa.specs.Forms.{form_of, size_of}
@@ -13,11 +11,12 @@ use Rattle.trips_isa.specs.Rule.{Answer}
 use Rattle.trips_isa.specs.Stores.{bytes_seen, store_all, listed_below}
 use Rattle.ir_forms.specs.declared.flow.FlowNode.{FlowNode}
 use Rattle.ir_forms.specs.declared.flow.FlowBlock.{FlowBlock}
-use Rattle.ir_forms.specs.inside.Agreement.{MeansBlock, Comes, TakesExit}
-use Rattle.ir_forms.specs.inside.FlowRuns.{Computes, Obeys, AtStart, inst_of, stores, meant, stored_all, exits, fired}
-use Rattle.ir_forms.specs.inside.HyperCode.{Block}
-use Rattle.ir_forms.specs.inside.HyperRuns.{Machine, Layout, after_items, exit_of}
-use Rattle.ir_forms.specs.inside.HyperWords.{HasWords}
+use Rattle.ir_forms.specs.inside.Agreement.{TakesExit}
+use Rattle.ir_forms.specs.inside.FlowRuns.{Computes, Obeys, AtStart, inst_of, stores, meant, stored_all}
+use Rattle.ir_forms.specs.inside.HyperRuns.{Layout, after_items}
+use Rattle.hyper_narrow.specs.inside.NarrowedCode.{Narrowed}
+use Rattle.hyper_narrow.specs.inside.NarrowedMeaning.{MeansNarrowed}
+use Rattle.hyper_narrow.specs.inside.NarrowedRuns.{exit_from}
 use Rattle.flow_guards.specs.inside.Guards.{guards_of}
 use Rattle.flow_guards.specs.inside.Unguards.{Loses, may_lose, loosened, all_loosened, unguarded, Unguards}
 use Rattle.flow_guards.proofs.Paths.{exits_same, written_same, stores_same, fired_same}
@@ -70,8 +69,8 @@ module _ (loses : Loses) (f : FlowBlock) (may : may_lose loses f ≡ true) (regs
       (old_path loses f may regs words h o)
 
 -- the unguarded block means what the block means
-means_after : (loses : Loses) (f : FlowBlock) → may_lose loses f ≡ true → (at : Layout) (b : Block)
-    → MeansBlock at b f → MeansBlock at b (unguarded loses f)
+means_after : (loses : Loses) (f : FlowBlock) → may_lose loses f ≡ true → (at : Layout) (b : Narrowed)
+    → MeansNarrowed at b f → MeansNarrowed at b (unguarded loses f)
 means_after loses f may at b means m h w o =
     let c = means m (was loses f may m.registers m.memory h o) w
     (at_start loses f may m.registers m.memory h o) in
@@ -83,7 +82,7 @@ means_after loses f may at b means m h w o =
           memory_same m.registers h (was loses f may m.registers m.memory h o) (all_loosened loses 0 f.nodes) f.nodes
           m.memory (sym (all_stores loses f may m.registers m.memory h o))
           ∙ c.memory;
-      exit = subst (TakesExit (exit_of b.tail (after_items b.items m).registers) (after_items b.items m))
+      exit = subst (TakesExit (exit_from b.block m) (after_items b.block.items m))
           (exits_same (guards_of f.nodes) loses h 0 f.nodes (nodes loses f may)) c.exit;
       acts =
           sym (fired_same (guards_of f.nodes) loses h m.registers
@@ -93,7 +92,7 @@ means_after loses f may at b means m h w o =
     }
 
 -- a block whose nodes lose guards that nobody needs means what it meant
-pub keeps_meaning : (at : Layout) (b : Block) (f g : FlowBlock) → Unguards f g → MeansBlock at b f
-    → MeansBlock at b g
+pub keeps_meaning : (at : Layout) (b : Narrowed) (f g : FlowBlock) → Unguards f g → MeansNarrowed at b f
+    → MeansNarrowed at b g
 keeps_meaning at b f g u means =
-    subst (MeansBlock at b) (sym u.same) (means_after u.loses f u.may at b means)
+    subst (MeansNarrowed at b) (sym u.same) (means_after u.loses f u.may at b means)

@@ -1,3 +1,4 @@
+pub mod Narrowing
 pub mod Members
 pub mod Keeps
 pub mod Runs

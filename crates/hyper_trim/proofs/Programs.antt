@@ -5,10 +5,12 @@ use mathlib.Core.Path.{fun_ext}
 use Rattle.std.specs.Prelude.{slice_get}
 use Rattle.ir_forms.specs.declared.hyper.Exit.{Exit}
 use Rattle.ir_forms.specs.inside.HyperCode.{Block}
-use Rattle.ir_forms.specs.inside.HyperFits.{AllLeadOn, filled_in}
+use Rattle.ir_forms.specs.inside.HyperFits.{FitsHyper, AllLeadOn, IsFollowed, filled_in}
 use Rattle.ir_forms.specs.inside.HyperRuns.{Machine, Layout, Standing, after_items, exit_of, is_system}
 use Rattle.ir_forms.specs.inside.HyperRuns.{system, block_at}
 use Rattle.ir_forms.specs.inside.HyperRuns.{next_label, leaving, if_clean, leave, run, start, hyper_run, jump}
+use Rattle.hyper_narrow.specs.inside.NarrowedCode.{Narrowed}
+use Rattle.hyper_trim.specs.inside.Narrows.{AllFit, Narrows}
 use Rattle.hyper_trim.specs.inside.Laws.{Shaped, Trims, SameBlock}
 
 some : (x y : Block) → Some x ≡ Some y → y ≡ x
@@ -36,9 +38,24 @@ module _ (f : Block → Block) where
   as_many (b ∷ P) = ap suc (as_many P)
 
   module _ (shaped : (b : Block) → Shaped b (f b)) where
-    all_filled : (P : List Block) → filled_in (map f P) ≡ filled_in P
+    -- a changed program has as many filled ifs
+    pub all_filled : (P : List Block) → filled_in (map f P) ≡ filled_in P
     all_filled [] = refl
     all_filled (b ∷ P) = ap₂ (λ (u v : ℕ). u + v) (shaped b).filled (all_filled P)
+
+    -- each leads to blocks of it
+    pub maps_followed : (P : List Block) → IsFollowed P → IsFollowed (map f P)
+    maps_followed P h k c e =
+        let g = comes P k c e in
+        subst (λ (x : Block). AllLeadOn k (length (map f P)) x.tail) (sym g.is)
+        (subst (λ (n : ℕ). AllLeadOn k n (f g.block).tail) (sym (as_many P))
+        ((shaped g.block).leads k (length P) (h k g.block g.there)))
+
+    -- each fits
+    pub maps_fit : (P : List Block) → AllFit P → AllFit (map f P)
+    maps_fit P h k c e =
+        let g = comes P k c e in
+        subst FitsHyper (sym g.is) ((shaped g.block).fits (h k g.block g.there))
 
     -- a program is trimmed whose blocks are changed to shaped ones, where the runs are the same
     pub maps_trim : (P : List Block)
@@ -48,11 +65,7 @@ module _ (f : Block → Block) where
       runs = same;
       count = as_many P;
       each = λ k b c e h. subst (Shaped b) (sym (got P k b c e h)) (shaped b);
-      followed = λ h k c e.
-          let g = comes P k c e in
-          subst (λ (x : Block). AllLeadOn k (length (map f P)) x.tail) (sym g.is)
-          (subst (λ (n : ℕ). AllLeadOn k n (f g.block).tail) (sym (as_many P))
-          ((shaped g.block).leads k (length P) (h k g.block g.there)));
+      followed = maps_followed P;
       filled = all_filled P;
     }
 
@@ -135,23 +148,15 @@ trims_then P Q R g h = record {
   filled = h.filled ∙ g.filled;
 }
 
-shaped_itself : (b c : Block) → c ≡ b → Shaped b c
-shaped_itself b c e = subst (Shaped b) (sym e) (record {
-  fits = λ x. x;
-  leads = λ k n x. x;
-  fewer = omega arith;
-  ifs = refl;
-  tests = refl;
-  exits = refl;
-  filled = refl;
-})
-
--- nothing is changed
-pub trims_itself : (P : List Block) → Trims P P
-trims_itself P = record {
-  runs = λ check at bytes input n. refl;
-  count = refl;
-  each = λ k b c e h. shaped_itself b c (some b c (sym e ∙ h));
-  followed = λ x. x;
-  filled = refl;
+-- what is left, narrowed, of what is left is what is left
+pub narrows_behind : (P Q : List Block) (R : List Narrowed) → Trims P Q → Narrows Q R → Narrows P R
+narrows_behind P Q R g h = record {
+  runs = λ check at bytes input n. h.runs check at bytes input n ∙ g.runs check at bytes input n;
+  count = h.count ∙ g.count;
+  followed = λ x. h.followed (g.followed x);
+  fit = λ x.
+      h.fit (λ k c e.
+      let b = there Q P k c (sym g.count) e in
+      (g.each k b.block c b.is e).fits (x k b.block b.is));
+  filled = h.filled ∙ g.filled;
 }

@@ -1,15 +1,19 @@
 -- What trimming keeps of blocks: their ifs, tests and exits, and their fields.
 use Rattle.std.proofs.Common.{◌≡◌, ℕ, ◌+◌, ◌≤◌, Bool, true, false, cond, not, ◌&&◌, ◌||◌, List}
-use Rattle.std.proofs.Common.{refl, ap₂, arith}
+use Rattle.std.proofs.Common.{[], ◌∷◌, map, Some, slice_get, refl, sym, ap, ap₂, ◌∙◌, subst, arith}
+use Rattle.std.proofs.lemmas.List.{length-map}
 use Rattle.trips_isa.specs.Faults.{divides}
 use Rattle.ir_forms.specs.inside.HyperCode.{Items, Done, Set, Load, Save, If, Block}
-use Rattle.ir_forms.specs.inside.HyperFits.{FitsItems, items_in, ifs_in, is_filled, filled_ifs}
+use Rattle.ir_forms.specs.inside.HyperFits.{FitsItems, IsFollowed, items_in, ifs_in, is_filled, filled_ifs}
+use Rattle.ir_forms.specs.inside.HyperFits.{filled_in}
 use Rattle.hyper_trim.specs.inside.Sets.{matters}
 use Rattle.hyper_trim.specs.inside.Trim.{ended, is_dropped, set_kept, trim}
-use Rattle.hyper_trim.specs.inside.Alive.{live_tail, trim_block}
-use Rattle.hyper_trim.specs.inside.Laws.{Shaped, ClosedTablesTrim}
+use Rattle.hyper_narrow.specs.inside.NarrowedCode.{bare}
+use Rattle.hyper_trim.specs.inside.Alive.{live_tail, trim_block, narrow_block}
+use Rattle.hyper_trim.specs.inside.Laws.{Shaped, ClosedTablesNarrow}
+use Rattle.hyper_narrow.proofs.BareBlocks.{bare_at}
 use Rattle.hyper_trim.proofs.Runs.{runs_alike}
-use Rattle.hyper_trim.proofs.Programs.{maps_trim}
+use Rattle.hyper_trim.proofs.Programs.{all_filled, maps_followed, maps_fit}
 
 -- LEGS
 
@@ -114,8 +118,23 @@ block_shaped T ret b = record {
   filled = filled_same false b.items (live_tail T ret b.tail);
 }
 
--- a closed table trims
-pub closed_trims : ClosedTablesTrim
-closed_trims T ret P closed =
-    maps_trim (trim_block T ret) (block_shaped T ret) P
-    (λ check at bytes input n. runs_alike T ret check at P closed bytes input n)
+-- without what outlasts them the blocks that are left are the trimmed ones
+bare_left : (T : List ℕ) (ret : ℕ) (P : List Block)
+    → bare (map (narrow_block T ret) P) ≡ map (trim_block T ret) P
+bare_left T ret [] = refl
+bare_left T ret (b ∷ P) = ap (λ (Q : List Block). trim_block T ret b ∷ Q) (bare_left T ret P)
+
+-- what a closed table leaves of a program, with what outlasts each block, does the same
+pub closed_narrows : ClosedTablesNarrow
+closed_narrows T ret P closed =
+    let Q = map (narrow_block T ret) P in
+    let e = bare_left T ret P in
+    record {
+      runs = λ check at bytes input n. runs_alike T ret check at P closed bytes input n;
+      count = length-map P (narrow_block T ret);
+      followed = λ f. subst IsFollowed (sym e) (maps_followed (trim_block T ret) (block_shaped T ret) P f);
+      fit = λ f k c there.
+          maps_fit (trim_block T ret) (block_shaped T ret) P f k c.block
+          (subst (λ (R : List Block). slice_get R k ≡ Some c.block) e (bare_at Q k c there));
+      filled = ap filled_in e ∙ all_filled (trim_block T ret) (block_shaped T ret) P;
+    }

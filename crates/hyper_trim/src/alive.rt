@@ -1,5 +1,5 @@
 //! Which registers are alive at the entry of each block: a guess, and whether it is closed.
-ghost use Rattle.std.specs.Prelude.{◌≡◌, ◌≤◌, IsTrue, IfOk, map, length};
+ghost use Rattle.std.specs.Prelude.{◌≡◌, IsTrue, IfOk, map, length};
 ghost use Rattle.ir_forms.specs.inside.HyperViews.{block_of, tail_of};
 ghost use Rattle.hyper_trim.specs.inside.Alive as spec;
 ghost use Rattle.hyper_trim.specs.inside.Alive.{IsClosed};
@@ -42,6 +42,30 @@ fn live_tail(tail: &Tail, table: &[u128], ret: u128) -> u128
         Tail::Leave(exit) => live_exit(table, ret, *exit),
         Tail::Test { test, yes, no } => {
             live_tail(yes.get(), table, ret) | live_tail(no.get(), table, ret) | read_by(*test)
+        }
+    }
+}
+
+fn lasting_exit(table: &[u128], ret: u128, exit: Exit) -> u128
+    ensures { result ≡ spec.lasting_exit table.now ret exit }
+{
+    match exit {
+        Exit::Jump(l) => alive_at(table, l),
+        Exit::Call { to, back: _ } => alive_at(table, to),
+        Exit::Return => ret,
+        Exit::System(l) => alive_at(table, l) | (bit(0) | bit(3)),
+    }
+}
+
+/// What outlasts a block with a tail.
+pub fn lasting_tail(tail: &Tail, table: &[u128], ret: u128) -> u128
+    ensures { result ≡ spec.lasting_tail table.now ret (tail_of tail.now) }
+{
+    match tail {
+        Tail::Leave(exit) => lasting_exit(table, ret, *exit),
+        Tail::Test { test, yes, no } => {
+            let _test = *test;
+            lasting_tail(yes.get(), table, ret) | lasting_tail(no.get(), table, ret)
         }
     }
 }

@@ -12,5 +12,5 @@ mod sets;
 mod trimming;
 mod walking;
 
-pub use laws::{closed_tables_trim, forwarding_is_same, forwarding_trims, trims_compose};
+pub use laws::{closed_tables_narrow, forwarding_is_same, forwarding_trims, trims_compose};
 pub use trimming::trim;

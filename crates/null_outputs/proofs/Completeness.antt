@@ -11,8 +11,8 @@ use Rattle.ir_forms.specs.declared.flow.FlowNode.{FlowNode}
 use Rattle.ir_forms.specs.declared.flow.FlowWrite.{FlowWrite}
 use Rattle.ir_forms.specs.declared.flow.FlowBlock.{FlowBlock}
 use Rattle.ir_forms.specs.inside.HyperRuns.{Layout}
-use Rattle.ir_forms.specs.inside.HyperCode.{Block}
-use Rattle.ir_forms.specs.inside.Agreement.{MeansBlock}
+use Rattle.hyper_narrow.specs.inside.NarrowedCode.{Narrowed}
+use Rattle.hyper_narrow.specs.inside.NarrowedMeaning.{MeansNarrowed}
 use Rattle.ir_forms.specs.inside.FlowRuns.{guard_token, Computes, Obeys, OnPath, count}
 use Rattle.ir_forms.specs.inside.FlowFits.{FitsFlow, FitsWrite, IsTidy, TakesAtMostOne, IsComplete, AtMostOne}
 use Rattle.ir_forms.specs.inside.FlowFits.{in_mask}
@@ -193,8 +193,9 @@ is_complete b fits masked = record {
 pub keeps_meaning : (b : FlowBlock) → FitsFlow b → EachMasked b b.nodes → Keeps b (complete b)
 keeps_meaning b fits masked = keeps (sure_by b) (want_by b) b fits masked (sure_is_trusty b fits) (want_is_closed b)
 
-module _ (at : Layout) (x : Block) (b d : FlowBlock) (keep : Keeps b d) (means : MeansBlock at x b) where
-  moved : MeansBlock at x d
+module _ (at : Layout) (x : Narrowed) (b d : FlowBlock) (keep : Keeps b d)
+    (means : MeansNarrowed at x b) where
+  moved : MeansNarrowed at x d
   moved m h size o =
       let k = keep m.registers m.memory h o in
       let v = means m h size k.start in
@@ -205,7 +206,7 @@ module _ (at : Layout) (x : Block) (b d : FlowBlock) (keep : Keeps b d) (means :
         acts = k.acts ∙ v.acts;
       }
 
--- a completed block means the hyper block that the block meant
-pub means_block : (at : Layout) (x : Block) (b : FlowBlock) → FitsFlow b → EachMasked b b.nodes
-    → MeansBlock at x b → MeansBlock at x (complete b)
+-- a completed block means the narrowed block that the block meant
+pub means_block : (at : Layout) (x : Narrowed) (b : FlowBlock) → FitsFlow b → EachMasked b b.nodes
+    → MeansNarrowed at x b → MeansNarrowed at x (complete b)
 means_block at x b fits masked means = moved at x b (complete b) (keeps_meaning b fits masked) means

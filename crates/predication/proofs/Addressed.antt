@@ -9,6 +9,7 @@ use Rattle.ir_forms.specs.inside.HyperRuns.{Machine, Layout, labels_alone, value
 use Rattle.ir_forms.specs.inside.HyperRuns.{leaving}
 use Rattle.ir_forms.specs.inside.HyperFits.{FitsExit, FitsTail, exits_in}
 use Rattle.ir_forms.specs.inside.Agreement.{IsExit}
+use Rattle.hyper_narrow.specs.inside.NarrowedRuns.{keeping}
 use Rattle.predication.specs.inside.Tails.{exit_with, tail_with, addressed}
 use Rattle.predication.specs.inside.Laws.{HasShortAddresses, ConvertsMeaning, TakesAddressed}
 use Rattle.predication.proofs.Converted.{plain_meaning}
@@ -66,18 +67,19 @@ takes_addressed at b low fits room = record {
 
 -- WHAT IT MEANS
 
--- the converted block leaves the registers, the memory and the exit of the hyper block, and does its acts
+-- the converted block leaves the registers, the memory and the exit of the narrowed block, and does its acts
 pub converts_meaning : ConvertsMeaning
-converts_meaning at b low fits room m h ws o =
+converts_meaning at d low fits room m h ws o =
+    let b = d.block in
     let t = takes_addressed at b low fits room in
-    let c = plain_meaning (addressed at b) t.fits t.room labels_alone (λ l. refl) m h ws o in
+    let c = plain_meaning (addressed at d) t.fits t.room labels_alone (λ l. refl) m h ws o in
     let am = after_items b.items m in
     let e = exit_is at.address b.tail am.registers in
     let same : leaving labels_alone (exit_of (tail_with at.address b.tail) am.registers) am
     ≡ leaving at (exit_of b.tail am.registers) am =
     ap (λ (x : Exit). leaving labels_alone x am) e ∙ leaves_so at (exit_of b.tail am.registers) am in
     record {
-      registers = λ r. c.registers r ∙ ap (λ (x : Machine). x.registers r) same;
+      registers = λ r. c.registers r ∙ ap (λ (x : Machine). (keeping d.lasting m x).registers r) same;
       memory = c.memory ∙ ap (λ (x : Machine). x.memory) same;
       exit = record {
         branch = c.exit.branch;

@@ -11,16 +11,16 @@ use Rattle.trips_isa.specs.Rule.{Answer}
 use Rattle.ir_forms.specs.declared.flow.FlowSource.{FlowSource}
 use Rattle.ir_forms.specs.declared.flow.FlowNode.{FlowNode}
 use Rattle.trips_isa.specs.inside.Acts.{Act}
-use Rattle.ir_forms.specs.inside.HyperRuns.{register_put, value_of}
 use Rattle.ir_forms.specs.inside.FlowRuns.{Computes, first, guard_token, stores, meant, exits, fired, count}
 use Rattle.ir_forms.specs.inside.FlowFits.{AtMostOne}
 use Rattle.predication.specs.inside.Environments.{Scope, Entry, Env, member, no_bits, at_start}
 use Rattle.predication.specs.inside.Ifs.{touched}
 use Rattle.predication.specs.inside.Tails.{tail_touched, exit_touched}
-use Rattle.predication.specs.inside.Converted.{begun, ended, all_nodes, all_touched, writes_below, predicated}
+use Rattle.predication.specs.inside.Converted.{begun, ended, all_nodes, all_touched, all_written, among}
+use Rattle.predication.specs.inside.Converted.{writes_below, predicated}
+use Rattle.predication.proofs.WrittenLemmas.{member_among}
 use Rattle.ir_forms.specs.inside.HyperCode.{Items, Done, Set, Load, Save, If, Tail, Leave, Test, Block}
-use Rattle.ir_forms.specs.inside.HyperRuns.{Machine, with_register, with_memory, after_items, acts, pick, loaded}
-use Rattle.ir_forms.specs.inside.HyperRuns.{saved, number_in}
+use Rattle.ir_forms.specs.inside.HyperRuns.{Machine, after_items, acts}
 use Rattle.ir_forms.specs.declared.hyper.Exit.{Exit}
 use Rattle.ir_forms.specs.declared.hyper.Exit.TheVariants as exit
 use Rattle.ir_forms.specs.inside.HyperFits.{FitsItems}
@@ -39,7 +39,10 @@ use Rattle.trips_isa.specs.Stores.{store_all, listed_below}
 use Rattle.ir_forms.specs.inside.HyperRuns.{Layout, exit_of, after_block}
 use Rattle.ir_forms.specs.inside.FlowRuns.{written, word_or, stored_all}
 use Rattle.ir_forms.specs.declared.flow.FlowWrite.{FlowWrite}
-use Rattle.ir_forms.specs.inside.Agreement.{IsExit, MeansBlock}
+use Rattle.ir_forms.specs.inside.Agreement.{IsExit}
+use Rattle.hyper_narrow.specs.declared.narrowed.Lasting.{Lasting}
+use Rattle.hyper_narrow.specs.inside.NarrowedCode.{Narrowed, outlasts}
+use Rattle.hyper_narrow.specs.inside.NarrowedMeaning.{MeansNarrowed}
 use Rattle.ir_forms.specs.inside.HyperFits.{FitsHyper}
 use Rattle.predication.specs.inside.Laws.{ConvertsPaths, HasRoom}
 use Rattle.predication.proofs.WordLemmas.{words_of}
@@ -136,6 +139,46 @@ module _ (regs : ℕ → ℕ) (h : ℕ → Answer) where
           ih (λ g. z (ap (λ (i : ℕ). member i rs) same ∙ e))
       go false e false d ih = let ne : q ≢ n = grind (arith, nat_tests) in ih (λ g. l (omega arith))
 
+  -- a register that is not written stays
+  unwritten : (env : Env) (rs : List ℕ) (n q : ℕ) → member q rs ≡ false
+      → written regs h (writes_below env rs n) q ≡ regs q
+  unwritten env rs zero q z = refl
+  unwritten env rs (suc n) q z = go (member n rs) refl (nat_eq q n) refl (unwritten env rs n q z)
+    where
+      go : (c : Bool) → member n rs ≡ c → (d : Bool) → nat_eq q n ≡ d
+          → written regs h (writes_below env rs n) q ≡ regs q
+          → written regs h (cond c (record { register = n; sources = (env n).given } ∷ writes_below env rs n)
+          (writes_below env rs n)) q ≡ regs q
+      go true e true d ih =
+          let same : q ≡ n = grind (arith, nat_tests) in
+          let bad : true ≡ false = sym e ∙ ap (λ (i : ℕ). member i rs) (sym same) ∙ z in absurd (cc)
+      go true e false d ih = rw d ih
+      go false e f d ih = ih
+
+  -- where only some of the registers that are set are written, the others stay
+  written_among : (set : Lasting) (env : Env) (rs : List ℕ) (q v : ℕ) → Sound regs h (env q) v (regs q)
+      → (member q rs ≡ false → v ≡ regs q) → (128 ≤ q → v ≡ regs q)
+      → written regs h (writes_below env (among set rs) 128) q ≡ cond (outlasts set q) v (regs q)
+  written_among set env rs q v s z l = go (outlasts set q) refl
+    where
+      and_true : (c : Bool) → cond c true false ≡ c
+      and_true true = refl
+      and_true false = refl
+
+      and_false : (c : Bool) → cond c false false ≡ false
+      and_false true = refl
+      and_false false = refl
+
+      go : (c : Bool) → outlasts set q ≡ c
+          → written regs h (writes_below env (among set rs) 128) q ≡ cond c v (regs q)
+      go true e =
+          written_below env (among set rs) 128 q v s
+          (λ o. z (sym (ap (λ (c : Bool). cond (member q rs) c false) e ∙ and_true (member q rs))
+          ∙ sym (member_among set q rs) ∙ o)) l
+      go false e =
+          unwritten env (among set rs) 128 q
+          (member_among set q rs ∙ ap (λ (c : Bool). cond (member q rs) c false) e ∙ and_false (member q rs))
+
   pub writes_most : (env : Env) (vals : ℕ → ℕ) → Live regs h env vals → (rs : List ℕ) (n : ℕ)
       → All (λ w. count regs h w.sources ≤ 1) (writes_below env rs n)
   writes_most env vals l rs zero = All-nil (λ (w : FlowWrite). count regs h w.sources ≤ 1)
@@ -209,7 +252,8 @@ holds_more st mem m bytes z w (suc d) =
 
 -- on each path the converted block does what the hyper block does, and each output has at most one token
 pub converts_paths : ConvertsPaths
-converts_paths b t regs f h o =
+converts_paths d t regs f h o =
+    let b = d.block in
     let st = stores regs h (all_nodes b) in
     let s : Machine = record { registers = regs; memory = []; input = []; output = [] } in
     let x = runs_of regs h f st 0 0 (begun b).number (all_nodes b) (block_rises b t) (λ k l. refl) o in
@@ -221,7 +265,7 @@ converts_paths b t regs f h o =
         operands = all_operands regs h (all_nodes b) calm;
       };
       one = record {
-        writes = writes_most regs h (ended b).env hs.leaving.after hs.leaving.live (all_touched b) 128;
+        writes = writes_most regs h (ended b).env hs.leaving.after hs.leaving.live (all_written d) 128;
         numbers = λ k. tokens_most regs h 0 0 (begun b).number (all_nodes b) (block_rises b t) k;
         exits = ap (λ (l : List (Inst × Token)). length l) (block_exits regs h b t ∙ hs.leaving.only);
       };
@@ -242,10 +286,11 @@ same_memory at (exit.System l) s = refl
 abbrev pub IsPlain : Layout → Type 0
 IsPlain at = (l : ℕ) → at.address l ≡ l
 
--- from every start with words the converted block does what the hyper block does, where addresses stand in it
-pub plain_meaning : (b : Block) → FitsHyper b → HasRoom b → (at : Layout) → IsPlain at
-    → MeansBlock at b (predicated b)
-plain_meaning b t room at plain m h ws o =
+-- from every start with words the converted block does what the narrowed block does, where addresses stand in it
+pub plain_meaning : (d : Narrowed) → FitsHyper d.block → HasRoom d.block → (at : Layout) → IsPlain at
+    → MeansNarrowed at d (predicated d)
+plain_meaning d t room at plain m h ws o =
+    let b = d.block in
     let regs = m.registers in
     let mem = m.memory in
     let st = stores regs h (all_nodes b) in
@@ -271,9 +316,10 @@ plain_meaning b t room at plain m h ws o =
     (hs.leaving.live q)).same refl in
     record {
       registers = λ q.
-          written_below regs h (ended b).env (all_touched b) 128 q (hs.leaving.after q) (hs.leaving.live q) (stay q)
+          written_among regs h d.lasting (ended b).env (all_touched b) q (hs.leaving.after q) (hs.leaving.live q)
+          (stay q)
           (λ le. outside (member q (all_touched b)) (λ e. absurd (omega (arith, all_low b t q e, le))) (stay q))
-          ∙ ap (λ (v : ℕ → ℕ). v q) er;
+          ∙ ap (λ (v : ℕ → ℕ). cond (outlasts d.lasting q) (v q) (regs q)) er;
       memory = stored_is regs h (all_nodes b) mem ∙ full.listed ∙ em;
       exit = record {
         branch = hs.leaving.exit;

@@ -12,7 +12,8 @@ use Rattle.ir_forms.specs.declared.flow.FlowSource.{FlowSource}
 use Rattle.ir_forms.specs.declared.flow.FlowSource.TheVariants.{Read, Node}
 use Rattle.ir_forms.specs.declared.flow.FlowNode.{FlowNode}
 use Rattle.predication.specs.inside.Environments.{Scope, Env, member, no_bits, at_start}
-use Rattle.predication.specs.inside.Converted.{begun, ended, all_nodes, all_touched, predicated, writes_below}
+use Rattle.predication.specs.inside.Converted.{begun, ended, all_nodes, all_written, predicated, writes_below}
+use Rattle.hyper_narrow.specs.inside.NarrowedCode.{Narrowed}
 use Rattle.predication.specs.inside.Converted.{has_store, mask_below}
 use Rattle.ir_forms.specs.inside.HyperCode.{Block}
 use Rattle.std.proofs.Common.{◌||◌}
@@ -189,19 +190,19 @@ guard_fits : (b : FlowBlock) (T : ℕ → Type 0) (k : ℕ) (g : Scope) → k �
 guard_fits b T k None l x = tt
 guard_fits b T k (Some g) l x = omega (arith, x.0, l)
 
-node_fits : (b : Block) (i : ℕ) (n : FlowNode) → slice_get (all_nodes b) i ≡ Some n → Well (Talks (all_nodes b)) i n
-    → FitsNode (predicated b) n
-node_fits b i n e w =
-    let ns = all_nodes b in
-    let ws = writes_below (ended b).env (all_touched b) 128 in
+node_fits : (d : Narrowed) (i : ℕ) (n : FlowNode) → slice_get (all_nodes d.block) i ≡ Some n
+    → Well (Talks (all_nodes d.block)) i n → FitsNode (predicated d) n
+node_fits d i n e w =
+    let ns = all_nodes d.block in
+    let ws = writes_below (ended d.block).env (all_written d) 128 in
     let l : i ≤ length ns = let q = slice_get_within ns i n e in omega (arith, q) in
     record {
       form = w.form;
-      guard = guard_fits (predicated b) (Talks ns) i n.guard l w.guard;
-      left = sources_fit (predicated b) (Talks ns) i n.left l w.left
+      guard = guard_fits (predicated d) (Talks ns) i n.guard l w.guard;
+      left = sources_fit (predicated d) (Talks ns) i n.left l w.left
           (λ r m x. contains_read ns ws 128 r m (or_left (nodes_read ns r) (writes_read ws r)
           (left_read ns i n r e x)));
-      right = sources_fit (predicated b) (Talks ns) i n.right l w.right
+      right = sources_fit (predicated d) (Talks ns) i n.right l w.right
           (λ r m x. contains_read ns ws 128 r m (or_left (nodes_read ns r) (writes_read ws r)
           (right_read ns i n r e x)));
     }
@@ -231,17 +232,17 @@ write_is env rs (suc n) i w e = go (member n rs) i e (λ k x. write_is env rs n 
     go true (suc i) e ih = less (ih i e)
     go false i e ih = less (ih i e)
 
-write_fits : (b : Block) → Made b → (i : ℕ) (w : FlowWrite) → slice_get (predicated b).writes i ≡ Some w
-    → FitsWrite (predicated b) w
-write_fits b mk i w e =
-    let ns = all_nodes b in
-    let ws = writes_below (ended b).env (all_touched b) 128 in
-    let x = write_is (ended b).env (all_touched b) 128 i w e in
+write_fits : (d : Narrowed) → Made d.block → (i : ℕ) (w : FlowWrite) → slice_get (predicated d).writes i ≡ Some w
+    → FitsWrite (predicated d) w
+write_fits d mk i w e =
+    let ns = all_nodes d.block in
+    let ws = writes_below (ended d.block).env (all_written d) 128 in
+    let x = write_is (ended d.block).env (all_written d) 128 i w e in
     let g : EachGood (Talks ns) (length ns) w.sources =
     subst (λ (ss : List FlowSource). EachGood (Talks ns) (length ns) ss) (sym x.1) (mk.env w.register).0 in
     record {
       register = x.0;
-      sources = sources_fit (predicated b) (Talks ns) (length ns) w.sources (omega arith) g
+      sources = sources_fit (predicated d) (Talks ns) (length ns) w.sources (omega arith) g
           (λ r m y. contains_read ns ws 128 r m (or_right (nodes_read ns r) (writes_read ws r)
           (write_read ws i w r e y)));
     }
@@ -349,15 +350,16 @@ stores_before b t i j m n x y s l less = go (before_or i j)
 
 -- the converted block fits
 pub converts_fitting : ConvertsFitting
-converts_fitting b t room =
+converts_fitting d t room =
+    let b = d.block in
     let mk = made b t room in
     let ns = all_nodes b in
     let at : (i : ℕ) (n : FlowNode) → slice_get ns i ≡ Some n → Well (Talks ns) i n =
     λ i n e. let z : 0 + i ≡ i = omega arith in subst (λ (k : ℕ). Well (Talks ns) k n) z
     (static_at (Talks ns) ns 0 i n mk.nodes e) in
     record {
-      nodes = all_from (FitsNode (predicated b)) ns (λ i n e. node_fits b i n e (at i n e));
-      writes = all_from (FitsWrite (predicated b)) (predicated b).writes (λ i w e. write_fits b mk i w e);
+      nodes = all_from (FitsNode (predicated d)) ns (λ i n e. node_fits d i n e (at i n e));
+      writes = all_from (FitsWrite (predicated d)) (predicated d).writes (λ i w e. write_fits d mk i w e);
       mask = mask_lt ns 32;
       order = (
         (λ j. j),
@@ -373,6 +375,6 @@ converts_fitting b t room =
           stores = λ i j m n x y s l less. stores_before b t i j m n x y s l less;
         },
       );
-      tidy = λ regs f h o. (converts_paths b t regs f h o).tidy;
-      one = λ regs f h o. (converts_paths b t regs f h o).one;
+      tidy = λ regs f h o. (converts_paths d t regs f h o).tidy;
+      one = λ regs f h o. (converts_paths d t regs f h o).one;
     }

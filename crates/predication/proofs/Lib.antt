@@ -10,6 +10,7 @@ pub mod WordLemmas
 pub mod Taken
 pub mod Numbers
 pub mod Tails
+pub mod WrittenLemmas
 pub mod Converted
 pub mod Static
 pub mod Fits

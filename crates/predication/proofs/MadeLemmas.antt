@@ -7,6 +7,7 @@ use Rattle.ir_forms.specs.declared.flow.FlowNode.{FlowNode}
 use Rattle.ir_forms.specs.declared.flow.FlowBlock.{FlowBlock}
 use Rattle.ir_forms.specs.inside.HyperCode.{Items, Done, Block}
 use Rattle.ir_forms.specs.inside.HyperFits.{exits_in}
+use Rattle.hyper_narrow.specs.inside.NarrowedCode.{Narrowed}
 use Rattle.predication.specs.declared.work.Work.{Work}
 use Rattle.predication.specs.declared.work.Named.{Named}
 use Rattle.predication.specs.declared.work.Noted.{Noted}
@@ -18,7 +19,8 @@ use Rattle.ir_forms.specs.declared.fault.Part.TheVariants.{Insts, Reads, Writes,
 use Rattle.predication.specs.inside.Environments.{Env, Bits, no_bits, at_start}
 use Rattle.predication.specs.inside.Ifs.{Out, items, touched}
 use Rattle.predication.specs.inside.Tails.{Ending, tail, tail_touched}
-use Rattle.predication.specs.inside.Converted.{begun, ended, all_nodes, all_touched, predicated}
+use Rattle.predication.specs.inside.Converted.{begun, ended, all_nodes, all_written, among}
+use Rattle.predication.specs.inside.Converted.{predicated}
 use Rattle.predication.specs.inside.Outcomes.{Counts, counts_of, HasRoomFor, IsRefusal}
 use Rattle.predication.specs.inside.Emits.{low, env_of, bits_of}
 use Rattle.predication.specs.inside.Ends.{End, out_of, ends, ending_of, work_after}
@@ -83,39 +85,43 @@ flow_same ns ns2 env env2 rs rs2 e f g =
     ap (λ (x : List FlowNode). flow_of x env rs) e ∙ ap (λ (x : Env). flow_of ns2 x rs) f
     ∙ ap (λ (x : List ℕ). flow_of ns2 env2 x) g
 
-flow_is : (b : Block) → flow_of (all_nodes b) (ended b).env (all_touched b) ≡ predicated b
+flow_is : (d : Narrowed) → flow_of (all_nodes d.block) (ended d.block).env (all_written d) ≡ predicated d
 unfolding writes_of reads_of mask_of
-flow_is b = refl
+flow_is d = refl
 
-counts_are : (b : Block) → counts_by (predicated b) (begun b).number (exits_in b.tail) ≡ counts_of b
+counts_are : (d : Narrowed) → counts_by (predicated d) (begun d.block).number (exits_in d.block.tail) ≡ counts_of d
 unfolding counts_of
-counts_are b = refl
+counts_are d = refl
 
-module _ (b : Block) (e : Emitted) (m : IsEmitted b e) where
+module _ (d : Narrowed) (e : Emitted) (m : IsEmitted d.block e) where
+  abbrev b : Block
+  b = d.block
+
   few : length e.nodes ≤ 128 → length (all_nodes b) ≤ 128
   few l = let c = ap (λ (x : List FlowNode). length x) m.nodes ∙ length-map (all_nodes b) low in omega (arith, c, l)
 
-  pub is_predicated : length e.nodes ≤ 128 → flow_in e ≡ predicated b
+  pub is_predicated : length e.nodes ≤ 128 → flow_in d.lasting e ≡ predicated d
   is_predicated l =
-      flow_same e.nodes (all_nodes b) (env_of e.names.entries) (ended b).env e.names.sets (all_touched b)
-      (m.nodes ∙ low_nodes b (few l)) m.env m.sets ∙ flow_is b
+      flow_same e.nodes (all_nodes b) (env_of e.names.entries) (ended b).env (among d.lasting e.names.sets)
+      (all_written d) (m.nodes ∙ low_nodes b (few l)) m.env
+      (ap (λ (rs : List ℕ). among d.lasting rs) m.sets) ∙ flow_is d
 
-  counts_same : length e.nodes ≤ 128 → counts_in e ≡ counts_of b
+  counts_same : length e.nodes ≤ 128 → counts_in d.lasting e ≡ counts_of d
   counts_same l =
       ap (λ (f : FlowBlock). counts_by f e.numbers e.exits) (is_predicated l)
-      ∙ ap (λ (x : ℕ). counts_by (predicated b) x e.exits) m.numbers
-      ∙ ap (λ (x : ℕ). counts_by (predicated b) (begun b).number x) m.exits ∙ counts_are b
+      ∙ ap (λ (x : ℕ). counts_by (predicated d) x e.exits) m.numbers
+      ∙ ap (λ (x : ℕ). counts_by (predicated d) (begun b).number x) m.exits ∙ counts_are d
 
-  insts_same : length e.nodes ≡ (counts_of b).insts
+  insts_same : length e.nodes ≡ (counts_of d).insts
   unfolding counts_of
   insts_same = ap (λ (x : List FlowNode). length x) m.nodes ∙ length-map (all_nodes b) low
 
   -- a block whose counts have room as emitted has room
-  pub has_room : HasRoomFor (counts_in e) → HasRoomFor (counts_of b)
+  pub has_room : HasRoomFor (counts_in d.lasting e) → HasRoomFor (counts_of d)
   has_room r = subst (λ (c : Counts). HasRoomFor c) (counts_same r.insts) r
 
   -- a block that is refused by its counts as emitted is refused
-  pub is_refused : (x : FlowFault) → IsRefusal (counts_in e) x → IsRefusal (counts_of b) x
+  pub is_refused : (x : FlowFault) → IsRefusal (counts_in d.lasting e) x → IsRefusal (counts_of d) x
   is_refused (TooBig Insts n) r = (r.0 ∙ insts_same, r.1)
   is_refused (TooBig Reads n) r = subst (λ (c : Counts). IsRefusal c (TooBig Reads n)) (counts_same r.0) r
   is_refused (TooBig Writes n) r = subst (λ (c : Counts). IsRefusal c (TooBig Writes n)) (counts_same r.0) r
@@ -124,7 +130,8 @@ module _ (b : Block) (e : Emitted) (m : IsEmitted b e) where
   is_refused Memory r = tt
 
   -- the flow block put together from what is emitted is the block's own
-  pub block_is : (f : FlowBlock) → (f ≡ flow_in e) × HasRoomFor (counts_in e) → f ≡ predicated b
+  pub block_is : (f : FlowBlock) → (f ≡ flow_in d.lasting e) × HasRoomFor (counts_in d.lasting e)
+      → f ≡ predicated d
   block_is f r = r.0 ∙ is_predicated r.1.insts
 
 -- RESULTS

@@ -11,7 +11,7 @@ use Rattle.ir_forms.specs.declared.flow.FlowSource.{FlowSource}
 use Rattle.ir_forms.specs.declared.flow.FlowSource.TheVariants.{Read, Node}
 use Rattle.ir_forms.specs.declared.flow.FlowNode.{FlowNode}
 use Rattle.predication.specs.inside.Environments.{Scope, Env, member}
-use Rattle.predication.specs.inside.Converted.{begun, ended, all_nodes, all_touched, writes_below, has_store}
+use Rattle.predication.specs.inside.Converted.{begun, ended, all_nodes, all_written, writes_below, has_store}
 use Rattle.predication.specs.inside.Converted.{stores_as, mask_below}
 use Rattle.ir_forms.specs.inside.HyperCode.{Block}
 use Rattle.std.proofs.Common.{◌||◌, ◌-◌}
@@ -308,15 +308,16 @@ store_not_load F x y = absurd (cc)
 
 -- the converted block is regular
 pub converts_regular : ConvertsRegular
-converts_regular b t room =
+converts_regular d t room =
+    let b = d.block in
     let mk = made b t room in
     let ns = all_nodes b in
-    let ws = writes_below (ended b).env (all_touched b) 128 in
+    let ws = writes_below (ended b).env (all_written d) 128 in
     let T = Talks ns in
     let at : (i : ℕ) (n : FlowNode) → slice_get ns i ≡ Some n → Well T i n =
     λ i n e. let z : 0 + i ≡ i = omega arith in subst (λ (k : ℕ). Well T k n) z (static_at T ns 0 i n mk.nodes e) in
     record {
-      registers = λ i j v w x y e. write_below (ended b).env (all_touched b) 128 i j v w x y e;
+      registers = λ i j v w x y e. write_below (ended b).env (all_written d) 128 i j v w x y e;
       loads = λ i j m n x y p q e.
           same_place b t i j m n x y (load_numbered (form_of m.op) p) (load_numbered (form_of n.op) q) e;
       unmasked = λ j n x p.
@@ -336,7 +337,7 @@ converts_regular b t room =
           let not_j : T j → ⊥ = λ y. clash (is_silent (form_of n.op)) p (y n x) in
           or_none (nodes_name (Node j) ns) (writes_name (Node j) ws) (nodes_none T j not_j 0 ns mk.nodes)
           (writes_none T j not_j (length ns) ws (λ i w e.
-          let z = write_is (ended b).env (all_touched b) 128 i w e in
+          let z = write_is (ended b).env (all_written d) 128 i w e in
           subst (λ (ss : List FlowSource). EachGood T (length ns) ss) (sym z.1) (mk.env w.register).0));
     }
   where

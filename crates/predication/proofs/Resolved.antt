@@ -25,9 +25,10 @@ use Rattle.predication.specs.inside.Environments.{at_start, left_bits, member, d
 use Rattle.predication.specs.inside.Operands.{Got, node_of, constant_of, mov_of, longer, chain, movs, read_of}
 use Rattle.predication.specs.inside.Operands.{operand, second, bit_set, fresh_test, test_by, tested}
 use Rattle.predication.specs.inside.Ifs.{Part, left_of, side_of, Joined, join, items, touched}
-use Rattle.predication.specs.inside.Tails.{exit_with, tail_with, labelled, addressed, high_half, low_half, branch_of}
+use Rattle.predication.specs.inside.Tails.{exit_with, tail_with, labelled, labelled_block, addressed}
+use Rattle.predication.specs.inside.Tails.{addressed_block, high_half, low_half, branch_of}
 use Rattle.predication.specs.inside.Tails.{tail_touched, Ending, leaving, tail}
-use Rattle.predication.specs.inside.Converted.{begun, ended, all_nodes, all_touched, writes_below, nodes_read}
+use Rattle.predication.specs.inside.Converted.{begun, ended, all_nodes, all_written, among, writes_below, nodes_read}
 use Rattle.predication.specs.inside.Converted.{writes_read}
 use Rattle.predication.specs.inside.Converted.{reads_in, reads_below, stores_as, has_store, mask_below}
 use Rattle.predication.specs.inside.Labels.{half_of, by_address, resolved_node, resolved}
@@ -356,17 +357,18 @@ built_resolved address ns ws =
 
 -- the block that holds its labels becomes, once these are resolved, the block with addresses
 pub resolves_labels : ResolvesLabels
-resolves_labels at b short fits =
+resolves_labels at d short fits =
+    let b = d.block in
     let x = begun b in
     let z = tail_same at.address short b.tail None (length x.nodes)
     (length x.nodes) 0 0 x.env x.bits fits.tail refl refl in
-    let ns : map (resolved_node at.address) (all_nodes (labelled b)) ≡ all_nodes (addressed at b) =
-    map-append (resolved_node at.address) x.nodes (ended (labelled b)).nodes
+    let ns : map (resolved_node at.address) (all_nodes (labelled_block b)) ≡ all_nodes (addressed_block at b) =
+    map-append (resolved_node at.address) x.nodes (ended (labelled_block b)).nodes
     ∙ ap₂ (λ (p q : List FlowNode). p ++ q)
     (kept_items at.address b.items None 0 0 at_start no_bits fits.items) z.nodes in
-    let rs : all_touched (labelled b) ≡ all_touched (addressed at b) =
-    ap (λ (l : List ℕ). touched b.items ++ l)
+    let rs : all_written (labelled d) ≡ all_written (addressed at d) =
+    ap (λ (l : List ℕ). among d.lasting (touched b.items ++ l))
     (touched_same at.address short label b.tail ∙ sym (touched_same at.address short at.address b.tail)) in
-    built_resolved at.address (all_nodes (labelled b))
-    (writes_below (ended (labelled b)).env (all_touched (labelled b)) 128)
+    built_resolved at.address (all_nodes (labelled_block b))
+    (writes_below (ended (labelled_block b)).env (all_written (labelled d)) 128)
     ∙ ap₂ built ns (ap₂ (λ (env : Env) (l : List ℕ). writes_below env l 128) z.env rs)

@@ -6,6 +6,8 @@ use Rattle.ir_forms.specs.declared.hyper.Source.TheVariants.{Const, Reg}
 use Rattle.ir_forms.specs.declared.hyper.Exit.TheVariants as exit
 use Rattle.ir_forms.specs.declared.flow.FlowSource.TheVariants.{Read, Node}
 use Rattle.ir_forms.specs.inside.HyperCode.{Done, Set, Save, If, Leave, Test, Block}
+use Rattle.hyper_narrow.specs.declared.narrowed.Lasting.TheVariants.{Those}
+use Rattle.hyper_narrow.specs.inside.NarrowedCode.{Narrowed, whole}
 use Rattle.predication.specs.inside.Environments.{under}
 use Rattle.predication.specs.inside.Operands.{node_of, constant_of, mov_of, test_of}
 use Rattle.predication.specs.inside.Tails.{branch_of, address_nodes}
@@ -23,12 +25,19 @@ pub small_nodes : all_nodes small ≡
     ∷ node_of op.Add 0 (under 0 true) (Read 3 ∷ []) (Node 1 ∷ []) ∷ branch_of op.Bro 7 0 None [] ∷ []
 small_nodes = refl
 
-pub small_writes : (predicated small).writes ≡
+pub small_writes : (predicated (whole small)).writes ≡
     record { register = 6; sources = Node 2 ∷ [] } ∷ record { register = 5; sources = Node 0 ∷ [] } ∷ []
 small_writes = refl
 
-pub small_reads : (predicated small).reads ≡ 4 ∷ 3 ∷ []
+pub small_reads : (predicated (whole small)).reads ≡ 4 ∷ 3 ∷ []
 small_reads = refl
+
+-- only register 6 outlasts the block: the test's word is read in the block, and not written
+abbrev narrow : Narrowed
+narrow = record { block = small; lasting = Those 64 }
+
+pub narrow_writes : (predicated narrow).writes ≡ record { register = 6; sources = Node 2 ∷ [] } ∷ []
+narrow_writes = refl
 
 -- a store under a fresh test, and two exits, one of them a call
 abbrev calling : Block
@@ -45,7 +54,7 @@ pub calling_nodes : all_nodes calling ≡
     ∷ branch_of op.Ret 0 1 (under 4 false) (Read 2 ∷ []) ∷ []
 calling_nodes = refl
 
-pub calling_mask : (predicated calling).mask ≡ 1
+pub calling_mask : (predicated (whole calling)).mask ≡ 1
 calling_mask = refl
 
 -- a block to come back to that has no address yet: both halves hold its label

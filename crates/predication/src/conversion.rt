@@ -1,10 +1,11 @@
-//! The flow block of a hyper block.
+//! The flow block of a narrowed block.
 ghost use Rattle.std.specs.Prelude.{◌≡◌, ◌≤◌, ◌↔◌, IsTrue, length, IfOk, IfErr};
 ghost use Rattle.ir_forms.specs.inside.HyperViews.{block_of, tail_of};
 ghost use Rattle.predication.specs.inside.Converted.{predicated};
 ghost use Rattle.predication.specs.inside.Outcomes.{HasRoomFor, IsRefusal, NamesLabel, NamesLabels};
 ghost use Rattle.predication.specs.inside.Outcomes.{counts_of};
-ghost use Rattle.predication.specs.inside.Tails.{labelled};
+ghost use Rattle.predication.specs.inside.Tails.{labelled, labelled_block};
+ghost use Rattle.hyper_narrow.specs.inside.NarrowedViews.{narrowed_of};
 ghost use Rattle.predication.specs.inside.Made.{IsEmitted, counts_by, counts_in, flow_in};
 
 use crate::branching::items;
@@ -12,6 +13,7 @@ use crate::ending::finish;
 use crate::outputs::flow;
 use crate::work::{Emitted, Names, Work};
 use base::{Items, Memory};
+use hyper_narrow::{Lasting, NarrowedBlock};
 use ir_forms::{Exit, FlowBlock, FlowFault, HyperBlock, LABELS, Part, Tail};
 use std::alloc::Global;
 
@@ -42,7 +44,7 @@ pub fn labels_fit(tail: &Tail) -> bool
 
 // All nodes of a block.
 fn emitted(alloc: Global, block: &HyperBlock) -> Result<Emitted, Memory>
-    ensures { IfOk result (λ e. IsEmitted (labelled (block_of block.now)) e) }
+    ensures { IfOk result (λ e. IsEmitted (labelled_block (block_of block.now)) e) }
 {
     let mut work = Work {
         nodes: Items::new(alloc),
@@ -91,9 +93,10 @@ fn within(block: FlowBlock, numbers: usize, exits: usize) -> Result<FlowBlock, F
 }
 
 // The flow block of all that is emitted, where its nodes are not too many.
-fn limited(alloc: Global, emitted: Emitted) -> Result<FlowBlock, FlowFault>
-    ensures ok { IfOk result (λ f. (f ≡ flow_in emitted) × HasRoomFor (counts_in emitted)) }
-    ensures err { IfErr result (λ e. IsRefusal (counts_in emitted) e) }
+fn limited(alloc: Global, emitted: Emitted, lasting: Lasting) -> Result<FlowBlock, FlowFault>
+    ensures ok { IfOk result (λ f.
+        (f ≡ flow_in lasting emitted) × HasRoomFor (counts_in lasting emitted)) }
+    ensures err { IfErr result (λ e. IsRefusal (counts_in lasting emitted) e) }
 {
     let insts = emitted.nodes.len();
     if insts > 128 {
@@ -105,26 +108,26 @@ fn limited(alloc: Global, emitted: Emitted) -> Result<FlowBlock, FlowFault>
         numbers,
         exits,
     } = emitted;
-    match flow(alloc, nodes, &names) {
+    match flow(alloc, nodes, &names, lasting) {
         Ok(block) => within(block, numbers, exits),
         Err(_) => Err(FlowFault::Memory),
     }
 }
 
-/// The flow block of a hyper block: guards in place of branches, and each register's sources merged.
+/// The flow block of a narrowed block: guards in place of branches, and each register's sources merged.
 ///
 /// It is `predicated` of the block, whose labels to come back to stand in constants until the blocks
-/// are laid out. It is refused where a part of it is above its limit, with the exact count: more than
-/// 128 nodes, 32 reads, 32 writes, 32 load/store numbers or 8 exits, the first of these in this
-/// order; or where memory is wanting.
-pub fn convert(alloc: Global, block: &HyperBlock) -> Result<FlowBlock, FlowFault>
-    requires labels { NamesLabels (tail_of block.now.tail) }
-    ensures ok { IfOk result (λ f. f ≡ predicated (labelled (block_of block.now))) }
-    ensures room { IfOk result (λ f. HasRoomFor (counts_of (labelled (block_of block.now)))) }
-    ensures err { IfErr result (λ e. IsRefusal (counts_of (labelled (block_of block.now))) e) }
+/// are laid out; it writes the registers that the block sets and that outlast it. It is refused where
+/// a part of it is above its limit, with the exact count: more than 128 nodes, 32 reads, 32 writes, 32
+/// load/store numbers or 8 exits, the first of these in this order; or where memory is wanting.
+pub fn convert(alloc: Global, block: &NarrowedBlock) -> Result<FlowBlock, FlowFault>
+    requires labels { NamesLabels (tail_of block.now.block.tail) }
+    ensures ok { IfOk result (λ f. f ≡ predicated (labelled (narrowed_of block.now))) }
+    ensures room { IfOk result (λ f. HasRoomFor (counts_of (labelled (narrowed_of block.now)))) }
+    ensures err { IfErr result (λ e. IsRefusal (counts_of (labelled (narrowed_of block.now))) e) }
 {
-    match emitted(alloc, block) {
-        Ok(emitted) => limited(alloc, emitted),
+    match emitted(alloc, &block.block) {
+        Ok(emitted) => limited(alloc, emitted, block.lasting),
         Err(_) => Err(FlowFault::Memory),
     }
 }

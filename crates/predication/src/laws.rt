@@ -7,8 +7,8 @@ pub fn converted_blocks_are_tidy()
     ensures { ConvertsPaths }
 {}
 
-/// A converted block means the hyper block in each layout whose addresses stand in it, and what
-/// fires is what the hyper block does.
+/// A converted block means the narrowed block in each layout whose addresses stand in it, and what
+/// fires is what the narrowed block does.
 pub fn converted_blocks_mean_the_same()
     ensures { ConvertsMeaning }
 {}

@@ -1,4 +1,4 @@
-//! From hyper blocks to flow blocks: guards in place of branches.
+//! From narrowed blocks to flow blocks: guards in place of branches.
 #![tactic(auto)]
 
 mod branching;

@@ -1,7 +1,9 @@
 //! The writes, the reads and the mask of a flow block.
 ghost use Rattle.std.specs.Prelude.{◌≡◌, ◌++◌, ◌∷◌, ◌||◌, [], ◌<◌, ◌≤◌, ◌+◌, ◌^◌, cond, nat_eq, IfOk, OnOk};
 ghost use Rattle.trips_isa.specs.Forms as forms;
+ghost use Rattle.predication.specs.inside.Environments.{member};
 ghost use Rattle.predication.specs.inside.Converted as spec;
+ghost use Rattle.predication.specs.inside.Converted.{among};
 ghost use Rattle.predication.specs.inside.Emits.{env_of};
 ghost use Rattle.predication.specs.inside.Made as made;
 ghost use Rattle.predication.specs.inside.Made.{Notes, flow_of, mask_of, member_of, reads_of, write_of};
@@ -11,23 +13,32 @@ use crate::joining::is_member;
 use crate::naming::entry_of;
 use crate::work::{Entry, Names};
 use base::{Items, Memory};
+use hyper_narrow::{Lasting, outlasts};
 use ir_forms::{FlowBlock, FlowNode, FlowSource, FlowWrite};
 use std::alloc::Global;
 use trips_isa::{Form, form_of};
 
 // WRITES
 
-// The write of one register, where it is set.
+// Whether a register is written: it is set, and outlasts the block.
+fn is_written(names: &Names, lasting: Lasting, register: u8) -> bool
+    ensures { result ≡ member register (among lasting names.now.sets) }
+{
+    is_member(register, names.sets.as_slice()) && outlasts(lasting, register)
+}
+
+// The write of one register, where it is written.
 fn push_write(
     alloc: Global,
     names: &Names,
+    lasting: Lasting,
     register: u8,
     to: &mut Items<FlowWrite>,
 ) -> Result<(), Memory>
     ensures { OnOk result (to.new
-        ≡ to.old ++ write_of (env_of names.now.entries) names.now.sets register) }
+        ≡ to.old ++ write_of (env_of names.now.entries) (among lasting names.now.sets) register) }
 {
-    if !is_member(register, names.sets.as_slice()) {
+    if !is_written(names, lasting, register) {
         return Ok(());
     }
     let Entry { given, kept: _ } = entry_of(alloc, names.entries.as_slice(), register)?;
@@ -38,24 +49,30 @@ fn push_write(
     Ok(())
 }
 
-fn writes_below(alloc: Global, names: &Names, count: u8) -> Result<Items<FlowWrite>, Memory>
+fn writes_below(
+    alloc: Global,
+    names: &Names,
+    lasting: Lasting,
+    count: u8,
+) -> Result<Items<FlowWrite>, Memory>
     ensures { IfOk result (λ ws. ws
-        ≡ spec.writes_below (env_of names.now.entries) names.now.sets count) }
+        ≡ spec.writes_below (env_of names.now.entries) (among lasting names.now.sets) count) }
 {
     let mut writes = Items::new(alloc);
     let mut register = count;
     while register > 0 {
         register -= 1;
-        push_write(alloc, names, register, &mut writes)?;
+        push_write(alloc, names, lasting, register, &mut writes)?;
     }
     Ok(writes)
 }
 
-// The writes of the registers that are set.
-fn writes(alloc: Global, names: &Names) -> Result<Items<FlowWrite>, Memory>
-    ensures { IfOk result (λ ws. ws ≡ writes_of (env_of names.now.entries) names.now.sets) }
+// The writes of the registers that are set and outlast the block.
+fn writes(alloc: Global, names: &Names, lasting: Lasting) -> Result<Items<FlowWrite>, Memory>
+    ensures { IfOk result (λ ws. ws
+        ≡ writes_of (env_of names.now.entries) (among lasting names.now.sets)) }
 {
-    writes_below(alloc, names, 128)
+    writes_below(alloc, names, lasting, 128)
 }
 
 // READS
@@ -211,12 +228,18 @@ fn mask(alloc: Global, nodes: &[FlowNode]) -> Result<u32, Memory>
 
 // THE BLOCK
 
-/// The flow block of nodes and of what registers are named at their end.
-pub fn flow(alloc: Global, nodes: Items<FlowNode>, names: &Names) -> Result<FlowBlock, Memory>
+/// The flow block of nodes and of what registers are named at their end. It writes those that are
+/// set and outlast the block.
+pub fn flow(
+    alloc: Global,
+    nodes: Items<FlowNode>,
+    names: &Names,
+    lasting: Lasting,
+) -> Result<FlowBlock, Memory>
     ensures { IfOk result (λ f. f
-        ≡ flow_of nodes (env_of names.now.entries) names.now.sets) }
+        ≡ flow_of nodes (env_of names.now.entries) (among lasting names.now.sets)) }
 {
-    let writes = writes(alloc, names)?;
+    let writes = writes(alloc, names, lasting)?;
     let reads = reads(alloc, nodes.as_slice(), writes.as_slice())?;
     let mask = mask(alloc, nodes.as_slice())?;
     Ok(FlowBlock {

@@ -2,11 +2,11 @@
 use Rattle.std.specs.Prelude.{◌≡◌, ℕ, Some, slice_get}
 use Rattle.ir_forms.specs.declared.flow.FlowNode.{FlowNode}
 use Rattle.ir_forms.specs.declared.flow.FlowBlock.{FlowBlock}
-use Rattle.ir_forms.specs.inside.Agreement.{MeansBlock}
 use Rattle.ir_forms.specs.inside.FlowFits.{IsComplete}
 use Rattle.ir_forms.specs.inside.FlowRegular.{IsRegular}
-use Rattle.ir_forms.specs.inside.HyperCode.{Block}
 use Rattle.ir_forms.specs.inside.HyperRuns.{Layout}
+use Rattle.hyper_narrow.specs.inside.NarrowedCode.{Narrowed}
+use Rattle.hyper_narrow.specs.inside.NarrowedMeaning.{MeansNarrowed}
 use Rattle.predication.specs.inside.Labels.{resolved}
 use Rattle.flow_guards.specs.inside.Unguards.{Unguards}
 
@@ -14,9 +14,10 @@ use Rattle.flow_guards.specs.inside.Unguards.{Unguards}
 abbrev pub KeepsComplete : Type 0
 KeepsComplete = (f g : FlowBlock) → Unguards f g → IsComplete f → IsComplete g
 
--- it means every hyper block that it meant
+-- it means every narrowed block that it meant
 abbrev pub KeepsMeaning : Type 0
-KeepsMeaning = (at : Layout) (b : Block) (f g : FlowBlock) → Unguards f g → MeansBlock at b f → MeansBlock at b g
+KeepsMeaning =
+    (at : Layout) (b : Narrowed) (f g : FlowBlock) → Unguards f g → MeansNarrowed at b f → MeansNarrowed at b g
 
 -- targets can be given
 abbrev pub KeepsRegular : Type 0

@@ -5,6 +5,8 @@ use Rattle.ir_forms.specs.declared.hyper.Exit.{Exit}
 use Rattle.ir_forms.specs.declared.hyper.Exit.TheVariants as exit
 use Rattle.ir_forms.specs.inside.HyperCode.{Tail, Leave, Test, Block}
 use Rattle.ir_forms.specs.inside.HyperRuns.{block_at}
+use Rattle.hyper_narrow.specs.declared.narrowed.Lasting.TheVariants.{Those}
+use Rattle.hyper_narrow.specs.inside.NarrowedCode.{Narrowed}
 use Rattle.hyper_trim.specs.inside.Sets.{bit, without, read_by, Within}
 use Rattle.hyper_trim.specs.inside.Trim.{Trimmed, ended, trim}
 
@@ -31,6 +33,19 @@ abbrev pub live_tail : List ℕ → ℕ → Tail → ℕ
 live_tail T ret (Leave e) = live_exit T ret e
 live_tail T ret (Test x one other) = bit_or (bit_or (live_tail T ret one) (live_tail T ret other)) (read_by x)
 
+-- What outlasts a block that takes an exit: what is alive where it leads. A call sets register 2 for what follows,
+-- and a return goes by it as the items left it.
+abbrev pub lasting_exit : List ℕ → ℕ → Exit → ℕ
+lasting_exit T ret (exit.Jump l) = alive_at T l
+lasting_exit T ret (exit.Call l back) = alive_at T l
+lasting_exit T ret exit.Return = ret
+lasting_exit T ret (exit.System l) = bit_or (alive_at T l) (bit_or (bit 0) (bit 3))
+
+-- a block with such a tail; its tests see every register as the items left it
+abbrev pub lasting_tail : List ℕ → ℕ → Tail → ℕ
+lasting_tail T ret (Leave e) = lasting_exit T ret e
+lasting_tail T ret (Test x one other) = bit_or (lasting_tail T ret one) (lasting_tail T ret other)
+
 -- a block's items trimmed, and what is alive at its entry
 abbrev pub trim_items : List ℕ → ℕ → Block → Trimmed
 trim_items T ret b = trim false b.items (ended (live_tail T ret b.tail))
@@ -38,6 +53,10 @@ trim_items T ret b = trim false b.items (ended (live_tail T ret b.tail))
 -- a block without the items that set what nobody reads
 abbrev pub trim_block : List ℕ → ℕ → Block → Block
 trim_block T ret b = record { items = (trim_items T ret b).items; tail = b.tail }
+
+-- and with what outlasts it
+abbrev pub narrow_block : List ℕ → ℕ → Block → Narrowed
+narrow_block T ret b = record { block = trim_block T ret b; lasting = Those (lasting_tail T ret b.tail) }
 
 -- The table has, for each block, all that is alive at its entry by what the table says of the blocks that follow it.
 -- A return may lead to every block.

@@ -1,6 +1,6 @@
 -- Items whose operands are forwarded: in the place of a register that has a copy of another register's word, or a
 -- constant, its source is read.
-use Rattle.std.specs.Prelude.{ℕ, Bool, true, false, ◌&&◌, cond, nat_eq}
+use Rattle.std.specs.Prelude.{ℕ, Bool, true, false, cond, nat_eq}
 use Rattle.trips_isa.specs.declared.op.Op.{Op}
 use Rattle.trips_isa.specs.declared.op.Op.TheVariants.{Mov}
 use Rattle.ir_forms.specs.declared.hyper.Source.{Source}

@@ -4,8 +4,9 @@ use Rattle.ir_forms.specs.inside.HyperCode.{Block}
 use Rattle.ir_forms.specs.inside.HyperFits.{FitsHyper, AllLeadOn, IsFollowed, filled_ifs, filled_in, items_in}
 use Rattle.ir_forms.specs.inside.HyperFits.{ifs_in, tests_in, exits_in}
 use Rattle.ir_forms.specs.inside.HyperRuns.{Layout, Machine, after_items, acts, exit_of, hyper_run}
-use Rattle.hyper_trim.specs.inside.Alive.{IsClosed, trim_block}
+use Rattle.hyper_trim.specs.inside.Alive.{IsClosed, narrow_block}
 use Rattle.hyper_trim.specs.inside.Forward.{forward_block}
+use Rattle.hyper_trim.specs.inside.Narrows.{Narrows}
 
 -- A block and what is left of it: no more items, the same ifs, tests and exits, and as many filled ifs.
 pub record Shaped (b c : Block) : Type 0 where
@@ -31,10 +32,10 @@ pub record Trims (P Q : List Block) : Type 0 where
   pub followed : IsFollowed P → IsFollowed Q
   pub filled : filled_in Q ≡ filled_in P
 
--- so does each closed table
-abbrev pub ClosedTablesTrim : Type 0
-ClosedTablesTrim =
-    (T : List ℕ) (ret : ℕ) (P : List Block) → IsClosed T ret P → Trims P (map (trim_block T ret) P)
+-- what a closed table leaves of a program, with what outlasts each block, does the same
+abbrev pub ClosedTablesNarrow : Type 0
+ClosedTablesNarrow =
+    (T : List ℕ) (ret : ℕ) (P : List Block) → IsClosed T ret P → Narrows P (map (narrow_block T ret) P)
 
 -- c does the same as b from every machine, with the same acts.
 pub record SameBlock (b c : Block) : Type 0 where

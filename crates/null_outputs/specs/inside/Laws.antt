@@ -12,9 +12,9 @@ use Rattle.ir_forms.specs.declared.flow.FlowBlock.{FlowBlock}
 use Rattle.ir_forms.specs.inside.FlowRuns.{AtStart, written, stored_all, exits, fired}
 use Rattle.ir_forms.specs.inside.FlowFits.{in_mask, FitsFlow, IsComplete}
 use Rattle.ir_forms.specs.inside.FlowRegular.{IsRegular}
-use Rattle.ir_forms.specs.inside.HyperCode.{Block}
+use Rattle.hyper_narrow.specs.inside.NarrowedCode.{Narrowed}
 use Rattle.ir_forms.specs.inside.HyperRuns.{Layout}
-use Rattle.ir_forms.specs.inside.Agreement.{MeansBlock}
+use Rattle.hyper_narrow.specs.inside.NarrowedMeaning.{MeansNarrowed}
 use Rattle.null_outputs.specs.inside.Covers.{guard_on}
 use Rattle.null_outputs.specs.inside.Completed.{write_size}
 use Rattle.null_outputs.specs.inside.Surely.{sure_by, Scope, Firm, has, scopes, sure_of}
@@ -62,10 +62,10 @@ CompletesBlocks = (b : FlowBlock) → Takes b → IsComplete (complete b)
 abbrev pub KeepsTables : Type 0
 KeepsTables = (b : FlowBlock) → Takes b → Keeps b (complete b)
 
--- so it means what any hyper block means that the block meant
+-- so it means what any narrowed block means that the block meant
 abbrev pub KeepsBlockMeaning : Type 0
-KeepsBlockMeaning = (at : Layout) (x : Block) (b : FlowBlock) → Takes b → MeansBlock at x b
-    → MeansBlock at x (complete b)
+KeepsBlockMeaning = (at : Layout) (x : Narrowed) (b : FlowBlock) → Takes b → MeansNarrowed at x b
+    → MeansNarrowed at x (complete b)
 
 -- how many nodes a completed block has
 abbrev pub CountsNodes : Type 0

@@ -1,4 +1,4 @@
--- The flow block of a hyper block: guards in place of branches, each register's sources merged.
+-- The flow block of a narrowed block: guards in place of branches, each register's sources merged.
 use Rattle.std.specs.Prelude.{ℕ, zero, suc, ◌+◌, ◌^◌, Bool, false, nat_eq, cond, ◌||◌, List, [], ◌∷◌}
 use Rattle.std.specs.Prelude.{◌++◌, length, None}
 use Rattle.trips_isa.specs.declared.form.Form.{Form}
@@ -10,6 +10,9 @@ use Rattle.ir_forms.specs.declared.flow.FlowNode.{FlowNode}
 use Rattle.ir_forms.specs.declared.flow.FlowWrite.{FlowWrite}
 use Rattle.ir_forms.specs.declared.flow.FlowBlock.{FlowBlock}
 use Rattle.ir_forms.specs.inside.HyperCode.{Block}
+use Rattle.hyper_narrow.specs.declared.narrowed.Lasting.{Lasting}
+use Rattle.hyper_narrow.specs.declared.narrowed.Lasting.TheVariants.{Every, Those}
+use Rattle.hyper_narrow.specs.inside.NarrowedCode.{Narrowed, is_among}
 use Rattle.predication.specs.inside.Environments.{Env, no_bits, at_start, member}
 use Rattle.predication.specs.inside.Ifs.{Out, items, touched}
 use Rattle.predication.specs.inside.Tails.{Ending, tail, tail_touched}
@@ -42,7 +45,21 @@ all_touched b = touched b.items ++ tail_touched b.tail
 
 -- WRITES
 
--- the registers below n that are set, each once
+-- those of some registers that are in a set
+abbrev pub chosen : ℕ → List ℕ → List ℕ
+chosen set [] = []
+chosen set (r ∷ rs) = cond (is_among set r) (r ∷ chosen set rs) (chosen set rs)
+
+-- those of some registers that outlast a block
+abbrev pub among : Lasting → List ℕ → List ℕ
+among Every rs = rs
+among (Those set) rs = chosen set rs
+
+-- the registers that the block writes: it sets them on some path, and they outlast it
+abbrev pub all_written : Narrowed → List ℕ
+all_written c = among c.lasting (all_touched c.block)
+
+-- the registers below n that are written, each once
 abbrev pub writes_below : Env → List ℕ → ℕ → List FlowWrite
 writes_below env rs zero = []
 writes_below env rs (suc n) =
@@ -93,12 +110,12 @@ mask_below ns (suc k) = mask_below ns k + cond (has_store ns k) (2 ^ k) 0
 
 -- THE BLOCK
 
--- the flow block of a hyper block
-abbrev pub predicated : Block → FlowBlock
-predicated b = record {
-  nodes = all_nodes b;
-  reads = reads_below (all_nodes b) (writes_below (ended b).env (all_touched b) register_count)
-      register_count;
-  writes = writes_below (ended b).env (all_touched b) register_count;
-  mask = mask_below (all_nodes b) number_count;
+-- the flow block of a narrowed block
+abbrev pub predicated : Narrowed → FlowBlock
+predicated c = record {
+  nodes = all_nodes c.block;
+  reads = reads_below (all_nodes c.block)
+      (writes_below (ended c.block).env (all_written c) register_count) register_count;
+  writes = writes_below (ended c.block).env (all_written c) register_count;
+  mask = mask_below (all_nodes c.block) number_count;
 }

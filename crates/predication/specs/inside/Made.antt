@@ -5,16 +5,17 @@ use Rattle.ir_forms.specs.declared.flow.FlowWrite.{FlowWrite}
 use Rattle.ir_forms.specs.declared.flow.FlowBlock.{FlowBlock}
 use Rattle.ir_forms.specs.inside.HyperCode.{Block}
 use Rattle.ir_forms.specs.inside.HyperFits.{exits_in}
+use Rattle.hyper_narrow.specs.declared.narrowed.Lasting.{Lasting}
 use Rattle.predication.specs.declared.work.Emitted.{Emitted}
 use Rattle.predication.specs.inside.Environments.{Env, member}
 use Rattle.predication.specs.inside.Converted.{register_count, number_count, begun, ended, all_nodes, all_touched}
-use Rattle.predication.specs.inside.Converted.{writes_below, reads_below, mask_below}
+use Rattle.predication.specs.inside.Converted.{writes_below, reads_below, mask_below, among}
 use Rattle.predication.specs.inside.Outcomes.{Counts}
 use Rattle.predication.specs.inside.Emits.{low, env_of}
 
 -- ONE REGISTER
 
--- the write of one register, where it is set
+-- the write of one register, where it is among some
 abbrev pub write_of : Env → List ℕ → ℕ → List FlowWrite
 write_of env rs r = cond (member r rs) (record { register = r; sources = (env r).given } ∷ []) []
 
@@ -41,7 +42,7 @@ mask_members found (suc k) = mask_members found k + cond (member k found) (2 ^ k
 
 -- ALL OF THEM
 
--- a write for each register that is set on some path
+-- a write for each of some registers
 unfoldable pub writes_of : Env → List ℕ → List FlowWrite
 writes_of env rs = writes_below env rs register_count
 
@@ -53,7 +54,7 @@ reads_of ns ws = reads_below ns ws register_count
 unfoldable pub mask_of : List FlowNode → ℕ
 mask_of ns = mask_below ns number_count
 
--- the flow block of nodes, of the entries at their end, and of the registers that are set
+-- the flow block of nodes, of the entries at their end, and of the registers that are written
 abbrev pub flow_of : List FlowNode → Env → List ℕ → FlowBlock
 flow_of ns env rs = record {
   nodes = ns;
@@ -74,13 +75,13 @@ counts_by f numbers exits = record {
   exits = exits;
 }
 
--- the flow block of all that is emitted, and its counts
-abbrev pub flow_in : Emitted → FlowBlock
-flow_in e = flow_of e.nodes (env_of e.names.entries) e.names.sets
+-- the flow block of all that is emitted, of which the registers are written that outlast the block
+abbrev pub flow_in : Lasting → Emitted → FlowBlock
+flow_in set e = flow_of e.nodes (env_of e.names.entries) (among set e.names.sets)
 
 -- what the code compares with the machine's limits
-abbrev pub counts_in : Emitted → Counts
-counts_in e = counts_by (flow_in e) e.numbers e.exits
+abbrev pub counts_in : Lasting → Emitted → Counts
+counts_in set e = counts_by (flow_in set e) e.numbers e.exits
 
 -- all of a block is emitted
 pub record IsEmitted (b : Block) (e : Emitted) : Type 0 where

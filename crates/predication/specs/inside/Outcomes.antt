@@ -2,7 +2,8 @@
 use Rattle.std.specs.Prelude.{◌≡◌, ℕ, ◌<◌, ◌≤◌, length}
 use Rattle.ir_forms.specs.declared.hyper.Exit.{Exit}
 use Rattle.ir_forms.specs.declared.hyper.Exit.TheVariants as exit
-use Rattle.ir_forms.specs.inside.HyperCode.{Tail, Leave, Test, Block}
+use Rattle.ir_forms.specs.inside.HyperCode.{Tail, Leave, Test}
+use Rattle.hyper_narrow.specs.inside.NarrowedCode.{Narrowed}
 use Rattle.ir_forms.specs.inside.HyperFits.{exits_in}
 use Rattle.ir_forms.specs.declared.fault.Part.{Part}
 use Rattle.ir_forms.specs.declared.fault.Part.TheVariants.{Insts, Reads, Writes, Numbers, Exits}
@@ -43,13 +44,13 @@ pub record Counts : Type 0 where
   pub exits : ℕ
 
 -- the counts of a block that is converted, whatever they are
-unfoldable pub counts_of : Block → Counts
-counts_of b = record {
-  insts = length (all_nodes b);
-  reads = length (predicated b).reads;
-  writes = length (predicated b).writes;
-  numbers = (begun b).number;
-  exits = exits_in b.tail;
+unfoldable pub counts_of : Narrowed → Counts
+counts_of c = record {
+  insts = length (all_nodes c.block);
+  reads = length (predicated c).reads;
+  writes = length (predicated c).writes;
+  numbers = (begun c.block).number;
+  exits = exits_in c.block.tail;
 }
 
 -- a machine block has room for these

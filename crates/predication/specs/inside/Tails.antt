@@ -11,6 +11,7 @@ use Rattle.ir_forms.specs.declared.flow.FlowSource.TheVariants.{Node}
 use Rattle.ir_forms.specs.declared.flow.FlowNode.{FlowNode}
 use Rattle.ir_forms.specs.inside.HyperCode.{Tail, Leave, Test, Block}
 use Rattle.ir_forms.specs.inside.HyperRuns.{Layout}
+use Rattle.hyper_narrow.specs.inside.NarrowedCode.{Narrowed}
 use Rattle.predication.specs.inside.Environments.{Scope, Env, Bits, no_bits, under, put, from_node, distinct}
 use Rattle.predication.specs.inside.Operands.{Chain, Got, constant_of, mov_of, operand, tested}
 use Rattle.predication.specs.inside.Ifs.{Joined, join}
@@ -52,12 +53,19 @@ abbrev pub block_with : (ℕ → ℕ) → Block → Block
 block_with f b = record { items = b.items; tail = tail_with f b.tail }
 
 -- a block whose labels to come back to are addresses, where the layout puts them
-abbrev pub addressed : Layout → Block → Block
-addressed at b = block_with at.address b
+abbrev pub addressed_block : Layout → Block → Block
+addressed_block at b = block_with at.address b
 
 -- a block that holds its labels until the blocks are laid out
-abbrev pub labelled : Block → Block
-labelled b = block_with (λ l. address_end + l) b
+abbrev pub labelled_block : Block → Block
+labelled_block b = block_with (λ l. address_end + l) b
+
+-- the same of narrowed blocks, which the same registers outlast
+abbrev pub addressed : Layout → Narrowed → Narrowed
+addressed at c = record { block = addressed_block at c.block; lasting = c.lasting }
+
+abbrev pub labelled : Narrowed → Narrowed
+labelled c = record { block = labelled_block c.block; lasting = c.lasting }
 
 -- EXITS
 

@@ -1,0 +1,3 @@
+pub mod BareBlocks
+pub mod WholeRuns
+pub mod WordsKept

@@ -1,0 +1,5 @@
+pub mod Laws
+pub mod NarrowedCode
+pub mod NarrowedMeaning
+pub mod NarrowedRuns
+pub mod NarrowedViews
