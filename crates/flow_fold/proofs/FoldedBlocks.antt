@@ -1,25 +1,29 @@
 -- A block with a folded node may stand for the block.
-use Rattle.std.proofs.Common.{◌≡◌, ◌≢◌, ℕ, List, sym, ap, subst, ◌∙◌, map, true}
-use Rattle.std.specs.Prelude.{ℤ, Some, Option, slice_get, option_map}
+use Rattle.std.proofs.Common.{◌≡◌, ◌≢◌, ℕ, List, refl, sym, ap, subst, ◌∙◌, map, cond, Bool, true, false}
+use Rattle.std.specs.Prelude.{ℤ, Some, None, Option, slice_get, option_map}
 use Rattle.std.proofs.lemmas.List.{map-set}
 use Rattle.std.proofs.lemmas.Option.{slice_get-map, same_Some}
 use Rattle.trips_isa.specs.declared.op.Op.{Op}
+use Rattle.trips_isa.specs.Forms.{form_of}
 use Rattle.ir_forms.specs.declared.flow.FlowSource.{FlowSource}
 use Rattle.ir_forms.specs.declared.flow.Guard.{Guard}
 use Rattle.ir_forms.specs.declared.flow.FlowNode.{FlowNode}
 use Rattle.ir_forms.specs.declared.flow.FlowBlock.{FlowBlock}
-use Rattle.ir_forms.specs.inside.Agreement.{MeansBlock}
 use Rattle.ir_forms.specs.inside.FlowFits.{IsComplete}
+use Rattle.hyper_narrow.specs.inside.NarrowedMeaning.{MeansNarrowed}
 use Rattle.flow_fold.specs.inside.Immediates.{immediate_of, gives_constant}
 use Rattle.flow_fold.specs.inside.Folds.{with_constant, with_left, with_right, with_node, Turns, immediate}
-use Rattle.flow_fold.specs.inside.Folds.{left_copy, right_copy}
+use Rattle.flow_fold.specs.inside.Folds.{left_copy, right_copy, offset}
 use Rattle.flow_fold.specs.inside.Folds.{Folds}
+use Rattle.flow_fold.specs.inside.Offsets.{has_address, with_offset, summed}
 use Rattle.flow_fold.specs.inside.Replaces.{Immediates, with_immediate, with_immediates, LeavesOwn, Replaces}
 use Rattle.flow_fold.proofs.ConstantFacts.{immediate_is, constants_stay, small_own, Small, small_is}
 use Rattle.flow_fold.proofs.Turned.{Written, Works}
 use Rattle.flow_fold.proofs.Turning.{constant_written, constant_works}
 use Rattle.flow_fold.proofs.Forwarded.{Copied, copied_is}
 use Rattle.flow_fold.proofs.CopyRules.{left_written, left_works, right_written, right_works}
+use Rattle.flow_fold.proofs.OffsetFacts.{Moves, Offsetly, summed_is}
+use Rattle.flow_fold.proofs.OffsetRules.{offset_written, offset_works}
 use Rattle.flow_fold.proofs.Replacing.{regular_kept, complete_kept, means_kept, labels_kept}
 
 -- both parts of what a turned node has to do
@@ -81,17 +85,34 @@ rightly f j n m there c =
       works = right_works f j n there c.sources c.copy;
     })
 
+-- the rule of offsets, of a node with an address
+record Addressed (nodes : List FlowNode) (j : ℕ) (n m : FlowNode) : Type 0 where
+  address : has_address (form_of n.op) ≡ true
+  sum : Offsetly nodes j n m
+
+addressed : (f : FlowBlock) (j : ℕ) (n m : FlowNode) → slice_get f.nodes j ≡ Some n → Addressed f.nodes j n m
+    → Stands f j n m
+addressed f j n m there c =
+    let o = c.sum in
+    subst (λ (x : FlowNode). Stands f j n x) (sym o.is)
+    (record {
+      written = offset_written f j n there o.node o.number o.sum c.address;
+      works = offset_works f j n there o.node o.number o.sum c.address;
+    })
+
 -- the rules, with the nodes that they look at
 data How (nodes : List FlowNode) (j : ℕ) (n m : FlowNode) : Type 0 where
   by_constant : Constantly nodes n m → How nodes j n m
   by_left : Leftly nodes j n m → How nodes j n m
   by_right : Rightly nodes j n m → How nodes j n m
+  by_offset : Addressed nodes j n m → How nodes j n m
 
 how_stands : (f : FlowBlock) (j : ℕ) (n m : FlowNode) → slice_get f.nodes j ≡ Some n → How f.nodes j n m
     → Stands f j n m
 how_stands f j n m there (by_constant c) = constantly f j n m there c
 how_stands f j n m there (by_left c) = leftly f j n m there c
 how_stands f j n m there (by_right c) = rightly f j n m there c
+how_stands f j n m there (by_offset c) = addressed f j n m there c
 
 module _ (r : Immediates) (own : LeavesOwn r) where
   abbrev new : FlowNode → FlowNode
@@ -134,6 +155,30 @@ module _ (r : Immediates) (own : LeavesOwn r) where
     left = c.left;
   }
 
+  -- and a sum with its offset
+  sum_kept : (nodes : List FlowNode) (j : ℕ) (n m : FlowNode) → Offsetly nodes j n m
+      → Offsetly (map new nodes) j (new n) (new m)
+  sum_kept nodes j n m o =
+      let s = o.sum in
+      let w = s.moves in
+      let a : r o.node.op o.node.imm ≡ o.node.imm = own o.node.op o.node.imm (small_own o.node.imm w.added) in
+      let b : r n.op n.imm ≡ n.imm = own n.op n.imm (small_own n.imm w.offset) in
+      let i = own n.op o.number (small_own o.number w.sum) in
+      record {
+        node = new o.node;
+        number = o.number;
+        sum = record {
+          place = s.place;
+          sources = s.sources;
+          there = slice_get-map new nodes s.place ∙ ap (option_map new) s.there;
+          apart = s.apart;
+          guard = s.guard;
+          moves = subst (λ (z : ℤ). Moves o.node.op z (r n.op n.imm) o.number) (sym a)
+              (subst (λ (z : ℤ). Moves o.node.op o.node.imm z o.number) (sym b) w);
+        };
+        is = ap new o.is ∙ ap (λ (z : ℤ). with_offset n o.node.left z) i;
+      }
+
   -- so each rule still applies
   how_kept : (nodes : List FlowNode) (j : ℕ) (n m : FlowNode) → How nodes j n m
       → How (map new nodes) j (new n) (new m)
@@ -148,6 +193,14 @@ module _ (r : Immediates) (own : LeavesOwn r) where
     copy = copy_kept nodes j n.guard n.right c.sources c.copy;
     is = ap new c.is;
   })
+  how_kept nodes j n m (by_offset c) =
+      by_offset (record { address = c.address; sum = sum_kept nodes j n m c.sum })
+
+-- a node with an address, where there is one that the rule makes
+address_found : (nodes : List FlowNode) (j : ℕ) (n m : FlowNode) (b : Bool) → has_address (form_of n.op) ≡ b
+    → cond b (summed nodes j n n.left) None ≡ Some m → Addressed nodes j n m
+address_found nodes j n m true a e = record { address = a; sum = summed_is nodes j n m n.left refl e }
+address_found nodes j n m false a e = absurd (cc)
 
 turned : (nodes : List FlowNode) (j : ℕ) (n m : FlowNode) → Turns nodes j n m → How nodes j n m
 turned nodes j n m (immediate i o s p e) =
@@ -156,6 +209,7 @@ turned nodes j n m (left_copy ss s e) =
     by_left (record { sources = ss; copy = copied_is nodes j n.guard n.left ss s; is = e })
 turned nodes j n m (right_copy ss s e) =
     by_right (record { sources = ss; copy = copied_is nodes j n.guard n.right ss s; is = e })
+turned nodes j n m (offset e) = by_offset (address_found nodes j n m (has_address (form_of n.op)) refl e)
 
 module _ (f : FlowBlock) (j : ℕ) (n m : FlowNode) (there : slice_get f.nodes j ≡ Some n) (c : How f.nodes j n m)
   where
@@ -189,7 +243,7 @@ module _ (f : FlowBlock) (j : ℕ) (n m : FlowNode) (there : slice_get f.nodes j
           t.complete);
       means = λ r own t at b x.
           let s = resolved r own in
-          subst (λ (z : FlowBlock). MeansBlock at b z) (same r own)
+          subst (λ (z : FlowBlock). MeansNarrowed at b z) (same r own)
           (means_kept (ff r own) j (with_immediate r n) (with_immediate r m) (there_too r own) s.written s.works at b
           x);
       labels = λ y x e t. labels_kept f j n m there plain.written y x e t;

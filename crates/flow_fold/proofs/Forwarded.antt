@@ -52,7 +52,8 @@ sense_is OnTrue OnFalse e = absurd (cc)
 sense_is OnFalse Always e = absurd (cc)
 sense_is OnFalse OnTrue e = absurd (cc)
 
-covers_is : (a g : Option Guard) → covers a g ≡ true → (a ≡ None) ⊎ (a ≡ g)
+-- a guard that is surely met where another is: there is none, or it is the other
+pub covers_is : (a g : Option Guard) → covers a g ≡ true → (a ≡ None) ⊎ (a ≡ g)
 covers_is None g e = inl refl
 covers_is (Some a) None e = absurd (cc)
 covers_is (Some a) (Some b) e =
@@ -103,7 +104,7 @@ copied_is nodes j g (Node k ∷ []) ls e = at (nat_eq k j) refl e
     at true q d = absurd (cc)
     at false q d = at_node (eqb-false k j q) (slice_get nodes k) refl d
 
-or_none : (t : Answer) → or_else t None ≡ t
+pub or_none : (t : Answer) → or_else t None ≡ t
 or_none None = refl
 or_none (Some t) = refl
 

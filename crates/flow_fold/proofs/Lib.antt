@@ -4,10 +4,13 @@ pub mod Names
 pub mod ConstantFacts
 pub mod Rounds
 pub mod Turned
+pub mod Placing
 pub mod Tables
 pub mod Turning
 pub mod Forwarded
 pub mod CopyRules
+pub mod OffsetFacts
+pub mod OffsetRules
 pub mod Replacing
 pub mod FoldedBlocks
 pub mod Following
@@ -17,3 +20,10 @@ pub mod Left
 pub mod Stayed
 pub mod SweptBlocks
 pub mod SweptAway
+pub mod StayingNumbers
+pub mod SweptInSteps
+pub mod SweptAtOnce
+pub mod NumberTables
+pub mod TwinRanks
+pub mod TwinCopies
+pub mod SharedBlocks

@@ -1,7 +1,7 @@
 -- A block with one node in the place of another: it stays complete and regular, and means the same.
 use Rattle.std.proofs.Common.{◌≡◌, ◌≢◌, ℕ, ◌+◌, ◌<◌, List, ◌⊎◌, inl, inr, refl, sym, ap, subst, ◌∙◌}
 use Rattle.std.proofs.Common.{arith, length, ◌≤◌, true, false}
-use Rattle.std.specs.Prelude.{Some, None, Option, All, slice_get}
+use Rattle.std.specs.Prelude.{Some, None, Option, All, slice_get, slice_set}
 use Rattle.std.proofs.lemmas.Bool.{cases_eq, or_cases}
 use Rattle.std.proofs.lemmas.List.{length-set}
 use Rattle.std.proofs.lemmas.Option.{same_Some}
@@ -9,21 +9,22 @@ use Rattle.trips_isa.specs.declared.block.Token.{Token}
 use Rattle.trips_isa.specs.declared.block.Token.TheVariants.{Null}
 use Rattle.trips_isa.specs.declared.block.Inst.{Inst}
 use Rattle.trips_isa.specs.declared.block.Stored.{Stored}
+use Rattle.trips_isa.specs.Forms.{form_of}
 use Rattle.trips_isa.specs.Rule.{Answer}
 use Rattle.ir_forms.specs.declared.flow.FlowSource.{FlowSource}
 use Rattle.ir_forms.specs.declared.flow.FlowSource.TheVariants.{Read, Node}
 use Rattle.ir_forms.specs.declared.flow.Guard.{Guard}
 use Rattle.ir_forms.specs.declared.flow.FlowNode.{FlowNode}
 use Rattle.ir_forms.specs.declared.flow.FlowBlock.{FlowBlock}
-use Rattle.ir_forms.specs.inside.Agreement.{MeansBlock}
-use Rattle.ir_forms.specs.inside.HyperCode.{Block}
 use Rattle.ir_forms.specs.inside.HyperRuns.{Layout}
 use Rattle.ir_forms.specs.inside.FlowRuns.{Computes, OnPath, AtStart, Obeys, gives, meant, stores, guard_token}
 use Rattle.ir_forms.specs.inside.FlowRuns.{tokens}
 use Rattle.ir_forms.specs.inside.FlowRuns.{exits}
 use Rattle.ir_forms.specs.inside.FlowFits.{FitsNode, FitsWrite, FitsFlowSource, FitsGuard, FitsFlow, IsComplete}
-use Rattle.ir_forms.specs.inside.FlowFits.{HasOrder, AtMostOne, IsTidy, in_mask}
-use Rattle.ir_forms.specs.inside.FlowRegular.{IsRegular, is_named, nodes_name, writes_name}
+use Rattle.ir_forms.specs.inside.FlowFits.{HasOrder, Rises, AtMostOne, IsTidy, in_mask}
+use Rattle.ir_forms.specs.inside.FlowRegular.{IsRegular, is_named, is_silent, nodes_name, writes_name}
+use Rattle.hyper_narrow.specs.inside.NarrowedCode.{Narrowed}
+use Rattle.hyper_narrow.specs.inside.NarrowedMeaning.{MeansNarrowed}
 use Rattle.flow_fold.specs.inside.Folds.{with_node}
 use Rattle.flow_fold.specs.inside.Replaces.{Stands, names_label}
 use Rattle.flow_fold.proofs.Places.{all_at, all_of, set_here, set_there, set_origin}
@@ -31,25 +32,26 @@ use Rattle.flow_fold.proofs.Echoes.{echo, echoed, obeys_at, obeys_of}
 use Rattle.flow_fold.proofs.Names.{false_unless, or_first, or_second, not_first, not_second, node_names}
 use Rattle.flow_fold.proofs.Names.{named_at, namer}
 use Rattle.flow_fold.proofs.Turned.{Written, Works}
+use Rattle.flow_fold.proofs.Placing.{Ordered, Placed, placed}
 use Rattle.flow_fold.proofs.Tables.{stores_kept, memory_kept, fired_kept, exits_kept, tokens_kept}
 
--- each node may stand in its own place
-itself : (f : FlowBlock) (j : ℕ) (n : FlowNode) → slice_get f.nodes j ≡ Some n → Written f j n n
+-- each node may be put in its own place
+itself : (f : FlowBlock) (j : ℕ) (n : FlowNode) → slice_get f.nodes j ≡ Some n → Placed f j n n
 itself f j n e = record {
   fits = λ all x. x;
-  rises = λ rank o. o.sources j n e;
+  orders = λ rank o. record { rank = rank; order = o; rises = o.sources j n e };
   load = λ l. (l, refl);
   store = λ l. (l, refl);
   silent = λ s. s;
   operands = λ t. t;
   guards = λ s. s;
-  reads = λ r t. t;
-  names = λ y t. named_at (Node y) f.nodes j n e t;
+  reads = λ r t. named_at (Read r) (slice_set f.nodes j n) j n (set_here f.nodes j n n e) t;
+  names = λ y x d s t. named_at (Node y) f.nodes j n e t;
   label = λ t. record { place = j; node = n; there = e; op = refl; imm = refl };
 }
 
 module _ (f : FlowBlock) (j : ℕ) (n m : FlowNode) (there : slice_get f.nodes j ≡ Some n)
-    (written : Written f j n m) where
+    (put : Placed f j n m) where
   abbrev g : FlowBlock
   g = with_node f j m
 
@@ -57,7 +59,7 @@ module _ (f : FlowBlock) (j : ℕ) (n m : FlowNode) (there : slice_get f.nodes j
   record Before (y : ℕ) (x : FlowNode) : Type 0 where
     node : FlowNode
     is : slice_get f.nodes y ≡ Some node
-    may : Written f y node x
+    may : Placed f y node x
 
   before : (y : ℕ) (x : FlowNode) → slice_get g.nodes y ≡ Some x → Before y x
   before y x e = pick (set_origin f.nodes j y m x e)
@@ -65,7 +67,7 @@ module _ (f : FlowBlock) (j : ℕ) (n m : FlowNode) (there : slice_get f.nodes j
       pick : ((y ≡ j) × (m ≡ x)) ⊎ ((y ≢ j) × (slice_get f.nodes y ≡ Some x)) → Before y x
       pick (inl d) =
           subst (λ (z : FlowNode). Before y z) d.1
-          (subst (λ (i : ℕ). Before i m) (sym d.0) (record { node = n; is = there; may = written }))
+          (subst (λ (i : ℕ). Before i m) (sym d.0) (record { node = n; is = there; may = put }))
       pick (inr d) = record { node = x; is = d.1; may = itself f y x d.1 }
 
   long : length g.nodes ≡ length f.nodes
@@ -100,21 +102,28 @@ module _ (f : FlowBlock) (j : ℕ) (n m : FlowNode) (there : slice_get f.nodes j
       let b = all_at (FitsWrite f) f.writes a y w e in
       record { register = b.register; sources = sources_fit w.sources b.sources })
 
-  order_kept : (rank : ℕ → ℕ) → HasOrder f rank → HasOrder g rank
-  order_kept rank o = record {
-    sources = λ y x e. (before y x e).may.rises rank o;
+  order_kept : (w : Ordered f j m) → HasOrder g w.rank
+  order_kept w = record {
+    sources = λ y x e. at y x (set_origin f.nodes j y m x e);
     stores = λ a b x y ea eb fa fb l.
         let p = before a x ea in
         let q = before b y eb in
         let s = p.may.store fa in
         let t = q.may.load fb in
-        o.stores a b p.node q.node p.is q.is s.0 t.0
+        w.order.stores a b p.node q.node p.is q.is s.0 t.0
         (subst (λ (z : ℕ). z < q.node.number) s.1 (subst (λ (z : ℕ). x.number < z) t.1 l));
   }
+    where
+      at : (y : ℕ) (x : FlowNode) → ((y ≡ j) × (m ≡ x)) ⊎ ((y ≢ j) × (slice_get f.nodes y ≡ Some x))
+          → Rises w.rank (w.rank y) x
+      at y x (inl d) =
+          subst (λ (z : FlowNode). Rises w.rank (w.rank y) z) d.1
+          (subst (λ (i : ℕ). Rises w.rank (w.rank i) m) (sym d.0) w.rises)
+      at y x (inr d) = w.order.sources y x d.1
 
   -- each branch leads where it led
-  pub labels_kept : (y : ℕ) (x : FlowNode) → slice_get g.nodes y ≡ Some x → names_label x.op ≡ true → Stands f x
-  labels_kept y x e t = (before y x e).may.label t
+  pub labels_placed : (y : ℕ) (x : FlowNode) → slice_get g.nodes y ≡ Some x → names_label x.op ≡ true → Stands f x
+  labels_placed y x e t = (before y x e).may.label t
 
   still_named : (r : ℕ) → is_named f (Read r) ≡ true → is_named g (Read r) ≡ true
   still_named r e = pick (or_cases (nodes_name (Read r) f.nodes) (writes_name (Read r) f.writes) e)
@@ -123,8 +132,7 @@ module _ (f : FlowBlock) (j : ℕ) (n m : FlowNode) (there : slice_get f.nodes j
           → (y ≡ j) ⊎ (y ≡ j → ⊥) → nodes_name (Read r) g.nodes ≡ true
       at y x s t (inl d) =
           let same : x ≡ n = same_Some x n (sym s ∙ (ap (λ (i : ℕ). slice_get f.nodes i) d ∙ there)) in
-          named_at (Read r) g.nodes j m (set_here f.nodes j n m there)
-          (written.reads r (subst (λ (z : FlowNode). node_names (Read r) z ≡ true) same t))
+          put.reads r (subst (λ (z : FlowNode). node_names (Read r) z ≡ true) same t)
       at y x s t (inr d) = named_at (Read r) g.nodes y x (set_there f.nodes j y m d ∙ s) t
 
       pick : (nodes_name (Read r) f.nodes ≡ true) ⊎ (writes_name (Read r) f.writes ≡ true)
@@ -135,20 +143,21 @@ module _ (f : FlowBlock) (j : ℕ) (n m : FlowNode) (there : slice_get f.nodes j
           (at w.place w.node w.there w.names (cases_eq w.place j))
       pick (inr t) = or_second (nodes_name (Read r) g.nodes) (writes_name (Read r) f.writes) t
 
-  still_unnamed : (i : ℕ) → is_named f (Node i) ≡ false → is_named g (Node i) ≡ false
-  still_unnamed i e = false_unless (is_named g (Node i)) (λ t.
+  still_unnamed : (i : ℕ) (x : FlowNode) → slice_get f.nodes i ≡ Some x → is_silent (form_of x.op) ≡ true
+      → is_named f (Node i) ≡ false → is_named g (Node i) ≡ false
+  still_unnamed i x s u e = false_unless (is_named g (Node i)) (λ t.
       pick (or_cases (nodes_name (Node i) g.nodes) (writes_name (Node i) f.writes) t))
     where
       pick : (nodes_name (Node i) g.nodes ≡ true) ⊎ (writes_name (Node i) f.writes ≡ true) → ⊥
       pick (inl t) =
           let w = namer (Node i) g.nodes t in
           not_first (nodes_name (Node i) f.nodes) (writes_name (Node i) f.writes) e
-          ((before w.place w.node w.there).may.names i w.names)
+          ((before w.place w.node w.there).may.names i x s u w.names)
       pick (inr t) = not_second (nodes_name (Node i) f.nodes) (writes_name (Node i) f.writes) e t
 
   -- the block is still regular
-  pub regular_kept : IsRegular f → IsRegular g
-  regular_kept r = record {
+  pub regular_placed : IsRegular f → IsRegular g
+  regular_placed r = record {
     registers = r.registers;
     loads = λ a b x y ea eb fa fb s.
         let p = before a x ea in
@@ -171,7 +180,9 @@ module _ (f : FlowBlock) (j : ℕ) (n m : FlowNode) (there : slice_get f.nodes j
     reads = r.reads;
     used = λ i k e. still_named k (r.used i k e);
     silent = λ y x e s.
-        let p = before y x e in still_unnamed y (r.silent y p.node p.is (p.may.silent s));
+        let p = before y x e in
+        let u = p.may.silent s in
+        still_unnamed y p.node p.is u (r.silent y p.node p.is u);
   }
 
   module _ (works : Works f j n m) where
@@ -222,7 +233,7 @@ module _ (f : FlowBlock) (j : ℕ) (n m : FlowNode) (there : slice_get f.nodes j
       nodes = nodes_fit fits.nodes;
       writes = writes_fit fits.writes;
       mask = fits.mask;
-      order = (fits.order.0, order_kept fits.order.0 fits.order.1);
+      order = let w = put.orders fits.order.0 fits.order.1 in (w.rank, order_kept w);
       tidy = λ regs c h o. tidy_kept regs c h o (fits.tidy regs (echo h) h (old_path regs c h o));
       one = λ regs c h o.
           let t = fits.one regs (echo h) h (old_path regs c h o) in
@@ -234,8 +245,8 @@ module _ (f : FlowBlock) (j : ℕ) (n m : FlowNode) (there : slice_get f.nodes j
     }
 
     -- the block is still complete
-    pub complete_kept : IsComplete f → IsComplete g
-    complete_kept c = record {
+    pub complete_placed : IsComplete f → IsComplete g
+    complete_placed c = record {
       fits = fits_kept c.fits;
       all = λ regs a h o.
           let t = c.all regs (echo h) h (old_path regs a h o) in
@@ -261,8 +272,8 @@ module _ (f : FlowBlock) (j : ℕ) (n m : FlowNode) (there : slice_get f.nodes j
             (set_there f.nodes j y m d ∙ s)
 
     -- the block still means what it meant
-    pub means_kept : (at : Layout) (b : Block) → MeansBlock at b f → MeansBlock at b g
-    means_kept at b means machine h words o =
+    pub means_placed : (at : Layout) (b : Narrowed) → MeansNarrowed at b f → MeansNarrowed at b g
+    means_placed at b means machine h words o =
         let c = means machine h words (old_start machine.registers machine.memory h o) in
         let d = works.deeds machine.registers machine.memory h o in
         record {
@@ -271,3 +282,24 @@ module _ (f : FlowBlock) (j : ℕ) (n m : FlowNode) (there : slice_get f.nodes j
           exit = record { branch = c.exit.branch; only = same_exits h ∙ c.exit.only; is = c.exit.is };
           acts = fired_kept machine.registers h n m d f.nodes j there ∙ c.acts;
         }
+
+-- THE SAME OF A NODE THAT MAY BE WRITTEN THERE
+
+module _ (f : FlowBlock) (j : ℕ) (n m : FlowNode) (there : slice_get f.nodes j ≡ Some n)
+    (written : Written f j n m) where
+  put_there : Placed f j n m
+  put_there = placed f j n m there written
+
+  pub labels_kept : (y : ℕ) (x : FlowNode) → slice_get (with_node f j m).nodes y ≡ Some x → names_label x.op ≡ true
+      → Stands f x
+  labels_kept = labels_placed f j n m there put_there
+
+  pub regular_kept : IsRegular f → IsRegular (with_node f j m)
+  regular_kept = regular_placed f j n m there put_there
+
+  pub complete_kept : Works f j n m → IsComplete f → IsComplete (with_node f j m)
+  complete_kept = complete_placed f j n m there put_there
+
+  pub means_kept : Works f j n m → (at : Layout) (b : Narrowed) → MeansNarrowed at b f
+      → MeansNarrowed at b (with_node f j m)
+  means_kept = means_placed f j n m there put_there

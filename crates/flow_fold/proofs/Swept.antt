@@ -31,7 +31,7 @@ use Rattle.flow_fold.proofs.Lowered.{met_low, stored_low, acts_same, leaves_same
 -- AN IDLE NODE
 
 -- it stores nothing
-idle_stored : (regs : ℕ → ℕ) (h : ℕ → Answer) (n : FlowNode) (f : Form) → is_idle_form f n.op ≡ true → (q : ℕ)
+pub idle_stored : (regs : ℕ → ℕ) (h : ℕ → Answer) (n : FlowNode) (f : Form) → is_idle_form f n.op ≡ true → (q : ℕ)
     → stored_in f regs h n q ≡ None
 idle_stored regs h n Store e q = absurd (cc)
 idle_stored regs h n General e q = refl
@@ -45,7 +45,7 @@ undivided n l r true e = absurd (cc)
 undivided n l r false e = refl
 
 -- it cannot fault
-idle_acts : (n : FlowNode) (f : Form) → is_idle_form f n.op ≡ true → (calm : divides n.op ≡ false) (l r : Answer)
+pub idle_acts : (n : FlowNode) (f : Form) → is_idle_form f n.op ≡ true → (calm : divides n.op ≡ false) (l r : Answer)
     → act_tokens f n l r ≡ []
 idle_acts n Load e d l r = absurd (cc)
 idle_acts n Store e d l r = absurd (cc)
@@ -67,7 +67,7 @@ idle_acts n Constant e d (Some (Word l)) (Some Null) = refl
 idle_acts n Constant e d (Some (Word l)) (Some (Word r)) = rw d refl
 
 -- it leaves by no exit
-idle_leaves : (n : FlowNode) (f : Form) → is_idle_form f n.op ≡ true → (t : Answer) → leaving_in f n t ≡ []
+pub idle_leaves : (n : FlowNode) (f : Form) → is_idle_form f n.op ≡ true → (t : Answer) → leaving_in f n t ≡ []
 idle_leaves n Branch e t = absurd (cc)
 idle_leaves n General e t = refl
 idle_leaves n Immediate e t = refl
@@ -76,7 +76,8 @@ idle_leaves n Load e t = refl
 idle_leaves n Store e t = refl
 
 -- it gives no store number a token
-idle_numbered : (n : FlowNode) (f : Form) → is_idle_form f n.op ≡ true → (t : Answer) (q : ℕ) → numbered f n t q ≡ 0
+pub idle_numbered : (n : FlowNode) (f : Form) → is_idle_form f n.op ≡ true → (t : Answer) (q : ℕ)
+    → numbered f n t q ≡ 0
 idle_numbered n Store e t q = absurd (cc)
 idle_numbered n General e t q = refl
 idle_numbered n Immediate e t q = refl

@@ -8,9 +8,9 @@ use Rattle.ir_forms.specs.declared.flow.FlowSource.{FlowSource}
 use Rattle.ir_forms.specs.declared.flow.FlowSource.TheVariants.{Node}
 use Rattle.ir_forms.specs.declared.flow.FlowNode.{FlowNode}
 use Rattle.ir_forms.specs.declared.flow.FlowBlock.{FlowBlock}
-use Rattle.ir_forms.specs.inside.Agreement.{MeansBlock}
 use Rattle.ir_forms.specs.inside.FlowFits.{IsComplete}
 use Rattle.ir_forms.specs.inside.FlowRegular.{is_among, guards_by, nodes_name, writes_name, is_named}
+use Rattle.hyper_narrow.specs.inside.NarrowedMeaning.{MeansNarrowed}
 use Rattle.flow_fold.specs.inside.Replaces.{Immediates, with_immediate, with_immediates, Replaces}
 use Rattle.flow_fold.specs.inside.Sweeps.{lower_node, left_nodes, without, is_idle, may_go, takes_all, Sweeps}
 use Rattle.flow_fold.proofs.Stayed.{before, regular_kept}
@@ -75,7 +75,7 @@ module _ (f : FlowBlock) (k : ℕ) (s : Going f k) (unnamed : is_named f (Node k
   stands_for taken = record {
     regular = λ r own t. regular_kept f k s.node s.there s.idle unnamed t.regular taken;
     complete = λ r own t. complete_too r t.complete;
-    means = λ r own t at b x. subst (λ (z : FlowBlock). MeansBlock at b z) (same r)
+    means = λ r own t at b x. subst (λ (z : FlowBlock). MeansNarrowed at b z) (same r)
         (means_kept (ff r) k (with_immediate r s.node) (there_too r) s.idle (unnamed_too r) at b x);
     labels = λ y x e t.
         let b = before f k s.node s.there s.idle unnamed y x e in

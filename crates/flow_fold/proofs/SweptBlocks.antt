@@ -16,8 +16,6 @@ use Rattle.trips_isa.specs.Stores.{bytes_seen}
 use Rattle.ir_forms.specs.declared.flow.FlowSource.TheVariants.{Node}
 use Rattle.ir_forms.specs.declared.flow.FlowNode.{FlowNode}
 use Rattle.ir_forms.specs.declared.flow.FlowBlock.{FlowBlock}
-use Rattle.ir_forms.specs.inside.Agreement.{MeansBlock}
-use Rattle.ir_forms.specs.inside.HyperCode.{Block}
 use Rattle.ir_forms.specs.inside.HyperRuns.{Layout}
 use Rattle.ir_forms.specs.inside.FlowRuns.{Computes, OnPath, AtStart, Obeys, gives, meant, stores, guard_token}
 use Rattle.ir_forms.specs.inside.FlowRuns.{tokens}
@@ -26,6 +24,8 @@ use Rattle.ir_forms.specs.inside.FlowFits.{FitsFlow}
 use Rattle.ir_forms.specs.inside.FlowFits.{IsComplete, AtMostOne, IsTidy}
 use Rattle.ir_forms.specs.inside.FlowRegular.{is_named, nodes_name}
 use Rattle.ir_forms.specs.inside.FlowRegular.{writes_name}
+use Rattle.hyper_narrow.specs.inside.NarrowedCode.{Narrowed}
+use Rattle.hyper_narrow.specs.inside.NarrowedMeaning.{MeansNarrowed}
 use Rattle.flow_fold.specs.inside.Sweeps.{lower, lower_node}
 use Rattle.flow_fold.specs.inside.Sweeps.{without}
 use Rattle.flow_fold.specs.inside.Sweeps.{is_idle}
@@ -198,7 +198,7 @@ module _ (f : FlowBlock) (k : ℕ) (gone : FlowNode) (there : slice_get f.nodes 
         o)
 
   -- the block still means what it meant
-  pub means_kept : (at : Layout) (b : Block) → MeansBlock at b f → MeansBlock at b g
+  pub means_kept : (at : Layout) (b : Narrowed) → MeansNarrowed at b f → MeansNarrowed at b g
   means_kept at b means machine h words o =
       let regs = machine.registers in
       let mem = machine.memory in

@@ -1,6 +1,9 @@
 pub mod Replaces
 pub mod Immediates
 pub mod Copies
+pub mod Offsets
 pub mod Folds
 pub mod Sweeps
+pub mod SweepsAll
+pub mod Shares
 pub mod Laws

@@ -44,8 +44,8 @@ fn gives_constant(op: Op) -> bool
     }
 }
 
-// Whether a number lies in the 9 bits of an immediate.
-fn is_small(imm: i32) -> bool
+/// Whether a number lies in the 9 bits of an immediate.
+pub fn is_small(imm: i32) -> bool
     ensures { result ≡ small.is_small imm }
 {
     -256 <= imm && imm < 256

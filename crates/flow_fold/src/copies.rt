@@ -30,8 +30,8 @@ fn same_sense(a: Sense, b: Sense) -> bool
     }
 }
 
-// Whether a guard is surely met where another is.
-fn covers(a: Option<Guard>, g: Option<Guard>) -> bool
+/// Whether a guard is surely met where another is.
+pub fn covers(a: Option<Guard>, g: Option<Guard>) -> bool
     ensures { result ≡ copies.covers a g }
 {
     match (a, g) {

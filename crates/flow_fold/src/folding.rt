@@ -4,9 +4,11 @@ ghost use Rattle.std.specs.Prelude.{◌≡◌, ◌<◌, length, IfOk, MatchOptio
 ghost use Rattle.flow_fold.specs.inside.Folds as folds;
 ghost use Rattle.flow_fold.specs.inside.Replaces.{Replaces};
 
+use crate::addresses::feeds_addresses;
 use crate::constants::{immediate_of, small_of};
 use crate::copies::copied;
-use crate::uses::feeds_several;
+use crate::offsets::offset_of;
+use crate::uses::{Uses, feeds_several, uses_of};
 use base::{Items, Memory};
 use ir_forms::{FlowBlock, FlowNode, FlowSource};
 use std::alloc::Global;
@@ -114,12 +116,28 @@ fn right_turn(
     }
 }
 
-// The rules, each of which looks at one operand.
+// What node j becomes where its address is a sum.
+fn offset_turn(
+    alloc: Global,
+    nodes: &[FlowNode],
+    j: usize,
+    n: &FlowNode,
+) -> Result<Option<FlowNode>, Memory>
+    ensures { IfOk result (λ o. MatchOption o Unit (λ m. folds.Turns nodes.now j n.now m)) }
+{
+    match offset_of(alloc, nodes, j, n)? {
+        None => Ok(None),
+        Some(m) => Ok(Some(m)),
+    }
+}
+
+/// The rules, each of which looks at one operand.
 #[derive(Clone, Copy)]
-enum Rule {
+pub enum Rule {
     Left,
     Right,
     Constant,
+    Offset,
 }
 
 // What node j becomes by a rule, where it applies.
@@ -136,11 +154,12 @@ fn turned(
         Rule::Left => left_turn(alloc, nodes, j, n),
         Rule::Right => right_turn(alloc, nodes, j, n),
         Rule::Constant => constant_turn(alloc, nodes, j, n),
+        Rule::Offset => offset_turn(alloc, nodes, j, n),
     }
 }
 
-// A block with another node at a place.
-fn with_node(block: FlowBlock, j: usize, m: FlowNode) -> FlowBlock
+/// A block with another node at a place.
+pub fn with_node(block: FlowBlock, j: usize, m: FlowNode) -> FlowBlock
     requires { j < length block.nodes }
     ensures { result ≡ folds.with_node block j m }
 {
@@ -159,8 +178,8 @@ fn with_node(block: FlowBlock, j: usize, m: FlowNode) -> FlowBlock
     }
 }
 
-// A block whose node j is turned by a rule, where there is one and the rule applies.
-fn turned_at(alloc: Global, block: FlowBlock, j: usize, rule: Rule) -> Result<FlowBlock, Memory>
+/// A block whose node j is turned by a rule, where there is one and the rule applies.
+pub fn turned_at(alloc: Global, block: FlowBlock, j: usize, rule: Rule) -> Result<FlowBlock, Memory>
     ensures { IfOk result (λ g. Replaces block g) }
 {
     let nodes = block.nodes.as_slice();
@@ -176,23 +195,25 @@ fn turned_at(alloc: Global, block: FlowBlock, j: usize, rule: Rule) -> Result<Fl
     }
 }
 
-// A block whose node j takes a small constant as its immediate, where it then needs no `mov` more.
-fn constant_at(alloc: Global, block: FlowBlock, j: usize) -> Result<FlowBlock, Memory>
+// A block whose node j takes a small constant as its immediate, where it then needs no `mov` more: it feeds one spot, or
+// loads and stores that take what it adds into their offsets.
+fn constant_at(alloc: Global, block: FlowBlock, j: usize, uses: &Uses) -> Result<FlowBlock, Memory>
     ensures { IfOk result (λ g. Replaces block g) }
 {
-    if feeds_several(&block, j) {
+    if feeds_several(uses, j) && !feeds_addresses(&block, j) {
         return Ok(block);
     }
     turned_at(alloc, block, j, Rule::Constant)
 }
 
-// A block whose node j is folded: what it takes first looks through copies, then for a constant.
-fn folded_at(alloc: Global, block: FlowBlock, j: usize) -> Result<FlowBlock, Memory>
+// A block whose node j is folded: what it takes first looks through copies, then for a constant, then for a sum.
+fn folded_at(alloc: Global, block: FlowBlock, j: usize, uses: &Uses) -> Result<FlowBlock, Memory>
     ensures { IfOk result (λ g. Replaces block g) }
 {
     let left = turned_at(alloc, block, j, Rule::Left)?;
     let right = turned_at(alloc, left, j, Rule::Right)?;
-    let last = constant_at(alloc, right, j)?;
+    let constant = constant_at(alloc, right, j, uses)?;
+    let last = turned_at(alloc, constant, j, Rule::Offset)?;
     Ok(last)
 }
 
@@ -202,9 +223,10 @@ pub fn fold(alloc: Global, block: FlowBlock) -> Result<FlowBlock, Memory>
     ensures { IfOk result (λ g. Replaces block g) }
 {
     let count = block.nodes.len();
+    let uses = uses_of(alloc, &block)?;
     let mut now = block;
     for j in 0..count {
-        now = folded_at(alloc, now, j)?;
+        now = folded_at(alloc, now, j, &uses)?;
     }
     Ok(now)
 }

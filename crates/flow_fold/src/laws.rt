@@ -1,4 +1,5 @@
-ghost use Rattle.flow_fold.specs.inside.Laws.{FoldsReplace, ReplacesItself, ReplacesOn, SweepsReplace};
+ghost use Rattle.flow_fold.specs.inside.Laws.{FoldsReplace, ReplacesItself, ReplacesOn, SharesReplace};
+ghost use Rattle.flow_fold.specs.inside.Laws.{SweepsAllReplace, SweepsReplace};
 
 /// A block may stand for itself.
 pub fn blocks_replace_themselves()
@@ -18,4 +19,14 @@ pub fn foldings_replace()
 /// A block without a node that nothing names may stand for the block.
 pub fn sweepings_replace()
     ensures { SweepsReplace }
+{}
+
+/// A block without all nodes that nothing which stays names may stand for the block.
+pub fn sweepings_at_once_replace()
+    ensures { SweepsAllReplace }
+{}
+
+/// A block with a copy in the place of a node that has a twin may stand for the block.
+pub fn sharings_replace()
+    ensures { SharesReplace }
 {}

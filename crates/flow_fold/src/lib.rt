@@ -1,20 +1,28 @@
-//! Two passes over flow blocks: *fold* turns nodes into such that take fewer tokens, and *sweep* lets go what nothing
-//! names any more.
+//! Three passes over flow blocks: *share* turns nodes that do what another does into copies of it, *fold* turns nodes
+//! into such that take fewer tokens, and *sweep* lets go what nothing names any more.
 //!
 //! Each step replaces a block by one that means the same, is complete and regular, whatever its labels become
-//! (specs/inside/Replaces). The rules of fold stand in specs/inside/Folds, those of sweep in specs/inside/Sweeps.
+//! (specs/inside/Replaces). The rule of share stands in specs/inside/Shares, those of fold in specs/inside/Folds,
+//! those of sweep in specs/inside/SweepsAll.
 #![tactic(auto)]
 
+mod addresses;
+mod checking;
 mod constants;
 mod copies;
 mod folding;
+mod keeping;
 mod laws;
-mod lowering;
+mod offsets;
+mod renumbering;
+mod sharing;
 mod sweeping;
 mod uses;
 
 pub use folding::fold;
 pub use laws::{
-    blocks_replace_themselves, foldings_replace, replacements_follow, sweepings_replace,
+    blocks_replace_themselves, foldings_replace, replacements_follow, sharings_replace,
+    sweepings_at_once_replace, sweepings_replace,
 };
+pub use sharing::share;
 pub use sweeping::sweep;

@@ -1,17 +1,16 @@
 //! The pass *sweep*.
 
-ghost use Rattle.std.specs.Prelude.{◌≡◌, ◌&&◌, ◌||◌, false, true, IfOk, slice_get, IsTrue};
-ghost use Rattle.trips_isa.specs.Faults.{divides};
+ghost use Rattle.std.specs.Prelude.{◌≡◌, length, nat_le, IfOk};
 ghost use Rattle.ir_forms.specs.inside.FlowRegular as regular;
-ghost use Rattle.ir_forms.specs.declared.flow.FlowSource.TheVariants.{Node};
 ghost use Rattle.flow_fold.specs.inside.Replaces.{Replaces};
 ghost use Rattle.flow_fold.specs.inside.Sweeps as sweeps;
 
-use crate::lowering::without;
+use crate::checking::may_sweep;
+use crate::keeping::{any_goes, staying};
+use crate::renumbering::kept;
 use base::Memory;
 use ir_forms::{FlowBlock, FlowNode, FlowSource, FlowWrite, Guard};
 use std::alloc::Global;
-use trips_isa::{Form, Op, form_of};
 
 // From so many nodes on they have no number.
 const MOST_NODES: usize = 1 << 32;
@@ -86,37 +85,6 @@ fn is_named(block: &FlowBlock, s: FlowSource) -> bool
     nodes_name(s, block.nodes.as_slice()) || writes_name(s, block.writes.as_slice())
 }
 
-// Whether an operation divides.
-fn is_division(op: Op) -> bool
-    ensures { result ≡ divides op }
-{
-    match op {
-        Op::Divs | Op::Divu => true,
-        _ => false,
-    }
-}
-
-// Whether an operation does nothing but give a token.
-fn is_idle(op: Op) -> bool
-    ensures { result ≡ sweeps.is_idle op }
-{
-    match form_of(op) {
-        Form::General => !is_division(op),
-        Form::Immediate | Form::Constant => true,
-        Form::Load | Form::Store | Form::Branch => false,
-    }
-}
-
-// Whether node k may go where nothing names it.
-fn may_go(nodes: &[FlowNode], k: usize) -> bool
-    ensures { result ≡ sweeps.may_go (slice_get nodes.now k) }
-{
-    match nodes.get(k) {
-        None => false,
-        Some(n) => is_idle(n.op),
-    }
-}
-
 // Whether something in the block takes the word of each register of a list.
 fn takes_all(block: &FlowBlock, reads: &[u8]) -> bool
     ensures { result ≡ sweeps.takes_all block.now reads.now }
@@ -129,17 +97,27 @@ fn takes_all(block: &FlowBlock, reads: &[u8]) -> bool
     true
 }
 
-// A block without its node k, where nothing names it and it may go.
-fn swept_at(alloc: Global, block: FlowBlock, k: u32) -> Result<FlowBlock, Memory>
+// Whether a list speaks only of nodes that there are.
+fn is_within(keeps: &[bool], block: &FlowBlock) -> bool
+    ensures { result ≡ nat_le (length keeps.now) (length block.now.nodes) }
+{
+    keeps.len() <= block.nodes.len()
+}
+
+// A block of the nodes that a list keeps, where the others may go.
+fn swept(alloc: Global, block: FlowBlock, keeps: &[bool]) -> Result<FlowBlock, Memory>
     ensures { IfOk result (λ g. Replaces block g) }
 {
-    if !may_go(block.nodes.as_slice(), k as usize) {
+    if keeps.len() >= MOST_NODES {
         return Ok(block);
     }
-    if is_named(&block, FlowSource::Node(k)) {
+    if !is_within(keeps, &block) {
         return Ok(block);
     }
-    let less = without(alloc, k, &block)?;
+    if !may_sweep(keeps, &block) {
+        return Ok(block);
+    }
+    let less = kept(alloc, keeps, &block)?;
     if takes_all(&less, block.reads.as_slice()) {
         Ok(less)
     } else {
@@ -147,19 +125,16 @@ fn swept_at(alloc: Global, block: FlowBlock, k: u32) -> Result<FlowBlock, Memory
     }
 }
 
-/// The block without the nodes that nothing names, the last first.
-#[tactic(auto, using(crate::proofs::Following::stands_on, crate::proofs::Following::stands_for_itself))]
+/// The block without the nodes that nothing which stays names.
+#[tactic(auto, using(crate::proofs::Following::stands_for_itself))]
 pub fn sweep(alloc: Global, block: FlowBlock) -> Result<FlowBlock, Memory>
     ensures { IfOk result (λ g. Replaces block g) }
 {
-    let many = block.nodes.len();
-    if many >= MOST_NODES {
-        return Ok(block);
+    let keeps = staying(alloc, &block)?;
+    if any_goes(keeps.as_slice()) {
+        let g = swept(alloc, block, keeps.as_slice())?;
+        Ok(g)
+    } else {
+        Ok(block)
     }
-    let count = many as u32;
-    let mut now = block;
-    for j in 0..count {
-        now = swept_at(alloc, now, count - 1 - j)?;
-    }
-    Ok(now)
 }

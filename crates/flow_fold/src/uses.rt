@@ -1,48 +1,73 @@
-//! How many spots a node feeds, for a choice of which nothing is claimed.
+//! Which nodes feed more than one spot, for a choice of which nothing is claimed.
 
+use base::{Items, Memory};
 use ir_forms::{FlowBlock, FlowSource, Guard};
+use std::alloc::Global;
 
-fn is_node(source: FlowSource, j: usize) -> bool {
-    match source {
-        FlowSource::Read(_) => false,
-        FlowSource::Node(k) => k as usize == j,
+/// Which nodes feed a spot, and which feed two or more: these are two targets of a form G, and a `mov` behind a form
+/// I.
+#[derive(Drop)]
+pub struct Uses {
+    once: Items<bool>,
+    more: Items<bool>,
+}
+
+fn at(table: &[bool], j: usize) -> bool {
+    match table.get(j) {
+        None => false,
+        Some(b) => *b,
     }
 }
 
-// How often node j stands among sources.
-fn count_among(j: usize, sources: &[FlowSource]) -> usize {
-    let mut count = 0usize;
+fn mark(table: &mut Items<bool>, j: usize) {
+    if j < table.len() {
+        table.set(j, true);
+    }
+}
+
+fn count_node(uses: &mut Uses, j: usize) {
+    if at(uses.once.as_slice(), j) {
+        mark(&mut uses.more, j);
+    } else {
+        mark(&mut uses.once, j);
+    }
+}
+
+fn count_sources(uses: &mut Uses, sources: &[FlowSource]) {
     for source in sources {
-        if is_node(*source, j) {
-            count = count.saturating_add(1);
+        match *source {
+            FlowSource::Read(_) => {}
+            FlowSource::Node(k) => count_node(uses, k as usize),
         }
     }
-    count
 }
 
-fn count_guard(j: usize, guard: Option<Guard>) -> usize {
+fn count_guard(uses: &mut Uses, guard: Option<Guard>) {
     match guard {
-        None => 0,
-        Some(g) => { if g.node as usize == j { 1 } else { 0 } }
+        None => {}
+        Some(g) => count_node(uses, g.node as usize),
     }
 }
 
-// How many spots of nodes and writes take what node j gives.
-fn spots_of(block: &FlowBlock, j: usize) -> usize {
-    let mut count = 0usize;
+/// The spots of nodes and writes that take what each node gives.
+pub fn uses_of(alloc: Global, block: &FlowBlock) -> Result<Uses, Memory> {
+    let count = block.nodes.len();
+    let mut uses = Uses {
+        once: Items::from_vec(vec![in alloc; false; count]?),
+        more: Items::from_vec(vec![in alloc; false; count]?),
+    };
     for n in block.nodes.as_slice() {
-        count = count
-            .saturating_add(count_among(j, n.left.as_slice()))
-            .saturating_add(count_among(j, n.right.as_slice()))
-            .saturating_add(count_guard(j, n.guard));
+        count_sources(&mut uses, n.left.as_slice());
+        count_sources(&mut uses, n.right.as_slice());
+        count_guard(&mut uses, n.guard);
     }
     for w in block.writes.as_slice() {
-        count = count.saturating_add(count_among(j, w.sources.as_slice()));
+        count_sources(&mut uses, w.sources.as_slice());
     }
-    count
+    Ok(uses)
 }
 
-/// Whether node j feeds two spots or more: these are two targets of a form G, and a `mov` behind a form I.
-pub fn feeds_several(block: &FlowBlock, j: usize) -> bool {
-    spots_of(block, j) > 1
+/// Whether node j feeds two spots or more.
+pub fn feeds_several(uses: &Uses, j: usize) -> bool {
+    at(uses.more.as_slice(), j)
 }

@@ -1,9 +1,10 @@
 //! Blocks of each item and tail, and what they become.
 
-use crate::making::{either, fork, going_on, reg, save, set};
+use crate::making::{either, fork, going_on, reg, save, set, whole};
 use crate::shown::shown;
 use base::Items;
-use ir_forms::{Exit, HyperBlock, HyperItem, Source, Tail};
+use hyper_narrow::{Lasting, NarrowedBlock};
+use ir_forms::{Exit, HyperItem, Source, Tail};
 use predication::{convert, labels_fit};
 use std::alloc::Global;
 use std::process::Abort;
@@ -15,10 +16,10 @@ fn assert_shown(
     rt: &impl Abort,
     alloc: Global,
     name: &str,
-    block: &HyperBlock,
+    block: &NarrowedBlock,
     want: &str,
 ) -> Result<(), Fail> {
-    assert!(rt; labels_fit(&block.tail), "{name}: labels");
+    assert!(rt; labels_fit(&block.block.tail), "{name}: labels");
     let flow = convert(alloc, block).expect(rt, name);
     let text = shown(alloc, &flow)?;
     assert_eq!(rt; text.as_str(), want, "{name}");
@@ -49,10 +50,7 @@ fn converts_a_long_constant(rt: HostRuntime) -> Result<(), Fail> {
     let alloc = rt.alloc();
     let mut items = Items::new(alloc);
     items.push(set(5, Op::Mov, Source::Const(0x1_2345_6789), reg(9)))?;
-    let block = HyperBlock {
-        items,
-        tail: Tail::Leave(Exit::System(8)),
-    };
+    let block = whole(items, Tail::Leave(Exit::System(8)));
     assert_shown(
         &rt,
         alloc,
@@ -156,7 +154,7 @@ mask 0
 
 /// A register that is a bit, an if by it, and an if inside its second leg, in whose legs a register
 /// is set and a word stored.
-fn nested(alloc: Global) -> Result<HyperBlock, Fail> {
+fn nested(alloc: Global) -> Result<NarrowedBlock, Fail> {
     let mut items = Items::new(alloc);
     items.push(set(2, Op::Teq, reg(1), Source::Const(0)))?;
     let inner = either(
@@ -167,10 +165,7 @@ fn nested(alloc: Global) -> Result<HyperBlock, Fail> {
     )?;
     let yes = set(5, Op::Add, reg(3), reg(4));
     items.push(either(alloc, reg(2), Some(yes), Some(inner))?)?;
-    Ok(HyperBlock {
-        items,
-        tail: Tail::Leave(Exit::Return),
-    })
+    Ok(whole(items, Tail::Leave(Exit::Return)))
 }
 
 #[test]
@@ -209,7 +204,7 @@ fn converts_a_call_and_a_system_call(rt: HostRuntime) -> Result<(), Fail> {
     items.push(save(3, 5))?;
     let call = Exit::Call { to: 3, back: 4 };
     let tail = fork(alloc, reg(5), call, Tail::Leave(Exit::System(9)))?;
-    let block = HyperBlock { items, tail };
+    let block = whole(items, tail);
     assert_shown(
         &rt,
         alloc,
@@ -227,6 +222,53 @@ read r3
 write r5 [ n0 ]
 write r2 [ n5 ]
 mask 2
+",
+    )
+}
+
+/// A block that sets registers 5 and 6, of which some outlast it.
+fn two_sets(alloc: Global, lasting: Lasting) -> Result<NarrowedBlock, Fail> {
+    let mut items = Items::new(alloc);
+    items.push(set(5, Op::Add, reg(3), reg(4)))?;
+    items.push(set(6, Op::Sub, reg(5), reg(3)))?;
+    let mut block = going_on(items);
+    block.lasting = lasting;
+    Ok(block)
+}
+
+#[test]
+fn a_register_that_does_not_outlast_a_block_is_not_written(rt: HostRuntime) -> Result<(), Fail> {
+    let alloc = rt.alloc();
+    let block = two_sets(alloc, Lasting::Those(1 << 6))?;
+    assert_shown(
+        &rt,
+        alloc,
+        "register 6 outlasts the block",
+        &block,
+        "Add 0 #0 [ r3 ] [ r4 ]
+Sub 0 #0 [ n0 ] [ r3 ]
+Bro 7 #0 [ ] [ ]
+read r4 r3
+write r6 [ n1 ]
+mask 0
+",
+    )
+}
+
+#[test]
+fn a_block_that_nothing_outlasts_writes_nothing(rt: HostRuntime) -> Result<(), Fail> {
+    let alloc = rt.alloc();
+    let block = two_sets(alloc, Lasting::Those(0))?;
+    assert_shown(
+        &rt,
+        alloc,
+        "no register outlasts the block",
+        &block,
+        "Add 0 #0 [ r3 ] [ r4 ]
+Sub 0 #0 [ n0 ] [ r3 ]
+Bro 7 #0 [ ] [ ]
+read r4 r3
+mask 0
 ",
     )
 }

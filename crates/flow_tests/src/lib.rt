@@ -1,5 +1,5 @@
 //! Hyper blocks with their flow blocks as text, blocks with too much of each part, and small flow blocks with what
-//! completing adds to them and which guards they keep: all as tests.
+//! completing adds to them, which guards they keep, which nodes become copies and which are swept: all as tests.
 #![tactic(auto)]
 
 #[cfg(test)]
@@ -9,7 +9,11 @@ mod convert_tests;
 #[cfg(test)]
 mod making;
 #[cfg(test)]
+mod share_tests;
+#[cfg(test)]
 mod shown;
+#[cfg(test)]
+mod sweep_tests;
 #[cfg(test)]
 mod too_big_tests;
 #[cfg(test)]

@@ -1,6 +1,7 @@
 //! Hyper blocks, part by part.
 
 use base::{Boxed, Items};
+use hyper_narrow::{Lasting, NarrowedBlock};
 use ir_forms::{Exit, HyperBlock, HyperItem, Source, Tail};
 use std::alloc::Global;
 use std::test::Fail;
@@ -52,10 +53,15 @@ pub fn fork(alloc: Global, test: Source, yes: Exit, no: Tail) -> Result<Tail, Fa
     Ok(Tail::Test { test, yes, no })
 }
 
-/// A block of these items that goes on to block 7.
-pub fn going_on(items: Items<HyperItem>) -> HyperBlock {
-    HyperBlock {
-        items,
-        tail: Tail::Leave(Exit::Jump(7)),
+/// A block that every register outlasts.
+pub fn whole(items: Items<HyperItem>, tail: Tail) -> NarrowedBlock {
+    NarrowedBlock {
+        block: HyperBlock { items, tail },
+        lasting: Lasting::Every,
     }
+}
+
+/// A block of these items that goes on to block 7.
+pub fn going_on(items: Items<HyperItem>) -> NarrowedBlock {
+    whole(items, Tail::Leave(Exit::Jump(7)))
 }

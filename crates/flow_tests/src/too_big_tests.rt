@@ -1,9 +1,10 @@
 //! Blocks with as much of a part as a block may have, which are taken, and with one more, which are refused for that
 //! part and its count; and that of two parts that are above their limits the first is said.
 
-use crate::making::{fork, going_on, reg, save, set};
+use crate::making::{fork, going_on, reg, save, set, whole};
 use base::Items;
-use ir_forms::{Exit, FlowFault, HyperBlock, HyperItem, Part, Tail};
+use hyper_narrow::NarrowedBlock;
+use ir_forms::{Exit, FlowFault, HyperItem, Part, Tail};
 use predication::{convert, labels_fit};
 use std::alloc::Global;
 use std::process::Abort;
@@ -29,19 +30,16 @@ fn items_of(alloc: Global, part: Part, count: u8) -> Result<Items<HyperItem>, Fa
 }
 
 // Exits one after another, each by a test but the last.
-fn exits(alloc: Global, count: u8) -> Result<HyperBlock, Fail> {
+fn exits(alloc: Global, count: u8) -> Result<NarrowedBlock, Fail> {
     let mut tail = Tail::Leave(Exit::Jump(7));
     for _i in 1..count {
         tail = fork(alloc, reg(3), Exit::Return, tail)?;
     }
-    Ok(HyperBlock {
-        items: Items::new(alloc),
-        tail,
-    })
+    Ok(whole(Items::new(alloc), tail))
 }
 
 /// A block with so much of a part. The last of its instructions is its exit.
-fn block_with(alloc: Global, part: Part, count: u8) -> Result<HyperBlock, Fail> {
+fn block_with(alloc: Global, part: Part, count: u8) -> Result<NarrowedBlock, Fail> {
     match part {
         Part::Exits => exits(alloc, count),
         Part::Insts => Ok(going_on(items_of(alloc, part, count.saturating_sub(1))?)),
@@ -50,16 +48,16 @@ fn block_with(alloc: Global, part: Part, count: u8) -> Result<HyperBlock, Fail> 
 }
 
 /// That a block is refused for a part.
-fn assert_too_big(rt: &impl Abort, alloc: Global, block: &HyperBlock, part: Part, count: u8) {
-    assert!(rt; labels_fit(&block.tail), "{part:?}: labels");
+fn assert_too_big(rt: &impl Abort, alloc: Global, block: &NarrowedBlock, part: Part, count: u8) {
+    assert!(rt; labels_fit(&block.block.tail), "{part:?}: labels");
     match convert(alloc, block) {
         Ok(_) => assert!(rt; false, "{part:?}: {count} are taken"),
         Err(fault) => assert_eq!(rt; fault, FlowFault::TooBig(part, usize::from(count))),
     }
 }
 
-fn assert_taken(rt: &impl Abort, alloc: Global, block: &HyperBlock, part: Part, count: u8) {
-    assert!(rt; labels_fit(&block.tail), "{part:?}: labels");
+fn assert_taken(rt: &impl Abort, alloc: Global, block: &NarrowedBlock, part: Part, count: u8) {
+    assert!(rt; labels_fit(&block.block.tail), "{part:?}: labels");
     assert!(rt;
         convert(alloc, block).is_ok(),
         "{part:?}: {count} are refused"

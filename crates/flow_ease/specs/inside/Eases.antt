@@ -5,11 +5,11 @@ use Rattle.trips_isa.specs.declared.op.Op.{Op}
 use Rattle.trips_isa.specs.declared.op.Op.TheVariants.{Bro, Callo}
 use Rattle.ir_forms.specs.declared.flow.FlowNode.{FlowNode}
 use Rattle.ir_forms.specs.declared.flow.FlowBlock.{FlowBlock}
-use Rattle.ir_forms.specs.inside.Agreement.{MeansBlock}
 use Rattle.ir_forms.specs.inside.FlowFits.{IsComplete}
 use Rattle.ir_forms.specs.inside.FlowRegular.{IsRegular}
-use Rattle.ir_forms.specs.inside.HyperCode as hyper
 use Rattle.ir_forms.specs.inside.HyperRuns.{Layout}
+use Rattle.hyper_narrow.specs.inside.NarrowedCode.{Narrowed}
+use Rattle.hyper_narrow.specs.inside.NarrowedMeaning.{MeansNarrowed}
 use Rattle.predication.specs.inside.Labels.{resolved}
 
 -- what a pass may build on, where the labels become these addresses: each output has its token on every path, and
@@ -38,9 +38,9 @@ pub record Eases (f g : FlowBlock) : Type 0 where
   pub regular : (address : ℕ → ℕ) → Takes address f → IsRegular g
   -- on every path each output has its token, whatever addresses stand in its constants
   pub complete : (address : ℕ → ℕ) → Takes address f → IsComplete (resolved address g)
-  -- it means every hyper block that f means
-  pub means : (at : Layout) (b : hyper.Block) → Takes at.address f → MeansBlock at b (resolved at.address f)
-      → MeansBlock at b (resolved at.address g)
+  -- it means every narrowed block that f means
+  pub means : (at : Layout) (b : Narrowed) → Takes at.address f → MeansNarrowed at b (resolved at.address f)
+      → MeansNarrowed at b (resolved at.address g)
   -- each branch leads where a branch of f leads
   pub labels : (j : ℕ) (n : FlowNode) → slice_get g.nodes j ≡ Some n → names_label n.op ≡ true
       → Stands f n

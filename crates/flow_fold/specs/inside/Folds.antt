@@ -4,8 +4,10 @@ use Rattle.trips_isa.specs.declared.op.Op.{Op}
 use Rattle.ir_forms.specs.declared.flow.FlowSource.{FlowSource}
 use Rattle.ir_forms.specs.declared.flow.FlowNode.{FlowNode}
 use Rattle.ir_forms.specs.declared.flow.FlowBlock.{FlowBlock}
+use Rattle.trips_isa.specs.Forms.{form_of}
 use Rattle.flow_fold.specs.inside.Copies.{copied}
 use Rattle.flow_fold.specs.inside.Immediates.{immediate_of, small_of}
+use Rattle.flow_fold.specs.inside.Offsets.{offset_of}
 
 -- a node whose right operand is the immediate of its new operation
 abbrev pub with_constant : FlowNode → Op → ℤ → FlowNode
@@ -30,6 +32,8 @@ pub data Turns (nodes : List FlowNode) (j : ℕ) (n m : FlowNode) : Type 0 where
   -- what a copy at the right copies is taken itself
   right_copy : (ss : List FlowSource) → copied nodes j n.guard n.right ≡ Some ss → m ≡ with_right n ss
       → Turns nodes j n m
+  -- what a load's or a store's address adds goes into its offset
+  offset : offset_of nodes j n (form_of n.op) ≡ Some m → Turns nodes j n m
 
 -- a block with another node at a place
 abbrev pub with_node : FlowBlock → ℕ → FlowNode → FlowBlock

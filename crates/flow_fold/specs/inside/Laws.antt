@@ -3,6 +3,8 @@ use Rattle.ir_forms.specs.declared.flow.FlowBlock.{FlowBlock}
 use Rattle.flow_fold.specs.inside.Replaces.{Replaces}
 use Rattle.flow_fold.specs.inside.Folds.{Folds}
 use Rattle.flow_fold.specs.inside.Sweeps.{Sweeps}
+use Rattle.flow_fold.specs.inside.SweepsAll.{SweepsAll}
+use Rattle.flow_fold.specs.inside.Shares.{Shares}
 
 -- a block may stand for itself
 abbrev pub ReplacesItself : Type 0
@@ -19,3 +21,11 @@ FoldsReplace = (f g : FlowBlock) → Folds f g → Replaces f g
 -- and for what it sweeps
 abbrev pub SweepsReplace : Type 0
 SweepsReplace = (f g : FlowBlock) → Sweeps f g → Replaces f g
+
+-- also where it sweeps all at once
+abbrev pub SweepsAllReplace : Type 0
+SweepsAllReplace = (f g : FlowBlock) → SweepsAll f g → Replaces f g
+
+-- and for what it shares
+abbrev pub SharesReplace : Type 0
+SharesReplace = (f g : FlowBlock) → Shares f g → Replaces f g

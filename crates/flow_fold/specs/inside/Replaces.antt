@@ -5,11 +5,11 @@ use Rattle.trips_isa.specs.declared.op.Op.{Op}
 use Rattle.trips_isa.specs.declared.op.Op.TheVariants.{Bro, Callo}
 use Rattle.ir_forms.specs.declared.flow.FlowNode.{FlowNode}
 use Rattle.ir_forms.specs.declared.flow.FlowBlock.{FlowBlock}
-use Rattle.ir_forms.specs.inside.Agreement.{MeansBlock}
 use Rattle.ir_forms.specs.inside.FlowFits.{IsComplete}
 use Rattle.ir_forms.specs.inside.FlowRegular.{IsRegular}
-use Rattle.ir_forms.specs.inside.HyperCode.{Block}
 use Rattle.ir_forms.specs.inside.HyperRuns.{Layout}
+use Rattle.hyper_narrow.specs.inside.NarrowedCode.{Narrowed}
+use Rattle.hyper_narrow.specs.inside.NarrowedMeaning.{MeansNarrowed}
 
 -- what each immediate becomes, by its operation
 abbrev pub Immediates : Type 0
@@ -58,9 +58,9 @@ pub record Replaces (f g : FlowBlock) : Type 0 where
   pub regular : (r : Immediates) → LeavesOwn r → Takes r f → IsRegular g
   -- on every path each output has its token
   pub complete : (r : Immediates) → LeavesOwn r → Takes r f → IsComplete (with_immediates r g)
-  -- it means every hyper block that f means
-  pub means : (r : Immediates) → LeavesOwn r → Takes r f → (at : Layout) (b : Block)
-      → MeansBlock at b (with_immediates r f) → MeansBlock at b (with_immediates r g)
+  -- it means every narrowed block that f means
+  pub means : (r : Immediates) → LeavesOwn r → Takes r f → (at : Layout) (b : Narrowed)
+      → MeansNarrowed at b (with_immediates r f) → MeansNarrowed at b (with_immediates r g)
   -- each branch leads where a branch of f leads
   pub labels : (j : ℕ) (n : FlowNode) → slice_get g.nodes j ≡ Some n → names_label n.op ≡ true
       → Stands f n

@@ -9,8 +9,12 @@ use Rattle.flow_ease.proofs.easing.ease.Goals as goal
 pub returns : goal.returns
 returns c =
     let u : Unguards c.args.block c.in_ok-loose.loose = search rules in
-    let f : Replaces c.in_ok-loose.loose c.in_ok-folded.folded = search rules in
+    let d : Replaces c.in_ok-loose.loose c.in_ok-shared.shared = search rules in
+    let l : Replaces c.in_ok-shared.shared c.in_ok-lean.lean = search rules in
+    let f : Replaces c.in_ok-lean.lean c.in_ok-folded.folded = search rules in
     let s : Replaces c.in_ok-folded.folded c.in_ok-swept.swept = search rules in
     eases_then_replaced c.args.block c.in_ok-folded.folded c.in_ok-swept.swept
-    (eases_then_replaced c.args.block c.in_ok-loose.loose c.in_ok-folded.folded
-    (eases_unguarded c.args.block c.in_ok-loose.loose u) f) s
+    (eases_then_replaced c.args.block c.in_ok-lean.lean c.in_ok-folded.folded
+    (eases_then_replaced c.args.block c.in_ok-shared.shared c.in_ok-lean.lean
+    (eases_then_replaced c.args.block c.in_ok-loose.loose c.in_ok-shared.shared
+    (eases_unguarded c.args.block c.in_ok-loose.loose u) d) l) f) s

@@ -1,0 +1,9 @@
+use Rattle.std.proofs.Common.{◌≡◌, ◌≤◌}
+use Rattle.flow_fold.specs.inside.SweepsAll as sweep
+use Rattle.flow_fold.proofs.renumbering.numbers.Given as goal
+
+abbrev pub invariant-loop-j : goal.invariant-loop-j
+invariant-loop-j l =
+    (l.out ≡ sweep.numbers_to (sweep.stays l.keeps) l.j)
+    × (l.next ≡ sweep.number (sweep.stays l.keeps) l.j)
+    × (l.next ≤ l.j)
