@@ -1,5 +1,5 @@
 -- What the passes give of a flat program whose blocks are cut at every place.
-use Rattle.std.proofs.Common.{◌≡◌, ℕ, ◌+◌, ◌≤◌, List, [], length, Some, slice_get, sym, ap, subst}
+use Rattle.std.proofs.Common.{◌≡◌, ℕ, ◌+◌, ◌≤◌, List, [], map, length, Some, slice_get, sym, ap, subst}
 use Rattle.std.proofs.Common.{ap₂, ◌∙◌, arith}
 use Rattle.std.specs.List.{All}
 use Rattle.std.specs.Prelude.{Bool}
@@ -22,6 +22,7 @@ use Rattle.ir_forms.specs.inside.FlatFits.{FitsProgram, code_blocks_of_all}
 use Rattle.ir_forms.specs.inside.FlatViews.{program_of}
 use Rattle.ir_forms.specs.inside.Frames.{frames_at, frame_limit}
 use Rattle.ir_forms.specs.inside.HyperCode as hyper
+use Rattle.hyper_narrow.specs.inside.NarrowedCode.{Narrowed, whole, bare}
 use Rattle.ir_forms.specs.inside.HyperFits.{IsFollowed}
 use Rattle.reg_assign.specs.inside.Keeps.{FitsKept, KeepsTameRuns}
 use Rattle.reg_assign.specs.inside.Live.{AreCut, AreFew}
@@ -36,10 +37,12 @@ use Rattle.c_compile_layout.specs.inside.Emitted.{image_of, most_blocks, AreEmit
 use Rattle.c_compile_layout.specs.inside.Layouts as layouts
 use Rattle.c_compile_layout.proofs.Linked.{good_image}
 use Rattle.c_compile_blocks.specs.inside.Blocks.{AreMachineBlocks, FitsPasses}
+use Rattle.c_compile_blocks.specs.inside.Limits.{FitsMachine}
 use Rattle.c_compile_blocks.specs.inside.Refusals.{FitMachine}
 use Rattle.c_compile_blocks.proofs.Emitted.{chunks_few, gives_emitted, sizes}
 use Rattle.c_compile_laws.specs.inside.Compiled.{IsCompiled}
-use Rattle.hyper_trim.proofs.Programs.{trims_itself}
+use Rattle.hyper_trim.specs.inside.Narrows.{Narrows}
+use Rattle.hyper_trim.proofs.Narrowing.{whole_narrows, whole_is}
 use Rattle.c_compile.specs.inside.Flat.{IsFlatOf}
 
 -- the text's tokens leave room for the blocks of its program
@@ -60,37 +63,49 @@ some_blocks base fs main = omega arith
 
 module _ (F : Program) (lists : List (List ℕ)) (groups : List (List (List ℕ))) (fits : FitsProgram F)
     (a : AreAssigned F lists groups) (few : 3 + code_blocks_of_all F.functions ≤ most_blocks) where
-  abbrev B : List hyper.Block
-  B = built_program (plan_of [] [] groups) F
+  abbrev built_blocks : List hyper.Block
+  built_blocks = built_program (plan_of [] [] groups) F
 
-  shape : AreBlocksOf F B
+  -- every register outlasts each block
+  abbrev B : List Narrowed
+  B = map whole built_blocks
+
+  narrows : Narrows built_blocks B
+  narrows = whole_narrows built_blocks
+
+  shape : AreBlocksOf F built_blocks
   shape = gives_assigned [] [] F lists groups fits a
 
   pub passes : FitsPasses B
   passes =
       let n = shape.few in
+      let s = some_blocks (frames_at F.bytes) (annotated_all (plan_of [] [] groups) 0 0 F.functions) F.main in
+      let l = narrows.count in
       record {
-        some = some_blocks (frames_at F.bytes) (annotated_all (plan_of [] [] groups) 0 0 F.functions) F.main;
-        few = omega (arith, n, few);
-        followed = shape.followed;
-        fit = shape.fit (omega (arith, n, few));
+        some = omega (arith, s, l);
+        few = omega (arith, n, few, l);
+        followed = narrows.followed shape.followed;
+        fit = narrows.fit (shape.fit (omega (arith, n, few)));
       }
 
   -- no block is refused for its size
   pub fit_machine : FitMachine B
-  fit_machine =
-      let n = shape.few in programs_fit F lists groups fits a (omega (arith, n, few))
+  fit_machine k c e =
+      let n = shape.few in
+      let w = whole_is built_blocks k c e in
+      subst FitsMachine (sym w.is)
+      (programs_fit F lists groups fits a (omega (arith, n, few)) k c.block w.there)
 
-  module _ (P : List hyper.Block) (is : P ≡ B) where
+  module _ (P : List Narrowed) (is : P ≡ B) where
     -- the blocks are numbered so that each call and each system call is followed
-    pub followed : IsFollowed P
-    followed = subst IsFollowed (sym is) passes.followed
+    pub followed : IsFollowed (bare P)
+    followed = subst (λ (Q : List Narrowed). IsFollowed (bare Q)) (sym is) passes.followed
 
     -- there are no more blocks than labels
     pub low : length P ≤ label_count
     low =
         let n = passes.few in
-        let e : length P ≡ length B = ap (λ (bs : List hyper.Block). length bs) is in omega (arith, n, e)
+        let e : length P ≡ length B = ap (λ (bs : List Narrowed). length bs) is in omega (arith, n, e)
 
     -- none is refused for its size
     pub fit : FitMachine P
@@ -122,7 +137,7 @@ module _ (F : Program) (lists : List (List ℕ)) (groups : List (List (List ℕ)
       cuts = [];
       joins = [];
       left = B;
-      trims = trims_itself B;
+      narrows = narrows;
       blocks = us;
       made = made;
       is = e;
@@ -132,10 +147,11 @@ module _ (F : Program) (lists : List (List ℕ)) (groups : List (List (List ℕ)
 
 -- a plan without answers cuts everywhere and joins nothing
 pub built_cut : (F : Program) (groups : List (List (List ℕ))) (cuts joins : List Bool) (P : List hyper.Block)
-    → cuts ≡ [] → joins ≡ [] → P ≡ built_program (plan_of cuts joins groups) F
-    → P ≡ built_program (plan_of [] [] groups) F
-built_cut F groups cuts joins P c j e =
-    e ∙ ap₂ (λ (cs js : List Bool). built_program (plan_of cs js groups) F) c j
+    (Q : List Narrowed) → cuts ≡ [] → joins ≡ [] → P ≡ built_program (plan_of cuts joins groups) F
+    → Q ≡ map whole P → Q ≡ map whole (built_program (plan_of [] [] groups) F)
+built_cut F groups cuts joins P Q c j e q =
+    q ∙ ap (λ (R : List hyper.Block). map whole R)
+    (e ∙ ap₂ (λ (cs js : List Bool). built_program (plan_of cs js groups) F) c j)
 
 -- an error for a part that is too big is not want of memory
 pub not_too_big : (e : FlowFault) (p : Part) (n : ℕ) → e ≡ TooBig p n → e ≡ Memory → ⊥

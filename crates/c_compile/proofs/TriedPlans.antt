@@ -1,5 +1,5 @@
 -- The image of a flat program by any plan, trimmed, where no pass refuses a block of it and the checker takes each.
-use Rattle.std.proofs.Common.{◌≡◌, ℕ, ◌+◌, ◌≤◌, Bool, true, List, length, sym, subst, arith}
+use Rattle.std.proofs.Common.{◌≡◌, ℕ, ◌+◌, ◌≤◌, Bool, true, List, length, subst, arith}
 use Rattle.std.specs.List.{All}
 use Rattle.std.specs.Prelude.{Option, Some, None, IfSome}
 use Rattle.trips_isa.specs.declared.block.Block.{Block}
@@ -11,7 +11,7 @@ use Rattle.block_check.specs.inside.Images.{IsCheckedImage}
 use Rattle.ir_forms.specs.inside.FlatCode.{Program}
 use Rattle.ir_forms.specs.inside.FlatFits.{FitsProgram, code_blocks_of_all}
 use Rattle.ir_forms.specs.inside.Frames.{frames_at, frame_limit}
-use Rattle.ir_forms.specs.inside.HyperCode as hyper
+use Rattle.hyper_narrow.specs.inside.NarrowedCode.{Narrowed, bare}
 use Rattle.ir_forms.specs.inside.HyperFits.{IsFollowed}
 use Rattle.reg_assign.specs.inside.Keeps.{KeepsTameRuns}
 use Rattle.hyper_build.specs.inside.Laws.{built_program, plan_of, AreAssigned, AreBlocksOf}
@@ -22,7 +22,7 @@ use Rattle.c_compile_layout.specs.inside.Emitted.{image_of, most_blocks}
 use Rattle.c_compile_blocks.specs.inside.Blocks.{ArePassed, FitsPasses}
 use Rattle.c_compile_laws.specs.inside.Compiled.{IsCompiled}
 use Rattle.c_compile_laws.proofs.TrimmedPrograms.{trimmed_fits}
-use Rattle.hyper_trim.specs.inside.Laws.{Trims}
+use Rattle.hyper_trim.specs.inside.Narrows.{Narrows}
 use Rattle.c_compile_blocks.specs.inside.Checked.{AreChecked}
 use Rattle.c_compile_blocks.proofs.Passed.{are_checked}
 use Rattle.c_compile.proofs.CutPrograms.{data_fits, some_blocks}
@@ -39,7 +39,7 @@ all_good i image e h =
 
 module _ (F : Program) (lists : List (List ℕ)) (groups : List (List (List ℕ))) (fits : FitsProgram F)
     (a : AreAssigned F lists groups) (few : 3 + code_blocks_of_all F.functions ≤ most_blocks) (cuts joins : List Bool)
-    (P : List hyper.Block) (t : Trims (built_program (plan_of cuts joins groups) F) P) where
+    (P : List Narrowed) (kept : Narrows (built_program (plan_of cuts joins groups) F) P) where
   shape : AreBlocksOf F (built_program (plan_of cuts joins groups) F)
   shape = gives_assigned cuts joins F lists groups fits a
 
@@ -47,16 +47,11 @@ module _ (F : Program) (lists : List (List ℕ)) (groups : List (List (List ℕ)
   passes =
       let n = shape.few in
       trimmed_fits (built_program (plan_of cuts joins groups) F) P
-      (record {
-        some = some_blocks (frames_at F.bytes) (annotated_all (plan_of cuts joins groups) 0 0 F.functions) F.main;
-        few = omega (arith, n, few);
-        followed = shape.followed;
-        fit = shape.fit (omega (arith, n, few));
-      })
-      t
+      (some_blocks (frames_at F.bytes) (annotated_all (plan_of cuts joins groups) 0 0 F.functions) F.main)
+      (omega (arith, n, few)) shape.followed (shape.fit (omega (arith, n, few))) kept
 
   -- the blocks are numbered so that each call and each system call is followed
-  pub followed : IsFollowed P
+  pub followed : IsFollowed (bare P)
   followed = passes.followed
 
   -- there are no more blocks than labels
@@ -80,7 +75,7 @@ module _ (F : Program) (lists : List (List ℕ)) (groups : List (List (List ℕ)
       cuts = cuts;
       joins = joins;
       left = P;
-      trims = t;
+      narrows = kept;
       blocks = us;
       made = checked.machine good;
       is = e;

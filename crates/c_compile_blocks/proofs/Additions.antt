@@ -41,7 +41,7 @@ use Rattle.fan_out.specs.inside.Targeted.{count_insts}
 use Rattle.c_compile_blocks.specs.inside.Prices.{price, write_price}
 use Rattle.c_compile_blocks.proofs.Prices.{Different, Feeding, few_insts}
 use Rattle.c_compile_blocks.proofs.Flat.{uses_append, AreUsed, used_append, used_grow, price_append}
-use Rattle.c_compile_blocks.proofs.PlainBlocks.{EachWrite}
+use Rattle.c_compile_blocks.proofs.PlainWrites.{EachWrite}
 use Rattle.c_compile_blocks.proofs.OneGuard.{AreBy, by_append, unguarded, one_store, saves}
 
 -- SUMS

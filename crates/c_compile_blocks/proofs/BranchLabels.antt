@@ -11,7 +11,8 @@ use Rattle.ir_forms.specs.declared.hyper.Exit.{Exit}
 use Rattle.ir_forms.specs.declared.hyper.Exit.TheVariants as exit
 use Rattle.ir_forms.specs.declared.flow.FlowSource.{FlowSource}
 use Rattle.ir_forms.specs.declared.flow.FlowNode.{FlowNode}
-use Rattle.ir_forms.specs.inside.HyperCode.{Items, Done, Set, Load, Save, If, Tail, Leave, Test, Block}
+use Rattle.ir_forms.specs.inside.HyperCode.{Items, Done, Set, Load, Save, If, Tail, Leave, Test}
+use Rattle.hyper_narrow.specs.inside.NarrowedCode.{Narrowed}
 use Rattle.ir_forms.specs.inside.FlatFits.{operates, loads, stores}
 use Rattle.ir_forms.specs.inside.HyperFits.{FitsItems, LeadsOn, AllLeadOn, FitsHyper}
 use Rattle.predication.specs.declared.work.Entry.{Entry}
@@ -208,10 +209,10 @@ tail_below n k g j e env bits (Test t one other) f h =
     (distinct (ty ++ tn)))))
 
 -- the labels of the branches of block k of n
-pub labels_below : (n k : ℕ) (b : Block) → FitsHyper b → AllLeadOn k n b.tail
+pub labels_below : (n k : ℕ) (b : Narrowed) → FitsHyper b.block → AllLeadOn k n b.block.tail
     → AllBelow n (predicated (labelled b)).nodes
 labels_below n k b fits leads =
-    let s = begun (labelled b) in
-    below_append n s.nodes (ended (labelled b)).nodes
-    (items_below n None 0 0 at_start no_bits b.items fits.items)
-    (tail_below n k None (length s.nodes) 0 s.env s.bits b.tail (λ l. address_end + l) leads)
+    let s = begun (labelled b).block in
+    below_append n s.nodes (ended (labelled b).block).nodes
+    (items_below n None 0 0 at_start no_bits b.block.items fits.items)
+    (tail_below n k None (length s.nodes) 0 s.env s.bits b.block.tail (λ l. address_end + l) leads)

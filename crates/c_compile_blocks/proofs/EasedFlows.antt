@@ -1,4 +1,4 @@
--- The flow block of a hyper block, and one that stands for it, once labels are addresses.
+-- The flow block of a narrowed block, and one that stands for it, once labels are addresses.
 use Rattle.std.proofs.Common.{◌≡◌, ℕ, suc, true, List, [], ◌∷◌, Some, slice_get, refl, sym, ap, subst, ◌∙◌}
 use Rattle.std.specs.List.{All}
 use Rattle.std.specs.Prelude.{ℤ}
@@ -10,12 +10,12 @@ use Rattle.trips_isa.specs.declared.op.Op.TheVariants.{Bro, Callo}
 use Rattle.trips_isa.specs.Forms.{form_of}
 use Rattle.ir_forms.specs.declared.flow.FlowNode.{FlowNode}
 use Rattle.ir_forms.specs.declared.flow.FlowBlock.{FlowBlock}
-use Rattle.ir_forms.specs.inside.Agreement.{MeansBlock}
 use Rattle.ir_forms.specs.inside.FlowFits.{in_mask, IsComplete}
 use Rattle.ir_forms.specs.inside.FlowRegular.{IsRegular}
-use Rattle.ir_forms.specs.inside.HyperCode as hyper
 use Rattle.ir_forms.specs.inside.HyperFits.{FitsHyper, AllLeadOn}
 use Rattle.ir_forms.specs.inside.HyperRuns.{Layout}
+use Rattle.hyper_narrow.specs.inside.NarrowedCode.{Narrowed}
+use Rattle.hyper_narrow.specs.inside.NarrowedMeaning.{MeansNarrowed}
 use Rattle.predication.specs.inside.Labels as labels
 use Rattle.predication.specs.inside.Tails.{addressed, labelled}
 use Rattle.predication.specs.inside.Converted.{predicated}
@@ -77,8 +77,8 @@ stood n f x low s =
 
 -- THE FLOW BLOCK
 
-module _ (at : Layout) (short : HasShortAddresses at) (b : hyper.Block) (numbers : convert.HasRoom b)
-    (fits : FitsHyper b) where
+module _ (at : Layout) (short : HasShortAddresses at) (b : Narrowed) (numbers : convert.HasRoom b.block)
+    (fits : FitsHyper b.block) where
   -- with addresses in the place of labels
   abbrev after : FlowBlock
   after = predicated (addressed at b)
@@ -93,8 +93,8 @@ module _ (at : Layout) (short : HasShortAddresses at) (b : hyper.Block) (numbers
       ∙ ap complete (resolved_same at.address (predicated (labelled b))
       ∙ resolves_labels at b short fits)
 
-  taken : IsTaken (addressed at b)
-  taken = takes_addressed at b short fits numbers
+  taken : IsTaken (addressed at b).block
+  taken = takes_addressed at b.block short fits numbers
 
   regular : IsRegular after
   regular = converts_regular (addressed at b) taken.fits taken.room
@@ -114,10 +114,10 @@ module _ (at : Layout) (short : HasShortAddresses at) (b : hyper.Block) (numbers
         (subst (λ (f : FlowBlock). IsRegular f) (sym same) (stays_regular after takes.fits regular));
   }
 
-  flow_means : MeansBlock at b (labels.resolved at.address (flow_of b))
+  flow_means : MeansNarrowed at b (labels.resolved at.address (flow_of b))
   flow_means =
-      subst (λ (f : FlowBlock). MeansBlock at b f) (resolved_same at.address (flow_of b))
-      (subst (λ (f : FlowBlock). MeansBlock at b f) (sym same)
+      subst (λ (f : FlowBlock). MeansNarrowed at b f) (resolved_same at.address (flow_of b))
+      (subst (λ (f : FlowBlock). MeansNarrowed at b f) (sym same)
       (means_block at b after takes.fits takes.masked (converts_meaning at b short fits numbers)))
 
   module _ (f : FlowBlock) (eases : Eases (flow_of b) f) where
@@ -131,14 +131,14 @@ module _ (at : Layout) (short : HasShortAddresses at) (b : hyper.Block) (numbers
     pub eased_regular : IsRegular f
     eased_regular = eases.regular at.address flow_takes
 
-    -- and means the hyper block
-    pub eased_means : MeansBlock at b (resolved names f)
+    -- and means the narrowed block
+    pub eased_means : MeansNarrowed at b (resolved names f)
     eased_means =
-        subst (λ (g : FlowBlock). MeansBlock at b g) (sym (resolved_same at.address f))
+        subst (λ (g : FlowBlock). MeansNarrowed at b g) (sym (resolved_same at.address f))
         (eases.means at b flow_takes flow_means)
 
 -- and its branches lead to blocks
-pub eased_labels : (n k : ℕ) (b : hyper.Block) → FitsHyper b → AllLeadOn k n b.tail → (f : FlowBlock)
+pub eased_labels : (n k : ℕ) (b : Narrowed) → FitsHyper b.block → AllLeadOn k n b.block.tail → (f : FlowBlock)
     → Eases (flow_of b) f → All (λ (x : FlowNode). LabelBelow n x.op x.imm) f.nodes
 eased_labels n k b fits leads f eases =
     all_by_index (λ (x : FlowNode). LabelBelow n x.op x.imm) f.nodes (λ j x e.

@@ -2,6 +2,7 @@
 use Rattle.std.proofs.Common.{◌≡◌, [], refl, arith}
 use Rattle.ir_forms.specs.declared.flow.FlowBlock.{FlowBlock}
 use Rattle.hyper_build.proofs.Assigned.{gives_assigned, assigned_little}
+use Rattle.hyper_narrow.specs.inside.NarrowedCode.{whole}
 use Rattle.predication.specs.inside.Tails.{labelled}
 use Rattle.predication.specs.inside.Converted.{predicated}
 use Rattle.null_outputs.specs.inside.Wants.{complete}
@@ -19,7 +20,7 @@ use Rattle.c_compile_blocks.proofs.Machine.{fits_machine}
 pub programs_fit : CutProgramsFit
 programs_fit P lists groups fits assigned few k b e =
     let all = gives_assigned [] [] P lists groups fits assigned in
-    fits_machine b (all.fit few k b e) (assigned_little P lists groups fits assigned k b e)
+    fits_machine (whole b) (all.fit few k b e) (assigned_little P lists groups fits assigned k b e)
 
 target_alone : (f : FlowBlock) → HasRoom f → (e : FlowFault) → fan_out_refusals.IsRefusal f e → e ≡ Memory
 target_alone f room Memory r = refl

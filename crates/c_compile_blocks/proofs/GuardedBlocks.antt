@@ -16,9 +16,11 @@ use Rattle.ir_forms.specs.declared.flow.FlowBlock.{FlowBlock}
 use Rattle.ir_forms.specs.declared.flow.FlowSource.TheVariants.{Node}
 use Rattle.ir_forms.specs.inside.FlowFits.{in_mask}
 use Rattle.ir_forms.specs.inside.HyperCode.{Block}
+use Rattle.hyper_narrow.specs.inside.NarrowedCode.{Narrowed}
 use Rattle.ir_forms.specs.inside.HyperFits.{FitsHyper, exits_in}
 use Rattle.predication.specs.inside.Environments.{member}
-use Rattle.predication.specs.inside.Converted.{begun, ended, all_nodes, all_touched, reads_in, nodes_read}
+use Rattle.predication.specs.inside.Converted.{begun, ended, all_nodes, all_touched, all_written, reads_in}
+use Rattle.predication.specs.inside.Converted.{nodes_read}
 use Rattle.predication.specs.inside.Converted.{writes_read}
 use Rattle.predication.specs.inside.Converted.{has_store, stores_as, mask_below, predicated}
 use Rattle.predication.specs.inside.Laws as predication
@@ -39,8 +41,9 @@ use Rattle.fan_out.proofs.Rooms.{few_nodes}
 use Rattle.c_compile_blocks.specs.inside.Prices.{price}
 use Rattle.c_compile_blocks.specs.inside.Limits.{FitsParts}
 use Rattle.c_compile_blocks.proofs.Flat.{read_of_all}
-use Rattle.c_compile_blocks.proofs.Members.{few_reads, few_writes}
-use Rattle.c_compile_blocks.proofs.PlainBlocks.{IsNoMov, EachWrite, writes_each, front_got}
+use Rattle.c_compile_blocks.proofs.Members.{few_reads, few_writes, written_set}
+use Rattle.c_compile_blocks.proofs.PlainBlocks.{IsNoMov, front_got}
+use Rattle.c_compile_blocks.proofs.PlainWrites.{or_none, EachWrite, writes_each}
 use Rattle.c_compile_blocks.proofs.Firmness.{all_firm}
 use Rattle.c_compile_blocks.proofs.OneGuard.{AreBy, by_at, IsHeld, saves}
 use Rattle.c_compile_blocks.proofs.Entries.{IsChoice, IsScant}
@@ -65,9 +68,6 @@ pub record IsGuarded (P : ℕ → Type 0) (b : Block) : Type 0 where
 pub record IsSlight (w : FlowWrite) : Type 0 where
   pub few : length w.sources ≤ 2
   pub reads : (q : ℕ) → reads_in w.sources q ≡ false
-
-or_none : (a b : Bool) → a ≡ false → b ≡ false → (a || b) ≡ false
-or_none a b p q = rw (p, q) refl
 
 none_read : (ws : List FlowWrite) (q : ℕ) → EachWrite IsSlight ws → writes_read ws q ≡ false
 none_read [] q a = refl
@@ -133,9 +133,13 @@ each_masked b (n ∷ ns) h =
 -- THE BLOCK
 
 -- qs are the registers that it reads
-module _ (b : Block) (qs : List ℕ) (few_named : length qs ≤ 32) (x : IsGuarded (λ q. member q qs ≡ true) b) where
+module _ (narrow : Narrowed) (qs : List ℕ) (few_named : length qs ≤ 32)
+    (x : IsGuarded (λ q. member q qs ≡ true) narrow.block) where
+  abbrev b : Block
+  b = narrow.block
+
   abbrev f : FlowBlock
-  f = predicated b
+  f = predicated narrow
 
   abbrev g : FlowBlock
   g = complete f
@@ -158,7 +162,7 @@ module _ (b : Block) (qs : List ℕ) (few_named : length qs ≤ 32) (x : IsGuard
 
   slight : EachWrite IsSlight f.writes
   slight =
-      writes_each IsSlight (ended b).env (all_touched b) 128
+      writes_each IsSlight (ended b).env (all_written narrow) 128
       (λ r m.
       let h = x.scant r in
       record { few = h.few; reads = h.reads })
@@ -170,7 +174,7 @@ module _ (b : Block) (qs : List ℕ) (few_named : length qs ≤ 32) (x : IsGuard
   by_chooser = completed_by (sure_by f) (want_by f) f c guards firm stored few
 
   written : length f.writes ≤ length (all_touched b)
-  written = few_writes (ended b).env (all_touched b) (all_touched b) 128 (λ r m. m)
+  written = few_writes (ended b).env (all_written narrow) (all_touched b) 128 (written_set narrow)
 
   reads_are : (q : ℕ) → (nodes_read (all_nodes b) q || writes_read f.writes q) ≡ true → P q
   reads_are q d = go (nodes_read (all_nodes b) q) refl d
@@ -227,7 +231,7 @@ module _ (b : Block) (qs : List ℕ) (few_named : length qs ≤ 32) (x : IsGuard
       omega (arith, n, size)
 
   -- each part of the block's flow block is within the machine's limit
-  pub within : FitsParts b
+  pub within : FitsParts narrow
   within =
       let w = written in
       let m = x.cheap in
@@ -242,8 +246,8 @@ module _ (b : Block) (qs : List ℕ) (few_named : length qs ≤ 32) (x : IsGuard
   -- the machine block has at most two cases
   pub few_cases : FitsHyper b → (u : MachineBlock) → fan_out.IsTargeted g u → cases (nodes_of u) ≤ 2
   few_cases fits u is =
-      let flow = converts_fitting b fits numbered in
-      let regular = converts_regular b fits numbered in
+      let flow = converts_fitting narrow fits numbered in
+      let regular = converts_regular narrow fits numbered in
       let whole = is_complete f flow (each_masked f f.nodes regular.masked) in
       let y = given g whole.fits (stays_regular f flow regular) room in
       two_cases g y c (λ j n d e z. by_at c g.nodes j n by_chooser e d z) chooses u is

@@ -15,6 +15,7 @@ pub mod Pieces
 pub mod Items
 pub mod TailNodes
 pub mod Members
+pub mod PlainWrites
 pub mod PlainBlocks
 pub mod Cheap
 pub mod SmallBlocks

@@ -1,11 +1,23 @@
 -- The registers that a block writes and reads are no more than those of a list that has them.
 use Rattle.std.proofs.Common.{◌≡◌, ℕ, zero, suc, ◌+◌, ◌≤◌, Bool, true, false, ◌||◌, List, [], ◌∷◌, ◌++◌, length}
-use Rattle.std.proofs.Common.{refl, ap, arith, cond, nat_eq, nat_lt, ◌⊎◌, inl, inr}
+use Rattle.std.proofs.Common.{refl, sym, ap, ◌∙◌, arith, cond, nat_eq, nat_lt, ◌⊎◌, inl, inr}
 use Rattle.std.proofs.lemmas.Bool.Decides.{nat_tests}
 use Rattle.ir_forms.specs.declared.flow.FlowNode.{FlowNode}
 use Rattle.ir_forms.specs.declared.flow.FlowWrite.{FlowWrite}
 use Rattle.predication.specs.inside.Environments.{Env, member}
+use Rattle.hyper_narrow.specs.inside.NarrowedCode.{Narrowed, outlasts}
 use Rattle.predication.specs.inside.Converted.{writes_below, nodes_read, writes_read, reads_below}
+use Rattle.predication.specs.inside.Converted.{all_touched, all_written}
+use Rattle.predication.proofs.WrittenLemmas.{member_among}
+
+-- a register that is written is set
+pub written_set : (b : Narrowed) (r : ℕ) → member r (all_written b) ≡ true → member r (all_touched b.block) ≡ true
+written_set b r m =
+    go (member r (all_touched b.block)) (sym (member_among b.lasting r (all_touched b.block)) ∙ m)
+  where
+    go : (c : Bool) → cond c (outlasts b.lasting r) false ≡ true → c ≡ true
+    go true e = refl
+    go false e = absurd (cc)
 
 -- how many numbers below n are members
 abbrev marked : List ℕ → ℕ → ℕ

@@ -3,8 +3,8 @@ use Rattle.std.proofs.Common.{◌≡◌, ◌⊎◌, inl, inr, refl, arith}
 use Rattle.ir_forms.specs.declared.fault.Part.TheVariants.{Insts, Reads, Writes, Numbers, Exits}
 use Rattle.ir_forms.specs.declared.fault.FlowFault.{FlowFault}
 use Rattle.ir_forms.specs.declared.fault.FlowFault.TheVariants.{TooBig, Memory}
-use Rattle.ir_forms.specs.inside.HyperCode as hyper
 use Rattle.ir_forms.specs.inside.HyperFits.{FitsHyper, IsSmall}
+use Rattle.hyper_narrow.specs.inside.NarrowedCode.{Narrowed}
 use Rattle.predication.specs.inside.Tails.{labelled}
 use Rattle.predication.specs.inside.Outcomes.{Counts, HasRoomFor, counts_of}
 use Rattle.predication.specs.inside.Outcomes as convert
@@ -13,7 +13,7 @@ use Rattle.c_compile_blocks.specs.inside.Refusals.{IsRefused, IsIncomplete, IsUn
 use Rattle.c_compile_blocks.proofs.FittingPrograms.{only_memory}
 use Rattle.c_compile_blocks.proofs.SmallFit.{small_fits}
 
-room_for : (b : hyper.Block) → FitsMachine b → HasRoomFor (counts_of (labelled b))
+room_for : (b : Narrowed) → FitsMachine b → HasRoomFor (counts_of (labelled b))
 unfolding counts_of
 room_for b f =
     let p = f.parts in
@@ -33,7 +33,7 @@ by_convert c (TooBig Exits n) r h =
     let a = r.exits in let x = h.4 in let y = h.5 in absurd (omega (arith, a, x, y))
 
 -- no pass refuses a block within all limits
-pub never_refused : (b : hyper.Block) (e : FlowFault) → IsRefused b e → FitsMachine b → e ≡ Memory
+pub never_refused : (b : Narrowed) (e : FlowFault) → IsRefused b e → FitsMachine b → e ≡ Memory
 never_refused b e h f = go h.first
   where
     go : convert.IsRefusal (counts_of (labelled b)) e ⊎ IsIncomplete b e ⊎ IsUntargeted b e → e ≡ Memory
@@ -42,5 +42,6 @@ never_refused b e h f = go h.first
     go (inr (inr x)) = let n = only_memory b f in n.targeting e x.refused
 
 -- nor a small one
-pub small_never : (b : hyper.Block) (e : FlowFault) → IsRefused b e → IsSmall b → FitsHyper b → e ≡ Memory
+pub small_never : (b : Narrowed) (e : FlowFault) → IsRefused b e → IsSmall b.block → FitsHyper b.block
+    → e ≡ Memory
 small_never b e h small fits = never_refused b e h (small_fits b small fits)

@@ -16,9 +16,9 @@ use Rattle.ir_forms.specs.declared.flow.FlowNode.{FlowNode}
 use Rattle.ir_forms.specs.declared.flow.FlowBlock.{FlowBlock}
 use Rattle.ir_forms.specs.inside.FlowFits.{IsComplete}
 use Rattle.ir_forms.specs.inside.FlowRegular.{IsRegular}
-use Rattle.ir_forms.specs.inside.HyperCode as hyper
 use Rattle.ir_forms.specs.inside.HyperFits.{FitsHyper, AllLeadOn}
 use Rattle.ir_forms.specs.inside.HyperWords.{AreBytes}
+use Rattle.hyper_narrow.specs.inside.NarrowedCode.{Narrowed}
 use Rattle.fan_out.specs.inside.Targeted.{IsTargeted}
 use Rattle.fan_out.proofs.Given.{given}
 use Rattle.fan_out.proofs.Totals.{Given}
@@ -34,6 +34,7 @@ use Rattle.c_compile_layout.specs.inside.Linking.{by_both, linked_from}
 use Rattle.c_compile_layout.specs.inside.Layouts.{laid_out, linked, AreFew}
 use Rattle.c_compile_layout.specs.inside.Emitted.{image_of, LabelBelow}
 use Rattle.c_compile_layout.proofs.UncheckedRuns.{trimmed_bytes, trimmed_length, trimmed_last}
+use Rattle.hyper_narrow.proofs.BareBlocks.{leads_there}
 use Rattle.c_compile_layout.proofs.Faithful.{has_places}
 use Rattle.c_compile_layout.proofs.Fields.{forms_fit, labels_named}
 use Rattle.c_compile_layout.proofs.Fitting.{complete_resolved}
@@ -65,8 +66,8 @@ both_are chunk k f = ap (λ ns. record f { nodes = ns }) (twice chunk k f.nodes)
 -- A BLOCK
 
 module _ (us : List Block) (few : AreFew us) (k : ℕ) (low : k < length us) (pl : Placing)
-    (b : hyper.Block) (u : Block) (t : Bool) (m : IsPassed t pl b u) (fits : FitsHyper b)
-    (leads : AllLeadOn k (length us) b.tail) where
+    (b : Narrowed) (u : Block) (t : Bool) (m : IsPassed t pl b u) (fits : FitsHyper b.block)
+    (leads : AllLeadOn k (length us) b.block.tail) where
   -- where each slot goes, and back
   abbrev p : ℕ → ℕ
   p = goes m.placed.to
@@ -153,7 +154,7 @@ module _ (chunk : ℕ → ℕ) where
       let z : suc k + i ≡ k + suc i = omega arith in
       linked_at (suc k) i ts t e ∙ ap (λ (n : ℕ). Some (resolved_block (by_both chunk n) t)) z
 
-module _ (B : List hyper.Block) (us : List Block) (t : Bool) (p : Placing) (fits : FitsPasses B)
+module _ (B : List Narrowed) (us : List Block) (t : Bool) (p : Placing) (fits : FitsPasses B)
     (passed : ArePassed t p B us) where
   -- each has 128 slots
   pub sizes : All (λ (u : Block). length u.insts.items ≡ 128) us
@@ -169,8 +170,9 @@ module _ (B : List hyper.Block) (us : List Block) (t : Bool) (p : Placing) (fits
       let l = fits.few in
       few_chunks us (omega (arith, n, l)) sizes
 
-  leads : (k : ℕ) (b : hyper.Block) → slice_get B k ≡ Some b → AllLeadOn k (length us) b.tail
-  leads k b e = subst (λ (m : ℕ). AllLeadOn k m b.tail) (sym passed.size) (fits.followed k b e)
+  leads : (k : ℕ) (b : Narrowed) → slice_get B k ≡ Some b → AllLeadOn k (length us) b.block.tail
+  leads k b e =
+      subst (λ (m : ℕ). AllLeadOn k m b.block.tail) (sym passed.size) (leads_there B fits.followed k b e)
 
   each_fits : (k : ℕ) (x : Block) → slice_get (linked us) k ≡ Some x → FitsBlock x
   each_fits k x e =

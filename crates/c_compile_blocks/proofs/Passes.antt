@@ -1,4 +1,4 @@
--- One hyper block through the passes.
+-- One narrowed block through the passes.
 use Rattle.std.proofs.Common.{◌≡◌, ℕ, ◌+◌, ◌≤◌, inl, inr, Bool, true, false, refl, sym, ap, subst, ◌∙◌, arith}
 use Rattle.std.specs.Prelude.{Option, Some, None, Result, Err, IfErr, IfSome}
 use Rattle.trips_isa.specs.declared.block.Block.{Block}
@@ -9,8 +9,8 @@ use Rattle.ir_forms.specs.declared.flow.FlowBlock.{FlowBlock}
 use Rattle.ir_forms.specs.declared.hyper.Exit.{Exit}
 use Rattle.ir_forms.specs.declared.hyper.Exit.TheVariants as exit
 use Rattle.ir_forms.specs.inside.HyperCode.{Tail, Leave, Test}
-use Rattle.ir_forms.specs.inside.HyperCode as hyper
 use Rattle.ir_forms.specs.inside.HyperFits.{AllLeadOn, LeadsOn, filled_ifs}
+use Rattle.hyper_narrow.specs.inside.NarrowedCode.{Narrowed}
 use Rattle.predication.specs.inside.Tails.{labelled, address_end}
 use Rattle.predication.specs.inside.Converted.{predicated}
 use Rattle.predication.specs.inside.Outcomes.{HasRoomFor, counts_of, NamesLabel, NamesLabels}
@@ -48,27 +48,27 @@ names_labels k n (Test t one other) f h = (names_labels k n one f h.0, names_lab
 
 -- WHAT PASSES
 
-pub has_room : (b : hyper.Block) → HasRoomFor (counts_of (labelled b)) → predication.HasRoom b
+pub has_room : (b : Narrowed) → HasRoomFor (counts_of (labelled b)) → predication.HasRoom b.block
 unfolding counts_of
 has_room b r =
-    let e = exits_with (λ l. address_end + l) b.tail in
+    let e = exits_with (λ l. address_end + l) b.block.tail in
     let x = r.exits in
     record { numbers = r.numbers; exits = omega (arith, e, x) }
 
 -- what predication and completing gave is the flow block
-pub is_flow : (b : hyper.Block) (f g : FlowBlock) → f ≡ predicated (labelled b) → HasRoomFor (counts_of (labelled b))
+pub is_flow : (b : Narrowed) (f g : FlowBlock) → f ≡ predicated (labelled b) → HasRoomFor (counts_of (labelled b))
     → g ≡ wants.complete f → IsWithinLimits g → IsFlow b g
 is_flow b f g is_f room is_g limits = record { is = is_g ∙ ap wants.complete is_f; room = room; limits = limits }
 
 -- a flow block stands for itself
-pub stands_itself : (b : hyper.Block) (f : FlowBlock) → f ≡ flow_of b → StandsFor b f
+pub stands_itself : (b : Narrowed) (f : FlowBlock) → f ≡ flow_of b → StandsFor b f
 stands_itself b f e = record {
   eases = subst (λ (g : FlowBlock). Eases (flow_of b) g) (sym e) (eases_itself (flow_of b));
   guards = inl e;
 }
 
 -- a block that went through all passes as it is has passed
-pub plain_passed : (p : Placing) (b : hyper.Block) (f : FlowBlock) (u : Block) → IsFlow b f → IsPlacedFlow p f u
+pub plain_passed : (p : Placing) (b : Narrowed) (f : FlowBlock) (u : Block) → IsFlow b f → IsPlacedFlow p f u
     → IsPassed false p b u
 plain_passed p b f u i h = record {
   numbers = has_room b i.room;
@@ -82,7 +82,7 @@ plain_passed p b f u i h = record {
 }
 
 -- what is not eased may be where easing is asked for
-pub either_passed : (t : Bool) (p : Placing) (b : hyper.Block) (u : Block) → IsPassed false p b u → IsPassed t p b u
+pub either_passed : (t : Bool) (p : Placing) (b : Narrowed) (u : Block) → IsPassed false p b u → IsPassed t p b u
 either_passed t p b u h = record {
   numbers = h.numbers;
   flow = h.flow;
@@ -95,8 +95,8 @@ either_passed t p b u h = record {
 }
 
 -- a block whose flow block was eased has passed, where the guards are still enough
-pub eased_passed : (p : Placing) (b : hyper.Block) (f g : FlowBlock) (u : Block) → IsFlow b f → Eases f g
-    → filled_ifs b.items ≤ sensed_nodes g.nodes → IsPlacedFlow p g u → IsPassed true p b u
+pub eased_passed : (p : Placing) (b : Narrowed) (f g : FlowBlock) (u : Block) → IsFlow b f → Eases f g
+    → filled_ifs b.block.items ≤ sensed_nodes g.nodes → IsPlacedFlow p g u → IsPassed true p b u
 eased_passed p b f g u i eases guards h = record {
   numbers = has_room b i.room;
   flow = g;
@@ -112,14 +112,14 @@ eased_passed p b f g u i eases guards h = record {
 }
 
 -- so of what is there, if something is
-pub some_passed : (p : Placing) (b : hyper.Block) (f g : FlowBlock) (o : Option Block) → IsFlow b f → Eases f g
-    → filled_ifs b.items ≤ sensed_nodes g.nodes → IfSome o (λ u. IsPlacedFlow p g u)
+pub some_passed : (p : Placing) (b : Narrowed) (f g : FlowBlock) (o : Option Block) → IsFlow b f → Eases f g
+    → filled_ifs b.block.items ≤ sensed_nodes g.nodes → IfSome o (λ u. IsPlacedFlow p g u)
     → IfSome o (λ u. IsPassed true p b u)
 some_passed p b f g None i eases guards h = h
 some_passed p b f g (Some u) i eases guards h = eased_passed p b f g u i eases guards h
 
 -- what passes as it is is the machine block of a block within all limits
-pub is_machine_block : (t : Bool) (p : Placing) (b : hyper.Block) (u : Block) → IsPassed t p b u → t ≡ false
+pub is_machine_block : (t : Bool) (p : Placing) (b : Narrowed) (u : Block) → IsPassed t p b u → t ≡ false
     → FitsMachine b → IsMachineBlock p b u
 is_machine_block t p b u h e f = record {
   numbers = h.numbers;
@@ -135,11 +135,11 @@ is_machine_block t p b u h e f = record {
 -- WHAT IS REFUSED
 
 -- the refusals of the first pass
-pub by_first : (b : hyper.Block) (e : FlowFault) → convert.IsRefusal (counts_of (labelled b)) e → IsRefused b e
+pub by_first : (b : Narrowed) (e : FlowFault) → convert.IsRefusal (counts_of (labelled b)) e → IsRefused b e
 by_first b e h = record { first = inl h }
 
 -- the refusals of the second and the third pass
-pub by_second : (b : hyper.Block) (f : FlowBlock) (e : FlowFault) → f ≡ predicated (labelled b)
+pub by_second : (b : Narrowed) (f : FlowBlock) (e : FlowFault) → f ≡ predicated (labelled b)
     → HasRoomFor (counts_of (labelled b)) → complete.IsRefusal f e → IsRefused b e
 by_second b f e is_f room h = record {
   first = inr (inl (record {
@@ -149,7 +149,7 @@ by_second b f e is_f room h = record {
 }
 
 -- a block that the third pass refuses is refused
-pub by_third : (b : hyper.Block) (f : FlowBlock) (e : FlowFault) → IsFlow b f → target.IsRefusal f e → IsRefused b e
+pub by_third : (b : Narrowed) (f : FlowBlock) (e : FlowFault) → IsFlow b f → target.IsRefusal f e → IsRefused b e
 by_third b f e i h = record {
   first = inr (inr (record {
     room = i.room;
@@ -159,7 +159,7 @@ by_third b f e i h = record {
 }
 
 -- want of memory is always a refusal
-pub by_memory : (b : hyper.Block) (e : FlowFault) → e ≡ Memory → IsRefused b e
+pub by_memory : (b : Narrowed) (e : FlowFault) → e ≡ Memory → IsRefused b e
 by_memory b e m = subst (IsRefused b) (sym m) (by_first b Memory tt)
 
 -- a refusal is handed on

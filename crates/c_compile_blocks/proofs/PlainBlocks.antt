@@ -14,16 +14,14 @@ use Rattle.ir_forms.specs.declared.flow.FlowSource.{FlowSource}
 use Rattle.ir_forms.specs.declared.flow.FlowSource.TheVariants.{Node}
 use Rattle.ir_forms.specs.declared.flow.Guard.{Guard}
 use Rattle.ir_forms.specs.declared.flow.FlowNode.{FlowNode}
-use Rattle.ir_forms.specs.declared.flow.FlowWrite.{FlowWrite}
 use Rattle.ir_forms.specs.inside.FlowFits.{in_mask}
 use Rattle.ir_forms.specs.inside.HyperCode.{Block}
 use Rattle.ir_forms.specs.inside.HyperFits.{FitsItems, ifs_in, items_in}
+use Rattle.hyper_narrow.specs.inside.NarrowedCode.{Narrowed}
 use Rattle.hyper_build.specs.inside.Smallness.{TestsJump}
-use Rattle.predication.specs.declared.work.Entry.{Entry}
-use Rattle.predication.specs.inside.Environments.{Env, no_bits, at_start, member}
-use Rattle.predication.specs.inside.Converted.{begun, ended, all_nodes, all_touched, writes_below, reads_in}
-use Rattle.predication.specs.inside.Converted.{nodes_read}
-use Rattle.predication.specs.inside.Converted.{writes_read, has_store, stores_as, mask_below, predicated}
+use Rattle.predication.specs.inside.Environments.{no_bits, at_start, member}
+use Rattle.predication.specs.inside.Converted.{begun, ended, all_nodes, all_touched, all_written, reads_in}
+use Rattle.predication.specs.inside.Converted.{nodes_read, writes_read, has_store, stores_as, mask_below, predicated}
 use Rattle.predication.proofs.Regular.{mask_says, read_once}
 use Rattle.predication.specs.inside.Ifs.{touched}
 use Rattle.predication.specs.inside.Tails.{tail_touched}
@@ -31,17 +29,18 @@ use Rattle.null_outputs.specs.inside.Groups.{store_source, stores_of}
 use Rattle.null_outputs.specs.inside.Straight.{IsFed, IsStraight}
 use Rattle.fan_out.specs.inside.Counts.{nodes_kinds, writes_kinds}
 use Rattle.fan_out.specs.inside.Targeted.{count_insts}
-use Rattle.c_compile_blocks.specs.inside.Prices.{price, write_price}
+use Rattle.c_compile_blocks.specs.inside.Prices.{price}
 use Rattle.c_compile_blocks.specs.inside.Costs.{items_cost, tail_cost}
 use Rattle.c_compile_blocks.proofs.Prices.{Feeding, few_insts}
 use Rattle.c_compile_blocks.proofs.Flat.{IsFlat, flat_at, uses_append, AreUsed, used_append, used_grow}
-use Rattle.c_compile_blocks.proofs.Flat.{price_append, ReadOnly, read_append, read_of_all, Told}
-use Rattle.c_compile_blocks.proofs.Flat.{told_front, told_back}
-use Rattle.c_compile_blocks.proofs.Flat.{told_from, Good, good_append}
+use Rattle.c_compile_blocks.proofs.Flat.{price_append, ReadOnly, read_append, read_of_all, Told, told_front}
+use Rattle.c_compile_blocks.proofs.Flat.{told_back, told_from, Good, good_append}
 use Rattle.c_compile_blocks.proofs.Pieces.{IsSet, ArePlain}
 use Rattle.c_compile_blocks.proofs.Items.{NamesIn, IsOut, items_out}
 use Rattle.c_compile_blocks.proofs.TailNodes.{IsGuarded, AreGuarded, NamesEnd, IsEnd, tail_end}
-use Rattle.c_compile_blocks.proofs.Members.{member_split}
+use Rattle.c_compile_blocks.proofs.Members.{member_split, written_set}
+use Rattle.c_compile_blocks.proofs.PlainWrites.{or_none, EachWrite, writes_each, FromFront, from_set, fronts_price}
+use Rattle.c_compile_blocks.proofs.PlainWrites.{fronts_read, front_at}
 
 -- a block without if-items, whose registers fulfil P where they are read
 pub record IsPlainBlock (P : ℕ → Type 0) (b : Block) : Type 0 where
@@ -112,9 +111,6 @@ branch_stores form.Load n k e = absurd (cc)
 branch_stores form.Store n k e = absurd (cc)
 branch_stores form.Constant n k e = absurd (cc)
 
-or_none : (a b : Bool) → a ≡ false → b ≡ false → (a || b) ≡ false
-or_none a b p q = rw (p, q) refl
-
 guarded_stores : (c k : ℕ) (ns : List FlowNode) → AreGuarded c ns → has_store ns k ≡ false
 guarded_stores c k [] a = refl
 guarded_stores c k (n ∷ ns) a =
@@ -147,57 +143,12 @@ stored_fed c k (n ∷ a) b j g e =
     by form.Branch d f = f d
     by form.Constant d f = f d
 
--- WRITES
-
--- something holds of each of some writes
-abbrev pub EachWrite : (FlowWrite → Type 0) → List FlowWrite → Type 0
-EachWrite Q [] = Unit {0}
-EachWrite Q (w ∷ ws) = Q w × EachWrite Q ws
-
--- what holds of the write of each register of a list holds of all writes
-pub writes_each : (Q : FlowWrite → Type 0) (env : Env) (rs : List ℕ) (n : ℕ)
-    → ((r : ℕ) → member r rs ≡ true → Q (record { register = r; sources = (env r).given }))
-    → EachWrite Q (writes_below env rs n)
-writes_each Q env rs zero f = tt
-writes_each Q env rs (suc n) f = go (member n rs) refl (writes_each Q env rs n f)
-  where
-    go : (c : Bool) → member n rs ≡ c → EachWrite Q (writes_below env rs n)
-        → EachWrite Q (cond c (record { register = n; sources = (env n).given } ∷ writes_below env rs n)
-        (writes_below env rs n))
-    go true e h = (f n e, h)
-    go false e h = h
-
--- a write from one node among the first
-abbrev FromFront : ℕ → FlowWrite → Type 0
-FromFront k w = (i : ℕ) × (i < k) × (w.sources ≡ Node i ∷ [])
-
-from_set : (k r : ℕ) (e : Entry) → IsSet k e → FromFront k (record { register = r; sources = e.given })
-from_set k r e (i, l, q) = (i, l, ap (λ (x : Entry). x.given) q)
-
-fronts_price : (k : ℕ) (ws : List FlowWrite) → EachWrite (FromFront k) ws → write_price ws ≤ length ws
-fronts_price k [] a = omega arith
-fronts_price k (w ∷ ws) ((i, l, q), rest) =
-    let h = fronts_price k ws rest in
-    let e = ap (λ (ss : List FlowSource). length ss) q in
-    omega (arith, h, e)
-
-fronts_read : (k q : ℕ) (ws : List FlowWrite) → EachWrite (FromFront k) ws → writes_read ws q ≡ false
-fronts_read k q [] a = refl
-fronts_read k q (w ∷ ws) ((i, l, e), rest) =
-    or_none (reads_in w.sources q) (writes_read ws q) (ap (λ (ss : List FlowSource). reads_in ss q) e)
-    (fronts_read k q ws rest)
-
-front_at : (k : ℕ) (ws : List FlowWrite) (j : ℕ) (w : FlowWrite) → EachWrite (FromFront k) ws
-    → slice_get ws j ≡ Some w → IsFed k w.sources
-front_at k [] j w a e = absurd (cc)
-front_at k (v ∷ ws) zero w ((i, l, q), rest) e =
-    let same : v ≡ w = cc in
-    subst (λ (x : FlowWrite). IsFed k x.sources) same (subst (IsFed k) (sym q) l)
-front_at k (v ∷ ws) (suc j) w ((i, l, q), rest) e = front_at k ws j w rest e
-
 -- THE BLOCK
 
-module _ (P : ℕ → Type 0) (b : Block) (st : IsPlainBlock P b) where
+module _ (P : ℕ → Type 0) (narrow : Narrowed) (st : IsPlainBlock P narrow.block) where
+  abbrev b : Block
+  b = narrow.block
+
   abbrev ns : List FlowNode
   ns = all_nodes b
 
@@ -277,10 +228,10 @@ module _ (P : ℕ → Type 0) (b : Block) (st : IsPlainBlock P b) where
           (e.kept r (subst (λ (i : ℕ). IsSet i ((begun b).env r)) size (o.sets r x)))
       go (inr x) = let e = finish in subst (λ (i : ℕ). IsSet i ((ended b).env r)) at (e.sets r x)
 
-  writes : EachWrite (FromFront (length ahead)) (predicated b).writes
+  writes : EachWrite (FromFront (length ahead)) (predicated narrow).writes
   writes =
-      writes_each (FromFront (length ahead)) (ended b).env (all_touched b) 128
-      (λ r m. from_set (length ahead) r ((ended b).env r) (set_all r m))
+      writes_each (FromFront (length ahead)) (ended b).env (all_written narrow) 128
+      (λ r m. from_set (length ahead) r ((ended b).env r) (set_all r (written_set narrow r m)))
 
   within_all : length ahead ≤ length ns
   within_all =
@@ -316,46 +267,47 @@ module _ (P : ℕ → Type 0) (b : Block) (st : IsPlainBlock P b) where
           (ap (λ (l : List FlowNode). has_store l k) (sym nodes_are) ∙ h)))
 
   -- what is written and stored hangs on nodes that are not guarded
-  pub straight : IsStraight (predicated b)
+  pub straight : IsStraight (predicated narrow)
   straight = record {
     front = length ahead;
     within = within_all;
     guards = λ y n l e. let f = front_flat y n l e in f.guard;
     left = λ y n l e t. let f = front_flat y n l e in f.left t;
     right = λ y n l e t. let f = front_flat y n l e in f.right t;
-    writes = λ j w e. front_at (length ahead) (predicated b).writes j w writes e;
+    writes = λ j w e. front_at (length ahead) (predicated narrow).writes j w writes e;
     numbers = numbers_fed;
   }
 
   -- COUNTS
 
-  feeding : (j : ℕ) (ms : List FlowNode) → AreUsed ns j ms → Feeding (predicated b) j ms
+  feeding : (j : ℕ) (ms : List FlowNode) → AreUsed ns j ms → Feeding (predicated narrow) j ms
   feeding j [] a = tt
   feeding j (n ∷ ms) a = (
     (λ e.
         let h = (a.0) e in
-        let s = length-append (nodes_kinds (Node j) ns) (writes_kinds (Node j) (predicated b).writes) in
+        let s = length-append (nodes_kinds (Node j) ns) (writes_kinds (Node j) (predicated narrow).writes) in
         omega (arith, h, s)),
     feeding (suc j) ms a.1,
   )
 
   -- a plain block has no more instructions than its items, its tail and its writes cost
-  pub insts_few : count_insts (predicated b) ≤ items_cost b.items + tail_cost b.tail + length (predicated b).writes
+  pub insts_few : count_insts (predicated narrow)
+      ≤ items_cost b.items + tail_cost b.tail + length (predicated narrow).writes
   insts_few =
-      let a = few_insts (predicated b) (λ i j r x y. read_once ns (predicated b).writes 128 i j r x y)
+      let a = few_insts (predicated narrow) (λ i j r x y. read_once ns (predicated narrow).writes 128 i j r x y)
       (feeding 0 ns used) in
       let c = costs in
-      let d = fronts_price (length ahead) (predicated b).writes writes in
+      let d = fronts_price (length ahead) (predicated narrow).writes writes in
       omega (arith, a, c, d)
 
   -- each register that a plain block reads is one that it may read
-  pub reads_are : (q : ℕ) → (nodes_read ns q || writes_read (predicated b).writes q) ≡ true → P q
+  pub reads_are : (q : ℕ) → (nodes_read ns q || writes_read (predicated narrow).writes q) ≡ true → P q
   reads_are q e = go (nodes_read ns q) refl e
     where
-      go : (c : Bool) → nodes_read ns q ≡ c → (c || writes_read (predicated b).writes q) ≡ true → P q
+      go : (c : Bool) → nodes_read ns q ≡ c → (c || writes_read (predicated narrow).writes q) ≡ true → P q
       go true x y = read_of_all P ns q reads x
       go false x y =
-          absurd (let z = sym (fronts_read (length ahead) q (predicated b).writes writes) ∙ y in cc)
+          absurd (let z = sym (fronts_read (length ahead) q (predicated narrow).writes writes) ∙ y in cc)
 
   -- a plain block has no more loads and stores than items
   pub number_few : (begun b).number ≤ items_in b.items

@@ -11,6 +11,8 @@ use Rattle.ir_forms.specs.declared.hyper.Exit.{Exit}
 use Rattle.ir_forms.specs.declared.flow.FlowNode.{FlowNode}
 use Rattle.ir_forms.specs.declared.flow.FlowBlock.{FlowBlock}
 use Rattle.ir_forms.specs.inside.HyperCode.{Items, Done, Set, Load, Save, If, Tail, Leave, Test, Block}
+use Rattle.hyper_narrow.specs.declared.narrowed.Lasting.{Lasting}
+use Rattle.hyper_narrow.specs.inside.NarrowedCode.{Narrowed}
 use Rattle.ir_forms.specs.inside.HyperFits.{FitsHyper, FitsItems, IsSmall, items_in, ifs_in}
 use Rattle.hyper_build.specs.inside.SmallIfs.{IsShortLeg, if_block}
 use Rattle.predication.specs.inside.Environments.{no_bits, at_start, member}
@@ -232,15 +234,15 @@ zeros op.Sb a = refl
 zeros _ a = absurd a
 
 -- whatever its labels stand for, the block is one of these
-module _ (b : Block) (fits : FitsHyper b) (qs : (ℕ → ℕ) → List ℕ) (few : (f : ℕ → ℕ) → length (qs f) ≤ 32)
-    (h : (f : ℕ → ℕ) → IsGuarded (λ q. member q (qs f) ≡ true) (block_with f b))
-    (numbers : predication.HasRoom b) where
+module _ (b : Narrowed) (fits : FitsHyper b.block) (qs : (ℕ → ℕ) → List ℕ) (few : (f : ℕ → ℕ) → length (qs f) ≤ 32)
+    (h : (f : ℕ → ℕ) → IsGuarded (λ q. member q (qs f) ≡ true) (block_with f b.block))
+    (numbers : predication.HasRoom b.block) where
   cases_few : (u : MachineBlock) → fan_out.IsTargeted (complete (predicated (labelled b))) u
       → cases (nodes_of u) ≤ 256
   cases_few u is =
       let f = predicated (labelled b) in
       let a = addressed anywhere b in
-      let taken = takes_addressed anywhere b short fits numbers in
+      let taken = takes_addressed anywhere b.block short fits numbers in
       let same = ap complete (resolves_labels anywhere b short fits) in
       let v = resolved_block (by_address (λ l. 0)) u in
       let targeted : fan_out.IsTargeted (complete (predicated a)) v =
@@ -259,52 +261,55 @@ module _ (b : Block) (fits : FitsHyper b) (qs : (ℕ → ℕ) → List ℕ) (few
     cases = cases_few;
   }
 
-if_fits : (is : Items) (out : Exit) → FitsHyper (record { items = is; tail = Leave out }) → ifs_in is ≡ 1
-    → items_in is ≤ 3 → FitsMachine (record { items = is; tail = Leave out })
-if_fits is out fits one few =
-    guarded_fits (record { items = is; tail = Leave out }) fits
+-- items and a tail as a block, with what outlasts it
+abbrev narrow : Lasting → Items → Tail → Narrowed
+narrow o is t = record { block = record { items = is; tail = t }; lasting = o }
+
+if_fits : (o : Lasting) (is : Items) (out : Exit) → FitsHyper (record { items = is; tail = Leave out })
+    → ifs_in is ≡ 1 → items_in is ≤ 3 → FitsMachine (narrow o is (Leave out))
+if_fits o is out fits one few =
+    guarded_fits (narrow o is (Leave out)) fits
     (λ f. block_registers is (exit_registers (exit_with f out)))
     (λ f. let l = leaf_few (exit_with f out) in
     block_few is (exit_registers (exit_with f out)) few (omega (arith, one)) (omega (arith, l)))
     (λ f. if_guarded is (exit_with f out) fits.items one few)
-    (numbered (record { items = is; tail = Leave out }) (block_registers is (exit_registers out))
+    (numbered (narrow o is (Leave out)) (block_registers is (exit_registers out))
     (let l = leaf_few out in block_few is (exit_registers out) few (omega (arith, one)) (omega (arith, l)))
     (if_guarded is out fits.items one few))
 
-test_fits : (is : Items) (t : Source) (one other : Exit)
+test_fits : (o : Lasting) (is : Items) (t : Source) (one other : Exit)
     → FitsHyper (record { items = is; tail = Test t (Leave one) (Leave other) }) → ifs_in is ≡ 0
-    → items_in is ≤ 3 → FitsMachine (record { items = is; tail = Test t (Leave one) (Leave other) })
-test_fits is t one other fits none few =
-    guarded_fits (record { items = is; tail = Test t (Leave one) (Leave other) }) fits
+    → items_in is ≤ 3 → FitsMachine (narrow o is (Test t (Leave one) (Leave other)))
+test_fits o is t one other fits none few =
+    guarded_fits (narrow o is (Test t (Leave one) (Leave other))) fits
     (λ f. block_registers is (test_registers t (exit_with f one) (exit_with f other)))
     (λ f. block_few is (test_registers t (exit_with f one) (exit_with f other)) few (omega (arith, none))
     (test_few t (exit_with f one) (exit_with f other)))
     (λ f. test_guarded is t (exit_with f one) (exit_with f other) fits.items none few)
-    (numbered (record { items = is; tail = Test t (Leave one) (Leave other) })
+    (numbered (narrow o is (Test t (Leave one) (Leave other)))
     (block_registers is (test_registers t one other))
     (block_few is (test_registers t one other) few (omega (arith, none)) (test_few t one other))
     (test_guarded is t one other fits.items none few))
 
 -- EVERY SMALL BLOCK
 
-parts_fit : (is : Items) (t : Tail) → FitsHyper (record { items = is; tail = t })
-    → IsSmall (record { items = is; tail = t }) → FitsMachine (record { items = is; tail = t })
-parts_fit is (Leave out) fits small = go (ifs_in is) refl
+parts_fit : (o : Lasting) (is : Items) (t : Tail) → FitsHyper (record { items = is; tail = t })
+    → IsSmall (record { items = is; tail = t }) → FitsMachine (narrow o is t)
+parts_fit o is (Leave out) fits small = go (ifs_in is) refl
   where
-    go : (k : ℕ) → ifs_in is ≡ k → FitsMachine (record { items = is; tail = Leave out })
+    go : (k : ℕ) → ifs_in is ≡ k → FitsMachine (narrow o is (Leave out))
     go zero e =
-        plain_fits (record { items = is; tail = Leave out }) fits
-        (inl (record { small = small; plain = e; jumps = tt }))
-    go (suc zero) e = if_fits is out fits e small.items
+        plain_fits (narrow o is (Leave out)) fits (inl (record { small = small; plain = e; jumps = tt }))
+    go (suc zero) e = if_fits o is out fits e small.items
     go (suc (suc k)) e = absurd (let s = small.tests in omega (arith, s, e))
-parts_fit is (Test t (Leave one) (Leave other)) fits small =
-    let s = small.tests in test_fits is t one other fits (omega (arith, s)) small.items
-parts_fit is (Test t (Test u x y) z) fits small = absurd (let s = small.tests in omega (arith, s))
-parts_fit is (Test t (Leave one) (Test u x y)) fits small = absurd (let s = small.tests in omega (arith, s))
+parts_fit o is (Test t (Leave one) (Leave other)) fits small =
+    let s = small.tests in test_fits o is t one other fits (omega (arith, s)) small.items
+parts_fit o is (Test t (Test u x y) z) fits small = absurd (let s = small.tests in omega (arith, s))
+parts_fit o is (Test t (Leave one) (Test u x y)) fits small = absurd (let s = small.tests in omega (arith, s))
 
 -- each small block fits the machine
 pub small_fits : SmallBlocksFit
-small_fits b small fits = parts_fit b.items b.tail fits small
+small_fits b small fits = parts_fit b.lasting b.block.items b.block.tail fits small
 
 -- ONE SMALL IF
 
@@ -342,6 +347,6 @@ if_small t one other out x y =
 -- each block of one small if alone fits the machine
 pub small_ifs : SmallIfsFit
 small_ifs b fits h =
-    subst FitsMachine (sym h.is)
-    (small_fits (if_block h.test h.one h.other h.out) (if_small h.test h.one h.other h.out h.first h.second)
-    (subst FitsHyper h.is fits))
+    subst (λ (x : Block). FitsMachine (record { block = x; lasting = b.lasting })) (sym h.is)
+    (small_fits (record { block = if_block h.test h.one h.other h.out; lasting = b.lasting })
+    (if_small h.test h.one h.other h.out h.first h.second) (subst FitsHyper h.is fits))

@@ -6,7 +6,7 @@ use Rattle.trips_isa.specs.declared.block.Inst.{Inst}
 use Rattle.trips_isa.specs.declared.block.Block.{Block}
 use Rattle.trips_isa.specs.Images.{chunk_of}
 use Rattle.block_cases.specs.Orders as orders
-use Rattle.ir_forms.specs.inside.HyperCode as hyper
+use Rattle.hyper_narrow.specs.inside.NarrowedCode.{Narrowed}
 use Rattle.fan_out.specs.declared.wiring.Placed.{Placed}
 use Rattle.fan_out.specs.inside.Targeted.{slot_of, slots, count_insts}
 use Rattle.grid_place.specs.declared.placed.Placing.{Placing}
@@ -59,7 +59,7 @@ used_resolved : (r : Resolves) (i : Option Inst) → is_used (resolved_slot r i)
 used_resolved r None = refl
 used_resolved r (Some i) = refl
 
-has_slots : (r : Resolves) (p : Placing) (b : hyper.Block) (u : Block) (m : IsMachineBlock p b u)
+has_slots : (r : Resolves) (p : Placing) (b : Narrowed) (u : Block) (m : IsMachineBlock p b u)
     → HasSlots (goes m.placed.to) (resolved_block r u)
 has_slots r p b u m = record {
   count = count_insts m.flow;
@@ -72,7 +72,7 @@ has_slots r p b u m = record {
       ∙ first_used (slots m.flow) (128 - length (slots m.flow)) s))));
 }
 
-has_placed_slots : (r : Resolves) (p : Placing) (b : hyper.Block) (u : Block) → IsMachineBlock p b u
+has_placed_slots : (r : Resolves) (p : Placing) (b : Narrowed) (u : Block) → IsMachineBlock p b u
     → HasPlacedSlots p (resolved_block r u)
 has_placed_slots r p b u m = record { to = m.placed.to; is = m.placed.is; slots = has_slots r p b u m }
 

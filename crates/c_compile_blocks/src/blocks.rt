@@ -1,9 +1,11 @@
-//! The machine blocks of hyper blocks: the passes, one after the other.
+//! The machine blocks of narrowed blocks: the passes, one after the other.
 ghost use Rattle.std.specs.Prelude.{◌≡◌, ◌≤◌, ◌<◌, ◌^◌, ◌++◌, ◌∷◌, [], false, true, length, map};
 ghost use Rattle.std.specs.Prelude.{IfErr, IfOk, IfSome, OnOk};
 ghost use Rattle.ir_forms.specs.declared.fault.FlowFault.TheVariants.{Memory};
 ghost use Rattle.ir_forms.specs.inside.HyperFits.{FitsHyper, IsFollowed, IsSmall};
-ghost use Rattle.ir_forms.specs.inside.HyperViews.{block_of, blocks_of, tail_of};
+ghost use Rattle.ir_forms.specs.inside.HyperViews.{tail_of};
+ghost use Rattle.hyper_narrow.specs.inside.NarrowedCode.{bare};
+ghost use Rattle.hyper_narrow.specs.inside.NarrowedViews.{narrowed_blocks, narrowed_of};
 ghost use Rattle.predication.specs.inside.Outcomes.{NamesLabels};
 ghost use Rattle.c_compile_blocks.specs.inside.Limits.{FitsMachine};
 ghost use Rattle.c_compile_blocks.specs.inside.Blocks.{ArePassed, AreMachineBlocks, IsMachineBlock, IsPassed};
@@ -18,17 +20,18 @@ use base::Items;
 use fan_out::target;
 use flow_ease::ease;
 use grid_place::{Placing, place};
-use ir_forms::{FlowBlock, FlowFault, HyperBlock, HyperProgram};
+use hyper_narrow::{NarrowedBlock, NarrowedProgram};
+use ir_forms::{FlowBlock, FlowFault};
 use null_outputs::complete;
 use predication::convert;
 use std::alloc::Global;
 use trips_isa::Block;
 
-// The flow block of a hyper block: predicated and completed.
-fn flow_block(alloc: Global, block: &HyperBlock) -> Result<FlowBlock, FlowFault>
-    requires labels { NamesLabels (tail_of block.now.tail) }
-    ensures ok { IfOk result (λ f. IsFlow (block_of block.now) f) }
-    ensures err { IfErr result (λ e. IsRefused (block_of block.now) e) }
+// The flow block of a narrowed block: predicated and completed.
+fn flow_block(alloc: Global, block: &NarrowedBlock) -> Result<FlowBlock, FlowFault>
+    requires labels { NamesLabels (tail_of block.now.block.tail) }
+    ensures ok { IfOk result (λ f. IsFlow (narrowed_of block.now) f) }
+    ensures err { IfErr result (λ e. IsRefused (narrowed_of block.now) e) }
 {
     let flow = complete(alloc, convert(alloc, block)?)?;
     Ok(flow)
@@ -47,10 +50,10 @@ fn placed_block(alloc: Global, flow: &FlowBlock, placing: Placing) -> Result<Blo
 }
 
 // The machine block of the flow block as it is.
-fn plain_block(alloc: Global, block: &HyperBlock, placing: Placing) -> Result<Block, FlowFault>
-    requires labels { NamesLabels (tail_of block.now.tail) }
-    ensures ok { IfOk result (λ u. IsPassed false placing (block_of block.now) u) }
-    ensures err { IfErr result (λ e. IsRefused (block_of block.now) e) }
+fn plain_block(alloc: Global, block: &NarrowedBlock, placing: Placing) -> Result<Block, FlowFault>
+    requires labels { NamesLabels (tail_of block.now.block.tail) }
+    ensures ok { IfOk result (λ u. IsPassed false placing (narrowed_of block.now) u) }
+    ensures err { IfErr result (λ e. IsRefused (narrowed_of block.now) e) }
 {
     let flow = flow_block(alloc, block)?;
     let placed = placed_block(alloc, &flow, placing)?;
@@ -89,35 +92,35 @@ fn placed_or_none(
 // if-item.
 fn eased_block(
     alloc: Global,
-    block: &HyperBlock,
+    block: &NarrowedBlock,
     placing: Placing,
 ) -> Result<Option<Block>, FlowFault>
-    requires labels { NamesLabels (tail_of block.now.tail) }
-    ensures ok { IfOk result (λ o. IfSome o (λ u. IsPassed true placing (block_of block.now) u)) }
-    ensures err { IfErr result (λ e. IsRefused (block_of block.now) e) }
+    requires labels { NamesLabels (tail_of block.now.block.tail) }
+    ensures ok { IfOk result (λ o. IfSome o (λ u. IsPassed true placing (narrowed_of block.now) u)) }
+    ensures err { IfErr result (λ e. IsRefused (narrowed_of block.now) e) }
 {
     let flow = flow_block(alloc, block)?;
     let eased = eased_flow(alloc, flow)?;
     if eased.nodes.len() > 128 {
         return Ok(None);
     }
-    if !keeps_guards(block, &eased) {
+    if !keeps_guards(&block.block, &eased) {
         return Ok(None);
     }
     let placed = placed_or_none(alloc, &eased, placing)?;
     Ok(placed)
 }
 
-// The machine block of a hyper block, of the eased flow block where that is asked for and may be.
+// The machine block of a narrowed block, of the eased flow block where that is asked for and may be.
 fn passed_block(
     alloc: Global,
-    block: &HyperBlock,
+    block: &NarrowedBlock,
     placing: Placing,
     is_eased: bool,
 ) -> Result<Block, FlowFault>
-    requires labels { NamesLabels (tail_of block.now.tail) }
-    ensures ok { IfOk result (λ u. IsPassed is_eased placing (block_of block.now) u) }
-    ensures err { IfErr result (λ e. IsRefused (block_of block.now) e) }
+    requires labels { NamesLabels (tail_of block.now.block.tail) }
+    ensures ok { IfOk result (λ u. IsPassed is_eased placing (narrowed_of block.now) u) }
+    ensures err { IfErr result (λ e. IsRefused (narrowed_of block.now) e) }
 {
     if !is_eased {
         return plain_block(alloc, block, placing);
@@ -128,7 +131,7 @@ fn passed_block(
     }
 }
 
-/// The machine block of a hyper block: predicated, completed, eased where that is asked for, with targets, and
+/// The machine block of a narrowed block: predicated, completed, eased where that is asked for, with targets, and
 /// placed. Its labels stand in immediates until the blocks are laid out.
 ///
 /// It is refused as the first pass that refuses it says; what is too big when it is eased is taken as it was before.
@@ -137,17 +140,18 @@ fn passed_block(
 /// (`small_blocks_fit`).
 pub fn machine_block(
     alloc: Global,
-    block: &HyperBlock,
+    block: &NarrowedBlock,
     placing: Placing,
     is_eased: bool,
 ) -> Result<Block, FlowFault>
-    requires labels { NamesLabels (tail_of block.now.tail) }
-    ensures ok { IfOk result (λ u. IsPassed is_eased placing (block_of block.now) u) }
-    ensures err { IfErr result (λ e. IsRefused (block_of block.now) e) }
-    ensures machine { IfOk result (λ u. is_eased ≡ false → FitsMachine (block_of block.now)
-        → IsMachineBlock placing (block_of block.now) u) }
-    ensures fits { IfErr result (λ e. FitsMachine (block_of block.now) → e ≡ Memory) }
-    ensures small { IfErr result (λ e. IsSmall (block_of block.now) → FitsHyper (block_of block.now) → e ≡ Memory) }
+    requires labels { NamesLabels (tail_of block.now.block.tail) }
+    ensures ok { IfOk result (λ u. IsPassed is_eased placing (narrowed_of block.now) u) }
+    ensures err { IfErr result (λ e. IsRefused (narrowed_of block.now) e) }
+    ensures machine { IfOk result (λ u. is_eased ≡ false → FitsMachine (narrowed_of block.now)
+        → IsMachineBlock placing (narrowed_of block.now) u) }
+    ensures fits { IfErr result (λ e. FitsMachine (narrowed_of block.now) → e ≡ Memory) }
+    ensures small { IfErr result (λ e. IsSmall (narrowed_of block.now).block
+        → FitsHyper (narrowed_of block.now).block → e ≡ Memory) }
 {
     passed_block(alloc, block, placing, is_eased)
 }
@@ -163,18 +167,18 @@ fn keep(blocks: &mut Items<Block>, block: Block) -> Result<(), FlowFault>
     }
 }
 
-// The machine blocks of the blocks of a hyper program, or the refusal of the first that is refused.
+// The machine blocks of the blocks of a narrowed program, or the refusal of the first that is refused.
 fn all_blocks(
     alloc: Global,
-    program: &[HyperBlock],
+    program: &[NarrowedBlock],
     placing: Placing,
     is_eased: bool,
 ) -> Result<Items<Block>, FlowFault>
-    requires followed { IsFollowed (map block_of program.now) }
-    requires few { length (map block_of program.now) ≤ label_count }
-    ensures ok { IfOk result (λ us. ArePassed is_eased placing (map block_of program.now) us) }
+    requires followed { IsFollowed (bare (map narrowed_of program.now)) }
+    requires few { length (map narrowed_of program.now) ≤ label_count }
+    ensures ok { IfOk result (λ us. ArePassed is_eased placing (map narrowed_of program.now) us) }
     ensures err { IfErr result (λ e.
-        HasRefused is_eased placing (map block_of program.now) e) }
+        HasRefused is_eased placing (map narrowed_of program.now) e) }
 {
     let mut blocks = Items::new(alloc);
     for block in program {
@@ -183,20 +187,20 @@ fn all_blocks(
     Ok(blocks)
 }
 
-/// The machine blocks of a hyper program, or the refusal of its first block that is refused.
+/// The machine blocks of a narrowed program, or the refusal of its first block that is refused.
 pub fn machine_blocks(
     alloc: Global,
-    program: &HyperProgram,
+    program: &NarrowedProgram,
     placing: Placing,
     is_eased: bool,
 ) -> Result<Items<Block>, FlowFault>
-    requires followed { IsFollowed (blocks_of program.now) }
-    requires few { length (blocks_of program.now) ≤ label_count }
-    ensures ok { IfOk result (λ us. ArePassed is_eased placing (blocks_of program.now) us) }
-    ensures err { IfErr result (λ e. HasRefused is_eased placing (blocks_of program.now) e) }
-    ensures machine { IfOk result (λ us. is_eased ≡ false → FitMachine (blocks_of program.now)
-        → AreMachineBlocks placing (blocks_of program.now) us) }
-    ensures fits { IfErr result (λ e. FitMachine (blocks_of program.now) → e ≡ Memory) }
+    requires followed { IsFollowed (bare (narrowed_blocks program.now)) }
+    requires few { length (narrowed_blocks program.now) ≤ label_count }
+    ensures ok { IfOk result (λ us. ArePassed is_eased placing (narrowed_blocks program.now) us) }
+    ensures err { IfErr result (λ e. HasRefused is_eased placing (narrowed_blocks program.now) e) }
+    ensures machine { IfOk result (λ us. is_eased ≡ false → FitMachine (narrowed_blocks program.now)
+        → AreMachineBlocks placing (narrowed_blocks program.now) us) }
+    ensures fits { IfErr result (λ e. FitMachine (narrowed_blocks program.now) → e ≡ Memory) }
 {
     all_blocks(alloc, program.blocks.as_slice(), placing, is_eased)
 }

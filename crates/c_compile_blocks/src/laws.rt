@@ -1,6 +1,6 @@
 ghost use Rattle.c_compile_blocks.specs.inside.Laws.{GivesEmitted, UsesSlots};
 
-/// The machine blocks that the passes make of a hyper program are what the layout takes, whatever
+/// The machine blocks that the passes make of a narrowed program are what the layout takes, whatever
 /// permutation each is placed by: so their image means the program.
 pub fn machine_blocks_are_emitted()
     ensures { GivesEmitted }

@@ -1,4 +1,4 @@
-//! The blocks that the compiler's passes make of a hyper program, up to the joint with the layout: the passes
+//! The blocks that the compiler's passes make of a narrowed program, up to the joint with the layout: the passes
 //! composed, and the laws of what they make. The other modules have laws alone: of blocks that the passes made and
 //! the checker took, whatever the number of their cases, and that the blocks of a plan which cuts everywhere are
 //! within the limits of the machine.

@@ -20,7 +20,7 @@ has_bounds P F t p i m c =
     let all = emitted P F t p i m c in
     let n = (gives_assigned c.cuts c.joins F c.lists c.groups m.fits c.assigned).few in
     let b = m.blocks in
-    let e = (c.trims).count in
+    let e = (c.narrows).count in
     let s = (made c.left c.blocks all).size in
     subst (λ (j : Image). HasBounds t p j) (sym c.is) (record {
       few = omega (arith, n, b, e, s);

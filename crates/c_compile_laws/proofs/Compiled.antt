@@ -13,10 +13,11 @@ use Rattle.ir_forms.specs.inside.FlatCode.{Program}
 use Rattle.ir_forms.specs.inside.FlatRuns.{checked, flat_run}
 use Rattle.ir_forms.specs.inside.FlatSteps.{State, Res, Gave, TooDeep, Unfinished}
 use Rattle.ir_forms.specs.inside.Frames.{frames_at, frame_limit}
-use Rattle.ir_forms.specs.inside.HyperCode as hyper
-use Rattle.ir_forms.specs.inside.HyperRuns.{Layout, Standing, Running, Ended, Full, hyper_run}
+use Rattle.ir_forms.specs.inside.HyperRuns.{Layout, Standing, Running, Ended, Full}
 use Rattle.ir_forms.specs.inside.HyperWords.{AreBytes, IsFaithful}
 use Rattle.ir_forms.specs.inside.Laws.{StandsAs}
+use Rattle.hyper_narrow.specs.inside.NarrowedCode.{Narrowed}
+use Rattle.hyper_narrow.specs.inside.NarrowedRuns.{narrowed_run}
 use Rattle.c_meaning_spec.specs.Laws.{IsInput}
 use Rattle.flat_lower.specs.inside.Keeps.{Keeps, Finishes, Overflows}
 use Rattle.flat_lower.specs.inside.Keeps as flat
@@ -61,17 +62,12 @@ blocks_pass P F t p i m c =
     let b = m.blocks in
     let f = m.few in
     trimmed_fits (built_program (plan_of c.cuts c.joins c.groups) F) c.left
-    (record {
-      some = built_some (frames_at F.bytes) (annotated_all (plan_of c.cuts c.joins c.groups) 0 0 F.functions) F.main;
-      few = omega (arith, n, b, f);
-      followed = shape.followed;
-      fit = shape.fit (omega (arith, n, b, f));
-    })
-    c.trims
+    (built_some (frames_at F.bytes) (annotated_all (plan_of c.cuts c.joins c.groups) 0 0 F.functions) F.main)
+    (omega (arith, n, b, f)) shape.followed (shape.fit (omega (arith, n, b, f))) c.narrows
 
 module _ (P : TypedProgram) (F : Program) (t : ℕ) (p : Placing) (i : Image)
     (m : FlatMeans P F t) (c : IsCompiled F p i) where
-  abbrev program : List hyper.Block
+  abbrev program : List Narrowed
   program = c.left
 
   abbrev at : Layout
@@ -86,9 +82,9 @@ module _ (P : TypedProgram) (F : Program) (t : ℕ) (p : Placing) (i : Image)
       subst (λ (n : ℕ). IsFaithful at n) (c.made).size
       (faithful c.blocks (chunks_few p program c.blocks (blocks_pass P F t p i m c) c.made))
 
-  -- the checked run of the hyper program, which the image's run is where nothing faults
+  -- the checked run of the narrowed program, which the image's run is where nothing faults
   abbrev hyper_of : List ℕ → ℕ → Standing
-  hyper_of input n = hyper_run true at program F.bytes input n
+  hyper_of input n = narrowed_run true at program F.bytes input n
 
   abbrev assigned_of : List ℕ → ℕ → Res
   assigned_of input n = flat_run (tame_and true) (assigned_program F c.lists) input n
@@ -96,7 +92,7 @@ module _ (P : TypedProgram) (F : Program) (t : ℕ) (p : Placing) (i : Image)
   blocks_end : (input : List ℕ) → IsInput input → (n : ℕ)
       → EndsSo (hyper_of input) n (assigned_of input n)
   blocks_end input h n =
-      trimmed_keeps true at c.cuts c.joins F c.lists c.groups program input n m.fits c.assigned c.trims found_again
+      trimmed_keeps true at c.cuts c.joins F c.lists c.groups program input n m.fits c.assigned c.narrows found_again
       (bytes_of_input input h)
 
   image_stands : (input : List ℕ) → IsInput input → (n : ℕ)

@@ -7,12 +7,13 @@ use Rattle.trips_isa.specs.Forms.{form_of, role_of, takes_right}
 use Rattle.ir_forms.specs.declared.hyper.Source.{Source}
 use Rattle.ir_forms.specs.declared.flow.FlowSource.{FlowSource}
 use Rattle.ir_forms.specs.declared.flow.FlowNode.{FlowNode}
-use Rattle.ir_forms.specs.inside.HyperCode.{Items, Done, Set, Load, Save, If, Block}
+use Rattle.ir_forms.specs.inside.HyperCode.{Items, Done, Set, Load, Save, If}
 use Rattle.ir_forms.specs.inside.HyperFits.{FitsItems, is_filled, filled_ifs}
 use Rattle.ir_forms.specs.FlowFits.{is_branch}
 use Rattle.predication.specs.inside.Environments.{Scope, Env, Bits, no_bits, under, put, note, from_node, at_start}
 use Rattle.predication.specs.inside.Environments.{left_bits, distinct}
 use Rattle.predication.specs.inside.Operands.{node_of, operand, second, bit_set, tested}
+use Rattle.hyper_narrow.specs.inside.NarrowedCode.{Narrowed}
 use Rattle.predication.specs.inside.Ifs.{items, join, touched}
 use Rattle.predication.specs.inside.Converted.{begun, ended, predicated}
 use Rattle.predication.proofs.Ops.{op_form}
@@ -127,11 +128,13 @@ items_guarded (If t one other rest) g j m env bits f =
     (items_guarded rest g at n.number c.env lb f.3)
 
 -- each filled if-item gives a node whose guard has a sense
-pub converts_sensed : (b : Block) → FitsItems b.items → filled_ifs b.items ≤ sensed_nodes (predicated b).nodes
-converts_sensed b f =
+pub converts_sensed : (d : Narrowed) → FitsItems d.block.items
+    → filled_ifs d.block.items ≤ sensed_nodes (predicated d).nodes
+converts_sensed d f =
+    let b = d.block in
     let h : filled_ifs b.items + 0 ≤ sensed_nodes (begun b).nodes =
     items_guarded b.items None 0 0 at_start no_bits f in
-    let e : sensed_nodes (predicated b).nodes ≡ sensed_nodes (begun b).nodes + sensed_nodes (ended b).nodes =
+    let e : sensed_nodes (predicated d).nodes ≡ sensed_nodes (begun b).nodes + sensed_nodes (ended b).nodes =
     sensed_append (begun b).nodes (ended b).nodes in
     omega (arith, h, e)
 

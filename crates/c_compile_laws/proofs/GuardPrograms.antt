@@ -1,17 +1,17 @@
 -- The guards of all blocks of a program.
 use Rattle.std.proofs.Common.{◌≡◌, ℕ, suc, ◌+◌, ◌≤◌, List, [], ◌∷◌, length, Some, slice_get, refl, ap₂, arith}
 use Rattle.trips_isa.specs.declared.block.Block.{Block as MachineBlock}
-use Rattle.ir_forms.specs.inside.HyperCode.{Block}
+use Rattle.hyper_narrow.specs.inside.NarrowedCode.{Narrowed, bare}
 use Rattle.ir_forms.specs.inside.HyperFits.{filled_ifs, filled_in}
 use Rattle.c_compile_layout.specs.inside.Linking.{by_both, linked_from}
 use Rattle.c_compile_laws.specs.Counts.{guarded_insts, guarded_in}
 use Rattle.c_compile_laws.specs.inside.GuardLaws.{ProgramsGuarded}
 use Rattle.c_compile_laws.proofs.Targets.{resolves}
 
-summed : (B : List Block) (us : List MachineBlock) → length us ≡ length B
-    → ((k : ℕ) (b : Block) (u : MachineBlock) → slice_get B k ≡ Some b → slice_get us k ≡ Some u
-    → filled_ifs b.items ≤ guarded_insts u)
-    → filled_in B ≤ guarded_in us
+summed : (B : List Narrowed) (us : List MachineBlock) → length us ≡ length B
+    → ((k : ℕ) (b : Narrowed) (u : MachineBlock) → slice_get B k ≡ Some b → slice_get us k ≡ Some u
+    → filled_ifs b.block.items ≤ guarded_insts u)
+    → filled_in (bare B) ≤ guarded_in us
 summed [] us e f = omega arith
 summed (b ∷ B) [] e f = absurd (omega (arith, e))
 summed (b ∷ B) (u ∷ us) e f =

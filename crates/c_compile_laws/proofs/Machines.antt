@@ -4,8 +4,8 @@ use Rattle.std.proofs.Common.{arith, length-append}
 use Rattle.std.proofs.lemmas.List.{length-map, length-replicate}
 use Rattle.trips_isa.specs.declared.block.Inst.{Inst}
 use Rattle.ir_forms.specs.declared.flow.FlowBlock.{FlowBlock}
-use Rattle.ir_forms.specs.inside.HyperCode.{Block}
 use Rattle.ir_forms.specs.inside.HyperFits.{FitsItems, filled_ifs}
+use Rattle.hyper_narrow.specs.inside.NarrowedCode.{Narrowed}
 use Rattle.predication.specs.inside.Converted.{predicated}
 use Rattle.null_outputs.specs.inside.Wants.{complete}
 use Rattle.fan_out.specs.declared.wiring.Placed.{Placed}
@@ -27,9 +27,9 @@ all_slots ps few =
     omega (arith, few, a, b, c)
 
 -- a flow block has a guarded node for each filled if-item, if it is the block's own or has as many
-guarded : (b : Block) (f : FlowBlock) → FitsItems b.items
-    → (f ≡ complete (predicated b)) ⊎ (filled_ifs b.items ≤ sensed_nodes f.nodes)
-    → filled_ifs b.items ≤ sensed_nodes f.nodes
+guarded : (b : Narrowed) (f : FlowBlock) → FitsItems b.block.items
+    → (f ≡ complete (predicated b)) ⊎ (filled_ifs b.block.items ≤ sensed_nodes f.nodes)
+    → filled_ifs b.block.items ≤ sensed_nodes f.nodes
 guarded b f fits (inl e) =
     let a = converts_sensed b fits in
     let c = completes_sensed (predicated b) in
@@ -38,7 +38,7 @@ guarded b f fits (inl e) =
     omega (arith, a, c, d)
 guarded b f fits (inr h) = h
 
--- a machine block has at least as many guarded instructions as its hyper block has filled if-items
+-- a machine block has at least as many guarded instructions as its narrowed block has filled if-items
 pub machines : MachinesGuarded
 machines p q b f t u fits guards room is permutes moved =
     let a = guarded b f fits guards in

@@ -9,22 +9,17 @@ use Rattle.hyper_build.specs.inside.Laws.{built_program, plan_of}
 use Rattle.hyper_build.specs.inside.Whole.{EndsSo}
 use Rattle.hyper_build.proofs.Assigned.{keeps_assigned}
 use Rattle.hyper_build.proofs.FilledIfs.{keeps_small_ifs}
-use Rattle.hyper_trim.proofs.Programs.{there}
 use Rattle.c_compile_laws.specs.inside.TrimLaws.{TrimmedFits, TrimmedKeepsAssigned, TrimmedKeepsSmallIfs}
 
--- what is left of a program that the passes take is one
+-- the passes take what is left of a program whose blocks fit and lead to its blocks
 pub trimmed_fits : TrimmedFits
-trimmed_fits P Q f t =
+trimmed_fits P Q s w f a t =
     let e = t.count in
-    let s = f.some in
-    let w = f.few in
     record {
       some = omega (arith, e, s);
       few = omega (arith, e, w);
-      followed = t.followed f.followed;
-      fit = λ k c h.
-          let b = there Q P k c (sym t.count) h in
-          (t.each k b.block c b.is h).fits (f.fit k b.block b.is);
+      followed = t.followed f;
+      fit = t.fit a;
     }
 
 -- the run of what is left is the run of the blocks, which is known

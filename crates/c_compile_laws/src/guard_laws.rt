@@ -2,7 +2,7 @@ ghost use Rattle.c_compile_laws.specs.inside.GuardLaws.{CompletesGuarded, Conver
 ghost use Rattle.c_compile_laws.specs.inside.GuardLaws.{PlacesGuarded, ProgramsGuarded, ResolvesGuarded};
 ghost use Rattle.c_compile_laws.specs.inside.GuardLaws.{TargetsGuarded};
 
-/// A converted block has at least as many guarded nodes other than branches as the hyper block has
+/// A converted block has at least as many guarded nodes other than branches as the narrowed block has
 /// filled if-items.
 pub fn converting_guards_filled_ifs()
     ensures { ConvertsGuarded }
@@ -23,7 +23,7 @@ pub fn placing_keeps_guards()
     ensures { PlacesGuarded }
 {}
 
-/// So a machine block in any slots has at least as many guarded instructions as the hyper block has filled
+/// So a machine block in any slots has at least as many guarded instructions as the narrowed block has filled
 /// if-items.
 pub fn machine_blocks_guard_filled_ifs()
     ensures { MachinesGuarded }
@@ -34,7 +34,7 @@ pub fn resolving_keeps_guards()
     ensures { ResolvesGuarded }
 {}
 
-/// Where each machine block has as many guarded instructions as its hyper block has filled if-items, so have
+/// Where each machine block has as many guarded instructions as its narrowed block has filled if-items, so have
 /// all of them, once labels are resolved.
 pub fn programs_guard_filled_ifs()
     ensures { ProgramsGuarded }

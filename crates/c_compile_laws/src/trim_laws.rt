@@ -1,6 +1,6 @@
 ghost use Rattle.c_compile_laws.specs.inside.TrimLaws.{TrimmedFits, TrimmedKeepsAssigned, TrimmedKeepsSmallIfs};
 
-/// What is left of a program that the passes take is one.
+/// The passes take what is left of a program whose blocks fit, lead to its blocks, and are few enough.
 pub fn trimmed_programs_fit()
     ensures { TrimmedFits }
 {}

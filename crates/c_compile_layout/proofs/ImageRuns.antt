@@ -1,4 +1,4 @@
--- A run of the hyper program is a run of the image.
+-- A run of the narrowed program is a run of the image.
 use Rattle.std.proofs.Common.{◌≡◌, ℕ, zero, suc, ◌-◌, ◌<◌, ◌≤◌, ◌%◌, ◌^◌, Bool, true, false, cond, List, []}
 use Rattle.std.proofs.Common.{◌∷◌, ◌++◌, length, Option, Some, None, slice_get, refl, sym, ap}
 use Rattle.std.proofs.Common.{ap₂, subst, ◌∙◌, arith, length-set, nat_eq, replicate, length-append}
@@ -16,19 +16,18 @@ use Rattle.trips_isa.specs.Machine.{step_of, runs}
 use Rattle.block_cases.specs.inside.Plain.{plain_step, plain_runs}
 use Rattle.trips_isa.specs.Stores.{data_size}
 use Rattle.ir_forms.specs.declared.hyper.Exit.{Exit}
-use Rattle.ir_forms.specs.declared.hyper.Exit.TheVariants as exit
-use Rattle.ir_forms.specs.inside.HyperCode as hyper
-use Rattle.ir_forms.specs.inside.HyperRuns.{Machine, Layout, after_items, after_block, acts, exit_of, leaving}
-use Rattle.ir_forms.specs.inside.HyperRuns.{next_label, is_system, with_register, with_next, system}
-use Rattle.ir_forms.specs.inside.HyperRuns.{block_at, block_or, leave}
-use Rattle.ir_forms.specs.inside.HyperRuns.{run, hyper_run, Standing, Running, Ended, Full, Unclean}
+use Rattle.ir_forms.specs.inside.HyperRuns.{Machine, acts, is_system, with_register, with_next, system}
+use Rattle.ir_forms.specs.inside.HyperRuns.{Standing, Running, Unclean}
+use Rattle.hyper_narrow.specs.inside.NarrowedCode.{Narrowed, whole}
+use Rattle.hyper_narrow.specs.inside.NarrowedRuns.{after_narrowed, exit_from, next_from, narrowed_or, narrowed_at}
+use Rattle.hyper_narrow.specs.inside.NarrowedRuns.{go_on, run_narrowed, narrowed_run}
 use Rattle.ir_forms.specs.inside.HyperRuns as hypers
 use Rattle.c_compile_layout.specs.inside.Layouts.{laid_out}
 use Rattle.ir_forms.specs.inside.HyperWords.{HasWords}
 use Rattle.c_compile_layout.specs.inside.Joint.{AreMade, Same, StandsIn, DoesTheSame, DoesPlainly}
 use Rattle.c_compile_layout.proofs.Runs.{resumed, first_step, machine_runs, plainly_runs, IsRun}
 use Rattle.c_compile_layout.proofs.Runs as going
-use Rattle.c_compile_layout.proofs.Steps.{Steps, steps, steps_plainly, exit_from}
+use Rattle.c_compile_layout.proofs.Steps.{Steps, steps, steps_plainly}
 
 all_cons : (x : ℕ) (xs : List ℕ) → x < 256 → All (λ x. x < 256) xs → All (λ x. x < 256) (x ∷ xs)
 all_cons x xs h a zero d l = h
@@ -153,68 +152,53 @@ if_clean_same : (v : Bool) (p : Standing) (r : State × Stepped) → (v ≡ fals
 if_clean_same true p r h = tt
 if_clean_same false p r h = h refl
 
--- a system call leaves the registers to it
-left_alone : (at : Layout) (e : Exit) (m : Machine) → is_system e ≡ true → leaving at e m ≡ m
-left_alone at (exit.Jump l) m q = absurd (cc)
-left_alone at (exit.Call l back) m q = absurd (cc)
-left_alone at exit.Return m q = absurd (cc)
-left_alone at (exit.System l) m q = refl
-
 -- where the check lets a block go on, the step is the one that looks at no mark
-abbrev Takes : List hyper.Block → List Block → Bool → going.Step → Type 0
+abbrev Takes : List Narrowed → List Block → Bool → going.Step → Type 0
 Takes B ts check step =
-    (k : ℕ) (b : hyper.Block) (t : Block) (m : Machine) (s : State) → slice_get B k ≡ Some b
+    (k : ℕ) (b : Narrowed) (t : Block) (m : Machine) (s : State) → slice_get B k ≡ Some b
     → slice_get ts k ≡ Some t → HasWords m → Same m k s
-    → (check && not (is_clean (acts b.items m))) ≡ false → step s ≡ plain_step ts s
+    → (check && not (is_clean (acts b.block.items m))) ≡ false → step s ≡ plain_step ts s
 
-module _ (B : List hyper.Block) (ts : List Block) (made : AreMade B ts) (check : Bool)
+module _ (B : List Narrowed) (ts : List Block) (made : AreMade B ts) (check : Bool)
     (go : going.Steps) (step : going.Step) (run_by : IsRun go step) (takes : Takes B ts check step)
   where
     -- from states that are the same before a block, n blocks do the same
     abbrev Does : ℕ → Type 0
-    Does n = (k : ℕ) (b : hyper.Block) (m : Machine) (s : State) → slice_get B k ≡ Some b
-        → HasWords m → Same m k s → StandsIn (run check (laid_out ts) B n b m) (go s n)
+    Does n = (k : ℕ) (b : Narrowed) (m : Machine) (s : State) → slice_get B k ≡ Some b
+        → HasWords m → Same m k s → StandsIn (run_narrowed check (laid_out ts) B n b m) (go s n)
 
     -- the same, of the block of a label
-    at_label : (n l : ℕ) (d : hyper.Block) → Does n → l < length ts → (m : Machine) (s : State) → HasWords m
-        → Same m l s → StandsIn (run check (laid_out ts) B n (block_at B l) m) (go s n)
+    at_label : (n l : ℕ) (d : Narrowed) → Does n → l < length ts → (m : Machine) (s : State) → HasWords m
+        → Same m l s → StandsIn (run_narrowed check (laid_out ts) B n (narrowed_at B l) m) (go s n)
     at_label n l d ih low m s words same =
         let size = made.size in
         let found : slice_get B l ≡ Some (get_or B l d) = slice_get-get_or B l d (omega (arith, size, low)) in
-        subst (λ b. StandsIn (run check (laid_out ts) B n b m) (go s n)) (sym (ap block_or found))
+        subst (λ b. StandsIn (run_narrowed check (laid_out ts) B n b m) (go s n)) (sym (ap narrowed_or found))
         (ih l (get_or B l d) m s found words same)
 
     -- what follows the exit
-    left : (n : ℕ) (b : hyper.Block) (m : Machine) → Does n → (after : State) (e : Exit) (m1 : Machine)
-        → HasWords (leaving (laid_out ts) e m1)
-        → Same (leaving (laid_out ts) e m1) (next_label (laid_out ts) e m1) after
-        → next_label (laid_out ts) e m1 < length ts
-        → StandsIn (leave (laid_out ts) B (run check (laid_out ts) B n) e m1)
+    left : (n : ℕ) (b : Narrowed) → Does n → (after : State) (e : Exit) (l : ℕ) (m : Machine)
+        → HasWords m → Same m l after → l < length ts
+        → StandsIn (go_on B (run_narrowed check (laid_out ts) B n) e l m)
         (resumed go n (then_system (is_system e) after))
-    left n b m ih after e m1 words same low = by (is_system e) refl
+    left n b ih after e l m words same low = by (is_system e)
       where
-        by : (v : Bool) → is_system e ≡ v
-            → StandsIn (cond v
-            (system (m1.registers 0) m1 (run check (laid_out ts) B n (block_at B (next_label (laid_out ts) e m1))))
-            (run check (laid_out ts) B n (block_at B (next_label (laid_out ts) e m1)) (leaving (laid_out ts) e m1)))
-            (resumed go n (then_system v after))
-        by false q = at_label n (next_label (laid_out ts) e m1) b ih low (leaving (laid_out ts) e m1) after words same
-        by true q =
-            let alone : leaving (laid_out ts) e m1 ≡ m1 = left_alone (laid_out ts) e m1 q in
-            let same1 : Same m1 (next_label (laid_out ts) e m1) after =
-            subst (λ x. Same x (next_label (laid_out ts) e m1) after) alone same in
-            let words1 : HasWords m1 = subst HasWords alone words in
-            subst (λ c. StandsIn (system (m1.registers 0) m1
-            (run check (laid_out ts) B n (block_at B (next_label (laid_out ts) e m1))))
-            (resumed go n (system_call c after))) (sym (same1.registers 0))
-            (system_same go (next_label (laid_out ts) e m1) n (m1.registers 0) m1 after _ words1 same1
-            (λ x y w z. at_label n (next_label (laid_out ts) e m1) b ih low x y w z))
+        by : (v : Bool)
+            → StandsIn (cond v (system (m.registers 0) m (run_narrowed check (laid_out ts) B n (narrowed_at B l)))
+            (run_narrowed check (laid_out ts) B n (narrowed_at B l) m)) (resumed go n (then_system v after))
+        by false = at_label n l b ih low m after words same
+        by true =
+            subst (λ c. StandsIn (system (m.registers 0) m
+            (run_narrowed check (laid_out ts) B n (narrowed_at B l)))
+            (resumed go n (system_call c after))) (sym (same.registers 0))
+            (system_same go l n (m.registers 0) m after _ words same
+            (λ x y w z. at_label n l b ih low x y w z))
 
     turn : (n : ℕ) → Does n → Does (suc n)
     turn n ih k b m s is words same = by (slice_get ts k) refl
       where
         by : (o : Option Block) → slice_get ts k ≡ o
-            → StandsIn (run check (laid_out ts) B (suc n) b m) (go s (suc n))
+            → StandsIn (run_narrowed check (laid_out ts) B (suc n) b m) (go s (suc n))
         by None q =
             let size = made.size in
             let low = slice_get_within B k b is in
@@ -222,12 +206,13 @@ module _ (B : List hyper.Block) (ts : List Block) (made : AreMade B ts) (check :
         by (Some t) q =
             let one : Steps ts b m s = steps B ts made k b t is q m words s same in
             let it = made.each k b t is q in
-            if_clean_same (check && not (is_clean (acts b.items m))) _ (go s (suc n)) (λ clean.
-            subst (λ r. StandsIn (leave (laid_out ts) B (run check (laid_out ts) B n) (exit_from b m)
-            (after_items b.items m)) r)
+            if_clean_same (check && not (is_clean (acts b.block.items m))) _ (go s (suc n)) (λ clean.
+            subst (λ r. StandsIn (go_on B (run_narrowed check (laid_out ts) B n) (exit_from b.block m)
+            (next_from (laid_out ts) b.block m) (after_narrowed (laid_out ts) b m)) r)
             (sym (first_step go step run_by s n
             ∙ ap (resumed go n) (takes k b t m s is q words same clean ∙ one.step)))
-            (left n b m ih one.after (exit_from b m) (after_items b.items m) (it.keeps m words) one.same one.within))
+            (left n b ih one.after (exit_from b.block m) (next_from (laid_out ts) b.block m)
+            (after_narrowed (laid_out ts) b m) (it.keeps m words) one.same one.within))
 
     does : (n : ℕ) → Does n
     does zero = λ k b m s is words same.
@@ -282,19 +267,19 @@ start_words bytes input a b l = record {
 }
 
 -- from the start
-begun : (B : List hyper.Block) (ts : List Block) (made : AreMade B ts) (check : Bool)
+begun : (B : List Narrowed) (ts : List Block) (made : AreMade B ts) (check : Bool)
     (go : going.Steps) (step : going.Step) → IsRun go step → Takes B ts check step
     → (bytes input : List ℕ) (n : ℕ) → All (λ b. b < 256) bytes → All (λ b. b < 256) input
     → length bytes ≤ data_size
-    → StandsIn (hyper_run check (laid_out ts) B bytes input n) (go (start bytes input) n)
-unfolding hyper_run
+    → StandsIn (narrowed_run check (laid_out ts) B bytes input n) (go (start bytes input) n)
+unfolding narrowed_run
 begun B ts made check go step run_by takes bytes input n a b l =
-    at_label B ts made check go step run_by takes n 0 (hypers.jump 0)
+    at_label B ts made check go step run_by takes n 0 (whole (hypers.jump 0))
     (does B ts made check go step run_by takes n) made.some (hypers.start bytes input)
     (start bytes input) (start_words bytes input a b l) (start_same bytes input)
 
--- blocks of a hyper program, checked or not, are as many blocks of the image whose marks nothing looks at
-pub does_plainly : (B : List hyper.Block) (ts : List Block) → AreMade B ts → DoesPlainly B ts
+-- blocks of a narrowed program, checked or not, are as many blocks of the image whose marks nothing looks at
+pub does_plainly : (B : List Narrowed) (ts : List Block) → AreMade B ts → DoesPlainly B ts
 does_plainly B ts made check bytes input n a b l =
     begun B ts made check (plain_runs ts) (plain_step ts) (plainly_runs ts)
     (λ k b t m s x y w same clean. refl) bytes input n a b l
@@ -303,10 +288,10 @@ was_clean : (c : Bool) → (true && not c) ≡ false → c ≡ true
 was_clean true e = refl
 was_clean false e = absurd (cc)
 
--- blocks of a hyper program, checked for faults, are as many blocks of the image
-pub does_the_same : (B : List hyper.Block) (ts : List Block) → AreMade B ts → DoesTheSame B ts
+-- blocks of a narrowed program, checked for faults, are as many blocks of the image
+pub does_the_same : (B : List Narrowed) (ts : List Block) → AreMade B ts → DoesTheSame B ts
 does_the_same B ts made bytes input n a b l =
     begun B ts made true (runs ts) (step_of ts) (machine_runs ts)
     (λ k b t m s x y w same clean. steps_plainly B ts made k b t x y m w s same
-    (was_clean (is_clean (acts b.items m)) clean))
+    (was_clean (is_clean (acts b.block.items m)) clean))
     bytes input n a b l

@@ -15,14 +15,16 @@ use Rattle.trips_isa.specs.Outcomes.{to_address}
 use Rattle.ir_forms.specs.declared.flow.FlowNode.{FlowNode}
 use Rattle.ir_forms.specs.declared.flow.FlowBlock.{FlowBlock}
 use Rattle.ir_forms.specs.inside.FlowFits.{IsComplete, HasOrder}
-use Rattle.ir_forms.specs.inside.HyperCode as hyper
 use Rattle.ir_forms.specs.inside.HyperFits.{AllLeadOn, FitsHyper}
-use Rattle.ir_forms.specs.inside.HyperRuns.{hyper_run, Standing, Running, Ended, Full, Unclean, IsUnclean}
+use Rattle.ir_forms.specs.inside.HyperRuns.{Standing, Running, Ended, Full, Unclean, IsUnclean}
 use Rattle.trips_isa.specs.declared.causes.TrapCause.{TrapCause}
 use Rattle.trips_isa.specs.declared.run.Stepped.TheVariants.{Trap}
 use Rattle.ir_forms.specs.inside.HyperWords.{AreBytes}
 use Rattle.ir_forms.specs.inside.Laws.{StandsAs}
-use Rattle.ir_forms.proofs.WordsKept.{keeps_words}
+use Rattle.hyper_narrow.specs.inside.NarrowedCode.{Narrowed}
+use Rattle.hyper_narrow.specs.inside.NarrowedRuns.{narrowed_run}
+use Rattle.hyper_narrow.proofs.WordsKept.{keeps_narrowed_words}
+use Rattle.hyper_narrow.proofs.BareBlocks.{leads_there}
 use Rattle.fan_out.specs.inside.Means.{MeansFlow}
 use Rattle.fan_out.specs.inside.Targeted.{IsTargeted}
 use Rattle.fan_out.proofs.Acting.{faults_same}
@@ -192,7 +194,7 @@ moved_resolved r p t u m = record {
 
 -- EACH BLOCK
 
-module _ (us : List Block) (k : ℕ) (b : hyper.Block) (u : Block)
+module _ (us : List Block) (k : ℕ) (b : Narrowed) (u : Block)
     (few : AreFew us) (low : k < length us) (it : IsEmitted (laid_out us) (length us) b u) where
   abbrev both : Resolves
   both = by_both (chunk_of us) k
@@ -254,13 +256,13 @@ module _ (us : List Block) (k : ℕ) (b : hyper.Block) (u : Block)
       (slots_clean (resolved_block both it.target) ranked regs mem
       (ap is_clean (faults_same linked_flow (resolved_block both it.target) all is ranked regs mem h start) ∙ c))
 
-  made_of : AllLeadOn k (length us) b.tail → FitsHyper b
+  made_of : AllLeadOn k (length us) b.block.tail → FitsHyper b.block
       → IsMade (laid_out us) (chunk_of us) k (length us) b (resolved_block both u)
   made_of exits fit = record {
     flow = resolved named it.flow;
     starts = starts_in_order (resolved named it.flow) order.0 order.1;
     means = it.means;
-    keeps = keeps_words (laid_out us) b (has_addresses us few) fit;
+    keeps = keeps_narrowed_words (laid_out us) b (has_addresses us few) fit;
     exits = exits;
     outcome = subst (λ f. MeansFlow f (resolved_block both u)) (sym (both_are (chunk_of us) k it.flow)) means_there;
     clean = subst (λ f. CleanAsFlow f (resolved_block both u)) (sym (both_are (chunk_of us) k it.flow)) clean_there;
@@ -269,13 +271,13 @@ module _ (us : List Block) (k : ℕ) (b : hyper.Block) (u : Block)
   }
 
 -- the chunks are few
-pub are_few : (B : List hyper.Block) (us : List Block) → AreEmitted B us → AreFew us
+pub are_few : (B : List Narrowed) (us : List Block) → AreEmitted B us → AreFew us
 are_few B us all =
     let n = all.few in
     let s = sum_low us (λ i u e. go i u e (slice_get B i) refl) in
     omega (arith, n, s)
   where
-    go : (i : ℕ) (u : Block) → slice_get us i ≡ Some u → (o : Option hyper.Block) → slice_get B i ≡ o
+    go : (i : ℕ) (u : Block) → slice_get us i ≡ Some u → (o : Option Narrowed) → slice_get B i ≡ o
         → length u.insts.items ≡ 128
     go i u e None q =
         let s = all.size in
@@ -284,7 +286,7 @@ are_few B us all =
     go i u e (Some b) q = let it = all.each i b u q e in (it.placed).size
 
 -- the image's blocks are what the passes gave, resolved
-pub made : (B : List hyper.Block) (us : List Block) → AreEmitted B us → AreMade B (linked us)
+pub made : (B : List Narrowed) (us : List Block) → AreEmitted B us → AreMade B (linked us)
 made B us all = record {
   size = size ∙ all.size;
   some = let s = all.some in omega (arith, size, s);
@@ -300,14 +302,15 @@ made B us all = record {
       (subst (IsMade (laid_out us) (chunk_of us) k (length us) b) is
       (made_of us k b c.block (are_few B us all) (slice_get_within us k c.block c.there)
       (all.each k b c.block is_b c.there)
-      (subst (λ n. AllLeadOn k n b.tail) (sym all.size) (all.followed k b is_b)) (all.fit k b is_b)))));
+      (subst (λ n. AllLeadOn k n b.block.tail) (sym all.size) (leads_there B all.followed k b is_b))
+      (all.fit k b is_b)))));
 }
   where
     size : length (linked us) ≡ length us
     size = length_same (chunk_of us) 0 us
 
 -- each block of the image fits and is good
-each_good : (B : List hyper.Block) (us : List Block) → AreEmitted B us → (k : ℕ) (t : Block)
+each_good : (B : List Narrowed) (us : List Block) → AreEmitted B us → (k : ℕ) (t : Block)
     → slice_get (linked us) k ≡ Some t → FitsBlock t × GoodBlock t
 each_good B us all k t is_t =
     let c = came (chunk_of us) 0 us k t is_t in
@@ -316,7 +319,7 @@ each_good B us all k t is_t =
     ap (λ n. resolved_block (by_both (chunk_of us) n) c.block) (sym z) ∙ c.is in
     go (slice_get B k) refl c is
   where
-    go : (o : Option hyper.Block) → slice_get B k ≡ o → (c : Came (chunk_of us) 0 us k t)
+    go : (o : Option Narrowed) → slice_get B k ≡ o → (c : Came (chunk_of us) 0 us k t)
         → resolved_block (by_both (chunk_of us) k) c.block ≡ t → FitsBlock t × GoodBlock t
     go None e c is =
         let s = all.size in
@@ -333,7 +336,7 @@ all_by_index : {A : Type 0} (P : A → Type 0) (xs : List A)
 all_by_index P xs f i d l = f i (get_or xs i d) (slice_get-get_or xs i d l)
 
 -- the image of blocks that the passes made is good
-pub good_image : (B : List hyper.Block) (us : List Block) (bytes : List ℕ) → AreEmitted B us
+pub good_image : (B : List Narrowed) (us : List Block) (bytes : List ℕ) → AreEmitted B us
     → AreBytes bytes → length bytes ≤ data_size → IsGoodImage (image_of us bytes)
 good_image B us bytes all a l = record {
   fits = record {
@@ -347,10 +350,10 @@ good_image B us bytes all a l = record {
   good = all_by_index GoodBlock (linked us) (λ i x e. (each_good B us all i x e).1);
 }
 
--- blocks of the image come to what as many blocks of the hyper program do, where none of these faults
-pub image_means : (B : List hyper.Block) (us : List Block) → AreEmitted B us → ImageMeans B us
+-- blocks of the image come to what as many blocks of the narrowed program do, where none of these faults
+pub image_means : (B : List Narrowed) (us : List Block) → AreEmitted B us → ImageMeans B us
 image_means B us all bytes input n a b l =
-    subst (λ at. StandsAs (hyper_run true at B bytes input n)
+    subst (λ at. StandsAs (narrowed_run true at B bytes input n)
     (standing_of (runs (linked us) (start (trimmed bytes) input) n))) (layout_same us)
     (means_the_same B (linked us) (made B us all) bytes input n a b l)
 
@@ -362,19 +365,19 @@ no_trap (Ended out w) s c clean h = absurd (cc)
 no_trap (Full out) s c clean h = absurd (cc)
 no_trap Unclean s c clean h = clean tt
 
--- where no block of the hyper program faults, none of its image traps
-pub never_traps : (B : List hyper.Block) (us : List Block) → AreEmitted B us → NeverTraps B us
+-- where no block of the narrowed program faults, none of its image traps
+pub never_traps : (B : List Narrowed) (us : List Block) → AreEmitted B us → NeverTraps B us
 never_traps B us all bytes input n c a b l clean trap =
-    no_trap (hyper_run true (laid_out us) B bytes input n)
+    no_trap (narrowed_run true (laid_out us) B bytes input n)
     (runs (linked us) (start (trimmed bytes) input) n).0 c clean
-    (subst (λ r. StandsAs (hyper_run true (laid_out us) B bytes input n)
+    (subst (λ r. StandsAs (narrowed_run true (laid_out us) B bytes input n)
     (standing_by (runs (linked us) (start (trimmed bytes) input) n).0 r)) trap
     (image_means B us all bytes input n a b l))
 
--- whatever faults, blocks of the hyper program come to what as many blocks of its image do, whose marks nothing
+-- whatever faults, blocks of the narrowed program come to what as many blocks of its image do, whose marks nothing
 -- looks at
-pub image_means_plainly : (B : List hyper.Block) (us : List Block) → AreEmitted B us
+pub image_means_plainly : (B : List Narrowed) (us : List Block) → AreEmitted B us
     → ImageMeansPlainly B us
 image_means_plainly B us all bytes input n a b l =
-    ap (λ at. hyper_run false at B bytes input n) (sym (layout_same us))
+    ap (λ at. narrowed_run false at B bytes input n) (sym (layout_same us))
     ∙ means_plainly B (linked us) (made B us all) bytes input n a b l

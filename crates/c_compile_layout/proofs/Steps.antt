@@ -1,4 +1,4 @@
--- One hyper block is one step of the image.
+-- One narrowed block is one step of the image.
 use Rattle.std.proofs.Common.{◌≡◌, ℕ, zero, suc, ◌+◌, ◌<◌, ◌≤◌, true, cond, List, []}
 use Rattle.std.proofs.Common.{◌∷◌, map, length, Some, slice_get, refl, sym, ap}
 use Rattle.std.proofs.Common.{ap₂, subst, ◌∙◌, arith, length-set}
@@ -37,7 +37,10 @@ use Rattle.ir_forms.specs.inside.HyperRuns.{Machine, Layout, after_items, after_
 use Rattle.ir_forms.specs.inside.HyperRuns.{next_label, is_system, pick, value_of}
 use Rattle.ir_forms.specs.inside.HyperFits.{LeadsOn, AllLeadOn}
 use Rattle.ir_forms.specs.inside.HyperWords.{HasWords}
-use Rattle.ir_forms.specs.inside.Agreement.{Comes, IsExit}
+use Rattle.ir_forms.specs.inside.Agreement.{IsExit}
+use Rattle.hyper_narrow.specs.inside.NarrowedCode.{Narrowed}
+use Rattle.hyper_narrow.specs.inside.NarrowedRuns.{after_narrowed, exit_from, next_from}
+use Rattle.hyper_narrow.specs.inside.NarrowedMeaning.{ComesTo}
 use Rattle.fan_out.specs.inside.Targeted.{register_of}
 use Rattle.fan_out.specs.inside.Means.{write_tokens, head_of, flow_outcome}
 use Rattle.fan_out.specs.inside.Means as means
@@ -166,21 +169,14 @@ all_stored : (mem : List ℕ) (rg : ℕ → ℕ) (h : ℕ → Answer) (ns : List
 unfolding all_stores stored_all
 all_stored mem rg h ns = refl
 
--- the exit that a block takes
-abbrev pub exit_from : hyper.Block → Machine → Exit
-exit_from b m = exit_of b.tail (after_items b.items m).registers
-
-abbrev pub next_from : Layout → hyper.Block → Machine → ℕ
-next_from at b m = next_label at (exit_from b m) (after_items b.items m)
-
--- the machine steps to the state that the hyper block leaves, whatever its marks
-pub record Steps (ts : List Block) (b : hyper.Block) (m : Machine) (s : State) : Type 0 where
+-- the machine steps to the state that the narrowed block leaves, whatever its marks
+pub record Steps (ts : List Block) (b : Narrowed) (m : Machine) (s : State) : Type 0 where
   pub after : State
-  pub step : plain_step ts s ≡ then_system (is_system (exit_from b m)) after
-  pub same : Same (after_block (laid_out ts) b m) (next_from (laid_out ts) b m) after
-  pub within : next_from (laid_out ts) b m < length ts
+  pub step : plain_step ts s ≡ then_system (is_system (exit_from b.block m)) after
+  pub same : Same (after_narrowed (laid_out ts) b m) (next_from (laid_out ts) b.block m) after
+  pub within : next_from (laid_out ts) b.block m < length ts
 
-module _ (B : List hyper.Block) (ts : List Block) (made : AreMade B ts) (k : ℕ) (b : hyper.Block)
+module _ (B : List Narrowed) (ts : List Block) (made : AreMade B ts) (k : ℕ) (b : Narrowed)
     (t : Block) (is_b : slice_get B k ≡ Some b) (is_t : slice_get ts k ≡ Some t) (m : Machine)
     (words : HasWords m) (s : State) (same : Same m k s) where
   abbrev it : IsMade (laid_out ts) (chunk_of ts) k (length ts) b t
@@ -202,14 +198,14 @@ module _ (B : List hyper.Block) (ts : List Block) (made : AreMade B ts) (k : ℕ
   here = subst (λ r. AtStart r s.memory h it.flow) (sym regs_are)
       (subst (λ x. AtStart m.registers x h it.flow) (sym same.memory) starts)
 
-  comes : Comes (laid_out ts) b it.flow m h
+  comes : ComesTo (laid_out ts) b it.flow m h
   comes = it.means m h words starts
 
   abbrev m1 : Machine
-  m1 = after_items b.items m
+  m1 = after_items b.block.items m
 
   abbrev e : Exit
-  e = exit_of b.tail m1.registers
+  e = exit_of b.block.tail m1.registers
 
   abbrev linked_flow : FlowBlock
   linked_flow = resolved (by_offset (chunk_of ts) k) it.flow
@@ -227,7 +223,7 @@ module _ (B : List hyper.Block) (ts : List Block) (made : AreMade B ts) (k : ℕ
       ∙ ap (map (moved_exit (chunk_of ts) k)) comes.exit.only)
 
   leads_on : LeadsOn k (length ts) e
-  leads_on = taken_leads k (length ts) b.tail m1.registers it.exits
+  leads_on = taken_leads k (length ts) b.block.tail m1.registers it.exits
 
   leads : Leads ts k e m1 (moved_exit (chunk_of ts) k comes.exit.branch)
   leads = exit_leads ts k e m1 comes.exit.branch made.few leads_on comes.exit.is
@@ -239,14 +235,14 @@ module _ (B : List hyper.Block) (ts : List Block) (made : AreMade B ts) (k : ℕ
       ≡ write_all s.registers (map register_of it.flow.writes) (write_tokens regs h it.flow.writes)
   writes_are = ap₂ (write_all s.registers) it.registers (ap (λ (x : Effects). x.writes) is_o)
 
-  registers_are : (r : ℕ) → slice_index after.registers r ≡ (after_block (laid_out ts) b m).registers r
+  registers_are : (r : ℕ) → slice_index after.registers r ≡ (after_narrowed (laid_out ts) b m).registers r
   registers_are r =
       ap (λ l. slice_index l r) writes_are
       ∙ it.writes s.registers h r same.count
       ∙ ap (λ g. written g h it.flow.writes r) regs_are
       ∙ comes.registers r
 
-  memory_is : after.memory ≡ (after_block (laid_out ts) b m).memory
+  memory_is : after.memory ≡ (after_narrowed (laid_out ts) b m).memory
   memory_is =
       ap (λ (x : Effects). store_all s.memory x.stores) is_o
       ∙ ap (λ st. store_all s.memory (all_stores st)) (stores_same (chunk_of ts) k regs h it.flow.nodes)
@@ -263,7 +259,7 @@ module _ (B : List hyper.Block) (ts : List Block) (made : AreMade B ts) (k : ℕ
   at_next : plain_step ts s ≡ apply t.writes.items (plain ts s.next t s.registers s.memory) s
   at_next = ap (λ x. plain_in ts x s) (ap (slice_get ts) same.next ∙ is_t)
 
-  -- the machine steps to the state that the hyper block leaves
+  -- the machine steps to the state that the narrowed block leaves
   pub steps : Steps ts b m s
   steps = record {
     after = after;
@@ -273,29 +269,29 @@ module _ (B : List hyper.Block) (ts : List Block) (made : AreMade B ts) (k : ℕ
       count = all_length s.registers t.writes.items o.writes ∙ same.count;
       registers = registers_are;
       memory = memory_is;
-      input = same.input ∙ sym (block_keeps (λ (x : Machine). x.input) (λ x r y. refl) (laid_out ts) b m);
-      output = same.output ∙ sym (block_keeps (λ (x : Machine). x.output) (λ x r y. refl) (laid_out ts) b m);
+      input = same.input ∙ sym (block_keeps (λ (x : Machine). x.input) (λ x r y. refl) (laid_out ts) b.block m);
+      output = same.output ∙ sym (block_keeps (λ (x : Machine). x.output) (λ x r y. refl) (laid_out ts) b.block m);
       next = next_is;
     };
     within = leads_within ts k e m1 made.some leads_on;
   }
 
-  -- what the linked flow block does is what the hyper block does
-  does_acts : fired regs h linked_flow.nodes ≡ acts b.items m
+  -- what the linked flow block does is what the narrowed block does
+  does_acts : fired regs h linked_flow.nodes ≡ acts b.block.items m
   does_acts = fired_same (chunk_of ts) k regs h it.flow.nodes
       ∙ ap (λ g. fired g h it.flow.nodes) regs_are ∙ comes.acts
 
-  block_clean : is_clean (acts b.items m) ≡ true
+  block_clean : is_clean (acts b.block.items m) ≡ true
       → IsClean t (token_of t s.registers s.memory deepest)
   block_clean c = it.clean s.registers s.memory h
       (start_same (chunk_of ts) k s.memory s.memory regs h it.flow here) (ap is_clean does_acts ∙ c)
 
-  no_cause : is_clean (acts b.items m) ≡ true → next_cause ts s ≡ 0
+  no_cause : is_clean (acts b.block.items m) ≡ true → next_cause ts s ≡ 0
   no_cause c =
       ap (λ x. cause_in x s) (ap (slice_get ts) same.next ∙ is_t)
       ∙ clean_no_cause t (token_of t s.registers s.memory deepest)
       (clean_whole t (token_of t s.registers s.memory deepest) (block_clean c))
 
-  -- where nothing that the hyper block does faults, the machine does not trap
-  pub steps_plainly : is_clean (acts b.items m) ≡ true → step_of ts s ≡ plain_step ts s
+  -- where nothing that the narrowed block does faults, the machine does not trap
+  pub steps_plainly : is_clean (acts b.block.items m) ≡ true → step_of ts s ≡ plain_step ts s
   steps_plainly c = plain_steps ts s (no_cause c)

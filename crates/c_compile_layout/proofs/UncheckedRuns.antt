@@ -11,10 +11,11 @@ use Rattle.trips_isa.specs.Images.{last_byte}
 use Rattle.trips_isa.specs.Machine.{State, memory_of, start, runs}
 use Rattle.block_cases.specs.inside.Plain.{plain_runs}
 use Rattle.trips_isa.specs.Stores.{data_size}
-use Rattle.ir_forms.specs.inside.HyperCode as hyper
 use Rattle.ir_forms.specs.inside.HyperRuns.{Machine, Layout, Standing, Running, Ended, Full, Unclean, IsUnclean}
-use Rattle.ir_forms.specs.inside.HyperRuns.{after_items, exit_of, leaving, next_label, is_system, with_next}
-use Rattle.ir_forms.specs.inside.HyperRuns.{system, block_at, leave, run, hyper_run}
+use Rattle.ir_forms.specs.inside.HyperRuns.{is_system, with_next, system}
+use Rattle.hyper_narrow.specs.inside.NarrowedCode.{Narrowed}
+use Rattle.hyper_narrow.specs.inside.NarrowedRuns.{after_narrowed, exit_from, next_from, narrowed_at}
+use Rattle.hyper_narrow.specs.inside.NarrowedRuns.{run_narrowed, narrowed_run}
 use Rattle.ir_forms.specs.inside.HyperRuns as hypers
 use Rattle.c_compile_layout.specs.inside.Layouts.{laid_out}
 use Rattle.ir_forms.specs.inside.HyperWords.{AreBytes}
@@ -37,17 +38,16 @@ c-system call m f h =
     (c-cond (nat_eq call 3) _ _ (λ x. x) (c-cond (nat_eq call 4) _ _ (λ x. x) (h m))))
 
 -- a run without a check is clean
-c-run : (at : Layout) (B : List hyper.Block) (n : ℕ) (b : hyper.Block) (m : Machine)
-    → IsUnclean (run false at B n b m) → ⊥
+c-run : (at : Layout) (B : List Narrowed) (n : ℕ) (b : Narrowed) (m : Machine)
+    → IsUnclean (run_narrowed false at B n b m) → ⊥
 c-run at B zero b m = λ x. x
 c-run at B (suc n) b m =
-    let m1 = after_items b.items m in
-    let e = exit_of b.tail m1.registers in
-    c-cond (is_system e) (system (m1.registers 0) m1 (run false at B n (block_at B (next_label at e m1))))
-    (run false at B n (block_at B (next_label at e m1)) (leaving at e m1))
-    (c-system (m1.registers 0) m1 (run false at B n (block_at B (next_label at e m1)))
-    (λ x. c-run at B n (block_at B (next_label at e m1)) x))
-    (c-run at B n (block_at B (next_label at e m1)) (leaving at e m1))
+    let left = after_narrowed at b m in
+    let next = narrowed_at B (next_from at b.block m) in
+    c-cond (is_system (exit_from b.block m)) (system (left.registers 0) left (run_narrowed false at B n next))
+    (run_narrowed false at B n next left)
+    (c-system (left.registers 0) left (run_narrowed false at B n next) (λ x. c-run at B n next x))
+    (c-run at B n next left)
 
 stands_is : (p : Standing) (r : State × Stepped) → (IsUnclean p → ⊥) → StandsIn p r
     → p ≡ standing_of r
@@ -59,7 +59,7 @@ stands_is (Full out) r c h =
     ap Full (sym h.1) ∙ sym (ap (standing_by r.0) h.0)
 stands_is Unclean r c h = absurd (c tt)
 
--- where nothing faulted, the image's run stands as the hyper program's does
+-- where nothing faulted, the image's run stands as the narrowed program's does
 stands_as : (p : Standing) (r : State × Stepped) → StandsIn p r → StandsAs p (standing_of r)
 stands_as (Running out) r h = sym (stands_is (Running out) r (λ x. x) h)
 stands_as (Ended out w) r h = sym (stands_is (Ended out w) r (λ x. x) h)
@@ -139,26 +139,26 @@ trimmed_bytes (b ∷ bs) a =
 
 -- WHOLE
 
-clean : (at : Layout) (B : List hyper.Block) (bytes input : List ℕ) (n : ℕ)
-    → IsUnclean (hyper_run false at B bytes input n) → ⊥
-unfolding hyper_run
-clean at B bytes input n = c-run at B n (block_at B 0) (hypers.start bytes input)
+clean : (at : Layout) (B : List Narrowed) (bytes input : List ℕ) (n : ℕ)
+    → IsUnclean (narrowed_run false at B bytes input n) → ⊥
+unfolding narrowed_run
+clean at B bytes input n = c-run at B n (narrowed_at B 0) (hypers.start bytes input)
 
--- whatever faults, blocks of the hyper program come to what as many blocks of the image do, whose marks nothing
+-- whatever faults, blocks of the narrowed program come to what as many blocks of the image do, whose marks nothing
 -- looks at
-pub means_plainly : (B : List hyper.Block) (ts : List Block) → AreMade B ts → MeansPlainly B ts
+pub means_plainly : (B : List Narrowed) (ts : List Block) → AreMade B ts → MeansPlainly B ts
 means_plainly B ts made bytes input n a b l =
-    stands_is (hyper_run false (laid_out ts) B bytes input n) (plain_runs ts (start bytes input) n)
+    stands_is (narrowed_run false (laid_out ts) B bytes input n) (plain_runs ts (start bytes input) n)
     (clean (laid_out ts) B bytes input n) (does_plainly B ts made false bytes input n a b l)
     ∙ ap (λ mem. standing_of (plain_runs ts (record (start bytes input) { memory = mem }) n))
     (sym (trimmed_memory bytes l))
 
--- blocks of the image, with trimmed data, come to what as many blocks of the hyper program do, where none of
+-- blocks of the image, with trimmed data, come to what as many blocks of the narrowed program do, where none of
 -- these faults
-pub means_the_same : (B : List hyper.Block) (ts : List Block) → AreMade B ts → MeansTheSame B ts
+pub means_the_same : (B : List Narrowed) (ts : List Block) → AreMade B ts → MeansTheSame B ts
 means_the_same B ts made bytes input n a b l =
-    subst (λ mem. StandsAs (hyper_run true (laid_out ts) B bytes input n)
+    subst (λ mem. StandsAs (narrowed_run true (laid_out ts) B bytes input n)
     (standing_of (runs ts (record (start bytes input) { memory = mem }) n)))
     (sym (trimmed_memory bytes l))
-    (stands_as (hyper_run true (laid_out ts) B bytes input n) (runs ts (start bytes input) n)
+    (stands_as (narrowed_run true (laid_out ts) B bytes input n) (runs ts (start bytes input) n)
     (does_the_same B ts made bytes input n a b l))

@@ -11,7 +11,7 @@ ghost use Rattle.trips_isa.specs.Stores.{data_size};
 ghost use Rattle.trips_isa.specs.Tables.{deepest, IsRanked};
 ghost use Rattle.ir_forms.specs.declared.flow.FlowBlock.{FlowBlock};
 ghost use Rattle.ir_forms.specs.inside.FlowFits.{FitsFlow};
-ghost use Rattle.ir_forms.specs.inside.HyperCode.{Block as HyperBlock};
+ghost use Rattle.hyper_narrow.specs.inside.NarrowedCode.{Narrowed};
 ghost use Rattle.ir_forms.specs.inside.HyperWords.{AreBytes, IsFaithful};
 ghost use Rattle.grid_place.specs.inside.Moves.{HasSizes, IsMoved};
 ghost use Rattle.fan_out.specs.inside.Means.{acts_by_slot};
@@ -39,17 +39,17 @@ pub fn targeted_blocks_have_sizes()
     ensures { (f : FlowBlock) (t : Block) → HasRoom f → IsTargeted f t → HasSizes t }
 {}
 
-/// An image runs as its hyper program does, block for block: where nothing of the program faults, the
+/// An image runs as its narrowed program does, block for block: where nothing of the program faults, the
 /// image does not trap; and whatever faults, so it runs where nothing looks at its marks.
 pub fn images_do_what_programs_do()
-    ensures clean { (B : List HyperBlock) (ts : List Block) → AreMade B ts → DoesTheSame B ts }
-    ensures plain { (B : List HyperBlock) (ts : List Block) → AreMade B ts → DoesPlainly B ts }
+    ensures clean { (B : List Narrowed) (ts : List Block) → AreMade B ts → DoesTheSame B ts }
+    ensures plain { (B : List Narrowed) (ts : List Block) → AreMade B ts → DoesPlainly B ts }
 {}
 
 /// The two come to the same, and zeros at the end of the data are not needed.
 pub fn images_mean_what_programs_mean()
-    ensures clean { (B : List HyperBlock) (ts : List Block) → AreMade B ts → MeansTheSame B ts }
-    ensures plain { (B : List HyperBlock) (ts : List Block) → AreMade B ts → MeansPlainly B ts }
+    ensures clean { (B : List Narrowed) (ts : List Block) → AreMade B ts → MeansTheSame B ts }
+    ensures plain { (B : List Narrowed) (ts : List Block) → AreMade B ts → MeansPlainly B ts }
 {}
 
 /// To give targets and places and then to resolve immediates is to resolve them first.
@@ -81,21 +81,21 @@ pub fn clean_slots_are_clean_blocks()
 /// passes give.
 pub fn linked_blocks_are_an_image()
     ensures layout { (us : List Block) → laid_out (linked us) ≡ laid_out us }
-    ensures made { (B : List HyperBlock) (us : List Block) → AreEmitted B us
+    ensures made { (B : List Narrowed) (us : List Block) → AreEmitted B us
         → AreMade B (linked us) }
-    ensures good { (B : List HyperBlock) (us : List Block) (bytes : List ℕ) → AreEmitted B us
+    ensures good { (B : List Narrowed) (us : List Block) (bytes : List ℕ) → AreEmitted B us
         → AreBytes bytes → length bytes ≤ data_size → IsGoodImage (image_of us bytes) }
 {}
 
-/// The image of what the passes give for a hyper program means the program: the one theorem that
+/// The image of what the passes give for a narrowed program means the program: the one theorem that
 /// the compiler cites.
 pub fn images_of_programs_mean_them()
-    ensures means { (B : List HyperBlock) (us : List Block) → AreEmitted B us → ImageMeans B us }
-    ensures traps { (B : List HyperBlock) (us : List Block) → AreEmitted B us → NeverTraps B us }
-    ensures plain { (B : List HyperBlock) (us : List Block) → AreEmitted B us
+    ensures means { (B : List Narrowed) (us : List Block) → AreEmitted B us → ImageMeans B us }
+    ensures traps { (B : List Narrowed) (us : List Block) → AreEmitted B us → NeverTraps B us }
+    ensures plain { (B : List Narrowed) (us : List Block) → AreEmitted B us
         → ImageMeansPlainly B us }
-    ensures faithful { (B : List HyperBlock) (us : List Block) → AreEmitted B us
+    ensures faithful { (B : List Narrowed) (us : List Block) → AreEmitted B us
         → IsFaithful (laid_out us) (length us) }
-    ensures places { (B : List HyperBlock) (us : List Block) → AreEmitted B us
+    ensures places { (B : List Narrowed) (us : List Block) → AreEmitted B us
         → HasPlaces (laid_out us) }
 {}

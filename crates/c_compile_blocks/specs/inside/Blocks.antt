@@ -1,12 +1,12 @@
--- What the passes make of a hyper program before its labels are resolved: a machine block of each
--- hyper block.
+-- What the passes make of a narrowed program before its labels are resolved: a machine block of each
+-- of its blocks.
 use Rattle.std.specs.Prelude.{◌≡◌, ◌⊎◌, ℕ, ◌≤◌, Bool, false, List, length, slice_get, Some}
 use Rattle.trips_isa.specs.declared.block.Block.{Block}
 use Rattle.trips_isa.specs.Places.{nodes_of}
 use Rattle.block_cases.specs.Cases.{cases}
 use Rattle.ir_forms.specs.declared.flow.FlowBlock.{FlowBlock}
-use Rattle.ir_forms.specs.inside.HyperCode as hyper
 use Rattle.ir_forms.specs.inside.HyperFits.{FitsHyper, IsFollowed, filled_ifs}
+use Rattle.hyper_narrow.specs.inside.NarrowedCode.{Narrowed, bare}
 use Rattle.predication.specs.inside.Tails.{labelled}
 use Rattle.predication.specs.inside.Converted.{predicated}
 use Rattle.predication.specs.inside.Laws as convert
@@ -18,23 +18,23 @@ use Rattle.grid_place.specs.inside.Placings.{IsPlaced}
 use Rattle.c_compile_layout.specs.inside.Emitted.{most_blocks}
 use Rattle.c_compile_blocks.specs.inside.Guarded.{sensed_nodes}
 
--- the flow block of a hyper block: guards in place of branches, and a token for each output on every
+-- the flow block of a narrowed block: guards in place of branches, and a token for each output on every
 -- path; its constants still hold labels
-abbrev pub flow_of : hyper.Block → FlowBlock
+abbrev pub flow_of : Narrowed → FlowBlock
 flow_of b = complete (predicated (labelled b))
 
--- f may be given targets in the place of the flow block of a hyper block
-pub record StandsFor (b : hyper.Block) (f : FlowBlock) : Type 0 where
+-- f may be given targets in the place of the flow block of a narrowed block
+pub record StandsFor (b : Narrowed) (f : FlowBlock) : Type 0 where
   -- it is as complete and as regular, and means the same
   pub eases : Eases (flow_of b) f
   -- it is the flow block itself, or has a guard for each if-item with a leg that is filled
-  pub guards : (f ≡ flow_of b) ⊎ (filled_ifs b.items ≤ sensed_nodes f.nodes)
+  pub guards : (f ≡ flow_of b) ⊎ (filled_ifs b.block.items ≤ sensed_nodes f.nodes)
 
--- u is the machine block that the passes make of a hyper block, in the slots that a placing says; it
+-- u is the machine block that the passes make of a narrowed block, in the slots that a placing says; it
 -- is within the limits
-pub record IsMachineBlock (p : Placing) (b : hyper.Block) (u : Block) : Type 0 where
+pub record IsMachineBlock (p : Placing) (b : Narrowed) (u : Block) : Type 0 where
   -- the loads and stores, and the exits
-  pub numbers : convert.HasRoom b
+  pub numbers : convert.HasRoom b.block
   -- the flow block that is given targets
   pub flow : FlowBlock
   pub stands : StandsFor b flow
@@ -50,8 +50,8 @@ pub record IsMachineBlock (p : Placing) (b : hyper.Block) (u : Block) : Type 0 w
   pub placed : IsPlaced p target u
 
 -- the same, whatever the number of its cases; where nothing is eased, of the flow block itself
-pub record IsPassed (is_eased : Bool) (p : Placing) (b : hyper.Block) (u : Block) : Type 0 where
-  pub numbers : convert.HasRoom b
+pub record IsPassed (is_eased : Bool) (p : Placing) (b : Narrowed) (u : Block) : Type 0 where
+  pub numbers : convert.HasRoom b.block
   pub flow : FlowBlock
   pub stands : StandsFor b flow
   -- no pass eased it
@@ -61,32 +61,32 @@ pub record IsPassed (is_eased : Bool) (p : Placing) (b : hyper.Block) (u : Block
   pub targeted : IsTargeted flow target
   pub placed : IsPlaced p target u
 
--- us are those of the first n blocks of a hyper program
-pub record AreFirstPassed (is_eased : Bool) (p : Placing) (B : List hyper.Block) (n : ℕ) (us : List Block) : Type 0
+-- us are those of the first n blocks of a narrowed program
+pub record AreFirstPassed (is_eased : Bool) (p : Placing) (B : List Narrowed) (n : ℕ) (us : List Block) : Type 0
   where
     pub size : length us ≡ n
-    -- each from the hyper block of the same number
-    pub each : (k : ℕ) (b : hyper.Block) (u : Block) → slice_get B k ≡ Some b
+    -- each from the narrowed block of the same number
+    pub each : (k : ℕ) (b : Narrowed) (u : Block) → slice_get B k ≡ Some b
         → slice_get us k ≡ Some u → IsPassed is_eased p b u
 
--- us are those of a hyper program
-abbrev pub ArePassed : Bool → Placing → List hyper.Block → List Block → Type 0
+-- us are those of a narrowed program
+abbrev pub ArePassed : Bool → Placing → List Narrowed → List Block → Type 0
 ArePassed is_eased p B us = AreFirstPassed is_eased p B (length B) us
 
--- us are the machine blocks of a hyper program
-pub record AreMachineBlocks (p : Placing) (B : List hyper.Block) (us : List Block) : Type 0 where
+-- us are the machine blocks of a narrowed program
+pub record AreMachineBlocks (p : Placing) (B : List Narrowed) (us : List Block) : Type 0 where
   pub size : length us ≡ length B
-  -- each from the hyper block of the same number
-  pub each : (k : ℕ) (b : hyper.Block) (u : Block) → slice_get B k ≡ Some b
+  -- each from the narrowed block of the same number
+  pub each : (k : ℕ) (b : Narrowed) (u : Block) → slice_get B k ≡ Some b
       → slice_get us k ≡ Some u → IsMachineBlock p b u
 
--- a hyper program that the passes take: its blocks fit, lead to its blocks, and are as many as an
+-- a narrowed program that the passes take: its blocks fit, lead to its blocks, and are as many as an
 -- image holds of whatever size
-pub record FitsPasses (B : List hyper.Block) : Type 0 where
+pub record FitsPasses (B : List Narrowed) : Type 0 where
   -- a run begins with block 0
   pub some : 1 ≤ length B
   -- each block has at most five chunks
   pub few : length B ≤ most_blocks
   -- and a call or a system call comes back to the block behind
-  pub followed : IsFollowed B
-  pub fit : (k : ℕ) (b : hyper.Block) → slice_get B k ≡ Some b → FitsHyper b
+  pub followed : IsFollowed (bare B)
+  pub fit : (k : ℕ) (b : Narrowed) → slice_get B k ≡ Some b → FitsHyper b.block

@@ -2,7 +2,7 @@
 use Rattle.std.specs.Prelude.{◌≡◌}
 use Rattle.trips_isa.specs.declared.block.Block.{Block}
 use Rattle.ir_forms.specs.declared.flow.FlowBlock.{FlowBlock}
-use Rattle.ir_forms.specs.inside.HyperCode as hyper
+use Rattle.hyper_narrow.specs.inside.NarrowedCode.{Narrowed}
 use Rattle.predication.specs.inside.Tails.{labelled}
 use Rattle.predication.specs.inside.Outcomes.{HasRoomFor, counts_of}
 use Rattle.null_outputs.specs.inside.Refusals.{IsWithinLimits}
@@ -11,8 +11,8 @@ use Rattle.grid_place.specs.declared.placed.Placing.{Placing}
 use Rattle.grid_place.specs.inside.Placings.{IsPlaced}
 use Rattle.c_compile_blocks.specs.inside.Blocks.{flow_of}
 
--- f is the flow block of a hyper block, which predication and completing have taken
-pub record IsFlow (b : hyper.Block) (f : FlowBlock) : Type 0 where
+-- f is the flow block of a narrowed block, which predication and completing have taken
+pub record IsFlow (b : Narrowed) (f : FlowBlock) : Type 0 where
   pub is : f ≡ flow_of b
   -- predication has room
   pub room : HasRoomFor (counts_of (labelled b))

@@ -8,15 +8,15 @@ use Rattle.c_meaning_spec.specs.Eval.{eval}
 use Rattle.ir_forms.specs.inside.FlatCode.{Program}
 use Rattle.ir_forms.specs.inside.FlatFits.{FitsProgram, code_blocks_of_all}
 use Rattle.ir_forms.specs.inside.FlatRuns.{checked, flat_run}
-use Rattle.ir_forms.specs.inside.HyperCode as hyper
 use Rattle.c_meaning_spec.specs.Laws.{IsInput}
 use Rattle.flat_lower.specs.inside.Keeps.{Keeps}
 use Rattle.reg_assign.specs.inside.Keeps.{KeepsTameRuns}
+use Rattle.hyper_narrow.specs.inside.NarrowedCode.{Narrowed}
 use Rattle.hyper_build.specs.inside.Laws.{built_program, plan_of, AreAssigned}
 use Rattle.grid_place.specs.declared.placed.Placing.{Placing}
 use Rattle.c_compile_layout.specs.inside.Emitted.{image_of}
 use Rattle.c_compile_blocks.specs.inside.Blocks.{AreMachineBlocks}
-use Rattle.hyper_trim.specs.inside.Laws.{Trims}
+use Rattle.hyper_trim.specs.inside.Narrows.{Narrows}
 
 -- F does what a typed program of a text of t tokens means, and is as small as the text
 pub record FlatMeans (P : TypedProgram) (F : Program) (t : ℕ) : Type 0 where
@@ -33,9 +33,8 @@ pub record FlatMeans (P : TypedProgram) (F : Program) (t : ℕ) : Type 0 where
   -- whatever plan cuts them
   pub blocks : code_blocks_of_all F.functions ≤ 12 * t
 
--- i is the image that the passes make of F: its calls keep what must be kept, its blocks end and its
--- ifs are joined where the answers of some plan say, they are trimmed, and each stands in the slots that a
--- placing says
+-- i is the image that the passes make of F: its calls keep what must be kept, its blocks end and its ifs are joined
+-- where the answers of some plan say, they are trimmed and narrowed, and each stands in the slots that a placing says
 pub record IsCompiled (F : Program) (p : Placing) (i : Image) : Type 0 where
   -- the variables that each call keeps, and their groups
   pub lists : List (List ℕ)
@@ -47,13 +46,13 @@ pub record IsCompiled (F : Program) (p : Placing) (i : Image) : Type 0 where
   -- where its blocks end, and which ifs are items of their block
   pub cuts : List Bool
   pub joins : List Bool
-  -- what is left of the blocks that are built so
-  pub left : List hyper.Block
+  -- what is left of the blocks that are built so, with what outlasts each
+  pub left : List Narrowed
   -- they do the same, block by block
-  pub trims : Trims (built_program (plan_of cuts joins groups) F) left
+  pub narrows : Narrows (built_program (plan_of cuts joins groups) F) left
   -- with labels in the place of addresses
   pub blocks : List Block
-  -- each is what the passes make of its hyper block
+  -- each is what the passes make of its narrowed block
   pub made : AreMachineBlocks p left blocks
   -- its labels resolved, and its globals beside
   pub is : i ≡ image_of blocks F.bytes

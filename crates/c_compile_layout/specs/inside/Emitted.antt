@@ -12,14 +12,15 @@ use Rattle.trips_isa.specs.Stores.{data_size}
 use Rattle.block_cases.specs.Cases.{cases}
 use Rattle.block_cases.specs.inside.Plain.{plain_runs}
 use Rattle.ir_forms.specs.declared.flow.FlowBlock.{FlowBlock}
-use Rattle.ir_forms.specs.inside.Agreement.{MeansBlock}
 use Rattle.ir_forms.specs.inside.FlowFits.{IsComplete}
 use Rattle.ir_forms.specs.inside.FlowRegular.{IsRegular}
-use Rattle.ir_forms.specs.inside.HyperCode as hyper
 use Rattle.ir_forms.specs.inside.HyperFits.{FitsHyper, IsFollowed}
-use Rattle.ir_forms.specs.inside.HyperRuns.{Layout, hyper_run, IsUnclean}
+use Rattle.ir_forms.specs.inside.HyperRuns.{Layout, IsUnclean}
 use Rattle.ir_forms.specs.inside.HyperWords.{AreBytes}
 use Rattle.ir_forms.specs.inside.Laws.{StandsAs}
+use Rattle.hyper_narrow.specs.inside.NarrowedCode.{Narrowed, bare}
+use Rattle.hyper_narrow.specs.inside.NarrowedMeaning.{MeansNarrowed}
+use Rattle.hyper_narrow.specs.inside.NarrowedRuns.{narrowed_run}
 use Rattle.grid_place.specs.Moves.{Permutes}
 use Rattle.grid_place.specs.inside.Moves.{IsMoved}
 use Rattle.fan_out.specs.inside.Targeted.{HasRoom, IsTargeted}
@@ -35,14 +36,14 @@ LabelBelow n Bro imm = label_in imm < n
 LabelBelow n Callo imm = label_in imm < n
 LabelBelow n op imm = Unit {0}
 
--- u is the machine block of a hyper block b, one of n: it has the targets of a flow block with
+-- u is the machine block of a narrowed block b, one of n: it has the targets of a flow block with
 -- labels, and its instructions stand in other slots; the flow block is complete and means b once its
 -- constants hold the addresses
-pub record IsEmitted (at : Layout) (n : ℕ) (b : hyper.Block) (u : Block) : Type 0 where
+pub record IsEmitted (at : Layout) (n : ℕ) (b : Narrowed) (u : Block) : Type 0 where
   -- its constants and branches hold labels
   pub flow : FlowBlock
   -- with addresses in its constants
-  pub means : MeansBlock at b (resolved (by_address at.address) flow)
+  pub means : MeansNarrowed at b (resolved (by_address at.address) flow)
   -- on every path each output has its token, once addresses stand in its constants
   pub complete : IsComplete (resolved (by_address at.address) flow)
   -- each branch names a block that there is
@@ -67,16 +68,16 @@ pub record IsEmitted (at : Layout) (n : ℕ) (b : hyper.Block) (u : Block) : Typ
 abbrev pub most_blocks : ℕ
 most_blocks = 104857
 
--- us are the machine blocks of a hyper program, whose exits lead to its blocks
-pub record AreEmitted (B : List hyper.Block) (us : List Block) : Type 0 where
+-- us are the machine blocks of a narrowed program, whose exits lead to its blocks
+pub record AreEmitted (B : List Narrowed) (us : List Block) : Type 0 where
   pub size : length us ≡ length B
   -- a run begins with block 0
   pub some : 1 ≤ length us
   pub few : length us ≤ most_blocks
-  pub followed : IsFollowed B
-  pub fit : (k : ℕ) (b : hyper.Block) → slice_get B k ≡ Some b → FitsHyper b
+  pub followed : IsFollowed (bare B)
+  pub fit : (k : ℕ) (b : Narrowed) → slice_get B k ≡ Some b → FitsHyper b.block
   -- in the layout that these blocks have
-  pub each : (k : ℕ) (b : hyper.Block) (u : Block) → slice_get B k ≡ Some b
+  pub each : (k : ℕ) (b : Narrowed) (u : Block) → slice_get B k ≡ Some b
       → slice_get us k ≡ Some u → IsEmitted (laid_out us) (length us) b u
 
 -- THEIR IMAGE
@@ -88,26 +89,26 @@ image_of us bytes = record {
   bytes = trimmed bytes;
 }
 
--- n blocks of its image come to what n blocks of the hyper program, whose labels stand where its
+-- n blocks of its image come to what n blocks of the narrowed program, whose labels stand where its
 -- blocks do, come to, where none of these faults
-abbrev pub ImageMeans : List hyper.Block → List Block → Type 0
+abbrev pub ImageMeans : List Narrowed → List Block → Type 0
 ImageMeans B us =
     (bytes input : List ℕ) (n : ℕ) → AreBytes bytes → AreBytes input → length bytes ≤ data_size
-    → StandsAs (hyper_run true (laid_out us) B bytes input n)
+    → StandsAs (narrowed_run true (laid_out us) B bytes input n)
     (standing_of (runs (image_of us bytes).blocks (start (image_of us bytes).bytes input) n))
 
--- where none of the first n blocks of the hyper program faults, none of its image traps
-abbrev pub NeverTraps : List hyper.Block → List Block → Type 0
+-- where none of the first n blocks of the narrowed program faults, none of its image traps
+abbrev pub NeverTraps : List Narrowed → List Block → Type 0
 NeverTraps B us =
     (bytes input : List ℕ) (n : ℕ) (c : TrapCause) → AreBytes bytes → AreBytes input → length bytes ≤ data_size
-    → (IsUnclean (hyper_run true (laid_out us) B bytes input n) → ⊥)
+    → (IsUnclean (narrowed_run true (laid_out us) B bytes input n) → ⊥)
     → (runs (image_of us bytes).blocks (start (image_of us bytes).bytes input) n).1 ≡ Trap c → ⊥
 
--- whatever faults, n blocks of the hyper program come to what n blocks of its image come to whose
+-- whatever faults, n blocks of the narrowed program come to what n blocks of its image come to whose
 -- marks nothing looks at
-abbrev pub ImageMeansPlainly : List hyper.Block → List Block → Type 0
+abbrev pub ImageMeansPlainly : List Narrowed → List Block → Type 0
 ImageMeansPlainly B us =
     (bytes input : List ℕ) (n : ℕ) → AreBytes bytes → AreBytes input → length bytes ≤ data_size
-    → hyper_run false (laid_out us) B bytes input n
+    → narrowed_run false (laid_out us) B bytes input n
     ≡ standing_of (plain_runs (image_of us bytes).blocks
     (start (image_of us bytes).bytes input) n)

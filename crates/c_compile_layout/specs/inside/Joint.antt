@@ -1,4 +1,4 @@
--- What the passes must give of each block, and how a run of the hyper program is a run of the image.
+-- What the passes must give of each block, and how a run of the narrowed program is a run of the image.
 use Rattle.std.specs.Prelude.{◌≡◌, ℕ, ◌≤◌, Bool, true, List, map, length, slice_get}
 use Rattle.std.specs.Prelude.{slice_index, Some}
 use Rattle.trips_isa.specs.declared.block.Block.{Block}
@@ -13,13 +13,14 @@ use Rattle.trips_isa.specs.Stores.{data_size}
 use Rattle.trips_isa.specs.Tables.{deepest}
 use Rattle.block_cases.specs.inside.Plain.{plain_runs}
 use Rattle.ir_forms.specs.declared.flow.FlowBlock.{FlowBlock}
-use Rattle.ir_forms.specs.inside.Agreement.{MeansBlock}
 use Rattle.ir_forms.specs.inside.FlowRuns.{AtStart, fired}
-use Rattle.ir_forms.specs.inside.HyperCode as hyper
 use Rattle.ir_forms.specs.inside.HyperFits.{AllLeadOn}
-use Rattle.ir_forms.specs.inside.HyperRuns.{Machine, Layout, hyper_run}
+use Rattle.ir_forms.specs.inside.HyperRuns.{Machine, Layout}
 use Rattle.ir_forms.specs.inside.HyperRuns.{Standing, Running, Ended, Full, Unclean}
-use Rattle.ir_forms.specs.inside.HyperWords.{AreBytes, LeavesWords}
+use Rattle.ir_forms.specs.inside.HyperWords.{AreBytes}
+use Rattle.hyper_narrow.specs.inside.NarrowedCode.{Narrowed}
+use Rattle.hyper_narrow.specs.inside.NarrowedMeaning.{MeansNarrowed, LeavesWords}
+use Rattle.hyper_narrow.specs.inside.NarrowedRuns.{narrowed_run}
 use Rattle.fan_out.specs.inside.Targeted.{register_of}
 use Rattle.fan_out.specs.inside.Means.{MeansFlow, WritesAsFlow}
 use Rattle.c_compile_layout.specs.inside.Linking.{resolved, by_offset}
@@ -39,18 +40,18 @@ CleanAsFlow f t =
     → is_clean (fired (slice_index regs) h f.nodes) ≡ true
     → IsClean t (token_of t regs mem deepest)
 
--- t is the machine block of block k of n, a hyper block b, where blocks begin at these chunks: it
+-- t is the machine block of block k of n, a narrowed block b, where blocks begin at these chunks: it
 -- means a flow block that means b, once the labels in that block's branches are resolved
-pub record IsMade (at : Layout) (chunk : ℕ → ℕ) (k n : ℕ) (b : hyper.Block) (t : Block) : Type 0
+pub record IsMade (at : Layout) (chunk : ℕ → ℕ) (k n : ℕ) (b : Narrowed) (t : Block) : Type 0
   where
     -- its constants hold addresses, and its branches labels
     pub flow : FlowBlock
     pub starts : HasStarts flow
-    pub means : MeansBlock at b flow
+    pub means : MeansNarrowed at b flow
     -- registers and memory go on as words and bytes
     pub keeps : LeavesWords at b
     -- to one of the n blocks, and back to the block behind
-    pub exits : AllLeadOn k n b.tail
+    pub exits : AllLeadOn k n b.block.tail
     -- the machine block comes to what the flow block's table says, with offsets in its branches
     pub outcome : MeansFlow (resolved (by_offset chunk k) flow) t
     pub clean : CleanAsFlow (resolved (by_offset chunk k) flow) t
@@ -58,14 +59,14 @@ pub record IsMade (at : Layout) (chunk : ℕ → ℕ) (k n : ℕ) (b : hyper.Blo
     pub writes : WritesAsFlow flow
     pub registers : t.writes.items ≡ map register_of flow.writes
 
--- ts are the machine blocks of a hyper program, as they stand in an image
-pub record AreMade (B : List hyper.Block) (ts : List Block) : Type 0 where
+-- ts are the machine blocks of a narrowed program, as they stand in an image
+pub record AreMade (B : List Narrowed) (ts : List Block) : Type 0 where
   pub size : length ts ≡ length B
   pub some : 1 ≤ length ts
   -- an image has room for `most_chunks` chunks
   pub few : AreFew ts
   -- in the layout that these blocks have
-  pub each : (k : ℕ) (b : hyper.Block) (t : Block) → slice_get B k ≡ Some b
+  pub each : (k : ℕ) (b : Narrowed) (t : Block) → slice_get B k ≡ Some b
       → slice_get ts k ≡ Some t → IsMade (laid_out ts) (chunk_of ts) k (length ts) b t
 
 -- THE SAME STATE
@@ -80,7 +81,7 @@ pub record Same (m : Machine) (k : ℕ) (s : State) : Type 0 where
   -- the number of the block that comes next
   pub next : s.next ≡ k
 
--- how the run of an image stands where the hyper program's stands so; where something faulted, it
+-- how the run of an image stands where the narrowed program's stands so; where something faulted, it
 -- says nothing
 abbrev pub StandsIn : Standing → State × Stepped → Type 0
 StandsIn (Running out) r = (r.1 ≡ stepped.Went) × ((r.0).output ≡ out)
@@ -89,17 +90,17 @@ StandsIn (Ended out w) r =
 StandsIn (Full out) r = (r.1 ≡ stepped.StackFull) × ((r.0).output ≡ out)
 StandsIn Unclean r = Unit {0}
 
--- n blocks of the hyper program, checked for faults, are n blocks of the image
-abbrev pub DoesTheSame : List hyper.Block → List Block → Type 0
+-- n blocks of the narrowed program, checked for faults, are n blocks of the image
+abbrev pub DoesTheSame : List Narrowed → List Block → Type 0
 DoesTheSame B ts =
     (bytes input : List ℕ) (n : ℕ) → AreBytes bytes → AreBytes input → length bytes ≤ data_size
-    → StandsIn (hyper_run true (laid_out ts) B bytes input n) (runs ts (start bytes input) n)
+    → StandsIn (narrowed_run true (laid_out ts) B bytes input n) (runs ts (start bytes input) n)
 
--- n blocks of the hyper program, checked or not, are n blocks of the image whose marks nothing
+-- n blocks of the narrowed program, checked or not, are n blocks of the image whose marks nothing
 -- looks at
-abbrev pub DoesPlainly : List hyper.Block → List Block → Type 0
+abbrev pub DoesPlainly : List Narrowed → List Block → Type 0
 DoesPlainly B ts =
     (check : Bool) (bytes input : List ℕ) (n : ℕ) → AreBytes bytes → AreBytes input
     → length bytes ≤ data_size
-    → StandsIn (hyper_run check (laid_out ts) B bytes input n)
+    → StandsIn (narrowed_run check (laid_out ts) B bytes input n)
     (plain_runs ts (start bytes input) n)

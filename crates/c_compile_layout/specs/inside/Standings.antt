@@ -7,10 +7,11 @@ use Rattle.trips_isa.specs.declared.run.Stepped.TheVariants as stepped
 use Rattle.trips_isa.specs.Machine.{State, start, runs}
 use Rattle.trips_isa.specs.Stores.{data_size}
 use Rattle.block_cases.specs.inside.Plain.{plain_runs}
-use Rattle.ir_forms.specs.inside.HyperCode as hyper
-use Rattle.ir_forms.specs.inside.HyperRuns.{Standing, Running, Ended, Full, Unclean, hyper_run}
+use Rattle.ir_forms.specs.inside.HyperRuns.{Standing, Running, Ended, Full, Unclean}
 use Rattle.ir_forms.specs.inside.HyperWords.{AreBytes}
 use Rattle.ir_forms.specs.inside.Laws.{StandsAs}
+use Rattle.hyper_narrow.specs.inside.NarrowedCode.{Narrowed}
+use Rattle.hyper_narrow.specs.inside.NarrowedRuns.{narrowed_run}
 use Rattle.c_compile_layout.specs.inside.Layouts.{laid_out}
 
 -- what a run came to: its output, and where it ended the word in register 3; a trap is a fault
@@ -35,18 +36,18 @@ abbrev pub trimmed : List ℕ → List ℕ
 trimmed [] = []
 trimmed (b ∷ bs) = kept_before b (trimmed bs)
 
--- n blocks of the image, whose data is trimmed, come to what n blocks of the hyper program come to,
+-- n blocks of the image, whose data is trimmed, come to what n blocks of the narrowed program come to,
 -- where none of these faults
-abbrev pub MeansTheSame : List hyper.Block → List Block → Type 0
+abbrev pub MeansTheSame : List Narrowed → List Block → Type 0
 MeansTheSame B ts =
     (bytes input : List ℕ) (n : ℕ) → AreBytes bytes → AreBytes input → length bytes ≤ data_size
-    → StandsAs (hyper_run true (laid_out ts) B bytes input n)
+    → StandsAs (narrowed_run true (laid_out ts) B bytes input n)
     (standing_of (runs ts (start (trimmed bytes) input) n))
 
--- whatever faults, n blocks of the hyper program come to what n blocks of the image come to whose
+-- whatever faults, n blocks of the narrowed program come to what n blocks of the image come to whose
 -- marks nothing looks at
-abbrev pub MeansPlainly : List hyper.Block → List Block → Type 0
+abbrev pub MeansPlainly : List Narrowed → List Block → Type 0
 MeansPlainly B ts =
     (bytes input : List ℕ) (n : ℕ) → AreBytes bytes → AreBytes input → length bytes ≤ data_size
-    → hyper_run false (laid_out ts) B bytes input n
+    → narrowed_run false (laid_out ts) B bytes input n
     ≡ standing_of (plain_runs ts (start (trimmed bytes) input) n)

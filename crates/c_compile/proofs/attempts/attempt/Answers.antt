@@ -6,7 +6,7 @@ use Rattle.trips_isa.specs.declared.block.Image.{Image}
 use Rattle.trips_isa.specs.Images.{FitsImage}
 use Rattle.block_cases.specs.Good.{GoodBlock}
 use Rattle.ir_forms.specs.inside.FlatViews.{program_of}
-use Rattle.ir_forms.specs.inside.HyperViews.{blocks_of}
+use Rattle.hyper_narrow.specs.inside.NarrowedViews.{narrowed_blocks}
 use Rattle.c_compile_layout.specs.inside.Emitted.{image_of}
 use Rattle.c_compile_laws.specs.inside.Compiled.{IsCompiled}
 use Rattle.c_compile.proofs.TriedPlans.{some_weaker, followed, low, checked, is_compiled}
@@ -17,9 +17,9 @@ machine_blocks-requires c =
     let g = c.args.assigned.now in
     record {
       followed = followed (program_of g.flat) g.live g.groups c.requires.fits c.requires.assigned c.requires.few
-          c.args.plan.now.cuts c.args.plan.now.joins (blocks_of c.args.program.now) c.requires.trims;
+          c.args.plan.now.cuts c.args.plan.now.joins (narrowed_blocks c.args.program.now) c.requires.narrows;
       few = low (program_of g.flat) g.live g.groups c.requires.fits c.requires.assigned c.requires.few
-          c.args.plan.now.cuts c.args.plan.now.joins (blocks_of c.args.program.now) c.requires.trims;
+          c.args.plan.now.cuts c.args.plan.now.joins (narrowed_blocks c.args.program.now) c.requires.narrows;
     }
 
 pub image_or_none-requires : goal.image_or_none-requires
@@ -27,8 +27,8 @@ image_or_none-requires c =
     let g = c.args.assigned.now in
     let us = c.in-Ok.blocks in
     let ready = checked (program_of g.flat) g.live g.groups c.requires.fits c.requires.assigned c.requires.few
-    c.args.plan.now.cuts c.args.plan.now.joins (blocks_of c.args.program.now) c.requires.trims c.args.placing us
-    c.in-Ok.ensures.ok in
+    c.args.plan.now.cuts c.args.plan.now.joins (narrowed_blocks c.args.program.now) c.requires.narrows
+    c.args.placing us c.in-Ok.ensures.ok in
     record {
       sizes = ready.sizes;
       few = ready.few;
@@ -46,8 +46,8 @@ returns-in-Ok c =
     IfOk-weaker c.image_or_none.result (λ (o : Option Image). IfSome o Good) (λ (o : Option Image). IfSome o Made)
     (λ (o : Option Image) h. some_weaker Good Made o
     (λ i h. is_compiled (program_of g.flat) g.live g.groups c.requires.fits c.requires.assigned c.requires.few
-    c.args.plan.now.cuts c.args.plan.now.joins (blocks_of c.args.program.now) c.requires.trims c.args.placing us
-    c.in-Ok.ensures.ok c.requires.keeps i
+    c.args.plan.now.cuts c.args.plan.now.joins (narrowed_blocks c.args.program.now) c.requires.narrows
+    c.args.placing us c.in-Ok.ensures.ok c.requires.keeps i
     (h.0 ∙ ap (λ (bs : List ℕ). image_of us bs) e)
     (subst (λ (bs : List ℕ). All GoodBlock (image_of us bs).blocks) e h.1)) h)
     c.image_or_none.ensures

@@ -1,13 +1,13 @@
 use Rattle.std.proofs.Common.{arith, map}
 use Rattle.std.proofs.lemmas.Grind.{common_steps}
-use Rattle.ir_forms.specs.inside.HyperViews.{block_of}
+use Rattle.hyper_narrow.specs.inside.NarrowedViews.{narrowed_of}
 use Rattle.c_compile_blocks.proofs.Programs.{none_passed, one_more, block_there, labels_there}
 use Rattle.c_compile_blocks.proofs.Programs.{refused_there, memory_there}
 use Rattle.c_compile_blocks.proofs.blocks.all_blocks.Goals as goal
 
 pub loop-block-init : goal.loop-block-init
 loop-block-init c =
-    none_passed c.args.is_eased c.args.placing (map block_of c.args.program.now) c.new-blocks.result
+    none_passed c.args.is_eased c.args.placing (map narrowed_of c.args.program.now) c.new-blocks.result
     c.new-blocks.ensures.value
 
 pub machine_block-requires : goal.machine_block-requires
@@ -32,8 +32,8 @@ returns-in_err-keep-clause-err c =
 
 pub loop-block-preserved : goal.loop-block-preserved
 loop-block-preserved c =
-    one_more c.args.is_eased c.args.placing (map block_of c.args.program.now) c.loop-block.block-index
-    c.loop-block.blocks c.keep.new.blocks (block_of c.block-item.result) c.in_ok-machine_block.field-0
+    one_more c.args.is_eased c.args.placing (map narrowed_of c.args.program.now) c.loop-block.block-index
+    c.loop-block.blocks c.keep.new.blocks (narrowed_of c.block-item.result) c.in_ok-machine_block.field-0
     c.loop-block.invariant
     (block_there c.args.program.now c.loop-block.block-index c.block-item.result c.loop-block-test.true
     c.block-item.is) c.in_ok-machine_block.ensures.ok c.in_ok-keep.ensures.ok
