@@ -1,0 +1,251 @@
+# shellcheck shell=bash disable=SC2034,SC2154
+# What ./trips says of words before the program has them: help, and what is wrong with them. It is read by ./trips,
+# and goes by the table commands.txt. It judges words as the program does: `bench/launcher --against` compares them.
+
+# The most bytes of a text of C: after a file that is no longer it is certain that the input is read too.
+most_source=262144
+
+# --- the table ---
+
+declare -A takes=() does=() least=() most=() options=() belongs=()
+commands=() all_options=() calls=()
+
+# Reads commands.txt. What is said of a name stands below its line, from the third column.
+read_table() {
+  local line kind name rest option
+  while IFS= read -r line; do
+    case $line in "#"*) continue ;; "  "*) does[$name]=${line#  } && continue ;; esac
+    read -r kind name rest <<<"$line"
+    case $kind in
+      command)
+        commands+=("$name") takes[$name]=${rest%% *} options[$name]=
+        case $rest in *" "*) options[$name]=${rest#* } ;; esac
+        for option in ${options[$name]}; do belongs[$name $option]=y; done
+        ;;
+      option) all_options+=("$name") takes[$name]=$rest ;;
+      range) least[$name]=${rest% *} most[$name]=${rest#* } ;;
+      call) calls+=("$name") takes[$name]=$rest ;;
+    esac
+  done <"$here/commands.txt"
+}
+
+# Whether a word is a command of the program.
+is_command() {
+  [ -n "$1" ] && [ -n "${options[$1]+y}" ]
+}
+
+# --- the nearest word ---
+
+# How many letters must be changed, put in, left out or exchanged with the next, to make one word of another: `apart`.
+distance() {
+  local a=$1 b=$2 i j cost best
+  local -A d=()
+  for ((i = 0; i <= ${#a}; i++)); do d[$i,0]=$i; done
+  for ((j = 0; j <= ${#b}; j++)); do d[0,$j]=$j; done
+  for ((i = 1; i <= ${#a}; i++)); do
+    for ((j = 1; j <= ${#b}; j++)); do
+      cost=1
+      [ "${a:i-1:1}" != "${b:j-1:1}" ] || cost=0
+      best=$((d[$((i - 1)),$((j - 1))] + cost))
+      ((d[$((i - 1)),$j] + 1 >= best)) || best=$((d[$((i - 1)),$j] + 1))
+      ((d[$i,$((j - 1))] + 1 >= best)) || best=$((d[$i,$((j - 1))] + 1))
+      if ((i > 1 && j > 1)) && [ "${a:i-1:1}${a:i-2:1}" = "${b:j-2:1}${b:j-1:1}" ]; then
+        ((d[$((i - 2)),$((j - 2))] + 1 >= best)) || best=$((d[$((i - 2)),$((j - 2))] + 1))
+      fi
+      d[$i,$j]=$best
+    done
+  done
+  apart=${d[${#a},${#b}]}
+}
+
+# Which of the other words is nearest to the first, as `; the nearest is WORD`, or nothing where none is near: `near`.
+nearest() {
+  local word=${1:0:20} other least_apart=99 found=
+  shift
+  near=
+  for other in "$@"; do
+    distance "$word" "$other"
+    case $other in "$word"?*) [ ${#word} -lt 3 ] || apart=1 ;; esac
+    [ "$apart" -ge "$least_apart" ] || { least_apart=$apart found=$other; }
+  done
+  [ "$least_apart" -gt 3 ] || [ "$least_apart" -ge ${#word} ] || near="; the nearest is $found"
+}
+
+# --- help ---
+
+# A number with its digits in groups of three.
+grouped() {
+  local left=$1 out=
+  while [ ${#left} -gt 3 ]; do out=,${left: -3}$out left=${left%???}; done
+  printf '%s' "$left$out"
+}
+
+# The commands, the options and what ./trips does itself.
+help_all() {
+  local name
+  echo "trips compiles and runs C on the block-atomic TRIPS processor."
+  echo
+  for name in "${commands[@]}"; do printf '  ./trips %-8s%-6s%s\n' "$name" "${takes[$name]}" "${does[$name]}"; done
+  echo
+  for name in "${all_options[@]}"; do printf '  %-12s%s\n' "$name ${takes[$name]}" "${does[$name]}"; done
+  echo
+  for name in "${calls[@]}"; do printf '  ./trips %-16s%s\n' "$name ${takes[$name]}" "${does[$name]}"; done
+  echo
+  echo "docs/trips.1 (man $here/docs/trips.1) has reports and statuses, examples/README.md programs to run first."
+}
+
+# A command and its options, with the ranges of their numbers.
+help_command() {
+  local name range
+  printf '  ./trips %-8s%-6s%s\n' "$1" "${takes[$1]}" "${does[$1]}"
+  for name in ${options[$1]}; do
+    range=${most[$name]:+ (from ${least[$name]} to $(grouped "${most[$name]}"))}
+    printf '    %-12s%s%s\n' "$name ${takes[$name]}" "${does[$name]}" "$range"
+  done
+}
+
+# Help of all, or of the command that a word names.
+help() {
+  if [ $# -eq 0 ]; then
+    help_all
+  elif is_command "$1"; then
+    help_command "$1"
+  else
+    nearest "$1" "${commands[@]}"
+    say "no command is called $(shown "$1")${near:-; there are ${commands[*]}}"
+    return 2
+  fi
+}
+
+# --- what is wrong with words ---
+
+# What the words say: values under the names of options, and the file under `file`; the command; and what is wrong.
+declare -A said=()
+command='' fault='' near='' apart=0
+
+# A word as it can be typed, where it has bytes that a terminal would not show.
+shown() {
+  case $1 in
+    "" | *[!\ -~]*) printf '%q' "$1" ;;
+    *) printf '%s' "$1" ;;
+  esac
+}
+
+# Notes what is wrong, and fails.
+wrong() {
+  fault=$*
+  return 1
+}
+
+# A number of digits alone, from the least to the most of what a name takes.
+is_within() {
+  local digits=${1##+(0)} top=${most[$2]}
+  case $1 in "" | *[!0-9]*) return 1 ;; esac
+  [ "${least[$2]}" = 0 ] || [ -n "$digits" ] || return 1
+  [ ${#digits} -lt ${#top} ] || { [ ${#digits} -eq ${#top} ] && [[ ! $digits > $top ]]; }
+}
+
+# Judges the number that is said of a name.
+judge_number() {
+  is_within "$1" "$2" ||
+    wrong "$2 takes a number from ${least[$2]} to $(grouped "${most[$2]}"), and not $(shown "$1")"
+}
+
+# Notes a value under a name, once.
+note() {
+  if [ -z "${said[$1]+y}" ]; then
+    said[$1]=$2
+  elif [ "$1" = file ]; then
+    wrong "$command takes one ${takes[$command]}, and not both $(shown "${said[file]}") and $(shown "$2")"
+  else
+    wrong "$1 is said twice"
+  fi
+}
+
+# Reads a word that begins with a dash and is not a dash alone: an option of the command.
+read_option() {
+  local name=${1%%=*} own
+  read -ra own <<<"${options[$command]}"
+  if [ -z "${belongs[$command $name]+y}" ]; then
+    nearest "$name" "${own[@]}"
+    wrong "$command has no option $(shown "$name")${near:-${own[*]:+; there are ${own[*]}}}"
+  elif [ -n "${takes[$name]}" ] && [ "$name" = "$1" ]; then
+    waits=$name
+  elif [ -n "${takes[$name]}" ]; then
+    note "$name" "${1#*=}"
+  elif [ "$name" = "$1" ]; then
+    note "$name" true
+  else
+    wrong "$name takes no value"
+  fi
+}
+
+# Reads the words behind a command, as docs/trips.1 says.
+read_words() {
+  local word waits='' behind=''
+  for word in "$@"; do
+    case ${behind:-${waits:+waits}}/$word in
+      behind/*) note file "$word" ;;
+      waits/-?*) wrong "$waits wants a value before $(shown "$word")" ;;
+      waits/*) note "$waits" "$word" && waits= ;;
+      /--) behind=behind ;;
+      /-?*) read_option "$word" ;;
+      /*) note file "$word" ;;
+    esac || return
+  done
+  [ -z "$waits" ] || wrong "$waits wants a value"
+}
+
+# Whether what was said of the command makes a request: it has its file, and its numbers are within their ranges.
+judge_said() {
+  local name
+  [ -n "${said[file]+y}" ] || wrong "$command wants a ${takes[$command]}" || return
+  [ "${takes[$command]}" != N ] || judge_number "${said[file]}" "$command" || return
+  for name in "${!said[@]}"; do
+    [ "${takes[$name]-}" != N ] || judge_number "${said[$name]}" "$name" || return
+  done
+  case $command${said[--place]+y}${said[file]} in
+    runy*.img | runy*.tasl | compiley*.img | compiley*.tasl) wrong "--place is said of C alone" ;;
+  esac
+}
+
+# Whether the words make a request.
+judge() {
+  local LC_ALL=C
+  case "$*" in
+    *[!\ -~]*) printf '%s' "$*" | iconv -f UTF-8 -t UTF-8 >/dev/null 2>&1 || wrong "a word is not UTF-8" || return ;;
+  esac
+  [ $# -gt 0 ] || wrong "a command is wanted; ./trips help says which there are" || return
+  command=$1
+  if ! is_command "$command"; then
+    nearest "$command" "${commands[@]}" "${calls[@]}"
+    [ ! -f "$command" ] || near="; a file stands behind one: ./trips run $(shown "$command")"
+    wrong "no command is called $(shown "$command")${near:-; there are ${commands[*]}}"
+    return
+  fi
+  shift
+  read_words "$@" && judge_said
+}
+
+# Whether a file can be read, as far as it can be told without opening it.
+is_readable() {
+  if [ -d "$1" ]; then
+    wrong "$(shown "$1"): a folder is no file"
+  elif [ -r "$1" ]; then
+    return 0
+  elif [ -e "$1" ]; then
+    wrong "$(shown "$1"): it may not be read"
+  elif [ "$1" = - ]; then
+    wrong "-: there is no such file; standard input is /dev/stdin"
+  else
+    wrong "$(shown "$1"): there is no such file"
+  fi
+}
+
+# Whether the files of a request can be read. The input is not looked at where the file may be refused for its length.
+judge_files() {
+  [ "$command" != bench ] || return 0
+  is_readable "${said[file]}" || return
+  [ -n "${said[--input]+y}" ] && [ -f "${said[file]}" ] || return 0
+  [ "$(stat -L -c %s -- "${said[file]}")" -gt "$most_source" ] || is_readable "${said[--input]}"
+}
