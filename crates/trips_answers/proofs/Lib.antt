@@ -12,4 +12,3 @@ pub mod OneFault
 pub mod Results
 pub mod Compiled
 pub mod Exact
-pub mod PlainTold

@@ -18,6 +18,7 @@ use Rattle.trips_requests.specs.declared.status.Status.TheVariants as status
 use Rattle.trips_requests.specs.declared.answer.Answer.{Answer}
 use Rattle.trips_requests.specs.declared.commands.Command.{Command as Work}
 use Rattle.trips_requests.specs.declared.commands.Command.TheVariants.{Run, Evaluate, Compile}
+use Rattle.trips_requests.specs.declared.commands.Command.TheVariants.{Assemble, Disassemble, Check}
 use Rattle.trips_answers.specs.declared.forms.FileForm.{FileForm}
 use Rattle.trips_answers.specs.declared.forms.FileForm.TheVariants as form
 use Rattle.trips_answers.specs.declared.forms.Settings.{Settings}
@@ -27,7 +28,6 @@ use Rattle.std.proofs.Common.{option_map}
 use Rattle.trips_requests.specs.declared.commands.Asked.{Asked}
 use Rattle.trips_requests.specs.declared.commands.Tool.{Tool}
 use Rattle.trips_requests.specs.declared.commands.Tool.TheVariants as tools
-use Rattle.trips_requests.specs.inside.Plain as line_plain
 use Rattle.trips_requests.specs.Requests as line
 use Rattle.trips_requests.specs.inside.Requests as inside_line
 use Rattle.trips_tools.specs.inside.ToolAnswers.{IsToolDone}
@@ -181,25 +181,23 @@ compile_told work how placing settings bytes input (Ok a) is same told =
     subst (λ (w : Work). IsDone w how settings bytes input a.status a.report.items) (sym is)
     (told how settings input same)
 
+-- the work of a tool
+abbrev pub work_of : Tool → Work
+work_of tools.Assemble = Assemble
+work_of tools.Disassemble = Disassemble
+work_of tools.Check = Check
+
 -- the row of a tool, whatever is asked for besides its file
-pub tool_row : (tool : Tool) (how : FileForm) (settings : Settings) (bytes input : List ℕ) (s : Status)
+tool_row : (tool : Tool) (how : FileForm) (settings : Settings) (bytes input : List ℕ) (s : Status)
     (report : List ℕ) → IsToolDone tool bytes s report
-    → IsDone (line_plain.work_of tool) how settings bytes input s report
+    → IsDone (work_of tool) how settings bytes input s report
 tool_row tools.Assemble how settings bytes input s report done = done
 tool_row tools.Disassemble how settings bytes input s report done = done
 tool_row tools.Check how settings bytes input s report done = done
 
--- where the work of a tool is done for a request, the tool's work is done
-pub tool_back : (tool : Tool) (how : FileForm) (settings : Settings) (bytes input : List ℕ) (s : Status)
-    (report : List ℕ) → IsDone (line_plain.work_of tool) how settings bytes input s report
-    → IsToolDone tool bytes s report
-tool_back tools.Assemble how settings bytes input s report done = done
-tool_back tools.Disassemble how settings bytes input s report done = done
-tool_back tools.Check how settings bytes input s report done = done
-
 -- what a tool does
 pub tool_told : {E : Type 0} (work : Work) (tool : Tool) (how : FileForm) (settings : Settings)
-    (bytes input : List ℕ) (r : Result Answer E) → work ≡ line_plain.work_of tool
+    (bytes input : List ℕ) (r : Result Answer E) → work ≡ work_of tool
     → IfOk r (λ a. IsToolDone tool bytes a.status a.report.items)
     → IfOk r (λ a. IsDone work how settings bytes input a.status a.report.items)
 tool_told work tool how settings bytes input (Err e) is told = tt

@@ -1,9 +1,8 @@
 //! The answers to requests: a status, and the report that is written.
 //!
-//! [`answer_to`] answers any request. [`run_plain`] and [`eval_plain`] answer two plain words, and
-//! each of them reaches the work of its one command alone. Which answers hold is one relation that
-//! has a row for each command (`specs/Answer.antt`), and what is written is a table by status over
-//! it (`specs/Table.antt`).
+//! [`answer_to`] answers any request. Which answers hold is one relation that has a row for each
+//! command (`specs/Answer.antt`), and what is written is a table by status over it
+//! (`specs/Table.antt`).
 #![tactic(auto)]
 
 mod asked_answer;
@@ -12,12 +11,10 @@ mod gridded;
 mod image_answer;
 mod law;
 mod loading;
-mod plain;
 mod report;
 mod text_answer;
 
 pub use asked_answer::answer_to;
 pub use law::reports_tell_evaluations;
 pub use loading::{MOST_INPUT_BYTES, constants_are_the_definitions};
-pub use plain::{compile_plain, eval_plain, run_plain, tool_plain};
 pub use trips_requests::{Answer, Status, exit_code};

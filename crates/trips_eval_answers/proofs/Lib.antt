@@ -1,2 +1,1 @@
-pub mod WrittenWhole
 pub mod StandardFacts

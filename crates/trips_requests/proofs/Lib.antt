@@ -1,6 +1,5 @@
 pub mod Digits
 pub mod VerbLemmas
 pub mod Counts
-pub mod PlainRequests
 pub mod StandardFacts
 pub mod Written

@@ -1,5 +1,4 @@
 pub mod ExitCodes
 pub mod Options
-pub mod Plain
 pub mod Read
 pub mod Requests

@@ -106,8 +106,8 @@ pub fn is_on(value: Option<&str>) -> bool
     }
 }
 
-/// Whether the file is C, by the ending of its name.
-pub fn is_c_name(file: &str) -> bool
+// Whether the file is C, by the ending of its name.
+fn is_c_name(file: &str) -> bool
     ensures { result ≡ is_c_name file.now }
 {
     let bytes = file.as_bytes();

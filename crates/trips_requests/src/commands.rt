@@ -54,13 +54,6 @@ pub fn constants_are_the_definitions()
     ensures default { DEFAULT_COUNT ≡ limits.default_count }
 {}
 
-/// A tool, and the file that it is asked for.
-#[derive(Clone, Copy, Debug)]
-pub struct AskedTool<'a> {
-    pub tool: Tool,
-    pub file: &'a str,
-}
-
 /// A request.
 #[derive(Clone, Copy, Debug)]
 pub struct Asked<'a> {

@@ -1,11 +1,10 @@
 //! The requests that the words of a command line make, without a parser: [`request_with`] makes one of what was found
-//! of a command's options, and [`plain_run`] and its like know two words with nothing said besides. And what the
-//! answers to all requests share: the status and its number, an answer and those that need no work, the reading of a
-//! file, and two pieces of reports. No command's work is here, so that a program for one command reaches no other.
+//! of a command's options. And what the answers to all requests share: the status and its number, an answer and those
+//! that need no work, the reading of a file, and two pieces of reports. No command's work is here.
 //!
-//! What words say stands in specs/Words, specs/Options and specs/inside/Plain, numbers and their limits in
-//! specs/Limits, the request in specs/Requests, what reading a file comes to and what a call writes in
-//! specs/Table and specs/Texts, and with which number the program ends in specs/inside/ExitCodes.
+//! What words say stands in specs/Words and specs/Options, numbers and their limits in specs/Limits, the request in
+//! specs/Requests, what reading a file comes to and what a call writes in specs/Table and specs/Texts, and with which
+//! number the program ends in specs/inside/ExitCodes.
 #![tactic(auto)]
 
 mod answer;
@@ -13,17 +12,15 @@ mod asking;
 mod commands;
 mod loading;
 mod number;
-mod plain;
 mod status;
 mod texts;
 
 pub use answer::{Answer, no_request, too_large, unread};
-pub use asking::{FoundOptions, counted, is_c_name, is_on, request_with, verb_named};
+pub use asking::{FoundOptions, counted, is_on, request_with, verb_named};
 pub use commands::{
-    Asked, AskedTool, Command, DEFAULT_COUNT, MOST_COUNT, MOST_FUNCTIONS, MOST_SEED, Tool, Verb,
+    Asked, Command, DEFAULT_COUNT, MOST_COUNT, MOST_FUNCTIONS, MOST_SEED, Tool, Verb,
     constants_are_the_definitions,
 };
 pub use loading::{Loaded, read};
-pub use plain::{plain_compile, plain_eval, plain_run, plain_tool};
 pub use status::{Status, exit_code};
 pub use texts::{on_line, output_text};

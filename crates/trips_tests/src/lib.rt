@@ -3,8 +3,6 @@
 #![tactic(auto)]
 
 #[cfg(test)]
-mod plain_tests;
-#[cfg(test)]
 mod report_tests;
 #[cfg(test)]
 mod request_tests;

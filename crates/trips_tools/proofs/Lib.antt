@@ -1,2 +1,1 @@
 pub mod MadeAnswers
-pub mod WrittenWhole

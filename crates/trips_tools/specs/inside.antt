@@ -1,3 +1,2 @@
-pub mod Answer
 pub mod ToolAnswers
 pub mod Tools
