@@ -13,7 +13,7 @@ use Rattle.ir_forms.specs.inside.FlowFits.{IsComplete}
 use Rattle.hyper_narrow.specs.inside.NarrowedMeaning.{MeansNarrowed}
 use Rattle.flow_fold.specs.inside.Immediates.{immediate_of, gives_constant}
 use Rattle.flow_fold.specs.inside.Folds.{with_constant, with_left, with_right, with_node, Turns, immediate}
-use Rattle.flow_fold.specs.inside.Folds.{left_copy, right_copy, offset}
+use Rattle.flow_fold.specs.inside.Folds.{left_copy, right_copy, offset, told, negative}
 use Rattle.flow_fold.specs.inside.Folds.{Folds}
 use Rattle.flow_fold.specs.inside.Offsets.{has_address, with_offset, summed}
 use Rattle.flow_fold.specs.inside.Replaces.{Immediates, with_immediate, with_immediates, LeavesOwn, Replaces}
@@ -24,6 +24,9 @@ use Rattle.flow_fold.proofs.Forwarded.{Copied, copied_is}
 use Rattle.flow_fold.proofs.CopyRules.{left_written, left_works, right_written, right_works}
 use Rattle.flow_fold.proofs.OffsetFacts.{Moves, Offsetly, summed_is}
 use Rattle.flow_fold.proofs.OffsetRules.{offset_written, offset_works}
+use Rattle.flow_fold.proofs.TestRules.{Telling, telling, telling_kept, copy_written, copy_works}
+use Rattle.flow_fold.proofs.NegativeFacts.{Ending, ending, ending_kept}
+use Rattle.flow_fold.proofs.NegativeRules.{negative_written, negative_works}
 use Rattle.flow_fold.proofs.Replacing.{regular_kept, complete_kept, means_kept, labels_kept}
 
 -- both parts of what a turned node has to do
@@ -100,12 +103,31 @@ addressed f j n m there c =
       works = offset_works f j n there o.node o.number o.sum c.address;
     })
 
+told_stands : (f : FlowBlock) (j : ℕ) (n m : FlowNode) → slice_get f.nodes j ≡ Some n → Telling f.nodes j n m
+    → Stands f j n m
+told_stands f j n m there c =
+    subst (λ (x : FlowNode). Stands f j n x) (sym c.is)
+    (record {
+      written = copy_written f j n there c.tells c.zero c.bits;
+      works = copy_works f j n there c.tells c.zero c.bits;
+    })
+
+ended : (f : FlowBlock) (j : ℕ) (n m : FlowNode) → slice_get f.nodes j ≡ Some n → Ending f.nodes j n m → Stands f j n m
+ended f j n m there c =
+    subst (λ (x : FlowNode). Stands f j n x) (sym c.is)
+    (record {
+      written = negative_written f j n there c.app c.upper c.chain;
+      works = negative_works f j n there c.app c.upper c.chain;
+    })
+
 -- the rules, with the nodes that they look at
 data How (nodes : List FlowNode) (j : ℕ) (n m : FlowNode) : Type 0 where
   by_constant : Constantly nodes n m → How nodes j n m
   by_left : Leftly nodes j n m → How nodes j n m
   by_right : Rightly nodes j n m → How nodes j n m
   by_offset : Addressed nodes j n m → How nodes j n m
+  by_test : Telling nodes j n m → How nodes j n m
+  by_end : Ending nodes j n m → How nodes j n m
 
 how_stands : (f : FlowBlock) (j : ℕ) (n m : FlowNode) → slice_get f.nodes j ≡ Some n → How f.nodes j n m
     → Stands f j n m
@@ -113,6 +135,8 @@ how_stands f j n m there (by_constant c) = constantly f j n m there c
 how_stands f j n m there (by_left c) = leftly f j n m there c
 how_stands f j n m there (by_right c) = rightly f j n m there c
 how_stands f j n m there (by_offset c) = addressed f j n m there c
+how_stands f j n m there (by_test c) = told_stands f j n m there c
+how_stands f j n m there (by_end c) = ended f j n m there c
 
 module _ (r : Immediates) (own : LeavesOwn r) where
   abbrev new : FlowNode → FlowNode
@@ -195,6 +219,8 @@ module _ (r : Immediates) (own : LeavesOwn r) where
   })
   how_kept nodes j n m (by_offset c) =
       by_offset (record { address = c.address; sum = sum_kept nodes j n m c.sum })
+  how_kept nodes j n m (by_test c) = by_test (telling_kept r own nodes j n m c)
+  how_kept nodes j n m (by_end c) = by_end (ending_kept r own nodes j n m c)
 
 -- a node with an address, where there is one that the rule makes
 address_found : (nodes : List FlowNode) (j : ℕ) (n m : FlowNode) (b : Bool) → has_address (form_of n.op) ≡ b
@@ -209,6 +235,8 @@ turned nodes j n m (left_copy ss s e) =
     by_left (record { sources = ss; copy = copied_is nodes j n.guard n.left ss s; is = e })
 turned nodes j n m (right_copy ss s e) =
     by_right (record { sources = ss; copy = copied_is nodes j n.guard n.right ss s; is = e })
+turned nodes j n m (told t e) = by_test (telling nodes j n m t e)
+turned nodes j n m (negative t e) = by_end (ending nodes j n m t e)
 turned nodes j n m (offset e) = by_offset (address_found nodes j n m (has_address (form_of n.op)) refl e)
 
 module _ (f : FlowBlock) (j : ℕ) (n m : FlowNode) (there : slice_get f.nodes j ≡ Some n) (c : How f.nodes j n m)

@@ -37,7 +37,8 @@ use Rattle.flow_fold.proofs.Turned.{Works, SameDeeds}
 
 -- THE COPY
 
-mov_is : (o : Op) → is_mov o ≡ true → o ≡ op.Mov
+-- an operation that is found to be `mov` is `mov`
+pub mov_is : (o : Op) → is_mov o ≡ true → o ≡ op.Mov
 mov_is op.Mov e = refl
 mov_is _ e = absurd (cc)
 

@@ -11,6 +11,10 @@ pub mod Forwarded
 pub mod CopyRules
 pub mod OffsetFacts
 pub mod OffsetRules
+pub mod BitFacts
+pub mod TestRules
+pub mod NegativeFacts
+pub mod NegativeRules
 pub mod Replacing
 pub mod FoldedBlocks
 pub mod Following

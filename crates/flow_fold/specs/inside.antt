@@ -2,6 +2,8 @@ pub mod Replaces
 pub mod Immediates
 pub mod Copies
 pub mod Offsets
+pub mod Tests
+pub mod Negatives
 pub mod Folds
 pub mod Sweeps
 pub mod SweepsAll

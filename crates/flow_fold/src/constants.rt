@@ -34,8 +34,8 @@ pub fn immediate_of(op: Op) -> Option<Op>
     }
 }
 
-// Whether an operation gives its constant as a word.
-fn gives_constant(op: Op) -> bool
+/// Whether an operation gives its constant as a word.
+pub fn gives_constant(op: Op) -> bool
     ensures { result ≡ small.gives_constant op }
 {
     match op {

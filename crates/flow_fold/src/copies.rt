@@ -8,8 +8,8 @@ use ir_forms::{FlowNode, FlowSource, Guard};
 use std::alloc::Global;
 use trips_isa::{Op, Sense};
 
-// Whether an operation copies.
-fn is_mov(op: Op) -> bool
+/// Whether an operation copies.
+pub fn is_mov(op: Op) -> bool
     ensures { result ≡ copies.is_mov op }
 {
     match op {

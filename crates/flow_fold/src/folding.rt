@@ -7,7 +7,9 @@ ghost use Rattle.flow_fold.specs.inside.Replaces.{Replaces};
 use crate::addresses::feeds_addresses;
 use crate::constants::{immediate_of, small_of};
 use crate::copies::copied;
+use crate::negatives::{as_negative, is_negative};
 use crate::offsets::offset_of;
+use crate::tests::{as_copy, may_tell, tells_bit};
 use crate::uses::{Uses, feeds_several, uses_of};
 use base::{Items, Memory};
 use ir_forms::{FlowBlock, FlowNode, FlowSource};
@@ -131,6 +133,40 @@ fn offset_turn(
     }
 }
 
+// What node j becomes where it tells a bit that it could copy.
+fn told_turn(
+    alloc: Global,
+    nodes: &[FlowNode],
+    j: usize,
+    n: &FlowNode,
+) -> Result<Option<FlowNode>, Memory>
+    ensures { IfOk result (λ o. MatchOption o Unit (λ m. folds.Turns nodes.now j n.now m)) }
+{
+    if tells_bit(nodes, j, n) {
+        let m = as_copy(alloc, n)?;
+        Ok(Some(m))
+    } else {
+        Ok(None)
+    }
+}
+
+// What node j becomes where it ends a negative constant.
+fn negative_turn(
+    alloc: Global,
+    nodes: &[FlowNode],
+    j: usize,
+    n: &FlowNode,
+) -> Result<Option<FlowNode>, Memory>
+    ensures { IfOk result (λ o. MatchOption o Unit (λ m. folds.Turns nodes.now j n.now m)) }
+{
+    if is_negative(nodes, j, n) {
+        let m = as_negative(alloc, n)?;
+        Ok(Some(m))
+    } else {
+        Ok(None)
+    }
+}
+
 /// The rules, each of which looks at one operand.
 #[derive(Clone, Copy)]
 pub enum Rule {
@@ -138,6 +174,8 @@ pub enum Rule {
     Right,
     Constant,
     Offset,
+    Told,
+    Negative,
 }
 
 // What node j becomes by a rule, where it applies.
@@ -155,6 +193,8 @@ fn turned(
         Rule::Right => right_turn(alloc, nodes, j, n),
         Rule::Constant => constant_turn(alloc, nodes, j, n),
         Rule::Offset => offset_turn(alloc, nodes, j, n),
+        Rule::Told => told_turn(alloc, nodes, j, n),
+        Rule::Negative => negative_turn(alloc, nodes, j, n),
     }
 }
 
@@ -195,12 +235,21 @@ pub fn turned_at(alloc: Global, block: FlowBlock, j: usize, rule: Rule) -> Resul
     }
 }
 
+// Whether node j tells whether a bit is not the constant 0, for a choice of which nothing is claimed.
+fn may_tell_at(block: &FlowBlock, j: usize) -> bool {
+    let nodes = block.nodes.as_slice();
+    match nodes.get(j) {
+        None => false,
+        Some(n) => may_tell(nodes, j, n),
+    }
+}
+
 // A block whose node j takes a small constant as its immediate, where it then needs no `mov` more: it feeds one spot, or
 // loads and stores that take what it adds into their offsets.
 fn constant_at(alloc: Global, block: FlowBlock, j: usize, uses: &Uses) -> Result<FlowBlock, Memory>
     ensures { IfOk result (λ g. Replaces block g) }
 {
-    if feeds_several(uses, j) && !feeds_addresses(&block, j) {
+    if feeds_several(uses, j) && !feeds_addresses(&block, j) && !may_tell_at(&block, j) {
         return Ok(block);
     }
     turned_at(alloc, block, j, Rule::Constant)
@@ -213,7 +262,9 @@ fn folded_at(alloc: Global, block: FlowBlock, j: usize, uses: &Uses) -> Result<F
     let left = turned_at(alloc, block, j, Rule::Left)?;
     let right = turned_at(alloc, left, j, Rule::Right)?;
     let constant = constant_at(alloc, right, j, uses)?;
-    let last = turned_at(alloc, constant, j, Rule::Offset)?;
+    let offset = turned_at(alloc, constant, j, Rule::Offset)?;
+    let told = turned_at(alloc, offset, j, Rule::Told)?;
+    let last = turned_at(alloc, told, j, Rule::Negative)?;
     Ok(last)
 }
 

@@ -13,10 +13,12 @@ mod copies;
 mod folding;
 mod keeping;
 mod laws;
+mod negatives;
 mod offsets;
 mod renumbering;
 mod sharing;
 mod sweeping;
+mod tests;
 mod uses;
 
 pub use folding::fold;

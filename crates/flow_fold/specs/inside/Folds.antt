@@ -1,5 +1,5 @@
 -- A step of the pass *fold*: one node of a block becomes another, which does the same with fewer tokens.
-use Rattle.std.specs.Prelude.{◌≡◌, ℕ, ℤ, List, [], Some, slice_get, slice_set}
+use Rattle.std.specs.Prelude.{◌≡◌, ℕ, ℤ, true, List, [], Some, slice_get, slice_set}
 use Rattle.trips_isa.specs.declared.op.Op.{Op}
 use Rattle.ir_forms.specs.declared.flow.FlowSource.{FlowSource}
 use Rattle.ir_forms.specs.declared.flow.FlowNode.{FlowNode}
@@ -8,6 +8,8 @@ use Rattle.trips_isa.specs.Forms.{form_of}
 use Rattle.flow_fold.specs.inside.Copies.{copied}
 use Rattle.flow_fold.specs.inside.Immediates.{immediate_of, small_of}
 use Rattle.flow_fold.specs.inside.Offsets.{offset_of}
+use Rattle.flow_fold.specs.inside.Tests.{tells_bit, as_copy}
+use Rattle.flow_fold.specs.inside.Negatives.{is_negative, as_negative}
 
 -- a node whose right operand is the immediate of its new operation
 abbrev pub with_constant : FlowNode → Op → ℤ → FlowNode
@@ -34,6 +36,10 @@ pub data Turns (nodes : List FlowNode) (j : ℕ) (n m : FlowNode) : Type 0 where
       → Turns nodes j n m
   -- what a load's or a store's address adds goes into its offset
   offset : offset_of nodes j n (form_of n.op) ≡ Some m → Turns nodes j n m
+  -- whether a word that is 0 or 1 is not 0 is the word itself
+  told : tells_bit nodes j n ≡ true → m ≡ as_copy n → Turns nodes j n m
+  -- a constant whose upper 48 bits are ones is that of one `gens`
+  negative : is_negative nodes j n ≡ true → m ≡ as_negative n → Turns nodes j n m
 
 -- a block with another node at a place
 abbrev pub with_node : FlowBlock → ℕ → FlowNode → FlowBlock
