@@ -1,0 +1,9 @@
+pub mod Items
+pub mod ItemShapes
+pub mod Runs
+pub mod Standings
+pub mod Programs
+pub mod Counts
+pub mod Entries
+pub mod Views
+pub mod Walks

@@ -1,0 +1,3 @@
+pub mod Laws
+pub mod Unrolled
+pub mod Wholes
