@@ -12,7 +12,7 @@ use Rattle.predication.specs.inside.Environments.{distinct}
 use Rattle.predication.specs.inside.Operands.{Chain, operand, bit_set, tested}
 use Rattle.predication.specs.inside.Ifs.{Out, Joined, items, join, touched}
 use Rattle.predication.proofs.Ops.{op_form}
-use Rattle.predication.proofs.Untaken.{load_form, store_form}
+use Rattle.predication.proofs.EmittedIfs.{load_form, store_form}
 use Rattle.c_compile_blocks.proofs.Pieces.{AreBits}
 use Rattle.c_compile_blocks.proofs.Items.{not_constant, load_not_constant, store_not_constant, NamesIn}
 use Rattle.c_compile_blocks.proofs.Supplies.{AreAt, at_front, at_back}

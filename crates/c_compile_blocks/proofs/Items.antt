@@ -12,7 +12,7 @@ use Rattle.predication.specs.inside.Environments.{Env, Bits, put, note, from_nod
 use Rattle.predication.specs.inside.Operands.{operand, second, bit_set, node_of}
 use Rattle.predication.specs.inside.Ifs.{Out, items, touched}
 use Rattle.predication.proofs.Ops.{op_form}
-use Rattle.predication.proofs.Untaken.{load_form, store_form}
+use Rattle.predication.proofs.EmittedIfs.{load_form, store_form}
 use Rattle.c_compile_blocks.specs.inside.Costs.{items_cost, source_cost}
 use Rattle.c_compile_blocks.proofs.Flat.{Told, told_back, Good, nothing, no_piece, grouped}
 use Rattle.c_compile_blocks.proofs.Pieces.{IsSet, ArePlain, set_later, plains_later, put_plain, put_kept, put_here}

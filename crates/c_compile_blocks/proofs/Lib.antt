@@ -33,6 +33,8 @@ pub mod Runs
 pub mod HeldIfs
 pub mod Exits
 pub mod Additions
+pub mod CoverPrices
+pub mod StoreCounts
 pub mod GuardedBlocks
 pub mod ShortLayout
 pub mod PlainFit

@@ -13,7 +13,7 @@ use Rattle.predication.specs.inside.Environments.{Scope, Env, Bits, no_bits, lef
 use Rattle.predication.specs.inside.Operands.{operand, bit_set}
 use Rattle.predication.specs.inside.Ifs.{Out, items, touched}
 use Rattle.predication.proofs.Ops.{op_form}
-use Rattle.predication.proofs.Untaken.{load_form, store_form}
+use Rattle.predication.proofs.EmittedIfs.{load_form, store_form}
 use Rattle.c_compile_blocks.proofs.Pieces.{AreBits, note_bits, set_is}
 use Rattle.c_compile_blocks.proofs.Items.{not_constant, load_not_constant, store_not_constant, load_one, in_list}
 use Rattle.c_compile_blocks.proofs.Items.{NamesIn}

@@ -24,13 +24,15 @@ use Rattle.ir_forms.specs.inside.HyperRuns.{Machine, after_items, acts}
 use Rattle.ir_forms.specs.declared.hyper.Exit.{Exit}
 use Rattle.ir_forms.specs.declared.hyper.Exit.TheVariants as exit
 use Rattle.ir_forms.specs.inside.HyperFits.{FitsItems}
-use Rattle.predication.proofs.Tables.{fired_append, exits_append, quiet_fired, inner_exits, first_none}
+use Rattle.predication.proofs.Tables.{first_none}
+use Rattle.predication.proofs.QuietNodes.{fired_append, exits_append, quiet_fired, inner_exits}
 use Rattle.predication.proofs.Tables.{first_word, Sound, Live, Calm, calm_append, none_clear, Runs}
 use Rattle.predication.proofs.Tables.{runs_front, runs_back}
 use Rattle.predication.proofs.TakenLegs.{or_false, member_append, untouched, tail_untouched}
 use Rattle.predication.proofs.Memory.{Holds, holds_first, holds_none}
 use Rattle.predication.proofs.Operands.{Meant}
-use Rattle.predication.proofs.Taken.{On, no_bit, on_items}
+use Rattle.predication.proofs.Taken.{On, no_bit}
+use Rattle.predication.proofs.TakenItems.{on_items}
 use Rattle.ir_forms.specs.inside.HyperRuns as HyperRuns
 use Rattle.std.proofs.Common.{◌-◌}
 use Rattle.std.specs.Prelude.{All}
@@ -48,7 +50,8 @@ use Rattle.predication.specs.inside.Laws.{ConvertsPaths, HasRoom}
 use Rattle.predication.proofs.WordLemmas.{words_of}
 use Rattle.predication.proofs.Numbers.{Rises, rises_append, quiet_rises, items_rise, stores_high}
 use Rattle.predication.proofs.Numbers.{tokens_most, runs_of}
-use Rattle.predication.proofs.Tails.{items_inner, tail_quiet, TailOn, tail_on}
+use Rattle.predication.proofs.Tails.{items_inner, tail_quiet}
+use Rattle.predication.proofs.TakenTails.{TailOn, tail_on}
 
 -- the numbers of loads and stores of a converted block rise from 0 up to its count
 pub block_rises : (b : Block) → FitsHyper b → Rises 0 (all_nodes b) (begun b).number

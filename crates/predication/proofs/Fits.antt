@@ -31,8 +31,10 @@ use Rattle.predication.proofs.Numbers.{Rises, IsNext, next_after, next_le}
 use Rattle.predication.proofs.Converted.{block_rises, converts_paths}
 use Rattle.ir_forms.specs.inside.FlowRegular.{is_silent}
 use Rattle.predication.proofs.Static.{EachGood, GoodGuard, Well, Static, Heard, GoodEnv, static_append}
-use Rattle.predication.proofs.Static.{heard_front, heard_back, no_bits_good, items_static, tail_static}
-use Rattle.predication.proofs.Static.{tail_number}
+use Rattle.predication.proofs.Static.{heard_front, heard_back, no_bits_good}
+use Rattle.predication.proofs.StaticItems.{items_static}
+use Rattle.predication.proofs.StaticTails.{tail_static}
+use Rattle.predication.proofs.StaticTails.{tail_number}
 
 -- what holds of each item of a list holds of all
 pub all_from : {A : Type 0} (P : A → Type 0) (xs : List A) → ((k : ℕ) (x : A) → slice_get xs k ≡ Some x → P x)

@@ -20,7 +20,7 @@ use Rattle.predication.specs.inside.Ifs.{left_of, side_of, join, items, touched}
 use Rattle.predication.specs.inside.Tails.{branch_of, leaving, tail, tail_touched}
 use Rattle.predication.specs.inside.Converted.{begun, ended, all_nodes}
 use Rattle.predication.specs.inside.Emits.{low}
-use Rattle.predication.proofs.Untaken.{legs_at, test_at, yea_out, nay_at, nay_out, joined, rest_at, rest_out}
+use Rattle.predication.proofs.EmittedIfs.{legs_at, test_at, yea_out, nay_at, nay_out, joined, rest_at, rest_out}
 use Rattle.predication.proofs.Tails.{t_yea, t_nay_at, t_nay, t_joined}
 
 -- no node has a number above k

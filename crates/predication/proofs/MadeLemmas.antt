@@ -26,7 +26,7 @@ use Rattle.predication.specs.inside.Emits.{low, env_of, bits_of}
 use Rattle.predication.specs.inside.Ends.{End, out_of, ends, ending_of, work_after}
 use Rattle.predication.specs.inside.Made.{writes_of, reads_of, mask_of, flow_of, flow_in, counts_by, counts_in}
 use Rattle.predication.specs.inside.Made.{IsEmitted}
-use Rattle.predication.proofs.Static.{tail_number}
+use Rattle.predication.proofs.StaticTails.{tail_number}
 use Rattle.predication.proofs.EndLemmas.{goes_on}
 use Rattle.predication.proofs.LegLemmas.{Came, Begins, leg_came}
 use Rattle.predication.proofs.LowLemmas.{low_nodes}

@@ -18,10 +18,11 @@ use Rattle.predication.specs.inside.Operands.{node_of, operand, second, bit_set,
 use Rattle.predication.specs.inside.Ifs.{items, touched}
 use Rattle.ir_forms.specs.inside.HyperCode.{Items, Done, Set, Load, Save, If}
 use Rattle.ir_forms.specs.inside.HyperFits.{FitsItems}
-use Rattle.predication.proofs.Tables.{is_still, Quiet, operand_quiet, second_quiet, present_most, SettledIn, Runs}
+use Rattle.predication.proofs.Tables.{present_most, SettledIn, Runs}
+use Rattle.predication.proofs.QuietNodes.{is_still, Quiet, operand_quiet, second_quiet}
 use Rattle.predication.proofs.TakenLegs.{join_quiet}
-use Rattle.predication.proofs.Untaken.{legs_at, test_at, yea_out, nay_at, nay_out, join_at, joined, rest_at}
-use Rattle.predication.proofs.Untaken.{tested_quiet, load_form, store_form}
+use Rattle.predication.proofs.EmittedIfs.{legs_at, test_at, yea_out, nay_at, nay_out, join_at, joined, rest_at}
+use Rattle.predication.proofs.EmittedIfs.{tested_quiet, load_form, store_form}
 use Rattle.predication.proofs.Ops.{op_form}
 
 -- a load or store has the next number

@@ -12,7 +12,8 @@ use Rattle.predication.specs.inside.Environments.{distinct}
 use Rattle.predication.specs.inside.Operands.{movs, froms}
 use Rattle.predication.specs.inside.Ifs.{Part, left_of, side_of, Joined, join, items, touched}
 use Rattle.predication.specs.inside.Tails.{tail, tail_touched}
-use Rattle.predication.proofs.Tables.{total, Quiet, quiet_append, Inner, inner_append, movs_quiet, movs_inner}
+use Rattle.predication.proofs.Tables.{total}
+use Rattle.predication.proofs.QuietNodes.{Quiet, quiet_append, Inner, inner_append, movs_quiet, movs_inner}
 use Rattle.predication.proofs.Tables.{Clear, Sound, Dead, Few, sound_dead, dead_sound, dead_dead, Live}
 use Rattle.predication.proofs.Tables.{Sparse, from_sound, from_dead, Calm, calm_append, movs_calm, Runs}
 use Rattle.predication.proofs.Tables.{runs_front, runs_back, read_sound, read_few}

@@ -1,6 +1,6 @@
 -- A leg that was not taken does nothing.
-use Rattle.std.proofs.Common.{◌≡◌, ℕ, suc, ◌+◌, ◌≤◌, List, [], ◌∷◌, ◌++◌, length, refl, sym, ap, subst, ◌∙◌}
-use Rattle.std.proofs.Common.{arith, cond, nat_eq, Bool, true, false}
+use Rattle.std.proofs.Common.{◌≡◌, ℕ, suc, ◌+◌, ◌≤◌, List, [], ◌∷◌, ◌++◌, length, refl, sym, ap, subst, ◌∙◌, arith}
+use Rattle.std.proofs.Common.{cond, nat_eq, Bool, true, false}
 use Rattle.std.specs.Prelude.{Option, Some, None}
 use Rattle.trips_isa.specs.declared.op.Op.{Op}
 use Rattle.trips_isa.specs.declared.form.Form.{Form}
@@ -13,141 +13,27 @@ use Rattle.ir_forms.specs.declared.hyper.Source.{Source}
 use Rattle.ir_forms.specs.declared.hyper.Source.TheVariants.{Const, Reg}
 use Rattle.ir_forms.specs.declared.flow.FlowNode.{FlowNode}
 use Rattle.trips_isa.specs.inside.Acts.{Act}
-use Rattle.ir_forms.specs.inside.FlowRuns.{Computes, first, met, stored_where, act_tokens, fired, count}
+use Rattle.ir_forms.specs.inside.FlowRuns.{Computes, met, stored_where, fired, count}
 use Rattle.predication.specs.inside.Environments.{Scope, Entry, Env, Bits, put, from_node, under, member, no_bits}
 use Rattle.predication.specs.inside.Environments.{left_bits, note, distinct}
 use Rattle.predication.specs.inside.Operands.{node_of, Got, operand, second, bit_of, is_test, is_move, bit_at}
-use Rattle.predication.specs.inside.Operands.{bit_set}
-use Rattle.predication.specs.inside.Operands.{fresh_test, test_by, tested, test_of}
-use Rattle.predication.specs.inside.Ifs.{Joined, join, Out, items, touched}
-use Rattle.trips_isa.specs.Forms.{is_load, is_store}
+use Rattle.predication.specs.inside.Operands.{bit_set, fresh_test, test_by, tested, test_of}
+use Rattle.predication.specs.inside.Ifs.{items, touched}
 use Rattle.ir_forms.specs.inside.HyperCode.{Items, Done, Set, Load, Save, If}
 use Rattle.ir_forms.specs.inside.FlatFits.{loads}
 use Rattle.ir_forms.specs.inside.HyperFits.{FitsItems}
-use Rattle.predication.proofs.Tables.{Quiet, quiet_append, Inner, inner_append, operand_quiet, operand_inner}
-use Rattle.predication.proofs.Tables.{second_quiet, fired_append, quiet_fired, Clear, Dead, Few, dead_few}
-use Rattle.predication.proofs.Tables.{Sparse, from_dead, sparse_put, SettledIn, Calm, calm_append}
-use Rattle.predication.proofs.Tables.{operand_calm, second_calm, Runs, runs_front, runs_back, operand_few}
-use Rattle.predication.proofs.Tables.{second_few}
+use Rattle.predication.proofs.QuietNodes.{operand_quiet, second_quiet}
+use Rattle.predication.proofs.Tables.{Clear, Dead, Few, dead_few, Sparse, from_dead, sparse_put, SettledIn, Calm}
+use Rattle.predication.proofs.Tables.{calm_append, operand_calm, second_calm, Runs, runs_front, runs_back}
+use Rattle.predication.proofs.Tables.{operand_few, second_few}
 use Rattle.predication.proofs.TakenLegs.{member_append, untouched, joins_out, join_quiet, join_dead, join_calm}
 use Rattle.predication.proofs.Memory.{Holds, holds_none}
 use Rattle.predication.proofs.BitLemmas.{bit_left}
-
--- THE PARTS OF AN IF, BY NAME
-
--- where the legs of an if begin
-abbrev pub legs_at : Scope → ℕ → Env → Bits → Source → ℕ
-legs_at g j env bits t = j + length (tested g j env bits t).nodes
-
--- the node of an if's test
-abbrev pub test_at : Scope → ℕ → Env → Bits → Source → ℕ
-test_at g j env bits t = (tested g j env bits t).last
-
--- the first leg of an if, emitted
-abbrev pub yea_out : Scope → ℕ → ℕ → Env → Bits → Source → Items → Out
-yea_out g j m env bits t yea = items (under (test_at g j env bits t) true) (legs_at g j env bits t) m env no_bits yea
-
--- where the second leg of an if begins
-abbrev pub nay_at : Scope → ℕ → ℕ → Env → Bits → Source → Items → ℕ
-nay_at g j m env bits t yea = legs_at g j env bits t + length (yea_out g j m env bits t yea).nodes
-
--- the second leg of an if, emitted
-abbrev pub nay_out : Scope → ℕ → ℕ → Env → Bits → Source → Items → Items → Out
-nay_out g j m env bits t yea nay =
-    items (under (test_at g j env bits t) false) (nay_at g j m env bits t yea)
-    (yea_out g j m env bits t yea).number env no_bits nay
-
--- where the registers of both legs of an if are joined
-abbrev pub join_at : Scope → ℕ → ℕ → Env → Bits → Source → Items → Items → ℕ
-join_at g j m env bits t yea nay = nay_at g j m env bits t yea + length (nay_out g j m env bits t yea nay).nodes
-
--- the registers of both legs of an if, joined
-abbrev pub joined : Scope → ℕ → ℕ → Env → Bits → Source → Items → Items → Joined
-joined g j m env bits t yea nay =
-    join (test_at g j env bits t) (join_at g j m env bits t yea nay) env (yea_out g j m env bits t yea).env
-    (nay_out g j m env bits t yea nay).env (touched yea) (touched nay)
-    (distinct (touched yea ++ touched nay))
-
--- where the items behind an if begin
-abbrev pub rest_at : Scope → ℕ → ℕ → Env → Bits → Source → Items → Items → ℕ
-rest_at g j m env bits t yea nay = join_at g j m env bits t yea nay + length (joined g j m env bits t yea nay).nodes
-
--- the items behind an if, emitted
-abbrev pub rest_out : Scope → ℕ → ℕ → Env → Bits → Source → Items → Items → Items → Out
-rest_out g j m env bits t yea nay rest =
-    items g (rest_at g j m env bits t yea nay) (nay_out g j m env bits t yea nay).number
-    (joined g j m env bits t yea nay).env (left_bits bits (touched yea ++ touched nay)) rest
-
-pub fresh_quiet : (g : Scope) (j : ℕ) (x : Got) → Quiet x.nodes → Quiet (fresh_test g j x).nodes
-fresh_quiet g j x q = quiet_append x.nodes _ q ((refl, refl), tt)
-
-pub test_quiet : (g : Scope) (j : ℕ) (env : Env) (r : ℕ) (b : Option ℕ) → Quiet (test_by g j env r b).nodes
-test_quiet g j env r None = fresh_quiet g j (operand j env (Reg r)) (operand_quiet j env (Reg r))
-test_quiet g j env r (Some k) = tt
-
--- the nodes of a test neither load nor store
-pub tested_quiet : (g : Scope) (j : ℕ) (env : Env) (bits : Bits) (t : Source) → Quiet (tested g j env bits t).nodes
-tested_quiet g j env bits (Const w) = fresh_quiet g j (operand j env (Const w)) (operand_quiet j env (Const w))
-tested_quiet g j env bits (Reg r) = test_quiet g j env r (bits r)
-
-fresh_inner : (g : Scope) (j : ℕ) (x : Got) → Inner x.nodes → Inner (fresh_test g j x).nodes
-fresh_inner g j x q = inner_append x.nodes _ q (refl, tt)
-
-test_inner : (g : Scope) (j : ℕ) (env : Env) (r : ℕ) (b : Option ℕ) → Inner (test_by g j env r b).nodes
-test_inner g j env r None = fresh_inner g j (operand j env (Reg r)) (operand_inner j env (Reg r))
-test_inner g j env r (Some k) = tt
-
--- the nodes of a test are no branches
-pub tested_inner : (g : Scope) (j : ℕ) (env : Env) (bits : Bits) (t : Source) → Inner (tested g j env bits t).nodes
-tested_inner g j env bits (Const w) = fresh_inner g j (operand j env (Const w)) (operand_inner j env (Const w))
-tested_inner g j env bits (Reg r) = test_inner g j env r (bits r)
-
--- A form that is found to be a load is that of loads.
-pub load_form : (F : Form) → is_load F ≡ true → F ≡ form.Load
-load_form form.Load e = refl
-load_form form.General e = absurd (cc)
-load_form form.Immediate e = absurd (cc)
-load_form form.Store e = absurd (cc)
-load_form form.Branch e = absurd (cc)
-load_form form.Constant e = absurd (cc)
-
--- A form that is found to be a store is that of stores.
-pub store_form : (F : Form) → is_store F ≡ true → F ≡ form.Store
-store_form form.Store e = refl
-store_form form.General e = absurd (cc)
-store_form form.Immediate e = absurd (cc)
-store_form form.Load e = absurd (cc)
-store_form form.Branch e = absurd (cc)
-store_form form.Constant e = absurd (cc)
+use Rattle.predication.proofs.EmittedIfs.{legs_at, test_at, yea_out, nay_at, nay_out, join_at, joined, rest_at}
+use Rattle.predication.proofs.EmittedIfs.{rest_out, tested_quiet, load_form, store_form, fired_one, fired_two}
+use Rattle.predication.proofs.EmittedIfs.{fired_if}
 
 module _ (regs : ℕ → ℕ) (h : ℕ → Answer) where
-  -- the acts of one node
-  abbrev pub node_acts : FlowNode → List Act
-  node_acts n = cond (met h n.guard) (act_tokens (form_of n.op) n (first regs h n.left) (first regs h n.right)) []
-
-  -- behind quiet nodes come the acts of a node and of those behind it
-  pub fired_one : (x : List FlowNode) (n : FlowNode) (o : List FlowNode) → Quiet x → fired regs h (x ++ n ∷ o)
-      ≡ node_acts n ++ fired regs h o
-  fired_one x n o q = rw (fired_append regs h x (n ∷ o), quiet_fired regs h x q) refl
-
-  -- behind two groups of quiet nodes come the acts of a node and of those behind it
-  pub fired_two : (x y : List FlowNode) (n : FlowNode) (o : List FlowNode) → Quiet x → Quiet y
-      → fired regs h (x ++ (y ++ n ∷ o)) ≡ node_acts n ++ fired regs h o
-  fired_two x y n o q r = rw (fired_append regs h x (y ++ n ∷ o), quiet_fired regs h x q) (fired_one y n o r)
-
-  -- an if: its test, both legs, the end, and the rest
-  pub fired_if : (x a b c o : List FlowNode) → Quiet x → Quiet c →
-      fired regs h (x ++ (a ++ (b ++ (c ++ o)))) ≡ fired regs h a ++ (fired regs h b ++ fired regs h o)
-  fired_if x a b c o q r =
-      rw (
-        fired_append regs h x (a ++ (b ++ (c ++ o))),
-        quiet_fired regs h x q,
-        fired_append regs h a (b ++ (c ++ o)),
-        fired_append regs h b (c ++ o),
-        fired_append regs h c o,
-        quiet_fired regs h c r,
-      ) refl
-
   -- no null stands at a guard whose node has no token
   pub absent_clear : (k : ℕ) (s : Bool) → h k ≡ None → Clear regs h (under k s)
   absent_clear k s e = λ n. absurd (cc)
@@ -378,7 +264,7 @@ module _ (regs : ℕ → ℕ) (h : ℕ → Answer) where
               (nay_out g j m env bits t yea nay).number je
               (left_bits bits (touched yea ++ touched nay)) q) (jd q)
               (sym (member_append q (touched yea ++ touched nay) (touched rest)) ∙ e2);
-          acts = fired_if xs a b c o (tested_quiet g j env bits t)
+          acts = fired_if regs h xs a b c o (tested_quiet g j env bits t)
               (join_quiet (distinct (touched yea ++ touched nay)) k ja env ye ne (touched yea) (touched nay))
               ∙ rw (y.acts, z.acts, w.acts) refl;
           calm = calm_if xs a b c o (tested_calm g j env bits t cl sp p.test_runs) y.calm z.calm
@@ -418,7 +304,7 @@ module _ (regs : ℕ → ℕ) (h : ℕ → Answer) where
           dead = λ q. dead_after q (nat_eq q r) (member q (touched rest)) (put env r en q) (o.env q) (w.dead q)
               (untouched rest g (suc k) m (put env r en) bi q)
               (dead_here (nat_eq q r) en (env q) de);
-          acts = fired_two xs ys n o.nodes (operand_quiet j env a) (second_quiet tb i env b)
+          acts = fired_two regs h xs ys n o.nodes (operand_quiet j env a) (second_quiet tb i env b)
               ∙ unmet_acts g _ (fired regs h o.nodes) u w.acts;
           calm = calm_append regs h xs (ys ++ n ∷ o.nodes) (operand_calm regs h j env a sp)
               (calm_append regs h ys (n ∷ o.nodes) (second_calm regs h tb i env b sp) (cl, (fa, fb), w.calm));
@@ -443,7 +329,8 @@ module _ (regs : ℕ → ℕ) (h : ℕ → Answer) where
           dead = λ q. dead_after q (nat_eq q r) (member q (touched rest)) (put env r en q) (o.env q) (w.dead q)
               (untouched rest g (suc k) (suc m) (put env r en) bi q)
               (dead_here (nat_eq q r) en (env q) de);
-          acts = fired_one xs n o.nodes (operand_quiet j env a) ∙ unmet_acts g _ (fired regs h o.nodes) u w.acts;
+          acts = fired_one regs h xs n o.nodes (operand_quiet j env a)
+              ∙ unmet_acts g _ (fired regs h o.nodes) u w.acts;
           calm = calm_append regs h xs (n ∷ o.nodes) (operand_calm regs h j env a sp) (cl, (fa, omega arith), w.calm);
           absent = w.absent;
           memory = λ bytes l. w.memory bytes (holds_none st mem m bytes (load_none op n refl tk.1 x2.1) l);
@@ -463,7 +350,7 @@ module _ (regs : ℕ → ℕ) (h : ℕ → Answer) where
         let se = store_settled (form_of op) n (store_form (form_of op) tk.0) x2.1 in
         record {
           dead = w.dead;
-          acts = fired_two xs ys n o.nodes (operand_quiet j env a) (operand_quiet i env v)
+          acts = fired_two regs h xs ys n o.nodes (operand_quiet j env a) (operand_quiet i env v)
               ∙ unmet_acts g _ (fired regs h o.nodes) u w.acts;
           calm = calm_append regs h xs (ys ++ n ∷ o.nodes) (operand_calm regs h j env a sp)
               (calm_append regs h ys (n ∷ o.nodes) (operand_calm regs h i env v sp) (cl, (fa, fb), w.calm));

@@ -18,7 +18,8 @@ returns-clause-machine c =
     IfOk-weaker c.all_blocks.result (λ (us : List Block). ArePassed t p (map narrowed_of c.as_slice.result.now) us)
     (λ (us : List Block). t ≡ false → FitMachine B → AreMachineBlocks p B us)
     (λ us h e f. are_machine_blocks t p B us
-    (subst (λ (bs : List NarrowedBlock). ArePassed t p (map narrowed_of bs) us) c.as_slice.ensures.value h) e f) c.all_blocks.ensures.ok
+    (subst (λ (bs : List NarrowedBlock). ArePassed t p (map narrowed_of bs) us)
+    c.as_slice.ensures.value h) e f) c.all_blocks.ensures.ok
 
 pub returns-clause-fits : goal.returns-clause-fits
 returns-clause-fits c =
