@@ -1,5 +1,5 @@
 -- The tokens of the benchmark's lines.
-use Rattle.std.proofs.Common.{ℕ, zero, suc, List, [], ◌∷◌, ◌++◌, map, codes}
+use Rattle.std.proofs.Common.{ℕ, zero, suc, List, [], ◌∷◌, ◌++◌, codes}
 use Rattle.std.specs.Prelude.{decimal}
 use Rattle.c_tree.specs.declared.Form.{Form}
 use Rattle.c_tree.specs.declared.Form.TheVariants as form
@@ -7,7 +7,7 @@ use Rattle.c_tree.specs.declared.Key.TheVariants as key
 use Rattle.c_tree.specs.declared.Mark.TheVariants as mark
 use Rattle.c_tree.specs.declared.Kind.TheVariants.{Int}
 use Rattle.c_grammar.specs.Tokens.{Tokens, token}
-use Rattle.bench_laws.proofs.Trees.{function_at, main_at, call_at}
+use Rattle.bench_laws.proofs.Trees.{InLine, Offsets}
 
 -- long a[16];
 abbrev pub array_forms : List Form
@@ -72,21 +72,17 @@ end_forms =
 
 -- TOKENS
 
--- those of line l
-abbrev pub line_of : ℕ → List Form → Tokens
-line_of l fs = map (token l) fs
+-- those of a line with these offsets
+abbrev pub line_of : InLine → List Form → Tokens
+line_of l [] = []
+line_of l (f ∷ fs) = token (l 0) f ∷ line_of (λ j. l (suc j)) fs
 
--- those of the functions below n
-abbrev pub functions_tokens : ℕ → Tokens
-functions_tokens zero = []
-functions_tokens (suc n) = functions_tokens n ++ line_of (function_at n) (function_forms n)
-
--- those of the calls below k, where there are n
-abbrev pub calls_tokens : ℕ → ℕ → Tokens
-calls_tokens n zero = []
-calls_tokens n (suc k) = calls_tokens n k ++ line_of (call_at n k) (call_forms k)
+-- those of the lines below n
+abbrev pub lines_of : (ℕ → List Form) → (ℕ → InLine) → ℕ → Tokens
+lines_of forms o zero = []
+lines_of forms o (suc n) = lines_of forms o n ++ line_of (o n) (forms n)
 
 -- those of the text
-abbrev pub tokens : ℕ → Tokens
-tokens n = token 1 form.Include ∷ (line_of 2 array_forms ++ (functions_tokens n ++ (line_of (main_at n) main_forms
-    ++ (calls_tokens n n ++ line_of (call_at n n) end_forms))))
+abbrev pub tokens : Offsets → ℕ → Tokens
+tokens o n = token o.include form.Include ∷ (line_of o.array array_forms ++ (lines_of function_forms o.functions n
+    ++ (line_of o.main main_forms ++ (lines_of call_forms o.calls n ++ line_of o.ending end_forms))))

@@ -1,6 +1,6 @@
 -- The benchmark's text has these tokens.
-use Rattle.std.proofs.Common.{◌≡◌, ◌≤◌, ◌<◌, ℕ, zero, suc, ◌+◌, ◌*◌, Bool, false, List, [], ◌∷◌, ◌++◌, map, length}
-use Rattle.std.proofs.Common.{codes, refl}
+use Rattle.std.proofs.Common.{◌≡◌, ◌≤◌, ◌<◌, ℕ, zero, suc, ◌+◌, ◌*◌, Bool, false, cond, if◌then◌else◌, List, [], ◌∷◌}
+use Rattle.std.proofs.Common.{◌++◌, length, nat_eq, codes, refl}
 use Rattle.std.proofs.Common.{sym, ap, ◌∙◌, subst, arith, append_assoc, length-append}
 use Rattle.std.specs.Prelude.{decimal}
 use Rattle.bench_text.specs.Text.{head, function_name, function_body, function_end, function, functions, main_head}
@@ -9,27 +9,19 @@ use Rattle.c_tree.specs.Limits.{most_tokens}
 use Rattle.c_tree.specs.declared.Form.{Form}
 use Rattle.c_tree.specs.declared.Form.TheVariants as form
 use Rattle.c_lex.specs.declared.piece.Reading.TheVariants as reads
-use Rattle.c_lex.specs.Bytes.{Bytes, is_space, line_after}
+use Rattle.c_lex.specs.Bytes.{Bytes}
 use Rattle.c_lex.specs.Lexes.{Tokens, Cut, Lexes, here, next, Lexed}
 use Rattle.c_lex.proofs.Lines.{include_front}
-use Rattle.c_lex.proofs.ReadSoFar.{whole, bytes_nil}
-use Rattle.c_grammar.specs.Tokens.{token}
+use Rattle.c_lex.proofs.Basics.{eq_true, lt_apart}
+use Rattle.c_lex.proofs.ReadSoFar.{joined, whole, bytes_nil}
 use Rattle.bench_laws.proofs.Forms.{array_forms, function_forms, main_forms, call_forms, end_forms}
-use Rattle.bench_laws.proofs.Forms.{line_of, functions_tokens}
-use Rattle.bench_laws.proofs.Forms.{calls_tokens, tokens}
-use Rattle.bench_laws.proofs.Trees.{function_at, main_at, call_at}
-use Rattle.bench_laws.proofs.Scan.{Line, Reaches, Cuts, then_cuts, line_cuts, feed_cuts, last_cuts}
+use Rattle.bench_laws.proofs.Forms.{line_of, lines_of, tokens}
+use Rattle.bench_laws.proofs.Trees.{InLine, Offsets}
+use Rattle.bench_laws.proofs.Scan.{Reaches, feed_cuts, last_cuts}
 use Rattle.bench_laws.proofs.Lines.{function_text, call_text, function_is_cut, call_is_cut, array_is_cut}
 use Rattle.bench_laws.proofs.Lines.{main_is_cut, end_is_cut}
 
 -- LINES
-
--- a line feed, and a line that begins with no space
-line_after_feed : (l b : ℕ) (bs rest : Bytes) (fs : List Form) → is_space b ≡ false → Line (b ∷ bs) fs (10 ∷ rest)
-    → Cuts l (10 ∷ b ∷ bs) (line_of (suc l) fs) (10 ∷ rest) (suc l)
-line_after_feed l b bs rest fs s x =
-    then_cuts l (suc l) (suc l) (10 ∷ b ∷ bs) (b ∷ bs) (10 ∷ rest) [] (line_of (suc l) fs)
-    (feed_cuts l b bs s) (line_cuts (suc l) (b ∷ bs) (10 ∷ rest) fs x)
 
 -- function k is its line and a line feed
 function_is : (k : ℕ) (rest : Bytes) → function k ++ rest ≡ function_text k rest
@@ -45,42 +37,76 @@ call_is : (k : ℕ) (rest : Bytes) → call k ++ rest ≡ call_text k rest
 unfolding call_name call_end
 call_is k rest = ap (λ (y : Bytes). codes "x = f" ++ y) (append_assoc (decimal k) call_end rest)
 
--- the functions below n, behind line 2
-functions_cut : (n : ℕ) (rest : Bytes) → n ≤ 64
-    → Cuts 2 (10 ∷ functions n ++ rest) (functions_tokens n) (10 ∷ rest) (2 + n)
-functions_cut zero rest few = λ before e. record { passed = before; cut = here; line_is = e }
-functions_cut (suc n) rest few =
-    subst (λ (t : Bytes). Cuts 2 (10 ∷ t) (functions_tokens (suc n)) (10 ∷ rest) (2 + suc n))
-    (sym (append_assoc (functions n) (function n) rest))
-    (subst (λ (m : ℕ). Cuts 2 (10 ∷ functions n ++ (function n ++ rest)) (functions_tokens (suc n)) (10 ∷ rest) m)
-    (let e : function_at n ≡ 2 + suc n = omega arith in e)
-    (then_cuts 2 (2 + n) (function_at n) (10 ∷ functions n ++ (function n ++ rest))
-    (10 ∷ function n ++ rest) (10 ∷ rest)
-    (functions_tokens n) (line_of (function_at n) (function_forms n))
-    (functions_cut n (function n ++ rest) (omega arith))
-    (subst (λ (t : Bytes). Cuts (2 + n) (10 ∷ t) (line_of (function_at n) (function_forms n)) (10 ∷ rest)
-    (function_at n))
-    (sym (function_is n rest))
-    (line_after_feed (2 + n) 108 _ rest (function_forms n) refl (function_is_cut n rest (omega arith))))))
+-- behind a line feed each of the lines below 64 is cut into tokens of its forms
+abbrev EachLine : (ℕ → Bytes) → (ℕ → List Form) → Type 0
+EachLine text forms = (k : ℕ) (rest : Bytes) → k < 64 → (before : Bytes)
+    → Reaches before (10 ∷ text k ++ rest) (forms k) (10 ∷ rest)
 
--- the calls of those below k, behind main's first line
-calls_cut : (n k : ℕ) (rest : Bytes) → k ≤ 64
-    → Cuts (main_at n) (10 ∷ calls k ++ rest) (calls_tokens n k) (10 ∷ rest) (main_at n + k)
-calls_cut n zero rest few = λ before e.
-    record { passed = before; cut = here; line_is = e ∙ omega arith }
-calls_cut n (suc k) rest few =
-    subst (λ (t : Bytes). Cuts (main_at n) (10 ∷ t) (calls_tokens n (suc k)) (10 ∷ rest) (main_at n + suc k))
-    (sym (append_assoc (calls k) (call k) rest))
-    (subst (λ (m : ℕ). Cuts (main_at n) (10 ∷ calls k ++ (call k ++ rest)) (calls_tokens n (suc k)) (10 ∷ rest) m)
-    (let e : call_at n k ≡ main_at n + suc k = omega arith in e)
-    (then_cuts (main_at n) (main_at n + k) (call_at n k) (10 ∷ calls k ++ (call k ++ rest))
-    (10 ∷ call k ++ rest) (10 ∷ rest)
-    (calls_tokens n k) (line_of (call_at n k) (call_forms k))
-    (calls_cut n k (call k ++ rest) (omega arith))
-    (subst (λ (t : Bytes). Cuts (main_at n + k) (10 ∷ t) (line_of (call_at n k) (call_forms k)) (10 ∷ rest)
-    (call_at n k))
-    (sym (call_is k rest))
-    (line_after_feed (main_at n + k) 120 _ rest (call_forms k) refl (call_is_cut k rest (omega arith))))))
+each_function : EachLine function function_forms
+each_function k rest below before =
+    subst (λ (t : Bytes). Reaches before (10 ∷ t) (function_forms k) (10 ∷ rest)) (sym (function_is k rest))
+    (feed_cuts 108 _ (10 ∷ rest) (function_forms k) refl (function_is_cut k rest below) before)
+
+each_call : EachLine call call_forms
+each_call k rest below before =
+    subst (λ (t : Bytes). Reaches before (10 ∷ t) (call_forms k) (10 ∷ rest)) (sym (call_is k rest))
+    (feed_cuts 120 _ (10 ∷ rest) (call_forms k) refl (call_is_cut k rest below) before)
+
+-- the texts below n, in order
+abbrev all_below : (ℕ → Bytes) → ℕ → Bytes
+all_below text zero = []
+all_below text (suc n) = all_below text n ++ text n
+
+functions_are : (n : ℕ) → functions n ≡ all_below function n
+functions_are zero = refl
+functions_are (suc n) = ap (λ (t : Bytes). t ++ function n) (functions_are n)
+
+calls_are : (n : ℕ) → calls n ≡ all_below call n
+calls_are zero = refl
+calls_are (suc n) = ap (λ (t : Bytes). t ++ call n) (calls_are n)
+
+-- with other offsets for line n
+abbrev with_line : (ℕ → InLine) → ℕ → InLine → ℕ → InLine
+with_line o n l k = if nat_eq k n then l else o k
+
+-- which those below it do not see
+lines_same : (forms : ℕ → List Form) (o : ℕ → InLine) (n : ℕ) (l : InLine) (m : ℕ) → m ≤ n
+    → lines_of forms (with_line o n l) m ≡ lines_of forms o m
+lines_same forms o n l zero h = refl
+lines_same forms o n l (suc m) h =
+    let other : nat_eq m n ≡ false = lt_apart m n (omega arith) in
+    let same : with_line o n l m ≡ o m = ap (λ (b : Bool). cond b l (o m)) other in
+    ap (λ (ts : Tokens). ts ++ line_of (with_line o n l m) (forms m)) (lines_same forms o n l m (omega arith))
+    ∙ ap (λ (x : InLine). lines_of forms o m ++ line_of x (forms m)) same
+
+-- the lines below n are cut into tokens of their forms
+record LinesReach (n : ℕ) (before text : Bytes) (forms : ℕ → List Form) (rest : Bytes) : Type 0 where
+  offsets : ℕ → InLine
+  passed : Bytes
+  cut : Cut before text (lines_of forms offsets n) passed rest
+
+lines_cut : (text : ℕ → Bytes) (forms : ℕ → List Form) → EachLine text forms → (n : ℕ) (rest : Bytes) → n ≤ 64
+    → (before : Bytes) → LinesReach n before (10 ∷ all_below text n ++ rest) forms (10 ∷ rest)
+lines_cut text forms each zero rest few before =
+    record { offsets = λ k. λ j. 0; passed = before; cut = here }
+lines_cut text forms each (suc n) rest few before =
+    let y = lines_cut text forms each n (text n ++ rest) (omega arith) before in
+    let z = each n rest (omega arith) y.passed in
+    let o = with_line y.offsets n z.offsets in
+    let whole_text = 10 ∷ all_below text n ++ (text n ++ rest) in
+    let last : o n ≡ z.offsets = ap (λ (b : Bool). cond b z.offsets (y.offsets n)) (eq_true n n refl) in
+    let same : lines_of forms y.offsets n ++ line_of z.offsets (forms n) ≡ lines_of forms o (suc n) =
+    sym (ap (λ (ts : Tokens). ts ++ line_of (o n) (forms n)) (lines_same forms y.offsets n z.offsets n (omega arith))
+    ∙ ap (λ (x : InLine). lines_of forms y.offsets n ++ line_of x (forms n)) last) in
+    record {
+      offsets = o;
+      passed = z.passed;
+      cut = subst (λ (t : Bytes). Cut before (10 ∷ t) (lines_of forms o (suc n)) z.passed (10 ∷ rest))
+          (sym (append_assoc (all_below text n) (text n) rest))
+          (subst (λ (ts : Tokens). Cut before whole_text ts z.passed (10 ∷ rest)) same
+          (joined before whole_text y.passed (10 ∷ text n ++ rest) z.passed (10 ∷ rest)
+          (lines_of forms y.offsets n) (line_of z.offsets (forms n)) y.cut z.cut));
+    }
 
 -- THE TEXT
 
@@ -93,71 +119,118 @@ text_is : (n : ℕ) → bench_text n ≡ codes "#include <stdio.h>" ++ behind n
 unfolding head main_head main_end
 text_is n = refl
 
-behind_cut : (n : ℕ) → n ≤ 64 → Cuts 1 (behind n) (line_of 2 array_forms ++ (functions_tokens n
-    ++ (line_of (main_at n) main_forms ++ (calls_tokens n n ++ line_of (call_at n n) end_forms)))) []
-    (suc (call_at n n))
-behind_cut n few =
+-- the text has tokens of its forms
+pub record HasTokens (n : ℕ) : Type 0 where
+  pub offsets : Offsets
+  pub lexed : Lexed most_tokens (bench_text n) (tokens offsets n)
+
+-- those of its lines, with the text behind the first cut into them
+record BehindReaches (n : ℕ) (before : Bytes) : Type 0 where
+  offsets : Offsets
+  passed : Bytes
+  cut : Cut before (behind n) (line_of offsets.array array_forms ++ (lines_of function_forms offsets.functions n
+      ++ (line_of offsets.main main_forms ++ (lines_of call_forms offsets.calls n
+      ++ line_of offsets.ending end_forms)))) passed []
+
+behind_cut : (n : ℕ) → n ≤ 64 → (before : Bytes) → BehindReaches n before
+behind_cut n few before =
     let ending = codes "return (int) x; }" ++ 10 ∷ [] in
     let middle = codes "int main(void) { long x = 1;" ++ 10 ∷ calls n ++ ending in
-    then_cuts 1 2 _ (behind n) (10 ∷ functions n ++ middle) [] (line_of 2 array_forms) _
-    (line_after_feed 1 108 _ (functions n ++ middle) array_forms refl (array_is_cut (functions n ++ middle)))
-    (then_cuts 2 (2 + n) _ (10 ∷ functions n ++ middle) (10 ∷ middle) [] (functions_tokens n) _
-    (functions_cut n middle few)
-    (then_cuts (2 + n) (main_at n) _ (10 ∷ middle) (10 ∷ calls n ++ ending) [] (line_of (main_at n) main_forms) _
-    (line_after_feed (2 + n) 105 _ (calls n ++ ending) main_forms refl (main_is_cut (calls n ++ ending)))
-    (then_cuts (main_at n) (main_at n + n) _ (10 ∷ calls n ++ ending) (10 ∷ ending) [] (calls_tokens n n) _
-    (calls_cut n n ending few)
-    (subst (λ (ts : Tokens). Cuts (main_at n + n) (10 ∷ ending) ts [] (suc (call_at n n)))
-    (append_nil (line_of (call_at n n) end_forms))
-    (then_cuts (main_at n + n) (call_at n n) _ (10 ∷ ending) (10 ∷ []) [] (line_of (call_at n n) end_forms) []
-    (line_after_feed (main_at n + n) 114 _ [] end_forms refl (end_is_cut []))
-    (last_cuts (call_at n n)))))))
+    let a = feed_cuts 108 _ (10 ∷ functions n ++ middle) array_forms refl (array_is_cut (functions n ++ middle))
+    before in
+    let f = subst (λ (t : Bytes). LinesReach n a.passed (10 ∷ t ++ middle) function_forms (10 ∷ middle))
+    (sym (functions_are n)) (lines_cut function function_forms each_function n middle few a.passed) in
+    let m = feed_cuts 105 _ (10 ∷ calls n ++ ending) main_forms refl (main_is_cut (calls n ++ ending)) f.passed in
+    let c = subst (λ (t : Bytes). LinesReach n m.passed (10 ∷ t ++ ending) call_forms (10 ∷ ending))
+    (sym (calls_are n)) (lines_cut call call_forms each_call n ending few m.passed) in
+    let e = feed_cuts 114 _ (10 ∷ []) end_forms refl (end_is_cut []) c.passed in
+    let last : Cut c.passed (10 ∷ ending) (line_of e.offsets end_forms) (e.passed ++ 10 ∷ []) [] =
+    subst (λ (ts : Tokens). Cut c.passed (10 ∷ ending) ts (e.passed ++ 10 ∷ []) [])
+    (append_nil (line_of e.offsets end_forms))
+    (joined c.passed (10 ∷ ending) e.passed (10 ∷ []) (e.passed ++ 10 ∷ []) []
+    (line_of e.offsets end_forms) [] e.cut (last_cuts e.passed)) in
+    let from_calls = joined m.passed (10 ∷ calls n ++ ending) c.passed (10 ∷ ending) (e.passed ++ 10 ∷ []) []
+    (lines_of call_forms c.offsets n) _ c.cut last in
+    let from_main = joined f.passed (10 ∷ middle) m.passed (10 ∷ calls n ++ ending) (e.passed ++ 10 ∷ []) []
+    (line_of m.offsets main_forms) _ m.cut from_calls in
+    let from_functions = joined a.passed (10 ∷ functions n ++ middle) f.passed (10 ∷ middle) (e.passed ++ 10 ∷ []) []
+    (lines_of function_forms f.offsets n) _ f.cut from_main in
+    record {
+      offsets = record {
+        include = 0;
+        array = a.offsets;
+        functions = f.offsets;
+        main = m.offsets;
+        calls = c.offsets;
+        ending = e.offsets;
+      };
+      passed = e.passed ++ 10 ∷ [];
+      cut = joined before (behind n) a.passed (10 ∷ functions n ++ middle) (e.passed ++ 10 ∷ []) []
+          (line_of a.offsets array_forms) _ a.cut from_functions;
+    }
   where
     append_nil : (ts : Tokens) → ts ++ [] ≡ ts
     append_nil [] = refl
     append_nil (t ∷ ts) = ap (λ (us : Tokens). t ∷ us) (append_nil ts)
 
-lexes : (n : ℕ) → n ≤ 64 → Lexes (bench_text n) (tokens n)
-lexes n few =
+-- the line with which the text begins stands at its first byte
+abbrev begun : Offsets → Offsets
+begun o = record {
+  include = 0;
+  array = o.array;
+  functions = o.functions;
+  main = o.main;
+  calls = o.calls;
+  ending = o.ending;
+}
+
+lexes : (n : ℕ) → n ≤ 64 → (r : BehindReaches n (codes "#include <stdio.h>"))
+    → Lexes (bench_text n) (tokens (begun r.offsets) n)
+lexes n few r =
     let text = codes "#include <stdio.h>" ++ behind n in
-    let r = behind_cut n few (codes "#include <stdio.h>") refl in
-    let c : Cut [] text (tokens n) r.passed [] =
+    let ts = tokens (begun r.offsets) n in
+    let c : Cut [] text ts r.passed [] =
     next (include_front (codes "include <stdio.h>" ++ behind n) refl) r.cut in
-    let w : text ≡ r.passed = whole [] text r.passed [] (tokens n) c ∙ bytes_nil r.passed in
-    subst (λ (t : Bytes). Lexes t (tokens n)) (sym (text_is n))
-    (subst (λ (x : Bytes). Cut [] text (tokens n) x []) (sym w) c)
+    let w : text ≡ r.passed = whole [] text r.passed [] ts c ∙ bytes_nil r.passed in
+    subst (λ (t : Bytes). Lexes t ts) (sym (text_is n))
+    (subst (λ (x : Bytes). Cut [] text ts x []) (sym w) c)
 
 -- THEIR NUMBER
 
-functions_length : (n : ℕ) → length (functions_tokens n) ≡ 77 * n
-functions_length zero = refl
-functions_length (suc n) =
-    let h : length (functions_tokens n) ≡ 77 * n = functions_length n in
-    let a : length (functions_tokens (suc n)) ≡ length (functions_tokens n) + 77 =
-    length-append (functions_tokens n) (line_of (function_at n) (function_forms n)) in
+functions_length : (o : ℕ → InLine) (n : ℕ) → length (lines_of function_forms o n) ≡ 77 * n
+functions_length o zero = refl
+functions_length o (suc n) =
+    let h : length (lines_of function_forms o n) ≡ 77 * n = functions_length o n in
+    let a : length (lines_of function_forms o (suc n)) ≡ length (lines_of function_forms o n) + 77 =
+    length-append (lines_of function_forms o n) (line_of (o n) (function_forms n)) in
     omega arith
 
-calls_length : (n k : ℕ) → length (calls_tokens n k) ≡ 23 * k
-calls_length n zero = refl
-calls_length n (suc k) =
-    let h : length (calls_tokens n k) ≡ 23 * k = calls_length n k in
-    let a : length (calls_tokens n (suc k)) ≡ length (calls_tokens n k) + 23 =
-    length-append (calls_tokens n k) (line_of (call_at n k) (call_forms k)) in
+calls_length : (o : ℕ → InLine) (k : ℕ) → length (lines_of call_forms o k) ≡ 23 * k
+calls_length o zero = refl
+calls_length o (suc k) =
+    let h : length (lines_of call_forms o k) ≡ 23 * k = calls_length o k in
+    let a : length (lines_of call_forms o (suc k)) ≡ length (lines_of call_forms o k) + 23 =
+    length-append (lines_of call_forms o k) (line_of (o k) (call_forms k)) in
     omega arith
 
-few_tokens : (n : ℕ) → n ≤ 64 → length (tokens n) ≤ 8192
-few_tokens n few =
-    let f : length (functions_tokens n) ≡ 77 * n = functions_length n in
-    let c : length (calls_tokens n n) ≡ 23 * n = calls_length n n in
-    let a : length (calls_tokens n n ++ line_of (call_at n n) end_forms) ≡ length (calls_tokens n n) + 7 =
-    length-append (calls_tokens n n) (line_of (call_at n n) end_forms) in
-    let b : length (functions_tokens n ++ (line_of (main_at n) main_forms ++ (calls_tokens n n
-    ++ line_of (call_at n n) end_forms))) ≡ length (functions_tokens n) + length (line_of (main_at n) main_forms
-    ++ (calls_tokens n n ++ line_of (call_at n n) end_forms)) =
-    length-append (functions_tokens n) (line_of (main_at n) main_forms ++ (calls_tokens n n
-    ++ line_of (call_at n n) end_forms)) in
+few_tokens : (o : Offsets) (n : ℕ) → n ≤ 64 → length (tokens o n) ≤ 8192
+few_tokens o n few =
+    let calls = lines_of call_forms o.calls n in
+    let functions = lines_of function_forms o.functions n in
+    let ending = line_of o.ending end_forms in
+    let main = line_of o.main main_forms in
+    let f : length functions ≡ 77 * n = functions_length o.functions n in
+    let c : length calls ≡ 23 * n = calls_length o.calls n in
+    let a : length (calls ++ ending) ≡ length calls + 7 = length-append calls ending in
+    let rest = main ++ (calls ++ ending) in
+    let b : length (functions ++ rest) ≡ length functions + length rest = length-append functions rest in
     omega arith
 
--- the text has these tokens, few enough
-pub lexed : (n : ℕ) → n ≤ 64 → Lexed most_tokens (bench_text n) (tokens n)
-lexed n few = (lexes n few, few_tokens n few)
+-- the text has such tokens, few enough
+pub has_tokens : (n : ℕ) → n ≤ 64 → HasTokens n
+has_tokens n few =
+    let r = behind_cut n few (codes "#include <stdio.h>") in
+    record {
+      offsets = begun r.offsets;
+      lexed = (lexes n few r, few_tokens (begun r.offsets) n few);
+    }

@@ -14,8 +14,8 @@ use Rattle.c_tree.specs.declared.Mark.TheVariants as mark
 use Rattle.c_tree.specs.declared.Kind.{Kind}
 use Rattle.c_tree.specs.declared.Kind.TheVariants.{Int}
 use Rattle.c_lex.specs.declared.piece.Reading.TheVariants as reads
-use Rattle.c_lex.specs.Bytes.{Bytes, Goes, by_class, is_space, is_digit, is_letter, is_word, in_number, feeds}
-use Rattle.c_lex.specs.Bytes.{is_feed, is_sign, is_exponent}
+use Rattle.c_lex.specs.Bytes.{Bytes, Goes, by_class, is_space, is_digit, is_letter, is_word, in_number}
+use Rattle.c_lex.specs.Bytes.{is_sign, is_exponent}
 use Rattle.c_lex.specs.inside.Runs.{run_len}
 use Rattle.c_lex.specs.Tables.{lookup, keywords, marks}
 use Rattle.c_lex.specs.inside.Scans.{constant_of}
@@ -25,12 +25,11 @@ use Rattle.c_lex.proofs.Basics.{and_left, and_right, not_true}
 use Rattle.c_lex.proofs.Firsts.{tabled, tabled_at}
 use Rattle.c_lex.proofs.Fronts.{space_front, word_front, number_front}
 use Rattle.c_lex.proofs.Numbers.{constant_is}
-use Rattle.c_lex.proofs.NoLineFeed.{no_feed as digit_feed}
 use Rattle.c_lex.proofs.Runs.{run_exact}
 use Rattle.bench_laws.proofs.Forms.{array_forms, body_forms, function_forms, main_forms}
 use Rattle.bench_laws.proofs.Forms.{behind_call_forms, call_forms}
 use Rattle.bench_laws.proofs.Forms.{end_forms}
-use Rattle.bench_laws.proofs.Scan.{scan, Line, stop, pass, read, scan_line, is_quiet, quiet_is}
+use Rattle.bench_laws.proofs.Scan.{scan, Line, stop, pass, read, scan_line}
 
 -- NUMERALS
 
@@ -99,15 +98,6 @@ digits_go : (w : Bytes) (last : ℕ) → each_digit w ≡ true → Goes (by_clas
 digits_go [] last e = tt
 digits_go (d ∷ ds) last e = (digit_word d (and_left (is_digit d) _ e), digits_go ds d (and_right (is_digit d) _ e))
 
-digits_quiet : (w : Bytes) → each_digit w ≡ true → is_quiet w ≡ true
-digits_quiet [] e = refl
-digits_quiet (d ∷ ds) e =
-    ap (λ (b : Bool). cond b false (is_quiet ds)) (no_feed d (and_left (is_digit d) _ e))
-    ∙ digits_quiet ds (and_right (is_digit d) _ e)
-  where
-    no_feed : (d : ℕ) → is_digit d ≡ true → is_feed d ≡ false
-    no_feed d e = not_true _ (digit_feed is_digit d refl e)
-
 -- the digits of a number, before a byte with which none goes on
 number_run : (w : Bytes) (last c : ℕ) (rest : Bytes) → each_digit w ≡ true → ((b : ℕ) → in_number b c ≡ false)
     → run_len in_number last (w ++ c ∷ rest) ≡ length w
@@ -123,8 +113,8 @@ number_run (d ∷ ds) last c rest e n =
 -- one part after another
 joined : {a b c : Bytes} {fs gs : List Form} → Line a fs b → Line b gs c → Line a (fs ++ gs) c
 joined stop y = y
-joined (pass l q x) y = pass l q (joined x y)
-joined (read l q x) y = read l q (joined x y)
+joined (pass l x) y = pass l (joined x y)
+joined (read l x) y = read l (joined x y)
 
 -- what a scan finds
 found : (n : ℕ) (text : Bytes) (fs : List Form) (rest : Bytes) → scan n text ≡ (fs, rest) → Line text fs rest
@@ -138,7 +128,7 @@ blank b rest more fs s x =
     subst (λ (v : Bool). Front starts (32 ∷ b ∷ rest)
     (suc (cond v (suc (run_len (by_class is_space) b rest)) 0)) reads.Gap)
     s (space_front starts 32 (b ∷ rest) refl) in
-    pass g refl x
+    pass g x
 
 -- the name of a function, before a byte of no word
 name_line : (w : Bytes) (c : ℕ) (rest more : Bytes) (fs : List Form) → each_digit w ≡ true → is_word c ≡ false
@@ -160,7 +150,7 @@ name_line w c rest more fs e s none x =
     (reads.Token (word_form (102 ∷ w) (lookup (102 ∷ w) keywords)))) (drop-append_seam w (c ∷ rest))
     (subst (λ (t : Bytes). Longest starts (102 ∷ bs) (102 ∷ t) (drop (length w) bs)
     (reads.Token (word_form (102 ∷ t) (lookup (102 ∷ t) keywords)))) (take-append_seam w (c ∷ rest)) (a starts))) in
-    read b (quiet_is (102 ∷ w) (digits_quiet w e)) x
+    read b x
 
 -- a number behind a blank, before a byte with which no number goes on
 number_line : (w : Bytes) (v c : ℕ) (k : Kind) (rest more : Bytes) (fs : List Form) → is_numeral w ≡ true
@@ -185,7 +175,7 @@ number_line (d ∷ ds) v c k rest more fs e s is x =
     (subst (λ (y : Bytes). Longest starts (d ∷ bs) (d ∷ y) (drop (length ds) bs) (reads.Token (form.Number v k))) t
     (a starts)) in
     blank d bs more _ (not_true (is_space d) (and_left (not (is_space d)) _ e))
-    (read b (quiet_is (d ∷ ds) (digits_quiet (d ∷ ds) digits_are)) x)
+    (read b x)
 
 -- LINES
 

@@ -20,8 +20,8 @@ use Rattle.c_type_expr.specs.Scope.{Frame, same_name, find, bound}
 use Rattle.c_type.specs.FileScopes.{eof_name, getchar_name, putchar_name, get_char, put_char, count_after}
 use Rattle.c_type_rules.specs.Definitions as rules
 use Rattle.c_type_rules.specs.Definitions.{Defines, Calls, CallsIn}
-use Rattle.bench_laws.proofs.Trees.{name_a, name_i, name_x, name_f, function, functions, main, array}
-use Rattle.bench_laws.proofs.Trees.{tree, function_at}
+use Rattle.bench_laws.proofs.Trees.{InLine, Offsets, name_a, name_i, name_x, name_f, function, functions, main, array}
+use Rattle.bench_laws.proofs.Trees.{tree}
 
 -- NAMES
 
@@ -106,27 +106,28 @@ find_function (suc n) k a b = go (find_function n k) (nat_eq n k) refl
 -- DEFINITIONS
 
 -- so many functions from function a on
-abbrev pub functions_from : ℕ → ℕ → List Top
-functions_from a zero = []
-functions_from a (suc m) = function (function_at a) a ∷ functions_from (suc a) m
+abbrev pub functions_from : (ℕ → InLine) → ℕ → ℕ → List Top
+functions_from o a zero = []
+functions_from o a (suc m) = function (o a) a ∷ functions_from o (suc a) m
 
 -- those below n are those from 0 on
-pub from_is : (a m : ℕ) → functions_from a (suc m) ≡ functions_from a m ++ function (function_at (a + m)) (a + m) ∷ []
-from_is a zero =
+pub from_is : (o : ℕ → InLine) (a m : ℕ)
+    → functions_from o a (suc m) ≡ functions_from o a m ++ function (o (a + m)) (a + m) ∷ []
+from_is o a zero =
     let e : a + 0 ≡ a = omega arith in
-    ap (λ (b : ℕ). function (function_at b) b ∷ []) (sym e)
-from_is a (suc m) =
+    ap (λ (b : ℕ). function (o b) b ∷ []) (sym e)
+from_is o a (suc m) =
     let e : suc a + m ≡ a + suc m = omega arith in
-    ap (λ (ts : List Top). function (function_at a) a ∷ ts) (from_is (suc a) m
-    ∙ ap (λ (b : ℕ). functions_from (suc a) m ++ function (function_at b) b ∷ []) e)
+    ap (λ (ts : List Top). function (o a) a ∷ ts) (from_is o (suc a) m
+    ∙ ap (λ (b : ℕ). functions_from o (suc a) m ++ function (o b) b ∷ []) e)
 
 -- the functions below n are those from 0 on
-pub functions_are : (n : ℕ) → functions n ≡ functions_from 0 n
-functions_are zero = refl
-functions_are (suc n) =
+pub functions_are : (o : ℕ → InLine) (n : ℕ) → functions o n ≡ functions_from o 0 n
+functions_are o zero = refl
+functions_are o (suc n) =
     let e : 0 + n ≡ n = omega arith in
-    sym (from_is 0 n ∙ ap (λ (b : ℕ). functions_from 0 n ++ function (function_at b) b ∷ []) e
-    ∙ ap (λ (ts : List Top). ts ++ function (function_at n) n ∷ []) (sym (functions_are n)))
+    sym (from_is o 0 n ∙ ap (λ (b : ℕ). functions_from o 0 n ++ function (o b) b ∷ []) e
+    ∙ ap (λ (ts : List Top). ts ++ function (o n) n ∷ []) (sym (functions_are o n)))
 
 -- the name that an item defines as a function of its own
 abbrev Names : TopNode → List ℕ → Type 0
@@ -143,61 +144,63 @@ counted : (w : List ℕ) (a : ℕ) (ts : List Top) (o : Option Callee) → Calls
 counted w a ts o c = let e : suc a ≡ a + 1 = omega arith in subst (λ (n : ℕ). Calls w n ts o) e c
 
 -- functions of greater numbers do not define the name
-none_from : (k a m : ℕ) (ts : List Top) → k < a → a + m ≤ 64 → ((b : ℕ) → Calls (name_f k) b ts None)
-    → Calls (name_f k) a (functions_from a m ++ ts) None
-none_from k a zero ts h few rest = rest a
-none_from k a (suc m) ts h few rest =
+none_from : (o : ℕ → InLine) (k a m : ℕ) (ts : List Top) → k < a → a + m ≤ 64 → ((b : ℕ) → Calls (name_f k) b ts None)
+    → Calls (name_f k) a (functions_from o a m ++ ts) None
+none_from o k a zero ts h few rest = rest a
+none_from o k a (suc m) ts h few rest =
     rules.not_defined
     (λ c d. names_apart a k (omega arith) (omega arith) (λ e. absurd (omega arith)) (names_is d))
-    (counted (name_f k) a _ None (none_from k (suc a) m ts (omega arith) (omega arith) rest))
+    (counted (name_f k) a _ None (none_from o k (suc a) m ts (omega arith) (omega arith) rest))
 
 -- function k is defined by the k-th definition
-some_from : (k a m : ℕ) (ts : List Top) → a ≤ k → k < a + m → a + m ≤ 64
+some_from : (o : ℕ → InLine) (k a m : ℕ) (ts : List Top) → a ≤ k → k < a + m → a + m ≤ 64
     → ((b : ℕ) → Calls (name_f k) b ts None)
-    → Calls (name_f k) a (functions_from a m ++ ts) (Some (callee.Func k))
-some_from k a zero ts h l few rest = absurd (omega arith)
-some_from k a (suc m) ts h l few rest =
-    go (λ g. some_from k (suc a) m ts g (omega arith) (omega arith) rest) (nat_eq a k) refl
+    → Calls (name_f k) a (functions_from o a m ++ ts) (Some (callee.Func k))
+some_from o k a zero ts h l few rest = absurd (omega arith)
+some_from o k a (suc m) ts h l few rest =
+    go (λ g. some_from o k (suc a) m ts g (omega arith) (omega arith) rest) (nat_eq a k) refl
   where
-    go : (suc a ≤ k → Calls (name_f k) (suc a) (functions_from (suc a) m ++ ts) (Some (callee.Func k)))
+    go : (suc a ≤ k → Calls (name_f k) (suc a) (functions_from o (suc a) m ++ ts) (Some (callee.Func k)))
         → (x : Bool) → nat_eq a k ≡ x
-        → Calls (name_f k) a (functions_from a (suc m) ++ ts) (Some (callee.Func k))
+        → Calls (name_f k) a (functions_from o a (suc m) ++ ts) (Some (callee.Func k))
     go more true e =
         let same : a ≡ k = grind (arith, nat_tests) in
-        subst (λ (j : ℕ). Calls (name_f j) a (functions_from a (suc m) ++ ts) (Some (callee.Func j))) same
+        subst (λ (j : ℕ). Calls (name_f j) a (functions_from o a (suc m) ++ ts) (Some (callee.Func j))) same
         (rules.defined rules.function (counted (name_f a) a _ None
-        (none_from a (suc a) m ts (omega arith) (omega arith)
+        (none_from o a (suc a) m ts (omega arith) (omega arith)
         (λ b. subst (λ (j : ℕ). Calls (name_f j) b ts None) (sym same) (rest b)))))
     go more false e =
         let other : a ≡ k → ⊥ = grind (arith, nat_tests) in
         rules.defined_later (counted (name_f k) a _ (Some (callee.Func k)) (more (grind (arith, other))))
 
 -- the functions are passed on the way to what follows them
-passed_from : (w : List ℕ) (c : Callee) (a m : ℕ) (ts : List Top) → Calls w (a + m) ts (Some c)
-    → Calls w a (functions_from a m ++ ts) (Some c)
-passed_from w c a zero ts h = let e : a + 0 ≡ a = omega arith in subst (λ (n : ℕ). Calls w n ts (Some c)) e h
-passed_from w c a (suc m) ts h =
+passed_from : (o : ℕ → InLine) (w : List ℕ) (c : Callee) (a m : ℕ) (ts : List Top) → Calls w (a + m) ts (Some c)
+    → Calls w a (functions_from o a m ++ ts) (Some c)
+passed_from o w c a zero ts h = let e : a + 0 ≡ a = omega arith in subst (λ (n : ℕ). Calls w n ts (Some c)) e h
+passed_from o w c a (suc m) ts h =
     let e : a + suc m ≡ suc a + m = omega arith in
-    rules.defined_later (counted w a _ (Some c) (passed_from w c (suc a) m ts
+    rules.defined_later (counted w a _ (Some c) (passed_from o w c (suc a) m ts
     (subst (λ (n : ℕ). Calls w n ts (Some c)) e h)))
 
 -- in the unit a call of function k calls the k-th definition
-pub calls_function : (n k : ℕ) → k < n → n ≤ 64 → CallsIn (tree n) (name_f k) (Some (callee.Func k))
-calls_function n k below few =
+pub calls_function : (o : Offsets) (n k : ℕ) → k < n → n ≤ 64
+    → CallsIn (tree o n) (name_f k) (Some (callee.Func k))
+calls_function o n k below few =
     let e : 0 + n ≡ n = omega arith in
     rules.defined_later (rules.defined_later
-    (subst (λ (fs : List Top). Calls (name_f k) 0 (fs ++ main n ∷ []) (Some (callee.Func k))) (sym (functions_are n))
-    (some_from k 0 n (main n ∷ []) (omega arith) (omega arith) (omega arith)
+    (subst (λ (fs : List Top). Calls (name_f k) 0 (fs ++ main o n ∷ []) (Some (callee.Func k)))
+    (sym (functions_are o.functions n))
+    (some_from o.functions k 0 n (main o n ∷ []) (omega arith) (omega arith) (omega arith)
     (λ b. rules.not_defined (λ c d. absurd
     (let q : 109 ≡ 102 = ap (λ (w : List ℕ). get_or w 0 0) (names_is d) in omega arith)) rules.no_item))))
 
 -- and a call of main the last one
-pub calls_main : (n : ℕ) → CallsIn (tree n) (codes "main") (Some (callee.Func n))
-calls_main n =
+pub calls_main : (o : Offsets) (n : ℕ) → CallsIn (tree o n) (codes "main") (Some (callee.Func n))
+calls_main o n =
     let e : n ≡ 0 + n = omega arith in
     rules.defined_later (rules.defined_later
-    (subst (λ (fs : List Top). Calls (codes "main") 0 (fs ++ main n ∷ []) (Some (callee.Func n)))
-    (sym (functions_are n))
-    (passed_from (codes "main") (callee.Func n) 0 n (main n ∷ [])
-    (subst (λ (m : ℕ). Calls (codes "main") m (main n ∷ []) (Some (callee.Func n))) e
+    (subst (λ (fs : List Top). Calls (codes "main") 0 (fs ++ main o n ∷ []) (Some (callee.Func n)))
+    (sym (functions_are o.functions n))
+    (passed_from o.functions (codes "main") (callee.Func n) 0 n (main o n ∷ [])
+    (subst (λ (m : ℕ). Calls (codes "main") m (main o n ∷ []) (Some (callee.Func n))) e
     (rules.defined rules.function rules.no_item)))))

@@ -12,20 +12,18 @@ use Rattle.c_tree.specs.declared.Mark.{Mark}
 use Rattle.c_lex.specs.declared.piece.Reading.{Reading}
 use Rattle.c_lex.specs.declared.piece.Reading.TheVariants as reads
 use Rattle.c_lex.specs.Bytes.{Bytes, by_class, is_space, is_letter, is_word, is_digit, in_number, is_feed}
-use Rattle.c_lex.specs.Bytes.{feeds, line_after, at_line_start}
+use Rattle.c_lex.specs.Bytes.{at_line_start}
 use Rattle.c_lex.specs.inside.Runs.{run_len}
 use Rattle.c_lex.specs.Tables.{lookup, keywords, marks}
 use Rattle.c_lex.specs.inside.Firsts.{none_longer}
 use Rattle.c_lex.specs.inside.Scans.{constant_of, mark_of, goes_on}
 use Rattle.c_lex.specs.Pieces.{Longest, word_form, begins_with}
 use Rattle.c_lex.specs.inside.Pieces.{Front}
-use Rattle.c_lex.specs.Lexes.{Tokens, lexeme, Cut, here, space, next}
-use Rattle.c_lex.proofs.Runs.{feeds_append}
+use Rattle.c_lex.specs.Lexes.{Cut, here, space, next}
 use Rattle.c_lex.proofs.Fronts.{space_front, word_front, number_front}
 use Rattle.c_lex.proofs.Marks.{mark_front, only_longest, mark_ends}
 use Rattle.c_lex.proofs.Numbers.{constant_is}
-use Rattle.c_lex.proofs.ReadSoFar.{joined}
-use Rattle.c_grammar.specs.Tokens.{token}
+use Rattle.bench_laws.proofs.Forms.{line_of}
 
 -- THE SCAN
 
@@ -165,25 +163,14 @@ step_right (b ∷ bs) = by_letter (is_letter b) refl
 
 -- LINES
 
--- bytes that are found without a line feed have none
-pub quiet_is : (bs : Bytes) → is_quiet bs ≡ true → feeds bs ≡ 0
-quiet_is [] e = refl
-quiet_is (b ∷ bs) e = go (quiet_is bs) (is_feed b) e
-  where
-    go : (is_quiet bs ≡ true → feeds bs ≡ 0) → (x : Bool) → cond x false (is_quiet bs) ≡ true
-        → cond x 1 0 + feeds bs ≡ 0
-    go more true e = absurd (cc e)
-    go more false e = let h : feeds bs ≡ 0 = more e in omega arith
-
 -- on one line, the text is cut into these forms up to the rest
 pub data Line : Bytes → List Form → Bytes → Type 0 where
   stop : {text : Bytes} → Line text [] text
   pass : {text piece rest more : Bytes} {fs : List Form}
-      → ((starts : Bool) → Longest starts text piece rest reads.Gap)
-      → feeds piece ≡ 0 → Line rest fs more → Line text fs more
+      → ((starts : Bool) → Longest starts text piece rest reads.Gap) → Line rest fs more → Line text fs more
   read : {text piece rest more : Bytes} {f : Form} {fs : List Form}
-      → ((starts : Bool) → Longest starts text piece rest (reads.Token f))
-      → feeds piece ≡ 0 → Line rest fs more → Line text (f ∷ fs) more
+      → ((starts : Bool) → Longest starts text piece rest (reads.Token f)) → Line rest fs more
+      → Line text (f ∷ fs) more
 
 -- what is scanned is cut so
 pub scan_line : (n : ℕ) (text : Bytes) → Line text (scan n text).0 (scan n text).1
@@ -194,14 +181,14 @@ scan_line (suc n) text = go (scan_line n) (step text) (step_right text)
         → ((starts : Bool) → Front starts text k reads.Gap) → (v : Bool) → is_quiet (take k text) ≡ v
         → Line text (behind (scan n) text (cond v (gap k) unknown)).0
         (behind (scan n) text (cond v (gap k) unknown)).1
-    gaps more k r true e = pass r (quiet_is (take k text) e) (more (drop k text))
+    gaps more k r true e = pass r (more (drop k text))
     gaps more k r false e = stop
 
     pieces : ((t : Bytes) → Line t (scan n t).0 (scan n t).1) → (k : ℕ) (f : Form)
         → ((starts : Bool) → Front starts text k (reads.Token f)) → (v : Bool) → is_quiet (take k text) ≡ v
         → Line text (behind (scan n) text (cond v (piece k f) unknown)).0
         (behind (scan n) text (cond v (piece k f) unknown)).1
-    pieces more k f r true e = read r (quiet_is (take k text) e) (more (drop k text))
+    pieces more k f r true e = read r (more (drop k text))
     pieces more k f r false e = stop
 
     go : ((t : Bytes) → Line t (scan n t).0 (scan n t).1) → (s : Step) → Right text s
@@ -210,70 +197,46 @@ scan_line (suc n) text = go (scan_line n) (step text) (step_right text)
     go more (gap k) r = gaps more k r (is_quiet (take k text)) refl
     go more (piece k f) r = pieces more k f r (is_quiet (take k text)) refl
 
--- PLACES
+-- OFFSETS
 
--- behind some bytes the text is cut into these tokens up to the rest, which stands on line m
-pub record Reaches (before text : Bytes) (ts : Tokens) (rest : Bytes) (m : ℕ) : Type 0 where
-  -- what then stands before it
+-- behind some bytes the text is cut into tokens of these forms up to the rest
+pub record Reaches (before text : Bytes) (fs : List Form) (rest : Bytes) : Type 0 where
+  pub offsets : ℕ → ℕ
+  -- what then stands before the rest
   pub passed : Bytes
-  pub cut : Cut before text ts passed rest
-  pub line_is : line_after passed ≡ m
+  pub cut : Cut before text (line_of offsets fs) passed rest
 
--- the same from any place of line l
-abbrev pub Cuts : ℕ → Bytes → Tokens → Bytes → ℕ → Type 0
-Cuts l text ts rest m = (before : Bytes) → line_after before ≡ l → Reaches before text ts rest m
+-- an offset, and those behind it
+abbrev one_more : ℕ → (ℕ → ℕ) → ℕ → ℕ
+one_more n l zero = n
+one_more n l (suc j) = l j
 
--- one part after another
-pub then_cuts : (l m n : ℕ) (text middle rest : Bytes) (ts us : Tokens) → Cuts l text ts middle m
-    → Cuts m middle us rest n
-    → Cuts l text (ts ++ us) rest n
-then_cuts l m n text middle rest ts us a b before e =
-    let x = a before e in
-    let y = b x.passed x.line_is in
+-- a line is cut so, wherever it stands
+pub line_cuts : (text rest : Bytes) (fs : List Form) → Line text fs rest → (before : Bytes)
+    → Reaches before text fs rest
+line_cuts text rest fs stop before = record { offsets = λ j. 0; passed = before; cut = here }
+line_cuts text rest fs (pass {piece = p} {rest = r} g x) before =
+    let y = line_cuts r rest fs x (before ++ p) in
+    record { offsets = y.offsets; passed = y.passed; cut = space (g (at_line_start before)) y.cut }
+line_cuts text rest fs (read {piece = p} {rest = r} {f = f} {fs = gs} g x) before =
+    let y = line_cuts r rest gs x (before ++ p) in
     record {
+      offsets = one_more (length before) y.offsets;
       passed = y.passed;
-      cut = joined before text x.passed middle y.passed rest ts us x.cut y.cut;
-      line_is = y.line_is;
+      cut = next (g (at_line_start before)) y.cut;
     }
 
-same_line : (before bs : Bytes) (l : ℕ) → feeds bs ≡ 0 → line_after before ≡ l → line_after (before ++ bs) ≡ l
-same_line before bs l q e =
-    let s : feeds (before ++ bs) ≡ feeds before + feeds bs = feeds_append before bs in omega arith
+-- a line feed, and a line that begins with no space
+pub feed_cuts : (b : ℕ) (bs rest : Bytes) (fs : List Form) → is_space b ≡ false → Line (b ∷ bs) fs rest
+    → (before : Bytes) → Reaches before (10 ∷ b ∷ bs) fs rest
+feed_cuts b bs rest fs s x before =
+    let g : Front (at_line_start before) (10 ∷ b ∷ bs) 1 reads.Gap =
+    subst (λ (v : Bool). Front (at_line_start before) (10 ∷ b ∷ bs)
+    (suc (cond v (suc (run_len (by_class is_space) b bs)) 0)) reads.Gap) s
+    (space_front (at_line_start before) 10 (b ∷ bs) refl) in
+    let y = line_cuts (b ∷ bs) rest fs x (before ++ 10 ∷ []) in
+    record { offsets = y.offsets; passed = y.passed; cut = space g y.cut }
 
--- a line's tokens have its number
-pub line_cuts : (l : ℕ) (text rest : Bytes) (fs : List Form) → Line text fs rest
-    → Cuts l text (map (token l) fs) rest l
-line_cuts l text rest fs stop before e = record { passed = before; cut = here; line_is = e }
-line_cuts l text rest fs (pass {piece = p} {rest = r} g q x) before e =
-    let y = line_cuts l r rest fs x (before ++ p) (same_line before p l q e) in
-    record { passed = y.passed; cut = space (g (at_line_start before)) y.cut; line_is = y.line_is }
-line_cuts l text rest fs (read {piece = p} {rest = r} {f = f} {fs = gs} g q x) before e =
-    let y = line_cuts l r rest gs x (before ++ p) (same_line before p l q e) in
-    record {
-      passed = y.passed;
-      cut = subst (λ (n : ℕ). Cut before text (token n f ∷ map (token l) gs) y.passed rest) e
-          (next (g (at_line_start before)) y.cut);
-      line_is = y.line_is;
-    }
-
--- a line feed before a byte that is no space, or at the end
-pub feed_cuts : (l b : ℕ) (rest : Bytes) → is_space b ≡ false → Cuts l (10 ∷ b ∷ rest) [] (b ∷ rest) (suc l)
-feed_cuts l b rest s before e =
-    let g : Front (at_line_start before) (10 ∷ b ∷ rest) 1 reads.Gap =
-    subst (λ (v : Bool). Front (at_line_start before) (10 ∷ b ∷ rest)
-    (suc (cond v (suc (run_len (by_class is_space) b rest)) 0)) reads.Gap) s
-    (space_front (at_line_start before) 10 (b ∷ rest) refl) in
-    record {
-      passed = before ++ 10 ∷ [];
-      cut = space g here;
-      line_is = (let s : feeds (before ++ 10 ∷ []) ≡ feeds before + 1 = feeds_append before (10 ∷ []) in omega arith);
-    }
-
--- a line feed at the end is cut into no token and ends its line
-pub last_cuts : (l : ℕ) → Cuts l (10 ∷ []) [] [] (suc l)
-last_cuts l before e =
-    record {
-      passed = before ++ 10 ∷ [];
-      cut = space (space_front (at_line_start before) 10 [] refl) here;
-      line_is = (let s : feeds (before ++ 10 ∷ []) ≡ feeds before + 1 = feeds_append before (10 ∷ []) in omega arith);
-    }
+-- a line feed at the end is cut into no token
+pub last_cuts : (before : Bytes) → Cut before (10 ∷ []) [] (before ++ 10 ∷ []) []
+last_cuts before = space (space_front (at_line_start before) 10 [] refl) here

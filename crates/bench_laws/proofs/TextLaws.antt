@@ -20,14 +20,16 @@ use Rattle.bench_laws.proofs.Programs.{program}
 use Rattle.bench_laws.proofs.Forms.{tokens}
 use Rattle.bench_laws.proofs.Trees.{tree}
 use Rattle.bench_laws.proofs.Lines.{row_same, is_yes}
-use Rattle.bench_laws.proofs.Lexed.{lexed}
+use Rattle.bench_laws.proofs.Lexed.{has_tokens}
 use Rattle.bench_laws.proofs.Parsed.{is_unit}
 use Rattle.bench_laws.proofs.Typed.{accepted}
 use Rattle.bench_laws.proofs.EvaluationEnds.{ends}
 
 -- the text is accepted with this program
 has_program : (n : ℕ) → n ≤ 64 → IsAccepted (bench_text n) (program n)
-has_program n few = (record { items = tree n }, (tokens n, lexed n few, is_unit n), accepted n few)
+has_program n few = let t = has_tokens n few in
+    let o = t.offsets in
+    (record { items = tree o n }, (tokens o n, t.lexed, is_unit o n), accepted o n few)
 
 -- the benchmark's text is a program of the profile
 pub is_accepted : BenchIsAccepted

@@ -1,4 +1,4 @@
--- The tree of the benchmark's text.
+-- The tree of the benchmark's text. Its tokens are told by the line that they stand in and their number in it.
 use Rattle.std.proofs.Common.{ℕ, zero, suc, ◌+◌, List, [], ◌∷◌, ◌++◌, codes, Option, Some, None}
 use Rattle.std.specs.Prelude.{decimal}
 use Rattle.c_tree.specs.declared.token.Kind.TheVariants.{Int, Long}
@@ -16,11 +16,36 @@ use Rattle.c_grammar.specs.Operators.{at}
 use Rattle.c_grammar.specs.Statements as s
 use Rattle.c_grammar.specs.Units as u
 
--- a name, and a number, on line l
+-- OFFSETS
+
+-- the offset of each token of a line, by its number in the line
+abbrev pub InLine : Type 0
+InLine = ℕ → ℕ
+
+-- the tokens of a line from that number on
+abbrev pub onward : ℕ → InLine → InLine
+onward n l = λ j. l (n + j)
+
+-- the offset of each token of the text
+pub record Offsets : Type 0 where
+  pub include : ℕ
+  pub array : InLine
+  -- of the line of each function
+  pub functions : ℕ → InLine
+  -- of the first line of main
+  pub main : InLine
+  -- of the line of the call of each function
+  pub calls : ℕ → InLine
+  -- of the last line
+  pub ending : InLine
+
+-- NODES
+
+-- a name at offset l
 abbrev pub name : ℕ → List ℕ → Expr
 name l w = at l (node.Name w)
 
--- the number v at line l
+-- the number v at offset l
 abbrev pub number : ℕ → ℕ → Expr
 number l v = at l (node.Number v Int)
 
@@ -44,7 +69,7 @@ name_f k = 102 ∷ decimal k
 abbrev pub i_of : ℕ → Expr
 i_of l = name l name_i
 
--- the name `x` as an expression at line l
+-- the name `x` as an expression at offset l
 abbrev pub x_of : ℕ → Expr
 x_of l = name l name_x
 
@@ -60,110 +85,127 @@ assigned l a b = at l (node.Assign None a b)
 abbrev pub element : ℕ → Expr → Expr
 element l e = at l (node.Element name_a None e)
 
+-- a[e - 1]
+abbrev pub before : ℕ → ℕ → ℕ → Expr
+before l m v = element l (operation m Subtract (i_of m) (number v 1))
+
+-- PARTS OF LINES, each from its first token on
+
 -- i = v
-abbrev pub set_i : ℕ → ℕ → Expr
-set_i l v = assigned l (i_of l) (number l v)
+abbrev pub set_i : InLine → ℕ → Expr
+set_i l v = assigned (l 0) (i_of (l 0)) (number (l 2) v)
 
 -- i < 16
-abbrev pub below_16 : ℕ → Expr
-below_16 l = operation l Less (i_of l) (number l 16)
+abbrev pub below_16 : InLine → Expr
+below_16 l = operation (l 0) Less (i_of (l 0)) (number (l 2) 16)
 
 -- i = i + 1
-abbrev pub step : ℕ → Expr
-step l = assigned l (i_of l) (operation l Add (i_of l) (number l 1))
+abbrev pub step : InLine → Expr
+step l = assigned (l 0) (i_of (l 0)) (operation (l 2) Add (i_of (l 2)) (number (l 4) 1))
 
 -- a[i] = x + i
-abbrev pub fill : ℕ → Expr
-fill l = assigned l (element l (i_of l)) (operation l Add (x_of l) (i_of l))
+abbrev pub fill : InLine → Expr
+fill l = assigned (l 0) (element (l 0) (i_of (l 2))) (operation (l 5) Add (x_of (l 5)) (i_of (l 7)))
 
 -- a[i] = a[i] + a[i - 1]
-abbrev pub add_up : ℕ → Expr
-add_up l = assigned l (element l (i_of l)) (operation l Add (element l (i_of l))
-    (element l (operation l Subtract (i_of l) (number l 1))))
+abbrev pub add_up : InLine → Expr
+add_up l = assigned (l 0) (element (l 0) (i_of (l 2))) (operation (l 5) Add (element (l 5) (i_of (l 7)))
+    (before (l 10) (l 12) (l 14)))
 
 -- a[15] + k
-abbrev pub sum : ℕ → ℕ → Expr
-sum l k = operation l Add (element l (number l 15)) (number l k)
+abbrev pub sum : InLine → ℕ → Expr
+sum l k = operation (l 0) Add (element (l 0) (number (l 2) 15)) (number (l 5) k)
 
 -- an expression statement, and a loop over one
 abbrev pub plain : ℕ → Expr → Stmt
 plain l e = s.at l (statement.Plain (Some e))
 
 -- for (i = v; i < 16; i = i + 1) e;
-abbrev pub loop : ℕ → ℕ → Expr → Stmt
-loop l v e = s.at l (statement.For (first.First (set_i l v)) (Some (below_16 l)) (Some (step l)) (plain l e))
+abbrev pub loop : InLine → ℕ → Expr → Stmt
+loop l v e = s.at (l 0) (statement.For (first.First (set_i (onward 2 l) v)) (Some (below_16 (onward 6 l)))
+    (Some (step (onward 10 l))) (plain (l 16) e))
 
 -- return e;
 abbrev pub returned : ℕ → Expr → Stmt
 returned l e = s.at l (statement.Return (Some e))
 
--- the body of function k
-abbrev pub function_body : ℕ → ℕ → List Stmt
+-- the body of function k, in its line
+abbrev pub function_body : InLine → ℕ → List Stmt
 function_body l k =
-    s.declared l Long name_i (sizes.Scalar, None) ∷ loop l 0 (fill l) ∷ loop l 1 (add_up l)
-    ∷ returned l (sum l k) ∷ []
+    s.declared (l 8) Long name_i (sizes.Scalar, None) ∷ loop (onward 10 l) 0 (fill (onward 26 l))
+    ∷ loop (onward 35 l) 1 (add_up (onward 51 l)) ∷ returned (l 68) (sum (onward 69 l) k) ∷ []
 
 -- function k
-abbrev pub function : ℕ → ℕ → Top
-function l k = u.function l (Some Long) (name_f k) (u.parameter (l, Some name_x) Long sizes.Scalar ∷ [])
-    (Some (s.at l (statement.Compound (function_body l k))))
+abbrev pub function : InLine → ℕ → Top
+function l k = u.function (l 1) (Some Long) (name_f k) (u.parameter (l 4, Some name_x) Long sizes.Scalar ∷ [])
+    (Some (s.at (l 6) (statement.Compound (function_body l k))))
+
+-- fK(x)
+abbrev pub call_of : InLine → ℕ → Expr
+call_of l k = at (l 0) (node.Call (name_f k) (x_of (l 2) ∷ []))
 
 -- fK(x) % 1000
-abbrev pub next_x : ℕ → ℕ → Expr
-next_x l k = operation l Remainder (at l (node.Call (name_f k) (x_of l ∷ []))) (number l 1000)
+abbrev pub next_x : InLine → ℕ → Expr
+next_x l k = operation (l 0) Remainder (call_of l k) (number (l 5) 1000)
+
+-- x % 26
+abbrev pub letter : InLine → Expr
+letter l = operation (l 0) Remainder (x_of (l 0)) (number (l 2) 26)
 
 -- (int) (x % 26)
-abbrev pub low : ℕ → Expr
-low l = at l (node.Cast Int (at l (node.Group (operation l Remainder (x_of l) (number l 26)))))
+abbrev pub low : InLine → Expr
+low l = at (l 0) (node.Cast Int (at (l 3) (node.Group (letter (onward 4 l)))))
 
 -- the call of function k: two statements
-abbrev pub advance : ℕ → ℕ → Stmt
-advance l k = plain l (assigned l (x_of l) (next_x l k))
+abbrev pub advance : InLine → ℕ → Stmt
+advance l k = plain (l 0) (assigned (l 0) (x_of (l 0)) (next_x (onward 2 l) k))
+
+-- 65 + (int) (x % 26)
+abbrev pub shown : InLine → Expr
+shown l = operation (l 0) Add (number (l 0) 65) (low (onward 2 l))
+
+-- putchar(65 + (int) (x % 26))
+abbrev pub put : InLine → Expr
+put l = at (l 0) (node.Call (codes "putchar") (shown (onward 2 l) ∷ []))
 
 -- putchar(65 + (int) (x % 26));
-abbrev pub show : ℕ → Stmt
-show l = plain l (at l (node.Call (codes "putchar") (operation l Add (number l 65) (low l) ∷ [])))
+abbrev pub show : InLine → Stmt
+show l = plain (l 0) (put l)
 
 -- (int) x
-abbrev pub result : ℕ → Expr
-result l = at l (node.Cast Int (x_of l))
+abbrev pub result : InLine → Expr
+result l = at (l 0) (node.Cast Int (x_of (l 3)))
 
--- the line of function k, and that of its call where there are n
-abbrev pub function_at : ℕ → ℕ
-function_at k = suc (2 + k)
-
--- the line of main behind n functions
-abbrev pub main_at : ℕ → ℕ
-main_at n = suc (2 + n)
-
--- the line of call k in a main behind n functions
-abbrev pub call_at : ℕ → ℕ → ℕ
-call_at n k = suc (main_at n + k)
+-- THE UNIT
 
 -- the functions below n
-abbrev pub functions : ℕ → List Top
-functions zero = []
-functions (suc n) = functions n ++ function (function_at n) n ∷ []
+abbrev pub functions : (ℕ → InLine) → ℕ → List Top
+functions o zero = []
+functions o (suc n) = functions o n ++ function (o n) n ∷ []
 
 -- the calls of the functions below k
-abbrev pub calls : ℕ → ℕ → List Stmt
-calls n zero = []
-calls n (suc k) = calls n k ++ advance (call_at n k) k ∷ show (call_at n k) ∷ []
+abbrev pub calls : (ℕ → InLine) → ℕ → List Stmt
+calls o zero = []
+calls o (suc k) = calls o k ++ advance (o k) k ∷ show (onward 9 (o k)) ∷ []
+
+-- the end of main
+abbrev pub ended : InLine → List Stmt
+ended l = returned (l 0) (result (onward 1 l)) ∷ []
 
 -- the body of main
-abbrev pub main_body : ℕ → List Stmt
-main_body n = s.declared (main_at n) Long name_x (sizes.Scalar, Some (number (main_at n) 1))
-    ∷ (calls n n ++ returned (call_at n n) (result (call_at n n)) ∷ [])
+abbrev pub main_body : Offsets → ℕ → List Stmt
+main_body o n = s.declared (o.main 7) Long name_x (sizes.Scalar, Some (number (o.main 9) 1))
+    ∷ (calls o.calls n ++ ended o.ending)
 
 -- main, which calls the functions below n
-abbrev pub main : ℕ → Top
-main n = u.function (main_at n) (Some Int) (codes "main") []
-    (Some (s.at (main_at n) (statement.Compound (main_body n))))
+abbrev pub main : Offsets → ℕ → Top
+main o n = u.function (o.main 1) (Some Int) (codes "main") []
+    (Some (s.at (o.main 5) (statement.Compound (main_body o n))))
 
 -- long a[16];
-abbrev pub array : Top
-array = u.global 2 Long name_a (sizes.Sized (number 2 16), [])
+abbrev pub array : InLine → Top
+array l = u.global (l 1) Long name_a (sizes.Sized (number (l 3) 16), [])
 
 -- the tree with n functions
-abbrev pub tree : ℕ → List Top
-tree n = u.at 1 tops.Include ∷ array ∷ (functions n ++ main n ∷ [])
+abbrev pub tree : Offsets → ℕ → List Top
+tree o n = u.at o.include tops.Include ∷ array o.array ∷ (functions o.functions n ++ main o n ∷ [])

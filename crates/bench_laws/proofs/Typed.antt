@@ -48,7 +48,7 @@ use Rattle.bench_laws.proofs.Terms.{typed, stated}
 use Rattle.bench_laws.proofs.Programs as p
 use Rattle.bench_laws.proofs.Trees as t
 use Rattle.c_grammar.specs.Operators as operators
-use Rattle.bench_laws.proofs.Trees.{name_a, name_i, name_x, name_f, function_at, main_at, call_at, tree}
+use Rattle.bench_laws.proofs.Trees.{name_a, name_i, name_x, name_f, tree}
 use Rattle.bench_laws.proofs.Names.{frame, array_meaning, function_meaning, find_a, find_putchar, find_x}
 use Rattle.bench_laws.proofs.Names.{find_i, find_main}
 use Rattle.bench_laws.proofs.Names.{find_new, find_function, functions_from, functions_are}
@@ -133,25 +133,29 @@ show_term = put (operation Int Add (number Int 65)
 abbrev result_term : Term
 result_term = cast Int (scalar Long 0)
 
-module _ (l n : ℕ) where
+module _ (l : t.InLine) (n : ℕ) where
   set_i_full : (v : ℕ) → Full (in_loop_of n) Free (t.set_i l v) (typed (set_term v))
   set_i_full v = (
     ty.assignment places.a_name (ty.scalar refl refl) (ty.number refl) refl,
-    fits _ _ (need_assign l (t.i_of l) (t.number l v) _ _ (need_name l name_i) (need_number l v)) refl,
+    fits _ _ (need_assign (l 0) (t.i_of (l 0)) (t.number (l 2) v) _ _ (need_name (l 0) name_i)
+        (need_number (l 2) v)) refl,
   )
 
   below_full : Full (in_loop_of n) Value (t.below_16 l) (typed p.below_16)
   below_full = (
     ty.operation (ty.scalar refl refl) (ty.number refl) refl,
-    fits _ _ (need_binary l Less (t.i_of l) (t.number l 16) _ _ (need_name l name_i) (need_number l 16)) refl,
+    fits _ _ (need_binary (l 0) Less (t.i_of (l 0)) (t.number (l 2) 16) _ _ (need_name (l 0) name_i)
+        (need_number (l 2) 16)) refl,
   )
 
   step_full : Full (in_loop_of n) Free (t.step l) (typed p.step)
   step_full = (
     ty.assignment places.a_name (ty.scalar refl refl)
         (ty.operation (ty.scalar refl refl) (ty.number refl) refl) refl,
-    fits _ _ (need_assign l (t.i_of l) (t.operation l Add (t.i_of l) (t.number l 1)) _ _ (need_name l name_i)
-        (need_binary l Add (t.i_of l) (t.number l 1) _ _ (need_name l name_i) (need_number l 1))) refl,
+    fits _ _ (need_assign (l 0) (t.i_of (l 0)) (t.operation (l 2) Add (t.i_of (l 2)) (t.number (l 4) 1)) _ _
+        (need_name (l 0) name_i)
+        (need_binary (l 2) Add (t.i_of (l 2)) (t.number (l 4) 1) _ _ (need_name (l 2) name_i)
+        (need_number (l 4) 1))) refl,
   )
 
   look_a : look_up (in_loop_of n) name_a ≡ Some array_meaning
@@ -162,67 +166,72 @@ module _ (l n : ℕ) where
 
   fill_full : Full (in_loop_of n) Free (t.fill l) (typed fill_term)
   fill_full = (
-    ty.assignment (places.an_element None (t.i_of l)) (ty.element (ty.scalar refl refl) look_a refl)
+    ty.assignment (places.an_element None (t.i_of (l 2))) (ty.element (ty.scalar refl refl) look_a refl)
         (ty.operation (ty.scalar refl refl) (ty.scalar refl refl) refl) refl,
-    fits _ _ (need_assign l (t.element l (t.i_of l)) (t.operation l Add (t.x_of l) (t.i_of l)) _ _
-        (need_element l (t.i_of l) _ (need_name l name_i))
-        (need_binary l Add (t.x_of l) (t.i_of l) _ _ (need_name l name_x) (need_name l name_i))) refl,
+    fits _ _ (need_assign (l 0) (t.element (l 0) (t.i_of (l 2)))
+        (t.operation (l 5) Add (t.x_of (l 5)) (t.i_of (l 7))) _ _
+        (need_element (l 0) (t.i_of (l 2)) _ (need_name (l 2) name_i))
+        (need_binary (l 5) Add (t.x_of (l 5)) (t.i_of (l 7)) _ _ (need_name (l 5) name_x)
+        (need_name (l 7) name_i))) refl,
   )
 
   add_up_full : Full (in_loop_of n) Free (t.add_up l) (typed add_up_term)
   add_up_full = (
-    ty.assignment (places.an_element None (t.i_of l)) (ty.element (ty.scalar refl refl) look_a refl)
+    ty.assignment (places.an_element None (t.i_of (l 2))) (ty.element (ty.scalar refl refl) look_a refl)
         (ty.operation (ty.element (ty.scalar refl refl) look_a refl)
         (ty.element (ty.operation (ty.scalar refl refl) (ty.number refl) refl) look_a refl) refl) refl,
-    fits _ _ (need_assign l (t.element l (t.i_of l)) (t.operation l Add (t.element l (t.i_of l))
-        (t.element l (t.operation l Subtract (t.i_of l) (t.number l 1)))) _ _
-        (need_element l (t.i_of l) _ (need_name l name_i))
-        (need_binary l Add (t.element l (t.i_of l))
-        (t.element l (t.operation l Subtract (t.i_of l) (t.number l 1))) _ _
-        (need_element l (t.i_of l) _ (need_name l name_i))
-        (need_element l (t.operation l Subtract (t.i_of l) (t.number l 1)) _
-        (need_binary l Subtract (t.i_of l) (t.number l 1) _ _ (need_name l name_i) (need_number l 1))))) refl,
+    fits _ _ (need_assign (l 0) (t.element (l 0) (t.i_of (l 2)))
+        (t.operation (l 5) Add (t.element (l 5) (t.i_of (l 7))) (t.before (l 10) (l 12) (l 14))) _ _
+        (need_element (l 0) (t.i_of (l 2)) _ (need_name (l 2) name_i))
+        (need_binary (l 5) Add (t.element (l 5) (t.i_of (l 7))) (t.before (l 10) (l 12) (l 14)) _ _
+        (need_element (l 5) (t.i_of (l 7)) _ (need_name (l 7) name_i))
+        (need_element (l 10) (t.operation (l 12) Subtract (t.i_of (l 12)) (t.number (l 14) 1)) _
+        (need_binary (l 12) Subtract (t.i_of (l 12)) (t.number (l 14) 1) _ _ (need_name (l 12) name_i)
+        (need_number (l 14) 1))))) refl,
   )
 
   sum_full : (k : ℕ) → Full (in_function n) Value (t.sum l k) (typed (sum_term k))
   sum_full k = (
     ty.operation (ty.element (ty.number refl) look_a_outside refl) (ty.number refl) refl,
-    fits _ _ (need_binary l Add (t.element l (t.number l 15)) (t.number l k) _ _
-        (need_element l (t.number l 15) _ (need_number l 15)) (need_number l k)) refl,
+    fits _ _ (need_binary (l 0) Add (t.element (l 0) (t.number (l 2) 15)) (t.number (l 5) k) _ _
+        (need_element (l 0) (t.number (l 2) 15) _ (need_number (l 2) 15)) (need_number (l 5) k)) refl,
   )
 
-  advance_full : (k : ℕ) → k < n → n ≤ 64 → Full (in_main n) Free (t.assigned l (t.x_of l) (t.next_x l k))
-      (typed (advance_term k))
+  advance_full : (k : ℕ) → k < n → n ≤ 64
+      → Full (in_main n) Free (t.assigned (l 0) (t.x_of (l 0)) (t.next_x (t.onward 2 l) k)) (typed (advance_term k))
   advance_full k below few = (
     ty.assignment places.a_name (ty.scalar refl refl)
         (ty.operation (ty.call (ap (λ (m : Option Meaning). or_else m None)
         (find_function n k below few)) (ty.value (ty.scalar refl refl) ty.none) refl) (ty.number refl) refl) refl,
-    fits _ _ (need_assign l (t.x_of l) (t.next_x l k) _ _ (need_name l name_x)
-        (need_binary l Remainder (operators.at l (node.Call (name_f k) (t.x_of l ∷ []))) (t.number l 1000) _ _
-        (need_call l (name_f k) (t.x_of l) _ (need_name l name_x)) (need_number l 1000))) refl,
+    fits _ _ (need_assign (l 0) (t.x_of (l 0)) (t.next_x (t.onward 2 l) k) _ _ (need_name (l 0) name_x)
+        (need_binary (l 2) Remainder (t.call_of (t.onward 2 l) k) (t.number (l 7) 1000) _ _
+        (need_call (l 2) (name_f k) (t.x_of (l 4)) _ (need_name (l 4) name_x)) (need_number (l 7) 1000))) refl,
   )
 
   low_typed : Typed (in_main n) Value (t.low l) (typed (cast Int (operation Long Remainder (scalar Long 0)
       (convert Long 26))))
   low_typed = ty.conversion (ty.group (ty.operation (ty.scalar refl refl) (ty.number refl) refl)) refl
 
-  show_full : Full (in_main n) Free (operators.at l (node.Call (codes "putchar")
-      (t.operation l Add (t.number l 65) (t.low l) ∷ []))) (typed show_term)
-  show_full = (
-    ty.call (ap (λ (m : Option Meaning). or_else m None) (find_putchar n))
-        (ty.value (ty.operation (ty.number refl) low_typed refl) ty.none) refl,
-    fits _ _ (need_call l (codes "putchar") (t.operation l Add (t.number l 65) (t.low l)) _
-        (need_binary l Add (t.number l 65) (t.low l) _ _ (need_number l 65)
-        (need_cast l Int (operators.at l (node.Group (t.operation l Remainder (t.x_of l) (t.number l 26)))) _
-        (need_group l (t.operation l Remainder (t.x_of l) (t.number l 26)) _
-        (need_binary l Remainder (t.x_of l) (t.number l 26) _ _ (need_name l name_x) (need_number l 26)))))) refl,
-  )
+  need_low : needs (t.low l) ≡ plain 2
+  need_low = need_cast (l 0) Int (operators.at (l 3) (node.Group (t.letter (t.onward 4 l)))) _
+      (need_group (l 3) (t.letter (t.onward 4 l)) _
+      (need_binary (l 4) Remainder (t.x_of (l 4)) (t.number (l 6) 26) _ _ (need_name (l 4) name_x)
+      (need_number (l 6) 26)))
 
   result_full : Full (in_main n) Value (t.result l) (typed result_term)
   result_full = (
     ty.conversion (ty.scalar refl refl) refl,
-    fits _ _ (need_cast l Int (t.x_of l) _ (need_name l name_x)) refl,
+    fits _ _ (need_cast (l 0) Int (t.x_of (l 3)) _ (need_name (l 3) name_x)) refl,
   )
+
+show_full : (l : t.InLine) (n : ℕ) → Full (in_main n) Free (t.put l) (typed show_term)
+show_full l n = (
+  ty.call (ap (λ (m : Option Meaning). or_else m None) (find_putchar n))
+      (ty.value (ty.operation (ty.number refl) (low_typed (t.onward 4 l) n) refl) ty.none) refl,
+  fits _ _ (need_call (l 0) (codes "putchar") (t.shown (t.onward 2 l)) _
+      (need_binary (l 2) Add (t.number (l 2) 65) (t.low (t.onward 4 l)) _ _ (need_number (l 2) 65)
+      (need_low (t.onward 4 l) n))) refl,
+)
 
 -- FUNCTIONS
 
@@ -244,27 +253,28 @@ before_body n = record {
   result = Some Long;
 }
 
-body_types : (l n k : ℕ) → TypesAll nowhere (before_body n) (t.function_body l k) (map stated (p.function_code k))
-    (in_body n)
+body_types : (l : t.InLine) (n k : ℕ)
+    → TypesAll nowhere (before_body n) (t.function_body l k) (map stated (p.function_code k)) (in_body n)
 body_types l n k =
     st.one_more (st.scalar_declared (ap (λ (m : Option Meaning). is_end (or_else m None)) (find_i n)) (omega arith)
     st.without_value)
-    (st.one_more (st.for_loop (st.first_value (set_i_full l n 0)) (st.present (below_full l n))
-    (st.present (step_full l n))
-    (st.expression (st.present (fill_full l n))))
-    (st.one_more (st.for_loop (st.first_value (set_i_full l n 1)) (st.present (below_full l n))
-    (st.present (step_full l n))
-    (st.expression (st.present (add_up_full l n))))
-    (st.one_more (st.returns_value refl (sum_full l n k))
+    (st.one_more (st.for_loop (st.first_value (set_i_full (t.onward 12 l) n 0))
+    (st.present (below_full (t.onward 16 l) n)) (st.present (step_full (t.onward 20 l) n))
+    (st.expression (st.present (fill_full (t.onward 26 l) n))))
+    (st.one_more (st.for_loop (st.first_value (set_i_full (t.onward 37 l) n 1))
+    (st.present (below_full (t.onward 41 l) n)) (st.present (step_full (t.onward 45 l) n))
+    (st.expression (st.present (add_up_full (t.onward 51 l) n))))
+    (st.one_more (st.returns_value refl (sum_full (t.onward 69 l) n k))
     st.no_more)))
 
 -- the file scope behind the functions below n
 abbrev file : ℕ → FileScope
 file n = record { names = frame n ∷ []; globals = p.array ∷ []; bytes = 128; functions = p.functions n }
 
-function_item : (n k l : ℕ) → k < n → n ≤ 64 → Item (tree n) (file k) (t.function l k).node (file (suc k))
-function_item n k l below few =
-    un.definition {v = in_body (suc k)} (calls_function n k below few) (
+function_item : (o : t.Offsets) (n k : ℕ) (l : t.InLine) → k < n → n ≤ 64
+    → Item (tree o n) (file k) (t.function l k).node (file (suc k))
+function_item o n k l below few =
+    un.definition {v = in_body (suc k)} (calls_function o n k below few) (
       un.one_param (un.no_row_size refl)
           (un.named refl (ap (λ (m : Option Meaning). is_end (or_else m None)) (find_x k)))
           (omega arith) un.no_param,
@@ -274,14 +284,15 @@ function_item n k l below few =
     (un.outermost (body_types l (suc k) k))
 
 -- the functions from a on, and what follows them
-items_from : (n a m : ℕ) (ts : List Top) (W : FileScope) → a + m ≤ n → n ≤ 64 → Items (tree n) (file (a + m)) ts W
-    → Items (tree n) (file a) (functions_from a m ++ ts) W
-items_from n a zero ts W h few rest =
-    let e : a + 0 ≡ a = omega arith in subst (λ (b : ℕ). Items (tree n) (file b) ts W) e rest
-items_from n a (suc m) ts W h few rest =
+items_from : (o : t.Offsets) (n a m : ℕ) (ts : List Top) (W : FileScope) → a + m ≤ n → n ≤ 64
+    → Items (tree o n) (file (a + m)) ts W
+    → Items (tree o n) (file a) (functions_from o.functions a m ++ ts) W
+items_from o n a zero ts W h few rest =
+    let e : a + 0 ≡ a = omega arith in subst (λ (b : ℕ). Items (tree o n) (file b) ts W) e rest
+items_from o n a (suc m) ts W h few rest =
     let e : a + suc m ≡ suc a + m = omega arith in
-    un.one_item (function_item n a (function_at a) (omega arith) few)
-    (items_from n (suc a) m ts W (omega arith) few (subst (λ (b : ℕ). Items (tree n) (file b) ts W) e rest))
+    un.one_item (function_item o n a (o.functions a) (omega arith) few)
+    (items_from o n (suc a) m ts W (omega arith) few (subst (λ (b : ℕ). Items (tree o n) (file b) ts W) e rest))
 
 -- MAIN
 
@@ -302,29 +313,30 @@ before_main n = record {
   result = Some Int;
 }
 
-calls_types : (n k : ℕ) (ss : List Stmt) (cs : List Code) → k ≤ n → n ≤ 64
+calls_types : (o : ℕ → t.InLine) (n k : ℕ) (ss : List Stmt) (cs : List Code) → k ≤ n → n ≤ 64
     → TypesAll nowhere (in_main_body n) ss (map stated cs) (in_main_body n)
-    → TypesAll nowhere (in_main_body n) (t.calls n k ++ ss) (map stated (p.calls k ++ cs)) (in_main_body n)
-calls_types n zero ss cs h few rest = rest
-calls_types n (suc k) ss cs h few rest =
-    let l = call_at n k in
+    → TypesAll nowhere (in_main_body n) (t.calls o k ++ ss) (map stated (p.calls k ++ cs)) (in_main_body n)
+calls_types o n zero ss cs h few rest = rest
+calls_types o n (suc k) ss cs h few rest =
+    let l = o k in
+    let two = t.advance l k ∷ t.show (t.onward 9 l) ∷ [] in
     subst (λ (xs : List Stmt). TypesAll nowhere (in_main_body n) xs (map stated (p.calls (suc k) ++ cs))
     (in_main_body n))
-    (sym (append_assoc (t.calls n k) (t.advance l k ∷ t.show l ∷ []) ss))
-    (subst (λ (xs : List Code). TypesAll nowhere (in_main_body n) (t.calls n k ++ (t.advance l k ∷ t.show l ∷ ss))
+    (sym (append_assoc (t.calls o k) two ss))
+    (subst (λ (xs : List Code). TypesAll nowhere (in_main_body n) (t.calls o k ++ (two ++ ss))
     (map stated xs) (in_main_body n))
     (sym (append_assoc (p.calls k) (p.advance k ∷ p.show ∷ []) cs))
-    (calls_types n k (t.advance l k ∷ t.show l ∷ ss) (p.advance k ∷ p.show ∷ cs) (omega arith) few
+    (calls_types o n k (two ++ ss) (p.advance k ∷ p.show ∷ cs) (omega arith) few
     (st.one_more (st.expression (st.present (advance_full l n k (omega arith) few)))
-    (st.one_more (st.expression (st.present (show_full l n))) rest))))
+    (st.one_more (st.expression (st.present (show_full (t.onward 9 l) n))) rest))))
 
-main_types : (n : ℕ) → n ≤ 64
-    → TypesAll nowhere (before_main n) (t.main_body n) (map stated (p.main_code n)) (in_main_body n)
-main_types n few =
+main_types : (o : t.Offsets) (n : ℕ) → n ≤ 64
+    → TypesAll nowhere (before_main n) (t.main_body o n) (map stated (p.main_code n)) (in_main_body n)
+main_types o n few =
     st.one_more (st.scalar_declared (ap (λ (m : Option Meaning). is_end (or_else m None)) (find_x n)) (omega arith)
-    (st.with_value (ty.number refl, fits _ _ (need_number (main_at n) 1) refl)))
-    (calls_types n n (t.returned (call_at n n) (t.result (call_at n n)) ∷ []) p.ending (omega arith) few
-    (st.one_more (st.returns_value refl (result_full (call_at n n) n)) st.no_more))
+    (st.with_value (ty.number refl, fits _ _ (need_number (o.main 9) 1) refl)))
+    (calls_types o.calls n n (t.ended o.ending) p.ending (omega arith) few
+    (st.one_more (st.returns_value refl (result_full (t.onward 1 o.ending) n)) st.no_more))
 
 -- behind all functions and main
 abbrev whole_file : ℕ → FileScope
@@ -335,36 +347,37 @@ whole_file n = record {
   functions = p.functions n ++ p.main n ∷ [];
 }
 
-main_item : (n : ℕ) → n ≤ 64 → Item (tree n) (file n) (t.main n).node (whole_file n)
-main_item n few =
-    un.definition {v = in_main_body n} (calls_main n) (
+main_item : (o : t.Offsets) (n : ℕ) → n ≤ 64 → Item (tree o n) (file n) (t.main o n).node (whole_file n)
+main_item o n few =
+    un.definition {v = in_main_body n} (calls_main o n) (
       un.no_param,
       subst (λ (m : Option Meaning). un.Agrees true (Some Int) [] (or_else m None))
           (sym (find_main n)) un.fresh,
     )
-    (un.outermost (main_types n few))
+    (un.outermost (main_types o n few))
 
 -- THE UNIT
 
-array_item : (n : ℕ) → Item (tree n)
-    (record empty_file { names = with_include empty_file.names }) t.array.node (file 0)
-array_item n =
+array_item : (o : t.Offsets) (n : ℕ) → Item (tree o n)
+    (record empty_file { names = with_include empty_file.names }) (t.array o.array).node (file 0)
+array_item o n =
     un.global (un.sized (
       constants.number,
       ap (λ (c : Constant). length_in c.kind c.value)
-          (value-Number ends (t.number 2 16) 16 Int refl),
+          (value-Number ends (t.number (o.array 3) 16) 16 Int refl),
     )) refl (omega arith) (un.in_list refl un.no_value (omega arith))
 
-items : (n : ℕ) → n ≤ 64 → Items (tree n) empty_file (tree n) (whole_file n)
-items n few =
+items : (o : t.Offsets) (n : ℕ) → n ≤ 64 → Items (tree o n) empty_file (tree o n) (whole_file n)
+items o n few =
     let e : n ≡ 0 + n = omega arith in
     un.one_item (un.include refl un.fresh un.fresh)
-    (un.one_item (array_item n)
-    (subst (λ (fs : List Top). Items (tree n) (file 0) (fs ++ t.main n ∷ []) (whole_file n)) (sym (functions_are n))
-    (items_from n 0 n (t.main n ∷ []) (whole_file n) (omega arith) few
-    (subst (λ (m : ℕ). Items (tree n) (file m) (t.main n ∷ []) (whole_file n)) e
-    (un.one_item (main_item n few) un.no_item)))))
+    (un.one_item (array_item o n)
+    (subst (λ (fs : List Top). Items (tree o n) (file 0) (fs ++ t.main o n ∷ []) (whole_file n))
+    (sym (functions_are o.functions n))
+    (items_from o n 0 n (t.main o n ∷ []) (whole_file n) (omega arith) few
+    (subst (λ (m : ℕ). Items (tree o n) (file m) (t.main o n ∷ []) (whole_file n)) e
+    (un.one_item (main_item o n few) un.no_item)))))
 
 -- the rules accept the tree with the typed program
-pub accepted : (n : ℕ) → n ≤ 64 → Accepts (record { items = tree n }) (p.program n)
-accepted n few = un.accepts (items n few) refl
+pub accepted : (o : t.Offsets) (n : ℕ) → n ≤ 64 → Accepts (record { items = tree o n }) (p.program n)
+accepted o n few = un.accepts (items o n few) refl

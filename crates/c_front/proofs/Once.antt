@@ -53,22 +53,22 @@ lex_error lexical.Directive l = lex.Directive l
 -- a refusal of the lexer says a fault of the text
 record LexSays (text : List ℕ) (e : LexFault) : Type 0 where
   fault : Fault
-  line : ℕ
-  there : FaultAt most_tokens text fault line
-  is : e ≡ lex_error fault line
+  offset : ℕ
+  there : FaultAt most_tokens text fault offset
+  is : e ≡ lex_error fault offset
 
 lex_says : (text : List ℕ) (e : LexFault) → IsRefusedByLexer text e → LexSays text e
 unfolding lex_error
 lex_says text (lex.BadByte l) r =
-    record { fault = lexical.BadByte; line = l; there = r; is = refl }
+    record { fault = lexical.BadByte; offset = l; there = r; is = refl }
 lex_says text (lex.BadLiteral l) r =
-    record { fault = lexical.BadLiteral; line = l; there = r; is = refl }
+    record { fault = lexical.BadLiteral; offset = l; there = r; is = refl }
 lex_says text (lex.Unclosed l) r =
-    record { fault = lexical.Unclosed; line = l; there = r; is = refl }
+    record { fault = lexical.Unclosed; offset = l; there = r; is = refl }
 lex_says text (lex.TooManyTokens l) r =
-    record { fault = lexical.TooManyTokens; line = l; there = r; is = refl }
+    record { fault = lexical.TooManyTokens; offset = l; there = r; is = refl }
 lex_says text (lex.Directive l) r =
-    record { fault = lexical.Directive; line = l; there = r; is = refl }
+    record { fault = lexical.Directive; offset = l; there = r; is = refl }
 lex_says text lex.Memory r = absurd r
 
 -- a text that the lexer refuses has no tokens
@@ -76,15 +76,15 @@ no_tokens : (text : List ℕ) (e : LexFault) (ts : Tokens) → IsRefusedByLexer 
     → Lexed most_tokens text ts → ⊥
 no_tokens text e ts r x =
     let s = lex_says text e r in
-    lexes_no_fault most_tokens text ts s.fault s.line x.0 x.1 s.there
+    lexes_no_fault most_tokens text ts s.fault s.offset x.0 x.1 s.there
 
 lexer_once : (text : List ℕ) (e f : LexFault) → IsRefusedByLexer text e → IsRefusedByLexer text f
     → e ≡ f
 lexer_once text e f r s =
     let a = lex_says text e r in
     let b = lex_says text f s in
-    let o = fault_once most_tokens text a.fault b.fault a.line b.line a.there b.there in
-    a.is ∙ ap (λ (x : Fault). lex_error x a.line) o.faults ∙ ap (lex_error b.fault) o.lines
+    let o = fault_once most_tokens text a.fault b.fault a.offset b.offset a.there b.there in
+    a.is ∙ ap (λ (x : Fault). lex_error x a.offset) o.faults ∙ ap (lex_error b.fault) o.offsets
     ∙ sym b.is
 
 -- ---- the grammar

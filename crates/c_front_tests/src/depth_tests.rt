@@ -206,8 +206,8 @@ fn nested_too_deep(alloc: Global, nest: &Nest) -> Result<Vec<Lexeme>, Fail> {
     nested(alloc, nest, nest.most.min(99) + 1)
 }
 
-/// The line of the token that is too deep where one more stands than may.
-fn deep_line(nest: &Nest) -> u32 {
+/// The offset of the token that is too deep where one more stands than may.
+fn deep_offset(nest: &Nest) -> u32 {
     let before = (HEAD.len() + nest.before.len().min(9)) as u32;
     let most = (nest.most.min(99) * nest.opener.len().min(9)) as u32;
     before + most + nest.deep.min(9) + 1
@@ -226,15 +226,15 @@ fn assert_taken(rt: &impl Abort, alloc: Global, nest: &Nest) -> Result<(), Fail>
 
 fn assert_too_deep(rt: &impl Abort, alloc: Global, nest: &Nest) -> Result<(), Fail> {
     let list = nested_too_deep(alloc, nest)?;
-    assert_answer(rt, alloc, nest, &list, Answer::TooDeep(deep_line(nest)));
+    assert_answer(rt, alloc, nest, &list, Answer::TooDeep(deep_offset(nest)));
     Ok(())
 }
 
 /// Where the token that is too deep is the last one, the tokens only end too early.
 fn assert_too_short(rt: &impl Abort, alloc: Global, nest: &Nest) -> Result<(), Fail> {
     let mut list = nested_too_deep(alloc, nest)?;
-    list.truncate(deep_line(nest) as usize);
-    assert_answer(rt, alloc, nest, &list, Answer::Syntax(deep_line(nest)));
+    list.truncate(deep_offset(nest) as usize);
+    assert_answer(rt, alloc, nest, &list, Answer::Syntax(deep_offset(nest)));
     Ok(())
 }
 

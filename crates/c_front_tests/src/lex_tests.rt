@@ -6,7 +6,7 @@ use std::alloc::{AllocError, Global};
 use std::process::Abort;
 use std::test::Fail;
 
-/// What a token has to be.
+/// What a token has to be, beside its offset.
 #[derive(Clone, Copy)]
 enum Want {
     Include,
@@ -24,175 +24,175 @@ const ROWS: &[Row] = &[
     (
         b"int main(void)\n{ return 0; }\n",
         Ok(&[
-            (1, Want::Key(Key::Int)),
-            (1, Want::Name(b"main")),
-            (1, Want::Mark(Mark::LeftParen)),
-            (1, Want::Key(Key::Void)),
-            (1, Want::Mark(Mark::RightParen)),
-            (2, Want::Mark(Mark::LeftBrace)),
-            (2, Want::Key(Key::Return)),
-            (2, Want::Number(0, Kind::Int)),
-            (2, Want::Mark(Mark::Semicolon)),
-            (2, Want::Mark(Mark::RightBrace)),
+            (0, Want::Key(Key::Int)),
+            (4, Want::Name(b"main")),
+            (8, Want::Mark(Mark::LeftParen)),
+            (9, Want::Key(Key::Void)),
+            (13, Want::Mark(Mark::RightParen)),
+            (15, Want::Mark(Mark::LeftBrace)),
+            (17, Want::Key(Key::Return)),
+            (24, Want::Number(0, Kind::Int)),
+            (25, Want::Mark(Mark::Semicolon)),
+            (27, Want::Mark(Mark::RightBrace)),
         ]),
     ),
     // The longest piece at each place (C17 6.4).
     (
         b"a+++b",
         Ok(&[
-            (1, Want::Name(b"a")),
+            (0, Want::Name(b"a")),
             (1, Want::Mark(Mark::PlusPlus)),
-            (1, Want::Mark(Mark::Plus)),
-            (1, Want::Name(b"b")),
+            (3, Want::Mark(Mark::Plus)),
+            (4, Want::Name(b"b")),
         ]),
     ),
-    (b"<<=", Ok(&[(1, Want::Mark(Mark::ShiftLeftAssign))])),
-    (b">>=", Ok(&[(1, Want::Mark(Mark::ShiftRightAssign))])),
+    (b"<<=", Ok(&[(0, Want::Mark(Mark::ShiftLeftAssign))])),
+    (b">>=", Ok(&[(0, Want::Mark(Mark::ShiftRightAssign))])),
     (
         b"<=-",
         Ok(&[
-            (1, Want::Mark(Mark::LessEqual)),
-            (1, Want::Mark(Mark::Minus)),
+            (0, Want::Mark(Mark::LessEqual)),
+            (2, Want::Mark(Mark::Minus)),
         ]),
     ),
     (
         b"whiled _Bool",
-        Ok(&[(1, Want::Name(b"whiled")), (1, Want::Key(Key::Bool))]),
+        Ok(&[(0, Want::Name(b"whiled")), (7, Want::Key(Key::Bool))]),
     ),
-    (b"_x9", Ok(&[(1, Want::Name(b"_x9"))])),
-    // A comment is a space, and its line feeds count.
+    (b"_x9", Ok(&[(0, Want::Name(b"_x9"))])),
+    // A comment is a space.
     (
         b"a/*\n*/b",
-        Ok(&[(1, Want::Name(b"a")), (2, Want::Name(b"b"))]),
+        Ok(&[(0, Want::Name(b"a")), (6, Want::Name(b"b"))]),
     ),
-    (b"/**/x", Ok(&[(1, Want::Name(b"x"))])),
-    (b"/***/x", Ok(&[(1, Want::Name(b"x"))])),
-    (b"// \xFF\0 /*\nx", Ok(&[(2, Want::Name(b"x"))])),
-    (b"/* // */x", Ok(&[(1, Want::Name(b"x"))])),
-    (b"/", Ok(&[(1, Want::Mark(Mark::Slash))])),
+    (b"/**/x", Ok(&[(4, Want::Name(b"x"))])),
+    (b"/***/x", Ok(&[(5, Want::Name(b"x"))])),
+    (b"// \xFF\0 /*\nx", Ok(&[(9, Want::Name(b"x"))])),
+    (b"/* // */x", Ok(&[(8, Want::Name(b"x"))])),
+    (b"/", Ok(&[(0, Want::Mark(Mark::Slash))])),
     (b"//", Ok(&[])),
-    (b"/*\n", Err(LexFault::Unclosed(1))),
+    (b"/*\n", Err(LexFault::Unclosed(0))),
     (b"\n\n /*", Err(LexFault::Unclosed(3))),
-    (b"/*/", Err(LexFault::Unclosed(1))),
-    (b"/* *", Err(LexFault::Unclosed(1))),
+    (b"/*/", Err(LexFault::Unclosed(0))),
+    (b"/* *", Err(LexFault::Unclosed(0))),
     // Integer constants (C17 6.4.4.1).
     (
         b"2147483647",
-        Ok(&[(1, Want::Number(2147483647, Kind::Int))]),
+        Ok(&[(0, Want::Number(2147483647, Kind::Int))]),
     ),
     (
         b"2147483648",
-        Ok(&[(1, Want::Number(2147483648, Kind::Long))]),
+        Ok(&[(0, Want::Number(2147483648, Kind::Long))]),
     ),
     (
         b"0x7fffffff",
-        Ok(&[(1, Want::Number(2147483647, Kind::Int))]),
+        Ok(&[(0, Want::Number(2147483647, Kind::Int))]),
     ),
     (
         b"0x80000000",
-        Ok(&[(1, Want::Number(2147483648, Kind::UInt))]),
+        Ok(&[(0, Want::Number(2147483648, Kind::UInt))]),
     ),
     (
         b"0XFFFFFFFF",
-        Ok(&[(1, Want::Number(4294967295, Kind::UInt))]),
+        Ok(&[(0, Want::Number(4294967295, Kind::UInt))]),
     ),
     (
         b"0x100000000",
-        Ok(&[(1, Want::Number(4294967296, Kind::Long))]),
+        Ok(&[(0, Want::Number(4294967296, Kind::Long))]),
     ),
-    (b"017", Ok(&[(1, Want::Number(15, Kind::Int))])),
+    (b"017", Ok(&[(0, Want::Number(15, Kind::Int))])),
     (
         b"037777777777",
-        Ok(&[(1, Want::Number(4294967295, Kind::UInt))]),
+        Ok(&[(0, Want::Number(4294967295, Kind::UInt))]),
     ),
-    (b"0u", Ok(&[(1, Want::Number(0, Kind::UInt))])),
-    (b"1L", Ok(&[(1, Want::Number(1, Kind::Long))])),
-    (b"1Ul", Ok(&[(1, Want::Number(1, Kind::ULong))])),
-    (b"1lU", Ok(&[(1, Want::Number(1, Kind::ULong))])),
+    (b"0u", Ok(&[(0, Want::Number(0, Kind::UInt))])),
+    (b"1L", Ok(&[(0, Want::Number(1, Kind::Long))])),
+    (b"1Ul", Ok(&[(0, Want::Number(1, Kind::ULong))])),
+    (b"1lU", Ok(&[(0, Want::Number(1, Kind::ULong))])),
     (
         b"4294967296u",
-        Ok(&[(1, Want::Number(4294967296, Kind::ULong))]),
+        Ok(&[(0, Want::Number(4294967296, Kind::ULong))]),
     ),
     (
         b"9223372036854775807",
-        Ok(&[(1, Want::Number(9223372036854775807, Kind::Long))]),
+        Ok(&[(0, Want::Number(9223372036854775807, Kind::Long))]),
     ),
     (
         b"0x8000000000000000",
-        Ok(&[(1, Want::Number(9223372036854775808, Kind::ULong))]),
+        Ok(&[(0, Want::Number(9223372036854775808, Kind::ULong))]),
     ),
     (
         b"18446744073709551615u",
-        Ok(&[(1, Want::Number(18446744073709551615, Kind::ULong))]),
+        Ok(&[(0, Want::Number(18446744073709551615, Kind::ULong))]),
     ),
-    (b"9223372036854775808", Err(LexFault::BadLiteral(1))),
-    (b"18446744073709551616", Err(LexFault::BadLiteral(1))),
-    (b"18446744073709551616u", Err(LexFault::BadLiteral(1))),
+    (b"9223372036854775808", Err(LexFault::BadLiteral(0))),
+    (b"18446744073709551616", Err(LexFault::BadLiteral(0))),
+    (b"18446744073709551616u", Err(LexFault::BadLiteral(0))),
     (
         b"0xE +1",
         Ok(&[
-            (1, Want::Number(14, Kind::Int)),
-            (1, Want::Mark(Mark::Plus)),
-            (1, Want::Number(1, Kind::Int)),
+            (0, Want::Number(14, Kind::Int)),
+            (4, Want::Mark(Mark::Plus)),
+            (5, Want::Number(1, Kind::Int)),
         ]),
     ),
-    (b"\n0xE+1", Err(LexFault::BadLiteral(2))),
-    (b"0b1", Err(LexFault::BadLiteral(1))),
-    (b"08", Err(LexFault::BadLiteral(1))),
-    (b"09", Err(LexFault::BadLiteral(1))),
-    (b"1.0", Err(LexFault::BadLiteral(1))),
-    (b"1e+5", Err(LexFault::BadLiteral(1))),
-    (b"0x", Err(LexFault::BadLiteral(1))),
-    (b"1uu", Err(LexFault::BadLiteral(1))),
-    (b"1ll", Err(LexFault::BadLiteral(1))),
+    (b"\n0xE+1", Err(LexFault::BadLiteral(1))),
+    (b"0b1", Err(LexFault::BadLiteral(0))),
+    (b"08", Err(LexFault::BadLiteral(0))),
+    (b"09", Err(LexFault::BadLiteral(0))),
+    (b"1.0", Err(LexFault::BadLiteral(0))),
+    (b"1e+5", Err(LexFault::BadLiteral(0))),
+    (b"0x", Err(LexFault::BadLiteral(0))),
+    (b"1uu", Err(LexFault::BadLiteral(0))),
+    (b"1ll", Err(LexFault::BadLiteral(0))),
     // Character constants (C17 6.4.4.4).
-    (b"'a'", Ok(&[(1, Want::Number(97, Kind::Int))])),
-    (b"'\\n'", Ok(&[(1, Want::Number(10, Kind::Int))])),
-    (b"'\\''", Ok(&[(1, Want::Number(39, Kind::Int))])),
-    (b"'\"'", Ok(&[(1, Want::Number(34, Kind::Int))])),
-    (b"'\\0'", Ok(&[(1, Want::Number(0, Kind::Int))])),
+    (b"'a'", Ok(&[(0, Want::Number(97, Kind::Int))])),
+    (b"'\\n'", Ok(&[(0, Want::Number(10, Kind::Int))])),
+    (b"'\\''", Ok(&[(0, Want::Number(39, Kind::Int))])),
+    (b"'\"'", Ok(&[(0, Want::Number(34, Kind::Int))])),
+    (b"'\\0'", Ok(&[(0, Want::Number(0, Kind::Int))])),
     (
         b"'\\377'",
-        Ok(&[(1, Want::Number(18446744073709551615, Kind::Int))]),
+        Ok(&[(0, Want::Number(18446744073709551615, Kind::Int))]),
     ),
-    (b"'\\x0000041'", Ok(&[(1, Want::Number(65, Kind::Int))])),
-    (b"'\\400'", Err(LexFault::BadLiteral(1))),
-    (b"'\\x100'", Err(LexFault::BadLiteral(1))),
-    (b"'\\x'", Err(LexFault::BadLiteral(1))),
-    (b"'\\q'", Err(LexFault::BadLiteral(1))),
-    (b"''", Err(LexFault::BadLiteral(1))),
-    (b"'ab'", Err(LexFault::BadLiteral(1))),
-    (b"'a", Err(LexFault::BadLiteral(1))),
-    (b"\n'\n'", Err(LexFault::BadLiteral(2))),
+    (b"'\\x0000041'", Ok(&[(0, Want::Number(65, Kind::Int))])),
+    (b"'\\400'", Err(LexFault::BadLiteral(0))),
+    (b"'\\x100'", Err(LexFault::BadLiteral(0))),
+    (b"'\\x'", Err(LexFault::BadLiteral(0))),
+    (b"'\\q'", Err(LexFault::BadLiteral(0))),
+    (b"''", Err(LexFault::BadLiteral(0))),
+    (b"'ab'", Err(LexFault::BadLiteral(0))),
+    (b"'a", Err(LexFault::BadLiteral(0))),
+    (b"\n'\n'", Err(LexFault::BadLiteral(1))),
     // Lines that begin with `#`.
-    (b"#include <stdio.h>", Ok(&[(1, Want::Include)])),
+    (b"#include <stdio.h>", Ok(&[(0, Want::Include)])),
     (
         b"\n \t# \tinclude\t <stdio.h> \t\nx",
-        Ok(&[(2, Want::Include), (3, Want::Name(b"x"))]),
+        Ok(&[(3, Want::Include), (27, Want::Name(b"x"))]),
     ),
-    (b"#include<stdio.h>", Ok(&[(1, Want::Include)])),
-    (b"#include < stdio.h>", Err(LexFault::Directive(1))),
-    (b"#include", Err(LexFault::Directive(1))),
-    (b"#define A 1\n", Err(LexFault::Directive(1))),
-    (b"x #include <stdio.h>", Err(LexFault::BadByte(1))),
+    (b"#include<stdio.h>", Ok(&[(0, Want::Include)])),
+    (b"#include < stdio.h>", Err(LexFault::Directive(0))),
+    (b"#include", Err(LexFault::Directive(0))),
+    (b"#define A 1\n", Err(LexFault::Directive(0))),
+    (b"x #include <stdio.h>", Err(LexFault::BadByte(2))),
     // Whole texts, and texts that end too early.
     (
         b"int main(void) { return 18446744073709551616; }",
-        Err(LexFault::BadLiteral(1)),
+        Err(LexFault::BadLiteral(24)),
     ),
     (
         b"int main(void) { return 0xE+1; }",
-        Err(LexFault::BadLiteral(1)),
+        Err(LexFault::BadLiteral(24)),
     ),
-    (b"/*", Err(LexFault::Unclosed(1))),
-    (b"'", Err(LexFault::BadLiteral(1))),
+    (b"/*", Err(LexFault::Unclosed(0))),
+    (b"'", Err(LexFault::BadLiteral(0))),
     (b"x\n'\\", Err(LexFault::BadLiteral(2))),
-    (b"\n#", Err(LexFault::Directive(2))),
-    (b"/* */ #include <stdio.h>", Err(LexFault::BadByte(1))),
-    (b"#include <stdio.h>\r\n", Err(LexFault::Directive(1))),
+    (b"\n#", Err(LexFault::Directive(1))),
+    (b"/* */ #include <stdio.h>", Err(LexFault::BadByte(6))),
+    (b"#include <stdio.h>\r\n", Err(LexFault::Directive(0))),
     // Other bytes.
-    (b"\n@", Err(LexFault::BadByte(2))),
-    (b"\0", Err(LexFault::BadByte(1))),
+    (b"\n@", Err(LexFault::BadByte(1))),
+    (b"\0", Err(LexFault::BadByte(0))),
     (b"x\x80", Err(LexFault::BadByte(1))),
 ];
 
@@ -225,8 +225,8 @@ fn are_wanted(tokens: &[Lexeme], wants: &[(u32, Want)]) -> bool {
     if tokens.len() != wants.len() {
         return false;
     }
-    for (token, (line, want)) in tokens.iter().zip(wants) {
-        if token.line != *line || !is_wanted(&token.form, *want) {
+    for (token, (offset, want)) in tokens.iter().zip(wants) {
+        if token.offset != *offset || !is_wanted(&token.form, *want) {
             return false;
         }
     }
@@ -301,9 +301,9 @@ fn assert_past(rt: &impl Abort, alloc: Global, next: u8, fault: LexFault) -> Res
 type PastRow = (u8, LexFault);
 
 const PAST: &[PastRow] = &[
-    (b';', LexFault::TooManyTokens(2)),
-    (b'@', LexFault::BadByte(2)),
-    (b'9', LexFault::TooManyTokens(2)),
+    (b';', LexFault::TooManyTokens(8_193)),
+    (b'@', LexFault::BadByte(8_193)),
+    (b'9', LexFault::TooManyTokens(8_193)),
 ];
 
 fn assert_each_past(rt: &impl Abort, alloc: Global, rows: &[PastRow]) -> Result<(), Fail> {

@@ -1,4 +1,4 @@
-//! Lists of tokens, each token on a line of its own, with the answer that C17 and docs/LANGUAGE.md
+//! Lists of tokens, each token at an offset of its own, the first at 1, with the answer that C17 and docs/LANGUAGE.md
 //! give them.
 
 use crate::parse_rows::{ARRAYS, SECTIONS};
@@ -74,7 +74,7 @@ pub const QUESTION: Token = Token::Mark(Mark::Question);
 
 pub const COLON: Token = Token::Mark(Mark::Colon);
 
-/// How many items a unit has, or its fault's line.
+/// How many items a unit has, or its fault's offset.
 #[derive(Clone, Copy, Debug, PartialEq, Eq)]
 pub enum Answer {
     Items(usize),
@@ -86,8 +86,8 @@ pub enum Answer {
 pub fn answer_to(alloc: Global, tokens: &[Lexeme]) -> Answer {
     match parse(alloc, tokens) {
         Ok(program) => Answer::Items(program.items.len()),
-        Err(ParseFault::Syntax(line)) => Answer::Syntax(line),
-        Err(ParseFault::TooDeep(line)) => Answer::TooDeep(line),
+        Err(ParseFault::Syntax(offset)) => Answer::Syntax(offset),
+        Err(ParseFault::TooDeep(offset)) => Answer::TooDeep(offset),
         Err(ParseFault::Memory) => Answer::Memory,
     }
 }
@@ -108,8 +108,8 @@ fn form_of(alloc: Global, token: Token) -> Result<Form, AllocError> {
 pub fn add(alloc: Global, list: &mut Vec<Lexeme>, tokens: &[Token]) -> Result<(), Fail> {
     for token in tokens {
         let form = form_of(alloc, *token)?;
-        let line = list.len().min(9_999) as u32 + 1;
-        list.push(Lexeme { line, form })?;
+        let offset = list.len().min(9_999) as u32 + 1;
+        list.push(Lexeme { offset, form })?;
     }
     Ok(())
 }
@@ -117,7 +117,7 @@ pub fn add(alloc: Global, list: &mut Vec<Lexeme>, tokens: &[Token]) -> Result<()
 pub type Row = (&'static [Token], Answer);
 
 const ROWS: &[Row] = &[
-    (&[], Answer::Syntax(1)),
+    (&[], Answer::Syntax(0)),
     (&[Include], Answer::Items(1)),
     (&[SEMICOLON], Answer::Syntax(1)),
     (&[INT, A, SEMICOLON], Answer::Items(1)),
@@ -255,16 +255,16 @@ const WHOLE: &[Token] = &[
 
 fn assert_begin(rt: &impl Abort, alloc: Global, begin: &[Token], want: Answer) -> Result<(), Fail> {
     let list = list_of(alloc, begin)?;
-    let line = begin.len();
-    assert_eq!(rt; answer_to(alloc, &list), want, "after {line} tokens");
+    let count = begin.len();
+    assert_eq!(rt; answer_to(alloc, &list), want, "after {count} tokens");
     Ok(())
 }
 
-/// Each list that `whole` begins with and that is shorter, the empty one on line 1 too.
+/// Each list that `whole` begins with and that is shorter, the empty one at offset 0 too.
 fn assert_begins(rt: &impl Abort, alloc: Global, whole: &[Token]) -> Result<(), Fail> {
     for count in 0..whole.len() {
-        let line = count.min(9_999).max(1) as u32;
-        assert_begin(rt, alloc, &whole[..count], Answer::Syntax(line))?;
+        let offset = count.min(9_999) as u32;
+        assert_begin(rt, alloc, &whole[..count], Answer::Syntax(offset))?;
     }
     Ok(())
 }

@@ -3,7 +3,7 @@
 
 use c_type::TypeFault;
 
-/// An expression, at the line of what it stands in.
+/// An expression, at the offset of what it stands in.
 #[derive(Clone, Copy)]
 pub enum Value {
     Number(u64),
@@ -13,7 +13,7 @@ pub enum Value {
     Element(&'static [u8]),
 }
 
-/// The statement of a body, one line below the function's name.
+/// The statement of a body, one byte behind the function's name.
 #[derive(Clone, Copy)]
 pub enum Body {
     Give(Value),
@@ -22,13 +22,13 @@ pub enum Body {
     Scalar(&'static [u8], Value),
 }
 
-/// An item at its line. A function is of type int and has so many ints, `p`, `q`, .., as parameters.
+/// An item at its offset. A function is of type int and has so many ints, `p`, `q`, .., as parameters.
 #[derive(Clone, Copy)]
 pub enum Item {
     Include(u32),
     Global(u32, &'static [u8], Value),
     Array(u32, &'static [u8], u64),
-    /// An array of one long in braces, one line below its name, with no size.
+    /// An array of one long in braces, one byte behind its name, with no size.
     Open(u32, &'static [u8], Value),
     Prototype(u32, &'static [u8], u8),
     Function(u32, &'static [u8], u8, Body),

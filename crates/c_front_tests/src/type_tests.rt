@@ -11,12 +11,12 @@ use c_type::{TypeFault, type_program};
 use std::alloc::Global;
 use std::process::Abort;
 
-fn number(line: u32, value: u64) -> Expr {
+fn number(offset: u32, value: u64) -> Expr {
     let node = ExprNode::Number {
         value,
         kind: Kind::Int,
     };
-    Expr { line, node }
+    Expr { offset, node }
 }
 
 fn call(alloc: Global, name: &[u8]) -> Result<ExprNode, TypeFault> {
@@ -27,14 +27,14 @@ fn call(alloc: Global, name: &[u8]) -> Result<ExprNode, TypeFault> {
 }
 
 /// The first element of an array.
-fn element(alloc: Global, line: u32, name: &[u8]) -> Result<ExprNode, TypeFault> {
+fn element(alloc: Global, offset: u32, name: &[u8]) -> Result<ExprNode, TypeFault> {
     let array = Word::from_slice(alloc, name)?;
-    let index = Boxed::new(alloc, number(line, 0))?;
+    let index = Boxed::new(alloc, number(offset, 0))?;
     let row = None;
     Ok(ExprNode::Element { array, row, index })
 }
 
-fn expression_node(alloc: Global, line: u32, value: Value) -> Result<ExprNode, TypeFault> {
+fn expression_node(alloc: Global, offset: u32, value: Value) -> Result<ExprNode, TypeFault> {
     match value {
         Value::Number(value) => Ok(ExprNode::Number {
             value,
@@ -42,18 +42,23 @@ fn expression_node(alloc: Global, line: u32, value: Value) -> Result<ExprNode, T
         }),
         Value::Name(name) => Ok(ExprNode::Name(Word::from_slice(alloc, name)?)),
         Value::Call(name) => call(alloc, name),
-        Value::Element(name) => element(alloc, line, name),
+        Value::Element(name) => element(alloc, offset, name),
     }
 }
 
-fn expression(alloc: Global, line: u32, value: Value) -> Result<Boxed<Expr>, TypeFault> {
-    let node = expression_node(alloc, line, value)?;
-    Ok(Boxed::new(alloc, Expr { line, node })?)
+fn expression(alloc: Global, offset: u32, value: Value) -> Result<Boxed<Expr>, TypeFault> {
+    let node = expression_node(alloc, offset, value)?;
+    Ok(Boxed::new(alloc, Expr { offset, node })?)
 }
 
-fn declaration(alloc: Global, line: u32, name: &[u8], init: Value) -> Result<StmtNode, TypeFault> {
+fn declaration(
+    alloc: Global,
+    offset: u32,
+    name: &[u8],
+    init: Value,
+) -> Result<StmtNode, TypeFault> {
     let name = Word::from_slice(alloc, name)?;
-    let init = expression(alloc, line, init)?;
+    let init = expression(alloc, offset, init)?;
     Ok(StmtNode::Declare {
         kind: Kind::Int,
         name,
@@ -62,43 +67,43 @@ fn declaration(alloc: Global, line: u32, name: &[u8], init: Value) -> Result<Stm
     })
 }
 
-fn statement_node(alloc: Global, line: u32, body: Body) -> Result<StmtNode, TypeFault> {
+fn statement_node(alloc: Global, offset: u32, body: Body) -> Result<StmtNode, TypeFault> {
     match body {
-        Body::Give(value) => Ok(StmtNode::Return(Some(expression(alloc, line, value)?))),
+        Body::Give(value) => Ok(StmtNode::Return(Some(expression(alloc, offset, value)?))),
         Body::Leave => Ok(StmtNode::Return(None)),
         Body::Break => Ok(StmtNode::Break),
-        Body::Scalar(name, init) => declaration(alloc, line, name, init),
+        Body::Scalar(name, init) => declaration(alloc, offset, name, init),
     }
 }
 
-fn statement(alloc: Global, line: u32, body: Body) -> Result<Stmt, TypeFault> {
-    let node = statement_node(alloc, line, body)?;
-    Ok(Stmt { line, node })
+fn statement(alloc: Global, offset: u32, body: Body) -> Result<Stmt, TypeFault> {
+    let node = statement_node(alloc, offset, body)?;
+    Ok(Stmt { offset, node })
 }
 
-fn block(alloc: Global, line: u32, body: Body) -> Result<Stmt, TypeFault> {
+fn block(alloc: Global, offset: u32, body: Body) -> Result<Stmt, TypeFault> {
     let mut all = Items::new(alloc);
-    all.push(statement(alloc, line, body)?)?;
+    all.push(statement(alloc, offset, body)?)?;
     Ok(Stmt {
-        line,
+        offset,
         node: StmtNode::Compound(all),
     })
 }
 
-fn param(alloc: Global, line: u32, number: u8) -> Result<Param, TypeFault> {
+fn param(alloc: Global, offset: u32, number: u8) -> Result<Param, TypeFault> {
     let name = Word::from_slice(alloc, &[b'p'.wrapping_add(number)])?;
     Ok(Param {
-        line,
+        offset,
         kind: Kind::Int,
         name: Some(name),
         size: ArraySize::Scalar,
     })
 }
 
-fn params(alloc: Global, line: u32, count: u8) -> Result<Items<Param>, TypeFault> {
+fn params(alloc: Global, offset: u32, count: u8) -> Result<Items<Param>, TypeFault> {
     let mut all = Items::new(alloc);
     for number in 0..count {
-        all.push(param(alloc, line, number)?)?;
+        all.push(param(alloc, offset, number)?)?;
     }
     Ok(all)
 }
@@ -106,20 +111,24 @@ fn params(alloc: Global, line: u32, count: u8) -> Result<Items<Param>, TypeFault
 /// What a function has before its body.
 #[derive(Drop)]
 struct Signature {
-    line: u32,
+    offset: u32,
     name: Word,
     params: Items<Param>,
 }
 
-fn head(alloc: Global, line: u32, name: &[u8], count: u8) -> Result<Signature, TypeFault> {
+fn head(alloc: Global, offset: u32, name: &[u8], count: u8) -> Result<Signature, TypeFault> {
     let name = Word::from_slice(alloc, name)?;
-    let params = params(alloc, line, count)?;
-    Ok(Signature { line, name, params })
+    let params = params(alloc, offset, count)?;
+    Ok(Signature {
+        offset,
+        name,
+        params,
+    })
 }
 
 fn function_of(head: Signature, body: Option<Stmt>) -> Top {
     Top {
-        line: head.line,
+        offset: head.offset,
         node: TopNode::Func {
             result: Some(Kind::Int),
             name: head.name,
@@ -129,32 +138,32 @@ fn function_of(head: Signature, body: Option<Stmt>) -> Top {
     }
 }
 
-fn prototype(alloc: Global, line: u32, name: &[u8], count: u8) -> Result<Top, TypeFault> {
-    let head = head(alloc, line, name, count)?;
+fn prototype(alloc: Global, offset: u32, name: &[u8], count: u8) -> Result<Top, TypeFault> {
+    let head = head(alloc, offset, name, count)?;
     Ok(function_of(head, None))
 }
 
 fn function(
     alloc: Global,
-    line: u32,
+    offset: u32,
     name: &[u8],
     count: u8,
     body: Body,
 ) -> Result<Top, TypeFault> {
-    let head = head(alloc, line, name, count)?;
-    let body = block(alloc, line.wrapping_add(1), body)?;
+    let head = head(alloc, offset, name, count)?;
+    let body = block(alloc, offset.wrapping_add(1), body)?;
     Ok(function_of(head, Some(body)))
 }
 
 fn global_of(
-    line: u32,
+    offset: u32,
     kind: Kind,
     name: Word,
     size: ArraySize,
     init: Items<Items<Boxed<Expr>>>,
 ) -> Top {
     Top {
-        line,
+        offset,
         node: TopNode::Global {
             kind,
             name,
@@ -165,43 +174,47 @@ fn global_of(
 }
 
 /// One list of one value.
-fn values(alloc: Global, line: u32, value: Value) -> Result<Items<Items<Boxed<Expr>>>, TypeFault> {
+fn values(
+    alloc: Global,
+    offset: u32,
+    value: Value,
+) -> Result<Items<Items<Boxed<Expr>>>, TypeFault> {
     let mut all = Items::new(alloc);
-    all.push(expression(alloc, line, value)?)?;
+    all.push(expression(alloc, offset, value)?)?;
     let mut lists = Items::new(alloc);
     lists.push(all)?;
     Ok(lists)
 }
 
-fn scalar(alloc: Global, line: u32, name: &[u8], value: Value) -> Result<Top, TypeFault> {
+fn scalar(alloc: Global, offset: u32, name: &[u8], value: Value) -> Result<Top, TypeFault> {
     let name = Word::from_slice(alloc, name)?;
-    let init = values(alloc, line, value)?;
-    Ok(global_of(line, Kind::Char, name, ArraySize::Scalar, init))
+    let init = values(alloc, offset, value)?;
+    Ok(global_of(offset, Kind::Char, name, ArraySize::Scalar, init))
 }
 
-fn array(alloc: Global, line: u32, name: &[u8], count: u64) -> Result<Top, TypeFault> {
+fn array(alloc: Global, offset: u32, name: &[u8], count: u64) -> Result<Top, TypeFault> {
     let name = Word::from_slice(alloc, name)?;
-    let size = ArraySize::Sized(Boxed::new(alloc, number(line, count))?);
-    Ok(global_of(line, Kind::Char, name, size, Items::new(alloc)))
+    let size = ArraySize::Sized(Boxed::new(alloc, number(offset, count))?);
+    Ok(global_of(offset, Kind::Char, name, size, Items::new(alloc)))
 }
 
-fn open_array(alloc: Global, line: u32, name: &[u8], value: Value) -> Result<Top, TypeFault> {
+fn open_array(alloc: Global, offset: u32, name: &[u8], value: Value) -> Result<Top, TypeFault> {
     let name = Word::from_slice(alloc, name)?;
-    let init = values(alloc, line.wrapping_add(1), value)?;
-    Ok(global_of(line, Kind::Long, name, ArraySize::Open, init))
+    let init = values(alloc, offset.wrapping_add(1), value)?;
+    Ok(global_of(offset, Kind::Long, name, ArraySize::Open, init))
 }
 
 fn item(alloc: Global, item: Item) -> Result<Top, TypeFault> {
     match item {
-        Item::Include(line) => Ok(Top {
-            line,
+        Item::Include(offset) => Ok(Top {
+            offset,
             node: TopNode::Include,
         }),
-        Item::Global(line, name, value) => scalar(alloc, line, name, value),
-        Item::Array(line, name, count) => array(alloc, line, name, count),
-        Item::Open(line, name, value) => open_array(alloc, line, name, value),
-        Item::Prototype(line, name, count) => prototype(alloc, line, name, count),
-        Item::Function(line, name, count, body) => function(alloc, line, name, count, body),
+        Item::Global(offset, name, value) => scalar(alloc, offset, name, value),
+        Item::Array(offset, name, count) => array(alloc, offset, name, count),
+        Item::Open(offset, name, value) => open_array(alloc, offset, name, value),
+        Item::Prototype(offset, name, count) => prototype(alloc, offset, name, count),
+        Item::Function(offset, name, count, body) => function(alloc, offset, name, count, body),
     }
 }
 
@@ -305,7 +318,7 @@ fn plus_zero(alloc: Global, left: Boxed<Expr>) -> Result<Boxed<Expr>, TypeFault>
         left,
         right: Boxed::new(alloc, number(1, 0))?,
     };
-    Ok(Boxed::new(alloc, Expr { line: 1, node })?)
+    Ok(Boxed::new(alloc, Expr { offset: 1, node })?)
 }
 
 /// `0 + 0 + .. + 0`, grouped to the left.
@@ -319,7 +332,7 @@ fn chain(alloc: Global, count: u32) -> Result<Boxed<Expr>, TypeFault> {
 
 fn give(e: Boxed<Expr>) -> Stmt {
     Stmt {
-        line: 1,
+        offset: 1,
         node: StmtNode::Return(Some(e)),
     }
 }

@@ -9,7 +9,7 @@ use Rattle.c_tree.specs.declared.token.Mark.{Mark}
 use Rattle.c_tree.specs.declared.token.Key.{Key}
 use Rattle.c_grammar.specs.Tokens.{Tokens, token, punct, word, May, within}
 use Rattle.c_grammar.specs.Places.{before}
-use Rattle.c_grammar.specs.inside.Parsing.{Stop, Out, and_then, too_deep, tail, line_of, first, is_next}
+use Rattle.c_grammar.specs.inside.Parsing.{Stop, Out, and_then, too_deep, tail, offset_of, first, is_next}
 use Rattle.c_grammar.specs.inside.Parsing.{is_word, expect}
 use Rattle.c_grammar.proofs.Numbers.{mark_is, key_is}
 
@@ -51,14 +51,14 @@ or_right false b e = e
 -- ---- first tokens
 
 -- A punctuator that is found to be next stands at the front.
-pub next_is : (k : Mark) (ts : Tokens) → is_next k ts ≡ true → ts ≡ punct (line_of ts) k ∷ tail ts
+pub next_is : (k : Mark) (ts : Tokens) → is_next k ts ≡ true → ts ≡ punct (offset_of ts) k ∷ tail ts
 next_is k [] e = absurd (false≢true e)
-next_is k (t ∷ ts) e = ap (λ (f : Form). token t.line f ∷ ts) (mark_is k t.form e)
+next_is k (t ∷ ts) e = ap (λ (f : Form). token t.offset f ∷ ts) (mark_is k t.form e)
 
 -- tokens that begin with a keyword are this keyword and what stands behind it
-pub word_is : (k : Key) (ts : Tokens) → is_word k ts ≡ true → ts ≡ word (line_of ts) k ∷ tail ts
+pub word_is : (k : Key) (ts : Tokens) → is_word k ts ≡ true → ts ≡ word (offset_of ts) k ∷ tail ts
 word_is k [] e = absurd (false≢true e)
-word_is k (t ∷ ts) e = ap (λ (f : Form). token t.line f ∷ ts) (key_is k t.form e)
+word_is k (t ∷ ts) e = ap (λ (f : Form). token t.offset f ∷ ts) (key_is k t.form e)
 
 -- the tokens behind the first are no more than all
 pub tail_short : (ts : Tokens) → length (tail ts) ≤ length ts

@@ -1,6 +1,6 @@
 -- Statements and declarations at every depth.
-use Rattle.std.proofs.Common.{◌≡◌, ℕ, zero, suc, ◌+◌, Bool, true, false, cond, leb, [], ◌∷◌, Some}
-use Rattle.std.proofs.Common.{None, refl, ◌∙◌, arith}
+use Rattle.std.proofs.Common.{◌≡◌, ℕ, zero, suc, ◌+◌, Bool, true, false, cond, leb, [], ◌∷◌, Some, None}
+use Rattle.std.proofs.Common.{refl, ◌∙◌, arith}
 use Rattle.std.proofs.lemmas.Bool.{false≢true, le-leb}
 use Rattle.c_tree.specs.declared.token.Lexeme.{Lexeme}
 use Rattle.c_tree.specs.declared.token.Mark.TheVariants as mark
@@ -12,20 +12,24 @@ use Rattle.c_tree.specs.declared.tree.StmtNode.TheVariants as node
 use Rattle.c_grammar.specs.Tokens.{Tokens, punct, May}
 use Rattle.c_grammar.specs.Places.{before}
 use Rattle.c_grammar.specs.Types.{Types, unsigned}
-use Rattle.c_grammar.specs.Statements.{at, declared, stmt, inner, Writes, bare, last_decl}
-use Rattle.c_grammar.specs.Statements.{declaration, inner_is, plain}
+use Rattle.c_grammar.specs.Statements.{at, declared, stmt, inner, Writes, bare, last_decl, declaration}
+use Rattle.c_grammar.specs.Statements.{inner_is, plain}
 use Rattle.c_grammar.specs.inside.Parsing.{Out, syntax, too_deep, first}
 use Rattle.c_grammar.specs.inside.ModelTypes.{is_type, begins_type}
 use Rattle.c_grammar.specs.inside.ModelExpressions.{inside}
-use Rattle.c_grammar.specs.inside.ModelStatements.{begins_statement, below_at}
+use Rattle.c_grammar.specs.inside.ModelStatements.{below_at}
+use Rattle.c_grammar.specs.inside.ModelBegins.{begins_statement}
 use Rattle.c_grammar.proofs.Agree.{split_if, if_true, trans_le, stay, Opens, opens, frees_all}
 use Rattle.c_grammar.proofs.Agree.{tied_first, deep}
-use Rattle.c_grammar.proofs.Pieces.{Rel, Sound, read, stuck, Least, always, same_tree, name_first}
+use Rattle.c_grammar.proofs.Pieces.{Rel, Sound, read, stuck, Least, always, same_tree}
+use Rattle.c_grammar.proofs.TokenPieces.{name_first}
 use Rattle.c_grammar.proofs.Levels.{zero_expr, shortest}
 use Rattle.c_grammar.proofs.Inside.{inside_known, not_deeper}
-use Rattle.c_grammar.proofs.Begins.{inner_begins, locals_begin, begins_is, type_alone}
-use Rattle.c_grammar.proofs.StatementParts.{locals_first, locals_piece}
-use Rattle.c_grammar.proofs.Stmts.{pair_tree, closed_off, InnerIs, LocalsIn, stmt_first, Good}
+use Rattle.c_grammar.proofs.Begins.{inner_begins, locals_begin}
+use Rattle.c_grammar.proofs.ShortestStatements.{begins_is, type_alone}
+use Rattle.c_grammar.proofs.LocalDeclarations.{locals_first, locals_piece}
+use Rattle.c_grammar.proofs.StatementSpellings.{pair_tree, closed_off, InnerIs, LocalsIn, stmt_first}
+use Rattle.c_grammar.proofs.StatementSpellings.{Good}
 use Rattle.c_grammar.proofs.Stmts.{stmt_piece}
 
 inner_plain : {may : May} (d : ℕ) (u : Tokens) → may (stmt_first u) (suc d) ≡ true
@@ -82,9 +86,9 @@ barred_inner m d ts =
 
 type_is : (ts : Tokens) → begins_type ts ≡ true
     → (t : Lexeme) × (o : Tokens) × (k : Kind) × (ts ≡ t ∷ o)
-    × ((u : Tokens) → Types t.line k (t ∷ u) u)
+    × ((u : Tokens) → Types t.offset k (t ∷ u) u)
 type_is [] e = absurd (false≢true e)
-type_is (t ∷ o) e = let a = type_alone t.line t.form e in (t, o, a.0, refl, a.1)
+type_is (t ∷ o) e = let a = type_alone t.offset t.form e in (t, o, a.0, refl, a.1)
 
 barred_locals : (m d : ℕ) (ts : Tokens) → Sound same_tree (LocalsIn d) always m ts
     (cond (begins_type ts) (too_deep ts) (syntax ts))

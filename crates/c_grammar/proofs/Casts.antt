@@ -1,6 +1,6 @@
 -- Casts: they are told from groups by the token behind the parenthesis.
-use Rattle.std.proofs.Common.{◌≡◌, ℕ, suc, Bool, true, false, cond, ◌∷◌, length, Ok, refl, sym, ap}
-use Rattle.std.proofs.Common.{◌∙◌, subst, arith}
+use Rattle.std.proofs.Common.{◌≡◌, ℕ, suc, Bool, true, false, cond, ◌∷◌, length, Ok, refl, sym, ap, ◌∙◌}
+use Rattle.std.proofs.Common.{subst, arith}
 use Rattle.c_tree.specs.declared.token.Mark.TheVariants as mark
 use Rattle.c_tree.specs.declared.token.Kind.TheVariants as kind
 use Rattle.c_tree.specs.declared.tree.Expr.{Expr}
@@ -9,24 +9,28 @@ use Rattle.c_grammar.specs.Tokens.{Tokens, punct, May}
 use Rattle.c_grammar.specs.Types.{Types, unsigned}
 use Rattle.c_grammar.specs.Operators.{at}
 use Rattle.c_grammar.specs.Expressions.{expr, Spells, number, name, group, element, call, suffix}
-use Rattle.c_grammar.specs.Expressions.{row_element}
-use Rattle.c_grammar.specs.Expressions.{prefix, cast, join, choice, assign, up}
+use Rattle.c_grammar.specs.Expressions.{row_element, prefix, cast, join, choice, assign, up}
 use Rattle.c_grammar.specs.inside.Numbers.{is_mark}
-use Rattle.c_grammar.specs.inside.Parsing.{Out, and_then, syntax, too_deep, tail, line_of, is_next, expect}
+use Rattle.c_grammar.specs.inside.Parsing.{Out, and_then, syntax, too_deep, tail, offset_of, is_next}
+use Rattle.c_grammar.specs.inside.Parsing.{expect}
 use Rattle.c_grammar.specs.inside.ModelTypes.{is_type, begins_type, type_of}
-use Rattle.c_grammar.specs.inside.ModelExpressions.{Nested, is_cast, group_of, primary_of, postfix_of}
-use Rattle.c_grammar.specs.inside.ModelExpressions.{unary_of, cast_in, cast_of, suffixes}
+use Rattle.c_grammar.specs.inside.ModelExpressions.{is_cast, postfix_of, unary_of, cast_in, cast_of}
+use Rattle.c_grammar.specs.inside.ModelExpressions.{suffixes}
+use Rattle.c_grammar.specs.inside.ModelDepth.{Nested}
+use Rattle.c_grammar.specs.inside.ModelPrimaries.{group_of, primary_of}
 use Rattle.c_grammar.proofs.Agree.{split_if, next_is, if_true, if_false, place, Tied, at_cut, alike}
-use Rattle.c_grammar.proofs.Agree.{tied_first, Brief, short_then, short_if, Lands, past, deep}
-use Rattle.c_grammar.proofs.Agree.{lands_by}
+use Rattle.c_grammar.proofs.Agree.{tied_first, Brief, short_then, short_if, Lands, past, deep, lands_by}
 use Rattle.c_grammar.proofs.Pieces.{Rel, Sound, Then, always, any, Piece, seq, done, Done, turn}
-use Rattle.c_grammar.proofs.Pieces.{ends_with, same_tree, sound_short, Is, mark_piece, OpenIs}
-use Rattle.c_grammar.proofs.Pieces.{opening}
+use Rattle.c_grammar.proofs.Pieces.{ends_with, same_tree, sound_short}
+use Rattle.c_grammar.proofs.TokenPieces.{Is, mark_piece}
+use Rattle.c_grammar.proofs.DepthPieces.{OpenIs, opening}
 use Rattle.c_grammar.proofs.Types.{TypeIs, type_piece, type_first, types_begin}
 use Rattle.c_grammar.proofs.Stops.{Stops, lower, below_joins}
 use Rattle.c_grammar.proofs.Levels.{zero_expr, zero_first, shortest, unary_no_cast, paren_opens}
 use Rattle.c_grammar.proofs.Joins.{Level, ends_at, expr_here, SuffixesOf, suffixes_piece}
-use Rattle.c_grammar.proofs.Expressions.{Deeper, group_rest, unary_piece}
+use Rattle.c_grammar.proofs.Expressions.{unary_piece}
+use Rattle.c_grammar.proofs.OneDeeper.{Deeper}
+use Rattle.c_grammar.proofs.Primaries.{group_rest}
 
 module _ (m d : ℕ) (nested : Nested) (known : Deeper nested m d) where
   abbrev CastRest : ℕ → Rel Expr
@@ -79,7 +83,7 @@ module _ (m d : ℕ) (nested : Nested) (known : Deeper nested m d) where
   -- ---- where the last token that agrees is the parenthesis, either way lands
 
   abbrev enter_by : Bool → Tokens → Out ℕ
-  enter_by b ts = cond (is_next mark.LeftParen ts) (cond b (Ok (line_of ts, tail ts)) (too_deep ts))
+  enter_by b ts = cond (is_next mark.LeftParen ts) (cond b (Ok (offset_of ts, tail ts)) (too_deep ts))
       (syntax ts)
 
   cast_barred : nested.allowed ≡ false → (l : ℕ) (g : Tokens)
@@ -210,7 +214,7 @@ module _ (m d : ℕ) (nested : Nested) (known : Deeper nested m d) where
       (no_paren f (tied_first cut g g' (is_mark mark.LeftParen) tied ∙ h))
   unary_by_first cut g g' may e f' t' x s f tied true h =
       let i = next_is mark.LeftParen f' h in
-      let l = line_of f' in
+      let l = offset_of f' in
       let x' = subst (λ (u : Tokens). Spells may (expr 2 e) d u t') i x in
       at_paren cut g g' (λ u. Lands cut g g' may m (cast_of nested u) (λ to. Ok (e, to)) t') l
       (tail f') f (subst (λ (u : Tokens). Tied cut g g' f u) i tied)

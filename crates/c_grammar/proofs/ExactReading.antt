@@ -1,19 +1,19 @@
 -- A part that reads up to the end accepts exactly what is spelled, and stops exactly where the
 -- fault stands.
-use Rattle.std.proofs.Common.{◌≡◌, ℕ, suc, ◌<◌, Bool, true, false, leb, ◌||◌, [], ◌∷◌, ◌++◌, length}
-use Rattle.std.proofs.Common.{Ok, Err, refl, sym, ap, ◌∙◌, subst, append_assoc, arith}
-use Rattle.std.proofs.Common.{length-append}
+use Rattle.std.proofs.Common.{◌≡◌, ℕ, suc, ◌<◌, Bool, true, false, leb, ◌||◌, [], ◌∷◌, ◌++◌, length, Ok}
+use Rattle.std.proofs.Common.{Err, refl, sym, ap, ◌∙◌, subst, append_assoc, arith, length-append}
 use Rattle.std.proofs.lemmas.Bool.{false≢true, leb-true, le-leb}
 use Rattle.c_tree.specs.declared.token.Lexeme.{Lexeme}
 use Rattle.c_grammar.specs.Tokens.{Tokens, May, within}
 use Rattle.c_grammar.specs.inside.Parsing.{Stop, Out, too_deep}
-use Rattle.c_grammar.specs.Places.{StartsWithin, StartsBut, FaultAt, StartsLate, before, late, any_depth}
+use Rattle.c_grammar.specs.Places.{StartsWithin, StartsBut, FaultAt, StartsLate, before, late}
+use Rattle.c_grammar.specs.Places.{any_depth}
 use Rattle.c_grammar.specs.inside.Places.{Exact}
 use Rattle.c_grammar.specs.Accepted.{Spelled}
 use Rattle.c_grammar.specs.inside.Places.{settle, settle_stop}
 use Rattle.c_grammar.proofs.Agree.{place, Tied, end, at_cut, alike, Lands, good, past, deep}
 use Rattle.c_grammar.proofs.Pieces.{Rel, Open, Sound, read, stuck, any, Piece, same_tree}
-use Rattle.c_grammar.proofs.Lists.{at_end}
+use Rattle.c_grammar.proofs.EndedLists.{at_end}
 use Rattle.c_grammar.proofs.Late.{Passes}
 
 tie : (front : Tokens) (t : Lexeme) (g g' : Tokens)

@@ -9,25 +9,27 @@ use Rattle.c_grammar.specs.Tokens.{Tokens, punct, May}
 use Rattle.c_grammar.specs.Operators.{at, Assigner, assigner_mark, assigner_op}
 use Rattle.c_grammar.specs.inside.Operators.{binary_level}
 use Rattle.c_grammar.specs.Expressions.{expr, Spells, number, name, group, element, call, suffix}
-use Rattle.c_grammar.specs.Expressions.{row_element}
-use Rattle.c_grammar.specs.Expressions.{prefix, cast, join, choice, assign, up}
+use Rattle.c_grammar.specs.Expressions.{row_element, prefix, cast, join, choice, assign, up}
 use Rattle.c_grammar.specs.inside.Numbers.{is_mark}
 use Rattle.c_grammar.specs.inside.Parsing.{and_then, is_next, expect}
-use Rattle.c_grammar.specs.inside.ModelExpressions.{Nested, assigner_for, is_unary, seen, loop, binary_of}
-use Rattle.c_grammar.specs.inside.ModelExpressions.{chosen_of, choice_from, conditional_of, assigned_of}
-use Rattle.c_grammar.specs.inside.ModelExpressions.{assign_from, assignment_of, expression_of, inside}
+use Rattle.c_grammar.specs.inside.ModelExpressions.{loop, binary_of, chosen_of, choice_from}
+use Rattle.c_grammar.specs.inside.ModelExpressions.{conditional_of, assigned_of, assign_from}
+use Rattle.c_grammar.specs.inside.ModelExpressions.{assignment_of, expression_of, inside}
+use Rattle.c_grammar.specs.inside.ModelDepth.{Nested}
+use Rattle.c_grammar.specs.inside.ModelOperators.{assigner_for, is_unary, seen}
 use Rattle.c_grammar.proofs.Agree.{is_false}
 use Rattle.c_grammar.proofs.Pieces.{Rel, Then, always, any, Piece, seq, done, Done, iff, turn}
-use Rattle.c_grammar.proofs.Pieces.{ends_with, same_tree, Either, this, that, either_of, Is}
-use Rattle.c_grammar.proofs.Pieces.{mark_piece, OpenIs, opening}
+use Rattle.c_grammar.proofs.Pieces.{ends_with, same_tree, Either, this, that, either_of}
+use Rattle.c_grammar.proofs.TokenPieces.{Is, mark_piece}
+use Rattle.c_grammar.proofs.DepthPieces.{OpenIs, opening}
 use Rattle.c_grammar.proofs.Stops.{Stops, lower, not_next, mark_stops, assigner_for_self}
-use Rattle.c_grammar.proofs.Stops.{assigner_unary, assigner_none, bind_assigner, Joining}
-use Rattle.c_grammar.proofs.Stops.{below_joins}
+use Rattle.c_grammar.proofs.Stops.{assigner_unary, assigner_none, bind_assigner, Joining, below_joins}
 use Rattle.c_grammar.proofs.Levels.{zero_token, zero_expr, zero_first, shortest, as_conditional}
 use Rattle.c_grammar.proofs.Levels.{unary_is, unary_only}
 use Rattle.c_grammar.proofs.Joins.{Level, ends_at, expr_here, joins_to, joins_from, joins_piece}
 use Rattle.c_grammar.proofs.Joins.{joins_meets}
-use Rattle.c_grammar.proofs.Expressions.{Deeper, Among, by, plain, among, unary_piece}
+use Rattle.c_grammar.proofs.Expressions.{unary_piece}
+use Rattle.c_grammar.proofs.OneDeeper.{Deeper, Among, by, plain, among}
 use Rattle.c_grammar.proofs.Casts.{cast_piece}
 
 -- the levels of binary operators count from the level of casts on
@@ -69,7 +71,7 @@ module _ (m d : ℕ) (nested : Nested) (known : Deeper nested m d) where
   ChosenIs a =
       Then (OpenIs mark.Question d) (λ k. Then (Level 16 (suc d))
       (λ b. Then (Is mark.Colon) (λ k'. Then (Level 14 (suc d))
-      (λ c. Done (at a.line (node.Choice a b c))))))
+      (λ c. Done (at a.offset (node.Choice a b c))))))
 
   chosen_piece : (a : Expr) → Piece same_tree (ChosenIs a) any always (ends_at 14)
       (λ t. punct 0 mark.Question ∷ zero_token ∷ punct 0 mark.Colon ∷ zero_token ∷ t) m
@@ -78,11 +80,11 @@ module _ (m d : ℕ) (nested : Nested) (known : Deeper nested m d) where
   chosen_piece a =
       opening same_tree (λ k. Then (Level 16 (suc d))
       (λ b. Then (Is mark.Colon) (λ k'. Then (Level 14 (suc d))
-      (λ c. Done (at a.line (node.Choice a b c)))))) always (ends_at 14)
+      (λ c. Done (at a.offset (node.Choice a b c)))))) always (ends_at 14)
       (λ t. zero_token ∷ punct 0 mark.Colon ∷ zero_token ∷ t) m d mark.Question _
       (λ t. omega arith)
       (λ k may t fr fr'. (
-        at a.line (node.Choice a zero_expr zero_expr),
+        at a.offset (node.Choice a zero_expr zero_expr),
         (
           zero_expr,
           punct 0 mark.Colon ∷ zero_token ∷ t,
@@ -92,11 +94,11 @@ module _ (m d : ℕ) (nested : Nested) (known : Deeper nested m d) where
       )) nested known.reach
       (λ h k. seq (λ b ts. and_then (expect mark.Colon ts)
       (λ _ ts. and_then (nested.conditional ts)
-      (λ c ts. expr_here (at a.line (node.Choice a b c)) ts))) (known.expression_in h)
+      (λ c ts. expr_here (at a.offset (node.Choice a b c)) ts))) (known.expression_in h)
       (λ b. seq (λ _ ts. and_then (nested.conditional ts)
-      (λ c ts. expr_here (at a.line (node.Choice a b c)) ts)) (mark_piece mark.Colon m)
-      (λ k'. seq (λ c ts. expr_here (at a.line (node.Choice a b c)) ts) (known.conditional_in h)
-      (λ c. done same_tree (at a.line (node.Choice a b c)) m (λ t h. tt)) (λ t. omega arith)
+      (λ c ts. expr_here (at a.offset (node.Choice a b c)) ts)) (mark_piece mark.Colon m)
+      (λ k'. seq (λ c ts. expr_here (at a.offset (node.Choice a b c)) ts) (known.conditional_in h)
+      (λ c. done same_tree (at a.offset (node.Choice a b c)) m (λ t h. tt)) (λ t. omega arith)
       (λ may x y u t r s. subst (Stops 14) (sym r.1) s))
       (λ t. omega arith) (λ may x y u t r s. tt))
       (λ t. omega arith) (λ may x y u t r s. mark_stops 16 mark.Colon (omega arith) r.0 r.1 u r.2))
@@ -164,7 +166,7 @@ module _ (m d : ℕ) (nested : Nested) (known : Deeper nested m d) where
 
   abbrev AssignedIs : Expr → Assigner → Rel Expr
   AssignedIs a s = Then (OpenIs (assigner_mark s) d)
-      (λ k. Then (Level 15 (suc d)) (λ b. Done (at a.line (node.Assign (assigner_op s) a b))))
+      (λ k. Then (Level 15 (suc d)) (λ b. Done (at a.offset (node.Assign (assigner_op s) a b))))
 
   assigned_piece : (a : Expr) (s : Assigner)
       → Piece same_tree (AssignedIs a s) any always (ends_at 15)
@@ -172,14 +174,14 @@ module _ (m d : ℕ) (nested : Nested) (known : Deeper nested m d) where
   unfolding assigned_of
   assigned_piece a s =
       opening same_tree (λ k. Then (Level 15 (suc d))
-      (λ b. Done (at a.line (node.Assign (assigner_op s) a b)))) always
+      (λ b. Done (at a.offset (node.Assign (assigner_op s) a b)))) always
       (ends_at 15) zero_first m d (assigner_mark s) _ (λ t. omega arith)
       (λ k may t fr fr'. (
-        at a.line (node.Assign (assigner_op s) a zero_expr),
+        at a.offset (node.Assign (assigner_op s) a zero_expr),
         (zero_expr, t, shortest 15, (refl, refl)),
       )) nested known.reach
-      (λ h k. seq (λ b ts. expr_here (at a.line (node.Assign (assigner_op s) a b)) ts)
-      (known.assignment_in h) (λ b. done same_tree (at a.line (node.Assign (assigner_op s) a b)) m
+      (λ h k. seq (λ b ts. expr_here (at a.offset (node.Assign (assigner_op s) a b)) ts)
+      (known.assignment_in h) (λ b. done same_tree (at a.offset (node.Assign (assigner_op s) a b)) m
       (λ t h. tt)) (λ t. omega arith) (λ may x y u t r e. subst (Stops 15) (sym r.1) e))
 
   abbrev AssignsTo : Expr → Assigner → Rel Expr

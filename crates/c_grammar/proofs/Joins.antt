@@ -9,8 +9,9 @@ use Rattle.c_grammar.specs.Operators.{suffixed}
 use Rattle.c_grammar.specs.Expressions.{expr, Spells, number, name, group, element, call, suffix}
 use Rattle.c_grammar.specs.Expressions.{row_element}
 use Rattle.c_grammar.specs.Expressions.{prefix, cast, join, choice, assign, up}
-use Rattle.c_grammar.specs.inside.Parsing.{Out, and_then, tail, line_of}
-use Rattle.c_grammar.specs.inside.ModelExpressions.{joiner, suffix_of, seen, loop, suffixes}
+use Rattle.c_grammar.specs.inside.Parsing.{Out, and_then, tail, offset_of}
+use Rattle.c_grammar.specs.inside.ModelExpressions.{loop, suffixes}
+use Rattle.c_grammar.specs.inside.ModelOperators.{joiner, suffix_of, seen}
 use Rattle.c_grammar.proofs.Agree.{stay, place, Tied, at_cut, alike, head_step, Lands, good, past}
 use Rattle.c_grammar.proofs.Agree.{lands_by, bind_lands}
 use Rattle.c_grammar.proofs.Pieces.{Rel, Sound, read, Then, always, any, Piece, seq_sound}
@@ -121,7 +122,7 @@ module _ (m d k : ℕ) (inner : Tokens → Out Expr)
   joins_sound (suc n) a ts =
       by_step (Sound same_tree (JoinsFrom d k a) always m ts) (seen (joiner k) ts) _ _
       (λ e. read a ts (record { put = λ u. u; way = stay; is = refl; again = λ may w u. over }) tt)
-      (λ j e. prepend (punct (line_of ts) (joiner_mark j)) ts
+      (λ j e. prepend (punct (offset_of ts) (joiner_mark j)) ts
       (seen_is (joiner k) joiner_mark (λ f j e. (joiner_is k f j e).0) ts j e)
       (λ may r f t q. on j (joiner_below k ts j e) q.2 q.3)
       (turn_sound n a j (joins_sound n) (tail ts)))
@@ -257,7 +258,7 @@ module _ (m : ℕ) where
   suffixes_sound (suc n) a ts =
       by_step (Sound same_tree (SuffixesOf a) always m ts) (seen suffix_of ts) _ _
       (λ e. read a ts (record { put = λ u. u; way = stay; is = refl; again = λ may w u. over' }) tt)
-      (λ s e. prepend (punct (line_of ts) (suffix_mark s)) ts
+      (λ s e. prepend (punct (offset_of ts) (suffix_mark s)) ts
       (seen_is suffix_of suffix_mark suffix_is ts s e) (λ may r f t q. on' s q)
       (suffixes_sound n (suffixed s a) (tail ts)))
 

@@ -11,7 +11,7 @@ use Rattle.c_grammar.specs.Units as u
 use Rattle.c_grammar.proofs.Types.{types_shorter}
 use Rattle.c_grammar.proofs.Levels.{spells_shorter}
 use Rattle.c_grammar.proofs.Begins.{writes_shorter}
-use Rattle.c_grammar.proofs.Units.{units_shorter}
+use Rattle.c_grammar.proofs.UnitLengths.{units_shorter}
 
 -- what one test lets pass that stands before a place, another one does
 abbrev pub Passes : May → May → ℕ → Type 0

@@ -22,8 +22,9 @@ use Rattle.c_grammar.specs.Expressions.{join, choice, assign, up}
 use Rattle.c_grammar.specs.inside.Numbers.{is_mark}
 use Rattle.c_grammar.specs.inside.Parsing.{first, is_next}
 use Rattle.c_grammar.specs.inside.ModelTypes.{is_type, begins_type}
-use Rattle.c_grammar.specs.inside.ModelExpressions.{is_unary_node, is_unary, is_cast}
-use Rattle.c_grammar.specs.inside.ModelStatements.{begins_expression}
+use Rattle.c_grammar.specs.inside.ModelExpressions.{is_cast}
+use Rattle.c_grammar.specs.inside.ModelOperators.{is_unary_node, is_unary}
+use Rattle.c_grammar.specs.inside.ModelBegins.{begins_expression}
 use Rattle.c_grammar.proofs.Numbers.{mark_is}
 use Rattle.c_grammar.proofs.Agree.{apart}
 use Rattle.c_grammar.proofs.Stops.{below_joins}

@@ -12,7 +12,7 @@ use Rattle.c_grammar.specs.inside.ModelUnits.{unit_of}
 use Rattle.c_grammar.specs.Places.{Starts, StartsWithin, SyntaxAt, EndsEarly, DeepAt, FaultAt}
 use Rattle.c_grammar.specs.Places.{before, late, any_depth}
 use Rattle.c_grammar.specs.inside.Places.{Exact, settle}
-use Rattle.c_grammar.specs.Answers.{last_line, HasSyntaxFault, wrong_token, too_short, IsTooDeep, opener}
+use Rattle.c_grammar.specs.Answers.{last_offset, HasSyntaxFault, wrong_token, too_short, IsTooDeep, opener}
 use Rattle.c_grammar.specs.inside.Answers.{Answer}
 use Rattle.c_grammar.specs.inside.Answers.{tree, syntax, too_deep, Answers, OneAnswer}
 use Rattle.c_grammar.specs.Accepted.{limit, UnitIs, IsUnit}
@@ -212,14 +212,14 @@ module _ (tokens : Tokens) where
   not_both _ _ (wrong_token s) (opener s') = syntax_no_deep s s'
   not_both _ _ (too_short e) (opener s') = s'.not_early e
 
-  one_line : (l l' : ℕ) → HasSyntaxFault tokens l → HasSyntaxFault tokens l' → l ≡ l'
-  one_line _ _ (wrong_token s) (wrong_token s') = ap (λ (t : Lexeme). t.line) (syntax_once s s')
-  one_line _ _ (wrong_token s) (too_short e) = absurd (syntax_no_early s e)
-  one_line _ _ (too_short e) (wrong_token s) = absurd (syntax_no_early s e)
-  one_line _ _ (too_short e) (too_short e') = refl
+  one_offset : (l l' : ℕ) → HasSyntaxFault tokens l → HasSyntaxFault tokens l' → l ≡ l'
+  one_offset _ _ (wrong_token s) (wrong_token s') = ap (λ (t : Lexeme). t.offset) (syntax_once s s')
+  one_offset _ _ (wrong_token s) (too_short e) = absurd (syntax_no_early s e)
+  one_offset _ _ (too_short e) (wrong_token s) = absurd (syntax_no_early s e)
+  one_offset _ _ (too_short e) (too_short e') = refl
 
   one_depth : (l l' : ℕ) → IsTooDeep tokens l → IsTooDeep tokens l' → l ≡ l'
-  one_depth _ _ (opener s) (opener s') = ap (λ (t : Lexeme). t.line) (deep_once s s')
+  one_depth _ _ (opener s) (opener s') = ap (λ (t : Lexeme). t.offset) (deep_once s s')
 
   -- two answers to the same tokens are one
   pub same_answer : (a b : Answer) → Answers tokens a → Answers tokens b → b ≡ a
@@ -228,7 +228,7 @@ module _ (tokens : Tokens) where
   same_answer (tree xs) (syntax l) r s = absurd (no_fault xs l r s)
   same_answer (tree xs) (too_deep l) r s = absurd (no_depth xs l r s)
   same_answer (syntax l) (tree xs) r s = absurd (no_fault xs l s r)
-  same_answer (syntax l) (syntax l') r s = ap (λ (k : ℕ). syntax k) (one_line l' l s r)
+  same_answer (syntax l) (syntax l') r s = ap (λ (k : ℕ). syntax k) (one_offset l' l s r)
   same_answer (syntax l) (too_deep l') r s = absurd (not_both l l' r s)
   same_answer (too_deep l) (tree xs) r s = absurd (no_depth xs l s r)
   same_answer (too_deep l) (syntax l') r s = absurd (not_both l' l s r)
@@ -240,10 +240,10 @@ answer_of tokens (Ok p) = tree p.0
 answer_of tokens (Err s) = fault s.deep s.rest
   where
     fault : Bool → Tokens → Answer
-    fault false [] = syntax (last_line tokens)
-    fault false (t ∷ back) = syntax t.line
+    fault false [] = syntax (last_offset tokens)
+    fault false (t ∷ back) = syntax t.offset
     fault true [] = syntax 0
-    fault true (t ∷ back) = too_deep t.line
+    fault true (t ∷ back) = too_deep t.offset
 
 fault_answers : (tokens : Tokens) (deep : Bool) (rest : Tokens)
     → FaultAt UnitIs limit tokens deep rest

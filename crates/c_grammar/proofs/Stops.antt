@@ -18,10 +18,10 @@ use Rattle.c_grammar.specs.Operators.{Joiner, op, comma, joiner_mark, below, Pre
 use Rattle.c_grammar.specs.Operators.{decrease, prefix_mark, Suffix, increased, decreased}
 use Rattle.c_grammar.specs.Operators.{suffix_mark, Assigner, simple, compound, assigner_mark}
 use Rattle.c_grammar.specs.inside.Numbers.{is_mark}
-use Rattle.c_grammar.specs.inside.Parsing.{by_option, tail, line_of, is_next}
-use Rattle.c_grammar.specs.inside.ModelExpressions.{joiner_of, marked_joiner, if_below, joiner, prefix_of}
-use Rattle.c_grammar.specs.inside.ModelExpressions.{suffix_of, holding, assigner_with}
-use Rattle.c_grammar.specs.inside.ModelExpressions.{assigner_of, assigner_for, is_unary, seen}
+use Rattle.c_grammar.specs.inside.Parsing.{by_option, tail, offset_of, is_next}
+use Rattle.c_grammar.specs.inside.ModelOperators.{joiner_of, marked_joiner, if_below, joiner, prefix_of}
+use Rattle.c_grammar.specs.inside.ModelOperators.{suffix_of, holding, assigner_with, assigner_of}
+use Rattle.c_grammar.specs.inside.ModelOperators.{assigner_for, is_unary, seen}
 use Rattle.c_grammar.proofs.Numbers.{mark_is}
 use Rattle.c_grammar.proofs.Agree.{split_if, is_false, if_true, Tied, end, at_cut, alike}
 
@@ -100,9 +100,9 @@ tied_seen f (alike t x) = refl
 -- where a look at a form knows marks only, tokens of which it sees one begin with its mark
 pub seen_is : {A : Type 0} (look : Form → Option A) (k : A → Mark)
     → ((f : Form) (a : A) → look f ≡ Some a → f ≡ form.Mark (k a)) → (ts : Tokens) (a : A)
-    → seen look ts ≡ Some a → ts ≡ punct (line_of ts) (k a) ∷ tail ts
+    → seen look ts ≡ Some a → ts ≡ punct (offset_of ts) (k a) ∷ tail ts
 seen_is look k h [] a e = absurd cc
-seen_is look k h (t ∷ ts) a e = ap (λ (f : Form). token t.line f ∷ ts) (h t.form a e)
+seen_is look k h (t ∷ ts) a e = ap (λ (f : Form). token t.offset f ∷ ts) (h t.form a e)
 
 -- A choice by what is there is its first leg where nothing is.
 pub by_none : {A B : Type 0} (o : Option A) (x : B) (f : A → B) → o ≡ None → by_option o x f ≡ x

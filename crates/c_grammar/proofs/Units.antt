@@ -1,6 +1,6 @@
--- Translation units.
-use Rattle.std.proofs.Common.{◌≡◌, ℕ, suc, ◌+◌, ◌<◌, ◌≤◌, Bool, true, false, List, [], ◌∷◌, length}
-use Rattle.std.proofs.Common.{Option, Some, None, Ok, refl, sym, ap, ◌∙◌, subst, arith}
+-- Translation units, item by item.
+use Rattle.std.proofs.Common.{◌≡◌, ℕ, suc, ◌+◌, Bool, true, false, List, [], ◌∷◌, length, Option, Some}
+use Rattle.std.proofs.Common.{None, Ok, refl, sym, ap, ◌∙◌, subst, arith}
 use Rattle.std.proofs.lemmas.Bool.{false≢true}
 use Rattle.c_tree.specs.declared.token.Form.{Form}
 use Rattle.c_tree.specs.declared.token.Form.TheVariants as form
@@ -9,112 +9,46 @@ use Rattle.c_tree.specs.declared.token.Key.TheVariants as key
 use Rattle.c_tree.specs.declared.token.Kind.{Kind}
 use Rattle.c_tree.specs.declared.tree.Expr.{Expr}
 use Rattle.c_tree.specs.declared.tree.ArraySize.{ArraySize}
-use Rattle.c_tree.specs.declared.tree.Param.{Param}
 use Rattle.c_tree.specs.declared.tree.Stmt.{Stmt}
-use Rattle.c_tree.specs.declared.tree.StmtNode.TheVariants as node
 use Rattle.c_tree.specs.declared.tree.Top.{Top}
 use Rattle.c_tree.specs.declared.tree.TopNode.TheVariants as tops
 use Rattle.c_grammar.specs.Tokens.{Tokens, token, punct, word, named, May}
 use Rattle.c_grammar.specs.Types.{Types}
-use Rattle.c_grammar.specs.Statements.{Writes, entries}
 use Rattle.c_grammar.specs.Statements as s
-use Rattle.c_grammar.specs.Units.{at, global, function, Phrase, Units, shape, globals, label}
-use Rattle.c_grammar.specs.Units.{brackets, params, result, func, item, unit, no_size, some_size}
-use Rattle.c_grammar.specs.Units.{last_row, last_row_comma, next_row, rows_sized, rows_filled}
-use Rattle.c_grammar.specs.Units.{two_brackets}
-use Rattle.c_grammar.specs.Units.{last_value, last_comma, next_value, bare, valued, sized, filled}
-use Rattle.c_grammar.specs.Units.{last_global, next_global, unlabelled, labelled, no_brackets}
-use Rattle.c_grammar.specs.Units.{some_brackets, param_is, no_params, void_params, some_params}
-use Rattle.c_grammar.specs.Units.{last_param, next_param, void, typed, prototype, definition}
-use Rattle.c_grammar.specs.Units.{include, a_function, some_globals, last_item, next_item}
+use Rattle.c_grammar.specs.Units.{at, global, Units, shape, globals, result, func, item, unit}
+use Rattle.c_grammar.specs.Units.{rows_sized, rows_filled, bare, valued, sized, filled, last_global}
+use Rattle.c_grammar.specs.Units.{next_global, void, typed, include, a_function, some_globals}
+use Rattle.c_grammar.specs.Units.{last_item, next_item}
 use Rattle.c_grammar.specs.inside.Numbers.{is_mark, is_key}
-use Rattle.c_grammar.specs.inside.Parsing.{Out, and_then, tail, line_of, first, is_next, is_word, name_of}
-use Rattle.c_grammar.specs.inside.Parsing.{to_end}
+use Rattle.c_grammar.specs.inside.Parsing.{Out, and_then, tail, offset_of, first, is_next, is_word}
+use Rattle.c_grammar.specs.inside.Parsing.{name_of, to_end}
 use Rattle.c_grammar.specs.inside.ModelTypes.{is_type, begins_type}
-use Rattle.c_grammar.specs.inside.ModelExpressions.{Nested, inside}
+use Rattle.c_grammar.specs.inside.ModelExpressions.{inside}
+use Rattle.c_grammar.specs.inside.ModelDepth.{Nested}
 use Rattle.c_grammar.specs.inside.ModelStatements.{below_at, compound_of}
-use Rattle.c_grammar.specs.inside.ModelUnits.{is_include, include_of, params_of, defined_of, declared_of}
-use Rattle.c_grammar.specs.inside.ModelUnits.{rest_of, func_of, after_name, void_item_of, typed_item_of}
-use Rattle.c_grammar.specs.inside.ModelUnits.{item_of, unit_of}
-use Rattle.c_grammar.proofs.Agree.{split_if, apart, stay, one, Tied, head_step, Lands, good, past}
-use Rattle.c_grammar.proofs.Agree.{fine}
-use Rattle.c_grammar.proofs.Pieces.{Rel, Sound, read, stuck, Then, always, any, Piece, seq, done}
-use Rattle.c_grammar.proofs.Pieces.{Done, iff, ends_with, same_tree, Either, this, that, either_of}
-use Rattle.c_grammar.proofs.Pieces.{Is, mark_piece, IsWord, word_piece, Named, name_piece}
-use Rattle.c_grammar.proofs.Pieces.{name_first}
-use Rattle.c_grammar.proofs.Lists.{Tail, ends, trails, goes, at_end, EndTail, end_here, goes_on}
-use Rattle.c_grammar.proofs.Lists.{to_end_piece}
-use Rattle.c_grammar.proofs.Types.{TypeIs, type_piece, type_first, types_begin, types_shorter}
-use Rattle.c_grammar.proofs.Levels.{spells_shorter}
-use Rattle.c_grammar.proofs.Expressions.{Deeper}
+use Rattle.c_grammar.specs.inside.ModelUnits.{is_include, include_of, func_of, after_name, void_item_of}
+use Rattle.c_grammar.specs.inside.ModelUnits.{typed_item_of, item_of, unit_of}
+use Rattle.c_grammar.proofs.Agree.{split_if, apart, stay, one, Tied, head_step, Lands, good, past, fine}
+use Rattle.c_grammar.proofs.Pieces.{Rel, Sound, read, stuck, Then, always, any, Piece, seq, iff}
+use Rattle.c_grammar.proofs.Pieces.{same_tree, Either, this, that, either_of}
+use Rattle.c_grammar.proofs.TokenPieces.{IsWord, word_piece, Named, name_piece, name_first}
+use Rattle.c_grammar.proofs.Lists.{Tail, ends, trails, goes}
+use Rattle.c_grammar.proofs.EndedLists.{at_end, EndTail, end_here, goes_on, to_end_piece}
+use Rattle.c_grammar.proofs.Types.{TypeIs, type_piece, type_first, types_begin}
+use Rattle.c_grammar.proofs.OneDeeper.{Deeper}
 use Rattle.c_grammar.proofs.Inside.{inside_known}
-use Rattle.c_grammar.proofs.Begins.{type_no_word, writes_shorter}
-use Rattle.c_grammar.proofs.Stmts.{BodyIs, body_piece}
+use Rattle.c_grammar.proofs.Begins.{type_no_word}
+use Rattle.c_grammar.proofs.StatementSpellings.{BodyIs}
+use Rattle.c_grammar.proofs.SimplePieces.{body_piece}
 use Rattle.c_grammar.proofs.Below.{below_good}
-use Rattle.c_grammar.proofs.Globals.{GlobalsAre, GlobalsFrom, globals_piece, ParamsAre}
-use Rattle.c_grammar.proofs.Globals.{params_piece}
-
--- ---- lengths
-
--- what stands behind a name, a parameter's name and its brackets may be nothing
-abbrev pub Takes : Phrase → Tokens → Tokens → Type 0
-Takes (shape s) f t = length t ≤ length f
-Takes (label l n) f t = length t ≤ length f
-Takes (brackets a) f t = length t ≤ length f
-Takes _ f t = length t < length f
-
--- each phrase of a unit takes a token at least; a shape, a label and brackets maybe none
-pub units_shorter : {may : May} {p : Phrase} {f t : Tokens} → Units may p f t → Takes p f t
-units_shorter no_size = omega arith
-units_shorter (some_size x) = let h = spells_shorter x in omega arith
-units_shorter (last_value x) = let h = spells_shorter x in omega arith
-units_shorter (last_comma x) = let h = spells_shorter x in omega arith
-units_shorter (next_value x y) = let h = spells_shorter x in let i = units_shorter y in omega arith
-units_shorter (last_row x) = let h = units_shorter x in omega arith
-units_shorter (last_row_comma x) = let h = units_shorter x in omega arith
-units_shorter (next_row x y) = let h = units_shorter x in let i = units_shorter y in omega arith
-units_shorter bare = omega arith
-units_shorter (valued x) = let h = spells_shorter x in omega arith
-units_shorter (sized x) = let h = units_shorter x in omega arith
-units_shorter (filled x y) = let h = units_shorter x in let i = units_shorter y in omega arith
-units_shorter (rows_sized x y) = let h = units_shorter x in let i = spells_shorter y in omega arith
-units_shorter (rows_filled x y z) =
-    let h = units_shorter x in let i = spells_shorter y in let j = units_shorter z in omega arith
-units_shorter (last_global x) = let h = units_shorter x in omega arith
-units_shorter (next_global x y) = let h = units_shorter x in let i = units_shorter y in omega arith
-units_shorter unlabelled = omega arith
-units_shorter labelled = omega arith
-units_shorter no_brackets = omega arith
-units_shorter (some_brackets x) = let h = units_shorter x in omega arith
-units_shorter (two_brackets x y) = let h = units_shorter x in let i = spells_shorter y in omega arith
-units_shorter (param_is x y z) =
-    let h = types_shorter x in let i = units_shorter y in let j = units_shorter z in omega arith
-units_shorter no_params = omega arith
-units_shorter void_params = omega arith
-units_shorter (some_params x) = units_shorter x
-units_shorter (last_param x) = let h = units_shorter x in omega arith
-units_shorter (next_param x y) = let h = units_shorter x in let i = units_shorter y in omega arith
-units_shorter void = omega arith
-units_shorter (typed x) = types_shorter x
-units_shorter (prototype x) = let h = units_shorter x in omega arith
-units_shorter (definition x y) = let h = units_shorter x in let i = writes_shorter y in omega arith
-units_shorter include = omega arith
-units_shorter (a_function x y) = let h = units_shorter x in let i = units_shorter y in omega arith
-units_shorter (some_globals x y) = let h = types_shorter x in let i = units_shorter y in omega arith
-units_shorter (last_item x) = units_shorter x
-units_shorter (next_item x y) = let h = units_shorter x in let i = units_shorter y in omega arith
-
--- ---- items
-
-abbrev top_here : Top → Tokens → Out Top
-top_here x t = Ok (x, t)
-
-abbrev tops_here : List Top → Tokens → Out (List Top)
-tops_here x t = Ok (x, t)
+use Rattle.c_grammar.proofs.Globals.{GlobalsAre, GlobalsFrom, globals_piece}
+use Rattle.c_grammar.proofs.UnitLengths.{units_shorter}
+use Rattle.c_grammar.proofs.FunctionItems
 
 abbrev ItemIs : Rel (List Top)
 ItemIs may xs f t = Units may (item xs) f t
 
+-- the spelling of a translation unit
 abbrev pub UnitIs : Rel (List Top)
 UnitIs may xs f t = Units may (unit xs) f t
 
@@ -127,9 +61,9 @@ include_form form.Include e = refl
 include_form _ e = absurd (false≢true e)
 
 include_next : (ts : Tokens) → first is_include ts ≡ true
-    → ts ≡ token (line_of ts) form.Include ∷ tail ts
+    → ts ≡ token (offset_of ts) form.Include ∷ tail ts
 include_next [] e = absurd (false≢true e)
-include_next (t ∷ ts) e = ap (λ (f : Form). token t.line f ∷ ts) (include_form t.form e)
+include_next (t ∷ ts) e = ap (λ (f : Form). token t.offset f ∷ ts) (include_form t.form e)
 
 include_piece : (m : ℕ) → Piece same_tree IncludeIs any always always
     (λ t. token 0 form.Include ∷ t) m include_of
@@ -140,9 +74,9 @@ include_piece m =
       least = λ may t fr fr'. (at 0 tops.Include ∷ [], include_is);
       sound = λ ts h.
           split_if (Sound same_tree IncludeIs always m ts) (first is_include ts) _ _
-          (λ e. read (at (line_of ts) tops.Include ∷ []) (tail ts)
+          (λ e. read (at (offset_of ts) tops.Include ∷ []) (tail ts)
           (record {
-            put = λ u. token (line_of ts) form.Include ∷ u;
+            put = λ u. token (offset_of ts) form.Include ∷ u;
             way = one _;
             is = include_next ts e;
             again = λ may w u. include_is;
@@ -171,59 +105,21 @@ include_piece m =
 module _ (m : ℕ) (nested : Nested) (known : Deeper nested m 0) (body : Tokens → Out Stmt)
     (body_known : Piece same_tree (BodyIs 1) any always always
     (λ t. punct 0 mark.LeftBrace ∷ punct 0 mark.RightBrace ∷ t) m body) where
-  abbrev DefinedIs : Option Kind → ℕ → List ℕ → List Param → Rel Top
-  DefinedIs r l w ps = Then (BodyIs 1) (λ b. Done (function l r w ps (Some b)))
-
-  abbrev DeclaredIs : Option Kind → ℕ → List ℕ → List Param → Rel Top
-  DeclaredIs r l w ps = Then (Is mark.Semicolon) (λ k. Done (function l r w ps None))
-
-  abbrev RestIs : Option Kind → ℕ → List ℕ → List Param → Rel Top
-  RestIs r l w ps = Either (DefinedIs r l w ps) (DeclaredIs r l w ps)
-
-  defined_piece : (r : Option Kind) (l : ℕ) (w : List ℕ) (ps : List Param)
-      → Piece same_tree (DefinedIs r l w ps) any always always
-      (λ t. punct 0 mark.LeftBrace ∷ punct 0 mark.RightBrace ∷ t) m (defined_of nested body r l w ps)
-  unfolding defined_of
-  defined_piece r l w ps = seq (λ b ts. top_here (function l r w ps (Some b)) ts) body_known
-      (λ b. done same_tree (function l r w ps (Some b)) m (λ t h. tt)) (λ t. omega arith)
-      (λ may x y u t r h. tt)
-
-  declared_piece : (r : Option Kind) (l : ℕ) (w : List ℕ) (ps : List Param)
-      → Piece same_tree (DeclaredIs r l w ps) any always always (λ t. punct 0 mark.Semicolon ∷ t) m
-      (declared_of nested body r l w ps)
-  unfolding declared_of
-  declared_piece r l w ps = seq (λ _ ts. top_here (function l r w ps None) ts)
-      (mark_piece mark.Semicolon m) (λ k. done same_tree (function l r w ps None) m (λ t h. tt))
-      (λ t. omega arith) (λ may x y u t r h. tt)
-
-  rest_piece : (r : Option Kind) (l : ℕ) (w : List ℕ) (ps : List Param)
-      → Piece same_tree (RestIs r l w ps) any always always (λ t. punct 0 mark.Semicolon ∷ t) m
-      (rest_of nested body r l w ps)
-  unfolding rest_of
-  rest_piece r l w ps =
-      either_of (is_mark mark.LeftBrace) (defined_piece r l w ps) (declared_piece r l w ps)
-      (λ may x f t q. ap (is_next mark.LeftBrace) q.2.2)
-      (λ may x f t q e. ap (is_next mark.LeftBrace) q.2)
-
   abbrev FuncIs : Option Kind → ℕ → List ℕ → Rel (List Top)
-  FuncIs r l w = Then (Is mark.LeftParen)
-      (λ k. Then ParamsAre (λ ps. Then (RestIs r l w ps) (λ x. Done (x ∷ []))))
+  FuncIs = FunctionItems.FuncIs m nested known body body_known
 
-  func_piece : (r : Option Kind) (l : ℕ) (w : List ℕ)
-      → Piece same_tree (FuncIs r l w) any always always
-      (λ t. punct 0 mark.LeftParen ∷ type_first
-      (punct 0 mark.RightParen ∷ punct 0 mark.Semicolon ∷ t)) m (func_of nested body r l w)
-  unfolding func_of
-  func_piece r l w =
-      seq (λ _ ts. and_then (params_of nested ts)
-      (λ ps ts. and_then (rest_of nested body r l w ps ts) (λ x ts. tops_here (x ∷ []) ts)))
-      (mark_piece mark.LeftParen m)
-      (λ k. seq (λ ps ts. and_then (rest_of nested body r l w ps ts)
-      (λ x ts. tops_here (x ∷ []) ts)) (params_piece m nested known)
-      (λ ps. seq (λ x ts. tops_here (x ∷ []) ts) (rest_piece r l w ps)
-      (λ x. done same_tree (x ∷ []) m (λ t h. tt)) (λ t. omega arith) (λ may x y u t r h. tt))
-      (λ t. omega arith) (λ may x y u t r h. tt))
-      (λ t. omega arith) (λ may x y u t r h. tt)
+  abbrev func_piece : (r : Option Kind) (l : ℕ) (w : List ℕ)
+      → Piece same_tree (FuncIs r l w) any always always (λ t. punct 0 mark.LeftParen ∷ type_first (punct 0
+      mark.RightParen ∷ punct 0 mark.Semicolon ∷ t)) m (func_of nested body r l w)
+  func_piece = FunctionItems.func_piece m nested known body body_known
+
+  abbrev func_to : (may : May) (r : Option Kind) (l : ℕ) (w : List ℕ) (xs : List Top) (f t : Tokens)
+      → FuncIs r l w may xs f t → (x : Top) × (x ∷ [] ≡ xs) × Units may (func r x) (named l w ∷ f) t
+  func_to = FunctionItems.func_to m nested known body body_known
+
+  abbrev func_from : (may : May) (r : Option Kind) (x : Top) (f t : Tokens) → Units may (func r x) f t
+      → (n : ℕ × List ℕ) × (u : Tokens) × (f ≡ named n.0 n.1 ∷ u) × FuncIs r n.0 n.1 may (x ∷ []) u t
+  func_from = FunctionItems.func_from m nested known body body_known
 
   abbrev AfterName : Kind → ℕ → List ℕ → Rel (List Top)
   AfterName k l w = Either (FuncIs (Some k) l w) (GlobalsFrom m nested known k l w)
@@ -282,34 +178,6 @@ module _ (m : ℕ) (nested : Nested) (known : Deeper nested m 0) (body : Tokens 
   abbrev ItemChain : Rel (List Top)
   ItemChain = Either IncludeIs (Either VoidItem TypedItem)
 
-  rest_to : (may : May) (k : ℕ) (r : Option Kind) (l : ℕ) (w : List ℕ) (ps : List Param) (x : Top)
-      (f u t : Tokens) → Units may (params ps) f u → RestIs r l w ps may x u t
-      → Units may (func r x) (named l w ∷ punct k mark.LeftParen ∷ f) t
-  rest_to may k r l w ps x f u t p (this q) =
-      let b = q.2 in let e = b.3 in
-      ends_with (λ x t. Units may (func r x) (named l w ∷ punct k mark.LeftParen ∷ f) t)
-      (subst (λ (c : Stmt). Units may (func r (function l r w ps (Some c)))
-      (named l w ∷ punct k mark.LeftParen ∷ f) q.1) (e.3.0)
-      (subst (λ (v : Tokens). Units may (func r
-      (function l r w ps (Some (s.at b.0 (node.Compound e.0)))))
-      (named l w ∷ punct k mark.LeftParen ∷ f) v) (e.3.1)
-      (definition (subst (λ (u : Tokens). Units may (params ps) f u) b.2 p) e.2)))
-      q.3
-  rest_to may k r l w ps x f u t p (that q) =
-      ends_with (λ x t. Units may (func r x) (named l w ∷ punct k mark.LeftParen ∷ f) t)
-      (prototype (subst (λ (u : Tokens). Units may (params ps) f u) q.2 p)) q.3
-
-  func_to : (may : May) (r : Option Kind) (l : ℕ) (w : List ℕ) (xs : List Top) (f t : Tokens)
-      → FuncIs r l w may xs f t → (x : Top) × (x ∷ [] ≡ xs) × Units may (func r x) (named l w ∷ f) t
-  func_to may r l w xs f t q =
-      let p = q.3 in let x = p.3 in (
-        x.0,
-        x.3.0,
-        subst (λ (t : Tokens). Units may (func r x.0) (named l w ∷ f) t) x.3.1
-            (subst (λ (f : Tokens). Units may (func r x.0) (named l w ∷ f) x.1) (sym q.2)
-            (rest_to may q.0 r l w p.0 x.0 q.1 p.1 x.1 p.2 x.2)),
-      )
-
   globals_are : (may : May) (k : Kind) (l : ℕ) (w : List ℕ) (h : ArraySize × List (List Expr))
       (gs : List Top) (v u t : Tokens) → Units may (shape h) v u
       → Tail (GlobalsAre k) mark.Semicolon false (global l k w h) may gs u t
@@ -334,52 +202,6 @@ module _ (m : ℕ) (nested : Nested) (known : Deeper nested m 0) (body : Tokens 
           let x = func_to may (Some k) l w xs v t q in
           subst (λ (xs : List Top). ItemIs may xs f t) x.1 (a_function (typed y) x.2)
       typed_to l' k l w v y (that q) = some_globals y (globals_are may k l w q.0 xs v q.1 t q.2 q.3)
-
-  func_from : (may : May) (r : Option Kind) (x : Top) (f t : Tokens) → Units may (func r x) f t
-      → (n : ℕ × List ℕ) × (u : Tokens) × (f ≡ named n.0 n.1 ∷ u) × FuncIs r n.0 n.1 may (x ∷ []) u t
-  func_from may r _ _ t (prototype {l = l} {k = k} {k' = k'} {w = w} {ps = ps} {m = v} x) = (
-    (l, w),
-    punct k mark.LeftParen ∷ v,
-    refl,
-    (
-      k,
-      v,
-      refl,
-      (
-        ps,
-        punct k' mark.Semicolon ∷ t,
-        x,
-        (function l r w ps None, t, that (k', t, refl, (refl, refl)), (refl, refl)),
-      ),
-    ),
-  )
-  func_from may r _ _ t (definition {l = l} {k = k} {k' = k'} {w = w} {ps = ps} {ss = ss} {m = v}
-      {m' = v'} x z) = (
-        (l, w),
-        punct k mark.LeftParen ∷ v,
-        refl,
-        (
-          k,
-          v,
-          refl,
-          (
-            ps,
-            punct k' mark.LeftBrace ∷ v',
-            x,
-            (
-              function l r w ps (Some (s.at k' (node.Compound ss))),
-              t,
-              this (
-                s.at k' (node.Compound ss),
-                t,
-                (k', v', refl, (ss, t, z, (refl, refl))),
-                (refl, refl),
-              ),
-              (refl, refl),
-            ),
-          ),
-        ),
-      )
 
   func_item : (may : May) (r : Option Kind) (x : Top) (f u t : Tokens) → Units may (result r) f u
       → Units may (func r x) u t → ItemChain may (x ∷ []) f t
@@ -458,6 +280,7 @@ module _ (m : ℕ) (nested : Nested) (known : Deeper nested m 0) (body : Tokens 
       no_include may xs f t (this q) e = ap (first is_include) q.2
       no_include may xs f t (that q) e = type_no_include f (types_begin q.2)
 
+  -- the parser of items up to the end is sound and complete
   pub items_piece : Piece same_tree UnitIs any at_end at_end item_first m
       (λ ts. to_end (item_of nested body) (suc (length ts)) ts)
   items_piece = to_end_piece ItemIs UnitIs item_first m (item_of nested body) item_piece to from

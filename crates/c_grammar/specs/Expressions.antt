@@ -84,13 +84,13 @@ pub data Spells (may : May) : Phrase → ℕ → Tokens → Tokens → Type 0 wh
       → may (punct k mark.Question ∷ m) (suc d) ≡ true
       → Spells may (expr expression b) (suc d) m (punct k' mark.Colon ∷ m')
       → Spells may (expr conditional c) (suc d) m' t
-      → Spells may (expr conditional (at a.line (node.Choice a b c))) d f t
+      → Spells may (expr conditional (at a.offset (node.Choice a b c))) d f t
   -- 6.5.16
   assign : {k d : ℕ} {a b : Expr} {f m t : Tokens} → (s : Assigner)
       → Spells may (expr 2 a) d f (punct k (assigner_mark s) ∷ m)
       → may (punct k (assigner_mark s) ∷ m) (suc d) ≡ true
       → Spells may (expr assignment b) (suc d) m t
-      → Spells may (expr assignment (at a.line (node.Assign (assigner_op s) a b))) d f t
+      → Spells may (expr assignment (at a.offset (node.Assign (assigner_op s) a b))) d f t
   -- an expression of a level is one of each looser level
   up : {n d : ℕ} {e : Expr} {f t : Tokens} → Spells may (expr n e) d f t
       → Spells may (expr (suc n) e) d f t

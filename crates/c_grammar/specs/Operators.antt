@@ -32,9 +32,9 @@ assignment = 15
 abbrev pub expression : ℕ
 expression = 16
 
--- the expression of a line and a node
+-- the expression of an offset and a node
 abbrev pub at : ℕ → ExprNode → Expr
-at l n = record { line = l; node = n }
+at l n = record { offset = l; node = n }
 
 -- what joins two phrases, grouping to the left
 pub data Joiner : Type 0 where
@@ -53,8 +53,8 @@ below comma = 15
 
 -- two expressions joined by an operator
 abbrev pub joined : Joiner → Expr → Expr → Expr
-joined (op o) a b = at a.line (node.Binary o a b)
-joined comma a b = at a.line (node.Comma a b)
+joined (op o) a b = at a.offset (node.Binary o a b)
+joined comma a b = at a.offset (node.Comma a b)
 
 -- what stands before an operand
 pub data Prefix : Type 0 where
@@ -77,7 +77,7 @@ operand_level (sign o) = cast_level
 operand_level increase = unary_level
 operand_level decrease = unary_level
 
--- an expression behind a prefix of that line
+-- an expression behind a prefix of that offset
 abbrev pub prefixed : ℕ → Prefix → Expr → Expr
 prefixed l (sign o) e = at l (node.Unary o e)
 prefixed l increase e = at l (node.Bump bump.PreInc e)
@@ -95,8 +95,8 @@ suffix_mark decreased = mark.MinusMinus
 
 -- an expression before a suffix
 abbrev pub suffixed : Suffix → Expr → Expr
-suffixed increased e = at e.line (node.Bump bump.PostInc e)
-suffixed decreased e = at e.line (node.Bump bump.PostDec e)
+suffixed increased e = at e.offset (node.Bump bump.PostInc e)
+suffixed decreased e = at e.offset (node.Bump bump.PostDec e)
 
 -- the operator of an assignment: none, or one that has a compound assignment
 pub data Assigner : Type 0 where

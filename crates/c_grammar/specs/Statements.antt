@@ -20,9 +20,9 @@ use Rattle.c_grammar.specs.Types.{Types}
 use Rattle.c_grammar.specs.Operators.{conditional, assignment, expression}
 use Rattle.c_grammar.specs.Expressions.{Spells, expr}
 
--- the statement of a line and a node
+-- the statement of an offset and a node
 abbrev pub at : ℕ → StmtNode → Stmt
-at l n = record { line = l; node = n }
+at l n = record { offset = l; node = n }
 
 -- a size and an initial value
 abbrev pub Shape : Type 0
@@ -47,9 +47,9 @@ abbrev pub for_init : Option Expr → ForInit
 for_init None = first.Nothing
 for_init (Some e) = first.First e
 
--- the label of a line, with the constant of a case or with none
+-- the label of an offset, with the constant of a case or with none
 abbrev pub labelled : ℕ → Option Expr → Label
-labelled l v = record { line = l; value = v }
+labelled l v = record { offset = l; value = v }
 
 -- the section of some labels and statements
 abbrev pub sectioned : List Label → List Stmt → Section
@@ -136,7 +136,7 @@ pub data Writes (may : May) : Phrase → ℕ → Tokens → Tokens → Type 0 wh
       (punct l mark.Semicolon ∷ t) t
   plain : {k d : ℕ} {e : Expr} {f t : Tokens}
       → Spells may (expr expression e) d f (punct k mark.Semicolon ∷ t)
-      → Writes may (stmt false (at e.line (node.Plain (Some e)))) d f t
+      → Writes may (stmt false (at e.offset (node.Plain (Some e)))) d f t
   -- 6.8.4.1
   if_only : {l d : ℕ} {b : Bool} {c : Expr} {aye : Stmt} {m m' t : Tokens}
       → Writes may (test c) d m m'

@@ -10,9 +10,9 @@ use Rattle.c_tree.specs.declared.token.Key.{Key}
 abbrev pub Tokens : Type 0
 Tokens = List Lexeme
 
--- the token of a line and a form
+-- the token of an offset and a form
 abbrev pub token : ℕ → Form → Lexeme
-token l f = record { line = l; form = f }
+token l f = record { offset = l; form = f }
 
 -- a mark as a token
 abbrev pub punct : ℕ → Mark → Lexeme

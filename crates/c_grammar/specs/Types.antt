@@ -1,4 +1,4 @@
--- The names of types (C17 6.7.2) of the profile, each with the line of its first word.
+-- The names of types (C17 6.7.2) of the profile, each with the offset of its first word.
 use Rattle.std.specs.Prelude.{ℕ, ◌∷◌}
 use Rattle.c_tree.specs.declared.token.Key.TheVariants as key
 use Rattle.c_tree.specs.declared.token.Kind.{Kind}

@@ -20,9 +20,9 @@ use Rattle.c_grammar.specs.Expressions.{Spells, expr}
 use Rattle.c_grammar.specs.Statements as s
 use Rattle.c_grammar.specs.Statements.{Writes, entries}
 
--- the item of a line and a node
+-- the item of an offset and a node
 abbrev pub at : ℕ → TopNode → Top
-at l n = record { line = l; node = n }
+at l n = record { offset = l; node = n }
 
 -- the sizes of a global and the lists of its initial values
 abbrev pub Shape : Type 0
@@ -41,13 +41,13 @@ global l k w s = at l (tops.Global k w s.0 s.1)
 abbrev pub function : ℕ → Option Kind → List ℕ → List Param → Option Stmt → Top
 function l r w ps b = at l (tops.Func r w ps b)
 
--- the line and the name of a parameter
+-- the offset and the name of a parameter
 abbrev pub Label : Type 0
 Label = ℕ × Option (List ℕ)
 
 -- a parameter
 abbrev pub parameter : Label → Kind → ArraySize → Param
-parameter n k a = record { line = n.0; kind = k; name = n.1; size = a }
+parameter n k a = record { offset = n.0; kind = k; name = n.1; size = a }
 
 -- what a part of a unit spells
 pub data Phrase : Type 0 where
@@ -61,7 +61,7 @@ pub data Phrase : Type 0 where
   shape : Shape → Phrase
   -- globals up to the semicolon
   globals : Kind → List Top → Phrase
-  -- a parameter's name or none, behind a type of this line
+  -- a parameter's name or none, behind a type of this offset
   label : ℕ → Label → Phrase
   brackets : ArraySize → Phrase
   param : Param → Phrase

@@ -13,7 +13,7 @@ pub fn one_tree()
     ensures law { OneTree }
 {}
 
-/// Every list of tokens has exactly one answer: its tree, or one of the two faults with one line.
+/// Every list of tokens has exactly one answer: its tree, or one of the two faults at one offset.
 pub fn one_answer()
     ensures law { OneAnswer }
 {}

@@ -13,7 +13,7 @@ use Rattle.c_lex.specs.declared.piece.Reading.{Reading}
 use Rattle.c_lex.specs.declared.piece.Reading.TheVariants as reads
 use Rattle.c_lex.specs.Bytes.{Bytes, by_class, is_space, is_letter, is_word, is_digit, in_number}
 use Rattle.c_lex.specs.Bytes.{not_feed}
-use Rattle.c_lex.specs.Bytes.{at_line_start, line_after}
+use Rattle.c_lex.specs.Bytes.{at_line_start}
 use Rattle.c_lex.specs.inside.Runs.{run_len}
 use Rattle.c_lex.specs.Tables.{lookup, keywords}
 use Rattle.c_lex.specs.inside.Scans.{constant_of, character_of, close_from, mark_of, is_include}
@@ -175,14 +175,14 @@ module _ (n : ℕ) (text before rest : Bytes) (ts : Tokens) (short : length rest
     (onward : Onward n text) where
   -- on behind a piece that adds these tokens
   passed : (p r : Bytes) (q : Reading) (us : Tokens) → Longest (at_line_start before) rest p r q
-      → Grows 8192 (line_after before) q ts us → Answered 8192 text
+      → Grows 8192 (length before) q ts us → Answered 8192 text
   passed p r q us l g =
-      let c = grown text before p r rest (line_after before) q ts us so.cut refl l g so.few in
+      let c = grown text before p r rest (length before) q ts us so.cut refl l g so.few in
       onward (before ++ p) r us (left_over (at_line_start before) rest p r q n l short)
       (record { cut = c.0; few = c.1 })
 
-  stopped : (f : Fault) → FaultAt 8192 text f (line_after before) → Answered 8192 text
-  stopped f x = inr (f, line_after before, x)
+  stopped : (f : Fault) → FaultAt 8192 text f (length before) → Answered 8192 text
+  stopped f x = inr (f, length before, x)
 
   token_at : (p r : Bytes) (f : Form) (t : Bool) → nat_lt (length ts) 8192 ≡ t
       → Longest (at_line_start before) rest p r (reads.Token f) → Answered 8192 text
@@ -199,7 +199,7 @@ module _ (n : ℕ) (text before rest : Bytes) (ts : Tokens) (short : length rest
         cut = so.cut;
         few = so.few;
         stands = one_more (full (length ts) 8192 e so.few) l;
-        line_is = refl;
+        offset_is = refl;
       })
 
   reading_at : (p r : Bytes) (q : Reading) → Longest (at_line_start before) rest p r q → Answered 8192 text
@@ -213,7 +213,7 @@ module _ (n : ℕ) (text before rest : Bytes) (ts : Tokens) (short : length rest
         cut = so.cut;
         few = so.few;
         stands = is_broken l;
-        line_is = refl;
+        offset_is = refl;
       })
 
   piece_at : (rest ≡ [] → ⊥) → Finding (at_line_start before) rest → Answered 8192 text
@@ -225,7 +225,7 @@ module _ (n : ℕ) (text before rest : Bytes) (ts : Tokens) (short : length rest
         cut = so.cut;
         few = so.few;
         stands = no_piece ne x;
-        line_is = refl;
+        offset_is = refl;
       })
   piece_at ne (Some f, x) = reading_at (take f.length rest) (drop f.length rest) f.reading x.front
 

@@ -1,12 +1,12 @@
 -- A token holds no line feed, and its line is not empty after it.
-use Rattle.std.proofs.Common.{◌≡◌, ℕ, Bool, true, false, not, ◌&&◌, inl, inr, [], ◌∷◌, ◌++◌, take}
+use Rattle.std.proofs.Common.{◌≡◌, ◌≤◌, ◌+◌, ℕ, Bool, true, false, not, ◌&&◌, inl, inr, [], ◌∷◌, ◌++◌, length, take}
 use Rattle.std.proofs.Common.{drop, refl, sym, ap, ◌∙◌, subst, arith, nat_eq}
 use Rattle.std.specs.Prelude.{is_some}
 use Rattle.c_tree.specs.declared.Form.{Form}
 use Rattle.c_lex.specs.declared.piece.Reading.{Reading}
 use Rattle.c_lex.specs.declared.piece.Reading.TheVariants as reads
 use Rattle.c_lex.specs.Bytes.{Bytes, Going, Goes, Each, by_class, is_feed, not_feed, is_blank}
-use Rattle.c_lex.specs.Bytes.{is_letter, is_word, is_digit, in_number, feeds, still_empty}
+use Rattle.c_lex.specs.Bytes.{is_letter, is_word, is_digit, in_number, still_empty}
 use Rattle.c_lex.specs.Tables.{marks}
 use Rattle.c_lex.specs.Constants.{Character, plain, escape, octal, hexadecimal, is_digit_in}
 use Rattle.c_lex.specs.Constants.{is_plain, simple}
@@ -15,7 +15,8 @@ use Rattle.c_lex.specs.Pieces.{Piece}
 use Rattle.c_lex.specs.inside.Pieces.{Front}
 use Rattle.c_lex.specs.inside.Turns.{Grows, Place, Moved}
 use Rattle.c_lex.proofs.Basics.{and_left, and_right, not_true, eq_is, true_or_false}
-use Rattle.c_lex.proofs.Runs.{each_any, quiet_feeds, still_full}
+use Rattle.c_lex.proofs.Runs.{each_any, still_full}
+use Rattle.c_lex.proofs.Fronts.{length_run}
 use Rattle.c_lex.proofs.Groups.{all_rows, row_is}
 use Rattle.c_lex.proofs.Lines.{each_append, include_line}
 
@@ -132,31 +133,27 @@ token_quiet {p = p} (piece.include {line = line} s e i) t =
     along p (35 ∷ line) e (refl, (refl, each_any not_feed 0 35 line (include_line line i)))
 token_quiet (piece.other_line s e i n) t = absurd t
 
-no_feeds : (p : Bytes) → Quiet p → feeds p ≡ 0
-no_feeds [] q = absurd q
-no_feeds (b ∷ bs) q = quiet_feeds 0 (b ∷ bs) q.1
-
 no_start : (starts : Bool) (p : Bytes) → Quiet p → still_empty starts p ≡ false
 no_start starts [] q = absurd q
 no_start true (b ∷ bs) q = rw (not_true (is_feed b) q.1.0, q.0) (still_full b bs q.1.1)
 no_start false (b ∷ bs) q = rw (not_true (is_feed b) q.1.0) (still_full b bs q.1.1)
 
--- a token is passed by, and the line stays
+-- a token is passed by
 pub kept : (most : ℕ) (old new : Place) (n : ℕ) (f : Form)
-    → Front old.starts old.rest n (reads.Token f) → new.rest ≡ drop n old.rest → new.line ≡ old.line
-    → new.starts ≡ false
-    → Grows most old.line (reads.Token f) old.tokens new.tokens → Moved most old new
-kept most old new n f x rest line starts grows =
+    → Front old.starts old.rest n (reads.Token f) → n ≤ length old.rest → new.rest ≡ drop n old.rest
+    → new.offset ≡ old.offset + n → new.starts ≡ false
+    → Grows most old.offset (reads.Token f) old.tokens new.tokens → Moved most old new
+kept most old new n f x within rest offset starts grows =
     let p = take n old.rest in
     let quiet : Quiet p = token_quiet x.is tt in
-    let z : feeds p ≡ 0 = no_feeds p quiet in
+    let size : length p ≡ n = length_run n old.rest within in
     let s : still_empty old.starts p ≡ false = no_start old.starts p quiet in
     record {
       piece = p;
       reading = reads.Token f;
       longest = subst (λ (r : Bytes). piece.Longest old.starts old.rest p r (reads.Token f))
           (sym rest) x;
-      line_is = line ∙ (rw z (omega arith));
+      offset_is = omega arith;
       starts_is = starts ∙ sym s;
       grows = grows;
     }

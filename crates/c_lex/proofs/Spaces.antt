@@ -1,14 +1,15 @@
--- A run of spaces is passed by.
+-- Spaces and comments are passed by.
 use Rattle.std.proofs.Common.{◌≡◌, ◌≤◌, length, arith, ℕ, suc, ◌+◌, Bool, true, false, [], ◌∷◌}
 use Rattle.std.proofs.Common.{take}
-use Rattle.std.proofs.Common.{drop, refl, sym, ap, subst, cond}
+use Rattle.std.proofs.Common.{drop, refl, sym, ap, ◌∙◌, subst, cond}
 use Rattle.c_lex.specs.declared.piece.Reading.TheVariants as reads
-use Rattle.c_lex.specs.Bytes.{Bytes, by_class, is_space, feeds, still_empty}
+use Rattle.c_lex.specs.Bytes.{Bytes, by_class, is_space, still_empty}
 use Rattle.c_lex.specs.inside.Runs.{run_len}
+use Rattle.c_lex.specs.inside.Finds.{IsComment}
 use Rattle.c_lex.specs.inside.Spaces.{begins_space, spaces, after_spaces}
 use Rattle.c_lex.specs.Pieces.{Longest}
 use Rattle.c_lex.specs.inside.Turns.{Place, Moved}
-use Rattle.c_lex.proofs.Fronts.{space_front}
+use Rattle.c_lex.proofs.Fronts.{space_front, length_run}
 
 -- the spaces are the longest run, whatever came before
 run_is : (last : ℕ) (bs : Bytes) → spaces bs ≡ take (run_len (by_class is_space) last bs) bs
@@ -37,17 +38,33 @@ spaces_longest starts (b ∷ bs) e =
 
 -- the place behind them
 pub passed : (most : ℕ) (old new : Place) → begins_space old.rest ≡ true
-    → new.line ≡ old.line + feeds (spaces old.rest)
+    → new.offset ≡ old.offset + length (spaces old.rest)
     → new.starts ≡ still_empty old.starts (spaces old.rest)
     → new.rest ≡ after_spaces old.rest → new.tokens ≡ old.tokens → Moved most old new
-passed most old new begins line starts rest tokens =
+passed most old new begins offset starts rest tokens =
     record {
       piece = spaces old.rest;
       reading = reads.Gap;
       longest = subst (λ (r : Bytes). Longest old.starts old.rest (spaces old.rest) r reads.Gap)
           (sym rest) (spaces_longest old.starts old.rest begins);
-      line_is = line;
+      offset_is = offset;
       starts_is = starts;
+      grows = tokens;
+    }
+
+-- the place behind a comment
+pub commented : (most : ℕ) (old new : Place) (n : ℕ) → IsComment old.starts old.rest n
+    → new.rest ≡ drop n old.rest → new.offset ≡ old.offset + n → new.starts ≡ false
+    → new.tokens ≡ old.tokens → Moved most old new
+commented most old new n c rest offset starts tokens =
+    let size : length (take n old.rest) ≡ n = length_run n old.rest c.front.within in
+    record {
+      piece = take n old.rest;
+      reading = reads.Gap;
+      longest = subst (λ (r : Bytes). Longest old.starts old.rest (take n old.rest) r reads.Gap)
+          (sym rest) c.front.front;
+      offset_is = omega arith;
+      starts_is = starts ∙ sym c.filled;
       grows = tokens;
     }
 

@@ -7,9 +7,9 @@ use Rattle.c_lex.specs.Faults.{BadByte, BadLiteral, Unclosed, TooManyTokens, Dir
 
 -- the fault of the text, or want of memory
 abbrev pub Fails : ℕ → Bytes → LexFault → Type 0
-Fails most text (fault.BadByte line) = FaultAt most text BadByte line
-Fails most text (fault.BadLiteral line) = FaultAt most text BadLiteral line
-Fails most text (fault.Unclosed line) = FaultAt most text Unclosed line
-Fails most text (fault.TooManyTokens line) = FaultAt most text TooManyTokens line
-Fails most text (fault.Directive line) = FaultAt most text Directive line
+Fails most text (fault.BadByte offset) = FaultAt most text BadByte offset
+Fails most text (fault.BadLiteral offset) = FaultAt most text BadLiteral offset
+Fails most text (fault.Unclosed offset) = FaultAt most text Unclosed offset
+Fails most text (fault.TooManyTokens offset) = FaultAt most text TooManyTokens offset
+Fails most text (fault.Directive offset) = FaultAt most text Directive offset
 Fails most text fault.Memory = Unit {0}

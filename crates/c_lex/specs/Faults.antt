@@ -1,7 +1,7 @@
 -- Which fault a text has, and where it stands.
 use Rattle.std.specs.Prelude.{◌≡◌, ◌≤◌, ℕ, Bool, [], length}
 use Rattle.c_tree.specs.declared.Form.{Form}
-use Rattle.c_lex.specs.Bytes.{Bytes, line_after, at_line_start}
+use Rattle.c_lex.specs.Bytes.{Bytes, at_line_start}
 use Rattle.c_lex.specs.declared.piece.Broken.{Broken}
 use Rattle.c_lex.specs.declared.piece.Broken.TheVariants as kind
 use Rattle.c_lex.specs.declared.piece.Reading.TheVariants as reads
@@ -36,8 +36,8 @@ pub data Stands (most : ℕ) (count : ℕ) (starts : Bool) (text : Bytes) : Faul
   one_more : {piece rest : Bytes} {f : Form} → count ≡ most
       → Longest starts text piece rest (reads.Token f) → Stands most count starts text TooManyTokens
 
--- The first fault of a text, and its line.
-pub record FaultAt (most : ℕ) (text : Bytes) (fault : Fault) (line : ℕ) : Type 0 where
+-- The first fault of a text, and its offset.
+pub record FaultAt (most : ℕ) (text : Bytes) (fault : Fault) (offset : ℕ) : Type 0 where
   -- those that end before the fault
   pub tokens : Tokens
   -- the text up to the fault
@@ -49,5 +49,4 @@ pub record FaultAt (most : ℕ) (text : Bytes) (fault : Fault) (line : ℕ) : Ty
   pub few : length tokens ≤ most
   -- with these tokens before it
   pub stands : Stands most (length tokens) (at_line_start before) after fault
-  -- one more than the line feeds before it
-  pub line_is : line ≡ line_after before
+  pub offset_is : offset ≡ length before

@@ -7,10 +7,10 @@ use Rattle.c_grammar.specs.Tokens.{Tokens}
 use Rattle.c_grammar.specs.inside.Parsing.{Out, syntax, too_deep}
 use Rattle.c_grammar.specs.inside.ModelUnits.{unit_of}
 use Rattle.c_grammar.specs.inside.Places.{Exact, settle}
-use Rattle.c_grammar.specs.Answers.{last_line, HasSyntaxFault, wrong_token, too_short, opener}
+use Rattle.c_grammar.specs.Answers.{last_offset, HasSyntaxFault, wrong_token, too_short, opener}
 use Rattle.c_grammar.specs.Accepted.{limit, UnitIs, IsUnit}
 use Rattle.c_grammar.proofs.Parsed.{unit_exact}
-use Rattle.c_parse.specs.inside.Parses.{ParseFails, fault_line, depth_fault}
+use Rattle.c_parse.specs.inside.Parses.{ParseFails, fault_offset, depth_fault}
 use Rattle.c_parse.specs.inside.Reads.{Reads}
 use Rattle.c_parse.specs.declared.fault.Stopped.{Stopped}
 use Rattle.c_parse.specs.declared.fault.Stopped.TheVariants as stopped
@@ -27,7 +27,8 @@ is_unit : (tokens rest : Tokens) (xs : List Top) → unit_of 63 tokens ≡ Ok (x
 is_unit tokens rest xs e = (exact_here tokens (Ok (xs, rest)) e).1
 
 -- a stop for syntax is at the first wrong token, or the tokens end too early
-has_fault : (tokens rest : Tokens) → unit_of 63 tokens ≡ syntax rest → HasSyntaxFault tokens (fault_line tokens rest)
+has_fault : (tokens rest : Tokens) → unit_of 63 tokens ≡ syntax rest
+    → HasSyntaxFault tokens (fault_offset tokens rest)
 has_fault tokens [] e = too_short (exact_here tokens (syntax []) e)
 has_fault tokens (t ∷ rest) e = wrong_token (exact_here tokens (syntax (t ∷ rest)) e).1
 
@@ -45,10 +46,10 @@ module _ (tokens rest : Tokens) (r : Result (List Top) Stopped) (reads : Reads (
   answers_unit xs e =
       is_unit tokens rest xs (subst (λ (r : Result (List Top) Stopped). Reads (unit_of 63 tokens) r rest) e reads)
 
-  -- where the model stops at a syntax fault, the tokens have one at the line of the fault
-  pub answers_syntax : (line : ℕ) → r ≡ Err stopped.Syntax → fault_line tokens rest ≡ line
-      → HasSyntaxFault tokens line
-  answers_syntax line e f =
+  -- where the model stops at a syntax fault, the tokens have one at the offset of the fault
+  pub answers_syntax : (offset : ℕ) → r ≡ Err stopped.Syntax → fault_offset tokens rest ≡ offset
+      → HasSyntaxFault tokens offset
+  answers_syntax offset e f =
       subst (HasSyntaxFault tokens) f (has_fault tokens rest
       (subst (λ (r : Result (List Top) Stopped). Reads (unit_of 63 tokens) r rest) e reads))
 
@@ -59,10 +60,10 @@ module _ (tokens rest : Tokens) (r : Result (List Top) Stopped) (reads : Reads (
       subst (ParseFails tokens) f (has_depth_fault tokens rest
       (subst (λ (r : Result (List Top) Stopped). Reads (unit_of 63 tokens) r rest) e reads))
 
--- the last token's line
-pub last_is : (ts : Tokens) (t : Lexeme) → 1 ≤ length ts → t ≡ get_or ts (length ts - 1) t → last_line ts ≡ t.line
+-- the last token's offset
+pub last_is : (ts : Tokens) (t : Lexeme) → 1 ≤ length ts → t ≡ get_or ts (length ts - 1) t → last_offset ts ≡ t.offset
 last_is [] t le e = absurd (omega (arith, le))
-last_is (u ∷ []) t le e = ap (λ (t : Lexeme). t.line) (sym e)
+last_is (u ∷ []) t le e = ap (λ (t : Lexeme). t.offset) (sym e)
 last_is (u ∷ v ∷ ts) t le e =
     let i : length (u ∷ v ∷ ts) - 1 ≡ suc (length (v ∷ ts) - 1) = omega arith in last_is (v ∷ ts) t (omega arith)
     (e ∙ ap (λ (n : ℕ). get_or (u ∷ v ∷ ts) n t) i)

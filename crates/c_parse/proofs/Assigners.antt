@@ -6,7 +6,7 @@ use Rattle.c_tree.specs.Marks.{operator, Holds, held}
 use Rattle.c_tree.specs.ByMark.{assigned_by}
 use Rattle.c_tree.proofs.MarkLemmas.{assigned_is}
 use Rattle.c_grammar.specs.Operators.{Assigner, compound, assigner_mark, assigner_op}
-use Rattle.c_grammar.specs.inside.ModelExpressions.{holding, assigner_with, assigner_by}
+use Rattle.c_grammar.specs.inside.ModelOperators.{holding, assigner_with, assigner_by}
 use Rattle.c_parse.specs.inside.Reads.{IsAssigner}
 
 abbrev one : {A : Type 0} → A → Option A

@@ -8,7 +8,8 @@ use Rattle.c_grammar.specs.Tokens.{Tokens}
 use Rattle.c_grammar.specs.Operators.{op, joined}
 use Rattle.c_grammar.specs.inside.Operators.{binary_level}
 use Rattle.c_grammar.specs.inside.Parsing.{Stop, Out, and_then, tail}
-use Rattle.c_grammar.specs.inside.ModelExpressions.{seen, loop, inside, binary_of, cast_of}
+use Rattle.c_grammar.specs.inside.ModelExpressions.{loop, inside, binary_of, cast_of}
+use Rattle.c_grammar.specs.inside.ModelOperators.{seen}
 use Rattle.c_parse.specs.inside.Reads.{operator_at, joins_by, Outside, Inside, Fails}
 use Rattle.c_parse.specs.inside.Operands.{climb, joined_of}
 use Rattle.c_parse.specs.declared.fault.Stopped.{Stopped}

@@ -2,8 +2,9 @@
 use Rattle.std.proofs.Common.{◌≡◌, ℕ, suc, Bool, true, false, cond, Ok, refl, sym, ap, ◌∙◌}
 use Rattle.c_tree.specs.declared.token.Mark.{Mark}
 use Rattle.c_grammar.specs.Tokens.{Tokens}
-use Rattle.c_grammar.specs.inside.Parsing.{Out, syntax, too_deep, tail, line_of, is_next}
-use Rattle.c_grammar.specs.inside.ModelExpressions.{Nested, enter, inside}
+use Rattle.c_grammar.specs.inside.Parsing.{Out, syntax, too_deep, tail, offset_of, is_next}
+use Rattle.c_grammar.specs.inside.ModelExpressions.{inside}
+use Rattle.c_grammar.specs.inside.ModelDepth.{Nested, enter}
 use Rattle.c_grammar.proofs.Agree.{if_true}
 use Rattle.c_parse.specs.inside.Reads.{opened, Enters}
 
@@ -15,14 +16,14 @@ inside_none : (inside 0).allowed ≡ false
 unfolding inside
 inside_none = refl
 
-abbrev line_here : ℕ → Tokens → Out ℕ
-line_here l ts = Ok (l, ts)
+abbrev offset_here : ℕ → Tokens → Out ℕ
+offset_here l ts = Ok (l, ts)
 
 enter_by : (k : Mark) (n : Nested) (b : Bool) (ts : Tokens) → n.allowed ≡ b → is_next k ts ≡ true
-    → enter k n ts ≡ cond b (line_here (line_of ts) (tail ts)) (too_deep ts)
+    → enter k n ts ≡ cond b (offset_here (offset_of ts) (tail ts)) (too_deep ts)
 enter_by k n b ts e h =
     if_true (is_next k ts) _ (syntax ts) h
-    ∙ ap (λ (b : Bool). cond b (line_here (line_of ts) (tail ts)) (too_deep ts))
+    ∙ ap (λ (b : Bool). cond b (offset_here (offset_of ts) (tail ts)) (too_deep ts))
     e
 
 -- a mark that is there opens a depth where one is left
@@ -33,7 +34,7 @@ enters_ok k left l old new h e t =
       e,
       i,
       enter_by k (inside left) true old (ap (λ (n : Nested). n.allowed) i) h
-          ∙ ap (λ (u : Tokens). line_here (line_of old) u) (sym t),
+          ∙ ap (λ (u : Tokens). offset_here (offset_of old) u) (sym t),
     )
 
 -- a mark that is there is too deep where no depth is left

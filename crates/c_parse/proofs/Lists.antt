@@ -8,13 +8,13 @@ use Rattle.c_tree.specs.declared.token.Mark.{Mark}
 use Rattle.c_tree.specs.declared.token.Mark.TheVariants as mark
 use Rattle.c_tree.specs.declared.tree.Top.{Top}
 use Rattle.c_grammar.specs.Tokens.{Tokens}
-use Rattle.c_grammar.specs.inside.Parsing.{Stop, Out, and_then, syntax, tail, line_of, is_next, expect, listed}
+use Rattle.c_grammar.specs.inside.Parsing.{Stop, Out, and_then, syntax, tail, offset_of, is_next, expect, listed}
 use Rattle.c_grammar.specs.inside.Parsing.{is_end, to_end}
 use Rattle.c_grammar.specs.inside.ModelExpressions.{inside, conditional_of}
 use Rattle.c_grammar.specs.inside.ModelStatements.{below_at, compound_of}
-use Rattle.c_grammar.specs.inside.ModelUnits.{row_of, rows_of}
-use Rattle.c_grammar.specs.inside.ModelUnits.{values_of, global_of, more_globals_of, param_of, param_list_of, item_of}
-use Rattle.c_grammar.specs.inside.ModelUnits.{unit_of}
+use Rattle.c_grammar.specs.inside.ModelGlobals.{row_of, rows_of, values_of, global_of, more_globals_of}
+use Rattle.c_grammar.specs.inside.ModelUnits.{item_of, unit_of}
+use Rattle.c_grammar.specs.inside.ModelParameters.{param_of, param_list_of}
 use Rattle.c_grammar.proofs.Agree.{if_true, if_false}
 use Rattle.c_parse.specs.inside.Reads.{behind, Fails, Puts}
 use Rattle.c_parse.specs.inside.Lists.{global_list_of}
@@ -58,8 +58,8 @@ module _ {A : Type 0} (k : Mark) (run : Tokens → Out A) where
       (λ _ ts. Ok (found ++ x ∷ [], ts))
   trailed_last n n' found x ts mid e h c = rw e (rw h (rw c (by (is_next k mid))))
     where
-      by : (b : Bool) → behind found (and_then (cond b (Ok (line_of mid, tail mid)) (syntax mid))
-          (λ _ ts. Ok (x ∷ [], ts))) ≡ and_then (cond b (Ok (line_of mid, tail mid)) (syntax mid))
+      by : (b : Bool) → behind found (and_then (cond b (Ok (offset_of mid, tail mid)) (syntax mid))
+          (λ _ ts. Ok (x ∷ [], ts))) ≡ and_then (cond b (Ok (offset_of mid, tail mid)) (syntax mid))
           (λ _ ts. Ok (found ++ x ∷ [], ts))
       by true = refl
       by false = refl

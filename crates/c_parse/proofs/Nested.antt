@@ -14,12 +14,13 @@ use Rattle.c_grammar.specs.Tokens.{Tokens}
 use Rattle.c_grammar.specs.inside.Parsing.{Stop, Out, and_then, syntax, too_deep, tail, first, is_next, is_word}
 use Rattle.c_grammar.specs.inside.Parsing.{listed, many, repeated}
 use Rattle.c_grammar.specs.inside.ModelTypes.{begins_type}
-use Rattle.c_grammar.specs.inside.ModelExpressions.{inside, is_name}
-use Rattle.c_grammar.specs.inside.ModelStatements.{begins_statement, decl_of, decls_of, locals_of, entry_of}
-use Rattle.c_grammar.specs.inside.ModelStatements.{entries_of}
+use Rattle.c_grammar.specs.inside.ModelExpressions.{inside}
+use Rattle.c_grammar.specs.inside.ModelPrimaries.{is_name}
+use Rattle.c_grammar.specs.inside.ModelBegins.{begins_statement, begins_label}
+use Rattle.c_grammar.specs.inside.ModelLocals.{decl_of, decls_of, locals_of}
+use Rattle.c_grammar.specs.inside.ModelEntries.{entry_of, entries_of}
 use Rattle.c_grammar.specs.inside.ModelStatements.{stmt_of, simple_of, plain_of, return_of, below_at}
-use Rattle.c_grammar.specs.inside.ModelStatements.{begins_label, label_of, labels_of, body_of, section_of}
-use Rattle.c_grammar.specs.inside.ModelStatements.{sections_of}
+use Rattle.c_grammar.specs.inside.ModelSwitches.{label_of, labels_of, body_of, section_of, sections_of}
 use Rattle.c_grammar.proofs.Numbers.{key_is}
 use Rattle.c_parse.specs.inside.Reads.{behind, Fails}
 use Rattle.c_parse.specs.declared.fault.Stopped.{Stopped}

@@ -11,18 +11,20 @@ use Rattle.c_tree.specs.declared.tree.ExprNode.TheVariants as node
 use Rattle.c_grammar.specs.Tokens.{Tokens}
 use Rattle.c_grammar.specs.Operators.{at, Assigner}
 use Rattle.c_grammar.specs.inside.Parsing.{Out, and_then}
-use Rattle.c_grammar.specs.inside.ModelExpressions.{Nested, inside, suffixes, after_name, named_of}
-use Rattle.c_grammar.specs.inside.ModelExpressions.{primary_of, postfix_of, unary_of, cast_of, choice_from}
-use Rattle.c_grammar.specs.inside.ModelExpressions.{assign_from}
-use Rattle.c_grammar.specs.inside.ModelExpressions.{assigner_for, is_unary, conditional_of, assignment_of}
+use Rattle.c_grammar.specs.inside.ModelExpressions.{inside, suffixes, postfix_of, unary_of, cast_of}
+use Rattle.c_grammar.specs.inside.ModelExpressions.{choice_from, assign_from, conditional_of}
+use Rattle.c_grammar.specs.inside.ModelExpressions.{assignment_of}
+use Rattle.c_grammar.specs.inside.ModelDepth.{Nested}
+use Rattle.c_grammar.specs.inside.ModelPrimaries.{after_name, named_of, primary_of}
+use Rattle.c_grammar.specs.inside.ModelOperators.{assigner_for, is_unary}
 use Rattle.c_parse.specs.inside.Reads.{joins_by}
 use Rattle.c_parse.specs.inside.Operands.{is_atom, ends_atom, is_leaf, leaf_by, leaf_of, closes, is_closed, joined_of}
 use Rattle.c_parse.specs.inside.Operands.{assignment_from}
 use Rattle.c_parse.proofs.Climbs.{then_then, joins, joined_none}
 
--- a token of that line
+-- a token of that offset
 abbrev token : ℕ → Form → Lexeme
-token l f = record { line = l; form = f }
+token l f = record { offset = l; form = f }
 
 -- ---- operands of one token
 
@@ -58,7 +60,7 @@ leaf_alone nested l _ k g ts e = absurd (false≢true e)
 pub leaf_is : (left : ℕ) (ts : Tokens) → is_leaf ts ≡ true → cast_of (inside left) ts ≡ leaf_of ts
 leaf_is left [] e = absurd (false≢true e)
 leaf_is left (t ∷ []) e = absurd (false≢true e)
-leaf_is left (t ∷ u ∷ ts) e = leaf_alone (inside left) t.line t.form u.line u.form ts e
+leaf_is left (t ∷ u ∷ ts) e = leaf_alone (inside left) t.offset t.form u.offset u.form ts e
 
 -- ---- the end of an assignment expression
 
@@ -96,7 +98,7 @@ no_question nested a l _ ts e = absurd (false≢true e)
 pub closed_choice : (left : ℕ) (a : Expr) (ts : Tokens) → is_closed ts ≡ true
     → choice_from (inside left) a ts ≡ Ok (a, ts)
 closed_choice left a [] e = absurd (false≢true e)
-closed_choice left a (t ∷ ts) e = no_question (inside left) a t.line t.form ts e
+closed_choice left a (t ∷ ts) e = no_question (inside left) a t.offset t.form ts e
 
 -- no assignment operator
 abbrev none : Option Assigner

@@ -19,13 +19,14 @@ use Rattle.c_grammar.specs.Operators.{Joiner, op, comma, joiner_mark, joined, be
 use Rattle.c_grammar.specs.inside.Operators.{binary_level}
 use Rattle.c_grammar.specs.Operators.{Assigner, assigner_mark, assigner_op}
 use Rattle.c_grammar.specs.inside.Numbers.{is_mark}
-use Rattle.c_grammar.specs.inside.Parsing.{Stop, Out, and_then, by_option, syntax, tail, line_of, is_next, expect}
+use Rattle.c_grammar.specs.inside.Parsing.{Stop, Out, and_then, by_option, syntax, tail, offset_of, is_next, expect}
 use Rattle.c_grammar.specs.inside.Parsing.{listed}
-use Rattle.c_grammar.specs.inside.ModelExpressions.{joiner, joiner_of, marked_joiner, if_below, seen, loop}
-use Rattle.c_grammar.specs.inside.ModelExpressions.{suffixes, suffix_of}
-use Rattle.c_grammar.specs.inside.ModelExpressions.{assigner_for, assigned_of, assign_from, arg_list_of, inside}
-use Rattle.c_grammar.specs.inside.ModelExpressions.{cast_of}
-use Rattle.c_grammar.specs.inside.ModelExpressions.{binary_of, assignment_of, expression_of, postfix_of, primary_of}
+use Rattle.c_grammar.specs.inside.ModelExpressions.{loop, suffixes, assigned_of, assign_from, inside}
+use Rattle.c_grammar.specs.inside.ModelExpressions.{cast_of, binary_of, assignment_of, expression_of}
+use Rattle.c_grammar.specs.inside.ModelExpressions.{postfix_of}
+use Rattle.c_grammar.specs.inside.ModelOperators.{joiner, joiner_of, marked_joiner, if_below, seen}
+use Rattle.c_grammar.specs.inside.ModelOperators.{suffix_of, assigner_for}
+use Rattle.c_grammar.specs.inside.ModelPrimaries.{arg_list_of, primary_of}
 use Rattle.c_grammar.proofs.Agree.{place}
 use Rattle.c_grammar.proofs.Numbers.{mark_is}
 use Rattle.c_grammar.proofs.Pieces.{same_tree, always, sound_short}
@@ -321,8 +322,8 @@ module _ {A : Type 0} (k : Mark) (run : Tokens → Out A) where
       (λ _ ts. Ok (found ++ x ∷ [], ts))
   listed_last n n' found x ts mid e h c = rw e (rw h (rw c (by (is_next k mid))))
     where
-      by : (b : Bool) → behind found (and_then (cond b (Ok (line_of mid, tail mid)) (syntax mid))
-          (λ _ ts. Ok (x ∷ [], ts))) ≡ and_then (cond b (Ok (line_of mid, tail mid)) (syntax mid))
+      by : (b : Bool) → behind found (and_then (cond b (Ok (offset_of mid, tail mid)) (syntax mid))
+          (λ _ ts. Ok (x ∷ [], ts))) ≡ and_then (cond b (Ok (offset_of mid, tail mid)) (syntax mid))
           (λ _ ts. Ok (found ++ x ∷ [], ts))
       by true = refl
       by false = refl

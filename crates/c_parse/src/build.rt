@@ -9,11 +9,11 @@ use crate::held::Held;
 use base::{Boxed, Items};
 use c_tree::{ArraySize, Expr, ForInit, Section, Stmt, StmtNode};
 
-pub fn if_only(line: u32, test: Boxed<Expr>, yes: Boxed<Stmt>) -> Stmt
-    ensures { result ≡ grammar.at line (node.If test yes None) }
+pub fn if_only(offset: u32, test: Boxed<Expr>, yes: Boxed<Stmt>) -> Stmt
+    ensures { result ≡ grammar.at offset (node.If test yes None) }
 {
     Stmt {
-        line,
+        offset,
         node: StmtNode::If {
             test,
             yes,
@@ -22,11 +22,11 @@ pub fn if_only(line: u32, test: Boxed<Expr>, yes: Boxed<Stmt>) -> Stmt
     }
 }
 
-pub fn if_else(line: u32, test: Boxed<Expr>, yes: Boxed<Stmt>, no: Boxed<Stmt>) -> Stmt
-    ensures { result ≡ grammar.at line (node.If test yes (Some no)) }
+pub fn if_else(offset: u32, test: Boxed<Expr>, yes: Boxed<Stmt>, no: Boxed<Stmt>) -> Stmt
+    ensures { result ≡ grammar.at offset (node.If test yes (Some no)) }
 {
     Stmt {
-        line,
+        offset,
         node: StmtNode::If {
             test,
             yes,
@@ -35,35 +35,35 @@ pub fn if_else(line: u32, test: Boxed<Expr>, yes: Boxed<Stmt>, no: Boxed<Stmt>) 
     }
 }
 
-pub fn while_loop(line: u32, test: Boxed<Expr>, body: Boxed<Stmt>) -> Stmt
-    ensures { result ≡ grammar.at line (node.While test body) }
+pub fn while_loop(offset: u32, test: Boxed<Expr>, body: Boxed<Stmt>) -> Stmt
+    ensures { result ≡ grammar.at offset (node.While test body) }
 {
     Stmt {
-        line,
+        offset,
         node: StmtNode::While { test, body },
     }
 }
 
-pub fn do_loop(line: u32, body: Boxed<Stmt>, test: Boxed<Expr>) -> Stmt
-    ensures { result ≡ grammar.at line (node.Do body test) }
+pub fn do_loop(offset: u32, body: Boxed<Stmt>, test: Boxed<Expr>) -> Stmt
+    ensures { result ≡ grammar.at offset (node.Do body test) }
 {
     Stmt {
-        line,
+        offset,
         node: StmtNode::Do { body, test },
     }
 }
 
 pub fn for_loop(
-    line: u32,
+    offset: u32,
     init: Held<ForInit>,
     test: Held<Option<Boxed<Expr>>>,
     post: Held<Option<Boxed<Expr>>>,
     body: Boxed<Stmt>,
 ) -> Stmt
-    ensures { result ≡ grammar.at line (node.For init test post body) }
+    ensures { result ≡ grammar.at offset (node.For init test post body) }
 {
     Stmt {
-        line,
+        offset,
         node: StmtNode::For {
             init: init.into_inner(),
             test: test.into_inner(),
@@ -73,11 +73,11 @@ pub fn for_loop(
     }
 }
 
-pub fn switch(line: u32, test: Boxed<Expr>, sections: Items<Section>) -> Stmt
-    ensures { result ≡ grammar.at line (node.Switch test sections) }
+pub fn switch(offset: u32, test: Boxed<Expr>, sections: Items<Section>) -> Stmt
+    ensures { result ≡ grammar.at offset (node.Switch test sections) }
 {
     Stmt {
-        line,
+        offset,
         node: StmtNode::Switch { test, sections },
     }
 }

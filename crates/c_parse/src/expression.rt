@@ -2,6 +2,7 @@
 
 ghost use Rattle.std.specs.Prelude.{◌≡◌, ◌≤◌, ◌<◌, length, [], ◌∷◌, MatchOption};
 ghost use Rattle.c_grammar.specs.inside.ModelExpressions as model;
+ghost use Rattle.c_grammar.specs.inside.ModelOperators as operators;
 ghost use Rattle.c_grammar.specs.Operators.{Assigner, assigner_mark, assigner_op};
 ghost use Rattle.c_parse.specs.inside.Operands as operands;
 ghost use Rattle.c_parse.specs.inside.Reads as reads;
@@ -13,9 +14,9 @@ use crate::parser::Parser;
 use base::Boxed;
 use c_tree::{BinaryOp, Expr, ExprNode, Form, Mark, assigned_by, joined_by};
 
-#[tactic(auto, unfolding(c_grammar::specs::inside::ModelExpressions::is_unary))]
+#[tactic(auto, unfolding(c_grammar::specs::inside::ModelOperators::is_unary))]
 fn is_unary(e: &Expr) -> bool
-    ensures { result ≡ model.is_unary e.now }
+    ensures { result ≡ operators.is_unary e.now }
 {
     match &e.node {
         ExprNode::Cast { .. }
@@ -59,7 +60,7 @@ impl Parser<'_> {
     /// The operator that comes next, and how many levels above a cast its right side is.
     #[inline(always)]
     fn operator(&self) -> Option<(u8, BinaryOp)>
-        ensures { result ≡ model.seen joins_by self.now.rest.now }
+        ensures { result ≡ operators.seen joins_by self.now.rest.now }
     {
         match self.rest {
             [] => None,
@@ -156,7 +157,7 @@ impl Parser<'_> {
 
     /// The operator of an assignment to `to` that comes next, with its mark.
     fn assigner(&self, to: &Expr) -> Option<(Mark, Option<BinaryOp>)>
-        ensures { IsAssigner result (model.seen (model.assigner_for to.now) self.now.rest.now) }
+        ensures { IsAssigner result (operators.seen (operators.assigner_for to.now) self.now.rest.now) }
     {
         let [lexeme, ..] = self.rest else {
             return None;
@@ -253,7 +254,7 @@ impl Parser<'_> {
 }
 
 fn assigner_of(form: &Form) -> Option<(Mark, Option<BinaryOp>)>
-    ensures { IsAssigner result (model.assigner_of form.now) }
+    ensures { IsAssigner result (operators.assigner_of form.now) }
 {
     match form {
         Form::Mark(mark) => assigner_by(*mark),
@@ -264,7 +265,7 @@ fn assigner_of(form: &Form) -> Option<(Mark, Option<BinaryOp>)>
 /// The mark with its operator, if it is that of an assignment.
 #[tactic(auto, using(crate::proofs::Assigners::some_assigner, crate::proofs::Assigners::no_assigner))]
 fn assigner_by(mark: Mark) -> Option<(Mark, Option<BinaryOp>)>
-    ensures { IsAssigner result (model.assigner_by mark) }
+    ensures { IsAssigner result (operators.assigner_by mark) }
 {
     match assigned_by(mark) {
         Some(op) => Some((mark, op)),

@@ -5,6 +5,7 @@ ghost use Rattle.c_tree.specs.Limits.{most_nesting};
 ghost use Rattle.c_grammar.specs.inside.ModelExpressions.{inside};
 ghost use Rattle.c_grammar.specs.inside.ModelStatements.{below_at, compound_of};
 ghost use Rattle.c_grammar.specs.inside.ModelUnits as model;
+ghost use Rattle.c_grammar.specs.inside.ModelParameters as parameters;
 ghost use Rattle.c_grammar.specs.inside.Parsing as parsing;
 ghost use Rattle.c_parse.specs.inside.Reads.{Reads, Puts};
 
@@ -14,21 +15,21 @@ use base::Items;
 use c_tree::{ArraySize, Form, Key, Kind, MOST_NESTING, Mark, Param, Top, TopNode, Word};
 
 impl Parser<'_> {
-    /// The name of a parameter, or the line of its type where it has none.
-    #[tactic(auto, unfolding(c_grammar::specs::inside::ModelUnits::label_of))]
-    fn label(&mut self, line: u32) -> Result<(u32, Option<Word>), Stopped>
-        ensures { Reads (model.label_of line self.old.rest.now) result self.new.rest.now }
+    /// The name of a parameter, or the offset of its type where it has none.
+    #[tactic(auto, unfolding(c_grammar::specs::inside::ModelParameters::label_of))]
+    fn label(&mut self, offset: u32) -> Result<(u32, Option<Word>), Stopped>
+        ensures { Reads (parameters.label_of offset self.old.rest.now) result self.new.rest.now }
     {
         if self.is_name() {
-            let (line, name) = self.name()?;
-            return Ok((line, Some(name)));
+            let (offset, name) = self.name()?;
+            return Ok((offset, Some(name)));
         }
-        Ok((line, None))
+        Ok((offset, None))
     }
 
-    #[tactic(auto, unfolding(c_grammar::specs::inside::ModelUnits::brackets_of))]
+    #[tactic(auto, unfolding(c_grammar::specs::inside::ModelParameters::brackets_of))]
     fn brackets(&mut self, left: u8) -> Result<ArraySize, Stopped>
-        ensures { Reads (model.brackets_of (inside left) self.old.rest.now) result
+        ensures { Reads (parameters.brackets_of (inside left) self.old.rest.now) result
             self.new.rest.now }
     {
         if self.is_next(Mark::LeftBracket) {
@@ -37,15 +38,15 @@ impl Parser<'_> {
         Ok(ArraySize::Scalar)
     }
 
-    #[tactic(auto, unfolding(c_grammar::specs::inside::ModelUnits::param_of))]
+    #[tactic(auto, unfolding(c_grammar::specs::inside::ModelParameters::param_of))]
     fn param(&mut self, left: u8) -> Result<Param, Stopped>
-        ensures { Reads (model.param_of (inside left) self.old.rest.now) result self.new.rest.now }
+        ensures { Reads (parameters.param_of (inside left) self.old.rest.now) result self.new.rest.now }
     {
-        let (line, kind) = self.type_name()?;
-        let (line, name) = self.label(line)?;
+        let (offset, kind) = self.type_name()?;
+        let (offset, name) = self.label(offset)?;
         let size = self.brackets(left)?;
         Ok(Param {
-            line,
+            offset,
             kind,
             name,
             size,
@@ -53,7 +54,7 @@ impl Parser<'_> {
     }
 
     fn param_list(&mut self, left: u8) -> Result<Items<Param>, Stopped>
-        ensures { Reads (model.param_list_of (inside left) self.old.rest.now) result
+        ensures { Reads (parameters.param_list_of (inside left) self.old.rest.now) result
             self.new.rest.now }
     {
         let mut found = Items::new(self.alloc);
@@ -72,9 +73,9 @@ impl Parser<'_> {
     }
 
     /// Parameters up to the closing parenthesis.
-    #[tactic(auto, unfolding(c_grammar::specs::inside::ModelUnits::no_params_of, c_grammar::specs::inside::ModelUnits::void_params_of, c_grammar::specs::inside::ModelUnits::params_of))]
+    #[tactic(auto, unfolding(c_grammar::specs::inside::ModelParameters::no_params_of, c_grammar::specs::inside::ModelParameters::void_params_of, c_grammar::specs::inside::ModelParameters::params_of))]
     fn params(&mut self, left: u8) -> Result<Items<Param>, Stopped>
-        ensures { Reads (model.params_of (inside left) self.old.rest.now) result self.new.rest.now }
+        ensures { Reads (parameters.params_of (inside left) self.old.rest.now) result self.new.rest.now }
     {
         if self.is_next(Mark::RightParen) {
             self.expect(Mark::RightParen)?;
@@ -95,18 +96,18 @@ impl Parser<'_> {
         outer: u8,
         left: u8,
         given: Option<Kind>,
-        line: u32,
+        offset: u32,
         name: Word,
         params: Items<Param>,
     ) -> Result<Top, Stopped>
         ensures { Reads (model.declared_of (inside outer)
-            (compound_of (inside left) (below_at left)) given line name params self.old.rest.now)
+            (compound_of (inside left) (below_at left)) given offset name params self.old.rest.now)
             result self.new.rest.now }
     {
         let _unused = (outer, left);
         self.expect(Mark::Semicolon)?;
         Ok(Top {
-            line,
+            offset,
             node: TopNode::Func {
                 result: given,
                 name,
@@ -123,17 +124,17 @@ impl Parser<'_> {
         outer: u8,
         left: u8,
         given: Option<Kind>,
-        line: u32,
+        offset: u32,
         name: Word,
         params: Items<Param>,
     ) -> Result<Top, Stopped>
         ensures { Reads (model.defined_of (inside outer) (compound_of (inside left) (below_at left))
-            given line name params self.old.rest.now) result self.new.rest.now }
+            given offset name params self.old.rest.now) result self.new.rest.now }
     {
         let _unused = outer;
         let body = self.compound(left)?;
         Ok(Top {
-            line,
+            offset,
             node: TopNode::Func {
                 result: given,
                 name,
@@ -150,17 +151,17 @@ impl Parser<'_> {
         outer: u8,
         left: u8,
         given: Option<Kind>,
-        line: u32,
+        offset: u32,
         name: Word,
         params: Items<Param>,
     ) -> Result<Top, Stopped>
         ensures { Reads (model.rest_of (inside outer) (compound_of (inside left) (below_at left))
-            given line name params self.old.rest.now) result self.new.rest.now }
+            given offset name params self.old.rest.now) result self.new.rest.now }
     {
         if self.is_next(Mark::LeftBrace) {
-            return self.definition(outer, left, given, line, name, params);
+            return self.definition(outer, left, given, offset, name, params);
         }
-        self.prototype(outer, left, given, line, name, params)
+        self.prototype(outer, left, given, offset, name, params)
     }
 
     /// A function behind its name, which is put behind the items that were found.
@@ -170,16 +171,16 @@ impl Parser<'_> {
         outer: u8,
         left: u8,
         given: Option<Kind>,
-        line: u32,
+        offset: u32,
         name: Word,
         found: &mut Items<Top>,
     ) -> Result<(), Stopped>
         ensures { Puts (model.func_of (inside outer) (compound_of (inside left) (below_at left))
-            given line name self.old.rest.now) found.old found.new result self.new.rest.now }
+            given offset name self.old.rest.now) found.old found.new result self.new.rest.now }
     {
         self.expect(Mark::LeftParen)?;
         let params = self.params(outer)?;
-        let function = self.rest_of_function(outer, left, given, line, name, params)?;
+        let function = self.rest_of_function(outer, left, given, offset, name, params)?;
         found.push(function)?;
         Ok(())
     }
@@ -191,17 +192,17 @@ impl Parser<'_> {
         outer: u8,
         left: u8,
         kind: Kind,
-        line: u32,
+        offset: u32,
         name: Word,
         found: &mut Items<Top>,
     ) -> Result<(), Stopped>
         ensures { Puts (model.after_name (inside outer) (compound_of (inside left) (below_at left))
-            kind line name self.old.rest.now) found.old found.new result self.new.rest.now }
+            kind offset name self.old.rest.now) found.old found.new result self.new.rest.now }
     {
         if self.is_next(Mark::LeftParen) {
-            return self.function(outer, left, Some(kind), line, name, found);
+            return self.function(outer, left, Some(kind), offset, name, found);
         }
-        self.globals(outer, kind, line, name, found)
+        self.globals(outer, kind, offset, name, found)
     }
 
     #[tactic(auto, unfolding(c_grammar::specs::inside::ModelUnits::void_item_of))]
@@ -211,8 +212,8 @@ impl Parser<'_> {
             self.new.rest.now }
     {
         self.expect_keyword(Key::Void)?;
-        let (line, name) = self.name()?;
-        self.function(outer, left, None, line, name, found)
+        let (offset, name) = self.name()?;
+        self.function(outer, left, None, offset, name, found)
     }
 
     #[tactic(auto, unfolding(c_grammar::specs::inside::ModelUnits::typed_item_of))]
@@ -222,8 +223,8 @@ impl Parser<'_> {
             self.new.rest.now }
     {
         let (_, kind) = self.type_name()?;
-        let (line, name) = self.name()?;
-        self.named_item(outer, left, kind, line, name, found)
+        let (offset, name) = self.name()?;
+        self.named_item(outer, left, kind, offset, name, found)
     }
 
     /// Whether no token is left.
@@ -253,10 +254,10 @@ impl Parser<'_> {
         if !self.is_include() {
             return Err(Stopped::Syntax);
         }
-        let line = self.line();
+        let offset = self.offset();
         self.advance();
         let include = Top {
-            line,
+            offset,
             node: TopNode::Include,
         };
         found.push(include)?;

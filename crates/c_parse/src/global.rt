@@ -2,7 +2,8 @@
 
 ghost use Rattle.std.specs.Prelude.{◌≡◌};
 ghost use Rattle.c_grammar.specs.inside.ModelExpressions.{inside};
-ghost use Rattle.c_grammar.specs.inside.ModelUnits as model;
+ghost use Rattle.c_grammar.specs.inside.ModelSizes as sizes;
+ghost use Rattle.c_grammar.specs.inside.ModelGlobals as global_model;
 ghost use Rattle.c_parse.specs.inside.Reads.{Reads, Puts};
 ghost use Rattle.c_parse.specs.inside.Lists.{global_list_of};
 
@@ -15,9 +16,9 @@ use c_tree::{ArraySize, Expr, Kind, Mark, Top, TopNode, Word};
 
 impl Parser<'_> {
     /// A size or none, up to the bracket.
-    #[tactic(auto, unfolding(c_grammar::specs::inside::ModelUnits::no_size_of, c_grammar::specs::inside::ModelUnits::some_size_of, c_grammar::specs::inside::ModelUnits::size_of))]
+    #[tactic(auto, unfolding(c_grammar::specs::inside::ModelSizes::no_size_of, c_grammar::specs::inside::ModelSizes::some_size_of, c_grammar::specs::inside::ModelSizes::size_of))]
     fn size(&mut self, left: u8) -> Result<Option<Boxed<Expr>>, Stopped>
-        ensures { Reads (model.size_of (inside left) self.old.rest.now) result self.new.rest.now }
+        ensures { Reads (sizes.size_of (inside left) self.old.rest.now) result self.new.rest.now }
     {
         if self.is_next(Mark::RightBracket) {
             self.expect(Mark::RightBracket)?;
@@ -29,9 +30,9 @@ impl Parser<'_> {
     }
 
     /// A second size in its brackets.
-    #[tactic(auto, unfolding(c_grammar::specs::inside::ModelUnits::second_of))]
+    #[tactic(auto, unfolding(c_grammar::specs::inside::ModelSizes::second_of))]
     fn second_size(&mut self, left: u8) -> Result<Boxed<Expr>, Stopped>
-        ensures { Reads (model.second_of (inside left) self.old.rest.now) result
+        ensures { Reads (sizes.second_of (inside left) self.old.rest.now) result
             self.new.rest.now }
     {
         self.expect(Mark::LeftBracket)?;
@@ -41,13 +42,13 @@ impl Parser<'_> {
     }
 
     /// A second pair of brackets.
-    #[tactic(auto, unfolding(c_grammar::specs::inside::ModelUnits::two_pairs_of))]
+    #[tactic(auto, unfolding(c_grammar::specs::inside::ModelSizes::two_pairs_of))]
     fn second_pair(
         &mut self,
         left: u8,
         rows: Held<Option<Boxed<Expr>>>,
     ) -> Result<ArraySize, Stopped>
-        ensures { Reads (model.two_pairs_of (inside left) rows self.old.rest.now) result
+        ensures { Reads (sizes.two_pairs_of (inside left) rows self.old.rest.now) result
             self.new.rest.now }
     {
         let size = self.second_size(left)?;
@@ -56,9 +57,9 @@ impl Parser<'_> {
     }
 
     /// Behind the first pair of brackets: a second one, or what stands behind the array.
-    #[tactic(auto, unfolding(c_grammar::specs::inside::ModelUnits::after_first))]
+    #[tactic(auto, unfolding(c_grammar::specs::inside::ModelSizes::after_first))]
     fn after_first(&mut self, left: u8, first: Option<Boxed<Expr>>) -> Result<ArraySize, Stopped>
-        ensures { Reads (model.after_first (inside left) first self.old.rest.now) result
+        ensures { Reads (sizes.after_first (inside left) first self.old.rest.now) result
             self.new.rest.now }
     {
         if self.is_next(Mark::LeftBracket) {
@@ -68,9 +69,9 @@ impl Parser<'_> {
     }
 
     /// The brackets of an array, one pair or two.
-    #[tactic(auto, unfolding(c_grammar::specs::inside::ModelUnits::dimensions_of))]
+    #[tactic(auto, unfolding(c_grammar::specs::inside::ModelSizes::dimensions_of))]
     pub fn dimensions(&mut self, left: u8) -> Result<ArraySize, Stopped>
-        ensures { Reads (model.dimensions_of (inside left) self.old.rest.now) result
+        ensures { Reads (sizes.dimensions_of (inside left) self.old.rest.now) result
             self.new.rest.now }
     {
         self.expect(Mark::LeftBracket)?;
@@ -80,7 +81,7 @@ impl Parser<'_> {
 
     /// Values up to the brace, with a comma more where there is one.
     fn values(&mut self, left: u8) -> Result<Items<Boxed<Expr>>, Stopped>
-        ensures { Reads (model.values_of (inside left) self.old.rest.now) result self.new.rest.now }
+        ensures { Reads (global_model.values_of (inside left) self.old.rest.now) result self.new.rest.now }
     {
         let mut found = Items::new(self.alloc);
         let turns = self.rest.len() + 1;
@@ -101,9 +102,9 @@ impl Parser<'_> {
     }
 
     /// The values of an array with one size.
-    #[tactic(auto, unfolding(c_grammar::specs::inside::ModelUnits::flat_of))]
+    #[tactic(auto, unfolding(c_grammar::specs::inside::ModelGlobals::flat_of))]
     fn flat(&mut self, left: u8) -> Result<Items<Items<Boxed<Expr>>>, Stopped>
-        ensures { Reads (model.flat_of (inside left) self.old.rest.now) result self.new.rest.now }
+        ensures { Reads (global_model.flat_of (inside left) self.old.rest.now) result self.new.rest.now }
     {
         let values = self.values(left)?;
         let mut found = Items::new(self.alloc);
@@ -112,9 +113,9 @@ impl Parser<'_> {
     }
 
     /// A row of values in its braces.
-    #[tactic(auto, unfolding(c_grammar::specs::inside::ModelUnits::row_of))]
+    #[tactic(auto, unfolding(c_grammar::specs::inside::ModelGlobals::row_of))]
     fn row(&mut self, left: u8) -> Result<Items<Boxed<Expr>>, Stopped>
-        ensures { Reads (model.row_of (inside left) self.old.rest.now) result self.new.rest.now }
+        ensures { Reads (global_model.row_of (inside left) self.old.rest.now) result self.new.rest.now }
     {
         self.expect(Mark::LeftBrace)?;
         self.values(left)
@@ -122,7 +123,7 @@ impl Parser<'_> {
 
     /// Rows up to the brace, with a comma more where there is one.
     fn rows(&mut self, left: u8) -> Result<Items<Items<Boxed<Expr>>>, Stopped>
-        ensures { Reads (model.rows_of (inside left) self.old.rest.now) result self.new.rest.now }
+        ensures { Reads (global_model.rows_of (inside left) self.old.rest.now) result self.new.rest.now }
     {
         let mut found = Items::new(self.alloc);
         let turns = self.rest.len() + 1;
@@ -143,13 +144,13 @@ impl Parser<'_> {
     }
 
     /// A list of values behind one pair of brackets.
-    #[tactic(auto, unfolding(c_grammar::specs::inside::ModelUnits::filled_of))]
+    #[tactic(auto, unfolding(c_grammar::specs::inside::ModelGlobals::filled_of))]
     fn filled(
         &mut self,
         left: u8,
         size: Held<ArraySize>,
     ) -> Result<(ArraySize, Items<Items<Boxed<Expr>>>), Stopped>
-        ensures { Reads (model.filled_of (inside left) size self.old.rest.now) result
+        ensures { Reads (global_model.filled_of (inside left) size self.old.rest.now) result
             self.new.rest.now }
     {
         self.expect(Mark::Assign)?;
@@ -159,13 +160,13 @@ impl Parser<'_> {
     }
 
     /// Rows of values behind two pairs of brackets.
-    #[tactic(auto, unfolding(c_grammar::specs::inside::ModelUnits::rows_filled_of))]
+    #[tactic(auto, unfolding(c_grammar::specs::inside::ModelGlobals::rows_filled_of))]
     fn rows_filled(
         &mut self,
         left: u8,
         size: Held<ArraySize>,
     ) -> Result<(ArraySize, Items<Items<Boxed<Expr>>>), Stopped>
-        ensures { Reads (model.rows_filled_of (inside left) size self.old.rest.now) result
+        ensures { Reads (global_model.rows_filled_of (inside left) size self.old.rest.now) result
             self.new.rest.now }
     {
         self.expect(Mark::Assign)?;
@@ -178,7 +179,7 @@ impl Parser<'_> {
         &mut self,
         size: ArraySize,
     ) -> Result<(ArraySize, Items<Items<Boxed<Expr>>>), Stopped>
-        ensures { Reads (model.or_sized size self.old.rest.now) result self.new.rest.now }
+        ensures { Reads (sizes.or_sized size self.old.rest.now) result self.new.rest.now }
     {
         if has_first(&size) {
             Ok((size, Items::new(self.alloc)))
@@ -187,13 +188,13 @@ impl Parser<'_> {
         }
     }
 
-    #[tactic(auto, unfolding(c_grammar::specs::inside::ModelUnits::after_size))]
+    #[tactic(auto, unfolding(c_grammar::specs::inside::ModelGlobals::after_size))]
     fn after_size(
         &mut self,
         left: u8,
         size: ArraySize,
     ) -> Result<(ArraySize, Items<Items<Boxed<Expr>>>), Stopped>
-        ensures { Reads (model.after_size (inside left) size self.old.rest.now) result
+        ensures { Reads (global_model.after_size (inside left) size self.old.rest.now) result
             self.new.rest.now }
     {
         if self.is_next(Mark::Assign) {
@@ -202,13 +203,13 @@ impl Parser<'_> {
         self.or_sized(size)
     }
 
-    #[tactic(auto, unfolding(c_grammar::specs::inside::ModelUnits::after_rows))]
+    #[tactic(auto, unfolding(c_grammar::specs::inside::ModelGlobals::after_rows))]
     fn after_rows(
         &mut self,
         left: u8,
         size: ArraySize,
     ) -> Result<(ArraySize, Items<Items<Boxed<Expr>>>), Stopped>
-        ensures { Reads (model.after_rows (inside left) size self.old.rest.now) result
+        ensures { Reads (global_model.after_rows (inside left) size self.old.rest.now) result
             self.new.rest.now }
     {
         if self.is_next(Mark::Assign) {
@@ -217,13 +218,13 @@ impl Parser<'_> {
         self.or_sized(size)
     }
 
-    #[tactic(auto, unfolding(c_grammar::specs::inside::ModelUnits::rows_array_of))]
+    #[tactic(auto, unfolding(c_grammar::specs::inside::ModelGlobals::rows_array_of))]
     fn rows_array(
         &mut self,
         left: u8,
         rows: Held<Option<Boxed<Expr>>>,
     ) -> Result<(ArraySize, Items<Items<Boxed<Expr>>>), Stopped>
-        ensures { Reads (model.rows_array_of (inside left) rows self.old.rest.now) result
+        ensures { Reads (global_model.rows_array_of (inside left) rows self.old.rest.now) result
             self.new.rest.now }
     {
         let size = self.second_size(left)?;
@@ -232,13 +233,13 @@ impl Parser<'_> {
     }
 
     /// Behind the first pair of brackets of a global.
-    #[tactic(auto, unfolding(c_grammar::specs::inside::ModelUnits::after_pair))]
+    #[tactic(auto, unfolding(c_grammar::specs::inside::ModelGlobals::after_pair))]
     fn after_pair(
         &mut self,
         left: u8,
         first: Option<Boxed<Expr>>,
     ) -> Result<(ArraySize, Items<Items<Boxed<Expr>>>), Stopped>
-        ensures { Reads (model.after_pair (inside left) first self.old.rest.now) result
+        ensures { Reads (global_model.after_pair (inside left) first self.old.rest.now) result
             self.new.rest.now }
     {
         if self.is_next(Mark::LeftBracket) {
@@ -247,18 +248,18 @@ impl Parser<'_> {
         self.after_size(left, build::one_size(first))
     }
 
-    #[tactic(auto, unfolding(c_grammar::specs::inside::ModelUnits::array_of))]
+    #[tactic(auto, unfolding(c_grammar::specs::inside::ModelGlobals::array_of))]
     fn global_array(&mut self, left: u8) -> Result<(ArraySize, Items<Items<Boxed<Expr>>>), Stopped>
-        ensures { Reads (model.array_of (inside left) self.old.rest.now) result self.new.rest.now }
+        ensures { Reads (global_model.array_of (inside left) self.old.rest.now) result self.new.rest.now }
     {
         self.expect(Mark::LeftBracket)?;
         let first = self.size(left)?;
         self.after_pair(left, first)
     }
 
-    #[tactic(auto, unfolding(c_grammar::specs::inside::ModelUnits::valued_of))]
+    #[tactic(auto, unfolding(c_grammar::specs::inside::ModelGlobals::valued_of))]
     fn valued(&mut self, left: u8) -> Result<(ArraySize, Items<Items<Boxed<Expr>>>), Stopped>
-        ensures { Reads (model.valued_of (inside left) self.old.rest.now) result self.new.rest.now }
+        ensures { Reads (global_model.valued_of (inside left) self.old.rest.now) result self.new.rest.now }
     {
         self.expect(Mark::Assign)?;
         let value = self.conditional(left)?;
@@ -270,9 +271,9 @@ impl Parser<'_> {
     }
 
     /// What stands behind the name of a global.
-    #[tactic(auto, unfolding(c_grammar::specs::inside::ModelUnits::shape_of))]
+    #[tactic(auto, unfolding(c_grammar::specs::inside::ModelGlobals::shape_of))]
     fn global_shape(&mut self, left: u8) -> Result<(ArraySize, Items<Items<Boxed<Expr>>>), Stopped>
-        ensures { Reads (model.shape_of (inside left) self.old.rest.now) result self.new.rest.now }
+        ensures { Reads (global_model.shape_of (inside left) self.old.rest.now) result self.new.rest.now }
     {
         if self.is_next(Mark::Assign) {
             return self.valued(left);
@@ -283,15 +284,15 @@ impl Parser<'_> {
         Ok((ArraySize::Scalar, Items::new(self.alloc)))
     }
 
-    #[tactic(auto, unfolding(c_grammar::specs::inside::ModelUnits::global_of))]
+    #[tactic(auto, unfolding(c_grammar::specs::inside::ModelGlobals::global_of))]
     fn global(&mut self, left: u8, kind: Kind) -> Result<Top, Stopped>
-        ensures { Reads (model.global_of (inside left) kind self.old.rest.now) result
+        ensures { Reads (global_model.global_of (inside left) kind self.old.rest.now) result
             self.new.rest.now }
     {
-        let (line, name) = self.name()?;
+        let (offset, name) = self.name()?;
         let (size, init) = self.global_shape(left)?;
         Ok(Top {
-            line,
+            offset,
             node: TopNode::Global {
                 kind,
                 name,
@@ -329,7 +330,7 @@ impl Parser<'_> {
         first: Top,
         found: &mut Items<Top>,
     ) -> Result<(), Stopped>
-        ensures { Puts (model.more_globals_of (inside left) kind first self.old.rest.now) found.old
+        ensures { Puts (global_model.more_globals_of (inside left) kind first self.old.rest.now) found.old
             found.new result self.new.rest.now }
     {
         found.push(first)?;
@@ -342,21 +343,21 @@ impl Parser<'_> {
     }
 
     /// Globals behind the name of the first one.
-    #[tactic(auto, unfolding(c_grammar::specs::inside::ModelUnits::globals_of))]
+    #[tactic(auto, unfolding(c_grammar::specs::inside::ModelGlobals::globals_of))]
     pub fn globals(
         &mut self,
         left: u8,
         kind: Kind,
-        line: u32,
+        offset: u32,
         name: Word,
         found: &mut Items<Top>,
     ) -> Result<(), Stopped>
-        ensures { Puts (model.globals_of (inside left) kind line name self.old.rest.now) found.old
+        ensures { Puts (global_model.globals_of (inside left) kind offset name self.old.rest.now) found.old
             found.new result self.new.rest.now }
     {
         let (size, init) = self.global_shape(left)?;
         let first = Top {
-            line,
+            offset,
             node: TopNode::Global {
                 kind,
                 name,
@@ -370,7 +371,7 @@ impl Parser<'_> {
 
 /// Has the first pair of brackets a size?
 fn has_first(size: &ArraySize) -> bool
-    ensures { result ≡ model.has_first size.now }
+    ensures { result ≡ sizes.has_first size.now }
 {
     match size {
         ArraySize::Scalar | ArraySize::Open => false,

@@ -30,12 +30,12 @@ impl Parser<'_> {
         let [lexeme, rest @ ..] = self.rest else {
             return Err(Stopped::Syntax);
         };
-        let line = lexeme.line;
+        let offset = lexeme.offset;
         match &lexeme.form {
             Form::Name(word) => {
                 let name = word.copy(self.alloc)?;
                 self.rest = rest;
-                Ok(make::built(self.alloc, line, ExprNode::Name(name))?)
+                Ok(make::built(self.alloc, offset, ExprNode::Name(name))?)
             }
             Form::Number { value, kind } => {
                 let node = ExprNode::Number {
@@ -43,7 +43,7 @@ impl Parser<'_> {
                     kind: *kind,
                 };
                 self.rest = rest;
-                Ok(make::built(self.alloc, line, node)?)
+                Ok(make::built(self.alloc, offset, node)?)
             }
             _ => Err(Stopped::Syntax),
         }

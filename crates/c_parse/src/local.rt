@@ -5,6 +5,9 @@ ghost use Rattle.std.specs.Prelude.{◌≡◌};
 ghost use Rattle.c_grammar.specs.Statements as grammar;
 ghost use Rattle.c_grammar.specs.inside.ModelExpressions.{inside};
 ghost use Rattle.c_grammar.specs.inside.ModelStatements as model;
+ghost use Rattle.c_grammar.specs.inside.ModelConditions as conditions;
+ghost use Rattle.c_grammar.specs.inside.ModelLocals as local_model;
+ghost use Rattle.c_grammar.specs.inside.ModelEntries as entry_model;
 ghost use Rattle.c_parse.specs.inside.Reads.{Reads, Puts};
 
 use crate::build;
@@ -15,9 +18,9 @@ use c_tree::{ArraySize, Expr, ForInit, Kind, Mark, Stmt, StmtNode};
 
 impl Parser<'_> {
     #[inline(always)]
-    #[tactic(auto, unfolding(c_grammar::specs::inside::ModelStatements::absent_of, c_grammar::specs::inside::ModelStatements::given_of, c_grammar::specs::inside::ModelStatements::until_of))]
+    #[tactic(auto, unfolding(c_grammar::specs::inside::ModelConditions::absent_of, c_grammar::specs::inside::ModelConditions::given_of, c_grammar::specs::inside::ModelConditions::until_of))]
     pub fn until_semicolon(&mut self, left: u8) -> Result<Option<Boxed<Expr>>, Stopped>
-        ensures { Reads (model.until_of (inside left) grammar.semicolon self.old.rest.now) result
+        ensures { Reads (conditions.until_of (inside left) grammar.semicolon self.old.rest.now) result
             self.new.rest.now }
     {
         if self.is_next(Mark::Semicolon) {
@@ -30,9 +33,9 @@ impl Parser<'_> {
     }
 
     #[inline(always)]
-    #[tactic(auto, unfolding(c_grammar::specs::inside::ModelStatements::absent_of, c_grammar::specs::inside::ModelStatements::given_of, c_grammar::specs::inside::ModelStatements::until_of))]
+    #[tactic(auto, unfolding(c_grammar::specs::inside::ModelConditions::absent_of, c_grammar::specs::inside::ModelConditions::given_of, c_grammar::specs::inside::ModelConditions::until_of))]
     pub fn until_paren(&mut self, left: u8) -> Result<Option<Boxed<Expr>>, Stopped>
-        ensures { Reads (model.until_of (inside left) grammar.paren self.old.rest.now) result
+        ensures { Reads (conditions.until_of (inside left) grammar.paren self.old.rest.now) result
             self.new.rest.now }
     {
         if self.is_next(Mark::RightParen) {
@@ -46,9 +49,9 @@ impl Parser<'_> {
 
     /// A condition in its parentheses.
     #[inline(always)]
-    #[tactic(auto, unfolding(c_grammar::specs::inside::ModelStatements::test_of))]
+    #[tactic(auto, unfolding(c_grammar::specs::inside::ModelConditions::test_of))]
     pub fn test(&mut self, left: u8) -> Result<Boxed<Expr>, Stopped>
-        ensures { Reads (model.test_of (inside left) self.old.rest.now) result self.new.rest.now }
+        ensures { Reads (conditions.test_of (inside left) self.old.rest.now) result self.new.rest.now }
     {
         self.expect(Mark::LeftParen)?;
         let test = self.expression(left)?;
@@ -56,9 +59,9 @@ impl Parser<'_> {
         Ok(test)
     }
 
-    #[tactic(auto, unfolding(c_grammar::specs::inside::ModelStatements::value_of))]
+    #[tactic(auto, unfolding(c_grammar::specs::inside::ModelLocals::value_of))]
     fn value(&mut self, left: u8) -> Result<(ArraySize, Option<Boxed<Expr>>), Stopped>
-        ensures { Reads (model.value_of (inside left) self.old.rest.now) result self.new.rest.now }
+        ensures { Reads (local_model.value_of (inside left) self.old.rest.now) result self.new.rest.now }
     {
         self.expect(Mark::Assign)?;
         let value = self.assignment(left)?;
@@ -66,9 +69,9 @@ impl Parser<'_> {
     }
 
     /// A size in its brackets.
-    #[tactic(auto, unfolding(c_grammar::specs::inside::ModelStatements::size_of))]
+    #[tactic(auto, unfolding(c_grammar::specs::inside::ModelLocals::size_of))]
     fn local_size(&mut self, left: u8) -> Result<Boxed<Expr>, Stopped>
-        ensures { Reads (model.size_of (inside left) self.old.rest.now) result self.new.rest.now }
+        ensures { Reads (local_model.size_of (inside left) self.old.rest.now) result self.new.rest.now }
     {
         self.expect(Mark::LeftBracket)?;
         let size = self.conditional(left)?;
@@ -76,13 +79,13 @@ impl Parser<'_> {
         Ok(size)
     }
 
-    #[tactic(auto, unfolding(c_grammar::specs::inside::ModelStatements::second_of))]
+    #[tactic(auto, unfolding(c_grammar::specs::inside::ModelLocals::second_of))]
     fn local_rows(
         &mut self,
         left: u8,
         rows: Boxed<Expr>,
     ) -> Result<(ArraySize, Option<Boxed<Expr>>), Stopped>
-        ensures { Reads (model.second_of (inside left) rows self.old.rest.now) result
+        ensures { Reads (local_model.second_of (inside left) rows self.old.rest.now) result
             self.new.rest.now }
     {
         let size = self.local_size(left)?;
@@ -91,13 +94,13 @@ impl Parser<'_> {
     }
 
     /// Behind the first size of a local: a second one, or what stands behind the array.
-    #[tactic(auto, unfolding(c_grammar::specs::inside::ModelStatements::after_size))]
+    #[tactic(auto, unfolding(c_grammar::specs::inside::ModelLocals::after_size))]
     fn after_local_size(
         &mut self,
         left: u8,
         size: Boxed<Expr>,
     ) -> Result<(ArraySize, Option<Boxed<Expr>>), Stopped>
-        ensures { Reads (model.after_size (inside left) size self.old.rest.now) result
+        ensures { Reads (local_model.after_size (inside left) size self.old.rest.now) result
             self.new.rest.now }
     {
         if self.is_next(Mark::LeftBracket) {
@@ -106,18 +109,18 @@ impl Parser<'_> {
         Ok((ArraySize::Sized(size), None))
     }
 
-    #[tactic(auto, unfolding(c_grammar::specs::inside::ModelStatements::array_of))]
+    #[tactic(auto, unfolding(c_grammar::specs::inside::ModelLocals::array_of))]
     fn array(&mut self, left: u8) -> Result<(ArraySize, Option<Boxed<Expr>>), Stopped>
-        ensures { Reads (model.array_of (inside left) self.old.rest.now) result self.new.rest.now }
+        ensures { Reads (local_model.array_of (inside left) self.old.rest.now) result self.new.rest.now }
     {
         let size = self.local_size(left)?;
         self.after_local_size(left, size)
     }
 
     /// What stands behind the name of a local.
-    #[tactic(auto, unfolding(c_grammar::specs::inside::ModelStatements::shape_of))]
+    #[tactic(auto, unfolding(c_grammar::specs::inside::ModelLocals::shape_of))]
     fn shape(&mut self, left: u8) -> Result<(ArraySize, Option<Boxed<Expr>>), Stopped>
-        ensures { Reads (model.shape_of (inside left) self.old.rest.now) result self.new.rest.now }
+        ensures { Reads (local_model.shape_of (inside left) self.old.rest.now) result self.new.rest.now }
     {
         if self.is_next(Mark::Assign) {
             return self.value(left);
@@ -128,15 +131,15 @@ impl Parser<'_> {
         Ok((ArraySize::Scalar, None))
     }
 
-    #[tactic(auto, unfolding(c_grammar::specs::inside::ModelStatements::decl_of))]
+    #[tactic(auto, unfolding(c_grammar::specs::inside::ModelLocals::decl_of))]
     fn declarator(&mut self, left: u8, kind: Kind) -> Result<Stmt, Stopped>
-        ensures { Reads (model.decl_of (inside left) kind self.old.rest.now) result
+        ensures { Reads (local_model.decl_of (inside left) kind self.old.rest.now) result
             self.new.rest.now }
     {
-        let (line, name) = self.name()?;
+        let (offset, name) = self.name()?;
         let (size, init) = self.shape(left)?;
         Ok(Stmt {
-            line,
+            offset,
             node: StmtNode::Declare {
                 kind,
                 name,
@@ -148,7 +151,7 @@ impl Parser<'_> {
 
     /// Declarators up to the semicolon, behind the statements that were found.
     fn declarators(&mut self, left: u8, kind: Kind, found: &mut Items<Stmt>) -> Result<(), Stopped>
-        ensures { Puts (model.decls_of (inside left) kind self.old.rest.now) found.old found.new
+        ensures { Puts (local_model.decls_of (inside left) kind self.old.rest.now) found.old found.new
             result self.new.rest.now }
     {
         let turns = self.rest.len() + 1;
@@ -165,9 +168,9 @@ impl Parser<'_> {
         Err(Stopped::Syntax)
     }
 
-    #[tactic(auto, unfolding(c_grammar::specs::inside::ModelStatements::locals_of))]
+    #[tactic(auto, unfolding(c_grammar::specs::inside::ModelLocals::locals_of))]
     fn locals(&mut self, left: u8, found: &mut Items<Stmt>) -> Result<(), Stopped>
-        ensures { Puts (model.locals_of (inside left) self.old.rest.now) found.old found.new result
+        ensures { Puts (local_model.locals_of (inside left) self.old.rest.now) found.old found.new result
             self.new.rest.now }
     {
         let (_, kind) = self.type_name()?;
@@ -196,9 +199,9 @@ impl Parser<'_> {
         Err(Stopped::Syntax)
     }
 
-    #[tactic(auto, unfolding(c_grammar::specs::inside::ModelStatements::init_local_of))]
+    #[tactic(auto, unfolding(c_grammar::specs::inside::ModelEntries::init_local_of))]
     fn init_locals(&mut self, left: u8) -> Result<ForInit, Stopped>
-        ensures { Reads (model.init_local_of (inside left) (model.below_at left) self.old.rest.now)
+        ensures { Reads (entry_model.init_local_of (inside left) (model.below_at left) self.old.rest.now)
             result self.new.rest.now }
     {
         let mut locals = Items::new(self.alloc);
@@ -206,9 +209,9 @@ impl Parser<'_> {
         Ok(ForInit::Locals(locals))
     }
 
-    #[tactic(auto, unfolding(c_grammar::specs::inside::ModelStatements::init_plain_of))]
+    #[tactic(auto, unfolding(c_grammar::specs::inside::ModelEntries::init_plain_of))]
     fn init_plain(&mut self, left: u8) -> Result<ForInit, Stopped>
-        ensures { Reads (model.init_plain_of (inside left) (model.below_at left) self.old.rest.now)
+        ensures { Reads (entry_model.init_plain_of (inside left) (model.below_at left) self.old.rest.now)
             result self.new.rest.now }
     {
         let given = self.until_semicolon(left)?;
@@ -216,9 +219,9 @@ impl Parser<'_> {
     }
 
     /// The first part of a `for`, with its semicolon.
-    #[tactic(auto, unfolding(c_grammar::specs::inside::ModelStatements::init_of))]
+    #[tactic(auto, unfolding(c_grammar::specs::inside::ModelEntries::init_of))]
     pub fn init(&mut self, left: u8) -> Result<ForInit, Stopped>
-        ensures { Reads (model.init_of (inside left) (model.below_at left) self.old.rest.now) result
+        ensures { Reads (entry_model.init_of (inside left) (model.below_at left) self.old.rest.now) result
             self.new.rest.now }
     {
         if self.begins_type() {

@@ -8,12 +8,12 @@ use base::Boxed;
 use c_tree::{BinaryOp, BumpOp, Expr, ExprNode, Kind, UnaryOp, Word};
 use std::alloc::{AllocError, Global};
 
-/// A node at a line, on the heap.
+/// A node at an offset, on the heap.
 #[inline(always)]
-pub fn built(alloc: Global, line: u32, node: ExprNode) -> Result<Boxed<Expr>, AllocError>
-    ensures { IfOk result (λ e. e ≡ grammar.at line node) }
+pub fn built(alloc: Global, offset: u32, node: ExprNode) -> Result<Boxed<Expr>, AllocError>
+    ensures { IfOk result (λ e. e ≡ grammar.at offset node) }
 {
-    Ok(Boxed::new(alloc, Expr { line, node })?)
+    Ok(Boxed::new(alloc, Expr { offset, node })?)
 }
 
 pub fn binary(
@@ -24,8 +24,8 @@ pub fn binary(
 ) -> Result<Boxed<Expr>, AllocError>
     ensures { IfOk result (λ e. e ≡ grammar.joined (grammar.op op) left right) }
 {
-    let line = left.get().line;
-    built(alloc, line, ExprNode::Binary { op, left, right })
+    let offset = left.get().offset;
+    built(alloc, offset, ExprNode::Binary { op, left, right })
 }
 
 pub fn comma(
@@ -35,60 +35,60 @@ pub fn comma(
 ) -> Result<Boxed<Expr>, AllocError>
     ensures { IfOk result (λ e. e ≡ grammar.joined grammar.comma left right) }
 {
-    let line = left.get().line;
-    built(alloc, line, ExprNode::Comma { left, right })
+    let offset = left.get().offset;
+    built(alloc, offset, ExprNode::Comma { left, right })
 }
 
 pub fn unary(
     alloc: Global,
-    line: u32,
+    offset: u32,
     op: UnaryOp,
     operand: Boxed<Expr>,
 ) -> Result<Boxed<Expr>, AllocError>
-    ensures { IfOk result (λ e. e ≡ grammar.at line (node.Unary op operand)) }
+    ensures { IfOk result (λ e. e ≡ grammar.at offset (node.Unary op operand)) }
 {
-    built(alloc, line, ExprNode::Unary { op, e: operand })
+    built(alloc, offset, ExprNode::Unary { op, e: operand })
 }
 
 pub fn bump(
     alloc: Global,
-    line: u32,
+    offset: u32,
     op: BumpOp,
     operand: Boxed<Expr>,
 ) -> Result<Boxed<Expr>, AllocError>
-    ensures { IfOk result (λ e. e ≡ grammar.at line (node.Bump op operand)) }
+    ensures { IfOk result (λ e. e ≡ grammar.at offset (node.Bump op operand)) }
 {
-    built(alloc, line, ExprNode::Bump { op, e: operand })
+    built(alloc, offset, ExprNode::Bump { op, e: operand })
 }
 
 pub fn cast(
     alloc: Global,
-    line: u32,
+    offset: u32,
     to: Kind,
     operand: Boxed<Expr>,
 ) -> Result<Boxed<Expr>, AllocError>
-    ensures { IfOk result (λ e. e ≡ grammar.at line (node.Cast to operand)) }
+    ensures { IfOk result (λ e. e ≡ grammar.at offset (node.Cast to operand)) }
 {
-    built(alloc, line, ExprNode::Cast { to, e: operand })
+    built(alloc, offset, ExprNode::Cast { to, e: operand })
 }
 
-pub fn group(alloc: Global, line: u32, inner: Boxed<Expr>) -> Result<Boxed<Expr>, AllocError>
-    ensures { IfOk result (λ e. e ≡ grammar.at line (node.Group inner)) }
+pub fn group(alloc: Global, offset: u32, inner: Boxed<Expr>) -> Result<Boxed<Expr>, AllocError>
+    ensures { IfOk result (λ e. e ≡ grammar.at offset (node.Group inner)) }
 {
-    built(alloc, line, ExprNode::Group(inner))
+    built(alloc, offset, ExprNode::Group(inner))
 }
 
 pub fn element(
     alloc: Global,
-    line: u32,
+    offset: u32,
     array: Word,
     index: Boxed<Expr>,
 ) -> Result<Boxed<Expr>, AllocError>
-    ensures { IfOk result (λ e. e ≡ grammar.at line (node.Element array None index)) }
+    ensures { IfOk result (λ e. e ≡ grammar.at offset (node.Element array None index)) }
 {
     built(
         alloc,
-        line,
+        offset,
         ExprNode::Element {
             array,
             row: None,
@@ -100,16 +100,16 @@ pub fn element(
 /// An element with two indexes.
 pub fn row_element(
     alloc: Global,
-    line: u32,
+    offset: u32,
     array: Word,
     row: Boxed<Expr>,
     index: Boxed<Expr>,
 ) -> Result<Boxed<Expr>, AllocError>
-    ensures { IfOk result (λ e. e ≡ grammar.at line (node.Element array (Some row) index)) }
+    ensures { IfOk result (λ e. e ≡ grammar.at offset (node.Element array (Some row) index)) }
 {
     built(
         alloc,
-        line,
+        offset,
         ExprNode::Element {
             array,
             row: Some(row),
@@ -124,10 +124,10 @@ pub fn choice(
     yes: Boxed<Expr>,
     no: Boxed<Expr>,
 ) -> Result<Boxed<Expr>, AllocError>
-    ensures { IfOk result (λ e. e ≡ grammar.at test.line (node.Choice test yes no)) }
+    ensures { IfOk result (λ e. e ≡ grammar.at test.offset (node.Choice test yes no)) }
 {
-    let line = test.get().line;
-    built(alloc, line, ExprNode::Choice { test, yes, no })
+    let offset = test.get().offset;
+    built(alloc, offset, ExprNode::Choice { test, yes, no })
 }
 
 pub fn assignment(
@@ -136,12 +136,12 @@ pub fn assignment(
     to: Boxed<Expr>,
     value: Boxed<Expr>,
 ) -> Result<Boxed<Expr>, AllocError>
-    ensures { IfOk result (λ e. e ≡ grammar.at to.line (node.Assign op to value)) }
+    ensures { IfOk result (λ e. e ≡ grammar.at to.offset (node.Assign op to value)) }
 {
-    let line = to.get().line;
+    let offset = to.get().offset;
     built(
         alloc,
-        line,
+        offset,
         ExprNode::Assign {
             op,
             left: to,

@@ -5,7 +5,7 @@ ghost use Rattle.c_tree.specs.Marks as marks;
 ghost use Rattle.c_grammar.specs.inside.Numbers as numbers;
 ghost use Rattle.c_grammar.specs.inside.Parsing as model;
 ghost use Rattle.c_grammar.specs.inside.ModelTypes as types;
-ghost use Rattle.c_grammar.specs.inside.ModelExpressions as exprs;
+ghost use Rattle.c_grammar.specs.inside.ModelPrimaries as primaries;
 ghost use Rattle.c_parse.specs.inside.Reads.{Reads, Enters};
 
 use crate::fault::Stopped;
@@ -28,13 +28,13 @@ impl Parser<'_> {
         }
     }
 
-    /// The line of the first token, or 0.
-    pub fn line(&self) -> u32
-        ensures { result ≡ model.line_of self.now.rest.now }
+    /// The offset of the first token, or 0.
+    pub fn offset(&self) -> u32
+        ensures { result ≡ model.offset_of self.now.rest.now }
     {
         match self.rest {
             [] => 0,
-            [lexeme, ..] => lexeme.line,
+            [lexeme, ..] => lexeme.offset,
         }
     }
 
@@ -57,7 +57,7 @@ impl Parser<'_> {
     }
 
     pub fn is_name(&self) -> bool
-        ensures { result ≡ model.first exprs.is_name self.now.rest.now }
+        ensures { result ≡ model.first primaries.is_name self.now.rest.now }
     {
         match self.rest {
             [] => false,
@@ -76,15 +76,15 @@ impl Parser<'_> {
             || self.is_word(Key::Unsigned)
     }
 
-    /// Takes a mark, and gives its line.
+    /// Takes a mark, and gives its offset.
     #[inline(always)]
     pub fn expect(&mut self, mark: Mark) -> Result<u32, Stopped>
         ensures { Reads (model.expect mark self.old.rest.now) result self.new.rest.now }
     {
         if self.is_next(mark) {
-            let line = self.line();
+            let offset = self.offset();
             self.advance();
-            Ok(line)
+            Ok(offset)
         } else {
             Err(Stopped::Syntax)
         }
@@ -94,9 +94,9 @@ impl Parser<'_> {
         ensures { Reads (model.expect_keyword key self.old.rest.now) result self.new.rest.now }
     {
         if self.is_word(key) {
-            let line = self.line();
+            let offset = self.offset();
             self.advance();
-            Ok(line)
+            Ok(offset)
         } else {
             Err(Stopped::Syntax)
         }
@@ -125,10 +125,10 @@ impl Parser<'_> {
         };
         match &lexeme.form {
             Form::Name(word) => {
-                let line = lexeme.line;
+                let offset = lexeme.offset;
                 let name = word.copy(self.alloc)?;
                 self.advance();
-                Ok((line, name))
+                Ok((offset, name))
             }
             _ => Err(Stopped::Syntax),
         }

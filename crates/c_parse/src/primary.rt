@@ -3,6 +3,8 @@
 ghost use Rattle.std.specs.Prelude.{◌≡◌, suc, length, false, List, ℕ};
 ghost use Rattle.c_grammar.specs.inside.Parsing as parsing;
 ghost use Rattle.c_grammar.specs.inside.ModelExpressions as model;
+ghost use Rattle.c_grammar.specs.inside.ModelOperators as operators;
+ghost use Rattle.c_grammar.specs.inside.ModelPrimaries as primaries;
 ghost use Rattle.c_grammar.specs.Operators.{sign, increase, decrease, prefix_mark};
 ghost use Rattle.c_tree.specs.declared.token.Mark.TheVariants as marks;
 ghost use Rattle.c_parse.specs.inside.Reads.{Reads, opened, IsSuffix, IsPrefix};
@@ -26,23 +28,23 @@ pub enum Before {
 
 impl Parser<'_> {
     #[cycle(expression)]
-    #[tactic(auto, unfolding(c_grammar::specs::inside::ModelExpressions::group_of))]
+    #[tactic(auto, unfolding(c_grammar::specs::inside::ModelPrimaries::group_of))]
     fn group(&mut self, left: u8) -> Result<Boxed<Expr>, Stopped>
-        ensures { Reads (model.group_of (model.inside left) self.old.rest.now) result
+        ensures { Reads (primaries.group_of (model.inside left) self.old.rest.now) result
             self.new.rest.now }
     {
-        let line = self.line();
+        let offset = self.offset();
         let left = self.enter(Mark::LeftParen, left)?;
         let inner = self.expression(left)?;
         self.expect(Mark::RightParen)?;
-        Ok(make::group(self.alloc, line, inner)?)
+        Ok(make::group(self.alloc, offset, inner)?)
     }
 
     /// An index in its brackets.
     #[cycle(expression)]
-    #[tactic(auto, unfolding(c_grammar::specs::inside::ModelExpressions::index_of))]
+    #[tactic(auto, unfolding(c_grammar::specs::inside::ModelPrimaries::index_of))]
     fn index(&mut self, left: u8) -> Result<Boxed<Expr>, Stopped>
-        ensures { Reads (model.index_of (model.inside left) self.old.rest.now) result
+        ensures { Reads (primaries.index_of (model.inside left) self.old.rest.now) result
             self.new.rest.now }
     {
         let left = self.enter(Mark::LeftBracket, left)?;
@@ -52,66 +54,66 @@ impl Parser<'_> {
     }
 
     #[cycle(expression)]
-    #[tactic(auto, unfolding(c_grammar::specs::inside::ModelExpressions::second_of))]
+    #[tactic(auto, unfolding(c_grammar::specs::inside::ModelPrimaries::second_of))]
     fn second_index(
         &mut self,
         left: u8,
-        line: u32,
+        offset: u32,
         array: Word,
         row: Boxed<Expr>,
     ) -> Result<Boxed<Expr>, Stopped>
-        ensures { Reads (model.second_of (model.inside left) line array row self.old.rest.now)
+        ensures { Reads (primaries.second_of (model.inside left) offset array row self.old.rest.now)
             result self.new.rest.now }
     {
         let index = self.index(left)?;
-        Ok(make::row_element(self.alloc, line, array, row, index)?)
+        Ok(make::row_element(self.alloc, offset, array, row, index)?)
     }
 
     /// Behind the first index of an element: a second one, or what stands behind the element.
     #[cycle(expression)]
-    #[tactic(auto, unfolding(c_grammar::specs::inside::ModelExpressions::after_index))]
+    #[tactic(auto, unfolding(c_grammar::specs::inside::ModelPrimaries::after_index))]
     fn after_index(
         &mut self,
         left: u8,
-        line: u32,
+        offset: u32,
         array: Word,
         index: Boxed<Expr>,
     ) -> Result<Boxed<Expr>, Stopped>
-        ensures { Reads (model.after_index (model.inside left) line array index self.old.rest.now)
+        ensures { Reads (primaries.after_index (model.inside left) offset array index self.old.rest.now)
             result self.new.rest.now }
     {
         if self.is_next(Mark::LeftBracket) {
-            return self.second_index(left, line, array, index);
+            return self.second_index(left, offset, array, index);
         }
-        Ok(make::element(self.alloc, line, array, index)?)
+        Ok(make::element(self.alloc, offset, array, index)?)
     }
 
     #[cycle(expression)]
-    #[tactic(auto, unfolding(c_grammar::specs::inside::ModelExpressions::element_of))]
-    fn element(&mut self, left: u8, line: u32, array: Word) -> Result<Boxed<Expr>, Stopped>
-        ensures { Reads (model.element_of (model.inside left) line array self.old.rest.now) result
+    #[tactic(auto, unfolding(c_grammar::specs::inside::ModelPrimaries::element_of))]
+    fn element(&mut self, left: u8, offset: u32, array: Word) -> Result<Boxed<Expr>, Stopped>
+        ensures { Reads (primaries.element_of (model.inside left) offset array self.old.rest.now) result
             self.new.rest.now }
     {
         let index = self.index(left)?;
-        self.after_index(left, line, array, index)
+        self.after_index(left, offset, array, index)
     }
 
     #[cycle(expression)]
-    #[tactic(auto, unfolding(c_grammar::specs::inside::ModelExpressions::call_of))]
-    fn call(&mut self, left: u8, line: u32, function: Word) -> Result<Boxed<Expr>, Stopped>
-        ensures { Reads (model.call_of (model.inside left) line function self.old.rest.now) result
+    #[tactic(auto, unfolding(c_grammar::specs::inside::ModelPrimaries::call_of))]
+    fn call(&mut self, left: u8, offset: u32, function: Word) -> Result<Boxed<Expr>, Stopped>
+        ensures { Reads (primaries.call_of (model.inside left) offset function self.old.rest.now) result
             self.new.rest.now }
     {
         let left = self.enter(Mark::LeftParen, left)?;
         let args = self.args(left)?;
-        Ok(make::built(self.alloc, line, ExprNode::Call { function, args })?)
+        Ok(make::built(self.alloc, offset, ExprNode::Call { function, args })?)
     }
 
     /// Arguments up to the closing parenthesis.
     #[cycle(expression)]
-    #[tactic(auto, unfolding(c_grammar::specs::inside::ModelExpressions::args_of, c_grammar::specs::inside::ModelExpressions::no_args_of))]
+    #[tactic(auto, unfolding(c_grammar::specs::inside::ModelPrimaries::args_of, c_grammar::specs::inside::ModelPrimaries::no_args_of))]
     fn args(&mut self, left: u8) -> Result<Items<Boxed<Expr>>, Stopped>
-        ensures { Reads (model.args_of (opened left) self.old.rest.now) result self.new.rest.now }
+        ensures { Reads (primaries.args_of (opened left) self.old.rest.now) result self.new.rest.now }
     {
         if self.is_next(Mark::RightParen) {
             self.expect(Mark::RightParen)?;
@@ -122,7 +124,7 @@ impl Parser<'_> {
 
     #[cycle(expression)]
     fn arg_list(&mut self, left: u8) -> Result<Items<Boxed<Expr>>, Stopped>
-        ensures { Reads (model.arg_list_of (opened left) self.old.rest.now) result
+        ensures { Reads (primaries.arg_list_of (opened left) self.old.rest.now) result
             self.new.rest.now }
     {
         let mut found = Items::new(self.alloc);
@@ -141,37 +143,37 @@ impl Parser<'_> {
     }
 
     #[cycle(expression)]
-    #[tactic(auto, unfolding(c_grammar::specs::inside::ModelExpressions::after_name))]
-    fn after_name(&mut self, left: u8, line: u32, name: Word) -> Result<Boxed<Expr>, Stopped>
-        ensures { Reads (model.after_name (model.inside left) line name self.old.rest.now) result
+    #[tactic(auto, unfolding(c_grammar::specs::inside::ModelPrimaries::after_name))]
+    fn after_name(&mut self, left: u8, offset: u32, name: Word) -> Result<Boxed<Expr>, Stopped>
+        ensures { Reads (primaries.after_name (model.inside left) offset name self.old.rest.now) result
             self.new.rest.now }
     {
         if self.is_next(Mark::LeftBracket) {
-            return self.element(left, line, name);
+            return self.element(left, offset, name);
         }
         if self.is_next(Mark::LeftParen) {
-            return self.call(left, line, name);
+            return self.call(left, offset, name);
         }
-        Ok(make::built(self.alloc, line, ExprNode::Name(name))?)
+        Ok(make::built(self.alloc, offset, ExprNode::Name(name))?)
     }
 
     #[cycle(expression)]
-    #[tactic(auto, unfolding(c_grammar::specs::inside::ModelExpressions::named_of))]
+    #[tactic(auto, unfolding(c_grammar::specs::inside::ModelPrimaries::named_of))]
     fn named(&mut self, left: u8) -> Result<Boxed<Expr>, Stopped>
-        ensures { Reads (model.named_of (model.inside left) self.old.rest.now) result
+        ensures { Reads (primaries.named_of (model.inside left) self.old.rest.now) result
             self.new.rest.now }
     {
-        let (line, name) = self.name()?;
-        self.after_name(left, line, name)
+        let (offset, name) = self.name()?;
+        self.after_name(left, offset, name)
     }
 
     fn number(&mut self) -> Result<Boxed<Expr>, Stopped>
-        ensures { Reads (model.number_of self.old.rest.now) result self.new.rest.now }
+        ensures { Reads (primaries.number_of self.old.rest.now) result self.new.rest.now }
     {
         let [lexeme, ..] = self.rest else {
             return Err(Stopped::Syntax);
         };
-        let line = lexeme.line;
+        let offset = lexeme.offset;
         match &lexeme.form {
             Form::Number { value, kind } => {
                 let node = ExprNode::Number {
@@ -179,16 +181,16 @@ impl Parser<'_> {
                     kind: *kind,
                 };
                 self.advance();
-                Ok(make::built(self.alloc, line, node)?)
+                Ok(make::built(self.alloc, offset, node)?)
             }
             _ => Err(Stopped::Syntax),
         }
     }
 
     #[cycle(expression)]
-    #[tactic(auto, unfolding(c_grammar::specs::inside::ModelExpressions::primary_of))]
+    #[tactic(auto, unfolding(c_grammar::specs::inside::ModelPrimaries::primary_of))]
     fn primary(&mut self, left: u8) -> Result<Boxed<Expr>, Stopped>
-        ensures { Reads (model.primary_of (model.inside left) self.old.rest.now) result
+        ensures { Reads (primaries.primary_of (model.inside left) self.old.rest.now) result
             self.new.rest.now }
     {
         if self.is_name() {
@@ -202,7 +204,7 @@ impl Parser<'_> {
 
     /// The `++` or `--` that comes next.
     fn suffix(&self) -> Option<BumpOp>
-        ensures { IsSuffix result (model.seen model.suffix_of self.now.rest.now) }
+        ensures { IsSuffix result (operators.seen operators.suffix_of self.now.rest.now) }
     {
         let [lexeme, ..] = self.rest else {
             return None;
@@ -223,15 +225,15 @@ impl Parser<'_> {
         let mut whole = self.primary(left)?;
         while let Some(op) = self.suffix() {
             self.advance();
-            let line = whole.get().line;
-            whole = make::bump(self.alloc, line, op, whole)?;
+            let offset = whole.get().offset;
+            whole = make::bump(self.alloc, offset, op, whole)?;
         }
         Ok(whole)
     }
 
     /// The operator before an operand that comes next.
     fn before(&self) -> Option<Before>
-        ensures { IsPrefix result (model.seen model.prefix_of self.now.rest.now) }
+        ensures { IsPrefix result (operators.seen operators.prefix_of self.now.rest.now) }
     {
         let [lexeme, ..] = self.rest else {
             return None;
@@ -254,10 +256,10 @@ impl Parser<'_> {
         ensures { Reads (model.prefixed_of (model.inside left) (sign op) self.old.rest.now) result
             self.new.rest.now }
     {
-        let line = self.line();
+        let offset = self.offset();
         let left = self.enter(mark, left)?;
         let operand = self.cast(left)?;
-        Ok(make::unary(self.alloc, line, op, operand)?)
+        Ok(make::unary(self.alloc, offset, op, operand)?)
     }
 
     #[cycle(expression)]
@@ -266,10 +268,10 @@ impl Parser<'_> {
         ensures { Reads (model.prefixed_of (model.inside left) increase self.old.rest.now) result
             self.new.rest.now }
     {
-        let line = self.line();
+        let offset = self.offset();
         let left = self.enter(Mark::PlusPlus, left)?;
         let operand = self.unary(left)?;
-        Ok(make::bump(self.alloc, line, BumpOp::PreInc, operand)?)
+        Ok(make::bump(self.alloc, offset, BumpOp::PreInc, operand)?)
     }
 
     #[cycle(expression)]
@@ -278,10 +280,10 @@ impl Parser<'_> {
         ensures { Reads (model.prefixed_of (model.inside left) decrease self.old.rest.now) result
             self.new.rest.now }
     {
-        let line = self.line();
+        let offset = self.offset();
         let left = self.enter(Mark::MinusMinus, left)?;
         let operand = self.unary(left)?;
-        Ok(make::bump(self.alloc, line, BumpOp::PreDec, operand)?)
+        Ok(make::bump(self.alloc, offset, BumpOp::PreDec, operand)?)
     }
 
     #[cycle(expression)]
@@ -324,12 +326,12 @@ impl Parser<'_> {
         ensures { Reads (model.cast_in (model.inside left) self.old.rest.now) result
             self.new.rest.now }
     {
-        let line = self.line();
+        let offset = self.offset();
         let left = self.enter(Mark::LeftParen, left)?;
         let (_, kind) = self.type_name()?;
         self.expect(Mark::RightParen)?;
         let operand = self.cast(left)?;
-        Ok(make::cast(self.alloc, line, kind, operand)?)
+        Ok(make::cast(self.alloc, offset, kind, operand)?)
     }
 
     /// A cast expression. A name or a number that stands alone, as most do, is made at once.

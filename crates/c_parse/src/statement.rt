@@ -5,6 +5,8 @@ ghost use Rattle.c_grammar.specs.inside.Parsing as parsing;
 ghost use Rattle.c_grammar.specs.Statements as grammar;
 ghost use Rattle.c_grammar.specs.inside.ModelExpressions.{inside};
 ghost use Rattle.c_grammar.specs.inside.ModelStatements as model;
+ghost use Rattle.c_grammar.specs.inside.ModelBegins as begins;
+ghost use Rattle.c_grammar.specs.inside.ModelEntries as entry_model;
 ghost use Rattle.c_tree.specs.declared.token.Key.TheVariants as keys;
 ghost use Rattle.c_tree.specs.declared.tree.StmtNode.TheVariants as nodes;
 ghost use Rattle.c_parse.specs.inside.Reads.{Reads, Puts};
@@ -19,7 +21,7 @@ use c_tree::{Expr, Form, Key, Mark, Stmt, StmtNode};
 impl Parser<'_> {
     /// Can a statement begin with the first token?
     pub fn begins_statement(&self) -> bool
-        ensures { result ≡ parsing.first model.begins_statement self.now.rest.now }
+        ensures { result ≡ parsing.first begins.begins_statement self.now.rest.now }
     {
         match self.rest {
             [] => false,
@@ -67,9 +69,9 @@ impl Parser<'_> {
     /// A statement, behind those that were found. Most begin with a name, and are expressions, or
     /// with `return`.
     #[cycle(statement)]
-    #[tactic(auto, using(crate::proofs::Nested::inner_plain, crate::proofs::Nested::inner_return), unfolding(c_grammar::specs::inside::ModelStatements::one_of))]
+    #[tactic(auto, using(crate::proofs::Nested::inner_plain, crate::proofs::Nested::inner_return), unfolding(c_grammar::specs::inside::ModelEntries::one_of))]
     fn one(&mut self, left: u8, found: &mut Items<Stmt>) -> Result<(), Stopped>
-        ensures { Puts (model.one_of (inside left) (model.below_at left) self.old.rest.now)
+        ensures { Puts (entry_model.one_of (inside left) (model.below_at left) self.old.rest.now)
             found.old found.new result self.new.rest.now }
     {
         if left != 0 && self.is_name() {
@@ -89,9 +91,9 @@ impl Parser<'_> {
 
     /// A statement, or the declarators of a declaration, behind those that were found.
     #[cycle(statement)]
-    #[tactic(auto, unfolding(c_grammar::specs::inside::ModelStatements::entry_of))]
+    #[tactic(auto, unfolding(c_grammar::specs::inside::ModelEntries::entry_of))]
     fn entry(&mut self, left: u8, found: &mut Items<Stmt>) -> Result<(), Stopped>
-        ensures { Puts (model.entry_of (inside left) (model.below_at left) self.old.rest.now)
+        ensures { Puts (entry_model.entry_of (inside left) (model.below_at left) self.old.rest.now)
             found.old found.new result self.new.rest.now }
     {
         if self.begins_type() {
@@ -103,7 +105,7 @@ impl Parser<'_> {
     /// Entries up to the closing brace.
     #[cycle(statement)]
     fn entries(&mut self, left: u8) -> Result<Items<Stmt>, Stopped>
-        ensures { Reads (model.entries_of (inside left) (model.below_at left) self.old.rest.now)
+        ensures { Reads (entry_model.entries_of (inside left) (model.below_at left) self.old.rest.now)
             result self.new.rest.now }
     {
         let mut found = Items::new(self.alloc);
@@ -124,10 +126,10 @@ impl Parser<'_> {
         ensures { Reads (model.compound_of (inside left) (model.below_at left) self.old.rest.now)
             result self.new.rest.now }
     {
-        let line = self.expect(Mark::LeftBrace)?;
+        let offset = self.expect(Mark::LeftBrace)?;
         let entries = self.entries(left)?;
         Ok(Stmt {
-            line,
+            offset,
             node: StmtNode::Compound(entries),
         })
     }
@@ -137,16 +139,16 @@ impl Parser<'_> {
     fn with_else(
         &mut self,
         left: u8,
-        line: u32,
+        offset: u32,
         test: Boxed<Expr>,
         yes: Boxed<Stmt>,
     ) -> Result<Stmt, Stopped>
-        ensures { Reads (model.else_of (inside left) (model.below_at left) line test yes
+        ensures { Reads (model.else_of (inside left) (model.below_at left) offset test yes
             self.old.rest.now) result self.new.rest.now }
     {
         self.expect_keyword(Key::Else)?;
         let no = self.branch(left)?;
-        Ok(build::if_else(line, test, yes, no))
+        Ok(build::if_else(offset, test, yes, no))
     }
 
     #[cycle(statement)]
@@ -154,17 +156,17 @@ impl Parser<'_> {
     fn after_if(
         &mut self,
         left: u8,
-        line: u32,
+        offset: u32,
         test: Boxed<Expr>,
         yes: Boxed<Stmt>,
     ) -> Result<Stmt, Stopped>
-        ensures { Reads (model.no_of (inside left) (model.below_at left) line test yes
+        ensures { Reads (model.no_of (inside left) (model.below_at left) offset test yes
             self.old.rest.now) result self.new.rest.now }
     {
         if self.is_word(Key::Else) {
-            return self.with_else(left, line, test, yes);
+            return self.with_else(left, offset, test, yes);
         }
-        Ok(build::if_only(line, test, yes))
+        Ok(build::if_only(offset, test, yes))
     }
 
     #[cycle(statement)]
@@ -173,10 +175,10 @@ impl Parser<'_> {
         ensures { Reads (model.if_of (inside left) (model.below_at left) self.old.rest.now) result
             self.new.rest.now }
     {
-        let line = self.expect_keyword(Key::If)?;
+        let offset = self.expect_keyword(Key::If)?;
         let test = self.test(left)?;
         let yes = self.branch(left)?;
-        self.after_if(left, line, test, yes)
+        self.after_if(left, offset, test, yes)
     }
 
     #[cycle(statement)]
@@ -185,10 +187,10 @@ impl Parser<'_> {
         ensures { Reads (model.while_of (inside left) (model.below_at left) self.old.rest.now)
             result self.new.rest.now }
     {
-        let line = self.expect_keyword(Key::While)?;
+        let offset = self.expect_keyword(Key::While)?;
         let test = self.test(left)?;
         let body = self.branch(left)?;
-        Ok(build::while_loop(line, test, body))
+        Ok(build::while_loop(offset, test, body))
     }
 
     #[cycle(statement)]
@@ -197,12 +199,12 @@ impl Parser<'_> {
         ensures { Reads (model.do_of (inside left) (model.below_at left) self.old.rest.now) result
             self.new.rest.now }
     {
-        let line = self.expect_keyword(Key::Do)?;
+        let offset = self.expect_keyword(Key::Do)?;
         let body = self.branch(left)?;
         self.expect_keyword(Key::While)?;
         let test = self.test(left)?;
         self.expect(Mark::Semicolon)?;
-        Ok(build::do_loop(line, body, test))
+        Ok(build::do_loop(offset, body, test))
     }
 
     #[cycle(statement)]
@@ -211,13 +213,13 @@ impl Parser<'_> {
         ensures { Reads (model.for_of (inside left) (model.below_at left) self.old.rest.now) result
             self.new.rest.now }
     {
-        let line = self.expect_keyword(Key::For)?;
+        let offset = self.expect_keyword(Key::For)?;
         self.expect(Mark::LeftParen)?;
         let init = Held::new(self.init(left)?);
         let test = Held::new(self.until_semicolon(left)?);
         let post = Held::new(self.until_paren(left)?);
         let body = self.branch(left)?;
-        Ok(build::for_loop(line, init, test, post, body))
+        Ok(build::for_loop(offset, init, test, post, body))
     }
 
     #[tactic(auto, unfolding(c_grammar::specs::inside::ModelStatements::leave_of))]
@@ -225,11 +227,11 @@ impl Parser<'_> {
         ensures { Reads (model.leave_of (inside left) (model.below_at left) keys.Break nodes.Break
             self.old.rest.now) result self.new.rest.now }
     {
-        let line = self.expect_keyword(Key::Break)?;
+        let offset = self.expect_keyword(Key::Break)?;
         self.expect(Mark::Semicolon)?;
         let _unused = left;
         Ok(Stmt {
-            line,
+            offset,
             node: StmtNode::Break,
         })
     }
@@ -239,11 +241,11 @@ impl Parser<'_> {
         ensures { Reads (model.leave_of (inside left) (model.below_at left) keys.Continue
             nodes.Continue self.old.rest.now) result self.new.rest.now }
     {
-        let line = self.expect_keyword(Key::Continue)?;
+        let offset = self.expect_keyword(Key::Continue)?;
         self.expect(Mark::Semicolon)?;
         let _unused = left;
         Ok(Stmt {
-            line,
+            offset,
             node: StmtNode::Continue,
         })
     }
@@ -254,10 +256,10 @@ impl Parser<'_> {
         ensures { Reads (model.return_of (inside left) (model.below_at left) self.old.rest.now)
             result self.new.rest.now }
     {
-        let line = self.expect_keyword(Key::Return)?;
+        let offset = self.expect_keyword(Key::Return)?;
         let value = self.until_semicolon(left)?;
         Ok(Stmt {
-            line,
+            offset,
             node: StmtNode::Return(value),
         })
     }
@@ -267,10 +269,10 @@ impl Parser<'_> {
         ensures { Reads (model.empty_of (inside left) (model.below_at left) self.old.rest.now)
             result self.new.rest.now }
     {
-        let line = self.expect(Mark::Semicolon)?;
+        let offset = self.expect(Mark::Semicolon)?;
         let _unused = left;
         Ok(Stmt {
-            line,
+            offset,
             node: StmtNode::Plain(None),
         })
     }
@@ -283,9 +285,9 @@ impl Parser<'_> {
     {
         let e = self.expression(left)?;
         self.expect(Mark::Semicolon)?;
-        let line = e.get().line;
+        let offset = e.get().offset;
         Ok(Stmt {
-            line,
+            offset,
             node: StmtNode::Plain(Some(e)),
         })
     }
@@ -339,7 +341,7 @@ impl Parser<'_> {
 }
 
 fn begins_with(form: &Form) -> bool
-    ensures { result ≡ model.begins_statement form.now }
+    ensures { result ≡ begins.begins_statement form.now }
 {
     match form {
         Form::Name(_) | Form::Number { .. } => true,

@@ -4,6 +4,8 @@ ghost use Rattle.std.specs.Prelude.{◌≡◌, length};
 ghost use Rattle.c_grammar.specs.inside.Parsing as parsing;
 ghost use Rattle.c_grammar.specs.inside.ModelExpressions.{inside};
 ghost use Rattle.c_grammar.specs.inside.ModelStatements as model;
+ghost use Rattle.c_grammar.specs.inside.ModelBegins as begins;
+ghost use Rattle.c_grammar.specs.inside.ModelSwitches as switches;
 ghost use Rattle.c_parse.specs.inside.Reads.{Reads};
 
 use crate::build;
@@ -15,7 +17,7 @@ use c_tree::{Form, Key, Label, Mark, Section, Stmt};
 impl Parser<'_> {
     /// Can a label begin with the first token?
     fn begins_label(&self) -> bool
-        ensures { result ≡ parsing.first model.begins_label self.now.rest.now }
+        ensures { result ≡ parsing.first begins.begins_label self.now.rest.now }
     {
         match self.rest {
             [] => false,
@@ -23,33 +25,36 @@ impl Parser<'_> {
         }
     }
 
-    #[tactic(auto, unfolding(c_grammar::specs::inside::ModelStatements::case_of))]
+    #[tactic(auto, unfolding(c_grammar::specs::inside::ModelSwitches::case_of))]
     fn case_label(&mut self, left: u8) -> Result<Label, Stopped>
-        ensures { Reads (model.case_of (inside left) self.old.rest.now) result self.new.rest.now }
+        ensures { Reads (switches.case_of (inside left) self.old.rest.now) result self.new.rest.now }
     {
-        let line = self.expect_keyword(Key::Case)?;
+        let offset = self.expect_keyword(Key::Case)?;
         let value = self.conditional(left)?;
         self.expect(Mark::Colon)?;
         Ok(Label {
-            line,
+            offset,
             value: Some(value),
         })
     }
 
-    #[tactic(auto, unfolding(c_grammar::specs::inside::ModelStatements::default_of))]
+    #[tactic(auto, unfolding(c_grammar::specs::inside::ModelSwitches::default_of))]
     fn default_label(&mut self, left: u8) -> Result<Label, Stopped>
-        ensures { Reads (model.default_of (inside left) self.old.rest.now) result
+        ensures { Reads (switches.default_of (inside left) self.old.rest.now) result
             self.new.rest.now }
     {
-        let line = self.expect_keyword(Key::Default)?;
+        let offset = self.expect_keyword(Key::Default)?;
         self.expect(Mark::Colon)?;
         let _unused = left;
-        Ok(Label { line, value: None })
+        Ok(Label {
+            offset,
+            value: None,
+        })
     }
 
-    #[tactic(auto, unfolding(c_grammar::specs::inside::ModelStatements::label_of))]
+    #[tactic(auto, unfolding(c_grammar::specs::inside::ModelSwitches::label_of))]
     fn section_label(&mut self, left: u8) -> Result<Label, Stopped>
-        ensures { Reads (model.label_of (inside left) self.old.rest.now) result self.new.rest.now }
+        ensures { Reads (switches.label_of (inside left) self.old.rest.now) result self.new.rest.now }
     {
         if self.is_word(Key::Case) {
             return self.case_label(left);
@@ -59,7 +64,7 @@ impl Parser<'_> {
 
     /// The labels of a section, one at least.
     fn labels(&mut self, left: u8) -> Result<Items<Label>, Stopped>
-        ensures { Reads (model.labels_of (inside left) self.old.rest.now) result self.new.rest.now }
+        ensures { Reads (switches.labels_of (inside left) self.old.rest.now) result self.new.rest.now }
     {
         let mut found = Items::new(self.alloc);
         let turns = self.rest.len() + 1;
@@ -76,7 +81,7 @@ impl Parser<'_> {
     /// The statements of a section, one at least.
     #[cycle(statement)]
     fn section_body(&mut self, left: u8) -> Result<Items<Stmt>, Stopped>
-        ensures { Reads (model.body_of (inside left) (model.below_at left) self.old.rest.now) result
+        ensures { Reads (switches.body_of (inside left) (model.below_at left) self.old.rest.now) result
             self.new.rest.now }
     {
         let mut found = Items::new(self.alloc);
@@ -92,9 +97,9 @@ impl Parser<'_> {
     }
 
     #[cycle(statement)]
-    #[tactic(auto, unfolding(c_grammar::specs::inside::ModelStatements::section_of))]
+    #[tactic(auto, unfolding(c_grammar::specs::inside::ModelSwitches::section_of))]
     fn section(&mut self, left: u8) -> Result<Items<Section>, Stopped>
-        ensures { Reads (model.section_of (inside left) (model.below_at left) self.old.rest.now)
+        ensures { Reads (switches.section_of (inside left) (model.below_at left) self.old.rest.now)
             result self.new.rest.now }
     {
         let labels = self.labels(left)?;
@@ -107,7 +112,7 @@ impl Parser<'_> {
     /// Sections up to the closing brace.
     #[cycle(statement)]
     fn sections(&mut self, left: u8) -> Result<Items<Section>, Stopped>
-        ensures { Reads (model.sections_of (inside left) (model.below_at left) self.old.rest.now)
+        ensures { Reads (switches.sections_of (inside left) (model.below_at left) self.old.rest.now)
             result self.new.rest.now }
     {
         let mut found = Items::new(self.alloc);
@@ -124,21 +129,21 @@ impl Parser<'_> {
     }
 
     #[cycle(statement)]
-    #[tactic(auto, unfolding(c_grammar::specs::inside::ModelStatements::switch_of))]
+    #[tactic(auto, unfolding(c_grammar::specs::inside::ModelSwitches::switch_of))]
     pub fn switch_statement(&mut self, left: u8) -> Result<Stmt, Stopped>
-        ensures { Reads (model.switch_of (inside left) (model.below_at left) self.old.rest.now)
+        ensures { Reads (switches.switch_of (inside left) (model.below_at left) self.old.rest.now)
             result self.new.rest.now }
     {
-        let line = self.expect_keyword(Key::Switch)?;
+        let offset = self.expect_keyword(Key::Switch)?;
         let test = self.test(left)?;
         self.expect(Mark::LeftBrace)?;
         let sections = self.sections(left)?;
-        Ok(build::switch(line, test, sections))
+        Ok(build::switch(offset, test, sections))
     }
 }
 
 fn begins_with(form: &Form) -> bool
-    ensures { result ≡ model.begins_label form.now }
+    ensures { result ≡ begins.begins_label form.now }
 {
     match form {
         Form::Key(key) => matches!(key, Key::Case | Key::Default),

@@ -20,12 +20,12 @@ use thiserror::Error;
 /// Why a list of tokens has no tree.
 #[derive(Debug, Drop, Error)]
 pub enum ParseFault {
-    /// No unit goes on with the token of this line; where the tokens only end too early, the line
-    /// is that of the last one, or 1 where there is none.
-    #[error("syntax error on line {0}")]
+    /// No unit goes on with the token at this offset; where the tokens only end too early, the offset
+    /// is that of the last one, or 0 where there is none.
+    #[error("syntax error at byte {0}")]
     Syntax(u32),
-    /// A token of this line would open a construct at depth 65.
-    #[error("nested too deeply on line {0}")]
+    /// The token at this offset would open a construct at depth 65.
+    #[error("nested too deeply at byte {0}")]
     TooDeep(u32),
     /// Want of memory.
     #[error("out of memory")]
@@ -34,13 +34,13 @@ pub enum ParseFault {
 
 /// The tree that spells the tokens (C17 6.9), as `c_grammar` says.
 ///
-/// Each list of tokens has exactly one answer, its tree or one fault with its line
+/// Each list of tokens has exactly one answer, its tree or one fault with its offset
 /// (`c_grammar::one_answer`), and it is given here but for want of memory.
 pub fn parse(alloc: Global, tokens: &[Lexeme]) -> Result<Program, ParseFault>
     ensures ok { IfOk result (λ program. IsUnit tokens.now program.items) }
-    ensures syntax { (line : ℕ) → result ≡ Err (faults.Syntax line)
-        → HasSyntaxFault tokens.now line }
-    ensures too_deep { (line : ℕ) → result ≡ Err (faults.TooDeep line) → IsTooDeep tokens.now line }
+    ensures syntax { (offset : ℕ) → result ≡ Err (faults.Syntax offset)
+        → HasSyntaxFault tokens.now offset }
+    ensures too_deep { (offset : ℕ) → result ≡ Err (faults.TooDeep offset) → IsTooDeep tokens.now offset }
     ensures only_ok { (xs : List Top) → IsUnit tokens.now xs
         → MatchResult result (λ program. program.items ≡ xs) IsMemory }
     ensures only_err { (fault : ParseFault) → HasFault tokens.now fault
@@ -52,29 +52,29 @@ pub fn parse(alloc: Global, tokens: &[Lexeme]) -> Result<Program, ParseFault>
     };
     match parser.unit() {
         Ok(items) => Ok(Program { items }),
-        Err(Stopped::Syntax) => Err(ParseFault::Syntax(fault_line(tokens, parser.rest))),
+        Err(Stopped::Syntax) => Err(ParseFault::Syntax(fault_offset(tokens, parser.rest))),
         Err(Stopped::TooDeep) => Err(depth_fault(tokens, parser.rest)),
         Err(Stopped::Memory) => Err(ParseFault::Memory),
     }
 }
 
-/// The line of the last token, or 1 where there is none.
-fn last_line(tokens: &[Lexeme]) -> u32
-    ensures { result ≡ grammar.last_line tokens.now }
+/// The offset of the last token, or 0 where there is none.
+fn last_offset(tokens: &[Lexeme]) -> u32
+    ensures { result ≡ grammar.last_offset tokens.now }
 {
     match tokens {
-        [] => 1,
-        [.., last] => last.line,
+        [] => 0,
+        [.., last] => last.offset,
     }
 }
 
-/// The line of the first token that is left, or of the last one where none is left.
-fn fault_line(tokens: &[Lexeme], rest: &[Lexeme]) -> u32
-    ensures { result ≡ parses.fault_line tokens.now rest.now }
+/// The offset of the first token that is left, or of the last one where none is left.
+fn fault_offset(tokens: &[Lexeme], rest: &[Lexeme]) -> u32
+    ensures { result ≡ parses.fault_offset tokens.now rest.now }
 {
     match rest {
-        [] => last_line(tokens),
-        [lexeme, ..] => lexeme.line,
+        [] => last_offset(tokens),
+        [lexeme, ..] => lexeme.offset,
     }
 }
 
@@ -84,7 +84,7 @@ fn depth_fault(tokens: &[Lexeme], rest: &[Lexeme]) -> ParseFault
     ensures { result ≡ parses.depth_fault tokens.now rest.now }
 {
     match rest {
-        [lexeme, _, ..] => ParseFault::TooDeep(lexeme.line),
-        _ => ParseFault::Syntax(last_line(tokens)),
+        [lexeme, _, ..] => ParseFault::TooDeep(lexeme.offset),
+        _ => ParseFault::Syntax(last_offset(tokens)),
     }
 }

@@ -1,7 +1,7 @@
 //! Tokens, trees and typed trees of the C profile (docs/LANGUAGE.md), as plain data.
 //!
 //! Contracts see each of them whole: a [`Word`] is its list of bytes, an `Items` its list and a `Boxed`
-//! what it holds. Lines are counted from 1. A negative value in a `u64` stands modulo 2^64.
+//! what it holds. Offsets count the bytes of the text from 0. A negative value in a `u64` stands modulo 2^64.
 #![tactic(auto)]
 
 mod limits;

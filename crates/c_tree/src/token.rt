@@ -121,9 +121,9 @@ pub enum Form {
     Mark(Mark),
 }
 
-/// A token and the line on which it begins.
+/// A token and its offset: how many bytes of the text stand before its first byte.
 #[derive(Debug, Drop)]
 pub struct Lexeme {
-    pub line: u32,
+    pub offset: u32,
     pub form: Form,
 }

@@ -42,11 +42,11 @@ pub enum BinaryOp {
     Remainder,
 }
 
-/// An expression (C17 6.5) and the line of its first token.
+/// An expression (C17 6.5) and the offset of its first token in the text.
 #[derive(Drop)]
 #[cycle(expr)]
 pub struct Expr {
-    pub line: u32,
+    pub offset: u32,
     pub node: ExprNode,
 }
 
@@ -118,11 +118,11 @@ pub enum ArraySize {
     },
 }
 
-/// A label of a section, at the line of its keyword: a case with its constant, or `default`, which has
+/// A label of a section, at the offset of its keyword: a case with its constant, or `default`, which has
 /// none (C17 6.8.1).
 #[derive(Drop)]
 pub struct Label {
-    pub line: u32,
+    pub offset: u32,
     pub value: Option<Boxed<Expr>>,
 }
 
@@ -134,13 +134,13 @@ pub struct Section {
     pub body: Items<Stmt>,
 }
 
-/// A statement (C17 6.8) or a local declaration, and the line of its first token.
+/// A statement (C17 6.8) or a local declaration, and the offset of its first token.
 ///
-/// A `Declare` stands at the line of its name.
+/// A `Declare` stands at the offset of its name.
 #[derive(Drop)]
 #[cycle(stmt)]
 pub struct Stmt {
-    pub line: u32,
+    pub offset: u32,
     pub node: StmtNode,
 }
 
@@ -193,19 +193,19 @@ pub enum ForInit {
     Locals(Items<Stmt>),
 }
 
-/// A parameter, at the line of its name, or of its type where it has none.
+/// A parameter, at the offset of its name, or of its type where it has none.
 #[derive(Drop)]
 pub struct Param {
-    pub line: u32,
+    pub offset: u32,
     pub kind: Kind,
     pub name: Option<Word>,
     pub size: ArraySize,
 }
 
-/// An item of a translation unit (C17 6.9): the include at its line, others at the line of their name.
+/// An item of a translation unit (C17 6.9): the include at its offset, others at the offset of their name.
 #[derive(Drop)]
 pub struct Top {
-    pub line: u32,
+    pub offset: u32,
     pub node: TopNode,
 }
 

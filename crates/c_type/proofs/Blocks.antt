@@ -30,9 +30,10 @@ use Rattle.c_type.specs.FileScopes.{eof_name, with_include, function_names}
 use Rattle.c_type.specs.Functions.{body_in, body_part, entry, callee_in}
 use Rattle.c_type.specs.inside.Functions.{param_names, next_number, params_names}
 use Rattle.c_type.specs.Programs.{node_after, item_after}
-use Rattle.c_type.proofs.Nodes.{after-Declare, after-Plain, after-Compound, after-If, after-While, after-Do}
-use Rattle.c_type.proofs.Nodes.{after-For, after-Switch, after-Break, after-Continue, after-Return}
-use Rattle.c_type.proofs.Nodes.{after-Nothing, after-First, after-Locals}
+use Rattle.c_type.proofs.Nodes.{after-Declare, after-Plain, after-Compound, after-If, after-While}
+use Rattle.c_type.proofs.Nodes.{after-Do, after-For, after-Break, after-Continue, after-Return}
+use Rattle.c_type.proofs.SwitchNodes.{after-Switch}
+use Rattle.c_type.proofs.BeginningNodes.{after-Nothing, after-First, after-Locals}
 
 -- PARAMETERS
 
@@ -205,7 +206,7 @@ keeps_stmt =
     (at_node _ _ _ _ (λ i. i.0) (λ n. n.0) (λ x. x.0) (λ s. s.0) (λ i. i.1) (λ x. x.1) (λ s. s.1) y))
     (λ x y e. subst (λ (x : Section-F ForInit StmtNode Section Stmt). KeepsSection (roll-Section x)) e
     (at_section _ _ _ _ (λ i. i.0) (λ n. n.0) (λ x. x.0) (λ s. s.0) (λ i. i.1) (λ x. x.1) (λ s. s.1) y))
-    (λ x y e. subst (λ (x : Stmt-F ForInit StmtNode Section Stmt). Keeps (roll-Stmt x)) e (y.node.1 y.line))
+    (λ x y e. subst (λ (x : Stmt-F ForInit StmtNode Section Stmt). Keeps (roll-Stmt x)) e (y.node.1 y.offset))
 
 keeps_all : (ss : List Stmt) (v : State) → Open v → Open (all_after (map part ss) v)
 keeps_all [] v h = h

@@ -1,22 +1,19 @@
 -- The definitions at each statement.
-use Rattle.std.proofs.Common.{◌≡◌, ℕ, refl, List, [], ◌∷◌, map, max, Option, Some, None, sym, ap, ◌∙◌, subst}
+use Rattle.std.proofs.Common.{◌≡◌, ℕ, List, [], ◌∷◌, map, max, Option, Some, None, sym, ap, ◌∙◌, subst}
 use Rattle.std.specs.Prelude.{option_map, Result, Ok, Err}
 use Rattle.std.specs.Result.{IsErrAnd}
 use Rattle.c_tree.specs.declared.token.Kind.{Kind}
 use Rattle.c_tree.specs.declared.tree.ArraySize.{ArraySize}
 use Rattle.c_tree.specs.declared.tree.Expr.{Expr}
-use Rattle.c_tree.specs.declared.tree.ForInit.{ForInit, map-ForInit, fold-roll-ForInit, fold-ForInit, roll-ForInit}
-use Rattle.c_tree.specs.declared.tree.ForInit.TheVariants as first_part
-use Rattle.c_tree.specs.declared.tree.ForInit.TheOpen.{ForInit-F, StmtNode-F}
-use Rattle.c_tree.specs.declared.tree.Section.{Section, fold-Section, fold-roll-Section, out-Section}
-use Rattle.c_tree.specs.declared.tree.Section.{roll-out-Section}
+use Rattle.c_tree.specs.declared.tree.ForInit.{ForInit, fold-ForInit}
+use Rattle.c_tree.specs.declared.tree.ForInit.TheOpen.{StmtNode-F}
+use Rattle.c_tree.specs.declared.tree.Section.{Section, fold-Section}
 use Rattle.c_tree.specs.declared.tree.Stmt.{Stmt, fold_out-Stmt, size-Stmt}
 use Rattle.c_tree.specs.declared.tree.StmtNode.{StmtNode, map-StmtNode, fold-roll-StmtNode}
 use Rattle.c_tree.specs.declared.tree.StmtNode.{fold-StmtNode, roll-StmtNode}
 use Rattle.c_tree.specs.declared.tree.StmtNode.TheVariants as node
 use Rattle.c_tree.specs.declared.typed.TypedStmt.{TypedStmt}
 use Rattle.c_tree.specs.declared.typed.TypedStmt.TheVariants as typed
-use Rattle.c_tree.specs.declared.typed.TypedForInit.TheVariants as typed_init
 use Rattle.c_type_expr.specs.declared.fault.TypeFault.{TypeFault}
 use Rattle.c_type_expr.specs.declared.fault.TypeFault.TheVariants.{Mismatch}
 use Rattle.c_type_expr.specs.declared.role.Role.TheVariants.{Value, Free}
@@ -26,31 +23,32 @@ use Rattle.c_type_expr.specs.Constants.{full}
 use Rattle.c_type_expr.specs.inside.Says.{Stops}
 use Rattle.c_type.specs.declared.state.State.{State}
 use Rattle.c_type.specs.declared.state.Around.{Around}
-use Rattle.c_type.specs.States.{at, entered, left, with_switch, in_loop}
+use Rattle.c_type.specs.States.{at, entered, left, in_loop}
 use Rattle.c_type.specs.LeftOut.{full_if, tree_if}
 use Rattle.c_type.specs.Declarations.{declared, declare_fault, declare_tree}
-use Rattle.c_type.specs.Statements.{Part, Beginning, part, beginning_of, init_part, node_part, at_line, all_after}
-use Rattle.c_type.specs.Statements.{all_fault, all_trees, else_after, else_fault, else_tree, rest_fault, for_fault}
-use Rattle.c_type.specs.Statements.{for_tree, return_fault, return_tree, SectionPart, section_part, statements_in}
-use Rattle.c_type.specs.Statements.{switch_part, switch_fault, switch_tree, switch_kind, sections_after}
-use Rattle.c_type.specs.inside.Statements.{section_of}
+use Rattle.c_type.specs.Statements.{Part, Beginning, part, beginning_of, init_part, node_part, at_offset}
+use Rattle.c_type.specs.Statements.{all_after, all_fault, all_trees, else_after, else_fault, else_tree}
+use Rattle.c_type.specs.Statements.{rest_fault, for_fault, for_tree, return_fault, return_tree}
+use Rattle.c_type.specs.Statements.{SectionPart, section_part, statements_in}
 use Rattle.c_type.specs.inside.Runs.{Runs}
 
-abbrev A : Type 0
+-- what is known of a statement, by its offset
+abbrev pub A : Type 0
 A = ℕ → Part
 
 -- what a statement does is given by its node, whose parts are folded
-part_by : (l : ℕ) (n : StmtNode) (x : StmtNode-F ForInit StmtNode Section Stmt) → roll-StmtNode x ≡ n
+pub part_by : (l : ℕ) (n : StmtNode) (x : StmtNode-F ForInit StmtNode Section Stmt) → roll-StmtNode x ≡ n
     → part (at l n) ≡ node_part (map-StmtNode ForInit StmtNode Section Stmt Beginning A SectionPart Part
-    (fold-ForInit Beginning A SectionPart Part init_part node_part section_part at_line)
-    (fold-StmtNode Beginning A SectionPart Part init_part node_part section_part at_line)
-    (fold-Section Beginning A SectionPart Part init_part node_part section_part at_line) part x) l
+    (fold-ForInit Beginning A SectionPart Part init_part node_part section_part at_offset)
+    (fold-StmtNode Beginning A SectionPart Part init_part node_part section_part at_offset)
+    (fold-Section Beginning A SectionPart Part init_part node_part section_part at_offset) part x) l
 unfolding part
 part_by l n x e =
-    fold_out-Stmt Beginning A SectionPart Part init_part node_part section_part at_line (at l n)
-    ∙ ap (λ (m : StmtNode). fold-StmtNode Beginning A SectionPart Part init_part node_part section_part at_line m l)
+    fold_out-Stmt Beginning A SectionPart Part init_part node_part section_part at_offset (at l n)
+    ∙ ap (λ (m : StmtNode). fold-StmtNode Beginning A SectionPart Part init_part node_part section_part at_offset m l)
     (sym e)
-    ∙ ap (λ (f : A). f l) (fold-roll-StmtNode Beginning A SectionPart Part init_part node_part section_part at_line x)
+    ∙ ap (λ (f : A). f l)
+    (fold-roll-StmtNode Beginning A SectionPart Part init_part node_part section_part at_offset x)
 
 -- the measure of a list of statements, and of a leg that may be left out
 abbrev pub deepest : List Stmt → ℕ
@@ -262,114 +260,7 @@ tree-If l test one None v =
 tree-If l test one (Some s) v =
     ap (λ (p : Part). p.tree v) (part_by l _ (StmtNode-F.If test one (Some s)) (node.rolls-If test one (Some s)))
 
--- a switch: the state after it, its first fault and its tree; each section is that of its statements
-pub fold_section : (x : Section)
-    → fold-Section Beginning A SectionPart Part init_part node_part section_part at_line x
-    ≡ section_of x
-unfolding part
-fold_section x =
-    ap (λ (y : Section). fold-Section Beginning A SectionPart Part init_part node_part section_part at_line y)
-    (sym (roll-out-Section x))
-    ∙ fold-roll-Section Beginning A SectionPart Part init_part node_part section_part at_line (out-Section x)
-
-all_sections : (xs : List Section)
-    → map (fold-Section Beginning A SectionPart Part init_part node_part section_part at_line) xs ≡ map section_of xs
-all_sections [] = refl
-all_sections (x ∷ xs) =
-    ap (λ (y : SectionPart). y ∷ map (fold-Section Beginning A SectionPart Part init_part node_part section_part
-    at_line) xs) (fold_section x)
-    ∙ ap (λ (ys : List SectionPart). section_of x ∷ ys) (all_sections xs)
-
-pub part-Switch : (l : ℕ) (test : Expr) (xs : List Section)
-    → part (at l (node.Switch test xs)) ≡ switch_part test (map section_of xs) l
-part-Switch l test xs =
-    part_by l _ (StmtNode-F.Switch test xs) (node.rolls-Switch test xs)
-    ∙ ap (λ ys. switch_part test ys l) (all_sections xs)
-
--- The state behind a switch.
-pub after-Switch : (l : ℕ) (test : Expr) (xs : List Section) (v : State)
-    → (part (at l (node.Switch test xs))).after v ≡ sections_after (map section_of xs)
-    (with_switch (switch_kind test v.names) v)
-after-Switch l test xs v = ap (λ (p : Part). p.after v) (part-Switch l test xs)
-
--- The first fault of a switch.
-pub fault-Switch : (l : ℕ) (test : Expr) (xs : List Section) (b : Around) (v : State)
-    → (part (at l (node.Switch test xs))).fault b v ≡ switch_fault test (map section_of xs) l b v
-fault-Switch l test xs b v = ap (λ (p : Part). p.fault b v) (part-Switch l test xs)
-
--- The typed tree of a switch.
-pub tree-Switch : (l : ℕ) (test : Expr) (xs : List Section) (v : State)
-    → (part (at l (node.Switch test xs))).tree v ≡ switch_tree test (map section_of xs) v
-tree-Switch l test xs v = ap (λ (p : Part). p.tree v) (part-Switch l test xs)
-
-pub ruleset on_switch = (after-Switch, fault-Switch, tree-Switch)
-
 pub ruleset on_if = (after-If, fault-If, tree-If)
-
--- what the first part of a `for` does is given by its node, whose parts are folded
-init_by : (i : ForInit) (x : ForInit-F ForInit StmtNode Section Stmt) → roll-ForInit x ≡ i
-    → beginning_of i ≡ init_part (map-ForInit ForInit StmtNode Section Stmt Beginning A SectionPart Part
-    (fold-ForInit Beginning A SectionPart Part init_part node_part section_part at_line)
-    (fold-StmtNode Beginning A SectionPart Part init_part node_part section_part at_line)
-    (fold-Section Beginning A SectionPart Part init_part node_part section_part at_line) part x)
-unfolding beginning_of part
-init_by i x e = ap (λ (m : ForInit). fold-ForInit Beginning A SectionPart Part init_part node_part section_part
-    at_line m) (sym e)
-    ∙ fold-roll-ForInit Beginning A SectionPart Part init_part node_part section_part at_line x
-
--- a first part that is left out
-pub after-Nothing : (v : State) → (beginning_of first_part.Nothing).after v ≡ v
-after-Nothing v = ap (λ (p : Beginning). p.after v) (init_by _ ForInit-F.Nothing first_part.rolls-Nothing)
-
--- The first fault of a `for` that begins with nothing.
-pub fault-Nothing : (b : Around) (v : State) → (beginning_of first_part.Nothing).fault b v ≡ None
-fault-Nothing b v = ap (λ (p : Beginning). p.fault b v) (init_by _ ForInit-F.Nothing first_part.rolls-Nothing)
-
--- The typed tree of a `for` that begins with nothing.
-pub tree-Nothing : (v : State) → (beginning_of first_part.Nothing).tree v ≡ typed_init.Nothing
-tree-Nothing v = ap (λ (p : Beginning). p.tree v) (init_by _ ForInit-F.Nothing first_part.rolls-Nothing)
-
--- a first part that is an expression
-pub after-First : (e : Expr) (v : State) → (beginning_of (first_part.First e)).after v ≡ v
-after-First e v = ap (λ (p : Beginning). p.after v) (init_by _ (ForInit-F.First e) (first_part.rolls-First e))
-
--- The first fault of a `for` that begins with an expression.
-pub fault-First : (e : Expr) (b : Around) (v : State)
-    → (beginning_of (first_part.First e)).fault b v ≡ full e Free v.names
-fault-First e b v = ap (λ (p : Beginning). p.fault b v) (init_by _ (ForInit-F.First e) (first_part.rolls-First e))
-
--- The typed tree of a `for` that begins with an expression.
-pub tree-First : (e : Expr) (v : State)
-    → (beginning_of (first_part.First e)).tree v ≡ typed_init.First (tree e v.names)
-tree-First e v = ap (λ (p : Beginning). p.tree v) (init_by _ (ForInit-F.First e) (first_part.rolls-First e))
-
--- a first part that declares
-pub after-Locals : (ss : List Stmt) (v : State)
-    → (beginning_of (first_part.Locals ss)).after v ≡ all_after (map part ss) v
-after-Locals ss v = ap (λ (p : Beginning). p.after v) (init_by _ (ForInit-F.Locals ss) (first_part.rolls-Locals ss))
-
--- The first fault of a `for` that begins with declarations.
-pub fault-Locals : (ss : List Stmt) (b : Around) (v : State)
-    → (beginning_of (first_part.Locals ss)).fault b v ≡ all_fault (map part ss) b v
-fault-Locals ss b v =
-    ap (λ (p : Beginning). p.fault b v) (init_by _ (ForInit-F.Locals ss) (first_part.rolls-Locals ss))
-
--- The typed tree of a `for` that begins with declarations.
-pub tree-Locals : (ss : List Stmt) (v : State)
-    → (beginning_of (first_part.Locals ss)).tree v ≡ typed_init.Locals (all_trees (map part ss) v)
-tree-Locals ss v = ap (λ (p : Beginning). p.tree v) (init_by _ (ForInit-F.Locals ss) (first_part.rolls-Locals ss))
-
-pub ruleset beginnings = (
-  after-Nothing,
-  fault-Nothing,
-  tree-Nothing,
-  after-First,
-  fault-First,
-  tree-First,
-  after-Locals,
-  fault-Locals,
-  tree-Locals,
-)
 
 -- where the test has no fault, an `if`'s fault is that of its legs
 pub if_next : (l : ℕ) (test : Expr) (one : Stmt) (other : Option Stmt) (b : Around) (v : State)

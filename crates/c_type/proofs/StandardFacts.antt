@@ -21,7 +21,7 @@ use Rattle.c_type.specs.Programs.{table}
 use Rattle.c_type.specs.inside.Programs.{program_fault}
 
 abbrev at : ℕ → TopNode → Top
-at l n = record { line = l; node = n }
+at l n = record { offset = l; node = n }
 
 abbrev unit : List Top → Program
 unit ts = record { items = ts }
@@ -36,7 +36,7 @@ prototype l w params = at l (Func (Some Int) w params None)
 
 -- a parameter of type int without a name
 abbrev int : Param
-int = record { line = 1; kind = Int; name = None; size = size.Scalar }
+int = record { offset = 1; kind = Int; name = None; size = size.Scalar }
 
 abbrev eight : List Param
 eight = int ∷ int ∷ int ∷ int ∷ int ∷ int ∷ int ∷ int ∷ []

@@ -36,7 +36,7 @@ case_fault (Some e) G = full_constant e G
 -- a label behind others: its constant comes before the label, which is another than they
 abbrev pub label_fault : Kind → List (Option ℕ) → Label → Scope → Blame
 label_fault k seen x G =
-    first (case_fault x.value G) (unless (not (label_among (label_word k x) seen)) (Twice x.line))
+    first (case_fault x.value G) (unless (not (label_among (label_word k x) seen)) (Twice x.offset))
 
 -- the labels of a section behind others
 abbrev pub labels_fault : Kind → List (Option ℕ) → List Label → Scope → Blame

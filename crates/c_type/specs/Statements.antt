@@ -190,7 +190,7 @@ switch_part test xs l = record {
   tree = switch_tree test xs;
 }
 
--- what a node of that line does
+-- what a node of that offset does
 abbrev pub node_part : StmtNode-F Beginning (ℕ → Part) SectionPart Part → ℕ → Part
 node_part (Declare k w size init) l = record {
   after = declared size k w;
@@ -255,13 +255,13 @@ init_part (Locals ps) = record {
 abbrev pub section_part : Section-F Beginning (ℕ → Part) SectionPart Part → SectionPart
 section_part x = record { labels = x.labels; body = x.body }
 
--- a statement, whose node has its line
-abbrev pub at_line : Stmt-F Beginning (ℕ → Part) SectionPart Part → Part
-at_line s = s.node s.line
+-- a statement, whose node has its offset
+abbrev pub at_offset : Stmt-F Beginning (ℕ → Part) SectionPart Part → Part
+at_offset s = s.node s.offset
 
 -- what a statement does, by recursion on it
 unfoldable pub part : Stmt → Part
-part s = fold-Stmt Beginning (ℕ → Part) SectionPart Part init_part node_part section_part at_line s
+part s = fold-Stmt Beginning (ℕ → Part) SectionPart Part init_part node_part section_part at_offset s
 
 -- the labels of a section
 abbrev pub labels_in : Section → List Label
@@ -274,4 +274,4 @@ statements_in x = (out-Section x).body
 -- what the first part of a `for` does, by recursion on it
 unfoldable pub beginning_of : ForInit → Beginning
 beginning_of i =
-    fold-ForInit Beginning (ℕ → Part) SectionPart Part init_part node_part section_part at_line i
+    fold-ForInit Beginning (ℕ → Part) SectionPart Part init_part node_part section_part at_offset i

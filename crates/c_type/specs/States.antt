@@ -54,9 +54,9 @@ with_array k q w n v =
 abbrev pub with_switch : Kind → State → State
 with_switch k v = record v { scalars = v.scalars ++ slot.Scalar k ∷ [] }
 
--- the statement of a line and a node
+-- the statement of an offset and a node
 abbrev pub at : ℕ → StmtNode → Stmt
-at l n = record { line = l; node = n }
+at l n = record { offset = l; node = n }
 
 -- around a body or an `else` of no loop and no switch
 abbrev pub nowhere : Around

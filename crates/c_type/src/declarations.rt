@@ -45,30 +45,30 @@ pub fn is_taken(names: &Scopes, name: &Word) -> bool
     }
 }
 
-pub fn twice(names: &Scopes, name: &Word, line: u32) -> Result<(), TypeFault>
-    ensures { Says (declarations.twice_fault names.now name.now line) tt result }
+pub fn twice(names: &Scopes, name: &Word, offset: u32) -> Result<(), TypeFault>
+    ensures { Says (declarations.twice_fault names.now name.now offset) tt result }
 {
     if is_taken(names, name) {
-        Err(TypeFault::Twice(line))
+        Err(TypeFault::Twice(offset))
     } else {
         Ok(())
     }
 }
 
 /// How many rows the sizes of a local array give, 1 where it has one size, and how long each is.
-fn sizes(names: &Scopes, size: &ArraySize, line: u32) -> Result<(u64, u64), TypeFault>
-    ensures { Says (declarations.sizes_fault size.now line names.now)
+fn sizes(names: &Scopes, size: &ArraySize, offset: u32) -> Result<(u64, u64), TypeFault>
+    ensures { Says (declarations.sizes_fault size.now offset names.now)
         (declarations.rows_of size.now, states.length_in size.now) result }
 {
     match size {
-        ArraySize::Scalar => Err(TypeFault::Mismatch(line)),
-        ArraySize::Open => Err(TypeFault::Mismatch(line)),
+        ArraySize::Scalar => Err(TypeFault::Mismatch(offset)),
+        ArraySize::Open => Err(TypeFault::Mismatch(offset)),
         ArraySize::Sized(size) => {
             let length = size_length(names, size.get())?;
             Ok((1, length))
         }
         ArraySize::Rows { rows, size } => match rows {
-            None => Err(TypeFault::Mismatch(line)),
+            None => Err(TypeFault::Mismatch(offset)),
             Some(rows) => {
                 let rows = size_length(names, rows.get())?;
                 let length = size_length(names, size.get())?;
@@ -94,35 +94,35 @@ fn array_length(
     size: &ArraySize,
     kind: Kind,
     name: &Word,
-    line: u32,
+    offset: u32,
 ) -> Result<(u32, Option<u32>), TypeFault>
-    ensures { Says (first (declarations.sizes_fault size.now line names.now)
-        (declarations.array_fault (declarations.extent size.now) kind name.now line names.now))
+    ensures { Says (first (declarations.sizes_fault size.now offset names.now)
+        (declarations.array_fault (declarations.extent size.now) kind name.now offset names.now))
         (declarations.extent size.now, states.row_in size.now) result }
 {
-    let (rows, length) = sizes(names, size, line)?;
-    twice(names, name, line)?;
+    let (rows, length) = sizes(names, size, offset)?;
+    twice(names, name, offset)?;
     let Some(all) = rows.checked_mul(length) else {
-        return Err(TypeFault::TooLarge(line));
+        return Err(TypeFault::TooLarge(offset));
     };
     if all > MOST_OBJECT_BYTES / bytes(kind) as u64 {
-        return Err(TypeFault::TooLarge(line));
+        return Err(TypeFault::TooLarge(offset));
     }
     let length = short(length)?;
     Ok((all as u32, row_in(size, length)))
 }
 
 /// The place of a scalar that may be declared.
-fn scalar_place(state: &State, name: &Word, line: u32) -> Result<u32, TypeFault>
-    ensures { Says (declarations.scalar_fault name.now line state.now) (length state.now.scalars)
+fn scalar_place(state: &State, name: &Word, offset: u32) -> Result<u32, TypeFault>
+    ensures { Says (declarations.scalar_fault name.now offset state.now) (length state.now.scalars)
         result }
 {
-    twice(&state.names, name, line)?;
+    twice(&state.names, name, offset)?;
     let place = state.scalars.len();
     if (place as u64) < MOST_SCALARS {
         Ok(place as u32)
     } else {
-        Err(TypeFault::TooManyScalars(line))
+        Err(TypeFault::TooManyScalars(offset))
     }
 }
 
@@ -185,12 +185,12 @@ fn add_array(
     Ok(())
 }
 
-fn no_init(init: &Option<Boxed<Expr>>, line: u32) -> Result<(), TypeFault>
-    ensures { Says (declarations.no_init init.now line) tt result }
+fn no_init(init: &Option<Boxed<Expr>>, offset: u32) -> Result<(), TypeFault>
+    ensures { Says (declarations.no_init init.now offset) tt result }
 {
     match init {
         None => Ok(()),
-        Some(_) => Err(TypeFault::Mismatch(line)),
+        Some(_) => Err(TypeFault::Mismatch(offset)),
     }
 }
 
@@ -201,13 +201,13 @@ fn bare_array(
     kind: Kind,
     name: &Word,
     init: &Option<Boxed<Expr>>,
-    line: u32,
+    offset: u32,
 ) -> Result<TypedArray, TypeFault>
-    ensures { Says (declarations.sized_fault size.now kind name.now init.now line names.now)
+    ensures { Says (declarations.sized_fault size.now kind name.now init.now offset names.now)
         (inside_declarations.typed_array size.now kind) result }
 {
-    let (length, row) = array_length(names, size, kind, name, line)?;
-    no_init(init, line)?;
+    let (length, row) = array_length(names, size, kind, name, offset)?;
+    no_init(init, offset)?;
     Ok(TypedArray { kind, length, row })
 }
 
@@ -231,36 +231,36 @@ fn sized(
 fn declare_array(
     alloc: Global,
     state: &mut State,
-    line: u32,
+    offset: u32,
     kind: Kind,
     name: Word,
     size: &ArraySize,
     init: &Option<Boxed<Expr>>,
 ) -> Result<TypedStmt, TypeFault>
-    ensures { Moves (declarations.sized_fault size.now kind name init.now line state.old.names)
+    ensures { Moves (declarations.sized_fault size.now kind name init.now offset state.old.names)
         (TypedStmt.Declare (Place.Array (length state.old.arrays)) None)
         (states.with_array kind (states.row_in size.now) name
         (declarations.extent size.now) state.old)
         state.new result }
 {
-    let array = bare_array(&state.names, size, kind, &name, init, line)?;
+    let array = bare_array(&state.names, size, kind, &name, init, offset)?;
     sized(alloc, state, array, name)
 }
 
 fn declare_scalar(
     alloc: Global,
     state: &mut State,
-    line: u32,
+    offset: u32,
     kind: Kind,
     name: Word,
     init: Option<Boxed<Expr>>,
 ) -> Result<TypedStmt, TypeFault>
-    ensures { Moves (declarations.scalar_init_fault kind name init line state.old)
+    ensures { Moves (declarations.scalar_init_fault kind name init offset state.old)
         (TypedStmt.Declare (Place.Scalar (length state.old.scalars))
         (left_out.value_of init kind (states.with_scalar kind name state.old).names))
         (states.with_scalar kind name state.old) state.new result }
 {
-    let place = scalar_place(state, &name, line)?;
+    let place = scalar_place(state, &name, offset)?;
     add_scalar(alloc, state, kind, name, place)?;
     let init = value_to(alloc, &state.names, kind, init)?;
     Ok(TypedStmt::Declare {
@@ -274,17 +274,17 @@ pub fn declare(
     alloc: Global,
     state: &mut State,
     around: Around,
-    line: u32,
+    offset: u32,
     kind: Kind,
     name: Word,
     size: ArraySize,
     init: Option<Boxed<Expr>>,
 ) -> Result<TypedStmt, TypeFault>
-    ensures { Runs (part (states.at line (node.Declare kind name size init))) around state.old
+    ensures { Runs (part (states.at offset (node.Declare kind name size init))) around state.old
         state.new result }
 {
     match size {
-        ArraySize::Scalar => declare_scalar(alloc, state, line, kind, name, init),
-        size => declare_array(alloc, state, line, kind, name, &size, &init),
+        ArraySize::Scalar => declare_scalar(alloc, state, offset, kind, name, init),
+        size => declare_array(alloc, state, offset, kind, name, &size, &init),
     }
 }

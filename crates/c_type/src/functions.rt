@@ -39,18 +39,18 @@ fn head(
     given: Option<Kind>,
     name: &Word,
     params: &[Param],
-    line: u32,
+    offset: u32,
 ) -> Result<Items<Slot>, TypeFault>
     requires { some_block names.old ≡ true }
-    ensures value { Says (inside_functions.head_fault is_def given name.now params.now line names.old)
+    ensures value { Says (inside_functions.head_fault is_def given name.now params.now offset names.old)
         (map states.slot_of params.now) result }
     ensures same { OnOk result (names.new ≡ names.old) }
 {
     params_at(alloc, names, is_def, params)?;
     let slots = slots_of(alloc, params)?;
     let found = names.look_up(name);
-    undefined(found, is_def, line)?;
-    agrees(found, given, slots.as_slice(), line)?;
+    undefined(found, is_def, offset)?;
+    agrees(found, given, slots.as_slice(), offset)?;
     Ok(slots)
 }
 
@@ -94,19 +94,19 @@ pub fn prototype(
     alloc: Global,
     table: &Scopes,
     names: &mut Scopes,
-    line: u32,
+    offset: u32,
     given: Option<Kind>,
     name: Word,
     params: &[Param],
 ) -> Result<(), TypeFault>
     requires { some_block names.old ≡ true }
     ensures { Moves
-        (inside_functions.head_fault Rattle.std.specs.Prelude.false given name params.now line names.old)
+        (inside_functions.head_fault Rattle.std.specs.Prelude.false given name params.now offset names.old)
         tt
         (functions.with_prototype table.now name given (map states.slot_of params.now) names.old)
         names.new result }
 {
-    let slots = head(alloc, names, false, given, &name, params, line)?;
+    let slots = head(alloc, names, false, given, &name, params, offset)?;
     if names.look_up(&name).is_some() {
         return Ok(());
     }
@@ -168,13 +168,13 @@ fn body(alloc: Global, state: &mut State, s: Stmt) -> Result<TypedStmt, TypeFaul
     ensures { Runs (functions.body_part s) nowhere state.old state.new
         result }
 {
-    let Stmt { line, node } = s;
+    let Stmt { offset, node } = s;
     match node {
         StmtNode::Compound(body) => {
             let body = all(alloc, state, NOWHERE, body)?;
             Ok(TypedStmt::Compound(body))
         }
-        node => type_stmt(alloc, state, NOWHERE, Stmt { line, node }),
+        node => type_stmt(alloc, state, NOWHERE, Stmt { offset, node }),
     }
 }
 
@@ -260,14 +260,14 @@ pub fn definition(
     alloc: Global,
     table: &Scopes,
     file: &mut FileScope,
-    line: u32,
+    offset: u32,
     given: Option<Kind>,
     name: Word,
     params: Items<Param>,
     s: Stmt,
 ) -> Result<(), TypeFault>
     requires { some_block file.old.names ≡ true }
-    ensures { Moves (inside_functions.definition_fault table.now given name params s line file.old) tt
+    ensures { Moves (inside_functions.definition_fault table.now given name params s offset file.old) tt
         (functions.with_definition table.now given name params s file.old) file.new result }
 {
     let slots = head(
@@ -277,7 +277,7 @@ pub fn definition(
         given,
         &name,
         params.as_slice(),
-        line,
+        offset,
     )?;
     let count = counted(params.len())?;
     let names = mem::replace(&mut file.names, Scopes::new(alloc));

@@ -34,29 +34,29 @@ fn place_at(
     length: u64,
     kind: Kind,
     name: &Word,
-    line: u32,
+    offset: u32,
 ) -> Result<u64, TypeFault>
-    ensures value { Says (units.place_fault (rows * length) kind name.now line file.now)
+    ensures value { Says (units.place_fault (rows * length) kind name.now offset file.now)
         (rows * length) result }
     ensures few { IfOk result (λ n. n * kinds.bytes kind + file.now.bytes ≤ most_object_bytes) }
 {
-    twice(&file.names, name, line)?;
+    twice(&file.names, name, offset)?;
     let Some(count) = rows.checked_mul(length) else {
-        return Err(TypeFault::TooLarge(line));
+        return Err(TypeFault::TooLarge(offset));
     };
     if has_room(count, kind, file.bytes) {
         Ok(count)
     } else {
-        Err(TypeFault::TooLarge(line))
+        Err(TypeFault::TooLarge(offset))
     }
 }
 
-fn some_values(count: u64, line: u32) -> Result<(), TypeFault>
-    ensures { Says (unless (Rattle.std.specs.Prelude.nat_lt 0 count) (TypeFault.Mismatch line)) tt
+fn some_values(count: u64, offset: u32) -> Result<(), TypeFault>
+    ensures { Says (unless (Rattle.std.specs.Prelude.nat_lt 0 count) (TypeFault.Mismatch offset)) tt
         result }
 {
     if count == 0 {
-        Err(TypeFault::Mismatch(line))
+        Err(TypeFault::Mismatch(offset))
     } else {
         Ok(())
     }
@@ -67,16 +67,16 @@ fn sizes_in(
     names: &Scopes,
     size: &ArraySize,
     init: &[Items<Boxed<Expr>>],
-    line: u32,
+    offset: u32,
 ) -> Result<(u64, u64), TypeFault>
-    ensures { Says (inside_units.count_fault size.now init.now line names.now)
+    ensures { Says (inside_units.count_fault size.now init.now offset names.now)
         (units.global_rows size.now init.now, units.row_length size.now init.now) result }
 {
     match size {
         ArraySize::Scalar => Ok((1, 1)),
         ArraySize::Open => {
             let count = value_count(init)?;
-            some_values(count, line)?;
+            some_values(count, offset)?;
             Ok((1, count))
         }
         ArraySize::Sized(size) => {
@@ -86,7 +86,7 @@ fn sizes_in(
         ArraySize::Rows { rows, size } => match rows {
             None => {
                 let length = size_length(names, size.get())?;
-                some_values(init.len() as u64, line)?;
+                some_values(init.len() as u64, offset)?;
                 Ok((init.len() as u64, length))
             }
             Some(rows) => {
@@ -150,13 +150,13 @@ struct Admitted {
 
 fn admit(
     file: &FileScope,
-    line: u32,
+    offset: u32,
     kind: Kind,
     name: &Word,
     size: &ArraySize,
     init: &[Items<Boxed<Expr>>],
 ) -> Result<Admitted, TypeFault>
-    ensures value { Says (inside_units.admitted_fault size.now kind name.now init.now line file.now) (record {
+    ensures value { Says (inside_units.admitted_fault size.now kind name.now init.now offset file.now) (record {
       number = length file.now.globals;
       rows = units.global_rows size.now init.now;
       length = units.row_length size.now init.now;
@@ -165,8 +165,8 @@ fn admit(
     ensures few { IfOk result
         (λ r. r.count * kinds.bytes kind + file.now.bytes ≤ most_object_bytes) }
 {
-    let (rows, length) = sizes_in(&file.names, size, init, line)?;
-    let count = place_at(file, rows, length, kind, name, line)?;
+    let (rows, length) = sizes_in(&file.names, size, init, offset)?;
+    let count = place_at(file, rows, length, kind, name, offset)?;
     let number = counted(file.globals.len())?;
     Ok(Admitted {
         number,
@@ -181,7 +181,7 @@ fn admit(
 fn given(
     alloc: Global,
     names: &Scopes,
-    line: u32,
+    offset: u32,
     kind: Kind,
     size: &ArraySize,
     known: Admitted,
@@ -190,12 +190,12 @@ fn given(
     requires rows { known.rows ≡ units.global_rows size.now init.now }
     requires length { known.length ≡ units.row_length size.now init.now }
     ensures { Says (first (inside_units.values_fault (file_scopes.all_values init.now) names.now)
-        (unless (units.init_fits size.now init.now) (TypeFault.Mismatch line)))
+        (unless (units.init_fits size.now init.now) (TypeFault.Mismatch offset)))
         (units.init_words size.now kind init.now) result }
 {
     let words = values(alloc, names, kind, init)?;
     if !fits(size, known.rows, known.length, words.len() as u64, init) {
-        return Err(TypeFault::Mismatch(line));
+        return Err(TypeFault::Mismatch(offset));
     }
     match size {
         ArraySize::Rows { .. } => whole_rows(alloc, words.as_slice(), init, known.length),
@@ -208,20 +208,20 @@ fn given(
 pub fn global(
     alloc: Global,
     file: &mut FileScope,
-    line: u32,
+    offset: u32,
     kind: Kind,
     name: Word,
     size: &ArraySize,
     init: &[Items<Boxed<Expr>>],
 ) -> Result<(), TypeFault>
-    ensures { Moves (inside_units.global_fault size.now kind name init.now line file.old) tt
+    ensures { Moves (inside_units.global_fault size.now kind name init.now offset file.old) tt
         (units.with_global size.now kind name init.now file.old) file.new result }
 {
-    let known = admit(file, line, kind, &name, size, init)?;
+    let known = admit(file, offset, kind, &name, size, init)?;
     let length = short(known.length)?;
     file.names
         .declare(alloc, name, meaning_of(size, kind, length, known.number))?;
-    let init = given(alloc, &file.names, line, kind, size, known, init)?;
+    let init = given(alloc, &file.names, offset, kind, size, known, init)?;
     file.bytes += known.count * bytes(kind) as u64;
     file.globals.push(TypedGlobal {
         kind,

@@ -60,18 +60,23 @@ pub fn put_char(alloc: Global) -> Result<Meaning, AllocError>
 }
 
 /// Whether the include may stand where it does.
-fn clash(alloc: Global, names: &Scopes, line: u32) -> Result<(), TypeFault>
-    ensures { Says (units.include_clash names.now line) tt result }
+fn clash(alloc: Global, names: &Scopes, offset: u32) -> Result<(), TypeFault>
+    ensures { Says (units.include_clash names.now offset) tt result }
 {
     let eof = eof_name(alloc)?;
     let get = getchar_name(alloc)?;
     let put = putchar_name(alloc)?;
     let slots = int_slots(alloc)?;
-    undefined(names.look_up(&get), true, line)?;
-    undefined(names.look_up(&put), true, line)?;
-    twice(names, &eof, line)?;
-    agrees(names.look_up(&get), Some(Kind::Int), &[], line)?;
-    agrees(names.look_up(&put), Some(Kind::Int), slots.as_slice(), line)
+    undefined(names.look_up(&get), true, offset)?;
+    undefined(names.look_up(&put), true, offset)?;
+    twice(names, &eof, offset)?;
+    agrees(names.look_up(&get), Some(Kind::Int), &[], offset)?;
+    agrees(
+        names.look_up(&put),
+        Some(Kind::Int),
+        slots.as_slice(),
+        offset,
+    )
 }
 
 /// The names of the include, declared.
@@ -86,14 +91,14 @@ fn declared(alloc: Global, names: &mut Scopes) -> Result<(), TypeFault>
 }
 
 /// The names after the include.
-pub fn include(alloc: Global, names: &mut Scopes, line: u32) -> Result<(), TypeFault>
-    ensures { Moves (units.include_fault names.old line) tt (units.included names.old) names.new
+pub fn include(alloc: Global, names: &mut Scopes, offset: u32) -> Result<(), TypeFault>
+    ensures { Moves (units.include_fault names.old offset) tt (units.included names.old) names.new
         result }
 {
     let eof = eof_name(alloc)?;
     if is_end(names.look_up(&eof)) {
         return Ok(());
     }
-    clash(alloc, names, line)?;
+    clash(alloc, names, offset)?;
     declared(alloc, names)
 }

@@ -18,11 +18,11 @@ use std::alloc::Global;
 fn return_stmt(
     alloc: Global,
     state: &State,
-    line: u32,
+    offset: u32,
     e: Option<Boxed<Expr>>,
 ) -> Result<TypedStmt, TypeFault>
     ensures { Says (first (left_out.full_if e Role.Value state.now.names)
-        (return_fault state.now.result e line))
+        (return_fault state.now.result e offset))
         (TypedStmt.Return (return_tree state.now.result e state.now.names)) result }
 {
     match state.result {
@@ -30,7 +30,7 @@ fn return_stmt(
             let found = e.is_some();
             let e = full_if(alloc, &state.names, Role::Value, e)?;
             if found {
-                Err(TypeFault::Mismatch(line))
+                Err(TypeFault::Mismatch(offset))
             } else {
                 Ok(TypedStmt::Return(e))
             }
@@ -39,7 +39,7 @@ fn return_stmt(
             let missing = e.is_none();
             let e = value_to(alloc, &state.names, kind, e)?;
             if missing {
-                Err(TypeFault::Mismatch(line))
+                Err(TypeFault::Mismatch(offset))
             } else {
                 Ok(TypedStmt::Return(e))
             }
@@ -52,32 +52,32 @@ pub fn give(
     alloc: Global,
     state: &State,
     around: Around,
-    line: u32,
+    offset: u32,
     e: Option<Boxed<Expr>>,
 ) -> Result<TypedStmt, TypeFault>
-    ensures { Runs (part (states.at line (node.Return e))) around state.now state.now result }
+    ensures { Runs (part (states.at offset (node.Return e))) around state.now state.now result }
 {
-    return_stmt(alloc, state, line, e)
+    return_stmt(alloc, state, offset, e)
 }
 
 #[tactic(auto, using(crate::proofs::Nodes::on_break))]
-pub fn break_stmt(state: &State, around: Around, line: u32) -> Result<TypedStmt, TypeFault>
-    ensures { Runs (part (states.at line node.Break)) around state.now state.now result }
+pub fn break_stmt(state: &State, around: Around, offset: u32) -> Result<TypedStmt, TypeFault>
+    ensures { Runs (part (states.at offset node.Break)) around state.now state.now result }
 {
     if around.may_break {
         Ok(TypedStmt::Break)
     } else {
-        Err(TypeFault::Mismatch(line))
+        Err(TypeFault::Mismatch(offset))
     }
 }
 
 #[tactic(auto, using(crate::proofs::Nodes::on_continue))]
-pub fn continue_stmt(state: &State, around: Around, line: u32) -> Result<TypedStmt, TypeFault>
-    ensures { Runs (part (states.at line node.Continue)) around state.now state.now result }
+pub fn continue_stmt(state: &State, around: Around, offset: u32) -> Result<TypedStmt, TypeFault>
+    ensures { Runs (part (states.at offset node.Continue)) around state.now state.now result }
 {
     if around.may_continue {
         Ok(TypedStmt::Continue)
     } else {
-        Err(TypeFault::Mismatch(line))
+        Err(TypeFault::Mismatch(offset))
     }
 }

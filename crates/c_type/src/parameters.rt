@@ -83,21 +83,21 @@ fn name_at(
     is_def: bool,
     seen: &[Param],
     name: &Option<Word>,
-    line: u32,
+    offset: u32,
 ) -> Result<(), TypeFault>
-    ensures { Says (functions.name_fault is_def names.now seen.now name.now line) tt result }
+    ensures { Says (functions.name_fault is_def names.now seen.now name.now offset) tt result }
 {
     match name {
         None => {
             if is_def {
-                Err(TypeFault::Mismatch(line))
+                Err(TypeFault::Mismatch(offset))
             } else {
                 Ok(())
             }
         }
         Some(word) => {
             if named_among(seen, word) || is_end(names.look_up(word)) {
-                Err(TypeFault::Twice(line))
+                Err(TypeFault::Twice(offset))
             } else {
                 Ok(())
             }
@@ -196,15 +196,15 @@ fn fits(length: u64, kind: Kind) -> bool
 }
 
 /// Whether a row of an array parameter has no more bytes than an array may have.
-fn row_bytes(size: &ArraySize, kind: Kind, line: u32) -> Result<(), TypeFault>
-    ensures { Says (functions.row_bytes_fault size.now kind line) tt result }
+fn row_bytes(size: &ArraySize, kind: Kind, offset: u32) -> Result<(), TypeFault>
+    ensures { Says (functions.row_bytes_fault size.now kind offset) tt result }
 {
     match size {
         ArraySize::Rows { size, .. } => {
             if fits(length_or_zero(size.get()), kind) {
                 Ok(())
             } else {
-                Err(TypeFault::TooLarge(line))
+                Err(TypeFault::TooLarge(offset))
             }
         }
         _ => Ok(()),
@@ -223,11 +223,11 @@ fn param_at(
     ensures same { OnOk result (names.new ≡ names.old) }
 {
     row_at(alloc, names, seen, &param.size)?;
-    name_at(names, is_def, seen, &param.name, param.line)?;
+    name_at(names, is_def, seen, &param.name, param.offset)?;
     if seen.len() >= MOST_PARAMETERS {
-        return Err(TypeFault::TooManyParams(param.line));
+        return Err(TypeFault::TooManyParams(param.offset));
     }
-    row_bytes(&param.size, param.kind, param.line)
+    row_bytes(&param.size, param.kind, param.offset)
 }
 
 /// Whether a function may have these parameters: the first that is one too many is the last that is looked at.

@@ -57,10 +57,10 @@ pub fn plain(
     alloc: Global,
     state: &State,
     around: Around,
-    line: u32,
+    offset: u32,
     e: Option<Boxed<Expr>>,
 ) -> Result<TypedStmt, TypeFault>
-    ensures { Runs (part (states.at line (node.Plain e))) around state.now state.now result }
+    ensures { Runs (part (states.at offset (node.Plain e))) around state.now state.now result }
 {
     let e = full_if(alloc, &state.names, Role::Free, e)?;
     Ok(TypedStmt::Plain(e))

@@ -82,11 +82,11 @@ fn table(alloc: Global, items: &[Top]) -> Result<Scopes, TypeFault>
 }
 
 /// The file scope after the include.
-fn include_at(alloc: Global, file: &mut FileScope, line: u32) -> Result<(), TypeFault>
-    ensures { Moves (inside_programs.node_fault ([] ∷ []) TopNode.Include line file.old) tt
+fn include_at(alloc: Global, file: &mut FileScope, offset: u32) -> Result<(), TypeFault>
+    ensures { Moves (inside_programs.node_fault ([] ∷ []) TopNode.Include offset file.old) tt
         (programs.node_after ([] ∷ []) TopNode.Include file.old) file.new result }
 {
-    include(alloc, &mut file.names, line)
+    include(alloc, &mut file.names, offset)
 }
 
 /// The file scope after a prototype.
@@ -94,16 +94,16 @@ fn prototype_at(
     alloc: Global,
     table: &Scopes,
     file: &mut FileScope,
-    line: u32,
+    offset: u32,
     given: Option<Kind>,
     name: Word,
     params: &[Param],
 ) -> Result<(), TypeFault>
     requires { some_block file.old.names ≡ true }
-    ensures { Moves (inside_programs.prototype_fault given name params.now line file.old) tt
+    ensures { Moves (inside_programs.prototype_fault given name params.now offset file.old) tt
         (programs.with_prototype_at table.now given name params.now file.old) file.new result }
 {
-    prototype(alloc, table, &mut file.names, line, given, name, params)
+    prototype(alloc, table, &mut file.names, offset, given, name, params)
 }
 
 /// The file scope after a prototype or a definition.
@@ -111,7 +111,7 @@ fn function(
     alloc: Global,
     table: &Scopes,
     file: &mut FileScope,
-    line: u32,
+    offset: u32,
     given: Option<Kind>,
     name: Word,
     params: Items<Param>,
@@ -119,13 +119,13 @@ fn function(
 ) -> Result<(), TypeFault>
     requires { some_block file.old.names ≡ true }
     ensures { Moves
-        (inside_programs.node_fault table.now (TopNode.Func given name params body) line file.old) tt
+        (inside_programs.node_fault table.now (TopNode.Func given name params body) offset file.old) tt
         (programs.node_after table.now (TopNode.Func given name params body) file.old) file.new
         result }
 {
     match body {
-        None => prototype_at(alloc, table, file, line, given, name, params.as_slice()),
-        Some(body) => definition(alloc, table, file, line, given, name, params, body),
+        None => prototype_at(alloc, table, file, offset, given, name, params.as_slice()),
+        Some(body) => definition(alloc, table, file, offset, given, name, params, body),
     }
 }
 
@@ -135,21 +135,21 @@ fn item(alloc: Global, table: &Scopes, file: &mut FileScope, top: Top) -> Result
     ensures { Moves (inside_programs.item_fault table.now top file.old) tt
         (programs.item_after table.now top file.old) file.new result }
 {
-    let Top { line, node } = top;
+    let Top { offset, node } = top;
     match node {
-        TopNode::Include => include_at(alloc, file, line),
+        TopNode::Include => include_at(alloc, file, offset),
         TopNode::Global {
             kind,
             name,
             size,
             init,
-        } => global(alloc, file, line, kind, name, &size, init.as_slice()),
+        } => global(alloc, file, offset, kind, name, &size, init.as_slice()),
         TopNode::Func {
             result: given,
             name,
             params,
             body,
-        } => function(alloc, table, file, line, given, name, params, body),
+        } => function(alloc, table, file, offset, given, name, params, body),
     }
 }
 

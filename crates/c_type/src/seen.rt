@@ -104,8 +104,8 @@ impl SeenLabels {
     }
 
     /// One label more, which is another than those before it.
-    pub fn add(&mut self, word: Option<u64>, line: u32) -> Result<(), TypeFault>
-        ensures { Moves (unless (not (label_among word self.old)) (TypeFault.Twice line)) tt
+    pub fn add(&mut self, word: Option<u64>, offset: u32) -> Result<(), TypeFault>
+        ensures { Moves (unless (not (label_among word self.old)) (TypeFault.Twice offset)) tt
             (self.old ++ word ∷ []) self.new result }
     {
         match add_label(
@@ -115,7 +115,7 @@ impl SeenLabels {
             word,
         ) {
             Ok(true) => Ok(()),
-            Ok(false) => Err(TypeFault::Twice(line)),
+            Ok(false) => Err(TypeFault::Twice(offset)),
             Err(_) => Err(TypeFault::Memory),
         }
     }

@@ -46,19 +46,19 @@ fn same_result(a: Option<Kind>, b: Option<Kind>) -> bool
 }
 
 /// Whether a name may be declared as a function, or defined as one.
-pub fn undefined(found: Option<&Meaning>, is_def: bool, line: u32) -> Result<(), TypeFault>
-    ensures { Says (units.defined_fault is_def (option_copied found.entry) line) tt result }
+pub fn undefined(found: Option<&Meaning>, is_def: bool, offset: u32) -> Result<(), TypeFault>
+    ensures { Says (units.defined_fault is_def (option_copied found.entry) offset) tt result }
 {
     match found {
         None => Ok(()),
         Some(Meaning::Function { defined, .. }) => {
             if is_def && *defined {
-                Err(TypeFault::Twice(line))
+                Err(TypeFault::Twice(offset))
             } else {
                 Ok(())
             }
         }
-        Some(_) => Err(TypeFault::Twice(line)),
+        Some(_) => Err(TypeFault::Twice(offset)),
     }
 }
 
@@ -67,9 +67,9 @@ pub fn agrees(
     found: Option<&Meaning>,
     given: Option<Kind>,
     slots: &[Slot],
-    line: u32,
+    offset: u32,
 ) -> Result<(), TypeFault>
-    ensures { Says (units.type_fault given slots.now (option_copied found.entry) line) tt result }
+    ensures { Says (units.type_fault given slots.now (option_copied found.entry) offset) tt result }
 {
     match found {
         Some(
@@ -82,7 +82,7 @@ pub fn agrees(
             if same_result(*declared, given) && same_slots(params.as_slice(), slots) {
                 Ok(())
             } else {
-                Err(TypeFault::Mismatch(line))
+                Err(TypeFault::Mismatch(offset))
             }
         }
         _ => Ok(()),

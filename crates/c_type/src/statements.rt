@@ -53,10 +53,10 @@ fn block(
     alloc: Global,
     state: &mut State,
     around: Around,
-    line: u32,
+    offset: u32,
     body: Items<Stmt>,
 ) -> Result<TypedStmt, TypeFault>
-    ensures { Runs (part (at line (node.Compound body))) around state.old state.new result }
+    ensures { Runs (part (at offset (node.Compound body))) around state.old state.new result }
 {
     state.names.open()?;
     let body = all(alloc, state, around, body)?;
@@ -116,12 +116,12 @@ fn either(
     alloc: Global,
     state: &mut State,
     around: Around,
-    line: u32,
+    offset: u32,
     test: Boxed<Expr>,
     yes: Boxed<Stmt>,
     no: Option<Boxed<Stmt>>,
 ) -> Result<TypedStmt, TypeFault>
-    ensures { Runs (part (at line (node.If test yes no))) around state.old state.new result }
+    ensures { Runs (part (at offset (node.If test yes no))) around state.old state.new result }
 {
     let test = full(alloc, &state.names, Role::Value, test)?;
     let (yes, no) = legs(alloc, state, around, yes, no)?;
@@ -134,11 +134,11 @@ fn while_stmt(
     alloc: Global,
     state: &mut State,
     around: Around,
-    line: u32,
+    offset: u32,
     test: Boxed<Expr>,
     body: Boxed<Stmt>,
 ) -> Result<TypedStmt, TypeFault>
-    ensures { Runs (part (at line (node.While test body))) around state.old state.new result }
+    ensures { Runs (part (at offset (node.While test body))) around state.old state.new result }
 {
     let test = full(alloc, &state.names, Role::Value, test)?;
     let body = boxed(alloc, state, IN_LOOP, body)?;
@@ -151,11 +151,11 @@ fn do_stmt(
     alloc: Global,
     state: &mut State,
     around: Around,
-    line: u32,
+    offset: u32,
     body: Boxed<Stmt>,
     test: Boxed<Expr>,
 ) -> Result<TypedStmt, TypeFault>
-    ensures { Runs (part (at line (node.Do body test))) around state.old state.new result }
+    ensures { Runs (part (at offset (node.Do body test))) around state.old state.new result }
 {
     let body = boxed(alloc, state, IN_LOOP, body)?;
     let test = full(alloc, &state.names, Role::Value, test)?;
@@ -163,7 +163,7 @@ fn do_stmt(
 }
 
 #[cycle(stmt)]
-#[tactic(auto, using(crate::proofs::Nodes::beginnings))]
+#[tactic(auto, using(crate::proofs::BeginningNodes::beginnings))]
 fn beginning(
     alloc: Global,
     state: &mut State,
@@ -248,11 +248,11 @@ fn for_stmt(
     alloc: Global,
     state: &mut State,
     around: Around,
-    line: u32,
+    offset: u32,
     init: ForInit,
     rest: Rest,
 ) -> Result<TypedStmt, TypeFault>
-    ensures { Runs (part (at line (node.For init rest.test rest.tail.post rest.tail.body))) around
+    ensures { Runs (part (at offset (node.For init rest.test rest.tail.post rest.tail.body))) around
         state.old state.new result }
 {
     state.names.open()?;
@@ -306,19 +306,19 @@ fn some_sections(
 }
 
 #[cycle(stmt)]
-#[tactic(auto, using(crate::proofs::Nodes::on_switch))]
+#[tactic(auto, using(crate::proofs::SwitchNodes::on_switch))]
 fn switch(
     alloc: Global,
     state: &mut State,
     around: Around,
-    line: u32,
+    offset: u32,
     test: Boxed<Expr>,
     sections: Items<Section>,
 ) -> Result<TypedStmt, TypeFault>
-    ensures { Runs (part (at line (node.Switch test sections))) around state.old state.new result }
+    ensures { Runs (part (at offset (node.Switch test sections))) around state.old state.new result }
 {
     let (test, kind) = switch_test(alloc, &state.names, test)?;
-    let scalar = switch_scalar(state, kind, line)?;
+    let scalar = switch_scalar(state, kind, offset)?;
     let around = Around {
         may_break: true,
         may_continue: around.may_continue,
@@ -341,19 +341,19 @@ pub fn type_stmt(
 ) -> Result<TypedStmt, TypeFault>
     ensures { Runs (part s) around state.old state.new result }
 {
-    let Stmt { line, node } = s;
+    let Stmt { offset, node } = s;
     match node {
         StmtNode::Declare {
             kind,
             name,
             size,
             init,
-        } => declare(alloc, state, around, line, kind, name, size, init),
-        StmtNode::Plain(e) => plain(alloc, state, around, line, e),
-        StmtNode::Compound(body) => block(alloc, state, around, line, body),
-        StmtNode::If { test, yes, no } => either(alloc, state, around, line, test, yes, no),
-        StmtNode::While { test, body } => while_stmt(alloc, state, around, line, test, body),
-        StmtNode::Do { body, test } => do_stmt(alloc, state, around, line, body, test),
+        } => declare(alloc, state, around, offset, kind, name, size, init),
+        StmtNode::Plain(e) => plain(alloc, state, around, offset, e),
+        StmtNode::Compound(body) => block(alloc, state, around, offset, body),
+        StmtNode::If { test, yes, no } => either(alloc, state, around, offset, test, yes, no),
+        StmtNode::While { test, body } => while_stmt(alloc, state, around, offset, test, body),
+        StmtNode::Do { body, test } => do_stmt(alloc, state, around, offset, body, test),
         StmtNode::For {
             init,
             test,
@@ -361,13 +361,13 @@ pub fn type_stmt(
             body,
         } => {
             let tail = Tail { post, body };
-            for_stmt(alloc, state, around, line, init, Rest { test, tail })
+            for_stmt(alloc, state, around, offset, init, Rest { test, tail })
         }
         StmtNode::Switch { test, sections } => {
-            switch(alloc, state, around, line, test, sections)
+            switch(alloc, state, around, offset, test, sections)
         }
-        StmtNode::Break => break_stmt(state, around, line),
-        StmtNode::Continue => continue_stmt(state, around, line),
-        StmtNode::Return(e) => give(alloc, state, around, line, e),
+        StmtNode::Break => break_stmt(state, around, offset),
+        StmtNode::Continue => continue_stmt(state, around, offset),
+        StmtNode::Return(e) => give(alloc, state, around, offset, e),
     }
 }

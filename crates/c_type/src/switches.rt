@@ -49,7 +49,7 @@ pub fn section_labels(
     let mut found = Items::new(alloc);
     for label in labels {
         let word = label_word(names, kind, label)?;
-        seen.add(word, label.line)?;
+        seen.add(word, label.offset)?;
         found.push(word)?;
     }
     Ok(found)
@@ -73,14 +73,14 @@ pub fn switch_test(
 }
 
 /// The number of the scalar that a switch counts.
-pub fn switch_scalar(state: &mut State, kind: Kind, line: u32) -> Result<u32, TypeFault>
+pub fn switch_scalar(state: &mut State, kind: Kind, offset: u32) -> Result<u32, TypeFault>
     ensures { Moves
-        (unless (nat_lt (length state.old.scalars) most_scalars) (TypeFault.TooManyScalars line))
+        (unless (nat_lt (length state.old.scalars) most_scalars) (TypeFault.TooManyScalars offset))
         (length state.old.scalars) (with_switch kind state.old) state.new result }
 {
     let place = state.scalars.len();
     if place as u64 >= MOST_SCALARS {
-        return Err(TypeFault::TooManyScalars(line));
+        return Err(TypeFault::TooManyScalars(offset));
     }
     state.scalars.push(Slot::Scalar(kind))?;
     Ok(place as u32)

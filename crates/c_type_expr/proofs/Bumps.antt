@@ -17,7 +17,7 @@ use Rattle.c_type_expr.specs.inside.Says.{Says, Types}
 use Rattle.c_type_expr.specs.Roles.{at}
 use Rattle.c_type_expr.proofs.Nodes.{fault-Bump}
 
--- a bump of no place fails, at the latest at its own line
+-- a bump of no place fails, at the latest at its own offset
 pub no_place : (G : Scope) (r : Role) (l : ℕ) (op : BumpOp) (e : Expr) → is_place e ≡ false
     → fault (at l (node.Bump op e)) G r ≡ first (fault e G Value) (Some (Mismatch l))
 no_place G r l op e p = fault-Bump G r l op e
@@ -48,11 +48,11 @@ around G l m op e p = ap (λ (f : Blame). first f (Some (Mismatch l))) (no_place
 pub carried : (G : Scope) (whole f e : Expr) (op : BumpOp) (l : ℕ)
     (result : Result TypedExpr TypeFault) → f ≡ whole → f.node ≡ node.Bump op e
     → is_place e ≡ false
-    → ((t : TypedExpr) → Says (first (fault e G Value) (Some (Mismatch f.line))) t result)
+    → ((t : TypedExpr) → Says (first (fault e G Value) (Some (Mismatch f.offset))) t result)
     → (t : TypedExpr) → Says (first (fault whole G Value) (Some (Mismatch l))) t result
 carried G whole f e op l result w n p h t = subst (λ (b : Blame). Says b t result)
-    (sym (around G l f.line op e p)
-    ∙ ap (λ (m : ExprNode). first (fault (at f.line m) G Value) (Some (Mismatch l))) (sym n)
+    (sym (around G l f.offset op e p)
+    ∙ ap (λ (m : ExprNode). first (fault (at f.offset m) G Value) (Some (Mismatch l))) (sym n)
     ∙ ap (λ (x : Expr). first (fault x G Value) (Some (Mismatch l))) w) (h t)
 
 ends : (f : Blame) → first f None ≡ f
@@ -62,10 +62,10 @@ ends (Some x) = refl
 -- a bump of a place is judged as the place
 of_place : (G : Scope) (f e : Expr) (op : BumpOp) → f.node ≡ node.Bump op e
     → is_place e ≡ true → fault f G Value ≡ fault e G Written
-of_place G f e op n p = ap (λ (m : ExprNode). fault (at f.line m) G Value) n
-    ∙ fault-Bump G Value f.line op e
+of_place G f e op n p = ap (λ (m : ExprNode). fault (at f.offset m) G Value) n
+    ∙ fault-Bump G Value f.offset op e
     ∙ ap (λ (b : Bool). first (fault e G (left_role b))
-    (first (unless b (Mismatch f.line)) (unwanted_value Value f.line))) p
+    (first (unless b (Mismatch f.offset)) (unwanted_value Value f.offset))) p
     ∙ ends (fault e G Written)
 
 -- what a bump around it answers
@@ -81,8 +81,8 @@ placed G whole f e op l result w n p h t = subst (λ (b : Blame). Says b t resul
 -- what the bump of another expression answers
 pub remade : (G : Scope) (whole f : Expr) (n : ExprNode) (l : ℕ)
     (result : Result TypedExpr TypeFault) → n ≡ f.node → f ≡ whole
-    → ((t : TypedExpr) → Says (first (fault (at f.line n) G Value) (Some (Mismatch l))) t result)
+    → ((t : TypedExpr) → Says (first (fault (at f.offset n) G Value) (Some (Mismatch l))) t result)
     → (t : TypedExpr) → Says (first (fault whole G Value) (Some (Mismatch l))) t result
 remade G whole f n l result p w h t = subst (λ (b : Blame). Says b t result)
-    (ap (λ (m : ExprNode). first (fault (at f.line m) G Value) (Some (Mismatch l))) p
+    (ap (λ (m : ExprNode). first (fault (at f.offset m) G Value) (Some (Mismatch l))) p
     ∙ ap (λ (x : Expr). first (fault x G Value) (Some (Mismatch l))) w) (h t)

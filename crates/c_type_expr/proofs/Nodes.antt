@@ -18,7 +18,7 @@ use Rattle.c_type_expr.specs.declared.fault.TypeFault.TheVariants.{Mismatch}
 use Rattle.c_type_expr.specs.declared.role.Role.{Role}
 use Rattle.c_type_expr.specs.declared.role.Role.TheVariants.{Value, Free}
 use Rattle.c_type_expr.specs.Blames.{Blame, first, unless}
-use Rattle.c_type_expr.specs.Faults.{Judged, node_judged, at_line, judged, is_place, fault, left_role}
+use Rattle.c_type_expr.specs.Faults.{Judged, node_judged, at_offset, judged, is_place, fault, left_role}
 use Rattle.c_type_expr.specs.Faults.{unwanted_value, name_fault, element_fault, call_fault, slots_of}
 use Rattle.c_type_expr.specs.Faults.{role_at, rest_of, args_blame}
 use Rattle.c_type_expr.specs.inside.Faults.{args_fault}
@@ -41,12 +41,12 @@ C = Scope → TypedExpr
 
 judged_by : (l : ℕ) (n : ExprNode) (x : ExprNode-F ExprNode Expr) → roll-ExprNode x ≡ n
     → judged (at l n) ≡ node_judged (map-ExprNode ExprNode Expr A Judged
-    (fold-ExprNode A Judged node_judged at_line) judged x) l
+    (fold-ExprNode A Judged node_judged at_offset) judged x) l
 unfolding judged
 judged_by l n x e =
-    fold_out-Expr A Judged node_judged at_line (at l n)
-    ∙ ap (λ (m : ExprNode). fold-ExprNode A Judged node_judged at_line m l) (sym e)
-    ∙ ap (λ (f : A). f l) (fold-roll-ExprNode A Judged node_judged at_line x)
+    fold_out-Expr A Judged node_judged at_offset (at l n)
+    ∙ ap (λ (m : ExprNode). fold-ExprNode A Judged node_judged at_offset m l) (sym e)
+    ∙ ap (λ (f : A). f l) (fold-roll-ExprNode A Judged node_judged at_offset x)
 
 tree_by : (l : ℕ) (n : ExprNode) (x : ExprNode-F ExprNode Expr) → roll-ExprNode x ≡ n
     → tree (at l n) ≡ node_tree (map-ExprNode ExprNode Expr C C
@@ -256,85 +256,85 @@ module _ (f : Expr) where
   -- Whether a number is a place that may be written to.
   pub place-Number : (v : ℕ) (k : Kind) → f.node ≡ node.Number v k → is_place f ≡ false
   unfolding is_place
-  place-Number v k h = ap (λ n. is_place (at f.line n)) h
-      ∙ ap (λ (j : Judged). j.place) (judged_by f.line _ (ExprNode-F.Number v k)
+  place-Number v k h = ap (λ n. is_place (at f.offset n)) h
+      ∙ ap (λ (j : Judged). j.place) (judged_by f.offset _ (ExprNode-F.Number v k)
       (node.rolls-Number v k))
 
   -- Whether a name is a place that may be written to.
   pub place-Name : (w : List ℕ) → f.node ≡ node.Name w → is_place f ≡ true
   unfolding is_place
-  place-Name w h = ap (λ n. is_place (at f.line n)) h
-      ∙ ap (λ (j : Judged). j.place) (judged_by f.line _ (ExprNode-F.Name w) (node.rolls-Name w))
+  place-Name w h = ap (λ n. is_place (at f.offset n)) h
+      ∙ ap (λ (j : Judged). j.place) (judged_by f.offset _ (ExprNode-F.Name w) (node.rolls-Name w))
 
   -- Whether an element is a place that may be written to.
   pub place-Element : (w : List ℕ) (r : Option Expr) (i : Expr) → f.node ≡ node.Element w r i
       → is_place f ≡ true
   unfolding is_place
-  place-Element w r i h = ap (λ n. is_place (at f.line n)) h
-      ∙ ap (λ (j : Judged). j.place) (judged_by f.line _ (ExprNode-F.Element w r i)
+  place-Element w r i h = ap (λ n. is_place (at f.offset n)) h
+      ∙ ap (λ (j : Judged). j.place) (judged_by f.offset _ (ExprNode-F.Element w r i)
       (node.rolls-Element w r i))
 
   -- Whether a call is a place that may be written to.
   pub place-Call : (w : List ℕ) (es : List Expr) → f.node ≡ node.Call w es → is_place f ≡ false
   unfolding is_place
-  place-Call w es h = ap (λ n. is_place (at f.line n)) h
-      ∙ ap (λ (j : Judged). j.place) (judged_by f.line _ (ExprNode-F.Call w es)
+  place-Call w es h = ap (λ n. is_place (at f.offset n)) h
+      ∙ ap (λ (j : Judged). j.place) (judged_by f.offset _ (ExprNode-F.Call w es)
       (node.rolls-Call w es))
 
   -- Whether an expression in parentheses is a place that may be written to.
   pub place-Group : (e : Expr) → f.node ≡ node.Group e → is_place f ≡ is_place e
   unfolding is_place
-  place-Group e h = ap (λ n. is_place (at f.line n)) h
-      ∙ ap (λ (j : Judged). j.place) (judged_by f.line _ (ExprNode-F.Group e) (node.rolls-Group e))
+  place-Group e h = ap (λ n. is_place (at f.offset n)) h
+      ∙ ap (λ (j : Judged). j.place) (judged_by f.offset _ (ExprNode-F.Group e) (node.rolls-Group e))
 
   -- Whether an operation on one operand is a place that may be written to.
   pub place-Unary : (op : UnaryOp) (e : Expr) → f.node ≡ node.Unary op e → is_place f ≡ false
   unfolding is_place
-  place-Unary op e h = ap (λ n. is_place (at f.line n)) h
-      ∙ ap (λ (j : Judged). j.place) (judged_by f.line _ (ExprNode-F.Unary op e)
+  place-Unary op e h = ap (λ n. is_place (at f.offset n)) h
+      ∙ ap (λ (j : Judged). j.place) (judged_by f.offset _ (ExprNode-F.Unary op e)
       (node.rolls-Unary op e))
 
   -- Whether a cast is a place that may be written to.
   pub place-Cast : (to : Kind) (e : Expr) → f.node ≡ node.Cast to e → is_place f ≡ false
   unfolding is_place
-  place-Cast to e h = ap (λ n. is_place (at f.line n)) h
-      ∙ ap (λ (j : Judged). j.place) (judged_by f.line _ (ExprNode-F.Cast to e)
+  place-Cast to e h = ap (λ n. is_place (at f.offset n)) h
+      ∙ ap (λ (j : Judged). j.place) (judged_by f.offset _ (ExprNode-F.Cast to e)
       (node.rolls-Cast to e))
 
   -- Whether `++` and `--` are places that may be written to.
   pub place-Bump : (op : BumpOp) (e : Expr) → f.node ≡ node.Bump op e → is_place f ≡ false
   unfolding is_place
-  place-Bump op e h = ap (λ n. is_place (at f.line n)) h
-      ∙ ap (λ (j : Judged). j.place) (judged_by f.line _ (ExprNode-F.Bump op e)
+  place-Bump op e h = ap (λ n. is_place (at f.offset n)) h
+      ∙ ap (λ (j : Judged). j.place) (judged_by f.offset _ (ExprNode-F.Bump op e)
       (node.rolls-Bump op e))
 
   -- Whether an operation on two operands is a place that may be written to.
   pub place-Binary : (op : BinaryOp) (x y : Expr) → f.node ≡ node.Binary op x y → is_place f ≡ false
   unfolding is_place
-  place-Binary op x y h = ap (λ n. is_place (at f.line n)) h
-      ∙ ap (λ (j : Judged). j.place) (judged_by f.line _ (ExprNode-F.Binary op x y)
+  place-Binary op x y h = ap (λ n. is_place (at f.offset n)) h
+      ∙ ap (λ (j : Judged). j.place) (judged_by f.offset _ (ExprNode-F.Binary op x y)
       (node.rolls-Binary op x y))
 
   -- Whether a choice is a place that may be written to.
   pub place-Choice : (t x y : Expr) → f.node ≡ node.Choice t x y → is_place f ≡ false
   unfolding is_place
-  place-Choice t x y h = ap (λ n. is_place (at f.line n)) h
-      ∙ ap (λ (j : Judged). j.place) (judged_by f.line _ (ExprNode-F.Choice t x y)
+  place-Choice t x y h = ap (λ n. is_place (at f.offset n)) h
+      ∙ ap (λ (j : Judged). j.place) (judged_by f.offset _ (ExprNode-F.Choice t x y)
       (node.rolls-Choice t x y))
 
   -- Whether an assignment is a place that may be written to.
   pub place-Assign : (op : Option BinaryOp) (x y : Expr) → f.node ≡ node.Assign op x y
       → is_place f ≡ false
   unfolding is_place
-  place-Assign op x y h = ap (λ n. is_place (at f.line n)) h
-      ∙ ap (λ (j : Judged). j.place) (judged_by f.line _ (ExprNode-F.Assign op x y)
+  place-Assign op x y h = ap (λ n. is_place (at f.offset n)) h
+      ∙ ap (λ (j : Judged). j.place) (judged_by f.offset _ (ExprNode-F.Assign op x y)
       (node.rolls-Assign op x y))
 
   -- Whether a comma is a place that may be written to.
   pub place-Comma : (x y : Expr) → f.node ≡ node.Comma x y → is_place f ≡ false
   unfolding is_place
-  place-Comma x y h = ap (λ n. is_place (at f.line n)) h
-      ∙ ap (λ (j : Judged). j.place) (judged_by f.line _ (ExprNode-F.Comma x y)
+  place-Comma x y h = ap (λ n. is_place (at f.offset n)) h
+      ∙ ap (λ (j : Judged). j.place) (judged_by f.offset _ (ExprNode-F.Comma x y)
       (node.rolls-Comma x y))
 
 pub ruleset on_number = (fault-Number, tree-Number)

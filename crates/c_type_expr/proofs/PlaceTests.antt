@@ -74,4 +74,4 @@ passes_place =
     ind-Expr PassesNode Passes
     (λ x y e. subst (λ (x : ExprNode-F ExprNode Expr). PassesNode (roll-ExprNode x)) e
     (at_node _ _ (λ e'. e'.0) (λ e'. e'.0) (λ s. s.1) y))
-    (λ x y e. subst (λ (x : Expr-F ExprNode Expr). Passes (roll-Expr x)) e (y.node.1 y.line))
+    (λ x y e. subst (λ (x : Expr-F ExprNode Expr). Passes (roll-Expr x)) e (y.node.1 y.offset))

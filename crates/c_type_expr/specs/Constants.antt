@@ -61,13 +61,13 @@ node_fixed (Choice t x y) l G = first (t G) (first (x G) (y G))
 node_fixed (Assign op x y) l G = first (x G) (first (y G) (Some (Mismatch l)))
 node_fixed (Comma x y) l G = first (x G) (first (y G) (Some (Mismatch l)))
 
--- the same of an expression, whose node has its line
-abbrev pub fixed_line : Expr-F (ℕ → Scope → Blame) (Scope → Blame) → Scope → Blame
-fixed_line e = e.node e.line
+-- the same of an expression, whose node has its offset
+abbrev pub fixed_offset : Expr-F (ℕ → Scope → Blame) (Scope → Blame) → Scope → Blame
+fixed_offset e = e.node e.offset
 
 -- the first part of an expression that is no constant
 unfoldable pub not_fixed : Expr → Scope → Blame
-not_fixed e = fold-Expr (ℕ → Scope → Blame) (Scope → Blame) node_fixed fixed_line e
+not_fixed e = fold-Expr (ℕ → Scope → Blame) (Scope → Blame) node_fixed fixed_offset e
 
 -- a value that is wanted and is none
 abbrev pub value_fault : Option ℕ → ℕ → Blame
@@ -75,7 +75,7 @@ value_fault v l = unless (is_some v) (Mismatch l)
 
 -- more temporaries than a full expression may need
 abbrev pub need_fault : Expr → Blame
-need_fault e = unless (need_fits e) (Need e.line)
+need_fault e = unless (need_fits e) (Need e.offset)
 
 -- a full expression
 abbrev pub full : Expr → Role → Scope → Blame
@@ -84,7 +84,7 @@ full e r G = first (fault e G r) (need_fault e)
 -- a full expression that is a constant: its parts, its value, its need
 abbrev pub full_constant : Expr → Scope → Blame
 full_constant e G =
-    first (not_fixed e G) (first (value_fault (constant ends e).value e.line) (need_fault e))
+    first (not_fixed e G) (first (value_fault (constant ends e).value e.offset) (need_fault e))
 
 -- the word of a constant's value at a type
 abbrev pub constant_at : Kind → Expr → ℕ
@@ -92,4 +92,4 @@ constant_at k e = converted k (word_in (constant ends e).value)
 
 -- a size: a constant of at least 1
 abbrev pub size_fault : Expr → Scope → Blame
-size_fault e G = first (not_fixed e G) (value_fault (length_of e) e.line)
+size_fault e G = first (not_fixed e G) (value_fault (length_of e) e.offset)

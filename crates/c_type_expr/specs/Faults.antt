@@ -137,13 +137,13 @@ node_blame (Comma x y) l G r = first (x.blame G Free) (first (y.blame G Value) (
 abbrev pub node_judged : ExprNode-F (ℕ → Judged) Judged → ℕ → Judged
 node_judged n l = record { place = node_place n; blame = node_blame n l }
 
--- both of an expression, whose node has its line
-abbrev pub at_line : Expr-F (ℕ → Judged) Judged → Judged
-at_line e = e.node e.line
+-- both of an expression, whose node has its offset
+abbrev pub at_offset : Expr-F (ℕ → Judged) Judged → Judged
+at_offset e = e.node e.offset
 
 -- both of an expression, by recursion on it
 unfoldable pub judged : Expr → Judged
-judged e = fold-Expr (ℕ → Judged) Judged node_judged at_line e
+judged e = fold-Expr (ℕ → Judged) Judged node_judged at_offset e
 
 -- is the expression a name or an element, in any groups?
 unfoldable pub is_place : Expr → Bool

@@ -42,9 +42,9 @@ abbrev pub takes_result : Option Kind → Role → Bool
 takes_result None r = takes_void r
 takes_result (Some k) r = takes_value r
 
--- the expression of a line and a node
+-- the expression of an offset and a node
 abbrev pub at : ℕ → ExprNode → Expr
-at l n = record { line = l; node = n }
+at l n = record { offset = l; node = n }
 
 -- a name, an element, or one of these in groups
 pub data IsPlace : Expr → Type 0 where

@@ -29,20 +29,20 @@ fn first(a: Option<TypeFault>, b: Option<TypeFault>) -> Option<TypeFault>
 }
 
 #[inline(never)]
-fn no_constant(is_known: bool, line: u32) -> Option<TypeFault>
-    ensures { result ≡ constants.no_constant is_known line }
+fn no_constant(is_known: bool, offset: u32) -> Option<TypeFault>
+    ensures { result ≡ constants.no_constant is_known offset }
 {
     if is_known {
-        Some(TypeFault::Mismatch(line))
+        Some(TypeFault::Mismatch(offset))
     } else {
-        Some(TypeFault::Unknown(line))
+        Some(TypeFault::Unknown(offset))
     }
 }
 
-fn mismatch(line: u32) -> Option<TypeFault>
-    ensures { result ≡ Some (TypeFault.Mismatch line) }
+fn mismatch(offset: u32) -> Option<TypeFault>
+    ensures { result ≡ Some (TypeFault.Mismatch offset) }
 {
-    Some(TypeFault::Mismatch(line))
+    Some(TypeFault::Mismatch(offset))
 }
 
 #[cycle(fixed)]
@@ -74,16 +74,16 @@ fn call_fixed(
     scope: &Scopes,
     function: &Word,
     args: &Items<Boxed<Expr>>,
-    line: u32,
+    offset: u32,
 ) -> Option<TypeFault>
     ensures { result ≡ blames.first (constants.all_fixed (map constants.not_fixed args.now)
         scope.now)
-        (constants.no_constant (constants.calls_known (look_up scope.now function.now)) line) }
+        (constants.no_constant (constants.calls_known (look_up scope.now function.now)) offset) }
 {
     let found = none_fixed(scope, args.as_slice());
     first(
         found,
-        no_constant(calls_known(scope.look_up(function)), line),
+        no_constant(calls_known(scope.look_up(function)), offset),
     )
 }
 
@@ -96,25 +96,25 @@ fn before(scope: &Scopes, e: &Expr, then: Option<TypeFault>) -> Option<TypeFault
     first(not_fixed(scope, e), then)
 }
 
-// The fault of an operand, or else that of the node at this line.
+// The fault of an operand, or else that of the node at this offset.
 #[cycle(fixed)]
 #[inline(never)]
-fn or_mismatch(scope: &Scopes, e: &Expr, line: u32) -> Option<TypeFault>
+fn or_mismatch(scope: &Scopes, e: &Expr, offset: u32) -> Option<TypeFault>
     ensures { result ≡ blames.first (constants.not_fixed e.now scope.now)
-        (Some (TypeFault.Mismatch line)) }
+        (Some (TypeFault.Mismatch offset)) }
 {
-    first(not_fixed(scope, e), mismatch(line))
+    first(not_fixed(scope, e), mismatch(offset))
 }
 
 // A name is `EOF`, or no constant.
 #[inline(never)]
-fn name_fixed(found: Option<&Meaning>, line: u32) -> Option<TypeFault>
-    ensures { result ≡ constants.name_fixed (option_copied found.entry) line }
+fn name_fixed(found: Option<&Meaning>, offset: u32) -> Option<TypeFault>
+    ensures { result ≡ constants.name_fixed (option_copied found.entry) offset }
 {
     match found {
-        None => Some(TypeFault::Unknown(line)),
+        None => Some(TypeFault::Unknown(offset)),
         Some(Meaning::EndOfFile) => None,
-        Some(_) => Some(TypeFault::Mismatch(line)),
+        Some(_) => Some(TypeFault::Mismatch(offset)),
     }
 }
 
@@ -142,21 +142,21 @@ fn not_fixed(scope: &Scopes, e: &Expr) -> Option<TypeFault>
 {
     match &e.node {
         ExprNode::Number { .. } => None,
-        ExprNode::Name(word) => name_fixed(scope.look_up(word), e.line),
+        ExprNode::Name(word) => name_fixed(scope.look_up(word), e.offset),
         ExprNode::Element { array, row, index } => row_before(
             scope,
             row,
             before(
                 scope,
                 index.get(),
-                no_constant(scope.look_up(array).is_some(), e.line),
+                no_constant(scope.look_up(array).is_some(), e.offset),
             ),
         ),
-        ExprNode::Call { function, args } => call_fixed(scope, function, args, e.line),
+        ExprNode::Call { function, args } => call_fixed(scope, function, args, e.offset),
         ExprNode::Group(e) => not_fixed(scope, e.get()),
         ExprNode::Unary { e, .. } => not_fixed(scope, e.get()),
         ExprNode::Cast { e, .. } => not_fixed(scope, e.get()),
-        ExprNode::Bump { e: operand, .. } => or_mismatch(scope, operand.get(), e.line),
+        ExprNode::Bump { e: operand, .. } => or_mismatch(scope, operand.get(), e.offset),
         ExprNode::Binary { left, right, .. } => {
             before(scope, left.get(), not_fixed(scope, right.get()))
         }
@@ -168,12 +168,12 @@ fn not_fixed(scope: &Scopes, e: &Expr) -> Option<TypeFault>
         ExprNode::Assign { left, right, .. } => before(
             scope,
             left.get(),
-            or_mismatch(scope, right.get(), e.line),
+            or_mismatch(scope, right.get(), e.offset),
         ),
         ExprNode::Comma { left, right } => before(
             scope,
             left.get(),
-            or_mismatch(scope, right.get(), e.line),
+            or_mismatch(scope, right.get(), e.offset),
         ),
     }
 }
@@ -197,21 +197,21 @@ pub fn full(
 ) -> Result<Boxed<TypedExpr>, TypeFault>
     ensures { Says (constants.full e role scope.now) (tree e scope.now) result }
 {
-    let line = e.get().line;
+    let offset = e.get().offset;
     let fits = need_fits(e.get());
     let typed = type_expr(alloc, scope, role, e)?;
     if fits {
         Ok(typed)
     } else {
-        Err(TypeFault::Need(line))
+        Err(TypeFault::Need(offset))
     }
 }
 
-fn value_in(value: Option<u64>, line: u32) -> Result<u64, TypeFault>
-    ensures { Says (constants.value_fault value line) (sizes.word_in value) result }
+fn value_in(value: Option<u64>, offset: u32) -> Result<u64, TypeFault>
+    ensures { Says (constants.value_fault value offset) (sizes.word_in value) result }
 {
     match value {
-        None => Err(TypeFault::Mismatch(line)),
+        None => Err(TypeFault::Mismatch(offset)),
         Some(word) => Ok(word),
     }
 }
@@ -222,7 +222,7 @@ fn need_of(e: &Expr) -> Result<(), TypeFault>
     if need_fits(e) {
         Ok(())
     } else {
-        Err(TypeFault::Need(e.line))
+        Err(TypeFault::Need(e.offset))
     }
 }
 
@@ -232,7 +232,7 @@ pub fn full_constant(scope: &Scopes, kind: Kind, e: &Expr) -> Result<u64, TypeFa
         result }
 {
     refuse(not_fixed(scope, e))?;
-    let word = value_in(constant_of(e).value, e.line)?;
+    let word = value_in(constant_of(e).value, e.offset)?;
     need_of(e)?;
     Ok(convert(kind, word))
 }
@@ -274,5 +274,5 @@ pub fn size_length(scope: &Scopes, e: &Expr) -> Result<u64, TypeFault>
 {
     refuse(not_fixed(scope, e))?;
     let found = constant_of(e);
-    value_in(length_in(found.kind, found.value), e.line)
+    value_in(length_in(found.kind, found.value), e.offset)
 }

@@ -30,14 +30,14 @@ fn element(
     alloc: Global,
     scope: &Scopes,
     role: &Role,
-    line: u32,
+    offset: u32,
     array: Word,
     index: Boxed<Expr>,
 ) -> Result<Boxed<TypedExpr>, TypeFault>
-    ensures { Types (at line (node.Element array None index)) role.now scope.now result }
+    ensures { Types (at offset (node.Element array None index)) role.now scope.now result }
 {
     let index = operand(alloc, scope, &Role::Value, index)?;
-    let (kind, place) = element_at(scope.look_up(&array), false, *role, line)?;
+    let (kind, place) = element_at(scope.look_up(&array), false, *role, offset)?;
     Ok(build::element(alloc, kind, place, index)?)
 }
 
@@ -49,16 +49,16 @@ fn row_element(
     alloc: Global,
     scope: &Scopes,
     role: &Role,
-    line: u32,
+    offset: u32,
     array: Word,
     row: Boxed<Expr>,
     index: Boxed<Expr>,
 ) -> Result<Boxed<TypedExpr>, TypeFault>
-    ensures { Types (at line (node.Element array (Some row) index)) role.now scope.now result }
+    ensures { Types (at offset (node.Element array (Some row) index)) role.now scope.now result }
 {
     let row = operand(alloc, scope, &Role::Value, row)?;
     let index = operand(alloc, scope, &Role::Value, index)?;
-    let (kind, place) = element_at(scope.look_up(&array), true, *role, line)?;
+    let (kind, place) = element_at(scope.look_up(&array), true, *role, offset)?;
     Ok(build::row_element(alloc, kind, place, row, index)?)
 }
 
@@ -69,16 +69,16 @@ fn element_of(
     alloc: Global,
     scope: &Scopes,
     role: &Role,
-    line: u32,
+    offset: u32,
     array: Word,
     row: Option<Boxed<Expr>>,
     index: Boxed<Expr>,
 ) -> Result<Boxed<TypedExpr>, TypeFault>
-    ensures { Types (at line (node.Element array row index)) role.now scope.now result }
+    ensures { Types (at offset (node.Element array row index)) role.now scope.now result }
 {
     match row {
-        None => element(alloc, scope, role, line, array, index),
-        Some(row) => row_element(alloc, scope, role, line, array, row, index),
+        None => element(alloc, scope, role, offset, array, index),
+        Some(row) => row_element(alloc, scope, role, offset, array, row, index),
     }
 }
 
@@ -89,16 +89,16 @@ fn call(
     alloc: Global,
     scope: &Scopes,
     role: &Role,
-    line: u32,
+    offset: u32,
     function: Word,
     args: Items<Boxed<Expr>>,
 ) -> Result<Boxed<TypedExpr>, TypeFault>
-    ensures { Types (at line (node.Call function args)) role.now scope.now result }
+    ensures { Types (at offset (node.Call function args)) role.now scope.now result }
 {
     let found = scope.look_up(&function);
     let count = args.len();
     let args = arguments(alloc, scope, slots_in(found), args)?;
-    let (kind, function) = call_at(found, count, *role, line)?;
+    let (kind, function) = call_at(found, count, *role, offset)?;
     Ok(build::boxed(alloc, kind, TypedNode::Call { function, args })?)
 }
 
@@ -145,14 +145,14 @@ fn unary(
     alloc: Global,
     scope: &Scopes,
     role: &Role,
-    line: u32,
+    offset: u32,
     op: UnaryOp,
     e: Boxed<Expr>,
 ) -> Result<Boxed<TypedExpr>, TypeFault>
-    ensures { Types (at line (node.Unary op e)) role.now scope.now result }
+    ensures { Types (at offset (node.Unary op e)) role.now scope.now result }
 {
     let e = operand(alloc, scope, &Role::Value, e)?;
-    value_at(*role, line)?;
+    value_at(*role, offset)?;
     Ok(build::unary(alloc, op, e)?)
 }
 
@@ -163,44 +163,49 @@ fn cast(
     alloc: Global,
     scope: &Scopes,
     role: &Role,
-    line: u32,
+    offset: u32,
     to: Kind,
     e: Boxed<Expr>,
 ) -> Result<Boxed<TypedExpr>, TypeFault>
-    ensures { Types (at line (node.Cast to e)) role.now scope.now result }
+    ensures { Types (at offset (node.Cast to e)) role.now scope.now result }
 {
     let e = operand(alloc, scope, &Role::Value, e)?;
-    value_at(*role, line)?;
+    value_at(*role, offset)?;
     Ok(build::cast(alloc, to, e)?)
 }
 
-// The fault of an operand, or else that of the node at this line, which is none that may stand around it.
+// The fault of an operand, or else that of the node at this offset, which is none that may stand around it.
 #[cycle(expr)]
 #[inline(never)]
 fn no_node(
     alloc: Global,
     scope: &Scopes,
     role: &Role,
-    line: u32,
+    offset: u32,
     e: Boxed<Expr>,
 ) -> Result<Boxed<TypedExpr>, TypeFault>
     ensures { (t : TypedExpr) → Says (first (fault e scope.now role.now)
-        (Some (TypeFault.Mismatch line))) t result }
+        (Some (TypeFault.Mismatch offset))) t result }
 {
     operand(alloc, scope, role, e)?;
-    Err(TypeFault::Mismatch(line))
+    Err(TypeFault::Mismatch(offset))
 }
 
 // The same of an operand that does not stand on the heap and is wanted for its value.
 #[cycle(expr)]
 #[inline(never)]
-fn no_leaf(alloc: Global, scope: &Scopes, line: u32, e: Expr) -> Result<Boxed<TypedExpr>, TypeFault>
+fn no_leaf(
+    alloc: Global,
+    scope: &Scopes,
+    offset: u32,
+    e: Expr,
+) -> Result<Boxed<TypedExpr>, TypeFault>
     ensures { (t : TypedExpr) → Says (first (fault e scope.now Role.Value)
-        (Some (TypeFault.Mismatch line))) t result }
+        (Some (TypeFault.Mismatch offset))) t result }
 {
     let e = Boxed::new(alloc, e)?;
     operand(alloc, scope, &Role::Value, e)?;
-    Err(TypeFault::Mismatch(line))
+    Err(TypeFault::Mismatch(offset))
 }
 
 // The fault of a bump of what is no place. Bumps around another such bump change nothing: they are passed over.
@@ -209,26 +214,26 @@ fn no_leaf(alloc: Global, scope: &Scopes, line: u32, e: Expr) -> Result<Boxed<Ty
 fn no_bump(
     alloc: Global,
     scope: &Scopes,
-    line: u32,
+    offset: u32,
     e: Boxed<Expr>,
 ) -> Result<Boxed<TypedExpr>, TypeFault>
     ensures { (t : TypedExpr) → Says (first (fault e scope.now Role.Value)
-        (Some (TypeFault.Mismatch line))) t result }
+        (Some (TypeFault.Mismatch offset))) t result }
 {
-    let Expr { line: at, node } = e.into_inner();
+    let Expr { offset: at, node } = e.into_inner();
     match node {
         ExprNode::Bump { op: _, e: inner } => {
             if is_place(inner.get()) {
-                return no_node(alloc, scope, &Role::Written, line, inner);
+                return no_node(alloc, scope, &Role::Written, offset, inner);
             }
             no_bump(alloc, scope, at, inner)
         }
         other => no_leaf(
             alloc,
             scope,
-            line,
+            offset,
             Expr {
-                line: at,
+                offset: at,
                 node: other,
             },
         ),
@@ -242,17 +247,17 @@ fn bump(
     alloc: Global,
     scope: &Scopes,
     role: &Role,
-    line: u32,
+    offset: u32,
     op: BumpOp,
     e: Boxed<Expr>,
 ) -> Result<Boxed<TypedExpr>, TypeFault>
-    ensures { Types (at line (node.Bump op e)) role.now scope.now result }
+    ensures { Types (at offset (node.Bump op e)) role.now scope.now result }
 {
     if !is_place(e.get()) {
-        return no_bump(alloc, scope, line, e);
+        return no_bump(alloc, scope, offset, e);
     }
     let e = operand(alloc, scope, &Role::Written, e)?;
-    value_at(*role, line)?;
+    value_at(*role, offset)?;
     Ok(build::bump(alloc, op, e)?)
 }
 
@@ -263,16 +268,16 @@ fn binary(
     alloc: Global,
     scope: &Scopes,
     role: &Role,
-    line: u32,
+    offset: u32,
     op: BinaryOp,
     left: Boxed<Expr>,
     right: Boxed<Expr>,
 ) -> Result<Boxed<TypedExpr>, TypeFault>
-    ensures { Types (at line (node.Binary op left right)) role.now scope.now result }
+    ensures { Types (at offset (node.Binary op left right)) role.now scope.now result }
 {
     let left = operand(alloc, scope, &Role::Value, left)?;
     let right = operand(alloc, scope, &Role::Value, right)?;
-    value_at(*role, line)?;
+    value_at(*role, offset)?;
     Ok(build::binary(alloc, op, left, right)?)
 }
 
@@ -283,17 +288,17 @@ fn choice(
     alloc: Global,
     scope: &Scopes,
     role: &Role,
-    line: u32,
+    offset: u32,
     test: Boxed<Expr>,
     yes: Boxed<Expr>,
     no: Boxed<Expr>,
 ) -> Result<Boxed<TypedExpr>, TypeFault>
-    ensures { Types (at line (node.Choice test yes no)) role.now scope.now result }
+    ensures { Types (at offset (node.Choice test yes no)) role.now scope.now result }
 {
     let test = operand(alloc, scope, &Role::Value, test)?;
     let yes = operand(alloc, scope, &Role::Value, yes)?;
     let no = operand(alloc, scope, &Role::Value, no)?;
-    value_at(*role, line)?;
+    value_at(*role, offset)?;
     Ok(build::choice(alloc, test, yes, no)?)
 }
 
@@ -304,18 +309,18 @@ fn assign(
     alloc: Global,
     scope: &Scopes,
     role: &Role,
-    line: u32,
+    offset: u32,
     op: Option<BinaryOp>,
     left: Boxed<Expr>,
     right: Boxed<Expr>,
 ) -> Result<Boxed<TypedExpr>, TypeFault>
-    ensures { Types (at line (node.Assign op left right)) role.now scope.now result }
+    ensures { Types (at offset (node.Assign op left right)) role.now scope.now result }
 {
     let is_place = is_place(left.get());
     let left = operand(alloc, scope, &left_role(is_place), left)?;
     let right = operand(alloc, scope, &Role::Value, right)?;
-    place_at(is_place, line)?;
-    value_at(*role, line)?;
+    place_at(is_place, offset)?;
+    value_at(*role, offset)?;
     Ok(build::assign(alloc, op, left, right)?)
 }
 
@@ -326,15 +331,15 @@ fn comma(
     alloc: Global,
     scope: &Scopes,
     role: &Role,
-    line: u32,
+    offset: u32,
     left: Boxed<Expr>,
     right: Boxed<Expr>,
 ) -> Result<Boxed<TypedExpr>, TypeFault>
-    ensures { Types (at line (node.Comma left right)) role.now scope.now result }
+    ensures { Types (at offset (node.Comma left right)) role.now scope.now result }
 {
     let left = operand(alloc, scope, &Role::Free, left)?;
     let right = operand(alloc, scope, &Role::Value, right)?;
-    value_at(*role, line)?;
+    value_at(*role, offset)?;
     Ok(build::comma(alloc, left, right)?)
 }
 
@@ -352,22 +357,22 @@ fn operand(
 ) -> Result<Boxed<TypedExpr>, TypeFault>
     ensures { Types e role.now scope.now result }
 {
-    let Expr { line, node } = e.into_inner();
+    let Expr { offset, node } = e.into_inner();
     match node {
-        ExprNode::Number { value, kind } => number(alloc, scope, role, line, value, kind),
-        ExprNode::Name(word) => name(alloc, scope, role, line, word),
+        ExprNode::Number { value, kind } => number(alloc, scope, role, offset, value, kind),
+        ExprNode::Name(word) => name(alloc, scope, role, offset, word),
         ExprNode::Element { array, row, index } => {
-            element_of(alloc, scope, role, line, array, row, index)
+            element_of(alloc, scope, role, offset, array, row, index)
         }
-        ExprNode::Call { function, args } => call(alloc, scope, role, line, function, args),
+        ExprNode::Call { function, args } => call(alloc, scope, role, offset, function, args),
         ExprNode::Group(e) => operand(alloc, scope, role, e),
-        ExprNode::Unary { op, e } => unary(alloc, scope, role, line, op, e),
-        ExprNode::Cast { to, e } => cast(alloc, scope, role, line, to, e),
-        ExprNode::Bump { op, e } => bump(alloc, scope, role, line, op, e),
-        ExprNode::Binary { op, left, right } => binary(alloc, scope, role, line, op, left, right),
-        ExprNode::Choice { test, yes, no } => choice(alloc, scope, role, line, test, yes, no),
-        ExprNode::Assign { op, left, right } => assign(alloc, scope, role, line, op, left, right),
-        ExprNode::Comma { left, right } => comma(alloc, scope, role, line, left, right),
+        ExprNode::Unary { op, e } => unary(alloc, scope, role, offset, op, e),
+        ExprNode::Cast { to, e } => cast(alloc, scope, role, offset, to, e),
+        ExprNode::Bump { op, e } => bump(alloc, scope, role, offset, op, e),
+        ExprNode::Binary { op, left, right } => binary(alloc, scope, role, offset, op, left, right),
+        ExprNode::Choice { test, yes, no } => choice(alloc, scope, role, offset, test, yes, no),
+        ExprNode::Assign { op, left, right } => assign(alloc, scope, role, offset, op, left, right),
+        ExprNode::Comma { left, right } => comma(alloc, scope, role, offset, left, right),
     }
 }
 

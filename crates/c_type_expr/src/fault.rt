@@ -6,26 +6,26 @@ ghost use Rattle.c_type_expr.specs.declared.fault.TypeFault.TheVariants.{Memory}
 use std::alloc::{AllocError, AllocFailed};
 use thiserror::Error;
 
-/// Why a tree has no typing, with the line of the node that fails.
+/// Why a tree has no typing, with the offset of the node that fails.
 #[derive(Clone, Copy, Debug, PartialEq, Eq, Error)]
 pub enum TypeFault {
-    #[error("line {0}: an unknown name")]
+    #[error("byte {0}: an unknown name")]
     Unknown(u32),
-    #[error("line {0}: a name declared twice")]
+    #[error("byte {0}: a name declared twice")]
     Twice(u32),
-    #[error("line {0}: not what stands here")]
+    #[error("byte {0}: not what stands here")]
     Mismatch(u32),
-    #[error("line {0}: too few or too many arguments")]
+    #[error("byte {0}: too few or too many arguments")]
     Arity(u32),
     #[error("no main of the form int main(void)")]
     NoMain,
-    #[error("line {0}: too many scalars")]
+    #[error("byte {0}: too many scalars")]
     TooManyScalars(u32),
-    #[error("line {0}: too many parameters")]
+    #[error("byte {0}: too many parameters")]
     TooManyParams(u32),
-    #[error("line {0}: an expression that needs too many temporaries")]
+    #[error("byte {0}: an expression that needs too many temporaries")]
     Need(u32),
-    #[error("line {0}: too many bytes")]
+    #[error("byte {0}: too many bytes")]
     TooLarge(u32),
     #[error("out of memory")]
     Memory,

@@ -18,24 +18,24 @@ use crate::role::Role;
 use c_tree::{Callee, Kind, Place, Slot, TypedExpr, TypedNode};
 
 /// Whether a value may stand where the role is wanted.
-pub fn value_at(role: Role, line: u32) -> Result<(), TypeFault>
-    ensures { Says (unwanted_value role line) tt result }
+pub fn value_at(role: Role, offset: u32) -> Result<(), TypeFault>
+    ensures { Says (unwanted_value role offset) tt result }
 {
     if role.takes_value() {
         Ok(())
     } else {
-        Err(TypeFault::Mismatch(line))
+        Err(TypeFault::Mismatch(offset))
     }
 }
 
 /// Whether a left side may be written to.
-pub fn place_at(is_place: bool, line: u32) -> Result<(), TypeFault>
-    ensures { Says (unless is_place (TypeFault.Mismatch line)) tt result }
+pub fn place_at(is_place: bool, offset: u32) -> Result<(), TypeFault>
+    ensures { Says (unless is_place (TypeFault.Mismatch offset)) tt result }
 {
     if is_place {
         Ok(())
     } else {
-        Err(TypeFault::Mismatch(line))
+        Err(TypeFault::Mismatch(offset))
     }
 }
 
@@ -57,32 +57,32 @@ fn end_of_file() -> TypedExpr
     }
 }
 
-pub fn name_at(found: Option<&Meaning>, role: Role, line: u32) -> Result<TypedExpr, TypeFault>
-    ensures { Says (name_fault (option_copied found.entry) role line)
+pub fn name_at(found: Option<&Meaning>, role: Role, offset: u32) -> Result<TypedExpr, TypeFault>
+    ensures { Says (name_fault (option_copied found.entry) role offset)
         (name_tree (option_copied found.entry)) result }
 {
     match found {
-        None => Err(TypeFault::Unknown(line)),
+        None => Err(TypeFault::Unknown(offset)),
         Some(Meaning::Scalar(kind, place)) => {
             if role.takes_element() {
                 Ok(named(*kind, *place))
             } else {
-                Err(TypeFault::Mismatch(line))
+                Err(TypeFault::Mismatch(offset))
             }
         }
         Some(Meaning::Array { kind, row, place }) => {
             if role.takes_array(*kind, *row) {
                 Ok(named(*kind, *place))
             } else {
-                Err(TypeFault::Mismatch(line))
+                Err(TypeFault::Mismatch(offset))
             }
         }
-        Some(Meaning::Function { .. }) => Err(TypeFault::Mismatch(line)),
+        Some(Meaning::Function { .. }) => Err(TypeFault::Mismatch(offset)),
         Some(Meaning::EndOfFile) => {
             if role.takes_value() {
                 Ok(end_of_file())
             } else {
-                Err(TypeFault::Mismatch(line))
+                Err(TypeFault::Mismatch(offset))
             }
         }
     }
@@ -103,21 +103,21 @@ pub fn element_at(
     found: Option<&Meaning>,
     two: bool,
     role: Role,
-    line: u32,
+    offset: u32,
 ) -> Result<(Kind, Place), TypeFault>
-    ensures { Says (element_fault (option_copied found.entry) two role line)
+    ensures { Says (element_fault (option_copied found.entry) two role offset)
         (array_kind (option_copied found.entry), array_place (option_copied found.entry)) result }
 {
     match found {
-        None => Err(TypeFault::Unknown(line)),
+        None => Err(TypeFault::Unknown(offset)),
         Some(Meaning::Array { kind, row, place }) => {
             if fits_sizes(*row, two) && role.takes_element() {
                 Ok((*kind, *place))
             } else {
-                Err(TypeFault::Mismatch(line))
+                Err(TypeFault::Mismatch(offset))
             }
         }
-        Some(_) => Err(TypeFault::Mismatch(line)),
+        Some(_) => Err(TypeFault::Mismatch(offset)),
     }
 }
 
@@ -145,19 +145,19 @@ fn called(
     params: &[Slot],
     count: usize,
     role: Role,
-    line: u32,
+    offset: u32,
 ) -> Result<Callee, TypeFault>
-    ensures { Says (callee_fault callee given params.now count role line) (callee_or callee)
+    ensures { Says (callee_fault callee given params.now count role offset) (callee_or callee)
         result }
 {
     let Some(callee) = callee else {
-        return Err(TypeFault::Unknown(line));
+        return Err(TypeFault::Unknown(offset));
     };
     if !may_give(given, role) {
-        return Err(TypeFault::Mismatch(line));
+        return Err(TypeFault::Mismatch(offset));
     }
     if count != params.len() {
-        return Err(TypeFault::Arity(line));
+        return Err(TypeFault::Arity(offset));
     }
     Ok(callee)
 }
@@ -166,13 +166,13 @@ pub fn call_at(
     found: Option<&Meaning>,
     count: usize,
     role: Role,
-    line: u32,
+    offset: u32,
 ) -> Result<(Option<Kind>, Callee), TypeFault>
-    ensures { Says (call_fault (option_copied found.entry) count role line)
+    ensures { Says (call_fault (option_copied found.entry) count role offset)
         (result_kind (option_copied found.entry), callee_of (option_copied found.entry)) result }
 {
     match found {
-        None => Err(TypeFault::Unknown(line)),
+        None => Err(TypeFault::Unknown(offset)),
         Some(
             Meaning::Function {
                 result: given,
@@ -181,9 +181,9 @@ pub fn call_at(
                 ..
             },
         ) => {
-            let callee = called(*callee, *given, params.as_slice(), count, role, line)?;
+            let callee = called(*callee, *given, params.as_slice(), count, role, offset)?;
             Ok((*given, callee))
         }
-        Some(_) => Err(TypeFault::Mismatch(line)),
+        Some(_) => Err(TypeFault::Mismatch(offset)),
     }
 }

@@ -49,12 +49,12 @@ pub fn name(
     alloc: Global,
     scope: &Scopes,
     role: &Role,
-    line: u32,
+    offset: u32,
     word: Word,
 ) -> Result<Boxed<TypedExpr>, TypeFault>
-    ensures { Types (at line (node.Name word)) role.now scope.now result }
+    ensures { Types (at offset (node.Name word)) role.now scope.now result }
 {
-    let e = name_at(scope.look_up(&word), *role, line)?;
+    let e = name_at(scope.look_up(&word), *role, offset)?;
     Ok(Boxed::new(alloc, e)?)
 }
 
@@ -65,12 +65,12 @@ pub fn number(
     alloc: Global,
     scope: &Scopes,
     role: &Role,
-    line: u32,
+    offset: u32,
     value: u64,
     kind: Kind,
 ) -> Result<Boxed<TypedExpr>, TypeFault>
-    ensures { Types (at line (node.Number value kind)) role.now scope.now result }
+    ensures { Types (at offset (node.Number value kind)) role.now scope.now result }
 {
-    value_at(*role, line)?;
+    value_at(*role, offset)?;
     Ok(build::boxed(alloc, Some(kind), TypedNode::Number(value))?)
 }

@@ -11,8 +11,8 @@ use Rattle.c_tree.specs.declared.typed.TypedProgram.{TypedProgram}
 use Rattle.c_tree.specs.declared.typed.TypedStmt.TheVariants as typed
 use Rattle.c_type.specs.States.{at}
 use Rattle.c_type.specs.Statements.{statements_in, Part, Beginning, SectionPart, node_part, init_part, section_part}
-use Rattle.c_type.specs.Statements.{at_line, part}
-use Rattle.c_type.proofs.Nodes.{fold_section}
+use Rattle.c_type.specs.Statements.{at_offset, part}
+use Rattle.c_type.proofs.SwitchNodes.{fold_section}
 use Rattle.c_type.specs.Functions.{body_in, body_part}
 use Rattle.c_type_rules.specs.inside.KeptStatements as rule
 use Rattle.c_type_rules.specs.inside.WellFormed.{Each}
@@ -24,19 +24,19 @@ use Rattle.c_type_rules.proofs.Declarations.{on_declare}
 use Rattle.c_type_rules.proofs.Switches.{on_switch}
 use Rattle.c_type_rules.proofs.SoundStatements.{on_first, on_locals}
 
--- a part, once its line is known
+-- a part, once its offset is known
 abbrev A : Type 0
 A = ℕ → Part
 
 -- what the definitions give of the first part of a `for`, and of a node
 abbrev init_fold : ForInit → Beginning
-init_fold = fold-ForInit Beginning A SectionPart Part init_part node_part section_part at_line
+init_fold = fold-ForInit Beginning A SectionPart Part init_part node_part section_part at_offset
 
 abbrev node_fold : StmtNode → A
-node_fold = fold-StmtNode Beginning A SectionPart Part init_part node_part section_part at_line
+node_fold = fold-StmtNode Beginning A SectionPart Part init_part node_part section_part at_offset
 
 abbrev section_fold : Section → SectionPart
-section_fold = fold-Section Beginning A SectionPart Part init_part node_part section_part at_line
+section_fold = fold-Section Beginning A SectionPart Part init_part node_part section_part at_offset
 
 module _ (P : TypedProgram) (f : TypedFunc) where
   -- what is shown of each
@@ -107,7 +107,7 @@ module _ (P : TypedProgram) (f : TypedFunc) where
     unfolding part
     at_node y l =
         subst (λ (g : A). Sound P f (g l))
-        (sym (fold-roll-StmtNode Beginning A SectionPart Part init_part node_part section_part at_line
+        (sym (fold-roll-StmtNode Beginning A SectionPart Part init_part node_part section_part at_offset
         (map-StmtNode I N X S ForInit StmtNode Section Stmt of_i of_n of_x of_s y)))
         (node_good l y)
 
@@ -117,7 +117,7 @@ module _ (P : TypedProgram) (f : TypedFunc) where
     unfolding part
     at_init y =
         subst (λ (g : Beginning). SoundFirst P f g)
-        (sym (fold-roll-ForInit Beginning A SectionPart Part init_part node_part section_part at_line
+        (sym (fold-roll-ForInit Beginning A SectionPart Part init_part node_part section_part at_offset
         (map-ForInit I N X S ForInit StmtNode Section Stmt of_i of_n of_x of_s y)))
         (init_good y)
 
@@ -134,12 +134,12 @@ module _ (P : TypedProgram) (f : TypedFunc) where
   at_section : (x : Section) → SoundAll P f (map part (statements_in x)) → SectionGood x
   at_section x h = subst (λ (p : SectionPart). SoundAll P f p.body) (sym (fold_section x)) h
 
-  -- a statement is its node at its line
+  -- a statement is its node at its offset
   at_stmt : (l : ℕ) (n : StmtNode) → NodeGood n → StmtGood (at l n)
   unfolding part
   at_stmt l n h =
       subst (Sound P f)
-      (sym (fold_out-Stmt Beginning A SectionPart Part init_part node_part section_part at_line (at l n))) (h l)
+      (sym (fold_out-Stmt Beginning A SectionPart Part init_part node_part section_part at_offset (at l n))) (h l)
 
   -- every statement keeps what holds, and its tree is well formed
   pub sound : (s : Stmt) → StmtGood s
@@ -154,7 +154,7 @@ module _ (P : TypedProgram) (f : TypedFunc) where
       (at_section _
       (in_section _ _ _ _ (λ i. i.0) (λ n. n.0) (λ x. x.0) (λ s. s.0) (λ i. i.1) (λ x. x.1) (λ s. s.1) y)))
       (λ x y e. subst (λ (x : Stmt-F ForInit StmtNode Section Stmt). StmtGood (roll-Stmt x)) e
-      (at_stmt y.line y.node.0 y.node.1))
+      (at_stmt y.offset y.node.0 y.node.1))
 
   -- the same of each of several
   each_sound : (ss : List Stmt) → Each (Sound P f) (map part ss)

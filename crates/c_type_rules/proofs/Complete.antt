@@ -32,14 +32,14 @@ use Rattle.c_type.specs.States.{at, entered, with_array, with_switch, sectioned,
 use Rattle.c_type.specs.LeftOut.{full_if}
 use Rattle.c_type.specs.Declarations.{declare_fault, declare_tree, declared}
 use Rattle.c_type.proofs.Nodes.{fault-Declare, tree-Declare, after-Declare, fault-Plain, tree-Plain}
-use Rattle.c_type.proofs.Nodes.{after-Plain, fault-Compound, tree-Compound, after-Compound}
-use Rattle.c_type.proofs.Nodes.{fault-If, tree-If, after-If, fault-While, tree-While, after-While}
-use Rattle.c_type.proofs.Nodes.{fault-Do, tree-Do, after-Do, fault-For, tree-For, after-For}
-use Rattle.c_type.proofs.Nodes.{fault-Break, tree-Break, after-Break, fault-Continue, tree-Continue}
-use Rattle.c_type.proofs.Nodes.{after-Continue, fault-Return, tree-Return, after-Return}
-use Rattle.c_type.proofs.Nodes.{tree-Nothing, after-Nothing, fault-First, tree-First, after-First}
-use Rattle.c_type.proofs.Nodes.{fault-Locals, tree-Locals, after-Locals}
-use Rattle.c_type.proofs.Nodes.{fault-Switch, tree-Switch, after-Switch}
+use Rattle.c_type.proofs.Nodes.{after-Plain, fault-Compound, tree-Compound, after-Compound, fault-If}
+use Rattle.c_type.proofs.Nodes.{tree-If, after-If, fault-While, tree-While, after-While, fault-Do}
+use Rattle.c_type.proofs.Nodes.{tree-Do, after-Do, fault-For, tree-For, after-For, fault-Break}
+use Rattle.c_type.proofs.Nodes.{tree-Break, after-Break, fault-Continue, tree-Continue, after-Continue}
+use Rattle.c_type.proofs.Nodes.{fault-Return, tree-Return, after-Return}
+use Rattle.c_type.proofs.BeginningNodes.{tree-Nothing, after-Nothing, fault-First, tree-First}
+use Rattle.c_type.proofs.BeginningNodes.{after-First, fault-Locals, tree-Locals, after-Locals}
+use Rattle.c_type.proofs.SwitchNodes.{fault-Switch, tree-Switch, after-Switch}
 use Rattle.c_type_rules.specs.Statements.{Types, TypesAll, TypesSections}
 use Rattle.c_type_rules.specs.Statements.{Begins, rows_declared, switches}
 use Rattle.c_type_rules.specs.Statements.{no_section, one_section}
@@ -242,7 +242,7 @@ whole_stmt =
     (at_node _ _ _ _ (λ i. i.0) (λ n. n.0) (λ x. x.0) (λ s. s.0) (λ i. i.1) (λ x. x.1) (λ s. s.1) y))
     (λ x y e. subst (λ (x : Section-F ForInit StmtNode Section Stmt). WholeSection (roll-Section x)) e
     (at_section _ _ _ _ (λ i. i.0) (λ n. n.0) (λ x. x.0) (λ s. s.0) (λ i. i.1) (λ x. x.1) (λ s. s.1) y))
-    (λ x y e. subst (λ (x : Stmt-F ForInit StmtNode Section Stmt). Whole (roll-Stmt x)) e (y.node.1 y.line))
+    (λ x y e. subst (λ (x : Stmt-F ForInit StmtNode Section Stmt). Whole (roll-Stmt x)) e (y.node.1 y.offset))
 
 -- the same of several
 pub whole_all : (b : Around) (v : State) (ss : List Stmt) → all_fault (map part ss) b v ≡ None

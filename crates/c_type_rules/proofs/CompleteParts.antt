@@ -68,7 +68,7 @@ initialises G k (Some e) h = with_value (full_typed G Value e h)
 pub sized_typed : (G : Scope) (e : Expr) (o : Option ℕ) → length_of e ≡ o → size_fault e G ≡ None
     → Size G e (word_in o)
 sized_typed G e None e' h = let q =
-    split _ _ h in absurd (false≢true (held _ _ (sym (ap (λ o. value_fault o e.line) e') ∙ q.1)))
+    split _ _ h in absurd (false≢true (held _ _ (sym (ap (λ o. value_fault o e.offset) e') ∙ q.1)))
 sized_typed G e (Some n) e' h = let q = split _ _ h in (constant_typed e G q.0, e')
 
 -- a case without a fault, before others
@@ -76,18 +76,18 @@ case_typed : (G : Scope) (k : Kind) (seen : List (Option ℕ)) (l : ℕ) (e : Ex
     (ws : List (Option ℕ)) (o : Option ℕ) → (constant ends e).value ≡ o → not_fixed e G ≡ None → is_some o ≡ true
     → need_fits e ≡ true → label_among (Some (constant_at k e)) seen ≡ false
     → Labels G k (seen ++ Some (constant_at k e) ∷ []) xs ws
-    → Labels G k seen ((record { line = l; value = Some e }) ∷ xs) (Some (constant_at k e) ∷ ws)
+    → Labels G k seen ((record { offset = l; value = Some e }) ∷ xs) (Some (constant_at k e) ∷ ws)
 case_typed G k seen l e xs ws None v f h n t d = absurd (false≢true h)
 case_typed G k seen l e xs ws (Some m) v f h n t d =
     subst (λ m. label_among (Some m) seen ≡ false → Labels G k (seen ++ Some m ∷ []) xs ws
-    → Labels G k seen ((record { line = l; value = Some e }) ∷ xs) (Some m ∷ ws))
+    → Labels G k seen ((record { offset = l; value = Some e }) ∷ xs) (Some m ∷ ws))
     (ap (λ o. converted k (word_in o)) (sym v)) (λ t d. a_case (constant_typed e G f) v n t d) t d
 
 -- a label without a fault, before others
 label_typed : (G : Scope) (k : Kind) (seen : List (Option ℕ)) (l : ℕ) (o : Option Expr) (xs : List Label)
     (ws : List (Option ℕ)) → case_fault o G ≡ None → label_among (word_if k o) seen ≡ false
     → Labels G k (seen ++ word_if k o ∷ []) xs ws
-    → Labels G k seen ((record { line = l; value = o }) ∷ xs) (word_if k o ∷ ws)
+    → Labels G k seen ((record { offset = l; value = o }) ∷ xs) (word_if k o ∷ ws)
 label_typed G k seen l None xs ws h t d = a_default t d
 label_typed G k seen l (Some e) xs ws h t d =
     let q = split _ _ h in
@@ -101,5 +101,5 @@ labels_typed G k seen [] h = no_label
 labels_typed G k seen (x ∷ xs) h =
     let q = split _ _ h in
     let r = split _ _ q.0 in
-    label_typed G k seen x.line x.value xs (map (label_word k) xs) r.0 (not_held _ _ r.1)
+    label_typed G k seen x.offset x.value xs (map (label_word k) xs) r.0 (not_held _ _ r.1)
     (labels_typed G k (seen ++ label_word k x ∷ []) xs q.1)

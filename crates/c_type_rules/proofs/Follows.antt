@@ -41,7 +41,8 @@ use Rattle.c_type.specs.Programs.{table}
 use Rattle.c_type.specs.inside.Programs.{node_fault}
 use Rattle.c_type.proofs.Nodes.{fault-Declare, fault-Plain, fault-Compound, fault-If, fault-While}
 use Rattle.c_type.proofs.Nodes.{fault-Do, fault-For, fault-Break, fault-Continue, fault-Return}
-use Rattle.c_type.proofs.Nodes.{fault-Nothing, fault-First, fault-Locals, fault-Switch}
+use Rattle.c_type.proofs.SwitchNodes.{fault-Switch}
+use Rattle.c_type.proofs.BeginningNodes.{fault-Nothing, fault-First, fault-Locals}
 use Rattle.c_type_rules.specs.Units.{is_block}
 use Rattle.c_type_rules.specs.Judgements.{Judgement, a_test, an_expression, a_full, an_optional}
 use Rattle.c_type_rules.specs.Judgements.{a_constant, a_full_constant, a_size, a_statement}
@@ -72,34 +73,34 @@ declare_follows (size.Rows (Some r) e) k w init l v =
 
 module _ (b : Around) (v : State) (s : Stmt) where
   by_statement : (n : StmtNode) → s.node ≡ n
-      → (part s).fault b v ≡ (part (record { line = s.line; node = n })).fault b v
-  by_statement n h = ap (λ (n : StmtNode). (part (record { line = s.line; node = n })).fault b v) h
+      → (part s).fault b v ≡ (part (record { offset = s.offset; node = n })).fault b v
+  by_statement n h = ap (λ (n : StmtNode). (part (record { offset = s.offset; node = n })).fault b v) h
 
   statement_follows : (x : StmtNode-F ForInit StmtNode Section Stmt) → out-StmtNode s.node ≡ x
-      → (part s).fault b v ≡ first_of (statement_parts b v s.line x)
+      → (part s).fault b v ≡ first_of (statement_parts b v s.offset x)
   statement_follows (StmtNode-F.Declare k w n init) h =
-      by_statement _ (statement_is _ _ h ∙ statement.rolls-Declare k w n init) ∙ fault-Declare s.line k w n init b v
-      ∙ declare_follows n k w init s.line v
+      by_statement _ (statement_is _ _ h ∙ statement.rolls-Declare k w n init) ∙ fault-Declare s.offset k w n init b v
+      ∙ declare_follows n k w init s.offset v
   statement_follows (StmtNode-F.Plain e) h =
-      by_statement _ (statement_is _ _ h ∙ statement.rolls-Plain e) ∙ fault-Plain s.line e b v
+      by_statement _ (statement_is _ _ h ∙ statement.rolls-Plain e) ∙ fault-Plain s.offset e b v
   statement_follows (StmtNode-F.Compound ss) h =
-      by_statement _ (statement_is _ _ h ∙ statement.rolls-Compound ss) ∙ fault-Compound s.line ss b v
+      by_statement _ (statement_is _ _ h ∙ statement.rolls-Compound ss) ∙ fault-Compound s.offset ss b v
   statement_follows (StmtNode-F.If c x other) h =
-      by_statement _ (statement_is _ _ h ∙ statement.rolls-If c x other) ∙ fault-If s.line c x other b v
+      by_statement _ (statement_is _ _ h ∙ statement.rolls-If c x other) ∙ fault-If s.offset c x other b v
   statement_follows (StmtNode-F.While c x) h =
-      by_statement _ (statement_is _ _ h ∙ statement.rolls-While c x) ∙ fault-While s.line c x b v
+      by_statement _ (statement_is _ _ h ∙ statement.rolls-While c x) ∙ fault-While s.offset c x b v
   statement_follows (StmtNode-F.Do x c) h =
-      by_statement _ (statement_is _ _ h ∙ statement.rolls-Do x c) ∙ fault-Do s.line x c b v
+      by_statement _ (statement_is _ _ h ∙ statement.rolls-Do x c) ∙ fault-Do s.offset x c b v
   statement_follows (StmtNode-F.For init c p x) h =
-      by_statement _ (statement_is _ _ h ∙ statement.rolls-For init c p x) ∙ fault-For s.line init c p x b v
+      by_statement _ (statement_is _ _ h ∙ statement.rolls-For init c p x) ∙ fault-For s.offset init c p x b v
   statement_follows (StmtNode-F.Switch c xs) h =
-      by_statement _ (statement_is _ _ h ∙ statement.rolls-Switch c xs) ∙ fault-Switch s.line c xs b v
+      by_statement _ (statement_is _ _ h ∙ statement.rolls-Switch c xs) ∙ fault-Switch s.offset c xs b v
   statement_follows StmtNode-F.Break h =
-      by_statement _ (statement_is _ _ h ∙ statement.rolls-Break) ∙ fault-Break s.line b v
+      by_statement _ (statement_is _ _ h ∙ statement.rolls-Break) ∙ fault-Break s.offset b v
   statement_follows StmtNode-F.Continue h =
-      by_statement _ (statement_is _ _ h ∙ statement.rolls-Continue) ∙ fault-Continue s.line b v
+      by_statement _ (statement_is _ _ h ∙ statement.rolls-Continue) ∙ fault-Continue s.offset b v
   statement_follows (StmtNode-F.Return e) h =
-      by_statement _ (statement_is _ _ h ∙ statement.rolls-Return e) ∙ fault-Return s.line e b v
+      by_statement _ (statement_is _ _ h ∙ statement.rolls-Return e) ∙ fault-Return s.offset e b v
 
 beginning_follows : (b : Around) (v : State) (i : ForInit) (x : ForInit-F ForInit StmtNode Section Stmt)
     → out-ForInit i ≡ x → (beginning_of i).fault b v ≡ first_of (beginning_parts b v x)
@@ -113,9 +114,9 @@ beginning_follows b v i (ForInit-F.Locals ss) h =
 body_follows : (v : State) (s : Stmt) (x : StmtNode-F ForInit StmtNode Section Stmt) → out-StmtNode s.node ≡ x
     → (body_part s).fault nowhere v ≡ first_of (body_parts v s x)
 body_follows v s (StmtNode-F.Compound ss) h =
-    ap (λ (n : StmtNode). (body_part (record { line = s.line; node = n })).fault nowhere v)
+    ap (λ (n : StmtNode). (body_part (record { offset = s.offset; node = n })).fault nowhere v)
     (statement_is _ _ h ∙ statement.rolls-Compound ss)
-    ∙ ap (λ (p : Part). p.fault nowhere v) (block_body s.line ss)
+    ∙ ap (λ (p : Part). p.fault nowhere v) (block_body s.offset ss)
 body_follows v s _ h = ap (λ (p : Part). p.fault nowhere v) (plain_body s (ap is_block h))
 
 -- UNITS
@@ -148,16 +149,16 @@ global_follows (size.Rows (Some r) e) k w init l U =
 
 -- labels in their order: the constant of a case, then that it is another than those before it
 labels_follow : (G : Scope) (k : Kind) (seen : List (Option ℕ)) (l : ℕ) (o : Option Expr) (xs : List Label)
-    → labels_fault k seen ((record { line = l; value = o }) ∷ xs) G
-    ≡ first_of (parts (some_labels G k seen ((record { line = l; value = o }) ∷ xs)))
+    → labels_fault k seen ((record { offset = l; value = o }) ∷ xs) G
+    ≡ first_of (parts (some_labels G k seen ((record { offset = l; value = o }) ∷ xs)))
 labels_follow G k seen l None xs = refl
 labels_follow G k seen l (Some e) xs =
     let x = word_if k (Some e) in
     assoc (full_constant e G) (unless (not (label_among x seen)) (Twice l)) (labels_fault k (seen ++ x ∷ []) xs G)
 
 param_follows : (d : Bool) (G : Scope) (seen : List Param) (l : ℕ) (k : Kind) (o : Option (List ℕ)) (s : ArraySize)
-    → param_fault d G seen (record { line = l; kind = k; name = o; size = s })
-    ≡ first_of (parts (a_param d G seen (record { line = l; kind = k; name = o; size = s })))
+    → param_fault d G seen (record { offset = l; kind = k; name = o; size = s })
+    ≡ first_of (parts (a_param d G seen (record { offset = l; kind = k; name = o; size = s })))
 param_follows d G seen l k o size.Scalar = refl
 param_follows d G seen l k o size.Open = refl
 param_follows d G seen l k o (size.Sized e) = refl
@@ -196,18 +197,18 @@ follows (an_else b v (Some s)) = refl
 follows (a_beginning b v i) = beginning_follows b v i (out-ForInit i) refl
 follows (a_body v s) = body_follows v s (out-StmtNode s.node) refl
 follows (some_labels G k seen []) = refl
-follows (some_labels G k seen (x ∷ xs)) = labels_follow G k seen x.line x.value xs
+follows (some_labels G k seen (x ∷ xs)) = labels_follow G k seen x.offset x.value xs
 follows (some_sections k seen b v []) = refl
 follows (some_sections k seen b v (x ∷ xs)) =
     assoc (labels_fault k seen (labels_in x) v.names) (all_fault (map part (statements_in x)) b v)
     (sections_fault k (seen ++ map (label_word k) (labels_in x)) (map section_of xs) b
     (all_after (map part (statements_in x)) v))
-follows (a_param d G seen p) = param_follows d G seen p.line p.kind p.name p.size
+follows (a_param d G seen p) = param_follows d G seen p.offset p.kind p.name p.size
 follows (some_params d G seen []) = refl
 follows (some_params d G seen (p ∷ ps)) = refl
 follows (some_values G k []) = refl
 follows (some_values G k (e ∷ es)) = refl
-follows (an_item unit U t) = item_follows unit U t.line t.node
+follows (an_item unit U t) = item_follows unit U t.offset t.node
 follows (some_items unit U []) = refl
 follows (some_items unit U (t ∷ ts)) = refl
 follows (a_unit p) = refl

@@ -112,44 +112,44 @@ constants_follow G (e ∷ d ∷ es) b =
 
 module _ (G : Scope) (r : Role) (e : Expr) where
   -- the same expression with another node
-  by_node : (n : ExprNode) → e.node ≡ n → fault e G r ≡ fault (at e.line n) G r
-  by_node n h = ap (λ n. fault (at e.line n) G r) h
+  by_node : (n : ExprNode) → e.node ≡ n → fault e G r ≡ fault (at e.offset n) G r
+  by_node n h = ap (λ n. fault (at e.offset n) G r) h
 
   -- the fault of an expression is the first one of its parts
   pub expression_follows : (x : ExprNode-F ExprNode Expr) → out-ExprNode e.node ≡ x
-      → fault e G r ≡ first_of (expression_parts G r e.line x)
+      → fault e G r ≡ first_of (expression_parts G r e.offset x)
   expression_follows (ExprNode-F.Number v k) h =
-      by_node _ (node_is _ _ h ∙ node.rolls-Number v k) ∙ fault-Number G r e.line v k
+      by_node _ (node_is _ _ h ∙ node.rolls-Number v k) ∙ fault-Number G r e.offset v k
   expression_follows (ExprNode-F.Name w) h =
-      by_node _ (node_is _ _ h ∙ node.rolls-Name w) ∙ fault-Name G r e.line w
+      by_node _ (node_is _ _ h ∙ node.rolls-Name w) ∙ fault-Name G r e.offset w
   expression_follows (ExprNode-F.Element w None i) h =
-      by_node _ (node_is _ _ h ∙ node.rolls-Element w None i) ∙ fault-Element G r e.line w i
+      by_node _ (node_is _ _ h ∙ node.rolls-Element w None i) ∙ fault-Element G r e.offset w i
   expression_follows (ExprNode-F.Element w (Some x) i) h =
-      by_node _ (node_is _ _ h ∙ node.rolls-Element w (Some x) i) ∙ fault-Row G r e.line w x i
+      by_node _ (node_is _ _ h ∙ node.rolls-Element w (Some x) i) ∙ fault-Row G r e.offset w x i
   expression_follows (ExprNode-F.Call w es) h =
-      by_node _ (node_is _ _ h ∙ node.rolls-Call w es) ∙ fault-Call G r e.line w es
-      ∙ arguments_follow G (slots_of (look_up G w)) es (call_fault (look_up G w) (length es) r e.line)
+      by_node _ (node_is _ _ h ∙ node.rolls-Call w es) ∙ fault-Call G r e.offset w es
+      ∙ arguments_follow G (slots_of (look_up G w)) es (call_fault (look_up G w) (length es) r e.offset)
   expression_follows (ExprNode-F.Group x) h =
-      by_node _ (node_is _ _ h ∙ node.rolls-Group x) ∙ fault-Group G r e.line x
+      by_node _ (node_is _ _ h ∙ node.rolls-Group x) ∙ fault-Group G r e.offset x
   expression_follows (ExprNode-F.Unary op x) h =
-      by_node _ (node_is _ _ h ∙ node.rolls-Unary op x) ∙ fault-Unary G r e.line op x
+      by_node _ (node_is _ _ h ∙ node.rolls-Unary op x) ∙ fault-Unary G r e.offset op x
   expression_follows (ExprNode-F.Cast k x) h =
-      by_node _ (node_is _ _ h ∙ node.rolls-Cast k x) ∙ fault-Cast G r e.line k x
+      by_node _ (node_is _ _ h ∙ node.rolls-Cast k x) ∙ fault-Cast G r e.offset k x
   expression_follows (ExprNode-F.Bump op x) h =
-      by_node _ (node_is _ _ h ∙ node.rolls-Bump op x) ∙ fault-Bump G r e.line op x
+      by_node _ (node_is _ _ h ∙ node.rolls-Bump op x) ∙ fault-Bump G r e.offset op x
   expression_follows (ExprNode-F.Binary op x y) h =
-      by_node _ (node_is _ _ h ∙ node.rolls-Binary op x y) ∙ fault-Binary G r e.line op x y
+      by_node _ (node_is _ _ h ∙ node.rolls-Binary op x y) ∙ fault-Binary G r e.offset op x y
   expression_follows (ExprNode-F.Choice t x y) h =
-      by_node _ (node_is _ _ h ∙ node.rolls-Choice t x y) ∙ fault-Choice G r e.line t x y
+      by_node _ (node_is _ _ h ∙ node.rolls-Choice t x y) ∙ fault-Choice G r e.offset t x y
   expression_follows (ExprNode-F.Assign op x y) h =
-      by_node _ (node_is _ _ h ∙ node.rolls-Assign op x y) ∙ fault-Assign G r e.line op x y
+      by_node _ (node_is _ _ h ∙ node.rolls-Assign op x y) ∙ fault-Assign G r e.offset op x y
   expression_follows (ExprNode-F.Comma x y) h =
-      by_node _ (node_is _ _ h ∙ node.rolls-Comma x y) ∙ fault-Comma G r e.line x y
+      by_node _ (node_is _ _ h ∙ node.rolls-Comma x y) ∙ fault-Comma G r e.offset x y
 
 module _ (G : Scope) (e : Expr) where
   -- the fault of a constant expression is the first one of its parts
   pub constant_follows : (x : ExprNode-F ExprNode Expr) → out-ExprNode e.node ≡ x
-      → not_fixed e G ≡ first_of (constant_parts G e.line x)
+      → not_fixed e G ≡ first_of (constant_parts G e.offset x)
   constant_follows (ExprNode-F.Number v k) h = fixed-Number e G v k (node_is _ _ h ∙ node.rolls-Number v k)
   constant_follows (ExprNode-F.Name w) h = fixed-Name e G w (node_is _ _ h ∙ node.rolls-Name w)
   constant_follows (ExprNode-F.Element w None i) h =
@@ -158,7 +158,7 @@ module _ (G : Scope) (e : Expr) where
       fixed-Element e G w (Some x) i (node_is _ _ h ∙ node.rolls-Element w (Some x) i)
   constant_follows (ExprNode-F.Call w es) h =
       fixed-Call e G w es (node_is _ _ h ∙ node.rolls-Call w es)
-      ∙ constants_follow G es (no_constant (calls_known (look_up G w)) e.line)
+      ∙ constants_follow G es (no_constant (calls_known (look_up G w)) e.offset)
   constant_follows (ExprNode-F.Group x) h = fixed-Group e G x (node_is _ _ h ∙ node.rolls-Group x)
   constant_follows (ExprNode-F.Unary op x) h = fixed-Unary e G op x (node_is _ _ h ∙ node.rolls-Unary op x)
   constant_follows (ExprNode-F.Cast k x) h = fixed-Cast e G k x (node_is _ _ h ∙ node.rolls-Cast k x)

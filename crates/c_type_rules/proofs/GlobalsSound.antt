@@ -33,8 +33,8 @@ pub values_fine : (G : Scope) (k : Kind) (es : List Expr) (ns : List ℕ) → Va
 values_fine G k _ _ no_value = (refl, refl)
 values_fine G k _ _ (one_value {e = e} {n = n} {es = es} {ns = ns} f v n' d) =
     let s = values_fine G k es ns d in (
-      both _ _ (both _ _ (constant_fine G e f) (both _ _ (ap (λ o. value_fault o e.line) v)
-          (fine (need_fits e) (Need e.line) n'))) s.0,
+      both _ _ (both _ _ (constant_fine G e f) (both _ _ (ap (λ o. value_fault o e.offset) v)
+          (fine (need_fits e) (Need e.offset) n'))) s.0,
       ap (λ o. converted k (word_in o) ∷ ns) (sym v) ∙ ap (λ ns. constant_at k e ∷ ns) s.1,
     )
 

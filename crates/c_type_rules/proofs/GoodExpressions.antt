@@ -27,7 +27,7 @@ record GoodExpr (e : Expr) : Type 0 where
   asked : (G : Scope) (r : Role) → Good (an_expression G r e)
   fixed : (G : Scope) → Good (a_constant G e)
 
--- the same of a node on any line
+-- the same of a node at any offset
 abbrev GoodNode : ExprNode → Type 0
 GoodNode n = (l : ℕ) → GoodExpr (at l n)
 
@@ -122,7 +122,7 @@ good_expr =
     ind-Expr GoodNode GoodExpr
     (λ x y e. subst (λ (x : ExprNode-F ExprNode Expr). GoodNode (roll-ExprNode x)) e
     (at_node _ _ (λ e'. e'.0) (λ e'. e'.0) (λ s. s.1) y))
-    (λ x y e. subst (λ (x : Expr-F ExprNode Expr). GoodExpr (roll-Expr x)) e (y.node.1 y.line))
+    (λ x y e. subst (λ (x : Expr-F ExprNode Expr). GoodExpr (roll-Expr x)) e (y.node.1 y.offset))
 
 -- a full expression, one that may be left out, a constant expression and a size are good
 pub full_good : (G : Scope) (r : Role) (e : Expr) → Good (a_full G r e)
@@ -137,8 +137,8 @@ optional_good G r (Some e) = good_by (an_optional G r (Some e)) refl (full_good 
 pub full_constant_good : (G : Scope) (e : Expr) → Good (a_full_constant G e)
 full_constant_good G e =
     good_by (a_full_constant G e) refl
-    ((good_expr e).fixed G, (test_good _ (sane_word (constant ends e).value e.line), last _ (sane_need e)))
+    ((good_expr e).fixed G, (test_good _ (sane_word (constant ends e).value e.offset), last _ (sane_need e)))
 
 -- the judgement of an array's size is good
 pub size_good : (G : Scope) (e : Expr) → Good (a_size G e)
-size_good G e = good_by (a_size G e) refl ((good_expr e).fixed G, last _ (sane_word (length_of e) e.line))
+size_good G e = good_by (a_size G e) refl ((good_expr e).fixed G, last _ (sane_word (length_of e) e.offset))

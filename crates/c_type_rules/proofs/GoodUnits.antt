@@ -81,7 +81,7 @@ labels_good G k seen [] = good_by (some_labels G k seen []) refl tt
 labels_good G k seen (x ∷ xs) =
     good_by (some_labels G k seen (x ∷ xs)) (follows (some_labels G k seen (x ∷ xs)))
     (good_append (case_parts G x.value) _ (case_good G x.value)
-    (test_good _ (sane_unless _ (Twice x.line) tt), (labels_good G k (seen ++ label_word k x ∷ []) xs, tt)))
+    (test_good _ (sane_unless _ (Twice x.offset) tt), (labels_good G k (seen ++ label_word k x ∷ []) xs, tt)))
 
 -- good in each state
 abbrev GoodStmt : Stmt → Type 0
@@ -194,7 +194,7 @@ good_stmt =
     (at_node _ _ _ _ (λ i. i.0) (λ n. n.0) (λ x. x.0) (λ s. s.0) (λ i. i.1) (λ x. x.1) (λ s. s.1) y))
     (λ x y e. subst (λ (x : Section-F ForInit StmtNode Section Stmt). GoodSection (roll-Section x)) e
     (at_section _ _ _ _ (λ i. i.0) (λ n. n.0) (λ x. x.0) (λ s. s.0) (λ i. i.1) (λ x. x.1) (λ s. s.1) y))
-    (λ x y e. subst (λ (x : Stmt-F ForInit StmtNode Section Stmt). GoodStmt (roll-Stmt x)) e (y.node.1 y.line))
+    (λ x y e. subst (λ (x : Stmt-F ForInit StmtNode Section Stmt). GoodStmt (roll-Stmt x)) e (y.node.1 y.offset))
 
 good_stmts : (b : Around) (v : State) (ss : List Stmt) → Good (some_statements b v ss)
 good_stmts b v [] = good_by (some_statements b v []) refl tt
@@ -220,10 +220,10 @@ param_good : (d : Bool) (G : Scope) (seen : List Param) (p : Param) → Good (a_
 param_good d G seen p =
     good_by (a_param d G seen p) (follows (a_param d G seen p))
     (good_append (row_parts p.size G seen) _ (row_good G seen p.size) (
-      test_good _ (sane_param d G seen p.name p.line),
+      test_good _ (sane_param d G seen p.name p.offset),
       (
-        test_good _ (sane_unless (nat_lt (length seen) 8) (TooManyParams p.line) tt),
-        (test_good _ (sane_row_bytes p.size p.kind p.line), tt),
+        test_good _ (sane_unless (nat_lt (length seen) 8) (TooManyParams p.offset) tt),
+        (test_good _ (sane_row_bytes p.size p.kind p.offset), tt),
       ),
     ))
 
@@ -278,7 +278,7 @@ items_good : (unit : List Top) (U : FileScope) (ts : List Top) → Good (some_it
 items_good unit U [] = good_by (some_items unit U []) refl tt
 items_good unit U (t ∷ ts) =
     good_by (some_items unit U (t ∷ ts)) refl (
-      good_by (an_item unit U t) (follows (an_item unit U t)) (item_each unit U t.line t.node),
+      good_by (an_item unit U t) (follows (an_item unit U t)) (item_each unit U t.offset t.node),
       (items_good unit (item_after (table unit) t U) ts, tt),
     )
 

@@ -61,7 +61,7 @@ in_some k (Some w) l e = from_some (number k w) l e
 
 -- a size without a fault is at least 1
 pub size_some : (e : Expr) (G : Scope) → size_fault e G ≡ None → 1 ≤ word_in (length_of e)
-size_some e G h = in_some (constant ends e).kind (constant ends e).value e.line (split _ _ h).1
+size_some e G h = in_some (constant ends e).kind (constant ends e).value e.offset (split _ _ h).1
 
 -- a product of two that are at least 1
 pub product_some : (m n : ℕ) → 1 ≤ m → 1 ≤ n → 1 ≤ m * n

@@ -42,8 +42,8 @@ passes_none (a_full G r e) p = (full_fine G r e p.0 p.1).0
 passes_none (an_optional G r e) p = (full_if_fine G r e p.0 p.1).0
 passes_none (a_constant G e) p = constant_fine G e p
 passes_none (a_full_constant G e) p =
-    both _ _ (constant_fine G e p.0) (both _ _ (ap (λ o. value_fault o e.line) p.1.1)
-    (fine (need_fits e) (Need e.line) p.2))
+    both _ _ (constant_fine G e p.0) (both _ _ (ap (λ o. value_fault o e.offset) p.1.1)
+    (fine (need_fits e) (Need e.offset) p.2))
 passes_none (a_size G e) p = size_fine G e p.0 p.1
 passes_none (a_statement b v s) p = (types_fine b v s p.0 p.1 p.2).0
 passes_none (some_statements b v ss) p = (all_fine b v ss p.0 p.1 p.2).0
@@ -55,7 +55,7 @@ passes_none (some_sections k seen b v xs) p = (sections_fine k seen b v xs p.0 p
 passes_none (a_param d G seen p) q = param_fine d G seen p q.0 q.1 q.2
 passes_none (some_params d G seen ps) p = params_fine d G seen ps p
 passes_none (some_values G k es) p = (values_fine G k es p.0 p.1).0
-passes_none (an_item unit U t) p = (item_fine unit t.line U t.node p.0 p.1).0
+passes_none (an_item unit U t) p = (item_fine unit t.offset U t.node p.0 p.1).0
 passes_none (some_items unit U ts) p = (items_fine unit U ts p.0 p.1).0
 passes_none (a_unit p) q = (accepts_fine p q.0 q.1).0
 
@@ -80,7 +80,7 @@ none_passes (a_constant G e) h = constant_typed e G h
 none_passes (a_full_constant G e) h =
     let q = split _ _ h in
     let r = split _ _ q.1 in
-    (constant_typed e G q.0, value_of (constant ends e).value e.line r.0, held _ _ r.1)
+    (constant_typed e G q.0, value_of (constant ends e).value e.offset r.0, held _ _ r.1)
 none_passes (a_size G e) h = (_, sized_typed G e (length_of e) refl h)
 none_passes (a_statement b v s) h = (_, _, whole_stmt s b v h)
 none_passes (some_statements b v ss) h = (_, _, whole_all b v ss h)
@@ -92,6 +92,6 @@ none_passes (some_sections k seen b v xs) h = (_, _, whole_sections k seen b v x
 none_passes (a_param d G seen p) h = param_typed d G seen p h
 none_passes (some_params d G seen ps) h = params_typed d G seen ps h
 none_passes (some_values G k es) h = (_, values_typed G k es h)
-none_passes (an_item unit U t) h = (_, item_typed unit t.line U t.node h)
+none_passes (an_item unit U t) h = (_, item_typed unit t.offset U t.node h)
 none_passes (some_items unit U ts) h = (_, items_typed unit U ts h)
 none_passes (a_unit p) h = (program_tree p, accepts_typed p h)

@@ -96,7 +96,7 @@ sane_word o l = sane_unless (is_some o) (Mismatch l) tt
 
 -- nor does the test of what a constant expression needs
 pub sane_need : (e : Expr) → Sane (constants.need_fault e)
-sane_need e = sane_unless (need_fits e) (Need e.line) tt
+sane_need e = sane_unless (need_fits e) (Need e.offset) tt
 
 -- STATEMENTS
 

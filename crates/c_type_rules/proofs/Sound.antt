@@ -37,14 +37,15 @@ use Rattle.c_type.specs.States.{with_switch}
 use Rattle.c_constant.specs.Kinds.{promoted}
 use Rattle.c_type.specs.Declarations.{extent}
 use Rattle.c_type.proofs.Nodes.{fault-Declare, tree-Declare, after-Declare, fault-Plain, tree-Plain}
-use Rattle.c_type.proofs.Nodes.{after-Plain, fault-Compound, tree-Compound, after-Compound}
-use Rattle.c_type.proofs.Nodes.{fault-If, tree-If, after-If, fault-While, tree-While, after-While}
-use Rattle.c_type.proofs.Nodes.{fault-Do, tree-Do, after-Do, fault-For, tree-For, after-For}
-use Rattle.c_type.proofs.Nodes.{fault-Break, tree-Break, after-Break, fault-Continue, tree-Continue}
-use Rattle.c_type.proofs.Nodes.{after-Continue, fault-Return, tree-Return, after-Return}
-use Rattle.c_type.proofs.Nodes.{fault-Nothing, tree-Nothing, after-Nothing, fault-First, tree-First}
-use Rattle.c_type.proofs.Nodes.{after-First, fault-Locals, tree-Locals, after-Locals}
-use Rattle.c_type.proofs.Nodes.{fault-Switch, tree-Switch, after-Switch}
+use Rattle.c_type.proofs.Nodes.{after-Plain, fault-Compound, tree-Compound, after-Compound, fault-If}
+use Rattle.c_type.proofs.Nodes.{tree-If, after-If, fault-While, tree-While, after-While, fault-Do}
+use Rattle.c_type.proofs.Nodes.{tree-Do, after-Do, fault-For, tree-For, after-For, fault-Break}
+use Rattle.c_type.proofs.Nodes.{tree-Break, after-Break, fault-Continue, tree-Continue, after-Continue}
+use Rattle.c_type.proofs.Nodes.{fault-Return, tree-Return, after-Return}
+use Rattle.c_type.proofs.BeginningNodes.{fault-Nothing, tree-Nothing, after-Nothing, fault-First}
+use Rattle.c_type.proofs.BeginningNodes.{tree-First, after-First, fault-Locals, tree-Locals}
+use Rattle.c_type.proofs.BeginningNodes.{after-Locals}
+use Rattle.c_type.proofs.SwitchNodes.{fault-Switch, tree-Switch, after-Switch}
 use Rattle.c_type_rules.specs.Statements.{Types, TypesAll}
 use Rattle.c_type_rules.specs.Statements.{TypesSections, TypesIf}
 use Rattle.c_type_rules.specs.Statements.{rows_declared, switches, no_section, one_section}

@@ -44,7 +44,7 @@ fine b f e = ap (λ b. unless b f) e
 pub full_fine : (G : Scope) (r : Role) (e : Expr) (t : TypedExpr) → Full G r e t → (full e r G ≡ None)
     × (t ≡ tree e G)
 full_fine G r e t (d, n) =
-    let s = sound G r e t d in (both _ _ s.0 (fine (need_fits e) (Need e.line) n), s.1)
+    let s = sound G r e t d in (both _ _ s.0 (fine (need_fits e) (Need e.offset) n), s.1)
 
 -- the same of one that may be left out
 pub full_if_fine : (G : Scope) (r : Role) (e : Option Expr) (t : Option TypedExpr) → FullIf G r e t
@@ -65,7 +65,7 @@ free G w l h = fine (not (is_taken G w)) (Twice l) (ap not h)
 
 -- a size that is one
 pub size_fine : (G : Scope) (e : Expr) (n : ℕ) → Size G e n → size_fault e G ≡ None
-size_fine G e n s = both _ _ (constant_fine G e s.0) (ap (λ o. value_fault o e.line) s.1)
+size_fine G e n s = both _ _ (constant_fine G e s.0) (ap (λ o. value_fault o e.offset) s.1)
 
 -- A smaller number is found to be so.
 pub less : (n m : ℕ) → n < m → nat_lt n m ≡ true
@@ -108,7 +108,7 @@ labels_fine G k _ _ _ (a_case {seen = seen} {words = words} {l = l} {n = n} {e =
       both _ _
           (both _ _
           (both _ _ (constant_fine G e f)
-          (both _ _ (ap (λ o. value_fault o e.line) v) (fine (need_fits e) (Need e.line) n')))
+          (both _ _ (ap (λ o. value_fault o e.offset) v) (fine (need_fits e) (Need e.offset) n')))
           (fine _ (Twice l) (ap (λ y. not (label_among y seen)) c ∙ ap not h)))
           (ap (λ y. labels_fault k (seen ++ y ∷ []) xs G) c ∙ s.0),
       ap (λ y. y ∷ words) (sym c) ∙ ap (λ ws. Some (constant_at k e) ∷ ws) s.1,

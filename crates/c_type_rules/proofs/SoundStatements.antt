@@ -135,7 +135,7 @@ module _ (P : TypedProgram) (f : TypedFunc) where
   begin : (b : Around) (s : TypedForInit) (x : level.Beginning) → roll-TypedForInit x ≡ s → Begins P f b x → Begin b s
   begin b s x e r = subst (Begins P f b) (sym (ap out-TypedForInit (sym e) ∙ out-roll-TypedForInit x)) r
 
-  -- a node of a statement, at a line
+  -- a node of a statement, at an offset
   abbrev Node : Type 0
   Node = StmtNode-F Beginning (ℕ → Part) SectionPart Part
 

@@ -83,8 +83,8 @@ param_typed d G seen p h =
     let q = split _ _ h in
     let r = split _ _ q.1 in
     let u = split _ _ r.1 in (
-      row_typed G seen p.kind p.size p.line q.0 u.1,
-      named_typed d G seen p.name p.line r.0,
+      row_typed G seen p.kind p.size p.offset q.0 u.1,
+      named_typed d G seen p.name p.offset r.0,
       less _ _ (held _ _ u.0),
     )
 
@@ -136,8 +136,8 @@ other_whole s e v =
 
 whole_in : (s : Stmt) (x : StmtNode-F ForInit StmtNode Section Stmt) → out-StmtNode s.node ≡ x → WholeBody s
 whole_in s (StmtNode-F.Compound ss) e =
-    subst (λ n. WholeBody (at s.line n))
-    (sym (sym (roll-out-StmtNode s.node) ∙ ap roll-StmtNode e ∙ node.rolls-Compound ss)) (block_whole s.line ss)
+    subst (λ n. WholeBody (at s.offset n))
+    (sym (sym (roll-out-StmtNode s.node) ∙ ap roll-StmtNode e ∙ node.rolls-Compound ss)) (block_whole s.offset ss)
 whole_in s _ e = other_whole s (ap is_block e)
 
 -- a body without a fault has its tree by the rules
@@ -182,7 +182,7 @@ pub items_typed : (unit : List Top) (U : FileScope) (ts : List Top) → items_fa
 items_typed unit U [] h = no_item
 items_typed unit U (t ∷ ts) h =
     let q = split _ _ h in
-    one_item (item_typed unit t.line U t.node q.0) (items_typed unit (item_after (table unit) t U) ts q.1)
+    one_item (item_typed unit t.offset U t.node q.0) (items_typed unit (item_after (table unit) t U) ts q.1)
 
 main_parts : (a b c : Bool) → a && b && c ≡ true → (a ≡ true) × (b ≡ true) × (c ≡ true)
 main_parts true true true h = (refl, refl, refl)

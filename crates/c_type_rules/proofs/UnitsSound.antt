@@ -83,10 +83,10 @@ row_fine G seen k _ l (row_size {o = o} {e = e} {n = n} s h) = (
 pub param_fine : (d : Bool) (G : Scope) (seen : List Param) (p : Param) → Row G seen p.kind p.size
     → Named d G seen p.name → length seen < 8 → param_fault d G seen p ≡ None
 param_fine d G seen p x n h =
-    let r = row_fine G seen p.kind p.size p.line x in
+    let r = row_fine G seen p.kind p.size p.offset x in
     both _ _ r.0
-    (both _ _ (named_fine d G seen p.name p.line n)
-    (both _ _ (fine _ (TooManyParams p.line) (less _ _ h)) r.1))
+    (both _ _ (named_fine d G seen p.name p.offset n)
+    (both _ _ (fine _ (TooManyParams p.offset) (less _ _ h)) r.1))
 
 -- parameters have no fault
 pub params_fine : (d : Bool) (G : Scope) (seen ps : List Param) → Params d G seen ps → params_fault d G seen ps ≡ None
@@ -215,7 +215,7 @@ pub items_fine : (unit : List Top) (U : FileScope) (ts : List Top) (V : FileScop
 items_fine unit _ _ _ no_item = (refl, refl)
 items_fine unit _ _ _ (one_item {U = U} {V = V} {W = W} {t = t} {ts = ts} d ds) =
     let T = table unit in
-    let p = item_fine unit t.line U t.node V d in
+    let p = item_fine unit t.offset U t.node V d in
     let q = items_fine unit V ts W ds in (
       both _ _ p.0 (ap (λ V. items_fault T ts V) (sym p.1) ∙ q.0),
       q.1 ∙ ap (λ V. items_after T ts V) p.1,

@@ -61,7 +61,7 @@ one G seen (Some w) l s k v h = named w s k v
 
 -- the name of a parameter without a fault has none
 name_fine : (G : Scope) (seen : List Param) (p : Param) → param_fault true G seen p ≡ None
-    → name_fault true G seen p.name p.line ≡ None
+    → name_fault true G seen p.name p.offset ≡ None
 name_fine G seen p h = (split _ _ (split _ _ h).1).0
 
 -- all parameters together
@@ -72,7 +72,7 @@ began G seen [] v h =
 began G seen (p ∷ ps) v h =
     let s = split _ _ h in
     let u = named_param p.name p.size p.kind v in
-    let a = one G seen p.name p.line p.size p.kind v (name_fine G seen p s.0) in
+    let a = one G seen p.name p.offset p.size p.kind v (name_fine G seen p s.0) in
     let b = began G (seen ++ p ∷ []) ps u s.1 in
     record {
       scalars = b.scalars ∙ ap (λ ss. ss ++ map slot_of ps) a.scalars
@@ -128,14 +128,14 @@ module _ (P : TypedProgram) (f : TypedFunc) where
   params_known G seen (p ∷ ps) v ss h e k =
       let s = split _ _ h in
       let u = named_param p.name p.size p.kind v in
-      let a = one G seen p.name p.line p.size p.kind v (name_fine G seen p s.0) in
+      let a = one G seen p.name p.offset p.size p.kind v (name_fine G seen p s.0) in
       let is : f.scalars ≡ ((v.scalars ++ slot_of p ∷ []) ++ map slot_of ps) ++ ss =
       e ∙ ap (λ xs. xs ++ ss) (sym (append_assoc v.scalars (slot_of p ∷ []) (map slot_of ps))) in
       let here : slice_get f.scalars (length v.scalars) ≡ Some (slot_of p) =
       ap (λ xs. slice_get xs (length v.scalars)) (is ∙ append_assoc (v.scalars ++ slot_of p ∷ []) (map slot_of ps) ss)
       ∙ at_end v.scalars (slot_of p) (map slot_of ps ++ ss) in
       params_known G (seen ++ p ∷ []) ps u ss s.1 (is ∙ ap (λ xs. (xs ++ map slot_of ps) ++ ss) (sym a.scalars))
-      (one_known G seen p.name p.line p.size p.kind v (name_fine G seen p s.0) here k)
+      (one_known G seen p.name p.offset p.size p.kind v (name_fine G seen p s.0) here k)
 
 -- SECOND SIZES
 
@@ -155,7 +155,7 @@ slots_fit G seen (p ∷ ps) h =
     let s = split _ _ h in
     let q = split _ _ s.0 in
     let r = split _ _ (split _ _ q.1).1 in
-    (slot_fits p.size p.kind p.line G seen q.0 r.1, slots_fit G (seen ++ p ∷ []) ps s.1)
+    (slot_fits p.size p.kind p.offset G seen q.0 r.1, slots_fit G (seen ++ p ∷ []) ps s.1)
 
 -- a slot that holds a value has no second size
 scalar_slot : (s : Slot) → IsScalar s → SlotFits s

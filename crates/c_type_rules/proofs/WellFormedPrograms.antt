@@ -125,7 +125,7 @@ module _ (T : Scope) (m : ℕ) where
       let s = split _ _ h in
       let later : (w : List ℕ) → Has T m (noted t.node n N) w → Has T m T w =
       λ w x. subst (λ M. Has T m M w) e (definitions_keep ts (count_after t.node n) (noted t.node n N) w x) in
-      let o = one_item t.node t.line N n F gs b fs i later s.0 in
+      let o = one_item t.node t.offset N n F gs b fs i later s.0 in
       let r = run ts (noted t.node n N) (count_after t.node n) o.frame o.globals o.bytes o.functions o.holds e
       (ap (items_fault T ts) (sym o.after) ∙ s.1) in
       let q = r.step in

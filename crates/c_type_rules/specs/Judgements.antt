@@ -66,7 +66,7 @@ argument_parts G slots [] = []
 argument_parts G slots (e ∷ es) =
     an_expression G (role_at slots) e ∷ argument_parts G (rest_of slots) es
 
--- the parts of an expression of that line: its operands, then the node itself
+-- the parts of an expression of that offset: its operands, then the node itself
 abbrev pub expression_parts : Scope → Role → ℕ → ExprNode-F ExprNode Expr → List Judgement
 expression_parts G r l (Number v k) = a_test (unwanted_value r l) ∷ []
 expression_parts G r l (Name w) = a_test (name_fault (look_up G w) r l) ∷ []
@@ -94,7 +94,7 @@ expression_parts G r l (Assign op x y) =
 expression_parts G r l (Comma x y) =
     an_expression G Free x ∷ an_expression G Value y ∷ a_test (unwanted_value r l) ∷ []
 
--- the parts of a constant expression of that line
+-- the parts of a constant expression of that offset
 abbrev pub constant_parts : Scope → ℕ → ExprNode-F ExprNode Expr → List Judgement
 constant_parts G l (Number v k) = []
 constant_parts G l (Name w) = a_test (name_fixed (look_up G w) l) ∷ []

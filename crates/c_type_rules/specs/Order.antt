@@ -59,7 +59,7 @@ declare_parts (size.Rows (Some r) e) k w init l v =
     ∷ a_test (array_fault (extent (size.Rows (Some r) e)) k w l v.names)
     ∷ a_test (no_init init l) ∷ []
 
--- the parts of a statement of that line, each in the state that those before it leave
+-- the parts of a statement of that offset, each in the state that those before it leave
 abbrev pub statement_parts : Around → State → ℕ → StmtNode-F ForInit StmtNode Section Stmt → List Judgement
 statement_parts b v l (Declare k w s init) = declare_parts s k w init l v
 statement_parts b v l (Plain e) = an_optional v.names Free e ∷ []
@@ -113,7 +113,7 @@ global_parts (size.Rows None e) k w init l U =
 global_parts (size.Rows (Some r) e) k w init l U =
     a_size U.names r ∷ a_size U.names e ∷ value_parts (size.Rows (Some r) e) k w init l U
 
--- the parts of an item of that line; a function's parameters come before the function itself
+-- the parts of an item of that offset; a function's parameters come before the function itself
 abbrev pub item_parts : List Top → FileScope → ℕ → TopNode → List Judgement
 item_parts unit U l Include = a_test (include_fault U.names l) ∷ []
 item_parts unit U l (Global k w s init) = global_parts s k w init l U
@@ -138,15 +138,15 @@ case_parts G (Some e) = a_full_constant G e ∷ []
 -- what is judged of it, in the order of the text; a main that is missing comes last
 abbrev pub parts : Judgement → List Judgement
 parts (a_test b) = []
-parts (an_expression G r e) = expression_parts G r e.line (out-ExprNode e.node)
+parts (an_expression G r e) = expression_parts G r e.offset (out-ExprNode e.node)
 parts (a_full G r e) = an_expression G r e ∷ a_test (need_fault e) ∷ []
 parts (an_optional G r None) = []
 parts (an_optional G r (Some e)) = a_full G r e ∷ []
-parts (a_constant G e) = constant_parts G e.line (out-ExprNode e.node)
+parts (a_constant G e) = constant_parts G e.offset (out-ExprNode e.node)
 parts (a_full_constant G e) =
-    a_constant G e ∷ a_test (value_fault (constant ends e).value e.line) ∷ a_test (need_fault e) ∷ []
-parts (a_size G e) = a_constant G e ∷ a_test (value_fault (length_of e) e.line) ∷ []
-parts (a_statement b v s) = statement_parts b v s.line (out-StmtNode s.node)
+    a_constant G e ∷ a_test (value_fault (constant ends e).value e.offset) ∷ a_test (need_fault e) ∷ []
+parts (a_size G e) = a_constant G e ∷ a_test (value_fault (length_of e) e.offset) ∷ []
+parts (a_statement b v s) = statement_parts b v s.offset (out-StmtNode s.node)
 parts (some_statements b v []) = []
 parts (some_statements b v (s ∷ ss)) =
     a_statement b v s ∷ some_statements b ((part s).after v) ss ∷ []
@@ -156,7 +156,7 @@ parts (a_beginning b v i) = beginning_parts b v (out-ForInit i)
 parts (some_labels G k seen []) = []
 parts (some_labels G k seen (x ∷ xs)) =
     case_parts G x.value
-    ++ a_test (unless (not (label_among (label_word k x) seen)) (Twice x.line))
+    ++ a_test (unless (not (label_among (label_word k x) seen)) (Twice x.offset))
     ∷ some_labels G k (seen ++ label_word k x ∷ []) xs ∷ []
 parts (some_sections k seen b v []) = []
 parts (some_sections k seen b v (x ∷ xs)) =
@@ -165,15 +165,15 @@ parts (some_sections k seen b v (x ∷ xs)) =
     (all_after (map part (statements_in x)) v) xs ∷ []
 parts (a_body v s) = body_parts v s (out-StmtNode s.node)
 parts (a_param d G seen p) =
-    row_parts p.size G seen ++ a_test (name_fault d G seen p.name p.line)
-    ∷ a_test (unless (nat_lt (length seen) most_parameters) (TooManyParams p.line))
-    ∷ a_test (row_bytes_fault p.size p.kind p.line) ∷ []
+    row_parts p.size G seen ++ a_test (name_fault d G seen p.name p.offset)
+    ∷ a_test (unless (nat_lt (length seen) most_parameters) (TooManyParams p.offset))
+    ∷ a_test (row_bytes_fault p.size p.kind p.offset) ∷ []
 parts (some_params d G seen []) = []
 parts (some_params d G seen (p ∷ ps)) =
     a_param d G seen p ∷ some_params d G (seen ++ p ∷ []) ps ∷ []
 parts (some_values G k []) = []
 parts (some_values G k (e ∷ es)) = a_full_constant G e ∷ some_values G k es ∷ []
-parts (an_item unit U t) = item_parts unit U t.line t.node
+parts (an_item unit U t) = item_parts unit U t.offset t.node
 parts (some_items unit U []) = []
 parts (some_items unit U (t ∷ ts)) =
     an_item unit U t ∷ some_items unit (item_after (table unit) t U) ts ∷ []

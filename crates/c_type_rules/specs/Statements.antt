@@ -58,11 +58,11 @@ pub data Labels (G : Scope) (k : Kind) : List (Option ℕ) → List Label → Li
         → IsConstant G e → (constant ends e).value ≡ Some n → need_fits e ≡ true
         → label_among (Some (converted k n)) seen ≡ false
         → Labels G k (seen ++ Some (converted k n) ∷ []) xs words
-        → Labels G k seen ((record { line = l; value = Some e }) ∷ xs) (Some (converted k n) ∷ words)
+        → Labels G k seen ((record { offset = l; value = Some e }) ∷ xs) (Some (converted k n) ∷ words)
     -- at most once in a switch
     a_default : {seen words : List (Option ℕ)} {l : ℕ} {xs : List Label}
         → label_among None seen ≡ false → Labels G k (seen ++ None ∷ []) xs words
-        → Labels G k seen ((record { line = l; value = None }) ∷ xs) (None ∷ words)
+        → Labels G k seen ((record { offset = l; value = None }) ∷ xs) (None ∷ words)
 
 mutual
   -- by what is around it, the statement has the typed tree; the second state is the one after it

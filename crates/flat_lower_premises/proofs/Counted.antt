@@ -14,7 +14,7 @@ use Rattle.c_grammar.specs.Units.{Phrase, globals, func, item, unit, Units}
 use Rattle.c_grammar.specs.Units as spelled
 use Rattle.c_grammar.proofs.Types.{types_shorter}
 use Rattle.c_grammar.proofs.Begins.{writes_shorter}
-use Rattle.c_grammar.proofs.Units.{units_shorter}
+use Rattle.c_grammar.proofs.UnitLengths.{units_shorter}
 use Rattle.c_type_rules.specs.Units.{Item, Items, Accepts}
 use Rattle.c_type_rules.specs.Units as typing
 

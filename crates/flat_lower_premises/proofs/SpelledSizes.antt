@@ -61,8 +61,8 @@ types_few unsigned_long_int = omega arith
 
 joined_few : (j : Joiner) (a b : Expr)
     → expr_nodes (joined j a b) ≡ 1 + (expr_nodes a + expr_nodes b)
-joined_few (op o) a b = nodes-Binary a.line o a b
-joined_few comma a b = nodes-Comma a.line a b
+joined_few (op o) a b = nodes-Binary a.offset o a b
+joined_few comma a b = nodes-Comma a.offset a b
 
 prefixed_few : (l : ℕ) (p : Prefix) (x : Expr) → expr_nodes (prefixed l p x) ≡ 1 + expr_nodes x
 prefixed_few l (sign o) x = nodes-Unary l o x
@@ -70,8 +70,8 @@ prefixed_few l increase x = nodes-Bump l bump.PreInc x
 prefixed_few l decrease x = nodes-Bump l bump.PreDec x
 
 suffixed_few : (p : Suffix) (x : Expr) → expr_nodes (suffixed p x) ≡ 1 + expr_nodes x
-suffixed_few increased x = nodes-Bump x.line bump.PostInc x
-suffixed_few decreased x = nodes-Bump x.line bump.PostDec x
+suffixed_few increased x = nodes-Bump x.offset bump.PostInc x
+suffixed_few decreased x = nodes-Bump x.offset bump.PostDec x
 
 pub spells_few : {may : May} {p : e.Phrase} {d : ℕ} {f t : Tokens} → Spells may p d f t
     → phrase_nodes p + length t ≤ length f
@@ -99,10 +99,10 @@ spells_few (e.join {a = a} {b = b} j x y) =
     let h = spells_few x in let i = spells_few y in let n = joined_few j a b in omega arith
 spells_few (e.choice {a = a} {b = b} {c = c} x ok y z) =
     let h = spells_few x in let i = spells_few y in let j = spells_few z in
-    let n = nodes-Choice a.line a b c in omega arith
+    let n = nodes-Choice a.offset a b c in omega arith
 spells_few (e.assign {a = a} {b = b} p x ok y) =
     let h = spells_few x in let i = spells_few y in
-    let n = nodes-Assign a.line (assigner_op p) a b in omega arith
+    let n = nodes-Assign a.offset (assigner_op p) a b in omega arith
 spells_few (e.up x) = spells_few x
 
 -- STATEMENTS
@@ -153,7 +153,7 @@ writes_few (s.compound {l = l} {ss = ss} x) =
     let h = writes_few x in let n = nodes-Compound l ss in omega arith
 writes_few (s.empty {l = l}) = let n = nodes-Plain l None in omega arith
 writes_few (s.plain {e = a} x) =
-    let h = spells_few x in let n = nodes-Plain a.line (Some a) in omega arith
+    let h = spells_few x in let n = nodes-Plain a.offset (Some a) in omega arith
 writes_few (s.if_only {l = l} {c = c} {aye = aye} x y) =
     let h = writes_few x in let i = writes_few y in let n = nodes-If l c aye None in omega arith
 writes_few (s.if_else {l = l} {c = c} {aye = aye} {nay = nay} x y z) =

@@ -17,13 +17,14 @@ done_is = refl
 pub deep_is : eval_report outcome.Deep ≡ codes "deep\n"
 deep_is = refl
 
-pub directive_is : front_refusal (stage.Lex (lexical.Directive 1)) ≡ codes "refused lex 5 Directive line 1\n"
+pub directive_is : front_refusal (codes "int a;\n#if\n") (stage.Lex (lexical.Directive 7))
+    ≡ codes "refused lex 5 Directive line 2\n"
 unfolding digits
 directive_is = refl
 
-pub empty_is : front_refusal (stage.Parse (parse.Syntax 1)) ≡ codes "refused parse 1 Syntax line 1\n"
+pub empty_is : front_refusal [] (stage.Parse (parse.Syntax 0)) ≡ codes "refused parse 1 Syntax line 1\n"
 unfolding digits
 empty_is = refl
 
-pub no_main_is : front_refusal (stage.Typing typing.NoMain) ≡ codes "refused type 5 NoMain\n"
+pub no_main_is : front_refusal [] (stage.Typing typing.NoMain) ≡ codes "refused type 5 NoMain\n"
 no_main_is = refl

@@ -16,7 +16,7 @@ use Rattle.trips_eval_answers.specs.Refusals.{front_refusal}
 
 -- a stage of the front end refuses the text, and this is its report
 abbrev pub IsRefusedByFront : List ℕ → List ℕ → Type 0
-IsRefusedByFront text report = (r : Refusal) × IsRefused text r × (report ≡ front_refusal r)
+IsRefusedByFront text report = (r : Refusal) × IsRefused text r × (report ≡ front_refusal text r)
 
 -- the status that tells an outcome
 abbrev pub eval_status : Outcome → Status

@@ -57,6 +57,6 @@ pub fn text_evaluated(
 {
     match front(alloc, text) {
         Ok(program) => evaluated(alloc, &program, input, steps),
-        Err(refusal) => stage_refused(alloc, refusal),
+        Err(refusal) => stage_refused(alloc, text, refusal),
     }
 }

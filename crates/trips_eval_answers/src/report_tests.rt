@@ -1,4 +1,5 @@
 //! Reports of an evaluation, and refusals by each stage of the front end.
+ghost use Rattle.std.specs.Prelude.{◌<◌, length};
 
 use crate::refusals::stage_refused;
 use crate::reports::eval_report;
@@ -42,10 +43,13 @@ fn tells_an_evaluation(rt: HostRuntime) -> Result<(), Fail> {
 fn assert_refusal(
     rt: &impl Abort,
     alloc: Global,
+    text: &[u8],
     refusal: Refusal,
     report: &str,
-) -> Result<(), AllocError> {
-    let answer = stage_refused(alloc, refusal)?;
+) -> Result<(), AllocError>
+    requires short { length text.now < 4_294_967_295 }
+{
+    let answer = stage_refused(alloc, text, refusal)?;
     assert_eq!(rt; answer.status, Status::Refused, "{report}");
     assert_eq!(rt; answer.report.as_slice(), report.as_bytes(), "{report}");
     Ok(())
@@ -54,22 +58,28 @@ fn assert_refusal(
 #[test]
 fn tells_refusals_of_texts(rt: HostRuntime) -> Result<(), Fail> {
     let alloc = rt.alloc();
-    let lex = Refusal::Lex(LexFault::Directive(1));
-    assert_refusal(&rt, alloc, lex, "refused lex 5 Directive line 1\n")?;
-    let parse = Refusal::Parse(ParseFault::TooDeep(31));
-    assert_refusal(&rt, alloc, parse, "refused parse 2 TooDeep line 31\n")?;
+    let lex = Refusal::Lex(LexFault::Directive(0));
+    assert_refusal(&rt, alloc, b"#if", lex, "refused lex 5 Directive line 1\n")?;
+    let parse = Refusal::Parse(ParseFault::TooDeep(3));
+    assert_refusal(
+        &rt,
+        alloc,
+        b"a\n\n(",
+        parse,
+        "refused parse 2 TooDeep line 3\n",
+    )?;
     let typing = Refusal::Typing(TypeFault::NoMain);
-    assert_refusal(&rt, alloc, typing, "refused type 5 NoMain\n")?;
+    assert_refusal(&rt, alloc, b"", typing, "refused type 5 NoMain\n")?;
     let need = Refusal::Typing(TypeFault::Need(1));
-    assert_refusal(&rt, alloc, need, "refused type 8 Need line 1\n")?;
+    assert_refusal(&rt, alloc, b"\na", need, "refused type 8 Need line 2\n")?;
     Ok(())
 }
 
 #[test]
 fn want_of_memory_is_no_refusal(rt: HostRuntime) {
     let alloc = rt.alloc();
-    assert!(rt; stage_refused(alloc, Refusal::Memory).is_err());
-    assert!(rt; stage_refused(alloc, Refusal::Lex(LexFault::Memory)).is_err());
-    assert!(rt; stage_refused(alloc, Refusal::Parse(ParseFault::Memory)).is_err());
-    assert!(rt; stage_refused(alloc, Refusal::Typing(TypeFault::Memory)).is_err());
+    assert!(rt; stage_refused(alloc, b"", Refusal::Memory).is_err());
+    assert!(rt; stage_refused(alloc, b"", Refusal::Lex(LexFault::Memory)).is_err());
+    assert!(rt; stage_refused(alloc, b"", Refusal::Parse(ParseFault::Memory)).is_err());
+    assert!(rt; stage_refused(alloc, b"", Refusal::Typing(TypeFault::Memory)).is_err());
 }

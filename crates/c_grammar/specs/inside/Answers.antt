@@ -5,7 +5,7 @@ use Rattle.c_grammar.specs.Tokens.{Tokens}
 use Rattle.c_grammar.specs.Accepted.{Spelled, IsUnit, UnitIs}
 use Rattle.c_grammar.specs.Answers.{HasSyntaxFault, IsTooDeep}
 
--- a tree, or one of the two faults with its line
+-- a tree, or one of the two faults with its offset
 pub data Answer : Type 0 where
   tree : List Top → Answer
   syntax : ℕ → Answer

@@ -20,7 +20,7 @@ is_type f =
 abbrev pub begins_type : Tokens → Bool
 begins_type ts = first is_type ts
 
--- an `int` that may be left out; the line and the type are known
+-- an `int` that may be left out; the offset and the type are known
 unfoldable pub int_of : ℕ → Kind → Tokens → Out (ℕ × Kind)
 int_of l k ts = if is_word key.Int ts then and_then (expect_keyword key.Int ts)
     (λ _ ts. Ok ((l, k), ts)) else Ok ((l, k), ts)
@@ -59,7 +59,7 @@ plain_of w k ts = and_then (expect_keyword w ts) (λ l ts. Ok ((l, k), ts))
 unfoldable pub begun_of : Key → Kind → Tokens → Out (ℕ × Kind)
 begun_of w k ts = and_then (expect_keyword w ts) (λ l ts. int_of l k ts)
 
--- the line and the type
+-- the offset and the type
 unfoldable pub type_of : Tokens → Out (ℕ × Kind)
 type_of ts =
     if is_word key.Char ts then plain_of key.Char kind.Char ts

@@ -42,10 +42,10 @@ abbrev pub tail : Tokens → Tokens
 tail [] = []
 tail (t ∷ ts) = ts
 
--- the line of the first token
-abbrev pub line_of : Tokens → ℕ
-line_of [] = 0
-line_of (t ∷ ts) = t.line
+-- the offset of the first token
+abbrev pub offset_of : Tokens → ℕ
+offset_of [] = 0
+offset_of (t ∷ ts) = t.offset
 
 -- is the first token such a one?
 abbrev pub first : (Form → Bool) → Tokens → Bool
@@ -60,23 +60,23 @@ is_next k ts = first (is_mark k) ts
 abbrev pub is_word : Key → Tokens → Bool
 is_word k ts = first (is_key k) ts
 
--- takes a mark, and gives its line
+-- takes a mark, and gives its offset
 abbrev pub expect : Mark → Tokens → Out ℕ
-expect k ts = if is_next k ts then Ok (line_of ts, tail ts) else syntax ts
+expect k ts = if is_next k ts then Ok (offset_of ts, tail ts) else syntax ts
 
--- takes a keyword, and gives its line
+-- takes a keyword, and gives its offset
 abbrev pub expect_keyword : Key → Tokens → Out ℕ
-expect_keyword k ts = if is_word k ts then Ok (line_of ts, tail ts) else syntax ts
+expect_keyword k ts = if is_word k ts then Ok (offset_of ts, tail ts) else syntax ts
 
--- the line and the word of a name
+-- the offset and the word of a name
 abbrev pub name_by : ℕ → Form → Tokens → Out (ℕ × List ℕ)
 name_by l (form.Name w) ts = Ok ((l, w), tail ts)
 name_by l _ ts = syntax ts
 
--- takes a name, and gives its line
+-- takes a name, and gives its offset
 abbrev pub name_of : Tokens → Out (ℕ × List ℕ)
 name_of [] = syntax []
-name_of (t ∷ ts) = name_by t.line t.form (t ∷ ts)
+name_of (t ∷ ts) = name_by t.offset t.form (t ∷ ts)
 
 -- does a mark end a list behind a comma?
 abbrev pub closes : Mark → Bool → Tokens → Bool

@@ -6,14 +6,14 @@ use Rattle.c_lex.specs.Bytes.{Bytes}
 use Rattle.c_lex.specs.Lexes.{Tokens, Lexes, Lexed}
 use Rattle.c_lex.specs.Faults.{Fault, BadByte, BadLiteral, Unclosed, TooManyTokens, Directive, FaultAt}
 
--- the error is this fault, with this line
+-- the error is this fault, with this offset
 abbrev pub Says : LexFault → Fault → ℕ → Type 0
-Says (fault.BadByte l) f line = (f ≡ BadByte) × (l ≡ line)
-Says (fault.BadLiteral l) f line = (f ≡ BadLiteral) × (l ≡ line)
-Says (fault.Unclosed l) f line = (f ≡ Unclosed) × (l ≡ line)
-Says (fault.TooManyTokens l) f line = (f ≡ TooManyTokens) × (l ≡ line)
-Says (fault.Directive l) f line = (f ≡ Directive) × (l ≡ line)
-Says fault.Memory f line = ⊥
+Says (fault.BadByte l) f offset = (f ≡ BadByte) × (l ≡ offset)
+Says (fault.BadLiteral l) f offset = (f ≡ BadLiteral) × (l ≡ offset)
+Says (fault.Unclosed l) f offset = (f ≡ Unclosed) × (l ≡ offset)
+Says (fault.TooManyTokens l) f offset = (f ≡ TooManyTokens) × (l ≡ offset)
+Says (fault.Directive l) f offset = (f ≡ Directive) × (l ≡ offset)
+Says fault.Memory f offset = ⊥
 
 -- the error is want of memory
 abbrev pub IsMemory : LexFault → Type 0
@@ -22,13 +22,13 @@ IsMemory _ = ⊥
 
 -- the fault comes, unless memory runs out
 abbrev pub Tells : Fault → ℕ → LexFault → Type 0
-Tells f line fault.Memory = Unit {0}
-Tells f line e = Says e f line
+Tells f offset fault.Memory = Unit {0}
+Tells f offset e = Says e f offset
 
 -- the text has tokens, few enough, or a fault
 abbrev pub Answered : ℕ → Bytes → Type 0
 Answered most text =
-    ((ts : Tokens) × Lexed most text ts) ⊎ ((fault : Fault) × (line : ℕ) × FaultAt most text fault line)
+    ((ts : Tokens) × Lexed most text ts) ⊎ ((fault : Fault) × (offset : ℕ) × FaultAt most text fault offset)
 
 -- every text has tokens, few enough, or a fault
 abbrev pub EveryTextAnswers : ℕ → Type 0

@@ -10,7 +10,7 @@ use Rattle.c_lex.specs.declared.piece.Comment.{Comment}
 use Rattle.c_lex.specs.declared.piece.Comment.TheVariants as comment
 use Rattle.c_lex.specs.declared.piece.Reading.{Reading}
 use Rattle.c_lex.specs.declared.piece.Reading.TheVariants as reads
-use Rattle.c_lex.specs.Bytes.{Bytes, feeds, still_empty}
+use Rattle.c_lex.specs.Bytes.{Bytes, still_empty}
 use Rattle.c_lex.specs.Pieces.{NoPiece, begins_with, word_form}
 use Rattle.c_lex.specs.inside.Pieces.{Front}
 use Rattle.c_lex.specs.Tables.{lookup, keywords}
@@ -61,10 +61,9 @@ Opens text (comment.Line body) = text ≡ ascii.slash ∷ ascii.slash ∷ body.n
 Opens text (comment.Block body) = text ≡ ascii.slash ∷ ascii.star ∷ body.now
 Opens text comment.Absent = begins_comment text ≡ false
 
--- the longest piece at the front is a comment of so many bytes, with so many line feeds
-pub record IsComment (starts : Bool) (text : Bytes) (n lines : ℕ) : Type 0 where
+-- the longest piece at the front is a comment of so many bytes
+pub record IsComment (starts : Bool) (text : Bytes) (n : ℕ) : Type 0 where
   pub front : IsFront starts text (found n reads.Gap)
-  pub lines_are : lines ≡ feeds (take n text)
   -- its line is not empty behind it
   pub filled : still_empty starts (take n text) ≡ false
 

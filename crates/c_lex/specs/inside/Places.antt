@@ -5,15 +5,15 @@ use Rattle.c_lex.specs.inside.Turns.{Place}
 
 -- what of it a turn speaks of
 abbrev pub place : Lexer → Place
-place l = record { line = l.line; starts = l.starts; rest = l.rest.now; tokens = l.tokens.items }
+place l = record { offset = l.offset; starts = l.starts; rest = l.rest.now; tokens = l.tokens.items }
 
--- the start of a text of which each line fits a `u32`
+-- the start of a text of which each offset fits a `u32`
 pub record IsStart (l : Lexer) : Type 0 where
-  pub line_is : l.line ≡ 1
+  pub offset_is : l.offset ≡ 0
   -- nothing stands on the line yet
   pub starts_is : l.starts ≡ true
   pub none : l.tokens.items ≡ []
-  -- so many line feeds have a number in 32 bits
+  -- so many bytes have a number in 32 bits
   pub short : length l.rest.now < 4294967295
 
 -- there is room for a token for each byte that is left, up to so many tokens

@@ -9,7 +9,7 @@ use Rattle.c_tree.specs.declared.Mark.{Mark}
 use Rattle.c_lex.specs.declared.number.Suffix.{Suffix}
 use Rattle.c_lex.specs.Ascii as ascii
 use Rattle.c_lex.specs.inside.Ascii as inside_ascii
-use Rattle.c_lex.specs.Bytes.{Bytes, by_class, is_blank, is_digit, is_feed}
+use Rattle.c_lex.specs.Bytes.{Bytes, by_class, is_blank, is_digit}
 use Rattle.c_lex.specs.inside.Runs.{run_len}
 use Rattle.c_lex.specs.Tables.{lookup, marks}
 use Rattle.c_lex.specs.Constants.{is_digit_in, is_x, number_of, suffix_of, may_be, first_holding}
@@ -21,13 +21,6 @@ abbrev pub close_from : ℕ → Bytes → Option ℕ
 close_from i [] = None
 close_from i (b ∷ bs) =
     if nat_eq b ascii.star && begins_with ascii.slash bs then Some i else close_from (suc i) bs
-
--- the same, with how many line feeds stand before it, `f` being how many there are so far
-abbrev pub close_feeds : ℕ → ℕ → Bytes → Option (ℕ × ℕ)
-close_feeds i f [] = None
-close_feeds i f (b ∷ bs) =
-    if nat_eq b ascii.star && begins_with ascii.slash bs then Some (i, f)
-    else close_feeds (suc i) (f + (if is_feed b then 1 else 0)) bs
 
 -- the mark of so many bytes, or else a shorter one
 abbrev pub or_else : ℕ → Option Mark → Option (ℕ × Mark) → Option (ℕ × Mark)

@@ -5,8 +5,8 @@ use Rattle.c_tree.specs.declared.token.Mark.TheVariants as mark
 use Rattle.c_tree.specs.declared.tree.Top.{Top}
 use Rattle.c_grammar.specs.Tokens.{Tokens}
 use Rattle.c_grammar.specs.inside.Parsing.{Out, listed}
-use Rattle.c_grammar.specs.inside.ModelExpressions.{Nested}
-use Rattle.c_grammar.specs.inside.ModelUnits.{global_of}
+use Rattle.c_grammar.specs.inside.ModelDepth.{Nested}
+use Rattle.c_grammar.specs.inside.ModelGlobals.{global_of}
 
 -- globals up to the semicolon
 unfoldable pub global_list_of : Nested → Kind → Tokens → Out (List Top)

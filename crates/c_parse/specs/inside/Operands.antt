@@ -36,7 +36,7 @@ abbrev pub is_leaf : Tokens → Bool
 is_leaf (t ∷ u ∷ ts) = if is_atom t.form then ends_atom u.form else false
 is_leaf _ = false
 
--- a name or a number of that line
+-- a name or a number of that offset
 abbrev pub leaf_by : ℕ → Form → Tokens → Out Expr
 leaf_by l (form.Name w) ts = Ok (at l (node.Name w), tail ts)
 leaf_by l (form.Number v k) ts = Ok (at l (node.Number v k), tail ts)
@@ -45,7 +45,7 @@ leaf_by l _ ts = syntax ts
 -- takes a name or a number
 abbrev pub leaf_of : Tokens → Out Expr
 leaf_of [] = syntax []
-leaf_of (t ∷ ts) = leaf_by t.line t.form (t ∷ ts)
+leaf_of (t ∷ ts) = leaf_by t.offset t.form (t ∷ ts)
 
 -- does the mark end an assignment expression?
 abbrev pub closes_by : Mark → Bool

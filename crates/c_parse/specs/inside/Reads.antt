@@ -14,10 +14,11 @@ use Rattle.c_grammar.specs.Operators.{Joiner, op, comma, Prefix, sign, increase}
 use Rattle.c_grammar.specs.inside.Operators.{binary_level}
 use Rattle.c_grammar.specs.Operators.{decrease, Suffix, increased, decreased, Assigner}
 use Rattle.c_grammar.specs.Operators.{assigner_mark, assigner_op}
-use Rattle.c_grammar.specs.inside.Parsing.{Out, and_then, syntax, too_deep, line_of}
-use Rattle.c_grammar.specs.inside.ModelExpressions.{Nested, enter, inside, joiner, seen}
-use Rattle.c_grammar.specs.inside.ModelExpressions.{unary_of, cast_of, conditional_of}
+use Rattle.c_grammar.specs.inside.Parsing.{Out, and_then, syntax, too_deep, offset_of}
+use Rattle.c_grammar.specs.inside.ModelExpressions.{inside, unary_of, cast_of, conditional_of}
 use Rattle.c_grammar.specs.inside.ModelExpressions.{assignment_of, expression_of}
+use Rattle.c_grammar.specs.inside.ModelDepth.{Nested, enter}
+use Rattle.c_grammar.specs.inside.ModelOperators.{joiner, seen}
 use Rattle.c_parse.specs.declared.primary.Before.{Before}
 use Rattle.c_parse.specs.declared.primary.Before.TheVariants as befores
 use Rattle.c_parse.specs.declared.fault.Stopped.{Stopped}
@@ -48,7 +49,7 @@ opened l = record {
 -- a mark that opens a depth was taken
 abbrev pub Enters : Mark → ℕ → Tokens → Result ℕ Stopped → Tokens → Type 0
 Enters k left old (Ok l) new =
-    (left ≡ suc l) × (inside left ≡ opened l) × (enter k (inside left) old ≡ Ok (line_of old, new))
+    (left ≡ suc l) × (inside left ≡ opened l) × (enter k (inside left) old ≡ Ok (offset_of old, new))
 Enters k left old (Err e) new = Fails (enter k (inside left) old) e new
 
 -- the operator of a joiner that is no comma

@@ -52,9 +52,9 @@ row_fault _ G seen = None
 abbrev pub param_fault : Bool → Scope → List Param → Param → Blame
 param_fault is_def G seen p =
     first (row_fault p.size G seen)
-    (first (name_fault is_def G seen p.name p.line)
-    (first (unless (nat_lt (length seen) most_parameters) (TooManyParams p.line))
-    (row_bytes_fault p.size p.kind p.line)))
+    (first (name_fault is_def G seen p.name p.offset)
+    (first (unless (nat_lt (length seen) most_parameters) (TooManyParams p.offset))
+    (row_bytes_fault p.size p.kind p.offset)))
 
 -- the first fault of parameters after others
 abbrev pub params_fault : Bool → Scope → List Param → List Param → Blame

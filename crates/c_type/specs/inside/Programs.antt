@@ -26,7 +26,7 @@ use Rattle.c_type.specs.Programs.{table, item_after, is_main, whole}
 abbrev pub prototype_fault : Option Kind → List ℕ → List Param → ℕ → FileScope → Blame
 prototype_fault given w params l U = head_fault false given w params l U.names
 
--- the first fault of an item of that line
+-- the first fault of an item of that offset
 abbrev pub node_fault : Scope → TopNode → ℕ → FileScope → Blame
 node_fault T Include l U = include_fault U.names l
 node_fault T (Global k w size init) l U = global_fault size k w init l U
@@ -35,7 +35,7 @@ node_fault T (Func given w params (Some body)) l U = definition_fault T given w 
 
 -- the first fault of an item
 abbrev pub item_fault : Scope → Top → FileScope → Blame
-item_fault T t U = node_fault T t.node t.line U
+item_fault T t U = node_fault T t.node t.offset U
 
 -- the first fault of several items
 abbrev pub items_fault : Scope → List Top → FileScope → Blame

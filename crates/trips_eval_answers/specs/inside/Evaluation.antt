@@ -9,8 +9,8 @@ use Rattle.trips_eval_answers.specs.Refusals.{front_refusal}
 use Rattle.trips_eval_answers.specs.Evaluation.{IsRefusedByFront, IsEvaluationOf}
 
 -- a refusal that is no want of memory, with its report
-abbrev pub IsRefusalBy : Refusal → Status → List ℕ → Type 0
-IsRefusalBy r s report = (r ≢ Memory) × IsFixed status.Refused (front_refusal r) s report
+abbrev pub IsRefusalBy : List ℕ → Refusal → Status → List ℕ → Type 0
+IsRefusalBy text r s report = (r ≢ Memory) × IsFixed status.Refused (front_refusal text r) s report
 
 -- the text is refused with the report that says why
 abbrev pub IsFrontRefusal : List ℕ → Status → List ℕ → Type 0

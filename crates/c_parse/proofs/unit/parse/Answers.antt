@@ -9,21 +9,21 @@ returns-in-Ok-clause-ok c =
     answers_unit c.args.tokens.now c.unit.new.self.rest.now c.unit.result c.unit.ensures c.in-Ok.items (cc)
 
 pub returns-in-Err-Syntax-clause-syntax : goal.returns-in-Err-Syntax-clause-syntax
-returns-in-Err-Syntax-clause-syntax c = λ line e.
-    let h : c.fault_line.result ≡ line = cc in
-    answers_syntax c.args.tokens.now c.unit.new.self.rest.now c.unit.result c.unit.ensures line (cc)
-    (sym c.fault_line.ensures ∙ h)
+returns-in-Err-Syntax-clause-syntax c = λ offset e.
+    let h : c.fault_offset.result ≡ offset = cc in
+    answers_syntax c.args.tokens.now c.unit.new.self.rest.now c.unit.result c.unit.ensures offset (cc)
+    (sym c.fault_offset.ensures ∙ h)
 
 pub returns-in-Err-TooDeep-clause-syntax : goal.returns-in-Err-TooDeep-clause-syntax
-returns-in-Err-TooDeep-clause-syntax c = λ line e.
-    let h : c.depth_fault.result ≡ faults.Syntax line = cc in
-    answers_depth c.args.tokens.now c.unit.new.self.rest.now c.unit.result c.unit.ensures (faults.Syntax line) (cc)
+returns-in-Err-TooDeep-clause-syntax c = λ offset e.
+    let h : c.depth_fault.result ≡ faults.Syntax offset = cc in
+    answers_depth c.args.tokens.now c.unit.new.self.rest.now c.unit.result c.unit.ensures (faults.Syntax offset) (cc)
     (sym c.depth_fault.ensures ∙ h)
 
 pub returns-in-Err-TooDeep-clause-too_deep : goal.returns-in-Err-TooDeep-clause-too_deep
-returns-in-Err-TooDeep-clause-too_deep c = λ line e.
-    let h : c.depth_fault.result ≡ faults.TooDeep line = cc in
-    answers_depth c.args.tokens.now c.unit.new.self.rest.now c.unit.result c.unit.ensures (faults.TooDeep line) (cc)
+returns-in-Err-TooDeep-clause-too_deep c = λ offset e.
+    let h : c.depth_fault.result ≡ faults.TooDeep offset = cc in
+    answers_depth c.args.tokens.now c.unit.new.self.rest.now c.unit.result c.unit.ensures (faults.TooDeep offset) (cc)
     (sym c.depth_fault.ensures ∙ h)
 
 pub returns-in-Ok-clause-only_ok : goal.returns-in-Ok-clause-only_ok
@@ -38,15 +38,15 @@ returns-in-Ok-clause-only_err c = λ f x.
 
 pub returns-in-Err-Syntax-clause-only_ok : goal.returns-in-Err-Syntax-clause-only_ok
 returns-in-Err-Syntax-clause-only_ok c = λ xs u.
-    fails_no_unit c.args.tokens.now (faults.Syntax c.fault_line.result) xs
-    (answers_syntax c.args.tokens.now c.unit.new.self.rest.now c.unit.result c.unit.ensures c.fault_line.result (cc)
-    (sym c.fault_line.ensures)) u
+    fails_no_unit c.args.tokens.now (faults.Syntax c.fault_offset.result) xs
+    (answers_syntax c.args.tokens.now c.unit.new.self.rest.now c.unit.result c.unit.ensures c.fault_offset.result (cc)
+    (sym c.fault_offset.ensures)) u
 
 pub returns-in-Err-Syntax-clause-only_err : goal.returns-in-Err-Syntax-clause-only_err
 returns-in-Err-Syntax-clause-only_err c = λ f x.
-    fails_tells c.args.tokens.now (faults.Syntax c.fault_line.result) f
-    (answers_syntax c.args.tokens.now c.unit.new.self.rest.now c.unit.result c.unit.ensures c.fault_line.result (cc)
-    (sym c.fault_line.ensures)) x
+    fails_tells c.args.tokens.now (faults.Syntax c.fault_offset.result) f
+    (answers_syntax c.args.tokens.now c.unit.new.self.rest.now c.unit.result c.unit.ensures c.fault_offset.result (cc)
+    (sym c.fault_offset.ensures)) x
 
 pub returns-in-Err-TooDeep-clause-only_ok : goal.returns-in-Err-TooDeep-clause-only_ok
 returns-in-Err-TooDeep-clause-only_ok c = λ xs u.

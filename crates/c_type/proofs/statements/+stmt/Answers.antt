@@ -23,16 +23,16 @@ use Rattle.c_type.proofs.statements.+stmt.Goals as goal
 
 pub either-returns-in_err-yes : goal.either-returns-in_err-yes
 either-returns-in_err-yes t c =
-    let e = if_next c.args.line c.args.test c.args.yes c.args.no c.args.around c.args.state.now
+    let e = if_next c.args.offset c.args.test c.args.yes c.args.no c.args.around c.args.state.now
     c.in_ok-test.ensures.0 in
-    stopped (part (at c.args.line (node.If c.args.test c.args.yes c.args.no))) c.args.around c.args.state.now
+    stopped (part (at c.args.offset (node.If c.args.test c.args.yes c.args.no))) c.args.around c.args.state.now
     c.legs.new.state c.from_residual-in_err-yes.result c.in_err-yes.field-0.0
     c.from_residual-in_err-yes.ensures.1
     (subst (λ (f : Blame). Stops f c.in_err-yes.field-0.0) (sym e) c.in_err-yes.ensures)
 
 pub while_stmt-returns-in_err-body : goal.while_stmt-returns-in_err-body
 while_stmt-returns-in_err-body t c =
-    let e = while_next c.args.line c.args.test c.args.body c.args.around c.args.state.now c.in_ok-test.ensures.0 in
+    let e = while_next c.args.offset c.args.test c.args.body c.args.around c.args.state.now c.in_ok-test.ensures.0 in
     first_of (grind (arith, common_steps, e), search (rules, e), grind (arith, e))
 
 -- an error that is handed on keeps its cause

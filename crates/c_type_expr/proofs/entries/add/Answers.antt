@@ -3,7 +3,8 @@ use Rattle.std.proofs.Common.{arith}
 use Rattle.std.proofs.lemmas.List.{length-set}
 use Rattle.c_type_expr.specs.declared.meaning.Entry.{Entry}
 use Rattle.c_type_expr.specs.inside.Chains.{Kept}
-use Rattle.c_type_expr.proofs.Chains.{linked_last, whole}
+use Rattle.c_type_expr.proofs.Chains.{whole}
+use Rattle.c_type_expr.proofs.LinkedChains.{linked_last}
 use Rattle.c_type_expr.proofs.entries.add.Goals as goal
 
 pub returns-clause-kept : goal.returns-clause-kept

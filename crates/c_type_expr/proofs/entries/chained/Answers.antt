@@ -3,7 +3,8 @@ use Rattle.std.proofs.Common.{reverse, refl, arith, set, get_or, take}
 use Rattle.std.proofs.lemmas.List.{length-set}
 use Rattle.c_type_expr.specs.Scope.{Frame}
 use Rattle.c_type_expr.specs.inside.Chains.{KeptIn}
-use Rattle.c_type_expr.proofs.Chains.{bindings_reversed, linked_at, relinked, whole}
+use Rattle.c_type_expr.proofs.Chains.{whole}
+use Rattle.c_type_expr.proofs.LinkedChains.{bindings_reversed, linked_at, relinked}
 use Rattle.c_type_expr.proofs.entries.chained.Goals as goal
 
 pub returns-clause-same : goal.returns-clause-same

@@ -1,5 +1,5 @@
 use Rattle.std.proofs.Common.{rules, ◌<◌, length}
-use Rattle.c_type_expr.proofs.Chains.{last_has_head}
+use Rattle.c_type_expr.proofs.LinkedChains.{last_has_head}
 use Rattle.c_type_expr.proofs.entries.undo.Goals as goal
 
 pub offset_bounds-heads-chain : goal.offset_bounds-heads-chain

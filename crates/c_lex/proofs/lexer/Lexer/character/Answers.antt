@@ -33,7 +33,7 @@ keep-requires-clause-front c =
 pub returns-in-None-clause-turned : goal.returns-in-None-clause-turned
 returns-in-None-clause-turned c =
     broken_stops 8192 (place c.args.self.now) 1 kind.BadLiteral
-    (fault.BadLiteral c.args.self.now.line)
+    (fault.BadLiteral c.args.self.now.offset)
     (quote_found c.args.self.now.starts c.args.self.now.rest.now c.args.rest.now c.requires.same
     (sym c.in-None.ensures)).front
     (refl, refl)

@@ -16,7 +16,7 @@ returns-then-not-self-clause-turned c =
 pub returns-then-not-is_include-clause-turned : goal.returns-then-not-is_include-clause-turned
 returns-then-not-is_include-clause-turned c =
     broken_stops 8192 (place c.args.self.now) (c.run-n.result + 1) kind.Directive
-    (fault.Directive c.args.self.now.line)
+    (fault.Directive c.args.self.now.offset)
     (directive_found c.args.self.now.starts c.args.self.now.rest.now c.args.rest.now c.run-n.result
     c.if-not-self.false c.requires.same c.run-n.ensures.value
     (sym c.is_include.ensures ∙ c.if-not-is_include.true)).front

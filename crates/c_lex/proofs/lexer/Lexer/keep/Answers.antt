@@ -5,5 +5,5 @@ use Rattle.c_lex.proofs.lexer.Lexer.keep.Goals as goal
 
 pub returns-clause-moved : goal.returns-clause-moved
 returns-clause-moved c =
-    kept 8192 (place c.args.self.now) _ c.args.n c.args.form c.requires.front.front
+    kept 8192 (place c.args.self.now) _ c.args.n c.args.form c.requires.front.front c.requires.front.within
     c.split_at.ensures.back refl refl (c.push_reserved.ensures.items, c.requires.few)

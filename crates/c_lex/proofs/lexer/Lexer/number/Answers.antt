@@ -28,7 +28,7 @@ keep-requires-clause-front c =
 pub returns-in-None-clause-turned : goal.returns-in-None-clause-turned
 returns-in-None-clause-turned c =
     broken_stops 8192 (place c.args.self.now) (c.run-length.result + 1) kind.BadLiteral
-    (fault.BadLiteral c.args.self.now.line)
+    (fault.BadLiteral c.args.self.now.offset)
     (bad_number_found c.args.self.now.starts c.args.self.now.rest.now c.args.first c.args.rest.now _
     c.requires.same c.requires.begins (ap (λ n. n + 1) c.run-length.ensures.value)
     (ap constant_of (sym c.split_at.ensures.front) ∙ sym c.in-None.ensures)).front (refl, refl)

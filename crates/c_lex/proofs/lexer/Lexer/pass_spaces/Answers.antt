@@ -6,15 +6,15 @@ use Rattle.c_lex.proofs.lexer.Lexer.pass_spaces.Goals as goal
 
 pub returns-clause-moved : goal.returns-clause-moved
 returns-clause-moved c =
-    passed 8192 (place c.args.self.now) _ c.requires.begins c.after_spaces-line.ensures.line
-    c.after_spaces-line.ensures.starts c.after_spaces-line.ensures.rest refl
+    passed 8192 (place c.args.self.now) _ c.requires.begins c.after_spaces-offset.ensures.offset
+    c.after_spaces-offset.ensures.starts c.after_spaces-offset.ensures.rest refl
 
 pub returns-clause-room : goal.returns-clause-room
 returns-clause-room c =
     let text = c.args.self.now.rest.now in
     let few : length (after_spaces text) ≤ length text = behind_few text in
-    let rest : length c.after_spaces-line.result.2.now ≡ length (after_spaces text) =
-    ap length c.after_spaces-line.ensures.rest in
+    let rest : length c.after_spaces-offset.result.2.now ≡ length (after_spaces text) =
+    ap length c.after_spaces-offset.ensures.rest in
     let room : min (length c.args.self.now.tokens.items + length text) 8192
     ≤ vec_capacity c.args.self.now.tokens = c.requires.room in
     omega arith

@@ -6,7 +6,8 @@ use Rattle.c_grammar.specs.inside.Parsing.{Out, and_then, listed}
 use Rattle.c_tree.specs.declared.tree.BinaryOp.{BinaryOp}
 use Rattle.c_grammar.specs.Tokens.{Tokens}
 use Rattle.c_parse.specs.inside.Reads.{Fails, IsAssigner, Outside, Inside, joins_by, behind}
-use Rattle.c_grammar.specs.inside.ModelExpressions.{seen, inside, assigner_for, loop, binary_of, assignment_of}
+use Rattle.c_grammar.specs.inside.ModelExpressions.{inside, loop, binary_of, assignment_of}
+use Rattle.c_grammar.specs.inside.ModelOperators.{seen, assigner_for}
 use Rattle.c_parse.proofs.ParserLoops.{listed_keeps, arg_list_init, assign_with, commas_of, comma_on, comma_shorter}
 use Rattle.c_parse.specs.inside.Operands.{climb, assignment_from}
 use Rattle.c_parse.proofs.Operands.{assignment_is, closed_operand, closed_whole}

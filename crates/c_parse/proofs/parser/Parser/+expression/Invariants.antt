@@ -1,7 +1,8 @@
 use Rattle.std.proofs.Common.{◌≡◌, ◌≤◌, ◌+◌, ◌-◌, ◌*◌, length, false}
 use Rattle.c_grammar.specs.inside.Parsing.{listed}
-use Rattle.c_grammar.specs.inside.ModelExpressions.{arg_list_of, inside, loop, suffixes, assignment_of}
+use Rattle.c_grammar.specs.inside.ModelExpressions.{inside, loop, suffixes, assignment_of}
 use Rattle.c_grammar.specs.inside.ModelExpressions.{expression_of, postfix_of}
+use Rattle.c_grammar.specs.inside.ModelPrimaries.{arg_list_of}
 use Rattle.c_tree.specs.declared.token.Mark.TheVariants as marks
 use Rattle.c_parse.specs.inside.Reads.{opened, behind}
 use Rattle.c_parse.specs.inside.Operands.{climb, joined_of}

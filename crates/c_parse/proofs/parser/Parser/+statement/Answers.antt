@@ -4,7 +4,10 @@ use Rattle.c_tree.specs.declared.tree.Stmt.{Stmt}
 use Rattle.c_tree.specs.declared.token.Mark.TheVariants as marks
 use Rattle.c_grammar.specs.inside.Parsing.{Out, many, repeated}
 use Rattle.c_grammar.specs.inside.ModelExpressions.{inside}
-use Rattle.c_grammar.specs.inside.ModelStatements.{begins_statement, entry_of, section_of, below_at}
+use Rattle.c_grammar.specs.inside.ModelStatements.{below_at}
+use Rattle.c_grammar.specs.inside.ModelBegins.{begins_statement}
+use Rattle.c_grammar.specs.inside.ModelSwitches.{section_of}
+use Rattle.c_grammar.specs.inside.ModelEntries.{entry_of}
 use Rattle.c_parse.specs.inside.Reads.{Reads, behind}
 use Rattle.c_parse.proofs.Nested.{inner_none, inner_some, entries_init, many_keeps, many_puts}
 use Rattle.c_parse.proofs.Nested.{repeated_keeps, body_init}

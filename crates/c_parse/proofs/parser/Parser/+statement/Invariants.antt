@@ -1,8 +1,9 @@
 use Rattle.std.proofs.Common.{◌≡◌, ◌+◌, ◌-◌, ◌*◌}
 use Rattle.c_grammar.specs.inside.Parsing.{many, repeated}
 use Rattle.c_grammar.specs.inside.ModelExpressions.{inside}
-use Rattle.c_grammar.specs.inside.ModelStatements.{begins_statement, entry_of, entries_of, body_of, section_of}
-use Rattle.c_grammar.specs.inside.ModelStatements.{sections_of}
+use Rattle.c_grammar.specs.inside.ModelBegins.{begins_statement}
+use Rattle.c_grammar.specs.inside.ModelSwitches.{body_of, section_of, sections_of}
+use Rattle.c_grammar.specs.inside.ModelEntries.{entry_of, entries_of}
 use Rattle.c_grammar.specs.inside.ModelStatements.{below_at}
 use Rattle.c_tree.specs.declared.token.Mark.TheVariants as marks
 use Rattle.c_parse.specs.inside.Reads.{behind}

@@ -1,6 +1,6 @@
 use Rattle.std.proofs.Common.{sym, ◌∙◌}
 use Rattle.c_grammar.specs.inside.Parsing.{first, too_deep, syntax}
-use Rattle.c_grammar.specs.inside.ModelStatements.{begins_statement}
+use Rattle.c_grammar.specs.inside.ModelBegins.{begins_statement}
 use Rattle.c_grammar.proofs.Agree.{if_true, if_false}
 use Rattle.c_parse.proofs.Nested.{inner_zero}
 use Rattle.c_parse.proofs.parser.Parser.barred.Goals as goal

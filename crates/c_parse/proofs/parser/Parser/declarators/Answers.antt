@@ -1,7 +1,7 @@
 use Rattle.std.proofs.Common.{◌+◌, length, refl}
 use Rattle.c_tree.specs.declared.token.Mark.TheVariants as marks
 use Rattle.c_grammar.specs.inside.ModelExpressions.{inside}
-use Rattle.c_grammar.specs.inside.ModelStatements.{decl_of}
+use Rattle.c_grammar.specs.inside.ModelLocals.{decl_of}
 use Rattle.c_parse.proofs.ParserLoops.{listed_keeps}
 use Rattle.c_parse.proofs.Nested.{decls_init}
 use Rattle.c_parse.proofs.parser.Parser.declarators.Goals as goal

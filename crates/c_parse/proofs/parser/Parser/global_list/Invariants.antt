@@ -1,7 +1,7 @@
 use Rattle.std.proofs.Common.{◌≡◌, ◌-◌, false}
 use Rattle.c_grammar.specs.inside.Parsing.{listed}
 use Rattle.c_grammar.specs.inside.ModelExpressions.{inside}
-use Rattle.c_grammar.specs.inside.ModelUnits.{global_of}
+use Rattle.c_grammar.specs.inside.ModelGlobals.{global_of}
 use Rattle.c_tree.specs.declared.token.Mark.TheVariants as marks
 use Rattle.c_parse.specs.inside.Reads.{behind}
 use Rattle.c_parse.specs.inside.Lists.{global_list_of}

@@ -2,7 +2,8 @@ use Rattle.std.proofs.Common.{◌+◌, ◌-◌, length, ap, ◌∙◌, refl, Lis
 use Rattle.c_tree.specs.declared.tree.Label.{Label}
 use Rattle.c_grammar.specs.inside.Parsing.{repeated}
 use Rattle.c_grammar.specs.inside.ModelExpressions.{inside}
-use Rattle.c_grammar.specs.inside.ModelStatements.{begins_label, label_of}
+use Rattle.c_grammar.specs.inside.ModelBegins.{begins_label}
+use Rattle.c_grammar.specs.inside.ModelSwitches.{label_of}
 use Rattle.c_parse.specs.inside.Reads.{behind}
 use Rattle.c_parse.proofs.Nested.{labels_init, repeated_keeps}
 use Rattle.c_parse.proofs.parser.Parser.labels.Goals as goal

@@ -1,7 +1,8 @@
 use Rattle.std.proofs.Common.{◌≡◌, ◌-◌}
 use Rattle.c_grammar.specs.inside.Parsing.{repeated}
 use Rattle.c_grammar.specs.inside.ModelExpressions.{inside}
-use Rattle.c_grammar.specs.inside.ModelStatements.{begins_label, label_of, labels_of}
+use Rattle.c_grammar.specs.inside.ModelBegins.{begins_label}
+use Rattle.c_grammar.specs.inside.ModelSwitches.{label_of, labels_of}
 use Rattle.c_parse.specs.inside.Reads.{behind}
 use Rattle.c_parse.proofs.parser.Parser.labels.Given as goal
 

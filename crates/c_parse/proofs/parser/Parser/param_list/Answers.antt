@@ -3,7 +3,7 @@ use Rattle.c_tree.specs.declared.tree.Param.{Param}
 use Rattle.c_tree.specs.declared.token.Mark.TheVariants as marks
 use Rattle.c_grammar.specs.inside.Parsing.{listed}
 use Rattle.c_grammar.specs.inside.ModelExpressions.{inside}
-use Rattle.c_grammar.specs.inside.ModelUnits.{param_of}
+use Rattle.c_grammar.specs.inside.ModelParameters.{param_of}
 use Rattle.c_parse.specs.inside.Reads.{behind}
 use Rattle.c_parse.proofs.ParserLoops.{listed_keeps}
 use Rattle.c_parse.proofs.Lists.{params_init}

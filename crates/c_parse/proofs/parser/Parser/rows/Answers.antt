@@ -3,7 +3,7 @@ use Rattle.c_tree.specs.declared.tree.Expr.{Expr}
 use Rattle.c_tree.specs.declared.token.Mark.TheVariants as marks
 use Rattle.c_grammar.specs.inside.Parsing.{listed}
 use Rattle.c_grammar.specs.inside.ModelExpressions.{inside}
-use Rattle.c_grammar.specs.inside.ModelUnits.{row_of}
+use Rattle.c_grammar.specs.inside.ModelGlobals.{row_of}
 use Rattle.c_parse.specs.inside.Reads.{behind}
 use Rattle.c_parse.proofs.Lists.{rows_init, trailed_keeps}
 use Rattle.c_parse.proofs.parser.Parser.rows.Goals as goal

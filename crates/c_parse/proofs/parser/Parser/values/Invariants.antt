@@ -1,7 +1,7 @@
 use Rattle.std.proofs.Common.{◌≡◌, ◌-◌, true}
 use Rattle.c_grammar.specs.inside.Parsing.{listed}
 use Rattle.c_grammar.specs.inside.ModelExpressions.{inside, conditional_of}
-use Rattle.c_grammar.specs.inside.ModelUnits.{values_of}
+use Rattle.c_grammar.specs.inside.ModelGlobals.{values_of}
 use Rattle.c_tree.specs.declared.token.Mark.TheVariants as marks
 use Rattle.c_parse.specs.inside.Reads.{behind}
 use Rattle.c_parse.proofs.parser.Parser.values.Given as goal
