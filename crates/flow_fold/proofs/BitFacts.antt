@@ -1,5 +1,6 @@
 -- Words that are 0 or 1: what gives no other, in a start and where the immediates become others.
-use Rattle.std.proofs.Common.{◌≡◌, ◌≢◌, ℕ, ◌<◌, List, [], ◌∷◌, ◌⊎◌, inl, inr, refl, sym, ap, ap₂, subst, ◌∙◌, arith, cond}
+use Rattle.std.proofs.Common.{◌≡◌, ◌≢◌, ℕ, ◌<◌, List, [], ◌∷◌, ◌⊎◌, inl}
+use Rattle.std.proofs.Common.{inr, refl, sym, ap, ap₂, subst, ◌∙◌, arith, cond}
 use Rattle.std.proofs.Common.{Bool, true, false, not, ◌&&◌, nat_eq, map}
 use Rattle.std.specs.Prelude.{ℤ, pos, negsuc, int_le, int_lt, nat_lt, nat_le, Some, None, Option, slice_get, option_map}
 use Rattle.std.specs.Prelude.{slice_index}
@@ -124,10 +125,12 @@ module _ (regs : ℕ → ℕ) (h : ℕ → Answer) (st : ℕ → Option Stored) 
       abbrev computed : ℕ → ℕ → ℕ
       computed = meant st mem k n
 
-      test_bit : TestOf n.op → IsBitToken (rules.gives (role_of n.op) computed (first regs h n.left) (first regs h n.right))
+      test_bit : TestOf n.op → IsBitToken (rules.gives (role_of n.op) computed
+          (first regs h n.left) (first regs h n.right))
       test_bit t = pick t.shape
         where
-          pick : ((form_of n.op ≡ General) × (role_of n.op ≡ Both)) ⊎ ((form_of n.op ≡ Immediate) × (role_of n.op ≡ One))
+          pick : ((form_of n.op ≡ General) × (role_of n.op ≡ Both))
+              ⊎ ((form_of n.op ≡ Immediate) × (role_of n.op ≡ One))
               → IsBitToken (rules.gives (role_of n.op) computed (first regs h n.left) (first regs h n.right))
           pick (inl d) =
               subst (λ (z : Role). IsBitToken (rules.gives z computed (first regs h n.left) (first regs h n.right)))

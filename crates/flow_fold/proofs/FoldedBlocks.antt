@@ -11,9 +11,10 @@ use Rattle.ir_forms.specs.declared.flow.FlowNode.{FlowNode}
 use Rattle.ir_forms.specs.declared.flow.FlowBlock.{FlowBlock}
 use Rattle.ir_forms.specs.inside.FlowFits.{IsComplete}
 use Rattle.hyper_narrow.specs.inside.NarrowedMeaning.{MeansNarrowed}
+use Rattle.flow_fold.specs.inside.Copies.{covers, guard_of}
 use Rattle.flow_fold.specs.inside.Immediates.{immediate_of, gives_constant}
 use Rattle.flow_fold.specs.inside.Folds.{with_constant, with_left, with_right, with_node, Turns, immediate}
-use Rattle.flow_fold.specs.inside.Folds.{left_copy, right_copy, offset, told, negative}
+use Rattle.flow_fold.specs.inside.Folds.{left_copy, right_copy, guard_copy, offset, told, negative, freed}
 use Rattle.flow_fold.specs.inside.Folds.{Folds}
 use Rattle.flow_fold.specs.inside.Offsets.{has_address, with_offset, summed}
 use Rattle.flow_fold.specs.inside.Replaces.{Immediates, with_immediate, with_immediates, LeavesOwn, Replaces}
@@ -22,6 +23,8 @@ use Rattle.flow_fold.proofs.Turned.{Written, Works}
 use Rattle.flow_fold.proofs.Turning.{constant_written, constant_works}
 use Rattle.flow_fold.proofs.Forwarded.{Copied, copied_is}
 use Rattle.flow_fold.proofs.CopyRules.{left_written, left_works, right_written, right_works}
+use Rattle.flow_fold.proofs.GuardRules.{Guarding, guarding, guard_written, guard_works}
+use Rattle.flow_fold.proofs.WaitRules.{Waiting, waiting, waiting_kept, free_written, free_works}
 use Rattle.flow_fold.proofs.OffsetFacts.{Moves, Offsetly, summed_is}
 use Rattle.flow_fold.proofs.OffsetRules.{offset_written, offset_works}
 use Rattle.flow_fold.proofs.TestRules.{Telling, telling, telling_kept, copy_written, copy_works}
@@ -88,6 +91,17 @@ rightly f j n m there c =
       works = right_works f j n there c.sources c.copy;
     })
 
+guarded_stands : (f : FlowBlock) (j : ℕ) (n m : FlowNode) → slice_get f.nodes j ≡ Some n → Guarding f.nodes j n m
+    → Stands f j n m
+guarded_stands f j n m there c =
+    subst (λ (x : FlowNode). Stands f j n x) (sym c.is)
+    (record {
+      written = guard_written f j n there c.old c.guarded c.node c.there c.apart c.mov c.source c.left c.below
+          c.covered;
+      works = guard_works f j n there c.old c.guarded c.node c.there c.apart c.mov c.source c.left c.below
+          c.covered;
+    })
+
 -- the rule of offsets, of a node with an address
 record Addressed (nodes : List FlowNode) (j : ℕ) (n m : FlowNode) : Type 0 where
   address : has_address (form_of n.op) ≡ true
@@ -120,23 +134,36 @@ ended f j n m there c =
       works = negative_works f j n there c.app c.upper c.chain;
     })
 
+freed_stands : (f : FlowBlock) (j : ℕ) (n m : FlowNode) → slice_get f.nodes j ≡ Some n → Waiting f.nodes j n m
+    → Stands f j n m
+freed_stands f j n m there c =
+    subst (λ (x : FlowNode). Stands f j n x) (sym c.is)
+    (record {
+      written = free_written f j n there c.guard c.guarded c.calm c.waits;
+      works = free_works f j n there c.guard c.guarded c.calm c.waits;
+    })
+
 -- the rules, with the nodes that they look at
 data How (nodes : List FlowNode) (j : ℕ) (n m : FlowNode) : Type 0 where
   by_constant : Constantly nodes n m → How nodes j n m
   by_left : Leftly nodes j n m → How nodes j n m
   by_right : Rightly nodes j n m → How nodes j n m
+  by_guard : Guarding nodes j n m → How nodes j n m
   by_offset : Addressed nodes j n m → How nodes j n m
   by_test : Telling nodes j n m → How nodes j n m
   by_end : Ending nodes j n m → How nodes j n m
+  by_wait : Waiting nodes j n m → How nodes j n m
 
 how_stands : (f : FlowBlock) (j : ℕ) (n m : FlowNode) → slice_get f.nodes j ≡ Some n → How f.nodes j n m
     → Stands f j n m
 how_stands f j n m there (by_constant c) = constantly f j n m there c
 how_stands f j n m there (by_left c) = leftly f j n m there c
 how_stands f j n m there (by_right c) = rightly f j n m there c
+how_stands f j n m there (by_guard c) = guarded_stands f j n m there c
 how_stands f j n m there (by_offset c) = addressed f j n m there c
 how_stands f j n m there (by_test c) = told_stands f j n m there c
 how_stands f j n m there (by_end c) = ended f j n m there c
+how_stands f j n m there (by_wait c) = freed_stands f j n m there c
 
 module _ (r : Immediates) (own : LeavesOwn r) where
   abbrev new : FlowNode → FlowNode
@@ -179,6 +206,28 @@ module _ (r : Immediates) (own : LeavesOwn r) where
     left = c.left;
   }
 
+  -- and the guard of a node that a guard copies
+  guard_stays : (nodes : List FlowNode) (x : Option FlowNode) → guard_of (option_map new x) ≡ guard_of x
+  guard_stays nodes None = refl
+  guard_stays nodes (Some x) = refl
+
+  guard_kept : (nodes : List FlowNode) (j : ℕ) (n m : FlowNode) → Guarding nodes j n m
+      → Guarding (map new nodes) j (new n) (new m)
+  guard_kept nodes j n m c = record {
+    old = c.old;
+    guarded = c.guarded;
+    node = new c.node;
+    there = slice_get-map new nodes c.old.node ∙ ap (option_map new) c.there;
+    apart = c.apart;
+    mov = c.mov;
+    source = c.source;
+    left = c.left;
+    below = c.below;
+    covered = ap (covers c.node.guard) (ap guard_of (slice_get-map new nodes c.source)
+        ∙ guard_stays nodes (slice_get nodes c.source)) ∙ c.covered;
+    is = ap new c.is;
+  }
+
   -- and a sum with its offset
   sum_kept : (nodes : List FlowNode) (j : ℕ) (n m : FlowNode) → Offsetly nodes j n m
       → Offsetly (map new nodes) j (new n) (new m)
@@ -217,10 +266,12 @@ module _ (r : Immediates) (own : LeavesOwn r) where
     copy = copy_kept nodes j n.guard n.right c.sources c.copy;
     is = ap new c.is;
   })
+  how_kept nodes j n m (by_guard c) = by_guard (guard_kept nodes j n m c)
   how_kept nodes j n m (by_offset c) =
       by_offset (record { address = c.address; sum = sum_kept nodes j n m c.sum })
   how_kept nodes j n m (by_test c) = by_test (telling_kept r own nodes j n m c)
   how_kept nodes j n m (by_end c) = by_end (ending_kept r own nodes j n m c)
+  how_kept nodes j n m (by_wait c) = by_wait (waiting_kept r nodes j n m c)
 
 -- a node with an address, where there is one that the rule makes
 address_found : (nodes : List FlowNode) (j : ℕ) (n m : FlowNode) (b : Bool) → has_address (form_of n.op) ≡ b
@@ -235,8 +286,10 @@ turned nodes j n m (left_copy ss s e) =
     by_left (record { sources = ss; copy = copied_is nodes j n.guard n.left ss s; is = e })
 turned nodes j n m (right_copy ss s e) =
     by_right (record { sources = ss; copy = copied_is nodes j n.guard n.right ss s; is = e })
+turned nodes j n m (guard_copy g s e) = by_guard (guarding nodes j n m g e s)
 turned nodes j n m (told t e) = by_test (telling nodes j n m t e)
 turned nodes j n m (negative t e) = by_end (ending nodes j n m t e)
+turned nodes j n m (freed t e) = by_wait (waiting nodes j n m t e)
 turned nodes j n m (offset e) = by_offset (address_found nodes j n m (has_address (form_of n.op)) refl e)
 
 module _ (f : FlowBlock) (j : ℕ) (n m : FlowNode) (there : slice_get f.nodes j ≡ Some n) (c : How f.nodes j n m)

@@ -9,6 +9,8 @@ pub mod Tables
 pub mod Turning
 pub mod Forwarded
 pub mod CopyRules
+pub mod GuardRules
+pub mod WaitRules
 pub mod OffsetFacts
 pub mod OffsetRules
 pub mod BitFacts
@@ -21,6 +23,7 @@ pub mod Following
 pub mod Lowered
 pub mod Swept
 pub mod Left
+pub mod DrawnWrites
 pub mod Stayed
 pub mod SweptBlocks
 pub mod SweptAway

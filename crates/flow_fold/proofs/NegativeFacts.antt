@@ -107,7 +107,8 @@ record Holder (nodes : List FlowNode) (j : ℕ) (ss : List FlowSource) (holds : 
   alone : Alone nodes j ss node
   does : holds (Some node) ≡ true
 
-holder : (holds : Option FlowNode → Bool) → (holds None ≡ false) → (nodes : List FlowNode) (j : ℕ) (ss : List FlowSource)
+holder : (holds : Option FlowNode → Bool) → (holds None ≡ false) →
+    (nodes : List FlowNode) (j : ℕ) (ss : List FlowSource)
     → negatives.is_alone holds nodes j ss ≡ true → Holder nodes j ss holds
 holder holds none nodes j [] e = absurd (cc)
 holder holds none nodes j (Read r ∷ rest) e = absurd (cc)

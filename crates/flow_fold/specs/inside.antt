@@ -4,7 +4,9 @@ pub mod Copies
 pub mod Offsets
 pub mod Tests
 pub mod Negatives
+pub mod Waits
 pub mod Folds
+pub mod Draws
 pub mod Sweeps
 pub mod SweepsAll
 pub mod Shares

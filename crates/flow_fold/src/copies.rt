@@ -90,3 +90,75 @@ pub fn copied(
         _ => Ok(None),
     }
 }
+
+/// The guard of a node that there is.
+pub fn guard_of(nodes: &[FlowNode], i: usize) -> Option<Guard>
+    ensures { result ≡ copies.guard_of (slice_get nodes.now i) }
+{
+    match nodes.get(i) {
+        None => None,
+        Some(n) => n.guard,
+    }
+}
+
+// The guard by node i of a node j that has guard g, where the node of g copies node i under a guard.
+fn guard_beyond(nodes: &[FlowNode], j: usize, g: Guard, a: Option<Guard>, i: u32) -> Option<Guard>
+    ensures { result ≡ copies.guard_beyond nodes.now j g a i }
+{
+    if !(i as usize == j) && covers(a, guard_of(nodes, i as usize)) {
+        Some(Guard {
+            node: i,
+            sense: g.sense,
+        })
+    } else {
+        None
+    }
+}
+
+// The guard by the one node that some sources are.
+fn guard_by(
+    nodes: &[FlowNode],
+    j: usize,
+    g: Guard,
+    a: Option<Guard>,
+    sources: &[FlowSource],
+) -> Option<Guard>
+    ensures { result ≡ copies.guard_by nodes.now j g a sources.now }
+{
+    match sources {
+        [FlowSource::Node(i)] => guard_beyond(nodes, j, g, a, *i),
+        _ => None,
+    }
+}
+
+// The guard by what node k copies.
+fn guard_at(nodes: &[FlowNode], j: usize, g: Guard, k: usize) -> Option<Guard>
+    ensures { result ≡ copies.guard_at nodes.now j g (slice_get nodes.now k) }
+{
+    match nodes.get(k) {
+        None => None,
+        Some(c) => {
+            if is_mov(c.op) {
+                guard_by(nodes, j, g, c.guard, c.left.as_slice())
+            } else {
+                None
+            }
+        }
+    }
+}
+
+/// The guard of node j by what the node of its guard copies.
+pub fn guard_copied(nodes: &[FlowNode], j: usize, guard: Option<Guard>) -> Option<Guard>
+    ensures { result ≡ copies.guard_copied nodes.now j guard }
+{
+    match guard {
+        None => None,
+        Some(g) => {
+            if g.node as usize == j {
+                None
+            } else {
+                guard_at(nodes, j, g, g.node as usize)
+            }
+        }
+    }
+}

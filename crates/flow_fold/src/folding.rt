@@ -6,13 +6,15 @@ ghost use Rattle.flow_fold.specs.inside.Replaces.{Replaces};
 
 use crate::addresses::feeds_addresses;
 use crate::constants::{immediate_of, small_of};
-use crate::copies::copied;
+use crate::copies::{copied, guard_copied};
+use crate::drawing::drawn;
 use crate::negatives::{as_negative, is_negative};
 use crate::offsets::offset_of;
 use crate::tests::{as_copy, may_tell, tells_bit};
 use crate::uses::{Uses, feeds_several, uses_of};
+use crate::waits::{may_free, without_guard};
 use base::{Items, Memory};
-use ir_forms::{FlowBlock, FlowNode, FlowSource};
+use ir_forms::{FlowBlock, FlowNode, FlowSource, Guard};
 use std::alloc::Global;
 use trips_isa::Op;
 
@@ -58,6 +60,22 @@ fn with_right(alloc: Global, n: &FlowNode, sources: Items<FlowSource>) -> Result
         guard: n.guard,
         left,
         right: sources,
+    })
+}
+
+// A node with another guard.
+fn with_guard(alloc: Global, n: &FlowNode, g: Guard) -> Result<FlowNode, Memory>
+    ensures { IfOk result (λ m. m ≡ folds.with_guard n.now g) }
+{
+    let left = Items::from_slice(alloc, n.left.as_slice())?;
+    let right = Items::from_slice(alloc, n.right.as_slice())?;
+    Ok(FlowNode {
+        op: n.op,
+        imm: n.imm,
+        number: n.number,
+        guard: Some(g),
+        left,
+        right,
     })
 }
 
@@ -118,6 +136,24 @@ fn right_turn(
     }
 }
 
+// What node j becomes where a copy guards it.
+fn guard_turn(
+    alloc: Global,
+    nodes: &[FlowNode],
+    j: usize,
+    n: &FlowNode,
+) -> Result<Option<FlowNode>, Memory>
+    ensures { IfOk result (λ o. MatchOption o Unit (λ m. folds.Turns nodes.now j n.now m)) }
+{
+    match guard_copied(nodes, j, n.guard) {
+        None => Ok(None),
+        Some(g) => {
+            let m = with_guard(alloc, n, g)?;
+            Ok(Some(m))
+        }
+    }
+}
+
 // What node j becomes where its address is a sum.
 fn offset_turn(
     alloc: Global,
@@ -167,15 +203,34 @@ fn negative_turn(
     }
 }
 
+// What node j becomes where it needs no guard.
+fn freed_turn(
+    alloc: Global,
+    nodes: &[FlowNode],
+    j: usize,
+    n: &FlowNode,
+) -> Result<Option<FlowNode>, Memory>
+    ensures { IfOk result (λ o. MatchOption o Unit (λ m. folds.Turns nodes.now j n.now m)) }
+{
+    if may_free(nodes, j, n) {
+        let m = without_guard(alloc, n)?;
+        Ok(Some(m))
+    } else {
+        Ok(None)
+    }
+}
+
 /// The rules, each of which looks at one operand.
 #[derive(Clone, Copy)]
 pub enum Rule {
     Left,
     Right,
+    Guard,
     Constant,
     Offset,
     Told,
     Negative,
+    Freed,
 }
 
 // What node j becomes by a rule, where it applies.
@@ -191,10 +246,12 @@ fn turned(
     match rule {
         Rule::Left => left_turn(alloc, nodes, j, n),
         Rule::Right => right_turn(alloc, nodes, j, n),
+        Rule::Guard => guard_turn(alloc, nodes, j, n),
         Rule::Constant => constant_turn(alloc, nodes, j, n),
         Rule::Offset => offset_turn(alloc, nodes, j, n),
         Rule::Told => told_turn(alloc, nodes, j, n),
         Rule::Negative => negative_turn(alloc, nodes, j, n),
+        Rule::Freed => freed_turn(alloc, nodes, j, n),
     }
 }
 
@@ -244,8 +301,8 @@ fn may_tell_at(block: &FlowBlock, j: usize) -> bool {
     }
 }
 
-// A block whose node j takes a small constant as its immediate, where it then needs no `mov` more: it feeds one spot, or
-// loads and stores that take what it adds into their offsets.
+// A block whose node j takes a small constant as its immediate, where it then needs no `mov` more: it feeds one
+// spot, or loads and stores that take what it adds into their offsets.
 fn constant_at(alloc: Global, block: FlowBlock, j: usize, uses: &Uses) -> Result<FlowBlock, Memory>
     ensures { IfOk result (λ g. Replaces block g) }
 {
@@ -259,18 +316,20 @@ fn constant_at(alloc: Global, block: FlowBlock, j: usize, uses: &Uses) -> Result
 fn folded_at(alloc: Global, block: FlowBlock, j: usize, uses: &Uses) -> Result<FlowBlock, Memory>
     ensures { IfOk result (λ g. Replaces block g) }
 {
-    let left = turned_at(alloc, block, j, Rule::Left)?;
+    let guarded = turned_at(alloc, block, j, Rule::Guard)?;
+    let left = turned_at(alloc, guarded, j, Rule::Left)?;
     let right = turned_at(alloc, left, j, Rule::Right)?;
     let constant = constant_at(alloc, right, j, uses)?;
     let offset = turned_at(alloc, constant, j, Rule::Offset)?;
     let told = turned_at(alloc, offset, j, Rule::Told)?;
-    let last = turned_at(alloc, told, j, Rule::Negative)?;
+    let negative = turned_at(alloc, told, j, Rule::Negative)?;
+    let last = turned_at(alloc, negative, j, Rule::Freed)?;
     Ok(last)
 }
 
-/// The block with each node folded where a rule applies; the nodes keep their numbers.
+// A block each node of which is folded where a rule applies.
 #[tactic(auto, using(crate::proofs::Following::stands_on, crate::proofs::Following::stands_for_itself))]
-pub fn fold(alloc: Global, block: FlowBlock) -> Result<FlowBlock, Memory>
+fn all_folded(alloc: Global, block: FlowBlock) -> Result<FlowBlock, Memory>
     ensures { IfOk result (λ g. Replaces block g) }
 {
     let count = block.nodes.len();
@@ -280,4 +339,14 @@ pub fn fold(alloc: Global, block: FlowBlock) -> Result<FlowBlock, Memory>
         now = folded_at(alloc, now, j, &uses)?;
     }
     Ok(now)
+}
+
+/// The block with each node folded where a rule applies, and with writes that take what copies copy; the nodes keep
+/// their numbers.
+pub fn fold(alloc: Global, block: FlowBlock) -> Result<FlowBlock, Memory>
+    ensures { IfOk result (λ g. Replaces block g) }
+{
+    let folded = all_folded(alloc, block)?;
+    let last = drawn(alloc, folded)?;
+    Ok(last)
 }

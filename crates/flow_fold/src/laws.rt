@@ -1,4 +1,4 @@
-ghost use Rattle.flow_fold.specs.inside.Laws.{FoldsReplace, ReplacesItself, ReplacesOn, SharesReplace};
+ghost use Rattle.flow_fold.specs.inside.Laws.{DrawsReplace, FoldsReplace, ReplacesItself, ReplacesOn, SharesReplace};
 ghost use Rattle.flow_fold.specs.inside.Laws.{SweepsAllReplace, SweepsReplace};
 
 /// A block may stand for itself.
@@ -14,6 +14,11 @@ pub fn replacements_follow()
 /// A block with a folded node may stand for the block.
 pub fn foldings_replace()
     ensures { FoldsReplace }
+{}
+
+/// A block whose writes take what copies copy may stand for the block.
+pub fn drawings_replace()
+    ensures { DrawsReplace }
 {}
 
 /// A block without a node that nothing names may stand for the block.

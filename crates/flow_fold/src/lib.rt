@@ -10,6 +10,7 @@ mod addresses;
 mod checking;
 mod constants;
 mod copies;
+mod drawing;
 mod folding;
 mod keeping;
 mod laws;
@@ -20,11 +21,12 @@ mod sharing;
 mod sweeping;
 mod tests;
 mod uses;
+mod waits;
 
 pub use folding::fold;
 pub use laws::{
-    blocks_replace_themselves, foldings_replace, replacements_follow, sharings_replace,
-    sweepings_at_once_replace, sweepings_replace,
+    blocks_replace_themselves, drawings_replace, foldings_replace, replacements_follow,
+    sharings_replace, sweepings_at_once_replace, sweepings_replace,
 };
 pub use sharing::share;
 pub use sweeping::sweep;

@@ -1,11 +1,14 @@
 //! Hyper blocks with their flow blocks as text, blocks with too much of each part, and small flow blocks with what
-//! completing adds to them, which guards they keep, which nodes become copies and which are swept: all as tests.
+//! completing adds to them, which guards they keep, which nodes become copies, which copies are looked through and
+//! which nodes are swept: all as tests.
 #![tactic(auto)]
 
 #[cfg(test)]
 mod complete_tests;
 #[cfg(test)]
 mod convert_tests;
+#[cfg(test)]
+mod fold_tests;
 #[cfg(test)]
 mod making;
 #[cfg(test)]

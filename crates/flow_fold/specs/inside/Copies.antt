@@ -1,5 +1,6 @@
 -- Copies that a node may look through: what a `mov` gives, where it gives a token, is what its sources give.
-use Rattle.std.specs.Prelude.{ℕ, nat_eq, Bool, true, false, ◌&&◌, cond, List, [], ◌∷◌, Option, Some, None, slice_get}
+use Rattle.std.specs.Prelude.{ℕ, nat_eq, Bool, true, false, ◌&&◌, not, cond, List, [], ◌∷◌, Option, Some, None}
+use Rattle.std.specs.Prelude.{slice_get}
 use Rattle.trips_isa.specs.declared.op.Op.{Op}
 use Rattle.trips_isa.specs.declared.op.Op.TheVariants.{Mov}
 use Rattle.trips_isa.specs.declared.block.Sense.{Sense}
@@ -42,3 +43,34 @@ copied nodes j g [] = None
 copied nodes j g (Read r ∷ rest) = None
 copied nodes j g (Node k ∷ []) = cond (nat_eq k j) None (copied_at (slice_get nodes k) g)
 copied nodes j g (Node k ∷ (s ∷ rest)) = None
+
+-- GUARDS
+
+-- the guard of a node that there is
+abbrev pub guard_of : Option FlowNode → Option Guard
+guard_of None = None
+guard_of (Some n) = n.guard
+
+-- the guard by node i of a node j that has guard g, where the node of g, under guard a, copies node i: its token is
+-- that of node i, since it has no guard or that of node i
+abbrev pub guard_beyond : List FlowNode → ℕ → Guard → Option Guard → ℕ → Option Guard
+guard_beyond nodes j g a i =
+    cond (not (nat_eq i j) && covers a (guard_of (slice_get nodes i))) (Some (record { node = i; sense = g.sense }))
+    None
+
+-- the guard by the one node that some sources are
+abbrev pub guard_by : List FlowNode → ℕ → Guard → Option Guard → List FlowSource → Option Guard
+guard_by nodes j g a [] = None
+guard_by nodes j g a (Read r ∷ rest) = None
+guard_by nodes j g a (Node i ∷ []) = guard_beyond nodes j g a i
+guard_by nodes j g a (Node i ∷ (s ∷ rest)) = None
+
+-- the guard by what a node that there is copies
+abbrev pub guard_at : List FlowNode → ℕ → Guard → Option FlowNode → Option Guard
+guard_at nodes j g None = None
+guard_at nodes j g (Some c) = cond (is_mov c.op) (guard_by nodes j g c.guard c.left) None
+
+-- the guard of node j by what the node of its guard copies
+abbrev pub guard_copied : List FlowNode → ℕ → Option Guard → Option Guard
+guard_copied nodes j None = None
+guard_copied nodes j (Some g) = cond (nat_eq g.node j) None (guard_at nodes j g (slice_get nodes g.node))

@@ -5,11 +5,13 @@ use Rattle.ir_forms.specs.declared.flow.FlowSource.{FlowSource}
 use Rattle.ir_forms.specs.declared.flow.FlowNode.{FlowNode}
 use Rattle.ir_forms.specs.declared.flow.FlowBlock.{FlowBlock}
 use Rattle.trips_isa.specs.Forms.{form_of}
-use Rattle.flow_fold.specs.inside.Copies.{copied}
+use Rattle.ir_forms.specs.declared.flow.Guard.{Guard}
+use Rattle.flow_fold.specs.inside.Copies.{copied, guard_copied}
 use Rattle.flow_fold.specs.inside.Immediates.{immediate_of, small_of}
 use Rattle.flow_fold.specs.inside.Offsets.{offset_of}
 use Rattle.flow_fold.specs.inside.Tests.{tells_bit, as_copy}
 use Rattle.flow_fold.specs.inside.Negatives.{is_negative, as_negative}
+use Rattle.flow_fold.specs.inside.Waits.{may_free, without_guard}
 
 -- a node whose right operand is the immediate of its new operation
 abbrev pub with_constant : FlowNode → Op → ℤ → FlowNode
@@ -23,6 +25,10 @@ with_left n ss = record n { left = ss }
 abbrev pub with_right : FlowNode → List FlowSource → FlowNode
 with_right n ss = record n { right = ss }
 
+-- a node with another guard
+abbrev pub with_guard : FlowNode → Guard → FlowNode
+with_guard n g = record n { guard = Some g }
+
 -- the rules by which node j becomes another, among the nodes of its block
 pub data Turns (nodes : List FlowNode) (j : ℕ) (n m : FlowNode) : Type 0 where
   -- a small constant at the right moves into the immediate
@@ -34,12 +40,16 @@ pub data Turns (nodes : List FlowNode) (j : ℕ) (n m : FlowNode) : Type 0 where
   -- what a copy at the right copies is taken itself
   right_copy : (ss : List FlowSource) → copied nodes j n.guard n.right ≡ Some ss → m ≡ with_right n ss
       → Turns nodes j n m
+  -- what the node of the guard copies is the node of the guard
+  guard_copy : (g : Guard) → guard_copied nodes j n.guard ≡ Some g → m ≡ with_guard n g → Turns nodes j n m
   -- what a load's or a store's address adds goes into its offset
   offset : offset_of nodes j n (form_of n.op) ≡ Some m → Turns nodes j n m
   -- whether a word that is 0 or 1 is not 0 is the word itself
   told : tells_bit nodes j n ≡ true → m ≡ as_copy n → Turns nodes j n m
   -- a constant whose upper 48 bits are ones is that of one `gens`
   negative : is_negative nodes j n ≡ true → m ≡ as_negative n → Turns nodes j n m
+  -- what waits for a token that comes only where its guard is met needs no guard
+  freed : may_free nodes j n n.guard ≡ true → m ≡ without_guard n → Turns nodes j n m
 
 -- a block with another node at a place
 abbrev pub with_node : FlowBlock → ℕ → FlowNode → FlowBlock

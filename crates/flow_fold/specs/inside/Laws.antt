@@ -2,6 +2,7 @@
 use Rattle.ir_forms.specs.declared.flow.FlowBlock.{FlowBlock}
 use Rattle.flow_fold.specs.inside.Replaces.{Replaces}
 use Rattle.flow_fold.specs.inside.Folds.{Folds}
+use Rattle.flow_fold.specs.inside.Draws.{drawn}
 use Rattle.flow_fold.specs.inside.Sweeps.{Sweeps}
 use Rattle.flow_fold.specs.inside.SweepsAll.{SweepsAll}
 use Rattle.flow_fold.specs.inside.Shares.{Shares}
@@ -17,6 +18,10 @@ ReplacesOn = (f g h : FlowBlock) → Replaces f g → Replaces g h → Replaces 
 -- a block may stand for what it folds
 abbrev pub FoldsReplace : Type 0
 FoldsReplace = (f g : FlowBlock) → Folds f g → Replaces f g
+
+-- and for what its writes draw
+abbrev pub DrawsReplace : Type 0
+DrawsReplace = (f : FlowBlock) → Replaces f (drawn f)
 
 -- and for what it sweeps
 abbrev pub SweepsReplace : Type 0
