@@ -199,7 +199,8 @@ impl ArchState {
         }
     }
 
-    /// What each slot of the next block gives, with its mark, and the exit that the block takes, with room for the tokens at the places and the stores.
+    /// What each slot of the next block gives, with its mark, and the exit that the block takes, with room for
+    /// the tokens at the places and the stores.
     pub fn tell_with(
         &self,
         image: &CheckedImage,

@@ -1,10 +1,11 @@
--- The cycle bound of the runs of a seed.
+-- The cycle bound of the runs of a seed, from any state and from the start.
 use Rattle.std.proofs.Common.{◌≡◌, ℕ, ◌+◌, ◌^◌, ◌<◌, ◌≤◌, Bool, true, false, List, [], length}
 use Rattle.std.proofs.Common.{Option, Some, None, slice_get, refl, sym, ap, ◌∙◌, subst, true≢false, arith}
 use Rattle.std.proofs.Math.Nat.{mod-lt}
 use Rattle.trips_isa.specs.declared.block.Block.{Block}
 use Rattle.trips_isa.specs.declared.causes.TrapCause.{TrapCause}
 use Rattle.trips_isa.specs.declared.run.Ending.{Ending}
+use Rattle.trips_isa.specs.declared.run.Traced.{Traced}
 use Rattle.trips_isa.specs.declared.run.Ending.TheVariants as ending
 use Rattle.trips_isa.specs.declared.run.Stepped.{Stepped}
 use Rattle.trips_isa.specs.declared.run.Stepped.TheVariants as stepped
@@ -16,7 +17,7 @@ use Rattle.block_predict.specs.Predicts.{Holding, holding}
 use Rattle.block_predict.specs.Seeded as exits
 use Rattle.commit_flush_spec.specs.InFlight.{opened}
 use Rattle.commit_flush_spec.specs.inside.Invariant.{AllGood}
-use Rattle.commit_flush_spec.specs.inside.Laws.{WindowOk}
+use Rattle.commit_flush_spec.specs.inside.Laws.{IsWhole, WindowOk}
 use Rattle.commit_flush_spec.proofs.Events.{opens}
 use Rattle.grid_cycle_spec.specs.Costs.{cost_in, cost_of, greatest_cost}
 use Rattle.grid_cycle_spec.specs.Grid.{Grid}
@@ -24,7 +25,7 @@ use Rattle.grid_machine.specs.Answered.{ComesTo, IsCutOff}
 use Rattle.grid_machine.specs.Endings.{ending_of, is_going}
 use Rattle.grid_machine.specs.WholeRuns.{most_cycles}
 use Rattle.grid_bound.specs.inside.GoesOn.{GoesOn}
-use Rattle.grid_machine.specs.Seeds.{IsAfter, IsRan, next_hold}
+use Rattle.grid_machine.specs.Seeds.{IsAfter, IsRan, IsRanFrom, next_hold}
 use Rattle.grid_cycle.specs.Traps.{is_trap}
 use Rattle.grid_cycle.proofs.Making.{runs_inside, steps_made}
 use Rattle.grid_cycle.proofs.RunCosts.{any_cost, end_cost, goes_on, goes_short, some_cost}
@@ -49,12 +50,21 @@ trap_at (stepped.Trap c) next block cause e = cc
 hold_most : (w : PcgWeather) → next_hold w ≤ 3
 hold_most w = let l : next_hold w < 4 = mod-lt _ (omega arith) in omega (arith, l)
 
-module _ (blocks : List Block) (good : AllGood blocks) (some : 0 < length blocks) (bytes input : List ℕ)
-    (fits : length bytes ≤ data_size) (budget seed : ℕ) (small : budget < 2 ^ 32) (answer : Option Ending)
-    (h : Grid PcgWeather) (ran : IsRan blocks bytes input budget seed answer h) where
-  abbrev s : State
-  s = start bytes input
+-- a window opens right on a state whose trace is empty
+opens_on : (blocks : List Block) (budget : ℕ) (s : State) → IsWhole s → s.next < length blocks → s.trace ≡ []
+    → WindowOk blocks budget (opened s)
+opens_on blocks budget s whole here fresh = record {
+  frames = tt;
+  kept = tt;
+  numbers = tt;
+  whole = whole;
+  spent = let none : length s.trace ≡ 0 = ap (λ (t : List Traced). length t) fresh in omega (arith, none);
+  next = here;
+}
 
+module _ (blocks : List Block) (good : AllGood blocks) (s : State) (full : IsWhole s) (here : s.next < length blocks)
+    (budget seed : ℕ) (small : budget < 2 ^ 32) (answer : Option Ending)
+    (h : Grid PcgWeather) (ran : IsRanFrom blocks s budget seed answer h) where
   abbrev predictor : Holding
   predictor = holding (exits.entries_of seed) 0 []
 
@@ -62,7 +72,10 @@ module _ (blocks : List Block) (good : AllGood blocks) (some : 0 < length blocks
   weather = record { generator = holds.generator seed }
 
   opens_right : WindowOk blocks budget (opened s)
-  opens_right = opens blocks budget bytes input some fits
+  opens_right = opens_on blocks budget s full here ran.fresh
+
+  some : 0 < length blocks
+  some = omega (arith, here)
 
   trapped : h.counts.cycles ≤ cost_of blocks h.window.state.trace + greatest_cost
   trapped = any_cost next_hold IsAfter hold_most blocks good budget s predictor weather opens_right small h ran.run
@@ -75,7 +88,7 @@ module _ (blocks : List Block) (good : AllGood blocks) (some : 0 < length blocks
   trapped_block block cause comes =
       let same : (runs blocks s budget).0.next ≡ block =
       trap_at (runs blocks s budget).1 (runs blocks s budget).0.next block cause comes.ending in (
-        subst (λ k. k < length blocks) same (runs_inside blocks some s some budget),
+        subst (λ k. k < length blocks) same (runs_inside blocks some s here budget),
         subst (λ k. h.counts.cycles ≤ cost_of blocks h.window.state.trace + cost_in (slice_get blocks k))
             (ap (λ (t : State). t.next) comes.state ∙ same)
             (some_cost next_hold IsAfter hold_most blocks good budget s predictor weather opens_right small h ran.run
@@ -96,11 +109,13 @@ module _ (blocks : List Block) (good : AllGood blocks) (some : 0 < length blocks
   not_going e comes on =
       let o : GoesOn budget h = goes_on budget h on in
       let went : (runs blocks s budget).1 ≡ stepped.Went = sym comes.over ∙ o.went in
-      let long : length (runs blocks s budget).0.trace ≡ 0 + budget = steps_made blocks some s some budget went in
+      let long : length (runs blocks s budget).0.trace ≡ length s.trace + budget =
+      steps_made blocks some s here budget went in
       let same : length h.window.state.trace ≡ length (runs blocks s budget).0.trace =
       ap (λ (t : State). length t.trace) comes.state in
       let room : length h.window.state.trace < budget = o.room in
-      absurd (omega (arith, long, same, room))
+      let none : length s.trace ≡ 0 = ap (λ (t : List Traced). length t) ran.fresh in
+      absurd (omega (arith, long, same, room, none))
 
   within : (e : Ending) → is_trap e ≡ false → ComesTo blocks s budget e h
       → h.counts.cycles ≤ cost_of blocks h.window.state.trace
@@ -118,30 +133,66 @@ module _ (blocks : List Block) (good : AllGood blocks) (some : 0 < length blocks
 
 -- the laws -------------------------------------------------------------------------------------------
 
--- the run of a seed ends within its budget
+-- the run of a seed from a state ends within its budget
+pub ends_from : (blocks : List Block) (s : State) (budget seed : ℕ) (h : Grid PcgWeather) → AllGood blocks
+    → IsWhole s → s.next < length blocks → budget < 2 ^ 32 → IsRanFrom blocks s budget seed None h → ⊥
+ends_from blocks s budget seed h good full here small ran =
+    ends blocks good s full here budget seed small None h ran ran.comes
+
+-- a run that ends in no trap makes no more cycles than the blocks of its trace cost
+pub within_from : (blocks : List Block) (s : State) (budget seed : ℕ) (e : Ending) (h : Grid PcgWeather)
+    → AllGood blocks → IsWhole s → s.next < length blocks → budget < 2 ^ 32
+    → is_trap e ≡ false → IsRanFrom blocks s budget seed (Some e) h
+    → h.counts.cycles ≤ cost_of blocks h.window.state.trace
+within_from blocks s budget seed e h good full here small plain ran =
+    within blocks good s full here budget seed small (Some e) h ran e plain ran.comes
+
+-- a run that ends in a trap makes at most one greatest cost of a block more
+pub trapped_from : (blocks : List Block) (s : State) (budget seed : ℕ) (e : Ending) (h : Grid PcgWeather)
+    → AllGood blocks → IsWhole s → s.next < length blocks → budget < 2 ^ 32
+    → IsRanFrom blocks s budget seed (Some e) h
+    → h.counts.cycles ≤ cost_of blocks h.window.state.trace + greatest_cost
+trapped_from blocks s budget seed e h good full here small ran =
+    trapped blocks good s full here budget seed small (Some e) h ran
+
+-- a run that ends in a trap makes at most the cost of the block that traps more
+pub trapped_at_from : (blocks : List Block) (s : State) (budget seed block : ℕ) (cause : TrapCause)
+    (h : Grid PcgWeather) → AllGood blocks → IsWhole s → s.next < length blocks → budget < 2 ^ 32
+    → IsRanFrom blocks s budget seed (Some (ending.Trap block cause)) h
+    → (block < length blocks)
+    × (h.counts.cycles ≤ cost_of blocks h.window.state.trace + cost_in (slice_get blocks block))
+trapped_at_from blocks s budget seed block cause h good full here small ran =
+    trapped_block blocks good s full here budget seed small (Some (ending.Trap block cause)) h ran block cause
+    ran.comes
+
+-- the start of an image that fits is such a state
+start_whole : (blocks : List Block) (bytes input : List ℕ) → 0 < length blocks → length bytes ≤ data_size
+    → IsWhole (start bytes input)
+start_whole blocks bytes input some fits = (opens blocks 0 bytes input some fits).whole
+
+-- the same from the start
 pub runs_end : (blocks : List Block) (bytes input : List ℕ) (budget seed : ℕ) (h : Grid PcgWeather) → AllGood blocks
     → 0 < length blocks → length bytes ≤ data_size → 0 < budget → budget < 2 ^ 32
     → IsRan blocks bytes input budget seed None h → ⊥
 runs_end blocks bytes input budget seed h good some fits positive small ran =
-    ends blocks good some bytes input fits budget seed small None h ran ran.comes
+    ends_from blocks (start bytes input) budget seed h good (start_whole blocks bytes input some fits) some small ran
 
--- a run that ends in no trap makes no more cycles than the blocks of its trace cost
 pub runs_within : (blocks : List Block) (bytes input : List ℕ) (budget seed : ℕ) (e : Ending) (h : Grid PcgWeather)
     → AllGood blocks → 0 < length blocks → length bytes ≤ data_size → 0 < budget → budget < 2 ^ 32
     → is_trap e ≡ false → IsRan blocks bytes input budget seed (Some e) h
     → h.counts.cycles ≤ cost_of blocks h.window.state.trace
 runs_within blocks bytes input budget seed e h good some fits positive small plain ran =
-    within blocks good some bytes input fits budget seed small (Some e) h ran e plain ran.comes
+    within_from blocks (start bytes input) budget seed e h good (start_whole blocks bytes input some fits) some small
+    plain ran
 
--- a run that ends in a trap makes at most one greatest cost of a block more
 pub runs_trapped : (blocks : List Block) (bytes input : List ℕ) (budget seed : ℕ) (e : Ending) (h : Grid PcgWeather)
     → AllGood blocks → 0 < length blocks → length bytes ≤ data_size → 0 < budget → budget < 2 ^ 32
     → IsRan blocks bytes input budget seed (Some e) h
     → h.counts.cycles ≤ cost_of blocks h.window.state.trace + greatest_cost
 runs_trapped blocks bytes input budget seed e h good some fits positive small ran =
-    trapped blocks good some bytes input fits budget seed small (Some e) h ran
+    trapped_from blocks (start bytes input) budget seed e h good (start_whole blocks bytes input some fits) some small
+    ran
 
--- a run that ends in a trap makes at most the cost of the block that traps more
 pub runs_trapped_at : (blocks : List Block) (bytes input : List ℕ) (budget seed block : ℕ) (cause : TrapCause)
     (h : Grid PcgWeather) → AllGood blocks → 0 < length blocks → length bytes ≤ data_size → 0 < budget
     → budget < 2 ^ 32
@@ -149,6 +200,5 @@ pub runs_trapped_at : (blocks : List Block) (bytes input : List ℕ) (budget see
     → (block < length blocks)
     × (h.counts.cycles ≤ cost_of blocks h.window.state.trace + cost_in (slice_get blocks block))
 runs_trapped_at blocks bytes input budget seed block cause h good some fits positive small ran =
-    trapped_block blocks good some bytes input fits budget seed small
-    (Some (ending.Trap block cause)) h ran block cause
-    ran.comes
+    trapped_at_from blocks (start bytes input) budget seed block cause h good
+    (start_whole blocks bytes input some fits) some small ran

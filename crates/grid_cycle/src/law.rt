@@ -1,4 +1,4 @@
-//! The cycle bound of the runs of a seed, over their definitions alone.
+//! The cycle bound of the runs of a seed, from the start and from any state, over their definitions alone.
 ghost use Rattle.std.specs.Prelude.{◌≡◌, ℕ, ◌+◌, ◌^◌, ◌<◌, ◌≤◌, false, List, length, slice_get, Some, None};
 ghost use Rattle.trips_isa.specs.declared.block.Block.{Block};
 ghost use Rattle.trips_isa.specs.declared.causes.TrapCause.{TrapCause};
@@ -6,10 +6,12 @@ ghost use Rattle.trips_isa.specs.declared.run.Ending.{Ending};
 ghost use Rattle.trips_isa.specs.declared.run.Ending.TheVariants as ending;
 ghost use Rattle.trips_isa.specs.Stores.{data_size};
 ghost use Rattle.operand_net.specs.declared.weather.PcgWeather.{PcgWeather};
+ghost use Rattle.trips_isa.specs.Machine.{State};
 ghost use Rattle.commit_flush_spec.specs.inside.Invariant.{AllGood};
+ghost use Rattle.commit_flush_spec.specs.inside.Laws.{IsWhole};
 ghost use Rattle.grid_cycle_spec.specs.Costs.{cost_in, cost_of, greatest_cost};
 ghost use Rattle.grid_cycle_spec.specs.Grid.{Grid};
-ghost use Rattle.grid_machine.specs.Seeds.{IsRan};
+ghost use Rattle.grid_machine.specs.Seeds.{IsRan, IsRanFrom};
 ghost use Rattle.grid_cycle.specs.Traps.{is_trap};
 
 /// A run of the grid of a seed on checked blocks always has an ending. One that does not end in a trap has made no
@@ -34,6 +36,28 @@ pub fn runs_of_a_seed_end()
         (h : Grid PcgWeather)
         → AllGood blocks → 0 < length blocks → length bytes ≤ data_size → 0 < budget → budget < 2 ^ 32
         → IsRan blocks bytes input budget seed (Some (ending.Trap block cause)) h
+        → (block < length blocks)
+        × (h.counts.cycles ≤ cost_of blocks h.window.state.trace + cost_in (slice_get blocks block)) }
+{}
+
+/// The same of the runs of a seed from any state with its 128 registers, the whole of data memory and a next block of
+/// the image, be it one that no run comes to.
+pub fn runs_from_a_state_end()
+    ensures ends { (blocks : List Block) (s : State) (budget seed : ℕ) (h : Grid PcgWeather)
+        → AllGood blocks → IsWhole s → s.next < length blocks → budget < 2 ^ 32
+        → IsRanFrom blocks s budget seed None h → ⊥ }
+    ensures within { (blocks : List Block) (s : State) (budget seed : ℕ) (e : Ending) (h : Grid PcgWeather)
+        → AllGood blocks → IsWhole s → s.next < length blocks → budget < 2 ^ 32
+        → is_trap e ≡ false → IsRanFrom blocks s budget seed (Some e) h
+        → h.counts.cycles ≤ cost_of blocks h.window.state.trace }
+    ensures trapped { (blocks : List Block) (s : State) (budget seed : ℕ) (e : Ending) (h : Grid PcgWeather)
+        → AllGood blocks → IsWhole s → s.next < length blocks → budget < 2 ^ 32
+        → IsRanFrom blocks s budget seed (Some e) h
+        → h.counts.cycles ≤ cost_of blocks h.window.state.trace + greatest_cost }
+    ensures trapped_block { (blocks : List Block) (s : State) (budget seed block : ℕ) (cause : TrapCause)
+        (h : Grid PcgWeather)
+        → AllGood blocks → IsWhole s → s.next < length blocks → budget < 2 ^ 32
+        → IsRanFrom blocks s budget seed (Some (ending.Trap block cause)) h
         → (block < length blocks)
         × (h.counts.cycles ≤ cost_of blocks h.window.state.trace + cost_in (slice_get blocks block)) }
 {}

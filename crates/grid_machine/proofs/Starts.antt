@@ -5,9 +5,10 @@ use Rattle.std.proofs.Common.{refl, sym, ap, ◌∙◌, subst, arith}
 use Rattle.std.proofs.lemmas.Bool.{ltb-true}
 use Rattle.trips_isa.specs.declared.block.Block.{Block}
 use Rattle.trips_isa.specs.declared.run.Ending.{Ending}
+use Rattle.trips_isa.specs.declared.run.Traced.{Traced}
 use Rattle.trips_isa.specs.declared.run.Stepped.{Stepped}
 use Rattle.trips_isa.specs.declared.run.Stepped.TheVariants as stepped
-use Rattle.trips_isa.specs.Machine.{State, start}
+use Rattle.trips_isa.specs.Machine.{State}
 use Rattle.operand_net.specs.Seeded as holds
 use Rattle.operand_net.specs.declared.weather.PcgWeather.{PcgWeather}
 use Rattle.block_predict.specs.Predicts.{Holding, holding}
@@ -26,7 +27,7 @@ use Rattle.grid_machine.specs.Tallies.{CountsCommits}
 use Rattle.grid_machine.specs.WholeRuns.{IsRun, most_cycles}
 use Rattle.grid_machine.specs.inside.WholeRuns.{IsKept}
 use Rattle.grid_machine.proofs.RunFacts.{has_come}
-use Rattle.grid_machine.specs.Seeds.{IsAfter, IsRan, next_hold, started}
+use Rattle.grid_machine.specs.Seeds.{IsAfter, IsRanFrom, next_hold, started_on}
 
 -- at the start the counts have room
 begun_kept : {W : Type 0} (budget : ℕ) (s : State) (p : Holding) (w : W) → IsKept budget (begun_with s p w)
@@ -51,27 +52,28 @@ begun_of w s p x g e o = e ∙ ap (λ t. begun_with t p x) (ap (λ (v : Window).
 -- seeds ------------------------------------------------------------------------------------------
 
 -- the predictor and the weather of a seed make the start of the seed
-pub seed_start : (bytes input : List ℕ) (seed : ℕ) (p : Holding) (w : PcgWeather) (g : Grid PcgWeather)
-    → g ≡ begun_with (start bytes input) p w → p ≡ holding (exits.entries_of seed) 0 []
-    → w.generator ≡ holds.generator seed → g ≡ started bytes input seed
-seed_start bytes input seed p w g e predictor weather =
+pub seed_start : (s : State) (seed : ℕ) (p : Holding) (w : PcgWeather) (g : Grid PcgWeather)
+    → g ≡ begun_with s p w → p ≡ holding (exits.entries_of seed) 0 []
+    → w.generator ≡ holds.generator seed → g ≡ started_on s seed
+seed_start s seed p w g e predictor weather =
     e
-    ∙ ap (λ q. begun_with (start bytes input) q w) predictor
+    ∙ ap (λ q. begun_with s q w) predictor
     ∙ ap (λ x. (let v : PcgWeather = record { generator = x } in
-    begun_with (start bytes input) (holding (exits.entries_of seed) 0 []) v)) weather
+    begun_with s (holding (exits.entries_of seed) 0 []) v)) weather
 
 -- with a budget a run goes on at its start
-pub started_going : (bytes input : List ℕ) (seed budget : ℕ) (g : Grid PcgWeather) → 0 < budget
-    → g ≡ started bytes input seed → is_going budget g.window ≡ true
-started_going bytes input seed budget g some e =
-    ap (λ (x : Grid PcgWeather). is_going budget x.window) e ∙ positive budget some
+pub started_going : (s : State) (seed budget : ℕ) (g : Grid PcgWeather) → s.trace ≡ [] → 0 < budget
+    → g ≡ started_on s seed → is_going budget g.window ≡ true
+started_going s seed budget g fresh some e =
+    ap (λ (x : Grid PcgWeather). is_going budget x.window) e
+    ∙ ap (λ (t : List Traced). nat_lt (length t) budget) fresh ∙ positive budget some
   where
     positive : (n : ℕ) → 0 < n → nat_lt 0 n ≡ true
     positive n l = grind (arith, l)
 
-pub started_cycles : (bytes input : List ℕ) (seed : ℕ) (g : Grid PcgWeather) → g ≡ started bytes input seed
-    → g.counts.cycles ≡ 0
-started_cycles bytes input seed g e = ap (λ (x : Grid PcgWeather). x.counts.cycles) e
+-- no cycle has been made at a start
+pub started_cycles : (s : State) (seed : ℕ) (g : Grid PcgWeather) → g ≡ started_on s seed → g.counts.cycles ≡ 0
+started_cycles s seed g e = ap (λ (x : Grid PcgWeather). x.counts.cycles) e
 
 -- a run that goes on has not ended
 pub went_of : (budget : ℕ) (w : Window) → is_going budget w ≡ true → w.over ≡ stepped.Went
@@ -83,35 +85,37 @@ went_of budget w e = go w.over (nat_lt (length w.state.trace) budget) e
     go stepped.StackFull b e = absurd (cc)
     go (stepped.Trap c) b e = absurd (cc)
 
-module _ (blocks : List Block) (bytes input : List ℕ) (budget seed : ℕ) (answer : Option Ending) (h : Grid PcgWeather)
-  where
-    from_start : IsRun next_hold IsAfter blocks budget (h.counts.cycles - 0) (started bytes input seed) h
-        → (0 ≤ most_cycles budget → h.counts.cycles ≤ most_cycles budget)
-        → CountsCommits (started bytes input seed) h
-        → HasCome blocks (start bytes input) (budget - 0) budget (most_cycles budget) answer h
-        → IsRan blocks bytes input budget seed answer h
-    from_start run few commits comes =
-        let made : h.counts.cycles - 0 ≡ h.counts.cycles = omega arith in
-        let all : budget - 0 ≡ budget = omega arith in
-        record {
-          run = subst (λ n. IsRun next_hold IsAfter blocks budget n (started bytes input seed) h) made run;
-          few = few (omega arith);
-          committed = omega (arith, commits);
-          comes = subst (λ n. HasCome blocks (start bytes input) n budget (most_cycles budget) answer h) all comes;
-        }
+module _ (blocks : List Block) (s : State) (budget seed : ℕ) (answer : Option Ending) (h : Grid PcgWeather)
+    (fresh : s.trace ≡ []) where
+  from_start : IsRun next_hold IsAfter blocks budget (h.counts.cycles - 0) (started_on s seed) h
+      → (0 ≤ most_cycles budget → h.counts.cycles ≤ most_cycles budget)
+      → CountsCommits (started_on s seed) h
+      → HasCome blocks s (budget - length s.trace) budget (most_cycles budget) answer h
+      → IsRanFrom blocks s budget seed answer h
+  from_start run few commits comes =
+      let made : h.counts.cycles - 0 ≡ h.counts.cycles = omega arith in
+      let none : length s.trace ≡ 0 = ap (λ (t : List Traced). length t) fresh in
+      let all : budget - length s.trace ≡ budget = omega (arith, none) in
+      record {
+        fresh = fresh;
+        run = subst (λ n. IsRun next_hold IsAfter blocks budget n (started_on s seed) h) made run;
+        few = few (omega arith);
+        committed = omega (arith, commits, none);
+        comes = subst (λ n. HasCome blocks s n budget (most_cycles budget) answer h) all comes;
+      }
 
-    -- a run of the started grid of a seed that was answered so is a run of the seed
-    pub is_ran : (g : Grid PcgWeather) → g ≡ started bytes input seed
-        → IsRun next_hold IsAfter blocks budget (h.counts.cycles - g.counts.cycles) g h
-        → (g.counts.cycles ≤ most_cycles budget → h.counts.cycles ≤ most_cycles budget)
-        → CountsCommits g h
-        → HasCome blocks g.window.state (budget - length g.window.state.trace) budget (most_cycles budget) answer h
-        → IsRan blocks bytes input budget seed answer h
-    is_ran g e = subst (λ (x : Grid PcgWeather). IsRun next_hold IsAfter blocks budget
-        (h.counts.cycles - x.counts.cycles) x h → (x.counts.cycles ≤ most_cycles budget
-        → h.counts.cycles ≤ most_cycles budget) → CountsCommits x h → HasCome blocks x.window.state
-        (budget - length x.window.state.trace) budget (most_cycles budget) answer h
-        → IsRan blocks bytes input budget seed answer h) (sym e) (from_start)
+  -- a run of the started grid of a seed that was answered so is a run of the seed
+  pub is_ran : (g : Grid PcgWeather) → g ≡ started_on s seed
+      → IsRun next_hold IsAfter blocks budget (h.counts.cycles - g.counts.cycles) g h
+      → (g.counts.cycles ≤ most_cycles budget → h.counts.cycles ≤ most_cycles budget)
+      → CountsCommits g h
+      → HasCome blocks g.window.state (budget - length g.window.state.trace) budget (most_cycles budget) answer h
+      → IsRanFrom blocks s budget seed answer h
+  is_ran g e = subst (λ (x : Grid PcgWeather). IsRun next_hold IsAfter blocks budget
+      (h.counts.cycles - x.counts.cycles) x h → (x.counts.cycles ≤ most_cycles budget
+      → h.counts.cycles ≤ most_cycles budget) → CountsCommits x h → HasCome blocks x.window.state
+      (budget - length x.window.state.trace) budget (most_cycles budget) answer h
+      → IsRanFrom blocks s budget seed answer h) (sym e) (from_start)
 
 -- a run, within a budget and up to a number of cycles that are those of the window
 pub run_has_come : {W : Type 0} (next : W → ℕ) (follows : W → W → Type 0) (blocks : List Block) (b budget most n : ℕ)

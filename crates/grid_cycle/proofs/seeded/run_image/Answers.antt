@@ -1,5 +1,6 @@
-use Rattle.std.proofs.Common.{Some, ap, ◌∙◌, subst}
+use Rattle.std.proofs.Common.{Some, refl, ap, ◌∙◌, subst}
 use Rattle.trips_isa.specs.declared.block.Image.{Image}
+use Rattle.trips_isa.specs.Machine.{start}
 use Rattle.grid_machine.specs.Seeds.{IsRan}
 use Rattle.grid_machine.proofs.Starts.{seed_start, started_going}
 use Rattle.grid_machine.specs.Endings.{is_going}
@@ -9,11 +10,10 @@ use Rattle.grid_cycle.proofs.seeded.run_image.Goals as goal
 pub run_out-requires : goal.run_out-requires
 run_out-requires c =
     let x = c.in_ok-grid.grid in
-    let bytes = c.args.image.bytes in
-    let input = c.args.input.items in record {
+    let s = start c.args.image.bytes c.args.input.items in record {
       goes = ap (λ b. is_going b x.window.window) c.in_ok-grid.ensures.budget
-          ∙ started_going bytes input c.args.seed c.args.budget (grid_of x) c.requires.some
-          (seed_start bytes input c.args.seed c.in_ok-predictor.predictor c.make-2.result (grid_of x)
+          ∙ started_going s c.args.seed c.args.budget (grid_of x) refl c.requires.some
+          (seed_start s c.args.seed c.in_ok-predictor.predictor c.make-2.result (grid_of x)
           c.in_ok-grid.ensures.begun c.in_ok-predictor.ensures c.make-2.ensures);
     }
 
@@ -22,10 +22,11 @@ returns-clause-ran c =
     let x = c.in_ok-grid.grid in
     let bytes = c.args.image.bytes in
     let input = c.args.input.items in
+    let s = start bytes input in
     let ran = c.run_out.result in
     subst (λ bs. IsRan bs bytes input c.args.budget c.args.seed (Some ran.ending) (grid_of ran.grid))
     (ap (λ (i : Image). i.blocks) c.in_ok-grid.ensures.image)
     (subst (λ b. IsRan (blocks_of x) bytes input b c.args.seed (Some ran.ending) (grid_of ran.grid))
     c.in_ok-grid.ensures.budget
-    (c.run_out.ensures.ran bytes input c.args.seed (seed_start bytes input c.args.seed c.in_ok-predictor.predictor
+    (c.run_out.ensures.ran s c.args.seed refl (seed_start s c.args.seed c.in_ok-predictor.predictor
     c.make-2.result (grid_of x) c.in_ok-grid.ensures.begun c.in_ok-predictor.ensures c.make-2.ensures)))

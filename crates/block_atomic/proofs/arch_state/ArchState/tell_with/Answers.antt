@@ -16,7 +16,8 @@ use Rattle.block_atomic.proofs.arch_state.ArchState.tell_with.Goals as goal
 
 pub returns : goal.returns
 returns c = record {
-  tells = subst (λ (m : Held). TellsNext c.args.image.now.blocks m.machine.state c.settle.new.table c.slot_marks.new.marks c.exit.result)
+  tells = subst (λ (m : Held). TellsNext c.args.image.now.blocks m.machine.state c.settle.new.table
+      c.slot_marks.new.marks c.exit.result)
       c.self.view_is
       (slots_told c.args.image.now.blocks c.block-block.result.now inside c.used_slots-used.result c.settle.new.table
       c.settle.new.places c.slot_marks.new.marks

@@ -1,0 +1,34 @@
+use Rattle.std.proofs.Common.{Some, ap, ◌∙◌, subst, length, arith, List}
+use Rattle.trips_isa.specs.declared.block.Image.{Image}
+use Rattle.trips_isa.specs.declared.run.Traced.{Traced}
+use Rattle.grid_machine.specs.Seeds.{IsRanFrom}
+use Rattle.grid_machine.proofs.Starts.{seed_start, started_going}
+use Rattle.grid_machine.specs.Endings.{is_going}
+use Rattle.grid_cycle.specs.Engines.{blocks_of, grid_of}
+use Rattle.grid_cycle.proofs.seeded.resume_image.Goals as goal
+
+pub make_at-requires-clause-spent : goal.make_at-requires-clause-spent
+make_at-requires-clause-spent c =
+    let none = ap (λ (t : List Traced). length t) c.requires.fresh in omega (arith, none)
+
+pub run_out-requires : goal.run_out-requires
+run_out-requires c =
+    let x = c.in_ok-grid.grid in
+    let s = c.args.arch.state in record {
+      goes = ap (λ b. is_going b x.window.window) c.in_ok-grid.ensures.budget
+          ∙ started_going s c.args.seed c.args.budget (grid_of x) c.requires.fresh c.requires.some
+          (seed_start s c.args.seed c.in_ok-predictor.predictor c.make-2.result (grid_of x)
+          c.in_ok-grid.ensures.begun c.in_ok-predictor.ensures c.make-2.ensures);
+    }
+
+pub returns-clause-ran : goal.returns-clause-ran
+returns-clause-ran c =
+    let x = c.in_ok-grid.grid in
+    let s = c.args.arch.state in
+    let ran = c.run_out.result in
+    subst (λ bs. IsRanFrom bs s c.args.budget c.args.seed (Some ran.ending) (grid_of ran.grid))
+    (ap (λ (i : Image). i.blocks) c.in_ok-grid.ensures.image)
+    (subst (λ b. IsRanFrom (blocks_of x) s b c.args.seed (Some ran.ending) (grid_of ran.grid))
+    c.in_ok-grid.ensures.budget
+    (c.run_out.ensures.ran s c.args.seed c.requires.fresh (seed_start s c.args.seed c.in_ok-predictor.predictor
+    c.make-2.result (grid_of x) c.in_ok-grid.ensures.begun c.in_ok-predictor.ensures c.make-2.ensures)))
