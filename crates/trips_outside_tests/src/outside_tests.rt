@@ -168,3 +168,44 @@ fn writes_to_standard_output(rt: HostRuntime) -> Result<(), Fail> {
     assert_eq!(rt; write_all(&mut sink, b"abc"), Ok(()));
     Ok(())
 }
+
+// A writer that takes a byte a call, and of which a signal interrupts every other call.
+#[derive(Drop)]
+struct Interrupted {
+    written: Vec<u8>,
+    is_next: bool,
+}
+
+impl Write for Interrupted {
+    fn write(&mut self, bytes: &[u8]) -> io::Result<usize> {
+        self.is_next = !self.is_next;
+        if self.is_next {
+            return Err(io::Error::from(io::ErrorKind::Interrupted));
+        }
+        match bytes.first() {
+            Some(byte) => {
+                self.written.push(*byte)?;
+                Ok(1)
+            }
+            None => Ok(0),
+        }
+    }
+
+    fn flush(&mut self) -> io::Result<()> {
+        Ok(())
+    }
+}
+
+// An interrupted write is tried again, and a short one goes on.
+#[test]
+fn interrupted_writes_go_on(rt: HostRuntime) -> Result<(), Fail> {
+    let mut writer = Interrupted {
+        written: Vec::new(rt.alloc()),
+        is_next: false,
+    };
+    let mut sink = OutSink::make(&mut writer);
+    assert_eq!(rt; write_all(&mut sink, b"abc"), Ok(()));
+    drop(sink);
+    assert_eq!(rt; writer.written.as_slice(), b"abc".as_slice());
+    Ok(())
+}
