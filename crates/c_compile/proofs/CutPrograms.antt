@@ -30,6 +30,7 @@ use Rattle.hyper_build.specs.inside.Laws.{built_program, plan_of, AreAssigned, A
 use Rattle.hyper_build.specs.inside.Routines.{built}
 use Rattle.hyper_build.specs.inside.Tree.{annotated_all, Routine}
 use Rattle.hyper_build.proofs.Assigned.{gives_assigned}
+use Rattle.loop_unroll.proofs.Programs.{stays_once}
 use Rattle.c_compile_blocks.proofs.FittingPrograms.{programs_fit}
 use Rattle.grid_place.specs.declared.placed.Placing.{Placing}
 use Rattle.c_compile_layout.specs.Emitted.{IsGoodImage}
@@ -128,16 +129,19 @@ module _ (F : Program) (lists : List (List ℕ)) (groups : List (List (List ℕ)
     good = good_image B us F.bytes emitted fits.bytes (data_fits F.bytes frame_limit data_size fits.room)
 
     -- the image of the machine blocks is the compiled one
-    pub is_compiled : KeepsTameRuns F lists → (i : Image) → i ≡ image_of us F.bytes → IsCompiled F p i
-    is_compiled keeps i e = record {
+    pub is_compiled : KeepsTameRuns F lists → (w : ℕ) (i : Image) → i ≡ image_of us F.bytes → IsCompiled F p w i
+    is_compiled keeps w i e = record {
       lists = lists;
       groups = groups;
       assigned = a;
       keeps = keeps;
       cuts = [];
       joins = [];
+      times = [];
+      low = λ k. omega arith;
       left = B;
-      narrows = narrows;
+      narrows = subst (λ (P : List hyper.Block). Narrows P B) (sym (stays_once [] built_blocks (λ k. omega arith)))
+          narrows;
       blocks = us;
       made = made;
       is = e;

@@ -5,3 +5,4 @@ pub mod Images
 pub mod Meant
 pub mod CutPrograms
 pub mod TriedPlans
+pub mod AskedTurns

@@ -9,8 +9,9 @@ use Rattle.c_compile.specs.Images.{MeansText}
 use Rattle.c_compile.specs.Meant.{DoesText}
 
 -- it is the same without the placing, and without what its blocks are
-pub does_text : (text : List ℕ) (p : Placing) (i : Image) → MeansText text p i → DoesText text i
-does_text text p i m = record {
+pub does_text : (text : List ℕ) (p : Placing) (turns : ℕ) (i : Image) → MeansText text p turns i
+    → DoesText text turns i
+does_text text p turns i m = record {
   program = m.program;
   accepted = m.accepted;
   tokens = m.tokens;
@@ -23,6 +24,7 @@ does_text text p i m = record {
 }
 
 -- and each of its blocks is good
-pub good_blocks : (text : List ℕ) (p : Placing) (i : Image) → MeansText text p i → All IsGood i.blocks
-good_blocks text p i m = λ (k : ℕ) (d : Block) lt.
+pub good_blocks : (text : List ℕ) (p : Placing) (turns : ℕ) (i : Image) → MeansText text p turns i
+    → All IsGood i.blocks
+good_blocks text p turns i m = λ (k : ℕ) (d : Block) lt.
     found_good _ (m.bounds.good.fits.each k d lt) (m.bounds.good.good k d lt)

@@ -5,13 +5,14 @@
 
 mod attempts;
 mod compiling;
+mod copies;
 mod law;
 mod lowering;
 mod rooms;
 mod within;
 
 pub use attempts::Tried;
-pub use compiling::compile;
+pub use compiling::{compile, compile_unrolled};
 pub use law::{accepted_texts_keep_meaning, images_mean_texts};
 pub use lowering::lower_text;
 pub use rooms::Count;

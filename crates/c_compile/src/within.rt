@@ -21,7 +21,7 @@ fn tried(alloc: Global, flat: FlatProgram, placing: Placing, room: u8) -> Result
     requires fits { FitsProgram (program_of flat) }
     requires few { 3 + code_blocks_of_all (program_of flat).functions ≤ most_blocks }
     ensures ok { IfOk result (λ t. IfSome t.image (λ i.
-        IsCompiled (program_of flat) placing i)) }
+        IsCompiled (program_of flat) placing 0 i)) }
     ensures few { IfOk result (λ t. t.count.refused ≤ t.count.blocks) }
 {
     let assigned = assign(alloc, flat)?;
@@ -42,7 +42,7 @@ pub fn compile_within(
     room: u8,
 ) -> Result<Tried, Refusal>
     requires short { length text.now < 4_294_967_295 }
-    ensures ok { IfOk result (λ t. IfSome t.image (λ i. IsImageOf text.now placing i)) }
+    ensures ok { IfOk result (λ t. IfSome t.image (λ i. IsImageOf text.now placing 1 i)) }
     ensures few { IfOk result (λ t. t.count.refused ≤ t.count.blocks) }
     ensures err { IfErr result (MayBeRefused text.now) }
 {

@@ -17,7 +17,7 @@ use Rattle.hyper_narrow.specs.inside.NarrowedCode.{Narrowed}
 use Rattle.predication.specs.inside.Ifs.{items, join, touched}
 use Rattle.predication.specs.inside.Converted.{begun, ended, predicated}
 use Rattle.predication.proofs.Ops.{op_form}
-use Rattle.predication.proofs.Untaken.{load_form, store_form}
+use Rattle.predication.proofs.EmittedIfs.{load_form, store_form}
 use Rattle.c_compile_laws.specs.inside.GuardLaws.{ConvertsGuarded}
 use Rattle.c_compile_blocks.specs.inside.Guarded.{has_sense, sensed_nodes}
 use Rattle.c_compile_laws.proofs.NodeCounts.{sensed_append, own_counts, sensed_fewer}

@@ -15,7 +15,7 @@ use Rattle.c_compile_laws.specs.inside.GuardLaws.{AreGuarded}
 use Rattle.c_compile_laws.proofs.Compiled.{blocks_pass}
 use Rattle.c_compile_laws.proofs.Machines.{machines}
 use Rattle.c_compile_laws.proofs.GuardPrograms.{programs}
-use Rattle.c_compile_laws.proofs.TrimmedPrograms.{trimmed_ifs}
+use Rattle.c_compile_laws.proofs.UnrolledPrograms.{unrolled_ifs}
 use Rattle.c_compile_blocks.specs.inside.Blocks.{AreMachineBlocks}
 use Rattle.c_compile_laws.specs.inside.Laws.{GuardsSmallIfs}
 
@@ -32,9 +32,9 @@ are_guarded p B us all fit = record {
 
 -- the image has at least as many guarded instructions other than branches as the flat program has small ifs
 pub guards_small_ifs : GuardsSmallIfs
-guards_small_ifs P F t p i m c =
-    let pass = blocks_pass P F t p i m c in
+guards_small_ifs P F t p w i m c =
+    let pass = blocks_pass P F t p w i m c in
     let g = are_guarded p c.left c.blocks c.made (λ k x e. pass.fit k x e) in
-    let x = trimmed_ifs (plan_of c.cuts c.joins c.groups) F c.left c.narrows in
+    let x = unrolled_ifs c.times (plan_of c.cuts c.joins c.groups) F c.left c.narrows in
     let y = programs (chunk_of c.blocks) 0 c.left c.blocks g in
     subst (λ (j : Image). small_ifs_of_all F.functions ≤ guarded_in j.blocks) (sym c.is) (omega (arith, x, y))

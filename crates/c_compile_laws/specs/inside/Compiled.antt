@@ -13,6 +13,8 @@ use Rattle.flat_lower.specs.inside.Keeps.{Keeps}
 use Rattle.reg_assign.specs.inside.Keeps.{KeepsTameRuns}
 use Rattle.hyper_narrow.specs.inside.NarrowedCode.{Narrowed}
 use Rattle.hyper_build.specs.inside.Laws.{built_program, plan_of, AreAssigned}
+use Rattle.loop_unroll.specs.inside.Unrolled.{unrolled}
+use Rattle.loop_unroll.specs.inside.Laws.{AsksAtMost}
 use Rattle.grid_place.specs.declared.placed.Placing.{Placing}
 use Rattle.c_compile_layout.specs.inside.Emitted.{image_of}
 use Rattle.c_compile_blocks.specs.inside.Blocks.{AreMachineBlocks}
@@ -34,8 +36,9 @@ pub record FlatMeans (P : TypedProgram) (F : Program) (t : ℕ) : Type 0 where
   pub blocks : code_blocks_of_all F.functions ≤ 12 * t
 
 -- i is the image that the passes make of F: its calls keep what must be kept, its blocks end and its ifs are joined
--- where the answers of some plan say, they are trimmed and narrowed, and each stands in the slots that a placing says
-pub record IsCompiled (F : Program) (p : Placing) (i : Image) : Type 0 where
+-- where the answers of some plan say, a self loop does as many turns in its block as some list asks for, at most w
+-- besides one, the blocks are trimmed and narrowed, and each stands in the slots that a placing says
+pub record IsCompiled (F : Program) (p : Placing) (w : ℕ) (i : Image) : Type 0 where
   -- the variables that each call keeps, and their groups
   pub lists : List (List ℕ)
   pub groups : List (List (List ℕ))
@@ -46,10 +49,13 @@ pub record IsCompiled (F : Program) (p : Placing) (i : Image) : Type 0 where
   -- where its blocks end, and which ifs are items of their block
   pub cuts : List Bool
   pub joins : List Bool
-  -- what is left of the blocks that are built so, with what outlasts each
+  -- how many turns each self loop does in one block
+  pub times : List ℕ
+  pub low : AsksAtMost w times
+  -- what is left of the blocks that are built and unrolled so, with what outlasts each
   pub left : List Narrowed
   -- they do the same, block by block
-  pub narrows : Narrows (built_program (plan_of cuts joins groups) F) left
+  pub narrows : Narrows (unrolled times (built_program (plan_of cuts joins groups) F)) left
   -- with labels in the place of addresses
   pub blocks : List Block
   -- each is what the passes make of its narrowed block

@@ -1,6 +1,6 @@
 use Rattle.std.proofs.Common.{◌≡◌, ℕ, List, subst, sym, ap, ◌∙◌}
 use Rattle.std.specs.List.{All}
-use Rattle.std.specs.Prelude.{Option, IfSome}
+use Rattle.std.specs.Prelude.{Result, IfOk, ◌-◌}
 use Rattle.std.proofs.lemmas.Result.{IfOk-weaker}
 use Rattle.trips_isa.specs.declared.block.Image.{Image}
 use Rattle.trips_isa.specs.Images.{FitsImage}
@@ -9,7 +9,9 @@ use Rattle.ir_forms.specs.inside.FlatViews.{program_of}
 use Rattle.hyper_narrow.specs.inside.NarrowedViews.{narrowed_blocks}
 use Rattle.c_compile_layout.specs.inside.Emitted.{image_of}
 use Rattle.c_compile_laws.specs.inside.Compiled.{IsCompiled}
-use Rattle.c_compile.proofs.TriedPlans.{some_weaker, followed, low, checked, is_compiled}
+use Rattle.c_compile.specs.declared.attempts.Lacking.{Lacking}
+use Rattle.c_compile.proofs.AskedTurns.{asks_at_most}
+use Rattle.c_compile.proofs.TriedPlans.{followed, low, checked, is_compiled}
 use Rattle.c_compile.proofs.attempts.attempt.Goals as goal
 
 pub machine_blocks-requires : goal.machine_blocks-requires
@@ -17,18 +19,20 @@ machine_blocks-requires c =
     let g = c.args.assigned.now in
     record {
       followed = followed (program_of g.flat) g.live g.groups c.requires.fits c.requires.assigned c.requires.few
-          c.args.plan.now.cuts c.args.plan.now.joins (narrowed_blocks c.args.program.now) c.requires.narrows;
+          c.args.plan.now.cuts c.args.plan.now.joins c.args.times.now
+          (narrowed_blocks c.args.program.now) c.requires.narrows;
       few = low (program_of g.flat) g.live g.groups c.requires.fits c.requires.assigned c.requires.few
-          c.args.plan.now.cuts c.args.plan.now.joins (narrowed_blocks c.args.program.now) c.requires.narrows;
+          c.args.plan.now.cuts c.args.plan.now.joins c.args.times.now
+          (narrowed_blocks c.args.program.now) c.requires.narrows;
     }
 
-pub image_or_none-requires : goal.image_or_none-requires
-image_or_none-requires c =
+pub image_or_bad-requires : goal.image_or_bad-requires
+image_or_bad-requires c =
     let g = c.args.assigned.now in
     let us = c.in-Ok.blocks in
     let ready = checked (program_of g.flat) g.live g.groups c.requires.fits c.requires.assigned c.requires.few
-    c.args.plan.now.cuts c.args.plan.now.joins (narrowed_blocks c.args.program.now) c.requires.narrows
-    c.args.placing us c.in-Ok.ensures.ok in
+    c.args.plan.now.cuts c.args.plan.now.joins c.args.times.now (narrowed_blocks c.args.program.now)
+    c.requires.narrows c.args.placing us c.in-Ok.ensures.ok in
     record {
       sizes = ready.sizes;
       few = ready.few;
@@ -42,12 +46,14 @@ returns-in-Ok c =
     let now = c.as_slice.result.now in
     let e = c.as_slice.ensures.value in
     let Good : Image → Type 0 = λ i. (i ≡ image_of us now) × All GoodBlock (image_of us now).blocks in
-    let Made : Image → Type 0 = λ i. IsCompiled (program_of g.flat) c.args.placing i in
-    IfOk-weaker c.image_or_none.result (λ (o : Option Image). IfSome o Good) (λ (o : Option Image). IfSome o Made)
-    (λ (o : Option Image) h. some_weaker Good Made o
+    let Made : Image → Type 0 = λ i. IsCompiled (program_of g.flat) c.args.placing (c.args.copies - 1) i in
+    IfOk-weaker c.image_or_bad.result (λ (o : Result Image Lacking). IfOk o Good)
+    (λ (o : Result Image Lacking). IfOk o Made)
+    (λ (o : Result Image Lacking) h. IfOk-weaker o Good Made
     (λ i h. is_compiled (program_of g.flat) g.live g.groups c.requires.fits c.requires.assigned c.requires.few
-    c.args.plan.now.cuts c.args.plan.now.joins (narrowed_blocks c.args.program.now) c.requires.narrows
-    c.args.placing us c.in-Ok.ensures.ok c.requires.keeps i
+    c.args.plan.now.cuts c.args.plan.now.joins c.args.times.now (narrowed_blocks c.args.program.now)
+    c.requires.narrows c.args.placing us c.in-Ok.ensures.ok c.requires.keeps (c.args.copies - 1)
+    (asks_at_most c.args.times.now c.args.copies c.requires.low) i
     (h.0 ∙ ap (λ (bs : List ℕ). image_of us bs) e)
     (subst (λ (bs : List ℕ). All GoodBlock (image_of us bs).blocks) e h.1)) h)
-    c.image_or_none.ensures
+    c.image_or_bad.ensures

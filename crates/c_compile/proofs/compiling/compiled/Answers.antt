@@ -1,4 +1,4 @@
-use Rattle.std.proofs.Common.{subst}
+use Rattle.std.proofs.Common.{subst, ◌-◌}
 use Rattle.std.proofs.lemmas.Result.{IfOk-weaker}
 use Rattle.trips_isa.specs.declared.block.Image.{Image}
 use Rattle.ir_forms.specs.declared.flat.FlatProgram.{FlatProgram}
@@ -17,13 +17,15 @@ assigned_image-requires c =
           c.in_ok-assigned.ensures.cut c.in_ok-assigned.ensures.few;
       few = few_given c.args.flat g.flat e c.requires.few;
       keeps = c.in_ok-assigned.ensures.meaning;
+      some = c.requires.some;
     }
 
 pub returns : goal.returns
 returns c =
     let g = c.in_ok-assigned.assigned in
     let p = c.args.placing in
-    IfOk-weaker c.assigned_image.result (λ (i : Image). IsCompiled (program_of g.flat) p i)
-    (λ (i : Image). IsCompiled (program_of c.args.flat) p i)
-    (λ i h. subst (λ (f : FlatProgram). IsCompiled (program_of f) p i) c.in_ok-assigned.ensures.flat h)
+    IfOk-weaker c.assigned_image.result (λ (i : Image). IsCompiled (program_of g.flat) p (c.args.copies - 1) i)
+    (λ (i : Image). IsCompiled (program_of c.args.flat) p (c.args.copies - 1) i)
+    (λ i h. subst (λ (f : FlatProgram). IsCompiled (program_of f) p (c.args.copies - 1) i)
+    c.in_ok-assigned.ensures.flat h)
     c.assigned_image.ensures

@@ -1,4 +1,4 @@
-use Rattle.std.proofs.Common.{◌≡◌, subst, sym, ap, ◌∙◌, List, ℕ}
+use Rattle.std.proofs.Common.{◌≡◌, ◌-◌, subst, sym, ap, ◌∙◌, List, ℕ}
 use Rattle.std.proofs.lemmas.Result.{IfOk-weaker}
 use Rattle.trips_isa.specs.declared.block.Image.{Image}
 use Rattle.ir_forms.specs.inside.FlatViews.{program_of}
@@ -31,8 +31,8 @@ returns c =
     let p = c.args.placing in
     let us = c.in_ok-blocks.blocks in
     IfOk-weaker c.checked_image.result (λ (i : Image). i ≡ image_of us c.as_slice.result.now)
-    (λ (i : Image). IsCompiled F p i)
+    (λ (i : Image). IsCompiled F p (c.args.copies - 1) i)
     (λ i is. is_compiled F g.live g.groups c.requires.fits c.requires.assigned c.requires.few p us
-    c.in_ok-blocks.ensures c.requires.keeps i
+    c.in_ok-blocks.ensures c.requires.keeps (c.args.copies - 1) i
     (is ∙ ap (λ (bs : List ℕ). image_of us bs) c.as_slice.ensures.value))
     c.checked_image.ensures

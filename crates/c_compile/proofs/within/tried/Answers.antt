@@ -26,8 +26,8 @@ returns-clause-ok c =
     let g = c.in_ok-assigned.assigned in
     let p = c.args.placing in
     IfOk-weaker c.image_within.result
-    (λ (t : Tried). IfSome t.image (λ (i : Image). IsCompiled (program_of g.flat) p i))
-    (λ (t : Tried). IfSome t.image (λ (i : Image). IsCompiled (program_of c.args.flat) p i))
-    (λ t h. subst (λ (f : FlatProgram). IfSome t.image (λ (i : Image). IsCompiled (program_of f) p i))
+    (λ (t : Tried). IfSome t.image (λ (i : Image). IsCompiled (program_of g.flat) p 0 i))
+    (λ (t : Tried). IfSome t.image (λ (i : Image). IsCompiled (program_of c.args.flat) p 0 i))
+    (λ t h. subst (λ (f : FlatProgram). IfSome t.image (λ (i : Image). IsCompiled (program_of f) p 0 i))
     c.in_ok-assigned.ensures.flat h)
     c.image_within.ensures.ok

@@ -2,7 +2,7 @@ use Rattle.std.proofs.Common.{subst, sym, ◌∙◌}
 use Rattle.trips_isa.specs.Images.{FitsImage}
 use Rattle.c_compile_layout.specs.inside.Emitted.{image_of}
 use Rattle.c_compile.proofs.TriedPlans.{all_good}
-use Rattle.c_compile.proofs.attempts.image_or_none.Goals as goal
+use Rattle.c_compile.proofs.attempts.image_or_bad.Goals as goal
 
 pub make-requires : goal.make-requires
 make-requires c = record { fits = subst FitsImage (sym c.in_ok-image.ensures.ok) c.requires.fits }
