@@ -204,8 +204,13 @@ judge_said() {
   for name in "${!said[@]}"; do
     [ "${takes[$name]-}" != N ] || judge_number "${said[$name]}" "$name" || return
   done
-  case $command${said[--place]+y}${said[file]} in
-    runy*.img | runy*.tasl | compiley*.img | compiley*.tasl) wrong "--place is said of C alone" ;;
+  for name in --place --unroll; do
+    case $command${said[$name]+y}${said[file]} in
+      runy*.img | runy*.tasl | compiley*.img | compiley*.tasl) wrong "$name is said of C alone" || return ;;
+    esac
+  done
+  case $command/${said[file]} in
+    explain/*.img | explain/*.tasl) wrong "explain wants a text of C, and not $(shown "${said[file]}")" ;;
   esac
 }
 
@@ -229,14 +234,14 @@ judge() {
 
 # Whether a file can be read, as far as it can be told without opening it.
 is_readable() {
-  if [ -d "$1" ]; then
+  if [ "$1" = - ]; then
+    return 0
+  elif [ -d "$1" ]; then
     wrong "$(shown "$1"): a folder is no file"
   elif [ -r "$1" ]; then
     return 0
   elif [ -e "$1" ]; then
     wrong "$(shown "$1"): it may not be read"
-  elif [ "$1" = - ]; then
-    wrong "-: there is no such file; standard input is /dev/stdin"
   else
     wrong "$(shown "$1"): there is no such file"
   fi
@@ -246,6 +251,6 @@ is_readable() {
 judge_files() {
   [ "$command" != bench ] || return 0
   is_readable "${said[file]}" || return
-  [ -n "${said[--input]+y}" ] && [ -f "${said[file]}" ] || return 0
+  [ -n "${said[--input]+y}" ] && [ "${said[file]}" != - ] && [ -f "${said[file]}" ] || return 0
   [ "$(stat -L -c %s -- "${said[file]}")" -gt "$most_source" ] || is_readable "${said[--input]}"
 }

@@ -49,8 +49,9 @@ use Rattle.trips_answers.specs.Ended.{ResultMeans}
 use Rattle.trips_answers.proofs.Results.{signed_number}
 
 -- an image of a text has a block
-pub has_blocks : (text : List ℕ) (p : Placing) (i : Image) → IsImageOf text p i → 0 < length i.blocks
-has_blocks text p i is = let good = (images_mean text p i is).bounds.good in omega (arith, good.fits.some)
+pub has_blocks : (text : List ℕ) (p : Placing) (turns : ℕ) (i : Image) → IsImageOf text p turns i
+    → 0 < length i.blocks
+has_blocks text p turns i is = let good = (images_mean text p turns i is).bounds.good in omega (arith, good.fits.some)
 
 -- REPORTS
 
@@ -88,8 +89,8 @@ full r output h =
 module _ (settings : Settings) (n : ℕ) (text input : List ℕ) (program : TypedProgram) (s : Status)
     (report : List ℕ) (run : IsRunOfText settings text input s report)
     (accepted : IsAccepted text program) (enough : 16 * n + 16 ≤ settings.most) where
-  means : MeansText text settings.placing run.0
-  means = images_mean text settings.placing run.0 run.1
+  means : MeansText text settings.placing settings.unroll run.0
+  means = images_mean text settings.placing settings.unroll run.0 run.1
 
   same : means.program ≡ program
   same = accepted_once text means.program program means.accepted accepted
@@ -97,8 +98,8 @@ module _ (settings : Settings) (n : ℕ) (text input : List ℕ) (program : Type
   -- where the evaluation is done within n steps
   finished_run : (output : List ℕ) (value : ℤ) (steps : ℕ)
       → eval program input n ≡ Done output value steps → HasEnded output value (run_of run.0 input settings.most)
-  finished_run output value steps done = grid.done text input settings.placing run.0 program settings.most n accepted
-      means run.2 output value steps done enough
+  finished_run output value steps done = grid.done text input settings.placing settings.unroll run.0 program
+      settings.most n accepted means run.2 output value steps done enough
 
   finished_status : (output : List ℕ) (value : ℤ) (steps : ℕ)
       → eval program input n ≡ Done output value steps → s ≡ status.Ended
@@ -136,8 +137,8 @@ module _ (settings : Settings) (n : ℕ) (text input : List ℕ) (program : Type
       let cost : h.counts.cycles ≤ cost_of run.0.blocks r.0.trace =
       subst (λ (c : Counts). c.cycles ≤ cost_of run.0.blocks r.0.trace) run.3.1.counted
       (run.3.1.within (ap is_trap e)) in
-      runs.seed_as_meant text input settings.placing run.0 means settings.most settings.seed ending.Ended h ran n
-      program output value steps accepted run.2 done enough
+      runs.seed_as_meant text input settings.placing settings.unroll run.0 means settings.most settings.seed
+      ending.Ended h ran n program output value steps accepted run.2 done enough
       (subst (λ (t : State). h.counts.cycles ≤ cost_of run.0.blocks t.trace) (sym came.state) cost)
 
   -- where nothing is to be shown, the report of such a run tells the value alone
@@ -228,7 +229,7 @@ pub run_ends_as : (held : List ℕ → Option (List ℕ)) (q : Request) (text in
     (report : List ℕ) → Holds (origin_held held q.origin) text → HoldsInput q.input held input
     → IsRunOfText (settings_of q) text input s report → RunEndsAs held q s
 run_ends_as held q text input s report holds holds_input run =
-    let m : MeansText text q.placing run.0 = images_mean text q.placing run.0 run.1 in
+    let m : MeansText text q.placing q.unroll run.0 = images_mean text q.placing q.unroll run.0 run.1 in
     let r : State × Stepped = run_of run.0 input q.most in
     record {
       text = text;
@@ -268,7 +269,7 @@ pub result_means : (held : List ℕ → Option (List ℕ)) (q : Request) (text i
     → HoldsInput q.input held input → IsRunOfText (settings_of q) text input s report → s ≡ status.Ended
     → Appended old new report → ResultMeans held q s old new
 result_means held q text input s report old new holds holds_input run ended written =
-    let m : MeansText text q.placing run.0 = images_mean text q.placing run.0 run.1 in
+    let m : MeansText text q.placing q.unroll run.0 = images_mean text q.placing q.unroll run.0 run.1 in
     let r : State × Stepped = run_of run.0 input q.most in
     let is : r.1 ≡ stepped.Ended = end_of r.1 r.0.next (sym run.3.2.0 ∙ ended) in
     let e : ending_of r.1 r.0.next ≡ ending.Ended = ap (λ (a : Stepped). ending_of a r.0.next) is in
@@ -288,6 +289,6 @@ result_means held q text input s report old new holds holds_input run ended writ
       output = r.0.output;
       digits = signed (slice_index r.0.registers 3);
       reported = (run.3.0, run.3.1, ended, subst (Appended old new) told written);
-      means = λ n. tells r (n ≤ length m.tokens * (q.most + 1)) (eval m.program input n)
-          (grid.agrees text input q.placing run.0 m.program q.most n m.accepted m run.2 is);
+      means = λ n. tells r (n ≤ q.unroll * length m.tokens * (q.most + 1)) (eval m.program input n)
+          (grid.agrees text input q.placing q.unroll run.0 m.program q.most n m.accepted m run.2 is);
     }

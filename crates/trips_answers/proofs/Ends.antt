@@ -6,9 +6,9 @@ use Rattle.trips_isa.specs.declared.block.Block.{Block}
 use Rattle.trips_isa.specs.declared.run.Ending.{Ending}
 use Rattle.trips_isa.specs.declared.run.Ending.TheVariants as ending
 use Rattle.trips_isa.specs.Machine.{runs, start}
-use Rattle.trips_requests.specs.declared.commands.Command.{Command as Work}
-use Rattle.trips_requests.specs.declared.commands.Command.TheVariants.{Run, Evaluate, Compile}
-use Rattle.trips_requests.specs.declared.commands.Command.TheVariants.{Assemble, Disassemble, Check}
+use Rattle.trips_answers.specs.Work.{Work}
+use Rattle.trips_answers.specs.Work.{Run, Evaluate, Compile}
+use Rattle.trips_answers.specs.Work.{Assemble, Disassemble, Check, Explain}
 use Rattle.trips_answers.specs.declared.forms.FileForm.{FileForm}
 use Rattle.trips_answers.specs.declared.forms.FileForm.TheVariants as form
 use Rattle.trips_answers.specs.declared.forms.Settings.{Settings}
@@ -133,6 +133,7 @@ is_evaluation Compile how settings bytes input s report run e = absurd (not_made
 is_evaluation Assemble how settings bytes input s report run e = absurd (not_made s run.1 e)
 is_evaluation Disassemble how settings bytes input s report run e = absurd (not_made s run.1 e)
 is_evaluation Check how settings bytes input s report run e = absurd (not_made s run.1 e)
+is_evaluation (Explain file) how settings bytes input s report run e = absurd (not_made s run.1 e)
 
 -- where what C leaves undefined is answered, an evaluation ended so
 pub undefined_row : (request : Option Request) (held : List ℕ → Option (List ℕ)) (rose : Type 0)

@@ -15,9 +15,9 @@ use Rattle.block_check.specs.declared.fault.CheckFault.{CheckFault}
 use Rattle.block_check.specs.Faults.{IsGood}
 use Rattle.block_check.specs.Images.{IsFirstBad}
 use Rattle.trips_report.specs.declared.show.Show.{Show}
-use Rattle.trips_requests.specs.declared.commands.Command.{Command as Work}
-use Rattle.trips_requests.specs.declared.commands.Command.TheVariants.{Run, Evaluate, Compile}
-use Rattle.trips_requests.specs.declared.commands.Command.TheVariants.{Assemble, Disassemble, Check}
+use Rattle.trips_answers.specs.Work.{Work}
+use Rattle.trips_answers.specs.Work.{Run, Evaluate, Compile}
+use Rattle.trips_answers.specs.Work.{Assemble, Disassemble, Check, Explain}
 use Rattle.block_image.specs.Spelling.{spelling}
 use Rattle.target_asm_spec.specs.Text.{TargetText}
 use Rattle.target_asm_spec.specs.Text as asm
@@ -42,6 +42,8 @@ use Rattle.trips_eval_answers.specs.Refusals.{front_refusal}
 use Rattle.trips_answers.specs.Refused.{IsBadText, IsRefusedAs}
 use Rattle.trips_tools.specs.ToolAnswers.{IsNoImage, IsBadImage, IsNoText}
 use Rattle.trips_eval_answers.specs.Evaluation.{IsRefusedByFront, IsEvaluation}
+use Rattle.trips_explain_answers.specs.Explained.{IsAcceptedTold}
+use Rattle.trips_explain_answers.proofs.Once.{accepted_told_once, not_both_told, refusal_told_once}
 use Rattle.trips_answers.specs.Worked.{IsRunBy, IsRunOfText, IsCompiled, IsWorked, IsDone}
 use Rattle.trips_answers.specs.Done.{CanBeDone}
 use Rattle.trips_answers.specs.Answer.{IsAnswerBehind, IsAnswer}
@@ -99,6 +101,8 @@ not_worked Disassemble how settings bytes input s report out bad run =
     decoded.not_both run.0.0 bytes bad.0 run.0.2 bad.1
 not_worked Check how settings bytes input s report out bad run =
     image_not_refused bytes out run.0.0 run.0.1 run.0.2 bad
+not_worked (Explain file) how settings bytes input s report out bad run =
+    not_both_told file bytes report out run.0 bad
 
 -- nor can the work be done with them
 pub refused_cannot : (work : Work) (how : FileForm) (bytes out : List ℕ) → IsRefusedAs work how bytes out
@@ -111,10 +115,11 @@ refused_cannot Compile how bytes out bad can = not_both bytes can.0 bad.0 can.1 
 refused_cannot Assemble how bytes out bad can = faults.not_both can.1.0 bytes bad.0 can.1.1 bad.1
 refused_cannot Disassemble how bytes out bad can = decoded.not_both can.1.0 bytes bad.0 can.1.2 bad.1
 refused_cannot Check how bytes out bad can = image_not_refused bytes out can.1.0 can.1.1 can.1.2 bad
+refused_cannot (Explain file) how bytes out bad can = not_both bytes can.0 bad.0 can.1 bad.1
 
 front_once : (text a b : List ℕ) → IsRefusedByFront text a → IsRefusedByFront text b → a ≡ b
 front_once text a b x y =
-    x.2 ∙ ap front_refusal (refused_once text x.0 y.0 x.1 y.1) ∙ sym y.2
+    x.2 ∙ ap (front_refusal text) (refused_once text x.0 y.0 x.1 y.1) ∙ sym y.2
 
 bad_once : (bytes a b : List ℕ) → IsBadImage bytes a → IsBadImage bytes b → a ≡ b
 bad_once bytes a b x y =
@@ -164,6 +169,7 @@ refusal_once Compile how bytes a b x y = front_once bytes a b x y
 refusal_once Assemble how bytes a b x y = no_text_once bytes a b x y
 refusal_once Disassemble how bytes a b x y = no_image_once bytes a b x y
 refusal_once Check how bytes a b x y = image_once bytes a b x y
+refusal_once (Explain file) how bytes a b x y = refusal_told_once file bytes a b x y
 
 -- what is done with bytes that are refused
 pub refused_exact : (work : Work) (how : FileForm) (settings : Settings) (bytes input : List ℕ)
@@ -183,6 +189,15 @@ eval_exact how settings text input s report program (inl x) is =
 eval_exact how settings text input s report program (inr run) is =
     subst (λ (p : TypedProgram). IsEvaluation p input settings.most s report)
     (accepted_once text run.0 program run.1 is) run.2
+
+-- with an accepted text under `explain`
+pub explained_exact : (file : List ℕ) (how : FileForm) (settings : Settings) (text input : List ℕ) (s : Status)
+    (report told : List ℕ) → IsDone (Explain file) how settings text input s report
+    → IsAcceptedTold file text told → (s ≡ status.Ended) × (report ≡ told)
+explained_exact file how settings text input s report told (inl x) is =
+    absurd (not_both_told file text told x.0 is x.1)
+explained_exact file how settings text input s report told (inr run) is =
+    (run.1, accepted_told_once file text report told run.0 is)
 
 -- with an image of good blocks under `run`
 pub image_exact : (settings : Settings) (bytes input : List ℕ) (s : Status) (report : List ℕ)
@@ -215,7 +230,7 @@ target_exact settings text input s report image (inr run) spelled good =
 -- with an accepted text under `compile`
 pub compiled_exact : (how : FileForm) (settings : Settings) (text input : List ℕ) (s : Status)
     (report : List ℕ) (program : TypedProgram) → IsDone Compile how settings text input s report
-    → IsAccepted text program → IsCompiled settings.placing text s report
+    → IsAccepted text program → IsCompiled settings.placing settings.unroll text s report
 compiled_exact how settings text input s report program (inl x) is =
     absurd (not_both text program x.1.0 is x.1.1)
 compiled_exact how settings text input s report program (inr run) is = run

@@ -18,20 +18,20 @@ use Rattle.trips_answers.specs.inside.Laws.{TellsDeep, TellsDone}
 use Rattle.trips_answers.proofs.Compiled.{ended, full}
 
 -- an evaluation of the text's program is one of the program that the image means
-as_here : (text input : List ℕ) (image : Image) (program : TypedProgram) (n : ℕ) (o : Outcome)
-    → (does : DoesText text image) → IsAccepted text program → eval program input n ≡ o
+as_here : (text input : List ℕ) (turns : ℕ) (image : Image) (program : TypedProgram) (n : ℕ) (o : Outcome)
+    → (does : DoesText text turns image) → IsAccepted text program → eval program input n ≡ o
     → eval does.program input n ≡ o
-as_here text input image program n o does accepted e =
+as_here text input turns image program n o does accepted e =
     ap (λ (p : TypedProgram). eval p input n) (accepted_once text does.program program does.accepted accepted) ∙ e
 
 -- where the evaluation is done, its output and its result are told
 pub tells_done : TellsDone
-tells_done text input output image program value most n steps show s report does accepted bytes e enough told =
+tells_done text input output turns image program value most n steps show s report does accepted bytes e enough told =
     let r : State × Stepped = run_of image input most in
     let h : HasEnded output value r =
     settled (run_of image input) (16 * n + 6) most (HasEnded output value)
     (does.finished input bytes n output value steps
-    (as_here text input image program n (Done output value steps) does accepted e)) (omega (arith, enough)) in (
+    (as_here text input turns image program n (Done output value steps) does accepted e)) (omega (arith, enough)) in (
       told.2.0 ∙ ap (λ (x : Stepped). status_of (ending_of x r.0.next)) h.answer,
       told.2.1 ∙ ap (λ (t : List ℕ). shown_behind t r.0 told.0 (cost_of image.blocks r.0.trace) show)
           (ended r output value h),
@@ -39,11 +39,11 @@ tells_done text input output image program value most n steps show s report does
 
 -- where it is too deep, a full stack is told, with the output so far
 pub tells_deep : TellsDeep
-tells_deep text input output image program most n show s report does accepted bytes e enough told =
+tells_deep text input output turns image program most n show s report does accepted bytes e enough told =
     let r : State × Stepped = run_of image input most in
     let h : IsFull output r =
     settled (run_of image input) (16 * n + 6) most (IsFull output)
-    (does.deep input bytes n output (as_here text input image program n (Stopped Deep output) does accepted e))
+    (does.deep input bytes n output (as_here text input turns image program n (Stopped Deep output) does accepted e))
     (omega (arith, enough)) in (
       told.2.0 ∙ ap (λ (x : Stepped). status_of (ending_of x r.0.next)) h.answer,
       told.2.1 ∙ ap (λ (t : List ℕ). shown_behind t r.0 told.0 (cost_of image.blocks r.0.trace) show)

@@ -16,9 +16,9 @@ use Rattle.c_compile.proofs.Meant.{does_text, good_blocks}
 use Rattle.grid_cycle_spec.specs.Costs.{cost_in, cost_of}
 use Rattle.grid_machine.specs.Answered.{ComesTo}
 use Rattle.grid_cycle.specs.Traps.{is_trap}
-use Rattle.trips_requests.specs.declared.commands.Command.{Command as Work}
-use Rattle.trips_requests.specs.declared.commands.Command.TheVariants.{Run, Evaluate, Compile}
-use Rattle.trips_requests.specs.declared.commands.Command.TheVariants.{Assemble, Disassemble, Check}
+use Rattle.trips_answers.specs.Work.{Work}
+use Rattle.trips_answers.specs.Work.{Run, Evaluate, Compile}
+use Rattle.trips_answers.specs.Work.{Assemble, Disassemble, Check, Explain}
 use Rattle.trips_requests.specs.declared.loading.Loaded.{Loaded}
 use Rattle.trips_requests.specs.declared.loading.Loaded.TheVariants.{Fault, TooLarge, Bytes}
 use Rattle.trips_requests.specs.declared.status.Status.{Status}
@@ -117,11 +117,12 @@ reported_tells image input settings s old new told =
 -- work that was done, said of texts, images and the machine
 does_work : (work : Work) (how : FileForm) (settings : Settings) (bytes input : List ℕ) (s : Status)
     (report : List ℕ) → IsWorked work how settings bytes input s report
-    → DoesWork work how settings.most settings.show bytes input s report
+    → DoesWork work how settings.unroll settings.most settings.show bytes input s report
 does_work Evaluate how settings bytes input s report run = run
 does_work Run form.Source settings bytes input s report run = (
   run.0,
-  does_text bytes settings.placing run.0 (images_mean bytes settings.placing run.0 run.1),
+  does_text bytes settings.placing settings.unroll run.0
+      (images_mean bytes settings.placing settings.unroll run.0 run.1),
   run.2,
   tells_run run.0 input settings s report run.3,
 )
@@ -130,11 +131,12 @@ does_work Run form.Target settings bytes input s report run =
 does_work Run form.Image settings bytes input s report run =
     (run.0, (run.1, run.2), tells_run run.0 input settings s report run.3)
 does_work Compile how settings bytes input s report run =
-    let means : MeansText bytes settings.placing run.0 = images_mean bytes settings.placing run.0 run.1 in (
+    let means : MeansText bytes settings.placing settings.unroll run.0 =
+    images_mean bytes settings.placing settings.unroll run.0 run.1 in (
       (
         run.0,
-        does_text bytes settings.placing run.0 means,
-        good_blocks bytes settings.placing run.0 means,
+        does_text bytes settings.placing settings.unroll run.0 means,
+        good_blocks bytes settings.placing settings.unroll run.0 means,
         run.2,
       ),
       run.3,
@@ -142,6 +144,7 @@ does_work Compile how settings bytes input s report run =
 does_work Assemble how settings bytes input s report run = run
 does_work Disassemble how settings bytes input s report run = run
 does_work Check how settings bytes input s report run = run
+does_work (Explain file) how settings bytes input s report run = run
 
 -- it could be done
 worked_can : (work : Work) (how : FileForm) (settings : Settings) (bytes input : List ℕ) (s : Status)
@@ -154,6 +157,7 @@ worked_can Compile how settings bytes input s report run = (run.1.lowered.progra
 worked_can Assemble how settings bytes input s report run = (report, run.0)
 worked_can Disassemble how settings bytes input s report run = (report, run.0)
 worked_can Check how settings bytes input s report run = (report, run.0)
+worked_can (Explain file) how settings bytes input s report run = (run.0.0, run.0.1)
 
 -- how a request's work ended
 pub ends_work : (held : List ℕ → Option (List ℕ)) (q : Request) (s : Status) → EndsAs held q s → EndsWork held q s
@@ -182,7 +186,7 @@ result_tells held q s old new m =
       tokens = m.tokens;
       lexed = m.lexed;
       image = m.image;
-      does = does_text m.text q.placing m.image (images_mean m.text q.placing m.image m.made);
+      does = does_text m.text q.placing q.unroll m.image (images_mean m.text q.placing q.unroll m.image m.made);
       output = m.output;
       digits = m.digits;
       counts = m.reported.0;

@@ -8,9 +8,9 @@ use Rattle.c_compile.specs.Meant.{DoesText}
 use Rattle.c_compile.proofs.Images.{images_mean}
 use Rattle.c_compile.proofs.Meant.{does_text, good_blocks}
 use Rattle.trips_report.specs.declared.show.Show.{Show}
-use Rattle.trips_requests.specs.declared.commands.Command.{Command as Work}
-use Rattle.trips_requests.specs.declared.commands.Command.TheVariants.{Run, Evaluate, Compile}
-use Rattle.trips_requests.specs.declared.commands.Command.TheVariants.{Assemble, Disassemble, Check}
+use Rattle.trips_answers.specs.Work.{Work}
+use Rattle.trips_answers.specs.Work.{Run, Evaluate, Compile}
+use Rattle.trips_answers.specs.Work.{Assemble, Disassemble, Check, Explain}
 use Rattle.trips_requests.specs.declared.status.Status.{Status}
 use Rattle.trips_requests.specs.declared.status.Status.TheVariants as status
 use Rattle.trips_requests.specs.Table.{IsOneOf, IsWritten, Reports, Wrote}
@@ -36,13 +36,14 @@ module _ (held : List ℕ → Option (List ℕ)) (rose : Type 0) (old new : Opti
     (cut : Type 0) (q : Option Request) (s : Status) (a : IsAnswered q held rose old new cut s) where
   -- the run of an image that does what the text means
   pub text_run : (most : ℕ) (show : Show) (text input : List ℕ) (program : TypedProgram)
-      → AsksFor q held Run form.Source most show text input → IsAccepted text program
+      → (asks : AsksFor q held Run form.Source most show text input) → IsAccepted text program
       → (rose → ⊥) → (cut → ⊥) → s ≢ status.Memory
-      → (image : Image) × DoesText text image × Wrote old new (TellsRun image input most show s)
+      → (image : Image) × DoesText text asks.q.unroll image × Wrote old new (TellsRun image input most show s)
   text_run most show text input program asks is r c m =
       let run = shown.text_run held rose old new cut q s a most show text input program asks is r c m in (
         run.0,
-        does_text text asks.q.placing run.0 (images_mean text asks.q.placing run.0 run.1),
+        does_text text asks.q.placing asks.q.unroll run.0
+            (images_mean text asks.q.placing asks.q.unroll run.0 run.1),
         reported_tells run.0 input (settings_with asks.q most show) s old new run.2,
       )
 
@@ -60,17 +61,18 @@ module _ (held : List ℕ → Option (List ℕ)) (rose : Type 0) (old new : Opti
 
   -- what is compiled
   pub compiled : (how : FileForm) (most : ℕ) (show : Show) (text input : List ℕ) (program : TypedProgram)
-      → AsksFor q held Compile how most show text input → IsAccepted text program
+      → (asks : AsksFor q held Compile how most show text input) → IsAccepted text program
       → (rose → ⊥) → (cut → ⊥) → s ≢ status.Memory
-      → (bytes : List ℕ) × WritesImage text bytes × Reports s old new status.Ended bytes
+      → (bytes : List ℕ) × WritesImage text asks.q.unroll bytes × Reports s old new status.Ended bytes
   compiled how most show text input program asks is r c m =
       let made = reported.compiled held rose old new cut q s a how most show text input program asks is r c m in
-      let means : MeansText text asks.q.placing made.0 = images_mean text asks.q.placing made.0 made.1 in (
+      let means : MeansText text asks.q.placing asks.q.unroll made.0 =
+      images_mean text asks.q.placing asks.q.unroll made.0 made.1 in (
         made.2,
         (
           made.0,
-          does_text text asks.q.placing made.0 means,
-          good_blocks text asks.q.placing made.0 means,
+          does_text text asks.q.placing asks.q.unroll made.0 means,
+          good_blocks text asks.q.placing asks.q.unroll made.0 means,
           made.3,
         ),
         (made.4, made.5),
@@ -89,6 +91,8 @@ module _ (held : List ℕ → Option (List ℕ)) (rose : Type 0) (old new : Opti
       reported.disassembled held rose old new cut q s a how most show bytes input out asks is r c m
   made Check how most show bytes input out asks is r c m =
       reported.checked held rose old new cut q s a how most show bytes input out asks is r c m
+  made (Explain file) how most show bytes input out asks is r c m =
+      reported.explained held rose old new cut q s a file how most show bytes input out asks is r c m
 
   -- what is too large
   pub too_large : (x : Request) → q ≡ Some x → IsTooLarge x held → (rose → ⊥) → (cut → ⊥) → s ≢ status.Memory

@@ -14,9 +14,9 @@ use Rattle.block_check.specs.Faults.{IsGood}
 use Rattle.grid_cycle_spec.specs.Costs.{cost_of}
 use Rattle.trips_report.specs.declared.show.Show.{Show}
 use Rattle.trips_tools.specs.Tools.{IsOneImage, IsGoodImage}
-use Rattle.trips_requests.specs.declared.commands.Command.{Command as Work}
-use Rattle.trips_requests.specs.declared.commands.Command.TheVariants.{Run, Evaluate, Compile}
-use Rattle.trips_requests.specs.declared.commands.Command.TheVariants.{Assemble, Disassemble, Check}
+use Rattle.trips_answers.specs.Work.{Work}
+use Rattle.trips_answers.specs.Work.{Run, Evaluate, Compile}
+use Rattle.trips_answers.specs.Work.{Assemble, Disassemble, Check, Explain}
 use Rattle.trips_answers.specs.declared.forms.FileForm.{FileForm}
 use Rattle.trips_answers.specs.declared.forms.FileForm.TheVariants as form
 use Rattle.trips_requests.specs.declared.status.Status.{Status}
@@ -35,6 +35,8 @@ use Rattle.trips_answers.specs.Causes.{HasLargeFile, HasLargeInput}
 use Rattle.trips_answers.proofs.Exact.{complete, large_file, large_input, refused_exact, eval_exact}
 use Rattle.trips_answers.proofs.Exact.{image_exact, text_exact}
 use Rattle.trips_answers.proofs.Exact.{compiled_exact, assembled_exact, disassembled_exact, checked_exact}
+use Rattle.trips_answers.proofs.Exact.{explained_exact}
+use Rattle.trips_explain_answers.specs.Explained.{IsAcceptedTold}
 use Rattle.trips_answers.proofs.Compiled.{finished_told, deep_told, plain_told}
 use Rattle.trips_answers.proofs.Causes.{whole_of}
 
@@ -88,7 +90,7 @@ module _ (held : List ℕ → Option (List ℕ)) (rose : Type 0) (old new : Opti
       (text input : List ℕ) (program : TypedProgram)
       → (asks : AsksFor q held Run form.Source most nothing_shown text input) → IsAccepted text program
       → (rose → ⊥) → (cut → ⊥) → s ≢ status.Memory
-      → (image : Image) × IsImageOf text asks.q.placing image
+      → (image : Image) × IsImageOf text asks.q.placing asks.q.unroll image
       × let run = runs image.blocks (start image.bytes input) most in
       (s ≡ status_of (ending_of run.1 run.0.next))
       × Appended old new (run_report (ending_of run.1 run.0.next) run.0)
@@ -135,7 +137,7 @@ module _ (held : List ℕ → Option (List ℕ)) (rose : Type 0) (old new : Opti
       (show : Show) (text input : List ℕ) (program : TypedProgram)
       → (asks : AsksFor q held Compile how most show text input) → IsAccepted text program
       → (rose → ⊥) → (cut → ⊥) → s ≢ status.Memory
-      → (image : Image) × IsImageOf text asks.q.placing image × (bytes : List ℕ)
+      → (image : Image) × IsImageOf text asks.q.placing asks.q.unroll image × (bytes : List ℕ)
       × ImageBytes image bytes
       × (s ≡ status.Ended) × Appended old new bytes
   compiled s a how most show text input program asks is r c m =
@@ -182,6 +184,19 @@ module _ (held : List ℕ → Option (List ℕ)) (rose : Type 0) (old new : Opti
       let done = complete q held rose s row.0 row.1 r Check how most show bytes input asks in
       let told = checked_exact how (settings_with asks.q most show) bytes input s row.0 report
       done good in
+      (told.0, subst (Appended old new) told.1 row.2)
+
+  -- a program's text that is explained gives what is told of it
+  pub explained : (s : Status) → IsAnswered q held rose old new cut s → (file : List ℕ) (how : FileForm) (most : ℕ)
+      (show : Show) (text input report : List ℕ)
+      → AsksFor q held (Explain file) how most show text input → IsAcceptedTold file text report
+      → (rose → ⊥) → (cut → ⊥) → s ≢ status.Memory
+      → (s ≡ status.Ended) × Appended old new report
+  explained s a file how most show text input report asks is r c m =
+      let row = row_of s a c m in
+      let done = complete q held rose s row.0 row.1 r (Explain file) how most show text input asks in
+      let told = explained_exact file how (settings_with asks.q most show) text input s row.0 report
+      done is in
       (told.0, subst (Appended old new) told.1 row.2)
 
   -- a file that is refused is answered so, and the reason is written

@@ -10,9 +10,9 @@ use Rattle.trips_isa.specs.declared.run.Ending.TheVariants as ending
 use Rattle.trips_isa.specs.Machine.{runs, start}
 use Rattle.c_meaning.specs.declared.outcome.Outcome.{Outcome}
 use Rattle.c_meaning.specs.declared.outcome.Outcome.TheVariants as outcome
-use Rattle.trips_requests.specs.declared.commands.Command.{Command as Work}
-use Rattle.trips_requests.specs.declared.commands.Command.TheVariants.{Run, Evaluate, Compile}
-use Rattle.trips_requests.specs.declared.commands.Command.TheVariants.{Assemble, Disassemble, Check}
+use Rattle.trips_answers.specs.Work.{Work}
+use Rattle.trips_answers.specs.Work.{Run, Evaluate, Compile}
+use Rattle.trips_answers.specs.Work.{Assemble, Disassemble, Check, Explain}
 use Rattle.trips_answers.specs.declared.forms.FileForm.{FileForm}
 use Rattle.trips_answers.specs.declared.forms.FileForm.TheVariants as form
 use Rattle.trips_answers.specs.declared.forms.Settings.{Settings}
@@ -78,6 +78,7 @@ work_tells Compile how settings bytes input s report run = ap is_told run.3
 work_tells Assemble how settings bytes input s report run = ap is_told run.1
 work_tells Disassemble how settings bytes input s report run = ap is_told run.1
 work_tells Check how settings bytes input s report run = ap is_told run.1
+work_tells (Explain file) how settings bytes input s report run = ap is_told run.1
 
 -- The kinds of an answer: usage, a fault of reading, a refusal, and the end of the work.
 pub data Kind (q : Option Request) (held : List ℕ

@@ -15,7 +15,7 @@ use Rattle.block_image.specs.Spelling.{ImageBytes}
 use Rattle.block_check.specs.Faults.{IsGood}
 use Rattle.target_asm_spec.specs.Text.{TargetText}
 use Rattle.trips_report.specs.declared.show.Show.{Show}
-use Rattle.trips_requests.specs.declared.commands.Command.TheVariants.{Run}
+use Rattle.trips_answers.specs.Work.{Run}
 use Rattle.trips_answers.specs.declared.forms.FileForm.TheVariants as form
 use Rattle.trips_answers.specs.declared.forms.Settings.{Settings}
 use Rattle.trips_requests.specs.declared.status.Status.{Status}
@@ -56,7 +56,7 @@ module _ (held : List ℕ → Option (List ℕ)) (rose : Type 0) (old new : Opti
   pub text_run : (program : TypedProgram)
       → (asks : AsksFor q held Run form.Source most show bytes input)
       → IsAccepted bytes program → (rose → ⊥) → (cut → ⊥) → s ≢ status.Memory
-      → (image : Image) × IsImageOf bytes asks.q.placing image
+      → (image : Image) × IsImageOf bytes asks.q.placing asks.q.unroll image
       × let run = runs image.blocks (start image.bytes input) most in
       IsReported image input (settings_with asks.q most show) (status_of (ending_of run.1 run.0.next))
       (run_report (ending_of run.1 run.0.next) run.0) s old new
@@ -97,7 +97,7 @@ module _ (held : List ℕ → Option (List ℕ)) (rose : Type 0) (old new : Opti
       → (asks : AsksFor q held Run form.Source most show bytes input)
       → IsAccepted bytes program → eval program input n ≡ Done output value steps → 16 * n + 16 ≤ most
       → (rose → ⊥) → (cut → ⊥) → s ≢ status.Memory
-      → (image : Image) × IsImageOf bytes asks.q.placing image
+      → (image : Image) × IsImageOf bytes asks.q.placing asks.q.unroll image
       × ((runs image.blocks (start image.bytes input) most).1 ≡ stepped.Ended)
       × (told : IsReported image input (settings_with asks.q most show) status.Ended (ended_report output value) s old
       new) × EndsAsMeant image input most [] output value ending.Ended told.1.grid
@@ -120,7 +120,7 @@ module _ (held : List ℕ → Option (List ℕ)) (rose : Type 0) (old new : Opti
       → (asks : AsksFor q held Run form.Source most show bytes input)
       → IsAccepted bytes program → eval program input n ≡ Stopped Deep output → 16 * n + 16 ≤ most
       → (rose → ⊥) → (cut → ⊥) → s ≢ status.Memory
-      → (image : Image) × IsImageOf bytes asks.q.placing image
+      → (image : Image) × IsImageOf bytes asks.q.placing asks.q.unroll image
       × ((runs image.blocks (start image.bytes input) most).1 ≡ stepped.StackFull)
       × IsReported image input (settings_with asks.q most show) status.StackFull (full_report output) s old
       new

@@ -16,9 +16,10 @@ use Rattle.trips_outside.specs.Outside.{Rose}
 use Rattle.trips_requests.specs.declared.status.Status.{Status}
 use Rattle.trips_requests.specs.declared.status.Status.TheVariants as status
 use Rattle.trips_requests.specs.declared.answer.Answer.{Answer}
-use Rattle.trips_requests.specs.declared.commands.Command.{Command as Work}
-use Rattle.trips_requests.specs.declared.commands.Command.TheVariants.{Run, Evaluate, Compile}
-use Rattle.trips_requests.specs.declared.commands.Command.TheVariants.{Assemble, Disassemble, Check}
+use Rattle.trips_requests.specs.declared.commands.Command.{Command}
+use Rattle.trips_answers.specs.Work.{Work, work_on}
+use Rattle.trips_answers.specs.Work.{Run, Evaluate, Compile}
+use Rattle.trips_answers.specs.Work.{Assemble, Disassemble, Check, Explain}
 use Rattle.trips_answers.specs.declared.forms.FileForm.{FileForm}
 use Rattle.trips_answers.specs.declared.forms.FileForm.TheVariants as form
 use Rattle.trips_answers.specs.declared.forms.Settings.{Settings}
@@ -42,6 +43,7 @@ use Rattle.target_asm_spec.specs.Text.{TargetText}
 use Rattle.trips_eval_answers.specs.Refusals.{front_refusal}
 use Rattle.trips_eval_answers.specs.Evaluation.{IsRefusedByFront}
 use Rattle.trips_eval_answers.specs.inside.Evaluation.{IsRefusalBy, IsTextEvaluated}
+use Rattle.trips_explain_answers.specs.inside.Explained.{IsExplained}
 use Rattle.trips_answers.specs.Worked.{IsRunBy, IsDone}
 use Rattle.trips_answers.specs.Answer.{IsAnswerBehind, IsAnswer}
 use Rattle.trips_answers.specs.inside.Checked.{IsRunOfChecked}
@@ -62,45 +64,51 @@ refusal_is text stage.Memory may some = absurd (some refl)
 
 -- the refusal of a text, with its report
 front_told : (text : List ℕ) (refusal : Refusal) → MayBeRefused text refusal
-    → refusal ≢ stage.Memory → IsRefusedByFront text (front_refusal refusal)
+    → refusal ≢ stage.Memory → IsRefusedByFront text (front_refusal text refusal)
 front_told text refusal may some = (refusal, refusal_is text refusal may some, refl)
 
 -- the refusal of a text under `run`
 pub run_refused_told : {E : Type 0} (text input : List ℕ) (settings : Settings) (refusal : Refusal)
     (r : Result Answer E) → MayBeRefused text refusal
-    → IfOk r (λ a. IsRefusalBy refusal a.status a.report.items)
+    → IfOk r (λ a. IsRefusalBy text refusal a.status a.report.items)
     → IfOk r (λ a. IsDone Run form.Source settings text input a.status a.report.items)
 run_refused_told text input settings refusal (Err e) may told = tt
 run_refused_told text input settings refusal (Ok a) may told =
-    inl (front_refusal refusal, front_told text refusal may told.0, told.1)
+    inl (front_refusal text refusal, front_told text refusal may told.0, told.1)
 
 -- the run of the image that is compiled from a text
 pub compiled_told : {E : Type 0} (text input : List ℕ) (settings : Settings) (image : Image)
-    (r : Result Answer E) → IsImageOf text settings.placing image → IsInput input
+    (r : Result Answer E) → IsImageOf text settings.placing settings.unroll image → IsInput input
     → IfOk r (λ a. IsRunBy image.blocks image.bytes input settings a.status a.report.items)
     → IfOk r (λ a. IsDone Run form.Source settings text input a.status a.report.items)
 compiled_told text input settings image (Err e) is bytes told = tt
 compiled_told text input settings image (Ok a) is bytes told = inr (image, is, bytes, told)
 
 -- the refusal of a text under `compile`
-pub compile_refused_told : {E : Type 0} (text : List ℕ) (placing : Placing) (refusal : Refusal)
+pub compile_refused_told : {E : Type 0} (text : List ℕ) (placing : Placing) (unroll : ℕ) (refusal : Refusal)
     (r : Result Answer E)
-    → MayBeRefused text refusal → IfOk r (λ a. IsRefusalBy refusal a.status a.report.items)
+    → MayBeRefused text refusal → IfOk r (λ a. IsRefusalBy text refusal a.status a.report.items)
     → IfOk r (λ a. (how : FileForm) (settings : Settings) (input : List ℕ) → settings.placing ≡ placing
-    → IsDone Compile how settings text input a.status a.report.items)
-compile_refused_told text placing refusal (Err e) may told = tt
-compile_refused_told text placing refusal (Ok a) may told =
-    λ how settings input same. inl (front_refusal refusal, front_told text refusal may told.0, told.1)
+    → settings.unroll ≡ unroll → IsDone Compile how settings text input a.status a.report.items)
+compile_refused_told text placing unroll refusal (Err e) may told = tt
+compile_refused_told text placing unroll refusal (Ok a) may told =
+    λ how settings input same turns. inl (front_refusal text refusal, front_told text refusal may told.0, told.1)
 
 -- the image that is compiled from a text is written
-pub written_told : {E : Type 0} (text : List ℕ) (placing : Placing) (image : Image)
-    (r : Result Answer E) → IsImageOf text placing image
+pub written_told : {E : Type 0} (text : List ℕ) (placing : Placing) (unroll : ℕ) (image : Image)
+    (r : Result Answer E) → IsImageOf text placing unroll image
     → IfOk r (λ a. ImageBytes image a.report.items × (a.status ≡ status.Ended))
     → IfOk r (λ a. (how : FileForm) (settings : Settings) (input : List ℕ) → settings.placing ≡ placing
-    → IsDone Compile how settings text input a.status a.report.items)
-written_told text placing image (Err e) is told = tt
-written_told text placing image (Ok a) is told = λ how settings input same.
-    inr (image, subst (λ (p : Placing). IsImageOf text p image) (sym same) is, told.0, told.1)
+    → settings.unroll ≡ unroll → IsDone Compile how settings text input a.status a.report.items)
+written_told text placing unroll image (Err e) is told = tt
+written_told text placing unroll image (Ok a) is told = λ how settings input same turns.
+    inr (
+      image,
+      subst (λ (p : Placing). IsImageOf text p settings.unroll image) (sym same)
+          (subst (λ (n : ℕ). IsImageOf text placing n image) (sym turns) is),
+      told.0,
+      told.1,
+    )
 
 -- images --------------------------------------------------------------------------------------
 
@@ -147,6 +155,10 @@ few_bytes form.Source = omega arith
 few_bytes form.Target = omega arith
 few_bytes form.Image = omega arith
 
+-- the work of a command that is told
+pub work_is : {a b : Command} (file : List ℕ) → a ≡ b → work_on a file ≡ work_on b file
+work_is file is = ap (λ (k : Command). work_on k file) is
+
 -- what `eval` does, whatever its file is read as
 pub evaluate_told : {E : Type 0} (work : Work) (how : FileForm) (steps : ℕ) (settings : Settings)
     (bytes seen input : List ℕ) (r : Result Answer E) → work ≡ Evaluate → settings.most ≡ steps
@@ -170,16 +182,25 @@ run_form_told work how read settings seen bytes input (Ok a) is same set told =
     (subst (λ (t : Settings). IsDone Run read t bytes input a.status a.report.items) set told))
 
 -- what `compile` does, whatever its file is read as
-pub compile_told : {E : Type 0} (work : Work) (how : FileForm) (placing : Placing)
+pub compile_told : {E : Type 0} (work : Work) (how : FileForm) (placing : Placing) (unroll : ℕ)
     (settings : Settings) (bytes input : List ℕ) (r : Result Answer E) → work ≡ Compile
-    → settings.placing ≡ placing
-    → IfOk r (λ a. (f : FileForm) (t : Settings) (i : List ℕ) → t.placing ≡ placing
+    → settings.placing ≡ placing → settings.unroll ≡ unroll
+    → IfOk r (λ a. (f : FileForm) (t : Settings) (i : List ℕ) → t.placing ≡ placing → t.unroll ≡ unroll
     → IsDone Compile f t bytes i a.status a.report.items)
     → IfOk r (λ a. IsDone work how settings bytes input a.status a.report.items)
-compile_told work how placing settings bytes input (Err e) is same told = tt
-compile_told work how placing settings bytes input (Ok a) is same told =
+compile_told work how placing unroll settings bytes input (Err e) is same turns told = tt
+compile_told work how placing unroll settings bytes input (Ok a) is same turns told =
     subst (λ (w : Work). IsDone w how settings bytes input a.status a.report.items) (sym is)
-    (told how settings input same)
+    (told how settings input same turns)
+
+-- what `explain` does, whatever its file is read as
+pub explain_told : {E : Type 0} (work : Work) (how : FileForm) (file : List ℕ) (settings : Settings)
+    (bytes input : List ℕ) (r : Result Answer E) → work ≡ Explain file
+    → IfOk r (λ a. IsExplained file bytes a.status a.report.items)
+    → IfOk r (λ a. IsDone work how settings bytes input a.status a.report.items)
+explain_told work how file settings bytes input (Err e) is told = tt
+explain_told work how file settings bytes input (Ok a) is told =
+    subst (λ (w : Work). IsDone w how settings bytes input a.status a.report.items) (sym is) told
 
 -- the work of a tool
 abbrev pub work_of : Tool → Work

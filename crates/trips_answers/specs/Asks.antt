@@ -7,7 +7,7 @@ use Rattle.trips_answers.specs.Request.{Request, origin_held}
 use Rattle.c_tree.specs.Limits.{most_source_bytes}
 use Rattle.trips_requests.specs.Limits.{most_image_bytes, most_target_bytes}
 use Rattle.trips_report.specs.declared.show.Show.{Show}
-use Rattle.trips_requests.specs.declared.commands.Command.{Command as Work}
+use Rattle.trips_answers.specs.Work.{Work}
 use Rattle.trips_requests.specs.Texts.{output_and}
 use Rattle.trips_requests.specs.declared.status.Status.{Status}
 use Rattle.trips_requests.specs.declared.status.Status.TheVariants.{Memory}

@@ -1,7 +1,7 @@
 -- Which answers may come, and the cause of each, said of texts, images and the machine alone. Own.
 use Rattle.std.specs.Prelude.{◌≡◌, ◌⊎◌, ℕ, ◌<◌, ◌≤◌, List, [], ◌∷◌, Option, None, Some, IfSome, IsSomeAnd, length}
 use Rattle.trips_outside.specs.Outside.{Appended, Holds}
-use Rattle.trips_requests.specs.declared.commands.Command.TheVariants.{Evaluate}
+use Rattle.trips_answers.specs.Work.{Evaluate}
 use Rattle.trips_requests.specs.declared.loading.Loaded.{Loaded}
 use Rattle.trips_requests.specs.declared.status.Status.{Status}
 use Rattle.trips_requests.specs.declared.status.Status.TheVariants as status
@@ -71,14 +71,14 @@ pub record EndsWork (held : List ℕ → Option (List ℕ)) (q : Request) (s : S
   pub report : List ℕ
   pub holds : Holds (origin_held held q.origin) bytes
   pub holds_input : HoldsInput q.input held input
-  pub done : DoesWork q.work q.form q.most q.show bytes input s report
+  pub done : DoesWork q.work q.form q.unroll q.most q.show bytes input s report
   -- only an evaluation is undefined
   pub undefined : s ≡ status.Undefined → q.work ≡ Evaluate
 
 -- the work is refused, which cannot be done with these bytes, or it is done
 abbrev pub EndsOrRefuses : Request → List ℕ → List ℕ → Status → List ℕ → Type 0
 EndsOrRefuses q bytes input s report = ((CanBeDone q.work q.form bytes → ⊥) × (s ≡ status.Refused))
-    ⊎ DoesWork q.work q.form q.most q.show bytes input s report
+    ⊎ DoesWork q.work q.form q.unroll q.most q.show bytes input s report
 
 -- behind the file the input is read
 abbrev pub MayAnswerBehind : Request → (List ℕ → Option (List ℕ)) → Type 0 → List ℕ → Status → List ℕ → Type 0

@@ -11,12 +11,13 @@ use Rattle.block_check.specs.Faults.{IsGood}
 use Rattle.target_asm_spec.specs.Text.{TargetText}
 use Rattle.trips_tools.specs.Tools.{IsOneImage, IsGoodImage}
 use Rattle.trips_report.specs.declared.show.Show.{Show}
-use Rattle.trips_requests.specs.declared.commands.Command.{Command as Work}
-use Rattle.trips_requests.specs.declared.commands.Command.TheVariants.{Run, Evaluate, Compile}
-use Rattle.trips_requests.specs.declared.commands.Command.TheVariants.{Assemble, Disassemble, Check}
+use Rattle.trips_answers.specs.Work.{Work}
+use Rattle.trips_answers.specs.Work.{Run, Evaluate, Compile}
+use Rattle.trips_answers.specs.Work.{Assemble, Disassemble, Check, Explain}
 use Rattle.trips_requests.specs.declared.status.Status.{Status}
 use Rattle.trips_requests.specs.declared.status.Status.TheVariants as status
 use Rattle.trips_eval_answers.specs.Evaluation.{IsEvaluationOf}
+use Rattle.trips_explain_answers.specs.Explained.{IsAcceptedTold}
 use Rattle.trips_answers.specs.declared.forms.FileForm.{FileForm}
 use Rattle.trips_answers.specs.declared.forms.FileForm.TheVariants as form
 use Rattle.trips_answers.specs.Report.{TellsRun}
@@ -32,11 +33,13 @@ IsImageIn form.Target text image = TargetText image text × All IsGood image.blo
 IsImageIn form.Image bytes image = ImageBytes image bytes × All IsGood image.blocks
 
 -- A tool makes this of the bytes of its file: `asm` the bytes of the text's image, `dis` the text of the image,
--- `check` the report on an image of good blocks. Each is made of the bytes alone.
+-- `check` the report on an image of good blocks. Each is made of the bytes alone. What `explain` tells of an accepted
+-- text begins with the name of the file.
 abbrev pub Makes : Work → List ℕ → List ℕ → Type 0
 Makes Assemble text made = IsOneImage text made
 Makes Disassemble bytes made = IsOneImage made bytes
 Makes Check bytes made = IsGoodImage bytes made
+Makes (Explain file) text made = IsAcceptedTold file text made
 Makes work bytes made = ⊥
 
 -- The work can be done with the bytes of a file: a row for each command and each form of its file.
@@ -49,22 +52,27 @@ CanBeDone Compile how text = IsProgram text
 CanBeDone Assemble how text = (made : List ℕ) × Makes Assemble text made
 CanBeDone Disassemble how bytes = (made : List ℕ) × Makes Disassemble bytes made
 CanBeDone Check how bytes = (made : List ℕ) × Makes Check bytes made
+CanBeDone (Explain file) how text = IsProgram text
 
--- The bytes of an image are written that does what the text means, and each of whose blocks is good.
-abbrev pub WritesImage : List ℕ → List ℕ → Type 0
-WritesImage text bytes = (image : Image) × DoesText text image × All IsGood image.blocks × ImageBytes image bytes
+-- The bytes of an image are written that does what the text means, by blocks of at most so many turns of a loop, and
+-- each of whose blocks is good.
+abbrev pub WritesImage : List ℕ → ℕ → List ℕ → Type 0
+WritesImage text unroll bytes =
+    (image : Image) × DoesText text unroll image × All IsGood image.blocks × ImageBytes image bytes
 
--- The work is done with the bytes of the file and of the input, within so many blocks or steps, where this is shown:
--- the status and the report tell it.
-abbrev pub DoesWork : Work → FileForm → ℕ → Show → List ℕ → List ℕ → Status → List ℕ → Type 0
-DoesWork Evaluate how most show text input s report = IsEvaluationOf most text input s report
-DoesWork Run form.Source most show text input s report =
-    (image : Image) × DoesText text image × IsInput input × TellsRun image input most show s report
-DoesWork Run form.Target most show text input s report =
+-- The work is done with the bytes of the file and of the input, by blocks of at most so many turns of a loop, within
+-- so many blocks or steps, where this is shown: the status and the report tell it.
+abbrev pub DoesWork : Work → FileForm → ℕ → ℕ → Show → List ℕ → List ℕ → Status → List ℕ → Type 0
+DoesWork Evaluate how unroll most show text input s report = IsEvaluationOf most text input s report
+DoesWork Run form.Source unroll most show text input s report =
+    (image : Image) × DoesText text unroll image × IsInput input × TellsRun image input most show s report
+DoesWork Run form.Target unroll most show text input s report =
     (image : Image) × IsImageIn form.Target text image × TellsRun image input most show s report
-DoesWork Run form.Image most show bytes input s report =
+DoesWork Run form.Image unroll most show bytes input s report =
     (image : Image) × IsImageIn form.Image bytes image × TellsRun image input most show s report
-DoesWork Compile how most show text input s report = WritesImage text report × (s ≡ status.Ended)
-DoesWork Assemble how most show text input s report = Makes Assemble text report × (s ≡ status.Ended)
-DoesWork Disassemble how most show bytes input s report = Makes Disassemble bytes report × (s ≡ status.Ended)
-DoesWork Check how most show bytes input s report = Makes Check bytes report × (s ≡ status.Ended)
+DoesWork Compile how unroll most show text input s report = WritesImage text unroll report × (s ≡ status.Ended)
+DoesWork Assemble how unroll most show text input s report = Makes Assemble text report × (s ≡ status.Ended)
+DoesWork Disassemble how unroll most show bytes input s report = Makes Disassemble bytes report × (s ≡ status.Ended)
+DoesWork Check how unroll most show bytes input s report = Makes Check bytes report × (s ≡ status.Ended)
+DoesWork (Explain file) how unroll most show text input s report =
+    Makes (Explain file) text report × (s ≡ status.Ended)

@@ -30,16 +30,16 @@ pub record ResultMeans (held : List ℕ → Option (List ℕ)) (q : Request) (s 
   -- the typed program that the front end makes of the text, which is what is evaluated
   pub program : TypedProgram
   pub accepted : IsAccepted text program
-  -- the text's tokens; their number bounds the steps that one block does
+  -- the text's tokens; their number bounds the steps that one block does in a turn
   pub tokens : Tokens
   pub lexed : Lexed most_tokens text tokens
-  -- the image that has run, in the request's placing
+  -- the image that has run, in the request's placing and with its turns of a loop in a block
   pub image : Image
-  pub made : IsImageOf text q.placing image
+  pub made : IsImageOf text q.placing q.unroll image
   -- what was reported of its run: an output and the digits of a result, and behind them what is shown
   pub output : List ℕ
   pub digits : List ℕ
   pub reported : IsReported image input (settings_of q) status.Ended (output_and output (codes "result " ++ digits)) s
       old new
   -- what the evaluation within any number of steps comes to
-  pub means : (n : ℕ) → TellsResult output digits (n ≤ length tokens * (q.most + 1)) (eval program input n)
+  pub means : (n : ℕ) → TellsResult output digits (n ≤ q.unroll * length tokens * (q.most + 1)) (eval program input n)

@@ -47,11 +47,11 @@ pub record RunEndsAs (held : List ℕ → Option (List ℕ)) (q : Request) (s : 
   -- the typed program that the front end makes of the text, which is what is evaluated
   pub program : TypedProgram
   pub accepted : IsAccepted text program
-  -- the text's tokens; their number bounds the steps that one block does
+  -- the text's tokens; their number bounds the steps that one block does in a turn
   pub tokens : Tokens
   pub lexed : Lexed most_tokens text tokens
-  -- a block does no more steps than the text has tokens
-  pub says : (n : ℕ) → length tokens * (q.most + 1) < n → SaysOf s (eval program input n)
+  -- a block does at most so many turns of a loop, and in each no more steps than the text has tokens
+  pub says : (n : ℕ) → q.unroll * length tokens * (q.most + 1) < n → SaysOf s (eval program input n)
   -- the budget is spent only on what 16 blocks a step, and 16 more, do not end
   pub spent : s ≡ status.Budget → (n : ℕ) → 16 * n + 16 ≤ q.most
       → HasNotEnded (eval program input n)
@@ -76,12 +76,12 @@ pub record ResultTells (held : List ℕ → Option (List ℕ)) (q : Request) (ol
   -- the typed program that the front end makes of the text, which is what is evaluated
   pub program : TypedProgram
   pub accepted : IsAccepted text program
-  -- the text's tokens; their number bounds the steps that one block does
+  -- the text's tokens; their number bounds the steps that one block does in a turn
   pub tokens : Tokens
   pub lexed : Lexed most_tokens text tokens
   -- the image that has run
   pub image : Image
-  pub does : DoesText text image
+  pub does : DoesText text q.unroll image
   -- what was reported of its run: an output and the digits of a result, and behind them what is shown
   pub output : List ℕ
   pub digits : List ℕ
@@ -93,4 +93,4 @@ pub record ResultTells (held : List ℕ → Option (List ℕ)) (q : Request) (ol
       (runs image.blocks (start image.bytes input) q.most).0 counts
       (cost_of image.blocks (runs image.blocks (start image.bytes input) q.most).0.trace) q.show)
   -- what the evaluation within any number of steps comes to
-  pub means : (n : ℕ) → TellsResult output digits (n ≤ length tokens * (q.most + 1)) (eval program input n)
+  pub means : (n : ℕ) → TellsResult output digits (n ≤ q.unroll * length tokens * (q.most + 1)) (eval program input n)

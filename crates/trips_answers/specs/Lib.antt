@@ -1,3 +1,4 @@
+pub mod Work
 pub mod Request
 pub mod Read
 pub mod Report

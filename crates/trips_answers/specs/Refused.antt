@@ -5,9 +5,9 @@ use Rattle.trips_isa.specs.declared.block.Image.{Image}
 use Rattle.block_check.specs.declared.fault.CheckFault.{CheckFault}
 use Rattle.block_check.specs.Images.{IsFirstBad}
 use Rattle.target_asm_spec.specs.Text.{TargetText}
-use Rattle.trips_requests.specs.declared.commands.Command.{Command as Work}
-use Rattle.trips_requests.specs.declared.commands.Command.TheVariants.{Run, Evaluate, Compile}
-use Rattle.trips_requests.specs.declared.commands.Command.TheVariants.{Assemble, Disassemble, Check}
+use Rattle.trips_answers.specs.Work.{Work}
+use Rattle.trips_answers.specs.Work.{Run, Evaluate, Compile}
+use Rattle.trips_answers.specs.Work.{Assemble, Disassemble, Check, Explain}
 use Rattle.trips_answers.specs.declared.forms.FileForm.{FileForm}
 use Rattle.trips_answers.specs.declared.forms.FileForm.TheVariants as form
 use Rattle.trips_answers.specs.Request.{Request, origin_held}
@@ -15,6 +15,7 @@ use Rattle.trips_answers.specs.Read.{MayBeLarge, IsLarge}
 use Rattle.trips_answers.specs.Asks.{limit_of}
 use Rattle.trips_report.specs.Refusals.{check_text}
 use Rattle.trips_eval_answers.specs.Evaluation.{IsRefusedByFront}
+use Rattle.trips_explain_answers.specs.Explained.{IsRefusalTold}
 use Rattle.trips_tools.specs.ToolAnswers.{IsNoImage, IsBadImage, IsNoText}
 
 -- the text is that of an image, and the report names its first block that is not good
@@ -34,6 +35,7 @@ IsRefusedAs Compile how text report = IsRefusedByFront text report
 IsRefusedAs Assemble how text report = IsNoText text report
 IsRefusedAs Disassemble how bytes report = IsNoImage bytes report
 IsRefusedAs Check how bytes report = IsNoImage bytes report ⊎ IsBadImage bytes report
+IsRefusedAs (Explain file) how text report = IsRefusalTold file text report
 
 -- the file has too many bytes, or they are refused
 abbrev pub IsBad : Request → List ℕ → Type 0

@@ -6,9 +6,10 @@ use Rattle.bench_text.specs.Text.{bench_text}
 use Rattle.grid_place.specs.declared.placed.Placing.{Placing}
 use Rattle.grid_place.specs.declared.placed.Placing.TheVariants.{Greedy, Seeded}
 use Rattle.trips_report.specs.declared.show.Show.{Show}
-use Rattle.trips_requests.specs.declared.commands.Command.{Command as Work}
+use Rattle.trips_requests.specs.declared.commands.Command.{Command}
 use Rattle.trips_requests.specs.declared.commands.Command.TheVariants as command
 use Rattle.trips_requests.specs.Requests as line
+use Rattle.trips_answers.specs.Work.{Work, work_on}
 use Rattle.trips_answers.specs.declared.forms.FileForm.{FileForm}
 use Rattle.trips_answers.specs.declared.forms.FileForm.TheVariants as form
 
@@ -33,15 +34,16 @@ abbrev pub placing_of : Option ℕ → Placing
 placing_of None = Greedy
 placing_of (Some number) = Seeded number
 
--- A request: what is done, with the bytes of what, read as what, with the input of which name, if it has
--- one, how compiled blocks are placed, the seed of the grid, how many blocks or steps it may take, and what
--- the report of a run shows behind its ending.
+-- A request: what is done, with the bytes of what, read as what, with the input of which name, if it has one, how
+-- compiled blocks are placed and how many turns of a loop each does at most, the seed of the grid, how many blocks or
+-- steps it may take, and what the report of a run shows behind its ending.
 pub record Request : Type 0 where
   pub work : Work
   pub origin : Origin
   pub form : FileForm
   pub input : Option (List ℕ)
   pub placing : Placing
+  pub unroll : ℕ
   pub seed : ℕ
   pub most : ℕ
   pub show : Show
@@ -52,22 +54,24 @@ form_named file = if ends_with nat_eq file (codes ".img") then form.Image
     else if ends_with nat_eq file (codes ".tasl") then form.Target else form.Source
 
 -- what a command reads a file as
-abbrev pub form_of : Work → List ℕ → FileForm
+abbrev pub form_of : Command → List ℕ → FileForm
 form_of command.Run file = form_named file
 form_of command.Evaluate file = form.Source
 form_of command.Compile file = form.Source
 form_of command.Assemble file = form.Target
 form_of command.Disassemble file = form.Image
 form_of command.Check file = form.Image
+form_of command.Explain file = form.Source
 
 -- the request that words ask for
 abbrev pub planned : line.Request → Request
 planned r = record {
-  work = r.command;
+  work = work_on r.command r.file;
   origin = origin_of r.file r.functions;
   form = form_of r.command r.file;
   input = r.input;
   placing = placing_of r.place;
+  unroll = r.unroll;
   seed = r.seed;
   most = r.most;
   show = record { regs = r.regs; trace = r.trace; cycles = r.cycles };

@@ -5,7 +5,7 @@ use Rattle.trips_isa.specs.declared.block.Image.{Image}
 use Rattle.trips_isa.specs.declared.run.Counts.{Counts}
 use Rattle.trips_isa.specs.Machine.{runs, start}
 use Rattle.grid_cycle_spec.specs.Costs.{cost_of}
-use Rattle.trips_requests.specs.declared.commands.Command.TheVariants.{Evaluate}
+use Rattle.trips_answers.specs.Work.{Evaluate}
 use Rattle.trips_answers.specs.declared.forms.Settings.{Settings}
 use Rattle.trips_requests.specs.declared.status.Status.{Status}
 use Rattle.trips_requests.specs.Table.{IsWritten}

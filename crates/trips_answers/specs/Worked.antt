@@ -12,9 +12,9 @@ use Rattle.block_image.specs.Spelling.{ImageBytes}
 use Rattle.block_check.specs.Faults.{IsGood}
 use Rattle.target_asm_spec.specs.Text.{TargetText}
 use Rattle.trips_tools.specs.Tools.{IsOneImage, IsGoodImage}
-use Rattle.trips_requests.specs.declared.commands.Command.{Command as Work}
-use Rattle.trips_requests.specs.declared.commands.Command.TheVariants.{Run, Evaluate, Compile}
-use Rattle.trips_requests.specs.declared.commands.Command.TheVariants.{Assemble, Disassemble, Check}
+use Rattle.trips_answers.specs.Work.{Work}
+use Rattle.trips_answers.specs.Work.{Run, Evaluate, Compile}
+use Rattle.trips_answers.specs.Work.{Assemble, Disassemble, Check, Explain}
 use Rattle.trips_answers.specs.declared.forms.FileForm.{FileForm}
 use Rattle.trips_answers.specs.declared.forms.FileForm.TheVariants as form
 use Rattle.trips_answers.specs.declared.forms.Settings.{Settings}
@@ -22,6 +22,7 @@ use Rattle.trips_requests.specs.declared.status.Status.{Status}
 use Rattle.trips_requests.specs.declared.status.Status.TheVariants as status
 use Rattle.trips_requests.specs.Texts.{IsFixed}
 use Rattle.trips_eval_answers.specs.Evaluation.{IsEvaluationOf}
+use Rattle.trips_explain_answers.specs.Explained.{IsAcceptedTold}
 use Rattle.trips_answers.specs.Report.{ending_of, shown_report, status_of}
 use Rattle.trips_answers.specs.Refused.{IsRefusedAs}
 use Rattle.trips_answers.specs.Counted.{IsCountedRun}
@@ -42,7 +43,7 @@ IsRunBy blocks bytes input settings s report =
 
 -- the image that is compiled from the text is run, on an input of bytes
 abbrev pub IsRunOfText : Settings → List ℕ → List ℕ → Status → List ℕ → Type 0
-IsRunOfText settings text input s report = (image : Image) × IsImageOf text settings.placing image
+IsRunOfText settings text input s report = (image : Image) × IsImageOf text settings.placing settings.unroll image
     × IsInput input × IsRunBy image.blocks image.bytes input settings s report
 
 -- the image is run, all of whose blocks are good
@@ -56,8 +57,8 @@ IsRunOfTarget settings text input s report = (image : Image) × TargetText image
     × All IsGood image.blocks × IsRunBy image.blocks image.bytes input settings s report
 
 -- the image that is compiled from the text is written
-abbrev pub IsCompiled : Placing → List ℕ → Status → List ℕ → Type 0
-IsCompiled placing text s report = (image : Image) × IsImageOf text placing image
+abbrev pub IsCompiled : Placing → ℕ → List ℕ → Status → List ℕ → Type 0
+IsCompiled placing unroll text s report = (image : Image) × IsImageOf text placing unroll image
     × ImageBytes image report × (s ≡ status.Ended)
 
 -- The work is done with the bytes of the file and of the input, by these settings: a row for each
@@ -67,10 +68,11 @@ IsWorked Evaluate how settings text input s report = IsEvaluationOf settings.mos
 IsWorked Run form.Source settings text input s report = IsRunOfText settings text input s report
 IsWorked Run form.Target settings text input s report = IsRunOfTarget settings text input s report
 IsWorked Run form.Image settings bytes input s report = IsRunOfImage settings bytes input s report
-IsWorked Compile how settings text input s report = IsCompiled settings.placing text s report
+IsWorked Compile how settings text input s report = IsCompiled settings.placing settings.unroll text s report
 IsWorked Assemble how settings text input s report = IsOneImage text report × (s ≡ status.Ended)
 IsWorked Disassemble how settings bytes input s report = IsOneImage report bytes × (s ≡ status.Ended)
 IsWorked Check how settings bytes input s report = IsGoodImage bytes report × (s ≡ status.Ended)
+IsWorked (Explain file) how settings text input s report = IsAcceptedTold file text report × (s ≡ status.Ended)
 
 -- the bytes of the file are refused with the report that says why
 abbrev pub IsRefusal : Work → FileForm → List ℕ → Status → List ℕ → Type 0

@@ -2,6 +2,7 @@
 
 ghost use Rattle.std.specs.Prelude.{◌≡◌, ◌<◌, ◌≤◌, length, Some, IfOk, IfSome, option_map};
 ghost use Rattle.trips_outside.specs.Outside.{Rose};
+ghost use Rattle.trips_answers.specs.Work.{Run, work_on};
 ghost use Rattle.trips_answers.specs.Request.{form_of};
 ghost use Rattle.trips_answers.specs.Settings.{settings_of};
 ghost use Rattle.trips_answers.specs.inside.Settings.{request_seen};
@@ -18,6 +19,7 @@ use base::Items;
 use c_tree::MOST_SOURCE_BYTES;
 use std::alloc::{AllocError, Global};
 use trips_eval_answers::text_evaluated;
+use trips_explain_answers::text_explained;
 use trips_outside::Files;
 use trips_requests::{Answer, Asked, Command, Loaded, Tool, no_request, too_large, unread};
 use trips_tools::{MOST_IMAGE_BYTES, MOST_TARGET_BYTES, tool_done};
@@ -44,7 +46,8 @@ fn run_done(
 ) -> Result<Answer, AllocError>
     requires few { length bytes.now ≤ limit_of form }
     requires some { 0 < settings.most }
-    ensures { IfOk result (λ answer. IsDone Command.Run form settings bytes.now input
+    requires turns { 0 < settings.unroll }
+    ensures { IfOk result (λ answer. IsDone Run form settings bytes.now input
         answer.status answer.report.items) }
 {
     match form {
@@ -63,7 +66,8 @@ fn done(
 ) -> Result<Answer, AllocError>
     requires few { length bytes.now ≤ limit_of (form_of asked.command asked.file.now) }
     requires some { 0 < asked.most }
-    ensures { IfOk result (λ answer. IsDone asked.entry.command
+    requires turns { 0 < asked.unroll }
+    ensures { IfOk result (λ answer. IsDone (work_on asked.entry.command asked.entry.file.now)
         (form_of asked.entry.command asked.entry.file.now) (settings_of (request_seen asked.entry))
         bytes.now input answer.status answer.report.items) }
 {
@@ -74,10 +78,11 @@ fn done(
             run_done(alloc, form, bytes, input, settings)
         }
         Command::Evaluate => text_evaluated(alloc, bytes, input.as_slice(), settings.most),
-        Command::Compile => text_compiled(alloc, bytes, settings.placing),
+        Command::Compile => text_compiled(alloc, bytes, settings.placing, settings.unroll),
         Command::Assemble => tool_done(alloc, Tool::Assemble, bytes),
         Command::Disassemble => tool_done(alloc, Tool::Disassemble, bytes),
         Command::Check => tool_done(alloc, Tool::Check, bytes),
+        Command::Explain => text_explained(alloc, asked.file, bytes),
     }
 }
 
@@ -90,8 +95,9 @@ fn input_answer(
 ) -> Result<Answer, AllocError>
     requires few { length bytes.now ≤ limit_of (form_of asked.command asked.file.now) }
     requires some { 0 < asked.most }
+    requires turns { 0 < asked.unroll }
     ensures { IfOk result (λ answer. AfterReading loaded
-        (λ input. IsDone asked.entry.command
+        (λ input. IsDone (work_on asked.entry.command asked.entry.file.now)
         (form_of asked.entry.command asked.entry.file.now) (settings_of (request_seen asked.entry))
         bytes.now input answer.status answer.report.items)
         answer.status answer.report.items) }
@@ -112,6 +118,7 @@ fn file_answer<F: Files>(
 ) -> Result<Answer, AllocError>
     requires few { length bytes.now ≤ limit_of (form_of asked.command asked.file.now) }
     requires some { 0 < asked.most }
+    requires turns { 0 < asked.unroll }
     ensures answer { IfOk result (λ answer. IsAnswerBehind (request_seen asked.entry)
         (F.held files.old) (Rose (F.faults files.old) (F.faults files.new)) bytes.now
         answer.status answer.report.items) }
@@ -129,6 +136,7 @@ fn asked_answer<F: Files>(
     asked: Asked<'_>,
 ) -> Result<Answer, AllocError>
     requires some { 0 < asked.most }
+    requires turns { 0 < asked.unroll }
     ensures answer { IfOk result (λ answer. IsAnswer (Some (request_seen asked.entry))
         (F.held files.old) (Rose (F.faults files.old) (F.faults files.new))
         answer.status answer.report.items) }
@@ -150,6 +158,7 @@ pub fn answer_to<F: Files>(
     asked: Option<Asked<'_>>,
 ) -> Result<Answer, AllocError>
     requires some { IfSome asked (λ request. 0 < request.most) }
+    requires turns { IfSome asked (λ request. 0 < request.unroll) }
     ensures answer { IfOk result (λ answer. IsAnswer (option_map request_seen asked.entry)
         (F.held files.old) (Rose (F.faults files.old) (F.faults files.new))
         answer.status answer.report.items) }

@@ -22,6 +22,8 @@ pub enum FileForm {
 pub struct Settings {
     /// how the blocks of a compiled program are placed
     pub placing: Placing,
+    /// how many turns of a loop each of them does at most
+    pub unroll: u8,
     /// the seed of the grid's predictor and of its network's delays
     pub seed: u64,
     /// how many blocks or steps it may take
@@ -55,6 +57,7 @@ pub fn form_of(command: Command, file: &str) -> FileForm
         Command::Assemble => FileForm::Target,
         Command::Disassemble => FileForm::Image,
         Command::Check => FileForm::Image,
+        Command::Explain => FileForm::Source,
     }
 }
 
@@ -74,6 +77,7 @@ pub fn settings_for(asked: Asked<'_>) -> Settings
 {
     Settings {
         placing: placing_of(asked.place),
+        unroll: asked.unroll,
         seed: asked.seed,
         most: asked.most,
         show: Show {

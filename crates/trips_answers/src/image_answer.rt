@@ -2,7 +2,7 @@
 
 ghost use Rattle.std.specs.Prelude.{◌≡◌, ◌<◌, IfOk};
 ghost use Rattle.trips_isa.specs.Images.{FitsImage};
-ghost use Rattle.trips_requests.specs.declared.commands.Command.TheVariants.{Run};
+ghost use Rattle.trips_answers.specs.Work.{Run};
 ghost use Rattle.trips_answers.specs.declared.forms.FileForm.TheVariants as form;
 ghost use Rattle.trips_answers.specs.Worked.{IsDone};
 ghost use Rattle.trips_answers.specs.inside.Checked.{IsRunOfChecked};

@@ -2,7 +2,7 @@
 
 ghost use Rattle.std.specs.Prelude.{◌≡◌, ◌<◌, ℕ, List, length, IfOk};
 ghost use Rattle.block_image.specs.Spelling.{ImageBytes};
-ghost use Rattle.trips_requests.specs.declared.commands.Command.TheVariants.{Run, Compile};
+ghost use Rattle.trips_answers.specs.Work.{Run, Compile};
 ghost use Rattle.trips_answers.specs.declared.forms.FileForm.{FileForm};
 ghost use Rattle.trips_answers.specs.declared.forms.FileForm.TheVariants as form;
 ghost use Rattle.trips_answers.specs.declared.forms.Settings.{Settings};
@@ -14,7 +14,7 @@ use crate::gridded::run_image;
 use base::{Items, Memory};
 use block_check::CheckedImage;
 use block_image::encode;
-use c_compile::compile;
+use c_compile::compile_unrolled;
 use grid_place::Placing;
 use std::alloc::{AllocError, Global};
 use trips_eval_answers::stage_refused;
@@ -34,15 +34,16 @@ pub fn text_answer(
 ) -> Result<Answer, AllocError>
     requires few { length text.now < 4_294_967_295 }
     requires some { 0 < settings.most }
+    requires turns { 0 < settings.unroll }
     ensures { IfOk result (λ answer. IsDone Run form.Source settings text.now input answer.status
         answer.report.items) }
 {
-    match compile(alloc, text, settings.placing) {
+    match compile_unrolled(alloc, text, settings.placing, settings.unroll) {
         Ok(image) => {
             is_input(input.as_slice());
             run_image(alloc, image, input, settings)
         }
-        Err(refusal) => stage_refused(alloc, refusal),
+        Err(refusal) => stage_refused(alloc, text, refusal),
     }
 }
 
@@ -69,14 +70,20 @@ fn image_written(alloc: Global, image: &CheckedImage) -> Result<Answer, AllocErr
 }
 
 /// What `compile` answers for a text of C: the bytes of its image.
-pub fn text_compiled(alloc: Global, source: &[u8], placing: Placing) -> Result<Answer, AllocError>
-    requires { length source.now < 4_294_967_295 }
+pub fn text_compiled(
+    alloc: Global,
+    source: &[u8],
+    placing: Placing,
+    unroll: u8,
+) -> Result<Answer, AllocError>
+    requires few { length source.now < 4_294_967_295 }
+    requires turns { 0 < unroll }
     ensures { IfOk result (λ answer. (form : FileForm) (settings : Settings) (input : List ℕ)
-        → settings.placing ≡ placing
+        → settings.placing ≡ placing → settings.unroll ≡ unroll
         → IsDone Compile form settings source.now input answer.status answer.report.items) }
 {
-    match compile(alloc, source, placing) {
+    match compile_unrolled(alloc, source, placing, unroll) {
         Ok(image) => image_written(alloc, &image),
-        Err(refusal) => stage_refused(alloc, refusal),
+        Err(refusal) => stage_refused(alloc, source, refusal),
     }
 }

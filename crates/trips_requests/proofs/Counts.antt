@@ -1,21 +1,22 @@
--- Each request has some blocks or steps.
+-- Each request has some blocks or steps, and some turns of a loop in a block.
 use Rattle.std.proofs.Common.{◌≡◌, ℕ, ◌<◌, Bool, true, false, cond, nat_le, List, [], ◌∷◌, Option, None, Some}
 use Rattle.std.proofs.Common.{IfSome, Result, Ok, Err, IfOk, refl, sym, subst, arith, option_map, option_and_then}
 use Rattle.std.specs.Prelude.{◌&&◌}
 use Rattle.std.proofs.lemmas.Bool.Decides.{nat_tests}
 use Rattle.trips_requests.specs.declared.commands.Verb.{Verb}
 use Rattle.trips_requests.specs.declared.commands.Asked.{Asked}
-use Rattle.trips_requests.specs.Limits.{most_count, is_number, value_from, number_to}
+use Rattle.trips_requests.specs.Limits.{most_count, most_turns, is_number, value_from, number_to}
 use Rattle.trips_requests.specs.Words.{Text, file_name, value_said, words_read}
-use Rattle.trips_requests.specs.Options.{Options, options_of, options_said}
+use Rattle.trips_requests.specs.Options.{Options, is_c_name, options_of, options_said, places_of, takes_file}
 use Rattle.trips_requests.specs.Requests.{Request, verb_named, asked}
 use Rattle.trips_requests.specs.inside.Requests.{request_seen}
-use Rattle.trips_requests.specs.Requests.{functions_said, most_said, place_said, seed_said, request_counted}
+use Rattle.trips_requests.specs.Requests.{functions_said, most_said, place_said, seed_said, unroll_said}
+use Rattle.trips_requests.specs.Requests.{request_counted, request_taken}
 use Rattle.trips_requests.specs.Requests.{request_of_file, request_with, request_of, request_by}
 
 -- the request has some
 abbrev HasSome : Request → Type 0
-HasSome r = 0 < r.most
+HasSome r = (0 < r.most) × (0 < r.unroll)
 
 -- what holds of each value that may be given next holds of what is given
 bind : {A : Type 0} (f : A → Option Request) (o : Option A) → ((a : A) → IfSome (f a) HasSome)
@@ -55,18 +56,35 @@ some_most : (word : Option Text) → IfSome (most_said word) (λ n. 0 < n)
 some_most None = omega arith
 some_most (Some word) = some_number most_count word
 
+turns_said : (file : Text) (word : Option Text) → IfSome (unroll_said file word) (λ n. 0 < n)
+turns_said file None = omega arith
+turns_said file (Some word) = go (is_c_name file)
+  where
+    go : (b : Bool) → IfSome (cond b (number_to most_turns word) None) (λ n. 0 < n)
+    go true = some_number most_turns word
+    go false = tt
+
 some_file : (k : Verb) (name : Text) (options : Options) → IfSome (request_of_file k name options) HasSome
 some_file k name options =
     bind _ (functions_said k name) (λ functions.
     bind_with _ (most_said options.number) (some_most options.number) (λ most some.
     bind _ (place_said name options.place) (λ place.
-    last (request_counted k name options functions most place) (seed_said options.seed) (λ seed. some))))
+    bind_with _ (unroll_said name options.unroll) (turns_said name options.unroll) (λ unroll turns.
+    last (request_counted k name options functions most place unroll) (seed_said options.seed)
+    (λ seed. (some, turns))))))
+
+some_taken : (k : Verb) (name : Text) (options : Options) → IfSome (request_taken k name options) HasSome
+some_taken k name options = go (takes_file k name)
+  where
+    go : (b : Bool) → IfSome (cond b (request_of_file k name options) None) HasSome
+    go true = some_file k name options
+    go false = tt
 
 some_with : (k : Verb) (file : Option Text) (options : Options) → IfSome (request_with k file options) HasSome
-some_with k file options = bind _ file (λ name. some_file k name options)
+some_with k file options = bind _ file (λ name. some_taken k name options)
 
 some_by : (words : List Text) (k : Verb) → IfSome (request_by words k) HasSome
-some_by words k = bind (request_of k) (words_read (options_of k) None [] words)
+some_by words k = bind (request_of k) (words_read (options_of k) (places_of k) None [] words)
     (λ said. some_with k (value_said file_name said) (options_said k said))
 
 some_asked : (words : List Text) → IfSome (asked words) HasSome
@@ -74,12 +92,26 @@ some_asked [] = tt
 some_asked (name ∷ words) = bind (request_by words) (verb_named name) (some_by words)
 
 seen_some : (o : Option Asked) (r : Option Request) → option_map request_seen o ≡ r → IfSome r HasSome
-    → IfSome o (λ a. 0 < a.most)
+    → IfSome o (λ a. HasSome (request_seen a))
 seen_some None r e h = tt
 seen_some (Some a) r e h = subst (λ (x : Option Request). IfSome x HasSome) (sym e) h
 
--- a request of the code that words make
+blocks_of : (o : Option Asked) → IfSome o (λ a. HasSome (request_seen a)) → IfSome o (λ a. 0 < a.most)
+blocks_of None h = tt
+blocks_of (Some a) h = h.0
+
+turns_of : (o : Option Asked) → IfSome o (λ a. HasSome (request_seen a)) → IfSome o (λ a. 0 < a.unroll)
+turns_of None h = tt
+turns_of (Some a) h = h.1
+
+-- a request of the code that words make has some blocks or steps
 pub some_blocks : {E : Type 0} (words : List Text) (r : Result (Option Asked) E)
     → IfOk r (λ o. option_map request_seen o ≡ asked words) → IfOk r (λ o. IfSome o (λ a. 0 < a.most))
 some_blocks words (Err e) h = tt
-some_blocks words (Ok o) h = seen_some o (asked words) h (some_asked words)
+some_blocks words (Ok o) h = blocks_of o (seen_some o (asked words) h (some_asked words))
+
+-- and some turns of a loop in a block
+pub some_turns : {E : Type 0} (words : List Text) (r : Result (Option Asked) E)
+    → IfOk r (λ o. option_map request_seen o ≡ asked words) → IfOk r (λ o. IfSome o (λ a. 0 < a.unroll))
+some_turns words (Err e) h = tt
+some_turns words (Ok o) h = turns_of o (seen_some o (asked words) h (some_asked words))

@@ -12,6 +12,7 @@ plain = record {
   input = None;
   most = 1000000;
   place = None;
+  unroll = 1;
   seed = 0;
   regs = false;
   trace = false;
@@ -57,6 +58,38 @@ place_is_large = refl
 pub no_image_is_placed : asked (codes "run" ∷ codes "b.img" ∷ codes "--place" ∷ codes "1" ∷ []) ≡ None
 unfolding verb_named
 no_image_is_placed = refl
+
+-- C is compiled with one to eight turns of a loop in a block, and nothing else is
+pub unrolled_is : asked (codes "compile" ∷ codes "--unroll=8" ∷ codes "a.c" ∷ [])
+    ≡ Some (record plain { command = command.Compile; unroll = 8 })
+unfolding verb_named
+unrolled_is = refl
+
+pub unrolled_too_often : asked (codes "run" ∷ codes "a.c" ∷ codes "--unroll" ∷ codes "9" ∷ []) ≡ None
+unfolding verb_named
+unrolled_too_often = refl
+
+pub no_image_is_unrolled : asked (codes "run" ∷ codes "b.img" ∷ codes "--unroll" ∷ codes "2" ∷ []) ≡ None
+unfolding verb_named
+no_image_is_unrolled = refl
+
+-- C is explained, without options, and nothing else is
+pub explained_is : asked (codes "explain" ∷ codes "a.c" ∷ [])
+    ≡ Some (record plain { command = command.Explain })
+unfolding verb_named
+explained_is = refl
+
+pub no_image_is_explained : asked (codes "explain" ∷ codes "b.img" ∷ []) ≡ None
+unfolding verb_named
+no_image_is_explained = refl
+
+pub no_target_is_explained : asked (codes "explain" ∷ codes "b.tasl" ∷ []) ≡ None
+unfolding verb_named
+no_target_is_explained = refl
+
+pub explained_without_input : asked (codes "explain" ∷ codes "a.c" ∷ codes "--input=b" ∷ []) ≡ None
+unfolding verb_named
+explained_without_input = refl
 
 -- the seed may be any word of the machine, and 0 where none is said
 pub seeded_is : asked (codes "bench" ∷ codes "3" ∷ codes "--cycles" ∷ codes "--seed"

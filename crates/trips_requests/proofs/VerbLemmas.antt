@@ -13,3 +13,4 @@ counts_steps verb.Compile r b = refl
 counts_steps verb.Assemble r b = refl
 counts_steps verb.Disassemble r b = refl
 counts_steps verb.Check r b = refl
+counts_steps verb.Explain r b = refl

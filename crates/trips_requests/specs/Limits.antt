@@ -16,6 +16,10 @@ most_count = 4000000
 abbrev pub most_seed : ℕ
 most_seed = 18446744073709551615
 
+-- the turns of a loop that a block of a compiled program may be asked to hold
+abbrev pub most_turns : ℕ
+most_turns = 8
+
 -- the blocks or steps that are taken where none are asked for
 abbrev pub default_count : ℕ
 default_count = 1000000

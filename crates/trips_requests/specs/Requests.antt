@@ -1,15 +1,14 @@
 -- Which request the words of a command line make (README.md of this crate).
-use Rattle.std.specs.Prelude.{ℕ, Bool, not, ◌&&◌, if◌then◌else◌, nat_eq, List, [], ◌∷◌, codes}
+use Rattle.std.specs.Prelude.{ℕ, Bool, if◌then◌else◌, List, [], ◌∷◌, codes}
 use Rattle.std.specs.Prelude.{Option, None, Some, option_map, option_and_then}
-use Rattle.std.specs.List.{ends_with}
 use Rattle.std.specs.Str.{bytes_eq}
 use Rattle.trips_requests.specs.declared.commands.Command.{Command}
 use Rattle.trips_requests.specs.declared.commands.Command.TheVariants as command
 use Rattle.trips_requests.specs.declared.commands.Verb.{Verb}
 use Rattle.trips_requests.specs.declared.commands.Verb.TheVariants as verb
-use Rattle.trips_requests.specs.Limits.{default_count, most_count, most_functions, most_seed}
+use Rattle.trips_requests.specs.Limits.{default_count, most_count, most_functions, most_seed, most_turns}
 use Rattle.trips_requests.specs.Limits.{number_to, number_within}
-use Rattle.trips_requests.specs.Options.{Options, options_of, options_said}
+use Rattle.trips_requests.specs.Options.{Options, is_c_name, options_of, options_said, places_of, takes_file}
 use Rattle.trips_requests.specs.Words.{Text, Said, file_name, value_said, words_read}
 
 -- what a name stands for
@@ -21,7 +20,8 @@ verb_named name =
     else if bytes_eq name (codes "compile") then Some verb.Compile
     else if bytes_eq name (codes "asm") then Some verb.Assemble
     else if bytes_eq name (codes "dis") then Some verb.Disassemble
-    else if bytes_eq name (codes "check") then Some verb.Check else None
+    else if bytes_eq name (codes "check") then Some verb.Check
+    else if bytes_eq name (codes "explain") then Some verb.Explain else None
 
 -- what is done: the benchmark is run
 abbrev pub command_of : Verb → Command
@@ -32,10 +32,12 @@ command_of verb.Compile = command.Compile
 command_of verb.Assemble = command.Assemble
 command_of verb.Disassemble = command.Disassemble
 command_of verb.Check = command.Check
+command_of verb.Explain = command.Explain
 
 -- What is asked for: a command and its file, or how many functions the benchmark's text has that is run in place of
 -- it, the name of the input if there is one, how many blocks or steps it may take, the number by which compiled
--- blocks are placed if one is said, the seed of the grid, and whether registers, trace and counts are shown.
+-- blocks are placed if one is said, how many turns of a loop one of these may hold, the seed of the grid, and whether
+-- registers, trace and counts are shown.
 pub record Request : Type 0 where
   pub command : Command
   pub file : Text
@@ -46,6 +48,8 @@ pub record Request : Type 0 where
   pub most : ℕ
   -- without a number instructions are placed greedily
   pub place : Option ℕ
+  -- how many turns of a loop a compiled block may hold
+  pub unroll : ℕ
   pub seed : ℕ
   -- what is shown behind the ending of a run: registers, committed blocks with their exits, and the grid's counts
   pub regs : Bool
@@ -57,16 +61,17 @@ abbrev pub most_said : Option Text → Option ℕ
 most_said None = Some default_count
 most_said (Some word) = number_to most_count word
 
--- the file is C, by the ending of its name
-abbrev pub is_c_name : Text → Bool
-is_c_name file = not (ends_with nat_eq file (codes ".img")) && not (ends_with nat_eq file (codes ".tasl"))
-
 -- The number by which compiled blocks are placed, if one is said. It is said of C alone, and may be any word
 -- of the machine.
 abbrev pub place_said : Text → Option Text → Option (Option ℕ)
 place_said file None = Some None
 place_said file (Some word) =
     if is_c_name file then option_map (λ n. Some n) (number_within most_seed word) else None
+
+-- How many turns of a loop a compiled block may hold. It is said of C alone, and is 1 where none is said.
+abbrev pub unroll_said : Text → Option Text → Option ℕ
+unroll_said file None = Some 1
+unroll_said file (Some word) = if is_c_name file then number_to most_turns word else None
 
 -- the seed, which may be any word of the machine, and is 0 where none is said
 abbrev pub seed_said : Option Text → Option ℕ
@@ -79,14 +84,15 @@ functions_said verb.Bench word = option_map (λ n. Some n) (number_to most_funct
 functions_said other word = Some None
 
 -- the request of a command, of its file or its number of functions, of its numbers and of its options
-abbrev pub request_counted : Verb → Text → Options → Option ℕ → ℕ → Option ℕ → ℕ → Request
-request_counted k name options functions most place seed = record {
+abbrev pub request_counted : Verb → Text → Options → Option ℕ → ℕ → Option ℕ → ℕ → ℕ → Request
+request_counted k name options functions most place unroll seed = record {
   command = command_of k;
   file = name;
   functions = functions;
   input = options.input;
   most = most;
   place = place;
+  unroll = unroll;
   seed = seed;
   regs = options.regs;
   trace = options.trace;
@@ -97,13 +103,18 @@ request_counted k name options functions most place seed = record {
 -- their ranges
 abbrev pub request_of_file : Verb → Text → Options → Option Request
 request_of_file k name options =
-    option_and_then (λ functions. option_and_then (λ most. option_and_then (λ place.
-    option_map (request_counted k name options functions most place) (seed_said options.seed))
-    (place_said name options.place)) (most_said options.number)) (functions_said k name)
+    option_and_then (λ functions. option_and_then (λ most. option_and_then (λ place. option_and_then (λ unroll.
+    option_map (request_counted k name options functions most place unroll) (seed_said options.seed))
+    (unroll_said name options.unroll)) (place_said name options.place)) (most_said options.number))
+    (functions_said k name)
+
+-- the request of a command, of its file, which it takes, and of its options
+abbrev pub request_taken : Verb → Text → Options → Option Request
+request_taken k name options = if takes_file k name then request_of_file k name options else None
 
 -- the request of a command, of its file, which it has, and of its options
 abbrev pub request_with : Verb → Option Text → Options → Option Request
-request_with k file options = option_and_then (λ name. request_of_file k name options) file
+request_with k file options = option_and_then (λ name. request_taken k name options) file
 
 -- the request of a command and what its words say
 abbrev pub request_of : Verb → Said → Option Request
@@ -111,7 +122,7 @@ request_of k said = request_with k (value_said file_name said) (options_said k s
 
 -- the request of a command and its words
 abbrev pub request_by : List Text → Verb → Option Request
-request_by words k = option_and_then (request_of k) (words_read (options_of k) None [] words)
+request_by words k = option_and_then (request_of k) (words_read (options_of k) (places_of k) None [] words)
 
 -- the request of the words of a command line, without the program's name
 abbrev pub asked : List Text → Option Request

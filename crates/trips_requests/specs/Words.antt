@@ -1,5 +1,5 @@
 -- What the words behind a command's name say (README.md of this crate): `--name value` or
--- `--name=value`, `--name` alone for a flag, and one file, before or behind the options.
+-- `--name=value`, `--name` alone for a flag, and words without a name, before or behind the options.
 use Rattle.std.specs.Prelude.{ℕ, Bool, false, ◌&&◌, ◌==◌, if◌then◌else◌, List, [], ◌∷◌, ◌++◌, codes}
 use Rattle.std.specs.Prelude.{Option, None, Some, option_map, option_and_then, find}
 use Rattle.std.specs.List.{list_any, before_first, after_first}
@@ -24,7 +24,7 @@ abbrev pub named : Text → List Named → Option Named
 named name options = find (λ o. bytes_eq (name_of o) name) options
 
 -- what words say, in their order, each under its name: an option with its value, a flag with
--- `true`, and the file under `FILE`
+-- `true`, and a word that stands alone under the name of its place, as `FILE`
 abbrev pub Said : Type 0
 Said = List (Text × Text)
 
@@ -67,45 +67,51 @@ value_in text =
 
 -- reading -----------------------------------------------------------------------------------------
 
--- How the words that follow are read, from the option that waits for its value, if one does, and
--- from what was said before.
+-- How the words that follow are read, from the places that are left for words that stand alone, from
+-- the option that waits for its value, if one does, and from what was said before.
 abbrev pub Rest : Type 0
-Rest = Option Text → Said → Option Said
+Rest = List Text → Option Text → Said → Option Said
 
 -- they are read where one thing more could be said
-abbrev pub goes_on : Rest → Option Said → Option Said
-goes_on rest said = option_and_then (rest None) said
+abbrev pub goes_on : Rest → List Text → Option Said → Option Said
+goes_on rest places said = option_and_then (rest places None) said
+
+-- a word that stands alone is said under the name of the first place that is left
+abbrev pub placed : List Text → Text → Said → (List Text → Said → Option Said) → Option Said
+placed [] word said rest = None
+placed (place ∷ places) word said rest = rest places (said ++ (place, word) ∷ [])
 
 -- an option, with the value behind its `=`
-abbrev pub option_read : Option Named → Option Text → Said → Rest → Option Said
-option_read None value said rest = None
-option_read (Some (valued name)) (Some value) said rest = goes_on rest (and_said name value said)
-option_read (Some (valued name)) None said rest = rest (Some name) said
-option_read (Some (flag name)) (Some value) said rest = None
-option_read (Some (flag name)) None said rest = goes_on rest (and_said name (codes "true") said)
+abbrev pub option_read : Option Named → Option Text → List Text → Said → Rest → Option Said
+option_read None value places said rest = None
+option_read (Some (valued name)) (Some value) places said rest =
+    goes_on rest places (and_said name value said)
+option_read (Some (valued name)) None places said rest = rest places (Some name) said
+option_read (Some (flag name)) (Some value) places said rest = None
+option_read (Some (flag name)) None places said rest =
+    goes_on rest places (and_said name (codes "true") said)
 
--- a word, by what follows its two dashes: an option, or the file
-abbrev pub word_read : List Named → Text → Option Text → Said → Rest → Option Said
-word_read options word (Some text) said rest =
-    option_read (named (name_in text) options) (value_in text) said rest
-word_read options word None said rest =
-    if is_dashed word then None else goes_on rest (and_said file_name word said)
+-- a word, by what follows its two dashes: an option, or a word that stands alone
+abbrev pub word_read : List Named → Text → Option Text → List Text → Said → Rest → Option Said
+word_read options word (Some text) places said rest =
+    option_read (named (name_in text) options) (value_in text) places said rest
+word_read options word None places said rest =
+    if is_dashed word then None else placed places word said (λ left more. rest left None more)
 
--- words behind `--`, each of which is a file
-abbrev pub files_read : Said → List Text → Option Said
-files_read said [] = Some said
-files_read said (word ∷ words) =
-    option_and_then (λ more. files_read more words) (and_said file_name word said)
+-- words behind `--`, each of which stands alone
+abbrev pub alone_read : List Text → Said → List Text → Option Said
+alone_read places said [] = Some said
+alone_read places said (word ∷ words) = placed places word said (λ left more. alone_read left more words)
 
--- What the words say where a command has these options, from the option that waits for its value
--- and from what was said before; none where a word says nothing.
-abbrev pub words_read : List Named → Option Text → Said → List Text → Option Said
-words_read options None said [] = Some said
-words_read options (Some name) said [] = None
-words_read options (Some name) said (word ∷ words) =
+-- What the words say where a command has these options, from the places that are left, from the
+-- option that waits for its value and from what was said before; none where a word says nothing.
+abbrev pub words_read : List Named → List Text → Option Text → Said → List Text → Option Said
+words_read options places None said [] = Some said
+words_read options places (Some name) said [] = None
+words_read options places (Some name) said (word ∷ words) =
     if is_dashed word then None
-    else option_and_then (λ more. words_read options None more words) (and_said name word said)
-words_read options None said (word ∷ words) =
-    if bytes_eq word (codes "--") then files_read said words
-    else word_read options word (behind_dashes word) said
-    (λ waits more. words_read options waits more words)
+    else option_and_then (λ more. words_read options places None more words) (and_said name word said)
+words_read options places None said (word ∷ words) =
+    if bytes_eq word (codes "--") then alone_read places said words
+    else word_read options word (behind_dashes word) places said
+    (λ left waits more. words_read options left waits more words)

@@ -1,14 +1,16 @@
 //! The request of a command, of its file and of what was found of its options.
 
 ghost use Rattle.std.specs.Prelude.{◌≡◌, option_map, option_copied};
-ghost use Rattle.trips_requests.specs.Options.{counted, is_on};
+ghost use Rattle.trips_requests.specs.Options.{counted, is_c_name, is_on, takes_file};
 ghost use Rattle.trips_requests.specs.inside.Options.{options_seen};
 ghost use Rattle.trips_requests.specs.Requests.{verb_named, command_of, most_said};
-ghost use Rattle.trips_requests.specs.Requests.{functions_said, is_c_name, place_said, seed_said};
-ghost use Rattle.trips_requests.specs.Requests.{request_of_file, request_with};
+ghost use Rattle.trips_requests.specs.Requests.{functions_said, place_said, seed_said, unroll_said};
+ghost use Rattle.trips_requests.specs.Requests.{request_of_file, request_taken, request_with};
 ghost use Rattle.trips_requests.specs.inside.Requests.{request_seen};
 
-use crate::commands::{Asked, Command, DEFAULT_COUNT, MOST_COUNT, MOST_FUNCTIONS, MOST_SEED, Verb};
+use crate::commands::{
+    Asked, Command, DEFAULT_COUNT, MOST_COUNT, MOST_FUNCTIONS, MOST_SEED, MOST_TURNS, Verb,
+};
 use crate::number::{number, number_within};
 
 /// What was found of a command's options: each value if it is said, and whether a flag is.
@@ -18,6 +20,8 @@ pub struct FoundOptions<'a> {
     /// how many blocks or steps
     pub number: Option<&'a str>,
     pub place: Option<&'a str>,
+    /// how many turns of a loop a block may hold
+    pub unroll: Option<&'a str>,
     pub seed: Option<&'a str>,
     pub regs: bool,
     pub trace: bool,
@@ -43,6 +47,8 @@ pub fn verb_named(name: &str) -> Option<Verb>
         Some(Verb::Disassemble)
     } else if name == "check" {
         Some(Verb::Check)
+    } else if name == "explain" {
+        Some(Verb::Explain)
     } else {
         None
     }
@@ -60,6 +66,7 @@ fn command_of(verb: Verb) -> Command
         Verb::Assemble => Command::Assemble,
         Verb::Disassemble => Command::Disassemble,
         Verb::Check => Command::Check,
+        Verb::Explain => Command::Explain,
     }
 }
 
@@ -114,6 +121,16 @@ fn is_c_name(file: &str) -> bool
     !bytes.ends_with(b".img") && !bytes.ends_with(b".tasl")
 }
 
+// Whether the name of the file is one that the command takes.
+fn takes_file(command: Verb, file: &str) -> bool
+    ensures { result ≡ takes_file command file.now }
+{
+    match command {
+        Verb::Explain => is_c_name(file),
+        _ => true,
+    }
+}
+
 // The number by which compiled blocks are placed, if one is said: of C alone.
 fn place_said(file: &str, word: Option<&str>) -> Option<Option<u64>>
     ensures { result ≡ place_said file.now (option_copied word.entry) }
@@ -126,6 +143,22 @@ fn place_said(file: &str, word: Option<&str>) -> Option<Option<u64>>
             }
             let place = number_within(word.as_bytes(), MOST_SEED)?;
             Some(Some(place))
+        }
+    }
+}
+
+// How many turns of a loop a compiled block may hold, and 1 where none is said: of C alone.
+fn unroll_said(file: &str, word: Option<&str>) -> Option<u8>
+    ensures { result ≡ unroll_said file.now (option_copied word.entry) }
+{
+    match word {
+        None => Some(1),
+        Some(word) => {
+            if !is_c_name(file) {
+                return None;
+            }
+            let turns = number(word.as_bytes(), MOST_TURNS)?;
+            Some(turns as u8)
         }
     }
 }
@@ -148,6 +181,7 @@ fn request_of_file<'a>(command: Verb, file: &'a str, options: FoundOptions<'a>) 
     let functions = functions_said(command, file)?;
     let most = most_said(options.number)?;
     let place = place_said(file, options.place)?;
+    let unroll = unroll_said(file, options.unroll)?;
     let seed = seed_said(options.seed)?;
     Some(Asked {
         command: command_of(command),
@@ -156,11 +190,23 @@ fn request_of_file<'a>(command: Verb, file: &'a str, options: FoundOptions<'a>) 
         input: options.input,
         most,
         place,
+        unroll,
         seed,
         regs: options.regs,
         trace: options.trace,
         cycles: options.cycles,
     })
+}
+
+// The request of a command, of its file, which it takes, and of its options.
+fn request_taken<'a>(command: Verb, file: &'a str, options: FoundOptions<'a>) -> Option<Asked<'a>>
+    ensures { option_map request_seen result
+        ≡ request_taken command file.now (options_seen options.entry) }
+{
+    if !takes_file(command, file) {
+        return None;
+    }
+    request_of_file(command, file, options)
 }
 
 /// The request of a command, of its file and of its options.
@@ -172,5 +218,5 @@ pub fn request_with<'a>(
     ensures { option_map request_seen result
         ≡ request_with command (option_copied file.entry) (options_seen options.entry) }
 {
-    request_of_file(command, file?, options)
+    request_taken(command, file?, options)
 }

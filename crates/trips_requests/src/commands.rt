@@ -12,6 +12,7 @@ pub enum Command {
     Assemble,
     Disassemble,
     Check,
+    Explain,
 }
 
 /// What the first word of a command line names. The benchmark is a run of a text that is made.
@@ -24,6 +25,7 @@ pub enum Verb {
     Assemble,
     Disassemble,
     Check,
+    Explain,
 }
 
 /// What is done with a file that holds no C.
@@ -43,6 +45,9 @@ pub const MOST_COUNT: u32 = 4_000_000;
 /// The greatest seed, and the greatest number by which blocks may be placed.
 pub const MOST_SEED: u64 = 18_446_744_073_709_551_615;
 
+/// The most turns of a loop that a block of a compiled program may be asked to hold.
+pub const MOST_TURNS: u32 = 8;
+
 /// How many blocks or steps are taken where none are asked for.
 pub const DEFAULT_COUNT: u32 = 1_000_000;
 
@@ -51,6 +56,7 @@ pub fn constants_are_the_definitions()
     ensures functions { MOST_FUNCTIONS ≡ limits.most_functions }
     ensures count { MOST_COUNT ≡ limits.most_count }
     ensures seed { MOST_SEED ≡ limits.most_seed }
+    ensures turns { MOST_TURNS ≡ limits.most_turns }
     ensures default { DEFAULT_COUNT ≡ limits.default_count }
 {}
 
@@ -67,6 +73,8 @@ pub struct Asked<'a> {
     pub most: u32,
     /// the number by which compiled blocks are placed, if one is said
     pub place: Option<u64>,
+    /// how many turns of a loop a compiled block may hold, from 1 to 8
+    pub unroll: u8,
     /// the seed of the predictor and of the network's delays
     pub seed: u64,
     /// whether the registers are shown

@@ -45,7 +45,8 @@ pub fn number_within(word: &[u8], most: u64) -> Option<u64>
 
 /// The number that a word of the command line says, where it is from 1 to `most`.
 pub fn number(word: &[u8], most: u32) -> Option<u32>
-    ensures { result ≡ number_to most word.now }
+    ensures value { result ≡ number_to most word.now }
+    ensures few { IfSome result (λ value. value ≤ most) }
 {
     if !is_number_word(word) {
         return None;

@@ -17,8 +17,8 @@ ghost use Rattle.block_check.specs.Faults.{IsGood};
 ghost use Rattle.trips_outside.specs.Outside.{Rose, Appended};
 ghost use Rattle.target_asm_spec.specs.Text.{TargetText};
 ghost use Rattle.trips_report.specs.declared.show.Show.{Show};
-ghost use Rattle.trips_requests.specs.declared.commands.Command.{Command as Work};
-ghost use Rattle.trips_requests.specs.declared.commands.Command.TheVariants.{Run, Compile, Evaluate};
+ghost use Rattle.trips_answers.specs.Work.{Work};
+ghost use Rattle.trips_answers.specs.Work.{Run, Compile, Evaluate};
 ghost use Rattle.trips_requests.specs.Table.{IsOneOf};
 ghost use Rattle.trips_answers.specs.declared.forms.FileForm.{FileForm};
 ghost use Rattle.trips_answers.specs.declared.forms.FileForm.TheVariants as form;
@@ -82,7 +82,7 @@ pub fn answer_words<F: Files, K: Sink>(
         (F.faults files.old) (F.faults files.new) (K.faults sink.old) (K.faults sink.new) result)
         → IsAccepted text program → eval program input n ≡ Done output value steps
         → 16 * n + 16 ≤ most
-        → (image : Image) × IsImageOf text call.asks.q.placing image
+        → (image : Image) × IsImageOf text call.asks.q.placing call.asks.q.unroll image
         × ((runs image.blocks (start image.bytes input) most).1 ≡ stepped.Ended)
         × (told : IsReported image input (settings_with call.asks.q most show) Status.Ended
         (ended_report output value) result (K.written sink.old) (K.written sink.new))
@@ -95,7 +95,7 @@ pub fn answer_words<F: Files, K: Sink>(
         (F.faults files.old) (F.faults files.new) (K.faults sink.old) (K.faults sink.new) result)
         → IsAccepted text program → eval program input n ≡ Stopped Deep output
         → 16 * n + 16 ≤ most
-        → (image : Image) × IsImageOf text call.asks.q.placing image
+        → (image : Image) × IsImageOf text call.asks.q.placing call.asks.q.unroll image
         × ((runs image.blocks (start image.bytes input) most).1 ≡ stepped.StackFull)
         × IsReported image input (settings_with call.asks.q most show) Status.StackFull (full_report output)
         result (K.written sink.old) (K.written sink.new) }
@@ -106,7 +106,7 @@ pub fn answer_words<F: Files, K: Sink>(
         → (call : IsServed (request_of words.now) (F.held files.old) Run form.Source most nothing_shown text input
         (F.faults files.old) (F.faults files.new) (K.faults sink.old) (K.faults sink.new) result)
         → IsAccepted text program
-        → (image : Image) × IsImageOf text call.asks.q.placing image
+        → (image : Image) × IsImageOf text call.asks.q.placing call.asks.q.unroll image
         × let run = runs image.blocks (start image.bytes input) most in
         (result ≡ status_of (ending_of run.1 run.0.next))
         × Appended (K.written sink.old) (K.written sink.new)
@@ -115,7 +115,7 @@ pub fn answer_words<F: Files, K: Sink>(
         → (call : IsServed (request_of words.now) (F.held files.old) Run form.Source most show text input
         (F.faults files.old) (F.faults files.new) (K.faults sink.old) (K.faults sink.new) result)
         → IsAccepted text program
-        → (image : Image) × IsImageOf text call.asks.q.placing image
+        → (image : Image) × IsImageOf text call.asks.q.placing call.asks.q.unroll image
         × let run = runs image.blocks (start image.bytes input) most in
         IsReported image input (settings_with call.asks.q most show) (status_of (ending_of run.1 run.0.next))
         (run_report (ending_of run.1 run.0.next) run.0) result (K.written sink.old) (K.written sink.new) }
@@ -143,7 +143,8 @@ pub fn answer_words<F: Files, K: Sink>(
         → (call : IsServed (request_of words.now) (F.held files.old) Compile how most show text input
         (F.faults files.old) (F.faults files.new) (K.faults sink.old) (K.faults sink.new) result)
         → IsAccepted text program
-        → (image : Image) × IsImageOf text call.asks.q.placing image × (bytes : List ℕ) × ImageBytes image bytes
+        → (image : Image) × IsImageOf text call.asks.q.placing call.asks.q.unroll image × (bytes : List ℕ)
+        × ImageBytes image bytes
         × (result ≡ Status.Ended) × Appended (K.written sink.old) (K.written sink.new) bytes }
 
     // A refusal's report is appended, and no other: the stage, its number, the name and the place.

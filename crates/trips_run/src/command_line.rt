@@ -16,6 +16,7 @@ use trips_words::request;
 fn asked_by(alloc: Global, words: &[String]) -> Result<Option<Asked<'_>>, AllocError>
     ensures asked { IfOk result (λ asked. option_map request_seen asked ≡ request_of words.now) }
     ensures some { IfOk result (λ asked. IfSome asked (λ request. 0 < request.most)) }
+    ensures turns { IfOk result (λ asked. IfSome asked (λ request. 0 < request.unroll)) }
 {
     match request(alloc, words) {
         Ok(asked) => Ok(asked),

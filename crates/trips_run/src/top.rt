@@ -7,8 +7,8 @@ ghost use Rattle.c_meaning_spec.specs.Eval.{Stopped, Done, eval};
 ghost use Rattle.c_compile.specs.Meant.{DoesText};
 ghost use Rattle.trips_outside.specs.Outside.{Appended, Rose, Undisturbed};
 ghost use Rattle.trips_report.specs.declared.show.Show.{Show};
-ghost use Rattle.trips_requests.specs.declared.commands.Command.{Command as Work};
-ghost use Rattle.trips_requests.specs.declared.commands.Command.TheVariants.{Run, Evaluate, Compile};
+ghost use Rattle.trips_answers.specs.Work.{Work};
+ghost use Rattle.trips_answers.specs.Work.{Run, Evaluate, Compile};
 ghost use Rattle.trips_requests.specs.Table.{IsOneOf, IsWritten, Reports, Wrote};
 ghost use Rattle.trips_requests.specs.Texts.{too_large_text};
 ghost use Rattle.trips_eval_answers.specs.Evaluation.{eval_status, outcome_of, eval_report};
@@ -55,9 +55,9 @@ pub fn trips_run<F: Files, K: Sink>(
     // Whatever its evaluation comes to and whatever is asked for behind the ending: there is an image that does what
     // the text means, and the machine's run of it is reported, with counts that are within the cost of its blocks.
     ensures text_run { (most : ℕ) (show : Show) (text input : List ℕ) (program : TypedProgram)
-        → IsServed (request_of words.now) (F.held files.old) Run form.Source most show text input
-        (F.faults files.old) (F.faults files.new) (K.faults sink.old) (K.faults sink.new) result
-        → IsAccepted text program → (image : Image) × DoesText text image
+        → (call : IsServed (request_of words.now) (F.held files.old) Run form.Source most show text input
+        (F.faults files.old) (F.faults files.new) (K.faults sink.old) (K.faults sink.new) result)
+        → IsAccepted text program → (image : Image) × DoesText text call.asks.q.unroll image
         × Wrote (K.written sink.old) (K.written sink.new) (TellsRun image input most show result) }
 
     // So is the run of an image of good blocks, which an image's file or a target text holds.
@@ -76,12 +76,13 @@ pub fn trips_run<F: Files, K: Sink>(
 
     // An accepted program is compiled: the bytes of an image are written that does what the text means.
     ensures compiled { (how : FileForm) (most : ℕ) (show : Show) (text input : List ℕ) (program : TypedProgram)
-        → IsServed (request_of words.now) (F.held files.old) Compile how most show text input
-        (F.faults files.old) (F.faults files.new) (K.faults sink.old) (K.faults sink.new) result
-        → IsAccepted text program → (bytes : List ℕ) × WritesImage text bytes
+        → (call : IsServed (request_of words.now) (F.held files.old) Compile how most show text input
+        (F.faults files.old) (F.faults files.new) (K.faults sink.old) (K.faults sink.new) result)
+        → IsAccepted text program → (bytes : List ℕ) × WritesImage text call.asks.q.unroll bytes
         × Reports result (K.written sink.old) (K.written sink.new) Status.Ended bytes }
 
-    // What `asm`, `dis` or `check` makes of its file is written, and nothing else.
+    // What `asm`, `dis` or `check` makes of its file, or `explain` tells of an accepted text, is written, and nothing
+    // else.
     ensures made { (work : Work) (how : FileForm) (most : ℕ) (show : Show) (bytes input made : List ℕ)
         → IsServed (request_of words.now) (F.held files.old) work how most show bytes input
         (F.faults files.old) (F.faults files.new) (K.faults sink.old) (K.faults sink.new) result

@@ -96,6 +96,11 @@ const ASKED: &[Row] = &[
         },
     ),
     (
+        &["run", "a.c", "--unroll", "8"],
+        Asked { unroll: 8, ..PLAIN },
+    ),
+    (&["run", "--unroll=01", "a.c"], Asked { unroll: 1, ..PLAIN }),
+    (
         &["run", "b.img"],
         Asked {
             file: "b.img",
@@ -142,6 +147,13 @@ const ASKED: &[Row] = &[
         &["check", "a.c"],
         Asked {
             command: Command::Check,
+            ..PLAIN
+        },
+    ),
+    (
+        &["explain", "a.c"],
+        Asked {
+            command: Command::Explain,
             ..PLAIN
         },
     ),

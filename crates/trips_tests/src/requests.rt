@@ -13,6 +13,7 @@ pub const PLAIN: Asked<'static> = Asked {
     input: None,
     most: 1_000_000,
     place: None,
+    unroll: 1,
     seed: 0,
     regs: false,
     trace: false,
@@ -45,6 +46,7 @@ pub fn assert_asked(
     assert!(rt; asked.input == wanted.input, "{texts:?}");
     assert!(rt; asked.most == wanted.most, "{texts:?}");
     assert!(rt; asked.place == wanted.place, "{texts:?}");
+    assert!(rt; asked.unroll == wanted.unroll, "{texts:?}");
     assert!(rt; asked.seed == wanted.seed, "{texts:?}");
     assert!(rt; asked.cycles == wanted.cycles, "{texts:?}");
     assert!(rt; asked.regs == wanted.regs, "{texts:?}");

@@ -12,30 +12,50 @@ use Rattle.clap.specs.declared.builder.command.Command.TheViews.{out-Command}
 use Rattle.trips_requests.specs.declared.commands.Verb.{Verb}
 use Rattle.trips_requests.specs.declared.commands.Verb.TheVariants as verb
 use Rattle.trips_requests.specs.Words.{Text, Named, Said, file_name, value_said}
-use Rattle.trips_requests.specs.Options.{run_options, bench_options, eval_options, compile_options, options_of}
-use Rattle.trips_requests.specs.Options.{counted, is_on, Options}
+use Rattle.trips_requests.specs.Options.{run_options, bench_options, eval_options, compile_options}
+use Rattle.trips_requests.specs.Options.{options_of, places_of, counted, is_on, Options}
 use Rattle.trips_requests.specs.Requests.{Request, verb_named, request_of, request_by, asked}
 use Rattle.trips_words.specs.inside.Read.{IsRead, is_flag, or_off, FindsSaid, Tells}
 
 -- the command `run` is read as its words say
-pub run_read : IsRead (codes "run") run_options
-run_read = record { builds = refl; simple = refl; no_file = refl }
+pub run_read : IsRead (codes "run") run_options (file_name ∷ [])
+run_read = record {
+  builds = refl;
+  simple = refl;
+  has = (record { by_index = refl; by_id = refl; no_option = refl; others = tt; follows = refl }, refl);
+}
 
 -- the command `bench` is read as its words say
-pub bench_read : IsRead (codes "bench") bench_options
-bench_read = record { builds = refl; simple = refl; no_file = refl }
+pub bench_read : IsRead (codes "bench") bench_options (file_name ∷ [])
+bench_read = record {
+  builds = refl;
+  simple = refl;
+  has = (record { by_index = refl; by_id = refl; no_option = refl; others = tt; follows = refl }, refl);
+}
 
 -- the command `eval` is read as its words say
-pub eval_read : IsRead (codes "eval") eval_options
-eval_read = record { builds = refl; simple = refl; no_file = refl }
+pub eval_read : IsRead (codes "eval") eval_options (file_name ∷ [])
+eval_read = record {
+  builds = refl;
+  simple = refl;
+  has = (record { by_index = refl; by_id = refl; no_option = refl; others = tt; follows = refl }, refl);
+}
 
 -- the command `compile` is read as its words say
-pub compile_read : IsRead (codes "compile") compile_options
-compile_read = record { builds = refl; simple = refl; no_file = refl }
+pub compile_read : IsRead (codes "compile") compile_options (file_name ∷ [])
+compile_read = record {
+  builds = refl;
+  simple = refl;
+  has = (record { by_index = refl; by_id = refl; no_option = refl; others = tt; follows = refl }, refl);
+}
 
 -- the command without options is read as its words say
-pub plain_read : IsRead (codes "trips") []
-plain_read = record { builds = refl; simple = refl; no_file = refl }
+pub plain_read : IsRead (codes "trips") [] (file_name ∷ [])
+plain_read = record {
+  builds = refl;
+  simple = refl;
+  has = (record { by_index = refl; by_id = refl; no_option = refl; others = tt; follows = refl }, refl);
+}
 
 -- a command without its help flag
 abbrev pub helpless : App → App
@@ -47,16 +67,18 @@ pub is_helpless : (old new : ClapCommand)
     → app_of new ≡ helpless (app_of old)
 is_helpless old new e = ap app_of_fields e
 
--- the commands beside `run`, `bench`, `eval` and `compile` have no options
-pub no_options : (k : Verb) → (k ≡ verb.Run → ⊥) → (k ≡ verb.Bench → ⊥) → (k ≡ verb.Evaluate → ⊥)
-    → (k ≡ verb.Compile → ⊥) → options_of k ≡ []
-no_options verb.Run r b e c = absurd (r refl)
-no_options verb.Bench r b e c = absurd (b refl)
-no_options verb.Evaluate r b e c = absurd (e refl)
-no_options verb.Compile r b e c = absurd (c refl)
-no_options verb.Assemble r b e c = refl
-no_options verb.Disassemble r b e c = refl
-no_options verb.Check r b e c = refl
+-- what holds without options and with a file as the one place holds of the commands beside `run`, `bench`, `eval` and
+-- `compile`
+pub of_plain : (P : List Named → List Text → Type 0) (k : Verb) → (k ≡ verb.Run → ⊥) → (k ≡ verb.Bench → ⊥)
+    → (k ≡ verb.Evaluate → ⊥) → (k ≡ verb.Compile → ⊥) → P [] (file_name ∷ []) → P (options_of k) (places_of k)
+of_plain P verb.Run r b e c h = absurd (r refl)
+of_plain P verb.Bench r b e c h = absurd (b refl)
+of_plain P verb.Evaluate r b e c h = absurd (e refl)
+of_plain P verb.Compile r b e c h = absurd (c refl)
+of_plain P verb.Assemble r b e c h = h
+of_plain P verb.Disassemble r b e c h = h
+of_plain P verb.Check r b e c h = h
+of_plain P verb.Explain r b e c h = h
 
 -- requests ----------------------------------------------------------------------------------------
 
@@ -69,6 +91,7 @@ no_flag_file verb.Compile = refl
 no_flag_file verb.Assemble = refl
 no_flag_file verb.Disassemble = refl
 no_flag_file verb.Check = refl
+no_flag_file verb.Explain = refl
 
 -- the input is no flag of a command
 pub no_flag_input : (k : Verb) → is_flag (codes "input") (options_of k) ≡ false
@@ -79,6 +102,7 @@ no_flag_input verb.Compile = refl
 no_flag_input verb.Assemble = refl
 no_flag_input verb.Disassemble = refl
 no_flag_input verb.Check = refl
+no_flag_input verb.Explain = refl
 
 -- the count of a command is no flag
 pub no_flag_count : (k : Verb) → is_flag (counted k) (options_of k) ≡ false
@@ -89,6 +113,7 @@ no_flag_count verb.Compile = refl
 no_flag_count verb.Assemble = refl
 no_flag_count verb.Disassemble = refl
 no_flag_count verb.Check = refl
+no_flag_count verb.Explain = refl
 
 -- the placing is no flag of a command
 pub no_flag_place : (k : Verb) → is_flag (codes "place") (options_of k) ≡ false
@@ -99,6 +124,18 @@ no_flag_place verb.Compile = refl
 no_flag_place verb.Assemble = refl
 no_flag_place verb.Disassemble = refl
 no_flag_place verb.Check = refl
+no_flag_place verb.Explain = refl
+
+-- the turns of a loop are no flag of a command
+pub no_flag_unroll : (k : Verb) → is_flag (codes "unroll") (options_of k) ≡ false
+no_flag_unroll verb.Run = refl
+no_flag_unroll verb.Bench = refl
+no_flag_unroll verb.Evaluate = refl
+no_flag_unroll verb.Compile = refl
+no_flag_unroll verb.Assemble = refl
+no_flag_unroll verb.Disassemble = refl
+no_flag_unroll verb.Check = refl
+no_flag_unroll verb.Explain = refl
 
 -- the seed is no flag of a command
 pub no_flag_seed : (k : Verb) → is_flag (codes "seed") (options_of k) ≡ false
@@ -109,6 +146,7 @@ no_flag_seed verb.Compile = refl
 no_flag_seed verb.Assemble = refl
 no_flag_seed verb.Disassemble = refl
 no_flag_seed verb.Check = refl
+no_flag_seed verb.Explain = refl
 
 -- what is found under the name of no flag is what is said
 pub found_said : (options : List Named) (said : Said) (m : ArgMatches) (name : Text)
@@ -127,11 +165,13 @@ pub found_on : (options : List Named) (said : Said) (m : ArgMatches) (name : Tex
 found_on options said m name f = ap is_on (f name) ∙ on_is (is_flag name options) (value_said name said)
 
 -- options by their parts
-abbrev pub options_by : Option Text → Option Text → Option Text → Option Text → Bool → Bool → Bool → Options
-options_by input number place seed regs trace cycles = record {
+abbrev pub options_by : Option Text → Option Text → Option Text → Option Text → Option Text → Bool → Bool → Bool
+    → Options
+options_by input number place unroll seed regs trace cycles = record {
   input = input;
   number = number;
   place = place;
+  unroll = unroll;
   seed = seed;
   regs = regs;
   trace = trace;
@@ -139,20 +179,21 @@ options_by input number place seed regs trace cycles = record {
 }
 
 -- options that are the same part by part
-pub same_options : (input input' number number' place place' seed seed' : Option Text)
+pub same_options : (input input' number number' place place' unroll unroll' seed seed' : Option Text)
     (regs regs' trace trace' cycles cycles' : Bool) → input ≡ input' → number ≡ number' → place ≡ place'
-    → seed ≡ seed' → regs ≡ regs' → trace ≡ trace' → cycles ≡ cycles'
-    → options_by input number place seed regs trace cycles
-    ≡ options_by input' number' place' seed' regs' trace' cycles'
-same_options input input' number number' place place' seed seed' regs regs' trace trace' cycles cycles' a b c d
-    e f g =
-    ap (λ (x : Option Text). options_by x number place seed regs trace cycles) a
-    ∙ ap (λ (x : Option Text). options_by input' x place seed regs trace cycles) b
-    ∙ ap (λ (x : Option Text). options_by input' number' x seed regs trace cycles) c
-    ∙ ap (λ (x : Option Text). options_by input' number' place' x regs trace cycles) d
-    ∙ ap (λ (x : Bool). options_by input' number' place' seed' x trace cycles) e
-    ∙ ap (λ (x : Bool). options_by input' number' place' seed' regs' x cycles) f
-    ∙ ap (λ (x : Bool). options_by input' number' place' seed' regs' trace' x) g
+    → unroll ≡ unroll' → seed ≡ seed' → regs ≡ regs' → trace ≡ trace' → cycles ≡ cycles'
+    → options_by input number place unroll seed regs trace cycles
+    ≡ options_by input' number' place' unroll' seed' regs' trace' cycles'
+same_options input input' number number' place place' unroll unroll' seed seed' regs regs' trace trace' cycles
+    cycles' a b c d e f g h =
+    ap (λ (x : Option Text). options_by x number place unroll seed regs trace cycles) a
+    ∙ ap (λ (x : Option Text). options_by input' x place unroll seed regs trace cycles) b
+    ∙ ap (λ (x : Option Text). options_by input' number' x unroll seed regs trace cycles) c
+    ∙ ap (λ (x : Option Text). options_by input' number' place' x seed regs trace cycles) d
+    ∙ ap (λ (x : Option Text). options_by input' number' place' unroll' x regs trace cycles) e
+    ∙ ap (λ (x : Bool). options_by input' number' place' unroll' seed' x trace cycles) f
+    ∙ ap (λ (x : Bool). options_by input' number' place' unroll' seed' regs' x cycles) g
+    ∙ ap (λ (x : Bool). options_by input' number' place' unroll' seed' regs' trace' x) h
 
 -- where something was found, words say something, and else they say nothing
 pub told_some : (k : Verb) (said : Option Said) (m : ArgMatches) (r : Option Request)

@@ -1,6 +1,7 @@
 pub mod Rules
 pub mod Rows
 pub mod Faults
+pub mod Places
 pub mod Dashes
 pub mod Settling
 pub mod OneWord

@@ -1,12 +1,12 @@
 -- One word of a parse: what it comes to, and its fault.
 use Rattle.std.proofs.Common.{◌≡◌, ◌∙◌, refl, ap, ap₂, subst, Bool, cond, true, false, ℕ}
-use Rattle.std.proofs.Common.{List, [], ◌∷◌, length, drop, Option, Some, None, option_map}
+use Rattle.std.proofs.Common.{List, [], ◌∷◌, length, drop, Option, Some, None, option_map, ◌+◌, min, ◌⊎◌, inl, inr}
 use Rattle.std.specs.Prelude.{◌==◌, ◌&&◌, ◌||◌, slice_get, encode_utf8}
 use Rattle.std.specs.Option.{option_map_or}
 use Rattle.std.specs.Str.{bytes_eq, chars, IsUtf8}
-use Rattle.clap.specs.Lexer.{long_of}
+use Rattle.clap.specs.Lexer.{long_of, usize_max}
 use Rattle.clap.specs.Walk.{Held, Rule, Step, Waiting, Walk, idle, option, positional, value, trailing}
-use Rattle.clap.specs.Walk.{after_flag, after_step, is_pending}
+use Rattle.clap.specs.Walk.{after_flag, after_step, arg_by_index, is_pending}
 use Rattle.clap.specs.Walk.{long_met, long_or_other}
 use Rattle.clap.specs.Walk.{plain_word, positional_held, pushed, settled, short_or_plain, subcommand_met}
 use Rattle.clap.specs.Walk.{subcommand_or_other, to_positional, walked, word_met}
@@ -15,10 +15,10 @@ use Rattle.clap.specs.Kinds.{Kinds, or_else}
 use Rattle.clap.specs.Faults.{bundle_fault, bundle_step_fault, flag_word_fault}
 use Rattle.clap.specs.Faults.{flags_fault, long_fault, other_fault, positional_fault, settle_fault}
 use Rattle.clap.specs.Faults.{short_fault, step_fault, stray_fault, turn_fault, word_fault}
-use Rattle.trips_requests.specs.Words.{Text, Named, valued, flag, named, file_name, is_dashed, behind_dashes}
+use Rattle.trips_requests.specs.Words.{Text, Named, valued, flag, named, is_dashed, behind_dashes}
 use Rattle.trips_requests.specs.Words.{name_in, value_in}
-use Rattle.trips_words.specs.inside.Read.{rule_for, file_rule, rules_for, shape_for}
-use Rattle.trips_words.proofs.Rules.{by_long, by_short, by_index}
+use Rattle.trips_words.specs.inside.Read.{rule_for, place_rule, place_rules, rules_for, shape_for}
+use Rattle.trips_words.proofs.Rules.{by_long, by_short, by_index, any_place}
 use Rattle.trips_words.proofs.Dashes.{dashes, not_dashes, long_is, not_long, not_short, not_behind, short_is}
 use Rattle.trips_words.proofs.Dashes.{some_char}
 use Rattle.trips_words.proofs.Faults.{Fails, fails_as, fails_first, some_kind}
@@ -45,12 +45,12 @@ pub walked_at : (c : List Rule) (h : Held) (waiting : Waiting) (position : ℕ) 
 unfolding walked
 walked_at c h waiting position b word = refl
 
-module _ (name : Text) (options : List Named) where
+module _ (name : Text) (options : List Named) (places : List Text) where
   abbrev s : Shape
-  s = shape_for name options
+  s = shape_for name options places
 
   abbrev c : List Rule
-  c = rules_for options
+  c = rules_for options places
 
   -- the turn, by the fault of its word and what the word comes to
   turn_by : (h : Held) (waiting : Waiting) (position : ℕ) (b : Bool) (word : Text) (k : Kinds)
@@ -105,7 +105,7 @@ module _ (name : Text) (options : List Named) where
       ap (λ o. other_fault s o word h) (no_sub waiting word)
       ∙ ap (λ b. cond b [] (flag_word_fault c false (long_of word) word h)) (not_dashes word text e)
       ∙ ap (λ l. flag_word_fault c false l word h) (long_is word text e).0
-      ∙ ap (λ r. long_fault c false r (value_in text) h) (by_long options (name_in text))
+      ∙ ap (λ r. long_fault c false r (value_in text) h) (by_long options places (name_in text))
       ∙ ap₂ (λ r x. long_fault c false (option_map rule_for r) x h) g f
 
   long_word_met : (h : Held) (waiting : Waiting) (position : ℕ) (word text : Text) (v : Option Text)
@@ -118,7 +118,7 @@ module _ (name : Text) (options : List Named) where
       ∙ ap (λ b. cond b (h, trailing position) (long_or_other c waiting word (long_of word) h))
       (not_dashes word text e)
       ∙ ap (λ l. long_or_other c waiting word l h) (long_is word text e).0
-      ∙ ap (λ r. long_after waiting word (value_in text) h r) (by_long options (name_in text))
+      ∙ ap (λ r. long_after waiting word (value_in text) h r) (by_long options places (name_in text))
       ∙ ap₂ (λ r x. long_after waiting word x h (option_map rule_for r)) g f
 
   -- a word with dashes has the fault of the option that it names, or of the step behind it
@@ -154,7 +154,7 @@ module _ (name : Text) (options : List Named) where
       fails_as _ _
       (ap₂ (λ o n. bundle_step_fault c false o (y ∷ rest) n g (flags_fault c false (length rest))) e z
       ∙ ap (λ a. short_fault c false a less g (flags_fault c false (length rest) less 0))
-      (by_short options k))
+      (by_short options places k))
       (some_kind _ _)
 
   short_word_fails : (h : Held) (waiting : Waiting) (word : Text) → behind_dashes word ≡ None
@@ -236,7 +236,7 @@ module _ (name : Text) (options : List Named) where
   plain_walk h waiting position word i =
       walked_by h waiting position false word _ (plain_met h waiting position word i)
 
-  -- a value of the positional
+  -- a value of a place
   and_false : (b : Bool) → (b && false) ≡ false
   and_false true = refl
   and_false false = refl
@@ -245,42 +245,53 @@ module _ (name : Text) (options : List Named) where
   or_false true = refl
   or_false false = refl
 
-  positional_is : (h : Held) → positional_fault c false file_rule h ≡ settle_fault c false h
-  positional_is h = ap (λ b. cond b [] (settle_fault c false h)) (and_false (is_pending file_rule h.pending))
+  positional_is : (number : ℕ) (place : Text) (h : Held)
+      → positional_fault c false (place_rule number place) h ≡ settle_fault c false h
+  positional_is number place h = ap (λ b. cond b [] (settle_fault c false h))
+      (and_false (is_pending (place_rule number place) h.pending))
 
-  held_is : (h : Held) (word : Text)
-      → positional_held c file_rule word h ≡ pushed file_name word (settled c h)
-  held_is h word = ap (λ b. pushed file_name word (cond b h (settled c h)))
-      (and_false (is_pending file_rule h.pending))
+  held_is : (number : ℕ) (place : Text) (h : Held) (word : Text)
+      → positional_held c (place_rule number place) word h ≡ pushed place word (settled c h)
+  held_is number place h word = ap (λ b. pushed place word (cond b h (settled c h)))
+      (and_false (is_pending (place_rule number place) h.pending))
+
+  -- the fault of a word that stands alone, by what is found under the number of the next place
+  fault_by : (h : Held) (position : ℕ) (o : Option Rule) → arg_by_index c position ≡ o
+      → step_fault s position h value
+      ≡ option_map_or (λ a. positional_fault c false a h) o (stray_fault s)
+  fault_by h position o e = ap (λ o. option_map_or (λ a. positional_fault c false a h) o (stray_fault s)) e
 
   -- where what is held has a fault, so has a value behind it
   pub value_fails : (h : Held) (position : ℕ) → Fails (settle_fault c false h)
       → Fails (step_fault s position h value)
-  value_fails h position f =
-      fails_as _ _ (ap (λ o. option_map_or (λ a. positional_fault c false a h) o (stray_fault s))
-      (by_index options position)) (go (1 == position))
+  value_fails h position f = go (any_place 1 places position)
     where
-      go : (b : Bool) → Fails (option_map_or (λ a. positional_fault c false a h)
-          (cond b (Some file_rule) None) (stray_fault s))
-      go true = fails_as _ _ (positional_is h) f
-      go false = some_kind _ _
+      go : (arg_by_index (place_rules 1 places) position ≡ None) ⊎ ((k : ℕ) × (place : Text)
+          × (arg_by_index (place_rules 1 places) position ≡ Some (place_rule k place)))
+          → Fails (step_fault s position h value)
+      go (inl e) = fails_as _ _ (fault_by h position None (by_index options places position ∙ e)) (some_kind _ _)
+      go (inr p) = fails_as _ _
+          (fault_by h position (Some (place_rule p.0 p.1)) (by_index options places position ∙ p.2)
+          ∙ positional_is p.0 p.1 h) f
 
-  -- a second plain word is a fault
-  pub second_fails : (h : Held) → Fails (step_fault s 2 h value)
-  second_fails h =
-      fails_as _ _ (ap (λ o. option_map_or (λ a. positional_fault c false a h) o (stray_fault s))
-      (by_index options 2)) (some_kind _ _)
+  -- a word that stands alone is a fault where no place is left
+  pub stray_fails : (h : Held) (position : ℕ) → arg_by_index c position ≡ None
+      → Fails (step_fault s position h value)
+  stray_fails h position e = fails_as _ _ (fault_by h position None e) (some_kind _ _)
 
-  -- the first plain word has no fault but that of what is held
-  pub file_fault : (h : Held) → step_fault s 1 h value ≡ settle_fault c false h
-  file_fault h = ap (λ o. option_map_or (λ a. positional_fault c false a h) o (stray_fault s))
-      (by_index options 1) ∙ positional_is h
+  -- where a place is left it has no fault but that of what is held
+  pub place_fault : (h : Held) (number : ℕ) (place : Text) → arg_by_index c number ≡ Some (place_rule number place)
+      → step_fault s number h value ≡ settle_fault c false h
+  place_fault h number place e =
+      fault_by h number (Some (place_rule number place)) e ∙ positional_is number place h
 
-  -- the first plain word is the file
-  pub file_walk : (h : Held) (b : Bool) (word : Text)
-      → word_met c [] b idle 1 word h ≡ (h, value)
-      → walked c [] (at h idle 1 b) word ≡ at (pushed file_name word (settled c h)) idle 2 b
-  file_walk h b word m =
-      walked_by h idle 1 b word (h, value) m
-      ∙ ap (λ o. to_positional c o word (at h idle 1 b) h) (by_index options 1)
-      ∙ ap₂ (λ g t. at g idle 2 t) (held_is h word) (or_false b)
+  -- and is that place's value
+  pub place_walk : (h : Held) (b : Bool) (number : ℕ) (place word : Text)
+      → arg_by_index c number ≡ Some (place_rule number place) → min (number + 1) usize_max ≡ number + 1
+      → word_met c [] b idle number word h ≡ (h, value)
+      → walked c [] (at h idle number b) word ≡ at (pushed place word (settled c h)) idle (number + 1) b
+  place_walk h b number place word e follows m =
+      walked_by h idle number b word (h, value) m
+      ∙ ap (λ o. to_positional c o word (at h idle number b) h) e
+      ∙ ap₂ (λ g t. at g idle (min (number + 1) usize_max) t) (held_is number place h word) (or_false b)
+      ∙ ap (λ k. at (pushed place word (settled c h)) idle k b) follows

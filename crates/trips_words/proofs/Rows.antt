@@ -8,7 +8,7 @@ use Rattle.clap.specs.Walk.{Row, at_row, has_row, more_values, with_values, with
 use Rattle.clap.specs.declared.builder.value_parser.Reading.TheVariants.{AsWritten}
 use Rattle.clap.specs.declared.parser.matches.ValueSource.TheVariants.{CommandLine}
 use Rattle.clap.proofs.WalkLemmas.{list_any-map}
-use Rattle.trips_requests.specs.Words.{Text, Said, file_name, is_said}
+use Rattle.trips_requests.specs.Words.{Text, Said, is_said}
 
 -- the row of the matches for what is said under a name
 abbrev pub row_for : Text × Text → Row
@@ -55,23 +55,8 @@ put_said name value said absent =
     ∙ at_end name (more_values CommandLine (value ∷ [])) (row_for (name, value) ∷ []) (rows_for said) e
     ∙ sym (map-append row_for said ((name, value) ∷ []))
 
-or_true : (b : Bool) → (b || true) ≡ true
-or_true true = refl
-or_true false = refl
-
 -- another name stays as it was
 pub same_said : (said : Said) (s : Text × Text) (name : Text) → bytes_eq s.0 name ≡ false
     → is_said name (said ++ s ∷ []) ≡ is_said name said
 same_said [] s name e = ap (λ b. b || false) e
 same_said (x ∷ said) s name e = ap (λ b. bytes_eq x.0 name || b) (same_said said s name e)
-
--- and this one is said now
-pub now_said : (said : Said) (s : Text × Text) (name : Text) → bytes_eq s.0 name ≡ true
-    → is_said name (said ++ s ∷ []) ≡ true
-now_said [] s name e = ap (λ b. b || false) e
-now_said (x ∷ said) s name e =
-    ap (λ b. bytes_eq x.0 name || b) (now_said said s name e) ∙ or_true (bytes_eq x.0 name)
-
--- the place of the next file
-abbrev pub place : Said → ℕ
-place said = cond (is_said file_name said) 2 1

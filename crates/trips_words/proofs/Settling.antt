@@ -10,9 +10,9 @@ use Rattle.trips_words.proofs.Rows.{rows_for, has_said, put_said}
 use Rattle.trips_words.proofs.Faults.{Fails, fails_as, conflict, no_conflict, some_conflict}
 
 -- what is held gives what was said, once it is settled
-pub record Settles (options : List Named) (h : Held) (said : Said) : Type 0 where
-  pub rows : (settled (rules_for options) h).rows ≡ rows_for said
-  pub fault : settle_fault (rules_for options) false h ≡ []
+pub record Settles (options : List Named) (places : List Text) (h : Held) (said : Said) : Type 0 where
+  pub rows : (settled (rules_for options places) h).rows ≡ rows_for said
+  pub fault : settle_fault (rules_for options places) false h ≡ []
   pub skip : h.skip ≡ 0
 
 -- an option waits for its value
@@ -23,21 +23,21 @@ pub record WaitsFor (options : List Named) (h : Held) (name : Text) (said : Said
   pub skip : h.skip ≡ 0
 
 -- the fault of what is pending
-pub settle_is : (options : List Named) (h : Held) (name : Text) (values : List Text) (a : Rule)
-    → h.pending ≡ Some (name, values) → arg_by_id (rules_for options) name ≡ Some a
-    → settle_fault (rules_for options) false h ≡ use_fault false a values h.rows
-settle_is options h name values a p i =
+pub settle_is : (options : List Named) (places : List Text) (h : Held) (name : Text) (values : List Text) (a : Rule)
+    → h.pending ≡ Some (name, values) → arg_by_id (rules_for options places) name ≡ Some a
+    → settle_fault (rules_for options places) false h ≡ use_fault false a values h.rows
+settle_is options places h name values a p i =
     ap (λ q. option_map_or (λ x. option_map_or (λ r. use_fault false r x.1 h.rows)
-    (arg_by_id (rules_for options) x.0) []) q []) p
+    (arg_by_id (rules_for options places) x.0) []) q []) p
     ∙ ap (λ o. option_map_or (λ r. use_fault false r values h.rows) o []) i
 
 -- nothing is pending
-pub settles_none : (options : List Named) (h : Held) (said : Said) → h.pending ≡ None
-    → h.rows ≡ rows_for said → h.skip ≡ 0 → Settles options h said
-settles_none options h said p r s = record {
-  rows = ap (λ q. settled_rows (rules_for options) q h.rows) p ∙ r;
+pub settles_none : (options : List Named) (places : List Text) (h : Held) (said : Said) → h.pending ≡ None
+    → h.rows ≡ rows_for said → h.skip ≡ 0 → Settles options places h said
+settles_none options places h said p r s = record {
+  rows = ap (λ q. settled_rows (rules_for options places) q h.rows) p ∙ r;
   fault = ap (λ q. option_map_or (λ x. option_map_or (λ a. use_fault false a x.1 h.rows)
-      (arg_by_id (rules_for options) x.0) []) q []) p;
+      (arg_by_id (rules_for options places) x.0) []) q []) p;
   skip = s;
 }
 
@@ -46,25 +46,25 @@ has_now : (h : Held) (name : Text) (said : Said) (b : Bool) → h.rows ≡ rows_
 has_now h name said b r e = ap (has_row name) r ∙ has_said said name ∙ e
 
 -- one value is pending, of an argument that takes one
-pub settles_one : (options : List Named) (h : Held) (name value : Text) (long : Option Text)
+pub settles_one : (options : List Named) (places : List Text) (h : Held) (name value : Text) (long : Option Text)
     (index : Option ℕ) (said : Said) → h.pending ≡ Some (name, value ∷ [])
-    → arg_by_id (rules_for options) name ≡ Some (single name long index) → h.rows ≡ rows_for said
-    → h.skip ≡ 0 → is_said name said ≡ false → Settles options h (said ++ (name, value) ∷ [])
-settles_one options h name value long index said p i r s absent = record {
-  rows = ap (λ q. settled_rows (rules_for options) q h.rows) p
+    → arg_by_id (rules_for options places) name ≡ Some (single name long index) → h.rows ≡ rows_for said
+    → h.skip ≡ 0 → is_said name said ≡ false → Settles options places h (said ++ (name, value) ∷ [])
+settles_one options places h name value long index said p i r s absent = record {
+  rows = ap (λ q. settled_rows (rules_for options places) q h.rows) p
       ∙ ap (λ a. used_by_id a (value ∷ []) h.rows) i
       ∙ ap (used (single name long index) (value ∷ [])) r ∙ put_said name value said absent;
-  fault = settle_is options h name (value ∷ []) (single name long index) p i
+  fault = settle_is options places h name (value ∷ []) (single name long index) p i
       ∙ no_conflict (has_row name h.rows) (has_now h name said false r absent);
   skip = s;
 }
 
 -- and it was there before
-pub settles_not : (options : List Named) (h : Held) (name value : Text) (long : Option Text)
+pub settles_not : (options : List Named) (places : List Text) (h : Held) (name value : Text) (long : Option Text)
     (index : Option ℕ) (said : Said) → h.pending ≡ Some (name, value ∷ [])
-    → arg_by_id (rules_for options) name ≡ Some (single name long index) → h.rows ≡ rows_for said
-    → is_said name said ≡ true → Fails (settle_fault (rules_for options) false h)
-settles_not options h name value long index said p i r present =
-    fails_as (settle_fault (rules_for options) false h) (conflict (has_row name h.rows))
-    (settle_is options h name (value ∷ []) (single name long index) p i)
+    → arg_by_id (rules_for options places) name ≡ Some (single name long index) → h.rows ≡ rows_for said
+    → is_said name said ≡ true → Fails (settle_fault (rules_for options places) false h)
+settles_not options places h name value long index said p i r present =
+    fails_as (settle_fault (rules_for options places) false h) (conflict (has_row name h.rows))
+    (settle_is options places h name (value ∷ []) (single name long index) p i)
     (some_conflict (has_row name h.rows) (has_now h name said true r present))

@@ -24,6 +24,7 @@ fn options_found<'a>(command: Verb, matches: &ArgMatches<'a>) -> FoundOptions<'a
         input: matches.get_str("input"),
         number: matches.get_str(counted(command)),
         place: matches.get_str("place"),
+        unroll: matches.get_str("unroll"),
         seed: matches.get_str("seed"),
         regs: is_on(matches.get_str("regs")),
         trace: is_on(matches.get_str("trace")),
@@ -84,11 +85,12 @@ fn named_request<'a>(
 }
 
 /// The request of the words of a command line, without the program's name, and none where they make
-/// none. A request has some blocks or steps. Want of memory is the only error.
+/// none. A request has some blocks or steps, and some turns of a loop in a block. Want of memory is the only error.
 pub fn request(alloc: Global, words: &[String]) -> Result<Option<Asked<'_>>, Memory>
     ensures ok { IfOk result (λ request. option_map request_seen request
         ≡ asked (map (λ word. string_bytes word) words.now)) }
     ensures some { IfOk result (λ request. IfSome request (λ asked. 0 < asked.most)) }
+    ensures turns { IfOk result (λ request. IfSome request (λ asked. 0 < asked.unroll)) }
 {
     match words.first() {
         None => Ok(None),

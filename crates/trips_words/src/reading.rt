@@ -1,10 +1,11 @@
 //! The words behind a command's name, as `clap` reads them.
 
-ghost use Rattle.std.specs.Prelude.{◌≡◌, ◌≢◌, List, [], IfOk, None, false, codes, drop, map, string_bytes};
+ghost use Rattle.std.specs.Prelude.{◌≡◌, ◌≢◌, List, [], ◌∷◌, IfOk, None, false, codes, drop, map, string_bytes};
 ghost use Rattle.clap.specs.Words.{rule_of, app_of, kind_of};
 ghost use Rattle.clap.specs.declared.error.kind.ErrorKind.TheVariants.{OutOfMemory};
-ghost use Rattle.trips_requests.specs.Words.{Text, Named, words_read, valued, flag};
-ghost use Rattle.trips_requests.specs.Options.{options_of, run_options, bench_options, eval_options, compile_options};
+ghost use Rattle.trips_requests.specs.Words.{Text, Named, file_name, words_read, valued, flag};
+ghost use Rattle.trips_requests.specs.Options.{options_of, places_of, run_options, bench_options, eval_options};
+ghost use Rattle.trips_requests.specs.Options.{compile_options};
 ghost use Rattle.trips_words.specs.inside.Read.{raw_rule, raw_app, IsRead, Tells};
 
 use base::Memory;
@@ -34,13 +35,14 @@ fn flag<'a>(alloc: Global, name: &'a str) -> Arg<'a>
 
 // `run`, its options and its file.
 fn run_command<'a>(alloc: Global) -> Result<clap::Command<'a>, AllocError>
-    ensures { IfOk result (λ command. app_of command ≡ raw_app (codes "run") run_options) }
+    ensures { IfOk result (λ command. app_of command ≡ raw_app (codes "run") run_options (file_name ∷ [])) }
 {
     clap::Command::new(alloc, "run")
         .disable_help_flag(true)
         .arg(valued(alloc, "input"))?
         .arg(valued(alloc, "blocks"))?
         .arg(valued(alloc, "place"))?
+        .arg(valued(alloc, "unroll"))?
         .arg(valued(alloc, "seed"))?
         .arg(flag(alloc, "regs"))?
         .arg(flag(alloc, "trace"))?
@@ -50,12 +52,13 @@ fn run_command<'a>(alloc: Global) -> Result<clap::Command<'a>, AllocError>
 
 // `bench`, its options and its number.
 fn bench_command<'a>(alloc: Global) -> Result<clap::Command<'a>, AllocError>
-    ensures { IfOk result (λ command. app_of command ≡ raw_app (codes "bench") bench_options) }
+    ensures { IfOk result (λ command. app_of command ≡ raw_app (codes "bench") bench_options (file_name ∷ [])) }
 {
     clap::Command::new(alloc, "bench")
         .disable_help_flag(true)
         .arg(valued(alloc, "blocks"))?
         .arg(valued(alloc, "place"))?
+        .arg(valued(alloc, "unroll"))?
         .arg(valued(alloc, "seed"))?
         .arg(flag(alloc, "cycles"))?
         .arg(Arg::new(alloc, FILE))
@@ -63,7 +66,7 @@ fn bench_command<'a>(alloc: Global) -> Result<clap::Command<'a>, AllocError>
 
 // `eval`, its options and its file.
 fn eval_command<'a>(alloc: Global) -> Result<clap::Command<'a>, AllocError>
-    ensures { IfOk result (λ command. app_of command ≡ raw_app (codes "eval") eval_options) }
+    ensures { IfOk result (λ command. app_of command ≡ raw_app (codes "eval") eval_options (file_name ∷ [])) }
 {
     clap::Command::new(alloc, "eval")
         .disable_help_flag(true)
@@ -72,19 +75,20 @@ fn eval_command<'a>(alloc: Global) -> Result<clap::Command<'a>, AllocError>
         .arg(Arg::new(alloc, FILE))
 }
 
-// `compile`, its option and its file.
+// `compile`, its options and its file.
 fn compile_command<'a>(alloc: Global) -> Result<clap::Command<'a>, AllocError>
-    ensures { IfOk result (λ command. app_of command ≡ raw_app (codes "compile") compile_options) }
+    ensures { IfOk result (λ command. app_of command ≡ raw_app (codes "compile") compile_options (file_name ∷ [])) }
 {
     clap::Command::new(alloc, "compile")
         .disable_help_flag(true)
         .arg(valued(alloc, "place"))?
+        .arg(valued(alloc, "unroll"))?
         .arg(Arg::new(alloc, FILE))
 }
 
 // A command that has a file and no option.
 fn plain_command<'a>(alloc: Global) -> Result<clap::Command<'a>, AllocError>
-    ensures { IfOk result (λ command. app_of command ≡ raw_app (codes "trips") []) }
+    ensures { IfOk result (λ command. app_of command ≡ raw_app (codes "trips") [] (file_name ∷ [])) }
 {
     clap::Command::new(alloc, "trips")
         .disable_help_flag(true)
@@ -106,9 +110,9 @@ fn matched<'a>(
     command: clap::Command<'a>,
     words: &'a [String],
 ) -> Result<Option<ArgMatches<'a>>, Memory>
-    ensures { (name : Text) (options : List Named) → IsRead name options
-        → app_of command.entry ≡ raw_app name options
-        → IfOk result (Tells options (words_read options None []
+    ensures { (name : Text) (options : List Named) (places : List Text) → IsRead name options places
+        → app_of command.entry ≡ raw_app name options places
+        → IfOk result (Tells options (words_read options places None []
         (drop 1 (map (λ word. string_bytes word) words.entry.now)))) }
 {
     match command.try_get_matches_from(words) {
@@ -127,7 +131,7 @@ pub fn read<'a>(
     command: Verb,
     words: &'a [String],
 ) -> Result<Option<ArgMatches<'a>>, Memory>
-    ensures { IfOk result (Tells (options_of command) (words_read (options_of command) None []
+    ensures { IfOk result (Tells (options_of command) (words_read (options_of command) (places_of command) None []
         (drop 1 (map (λ word. string_bytes word) words.entry.now)))) }
 {
     match command {

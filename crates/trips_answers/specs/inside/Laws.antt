@@ -19,8 +19,9 @@ use Rattle.trips_answers.specs.Report.{TellsRun, full_report, shown_behind}
 -- are told, and behind them what is shown
 abbrev pub TellsDone : Type 0
 TellsDone =
-    (text input output : List ℕ) (image : Image) (program : TypedProgram) (value : ℤ) (most n steps : ℕ) (show : Show)
-    (s : Status) (report : List ℕ) → DoesText text image → IsAccepted text program → IsInput input
+    (text input output : List ℕ) (turns : ℕ) (image : Image) (program : TypedProgram) (value : ℤ) (most n steps : ℕ)
+    (show : Show)
+    (s : Status) (report : List ℕ) → DoesText text turns image → IsAccepted text program → IsInput input
     → eval program input n ≡ Done output value steps → 16 * n + 16 ≤ most
     → (told : TellsRun image input most show s report)
     → let run = runs image.blocks (start image.bytes input) most in (s ≡ status.Ended)
@@ -29,8 +30,9 @@ TellsDone =
 -- where it is too deep within n steps, a full stack is, with the output so far
 abbrev pub TellsDeep : Type 0
 TellsDeep =
-    (text input output : List ℕ) (image : Image) (program : TypedProgram) (most n : ℕ) (show : Show) (s : Status)
-    (report : List ℕ) → DoesText text image → IsAccepted text program → IsInput input
+    (text input output : List ℕ) (turns : ℕ) (image : Image) (program : TypedProgram) (most n : ℕ) (show : Show)
+    (s : Status)
+    (report : List ℕ) → DoesText text turns image → IsAccepted text program → IsInput input
     → eval program input n ≡ Stopped Deep output → 16 * n + 16 ≤ most
     → (told : TellsRun image input most show s report)
     → let run = runs image.blocks (start image.bytes input) most in (s ≡ status.StackFull)

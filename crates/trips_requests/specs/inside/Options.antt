@@ -10,6 +10,7 @@ options_seen options = record {
   input = option_copied options.input;
   number = option_copied options.number;
   place = option_copied options.place;
+  unroll = option_copied options.unroll;
   seed = option_copied options.seed;
   regs = options.regs;
   trace = options.trace;

@@ -14,6 +14,7 @@ request_seen asked = record {
   input = option_copied asked.input;
   most = asked.most;
   place = asked.place;
+  unroll = asked.unroll;
   seed = asked.seed;
   regs = asked.regs;
   trace = asked.trace;

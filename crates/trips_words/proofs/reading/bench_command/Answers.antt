@@ -11,6 +11,7 @@ returns c =
     let one = c.in_ok-arg.ensures.shape c.valued.ensures.local ∙ ap₂ with_rule start c.valued.ensures.rule in
     let two = c.in_ok-arg-2.ensures.shape c.valued-2.ensures.local ∙ ap₂ with_rule one c.valued-2.ensures.rule in
     let three = c.in_ok-arg-3.ensures.shape c.valued-3.ensures.local ∙ ap₂ with_rule two c.valued-3.ensures.rule in
-    let four = c.in_ok-arg-4.ensures.shape c.flag.ensures.local ∙ ap₂ with_rule three c.flag.ensures.rule in
-    IfOk-weaker c.arg-5.result _ _
-    (λ r h. h.shape c.new-2.ensures.optional.1 ∙ ap₂ with_rule four c.new-2.ensures.rule) c.arg-5.ensures
+    let four = c.in_ok-arg-4.ensures.shape c.valued-4.ensures.local ∙ ap₂ with_rule three c.valued-4.ensures.rule in
+    let five = c.in_ok-arg-5.ensures.shape c.flag.ensures.local ∙ ap₂ with_rule four c.flag.ensures.rule in
+    IfOk-weaker c.arg-6.result _ _
+    (λ r h. h.shape c.new-2.ensures.optional.1 ∙ ap₂ with_rule five c.new-2.ensures.rule) c.arg-6.ensures

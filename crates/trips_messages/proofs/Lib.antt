@@ -1,0 +1,3 @@
+pub mod ListedTexts
+pub mod Prefixes
+pub mod StandardFacts

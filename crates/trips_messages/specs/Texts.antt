@@ -1,0 +1,126 @@
+-- The sentences of refusals, each behind the word at fault (docs/MESSAGES.md has a section for each fault).
+use Rattle.std.specs.Prelude.{ℕ, List, codes}
+use Rattle.trips_messages.specs.declared.fault.Fault.{Fault}
+use Rattle.trips_messages.specs.declared.fault.Fault.TheVariants as fault
+use Rattle.trips_messages.specs.declared.saying.Saying.{Saying}
+use Rattle.trips_messages.specs.declared.saying.Saying.TheVariants as says
+
+-- what is said
+unfoldable pub sentence : Saying → List ℕ
+sentence says.Strings =
+    codes "begins a string, which is left out: write its characters one by one, as putchar('a')"
+sentence says.Member =
+    codes "stands for a member of a struct or for more arguments, which are left out: use arrays and variables"
+sentence says.Splice =
+    codes "joins no lines here: write what belongs together on one line"
+sentence says.LateHash =
+    codes "begins a directive at the start of a line alone"
+sentence says.OtherByte =
+    codes "is the number of a byte that begins no token: outside comments a text has ASCII alone"
+sentence says.NoToken =
+    codes "begins no token"
+sentence says.FloatingConstant =
+    codes "is a floating constant, which is left out: write whole numbers, as hundredths"
+sentence says.Character =
+    codes "begins no character constant: write one character or one escape, and a closing quote"
+sentence says.Number =
+    codes "is no constant: write a whole number of 64 bits in base 8, 10 or 16, with u and l behind it or none"
+sentence says.Comment =
+    codes "begins a comment without end: write */ behind it"
+sentence says.Tokens =
+    codes "is the 8,193rd token, and a text may have 8,192: write loops and functions for what is repeated"
+sentence says.Macro =
+    codes "makes or removes a macro, which is left out: write the value itself, or a global variable"
+sentence says.Header =
+    codes "includes no header that is here: write #include <stdio.h> or nothing, and define the rest in the text"
+sentence says.Conditional =
+    codes "chooses parts of a text, which is left out: write the part that is wanted"
+sentence says.OtherDirective =
+    codes "is no directive that is here: only #include <stdio.h> is"
+sentence says.Aggregate =
+    codes "is left out: write a variable for each member, and an array for each member of many"
+sentence says.NewType =
+    codes "names types or constants, which is left out: write the type itself, and numbers or global variables"
+sentence says.Storage =
+    codes "is left out: write the declaration without it"
+sentence says.Qualifier =
+    codes "is left out: write the type without it"
+sentence says.Floating =
+    codes "is a floating type, which is left out: use int or long, as for hundredths"
+sentence says.Boolean =
+    codes "is left out: use int, with 0 and 1"
+sentence says.Jump =
+    codes "is left out: use loops, break, continue and return"
+sentence says.Size =
+    codes "is left out: write the number of bytes or of elements"
+sentence says.Pointer =
+    codes "does not stand here: pointers are left out, so use an array and an index"
+sentence says.Address =
+    codes "does not stand here: addresses are left out, so return a value or set a global variable"
+sentence says.Long =
+    codes "does not stand here: long long is left out, and a long has 64 bits"
+sentence says.Colon =
+    codes "does not stand here: labels for goto are left out, and case stands in the braces of a switch alone"
+sentence says.OpenBrace =
+    codes "does not stand here: local arrays have no initialiser, and no function stands in another"
+sentence says.Equals =
+    codes "does not stand here: set what is no global or local variable behind its declaration"
+sentence says.Else =
+    codes "has no if before it: look for a ; or a brace too many"
+sentence says.CloseBrace =
+    codes "does not stand here: look for a ; that is missing before it, also behind a label"
+sentence says.NoText =
+    codes "is all that stands here: write int main(void) { return 0; } at least"
+sentence says.NotHere =
+    codes "does not stand here: look for a ; or a bracket that is missing before it, or behind it at the end"
+sentence says.Deep =
+    codes "opens a construct at depth 65, and 64 is the most: use variables and functions"
+sentence says.Library =
+    codes "is not here: of the library there are getchar, putchar and EOF, so define the rest in the text"
+sentence says.Undeclared =
+    codes "is not declared: write #include <stdio.h> before it"
+sentence says.NoFunction =
+    codes "is called, and the text defines no function of this name: a prototype alone is not enough"
+sentence says.NoName =
+    codes "is not declared before this place"
+sentence says.LabelTwice =
+    codes "gives a label that stands in this switch already"
+sentence says.NameTwice =
+    codes "is declared a second time in its block, or defined a second time"
+sentence says.Return =
+    codes "gives a value in a function of type void, or none in a function of another type"
+sentence says.NoLoop =
+    codes "stands in no loop, nor break in a switch"
+sentence says.NoFit =
+    codes "does not fit here: look for an array or a void call as a value, a value that is set, or no constant"
+sentence says.Arguments =
+    codes "is called with too few or too many arguments"
+sentence says.Main =
+    codes "no function int main(void) with a body is defined"
+sentence says.Scalars =
+    codes "is the 65th variable of its function without brackets, and 64 are the most: use an array"
+sentence says.Parameters =
+    codes "is the ninth parameter, and eight are the most: use an array or global variables"
+sentence says.Temporaries =
+    codes "begins an expression that needs more than 16 values at once: keep parts of it in variables"
+sentence says.Large =
+    codes "is too large: an array, and all globals together, have 1,048,576 bytes at most"
+
+-- the stage that refuses, and the name of the fault
+unfoldable pub title : Fault → List ℕ
+title fault.BadByte = codes "lex BadByte"
+title fault.BadLiteral = codes "lex BadLiteral"
+title fault.Unclosed = codes "lex Unclosed"
+title fault.TooManyTokens = codes "lex TooManyTokens"
+title fault.Directive = codes "lex Directive"
+title fault.Syntax = codes "parse Syntax"
+title fault.TooDeep = codes "parse TooDeep"
+title fault.Unknown = codes "type Unknown"
+title fault.Twice = codes "type Twice"
+title fault.Mismatch = codes "type Mismatch"
+title fault.Arity = codes "type Arity"
+title fault.NoMain = codes "type NoMain"
+title fault.TooManyScalars = codes "type TooManyScalars"
+title fault.TooManyParams = codes "type TooManyParams"
+title fault.Need = codes "type Need"
+title fault.TooLarge = codes "type TooLarge"

@@ -1,0 +1,145 @@
+//! What is said of a refusal.
+
+ghost use Rattle.std.specs.Prelude.{◌≡◌};
+ghost use Rattle.trips_messages.specs.Texts as texts;
+
+/// What is said of a refusal, one for each sentence.
+#[derive(Clone, Copy, Debug, PartialEq, Eq)]
+pub enum Saying {
+    Strings,
+    Member,
+    Splice,
+    LateHash,
+    OtherByte,
+    NoToken,
+    FloatingConstant,
+    Character,
+    Number,
+    Comment,
+    Tokens,
+    Macro,
+    Header,
+    Conditional,
+    OtherDirective,
+    Aggregate,
+    NewType,
+    Storage,
+    Qualifier,
+    Floating,
+    Boolean,
+    Jump,
+    Size,
+    Pointer,
+    Address,
+    Long,
+    Colon,
+    OpenBrace,
+    Equals,
+    Else,
+    CloseBrace,
+    NoText,
+    NotHere,
+    Deep,
+    Library,
+    Undeclared,
+    NoFunction,
+    NoName,
+    LabelTwice,
+    NameTwice,
+    Return,
+    NoLoop,
+    NoFit,
+    Arguments,
+    Main,
+    Scalars,
+    Parameters,
+    Temporaries,
+    Large,
+}
+
+/// The sentence, behind the word at fault.
+#[tactic(auto, unfolding(crate::specs::Texts::sentence))]
+pub fn sentence(saying: Saying) -> &'static str
+    ensures { result.now ≡ texts.sentence saying }
+{
+    match saying {
+        Saying::Strings =>
+            "begins a string, which is left out: write its characters one by one, as putchar('a')",
+        Saying::Member =>
+            "stands for a member of a struct or for more arguments, which are left out: use arrays and variables",
+        Saying::Splice => "joins no lines here: write what belongs together on one line",
+        Saying::LateHash => "begins a directive at the start of a line alone",
+        Saying::OtherByte =>
+            "is the number of a byte that begins no token: outside comments a text has ASCII alone",
+        Saying::NoToken => "begins no token",
+        Saying::FloatingConstant =>
+            "is a floating constant, which is left out: write whole numbers, as hundredths",
+        Saying::Character =>
+            "begins no character constant: write one character or one escape, and a closing quote",
+        Saying::Number =>
+            "is no constant: write a whole number of 64 bits in base 8, 10 or 16, with u and l behind it or none",
+        Saying::Comment => "begins a comment without end: write */ behind it",
+        Saying::Tokens =>
+            "is the 8,193rd token, and a text may have 8,192: write loops and functions for what is repeated",
+        Saying::Macro =>
+            "makes or removes a macro, which is left out: write the value itself, or a global variable",
+        Saying::Header =>
+            "includes no header that is here: write #include <stdio.h> or nothing, and define the rest in the text",
+        Saying::Conditional =>
+            "chooses parts of a text, which is left out: write the part that is wanted",
+        Saying::OtherDirective => "is no directive that is here: only #include <stdio.h> is",
+        Saying::Aggregate =>
+            "is left out: write a variable for each member, and an array for each member of many",
+        Saying::NewType =>
+            "names types or constants, which is left out: write the type itself, and numbers or global variables",
+        Saying::Storage => "is left out: write the declaration without it",
+        Saying::Qualifier => "is left out: write the type without it",
+        Saying::Floating =>
+            "is a floating type, which is left out: use int or long, as for hundredths",
+        Saying::Boolean => "is left out: use int, with 0 and 1",
+        Saying::Jump => "is left out: use loops, break, continue and return",
+        Saying::Size => "is left out: write the number of bytes or of elements",
+        Saying::Pointer =>
+            "does not stand here: pointers are left out, so use an array and an index",
+        Saying::Address =>
+            "does not stand here: addresses are left out, so return a value or set a global variable",
+        Saying::Long => "does not stand here: long long is left out, and a long has 64 bits",
+        Saying::Colon =>
+            "does not stand here: labels for goto are left out, and case stands in the braces of a switch alone",
+        Saying::OpenBrace =>
+            "does not stand here: local arrays have no initialiser, and no function stands in another",
+        Saying::Equals =>
+            "does not stand here: set what is no global or local variable behind its declaration",
+        Saying::Else => "has no if before it: look for a ; or a brace too many",
+        Saying::CloseBrace =>
+            "does not stand here: look for a ; that is missing before it, also behind a label",
+        Saying::NoText => "is all that stands here: write int main(void) { return 0; } at least",
+        Saying::NotHere =>
+            "does not stand here: look for a ; or a bracket that is missing before it, or behind it at the end",
+        Saying::Deep =>
+            "opens a construct at depth 65, and 64 is the most: use variables and functions",
+        Saying::Library =>
+            "is not here: of the library there are getchar, putchar and EOF, so define the rest in the text",
+        Saying::Undeclared => "is not declared: write #include <stdio.h> before it",
+        Saying::NoFunction =>
+            "is called, and the text defines no function of this name: a prototype alone is not enough",
+        Saying::NoName => "is not declared before this place",
+        Saying::LabelTwice => "gives a label that stands in this switch already",
+        Saying::NameTwice => "is declared a second time in its block, or defined a second time",
+        Saying::Return =>
+            "gives a value in a function of type void, or none in a function of another type",
+        Saying::NoLoop => "stands in no loop, nor break in a switch",
+        Saying::NoFit =>
+            "does not fit here: look for an array or a void call as a value, a value that is set, or no constant",
+        Saying::Arguments => "is called with too few or too many arguments",
+        Saying::Main => "no function int main(void) with a body is defined",
+        Saying::Scalars =>
+            "is the 65th variable of its function without brackets, and 64 are the most: use an array",
+        Saying::Parameters =>
+            "is the ninth parameter, and eight are the most: use an array or global variables",
+        Saying::Temporaries =>
+            "begins an expression that needs more than 16 values at once: keep parts of it in variables",
+        Saying::Large =>
+            "is too large: an array, and all globals together, have 1,048,576 bytes at most",
+    }
+}

@@ -1,0 +1,258 @@
+//! Programs with one fault each, and the first line of what is told of it.
+
+pub type Row = (&'static str, &'static str);
+
+pub const ROWS: &[Row] = &[
+    (
+        "int main(void) { return @; }\n",
+        "a.c:1:25: lex BadByte: '@' begins no token",
+    ),
+    (
+        "#include <stdio.h>\nint main(void) { puts(\"Hi\"); return 0; }\n",
+        "a.c:2:23: lex BadByte: '\"' begins a string, which is left out: write its characters one by one, as putchar('a')",
+    ),
+    (
+        "int main(void) { return p.x; }\n",
+        "a.c:1:26: lex BadByte: '.' stands for a member of a struct or for more arguments, which are left out: use arrays and variables",
+    ),
+    (
+        "int main(void) { return 1 + \\\n1; }\n",
+        "a.c:1:29: lex BadByte: '\\' joins no lines here: write what belongs together on one line",
+    ),
+    (
+        "int main(void) { #include <stdio.h>\nreturn 0; }\n",
+        "a.c:1:18: lex BadByte: '#' begins a directive at the start of a line alone",
+    ),
+    (
+        "int main(void) { int ä = 1; return 0; }\n",
+        "a.c:1:22: lex BadByte: '195' is the number of a byte that begins no token: outside comments a text has ASCII alone",
+    ),
+    (
+        "int main(void) { int price = 100; return price * 1.19; }\n",
+        "a.c:1:50: lex BadLiteral: '1.19' is a floating constant, which is left out: write whole numbers, as hundredths",
+    ),
+    (
+        "int main(void) { return 08; }\n",
+        "a.c:1:25: lex BadLiteral: '08' is no constant: write a whole number of 64 bits in base 8, 10 or 16, with u and l behind it or none",
+    ),
+    (
+        "int main(void) { return 0b101; }\n",
+        "a.c:1:25: lex BadLiteral: '0b101' is no constant: write a whole number of 64 bits in base 8, 10 or 16, with u and l behind it or none",
+    ),
+    (
+        "int main(void) { return 10ll; }\n",
+        "a.c:1:25: lex BadLiteral: '10ll' is no constant: write a whole number of 64 bits in base 8, 10 or 16, with u and l behind it or none",
+    ),
+    (
+        "int main(void) { return 0xE+1; }\n",
+        "a.c:1:25: lex BadLiteral: '0xE' is no constant: write a whole number of 64 bits in base 8, 10 or 16, with u and l behind it or none",
+    ),
+    (
+        "int main(void) { return 18446744073709551616; }\n",
+        "a.c:1:25: lex BadLiteral: '18446744073709551616' is no constant: write a whole number of 64 bits in base 8, 10 or 16, with u and l behind it or none",
+    ),
+    (
+        "int main(void) { return 'ab'; }\n",
+        "a.c:1:25: lex BadLiteral: ''' begins no character constant: write one character or one escape, and a closing quote",
+    ),
+    (
+        "int main(void) { return ''; }\n",
+        "a.c:1:25: lex BadLiteral: ''' begins no character constant: write one character or one escape, and a closing quote",
+    ),
+    (
+        "int main(void) {\n\t/* open\nreturn 0;\n}\n",
+        "a.c:2:2: lex Unclosed: '/' begins a comment without end: write */ behind it",
+    ),
+    (
+        "#define N 10\nint main(void) { return N; }\n",
+        "a.c:1:1: lex Directive: '#define N 10' makes or removes a macro, which is left out: write the value itself, or a global variable",
+    ),
+    (
+        "int a;\n#undef N\n",
+        "a.c:2:1: lex Directive: '#undef N' makes or removes a macro, which is left out: write the value itself, or a global variable",
+    ),
+    (
+        "#include <stdlib.h>\n",
+        "a.c:1:1: lex Directive: '#include <stdlib.h>' includes no header that is here: write #include <stdio.h> or nothing, and define the rest in the text",
+    ),
+    (
+        "#include \"own.h\"\n",
+        "a.c:1:1: lex Directive: '#include \"own.h\"' includes no header that is here: write #include <stdio.h> or nothing, and define the rest in the text",
+    ),
+    (
+        "#ifdef N\n",
+        "a.c:1:1: lex Directive: '#ifdef N' chooses parts of a text, which is left out: write the part that is wanted",
+    ),
+    (
+        "#pragma once\n",
+        "a.c:1:1: lex Directive: '#pragma once' is no directive that is here: only #include <stdio.h> is",
+    ),
+    (
+        "struct point { int x; };\n",
+        "a.c:1:1: parse Syntax: 'struct' is left out: write a variable for each member, and an array for each member of many",
+    ),
+    (
+        "int main(void) { union u; return 0; }\n",
+        "a.c:1:18: parse Syntax: 'union' is left out: write a variable for each member, and an array for each member of many",
+    ),
+    (
+        "enum color { RED };\n",
+        "a.c:1:1: parse Syntax: 'enum' names types or constants, which is left out: write the type itself, and numbers or global variables",
+    ),
+    (
+        "typedef int number;\n",
+        "a.c:1:1: parse Syntax: 'typedef' names types or constants, which is left out: write the type itself, and numbers or global variables",
+    ),
+    (
+        "static int n;\n",
+        "a.c:1:1: parse Syntax: 'static' is left out: write the declaration without it",
+    ),
+    (
+        "extern int n;\n",
+        "a.c:1:1: parse Syntax: 'extern' is left out: write the declaration without it",
+    ),
+    (
+        "const int n = 1;\n",
+        "a.c:1:1: parse Syntax: 'const' is left out: write the type without it",
+    ),
+    (
+        "int f(const int n) { return n; }\n",
+        "a.c:1:7: parse Syntax: 'const' is left out: write the type without it",
+    ),
+    (
+        "double f(int x) { return x; }\n",
+        "a.c:1:1: parse Syntax: 'double' is a floating type, which is left out: use int or long, as for hundredths",
+    ),
+    (
+        "int main(void) { float x = 1; return x; }\n",
+        "a.c:1:18: parse Syntax: 'float' is a floating type, which is left out: use int or long, as for hundredths",
+    ),
+    (
+        "_Bool b;\n",
+        "a.c:1:1: parse Syntax: '_Bool' is left out: use int, with 0 and 1",
+    ),
+    (
+        "int main(void) { goto done; return 0; }\n",
+        "a.c:1:18: parse Syntax: 'goto' is left out: use loops, break, continue and return",
+    ),
+    (
+        "int main(void) { return sizeof(int); }\n",
+        "a.c:1:25: parse Syntax: 'sizeof' is left out: write the number of bytes or of elements",
+    ),
+    (
+        "void swap(int *a, int *b);\n",
+        "a.c:1:15: parse Syntax: '*' does not stand here: pointers are left out, so use an array and an index",
+    ),
+    (
+        "int main(void) { int x = 1; return f(&x); }\n",
+        "a.c:1:38: parse Syntax: '&' does not stand here: addresses are left out, so return a value or set a global variable",
+    ),
+    (
+        "long long n;\n",
+        "a.c:1:6: parse Syntax: 'long' does not stand here: long long is left out, and a long has 64 bits",
+    ),
+    (
+        "int main(void) { done: return 0; }\n",
+        "a.c:1:22: parse Syntax: ':' does not stand here: labels for goto are left out, and case stands in the braces of a switch alone",
+    ),
+    (
+        "int main(void) { int a[3] = {1, 2, 3}; return a[0]; }\n",
+        "a.c:1:27: parse Syntax: '=' does not stand here: set what is no global or local variable behind its declaration",
+    ),
+    (
+        "int main(void) }\n",
+        "a.c:1:16: parse Syntax: '}' does not stand here: look for a ; that is missing before it, also behind a label",
+    ),
+    (
+        "int main(void) { else return 0; }\n",
+        "a.c:1:18: parse Syntax: 'else' has no if before it: look for a ; or a brace too many",
+    ),
+    (
+        "int main(void) {\n    int a = 1\n    return a;\n}\n",
+        "a.c:3:5: parse Syntax: 'return' does not stand here: look for a ; or a bracket that is missing before it, or behind it at the end",
+    ),
+    (
+        "int f(int n) int n; { return n; }\n",
+        "a.c:1:14: parse Syntax: 'int' does not stand here: look for a ; or a bracket that is missing before it, or behind it at the end",
+    ),
+    (
+        "int main(void) { return 0;\n",
+        "a.c:1:26: parse Syntax: ';' does not stand here: look for a ; or a bracket that is missing before it, or behind it at the end",
+    ),
+    (
+        "int main(void) { return (((((((((((((((((((((((((((((((((((((((((((((((((((((((((((((((1))))))))))))))))))))))))))))))))))))))))))))))))))))))))))))))); }\n",
+        "a.c:1:87: parse TooDeep: '(' opens a construct at depth 65, and 64 is the most: use variables and functions",
+    ),
+    (
+        "#include <stdio.h>\nint main(void) { printf(1); return 0; }\n",
+        "a.c:2:18: type Unknown: 'printf' is not here: of the library there are getchar, putchar and EOF, so define the rest in the text",
+    ),
+    (
+        "int main(void) { putchar('a'); return 0; }\n",
+        "a.c:1:18: type Unknown: 'putchar' is not declared: write #include <stdio.h> before it",
+    ),
+    (
+        "int main(void) { return square(3); }\n",
+        "a.c:1:25: type Unknown: 'square' is called, and the text defines no function of this name: a prototype alone is not enough",
+    ),
+    (
+        "int square(int n);\nint main(void) { return square(3); }\n",
+        "a.c:2:25: type Unknown: 'square' is called, and the text defines no function of this name: a prototype alone is not enough",
+    ),
+    (
+        "int main(void) { total = 1; return 0; }\n",
+        "a.c:1:18: type Unknown: 'total' is not declared before this place",
+    ),
+    (
+        "int main(void) { int x = 1; int x = 2; return x; }\n",
+        "a.c:1:33: type Twice: 'x' is declared a second time in its block, or defined a second time",
+    ),
+    (
+        "int f(void) { return 1; }\nint f(void) { return 2; }\n",
+        "a.c:2:5: type Twice: 'f' is declared a second time in its block, or defined a second time",
+    ),
+    (
+        "int main(void) { switch (1) { case 1: return 0; case 1: return 1; } return 2; }\n",
+        "a.c:1:49: type Twice: 'case' gives a label that stands in this switch already",
+    ),
+    (
+        "void f(void) { return 1; }\n",
+        "a.c:1:16: type Mismatch: 'return' gives a value in a function of type void, or none in a function of another type",
+    ),
+    (
+        "int main(void) { break; return 0; }\n",
+        "a.c:1:18: type Mismatch: 'break' stands in no loop, nor break in a switch",
+    ),
+    (
+        "int a[3];\nint main(void) { return a; }\n",
+        "a.c:2:25: type Mismatch: 'a' does not fit here: look for an array or a void call as a value, a value that is set, or no constant",
+    ),
+    (
+        "int main(void) { 1 = 2; return 0; }\n",
+        "a.c:1:18: type Mismatch: '1' does not fit here: look for an array or a void call as a value, a value that is set, or no constant",
+    ),
+    (
+        "int f(int a) { return a; }\nint main(void) { return f(1, 2); }\n",
+        "a.c:2:25: type Arity: 'f' is called with too few or too many arguments",
+    ),
+    (
+        "int f(int a, int b, int c, int d, int e, int g, int h, int i, int j) { return a; }\n",
+        "a.c:1:67: type TooManyParams: 'j' is the ninth parameter, and eight are the most: use an array or global variables",
+    ),
+    (
+        "char a[1048577];\n",
+        "a.c:1:6: type TooLarge: 'a' is too large: an array, and all globals together, have 1,048,576 bytes at most",
+    ),
+    (
+        "int main(void) { int v0; int v1; int v2; int v3; int v4; int v5; int v6; int v7; int v8; int v9; int v10; int v11; int v12; int v13; int v14; int v15; int v16; int v17; int v18; int v19; int v20; int v21; int v22; int v23; int v24; int v25; int v26; int v27; int v28; int v29; int v30; int v31; int v32; int v33; int v34; int v35; int v36; int v37; int v38; int v39; int v40; int v41; int v42; int v43; int v44; int v45; int v46; int v47; int v48; int v49; int v50; int v51; int v52; int v53; int v54; int v55; int v56; int v57; int v58; int v59; int v60; int v61; int v62; int v63; int last; return 0; }\n",
+        "a.c:1:588: type TooManyScalars: 'last' is the 65th variable of its function without brackets, and 64 are the most: use an array",
+    ),
+    (
+        "int main(void) { return 1 + (1 + (1 + (1 + (1 + (1 + (1 + (1 + (1 + (1 + (1 + (1 + (1 + (1 + (1 + (1 + (1 + (1))))))))))))))))); }\n",
+        "a.c:1:25: type Need: '1' begins an expression that needs more than 16 values at once: keep parts of it in variables",
+    ),
+    (
+        "int f(void) { return 0; }\n",
+        "a.c: type NoMain: no function int main(void) with a body is defined",
+    ),
+];
