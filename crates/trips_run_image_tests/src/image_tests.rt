@@ -6,8 +6,8 @@ use std::test::Fail;
 use trips_run::Status;
 use trips_run_harness::answer_of;
 
-// The program that returns 7, the example of docs/MACHINE.md.
-const SEVEN: &[(usize, u32)] = &[
+/// The program that returns 7, the example of docs/MACHINE.md.
+pub(crate) const SEVEN: &[(usize, u32)] = &[
     (1, 0x00000003),
     (21, 0x80000000),
     (23, 0x80000000),
@@ -133,8 +133,8 @@ const NINE_CHOICES: &[(usize, u32)] = &[
     (86, 0x036c0028),
 ];
 
-// The bytes of an image of so many blocks and chunks, whose words are 0 but for these.
-fn image_of(
+/// The bytes of an image of so many blocks and chunks, whose words are 0 but for these.
+pub(crate) fn image_of(
     alloc: Global,
     blocks: u32,
     chunks: usize,

@@ -2,6 +2,8 @@
 #![tactic(auto)]
 
 #[cfg(test)]
+mod broken_tests;
+#[cfg(test)]
 mod grid_tests;
 #[cfg(test)]
 mod image_tests;

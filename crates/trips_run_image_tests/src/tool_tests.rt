@@ -52,6 +52,27 @@ W[0] write G[0]
 N[0] genu 3 W[0]
 ";
 
+// Its last line has no line feed.
+const NO_LINE_FEED: &str = "trips 1
+data 0
+block 0 mask 00000000
+W[0] write G[0]
+W[1] write G[3]
+N[0] genu 3 W[0]
+N[1] genu 7 W[1]
+N[2] scall 0";
+
+// Its constant does not fit.
+const TOO_WIDE: &str = "trips 1
+data 0
+block 0 mask 00000000
+W[0] write G[0]
+W[1] write G[3]
+N[0] genu 65536 W[0]
+N[1] genu 7 W[1]
+N[2] scall 0
+";
+
 const FOREVER: &str = "int main(void) { while (1) ; }";
 
 const SEVEN_REPORT: &str = "output 0\n\nresult 7\n";
@@ -102,6 +123,16 @@ const ROWS: &[Row] = &[
         "refused check 7 NoExit block 0\n",
     ),
     (
+        &["asm", "g.tasl"],
+        Status::Refused,
+        "refused asm 1 Syntax line 8\n",
+    ),
+    (
+        &["asm", "h.tasl"],
+        Status::Refused,
+        "refused asm 2 Range line 6\n",
+    ),
+    (
         &["check", "a.tasl"],
         Status::Refused,
         "refused image 1 Magic\n",
@@ -127,6 +158,8 @@ fn assert_rows(rt: &impl Abort, alloc: Global, rows: &[Row]) -> Result<(), Alloc
                 ("v.tasl", STORED.as_bytes()),
                 ("e.c", b"@"),
                 ("f.c", FOREVER.as_bytes()),
+                ("g.tasl", NO_LINE_FEED.as_bytes()),
+                ("h.tasl", TOO_WIDE.as_bytes()),
             ],
         )?;
         assert_eq!(rt; answered, *status, "{words:?}");

@@ -2,6 +2,10 @@
 #![tactic(auto)]
 
 #[cfg(test)]
+mod explain_tests;
+#[cfg(test)]
+mod failing_tests;
+#[cfg(test)]
 mod front_tests;
 #[cfg(test)]
 mod larger_rows;

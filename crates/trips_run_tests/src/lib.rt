@@ -21,3 +21,5 @@ mod switch_tests;
 mod tables;
 #[cfg(test)]
 mod token_tests;
+#[cfg(test)]
+mod unroll_tests;

@@ -1,0 +1,82 @@
+//! `explain` on texts of C: what is told of an accepted text, and of one that each stage refuses.
+use std::alloc::{AllocError, Global};
+use std::process::Abort;
+use std::test::Fail;
+use trips_run::Status;
+use trips_run_harness::answer_of;
+
+/// A text, the status, and what is told of it.
+type Row = (&'static str, Status, &'static str);
+
+const TOLD: &[Row] = &[
+    (
+        "int main(void)\n{\n    return 7;\n}\n",
+        Status::Ended,
+        "a.c: accepted, functions 1, lines 4, tokens 10\n",
+    ),
+    (
+        "int f(void) { return 1; }\nint main(void) { return f(); }",
+        Status::Ended,
+        "a.c: accepted, functions 2, lines 2, tokens 22\n",
+    ),
+    (
+        "int main(void) {\n\treturn @;\n}\n",
+        Status::Refused,
+        "a.c:2:9: lex BadByte: '@' begins no token\n\treturn @;\n\t       ^\n",
+    ),
+    (
+        "static int n;\n",
+        Status::Refused,
+        "a.c:1:1: parse Syntax: 'static' is left out: write the declaration without it\nstatic int n;\n^\n",
+    ),
+    (
+        "int main(void) { return total; }",
+        Status::Refused,
+        "a.c:1:25: type Unknown: 'total' is not declared before this place\nint main(void) { return total; }\n                        ^\n",
+    ),
+    (
+        "int a;\n",
+        Status::Refused,
+        "a.c: type NoMain: no function int main(void) with a body is defined\n",
+    ),
+];
+
+fn assert_told(rt: &impl Abort, alloc: Global, rows: &[Row]) -> Result<(), AllocError> {
+    for (text, wanted, report) in rows {
+        let held = [("a.c", text.as_bytes())];
+        let (status, told) = answer_of(alloc, &["explain", "a.c"], &held)?;
+        assert_eq!(rt; status, *wanted, "{text}");
+        assert_eq!(rt; told.as_slice(), report.as_bytes(), "{text}");
+    }
+    Ok(())
+}
+
+#[test]
+fn explains_texts(rt: HostRuntime) -> Result<(), Fail> {
+    assert_told(&rt, rt.alloc(), TOLD)?;
+    Ok(())
+}
+
+#[test]
+fn explains_under_the_name_of_the_file(rt: HostRuntime) -> Result<(), Fail> {
+    let held = [("my prices", b"@\n".as_slice())];
+    let (status, told) = answer_of(rt.alloc(), &["explain", "my prices"], &held)?;
+    assert_eq!(rt; status, Status::Refused);
+    assert_eq!(rt;
+        told.as_slice(),
+        b"my prices:1:1: lex BadByte: '@' begins no token\n@\n^\n".as_slice()
+    );
+    Ok(())
+}
+
+#[test]
+fn explains_c_that_is_there(rt: HostRuntime) -> Result<(), Fail> {
+    let alloc = rt.alloc();
+    let (status, told) = answer_of(alloc, &["explain", "b.img"], &[])?;
+    assert_eq!(rt; status, Status::Usage);
+    assert_eq!(rt; told.as_slice(), b"usage\n".as_slice());
+    let (status, told) = answer_of(alloc, &["explain", "none.c"], &[])?;
+    assert_eq!(rt; status, Status::ReadFault);
+    assert_eq!(rt; told.as_slice(), b"read fault\n".as_slice());
+    Ok(())
+}
