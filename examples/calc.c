@@ -1,7 +1,8 @@
 #include <stdio.h>
 
-/* A calculator: reads numbers and the operators + - * / % behind their operands, as in `3 4 + 2 *`, and `=`, which puts out the number on
-   top of the stack. Returns how many numbers are left. Other bytes are spaces; a quotient by 0 is 0. */
+/* A calculator: reads numbers and the operators + - * / % behind their operands, as in `3 4 + 2 *`, and `=`, which
+   puts out the number on top of the stack. Returns how many numbers are left. Other bytes are spaces; a quotient by
+   0 is 0. */
 long stack[32];
 int height;
 

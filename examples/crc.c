@@ -1,6 +1,7 @@
 #include <stdio.h>
 
-/* Puts out the cyclic redundancy check of its input, by the polynomial 0x1021 from 0xffff on (CRC-16), as four hexadecimal digits, and returns it. */
+/* Puts out the cyclic redundancy check of its input, by the polynomial 0x1021 from 0xffff on (CRC-16), as four
+   hexadecimal digits, and returns it. */
 unsigned short table[16][16];
 
 void fill(void) {

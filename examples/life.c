@@ -1,6 +1,7 @@
 #include <stdio.h>
 
-/* The game of life on a board of eight by eight whose opposite edges meet: puts the board out after four turns, and returns how many cells live. */
+/* The game of life on a board of eight by eight whose opposite edges meet: puts the board out after four turns, and
+   returns how many cells live. */
 char board[8][8] = {
   { 0, 1 },
   { 0, 0, 1 },

@@ -1,6 +1,7 @@
 #include <stdio.h>
 
-/* Raises a matrix to powers by repeated products, and puts out Fibonacci's numbers, which stand in a corner of them. Returns the last of these. */
+/* Raises a matrix to powers by repeated products, and puts out Fibonacci's numbers, which stand in a corner of
+   them. Returns the last of these. */
 void multiply(long left[][2], long right[][2], long product[][2]) {
   int i;
   int j;

@@ -1,6 +1,7 @@
 #include <stdio.h>
 
-/* Puts its input out without the comments of C, each of which becomes a space, and returns how many there were. A machine of seven states. */
+/* Puts its input out without the comments of C, each of which becomes a space, and returns how many there were. A
+   machine of seven states. */
 int main(void) {
   int c;
   int comments = 0;

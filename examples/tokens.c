@@ -1,6 +1,7 @@
 #include <stdio.h>
 
-/* Counts the names, numbers and marks of its input by a table of states and classes of bytes, puts the three numbers out, and returns their sum. */
+/* Counts the names, numbers and marks of its input by a table of states and classes of bytes, puts the three
+   numbers out, and returns their sum. */
 int class_of(int c) {
   switch (c) {
     case EOF: case ' ': case '\n': case '\t': return 0;
