@@ -5,9 +5,10 @@ use Rattle.ir_forms.specs.declared.hyper.Exit.{Exit}
 use Rattle.ir_forms.specs.declared.hyper.Exit.TheVariants as exit
 use Rattle.ir_forms.specs.inside.HyperCode.{Items, Block}
 use Rattle.ir_forms.specs.inside.HyperRuns.{Machine, value_of, after_items, exit_of}
-use Rattle.loop_unroll.specs.inside.Unrolled.{Loop, turns, jumps_to, asked, unrolled_by}
+use Rattle.loop_unroll.specs.inside.Unrolled.{Loop, held_turns, jumps_to, asked, unrolled_by}
 use Rattle.loop_unroll.specs.inside.Laws.{done, RunsFor, UnrollsCounts}
-use Rattle.loop_unroll.proofs.Items.{says, after_turns}
+use Rattle.loop_unroll.proofs.Items.{says}
+use Rattle.loop_unroll.proofs.Held.{after_held_turns}
 use Rattle.loop_unroll.proofs.Programs.{there}
 use Rattle.loop_unroll.proofs.Runs.{IsLoop, is_loop}
 
@@ -90,18 +91,18 @@ done_sum is (suc a) b (suc c) x e = done_sum is a b c (after_items is x) (omega 
 
 module _ (z : Loop) (is : Items) where
   abbrev copies : ℕ → Items
-  copies n = turns z.way z.test is n
+  copies n = held_turns z.way z.test is n
 
   one_more : (n : ℕ) (x : Machine) → leads z is x ≡ true
       → after_items (copies (suc n)) x ≡ after_items (copies n) (after_items is x)
   one_more n x e =
-      after_turns z.way z.test is n x
+      after_held_turns z.way z.test is n x
       ∙ ap (λ v. cond v (after_items (copies n) (after_items is x)) (after_items is x)) e
 
   last : (n : ℕ) (x : Machine) → leads z is x ≡ false → after_items (copies n) x ≡ after_items is x
   last zero x e = refl
   last (suc n) x e =
-      after_turns z.way z.test is n x
+      after_held_turns z.way z.test is n x
       ∙ ap (λ v. cond v (after_items (copies n) (after_items is x)) (after_items is x)) e
 
   -- the loop is left within the block

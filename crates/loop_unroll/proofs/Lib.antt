@@ -1,9 +1,11 @@
 pub mod Items
 pub mod ItemShapes
+pub mod Held
 pub mod Runs
 pub mod Standings
 pub mod Programs
 pub mod Counts
 pub mod Entries
 pub mod Views
+pub mod HeldItems
 pub mod Walks

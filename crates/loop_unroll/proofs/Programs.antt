@@ -17,7 +17,7 @@ use Rattle.loop_unroll.specs.inside.Laws.{UnrollsRuns, UnrollsPrograms, UnrollsB
 use Rattle.loop_unroll.specs.inside.Laws.{StoppedStays, StaysOnce}
 use Rattle.loop_unroll.proofs.Runs.{found}
 use Rattle.loop_unroll.proofs.Standings.{wholes_stand}
-use Rattle.loop_unroll.proofs.ItemShapes.{turns_fit, turns_filled}
+use Rattle.loop_unroll.proofs.Held.{held_turns_fit, held_turns_filled}
 
 -- ENTRIES
 
@@ -183,7 +183,7 @@ fits_by : (k n : ℕ) (b : Block) → FitsHyper b → (o : Option Loop) → loop
     → FitsHyper (unrolled_by o n b)
 fits_by k n b f None e = f
 fits_by k n b f (Some z) e = record {
-  items = turns_fit z.way z.test b.items n (test_fits k b.tail z e f.tail) f.items;
+  items = held_turns_fit z.way z.test b.items n (test_fits k b.tail z e f.tail) f.items;
   tail = f.tail;
 }
 
@@ -198,7 +198,7 @@ all_fit times P f k c h =
 
 filled_by : (o : Option Loop) (n : ℕ) (b : Block) → filled_ifs b.items ≤ filled_ifs (unrolled_by o n b).items
 filled_by None n b = omega arith
-filled_by (Some x) n b = turns_filled x.way x.test b.items n
+filled_by (Some x) n b = held_turns_filled x.way x.test b.items n
 
 filled : (i : ℕ) (more : ℕ → ℕ) (P : List Block) → filled_in P ≤ filled_in (unrolled_from i more P)
 filled i more [] = omega arith

@@ -10,11 +10,12 @@ use Rattle.ir_forms.specs.declared.hyper.Exit.{Exit}
 use Rattle.ir_forms.specs.declared.hyper.Exit.TheVariants as exit
 use Rattle.ir_forms.specs.inside.HyperCode.{Items, Tail, Leave, Test, Block}
 use Rattle.ir_forms.specs.inside.HyperRuns.{Machine, Layout, value_of, pick, after_items, acts, exit_of, block_at}
-use Rattle.loop_unroll.specs.inside.Unrolled.{Loop, loop_by, loop_of, jumps_to, turns, unrolled_by}
+use Rattle.loop_unroll.specs.inside.Unrolled.{Loop, loop_by, loop_of, jumps_to, held_turns, unrolled_by}
 use Rattle.loop_unroll.specs.inside.Wholes.{Whole, Going, Faulty, Next, Stop, Goes, next_of, go_on, where_clean}
 use Rattle.loop_unroll.specs.inside.Wholes.{whole}
 use Rattle.loop_unroll.specs.inside.Laws.{ComesTo}
-use Rattle.loop_unroll.proofs.Items.{says, after_turns, clean_turns, and_true, output_stays}
+use Rattle.loop_unroll.proofs.Items.{says, and_true, output_stays}
+use Rattle.loop_unroll.proofs.Held.{after_held_turns, clean_held_turns}
 
 -- SELF LOOPS
 
@@ -133,7 +134,7 @@ module _ (check : Bool) (at : Layout) (P Q : List Block) (w : ℕ) (more : ℕ �
     body = (block_at P l).items
 
     abbrev copies : ℕ → Items
-    copies n = turns z.way z.test body n
+    copies n = held_turns z.way z.test body n
 
     -- the test leads on
     repeats : (b : ℕ) (m : Machine) → says z.way (value_of (after_items body m).registers z.test) ≡ true
@@ -215,8 +216,8 @@ module _ (check : Bool) (at : Layout) (P Q : List Block) (w : ℕ) (more : ℕ �
         let r = copied fuel f n b (omega (arith, low)) (after_items body m) in
         let o = on n b m (f b (omega (arith, low))) r
         (says z.way (value_of (after_items body m).registers z.test)) refl in
-        subst₂ (λ (c : Bool) (x : Machine). Copied l c x (suc n) (suc b) m) (sym (clean_turns z.way z.test body n m))
-        (sym (after_turns z.way z.test body n m)) o
+        subst₂ (λ (c : Bool) (x : Machine). Copied l c x (suc n) (suc b) m) (sym (clean_held_turns z.way z.test body n m))
+        (sym (after_held_turns z.way z.test body n m)) o
 
   -- a block that stays
   stays : (l b : ℕ) → block_at Q l ≡ block_at P l → ((k : ℕ) (m : Machine) → Found k m b) → (m : Machine)
@@ -233,8 +234,8 @@ module _ (check : Bool) (at : Layout) (P Q : List Block) (w : ℕ) (more : ℕ �
   -- an unrolled one
   turned : (l b : ℕ) (z : Loop) (m : Machine) (n : ℕ) → n ≤ w
       → block_at Q l ≡ unrolled_by (Some z) n (block_at P l)
-      → Copied l (is_clean (acts (turns z.way z.test (block_at P l).items n) m))
-      (after_items (turns z.way z.test (block_at P l).items n) m) n b m
+      → Copied l (is_clean (acts (held_turns z.way z.test (block_at P l).items n) m))
+      (after_items (held_turns z.way z.test (block_at P l).items n) m) n b m
       → Found l m b
   turned l b z m n low e (inl r) = record {
     blocks = 0;

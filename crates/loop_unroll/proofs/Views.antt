@@ -24,7 +24,7 @@ put_by (item.Load to op a) r k = refl
 put_by (item.Save op a v) r k = refl
 put_by (item.If t one other) r k = refl
 
-item_put : (i : HyperItem) (r k : Items) → then_items i (before r k) ≡ before (then_items i r) k
+pub item_put : (i : HyperItem) (r k : Items) → then_items i (before r k) ≡ before (then_items i r) k
 item_put i r k =
     ap (λ (f : Before). f (before r k)) (level i)
     ∙ put_by (map-HyperItem HyperItem Before then_items (out-HyperItem i)) r k
@@ -134,7 +134,7 @@ pub item_end : (xs all : List HyperItem) (i : HyperItem) (k : Items) → all ≡
     → items_of all ≡ before (items_of xs) k
 item_end xs all i k e h = ap items_of e ∙ items_put xs i ∙ ap (before (items_of xs)) h
 
-before_before : (a b k : Items) → before (before a b) k ≡ before a (before b k)
+pub before_before : (a b k : Items) → before (before a b) k ≡ before a (before b k)
 before_before Done b k = refl
 before_before (Set to op x y rest) b k = ap (Set to op x y) (before_before rest b k)
 before_before (Load to op x rest) b k = ap (Load to op x) (before_before rest b k)

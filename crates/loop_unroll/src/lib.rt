@@ -2,6 +2,7 @@
 #![tactic(auto)]
 
 mod copying;
+mod holding;
 mod laws;
 mod loops;
 mod turning;

@@ -30,7 +30,7 @@ fn item_sets(register: u8, item: &HyperItem) -> bool
 
 /// Whether items set a register.
 #[cycle(sets)]
-fn sets(register: u8, items: &[HyperItem]) -> bool
+pub fn sets(register: u8, items: &[HyperItem]) -> bool
     ensures { result ≡ spec.sets register (items_of items.now) }
 {
     for item in items {

@@ -6,8 +6,8 @@ ghost use Rattle.ir_forms.specs.inside.Limits.{label_count};
 ghost use Rattle.loop_unroll.specs.inside.Unrolled.{asked, loop_of, unrolled, unrolled_by};
 
 use crate::copying::{copy_items, copy_tail};
+use crate::holding::held_turns;
 use crate::loops::loop_of;
-use crate::turning::turns;
 use base::{Items, Memory};
 use ir_forms::{HyperBlock, HyperProgram};
 use std::alloc::Global;
@@ -44,7 +44,7 @@ pub fn unrolled_block(
 {
     let items = match loop_of(number, &block.tail) {
         None => copy_items(alloc, block.items.as_slice())?,
-        Some(around) => turns(alloc, around, block.items.as_slice(), more)?,
+        Some(around) => held_turns(alloc, around, block.items.as_slice(), more)?,
     };
     Ok(HyperBlock {
         items,

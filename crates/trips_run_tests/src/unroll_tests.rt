@@ -112,7 +112,7 @@ const DOUBLED: &str =
 const ADDED: &str =
     "int main(void) { int i; int s = 0; for (i = 0; i < 24; i++) s += i; return s; }";
 
-// A loop that fits into a block twice, and not three times: where three turns are asked for, one is done.
+// A loop that fits into a block twice, and not three times: where more turns are asked for, two are done.
 const TWICE: &str =
     "int a[32]; int main(void) { int i; unsigned s = 0; for (i = 0; i < 24; i++) { a[i] = a[i] * 3 + i; \
                      s = s * 5 + a[i]; s = s ^ 9; s = s + (s >> 3) * 7; } return s % 251; }";
@@ -124,9 +124,10 @@ const FEW: &[Few] = &[
     (ADDED, "1", 30, "output 0\n\nresult 276\n"),
     (ADDED, "2", 18, "output 0\n\nresult 276\n"),
     (ADDED, "4", 12, "output 0\n\nresult 276\n"),
+    (ADDED, "8", 9, "output 0\n\nresult 276\n"),
     (TWICE, "1", 30, "output 0\n\nresult 164\n"),
     (TWICE, "2", 18, "output 0\n\nresult 164\n"),
-    (TWICE, "3", 30, "output 0\n\nresult 164\n"),
+    (TWICE, "3", 18, "output 0\n\nresult 164\n"),
     (TWICE, "4", 18, "output 0\n\nresult 164\n"),
 ];
 

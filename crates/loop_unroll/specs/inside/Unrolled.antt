@@ -1,6 +1,7 @@
 -- Hyper programs whose self loops do several turns in one block.
 use Rattle.std.specs.Prelude.{ℕ, zero, suc, ◌-◌, Bool, true, false, cond, not, ◌&&◌, ◌||◌, nat_eq, nat_lt, List}
 use Rattle.std.specs.Prelude.{[], ◌∷◌, Option, Some, None}
+use Rattle.trips_isa.specs.declared.op.Op.TheVariants.{Mov}
 use Rattle.ir_forms.specs.declared.hyper.Source.{Source}
 use Rattle.ir_forms.specs.declared.hyper.Source.TheVariants.{Const, Reg}
 use Rattle.ir_forms.specs.declared.hyper.Exit.{Exit}
@@ -65,6 +66,25 @@ abbrev pub turns : Bool → Source → Items → ℕ → Items
 turns way t is zero = is
 turns way t is (suc n) = and_more way t is (turns way t is n)
 
+-- TURNS THAT HOLD
+
+-- registers below r that items set, each set to itself, before others
+abbrev pub holding : Items → ℕ → Items → Items
+holding is zero k = k
+holding is (suc r) k =
+    cond (sets r is) (Set r Mov (Reg r) (Const 0) (holding is r k)) (holding is r k)
+
+-- before others, each register that items set is set to itself; not an `abbrev`, since the numeral unrolls the
+-- recursion in each goal
+unfoldable pub held : Items → Items → Items
+held is k = holding is 128 k
+
+-- A turn and more, before which each register that a turn sets is set to itself: so the block has a word for it
+-- wherever its turns end.
+abbrev pub held_turns : Bool → Source → Items → ℕ → Items
+held_turns way t is zero = is
+held_turns way t is (suc n) = held is (turns way t is (suc n))
+
 -- LOOPS
 
 -- whether an exit jumps to block k
@@ -96,7 +116,7 @@ loop_of k (Test t one other) = loop_between k t one other
 -- a block, of which a self loop does n turns more than one; its end stays
 abbrev pub unrolled_by : Option Loop → ℕ → Block → Block
 unrolled_by None n b = b
-unrolled_by (Some x) n b = record { items = turns x.way x.test b.items n; tail = b.tail }
+unrolled_by (Some x) n b = record { items = held_turns x.way x.test b.items n; tail = b.tail }
 
 -- how many turns more than one an entry asks for: 0 is read as 1, and what is above 8 as 8
 abbrev pub more_turns : ℕ → ℕ
