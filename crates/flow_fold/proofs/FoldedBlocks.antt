@@ -15,6 +15,7 @@ use Rattle.flow_fold.specs.inside.Copies.{covers, guard_of}
 use Rattle.flow_fold.specs.inside.Immediates.{immediate_of, gives_constant}
 use Rattle.flow_fold.specs.inside.Folds.{with_constant, with_left, with_right, with_node, Turns, immediate}
 use Rattle.flow_fold.specs.inside.Folds.{left_copy, right_copy, guard_copy, offset, told, negative, freed}
+use Rattle.flow_fold.specs.inside.Folds.{left_behind, right_behind}
 use Rattle.flow_fold.specs.inside.Folds.{Folds}
 use Rattle.flow_fold.specs.inside.Offsets.{has_address, with_offset, summed}
 use Rattle.flow_fold.specs.inside.Replaces.{Immediates, with_immediate, with_immediates, LeavesOwn, Replaces}
@@ -23,6 +24,8 @@ use Rattle.flow_fold.proofs.Turned.{Written, Works}
 use Rattle.flow_fold.proofs.Turning.{constant_written, constant_works}
 use Rattle.flow_fold.proofs.Forwarded.{Copied, copied_is}
 use Rattle.flow_fold.proofs.CopyRules.{left_written, left_works, right_written, right_works}
+use Rattle.flow_fold.proofs.JoinRules as joins
+use Rattle.flow_fold.proofs.JoinRules.{LeftBehind, RightBehind, left_behind_kept, right_behind_kept}
 use Rattle.flow_fold.proofs.GuardRules.{Guarding, guarding, guard_written, guard_works}
 use Rattle.flow_fold.proofs.WaitRules.{Waiting, waiting, waiting_kept, free_written, free_works}
 use Rattle.flow_fold.proofs.OffsetFacts.{Moves, Offsetly, summed_is}
@@ -148,6 +151,8 @@ data How (nodes : List FlowNode) (j : ℕ) (n m : FlowNode) : Type 0 where
   by_constant : Constantly nodes n m → How nodes j n m
   by_left : Leftly nodes j n m → How nodes j n m
   by_right : Rightly nodes j n m → How nodes j n m
+  by_left_behind : LeftBehind nodes j n m → How nodes j n m
+  by_right_behind : RightBehind nodes j n m → How nodes j n m
   by_guard : Guarding nodes j n m → How nodes j n m
   by_offset : Addressed nodes j n m → How nodes j n m
   by_test : Telling nodes j n m → How nodes j n m
@@ -159,6 +164,12 @@ how_stands : (f : FlowBlock) (j : ℕ) (n m : FlowNode) → slice_get f.nodes j 
 how_stands f j n m there (by_constant c) = constantly f j n m there c
 how_stands f j n m there (by_left c) = leftly f j n m there c
 how_stands f j n m there (by_right c) = rightly f j n m there c
+how_stands f j n m there (by_left_behind c) =
+    subst (λ (x : FlowNode). Stands f j n x) (sym c.is)
+    (record { written = joins.left_written f j n there c.marks; works = joins.left_works f j n there c.marks })
+how_stands f j n m there (by_right_behind c) =
+    subst (λ (x : FlowNode). Stands f j n x) (sym c.is)
+    (record { written = joins.right_written f j n there c.marks; works = joins.right_works f j n there c.marks })
 how_stands f j n m there (by_guard c) = guarded_stands f j n m there c
 how_stands f j n m there (by_offset c) = addressed f j n m there c
 how_stands f j n m there (by_test c) = told_stands f j n m there c
@@ -266,6 +277,8 @@ module _ (r : Immediates) (own : LeavesOwn r) where
     copy = copy_kept nodes j n.guard n.right c.sources c.copy;
     is = ap new c.is;
   })
+  how_kept nodes j n m (by_left_behind c) = by_left_behind (left_behind_kept r nodes j n m c)
+  how_kept nodes j n m (by_right_behind c) = by_right_behind (right_behind_kept r nodes j n m c)
   how_kept nodes j n m (by_guard c) = by_guard (guard_kept nodes j n m c)
   how_kept nodes j n m (by_offset c) =
       by_offset (record { address = c.address; sum = sum_kept nodes j n m c.sum })
@@ -286,6 +299,8 @@ turned nodes j n m (left_copy ss s e) =
     by_left (record { sources = ss; copy = copied_is nodes j n.guard n.left ss s; is = e })
 turned nodes j n m (right_copy ss s e) =
     by_right (record { sources = ss; copy = copied_is nodes j n.guard n.right ss s; is = e })
+turned nodes j n m (left_behind marks e) = by_left_behind (record { marks = marks; is = e })
+turned nodes j n m (right_behind marks e) = by_right_behind (record { marks = marks; is = e })
 turned nodes j n m (guard_copy g s e) = by_guard (guarding nodes j n m g e s)
 turned nodes j n m (told t e) = by_test (telling nodes j n m t e)
 turned nodes j n m (negative t e) = by_end (ending nodes j n m t e)

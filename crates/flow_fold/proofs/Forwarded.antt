@@ -220,11 +220,12 @@ module _ (f : FlowBlock) (j : ℕ) (n : FlowNode) (there : slice_get f.nodes j �
           ∙ where_met [] (act_tokens (form_of n.op) n);
     }
 
-  -- so it works in the place of the node
-  pub sources_work : ((regs : ℕ → ℕ) (a : Computes) (h : ℕ → Answer) → Obeys regs a h 0 (with_node f j m).nodes
+  -- so it works in the place of the node, where each operand gets at most one token on a path
+  pub sources_work_on : ((regs : ℕ → ℕ) (a : Computes) (h : ℕ → Answer) → Obeys regs a h 0 (with_node f j m).nodes
       → Agrees regs h)
-      → ((regs : ℕ → ℕ) (h : ℕ → Answer) → IsTidy regs h f → AtMostOne regs h m) → Works f j n m
-  sources_work agrees tidy = record {
+      → ((regs : ℕ → ℕ) (a : Computes) (h : ℕ → Answer) → Obeys regs a h 0 (with_node f j m).nodes → IsTidy regs h f
+      → AtMostOne regs h m) → Works f j n m
+  sources_work_on agrees tidy = record {
     path = λ regs a h o. record {
       computes = a j m;
       is = obeys_at regs a h 0 (with_node f j m).nodes o j m j (omega arith) (set_here f.nodes j n m there)
@@ -232,7 +233,7 @@ module _ (f : FlowBlock) (j : ℕ) (n : FlowNode) (there : slice_get f.nodes j �
     };
     tidy = λ regs a h o t. record {
       clear = all_at (λ (x : FlowNode). guard_token h x.guard ≢ Some Null) f.nodes t.clear j n there;
-      operands = tidy regs h t;
+      operands = tidy regs a h o t;
     };
     outputs = λ h. record {
       leaves = same_leaves (form_of n.op) (h j);
@@ -245,3 +246,9 @@ module _ (f : FlowBlock) (j : ℕ) (n : FlowNode) (there : slice_get f.nodes j �
         obeys_at regs a h 0 (with_node f j m).nodes o j m j (omega arith) (set_here f.nodes j n m there)
         ∙ gives_same regs h (agrees regs a h o) (a j n);
   }
+
+  -- or wherever the block is tidy
+  pub sources_work : ((regs : ℕ → ℕ) (a : Computes) (h : ℕ → Answer) → Obeys regs a h 0 (with_node f j m).nodes
+      → Agrees regs h)
+      → ((regs : ℕ → ℕ) (h : ℕ → Answer) → IsTidy regs h f → AtMostOne regs h m) → Works f j n m
+  sources_work agrees tidy = sources_work_on agrees (λ regs a h o t. tidy regs h t)

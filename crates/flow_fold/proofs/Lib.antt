@@ -23,6 +23,8 @@ pub mod Following
 pub mod Lowered
 pub mod Swept
 pub mod Left
+pub mod StandingBehind
+pub mod JoinRules
 pub mod DrawnWrites
 pub mod Stayed
 pub mod SweptBlocks

@@ -8,6 +8,7 @@ use crate::addresses::feeds_addresses;
 use crate::constants::{immediate_of, small_of};
 use crate::copies::{copied, guard_copied};
 use crate::drawing::drawn;
+use crate::joining::{joined_at, joins};
 use crate::negatives::{as_negative, is_negative};
 use crate::offsets::offset_of;
 use crate::tests::{as_copy, may_tell, tells_bit};
@@ -33,8 +34,12 @@ fn with_constant(alloc: Global, n: &FlowNode, op: Op, imm: i32) -> Result<FlowNo
     })
 }
 
-// A node with another left operand.
-fn with_left(alloc: Global, n: &FlowNode, sources: Items<FlowSource>) -> Result<FlowNode, Memory>
+/// A node with another left operand.
+pub fn with_left(
+    alloc: Global,
+    n: &FlowNode,
+    sources: Items<FlowSource>,
+) -> Result<FlowNode, Memory>
     ensures { IfOk result (λ m. m ≡ folds.with_left n.now sources) }
 {
     let right = Items::from_slice(alloc, n.right.as_slice())?;
@@ -48,8 +53,12 @@ fn with_left(alloc: Global, n: &FlowNode, sources: Items<FlowSource>) -> Result<
     })
 }
 
-// A node with another right operand.
-fn with_right(alloc: Global, n: &FlowNode, sources: Items<FlowSource>) -> Result<FlowNode, Memory>
+/// A node with another right operand.
+pub fn with_right(
+    alloc: Global,
+    n: &FlowNode,
+    sources: Items<FlowSource>,
+) -> Result<FlowNode, Memory>
     ensures { IfOk result (λ m. m ≡ folds.with_right n.now sources) }
 {
     let left = Items::from_slice(alloc, n.left.as_slice())?;
@@ -313,13 +322,20 @@ fn constant_at(alloc: Global, block: FlowBlock, j: usize, uses: &Uses) -> Result
 }
 
 // A block whose node j is folded: what it takes first looks through copies, then for a constant, then for a sum.
-fn folded_at(alloc: Global, block: FlowBlock, j: usize, uses: &Uses) -> Result<FlowBlock, Memory>
+fn folded_at(
+    alloc: Global,
+    block: FlowBlock,
+    j: usize,
+    uses: &Uses,
+    marks: &[bool],
+) -> Result<FlowBlock, Memory>
     ensures { IfOk result (λ g. Replaces block g) }
 {
     let guarded = turned_at(alloc, block, j, Rule::Guard)?;
     let left = turned_at(alloc, guarded, j, Rule::Left)?;
     let right = turned_at(alloc, left, j, Rule::Right)?;
-    let constant = constant_at(alloc, right, j, uses)?;
+    let joined = joined_at(alloc, right, j, marks)?;
+    let constant = constant_at(alloc, joined, j, uses)?;
     let offset = turned_at(alloc, constant, j, Rule::Offset)?;
     let told = turned_at(alloc, offset, j, Rule::Told)?;
     let negative = turned_at(alloc, told, j, Rule::Negative)?;
@@ -329,14 +345,18 @@ fn folded_at(alloc: Global, block: FlowBlock, j: usize, uses: &Uses) -> Result<F
 
 // A block each node of which is folded where a rule applies.
 #[tactic(auto, using(crate::proofs::Following::stands_on, crate::proofs::Following::stands_for_itself))]
-fn all_folded(alloc: Global, block: FlowBlock) -> Result<FlowBlock, Memory>
+fn all_folded(
+    alloc: Global,
+    block: FlowBlock,
+    uses: &Uses,
+    marks: &[bool],
+) -> Result<FlowBlock, Memory>
     ensures { IfOk result (λ g. Replaces block g) }
 {
     let count = block.nodes.len();
-    let uses = uses_of(alloc, &block)?;
     let mut now = block;
     for j in 0..count {
-        now = folded_at(alloc, now, j, &uses)?;
+        now = folded_at(alloc, now, j, uses, marks)?;
     }
     Ok(now)
 }
@@ -346,7 +366,9 @@ fn all_folded(alloc: Global, block: FlowBlock) -> Result<FlowBlock, Memory>
 pub fn fold(alloc: Global, block: FlowBlock) -> Result<FlowBlock, Memory>
     ensures { IfOk result (λ g. Replaces block g) }
 {
-    let folded = all_folded(alloc, block)?;
-    let last = drawn(alloc, folded)?;
+    let uses = uses_of(alloc, &block)?;
+    let marks = joins(alloc, &block, &uses)?;
+    let folded = all_folded(alloc, block, &uses, marks.as_slice())?;
+    let last = drawn(alloc, folded, marks.as_slice())?;
     Ok(last)
 }

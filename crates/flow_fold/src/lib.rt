@@ -7,11 +7,13 @@
 #![tactic(auto)]
 
 mod addresses;
+mod behind;
 mod checking;
 mod constants;
 mod copies;
 mod drawing;
 mod folding;
+mod joining;
 mod keeping;
 mod laws;
 mod negatives;

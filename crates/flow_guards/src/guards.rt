@@ -20,8 +20,8 @@ fn same_sense(a: Sense, b: Sense) -> bool
     }
 }
 
-// Whether two guards are one.
-fn same_guard(a: Option<Guard>, b: Option<Guard>) -> bool
+/// Whether two guards are one.
+pub fn same_guard(a: Option<Guard>, b: Option<Guard>) -> bool
     ensures { result ≡ defined.same_guard a b }
 {
     match a {

@@ -1,9 +1,12 @@
 //! The nodes that lose their guards: all that are pure and guarded, but those that are seen where their guard is not
-//! met. Nothing is claimed of them, since they are judged.
-use crate::guards::{guard_at, implies, is_pure};
+//! met, and those that a copy under their guard alone takes: it is the copy that goes. Nothing is claimed of them, since they are judged.
+use crate::guards::{guard_at, implies, is_pure, same_guard};
+use crate::judging::is_marked;
+use crate::uses::{Uses, are_several, uses_of};
 use base::{Items, Memory};
 use ir_forms::{FlowBlock, FlowNode, FlowSource, FlowWrite, Guard};
 use std::alloc::Global;
+use trips_isa::{Op, row_of};
 
 // A mark of each node that is pure and has a guard.
 fn pure_nodes(alloc: Global, nodes: &[FlowNode]) -> Result<Items<bool>, Memory> {
@@ -28,6 +31,63 @@ fn keep_all(marks: &mut Items<bool>, sources: &[FlowSource]) {
             FlowSource::Read(_) => {}
             FlowSource::Node(k) => keep(marks, k),
         }
+    }
+}
+
+// The node that a copy under the same guard copies, where the copy alone takes it: the copy then needs no guard.
+fn keep_copied(
+    marks: &mut Items<bool>,
+    nodes: &[FlowNode],
+    uses: &Uses,
+    guard: Option<Guard>,
+    sources: &[FlowSource],
+) {
+    match sources {
+        [FlowSource::Node(k)] => {
+            if same_guard(guard_at(nodes, *k), guard)
+                && !are_several(uses, *k)
+                && is_quick_at(nodes, *k)
+            {
+                keep(marks, *k);
+            }
+        }
+        _ => {}
+    }
+}
+
+// Whether an operation takes a cycle, so that waiting for a guard costs no more than copying would.
+fn is_quick(op: Op) -> bool {
+    row_of(op).latency == 1
+}
+
+// Whether node k is quick.
+fn is_quick_at(nodes: &[FlowNode], k: u32) -> bool {
+    match nodes.get(k as usize) {
+        None => false,
+        Some(n) => is_quick(n.op),
+    }
+}
+
+// What a copy keeps that keeps its guard itself.
+fn keep_copy(marks: &mut Items<bool>, nodes: &[FlowNode], uses: &Uses, j: usize) {
+    match nodes.get(j) {
+        None => {}
+        Some(n) => match n.op {
+            Op::Mov => {
+                if !is_marked(marks.as_slice(), j) {
+                    keep_copied(marks, nodes, uses, n.guard, n.left.as_slice());
+                }
+            }
+            _ => {}
+        },
+    }
+}
+
+// What all copies keep, the last first.
+fn keep_copies(marks: &mut Items<bool>, nodes: &[FlowNode], uses: &Uses) {
+    let count = nodes.len();
+    for i in 0..count {
+        keep_copy(marks, nodes, uses, count - 1 - i);
     }
 }
 
@@ -87,5 +147,7 @@ pub fn guessed(alloc: Global, block: &FlowBlock) -> Result<Items<bool>, Memory> 
     let mut marks = pure_nodes(alloc, nodes)?;
     keep_nodes(&mut marks, nodes);
     keep_writes(&mut marks, block.writes.as_slice());
+    let uses = uses_of(alloc, block)?;
+    keep_copies(&mut marks, nodes, &uses);
     Ok(marks)
 }

@@ -11,6 +11,7 @@ mod judging;
 mod laws;
 mod loosening;
 mod unguarding;
+mod uses;
 
 pub use laws::{
     nodes_stay_where_they_stand, unguarding_keeps_completeness, unguarding_keeps_labels,

@@ -110,6 +110,25 @@ const AWAITED: &[Row] = &[
     (Op::Addi, ON_0, READ, ON_0),
 ];
 
+const BOTH: &[FlowSource] = &[FlowSource::Node(1), FlowSource::Node(2)];
+
+/// The write takes what two legs give, not their join.
+const JOINED: &[Row] = &[
+    (Op::Tlti, None, READ, None),
+    (Op::Addi, ON_0, READ, ON_0),
+    (Op::Addi, OFF_0, READ, OFF_0),
+    (Op::Mov, None, BOTH, None),
+];
+
+/// Where another node takes the join too the write takes it itself.
+const JOINED_FOR_TWO: &[Row] = &[
+    (Op::Tlti, None, READ, None),
+    (Op::Addi, ON_0, READ, ON_0),
+    (Op::Addi, OFF_0, READ, OFF_0),
+    (Op::Mov, None, BOTH, None),
+    (Op::Addi, None, THREE, None),
+];
+
 fn block(alloc: Global, rows: &[Row], written: &[FlowSource]) -> Result<FlowBlock, Fail> {
     let mut nodes = Items::new(alloc);
     for (op, guard, left, _last) in rows {
@@ -182,5 +201,7 @@ fn guards_and_writes_look_through_copies(rt: HostRuntime) -> Result<(), Fail> {
     assert_folds(&rt, alloc, "nested", NESTED, THREE, TWO)?;
     assert_folds(&rt, alloc, "gated", GATED, TWO, TWO)?;
     assert_folds(&rt, alloc, "awaited", AWAITED, THREE, THREE)?;
+    assert_folds(&rt, alloc, "joined", JOINED, THREE, BOTH)?;
+    assert_folds(&rt, alloc, "joined for two", JOINED_FOR_TWO, THREE, THREE)?;
     Ok(())
 }

@@ -82,6 +82,22 @@ const SEEN: &[Row] = &[
     (Op::Sd, OFF, ONE, READ, true),
 ];
 
+/// What a copy under its guard alone takes: the copy can go, where a write takes it.
+const COPIED: &[Row] = &[
+    (Op::Tnei, None, READ, NO, false),
+    (Op::Addi, ON, READ, NO, true),
+    (Op::Mov, ON, ONE, NO, true),
+    (Op::Sd, None, READ, READ, true),
+];
+
+/// What another node takes too waits for no test.
+const SHARED: &[Row] = &[
+    (Op::Tnei, None, READ, NO, false),
+    (Op::Addi, ON, READ, NO, false),
+    (Op::Mov, ON, ONE, NO, true),
+    (Op::Sd, ON, ONE, READ, true),
+];
+
 fn block(alloc: Global, rows: &[Row], written: &[FlowSource]) -> Result<FlowBlock, Fail> {
     let mut nodes = Items::new(alloc);
     for (op, guard, left, right, _guarded) in rows {
@@ -142,5 +158,7 @@ fn guards_stay_where_they_are_needed(rt: HostRuntime) -> Result<(), Fail> {
     assert_guards(&rt, alloc, "joined", JOINED, READ)?;
     assert_guards(&rt, alloc, "faults", FAULTS, READ)?;
     assert_guards(&rt, alloc, "seen", SEEN, TWO)?;
+    assert_guards(&rt, alloc, "copied", COPIED, TWO)?;
+    assert_guards(&rt, alloc, "shared", SHARED, TWO)?;
     Ok(())
 }

@@ -1,5 +1,5 @@
 -- A step of the pass *fold*: one node of a block becomes another, which does the same with fewer tokens.
-use Rattle.std.specs.Prelude.{◌≡◌, ℕ, ℤ, true, List, [], Some, slice_get, slice_set}
+use Rattle.std.specs.Prelude.{◌≡◌, ℕ, ℤ, Bool, true, List, [], Some, slice_get, slice_set}
 use Rattle.trips_isa.specs.declared.op.Op.{Op}
 use Rattle.ir_forms.specs.declared.flow.FlowSource.{FlowSource}
 use Rattle.ir_forms.specs.declared.flow.FlowNode.{FlowNode}
@@ -7,6 +7,7 @@ use Rattle.ir_forms.specs.declared.flow.FlowBlock.{FlowBlock}
 use Rattle.trips_isa.specs.Forms.{form_of}
 use Rattle.ir_forms.specs.declared.flow.Guard.{Guard}
 use Rattle.flow_fold.specs.inside.Copies.{copied, guard_copied}
+use Rattle.flow_fold.specs.inside.Draws.{all_behind}
 use Rattle.flow_fold.specs.inside.Immediates.{immediate_of, small_of}
 use Rattle.flow_fold.specs.inside.Offsets.{offset_of}
 use Rattle.flow_fold.specs.inside.Tests.{tells_bit, as_copy}
@@ -40,6 +41,9 @@ pub data Turns (nodes : List FlowNode) (j : ℕ) (n m : FlowNode) : Type 0 where
   -- what a copy at the right copies is taken itself
   right_copy : (ss : List FlowSource) → copied nodes j n.guard n.right ≡ Some ss → m ≡ with_right n ss
       → Turns nodes j n m
+  -- what stands behind the sources at the left is taken itself, and so at the right
+  left_behind : (marks : List Bool) → m ≡ with_left n (all_behind nodes marks j n.left) → Turns nodes j n m
+  right_behind : (marks : List Bool) → m ≡ with_right n (all_behind nodes marks j n.right) → Turns nodes j n m
   -- what the node of the guard copies is the node of the guard
   guard_copy : (g : Guard) → guard_copied nodes j n.guard ≡ Some g → m ≡ with_guard n g → Turns nodes j n m
   -- what a load's or a store's address adds goes into its offset

@@ -1,4 +1,5 @@
 -- Laws of the passes over flow blocks.
+use Rattle.std.specs.Prelude.{Bool, List}
 use Rattle.ir_forms.specs.declared.flow.FlowBlock.{FlowBlock}
 use Rattle.flow_fold.specs.inside.Replaces.{Replaces}
 use Rattle.flow_fold.specs.inside.Folds.{Folds}
@@ -21,7 +22,7 @@ FoldsReplace = (f g : FlowBlock) → Folds f g → Replaces f g
 
 -- and for what its writes draw
 abbrev pub DrawsReplace : Type 0
-DrawsReplace = (f : FlowBlock) → Replaces f (drawn f)
+DrawsReplace = (marks : List Bool) (f : FlowBlock) → Replaces f (drawn marks f)
 
 -- and for what it sweeps
 abbrev pub SweepsReplace : Type 0

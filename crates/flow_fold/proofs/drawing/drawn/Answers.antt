@@ -9,10 +9,11 @@ use Rattle.flow_fold.proofs.drawing.drawn.Goals as goal
 
 pub returns : goal.returns
 returns c =
-    let drawn_is : c.in_ok-writes.writes ≡ map (drawn_write c.args.block.nodes) c.args.block.writes =
+    let marks = c.args.marks.now in
+    let drawn_is : c.in_ok-writes.writes ≡ map (drawn_write c.args.block.nodes marks) c.args.block.writes =
     c.in_ok-writes.ensures
-    ∙ ap₂ (λ (ns : List FlowNode) (ws : List FlowWrite). map (drawn_write ns) ws) c.as_slice-nodes.ensures.value
-    c.as_slice-old.ensures.value in
-    let same : c.with_writes.result ≡ drawn c.args.block =
+    ∙ ap₂ (λ (ns : List FlowNode) (ws : List FlowWrite). map (drawn_write ns marks) ws)
+    c.as_slice-nodes.ensures.value c.as_slice-old.ensures.value in
+    let same : c.with_writes.result ≡ drawn marks c.args.block =
     c.with_writes.ensures ∙ ap (with_writes c.args.block) drawn_is in
-    subst (λ (g : FlowBlock). Replaces c.args.block g) (sym same) (drawing_stands c.args.block)
+    subst (λ (g : FlowBlock). Replaces c.args.block g) (sym same) (drawing_stands marks c.args.block)
