@@ -1,5 +1,5 @@
 //! A flow block as a machine block: a constant with three consumers and a read that feeds a write go
-//! through `mov`s.
+//! through `mov`s, and of four consumers the one with the longest way on is fed by the result itself.
 
 use base::Items;
 use fan_out::target;
@@ -108,6 +108,69 @@ fn gives_targets(rt: HostRuntime) -> Result<(), Fail> {
     if block.nodes.len() < 4096 {
         match target(alloc, &block) {
             Ok(machine) => assert_slots(&rt, &machine),
+            Err(FlowFault::TooBig(_, _)) => assert!(&rt; false, "it is small"),
+            Err(FlowFault::Memory) => assert!(&rt; false, "memory"),
+        }
+    }
+    Ok(())
+}
+
+/// A sum for four consumers, of which the last begins a chain of three nodes.
+fn chain_block(alloc: Global) -> Result<FlowBlock, Fail> {
+    let mut nodes = Items::new(alloc);
+    nodes.push(node(
+        alloc,
+        Op::Add,
+        0,
+        &[FlowSource::Read(7)],
+        &[FlowSource::Read(8)],
+    )?)?;
+    for from in [0u32, 0, 0, 0, 4, 5] {
+        nodes.push(node(alloc, Op::Addi, 1, &[FlowSource::Node(from)], &[])?)?;
+    }
+    nodes.push(node(alloc, Op::Bro, 0, &[], &[])?)?;
+    let mut reads = Items::new(alloc);
+    reads.push(7u8)?;
+    reads.push(8u8)?;
+    let mut writes = Items::new(alloc);
+    for from in [1u8, 2, 3, 6] {
+        writes.push(write(alloc, from, FlowSource::Node(from as u32))?)?;
+    }
+    Ok(FlowBlock {
+        nodes,
+        reads,
+        writes,
+        mask: 0,
+    })
+}
+
+fn assert_chain(rt: &impl Abort, block: &Block) {
+    let rows = [
+        inst(Op::Add, 0, Some(Spot::Left(4)), Some(Spot::Left(8))),
+        inst(Op::Addi, 1, Some(Spot::Write(0)), None),
+        inst(Op::Addi, 1, Some(Spot::Write(1)), None),
+        inst(Op::Addi, 1, Some(Spot::Write(2)), None),
+        inst(Op::Addi, 1, Some(Spot::Left(5)), None),
+        inst(Op::Addi, 1, Some(Spot::Left(6)), None),
+        inst(Op::Addi, 1, Some(Spot::Write(3)), None),
+        inst(Op::Bro, 0, None, None),
+        inst(Op::Mov, 0, Some(Spot::Left(9)), Some(Spot::Left(1))),
+        inst(Op::Mov, 0, Some(Spot::Left(2)), Some(Spot::Left(3))),
+    ];
+    for (slot, want) in rows.iter().enumerate() {
+        let found = block.insts.as_slice().get(slot);
+        assert!(rt; found == Some(&Some(*want)), "slot {slot} of the chain");
+    }
+}
+
+#[test]
+fn feeds_the_longest_way_first(rt: HostRuntime) -> Result<(), Fail> {
+    let alloc = rt.alloc();
+    let block = chain_block(alloc)?;
+    assert!(&rt; block.nodes.len() < 4096, "nodes");
+    if block.nodes.len() < 4096 {
+        match target(alloc, &block) {
+            Ok(machine) => assert_chain(&rt, &machine),
             Err(FlowFault::TooBig(_, _)) => assert!(&rt; false, "it is small"),
             Err(FlowFault::Memory) => assert!(&rt; false, "memory"),
         }

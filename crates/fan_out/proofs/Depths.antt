@@ -11,9 +11,10 @@ use Rattle.trips_isa.specs.declared.block.Spot.{Spot}
 use Rattle.trips_isa.specs.declared.block.Spot.TheVariants as spot
 use Rattle.ir_forms.specs.declared.flow.FlowSource.{FlowSource}
 use Rattle.fan_out.specs.inside.Fans.{Placed, Fan, lefts, fed, pairs, by_tree, one_target, from_two}
+use Rattle.fan_out.specs.inside.Fans.{first_alone, beside}
 use Rattle.fan_out.specs.inside.Fans.{two_targets, form_fan, all_operands, if_operands, read_fan, mov_to}
 use Rattle.fan_out.specs.inside.Depths.{IsTarget, Way, IsNear}
-use Rattle.fan_out.proofs.Bringing.{fed_length}
+use Rattle.fan_out.proofs.Bringing.{fed_length, second_none}
 
 -- half of a number, and whether one is left
 record Half (e : ℕ) : Type 0 where
@@ -241,16 +242,44 @@ one_is_near s n i (a ∷ b ∷ rest) t g =
     let few = w.few in
     record { movs = w.movs; way = w.way; few = omega arith }
 
+-- a way through a fan with one target is one beside another target too
+beside_way : (n : ℕ) (a : Spot) (fan : Fan) → fan.second ≡ None → (d : ℕ) (t : Spot) → Way n fan d t
+    → Way n (beside a fan) d t
+beside_way n a fan e zero t (inl w) = inr w
+beside_way n a fan e zero t (inr w) = absurd (cc)
+beside_way n a fan e (suc d) t w = record {
+  slot = w.slot;
+  mov = w.mov;
+  stands = w.stands;
+  before = beside_way n a fan e d (spot.Left (n + w.slot)) w.before;
+  feeds = w.feeds;
+}
+
+-- a form whose first spot is alone at the root reaches each of k spots by few movs
+alone_is_near : (s : FlowSource) (n i : ℕ) (ts : List Spot) (t : Spot) → slice_get ts i ≡ Some t
+    → IsNear n (first_alone s n ts) (2 * length ts) t
+alone_is_near s n i [] t g = absurd (cc)
+alone_is_near s n zero (a ∷ rest) t g = record { movs = 0; way = inl g; few = omega arith }
+alone_is_near s n (suc i) (a ∷ rest) t g =
+    let w = one_is_near s n i rest t g in
+    let few = w.few in
+    record {
+      movs = w.movs;
+      way = beside_way n a (one_target s n rest) (second_none s n rest) w.movs t w.way;
+      few = omega arith;
+    }
+
 -- and so does a node of any form that has consumers
-pub node_is_near : (form : Form) (s : FlowSource) (n i : ℕ) (ts : List Spot) (t : Spot)
+pub node_is_near : (alone : Bool) (form : Form) (s : FlowSource) (n i : ℕ) (ts : List Spot) (t : Spot)
     → (form ≡ Store → ⊥) → (form ≡ Branch → ⊥) → slice_get ts i ≡ Some t
-    → IsNear n (form_fan form s n ts) (2 * length ts) t
-node_is_near General s n i ts t store branch g = two_is_near s n i ts t g
-node_is_near Immediate s n i ts t store branch g = one_is_near s n i ts t g
-node_is_near Load s n i ts t store branch g = one_is_near s n i ts t g
-node_is_near Constant s n i ts t store branch g = one_is_near s n i ts t g
-node_is_near Store s n i ts t store branch g = absurd (store refl)
-node_is_near Branch s n i ts t store branch g = absurd (branch refl)
+    → IsNear n (form_fan alone form s n ts) (2 * length ts) t
+node_is_near true General s n i ts t store branch g = alone_is_near s n i ts t g
+node_is_near false General s n i ts t store branch g = two_is_near s n i ts t g
+node_is_near c Immediate s n i ts t store branch g = one_is_near s n i ts t g
+node_is_near c Load s n i ts t store branch g = one_is_near s n i ts t g
+node_is_near c Constant s n i ts t store branch g = one_is_near s n i ts t g
+node_is_near c Store s n i ts t store branch g = absurd (store refl)
+node_is_near c Branch s n i ts t store branch g = absurd (branch refl)
 
 -- a read reaches each of k spots by few movs
 pub read_is_near : (s : FlowSource) (n i : ℕ) (ts : List Spot) (t : Spot) → slice_get ts i ≡ Some t

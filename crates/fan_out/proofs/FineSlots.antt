@@ -42,7 +42,7 @@ use Rattle.fan_out.proofs.Ranks.{mark, one}
 use Rattle.fan_out.proofs.Owners.{away}
 use Rattle.fan_out.proofs.Paths.{obeys, path_table}
 use Rattle.fan_out.proofs.Goods.{item_at}
-use Rattle.fan_out.proofs.Fineness.{WiresFine, wires_fine_append, wired_fine}
+use Rattle.fan_out.proofs.FineSpots.{WiresFine, wires_fine_append, wired_fine}
 use Rattle.fan_out.proofs.Fineness.{AllFine, Room, nodes_fine, ReadsFine, reads_fine, Lone}
 
 -- lists --------------------------------------------------------------------------------------------

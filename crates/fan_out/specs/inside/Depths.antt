@@ -1,6 +1,6 @@
 -- How many movs stand between a result and its consumers.
 use Rattle.std.specs.Prelude.{◌≡◌, ℕ, zero, suc, ◌+◌, ◌*◌, ◌^◌, ◌<◌, List, length, slice_get}
-use Rattle.std.specs.Prelude.{Option, Some, ◌⊎◌}
+use Rattle.std.specs.Prelude.{Bool, Option, Some, ◌⊎◌}
 use Rattle.trips_isa.specs.declared.form.Form.{Form}
 use Rattle.trips_isa.specs.declared.form.Form.TheVariants.{Store, Branch}
 use Rattle.trips_isa.specs.declared.block.Spot.{Spot}
@@ -33,9 +33,9 @@ pub record IsNear (n : ℕ) (fan : Fan) (most : ℕ) (t : Spot) : Type 0 where
 
 -- the result of a node reaches each of its k consumers by at most ⌈log₂ k⌉ movs: by d with 2 ^ d < 2 * k
 abbrev pub NodesAreNear : Type 0
-NodesAreNear = (form : Form) (s : FlowSource) (n i : ℕ) (ts : List Spot) (t : Spot)
+NodesAreNear = (alone : Bool) (form : Form) (s : FlowSource) (n i : ℕ) (ts : List Spot) (t : Spot)
     → (form ≡ Store → ⊥) → (form ≡ Branch → ⊥)
-    → slice_get ts i ≡ Some t → IsNear n (form_fan form s n ts) (2 * length ts) t
+    → slice_get ts i ≡ Some t → IsNear n (form_fan alone form s n ts) (2 * length ts) t
 
 -- a read reaches each of its k consumers by as few, or by one more where they are no operands alone
 abbrev pub ReadsAreNear : Type 0

@@ -13,16 +13,18 @@ use Rattle.ir_forms.specs.declared.flow.FlowNode.{FlowNode}
 use Rattle.ir_forms.specs.declared.flow.FlowWrite.{FlowWrite}
 use Rattle.ir_forms.specs.declared.flow.FlowBlock.{FlowBlock}
 use Rattle.ir_forms.specs.inside.FlowRuns.{sense_of}
-use Rattle.fan_out.specs.inside.Wires.{Wire, wires, uses}
+use Rattle.fan_out.specs.inside.Wires.{Wire, wires}
+use Rattle.fan_out.specs.inside.Heights.{heights, in_order, leads}
 use Rattle.fan_out.specs.inside.Fans.{Placed, Fan, form_fan, read_fan}
 
 -- how node j reaches its consumers, where its movs stand in slots from `next` on
 abbrev pub fan_of_node : List Wire → ℕ → ℕ → FlowNode → Fan
-fan_of_node ws next j n = form_fan (form_of n.op) (Node j) next (uses (Node j) ws)
+fan_of_node ws next j n = form_fan (leads (heights ws) (in_order (Node j) ws)) (form_of n.op) (Node j) next
+    (in_order (Node j) ws)
 
 -- how the read of register r reaches its consumers
 abbrev pub fan_of_read : List Wire → ℕ → ℕ → Fan
-fan_of_read ws next r = read_fan (Read r) next (uses (Read r) ws)
+fan_of_read ws next r = read_fan (Read r) next (in_order (Read r) ws)
 
 -- the instruction of a node, with the targets of its fan
 abbrev pub with_targets : FlowNode → Fan → Inst
