@@ -11,11 +11,11 @@ use loop_unroll::loop_of;
 use reg_assign::Assigned;
 use std::alloc::Global;
 
-/// Half as many turns.
-fn half(times: u8) -> u8
+/// One turn fewer.
+fn fewer(times: u8) -> u8
     ensures { result ≤ times }
 {
-    times / 2
+    times.saturating_sub(1)
 }
 
 /// As many turns as are asked for in the block of a self loop, and one in another.
@@ -68,8 +68,8 @@ pub fn wanted(
     }
 }
 
-/// Half as many turns in one block; whether it had more than one.
-pub fn halve_one(times: &mut Items<u8>, copies: u8, at: usize) -> bool
+/// One turn fewer in one block; whether it had more than one.
+pub fn lessen_one(times: &mut Items<u8>, copies: u8, at: usize) -> bool
     requires low { All (λ t. t ≤ copies) times.old }
     ensures low { All (λ t. t ≤ copies) times.new }
 {
@@ -80,7 +80,7 @@ pub fn halve_one(times: &mut Items<u8>, copies: u8, at: usize) -> bool
     if now <= 1 || at >= times.len() {
         return false;
     }
-    times.set(at, half(now));
+    times.set(at, fewer(now));
     true
 }
 
@@ -103,8 +103,8 @@ fn is_refused(
     }
 }
 
-/// Half as many turns in a block of several that is refused for its size; whether it is one.
-fn halve_refused(
+/// One turn fewer in a block of several that is refused for its size; whether it is one.
+fn lessen_refused(
     alloc: Global,
     block: &NarrowedBlock,
     placing: Placing,
@@ -116,14 +116,14 @@ fn halve_refused(
     ensures low { OnOk result (All (λ t. t ≤ copies) times.new) }
 {
     if is_refused(alloc, block, placing, times.as_slice(), at)? {
-        Ok(halve_one(times, copies, at))
+        Ok(lessen_one(times, copies, at))
     } else {
         Ok(false)
     }
 }
 
-/// Half as many turns in each block of several that is refused for its size; whether there is one.
-pub fn halve_all(
+/// One turn fewer in each block of several that is refused for its size; whether there is one.
+pub fn lessen_all(
     alloc: Global,
     program: &NarrowedProgram,
     placing: Placing,
@@ -136,8 +136,8 @@ pub fn halve_all(
     let mut some = false;
     let mut at: usize = 0;
     for block in program.blocks.as_slice() {
-        let halved = halve_refused(alloc, block, placing, times, copies, at)?;
-        if halved {
+        let lessened = lessen_refused(alloc, block, placing, times, copies, at)?;
+        if lessened {
             some = true;
         }
         at = at.saturating_add(1);

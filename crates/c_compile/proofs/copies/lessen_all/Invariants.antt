@@ -1,5 +1,5 @@
 use Rattle.std.proofs.Common.{◌≤◌, All}
-use Rattle.c_compile.proofs.copies.halve_all.Given as goal
+use Rattle.c_compile.proofs.copies.lessen_all.Given as goal
 
 -- of none more than are wanted
 abbrev pub invariant-loop-block : goal.invariant-loop-block
