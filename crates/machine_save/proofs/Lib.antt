@@ -1,0 +1,10 @@
+pub mod Words
+pub mod Steps
+pub mod HeadLaws
+pub mod ListLaws
+pub mod FrontLaws
+pub mod FrontFaults
+pub mod OneFault
+pub mod Putting
+pub mod Opened
+pub mod Answered
