@@ -5,7 +5,7 @@ ghost use Rattle.grid_parts.specs.Seen.{seen};
 ghost use Rattle.grid_machine.specs.inside.Counted.{IsCounted};
 
 use crate::making::grid;
-use grid_machine::{GridWindow, eager_run as run};
+use grid_machine::{GridWindow, cost, eager_run as run};
 use grid_parts::Grid;
 use operand_net::{Calm, Weather, Worst};
 use std::alloc::Global;
@@ -44,6 +44,12 @@ fn driven<W: Weather>(rt: &impl Abort, grid: &mut Grid<GridWindow, W>, most: u32
         "the run ends"
     );
     let counts = grid.state.counts;
+    let trace = grid.window.arch().trace();
+    assert!(rt; trace.len() < 4_294_967_296, "a short trace");
+    assert!(rt;
+        counts.cycles <= cost(grid.window.window().image(), trace),
+        "within the cost"
+    );
     Came {
         answer: grid.window.arch().register(3),
         cycles: counts.cycles,

@@ -1,5 +1,6 @@
 //! Tests of the window in code on small images: what each event is answered at one frame, a frame of a small block
-//! from its fill to its outputs, and windows that are driven to their end, beside the sequential machine.
+//! from its fill to its outputs, and windows that are driven to their end, beside the sequential machine. A refused
+//! event leaves the window: [`refused_events_leave`] is that law.
 #![tactic(auto)]
 
 #[cfg(test)]
@@ -18,5 +19,10 @@ mod frame_tests;
 mod making;
 #[cfg(test)]
 mod played_tests;
+mod refused;
+#[cfg(test)]
+mod refused_tests;
 #[cfg(test)]
 mod rows;
+
+pub use refused::refused_events_leave;
