@@ -1,3 +1,6 @@
 pub mod Told
+pub mod Further
+pub mod FileTold
+pub mod Files
 pub mod Explained
 pub mod inside

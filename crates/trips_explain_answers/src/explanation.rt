@@ -1,13 +1,18 @@
-//! The explanation of a text of C.
+//! The explanation of a file: of a text of C, a target text or an image, by its name.
 
-ghost use Rattle.std.specs.Prelude.{◌≡◌, ◌<◌, length, IfOk};
-ghost use Rattle.trips_explain_answers.specs.Explained.{lines_of};
-ghost use Rattle.trips_explain_answers.specs.inside.Explained.{IsTold, IsCounted, IsExplained};
+ghost use Rattle.std.specs.Prelude.{◌≡◌, ◌<◌, ◌++◌, ℕ, List, length, IfOk, OnOk};
+ghost use Rattle.trips_explain_answers.specs.Explained.{lines_of, typing_of, IsBehindFault, IsSeen};
+ghost use Rattle.trips_explain_answers.specs.inside.Explained.{IsTold, IsCounted, IsExplainedAs, IsExplained};
+ghost use Rattle.trips_explain_answers.specs.declared.shape.Shape.TheVariants as shape;
 
+use crate::file_explanation::{image_explained, target_explained};
+use crate::further::put_more;
+use crate::shape::{Shape, shape_named};
 use crate::telling::refusal_told;
 use c_front::{Refusal, front};
 use c_lex::{lex, line_of};
-use c_tree::TypedProgram;
+use c_tree::{Lexeme, TypedProgram};
+use c_type::TypeFault;
 use std::alloc::{AllocError, Global};
 use trips_messages::accepted;
 use trips_requests::{Answer, Status};
@@ -53,26 +58,86 @@ fn counted(
     })
 }
 
+// The tokens of a text that the front end refuses, none where the lexer does.
+fn seen(alloc: Global, text: &[u8], refusal: &Refusal) -> Result<Vec<Lexeme>, AllocError>
+    requires short { length text.now < 4_294_967_295 }
+    ensures { IfOk result (λ tokens. IsSeen refusal.now text.now tokens.items) }
+{
+    match refusal {
+        Refusal::Lex(_) => Ok(Vec::new(alloc)),
+        _ => match lex(alloc, text) {
+            Ok(tokens) => Ok(tokens),
+            Err(_) => Err(AllocError),
+        },
+    }
+}
+
+// The fault of the typing, if it is the typing that refuses a text.
+fn typing_of(refusal: &Refusal) -> Option<TypeFault>
+    ensures { result ≡ typing_of refusal.now }
+{
+    match refusal {
+        Refusal::Typing(fault) => Some(*fault),
+        _ => None,
+    }
+}
+
+// Writes what is told behind the refusal of a text, by the fault of the typing.
+fn put_behind(
+    alloc: Global,
+    out: &mut Vec<u8>,
+    file: &str,
+    text: &[u8],
+    tokens: &[Lexeme],
+    fault: Option<TypeFault>,
+) -> Result<(), AllocError>
+    requires short { length text.now < 4_294_967_295 }
+    ensures ok { OnOk result ((more : List ℕ) × IsBehindFault file.now text.now tokens.now fault more
+        × (out.new.items ≡ out.old.items ++ more)) }
+{
+    match fault {
+        None => Ok(()),
+        Some(fault) => put_more(alloc, out, file, text, tokens, fault),
+    }
+}
+
 // What is told of a text that a stage of the front end refuses.
 fn refused(alloc: Global, file: &str, text: &[u8], refusal: Refusal) -> Result<Answer, AllocError>
     requires short { length text.now < 4_294_967_295 }
     ensures { IfOk result (λ answer.
         IsTold file.now text.now refusal answer.status answer.report.items) }
 {
+    let tokens = seen(alloc, text, &refusal)?;
+    let fault = typing_of(&refusal);
+    let mut report = refusal_told(alloc, file, text, &tokens, refusal)?;
+    put_behind(alloc, &mut report, file, text, &tokens, fault)?;
     Ok(Answer {
         status: Status::Refused,
-        report: refusal_told(alloc, file, text, refusal)?,
+        report,
     })
 }
 
-/// What the explanation of a text of C is answered, under the name of its file. Want of memory is the only error.
-pub fn text_explained(alloc: Global, file: &str, text: &[u8]) -> Result<Answer, AllocError>
+// What the explanation of a text of C is answered, under the name of its file.
+fn text_explained(alloc: Global, file: &str, text: &[u8]) -> Result<Answer, AllocError>
     requires short { length text.now < 4_294_967_295 }
     ensures { IfOk result (λ answer.
-        IsExplained file.now text.now answer.status answer.report.items) }
+        IsExplainedAs shape.Source file.now text.now answer.status answer.report.items) }
 {
     match front(alloc, text) {
         Ok(program) => counted(alloc, file, text, &program),
         Err(refusal) => refused(alloc, file, text, refusal),
+    }
+}
+
+/// What the explanation of a file is answered, under its name. Want of memory is the only error.
+pub fn file_explained(alloc: Global, file: &str, bytes: &[u8]) -> Result<Answer, AllocError>
+    requires short { length bytes.now < 4_294_967_295 }
+    ensures { IfOk result (λ answer.
+        IsExplained file.now bytes.now answer.status answer.report.items) }
+{
+    match shape_named(file) {
+        Shape::Source => text_explained(alloc, file, bytes),
+        Shape::Target => target_explained(alloc, file, bytes),
+        Shape::Image => image_explained(alloc, file, bytes),
     }
 }

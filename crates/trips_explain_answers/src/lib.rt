@@ -1,10 +1,14 @@
-//! What the explanation of a text of C is answered. It stands over the front end and the messages alone.
-//! `specs/Explained` says what is told of a text.
+//! What the explanation of a file is answered: of a text of C, of a target text, and of an image. It stands over the
+//! front end, the images and the messages alone. `specs/Explained` says what is told of a file.
 #![tactic(auto)]
 
 mod explanation;
 #[cfg(test)]
 mod explanation_tests;
+mod file_explanation;
+mod file_telling;
+mod further;
+mod shape;
 mod telling;
 
-pub use explanation::text_explained;
+pub use explanation::file_explained;

@@ -6,35 +6,65 @@ ghost use Rattle.trips_explain_answers.specs.Told.{placed, lex_told, parse_told,
 use c_front::Refusal;
 use c_lex::{LexFault, line_of};
 use c_parse::ParseFault;
+use c_tree::Lexeme;
 use c_type::TypeFault;
 use std::alloc::{AllocError, Global};
 use trips_messages::{Fault, message, message_without_place};
 
-// What is told of a fault at an offset of the text.
+// What is told of a fault at an offset of the text, which has these tokens.
 fn placed(
     alloc: Global,
     file: &str,
     text: &[u8],
+    tokens: &[Lexeme],
     fault: Fault,
     offset: u32,
 ) -> Result<Vec<u8>, AllocError>
     requires short { length text.now < 4_294_967_295 }
-    ensures text { IfOk result (λ report. report.items ≡ placed file.now text.now fault offset) }
+    ensures text { IfOk result (λ report. report.items ≡ placed file.now text.now tokens.now fault offset) }
 {
-    message(alloc, file, text, line_of(text, offset), fault, offset)
+    message(
+        alloc,
+        file,
+        text,
+        tokens,
+        line_of(text, offset),
+        fault,
+        offset,
+    )
 }
 
-// Of a text that has no tokens.
-fn lex_told(alloc: Global, file: &str, text: &[u8], fault: LexFault) -> Result<Vec<u8>, AllocError>
+// Of a text that the lexer refuses.
+fn lex_told(
+    alloc: Global,
+    file: &str,
+    text: &[u8],
+    tokens: &[Lexeme],
+    fault: LexFault,
+) -> Result<Vec<u8>, AllocError>
     requires short { length text.now < 4_294_967_295 }
-    ensures text { IfOk result (λ report. report.items ≡ lex_told file.now text.now fault) }
+    ensures text { IfOk result (λ report. report.items ≡ lex_told file.now text.now tokens.now fault) }
 {
     match fault {
-        LexFault::BadByte(offset) => placed(alloc, file, text, Fault::BadByte, offset),
-        LexFault::BadLiteral(offset) => placed(alloc, file, text, Fault::BadLiteral, offset),
-        LexFault::Unclosed(offset) => placed(alloc, file, text, Fault::Unclosed, offset),
-        LexFault::TooManyTokens(offset) => placed(alloc, file, text, Fault::TooManyTokens, offset),
-        LexFault::Directive(offset) => placed(alloc, file, text, Fault::Directive, offset),
+        LexFault::BadByte(offset) => placed(alloc, file, text, tokens, Fault::BadByte, offset),
+        LexFault::BadLiteral(offset) => placed(
+            alloc,
+            file,
+            text,
+            tokens,
+            Fault::BadLiteral,
+            offset,
+        ),
+        LexFault::Unclosed(offset) => placed(alloc, file, text, tokens, Fault::Unclosed, offset),
+        LexFault::TooManyTokens(offset) => placed(
+            alloc,
+            file,
+            text,
+            tokens,
+            Fault::TooManyTokens,
+            offset,
+        ),
+        LexFault::Directive(offset) => placed(alloc, file, text, tokens, Fault::Directive, offset),
         LexFault::Memory => Err(AllocError),
     }
 }
@@ -44,40 +74,49 @@ fn parse_told(
     alloc: Global,
     file: &str,
     text: &[u8],
+    tokens: &[Lexeme],
     fault: ParseFault,
 ) -> Result<Vec<u8>, AllocError>
     requires short { length text.now < 4_294_967_295 }
-    ensures text { IfOk result (λ report. report.items ≡ parse_told file.now text.now fault) }
+    ensures text { IfOk result (λ report. report.items ≡ parse_told file.now text.now tokens.now fault) }
 {
     match fault {
-        ParseFault::Syntax(offset) => placed(alloc, file, text, Fault::Syntax, offset),
-        ParseFault::TooDeep(offset) => placed(alloc, file, text, Fault::TooDeep, offset),
+        ParseFault::Syntax(offset) => placed(alloc, file, text, tokens, Fault::Syntax, offset),
+        ParseFault::TooDeep(offset) => placed(alloc, file, text, tokens, Fault::TooDeep, offset),
         ParseFault::Memory => Err(AllocError),
     }
 }
 
-// Of a text whose tree has no types.
-fn type_told(
+/// Of a text whose tree has no types.
+pub fn type_told(
     alloc: Global,
     file: &str,
     text: &[u8],
+    tokens: &[Lexeme],
     fault: TypeFault,
 ) -> Result<Vec<u8>, AllocError>
     requires short { length text.now < 4_294_967_295 }
-    ensures text { IfOk result (λ report. report.items ≡ type_told file.now text.now fault) }
+    ensures text { IfOk result (λ report. report.items ≡ type_told file.now text.now tokens.now fault) }
 {
     match fault {
-        TypeFault::Unknown(offset) => placed(alloc, file, text, Fault::Unknown, offset),
-        TypeFault::Twice(offset) => placed(alloc, file, text, Fault::Twice, offset),
-        TypeFault::Mismatch(offset) => placed(alloc, file, text, Fault::Mismatch, offset),
-        TypeFault::Arity(offset) => placed(alloc, file, text, Fault::Arity, offset),
+        TypeFault::Unknown(offset) => placed(alloc, file, text, tokens, Fault::Unknown, offset),
+        TypeFault::Twice(offset) => placed(alloc, file, text, tokens, Fault::Twice, offset),
+        TypeFault::Mismatch(offset) => placed(alloc, file, text, tokens, Fault::Mismatch, offset),
+        TypeFault::Arity(offset) => placed(alloc, file, text, tokens, Fault::Arity, offset),
         TypeFault::NoMain => message_without_place(alloc, file, Fault::NoMain),
         TypeFault::TooManyScalars(offset) => {
-            placed(alloc, file, text, Fault::TooManyScalars, offset)
+            placed(alloc, file, text, tokens, Fault::TooManyScalars, offset)
         }
-        TypeFault::TooManyParams(offset) => placed(alloc, file, text, Fault::TooManyParams, offset),
-        TypeFault::Need(offset) => placed(alloc, file, text, Fault::Need, offset),
-        TypeFault::TooLarge(offset) => placed(alloc, file, text, Fault::TooLarge, offset),
+        TypeFault::TooManyParams(offset) => placed(
+            alloc,
+            file,
+            text,
+            tokens,
+            Fault::TooManyParams,
+            offset,
+        ),
+        TypeFault::Need(offset) => placed(alloc, file, text, tokens, Fault::Need, offset),
+        TypeFault::TooLarge(offset) => placed(alloc, file, text, tokens, Fault::TooLarge, offset),
         TypeFault::Memory => Err(AllocError),
     }
 }
@@ -88,16 +127,17 @@ pub fn refusal_told(
     alloc: Global,
     file: &str,
     text: &[u8],
+    tokens: &[Lexeme],
     refusal: Refusal,
 ) -> Result<Vec<u8>, AllocError>
     requires short { length text.now < 4_294_967_295 }
-    ensures ok { IfOk result (λ report. report.items ≡ refusal_told file.now text.now refusal) }
+    ensures ok { IfOk result (λ report. report.items ≡ refusal_told file.now text.now tokens.now refusal) }
     ensures memory { IfOk result (λ _. refusal ≢ Refusal.Memory) }
 {
     match refusal {
-        Refusal::Lex(fault) => lex_told(alloc, file, text, fault),
-        Refusal::Parse(fault) => parse_told(alloc, file, text, fault),
-        Refusal::Typing(fault) => type_told(alloc, file, text, fault),
+        Refusal::Lex(fault) => lex_told(alloc, file, text, tokens, fault),
+        Refusal::Parse(fault) => parse_told(alloc, file, text, tokens, fault),
+        Refusal::Typing(fault) => type_told(alloc, file, text, tokens, fault),
         Refusal::Memory => Err(AllocError),
     }
 }

@@ -1,3 +1,4 @@
 pub mod ListedTexts
+pub mod MendedLemmas
 pub mod Prefixes
 pub mod StandardFacts

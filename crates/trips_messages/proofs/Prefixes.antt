@@ -1,5 +1,6 @@
 -- A text that is shorter than a word does not begin with it.
-use Rattle.std.proofs.Common.{◌≡◌, ◌<◌, ℕ, List, Bool, true, false, length, take, refl, ap, arith, length-take, inl, inr}
+use Rattle.std.proofs.Common.{◌≡◌, ◌<◌, ℕ, List, Bool, true, false, length, take, refl, ap, arith, length-take}
+use Rattle.std.proofs.Common.{inl, inr}
 use Rattle.std.proofs.Common.{◌⊎◌}
 use Rattle.std.specs.Str.{bytes_eq}
 use Rattle.std.proofs.lemmas.Slice.Eq.{bytes_eq-Decides}

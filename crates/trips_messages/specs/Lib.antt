@@ -1,5 +1,13 @@
 pub mod Words
 pub mod Places
 pub mod Texts
+pub mod Classes
+pub mod Sights
+pub mod Wanted
+pub mod Names
+pub mod Spans
+pub mod Mended
+pub mod Nearest
 pub mod Choices
+pub mod Hints
 pub mod Messages

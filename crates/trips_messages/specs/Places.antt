@@ -10,7 +10,8 @@ abbrev pub line_length : List ℕ → ℕ
 line_length [] = 0
 line_length (b ∷ bs) = if is_feed b then 0 else suc (line_length bs)
 
--- where the last line of the bytes begins, `at` being the number of their first one, and `start` where its line begins
+-- where the last line of the bytes begins, `at` being the number of their first one, and `start` where its line
+-- begins
 abbrev pub start_from : ℕ → ℕ → List ℕ → ℕ
 start_from at start [] = start
 start_from at start (b ∷ bs) = start_from (suc at) (if is_feed b then suc at else start) bs

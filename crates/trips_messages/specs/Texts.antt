@@ -80,7 +80,7 @@ sentence says.Library =
 sentence says.Undeclared =
     codes "is not declared: write #include <stdio.h> before it"
 sentence says.NoFunction =
-    codes "is called, and the text defines no function of this name: a prototype alone is not enough"
+    codes "is called, and the text has no function of this name: define it before this place"
 sentence says.NoName =
     codes "is not declared before this place"
 sentence says.LabelTwice =
@@ -105,6 +105,28 @@ sentence says.Temporaries =
     codes "begins an expression that needs more than 16 values at once: keep parts of it in variables"
 sentence says.Large =
     codes "is too large: an array, and all globals together, have 1,048,576 bytes at most"
+sentence says.Undefined =
+    codes "is declared, and the text defines it nowhere: write its body, or call nothing of this name"
+sentence says.Late =
+    codes "is declared behind this place alone: write its prototype or its definition before it"
+sentence says.Near =
+    codes "is not declared before this place: the nearest name that is declared is"
+sentence says.NearFunction =
+    codes "is called, and the text has no function of this name: the nearest name that is declared is"
+sentence says.Semicolon =
+    codes "does not stand here: wanted ; behind the expression or the statement before it"
+sentence says.RightParen =
+    codes "does not stand here: wanted ) behind the expression before it"
+sentence says.RightBracket =
+    codes "does not stand here: wanted ] behind the expression before it"
+sentence says.LastBrace =
+    codes "ends the text too early: wanted } behind it"
+sentence says.NotOpened =
+    codes "closes nothing that is open: look for one too many, or one that is missing before it"
+sentence says.NoType =
+    codes "stands behind a name that is no type: write int, char, short or long, also with unsigned"
+sentence says.Untyped =
+    codes "has no type before it: write int, char, short or long, or void for a function without a value"
 
 -- the stage that refuses, and the name of the fault
 unfoldable pub title : Fault → List ℕ

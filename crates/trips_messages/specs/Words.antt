@@ -67,17 +67,20 @@ is_new_type word =
 -- a storage class, or a word of its kind
 abbrev pub is_storage : List ℕ → Bool
 is_storage word =
-    bytes_eq word (codes "static") || (bytes_eq word (codes "extern") || (bytes_eq word (codes "register") || (bytes_eq word (codes "auto") || bytes_eq word (codes "inline"))))
+    bytes_eq word (codes "static") || (bytes_eq word (codes "extern") || (bytes_eq word (codes "register")
+    || (bytes_eq word (codes "auto") || bytes_eq word (codes "inline"))))
 
 -- a qualifier of a type
 abbrev pub is_qualifier : List ℕ → Bool
 is_qualifier word =
-    bytes_eq word (codes "const") || (bytes_eq word (codes "volatile") || (bytes_eq word (codes "restrict") || bytes_eq word (codes "_Atomic")))
+    bytes_eq word (codes "const") || (bytes_eq word (codes "volatile") || (bytes_eq word (codes "restrict")
+    || bytes_eq word (codes "_Atomic")))
 
 -- a word of a floating type
 abbrev pub is_floating : List ℕ → Bool
 is_floating word =
-    bytes_eq word (codes "float") || (bytes_eq word (codes "double") || (bytes_eq word (codes "_Complex") || bytes_eq word (codes "_Imaginary")))
+    bytes_eq word (codes "float") || (bytes_eq word (codes "double") || (bytes_eq word (codes "_Complex")
+    || bytes_eq word (codes "_Imaginary")))
 
 -- an operator that gives a size
 abbrev pub is_size : List ℕ → Bool
@@ -87,17 +90,21 @@ is_size word =
 -- a function of the library that reads or writes
 abbrev pub is_reading : List ℕ → Bool
 is_reading word =
-    bytes_eq word (codes "printf") || (bytes_eq word (codes "scanf") || (bytes_eq word (codes "puts") || (bytes_eq word (codes "gets") || (bytes_eq word (codes "fgets") || bytes_eq word (codes "sprintf")))))
+    bytes_eq word (codes "printf") || (bytes_eq word (codes "scanf") || (bytes_eq word (codes "puts")
+    || (bytes_eq word (codes "gets") || (bytes_eq word (codes "fgets") || bytes_eq word (codes "sprintf")))))
 
 -- a function of the library that gives or moves memory
 abbrev pub is_memory : List ℕ → Bool
 is_memory word =
-    bytes_eq word (codes "malloc") || (bytes_eq word (codes "calloc") || (bytes_eq word (codes "free") || (bytes_eq word (codes "memset") || (bytes_eq word (codes "memcpy") || bytes_eq word (codes "strlen")))))
+    bytes_eq word (codes "malloc") || (bytes_eq word (codes "calloc") || (bytes_eq word (codes "free")
+    || (bytes_eq word (codes "memset") || (bytes_eq word (codes "memcpy")
+    || bytes_eq word (codes "strlen")))))
 
 -- a function of the library for other uses
 abbrev pub is_general : List ℕ → Bool
 is_general word =
-    bytes_eq word (codes "exit") || (bytes_eq word (codes "abs") || (bytes_eq word (codes "rand") || (bytes_eq word (codes "srand") || (bytes_eq word (codes "strcmp") || bytes_eq word (codes "NULL")))))
+    bytes_eq word (codes "exit") || (bytes_eq word (codes "abs") || (bytes_eq word (codes "rand")
+    || (bytes_eq word (codes "srand") || (bytes_eq word (codes "strcmp") || bytes_eq word (codes "NULL")))))
 
 -- a name that the header declares
 abbrev pub is_declared : List ℕ → Bool

@@ -91,7 +91,7 @@ fn left_out_saying(word: &[u8]) -> Saying
 }
 
 /// Of a token with which no text goes on.
-fn mark_saying(word: &[u8]) -> Saying
+pub fn mark_saying(word: &[u8]) -> Saying
     ensures { result ≡ choices.mark_saying word.now }
 {
     if word == b"*".as_slice() {
@@ -118,7 +118,7 @@ fn mark_saying(word: &[u8]) -> Saying
 }
 
 /// Of a name that is not known.
-fn name_saying(word: &[u8], called: bool) -> Saying
+pub fn name_saying(word: &[u8], called: bool) -> Saying
     ensures { result ≡ choices.name_saying word.now called }
 {
     if is_declared(word) {

@@ -55,6 +55,17 @@ pub enum Saying {
     Parameters,
     Temporaries,
     Large,
+    Undefined,
+    Late,
+    Near,
+    NearFunction,
+    Semicolon,
+    RightParen,
+    RightBracket,
+    LastBrace,
+    NotOpened,
+    NoType,
+    Untyped,
 }
 
 /// The sentence, behind the word at fault.
@@ -122,7 +133,7 @@ pub fn sentence(saying: Saying) -> &'static str
             "is not here: of the library there are getchar, putchar and EOF, so define the rest in the text",
         Saying::Undeclared => "is not declared: write #include <stdio.h> before it",
         Saying::NoFunction =>
-            "is called, and the text defines no function of this name: a prototype alone is not enough",
+            "is called, and the text has no function of this name: define it before this place",
         Saying::NoName => "is not declared before this place",
         Saying::LabelTwice => "gives a label that stands in this switch already",
         Saying::NameTwice => "is declared a second time in its block, or defined a second time",
@@ -141,5 +152,23 @@ pub fn sentence(saying: Saying) -> &'static str
             "begins an expression that needs more than 16 values at once: keep parts of it in variables",
         Saying::Large =>
             "is too large: an array, and all globals together, have 1,048,576 bytes at most",
+        Saying::Undefined =>
+            "is declared, and the text defines it nowhere: write its body, or call nothing of this name",
+        Saying::Late =>
+            "is declared behind this place alone: write its prototype or its definition before it",
+        Saying::Near => "is not declared before this place: the nearest name that is declared is",
+        Saying::NearFunction =>
+            "is called, and the text has no function of this name: the nearest name that is declared is",
+        Saying::Semicolon =>
+            "does not stand here: wanted ; behind the expression or the statement before it",
+        Saying::RightParen => "does not stand here: wanted ) behind the expression before it",
+        Saying::RightBracket => "does not stand here: wanted ] behind the expression before it",
+        Saying::LastBrace => "ends the text too early: wanted } behind it",
+        Saying::NotOpened =>
+            "closes nothing that is open: look for one too many, or one that is missing before it",
+        Saying::NoType =>
+            "stands behind a name that is no type: write int, char, short or long, also with unsigned",
+        Saying::Untyped =>
+            "has no type before it: write int, char, short or long, or void for a function without a value",
     }
 }

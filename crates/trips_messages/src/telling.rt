@@ -5,10 +5,13 @@ ghost use Rattle.trips_messages.specs.Messages as messages;
 
 use crate::choices::saying;
 use crate::fault::{Fault, title};
+use crate::hints::{put_ending, said_at};
 use crate::marked::put_marked;
+use crate::nearest::nearest;
 use crate::places::{first_line, last_line, line_length, parted};
-use crate::saying::sentence;
+use crate::saying::{Saying, sentence};
 use crate::words::{is_call, is_seen, word_length};
+use c_tree::Lexeme;
 use std::alloc::{AllocError, Global};
 
 // How many bytes the word at fault has: the whole line of a directive.
@@ -46,35 +49,39 @@ fn put_shown(alloc: Global, out: &mut Vec<u8>, word: &[u8]) -> Result<(), AllocE
     }
 }
 
-// Writes the word, and what is said of it.
-fn put_said(
+// Writes the word, and a sentence, which may end with the nearest name.
+fn put_sentence(
     alloc: Global,
     out: &mut Vec<u8>,
-    fault: Fault,
     word: &[u8],
-    called: bool,
+    said: Saying,
+    name: &[u8],
 ) -> Result<(), AllocError>
-    ensures ok { OnOk result (out.new.items ≡ out.old.items ++ messages.said_of fault word.now called) }
+    ensures ok { OnOk result (out.new.items ≡ out.old.items ++ messages.sentence_of word.now said name.now) }
 {
     out.extend_from_slice(b"'")?;
     put_shown(alloc, out, word)?;
     out.extend_from_slice(b"' ")?;
-    let text = sentence(saying(fault, word, called));
-    out.extend_from_slice(text.as_bytes())
+    let text = sentence(said);
+    out.extend_from_slice(text.as_bytes())?;
+    put_ending(out, said, name)
 }
 
 // Writes what is said at the front of the rest.
-fn put_sentence(
+fn put_said(
     alloc: Global,
     out: &mut Vec<u8>,
     fault: Fault,
     rest: &[u8],
+    offset: u32,
+    tokens: &[Lexeme],
 ) -> Result<(), AllocError>
     ensures ok { OnOk result (out.new.items ≡ out.old.items
-        ++ messages.said fault rest.now (messages.word_size fault rest.now)) }
+        ++ messages.said fault rest.now (messages.word_size fault rest.now) offset tokens.now) }
 {
     let (word, behind) = rest.split_at(word_size(fault, rest));
-    put_said(alloc, out, fault, word, is_call(behind))
+    let said = said_at(fault, word, is_call(behind), offset, tokens);
+    put_sentence(alloc, out, word, said, nearest(word, tokens, offset))
 }
 
 // The place, and the title.
@@ -91,31 +98,35 @@ fn put_message(
     fault: Fault,
     front: &[u8],
     rest: &[u8],
+    offset: u32,
+    tokens: &[Lexeme],
 ) -> Result<(), AllocError>
     ensures ok { OnOk result (out.new.items ≡ out.old.items
-        ++ messages.told fault front.now rest.now) }
+        ++ messages.told fault front.now rest.now offset tokens.now) }
 {
-    put_sentence(alloc, out, fault, rest)?;
+    put_said(alloc, out, fault, rest, offset, tokens)?;
     out.extend_from_slice(b"\n")?;
     put_marked(out, front, first_line(rest))
 }
 
-/// What is told of a fault at a byte of a text, which stands on this line, under the name of the file.
+/// What is told of a fault at a byte of a text, which stands on this line, under the name of the file. The text has
+/// these tokens, or none where the lexer refuses it.
 pub fn message(
     alloc: Global,
     file: &str,
     text: &[u8],
+    tokens: &[Lexeme],
     line: u32,
     fault: Fault,
     offset: u32,
 ) -> Result<Vec<u8>, AllocError>
-    ensures ok { IfOk result (λ told. told.items ≡ messages.message file.now text.now line fault offset) }
+    ensures ok { IfOk result (λ told. told.items ≡ messages.message file.now text.now tokens.now line fault offset) }
 {
     let (before, rest) = parted(text, offset as usize);
     let front = last_line(before);
     let head = headed(alloc, file, line, front.len() + 1, title(fault))?;
     let mut out = Vec::from_slice(alloc, head.as_bytes())?;
-    put_message(alloc, &mut out, fault, front, rest)?;
+    put_message(alloc, &mut out, fault, front, rest, offset, tokens)?;
     Ok(out)
 }
 

@@ -20,14 +20,16 @@ const ROWS: &[Row] = &[
         line: 2,
         fault: Fault::Syntax,
         offset: 8,
-        told: "a.c:2:2: parse Syntax: 'struct' is left out: write a variable for each member, and an array for each member of many\n\tstruct s;\n\t^\n",
+        told: "a.c:2:2: parse Syntax: 'struct' is left out: write a variable for each member, and an array for \
+            each member of many\n\tstruct s;\n\t^\n",
     },
     Row {
         text: b"# define N 5",
         line: 1,
         fault: Fault::Directive,
         offset: 0,
-        told: "a.c:1:1: lex Directive: '# define N 5' is no directive that is here: only #include <stdio.h> is\n# define N 5\n^\n",
+        told: "a.c:1:1: lex Directive: '# define N 5' is no directive that is here: only #include <stdio.h> \
+            is\n# define N 5\n^\n",
     },
     Row {
         text: b"",
@@ -41,12 +43,13 @@ const ROWS: &[Row] = &[
         line: 1,
         fault: Fault::BadByte,
         offset: 2,
-        told: "a.c:1:3: lex BadByte: '195' is the number of a byte that begins no token: outside comments a text has ASCII alone\nx ä\n  ^\n",
+        told: "a.c:1:3: lex BadByte: '195' is the number of a byte that begins no token: outside comments a \
+            text has ASCII alone\nx ä\n  ^\n",
     },
 ];
 
 fn assert_row(rt: &impl Abort, alloc: Global, row: &Row) -> Result<(), AllocError> {
-    let told = message(alloc, "a.c", row.text, row.line, row.fault, row.offset)?;
+    let told = message(alloc, "a.c", row.text, &[], row.line, row.fault, row.offset)?;
     assert_eq!(rt; told.as_slice(), row.told.as_bytes(), "{}", row.told);
     Ok(())
 }

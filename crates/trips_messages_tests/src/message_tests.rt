@@ -2,8 +2,9 @@
 
 use crate::rows::ROWS;
 use c_front::{Refusal, front};
-use c_lex::{LexFault, line_of};
+use c_lex::{LexFault, lex, line_of};
 use c_parse::ParseFault;
+use c_tree::Lexeme;
 use c_type::TypeFault;
 use std::alloc::{AllocError, Global};
 use std::process::Abort;
@@ -54,6 +55,17 @@ fn placed(refusal: Refusal) -> Option<(Fault, u32)> {
     }
 }
 
+/// The tokens of a text, or none where the lexer refuses it.
+fn tokens_of(alloc: Global, text: &[u8]) -> Result<Vec<Lexeme>, AllocError> {
+    if 10_000 < text.len() {
+        return Ok(Vec::new(alloc));
+    }
+    match lex(alloc, text) {
+        Ok(tokens) => Ok(tokens),
+        Err(_) => Ok(Vec::new(alloc)),
+    }
+}
+
 /// What is told of a text, or nothing of one that is accepted.
 fn told(alloc: Global, text: &[u8]) -> Result<Vec<u8>, AllocError> {
     if 10_000 < text.len() {
@@ -64,7 +76,8 @@ fn told(alloc: Global, text: &[u8]) -> Result<Vec<u8>, AllocError> {
         Err(refusal) => match placed(refusal) {
             Some((fault, offset)) => {
                 let line = line_of(text, offset);
-                message(alloc, "a.c", text, line, fault, offset)
+                let tokens = tokens_of(alloc, text)?;
+                message(alloc, "a.c", text, &tokens, line, fault, offset)
             }
             None => message_without_place(alloc, "a.c", Fault::NoMain),
         },

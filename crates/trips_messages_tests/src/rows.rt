@@ -9,11 +9,13 @@ pub const ROWS: &[Row] = &[
     ),
     (
         "#include <stdio.h>\nint main(void) { puts(\"Hi\"); return 0; }\n",
-        "a.c:2:23: lex BadByte: '\"' begins a string, which is left out: write its characters one by one, as putchar('a')",
+        "a.c:2:23: lex BadByte: '\"' begins a string, which is left out: write its characters one by one, as \
+            putchar('a')",
     ),
     (
         "int main(void) { return p.x; }\n",
-        "a.c:1:26: lex BadByte: '.' stands for a member of a struct or for more arguments, which are left out: use arrays and variables",
+        "a.c:1:26: lex BadByte: '.' stands for a member of a struct or for more arguments, which are left out: \
+            use arrays and variables",
     ),
     (
         "int main(void) { return 1 + \\\n1; }\n",
@@ -25,39 +27,48 @@ pub const ROWS: &[Row] = &[
     ),
     (
         "int main(void) { int ä = 1; return 0; }\n",
-        "a.c:1:22: lex BadByte: '195' is the number of a byte that begins no token: outside comments a text has ASCII alone",
+        "a.c:1:22: lex BadByte: '195' is the number of a byte that begins no token: outside comments a text has \
+            ASCII alone",
     ),
     (
         "int main(void) { int price = 100; return price * 1.19; }\n",
-        "a.c:1:50: lex BadLiteral: '1.19' is a floating constant, which is left out: write whole numbers, as hundredths",
+        "a.c:1:50: lex BadLiteral: '1.19' is a floating constant, which is left out: write whole numbers, as \
+            hundredths",
     ),
     (
         "int main(void) { return 08; }\n",
-        "a.c:1:25: lex BadLiteral: '08' is no constant: write a whole number of 64 bits in base 8, 10 or 16, with u and l behind it or none",
+        "a.c:1:25: lex BadLiteral: '08' is no constant: write a whole number of 64 bits in base 8, 10 or 16, \
+            with u and l behind it or none",
     ),
     (
         "int main(void) { return 0b101; }\n",
-        "a.c:1:25: lex BadLiteral: '0b101' is no constant: write a whole number of 64 bits in base 8, 10 or 16, with u and l behind it or none",
+        "a.c:1:25: lex BadLiteral: '0b101' is no constant: write a whole number of 64 bits in base 8, 10 or 16, \
+            with u and l behind it or none",
     ),
     (
         "int main(void) { return 10ll; }\n",
-        "a.c:1:25: lex BadLiteral: '10ll' is no constant: write a whole number of 64 bits in base 8, 10 or 16, with u and l behind it or none",
+        "a.c:1:25: lex BadLiteral: '10ll' is no constant: write a whole number of 64 bits in base 8, 10 or 16, \
+            with u and l behind it or none",
     ),
     (
         "int main(void) { return 0xE+1; }\n",
-        "a.c:1:25: lex BadLiteral: '0xE' is no constant: write a whole number of 64 bits in base 8, 10 or 16, with u and l behind it or none",
+        "a.c:1:25: lex BadLiteral: '0xE' is no constant: write a whole number of 64 bits in base 8, 10 or 16, \
+            with u and l behind it or none",
     ),
     (
         "int main(void) { return 18446744073709551616; }\n",
-        "a.c:1:25: lex BadLiteral: '18446744073709551616' is no constant: write a whole number of 64 bits in base 8, 10 or 16, with u and l behind it or none",
+        "a.c:1:25: lex BadLiteral: '18446744073709551616' is no constant: write a whole number of 64 bits in \
+            base 8, 10 or 16, with u and l behind it or none",
     ),
     (
         "int main(void) { return 'ab'; }\n",
-        "a.c:1:25: lex BadLiteral: ''' begins no character constant: write one character or one escape, and a closing quote",
+        "a.c:1:25: lex BadLiteral: ''' begins no character constant: write one character or one escape, and a \
+            closing quote",
     ),
     (
         "int main(void) { return ''; }\n",
-        "a.c:1:25: lex BadLiteral: ''' begins no character constant: write one character or one escape, and a closing quote",
+        "a.c:1:25: lex BadLiteral: ''' begins no character constant: write one character or one escape, and a \
+            closing quote",
     ),
     (
         "int main(void) {\n\t/* open\nreturn 0;\n}\n",
@@ -65,23 +76,28 @@ pub const ROWS: &[Row] = &[
     ),
     (
         "#define N 10\nint main(void) { return N; }\n",
-        "a.c:1:1: lex Directive: '#define N 10' makes or removes a macro, which is left out: write the value itself, or a global variable",
+        "a.c:1:1: lex Directive: '#define N 10' makes or removes a macro, which is left out: write the value \
+            itself, or a global variable",
     ),
     (
         "int a;\n#undef N\n",
-        "a.c:2:1: lex Directive: '#undef N' makes or removes a macro, which is left out: write the value itself, or a global variable",
+        "a.c:2:1: lex Directive: '#undef N' makes or removes a macro, which is left out: write the value \
+            itself, or a global variable",
     ),
     (
         "#include <stdlib.h>\n",
-        "a.c:1:1: lex Directive: '#include <stdlib.h>' includes no header that is here: write #include <stdio.h> or nothing, and define the rest in the text",
+        "a.c:1:1: lex Directive: '#include <stdlib.h>' includes no header that is here: write #include \
+            <stdio.h> or nothing, and define the rest in the text",
     ),
     (
         "#include \"own.h\"\n",
-        "a.c:1:1: lex Directive: '#include \"own.h\"' includes no header that is here: write #include <stdio.h> or nothing, and define the rest in the text",
+        "a.c:1:1: lex Directive: '#include \"own.h\"' includes no header that is here: write #include <stdio.h> \
+            or nothing, and define the rest in the text",
     ),
     (
         "#ifdef N\n",
-        "a.c:1:1: lex Directive: '#ifdef N' chooses parts of a text, which is left out: write the part that is wanted",
+        "a.c:1:1: lex Directive: '#ifdef N' chooses parts of a text, which is left out: write the part that is \
+            wanted",
     ),
     (
         "#pragma once\n",
@@ -89,19 +105,23 @@ pub const ROWS: &[Row] = &[
     ),
     (
         "struct point { int x; };\n",
-        "a.c:1:1: parse Syntax: 'struct' is left out: write a variable for each member, and an array for each member of many",
+        "a.c:1:1: parse Syntax: 'struct' is left out: write a variable for each member, and an array for each \
+            member of many",
     ),
     (
         "int main(void) { union u; return 0; }\n",
-        "a.c:1:18: parse Syntax: 'union' is left out: write a variable for each member, and an array for each member of many",
+        "a.c:1:18: parse Syntax: 'union' is left out: write a variable for each member, and an array for each \
+            member of many",
     ),
     (
         "enum color { RED };\n",
-        "a.c:1:1: parse Syntax: 'enum' names types or constants, which is left out: write the type itself, and numbers or global variables",
+        "a.c:1:1: parse Syntax: 'enum' names types or constants, which is left out: write the type itself, and \
+            numbers or global variables",
     ),
     (
         "typedef int number;\n",
-        "a.c:1:1: parse Syntax: 'typedef' names types or constants, which is left out: write the type itself, and numbers or global variables",
+        "a.c:1:1: parse Syntax: 'typedef' names types or constants, which is left out: write the type itself, \
+            and numbers or global variables",
     ),
     (
         "static int n;\n",
@@ -145,7 +165,8 @@ pub const ROWS: &[Row] = &[
     ),
     (
         "int main(void) { int x = 1; return f(&x); }\n",
-        "a.c:1:38: parse Syntax: '&' does not stand here: addresses are left out, so return a value or set a global variable",
+        "a.c:1:38: parse Syntax: '&' does not stand here: addresses are left out, so return a value or set a \
+            global variable",
     ),
     (
         "long long n;\n",
@@ -153,15 +174,18 @@ pub const ROWS: &[Row] = &[
     ),
     (
         "int main(void) { done: return 0; }\n",
-        "a.c:1:22: parse Syntax: ':' does not stand here: labels for goto are left out, and case stands in the braces of a switch alone",
+        "a.c:1:22: parse Syntax: ':' does not stand here: labels for goto are left out, and case stands in the \
+            braces of a switch alone",
     ),
     (
         "int main(void) { int a[3] = {1, 2, 3}; return a[0]; }\n",
-        "a.c:1:27: parse Syntax: '=' does not stand here: set what is no global or local variable behind its declaration",
+        "a.c:1:27: parse Syntax: '=' does not stand here: set what is no global or local variable behind its \
+            declaration",
     ),
     (
         "int main(void) }\n",
-        "a.c:1:16: parse Syntax: '}' does not stand here: look for a ; that is missing before it, also behind a label",
+        "a.c:1:16: parse Syntax: '}' closes nothing that is open: look for one too many, or one that is missing \
+            before it",
     ),
     (
         "int main(void) { else return 0; }\n",
@@ -169,23 +193,28 @@ pub const ROWS: &[Row] = &[
     ),
     (
         "int main(void) {\n    int a = 1\n    return a;\n}\n",
-        "a.c:3:5: parse Syntax: 'return' does not stand here: look for a ; or a bracket that is missing before it, or behind it at the end",
+        "a.c:3:5: parse Syntax: 'return' does not stand here: wanted ; behind the expression or the statement \
+            before it",
     ),
     (
         "int f(int n) int n; { return n; }\n",
-        "a.c:1:14: parse Syntax: 'int' does not stand here: look for a ; or a bracket that is missing before it, or behind it at the end",
+        "a.c:1:14: parse Syntax: 'int' does not stand here: look for a ; or a bracket that is missing before \
+            it, or behind it at the end",
     ),
     (
         "int main(void) { return 0;\n",
-        "a.c:1:26: parse Syntax: ';' does not stand here: look for a ; or a bracket that is missing before it, or behind it at the end",
+        "a.c:1:26: parse Syntax: ';' ends the text too early: wanted } behind it",
     ),
     (
-        "int main(void) { return (((((((((((((((((((((((((((((((((((((((((((((((((((((((((((((((1))))))))))))))))))))))))))))))))))))))))))))))))))))))))))))))); }\n",
+        "int main(void) { return \
+            (((((((((((((((((((((((((((((((((((((((((((((((((((((((((((((((1))))))))))))))))))))))))))\
+            ))))))))))))))))))))))))))))))))))))); }\n",
         "a.c:1:87: parse TooDeep: '(' opens a construct at depth 65, and 64 is the most: use variables and functions",
     ),
     (
         "#include <stdio.h>\nint main(void) { printf(1); return 0; }\n",
-        "a.c:2:18: type Unknown: 'printf' is not here: of the library there are getchar, putchar and EOF, so define the rest in the text",
+        "a.c:2:18: type Unknown: 'printf' is not here: of the library there are getchar, putchar and EOF, so \
+            define the rest in the text",
     ),
     (
         "int main(void) { putchar('a'); return 0; }\n",
@@ -193,11 +222,13 @@ pub const ROWS: &[Row] = &[
     ),
     (
         "int main(void) { return square(3); }\n",
-        "a.c:1:25: type Unknown: 'square' is called, and the text defines no function of this name: a prototype alone is not enough",
+        "a.c:1:25: type Unknown: 'square' is called, and the text has no function of this name: define it \
+            before this place",
     ),
     (
         "int square(int n);\nint main(void) { return square(3); }\n",
-        "a.c:2:25: type Unknown: 'square' is called, and the text defines no function of this name: a prototype alone is not enough",
+        "a.c:2:25: type Unknown: 'square' is declared, and the text defines it nowhere: write its body, or call \
+            nothing of this name",
     ),
     (
         "int main(void) { total = 1; return 0; }\n",
@@ -217,7 +248,8 @@ pub const ROWS: &[Row] = &[
     ),
     (
         "void f(void) { return 1; }\n",
-        "a.c:1:16: type Mismatch: 'return' gives a value in a function of type void, or none in a function of another type",
+        "a.c:1:16: type Mismatch: 'return' gives a value in a function of type void, or none in a function of \
+            another type",
     ),
     (
         "int main(void) { break; return 0; }\n",
@@ -225,11 +257,13 @@ pub const ROWS: &[Row] = &[
     ),
     (
         "int a[3];\nint main(void) { return a; }\n",
-        "a.c:2:25: type Mismatch: 'a' does not fit here: look for an array or a void call as a value, a value that is set, or no constant",
+        "a.c:2:25: type Mismatch: 'a' does not fit here: look for an array or a void call as a value, a value \
+            that is set, or no constant",
     ),
     (
         "int main(void) { 1 = 2; return 0; }\n",
-        "a.c:1:18: type Mismatch: '1' does not fit here: look for an array or a void call as a value, a value that is set, or no constant",
+        "a.c:1:18: type Mismatch: '1' does not fit here: look for an array or a void call as a value, a value \
+            that is set, or no constant",
     ),
     (
         "int f(int a) { return a; }\nint main(void) { return f(1, 2); }\n",
@@ -237,22 +271,93 @@ pub const ROWS: &[Row] = &[
     ),
     (
         "int f(int a, int b, int c, int d, int e, int g, int h, int i, int j) { return a; }\n",
-        "a.c:1:67: type TooManyParams: 'j' is the ninth parameter, and eight are the most: use an array or global variables",
+        "a.c:1:67: type TooManyParams: 'j' is the ninth parameter, and eight are the most: use an array or \
+            global variables",
     ),
     (
         "char a[1048577];\n",
         "a.c:1:6: type TooLarge: 'a' is too large: an array, and all globals together, have 1,048,576 bytes at most",
     ),
     (
-        "int main(void) { int v0; int v1; int v2; int v3; int v4; int v5; int v6; int v7; int v8; int v9; int v10; int v11; int v12; int v13; int v14; int v15; int v16; int v17; int v18; int v19; int v20; int v21; int v22; int v23; int v24; int v25; int v26; int v27; int v28; int v29; int v30; int v31; int v32; int v33; int v34; int v35; int v36; int v37; int v38; int v39; int v40; int v41; int v42; int v43; int v44; int v45; int v46; int v47; int v48; int v49; int v50; int v51; int v52; int v53; int v54; int v55; int v56; int v57; int v58; int v59; int v60; int v61; int v62; int v63; int last; return 0; }\n",
-        "a.c:1:588: type TooManyScalars: 'last' is the 65th variable of its function without brackets, and 64 are the most: use an array",
+        "int main(void) { int v0; int v1; int v2; int v3; int v4; int v5; int v6; int v7; int v8; int v9; int \
+            v10; int v11; int v12; int v13; int v14; int v15; int v16; int v17; int v18; int v19; int v20; int \
+            v21; int v22; int v23; int v24; int v25; int v26; int v27; int v28; int v29; int v30; int v31; int \
+            v32; int v33; int v34; int v35; int v36; int v37; int v38; int v39; int v40; int v41; int v42; int \
+            v43; int v44; int v45; int v46; int v47; int v48; int v49; int v50; int v51; int v52; int v53; int \
+            v54; int v55; int v56; int v57; int v58; int v59; int v60; int v61; int v62; int v63; int last; \
+            return 0; }\n",
+        "a.c:1:588: type TooManyScalars: 'last' is the 65th variable of its function without brackets, and 64 \
+            are the most: use an array",
     ),
     (
-        "int main(void) { return 1 + (1 + (1 + (1 + (1 + (1 + (1 + (1 + (1 + (1 + (1 + (1 + (1 + (1 + (1 + (1 + (1 + (1))))))))))))))))); }\n",
-        "a.c:1:25: type Need: '1' begins an expression that needs more than 16 values at once: keep parts of it in variables",
+        "int main(void) { return 1 + (1 + (1 + (1 + (1 + (1 + (1 + (1 + (1 + (1 + (1 + (1 + (1 + (1 + (1 + (1 + \
+            (1 + (1))))))))))))))))); }\n",
+        "a.c:1:25: type Need: '1' begins an expression that needs more than 16 values at once: keep parts of it \
+            in variables",
     ),
     (
         "int f(void) { return 0; }\n",
         "a.c: type NoMain: no function int main(void) with a body is defined",
+    ),
+    (
+        "int main(void) { return square(3); }\nint square(int n) { return n * n; }\n",
+        "a.c:1:25: type Unknown: 'square' is declared behind this place alone: write its prototype or its \
+            definition before it",
+    ),
+    (
+        "int main(void) { int count = 1; return cuont; }\n",
+        "a.c:1:40: type Unknown: 'cuont' is not declared before this place: the nearest name that is declared \
+            is 'count'",
+    ),
+    (
+        "int height;\nint length, width;\nint main(void) { return lenhgt; }\n",
+        "a.c:3:25: type Unknown: 'lenhgt' is not declared before this place: the nearest name that is declared \
+            is 'length'",
+    ),
+    (
+        "#include <stdio.h>\nint main(void) { putcahr('a'); return 0; }\n",
+        "a.c:2:18: type Unknown: 'putcahr' is called, and the text has no function of this name: the nearest \
+            name that is declared is 'putchar'",
+    ),
+    (
+        "int main(void) { int a; a = 1 b = 2; return a; }\n",
+        "a.c:1:31: parse Syntax: 'b' does not stand here: wanted ; behind the expression or the statement before it",
+    ),
+    (
+        "int main(void) { int x = 1; return x }\n",
+        "a.c:1:38: parse Syntax: '}' does not stand here: wanted ; behind the expression or the statement before it",
+    ),
+    (
+        "int main(void) { if (1) return 1 else return 0; }\n",
+        "a.c:1:34: parse Syntax: 'else' does not stand here: wanted ; behind the expression or the statement \
+            before it",
+    ),
+    (
+        "int main(void) { if (1 { return 1; } return 0; }\n",
+        "a.c:1:24: parse Syntax: '{' does not stand here: wanted ) behind the expression before it",
+    ),
+    (
+        "int a[3;\n",
+        "a.c:1:8: parse Syntax: ';' does not stand here: wanted ] behind the expression before it",
+    ),
+    (
+        "int main(void) { return 0; } }\n",
+        "a.c:1:30: parse Syntax: '}' closes nothing that is open: look for one too many, or one that is missing \
+            before it",
+    ),
+    (
+        "int main(void) { bool done = 1; return done; }\n",
+        "a.c:1:23: parse Syntax: 'done' stands behind a name that is no type: write int, char, short or long, \
+            also with unsigned",
+    ),
+    (
+        "main() { return 0; }\n",
+        "a.c:1:1: parse Syntax: 'main' has no type before it: write int, char, short or long, or void for a \
+            function without a value",
+    ),
+    (
+        "int f(int a, b) { return a; }\n",
+        "a.c:1:14: parse Syntax: 'b' has no type before it: write int, char, short or long, or void for a \
+            function without a value",
     ),
 ];

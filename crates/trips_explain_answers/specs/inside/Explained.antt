@@ -1,5 +1,6 @@
--- Beside what is believed of Explained.antt: what the explanation of a text of C is answered.
-use Rattle.std.specs.Prelude.{◌≡◌, ◌≢◌, ◌⊎◌, ℕ, List}
+-- Beside what is believed of Explained.antt: what the explanation of a file is answered.
+use Rattle.std.specs.Prelude.{◌≡◌, ◌≢◌, ◌⊎◌, ◌++◌, ℕ, List}
+use Rattle.trips_isa.specs.declared.block.Image.{Image}
 use Rattle.c_tree.specs.declared.typed.TypedProgram.{TypedProgram}
 use Rattle.c_tree.specs.Limits.{most_tokens}
 use Rattle.c_lex.specs.Lexes.{Tokens, Lexed}
@@ -8,24 +9,38 @@ use Rattle.c_front.specs.declared.refusal.Refusal.TheVariants.{Memory}
 use Rattle.trips_requests.specs.declared.status.Status.{Status}
 use Rattle.trips_requests.specs.declared.status.Status.TheVariants as status
 use Rattle.trips_requests.specs.Texts.{IsFixed}
+use Rattle.trips_explain_answers.specs.declared.shape.Shape.{Shape}
 use Rattle.trips_explain_answers.specs.Told.{refusal_told}
-use Rattle.trips_explain_answers.specs.Explained.{IsRefusalTold, IsAcceptedTold, accepted_told}
+use Rattle.trips_explain_answers.specs.Files.{IsBadTold, IsGoodTold}
+use Rattle.trips_explain_answers.specs.Explained.{IsSeen, IsBehind, accepted_told, IsRefusalOf, IsAcceptedOf}
+use Rattle.trips_explain_answers.specs.Explained.{shape_named}
 
 -- a refusal that is no want of memory, and what is told of it
 abbrev pub IsTold : List ℕ → List ℕ → Refusal → Status → List ℕ → Type 0
-IsTold file text r s report = (r ≢ Memory) × IsFixed status.Refused (refusal_told file text r) s report
-
--- the text is refused, and this is told of it
-abbrev pub IsRefusedSo : List ℕ → List ℕ → Status → List ℕ → Type 0
-IsRefusedSo file text s report =
-    (said : List ℕ) × IsRefusalTold file text said × IsFixed status.Refused said s report
+IsTold file text r s report = (r ≢ Memory) × (tokens : Tokens) × IsSeen r text tokens
+    × (more : List ℕ) × IsBehind file text tokens r more
+    × IsFixed status.Refused (refusal_told file text tokens r ++ more) s report
 
 -- the text has these tokens, and this is told of it and of its program
 abbrev pub IsCounted : List ℕ → List ℕ → TypedProgram → Status → List ℕ → Type 0
 IsCounted file text program s report = (tokens : Tokens) × Lexed most_tokens text tokens
     × (report ≡ accepted_told file text program tokens) × (s ≡ status.Ended)
 
--- the text is refused or accepted, and this is told of it
+-- the image has a block that is not good, or none, and this is told of it
+abbrev pub IsJudged : List ℕ → Image → Status → List ℕ → Type 0
+IsJudged file image s report = (IsBadTold file image report × (s ≡ status.Refused))
+    ⊎ (IsGoodTold file image report × (s ≡ status.Ended))
+
+-- a file of this shape is refused, and this is told of it
+abbrev pub IsRefusedSo : Shape → List ℕ → List ℕ → Status → List ℕ → Type 0
+IsRefusedSo how file bytes s report =
+    (said : List ℕ) × IsRefusalOf how file bytes said × IsFixed status.Refused said s report
+
+-- it is refused or accepted, and this is told of it
+abbrev pub IsExplainedAs : Shape → List ℕ → List ℕ → Status → List ℕ → Type 0
+IsExplainedAs how file bytes s report =
+    IsRefusedSo how file bytes s report ⊎ (IsAcceptedOf how file bytes report × (s ≡ status.Ended))
+
+-- the same by the name of the file
 abbrev pub IsExplained : List ℕ → List ℕ → Status → List ℕ → Type 0
-IsExplained file text s report =
-    IsRefusedSo file text s report ⊎ (IsAcceptedTold file text report × (s ≡ status.Ended))
+IsExplained file bytes s report = IsExplainedAs (shape_named file) file bytes s report

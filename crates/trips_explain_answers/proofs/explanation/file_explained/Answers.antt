@@ -1,0 +1,9 @@
+use Rattle.std.proofs.Common.{IfOk, subst, sym, ◌∙◌}
+use Rattle.trips_explain_answers.specs.declared.shape.Shape.{Shape}
+use Rattle.trips_explain_answers.specs.inside.Explained.{IsExplainedAs}
+use Rattle.trips_explain_answers.proofs.explanation.file_explained.Goals as goal
+
+pub returns-in-Target : goal.returns-in-Target
+returns-in-Target c = subst (λ (h : Shape). IfOk c.target_explained.result
+    (λ answer. IsExplainedAs h c.args.file.now c.args.bytes.now answer.status answer.report.items))
+    (sym c.in-Target.is ∙ c.shape_named.ensures) c.target_explained.ensures
