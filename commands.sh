@@ -18,8 +18,8 @@ read_table() {
     read -r kind name rest <<<"$line"
     case $kind in
       command)
-        commands+=("$name") takes[$name]=${rest%% *} options[$name]=
-        case $rest in *" "*) options[$name]=${rest#* } ;; esac
+        commands+=("$name") takes[$name]=${rest%% --*} options[$name]=
+        case $rest in *" --"*) options[$name]=--${rest#* --} ;; esac
         for option in ${options[$name]}; do belongs[$name $option]=y; done
         ;;
       option) all_options+=("$name") takes[$name]=$rest ;;
@@ -85,7 +85,7 @@ help_all() {
   local name
   echo "trips compiles and runs C on the block-atomic TRIPS processor."
   echo
-  for name in "${commands[@]}"; do printf '  ./trips %-8s%-6s%s\n' "$name" "${takes[$name]}" "${does[$name]}"; done
+  for name in "${commands[@]}"; do printf '  ./trips %-8s%-12s%s\n' "$name" "${takes[$name]}" "${does[$name]}"; done
   echo
   for name in "${all_options[@]}"; do printf '  %-12s%s\n' "$name ${takes[$name]}" "${does[$name]}"; done
   echo
@@ -94,12 +94,19 @@ help_all() {
   echo "docs/trips.1 (man $here/docs/trips.1) has reports and statuses, examples/README.md programs to run first."
 }
 
+# The name under which the range of a command's number stands: `of`.
+range_of() {
+  of=$1/$2
+  [ -n "${most[$of]+y}" ] || of=$2
+}
+
 # A command and its options, with the ranges of their numbers.
 help_command() {
-  local name range
-  printf '  ./trips %-8s%-6s%s\n' "$1" "${takes[$1]}" "${does[$1]}"
+  local name of range
+  printf '  ./trips %-8s%-12s%s\n' "$1" "${takes[$1]}" "${does[$1]}"
   for name in ${options[$1]}; do
-    range=${most[$name]:+ (from ${least[$name]} to $(grouped "${most[$name]}"))}
+    range_of "$1" "$name"
+    range=${most[$of]:+ (from ${least[$of]} to $(grouped "${most[$of]}"))}
     printf '    %-12s%s%s\n' "$name ${takes[$name]}" "${does[$name]}" "$range"
   done
 }
@@ -119,7 +126,8 @@ help() {
 
 # --- what is wrong with words ---
 
-# What the words say: values under the names of options, and the file under `file`; the command; and what is wrong.
+# What the words say: values under the names of options, and words that stand alone under their places, counted from 1;
+# the command; and what is wrong.
 declare -A said=()
 command='' fault='' near='' apart=0
 
@@ -147,19 +155,32 @@ is_within() {
 
 # Judges the number that is said of a name.
 judge_number() {
-  is_within "$1" "$2" ||
-    wrong "$2 takes a number from ${least[$2]} to $(grouped "${most[$2]}"), and not $(shown "$1")"
+  local of
+  range_of "$command" "$2"
+  is_within "$1" "$of" ||
+    wrong "$2 takes a number from ${least[$of]} to $(grouped "${most[$of]}"), and not $(shown "$1")"
 }
 
 # Notes a value under a name, once.
 note() {
   if [ -z "${said[$1]+y}" ]; then
     said[$1]=$2
-  elif [ "$1" = file ]; then
-    wrong "$command takes one ${takes[$command]}, and not both $(shown "${said[file]}") and $(shown "$2")"
   else
     wrong "$1 is said twice"
   fi
+}
+
+# Notes a word that stands alone, for the first place of the command that is left.
+note_alone() {
+  local place number=0
+  for place in ${takes[$command]}; do
+    number=$((number + 1))
+    [ -n "${said[$number]+y}" ] || { said[$number]=$1 && return; }
+  done
+  case ${takes[$command]} in
+    *" "*) wrong "$command takes $place as its last word, and not $(shown "$1") besides" ;;
+    *) wrong "$command takes one $place, and not both $(shown "${said[1]}") and $(shown "$1")" ;;
+  esac
 }
 
 # Reads a word that begins with a dash and is not a dash alone: an option of the command.
@@ -185,32 +206,36 @@ read_words() {
   local word waits='' behind=''
   for word in "$@"; do
     case ${behind:-${waits:+waits}}/$word in
-      behind/*) note file "$word" ;;
+      behind/*) note_alone "$word" ;;
       waits/-?*) wrong "$waits wants a value before $(shown "$word")" ;;
       waits/*) note "$waits" "$word" && waits= ;;
       /--) behind=behind ;;
       /-?*) read_option "$word" ;;
-      /*) note file "$word" ;;
+      /*) note_alone "$word" ;;
     esac || return
   done
   [ -z "$waits" ] || wrong "$waits wants a value"
 }
 
-# Whether what was said of the command makes a request: it has its file, and its numbers are within their ranges.
+# Whether what was said of the command makes a request: it has its files, and its numbers are within their ranges.
 judge_said() {
-  local name
-  [ -n "${said[file]+y}" ] || wrong "$command wants a ${takes[$command]}" || return
-  [ "${takes[$command]}" != N ] || judge_number "${said[file]}" "$command" || return
+  local name number=0
+  for name in ${takes[$command]}; do
+    number=$((number + 1))
+    [ -n "${said[$number]+y}" ] || wrong "$command wants a $name" || return
+  done
+  [ "${takes[$command]}" != N ] || judge_number "${said[1]}" "$command" || return
   for name in "${!said[@]}"; do
     [ "${takes[$name]-}" != N ] || judge_number "${said[$name]}" "$name" || return
   done
   for name in --place --unroll; do
-    case $command${said[$name]+y}${said[file]} in
+    case $command${said[$name]+y}${said[1]} in
       runy*.img | runy*.tasl | compiley*.img | compiley*.tasl) wrong "$name is said of C alone" || return ;;
     esac
   done
-  case $command/${said[file]} in
-    explain/*.img | explain/*.tasl) wrong "explain wants a text of C, and not $(shown "${said[file]}")" ;;
+  case $command/${said[1]} in
+    record/*.img) ;;
+    record/*) wrong "record wants an image, whose name ends in .img" ;;
   esac
 }
 
@@ -250,7 +275,7 @@ is_readable() {
 # Whether the files of a request can be read. The input is not looked at where the file may be refused for its length.
 judge_files() {
   [ "$command" != bench ] || return 0
-  is_readable "${said[file]}" || return
-  [ -n "${said[--input]+y}" ] && [ "${said[file]}" != - ] && [ -f "${said[file]}" ] || return 0
-  [ "$(stat -L -c %s -- "${said[file]}")" -gt "$most_source" ] || is_readable "${said[--input]}"
+  is_readable "${said[1]}" || return
+  [ -n "${said[--input]+y}" ] && [ "${said[1]}" != - ] && [ -f "${said[1]}" ] || return 0
+  [ "$(stat -L -c %s -- "${said[1]}")" -gt "$most_source" ] || is_readable "${said[--input]}"
 }

@@ -94,7 +94,7 @@ entry_bounded blocks exit c l =
     (step_bounded c (step_of blocks c.state).0 (step_of blocks c.state).1 l) l
 
 -- and what comes behind a record
-next_bounded : (blocks : List Block) (exit : ℕ) (c : Progress) (ls : List Listed)
+pub next_bounded : (blocks : List Block) (exit : ℕ) (c : Progress) (ls : List Listed)
     → c.at + length ls * 9 ≤ 1169 + c.count * 1157 → IsBounded (records_next blocks exit c ls)
 next_bounded blocks exit c [] l = entry_bounded blocks exit c (omega (arith, l))
 next_bounded blocks exit c (x ∷ ls) l = omega (arith, l)

@@ -14,7 +14,7 @@ use Rattle.trips_isa.specs.declared.block.Spot.TheVariants as spot
 use Rattle.trips_isa.specs.declared.run.Stepped.{Stepped}
 use Rattle.trips_isa.specs.declared.run.Stepped.TheVariants.{Went, Ended, StackFull, Trap}
 use Rattle.trips_isa.specs.Machine.{State, runs}
-use Rattle.block_cases.specs.inside.Plain.{IsTrap}
+use Rattle.trace_verify.specs.Traces.{Traps}
 use Rattle.trace_verify.specs.declared.fault.VerifyFault.{VerifyFault}
 use Rattle.trace_verify.specs.declared.fault.VerifyFault.TheVariants.{Magic, Version, Trailing}
 use Rattle.trace_verify.specs.declared.fault.VerifyFault.TheVariants.{Past, WrongToken, WrongBlock}
@@ -136,7 +136,7 @@ module _ (blocks : List Block) (budget : ℕ) (s : State) where
           record {
             steps = record {
               on = λ i l. absurd (omega (arith, l));
-              last = λ t. subst (λ (p : State × Stepped). IsTrap p.1) (none blocks s) t;
+              last = λ t. subst (λ (p : State × Stepped). Traps p.1) (none blocks s) t;
             };
             room = omega arith;
             read = e;

@@ -1,6 +1,6 @@
 -- What is held describes all bytes so far; where an entry ends it does so again.
-use Rattle.std.proofs.Common.{◌≡◌, ℕ, suc, ◌+◌, ◌<◌, ◌≤◌, Bool, true, false, cond, eqb, List, []}
-use Rattle.std.proofs.Common.{◌∷◌, ◌++◌, length, take, Some, None, refl, sym, ap, subst, ◌∙◌, arith}
+use Rattle.std.proofs.Common.{◌≡◌, ℕ, suc, ◌+◌, ◌<◌, ◌≤◌, Bool, true, false, cond, eqb, nat_lt, List}
+use Rattle.std.proofs.Common.{[], ◌∷◌, ◌++◌, length, take, Some, None, refl, sym, ap, subst, ◌∙◌, arith}
 use Rattle.std.proofs.Common.{append_assoc, ◌%◌, inl, inr}
 use Rattle.std.proofs.lemmas.List.{append-nil, length-append}
 use Rattle.std.proofs.lemmas.Bool.{cases_lt, cond_both, eqb-true, eqb-false}
@@ -9,12 +9,11 @@ use Rattle.trips_isa.specs.declared.block.Block.{Block}
 use Rattle.trips_isa.specs.declared.run.Stepped.{Stepped}
 use Rattle.trips_isa.specs.declared.run.Stepped.TheVariants.{Went, Ended, StackFull, Trap}
 use Rattle.trips_isa.specs.Machine.{State, step_of, runs}
-use Rattle.block_cases.specs.inside.Plain.{IsTrap}
 use Rattle.trace_verify.specs.declared.fault.VerifyFault.{VerifyFault}
 use Rattle.trace_verify.specs.declared.fault.VerifyFault.TheVariants.{WrongExit, Faulting}
 use Rattle.trace_verify.specs.Spelling.{magic, front, end_bytes, Listed, listed_of, exit_taken}
 use Rattle.trace_verify.specs.Spelling.{entry_with, entry_bytes}
-use Rattle.trace_verify.specs.Traces.{entries, HasEntries}
+use Rattle.trace_verify.specs.Traces.{entries, HasEntries, Traps}
 use Rattle.trace_verify.specs.FirstFault.{record_size, IsShort, nothing, Goes}
 use Rattle.trace_verify.specs.FirstFault.{EntryFault}
 use Rattle.trace_verify.specs.FirstFault.{wrong_exit, faulting}
@@ -27,13 +26,14 @@ use Rattle.trace_verify.proofs.Forward.{come_by}
 
 -- the size of a record is not 0
 pub size_some : (x n : ℕ) → record_size x ≡ Some n → 0 < n
-size_some x n e = by (eqb x 0) (eqb (x % 4) 1) (eqb (x % 4) 2) e
+size_some x n e = by (nat_lt x 16) (eqb x 0) (eqb (x % 4) 1) (eqb (x % 4) 2) e
   where
-    by : (a b c : Bool) → cond a (Some 1) (cond b (Some 1) (cond c (Some 9) None)) ≡ Some n → 0 < n
-    by true b c e = let one : 1 ≡ n = cc in omega (arith, one)
-    by false true c e = let one : 1 ≡ n = cc in omega (arith, one)
-    by false false true e = let nine : 9 ≡ n = cc in omega (arith, nine)
-    by false false false e = absurd (cc)
+    by : (l a b c : Bool) → cond l (cond a (Some 1) (cond b (Some 1) (cond c (Some 9) None))) None ≡ Some n → 0 < n
+    by true true b c e = let one : 1 ≡ n = cc in omega (arith, one)
+    by true false true c e = let one : 1 ≡ n = cc in omega (arith, one)
+    by true false false true e = let nine : 9 ≡ n = cc in omega (arith, nine)
+    by true false false false e = absurd (cc)
+    by false a b c e = absurd (cc)
 
 module _ (blocks : List Block) (budget : ℕ) (s : State) where
   -- the entries of k steps have come, and then the rest
@@ -92,10 +92,10 @@ module _ (blocks : List Block) (budget : ℕ) (s : State) where
 
   -- a step more has an entry
   one_entry : (k : ℕ) → HasEntries blocks s k → (runs blocks s k).1 ≡ Went
-      → (IsTrap (step_of blocks (runs blocks s k).0).1 → ⊥) → HasEntries blocks s (suc k)
+      → (Traps (step_of blocks (runs blocks s k).0).1 → ⊥) → HasEntries blocks s (suc k)
   one_entry k h went safe = record {
     on = at_step;
-    last = λ t. safe (subst (λ (p : State × Stepped). IsTrap p.1) (one_step blocks s k went) t);
+    last = λ t. safe (subst (λ (p : State × Stepped). Traps p.1) (one_step blocks s k went) t);
   }
     where
       at_step : (i : ℕ) → i < suc k → (runs blocks s i).1 ≡ Went
@@ -114,7 +114,7 @@ module _ (blocks : List Block) (budget : ℕ) (s : State) where
       ∙ ap (λ (xs : List ℕ). front ++ xs) (sym (append-nil (entries blocks s (suc k))))
 
   went_on : (k : ℕ) (bytes : List ℕ) → ReadTo k bytes (entry_bytes blocks (runs blocks s k).0)
-      → Goes (runs blocks s k).1 budget k → (IsTrap (step_of blocks (runs blocks s k).0).1 → ⊥)
+      → Goes (runs blocks s k).1 budget k → (Traps (step_of blocks (runs blocks s k).0).1 → ⊥)
       → Described bytes (before Number (record {
         state = (step_of blocks (runs blocks s k).0).0;
         answer = (step_of blocks (runs blocks s k).0).1;
@@ -142,24 +142,24 @@ module _ (blocks : List Block) (budget : ℕ) (s : State) where
         answer = o;
         count = suc k;
         at = length bytes;
-      }))) is (went_on k bytes r goes (λ t. subst IsTrap is t))
+      }))) is (went_on k bytes r goes (λ t. subst Traps is t))
   step_come k bytes r goes Ended is =
       subst (λ (o : Stepped). Described bytes (before Number (record {
         state = (step_of blocks (runs blocks s k).0).0;
         answer = o;
         count = suc k;
         at = length bytes;
-      }))) is (went_on k bytes r goes (λ t. subst IsTrap is t))
+      }))) is (went_on k bytes r goes (λ t. subst Traps is t))
   step_come k bytes r goes StackFull is =
       subst (λ (o : Stepped). Described bytes (before Number (record {
         state = (step_of blocks (runs blocks s k).0).0;
         answer = o;
         count = suc k;
         at = length bytes;
-      }))) is (went_on k bytes r goes (λ t. subst IsTrap is t))
+      }))) is (went_on k bytes r goes (λ t. subst Traps is t))
   step_come k bytes r goes (Trap m) is =
       stands_by k bytes (entry_bytes blocks (runs blocks s k).0) (Faulting k) r
-      (λ more. faulting more refl goes (subst IsTrap (sym is) tt))
+      (λ more. faulting more refl goes (subst Traps (sym is) tt))
 
   entry_come_is : (k : ℕ) (bytes : List ℕ) (e : ℕ)
       → ReadTo k bytes (entry_with (runs blocks s k).0.next e (listed_of blocks (runs blocks s k).0))

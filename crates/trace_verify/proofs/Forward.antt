@@ -11,12 +11,11 @@ use Rattle.trips_isa.specs.declared.block.Spot.TheVariants as spot
 use Rattle.trips_isa.specs.declared.run.Stepped.{Stepped}
 use Rattle.trips_isa.specs.declared.run.Stepped.TheVariants.{Went, Ended, StackFull, Trap}
 use Rattle.trips_isa.specs.Machine.{State, step_of, goes_on, runs}
-use Rattle.block_cases.specs.inside.Plain.{IsTrap}
 use Rattle.trace_verify.specs.declared.fault.VerifyFault.{VerifyFault}
 use Rattle.trace_verify.specs.declared.fault.VerifyFault.TheVariants.{WrongToken, WrongExit, TooLong, WrongBlock}
 use Rattle.trace_verify.specs.Spelling.{front, end_bytes, Listed, listed_of, listed_bytes, exit_taken, entry_with}
 use Rattle.trace_verify.specs.Spelling.{entry_bytes}
-use Rattle.trace_verify.specs.Traces.{entries, HasEntries}
+use Rattle.trace_verify.specs.Traces.{entries, HasEntries, Traps}
 use Rattle.trace_verify.specs.FirstFault.{record_size}
 use Rattle.trace_verify.specs.Reading.{Place, Front, Number, Exit, Records, Whole, Stopped, Progress, Reading}
 use Rattle.trace_verify.specs.Reading.{before, within, begun, unread, block_come, number_come, stepped_to, entry_come}
@@ -50,7 +49,7 @@ come_by blocks s k at =
     record { state = (runs blocks s k).0; answer = (runs blocks s k).1; count = k; at = at }
 
 -- a step that does not trap
-stepped_is : (c : Progress) (t : State) (o : Stepped) → (IsTrap o → ⊥)
+stepped_is : (c : Progress) (t : State) (o : Stepped) → (Traps o → ⊥)
     → stepped_to c t o ≡ before Number (record { state = t; answer = o; count = suc c.count; at = c.at })
 stepped_is c t Went h = refl
 stepped_is c t Ended h = refl
@@ -144,7 +143,7 @@ module _ (blocks : List Block) (budget : ℕ) where
       ∙ filled e l ls x (suc (length (y ∷ ys))) size [] (y ∷ ys) (ahead (x ∷ []) c) (omega arith) (omega arith)
 
   -- the one that is wanted
-  fed_good : (e : ℕ) (l : Listed) (ls : List Listed) (c : Progress) (bs : List ℕ) → IsRecord bs
+  pub fed_good : (e : ℕ) (l : Listed) (ls : List Listed) (c : Progress) (bs : List ℕ) → IsRecord bs
       → bytes_eq bs l.bytes ≡ true → feeds blocks budget (before (Records e l ls) c) bs
       ≡ records_next blocks e (ahead bs c) ls
   fed_good e l ls c [] h same = elim h [ ]
@@ -237,7 +236,7 @@ module _ (blocks : List Block) (budget : ℕ) where
     on = λ i l. h.on i (omega (arith, l));
     last = λ t.
         let went : (runs blocks s k).1 ≡ Went = h.on k (omega arith) in
-        subst IsTrap went t;
+        subst Traps went t;
   }
 
   module _ (s : State) (inside : s.next < length blocks) (few : length blocks < 2 ^ 32) where
@@ -272,7 +271,7 @@ module _ (blocks : List Block) (budget : ℕ) where
         ∙ ap (λ (r : Reading). feeds blocks budget r entry)
         (entries_fed k at (fewer s k h) (omega (arith, room)))
         ∙ stepped c (begins k (forth (entries blocks s k) at) went (omega (arith, room)))
-        ∙ stepped_is d step.0 step.1 (λ t. h.last (subst (λ (p : State × Stepped). IsTrap p.1) (sym is) t))
+        ∙ stepped_is d step.0 step.1 (λ t. h.last (subst (λ (p : State × Stepped). Traps p.1) (sym is) t))
         ∙ ap (λ (p : State × Stepped). before Number (record { state = p.0; answer = p.1; count = suc k; at = d.at }))
         (sym is)
         ∙ ap (λ (n : ℕ). before Number (come_by blocks s (suc k) n))

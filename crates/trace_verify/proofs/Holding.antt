@@ -209,13 +209,14 @@ causes_told blocks s tokens marks exit j inside told l = go (slice_get blocks s.
 
 -- a record that is not whole has few bytes
 pub size_few : (x n : ℕ) → record_size x ≡ Some n → n ≤ 9
-size_few x n e = by (eqb x 0) (eqb (x % 4) 1) (eqb (x % 4) 2) e
+size_few x n e = by (nat_lt x 16) (eqb x 0) (eqb (x % 4) 1) (eqb (x % 4) 2) e
   where
-    by : (a b c : Bool) → cond a (Some 1) (cond b (Some 1) (cond c (Some 9) None)) ≡ Some n → n ≤ 9
-    by true b c e = let one : 1 ≡ n = cc in omega (arith, one)
-    by false true c e = let one : 1 ≡ n = cc in omega (arith, one)
-    by false false true e = let nine : 9 ≡ n = cc in omega (arith, nine)
-    by false false false e = absurd (cc)
+    by : (l a b c : Bool) → cond l (cond a (Some 1) (cond b (Some 1) (cond c (Some 9) None))) None ≡ Some n → n ≤ 9
+    by true true b c e = let one : 1 ≡ n = cc in omega (arith, one)
+    by true false true c e = let one : 1 ≡ n = cc in omega (arith, one)
+    by true false false true e = let nine : 9 ≡ n = cc in omega (arith, nine)
+    by true false false false e = absurd (cc)
+    by false a b c e = absurd (cc)
 
 -- so it fits in what is kept
 pub short_few : (xs : List ℕ) → IsShort xs → length xs < 12

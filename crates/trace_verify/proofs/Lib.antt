@@ -14,3 +14,6 @@ pub mod BoundedBytes
 pub mod HeldBounds
 pub mod Answering
 pub mod Relations
+pub mod OneVerdict
+pub mod Beginnings
+pub mod WholeRecords

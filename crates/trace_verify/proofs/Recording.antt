@@ -9,9 +9,8 @@ use Rattle.trips_isa.specs.declared.causes.TrapCause.{TrapCause}
 use Rattle.trips_isa.specs.declared.run.Stepped.{Stepped}
 use Rattle.trips_isa.specs.declared.run.Stepped.TheVariants.{Went, Ended, StackFull, Trap}
 use Rattle.trips_isa.specs.Machine.{State, step_of, goes_on, runs}
-use Rattle.block_cases.specs.inside.Plain.{IsTrap}
 use Rattle.trace_verify.specs.Spelling.{entry_bytes}
-use Rattle.trace_verify.specs.Traces.{entries, HasEntries}
+use Rattle.trace_verify.specs.Traces.{entries, HasEntries, Traps}
 use Rattle.trace_verify.specs.Recorded.{kept_unless}
 use Rattle.trace_verify.specs.inside.Recording.{Recording, HasRecorded}
 use Rattle.trace_verify.proofs.Nexts.{none, one_more, one_step}
@@ -24,7 +23,7 @@ module _ (blocks : List Block) (s : State) (old : List ℕ) where
     count = 0;
     steps = record {
       on = λ i l. absurd (omega (arith, l));
-      last = λ t. subst (λ (p : State × Stepped). IsTrap p.1) (none blocks s) t;
+      last = λ t. subst (λ (p : State × Stepped). Traps p.1) (none blocks s) t;
     };
     few = omega arith;
     bytes = e ∙ sym (append-nil old);
@@ -34,7 +33,7 @@ module _ (blocks : List Block) (s : State) (old : List ℕ) where
 
   -- an entry more
   more_entries : (k : ℕ) → HasEntries blocks s k → (runs blocks s k).1 ≡ Went
-      → (IsTrap (runs blocks s (suc k)).1 → ⊥) → HasEntries blocks s (suc k)
+      → (Traps (runs blocks s (suc k)).1 → ⊥) → HasEntries blocks s (suc k)
   more_entries k h went safe = record { on = at_step; last = safe }
     where
       at_step : (i : ℕ) → i < suc k → (runs blocks s i).1 ≡ Went
@@ -76,14 +75,14 @@ module _ (blocks : List Block) (s : State) (old : List ℕ) where
         ∙ append_assoc old (entries blocks s made) (entry_bytes blocks (runs blocks s made).0)
 
     -- a step that has an entry
-    kept : (u : State) (o : Stepped) → (u, o) ≡ step_of blocks t → (IsTrap o → ⊥) → later
+    kept : (u : State) (o : Stepped) → (u, o) ≡ step_of blocks t → (Traps o → ⊥) → later
         ≡ new ++ entry_bytes blocks t
         → Recording blocks s old later u o (suc made)
     kept u o e safe b = record {
       ran = stepped u o e;
       count = suc made;
       steps = more_entries made same_steps went
-          (λ x. safe (subst (λ (p : State × Stepped). IsTrap p.1) (sym (stepped u o e)) x));
+          (λ x. safe (subst (λ (p : State × Stepped). Traps p.1) (sym (stepped u o e)) x));
       few = omega arith;
       bytes = new_bytes b;
       going = λ w. refl;
@@ -105,7 +104,7 @@ module _ (blocks : List Block) (s : State) (old : List ℕ) where
         | inl lt ↦
             let most : n ≤ suc made = ended_at (suc made) n (Trap c) traps over h in
             let same : suc made ≡ n = omega (arith, lt, most) in
-            absurd (h.last (subst (λ (m : ℕ). IsTrap (runs blocks s m).1) same (subst IsTrap (sym traps) tt)))
+            absurd (h.last (subst (λ (m : ℕ). Traps (runs blocks s m).1) same (subst Traps (sym traps) tt)))
         | inr ge ↦ ge
       ];
     }

@@ -1,8 +1,8 @@
 -- The records of a block are records, by their first byte.
-use Rattle.std.proofs.Common.{◌≡◌, ℕ, zero, suc, ◌+◌, ◌*◌, ◌%◌, Bool, true, false, cond, eqb, List, [], ◌∷◌, ◌++◌}
-use Rattle.std.proofs.Common.{length, Option, Some, None, slice_get, refl, sym, ap, ◌∙◌, arith}
+use Rattle.std.proofs.Common.{◌≡◌, ℕ, zero, suc, ◌+◌, ◌*◌, ◌%◌, ◌<◌, Bool, true, false, cond, eqb, nat_lt, List, []}
+use Rattle.std.proofs.Common.{◌∷◌, ◌++◌, length, Option, Some, None, slice_get, refl, sym, ap, ◌∙◌, arith}
 use Rattle.std.specs.Str.{bytes_eq}
-use Rattle.std.proofs.lemmas.Bool.{cond-true, cond-false, eq-eqb, ne_eqb}
+use Rattle.std.proofs.lemmas.Bool.{cond-true, cond-false, eq-eqb, ne_eqb, lt-ltb}
 use Rattle.std.proofs.lemmas.Slice.Eq.{bytes_eq-Decides}
 use Rattle.byteorder.specs.Endian.{big_bytes}
 use Rattle.trips_isa.specs.declared.form.Form.{Form}
@@ -16,6 +16,7 @@ use Rattle.trips_isa.specs.Rule.{Answer}
 use Rattle.trips_isa.specs.Tables.{deepest}
 use Rattle.trips_isa.specs.Marks.{mark_of}
 use Rattle.trips_isa.specs.Machine.{State}
+use Rattle.block_atomic.proofs.MarkBounds.{mark_low}
 use Rattle.trace_verify.specs.Spelling.{token_bytes, fired_bytes, record_bytes, Listed, listed_from, listed_in}
 use Rattle.trace_verify.specs.Spelling.{listed_of, tokens_in}
 use Rattle.trace_verify.specs.FirstFault.{record_size}
@@ -36,58 +37,67 @@ no_bytes_eq a b h = by (bytes_eq a b) refl
 pub data IsRecord : List ℕ → Type 0 where
   made : {x : ℕ} {more : List ℕ} → record_size x ≡ Some (suc (length more)) → IsRecord (x ∷ more)
 
-size_one : (m : ℕ) → record_size (4 * m + 1) ≡ Some 1
-size_one m =
+-- a first byte with a mark, by what is left of it
+size_low : (x : ℕ) (o : Option ℕ) → x < 16 → cond (eqb x 0) (Some 1) (cond (eqb (x % 4) 1) (Some 1)
+    (cond (eqb (x % 4) 2) (Some 9) None)) ≡ o → record_size x ≡ o
+size_low x o low e = cond-true (nat_lt x 16) (cond (eqb x 0) (Some 1) (cond (eqb (x % 4) 1) (Some 1)
+    (cond (eqb (x % 4) 2) (Some 9) None))) None (lt-ltb x 16 low) ∙ e
+
+size_one : (m : ℕ) → m < 4 → record_size (4 * m + 1) ≡ Some 1
+size_one m l =
     let some : eqb (4 * m + 1) 0 ≡ false = ne_eqb (4 * m + 1) 0 (λ e. omega (arith, e)) in
     let one : eqb ((4 * m + 1) % 4) 1 ≡ true = eq-eqb ((4 * m + 1) % 4) 1 (omega arith) in
-    cond-false (eqb (4 * m + 1) 0) (Some 1) (cond (eqb ((4 * m + 1) % 4) 1) (Some 1)
+    size_low (4 * m + 1) (Some 1) (omega (arith, l))
+    (cond-false (eqb (4 * m + 1) 0) (Some 1) (cond (eqb ((4 * m + 1) % 4) 1) (Some 1)
     (cond (eqb ((4 * m + 1) % 4) 2) (Some 9) None)) some
-    ∙ cond-true (eqb ((4 * m + 1) % 4) 1) (Some 1) (cond (eqb ((4 * m + 1) % 4) 2) (Some 9) None) one
+    ∙ cond-true (eqb ((4 * m + 1) % 4) 1) (Some 1) (cond (eqb ((4 * m + 1) % 4) 2) (Some 9) None) one)
 
-size_nine : (m : ℕ) → record_size (4 * m + 2) ≡ Some 9
-size_nine m =
+size_nine : (m : ℕ) → m < 4 → record_size (4 * m + 2) ≡ Some 9
+size_nine m l =
     let some : eqb (4 * m + 2) 0 ≡ false = ne_eqb (4 * m + 2) 0 (λ e. omega (arith, e)) in
     let not : eqb ((4 * m + 2) % 4) 1 ≡ false = ne_eqb ((4 * m + 2) % 4) 1 (λ e. omega (arith, e)) in
     let two : eqb ((4 * m + 2) % 4) 2 ≡ true = eq-eqb ((4 * m + 2) % 4) 2 (omega arith) in
-    cond-false (eqb (4 * m + 2) 0) (Some 1) (cond (eqb ((4 * m + 2) % 4) 1) (Some 1)
+    size_low (4 * m + 2) (Some 9) (omega (arith, l))
+    (cond-false (eqb (4 * m + 2) 0) (Some 1) (cond (eqb ((4 * m + 2) % 4) 1) (Some 1)
     (cond (eqb ((4 * m + 2) % 4) 2) (Some 9) None)) some
     ∙ cond-false (eqb ((4 * m + 2) % 4) 1) (Some 1) (cond (eqb ((4 * m + 2) % 4) 2) (Some 9) None) not
-    ∙ cond-true (eqb ((4 * m + 2) % 4) 2) (Some 9) None two
+    ∙ cond-true (eqb ((4 * m + 2) % 4) 2) (Some 9) None two)
 
-token_record : (m : ℕ) (t : Token) → IsRecord (token_bytes m t)
-token_record m Null = made (size_one m)
-token_record m (Word w) = made (size_nine m)
+token_record : (m : ℕ) (t : Token) → m < 4 → IsRecord (token_bytes m t)
+token_record m Null l = made (size_one m l)
+token_record m (Word w) l = made (size_nine m l)
 
-fired_record : (f : Form) (m : ℕ) (t : Token) → IsRecord (fired_bytes f m t)
-fired_record General m t = token_record m t
-fired_record Immediate m t = token_record m t
-fired_record Constant m t = token_record m t
-fired_record Load m t = token_record m t
-fired_record Store m t = token_record m Null
-fired_record Branch m t = token_record m Null
+fired_record : (f : Form) (m : ℕ) (t : Token) → m < 4 → IsRecord (fired_bytes f m t)
+fired_record General m t l = token_record m t l
+fired_record Immediate m t l = token_record m t l
+fired_record Constant m t l = token_record m t l
+fired_record Load m t l = token_record m t l
+fired_record Store m t l = token_record m Null l
+fired_record Branch m t l = token_record m Null l
 
 -- the record of an instruction is one
-pub is_record : (f : Form) (m : ℕ) (a : Answer) → IsRecord (record_bytes f m a)
-is_record f m None = made refl
-is_record f m (Some t) = fired_record f m t
+pub is_record : (f : Form) (m : ℕ) (a : Answer) → m < 4 → IsRecord (record_bytes f m a)
+is_record f m None l = made refl
+is_record f m (Some t) l = fired_record f m t l
 
 -- each of these has a record's bytes
 abbrev pub AreRecords : List Listed → Type 0
 AreRecords [] = Unit {0}
 AreRecords (l ∷ ls) = IsRecord l.bytes × AreRecords ls
 
-listed_records : (g : ℕ → Answer) (m : ℕ → ℕ) (j : ℕ) (is : List (Option Inst))
+listed_records : (g : ℕ → Answer) (m : ℕ → ℕ) (j : ℕ) (is : List (Option Inst)) → ((k : ℕ) → m k < 4)
     → AreRecords (listed_from g m j is)
-listed_records g m j [] = tt
-listed_records g m j (None ∷ is) = listed_records g m (suc j) is
-listed_records g m j (Some i ∷ is) =
-    (is_record (form_of i.op) (m j) (g j), listed_records g m (suc j) is)
+listed_records g m j [] low = tt
+listed_records g m j (None ∷ is) low = listed_records g m (suc j) is low
+listed_records g m j (Some i ∷ is) low =
+    (is_record (form_of i.op) (m j) (g j) (low j), listed_records g m (suc j) is low)
 
 in_block : (o : Option Block) (s : State) → AreRecords (listed_in o s)
 in_block None s = tt
 in_block (Some b) s =
     listed_records (λ j. tokens_in b s (length b.reads.items + j))
     (λ j. mark_of b (tokens_in b s) deepest (length b.reads.items + j)) 0 b.insts.items
+    (λ j. mark_low b (tokens_in b s) deepest (length b.reads.items + j))
 
 -- what is listed of a block are records
 pub listed_are : (blocks : List Block) (s : State) → AreRecords (listed_of blocks s)

@@ -11,14 +11,13 @@ use Rattle.trips_isa.specs.declared.block.Spot.TheVariants as spot
 use Rattle.trips_isa.specs.declared.run.Stepped.{Stepped}
 use Rattle.trips_isa.specs.declared.run.Stepped.TheVariants.{Went, Ended, StackFull, Trap}
 use Rattle.trips_isa.specs.Machine.{State, step_of, runs}
-use Rattle.block_cases.specs.inside.Plain.{IsTrap}
 use Rattle.trace_verify.specs.declared.fault.VerifyFault.{VerifyFault}
 use Rattle.trace_verify.specs.declared.fault.VerifyFault.TheVariants.{Magic, Version, Truncated, Trailing}
 use Rattle.trace_verify.specs.declared.fault.VerifyFault.TheVariants.{Past, WrongToken, WrongBlock}
 use Rattle.trace_verify.specs.declared.fault.VerifyFault.TheVariants.{WrongExit, Faulting, TooLong}
 use Rattle.trace_verify.specs.Spelling.{magic, front, end_bytes, Listed, listed_of, listed_bytes, exit_taken}
 use Rattle.trace_verify.specs.Spelling.{entry_with, entry_bytes}
-use Rattle.trace_verify.specs.Traces.{entries, HasEntries, IsTrace}
+use Rattle.trace_verify.specs.Traces.{entries, HasEntries, IsTrace, Traps}
 use Rattle.trace_verify.specs.FirstFault.{record_size, IsWrong, no_record, another, IsShort, nothing, Goes}
 use Rattle.trace_verify.specs.FirstFault.{EntryFault, no_number, trailing, past, wrong_block, too_long, no_exit}
 use Rattle.trace_verify.specs.FirstFault.{short_record, wrong_token, wrong_exit, faulting}
@@ -72,7 +71,7 @@ module _ (blocks : List Block) (budget : ℕ) where
       ∙ cond-false (bytes_eq xs end_bytes) (before Whole (ahead xs c)) (block_come budget xs (ahead xs c) c.answer)
       (no_bytes_eq xs end_bytes differs)
 
-  trap_is : (c : Progress) (t : State) (o : Stepped) → IsTrap o
+  trap_is : (c : Progress) (t : State) (o : Stepped) → Traps o
       → stepped_to c t o ≡ before (Stopped (Faulting c.count)) c
   trap_is c t Went h = absurd h
   trap_is c t Ended h = absurd h

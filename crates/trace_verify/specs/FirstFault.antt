@@ -1,24 +1,25 @@
 -- The first fault of bytes that are no trace, in the order of the bytes.
-use Rattle.std.specs.Prelude.{◌≡◌, ℕ, suc, ◌+◌, ◌≤◌, ◌<◌, ◌%◌, ◌==◌, cond, List, [], ◌∷◌, ◌++◌, length, take}
-use Rattle.std.specs.Prelude.{Option, Some, None}
+use Rattle.std.specs.Prelude.{◌≡◌, ℕ, suc, ◌+◌, ◌≤◌, ◌<◌, ◌%◌, ◌==◌, nat_lt, cond, List, [], ◌∷◌, ◌++◌, length}
+use Rattle.std.specs.Prelude.{take, Option, Some, None}
 use Rattle.byteorder.specs.Endian.{big_bytes}
 use Rattle.trips_isa.specs.declared.block.Block.{Block}
 use Rattle.trips_isa.specs.declared.block.Spot.TheVariants as spot
 use Rattle.trips_isa.specs.declared.run.Stepped.{Stepped}
 use Rattle.trips_isa.specs.declared.run.Stepped.TheVariants.{Went}
 use Rattle.trips_isa.specs.Machine.{State, runs, step_of}
-use Rattle.block_cases.specs.inside.Plain.{IsTrap}
 use Rattle.trace_verify.specs.declared.fault.VerifyFault.{VerifyFault}
 use Rattle.trace_verify.specs.declared.fault.VerifyFault.TheVariants.{Magic, Version, Truncated, Trailing}
 use Rattle.trace_verify.specs.declared.fault.VerifyFault.TheVariants.{Past, WrongToken, WrongBlock}
 use Rattle.trace_verify.specs.declared.fault.VerifyFault.TheVariants.{WrongExit, Faulting, TooLong}
 use Rattle.trace_verify.specs.Spelling.{magic, front, end_bytes, Listed, listed_of, listed_bytes}
 use Rattle.trace_verify.specs.Spelling.{exit_taken, entry_with, entry_bytes}
-use Rattle.trace_verify.specs.Traces.{HasEntries, entries}
+use Rattle.trace_verify.specs.Traces.{HasEntries, entries, Traps}
 
--- how many bytes a record has that begins with this one; no record begins with another
+-- how many bytes a record has that begins with this one: with 0, or with 4 · mark + 1 or 4 · mark + 2 for a mark from
+-- 0 to 3; no record begins with another
 abbrev pub record_size : ℕ → Option ℕ
-record_size x = cond (x == 0) (Some 1) (cond (x % 4 == 1) (Some 1) (cond (x % 4 == 2) (Some 9) None))
+record_size x = cond (nat_lt x 16)
+    (cond (x == 0) (Some 1) (cond (x % 4 == 1) (Some 1) (cond (x % 4 == 2) (Some 9) None))) None
 
 -- the bytes begin with no record, or with another one than this
 pub data IsWrong (want : List ℕ) : List ℕ → Type 0 where
@@ -68,7 +69,7 @@ pub data EntryFault (blocks : List Block) (s : State) (o : Stepped) (budget entr
       → Goes o budget entry → (exit ≡ exit_taken blocks s → ⊥)
       → EntryFault blocks s o budget entry size rest (WrongExit entry)
   faulting : (more : List ℕ) → rest ≡ entry_bytes blocks s ++ more → Goes o budget entry
-      → IsTrap (step_of blocks s).1 → EntryFault blocks s o budget entry size rest (Faulting entry)
+      → Traps (step_of blocks s).1 → EntryFault blocks s o budget entry size rest (Faulting entry)
 
 -- The first fault of bytes that are to be the trace of a run from a state, within a budget.
 pub data FirstFault (blocks : List Block) (s : State) (budget : ℕ) (bytes : List ℕ) : VerifyFault → Type 0 where

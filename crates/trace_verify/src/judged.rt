@@ -23,7 +23,9 @@ pub enum Judged {
 fn record_size(first: u8) -> Option<usize>
     ensures { result ≡ record_size first }
 {
-    if first == 0 {
+    if first >= 16 {
+        None
+    } else if first == 0 {
         Some(1)
     } else if first % 4 == 1 {
         Some(1)

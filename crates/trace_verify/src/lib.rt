@@ -3,6 +3,7 @@
 
 mod entry;
 mod fault;
+mod feeding;
 mod fronts;
 mod judged;
 mod law;
@@ -10,11 +11,12 @@ mod opening;
 mod parts;
 mod record;
 mod recorder;
+mod skipping;
 mod slots;
 mod taking;
 mod verifier;
 
 pub use fault::VerifyFault;
-pub use law::{feeds_join, traces_are_judged};
+pub use law::{feeds_join, traces_are_judged, verdicts_are_one};
 pub use recorder::record_run;
 pub use verifier::Verifier;

@@ -7,11 +7,10 @@ ghost use Rattle.trace_verify.specs.FirstFault.{record_size, IsShort};
 ghost use Rattle.trace_verify.specs.inside.Judging.{by_judged};
 ghost use Rattle.trace_verify.specs.declared.parts.Stage.TheVariants as stage;
 ghost use Rattle.trips_isa.specs.declared.run.Stepped.TheVariants.{Went};
-ghost use Rattle.trace_verify.specs.Reading.{Exit, Progress, before, entry_come, feeds, record_seen, records_next};
+ghost use Rattle.trace_verify.specs.Reading.{Exit, Progress, before, entry_come, record_seen, records_next};
 ghost use Rattle.trace_verify.specs.Reading.{take_byte};
 ghost use Rattle.trace_verify.specs.inside.Verifying.{reading_of, progress_of, slots_of, rest_from, IsHeld, IsReady};
 ghost use Rattle.trace_verify.specs.inside.Verifying.{IsRunning};
-ghost use Rattle.trace_verify.specs.inside.Within.{IsWithin};
 
 use crate::fault::VerifyFault;
 use crate::fronts::{Fronted, Numbered, judge_front, judge_number};
@@ -151,8 +150,8 @@ fn step_on(parts: &mut Parts, answer: Stepped)
     go(parts, Stage::Number);
 }
 
-// The next record of the entry, or its end.
-fn next_slot(parts: &mut Parts, from: u8)
+/// The next record of the entry, or its end.
+pub fn next_slot(parts: &mut Parts, from: u8)
     requires runs { IsRunning parts.old }
     requires ready { IsReady parts.old }
     requires from { from ≤ 128 }
@@ -196,8 +195,8 @@ fn take_exit(parts: &mut Parts, byte: u8)
     next_slot(parts, 0);
 }
 
-// The record of a used slot of the next block.
-fn wanted(parts: &Parts, slot: u8) -> ArrayVec<u8, 9>
+/// The record of a used slot of the next block.
+pub fn wanted(parts: &Parts, slot: u8) -> ArrayVec<u8, 9>
     requires next { parts.now.arch.state.next < length parts.now.image.blocks }
     requires causes { slice_index_or parts.now.marks slot 0 < 4 }
     requires slot { slot < 128 }
@@ -272,36 +271,5 @@ pub fn take(parts: &mut Parts, byte: u8)
         Stage::Slot(slot) => take_slot(parts, slot, byte),
         Stage::Whole => go(parts, Stage::Stopped(VerifyFault::Trailing(parts.at))),
         Stage::Stopped(_) => {}
-    }
-}
-
-// A byte more, where so few have come that their number fits.
-#[tactic(auto, using(crate::proofs::HeldBounds::held_low, crate::proofs::HeldBounds::taken_within))]
-fn take_one(parts: &mut Parts, byte: u8)
-    requires held { IsHeld parts.old }
-    requires within { IsWithin parts.old }
-    ensures held { IsHeld parts.new }
-    ensures within { IsWithin parts.new }
-    ensures read { reading_of parts.new
-        ≡ take_byte parts.old.image.blocks parts.old.budget (reading_of parts.old) byte }
-    ensures image { parts.new.image ≡ parts.old.image }
-    ensures budget { parts.new.budget ≡ parts.old.budget }
-{
-    take(parts, byte);
-}
-
-/// Bytes more, one after another.
-pub fn feed(parts: &mut Parts, piece: &[u8])
-    requires held { IsHeld parts.old }
-    requires within { IsWithin parts.old }
-    ensures held { IsHeld parts.new }
-    ensures within { IsWithin parts.new }
-    ensures read { reading_of parts.new
-        ≡ feeds parts.old.image.blocks parts.old.budget (reading_of parts.old) piece.now }
-    ensures image { parts.new.image ≡ parts.old.image }
-    ensures budget { parts.new.budget ≡ parts.old.budget }
-{
-    for byte in piece {
-        take_one(parts, *byte);
     }
 }

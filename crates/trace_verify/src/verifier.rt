@@ -9,9 +9,10 @@ ghost use Rattle.trace_verify.specs.Verifiers.{CompletesTo, FaultsTo, HasAnswere
 ghost use Rattle.trace_verify.specs.inside.Verifying.{reading_of};
 
 use crate::fault::VerifyFault;
+use crate::feeding::feed;
 use crate::opening::{opened, told};
 use crate::parts::{Parts, Stage};
-use crate::taking::{feed, go};
+use crate::taking::go;
 use base::Memory;
 use block_check::CheckedImage;
 use std::alloc::Global;

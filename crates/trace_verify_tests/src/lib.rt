@@ -2,6 +2,10 @@
 #![tactic(auto)]
 
 #[cfg(test)]
+mod by_hand;
+#[cfg(test)]
+mod byte_tests;
+#[cfg(test)]
 mod making;
 #[cfg(test)]
 mod reading;

@@ -54,6 +54,7 @@ const IN_RECORDS: &[Change] = &[
         36,
         WrongToken(0, Spot::Inst(2)),
     ),
+    ("no mark is 4", 17, &[18], 99, WrongToken(0, Spot::Inst(0))),
     (
         "a branch that waits",
         35,

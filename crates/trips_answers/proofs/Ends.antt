@@ -1,6 +1,6 @@
 -- How work that was asked for ended, from the row of its request.
 use Rattle.std.proofs.Common.{◌≡◌, ℕ, true, false, List, Option, None, Some}
-use Rattle.std.proofs.Common.{inl, inr, refl, sym, ◌∙◌, ap, subst}
+use Rattle.std.proofs.Common.{inl, inr, refl, sym, ◌∙◌, ap, subst, ◌⊎◌}
 use Rattle.trips_outside.specs.Outside.{Holds}
 use Rattle.trips_isa.specs.declared.block.Block.{Block}
 use Rattle.trips_isa.specs.declared.run.Ending.{Ending}
@@ -8,7 +8,7 @@ use Rattle.trips_isa.specs.declared.run.Ending.TheVariants as ending
 use Rattle.trips_isa.specs.Machine.{runs, start}
 use Rattle.trips_answers.specs.Work.{Work}
 use Rattle.trips_answers.specs.Work.{Run, Evaluate, Compile}
-use Rattle.trips_answers.specs.Work.{Assemble, Disassemble, Check, Explain}
+use Rattle.trips_answers.specs.Work.{Assemble, Disassemble, Check, Explain, Record, Verify}
 use Rattle.trips_answers.specs.declared.forms.FileForm.{FileForm}
 use Rattle.trips_answers.specs.declared.forms.FileForm.TheVariants as form
 use Rattle.trips_answers.specs.declared.forms.Settings.{Settings}
@@ -22,21 +22,18 @@ use Rattle.trips_answers.specs.Read.{IsInputRead, HoldsInput}
 use Rattle.trips_answers.specs.Asks.{limit_of}
 use Rattle.trips_requests.specs.Table.{IsRead, AfterReading}
 use Rattle.trips_answers.specs.Report.{ending_of, status_of}
-use Rattle.trips_answers.specs.Worked.{IsRunBy, IsWorked, IsDone}
+use Rattle.trips_answers.specs.Worked.{IsRunBy, IsWorked, IsDone, IsDoneBehind}
+use Rattle.trips_answers.specs.Traced.{IsTraceFault, IsTraceRefused}
+use Rattle.trips_requests.specs.Texts.{IsFixed, read_fault_text}
+use Rattle.trips_answers.proofs.Traced.{part}
 use Rattle.trips_answers.specs.Answer.{IsAnswerBehind, IsAnswer}
 use Rattle.trips_answers.specs.Table.{EndsAs, EvalEnds}
-use Rattle.trips_answers.proofs.Rows.{is_told}
+use Rattle.trips_answers.proofs.Rows.{input_held, is_told}
 
 -- a status that tells no end is none that does
 not_told : (s other : Status) → s ≡ other → is_told other ≡ false → is_told s ≡ true → ⊥
 not_told s other e none told =
     let both : true ≡ false = sym told ∙ ap is_told e ∙ none in absurd (cc)
-
--- an input that was read is the one that is held
-input_held : (input : Option (List ℕ)) (held : List ℕ → Option (List ℕ)) (rose : Type 0)
-    (bytes : List ℕ) → IsInputRead input held rose (Bytes bytes) → HoldsInput input held bytes
-input_held None held rose bytes h = cc
-input_held (Some name) held rose bytes h = h.0
 
 module _ (q : Request) (held : List ℕ → Option (List ℕ)) (rose : Type 0) (s : Status)
     (report : List ℕ) (told : is_told s ≡ true) where
@@ -61,15 +58,30 @@ module _ (q : Request) (held : List ℕ → Option (List ℕ)) (rose : Type 0) (
     refl,
   )
 
+  -- a fault of the trace's file is no end
+  traced_ends : (bytes input : List ℕ) → IsTraceFault (held q.trace) rose q.work bytes input s report → IsEnd
+  unfolding is_told
+  traced_ends bytes input f = go f.1
+    where
+      go : (rose × IsFixed status.ReadFault read_fault_text s report)
+          ⊎ ((trace : List ℕ) × (text : List ℕ) × Holds (held q.trace) trace × IsTraceRefused bytes input trace text
+          × IsFixed status.Refused text s report) → IsEnd
+      go (inl u) = absurd (not_told s status.ReadFault u.1.0 refl told)
+      go (inr t) = absurd (not_told s status.Refused t.4.0 refl told)
+
   input_ends : (bytes : List ℕ) (loaded : Loaded) → Holds (origin_held held q.origin) bytes
       → IsInputRead q.input held rose loaded
-      → AfterReading loaded (λ input. IsDone q.work q.form (settings_of q) bytes input s report) s report
+      → AfterReading loaded
+      (λ input. IsDoneBehind (held q.trace) rose q.work q.form (settings_of q) bytes input s report) s report
       → IsEnd
   unfolding is_told
   input_ends bytes Fault h i a = absurd (not_told s status.ReadFault a.0 refl told)
   input_ends bytes TooLarge h i a = absurd (not_told s status.Refused a.0 refl told)
   input_ends bytes (Bytes input) h i a =
-      done_ends bytes input h (input_held q.input held rose input i) a
+      elim (part (held q.trace) rose q.work q.form (settings_of q) bytes input s report a) [
+        | inl d ↦ done_ends bytes input h (input_held q.input held rose input i) d
+        | inr f ↦ traced_ends bytes input f
+      ]
 
   asked_ends : (loaded : Loaded) → IsRead (origin_held held q.origin) rose (limit_of q.form) loaded
       → AfterReading loaded (λ bytes. IsAnswerBehind q held rose bytes s report) s report
@@ -101,18 +113,18 @@ unfolding is_told
 some_asked None held rose s report a told = absurd (not_told s status.Usage a.0 refl told)
 some_asked (Some q) held rose s report a told = (q, refl)
 
--- no run is undefined
+-- no end of a run is undefined
+end_is_defined : (x : Ending) → status_of x ≡ status.Undefined → ⊥
+end_is_defined ending.Ended e = cc
+end_is_defined ending.StackFull e = cc
+end_is_defined ending.Budget e = cc
+end_is_defined (ending.Trap block cause) e = cc
+
 run_is_defined : (blocks : List Block) (bytes input : List ℕ) (settings : Settings) (s : Status)
     (report : List ℕ) → IsRunBy blocks bytes input settings s report → s ≡ status.Undefined → ⊥
 run_is_defined blocks bytes input settings s report run e =
-    defined (ending_of (runs blocks (start bytes input) settings.most).1
+    end_is_defined (ending_of (runs blocks (start bytes input) settings.most).1
     (runs blocks (start bytes input) settings.most).0.next) (sym run.2.0 ∙ e)
-  where
-    defined : (x : Ending) → status_of x ≡ status.Undefined → ⊥
-    defined ending.Ended e = cc
-    defined ending.StackFull e = cc
-    defined ending.Budget e = cc
-    defined (ending.Trap block cause) e = cc
 
 -- nor is what is made of a file
 not_made : (s : Status) → s ≡ status.Ended → s ≡ status.Undefined → ⊥
@@ -134,6 +146,8 @@ is_evaluation Assemble how settings bytes input s report run e = absurd (not_mad
 is_evaluation Disassemble how settings bytes input s report run e = absurd (not_made s run.1 e)
 is_evaluation Check how settings bytes input s report run e = absurd (not_made s run.1 e)
 is_evaluation (Explain file) how settings bytes input s report run e = absurd (not_made s run.1 e)
+is_evaluation Verify how settings bytes input s report run e = absurd (not_made s run.1.5.0 e)
+is_evaluation Record how settings bytes input s report run e = absurd (end_is_defined run.2.0 (sym run.2.2 ∙ e))
 
 -- where what C leaves undefined is answered, an evaluation ended so
 pub undefined_row : (request : Option Request) (held : List ℕ → Option (List ℕ)) (rose : Type 0)

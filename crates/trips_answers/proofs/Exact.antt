@@ -17,7 +17,7 @@ use Rattle.block_check.specs.Images.{IsFirstBad}
 use Rattle.trips_report.specs.declared.show.Show.{Show}
 use Rattle.trips_answers.specs.Work.{Work}
 use Rattle.trips_answers.specs.Work.{Run, Evaluate, Compile}
-use Rattle.trips_answers.specs.Work.{Assemble, Disassemble, Check, Explain}
+use Rattle.trips_answers.specs.Work.{Assemble, Disassemble, Check, Explain, Record, Verify}
 use Rattle.block_image.specs.Spelling.{spelling}
 use Rattle.target_asm_spec.specs.Text.{TargetText}
 use Rattle.target_asm_spec.specs.Text as asm
@@ -37,18 +37,21 @@ use Rattle.trips_answers.specs.Read.{IsInputRead, IsLarge}
 use Rattle.trips_answers.specs.Asks.{IsInput, limit_of, most_input_bytes, AsksFor}
 use Rattle.trips_requests.specs.Table.{IsRead, AfterReading}
 use Rattle.trips_report.specs.Refusals.{image_text, asm_text, check_text}
-use Rattle.trips_requests.specs.Texts.{too_large_text, IsFixed}
+use Rattle.trips_requests.specs.Texts.{read_fault_text, too_large_text, IsFixed}
 use Rattle.trips_eval_answers.specs.Refusals.{front_refusal}
 use Rattle.trips_answers.specs.Refused.{IsBadText, IsRefusedAs}
 use Rattle.trips_tools.specs.ToolAnswers.{IsNoImage, IsBadImage, IsNoText}
+use Rattle.trips_trace_answers.specs.TraceAnswers.{IsVerdict, TellsTrace}
 use Rattle.trips_eval_answers.specs.Evaluation.{IsRefusedByFront, IsEvaluation}
 use Rattle.trips_explain_answers.specs.Explained.{IsAcceptedTold}
 use Rattle.trips_explain_answers.proofs.Once.{accepted_told_once, not_both_told, refusal_told_once}
 use Rattle.trips_answers.specs.Worked.{IsRunBy, IsRunOfText, IsCompiled, IsWorked, IsDone}
+use Rattle.trips_answers.specs.Worked.{IsDoneBehind}
 use Rattle.trips_answers.specs.Done.{CanBeDone}
 use Rattle.trips_answers.specs.Answer.{IsAnswerBehind, IsAnswer}
 use Rattle.trips_answers.specs.Causes.{HasLargeFile, HasLargeInput}
-use Rattle.trips_answers.proofs.OneFault.{first_bad_once}
+use Rattle.trips_explain_answers.proofs.OneFault.{first_bad_once}
+use Rattle.trips_answers.proofs.ReadFiles.{told_text, file_read, input_read, file_large, input_large}
 
 -- images ----------------------------------------------------------------------------------------
 
@@ -103,6 +106,10 @@ not_worked Check how settings bytes input s report out bad run =
     image_not_refused bytes out run.0.0 run.0.1 run.0.2 bad
 not_worked (Explain file) how settings bytes input s report out bad run =
     not_both_told file bytes report out run.0 bad
+not_worked Verify how settings bytes input s report out bad run =
+    image_not_refused bytes out run.1.0 run.1.1.0 run.1.1.1 bad
+not_worked Record how settings bytes input s report out bad run =
+    image_not_refused bytes out run.0 run.1.0 run.1.1 bad
 
 -- nor can the work be done with them
 pub refused_cannot : (work : Work) (how : FileForm) (bytes out : List ℕ) → IsRefusedAs work how bytes out
@@ -115,7 +122,9 @@ refused_cannot Compile how bytes out bad can = not_both bytes can.0 bad.0 can.1 
 refused_cannot Assemble how bytes out bad can = faults.not_both can.1.0 bytes bad.0 can.1.1 bad.1
 refused_cannot Disassemble how bytes out bad can = decoded.not_both can.1.0 bytes bad.0 can.1.2 bad.1
 refused_cannot Check how bytes out bad can = image_not_refused bytes out can.1.0 can.1.1 can.1.2 bad
-refused_cannot (Explain file) how bytes out bad can = not_both bytes can.0 bad.0 can.1 bad.1
+refused_cannot (Explain file) how bytes out bad can = not_both_told file bytes can.0 out can.1 bad
+refused_cannot Verify how bytes out bad can = image_not_refused bytes out can.0 can.1.0 can.1.1 bad
+refused_cannot Record how bytes out bad can = image_not_refused bytes out can.0 can.1.0 can.1.1 bad
 
 front_once : (text a b : List ℕ) → IsRefusedByFront text a → IsRefusedByFront text b → a ≡ b
 front_once text a b x y =
@@ -170,15 +179,43 @@ refusal_once Assemble how bytes a b x y = no_text_once bytes a b x y
 refusal_once Disassemble how bytes a b x y = no_image_once bytes a b x y
 refusal_once Check how bytes a b x y = image_once bytes a b x y
 refusal_once (Explain file) how bytes a b x y = refusal_told_once file bytes a b x y
+refusal_once Verify how bytes a b x y = image_once bytes a b x y
+refusal_once Record how bytes a b x y = image_once bytes a b x y
 
 -- what is done with bytes that are refused
-pub refused_exact : (work : Work) (how : FileForm) (settings : Settings) (bytes input : List ℕ)
+done_refused : (work : Work) (how : FileForm) (settings : Settings) (bytes input : List ℕ)
     (s : Status) (report out : List ℕ) → IsDone work how settings bytes input s report
     → IsRefusedAs work how bytes out → (s ≡ status.Refused) × (report ≡ out)
-refused_exact work how settings bytes input s report out (inl x) bad =
+done_refused work how settings bytes input s report out (inl x) bad =
     (x.2.0, x.2.1 ∙ refusal_once work how bytes x.0 out x.1 bad)
-refused_exact work how settings bytes input s report out (inr run) bad =
+done_refused work how settings bytes input s report out (inr run) bad =
     absurd (not_worked work how settings bytes input s report out bad run)
+
+-- and what is answered, behind the input
+pub refused_exact : (told : Option (List ℕ)) (rose : Type 0) (work : Work) (how : FileForm) (settings : Settings)
+    (bytes input : List ℕ) (s : Status) (report out : List ℕ)
+    → IsDoneBehind told rose work how settings bytes input s report
+    → IsRefusedAs work how bytes out → (s ≡ status.Refused) × (report ≡ out)
+refused_exact told rose Verify how settings bytes input s report out (inl x) bad =
+    done_refused Verify how settings bytes input s report out (inl x) bad
+refused_exact told rose Verify how settings bytes input s report out (inr v) bad =
+    absurd (image_not_refused bytes out v.0 v.1.0 v.1.1 bad)
+refused_exact told rose Run how settings bytes input s report out d bad =
+    done_refused Run how settings bytes input s report out d bad
+refused_exact told rose Evaluate how settings bytes input s report out d bad =
+    done_refused Evaluate how settings bytes input s report out d bad
+refused_exact told rose Compile how settings bytes input s report out d bad =
+    done_refused Compile how settings bytes input s report out d bad
+refused_exact told rose Assemble how settings bytes input s report out d bad =
+    done_refused Assemble how settings bytes input s report out d bad
+refused_exact told rose Disassemble how settings bytes input s report out d bad =
+    done_refused Disassemble how settings bytes input s report out d bad
+refused_exact told rose Check how settings bytes input s report out d bad =
+    done_refused Check how settings bytes input s report out d bad
+refused_exact told rose (Explain file) how settings bytes input s report out d bad =
+    done_refused (Explain file) how settings bytes input s report out d bad
+refused_exact told rose Record how settings bytes input s report out d bad =
+    done_refused Record how settings bytes input s report out d bad
 
 -- with an accepted text under `eval`
 pub eval_exact : (how : FileForm) (settings : Settings) (text input : List ℕ) (s : Status)
@@ -274,57 +311,30 @@ checked_exact how settings bytes input s report good (inr run) is = (
       ∙ sym is.3,
 )
 
--- reading ---------------------------------------------------------------------------------------
+-- with an image of good blocks under `record`
+pub recorded_exact : (how : FileForm) (settings : Settings) (bytes input : List ℕ) (s : Status) (report : List ℕ)
+    (image : Image) → IsDone Record how settings bytes input s report → ImageBytes image bytes
+    → All IsGood image.blocks → TellsTrace image input settings.most s report
+recorded_exact how settings bytes input s report image (inl x) spelled good =
+    absurd (image_not_refused bytes x.0 image spelled good x.1)
+recorded_exact how settings bytes input s report image (inr run) spelled good =
+    subst (λ (i : Image). TellsTrace i input settings.most s report)
+    (one_image run.0 image bytes run.1.0 spelled) run.2
 
--- bytes that were read are those that are told
-told_text : (told : Option (List ℕ)) (text read : List ℕ) → told ≡ Some text → Holds told read
-    → read ≡ text
-told_text None text read e h = absurd (cc)
-told_text (Some bytes) text read e h = let same : bytes ≡ text = cc in h ∙ same
-
--- bytes within the limit are not told to be too many
-told_few : (told : Option (List ℕ)) (text : List ℕ) (limit : ℕ) → told ≡ Some text
-    → length text ≤ limit → IfSome told (λ bytes. limit < length bytes) → ⊥
-told_few None text limit e few large = absurd (cc)
-told_few (Some bytes) text limit e few large =
-    let same : text ≡ bytes = cc in
-    let m : length text ≡ length bytes = ap length same in absurd (omega (arith, large, m))
-
--- a file that is told is read, where nothing fails
-file_read : (told : Option (List ℕ)) (rose : Type 0) (limit : ℕ) (loaded : Loaded)
-    (bytes : List ℕ) → IsRead told rose limit loaded → told ≡ Some bytes → length bytes ≤ limit
-    → (rose → ⊥) → loaded ≡ Bytes bytes
-file_read told rose limit Fault bytes h t few r = absurd (r h)
-file_read told rose limit TooLarge bytes h t few r = absurd (told_few told bytes limit t few h)
-file_read told rose limit (Bytes read) bytes h t few r =
-    ap (λ (x : List ℕ). Bytes x) (told_text told bytes read t h.0)
-
--- and so is an input
-input_read : (input : Option (List ℕ)) (held : List ℕ → Option (List ℕ)) (rose : Type 0)
-    (loaded : Loaded) (bytes : List ℕ) → IsInputRead input held rose loaded
-    → IsInput input held bytes → length bytes ≤ most_input_bytes → (rose → ⊥)
-    → loaded ≡ Bytes bytes
-input_read None held rose loaded bytes h i few r = h ∙ ap (λ (x : List ℕ). Bytes x) (sym i)
-input_read (Some name) held rose loaded bytes h i few r =
-    file_read (held name) rose most_input_bytes loaded bytes h i few r
-
--- a file that is told to be too large is not read
-file_large : (told : Option (List ℕ)) (rose : Type 0) (limit : ℕ) (loaded : Loaded)
-    → IsRead told rose limit loaded → IsSomeAnd told (λ bytes. limit < length bytes)
-    → (rose → ⊥) → loaded ≡ TooLarge
-file_large told rose limit Fault h large r = absurd (r h)
-file_large told rose limit TooLarge h large r = refl
-file_large None rose limit (Bytes read) h large r = absurd large
-file_large (Some bytes) rose limit (Bytes read) h large r =
-    let m : length read ≡ length bytes = ap length h.0 in
-    absurd (omega (arith, large, m, h.1))
-
-input_large : (input : Option (List ℕ)) (held : List ℕ → Option (List ℕ)) (rose : Type 0)
-    (loaded : Loaded) → IsInputRead input held rose loaded → IsLarge input held → (rose → ⊥)
-    → loaded ≡ TooLarge
-input_large None held rose loaded h large r = absurd large
-input_large (Some name) held rose loaded h large r =
-    file_large (held name) rose most_input_bytes loaded h large r
+-- with an image of good blocks and a trace under `verify`
+pub verified_exact : (told : Option (List ℕ)) (rose : Type 0) (how : FileForm) (settings : Settings)
+    (bytes input trace : List ℕ) (s : Status) (report : List ℕ) (image : Image)
+    → IsDoneBehind told rose Verify how settings bytes input s report → (rose → ⊥) → told ≡ Some trace
+    → ImageBytes image bytes → All IsGood image.blocks → IsVerdict image input trace s report
+verified_exact told rose how settings bytes input trace s report image (inl x) r t spelled good =
+    absurd (image_not_refused bytes x.0 image spelled good x.1)
+verified_exact told rose how settings bytes input trace s report image (inr v) r t spelled good =
+    subst (λ (i : Image). IsVerdict i input trace s report) (one_image v.0 image bytes v.1.0 spelled) (go v.2)
+  where
+    go : ((read : List ℕ) × Holds told read × IsVerdict v.0 input read s report)
+        ⊎ (rose × IsFixed status.ReadFault read_fault_text s report) → IsVerdict v.0 input trace s report
+    go (inl x) = subst (λ (read : List ℕ). IsVerdict v.0 input read s report) (told_text told trace x.0 t x.1) x.2
+    go (inr u) = absurd (r u.0)
 
 -- answers ---------------------------------------------------------------------------------------
 
@@ -346,19 +356,21 @@ module _ (request : Option Request) (held : List ℕ → Option (List ℕ)) (ros
   -- what is done where the file and the input are told
   pub complete : (work : Work) (how : FileForm) (most : ℕ) (show : Show) (bytes input : List ℕ)
       → (asks : AsksFor request held work how most show bytes input)
-      → IsDone work how (settings_with asks.q most show) bytes input s report
+      → IsDoneBehind (held asks.q.trace) rose work how (settings_with asks.q most show) bytes input s report
   complete work how most show bytes input asks =
       let rest = behind asks.q bytes asks.asked asks.told.told asks.told.few in
       let is = input_read asks.q.input held rose rest.0 input rest.1 asks.told.told_input
       asks.told.few_input r in
+      let told : Option (List ℕ) = held asks.q.trace in
       let done = subst (λ (x : Loaded). AfterReading x
-      (λ i. IsDone asks.q.work asks.q.form (settings_of asks.q) bytes i s report) s report) is rest.2 in
-      subst (λ (v : Show). IsDone work how (settings_with asks.q most v) bytes input s report)
+      (λ i. IsDoneBehind told rose asks.q.work asks.q.form (settings_of asks.q) bytes i s report) s report)
+      is rest.2 in
+      subst (λ (v : Show). IsDoneBehind told rose work how (settings_with asks.q most v) bytes input s report)
       asks.is_show
-      (subst (λ (m : ℕ). IsDone work how (settings_with asks.q m asks.q.show) bytes input s report)
+      (subst (λ (m : ℕ). IsDoneBehind told rose work how (settings_with asks.q m asks.q.show) bytes input s report)
       asks.is_most
-      (subst (λ (f : FileForm). IsDone work f (settings_of asks.q) bytes input s report) asks.is_form
-      (subst (λ (w : Work). IsDone w asks.q.form (settings_of asks.q) bytes input s report)
+      (subst (λ (f : FileForm). IsDoneBehind told rose work f (settings_of asks.q) bytes input s report) asks.is_form
+      (subst (λ (w : Work). IsDoneBehind told rose w asks.q.form (settings_of asks.q) bytes input s report)
       asks.is_work done)))
 
   -- a file that is too large
@@ -378,7 +390,7 @@ module _ (request : Option Request) (held : List ℕ → Option (List ℕ)) (ros
       let rest = behind q text.0 e text.1 text.2 in
       let is = input_large q.input held rose rest.0 rest.1 large.1 r in
       subst (λ (x : Loaded). AfterReading x
-      (λ i. IsDone q.work q.form (settings_of q) text.0 i s report) s report) is rest.2
+      (λ i. IsDoneBehind (held q.trace) rose q.work q.form (settings_of q) text.0 i s report) s report) is rest.2
     where
       some_of : (told : Option (List ℕ)) (P : List ℕ → Type 0) → IsSomeAnd told P
           → (bytes : List ℕ) × (told ≡ Some bytes) × P bytes

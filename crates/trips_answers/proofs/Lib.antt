@@ -1,5 +1,6 @@
 pub mod GridRuns
 pub mod Told
+pub mod Traced
 pub mod Rows
 pub mod Ends
 pub mod Plainly
@@ -8,7 +9,7 @@ pub mod Reported
 pub mod ShownRuns
 pub mod Promises
 pub mod Meanings
-pub mod OneFault
+pub mod ReadFiles
 pub mod Results
 pub mod Compiled
 pub mod Exact

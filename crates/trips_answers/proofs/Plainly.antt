@@ -18,7 +18,7 @@ use Rattle.grid_machine.specs.Answered.{ComesTo}
 use Rattle.grid_cycle.specs.Traps.{is_trap}
 use Rattle.trips_answers.specs.Work.{Work}
 use Rattle.trips_answers.specs.Work.{Run, Evaluate, Compile}
-use Rattle.trips_answers.specs.Work.{Assemble, Disassemble, Check, Explain}
+use Rattle.trips_answers.specs.Work.{Assemble, Disassemble, Check, Explain, Record, Verify}
 use Rattle.trips_requests.specs.declared.loading.Loaded.{Loaded}
 use Rattle.trips_requests.specs.declared.loading.Loaded.TheVariants.{Fault, TooLarge, Bytes}
 use Rattle.trips_requests.specs.declared.status.Status.{Status}
@@ -35,7 +35,8 @@ use Rattle.trips_answers.specs.Read.{IsInputRead, IsLarge}
 use Rattle.trips_answers.specs.Report.{CountsRun, TellsRun, ending_of, run_report, shown_report, status_of, trap_cost}
 use Rattle.trips_answers.specs.Counted.{IsCountedRun}
 use Rattle.trips_answers.specs.Refused.{IsBad, MayBeRefused}
-use Rattle.trips_answers.specs.Worked.{IsRunBy, IsWorked, IsDone}
+use Rattle.trips_answers.specs.Traced.{IsTraceFault, IsTraceRefused}
+use Rattle.trips_answers.specs.Worked.{IsRunBy, IsWorked, IsDone, IsDoneBehind}
 use Rattle.trips_answers.specs.Answer.{IsAnswerBehind, IsAnswer}
 use Rattle.trips_answers.specs.Table.{EndsAs, IsReported}
 use Rattle.trips_answers.specs.Ended.{ResultMeans}
@@ -43,6 +44,8 @@ use Rattle.trips_answers.specs.Evaluated.{ResultTells}
 use Rattle.trips_answers.specs.Done.{CanBeDone, DoesWork}
 use Rattle.trips_answers.specs.Causes.{CannotBeDone, EndsOrRefuses, EndsWork, IsUnfit, MayAnswer}
 use Rattle.trips_answers.specs.Causes.{MayAnswerBehind, MayBeUnfit}
+use Rattle.trips_requests.specs.Texts.{IsFixed, read_fault_text}
+use Rattle.trips_answers.proofs.Traced.{part}
 use Rattle.trips_answers.proofs.Exact.{refused_cannot}
 use Rattle.trips_answers.proofs.Rows.{of_read, not_large_input}
 use Rattle.trips_answers.proofs.Ends.{is_evaluation}
@@ -145,6 +148,8 @@ does_work Assemble how settings bytes input s report run = run
 does_work Disassemble how settings bytes input s report run = run
 does_work Check how settings bytes input s report run = run
 does_work (Explain file) how settings bytes input s report run = run
+does_work Verify how settings bytes input s report run = run
+does_work Record how settings bytes input s report run = run
 
 -- it could be done
 worked_can : (work : Work) (how : FileForm) (settings : Settings) (bytes input : List ℕ) (s : Status)
@@ -157,7 +162,9 @@ worked_can Compile how settings bytes input s report run = (run.1.lowered.progra
 worked_can Assemble how settings bytes input s report run = (report, run.0)
 worked_can Disassemble how settings bytes input s report run = (report, run.0)
 worked_can Check how settings bytes input s report run = (report, run.0)
-worked_can (Explain file) how settings bytes input s report run = (run.0.0, run.0.1)
+worked_can (Explain file) how settings bytes input s report run = (report, run.0)
+worked_can Verify how settings bytes input s report run = (run.1.0, run.1.1)
+worked_can Record how settings bytes input s report run = (run.0, run.1)
 
 -- how a request's work ended
 pub ends_work : (held : List ℕ → Option (List ℕ)) (q : Request) (s : Status) → EndsAs held q s → EndsWork held q s
@@ -236,14 +243,25 @@ module _ (q : Request) (held : List ℕ → Option (List ℕ)) (rose : Type 0) (
   done_unfit bytes input bad h few small (inl out) = inl out.2.0
   done_unfit bytes input bad h few small (inr run) = absurd (fit bytes input h few small run bad)
 
+  -- a fault of the trace's file
+  traced_unfit : (bytes input : List ℕ) → (rose × IsFixed status.ReadFault read_fault_text s report)
+      ⊎ ((trace : List ℕ) × (text : List ℕ) × Holds (held q.trace) trace × IsTraceRefused bytes input trace text
+      × IsFixed status.Refused text s report) → (s ≡ status.Refused) ⊎ (s ≡ status.ReadFault)
+  traced_unfit bytes input (inl u) = inr u.1.0
+  traced_unfit bytes input (inr t) = inl t.4.0
+
   input_unfit : (bytes : List ℕ) (loaded : Loaded) → IsUnfit (Some q) held → Holds (origin_held held q.origin) bytes
       → length bytes ≤ limit_of q.form → IsInputRead q.input held rose loaded
-      → AfterReading loaded (λ input. IsDone q.work q.form (settings_of q) bytes input s report) s report
+      → AfterReading loaded
+      (λ input. IsDoneBehind (held q.trace) rose q.work q.form (settings_of q) bytes input s report) s report
       → (s ≡ status.Refused) ⊎ (s ≡ status.ReadFault)
   input_unfit bytes Fault bad h few i a = inr a.0
   input_unfit bytes TooLarge bad h few i a = inl a.0
   input_unfit bytes (Bytes input) bad h few i a =
-      done_unfit bytes input bad h few (not_large_input q.input held rose input i) a
+      elim (part (held q.trace) rose q.work q.form (settings_of q) bytes input s report a) [
+        | inl d ↦ done_unfit bytes input bad h few (not_large_input q.input held rose input i) d
+        | inr f ↦ traced_unfit bytes input f.1
+      ]
 
   asked_unfit : (loaded : Loaded) → IsUnfit (Some q) held
       → IsRead (origin_held held q.origin) rose (limit_of q.form) loaded
@@ -280,8 +298,10 @@ behind_so : (q : Request) (held : List ℕ → Option (List ℕ)) (rose : Type 0
 behind_so q held rose bytes s report b = (
   b.0,
   b.1,
-  after_so b.0 (λ input. IsDone q.work q.form (settings_of q) bytes input s report)
-      (λ input. EndsOrRefuses q bytes input s report) s report (λ input d. done_so q bytes input s report d) b.2,
+  after_so b.0 (λ input. IsDoneBehind (held q.trace) rose q.work q.form (settings_of q) bytes input s report)
+      (λ input. EndsOrRefuses q bytes input s report ⊎ IsTraceFault (held q.trace) rose q.work bytes input s report)
+      s report (λ input d. elim (part (held q.trace) rose q.work q.form (settings_of q) bytes input s report d)
+      [ inl w ↦ inl (done_so q bytes input s report w) | inr f ↦ inr f ]) b.2,
 )
 
 -- each answer that holds is one that may come

@@ -8,9 +8,10 @@ use Rattle.c_compile.specs.Meant.{DoesText}
 use Rattle.c_compile.proofs.Images.{images_mean}
 use Rattle.c_compile.proofs.Meant.{does_text, good_blocks}
 use Rattle.trips_report.specs.declared.show.Show.{Show}
+use Rattle.trips_trace_answers.specs.TraceAnswers.{IsVerdict, TellsTrace}
 use Rattle.trips_answers.specs.Work.{Work}
 use Rattle.trips_answers.specs.Work.{Run, Evaluate, Compile}
-use Rattle.trips_answers.specs.Work.{Assemble, Disassemble, Check, Explain}
+use Rattle.trips_answers.specs.Work.{Assemble, Disassemble, Check, Explain, Record, Verify}
 use Rattle.trips_requests.specs.declared.status.Status.{Status}
 use Rattle.trips_requests.specs.declared.status.Status.TheVariants as status
 use Rattle.trips_requests.specs.Table.{IsOneOf, IsWritten, Reports, Wrote}
@@ -85,6 +86,8 @@ module _ (held : List ℕ → Option (List ℕ)) (rose : Type 0) (old new : Opti
   made Run how most show bytes input out asks is r c m = absurd is
   made Evaluate how most show bytes input out asks is r c m = absurd is
   made Compile how most show bytes input out asks is r c m = absurd is
+  made Record how most show bytes input out asks is r c m = absurd is
+  made Verify how most show bytes input out asks is r c m = absurd is
   made Assemble how most show bytes input out asks is r c m =
       reported.assembled held rose old new cut q s a how most show bytes input out asks is r c m
   made Disassemble how most show bytes input out asks is r c m =
@@ -93,6 +96,21 @@ module _ (held : List ℕ → Option (List ℕ)) (rose : Type 0) (old new : Opti
       reported.checked held rose old new cut q s a how most show bytes input out asks is r c m
   made (Explain file) how most show bytes input out asks is r c m =
       reported.explained held rose old new cut q s a file how most show bytes input out asks is r c m
+
+  -- the trace of a run
+  pub recorded : (how : FileForm) (most : ℕ) (show : Show) (bytes input : List ℕ) (image : Image)
+      → AsksFor q held Record how most show bytes input → IsImageIn form.Image bytes image
+      → (rose → ⊥) → (cut → ⊥) → s ≢ status.Memory → Wrote old new (TellsTrace image input most s)
+  recorded how most show bytes input image asks is r c m =
+      reported.recorded held rose old new cut q s a how most show bytes input image asks is.0 is.1 r c m
+
+  -- the verdict on a trace
+  pub verified : (how : FileForm) (most : ℕ) (show : Show) (bytes input trace : List ℕ) (image : Image)
+      → (asks : AsksFor q held Verify how most show bytes input) → held asks.q.trace ≡ Some trace
+      → IsImageIn form.Image bytes image → (rose → ⊥) → (cut → ⊥) → s ≢ status.Memory
+      → Wrote old new (IsVerdict image input trace s)
+  verified how most show bytes input trace image asks told is r c m =
+      reported.verified held rose old new cut q s a how most show bytes input trace image asks told is.0 is.1 r c m
 
   -- what is too large
   pub too_large : (x : Request) → q ≡ Some x → IsTooLarge x held → (rose → ⊥) → (cut → ⊥) → s ≢ status.Memory

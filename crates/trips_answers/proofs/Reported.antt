@@ -14,9 +14,10 @@ use Rattle.block_check.specs.Faults.{IsGood}
 use Rattle.grid_cycle_spec.specs.Costs.{cost_of}
 use Rattle.trips_report.specs.declared.show.Show.{Show}
 use Rattle.trips_tools.specs.Tools.{IsOneImage, IsGoodImage}
+use Rattle.trips_trace_answers.specs.TraceAnswers.{IsVerdict, TellsTrace}
 use Rattle.trips_answers.specs.Work.{Work}
 use Rattle.trips_answers.specs.Work.{Run, Evaluate, Compile}
-use Rattle.trips_answers.specs.Work.{Assemble, Disassemble, Check, Explain}
+use Rattle.trips_answers.specs.Work.{Assemble, Disassemble, Check, Explain, Record, Verify}
 use Rattle.trips_answers.specs.declared.forms.FileForm.{FileForm}
 use Rattle.trips_answers.specs.declared.forms.FileForm.TheVariants as form
 use Rattle.trips_requests.specs.declared.status.Status.{Status}
@@ -24,6 +25,7 @@ use Rattle.trips_requests.specs.declared.status.Status.TheVariants as status
 use Rattle.trips_answers.specs.Request.{Request}
 use Rattle.trips_answers.specs.Settings.{settings_with}
 use Rattle.trips_eval_answers.specs.Evaluation.{eval_report, eval_status, outcome_of}
+use Rattle.trips_requests.specs.Table.{Wrote}
 use Rattle.trips_requests.specs.Texts.{too_large_text}
 use Rattle.trips_answers.specs.Report.{ending_of, run_report, status_of, full_report}
 use Rattle.trips_answers.specs.Asks.{nothing_shown, ended_report, AsksFor}
@@ -33,7 +35,7 @@ use Rattle.trips_answers.specs.Answer.{IsAnswer}
 use Rattle.trips_answers.specs.Table.{IsAnswered}
 use Rattle.trips_answers.specs.Causes.{HasLargeFile, HasLargeInput}
 use Rattle.trips_answers.proofs.Exact.{complete, large_file, large_input, refused_exact, eval_exact}
-use Rattle.trips_answers.proofs.Exact.{image_exact, text_exact}
+use Rattle.trips_answers.proofs.Exact.{image_exact, text_exact, recorded_exact, verified_exact}
 use Rattle.trips_answers.proofs.Exact.{compiled_exact, assembled_exact, disassembled_exact, checked_exact}
 use Rattle.trips_answers.proofs.Exact.{explained_exact}
 use Rattle.trips_explain_answers.specs.Explained.{IsAcceptedTold}
@@ -199,6 +201,35 @@ module _ (held : List ℕ → Option (List ℕ)) (rose : Type 0) (old new : Opti
       done is in
       (told.0, subst (Appended old new) told.1 row.2)
 
+  -- the bytes of a good image that are recorded give the trace of its run
+  pub recorded : (s : Status) → IsAnswered q held rose old new cut s → (how : FileForm) (most : ℕ)
+      (show : Show) (bytes input : List ℕ) (image : Image)
+      → AsksFor q held Record how most show bytes input → ImageBytes image bytes → All IsGood image.blocks
+      → (rose → ⊥) → (cut → ⊥) → s ≢ status.Memory
+      → Wrote old new (TellsTrace image input most s)
+  recorded s a how most show bytes input image asks spelled good r c m =
+      let row = row_of s a c m in
+      let done = complete q held rose s row.0 row.1 r Record how most show bytes input asks in (
+        row.0,
+        recorded_exact how (settings_with asks.q most show) bytes input s row.0 image done spelled good,
+        row.2,
+      )
+
+  -- a trace's file that is told is judged
+  pub verified : (s : Status) → IsAnswered q held rose old new cut s → (how : FileForm) (most : ℕ)
+      (show : Show) (bytes input trace : List ℕ) (image : Image)
+      → (asks : AsksFor q held Verify how most show bytes input) → held asks.q.trace ≡ Some trace
+      → ImageBytes image bytes → All IsGood image.blocks → (rose → ⊥) → (cut → ⊥) → s ≢ status.Memory
+      → Wrote old new (IsVerdict image input trace s)
+  verified s a how most show bytes input trace image asks told spelled good r c m =
+      let row = row_of s a c m in
+      let done = complete q held rose s row.0 row.1 r Verify how most show bytes input asks in (
+        row.0,
+        verified_exact (held asks.q.trace) rose how (settings_with asks.q most show) bytes input trace s row.0 image
+            done r told spelled good,
+        row.2,
+      )
+
   -- a file that is refused is answered so, and the reason is written
   pub refusal : (s : Status) → IsAnswered q held rose old new cut s → (work : Work)
       (how : FileForm) (most : ℕ) (show : Show) (bytes input report : List ℕ)
@@ -207,8 +238,8 @@ module _ (held : List ℕ → Option (List ℕ)) (rose : Type 0) (old new : Opti
   refusal s a work how most show bytes input report asks bad r c m =
       let row = row_of s a c m in
       let done = complete q held rose s row.0 row.1 r work how most show bytes input asks in
-      let told = refused_exact work how (settings_with asks.q most show) bytes input s row.0 report
-      done bad in
+      let told = refused_exact (held asks.q.trace) rose work how (settings_with asks.q most show) bytes input s row.0
+      report done bad in
       (told.0, subst (Appended old new) told.1 row.2)
 
   -- a file that is too large is refused as such

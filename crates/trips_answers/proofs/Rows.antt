@@ -12,7 +12,7 @@ use Rattle.c_meaning.specs.declared.outcome.Outcome.{Outcome}
 use Rattle.c_meaning.specs.declared.outcome.Outcome.TheVariants as outcome
 use Rattle.trips_answers.specs.Work.{Work}
 use Rattle.trips_answers.specs.Work.{Run, Evaluate, Compile}
-use Rattle.trips_answers.specs.Work.{Assemble, Disassemble, Check, Explain}
+use Rattle.trips_answers.specs.Work.{Assemble, Disassemble, Check, Explain, Record, Verify}
 use Rattle.trips_answers.specs.declared.forms.FileForm.{FileForm}
 use Rattle.trips_answers.specs.declared.forms.FileForm.TheVariants as form
 use Rattle.trips_answers.specs.declared.forms.Settings.{Settings}
@@ -22,15 +22,18 @@ use Rattle.trips_requests.specs.declared.status.Status.{Status}
 use Rattle.trips_requests.specs.declared.status.Status.TheVariants as status
 use Rattle.trips_answers.specs.Request.{Request, origin_held}
 use Rattle.trips_answers.specs.Settings.{settings_of}
-use Rattle.trips_answers.specs.Read.{IsInputRead, MayBeLarge, IsLarge}
+use Rattle.trips_answers.specs.Read.{HoldsInput, IsInputRead, MayBeLarge, IsLarge}
+use Rattle.trips_answers.specs.Traced.{IsTraceFault, IsTraceRefused}
 use Rattle.trips_answers.specs.Asks.{limit_of, most_input_bytes}
 use Rattle.trips_requests.specs.Table.{IsRead, AfterReading}
 use Rattle.trips_answers.specs.Report.{ending_of, status_of}
-use Rattle.trips_answers.specs.Worked.{IsRunBy, IsWorked, IsDone}
+use Rattle.trips_answers.specs.Worked.{IsRunBy, IsWorked, IsDone, IsDoneBehind}
 use Rattle.trips_eval_answers.specs.Evaluation.{eval_status, outcome_of}
 use Rattle.trips_answers.specs.Answer.{IsAnswerBehind, IsAnswer}
 use Rattle.trips_answers.specs.Refused.{IsBad, MayBeRefused, IsRefused}
+use Rattle.trips_requests.specs.Texts.{IsFixed, read_fault_text}
 use Rattle.trips_answers.proofs.Exact.{not_worked}
+use Rattle.trips_answers.proofs.Traced.{part}
 
 -- the statuses that tell how a run or an evaluation ended
 unfoldable pub is_told : Status → Bool
@@ -79,6 +82,8 @@ work_tells Assemble how settings bytes input s report run = ap is_told run.1
 work_tells Disassemble how settings bytes input s report run = ap is_told run.1
 work_tells Check how settings bytes input s report run = ap is_told run.1
 work_tells (Explain file) how settings bytes input s report run = ap is_told run.1
+work_tells Verify how settings bytes input s report run = ap is_told run.1.5.0
+work_tells Record how settings bytes input s report run = ap is_told run.2.2 ∙ tells run.2.0
 
 -- The kinds of an answer: usage, a fault of reading, a refusal, and the end of the work.
 pub data Kind (q : Option Request) (held : List ℕ
@@ -120,6 +125,12 @@ input_too_large : (input : Option (List ℕ)) (held : List ℕ → Option (List 
 input_too_large None held rose h = absurd (cc)
 input_too_large (Some name) held rose h = h
 
+-- an input that was read is the one that is held
+pub input_held : (input : Option (List ℕ)) (held : List ℕ → Option (List ℕ)) (rose : Type 0)
+    (bytes : List ℕ) → IsInputRead input held rose (Bytes bytes) → HoldsInput input held bytes
+input_held None held rose bytes h = cc
+input_held (Some name) held rose bytes h = h.0
+
 -- input that was read is not too large
 pub not_large_input : (input : Option (List ℕ)) (held : List ℕ → Option (List ℕ)) (rose : Type 0)
     (bytes : List ℕ) → IsInputRead input held rose (Bytes bytes) → IsLarge input held → ⊥
@@ -139,6 +150,27 @@ module _ (q : Request) (held : List ℕ → Option (List ℕ)) (rose : Type 0) (
   not_bad bytes input few run (inr bad) =
       not_worked q.work q.form (settings_of q) bytes input s report bad.0 bad.1 run
 
+  -- a fault of the trace's file
+  traced_kind : (bytes input : List ℕ) → Holds (origin_held held q.origin) bytes → HoldsInput q.input held input
+      → IsTraceFault (held q.trace) rose q.work bytes input s report → Kind (Some q) held rose s
+  traced_kind bytes input h i f = go f.1
+    where
+      go : (rose × IsFixed status.ReadFault read_fault_text s report)
+          ⊎ ((trace : List ℕ) × (text : List ℕ) × Holds (held q.trace) trace × IsTraceRefused bytes input trace text
+          × IsFixed status.Refused text s report) → Kind (Some q) held rose s
+      go (inl u) = unread u.1.0 u.0
+      go (inr t) = refused t.4.0 (inr (inr (record {
+        is_work = f.0;
+        bytes = bytes;
+        input = input;
+        trace = t.0;
+        text = t.1;
+        holds = h;
+        holds_input = i;
+        holds_trace = t.2;
+        refused = t.3;
+      })))
+
   done_kind : (bytes input : List ℕ) → Holds (origin_held held q.origin) bytes
       → length bytes ≤ limit_of q.form → (IsLarge q.input held → ⊥)
       → IsDone q.work q.form (settings_of q) bytes input s report → Kind (Some q) held rose s
@@ -154,13 +186,17 @@ module _ (q : Request) (held : List ℕ → Option (List ℕ)) (rose : Type 0) (
 
   input_kind : (bytes : List ℕ) (loaded : Loaded) → Holds (origin_held held q.origin) bytes
       → length bytes ≤ limit_of q.form → IsInputRead q.input held rose loaded
-      → AfterReading loaded (λ input. IsDone q.work q.form (settings_of q) bytes input s report) s report
+      → AfterReading loaded
+      (λ input. IsDoneBehind (held q.trace) rose q.work q.form (settings_of q) bytes input s report) s report
       → Kind (Some q) held rose s
   input_kind bytes Fault h few i a = unread a.0 (input_fault q.input held rose i)
   input_kind bytes TooLarge h few i a =
-      refused a.0 (inr (input_too_large q.input held rose i))
+      refused a.0 (inr (inl (input_too_large q.input held rose i)))
   input_kind bytes (Bytes input) h few i a =
-      done_kind bytes input h few (not_large_input q.input held rose input i) a
+      elim (part (held q.trace) rose q.work q.form (settings_of q) bytes input s report a) [
+        | inl d ↦ done_kind bytes input h few (not_large_input q.input held rose input i) d
+        | inr f ↦ traced_kind bytes input h (input_held q.input held rose input i) f
+      ]
 
   asked_kind : (loaded : Loaded) → IsRead (origin_held held q.origin) rose (limit_of q.form) loaded
       → AfterReading loaded (λ bytes. IsAnswerBehind q held rose bytes s report) s report

@@ -9,14 +9,15 @@ use Rattle.trips_answers.specs.Read.{IsInputRead}
 use Rattle.trips_answers.specs.Asks.{limit_of}
 use Rattle.trips_requests.specs.Table.{IsRead, AfterReading}
 use Rattle.trips_requests.specs.Texts.{usage_text, IsFixed}
-use Rattle.trips_answers.specs.Worked.{IsDone}
+use Rattle.trips_answers.specs.Worked.{IsDoneBehind}
 
 -- behind the file the input is read
 abbrev pub IsAnswerBehind : Request → (List ℕ → Option (List ℕ)) → Type 0
     → List ℕ → Status → List ℕ → Type 0
 IsAnswerBehind q held rose bytes s report =
     (loaded : Loaded) × IsInputRead q.input held rose loaded
-    × AfterReading loaded (λ input. IsDone q.work q.form (settings_of q) bytes input s report) s report
+    × AfterReading loaded
+    (λ input. IsDoneBehind (held q.trace) rose q.work q.form (settings_of q) bytes input s report) s report
 
 -- Of the request (none where the words make none), of what names hold, and of whether the count of
 -- the files' faults rose, this is the answer.

@@ -11,6 +11,8 @@ use Rattle.trips_answers.specs.Request.{Request, origin_held}
 use Rattle.trips_answers.specs.Asks.{limit_of}
 use Rattle.trips_answers.specs.Read.{HoldsInput, IsInputRead, IsLarge, MayBeLarge}
 use Rattle.trips_answers.specs.Done.{CanBeDone, DoesWork}
+use Rattle.trips_answers.specs.Refused.{MayRefuseTrace}
+use Rattle.trips_answers.specs.Traced.{IsTraceFault}
 
 -- the request's file is told, and is longer than its limit
 abbrev pub HasLargeFile : Request → (List ℕ → Option (List ℕ)) → Type 0
@@ -31,10 +33,11 @@ IsTooLarge q held = HasLargeFile q held ⊎ HasLargeInput q held
 abbrev pub CannotBeDone : Request → List ℕ → Type 0
 CannotBeDone q bytes = (limit_of q.form < length bytes) ⊎ (CanBeDone q.work q.form bytes → ⊥)
 
--- A request has to be refused, as far as its file and its input are told.
+-- A request has to be refused, as far as its files and its input are told.
 abbrev pub MayBeUnfit : Option Request → (List ℕ → Option (List ℕ)) → Type 0
 MayBeUnfit None held = ⊥
-MayBeUnfit (Some q) held = IfSome (origin_held held q.origin) (CannotBeDone q) ⊎ MayBeLarge q.input held
+MayBeUnfit (Some q) held = IfSome (origin_held held q.origin) (CannotBeDone q)
+    ⊎ (MayBeLarge q.input held ⊎ MayRefuseTrace q held)
 
 -- It has to be refused, by a file or an input that is told.
 abbrev pub IsUnfit : Option Request → (List ℕ → Option (List ℕ)) → Type 0
@@ -48,7 +51,8 @@ pub record HasCauses (request : Option Request) (held : List ℕ → Option (Lis
   pub usage : s ≡ status.Usage → request ≡ None
   -- a fault of the files was counted
   pub read_fault : s ≡ status.ReadFault → file_fault
-  -- the file or the input is too large, or the work cannot be done with the file, as far as they are told
+  -- the file or the input is too large, or the work cannot be done with the file, or the trace is refused, as far as
+  -- they are told
   pub refused : s ≡ status.Refused → MayBeUnfit request held
   -- a fault of the sink was counted
   pub write_fault : s ≡ status.WriteFault → sink_fault
@@ -80,10 +84,11 @@ abbrev pub EndsOrRefuses : Request → List ℕ → List ℕ → Status → List
 EndsOrRefuses q bytes input s report = ((CanBeDone q.work q.form bytes → ⊥) × (s ≡ status.Refused))
     ⊎ DoesWork q.work q.form q.unroll q.most q.show bytes input s report
 
--- behind the file the input is read
+-- behind the file the input is read, and of `verify` the trace's file
 abbrev pub MayAnswerBehind : Request → (List ℕ → Option (List ℕ)) → Type 0 → List ℕ → Status → List ℕ → Type 0
 MayAnswerBehind q held rose bytes s report = (loaded : Loaded) × IsInputRead q.input held rose loaded
-    × AfterReading loaded (λ input. EndsOrRefuses q bytes input s report) s report
+    × AfterReading loaded (λ input. EndsOrRefuses q bytes input s report
+    ⊎ IsTraceFault (held q.trace) rose q.work bytes input s report) s report
 
 -- Of the request (none where the words make none), of what names hold, and of whether the count of the files' faults
 -- rose, this may be the answer. Which report a refusal has is told by `IsAnswer`.

@@ -10,10 +10,11 @@ use Rattle.block_image.specs.Spelling.{ImageBytes}
 use Rattle.block_check.specs.Faults.{IsGood}
 use Rattle.target_asm_spec.specs.Text.{TargetText}
 use Rattle.trips_tools.specs.Tools.{IsOneImage, IsGoodImage}
+use Rattle.trips_trace_answers.specs.TraceAnswers.{IsRecording}
 use Rattle.trips_report.specs.declared.show.Show.{Show}
 use Rattle.trips_answers.specs.Work.{Work}
 use Rattle.trips_answers.specs.Work.{Run, Evaluate, Compile}
-use Rattle.trips_answers.specs.Work.{Assemble, Disassemble, Check, Explain}
+use Rattle.trips_answers.specs.Work.{Assemble, Disassemble, Check, Explain, Record, Verify}
 use Rattle.trips_requests.specs.declared.status.Status.{Status}
 use Rattle.trips_requests.specs.declared.status.Status.TheVariants as status
 use Rattle.trips_eval_answers.specs.Evaluation.{IsEvaluationOf}
@@ -21,6 +22,7 @@ use Rattle.trips_explain_answers.specs.Explained.{IsAcceptedTold}
 use Rattle.trips_answers.specs.declared.forms.FileForm.{FileForm}
 use Rattle.trips_answers.specs.declared.forms.FileForm.TheVariants as form
 use Rattle.trips_answers.specs.Report.{TellsRun}
+use Rattle.trips_answers.specs.Traced.{IsTraceVerified}
 
 -- the text is a program of C, as lexer, grammar and typing have it
 abbrev pub IsProgram : List ℕ → Type 0
@@ -34,7 +36,7 @@ IsImageIn form.Image bytes image = ImageBytes image bytes × All IsGood image.bl
 
 -- A tool makes this of the bytes of its file: `asm` the bytes of the text's image, `dis` the text of the image,
 -- `check` the report on an image of good blocks. Each is made of the bytes alone. What `explain` tells of an accepted
--- text begins with the name of the file.
+-- file begins with its name.
 abbrev pub Makes : Work → List ℕ → List ℕ → Type 0
 Makes Assemble text made = IsOneImage text made
 Makes Disassemble bytes made = IsOneImage made bytes
@@ -52,7 +54,9 @@ CanBeDone Compile how text = IsProgram text
 CanBeDone Assemble how text = (made : List ℕ) × Makes Assemble text made
 CanBeDone Disassemble how bytes = (made : List ℕ) × Makes Disassemble bytes made
 CanBeDone Check how bytes = (made : List ℕ) × Makes Check bytes made
-CanBeDone (Explain file) how text = IsProgram text
+CanBeDone (Explain file) how text = (made : List ℕ) × Makes (Explain file) text made
+CanBeDone Record how bytes = (image : Image) × IsImageIn form.Image bytes image
+CanBeDone Verify how bytes = (image : Image) × IsImageIn form.Image bytes image
 
 -- The bytes of an image are written that does what the text means, by blocks of at most so many turns of a loop, and
 -- each of whose blocks is good.
@@ -76,3 +80,6 @@ DoesWork Disassemble how unroll most show bytes input s report = Makes Disassemb
 DoesWork Check how unroll most show bytes input s report = Makes Check bytes report × (s ≡ status.Ended)
 DoesWork (Explain file) how unroll most show text input s report =
     Makes (Explain file) text report × (s ≡ status.Ended)
+DoesWork Record how unroll most show bytes input s report = IsRecording most bytes input s report
+DoesWork Verify how unroll most show bytes input s report =
+    (trace : List ℕ) × IsTraceVerified bytes input trace s report

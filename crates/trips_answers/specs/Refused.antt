@@ -7,11 +7,13 @@ use Rattle.block_check.specs.Images.{IsFirstBad}
 use Rattle.target_asm_spec.specs.Text.{TargetText}
 use Rattle.trips_answers.specs.Work.{Work}
 use Rattle.trips_answers.specs.Work.{Run, Evaluate, Compile}
-use Rattle.trips_answers.specs.Work.{Assemble, Disassemble, Check, Explain}
+use Rattle.trips_answers.specs.Work.{Assemble, Disassemble, Check, Explain, Record, Verify}
 use Rattle.trips_answers.specs.declared.forms.FileForm.{FileForm}
 use Rattle.trips_answers.specs.declared.forms.FileForm.TheVariants as form
 use Rattle.trips_answers.specs.Request.{Request, origin_held}
-use Rattle.trips_answers.specs.Read.{MayBeLarge, IsLarge}
+use Rattle.trips_answers.specs.Read.{HoldsInput, MayBeLarge, IsLarge}
+use Rattle.trips_answers.specs.Traced.{IsTraceRefused}
+use Rattle.trips_outside.specs.Outside.{Holds}
 use Rattle.trips_answers.specs.Asks.{limit_of}
 use Rattle.trips_report.specs.Refusals.{check_text}
 use Rattle.trips_eval_answers.specs.Evaluation.{IsRefusedByFront}
@@ -36,17 +38,31 @@ IsRefusedAs Assemble how text report = IsNoText text report
 IsRefusedAs Disassemble how bytes report = IsNoImage bytes report
 IsRefusedAs Check how bytes report = IsNoImage bytes report ⊎ IsBadImage bytes report
 IsRefusedAs (Explain file) how text report = IsRefusalTold file text report
+IsRefusedAs Record how bytes report = IsNoImage bytes report ⊎ IsBadImage bytes report
+IsRefusedAs Verify how bytes report = IsNoImage bytes report ⊎ IsBadImage bytes report
 
 -- the file has too many bytes, or they are refused
 abbrev pub IsBad : Request → List ℕ → Type 0
 IsBad q bytes = (limit_of q.form < length bytes)
     ⊎ ((report : List ℕ) × IsRefusedAs q.work q.form bytes report)
 
+-- the trace's file is refused, with an image and an input, all as far as they are told
+pub record MayRefuseTrace (q : Request) (held : List ℕ → Option (List ℕ)) : Type 0 where
+  pub is_work : q.work ≡ Verify
+  pub bytes : List ℕ
+  pub input : List ℕ
+  pub trace : List ℕ
+  pub text : List ℕ
+  pub holds : Holds (origin_held held q.origin) bytes
+  pub holds_input : HoldsInput q.input held input
+  pub holds_trace : Holds (held q.trace) trace
+  pub refused : IsTraceRefused bytes input trace text
+
 -- the request is refused only where this holds
 abbrev pub MayBeRefused : Option Request → (List ℕ → Option (List ℕ)) → Type 0
 MayBeRefused None held = ⊥
 MayBeRefused (Some q) held =
-    IfSome (origin_held held q.origin) (IsBad q) ⊎ MayBeLarge q.input held
+    IfSome (origin_held held q.origin) (IsBad q) ⊎ (MayBeLarge q.input held ⊎ MayRefuseTrace q held)
 
 -- and it is refused where this holds
 abbrev pub IsRefused : Option Request → (List ℕ → Option (List ℕ)) → Type 0

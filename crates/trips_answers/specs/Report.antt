@@ -14,8 +14,8 @@ use Rattle.grid_cycle_spec.specs.Costs.{cost_in, cost_of, greatest_cost}
 use Rattle.trips_report.specs.declared.show.Show.{Show}
 use Rattle.trips_report.specs.Runs as reports
 use Rattle.trips_report.specs.Runs.{plain_report}
+use Rattle.trips_trace_answers.specs.TraceAnswers as traces
 use Rattle.trips_requests.specs.declared.status.Status.{Status}
-use Rattle.trips_requests.specs.declared.status.Status.TheVariants as status
 use Rattle.trips_requests.specs.Texts.{IsFixed, output_and}
 
 -- how a run ended, of which so many steps were made as the budget has, or fewer: a trap leaves the
@@ -26,12 +26,9 @@ ending_of stepped.Ended next = ending.Ended
 ending_of stepped.StackFull next = ending.StackFull
 ending_of (stepped.Trap cause) next = ending.Trap next cause
 
--- the status that tells an ending
+-- the status that tells an ending, as it does behind a trace
 abbrev pub status_of : Ending → Status
-status_of ending.Ended = status.Ended
-status_of ending.StackFull = status.StackFull
-status_of ending.Budget = status.Budget
-status_of (ending.Trap block cause) = status.Trap
+status_of ended = traces.status_of ended
 
 -- the report of a run, from how it ended, the state at its end, what the grid counted and what the committed blocks
 -- may cost, and what is shown behind it

@@ -1,6 +1,6 @@
 -- Which request the words of a command line make: that of `trips_requests`, and what its file is read as.
 use Rattle.std.specs.Prelude.{ℕ, if◌then◌else◌, List, map, String, Option, None, Some, option_map}
-use Rattle.std.specs.Prelude.{codes, nat_eq, string_bytes}
+use Rattle.std.specs.Prelude.{[], codes, nat_eq, string_bytes, unwrap_or}
 use Rattle.std.specs.List.{ends_with}
 use Rattle.bench_text.specs.Text.{bench_text}
 use Rattle.grid_place.specs.declared.placed.Placing.{Placing}
@@ -42,13 +42,15 @@ pub record Request : Type 0 where
   pub origin : Origin
   pub form : FileForm
   pub input : Option (List ℕ)
+  -- the name of the trace's file, of `verify`
+  pub trace : List ℕ
   pub placing : Placing
   pub unroll : ℕ
   pub seed : ℕ
   pub most : ℕ
   pub show : Show
 
--- what `run` reads a file as, by the ending of its name
+-- what `run` and `explain` read a file as, by the ending of its name
 abbrev pub form_named : List ℕ → FileForm
 form_named file = if ends_with nat_eq file (codes ".img") then form.Image
     else if ends_with nat_eq file (codes ".tasl") then form.Target else form.Source
@@ -61,7 +63,9 @@ form_of command.Compile file = form.Source
 form_of command.Assemble file = form.Target
 form_of command.Disassemble file = form.Image
 form_of command.Check file = form.Image
-form_of command.Explain file = form.Source
+form_of command.Explain file = form_named file
+form_of command.Record file = form.Image
+form_of command.Verify file = form.Image
 
 -- the request that words ask for
 abbrev pub planned : line.Request → Request
@@ -70,6 +74,7 @@ planned r = record {
   origin = origin_of r.file r.functions;
   form = form_of r.command r.file;
   input = r.input;
+  trace = unwrap_or r.second [];
   placing = placing_of r.place;
   unroll = r.unroll;
   seed = r.seed;

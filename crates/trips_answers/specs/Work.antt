@@ -12,6 +12,8 @@ pub data Work : Type 0 where
   Disassemble : Work
   Check : Work
   Explain : (file : List ℕ) → Work
+  Record : Work
+  Verify : Work
 
 -- the work of a command with the file of this name
 abbrev pub work_on : Command → List ℕ → Work
@@ -22,3 +24,5 @@ work_on command.Assemble file = Assemble
 work_on command.Disassemble file = Disassemble
 work_on command.Check file = Check
 work_on command.Explain file = Explain file
+work_on command.Record file = Record
+work_on command.Verify file = Verify

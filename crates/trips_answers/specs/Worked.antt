@@ -1,5 +1,5 @@
 -- What is done with the bytes of a file: the status and the report.
-use Rattle.std.specs.Prelude.{◌≡◌, ◌⊎◌, ℕ, List, All}
+use Rattle.std.specs.Prelude.{◌≡◌, ◌⊎◌, ℕ, List, Option, All}
 use Rattle.trips_isa.specs.declared.block.Block.{Block}
 use Rattle.trips_isa.specs.declared.block.Image.{Image}
 use Rattle.trips_isa.specs.declared.run.Counts.{Counts}
@@ -12,9 +12,10 @@ use Rattle.block_image.specs.Spelling.{ImageBytes}
 use Rattle.block_check.specs.Faults.{IsGood}
 use Rattle.target_asm_spec.specs.Text.{TargetText}
 use Rattle.trips_tools.specs.Tools.{IsOneImage, IsGoodImage}
+use Rattle.trips_trace_answers.specs.TraceAnswers.{IsRecording, IsRefusedImage, IsVerified}
 use Rattle.trips_answers.specs.Work.{Work}
 use Rattle.trips_answers.specs.Work.{Run, Evaluate, Compile}
-use Rattle.trips_answers.specs.Work.{Assemble, Disassemble, Check, Explain}
+use Rattle.trips_answers.specs.Work.{Assemble, Disassemble, Check, Explain, Record, Verify}
 use Rattle.trips_answers.specs.declared.forms.FileForm.{FileForm}
 use Rattle.trips_answers.specs.declared.forms.FileForm.TheVariants as form
 use Rattle.trips_answers.specs.declared.forms.Settings.{Settings}
@@ -26,6 +27,7 @@ use Rattle.trips_explain_answers.specs.Explained.{IsAcceptedTold}
 use Rattle.trips_answers.specs.Report.{ending_of, shown_report, status_of}
 use Rattle.trips_answers.specs.Refused.{IsRefusedAs}
 use Rattle.trips_answers.specs.Counted.{IsCountedRun}
+use Rattle.trips_answers.specs.Traced.{IsTraceVerified}
 
 -- Runs ------------------------------------------------------------------------------------------
 
@@ -73,6 +75,8 @@ IsWorked Assemble how settings text input s report = IsOneImage text report × (
 IsWorked Disassemble how settings bytes input s report = IsOneImage report bytes × (s ≡ status.Ended)
 IsWorked Check how settings bytes input s report = IsGoodImage bytes report × (s ≡ status.Ended)
 IsWorked (Explain file) how settings text input s report = IsAcceptedTold file text report × (s ≡ status.Ended)
+IsWorked Record how settings bytes input s report = IsRecording settings.most bytes input s report
+IsWorked Verify how settings bytes input s report = (trace : List ℕ) × IsTraceVerified bytes input trace s report
 
 -- the bytes of the file are refused with the report that says why
 abbrev pub IsRefusal : Work → FileForm → List ℕ → Status → List ℕ → Type 0
@@ -83,3 +87,11 @@ IsRefusal work how bytes s report =
 abbrev pub IsDone : Work → FileForm → Settings → List ℕ → List ℕ → Status → List ℕ → Type 0
 IsDone work how settings bytes input s report =
     IsRefusal work how bytes s report ⊎ IsWorked work how settings bytes input s report
+
+-- That, and of `verify` what comes of the trace's file: of what its name holds, as far as that is told, and of
+-- whether the count of the files' faults rose.
+abbrev pub IsDoneBehind : Option (List ℕ) → Type 0 → Work → FileForm → Settings → List ℕ → List ℕ → Status
+    → List ℕ → Type 0
+IsDoneBehind told rose Verify how settings bytes input s report =
+    IsRefusedImage bytes s report ⊎ IsVerified bytes input told rose s report
+IsDoneBehind told rose work how settings bytes input s report = IsDone work how settings bytes input s report

@@ -7,7 +7,7 @@ ghost use Rattle.trips_answers.specs.Request.{form_of};
 ghost use Rattle.trips_answers.specs.Settings.{settings_of};
 ghost use Rattle.trips_answers.specs.inside.Settings.{request_seen};
 ghost use Rattle.trips_answers.specs.Asks.{limit_of};
-ghost use Rattle.trips_answers.specs.Worked.{IsDone};
+ghost use Rattle.trips_answers.specs.Worked.{IsDone, IsDoneBehind};
 ghost use Rattle.trips_answers.specs.Answer.{IsAnswerBehind, IsAnswer};
 ghost use Rattle.trips_requests.specs.Table.{AfterReading};
 
@@ -19,10 +19,11 @@ use base::Items;
 use c_tree::MOST_SOURCE_BYTES;
 use std::alloc::{AllocError, Global};
 use trips_eval_answers::text_evaluated;
-use trips_explain_answers::text_explained;
+use trips_explain_answers::file_explained;
 use trips_outside::Files;
 use trips_requests::{Answer, Asked, Command, Loaded, Tool, no_request, too_large, unread};
 use trips_tools::{MOST_IMAGE_BYTES, MOST_TARGET_BYTES, tool_done};
+use trips_trace_answers::{recorded, verified};
 
 // How many bytes a file may have, by what it is read as.
 #[tactic(auto, unfolding(c_tree::specs::Limits::most_source_bytes, trips_requests::specs::Limits::most_target_bytes, trips_requests::specs::Limits::most_image_bytes))]
@@ -57,8 +58,18 @@ fn run_done(
     }
 }
 
-// Does the work with the bytes of the file and of the input.
-fn done(
+// The name of the trace's file, of `verify`.
+fn trace_of<'a>(asked: Asked<'a>) -> &'a str
+    ensures { result.now ≡ (request_seen asked.entry).trace }
+{
+    match asked.second {
+        Some(name) => name,
+        None => "",
+    }
+}
+
+// Does the work with the bytes of the file and of the input, where no other file is read.
+fn work_done(
     alloc: Global,
     asked: Asked<'_>,
     bytes: &[u8],
@@ -82,13 +93,41 @@ fn done(
         Command::Assemble => tool_done(alloc, Tool::Assemble, bytes),
         Command::Disassemble => tool_done(alloc, Tool::Disassemble, bytes),
         Command::Check => tool_done(alloc, Tool::Check, bytes),
-        Command::Explain => text_explained(alloc, asked.file, bytes),
+        Command::Explain => file_explained(alloc, asked.file, bytes),
+        Command::Record => recorded(alloc, bytes, input, settings.most),
+        // done by the caller
+        Command::Verify => Err(AllocError),
+    }
+}
+
+// Does the work with the bytes of the file and of the input, and of a trace's file where one is judged.
+fn done<F: Files>(
+    alloc: Global,
+    files: &mut F,
+    asked: Asked<'_>,
+    bytes: &[u8],
+    input: Items<u8>,
+) -> Result<Answer, AllocError>
+    requires few { length bytes.now ≤ limit_of (form_of asked.command asked.file.now) }
+    requires some { 0 < asked.most }
+    requires turns { 0 < asked.unroll }
+    ensures answer { IfOk result (λ answer. IsDoneBehind (F.held files.old (request_seen asked.entry).trace)
+        (Rose (F.faults files.old) (F.faults files.new)) (work_on asked.entry.command asked.entry.file.now)
+        (form_of asked.entry.command asked.entry.file.now) (settings_of (request_seen asked.entry))
+        bytes.now input answer.status answer.report.items) }
+    ensures kept { F.held files.new ≡ F.held files.old }
+    ensures later { F.faults files.old ≤ F.faults files.new }
+{
+    match asked.command {
+        Command::Verify => verified(alloc, files, bytes, input, trace_of(asked)),
+        _ => work_done(alloc, asked, bytes, input),
     }
 }
 
 // What is answered once the input was read.
-fn input_answer(
+fn input_answer<F: Files>(
     alloc: Global,
+    files: &mut F,
     asked: Asked<'_>,
     bytes: &[u8],
     loaded: Loaded,
@@ -96,16 +135,19 @@ fn input_answer(
     requires few { length bytes.now ≤ limit_of (form_of asked.command asked.file.now) }
     requires some { 0 < asked.most }
     requires turns { 0 < asked.unroll }
-    ensures { IfOk result (λ answer. AfterReading loaded
-        (λ input. IsDone (work_on asked.entry.command asked.entry.file.now)
+    ensures answer { IfOk result (λ answer. AfterReading loaded
+        (λ input. IsDoneBehind (F.held files.old (request_seen asked.entry).trace)
+        (Rose (F.faults files.old) (F.faults files.new)) (work_on asked.entry.command asked.entry.file.now)
         (form_of asked.entry.command asked.entry.file.now) (settings_of (request_seen asked.entry))
         bytes.now input answer.status answer.report.items)
         answer.status answer.report.items) }
+    ensures kept { F.held files.new ≡ F.held files.old }
+    ensures later { F.faults files.old ≤ F.faults files.new }
 {
     match loaded {
         Loaded::Fault => unread(alloc),
         Loaded::TooLarge => too_large(alloc),
-        Loaded::Bytes(input) => done(alloc, asked, bytes, input),
+        Loaded::Bytes(input) => done(alloc, files, asked, bytes, input),
     }
 }
 
@@ -126,7 +168,7 @@ fn file_answer<F: Files>(
     ensures later { F.faults files.old ≤ F.faults files.new }
 {
     let loaded = read_input(alloc, files, asked.input)?;
-    input_answer(alloc, asked, bytes, loaded)
+    input_answer(alloc, files, asked, bytes, loaded)
 }
 
 // What is answered to a request.

@@ -32,7 +32,7 @@ pub struct Settings {
     pub show: Show,
 }
 
-// What `run` reads a file as, by the ending of its name.
+// What `run` and `explain` read a file as, by the ending of its name.
 fn form_named(file: &str) -> FileForm
     ensures { result ≡ form_named file.now }
 {
@@ -57,7 +57,9 @@ pub fn form_of(command: Command, file: &str) -> FileForm
         Command::Assemble => FileForm::Target,
         Command::Disassemble => FileForm::Image,
         Command::Check => FileForm::Image,
-        Command::Explain => FileForm::Source,
+        Command::Explain => form_named(file),
+        Command::Record => FileForm::Image,
+        Command::Verify => FileForm::Image,
     }
 }
 

@@ -14,21 +14,9 @@ use base::Items;
 use block_check::CheckedImage;
 use grid_cycle::{Ran, runs_of_a_seed_end};
 use std::alloc::{AllocError, Global};
-use trips_isa::Ending;
 use trips_report::Show;
-use trips_requests::{Answer, Status};
-
-// The status that tells an ending.
-fn status_for(ending: Ending) -> Status
-    ensures { result ≡ status_of ending }
-{
-    match ending {
-        Ending::Ended => Status::Ended,
-        Ending::StackFull => Status::StackFull,
-        Ending::Budget => Status::Budget,
-        Ending::Trap { .. } => Status::Trap,
-    }
-}
+use trips_requests::Answer;
+use trips_trace_answers::status_for;
 
 // The answer of a run that has ended.
 fn ended_answer(alloc: Global, ran: &Ran, show: Show) -> Result<Answer, AllocError>

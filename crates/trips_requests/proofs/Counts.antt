@@ -4,10 +4,12 @@ use Rattle.std.proofs.Common.{IfSome, Result, Ok, Err, IfOk, refl, sym, subst, a
 use Rattle.std.specs.Prelude.{◌&&◌}
 use Rattle.std.proofs.lemmas.Bool.Decides.{nat_tests}
 use Rattle.trips_requests.specs.declared.commands.Verb.{Verb}
+use Rattle.trips_requests.specs.declared.commands.Verb.TheVariants as verb
 use Rattle.trips_requests.specs.declared.commands.Asked.{Asked}
-use Rattle.trips_requests.specs.Limits.{most_count, most_turns, is_number, value_from, number_to}
+use Rattle.trips_requests.specs.Limits.{most_turns, is_number, value_from, number_to}
 use Rattle.trips_requests.specs.Words.{Text, file_name, value_said, words_read}
-use Rattle.trips_requests.specs.Options.{Options, is_c_name, options_of, options_said, places_of, takes_file}
+use Rattle.trips_requests.specs.Options.{Options, count_of, is_c_name, options_of, options_said, places_of}
+use Rattle.trips_requests.specs.Options.{second_said, takes_file}
 use Rattle.trips_requests.specs.Requests.{Request, verb_named, asked}
 use Rattle.trips_requests.specs.inside.Requests.{request_seen}
 use Rattle.trips_requests.specs.Requests.{functions_said, most_said, place_said, seed_said, unroll_said}
@@ -52,9 +54,13 @@ some_number most word =
     go false false true e = tt
     go false false false e = tt
 
-some_most : (word : Option Text) → IfSome (most_said word) (λ n. 0 < n)
-some_most None = omega arith
-some_most (Some word) = some_number most_count word
+some_default : (k : Verb) → 0 < (count_of k).1
+some_default verb.Record = omega arith
+some_default _ = omega arith
+
+some_most : (k : Verb) (word : Option Text) → IfSome (most_said k word) (λ n. 0 < n)
+some_most k None = some_default k
+some_most k (Some word) = some_number (count_of k).0 word
 
 turns_said : (file : Text) (word : Option Text) → IfSome (unroll_said file word) (λ n. 0 < n)
 turns_said file None = omega arith
@@ -64,20 +70,22 @@ turns_said file (Some word) = go (is_c_name file)
     go true = some_number most_turns word
     go false = tt
 
-some_file : (k : Verb) (name : Text) (options : Options) → IfSome (request_of_file k name options) HasSome
-some_file k name options =
+some_file : (k : Verb) (name : Text) (options : Options) (second : Option Text)
+    → IfSome (request_of_file k name options second) HasSome
+some_file k name options second =
     bind _ (functions_said k name) (λ functions.
-    bind_with _ (most_said options.number) (some_most options.number) (λ most some.
+    bind_with _ (most_said k options.number) (some_most k options.number) (λ most some.
     bind _ (place_said name options.place) (λ place.
     bind_with _ (unroll_said name options.unroll) (turns_said name options.unroll) (λ unroll turns.
-    last (request_counted k name options functions most place unroll) (seed_said options.seed)
+    last (request_counted k name options second functions most place unroll) (seed_said options.seed)
     (λ seed. (some, turns))))))
 
 some_taken : (k : Verb) (name : Text) (options : Options) → IfSome (request_taken k name options) HasSome
 some_taken k name options = go (takes_file k name)
   where
-    go : (b : Bool) → IfSome (cond b (request_of_file k name options) None) HasSome
-    go true = some_file k name options
+    go : (b : Bool) → IfSome (cond b (option_and_then (request_of_file k name options)
+        (second_said k options.second)) None) HasSome
+    go true = bind (request_of_file k name options) (second_said k options.second) (some_file k name options)
     go false = tt
 
 some_with : (k : Verb) (file : Option Text) (options : Options) → IfSome (request_with k file options) HasSome

@@ -8,6 +8,7 @@ abbrev plain : Request
 plain = record {
   command = command.Run;
   file = codes "a.c";
+  second = None;
   functions = None;
   input = None;
   most = 1000000;
@@ -73,23 +74,53 @@ pub no_image_is_unrolled : asked (codes "run" ∷ codes "b.img" ∷ codes "--unr
 unfolding verb_named
 no_image_is_unrolled = refl
 
--- C is explained, without options, and nothing else is
+-- a file is explained, without options: C, an image or a target text
 pub explained_is : asked (codes "explain" ∷ codes "a.c" ∷ [])
     ≡ Some (record plain { command = command.Explain })
 unfolding verb_named
 explained_is = refl
 
-pub no_image_is_explained : asked (codes "explain" ∷ codes "b.img" ∷ []) ≡ None
+pub image_is_explained : asked (codes "explain" ∷ codes "b.img" ∷ [])
+    ≡ Some (record plain { command = command.Explain; file = codes "b.img" })
 unfolding verb_named
-no_image_is_explained = refl
-
-pub no_target_is_explained : asked (codes "explain" ∷ codes "b.tasl" ∷ []) ≡ None
-unfolding verb_named
-no_target_is_explained = refl
+image_is_explained = refl
 
 pub explained_without_input : asked (codes "explain" ∷ codes "a.c" ∷ codes "--input=b" ∷ []) ≡ None
 unfolding verb_named
 explained_without_input = refl
+
+-- a run is recorded of an image, in at most 100,000 blocks
+pub recorded_is : asked (codes "record" ∷ codes "b.img" ∷ [])
+    ≡ Some (record plain { command = command.Record; file = codes "b.img"; most = 10000 })
+unfolding verb_named
+recorded_is = refl
+
+pub recorded_too_long : asked (codes "record" ∷ codes "b.img" ∷ codes "--blocks=100001" ∷ []) ≡ None
+unfolding verb_named
+recorded_too_long = refl
+
+pub no_text_is_recorded : asked (codes "record" ∷ codes "a.c" ∷ []) ≡ None
+unfolding verb_named
+no_text_is_recorded = refl
+
+-- the trace stands behind the image, and is wanted
+pub verified_is : asked (codes "verify" ∷ codes "b" ∷ codes "--input=t" ∷ codes "c" ∷ [])
+    ≡ Some (record plain {
+      command = command.Verify;
+      file = codes "b";
+      second = Some (codes "c");
+      input = Some (codes "t");
+    })
+unfolding verb_named
+verified_is = refl
+
+pub no_trace : asked (codes "verify" ∷ codes "b.img" ∷ []) ≡ None
+unfolding verb_named
+no_trace = refl
+
+pub two_traces : asked (codes "verify" ∷ codes "b.img" ∷ codes "--" ∷ codes "c" ∷ codes "d" ∷ []) ≡ None
+unfolding verb_named
+two_traces = refl
 
 -- the seed may be any word of the machine, and 0 where none is said
 pub seeded_is : asked (codes "bench" ∷ codes "3" ∷ codes "--cycles" ∷ codes "--seed"

@@ -24,6 +24,14 @@ most_turns = 8
 abbrev pub default_count : ℕ
 default_count = 1000000
 
+-- the blocks that a trace file may have
+abbrev pub most_recorded : ℕ
+most_recorded = 100000
+
+-- the blocks that are recorded where none are asked for
+abbrev pub default_recorded : ℕ
+default_recorded = 10000
+
 -- how many bytes an image may have
 unfoldable pub most_image_bytes : ℕ
 most_image_bytes = 71303188

@@ -1,10 +1,12 @@
 -- The options of each command, and what words say of them (README.md of this crate).
-use Rattle.std.specs.Prelude.{Bool, false, true, not, ◌&&◌, nat_eq, List, [], ◌∷◌, codes, Option, None, Some}
+use Rattle.std.specs.Prelude.{ℕ, Bool, false, true, not, ◌&&◌, List, [], ◌∷◌, codes, nat_eq, Option, None, Some}
+use Rattle.std.specs.Prelude.{option_map}
 use Rattle.std.specs.List.{ends_with}
 use Rattle.std.specs.Str.{bytes_eq}
 use Rattle.trips_requests.specs.declared.commands.Verb.{Verb}
 use Rattle.trips_requests.specs.declared.commands.Verb.TheVariants as verb
-use Rattle.trips_requests.specs.Words.{Text, Named, valued, flag, Said, file_name, value_said}
+use Rattle.trips_requests.specs.Limits.{default_count, default_recorded, most_count, most_recorded}
+use Rattle.trips_requests.specs.Words.{Text, Named, valued, flag, Said, file_name, second_name, value_said}
 
 -- the options of `run`
 abbrev pub run_options : List Named
@@ -24,35 +26,60 @@ eval_options = valued (codes "input") ∷ valued (codes "steps") ∷ []
 abbrev pub compile_options : List Named
 compile_options = valued (codes "place") ∷ valued (codes "unroll") ∷ []
 
+-- those of `record`
+abbrev pub record_options : List Named
+record_options = valued (codes "input") ∷ valued (codes "blocks") ∷ []
+
+-- that of `verify`
+abbrev pub verify_options : List Named
+verify_options = valued (codes "input") ∷ []
+
 -- the options of a command: one that is not named here has none
 abbrev pub options_of : Verb → List Named
 options_of verb.Run = run_options
 options_of verb.Bench = bench_options
 options_of verb.Evaluate = eval_options
 options_of verb.Compile = compile_options
+options_of verb.Record = record_options
+options_of verb.Verify = verify_options
 options_of other = []
 
--- the places of a command for words that stand alone: each has its file, or its number of functions
+-- the places of a command for words that stand alone: each has its file, or its number of functions, and `verify` has
+-- the trace's file behind it
 abbrev pub places_of : Verb → List Text
-places_of k = file_name ∷ []
+places_of verb.Verify = file_name ∷ second_name ∷ []
+places_of other = file_name ∷ []
 
 -- the option of a command that counts blocks or steps
 abbrev pub counted : Verb → Text
 counted verb.Run = codes "blocks"
 counted verb.Bench = codes "blocks"
+counted verb.Record = codes "blocks"
 counted other = codes "steps"
+
+-- how many blocks or steps a command may be asked for, and how many it takes without a number
+abbrev pub count_of : Verb → ℕ × ℕ
+count_of verb.Record = (most_recorded, default_recorded)
+count_of other = (most_count, default_count)
 
 -- the file is C, by the ending of its name
 abbrev pub is_c_name : Text → Bool
 is_c_name file = not (ends_with nat_eq file (codes ".img")) && not (ends_with nat_eq file (codes ".tasl"))
 
--- the name of the file is one that the command takes: C alone is explained
+-- the name of the file is one that the command takes: a run is recorded of an image alone
 abbrev pub takes_file : Verb → Text → Bool
-takes_file verb.Explain file = is_c_name file
+takes_file verb.Record file = ends_with nat_eq file (codes ".img")
 takes_file other file = true
 
--- What is said under the names of a command's options: each value if it is said, and whether a flag is.
+-- the second file, which `verify` has, and no other command
+abbrev pub second_said : Verb → Option Text → Option (Option Text)
+second_said verb.Verify word = option_map (λ name. Some name) word
+second_said other word = Some None
+
+-- What is said under the names of a command's options and of its second place: each value if it is said, and whether
+-- a flag is.
 pub record Options : Type 0 where
+  pub second : Option Text
   pub input : Option Text
   -- how many blocks a run may make, or how many steps an evaluation
   pub number : Option Text
@@ -72,6 +99,7 @@ is_on (Some value) = bytes_eq value (codes "true")
 -- what words say of a command's options
 abbrev pub options_said : Verb → Said → Options
 options_said k said = record {
+  second = value_said second_name said;
   input = value_said (codes "input") said;
   number = value_said (counted k) said;
   place = value_said (codes "place") said;

@@ -6,9 +6,10 @@ use Rattle.trips_requests.specs.declared.commands.Command.{Command}
 use Rattle.trips_requests.specs.declared.commands.Command.TheVariants as command
 use Rattle.trips_requests.specs.declared.commands.Verb.{Verb}
 use Rattle.trips_requests.specs.declared.commands.Verb.TheVariants as verb
-use Rattle.trips_requests.specs.Limits.{default_count, most_count, most_functions, most_seed, most_turns}
+use Rattle.trips_requests.specs.Limits.{most_functions, most_seed, most_turns}
 use Rattle.trips_requests.specs.Limits.{number_to, number_within}
-use Rattle.trips_requests.specs.Options.{Options, is_c_name, options_of, options_said, places_of, takes_file}
+use Rattle.trips_requests.specs.Options.{Options, count_of, is_c_name, options_of, options_said, places_of}
+use Rattle.trips_requests.specs.Options.{second_said, takes_file}
 use Rattle.trips_requests.specs.Words.{Text, Said, file_name, value_said, words_read}
 
 -- what a name stands for
@@ -21,7 +22,9 @@ verb_named name =
     else if bytes_eq name (codes "asm") then Some verb.Assemble
     else if bytes_eq name (codes "dis") then Some verb.Disassemble
     else if bytes_eq name (codes "check") then Some verb.Check
-    else if bytes_eq name (codes "explain") then Some verb.Explain else None
+    else if bytes_eq name (codes "explain") then Some verb.Explain
+    else if bytes_eq name (codes "record") then Some verb.Record
+    else if bytes_eq name (codes "verify") then Some verb.Verify else None
 
 -- what is done: the benchmark is run
 abbrev pub command_of : Verb → Command
@@ -33,14 +36,18 @@ command_of verb.Assemble = command.Assemble
 command_of verb.Disassemble = command.Disassemble
 command_of verb.Check = command.Check
 command_of verb.Explain = command.Explain
+command_of verb.Record = command.Record
+command_of verb.Verify = command.Verify
 
--- What is asked for: a command and its file, or how many functions the benchmark's text has that is run in place of
--- it, the name of the input if there is one, how many blocks or steps it may take, the number by which compiled
--- blocks are placed if one is said, how many turns of a loop one of these may hold, the seed of the grid, and whether
--- registers, trace and counts are shown.
+-- What is asked for: a command, its file and the second if it has one, or how many functions the benchmark's text has
+-- that is run in place of it, the name of the input if there is one, how many blocks or steps it may take, the number
+-- by which compiled blocks are placed if one is said, how many turns of a loop one of these may hold, the seed of the
+-- grid, and whether registers, trace and counts are shown.
 pub record Request : Type 0 where
   pub command : Command
   pub file : Text
+  -- the trace's file, of `verify` alone
+  pub second : Option Text
   -- how many functions the benchmark's text has; none where a file is read
   pub functions : Option ℕ
   pub input : Option Text
@@ -57,9 +64,9 @@ pub record Request : Type 0 where
   pub cycles : Bool
 
 -- how many blocks or steps the number says, and how many are taken without one
-abbrev pub most_said : Option Text → Option ℕ
-most_said None = Some default_count
-most_said (Some word) = number_to most_count word
+abbrev pub most_said : Verb → Option Text → Option ℕ
+most_said k None = Some (count_of k).1
+most_said k (Some word) = number_to (count_of k).0 word
 
 -- The number by which compiled blocks are placed, if one is said. It is said of C alone, and may be any word
 -- of the machine.
@@ -84,10 +91,11 @@ functions_said verb.Bench word = option_map (λ n. Some n) (number_to most_funct
 functions_said other word = Some None
 
 -- the request of a command, of its file or its number of functions, of its numbers and of its options
-abbrev pub request_counted : Verb → Text → Options → Option ℕ → ℕ → Option ℕ → ℕ → ℕ → Request
-request_counted k name options functions most place unroll seed = record {
+abbrev pub request_counted : Verb → Text → Options → Option Text → Option ℕ → ℕ → Option ℕ → ℕ → ℕ → Request
+request_counted k name options second functions most place unroll seed = record {
   command = command_of k;
   file = name;
+  second = second;
   functions = functions;
   input = options.input;
   most = most;
@@ -99,18 +107,20 @@ request_counted k name options functions most place unroll seed = record {
   cycles = options.cycles;
 }
 
--- the request of a command, of its file or its number of functions, and of its options: the numbers are in
+-- the request of a command, of its files or its number of functions, and of its options: the numbers are in
 -- their ranges
-abbrev pub request_of_file : Verb → Text → Options → Option Request
-request_of_file k name options =
+abbrev pub request_of_file : Verb → Text → Options → Option Text → Option Request
+request_of_file k name options second =
     option_and_then (λ functions. option_and_then (λ most. option_and_then (λ place. option_and_then (λ unroll.
-    option_map (request_counted k name options functions most place unroll) (seed_said options.seed))
-    (unroll_said name options.unroll)) (place_said name options.place)) (most_said options.number))
+    option_map (request_counted k name options second functions most place unroll) (seed_said options.seed))
+    (unroll_said name options.unroll)) (place_said name options.place)) (most_said k options.number))
     (functions_said k name)
 
--- the request of a command, of its file, which it takes, and of its options
+-- the request of a command, of its file, which it takes, of the second, and of its options
 abbrev pub request_taken : Verb → Text → Options → Option Request
-request_taken k name options = if takes_file k name then request_of_file k name options else None
+request_taken k name options =
+    if takes_file k name then option_and_then (request_of_file k name options) (second_said k options.second)
+    else None
 
 -- the request of a command, of its file, which it has, and of its options
 abbrev pub request_with : Verb → Option Text → Options → Option Request

@@ -32,6 +32,10 @@ Said = List (Text × Text)
 abbrev pub file_name : Text
 file_name = codes "FILE"
 
+-- the name of a second word that stands alone, as of a second file
+abbrev pub second_name : Text
+second_name = codes "SECOND"
+
 -- something is said under this name
 abbrev pub is_said : Text → Said → Bool
 is_said name said = list_any (λ s. bytes_eq s.0 name) said

@@ -1,7 +1,7 @@
 //! The request of a command, of its file and of what was found of its options.
 
 ghost use Rattle.std.specs.Prelude.{◌≡◌, option_map, option_copied};
-ghost use Rattle.trips_requests.specs.Options.{counted, is_c_name, is_on, takes_file};
+ghost use Rattle.trips_requests.specs.Options.{count_of, counted, is_c_name, is_on, second_said, takes_file};
 ghost use Rattle.trips_requests.specs.inside.Options.{options_seen};
 ghost use Rattle.trips_requests.specs.Requests.{verb_named, command_of, most_said};
 ghost use Rattle.trips_requests.specs.Requests.{functions_said, place_said, seed_said, unroll_said};
@@ -9,13 +9,15 @@ ghost use Rattle.trips_requests.specs.Requests.{request_of_file, request_taken, 
 ghost use Rattle.trips_requests.specs.inside.Requests.{request_seen};
 
 use crate::commands::{
-    Asked, Command, DEFAULT_COUNT, MOST_COUNT, MOST_FUNCTIONS, MOST_SEED, MOST_TURNS, Verb,
+    Asked, Command, DEFAULT_COUNT, DEFAULT_RECORDED, MOST_COUNT, MOST_FUNCTIONS, MOST_RECORDED,
+    MOST_SEED, MOST_TURNS, Verb,
 };
 use crate::number::{number, number_within};
 
-/// What was found of a command's options: each value if it is said, and whether a flag is.
+/// What was found of a command's options and of its second place: each value if it is said, and whether a flag is.
 #[derive(Clone, Copy)]
 pub struct FoundOptions<'a> {
+    pub second: Option<&'a str>,
     pub input: Option<&'a str>,
     /// how many blocks or steps
     pub number: Option<&'a str>,
@@ -49,6 +51,10 @@ pub fn verb_named(name: &str) -> Option<Verb>
         Some(Verb::Check)
     } else if name == "explain" {
         Some(Verb::Explain)
+    } else if name == "record" {
+        Some(Verb::Record)
+    } else if name == "verify" {
+        Some(Verb::Verify)
     } else {
         None
     }
@@ -67,6 +73,8 @@ fn command_of(verb: Verb) -> Command
         Verb::Disassemble => Command::Disassemble,
         Verb::Check => Command::Check,
         Verb::Explain => Command::Explain,
+        Verb::Record => Command::Record,
+        Verb::Verify => Command::Verify,
     }
 }
 
@@ -77,6 +85,7 @@ pub fn counted(command: Verb) -> &'static str
     match command {
         Verb::Run => "blocks",
         Verb::Bench => "blocks",
+        Verb::Record => "blocks",
         _ => "steps",
     }
 }
@@ -93,13 +102,35 @@ fn functions_said(command: Verb, word: &str) -> Option<Option<u32>>
     }
 }
 
-// How many blocks or steps a number says, and how many are taken without one.
-fn most_said(word: Option<&str>) -> Option<u32>
-    ensures { result ≡ most_said (option_copied word.entry) }
+// How many blocks or steps a command may be asked for, and how many it takes without a number.
+fn count_of(command: Verb) -> (u32, u32)
+    ensures most { result.0 ≡ (count_of command).0 }
+    ensures default { result.1 ≡ (count_of command).1 }
 {
+    match command {
+        Verb::Record => (MOST_RECORDED, DEFAULT_RECORDED),
+        _ => (MOST_COUNT, DEFAULT_COUNT),
+    }
+}
+
+// How many blocks or steps a number says, and how many are taken without one.
+fn most_said(command: Verb, word: Option<&str>) -> Option<u32>
+    ensures { result ≡ most_said command (option_copied word.entry) }
+{
+    let (most, default) = count_of(command);
     match word {
-        None => Some(DEFAULT_COUNT),
-        Some(word) => number(word.as_bytes(), MOST_COUNT),
+        None => Some(default),
+        Some(word) => number(word.as_bytes(), most),
+    }
+}
+
+// The second file, which one command has, and no other.
+fn second_said<'a>(command: Verb, word: Option<&'a str>) -> Option<Option<&'a str>>
+    ensures { option_map (λ second. option_copied second) result ≡ second_said command (option_copied word.entry) }
+{
+    match command {
+        Verb::Verify => Some(Some(word?)),
+        _ => Some(None),
     }
 }
 
@@ -126,7 +157,7 @@ fn takes_file(command: Verb, file: &str) -> bool
     ensures { result ≡ takes_file command file.now }
 {
     match command {
-        Verb::Explain => is_c_name(file),
+        Verb::Record => file.as_bytes().ends_with(b".img"),
         _ => true,
     }
 }
@@ -173,19 +204,25 @@ fn seed_said(word: Option<&str>) -> Option<u64>
     }
 }
 
-// The request of a command, of its file or its number of functions, and of its options.
-fn request_of_file<'a>(command: Verb, file: &'a str, options: FoundOptions<'a>) -> Option<Asked<'a>>
+// The request of a command, of its files or its number of functions, and of its options.
+fn request_of_file<'a>(
+    command: Verb,
+    file: &'a str,
+    options: FoundOptions<'a>,
+    second: Option<&'a str>,
+) -> Option<Asked<'a>>
     ensures { option_map request_seen result
-        ≡ request_of_file command file.now (options_seen options.entry) }
+        ≡ request_of_file command file.now (options_seen options.entry) (option_copied second.entry) }
 {
     let functions = functions_said(command, file)?;
-    let most = most_said(options.number)?;
+    let most = most_said(command, options.number)?;
     let place = place_said(file, options.place)?;
     let unroll = unroll_said(file, options.unroll)?;
     let seed = seed_said(options.seed)?;
     Some(Asked {
         command: command_of(command),
         file,
+        second,
         functions,
         input: options.input,
         most,
@@ -198,7 +235,7 @@ fn request_of_file<'a>(command: Verb, file: &'a str, options: FoundOptions<'a>) 
     })
 }
 
-// The request of a command, of its file, which it takes, and of its options.
+// The request of a command, of its file, which it takes, of the second, and of its options.
 fn request_taken<'a>(command: Verb, file: &'a str, options: FoundOptions<'a>) -> Option<Asked<'a>>
     ensures { option_map request_seen result
         ≡ request_taken command file.now (options_seen options.entry) }
@@ -206,7 +243,8 @@ fn request_taken<'a>(command: Verb, file: &'a str, options: FoundOptions<'a>) ->
     if !takes_file(command, file) {
         return None;
     }
-    request_of_file(command, file, options)
+    let second = second_said(command, options.second)?;
+    request_of_file(command, file, options, second)
 }
 
 /// The request of a command, of its file and of its options.

@@ -13,6 +13,8 @@ pub enum Command {
     Disassemble,
     Check,
     Explain,
+    Record,
+    Verify,
 }
 
 /// What the first word of a command line names. The benchmark is a run of a text that is made.
@@ -26,6 +28,8 @@ pub enum Verb {
     Disassemble,
     Check,
     Explain,
+    Record,
+    Verify,
 }
 
 /// What is done with a file that holds no C.
@@ -51,6 +55,12 @@ pub const MOST_TURNS: u32 = 8;
 /// How many blocks or steps are taken where none are asked for.
 pub const DEFAULT_COUNT: u32 = 1_000_000;
 
+/// The most blocks that a trace file may have.
+pub const MOST_RECORDED: u32 = 100_000;
+
+/// How many blocks are recorded where none are asked for.
+pub const DEFAULT_RECORDED: u32 = 10_000;
+
 /// The limits of the code are those of the definitions. It does nothing when it runs.
 pub fn constants_are_the_definitions()
     ensures functions { MOST_FUNCTIONS ≡ limits.most_functions }
@@ -58,6 +68,8 @@ pub fn constants_are_the_definitions()
     ensures seed { MOST_SEED ≡ limits.most_seed }
     ensures turns { MOST_TURNS ≡ limits.most_turns }
     ensures default { DEFAULT_COUNT ≡ limits.default_count }
+    ensures recorded { MOST_RECORDED ≡ limits.most_recorded }
+    ensures default_recorded { DEFAULT_RECORDED ≡ limits.default_recorded }
 {}
 
 /// A request.
@@ -65,6 +77,8 @@ pub fn constants_are_the_definitions()
 pub struct Asked<'a> {
     pub command: Command,
     pub file: &'a str,
+    /// the trace's file, of `verify` alone
+    pub second: Option<&'a str>,
     /// how many functions the text of the benchmark has, where that is run in place of a file
     pub functions: Option<u32>,
     /// the name of the input, if it has one

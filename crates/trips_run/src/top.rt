@@ -8,10 +8,11 @@ ghost use Rattle.c_compile.specs.Meant.{DoesText};
 ghost use Rattle.trips_outside.specs.Outside.{Appended, Rose, Undisturbed};
 ghost use Rattle.trips_report.specs.declared.show.Show.{Show};
 ghost use Rattle.trips_answers.specs.Work.{Work};
-ghost use Rattle.trips_answers.specs.Work.{Run, Evaluate, Compile};
+ghost use Rattle.trips_answers.specs.Work.{Run, Evaluate, Compile, Record, Verify};
 ghost use Rattle.trips_requests.specs.Table.{IsOneOf, IsWritten, Reports, Wrote};
 ghost use Rattle.trips_requests.specs.Texts.{too_large_text};
 ghost use Rattle.trips_eval_answers.specs.Evaluation.{eval_status, outcome_of, eval_report};
+ghost use Rattle.trips_trace_answers.specs.TraceAnswers.{IsVerdict, TellsTrace};
 ghost use Rattle.trips_answers.specs.declared.forms.FileForm.{FileForm};
 ghost use Rattle.trips_answers.specs.declared.forms.FileForm.TheVariants as form;
 ghost use Rattle.trips_answers.specs.Request.{Request, request_of};
@@ -87,6 +88,22 @@ pub fn trips_run<F: Files, K: Sink>(
         → IsServed (request_of words.now) (F.held files.old) work how most show bytes input
         (F.faults files.old) (F.faults files.new) (K.faults sink.old) (K.faults sink.new) result
         → Makes work bytes made → Reports result (K.written sink.old) (K.written sink.new) Status.Ended made }
+
+    // What `record` writes of an image of good blocks is the longest trace of the machine's run within so many
+    // blocks, and nothing else; the status tells how that run ends.
+    ensures recorded { (how : FileForm) (most : ℕ) (show : Show) (bytes input : List ℕ) (image : Image)
+        → IsServed (request_of words.now) (F.held files.old) Record how most show bytes input
+        (F.faults files.old) (F.faults files.new) (K.faults sink.old) (K.faults sink.new) result
+        → IsImageIn form.Image bytes image
+        → Wrote (K.written sink.old) (K.written sink.new) (TellsTrace image input most result) }
+
+    // `verify` writes `verified B blocks` exactly where the trace's file holds the trace of the machine's run for B
+    // blocks, at most 100,000, and else the refusal with its first fault.
+    ensures verified { (how : FileForm) (most : ℕ) (show : Show) (bytes input trace : List ℕ) (image : Image)
+        → (call : IsServed (request_of words.now) (F.held files.old) Verify how most show bytes input
+        (F.faults files.old) (F.faults files.new) (K.faults sink.old) (K.faults sink.new) result)
+        → F.held files.old call.asks.q.trace ≡ Some trace → IsImageIn form.Image bytes image
+        → Wrote (K.written sink.old) (K.written sink.new) (IsVerdict image input trace result) }
 
     // A file or an input with too many bytes is refused with the one report on these.
     ensures too_large { (q : Request) → request_of words.now ≡ Some q → IsTooLarge q (F.held files.old)

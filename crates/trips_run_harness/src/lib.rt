@@ -31,19 +31,31 @@ pub fn files_of(
     Ok(named)
 }
 
+/// What the words are answered, and what is written, where the files are these and are read in pieces of so many bytes.
+pub fn answer_read_in_pieces(
+    alloc: Global,
+    texts: &[&str],
+    held: &[(&str, &[u8])],
+    piece: usize,
+) -> Result<(Status, Vec<u8>), AllocError>
+    requires { 0 < piece }
+{
+    let words = words_of(alloc, texts)?;
+    let mut files = MemFiles::make(files_of(alloc, held)?, piece, Vec::new(alloc));
+    let Ok(mut sink) = HonestSink::make(alloc, 65_536) else {
+        return Err(AllocError);
+    };
+    let status = trips_run(alloc, &words, &mut files, &mut sink);
+    Ok((status, Vec::from_slice(alloc, sink.written())?))
+}
+
 /// What the words are answered, and what is written, where the files are these.
 pub fn answer_of(
     alloc: Global,
     texts: &[&str],
     held: &[(&str, &[u8])],
 ) -> Result<(Status, Vec<u8>), AllocError> {
-    let words = words_of(alloc, texts)?;
-    let mut files = MemFiles::make(files_of(alloc, held)?, 65_536, Vec::new(alloc));
-    let Ok(mut sink) = HonestSink::make(alloc, 65_536) else {
-        return Err(AllocError);
-    };
-    let status = trips_run(alloc, &words, &mut files, &mut sink);
-    Ok((status, Vec::from_slice(alloc, sink.written())?))
+    answer_read_in_pieces(alloc, texts, held, 65_536)
 }
 
 /// How many bytes one call gives or takes at most, and which call fails, counted from 1 (0: none).

@@ -12,8 +12,12 @@ mod machine_tests;
 #[cfg(test)]
 mod placed_tests;
 #[cfg(test)]
+mod record_tests;
+#[cfg(test)]
 mod shown_trap_tests;
 #[cfg(test)]
 mod tool_tests;
 #[cfg(test)]
 mod trap_tests;
+#[cfg(test)]
+mod verify_tests;

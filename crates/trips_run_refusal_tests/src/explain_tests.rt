@@ -1,4 +1,4 @@
-//! `explain` on texts of C: what is told of an accepted text, and of one that each stage refuses.
+//! `explain` on files: what is told of an accepted text, of one that each stage refuses, and of an image.
 use std::alloc::{AllocError, Global};
 use std::process::Abort;
 use std::test::Fail;
@@ -70,12 +70,23 @@ fn explains_under_the_name_of_the_file(rt: HostRuntime) -> Result<(), Fail> {
 }
 
 #[test]
-fn explains_c_that_is_there(rt: HostRuntime) -> Result<(), Fail> {
+fn explains_what_a_file_is_by_its_name(rt: HostRuntime) -> Result<(), Fail> {
     let alloc = rt.alloc();
-    let (status, told) = answer_of(alloc, &["explain", "b.img"], &[])?;
-    assert_eq!(rt; status, Status::Usage);
-    assert_eq!(rt; told.as_slice(), b"usage\n".as_slice());
-    let (status, told) = answer_of(alloc, &["explain", "none.c"], &[])?;
+    let held = [("b.img", b"TRIPS".as_slice()), ("b.c", b"TRIPS".as_slice())];
+    let (status, told) = answer_of(alloc, &["explain", "b.img"], &held)?;
+    assert_eq!(rt; status, Status::Refused);
+    assert_eq!(rt;
+        told.as_slice(),
+        b"b.img: byte 5: image Truncated: the file ends here, and a field or a chunk is not whole\n".as_slice()
+    );
+    let (status, _) = answer_of(alloc, &["explain", "b.c"], &held)?;
+    assert_eq!(rt; status, Status::Refused);
+    Ok(())
+}
+
+#[test]
+fn explains_a_file_that_is_there(rt: HostRuntime) -> Result<(), Fail> {
+    let (status, told) = answer_of(rt.alloc(), &["explain", "none.c"], &[])?;
     assert_eq!(rt; status, Status::ReadFault);
     assert_eq!(rt; told.as_slice(), b"read fault\n".as_slice());
     Ok(())

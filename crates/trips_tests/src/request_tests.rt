@@ -96,6 +96,25 @@ const ASKED: &[Row] = &[
         },
     ),
     (
+        &["record", "b.img", "--blocks", "100000"],
+        Asked {
+            command: Command::Record,
+            file: "b.img",
+            most: 100_000,
+            ..PLAIN
+        },
+    ),
+    (
+        &["verify", "b", "--input", "t", "--", "--c"],
+        Asked {
+            command: Command::Verify,
+            file: "b",
+            second: Some("--c"),
+            input: Some("t"),
+            ..PLAIN
+        },
+    ),
+    (
         &["run", "a.c", "--unroll", "8"],
         Asked { unroll: 8, ..PLAIN },
     ),
@@ -154,6 +173,14 @@ const ASKED: &[Row] = &[
         &["explain", "a.c"],
         Asked {
             command: Command::Explain,
+            ..PLAIN
+        },
+    ),
+    (
+        &["explain", "b.img"],
+        Asked {
+            command: Command::Explain,
+            file: "b.img",
             ..PLAIN
         },
     ),

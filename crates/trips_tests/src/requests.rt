@@ -9,6 +9,7 @@ use trips_words::request;
 pub const PLAIN: Asked<'static> = Asked {
     command: Command::Run,
     file: "a.c",
+    second: None,
     functions: None,
     input: None,
     most: 1_000_000,
@@ -42,6 +43,7 @@ pub fn assert_asked(
         .expect(rt, "a request");
     assert!(rt; asked.command == wanted.command, "{texts:?}");
     assert!(rt; asked.file == wanted.file, "{texts:?}");
+    assert!(rt; asked.second == wanted.second, "{texts:?}");
     assert!(rt; asked.functions == wanted.functions, "{texts:?}");
     assert!(rt; asked.input == wanted.input, "{texts:?}");
     assert!(rt; asked.most == wanted.most, "{texts:?}");

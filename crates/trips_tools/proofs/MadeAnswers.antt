@@ -35,7 +35,7 @@ disassembled_told bytes (tool.Refused said) (Ok a) h told =
     inl (refusal_report said, (h.0, h.1, ap refusal_report h.2), told)
 
 -- the refusal of bytes that are no image of good blocks
-not_good : (bytes : List ℕ) (said : Said) → tools.IsNoImage bytes said ⊎ tools.IsBadImage bytes said
+pub not_good : (bytes : List ℕ) (said : Said) → tools.IsNoImage bytes said ⊎ tools.IsBadImage bytes said
     → IsNoImage bytes (refusal_report said) ⊎ IsBadImage bytes (refusal_report said)
 not_good bytes said (inl x) = inl (x.0, x.1, ap refusal_report x.2)
 not_good bytes said (inr x) = inr (x.0, x.1, x.2, x.3, x.4, ap refusal_report x.5)

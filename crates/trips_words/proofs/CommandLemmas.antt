@@ -11,8 +11,9 @@ use Rattle.clap.specs.declared.builder.command.Command.{Command as ClapCommand}
 use Rattle.clap.specs.declared.builder.command.Command.TheViews.{out-Command}
 use Rattle.trips_requests.specs.declared.commands.Verb.{Verb}
 use Rattle.trips_requests.specs.declared.commands.Verb.TheVariants as verb
-use Rattle.trips_requests.specs.Words.{Text, Named, Said, file_name, value_said}
+use Rattle.trips_requests.specs.Words.{Text, Named, Said, file_name, second_name, value_said}
 use Rattle.trips_requests.specs.Options.{run_options, bench_options, eval_options, compile_options}
+use Rattle.trips_requests.specs.Options.{record_options, verify_options}
 use Rattle.trips_requests.specs.Options.{options_of, places_of, counted, is_on, Options}
 use Rattle.trips_requests.specs.Requests.{Request, verb_named, request_of, request_by, asked}
 use Rattle.trips_words.specs.inside.Read.{IsRead, is_flag, or_off, FindsSaid, Tells}
@@ -49,6 +50,25 @@ compile_read = record {
   has = (record { by_index = refl; by_id = refl; no_option = refl; others = tt; follows = refl }, refl);
 }
 
+-- the command `record` is read as its words say
+pub record_read : IsRead (codes "record") record_options (file_name ∷ [])
+record_read = record {
+  builds = refl;
+  simple = refl;
+  has = (record { by_index = refl; by_id = refl; no_option = refl; others = tt; follows = refl }, refl);
+}
+
+-- the command `verify` is read as its words say
+pub verify_read : IsRead (codes "verify") verify_options (file_name ∷ second_name ∷ [])
+verify_read = record {
+  builds = refl;
+  simple = refl;
+  has = (
+    record { by_index = refl; by_id = refl; no_option = refl; others = (refl, tt); follows = refl },
+    (record { by_index = refl; by_id = refl; no_option = refl; others = tt; follows = refl }, refl),
+  );
+}
+
 -- the command without options is read as its words say
 pub plain_read : IsRead (codes "trips") [] (file_name ∷ [])
 plain_read = record {
@@ -67,86 +87,57 @@ pub is_helpless : (old new : ClapCommand)
     → app_of new ≡ helpless (app_of old)
 is_helpless old new e = ap app_of_fields e
 
--- what holds without options and with a file as the one place holds of the commands beside `run`, `bench`, `eval` and
--- `compile`
+-- what holds without options and with a file as the one place holds of the commands that have no case of their own
 pub of_plain : (P : List Named → List Text → Type 0) (k : Verb) → (k ≡ verb.Run → ⊥) → (k ≡ verb.Bench → ⊥)
-    → (k ≡ verb.Evaluate → ⊥) → (k ≡ verb.Compile → ⊥) → P [] (file_name ∷ []) → P (options_of k) (places_of k)
-of_plain P verb.Run r b e c h = absurd (r refl)
-of_plain P verb.Bench r b e c h = absurd (b refl)
-of_plain P verb.Evaluate r b e c h = absurd (e refl)
-of_plain P verb.Compile r b e c h = absurd (c refl)
-of_plain P verb.Assemble r b e c h = h
-of_plain P verb.Disassemble r b e c h = h
-of_plain P verb.Check r b e c h = h
-of_plain P verb.Explain r b e c h = h
+    → (k ≡ verb.Evaluate → ⊥) → (k ≡ verb.Compile → ⊥) → (k ≡ verb.Record → ⊥) → (k ≡ verb.Verify → ⊥)
+    → P [] (file_name ∷ []) → P (options_of k) (places_of k)
+of_plain P verb.Run r b e c d v h = absurd (r refl)
+of_plain P verb.Bench r b e c d v h = absurd (b refl)
+of_plain P verb.Evaluate r b e c d v h = absurd (e refl)
+of_plain P verb.Compile r b e c d v h = absurd (c refl)
+of_plain P verb.Record r b e c d v h = absurd (d refl)
+of_plain P verb.Verify r b e c d v h = absurd (v refl)
+of_plain P verb.Assemble r b e c d v h = h
+of_plain P verb.Disassemble r b e c d v h = h
+of_plain P verb.Check r b e c d v h = h
+of_plain P verb.Explain r b e c d v h = h
 
 -- requests ----------------------------------------------------------------------------------------
 
--- neither the file nor the input nor a number is a flag
+-- the file is no flag of a command
 pub no_flag_file : (k : Verb) → is_flag file_name (options_of k) ≡ false
 no_flag_file verb.Run = refl
-no_flag_file verb.Bench = refl
-no_flag_file verb.Evaluate = refl
-no_flag_file verb.Compile = refl
-no_flag_file verb.Assemble = refl
-no_flag_file verb.Disassemble = refl
-no_flag_file verb.Check = refl
-no_flag_file verb.Explain = refl
+no_flag_file _ = refl
+
+-- the second place is no flag of a command
+pub no_flag_second : (k : Verb) → is_flag second_name (options_of k) ≡ false
+no_flag_second verb.Run = refl
+no_flag_second _ = refl
 
 -- the input is no flag of a command
 pub no_flag_input : (k : Verb) → is_flag (codes "input") (options_of k) ≡ false
 no_flag_input verb.Run = refl
-no_flag_input verb.Bench = refl
-no_flag_input verb.Evaluate = refl
-no_flag_input verb.Compile = refl
-no_flag_input verb.Assemble = refl
-no_flag_input verb.Disassemble = refl
-no_flag_input verb.Check = refl
-no_flag_input verb.Explain = refl
+no_flag_input _ = refl
 
 -- the count of a command is no flag
 pub no_flag_count : (k : Verb) → is_flag (counted k) (options_of k) ≡ false
 no_flag_count verb.Run = refl
-no_flag_count verb.Bench = refl
-no_flag_count verb.Evaluate = refl
-no_flag_count verb.Compile = refl
-no_flag_count verb.Assemble = refl
-no_flag_count verb.Disassemble = refl
-no_flag_count verb.Check = refl
-no_flag_count verb.Explain = refl
+no_flag_count _ = refl
 
 -- the placing is no flag of a command
 pub no_flag_place : (k : Verb) → is_flag (codes "place") (options_of k) ≡ false
 no_flag_place verb.Run = refl
-no_flag_place verb.Bench = refl
-no_flag_place verb.Evaluate = refl
-no_flag_place verb.Compile = refl
-no_flag_place verb.Assemble = refl
-no_flag_place verb.Disassemble = refl
-no_flag_place verb.Check = refl
-no_flag_place verb.Explain = refl
+no_flag_place _ = refl
 
 -- the turns of a loop are no flag of a command
 pub no_flag_unroll : (k : Verb) → is_flag (codes "unroll") (options_of k) ≡ false
 no_flag_unroll verb.Run = refl
-no_flag_unroll verb.Bench = refl
-no_flag_unroll verb.Evaluate = refl
-no_flag_unroll verb.Compile = refl
-no_flag_unroll verb.Assemble = refl
-no_flag_unroll verb.Disassemble = refl
-no_flag_unroll verb.Check = refl
-no_flag_unroll verb.Explain = refl
+no_flag_unroll _ = refl
 
 -- the seed is no flag of a command
 pub no_flag_seed : (k : Verb) → is_flag (codes "seed") (options_of k) ≡ false
 no_flag_seed verb.Run = refl
-no_flag_seed verb.Bench = refl
-no_flag_seed verb.Evaluate = refl
-no_flag_seed verb.Compile = refl
-no_flag_seed verb.Assemble = refl
-no_flag_seed verb.Disassemble = refl
-no_flag_seed verb.Check = refl
-no_flag_seed verb.Explain = refl
+no_flag_seed _ = refl
 
 -- what is found under the name of no flag is what is said
 pub found_said : (options : List Named) (said : Said) (m : ArgMatches) (name : Text)
@@ -165,9 +156,10 @@ pub found_on : (options : List Named) (said : Said) (m : ArgMatches) (name : Tex
 found_on options said m name f = ap is_on (f name) ∙ on_is (is_flag name options) (value_said name said)
 
 -- options by their parts
-abbrev pub options_by : Option Text → Option Text → Option Text → Option Text → Option Text → Bool → Bool → Bool
-    → Options
-options_by input number place unroll seed regs trace cycles = record {
+abbrev pub options_by : Option Text → Option Text → Option Text → Option Text → Option Text → Option Text → Bool
+    → Bool → Bool → Options
+options_by second input number place unroll seed regs trace cycles = record {
+  second = second;
   input = input;
   number = number;
   place = place;
@@ -179,21 +171,22 @@ options_by input number place unroll seed regs trace cycles = record {
 }
 
 -- options that are the same part by part
-pub same_options : (input input' number number' place place' unroll unroll' seed seed' : Option Text)
-    (regs regs' trace trace' cycles cycles' : Bool) → input ≡ input' → number ≡ number' → place ≡ place'
-    → unroll ≡ unroll' → seed ≡ seed' → regs ≡ regs' → trace ≡ trace' → cycles ≡ cycles'
-    → options_by input number place unroll seed regs trace cycles
-    ≡ options_by input' number' place' unroll' seed' regs' trace' cycles'
-same_options input input' number number' place place' unroll unroll' seed seed' regs regs' trace trace' cycles
-    cycles' a b c d e f g h =
-    ap (λ (x : Option Text). options_by x number place unroll seed regs trace cycles) a
-    ∙ ap (λ (x : Option Text). options_by input' x place unroll seed regs trace cycles) b
-    ∙ ap (λ (x : Option Text). options_by input' number' x unroll seed regs trace cycles) c
-    ∙ ap (λ (x : Option Text). options_by input' number' place' x seed regs trace cycles) d
-    ∙ ap (λ (x : Option Text). options_by input' number' place' unroll' x regs trace cycles) e
-    ∙ ap (λ (x : Bool). options_by input' number' place' unroll' seed' x trace cycles) f
-    ∙ ap (λ (x : Bool). options_by input' number' place' unroll' seed' regs' x cycles) g
-    ∙ ap (λ (x : Bool). options_by input' number' place' unroll' seed' regs' trace' x) h
+pub same_options : (second second' input input' number number' place place' unroll unroll' seed seed' : Option Text)
+    (regs regs' trace trace' cycles cycles' : Bool) → second ≡ second' → input ≡ input' → number ≡ number'
+    → place ≡ place' → unroll ≡ unroll' → seed ≡ seed' → regs ≡ regs' → trace ≡ trace' → cycles ≡ cycles'
+    → options_by second input number place unroll seed regs trace cycles
+    ≡ options_by second' input' number' place' unroll' seed' regs' trace' cycles'
+same_options second second' input input' number number' place place' unroll unroll' seed seed' regs regs' trace
+    trace' cycles cycles' a b c d e f g h i =
+    ap (λ (x : Option Text). options_by x input number place unroll seed regs trace cycles) a
+    ∙ ap (λ (x : Option Text). options_by second' x number place unroll seed regs trace cycles) b
+    ∙ ap (λ (x : Option Text). options_by second' input' x place unroll seed regs trace cycles) c
+    ∙ ap (λ (x : Option Text). options_by second' input' number' x unroll seed regs trace cycles) d
+    ∙ ap (λ (x : Option Text). options_by second' input' number' place' x seed regs trace cycles) e
+    ∙ ap (λ (x : Option Text). options_by second' input' number' place' unroll' x regs trace cycles) f
+    ∙ ap (λ (x : Bool). options_by second' input' number' place' unroll' seed' x trace cycles) g
+    ∙ ap (λ (x : Bool). options_by second' input' number' place' unroll' seed' regs' x cycles) h
+    ∙ ap (λ (x : Bool). options_by second' input' number' place' unroll' seed' regs' trace' x) i
 
 -- where something was found, words say something, and else they say nothing
 pub told_some : (k : Verb) (said : Option Said) (m : ArgMatches) (r : Option Request)

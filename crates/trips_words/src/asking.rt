@@ -21,6 +21,7 @@ fn options_found<'a>(command: Verb, matches: &ArgMatches<'a>) -> FoundOptions<'a
         → options_seen result ≡ options_said command said }
 {
     FoundOptions {
+        second: matches.get_str("SECOND"),
         input: matches.get_str("input"),
         number: matches.get_str(counted(command)),
         place: matches.get_str("place"),

@@ -3,9 +3,9 @@
 ghost use Rattle.std.specs.Prelude.{◌≡◌, ◌≢◌, List, [], ◌∷◌, IfOk, None, false, codes, drop, map, string_bytes};
 ghost use Rattle.clap.specs.Words.{rule_of, app_of, kind_of};
 ghost use Rattle.clap.specs.declared.error.kind.ErrorKind.TheVariants.{OutOfMemory};
-ghost use Rattle.trips_requests.specs.Words.{Text, Named, file_name, words_read, valued, flag};
+ghost use Rattle.trips_requests.specs.Words.{Text, Named, file_name, second_name, words_read, valued, flag};
 ghost use Rattle.trips_requests.specs.Options.{options_of, places_of, run_options, bench_options, eval_options};
-ghost use Rattle.trips_requests.specs.Options.{compile_options};
+ghost use Rattle.trips_requests.specs.Options.{compile_options, record_options, verify_options};
 ghost use Rattle.trips_words.specs.inside.Read.{raw_rule, raw_app, IsRead, Tells};
 
 use base::Memory;
@@ -16,6 +16,9 @@ use trips_requests::Verb;
 
 // The name under which the file stands.
 const FILE: &str = "FILE";
+
+// The name under which a second file stands.
+const SECOND: &str = "SECOND";
 
 // An option to which a value belongs.
 fn valued<'a>(alloc: Global, name: &'a str) -> Arg<'a>
@@ -86,6 +89,29 @@ fn compile_command<'a>(alloc: Global) -> Result<clap::Command<'a>, AllocError>
         .arg(Arg::new(alloc, FILE))
 }
 
+// `record`, its options and its file.
+fn record_command<'a>(alloc: Global) -> Result<clap::Command<'a>, AllocError>
+    ensures { IfOk result (λ command. app_of command ≡ raw_app (codes "record") record_options (file_name ∷ [])) }
+{
+    clap::Command::new(alloc, "record")
+        .disable_help_flag(true)
+        .arg(valued(alloc, "input"))?
+        .arg(valued(alloc, "blocks"))?
+        .arg(Arg::new(alloc, FILE))
+}
+
+// `verify`, its option and its two files.
+fn verify_command<'a>(alloc: Global) -> Result<clap::Command<'a>, AllocError>
+    ensures { IfOk result (λ command. app_of command
+        ≡ raw_app (codes "verify") verify_options (file_name ∷ second_name ∷ [])) }
+{
+    clap::Command::new(alloc, "verify")
+        .disable_help_flag(true)
+        .arg(valued(alloc, "input"))?
+        .arg(Arg::new(alloc, FILE))?
+        .arg(Arg::new(alloc, SECOND))
+}
+
 // A command that has a file and no option.
 fn plain_command<'a>(alloc: Global) -> Result<clap::Command<'a>, AllocError>
     ensures { IfOk result (λ command. app_of command ≡ raw_app (codes "trips") [] (file_name ∷ [])) }
@@ -139,6 +165,8 @@ pub fn read<'a>(
         Verb::Bench => matched(bench_command(alloc)?, words),
         Verb::Evaluate => matched(eval_command(alloc)?, words),
         Verb::Compile => matched(compile_command(alloc)?, words),
+        Verb::Record => matched(record_command(alloc)?, words),
+        Verb::Verify => matched(verify_command(alloc)?, words),
         _ => matched(plain_command(alloc)?, words),
     }
 }

@@ -1,6 +1,6 @@
 -- What the parts of a verifier are seen as, and what stands of them, for the code.
 use Rattle.std.specs.Prelude.{◌≡◌, ℕ, ◌<◌, ◌≤◌, List, [], ◌∷◌, length, drop, Option, Some, None, slice_get}
-use Rattle.std.specs.Prelude.{slice_index_or}
+use Rattle.std.specs.Prelude.{slice_index_or, take}
 use Rattle.trips_isa.specs.declared.block.Inst.{Inst}
 use Rattle.trips_isa.specs.declared.block.Block.{Block}
 use Rattle.trips_isa.specs.declared.run.Stepped.TheVariants.{Went}
@@ -8,7 +8,7 @@ use Rattle.block_atomic.specs.Told.{TellsNext}
 use Rattle.trace_verify.specs.declared.parts.Parts.{Parts}
 use Rattle.trace_verify.specs.declared.parts.Stage.{Stage}
 use Rattle.trace_verify.specs.declared.parts.Stage.TheVariants as stage
-use Rattle.trace_verify.specs.Spelling.{Listed, listed_from}
+use Rattle.trace_verify.specs.Spelling.{Listed, listed_from, slot_bytes}
 use Rattle.trace_verify.specs.FirstFault.{IsShort}
 use Rattle.trace_verify.specs.Reading.{Place, Front, Number, Exit, Records, Whole, Stopped, Progress, Reading}
 
@@ -77,3 +77,14 @@ pub record IsRunning (p : Parts) : Type 0 where
 pub record IsHeld (p : Parts) : Type 0 where
   pub runs : IsRunning p
   pub stands : StandsAt p p.stage
+
+-- none of the record of this slot, which is wanted, has come, and the bytes begin with it, which has this size
+pub record IsAhead (p : Parts) (slot size : ℕ) (ahead : List ℕ) : Type 0 where
+  pub at_slot : p.stage ≡ stage.Slot slot
+  pub low : slot < 128
+  pub none : p.seen.items ≡ []
+  pub some : 0 < size
+  pub few : size ≤ 9
+  pub long : size ≤ length ahead
+  pub bytes : take size ahead ≡ slot_bytes (slice_index_or (slots_of p) slot None) (slice_index_or p.marks slot 0)
+      (slice_index_or p.tokens slot None)

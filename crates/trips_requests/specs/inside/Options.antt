@@ -7,6 +7,7 @@ use Rattle.trips_requests.specs.Options.{Options}
 -- options of the code
 abbrev pub options_seen : FoundOptions → Options
 options_seen options = record {
+  second = option_copied options.second;
   input = option_copied options.input;
   number = option_copied options.number;
   place = option_copied options.place;

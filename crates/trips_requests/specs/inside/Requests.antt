@@ -10,6 +10,7 @@ abbrev pub request_seen : Asked → Request
 request_seen asked = record {
   command = asked.command;
   file = asked.file.now;
+  second = option_copied asked.second;
   functions = asked.functions;
   input = option_copied asked.input;
   most = asked.most;

@@ -1,72 +1,11 @@
-use Rattle.std.proofs.Common.{◌≤◌, ◌<◌, length, sym, ap, subst, arith}
-use Rattle.trips_requests.specs.declared.commands.Tool.TheVariants.{Assemble, Disassemble, Check}
-use Rattle.trips_answers.specs.declared.forms.FileForm.{FileForm}
-use Rattle.trips_answers.specs.Asks.{limit_of}
-use Rattle.trips_answers.specs.Request.{form_of}
-use Rattle.trips_answers.specs.declared.forms.Settings.{Settings}
-use Rattle.trips_answers.proofs.Told.{evaluate_told, few_bytes, run_form_told, compile_told, tool_told}
-use Rattle.trips_answers.proofs.Told.{explain_told, work_is}
+use Rattle.std.proofs.Common.{ap}
+use Rattle.trips_answers.proofs.Told.{not_verify, other_told, verified_told, work_is}
 use Rattle.trips_answers.proofs.asked_answer.done.Goals as goal
 
-pub text_evaluated-requires : goal.text_evaluated-requires
-text_evaluated-requires c =
-    let few = few_bytes (form_of c.args.asked.command c.args.asked.file.now) in
-    omega (arith, few, c.requires.few)
+pub returns-in-Verify-clause-answer : goal.returns-in-Verify-clause-answer
+returns-in-Verify-clause-answer g c = verified_told _ _ _ _ _ _ _ _ _ (work_is c.args.asked.file.now c.in-Verify.is)
+    (ap (g.F.Files.held c.args.files.now) c.trace_of.ensures) c.verified.ensures.answer
 
-pub text_explained-requires : goal.text_explained-requires
-text_explained-requires c =
-    let few = few_bytes (form_of c.args.asked.command c.args.asked.file.now) in
-    omega (arith, few, c.requires.few)
-
-pub text_compiled-requires-clause-few : goal.text_compiled-requires-clause-few
-text_compiled-requires-clause-few c =
-    let few = few_bytes (form_of c.args.asked.command c.args.asked.file.now) in
-    omega (arith, few, c.requires.few)
-
-pub run_done-requires-clause-few : goal.run_done-requires-clause-few
-run_done-requires-clause-few c =
-    subst (λ (f : FileForm). length c.args.bytes.now ≤ limit_of f) (sym c.form_of-form.ensures) c.requires.few
-
-pub run_done-requires-clause-some : goal.run_done-requires-clause-some
-run_done-requires-clause-some c = subst (λ (t : Settings). 0 < t.most) (sym c.settings_for-settings.ensures)
-    c.requires.some
-
--- of each loop some turn is done
-pub run_done-requires-clause-turns : goal.run_done-requires-clause-turns
-run_done-requires-clause-turns c = subst (λ (t : Settings). 0 < t.unroll) (sym c.settings_for-settings.ensures)
-    c.requires.turns
-
-pub text_compiled-requires-clause-turns : goal.text_compiled-requires-clause-turns
-text_compiled-requires-clause-turns c = subst (λ (t : Settings). 0 < t.unroll) (sym c.settings_for-settings.ensures)
-    c.requires.turns
-
-pub returns-in-Run : goal.returns-in-Run
-returns-in-Run c = run_form_told _ _ _ _ _ _ _ _ (work_is c.args.asked.file.now c.in-Run.is) c.form_of-form.ensures
-    c.settings_for-settings.ensures c.run_done.ensures
-
-pub returns-in-Evaluate : goal.returns-in-Evaluate
-returns-in-Evaluate c =
-    evaluate_told _ _ _ _ _ _ _ _ (work_is c.args.asked.file.now c.in-Evaluate.is)
-    (sym (ap (λ (t : Settings). t.most) c.settings_for-settings.ensures)) c.as_slice.ensures.value
-    c.text_evaluated.ensures
-
-pub returns-in-Compile : goal.returns-in-Compile
-returns-in-Compile c = compile_told _ _ _ _ _ _ _ _ (work_is c.args.asked.file.now c.in-Compile.is)
-    (sym (ap (λ (t : Settings). t.placing) c.settings_for-settings.ensures))
-    (sym (ap (λ (t : Settings). t.unroll) c.settings_for-settings.ensures)) c.text_compiled.ensures
-
-pub returns-in-Assemble : goal.returns-in-Assemble
-returns-in-Assemble c = tool_told _ Assemble _ _ _ _ _ (work_is c.args.asked.file.now c.in-Assemble.is)
-    c.tool_done.ensures
-
-pub returns-in-Disassemble : goal.returns-in-Disassemble
-returns-in-Disassemble c = tool_told _ Disassemble _ _ _ _ _ (work_is c.args.asked.file.now c.in-Disassemble.is)
-    c.tool_done-in-Disassemble.ensures
-
-pub returns-in-Check : goal.returns-in-Check
-returns-in-Check c = tool_told _ Check _ _ _ _ _ (work_is c.args.asked.file.now c.in-Check.is)
-    c.tool_done-in-Check.ensures
-
-pub returns-in-Explain : goal.returns-in-Explain
-returns-in-Explain c = explain_told _ _ _ _ _ _ _ (work_is c.args.asked.file.now c.in-Explain.is)
-    c.text_explained.ensures
+pub returns-in_default-clause-answer : goal.returns-in_default-clause-answer
+returns-in_default-clause-answer g c = other_told _ _ _ _ _ _ _ _
+    (not_verify c.args.asked.command c.args.asked.file.now c.in_default.not-Verify) c.work_done.ensures

@@ -40,6 +40,17 @@ returns-clause-made g c =
     λ work how most show bytes input made call is. promises.made _ _ _ _ _ _ _ c.answer_words.ensures.answered
     work how most show bytes input made call.asks is call.undisturbed.read call.undisturbed.written call.memory
 
+pub returns-clause-recorded : goal.returns-clause-recorded
+returns-clause-recorded g c =
+    λ how most show bytes input image call is. promises.recorded _ _ _ _ _ _ _ c.answer_words.ensures.answered
+    how most show bytes input image call.asks is call.undisturbed.read call.undisturbed.written call.memory
+
+pub returns-clause-verified : goal.returns-clause-verified
+returns-clause-verified g c =
+    λ how most show bytes input trace image call told is. promises.verified _ _ _ _ _ _ _
+    c.answer_words.ensures.answered how most show bytes input trace image call.asks told is
+    call.undisturbed.read call.undisturbed.written call.memory
+
 pub returns-clause-too_large : goal.returns-clause-too_large
 returns-clause-too_large g c =
     λ q is large undisturbed some. promises.too_large _ _ _ _ _ _ _ c.answer_words.ensures.answered q is large

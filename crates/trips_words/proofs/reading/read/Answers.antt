@@ -4,9 +4,10 @@ use Rattle.trips_requests.specs.declared.commands.Verb.{Verb}
 use Rattle.trips_requests.specs.declared.commands.Verb.TheVariants as verb
 use Rattle.trips_requests.specs.Words.{Text, Named, words_read}
 use Rattle.trips_requests.specs.Options.{run_options, bench_options, eval_options, compile_options}
-use Rattle.trips_requests.specs.Options.{options_of, places_of}
+use Rattle.trips_requests.specs.Options.{record_options, verify_options, options_of, places_of}
 use Rattle.trips_words.specs.inside.Read.{Tells}
 use Rattle.trips_words.proofs.CommandLemmas.{run_read, bench_read, eval_read, compile_read, plain_read, of_plain}
+use Rattle.trips_words.proofs.CommandLemmas.{record_read, verify_read}
 use Rattle.trips_words.proofs.reading.read.Goals as goal
 
 pub returns-in_ok-run_command-in-Run : goal.returns-in_ok-run_command-in-Run
@@ -41,10 +42,27 @@ returns-in_ok-compile_command-in-Compile c =
     (c.matched-in-Compile.ensures (codes "compile") compile_options (places_of verb.Compile) compile_read
     c.in_ok-compile_command-in-Compile.ensures)
 
+pub returns-in_ok-record_command-in-Record : goal.returns-in_ok-record_command-in-Record
+returns-in_ok-record_command-in-Record c =
+    let words : List Text = drop 1 (map (λ word. string_bytes word) c.args.words.now) in
+    subst (λ (k : Verb). IfOk c.matched-in-Record.result
+    (Tells (options_of k) (words_read (options_of k) (places_of k) None [] words))) (sym c.in-Record.is)
+    (c.matched-in-Record.ensures (codes "record") record_options (places_of verb.Record) record_read
+    c.in_ok-record_command-in-Record.ensures)
+
+pub returns-in_ok-verify_command-in-Verify : goal.returns-in_ok-verify_command-in-Verify
+returns-in_ok-verify_command-in-Verify c =
+    let words : List Text = drop 1 (map (λ word. string_bytes word) c.args.words.now) in
+    subst (λ (k : Verb). IfOk c.matched-in-Verify.result
+    (Tells (options_of k) (words_read (options_of k) (places_of k) None [] words))) (sym c.in-Verify.is)
+    (c.matched-in-Verify.ensures (codes "verify") verify_options (places_of verb.Verify) verify_read
+    c.in_ok-verify_command-in-Verify.ensures)
+
 pub returns-in_ok-plain_command-in_default : goal.returns-in_ok-plain_command-in_default
 returns-in_ok-plain_command-in_default c =
     let words : List Text = drop 1 (map (λ word. string_bytes word) c.args.words.now) in
     of_plain (λ o p. IfOk c.matched-in_default.result (Tells o (words_read o p None [] words))) c.args.command
     c.in_default.not-Run c.in_default.not-Bench c.in_default.not-Evaluate c.in_default.not-Compile
+    c.in_default.not-Record c.in_default.not-Verify
     (c.matched-in_default.ensures (codes "trips") [] (places_of verb.Check) plain_read
     c.in_ok-plain_command-in_default.ensures)

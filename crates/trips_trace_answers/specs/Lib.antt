@@ -1,0 +1,3 @@
+pub mod TraceReports
+pub mod TraceAnswers
+pub mod inside
