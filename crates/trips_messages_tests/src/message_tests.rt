@@ -1,6 +1,6 @@
 //! Each program of the rows is refused, and its message begins with the line of its row.
 
-use crate::rows::ROWS;
+use crate::rows::{MORE_ROWS, ROWS};
 use c_front::{Refusal, front};
 use c_lex::{LexFault, lex, line_of};
 use c_parse::ParseFault;
@@ -103,6 +103,14 @@ fn assert_row(rt: &impl Abort, alloc: Global, text: &str, want: &str) -> Result<
 #[test]
 fn tells_each_program(rt: HostRuntime) -> Result<(), Fail> {
     for (text, want) in ROWS {
+        assert_row(&rt, rt.alloc(), text, want)?;
+    }
+    Ok(())
+}
+
+#[test]
+fn tells_each_other_program(rt: HostRuntime) -> Result<(), Fail> {
+    for (text, want) in MORE_ROWS {
         assert_row(&rt, rt.alloc(), text, want)?;
     }
     Ok(())

@@ -177,6 +177,10 @@ pub const ROWS: &[Row] = &[
         "a.c:1:22: parse Syntax: ':' does not stand here: labels for goto are left out, and case stands in the \
             braces of a switch alone",
     ),
+];
+
+// The others: a test of all at once is too large for one check.
+pub const MORE_ROWS: &[Row] = &[
     (
         "int main(void) { int a[3] = {1, 2, 3}; return a[0]; }\n",
         "a.c:1:27: parse Syntax: '=' does not stand here: set what is no global or local variable behind its \
