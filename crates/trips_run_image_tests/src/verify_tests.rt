@@ -98,11 +98,12 @@ fn assert_row(
     requires { 0 < piece }
 {
     let (change, wanted, report) = row;
+    let image = Vec::from_slice(alloc, image)?;
     let trace = changed(alloc, change)?;
     let (status, written) = answer_read_in_pieces(
         alloc,
         &["verify", "b.img", "t"],
-        &[("b.img", image), ("t", trace.as_slice())],
+        &[("b.img", image.as_slice()), ("t", trace.as_slice())],
         piece,
     )?;
     assert!(rt; status == *wanted, "{report} {piece}");
@@ -160,10 +161,11 @@ fn assert_verified(
     wanted: &str,
 ) -> Result<(), AllocError> {
     let image = image_of_text(rt, alloc, text.as_bytes())?;
+    let trace = Vec::from_slice(alloc, trace)?;
     let (_, written) = answer_of(
         alloc,
         &["verify", "b.img", "t"],
-        &[("b.img", image.as_slice()), ("t", trace)],
+        &[("b.img", image.as_slice()), ("t", trace.as_slice())],
     )?;
     assert!(rt; written.as_slice() == wanted.as_bytes(), "{wanted}");
     Ok(())
