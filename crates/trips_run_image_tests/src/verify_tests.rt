@@ -88,6 +88,23 @@ fn changed(alloc: Global, change: &Change) -> Result<Vec<u8>, AllocError> {
     Ok(trace)
 }
 
+// What `verify` answers of a trace, which is read by so many bytes at a time.
+fn answer_to<'a>(
+    alloc: Global,
+    image: &'a [u8],
+    trace: &'a [u8],
+    piece: usize,
+) -> Result<(Status, Vec<u8>), AllocError>
+    requires { 0 < piece }
+{
+    answer_read_in_pieces(
+        alloc,
+        &["verify", "b.img", "t"],
+        &[("b.img", image), ("t", trace)],
+        piece,
+    )
+}
+
 fn assert_row(
     rt: &impl Abort,
     alloc: Global,
@@ -98,14 +115,8 @@ fn assert_row(
     requires { 0 < piece }
 {
     let (change, wanted, report) = row;
-    let image = Vec::from_slice(alloc, image)?;
     let trace = changed(alloc, change)?;
-    let (status, written) = answer_read_in_pieces(
-        alloc,
-        &["verify", "b.img", "t"],
-        &[("b.img", image.as_slice()), ("t", trace.as_slice())],
-        piece,
-    )?;
+    let (status, written) = answer_to(alloc, image, trace.as_slice(), piece)?;
     assert!(rt; status == *wanted, "{report} {piece}");
     assert!(rt; written.as_slice() == report.as_bytes(), "{report} {piece}");
     Ok(())
@@ -161,12 +172,7 @@ fn assert_verified(
     wanted: &str,
 ) -> Result<(), AllocError> {
     let image = image_of_text(rt, alloc, text.as_bytes())?;
-    let trace = Vec::from_slice(alloc, trace)?;
-    let (_, written) = answer_of(
-        alloc,
-        &["verify", "b.img", "t"],
-        &[("b.img", image.as_slice()), ("t", trace.as_slice())],
-    )?;
+    let (_, written) = answer_to(alloc, image.as_slice(), trace, 65_536)?;
     assert!(rt; written.as_slice() == wanted.as_bytes(), "{wanted}");
     Ok(())
 }
