@@ -100,8 +100,8 @@ fn slot_arrives<V: Windows, W>(grid: &mut Grid<V, W>, frame: u8, place: u16, ins
     }
 }
 
-// A parcel has arrived in a place of a frame; nothing happens where the frame is not in flight any more.
-fn place_arrives<V: Windows, W>(grid: &mut Grid<V, W>, frame: u8, place: u16)
+/// A parcel has arrived in a place of a frame; nothing happens where the frame is not in flight any more.
+pub fn place_arrives<V: Windows, W>(grid: &mut Grid<V, W>, frame: u8, place: u16)
     requires frame { frame < 8 }
     requires place { place < 320 }
     requires room { grid.old.state.counts.flushed + 8 < 2 ^ 64 }

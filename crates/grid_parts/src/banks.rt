@@ -10,8 +10,8 @@ use crate::sending::enter_both;
 use crate::windows::Windows;
 
 impl<V: Windows, W> Grid<V, W> {
-    // A bank answers a read of a frame, and its tokens enter the mesh.
-    fn answer_read(&mut self, bank: u8, frame: u8, read: u8)
+    /// A bank answers a read of a frame, and its tokens enter the mesh.
+    pub fn answer_read(&mut self, bank: u8, frame: u8, read: u8)
         requires bank { bank < 4 }
         requires frame { frame < 8 }
         requires read { read < 32 }
@@ -31,8 +31,8 @@ impl<V: Windows, W> Grid<V, W> {
         );
     }
 
-    // A bank answers its eldest answerable read; each answerable one is marked.
-    fn bank_turn(&mut self, bank: u8, marks: &ReadMarks)
+    /// A bank answers its eldest answerable read; each answerable one is marked.
+    pub fn bank_turn(&mut self, bank: u8, marks: &ReadMarks)
         requires bank { bank < 4 }
         requires marked { ReadsMarked (V.blocks self.old.window) (V.budget self.old.window)
             (V.held self.old.window) marks.now.words }

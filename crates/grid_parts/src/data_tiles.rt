@@ -102,8 +102,8 @@ impl<V: Windows, W> Grid<V, W> {
         }
     }
 
-    // The answer to what waits with a number in a frame, where anything does.
-    fn answer(&mut self, tile: u8, frame: u8, number: u8)
+    /// The answer to what waits with a number in a frame, where anything does.
+    pub fn answer(&mut self, tile: u8, frame: u8, number: u8)
         requires tile { tile < 4 }
         requires frame { frame < 8 }
         requires number { number < 32 }
@@ -127,8 +127,8 @@ impl<V: Windows, W> Grid<V, W> {
         }
     }
 
-    // A data tile answers its eldest answerable request.
-    fn data_turn(&mut self, tile: u8)
+    /// A data tile answers its eldest answerable request.
+    pub fn data_turn(&mut self, tile: u8)
         requires tile { tile < 4 }
         requires room { self.old.state.counts.flushed + 8 < 2 ^ 64 }
         ensures change { seen (V.held self.new.window) self.new.state

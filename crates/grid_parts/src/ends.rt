@@ -13,8 +13,8 @@ use crate::windows::Windows;
 use trips_isa::Stepped;
 
 impl<V: Windows, W> Grid<V, W> {
-    // A frame with all outputs is sealed, and loses what is still under way.
-    fn seal_one(&mut self, frame: u8)
+    /// A frame with all outputs is sealed, and loses what is still under way.
+    pub fn seal_one(&mut self, frame: u8)
         requires { frame < 8 }
         ensures change { seen (V.held self.new.window) self.new.state
             ≡ spec.seal_one (V.blocks self.old.window) (V.budget self.old.window) frame
@@ -120,8 +120,8 @@ impl<V: Windows, W> Grid<V, W> {
         }
     }
 
-    // A sealed oldest frame is committed.
-    fn commit_oldest(&mut self)
+    /// A sealed oldest frame is committed. It wants room in the counts as part (1) does.
+    pub fn commit_oldest(&mut self)
         requires committed { self.old.state.counts.committed + 1 < 2 ^ 64 }
         requires flushed { self.old.state.counts.flushed + 8 < 2 ^ 64 }
         ensures change { seen (V.held self.new.window) self.new.state

@@ -65,6 +65,14 @@ impl FetchUnit {
         }
     }
 
+    /// The block that is fetched.
+    pub fn block(&self) -> Option<u32>
+        ensures some { (f : Fetching) → self.now ≡ Some f → result ≡ Some f.block }
+        ensures none { self.now ≡ None → result ≡ None }
+    {
+        if self.busy { Some(self.block) } else { None }
+    }
+
     /// The history that stands when the fetch has begun.
     pub fn history(&self) -> u16
         ensures value { (f : Fetching) → self.now ≡ Some f → result ≡ f.history }

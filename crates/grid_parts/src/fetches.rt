@@ -39,8 +39,8 @@ impl<V: Windows, W> Grid<V, W> {
         }
     }
 
-    // What is being fetched goes on.
-    fn fetch_goes_on(&mut self)
+    /// What is being fetched goes on.
+    pub fn fetch_goes_on(&mut self)
         requires { self.old.state.counts.fetched + 1 < 2 ^ 64 }
         ensures change { seen (V.held self.new.window) self.new.state
             ≡ spec.fetch_ends (V.blocks self.old.window) (V.budget self.old.window) self.old.state.fetching
@@ -126,8 +126,8 @@ impl<V: Windows, W> Grid<V, W> {
         }
     }
 
-    // An idle fetch unit begins a fetch.
-    fn fetch_begins(&mut self)
+    /// An idle fetch unit begins a fetch.
+    pub fn fetch_begins(&mut self)
         ensures change { seen (V.held self.new.window) self.new.state
             ≡ spec.begins (V.blocks self.old.window) (seen (V.held self.old.window) self.old.state) }
         ensures same { self.new.window ≡ self.old.window }

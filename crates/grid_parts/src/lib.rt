@@ -35,7 +35,7 @@ mod state;
 mod units;
 mod windows;
 
-pub use arriving::arrivals;
+pub use arriving::{arrivals, place_arrives};
 pub use fetch_unit::FetchUnit;
 pub use frame_flags::FrameFlags;
 pub use grid::Grid;

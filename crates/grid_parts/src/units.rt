@@ -157,8 +157,8 @@ impl<V: Windows, W> Grid<V, W> {
         }
     }
 
-    // The result that was in a unit enters the mesh; none where its frame is there no longer.
-    fn gives(&mut self, tile: u8)
+    /// The result that was in a unit enters the mesh; none where its frame is there no longer.
+    pub fn gives(&mut self, tile: u8)
         requires { tile < 16 }
         ensures change { seen (V.held self.new.window) self.new.state
             ≡ spec.result_chosen (eldest (spec.in_unit (seen (V.held self.old.window) self.old.state) tile) slots
@@ -172,8 +172,8 @@ impl<V: Windows, W> Grid<V, W> {
         }
     }
 
-    // A unit is busy for one cycle less, and gives its result where its time is over.
-    fn unit_on(&mut self, tile: u8)
+    /// A unit is busy for one cycle less, and gives its result where its time is over.
+    pub fn unit_on(&mut self, tile: u8)
         requires { tile < 16 }
         ensures change { seen (V.held self.new.window) self.new.state
             ≡ spec.unit_on tile (slice_index_or self.old.state.units tile 0)
@@ -187,8 +187,8 @@ impl<V: Windows, W> Grid<V, W> {
         }
     }
 
-    // A unit issues a slot of a frame, and is busy until its result is there.
-    fn issue(&mut self, tile: u8, frame: u8, slot: u8)
+    /// A unit issues a slot of a frame, and is busy until its result is there.
+    pub fn issue(&mut self, tile: u8, frame: u8, slot: u8)
         requires tile { tile < 16 }
         requires frame { frame < 8 }
         requires slot { slot < 128 }
@@ -205,8 +205,8 @@ impl<V: Windows, W> Grid<V, W> {
         }
     }
 
-    // A free unit issues the eldest ready entry of its tile.
-    fn issues(&mut self, tile: u8)
+    /// A free unit issues the eldest ready entry of its tile.
+    pub fn issues(&mut self, tile: u8)
         requires { tile < 16 }
         ensures change { seen (V.held self.new.window) self.new.state
             ≡ spec.issues (V.blocks self.old.window) (V.budget self.old.window) tile
