@@ -1,5 +1,6 @@
 //! The nodes that lose their guards: all that are pure and guarded, but those that are seen where their guard is not
-//! met, and those that a copy under their guard alone takes: it is the copy that goes. Nothing is claimed of them, since they are judged.
+//! met, and those that a copy under their guard alone takes: it is the copy that goes. Nothing is claimed of them,
+//! since they are judged.
 use crate::guards::{guard_at, implies, is_pure, same_guard};
 use crate::judging::is_marked;
 use crate::uses::{Uses, are_several, uses_of};

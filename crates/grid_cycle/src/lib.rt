@@ -2,8 +2,8 @@
 //! (docs/GRID.md, "The engine").
 //!
 //! specs/Engines.antt has how contracts see a [`Grid`] and what its run has cost, specs/Nexts.antt and
-//! specs/Lacks.antt what it tells between cycles. `runs_of_a_seed_end` and `runs_from_a_state_end` are the cycle bound of
-//! the runs of a seed, over their definitions alone; specs/Traps.antt has the endings that are traps.
+//! specs/Lacks.antt what it tells between cycles. `runs_of_a_seed_end` and `runs_from_a_state_end` are the cycle bound
+//! of the runs of a seed, over their definitions alone; specs/Traps.antt has the endings that are traps.
 #![tactic(auto)]
 
 mod fetching;

@@ -216,8 +216,8 @@ module _ (check : Bool) (at : Layout) (P Q : List Block) (w : ℕ) (more : ℕ �
         let r = copied fuel f n b (omega (arith, low)) (after_items body m) in
         let o = on n b m (f b (omega (arith, low))) r
         (says z.way (value_of (after_items body m).registers z.test)) refl in
-        subst₂ (λ (c : Bool) (x : Machine). Copied l c x (suc n) (suc b) m) (sym (clean_held_turns z.way z.test body n m))
-        (sym (after_held_turns z.way z.test body n m)) o
+        subst₂ (λ (c : Bool) (x : Machine). Copied l c x (suc n) (suc b) m)
+        (sym (clean_held_turns z.way z.test body n m)) (sym (after_held_turns z.way z.test body n m)) o
 
   -- a block that stays
   stays : (l b : ℕ) → block_at Q l ≡ block_at P l → ((k : ℕ) (m : Machine) → Found k m b) → (m : Machine)
