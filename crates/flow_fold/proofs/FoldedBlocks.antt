@@ -14,7 +14,7 @@ use Rattle.hyper_narrow.specs.inside.NarrowedMeaning.{MeansNarrowed}
 use Rattle.flow_fold.specs.inside.Copies.{covers, guard_of}
 use Rattle.flow_fold.specs.inside.Immediates.{immediate_of, gives_constant}
 use Rattle.flow_fold.specs.inside.Folds.{with_constant, with_left, with_right, with_node, Turns, immediate}
-use Rattle.flow_fold.specs.inside.Folds.{left_copy, right_copy, guard_copy, offset, told, negative, freed}
+use Rattle.flow_fold.specs.inside.Folds.{left_copy, right_copy, guard_copy, offset, sum, told, negative, freed}
 use Rattle.flow_fold.specs.inside.Folds.{left_behind, right_behind}
 use Rattle.flow_fold.specs.inside.Folds.{Folds}
 use Rattle.flow_fold.specs.inside.Offsets.{has_address, with_offset, summed}
@@ -30,6 +30,8 @@ use Rattle.flow_fold.proofs.GuardRules.{Guarding, guarding, guard_written, guard
 use Rattle.flow_fold.proofs.WaitRules.{Waiting, waiting, waiting_kept, free_written, free_works}
 use Rattle.flow_fold.proofs.OffsetFacts.{Moves, Offsetly, summed_is}
 use Rattle.flow_fold.proofs.OffsetRules.{offset_written, offset_works}
+use Rattle.flow_fold.proofs.SumFacts.{Adding, adding, adding_kept}
+use Rattle.flow_fold.proofs.SumRules.{sum_written, sum_works}
 use Rattle.flow_fold.proofs.TestRules.{Telling, telling, telling_kept, copy_written, copy_works}
 use Rattle.flow_fold.proofs.NegativeFacts.{Ending, ending, ending_kept}
 use Rattle.flow_fold.proofs.NegativeRules.{negative_written, negative_works}
@@ -120,6 +122,15 @@ addressed f j n m there c =
       works = offset_works f j n there o.node o.number o.sum c.address;
     })
 
+summed_stands : (f : FlowBlock) (j : ℕ) (n m : FlowNode) → slice_get f.nodes j ≡ Some n → Adding f.nodes j n m
+    → Stands f j n m
+summed_stands f j n m there c =
+    subst (λ (x : FlowNode). Stands f j n x) (sym c.is)
+    (record {
+      written = sum_written f j n there c.node c.number c.sum;
+      works = sum_works f j n there c.node c.number c.sum;
+    })
+
 told_stands : (f : FlowBlock) (j : ℕ) (n m : FlowNode) → slice_get f.nodes j ≡ Some n → Telling f.nodes j n m
     → Stands f j n m
 told_stands f j n m there c =
@@ -155,6 +166,7 @@ data How (nodes : List FlowNode) (j : ℕ) (n m : FlowNode) : Type 0 where
   by_right_behind : RightBehind nodes j n m → How nodes j n m
   by_guard : Guarding nodes j n m → How nodes j n m
   by_offset : Addressed nodes j n m → How nodes j n m
+  by_sum : Adding nodes j n m → How nodes j n m
   by_test : Telling nodes j n m → How nodes j n m
   by_end : Ending nodes j n m → How nodes j n m
   by_wait : Waiting nodes j n m → How nodes j n m
@@ -172,6 +184,7 @@ how_stands f j n m there (by_right_behind c) =
     (record { written = joins.right_written f j n there c.marks; works = joins.right_works f j n there c.marks })
 how_stands f j n m there (by_guard c) = guarded_stands f j n m there c
 how_stands f j n m there (by_offset c) = addressed f j n m there c
+how_stands f j n m there (by_sum c) = summed_stands f j n m there c
 how_stands f j n m there (by_test c) = told_stands f j n m there c
 how_stands f j n m there (by_end c) = ended f j n m there c
 how_stands f j n m there (by_wait c) = freed_stands f j n m there c
@@ -282,6 +295,7 @@ module _ (r : Immediates) (own : LeavesOwn r) where
   how_kept nodes j n m (by_guard c) = by_guard (guard_kept nodes j n m c)
   how_kept nodes j n m (by_offset c) =
       by_offset (record { address = c.address; sum = sum_kept nodes j n m c.sum })
+  how_kept nodes j n m (by_sum c) = by_sum (adding_kept r own nodes j n m c)
   how_kept nodes j n m (by_test c) = by_test (telling_kept r own nodes j n m c)
   how_kept nodes j n m (by_end c) = by_end (ending_kept r own nodes j n m c)
   how_kept nodes j n m (by_wait c) = by_wait (waiting_kept r nodes j n m c)
@@ -302,6 +316,7 @@ turned nodes j n m (right_copy ss s e) =
 turned nodes j n m (left_behind marks e) = by_left_behind (record { marks = marks; is = e })
 turned nodes j n m (right_behind marks e) = by_right_behind (record { marks = marks; is = e })
 turned nodes j n m (guard_copy g s e) = by_guard (guarding nodes j n m g e s)
+turned nodes j n m (sum e) = by_sum (adding nodes j n m n.left refl e)
 turned nodes j n m (told t e) = by_test (telling nodes j n m t e)
 turned nodes j n m (negative t e) = by_end (ending nodes j n m t e)
 turned nodes j n m (freed t e) = by_wait (waiting nodes j n m t e)

@@ -13,6 +13,8 @@ pub mod GuardRules
 pub mod WaitRules
 pub mod OffsetFacts
 pub mod OffsetRules
+pub mod SumFacts
+pub mod SumRules
 pub mod BitFacts
 pub mod TestRules
 pub mod NegativeFacts

@@ -42,7 +42,7 @@ subtract_once : (x i a b q s : ℕ) → a ≤ 2 ^ 64 → i + a + q * 2 ^ 64 ≡ 
 subtract_once x i a b q s l e = omega arith
 
 -- a sum of small numbers is added at once
-added : (x : ℕ) (a b : ℤ) → is_small a ≡ true → is_small b ≡ true → is_small (b +ℤ a) ≡ true
+pub added : (x : ℕ) (a b : ℤ) → is_small a ≡ true → is_small b ≡ true → is_small (b +ℤ a) ≡ true
     → (x + word (b +ℤ a)) % 2 ^ 64 ≡ ((x + word a) % 2 ^ 64 + word b) % 2 ^ 64
 added x a b s t u =
     let p = wraps a s in
@@ -56,7 +56,7 @@ added x a b s t u =
     sums i v w c d e f g h k l m p q r z = omega arith
 
 -- and so is a difference
-subtracted : (x : ℕ) (a b : ℤ) → is_small a ≡ true → is_small b ≡ true → is_small (b -ℤ a) ≡ true
+pub subtracted : (x : ℕ) (a b : ℤ) → is_small a ≡ true → is_small b ≡ true → is_small (b -ℤ a) ≡ true
     → (x + word (b -ℤ a)) % 2 ^ 64 ≡ ((x + (2 ^ 64 - word a)) % 2 ^ 64 + word b) % 2 ^ 64
 subtracted x a b s t u =
     let p = wraps a s in
@@ -84,13 +84,13 @@ pub record Moves (o : Op) (a b i : ℤ) : Type 0 where
   pub same : (x : ℕ) → (x + word i) % 2 ^ 64 ≡ (alu_of o x (word a) + word b) % 2 ^ 64
 
 -- three small numbers
-record Three (a b z i : ℤ) : Type 0 where
-  first : is_small a ≡ true
-  second : is_small b ≡ true
-  third : is_small z ≡ true
-  is : z ≡ i
+pub record Three (a b z i : ℤ) : Type 0 where
+  pub first : is_small a ≡ true
+  pub second : is_small b ≡ true
+  pub third : is_small z ≡ true
+  pub is : z ≡ i
 
-three : (a b z i : ℤ) → if_small a b z ≡ Some i → Three a b z i
+pub three : (a b z i : ℤ) → if_small a b z ≡ Some i → Three a b z i
 three a b z i e =
     let p = cond_some (is_small a && (is_small b && is_small z)) z i e in
     let q = and_parts (is_small a) (is_small b && is_small z) p.0 in

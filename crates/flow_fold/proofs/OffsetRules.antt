@@ -57,7 +57,7 @@ nil_apart : (s : FlowSource) → ◌≡◌ {A = List FlowSource} [] (s ∷ []) �
 nil_apart s e = absurd (cc)
 
 -- whether an operand is there does not hang on what is computed of it
-same_one : (w : ℕ) (v : ℕ → ℕ) (l : Answer) → of_one (λ (x : ℕ). w) l ≡ of_one (λ (x : ℕ). w) (of_one v l)
+pub same_one : (w : ℕ) (v : ℕ → ℕ) (l : Answer) → of_one (λ (x : ℕ). w) l ≡ of_one (λ (x : ℕ). w) (of_one v l)
 same_one w v None = refl
 same_one w v (Some Null) = refl
 same_one w v (Some (Word x)) = refl
@@ -69,7 +69,8 @@ same_both w v (Some Null) r = refl
 same_both w v (Some (Word x)) r = refl
 
 -- an operation on one operand behind another is one operation
-one_behind : (u v : ℕ → ℕ) (d : ℕ → ℕ) → ((x : ℕ) → u x ≡ d (v x)) → (l : Answer) → of_one u l ≡ of_one d (of_one v l)
+pub one_behind : (u v : ℕ → ℕ) (d : ℕ → ℕ) → ((x : ℕ) → u x ≡ d (v x)) → (l : Answer)
+    → of_one u l ≡ of_one d (of_one v l)
 one_behind u v d e None = refl
 one_behind u v d e (Some Null) = refl
 one_behind u v d e (Some (Word x)) = ap (λ (i : ℕ). Some (Word i)) (e x)

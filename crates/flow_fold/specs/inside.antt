@@ -2,6 +2,7 @@ pub mod Replaces
 pub mod Immediates
 pub mod Copies
 pub mod Offsets
+pub mod Sums
 pub mod Tests
 pub mod Negatives
 pub mod Waits

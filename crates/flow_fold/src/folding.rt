@@ -11,6 +11,7 @@ use crate::drawing::drawn;
 use crate::joining::{joined_at, joins};
 use crate::negatives::{as_negative, is_negative};
 use crate::offsets::offset_of;
+use crate::sums::{added, may_add};
 use crate::tests::{as_copy, may_tell, tells_bit};
 use crate::uses::{Uses, feeds_several, uses_of};
 use crate::waits::{may_free, without_guard};
@@ -178,6 +179,21 @@ fn offset_turn(
     }
 }
 
+// What node j becomes where it adds to a sum.
+fn sum_turn(
+    alloc: Global,
+    nodes: &[FlowNode],
+    j: usize,
+    n: &FlowNode,
+) -> Result<Option<FlowNode>, Memory>
+    ensures { IfOk result (λ o. MatchOption o Unit (λ m. folds.Turns nodes.now j n.now m)) }
+{
+    match added(alloc, nodes, j, n, n.left.as_slice())? {
+        None => Ok(None),
+        Some(m) => Ok(Some(m)),
+    }
+}
+
 // What node j becomes where it tells a bit that it could copy.
 fn told_turn(
     alloc: Global,
@@ -237,6 +253,7 @@ pub enum Rule {
     Guard,
     Constant,
     Offset,
+    Sum,
     Told,
     Negative,
     Freed,
@@ -258,6 +275,7 @@ fn turned(
         Rule::Guard => guard_turn(alloc, nodes, j, n),
         Rule::Constant => constant_turn(alloc, nodes, j, n),
         Rule::Offset => offset_turn(alloc, nodes, j, n),
+        Rule::Sum => sum_turn(alloc, nodes, j, n),
         Rule::Told => told_turn(alloc, nodes, j, n),
         Rule::Negative => negative_turn(alloc, nodes, j, n),
         Rule::Freed => freed_turn(alloc, nodes, j, n),
@@ -321,6 +339,27 @@ fn constant_at(alloc: Global, block: FlowBlock, j: usize, uses: &Uses) -> Result
     turned_at(alloc, block, j, Rule::Constant)
 }
 
+// Whether node j adds a constant to a sum, for a choice of which nothing is claimed.
+fn may_add_at(block: &FlowBlock, j: usize) -> bool {
+    let nodes = block.nodes.as_slice();
+    match nodes.get(j) {
+        None => false,
+        Some(n) => may_add(nodes, n),
+    }
+}
+
+// A block whose node j adds at once what it adds to a sum: its constant becomes its immediate first.
+fn summed_at(alloc: Global, block: FlowBlock, j: usize) -> Result<FlowBlock, Memory>
+    ensures { IfOk result (λ g. Replaces block g) }
+{
+    if !may_add_at(&block, j) {
+        return Ok(block);
+    }
+    let constant = turned_at(alloc, block, j, Rule::Constant)?;
+    let last = turned_at(alloc, constant, j, Rule::Sum)?;
+    Ok(last)
+}
+
 // A block whose node j is folded: what it takes first looks through copies, then for a constant, then for a sum.
 fn folded_at(
     alloc: Global,
@@ -335,7 +374,8 @@ fn folded_at(
     let left = turned_at(alloc, guarded, j, Rule::Left)?;
     let right = turned_at(alloc, left, j, Rule::Right)?;
     let joined = joined_at(alloc, right, j, marks)?;
-    let constant = constant_at(alloc, joined, j, uses)?;
+    let summed = summed_at(alloc, joined, j)?;
+    let constant = constant_at(alloc, summed, j, uses)?;
     let offset = turned_at(alloc, constant, j, Rule::Offset)?;
     let told = turned_at(alloc, offset, j, Rule::Told)?;
     let negative = turned_at(alloc, told, j, Rule::Negative)?;

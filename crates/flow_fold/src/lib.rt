@@ -20,6 +20,7 @@ mod negatives;
 mod offsets;
 mod renumbering;
 mod sharing;
+mod sums;
 mod sweeping;
 mod tests;
 mod uses;

@@ -21,8 +21,8 @@ fn has_address(form: Form) -> bool
     }
 }
 
-// A number, where it and two others are small.
-fn if_small(a: i32, b: i32, i: i64) -> Option<i32>
+/// A number, where it and two others are small.
+pub fn if_small(a: i32, b: i32, i: i64) -> Option<i32>
     ensures { result ≡ offsets.if_small a b i }
 {
     if is_small(a) && is_small(b) && -256 <= i && i < 256 {

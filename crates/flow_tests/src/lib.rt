@@ -16,6 +16,8 @@ mod share_tests;
 #[cfg(test)]
 mod shown;
 #[cfg(test)]
+mod sum_tests;
+#[cfg(test)]
 mod sweep_tests;
 #[cfg(test)]
 mod too_big_tests;

@@ -10,6 +10,7 @@ use Rattle.flow_fold.specs.inside.Copies.{copied, guard_copied}
 use Rattle.flow_fold.specs.inside.Draws.{all_behind}
 use Rattle.flow_fold.specs.inside.Immediates.{immediate_of, small_of}
 use Rattle.flow_fold.specs.inside.Offsets.{offset_of}
+use Rattle.flow_fold.specs.inside.Sums.{added}
 use Rattle.flow_fold.specs.inside.Tests.{tells_bit, as_copy}
 use Rattle.flow_fold.specs.inside.Negatives.{is_negative, as_negative}
 use Rattle.flow_fold.specs.inside.Waits.{may_free, without_guard}
@@ -48,6 +49,8 @@ pub data Turns (nodes : List FlowNode) (j : ℕ) (n m : FlowNode) : Type 0 where
   guard_copy : (g : Guard) → guard_copied nodes j n.guard ≡ Some g → m ≡ with_guard n g → Turns nodes j n m
   -- what a load's or a store's address adds goes into its offset
   offset : offset_of nodes j n (form_of n.op) ≡ Some m → Turns nodes j n m
+  -- what is added to a sum is added at once
+  sum : added nodes j n n.left ≡ Some m → Turns nodes j n m
   -- whether a word that is 0 or 1 is not 0 is the word itself
   told : tells_bit nodes j n ≡ true → m ≡ as_copy n → Turns nodes j n m
   -- a constant whose upper 48 bits are ones is that of one `gens`

@@ -7,12 +7,14 @@ returns c =
     (stands_on c.args.block c.in_ok-told.told c.in_ok-negative.negative
     (stands_on c.args.block c.in_ok-offset.offset c.in_ok-told.told
     (stands_on c.args.block c.in_ok-constant.constant c.in_ok-offset.offset
-    (stands_on c.args.block c.in_ok-joined.joined c.in_ok-constant.constant
+    (stands_on c.args.block c.in_ok-summed.summed c.in_ok-constant.constant
+    (stands_on c.args.block c.in_ok-joined.joined c.in_ok-summed.summed
     (stands_on c.args.block c.in_ok-right.right c.in_ok-joined.joined
     (stands_on c.args.block c.in_ok-left.left c.in_ok-right.right
     (stands_on c.args.block c.in_ok-guarded.guarded c.in_ok-left.left c.in_ok-guarded.ensures c.in_ok-left.ensures)
     c.in_ok-right.ensures)
     c.in_ok-joined.ensures)
+    c.in_ok-summed.ensures)
     c.in_ok-constant.ensures)
     c.in_ok-offset.ensures)
     c.in_ok-told.ensures)

@@ -1,0 +1,6 @@
+use Rattle.flow_fold.proofs.Following.{stands_on}
+use Rattle.flow_fold.proofs.folding.summed_at.Goals as goal
+
+pub returns : goal.returns
+returns c =
+    stands_on c.args.block c.in_ok-constant.constant c.in_ok-last.last c.in_ok-constant.ensures c.in_ok-last.ensures
