@@ -85,13 +85,19 @@ help_all() {
   local name
   echo "trips compiles and runs C on the block-atomic TRIPS processor."
   echo
-  for name in "${commands[@]}"; do printf '  ./trips %-8s%-12s%s\n' "$name" "${takes[$name]}" "${does[$name]}"; done
+  for name in "${commands[@]}"; do printf '  %s %-8s%-12s%s\n' "$me" "$name" "${takes[$name]}" "${does[$name]}"; done
   echo
   for name in "${all_options[@]}"; do printf '  %-12s%s\n' "$name ${takes[$name]}" "${does[$name]}"; done
   echo
-  for name in "${calls[@]}"; do printf '  ./trips %-16s%s\n' "$name ${takes[$name]}" "${does[$name]}"; done
+  for name in "${calls[@]}"; do
+    case $me$name in trips--[pi]*) continue ;; esac
+    printf '  %s %-16s%s\n' "$me" "$name ${takes[$name]}" "${does[$name]}"
+  done
   echo
-  echo "docs/trips.1 (man $here/docs/trips.1) has reports and statuses, examples/README.md programs to run first."
+  case $me in
+    trips) echo "man $here/docs/trips.1 has reports and statuses." ;;
+    *) echo "man $here/docs/trips.1 has reports and statuses, examples/README.md programs to run first." ;;
+  esac
 }
 
 # The name under which the range of a command's number stands: `of`.
@@ -103,7 +109,7 @@ range_of() {
 # A command and its options, with the ranges of their numbers.
 help_command() {
   local name of range
-  printf '  ./trips %-8s%-12s%s\n' "$1" "${takes[$1]}" "${does[$1]}"
+  printf '  %s %-8s%-12s%s\n' "$me" "$1" "${takes[$1]}" "${does[$1]}"
   for name in ${options[$1]}; do
     range_of "$1" "$name"
     range=${most[$of]:+ (from ${least[$of]} to $(grouped "${most[$of]}"))}
@@ -126,8 +132,8 @@ help() {
 
 # --- what is wrong with words ---
 
-# What the words say: values under the names of options, and words that stand alone under their places, counted from 1;
-# the command; and what is wrong.
+# What the words say: values under the names of options, words that stand alone under their places, counted from 1; the
+# command; and what is wrong.
 declare -A said=()
 command='' fault='' near='' apart=0
 
@@ -189,6 +195,7 @@ read_option() {
   read -ra own <<<"${options[$command]}"
   if [ -z "${belongs[$command $name]+y}" ]; then
     nearest "$name" "${own[@]}"
+    [ ! -f "$1" ] || near="; the file of this name is ./$(shown "$1")"
     wrong "$command has no option $(shown "$name")${near:-${own[*]:+; there are ${own[*]}}}"
   elif [ -n "${takes[$name]}" ] && [ "$name" = "$1" ]; then
     waits=$name
@@ -245,11 +252,13 @@ judge() {
   case "$*" in
     *[!\ -~]*) printf '%s' "$*" | iconv -f UTF-8 -t UTF-8 >/dev/null 2>&1 || wrong "a word is not UTF-8" || return ;;
   esac
-  [ $# -gt 0 ] || wrong "a command is wanted; ./trips help says which there are" || return
+  [ $# -gt 0 ] || wrong "a command is wanted; $me help says which there are" || return
   command=$1
   if ! is_command "$command"; then
     nearest "$command" "${commands[@]}" "${calls[@]}"
-    [ ! -f "$command" ] || near="; a file stands behind one: ./trips run $(shown "$command")"
+    if [ -f "$command" ] || [[ $command == *.@(c|img|tasl) ]]; then
+      near="; a file stands behind one: $me run $(shown "$command")"
+    fi
     wrong "no command is called $(shown "$command")${near:-; there are ${commands[*]}}"
     return
   fi
@@ -259,6 +268,7 @@ judge() {
 
 # Whether a file can be read, as far as it can be told without opening it.
 is_readable() {
+  local more=
   if [ "$1" = - ]; then
     return 0
   elif [ -d "$1" ]; then
@@ -268,7 +278,8 @@ is_readable() {
   elif [ -e "$1" ]; then
     wrong "$(shown "$1"): it may not be read"
   else
-    wrong "$(shown "$1"): there is no such file"
+    [[ $command/$1 != explain/[1-9].[0-9]* ]] || more=", and no fault has this number"
+    wrong "$(shown "$1"): there is no such file$more"
   fi
 }
 
