@@ -1,12 +1,12 @@
--- Each request has some blocks or steps, and some turns of a loop in a block.
-use Rattle.std.proofs.Common.{◌≡◌, ℕ, ◌<◌, Bool, true, false, cond, nat_le, List, [], ◌∷◌, Option, None, Some}
+-- Each request has some blocks or steps, no more than may be asked for, and some turns of a loop in a block.
+use Rattle.std.proofs.Common.{◌≡◌, ℕ, ◌<◌, ◌≤◌, Bool, true, false, cond, nat_le, List, [], ◌∷◌, Option, None, Some}
 use Rattle.std.proofs.Common.{IfSome, Result, Ok, Err, IfOk, refl, sym, subst, arith, option_map, option_and_then}
 use Rattle.std.specs.Prelude.{◌&&◌}
 use Rattle.std.proofs.lemmas.Bool.Decides.{nat_tests}
 use Rattle.trips_requests.specs.declared.commands.Verb.{Verb}
 use Rattle.trips_requests.specs.declared.commands.Verb.TheVariants as verb
 use Rattle.trips_requests.specs.declared.commands.Asked.{Asked}
-use Rattle.trips_requests.specs.Limits.{most_turns, is_number, value_from, number_to}
+use Rattle.trips_requests.specs.Limits.{most_count, most_turns, is_number, value_from, number_to}
 use Rattle.trips_requests.specs.Words.{Text, file_name, value_said, words_read}
 use Rattle.trips_requests.specs.Options.{Options, count_of, is_c_name, options_of, options_said, places_of}
 use Rattle.trips_requests.specs.Options.{second_said, takes_file}
@@ -16,9 +16,13 @@ use Rattle.trips_requests.specs.Requests.{functions_said, most_said, place_said,
 use Rattle.trips_requests.specs.Requests.{request_counted, request_taken}
 use Rattle.trips_requests.specs.Requests.{request_of_file, request_with, request_of, request_by}
 
+-- a number from 1 to the greatest
+abbrev IsCount : ℕ → ℕ → Type 0
+IsCount most n = (0 < n) × (n ≤ most)
+
 -- the request has some
 abbrev HasSome : Request → Type 0
-HasSome r = (0 < r.most) × (0 < r.unroll)
+HasSome r = IsCount most_count r.most × (0 < r.unroll)
 
 -- what holds of each value that may be given next holds of what is given
 bind : {A : Type 0} (f : A → Option Request) (o : Option A) → ((a : A) → IfSome (f a) HasSome)
@@ -26,10 +30,10 @@ bind : {A : Type 0} (f : A → Option Request) (o : Option A) → ((a : A) → I
 bind f None h = tt
 bind f (Some a) h = h a
 
-bind_with : (f : ℕ → Option Request) (o : Option ℕ) → IfSome o (λ n. 0 < n)
-    → ((n : ℕ) → 0 < n → IfSome (f n) HasSome) → IfSome (option_and_then f o) HasSome
-bind_with f None some h = tt
-bind_with f (Some n) some h = h n some
+bind_with : (most : ℕ) (f : ℕ → Option Request) (o : Option ℕ) → IfSome o (IsCount most)
+    → ((n : ℕ) → IsCount most n → IfSome (f n) HasSome) → IfSome (option_and_then f o) HasSome
+bind_with most f None some h = tt
+bind_with most f (Some n) some h = h n some
 
 last : {A : Type 0} (f : A → Request) (o : Option A) → ((a : A) → HasSome (f a))
     → IfSome (option_map f o) HasSome
@@ -39,34 +43,48 @@ last f (Some a) h = h a
 positive : (n : ℕ) → nat_le 1 n ≡ true → 0 < n
 positive n e = grind (arith, nat_tests)
 
-some_number : (most : ℕ) (word : Text) → IfSome (number_to most word) (λ n. 0 < n)
+at_most : (n most : ℕ) → nat_le n most ≡ true → n ≤ most
+at_most n most e = grind (arith, nat_tests)
+
+some_number : (most : ℕ) (word : Text) → IfSome (number_to most word) (IsCount most)
 some_number most word =
-    go (is_number word) (nat_le 1 (value_from 0 word)) (nat_le (value_from 0 word) most) refl
+    go (is_number word) (nat_le 1 (value_from 0 word)) (nat_le (value_from 0 word) most) refl refl
   where
-    go : (a b c : Bool) → nat_le 1 (value_from 0 word) ≡ b
-        → IfSome (cond (a && (b && c)) (Some (value_from 0 word)) None) (λ n. 0 < n)
-    go true true true e = positive (value_from 0 word) e
-    go true true false e = tt
-    go true false true e = tt
-    go true false false e = tt
-    go false true true e = tt
-    go false true false e = tt
-    go false false true e = tt
-    go false false false e = tt
+    go : (a b c : Bool) → nat_le 1 (value_from 0 word) ≡ b → nat_le (value_from 0 word) most ≡ c
+        → IfSome (cond (a && (b && c)) (Some (value_from 0 word)) None) (IsCount most)
+    go true true true e f = (positive (value_from 0 word) e, at_most (value_from 0 word) most f)
+    go true true false e f = tt
+    go true false true e f = tt
+    go true false false e f = tt
+    go false true true e f = tt
+    go false true false e f = tt
+    go false false true e f = tt
+    go false false false e f = tt
 
-some_default : (k : Verb) → 0 < (count_of k).1
-some_default verb.Record = omega arith
-some_default _ = omega arith
+some_default : (k : Verb) → IfSome (count_of k).1 (IsCount most_count)
+some_default verb.Record = (omega arith, omega arith)
+some_default verb.Save = tt
+some_default _ = (omega arith, omega arith)
 
-some_most : (k : Verb) (word : Option Text) → IfSome (most_said k word) (λ n. 0 < n)
+-- no command may be asked for more
+within : (k : Verb) → (count_of k).0 ≤ most_count
+within verb.Record = omega arith
+within _ = omega arith
+
+wider : (most more : ℕ) (o : Option ℕ) → most ≤ more → IfSome o (IsCount most) → IfSome o (IsCount more)
+wider most more None le h = tt
+wider most more (Some n) le h = let up = h.1 in (h.0, omega (arith, up, le))
+
+some_most : (k : Verb) (word : Option Text) → IfSome (most_said k word) (IsCount most_count)
 some_most k None = some_default k
-some_most k (Some word) = some_number (count_of k).0 word
+some_most k (Some word) = wider (count_of k).0 most_count (number_to (count_of k).0 word) (within k)
+    (some_number (count_of k).0 word)
 
-turns_said : (file : Text) (word : Option Text) → IfSome (unroll_said file word) (λ n. 0 < n)
-turns_said file None = omega arith
+turns_said : (file : Text) (word : Option Text) → IfSome (unroll_said file word) (IsCount most_turns)
+turns_said file None = (omega arith, omega arith)
 turns_said file (Some word) = go (is_c_name file)
   where
-    go : (b : Bool) → IfSome (cond b (number_to most_turns word) None) (λ n. 0 < n)
+    go : (b : Bool) → IfSome (cond b (number_to most_turns word) None) (IsCount most_turns)
     go true = some_number most_turns word
     go false = tt
 
@@ -74,11 +92,11 @@ some_file : (k : Verb) (name : Text) (options : Options) (second : Option Text)
     → IfSome (request_of_file k name options second) HasSome
 some_file k name options second =
     bind _ (functions_said k name) (λ functions.
-    bind_with _ (most_said k options.number) (some_most k options.number) (λ most some.
+    bind_with most_count _ (most_said k options.number) (some_most k options.number) (λ most some.
     bind _ (place_said name options.place) (λ place.
-    bind_with _ (unroll_said name options.unroll) (turns_said name options.unroll) (λ unroll turns.
+    bind_with most_turns _ (unroll_said name options.unroll) (turns_said name options.unroll) (λ unroll turns.
     last (request_counted k name options second functions most place unroll) (seed_said options.seed)
-    (λ seed. (some, turns))))))
+    (λ seed. (some, turns.0))))))
 
 some_taken : (k : Verb) (name : Text) (options : Options) → IfSome (request_taken k name options) HasSome
 some_taken k name options = go (takes_file k name)
@@ -106,7 +124,11 @@ seen_some (Some a) r e h = subst (λ (x : Option Request). IfSome x HasSome) (sy
 
 blocks_of : (o : Option Asked) → IfSome o (λ a. HasSome (request_seen a)) → IfSome o (λ a. 0 < a.most)
 blocks_of None h = tt
-blocks_of (Some a) h = h.0
+blocks_of (Some a) h = h.0.0
+
+few_of : (o : Option Asked) → IfSome o (λ a. HasSome (request_seen a)) → IfSome o (λ a. a.most ≤ most_count)
+few_of None h = tt
+few_of (Some a) h = h.0.1
 
 turns_of : (o : Option Asked) → IfSome o (λ a. HasSome (request_seen a)) → IfSome o (λ a. 0 < a.unroll)
 turns_of None h = tt
@@ -117,6 +139,12 @@ pub some_blocks : {E : Type 0} (words : List Text) (r : Result (Option Asked) E)
     → IfOk r (λ o. option_map request_seen o ≡ asked words) → IfOk r (λ o. IfSome o (λ a. 0 < a.most))
 some_blocks words (Err e) h = tt
 some_blocks words (Ok o) h = blocks_of o (seen_some o (asked words) h (some_asked words))
+
+-- and no more than may be asked for
+pub few_blocks : {E : Type 0} (words : List Text) (r : Result (Option Asked) E)
+    → IfOk r (λ o. option_map request_seen o ≡ asked words) → IfOk r (λ o. IfSome o (λ a. a.most ≤ most_count))
+few_blocks words (Err e) h = tt
+few_blocks words (Ok o) h = few_of o (seen_some o (asked words) h (some_asked words))
 
 -- and some turns of a loop in a block
 pub some_turns : {E : Type 0} (words : List Text) (r : Result (Option Asked) E)

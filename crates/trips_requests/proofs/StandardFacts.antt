@@ -191,3 +191,35 @@ other_option = refl
 pub no_options : asked (codes "check" ∷ codes "a.img" ∷ codes "--regs" ∷ []) ≡ None
 unfolding verb_named
 no_options = refl
+
+-- a run is saved behind a number of blocks, which is wanted and no option
+pub saved_is : asked (codes "save" ∷ codes "a.c" ∷ codes "--seed" ∷ codes "3" ∷ codes "25" ∷ [])
+    ≡ Some (record plain { command = command.Save; most = 25; seed = 3 })
+unfolding verb_named
+saved_is = refl
+
+pub saved_nowhere : asked (codes "save" ∷ codes "a.c" ∷ []) ≡ None
+unfolding verb_named
+saved_nowhere = refl
+
+pub saved_at_none : asked (codes "save" ∷ codes "a.c" ∷ codes "0" ∷ []) ≡ None
+unfolding verb_named
+saved_at_none = refl
+
+pub saved_too_late : asked (codes "save" ∷ codes "a.c" ∷ codes "4000001" ∷ []) ≡ None
+unfolding verb_named
+saved_too_late = refl
+
+pub saved_by_option : asked (codes "save" ∷ codes "a.c" ∷ codes "--blocks=25" ∷ []) ≡ None
+unfolding verb_named
+saved_by_option = refl
+
+-- a saved run goes on, without an input
+pub resumed_is : asked (codes "resume" ∷ codes "a.c" ∷ codes "--regs" ∷ codes "--blocks=7" ∷ [])
+    ≡ Some (record plain { command = command.Resume; most = 7; regs = true })
+unfolding verb_named
+resumed_is = refl
+
+pub resumed_with_input : asked (codes "resume" ∷ codes "s.sav" ∷ codes "--input=a" ∷ []) ≡ None
+unfolding verb_named
+resumed_with_input = refl

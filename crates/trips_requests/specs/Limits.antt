@@ -36,6 +36,10 @@ default_recorded = 10000
 unfoldable pub most_image_bytes : ℕ
 most_image_bytes = 71303188
 
+-- how many bytes a save file may have
+unfoldable pub most_save_bytes : ℕ
+most_save_bytes = 81000000
+
 -- how many bytes a target text may have
 unfoldable pub most_target_bytes : ℕ
 most_target_bytes = 67108864

@@ -34,6 +34,15 @@ record_options = valued (codes "input") ∷ valued (codes "blocks") ∷ []
 abbrev pub verify_options : List Named
 verify_options = valued (codes "input") ∷ []
 
+-- those of `save`
+abbrev pub save_options : List Named
+save_options = valued (codes "input") ∷ valued (codes "seed") ∷ []
+
+-- those of `resume`
+abbrev pub resume_options : List Named
+resume_options = valued (codes "blocks") ∷ valued (codes "seed") ∷ flag (codes "regs") ∷ flag (codes "trace")
+    ∷ flag (codes "cycles") ∷ []
+
 -- the options of a command: one that is not named here has none
 abbrev pub options_of : Verb → List Named
 options_of verb.Run = run_options
@@ -42,25 +51,31 @@ options_of verb.Evaluate = eval_options
 options_of verb.Compile = compile_options
 options_of verb.Record = record_options
 options_of verb.Verify = verify_options
+options_of verb.Save = save_options
+options_of verb.Resume = resume_options
 options_of other = []
 
--- the places of a command for words that stand alone: each has its file, or its number of functions, and `verify` has
--- the trace's file behind it
+-- the places of a command for words that stand alone: each has its file, or its number of functions; `verify` has the
+-- trace's file behind it, and `save` its number of blocks
 abbrev pub places_of : Verb → List Text
 places_of verb.Verify = file_name ∷ second_name ∷ []
+places_of verb.Save = file_name ∷ second_name ∷ []
 places_of other = file_name ∷ []
 
--- the option of a command that counts blocks or steps
+-- the option of a command that counts blocks or steps, or the place where `save` has its number
 abbrev pub counted : Verb → Text
 counted verb.Run = codes "blocks"
 counted verb.Bench = codes "blocks"
 counted verb.Record = codes "blocks"
+counted verb.Resume = codes "blocks"
+counted verb.Save = second_name
 counted other = codes "steps"
 
--- how many blocks or steps a command may be asked for, and how many it takes without a number
-abbrev pub count_of : Verb → ℕ × ℕ
-count_of verb.Record = (most_recorded, default_recorded)
-count_of other = (most_count, default_count)
+-- how many blocks or steps a command may be asked for, and how many it takes without a number: `save` wants one
+abbrev pub count_of : Verb → ℕ × Option ℕ
+count_of verb.Record = (most_recorded, Some default_recorded)
+count_of verb.Save = (most_count, None)
+count_of other = (most_count, Some default_count)
 
 -- the file is C, by the ending of its name
 abbrev pub is_c_name : Text → Bool

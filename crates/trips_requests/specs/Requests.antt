@@ -24,7 +24,9 @@ verb_named name =
     else if bytes_eq name (codes "check") then Some verb.Check
     else if bytes_eq name (codes "explain") then Some verb.Explain
     else if bytes_eq name (codes "record") then Some verb.Record
-    else if bytes_eq name (codes "verify") then Some verb.Verify else None
+    else if bytes_eq name (codes "verify") then Some verb.Verify
+    else if bytes_eq name (codes "save") then Some verb.Save
+    else if bytes_eq name (codes "resume") then Some verb.Resume else None
 
 -- what is done: the benchmark is run
 abbrev pub command_of : Verb → Command
@@ -38,6 +40,8 @@ command_of verb.Check = command.Check
 command_of verb.Explain = command.Explain
 command_of verb.Record = command.Record
 command_of verb.Verify = command.Verify
+command_of verb.Save = command.Save
+command_of verb.Resume = command.Resume
 
 -- What is asked for: a command, its file and the second if it has one, or how many functions the benchmark's text has
 -- that is run in place of it, the name of the input if there is one, how many blocks or steps it may take, the number
@@ -65,7 +69,7 @@ pub record Request : Type 0 where
 
 -- how many blocks or steps the number says, and how many are taken without one
 abbrev pub most_said : Verb → Option Text → Option ℕ
-most_said k None = Some (count_of k).1
+most_said k None = (count_of k).1
 most_said k (Some word) = number_to (count_of k).0 word
 
 -- The number by which compiled blocks are placed, if one is said. It is said of C alone, and may be any word

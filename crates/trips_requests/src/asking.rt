@@ -55,6 +55,10 @@ pub fn verb_named(name: &str) -> Option<Verb>
         Some(Verb::Record)
     } else if name == "verify" {
         Some(Verb::Verify)
+    } else if name == "save" {
+        Some(Verb::Save)
+    } else if name == "resume" {
+        Some(Verb::Resume)
     } else {
         None
     }
@@ -75,10 +79,12 @@ fn command_of(verb: Verb) -> Command
         Verb::Explain => Command::Explain,
         Verb::Record => Command::Record,
         Verb::Verify => Command::Verify,
+        Verb::Save => Command::Save,
+        Verb::Resume => Command::Resume,
     }
 }
 
-/// The option of a command that takes a number.
+/// The option of a command that takes a number, or the place where its number stands.
 pub fn counted(command: Verb) -> &'static str
     ensures { result.now ≡ counted command }
 {
@@ -86,6 +92,8 @@ pub fn counted(command: Verb) -> &'static str
         Verb::Run => "blocks",
         Verb::Bench => "blocks",
         Verb::Record => "blocks",
+        Verb::Resume => "blocks",
+        Verb::Save => "SECOND",
         _ => "steps",
     }
 }
@@ -102,14 +110,15 @@ fn functions_said(command: Verb, word: &str) -> Option<Option<u32>>
     }
 }
 
-// How many blocks or steps a command may be asked for, and how many it takes without a number.
-fn count_of(command: Verb) -> (u32, u32)
+// How many blocks or steps a command may be asked for, and how many it takes without a number: one command wants one.
+fn count_of(command: Verb) -> (u32, Option<u32>)
     ensures most { result.0 ≡ (count_of command).0 }
     ensures default { result.1 ≡ (count_of command).1 }
 {
     match command {
-        Verb::Record => (MOST_RECORDED, DEFAULT_RECORDED),
-        _ => (MOST_COUNT, DEFAULT_COUNT),
+        Verb::Record => (MOST_RECORDED, Some(DEFAULT_RECORDED)),
+        Verb::Save => (MOST_COUNT, None),
+        _ => (MOST_COUNT, Some(DEFAULT_COUNT)),
     }
 }
 
@@ -119,7 +128,7 @@ fn most_said(command: Verb, word: Option<&str>) -> Option<u32>
 {
     let (most, default) = count_of(command);
     match word {
-        None => Some(default),
+        None => default,
         Some(word) => number(word.as_bytes(), most),
     }
 }

@@ -15,6 +15,8 @@ pub enum Command {
     Explain,
     Record,
     Verify,
+    Save,
+    Resume,
 }
 
 /// What the first word of a command line names. The benchmark is a run of a text that is made.
@@ -30,6 +32,8 @@ pub enum Verb {
     Explain,
     Record,
     Verify,
+    Save,
+    Resume,
 }
 
 /// What is done with a file that holds no C.

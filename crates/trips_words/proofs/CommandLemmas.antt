@@ -13,7 +13,7 @@ use Rattle.trips_requests.specs.declared.commands.Verb.{Verb}
 use Rattle.trips_requests.specs.declared.commands.Verb.TheVariants as verb
 use Rattle.trips_requests.specs.Words.{Text, Named, Said, file_name, second_name, value_said}
 use Rattle.trips_requests.specs.Options.{run_options, bench_options, eval_options, compile_options}
-use Rattle.trips_requests.specs.Options.{record_options, verify_options}
+use Rattle.trips_requests.specs.Options.{record_options, resume_options, save_options, verify_options}
 use Rattle.trips_requests.specs.Options.{options_of, places_of, counted, is_on, Options}
 use Rattle.trips_requests.specs.Requests.{Request, verb_named, request_of, request_by, asked}
 use Rattle.trips_words.specs.inside.Read.{IsRead, is_flag, or_off, FindsSaid, Tells}
@@ -69,6 +69,25 @@ verify_read = record {
   );
 }
 
+-- the command `save` is read as its words say
+pub save_read : IsRead (codes "save") save_options (file_name ∷ second_name ∷ [])
+save_read = record {
+  builds = refl;
+  simple = refl;
+  has = (
+    record { by_index = refl; by_id = refl; no_option = refl; others = (refl, tt); follows = refl },
+    (record { by_index = refl; by_id = refl; no_option = refl; others = tt; follows = refl }, refl),
+  );
+}
+
+-- the command `resume` is read as its words say
+pub resume_read : IsRead (codes "resume") resume_options (file_name ∷ [])
+resume_read = record {
+  builds = refl;
+  simple = refl;
+  has = (record { by_index = refl; by_id = refl; no_option = refl; others = tt; follows = refl }, refl);
+}
+
 -- the command without options is read as its words say
 pub plain_read : IsRead (codes "trips") [] (file_name ∷ [])
 plain_read = record {
@@ -90,17 +109,19 @@ is_helpless old new e = ap app_of_fields e
 -- what holds without options and with a file as the one place holds of the commands that have no case of their own
 pub of_plain : (P : List Named → List Text → Type 0) (k : Verb) → (k ≡ verb.Run → ⊥) → (k ≡ verb.Bench → ⊥)
     → (k ≡ verb.Evaluate → ⊥) → (k ≡ verb.Compile → ⊥) → (k ≡ verb.Record → ⊥) → (k ≡ verb.Verify → ⊥)
-    → P [] (file_name ∷ []) → P (options_of k) (places_of k)
-of_plain P verb.Run r b e c d v h = absurd (r refl)
-of_plain P verb.Bench r b e c d v h = absurd (b refl)
-of_plain P verb.Evaluate r b e c d v h = absurd (e refl)
-of_plain P verb.Compile r b e c d v h = absurd (c refl)
-of_plain P verb.Record r b e c d v h = absurd (d refl)
-of_plain P verb.Verify r b e c d v h = absurd (v refl)
-of_plain P verb.Assemble r b e c d v h = h
-of_plain P verb.Disassemble r b e c d v h = h
-of_plain P verb.Check r b e c d v h = h
-of_plain P verb.Explain r b e c d v h = h
+    → (k ≡ verb.Save → ⊥) → (k ≡ verb.Resume → ⊥) → P [] (file_name ∷ []) → P (options_of k) (places_of k)
+of_plain P verb.Run r b e c d v s u h = absurd (r refl)
+of_plain P verb.Bench r b e c d v s u h = absurd (b refl)
+of_plain P verb.Evaluate r b e c d v s u h = absurd (e refl)
+of_plain P verb.Compile r b e c d v s u h = absurd (c refl)
+of_plain P verb.Record r b e c d v s u h = absurd (d refl)
+of_plain P verb.Verify r b e c d v s u h = absurd (v refl)
+of_plain P verb.Save r b e c d v s u h = absurd (s refl)
+of_plain P verb.Resume r b e c d v s u h = absurd (u refl)
+of_plain P verb.Assemble r b e c d v s u h = h
+of_plain P verb.Disassemble r b e c d v s u h = h
+of_plain P verb.Check r b e c d v s u h = h
+of_plain P verb.Explain r b e c d v s u h = h
 
 -- requests ----------------------------------------------------------------------------------------
 

@@ -1,7 +1,8 @@
 //! The request of a command and of what its words say.
 
-ghost use Rattle.std.specs.Prelude.{◌≡◌, ◌<◌, Option, IfOk, IfSome, option_map, option_and_then, option_copied};
+ghost use Rattle.std.specs.Prelude.{◌≡◌, ◌<◌, ◌≤◌, Option, IfOk, IfSome, option_map, option_and_then, option_copied};
 ghost use Rattle.std.specs.Prelude.{drop, map, string_bytes};
+ghost use Rattle.trips_requests.specs.Limits.{most_count};
 ghost use Rattle.trips_requests.specs.Words.{Said};
 ghost use Rattle.trips_requests.specs.Options.{options_of, options_said};
 ghost use Rattle.trips_requests.specs.inside.Options.{options_seen};
@@ -86,11 +87,13 @@ fn named_request<'a>(
 }
 
 /// The request of the words of a command line, without the program's name, and none where they make
-/// none. A request has some blocks or steps, and some turns of a loop in a block. Want of memory is the only error.
+/// none. A request has some blocks or steps, at most 4,000,000, and some turns of a loop in a block. Want of memory
+/// is the only error.
 pub fn request(alloc: Global, words: &[String]) -> Result<Option<Asked<'_>>, Memory>
     ensures ok { IfOk result (λ request. option_map request_seen request
         ≡ asked (map (λ word. string_bytes word) words.now)) }
     ensures some { IfOk result (λ request. IfSome request (λ asked. 0 < asked.most)) }
+    ensures few { IfOk result (λ request. IfSome request (λ asked. asked.most ≤ most_count)) }
     ensures turns { IfOk result (λ request. IfSome request (λ asked. 0 < asked.unroll)) }
 {
     match words.first() {

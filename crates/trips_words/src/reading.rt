@@ -5,7 +5,8 @@ ghost use Rattle.clap.specs.Words.{rule_of, app_of, kind_of};
 ghost use Rattle.clap.specs.declared.error.kind.ErrorKind.TheVariants.{OutOfMemory};
 ghost use Rattle.trips_requests.specs.Words.{Text, Named, file_name, second_name, words_read, valued, flag};
 ghost use Rattle.trips_requests.specs.Options.{options_of, places_of, run_options, bench_options, eval_options};
-ghost use Rattle.trips_requests.specs.Options.{compile_options, record_options, verify_options};
+ghost use Rattle.trips_requests.specs.Options.{compile_options, record_options, resume_options, save_options};
+ghost use Rattle.trips_requests.specs.Options.{verify_options};
 ghost use Rattle.trips_words.specs.inside.Read.{raw_rule, raw_app, IsRead, Tells};
 
 use base::Memory;
@@ -17,7 +18,7 @@ use trips_requests::Verb;
 // The name under which the file stands.
 const FILE: &str = "FILE";
 
-// The name under which a second file stands.
+// The name under which a second word stands: a file, or a number of blocks.
 const SECOND: &str = "SECOND";
 
 // An option to which a value belongs.
@@ -112,6 +113,33 @@ fn verify_command<'a>(alloc: Global) -> Result<clap::Command<'a>, AllocError>
         .arg(Arg::new(alloc, SECOND))
 }
 
+// `save`, its options, its file and its number of blocks.
+fn save_command<'a>(alloc: Global) -> Result<clap::Command<'a>, AllocError>
+    ensures { IfOk result (λ command. app_of command
+        ≡ raw_app (codes "save") save_options (file_name ∷ second_name ∷ [])) }
+{
+    clap::Command::new(alloc, "save")
+        .disable_help_flag(true)
+        .arg(valued(alloc, "input"))?
+        .arg(valued(alloc, "seed"))?
+        .arg(Arg::new(alloc, FILE))?
+        .arg(Arg::new(alloc, SECOND))
+}
+
+// `resume`, its options and its file.
+fn resume_command<'a>(alloc: Global) -> Result<clap::Command<'a>, AllocError>
+    ensures { IfOk result (λ command. app_of command ≡ raw_app (codes "resume") resume_options (file_name ∷ [])) }
+{
+    clap::Command::new(alloc, "resume")
+        .disable_help_flag(true)
+        .arg(valued(alloc, "blocks"))?
+        .arg(valued(alloc, "seed"))?
+        .arg(flag(alloc, "regs"))?
+        .arg(flag(alloc, "trace"))?
+        .arg(flag(alloc, "cycles"))?
+        .arg(Arg::new(alloc, FILE))
+}
+
 // A command that has a file and no option.
 fn plain_command<'a>(alloc: Global) -> Result<clap::Command<'a>, AllocError>
     ensures { IfOk result (λ command. app_of command ≡ raw_app (codes "trips") [] (file_name ∷ [])) }
@@ -167,6 +195,8 @@ pub fn read<'a>(
         Verb::Compile => matched(compile_command(alloc)?, words),
         Verb::Record => matched(record_command(alloc)?, words),
         Verb::Verify => matched(verify_command(alloc)?, words),
+        Verb::Save => matched(save_command(alloc)?, words),
+        Verb::Resume => matched(resume_command(alloc)?, words),
         _ => matched(plain_command(alloc)?, words),
     }
 }
