@@ -1,3 +1,4 @@
 pub mod Runs
+pub mod Endings
 pub mod Refusals
 pub mod inside

@@ -1,16 +1,18 @@
 //! The reports of a run and of the refusals of images and target texts, each made whole before its
 //! first byte is written.
 //!
-//! The texts stand in `specs/`: `Runs` and `Refusals`.
+//! The texts stand in `specs/`: `Runs` and `Refusals`; `Endings` has the status of each ending.
 #![tactic(auto)]
 
+mod endings;
 mod lines;
 mod refusals;
 mod runs;
 mod said;
 mod show;
 
-pub use refusals::refusal_report;
+pub use endings::status_for;
+pub use refusals::{at_place, refusal_report};
 pub use runs::run_report;
 pub use said::Said;
 pub use show::Show;

@@ -15,8 +15,8 @@ use target_asm_spec::AsmFault;
 use trips_isa::Spot;
 use trips_requests::on_line;
 
-// A fault's number and name, and the place of its first byte.
-fn at_place(alloc: Global, name: &[u8], at: u64) -> Result<Vec<u8>, AllocError>
+/// A fault's number and name, and the place of its first byte. Want of memory is the only error.
+pub fn at_place(alloc: Global, name: &[u8], at: u64) -> Result<Vec<u8>, AllocError>
     ensures { IfOk result (λ text. text.items ≡ at_place name.now at) }
 {
     let mut text = Vec::from_slice(alloc, name)?;
