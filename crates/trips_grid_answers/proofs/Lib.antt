@@ -1,0 +1,3 @@
+pub mod GridRuns
+pub mod Spending
+pub mod SavedRuns

@@ -1,0 +1,4 @@
+pub mod Report
+pub mod Counted
+pub mod Runs
+pub mod Saved
