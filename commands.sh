@@ -132,6 +132,11 @@ help() {
 
 # --- what is wrong with words ---
 
+# The article before a place's name.
+article() {
+  case $1 in [AEIOU]*) echo an ;; *) echo a ;; esac
+}
+
 # What the words say: values under the names of options, words that stand alone under their places, counted from 1; the
 # command; and what is wrong.
 declare -A said=()
@@ -229,9 +234,10 @@ judge_said() {
   local name number=0
   for name in ${takes[$command]}; do
     number=$((number + 1))
-    [ -n "${said[$number]+y}" ] || wrong "$command wants a $name" || return
+    [ -n "${said[$number]+y}" ] || wrong "$command wants $(article "$name") $name" || return
   done
   [ "${takes[$command]}" != N ] || judge_number "${said[1]}" "$command" || return
+  [ "$command" != save ] || judge_number "${said[2]}" AT || return
   for name in "${!said[@]}"; do
     [ "${takes[$name]-}" != N ] || judge_number "${said[$name]}" "$name" || return
   done

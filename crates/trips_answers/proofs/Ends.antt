@@ -3,12 +3,13 @@ use Rattle.std.proofs.Common.{◌≡◌, ℕ, true, false, List, Option, None, S
 use Rattle.std.proofs.Common.{inl, inr, refl, sym, ◌∙◌, ap, subst, ◌⊎◌}
 use Rattle.trips_outside.specs.Outside.{Holds}
 use Rattle.trips_isa.specs.declared.block.Block.{Block}
+use Rattle.trips_isa.specs.declared.block.Image.{Image}
 use Rattle.trips_isa.specs.declared.run.Ending.{Ending}
 use Rattle.trips_isa.specs.declared.run.Ending.TheVariants as ending
-use Rattle.trips_isa.specs.Machine.{runs, start}
+use Rattle.trips_isa.specs.Machine.{State, runs, start}
 use Rattle.trips_answers.specs.Work.{Work}
 use Rattle.trips_answers.specs.Work.{Run, Evaluate, Compile}
-use Rattle.trips_answers.specs.Work.{Assemble, Disassemble, Check, Explain, Record, Verify}
+use Rattle.trips_answers.specs.Work.{Assemble, Disassemble, Check, Explain, Record, Verify, Save}
 use Rattle.trips_answers.specs.declared.forms.FileForm.{FileForm}
 use Rattle.trips_answers.specs.declared.forms.FileForm.TheVariants as form
 use Rattle.trips_answers.specs.declared.forms.Settings.{Settings}
@@ -22,7 +23,9 @@ use Rattle.trips_answers.specs.Read.{IsInputRead, HoldsInput}
 use Rattle.trips_answers.specs.Asks.{limit_of}
 use Rattle.trips_requests.specs.Table.{IsRead, AfterReading}
 use Rattle.trips_answers.specs.Report.{ending_of, status_of}
-use Rattle.trips_answers.specs.Worked.{IsRunBy, IsWorked, IsDone, IsDoneBehind}
+use Rattle.trips_grid_answers.specs.Runs.{IsRunFrom}
+use Rattle.trips_grid_answers.specs.Saved.{IsSavedRun}
+use Rattle.trips_answers.specs.Worked.{IsWorked, IsDone, IsDoneBehind}
 use Rattle.trips_answers.specs.Traced.{IsTraceFault, IsTraceRefused}
 use Rattle.trips_requests.specs.Texts.{IsFixed, read_fault_text}
 use Rattle.trips_answers.proofs.Traced.{part}
@@ -120,11 +123,19 @@ end_is_defined ending.StackFull e = cc
 end_is_defined ending.Budget e = cc
 end_is_defined (ending.Trap block cause) e = cc
 
-run_is_defined : (blocks : List Block) (bytes input : List ℕ) (settings : Settings) (s : Status)
-    (report : List ℕ) → IsRunBy blocks bytes input settings s report → s ≡ status.Undefined → ⊥
-run_is_defined blocks bytes input settings s report run e =
-    end_is_defined (ending_of (runs blocks (start bytes input) settings.most).1
-    (runs blocks (start bytes input) settings.most).0.next) (sym run.2.0 ∙ e)
+run_is_defined : (blocks : List Block) (t : State) (settings : Settings) (s : Status) (report : List ℕ)
+    → IsRunFrom blocks t settings.seed settings.most settings.show s report → s ≡ status.Undefined → ⊥
+run_is_defined blocks t settings s report run e =
+    end_is_defined (ending_of (runs blocks t settings.most).1 (runs blocks t settings.most).0.next)
+    (sym run.2.0 ∙ e)
+
+-- nor is a save, or a run that is over
+save_is_defined : (image : Image) (input : List ℕ) (at : ℕ) (s : Status) (report : List ℕ)
+    → IsSavedRun image input at s report → s ≡ status.Undefined → ⊥
+save_is_defined image input at s report (inl saved) e =
+    let both : status.Ended ≡ status.Undefined = sym saved.2 ∙ e in absurd (cc)
+save_is_defined image input at s report (inr over) e =
+    let both : status.Refused ≡ status.Undefined = sym over.1.0 ∙ e in absurd (cc)
 
 -- nor is what is made of a file
 not_made : (s : Status) → s ≡ status.Ended → s ≡ status.Undefined → ⊥
@@ -136,11 +147,20 @@ pub is_evaluation : (work : Work) (how : FileForm) (settings : Settings) (bytes 
     → s ≡ status.Undefined → work ≡ Evaluate
 is_evaluation Evaluate how settings bytes input s report run e = refl
 is_evaluation Run form.Source settings bytes input s report run e =
-    absurd (run_is_defined run.0.blocks run.0.bytes input settings s report run.3 e)
+    absurd (run_is_defined run.0.blocks (start run.0.bytes input) settings s report run.3 e)
 is_evaluation Run form.Target settings bytes input s report run e =
-    absurd (run_is_defined run.0.blocks run.0.bytes input settings s report run.3 e)
+    absurd (run_is_defined run.0.blocks (start run.0.bytes input) settings s report run.3 e)
 is_evaluation Run form.Image settings bytes input s report run e =
-    absurd (run_is_defined run.0.blocks run.0.bytes input settings s report run.3 e)
+    absurd (run_is_defined run.0.blocks (start run.0.bytes input) settings s report run.3 e)
+is_evaluation Run form.Saved settings bytes input s report run e =
+    absurd (run_is_defined run.0.blocks run.1 settings s report run.4 e)
+is_evaluation Save form.Source settings bytes input s report run e =
+    absurd (save_is_defined run.0 input settings.most s report run.2 e)
+is_evaluation Save form.Target settings bytes input s report run e =
+    absurd (save_is_defined run.0 input settings.most s report run.3 e)
+is_evaluation Save form.Image settings bytes input s report run e =
+    absurd (save_is_defined run.0 input settings.most s report run.3 e)
+is_evaluation Save form.Saved settings bytes input s report run e = absurd run
 is_evaluation Compile how settings bytes input s report run e = absurd (not_made s run.3 e)
 is_evaluation Assemble how settings bytes input s report run e = absurd (not_made s run.1 e)
 is_evaluation Disassemble how settings bytes input s report run e = absurd (not_made s run.1 e)

@@ -1,10 +1,11 @@
 -- What a request gets whose file and input are told, where nothing fails.
-use Rattle.std.proofs.Common.{◌≡◌, ℕ, ◌<◌, ◌≤◌, List, Option, None, Some, IfSome}
-use Rattle.std.proofs.Common.{IsSomeAnd, All, length, inl, inr, refl, sym, ◌∙◌, ap, subst, arith}
+use Rattle.std.proofs.Common.{◌≡◌, ℕ, ◌<◌, ◌≤◌, List, [], Option, None, Some}
+use Rattle.std.proofs.Common.{IsSomeAnd, All, length, inl, inr, refl, sym, ◌∙◌, ap, subst}
 use Rattle.std.proofs.Common.{get_or, ◌⊎◌}
 use Rattle.std.proofs.lemmas.Option.{slice_get_within, get_or_from_slice_get}
 use Rattle.trips_outside.specs.Outside.{Holds}
 use Rattle.trips_isa.specs.declared.block.Image.{Image}
+use Rattle.trips_isa.specs.Machine.{State}
 use Rattle.c_tree.specs.declared.typed.TypedProgram.{TypedProgram}
 use Rattle.c_front.specs.Fronts.{IsAccepted}
 use Rattle.c_front.proofs.Once.{not_both, accepted_once, refused_once}
@@ -17,7 +18,7 @@ use Rattle.block_check.specs.Images.{IsFirstBad}
 use Rattle.trips_report.specs.declared.show.Show.{Show}
 use Rattle.trips_answers.specs.Work.{Work}
 use Rattle.trips_answers.specs.Work.{Run, Evaluate, Compile}
-use Rattle.trips_answers.specs.Work.{Assemble, Disassemble, Check, Explain, Record, Verify}
+use Rattle.trips_answers.specs.Work.{Assemble, Disassemble, Check, Explain, Record, Verify, Save}
 use Rattle.block_image.specs.Spelling.{spelling}
 use Rattle.target_asm_spec.specs.Text.{TargetText}
 use Rattle.target_asm_spec.specs.Text as asm
@@ -28,14 +29,12 @@ use Rattle.trips_answers.specs.declared.forms.FileForm.{FileForm}
 use Rattle.trips_answers.specs.declared.forms.FileForm.TheVariants as form
 use Rattle.trips_answers.specs.declared.forms.Settings.{Settings}
 use Rattle.trips_requests.specs.declared.loading.Loaded.{Loaded}
-use Rattle.trips_requests.specs.declared.loading.Loaded.TheVariants.{Fault, TooLarge, Bytes}
 use Rattle.trips_requests.specs.declared.status.Status.{Status}
 use Rattle.trips_requests.specs.declared.status.Status.TheVariants as status
 use Rattle.trips_answers.specs.Request.{Request, origin_held}
 use Rattle.trips_answers.specs.Settings.{settings_with, settings_of}
-use Rattle.trips_answers.specs.Read.{IsInputRead, IsLarge}
-use Rattle.trips_answers.specs.Asks.{IsInput, limit_of, most_input_bytes, AsksFor}
-use Rattle.trips_requests.specs.Table.{IsRead, AfterReading}
+use Rattle.trips_answers.specs.Asks.{limit_of, AsksFor}
+use Rattle.trips_requests.specs.Table.{AfterReading}
 use Rattle.trips_report.specs.Refusals.{image_text, asm_text, check_text}
 use Rattle.trips_requests.specs.Texts.{read_fault_text, too_large_text, IsFixed}
 use Rattle.trips_eval_answers.specs.Refusals.{front_refusal}
@@ -45,12 +44,16 @@ use Rattle.trips_trace_answers.specs.TraceAnswers.{IsVerdict, TellsTrace}
 use Rattle.trips_eval_answers.specs.Evaluation.{IsRefusedByFront, IsEvaluation}
 use Rattle.trips_explain_answers.specs.Explained.{IsAcceptedTold}
 use Rattle.trips_explain_answers.proofs.Once.{accepted_told_once, not_both_told, refusal_told_once}
-use Rattle.trips_answers.specs.Worked.{IsRunBy, IsRunOfText, IsCompiled, IsWorked, IsDone}
+use Rattle.trips_answers.specs.Worked.{IsRunBy, IsRunOfText, IsSaveOfText, IsCompiled, IsWorked, IsDone}
 use Rattle.trips_answers.specs.Worked.{IsDoneBehind}
 use Rattle.trips_answers.specs.Done.{CanBeDone}
 use Rattle.trips_answers.specs.Answer.{IsAnswerBehind, IsAnswer}
 use Rattle.trips_answers.specs.Causes.{HasLargeFile, HasLargeInput}
 use Rattle.trips_explain_answers.proofs.OneFault.{first_bad_once}
+use Rattle.machine_save.proofs.Opened as saves
+use Rattle.machine_save.specs.Spelling.{SaveBytes}
+use Rattle.trips_grid_answers.specs.Runs.{IsRunFrom}
+use Rattle.trips_grid_answers.specs.Saved.{IsNoSave, IsSavedRun, save_text}
 use Rattle.trips_answers.proofs.ReadFiles.{told_text, file_read, input_read, file_large, input_large}
 
 -- images ----------------------------------------------------------------------------------------
@@ -96,6 +99,15 @@ not_worked Run form.Target settings bytes input s report out bad run =
     target_not_refused bytes out run.0 run.1 run.2 bad
 not_worked Run form.Image settings bytes input s report out bad run =
     image_not_refused bytes out run.0 run.1 run.2 bad
+not_worked Run form.Saved settings bytes input s report out bad run =
+    saves.not_both run.0 run.1 bytes bad.0 run.2 bad.1
+not_worked Save form.Source settings bytes input s report out bad run =
+    not_both bytes run.1.lowered.program bad.0 run.1.lowered.accepted bad.1
+not_worked Save form.Target settings bytes input s report out bad run =
+    target_not_refused bytes out run.0 run.1 run.2 bad
+not_worked Save form.Image settings bytes input s report out bad run =
+    image_not_refused bytes out run.0 run.1 run.2 bad
+not_worked Save form.Saved settings bytes input s report out bad run = absurd run
 not_worked Compile how settings bytes input s report out bad run =
     not_both bytes run.1.lowered.program bad.0 run.1.lowered.accepted bad.1
 not_worked Assemble how settings bytes input s report out bad run =
@@ -118,6 +130,11 @@ refused_cannot Evaluate how bytes out bad can = not_both bytes can.0 bad.0 can.1
 refused_cannot Run form.Source bytes out bad can = not_both bytes can.0 bad.0 can.1 bad.1
 refused_cannot Run form.Target bytes out bad can = target_not_refused bytes out can.0 can.1.0 can.1.1 bad
 refused_cannot Run form.Image bytes out bad can = image_not_refused bytes out can.0 can.1.0 can.1.1 bad
+refused_cannot Run form.Saved bytes out bad can = saves.not_both can.0 can.1 bytes bad.0 can.2 bad.1
+refused_cannot Save form.Source bytes out bad can = not_both bytes can.0 bad.0 can.1 bad.1
+refused_cannot Save form.Target bytes out bad can = target_not_refused bytes out can.0 can.1.0 can.1.1 bad
+refused_cannot Save form.Image bytes out bad can = image_not_refused bytes out can.0 can.1.0 can.1.1 bad
+refused_cannot Save form.Saved bytes out bad can = absurd can
 refused_cannot Compile how bytes out bad can = not_both bytes can.0 bad.0 can.1 bad.1
 refused_cannot Assemble how bytes out bad can = faults.not_both can.1.0 bytes bad.0 can.1.1 bad.1
 refused_cannot Disassemble how bytes out bad can = decoded.not_both can.1.0 bytes bad.0 can.1.2 bad.1
@@ -167,6 +184,10 @@ target_once text a b (inl x) (inr y) = absurd (faults.not_both y.0 text x.0 y.3 
 target_once text a b (inr x) (inl y) = absurd (faults.not_both x.0 text y.0 x.3 y.1)
 target_once text a b (inr x) (inr y) = bad_text_once text a b x y
 
+-- bytes that save nothing are refused with one report
+no_save_once : (bytes a b : List ℕ) → IsNoSave bytes a → IsNoSave bytes b → a ≡ b
+no_save_once bytes a b x y = x.2 ∙ ap save_text (saves.one_fault bytes x.0 y.0 x.1 y.1) ∙ sym y.2
+
 -- bytes are refused with one report
 pub refusal_once : (work : Work) (how : FileForm) (bytes a b : List ℕ)
     → IsRefusedAs work how bytes a → IsRefusedAs work how bytes b → a ≡ b
@@ -174,6 +195,11 @@ refusal_once Evaluate how bytes a b x y = front_once bytes a b x y
 refusal_once Run form.Source bytes a b x y = front_once bytes a b x y
 refusal_once Run form.Target bytes a b x y = target_once bytes a b x y
 refusal_once Run form.Image bytes a b x y = image_once bytes a b x y
+refusal_once Run form.Saved bytes a b x y = no_save_once bytes a b x y
+refusal_once Save form.Source bytes a b x y = front_once bytes a b x y
+refusal_once Save form.Target bytes a b x y = target_once bytes a b x y
+refusal_once Save form.Image bytes a b x y = image_once bytes a b x y
+refusal_once Save form.Saved bytes a b x y = absurd x
 refusal_once Compile how bytes a b x y = front_once bytes a b x y
 refusal_once Assemble how bytes a b x y = no_text_once bytes a b x y
 refusal_once Disassemble how bytes a b x y = no_image_once bytes a b x y
@@ -214,6 +240,8 @@ refused_exact told rose Check how settings bytes input s report out d bad =
     done_refused Check how settings bytes input s report out d bad
 refused_exact told rose (Explain file) how settings bytes input s report out d bad =
     done_refused (Explain file) how settings bytes input s report out d bad
+refused_exact told rose Save how settings bytes input s report out d bad =
+    done_refused Save how settings bytes input s report out d bad
 refused_exact told rose Record how settings bytes input s report out d bad =
     done_refused Record how settings bytes input s report out d bad
 
@@ -262,6 +290,50 @@ target_exact settings text input s report image (inl x) spelled good =
     absurd (target_not_refused text x.0 image spelled good x.1)
 target_exact settings text input s report image (inr run) spelled good =
     subst (λ (i : Image). IsRunBy i.blocks i.bytes input settings s report)
+    (texts.one_image run.0 image text run.1 spelled) run.3
+
+-- with the save file of an image and a state, which is gone on with
+pub resumed_exact : (settings : Settings) (bytes input : List ℕ) (s : Status) (report : List ℕ) (image : Image)
+    (t : State) → IsDone Run form.Saved settings bytes input s report → SaveBytes image t bytes
+    → IsRunFrom image.blocks (record t { trace = [] }) settings.seed settings.most settings.show s report
+resumed_exact settings bytes input s report image t (inl x) is =
+    absurd (saves.not_both image t bytes x.1.0 is x.1.1)
+resumed_exact settings bytes input s report image t (inr run) is =
+    let once : saves.SavedOnce run.0 image run.1 t = saves.saved_once run.0 image run.1 t bytes run.2 is in
+    subst (λ (i : Image). IsRunFrom i.blocks (record t { trace = [] }) settings.seed settings.most settings.show s
+    report) once.image
+    (subst (λ (x : State). IsRunFrom run.0.blocks x settings.seed settings.most settings.show s report)
+    (fresh run.1 run.3 ∙ once.state) run.4)
+  where
+    fresh : (x : State) → x.trace ≡ [] → x ≡ record x { trace = [] }
+    fresh x e = ap (λ y. record x { trace = y }) e
+
+-- with an accepted text under `save`
+pub saved_text_exact : (settings : Settings) (text input : List ℕ) (s : Status) (report : List ℕ)
+    (program : TypedProgram) → IsDone Save form.Source settings text input s report
+    → IsAccepted text program → IsSaveOfText settings text input s report
+saved_text_exact settings text input s report program (inl x) is =
+    absurd (not_both text program x.1.0 is x.1.1)
+saved_text_exact settings text input s report program (inr run) is = run
+
+-- with an image of good blocks under `save`
+pub saved_image_exact : (settings : Settings) (bytes input : List ℕ) (s : Status) (report : List ℕ)
+    (image : Image) → IsDone Save form.Image settings bytes input s report → ImageBytes image bytes
+    → All IsGood image.blocks → IsSavedRun image input settings.most s report
+saved_image_exact settings bytes input s report image (inl x) spelled good =
+    absurd (image_not_refused bytes x.0 image spelled good x.1)
+saved_image_exact settings bytes input s report image (inr run) spelled good =
+    subst (λ (i : Image). IsSavedRun i input settings.most s report)
+    (one_image run.0 image bytes run.1 spelled) run.3
+
+-- with the text of an image of good blocks under `save`
+pub saved_target_exact : (settings : Settings) (text input : List ℕ) (s : Status) (report : List ℕ)
+    (image : Image) → IsDone Save form.Target settings text input s report → TargetText image text
+    → All IsGood image.blocks → IsSavedRun image input settings.most s report
+saved_target_exact settings text input s report image (inl x) spelled good =
+    absurd (target_not_refused text x.0 image spelled good x.1)
+saved_target_exact settings text input s report image (inr run) spelled good =
+    subst (λ (i : Image). IsSavedRun i input settings.most s report)
     (texts.one_image run.0 image text run.1 spelled) run.3
 
 -- with an accepted text under `compile`

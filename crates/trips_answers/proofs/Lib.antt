@@ -1,4 +1,3 @@
-pub mod GridRuns
 pub mod Told
 pub mod Traced
 pub mod Rows

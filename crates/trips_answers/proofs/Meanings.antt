@@ -8,7 +8,6 @@ use Rattle.c_front.specs.Fronts.{IsAccepted}
 use Rattle.c_front.proofs.Once.{accepted_once}
 use Rattle.c_meaning_spec.specs.declared.signal.Ending.TheVariants.{Deep}
 use Rattle.c_meaning_spec.specs.Eval.{Outcome, Stopped, Done, eval}
-use Rattle.c_meaning_spec.specs.Laws.{IsInput}
 use Rattle.c_compile.specs.Meant.{DoesText}
 use Rattle.c_compile_laws.specs.Runs.{HasEnded, IsFull, run_of}
 use Rattle.grid_cycle_spec.specs.Costs.{cost_of}

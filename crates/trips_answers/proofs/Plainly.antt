@@ -18,7 +18,7 @@ use Rattle.grid_machine.specs.Answered.{ComesTo}
 use Rattle.grid_cycle.specs.Traps.{is_trap}
 use Rattle.trips_answers.specs.Work.{Work}
 use Rattle.trips_answers.specs.Work.{Run, Evaluate, Compile}
-use Rattle.trips_answers.specs.Work.{Assemble, Disassemble, Check, Explain, Record, Verify}
+use Rattle.trips_answers.specs.Work.{Assemble, Disassemble, Check, Explain, Record, Verify, Save}
 use Rattle.trips_requests.specs.declared.loading.Loaded.{Loaded}
 use Rattle.trips_requests.specs.declared.loading.Loaded.TheVariants.{Fault, TooLarge, Bytes}
 use Rattle.trips_requests.specs.declared.status.Status.{Status}
@@ -32,13 +32,15 @@ use Rattle.trips_answers.specs.Request.{Request, origin_held}
 use Rattle.trips_answers.specs.Settings.{settings_of}
 use Rattle.trips_answers.specs.Asks.{limit_of}
 use Rattle.trips_answers.specs.Read.{IsInputRead, IsLarge}
-use Rattle.trips_answers.specs.Report.{CountsRun, TellsRun, ending_of, run_report, shown_report, status_of, trap_cost}
-use Rattle.trips_answers.specs.Counted.{IsCountedRun}
+use Rattle.trips_answers.specs.Report.{CountsRun, ending_of, run_report, shown_report, status_of, trap_cost}
+use Rattle.trips_grid_answers.specs.Counted.{IsCountedFrom}
+use Rattle.trips_grid_answers.specs.Report.{TellsRunFrom}
+use Rattle.trips_grid_answers.specs.Runs.{IsRunFrom}
 use Rattle.trips_answers.specs.Refused.{IsBad, MayBeRefused}
 use Rattle.trips_answers.specs.Traced.{IsTraceFault, IsTraceRefused}
-use Rattle.trips_answers.specs.Worked.{IsRunBy, IsWorked, IsDone, IsDoneBehind}
+use Rattle.trips_answers.specs.Worked.{IsWorked, IsDone, IsDoneBehind}
 use Rattle.trips_answers.specs.Answer.{IsAnswerBehind, IsAnswer}
-use Rattle.trips_answers.specs.Table.{EndsAs, IsReported}
+use Rattle.trips_answers.specs.Table.{EndsAs, IsReportedFrom}
 use Rattle.trips_answers.specs.Ended.{ResultMeans}
 use Rattle.trips_answers.specs.Evaluated.{ResultTells}
 use Rattle.trips_answers.specs.Done.{CanBeDone, DoesWork}
@@ -69,49 +71,40 @@ within_cost blocks cost cycles ending.Budget within trapped =
 within_cost blocks cost cycles (ending.Trap block cause) within trapped = trapped block cause refl
 
 -- what the grid counts, as far as the machine tells it
-counts_run : (blocks : List Block) (bytes input : List ℕ) (seed budget : ℕ) (ended : Ending) (counts : Counts)
-    → IsCountedRun blocks bytes input seed budget ended counts
-    → CountsRun blocks (runs blocks (start bytes input) budget).0.trace ended counts
-counts_run blocks bytes input seed budget ended counts c =
-    let came : ComesTo blocks (start bytes input) budget ended c.grid = c.ran.comes in
+counts_run : (blocks : List Block) (t : State) (seed budget : ℕ) (ended : Ending) (counts : Counts)
+    → IsCountedFrom blocks t seed budget ended counts
+    → CountsRun blocks (runs blocks t budget).0.trace ended counts
+counts_run blocks t seed budget ended counts c =
+    let came : ComesTo blocks t budget ended c.grid = c.ran.comes in
     record {
       committed = ap (λ (x : Counts). x.committed) c.counted ∙ c.ran.committed
-          ∙ ap (λ (t : State). length t.trace) came.state;
+          ∙ ap (λ (x : State). length x.trace) came.state;
       fetched = subst (λ (x : Counts). x.fetched ≡ x.committed + x.flushed) (sym c.counted) came.counted;
-      within = within_cost blocks (cost_of blocks (runs blocks (start bytes input) budget).0.trace) counts.cycles
+      within = within_cost blocks (cost_of blocks (runs blocks t budget).0.trace) counts.cycles
           ended c.within c.trapped;
       at_most = c.at_most;
     }
 
 -- a run that was made is told
-tells_run : (image : Image) (input : List ℕ) (settings : Settings) (s : Status) (report : List ℕ)
-    → IsRunBy image.blocks image.bytes input settings s report
-    → TellsRun image input settings.most settings.show s report
-tells_run image input settings s report run =
-    let r : State × Stepped = runs image.blocks (start image.bytes input) settings.most in (
-      run.0,
-      counts_run image.blocks image.bytes input settings.seed settings.most (ending_of r.1 r.0.next) run.0 run.1,
-      run.2,
-    )
+tells_run : (blocks : List Block) (t : State) (settings : Settings) (s : Status) (report : List ℕ)
+    → IsRunFrom blocks t settings.seed settings.most settings.show s report
+    → TellsRunFrom blocks t settings.most settings.show s report
+tells_run blocks t settings s report run =
+    let r : State × Stepped = runs blocks t settings.most in
+    (run.0, counts_run blocks t settings.seed settings.most (ending_of r.1 r.0.next) run.0 run.1, run.2)
 
 -- and one that was reported
-pub reported_tells : (image : Image) (input : List ℕ) (settings : Settings) (s : Status) (old new : Option (List ℕ))
-    → IsReported image input settings
-    (status_of (ending_of (runs image.blocks (start image.bytes input) settings.most).1
-    (runs image.blocks (start image.bytes input) settings.most).0.next))
-    (run_report (ending_of (runs image.blocks (start image.bytes input) settings.most).1
-    (runs image.blocks (start image.bytes input) settings.most).0.next)
-    (runs image.blocks (start image.bytes input) settings.most).0) s old new
-    → Wrote old new (TellsRun image input settings.most settings.show s)
-reported_tells image input settings s old new told =
-    let r : State × Stepped = runs image.blocks (start image.bytes input) settings.most in
+pub reported_tells : (blocks : List Block) (t : State) (settings : Settings) (s : Status) (old new : Option (List ℕ))
+    → IsReportedFrom blocks t settings
+    (status_of (ending_of (runs blocks t settings.most).1 (runs blocks t settings.most).0.next))
+    (run_report (ending_of (runs blocks t settings.most).1 (runs blocks t settings.most).0.next)
+    (runs blocks t settings.most).0) s old new
+    → Wrote old new (TellsRunFrom blocks t settings.most settings.show s)
+reported_tells blocks t settings s old new told =
+    let r : State × Stepped = runs blocks t settings.most in
     let e : Ending = ending_of r.1 r.0.next in (
-      shown_report e r.0 told.0 (cost_of image.blocks r.0.trace) settings.show,
-      (
-        told.0,
-        counts_run image.blocks image.bytes input settings.seed settings.most e told.0 told.1,
-        (told.2, refl),
-      ),
+      shown_report e r.0 told.0 (cost_of blocks r.0.trace) settings.show,
+      (told.0, counts_run blocks t settings.seed settings.most e told.0 told.1, (told.2, refl)),
       told.3,
     )
 
@@ -127,12 +120,23 @@ does_work Run form.Source settings bytes input s report run = (
   does_text bytes settings.placing settings.unroll run.0
       (images_mean bytes settings.placing settings.unroll run.0 run.1),
   run.2,
-  tells_run run.0 input settings s report run.3,
+  tells_run run.0.blocks (start run.0.bytes input) settings s report run.3,
 )
 does_work Run form.Target settings bytes input s report run =
-    (run.0, (run.1, run.2), tells_run run.0 input settings s report run.3)
+    (run.0, (run.1, run.2), tells_run run.0.blocks (start run.0.bytes input) settings s report run.3)
 does_work Run form.Image settings bytes input s report run =
-    (run.0, (run.1, run.2), tells_run run.0 input settings s report run.3)
+    (run.0, (run.1, run.2), tells_run run.0.blocks (start run.0.bytes input) settings s report run.3)
+does_work Run form.Saved settings bytes input s report run =
+    (run.0, run.1, run.2, run.3, tells_run run.0.blocks run.1 settings s report run.4)
+does_work Save form.Source settings bytes input s report run = (
+  run.0,
+  does_text bytes settings.placing settings.unroll run.0
+      (images_mean bytes settings.placing settings.unroll run.0 run.1),
+  run.2,
+)
+does_work Save form.Target settings bytes input s report run = (run.0, (run.1, run.2), run.3)
+does_work Save form.Image settings bytes input s report run = (run.0, (run.1, run.2), run.3)
+does_work Save form.Saved settings bytes input s report run = absurd run
 does_work Compile how settings bytes input s report run =
     let means : MeansText bytes settings.placing settings.unroll run.0 =
     images_mean bytes settings.placing settings.unroll run.0 run.1 in (
@@ -158,6 +162,11 @@ worked_can Evaluate how settings bytes input s report run = (run.0, run.1)
 worked_can Run form.Source settings bytes input s report run = (run.1.lowered.program, run.1.lowered.accepted)
 worked_can Run form.Target settings bytes input s report run = (run.0, (run.1, run.2))
 worked_can Run form.Image settings bytes input s report run = (run.0, (run.1, run.2))
+worked_can Run form.Saved settings bytes input s report run = (run.0, run.1, run.2)
+worked_can Save form.Source settings bytes input s report run = (run.1.lowered.program, run.1.lowered.accepted)
+worked_can Save form.Target settings bytes input s report run = (run.0, (run.1, run.2))
+worked_can Save form.Image settings bytes input s report run = (run.0, (run.1, run.2))
+worked_can Save form.Saved settings bytes input s report run = absurd run
 worked_can Compile how settings bytes input s report run = (run.1.lowered.program, run.1.lowered.accepted)
 worked_can Assemble how settings bytes input s report run = (report, run.0)
 worked_can Disassemble how settings bytes input s report run = (report, run.0)
@@ -197,8 +206,8 @@ result_tells held q s old new m =
       output = m.output;
       digits = m.digits;
       counts = m.reported.0;
-      counted = counts_run m.image.blocks m.image.bytes m.input q.seed q.most (ending_of r.1 r.0.next) m.reported.0
-          m.reported.1;
+      counted = counts_run m.image.blocks (start m.image.bytes m.input) q.seed q.most (ending_of r.1 r.0.next)
+          m.reported.0 m.reported.1;
       reported = m.reported.3;
       means = m.means;
     }

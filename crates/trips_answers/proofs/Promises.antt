@@ -1,6 +1,7 @@
 -- What the program promises in plain words, from the table.
 use Rattle.std.proofs.Common.{◌≡◌, ◌≢◌, ℕ, List, [], ◌∷◌, Option, Some, inl, inr}
 use Rattle.trips_isa.specs.declared.block.Image.{Image}
+use Rattle.trips_isa.specs.Machine.{State, start}
 use Rattle.c_tree.specs.declared.typed.TypedProgram.{TypedProgram}
 use Rattle.c_front.specs.Fronts.{IsAccepted}
 use Rattle.c_compile.specs.Images.{MeansText}
@@ -8,10 +9,13 @@ use Rattle.c_compile.specs.Meant.{DoesText}
 use Rattle.c_compile.proofs.Images.{images_mean}
 use Rattle.c_compile.proofs.Meant.{does_text, good_blocks}
 use Rattle.trips_report.specs.declared.show.Show.{Show}
+use Rattle.machine_save.specs.Spelling.{SaveBytes}
+use Rattle.trips_grid_answers.specs.Report.{TellsRunFrom}
+use Rattle.trips_grid_answers.specs.Saved.{IsSavedRun}
 use Rattle.trips_trace_answers.specs.TraceAnswers.{IsVerdict, TellsTrace}
 use Rattle.trips_answers.specs.Work.{Work}
 use Rattle.trips_answers.specs.Work.{Run, Evaluate, Compile}
-use Rattle.trips_answers.specs.Work.{Assemble, Disassemble, Check, Explain, Record, Verify}
+use Rattle.trips_answers.specs.Work.{Assemble, Disassemble, Check, Explain, Record, Verify, Save}
 use Rattle.trips_requests.specs.declared.status.Status.{Status}
 use Rattle.trips_requests.specs.declared.status.Status.TheVariants as status
 use Rattle.trips_requests.specs.Table.{IsOneOf, IsWritten, Reports, Wrote}
@@ -45,7 +49,7 @@ module _ (held : List ℕ → Option (List ℕ)) (rose : Type 0) (old new : Opti
         run.0,
         does_text text asks.q.placing asks.q.unroll run.0
             (images_mean text asks.q.placing asks.q.unroll run.0 run.1),
-        reported_tells run.0 input (settings_with asks.q most show) s old new run.2,
+        reported_tells run.0.blocks (start run.0.bytes input) (settings_with asks.q most show) s old new run.2,
       )
 
   -- the run of an image, or of that of a target text
@@ -54,11 +58,45 @@ module _ (held : List ℕ → Option (List ℕ)) (rose : Type 0) (old new : Opti
       → (rose → ⊥) → (cut → ⊥) → s ≢ status.Memory → Wrote old new (TellsRun image input most show s)
   image_run form.Source most show bytes input image asks is r c m = absurd is
   image_run form.Target most show bytes input image asks is r c m =
-      reported_tells image input (settings_with asks.q most show) s old new
+      reported_tells image.blocks (start image.bytes input) (settings_with asks.q most show) s old new
       (shown.target_run held rose old new cut q s a most show bytes input image asks is.0 is.1 r c m)
+  image_run form.Saved most show bytes input image asks is r c m = absurd is
   image_run form.Image most show bytes input image asks is r c m =
-      reported_tells image input (settings_with asks.q most show) s old new
+      reported_tells image.blocks (start image.bytes input) (settings_with asks.q most show) s old new
       (shown.image_run held rose old new cut q s a most show bytes input image asks is.0 is.1 r c m)
+
+  -- the run that goes on from a saved state
+  pub resumed : (most : ℕ) (show : Show) (bytes input : List ℕ) (image : Image) (t : State)
+      → AsksFor q held Run form.Saved most show bytes input → SaveBytes image t bytes
+      → (rose → ⊥) → (cut → ⊥) → s ≢ status.Memory
+      → Wrote old new (TellsRunFrom image.blocks (record t { trace = [] }) most show s)
+  resumed most show bytes input image t asks is r c m =
+      reported_tells image.blocks (record t { trace = [] }) (settings_with asks.q most show) s old new
+      (shown.resumed held rose old new cut q s a most show bytes input image t asks is r c m)
+
+  -- the saved run of an image, or of that of a target text
+  pub saved : (how : FileForm) (most : ℕ) (show : Show) (bytes input : List ℕ) (image : Image)
+      → AsksFor q held Save how most show bytes input → IsImageIn how bytes image
+      → (rose → ⊥) → (cut → ⊥) → s ≢ status.Memory → Wrote old new (IsSavedRun image input most s)
+  saved form.Source most show bytes input image asks is r c m = absurd is
+  saved form.Saved most show bytes input image asks is r c m = absurd is
+  saved form.Target most show bytes input image asks is r c m =
+      reported.saved_target held rose old new cut q s a most show bytes input image asks is.0 is.1 r c m
+  saved form.Image most show bytes input image asks is r c m =
+      reported.saved_image held rose old new cut q s a most show bytes input image asks is.0 is.1 r c m
+
+  -- that of an image that does what the text means
+  pub saved_text : (most : ℕ) (show : Show) (text input : List ℕ) (program : TypedProgram)
+      → (asks : AsksFor q held Save form.Source most show text input) → IsAccepted text program
+      → (rose → ⊥) → (cut → ⊥) → s ≢ status.Memory
+      → (image : Image) × DoesText text asks.q.unroll image × Wrote old new (IsSavedRun image input most s)
+  saved_text most show text input program asks is r c m =
+      let run = reported.saved_text held rose old new cut q s a most show text input program asks is r c m in (
+        run.0,
+        does_text text asks.q.placing asks.q.unroll run.0
+            (images_mean text asks.q.placing asks.q.unroll run.0 run.1),
+        run.2,
+      )
 
   -- what is compiled
   pub compiled : (how : FileForm) (most : ℕ) (show : Show) (text input : List ℕ) (program : TypedProgram)
@@ -88,6 +126,7 @@ module _ (held : List ℕ → Option (List ℕ)) (rose : Type 0) (old new : Opti
   made Compile how most show bytes input out asks is r c m = absurd is
   made Record how most show bytes input out asks is r c m = absurd is
   made Verify how most show bytes input out asks is r c m = absurd is
+  made Save how most show bytes input out asks is r c m = absurd is
   made Assemble how most show bytes input out asks is r c m =
       reported.assembled held rose old new cut q s a how most show bytes input out asks is r c m
   made Disassemble how most show bytes input out asks is r c m =

@@ -5,14 +5,16 @@ use Rattle.std.proofs.Common.{IfSome, IsSomeAnd, length, ◌⊎◌, inl, inr, re
 use Rattle.std.proofs.Common.{◌∙◌, ap, subst, arith}
 use Rattle.trips_outside.specs.Outside.{Holds}
 use Rattle.trips_isa.specs.declared.block.Block.{Block}
+use Rattle.trips_isa.specs.declared.block.Image.{Image}
 use Rattle.trips_isa.specs.declared.run.Ending.{Ending}
 use Rattle.trips_isa.specs.declared.run.Ending.TheVariants as ending
-use Rattle.trips_isa.specs.Machine.{runs, start}
+use Rattle.trips_isa.specs.declared.run.Stepped.TheVariants.{Went}
+use Rattle.trips_isa.specs.Machine.{State, runs, start}
 use Rattle.c_meaning.specs.declared.outcome.Outcome.{Outcome}
 use Rattle.c_meaning.specs.declared.outcome.Outcome.TheVariants as outcome
 use Rattle.trips_answers.specs.Work.{Work}
 use Rattle.trips_answers.specs.Work.{Run, Evaluate, Compile}
-use Rattle.trips_answers.specs.Work.{Assemble, Disassemble, Check, Explain, Record, Verify}
+use Rattle.trips_answers.specs.Work.{Assemble, Disassemble, Check, Explain, Record, Verify, Save}
 use Rattle.trips_answers.specs.declared.forms.FileForm.{FileForm}
 use Rattle.trips_answers.specs.declared.forms.FileForm.TheVariants as form
 use Rattle.trips_answers.specs.declared.forms.Settings.{Settings}
@@ -27,7 +29,12 @@ use Rattle.trips_answers.specs.Traced.{IsTraceFault, IsTraceRefused}
 use Rattle.trips_answers.specs.Asks.{limit_of, most_input_bytes}
 use Rattle.trips_requests.specs.Table.{IsRead, AfterReading}
 use Rattle.trips_answers.specs.Report.{ending_of, status_of}
-use Rattle.trips_answers.specs.Worked.{IsRunBy, IsWorked, IsDone, IsDoneBehind}
+use Rattle.c_compile.proofs.Images.{images_mean}
+use Rattle.c_compile.proofs.Meant.{does_text}
+use Rattle.trips_grid_answers.specs.Runs.{IsRunFrom}
+use Rattle.trips_grid_answers.specs.Saved.{IsSavedRun}
+use Rattle.trips_answers.specs.Done.{IsImageFor}
+use Rattle.trips_answers.specs.Worked.{IsWorked, IsDone, IsDoneBehind}
 use Rattle.trips_eval_answers.specs.Evaluation.{eval_status, outcome_of}
 use Rattle.trips_answers.specs.Answer.{IsAnswerBehind, IsAnswer}
 use Rattle.trips_answers.specs.Refused.{IsBad, MayBeRefused, IsRefused}
@@ -51,11 +58,29 @@ tells ending.StackFull = refl
 tells ending.Budget = refl
 tells (ending.Trap block cause) = refl
 
-run_tells : (blocks : List Block) (bytes input : List ℕ) (settings : Settings) (s : Status)
-    (report : List ℕ) → IsRunBy blocks bytes input settings s report → is_told s ≡ true
-run_tells blocks bytes input settings s report run =
-    ap is_told run.2.0 ∙ tells (ending_of (runs blocks (start bytes input) settings.most).1
-    (runs blocks (start bytes input) settings.most).0.next)
+run_tells : (blocks : List Block) (t : State) (settings : Settings) (s : Status) (report : List ℕ)
+    → IsRunFrom blocks t settings.seed settings.most settings.show s report → is_told s ≡ true
+run_tells blocks t settings s report run =
+    ap is_told run.2.0 ∙ tells (ending_of (runs blocks t settings.most).1 (runs blocks t settings.most).0.next)
+
+-- a run is over by the number of blocks behind which it is to be saved, of an image that the file is read as
+record IsOver (how : FileForm) (settings : Settings) (bytes input : List ℕ) : Type 0 where
+  pub image : Image
+  pub is_image : IsImageFor how settings.unroll bytes image
+  pub over : (runs image.blocks (start image.bytes input) settings.most).1 ≡ Went → ⊥
+
+-- a status tells how work ended, or the run that is to be saved is over
+abbrev Tells : Work → FileForm → Settings → List ℕ → List ℕ → Status → Type 0
+Tells work how settings bytes input s = (is_told s ≡ true)
+    ⊎ ((s ≡ status.Refused) × (work ≡ Save) × IsOver how settings bytes input)
+
+saved_tells : (how : FileForm) (settings : Settings) (bytes input : List ℕ) (image : Image) (s : Status)
+    (report : List ℕ) → IsImageFor how settings.unroll bytes image → IsSavedRun image input settings.most s report
+    → Tells Save how settings bytes input s
+unfolding is_told
+saved_tells how settings bytes input image s report is (inl saved) = inl (ap is_told saved.2)
+saved_tells how settings bytes input image s report is (inr over) =
+    inr (over.1.0, refl, record { image = image; is_image = is; over = over.0 })
 
 eval_tells : (o : Outcome) → is_told (eval_status o) ≡ true
 unfolding is_told
@@ -64,26 +89,37 @@ eval_tells outcome.Undefined = refl
 eval_tells outcome.Deep = refl
 eval_tells (outcome.Done output result steps) = refl
 
--- work that is done tells how it ended
+-- work that is done tells how it ended, but for a save of a run that is over
 work_tells : (work : Work) (how : FileForm) (settings : Settings) (bytes input : List ℕ)
     (s : Status) (report : List ℕ) → IsWorked work how settings bytes input s report
-    → is_told s ≡ true
+    → Tells work how settings bytes input s
 unfolding is_told
 work_tells Evaluate how settings bytes input s report run =
-    ap is_told run.2.0 ∙ eval_tells (outcome_of run.0 input settings.most)
+    inl (ap is_told run.2.0 ∙ eval_tells (outcome_of run.0 input settings.most))
 work_tells Run form.Source settings bytes input s report run =
-    run_tells run.0.blocks run.0.bytes input settings s report run.3
+    inl (run_tells run.0.blocks (start run.0.bytes input) settings s report run.3)
 work_tells Run form.Target settings bytes input s report run =
-    run_tells run.0.blocks run.0.bytes input settings s report run.3
+    inl (run_tells run.0.blocks (start run.0.bytes input) settings s report run.3)
 work_tells Run form.Image settings bytes input s report run =
-    run_tells run.0.blocks run.0.bytes input settings s report run.3
-work_tells Compile how settings bytes input s report run = ap is_told run.3
-work_tells Assemble how settings bytes input s report run = ap is_told run.1
-work_tells Disassemble how settings bytes input s report run = ap is_told run.1
-work_tells Check how settings bytes input s report run = ap is_told run.1
-work_tells (Explain file) how settings bytes input s report run = ap is_told run.1
-work_tells Verify how settings bytes input s report run = ap is_told run.1.5.0
-work_tells Record how settings bytes input s report run = ap is_told run.2.2 ∙ tells run.2.0
+    inl (run_tells run.0.blocks (start run.0.bytes input) settings s report run.3)
+work_tells Run form.Saved settings bytes input s report run =
+    inl (run_tells run.0.blocks run.1 settings s report run.4)
+work_tells Save form.Source settings bytes input s report run =
+    saved_tells form.Source settings bytes input run.0 s report
+    (does_text bytes settings.placing settings.unroll run.0
+    (images_mean bytes settings.placing settings.unroll run.0 run.1)) run.2
+work_tells Save form.Target settings bytes input s report run =
+    saved_tells form.Target settings bytes input run.0 s report (run.1, run.2) run.3
+work_tells Save form.Image settings bytes input s report run =
+    saved_tells form.Image settings bytes input run.0 s report (run.1, run.2) run.3
+work_tells Save form.Saved settings bytes input s report run = absurd run
+work_tells Compile how settings bytes input s report run = inl (ap is_told run.3)
+work_tells Assemble how settings bytes input s report run = inl (ap is_told run.1)
+work_tells Disassemble how settings bytes input s report run = inl (ap is_told run.1)
+work_tells Check how settings bytes input s report run = inl (ap is_told run.1)
+work_tells (Explain file) how settings bytes input s report run = inl (ap is_told run.1)
+work_tells Verify how settings bytes input s report run = inl (ap is_told run.1.5.0)
+work_tells Record how settings bytes input s report run = inl (ap is_told run.2.2 ∙ tells run.2.0)
 
 -- The kinds of an answer: usage, a fault of reading, a refusal, and the end of the work.
 pub data Kind (q : Option Request) (held : List ℕ
@@ -159,7 +195,7 @@ module _ (q : Request) (held : List ℕ → Option (List ℕ)) (rose : Type 0) (
           ⊎ ((trace : List ℕ) × (text : List ℕ) × Holds (held q.trace) trace × IsTraceRefused bytes input trace text
           × IsFixed status.Refused text s report) → Kind (Some q) held rose s
       go (inl u) = unread u.1.0 u.0
-      go (inr t) = refused t.4.0 (inr (inr (record {
+      go (inr t) = refused t.4.0 (inr (inr (inl (record {
         is_work = f.0;
         bytes = bytes;
         input = input;
@@ -169,20 +205,33 @@ module _ (q : Request) (held : List ℕ → Option (List ℕ)) (rose : Type 0) (
         holds_input = i;
         holds_trace = t.2;
         refused = t.3;
-      })))
+      }))))
 
   done_kind : (bytes input : List ℕ) → Holds (origin_held held q.origin) bytes
-      → length bytes ≤ limit_of q.form → (IsLarge q.input held → ⊥)
+      → length bytes ≤ limit_of q.form → HoldsInput q.input held input → (IsLarge q.input held → ⊥)
       → IsDone q.work q.form (settings_of q) bytes input s report → Kind (Some q) held rose s
-  done_kind bytes input h few small (inl out) =
+  done_kind bytes input h few i small (inl out) =
       refused out.2.0 (inl (of_told (IsBad q) (origin_held held q.origin) bytes h (inr (out.0, out.1))))
-  done_kind bytes input h few small (inr run) =
-      ran (work_tells q.work q.form (settings_of q) bytes input s report run) not_refused
+  done_kind bytes input h few i small (inr run) =
+      by (work_tells q.work q.form (settings_of q) bytes input s report run)
     where
       not_refused : IsRefused (Some q) held → ⊥
       not_refused (inl bad) =
           not_bad bytes input few run (of_read (IsBad q) (origin_held held q.origin) bytes h bad)
       not_refused (inr large) = small large
+
+      by : Tells q.work q.form (settings_of q) bytes input s → Kind (Some q) held rose s
+      by (inl told) = ran told not_refused
+      by (inr over) = refused over.0 (inr (inr (inr (record {
+        is_work = over.1;
+        bytes = bytes;
+        input = input;
+        image = over.2.image;
+        holds = h;
+        holds_input = i;
+        is_image = over.2.is_image;
+        over = over.2.over;
+      }))))
 
   input_kind : (bytes : List ℕ) (loaded : Loaded) → Holds (origin_held held q.origin) bytes
       → length bytes ≤ limit_of q.form → IsInputRead q.input held rose loaded
@@ -194,7 +243,8 @@ module _ (q : Request) (held : List ℕ → Option (List ℕ)) (rose : Type 0) (
       refused a.0 (inr (inl (input_too_large q.input held rose i)))
   input_kind bytes (Bytes input) h few i a =
       elim (part (held q.trace) rose q.work q.form (settings_of q) bytes input s report a) [
-        | inl d ↦ done_kind bytes input h few (not_large_input q.input held rose input i) d
+        | inl d ↦ done_kind bytes input h few (input_held q.input held rose input i)
+            (not_large_input q.input held rose input i) d
         | inr f ↦ traced_kind bytes input h (input_held q.input held rose input i) f
       ]
 

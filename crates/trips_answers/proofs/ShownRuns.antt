@@ -1,10 +1,11 @@
 -- What is written of a run, and what is shown behind it.
 use Rattle.std.proofs.Common.{◌≡◌, ◌≢◌, ℕ, ℤ, ◌+◌, ◌*◌, ◌≤◌, List, [], Option, All, subst}
 use Rattle.trips_outside.specs.Outside.{Appended}
+use Rattle.trips_isa.specs.declared.block.Block.{Block}
 use Rattle.trips_isa.specs.declared.block.Image.{Image}
 use Rattle.trips_isa.specs.declared.run.Ending.TheVariants as ending
 use Rattle.trips_isa.specs.declared.run.Stepped.TheVariants as stepped
-use Rattle.trips_isa.specs.Machine.{runs, start}
+use Rattle.trips_isa.specs.Machine.{State, runs, start}
 use Rattle.c_tree.specs.declared.typed.TypedProgram.{TypedProgram}
 use Rattle.c_meaning_spec.specs.declared.signal.Ending.TheVariants.{Deep}
 use Rattle.c_meaning_spec.specs.Eval.{Stopped, Done, eval}
@@ -23,20 +24,22 @@ use Rattle.trips_requests.specs.declared.status.Status.TheVariants as status
 use Rattle.trips_answers.specs.Request.{Request}
 use Rattle.trips_answers.specs.Settings.{settings_with}
 use Rattle.trips_answers.specs.Report.{ending_of, run_report, status_of, full_report}
-use Rattle.trips_answers.specs.Worked.{IsRunBy, IsRunOfText}
-use Rattle.trips_answers.specs.Table.{IsAnswered, IsReported}
+use Rattle.machine_save.specs.Spelling.{SaveBytes}
+use Rattle.trips_grid_answers.specs.Runs.{IsRunFrom}
+use Rattle.trips_answers.specs.Worked.{IsRunOfText}
+use Rattle.trips_answers.specs.Table.{IsAnswered, IsReported, IsReportedFrom}
 use Rattle.trips_answers.specs.Asks.{AsksFor, ended_report}
 use Rattle.trips_answers.proofs.Compiled.{finished_shown, finished_grid, deep_shown}
-use Rattle.trips_answers.proofs.Exact.{complete, image_exact, text_exact, target_exact}
+use Rattle.trips_answers.proofs.Exact.{complete, image_exact, resumed_exact, text_exact, target_exact}
 use Rattle.trips_answers.proofs.Causes.{whole_of}
 
 -- a run that was made, and what was written of it
-ran : (image : Image) (input : List ℕ) (settings : Settings) (s : Status) (report : List ℕ)
-    (old new : Option (List ℕ)) → IsRunBy image.blocks image.bytes input settings s report
-    → Appended old new report → let run = runs image.blocks (start image.bytes input) settings.most in
-    IsReported image input settings (status_of (ending_of run.1 run.0.next))
+ran : (blocks : List Block) (t : State) (settings : Settings) (s : Status) (report : List ℕ)
+    (old new : Option (List ℕ)) → IsRunFrom blocks t settings.seed settings.most settings.show s report
+    → Appended old new report → let run = runs blocks t settings.most in
+    IsReportedFrom blocks t settings (status_of (ending_of run.1 run.0.next))
     (run_report (ending_of run.1 run.0.next) run.0) s old new
-ran image input settings s report old new run w =
+ran blocks t settings s report old new run w =
     (run.0, run.1, run.2.0, subst (Appended old new) run.2.1 w)
 
 module _ (held : List ℕ → Option (List ℕ)) (rose : Type 0) (old new : Option (List ℕ))
@@ -62,8 +65,11 @@ module _ (held : List ℕ → Option (List ℕ)) (rose : Type 0) (old new : Opti
       (run_report (ending_of run.1 run.0.next) run.0) s old new
   text_run program asks is r c m =
       let row = whole_of held rose old new cut q s a c m in
-      let run = text_done c m program asks is r in
-      (run.0, run.1, ran run.0 input (settings_with asks.q most show) s row.0 old new run.3 row.2)
+      let run = text_done c m program asks is r in (
+        run.0,
+        run.1,
+        ran run.0.blocks (start run.0.bytes input) (settings_with asks.q most show) s row.0 old new run.3 row.2,
+      )
 
   -- a run of the bytes of an image reports the machine's run of it, and behind it what is to be shown
   pub image_run : (image : Image)
@@ -75,7 +81,7 @@ module _ (held : List ℕ → Option (List ℕ)) (rose : Type 0) (old new : Opti
   image_run image asks spelled good r c m =
       let row = whole_of held rose old new cut q s a c m in
       let done = complete q held rose s row.0 row.1 r Run form.Image most show bytes input asks in
-      ran image input (settings_with asks.q most show) s row.0 old new
+      ran image.blocks (start image.bytes input) (settings_with asks.q most show) s row.0 old new
       (image_exact (settings_with asks.q most show) bytes input s row.0 image done spelled good) row.2
 
   -- a run of a target text reports the machine's run of its image, and behind it what is to be shown
@@ -88,8 +94,22 @@ module _ (held : List ℕ → Option (List ℕ)) (rose : Type 0) (old new : Opti
   target_run image asks spelled good r c m =
       let row = whole_of held rose old new cut q s a c m in
       let done = complete q held rose s row.0 row.1 r Run form.Target most show bytes input asks in
-      ran image input (settings_with asks.q most show) s row.0 old new
+      ran image.blocks (start image.bytes input) (settings_with asks.q most show) s row.0 old new
       (target_exact (settings_with asks.q most show) bytes input s row.0 image done spelled good) row.2
+
+  -- a run that goes on reports the machine's run from the state that the bytes save, and behind it what is to be
+  -- shown
+  pub resumed : (image : Image) (t : State)
+      → (asks : AsksFor q held Run form.Saved most show bytes input)
+      → SaveBytes image t bytes → (rose → ⊥) → (cut → ⊥) → s ≢ status.Memory
+      → let run = runs image.blocks (record t { trace = [] }) most in
+      IsReportedFrom image.blocks (record t { trace = [] }) (settings_with asks.q most show)
+      (status_of (ending_of run.1 run.0.next)) (run_report (ending_of run.1 run.0.next) run.0) s old new
+  resumed image t asks saves r c m =
+      let row = whole_of held rose old new cut q s a c m in
+      let done = complete q held rose s row.0 row.1 r Run form.Saved most show bytes input asks in
+      ran image.blocks (record t { trace = [] }) (settings_with asks.q most show) s row.0 old new
+      (resumed_exact (settings_with asks.q most show) bytes input s row.0 image t done saves) row.2
 
   -- a run of a program whose meaning ends with a value, with blocks enough, reports this value, and behind it
   -- what is to be shown of the grid's run, which ends as it is meant to

@@ -4,7 +4,7 @@ use Rattle.trips_isa.specs.declared.block.Image.{Image}
 use Rattle.trips_outside.specs.Outside.{Holds, Rose}
 use Rattle.trips_answers.specs.Work.{Work}
 use Rattle.trips_answers.specs.Work.{Run, Evaluate, Compile}
-use Rattle.trips_answers.specs.Work.{Assemble, Disassemble, Check, Explain, Record, Verify}
+use Rattle.trips_answers.specs.Work.{Assemble, Disassemble, Check, Explain, Record, Verify, Save}
 use Rattle.trips_requests.specs.declared.status.Status.{Status}
 use Rattle.trips_requests.specs.declared.status.Status.TheVariants as status
 use Rattle.trips_requests.specs.Texts.{IsFixed, read_fault_text}
@@ -51,6 +51,7 @@ part told rose Disassemble how settings bytes input s report d = inl d
 part told rose Check how settings bytes input s report d = inl d
 part told rose (Explain file) how settings bytes input s report d = inl d
 part told rose Record how settings bytes input s report d = inl d
+part told rose Save how settings bytes input s report d = inl d
 
 -- a count that rose in the last part of a time rose in the whole
 pub rose_last : (old now new : ℕ) → old ≤ now → Rose now new → Rose old new
@@ -84,6 +85,7 @@ last told old now new Disassemble how settings bytes input s report le d = d
 last told old now new Check how settings bytes input s report le d = d
 last told old now new (Explain file) how settings bytes input s report le d = d
 last told old now new Record how settings bytes input s report le d = d
+last told old now new Save how settings bytes input s report le d = d
 
 -- work that is no judging of a trace is answered as it is done
 pub other : (told : Option (List ℕ)) (rose : Type 0) (work : Work) (how : FileForm) (settings : Settings)
@@ -98,3 +100,4 @@ other told rose Disassemble how settings bytes input s report n d = d
 other told rose Check how settings bytes input s report n d = d
 other told rose (Explain file) how settings bytes input s report n d = d
 other told rose Record how settings bytes input s report n d = d
+other told rose Save how settings bytes input s report n d = d

@@ -2,10 +2,10 @@
 use Rattle.std.specs.Prelude.{◌≡◌, ◌≢◌, ℕ, ◌≤◌, List, [], Option, None, Some, length, false, ◌++◌, codes, ℤ}
 use Rattle.std.specs.Fmt.{signed_decimal}
 use Rattle.trips_answers.specs.declared.forms.FileForm.{FileForm}
-use Rattle.trips_answers.specs.declared.forms.FileForm.TheVariants.{Source, Target, Image}
+use Rattle.trips_answers.specs.declared.forms.FileForm.TheVariants.{Source, Target, Image, Saved}
 use Rattle.trips_answers.specs.Request.{Request, origin_held}
 use Rattle.c_tree.specs.Limits.{most_source_bytes}
-use Rattle.trips_requests.specs.Limits.{most_image_bytes, most_target_bytes}
+use Rattle.trips_requests.specs.Limits.{most_image_bytes, most_save_bytes, most_target_bytes}
 use Rattle.trips_report.specs.declared.show.Show.{Show}
 use Rattle.trips_answers.specs.Work.{Work}
 use Rattle.trips_requests.specs.Texts.{output_and}
@@ -22,6 +22,7 @@ abbrev pub limit_of : FileForm → ℕ
 limit_of Source = most_source_bytes
 limit_of Target = most_target_bytes
 limit_of Image = most_image_bytes
+limit_of Saved = most_save_bytes
 
 -- the input is told, and is this
 abbrev pub IsInput : Option (List ℕ) → (List ℕ → Option (List ℕ)) → List ℕ → Type 0

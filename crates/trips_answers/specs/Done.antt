@@ -1,6 +1,6 @@
 -- What is done with the bytes of a file, said of texts, images and the machine alone: neither the compiler's passes
 -- nor the grid stand in it.
-use Rattle.std.specs.Prelude.{◌≡◌, ℕ, List, All}
+use Rattle.std.specs.Prelude.{◌≡◌, ℕ, List, [], All}
 use Rattle.trips_isa.specs.declared.block.Image.{Image}
 use Rattle.c_tree.specs.declared.typed.TypedProgram.{TypedProgram}
 use Rattle.c_front.specs.Fronts.{IsAccepted}
@@ -14,7 +14,7 @@ use Rattle.trips_trace_answers.specs.TraceAnswers.{IsRecording}
 use Rattle.trips_report.specs.declared.show.Show.{Show}
 use Rattle.trips_answers.specs.Work.{Work}
 use Rattle.trips_answers.specs.Work.{Run, Evaluate, Compile}
-use Rattle.trips_answers.specs.Work.{Assemble, Disassemble, Check, Explain, Record, Verify}
+use Rattle.trips_answers.specs.Work.{Assemble, Disassemble, Check, Explain, Record, Verify, Save}
 use Rattle.trips_requests.specs.declared.status.Status.{Status}
 use Rattle.trips_requests.specs.declared.status.Status.TheVariants as status
 use Rattle.trips_eval_answers.specs.Evaluation.{IsEvaluationOf}
@@ -22,6 +22,10 @@ use Rattle.trips_explain_answers.specs.Explained.{IsAcceptedTold}
 use Rattle.trips_answers.specs.declared.forms.FileForm.{FileForm}
 use Rattle.trips_answers.specs.declared.forms.FileForm.TheVariants as form
 use Rattle.trips_answers.specs.Report.{TellsRun}
+use Rattle.trips_grid_answers.specs.Report.{TellsRunFrom}
+use Rattle.trips_grid_answers.specs.Saved.{IsSavedRun}
+use Rattle.machine_save.specs.Spelling.{SaveBytes}
+use Rattle.trips_isa.specs.Machine.{State}
 use Rattle.trips_answers.specs.Traced.{IsTraceVerified}
 
 -- the text is a program of C, as lexer, grammar and typing have it
@@ -33,6 +37,14 @@ abbrev pub IsImageIn : FileForm → List ℕ → Image → Type 0
 IsImageIn form.Source text image = ⊥
 IsImageIn form.Target text image = TargetText image text × All IsGood image.blocks
 IsImageIn form.Image bytes image = ImageBytes image bytes × All IsGood image.blocks
+IsImageIn form.Saved bytes image = ⊥
+
+-- the image that a run has, by what its file is read as: of a text of C one that does what the text means
+abbrev pub IsImageFor : FileForm → ℕ → List ℕ → Image → Type 0
+IsImageFor form.Source unroll text image = DoesText text unroll image
+IsImageFor form.Target unroll text image = IsImageIn form.Target text image
+IsImageFor form.Image unroll bytes image = IsImageIn form.Image bytes image
+IsImageFor form.Saved unroll bytes image = ⊥
 
 -- A tool makes this of the bytes of its file: `asm` the bytes of the text's image, `dis` the text of the image,
 -- `check` the report on an image of good blocks. Each is made of the bytes alone. What `explain` tells of an accepted
@@ -50,6 +62,11 @@ CanBeDone Evaluate how text = IsProgram text
 CanBeDone Run form.Source text = IsProgram text
 CanBeDone Run form.Target text = (image : Image) × IsImageIn form.Target text image
 CanBeDone Run form.Image bytes = (image : Image) × IsImageIn form.Image bytes image
+CanBeDone Run form.Saved bytes = (image : Image) × (t : State) × SaveBytes image t bytes
+CanBeDone Save form.Source text = IsProgram text
+CanBeDone Save form.Target text = (image : Image) × IsImageIn form.Target text image
+CanBeDone Save form.Image bytes = (image : Image) × IsImageIn form.Image bytes image
+CanBeDone Save form.Saved bytes = ⊥
 CanBeDone Compile how text = IsProgram text
 CanBeDone Assemble how text = (made : List ℕ) × Makes Assemble text made
 CanBeDone Disassemble how bytes = (made : List ℕ) × Makes Disassemble bytes made
@@ -74,6 +91,11 @@ DoesWork Run form.Target unroll most show text input s report =
     (image : Image) × IsImageIn form.Target text image × TellsRun image input most show s report
 DoesWork Run form.Image unroll most show bytes input s report =
     (image : Image) × IsImageIn form.Image bytes image × TellsRun image input most show s report
+DoesWork Run form.Saved unroll most show bytes input s report =
+    (image : Image) × (t : State) × SaveBytes image t bytes × (t.trace ≡ [])
+    × TellsRunFrom image.blocks t most show s report
+DoesWork Save how unroll most show bytes input s report =
+    (image : Image) × IsImageFor how unroll bytes image × IsSavedRun image input most s report
 DoesWork Compile how unroll most show text input s report = WritesImage text unroll report × (s ≡ status.Ended)
 DoesWork Assemble how unroll most show text input s report = Makes Assemble text report × (s ≡ status.Ended)
 DoesWork Disassemble how unroll most show bytes input s report = Makes Disassemble bytes report × (s ≡ status.Ended)

@@ -4,7 +4,6 @@ pub mod Read
 pub mod Report
 pub mod Done
 pub mod Causes
-pub mod Counted
 pub mod Traced
 pub mod Worked
 pub mod Answer

@@ -2,12 +2,14 @@
 use Rattle.std.specs.Prelude.{◌≡◌, ℕ, ◌<◌, List, Option, None, Some, IfSome, IsSomeAnd, length}
 use Rattle.std.specs.Prelude.{◌⊎◌}
 use Rattle.trips_isa.specs.declared.block.Image.{Image}
+use Rattle.trips_isa.specs.declared.run.Stepped.TheVariants.{Went}
+use Rattle.trips_isa.specs.Machine.{runs, start}
 use Rattle.block_check.specs.declared.fault.CheckFault.{CheckFault}
 use Rattle.block_check.specs.Images.{IsFirstBad}
 use Rattle.target_asm_spec.specs.Text.{TargetText}
 use Rattle.trips_answers.specs.Work.{Work}
 use Rattle.trips_answers.specs.Work.{Run, Evaluate, Compile}
-use Rattle.trips_answers.specs.Work.{Assemble, Disassemble, Check, Explain, Record, Verify}
+use Rattle.trips_answers.specs.Work.{Assemble, Disassemble, Check, Explain, Record, Verify, Save}
 use Rattle.trips_answers.specs.declared.forms.FileForm.{FileForm}
 use Rattle.trips_answers.specs.declared.forms.FileForm.TheVariants as form
 use Rattle.trips_answers.specs.Request.{Request, origin_held}
@@ -19,6 +21,8 @@ use Rattle.trips_report.specs.Refusals.{check_text}
 use Rattle.trips_eval_answers.specs.Evaluation.{IsRefusedByFront}
 use Rattle.trips_explain_answers.specs.Explained.{IsRefusalTold}
 use Rattle.trips_tools.specs.ToolAnswers.{IsNoImage, IsBadImage, IsNoText}
+use Rattle.trips_grid_answers.specs.Saved.{IsNoSave}
+use Rattle.trips_answers.specs.Done.{IsImageFor}
 
 -- the text is that of an image, and the report names its first block that is not good
 abbrev pub IsBadText : List ℕ → List ℕ → Type 0
@@ -33,6 +37,11 @@ IsRefusedAs Evaluate how text report = IsRefusedByFront text report
 IsRefusedAs Run form.Source text report = IsRefusedByFront text report
 IsRefusedAs Run form.Target text report = IsNoText text report ⊎ IsBadText text report
 IsRefusedAs Run form.Image bytes report = IsNoImage bytes report ⊎ IsBadImage bytes report
+IsRefusedAs Run form.Saved bytes report = IsNoSave bytes report
+IsRefusedAs Save form.Source text report = IsRefusedByFront text report
+IsRefusedAs Save form.Target text report = IsNoText text report ⊎ IsBadText text report
+IsRefusedAs Save form.Image bytes report = IsNoImage bytes report ⊎ IsBadImage bytes report
+IsRefusedAs Save form.Saved bytes report = ⊥
 IsRefusedAs Compile how text report = IsRefusedByFront text report
 IsRefusedAs Assemble how text report = IsNoText text report
 IsRefusedAs Disassemble how bytes report = IsNoImage bytes report
@@ -58,11 +67,23 @@ pub record MayRefuseTrace (q : Request) (held : List ℕ → Option (List ℕ)) 
   pub holds_trace : Holds (held q.trace) trace
   pub refused : IsTraceRefused bytes input trace text
 
+-- the run that is to be saved is over before, of an image and an input, all as far as they are told
+pub record MayBeOver (q : Request) (held : List ℕ → Option (List ℕ)) : Type 0 where
+  pub is_work : q.work ≡ Save
+  pub bytes : List ℕ
+  pub input : List ℕ
+  pub image : Image
+  pub holds : Holds (origin_held held q.origin) bytes
+  pub holds_input : HoldsInput q.input held input
+  pub is_image : IsImageFor q.form q.unroll bytes image
+  pub over : (runs image.blocks (start image.bytes input) q.most).1 ≡ Went → ⊥
+
 -- the request is refused only where this holds
 abbrev pub MayBeRefused : Option Request → (List ℕ → Option (List ℕ)) → Type 0
 MayBeRefused None held = ⊥
 MayBeRefused (Some q) held =
-    IfSome (origin_held held q.origin) (IsBad q) ⊎ (MayBeLarge q.input held ⊎ MayRefuseTrace q held)
+    IfSome (origin_held held q.origin) (IsBad q)
+    ⊎ (MayBeLarge q.input held ⊎ (MayRefuseTrace q held ⊎ MayBeOver q held))
 
 -- and it is refused where this holds
 abbrev pub IsRefused : Option Request → (List ℕ → Option (List ℕ)) → Type 0

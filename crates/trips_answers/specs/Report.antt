@@ -1,74 +1,16 @@
--- The reports of runs that the program writes, those of `trips_report`: of what the machine does, and of what was
--- counted, as far as the machine tells it.
-use Rattle.std.specs.Prelude.{◌≡◌, ℕ, ◌+◌, ◌≤◌, List, length, slice_get, codes}
-use Rattle.trips_isa.specs.declared.block.Block.{Block}
+-- The reports of runs that the program writes, of what the machine does and of what was counted: those of
+-- `trips_grid_answers`, and what they tell of an image.
+use Rattle.std.specs.Prelude.{ℕ, List}
 use Rattle.trips_isa.specs.declared.block.Image.{Image}
-use Rattle.trips_isa.specs.declared.run.Counts.{Counts}
-use Rattle.trips_isa.specs.declared.run.Ending.{Ending}
-use Rattle.trips_isa.specs.declared.run.Ending.TheVariants as ending
-use Rattle.trips_isa.specs.declared.run.Stepped.{Stepped}
-use Rattle.trips_isa.specs.declared.run.Stepped.TheVariants as stepped
-use Rattle.trips_isa.specs.declared.run.Traced.{Traced}
-use Rattle.trips_isa.specs.Machine.{State, runs, start}
-use Rattle.grid_cycle_spec.specs.Costs.{cost_in, cost_of, greatest_cost}
+use Rattle.trips_isa.specs.Machine.{start}
 use Rattle.trips_report.specs.declared.show.Show.{Show}
-use Rattle.trips_report.specs.Runs as reports
-use Rattle.trips_report.specs.Runs.{plain_report}
-use Rattle.trips_trace_answers.specs.TraceAnswers as traces
 use Rattle.trips_requests.specs.declared.status.Status.{Status}
-use Rattle.trips_requests.specs.Texts.{IsFixed, output_and}
-
--- how a run ended, of which so many steps were made as the budget has, or fewer: a trap leaves the
--- block that faults as the next one
-abbrev pub ending_of : Stepped → ℕ → Ending
-ending_of stepped.Went next = ending.Budget
-ending_of stepped.Ended next = ending.Ended
-ending_of stepped.StackFull next = ending.StackFull
-ending_of (stepped.Trap cause) next = ending.Trap next cause
-
--- the status that tells an ending, as it does behind a trace
-abbrev pub status_of : Ending → Status
-status_of ended = traces.status_of ended
-
--- the report of a run, from how it ended, the state at its end, what the grid counted and what the committed blocks
--- may cost, and what is shown behind it
-abbrev pub shown_report : Ending → State → Counts → ℕ → Show → List ℕ
-shown_report ending s counts cost show = reports.run_report ending s counts cost show
-
--- a report, and behind it what is shown of the end of the run
-abbrev pub shown_behind : List ℕ → State → Counts → ℕ → Show → List ℕ
-shown_behind report s counts cost show = reports.with_shown report s counts cost show
-
--- the report of a run where nothing is shown behind it
-abbrev pub run_report : Ending → State → List ℕ
-run_report ending s = plain_report ending s
-
--- the report of a run whose stack was full, with the output so far
-abbrev pub full_report : List ℕ → List ℕ
-full_report output = output_and output (codes "stack full")
-
--- what the block costs at which a run trapped, and nothing of any other run
-abbrev pub trap_cost : List Block → Ending → ℕ
-trap_cost blocks (ending.Trap block cause) = cost_in (slice_get blocks block)
-trap_cost blocks _ = 0
-
--- What is counted of a run whose committed blocks are this trace, and which ended so. Whose counts they are stands in
--- `IsCountedRun`: those of a grid that exactly so many cycles lead to from the seed's start.
-pub record CountsRun (blocks : List Block) (trace : List Traced) (ended : Ending) (counts : Counts) : Type 0 where
-  -- each block of the trace is counted as committed, and no other
-  pub committed : counts.committed ≡ length trace
-  -- each frame that was fetched has been committed or flushed
-  pub fetched : counts.fetched ≡ counts.committed + counts.flushed
-  -- there were no more cycles than the blocks of the trace cost, and besides the one that trapped
-  pub within : counts.cycles ≤ cost_of blocks trace + trap_cost blocks ended
-  -- and so no more than that and the greatest cost of a block
-  pub at_most : counts.cycles ≤ cost_of blocks trace + greatest_cost
+use Rattle.trips_grid_answers.specs.Report.{TellsRunFrom}
+pub use Rattle.trips_report.specs.Endings.{status_of}
+pub use Rattle.trips_grid_answers.specs.Report.{ending_of, shown_report, shown_behind, run_report}
+pub use Rattle.trips_grid_answers.specs.Report.{full_report, trap_cost, CountsRun}
 
 -- These tell the machine's run of an image on an input, within so many blocks: the status how it ended, and the
 -- report what it put out and how it ended, with what is shown behind that of its end and of its counts.
 abbrev pub TellsRun : Image → List ℕ → ℕ → Show → Status → List ℕ → Type 0
-TellsRun image input most show s report =
-    let run = runs image.blocks (start image.bytes input) most in
-    let ended = ending_of run.1 run.0.next in
-    (counts : Counts) × CountsRun image.blocks run.0.trace ended counts
-    × IsFixed (status_of ended) (shown_report ended run.0 counts (cost_of image.blocks run.0.trace) show) s report
+TellsRun image input most show s report = TellsRunFrom image.blocks (start image.bytes input) most show s report

@@ -50,7 +50,7 @@ pub record Request : Type 0 where
   pub most : ℕ
   pub show : Show
 
--- what `run` and `explain` read a file as, by the ending of its name
+-- what `run`, `save` and `explain` read a file as, by the ending of its name
 abbrev pub form_named : List ℕ → FileForm
 form_named file = if ends_with nat_eq file (codes ".img") then form.Image
     else if ends_with nat_eq file (codes ".tasl") then form.Target else form.Source
@@ -66,6 +66,8 @@ form_of command.Check file = form.Image
 form_of command.Explain file = form_named file
 form_of command.Record file = form.Image
 form_of command.Verify file = form.Image
+form_of command.Save file = form_named file
+form_of command.Resume file = form.Saved
 
 -- the request that words ask for
 abbrev pub planned : line.Request → Request

@@ -1,9 +1,10 @@
 -- What a call of the program answered and wrote, status by status.
 use Rattle.std.specs.Prelude.{◌≡◌, ℕ, List, Option, Some}
 use Rattle.trips_outside.specs.Outside.{Appended, Holds}
+use Rattle.trips_isa.specs.declared.block.Block.{Block}
 use Rattle.trips_isa.specs.declared.block.Image.{Image}
 use Rattle.trips_isa.specs.declared.run.Counts.{Counts}
-use Rattle.trips_isa.specs.Machine.{runs, start}
+use Rattle.trips_isa.specs.Machine.{State, runs, start}
 use Rattle.grid_cycle_spec.specs.Costs.{cost_of}
 use Rattle.trips_answers.specs.Work.{Evaluate}
 use Rattle.trips_answers.specs.declared.forms.Settings.{Settings}
@@ -13,7 +14,7 @@ use Rattle.trips_answers.specs.Request.{Request, origin_held}
 use Rattle.trips_answers.specs.Settings.{settings_of}
 use Rattle.trips_answers.specs.Read.{HoldsInput}
 use Rattle.trips_answers.specs.Report.{ending_of, shown_behind}
-use Rattle.trips_answers.specs.Counted.{IsCountedRun}
+use Rattle.trips_grid_answers.specs.Counted.{IsCountedFrom}
 use Rattle.trips_answers.specs.Worked.{IsWorked}
 use Rattle.trips_answers.specs.Answer.{IsAnswer}
 
@@ -23,15 +24,21 @@ abbrev pub IsAnswered : Option Request → (List ℕ → Option (List ℕ)) → 
     → Option (List ℕ) → Option (List ℕ) → Type 0 → Status → Type 0
 IsAnswered request held rose old new cut s = IsWritten (IsAnswer request held rose) old new cut s
 
--- The run of an image was reported: with this status, and with this text, behind which stands what is shown of the
+-- The run from a state was reported: with this status, and with this text, behind which stands what is shown of the
 -- end of the machine's run and of the counts of the grid's run.
+abbrev pub IsReportedFrom : List Block → State → Settings → Status → List ℕ → Status → Option (List ℕ)
+    → Option (List ℕ) → Type 0
+IsReportedFrom blocks t settings wanted text s old new =
+    let run = runs blocks t settings.most in
+    (counts : Counts) × IsCountedFrom blocks t settings.seed settings.most
+    (ending_of run.1 run.0.next) counts × (s ≡ wanted)
+    × Appended old new (shown_behind text run.0 counts (cost_of blocks run.0.trace) settings.show)
+
+-- so was the run of an image on an input, from the start
 abbrev pub IsReported : Image → List ℕ → Settings → Status → List ℕ → Status → Option (List ℕ)
     → Option (List ℕ) → Type 0
 IsReported image input settings wanted text s old new =
-    let run = runs image.blocks (start image.bytes input) settings.most in
-    (counts : Counts) × IsCountedRun image.blocks image.bytes input settings.seed settings.most
-    (ending_of run.1 run.0.next) counts × (s ≡ wanted)
-    × Appended old new (shown_behind text run.0 counts (cost_of image.blocks run.0.trace) settings.show)
+    IsReportedFrom image.blocks (start image.bytes input) settings wanted text s old new
 
 -- A request's work ended with this status: the file and the input are those that the names hold, as
 -- far as they are told, and the status and some report are those of the work with them.

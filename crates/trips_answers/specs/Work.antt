@@ -3,7 +3,8 @@ use Rattle.std.specs.Prelude.{ℕ, List}
 use Rattle.trips_requests.specs.declared.commands.Command.{Command}
 use Rattle.trips_requests.specs.declared.commands.Command.TheVariants as command
 
--- What is done. An explanation says the name of the file in what it tells.
+-- What is done. An explanation says the name of the file in what it tells. A run goes on from a saved state where its
+-- file is read as one.
 pub data Work : Type 0 where
   Run : Work
   Evaluate : Work
@@ -14,6 +15,7 @@ pub data Work : Type 0 where
   Explain : (file : List ℕ) → Work
   Record : Work
   Verify : Work
+  Save : Work
 
 -- the work of a command with the file of this name
 abbrev pub work_on : Command → List ℕ → Work
@@ -26,3 +28,5 @@ work_on command.Check file = Check
 work_on command.Explain file = Explain file
 work_on command.Record file = Record
 work_on command.Verify file = Verify
+work_on command.Save file = Save
+work_on command.Resume file = Run

@@ -2,12 +2,10 @@
 use Rattle.std.specs.Prelude.{◌≡◌, ◌⊎◌, ℕ, List, Option, All}
 use Rattle.trips_isa.specs.declared.block.Block.{Block}
 use Rattle.trips_isa.specs.declared.block.Image.{Image}
-use Rattle.trips_isa.specs.declared.run.Counts.{Counts}
-use Rattle.trips_isa.specs.Machine.{runs, start}
+use Rattle.trips_isa.specs.Machine.{start}
 use Rattle.c_compile.specs.Images.{IsImageOf}
 use Rattle.c_meaning_spec.specs.Laws.{IsInput}
 use Rattle.grid_place.specs.declared.placed.Placing.{Placing}
-use Rattle.grid_cycle_spec.specs.Costs.{cost_of}
 use Rattle.block_image.specs.Spelling.{ImageBytes}
 use Rattle.block_check.specs.Faults.{IsGood}
 use Rattle.target_asm_spec.specs.Text.{TargetText}
@@ -15,7 +13,7 @@ use Rattle.trips_tools.specs.Tools.{IsOneImage, IsGoodImage}
 use Rattle.trips_trace_answers.specs.TraceAnswers.{IsRecording, IsRefusedImage, IsVerified}
 use Rattle.trips_answers.specs.Work.{Work}
 use Rattle.trips_answers.specs.Work.{Run, Evaluate, Compile}
-use Rattle.trips_answers.specs.Work.{Assemble, Disassemble, Check, Explain, Record, Verify}
+use Rattle.trips_answers.specs.Work.{Assemble, Disassemble, Check, Explain, Record, Verify, Save}
 use Rattle.trips_answers.specs.declared.forms.FileForm.{FileForm}
 use Rattle.trips_answers.specs.declared.forms.FileForm.TheVariants as form
 use Rattle.trips_answers.specs.declared.forms.Settings.{Settings}
@@ -24,9 +22,9 @@ use Rattle.trips_requests.specs.declared.status.Status.TheVariants as status
 use Rattle.trips_requests.specs.Texts.{IsFixed}
 use Rattle.trips_eval_answers.specs.Evaluation.{IsEvaluationOf}
 use Rattle.trips_explain_answers.specs.Explained.{IsAcceptedTold}
-use Rattle.trips_answers.specs.Report.{ending_of, shown_report, status_of}
 use Rattle.trips_answers.specs.Refused.{IsRefusedAs}
-use Rattle.trips_answers.specs.Counted.{IsCountedRun}
+use Rattle.trips_grid_answers.specs.Runs.{IsRunFrom}
+use Rattle.trips_grid_answers.specs.Saved.{IsResumedRun, IsSavedRun}
 use Rattle.trips_answers.specs.Traced.{IsTraceVerified}
 
 -- Runs ------------------------------------------------------------------------------------------
@@ -35,11 +33,7 @@ use Rattle.trips_answers.specs.Traced.{IsTraceVerified}
 -- counted of it.
 abbrev pub IsRunBy : List Block → List ℕ → List ℕ → Settings → Status → List ℕ → Type 0
 IsRunBy blocks bytes input settings s report =
-    let run = runs blocks (start bytes input) settings.most in
-    let ended = ending_of run.1 run.0.next in
-    (counts : Counts) × IsCountedRun blocks bytes input settings.seed settings.most ended counts
-    × IsFixed (status_of ended)
-    (shown_report ended run.0 counts (cost_of blocks run.0.trace) settings.show) s report
+    IsRunFrom blocks (start bytes input) settings.seed settings.most settings.show s report
 
 -- What is done with the bytes of a file -------------------------------------------------------
 
@@ -58,6 +52,21 @@ abbrev pub IsRunOfTarget : Settings → List ℕ → List ℕ → Status → Lis
 IsRunOfTarget settings text input s report = (image : Image) × TargetText image text
     × All IsGood image.blocks × IsRunBy image.blocks image.bytes input settings s report
 
+-- the run of the image that is compiled from the text is saved, or it is over
+abbrev pub IsSaveOfText : Settings → List ℕ → List ℕ → Status → List ℕ → Type 0
+IsSaveOfText settings text input s report = (image : Image) × IsImageOf text settings.placing settings.unroll image
+    × IsSavedRun image input settings.most s report
+
+-- so is the run of the image, all of whose blocks are good
+abbrev pub IsSaveOfImage : Settings → List ℕ → List ℕ → Status → List ℕ → Type 0
+IsSaveOfImage settings bytes input s report = (image : Image) × ImageBytes image bytes
+    × All IsGood image.blocks × IsSavedRun image input settings.most s report
+
+-- so is the run of the image of the target text, all of whose blocks are good
+abbrev pub IsSaveOfTarget : Settings → List ℕ → List ℕ → Status → List ℕ → Type 0
+IsSaveOfTarget settings text input s report = (image : Image) × TargetText image text
+    × All IsGood image.blocks × IsSavedRun image input settings.most s report
+
 -- the image that is compiled from the text is written
 abbrev pub IsCompiled : Placing → ℕ → List ℕ → Status → List ℕ → Type 0
 IsCompiled placing unroll text s report = (image : Image) × IsImageOf text placing unroll image
@@ -70,6 +79,12 @@ IsWorked Evaluate how settings text input s report = IsEvaluationOf settings.mos
 IsWorked Run form.Source settings text input s report = IsRunOfText settings text input s report
 IsWorked Run form.Target settings text input s report = IsRunOfTarget settings text input s report
 IsWorked Run form.Image settings bytes input s report = IsRunOfImage settings bytes input s report
+IsWorked Run form.Saved settings bytes input s report =
+    IsResumedRun bytes settings.seed settings.most settings.show s report
+IsWorked Save form.Source settings text input s report = IsSaveOfText settings text input s report
+IsWorked Save form.Target settings text input s report = IsSaveOfTarget settings text input s report
+IsWorked Save form.Image settings bytes input s report = IsSaveOfImage settings bytes input s report
+IsWorked Save form.Saved settings bytes input s report = ⊥
 IsWorked Compile how settings text input s report = IsCompiled settings.placing settings.unroll text s report
 IsWorked Assemble how settings text input s report = IsOneImage text report × (s ≡ status.Ended)
 IsWorked Disassemble how settings bytes input s report = IsOneImage report bytes × (s ≡ status.Ended)

@@ -2,31 +2,35 @@
 
 ghost use Rattle.std.specs.Prelude.{◌≡◌, ◌<◌, ◌≤◌, length, Some, IfOk, IfSome, option_map};
 ghost use Rattle.trips_outside.specs.Outside.{Rose};
-ghost use Rattle.trips_answers.specs.Work.{Run, work_on};
+ghost use Rattle.trips_answers.specs.Work.{Run, Save, work_on};
 ghost use Rattle.trips_answers.specs.Request.{form_of};
 ghost use Rattle.trips_answers.specs.Settings.{settings_of};
 ghost use Rattle.trips_answers.specs.inside.Settings.{request_seen};
-ghost use Rattle.trips_answers.specs.Asks.{limit_of};
+ghost use Rattle.trips_answers.specs.Asks.{limit_of, most_input_bytes};
+ghost use Rattle.trips_requests.specs.Limits.{most_count};
+ghost use Rattle.trips_requests.specs.inside.Read.{IsWithin};
 ghost use Rattle.trips_answers.specs.Worked.{IsDone, IsDoneBehind};
 ghost use Rattle.trips_answers.specs.Answer.{IsAnswerBehind, IsAnswer};
 ghost use Rattle.trips_requests.specs.Table.{AfterReading};
 
 use crate::forms::{FileForm, Settings, form_of, settings_for};
 use crate::image_answer::{bytes_answer, target_answer};
-use crate::loading::{read_input, read_origin};
+use crate::loading::{MOST_SAVE_BYTES, read_input, read_origin};
+use crate::saved_answer::{bytes_saved, target_saved, text_saved};
 use crate::text_answer::{text_answer, text_compiled};
 use base::Items;
 use c_tree::MOST_SOURCE_BYTES;
 use std::alloc::{AllocError, Global};
 use trips_eval_answers::text_evaluated;
 use trips_explain_answers::file_explained;
+use trips_grid_answers::resumed;
 use trips_outside::Files;
 use trips_requests::{Answer, Asked, Command, Loaded, Tool, no_request, too_large, unread};
 use trips_tools::{MOST_IMAGE_BYTES, MOST_TARGET_BYTES, tool_done};
 use trips_trace_answers::{recorded, verified};
 
 // How many bytes a file may have, by what it is read as.
-#[tactic(auto, unfolding(c_tree::specs::Limits::most_source_bytes, trips_requests::specs::Limits::most_target_bytes, trips_requests::specs::Limits::most_image_bytes))]
+#[tactic(auto, unfolding(c_tree::specs::Limits::most_source_bytes, trips_requests::specs::Limits::most_target_bytes, trips_requests::specs::Limits::most_image_bytes, trips_requests::specs::Limits::most_save_bytes))]
 fn limit_for(form: FileForm) -> u64
     ensures { result ≡ limit_of form }
 {
@@ -34,6 +38,7 @@ fn limit_for(form: FileForm) -> u64
         FileForm::Source => MOST_SOURCE_BYTES,
         FileForm::Target => MOST_TARGET_BYTES,
         FileForm::Image => MOST_IMAGE_BYTES,
+        FileForm::Saved => MOST_SAVE_BYTES,
     }
 }
 
@@ -55,6 +60,32 @@ fn run_done(
         FileForm::Source => text_answer(alloc, bytes, input, settings),
         FileForm::Target => target_answer(alloc, bytes, input, settings),
         FileForm::Image => bytes_answer(alloc, bytes, input, settings),
+        FileForm::Saved => resumed(alloc, bytes, settings.seed, settings.most, settings.show),
+    }
+}
+
+// Saves the run of what the bytes of a file are.
+fn save_done(
+    alloc: Global,
+    form: FileForm,
+    bytes: &[u8],
+    input: Items<u8>,
+    settings: Settings,
+) -> Result<Answer, AllocError>
+    requires few { length bytes.now ≤ limit_of form }
+    requires some { 0 < settings.most }
+    requires most { settings.most ≤ most_count }
+    requires turns { 0 < settings.unroll }
+    requires input { length input ≤ most_input_bytes }
+    ensures { IfOk result (λ answer. IsDone Save form settings bytes.now input
+        answer.status answer.report.items) }
+{
+    match form {
+        FileForm::Source => text_saved(alloc, bytes, input, settings),
+        FileForm::Target => target_saved(alloc, bytes, input, settings),
+        FileForm::Image => bytes_saved(alloc, bytes, input, settings),
+        // no name is one of such a file
+        FileForm::Saved => Err(AllocError),
     }
 }
 
@@ -76,7 +107,9 @@ fn work_done(
     input: Items<u8>,
 ) -> Result<Answer, AllocError>
     requires few { length bytes.now ≤ limit_of (form_of asked.command asked.file.now) }
+    requires input { length input ≤ most_input_bytes }
     requires some { 0 < asked.most }
+    requires most { asked.most ≤ most_count }
     requires turns { 0 < asked.unroll }
     ensures { IfOk result (λ answer. IsDone (work_on asked.entry.command asked.entry.file.now)
         (form_of asked.entry.command asked.entry.file.now) (settings_of (request_seen asked.entry))
@@ -97,6 +130,11 @@ fn work_done(
         Command::Record => recorded(alloc, bytes, input, settings.most),
         // done by the caller
         Command::Verify => Err(AllocError),
+        Command::Save => {
+            let form = form_of(asked.command, asked.file);
+            save_done(alloc, form, bytes, input, settings)
+        }
+        Command::Resume => run_done(alloc, FileForm::Saved, bytes, input, settings),
     }
 }
 
@@ -109,7 +147,9 @@ fn done<F: Files>(
     input: Items<u8>,
 ) -> Result<Answer, AllocError>
     requires few { length bytes.now ≤ limit_of (form_of asked.command asked.file.now) }
+    requires input { length input ≤ most_input_bytes }
     requires some { 0 < asked.most }
+    requires most { asked.most ≤ most_count }
     requires turns { 0 < asked.unroll }
     ensures answer { IfOk result (λ answer. IsDoneBehind (F.held files.old (request_seen asked.entry).trace)
         (Rose (F.faults files.old) (F.faults files.new)) (work_on asked.entry.command asked.entry.file.now)
@@ -133,7 +173,9 @@ fn input_answer<F: Files>(
     loaded: Loaded,
 ) -> Result<Answer, AllocError>
     requires few { length bytes.now ≤ limit_of (form_of asked.command asked.file.now) }
+    requires input { IsWithin most_input_bytes loaded }
     requires some { 0 < asked.most }
+    requires most { asked.most ≤ most_count }
     requires turns { 0 < asked.unroll }
     ensures answer { IfOk result (λ answer. AfterReading loaded
         (λ input. IsDoneBehind (F.held files.old (request_seen asked.entry).trace)
@@ -160,6 +202,7 @@ fn file_answer<F: Files>(
 ) -> Result<Answer, AllocError>
     requires few { length bytes.now ≤ limit_of (form_of asked.command asked.file.now) }
     requires some { 0 < asked.most }
+    requires most { asked.most ≤ most_count }
     requires turns { 0 < asked.unroll }
     ensures answer { IfOk result (λ answer. IsAnswerBehind (request_seen asked.entry)
         (F.held files.old) (Rose (F.faults files.old) (F.faults files.new)) bytes.now
@@ -178,6 +221,7 @@ fn asked_answer<F: Files>(
     asked: Asked<'_>,
 ) -> Result<Answer, AllocError>
     requires some { 0 < asked.most }
+    requires most { asked.most ≤ most_count }
     requires turns { 0 < asked.unroll }
     ensures answer { IfOk result (λ answer. IsAnswer (Some (request_seen asked.entry))
         (F.held files.old) (Rose (F.faults files.old) (F.faults files.new))
@@ -200,6 +244,7 @@ pub fn answer_to<F: Files>(
     asked: Option<Asked<'_>>,
 ) -> Result<Answer, AllocError>
     requires some { IfSome asked (λ request. 0 < request.most) }
+    requires most { IfSome asked (λ request. request.most ≤ most_count) }
     requires turns { IfSome asked (λ request. 0 < request.unroll) }
     ensures answer { IfOk result (λ answer. IsAnswer (option_map request_seen asked.entry)
         (F.held files.old) (Rose (F.faults files.old) (F.faults files.new))

@@ -15,6 +15,8 @@ pub enum FileForm {
     Source,
     Target,
     Image,
+    /// a state that was saved
+    Saved,
 }
 
 /// How the work of a request is done.
@@ -32,7 +34,7 @@ pub struct Settings {
     pub show: Show,
 }
 
-// What `run` and `explain` read a file as, by the ending of its name.
+// What `run`, `save` and `explain` read a file as, by the ending of its name.
 fn form_named(file: &str) -> FileForm
     ensures { result ≡ form_named file.now }
 {
@@ -60,6 +62,8 @@ pub fn form_of(command: Command, file: &str) -> FileForm
         Command::Explain => form_named(file),
         Command::Record => FileForm::Image,
         Command::Verify => FileForm::Image,
+        Command::Save => form_named(file),
+        Command::Resume => FileForm::Saved,
     }
 }
 

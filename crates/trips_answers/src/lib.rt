@@ -11,7 +11,7 @@ mod gridded;
 mod image_answer;
 mod law;
 mod loading;
-mod report;
+mod saved_answer;
 mod text_answer;
 
 pub use asked_answer::answer_to;

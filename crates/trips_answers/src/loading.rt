@@ -5,6 +5,7 @@ ghost use Rattle.trips_outside.specs.Outside.{Rose};
 ghost use Rattle.trips_answers.specs.Request.{origin_held, origin_of};
 ghost use Rattle.trips_answers.specs.Read.{IsInputRead};
 ghost use Rattle.trips_answers.specs.Asks.{most_input_bytes};
+ghost use Rattle.trips_requests.specs.Limits.{most_save_bytes};
 ghost use Rattle.trips_requests.specs.Table.{IsRead};
 ghost use Rattle.trips_requests.specs.inside.Read.{IsWithin};
 
@@ -17,10 +18,14 @@ use trips_requests::{Loaded, read};
 /// How many bytes an input may have.
 pub const MOST_INPUT_BYTES: u64 = 1_048_576;
 
-/// The limit of the code is that of the definitions. It does nothing when it runs.
-#[tactic(auto, unfolding(crate::specs::Asks::most_input_bytes))]
+/// How many bytes a save file may have.
+pub const MOST_SAVE_BYTES: u64 = 81_000_000;
+
+/// The limits of the code are those of the definitions. It does nothing when it runs.
+#[tactic(auto, unfolding(crate::specs::Asks::most_input_bytes, trips_requests::specs::Limits::most_save_bytes))]
 pub fn constants_are_the_definitions()
-    ensures { MOST_INPUT_BYTES ≡ most_input_bytes }
+    ensures input { MOST_INPUT_BYTES ≡ most_input_bytes }
+    ensures save { MOST_SAVE_BYTES ≡ most_save_bytes }
 {}
 
 /// Reads what a request works with, which may have at most `limit` bytes: the file, or the text of the
@@ -60,6 +65,7 @@ pub fn read_input<F: Files>(
 ) -> Result<Loaded, AllocError>
     ensures ok { IfOk result (IsInputRead (option_copied name.entry) (F.held files.old)
         (Rose (F.faults files.old) (F.faults files.new))) }
+    ensures within { IfOk result (IsWithin most_input_bytes) }
     ensures kept { F.held files.new ≡ F.held files.old }
     ensures later { F.faults files.old ≤ F.faults files.new }
 {

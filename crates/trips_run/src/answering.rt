@@ -5,7 +5,7 @@ ghost use Rattle.std.specs.Prelude.{◌≡◌, ◌≤◌, ◌+◌, ◌*◌, ◌�
 ghost use Rattle.trips_isa.specs.declared.block.Image.{Image};
 ghost use Rattle.trips_isa.specs.declared.run.Ending.TheVariants as ending;
 ghost use Rattle.trips_isa.specs.declared.run.Stepped.TheVariants as stepped;
-ghost use Rattle.trips_isa.specs.Machine.{runs, start};
+ghost use Rattle.trips_isa.specs.Machine.{State, runs, start};
 ghost use Rattle.c_tree.specs.declared.typed.TypedProgram.{TypedProgram};
 ghost use Rattle.c_front.specs.Fronts.{IsAccepted};
 ghost use Rattle.c_meaning_spec.specs.declared.signal.Ending.TheVariants.{Deep};
@@ -14,6 +14,7 @@ ghost use Rattle.c_compile.specs.Images.{IsImageOf};
 ghost use Rattle.grid_meaning.specs.Meant.{EndsAsMeant};
 ghost use Rattle.block_image.specs.Spelling.{ImageBytes};
 ghost use Rattle.block_check.specs.Faults.{IsGood};
+ghost use Rattle.machine_save.specs.Spelling.{SaveBytes};
 ghost use Rattle.trips_outside.specs.Outside.{Rose, Appended};
 ghost use Rattle.target_asm_spec.specs.Text.{TargetText};
 ghost use Rattle.trips_report.specs.declared.show.Show.{Show};
@@ -27,7 +28,7 @@ ghost use Rattle.trips_answers.specs.Settings.{settings_with};
 ghost use Rattle.trips_answers.specs.Asks.{IsServed, ended_report, nothing_shown};
 ghost use Rattle.trips_answers.specs.Refused.{IsRefusedAs, MayBeRefused, IsRefused};
 ghost use Rattle.trips_answers.specs.Report.{ending_of, full_report, run_report, status_of};
-ghost use Rattle.trips_answers.specs.Table.{IsAnswered, IsReported, EndsAs, EvalEnds};
+ghost use Rattle.trips_answers.specs.Table.{IsAnswered, IsReported, IsReportedFrom, EndsAs, EvalEnds};
 ghost use Rattle.trips_answers.specs.Ended.{ResultMeans};
 
 use crate::command_line::answer_for;
@@ -136,6 +137,17 @@ pub fn answer_words<F: Files, K: Sink>(
         → let run = runs image.blocks (start image.bytes input) most in
         IsReported image input (settings_with call.asks.q most show) (status_of (ending_of run.1 run.0.next))
         (run_report (ending_of run.1 run.0.next) run.0) result (K.written sink.old) (K.written sink.new) }
+
+    // The run from the state that bytes save is reported so, with the counts of a grid that comes by exactly as many
+    // eager cycles from the start of the request's seed in that state.
+    ensures shown_resumed { (most : ℕ) (show : Show) (bytes input : List ℕ) (image : Image) (t : State)
+        → (call : IsServed (request_of words.now) (F.held files.old) Run form.Saved most show bytes input
+        (F.faults files.old) (F.faults files.new) (K.faults sink.old) (K.faults sink.new) result)
+        → SaveBytes image t bytes
+        → let run = runs image.blocks (record t { trace = [] }) most in
+        IsReportedFrom image.blocks (record t { trace = [] }) (settings_with call.asks.q most show)
+        (status_of (ending_of run.1 run.0.next)) (run_report (ending_of run.1 run.0.next) run.0)
+        result (K.written sink.old) (K.written sink.new) }
 
     // The bytes of an image of the text are written, and nothing else.
     ensures compiled { (how : FileForm) (most : ℕ) (show : Show) (text input : List ℕ)

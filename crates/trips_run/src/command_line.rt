@@ -2,6 +2,7 @@
 
 ghost use Rattle.std.specs.Prelude.{◌≡◌, ◌<◌, ◌≤◌, IfOk, IfSome, option_map};
 ghost use Rattle.trips_outside.specs.Outside.{Rose};
+ghost use Rattle.trips_requests.specs.Limits.{most_count};
 ghost use Rattle.trips_answers.specs.Request.{request_of};
 ghost use Rattle.trips_answers.specs.inside.Settings.{request_seen};
 ghost use Rattle.trips_answers.specs.Answer.{IsAnswer};
@@ -16,6 +17,7 @@ use trips_words::request;
 fn asked_by(alloc: Global, words: &[String]) -> Result<Option<Asked<'_>>, AllocError>
     ensures asked { IfOk result (λ asked. option_map request_seen asked ≡ request_of words.now) }
     ensures some { IfOk result (λ asked. IfSome asked (λ request. 0 < request.most)) }
+    ensures few { IfOk result (λ asked. IfSome asked (λ request. request.most ≤ most_count)) }
     ensures turns { IfOk result (λ asked. IfSome asked (λ request. 0 < request.unroll)) }
 {
     match request(alloc, words) {

@@ -1,5 +1,6 @@
 ghost use Rattle.std.specs.Prelude.{◌≡◌, ◌≢◌, ◌≤◌, ◌+◌, ◌*◌, ◌∷◌, [], List, ℕ, ℤ, Some};
 ghost use Rattle.trips_isa.specs.declared.block.Image.{Image};
+ghost use Rattle.trips_isa.specs.Machine.{State};
 ghost use Rattle.c_tree.specs.declared.typed.TypedProgram.{TypedProgram};
 ghost use Rattle.c_front.specs.Fronts.{IsAccepted};
 ghost use Rattle.c_meaning_spec.specs.declared.signal.Ending.TheVariants.{Deep};
@@ -8,10 +9,13 @@ ghost use Rattle.c_compile.specs.Meant.{DoesText};
 ghost use Rattle.trips_outside.specs.Outside.{Appended, Rose, Undisturbed};
 ghost use Rattle.trips_report.specs.declared.show.Show.{Show};
 ghost use Rattle.trips_answers.specs.Work.{Work};
-ghost use Rattle.trips_answers.specs.Work.{Run, Evaluate, Compile, Record, Verify};
+ghost use Rattle.trips_answers.specs.Work.{Run, Evaluate, Compile, Record, Verify, Save};
 ghost use Rattle.trips_requests.specs.Table.{IsOneOf, IsWritten, Reports, Wrote};
 ghost use Rattle.trips_requests.specs.Texts.{too_large_text};
 ghost use Rattle.trips_eval_answers.specs.Evaluation.{eval_status, outcome_of, eval_report};
+ghost use Rattle.machine_save.specs.Spelling.{SaveBytes};
+ghost use Rattle.trips_grid_answers.specs.Report.{TellsRunFrom};
+ghost use Rattle.trips_grid_answers.specs.Saved.{IsSavedRun};
 ghost use Rattle.trips_trace_answers.specs.TraceAnswers.{IsVerdict, TellsTrace};
 ghost use Rattle.trips_answers.specs.declared.forms.FileForm.{FileForm};
 ghost use Rattle.trips_answers.specs.declared.forms.FileForm.TheVariants as form;
@@ -104,6 +108,29 @@ pub fn trips_run<F: Files, K: Sink>(
         (F.faults files.old) (F.faults files.new) (K.faults sink.old) (K.faults sink.new) result)
         → F.held files.old call.asks.q.trace ≡ Some trace → IsImageIn form.Image bytes image
         → Wrote (K.written sink.old) (K.written sink.new) (IsVerdict image input trace result) }
+
+    // `save` writes the one spelling of an image of good blocks and of the state that its run has come to behind so
+    // many blocks, exactly where none of these ends the run, makes system call 4 or traps; else it is over.
+    ensures saved { (how : FileForm) (most : ℕ) (show : Show) (bytes input : List ℕ) (image : Image)
+        → IsServed (request_of words.now) (F.held files.old) Save how most show bytes input
+        (F.faults files.old) (F.faults files.new) (K.faults sink.old) (K.faults sink.new) result
+        → IsImageIn how bytes image
+        → Wrote (K.written sink.old) (K.written sink.new) (IsSavedRun image input most result) }
+
+    // Of an accepted text it saves the run of an image that does what the text means.
+    ensures saved_text { (most : ℕ) (show : Show) (text input : List ℕ) (program : TypedProgram)
+        → (call : IsServed (request_of words.now) (F.held files.old) Save form.Source most show text input
+        (F.faults files.old) (F.faults files.new) (K.faults sink.old) (K.faults sink.new) result)
+        → IsAccepted text program → (image : Image) × DoesText text call.asks.q.unroll image
+        × Wrote (K.written sink.old) (K.written sink.new) (IsSavedRun image input most result) }
+
+    // `resume` of the bytes that save an image and a state reports the machine's run from that state, whose trace
+    // begins empty. With `runs_go_on` of `machine_runs`: two parts are the whole.
+    ensures resumed { (most : ℕ) (show : Show) (bytes input : List ℕ) (image : Image) (t : State)
+        → IsServed (request_of words.now) (F.held files.old) Run form.Saved most show bytes input
+        (F.faults files.old) (F.faults files.new) (K.faults sink.old) (K.faults sink.new) result
+        → SaveBytes image t bytes → Wrote (K.written sink.old) (K.written sink.new)
+        (TellsRunFrom image.blocks (record t { trace = [] }) most show result) }
 
     // A file or an input with too many bytes is refused with the one report on these.
     ensures too_large { (q : Request) → request_of words.now ≡ Some q → IsTooLarge q (F.held files.old)

@@ -14,6 +14,8 @@ mod placed_tests;
 #[cfg(test)]
 mod record_tests;
 #[cfg(test)]
+mod save_tests;
+#[cfg(test)]
 mod shown_trap_tests;
 #[cfg(test)]
 mod tool_tests;

@@ -14,6 +14,8 @@ mod programs;
 #[cfg(test)]
 mod run_tests;
 #[cfg(test)]
+mod save_tests;
+#[cfg(test)]
 mod switch_rows;
 #[cfg(test)]
 mod switch_tests;

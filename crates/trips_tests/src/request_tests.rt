@@ -115,6 +115,26 @@ const ASKED: &[Row] = &[
         },
     ),
     (
+        &["save", "--input=t", "a.c", "4000000"],
+        Asked {
+            command: Command::Save,
+            input: Some("t"),
+            most: 4_000_000,
+            ..PLAIN
+        },
+    ),
+    (
+        &["resume", "s", "--blocks", "9", "--seed", "7", "--cycles"],
+        Asked {
+            command: Command::Resume,
+            file: "s",
+            most: 9,
+            seed: 7,
+            cycles: true,
+            ..PLAIN
+        },
+    ),
+    (
         &["run", "a.c", "--unroll", "8"],
         Asked { unroll: 8, ..PLAIN },
     ),

@@ -3,7 +3,6 @@
 use Rattle.std.specs.Prelude.{◌≡◌, ◌⊎◌, ℕ, ◌≤◌, List, Option, All}
 use Rattle.trips_isa.specs.declared.block.Image.{Image}
 use Rattle.trips_isa.specs.declared.run.Ending.{Ending}
-use Rattle.trips_isa.specs.declared.run.Ending.TheVariants as ending
 use Rattle.trips_isa.specs.Machine.{start}
 use Rattle.block_image.specs.Spelling.{ImageBytes}
 use Rattle.block_check.specs.Faults.{IsGood}
@@ -16,15 +15,9 @@ use Rattle.trips_requests.specs.declared.status.Status.{Status}
 use Rattle.trips_requests.specs.declared.status.Status.TheVariants as status
 use Rattle.trips_requests.specs.Limits.{most_recorded}
 use Rattle.trips_requests.specs.Texts.{IsFixed, read_fault_text}
+use Rattle.trips_report.specs.Endings.{status_of}
 use Rattle.trips_tools.specs.ToolAnswers.{IsNoImage, IsBadImage}
 use Rattle.trips_trace_answers.specs.TraceReports.{trace_text, verified_report}
-
--- the status that tells an ending
-abbrev pub status_of : Ending → Status
-status_of ending.Ended = status.Ended
-status_of ending.StackFull = status.StackFull
-status_of ending.Budget = status.Budget
-status_of (ending.Trap block cause) = status.Trap
 
 -- the bytes are those of an image all of whose blocks are good
 abbrev pub HoldsImage : List ℕ → Image → Type 0

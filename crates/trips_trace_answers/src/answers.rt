@@ -3,7 +3,6 @@
 ghost use Rattle.std.specs.Prelude.{◌≡◌, ◌≤◌, ◌⊎◌, ℕ, List, IfOk};
 ghost use Rattle.trips_outside.specs.Outside.{Rose};
 ghost use Rattle.trips_trace_answers.specs.TraceAnswers.{IsRecording, IsRefusedImage, IsVerified, TellsTrace};
-ghost use Rattle.trips_trace_answers.specs.TraceAnswers.{status_of};
 ghost use Rattle.trips_trace_answers.specs.inside.Judging.{IsTold, IsTraced};
 ghost use Rattle.trips_trace_answers.specs.inside.Opening.{IsClosed};
 
@@ -14,22 +13,10 @@ use base::Items;
 use block_check::CheckedImage;
 use std::alloc::{AllocError, Global};
 use trace_verify::record_run;
-use trips_isa::Ending;
 use trips_outside::Files;
+use trips_report::status_for;
 use trips_requests::{Answer, Status, unread};
 use trips_tools::refused;
-
-/// The status that tells an ending.
-pub fn status_for(ending: Ending) -> Status
-    ensures { result ≡ status_of ending }
-{
-    match ending {
-        Ending::Ended => Status::Ended,
-        Ending::StackFull => Status::StackFull,
-        Ending::Budget => Status::Budget,
-        Ending::Trap { .. } => Status::Trap,
-    }
-}
 
 // The answer where there is no image.
 fn closed_answer(alloc: Global, closed: Closed) -> Result<Answer, AllocError>

@@ -9,4 +9,4 @@ mod judging;
 mod opening;
 mod reports;
 
-pub use answers::{recorded, status_for, verified};
+pub use answers::{recorded, verified};

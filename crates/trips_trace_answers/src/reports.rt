@@ -2,24 +2,13 @@
 
 ghost use Rattle.std.specs.Prelude.{◌≡◌, ◌++◌, IfOk, OnOk};
 ghost use Rattle.isa_table.specs.Spots.{spot_text};
-ghost use Rattle.trips_report.specs.Refusals.{at_place};
 ghost use Rattle.trips_trace_answers.specs.TraceReports.{at_entry, trace_text, verified_report};
 
 use isa_table::{put_number, put_spot};
 use std::alloc::{AllocError, Global};
 use trace_verify::VerifyFault;
 use trips_isa::Spot;
-
-// A fault's number and name, and the place of its first byte.
-fn at_place(alloc: Global, name: &[u8], at: u64) -> Result<Vec<u8>, AllocError>
-    ensures { IfOk result (λ text. text.items ≡ at_place name.now at) }
-{
-    let mut text = Vec::from_slice(alloc, name)?;
-    text.extend_from_slice(b" at ")?;
-    put_number(&mut text, at)?;
-    text.push(b'\n')?;
-    Ok(text)
-}
+use trips_report::at_place;
 
 // Writes the number of an entry behind a fault's number and name.
 fn put_entry(text: &mut Vec<u8>, entry: u32) -> Result<(), AllocError>

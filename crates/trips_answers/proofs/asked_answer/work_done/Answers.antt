@@ -1,11 +1,13 @@
 use Rattle.std.proofs.Common.{◌≤◌, ◌<◌, length, sym, ap, subst, arith}
+use Rattle.trips_requests.specs.declared.commands.Command.{Command}
+use Rattle.trips_requests.specs.Limits.{most_count}
 use Rattle.trips_requests.specs.declared.commands.Tool.TheVariants.{Assemble, Disassemble, Check}
 use Rattle.trips_answers.specs.declared.forms.FileForm.{FileForm}
 use Rattle.trips_answers.specs.Asks.{limit_of}
 use Rattle.trips_answers.specs.Request.{form_of}
 use Rattle.trips_answers.specs.declared.forms.Settings.{Settings}
 use Rattle.trips_answers.proofs.Told.{evaluate_told, few_bytes, run_form_told, compile_told, tool_told}
-use Rattle.trips_answers.proofs.Told.{explain_told, record_told, work_is}
+use Rattle.trips_answers.proofs.Told.{explain_told, record_told, save_form_told, work_is}
 use Rattle.trips_answers.proofs.asked_answer.work_done.Goals as goal
 
 pub text_evaluated-requires : goal.text_evaluated-requires
@@ -74,3 +76,29 @@ returns-in-Explain c = explain_told _ _ _ _ _ _ _ (work_is c.args.asked.file.now
 pub returns-in-Record : goal.returns-in-Record
 returns-in-Record c = record_told _ _ _ _ _ _ _ (work_is c.args.asked.file.now c.in-Record.is)
     c.settings_for-settings.ensures c.recorded.ensures
+
+pub save_done-requires-clause-few : goal.save_done-requires-clause-few
+save_done-requires-clause-few c =
+    subst (λ (f : FileForm). length c.args.bytes.now ≤ limit_of f) (sym c.form_of-form-in-Save.ensures)
+    c.requires.few
+
+pub save_done-requires-clause-some : goal.save_done-requires-clause-some
+save_done-requires-clause-some c = subst (λ (t : Settings). 0 < t.most) (sym c.settings_for-settings.ensures)
+    c.requires.some
+
+pub save_done-requires-clause-most : goal.save_done-requires-clause-most
+save_done-requires-clause-most c = subst (λ (t : Settings). t.most ≤ most_count)
+    (sym c.settings_for-settings.ensures) c.requires.most
+
+pub save_done-requires-clause-turns : goal.save_done-requires-clause-turns
+save_done-requires-clause-turns c = subst (λ (t : Settings). 0 < t.unroll) (sym c.settings_for-settings.ensures)
+    c.requires.turns
+
+pub returns-in-Save : goal.returns-in-Save
+returns-in-Save c = save_form_told _ _ _ _ _ _ _ _ (work_is c.args.asked.file.now c.in-Save.is)
+    c.form_of-form-in-Save.ensures c.settings_for-settings.ensures c.save_done.ensures
+
+pub returns-in-Resume : goal.returns-in-Resume
+returns-in-Resume c = run_form_told _ _ _ _ _ _ _ _ (work_is c.args.asked.file.now c.in-Resume.is)
+    (ap (λ (k : Command). form_of k c.args.asked.file.now) (sym c.in-Resume.is))
+    c.settings_for-settings.ensures c.run_done-in-Resume.ensures

@@ -35,6 +35,11 @@ returns-clause-target_run g c =
     λ most show text input image call spelled good. shown.target_run _ _ _ _ _ _ _ c.answer_written.ensures.answered
     most show text input image call.asks spelled good call.undisturbed.read call.undisturbed.written call.memory
 
+pub returns-clause-shown_resumed : goal.returns-clause-shown_resumed
+returns-clause-shown_resumed g c =
+    λ most show bytes input image t call saves. shown.resumed _ _ _ _ _ _ _ c.answer_written.ensures.answered
+    most show bytes input image t call.asks saves call.undisturbed.read call.undisturbed.written call.memory
+
 pub returns-clause-compiled : goal.returns-clause-compiled
 returns-clause-compiled g c =
     λ how most show text input program call is. reported.compiled _ _ _ _ _ _ _ c.answer_written.ensures.answered

@@ -51,6 +51,21 @@ returns-clause-verified g c =
     c.answer_words.ensures.answered how most show bytes input trace image call.asks told is
     call.undisturbed.read call.undisturbed.written call.memory
 
+pub returns-clause-saved : goal.returns-clause-saved
+returns-clause-saved g c =
+    λ how most show bytes input image call is. promises.saved _ _ _ _ _ _ _ c.answer_words.ensures.answered
+    how most show bytes input image call.asks is call.undisturbed.read call.undisturbed.written call.memory
+
+pub returns-clause-saved_text : goal.returns-clause-saved_text
+returns-clause-saved_text g c =
+    λ most show text input program call is. promises.saved_text _ _ _ _ _ _ _ c.answer_words.ensures.answered
+    most show text input program call.asks is call.undisturbed.read call.undisturbed.written call.memory
+
+pub returns-clause-resumed : goal.returns-clause-resumed
+returns-clause-resumed g c =
+    λ most show bytes input image t call saves. promises.resumed _ _ _ _ _ _ _ c.answer_words.ensures.answered
+    most show bytes input image t call.asks saves call.undisturbed.read call.undisturbed.written call.memory
+
 pub returns-clause-too_large : goal.returns-clause-too_large
 returns-clause-too_large g c =
     λ q is large undisturbed some. promises.too_large _ _ _ _ _ _ _ c.answer_words.ensures.answered q is large

@@ -1,0 +1,6 @@
+use Rattle.trips_answers.proofs.Told.{image_saved_told}
+use Rattle.trips_answers.proofs.saved_answer.bytes_saved.Goals as goal
+
+pub returns-in-Ok : goal.returns-in-Ok
+returns-in-Ok c = image_saved_told c.args.bytes.now c.args.input c.args.settings c.in-Ok.image _
+    c.in-Ok.ensures.ok c.checked_saved.ensures

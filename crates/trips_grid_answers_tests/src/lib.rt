@@ -1,0 +1,11 @@
+//! Tests of runs in two parts: saved behind each block, resumed under another seed, and save files with one change.
+#![tactic(auto)]
+
+#[cfg(test)]
+mod again_tests;
+#[cfg(test)]
+mod changed_tests;
+#[cfg(test)]
+mod making;
+#[cfg(test)]
+mod two_part_tests;
