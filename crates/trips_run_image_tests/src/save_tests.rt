@@ -60,6 +60,14 @@ fn a_run_that_is_over_is_not_saved(rt: HostRuntime) -> Result<(), Fail> {
     Ok(())
 }
 
+// The first hundred bytes of a file that has more.
+fn first_part(file: &[u8]) -> &[u8] {
+    match file.get(0..100) {
+        Some(part) => part,
+        None => file,
+    }
+}
+
 /// A byte that stands at a place instead, and the report.
 type Row = (usize, u8, &'static str);
 
@@ -87,8 +95,7 @@ fn broken_files_are_refused(rt: HostRuntime) -> Result<(), Fail> {
         assert!(rt; status == Status::Refused, "{at}: {status:?}");
         assert!(rt; report.as_slice() == wanted.as_bytes(), "{at}");
     }
-    assert!(rt; file.len() == 1592, "{} bytes", file.len());
-    let (status, report) = resumed(alloc, &file[..100])?;
+    let (status, report) = resumed(alloc, first_part(&file))?;
     assert!(rt; status == Status::Refused, "{status:?}");
     assert!(rt;
         report.as_slice() == b"refused save 13 Truncated at 100\n".as_slice(),
