@@ -21,7 +21,7 @@ use Rattle.ir_forms.specs.declared.flow.FlowBlock.{FlowBlock}
 use Rattle.ir_forms.specs.inside.FlowRuns.{sense_of, count}
 use Rattle.ir_forms.specs.inside.FlowFits.{FitsNode}
 use Rattle.ir_forms.specs.inside.FlowFits.{AtMostOne}
-use Rattle.fan_out.specs.inside.Wires.{Wire, wired_to, guard_sources, node_wires, nodes_wires, writes_wires}
+use Rattle.fan_out.specs.inside.Wires.{Wire, wired_to, guard_note, guard_sources, node_wires, nodes_wires, writes_wires}
 use Rattle.fan_out.specs.inside.Wires.{wires, uses}
 use Rattle.fan_out.specs.inside.Fans.{Placed, Fan}
 use Rattle.fan_out.specs.inside.Targeted.{placed_node, read_slots, with_targets, slots}
@@ -135,7 +135,7 @@ module _ (f : FlowBlock) (g : Given f) (b : Block) (t : IsTargeted f b) where
   taken_true false ss h o = absurd (o (h refl))
 
   guard_wires : (k : ℕ) (n : FlowNode) → slice_get f.nodes k ≡ Some n → k < 128
-      → (d : Option Guard) → n.guard ≡ d → WiresFine b (wired_to (spot.Pred k) (guard_sources d))
+      → (d : Option Guard) → n.guard ≡ d → WiresFine b (wired_to (spot.Pred k) (guard_note d) (guard_sources d))
   guard_wires k n e l None z = tt
   guard_wires k n e l (Some d) z = (
     record {
@@ -159,14 +159,14 @@ module _ (f : FlowBlock) (g : Given f) (b : Block) (t : IsTargeted f b) where
       let s = node_in k n e in
       let regular = g.regular in
       let only = regular.operands k n e in
-      wires_fine_append b (wired_to (spot.Left k) n.left) _
-      (wired_fine b (spot.Left k) n.left (λ o. record {
+      wires_fine_append b (wired_to (spot.Left k) 0 n.left) _
+      (wired_fine b (spot.Left k) 0 n.left (λ o. record {
         fits = l;
         good = ap left_of s.1
             ∙ taken_true (takes_left (role_of n.op)) n.left only.left o;
       }))
-      (wires_fine_append b (wired_to (spot.Right k) n.right) _
-      (wired_fine b (spot.Right k) n.right (λ o. record {
+      (wires_fine_append b (wired_to (spot.Right k) 0 n.right) _
+      (wired_fine b (spot.Right k) 0 n.right (λ o. record {
         fits = l;
         good = ap right_of s.1
             ∙ taken_true (takes_right (role_of n.op)) n.right only.right o;
@@ -186,8 +186,8 @@ module _ (f : FlowBlock) (g : Given f) (b : Block) (t : IsTargeted f b) where
       → length b.writes.items ≤ 32 → WiresFine b (writes_wires k xs)
   writes_wires_fine [] k l u = tt
   writes_wires_fine (x ∷ xs) k l u =
-      wires_fine_append b (wired_to (spot.Write k) x.sources) (writes_wires (suc k) xs)
-      (wired_fine b (spot.Write k) x.sources (λ o. record {
+      wires_fine_append b (wired_to (spot.Write k) x.register x.sources) (writes_wires (suc k) xs)
+      (wired_fine b (spot.Write k) x.register x.sources (λ o. record {
         fits = omega arith;
         good = let m : k < length b.writes.items = omega arith in grind (arith, nat_tests);
       }))

@@ -56,14 +56,14 @@ wires_fine_append b [] ys h k = k
 wires_fine_append b (x ∷ xs) ys h k = (h.0, wires_fine_append b xs ys h.1 k)
 
 -- the wires from some sources to a fine spot are fine
-pub wired_fine : (b : Block) (t : Spot) (ss : List FlowSource) → (ss ≢ [] → Fine b t)
-    → WiresFine b (wired_to t ss)
-wired_fine b t [] h = tt
-wired_fine b t (s ∷ ss) h = (here, all ss)
+pub wired_fine : (b : Block) (t : Spot) (o : ℕ) (ss : List FlowSource) → (ss ≢ [] → Fine b t)
+    → WiresFine b (wired_to t o ss)
+wired_fine b t o [] h = tt
+wired_fine b t o (s ∷ ss) h = (here, all ss)
   where
     here : Fine b t
     here = h (λ e. absurd (cc))
 
-    all : (ss : List FlowSource) → WiresFine b (wired_to t ss)
+    all : (ss : List FlowSource) → WiresFine b (wired_to t o ss)
     all [] = tt
     all (s ∷ ss) = (here, all ss)

@@ -1,5 +1,5 @@
 //! How far ways go on behind the uses of a source, and the uses in this order.
-ghost use Rattle.std.specs.Prelude.{◌≡◌, ◌++◌, length, replicate, slice_get, IfOk, OnOk};
+ghost use Rattle.std.specs.Prelude.{◌≡◌, ◌++◌, replicate, slice_get, IfOk, OnOk};
 ghost use Rattle.fan_out.specs.inside.Heights as spec;
 
 use crate::{Wire, fans};
@@ -8,16 +8,26 @@ use ir_forms::FlowSource;
 use std::alloc::Global;
 use trips_isa::Spot;
 
+// The heights of a block stand in one list: those of its nodes, then of their guards, of its writes, and of the reads of
+// all registers.
+const GUARDS: usize = 128;
+
+const WRITES: usize = 256;
+
+const READS: usize = 288;
+
+const HEIGHTS: usize = 416;
+
 fn above(h: u8) -> u8
     ensures { result ≡ spec.above h }
 {
     if h < 200 { h + 1 } else { h }
 }
 
-fn height_at(heights: &[u8], j: u8) -> u8
-    ensures { result ≡ spec.or_zero (slice_get heights.now j) }
+fn at(heights: &[u8], i: usize) -> u8
+    ensures { result ≡ spec.or_zero (slice_get heights.now i) }
 {
-    match heights.get(j as usize) {
+    match heights.get(i) {
         None => 0,
         Some(h) => *h,
     }
@@ -27,23 +37,74 @@ fn height(heights: &[u8], spot: Spot) -> u8
     ensures { result ≡ spec.height heights.now spot }
 {
     match spot {
-        Spot::Left(j) => height_at(heights, j),
-        Spot::Right(j) => height_at(heights, j),
-        Spot::Pred(j) => height_at(heights, j),
-        _ => 3,
+        Spot::Left(j) => at(heights, j as usize),
+        Spot::Right(j) => at(heights, j as usize),
+        Spot::Pred(j) => at(heights, GUARDS + j as usize),
+        Spot::Write(w) => at(heights, WRITES + w as usize),
+        Spot::Read(_) => 0,
+        Spot::Inst(_) => 0,
+        Spot::Store(_) => 0,
     }
 }
 
-// The height of node j is at least h, where there is such a node.
-fn raise_node(heights: &mut Items<u8>, j: usize, h: u8)
-    ensures { heights.new ≡ spec.raised_from (slice_get heights.old j) heights.old j h }
+// The height at a place is h, where there is such a place.
+fn put(heights: &mut Items<u8>, i: usize, h: u8)
+    ensures { heights.new ≡ spec.put_at (slice_get heights.old i) heights.old i h }
 {
-    let old = match heights.get(j) {
+    if heights.get(i).is_some() {
+        heights.set(i, h);
+    }
+}
+
+// The height at a place is at least h, where there is such a place.
+fn raise_at(heights: &mut Items<u8>, i: usize, h: u8)
+    ensures { heights.new ≡ spec.raised_from (slice_get heights.old i) heights.old i h }
+{
+    let old = match heights.get(i) {
         None => return,
         Some(old) => *old,
     };
     if old < h {
-        heights.set(j, h);
+        heights.set(i, h);
+    }
+}
+
+fn guard_height(note: u8, h: u8) -> u8
+    ensures { result ≡ spec.guard_height note h }
+{
+    if note == 0 {
+        h
+    } else if h > 1 {
+        1
+    } else {
+        h
+    }
+}
+
+fn write_height(h: u8) -> u8
+    ensures { result ≡ spec.write_height h }
+{
+    above(above(above(h)))
+}
+
+// The heights of a guard and of a write are what is noted of them.
+fn judge(heights: &mut Items<u8>, spot: Spot, note: u8)
+    ensures { heights.new ≡ spec.judged spot note heights.old }
+{
+    match spot {
+        Spot::Left(_) => {}
+        Spot::Right(_) => {}
+        Spot::Pred(j) => {
+            let h = guard_height(note, at(heights.as_slice(), j as usize));
+            put(heights, GUARDS + j as usize, h);
+        }
+        Spot::Write(w) => {
+            let h = write_height(at(heights.as_slice(), READS + note as usize));
+            put(heights, WRITES + w as usize, h);
+        }
+        Spot::Read(_) => {}
+        Spot::Inst(_) => {}
+        Spot::Store(_) => {}
     }
 }
 
@@ -51,38 +112,43 @@ fn raise(heights: &mut Items<u8>, source: FlowSource, h: u8)
     ensures { heights.new ≡ spec.raised source heights.old h }
 {
     match source {
-        FlowSource::Read(_) => {}
-        FlowSource::Node(j) => raise_node(heights, j as usize, h),
+        FlowSource::Read(r) => raise_at(heights, READS + r as usize, h),
+        FlowSource::Node(j) => raise_at(heights, j as usize, h),
     }
+}
+
+// The source of a wire is above its spot.
+fn raise_by(heights: &mut Items<u8>, wire: Wire)
+    ensures { heights.new ≡ spec.raised_by wire heights.old }
+{
+    judge(heights, wire.spot, wire.note);
+    let h = above(height(heights.as_slice(), wire.spot));
+    raise(heights, wire.source, h);
 }
 
 fn zeros(alloc: Global) -> Result<Items<u8>, Memory>
-    ensures ok { IfOk result (λ hs. hs ≡ replicate 128 0) }
+    ensures ok { IfOk result (λ hs. hs ≡ replicate spec.places 0) }
 {
-    let mut heights = Items::new(alloc);
-    for _i in 0..128usize {
-        heights.push(0)?;
-    }
-    Ok(heights)
+    Ok(Items::from_vec(vec![in alloc; 0u8; HEIGHTS]?))
 }
 
 fn raise_all(heights: &mut Items<u8>, wires: &[Wire])
-    ensures { heights.new ≡ spec.risen wires.now (length wires.now) heights.old }
+    ensures { heights.new ≡ spec.risen_by wires.now heights.old }
 {
     let mut left = wires.len();
     while left > 0 {
         left -= 1;
-        let wire = wires[left];
-        let h = above(height(heights.as_slice(), wire.spot));
-        raise(heights, wire.source, h);
+        raise_by(heights, wires[left]);
     }
 }
 
-/// The heights of the nodes of a block with these wires. Want of memory is the only error.
+/// The heights of a block with these wires. Want of memory is the only error.
 pub fn heights(alloc: Global, wires: &[Wire]) -> Result<Items<u8>, Memory>
     ensures ok { IfOk result (λ hs. hs ≡ spec.heights wires.now) }
 {
     let mut heights = zeros(alloc)?;
+    raise_all(&mut heights, wires);
+    raise_all(&mut heights, wires);
     raise_all(&mut heights, wires);
     Ok(heights)
 }

@@ -6,7 +6,6 @@ pub loop-left-preserved : goal.loop-left-preserved
 loop-left-preserved c = record {
   within = let w = c.loop-left.invariant.within in omega arith;
   risen = let w = c.loop-left.invariant.within in
-      risen_turn c.args.wires.now (c.loop-left.left - 1) c.loop-left.left c.loop-left.heights c.as_slice.result.now
-      c.raise.new.heights c.above-h.result c.height.result _ (omega arith) w c.as_slice.ensures.value c.height.ensures
-      c.above-h.ensures c.raise.ensures ∙ c.loop-left.invariant.risen;
+      risen_turn c.args.wires.now (c.loop-left.left - 1) c.loop-left.left c.loop-left.heights c.raise_by.new.heights
+      _ (omega arith) w c.raise_by.ensures ∙ c.loop-left.invariant.risen;
 }
