@@ -1,11 +1,10 @@
 -- What a request gets whose file and input are told, where nothing fails.
-use Rattle.std.proofs.Common.{◌≡◌, ℕ, ◌<◌, ◌≤◌, List, [], Option, None, Some}
-use Rattle.std.proofs.Common.{IsSomeAnd, All, length, inl, inr, refl, sym, ◌∙◌, ap, subst}
+use Rattle.std.proofs.Common.{◌≡◌, ℕ, ◌<◌, List, Option, Some}
+use Rattle.std.proofs.Common.{All, length, inl, inr, sym, ◌∙◌, ap, subst}
 use Rattle.std.proofs.Common.{get_or, ◌⊎◌}
 use Rattle.std.proofs.lemmas.Option.{slice_get_within, get_or_from_slice_get}
 use Rattle.trips_outside.specs.Outside.{Holds}
 use Rattle.trips_isa.specs.declared.block.Image.{Image}
-use Rattle.trips_isa.specs.Machine.{State}
 use Rattle.c_tree.specs.declared.typed.TypedProgram.{TypedProgram}
 use Rattle.c_front.specs.Fronts.{IsAccepted}
 use Rattle.c_front.proofs.Once.{not_both, accepted_once, refused_once}
@@ -15,7 +14,6 @@ use Rattle.block_image.proofs.Prefix.{one_image}
 use Rattle.block_check.specs.declared.fault.CheckFault.{CheckFault}
 use Rattle.block_check.specs.Faults.{IsGood}
 use Rattle.block_check.specs.Images.{IsFirstBad}
-use Rattle.trips_report.specs.declared.show.Show.{Show}
 use Rattle.trips_answers.specs.Work.{Work}
 use Rattle.trips_answers.specs.Work.{Run, Evaluate, Compile}
 use Rattle.trips_answers.specs.Work.{Assemble, Disassemble, Check, Explain, Record, Verify, Save}
@@ -28,15 +26,10 @@ use Rattle.target_asm_laws.proofs.FaultExact as faults
 use Rattle.trips_answers.specs.declared.forms.FileForm.{FileForm}
 use Rattle.trips_answers.specs.declared.forms.FileForm.TheVariants as form
 use Rattle.trips_answers.specs.declared.forms.Settings.{Settings}
-use Rattle.trips_requests.specs.declared.loading.Loaded.{Loaded}
 use Rattle.trips_requests.specs.declared.status.Status.{Status}
 use Rattle.trips_requests.specs.declared.status.Status.TheVariants as status
-use Rattle.trips_answers.specs.Request.{Request, origin_held}
-use Rattle.trips_answers.specs.Settings.{settings_with, settings_of}
-use Rattle.trips_answers.specs.Asks.{limit_of, AsksFor}
-use Rattle.trips_requests.specs.Table.{AfterReading}
 use Rattle.trips_report.specs.Refusals.{image_text, asm_text, check_text}
-use Rattle.trips_requests.specs.Texts.{read_fault_text, too_large_text, IsFixed}
+use Rattle.trips_requests.specs.Texts.{read_fault_text, IsFixed}
 use Rattle.trips_eval_answers.specs.Refusals.{front_refusal}
 use Rattle.trips_answers.specs.Refused.{IsBadText, IsRefusedAs}
 use Rattle.trips_tools.specs.ToolAnswers.{IsNoImage, IsBadImage, IsNoText}
@@ -44,17 +37,13 @@ use Rattle.trips_trace_answers.specs.TraceAnswers.{IsVerdict, TellsTrace}
 use Rattle.trips_eval_answers.specs.Evaluation.{IsRefusedByFront, IsEvaluation}
 use Rattle.trips_explain_answers.specs.Explained.{IsAcceptedTold}
 use Rattle.trips_explain_answers.proofs.Once.{accepted_told_once, not_both_told, refusal_told_once}
-use Rattle.trips_answers.specs.Worked.{IsRunBy, IsRunOfText, IsSaveOfText, IsCompiled, IsWorked, IsDone}
+use Rattle.trips_answers.specs.Worked.{IsRunBy, IsRunOfText, IsCompiled, IsWorked, IsDone}
 use Rattle.trips_answers.specs.Worked.{IsDoneBehind}
 use Rattle.trips_answers.specs.Done.{CanBeDone}
-use Rattle.trips_answers.specs.Answer.{IsAnswerBehind, IsAnswer}
-use Rattle.trips_answers.specs.Causes.{HasLargeFile, HasLargeInput}
 use Rattle.trips_explain_answers.proofs.OneFault.{first_bad_once}
 use Rattle.machine_save.proofs.Opened as saves
-use Rattle.machine_save.specs.Spelling.{SaveBytes}
-use Rattle.trips_grid_answers.specs.Runs.{IsRunFrom}
-use Rattle.trips_grid_answers.specs.Saved.{IsNoSave, IsSavedRun, save_text}
-use Rattle.trips_answers.proofs.ReadFiles.{told_text, file_read, input_read, file_large, input_large}
+use Rattle.trips_grid_answers.specs.Saved.{IsNoSave, save_text}
+use Rattle.trips_answers.proofs.ReadFiles.{told_text}
 
 -- images ----------------------------------------------------------------------------------------
 
@@ -67,7 +56,7 @@ good_is_not_bad image number fault good bad =
     get_or_from_slice_get image.blocks number bad.block bad.block bad.is_block in
     subst IsGood is (good number bad.block within) fault bad.has.holds
 
-image_not_refused : (bytes out : List ℕ) (image : Image) → ImageBytes image bytes
+pub image_not_refused : (bytes out : List ℕ) (image : Image) → ImageBytes image bytes
     → All IsGood image.blocks → IsRefusedAs Run form.Image bytes out → ⊥
 image_not_refused bytes out image spelled good (inl bad) =
     decoded.not_both image bytes bad.0 spelled bad.1
@@ -76,7 +65,7 @@ image_not_refused bytes out image spelled good (inr bad) =
     good_is_not_bad image bad.1 bad.2 good
     (subst (λ (i : Image). IsFirstBad i bad.1 bad.2) same bad.4)
 
-target_not_refused : (text out : List ℕ) (image : Image) → TargetText image text
+pub target_not_refused : (text out : List ℕ) (image : Image) → TargetText image text
     → All IsGood image.blocks → IsRefusedAs Run form.Target text out → ⊥
 target_not_refused text out image spelled good (inl bad) =
     faults.not_both image text bad.0 spelled bad.1
@@ -292,50 +281,6 @@ target_exact settings text input s report image (inr run) spelled good =
     subst (λ (i : Image). IsRunBy i.blocks i.bytes input settings s report)
     (texts.one_image run.0 image text run.1 spelled) run.3
 
--- with the save file of an image and a state, which is gone on with
-pub resumed_exact : (settings : Settings) (bytes input : List ℕ) (s : Status) (report : List ℕ) (image : Image)
-    (t : State) → IsDone Run form.Saved settings bytes input s report → SaveBytes image t bytes
-    → IsRunFrom image.blocks (record t { trace = [] }) settings.seed settings.most settings.show s report
-resumed_exact settings bytes input s report image t (inl x) is =
-    absurd (saves.not_both image t bytes x.1.0 is x.1.1)
-resumed_exact settings bytes input s report image t (inr run) is =
-    let once : saves.SavedOnce run.0 image run.1 t = saves.saved_once run.0 image run.1 t bytes run.2 is in
-    subst (λ (i : Image). IsRunFrom i.blocks (record t { trace = [] }) settings.seed settings.most settings.show s
-    report) once.image
-    (subst (λ (x : State). IsRunFrom run.0.blocks x settings.seed settings.most settings.show s report)
-    (fresh run.1 run.3 ∙ once.state) run.4)
-  where
-    fresh : (x : State) → x.trace ≡ [] → x ≡ record x { trace = [] }
-    fresh x e = ap (λ y. record x { trace = y }) e
-
--- with an accepted text under `save`
-pub saved_text_exact : (settings : Settings) (text input : List ℕ) (s : Status) (report : List ℕ)
-    (program : TypedProgram) → IsDone Save form.Source settings text input s report
-    → IsAccepted text program → IsSaveOfText settings text input s report
-saved_text_exact settings text input s report program (inl x) is =
-    absurd (not_both text program x.1.0 is x.1.1)
-saved_text_exact settings text input s report program (inr run) is = run
-
--- with an image of good blocks under `save`
-pub saved_image_exact : (settings : Settings) (bytes input : List ℕ) (s : Status) (report : List ℕ)
-    (image : Image) → IsDone Save form.Image settings bytes input s report → ImageBytes image bytes
-    → All IsGood image.blocks → IsSavedRun image input settings.most s report
-saved_image_exact settings bytes input s report image (inl x) spelled good =
-    absurd (image_not_refused bytes x.0 image spelled good x.1)
-saved_image_exact settings bytes input s report image (inr run) spelled good =
-    subst (λ (i : Image). IsSavedRun i input settings.most s report)
-    (one_image run.0 image bytes run.1 spelled) run.3
-
--- with the text of an image of good blocks under `save`
-pub saved_target_exact : (settings : Settings) (text input : List ℕ) (s : Status) (report : List ℕ)
-    (image : Image) → IsDone Save form.Target settings text input s report → TargetText image text
-    → All IsGood image.blocks → IsSavedRun image input settings.most s report
-saved_target_exact settings text input s report image (inl x) spelled good =
-    absurd (target_not_refused text x.0 image spelled good x.1)
-saved_target_exact settings text input s report image (inr run) spelled good =
-    subst (λ (i : Image). IsSavedRun i input settings.most s report)
-    (texts.one_image run.0 image text run.1 spelled) run.3
-
 -- with an accepted text under `compile`
 pub compiled_exact : (how : FileForm) (settings : Settings) (text input : List ℕ) (s : Status)
     (report : List ℕ) (program : TypedProgram) → IsDone Compile how settings text input s report
@@ -407,64 +352,3 @@ verified_exact told rose how settings bytes input trace s report image (inr v) r
         ⊎ (rose × IsFixed status.ReadFault read_fault_text s report) → IsVerdict v.0 input trace s report
     go (inl x) = subst (λ (read : List ℕ). IsVerdict v.0 input read s report) (told_text told trace x.0 t x.1) x.2
     go (inr u) = absurd (r u.0)
-
--- answers ---------------------------------------------------------------------------------------
-
-module _ (request : Option Request) (held : List ℕ → Option (List ℕ)) (rose : Type 0)
-    (s : Status) (report : List ℕ) (a : IsAnswer request held rose s report) (r : rose → ⊥) where
-  -- the row of the request
-  row_of : (q : Request) → request ≡ Some q → IsAnswer (Some q) held rose s report
-  row_of q e = subst (λ (x : Option Request). IsAnswer x held rose s report) e a
-
-  -- the rest of the row behind a file that was read
-  behind : (q : Request) (bytes : List ℕ) → request ≡ Some q → origin_held held q.origin ≡ Some bytes
-      → length bytes ≤ limit_of q.form → IsAnswerBehind q held rose bytes s report
-  behind q bytes e t few =
-      let row = row_of q e in
-      let is = file_read (origin_held held q.origin) rose (limit_of q.form) row.0 bytes row.1 t few r in
-      subst (λ (x : Loaded). AfterReading x (λ bs. IsAnswerBehind q held rose bs s report) s report)
-      is row.2
-
-  -- what is done where the file and the input are told
-  pub complete : (work : Work) (how : FileForm) (most : ℕ) (show : Show) (bytes input : List ℕ)
-      → (asks : AsksFor request held work how most show bytes input)
-      → IsDoneBehind (held asks.q.trace) rose work how (settings_with asks.q most show) bytes input s report
-  complete work how most show bytes input asks =
-      let rest = behind asks.q bytes asks.asked asks.told.told asks.told.few in
-      let is = input_read asks.q.input held rose rest.0 input rest.1 asks.told.told_input
-      asks.told.few_input r in
-      let told : Option (List ℕ) = held asks.q.trace in
-      let done = subst (λ (x : Loaded). AfterReading x
-      (λ i. IsDoneBehind told rose asks.q.work asks.q.form (settings_of asks.q) bytes i s report) s report)
-      is rest.2 in
-      subst (λ (v : Show). IsDoneBehind told rose work how (settings_with asks.q most v) bytes input s report)
-      asks.is_show
-      (subst (λ (m : ℕ). IsDoneBehind told rose work how (settings_with asks.q m asks.q.show) bytes input s report)
-      asks.is_most
-      (subst (λ (f : FileForm). IsDoneBehind told rose work f (settings_of asks.q) bytes input s report) asks.is_form
-      (subst (λ (w : Work). IsDoneBehind told rose w asks.q.form (settings_of asks.q) bytes input s report)
-      asks.is_work done)))
-
-  -- a file that is too large
-  pub large_file : (q : Request) → request ≡ Some q → HasLargeFile q held
-      → IsFixed status.Refused too_large_text s report
-  large_file q e large =
-      let row = row_of q e in
-      let is = file_large (origin_held held q.origin) rose (limit_of q.form) row.0 row.1 large r in
-      subst (λ (x : Loaded). AfterReading x (λ bs. IsAnswerBehind q held rose bs s report) s report)
-      is row.2
-
-  -- an input that is too large
-  pub large_input : (q : Request) → request ≡ Some q → HasLargeInput q held
-      → IsFixed status.Refused too_large_text s report
-  large_input q e large =
-      let text = some_of (origin_held held q.origin) (λ bytes. length bytes ≤ limit_of q.form) large.0 in
-      let rest = behind q text.0 e text.1 text.2 in
-      let is = input_large q.input held rose rest.0 rest.1 large.1 r in
-      subst (λ (x : Loaded). AfterReading x
-      (λ i. IsDoneBehind (held q.trace) rose q.work q.form (settings_of q) text.0 i s report) s report) is rest.2
-    where
-      some_of : (told : Option (List ℕ)) (P : List ℕ → Type 0) → IsSomeAnd told P
-          → (bytes : List ℕ) × (told ≡ Some bytes) × P bytes
-      some_of None P h = absurd h
-      some_of (Some bytes) P h = (bytes, refl, h)

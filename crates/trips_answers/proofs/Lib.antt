@@ -1,4 +1,5 @@
 pub mod Told
+pub mod SavedTold
 pub mod Traced
 pub mod Rows
 pub mod Ends
@@ -12,3 +13,5 @@ pub mod ReadFiles
 pub mod Results
 pub mod Compiled
 pub mod Exact
+pub mod SavedExact
+pub mod Complete

@@ -36,10 +36,12 @@ use Rattle.trips_answers.specs.Worked.{IsRunOfText}
 use Rattle.trips_answers.specs.Answer.{IsAnswer}
 use Rattle.trips_answers.specs.Table.{IsAnswered}
 use Rattle.trips_answers.specs.Causes.{HasLargeFile, HasLargeInput}
-use Rattle.trips_answers.proofs.Exact.{complete, large_file, large_input, refused_exact, eval_exact}
+use Rattle.trips_answers.proofs.Complete.{complete, large_file, large_input}
+use Rattle.trips_answers.proofs.Exact.{refused_exact, eval_exact}
 use Rattle.trips_answers.proofs.Exact.{image_exact, text_exact, recorded_exact, verified_exact}
 use Rattle.trips_answers.proofs.Exact.{compiled_exact, assembled_exact, disassembled_exact, checked_exact}
-use Rattle.trips_answers.proofs.Exact.{explained_exact, saved_image_exact, saved_target_exact, saved_text_exact}
+use Rattle.trips_answers.proofs.Exact.{explained_exact}
+use Rattle.trips_answers.proofs.SavedExact.{saved_image_exact, saved_target_exact, saved_text_exact}
 use Rattle.trips_explain_answers.specs.Explained.{IsAcceptedTold}
 use Rattle.trips_answers.proofs.Compiled.{finished_told, deep_told, plain_told}
 use Rattle.trips_answers.proofs.Causes.{whole_of}

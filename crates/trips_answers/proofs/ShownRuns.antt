@@ -30,7 +30,9 @@ use Rattle.trips_answers.specs.Worked.{IsRunOfText}
 use Rattle.trips_answers.specs.Table.{IsAnswered, IsReported, IsReportedFrom}
 use Rattle.trips_answers.specs.Asks.{AsksFor, ended_report}
 use Rattle.trips_answers.proofs.Compiled.{finished_shown, finished_grid, deep_shown}
-use Rattle.trips_answers.proofs.Exact.{complete, image_exact, resumed_exact, text_exact, target_exact}
+use Rattle.trips_answers.proofs.Complete.{complete}
+use Rattle.trips_answers.proofs.Exact.{image_exact, text_exact, target_exact}
+use Rattle.trips_answers.proofs.SavedExact.{resumed_exact}
 use Rattle.trips_answers.proofs.Causes.{whole_of}
 
 -- a run that was made, and what was written of it

@@ -40,7 +40,6 @@ use Rattle.trips_answers.specs.Read.{IsInputRead}
 use Rattle.trips_answers.specs.Asks.{limit_of, most_input_bytes}
 use Rattle.trips_requests.specs.Table.{IsRead, AfterReading}
 use Rattle.trips_requests.specs.Limits.{most_target_bytes, most_image_bytes, most_save_bytes}
-use Rattle.trips_grid_answers.specs.Saved.{IsResumed, IsSavedRun}
 use Rattle.c_tree.specs.Limits.{most_source_bytes}
 use Rattle.target_asm_spec.specs.Text.{TargetText}
 use Rattle.trips_eval_answers.specs.Refusals.{front_refusal}
@@ -51,7 +50,7 @@ use Rattle.trips_answers.specs.Settings.{settings_of}
 use Rattle.trips_answers.specs.Worked.{IsRunBy, IsDone, IsDoneBehind}
 use Rattle.trips_answers.proofs.Traced.{last, other, rose_last}
 use Rattle.trips_answers.specs.Answer.{IsAnswerBehind, IsAnswer}
-use Rattle.trips_answers.specs.inside.Checked.{IsRunOfChecked, IsSaveOfChecked}
+use Rattle.trips_answers.specs.inside.Checked.{IsRunOfChecked}
 
 -- every block of a checked image is good
 pub checked_good : (image : Image) → IsCheckedImage image → All IsGood image.blocks
@@ -68,7 +67,7 @@ refusal_is text (stage.Typing e) may some = may
 refusal_is text stage.Memory may some = absurd (some refl)
 
 -- the refusal of a text, with its report
-front_told : (text : List ℕ) (refusal : Refusal) → MayBeRefused text refusal
+pub front_told : (text : List ℕ) (refusal : Refusal) → MayBeRefused text refusal
     → refusal ≢ stage.Memory → IsRefusedByFront text (front_refusal text refusal)
 front_told text refusal may some = (refusal, refusal_is text refusal may some, refl)
 
@@ -151,73 +150,6 @@ target_told text input settings image (Err e) spelled told = tt
 target_told text input settings image (Ok a) spelled told =
     checked_target text input settings image a.status a.report.items spelled told
 
--- saves ---------------------------------------------------------------------------------------
-
--- the refusal of a text under `save`
-pub save_refused_told : {E : Type 0} (text input : List ℕ) (settings : Settings) (refusal : Refusal)
-    (r : Result Answer E) → MayBeRefused text refusal
-    → IfOk r (λ a. IsRefusalBy text refusal a.status a.report.items)
-    → IfOk r (λ a. IsDone Save form.Source settings text input a.status a.report.items)
-save_refused_told text input settings refusal (Err e) may told = tt
-save_refused_told text input settings refusal (Ok a) may told =
-    inl (front_refusal text refusal, front_told text refusal may told.0, told.1)
-
--- the save of the run of the image that is compiled from a text
-pub text_saved_told : {E : Type 0} (text input : List ℕ) (settings : Settings) (image : Image)
-    (r : Result Answer E) → IsImageOf text settings.placing settings.unroll image
-    → IfOk r (λ a. IsSavedRun image input settings.most a.status a.report.items)
-    → IfOk r (λ a. IsDone Save form.Source settings text input a.status a.report.items)
-text_saved_told text input settings image (Err e) is told = tt
-text_saved_told text input settings image (Ok a) is told = inr (image, is, told)
-
-saved_image : (bytes input : List ℕ) (settings : Settings) (image : Image) (s : Status) (report : List ℕ)
-    → ImageBytes image bytes → IsSaveOfChecked image settings input s report
-    → IsDone Save form.Image settings bytes input s report
-saved_image bytes input settings image s report spelled (inl run) = inr (image, spelled, run.0, run.1)
-saved_image bytes input settings image s report spelled (inr bad) =
-    inl (_, inr (image, bad.0, bad.1, spelled, bad.2, refl), bad.3)
-
--- the answer of `save` to the image that the bytes spell
-pub image_saved_told : {E : Type 0} (bytes input : List ℕ) (settings : Settings) (image : Image)
-    (r : Result Answer E) → ImageBytes image bytes
-    → IfOk r (λ a. IsSaveOfChecked image settings input a.status a.report.items)
-    → IfOk r (λ a. IsDone Save form.Image settings bytes input a.status a.report.items)
-image_saved_told bytes input settings image (Err e) spelled told = tt
-image_saved_told bytes input settings image (Ok a) spelled told =
-    saved_image bytes input settings image a.status a.report.items spelled told
-
-saved_target : (text input : List ℕ) (settings : Settings) (image : Image) (s : Status) (report : List ℕ)
-    → TargetText image text → IsSaveOfChecked image settings input s report
-    → IsDone Save form.Target settings text input s report
-saved_target text input settings image s report spelled (inl run) = inr (image, spelled, run.0, run.1)
-saved_target text input settings image s report spelled (inr bad) =
-    inl (_, inr (image, bad.0, bad.1, spelled, bad.2, refl), bad.3)
-
--- the answer of `save` to the image of a target text
-pub target_saved_told : {E : Type 0} (text input : List ℕ) (settings : Settings) (image : Image)
-    (r : Result Answer E) → TargetText image text
-    → IfOk r (λ a. IsSaveOfChecked image settings input a.status a.report.items)
-    → IfOk r (λ a. IsDone Save form.Target settings text input a.status a.report.items)
-target_saved_told text input settings image (Err e) spelled told = tt
-target_saved_told text input settings image (Ok a) spelled told =
-    saved_target text input settings image a.status a.report.items spelled told
-
-resumed_row : (bytes input : List ℕ) (settings : Settings) (s : Status) (report : List ℕ)
-    → IsResumed bytes settings.seed settings.most settings.show s report
-    → IsDone Run form.Saved settings bytes input s report
-resumed_row bytes input settings s report (inl out) = inl out
-resumed_row bytes input settings s report (inr run) = inr run
-
--- the answer of a run that goes on from a saved state
-pub resumed_told : {E : Type 0} (how : FileForm) (bytes input : List ℕ) (settings : Settings) (r : Result Answer E)
-    → how ≡ form.Saved
-    → IfOk r (λ a. IsResumed bytes settings.seed settings.most settings.show a.status a.report.items)
-    → IfOk r (λ a. IsDone Run how settings bytes input a.status a.report.items)
-resumed_told how bytes input settings (Err e) is told = tt
-resumed_told how bytes input settings (Ok a) is told =
-    subst (λ (f : FileForm). IsDone Run f settings bytes input a.status a.report.items) (sym is)
-    (resumed_row bytes input settings a.status a.report.items told)
-
 -- the work -----------------------------------------------------------------------------------
 
 -- any file has fewer bytes than 2^32 - 1
@@ -267,17 +199,6 @@ run_form_told work how read settings seen bytes input (Ok a) is same set told =
     subst (λ (w : Work). IsDone w how settings bytes input a.status a.report.items) (sym is)
     (subst (λ (f : FileForm). IsDone Run f settings bytes input a.status a.report.items) same
     (subst (λ (t : Settings). IsDone Run read t bytes input a.status a.report.items) set told))
-
--- what `save` does with a file of this form
-pub save_form_told : {E : Type 0} (work : Work) (how read : FileForm) (settings seen : Settings)
-    (bytes input : List ℕ) (r : Result Answer E) → work ≡ Save → read ≡ how → seen ≡ settings
-    → IfOk r (λ a. IsDone Save read seen bytes input a.status a.report.items)
-    → IfOk r (λ a. IsDone work how settings bytes input a.status a.report.items)
-save_form_told work how read settings seen bytes input (Err e) is same set told = tt
-save_form_told work how read settings seen bytes input (Ok a) is same set told =
-    subst (λ (w : Work). IsDone w how settings bytes input a.status a.report.items) (sym is)
-    (subst (λ (f : FileForm). IsDone Save f settings bytes input a.status a.report.items) same
-    (subst (λ (t : Settings). IsDone Save read t bytes input a.status a.report.items) set told))
 
 -- what `compile` does, whatever its file is read as
 pub compile_told : {E : Type 0} (work : Work) (how : FileForm) (placing : Placing) (unroll : ℕ)

@@ -1,5 +1,6 @@
 use Rattle.std.proofs.Common.{arith}
-use Rattle.trips_answers.proofs.Told.{few_bytes, resumed_told}
+use Rattle.trips_answers.proofs.Told.{few_bytes}
+use Rattle.trips_answers.proofs.SavedTold.{resumed_told}
 use Rattle.trips_answers.proofs.asked_answer.run_done.Goals as goal
 
 pub text_answer-requires-clause-few : goal.text_answer-requires-clause-few

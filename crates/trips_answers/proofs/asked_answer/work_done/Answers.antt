@@ -7,7 +7,8 @@ use Rattle.trips_answers.specs.Asks.{limit_of}
 use Rattle.trips_answers.specs.Request.{form_of}
 use Rattle.trips_answers.specs.declared.forms.Settings.{Settings}
 use Rattle.trips_answers.proofs.Told.{evaluate_told, few_bytes, run_form_told, compile_told, tool_told}
-use Rattle.trips_answers.proofs.Told.{explain_told, record_told, save_form_told, work_is}
+use Rattle.trips_answers.proofs.Told.{explain_told, record_told, work_is}
+use Rattle.trips_answers.proofs.SavedTold.{save_form_told}
 use Rattle.trips_answers.proofs.asked_answer.work_done.Goals as goal
 
 pub text_evaluated-requires : goal.text_evaluated-requires

@@ -1,4 +1,4 @@
-use Rattle.trips_answers.proofs.Told.{image_saved_told}
+use Rattle.trips_answers.proofs.SavedTold.{image_saved_told}
 use Rattle.trips_answers.proofs.saved_answer.bytes_saved.Goals as goal
 
 pub returns-in-Ok : goal.returns-in-Ok

@@ -1,4 +1,4 @@
-use Rattle.trips_answers.proofs.Told.{target_saved_told}
+use Rattle.trips_answers.proofs.SavedTold.{target_saved_told}
 use Rattle.trips_answers.proofs.saved_answer.target_saved.Goals as goal
 
 pub returns-in-Ok : goal.returns-in-Ok

@@ -1,4 +1,4 @@
-use Rattle.trips_answers.proofs.Told.{text_saved_told, save_refused_told}
+use Rattle.trips_answers.proofs.SavedTold.{text_saved_told, save_refused_told}
 use Rattle.trips_answers.proofs.saved_answer.text_saved.Goals as goal
 
 pub returns-in-Ok : goal.returns-in-Ok
