@@ -48,6 +48,7 @@ use Rattle.flat_lower.specs.inside.Operations.{binary_code, unary_code, load_op}
 use Rattle.flat_lower.specs.inside.Objects.{Context, global_at, address_code}
 use Rattle.flat_lower.specs.inside.Expressions.{with_kind, global_code, name_code, element_code, tested}
 use Rattle.flat_lower.specs.inside.Expressions.{binary_end, strict_code, operand_at, expr_code}
+use Rattle.flat_lower.specs.declared.powers.Power.{Power}
 use Rattle.flat_lower.specs.inside.Powers.{immediate_for, immediate_code}
 use Rattle.flat_lower.specs.inside.Fits.{GlobalIs, FitsName, FitsWhole, IsOperand, FitsRight, FitsStrict}
 use Rattle.flat_lower.specs.inside.Fits.{FitsBinary, FitsUnary, FitsExpr, FitsKind}
@@ -68,7 +69,7 @@ use Rattle.flat_lower.proofs.Values.{KeptIs, ValueIs, Valued, value_at, kept_at,
 use Rattle.flat_lower.proofs.Values.{keeps_both, functions, base, FollowsOf, run, code, keeps_set}
 use Rattle.flat_lower.proofs.Values.{value_end, operand, spending}
 use Rattle.flat_lower.proofs.Simple.{FollowsHere}
-use Rattle.flat_lower.proofs.PowerLaws.{has_constant, immediate_works}
+use Rattle.flat_lower.proofs.Immediates.{has_constant, immediate_works}
 use Rattle.flat_lower.proofs.Constants.{then_spent, constant_means, constant_fits, constant_nodes}
 
 module _ (P : TypedProgram) (most : ℕ) (S : Scene) (y : IsScene P S) where
@@ -90,7 +91,7 @@ module _ (P : TypedProgram) (most : ℕ) (S : Scene) (y : IsScene P S) where
   depth_is _ t d = refl
 
   pub end_is : (o : BinaryOp) → IsStrict (functions P most) (base P most) S.env o
-      → (k : Option Kind) (d : ℕ) (m : Option ℕ) (right : Code)
+      → (k : Option Kind) (d : ℕ) (m : Option Power) (right : Code)
       → binary_end o k d m right ≡ strict_code o k d m right
   end_is LogicalOr t k d m right = absurd t
   end_is LogicalAnd t k d m right = absurd t
@@ -160,23 +161,23 @@ module _ (P : TypedProgram) (most : ℕ) (S : Scene) (y : IsScene P S) where
       (keeps_both S d (suc d) f0 g g2 s1 s2 (omega arith) va.keeps vb.keeps) ha vb.is fa fb hu hl)
 
   -- an operation on a constant has its right operand of its type
-  right_kind : (o : BinaryOp) (j : Kind) (r : Expr) (m : ℕ) → immediate_for o (Some j) r ≡ Some m
+  right_kind : (o : BinaryOp) (j : Kind) (r : Expr) (m : Power) → immediate_for o (Some j) r ≡ Some m
       → FitsRight o j (kind_of r) → kind_of r ≡ Some j
   right_kind ShiftLeft j r m e h = absurd (cc e)
   right_kind ShiftRight j r m e h = absurd (cc e)
   right_kind _ j r m e h = h
 
-  -- the operation on the left operand and a constant
-  constant_end : (o : BinaryOp) (k j : Kind) (l r : TypedExpr) (m : ℕ) → Some j ≡ l.kind
+  -- the operation on the left operand and a power of two
+  constant_end : (o : BinaryOp) (k j : Kind) (l r : TypedExpr) (m : Power) → Some j ≡ l.kind
       → immediate_for o (Some j) (expr_of r) ≡ Some m → (d a top low : ℕ) (f0 g : State)
       (s : eval.State) → d < 16 → FitsExpr (scope P S) (suc d) (expr_of r)
       → FitsStrict o j (kind_of (expr_of r)) k → ValueIs S d l.kind f0 a s g → 8 * s.stock + 7 ≤ top
       → low ≤ s.stock + most * g.rounds - nodes (expr_of r)
-      → FollowsHere P most S y d (Some k) f0 (immediate_code o m (temp d)) g top low
+      → FollowsHere P most S y d (Some k) f0 (immediate_code o j m (temp d)) g top low
       (then (meaning P (Of r) s) (operated o l.kind a))
   constant_end o k j l r m ej em d a top low f0 g s ld fr t v hu hl =
       let c = has_constant o j (expr_of r) m em in
-      let b = immediate_code o m (temp d) in
+      let b = immediate_code o j m (temp d) in
       let kinds : j ≡ v.kind = cc (ej ∙ v.is_kind) in
       let fa : IsWord j a = subst (λ k. IsWord k a) (sym kinds) v.fits in
       let fw = constant_fits (scope P S) (suc d) (expr_of r) j c.word fr
@@ -192,13 +193,13 @@ module _ (P : TypedProgram) (most : ℕ) (S : Scene) (y : IsScene P S) where
       (needed most (Valued S d (Some k) f0) (run P most S y b g) top low (operate o j a c.word) s0
       (λ w. Go (Value w) s0) (λ w ew.
       let x = immediate_works (functions P most) (base P most) S.env o j (expr_of r) m g (temp d) a c.word w
-      em c.is t.0 v.is fa fw ew in
-      value_end P most S y d (Some k) f0 g b 3 80 w top low s0 k ld (omega arith) refl
+      em c.is t.0 (λ e. omega arith) v.is fa fw ew in
+      value_end P most S y d (Some k) f0 g b 5 80 w top low s0 k ld (omega arith) refl
       (subst (λ k. IsWord k w) (sym t.2) x.fits) (record { rel = rn; kept = v.keeps.kept })
       x.puts (omega arith) (omega arith)))))
 
   -- the right operand behind the left one, and the operation
-  right_end : (o : BinaryOp) (k j : Option Kind) (l r : TypedExpr) (m : Option ℕ) → j ≡ l.kind
+  right_end : (o : BinaryOp) (k j : Option Kind) (l r : TypedExpr) (m : Option Power) → j ≡ l.kind
       → immediate_for o j (expr_of r) ≡ m → (d a top low : ℕ) (f0 g : State) (s : eval.State)
       → IsStrict (functions P most) (base P most) S.env o → suc d < 16 → FollowsOf P most r s
       → FitsExpr (scope P S) (suc d) (expr_of r) → FitsKind k (FitsBinary o j (kind_of (expr_of r)))

@@ -8,6 +8,9 @@ pub mod OperationWorks
 pub mod UnaryWorks
 pub mod BumpWorks
 pub mod PowerLaws
+pub mod SignedShifts
+pub mod SignedPowers
+pub mod Immediates
 pub mod Bytes
 pub mod Objects
 pub mod TreeFacts

@@ -85,7 +85,8 @@ divided Long a b = alu.quotient a b
 divided ULong a b = alu.quotient_unsigned a b
 
 module _ (a b w : ℕ) where
-  signed_quotient : nat_eq b 0 ≡ false → alu.quotient a b
+  -- The machine's quotient with a sign, by what is not 0.
+  pub signed_quotient : nat_eq b 0 ≡ false → alu.quotient a b
       ≡ word (int_div (alu.signed a) (alu.signed b))
   signed_quotient e = ap (λ t. cond t 0 (word (int_div (alu.signed a) (alu.signed b)))) e
 

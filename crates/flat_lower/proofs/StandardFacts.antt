@@ -128,7 +128,7 @@ falls_off = refl
 pub toward_zero : run (returns (two op.Add
     (two op.Multiply (two op.Divide (Unary (Some Int) Minus (n 7)) (n 2)) (n 10))
     (two op.Remainder (Unary (Some Int) Minus (n 7)) (n 2)))) [] ≡ 4 ∷ (2 ^ 64 - 31) ∷ []
-unfolding flat_run frame_limit first_memory apply load save marked lowered global_at array_at
+unfolding flat_run frame_limit first_memory apply load save marked lowered global_at array_at exponent_of
 toward_zero = refl
 
 abbrev unsigned : ℕ → Expr
@@ -148,11 +148,11 @@ compared_unsigned = refl
 -- return 0 && 1 / 0; and return 1 || 1 / 0;
 pub and_is_short : run (returns (two op.LogicalAnd (n 0) (two op.Divide (n 1) (n 0)))) []
     ≡ 4 ∷ 0 ∷ []
-unfolding flat_run frame_limit first_memory apply load save marked lowered global_at array_at
+unfolding flat_run frame_limit first_memory apply load save marked lowered global_at array_at exponent_of
 and_is_short = refl
 
 pub or_is_short : run (returns (two op.LogicalOr (n 5) (two op.Divide (n 1) (n 0)))) [] ≡ 4 ∷ 1 ∷ []
-unfolding flat_run frame_limit first_memory apply load save marked lowered global_at array_at
+unfolding flat_run frame_limit first_memory apply load save marked lowered global_at array_at exponent_of
 or_is_short = refl
 
 -- CHOICES AND LOOPS
@@ -170,7 +170,7 @@ pub sums_quotients : run (main [] [] (Declare (place.Scalar 0) None ∷ Declare 
     (Some (Bump (Some Int) PostDec (int 0)))
     (does (Assign (Some Int) (Some op.Add) Int (int 1) (two op.Divide (n 24) (int 0)))) ∷ gives
     (int 1) ∷ [])) [] ≡ 4 ∷ 50 ∷ []
-unfolding flat_run frame_limit first_memory apply load save marked lowered global_at array_at
+unfolding flat_run frame_limit first_memory apply load save marked lowered global_at array_at exponent_of
 sums_quotients = refl
 
 -- int i = 0; do { if (i == 2) continue; putchar(i); } while (++i < 4); return i;
@@ -310,3 +310,12 @@ pub shifts_and_masks : run (returns (Binary (Some UInt) op.Add (Binary (Some UIn
     (Binary (Some UInt) op.Remainder (unsigned 103) (Convert (Some UInt) UInt (n 8))))) [] ≡ 4 ∷ 127 ∷ []
 unfolding flat_run frame_limit first_memory apply load save marked lowered global_at array_at exponent_of converted
 shifts_and_masks = refl
+
+-- return -103l / 8 * 10 + -103l % 8;
+pub long_quotients_are_rounded : run (returns (Binary (Some Long) op.Add (Binary (Some Long) op.Multiply
+    (Binary (Some Long) op.Divide (Number (Some Long) (2 ^ 64 - 103)) (Number (Some Long) 8))
+    (Number (Some Long) 10))
+    (Binary (Some Long) op.Remainder (Number (Some Long) (2 ^ 64 - 103)) (Number (Some Long) 8)))) []
+    ≡ 4 ∷ (2 ^ 64 - 127) ∷ []
+unfolding flat_run frame_limit first_memory apply load save marked lowered global_at array_at exponent_of
+long_quotients_are_rounded = refl

@@ -23,8 +23,8 @@ use crate::emit::{deeper, put_if, temp};
 use crate::names::{put_element, put_joined, put_name};
 use crate::operations::{put_converted_here, put_word};
 use crate::places::Places;
-use crate::powers::{immediate_for, put_immediate};
-use crate::results::{put_binary_at, put_tested, put_unary_at, truth};
+use crate::powers::immediate_for;
+use crate::results::{put_binary_at, put_immediate_at, put_tested, put_unary_at, truth};
 use crate::sides::{kind_of, side_of};
 use base::{Boxed, Items, Memory};
 use c_tree::{BinaryOp, BumpOp, Callee, Kind, Place, TypedExpr, TypedNode, UnaryOp};
@@ -294,7 +294,7 @@ fn put_operation(
     Ok(())
 }
 
-// The operation on both operands, or on the left one and a constant.
+// The operation on both operands, or on the left one and a power of two.
 #[cycle(value)]
 fn put_strict(
     code: &mut Items<FlatStmt>,
@@ -311,7 +311,7 @@ fn put_strict(
 {
     match immediate_for(op, kind, e) {
         None => put_operation(code, alloc, places, d, op, kind, e),
-        Some(m) => put_immediate(code, op, m, temp(d)),
+        Some(p) => put_immediate_at(code, op, kind, p, d),
     }
 }
 

@@ -39,8 +39,8 @@ fn put_one(code: &mut Items<FlatStmt>, to: u16, op: Op, x: u16) -> Result<(), Me
     put_let(code, to, op, Arg::Var(x), Arg::Const(0))
 }
 
-// An operation on two variables.
-fn put_two(code: &mut Items<FlatStmt>, to: u16, op: Op, x: u16, y: u16) -> Result<(), Memory>
+/// An operation on two variables.
+pub fn put_two(code: &mut Items<FlatStmt>, to: u16, op: Op, x: u16, y: u16) -> Result<(), Memory>
     ensures { OnOk result (Adds code.old code.new (two_done to op x y)) }
 {
     put_let(code, to, op, Arg::Var(x), Arg::Var(y))

@@ -6,10 +6,12 @@ ghost use Rattle.flat_lower.specs.inside.Operations as operations;
 ghost use Rattle.flat_lower.specs.inside.Operations.{set_word, unary_code, binary_code};
 ghost use Rattle.flat_lower.specs.inside.Expressions as expressions;
 ghost use Rattle.flat_lower.specs.inside.Expressions.{with_kind};
+ghost use Rattle.flat_lower.specs.inside.Powers.{immediate_code};
 ghost use Rattle.flat_lower.specs.inside.Emitted.{Adds};
 
 use crate::emit::{put_let, temp};
 use crate::operations::{put_binary, put_unary, put_word};
+use crate::powers::{Power, put_immediate};
 use base::{Items, Memory};
 use c_tree::{BinaryOp, Kind, UnaryOp};
 use ir_forms::{Arg, FlatStmt};
@@ -48,6 +50,24 @@ pub fn put_binary_at(
     match kind {
         None => Ok(()),
         Some(kind) => put_binary(code, op, kind, temp(d), temp(y)),
+    }
+}
+
+/// The operation on temporary d and a power of two.
+#[tactic(auto, using(crate::proofs::Emits::nothing))]
+pub fn put_immediate_at(
+    code: &mut Items<FlatStmt>,
+    op: BinaryOp,
+    kind: Option<Kind>,
+    p: Power,
+    d: u8,
+) -> Result<(), Memory>
+    ensures { OnOk result (Adds code.old code.new
+        (with_kind kind (λ k. immediate_code op k p (operations.temp d)))) }
+{
+    match kind {
+        None => Ok(()),
+        Some(kind) => put_immediate(code, op, kind, p, temp(d)),
     }
 }
 

@@ -29,7 +29,8 @@ use Rattle.flat_lower.specs.inside.Objects.{Context, row_of}
 use Rattle.flat_lower.specs.inside.Expressions.{with_kind, name_code, element_code, bump_code, before_right}
 use Rattle.flat_lower.specs.inside.Expressions.{joined_code, right_at, after_right, temps, call_code, binary_end}
 use Rattle.flat_lower.specs.inside.Expressions.{tested, operand_at, expr_code, index_code, args_code, strict_code}
-use Rattle.flat_lower.specs.inside.Powers.{immediate_for}
+use Rattle.flat_lower.specs.declared.powers.Power.{Power}
+use Rattle.flat_lower.specs.inside.Powers.{immediate_for, immediate_code}
 use Rattle.flat_lower.specs.inside.Statements.{expr_if_code, declare_code, return_code, if_so, turn_code, loop_code}
 use Rattle.flat_lower.specs.inside.Statements.{do_code, stmt_code, stmts_code, first_code, end_code, named_scalar}
 use Rattle.flat_lower.specs.inside.Statements.{simple_arg, plain_code, plain_if_code, sections_code, context_of}
@@ -133,15 +134,18 @@ module _ (w : Weight) (c : Context) where
   tested_takes : (d : ℕ) → Takes w 0 1 (tested d)
   tested_takes d = record { few = omega arith }
 
-  strict_takes : (o : BinaryOp) (k : Option Kind) (d : ℕ) (m : Option ℕ) (right : Code) (n : ℕ)
-      → Takes w (spare w) n right → Takes w (spare w) (n + (w.branch + 2)) (strict_code o k d m right)
+  strict_takes : (o : BinaryOp) (k : Option Kind) (d : ℕ) (m : Option Power) (right : Code) (n : ℕ)
+      → Takes w (spare w) n right → Takes w (spare w) (n + (w.branch + 4)) (strict_code o k d m right)
   strict_takes o k d None right n p =
       eased (after p (known_kind 3 k (λ k. binary_code o k (temp d) (temp (suc d)))
       (λ k. binary_takes w o k (temp d) (temp (suc d))))) (omega (arith, w.branches))
-  strict_takes o k d (Some m) right n p = eased (immediate_takes w o m (temp d)) (omega (arith, w.branches))
+  strict_takes o k d (Some m) right n p =
+      let h = p.few in
+      eased (known_kind 5 k (λ k. immediate_code o k m (temp d)) (λ k. immediate_takes w o k m (temp d)))
+      (omega (arith, w.branches))
 
-  binary_end_takes : (o : BinaryOp) (k : Option Kind) (d : ℕ) (m : Option ℕ) (right : Code) (n : ℕ)
-      → Takes w (spare w) n right → Takes w (spare w) (n + (w.branch + 2)) (binary_end o k d m right)
+  binary_end_takes : (o : BinaryOp) (k : Option Kind) (d : ℕ) (m : Option Power) (right : Code) (n : ℕ)
+      → Takes w (spare w) n right → Takes w (spare w) (n + (w.branch + 4)) (binary_end o k d m right)
   binary_end_takes LogicalAnd k d m right n p =
       eased (chosen (Var (temp d)) (after p (tested_takes d)) (none 0)) (omega arith)
   binary_end_takes LogicalOr k d m right n p =

@@ -28,10 +28,11 @@ use Rattle.flat_lower.specs.inside.Objects.{Context}
 use Rattle.flat_lower.specs.inside.Expressions.{name_code, element_code, bump_code, before_right, right_at}
 use Rattle.flat_lower.specs.inside.Expressions.{after_right, temps, result_var, tested, binary_end}
 use Rattle.flat_lower.specs.inside.Expressions.{operand_at, joined_code, strict_code}
-use Rattle.flat_lower.specs.inside.Powers.{immediate_for}
+use Rattle.flat_lower.specs.declared.powers.Power.{Power}
+use Rattle.flat_lower.specs.inside.Powers.{immediate_for, immediate_code}
 use Rattle.flat_lower.specs.inside.Expressions.{expr_code, index_code, args_code, call_code}
 use Rattle.flat_lower.proofs.Depths.{depth_fits}
-use Rattle.flat_lower.proofs.PowerLaws.{immediate_small}
+use Rattle.flat_lower.proofs.Immediates.{IsSmall, immediate_small}
 use Rattle.flat_lower_premises.proofs.Fitting.{Fitting, nothing_fits, single_fits, let_fits, if_fits}
 use Rattle.flat_lower_premises.proofs.Fitting.{with_kind_fits, joined, scalar_fits, temp_fits, temp_lasts}
 use Rattle.flat_lower_premises.proofs.Operations.{word_fits, converted_here_fits, binary_fits, unary_fits}
@@ -131,15 +132,17 @@ module _ (fs : List Function) (c : Scope) (bytes : ℕ) (i : Bool) (x : Context)
       let q = depth d h in
       let_fits (temp d) op.Tne (Var (temp d)) (Const 0) refl q q (omega arith)
 
-  strict_fits : (o : BinaryOp) (k : Option Kind) (d : ℕ) (m : Option ℕ) (right : Code) → d < 16 → suc d < 16
-      → ((i : ℕ) → m ≡ Some i → i < 2 ^ 64) → Fits right → Fits (strict_code o k d m right)
+  strict_fits : (o : BinaryOp) (k : Option Kind) (d : ℕ) (m : Option Power) (right : Code) → d < 16 → suc d < 16
+      → ((i : Power) → m ≡ Some i → IsSmall i) → Fits right → Fits (strict_code o k d m right)
   strict_fits o k d None right h g q p = joined p
       (with_kind_fits k (λ k. binary_code o k (temp d) (temp (suc d)))
       (λ k. binary_fits o k (temp d) (temp (suc d)) (depth d h) (depth (suc d) g)))
-  strict_fits o k d (Some m) right h g q p = immediate_fits o m (temp d) (q m refl) (depth d h)
+  strict_fits o k d (Some m) right h g q p = with_kind_fits k (λ k. immediate_code o k m (temp d))
+      (λ k. immediate_fits o k m (temp d) (q m refl) (depth d h))
 
-  binary_end_fits : (o : BinaryOp) (k : Option Kind) (d : ℕ) (m : Option ℕ) (right : Code) → d < 16
-      → operand_at o d < 16 → ((i : ℕ) → m ≡ Some i → i < 2 ^ 64) → Fits right → Fits (binary_end o k d m right)
+  binary_end_fits : (o : BinaryOp) (k : Option Kind) (d : ℕ) (m : Option Power) (right : Code) → d < 16
+      → operand_at o d < 16 → ((i : Power) → m ≡ Some i → IsSmall i) → Fits right
+      → Fits (binary_end o k d m right)
   binary_end_fits LogicalAnd k d m right h g q p =
       if_fits (Var (temp d)) (Then right (tested d)) Nop (depth d h) (joined p (tested_fits d h))
       nothing_fits

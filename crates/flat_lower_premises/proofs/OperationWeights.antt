@@ -1,5 +1,5 @@
 -- What the code of operations, addresses and left sides weighs.
-use Rattle.std.proofs.Common.{◌≡◌, ℕ, zero, suc, Bool, true, false, Option, Some, None, refl, arith}
+use Rattle.std.proofs.Common.{◌≡◌, ℕ, zero, suc, Bool, true, false, cond, Option, Some, None, refl, arith}
 use Rattle.std.specs.Prelude.{slice_get}
 use Rattle.c_tree.specs.declared.Kind.{Kind}
 use Rattle.c_tree.specs.declared.Kind.TheVariants.{UInt}
@@ -10,6 +10,7 @@ use Rattle.c_tree.specs.declared.BinaryOp.{BinaryOp}
 use Rattle.c_tree.specs.declared.BinaryOp.TheVariants.{ShiftLeft, Add, Subtract, Multiply, Divide}
 use Rattle.c_tree.specs.declared.Place.{Place}
 use Rattle.c_tree.specs.declared.Place.TheVariants.{Global, Scalar, Array}
+use Rattle.c_constant.specs.Kinds.{is_signed}
 use Rattle.c_meaning_spec.specs.Task.{is_array}
 use Rattle.trips_isa.specs.declared.op.Op.{Op}
 use Rattle.trips_isa.specs.declared.op.Op.TheVariants as op
@@ -21,7 +22,9 @@ use Rattle.flat_lower.specs.inside.Narrowing.{narrowing_from}
 use Rattle.flat_lower.specs.inside.Operations.{temp, scratch, shift_of, is_before, narrowed_here}
 use Rattle.flat_lower.specs.inside.Operations.{narrowed_by, converted_here, reduced_here, binary_code}
 use Rattle.flat_lower.specs.inside.Operations.{load_op, save_op, unary_code, bump_op, bump_narrowing, bumped}
-use Rattle.flat_lower.specs.inside.Powers.{exponent_of, immediate_code, scaled_by}
+use Rattle.flat_lower.specs.declared.powers.Power.{Power}
+use Rattle.flat_lower.specs.inside.Powers.{exponent_of, immediate_code, exact_code, rounded_code, bias_code}
+use Rattle.flat_lower.specs.inside.Powers.{biased_code, are_signs, scaled_by}
 use Rattle.flat_lower.specs.inside.Objects.{Context, global_at, based, address_by, address_code, whole_code}
 use Rattle.flat_lower.specs.inside.Expressions.{global_code, name_code, joined_by, element_code, bump_scalar}
 use Rattle.flat_lower.specs.inside.Expressions.{bump_memory, bump_name, bump_element, assign_name, old_name}
@@ -57,10 +60,30 @@ module _ (w : Weight) where
   binary_takes Multiply k x y = eased (reduced_takes (Let x op.Mul (Var x) (Var y)) k x refl) (omega arith)
   binary_takes _ k x y = record { few = omega arith }
 
-  -- the code of an operation with a constant weighs at most 1
-  pub immediate_takes : (o : BinaryOp) (m x : ℕ) → Takes w 0 1 (immediate_code o m x)
-  immediate_takes Divide m x = record { few = omega arith }
-  immediate_takes _ m x = record { few = omega arith }
+  bias_takes : (short : Bool) (n x : ℕ) → Takes w 0 2 (bias_code short n x)
+  bias_takes true n x = record { few = omega arith }
+  bias_takes false n x = record { few = omega arith }
+
+  biased_takes : (o : BinaryOp) (p : Power) (x : ℕ) → Takes w 0 2 (biased_code o p x)
+  biased_takes Divide p x = record { few = omega arith }
+  biased_takes _ p x = record { few = omega arith }
+
+  exact_takes : (o : BinaryOp) (p : Power) (x : ℕ) → Takes w 0 1 (exact_code o p x)
+  exact_takes Divide p x = record { few = omega arith }
+  exact_takes _ p x = record { few = omega arith }
+
+  rounded_takes : (o : BinaryOp) (k : Kind) (p : Power) (x : ℕ) → Takes w 0 5 (rounded_code o k p x)
+  rounded_takes o k p x = after (bias_takes (are_signs k p.exponent) p.exponent x)
+      (after (one_more (Let x op.Add (Var x) (Var (scratch 0))) refl) (biased_takes o p x))
+
+  immediate_by : (b : Bool) (o : BinaryOp) (k : Kind) (p : Power) (x : ℕ)
+      → Takes w 0 5 (cond b (rounded_code o k p x) (exact_code o p x))
+  immediate_by true o k p x = rounded_takes o k p x
+  immediate_by false o k p x = eased (exact_takes o p x) (omega arith)
+
+  -- the code of an operation with a power of two weighs at most 5
+  pub immediate_takes : (o : BinaryOp) (k : Kind) (p : Power) (x : ℕ) → Takes w 0 5 (immediate_code o k p x)
+  immediate_takes o k p x = immediate_by (is_signed k) o k p x
 
   scaled_takes : (o : Option ℕ) (q x : ℕ) → Takes w 0 1 (scaled_by o q x)
   scaled_takes None q x = record { few = omega arith }

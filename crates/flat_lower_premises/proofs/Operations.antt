@@ -1,5 +1,5 @@
 -- The code of operations and conversions fits where its variables do.
-use Rattle.std.proofs.Common.{◌≡◌, ℕ, ◌^◌, ◌<◌, Bool, true, false, cond, List, Option, Some, None}
+use Rattle.std.proofs.Common.{◌≡◌, ℕ, ◌-◌, ◌^◌, ◌<◌, Bool, true, false, cond, List, Option, Some, None}
 use Rattle.std.proofs.Common.{refl, arith}
 use Rattle.c_tree.specs.declared.Kind.{Kind}
 use Rattle.c_tree.specs.declared.Kind.TheVariants.{Char, Int, UInt, Long, ULong}
@@ -24,8 +24,11 @@ use Rattle.flat_lower.specs.inside.Operations.{narrowed_by, narrowed_here, conve
 use Rattle.flat_lower.specs.inside.Operations.{converted_here, reduced_here, by_sign, remainder_code}
 use Rattle.flat_lower.specs.inside.Operations.{binary_code, unary_code, bump_op, bump_narrowing, bumped}
 use Rattle.flat_lower.specs.inside.Operations.{load_op, save_op}
-use Rattle.flat_lower.specs.inside.Powers.{exponent_of, immediate_code, scaled_by}
+use Rattle.flat_lower.specs.declared.powers.Power.{Power}
+use Rattle.flat_lower.specs.inside.Powers.{exponent_of, immediate_code, exact_code, rounded_code, bias_code}
+use Rattle.flat_lower.specs.inside.Powers.{biased_code, are_signs, scaled_by}
 use Rattle.flat_lower.proofs.PowerLaws.{exponent_is}
+use Rattle.flat_lower.proofs.Immediates.{IsSmall}
 use Rattle.flat_lower_premises.proofs.Fitting.{Fitting, nothing_fits, let_fits, joined, scratch_fits}
 
 -- OPERATIONS
@@ -153,11 +156,41 @@ module _ {fs : List Function} {n bytes : ℕ} {i : Bool} where
       (signed k op.Divs op.Divu refl refl) p q
   binary_fits _ k x y p q = two x _ x y refl p p q
 
-  -- the code of an operation on a variable and a word fits
-  pub immediate_fits : (o : BinaryOp) (m x : ℕ) → m < 2 ^ 64 → FitsVar n x
-      → Fitting fs n bytes i (immediate_code o m x)
-  immediate_fits Divide m x h p = let_fits x op.Srl (Var x) (Const m) refl p p h
-  immediate_fits _ m x h p = let_fits x op.And (Var x) (Const m) refl p p h
+  exact_fits : (o : BinaryOp) (q : Power) (x : ℕ) → IsSmall q → FitsVar n x
+      → Fitting fs n bytes i (exact_code o q x)
+  exact_fits Divide q x h p =
+      let l = h.exponent in let_fits x op.Srl (Var x) (Const q.exponent) refl p p (omega arith)
+  exact_fits _ q x h p = let_fits x op.And (Var x) (Const q.mask) refl p p h.mask
+
+  bias_fits : (short : Bool) (m x : ℕ) → FitsVar n x → Fitting fs n bytes i (bias_code short m x)
+  bias_fits true m x p =
+      let_fits (scratch 0) op.Srl (Var x) (Const (64 - m)) refl (scratch_fits n 0 (omega arith)) p (omega arith)
+  bias_fits false m x p =
+      let s = scratch_fits n 0 (omega arith) in
+      joined (let_fits (scratch 0) op.Sra (Var x) (Const 63) refl s p (omega arith))
+      (let_fits (scratch 0) op.Srl (Var (scratch 0)) (Const (64 - m)) refl s s (omega arith))
+
+  biased_fits : (o : BinaryOp) (q : Power) (x : ℕ) → IsSmall q → FitsVar n x
+      → Fitting fs n bytes i (biased_code o q x)
+  biased_fits Divide q x h p =
+      let l = h.exponent in let_fits x op.Sra (Var x) (Const q.exponent) refl p p (omega arith)
+  biased_fits _ q x h p = joined (let_fits x op.And (Var x) (Const q.mask) refl p p h.mask)
+      (two x op.Sub x (scratch 0) refl p p (scratch_fits n 0 (omega arith)))
+
+  rounded_fits : (o : BinaryOp) (k : Kind) (q : Power) (x : ℕ) → IsSmall q → FitsVar n x
+      → Fitting fs n bytes i (rounded_code o k q x)
+  rounded_fits o k q x h p = joined (bias_fits (are_signs k q.exponent) q.exponent x p)
+      (joined (two x op.Add x (scratch 0) refl p p (scratch_fits n 0 (omega arith))) (biased_fits o q x h p))
+
+  immediate_by : (b : Bool) (o : BinaryOp) (k : Kind) (q : Power) (x : ℕ) → IsSmall q → FitsVar n x
+      → Fitting fs n bytes i (cond b (rounded_code o k q x) (exact_code o q x))
+  immediate_by true o k q x h p = rounded_fits o k q x h p
+  immediate_by false o k q x h p = exact_fits o q x h p
+
+  -- the code of an operation on a variable and a power of two fits
+  pub immediate_fits : (o : BinaryOp) (k : Kind) (q : Power) (x : ℕ) → IsSmall q → FitsVar n x
+      → Fitting fs n bytes i (immediate_code o k q x)
+  immediate_fits o k q x h p = immediate_by (is_signed k) o k q x h p
 
   scaled_with_fits : (o : Option ℕ) (q x : ℕ) → exponent_of q ≡ o → q < 2 ^ 64 → FitsVar n x
       → Fitting fs n bytes i (scaled_by o q x)

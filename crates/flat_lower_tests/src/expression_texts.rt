@@ -119,6 +119,34 @@ int main(void) {
 }
 ";
 
+pub const SIGNED_POWERS: &str = "#include <stdio.h>
+unsigned h;
+void say(long x) { h = h * 31 + (unsigned) (x ^ x >> 32); }
+void ints(int x) {
+  say(x / 1); say(x % 1); say(x / 2); say(x % 2); say(x / 8); say(x % 8);
+  say(x / 1073741824); say(x % 1073741824);
+}
+void longs(long x) {
+  say(x / 1); say(x % 1); say(x / 2); say(x % 2); say(x / 16); say(x % 16);
+  say(x / 2147483648); say(x % 2147483648);
+  say(x / 4611686018427387904); say(x % 4611686018427387904);
+}
+void narrow(char c, short s) {
+  say(c / 4); say(c % 4); say(s / 256); say(s % 256); say(c / 2L); say(s % 64L);
+}
+int main(void) {
+  int m = -2147483647 - 1; long lm = -9223372036854775807 - 1; long i;
+  for (i = -17; i < 18; i++) { ints(i); longs(i); }
+  ints(m); ints(m + 1); ints(m + 7); ints(-1073741824); ints(-1073741823); ints(2147483647);
+  putchar((int) (h & 127));
+  longs(m); longs(lm); longs(lm + 1); longs(lm + 15); longs(-4611686018427387904);
+  longs(-4611686018427387903); longs(9223372036854775807); longs(-2147483649);
+  putchar((int) (h & 127));
+  narrow(-128, -32768); narrow(127, 32767); narrow(-1, -1); narrow(-3, -255); narrow(5, 256);
+  return (int) h;
+}
+";
+
 pub const MANY_SCALARS: &str = "int main(void) {
   long a0 = 1, a1 = a0 * 3 % 1009 + 1, a2 = a1 * 3 % 1009 + 2, a3 = a2 * 3 % 1009 + 3,
     a4 = a3 * 3 % 1009 + 4, a5 = a4 * 3 % 1009 + 5, a6 = a5 * 3 % 1009 + 6,

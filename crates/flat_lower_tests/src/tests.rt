@@ -218,6 +218,13 @@ const EXPRESSIONS: &[Row] = &[
         result: 273,
     },
     Row {
+        name: "signed powers",
+        text: expression_texts::SIGNED_POWERS,
+        input: b"",
+        output: b"\x11&",
+        result: 1152128296,
+    },
+    Row {
         name: "many scalars",
         text: expression_texts::MANY_SCALARS,
         input: b"",

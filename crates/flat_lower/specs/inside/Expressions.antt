@@ -19,6 +19,7 @@ use Rattle.ir_forms.specs.declared.flat.Arg.TheVariants.{Const, Var}
 use Rattle.ir_forms.specs.inside.FlatCode.{Code, Nop, Then, only, Let, Load, Save, Put, Get, If}
 use Rattle.ir_forms.specs.inside.FlatCode as flat
 use Rattle.ir_forms.specs.inside.FlatViews.{stays}
+use Rattle.flat_lower.specs.declared.powers.Power.{Power}
 use Rattle.flat_lower.specs.inside.Tree.{Expr, Number, Name, Element, Call, Unary, Cast, Convert, Bump}
 use Rattle.flat_lower.specs.inside.Tree.{Binary, Choice, Assign, Comma, Exprs, NoExprs, WithExpr, kind_of}
 use Rattle.flat_lower.specs.inside.Operations.{temp, scratch, set_word, copied, converted_to}
@@ -191,14 +192,14 @@ call_code PutChar k d args =
 abbrev pub tested : ℕ → Code
 tested d = only (Let (temp d) op.Tne (Var (temp d)) (Const 0))
 
--- the right operand in the next temporary and the operation on both, or the operation on a constant
-abbrev pub strict_code : BinaryOp → Option Kind → ℕ → Option ℕ → Code → Code
+-- the right operand in the next temporary and the operation on both, or the operation on a power of two
+abbrev pub strict_code : BinaryOp → Option Kind → ℕ → Option Power → Code → Code
 strict_code o k d None right =
     Then right (with_kind k (λ k. binary_code o k (temp d) (temp (suc d))))
-strict_code o k d (Some m) right = immediate_code o m (temp d)
+strict_code o k d (Some p) right = with_kind k (λ k. immediate_code o k p (temp d))
 
 -- the right side is done only where the left one does not tell; what is 0 stands there already
-abbrev pub binary_end : BinaryOp → Option Kind → ℕ → Option ℕ → Code → Code
+abbrev pub binary_end : BinaryOp → Option Kind → ℕ → Option Power → Code → Code
 binary_end LogicalAnd k d m right = only (If (Var (temp d)) (Then right (tested d)) Nop)
 binary_end LogicalOr k d m right = only (If (Var (temp d)) (set_word (temp d) 1)
     (Then right (tested d)))
