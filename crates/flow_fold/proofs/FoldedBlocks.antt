@@ -15,7 +15,7 @@ use Rattle.flow_fold.specs.inside.Copies.{covers, guard_of}
 use Rattle.flow_fold.specs.inside.Immediates.{immediate_of, gives_constant}
 use Rattle.flow_fold.specs.inside.Folds.{with_constant, with_left, with_right, with_node, Turns, immediate}
 use Rattle.flow_fold.specs.inside.Folds.{left_copy, right_copy, guard_copy, offset, sum, told, negative, freed}
-use Rattle.flow_fold.specs.inside.Folds.{left_behind, right_behind}
+use Rattle.flow_fold.specs.inside.Folds.{left_behind, right_behind, mirror}
 use Rattle.flow_fold.specs.inside.Folds.{Folds}
 use Rattle.flow_fold.specs.inside.Offsets.{has_address, with_offset, summed}
 use Rattle.flow_fold.specs.inside.Replaces.{Immediates, with_immediate, with_immediates, LeavesOwn, Replaces}
@@ -33,6 +33,7 @@ use Rattle.flow_fold.proofs.OffsetRules.{offset_written, offset_works}
 use Rattle.flow_fold.proofs.SumFacts.{Adding, adding, adding_kept}
 use Rattle.flow_fold.proofs.SumRules.{sum_written, sum_works}
 use Rattle.flow_fold.proofs.TestRules.{Telling, telling, telling_kept, copy_written, copy_works}
+use Rattle.flow_fold.proofs.MirrorRules.{Mirroring, mirroring_kept, mirror_is, mirror_written, mirror_works}
 use Rattle.flow_fold.proofs.NegativeFacts.{Ending, ending, ending_kept}
 use Rattle.flow_fold.proofs.NegativeRules.{negative_written, negative_works}
 use Rattle.flow_fold.proofs.Replacing.{regular_kept, complete_kept, means_kept, labels_kept}
@@ -160,6 +161,7 @@ freed_stands f j n m there c =
 -- the rules, with the nodes that they look at
 data How (nodes : List FlowNode) (j : ℕ) (n m : FlowNode) : Type 0 where
   by_constant : Constantly nodes n m → How nodes j n m
+  by_mirror : Mirroring n m → How nodes j n m
   by_left : Leftly nodes j n m → How nodes j n m
   by_right : Rightly nodes j n m → How nodes j n m
   by_left_behind : LeftBehind nodes j n m → How nodes j n m
@@ -174,6 +176,9 @@ data How (nodes : List FlowNode) (j : ℕ) (n m : FlowNode) : Type 0 where
 how_stands : (f : FlowBlock) (j : ℕ) (n m : FlowNode) → slice_get f.nodes j ≡ Some n → How f.nodes j n m
     → Stands f j n m
 how_stands f j n m there (by_constant c) = constantly f j n m there c
+how_stands f j n m there (by_mirror c) =
+    subst (λ (x : FlowNode). Stands f j n x) (sym c.is)
+    (record { written = mirror_written f j n there c.op c.mirror; works = mirror_works f j n there c.op c.mirror })
 how_stands f j n m there (by_left c) = leftly f j n m there c
 how_stands f j n m there (by_right c) = rightly f j n m there c
 how_stands f j n m there (by_left_behind c) =
@@ -280,6 +285,7 @@ module _ (r : Immediates) (own : LeavesOwn r) where
   how_kept : (nodes : List FlowNode) (j : ℕ) (n m : FlowNode) → How nodes j n m
       → How (map new nodes) j (new n) (new m)
   how_kept nodes j n m (by_constant c) = by_constant (small_kept nodes n m c)
+  how_kept nodes j n m (by_mirror c) = by_mirror (mirroring_kept r own n m c)
   how_kept nodes j n m (by_left c) = by_left (record {
     sources = c.sources;
     copy = copy_kept nodes j n.guard n.left c.sources c.copy;
@@ -309,6 +315,7 @@ address_found nodes j n m false a e = absurd (cc)
 turned : (nodes : List FlowNode) (j : ℕ) (n m : FlowNode) → Turns nodes j n m → How nodes j n m
 turned nodes j n m (immediate i o s p e) =
     by_constant (record { number = i; op = o; small = small_is nodes n.right i s; form = p; is = e })
+turned nodes j n m (mirror o p e) = by_mirror (record { op = o; mirror = mirror_is n.op o p; is = e })
 turned nodes j n m (left_copy ss s e) =
     by_left (record { sources = ss; copy = copied_is nodes j n.guard n.left ss s; is = e })
 turned nodes j n m (right_copy ss s e) =

@@ -15,6 +15,8 @@ pub mod OffsetFacts
 pub mod OffsetRules
 pub mod SumFacts
 pub mod SumRules
+pub mod Quiet
+pub mod MirrorRules
 pub mod BitFacts
 pub mod TestRules
 pub mod NegativeFacts

@@ -1,6 +1,7 @@
 pub mod Replaces
 pub mod Immediates
 pub mod Copies
+pub mod Mirrors
 pub mod Offsets
 pub mod Sums
 pub mod Tests

@@ -1,19 +1,16 @@
-//! The pass *fold*.
+//! The rules of the pass *fold*, each of which turns one node.
 
 ghost use Rattle.std.specs.Prelude.{◌≡◌, ◌<◌, length, IfOk, MatchOption};
 ghost use Rattle.flow_fold.specs.inside.Folds as folds;
 ghost use Rattle.flow_fold.specs.inside.Replaces.{Replaces};
 
-use crate::addresses::feeds_addresses;
 use crate::constants::{immediate_of, small_of};
 use crate::copies::{copied, guard_copied};
-use crate::drawing::drawn;
-use crate::joining::{joined_at, joins};
+use crate::mirrors::{may_mirror, mirror_of, mirrored};
 use crate::negatives::{as_negative, is_negative};
 use crate::offsets::offset_of;
-use crate::sums::{added, may_add};
-use crate::tests::{as_copy, may_tell, tells_bit};
-use crate::uses::{Uses, feeds_several, uses_of};
+use crate::sums::added;
+use crate::tests::{as_copy, tells_bit};
 use crate::waits::{may_free, without_guard};
 use base::{Items, Memory};
 use ir_forms::{FlowBlock, FlowNode, FlowSource, Guard};
@@ -107,6 +104,27 @@ fn constant_turn(
                 Ok(Some(m))
             }
         },
+    }
+}
+
+// What node j becomes where a small constant stands at its left alone.
+fn mirror_turn(
+    alloc: Global,
+    nodes: &[FlowNode],
+    j: usize,
+    n: &FlowNode,
+) -> Result<Option<FlowNode>, Memory>
+    ensures { IfOk result (λ o. MatchOption o Unit (λ m. folds.Turns nodes.now j n.now m)) }
+{
+    if !may_mirror(nodes, n) {
+        return Ok(None);
+    }
+    match mirror_of(n.op) {
+        None => Ok(None),
+        Some(op) => {
+            let m = mirrored(alloc, n, op)?;
+            Ok(Some(m))
+        }
     }
 }
 
@@ -251,6 +269,7 @@ pub enum Rule {
     Left,
     Right,
     Guard,
+    Mirror,
     Constant,
     Offset,
     Sum,
@@ -273,6 +292,7 @@ fn turned(
         Rule::Left => left_turn(alloc, nodes, j, n),
         Rule::Right => right_turn(alloc, nodes, j, n),
         Rule::Guard => guard_turn(alloc, nodes, j, n),
+        Rule::Mirror => mirror_turn(alloc, nodes, j, n),
         Rule::Constant => constant_turn(alloc, nodes, j, n),
         Rule::Offset => offset_turn(alloc, nodes, j, n),
         Rule::Sum => sum_turn(alloc, nodes, j, n),
@@ -317,98 +337,4 @@ pub fn turned_at(alloc: Global, block: FlowBlock, j: usize, rule: Rule) -> Resul
             }
         }
     }
-}
-
-// Whether node j tells whether a bit is not the constant 0, for a choice of which nothing is claimed.
-fn may_tell_at(block: &FlowBlock, j: usize) -> bool {
-    let nodes = block.nodes.as_slice();
-    match nodes.get(j) {
-        None => false,
-        Some(n) => may_tell(nodes, j, n),
-    }
-}
-
-// A block whose node j takes a small constant as its immediate, where it then needs no `mov` more: it feeds one
-// spot, or loads and stores that take what it adds into their offsets.
-fn constant_at(alloc: Global, block: FlowBlock, j: usize, uses: &Uses) -> Result<FlowBlock, Memory>
-    ensures { IfOk result (λ g. Replaces block g) }
-{
-    if feeds_several(uses, j) && !feeds_addresses(&block, j) && !may_tell_at(&block, j) {
-        return Ok(block);
-    }
-    turned_at(alloc, block, j, Rule::Constant)
-}
-
-// Whether node j adds a constant to a sum, for a choice of which nothing is claimed.
-fn may_add_at(block: &FlowBlock, j: usize) -> bool {
-    let nodes = block.nodes.as_slice();
-    match nodes.get(j) {
-        None => false,
-        Some(n) => may_add(nodes, n),
-    }
-}
-
-// A block whose node j adds at once what it adds to a sum: its constant becomes its immediate first.
-fn summed_at(alloc: Global, block: FlowBlock, j: usize) -> Result<FlowBlock, Memory>
-    ensures { IfOk result (λ g. Replaces block g) }
-{
-    if !may_add_at(&block, j) {
-        return Ok(block);
-    }
-    let constant = turned_at(alloc, block, j, Rule::Constant)?;
-    let last = turned_at(alloc, constant, j, Rule::Sum)?;
-    Ok(last)
-}
-
-// A block whose node j is folded: what it takes first looks through copies, then for a constant, then for a sum.
-fn folded_at(
-    alloc: Global,
-    block: FlowBlock,
-    j: usize,
-    uses: &Uses,
-    marks: &[bool],
-) -> Result<FlowBlock, Memory>
-    ensures { IfOk result (λ g. Replaces block g) }
-{
-    let guarded = turned_at(alloc, block, j, Rule::Guard)?;
-    let left = turned_at(alloc, guarded, j, Rule::Left)?;
-    let right = turned_at(alloc, left, j, Rule::Right)?;
-    let joined = joined_at(alloc, right, j, marks)?;
-    let summed = summed_at(alloc, joined, j)?;
-    let constant = constant_at(alloc, summed, j, uses)?;
-    let offset = turned_at(alloc, constant, j, Rule::Offset)?;
-    let told = turned_at(alloc, offset, j, Rule::Told)?;
-    let negative = turned_at(alloc, told, j, Rule::Negative)?;
-    let last = turned_at(alloc, negative, j, Rule::Freed)?;
-    Ok(last)
-}
-
-// A block each node of which is folded where a rule applies.
-#[tactic(auto, using(crate::proofs::Following::stands_on, crate::proofs::Following::stands_for_itself))]
-fn all_folded(
-    alloc: Global,
-    block: FlowBlock,
-    uses: &Uses,
-    marks: &[bool],
-) -> Result<FlowBlock, Memory>
-    ensures { IfOk result (λ g. Replaces block g) }
-{
-    let count = block.nodes.len();
-    let mut now = block;
-    for j in 0..count {
-        now = folded_at(alloc, now, j, uses, marks)?;
-    }
-    Ok(now)
-}
-
-/// The block with each node folded where a rule applies, and with writes that take what copies copy; the nodes keep
-/// their numbers.
-pub fn fold(alloc: Global, block: FlowBlock) -> Result<FlowBlock, Memory>
-    ensures { IfOk result (λ g. Replaces block g) }
-{
-    let uses = uses_of(alloc, &block)?;
-    let marks = joins(alloc, &block, &uses)?;
-    let folded = all_folded(alloc, block, &uses, marks.as_slice())?;
-    let last = drawn(alloc, folded, marks.as_slice())?;
-    Ok(last)
 }

@@ -16,20 +16,22 @@ mod folding;
 mod joining;
 mod keeping;
 mod laws;
+mod mirrors;
 mod negatives;
 mod offsets;
 mod renumbering;
 mod sharing;
+mod steps;
 mod sums;
 mod sweeping;
 mod tests;
 mod uses;
 mod waits;
 
-pub use folding::fold;
 pub use laws::{
     blocks_replace_themselves, drawings_replace, foldings_replace, replacements_follow,
     sharings_replace, sweepings_at_once_replace, sweepings_replace,
 };
 pub use sharing::share;
+pub use steps::fold;
 pub use sweeping::sweep;

@@ -9,6 +9,7 @@ use Rattle.ir_forms.specs.declared.flow.Guard.{Guard}
 use Rattle.flow_fold.specs.inside.Copies.{copied, guard_copied}
 use Rattle.flow_fold.specs.inside.Draws.{all_behind}
 use Rattle.flow_fold.specs.inside.Immediates.{immediate_of, small_of}
+use Rattle.flow_fold.specs.inside.Mirrors.{mirror_of, mirrored}
 use Rattle.flow_fold.specs.inside.Offsets.{offset_of}
 use Rattle.flow_fold.specs.inside.Sums.{added}
 use Rattle.flow_fold.specs.inside.Tests.{tells_bit, as_copy}
@@ -36,6 +37,8 @@ pub data Turns (nodes : List FlowNode) (j : ℕ) (n m : FlowNode) : Type 0 where
   -- a small constant at the right moves into the immediate
   immediate : (i : ℤ) (o : Op) → small_of nodes n.right ≡ Some i → immediate_of n.op ≡ Some o
       → m ≡ with_constant n o i → Turns nodes j n m
+  -- the operands stand the other way round
+  mirror : (o : Op) → mirror_of n.op ≡ Some o → m ≡ mirrored n o → Turns nodes j n m
   -- what a copy at the left copies is taken itself
   left_copy : (ss : List FlowSource) → copied nodes j n.guard n.left ≡ Some ss → m ≡ with_left n ss
       → Turns nodes j n m

@@ -1,5 +1,5 @@
 use Rattle.flow_fold.specs.inside.Replaces.{Replaces}
-use Rattle.flow_fold.proofs.folding.all_folded.Given as goal
+use Rattle.flow_fold.proofs.steps.all_folded.Given as goal
 
 abbrev pub invariant-loop-j : goal.invariant-loop-j
 invariant-loop-j l = Replaces l.fn.block l.now

@@ -1,5 +1,5 @@
 use Rattle.flow_fold.proofs.Following.{stands_on}
-use Rattle.flow_fold.proofs.folding.fold.Goals as goal
+use Rattle.flow_fold.proofs.steps.fold.Goals as goal
 
 pub returns : goal.returns
 returns c =

@@ -1,5 +1,5 @@
 use Rattle.flow_fold.proofs.Following.{stands_on}
-use Rattle.flow_fold.proofs.folding.summed_at.Goals as goal
+use Rattle.flow_fold.proofs.steps.summed_at.Goals as goal
 
 pub returns : goal.returns
 returns c =

@@ -1,0 +1,116 @@
+//! Small blocks, and which nodes take a constant from their left.
+
+use base::Items;
+use flow_fold::fold;
+use ir_forms::{FlowBlock, FlowNode, FlowSource, FlowWrite, Guard};
+use std::alloc::Global;
+use std::process::Abort;
+use std::test::Fail;
+use trips_isa::Op;
+
+/// A node of a block: its operation, immediate, guard and operands.
+type Row = (
+    Op,
+    i32,
+    Option<Guard>,
+    &'static [FlowSource],
+    &'static [FlowSource],
+);
+
+/// The operation, the immediate and the operands that it has at the end.
+type Last = (Op, i32, &'static [FlowSource], &'static [FlowSource]);
+
+const NONE: &[FlowSource] = &[];
+
+const READ: &[FlowSource] = &[FlowSource::Read(1)];
+
+const ZERO: &[FlowSource] = &[FlowSource::Node(0)];
+
+/// The constant 5 at the left: of a sum and a test, which take it the other way round, and of a difference.
+const MIRRORED: &[Row] = &[
+    (Op::Genu, 5, None, NONE, NONE),
+    (Op::Add, 0, None, ZERO, READ),
+    (Op::Tlt, 0, None, ZERO, READ),
+    (Op::Tgeu, 0, None, ZERO, READ),
+    (Op::Sub, 0, None, ZERO, READ),
+];
+
+const MIRRORED_LAST: &[Last] = &[
+    (Op::Genu, 5, NONE, NONE),
+    (Op::Addi, 5, READ, NONE),
+    (Op::Tgti, 5, READ, NONE),
+    (Op::Tleui, 5, READ, NONE),
+    (Op::Sub, 0, ZERO, READ),
+];
+
+/// A constant that nine bits do not hold stays at the left.
+const WIDE: &[Row] = &[
+    (Op::Genu, 256, None, NONE, NONE),
+    (Op::Add, 0, None, ZERO, READ),
+];
+
+const WIDE_LAST: &[Last] = &[(Op::Genu, 256, NONE, NONE), (Op::Add, 0, ZERO, READ)];
+
+fn block(alloc: Global, rows: &[Row]) -> Result<FlowBlock, Fail> {
+    let mut nodes = Items::new(alloc);
+    for (op, imm, guard, left, right) in rows {
+        nodes.push(FlowNode {
+            op: *op,
+            imm: *imm,
+            number: 0,
+            guard: *guard,
+            left: Items::from_slice(alloc, left)?,
+            right: Items::from_slice(alloc, right)?,
+        })?;
+    }
+    let mut writes = Items::new(alloc);
+    let sources = Items::from_slice(alloc, READ)?;
+    writes.push(FlowWrite {
+        register: 2,
+        sources,
+    })?;
+    let reads = Items::from_slice(alloc, &[1u8, 3u8])?;
+    Ok(FlowBlock {
+        nodes,
+        reads,
+        writes,
+        mask: 0,
+    })
+}
+
+fn assert_turns(
+    rt: &impl Abort,
+    alloc: Global,
+    name: &str,
+    rows: &[Row],
+    last: &[Last],
+) -> Result<(), Fail> {
+    match fold(alloc, block(alloc, rows)?) {
+        Ok(given) => {
+            let mut j = 0usize;
+            for (op, imm, left, right) in last {
+                match given.nodes.get(j) {
+                    Some(n) => {
+                        assert!(rt; n.op == *op, "{name}: operation of node {j}");
+                        assert!(rt; n.imm == *imm, "{name}: immediate of node {j}");
+                        assert!(rt; n.left.as_slice() == *left, "{name}: left of node {j}");
+                        assert!(rt; n.right.as_slice() == *right, "{name}: right of node {j}");
+                    }
+                    None => assert!(rt; false, "{name}: node {j} is there"),
+                }
+                j = j.saturating_add(1);
+            }
+        }
+        Err(_) => assert!(rt; false, "{name}: there is memory"),
+    }
+    Ok(())
+}
+
+/// A constant at the left moves into the immediate of the mirrored operation.
+#[test]
+fn constants_move_from_the_left(rt: HostRuntime) -> Result<(), Fail> {
+    let alloc = rt.alloc();
+    assert_turns(&rt, alloc, "mirrored", MIRRORED, MIRRORED_LAST)?;
+    assert_turns(&rt, alloc, "wide", WIDE, WIDE_LAST)?;
+    Ok(())
+}
