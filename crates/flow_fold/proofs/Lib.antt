@@ -19,6 +19,8 @@ pub mod Quiet
 pub mod MirrorRules
 pub mod BitFacts
 pub mod TestRules
+pub mod OppositeFacts
+pub mod OppositeRules
 pub mod NegativeFacts
 pub mod NegativeRules
 pub mod Replacing

@@ -49,7 +49,7 @@ both_as_one a w l r e = ap (of_both a l) e ∙ at l
     at (Some (Word x)) = refl
 
 -- two answers are one where the node fires
-if_fires : (b : Bool) (x y : Answer) → (b ≡ true → x ≡ y) → if_matched b x ≡ if_matched b y
+pub if_fires : (b : Bool) (x y : Answer) → (b ≡ true → x ≡ y) → if_matched b x ≡ if_matched b y
 if_fires true x y e = e refl
 if_fires false x y e = refl
 

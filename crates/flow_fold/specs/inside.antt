@@ -5,6 +5,7 @@ pub mod Mirrors
 pub mod Offsets
 pub mod Sums
 pub mod Tests
+pub mod Opposites
 pub mod Negatives
 pub mod Waits
 pub mod Folds

@@ -9,6 +9,7 @@ use crate::copies::{copied, guard_copied};
 use crate::mirrors::{may_mirror, mirror_of, mirrored};
 use crate::negatives::{as_negative, is_negative};
 use crate::offsets::offset_of;
+use crate::opposites::opposed;
 use crate::sums::added;
 use crate::tests::{as_copy, tells_bit};
 use crate::waits::{may_free, without_guard};
@@ -229,6 +230,21 @@ fn told_turn(
     }
 }
 
+// What node j becomes where it tells whether a test does not hold.
+fn opposite_turn(
+    alloc: Global,
+    nodes: &[FlowNode],
+    j: usize,
+    n: &FlowNode,
+) -> Result<Option<FlowNode>, Memory>
+    ensures { IfOk result (λ o. MatchOption o Unit (λ m. folds.Turns nodes.now j n.now m)) }
+{
+    match opposed(alloc, nodes, j, n)? {
+        None => Ok(None),
+        Some(m) => Ok(Some(m)),
+    }
+}
+
 // What node j becomes where it ends a negative constant.
 fn negative_turn(
     alloc: Global,
@@ -274,6 +290,7 @@ pub enum Rule {
     Offset,
     Sum,
     Told,
+    Opposite,
     Negative,
     Freed,
 }
@@ -297,6 +314,7 @@ fn turned(
         Rule::Offset => offset_turn(alloc, nodes, j, n),
         Rule::Sum => sum_turn(alloc, nodes, j, n),
         Rule::Told => told_turn(alloc, nodes, j, n),
+        Rule::Opposite => opposite_turn(alloc, nodes, j, n),
         Rule::Negative => negative_turn(alloc, nodes, j, n),
         Rule::Freed => freed_turn(alloc, nodes, j, n),
     }

@@ -19,6 +19,7 @@ mod laws;
 mod mirrors;
 mod negatives;
 mod offsets;
+mod opposites;
 mod renumbering;
 mod sharing;
 mod steps;

@@ -7,6 +7,7 @@ use crate::addresses::feeds_addresses;
 use crate::drawing::drawn;
 use crate::folding::{Rule, turned_at};
 use crate::joining::{joined_at, joins};
+use crate::opposites::may_oppose;
 use crate::sums::may_add;
 use crate::tests::may_tell;
 use crate::uses::{Uses, feeds_several, uses_of};
@@ -14,12 +15,13 @@ use base::Memory;
 use ir_forms::FlowBlock;
 use std::alloc::Global;
 
-// Whether node j tells whether a bit is not the constant 0, for a choice of which nothing is claimed.
-fn may_tell_at(block: &FlowBlock, j: usize) -> bool {
+// Whether node j becomes one that needs no constant once it has an immediate, for a choice of which nothing is
+// claimed.
+fn may_turn_at(block: &FlowBlock, j: usize, uses: &Uses) -> bool {
     let nodes = block.nodes.as_slice();
     match nodes.get(j) {
         None => false,
-        Some(n) => may_tell(nodes, j, n),
+        Some(n) => may_tell(nodes, j, n) || may_oppose(nodes, n, uses),
     }
 }
 
@@ -28,7 +30,7 @@ fn may_tell_at(block: &FlowBlock, j: usize) -> bool {
 fn constant_at(alloc: Global, block: FlowBlock, j: usize, uses: &Uses) -> Result<FlowBlock, Memory>
     ensures { IfOk result (λ g. Replaces block g) }
 {
-    if feeds_several(uses, j) && !feeds_addresses(&block, j) && !may_tell_at(&block, j) {
+    if feeds_several(uses, j) && !feeds_addresses(&block, j) && !may_turn_at(&block, j, uses) {
         return Ok(block);
     }
     turned_at(alloc, block, j, Rule::Constant)
@@ -55,6 +57,25 @@ fn summed_at(alloc: Global, block: FlowBlock, j: usize) -> Result<FlowBlock, Mem
     Ok(last)
 }
 
+// Whether node j may become an opposite test, for a choice of which nothing is claimed.
+fn may_oppose_at(block: &FlowBlock, j: usize, uses: &Uses) -> bool {
+    let nodes = block.nodes.as_slice();
+    match nodes.get(j) {
+        None => false,
+        Some(n) => may_oppose(nodes, n, uses),
+    }
+}
+
+// A block whose node j becomes an opposite test, where it then needs no `mov` more.
+fn opposite_at(alloc: Global, block: FlowBlock, j: usize, uses: &Uses) -> Result<FlowBlock, Memory>
+    ensures { IfOk result (λ g. Replaces block g) }
+{
+    if !may_oppose_at(&block, j, uses) {
+        return Ok(block);
+    }
+    turned_at(alloc, block, j, Rule::Opposite)
+}
+
 // A block whose node j is folded: what it takes first looks through copies, then for a constant, which
 // at the left moves to the right, then for a sum.
 fn folded_at(
@@ -75,7 +96,8 @@ fn folded_at(
     let constant = constant_at(alloc, summed, j, uses)?;
     let offset = turned_at(alloc, constant, j, Rule::Offset)?;
     let told = turned_at(alloc, offset, j, Rule::Told)?;
-    let negative = turned_at(alloc, told, j, Rule::Negative)?;
+    let opposite = opposite_at(alloc, told, j, uses)?;
+    let negative = turned_at(alloc, opposite, j, Rule::Negative)?;
     let last = turned_at(alloc, negative, j, Rule::Freed)?;
     Ok(last)
 }

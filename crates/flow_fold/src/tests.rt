@@ -144,8 +144,8 @@ fn is_tnei(op: Op) -> bool
     }
 }
 
-// Whether a number is 0.
-fn is_zero(imm: i32) -> bool
+/// Whether a number is 0.
+pub fn is_zero(imm: i32) -> bool
     ensures { result ≡ tests.is_zero imm }
 {
     0 <= imm && imm < 1

@@ -1,6 +1,6 @@
 //! Hyper blocks with their flow blocks as text, blocks with too much of each part, and small flow blocks with what
-//! completing adds to them, which guards they keep, which nodes become copies, which take a
-//! constant from their left, which copies are looked through and which nodes are swept: all as tests.
+//! completing adds to them, which guards they keep, which nodes become copies or other tests, which copies
+//! are looked through and which nodes are swept: all as tests.
 #![tactic(auto)]
 
 #[cfg(test)]

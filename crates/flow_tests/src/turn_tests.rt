@@ -1,4 +1,4 @@
-//! Small blocks, and which nodes take a constant from their left.
+//! Small blocks, and which nodes take a constant from their left or test the other way.
 
 use base::Items;
 use flow_fold::fold;
@@ -6,7 +6,7 @@ use ir_forms::{FlowBlock, FlowNode, FlowSource, FlowWrite, Guard};
 use std::alloc::Global;
 use std::process::Abort;
 use std::test::Fail;
-use trips_isa::Op;
+use trips_isa::{Op, Sense};
 
 /// A node of a block: its operation, immediate, guard and operands.
 type Row = (
@@ -20,11 +20,22 @@ type Row = (
 /// The operation, the immediate and the operands that it has at the end.
 type Last = (Op, i32, &'static [FlowSource], &'static [FlowSource]);
 
+const ON_0: Option<Guard> = Some(Guard {
+    node: 0,
+    sense: Sense::OnTrue,
+});
+
 const NONE: &[FlowSource] = &[];
 
 const READ: &[FlowSource] = &[FlowSource::Read(1)];
 
+const OTHER: &[FlowSource] = &[FlowSource::Read(3)];
+
 const ZERO: &[FlowSource] = &[FlowSource::Node(0)];
+
+const ONE: &[FlowSource] = &[FlowSource::Node(1)];
+
+const TWO: &[FlowSource] = &[FlowSource::Node(2)];
 
 /// The constant 5 at the left: of a sum and a test, which take it the other way round, and of a difference.
 const MIRRORED: &[Row] = &[
@@ -50,6 +61,38 @@ const WIDE: &[Row] = &[
 ];
 
 const WIDE_LAST: &[Last] = &[(Op::Genu, 256, NONE, NONE), (Op::Add, 0, ZERO, READ)];
+
+/// Whether a test does not hold, of two operands and of one; whether it is 1 is no such test.
+const OPPOSED: &[Row] = &[
+    (Op::Tlt, 0, None, READ, OTHER),
+    (Op::Teqi, 0, None, ZERO, NONE),
+    (Op::Tleui, 9, None, READ, NONE),
+    (Op::Teqi, 0, None, TWO, NONE),
+    (Op::Teqi, 1, None, TWO, NONE),
+];
+
+const OPPOSED_LAST: &[Last] = &[
+    (Op::Tlt, 0, READ, OTHER),
+    (Op::Tge, 0, READ, OTHER),
+    (Op::Tleui, 9, READ, NONE),
+    (Op::Tgtui, 9, READ, NONE),
+    (Op::Teqi, 1, TWO, NONE),
+];
+
+/// A test under a guard is tested the other way under the same guard alone.
+const GUARDED: &[Row] = &[
+    (Op::Tlti, 9, None, READ, NONE),
+    (Op::Teqi, 3, ON_0, READ, NONE),
+    (Op::Teqi, 0, None, ONE, NONE),
+    (Op::Teqi, 0, ON_0, ONE, NONE),
+];
+
+const GUARDED_LAST: &[Last] = &[
+    (Op::Tlti, 9, READ, NONE),
+    (Op::Teqi, 3, READ, NONE),
+    (Op::Teqi, 0, ONE, NONE),
+    (Op::Tnei, 3, READ, NONE),
+];
 
 fn block(alloc: Global, rows: &[Row]) -> Result<FlowBlock, Fail> {
     let mut nodes = Items::new(alloc);
@@ -112,5 +155,14 @@ fn constants_move_from_the_left(rt: HostRuntime) -> Result<(), Fail> {
     let alloc = rt.alloc();
     assert_turns(&rt, alloc, "mirrored", MIRRORED, MIRRORED_LAST)?;
     assert_turns(&rt, alloc, "wide", WIDE, WIDE_LAST)?;
+    Ok(())
+}
+
+/// Whether a test does not hold is the opposite test, where it fires.
+#[test]
+fn tests_of_tests_are_opposite_tests(rt: HostRuntime) -> Result<(), Fail> {
+    let alloc = rt.alloc();
+    assert_turns(&rt, alloc, "opposed", OPPOSED, OPPOSED_LAST)?;
+    assert_turns(&rt, alloc, "guarded", GUARDED, GUARDED_LAST)?;
     Ok(())
 }

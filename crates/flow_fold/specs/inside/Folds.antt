@@ -11,6 +11,7 @@ use Rattle.flow_fold.specs.inside.Draws.{all_behind}
 use Rattle.flow_fold.specs.inside.Immediates.{immediate_of, small_of}
 use Rattle.flow_fold.specs.inside.Mirrors.{mirror_of, mirrored}
 use Rattle.flow_fold.specs.inside.Offsets.{offset_of}
+use Rattle.flow_fold.specs.inside.Opposites.{opposed}
 use Rattle.flow_fold.specs.inside.Sums.{added}
 use Rattle.flow_fold.specs.inside.Tests.{tells_bit, as_copy}
 use Rattle.flow_fold.specs.inside.Negatives.{is_negative, as_negative}
@@ -56,6 +57,8 @@ pub data Turns (nodes : List FlowNode) (j : ℕ) (n m : FlowNode) : Type 0 where
   sum : added nodes j n n.left ≡ Some m → Turns nodes j n m
   -- whether a word that is 0 or 1 is not 0 is the word itself
   told : tells_bit nodes j n ≡ true → m ≡ as_copy n → Turns nodes j n m
+  -- whether a test does not hold is the opposite test
+  opposite : opposed nodes j n ≡ Some m → Turns nodes j n m
   -- a constant whose upper 48 bits are ones is that of one `gens`
   negative : is_negative nodes j n ≡ true → m ≡ as_negative n → Turns nodes j n m
   -- what waits for a token that comes only where its guard is met needs no guard
