@@ -15,11 +15,12 @@ use Rattle.flow_fold.specs.inside.Copies.{covers, guard_of}
 use Rattle.flow_fold.specs.inside.Immediates.{immediate_of, gives_constant}
 use Rattle.flow_fold.specs.inside.Folds.{with_constant, with_left, with_right, with_node, Turns, immediate}
 use Rattle.flow_fold.specs.inside.Folds.{left_copy, right_copy, guard_copy, offset, sum, told, negative, freed}
-use Rattle.flow_fold.specs.inside.Folds.{left_behind, right_behind, mirror, opposite}
+use Rattle.flow_fold.specs.inside.Folds.{left_behind, right_behind, mirror, opposite, compute}
 use Rattle.flow_fold.specs.inside.Folds.{Folds}
 use Rattle.flow_fold.specs.inside.Offsets.{has_address, with_offset, summed}
 use Rattle.flow_fold.specs.inside.Replaces.{Immediates, with_immediate, with_immediates, LeavesOwn, Replaces}
 use Rattle.flow_fold.proofs.ConstantFacts.{immediate_is, constants_stay, small_own, Small, small_is}
+use Rattle.flow_fold.proofs.ComputedRules.{Computing, computing, computing_kept, computed_written, computed_works}
 use Rattle.flow_fold.proofs.Turned.{Written, Works}
 use Rattle.flow_fold.proofs.Turning.{constant_written, constant_works}
 use Rattle.flow_fold.proofs.Forwarded.{Copied, copied_is}
@@ -173,6 +174,7 @@ data How (nodes : List FlowNode) (j : ℕ) (n m : FlowNode) : Type 0 where
   by_sum : Adding nodes j n m → How nodes j n m
   by_test : Telling nodes j n m → How nodes j n m
   by_opposite : Opposing nodes j n m → How nodes j n m
+  by_value : Computing nodes n m → How nodes j n m
   by_end : Ending nodes j n m → How nodes j n m
   by_wait : Waiting nodes j n m → How nodes j n m
 
@@ -199,6 +201,12 @@ how_stands f j n m there (by_opposite c) =
     (record {
       written = opposite_written f j n there c.node c.op c.test;
       works = opposite_works f j n there c.node c.op c.test;
+    })
+how_stands f j n m there (by_value c) =
+    subst (λ (x : FlowNode). Stands f j n x) (sym c.is)
+    (record {
+      written = computed_written f j n there c.number c.constant;
+      works = computed_works f j n there c.number c.constant;
     })
 how_stands f j n m there (by_end c) = ended f j n m there c
 how_stands f j n m there (by_wait c) = freed_stands f j n m there c
@@ -313,6 +321,7 @@ module _ (r : Immediates) (own : LeavesOwn r) where
   how_kept nodes j n m (by_sum c) = by_sum (adding_kept r own nodes j n m c)
   how_kept nodes j n m (by_test c) = by_test (telling_kept r own nodes j n m c)
   how_kept nodes j n m (by_opposite c) = by_opposite (opposing_kept r own nodes j n m c)
+  how_kept nodes j n m (by_value c) = by_value (computing_kept r own nodes n m c)
   how_kept nodes j n m (by_end c) = by_end (ending_kept r own nodes j n m c)
   how_kept nodes j n m (by_wait c) = by_wait (waiting_kept r nodes j n m c)
 
@@ -336,6 +345,7 @@ turned nodes j n m (guard_copy g s e) = by_guard (guarding nodes j n m g e s)
 turned nodes j n m (sum e) = by_sum (adding nodes j n m n.left refl e)
 turned nodes j n m (told t e) = by_test (telling nodes j n m t e)
 turned nodes j n m (opposite e) = by_opposite (opposing nodes j n m e)
+turned nodes j n m (compute e) = by_value (computing nodes n m e)
 turned nodes j n m (negative t e) = by_end (ending nodes j n m t e)
 turned nodes j n m (freed t e) = by_wait (waiting nodes j n m t e)
 turned nodes j n m (offset e) = by_offset (address_found nodes j n m (has_address (form_of n.op)) refl e)

@@ -21,6 +21,7 @@ pub mod BitFacts
 pub mod TestRules
 pub mod OppositeFacts
 pub mod OppositeRules
+pub mod ComputedRules
 pub mod NegativeFacts
 pub mod NegativeRules
 pub mod Replacing

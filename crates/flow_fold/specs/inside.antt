@@ -6,6 +6,7 @@ pub mod Offsets
 pub mod Sums
 pub mod Tests
 pub mod Opposites
+pub mod Computed
 pub mod Negatives
 pub mod Waits
 pub mod Folds

@@ -4,6 +4,7 @@ ghost use Rattle.std.specs.Prelude.{◌≡◌, ◌<◌, length, IfOk, MatchOptio
 ghost use Rattle.flow_fold.specs.inside.Folds as folds;
 ghost use Rattle.flow_fold.specs.inside.Replaces.{Replaces};
 
+use crate::computed::computed;
 use crate::constants::{immediate_of, small_of};
 use crate::copies::{copied, guard_copied};
 use crate::mirrors::{may_mirror, mirror_of, mirrored};
@@ -245,6 +246,21 @@ fn opposite_turn(
     }
 }
 
+// What node j becomes where it computes of constants alone.
+fn computed_turn(
+    alloc: Global,
+    nodes: &[FlowNode],
+    j: usize,
+    n: &FlowNode,
+) -> Result<Option<FlowNode>, Memory>
+    ensures { IfOk result (λ o. MatchOption o Unit (λ m. folds.Turns nodes.now j n.now m)) }
+{
+    match computed(alloc, nodes, n)? {
+        None => Ok(None),
+        Some(m) => Ok(Some(m)),
+    }
+}
+
 // What node j becomes where it ends a negative constant.
 fn negative_turn(
     alloc: Global,
@@ -291,6 +307,7 @@ pub enum Rule {
     Sum,
     Told,
     Opposite,
+    Computed,
     Negative,
     Freed,
 }
@@ -315,6 +332,7 @@ fn turned(
         Rule::Sum => sum_turn(alloc, nodes, j, n),
         Rule::Told => told_turn(alloc, nodes, j, n),
         Rule::Opposite => opposite_turn(alloc, nodes, j, n),
+        Rule::Computed => computed_turn(alloc, nodes, j, n),
         Rule::Negative => negative_turn(alloc, nodes, j, n),
         Rule::Freed => freed_turn(alloc, nodes, j, n),
     }

@@ -9,6 +9,7 @@
 mod addresses;
 mod behind;
 mod checking;
+mod computed;
 mod constants;
 mod copies;
 mod drawing;

@@ -4,6 +4,7 @@ ghost use Rattle.std.specs.Prelude.{IfOk};
 ghost use Rattle.flow_fold.specs.inside.Replaces.{Replaces};
 
 use crate::addresses::feeds_addresses;
+use crate::computed::may_compute;
 use crate::drawing::drawn;
 use crate::folding::{Rule, turned_at};
 use crate::joining::{joined_at, joins};
@@ -21,7 +22,7 @@ fn may_turn_at(block: &FlowBlock, j: usize, uses: &Uses) -> bool {
     let nodes = block.nodes.as_slice();
     match nodes.get(j) {
         None => false,
-        Some(n) => may_tell(nodes, j, n) || may_oppose(nodes, n, uses),
+        Some(n) => may_tell(nodes, j, n) || may_oppose(nodes, n, uses) || may_compute(nodes, n),
     }
 }
 
@@ -97,7 +98,8 @@ fn folded_at(
     let offset = turned_at(alloc, constant, j, Rule::Offset)?;
     let told = turned_at(alloc, offset, j, Rule::Told)?;
     let opposite = opposite_at(alloc, told, j, uses)?;
-    let negative = turned_at(alloc, opposite, j, Rule::Negative)?;
+    let known = turned_at(alloc, opposite, j, Rule::Computed)?;
+    let negative = turned_at(alloc, known, j, Rule::Negative)?;
     let last = turned_at(alloc, negative, j, Rule::Freed)?;
     Ok(last)
 }

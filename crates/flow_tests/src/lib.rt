@@ -1,5 +1,5 @@
 //! Hyper blocks with their flow blocks as text, blocks with too much of each part, and small flow blocks with what
-//! completing adds to them, which guards they keep, which nodes become copies or other tests, which copies
+//! completing adds to them, which guards they keep, which nodes become copies, constants or other tests, which copies
 //! are looked through and which nodes are swept: all as tests.
 #![tactic(auto)]
 

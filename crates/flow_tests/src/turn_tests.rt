@@ -1,4 +1,4 @@
-//! Small blocks, and which nodes take a constant from their left or test the other way.
+//! Small blocks, and which nodes take a constant from their left, test the other way, or become a constant.
 
 use base::Items;
 use flow_fold::fold;
@@ -94,6 +94,27 @@ const GUARDED_LAST: &[Last] = &[
     (Op::Tnei, 3, READ, NONE),
 ];
 
+/// What is computed of constants alone, where a `gens` holds it and nothing guards it.
+const COMPUTED: &[Row] = &[
+    (Op::Genu, 7, None, NONE, NONE),
+    (Op::Addi, 3, None, ZERO, NONE),
+    (Op::Subi, 20, None, ONE, NONE),
+    (Op::Tlti, -9, None, TWO, NONE),
+    (Op::Slli, 12, None, ZERO, NONE),
+    (Op::Slli, 13, None, ZERO, NONE),
+    (Op::Addi, 1, ON_0, ZERO, NONE),
+];
+
+const COMPUTED_LAST: &[Last] = &[
+    (Op::Genu, 7, NONE, NONE),
+    (Op::Gens, 10, NONE, NONE),
+    (Op::Gens, -10, NONE, NONE),
+    (Op::Gens, 1, NONE, NONE),
+    (Op::Gens, 28672, NONE, NONE),
+    (Op::Slli, 13, ZERO, NONE),
+    (Op::Addi, 1, ZERO, NONE),
+];
+
 fn block(alloc: Global, rows: &[Row]) -> Result<FlowBlock, Fail> {
     let mut nodes = Items::new(alloc);
     for (op, imm, guard, left, right) in rows {
@@ -164,5 +185,13 @@ fn tests_of_tests_are_opposite_tests(rt: HostRuntime) -> Result<(), Fail> {
     let alloc = rt.alloc();
     assert_turns(&rt, alloc, "opposed", OPPOSED, OPPOSED_LAST)?;
     assert_turns(&rt, alloc, "guarded", GUARDED, GUARDED_LAST)?;
+    Ok(())
+}
+
+/// What is computed of constants alone is a constant.
+#[test]
+fn operations_on_constants_are_constants(rt: HostRuntime) -> Result<(), Fail> {
+    let alloc = rt.alloc();
+    assert_turns(&rt, alloc, "computed", COMPUTED, COMPUTED_LAST)?;
     Ok(())
 }

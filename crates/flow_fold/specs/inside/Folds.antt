@@ -6,6 +6,7 @@ use Rattle.ir_forms.specs.declared.flow.FlowNode.{FlowNode}
 use Rattle.ir_forms.specs.declared.flow.FlowBlock.{FlowBlock}
 use Rattle.trips_isa.specs.Forms.{form_of}
 use Rattle.ir_forms.specs.declared.flow.Guard.{Guard}
+use Rattle.flow_fold.specs.inside.Computed.{computed}
 use Rattle.flow_fold.specs.inside.Copies.{copied, guard_copied}
 use Rattle.flow_fold.specs.inside.Draws.{all_behind}
 use Rattle.flow_fold.specs.inside.Immediates.{immediate_of, small_of}
@@ -59,6 +60,8 @@ pub data Turns (nodes : List FlowNode) (j : ℕ) (n m : FlowNode) : Type 0 where
   told : tells_bit nodes j n ≡ true → m ≡ as_copy n → Turns nodes j n m
   -- whether a test does not hold is the opposite test
   opposite : opposed nodes j n ≡ Some m → Turns nodes j n m
+  -- what is computed of constants alone is a constant
+  compute : computed nodes n ≡ Some m → Turns nodes j n m
   -- a constant whose upper 48 bits are ones is that of one `gens`
   negative : is_negative nodes j n ≡ true → m ≡ as_negative n → Turns nodes j n m
   -- what waits for a token that comes only where its guard is met needs no guard

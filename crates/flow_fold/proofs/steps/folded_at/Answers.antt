@@ -4,7 +4,8 @@ use Rattle.flow_fold.proofs.steps.folded_at.Goals as goal
 pub returns : goal.returns
 returns c =
     stands_on c.args.block c.in_ok-negative.negative c.in_ok-last.last
-    (stands_on c.args.block c.in_ok-opposite.opposite c.in_ok-negative.negative
+    (stands_on c.args.block c.in_ok-known.known c.in_ok-negative.negative
+    (stands_on c.args.block c.in_ok-opposite.opposite c.in_ok-known.known
     (stands_on c.args.block c.in_ok-told.told c.in_ok-opposite.opposite
     (stands_on c.args.block c.in_ok-offset.offset c.in_ok-told.told
     (stands_on c.args.block c.in_ok-constant.constant c.in_ok-offset.offset
@@ -22,5 +23,6 @@ returns c =
     c.in_ok-offset.ensures)
     c.in_ok-told.ensures)
     c.in_ok-opposite.ensures)
+    c.in_ok-known.ensures)
     c.in_ok-negative.ensures)
     c.in_ok-last.ensures
