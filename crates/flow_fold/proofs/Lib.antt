@@ -43,3 +43,8 @@ pub mod NumberTables
 pub mod TwinRanks
 pub mod TwinCopies
 pub mod SharedBlocks
+pub mod StrideFacts
+pub mod StepTokens
+pub mod StridePlaces
+pub mod StrideRules
+pub mod StridedBlocks

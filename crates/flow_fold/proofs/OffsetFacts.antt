@@ -23,12 +23,12 @@ use Rattle.flow_fold.proofs.Forwarded.{covers_is}
 -- WORDS OF SMALL NUMBERS
 
 -- the word of a number is the number and some multiple of 2^64
-record Wraps (z : ℤ) : Type 0 where
-  times : ℕ
-  is : word z + down z ≡ up z + times * 2 ^ 64
-  low : word z ≤ 2 ^ 64
+pub record Wraps (z : ℤ) : Type 0 where
+  pub times : ℕ
+  pub is : word z + down z ≡ up z + times * 2 ^ 64
+  pub low : word z ≤ 2 ^ 64
 
-wraps : (z : ℤ) → is_small z ≡ true → Wraps z
+pub wraps : (z : ℤ) → is_small z ≡ true → Wraps z
 wraps (pos n) s = let l = small_fits (pos n) s in record { times = 0; is = omega arith; low = omega (arith, l) }
 wraps (negsuc n) s =
     let l = small_fits (negsuc n) s in record { times = 1; is = omega (arith, l); low = omega (arith, l) }

@@ -76,7 +76,7 @@ pub data Adds (nodes : List FlowNode) (c : FlowNode) (b : ℤ) : Type 0 where
   at_right : AddsAtRight nodes c b → Adds nodes c b
 
 -- each number that is found is added
-adds_is : (nodes : List FlowNode) (c : FlowNode) (b : ℤ) (o : Op) → c.op ≡ o → sums.adds nodes c o ≡ Some b
+pub adds_is : (nodes : List FlowNode) (c : FlowNode) (b : ℤ) (o : Op) → c.op ≡ o → sums.adds nodes c o ≡ Some b
     → Adds nodes c b
 adds_is nodes c b op.Add q e =
     let s = small_is nodes c.right b e in
@@ -198,7 +198,8 @@ module _ (r : Immediates) (own : LeavesOwn r) where
   by_kept : (c : FlowNode) (b : ℤ) → AddsBy c.op c.imm b → AddsBy c.op (r c.op c.imm) b
   by_kept c b a = subst (λ (z : ℤ). AddsBy c.op z b) (sym (own c.op c.imm (small_own c.imm a.given))) a
 
-  adds_kept : (nodes : List FlowNode) (c : FlowNode) (b : ℤ) → Adds nodes c b → Adds (map new nodes) (new c) b
+  -- new immediates leave what a node adds
+  pub adds_kept : (nodes : List FlowNode) (c : FlowNode) (b : ℤ) → Adds nodes c b → Adds (map new nodes) (new c) b
   adds_kept nodes c b (by_immediate a) = by_immediate (by_kept c b a)
   adds_kept nodes c b (at_right a) =
       let s = a.constant in

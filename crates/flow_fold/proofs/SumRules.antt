@@ -40,7 +40,8 @@ use Rattle.flow_fold.proofs.OffsetRules.{same_one, one_behind}
 use Rattle.flow_fold.proofs.SumFacts.{Adds, by_immediate, at_right, Added}
 
 -- of two operands, the right one being a word, as of one
-both_as_one : (a : ℕ → ℕ → ℕ) (w : ℕ) (l r : Answer) → r ≡ Some (Word w) → of_both a l r ≡ of_one (λ (x : ℕ). a x w) l
+pub both_as_one : (a : ℕ → ℕ → ℕ) (w : ℕ) (l r : Answer) → r ≡ Some (Word w)
+    → of_both a l r ≡ of_one (λ (x : ℕ). a x w) l
 both_as_one a w l r e = ap (of_both a l) e ∙ at l
   where
     at : (l : Answer) → of_both a l (Some (Word w)) ≡ of_one (λ (x : ℕ). a x w) l

@@ -41,12 +41,12 @@ use Rattle.flow_fold.proofs.Stayed.{calm_if_idle}
 use Rattle.flow_fold.proofs.TwinRanks.{copy_ordered}
 
 -- a guard never names a register
-unread : (r : ℕ) (o : Option Guard) → guards_by (Read r) o ≡ false
+pub unread : (r : ℕ) (o : Option Guard) → guards_by (Read r) o ≡ false
 unread r None = refl
 unread r (Some g) = refl
 
 -- an idle node hands its token on
-not_silent : (x : Form) (o : Op) → is_idle_form x o ≡ true → is_silent x ≡ true → ⊥
+pub not_silent : (x : Form) (o : Op) → is_idle_form x o ≡ true → is_silent x ≡ true → ⊥
 not_silent Store o d e = absurd (cc)
 not_silent Branch o d e = absurd (cc)
 not_silent General o d e = absurd (cc)
@@ -59,7 +59,8 @@ twice : (b : Bool) (t : Answer) → if_matched b (if_matched b t) ≡ if_matched
 twice true t = refl
 twice false t = refl
 
-one_at_most : (t : Answer) → present t + 0 ≤ 1
+-- one source gives at most one token
+pub one_at_most : (t : Answer) → present t + 0 ≤ 1
 one_at_most None = let z : 0 ≤ 1 = omega arith in z
 one_at_most (Some t) = let z : 1 ≤ 1 = omega arith in z
 

@@ -1,5 +1,6 @@
--- Ranks by which a node may copy its twin: the twin gets the lower rank of the two, so that the copy comes behind it.
-use Rattle.std.proofs.Common.{◌≡◌, ◌≢◌, ℕ, suc, ◌*◌, ◌<◌, ◌≤◌, List, [], ◌⊎◌, inl, inr, refl, sym, ap}
+-- Ranks by which a node may take another that takes what comes before it, as a copy takes its twin: the other gets
+-- the lower rank of the two, so that the node comes behind it.
+use Rattle.std.proofs.Common.{◌≡◌, ◌≢◌, ℕ, suc, ◌*◌, ◌<◌, ◌≤◌, List, [], ◌∷◌, ◌⊎◌, inl, inr, refl, sym, ap}
 use Rattle.std.proofs.Common.{subst, ◌∙◌, arith, cond, nat_eq, Bool, true, false}
 use Rattle.std.specs.Prelude.{Some, None, Option, All, slice_get}
 use Rattle.std.proofs.lemmas.Bool.{cases_lt, cases_eq, eq-eqb, ne_eqb, eqb-true, false≢true}
@@ -15,6 +16,7 @@ use Rattle.ir_forms.specs.declared.flow.Guard.{Guard}
 use Rattle.ir_forms.specs.declared.flow.FlowNode.{FlowNode}
 use Rattle.ir_forms.specs.declared.flow.FlowBlock.{FlowBlock}
 use Rattle.ir_forms.specs.inside.FlowFits.{RisesFrom, RisesFromGuard, Rises, HasOrder}
+use Rattle.flow_fold.specs.inside.Copies.{covers}
 use Rattle.flow_fold.specs.inside.Shares.{Twins, copy_of}
 use Rattle.flow_fold.specs.inside.Sweeps.{is_idle, is_idle_form}
 use Rattle.flow_fold.proofs.Places.{all_at, all_of}
@@ -42,35 +44,20 @@ one_higher : (x : ℕ) → x ≤ suc x
 one_higher x = omega arith
 
 -- an idle operation does not load
-no_load : (o : Op) → is_idle o ≡ true → form_of o ≡ Load → ⊥
+pub no_load : (o : Op) → is_idle o ≡ true → form_of o ≡ Load → ⊥
 no_load o e l =
     let z : is_idle_form Load o ≡ true = ap (λ (x : Form). is_idle_form x o) (sym l) ∙ e in
     absurd (false≢true z)
 
 module _ (f : FlowBlock) (i j : ℕ) (a n : FlowNode) (standing : slice_get f.nodes i ≡ Some a)
-    (there : slice_get f.nodes j ≡ Some n) (apart : i ≢ j) (twins : Twins a n) (rank : ℕ → ℕ)
-    (order : HasOrder f rank) where
+    (there : slice_get f.nodes j ≡ Some n) (apart : i ≢ j) (calm : form_of a.op ≡ Load → ⊥) (rank : ℕ → ℕ)
+    (order : HasOrder f rank) (lowered : Rises rank (rank j) a) where
   -- the lower rank of the two
   record Lower : Type 0 where
     low : ℕ
     first : low ≤ rank i
     second : low ≤ rank j
     rises : Rises rank low a
-
-  guard_rises : (a.guard ≡ None) ⊎ (a.guard ≡ n.guard) → RisesFromGuard rank (rank j) a.guard
-  guard_rises (inl d) = subst (λ (o : Option Guard). RisesFromGuard rank (rank j) o) (sym d) tt
-  guard_rises (inr d) =
-      subst (λ (o : Option Guard). RisesFromGuard rank (rank j) o) (sym d) (order.sources j n there).guard
-
-  -- what the twin takes is below the other node too
-  twin_rises : Rises rank (rank j) a
-  twin_rises = record {
-    left = subst (λ (z : List FlowSource). All (RisesFrom rank (rank j)) z) (sym twins.left)
-        (order.sources j n there).left;
-    right = subst (λ (z : List FlowSource). All (RisesFrom rank (rank j)) z) (sym twins.right)
-        (order.sources j n there).right;
-    guard = guard_rises (covers_is a.guard n.guard twins.guard);
-  }
 
   lower : Lower
   lower = pick (cases_lt (rank i) (rank j))
@@ -82,7 +69,7 @@ module _ (f : FlowBlock) (i j : ℕ) (a n : FlowNode) (standing : slice_get f.no
         second = omega (arith, l);
         rises = order.sources i a standing;
       }
-      pick (inr l) = record { low = rank j; first = l; second = omega arith; rises = twin_rises }
+      pick (inr l) = record { low = rank j; first = l; second = omega arith; rises = lowered }
 
   -- the new rank of a node
   abbrev new : ℕ → ℕ
@@ -139,14 +126,12 @@ module _ (f : FlowBlock) (i j : ℕ) (a n : FlowNode) (standing : slice_get f.no
     guard = guards_rise k z l x.guard r.guard;
   }
 
-  -- what stands at the twin's place is the twin
-  is_twin : (y : ℕ) (x : FlowNode) → slice_get f.nodes y ≡ Some x → y ≡ i → a ≡ x
-  is_twin y x e d = same_Some a x (sym standing ∙ (ap (λ (k : ℕ). slice_get f.nodes k) (sym d) ∙ e))
+  -- what stands at the first node's place is that node
+  is_first : (y : ℕ) (x : FlowNode) → slice_get f.nodes y ≡ Some x → y ≡ i → a ≡ x
+  is_first y x e d = same_Some a x (sym standing ∙ (ap (λ (k : ℕ). slice_get f.nodes k) (sym d) ∙ e))
 
   loads_apart : (y : ℕ) (x : FlowNode) → slice_get f.nodes y ≡ Some x → form_of x.op ≡ Load → y ≢ i
-  loads_apart y x e l d =
-      no_load n.op twins.idle
-      (ap form_of (sym twins.op) ∙ (ap (λ (z : FlowNode). form_of z.op) (is_twin y x e d) ∙ l))
+  loads_apart y x e l d = calm (ap (λ (z : FlowNode). form_of z.op) (is_first y x e d) ∙ l)
 
   ordered : HasOrder f new
   ordered = record {
@@ -159,21 +144,53 @@ module _ (f : FlowBlock) (i j : ℕ) (a n : FlowNode) (standing : slice_get f.no
       at : (y : ℕ) (x : FlowNode) → slice_get f.nodes y ≡ Some x → (y ≡ i) ⊎ (y ≡ i → ⊥) → Rises new (new y) x
       at y x e (inl d) =
           let l : 2 * lower.low ≤ new i = equal_at_most (new i) (2 * lower.low) at_twin in
-          subst (λ (z : FlowNode). Rises new (new y) z) (is_twin y x e d)
+          subst (λ (z : FlowNode). Rises new (new y) z) (is_first y x e d)
           (subst (λ (k : ℕ). Rises new (new k) a) (sym d) (rise lower.low (new i) l a lower.rises))
       at y x e (inr d) = rise (rank y) (new y) (at_least y d) x (order.sources y x e)
 
   twin_below : new i < new j
   twin_below = pair_below (new i) (new j) lower.low (rank j) at_twin at_copy lower.second
 
-  -- so the copy may come behind its twin
-  pub copy_ordered : Ordered f j (copy_of i n)
-  copy_ordered = record {
+  -- so a node that takes the first alone may stand in the place of the second, under its guard
+  pub behind_ordered : (m : FlowNode) → m.left ≡ Node i ∷ [] → m.right ≡ [] → m.guard ≡ n.guard → Ordered f j m
+  behind_ordered m left right guard = record {
     rank = new;
     order = ordered;
     rises = record {
-      left = All-cons (RisesFrom new (new j)) (Node i) [] twin_below (All-nil (RisesFrom new (new j)));
-      right = All-nil (RisesFrom new (new j));
-      guard = guards_rise (rank j) (new j) (at_least j (λ e. apart (sym e))) n.guard (order.sources j n there).guard;
+      left = subst (λ (ss : List FlowSource). All (RisesFrom new (new j)) ss) (sym left)
+          (All-cons (RisesFrom new (new j)) (Node i) [] twin_below (All-nil (RisesFrom new (new j))));
+      right = subst (λ (ss : List FlowSource). All (RisesFrom new (new j)) ss) (sym right)
+          (All-nil (RisesFrom new (new j)));
+      guard = subst (λ (o : Option Guard). RisesFromGuard new (new j) o) (sym guard)
+          (guards_rise (rank j) (new j) (at_least j (λ e. apart (sym e))) n.guard (order.sources j n there).guard);
     };
   }
+
+-- what is below a node by its guard is below it by a guard that covers it
+pub guard_rises : (rank : ℕ → ℕ) (k : ℕ) (g o : Option Guard) → covers o g ≡ true → RisesFromGuard rank k g
+    → RisesFromGuard rank k o
+guard_rises rank k g o c r = at (covers_is o g c)
+  where
+    at : (o ≡ None) ⊎ (o ≡ g) → RisesFromGuard rank k o
+    at (inl d) = subst (λ (z : Option Guard). RisesFromGuard rank k z) (sym d) tt
+    at (inr d) = subst (λ (z : Option Guard). RisesFromGuard rank k z) (sym d) r
+
+module _ (f : FlowBlock) (i j : ℕ) (a n : FlowNode) (standing : slice_get f.nodes i ≡ Some a)
+    (there : slice_get f.nodes j ≡ Some n) (apart : i ≢ j) (twins : Twins a n) (rank : ℕ → ℕ)
+    (order : HasOrder f rank) where
+  -- what the twin takes is below the other node too
+  twin_rises : Rises rank (rank j) a
+  twin_rises =
+      let r = order.sources j n there in
+      record {
+        left = subst (λ (z : List FlowSource). All (RisesFrom rank (rank j)) z) (sym twins.left) r.left;
+        right = subst (λ (z : List FlowSource). All (RisesFrom rank (rank j)) z) (sym twins.right) r.right;
+        guard = guard_rises rank (rank j) n.guard a.guard twins.guard r.guard;
+      }
+
+  -- so the copy may come behind its twin
+  pub copy_ordered : Ordered f j (copy_of i n)
+  copy_ordered =
+      behind_ordered f i j a n standing there apart
+      (λ e. no_load n.op twins.idle (ap form_of (sym twins.op) ∙ e)) rank order twin_rises (copy_of i n) refl refl
+      refl

@@ -14,4 +14,5 @@ pub mod Draws
 pub mod Sweeps
 pub mod SweepsAll
 pub mod Shares
+pub mod Strides
 pub mod Laws

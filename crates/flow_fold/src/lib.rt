@@ -1,9 +1,10 @@
-//! Three passes over flow blocks: *share* turns nodes that do what another does into copies of it, *fold* turns nodes
-//! into such that take fewer tokens, and *sweep* lets go what nothing names any more.
+//! Four passes over flow blocks: *share* turns nodes that do what another does into copies of it, *fold* turns nodes
+//! into such that take fewer tokens, *stride* adds to what another node gives, and *sweep* lets go what nothing names
+//! any more.
 //!
 //! Each step replaces a block by one that means the same, is complete and regular, whatever its labels become
 //! (specs/inside/Replaces). The rule of share stands in specs/inside/Shares, those of fold in specs/inside/Folds,
-//! those of sweep in specs/inside/SweepsAll.
+//! those of stride in specs/inside/Strides, those of sweep in specs/inside/SweepsAll.
 #![tactic(auto)]
 
 mod addresses;
@@ -24,6 +25,7 @@ mod opposites;
 mod renumbering;
 mod sharing;
 mod steps;
+mod striding;
 mod sums;
 mod sweeping;
 mod tests;
@@ -36,4 +38,5 @@ pub use laws::{
 };
 pub use sharing::share;
 pub use steps::fold;
+pub use striding::stride;
 pub use sweeping::sweep;

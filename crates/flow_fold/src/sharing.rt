@@ -16,8 +16,8 @@ use trips_isa::{Form, Op, form_of};
 // From so many nodes on they have no number.
 const MOST_NODES: usize = 1 << 32;
 
-// Whether two operations are one.
-fn same_op(a: Op, b: Op) -> bool
+/// Whether two operations are one.
+pub fn same_op(a: Op, b: Op) -> bool
     ensures { result ≡ true → a ≡ b }
 {
     a == b
@@ -34,8 +34,8 @@ fn same_source(s: FlowSource, t: FlowSource) -> bool
     }
 }
 
-// Whether two operands have the same sources.
-fn same_sources(a: &[FlowSource], b: &[FlowSource]) -> bool
+/// Whether two operands have the same sources.
+pub fn same_sources(a: &[FlowSource], b: &[FlowSource]) -> bool
     ensures { result ≡ true → a.now ≡ b.now }
 {
     match (a, b) {
@@ -106,8 +106,8 @@ fn copied_at(alloc: Global, block: FlowBlock, i: u32, j: usize) -> Result<FlowBl
     }
 }
 
-// A block whose node j takes what the copies that it takes copy.
-fn uncopied_at(alloc: Global, block: FlowBlock, j: usize) -> Result<FlowBlock, Memory>
+/// A block whose node j takes what the copies that it takes copy.
+pub fn uncopied_at(alloc: Global, block: FlowBlock, j: usize) -> Result<FlowBlock, Memory>
     ensures { IfOk result (λ g. Replaces block g) }
 {
     let left = turned_at(alloc, block, j, Rule::Left)?;
@@ -152,8 +152,8 @@ fn constants_of(
     }
 }
 
-// Whether two operands get the same words, where constants may stand twice.
-fn get_the_same(uses: &Uses, block: &FlowBlock, a: &[FlowSource], b: &[FlowSource]) -> bool {
+/// Whether two operands get the same words, where constants may stand twice.
+pub fn get_the_same(uses: &Uses, block: &FlowBlock, a: &[FlowSource], b: &[FlowSource]) -> bool {
     same_sources(a, b) || constants_of(uses, block, a, b).is_some()
 }
 
@@ -246,8 +246,8 @@ fn twin_of(uses: &Uses, block: &FlowBlock, j: u32) -> Option<u32> {
     }
 }
 
-// A block in which the constant that node j takes at the left is that which node i takes there.
-fn with_left_constant(
+/// A block in which the constant that node j takes at the left is that which node i takes there.
+pub fn with_left_constant(
     alloc: Global,
     block: FlowBlock,
     i: u32,
@@ -266,8 +266,8 @@ fn with_left_constant(
     }
 }
 
-// The same at the right.
-fn with_right_constant(
+/// The same at the right.
+pub fn with_right_constant(
     alloc: Global,
     block: FlowBlock,
     i: u32,

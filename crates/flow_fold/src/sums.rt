@@ -40,8 +40,8 @@ fn negated_some(imm: Option<i32>) -> Option<i32>
     }
 }
 
-// The small number that a node adds to its left operand.
-fn adds(nodes: &[FlowNode], c: &FlowNode) -> Option<i32>
+/// The small number that a node adds to its left operand.
+pub fn adds(nodes: &[FlowNode], c: &FlowNode) -> Option<i32>
     ensures { result ≡ sums.adds nodes.now c.now c.now.op }
 {
     match c.op {

@@ -1,6 +1,6 @@
 //! Hyper blocks with their flow blocks as text, blocks with too much of each part, and small flow blocks with what
 //! completing adds to them, which guards they keep, which nodes become copies, constants or other tests, which copies
-//! are looked through and which nodes are swept: all as tests.
+//! are looked through, which nodes add to what others give and which are swept: all as tests.
 #![tactic(auto)]
 
 #[cfg(test)]
@@ -15,6 +15,8 @@ mod making;
 mod share_tests;
 #[cfg(test)]
 mod shown;
+#[cfg(test)]
+mod stride_tests;
 #[cfg(test)]
 mod sum_tests;
 #[cfg(test)]

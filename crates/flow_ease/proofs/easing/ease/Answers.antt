@@ -12,9 +12,13 @@ returns c =
     let d : Replaces c.in_ok-loose.loose c.in_ok-shared.shared = search rules in
     let l : Replaces c.in_ok-shared.shared c.in_ok-lean.lean = search rules in
     let f : Replaces c.in_ok-lean.lean c.in_ok-folded.folded = search rules in
-    let s : Replaces c.in_ok-folded.folded c.in_ok-swept.swept = search rules in
-    eases_then_replaced c.args.block c.in_ok-folded.folded c.in_ok-swept.swept
+    let w : Replaces c.in_ok-folded.folded c.in_ok-few.few = search rules in
+    let t : Replaces c.in_ok-few.few c.in_ok-strided.strided = search rules in
+    let s : Replaces c.in_ok-strided.strided c.in_ok-swept.swept = search rules in
+    eases_then_replaced c.args.block c.in_ok-strided.strided c.in_ok-swept.swept
+    (eases_then_replaced c.args.block c.in_ok-few.few c.in_ok-strided.strided
+    (eases_then_replaced c.args.block c.in_ok-folded.folded c.in_ok-few.few
     (eases_then_replaced c.args.block c.in_ok-lean.lean c.in_ok-folded.folded
     (eases_then_replaced c.args.block c.in_ok-shared.shared c.in_ok-lean.lean
     (eases_then_replaced c.args.block c.in_ok-loose.loose c.in_ok-shared.shared
-    (eases_unguarded c.args.block c.in_ok-loose.loose u) d) l) f) s
+    (eases_unguarded c.args.block c.in_ok-loose.loose u) d) l) f) w) t) s
