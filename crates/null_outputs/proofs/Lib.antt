@@ -23,12 +23,14 @@ pub mod Fillings
 pub mod Assembled
 pub mod Straightness
 pub mod Recognised
+pub mod Asking
 pub mod Named
 pub mod NamedSources
 pub mod LoudPlaces
 pub mod LoudGroups
 pub mod Regular
 pub mod Unguarded
+pub mod Supplying
 pub mod Added
 pub mod Unread
 pub mod Completeness

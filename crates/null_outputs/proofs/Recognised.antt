@@ -26,19 +26,19 @@ scope_same (Some g) = both (nat_eq g.node g.node) (same_sense g.sense g.sense) (
     both : (a b : Bool) → a ≡ true → b ≡ true → (a && b) ≡ true
     both a b x y = rw (x, y) refl
 
-or_left : (a b : Bool) → a ≡ true → (a || b) ≡ true
+pub or_left : (a b : Bool) → a ≡ true → (a || b) ≡ true
 or_left true b e = refl
 or_left false b e = absurd (cc)
 
-or_right : (a b : Bool) → b ≡ true → (a || b) ≡ true
+pub or_right : (a b : Bool) → b ≡ true → (a || b) ≡ true
 or_right true b e = refl
 or_right false b e = e
 
-or_split : (a b : Bool) → (a || b) ≡ true → (a ≡ true) ⊎ (b ≡ true)
+pub or_split : (a b : Bool) → (a || b) ≡ true → (a ≡ true) ⊎ (b ≡ true)
 or_split true b e = inl refl
 or_split false b e = inr e
 
-has_front : (s t : List Scope) (g : Scope) → has s g ≡ true → has (s ++ t) g ≡ true
+pub has_front : (s t : List Scope) (g : Scope) → has s g ≡ true → has (s ++ t) g ≡ true
 has_front [] t g e = absurd (cc)
 has_front (k ∷ s) t g e = go (or_split (same_scope k g) (has s g) e) (λ d. has_front s t g d)
   where
@@ -47,7 +47,7 @@ has_front (k ∷ s) t g e = go (or_split (same_scope k g) (has s g) e) (λ d. ha
     go (inl d) f = or_left (same_scope k g) (has (s ++ t) g) d
     go (inr d) f = or_right (same_scope k g) (has (s ++ t) g) (f d)
 
-has_back : (s t : List Scope) (g : Scope) → has t g ≡ true → has (s ++ t) g ≡ true
+pub has_back : (s t : List Scope) (g : Scope) → has t g ≡ true → has (s ++ t) g ≡ true
 has_back [] t g e = e
 has_back (k ∷ s) t g e = or_right (same_scope k g) (has (s ++ t) g) (has_back s t g e)
 

@@ -86,7 +86,7 @@ in_all : (b : FlowBlock) (y : ℕ) → all_numbers_fed b y ≡ true → (k : ℕ
 unfolding all_numbers_fed
 in_all b y e k l = number_at b y 32 0 e k k (omega arith) l
 
-masked_low : (mask k : ℕ) → in_mask mask k ≡ true → k < 32
+pub masked_low : (mask k : ℕ) → in_mask mask k ≡ true → k < 32
 masked_low mask k e = low k 32 (both_true _ _ e).0
 
 -- a block that passes the test is straight

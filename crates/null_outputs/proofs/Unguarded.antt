@@ -1,4 +1,4 @@
--- Where outputs hang on unguarded nodes, these are firm, no cover is wanted and nothing is added.
+-- Where outputs hang on unguarded nodes, these are firm, so each output surely gets a token; then nothing is added.
 use Rattle.std.proofs.Common.{◌≡◌, ℕ, zero, suc, ◌+◌, ◌<◌, ◌≤◌, List, [], ◌∷◌, ◌++◌, get_or, length}
 use Rattle.std.proofs.Common.{refl, sym, ap, ap₂, subst, ◌∙◌, arith, cond, Bool, true, false, not, ◌&&◌, ◌||◌}
 use Rattle.std.specs.Prelude.{Option, Some, None, slice_get}
@@ -152,13 +152,17 @@ module _ (b : FlowBlock) (st : IsStraight b) where
   list_there : (ss : List FlowSource) → IsFed st.front ss → sure_by b None ss ≡ true
   list_there ss f = fed_sure (firm_of (firms b.nodes)) st.front ss all_found (omega arith) f
 
-  write_there : (j : ℕ) (w : FlowWrite) → slice_get b.writes j ≡ Some w → sure_by b None w.sources ≡ true
-  write_there j w e = list_there w.sources (st.writes j w e)
+  write_fed : (j : ℕ) (w : FlowWrite) → slice_get b.writes j ≡ Some w → sure_by b None w.sources ≡ true
+  write_fed j w e = list_there w.sources (st.writes j w e)
 
-  number_there : (k : ℕ) → number_open (sure_by b) b k ≡ false
-  number_there k = not_open (in_mask b.mask k) (sure_by b None (stores_of 0 b.nodes k))
+  number_fed : (k : ℕ) → number_open (sure_by b) b k ≡ false
+  number_fed k = not_open (in_mask b.mask k) (sure_by b None (stores_of 0 b.nodes k))
       (λ e. list_there (stores_of 0 b.nodes k) (st.numbers k e))
 
+-- Where each output surely gets a token, no cover is wanted and nothing is added.
+module _ (b : FlowBlock)
+    (write_there : (j : ℕ) (w : FlowWrite) → slice_get b.writes j ≡ Some w → sure_by b None w.sources ≡ true)
+    (number_there : (k : ℕ) → number_open (sure_by b) b k ≡ false) where
   -- WHAT IS WANTED
 
   store_there : (x : Form) (n : FlowNode) → is_open_store (sure_by b) b x n ≡ false
@@ -293,10 +297,14 @@ module _ (b : FlowBlock) (st : IsStraight b) where
       (ap (λ (t : Bool). w.sources ++ cond t [] (list_top c p w.sources)) (f zero w refl) ∙ no_end w.sources)
       (filled_same (p + write_size (sure_by b) (want_by b) b j w) (suc j) xs (λ i x e. f (suc i) x e))
 
-  -- a block whose outputs hang on unguarded nodes stays as it is
-  pub stays : complete b ≡ b
-  stays =
+  -- a block whose outputs surely get a token each stays as it is
+  pub supplied_stays : complete b ≡ b
+  supplied_stays =
       ap₂ (λ (ns : List FlowNode) (ws : List FlowWrite).
       record { nodes = ns; reads = b.reads; writes = ws; mask = b.mask })
       (ap (λ (xs : List FlowNode). b.nodes ++ xs) none_added ∙ no_end b.nodes)
       (filled_same (writes_at (sure_by b) (want_by b) b) 0 b.writes write_there)
+
+-- a block whose outputs hang on unguarded nodes stays as it is
+pub stays : (b : FlowBlock) → IsStraight b → complete b ≡ b
+stays b st = supplied_stays b (write_fed b st) (number_fed b st)

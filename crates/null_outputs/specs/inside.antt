@@ -1,3 +1,4 @@
+pub mod Asked
 pub mod Listed
 pub mod Tested
 pub mod Completed
@@ -8,5 +9,6 @@ pub mod Laws
 pub mod Refusals
 pub mod Sizes
 pub mod Straight
+pub mod Supplied
 pub mod Surely
 pub mod Wants

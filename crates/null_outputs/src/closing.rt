@@ -1,6 +1,6 @@
 //! Whether the covers that were found are all that are wanted.
 
-ghost use Rattle.std.specs.Prelude.{◌≡◌, OnOk, IfOk, drop, length, ◌<◌, ◌^◌, ◌&&◌};
+ghost use Rattle.std.specs.Prelude.{◌≡◌, OnOk, IfOk, drop, length, ◌<◌, ◌^◌, ◌&&◌, ◌||◌, not};
 ghost use Rattle.trips_isa.specs.Forms as forms;
 ghost use Rattle.null_outputs.specs.inside.Surely as surely;
 ghost use Rattle.null_outputs.specs.inside.Wants as wanted;
@@ -123,6 +123,27 @@ fn writes_closed(
     Ok(true)
 }
 
+// Whether all that the cover of a node names is wanted, where that cover is wanted.
+fn closed_if(
+    alloc: Global,
+    nodes: &[FlowNode],
+    firm: &[bool],
+    wants: &[bool],
+    asked: bool,
+    n: &FlowNode,
+) -> Result<bool, Memory>
+    requires { length nodes.now < 2 ^ 32 }
+    ensures { IfOk result (λ yes. yes
+        ≡ (not asked || wanted.node_closed (surely.sure_of nodes.now (firm_of firm.now))
+        (firm_of wants.now) n.now)) }
+{
+    if !asked {
+        return Ok(true);
+    }
+    let closed = node_closed(alloc, nodes, firm, wants, n)?;
+    Ok(closed)
+}
+
 // What the test says of node j.
 fn one_closed(
     alloc: Global,
@@ -138,9 +159,9 @@ fn one_closed(
         (firm_of wants.now) block.now j n.now) }
 {
     let wanted = is_marked(wants, j);
-    let closed = node_closed(alloc, block.nodes.as_slice(), firm, wants, n)?;
+    let closed = closed_if(alloc, block.nodes.as_slice(), firm, wants, wanted, n)?;
     let open = is_open_store(alloc, block, firm, n)?;
-    Ok((!wanted || closed) && (!open || wanted))
+    Ok(closed && (!open || wanted))
 }
 
 // Whether the test holds of all nodes.

@@ -1,13 +1,25 @@
 //! The completed block, where none of its parts is above its limit.
-ghost use Rattle.std.specs.Prelude.{◌≡◌, IfErr, IfOk};
+ghost use Rattle.std.specs.Prelude.{◌≡◌, ◌<◌, ◌^◌, length, IfErr, IfOk};
 ghost use Rattle.null_outputs.specs.inside.Refusals.{IsOver, IsRefusal, IsWithinLimits};
 ghost use Rattle.null_outputs.specs.inside.Wants as wanted;
 
 use crate::assembly::completed;
 use crate::straight::is_straight;
+use crate::supplied::is_supplied;
 use base::Memory;
 use ir_forms::{FlowBlock, FlowFault, Part};
 use std::alloc::Global;
+
+// The completed block of one that is not straight. Where all its outputs surely get a token, it stays as it is.
+fn filled(alloc: Global, block: FlowBlock) -> Result<FlowBlock, Memory>
+    requires { length block.nodes < 2 ^ 32 }
+    ensures { IfOk result (λ c. c ≡ wanted.complete block) }
+{
+    if is_supplied(alloc, &block)? {
+        return Ok(block);
+    }
+    completed(alloc, block)
+}
 
 // The completed block, whatever its size. A straight block stays as it is. So many nodes that their
 // count is no u32 take more than any memory.
@@ -20,7 +32,7 @@ fn whole(alloc: Global, block: FlowBlock) -> Result<FlowBlock, Memory>
     if is_straight(alloc, &block)? {
         return Ok(block);
     }
-    completed(alloc, block)
+    filled(alloc, block)
 }
 
 // The block, unless one of its parts is above its limit.

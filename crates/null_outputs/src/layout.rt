@@ -81,8 +81,11 @@ pub fn left_needed(
         ≡ groups.left_needed (surely.sure_of nodes.now (firm_of firm.now))
         (wanted.or_all closed (firm_of wants.now)) y n.now) }
 {
+    if !is_made(closed, wants, y) {
+        return Ok(false);
+    }
     let open = left_open(alloc, nodes, firm, n)?;
-    Ok(is_made(closed, wants, y) && open)
+    Ok(open)
 }
 
 /// Whether that of a right operand is.
@@ -100,6 +103,9 @@ pub fn right_needed(
         ≡ groups.right_needed (surely.sure_of nodes.now (firm_of firm.now))
         (wanted.or_all closed (firm_of wants.now)) y n.now) }
 {
+    if !is_made(closed, wants, y) {
+        return Ok(false);
+    }
     let open = right_open(alloc, nodes, firm, n)?;
-    Ok(is_made(closed, wants, y) && open)
+    Ok(open)
 }

@@ -17,6 +17,7 @@ mod places;
 mod regions;
 mod stores;
 mod straight;
+mod supplied;
 mod surely;
 mod wanting;
 

@@ -56,9 +56,12 @@ pub fn number_open(alloc: Global, block: &FlowBlock, firm: &[bool], k: u8) -> Re
     ensures { IfOk result (λ yes. yes
         ≡ groups.number_open (surely.sure_of block.now.nodes (firm_of firm.now)) block.now k) }
 {
+    if !in_mask(block.mask, k) {
+        return Ok(false);
+    }
     let stores = stores_of(alloc, block.nodes.as_slice(), k)?;
     let there = sure(alloc, block.nodes.as_slice(), firm, None, stores.as_slice())?;
-    Ok(in_mask(block.mask, k) && !there)
+    Ok(!there)
 }
 
 /// Whether a node is a store whose number may get none.

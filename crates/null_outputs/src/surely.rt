@@ -1,8 +1,10 @@
 //! Which lists of sources surely give a token.
 
-ghost use Rattle.std.specs.Prelude.{◌≡◌, ◌++◌, OnOk, IfOk, drop, slice_get, Some, length, ◌<◌, ◌^◌};
+ghost use Rattle.std.specs.Prelude.{◌≡◌, ◌++◌, ◌||◌, ◌<◌, ◌≤◌, ◌^◌, ◌⊎◌, OnOk, IfOk, None, Some};
+ghost use Rattle.std.specs.Prelude.{drop, slice_get, length};
 ghost use Rattle.trips_isa.specs.Forms as forms;
 ghost use Rattle.null_outputs.specs.inside.Covers as covers;
+ghost use Rattle.null_outputs.specs.inside.Asked as asked;
 ghost use Rattle.null_outputs.specs.inside.Surely as surely;
 ghost use Rattle.null_outputs.specs.inside.Surely.{firm_of};
 
@@ -138,12 +140,46 @@ fn split(
     Ok(())
 }
 
+// The number behind the node of a scope.
+fn end_of(scope: Option<Guard>) -> usize
+    ensures { result ≡ asked.end_of scope }
+{
+    match scope {
+        None => 0,
+        Some(g) => g.node as usize + 1,
+    }
+}
+
+// The number behind the highest node that a scope of some names. There are no more scopes than sources of a list.
+fn top_of(scopes: &[Option<Guard>]) -> usize
+    ensures { result ≡ asked.top_of scopes.now }
+{
+    match scopes {
+        [] => 0,
+        [s, rest @ ..] => {
+            let top = top_of(rest);
+            let end = end_of(*s);
+            if top < end { end } else { top }
+        }
+    }
+}
+
+// Behind the nodes that the scopes name no node is asked.
+fn first_asked(scopes: &[Option<Guard>], count: usize) -> usize
+    ensures within { result ≤ count }
+    ensures above { (result ≡ count) ⊎ (asked.top_of scopes.now ≤ result) }
+{
+    let top = top_of(scopes);
+    if top < count { top } else { count }
+}
+
 // Takes the block's nodes from the last to the first.
+#[tactic(auto, using(crate::proofs::Asking::begins))]
 fn close(scopes: &mut Items<Option<Guard>>, nodes: &[FlowNode], firm: &[bool]) -> Result<(), Memory>
     requires { length nodes.now < 2 ^ 32 }
     ensures { OnOk result (scopes.new ≡ surely.close (firm_of firm.now) 0 nodes.now scopes.old) }
 {
-    let mut at = nodes.len();
+    let mut at = first_asked(scopes.as_slice(), nodes.len());
     while at > 0 {
         at -= 1;
         split(scopes, firm, at as u32, &nodes[at])?;
@@ -189,7 +225,50 @@ fn sure_in(nodes: &[FlowNode], scopes: &[Option<Guard>], g: Option<Guard>) -> bo
     has(scopes, None) || reaches(nodes, scopes, nodes.len(), g)
 }
 
+// Whether a scope has no condition, or is this one.
+fn meets(scope: Option<Guard>, g: Option<Guard>) -> bool
+    ensures { result ≡ (surely.same_scope scope None || surely.same_scope scope g) }
+{
+    same_scope(scope, None) || same_scope(scope, g)
+}
+
+// Whether node y is firm, and its scope such a one.
+fn node_meets(nodes: &[FlowNode], firm: &[bool], y: usize, g: Option<Guard>) -> bool
+    ensures { result ≡ asked.meets (surely.scope_at (firm_of firm.now y) (slice_get nodes.now y)) g }
+{
+    if !is_firm_at(firm, y) {
+        return false;
+    }
+    if y < nodes.len() {
+        return meets(nodes[y].guard, g);
+    }
+    false
+}
+
+// Whether the scope of a source is.
+fn source_meets(nodes: &[FlowNode], firm: &[bool], s: FlowSource, g: Option<Guard>) -> bool
+    ensures { result ≡ asked.meets (surely.scope_of nodes.now (firm_of firm.now) s) g }
+{
+    match s {
+        FlowSource::Read(_) => true,
+        FlowSource::Node(y) => node_meets(nodes, firm, y as usize, g),
+    }
+}
+
+// Whether that of some source of a list is, so that the list is sure.
+fn any_meets(nodes: &[FlowNode], firm: &[bool], g: Option<Guard>, sources: &[FlowSource]) -> bool
+    ensures { result ≡ asked.any_meets nodes.now (firm_of firm.now) g sources.now }
+{
+    for s in sources {
+        if source_meets(nodes, firm, *s, g) {
+            return true;
+        }
+    }
+    false
+}
+
 /// Whether some source of the list is surely there where the guard is met.
+#[tactic(auto, using(crate::proofs::Asking::there_is_sure))]
 pub fn sure(
     alloc: Global,
     nodes: &[FlowNode],
@@ -200,6 +279,9 @@ pub fn sure(
     requires { length nodes.now < 2 ^ 32 }
     ensures { IfOk result (λ yes. yes ≡ surely.sure_of nodes.now (firm_of firm.now) g sources.now) }
 {
+    if any_meets(nodes, firm, g, sources) {
+        return Ok(true);
+    }
     let mut found = scopes(alloc, nodes, firm, sources)?;
     close(&mut found, nodes, firm)?;
     Ok(sure_in(nodes, found.as_slice(), g))
