@@ -1,6 +1,6 @@
 -- What lists of copies say.
-use Rattle.std.proofs.Common.{◌≡◌, ℕ, Bool, true, false, cond, List, [], ◌∷◌, ◌++◌, map, refl, sym, ap, ◌∙◌}
-use Rattle.std.proofs.Common.{nat_eq, not, ◌&&◌, inl, inr, ne_eqb}
+use Rattle.std.proofs.Common.{◌≡◌, ℕ, Bool, true, false, cond, List, [], ◌∷◌, ◌++◌, map, refl, sym, ap, ap₂, ◌∙◌}
+use Rattle.std.proofs.Common.{nat_eq, not, ◌&&◌, ◌||◌, inl, inr, ne_eqb}
 use Rattle.std.proofs.lemmas.Bool.{cases_eq}
 use mathlib.Core.Path.{fun_ext}
 use Rattle.ir_forms.specs.declared.hyper.Source.{Source}
@@ -10,7 +10,7 @@ use Rattle.ir_forms.specs.inside.HyperCode.{Items, Done}
 use Rattle.ir_forms.specs.inside.HyperViews.{items_of, then_items}
 use Rattle.hyper_trim.specs.declared.forwarding.Entry.{Entry}
 use Rattle.hyper_trim.specs.inside.Forward.{Copies, reads, unless_read, forget, copied}
-use Rattle.hyper_trim.specs.inside.Entries.{from, copies_of, forgotten, before}
+use Rattle.hyper_trim.specs.inside.Entries.{from, copies_of, forgotten, is_known, any_known, before}
 
 forget_one : ℕ → ℕ → Source → Source
 forget_one to r s = cond (nat_eq r to) (Reg r) (unless_read to r s)
@@ -54,6 +54,29 @@ unfolding forget_one
 forget_list l to = fun_ext (λ r.
     ap (λ (x : Source). from x (map (forgotten to) l) r) (itself to r)
     ∙ forget_from l to r (Reg r) (λ e h. is_same r e.register h))
+
+or_none : (a b : Bool) → (a || b) ≡ false → (a ≡ false) × (b ≡ false)
+or_none true b e = absurd (cc)
+or_none false b e = (refl, e)
+
+forgotten_same : (to : ℕ) (e : Entry) → is_known to e ≡ false → forgotten to e ≡ e
+forgotten_same to e h = go (nat_eq e.register to) (reads to e.source) h
+  where
+    go : (a b : Bool) → (a || b) ≡ false
+        → record { register = e.register; source = cond a (Reg e.register) (cond b (Reg e.register) e.source) } ≡ e
+    go true b h = absurd (cc)
+    go false true h = absurd (cc)
+    go false false h = refl
+
+none_known : (to : ℕ) (l : List Entry) → any_known to l ≡ false → map (forgotten to) l ≡ l
+none_known to [] h = refl
+none_known to (e ∷ l) h =
+    let parts = or_none (is_known to e) (any_known to l) h in
+    ap₂ (λ (x : Entry) (y : List Entry). x ∷ y) (forgotten_same to e parts.0) (none_known to l parts.1)
+
+-- where no entry is of a register or of one that has its word, nothing is forgotten
+pub forget_none : (l : List Entry) (to : ℕ) → any_known to l ≡ false → copies_of l ≡ forget to (copies_of l)
+forget_none l to h = sym (ap copies_of (none_known to l h)) ∙ forget_list l to
 
 from_more : (l : List Entry) (e : Entry) (s : Source) (r : ℕ)
     → from s (l ++ e ∷ []) r ≡ cond (nat_eq r e.register) e.source (from s l r)

@@ -6,7 +6,7 @@ ghost use Rattle.hyper_trim.specs.inside.Alive.{IsClosed};
 ghost use Rattle.hyper_trim.specs.inside.Walked.{Holds};
 
 use crate::sets::{bit, is_within, read_by, without};
-use crate::walking::{Walk, walked};
+use crate::walking::{Walk, seen_through, walked};
 use base::{Items, Memory};
 use ir_forms::{Exit, HyperBlock, Tail};
 use std::alloc::Global;
@@ -92,24 +92,30 @@ pub fn union(table: &[u128]) -> u128 {
     all
 }
 
+/// What is alive at the entry of a block, as the walk over it finds. No list of items is made.
+fn alive_before(block: &HyperBlock, table: &[u128], ret: u128) -> u128 {
+    let live = live_tail(&block.tail, table, ret);
+    seen_through(block.items.as_slice(), false, live).live
+}
+
 /// How many rounds a guess takes at most.
 const ROUNDS: u32 = 64;
 
 /// One round over all blocks, from the last to the first; whether more was found to be alive.
-fn round(blocks: &[HyperBlock], alloc: Global, table: &mut Items<u128>) -> Result<bool, Memory> {
+fn round(blocks: &[HyperBlock], table: &mut Items<u128>) -> bool {
     let mut more = false;
     let ret = union(table.as_slice());
     let mut at = blocks.len();
     while at > 0 {
         at -= 1;
-        let walk = walked_block(&blocks[at], alloc, table.as_slice(), ret)?;
-        if at < table.len() && !is_within(walk.live, table.as_slice()[at]) {
-            let all = table.as_slice()[at] | walk.live;
+        let live = alive_before(&blocks[at], table.as_slice(), ret);
+        if at < table.len() && !is_within(live, table.as_slice()[at]) {
+            let all = table.as_slice()[at] | live;
             table.set(at, all);
             more = true;
         }
     }
-    Ok(more)
+    more
 }
 
 /// A table for a program. Nothing is promised of it.
@@ -119,7 +125,7 @@ pub fn guess(blocks: &[HyperBlock], alloc: Global) -> Result<Items<u128>, Memory
         table.push(0)?;
     }
     for _round in 0..ROUNDS {
-        if !round(blocks, alloc, &mut table)? {
+        if !round(blocks, &mut table) {
             return Ok(table);
         }
     }

@@ -3,6 +3,7 @@ ghost use Rattle.std.specs.Prelude.{◌≡◌, OnOk, IfOk, map, not, ◌&&◌};
 ghost use Rattle.ir_forms.specs.inside.HyperCode as code;
 ghost use Rattle.ir_forms.specs.inside.HyperViews.{items_of, then_items, tail_of};
 ghost use Rattle.hyper_trim.specs.inside.Forward as spec;
+ghost use Rattle.hyper_trim.specs.inside.Entries as list;
 ghost use Rattle.hyper_trim.specs.inside.Entries.{copies_of, forgotten};
 
 use base::{Boxed, Items, Memory};
@@ -47,10 +48,29 @@ fn reads(to: u8, x: Source) -> bool
     }
 }
 
+/// Whether an entry is of a register, or of one that has its word.
+fn is_known(e: Entry, to: u8) -> bool
+    ensures { result ≡ list.is_known to e }
+{
+    e.register == to || reads(to, e.source)
+}
+
+/// Whether an entry of some is.
+fn any_known(entries: &[Entry], to: u8) -> bool
+    ensures { result ≡ list.any_known to entries.now }
+{
+    for e in entries {
+        if is_known(*e, to) {
+            return true;
+        }
+    }
+    false
+}
+
 fn forgotten_entry(e: Entry, to: u8) -> Entry
     ensures { result ≡ forgotten to e }
 {
-    if e.register == to || reads(to, e.source) {
+    if is_known(e, to) {
         Entry {
             register: e.register,
             source: Source::Reg(e.register),
@@ -70,10 +90,13 @@ fn forgotten_entries(alloc: Global, entries: &[Entry], to: u8) -> Result<Items<E
     Ok(all)
 }
 
-/// Behind an item that sets a register.
+/// Behind an item that sets a register. Where nothing is known of it nothing changes.
 fn forget(alloc: Global, entries: &mut Items<Entry>, to: u8) -> Result<(), Memory>
     ensures { OnOk result (copies_of entries.new ≡ spec.forget to (copies_of entries.old)) }
 {
+    if !any_known(entries.as_slice(), to) {
+        return Ok(());
+    }
     let all = forgotten_entries(alloc, entries.as_slice(), to)?;
     *entries = all;
     Ok(())

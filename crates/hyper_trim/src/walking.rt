@@ -151,3 +151,59 @@ pub fn walked(items: &[HyperItem], alloc: Global, leg: bool, live: u128) -> Resu
     }
     Ok(walk)
 }
+
+/// What is alive where a walk stands that keeps no items, and whether an item behind it does something.
+#[derive(Clone, Copy)]
+pub struct Seen {
+    pub live: u128,
+    pub filled: bool,
+}
+
+/// The same before an item that sets a register. Nothing is promised of it.
+fn seen_set(behind: Seen, leg: bool, to: u8, op: Op, a: Source, b: Source) -> Seen {
+    if !divides(op) && !matters(behind.live, to) && (!leg || behind.filled) {
+        return behind;
+    }
+    Seen {
+        live: without(behind.live, bit(to)) | read_by(a) | read_by(b),
+        filled: true,
+    }
+}
+
+/// The same before an item.
+#[cycle(seen)]
+fn seen_before(i: &HyperItem, leg: bool, behind: Seen) -> Seen {
+    match i {
+        HyperItem::Set { to, op, a, b } => seen_set(behind, leg, *to, *op, *a, *b),
+        HyperItem::Load { to, address, .. } => Seen {
+            live: without(behind.live, bit(*to)) | read_by(*address),
+            filled: true,
+        },
+        HyperItem::Save { address, value, .. } => Seen {
+            live: behind.live | read_by(*address) | read_by(*value),
+            filled: true,
+        },
+        HyperItem::If { test, yes, no } => {
+            let one = seen_through(yes.as_slice(), true, behind.live);
+            let other = seen_through(no.as_slice(), true, behind.live);
+            Seen {
+                live: one.live | other.live | read_by(*test),
+                filled: behind.filled,
+            }
+        }
+    }
+}
+
+/// What a walk finds alive before items behind which a set is, the last first. It keeps no items.
+#[cycle(seen)]
+pub fn seen_through(items: &[HyperItem], leg: bool, live: u128) -> Seen {
+    let mut seen = Seen {
+        live,
+        filled: false,
+    };
+    let count = items.len();
+    for k in 0..count {
+        seen = seen_before(&items[count - 1 - k], leg, seen);
+    }
+    seen
+}

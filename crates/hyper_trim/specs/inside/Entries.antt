@@ -1,12 +1,12 @@
 -- What is known of copies, as a list: of a register the last entry counts.
-use Rattle.std.specs.Prelude.{ℕ, cond, nat_eq, List, [], ◌∷◌}
+use Rattle.std.specs.Prelude.{ℕ, Bool, false, ◌||◌, cond, nat_eq, List, [], ◌∷◌}
 use Rattle.ir_forms.specs.declared.hyper.Source.{Source}
 use Rattle.ir_forms.specs.declared.hyper.Source.TheVariants.{Reg}
 use Rattle.ir_forms.specs.declared.hyper.HyperItem.{HyperItem}
 use Rattle.ir_forms.specs.inside.HyperCode.{Items}
 use Rattle.ir_forms.specs.inside.HyperViews.{then_items}
 use Rattle.hyper_trim.specs.declared.forwarding.Entry.{Entry}
-use Rattle.hyper_trim.specs.inside.Forward.{Copies, unless_read}
+use Rattle.hyper_trim.specs.inside.Forward.{Copies, reads, unless_read}
 
 -- what a list says of a register, of which a source was said before
 abbrev pub from : Source → List Entry → ℕ → Source
@@ -23,6 +23,15 @@ forgotten to e = record {
   register = e.register;
   source = cond (nat_eq e.register to) (Reg e.register) (unless_read to e.register e.source);
 }
+
+-- whether an entry is of a register, or of one that has its word
+abbrev pub is_known : ℕ → Entry → Bool
+is_known to e = nat_eq e.register to || reads to e.source
+
+-- whether an entry of a list is
+abbrev pub any_known : ℕ → List Entry → Bool
+any_known to [] = false
+any_known to (e ∷ l) = is_known to e || any_known to l
 
 -- declared items before others
 abbrev pub before : List HyperItem → Items → Items
