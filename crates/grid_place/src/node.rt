@@ -35,8 +35,8 @@ pub fn data_node(tile: u8) -> Node {
     }
 }
 
-// How far two numbers are apart.
-fn apart(a: u8, b: u8) -> u16
+/// How far two numbers are apart.
+pub fn apart(a: u8, b: u8) -> u16
     ensures { result ≤ 255 }
 {
     if a < b {

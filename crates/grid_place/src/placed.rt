@@ -36,8 +36,7 @@ fn moved(block: &Block, to: &[u8]) -> Block
     slots::reads(&mut reads, to, block.reads.as_slice());
     let mut writes = ArrayVec::new();
     slots::writes(&mut writes, block.writes.as_slice());
-    let mut insts = ArrayVec::new();
-    slots::empty(&mut insts);
+    let mut insts = slots::empty();
     slots::put(insts.as_mut_slice(), to, block.insts.as_slice());
     Block {
         reads,

@@ -107,16 +107,21 @@ impl Board {
         }
     }
 
-    // The slot that is the next to be placed, if there is one, is placed.
-    fn turn(&mut self, to: &mut [u8], k: usize, block: &Block)
+    // The slot that is the next to be placed is placed; whether there is one.
+    fn turn(&mut self, to: &mut [u8], k: usize, block: &Block) -> bool
         requires { IsPermutation to.old }
         ensures { IsPermutation to.new }
     {
-        if let Some(s) = self.order.at(k)
-            && s < 128
-            && let Some(inst) = inst_at(block.insts.as_slice(), s)
-        {
-            self.place(to, s, inst, block.writes.as_slice());
+        match self.order.at(k) {
+            None => false,
+            Some(s) => {
+                if s < 128
+                    && let Some(inst) = inst_at(block.insts.as_slice(), s)
+                {
+                    self.place(to, s, inst, block.writes.as_slice());
+                }
+                true
+            }
         }
     }
 }
@@ -129,6 +134,8 @@ pub fn greedy(to: &mut [u8], block: &Block)
     shuffle::in_place(to);
     let mut board = Board::of(block);
     for k in 0..128usize {
-        board.turn(to, k, block);
+        if !board.turn(to, k, block) {
+            return;
+        }
     }
 }

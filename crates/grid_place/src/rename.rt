@@ -49,18 +49,15 @@ pub fn renamed_read(to: &[u8], read: ReadSlot) -> ReadSlot
     }
 }
 
-pub fn renamed_inst(to: &[u8], slot: Option<Inst>) -> Option<Inst>
-    ensures value { result ≡ option_map (inside_spec.renamed_inst (spec.goes to.now)) slot }
+pub fn renamed_inst(to: &[u8], inst: Inst) -> Inst
+    ensures value { result ≡ inside_spec.renamed_inst (spec.goes to.now) inst }
 {
-    match slot {
-        Some(inst) => Some(Inst {
-            op: inst.op,
-            sense: inst.sense,
-            imm: inst.imm,
-            number: inst.number,
-            first: renamed_or_none(to, inst.first),
-            second: renamed_or_none(to, inst.second),
-        }),
-        None => None,
+    Inst {
+        op: inst.op,
+        sense: inst.sense,
+        imm: inst.imm,
+        number: inst.number,
+        first: renamed_or_none(to, inst.first),
+        second: renamed_or_none(to, inst.second),
     }
 }

@@ -1,5 +1,5 @@
 //! The reads, writes and slots of a moved block.
-ghost use Rattle.std.specs.Prelude.{◌≡◌, ◌<◌, ◌≤◌, ℕ, [], length, map, replicate};
+ghost use Rattle.std.specs.Prelude.{◌≡◌, ◌≢◌, ◌<◌, ◌≤◌, ℕ, [], length, map, replicate};
 ghost use Rattle.std.specs.Prelude.{None, option_map, slice_index_or};
 ghost use Rattle.grid_place.specs.Moves.{IsPermutation, goes};
 ghost use Rattle.grid_place.specs.inside.Moves.{renamed_read, renamed_inst};
@@ -31,18 +31,32 @@ pub fn writes(out: &mut ArrayVec<u8, 32>, writes: &[u8])
 }
 
 /// No slot has an instruction.
-pub fn empty(out: &mut ArrayVec<Option<Inst>, 128>)
-    requires { out.old.items ≡ [] }
-    ensures value { out.new.items ≡ replicate 128 None }
+pub fn empty() -> ArrayVec<Option<Inst>, 128>
+    ensures value { result.items ≡ replicate 128 None }
 {
-    for _i in 0..128usize {
-        out.push(None);
+    ArrayVec::from([None; 128])
+}
+
+// A slot where it goes, if it has an instruction; none is there before.
+fn put_slot(out: &mut [Option<Inst>], to: &[u8], s: u8, slot: Option<Inst>)
+    requires within { goes to.now s < length out.old }
+    requires none { slice_index_or out.old (goes to.now s) None ≡ None }
+    ensures there { slice_index_or out.new (goes to.now s) None ≡ option_map (renamed_inst (goes to.now)) slot }
+    ensures others { (k : ℕ) → k ≢ goes to.now s
+        → slice_index_or out.new k None ≡ slice_index_or out.old k None }
+    ensures size { length out.new ≡ length out.old }
+{
+    match slot {
+        Some(inst) => {
+            out[rename::goes(to, s) as usize] = Some(rename::renamed_inst(to, inst));
+        }
+        None => {}
     }
 }
 
-/// Each slot where it goes.
+/// Each instruction where it goes; none is there before.
 pub fn put(out: &mut [Option<Inst>], to: &[u8], insts: &[Option<Inst>])
-    requires out { length out.old ≡ 128 }
+    requires out { out.old ≡ replicate 128 None }
     requires insts { length insts.now ≡ 128 }
     requires permutes { IsPermutation to.now }
     ensures value { (s : ℕ) → s < 128 → slice_index_or out.new (goes to.now s) None
@@ -50,6 +64,6 @@ pub fn put(out: &mut [Option<Inst>], to: &[u8], insts: &[Option<Inst>])
     ensures size { length out.new ≡ 128 }
 {
     for s in 0..128 {
-        out[rename::goes(to, s as u8) as usize] = rename::renamed_inst(to, insts[s]);
+        put_slot(out, to, s as u8, insts[s]);
     }
 }

@@ -1,7 +1,7 @@
 //! When instructions are expected to start on each tile.
 ghost use Rattle.std.specs.Prelude.{◌<◌};
 
-use crate::node::{CONTROL, Node, bank_node, data_node, tile_node, way};
+use crate::node::{CONTROL, Node, apart, bank_node, data_node, tile_node, way};
 use trips_isa::{Form, Inst, Op, Spot, form_of, row_of};
 
 /// What is expected of the tiles while instructions are placed. Times are cycles from the first read.
@@ -15,49 +15,67 @@ pub struct Tiles {
     used: [u8; 16],
 }
 
-/// A tile, and when what is placed on it would be done.
-#[derive(Clone, Copy, Debug)]
-struct Choice {
-    tile: u8,
-    done: u16,
-}
-
-// The one that is done earlier; the first of two that are done at the same time.
-fn earlier(a: Choice, b: Choice) -> Choice
-    requires first { a.tile < 16 }
-    requires second { b.tile < 16 }
-    ensures { result.tile < 16 }
-{
-    if b.done < a.done { b } else { a }
-}
-
 /// How long an operation takes.
 pub fn latency(op: Op) -> u16 {
     u16::from(row_of(op).latency)
 }
 
-// The way of a token from a tile to a target outside the tiles, the bank of a write's register; 0 for any other.
-fn way_to(tile: u8, target: Option<Spot>, writes: &[u8]) -> u16 {
+// Where what an instruction gives leaves the tiles: at the data tile beside its own, or for nodes.
+#[derive(Clone, Copy, Debug)]
+struct Outlets {
+    data: bool,
+    first: Option<Node>,
+    second: Option<Node>,
+}
+
+// The bank of a write's register; none for any other target.
+fn bank_of(target: Option<Spot>, writes: &[u8]) -> Option<Node> {
     match target {
         Some(Spot::Write(w)) => match writes.get(w as usize) {
-            Some(register) => way(tile_node(tile), bank_node(*register)),
-            None => 0,
+            Some(register) => Some(bank_node(*register)),
+            None => None,
         },
-        _ => 0,
+        _ => None,
     }
 }
 
-// The longer way of what an instruction gives on a tile to where it leaves the tiles.
-fn way_out(tile: u8, inst: Inst, writes: &[u8]) -> u16 {
+// Where what an instruction gives leaves the tiles.
+fn outlets_of(inst: Inst, writes: &[u8]) -> Outlets {
     match form_of(inst.op) {
-        Form::Load | Form::Store => way(tile_node(tile), data_node(tile)),
-        Form::Branch => way(tile_node(tile), CONTROL),
-        _ => {
-            let first = way_to(tile, inst.first, writes);
-            let second = way_to(tile, inst.second, writes);
-            if first < second { second } else { first }
-        }
+        Form::Load | Form::Store => Outlets {
+            data: true,
+            first: None,
+            second: None,
+        },
+        Form::Branch => Outlets {
+            data: false,
+            first: Some(CONTROL),
+            second: None,
+        },
+        _ => Outlets {
+            data: false,
+            first: bank_of(inst.first, writes),
+            second: bank_of(inst.second, writes),
+        },
     }
+}
+
+// The way from a tile to a node, if there is one.
+fn way_to(tile: u8, to: Option<Node>) -> u16 {
+    match to {
+        None => 0,
+        Some(node) => way(tile_node(tile), node),
+    }
+}
+
+// The longer way of what is given on a tile to where it leaves the tiles.
+fn way_out(tile: u8, outlets: Outlets) -> u16 {
+    if outlets.data {
+        return way(tile_node(tile), data_node(tile));
+    }
+    let first = way_to(tile, outlets.first);
+    let second = way_to(tile, outlets.second);
+    if first < second { second } else { first }
 }
 
 impl Tiles {
@@ -74,20 +92,31 @@ impl Tiles {
     pub fn send(&mut self, from: Node, time: u16, s: u8)
         requires { s < 128 }
     {
-        for t in 0..16u8 {
-            self.send_on(from, time, s, t);
+        for row in 0..4u8 {
+            self.send_row(from, time, s, row);
         }
     }
 
-    // The same, if the slot will be on one of the tiles.
-    fn send_on(&mut self, from: Node, time: u16, s: u8, tile: u8)
+    // The same, if the slot will be on one of a row of tiles.
+    fn send_row(&mut self, from: Node, time: u16, s: u8, row: u8)
+        requires slot { s < 128 }
+        requires row { row < 4 }
+    {
+        let there = time.saturating_add(1 + apart(from.row, 1 + row));
+        for column in 0..4u8 {
+            let comes = there.saturating_add(apart(from.column, 1 + column));
+            self.come(comes, s, 4 * row + column);
+        }
+    }
+
+    // A token for a slot comes at a time, if the slot will be on one of the tiles.
+    fn come(&mut self, time: u16, s: u8, tile: u8)
         requires slot { s < 128 }
         requires tile { tile < 16 }
     {
         let place = 16 * s as usize + tile as usize;
-        let comes = time.saturating_add(way(from, tile_node(tile)));
-        if self.ready[place] < comes {
-            self.ready[place] = comes;
+        if self.ready[place] < time {
+            self.ready[place] = time;
         }
     }
 
@@ -101,41 +130,26 @@ impl Tiles {
         if ready < free { free } else { ready }
     }
 
-    // When what it gives would be where it leaves the tiles; a full tile is never done.
-    fn done(&self, s: u8, inst: Inst, writes: &[u8], tile: u8) -> u16
-        requires slot { s < 128 }
-        requires tile { tile < 16 }
-    {
-        if self.used[tile as usize] < 8 {
-            self.start(s, tile)
-                .saturating_add(way_out(tile, inst, writes))
-        } else {
-            u16::MAX
-        }
-    }
-
-    // A tile, with that time.
-    fn choice(&self, s: u8, inst: Inst, writes: &[u8], tile: u8) -> Choice
-        requires slot { s < 128 }
-        requires tile { tile < 16 }
-        ensures { result.tile < 16 }
-    {
-        Choice {
-            tile,
-            done: self.done(s, inst, writes, tile),
-        }
-    }
-
-    /// The tile on which an instruction is expected to be done first, the way of what leaves the tiles counted.
+    /// The tile on which an instruction is expected to be done first, the way of what leaves the tiles counted. No
+    /// way makes it done before it starts, and on a full tile it is never done.
     pub fn best(&self, s: u8, inst: Inst, writes: &[u8]) -> u8
         requires { s < 128 }
         ensures { result < 16 }
     {
-        let mut best = self.choice(s, inst, writes, 0);
-        for t in 1..16u8 {
-            best = earlier(best, self.choice(s, inst, writes, t));
+        let outlets = outlets_of(inst, writes);
+        let mut best = 0;
+        let mut least = u16::MAX;
+        for t in 0..16u8 {
+            let start = self.start(s, t);
+            if start < least && self.used[t as usize] < 8 {
+                let done = start.saturating_add(way_out(t, outlets));
+                if done < least {
+                    best = t;
+                    least = done;
+                }
+            }
         }
-        best.tile
+        best
     }
 
     /// The next place of a tile is taken; 128 where it has none.
