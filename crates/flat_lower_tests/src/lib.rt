@@ -14,6 +14,8 @@ mod compile_tests;
 #[cfg(test)]
 mod expression_texts;
 #[cfg(test)]
+mod kind_tests;
+#[cfg(test)]
 mod kind_texts;
 #[cfg(test)]
 mod limit_tests;
