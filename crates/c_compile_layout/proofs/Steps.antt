@@ -40,7 +40,8 @@ use Rattle.ir_forms.specs.inside.HyperWords.{HasWords}
 use Rattle.ir_forms.specs.inside.Agreement.{IsExit}
 use Rattle.hyper_narrow.specs.inside.NarrowedCode.{Narrowed}
 use Rattle.hyper_narrow.specs.inside.NarrowedRuns.{after_narrowed, exit_from, next_from}
-use Rattle.hyper_narrow.specs.inside.NarrowedMeaning.{ComesTo}
+use Rattle.hyper_narrow.specs.inside.NarrowedMeaning.{ComesTo, SameActs}
+use Rattle.hyper_narrow.proofs.ActsAlike.{acts_by, clean_alike}
 use Rattle.fan_out.specs.inside.Targeted.{register_of}
 use Rattle.fan_out.specs.inside.Means.{write_tokens, head_of, flow_outcome}
 use Rattle.fan_out.specs.inside.Means as means
@@ -277,14 +278,16 @@ module _ (B : List Narrowed) (ts : List Block) (made : AreMade B ts) (k : ℕ) (
   }
 
   -- what the linked flow block does is what the narrowed block does
-  does_acts : fired regs h linked_flow.nodes ≡ acts b.block.items m
-  does_acts = fired_same (chunk_of ts) k regs h it.flow.nodes
-      ∙ ap (λ g. fired g h it.flow.nodes) regs_are ∙ comes.acts
+  does_acts : SameActs (fired regs h linked_flow.nodes) (acts b.block.items m)
+  does_acts =
+      acts_by _ _ _
+      (fired_same (chunk_of ts) k regs h it.flow.nodes ∙ ap (λ g. fired g h it.flow.nodes) regs_are)
+      comes.acts
 
   block_clean : is_clean (acts b.block.items m) ≡ true
       → IsClean t (token_of t s.registers s.memory deepest)
   block_clean c = it.clean s.registers s.memory h
-      (start_same (chunk_of ts) k s.memory s.memory regs h it.flow here) (ap is_clean does_acts ∙ c)
+      (start_same (chunk_of ts) k s.memory s.memory regs h it.flow here) (clean_alike _ _ does_acts ∙ c)
 
   no_cause : is_clean (acts b.block.items m) ≡ true → next_cause ts s ≡ 0
   no_cause c =

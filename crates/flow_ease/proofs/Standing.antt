@@ -5,6 +5,7 @@ use Rattle.ir_forms.specs.declared.flow.FlowNode.{FlowNode}
 use Rattle.ir_forms.specs.declared.flow.FlowBlock.{FlowBlock}
 use Rattle.flow_ease.specs.inside.Eases.{Eases, Stands, Takes, names_label}
 use Rattle.flow_ease.specs.inside.Laws.{EasesItself, EasesOn, MeansByTables}
+use Rattle.hyper_narrow.proofs.ActsAlike.{acts_on}
 
 -- a block may stand for itself
 pub eases_itself : EasesItself
@@ -48,5 +49,5 @@ means_by_tables at b f g follows means m h words start =
       registers = λ r. c.registers r ∙ old.registers r;
       memory = c.memory ∙ old.memory;
       exit = c.exit _ _ old.exit;
-      acts = c.acts ∙ old.acts;
+      acts = acts_on _ _ _ c.acts old.acts;
     }

@@ -40,6 +40,7 @@ pub mod StayingNumbers
 pub mod SweptInSteps
 pub mod SweptAtOnce
 pub mod NumberTables
+pub mod ActsLeft
 pub mod TwinRanks
 pub mod TwinCopies
 pub mod SharedBlocks

@@ -25,15 +25,28 @@ use Rattle.ir_forms.specs.inside.FlowFits.{HasOrder, Rises, AtMostOne, IsTidy, i
 use Rattle.ir_forms.specs.inside.FlowRegular.{IsRegular, is_named, is_silent, nodes_name, writes_name}
 use Rattle.hyper_narrow.specs.inside.NarrowedCode.{Narrowed}
 use Rattle.hyper_narrow.specs.inside.NarrowedMeaning.{MeansNarrowed}
+use Rattle.hyper_narrow.proofs.ActsAlike.{acts_on, equal_acts}
 use Rattle.flow_fold.specs.inside.Folds.{with_node}
 use Rattle.flow_fold.specs.inside.Replaces.{Stands, names_label}
 use Rattle.flow_fold.proofs.Places.{all_at, all_of, set_here, set_there, set_origin}
 use Rattle.flow_fold.proofs.Echoes.{echo, echoed, obeys_at, obeys_of}
 use Rattle.flow_fold.proofs.Names.{false_unless, or_first, or_second, not_first, not_second, node_names}
 use Rattle.flow_fold.proofs.Names.{named_at, namer}
-use Rattle.flow_fold.proofs.Turned.{Written, Works}
+use Rattle.flow_fold.proofs.Turned.{Written, Works, Does}
 use Rattle.flow_fold.proofs.Placing.{Ordered, Placed, placed}
 use Rattle.flow_fold.proofs.Tables.{stores_kept, memory_kept, fired_kept, exits_kept, tokens_kept}
+
+-- what does what a node did does what can fault too
+pub works_does : (f : FlowBlock) (j : ℕ) (n m : FlowNode) → slice_get f.nodes j ≡ Some n → Works f j n m → Does f j n m
+works_does f j n m there w = record {
+  path = w.path;
+  tidy = w.tidy;
+  outputs = w.outputs;
+  stored = λ regs mem h o. (w.deeds regs mem h o).stored;
+  acts = λ regs mem h o.
+      equal_acts _ _ (fired_kept regs h n m (w.deeds regs mem h o).acts f.nodes j there);
+  start = w.start;
+}
 
 -- each node may be put in its own place
 itself : (f : FlowBlock) (j : ℕ) (n : FlowNode) → slice_get f.nodes j ≡ Some n → Placed f j n n
@@ -185,7 +198,7 @@ module _ (f : FlowBlock) (j : ℕ) (n m : FlowNode) (there : slice_get f.nodes j
         still_unnamed y p.node p.is u (r.silent y p.node p.is u);
   }
 
-  module _ (works : Works f j n m) where
+  module _ (works : Does f j n m) where
     old_path : (regs : ℕ → ℕ) (c : Computes) (h : ℕ → Answer) → OnPath regs c h g → OnPath regs (echo h) h f
     old_path regs c h o =
         obeys_of regs (echo h) h 0 f.nodes (λ y x i q s. at y x i q s (cases_eq y j))
@@ -255,7 +268,7 @@ module _ (f : FlowBlock) (j : ℕ) (n m : FlowNode) (there : slice_get f.nodes j
 
     old_start : (regs : ℕ → ℕ) (mem : List ℕ) (h : ℕ → Answer) → AtStart regs mem h g → AtStart regs mem h f
     old_start regs mem h o =
-        let e = stores_kept regs h n m (works.deeds regs mem h o) f.nodes j there in
+        let e = stores_kept regs h n m (works.stored regs mem h o) f.nodes j there in
         subst (λ (s : ℕ → Option Stored). Obeys regs (meant s mem) h 0 f.nodes) e
         (obeys_of regs (meant (stores regs h g.nodes) mem) h 0 f.nodes (λ y x i q s. at y x i q s (cases_eq y j)))
       where
@@ -275,12 +288,12 @@ module _ (f : FlowBlock) (j : ℕ) (n m : FlowNode) (there : slice_get f.nodes j
     pub means_placed : (at : Layout) (b : Narrowed) → MeansNarrowed at b f → MeansNarrowed at b g
     means_placed at b means machine h words o =
         let c = means machine h words (old_start machine.registers machine.memory h o) in
-        let d = works.deeds machine.registers machine.memory h o in
+        let d = works.stored machine.registers machine.memory h o in
         record {
           registers = c.registers;
           memory = memory_kept machine.registers h n m d f.nodes j there machine.memory ∙ c.memory;
           exit = record { branch = c.exit.branch; only = same_exits h ∙ c.exit.only; is = c.exit.is };
-          acts = fired_kept machine.registers h n m d f.nodes j there ∙ c.acts;
+          acts = acts_on _ _ _ (works.acts machine.registers machine.memory h o) c.acts;
         }
 
 -- THE SAME OF A NODE THAT MAY BE WRITTEN THERE
@@ -298,8 +311,8 @@ module _ (f : FlowBlock) (j : ℕ) (n m : FlowNode) (there : slice_get f.nodes j
   regular_kept = regular_placed f j n m there put_there
 
   pub complete_kept : Works f j n m → IsComplete f → IsComplete (with_node f j m)
-  complete_kept = complete_placed f j n m there put_there
+  complete_kept w = complete_placed f j n m there put_there (works_does f j n m there w)
 
   pub means_kept : Works f j n m → (at : Layout) (b : Narrowed) → MeansNarrowed at b f
       → MeansNarrowed at b (with_node f j m)
-  means_kept = means_placed f j n m there put_there
+  means_kept w = means_placed f j n m there put_there (works_does f j n m there w)

@@ -40,7 +40,7 @@ module _ (f : FlowBlock) (i j : ℕ) (a n : FlowNode) (standing : slice_get f.no
       guard = twins.guard;
       left = twins.left;
       right = twins.right;
-      idle = twins.idle;
+      form = twins.form;
     }
 
     -- and a copy has none

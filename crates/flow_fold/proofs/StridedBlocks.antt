@@ -15,7 +15,7 @@ use Rattle.flow_fold.specs.inside.Folds.{with_node}
 use Rattle.flow_fold.specs.inside.Replaces.{Immediates, with_immediate, with_immediates, LeavesOwn, Replaces}
 use Rattle.flow_fold.specs.inside.Strides.{sum_on, Strides}
 use Rattle.flow_fold.proofs.ConstantFacts.{small_own}
-use Rattle.flow_fold.proofs.Replacing.{regular_placed, complete_placed, means_placed, labels_placed}
+use Rattle.flow_fold.proofs.Replacing.{regular_placed, complete_placed, means_placed, labels_placed, works_does}
 use Rattle.flow_fold.proofs.StrideFacts.{Leads, leads, leads_kept, lead_small}
 use Rattle.flow_fold.proofs.StridePlaces.{sum_placed}
 use Rattle.flow_fold.proofs.StrideRules.{sum_works}
@@ -54,8 +54,9 @@ module _ (f : FlowBlock) (i j k : ℕ) (a c n : FlowNode) (b : ℤ) (standing : 
         (complete_placed ff j (new n) (sum_on i (new n) b) (there_too j n there)
         (sum_placed ff i j k (new a) (new c) (new n) b (there_too i a standing) (there_too j n there)
         (there_too k c between) apart aside base_guard step_guard (leads_kept r own f.nodes k c a n b ahead))
+        (works_does ff j (new n) (sum_on i (new n) b) (there_too j n there)
         (sum_works ff i j k (new a) (new c) (new n) b (there_too i a standing) (there_too j n there)
-        (there_too k c between) apart aside base_guard step_guard (leads_kept r own f.nodes k c a n b ahead))
+        (there_too k c between) apart aside base_guard step_guard (leads_kept r own f.nodes k c a n b ahead)))
         x)
 
     means : (at : Layout) (o : Narrowed) → MeansNarrowed at o ff → MeansNarrowed at o (with_immediates r g)
@@ -64,8 +65,9 @@ module _ (f : FlowBlock) (i j k : ℕ) (a c n : FlowNode) (b : ℤ) (standing : 
         (means_placed ff j (new n) (sum_on i (new n) b) (there_too j n there)
         (sum_placed ff i j k (new a) (new c) (new n) b (there_too i a standing) (there_too j n there)
         (there_too k c between) apart aside base_guard step_guard (leads_kept r own f.nodes k c a n b ahead))
+        (works_does ff j (new n) (sum_on i (new n) b) (there_too j n there)
         (sum_works ff i j k (new a) (new c) (new n) b (there_too i a standing) (there_too j n there)
-        (there_too k c between) apart aside base_guard step_guard (leads_kept r own f.nodes k c a n b ahead))
+        (there_too k c between) apart aside base_guard step_guard (leads_kept r own f.nodes k c a n b ahead)))
         at o x)
 
   stands_for : Replaces f g

@@ -26,6 +26,7 @@ use Rattle.ir_forms.specs.inside.FlowRegular.{is_named, nodes_name}
 use Rattle.ir_forms.specs.inside.FlowRegular.{writes_name}
 use Rattle.hyper_narrow.specs.inside.NarrowedCode.{Narrowed}
 use Rattle.hyper_narrow.specs.inside.NarrowedMeaning.{MeansNarrowed}
+use Rattle.hyper_narrow.proofs.ActsAlike.{acts_by}
 use Rattle.flow_fold.specs.inside.Sweeps.{lower, lower_node}
 use Rattle.flow_fold.specs.inside.Sweeps.{without}
 use Rattle.flow_fold.specs.inside.Sweeps.{is_idle}
@@ -208,5 +209,5 @@ module _ (f : FlowBlock) (k : ℕ) (gone : FlowNode) (there : slice_get f.nodes 
         registers = λ r. sym (written_low k gone idle its_calm regs t h f.writes writes_do r) ∙ c.registers r;
         memory = sym (memory_low k gone idle its_calm regs t h f.nodes are_ready mem) ∙ c.memory;
         exit = record { branch = c.exit.branch; only = sym (same_exits regs h t) ∙ c.exit.only; is = c.exit.is };
-        acts = sym (fired_low k gone idle its_calm regs t h f.nodes 0 are_ready) ∙ c.acts;
+        acts = acts_by _ _ _ (sym (fired_low k gone idle its_calm regs t h f.nodes 0 are_ready)) c.acts;
       }

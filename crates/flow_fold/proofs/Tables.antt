@@ -14,34 +14,34 @@ use Rattle.trips_isa.specs.Tables.{or_else}
 use Rattle.trips_isa.specs.Stores.{store_all, listed_below}
 use Rattle.ir_forms.specs.declared.flow.FlowNode.{FlowNode}
 use Rattle.ir_forms.specs.inside.FlowRuns.{stores, stored_all, exits, leaving_in, fired, tokens, numbered, stored_in}
-use Rattle.flow_fold.proofs.Turned.{acts_of, SameDeeds, SameOutputs}
+use Rattle.flow_fold.proofs.Turned.{acts_of, SameStores, SameOutputs}
 
 module _ (regs : ℕ → ℕ) (h : ℕ → Answer) (n m : FlowNode) where
-  stores_at : SameDeeds regs h n m → (ns : List FlowNode) (j : ℕ) → slice_get ns j ≡ Some n → (k : ℕ)
+  stores_at : SameStores regs h n m → (ns : List FlowNode) (j : ℕ) → slice_get ns j ≡ Some n → (k : ℕ)
       → stores regs h (slice_set ns j m) k ≡ stores regs h ns k
   stores_at d [] j e k = refl
   stores_at d (a ∷ ns) zero e k =
       ap (λ (s : Option Stored). or_else s (stores regs h ns k))
-      (d.stored k ∙ ap (λ (x : FlowNode). stored_in (form_of x.op) regs h x k) (sym (same_Some a n e)))
+      (d k ∙ ap (λ (x : FlowNode). stored_in (form_of x.op) regs h x k) (sym (same_Some a n e)))
   stores_at d (a ∷ ns) (suc j) e k = ap (or_else (stored_in (form_of a.op) regs h a k)) (stores_at d ns j e k)
 
   -- the stores by number
-  pub stores_kept : SameDeeds regs h n m → (ns : List FlowNode) (j : ℕ) → slice_get ns j ≡ Some n
+  pub stores_kept : SameStores regs h n m → (ns : List FlowNode) (j : ℕ) → slice_get ns j ≡ Some n
       → stores regs h (slice_set ns j m) ≡ stores regs h ns
   stores_kept d ns j e = fun_ext (λ (k : ℕ). stores_at d ns j e k)
 
   -- the memory behind the block
-  pub memory_kept : SameDeeds regs h n m → (ns : List FlowNode) (j : ℕ) → slice_get ns j ≡ Some n → (mem : List ℕ)
+  pub memory_kept : SameStores regs h n m → (ns : List FlowNode) (j : ℕ) → slice_get ns j ≡ Some n → (mem : List ℕ)
       → stored_all regs h (slice_set ns j m) mem ≡ stored_all regs h ns mem
   unfolding stored_all
   memory_kept d ns j e mem = ap (λ (s : ℕ → Option Stored). store_all mem (listed_below s 32)) (stores_kept d ns j e)
 
   -- what can fault
-  pub fired_kept : SameDeeds regs h n m → (ns : List FlowNode) (j : ℕ) → slice_get ns j ≡ Some n
+  pub fired_kept : acts_of regs h m ≡ acts_of regs h n → (ns : List FlowNode) (j : ℕ) → slice_get ns j ≡ Some n
       → fired regs h (slice_set ns j m) ≡ fired regs h ns
   fired_kept d [] j e = refl
   fired_kept d (a ∷ ns) zero e =
-      ap (λ (l : List Act). l ++ fired regs h ns) (d.acts ∙ ap (acts_of regs h) (sym (same_Some a n e)))
+      ap (λ (l : List Act). l ++ fired regs h ns) (d ∙ ap (acts_of regs h) (sym (same_Some a n e)))
   fired_kept d (a ∷ ns) (suc j) e = ap (λ (l : List Act). acts_of regs h a ++ l) (fired_kept d ns j e)
 
 module _ (h : ℕ → Answer) (n m : FlowNode) where

@@ -12,10 +12,11 @@ use Rattle.ir_forms.specs.declared.flow.Guard.{Guard}
 use Rattle.ir_forms.specs.declared.flow.FlowNode.{FlowNode}
 use Rattle.ir_forms.specs.declared.flow.FlowBlock.{FlowBlock}
 use Rattle.ir_forms.specs.inside.FlowRuns.{Computes, OnPath, AtStart, gives, meant, stores, stored_in, met}
-use Rattle.ir_forms.specs.inside.FlowRuns.{act_tokens}
+use Rattle.ir_forms.specs.inside.FlowRuns.{act_tokens, fired}
 use Rattle.ir_forms.specs.inside.FlowRuns.{first, leaving_in, numbered, guard_token}
 use Rattle.ir_forms.specs.inside.FlowFits.{FitsNode, HasOrder, Rises, AtMostOne, IsTidy}
 use Rattle.ir_forms.specs.inside.FlowRegular.{TakesOnly, is_silent, nodes_name}
+use Rattle.hyper_narrow.specs.inside.NarrowedMeaning.{SameActs}
 use Rattle.flow_fold.specs.inside.Folds.{with_node}
 use Rattle.flow_fold.specs.inside.Replaces.{Stands, names_label}
 use Rattle.flow_fold.proofs.Names.{node_names}
@@ -73,5 +74,23 @@ pub record Works (f : FlowBlock) (j : ℕ) (n m : FlowNode) : Type 0 where
   pub outputs : (h : ℕ → Answer) → SameOutputs h j n m
   pub deeds : (regs : ℕ → ℕ) (mem : List ℕ) (h : ℕ → Answer) → AtStart regs mem h (with_node f j m)
       → SameDeeds regs h n m
+  pub start : (regs : ℕ → ℕ) (mem : List ℕ) (h : ℕ → Answer) → AtStart regs mem h (with_node f j m)
+      → h j ≡ gives regs h (meant (stores regs h (with_node f j m).nodes) mem j n) n
+
+-- it stores the same in a table
+abbrev pub SameStores : (ℕ → ℕ) → (ℕ → Answer) → FlowNode → FlowNode → Type 0
+SameStores regs h n m = (k : ℕ) → stored_in (form_of m.op) regs h m k ≡ stored_in (form_of n.op) regs h n k
+
+-- m does in the place of n what n did, but for what can fault, which the block does still
+pub record Does (f : FlowBlock) (j : ℕ) (n m : FlowNode) : Type 0 where
+  pub path : (regs : ℕ → ℕ) (c : Computes) (h : ℕ → Answer) → OnPath regs c h (with_node f j m)
+      → GivesSome regs h j n
+  pub tidy : (regs : ℕ → ℕ) (c : Computes) (h : ℕ → Answer) → OnPath regs c h (with_node f j m)
+      → IsTidy regs h f → IsTidyNode regs h m
+  pub outputs : (h : ℕ → Answer) → SameOutputs h j n m
+  pub stored : (regs : ℕ → ℕ) (mem : List ℕ) (h : ℕ → Answer) → AtStart regs mem h (with_node f j m)
+      → SameStores regs h n m
+  pub acts : (regs : ℕ → ℕ) (mem : List ℕ) (h : ℕ → Answer) → AtStart regs mem h (with_node f j m)
+      → SameActs (fired regs h (with_node f j m).nodes) (fired regs h f.nodes)
   pub start : (regs : ℕ → ℕ) (mem : List ℕ) (h : ℕ → Answer) → AtStart regs mem h (with_node f j m)
       → h j ≡ gives regs h (meant (stores regs h (with_node f j m).nodes) mem j n) n

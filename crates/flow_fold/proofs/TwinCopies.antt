@@ -1,7 +1,8 @@
 -- A node may be a copy of its twin, and does what it did.
-use Rattle.std.proofs.Common.{◌≡◌, ◌≢◌, ℕ, ◌+◌, ◌≤◌, List, [], ◌∷◌, ◌⊎◌, inl, inr, refl, sym, ap, ap₂}
+use Rattle.std.proofs.Common.{◌≡◌, ◌≢◌, ℕ, ◌+◌, ◌%◌, ◌^◌, ◌<◌, ◌≤◌, List, [], ◌∷◌, ◌⊎◌, inl, inr, refl, sym, ap, ap₂}
 use Rattle.std.proofs.Common.{subst, ◌∙◌, arith, cond, nat_eq, Bool, true, false, ◌||◌}
 use Rattle.std.specs.Prelude.{ℤ, Some, None, Option, slice_get, slice_set, slice_index}
+use Rattle.std.specs.List.{Contains}
 use Rattle.std.proofs.Math.Path.{fun_ext}
 use Rattle.std.proofs.lemmas.Bool.{or_cases, false≢true, eqb-true}
 use Rattle.std.proofs.lemmas.List.Elements.{All-nil, All-cons}
@@ -11,12 +12,13 @@ use Rattle.trips_isa.specs.declared.form.Form.{Form}
 use Rattle.trips_isa.specs.declared.form.Form.TheVariants.{General, Immediate, Load, Store, Branch, Constant}
 use Rattle.trips_isa.specs.declared.block.Token.TheVariants.{Null, Word}
 use Rattle.trips_isa.specs.declared.block.Stored.{Stored}
-use Rattle.trips_isa.specs.inside.Acts.{Act}
+use Rattle.trips_isa.specs.inside.Acts.{Act, Divided, Accessed}
 use Rattle.trips_isa.specs.Alu.{alu_of, word}
+use Rattle.trips_isa.specs.Faults.{divides}
 use Rattle.trips_isa.specs.Blocks.{form_computes}
 use Rattle.trips_isa.specs.Forms.{form_of, role_of, size_of}
 use Rattle.trips_isa.specs.Rule as rules
-use Rattle.trips_isa.specs.Rule.{Answer, if_matched, rule}
+use Rattle.trips_isa.specs.Rule.{Answer, if_matched}
 use Rattle.trips_isa.specs.Stores.{bytes_seen}
 use Rattle.ir_forms.specs.declared.flow.FlowSource.{FlowSource}
 use Rattle.ir_forms.specs.declared.flow.FlowSource.TheVariants.{Read, Node}
@@ -24,20 +26,20 @@ use Rattle.ir_forms.specs.declared.flow.Guard.{Guard}
 use Rattle.ir_forms.specs.declared.flow.FlowNode.{FlowNode}
 use Rattle.ir_forms.specs.declared.flow.FlowBlock.{FlowBlock}
 use Rattle.ir_forms.specs.inside.FlowRuns.{Computes, Obeys, gives, meant, stores, first, guard_token, inst_of, met}
-use Rattle.ir_forms.specs.inside.FlowRuns.{act_tokens, present}
+use Rattle.ir_forms.specs.inside.FlowRuns.{act_tokens, present, fired, leaving_in, numbered, stored_in}
 use Rattle.ir_forms.specs.inside.FlowFits.{FitsFlowSource}
 use Rattle.ir_forms.specs.inside.FlowRegular.{is_among, guards_by, is_silent, nodes_name}
+use Rattle.hyper_narrow.specs.inside.NarrowedMeaning.{SameActs}
 use Rattle.flow_fold.specs.inside.Folds.{with_node}
-use Rattle.flow_fold.specs.inside.Shares.{Twins, copy_of}
+use Rattle.flow_fold.specs.inside.Shares.{Twins, copy_of, may_be_shared}
 use Rattle.flow_fold.specs.inside.Sweeps.{is_idle_form}
 use Rattle.flow_fold.proofs.Places.{all_at, set_here, set_there}
 use Rattle.flow_fold.proofs.Echoes.{obeys_at}
 use Rattle.flow_fold.proofs.Names.{node_names, named_at, or_second}
-use Rattle.flow_fold.proofs.Turned.{Works, SameDeeds, SameOutputs}
+use Rattle.flow_fold.proofs.Turned.{Does, SameOutputs, acts_of}
 use Rattle.flow_fold.proofs.Placing.{Placed}
 use Rattle.flow_fold.proofs.Forwarded.{covers_is, or_none}
-use Rattle.flow_fold.proofs.Swept.{idle_stored, idle_acts, idle_leaves, idle_numbered}
-use Rattle.flow_fold.proofs.Stayed.{calm_if_idle}
+use Rattle.flow_fold.proofs.ActsLeft.{done_at, acts_left}
 use Rattle.flow_fold.proofs.TwinRanks.{copy_ordered}
 
 -- a guard never names a register
@@ -53,6 +55,43 @@ not_silent General o d e = absurd (cc)
 not_silent Immediate o d e = absurd (cc)
 not_silent Load o d e = absurd (cc)
 not_silent Constant o d e = absurd (cc)
+
+-- nor is a node silent that may have a twin
+not_silent_twin : (x : Form) → may_be_shared x ≡ true → is_silent x ≡ true → ⊥
+not_silent_twin Store d e = absurd (cc)
+not_silent_twin Branch d e = absurd (cc)
+not_silent_twin General d e = absurd (cc)
+not_silent_twin Immediate d e = absurd (cc)
+not_silent_twin Load d e = absurd (cc)
+not_silent_twin Constant d e = absurd (cc)
+
+-- it stores nothing
+not_stored : (x : Form) → may_be_shared x ≡ true → (regs : ℕ → ℕ) (h : ℕ → Answer) (n : FlowNode) (q : ℕ)
+    → stored_in x regs h n q ≡ None
+not_stored Store e regs h n q = absurd (cc)
+not_stored Branch e regs h n q = refl
+not_stored General e regs h n q = refl
+not_stored Immediate e regs h n q = refl
+not_stored Load e regs h n q = refl
+not_stored Constant e regs h n q = refl
+
+-- it is no exit
+not_leaving : (x : Form) → may_be_shared x ≡ true → (n : FlowNode) (t : Answer) → leaving_in x n t ≡ []
+not_leaving Branch e n t = absurd (cc)
+not_leaving General e n t = refl
+not_leaving Immediate e n t = refl
+not_leaving Load e n t = refl
+not_leaving Store e n t = refl
+not_leaving Constant e n t = refl
+
+-- and gives no store number a token
+not_numbered : (x : Form) → may_be_shared x ≡ true → (n : FlowNode) (t : Answer) (q : ℕ) → numbered x n t q ≡ 0
+not_numbered Store e n t q = absurd (cc)
+not_numbered Branch e n t q = refl
+not_numbered General e n t q = refl
+not_numbered Immediate e n t q = refl
+not_numbered Load e n t q = refl
+not_numbered Constant e n t q = refl
 
 -- a guard that was met is met again
 twice : (b : Bool) (t : Answer) → if_matched b (if_matched b t) ≡ if_matched b t
@@ -103,7 +142,7 @@ module _ (f : FlowBlock) (i j : ℕ) (a n : FlowNode) (standing : slice_get f.no
   names_none y x e s (inl t) =
       let same : a ≡ x = same_Some a x
       (sym standing ∙ (ap (λ (k : ℕ). slice_get f.nodes k) (sym (place_is y t)) ∙ e)) in
-      absurd (not_silent (form_of n.op) n.op twins.idle
+      absurd (not_silent_twin (form_of n.op) twins.form
       (ap (λ (o : Op). is_silent (form_of o)) (sym twins.op)
       ∙ (ap (λ (z : FlowNode). is_silent (form_of z.op)) same ∙ s)))
 
@@ -164,8 +203,8 @@ module _ (f : FlowBlock) (i j : ℕ) (a n : FlowNode) (standing : slice_get f.no
 
   outputs : (h : ℕ → Answer) → SameOutputs h j n m
   outputs h = record {
-    leaves = sym (idle_leaves n (form_of n.op) twins.idle (h j));
-    numbered = λ q. sym (idle_numbered n (form_of n.op) twins.idle (h j) q);
+    leaves = sym (not_leaving (form_of n.op) twins.form n (h j));
+    numbered = λ q. sym (not_numbered (form_of n.op) twins.form n (h j) q);
   }
 
   copy_acts : (l : Answer) → act_tokens General m l None ≡ []
@@ -173,17 +212,74 @@ module _ (f : FlowBlock) (i j : ℕ) (a n : FlowNode) (standing : slice_get f.no
   copy_acts (Some Null) = refl
   copy_acts (Some (Word w)) = refl
 
-  deeds : (regs : ℕ → ℕ) (h : ℕ → Answer) → SameDeeds regs h n m
-  deeds regs h = record {
-    stored = λ q. sym (idle_stored regs h n (form_of n.op) twins.idle q);
-    acts = ap (λ (l : List Act). cond (met h n.guard) l [])
-        (copy_acts (first regs h (Node i ∷ []))
-        ∙ sym (idle_acts n (form_of n.op) twins.idle (calm_if_idle n.op twins.idle) (first regs h n.left)
-        (first regs h n.right)));
-  }
+  nothing : (b : Bool) → ◌≡◌ {A = List Act} (cond b [] []) []
+  nothing true = refl
+  nothing false = refl
+
+  -- the copy does nothing that can fault
+  idle : (regs : ℕ → ℕ) (h : ℕ → Answer) → acts_of regs h m ≡ []
+  idle regs h = ap (λ (l : List Act). cond (met h n.guard) l []) (copy_acts (first regs h (Node i ∷ [])))
+      ∙ nothing (met h n.guard)
+
+  -- twins do the same on the same operands
+  acts_alike : (x : Form) (l r : Answer) → act_tokens x n l r ≡ act_tokens x a l r
+  acts_alike Load None r = refl
+  acts_alike Load (Some Null) r = refl
+  acts_alike Load (Some (Word u)) r = ap₂ (λ (o : Op) (k : ℤ). Accessed ((u + word k) % 2 ^ 64) (size_of o) ∷ [])
+      (sym twins.op) (sym twins.imm)
+  acts_alike x None r = refl
+  acts_alike x (Some Null) r = refl
+  acts_alike x (Some (Word u)) None = refl
+  acts_alike x (Some (Word u)) (Some Null) = refl
+  acts_alike General (Some (Word u)) (Some (Word v)) = ap (λ (o : Op). cond (divides o) (Divided v ∷ []) [])
+      (sym twins.op)
+  acts_alike Immediate (Some (Word u)) (Some (Word v)) = ap (λ (o : Op). cond (divides o) (Divided v ∷ []) [])
+      (sym twins.op)
+  acts_alike Branch (Some (Word u)) (Some (Word v)) = ap (λ (o : Op). cond (divides o) (Divided v ∷ []) [])
+      (sym twins.op)
+  acts_alike Constant (Some (Word u)) (Some (Word v)) = ap (λ (o : Op). cond (divides o) (Divided v ∷ []) [])
+      (sym twins.op)
+  acts_alike Store (Some (Word u)) (Some (Word v)) =
+      ap₂ (λ (o : Op) (k : ℤ). Accessed ((u + word k) % 2 ^ 64) (size_of o) ∷ []) (sym twins.op) (sym twins.imm)
+
+  -- what the node did its twin does
+  twin_does : (regs : ℕ → ℕ) (h : ℕ → Answer) (x : Act) → Contains (acts_of regs h n) x
+      → Contains (acts_of regs h a) x
+  twin_does regs h x c = go (met h n.guard) refl c
+    where
+      its_tokens : act_tokens (form_of n.op) n (first regs h n.left) (first regs h n.right)
+          ≡ act_tokens (form_of a.op) a (first regs h a.left) (first regs h a.right)
+      its_tokens =
+          acts_alike (form_of n.op) (first regs h n.left) (first regs h n.right)
+          ∙ (ap₂ (λ (ls rs : List FlowSource). act_tokens (form_of n.op) a (first regs h ls) (first regs h rs))
+          (sym twins.left) (sym twins.right)
+          ∙ ap (λ (o : Op). act_tokens (form_of o) a (first regs h a.left) (first regs h a.right)) (sym twins.op))
+
+      met_too : met h n.guard ≡ true → (a.guard ≡ None) ⊎ (a.guard ≡ n.guard) → met h a.guard ≡ true
+      met_too d (inl q) = ap (met h) q
+      met_too d (inr q) = ap (met h) q ∙ d
+
+      its : met h n.guard ≡ true
+          → act_tokens (form_of a.op) a (first regs h a.left) (first regs h a.right) ≡ acts_of regs h a
+      its d = ap (λ (b : Bool). cond b (act_tokens (form_of a.op) a (first regs h a.left) (first regs h a.right)) [])
+          (sym (met_too d (covers_is a.guard n.guard twins.guard)))
+
+      go : (b : Bool) → met h n.guard ≡ b
+          → Contains (cond b (act_tokens (form_of n.op) n (first regs h n.left) (first regs h n.right)) []) x
+          → Contains (acts_of regs h a) x
+      go true d p = subst (λ (l : List Act). Contains l x) (its_tokens ∙ its d) p
+      go false d p = let l : p.0 < 0 = p.1 in absurd (omega (arith, l))
+
+  -- so the block does the same
+  acts_same : (regs : ℕ → ℕ) (h : ℕ → Answer)
+      → SameActs (fired regs h (with_node f j m).nodes) (fired regs h f.nodes)
+  acts_same regs h =
+      acts_left regs h n m (idle regs h) f.nodes j there
+      (λ x c. done_at regs h (with_node f j m).nodes i a (set_there f.nodes j i m apart ∙ standing) x
+      (twin_does regs h x c))
 
   -- twins compute the same, whatever a load would see
-  computes_alike : (z : Form) → is_idle_form z n.op ≡ true → (s t : ℕ → ℕ) (x y : ℕ)
+  computes_alike : (z : Form) → may_be_shared z ≡ true → (s t : ℕ → ℕ) (x y : ℕ)
       → form_computes z (inst_of a) s x y ≡ form_computes z (inst_of n) t x y
   computes_alike General e s t x y = ap (λ (o : Op). alu_of o x y) twins.op
   computes_alike Immediate e s t x y = ap₂ (λ (o : Op) (k : ℤ). alu_of o x (word k)) twins.op twins.imm
@@ -200,10 +296,10 @@ module _ (f : FlowBlock) (i j : ℕ) (a n : FlowNode) (standing : slice_get f.no
     meant_alike : meant st mem i a ≡ meant st mem j n
     meant_alike = fun_ext (λ (x : ℕ). fun_ext (λ (y : ℕ).
         ap (λ (o : Op). form_computes (form_of o) (inst_of a) (seen a) x y) twins.op
-        ∙ computes_alike (form_of n.op) twins.idle (seen a) (seen n) x y))
+        ∙ computes_alike (form_of n.op) twins.form (seen a) (seen n) x y))
 
   -- and does what it did
-  pub copy_works : Works f j n m
+  pub copy_works : Does f j n m
   copy_works = record {
     path = λ regs c h o. record { computes = c i a; is = given regs c h o };
     tidy = λ regs c h o t. record {
@@ -211,7 +307,8 @@ module _ (f : FlowBlock) (i j : ℕ) (a n : FlowNode) (standing : slice_get f.no
       operands = (one_at_most (h i), omega arith);
     };
     outputs = outputs;
-    deeds = λ regs mem h o. deeds regs h;
+    stored = λ regs mem h o q. sym (not_stored (form_of n.op) twins.form regs h n q);
+    acts = λ regs mem h o. acts_same regs h;
     start = λ regs mem h o.
         let st = stores regs h (with_node f j m).nodes in
         given regs (meant st mem) h o ∙ ap (λ (w : ℕ → ℕ → ℕ). gives regs h w n) (meant_alike st mem);

@@ -17,7 +17,7 @@ use Rattle.ir_forms.specs.declared.flow.FlowNode.{FlowNode}
 use Rattle.ir_forms.specs.declared.flow.FlowBlock.{FlowBlock}
 use Rattle.ir_forms.specs.inside.FlowFits.{RisesFrom, RisesFromGuard, Rises, HasOrder}
 use Rattle.flow_fold.specs.inside.Copies.{covers}
-use Rattle.flow_fold.specs.inside.Shares.{Twins, copy_of}
+use Rattle.flow_fold.specs.inside.Shares.{Twins, copy_of, may_be_shared}
 use Rattle.flow_fold.specs.inside.Sweeps.{is_idle, is_idle_form}
 use Rattle.flow_fold.proofs.Places.{all_at, all_of}
 use Rattle.flow_fold.proofs.Forwarded.{covers_is}
@@ -48,6 +48,10 @@ pub no_load : (o : Op) → is_idle o ≡ true → form_of o ≡ Load → ⊥
 no_load o e l =
     let z : is_idle_form Load o ≡ true = ap (λ (x : Form). is_idle_form x o) (sym l) ∙ e in
     absurd (false≢true z)
+
+-- a node that may have a twin does not load
+unshared : (x : Form) → may_be_shared x ≡ true → x ≡ Load → ⊥
+unshared x e l = absurd (false≢true (ap may_be_shared (sym l) ∙ e))
 
 module _ (f : FlowBlock) (i j : ℕ) (a n : FlowNode) (standing : slice_get f.nodes i ≡ Some a)
     (there : slice_get f.nodes j ≡ Some n) (apart : i ≢ j) (calm : form_of a.op ≡ Load → ⊥) (rank : ℕ → ℕ)
@@ -192,5 +196,5 @@ module _ (f : FlowBlock) (i j : ℕ) (a n : FlowNode) (standing : slice_get f.no
   pub copy_ordered : Ordered f j (copy_of i n)
   copy_ordered =
       behind_ordered f i j a n standing there apart
-      (λ e. no_load n.op twins.idle (ap form_of (sym twins.op) ∙ e)) rank order twin_rises (copy_of i n) refl refl
-      refl
+      (λ e. unshared (form_of n.op) twins.form (ap form_of (sym twins.op) ∙ e)) rank order twin_rises (copy_of i n)
+      refl refl refl

@@ -8,8 +8,8 @@ ghost use Rattle.flow_fold.specs.inside.SweepsAll as sweep;
 use ir_forms::{FlowBlock, FlowNode, FlowSource, FlowWrite, Guard};
 use trips_isa::{Form, Op, form_of};
 
-// Whether an operation divides.
-fn is_division(op: Op) -> bool
+/// Whether an operation divides.
+pub fn is_division(op: Op) -> bool
     ensures { result ≡ divides op }
 {
     match op {

@@ -4,7 +4,7 @@ ghost use Rattle.std.specs.Prelude.{◌≡◌, true, IfOk};
 ghost use Rattle.flow_fold.specs.inside.Replaces.{Replaces};
 ghost use Rattle.flow_fold.specs.inside.Shares as shares;
 
-use crate::checking::is_idle;
+use crate::checking::is_division;
 use crate::copies::covers;
 use crate::folding::{Rule, turned_at, with_node};
 use crate::uses::{Uses, feeds_several, uses_of};
@@ -45,6 +45,16 @@ pub fn same_sources(a: &[FlowSource], b: &[FlowSource]) -> bool
     }
 }
 
+// Whether what a node of a form gives hangs on its operands' words alone.
+fn may_be_shared(form: Form) -> bool
+    ensures { result ≡ shares.may_be_shared form }
+{
+    match form {
+        Form::General | Form::Immediate | Form::Constant => true,
+        Form::Load | Form::Store | Form::Branch => false,
+    }
+}
+
 // Whether node a does the same with the same sources as node n, and fires wherever n does.
 fn are_twins(a: &FlowNode, n: &FlowNode) -> bool
     ensures { result ≡ true → shares.Twins a.now n.now }
@@ -58,7 +68,7 @@ fn are_twins(a: &FlowNode, n: &FlowNode) -> bool
     if !covers(a.guard, n.guard) {
         return false;
     }
-    if !is_idle(n.op) {
+    if !may_be_shared(form_of(n.op)) {
         return false;
     }
     if !same_sources(a.left.as_slice(), n.left.as_slice()) {
@@ -232,14 +242,15 @@ fn goes_as_copy(block: &FlowBlock, j: u32, its: Option<Guard>) -> bool {
     true
 }
 
-// The node that node j might copy: one before it, where then nothing takes node j any more.
+// The node that node j might copy: one before it, where then nothing takes node j any more, or a copy is less than a
+// division.
 fn twin_of(uses: &Uses, block: &FlowBlock, j: u32) -> Option<u32> {
     let n = block.nodes.get(j as usize)?;
-    if n.left.len() == 0 || !is_idle(n.op) {
+    if n.left.len() == 0 || !may_be_shared(form_of(n.op)) {
         return None;
     }
     let i = alike_before(uses, block, j, n)?;
-    if goes_as_copy(block, j, n.guard) {
+    if is_division(n.op) || goes_as_copy(block, j, n.guard) {
         Some(i)
     } else {
         None
@@ -314,8 +325,8 @@ fn shared_at(alloc: Global, block: FlowBlock, j: u32, uses: &Uses) -> Result<Flo
     }
 }
 
-/// The block whose nodes that do what an earlier one does are copies, which nothing takes; the nodes keep their
-/// numbers.
+/// The block whose nodes that do what an earlier one does are copies, which nothing takes but what divided; the nodes
+/// keep their numbers.
 #[tactic(auto, using(crate::proofs::Following::stands_on, crate::proofs::Following::stands_for_itself))]
 pub fn share(alloc: Global, block: FlowBlock) -> Result<FlowBlock, Memory>
     ensures { IfOk result (λ g. Replaces block g) }

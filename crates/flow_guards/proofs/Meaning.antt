@@ -17,6 +17,7 @@ use Rattle.ir_forms.specs.inside.HyperRuns.{Layout, after_items}
 use Rattle.hyper_narrow.specs.inside.NarrowedCode.{Narrowed}
 use Rattle.hyper_narrow.specs.inside.NarrowedMeaning.{MeansNarrowed}
 use Rattle.hyper_narrow.specs.inside.NarrowedRuns.{exit_from}
+use Rattle.hyper_narrow.proofs.ActsAlike.{acts_by}
 use Rattle.flow_guards.specs.inside.Guards.{guards_of}
 use Rattle.flow_guards.specs.inside.Unguards.{Loses, may_lose, loosened, all_loosened, unguarded, Unguards}
 use Rattle.flow_guards.proofs.Paths.{exits_same, written_same, stores_same, fired_same}
@@ -85,10 +86,11 @@ means_after loses f may at b means m h w o =
       exit = subst (TakesExit (exit_from b.block m) (after_items b.block.items m))
           (exits_same (guards_of f.nodes) loses h 0 f.nodes (nodes loses f may)) c.exit;
       acts =
-          sym (fired_same (guards_of f.nodes) loses h m.registers
+          acts_by _ _ _
+          (sym (fired_same (guards_of f.nodes) loses h m.registers
           (sure loses f may m.registers (words loses f may m.registers m.memory h o) h o) 0 f.nodes
-          (nodes loses f may))
-          ∙ c.acts;
+          (nodes loses f may)))
+          c.acts;
     }
 
 -- a block whose nodes lose guards that nobody needs means what it meant

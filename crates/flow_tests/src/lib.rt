@@ -12,6 +12,8 @@ mod fold_tests;
 #[cfg(test)]
 mod making;
 #[cfg(test)]
+mod quotient_tests;
+#[cfg(test)]
 mod share_tests;
 #[cfg(test)]
 mod shown;

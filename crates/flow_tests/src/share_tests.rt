@@ -88,14 +88,73 @@ const UNDER: &[Row] = &[
     (Op::Sd, 0, ON, ONE, TWO, Op::Sd, ONE),
 ];
 
-/// A load and a division can fault, and a guard would still take the copy.
+/// A store may stand between two loads; what is divided twice is divided once.
 const FAULTS: &[Row] = &[
     (Op::Ld, 0, None, READ, NO, Op::Ld, READ),
     (Op::Ld, 0, None, READ, NO, Op::Ld, READ),
     (Op::Divu, 0, None, READ, READ, Op::Divu, READ),
-    (Op::Divu, 0, None, READ, READ, Op::Divu, READ),
+    (Op::Divu, 0, None, READ, READ, Op::Mov, TWO),
     (Op::Sd, 0, None, ZERO, TWO, Op::Sd, ZERO),
     (Op::Sd, 0, None, ONE, THREE, Op::Sd, ONE),
+];
+
+/// A division copies an earlier one under its own guard or under none, also where something guarded otherwise takes
+/// the copy.
+const QUOTIENTS: &[Row] = &[
+    (Op::Tnei, 0, None, READ, NO, Op::Tnei, READ),
+    (Op::Divs, 0, ON, READ, READ, Op::Divs, READ),
+    (Op::Divs, 0, ON, READ, READ, Op::Mov, ONE),
+    (Op::Divu, 0, None, READ, ZERO, Op::Divu, READ),
+    (Op::Divu, 0, OFF, READ, ZERO, Op::Mov, THREE),
+    (Op::Sd, 0, ON, TWO, ONE, Op::Sd, ONE),
+    (
+        Op::Sd,
+        0,
+        None,
+        &[FlowSource::Node(2), FlowSource::Node(4)],
+        THREE,
+        Op::Sd,
+        &[FlowSource::Node(2), FlowSource::Node(4)],
+    ),
+];
+
+/// Not under another guard, nor where the earlier one alone is guarded; not by another number, of another one, or with
+/// another sign.
+const DIVISIONS: &[Row] = &[
+    (Op::Tnei, 0, None, READ, NO, Op::Tnei, READ),
+    (Op::Divs, 0, ON, READ, READ, Op::Divs, READ),
+    (Op::Divs, 0, OFF, READ, READ, Op::Divs, READ),
+    (Op::Divs, 0, None, READ, READ, Op::Divs, READ),
+    (Op::Divs, 0, ON, READ, ZERO, Op::Divs, READ),
+    (Op::Divs, 0, ON, ZERO, READ, Op::Divs, ZERO),
+    (Op::Divu, 0, ON, READ, READ, Op::Divu, READ),
+    (
+        Op::Sd,
+        0,
+        None,
+        &[FlowSource::Node(1), FlowSource::Node(2)],
+        THREE,
+        Op::Sd,
+        &[FlowSource::Node(1), FlowSource::Node(2)],
+    ),
+    (
+        Op::Sd,
+        0,
+        ON,
+        &[FlowSource::Node(4)],
+        &[FlowSource::Node(5)],
+        Op::Sd,
+        &[FlowSource::Node(4)],
+    ),
+    (
+        Op::Sd,
+        0,
+        ON,
+        &[FlowSource::Node(6)],
+        THREE,
+        Op::Sd,
+        &[FlowSource::Node(6)],
+    ),
 ];
 
 fn block(alloc: Global, rows: &[Row]) -> Result<FlowBlock, Fail> {
@@ -157,5 +216,7 @@ fn twins_become_copies(rt: HostRuntime) -> Result<(), Fail> {
     assert_shares(&rt, alloc, "apart", APART)?;
     assert_shares(&rt, alloc, "under", UNDER)?;
     assert_shares(&rt, alloc, "faults", FAULTS)?;
+    assert_shares(&rt, alloc, "quotients", QUOTIENTS)?;
+    assert_shares(&rt, alloc, "divisions", DIVISIONS)?;
     Ok(())
 }

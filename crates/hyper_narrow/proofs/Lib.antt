@@ -1,3 +1,4 @@
+pub mod ActsAlike
 pub mod BareBlocks
 pub mod WholeRuns
 pub mod WordsKept

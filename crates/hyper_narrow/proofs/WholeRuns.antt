@@ -4,12 +4,14 @@ use Rattle.std.proofs.Common.{◌∙◌}
 use Rattle.std.proofs.Math.Path.{fun_ext}
 use Rattle.ir_forms.specs.declared.hyper.Exit.{Exit}
 use Rattle.ir_forms.specs.declared.hyper.Exit.TheVariants as exit
+use Rattle.ir_forms.specs.inside.FlowRuns.{fired}
 use Rattle.ir_forms.specs.inside.HyperCode.{Block}
 use Rattle.ir_forms.specs.inside.HyperRuns.{Machine, Layout, Standing, after_items, acts, leaving}
 use Rattle.ir_forms.specs.inside.HyperRuns.{next_label, system, if_clean, block_at, leave, run, start, hyper_run}
 use Rattle.hyper_narrow.specs.inside.NarrowedCode.{Narrowed, whole}
 use Rattle.hyper_narrow.specs.inside.NarrowedRuns.{narrowed_at, go_on, run_narrowed, narrowed_run, exit_from}
 use Rattle.hyper_narrow.specs.inside.Laws.{WholeProgramsRunSo, WholeBlocksMeanSo}
+use Rattle.hyper_narrow.proofs.ActsAlike.{equal_acts}
 
 -- the block of a label
 whole_at : (P : List Block) (l : ℕ) → narrowed_at (map whole P) l ≡ whole (block_at P l)
@@ -48,8 +50,21 @@ whole_runs check at P bytes input n =
     ap (λ (c : Narrowed). run_narrowed check at (map whole P) n c (start bytes input)) (whole_at P 0)
     ∙ runs_so check at P n (block_at P 0) (start bytes input)
 
--- a flow block that means the whole block means the block
+-- a flow block that means the whole block, and does what it does in order, means the block
 pub whole_means : WholeBlocksMeanSo
-whole_means at b f means m h words o =
-    let c = means m h words o in
-    record { registers = c.registers; memory = c.memory; exit = c.exit; acts = c.acts }
+whole_means at b f = (
+  λ w m h words o.
+      let c = w.0 m h words o in
+      record { registers = c.registers; memory = c.memory; exit = c.exit; acts = w.1 m h words o },
+  λ means. (
+    λ m h words o.
+        let c = means m h words o in
+        record {
+          registers = c.registers;
+          memory = c.memory;
+          exit = c.exit;
+          acts = equal_acts (fired m.registers h f.nodes) (acts b.items m) c.acts;
+        },
+    λ m h words o. (means m h words o).acts,
+  ),
+)

@@ -13,6 +13,7 @@ use Rattle.ir_forms.specs.declared.flow.FlowBlock.{FlowBlock}
 use Rattle.ir_forms.specs.inside.HyperRuns.{Layout}
 use Rattle.hyper_narrow.specs.inside.NarrowedCode.{Narrowed}
 use Rattle.hyper_narrow.specs.inside.NarrowedMeaning.{MeansNarrowed}
+use Rattle.hyper_narrow.proofs.ActsAlike.{acts_by}
 use Rattle.ir_forms.specs.inside.FlowRuns.{guard_token, Computes, Obeys, OnPath, count}
 use Rattle.ir_forms.specs.inside.FlowFits.{FitsFlow, FitsWrite, IsTidy, TakesAtMostOne, IsComplete, AtMostOne}
 use Rattle.ir_forms.specs.inside.FlowFits.{in_mask}
@@ -203,7 +204,7 @@ module _ (at : Layout) (x : Narrowed) (b d : FlowBlock) (keep : Keeps b d)
         registers = λ r. k.registers r ∙ v.registers r;
         memory = k.memory ∙ v.memory;
         exit = record { branch = v.exit.branch; only = k.exit ∙ v.exit.only; is = v.exit.is };
-        acts = k.acts ∙ v.acts;
+        acts = acts_by _ _ _ k.acts v.acts;
       }
 
 -- a completed block means the narrowed block that the block meant

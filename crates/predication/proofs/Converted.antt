@@ -45,6 +45,7 @@ use Rattle.ir_forms.specs.inside.Agreement.{IsExit}
 use Rattle.hyper_narrow.specs.declared.narrowed.Lasting.{Lasting}
 use Rattle.hyper_narrow.specs.inside.NarrowedCode.{Narrowed, outlasts}
 use Rattle.hyper_narrow.specs.inside.NarrowedMeaning.{MeansNarrowed}
+use Rattle.hyper_narrow.proofs.ActsAlike.{equal_acts}
 use Rattle.ir_forms.specs.inside.HyperFits.{FitsHyper}
 use Rattle.predication.specs.inside.Laws.{ConvertsPaths, HasRoom}
 use Rattle.predication.proofs.WordLemmas.{words_of}
@@ -329,7 +330,7 @@ plain_meaning d t room at plain m h ws o =
         only = block_exits regs h b t ∙ hs.leaving.only;
         is = subst (λ (v : Machine). IsExit (exit_of b.tail v.registers) v hs.leaving.exit) z.same w.is;
       };
-      acts = block_fired regs h b ∙ z.acts;
+      acts = equal_acts _ _ (block_fired regs h b ∙ z.acts);
     }
   where
     outside : {P : Type 0} (d : Bool) → (d ≡ true → P) → (d ≡ false → P) → P

@@ -7,6 +7,7 @@ use Rattle.ir_forms.specs.inside.Agreement.{TakesExit}
 use Rattle.ir_forms.specs.inside.FlowRuns.{AtStart, written, stored_all, exits, fired}
 use Rattle.ir_forms.specs.inside.HyperRuns.{Machine}
 use Rattle.ir_forms.specs.inside.HyperWords.{HasWords}
+use Rattle.hyper_narrow.specs.inside.NarrowedMeaning.{SameActs}
 
 -- a table h of g, from a machine, comes to what some table of f comes to
 pub record ComesTo (f g : FlowBlock) (m : Machine) (h : ℕ → Answer) : Type 0 where
@@ -18,7 +19,7 @@ pub record ComesTo (f g : FlowBlock) (m : Machine) (h : ℕ → Answer) : Type 0
   -- whatever exit it is
   pub exit : (e : Exit) (end : Machine) → TakesExit e end (exits old 0 f.nodes)
       → TakesExit e end (exits h 0 g.nodes)
-  pub acts : fired m.registers h g.nodes ≡ fired m.registers old f.nodes
+  pub acts : SameActs (fired m.registers h g.nodes) (fired m.registers old f.nodes)
 
 -- each table of g does so, from every machine that has words
 abbrev pub FollowsTables : FlowBlock → FlowBlock → Type 0

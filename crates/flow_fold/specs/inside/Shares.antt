@@ -1,22 +1,33 @@
 -- A step of the pass *share*: a node becomes a copy of another that gives the same token wherever it fires.
-use Rattle.std.specs.Prelude.{◌≡◌, ◌≢◌, ℕ, pos, true, [], ◌∷◌, Some, slice_get}
+use Rattle.std.specs.Prelude.{◌≡◌, ◌≢◌, ℕ, pos, Bool, true, false, [], ◌∷◌, Some, slice_get}
 use Rattle.trips_isa.specs.declared.op.Op.TheVariants.{Mov}
+use Rattle.trips_isa.specs.declared.form.Form.{Form}
+use Rattle.trips_isa.specs.declared.form.Form.TheVariants.{General, Immediate, Load, Store, Branch}
+use Rattle.trips_isa.specs.declared.form.Form.TheVariants.{Constant}
+use Rattle.trips_isa.specs.Forms.{form_of}
 use Rattle.ir_forms.specs.declared.flow.FlowSource.TheVariants.{Node}
 use Rattle.ir_forms.specs.declared.flow.FlowNode.{FlowNode}
 use Rattle.ir_forms.specs.declared.flow.FlowBlock.{FlowBlock}
 use Rattle.flow_fold.specs.inside.Copies.{covers}
 use Rattle.flow_fold.specs.inside.Folds.{with_node}
-use Rattle.flow_fold.specs.inside.Sweeps.{is_idle}
 
--- node a does the same with the same sources as node n, and fires wherever n does; neither stores, leaves or can
--- fault
+-- whether what a node of a form gives hangs on its operands' words alone: it may divide, and so fault
+abbrev pub may_be_shared : Form → Bool
+may_be_shared General = true
+may_be_shared Immediate = true
+may_be_shared Constant = true
+may_be_shared Load = false
+may_be_shared Store = false
+may_be_shared Branch = false
+
+-- node a does the same with the same sources as node n, and fires wherever n does; neither loads, stores or leaves
 pub record Twins (a n : FlowNode) : Type 0 where
   pub op : a.op ≡ n.op
   pub imm : a.imm ≡ n.imm
   pub guard : covers a.guard n.guard ≡ true
   pub left : a.left ≡ n.left
   pub right : a.right ≡ n.right
-  pub idle : is_idle n.op ≡ true
+  pub form : may_be_shared (form_of n.op) ≡ true
 
 -- a node that copies node i wherever node n fires
 abbrev pub copy_of : ℕ → FlowNode → FlowNode
