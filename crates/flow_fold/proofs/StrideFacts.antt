@@ -14,7 +14,8 @@ use Rattle.ir_forms.specs.declared.flow.FlowSource.TheVariants.{Node}
 use Rattle.ir_forms.specs.declared.flow.FlowNode.{FlowNode}
 use Rattle.flow_fold.specs.inside.Immediates.{is_small}
 use Rattle.flow_fold.specs.inside.Replaces.{Immediates, with_immediate, LeavesOwn}
-use Rattle.flow_fold.specs.inside.Strides.{Times, by_2, by_4, by_8, by_itself, Multiple, multiple, Ahead, scaled, at_left, at_right}
+use Rattle.flow_fold.specs.inside.Strides.{Times, by_2, by_4, by_8, by_itself, Multiple, multiple}
+use Rattle.flow_fold.specs.inside.Strides.{Ahead, scaled, at_left, at_right}
 use Rattle.flow_fold.specs.inside.Sweeps.{is_idle}
 use Rattle.flow_fold.proofs.ConstantFacts.{small_own}
 use Rattle.flow_fold.proofs.OffsetFacts.{three, wraps}

@@ -13,6 +13,7 @@ mod checking;
 mod computed;
 mod constants;
 mod copies;
+mod differences;
 mod drawing;
 mod folding;
 mod joining;

@@ -3,7 +3,7 @@ use Rattle.ir_forms.specs.declared.flow.FlowSource.TheVariants.{Node}
 use Rattle.flow_fold.specs.inside.Strides.{Multiple, scaled}
 use Rattle.flow_fold.proofs.Rounds.{small_round}
 use Rattle.flow_fold.proofs.StrideFacts.{multiple_small}
-use Rattle.flow_fold.proofs.striding.scaled_ahead.Goals as goal
+use Rattle.flow_fold.proofs.differences.scaled_ahead.Goals as goal
 
 pub returns-in-Some : goal.returns-in-Some
 returns-in-Some c =

@@ -1,7 +1,7 @@
 use Rattle.std.proofs.Common.{◌≡◌, to_z, of_z, w32}
 use Rattle.std.proofs.lemmas.Int.{to_z-of_z}
 use Rattle.flow_fold.proofs.Rounds.{product_round}
-use Rattle.flow_fold.proofs.striding.small_product.Goals as goal
+use Rattle.flow_fold.proofs.differences.small_product.Goals as goal
 
 pub returns : goal.returns
 returns c =

@@ -6,7 +6,7 @@ use Rattle.flow_fold.specs.inside.Sums.{adds}
 use Rattle.flow_fold.proofs.Rounds.{small_round}
 use Rattle.flow_fold.proofs.StrideFacts.{adds_small, times_small, multiple_small}
 use Rattle.flow_fold.proofs.SumFacts.{adds_is}
-use Rattle.flow_fold.proofs.striding.multiple_of.Goals as goal
+use Rattle.flow_fold.proofs.differences.multiple_of.Goals as goal
 
 pub returns-in-Some-small_product : goal.returns-in-Some-small_product
 returns-in-Some-small_product c =

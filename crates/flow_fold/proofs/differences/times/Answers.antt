@@ -4,7 +4,7 @@ use borrow.Author.Differences.{up, down}
 use Rattle.flow_fold.specs.inside.Immediates.{is_small}
 use Rattle.flow_fold.specs.inside.Strides.{by_itself}
 use Rattle.flow_fold.proofs.Rounds.{not_below}
-use Rattle.flow_fold.proofs.striding.times.Goals as goal
+use Rattle.flow_fold.proofs.differences.times.Goals as goal
 
 pub returns-then-imm-ge0 : goal.returns-then-imm-ge0
 returns-then-imm-ge0 c =
