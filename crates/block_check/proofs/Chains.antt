@@ -13,14 +13,14 @@ use Rattle.block_check.specs.inside.Leads.{at_slot, leads_at, FalseFrom, led_fro
 use Rattle.block_cases.proofs.Steady.{deepest_is, to_left}
 use Rattle.block_check.proofs.Rounds.{slot_fits}
 
-or_shift : (a b c : Bool) → (a || (b || c)) ≡ ((a || b) || c)
+pub or_shift : (a b c : Bool) → (a || (b || c)) ≡ ((a || b) || c)
 or_shift true b c = refl
 or_shift false b c = refl
 
 or_nothing : (a : Bool) → a ≡ (false || a)
 or_nothing a = refl
 
-or_end : (a : Bool) → (a || false) ≡ a
+pub or_end : (a : Bool) → (a || false) ≡ a
 or_end true = refl
 or_end false = refl
 

@@ -22,3 +22,4 @@ pub mod Cutting
 pub mod CutFaults
 pub mod UsedSlots
 pub mod Seeing
+pub mod Naming

@@ -14,6 +14,7 @@ mod chooser;
 mod fault;
 mod judge;
 mod law;
+mod marks;
 mod nodes;
 mod numbers;
 mod order;

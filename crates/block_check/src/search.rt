@@ -1,20 +1,22 @@
 //! The search over the cases.
 ghost use Rattle.std.specs.Prelude.{◌≡◌, ◌<◌, ◌≤◌, ◌+◌, ◌||◌, ◌&&◌, ◌==◌, ℕ, List, Bool, [], ◌∷◌};
-ghost use Rattle.std.specs.Prelude.{length, slice_index, slice_get, true, nat_lt, min, drop, All};
-ghost use Rattle.block_cases.specs.Nodes.{IsRanked, targets, hits, one_if};
+ghost use Rattle.std.specs.Prelude.{length, slice_index, slice_get, true, take, drop, All};
+ghost use Rattle.block_cases.specs.Nodes.{IsRanked, targets, hits};
 ghost use Rattle.block_cases.specs.Choosers.{is_chooser};
 ghost use Rattle.block_cases.specs.Cases.{bit, token, tokens, present};
 ghost use Rattle.block_check.specs.inside.PartOrder.{IsOrdered};
 ghost use Rattle.block_check.specs.inside.Pass.{InPlace, AllInPlace, Spare, AbsentFrom, tok_at};
 ghost use Rattle.block_check.specs.inside.Found.{Explored, Added, Choosing, others};
+ghost use Rattle.block_check.specs.inside.Named.{Freed};
 ghost use Rattle.trips_isa.specs.Limits.{most_nodes};
 
 use crate::chooser::find_choosers;
+use crate::marks::{mark, mark_free};
 use crate::pass::run;
 use block_cases::CaseToken;
 use trips_isa::{Node, PLACES};
 
-fn is_present(token: CaseToken) -> bool
+pub(crate) fn is_present(token: CaseToken) -> bool
     ensures { result ≡ present token }
 {
     match token {
@@ -55,83 +57,6 @@ pub(crate) fn count_tokens(nodes: &[Node], used: usize, toks: &[CaseToken], coun
     }
 }
 
-// One more, where two and more are not told apart.
-fn one_more(count: u8) -> u8
-    requires { count ≤ 2 }
-    ensures { result ≡ min 2 (count + 1) }
-{
-    if count < 2 { count + 1 } else { 2 }
-}
-
-// A token at a place is seen.
-fn see_at(seen: &mut [u8], place: u16)
-    requires size { length seen.old ≡ 768 }
-    requires place { place < 768 }
-    requires low { (q : ℕ) → q < 768 → slice_index seen.old q ≤ 2 }
-    ensures { (q : ℕ) → q < 768 →
-        slice_index seen.new q ≡ min 2 (slice_index seen.old q + one_if (place == q)) }
-{
-    let place = place as usize;
-    seen[place] = one_more(seen[place]);
-}
-
-// The tokens that a node gives are seen.
-fn see_node(seen: &mut [u8], node: Node)
-    requires size { length seen.old ≡ 768 }
-    requires in_place { InPlace node }
-    requires low { (q : ℕ) → q < 768 → slice_index seen.old q ≤ 2 }
-    ensures { (q : ℕ) → q < 768 →
-        slice_index seen.new q ≡ min 2 (slice_index seen.old q + hits (targets node) q) }
-{
-    see_at(seen, node.first);
-    see_at(seen, node.second);
-}
-
-// Whether each place gets no token, one, or more.
-fn see_tokens(nodes: &[Node], used: usize, toks: &[CaseToken], seen: &mut [u8])
-    requires in_place { AllInPlace nodes.now }
-    requires used { used ≤ length nodes.now }
-    requires toks { length toks.now ≡ length nodes.now }
-    requires rest { AbsentFrom used toks.now }
-    requires size { length seen.old ≡ 768 }
-    ensures two { (q : ℕ) → q < 768 →
-        nat_lt 1 (slice_index seen.new q) ≡ nat_lt 1 (tokens nodes.now (tok_at toks.now) q) }
-    ensures none { (q : ℕ) → q < 768 →
-        (slice_index seen.new q == 0) ≡ (tokens nodes.now (tok_at toks.now) q == 0) }
-{
-    for count in seen.iter_mut() {
-        *count = 0;
-    }
-    for x in 0..used {
-        if is_present(toks[x]) {
-            see_node(seen, nodes[x]);
-        }
-    }
-}
-
-/// Marks the places that get two tokens, and those that get none.
-fn mark(nodes: &[Node], used: usize, toks: &[CaseToken], two: &mut [bool], none: &mut [bool])
-    requires size { length nodes.now ≤ most_nodes }
-    requires in_place { AllInPlace nodes.now }
-    requires used { used ≤ length nodes.now }
-    requires toks { length toks.now ≡ length nodes.now }
-    requires rest { AbsentFrom used toks.now }
-    requires two { length two.old ≡ PLACES }
-    requires none { length none.old ≡ PLACES }
-    ensures two { (q : ℕ) → q < PLACES →
-        bit two.new q ≡ (bit two.old q || nat_lt 1 (tokens nodes.now (tok_at toks.now) q)) }
-    ensures none { (q : ℕ) → q < PLACES →
-        bit none.new q ≡ (bit none.old q || (tokens nodes.now (tok_at toks.now) q == 0)) }
-{
-    let mut table = [0u8; 768];
-    let seen = table.as_mut_slice();
-    see_tokens(nodes, used, toks, seen);
-    for q in 0..PLACES as usize {
-        two[q] = two[q] || seen[q] > 1;
-        none[q] = none[q] || seen[q] == 0;
-    }
-}
-
 /// Visits a case.
 fn visit(
     nodes: &[Node],
@@ -153,7 +78,10 @@ fn visit(
     requires count { count ≤ 256 }
     requires two { length two.old ≡ PLACES }
     requires none { length none.old ≡ PLACES }
+    requires free { Freed (take used nodes.now) none.old }
     ensures toks { (x : ℕ) → tok_at toks.new x ≡ token nodes.now bits.now x }
+    ensures rest { AbsentFrom used toks.new }
+    ensures free { Freed (take used nodes.now) none.new }
     ensures count { result ≤ 257 }
     ensures added { Added nodes.now (bits.now ∷ []) count result two.old two.new none.old none.new }
 {
@@ -217,7 +145,9 @@ fn search(
     requires count { count ≤ 257 }
     requires two { length two.old ≡ PLACES }
     requires none { length none.old ≡ PLACES }
+    requires free { Freed (take used nodes.now) none.old }
     ensures bits { bits.new ≡ bits.old }
+    ensures free { Freed (take used nodes.now) none.new }
     ensures count { result ≤ 257 }
     ensures added { Added nodes.now (others nodes.now (drop from order.now) bits.old) count result
         two.old two.new none.old none.new }
@@ -293,9 +223,7 @@ fn explore_from(
     for mark in two.iter_mut() {
         *mark = false;
     }
-    for mark in none.iter_mut() {
-        *mark = false;
-    }
+    mark_free(nodes, used, none);
     for bit in bits.iter_mut() {
         *bit = false;
     }

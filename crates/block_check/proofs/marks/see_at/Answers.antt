@@ -1,6 +1,6 @@
 use Rattle.std.proofs.Common.{◌<◌, length, arith}
 use Rattle.block_check.proofs.Seeing.{seen_at}
-use Rattle.block_check.proofs.search.see_at.Goals as goal
+use Rattle.block_check.proofs.marks.see_at.Goals as goal
 
 pub returns : goal.returns
 returns c q lt =

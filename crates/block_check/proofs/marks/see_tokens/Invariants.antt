@@ -1,7 +1,7 @@
 use Rattle.std.proofs.Common.{◌≡◌, ◌<◌, ℕ, take, get_or, min}
 use Rattle.block_cases.specs.Cases.{tokens}
 use Rattle.block_check.specs.inside.Pass.{tok_at}
-use Rattle.block_check.proofs.search.see_tokens.Given as goal
+use Rattle.block_check.proofs.marks.see_tokens.Given as goal
 
 abbrev pub invariant-loop-count : goal.invariant-loop-count
 invariant-loop-count l = (k : ℕ) → k < l.count-index → get_or l.seen k 0 ≡ 0

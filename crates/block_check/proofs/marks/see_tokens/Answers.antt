@@ -5,8 +5,8 @@ use Rattle.block_check.specs.inside.Pass.{tok_at}
 use Rattle.block_check.proofs.Adding.{blank}
 use Rattle.block_check.proofs.Seeing.{seen_more, seen_same, tells_two, tells_none}
 use Rattle.block_check.proofs.Sparing.{tokens_spare}
-use Rattle.block_check.proofs.search.see_tokens.Goals as goal
-use Rattle.block_check.proofs.search.see_tokens.Goals.{then-is_present, else-is_present}
+use Rattle.block_check.proofs.marks.see_tokens.Goals as goal
+use Rattle.block_check.proofs.marks.see_tokens.Goals.{then-is_present, else-is_present}
 
 low : (k t : ℕ) → k ≡ min 2 t → k ≤ 2
 low k t e = omega (arith, e)
