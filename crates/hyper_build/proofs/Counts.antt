@@ -16,7 +16,7 @@ use Rattle.hyper_build.specs.inside.Straight.{is_item}
 use Rattle.hyper_build.specs.inside.Legs.{is_loop_test, leg_size, is_bare}
 use Rattle.hyper_build.specs.inside.Sizes.{arguments_size, size_in, size, test_size, turn_size}
 use Rattle.hyper_build.specs.inside.Routines.{routine_size, all_blocks, routine_blocks}
-use Rattle.hyper_build.proofs.Moving.{cut_most}
+use Rattle.hyper_build.proofs.Moving.{cut_most, chain_most}
 use Rattle.hyper_build.proofs.Follows.{length_routine}
 use Rattle.hyper_build.proofs.LoopPosts.{post_most}
 
@@ -96,7 +96,8 @@ module _ (fs : List Function) (each : (f : ℕ) (h : Function) → slice_get fs 
         let arity = t.0.arity in
         let params = each f t.0.function t.0.found in
         let a = arguments_few (p.small i) xs (omega (arith, arity, params)) in
-        omega (arith, c, g, a)
+        let m = chain_most (p.small i) (p.groups k) in
+        omega (arith, c, g, a, m)
     stmt_few i k inside on (Put v) t = omega arith
     stmt_few i k inside on (Get to) t = let c = cut_most (p.cut i) in omega (arith, c)
     stmt_few i k inside on (If a one other) t =

@@ -13,7 +13,7 @@ use Rattle.ir_forms.specs.inside.HyperFits.{filled_in}
 use Rattle.ir_forms.specs.inside.HyperRuns.{jump}
 use Rattle.reg_assign.specs.inside.Keeps.{calls_in, calls}
 use Rattle.hyper_build.specs.inside.Tree.{Plan, Routine, leaves, goes_on, annotated_in, annotated, annotated_all}
-use Rattle.hyper_build.specs.inside.Parts.{source, cut, cut_blocks, chain_blocks, moved}
+use Rattle.hyper_build.specs.inside.Parts.{source, cut, cut_blocks, chain_blocks, chain_size, moved}
 use Rattle.hyper_build.specs.inside.Parts.{moved_blocks}
 use Rattle.hyper_build.specs.inside.Passing.{saving, restoring, argument_moves, argument_cuts, result_then}
 use Rattle.hyper_build.specs.inside.Passing.{parameter_moves, parameter_cuts}
@@ -177,22 +177,22 @@ mutual
   step_keeps P p l i n on (Call f args to kept) k e =
       let small = p.small i in
       let groups = p.groups n in
-      let g = length groups in
+      let g = chain_size small groups in
       let back = l + g + arguments_size small args in
       let rest = cut (p.cut i) (back + 1 + g) k in
       let last = result_then to rest in
       let moves = argument_moves 0 args in
       let call = call_block (P.entries f) back in
-      let saves = chain_blocks (map (saving P.frame) groups) l
+      let saves = chain_blocks small (map (saving P.frame) groups) l
       (moved (argument_cuts small) 0 moves (l + g) call) in
       let passes = moved_blocks (argument_cuts small) 0 moves (l + g) call in
-      let restores = chain_blocks (map (restoring P.frame) groups) (back + 1) last in
+      let restores = chain_blocks small (map (restoring P.frame) groups) (back + 1) last in
       let cuts = cut_blocks (p.cut i) k in
       let h = cut_keeps (p.cut i) (back + 1 + g) k in
       let r = result_keeps to rest in
-      let b = restores_keep P.frame groups (back + 1) last in
-      let a1 = filled_append saves (passes ++ (back_block P groups (back + 1) last ∷ (restores ++ cuts))) in
-      let a2 = filled_append passes (back_block P groups (back + 1) last ∷ (restores ++ cuts)) in
+      let b = restores_keep small P.frame groups (back + 1) last in
+      let a1 = filled_append saves (passes ++ (back_block P small groups (back + 1) last ∷ (restores ++ cuts))) in
+      let a2 = filled_append passes (back_block P small groups (back + 1) last ∷ (restores ++ cuts)) in
       let a3 = filled_append restores cuts in
       omega (arith, h, r, b, a1, a2, a3)
   step_keeps P p l i n on (Put a) k e = omega arith

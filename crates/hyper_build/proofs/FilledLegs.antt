@@ -35,12 +35,24 @@ pub cut_keeps : (c : Bool) (l : ℕ) (k : Block) → filled k ≤ filled (cut c 
 cut_keeps true l k = omega arith
 cut_keeps false l k = omega arith
 
+-- the restores of a group add no if and drop none
+restoring_keeps : (frame : ℕ) (vs : List ℕ) (k : Block) → filled (restoring frame vs k) ≡ filled k
+restoring_keeps frame [] k = refl
+restoring_keeps frame (v ∷ vs) k = restoring_keeps frame vs k
+
 -- what stands behind the restores of a call is there, in the last of their blocks
-pub restores_keep : (frame : ℕ) (gs : List (List ℕ)) (l : ℕ) (k : Block)
-    → filled k ≤ filled (chain (map (restoring frame) gs) l k)
-    + filled_in (chain_blocks (map (restoring frame) gs) l k)
-restores_keep frame [] l k = omega arith
-restores_keep frame (g ∷ gs) l k = let h = restores_keep frame gs (l + 1) k in omega (arith, h)
+pub restores_keep : (c : Bool) (frame : ℕ) (gs : List (List ℕ)) (l : ℕ) (k : Block)
+    → filled k ≤ filled (chain c (map (restoring frame) gs) l k)
+    + filled_in (chain_blocks c (map (restoring frame) gs) l k)
+restores_keep c frame [] l k = omega arith
+restores_keep c frame (g ∷ gs) l k =
+    let l1 = l + cut_size c in
+    let next = chain c (map (restoring frame) gs) l1 k in
+    let h = restores_keep c frame gs l1 k in
+    let r = restoring_keeps frame g (cut c l next) in
+    let e = cut_keeps c l next in
+    let a = filled_append (cut_blocks c next) (chain_blocks c (map (restoring frame) gs) l1 k) in
+    omega (arith, h, r, e, a)
 
 -- what stands behind moves is there, in the last of their blocks
 pub moved_keeps : (cuts : ℕ → Bool) (i : ℕ) (xs : List Move) (l : ℕ) (k : Block)

@@ -9,7 +9,7 @@ use Rattle.ir_forms.specs.inside.HyperCode.{Items, Done, Leave, Block}
 use Rattle.ir_forms.specs.inside.HyperRuns.{jump}
 use Rattle.hyper_build.specs.inside.Tree.{Stmt, LetAt, FrameAt, LoadAt, SaveAt, CallAt, PutAt, GetAt, IfAt}
 use Rattle.hyper_build.specs.inside.Tree.{LoopAt, BreakAt, ContinueAt, ReturnAt, Tree, End, ◌▸◌, Routine}
-use Rattle.hyper_build.specs.inside.Parts.{cut, cut_size, chain, Move, moved}
+use Rattle.hyper_build.specs.inside.Parts.{cut, cut_size, chain, chain_size, Move, moved}
 use Rattle.hyper_build.specs.inside.Passing.{saving, argument_moves, argument_cuts}
 use Rattle.hyper_build.specs.inside.Straight.{Place, straight, items_in, items_of, is_item}
 use Rattle.hyper_build.specs.inside.Sizes.{arguments_size, size_in}
@@ -45,10 +45,12 @@ saving_low : (frame : ℕ) (vs : List ℕ) (k : Block) → SetsLow k.items → S
 saving_low frame [] k low = low
 saving_low frame (v ∷ vs) k low = (omega arith, saving_low frame vs k low)
 
-chain_low : (frame : ℕ) (gs : List (List ℕ)) (l : ℕ) (k : Block) → SetsLow k.items
-    → SetsLow (chain (map (saving frame) gs) l k).items
-chain_low frame [] l k low = low
-chain_low frame (vs ∷ gs) l k low = saving_low frame vs (jump l) tt
+chain_low : (c : Bool) (frame : ℕ) (gs : List (List ℕ)) (l : ℕ) (k : Block) → SetsLow k.items
+    → SetsLow (chain c (map (saving frame) gs) l k).items
+chain_low c frame [] l k low = low
+chain_low c frame (vs ∷ gs) l k low =
+    let next = chain c (map (saving frame) gs) (l + cut_size c) k in
+    saving_low frame vs (cut c l next) (cut_low c l next (chain_low c frame gs (l + cut_size c) k low))
 
 give_low : (v : Option Arg) (k : Block) → SetsLow k.items → SetsLow (give v k).items
 give_low None k low = low
@@ -97,9 +99,9 @@ module _ (W : World) (g : Routine) (scalars : g.scalars ≤ 64)
   entry_in_low inside p (CallAt c small f args to groups) l k gave t low =
       let arity = t.arity in
       let params = known f t.routine t.found in
-      let call = call_block (p.entries f) (l + length groups + arguments_size small args) in
-      chain_low p.frame groups l _
-      (moved_low (argument_cuts small) 0 (argument_moves 0 args) (l + length groups) call
+      let call = call_block (p.entries f) (l + chain_size small groups + arguments_size small args) in
+      chain_low small p.frame groups l _
+      (moved_low (argument_cuts small) 0 (argument_moves 0 args) (l + chain_size small groups) call
       (arguments_low 0 args (omega (arith, arity, params))) tt)
   entry_in_low inside p (PutAt v) l k gave t low = (omega arith, (omega arith, tt))
   entry_in_low inside p (GetAt c to) l k gave t low = (omega arith, tt)

@@ -12,7 +12,7 @@ use Rattle.ir_forms.specs.inside.HyperRuns.{jump}
 use Rattle.reg_assign.specs.inside.Live.{AreSmall}
 use Rattle.hyper_build.specs.inside.Tree.{Stmt, LetAt, FrameAt, LoadAt, SaveAt, CallAt, PutAt, GetAt, IfAt}
 use Rattle.hyper_build.specs.inside.Tree.{LoopAt, BreakAt, ContinueAt, ReturnAt, Tree, End, ◌▸◌, Routine, plain}
-use Rattle.hyper_build.specs.inside.Parts.{source, cut_blocks, chain_blocks, moved_blocks}
+use Rattle.hyper_build.specs.inside.Parts.{source, cut_blocks, chain_blocks, chain_size, moved_blocks}
 use Rattle.hyper_build.specs.inside.Passing.{saving, restoring, argument_moves, argument_cuts}
 use Rattle.hyper_build.specs.inside.Passing.{parameter_moves, parameter_cuts}
 use Rattle.hyper_build.specs.inside.Straight.{Place, in_loop, straight, items_of, is_small_if, is_item}
@@ -157,16 +157,16 @@ call_little : (p : Place) (f : ℕ) (args : List Arg) (to : Option ℕ) (groups 
     → IsLittle (entry_in p (CallAt true true f args to groups) l k)
     × AllLittle (blocks_in p (CallAt true true f args to groups) l k)
 call_little p f args to groups l k small few s =
-    let n = length groups in
+    let n = chain_size true groups in
     let back = l + n + arguments_size true args in
     let m = arguments_little args (l + n) (p.entries f) back few in
     let last = result_little to (back + 1 + n) in (
       saves_little p.frame groups l _ small m.0,
-      little_append (chain_blocks (map (saving p.frame) groups) l _) _
+      little_append (chain_blocks true (map (saving p.frame) groups) l _) _
           (saves_all p.frame groups l _ small m.0)
           (little_append (moved_blocks (argument_cuts true) 0 (argument_moves 0 args) (l + n) _) _ m.1 (
             restores_little p.frame groups (back + 1) _ small last,
-            little_append (chain_blocks (map (restoring p.frame) groups) (back + 1) _) (k ∷ [])
+            little_append (chain_blocks true (map (restoring p.frame) groups) (back + 1) _) (k ∷ [])
                 (restores_all p.frame groups (back + 1) _ small last) (s, tt),
           )),
     )

@@ -7,7 +7,6 @@ use Rattle.ir_forms.specs.inside.HyperCode.{Block}
 use Rattle.ir_forms.specs.inside.HyperFits.{items_in, ifs_in, tests_in, exits_in}
 use Rattle.ir_forms.specs.inside.HyperRuns.{jump}
 use Rattle.reg_assign.specs.inside.Live.{AreSmall}
-use Rattle.hyper_build.specs.inside.Tree.{plain}
 use Rattle.hyper_build.specs.inside.Parts.{cut, chain, chain_blocks, moved, moved_blocks}
 use Rattle.hyper_build.specs.inside.Passing.{saving, restoring, argument_moves, argument_cuts, result_then}
 use Rattle.hyper_build.specs.inside.Passing.{parameter_moves, parameter_cuts}
@@ -56,28 +55,28 @@ little_jump l = simple _ (omega arith) (omega arith) (omega arith) refl tt
 
 -- the first block of saves of small groups is little, where the block behind them is
 pub saves_little : (frame : ℕ) (gs : List (List ℕ)) (l : ℕ) (k : Block) → AreSmall gs → IsLittle k
-    → IsLittle (chain (map (saving frame) gs) l k)
+    → IsLittle (chain true (map (saving frame) gs) l k)
 saves_little frame [] l k a s = s
 saves_little frame (g ∷ gs) l k a s =
     inr (inl (record { frame = frame; variables = g; to = l; few = a.0; is = inl refl }))
 
 -- and so are the others
 pub saves_all : (frame : ℕ) (gs : List (List ℕ)) (l : ℕ) (k : Block) → AreSmall gs → IsLittle k
-    → AllLittle (chain_blocks (map (saving frame) gs) l k)
+    → AllLittle (chain_blocks true (map (saving frame) gs) l k)
 saves_all frame [] l k a s = tt
 saves_all frame (g ∷ gs) l k a s =
     (saves_little frame gs (l + 1) k a.1 s, saves_all frame gs (l + 1) k a.1 s)
 
 -- the first block of restores of small groups is little, where the block behind them is
 pub restores_little : (frame : ℕ) (gs : List (List ℕ)) (l : ℕ) (k : Block) → AreSmall gs → IsLittle k
-    → IsLittle (chain (map (restoring frame) gs) l k)
+    → IsLittle (chain true (map (restoring frame) gs) l k)
 restores_little frame [] l k a s = s
 restores_little frame (g ∷ gs) l k a s =
     inr (inl (record { frame = frame; variables = g; to = l; few = a.0; is = inr refl }))
 
 -- and so are the others
 pub restores_all : (frame : ℕ) (gs : List (List ℕ)) (l : ℕ) (k : Block) → AreSmall gs → IsLittle k
-    → AllLittle (chain_blocks (map (restoring frame) gs) l k)
+    → AllLittle (chain_blocks true (map (restoring frame) gs) l k)
 restores_all frame [] l k a s = tt
 restores_all frame (g ∷ gs) l k a s =
     (restores_little frame gs (l + 1) k a.1 s, restores_all frame gs (l + 1) k a.1 s)

@@ -1,6 +1,6 @@
 -- Every block of annotated code that fits has items that fit, and leads to a block of the program.
 use Rattle.std.proofs.Common.{◌≡◌, ℕ, ◌+◌, ◌<◌, ◌≤◌, Bool, true, false, cond, not, []}
-use Rattle.std.proofs.Common.{◌||◌, List, ◌∷◌, map, length, Option, Some, None, refl, sym}
+use Rattle.std.proofs.Common.{◌||◌, List, ◌∷◌, map, Option, Some, None, refl, sym}
 use Rattle.std.proofs.Common.{subst, arith, nat_eq, slice_get, eq-eqb}
 use Rattle.std.specs.List.{concat}
 use Rattle.reg_assign.specs.inside.Keeps.{is_among}
@@ -12,7 +12,7 @@ use Rattle.ir_forms.specs.inside.HyperRuns.{jump}
 use Rattle.hyper_build.specs.inside.Tree.{Stmt, LetAt, FrameAt, LoadAt, SaveAt, CallAt, PutAt, GetAt, IfAt}
 use Rattle.hyper_build.specs.inside.Tree.{LoopAt, BreakAt, ContinueAt, ReturnAt, Tree, End, ◌▸◌, Routine}
 use Rattle.hyper_build.specs.inside.Tree.{is_saved}
-use Rattle.hyper_build.specs.inside.Parts.{cut, cut_blocks, cut_size, chain_blocks}
+use Rattle.hyper_build.specs.inside.Parts.{cut, cut_blocks, cut_size, chain_blocks, chain_size}
 use Rattle.hyper_build.specs.inside.Parts.{moved, moved_blocks}
 use Rattle.hyper_build.specs.inside.Passing.{saving, restoring, argument_moves, argument_cuts}
 use Rattle.hyper_build.specs.inside.Passing.{result_then}
@@ -147,7 +147,7 @@ module _ (W : World) (g : Routine) (scalars : g.scalars ≤ 64) (N : ℕ)
       → Sound N (entry_in p (CallAt c small f args to groups) l k)
       × AllSound N (blocks_in p (CallAt c small f args to groups) l k)
   call_sound p c small f args to groups l k inside t q le s =
-      let n = length groups in
+      let n = chain_size small groups in
       let a = arguments_size small args in
       let back = l + n + a in
       let rest = cut c (back + 1 + n) k in
@@ -166,14 +166,14 @@ module _ (W : World) (g : Routine) (scalars : g.scalars ≤ 64) (N : ℕ)
       let rs = λ (vs : List ℕ) (k : Block). restoring_sound N p.frame vs k in
       let r0 = cut_sound N c (back + 1 + n) k (omega (arith, le)) s in
       let r1 = result_sound N g.scalars to rest scalars t.result r0 in (
-        chain_sound N (saving p.frame) sv groups l _ gs (omega (arith, le)) m1,
-        sound_append N (chain_blocks (map (saving p.frame) groups) l
+        chain_sound N small (saving p.frame) sv groups l _ gs (omega (arith, le)) m1,
+        sound_append N (chain_blocks small (map (saving p.frame) groups) l
             (moved (argument_cuts small) 0 moves (l + n) call)) _
-            (chains_sound N (saving p.frame) sv groups l _ gs (omega (arith, le)) m1)
+            (chains_sound N small (saving p.frame) sv groups l _ gs (omega (arith, le)) m1)
             (sound_append N (moved_blocks (argument_cuts small) 0 moves (l + n) call) _ m2 (
-              chain_sound N (restoring p.frame) rs groups (back + 1) last gs (omega (arith, le)) r1,
-              sound_append N (chain_blocks (map (restoring p.frame) groups) (back + 1) last) (cut_blocks c k)
-                  (chains_sound N (restoring p.frame) rs groups (back + 1) last gs (omega (arith, le)) r1)
+              chain_sound N small (restoring p.frame) rs groups (back + 1) last gs (omega (arith, le)) r1,
+              sound_append N (chain_blocks small (map (restoring p.frame) groups) (back + 1) last) (cut_blocks c k)
+                  (chains_sound N small (restoring p.frame) rs groups (back + 1) last gs (omega (arith, le)) r1)
                   (cuts_sound N c k s),
             )),
       )

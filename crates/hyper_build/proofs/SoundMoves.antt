@@ -14,7 +14,7 @@ use Rattle.ir_forms.specs.inside.HyperFits.{FitsSource, FitsItems}
 use Rattle.ir_forms.specs.inside.HyperRuns.{jump}
 use Rattle.hyper_build.specs.inside.Tree.{Stmt, LetAt, FrameAt, LoadAt, SaveAt, CallAt, PutAt, GetAt, IfAt}
 use Rattle.hyper_build.specs.inside.Tree.{LoopAt, BreakAt, ContinueAt, ReturnAt, Tree, End, ◌▸◌, Routine}
-use Rattle.hyper_build.specs.inside.Parts.{source, capped, cut, cut_blocks, cut_size, chain, chain_blocks}
+use Rattle.hyper_build.specs.inside.Parts.{source, capped, cut, cut_blocks, cut_size, chain, chain_blocks, chain_size}
 use Rattle.hyper_build.specs.inside.Parts.{Move, moved, moved_blocks, moved_size}
 use Rattle.hyper_build.specs.inside.Passing.{saving, restoring, argument_moves}
 use Rattle.hyper_build.specs.inside.Passing.{result_then}
@@ -173,23 +173,29 @@ restoring_sound N frame (v ∷ vs) k a s =
       tail = h.tail;
     }
 
--- groups in blocks of their own
-module _ (N : ℕ) (f : List ℕ → Block → Block)
+-- groups, in blocks of their own or in one
+module _ (N : ℕ) (c : Bool) (f : List ℕ → Block → Block)
     (one : (vs : List ℕ) (k : Block) → AllSmall vs → Sound N k → Sound N (f vs k)) where
   -- the first block of a chain of groups is sound, where one group before a sound block is
-  pub chain_sound : (gs : List (List ℕ)) (l : ℕ) (k : Block) → GroupsSmall gs → l + length gs ≤ N
-      → Sound N k → Sound N (chain (map f gs) l k)
+  pub chain_sound : (gs : List (List ℕ)) (l : ℕ) (k : Block) → GroupsSmall gs → l + chain_size c gs ≤ N
+      → Sound N k → Sound N (chain c (map f gs) l k)
   chain_sound [] l k a le s = s
-  chain_sound (g ∷ gs) l k a le s = one g (jump l) a.0 (jump_sound N l (omega (arith, le)))
+  chain_sound (g ∷ gs) l k a le s =
+      let l1 = l + cut_size c in
+      let next = chain c (map f gs) l1 k in
+      one g (cut c l next) a.0
+      (cut_sound N c l next (omega (arith, le)) (chain_sound gs l1 k a.1 (omega (arith, le)) s))
 
   -- and so are the others
-  pub chains_sound : (gs : List (List ℕ)) (l : ℕ) (k : Block) → GroupsSmall gs → l + length gs ≤ N
-      → Sound N k → AllSound N (chain_blocks (map f gs) l k)
+  pub chains_sound : (gs : List (List ℕ)) (l : ℕ) (k : Block) → GroupsSmall gs → l + chain_size c gs ≤ N
+      → Sound N k → AllSound N (chain_blocks c (map f gs) l k)
   chains_sound [] l k a le s = tt
-  chains_sound (g ∷ gs) l k a le s = (
-    chain_sound gs (l + 1) k a.1 (omega (arith, le)) s,
-    chains_sound gs (l + 1) k a.1 (omega (arith, le)) s,
-  )
+  chains_sound (g ∷ gs) l k a le s =
+      let l1 = l + cut_size c in
+      let next = chain c (map f gs) l1 k in
+      sound_append N (cut_blocks c next) (chain_blocks c (map f gs) l1 k)
+      (cuts_sound N c next (chain_sound gs l1 k a.1 (omega (arith, le)) s))
+      (chains_sound gs l1 k a.1 (omega (arith, le)) s)
 
 -- the move of a result before a sound block leaves it sound
 pub result_sound : (N n : ℕ) (to : Option ℕ) (k : Block) → n ≤ 64 → FitsResult n to → Sound N k

@@ -17,66 +17,70 @@ use base::{Items, Memory};
 use ir_forms::{Arg, Exit, Source};
 use std::alloc::Global;
 
-/// A group is saved, before a block of its own.
+/// A group is saved; behind it the block ends, or does not.
 fn put_save_part(
     emitting: &mut Emitting,
     alloc: Global,
+    small: bool,
     frame: u64,
     group: &[u16],
 ) -> Result<(), Memory>
     ensures { OnOk result (emission_of emitting.new
-        ≡ code.parted (saving frame group.now) (emission_of emitting.old)) }
+        ≡ code.parted small (saving frame group.now) (emission_of emitting.old)) }
 {
-    put_out(emitting, alloc)?;
+    cut(emitting, alloc, small)?;
     put_saving(&mut emitting.rest, frame, group)
 }
 
-/// A group is restored, before a block of its own.
+/// A group is restored; behind it the block ends, or does not.
 fn put_restore_part(
     emitting: &mut Emitting,
     alloc: Global,
+    small: bool,
     frame: u64,
     group: &[u16],
 ) -> Result<(), Memory>
     ensures { OnOk result (emission_of emitting.new
-        ≡ code.parted (restoring frame group.now) (emission_of emitting.old)) }
+        ≡ code.parted small (restoring frame group.now) (emission_of emitting.old)) }
 {
-    put_out(emitting, alloc)?;
+    cut(emitting, alloc, small)?;
     put_restoring(&mut emitting.rest, frame, group)
 }
 
-/// Groups are saved, each but the first at the head of a block of its own.
+/// Groups are saved; behind each the block ends, or does not.
 fn put_saves(
     emitting: &mut Emitting,
     alloc: Global,
+    small: bool,
     frame: u64,
     groups: &[Items<u16>],
 ) -> Result<(), Memory>
     ensures { OnOk result (emission_of emitting.new
-        ≡ code.chained (saving frame) groups.now (emission_of emitting.old)) }
+        ≡ code.chained small (saving frame) groups.now (emission_of emitting.old)) }
 {
     let mut at = groups.len();
     while at > 0 {
         at -= 1;
-        put_save_part(emitting, alloc, frame, groups[at].as_slice())?;
+        put_save_part(emitting, alloc, small, frame, groups[at].as_slice())?;
     }
     Ok(())
 }
 
-/// Groups are restored, each but the first at the head of a block of its own.
+/// Groups are restored; behind each the block ends, or does not.
 fn put_restores(
     emitting: &mut Emitting,
     alloc: Global,
+    small: bool,
     frame: u64,
     groups: &[Items<u16>],
 ) -> Result<(), Memory>
     ensures { OnOk result (emission_of emitting.new
-        ≡ code.chained (restoring frame) groups.now (emission_of emitting.old)) }
+        ≡ code.chained small (restoring frame) groups.now (emission_of emitting.old)) }
 {
     let mut at = groups.len();
     while at > 0 {
         at -= 1;
-        put_restore_part(emitting, alloc, frame, groups[at].as_slice())?;
+        put_restore_part(emitting, alloc, small, frame, groups[at].as_slice())?;
     }
     Ok(())
 }
@@ -158,8 +162,9 @@ pub fn put_back(
     fall_call(emitting);
     before(emitting, alloc, site)?;
     let groups = site.groups_of(emitting.calls);
+    let small = site.cuts(emitting.place);
     put_result(emitting, to)?;
-    put_restores(emitting, alloc, site.frame, groups)?;
+    put_restores(emitting, alloc, small, site.frame, groups)?;
     put_out(emitting, alloc)
 }
 
@@ -181,5 +186,5 @@ pub fn put_call(
     let back = emitting.label;
     put_rest(emitting, leave(alloc, Exit::Call { to, back }));
     put_arguments(emitting, alloc, small, args)?;
-    put_saves(emitting, alloc, site.frame, groups)
+    put_saves(emitting, alloc, small, site.frame, groups)
 }

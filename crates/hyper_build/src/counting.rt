@@ -9,7 +9,7 @@ ghost use Rattle.hyper_build.specs.inside.Sizes as sizes;
 
 use crate::calling::argument_cuts;
 use crate::functions::parameter_cuts;
-use base::Memory;
+use base::{Items, Memory};
 use ir_forms::{Arg, FlatStmt};
 
 /// The sum of two numbers.
@@ -31,7 +31,7 @@ fn with_parts(one: u32, other: u32) -> Result<u32, Memory>
 }
 
 /// A length as a number of blocks.
-pub fn narrow(n: usize) -> Result<u32, Memory>
+fn narrow(n: usize) -> Result<u32, Memory>
     ensures { IfOk result (λ m. m ≡ n) }
 {
     if n <= 4_294_967_295 {
@@ -46,6 +46,14 @@ pub fn cut_size(ends: bool) -> u32
     ensures { result ≡ parts.cut_size ends }
 {
     if ends { 1 } else { 0 }
+}
+
+/// The blocks that the groups of a call begin, where it ends its block behind each or behind none.
+#[tactic(auto, using(crate::proofs::Moving::chain_all, crate::proofs::Moving::chain_none))]
+pub fn groups_size(small: bool, groups: &[Items<u16>]) -> Result<u32, Memory>
+    ensures { IfOk result (λ n. n ≡ parts.chain_size small groups.now) }
+{
+    if small { narrow(groups.len()) } else { Ok(0) }
 }
 
 /// The blocks that a call's arguments begin.

@@ -7,7 +7,7 @@ ghost use Rattle.hyper_build.specs.inside.Ground as ground;
 ghost use Rattle.hyper_build.specs.inside.Forward as forward;
 
 use crate::counting::{
-    arguments_size, cut_size, narrow, parameters_size, plus, steps_in, steps_of,
+    arguments_size, cut_size, groups_size, parameters_size, plus, steps_in, steps_of,
 };
 use crate::emitting::Note;
 use crate::exits::{exit_of, goes_on};
@@ -102,8 +102,8 @@ fn number_items(numbering: &mut Numbering, site: &Site, s: &FlatStmt) -> Result<
 fn call_size(site: &Site, place: u32, calls: u32, args: &[Arg]) -> Result<u32, Memory>
     ensures { IfOk result (λ n. n ≡ forward.call_size (ground.plan site.now) place calls args.now) }
 {
-    let groups = narrow(site.groups_of(calls).len())?;
     let small = site.cuts(place);
+    let groups = groups_size(small, site.groups_of(calls))?;
     let arguments = arguments_size(small, args)?;
     let back = plus(1, plus(groups, cut_size(small))?)?;
     plus(groups, plus(arguments, back)?)

@@ -59,7 +59,7 @@ const CUT_EVERYWHERE: &[Row] = &[
 ];
 
 const CUT_NOWHERE: &[Row] = &[
-    (0, Exit::Call { to: 19, back: 1 }, None),
+    (0, Exit::Call { to: 15, back: 1 }, None),
     (1, Exit::System(2), None),
     (2, Exit::System(3), None),
     (3, Exit::Jump(2), Some(Exit::Jump(4))),
@@ -68,24 +68,19 @@ const CUT_NOWHERE: &[Row] = &[
     (5, Exit::Jump(8), Some(Exit::Jump(6))),
     (6, Exit::Jump(5), None),
     (7, Exit::Jump(5), None),
-    // single statements and the saves, the call, the restores
-    (8, Exit::Jump(9), None),
-    (9, Exit::Jump(10), None),
-    (10, Exit::Call { to: 3, back: 11 }, None),
-    (11, Exit::Jump(12), None),
-    (12, Exit::Jump(13), None),
-    // a byte out, and one in
-    (13, Exit::System(14), None),
-    (14, Exit::System(15), None),
+    // single statements, the saves and the call; the restores with a byte out, and one in
+    (8, Exit::Call { to: 3, back: 9 }, None),
+    (9, Exit::System(10), None),
+    (10, Exit::System(11), None),
     // the if, and the return
-    (15, Exit::Jump(16), Some(Exit::Jump(17))),
-    (16, Exit::Jump(18), None),
-    (17, Exit::Jump(18), None),
-    (18, Exit::Return, None),
+    (11, Exit::Jump(12), Some(Exit::Jump(13))),
+    (12, Exit::Jump(14), None),
+    (13, Exit::Jump(14), None),
+    (14, Exit::Return, None),
     // the other function
-    (19, Exit::Jump(2), Some(Exit::Jump(20))),
-    (26, Exit::Call { to: 3, back: 27 }, None),
-    (34, Exit::Return, None),
+    (15, Exit::Jump(2), Some(Exit::Jump(16))),
+    (20, Exit::Call { to: 3, back: 21 }, None),
+    (26, Exit::Return, None),
 ];
 
 // The if behind the byte that is taken in is an item; the one in the loop breaks, and stays a test. That in the
@@ -105,15 +100,15 @@ const CUT_AND_JOINED: &[Row] = &[
 ];
 
 const JOINED: &[Row] = &[
-    (0, Exit::Call { to: 16, back: 1 }, None),
+    (0, Exit::Call { to: 12, back: 1 }, None),
     (5, Exit::Jump(8), Some(Exit::Jump(6))),
-    (10, Exit::Call { to: 3, back: 11 }, None),
-    (14, Exit::System(15), None),
-    (15, Exit::Return, None),
+    (8, Exit::Call { to: 3, back: 9 }, None),
+    (10, Exit::System(11), None),
+    (11, Exit::Return, None),
     // the other function
-    (16, Exit::Jump(2), Some(Exit::Jump(17))),
-    (23, Exit::Call { to: 3, back: 24 }, None),
-    (28, Exit::Return, None),
+    (12, Exit::Jump(2), Some(Exit::Jump(13))),
+    (17, Exit::Call { to: 3, back: 18 }, None),
+    (20, Exit::Return, None),
 ];
 
 /// How many statements and functions the program has.
@@ -187,17 +182,17 @@ fn assert_built(
     assert_exits(rt, &program, rows);
 }
 
-/// Each function has the test of the stack, the way in, and 14 blocks of its body. Where all is cut, the
-/// parameters begin three blocks more, the way to the body one, and the body ten. Where its last if is
+/// Each function has the test of the stack, the way in, and ten blocks of its body. Where all is cut, the
+/// parameters begin three blocks more, the way to the body one, and the body 14. Where its last if is
 /// joined, the body has four blocks less where all is cut, and else three.
 #[test]
 fn every_statement_is_built(rt: HostRuntime) {
     let alloc = rt.alloc();
     let program = program(alloc).expect(&rt, "memory");
     assert_built(&rt, alloc, &program, LACKING, LACKING, 63, CUT_EVERYWHERE);
-    assert_built(&rt, alloc, &program, NO, NO, 35, CUT_NOWHERE);
+    assert_built(&rt, alloc, &program, NO, NO, 27, CUT_NOWHERE);
     assert_built(&rt, alloc, &program, LACKING, YES, 55, CUT_AND_JOINED);
-    assert_built(&rt, alloc, &program, NO, YES, 29, JOINED);
+    assert_built(&rt, alloc, &program, NO, YES, 21, JOINED);
 }
 
 // A loop with no last part goes on at its head, and has no block for that part.

@@ -85,6 +85,15 @@ pub fn add_saves(block: &mut Estimate, group: &[u16], frame: Frame) {
     }
 }
 
+/// A group of variables comes back from its slots.
+pub fn add_restores(block: &mut Estimate, group: &[u16], frame: Frame) {
+    for v in group {
+        block.shift(0, STACK, frame.bytes);
+        block.take(0);
+        block.loaded(register_of(*v));
+    }
+}
+
 /// The arguments, and the call: the address to come back to is two instructions, and a `mov` puts it into
 /// its register.
 pub fn add_call(block: &mut Estimate, args: &[Arg]) {

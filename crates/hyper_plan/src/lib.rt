@@ -4,6 +4,7 @@
 //! the program of a flat program means the same for every plan.
 #![tactic(auto)]
 
+mod calls;
 mod estimate;
 #[cfg(test)]
 mod estimate_tests;

@@ -9,9 +9,10 @@ ghost use Rattle.ir_forms.specs.inside.FlatFits.{steps_in, steps_of};
 ghost use Rattle.ir_forms.specs.inside.FlatViews.{code_of, step_of};
 ghost use Rattle.hyper_plan.specs.inside.Answers.{only_cuts};
 
+use crate::calls::call;
 use crate::estimate::Estimate;
 use crate::if_items::{add_item, add_items, are_items};
-use crate::items::{add_call, add_result, add_saves, add_statement, is_plain};
+use crate::items::{add_statement, is_plain};
 use crate::open_block::{
     Site, Walk, answer, close, cut_at, cut_last, ending, fits, get, guard, open, single,
 };
@@ -33,89 +34,6 @@ struct Shape {
     straight: bool,
     small: bool,
     ends: bool,
-}
-
-// CALLS
-
-/// A call's first group of saves goes into the open block, which then ends.
-#[inline(never)]
-fn join_saves(walk: &mut Walk, group: &[u16], site: &Site)
-    ensures size { length walk.new.answers ≡ length walk.old.answers }
-    ensures cuts { site.now.room ≡ 0 → only_cuts walk.old.answers ≡ true
-        → only_cuts walk.new.answers ≡ true }
-{
-    let mut block = walk.block;
-    add_saves(&mut block, group, site.frame);
-    guard(walk, &mut block);
-    close(walk, &block, site);
-}
-
-/// The saves of a call, where there are any.
-fn call_saves(walk: &mut Walk, site: &Site)
-    ensures size { length walk.new.answers ≡ length walk.old.answers }
-    ensures cuts { site.now.room ≡ 0 → only_cuts walk.old.answers ≡ true
-        → only_cuts walk.new.answers ≡ true }
-{
-    let groups = match site.groups.get(walk.calls) {
-        None => return,
-        Some(groups) => groups,
-    };
-    match groups.get(0) {
-        None => {}
-        Some(group) => join_saves(walk, group.as_slice(), site),
-    }
-}
-
-/// The arguments and the call go into the open block, or another.
-#[inline(never)]
-fn join_call(walk: &mut Walk, args: &[Arg], site: &Site)
-    ensures size { length walk.new.answers ≡ length walk.old.answers }
-    ensures cuts { site.now.room ≡ 0 → only_cuts walk.old.answers ≡ true
-        → only_cuts walk.new.answers ≡ true }
-{
-    let mut block = walk.block;
-    add_call(&mut block, args);
-    guard(walk, &mut block);
-    close(walk, &block, site);
-}
-
-/// Whether a call's arguments have room in a block of their own.
-#[inline(never)]
-fn args_fit(args: &[Arg], site: &Site) -> bool {
-    let mut block = Estimate::empty();
-    add_call(&mut block, args);
-    fits(&block, site)
-}
-
-/// The answer of a call: it is cut, and with it its arguments, where these have no room in one block.
-fn call_answer(walk: &mut Walk, args: &[Arg], site: &Site) -> Result<(), Memory>
-    ensures size { OnOk result (length walk.new.answers ≡ length walk.old.answers + 1) }
-    ensures cuts { OnOk result (site.now.room ≡ 0 → only_cuts walk.old.answers ≡ true
-        → only_cuts walk.new.answers ≡ true) }
-{
-    let at = walk.answers.len();
-    answer(walk, site)?;
-    walk.last = Some(at);
-    if !args_fit(args, site) {
-        cut_at(walk, at, site);
-    }
-    Ok(())
-}
-
-/// A call; its result begins a block, behind which that may end.
-fn call(walk: &mut Walk, args: &[Arg], to: Option<u16>, site: &Site) -> Result<(), Memory>
-    ensures size { OnOk result (length walk.new.answers ≡ length walk.old.answers + 1) }
-    ensures cuts { OnOk result (site.now.room ≡ 0 → only_cuts walk.old.answers ≡ true
-        → only_cuts walk.new.answers ≡ true) }
-{
-    call_saves(walk, site);
-    join_call(walk, args, site);
-    walk.calls = walk.calls.saturating_add(1);
-    match to {
-        None => {}
-        Some(to) => add_result(&mut walk.block, to),
-    }
-    call_answer(walk, args, site)
 }
 
 // LOOPS

@@ -71,14 +71,14 @@ leaving k s = with_rest k (fall s)
 
 -- CALLS
 
--- a part of a chain, before a block of its own
-abbrev pub parted : (Block → Block) → Emission → Emission
-parted part s = with_rest (part (put_out s).rest) (put_out s)
+-- a part of a chain, behind which the block ends, or does not
+abbrev pub parted : Bool → (Block → Block) → Emission → Emission
+parted c part s = with_rest (part (cut_at c s).rest) (cut_at c s)
 
--- groups of variables, each but the first at the head of a block of its own
-abbrev pub chained : (List ℕ → Block → Block) → List (List ℕ) → Emission → Emission
-chained part [] s = s
-chained part (g ∷ gs) s = parted (part g) (chained part gs s)
+-- groups of variables, behind each of which the block ends, or does not
+abbrev pub chained : Bool → (List ℕ → Block → Block) → List (List ℕ) → Emission → Emission
+chained c part [] s = s
+chained c part (g ∷ gs) s = parted c (part g) (chained c part gs s)
 
 -- Moves from number i on; behind those that `cuts` tells a block ends.
 abbrev pub moving : (ℕ → Bool) → ℕ → List Move → Emission → Emission
@@ -94,11 +94,12 @@ argument_out small i a s =
 abbrev pub back_out : Plan → ℕ → Option ℕ → Emission → Emission
 back_out plan frame to s =
     let t = before plan (fall_call s) in
-    put_out (chained (restoring frame) (plan.groups t.calls) (with_rest (result_then to t.rest) t))
+    put_out (chained (plan.small t.place) (restoring frame) (plan.groups t.calls)
+    (with_rest (result_then to t.rest) t))
 
 -- and the call, from the state at the block that it comes back to
 abbrev pub call_out : Plan → ℕ → ℕ → List Arg → Emission → Emission
 call_out plan frame entry args t =
-    chained (saving frame) (plan.groups t.calls)
+    chained (plan.small t.place) (saving frame) (plan.groups t.calls)
     (moving (argument_cuts (plan.small t.place)) 0 (argument_moves 0 args)
     (with_rest (call_block entry t.label) t))

@@ -1,6 +1,6 @@
 -- The blocks of annotated code. They are numbered forward: those that a statement begins stand from
 -- a label on, those of the next statement behind them.
-use Rattle.std.specs.Prelude.{ℕ, ◌+◌, cond, List, [], ◌∷◌, ◌++◌, length, map}
+use Rattle.std.specs.Prelude.{ℕ, ◌+◌, cond, List, [], ◌∷◌, ◌++◌, map}
 use Rattle.trips_isa.specs.declared.op.Op.TheVariants.{Mov}
 use Rattle.ir_forms.specs.declared.hyper.Source.TheVariants.{Const, Reg}
 use Rattle.ir_forms.specs.inside.Frames.{register_of}
@@ -8,7 +8,7 @@ use Rattle.ir_forms.specs.inside.HyperCode.{Block}
 use Rattle.ir_forms.specs.inside.HyperRuns.{jump}
 use Rattle.hyper_build.specs.inside.Tree.{Stmt, LetAt, FrameAt, LoadAt, SaveAt, CallAt, PutAt, GetAt, IfAt}
 use Rattle.hyper_build.specs.inside.Tree.{LoopAt, BreakAt, ContinueAt, ReturnAt, Tree, End, ◌▸◌}
-use Rattle.hyper_build.specs.inside.Parts.{set_then, cut, cut_blocks, chain_blocks, moved, moved_blocks}
+use Rattle.hyper_build.specs.inside.Parts.{set_then, cut, cut_blocks, chain_blocks, chain_size, moved, moved_blocks}
 use Rattle.hyper_build.specs.inside.Passing.{saving, restoring, argument_moves, argument_cuts, result_then}
 use Rattle.hyper_build.specs.inside.Straight.{Place, in_loop, is_item}
 use Rattle.hyper_build.specs.inside.Legs.{exit_leg, label_or, leg_blocks, leg_size, is_bare, post_exit, post_size}
@@ -25,17 +25,17 @@ abbrev mutual
   blocks_in p (LoadAt c to op a) l k = cut_blocks c k
   blocks_in p (SaveAt c op a v) l k = cut_blocks c k
   blocks_in p (CallAt c small f args to groups) l k =
-      let n = length groups in
+      let n = chain_size small groups in
       let a = arguments_size small args in
       let back = l + n + a in
       let last = result_then to (cut c (back + 1 + n) k) in
       let moves = argument_moves 0 args in
       let call = call_block (p.entries f) back in
-      chain_blocks (map (saving p.frame) groups) l
+      chain_blocks small (map (saving p.frame) groups) l
       (moved (argument_cuts small) 0 moves (l + n) call)
       ++ (moved_blocks (argument_cuts small) 0 moves (l + n) call
-      ++ (back_block p groups (back + 1) last
-      ∷ (chain_blocks (map (restoring p.frame) groups) (back + 1) last ++ cut_blocks c k)))
+      ++ (back_block p small groups (back + 1) last
+      ∷ (chain_blocks small (map (restoring p.frame) groups) (back + 1) last ++ cut_blocks c k)))
   blocks_in p (PutAt v) l k = k ∷ []
   blocks_in p (GetAt c to) l k =
       set_then (register_of to) Mov (Reg 3) (Const 0) (cut c (l + 1) k) ∷ cut_blocks c k

@@ -1,5 +1,5 @@
 -- The rest of a block that goes on with annotated code.
-use Rattle.std.specs.Prelude.{ℕ, ◌+◌, ◌-◌, Bool, true, false, cond, ◌||◌, not, List, length, map, Option, Some, None}
+use Rattle.std.specs.Prelude.{ℕ, ◌+◌, ◌-◌, Bool, true, false, cond, ◌||◌, not, List, map, Option, Some, None}
 use Rattle.trips_isa.specs.declared.op.Op.TheVariants.{Mov, Sub}
 use Rattle.ir_forms.specs.declared.flat.Arg.{Arg}
 use Rattle.ir_forms.specs.declared.hyper.Source.TheVariants.{Const, Reg}
@@ -9,7 +9,8 @@ use Rattle.ir_forms.specs.inside.HyperCode.{Done, Set, If, Leave, Test, Block}
 use Rattle.ir_forms.specs.inside.HyperRuns.{jump}
 use Rattle.hyper_build.specs.inside.Tree.{Stmt, LetAt, FrameAt, LoadAt, SaveAt, CallAt, PutAt, GetAt, IfAt}
 use Rattle.hyper_build.specs.inside.Tree.{LoopAt, BreakAt, ContinueAt, ReturnAt, Tree, End, ◌▸◌}
-use Rattle.hyper_build.specs.inside.Parts.{source, capped, set_then, load_then, save_then, cut, chain, moved}
+use Rattle.hyper_build.specs.inside.Parts.{source, capped, set_then, load_then, save_then, cut, chain}
+use Rattle.hyper_build.specs.inside.Parts.{chain_size, moved}
 use Rattle.hyper_build.specs.inside.Passing.{saving, restoring, argument_moves, argument_cuts}
 use Rattle.hyper_build.specs.inside.Straight.{Place, straight, items_of, is_item}
 use Rattle.hyper_build.specs.inside.Legs.{exit_leg, label_or, leg_size, is_loop_test}
@@ -22,16 +23,16 @@ use Rattle.hyper_build.specs.inside.Merging.{merged, test_register}
 abbrev pub call_block : ℕ → ℕ → Block
 call_block to back = record { items = Done; tail = Leave (exit.Call to back) }
 
--- the saves, one block a group, and then the arguments, where blocks stand from label l on
+-- the saves, and then the arguments, where blocks stand from label l on; a small call has a block for each group
 abbrev pub call_entry : Place → Bool → ℕ → List Arg → List (List ℕ) → ℕ → Block
 call_entry p small f args groups l =
-    chain (map (saving p.frame) groups) l
-    (moved (argument_cuts small) 0 (argument_moves 0 args) (l + length groups)
-    (call_block (p.entries f) (l + length groups + arguments_size small args)))
+    chain small (map (saving p.frame) groups) l
+    (moved (argument_cuts small) 0 (argument_moves 0 args) (l + chain_size small groups)
+    (call_block (p.entries f) (l + chain_size small groups + arguments_size small args)))
 
 -- the block that a call comes back to: the restores, and then the rest
-abbrev pub back_block : Place → List (List ℕ) → ℕ → Block → Block
-back_block p groups l k = chain (map (restoring p.frame) groups) l k
+abbrev pub back_block : Place → Bool → List (List ℕ) → ℕ → Block → Block
+back_block p small groups l k = chain small (map (restoring p.frame) groups) l k
 
 -- RETURNS
 

@@ -1,6 +1,6 @@
 -- Numbers as a pass over flat code, forward: how many blocks, statements and calls stand before, and
 -- the notes of the loops that were passed, in the order in which they end.
-use Rattle.std.specs.Prelude.{ℕ, ◌+◌, Bool, cond, ◌&&◌, List, [], ◌∷◌, ◌++◌, length, Option, Some, None}
+use Rattle.std.specs.Prelude.{ℕ, ◌+◌, Bool, cond, ◌&&◌, List, [], ◌∷◌, ◌++◌, Option, Some, None}
 use Rattle.ir_forms.specs.declared.flat.Arg.{Arg}
 use Rattle.ir_forms.specs.inside.FlatCode.{Step, Let, Frame, Load, Save, Call, Put, Get, If, Loop, Break, Continue}
 use Rattle.ir_forms.specs.inside.FlatCode.{Return, Code, Nop, ◌▹◌, Function}
@@ -8,7 +8,7 @@ use Rattle.ir_forms.specs.inside.FlatFits.{steps_in, steps_of, is_empty}
 use Rattle.hyper_build.specs.declared.emitting.Note.{Note}
 use Rattle.hyper_build.specs.declared.numbering.Numbering.{Numbering}
 use Rattle.hyper_build.specs.inside.Tree.{Plan, goes_on}
-use Rattle.hyper_build.specs.inside.Parts.{cut_size, moved_size}
+use Rattle.hyper_build.specs.inside.Parts.{cut_size, chain_size, moved_size}
 use Rattle.hyper_build.specs.inside.Passing.{parameter_moves, parameter_cuts}
 use Rattle.hyper_build.specs.inside.Sizes.{arguments_size}
 use Rattle.hyper_build.specs.inside.BackwardItems.{is_if_item}
@@ -56,8 +56,8 @@ number_items p x s = with_statements (steps_in x) (with_blocks (cut_size (p.cut 
 -- the blocks that a call begins, by its numbers
 abbrev pub call_size : Plan → ℕ → ℕ → List Arg → ℕ
 call_size p i k args =
-    length (p.groups k)
-    + (arguments_size (p.small i) args + (1 + (length (p.groups k) + cut_size (p.cut i))))
+    chain_size (p.small i) (p.groups k)
+    + (arguments_size (p.small i) args + (1 + (chain_size (p.small i) (p.groups k) + cut_size (p.cut i))))
 
 -- a leg that has blocks begins with one
 abbrev pub led_by : Option ℕ → Numbering → Numbering

@@ -53,16 +53,22 @@ cut_size false = 0
 
 -- CHAINS
 
--- Parts one after the other, each but the first at the head of a block of its own, and then k in a
--- block of its own; these blocks stand from label l on.
-abbrev pub chain : List (Block → Block) → ℕ → Block → Block
-chain [] l k = k
-chain (part ∷ parts) l k = part (jump l)
+-- Parts one after the other, and then k. Where c holds the block ends behind each part; the blocks that this begins
+-- stand from label l on.
+abbrev pub chain : Bool → List (Block → Block) → ℕ → Block → Block
+chain c [] l k = k
+chain c (part ∷ parts) l k = part (cut c l (chain c parts (l + cut_size c) k))
 
--- the blocks that such a chain begins, behind the one in which its first part stands
-abbrev pub chain_blocks : List (Block → Block) → ℕ → Block → List Block
-chain_blocks [] l k = []
-chain_blocks (part ∷ parts) l k = chain parts (l + 1) k ∷ chain_blocks parts (l + 1) k
+-- the blocks that such a chain begins, with what goes on behind each cut
+abbrev pub chain_blocks : Bool → List (Block → Block) → ℕ → Block → List Block
+chain_blocks c [] l k = []
+chain_blocks c (part ∷ parts) l k =
+    cut_blocks c (chain c parts (l + cut_size c) k) ++ chain_blocks c parts (l + cut_size c) k
+
+-- how many labels a chain of so many parts takes
+abbrev pub chain_size : {A : Type 0} → Bool → List A → ℕ
+chain_size c [] = 0
+chain_size c (part ∷ parts) = cut_size c + chain_size c parts
 
 -- MOVES
 

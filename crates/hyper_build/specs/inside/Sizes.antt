@@ -1,9 +1,9 @@
 -- How many blocks annotated code begins.
-use Rattle.std.specs.Prelude.{ℕ, ◌+◌, Bool, cond, List, length}
+use Rattle.std.specs.Prelude.{ℕ, ◌+◌, Bool, cond, List}
 use Rattle.ir_forms.specs.declared.flat.Arg.{Arg}
 use Rattle.hyper_build.specs.inside.Tree.{Stmt, LetAt, FrameAt, LoadAt, SaveAt, CallAt, PutAt, GetAt, IfAt}
 use Rattle.hyper_build.specs.inside.Tree.{LoopAt, BreakAt, ContinueAt, ReturnAt, Tree, End, ◌▸◌}
-use Rattle.hyper_build.specs.inside.Parts.{cut_size, moved_size}
+use Rattle.hyper_build.specs.inside.Parts.{cut_size, chain_size, moved_size}
 use Rattle.hyper_build.specs.inside.Passing.{argument_moves, argument_cuts}
 use Rattle.hyper_build.specs.inside.Straight.{is_item}
 use Rattle.hyper_build.specs.inside.Legs.{leg_size, is_bare, post_size, is_loop_test}
@@ -21,7 +21,7 @@ abbrev mutual
   size_in (LoadAt c to op a) = cut_size c
   size_in (SaveAt c op a v) = cut_size c
   size_in (CallAt c small f args to groups) =
-      length groups + (arguments_size small args + (1 + (length groups + cut_size c)))
+      chain_size small groups + (arguments_size small args + (1 + (chain_size small groups + cut_size c)))
   size_in (PutAt v) = 1
   size_in (GetAt c to) = 1 + cut_size c
   size_in (IfAt c joined t one other) =

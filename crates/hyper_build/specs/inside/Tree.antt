@@ -10,8 +10,8 @@ use Rattle.reg_assign.specs.inside.Keeps.{calls_in, calls, is_among}
 
 -- Each name is the flat statement's with `At`. `cut` says that the block ends behind the statement;
 -- of a loop, that it ends between body and post; of a break, a continue or a return, that what stands
--- behind has a block. `joined` makes an if an item of its block, `small` cuts a call's arguments behind
--- every third.
+-- behind has a block. `joined` makes an if an item of its block, `small` cuts a call behind each group that it saves
+-- or restores, and its arguments behind every third.
 mutual
   -- a flat statement with its annotations
   pub data Stmt : Type 0 where
@@ -97,9 +97,10 @@ pub record Plan : Type 0 where
   pub cut : ℕ → Bool
   -- whether an if is an item of its block, or a loop's test goes on in it
   pub joined : ℕ → Bool
-  -- whether a call's arguments, or a function's parameters, end a block behind every third
+  -- whether a call ends a block behind each group that it saves or restores, and behind every third argument; of a
+  -- function, behind every third parameter
   pub small : ℕ → Bool
-  -- each saved by one block, and restored by another
+  -- the variables that a call saves, by groups
   pub groups : ℕ → List (List ℕ)
 
 -- Code with a plan's annotations, where i statements and k calls stand before it. `on` says whether the

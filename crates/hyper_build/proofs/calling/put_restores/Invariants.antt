@@ -7,7 +7,8 @@ use Rattle.hyper_build.proofs.calling.put_restores.Given as goal
 abbrev pub invariant-loop-at : goal.invariant-loop-at
 invariant-loop-at l = record {
   within : l.at ≤ length l.groups;
-  done : emission_of l.emitting ≡ chained (restoring l.frame) (drop l.at l.groups) (emission_of l.fn.emitting);
+  done : emission_of l.emitting
+      ≡ chained l.small (restoring l.frame) (drop l.at l.groups) (emission_of l.fn.emitting);
 }
 
 abbrev pub decreases-loop-at : goal.decreases-loop-at
