@@ -13,15 +13,17 @@ use Rattle.c_tree.specs.declared.Key.TheVariants as key
 use Rattle.c_tree.specs.declared.Mark.TheVariants as mark
 use Rattle.c_tree.specs.declared.Kind.{Kind}
 use Rattle.c_tree.specs.declared.Kind.TheVariants.{Int}
+use Rattle.c_tree.specs.Marks.{marks as plain_marks}
 use Rattle.c_lex.specs.declared.piece.Reading.TheVariants as reads
 use Rattle.c_lex.specs.Bytes.{Bytes, Goes, by_class, is_space, is_digit, is_letter, is_word, in_number}
-use Rattle.c_lex.specs.Bytes.{is_sign, is_exponent}
+use Rattle.c_lex.specs.Bytes.{is_sign, is_exponent, in_white}
+use Rattle.c_lex.specs.inside.Spaces.{spaces}
 use Rattle.c_lex.specs.inside.Runs.{run_len}
 use Rattle.c_lex.specs.Tables.{lookup, keywords, marks}
 use Rattle.c_lex.specs.inside.Scans.{constant_of}
 use Rattle.c_lex.specs.Pieces.{Longest, word_form}
 use Rattle.c_lex.specs.inside.Pieces.{Front}
-use Rattle.c_lex.proofs.Basics.{and_left, and_right, not_true}
+use Rattle.c_lex.proofs.Basics.{and_left, and_right, not_true, or_left, or_right}
 use Rattle.c_lex.proofs.Firsts.{tabled, tabled_at}
 use Rattle.c_lex.proofs.Fronts.{space_front, word_front, number_front}
 use Rattle.c_lex.proofs.Numbers.{constant_is}
@@ -38,10 +40,10 @@ abbrev each_digit : Bytes → Bool
 each_digit [] = true
 each_digit (d ∷ ds) = is_digit d && each_digit ds
 
--- a digit first, which is no space
+-- a digit first, which is no space and no backslash
 abbrev is_numeral : Bytes → Bool
 is_numeral [] = false
-is_numeral (d ∷ ds) = not (is_space d) && (is_digit d && each_digit ds)
+is_numeral (d ∷ ds) = not (is_space d || nat_eq d 92) && (is_digit d && each_digit ds)
 
 -- what is asked of each number below 64, and the answers
 abbrev numeral_at : ℕ → Bool
@@ -85,7 +87,7 @@ row_same {A = A} f g n k e h =
 
 numeral_digits : (w : Bytes) → is_numeral w ≡ true → each_digit w ≡ true
 numeral_digits [] e = absurd (cc e)
-numeral_digits (d ∷ ds) e = and_right (not (is_space d)) _ e
+numeral_digits (d ∷ ds) e = and_right (not (is_space d || nat_eq d 92)) _ e
 
 or_true : (a : Bool) → (a || true) ≡ true
 or_true true = refl
@@ -120,13 +122,16 @@ joined (read l x) y = read l (joined x y)
 found : (n : ℕ) (text : Bytes) (fs : List Form) (rest : Bytes) → scan n text ≡ (fs, rest) → Line text fs rest
 found n text fs rest e = subst (λ (r : List Form × Bytes). Line text r.0 r.1) e (scan_line n text)
 
--- a blank before a byte that is no space
-blank : (b : ℕ) (rest more : Bytes) (fs : List Form) → is_space b ≡ false → Line (b ∷ rest) fs more
+-- a byte that is no space and no backslash is no white space
+solid : (b : ℕ) (bs : Bytes) → (is_space b || nat_eq b 92) ≡ false → in_white b bs ≡ false
+solid b bs e = rw (or_left (is_space b) (nat_eq b 92) e, or_right (is_space b) (nat_eq b 92) e) refl
+
+-- a blank before a byte that is no white space
+blank : (b : ℕ) (rest more : Bytes) (fs : List Form) → in_white b rest ≡ false → Line (b ∷ rest) fs more
     → Line (32 ∷ b ∷ rest) fs more
 blank b rest more fs s x =
     let g : (starts : Bool) → Front starts (32 ∷ b ∷ rest) 1 reads.Gap = λ starts.
-    subst (λ (v : Bool). Front starts (32 ∷ b ∷ rest)
-    (suc (cond v (suc (run_len (by_class is_space) b rest)) 0)) reads.Gap)
+    subst (λ (v : Bool). Front starts (32 ∷ b ∷ rest) (suc (length (cond v (b ∷ spaces rest) []))) reads.Gap)
     s (space_front starts 32 (b ∷ rest) refl) in
     pass g x
 
@@ -158,7 +163,7 @@ number_line : (w : Bytes) (v c : ℕ) (k : Kind) (rest more : Bytes) (fs : List 
     → Line (32 ∷ w ++ c ∷ rest) (form.Number v k ∷ fs) more
 number_line [] v c k rest more fs e s is x = absurd (cc e)
 number_line (d ∷ ds) v c k rest more fs e s is x =
-    let digits_are : (is_digit d && each_digit ds) ≡ true = and_right (not (is_space d)) _ e in
+    let digits_are : (is_digit d && each_digit ds) ≡ true = and_right (not (is_space d || nat_eq d 92)) _ e in
     let first : is_digit d ≡ true = and_left (is_digit d) _ digits_are in
     let each : each_digit ds ≡ true = and_right (is_digit d) _ digits_are in
     let bs = ds ++ c ∷ rest in
@@ -174,7 +179,8 @@ number_line (d ∷ ds) v c k rest more fs e s is x =
     (drop-append_seam ds (c ∷ rest))
     (subst (λ (y : Bytes). Longest starts (d ∷ bs) (d ∷ y) (drop (length ds) bs) (reads.Token (form.Number v k))) t
     (a starts)) in
-    blank d bs more _ (not_true (is_space d) (and_left (not (is_space d)) _ e))
+    blank d bs more _
+    (solid d bs (not_true (is_space d || nat_eq d 92) (and_left (not (is_space d || nat_eq d 92)) _ e)))
     (read b x)
 
 -- LINES
@@ -184,12 +190,12 @@ abbrev pub function_text : ℕ → Bytes → Bytes
 function_text k rest = codes "long f" ++ (decimal k ++ (function_body ++ (decimal k ++ (codes "; }" ++ 10 ∷ rest))))
 
 body_scan : (rest : Bytes) → scan 115 (function_body ++ rest) ≡ (body_forms, 32 ∷ rest)
-unfolding keywords marks function_body
+unfolding keywords marks plain_marks function_body
 body_scan rest = refl
 
 -- the line of function k has its tokens
 pub function_is_cut : (k : ℕ) (rest : Bytes) → k < 64 → Line (function_text k rest) (function_forms k) (10 ∷ rest)
-unfolding keywords marks function_body
+unfolding keywords marks plain_marks function_body
 function_is_cut k rest h =
     let numeral : is_numeral (decimal k) ≡ true = row_same numeral_at is_yes 64 k all_numerals h in
     let tail = codes "; }" ++ 10 ∷ rest in
@@ -209,7 +215,7 @@ call_text k rest = codes "x = f" ++ (decimal k ++ (codes "(x) % 1000; putchar(65
 
 -- the line that calls function k has its tokens
 pub call_is_cut : (k : ℕ) (rest : Bytes) → k < 64 → Line (call_text k rest) (call_forms k) (10 ∷ rest)
-unfolding keywords marks
+unfolding keywords marks plain_marks
 call_is_cut k rest h =
     let numeral : is_numeral (decimal k) ≡ true = row_same numeral_at is_yes 64 k all_numerals h in
     let tail = codes "(x) % 1000; putchar(65 + (int) (x % 26));" ++ 10 ∷ rest in
@@ -221,15 +227,15 @@ call_is_cut k rest h =
 
 -- the line of the array has its tokens
 pub array_is_cut : (rest : Bytes) → Line (codes "long a[16];" ++ 10 ∷ rest) array_forms (10 ∷ rest)
-unfolding keywords marks
+unfolding keywords marks plain_marks
 array_is_cut rest = found 20 (codes "long a[16];" ++ 10 ∷ rest) array_forms (10 ∷ rest) refl
 
 -- the first line of main has its tokens
 pub main_is_cut : (rest : Bytes) → Line (codes "int main(void) { long x = 1;" ++ 10 ∷ rest) main_forms (10 ∷ rest)
-unfolding keywords marks
+unfolding keywords marks plain_marks
 main_is_cut rest = found 40 (codes "int main(void) { long x = 1;" ++ 10 ∷ rest) main_forms (10 ∷ rest) refl
 
 -- the last line of main has its tokens
 pub end_is_cut : (rest : Bytes) → Line (codes "return (int) x; }" ++ 10 ∷ rest) end_forms (10 ∷ rest)
-unfolding keywords marks
+unfolding keywords marks plain_marks
 end_is_cut rest = found 20 (codes "return (int) x; }" ++ 10 ∷ rest) end_forms (10 ∷ rest) refl

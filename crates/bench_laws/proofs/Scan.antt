@@ -12,7 +12,8 @@ use Rattle.c_tree.specs.declared.Mark.{Mark}
 use Rattle.c_lex.specs.declared.piece.Reading.{Reading}
 use Rattle.c_lex.specs.declared.piece.Reading.TheVariants as reads
 use Rattle.c_lex.specs.Bytes.{Bytes, by_class, is_space, is_letter, is_word, is_digit, in_number, is_feed}
-use Rattle.c_lex.specs.Bytes.{at_line_start}
+use Rattle.c_lex.specs.Bytes.{in_white, empty_after}
+use Rattle.c_lex.specs.inside.Spaces.{spaces}
 use Rattle.c_lex.specs.inside.Runs.{run_len}
 use Rattle.c_lex.specs.Tables.{lookup, keywords, marks}
 use Rattle.c_lex.specs.inside.Firsts.{none_longer}
@@ -66,7 +67,7 @@ step [] = unknown
 step (b ∷ bs) =
     if is_letter b then word_step b bs
     else if is_digit b then number_step b bs
-    else if is_space b then gap (suc (run_len (by_class is_space) b bs))
+    else if is_space b then gap (suc (length (spaces bs)))
     else if nat_eq b 47 then unknown
     else mark_step b bs
 
@@ -145,18 +146,18 @@ step_right (b ∷ bs) = by_letter (is_letter b) refl
     by_slash false e = mark_right b bs e
 
     by_space : (v : Bool) → is_space b ≡ v → Right (b ∷ bs)
-        (cond v (gap (suc (run_len (by_class is_space) b bs))) (cond (nat_eq b 47) unknown (mark_step b bs)))
+        (cond v (gap (suc (length (spaces bs)))) (cond (nat_eq b 47) unknown (mark_step b bs)))
     by_space true e = λ starts. space_front starts b bs e
     by_space false e = by_slash (nat_eq b 47) refl
 
     by_digit : (v : Bool) → is_digit b ≡ v → Right (b ∷ bs) (cond v (number_step b bs)
-        (cond (is_space b) (gap (suc (run_len (by_class is_space) b bs)))
+        (cond (is_space b) (gap (suc (length (spaces bs))))
         (cond (nat_eq b 47) unknown (mark_step b bs))))
     by_digit true e = number_right b bs e
     by_digit false e = by_space (is_space b) refl
 
     by_letter : (v : Bool) → is_letter b ≡ v → Right (b ∷ bs) (cond v (word_step b bs) (cond (is_digit b)
-        (number_step b bs) (cond (is_space b) (gap (suc (run_len (by_class is_space) b bs)))
+        (number_step b bs) (cond (is_space b) (gap (suc (length (spaces bs))))
         (cond (nat_eq b 47) unknown (mark_step b bs)))))
     by_letter true e = λ starts. word_front starts b bs e
     by_letter false e = by_digit (is_digit b) refl
@@ -200,11 +201,13 @@ scan_line (suc n) text = go (scan_line n) (step text) (step_right text)
 -- OFFSETS
 
 -- behind some bytes the text is cut into tokens of these forms up to the rest
-pub record Reaches (before text : Bytes) (fs : List Form) (rest : Bytes) : Type 0 where
+pub record Reaches (starts : Bool) (before text : Bytes) (fs : List Form) (rest : Bytes) : Type 0 where
   pub offsets : ℕ → ℕ
+  -- is the line empty before the rest?
+  pub ends : Bool
   -- what then stands before the rest
   pub passed : Bytes
-  pub cut : Cut before text (line_of offsets fs) passed rest
+  pub cut : Cut starts before text (line_of offsets fs) ends passed rest
 
 -- an offset, and those behind it
 abbrev one_more : ℕ → (ℕ → ℕ) → ℕ → ℕ
@@ -212,31 +215,33 @@ one_more n l zero = n
 one_more n l (suc j) = l j
 
 -- a line is cut so, wherever it stands
-pub line_cuts : (text rest : Bytes) (fs : List Form) → Line text fs rest → (before : Bytes)
-    → Reaches before text fs rest
-line_cuts text rest fs stop before = record { offsets = λ j. 0; passed = before; cut = here }
-line_cuts text rest fs (pass {piece = p} {rest = r} g x) before =
-    let y = line_cuts r rest fs x (before ++ p) in
-    record { offsets = y.offsets; passed = y.passed; cut = space (g (at_line_start before)) y.cut }
-line_cuts text rest fs (read {piece = p} {rest = r} {f = f} {fs = gs} g x) before =
-    let y = line_cuts r rest gs x (before ++ p) in
+pub line_cuts : (text rest : Bytes) (fs : List Form) → Line text fs rest → (starts : Bool) (before : Bytes)
+    → Reaches starts before text fs rest
+line_cuts text rest fs stop starts before =
+    record { offsets = λ j. 0; ends = starts; passed = before; cut = here }
+line_cuts text rest fs (pass {piece = p} {rest = r} g x) starts before =
+    let y = line_cuts r rest fs x (empty_after starts p) (before ++ p) in
+    record { offsets = y.offsets; ends = y.ends; passed = y.passed; cut = space (g starts) y.cut }
+line_cuts text rest fs (read {piece = p} {rest = r} {f = f} {fs = gs} g x) starts before =
+    let y = line_cuts r rest gs x (empty_after starts p) (before ++ p) in
     record {
       offsets = one_more (length before) y.offsets;
+      ends = y.ends;
       passed = y.passed;
-      cut = next (g (at_line_start before)) y.cut;
+      cut = next (g starts) y.cut;
     }
 
--- a line feed, and a line that begins with no space
-pub feed_cuts : (b : ℕ) (bs rest : Bytes) (fs : List Form) → is_space b ≡ false → Line (b ∷ bs) fs rest
-    → (before : Bytes) → Reaches before (10 ∷ b ∷ bs) fs rest
-feed_cuts b bs rest fs s x before =
-    let g : Front (at_line_start before) (10 ∷ b ∷ bs) 1 reads.Gap =
-    subst (λ (v : Bool). Front (at_line_start before) (10 ∷ b ∷ bs)
-    (suc (cond v (suc (run_len (by_class is_space) b bs)) 0)) reads.Gap) s
-    (space_front (at_line_start before) 10 (b ∷ bs) refl) in
-    let y = line_cuts (b ∷ bs) rest fs x (before ++ 10 ∷ []) in
-    record { offsets = y.offsets; passed = y.passed; cut = space g y.cut }
+-- a line feed, and a line that begins with no white space
+pub feed_cuts : (b : ℕ) (bs rest : Bytes) (fs : List Form) → in_white b bs ≡ false → Line (b ∷ bs) fs rest
+    → (starts : Bool) (before : Bytes) → Reaches starts before (10 ∷ b ∷ bs) fs rest
+feed_cuts b bs rest fs s x starts before =
+    let g : Front starts (10 ∷ b ∷ bs) 1 reads.Gap =
+    subst (λ (v : Bool). Front starts (10 ∷ b ∷ bs) (suc (length (cond v (b ∷ spaces bs) []))) reads.Gap) s
+    (space_front starts 10 (b ∷ bs) refl) in
+    let y = line_cuts (b ∷ bs) rest fs x (empty_after starts (10 ∷ [])) (before ++ 10 ∷ []) in
+    record { offsets = y.offsets; ends = y.ends; passed = y.passed; cut = space g y.cut }
 
 -- a line feed at the end is cut into no token
-pub last_cuts : (before : Bytes) → Cut before (10 ∷ []) [] (before ++ 10 ∷ []) []
-last_cuts before = space (space_front (at_line_start before) 10 [] refl) here
+pub last_cuts : (starts : Bool) (before : Bytes)
+    → Cut starts before (10 ∷ []) [] (empty_after starts (10 ∷ [])) (before ++ 10 ∷ []) []
+last_cuts starts before = space (space_front starts 10 [] refl) here

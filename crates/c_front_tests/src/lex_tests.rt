@@ -196,6 +196,60 @@ const ROWS: &[Row] = &[
     (b"x\x80", Err(LexFault::BadByte(1))),
 ];
 
+/// Digraphs (C17 6.4.6, paragraph 3) and splices (C17 5.1.1.2).
+const SPELLINGS: &[Row] = &[
+    (
+        b"a<:1:>",
+        Ok(&[
+            (0, Want::Name(b"a")),
+            (1, Want::Mark(Mark::LeftBracket)),
+            (3, Want::Number(1, Kind::Int)),
+            (4, Want::Mark(Mark::RightBracket)),
+        ]),
+    ),
+    (
+        b"<%%>",
+        Ok(&[
+            (0, Want::Mark(Mark::LeftBrace)),
+            (2, Want::Mark(Mark::RightBrace)),
+        ]),
+    ),
+    (
+        b"<:::>",
+        Ok(&[
+            (0, Want::Mark(Mark::LeftBracket)),
+            (2, Want::Mark(Mark::Colon)),
+            (3, Want::Mark(Mark::RightBracket)),
+        ]),
+    ),
+    (
+        b"%:%=",
+        Ok(&[
+            (0, Want::Mark(Mark::Percent)),
+            (1, Want::Mark(Mark::Colon)),
+            (2, Want::Mark(Mark::PercentAssign)),
+        ]),
+    ),
+    (
+        b"a \\\nb",
+        Ok(&[(0, Want::Name(b"a")), (4, Want::Name(b"b"))]),
+    ),
+    (
+        b"a\\\n b",
+        Ok(&[(0, Want::Name(b"a")), (4, Want::Name(b"b"))]),
+    ),
+    (b" \\\n\\\nx", Ok(&[(5, Want::Name(b"x"))])),
+    (b"a\\\nb", Err(LexFault::BadByte(1))),
+    (b"1\\\n2", Err(LexFault::BadByte(1))),
+    (b"a\\\n\\\n b", Err(LexFault::BadByte(1))),
+    (b"a \\ \nb", Err(LexFault::BadByte(2))),
+    (b"a \\", Err(LexFault::BadByte(2))),
+    (b"// a\\\nb\nc", Ok(&[(8, Want::Name(b"c"))])),
+    (b"//\\", Ok(&[])),
+    (b"x \\\n#include <stdio.h>", Err(LexFault::BadByte(4))),
+    (b" \\\n #include <stdio.h>", Ok(&[(4, Want::Include)])),
+];
+
 fn is_wanted(form: &Form, want: Want) -> bool {
     match want {
         Want::Include => match form {
@@ -253,6 +307,11 @@ fn assert_rows(rt: &impl Abort, alloc: Global, rows: &[Row]) {
     for (text, want) in rows {
         assert!(rt; is_answered(alloc, text, *want), "{text:?}");
     }
+}
+
+#[test]
+fn lexes_digraphs_and_splices(rt: HostRuntime) {
+    assert_rows(&rt, rt.alloc(), SPELLINGS);
 }
 
 #[test]

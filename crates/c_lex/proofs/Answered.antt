@@ -12,8 +12,7 @@ use Rattle.c_tree.specs.declared.Mark.{Mark}
 use Rattle.c_lex.specs.declared.piece.Reading.{Reading}
 use Rattle.c_lex.specs.declared.piece.Reading.TheVariants as reads
 use Rattle.c_lex.specs.Bytes.{Bytes, by_class, is_space, is_letter, is_word, is_digit, in_number}
-use Rattle.c_lex.specs.Bytes.{not_feed}
-use Rattle.c_lex.specs.Bytes.{at_line_start}
+use Rattle.c_lex.specs.Bytes.{not_feed, feed_and_space, empty_after}
 use Rattle.c_lex.specs.inside.Runs.{run_len}
 use Rattle.c_lex.specs.Tables.{lookup, keywords}
 use Rattle.c_lex.specs.inside.Scans.{constant_of, character_of, close_from, mark_of, is_include}
@@ -28,7 +27,9 @@ use Rattle.c_lex.proofs.Found.{space_found, word_found, number_found, bad_number
 use Rattle.c_lex.proofs.Found.{character_found}
 use Rattle.c_lex.proofs.Found.{quote_found, comment_found, opening_found, line_found, include_found}
 use Rattle.c_lex.proofs.Found.{directive_found, marks_find, hash_nothing}
-use Rattle.c_lex.proofs.ReadSoFar.{grown, whole, bytes_nil, piece_some}
+use Rattle.c_lex.proofs.Found.{splice_nothing, piece_some}
+use Rattle.c_lex.proofs.WhiteSpace.{space_there, splice_there}
+use Rattle.c_lex.proofs.ReadSoFar.{grown, whole, bytes_nil}
 
 -- ---- the piece at a place
 
@@ -58,11 +59,11 @@ module _ (starts : Bool) (b : ℕ) (bs : Bytes) where
   mark_at (Some p) e = (Some (found p.0 (reads.Token (form.Mark p.1))), (p.1, refl, e))
 
   module _ (s : is_space b ≡ false) (l : is_letter b ≡ false) (d : is_digit b ≡ false) (q : nat_eq b 39 ≡ false)
-      (h : nat_eq b 35 ≡ false) where
+      (h : nat_eq b 35 ≡ false) (k : nat_eq b 92 ≡ false) where
     -- no comment begins here
     unmarked : begins_comment Text ≡ false → Finding starts Text
     unmarked c =
-        let m = mark_at (mark_of Text) refl in (m.0, marks_find starts Text b bs m.0 refl s l d q h c m.1)
+        let m = mark_at (mark_of Text) refl in (m.0, marks_find starts Text b bs m.0 refl s l d q h k c m.1)
 
     no_slash : nat_eq b 47 ≡ false → Finding starts Text
     no_slash e =
@@ -81,11 +82,11 @@ module _ (starts : Bool) where
   second_at c cs false true e f =
       subst (λ (x : ℕ). Finding starts (47 ∷ x ∷ cs)) (sym (eq_is c 42 f)) (block_at cs (close_from 0 cs) refl)
   second_at c cs false false e f =
-      unmarked starts 47 (c ∷ cs) refl refl refl refl refl
+      unmarked starts 47 (c ∷ cs) refl refl refl refl refl refl
       (ap (λ (v : Bool). v || nat_eq c 42) e ∙ f)
 
   slash_at : (bs : Bytes) → Finding starts (47 ∷ bs)
-  slash_at [] = unmarked starts 47 [] refl refl refl refl refl refl
+  slash_at [] = unmarked starts 47 [] refl refl refl refl refl refl refl
   slash_at (c ∷ cs) = second_at c cs (nat_eq c 47) (nat_eq c 42) refl refl
 
 -- a line that begins with `#`
@@ -98,16 +99,28 @@ hash_at : (starts : Bool) (bs : Bytes) → Finding starts (35 ∷ bs)
 hash_at true bs = line_at bs (is_include (take (run_len (by_class not_feed) 0 bs) bs)) refl
 hash_at false bs = (None, hash_nothing false (35 ∷ bs) bs refl refl)
 
+-- a backslash
+splice_at : (starts : Bool) (bs : Bytes) (t : Bool) → feed_and_space bs ≡ t → Finding starts (92 ∷ bs)
+splice_at starts bs true e = (Some _, space_found starts (92 ∷ bs) _ (splice_there bs ∙ e) refl)
+splice_at starts bs false e = (None, splice_nothing starts (92 ∷ bs) bs refl e)
+
 module _ (starts : Bool) (b : ℕ) (bs : Bytes) where
   by_slash : (t : Bool) → nat_eq b 47 ≡ t → is_space b ≡ false → is_letter b ≡ false → is_digit b ≡ false
+      → nat_eq b 39 ≡ false → nat_eq b 35 ≡ false → nat_eq b 92 ≡ false → Finding starts (b ∷ bs)
+  by_slash true e s l d q h k = subst (λ (x : ℕ). Finding starts (x ∷ bs)) (sym (eq_is b 47 e)) (slash_at starts bs)
+  by_slash false e s l d q h k = no_slash starts b bs s l d q h k e
+
+  by_backslash : (t : Bool) → nat_eq b 92 ≡ t → is_space b ≡ false → is_letter b ≡ false → is_digit b ≡ false
       → nat_eq b 39 ≡ false → nat_eq b 35 ≡ false → Finding starts (b ∷ bs)
-  by_slash true e s l d q h = subst (λ (x : ℕ). Finding starts (x ∷ bs)) (sym (eq_is b 47 e)) (slash_at starts bs)
-  by_slash false e s l d q h = no_slash starts b bs s l d q h e
+  by_backslash true e s l d q h =
+      subst (λ (x : ℕ). Finding starts (x ∷ bs)) (sym (eq_is b 92 e))
+      (splice_at starts bs (feed_and_space bs) refl)
+  by_backslash false e s l d q h = by_slash (nat_eq b 47) refl s l d q h e
 
   by_hash : (t : Bool) → nat_eq b 35 ≡ t → is_space b ≡ false → is_letter b ≡ false → is_digit b ≡ false
       → nat_eq b 39 ≡ false → Finding starts (b ∷ bs)
   by_hash true e s l d q = subst (λ (x : ℕ). Finding starts (x ∷ bs)) (sym (eq_is b 35 e)) (hash_at starts bs)
-  by_hash false e s l d q = by_slash (nat_eq b 47) refl s l d q e
+  by_hash false e s l d q = by_backslash (nat_eq b 92) refl s l d q e
 
   by_quote : (t : Bool) → nat_eq b 39 ≡ t → is_space b ≡ false → is_letter b ≡ false → is_digit b ≡ false
       → Finding starts (b ∷ bs)
@@ -128,7 +141,7 @@ module _ (starts : Bool) (b : ℕ) (bs : Bytes) where
   by_letter false e s = by_digit (is_digit b) refl s e
 
   by_space : (t : Bool) → is_space b ≡ t → Finding starts (b ∷ bs)
-  by_space true e = (Some _, space_found starts (b ∷ bs) b bs (run_len (by_class is_space) b bs + 1) refl e refl)
+  by_space true e = (Some _, space_found starts (b ∷ bs) _ (space_there b bs e) refl)
   by_space false e = by_letter (is_letter b) refl e
 
 -- a piece stands at the front of a text that has a byte, or none does
@@ -148,20 +161,22 @@ full : (n m : ℕ) → nat_lt n m ≡ false → n ≤ m → n ≡ m
 full n m e h = let k : m ≤ n = not_below n m e in omega arith
 
 -- the text is cut so far, in which there are so many tokens
-record So (text before : Bytes) (ts : Tokens) (rest : Bytes) : Type 0 where
-  cut : Cut [] text ts before rest
+record So (text : Bytes) (starts : Bool) (before : Bytes) (ts : Tokens) (rest : Bytes) : Type 0 where
+  cut : Cut true [] text ts starts before rest
   few : length ts ≤ 8192
 
 -- a cut to the end is the whole
-at_end : (text before : Bytes) (ts : Tokens) → So text before ts [] → Lexed 8192 text ts
-at_end text before ts s =
+at_end : (text : Bytes) (starts : Bool) (before : Bytes) (ts : Tokens) → So text starts before ts []
+    → Lexed 8192 text ts
+at_end text starts before ts s =
     let w : text ≡ before = whole [] text before [] ts s.cut ∙ bytes_nil before in
-    (subst (λ (x : Bytes). Cut [] text ts x []) (sym w) s.cut, s.few)
+    ((starts, subst (λ (x : Bytes). Cut true [] text ts starts x []) (sym w) s.cut), s.few)
 
 -- the rest of the way, from a shorter rest on
 abbrev Onward : ℕ → Bytes → Type 0
 Onward n text =
-    (before rest : Bytes) (ts : Tokens) → length rest ≤ n → So text before ts rest → Answered 8192 text
+    (starts : Bool) (before rest : Bytes) (ts : Tokens) → length rest ≤ n → So text starts before ts rest
+    → Answered 8192 text
 
 -- a piece leaves a shorter rest
 left_over : (starts : Bool) (old p r : Bytes) (q : Reading) (n : ℕ) → Longest starts old p r q
@@ -171,21 +186,21 @@ left_over starts old p r q n l h =
     let total : length old ≡ length p + length r = ap length l.split ∙ length-append p r in
     omega arith
 
-module _ (n : ℕ) (text before rest : Bytes) (ts : Tokens) (short : length rest ≤ suc n) (so : So text before ts rest)
-    (onward : Onward n text) where
+module _ (n : ℕ) (text : Bytes) (starts : Bool) (before rest : Bytes) (ts : Tokens) (short : length rest ≤ suc n)
+    (so : So text starts before ts rest) (onward : Onward n text) where
   -- on behind a piece that adds these tokens
-  passed : (p r : Bytes) (q : Reading) (us : Tokens) → Longest (at_line_start before) rest p r q
+  passed : (p r : Bytes) (q : Reading) (us : Tokens) → Longest starts rest p r q
       → Grows 8192 (length before) q ts us → Answered 8192 text
   passed p r q us l g =
-      let c = grown text before p r rest (length before) q ts us so.cut refl l g so.few in
-      onward (before ++ p) r us (left_over (at_line_start before) rest p r q n l short)
+      let c = grown text before p r rest starts (length before) q ts us so.cut refl l g so.few in
+      onward (empty_after starts p) (before ++ p) r us (left_over starts rest p r q n l short)
       (record { cut = c.0; few = c.1 })
 
   stopped : (f : Fault) → FaultAt 8192 text f (length before) → Answered 8192 text
   stopped f x = inr (f, length before, x)
 
   token_at : (p r : Bytes) (f : Form) (t : Bool) → nat_lt (length ts) 8192 ≡ t
-      → Longest (at_line_start before) rest p r (reads.Token f) → Answered 8192 text
+      → Longest starts rest p r (reads.Token f) → Answered 8192 text
   token_at p r f true e l =
       passed p r (reads.Token f) (ts ++ lexeme before f ∷ []) l (refl, (let h : length ts < 8192 = room in h))
     where
@@ -194,6 +209,7 @@ module _ (n : ℕ) (text before rest : Bytes) (ts : Tokens) (short : length rest
   token_at p r f false e l =
       stopped TooManyTokens (record {
         tokens = ts;
+        starts = starts;
         before = before;
         after = rest;
         cut = so.cut;
@@ -202,12 +218,13 @@ module _ (n : ℕ) (text before rest : Bytes) (ts : Tokens) (short : length rest
         offset_is = refl;
       })
 
-  reading_at : (p r : Bytes) (q : Reading) → Longest (at_line_start before) rest p r q → Answered 8192 text
+  reading_at : (p r : Bytes) (q : Reading) → Longest starts rest p r q → Answered 8192 text
   reading_at p r reads.Gap l = passed p r reads.Gap ts l refl
   reading_at p r (reads.Token f) l = token_at p r f (nat_lt (length ts) 8192) refl l
   reading_at p r (reads.Broken b) l =
       stopped (fault_of b) (record {
         tokens = ts;
+        starts = starts;
         before = before;
         after = rest;
         cut = so.cut;
@@ -216,10 +233,11 @@ module _ (n : ℕ) (text before rest : Bytes) (ts : Tokens) (short : length rest
         offset_is = refl;
       })
 
-  piece_at : (rest ≡ [] → ⊥) → Finding (at_line_start before) rest → Answered 8192 text
+  piece_at : (rest ≡ [] → ⊥) → Finding starts rest → Answered 8192 text
   piece_at ne (None, x) =
       stopped BadByte (record {
         tokens = ts;
+        starts = starts;
         before = before;
         after = rest;
         cut = so.cut;
@@ -231,12 +249,12 @@ module _ (n : ℕ) (text before rest : Bytes) (ts : Tokens) (short : length rest
 
 -- each place leads on
 walk : (n : ℕ) (text : Bytes) → Onward n text
-walk n text before [] ts h so = inl (ts, at_end text before ts so)
-walk zero text before (b ∷ bs) ts h so = absurd
+walk n text starts before [] ts h so = inl (ts, at_end text starts before ts so)
+walk zero text starts before (b ∷ bs) ts h so = absurd
     (let l : length (b ∷ bs) ≡ suc (length bs) = refl in omega arith)
-walk (suc n) text before (b ∷ bs) ts h so =
-    piece_at n text before (b ∷ bs) ts h so (walk n text) (λ e. cc) (find_piece (at_line_start before) b bs)
+walk (suc n) text starts before (b ∷ bs) ts h so =
+    piece_at n text starts before (b ∷ bs) ts h so (walk n text) (λ e. cc) (find_piece starts b bs)
 
 -- every text has tokens, few enough, or a fault
 pub answered : (text : Bytes) → Answered 8192 text
-answered text = walk (length text) text [] text [] (omega arith) (record { cut = here; few = omega arith })
+answered text = walk (length text) text true [] text [] (omega arith) (record { cut = here; few = omega arith })

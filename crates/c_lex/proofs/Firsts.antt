@@ -12,6 +12,7 @@ use Rattle.c_lex.specs.declared.first.First.{First}
 use Rattle.c_lex.specs.declared.first.First.TheVariants as first
 use Rattle.c_lex.specs.declared.first.TheConstants.{FIRSTS}
 use Rattle.c_lex.specs.Bytes.{Bytes, is_space, is_letter, is_digit, is_word}
+use Rattle.c_tree.specs.Marks.{marks as plain_marks}
 use Rattle.c_lex.specs.Tables.{lookup, keywords, marks}
 use Rattle.c_lex.specs.inside.Scans.{short_constant, constant_of}
 use Rattle.c_lex.specs.inside.Firsts.{first_of, of_mark, none_longer, goes_on_word}
@@ -34,7 +35,7 @@ tabled_at f from (suc n) (suc k) d h =
 
 -- the table has what each byte begins
 firsts_right : tabled first_of 0 256 ≡ FIRSTS
-unfolding marks
+unfolding marks plain_marks
 firsts_right = refl
 
 -- the row of a byte is what it begins
@@ -55,6 +56,7 @@ pub record IsOther (b : ℕ) : Type 0 where
   pub no_digit : is_digit b ≡ false
   pub no_quote : nat_eq b 39 ≡ false
   pub no_hash : nat_eq b 35 ≡ false
+  pub no_backslash : nat_eq b 92 ≡ false
   pub no_mark : lookup (b ∷ []) marks ≡ None
 
 -- what each class says of its bytes
@@ -64,6 +66,7 @@ Is b first.Letter = is_letter b ≡ true
 Is b first.Digit = is_digit b ≡ true
 Is b first.Quote = nat_eq b 39 ≡ true
 Is b first.Hash = nat_eq b 35 ≡ true
+Is b first.Backslash = nat_eq b 92 ≡ true
 Is b (first.Only m) = IsOnly b m
 Is b (first.Begins m) = lookup (b ∷ []) marks ≡ Some m
 Is b first.Other = IsOther b
@@ -71,16 +74,17 @@ Is b first.Other = IsOther b
 -- a byte of no other class is a mark, or begins no piece
 marks_are : (b : ℕ) (o : Option Mark) → lookup (b ∷ []) marks ≡ o → is_space b ≡ false
     → is_letter b ≡ false → is_digit b ≡ false → nat_eq b 39 ≡ false → nat_eq b 35 ≡ false
-    → Is b (of_mark b o)
-marks_are b None e s l d q h = record {
+    → nat_eq b 92 ≡ false → Is b (of_mark b o)
+marks_are b None e s l d q h k = record {
   no_space = s;
   no_letter = l;
   no_digit = d;
   no_quote = q;
   no_hash = h;
+  no_backslash = k;
   no_mark = e;
 }
-marks_are b (Some m) e s l d q h =
+marks_are b (Some m) e s l d q h k =
     let P : Bool → Type 0 = λ v. none_longer b marks ≡ v
     → Is b (cond v (first.Only m) (first.Begins m)) in
     elim (none_longer b marks) as (λ v. P v) [
@@ -89,8 +93,11 @@ marks_are b (Some m) e s l d q h =
     ] refl
 
 -- the class of a byte, after each test that it failed
+abbrev pub after_hash : ℕ → First
+after_hash b = cond (nat_eq b 92) first.Backslash (of_mark b (lookup (b ∷ []) marks))
+
 abbrev pub after_quote : ℕ → First
-after_quote b = cond (nat_eq b 35) first.Hash (of_mark b (lookup (b ∷ []) marks))
+after_quote b = cond (nat_eq b 35) first.Hash (after_hash b)
 
 abbrev pub after_digit : ℕ → First
 after_digit b = cond (nat_eq b 39) first.Quote (after_quote b)
@@ -105,11 +112,16 @@ after_space b = cond (is_letter b) first.Letter (after_letter b)
 pub first_is : (b : ℕ) → Is b (first_of b)
 first_is b = by_space (is_space b) refl
   where
+    by_backslash : (v : Bool) → nat_eq b 92 ≡ v → is_space b ≡ false → is_letter b ≡ false
+        → is_digit b ≡ false → nat_eq b 39 ≡ false → nat_eq b 35 ≡ false
+        → Is b (cond v first.Backslash (of_mark b (lookup (b ∷ []) marks)))
+    by_backslash true k s l d q h = k
+    by_backslash false k s l d q h = marks_are b (lookup (b ∷ []) marks) refl s l d q h k
+
     by_hash : (v : Bool) → nat_eq b 35 ≡ v → is_space b ≡ false → is_letter b ≡ false
-        → is_digit b ≡ false → nat_eq b 39 ≡ false
-        → Is b (cond v first.Hash (of_mark b (lookup (b ∷ []) marks)))
+        → is_digit b ≡ false → nat_eq b 39 ≡ false → Is b (cond v first.Hash (after_hash b))
     by_hash true h s l d q = h
-    by_hash false h s l d q = marks_are b (lookup (b ∷ []) marks) refl s l d q h
+    by_hash false h s l d q = by_backslash (nat_eq b 92) refl s l d q h
 
     by_quote : (v : Bool) → nat_eq b 39 ≡ v → is_space b ≡ false → is_letter b ≡ false
         → is_digit b ≡ false → Is b (cond v first.Quote (after_quote b))
@@ -136,7 +148,7 @@ class_is b f e = subst (λ (x : First). Is b x) (sym e) (first_is b)
 
 -- of each byte the class says whether a word may go on with it
 words_right : tabled (λ b. goes_on_word (first_of b)) 0 256 ≡ tabled is_word 0 256
-unfolding marks
+unfolding marks plain_marks
 words_right = refl
 
 -- the class says whether a word may go on with the byte
@@ -161,7 +173,7 @@ one_byte b h =
 
 -- `/=` begins with `/`
 slash_begins : none_longer 47 marks ≡ false
-unfolding marks
+unfolding marks plain_marks
 slash_begins = refl
 
 -- a comment may begin with `/`, so that it is no such mark
@@ -177,7 +189,7 @@ only_no_slash b m o = elim (true_or_false (nat_eq b 47)) [
 
 -- such a byte begins no piece
 pub others : (b : ℕ) → IsOther b → group b ≡ Others
-others b o = rw (o.no_space, o.no_letter, o.no_digit, o.no_quote, no_slash, o.no_hash, o.no_mark)
+others b o = rw (o.no_space, o.no_backslash, o.no_letter, o.no_digit, o.no_quote, no_slash, o.no_hash, o.no_mark)
   where
     no_slash : nat_eq b 47 ≡ false
     no_slash = elim (true_or_false (nat_eq b 47)) [

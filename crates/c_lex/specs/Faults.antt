@@ -1,7 +1,7 @@
 -- Which fault a text has, and where it stands.
-use Rattle.std.specs.Prelude.{◌≡◌, ◌≤◌, ℕ, Bool, [], length}
+use Rattle.std.specs.Prelude.{◌≡◌, ◌≤◌, ℕ, Bool, true, [], length}
 use Rattle.c_tree.specs.declared.Form.{Form}
-use Rattle.c_lex.specs.Bytes.{Bytes, at_line_start}
+use Rattle.c_lex.specs.Bytes.{Bytes}
 use Rattle.c_lex.specs.declared.piece.Broken.{Broken}
 use Rattle.c_lex.specs.declared.piece.Broken.TheVariants as kind
 use Rattle.c_lex.specs.declared.piece.Reading.TheVariants as reads
@@ -40,13 +40,15 @@ pub data Stands (most : ℕ) (count : ℕ) (starts : Bool) (text : Bytes) : Faul
 pub record FaultAt (most : ℕ) (text : Bytes) (fault : Fault) (offset : ℕ) : Type 0 where
   -- those that end before the fault
   pub tokens : Tokens
+  -- is its line empty before it?
+  pub starts : Bool
   -- the text up to the fault
   pub before : Bytes
   -- the text from the fault on
   pub after : Bytes
   -- up to there the text has these tokens, and no fault
-  pub cut : Cut [] text tokens before after
+  pub cut : Cut true [] text tokens starts before after
   pub few : length tokens ≤ most
   -- with these tokens before it
-  pub stands : Stands most (length tokens) (at_line_start before) after fault
+  pub stands : Stands most (length tokens) starts after fault
   pub offset_is : offset ≡ length before

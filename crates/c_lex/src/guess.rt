@@ -4,7 +4,7 @@
 //! no table and no spread can be changed alone; `bench/marks` writes the tables.
 
 ghost use Rattle.std.specs.Prelude.{◌≡◌, ◌<◌, map, length, slice_index};
-ghost use Rattle.c_lex.specs.Tables.{lookup, keywords, marks};
+ghost use Rattle.c_lex.specs.Tables.{lookup, keywords, marks, digraphs};
 ghost use Rattle.c_lex.specs.inside.Guesses.{spread_of, key_guess, mark_guess, row_at};
 
 use crate::table::KEYWORDS;
@@ -104,11 +104,31 @@ pub fn find_key(word: &[u8]) -> Option<Key>
     row_at(&KEYWORDS, guess_key(word), word)
 }
 
+/// The punctuator that the bytes are a digraph of (C17 6.4.6, paragraph 3), if they are one.
+fn find_digraph(text: &[u8]) -> Option<Mark>
+    ensures { result ≡ lookup text.now digraphs }
+{
+    if same_bytes(text, b"<:") {
+        Some(Mark::LeftBracket)
+    } else if same_bytes(text, b":>") {
+        Some(Mark::RightBracket)
+    } else if same_bytes(text, b"<%") {
+        Some(Mark::LeftBrace)
+    } else if same_bytes(text, b"%>") {
+        Some(Mark::RightBrace)
+    } else {
+        None
+    }
+}
+
 /// The punctuator that the bytes are, if they are one.
-#[tactic(auto, using(crate::proofs::Guesses::mark_guessed))]
+#[tactic(auto, using(crate::proofs::Guesses::mark_guessed, crate::proofs::Guesses::digraph_guessed))]
 pub fn find_mark(text: &[u8]) -> Option<Mark>
     requires some { 0 < length text.now }
     ensures { result ≡ lookup text.now marks }
 {
-    row_at(&MARKS, guess_mark(text), text)
+    match row_at(&MARKS, guess_mark(text), text) {
+        Some(mark) => Some(mark),
+        None => find_digraph(text),
+    }
 }

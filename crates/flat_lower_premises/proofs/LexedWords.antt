@@ -109,7 +109,7 @@ word_has p None = tt
 word_has p (Some k) = tt
 
 piece_has : (starts : Bool) (p : Bytes) (r : Reading) → Piece starts p r → ReadingHasWord r
-piece_has starts p _ (piece.space e h hs) = tt
+piece_has starts p _ (piece.space w h) = tt
 piece_has starts p _ (piece.line_comment e h) = tt
 piece_has starts p _ (piece.comment body e h) = tt
 piece_has starts p _ (piece.opening e) = tt
@@ -123,8 +123,8 @@ piece_has starts p _ (piece.mark e) = tt
 piece_has starts p _ (piece.include s e h) = tt
 piece_has starts p _ (piece.other_line s e h n) = tt
 
-cut_has : (before text after : Bytes) (rest : Bytes) (ts : Tokens) → Cut before text ts after rest
-    → TokensHaveWords ts
+cut_has : {s s' : Bool} (before text after : Bytes) (rest : Bytes) (ts : Tokens)
+    → Cut s before text ts s' after rest → TokensHaveWords ts
 cut_has before text after rest _ cut.here = tt
 cut_has before text after rest ts (cut.space l c) = cut_has _ _ after rest ts c
 cut_has before text after rest _ (cut.next {ts = ts} {f = f} l c) =
@@ -132,4 +132,4 @@ cut_has before text after rest _ (cut.next {ts = ts} {f = f} l c) =
 
 -- the numbers of a text's tokens are words of their types
 pub lexed_has : (most : ℕ) (text : Bytes) (ts : Tokens) → Lexed most text ts → TokensHaveWords ts
-lexed_has most text ts h = cut_has [] text text [] ts h.0
+lexed_has most text ts h = cut_has [] text text [] ts h.0.1

@@ -6,6 +6,14 @@ use Rattle.std.specs.Prelude.{ℕ}
 abbrev pub ampersand : ℕ
 ampersand = 38
 
+-- the byte of `%`, the second of a digraph
+abbrev pub percent : ℕ
+percent = 37
+
+-- the byte of `:`, the second of a digraph
+abbrev pub colon : ℕ
+colon = 58
+
 -- the byte of `<`, which may be doubled
 abbrev pub less : ℕ
 less = 60

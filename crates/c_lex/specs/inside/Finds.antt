@@ -10,7 +10,7 @@ use Rattle.c_lex.specs.declared.piece.Comment.{Comment}
 use Rattle.c_lex.specs.declared.piece.Comment.TheVariants as comment
 use Rattle.c_lex.specs.declared.piece.Reading.{Reading}
 use Rattle.c_lex.specs.declared.piece.Reading.TheVariants as reads
-use Rattle.c_lex.specs.Bytes.{Bytes, still_empty}
+use Rattle.c_lex.specs.Bytes.{Bytes, empty_after}
 use Rattle.c_lex.specs.Pieces.{NoPiece, begins_with, word_form}
 use Rattle.c_lex.specs.inside.Pieces.{Front}
 use Rattle.c_lex.specs.Tables.{lookup, keywords}
@@ -65,7 +65,7 @@ Opens text comment.Absent = begins_comment text ≡ false
 pub record IsComment (starts : Bool) (text : Bytes) (n : ℕ) : Type 0 where
   pub front : IsFront starts text (found n reads.Gap)
   -- its line is not empty behind it
-  pub filled : still_empty starts (take n text) ≡ false
+  pub filled : empty_after starts (take n text) ≡ false
 
 -- the longest mark is found, if one stands there
 abbrev pub Marks : Bytes → Option Found → Type 0

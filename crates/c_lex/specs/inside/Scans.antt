@@ -37,7 +37,8 @@ abbrev pub goes_on : ℕ → Bool
 goes_on b =
     (nat_eq b inside_ascii.less || (nat_eq b inside_ascii.equal || nat_eq b inside_ascii.greater))
     || ((nat_eq b inside_ascii.ampersand || nat_eq b inside_ascii.bar)
-    || (nat_eq b ascii.plus || nat_eq b ascii.minus))
+    || ((nat_eq b ascii.plus || nat_eq b ascii.minus)
+    || (nat_eq b inside_ascii.percent || nat_eq b inside_ascii.colon)))
 
 -- the longest mark at the front, with its length
 abbrev pub mark_of : Bytes → Option (ℕ × Mark)

@@ -4,7 +4,7 @@ use Rattle.c_lex.specs.declared.piece.Reading.{Reading}
 use Rattle.c_lex.specs.declared.piece.Reading.TheVariants as reads
 use Rattle.c_lex.specs.declared.fault.LexFault.{LexFault}
 use Rattle.c_lex.specs.declared.fault.LexFault.TheVariants as fault
-use Rattle.c_lex.specs.Bytes.{Bytes, still_empty}
+use Rattle.c_lex.specs.Bytes.{Bytes, empty_after}
 use Rattle.c_lex.specs.Pieces.{Longest}
 use Rattle.c_lex.specs.Lexes.{Tokens}
 use Rattle.c_lex.specs.Faults.{Fault, Stands}
@@ -36,7 +36,7 @@ pub record Moved (most : ℕ) (old new : Place) : Type 0 where
   pub longest : Longest old.starts old.rest piece new.rest reading
   -- by the bytes of the piece
   pub offset_is : new.offset ≡ old.offset + length piece
-  pub starts_is : new.starts ≡ still_empty old.starts piece
+  pub starts_is : new.starts ≡ empty_after old.starts piece
   -- by one, where the piece is a token
   pub grows : Grows most old.offset reading old.tokens new.tokens
 

@@ -1,12 +1,20 @@
 use Rattle.std.proofs.Common.{sym, ap, ◌∙◌, take}
 use Rattle.c_lex.specs.declared.first.First.TheVariants as first
-use Rattle.c_lex.specs.Bytes.{Bytes}
+use Rattle.c_lex.specs.Bytes.{Bytes, has_space}
+use Rattle.c_lex.specs.inside.Spaces.{spaces}
+use Rattle.c_lex.proofs.WhiteSpace.{space_there}
 use Rattle.c_lex.specs.Tables.{lookup, marks}
 use Rattle.c_lex.specs.inside.Places.{place}
 use Rattle.c_lex.proofs.Firsts.{class_is}
 use Rattle.c_lex.proofs.Found.{only_found, other_nothing}
 use Rattle.c_lex.proofs.ReadSoFar.{byte_stops}
 use Rattle.c_lex.proofs.lexer.Lexer.by_first.Goals as goal
+
+pub pass_spaces-requires-clause-begins : goal.pass_spaces-requires-clause-begins
+pass_spaces-requires-clause-begins c =
+    ap (λ (t : Bytes). has_space (spaces t)) c.requires.same
+    ∙ space_there c.args.first c.args.rest.now
+    (class_is c.args.first first.Space (sym c.in-Space.is ∙ c.requires.class))
 
 pub mark-requires-clause-front : goal.mark-requires-clause-front
 mark-requires-clause-front c =

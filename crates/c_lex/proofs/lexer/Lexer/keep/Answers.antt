@@ -1,6 +1,6 @@
 use Rattle.std.proofs.Common.{refl}
 use Rattle.c_lex.specs.inside.Places.{place}
-use Rattle.c_lex.proofs.NoLineFeed.{kept}
+use Rattle.c_lex.proofs.Kept.{kept}
 use Rattle.c_lex.proofs.lexer.Lexer.keep.Goals as goal
 
 pub returns-clause-moved : goal.returns-clause-moved

@@ -1,7 +1,8 @@
 use Rattle.std.proofs.Common.{◌≡◌, ◌≤◌, ◌+◌, min, length, vec_capacity, refl, ap, arith}
 use Rattle.c_lex.specs.inside.Places.{place}
 use Rattle.c_lex.specs.inside.Spaces.{after_spaces}
-use Rattle.c_lex.proofs.Spaces.{passed, behind_few}
+use Rattle.c_lex.proofs.Spaces.{passed}
+use Rattle.c_lex.proofs.WhiteSpace.{behind_few}
 use Rattle.c_lex.proofs.lexer.Lexer.pass_spaces.Goals as goal
 
 pub returns-clause-moved : goal.returns-clause-moved
