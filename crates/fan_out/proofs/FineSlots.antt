@@ -21,8 +21,8 @@ use Rattle.ir_forms.specs.declared.flow.FlowBlock.{FlowBlock}
 use Rattle.ir_forms.specs.inside.FlowRuns.{sense_of, count}
 use Rattle.ir_forms.specs.inside.FlowFits.{FitsNode}
 use Rattle.ir_forms.specs.inside.FlowFits.{AtMostOne}
-use Rattle.fan_out.specs.inside.Wires.{Wire, wired_to, guard_note, guard_sources, node_wires, nodes_wires, writes_wires}
-use Rattle.fan_out.specs.inside.Wires.{wires, uses}
+use Rattle.fan_out.specs.inside.Wires.{Wire, wired_to, guard_note, guard_sources, node_wires, nodes_wires}
+use Rattle.fan_out.specs.inside.Wires.{writes_wires, wires, uses}
 use Rattle.fan_out.specs.inside.Fans.{Placed, Fan}
 use Rattle.fan_out.specs.inside.Targeted.{placed_node, read_slots, with_targets, slots}
 use Rattle.fan_out.specs.inside.Targeted.{slots_of_nodes, movs_of_reads, movs_of_nodes, next_of_nodes}

@@ -8,8 +8,8 @@ use ir_forms::FlowSource;
 use std::alloc::Global;
 use trips_isa::Spot;
 
-// The heights of a block stand in one list: those of its nodes, then of their guards, of its writes, and of the reads of
-// all registers.
+// The heights of a block stand in one list: those of its nodes, then of their guards, of its writes, and of the reads
+// of all registers.
 const GUARDS: usize = 128;
 
 const WRITES: usize = 256;
@@ -170,8 +170,8 @@ fn put_in(to: &mut Items<Spot>, heights: &[u8], spot: Spot, spots: &[Spot]) -> R
     }
 }
 
-/// Some spots, the highest first. Want of memory is the only error.
-pub fn ordered(alloc: Global, heights: &[u8], spots: &[Spot]) -> Result<Items<Spot>, Memory>
+// Some spots, the highest first.
+fn ordered(alloc: Global, heights: &[u8], spots: &[Spot]) -> Result<Items<Spot>, Memory>
     ensures ok { IfOk result (λ ts. ts ≡ spec.ordered heights.now spots.now) }
 {
     match spots {
@@ -183,6 +183,32 @@ pub fn ordered(alloc: Global, heights: &[u8], spots: &[Spot]) -> Result<Items<Sp
             Ok(to)
         }
     }
+}
+
+// Whether no spot is higher than the one before it.
+fn falls(heights: &[u8], spots: &[Spot]) -> bool
+    ensures { result ≡ spec.falls 255 heights.now spots.now }
+{
+    let mut last = 255;
+    for spot in spots {
+        let h = height(heights, *spot);
+        if last < h {
+            return false;
+        }
+        last = h;
+    }
+    true
+}
+
+/// Some spots, the highest first: mostly they stand so. Want of memory is the only error.
+#[tactic(auto, using(crate::proofs::Heightened::falls_ordered))]
+pub fn in_height(alloc: Global, heights: &[u8], spots: Items<Spot>) -> Result<Items<Spot>, Memory>
+    ensures ok { IfOk result (λ ts. ts ≡ spec.ordered heights.now spots) }
+{
+    if falls(heights, spots.as_slice()) {
+        return Ok(spots);
+    }
+    ordered(alloc, heights, spots.as_slice())
 }
 
 /// Whether the first of some spots is above the second by two or more.
