@@ -18,7 +18,7 @@ pub const ROWS: &[Row] = &[
             use arrays and variables",
     ),
     (
-        "int main(void) { return 1 + \\\n1; }\n",
+        "int main(void) { return 1 + \\ 1; }\n",
         "a.c:1:29: lex BadByte: '\\' joins no lines here: write what belongs together on one line",
     ),
     (
