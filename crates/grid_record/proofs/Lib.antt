@@ -1,0 +1,4 @@
+pub mod FrameFacts
+pub mod PieceFacts
+pub mod RecordFacts
+pub mod RunFacts

@@ -1,0 +1,4 @@
+pub mod Pieces
+pub mod Moments
+pub mod Records
+pub mod inside
