@@ -1,6 +1,6 @@
 -- The benchmark's text has these tokens.
-use Rattle.std.proofs.Common.{◌≡◌, ◌≤◌, ◌<◌, ℕ, zero, suc, ◌+◌, ◌*◌, Bool, false, cond, if◌then◌else◌, List, [], ◌∷◌}
-use Rattle.std.proofs.Common.{◌++◌, length, nat_eq, codes, refl}
+use Rattle.std.proofs.Common.{◌≡◌, ◌≤◌, ◌<◌, ℕ, zero, suc, ◌+◌, ◌*◌, Bool, true, false, cond, if◌then◌else◌, List}
+use Rattle.std.proofs.Common.{[], ◌∷◌, ◌++◌, length, nat_eq, codes, refl}
 use Rattle.std.proofs.Common.{sym, ap, ◌∙◌, subst, arith, append_assoc, length-append}
 use Rattle.std.specs.Prelude.{decimal}
 use Rattle.bench_text.specs.Text.{head, function_name, function_body, function_end, function, functions, main_head}
@@ -145,7 +145,8 @@ behind_cut n few starts before =
     starts before in
     let f = subst (λ (t : Bytes). LinesReach n a.ends a.passed (10 ∷ t ++ middle) function_forms (10 ∷ middle))
     (sym (functions_are n)) (lines_cut function function_forms each_function n middle few a.ends a.passed) in
-    let m = feed_cuts 105 _ (10 ∷ calls n ++ ending) main_forms refl (main_is_cut (calls n ++ ending)) f.ends f.passed in
+    let m = feed_cuts 105 _ (10 ∷ calls n ++ ending) main_forms refl (main_is_cut (calls n ++ ending)) f.ends
+    f.passed in
     let c = subst (λ (t : Bytes). LinesReach n m.ends m.passed (10 ∷ t ++ ending) call_forms (10 ∷ ending))
     (sym (calls_are n)) (lines_cut call call_forms each_call n ending few m.ends m.passed) in
     let e = feed_cuts 114 _ (10 ∷ []) end_forms refl (end_is_cut []) c.ends c.passed in
