@@ -7,7 +7,7 @@ use flow_fold::{fold, share, sweep};
 use flow_guards::unguard;
 use hyper_narrow::NarrowedBlock;
 use ir_forms::{FlowBlock, HyperItem, Source};
-use predication::convert;
+use predication::{convert, labels_fit};
 use std::alloc::Global;
 use std::process::Abort;
 use std::test::Fail;
@@ -32,6 +32,7 @@ fn assert_eased(
     first: &str,
     last: &str,
 ) -> Result<(), Fail> {
+    assert!(rt; labels_fit(&block.block.tail), "{name}: labels");
     let flow = convert(alloc, block).expect(rt, name);
     let text = shown(alloc, &flow)?;
     assert_eq!(rt; text.as_str(), first, "{name}: before");
