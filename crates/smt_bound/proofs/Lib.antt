@@ -1,0 +1,12 @@
+pub mod SharedKept
+pub mod TwoFramesKept
+pub mod GenerationsKept
+pub mod EndedRuns
+pub mod PartsKeepRule
+pub mod CycleKeepsRule
+pub mod FetchHeld
+pub mod FirstServed
+pub mod FirstCycle
+pub mod SpentGrows
+pub mod OneCycle
+pub mod Runs

@@ -1,0 +1,19 @@
+use Rattle.std.proofs.Common.{sym, ap, ◌∙◌, arith}
+use Rattle.std.proofs.lemmas.Option.{slice_get_read}
+use Rattle.smt_spec.specs.Cycles.{goes_on}
+use Rattle.smt_mode.specs.Machines.{own_in}
+use Rattle.smt_mode.proofs.machine.Machine.goes.Goals as goal
+
+pub index-requires : goal.index-requires
+index-requires g c =
+    let four = c.requires.four in
+    let l = c.requires.program in
+    omega (arith, four, l)
+
+pub returns : goal.returns
+returns g c =
+    let m = c.args.self.now in
+    let x = c.index.result.now in
+    let is = slice_get_read m.programs.items 4 c.args.program x (sym c.requires.four) c.requires.program
+    c.index.ensures in
+    c.goes_on.ensures ∙ ap (λ o. goes_on m.budget (own_in o).window) (sym is)

@@ -1,0 +1,15 @@
+use Rattle.std.proofs.Common.{◌≡◌}
+use Rattle.grid_cycle_spec.specs.Choosing.{each}
+use Rattle.smt_spec.specs.Parts.{unit_turn_of}
+use Rattle.smt_mode.specs.Machines.{four_of, images_of}
+use Rattle.smt_mode.specs.inside.Marked.{AreMarked}
+use Rattle.smt_mode.specs.inside.Rooms.{Keeps}
+use Rattle.smt_mode.proofs.machine.Machine.works.Given as goal
+
+abbrev pub invariant-loop-tile : goal.invariant-loop-tile
+invariant-loop-tile g l = record {
+  change : four_of l.self ≡ each (unit_turn_of (images_of l.initial.self) l.initial.self.budget l.programs) l.tile
+      (four_of l.initial.self);
+  keeps : Keeps 4 l.initial.self l.self;
+  marked : AreMarked l.self l.marks;
+}

@@ -1,0 +1,4 @@
+pub mod Fours
+pub mod Machines
+pub mod Starts
+pub mod inside

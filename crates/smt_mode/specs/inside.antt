@@ -1,0 +1,5 @@
+pub mod Begun
+pub mod Histories
+pub mod Issues
+pub mod Marked
+pub mod Rooms

@@ -1,0 +1,13 @@
+pub mod OwnTurnsAlike
+pub mod SeenAlone
+pub mod SharedLeft
+pub mod NothingChosen
+pub mod UnitsUnseen
+pub mod UnitsLent
+pub mod AnyIssue
+pub mod FirstParts
+pub mod OwnWalks
+pub mod OwnEvents
+pub mod OverStays
+pub mod OwnRuns
+pub mod FetchDropped
