@@ -9,11 +9,12 @@ use Rattle.trips_requests.specs.declared.commands.Asked.{Asked}
 use Rattle.trips_requests.specs.Limits.{most_count, most_turns, is_number, value_from, number_to}
 use Rattle.trips_requests.specs.Words.{Text, file_name, value_said, words_read}
 use Rattle.trips_requests.specs.Options.{Options, count_of, is_c_name, options_of, options_said, places_of}
-use Rattle.trips_requests.specs.Options.{second_said, takes_file}
-use Rattle.trips_requests.specs.Requests.{Request, verb_named, asked}
+use Rattle.trips_requests.specs.Options.{later_said, second_said, takes_file}
+use Rattle.trips_requests.specs.Verbs.{verb_named}
+use Rattle.trips_requests.specs.Requests.{Request, asked}
 use Rattle.trips_requests.specs.inside.Requests.{request_seen}
 use Rattle.trips_requests.specs.Requests.{functions_said, most_said, place_said, seed_said, unroll_said}
-use Rattle.trips_requests.specs.Requests.{request_counted, request_taken}
+use Rattle.trips_requests.specs.Requests.{request_counted, request_of_files, request_taken}
 use Rattle.trips_requests.specs.Requests.{request_of_file, request_with, request_of, request_by}
 
 -- a number from 1 to the greatest
@@ -88,22 +89,23 @@ turns_said file (Some word) = go (is_c_name file)
     go true = some_number most_turns word
     go false = tt
 
-some_file : (k : Verb) (name : Text) (options : Options) (second : Option Text)
-    → IfSome (request_of_file k name options second) HasSome
-some_file k name options second =
+some_file : (k : Verb) (name : Text) (options : Options) (second third fourth : Option Text)
+    → IfSome (request_of_file k name options second third fourth) HasSome
+some_file k name options second third fourth =
     bind _ (functions_said k name) (λ functions.
     bind_with most_count _ (most_said k options.number) (some_most k options.number) (λ most some.
     bind _ (place_said name options.place) (λ place.
     bind_with most_turns _ (unroll_said name options.unroll) (turns_said name options.unroll) (λ unroll turns.
-    last (request_counted k name options second functions most place unroll) (seed_said options.seed)
+    last (request_counted k name options second third fourth functions most place unroll) (seed_said options.seed)
     (λ seed. (some, turns.0))))))
 
 some_taken : (k : Verb) (name : Text) (options : Options) → IfSome (request_taken k name options) HasSome
 some_taken k name options = go (takes_file k name)
   where
-    go : (b : Bool) → IfSome (cond b (option_and_then (request_of_file k name options)
-        (second_said k options.second)) None) HasSome
-    go true = bind (request_of_file k name options) (second_said k options.second) (some_file k name options)
+    go : (b : Bool) → IfSome (cond b (request_of_files k name options) None) HasSome
+    go true = bind _ (second_said k options.second) (λ second. bind _ (later_said k options.third)
+        (λ third. bind (request_of_file k name options second third) (later_said k options.fourth)
+        (some_file k name options second third)))
     go false = tt
 
 some_with : (k : Verb) (file : Option Text) (options : Options) → IfSome (request_with k file options) HasSome

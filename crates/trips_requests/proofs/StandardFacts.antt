@@ -1,7 +1,8 @@
 -- Words and their requests, worked by hand from the README of this crate.
 use Rattle.std.proofs.Common.{◌≡◌, refl, [], ◌∷◌, Some, None, codes, true, false}
 use Rattle.trips_requests.specs.declared.commands.Command.TheVariants as command
-use Rattle.trips_requests.specs.Requests.{Request, verb_named, asked}
+use Rattle.trips_requests.specs.Verbs.{verb_named}
+use Rattle.trips_requests.specs.Requests.{Request, asked}
 
 -- a run of a.c with nothing asked besides
 abbrev plain : Request
@@ -9,6 +10,8 @@ plain = record {
   command = command.Run;
   file = codes "a.c";
   second = None;
+  third = None;
+  fourth = None;
   functions = None;
   input = None;
   most = 1000000;
@@ -213,6 +216,28 @@ saved_too_late = refl
 pub saved_by_option : asked (codes "save" ∷ codes "a.c" ∷ codes "--blocks=25" ∷ []) ≡ None
 unfolding verb_named
 saved_by_option = refl
+
+-- four files run together, and all four are wanted
+pub four_are : asked (codes "four" ∷ codes "a.c" ∷ codes "b.img" ∷ codes "--cycles" ∷ codes "c.tasl" ∷ codes "a.c"
+    ∷ codes "--seed=1" ∷ [])
+    ≡ Some (record plain {
+      command = command.Four;
+      second = Some (codes "b.img");
+      third = Some (codes "c.tasl");
+      fourth = Some (codes "a.c");
+      seed = 1;
+      cycles = true;
+    })
+unfolding verb_named
+four_are = refl
+
+pub three_are_none : asked (codes "four" ∷ codes "a.c" ∷ codes "b.c" ∷ codes "c.c" ∷ []) ≡ None
+unfolding verb_named
+three_are_none = refl
+
+pub five_are_none : asked (codes "four" ∷ codes "a" ∷ codes "b" ∷ codes "c" ∷ codes "d" ∷ codes "e" ∷ []) ≡ None
+unfolding verb_named
+five_are_none = refl
 
 -- a saved run goes on, without an input
 pub resumed_is : asked (codes "resume" ∷ codes "a.c" ∷ codes "--regs" ∷ codes "--blocks=7" ∷ [])

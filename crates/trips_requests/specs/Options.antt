@@ -6,7 +6,8 @@ use Rattle.std.specs.Str.{bytes_eq}
 use Rattle.trips_requests.specs.declared.commands.Verb.{Verb}
 use Rattle.trips_requests.specs.declared.commands.Verb.TheVariants as verb
 use Rattle.trips_requests.specs.Limits.{default_count, default_recorded, most_count, most_recorded}
-use Rattle.trips_requests.specs.Words.{Text, Named, valued, flag, Said, file_name, second_name, value_said}
+use Rattle.trips_requests.specs.Words.{Text, Named, valued, flag, Said, file_name, fourth_name, second_name}
+use Rattle.trips_requests.specs.Words.{third_name, value_said}
 
 -- the options of `run`
 abbrev pub run_options : List Named
@@ -43,6 +44,10 @@ abbrev pub resume_options : List Named
 resume_options = valued (codes "blocks") ∷ valued (codes "seed") ∷ flag (codes "regs") ∷ flag (codes "trace")
     ∷ flag (codes "cycles") ∷ []
 
+-- those of `four`
+abbrev pub four_options : List Named
+four_options = valued (codes "input") ∷ valued (codes "blocks") ∷ valued (codes "seed") ∷ flag (codes "cycles") ∷ []
+
 -- the options of a command: one that is not named here has none
 abbrev pub options_of : Verb → List Named
 options_of verb.Run = run_options
@@ -53,13 +58,15 @@ options_of verb.Record = record_options
 options_of verb.Verify = verify_options
 options_of verb.Save = save_options
 options_of verb.Resume = resume_options
+options_of verb.Four = four_options
 options_of other = []
 
 -- the places of a command for words that stand alone: each has its file, or its number of functions; `verify` has the
--- trace's file behind it, and `save` its number of blocks
+-- trace's file behind it, `save` its number of blocks, and `four` three files more
 abbrev pub places_of : Verb → List Text
 places_of verb.Verify = file_name ∷ second_name ∷ []
 places_of verb.Save = file_name ∷ second_name ∷ []
+places_of verb.Four = file_name ∷ second_name ∷ third_name ∷ fourth_name ∷ []
 places_of other = file_name ∷ []
 
 -- the option of a command that counts blocks or steps, or the place where `save` has its number
@@ -68,6 +75,7 @@ counted verb.Run = codes "blocks"
 counted verb.Bench = codes "blocks"
 counted verb.Record = codes "blocks"
 counted verb.Resume = codes "blocks"
+counted verb.Four = codes "blocks"
 counted verb.Save = second_name
 counted other = codes "steps"
 
@@ -86,15 +94,23 @@ abbrev pub takes_file : Verb → Text → Bool
 takes_file verb.Record file = ends_with nat_eq file (codes ".img")
 takes_file other file = true
 
--- the second file, which `verify` has, and no other command
+-- the second file, which `verify` and `four` have, and no other command
 abbrev pub second_said : Verb → Option Text → Option (Option Text)
 second_said verb.Verify word = option_map (λ name. Some name) word
+second_said verb.Four word = option_map (λ name. Some name) word
 second_said other word = Some None
 
--- What is said under the names of a command's options and of its second place: each value if it is said, and whether
--- a flag is.
+-- the third file, or the fourth, which `four` has, and no other command
+abbrev pub later_said : Verb → Option Text → Option (Option Text)
+later_said verb.Four word = option_map (λ name. Some name) word
+later_said other word = Some None
+
+-- What is said under the names of a command's options and of its places behind the first: each value if it is said,
+-- and whether a flag is.
 pub record Options : Type 0 where
   pub second : Option Text
+  pub third : Option Text
+  pub fourth : Option Text
   pub input : Option Text
   -- how many blocks a run may make, or how many steps an evaluation
   pub number : Option Text
@@ -115,6 +131,8 @@ is_on (Some value) = bytes_eq value (codes "true")
 abbrev pub options_said : Verb → Said → Options
 options_said k said = record {
   second = value_said second_name said;
+  third = value_said third_name said;
+  fourth = value_said fourth_name said;
   input = value_said (codes "input") said;
   number = value_said (counted k) said;
   place = value_said (codes "place") said;

@@ -1,57 +1,28 @@
 -- Which request the words of a command line make (README.md of this crate).
-use Rattle.std.specs.Prelude.{ℕ, Bool, if◌then◌else◌, List, [], ◌∷◌, codes}
+use Rattle.std.specs.Prelude.{ℕ, Bool, if◌then◌else◌, List, [], ◌∷◌}
 use Rattle.std.specs.Prelude.{Option, None, Some, option_map, option_and_then}
-use Rattle.std.specs.Str.{bytes_eq}
 use Rattle.trips_requests.specs.declared.commands.Command.{Command}
-use Rattle.trips_requests.specs.declared.commands.Command.TheVariants as command
 use Rattle.trips_requests.specs.declared.commands.Verb.{Verb}
 use Rattle.trips_requests.specs.declared.commands.Verb.TheVariants as verb
 use Rattle.trips_requests.specs.Limits.{most_functions, most_seed, most_turns}
 use Rattle.trips_requests.specs.Limits.{number_to, number_within}
-use Rattle.trips_requests.specs.Options.{Options, count_of, is_c_name, options_of, options_said, places_of}
-use Rattle.trips_requests.specs.Options.{second_said, takes_file}
+use Rattle.trips_requests.specs.Options.{Options, count_of, is_c_name, later_said, options_of, options_said}
+use Rattle.trips_requests.specs.Options.{places_of, second_said, takes_file}
+use Rattle.trips_requests.specs.Verbs.{command_of, verb_named}
 use Rattle.trips_requests.specs.Words.{Text, Said, file_name, value_said, words_read}
 
--- what a name stands for
-unfoldable pub verb_named : Text → Option Verb
-verb_named name =
-    if bytes_eq name (codes "run") then Some verb.Run
-    else if bytes_eq name (codes "bench") then Some verb.Bench
-    else if bytes_eq name (codes "eval") then Some verb.Evaluate
-    else if bytes_eq name (codes "compile") then Some verb.Compile
-    else if bytes_eq name (codes "asm") then Some verb.Assemble
-    else if bytes_eq name (codes "dis") then Some verb.Disassemble
-    else if bytes_eq name (codes "check") then Some verb.Check
-    else if bytes_eq name (codes "explain") then Some verb.Explain
-    else if bytes_eq name (codes "record") then Some verb.Record
-    else if bytes_eq name (codes "verify") then Some verb.Verify
-    else if bytes_eq name (codes "save") then Some verb.Save
-    else if bytes_eq name (codes "resume") then Some verb.Resume else None
-
--- what is done: the benchmark is run
-abbrev pub command_of : Verb → Command
-command_of verb.Run = command.Run
-command_of verb.Bench = command.Run
-command_of verb.Evaluate = command.Evaluate
-command_of verb.Compile = command.Compile
-command_of verb.Assemble = command.Assemble
-command_of verb.Disassemble = command.Disassemble
-command_of verb.Check = command.Check
-command_of verb.Explain = command.Explain
-command_of verb.Record = command.Record
-command_of verb.Verify = command.Verify
-command_of verb.Save = command.Save
-command_of verb.Resume = command.Resume
-
--- What is asked for: a command, its file and the second if it has one, or how many functions the benchmark's text has
--- that is run in place of it, the name of the input if there is one, how many blocks or steps it may take, the number
--- by which compiled blocks are placed if one is said, how many turns of a loop one of these may hold, the seed of the
--- grid, and whether registers, trace and counts are shown.
+-- What is asked for: a command, its file and the others if it has more, or how many functions the benchmark's text
+-- has that is run in place of it, the name of the input if there is one, how many blocks or steps it may take, the
+-- number by which compiled blocks are placed if one is said, how many turns of a loop one of these may hold, the seed
+-- of the grid, and whether registers, trace and counts are shown.
 pub record Request : Type 0 where
   pub command : Command
   pub file : Text
-  -- the trace's file, of `verify` alone
+  -- the trace's file of `verify`, or the second of `four`
   pub second : Option Text
+  -- the third and the fourth of `four` alone
+  pub third : Option Text
+  pub fourth : Option Text
   -- how many functions the benchmark's text has; none where a file is read
   pub functions : Option ℕ
   pub input : Option Text
@@ -95,11 +66,14 @@ functions_said verb.Bench word = option_map (λ n. Some n) (number_to most_funct
 functions_said other word = Some None
 
 -- the request of a command, of its file or its number of functions, of its numbers and of its options
-abbrev pub request_counted : Verb → Text → Options → Option Text → Option ℕ → ℕ → Option ℕ → ℕ → ℕ → Request
-request_counted k name options second functions most place unroll seed = record {
+abbrev pub request_counted : Verb → Text → Options → Option Text → Option Text → Option Text → Option ℕ → ℕ
+    → Option ℕ → ℕ → ℕ → Request
+request_counted k name options second third fourth functions most place unroll seed = record {
   command = command_of k;
   file = name;
   second = second;
+  third = third;
+  fourth = fourth;
   functions = functions;
   input = options.input;
   most = most;
@@ -113,18 +87,24 @@ request_counted k name options second functions most place unroll seed = record 
 
 -- the request of a command, of its files or its number of functions, and of its options: the numbers are in
 -- their ranges
-abbrev pub request_of_file : Verb → Text → Options → Option Text → Option Request
-request_of_file k name options second =
+abbrev pub request_of_file : Verb → Text → Options → Option Text → Option Text → Option Text → Option Request
+request_of_file k name options second third fourth =
     option_and_then (λ functions. option_and_then (λ most. option_and_then (λ place. option_and_then (λ unroll.
-    option_map (request_counted k name options second functions most place unroll) (seed_said options.seed))
+    option_map (request_counted k name options second third fourth functions most place unroll)
+    (seed_said options.seed))
     (unroll_said name options.unroll)) (place_said name options.place)) (most_said k options.number))
     (functions_said k name)
 
--- the request of a command, of its file, which it takes, of the second, and of its options
+-- the request of a command, of its file, of those behind it, which it has, and of its options
+abbrev pub request_of_files : Verb → Text → Options → Option Request
+request_of_files k name options =
+    option_and_then (λ second. option_and_then (λ third. option_and_then
+    (request_of_file k name options second third) (later_said k options.fourth)) (later_said k options.third))
+    (second_said k options.second)
+
+-- the request of a command, of its file, which it takes, of those behind it, and of its options
 abbrev pub request_taken : Verb → Text → Options → Option Request
-request_taken k name options =
-    if takes_file k name then option_and_then (request_of_file k name options) (second_said k options.second)
-    else None
+request_taken k name options = if takes_file k name then request_of_files k name options else None
 
 -- the request of a command, of its file, which it has, and of its options
 abbrev pub request_with : Verb → Option Text → Options → Option Request

@@ -36,6 +36,13 @@ file_name = codes "FILE"
 abbrev pub second_name : Text
 second_name = codes "SECOND"
 
+-- those of a third and of a fourth file
+abbrev pub third_name : Text
+third_name = codes "THIRD"
+
+abbrev pub fourth_name : Text
+fourth_name = codes "FOURTH"
+
 -- something is said under this name
 abbrev pub is_said : Text → Said → Bool
 is_said name said = list_any (λ s. bytes_eq s.0 name) said

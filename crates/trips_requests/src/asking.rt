@@ -1,11 +1,13 @@
 //! The request of a command, of its file and of what was found of its options.
 
 ghost use Rattle.std.specs.Prelude.{◌≡◌, option_map, option_copied};
-ghost use Rattle.trips_requests.specs.Options.{count_of, counted, is_c_name, is_on, second_said, takes_file};
+ghost use Rattle.trips_requests.specs.Options.{count_of, counted, is_c_name, is_on, later_said, second_said};
+ghost use Rattle.trips_requests.specs.Options.{takes_file};
 ghost use Rattle.trips_requests.specs.inside.Options.{options_seen};
-ghost use Rattle.trips_requests.specs.Requests.{verb_named, command_of, most_said};
+ghost use Rattle.trips_requests.specs.Verbs.{command_of, verb_named};
+ghost use Rattle.trips_requests.specs.Requests.{most_said};
 ghost use Rattle.trips_requests.specs.Requests.{functions_said, place_said, seed_said, unroll_said};
-ghost use Rattle.trips_requests.specs.Requests.{request_of_file, request_taken, request_with};
+ghost use Rattle.trips_requests.specs.Requests.{request_of_file, request_of_files, request_taken, request_with};
 ghost use Rattle.trips_requests.specs.inside.Requests.{request_seen};
 
 use crate::commands::{
@@ -14,10 +16,13 @@ use crate::commands::{
 };
 use crate::number::{number, number_within};
 
-/// What was found of a command's options and of its second place: each value if it is said, and whether a flag is.
+/// What was found of a command's options and of its places behind the first: each value if it is said, and whether a
+/// flag is.
 #[derive(Clone, Copy)]
 pub struct FoundOptions<'a> {
     pub second: Option<&'a str>,
+    pub third: Option<&'a str>,
+    pub fourth: Option<&'a str>,
     pub input: Option<&'a str>,
     /// how many blocks or steps
     pub number: Option<&'a str>,
@@ -31,7 +36,7 @@ pub struct FoundOptions<'a> {
 }
 
 /// What a name stands for.
-#[tactic(auto, unfolding(crate::specs::Requests::verb_named))]
+#[tactic(auto, unfolding(crate::specs::Verbs::verb_named))]
 pub fn verb_named(name: &str) -> Option<Verb>
     ensures { result ≡ verb_named name.now }
 {
@@ -59,6 +64,8 @@ pub fn verb_named(name: &str) -> Option<Verb>
         Some(Verb::Save)
     } else if name == "resume" {
         Some(Verb::Resume)
+    } else if name == "four" {
+        Some(Verb::Four)
     } else {
         None
     }
@@ -81,6 +88,7 @@ fn command_of(verb: Verb) -> Command
         Verb::Verify => Command::Verify,
         Verb::Save => Command::Save,
         Verb::Resume => Command::Resume,
+        Verb::Four => Command::Four,
     }
 }
 
@@ -93,6 +101,7 @@ pub fn counted(command: Verb) -> &'static str
         Verb::Bench => "blocks",
         Verb::Record => "blocks",
         Verb::Resume => "blocks",
+        Verb::Four => "blocks",
         Verb::Save => "SECOND",
         _ => "steps",
     }
@@ -133,12 +142,23 @@ fn most_said(command: Verb, word: Option<&str>) -> Option<u32>
     }
 }
 
-// The second file, which one command has, and no other.
+// The second file, which two commands have, and no other.
 fn second_said<'a>(command: Verb, word: Option<&'a str>) -> Option<Option<&'a str>>
     ensures { option_map (λ second. option_copied second) result ≡ second_said command (option_copied word.entry) }
 {
     match command {
         Verb::Verify => Some(Some(word?)),
+        Verb::Four => Some(Some(word?)),
+        _ => Some(None),
+    }
+}
+
+// The third file, or the fourth, which one command has, and no other.
+fn later_said<'a>(command: Verb, word: Option<&'a str>) -> Option<Option<&'a str>>
+    ensures { option_map (λ later. option_copied later) result ≡ later_said command (option_copied word.entry) }
+{
+    match command {
+        Verb::Four => Some(Some(word?)),
         _ => Some(None),
     }
 }
@@ -219,9 +239,12 @@ fn request_of_file<'a>(
     file: &'a str,
     options: FoundOptions<'a>,
     second: Option<&'a str>,
+    third: Option<&'a str>,
+    fourth: Option<&'a str>,
 ) -> Option<Asked<'a>>
     ensures { option_map request_seen result
-        ≡ request_of_file command file.now (options_seen options.entry) (option_copied second.entry) }
+        ≡ request_of_file command file.now (options_seen options.entry) (option_copied second.entry)
+        (option_copied third.entry) (option_copied fourth.entry) }
 {
     let functions = functions_said(command, file)?;
     let most = most_said(command, options.number)?;
@@ -232,6 +255,8 @@ fn request_of_file<'a>(
         command: command_of(command),
         file,
         second,
+        third,
+        fourth,
         functions,
         input: options.input,
         most,
@@ -244,7 +269,22 @@ fn request_of_file<'a>(
     })
 }
 
-// The request of a command, of its file, which it takes, of the second, and of its options.
+// The request of a command, of its file, of those behind it, which it has, and of its options.
+fn request_of_files<'a>(
+    command: Verb,
+    file: &'a str,
+    options: FoundOptions<'a>,
+) -> Option<Asked<'a>>
+    ensures { option_map request_seen result
+        ≡ request_of_files command file.now (options_seen options.entry) }
+{
+    let second = second_said(command, options.second)?;
+    let third = later_said(command, options.third)?;
+    let fourth = later_said(command, options.fourth)?;
+    request_of_file(command, file, options, second, third, fourth)
+}
+
+// The request of a command, of its file, which it takes, of those behind it, and of its options.
 fn request_taken<'a>(command: Verb, file: &'a str, options: FoundOptions<'a>) -> Option<Asked<'a>>
     ensures { option_map request_seen result
         ≡ request_taken command file.now (options_seen options.entry) }
@@ -252,8 +292,7 @@ fn request_taken<'a>(command: Verb, file: &'a str, options: FoundOptions<'a>) ->
     if !takes_file(command, file) {
         return None;
     }
-    let second = second_said(command, options.second)?;
-    request_of_file(command, file, options, second)
+    request_of_files(command, file, options)
 }
 
 /// The request of a command, of its file and of its options.

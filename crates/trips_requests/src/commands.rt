@@ -17,6 +17,7 @@ pub enum Command {
     Verify,
     Save,
     Resume,
+    Four,
 }
 
 /// What the first word of a command line names. The benchmark is a run of a text that is made.
@@ -34,6 +35,7 @@ pub enum Verb {
     Verify,
     Save,
     Resume,
+    Four,
 }
 
 /// What is done with a file that holds no C.
@@ -81,8 +83,11 @@ pub fn constants_are_the_definitions()
 pub struct Asked<'a> {
     pub command: Command,
     pub file: &'a str,
-    /// the trace's file, of `verify` alone
+    /// the trace's file of `verify`, or the second of `four`
     pub second: Option<&'a str>,
+    /// the third and the fourth of `four` alone
+    pub third: Option<&'a str>,
+    pub fourth: Option<&'a str>,
     /// how many functions the text of the benchmark has, where that is run in place of a file
     pub functions: Option<u32>,
     /// the name of the input, if it has one

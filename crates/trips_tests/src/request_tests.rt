@@ -135,6 +135,17 @@ const ASKED: &[Row] = &[
         },
     ),
     (
+        &["four", "a.c", "b.img", "--cycles", "--", "-c", "a.c"],
+        Asked {
+            command: Command::Four,
+            second: Some("b.img"),
+            third: Some("-c"),
+            fourth: Some("a.c"),
+            cycles: true,
+            ..PLAIN
+        },
+    ),
+    (
         &["run", "a.c", "--unroll", "8"],
         Asked { unroll: 8, ..PLAIN },
     ),

@@ -10,6 +10,8 @@ pub const PLAIN: Asked<'static> = Asked {
     command: Command::Run,
     file: "a.c",
     second: None,
+    third: None,
+    fourth: None,
     functions: None,
     input: None,
     most: 1_000_000,

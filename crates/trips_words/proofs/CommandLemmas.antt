@@ -11,11 +11,12 @@ use Rattle.clap.specs.declared.builder.command.Command.{Command as ClapCommand}
 use Rattle.clap.specs.declared.builder.command.Command.TheViews.{out-Command}
 use Rattle.trips_requests.specs.declared.commands.Verb.{Verb}
 use Rattle.trips_requests.specs.declared.commands.Verb.TheVariants as verb
-use Rattle.trips_requests.specs.Words.{Text, Named, Said, file_name, second_name, value_said}
+use Rattle.trips_requests.specs.Words.{Text, Named, Said, file_name, fourth_name, second_name, third_name, value_said}
 use Rattle.trips_requests.specs.Options.{run_options, bench_options, eval_options, compile_options}
-use Rattle.trips_requests.specs.Options.{record_options, resume_options, save_options, verify_options}
+use Rattle.trips_requests.specs.Options.{four_options, record_options, resume_options, save_options, verify_options}
 use Rattle.trips_requests.specs.Options.{options_of, places_of, counted, is_on, Options}
-use Rattle.trips_requests.specs.Requests.{Request, verb_named, request_of, request_by, asked}
+use Rattle.trips_requests.specs.Verbs.{verb_named}
+use Rattle.trips_requests.specs.Requests.{Request, request_of, request_by, asked}
 use Rattle.trips_words.specs.inside.Read.{IsRead, is_flag, or_off, FindsSaid, Tells}
 
 -- the command `run` is read as its words say
@@ -88,6 +89,29 @@ resume_read = record {
   has = (record { by_index = refl; by_id = refl; no_option = refl; others = tt; follows = refl }, refl);
 }
 
+-- the command `four` is read as its words say
+pub four_read : IsRead (codes "four") four_options (file_name ∷ second_name ∷ third_name ∷ fourth_name ∷ [])
+four_read = record {
+  builds = refl;
+  simple = refl;
+  has = (
+    record {
+      by_index = refl;
+      by_id = refl;
+      no_option = refl;
+      others = (refl, (refl, (refl, tt)));
+      follows = refl;
+    },
+    (
+      record { by_index = refl; by_id = refl; no_option = refl; others = (refl, (refl, tt)); follows = refl },
+      (
+        record { by_index = refl; by_id = refl; no_option = refl; others = (refl, tt); follows = refl },
+        (record { by_index = refl; by_id = refl; no_option = refl; others = tt; follows = refl }, refl),
+      ),
+    ),
+  );
+}
+
 -- the command without options is read as its words say
 pub plain_read : IsRead (codes "trips") [] (file_name ∷ [])
 plain_read = record {
@@ -109,19 +133,21 @@ is_helpless old new e = ap app_of_fields e
 -- what holds without options and with a file as the one place holds of the commands that have no case of their own
 pub of_plain : (P : List Named → List Text → Type 0) (k : Verb) → (k ≡ verb.Run → ⊥) → (k ≡ verb.Bench → ⊥)
     → (k ≡ verb.Evaluate → ⊥) → (k ≡ verb.Compile → ⊥) → (k ≡ verb.Record → ⊥) → (k ≡ verb.Verify → ⊥)
-    → (k ≡ verb.Save → ⊥) → (k ≡ verb.Resume → ⊥) → P [] (file_name ∷ []) → P (options_of k) (places_of k)
-of_plain P verb.Run r b e c d v s u h = absurd (r refl)
-of_plain P verb.Bench r b e c d v s u h = absurd (b refl)
-of_plain P verb.Evaluate r b e c d v s u h = absurd (e refl)
-of_plain P verb.Compile r b e c d v s u h = absurd (c refl)
-of_plain P verb.Record r b e c d v s u h = absurd (d refl)
-of_plain P verb.Verify r b e c d v s u h = absurd (v refl)
-of_plain P verb.Save r b e c d v s u h = absurd (s refl)
-of_plain P verb.Resume r b e c d v s u h = absurd (u refl)
-of_plain P verb.Assemble r b e c d v s u h = h
-of_plain P verb.Disassemble r b e c d v s u h = h
-of_plain P verb.Check r b e c d v s u h = h
-of_plain P verb.Explain r b e c d v s u h = h
+    → (k ≡ verb.Save → ⊥) → (k ≡ verb.Resume → ⊥) → (k ≡ verb.Four → ⊥) → P [] (file_name ∷ [])
+    → P (options_of k) (places_of k)
+of_plain P verb.Run r b e c d v s u f h = absurd (r refl)
+of_plain P verb.Bench r b e c d v s u f h = absurd (b refl)
+of_plain P verb.Evaluate r b e c d v s u f h = absurd (e refl)
+of_plain P verb.Compile r b e c d v s u f h = absurd (c refl)
+of_plain P verb.Record r b e c d v s u f h = absurd (d refl)
+of_plain P verb.Verify r b e c d v s u f h = absurd (v refl)
+of_plain P verb.Save r b e c d v s u f h = absurd (s refl)
+of_plain P verb.Resume r b e c d v s u f h = absurd (u refl)
+of_plain P verb.Four r b e c d v s u f h = absurd (f refl)
+of_plain P verb.Assemble r b e c d v s u f h = h
+of_plain P verb.Disassemble r b e c d v s u f h = h
+of_plain P verb.Check r b e c d v s u f h = h
+of_plain P verb.Explain r b e c d v s u f h = h
 
 -- requests ----------------------------------------------------------------------------------------
 
@@ -134,6 +160,15 @@ no_flag_file _ = refl
 pub no_flag_second : (k : Verb) → is_flag second_name (options_of k) ≡ false
 no_flag_second verb.Run = refl
 no_flag_second _ = refl
+
+-- nor are the third and the fourth
+pub no_flag_third : (k : Verb) → is_flag third_name (options_of k) ≡ false
+no_flag_third verb.Run = refl
+no_flag_third _ = refl
+
+pub no_flag_fourth : (k : Verb) → is_flag fourth_name (options_of k) ≡ false
+no_flag_fourth verb.Run = refl
+no_flag_fourth _ = refl
 
 -- the input is no flag of a command
 pub no_flag_input : (k : Verb) → is_flag (codes "input") (options_of k) ≡ false
@@ -177,10 +212,12 @@ pub found_on : (options : List Named) (said : Said) (m : ArgMatches) (name : Tex
 found_on options said m name f = ap is_on (f name) ∙ on_is (is_flag name options) (value_said name said)
 
 -- options by their parts
-abbrev pub options_by : Option Text → Option Text → Option Text → Option Text → Option Text → Option Text → Bool
-    → Bool → Bool → Options
-options_by second input number place unroll seed regs trace cycles = record {
+abbrev pub options_by : Option Text → Option Text → Option Text → Option Text → Option Text → Option Text
+    → Option Text → Option Text → Bool → Bool → Bool → Options
+options_by second third fourth input number place unroll seed regs trace cycles = record {
   second = second;
+  third = third;
+  fourth = fourth;
   input = input;
   number = number;
   place = place;
@@ -192,22 +229,24 @@ options_by second input number place unroll seed regs trace cycles = record {
 }
 
 -- options that are the same part by part
-pub same_options : (second second' input input' number number' place place' unroll unroll' seed seed' : Option Text)
-    (regs regs' trace trace' cycles cycles' : Bool) → second ≡ second' → input ≡ input' → number ≡ number'
-    → place ≡ place' → unroll ≡ unroll' → seed ≡ seed' → regs ≡ regs' → trace ≡ trace' → cycles ≡ cycles'
-    → options_by second input number place unroll seed regs trace cycles
-    ≡ options_by second' input' number' place' unroll' seed' regs' trace' cycles'
-same_options second second' input input' number number' place place' unroll unroll' seed seed' regs regs' trace
-    trace' cycles cycles' a b c d e f g h i =
-    ap (λ (x : Option Text). options_by x input number place unroll seed regs trace cycles) a
-    ∙ ap (λ (x : Option Text). options_by second' x number place unroll seed regs trace cycles) b
-    ∙ ap (λ (x : Option Text). options_by second' input' x place unroll seed regs trace cycles) c
-    ∙ ap (λ (x : Option Text). options_by second' input' number' x unroll seed regs trace cycles) d
-    ∙ ap (λ (x : Option Text). options_by second' input' number' place' x seed regs trace cycles) e
-    ∙ ap (λ (x : Option Text). options_by second' input' number' place' unroll' x regs trace cycles) f
-    ∙ ap (λ (x : Bool). options_by second' input' number' place' unroll' seed' x trace cycles) g
-    ∙ ap (λ (x : Bool). options_by second' input' number' place' unroll' seed' regs' x cycles) h
-    ∙ ap (λ (x : Bool). options_by second' input' number' place' unroll' seed' regs' trace' x) i
+pub same_options : (second second' third third' fourth fourth' input input' number number' place place' unroll
+    unroll' seed seed' : Option Text) (regs regs' trace trace' cycles cycles' : Bool) → second ≡ second' → third ≡
+    third' → fourth ≡ fourth' → input ≡ input' → number ≡ number' → place ≡ place' → unroll ≡ unroll' → seed ≡ seed' →
+    regs ≡ regs' → trace ≡ trace' → cycles ≡ cycles' → options_by second third fourth input number place unroll seed
+    regs trace cycles ≡ options_by second' third' fourth' input' number' place' unroll' seed' regs' trace' cycles'
+same_options second second' third third' fourth fourth' input input' number number' place place' unroll unroll'
+    seed seed' regs regs' trace trace' cycles cycles' a b c d e f g h i j k =
+    ap (λ (x : Option Text). options_by x third fourth input number place unroll seed regs trace cycles) a
+    ∙ ap (λ (x : Option Text). options_by second' x fourth input number place unroll seed regs trace cycles) b
+    ∙ ap (λ (x : Option Text). options_by second' third' x input number place unroll seed regs trace cycles) c
+    ∙ ap (λ (x : Option Text). options_by second' third' fourth' x number place unroll seed regs trace cycles) d
+    ∙ ap (λ (x : Option Text). options_by second' third' fourth' input' x place unroll seed regs trace cycles) e
+    ∙ ap (λ (x : Option Text). options_by second' third' fourth' input' number' x unroll seed regs trace cycles) f
+    ∙ ap (λ (x : Option Text). options_by second' third' fourth' input' number' place' x seed regs trace cycles) g
+    ∙ ap (λ (x : Option Text). options_by second' third' fourth' input' number' place' unroll' x regs trace cycles) h
+    ∙ ap (λ (x : Bool). options_by second' third' fourth' input' number' place' unroll' seed' x trace cycles) i
+    ∙ ap (λ (x : Bool). options_by second' third' fourth' input' number' place' unroll' seed' regs' x cycles) j
+    ∙ ap (λ (x : Bool). options_by second' third' fourth' input' number' place' unroll' seed' regs' trace' x) k
 
 -- where something was found, words say something, and else they say nothing
 pub told_some : (k : Verb) (said : Option Said) (m : ArgMatches) (r : Option Request)

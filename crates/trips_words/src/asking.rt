@@ -6,7 +6,8 @@ ghost use Rattle.trips_requests.specs.Limits.{most_count};
 ghost use Rattle.trips_requests.specs.Words.{Said};
 ghost use Rattle.trips_requests.specs.Options.{options_of, options_said};
 ghost use Rattle.trips_requests.specs.inside.Options.{options_seen};
-ghost use Rattle.trips_requests.specs.Requests.{verb_named, request_of, request_by, asked};
+ghost use Rattle.trips_requests.specs.Verbs.{verb_named};
+ghost use Rattle.trips_requests.specs.Requests.{request_of, request_by, asked};
 ghost use Rattle.trips_requests.specs.inside.Requests.{request_seen};
 ghost use Rattle.trips_words.specs.inside.Read.{FindsSaid, Tells};
 
@@ -23,6 +24,8 @@ fn options_found<'a>(command: Verb, matches: &ArgMatches<'a>) -> FoundOptions<'a
 {
     FoundOptions {
         second: matches.get_str("SECOND"),
+        third: matches.get_str("THIRD"),
+        fourth: matches.get_str("FOURTH"),
         input: matches.get_str("input"),
         number: matches.get_str(counted(command)),
         place: matches.get_str("place"),

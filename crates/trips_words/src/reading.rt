@@ -3,10 +3,11 @@
 ghost use Rattle.std.specs.Prelude.{◌≡◌, ◌≢◌, List, [], ◌∷◌, IfOk, None, false, codes, drop, map, string_bytes};
 ghost use Rattle.clap.specs.Words.{rule_of, app_of, kind_of};
 ghost use Rattle.clap.specs.declared.error.kind.ErrorKind.TheVariants.{OutOfMemory};
-ghost use Rattle.trips_requests.specs.Words.{Text, Named, file_name, second_name, words_read, valued, flag};
+ghost use Rattle.trips_requests.specs.Words.{Text, Named, file_name, fourth_name, second_name, third_name};
+ghost use Rattle.trips_requests.specs.Words.{words_read, valued, flag};
 ghost use Rattle.trips_requests.specs.Options.{options_of, places_of, run_options, bench_options, eval_options};
 ghost use Rattle.trips_requests.specs.Options.{compile_options, record_options, resume_options, save_options};
-ghost use Rattle.trips_requests.specs.Options.{verify_options};
+ghost use Rattle.trips_requests.specs.Options.{four_options, verify_options};
 ghost use Rattle.trips_words.specs.inside.Read.{raw_rule, raw_app, IsRead, Tells};
 
 use base::Memory;
@@ -20,6 +21,11 @@ const FILE: &str = "FILE";
 
 // The name under which a second word stands: a file, or a number of blocks.
 const SECOND: &str = "SECOND";
+
+// The names under which a third file and a fourth stand.
+const THIRD: &str = "THIRD";
+
+const FOURTH: &str = "FOURTH";
 
 // An option to which a value belongs.
 fn valued<'a>(alloc: Global, name: &'a str) -> Arg<'a>
@@ -140,6 +146,23 @@ fn resume_command<'a>(alloc: Global) -> Result<clap::Command<'a>, AllocError>
         .arg(Arg::new(alloc, FILE))
 }
 
+// `four`, its options and its files.
+fn four_command<'a>(alloc: Global) -> Result<clap::Command<'a>, AllocError>
+    ensures { IfOk result (λ command. app_of command ≡ raw_app (codes "four") four_options
+        (file_name ∷ second_name ∷ third_name ∷ fourth_name ∷ [])) }
+{
+    clap::Command::new(alloc, "four")
+        .disable_help_flag(true)
+        .arg(valued(alloc, "input"))?
+        .arg(valued(alloc, "blocks"))?
+        .arg(valued(alloc, "seed"))?
+        .arg(flag(alloc, "cycles"))?
+        .arg(Arg::new(alloc, FILE))?
+        .arg(Arg::new(alloc, SECOND))?
+        .arg(Arg::new(alloc, THIRD))?
+        .arg(Arg::new(alloc, FOURTH))
+}
+
 // A command that has a file and no option.
 fn plain_command<'a>(alloc: Global) -> Result<clap::Command<'a>, AllocError>
     ensures { IfOk result (λ command. app_of command ≡ raw_app (codes "trips") [] (file_name ∷ [])) }
@@ -197,6 +220,7 @@ pub fn read<'a>(
         Verb::Verify => matched(verify_command(alloc)?, words),
         Verb::Save => matched(save_command(alloc)?, words),
         Verb::Resume => matched(resume_command(alloc)?, words),
+        Verb::Four => matched(four_command(alloc)?, words),
         _ => matched(plain_command(alloc)?, words),
     }
 }

@@ -8,6 +8,8 @@ use Rattle.trips_requests.specs.Options.{Options}
 abbrev pub options_seen : FoundOptions → Options
 options_seen options = record {
   second = option_copied options.second;
+  third = option_copied options.third;
+  fourth = option_copied options.fourth;
   input = option_copied options.input;
   number = option_copied options.number;
   place = option_copied options.place;

@@ -4,11 +4,11 @@ use Rattle.trips_requests.specs.declared.commands.Verb.{Verb}
 use Rattle.trips_requests.specs.declared.commands.Verb.TheVariants as verb
 use Rattle.trips_requests.specs.Words.{Text, Named, words_read}
 use Rattle.trips_requests.specs.Options.{run_options, bench_options, eval_options, compile_options}
-use Rattle.trips_requests.specs.Options.{record_options, resume_options, save_options, verify_options, options_of}
-use Rattle.trips_requests.specs.Options.{places_of}
+use Rattle.trips_requests.specs.Options.{record_options, resume_options, save_options, verify_options, four_options}
+use Rattle.trips_requests.specs.Options.{options_of, places_of}
 use Rattle.trips_words.specs.inside.Read.{Tells}
 use Rattle.trips_words.proofs.CommandLemmas.{run_read, bench_read, eval_read, compile_read, plain_read, of_plain}
-use Rattle.trips_words.proofs.CommandLemmas.{record_read, resume_read, save_read, verify_read}
+use Rattle.trips_words.proofs.CommandLemmas.{four_read, record_read, resume_read, save_read, verify_read}
 use Rattle.trips_words.proofs.reading.read.Goals as goal
 
 pub returns-in_ok-run_command-in-Run : goal.returns-in_ok-run_command-in-Run
@@ -75,11 +75,20 @@ returns-in_ok-resume_command-in-Resume c =
     (c.matched-in-Resume.ensures (codes "resume") resume_options (places_of verb.Resume) resume_read
     c.in_ok-resume_command-in-Resume.ensures)
 
+pub returns-in_ok-four_command-in-Four : goal.returns-in_ok-four_command-in-Four
+returns-in_ok-four_command-in-Four c =
+    let words : List Text = drop 1 (map (λ word. string_bytes word) c.args.words.now) in
+    subst (λ (k : Verb). IfOk c.matched-in-Four.result
+    (Tells (options_of k) (words_read (options_of k) (places_of k) None [] words))) (sym c.in-Four.is)
+    (c.matched-in-Four.ensures (codes "four") four_options (places_of verb.Four) four_read
+    c.in_ok-four_command-in-Four.ensures)
+
 pub returns-in_ok-plain_command-in_default : goal.returns-in_ok-plain_command-in_default
 returns-in_ok-plain_command-in_default c =
     let words : List Text = drop 1 (map (λ word. string_bytes word) c.args.words.now) in
     of_plain (λ o p. IfOk c.matched-in_default.result (Tells o (words_read o p None [] words))) c.args.command
     c.in_default.not-Run c.in_default.not-Bench c.in_default.not-Evaluate c.in_default.not-Compile
     c.in_default.not-Record c.in_default.not-Verify c.in_default.not-Save c.in_default.not-Resume
+    c.in_default.not-Four
     (c.matched-in_default.ensures (codes "trips") [] (places_of verb.Check) plain_read
     c.in_ok-plain_command-in_default.ensures)
