@@ -134,7 +134,7 @@ help() {
 
 # The article before a place's name.
 article() {
-  case $1 in [AEIOU]*) echo an ;; *) echo a ;; esac
+  case $1 in [AEIOU]* | F[0-9]) echo an ;; *) echo a ;; esac
 }
 
 # What the words say: values under the names of options, words that stand alone under their places, counted from 1; the

@@ -13,6 +13,7 @@ use Rattle.trips_answers.specs.Asks.{limit_of, AsksFor}
 use Rattle.trips_requests.specs.Table.{AfterReading}
 use Rattle.trips_requests.specs.Texts.{too_large_text, IsFixed}
 use Rattle.trips_answers.specs.Worked.{IsDoneBehind}
+use Rattle.trips_answers.specs.Fours.{Further, further_of}
 use Rattle.trips_answers.specs.Answer.{IsAnswerBehind, IsAnswer}
 use Rattle.trips_answers.specs.Causes.{HasLargeFile, HasLargeInput}
 use Rattle.trips_answers.proofs.ReadFiles.{file_read, input_read, file_large, input_large}
@@ -35,21 +36,24 @@ module _ (request : Option Request) (held : List ℕ → Option (List ℕ)) (ros
   -- what is done where the file and the input are told
   pub complete : (work : Work) (how : FileForm) (most : ℕ) (show : Show) (bytes input : List ℕ)
       → (asks : AsksFor request held work how most show bytes input)
-      → IsDoneBehind (held asks.q.trace) rose work how (settings_with asks.q most show) bytes input s report
+      → IsDoneBehind (held asks.q.trace) (further_of held asks.q) rose work how (settings_with asks.q most show)
+      bytes input s report
   complete work how most show bytes input asks =
       let rest = behind asks.q bytes asks.asked asks.told.told asks.told.few in
       let is = input_read asks.q.input held rose rest.0 input rest.1 asks.told.told_input
       asks.told.few_input r in
       let told : Option (List ℕ) = held asks.q.trace in
+      let fs : List Further = further_of held asks.q in
       let done = subst (λ (x : Loaded). AfterReading x
-      (λ i. IsDoneBehind told rose asks.q.work asks.q.form (settings_of asks.q) bytes i s report) s report)
+      (λ i. IsDoneBehind told fs rose asks.q.work asks.q.form (settings_of asks.q) bytes i s report) s report)
       is rest.2 in
-      subst (λ (v : Show). IsDoneBehind told rose work how (settings_with asks.q most v) bytes input s report)
+      subst (λ (v : Show). IsDoneBehind told fs rose work how (settings_with asks.q most v) bytes input s report)
       asks.is_show
-      (subst (λ (m : ℕ). IsDoneBehind told rose work how (settings_with asks.q m asks.q.show) bytes input s report)
+      (subst (λ (m : ℕ). IsDoneBehind told fs rose work how (settings_with asks.q m asks.q.show) bytes input s report)
       asks.is_most
-      (subst (λ (f : FileForm). IsDoneBehind told rose work f (settings_of asks.q) bytes input s report) asks.is_form
-      (subst (λ (w : Work). IsDoneBehind told rose w asks.q.form (settings_of asks.q) bytes input s report)
+      (subst (λ (f : FileForm). IsDoneBehind told fs rose work f (settings_of asks.q) bytes input s report)
+      asks.is_form
+      (subst (λ (w : Work). IsDoneBehind told fs rose w asks.q.form (settings_of asks.q) bytes input s report)
       asks.is_work done)))
 
   -- a file that is too large
@@ -69,7 +73,8 @@ module _ (request : Option Request) (held : List ℕ → Option (List ℕ)) (ros
       let rest = behind q text.0 e text.1 text.2 in
       let is = input_large q.input held rose rest.0 rest.1 large.1 r in
       subst (λ (x : Loaded). AfterReading x
-      (λ i. IsDoneBehind (held q.trace) rose q.work q.form (settings_of q) text.0 i s report) s report) is rest.2
+      (λ i. IsDoneBehind (held q.trace) (further_of held q) rose q.work q.form (settings_of q) text.0 i s report) s
+      report) is rest.2
     where
       some_of : (told : Option (List ℕ)) (P : List ℕ → Type 0) → IsSomeAnd told P
           → (bytes : List ℕ) × (told ≡ Some bytes) × P bytes

@@ -1,5 +1,5 @@
 -- How work that was asked for ended, from the row of its request.
-use Rattle.std.proofs.Common.{◌≡◌, ℕ, true, false, List, Option, None, Some}
+use Rattle.std.proofs.Common.{◌≡◌, ℕ, true, false, List, [], ◌∷◌, Option, None, Some}
 use Rattle.std.proofs.Common.{inl, inr, refl, sym, ◌∙◌, ap, subst, ◌⊎◌}
 use Rattle.trips_outside.specs.Outside.{Holds}
 use Rattle.trips_isa.specs.declared.block.Block.{Block}
@@ -9,7 +9,7 @@ use Rattle.trips_isa.specs.declared.run.Ending.TheVariants as ending
 use Rattle.trips_isa.specs.Machine.{State, runs, start}
 use Rattle.trips_answers.specs.Work.{Work}
 use Rattle.trips_answers.specs.Work.{Run, Evaluate, Compile}
-use Rattle.trips_answers.specs.Work.{Assemble, Disassemble, Check, Explain, Record, Verify, Save}
+use Rattle.trips_answers.specs.Work.{Assemble, Disassemble, Check, Explain, Record, Verify, Save, Four}
 use Rattle.trips_answers.specs.declared.forms.FileForm.{FileForm}
 use Rattle.trips_answers.specs.declared.forms.FileForm.TheVariants as form
 use Rattle.trips_answers.specs.declared.forms.Settings.{Settings}
@@ -27,7 +27,9 @@ use Rattle.trips_grid_answers.specs.Runs.{IsRunFrom}
 use Rattle.trips_grid_answers.specs.Saved.{IsSavedRun}
 use Rattle.trips_answers.specs.Worked.{IsWorked, IsDone, IsDoneBehind}
 use Rattle.trips_answers.specs.Traced.{IsTraceFault, IsTraceRefused}
-use Rattle.trips_requests.specs.Texts.{IsFixed, read_fault_text}
+use Rattle.trips_answers.specs.Fours.{IsFurtherFault, IsLargeAmong, IsRefusedAmong, further_of}
+use Rattle.trips_four_answers.specs.Report.{first_status, own_ending, status_or}
+use Rattle.trips_requests.specs.Texts.{IsFixed, read_fault_text, too_large_text}
 use Rattle.trips_answers.proofs.Traced.{part}
 use Rattle.trips_answers.specs.Answer.{IsAnswerBehind, IsAnswer}
 use Rattle.trips_answers.specs.Table.{EndsAs, EvalEnds}
@@ -72,18 +74,33 @@ module _ (q : Request) (held : List ℕ → Option (List ℕ)) (rose : Type 0) (
       go (inl u) = absurd (not_told s status.ReadFault u.1.0 refl told)
       go (inr t) = absurd (not_told s status.Refused t.4.0 refl told)
 
+  -- nor is one of a further file
+  further_ends : IsFurtherFault (further_of held q) rose q.work s report → IsEnd
+  unfolding is_told
+  further_ends f = go f.1
+    where
+      go : (rose × IsFixed status.ReadFault read_fault_text s report)
+          ⊎ ((IsLargeAmong (further_of held q) × IsFixed status.Refused too_large_text s report)
+          ⊎ ((text : List ℕ) × IsRefusedAmong 1 (further_of held q) text × IsFixed status.Refused text s report))
+          → IsEnd
+      go (inl u) = absurd (not_told s status.ReadFault u.1.0 refl told)
+      go (inr (inl l)) = absurd (not_told s status.Refused l.1.0 refl told)
+      go (inr (inr t)) = absurd (not_told s status.Refused t.2.0 refl told)
+
   input_ends : (bytes : List ℕ) (loaded : Loaded) → Holds (origin_held held q.origin) bytes
       → IsInputRead q.input held rose loaded
       → AfterReading loaded
-      (λ input. IsDoneBehind (held q.trace) rose q.work q.form (settings_of q) bytes input s report) s report
+      (λ input. IsDoneBehind (held q.trace) (further_of held q) rose q.work q.form (settings_of q) bytes input s
+      report) s report
       → IsEnd
   unfolding is_told
   input_ends bytes Fault h i a = absurd (not_told s status.ReadFault a.0 refl told)
   input_ends bytes TooLarge h i a = absurd (not_told s status.Refused a.0 refl told)
   input_ends bytes (Bytes input) h i a =
-      elim (part (held q.trace) rose q.work q.form (settings_of q) bytes input s report a) [
+      elim (part (held q.trace) (further_of held q) rose q.work q.form (settings_of q) bytes input s report a) [
         | inl d ↦ done_ends bytes input h (input_held q.input held rose input i) d
-        | inr f ↦ traced_ends bytes input f
+        | inr (inl f) ↦ traced_ends bytes input f
+        | inr (inr f) ↦ further_ends f
       ]
 
   asked_ends : (loaded : Loaded) → IsRead (origin_held held q.origin) rose (limit_of q.form) loaded
@@ -129,6 +146,21 @@ run_is_defined blocks t settings s report run e =
     end_is_defined (ending_of (runs blocks t settings.most).1 (runs blocks t settings.most).0.next)
     (sym run.2.0 ∙ e)
 
+-- nor is the end of four
+first_is_defined : (x : Ending) (later : Status) → (later ≡ status.Undefined → ⊥)
+    → status_or (status_of x) later ≡ status.Undefined → ⊥
+first_is_defined ending.Ended later n e = n e
+first_is_defined ending.StackFull later n e = cc
+first_is_defined ending.Budget later n e = cc
+first_is_defined (ending.Trap block cause) later n e = cc
+
+four_are_defined : (input : List ℕ) (most : ℕ) (images : List Image)
+    → first_status input most images ≡ status.Undefined → ⊥
+four_are_defined input most [] e = cc
+four_are_defined input most (image ∷ images) e =
+    first_is_defined (own_ending input most image) (first_status input most images)
+    (four_are_defined input most images) e
+
 -- nor is a save, or a run that is over
 save_is_defined : (image : Image) (input : List ℕ) (at : ℕ) (s : Status) (report : List ℕ)
     → IsSavedRun image input at s report → s ≡ status.Undefined → ⊥
@@ -161,6 +193,8 @@ is_evaluation Save form.Target settings bytes input s report run e =
 is_evaluation Save form.Image settings bytes input s report run e =
     absurd (save_is_defined run.0 input settings.most s report run.3 e)
 is_evaluation Save form.Saved settings bytes input s report run e = absurd run
+is_evaluation Four how settings bytes input s report run e =
+    absurd (four_are_defined input settings.most run.1 (sym run.3.told.0 ∙ e))
 is_evaluation Compile how settings bytes input s report run e = absurd (not_made s run.3 e)
 is_evaluation Assemble how settings bytes input s report run e = absurd (not_made s run.1 e)
 is_evaluation Disassemble how settings bytes input s report run e = absurd (not_made s run.1 e)

@@ -1,6 +1,6 @@
 -- What a request gets whose file and input are told, where nothing fails.
-use Rattle.std.proofs.Common.{◌≡◌, ℕ, ◌<◌, List, Option, Some}
-use Rattle.std.proofs.Common.{All, length, inl, inr, sym, ◌∙◌, ap, subst}
+use Rattle.std.proofs.Common.{◌≡◌, ℕ, ◌<◌, List, [], ◌∷◌, ◌++◌, Option, Some}
+use Rattle.std.proofs.Common.{All, length, inl, inr, refl, sym, ◌∙◌, ap, subst}
 use Rattle.std.proofs.Common.{get_or, ◌⊎◌}
 use Rattle.std.proofs.lemmas.Option.{slice_get_within, get_or_from_slice_get}
 use Rattle.trips_outside.specs.Outside.{Holds}
@@ -16,7 +16,7 @@ use Rattle.block_check.specs.Faults.{IsGood}
 use Rattle.block_check.specs.Images.{IsFirstBad}
 use Rattle.trips_answers.specs.Work.{Work}
 use Rattle.trips_answers.specs.Work.{Run, Evaluate, Compile}
-use Rattle.trips_answers.specs.Work.{Assemble, Disassemble, Check, Explain, Record, Verify, Save}
+use Rattle.trips_answers.specs.Work.{Assemble, Disassemble, Check, Explain, Record, Verify, Save, Four}
 use Rattle.block_image.specs.Spelling.{spelling}
 use Rattle.target_asm_spec.specs.Text.{TargetText}
 use Rattle.target_asm_spec.specs.Text as asm
@@ -39,6 +39,8 @@ use Rattle.trips_explain_answers.specs.Explained.{IsAcceptedTold}
 use Rattle.trips_explain_answers.proofs.Once.{accepted_told_once, not_both_told, refusal_told_once}
 use Rattle.trips_answers.specs.Worked.{IsRunBy, IsRunOfText, IsCompiled, IsWorked, IsDone}
 use Rattle.trips_answers.specs.Worked.{IsDoneBehind}
+use Rattle.trips_answers.specs.Fours.{AreImagesBy, Further, IsImageBy, IsNoProgram, IsRefusedAt, Program}
+use Rattle.trips_four_answers.specs.Report.{program_line}
 use Rattle.trips_answers.specs.Done.{CanBeDone}
 use Rattle.trips_explain_answers.proofs.OneFault.{first_bad_once}
 use Rattle.machine_save.proofs.Opened as saves
@@ -74,6 +76,29 @@ target_not_refused text out image spelled good (inr bad) =
     good_is_not_bad image bad.1 bad.2 good
     (subst (λ (i : Image). IsFirstBad i bad.1 bad.2) same bad.4)
 
+-- a file of which an image is made is no refused program
+pub no_program_image : (how : FileForm) (settings : Settings) (bytes out : List ℕ) (image : Image)
+    → IsNoProgram how bytes out → IsImageBy how settings bytes image → ⊥
+no_program_image form.Source settings bytes out image bad is =
+    not_both bytes is.lowered.program bad.0 is.lowered.accepted bad.1
+no_program_image form.Target settings bytes out image bad is = target_not_refused bytes out image is.0 is.1 bad
+no_program_image form.Image settings bytes out image bad is = image_not_refused bytes out image is.0 is.1 bad
+no_program_image form.Saved settings bytes out image bad is = absurd bad
+
+-- the first of some files of which images are made
+pub first_image : (settings : Settings) (how : FileForm) (bytes : List ℕ) (others : List Program)
+    (images : List Image)
+    → AreImagesBy settings ((how, bytes) ∷ others) images → (image : Image) × IsImageBy how settings bytes image
+first_image settings how bytes others (image ∷ images) are = (image, are.0)
+first_image settings how bytes others [] are = absurd are
+
+-- nor can it be one
+pub no_program_can : (how : FileForm) (bytes out : List ℕ) → IsNoProgram how bytes out → CanBeDone Four how bytes → ⊥
+no_program_can form.Source bytes out bad can = not_both bytes can.0 bad.0 can.1 bad.1
+no_program_can form.Target bytes out bad can = target_not_refused bytes out can.0 can.1.0 can.1.1 bad
+no_program_can form.Image bytes out bad can = image_not_refused bytes out can.0 can.1.0 can.1.1 bad
+no_program_can form.Saved bytes out bad can = absurd can
+
 -- the work --------------------------------------------------------------------------------------
 
 -- bytes that are refused are not worked with
@@ -97,6 +122,9 @@ not_worked Save form.Target settings bytes input s report out bad run =
 not_worked Save form.Image settings bytes input s report out bad run =
     image_not_refused bytes out run.0 run.1 run.2 bad
 not_worked Save form.Saved settings bytes input s report out bad run = absurd run
+not_worked Four how settings bytes input s report out bad run =
+    let first = first_image settings how bytes run.0 run.1 run.2 in
+    no_program_image how settings bytes bad.0 first.0 bad.1 first.1
 not_worked Compile how settings bytes input s report out bad run =
     not_both bytes run.1.lowered.program bad.0 run.1.lowered.accepted bad.1
 not_worked Assemble how settings bytes input s report out bad run =
@@ -124,6 +152,7 @@ refused_cannot Save form.Source bytes out bad can = not_both bytes can.0 bad.0 c
 refused_cannot Save form.Target bytes out bad can = target_not_refused bytes out can.0 can.1.0 can.1.1 bad
 refused_cannot Save form.Image bytes out bad can = image_not_refused bytes out can.0 can.1.0 can.1.1 bad
 refused_cannot Save form.Saved bytes out bad can = absurd can
+refused_cannot Four how bytes out bad can = no_program_can how bytes bad.0 bad.1 can
 refused_cannot Compile how bytes out bad can = not_both bytes can.0 bad.0 can.1 bad.1
 refused_cannot Assemble how bytes out bad can = faults.not_both can.1.0 bytes bad.0 can.1.1 bad.1
 refused_cannot Disassemble how bytes out bad can = decoded.not_both can.1.0 bytes bad.0 can.1.2 bad.1
@@ -177,6 +206,18 @@ target_once text a b (inr x) (inr y) = bad_text_once text a b x y
 no_save_once : (bytes a b : List ℕ) → IsNoSave bytes a → IsNoSave bytes b → a ≡ b
 no_save_once bytes a b x y = x.2 ∙ ap save_text (saves.one_fault bytes x.0 y.0 x.1 y.1) ∙ sym y.2
 
+-- bytes of which no image is made are refused with one report
+no_program_once : (how : FileForm) (bytes a b : List ℕ) → IsNoProgram how bytes a → IsNoProgram how bytes b → a ≡ b
+no_program_once form.Source bytes a b x y = front_once bytes a b x y
+no_program_once form.Target bytes a b x y = target_once bytes a b x y
+no_program_once form.Image bytes a b x y = image_once bytes a b x y
+no_program_once form.Saved bytes a b x y = absurd x
+
+pub program_once : (number : ℕ) (how : FileForm) (bytes a b : List ℕ) → IsRefusedAt number how bytes a
+    → IsRefusedAt number how bytes b → a ≡ b
+program_once number how bytes a b x y = x.2
+    ∙ ap (λ (t : List ℕ). program_line number ++ t) (no_program_once how bytes x.0 y.0 x.1 y.1) ∙ sym y.2
+
 -- bytes are refused with one report
 pub refusal_once : (work : Work) (how : FileForm) (bytes a b : List ℕ)
     → IsRefusedAs work how bytes a → IsRefusedAs work how bytes b → a ≡ b
@@ -189,6 +230,7 @@ refusal_once Save form.Source bytes a b x y = front_once bytes a b x y
 refusal_once Save form.Target bytes a b x y = target_once bytes a b x y
 refusal_once Save form.Image bytes a b x y = image_once bytes a b x y
 refusal_once Save form.Saved bytes a b x y = absurd x
+refusal_once Four how bytes a b x y = program_once 0 how bytes a b x y
 refusal_once Compile how bytes a b x y = front_once bytes a b x y
 refusal_once Assemble how bytes a b x y = no_text_once bytes a b x y
 refusal_once Disassemble how bytes a b x y = no_image_once bytes a b x y
@@ -206,32 +248,33 @@ done_refused work how settings bytes input s report out (inl x) bad =
 done_refused work how settings bytes input s report out (inr run) bad =
     absurd (not_worked work how settings bytes input s report out bad run)
 
--- and what is answered, behind the input
-pub refused_exact : (told : Option (List ℕ)) (rose : Type 0) (work : Work) (how : FileForm) (settings : Settings)
-    (bytes input : List ℕ) (s : Status) (report out : List ℕ)
-    → IsDoneBehind told rose work how settings bytes input s report
+-- and what is answered, behind the input: that of a first file of `four` hangs on the further ones
+pub refused_exact : (told : Option (List ℕ)) (fs : List Further) (rose : Type 0) (work : Work) (how : FileForm)
+    (settings : Settings) (bytes input : List ℕ) (s : Status) (report out : List ℕ) → (work ≡ Four → ⊥)
+    → IsDoneBehind told fs rose work how settings bytes input s report
     → IsRefusedAs work how bytes out → (s ≡ status.Refused) × (report ≡ out)
-refused_exact told rose Verify how settings bytes input s report out (inl x) bad =
+refused_exact told fs rose Four how settings bytes input s report out n d bad = absurd (n refl)
+refused_exact told fs rose Verify how settings bytes input s report out n (inl x) bad =
     done_refused Verify how settings bytes input s report out (inl x) bad
-refused_exact told rose Verify how settings bytes input s report out (inr v) bad =
+refused_exact told fs rose Verify how settings bytes input s report out n (inr v) bad =
     absurd (image_not_refused bytes out v.0 v.1.0 v.1.1 bad)
-refused_exact told rose Run how settings bytes input s report out d bad =
+refused_exact told fs rose Run how settings bytes input s report out n d bad =
     done_refused Run how settings bytes input s report out d bad
-refused_exact told rose Evaluate how settings bytes input s report out d bad =
+refused_exact told fs rose Evaluate how settings bytes input s report out n d bad =
     done_refused Evaluate how settings bytes input s report out d bad
-refused_exact told rose Compile how settings bytes input s report out d bad =
+refused_exact told fs rose Compile how settings bytes input s report out n d bad =
     done_refused Compile how settings bytes input s report out d bad
-refused_exact told rose Assemble how settings bytes input s report out d bad =
+refused_exact told fs rose Assemble how settings bytes input s report out n d bad =
     done_refused Assemble how settings bytes input s report out d bad
-refused_exact told rose Disassemble how settings bytes input s report out d bad =
+refused_exact told fs rose Disassemble how settings bytes input s report out n d bad =
     done_refused Disassemble how settings bytes input s report out d bad
-refused_exact told rose Check how settings bytes input s report out d bad =
+refused_exact told fs rose Check how settings bytes input s report out n d bad =
     done_refused Check how settings bytes input s report out d bad
-refused_exact told rose (Explain file) how settings bytes input s report out d bad =
+refused_exact told fs rose (Explain file) how settings bytes input s report out n d bad =
     done_refused (Explain file) how settings bytes input s report out d bad
-refused_exact told rose Save how settings bytes input s report out d bad =
+refused_exact told fs rose Save how settings bytes input s report out n d bad =
     done_refused Save how settings bytes input s report out d bad
-refused_exact told rose Record how settings bytes input s report out d bad =
+refused_exact told fs rose Record how settings bytes input s report out n d bad =
     done_refused Record how settings bytes input s report out d bad
 
 -- with an accepted text under `eval`
@@ -339,13 +382,14 @@ recorded_exact how settings bytes input s report image (inr run) spelled good =
     (one_image run.0 image bytes run.1.0 spelled) run.2
 
 -- with an image of good blocks and a trace under `verify`
-pub verified_exact : (told : Option (List ℕ)) (rose : Type 0) (how : FileForm) (settings : Settings)
+pub verified_exact : (told : Option (List ℕ)) (fs : List Further) (rose : Type 0) (how : FileForm)
+    (settings : Settings)
     (bytes input trace : List ℕ) (s : Status) (report : List ℕ) (image : Image)
-    → IsDoneBehind told rose Verify how settings bytes input s report → (rose → ⊥) → told ≡ Some trace
+    → IsDoneBehind told fs rose Verify how settings bytes input s report → (rose → ⊥) → told ≡ Some trace
     → ImageBytes image bytes → All IsGood image.blocks → IsVerdict image input trace s report
-verified_exact told rose how settings bytes input trace s report image (inl x) r t spelled good =
+verified_exact told fs rose how settings bytes input trace s report image (inl x) r t spelled good =
     absurd (image_not_refused bytes x.0 image spelled good x.1)
-verified_exact told rose how settings bytes input trace s report image (inr v) r t spelled good =
+verified_exact told fs rose how settings bytes input trace s report image (inr v) r t spelled good =
     subst (λ (i : Image). IsVerdict i input trace s report) (one_image v.0 image bytes v.1.0 spelled) (go v.2)
   where
     go : ((read : List ℕ) × Holds told read × IsVerdict v.0 input read s report)

@@ -1,8 +1,13 @@
 pub mod Told
+pub mod DoneTold
+pub mod NoImages
 pub mod SavedTold
+pub mod Fours
+pub mod Made
 pub mod Traced
 pub mod Rows
 pub mod Ends
+pub mod Unfit
 pub mod Plainly
 pub mod Causes
 pub mod Reported
@@ -14,4 +19,5 @@ pub mod Results
 pub mod Compiled
 pub mod Exact
 pub mod SavedExact
+pub mod FourExact
 pub mod Complete

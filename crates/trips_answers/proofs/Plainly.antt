@@ -1,5 +1,5 @@
 -- From the answers over the compiler's passes and the grid to those said of texts, images and the machine alone.
-use Rattle.std.proofs.Common.{◌≡◌, ℕ, ◌+◌, ◌≤◌, false, List, length, Option, None, Some, slice_get}
+use Rattle.std.proofs.Common.{◌≡◌, ℕ, ◌+◌, ◌≤◌, false, List, [], ◌∷◌, length, Option, None, Some, slice_get}
 use Rattle.std.proofs.Common.{IfSome, ◌⊎◌, inl, inr, refl, sym, ap, ◌∙◌, subst, arith}
 use Rattle.trips_outside.specs.Outside.{Holds}
 use Rattle.trips_isa.specs.declared.block.Block.{Block}
@@ -18,7 +18,7 @@ use Rattle.grid_machine.specs.Answered.{ComesTo}
 use Rattle.grid_cycle.specs.Traps.{is_trap}
 use Rattle.trips_answers.specs.Work.{Work}
 use Rattle.trips_answers.specs.Work.{Run, Evaluate, Compile}
-use Rattle.trips_answers.specs.Work.{Assemble, Disassemble, Check, Explain, Record, Verify, Save}
+use Rattle.trips_answers.specs.Work.{Assemble, Disassemble, Check, Explain, Record, Verify, Save, Four}
 use Rattle.trips_requests.specs.declared.loading.Loaded.{Loaded}
 use Rattle.trips_requests.specs.declared.loading.Loaded.TheVariants.{Fault, TooLarge, Bytes}
 use Rattle.trips_requests.specs.declared.status.Status.{Status}
@@ -43,12 +43,14 @@ use Rattle.trips_answers.specs.Answer.{IsAnswerBehind, IsAnswer}
 use Rattle.trips_answers.specs.Table.{EndsAs, IsReportedFrom}
 use Rattle.trips_answers.specs.Ended.{ResultMeans}
 use Rattle.trips_answers.specs.Evaluated.{ResultTells}
-use Rattle.trips_answers.specs.Done.{CanBeDone, DoesWork}
+use Rattle.trips_answers.specs.Done.{AreImagesFor, CanBeDone, DoesWork, IsImageFor}
 use Rattle.trips_answers.specs.Causes.{CannotBeDone, EndsOrRefuses, EndsWork, IsUnfit, MayAnswer}
-use Rattle.trips_answers.specs.Causes.{MayAnswerBehind, MayBeUnfit}
-use Rattle.trips_requests.specs.Texts.{IsFixed, read_fault_text}
+use Rattle.trips_answers.specs.Causes.{MayAnswerBehind, MayBeFurtherFault, MayBeUnfit}
+use Rattle.trips_requests.specs.Texts.{IsFixed, read_fault_text, too_large_text}
 use Rattle.trips_answers.proofs.Traced.{part}
-use Rattle.trips_answers.proofs.Exact.{refused_cannot}
+use Rattle.trips_answers.proofs.Exact.{first_image, refused_cannot}
+use Rattle.trips_answers.specs.Fours.{AreImagesBy, IsImageBy, IsLargeAmong, IsRefusedAmong, Program, further_of}
+use Rattle.trips_answers.proofs.Unfit.{further_fault, further_may}
 use Rattle.trips_answers.proofs.Rows.{of_read, not_large_input}
 use Rattle.trips_answers.proofs.Ends.{is_evaluation}
 
@@ -110,6 +112,25 @@ reported_tells blocks t settings s old new told =
 
 -- THE WORK
 
+-- the image that is made of a file is one that its run has
+image_for : (how : FileForm) (settings : Settings) (bytes : List ℕ) (image : Image)
+    → IsImageBy how settings bytes image → IsImageFor how settings.unroll bytes image
+image_for form.Source settings bytes image is =
+    does_text bytes settings.placing settings.unroll image
+    (images_mean bytes settings.placing settings.unroll image is)
+image_for form.Target settings bytes image is = is
+image_for form.Image settings bytes image is = is
+image_for form.Saved settings bytes image is = absurd is
+
+-- so are those of some
+pub images_for : (settings : Settings) (ps : List Program) (images : List Image) → AreImagesBy settings ps images
+    → AreImagesFor settings.unroll ps images
+images_for settings [] [] h = tt
+images_for settings (p ∷ ps) (image ∷ images) h =
+    (image_for p.0 settings p.1 image h.0, images_for settings ps images h.1)
+images_for settings [] (image ∷ images) h = absurd h
+images_for settings (p ∷ ps) [] h = absurd h
+
 -- work that was done, said of texts, images and the machine
 does_work : (work : Work) (how : FileForm) (settings : Settings) (bytes input : List ℕ) (s : Status)
     (report : List ℕ) → IsWorked work how settings bytes input s report
@@ -137,6 +158,12 @@ does_work Save form.Source settings bytes input s report run = (
 does_work Save form.Target settings bytes input s report run = (run.0, (run.1, run.2), run.3)
 does_work Save form.Image settings bytes input s report run = (run.0, (run.1, run.2), run.3)
 does_work Save form.Saved settings bytes input s report run = absurd run
+does_work Four how settings bytes input s report run = (
+  run.0,
+  run.1,
+  images_for settings ((how, bytes) ∷ run.0) run.1 run.2,
+  (run.3.made, run.3.within, run.3.told),
+)
 does_work Compile how settings bytes input s report run =
     let means : MeansText bytes settings.placing settings.unroll run.0 =
     images_mean bytes settings.placing settings.unroll run.0 run.1 in (
@@ -155,6 +182,14 @@ does_work (Explain file) how settings bytes input s report run = run
 does_work Verify how settings bytes input s report run = run
 does_work Record how settings bytes input s report run = run
 
+-- a file of which an image is made can be run
+four_can : (how : FileForm) (settings : Settings) (bytes : List ℕ) (image : Image)
+    → IsImageBy how settings bytes image → CanBeDone Four how bytes
+four_can form.Source settings bytes image is = (is.lowered.program, is.lowered.accepted)
+four_can form.Target settings bytes image is = (image, is)
+four_can form.Image settings bytes image is = (image, is)
+four_can form.Saved settings bytes image is = absurd is
+
 -- it could be done
 worked_can : (work : Work) (how : FileForm) (settings : Settings) (bytes input : List ℕ) (s : Status)
     (report : List ℕ) → IsWorked work how settings bytes input s report → CanBeDone work how bytes
@@ -167,6 +202,8 @@ worked_can Save form.Source settings bytes input s report run = (run.1.lowered.p
 worked_can Save form.Target settings bytes input s report run = (run.0, (run.1, run.2))
 worked_can Save form.Image settings bytes input s report run = (run.0, (run.1, run.2))
 worked_can Save form.Saved settings bytes input s report run = absurd run
+worked_can Four how settings bytes input s report run =
+    let first = first_image settings how bytes run.0 run.1 run.2 in four_can how settings bytes first.0 first.1
 worked_can Compile how settings bytes input s report run = (run.1.lowered.program, run.1.lowered.accepted)
 worked_can Assemble how settings bytes input s report run = (report, run.0)
 worked_can Disassemble how settings bytes input s report run = (report, run.0)
@@ -229,7 +266,10 @@ pub may_be_unfit : (q : Option Request) (held : List ℕ → Option (List ℕ)) 
 may_be_unfit None held may = absurd may
 may_be_unfit (Some q) held (inl bad) =
     inl (if_so (IsBad q) (CannotBeDone q) (origin_held held q.origin) (cannot q) bad)
-may_be_unfit (Some q) held (inr large) = inr large
+may_be_unfit (Some q) held (inr (inl large)) = inr (inl large)
+may_be_unfit (Some q) held (inr (inr (inl trace))) = inr (inr (inl trace))
+may_be_unfit (Some q) held (inr (inr (inr (inl over)))) = inr (inr (inr (inl over)))
+may_be_unfit (Some q) held (inr (inr (inr (inr further)))) = inr (inr (inr (inr (further_may q held further))))
 
 -- one whose work is done is not
 not_unfit : (q : Request) (bytes input : List ℕ) (s : Status) (report : List ℕ) → length bytes ≤ limit_of q.form
@@ -259,17 +299,28 @@ module _ (q : Request) (held : List ℕ → Option (List ℕ)) (rose : Type 0) (
   traced_unfit bytes input (inl u) = inr u.1.0
   traced_unfit bytes input (inr t) = inl t.4.0
 
+  -- a fault of a further file
+  further_unfit : (rose × IsFixed status.ReadFault read_fault_text s report)
+      ⊎ ((IsLargeAmong (further_of held q) × IsFixed status.Refused too_large_text s report)
+      ⊎ ((text : List ℕ) × IsRefusedAmong 1 (further_of held q) text × IsFixed status.Refused text s report))
+      → (s ≡ status.Refused) ⊎ (s ≡ status.ReadFault)
+  further_unfit (inl u) = inr u.1.0
+  further_unfit (inr (inl l)) = inl l.1.0
+  further_unfit (inr (inr t)) = inl t.2.0
+
   input_unfit : (bytes : List ℕ) (loaded : Loaded) → IsUnfit (Some q) held → Holds (origin_held held q.origin) bytes
       → length bytes ≤ limit_of q.form → IsInputRead q.input held rose loaded
       → AfterReading loaded
-      (λ input. IsDoneBehind (held q.trace) rose q.work q.form (settings_of q) bytes input s report) s report
+      (λ input. IsDoneBehind (held q.trace) (further_of held q) rose q.work q.form (settings_of q) bytes input s
+      report) s report
       → (s ≡ status.Refused) ⊎ (s ≡ status.ReadFault)
   input_unfit bytes Fault bad h few i a = inr a.0
   input_unfit bytes TooLarge bad h few i a = inl a.0
   input_unfit bytes (Bytes input) bad h few i a =
-      elim (part (held q.trace) rose q.work q.form (settings_of q) bytes input s report a) [
+      elim (part (held q.trace) (further_of held q) rose q.work q.form (settings_of q) bytes input s report a) [
         | inl d ↦ done_unfit bytes input bad h few (not_large_input q.input held rose input i) d
-        | inr f ↦ traced_unfit bytes input f.1
+        | inr (inl f) ↦ traced_unfit bytes input f.1
+        | inr (inr f) ↦ further_unfit f.1
       ]
 
   asked_unfit : (loaded : Loaded) → IsUnfit (Some q) held
@@ -307,10 +358,18 @@ behind_so : (q : Request) (held : List ℕ → Option (List ℕ)) (rose : Type 0
 behind_so q held rose bytes s report b = (
   b.0,
   b.1,
-  after_so b.0 (λ input. IsDoneBehind (held q.trace) rose q.work q.form (settings_of q) bytes input s report)
-      (λ input. EndsOrRefuses q bytes input s report ⊎ IsTraceFault (held q.trace) rose q.work bytes input s report)
-      s report (λ input d. elim (part (held q.trace) rose q.work q.form (settings_of q) bytes input s report d)
-      [ inl w ↦ inl (done_so q bytes input s report w) | inr f ↦ inr f ]) b.2,
+  after_so b.0
+      (λ input. IsDoneBehind (held q.trace) (further_of held q) rose q.work q.form (settings_of q) bytes input s
+      report)
+      (λ input. EndsOrRefuses q bytes input s report
+      ⊎ (IsTraceFault (held q.trace) rose q.work bytes input s report
+      ⊎ MayBeFurtherFault (further_of held q) rose q.work s report))
+      s report (λ input d. elim
+      (part (held q.trace) (further_of held q) rose q.work q.form (settings_of q) bytes input s report d) [
+        | inl w ↦ inl (done_so q bytes input s report w)
+        | inr (inl f) ↦ inr (inl f)
+        | inr (inr f) ↦ inr (inr (further_fault (further_of held q) rose q.work s report f))
+      ]) b.2,
 )
 
 -- each answer that holds is one that may come

@@ -13,9 +13,10 @@ use Rattle.machine_save.specs.Spelling.{SaveBytes}
 use Rattle.trips_grid_answers.specs.Report.{TellsRunFrom}
 use Rattle.trips_grid_answers.specs.Saved.{IsSavedRun}
 use Rattle.trips_trace_answers.specs.TraceAnswers.{IsVerdict, TellsTrace}
+use Rattle.trips_four_answers.specs.Report.{TellsFour}
 use Rattle.trips_answers.specs.Work.{Work}
 use Rattle.trips_answers.specs.Work.{Run, Evaluate, Compile}
-use Rattle.trips_answers.specs.Work.{Assemble, Disassemble, Check, Explain, Record, Verify, Save}
+use Rattle.trips_answers.specs.Work.{Assemble, Disassemble, Check, Explain, Record, Verify, Save, Four}
 use Rattle.trips_requests.specs.declared.status.Status.{Status}
 use Rattle.trips_requests.specs.declared.status.Status.TheVariants as status
 use Rattle.trips_requests.specs.Table.{IsOneOf, IsWritten, Reports, Wrote}
@@ -30,12 +31,14 @@ use Rattle.trips_answers.specs.Report.{TellsRun}
 use Rattle.trips_answers.specs.Answer.{IsAnswer}
 use Rattle.trips_answers.specs.Table.{IsAnswered}
 use Rattle.trips_answers.specs.Evaluated.{ResultTells}
-use Rattle.trips_answers.specs.Done.{IsImageIn, Makes, WritesImage}
+use Rattle.trips_answers.specs.Done.{AreImagesFor, CanBeRun, IsImageIn, Makes, WritesImage}
+use Rattle.trips_answers.specs.Fours.{AreTold, Program, further_of}
 use Rattle.trips_answers.specs.Causes.{EndsWork, HasCauses, IsTooLarge, MayAnswer, RefusesUnfit}
 use Rattle.trips_answers.proofs.Causes as causes
+use Rattle.trips_answers.proofs.FourExact as four
 use Rattle.trips_answers.proofs.Reported as reported
 use Rattle.trips_answers.proofs.ShownRuns as shown
-use Rattle.trips_answers.proofs.Plainly.{answer_so, ends_work, may_be_unfit, reported_tells, result_tells}
+use Rattle.trips_answers.proofs.Plainly.{answer_so, ends_work, images_for, may_be_unfit, reported_tells, result_tells}
 
 module _ (held : List ℕ → Option (List ℕ)) (rose : Type 0) (old new : Option (List ℕ))
     (cut : Type 0) (q : Option Request) (s : Status) (a : IsAnswered q held rose old new cut s) where
@@ -127,6 +130,7 @@ module _ (held : List ℕ → Option (List ℕ)) (rose : Type 0) (old new : Opti
   made Record how most show bytes input out asks is r c m = absurd is
   made Verify how most show bytes input out asks is r c m = absurd is
   made Save how most show bytes input out asks is r c m = absurd is
+  made Four how most show bytes input out asks is r c m = absurd is
   made Assemble how most show bytes input out asks is r c m =
       reported.assembled held rose old new cut q s a how most show bytes input out asks is r c m
   made Disassemble how most show bytes input out asks is r c m =
@@ -142,6 +146,19 @@ module _ (held : List ℕ → Option (List ℕ)) (rose : Type 0) (old new : Opti
       → (rose → ⊥) → (cut → ⊥) → s ≢ status.Memory → Wrote old new (TellsTrace image input most s)
   recorded how most show bytes input image asks is r c m =
       reported.recorded held rose old new cut q s a how most show bytes input image asks is.0 is.1 r c m
+
+  -- the runs of four files
+  pub fours : (how : FileForm) (most : ℕ) (show : Show) (bytes input : List ℕ) (others : List Program)
+      → (asks : AsksFor q held Four how most show bytes input) → AreTold (further_of held asks.q) others
+      → CanBeRun ((how, bytes) ∷ others) → (rose → ⊥) → (cut → ⊥) → s ≢ status.Memory
+      → (images : List Image) × AreImagesFor asks.q.unroll ((how, bytes) ∷ others) images
+      × Wrote old new (TellsFour images input most show.cycles s)
+  fours how most show bytes input others asks told can r c m =
+      let run = four.runs held rose old new cut q s a how most show bytes input others asks told r c m can in (
+        run.0,
+        images_for (settings_with asks.q most show) ((how, bytes) ∷ others) run.0 run.1,
+        (run.2.0, (run.2.1.made, run.2.1.within, run.2.1.told), run.2.2),
+      )
 
   -- the verdict on a trace
   pub verified : (how : FileForm) (most : ℕ) (show : Show) (bytes input trace : List ℕ) (image : Image)

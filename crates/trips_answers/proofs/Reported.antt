@@ -19,7 +19,7 @@ use Rattle.trips_tools.specs.Tools.{IsOneImage, IsGoodImage}
 use Rattle.trips_trace_answers.specs.TraceAnswers.{IsVerdict, TellsTrace}
 use Rattle.trips_answers.specs.Work.{Work}
 use Rattle.trips_answers.specs.Work.{Run, Evaluate, Compile}
-use Rattle.trips_answers.specs.Work.{Assemble, Disassemble, Check, Explain, Record, Verify, Save}
+use Rattle.trips_answers.specs.Work.{Assemble, Disassemble, Check, Explain, Record, Verify, Save, Four}
 use Rattle.trips_answers.specs.declared.forms.FileForm.{FileForm}
 use Rattle.trips_answers.specs.declared.forms.FileForm.TheVariants as form
 use Rattle.trips_requests.specs.declared.status.Status.{Status}
@@ -33,6 +33,7 @@ use Rattle.trips_answers.specs.Report.{ending_of, run_report, status_of, full_re
 use Rattle.trips_answers.specs.Asks.{nothing_shown, ended_report, AsksFor}
 use Rattle.trips_answers.specs.Refused.{IsRefusedAs}
 use Rattle.trips_answers.specs.Worked.{IsRunOfText}
+use Rattle.trips_answers.specs.Fours.{further_of}
 use Rattle.trips_answers.specs.Answer.{IsAnswer}
 use Rattle.trips_answers.specs.Table.{IsAnswered}
 use Rattle.trips_answers.specs.Causes.{HasLargeFile, HasLargeInput}
@@ -268,21 +269,21 @@ module _ (held : List ℕ → Option (List ℕ)) (rose : Type 0) (old new : Opti
       let row = row_of s a c m in
       let done = complete q held rose s row.0 row.1 r Verify how most show bytes input asks in (
         row.0,
-        verified_exact (held asks.q.trace) rose how (settings_with asks.q most show) bytes input trace s row.0 image
-            done r told spelled good,
+        verified_exact (held asks.q.trace) (further_of held asks.q) rose how (settings_with asks.q most show) bytes
+            input trace s row.0 image done r told spelled good,
         row.2,
       )
 
   -- a file that is refused is answered so, and the reason is written
   pub refusal : (s : Status) → IsAnswered q held rose old new cut s → (work : Work)
       (how : FileForm) (most : ℕ) (show : Show) (bytes input report : List ℕ)
-      → AsksFor q held work how most show bytes input → IsRefusedAs work how bytes report → (rose → ⊥)
-      → (cut → ⊥) → s ≢ status.Memory → (s ≡ status.Refused) × Appended old new report
-  refusal s a work how most show bytes input report asks bad r c m =
+      → AsksFor q held work how most show bytes input → (work ≡ Four → ⊥) → IsRefusedAs work how bytes report
+      → (rose → ⊥) → (cut → ⊥) → s ≢ status.Memory → (s ≡ status.Refused) × Appended old new report
+  refusal s a work how most show bytes input report asks n bad r c m =
       let row = row_of s a c m in
       let done = complete q held rose s row.0 row.1 r work how most show bytes input asks in
-      let told = refused_exact (held asks.q.trace) rose work how (settings_with asks.q most show) bytes input s row.0
-      report done bad in
+      let told = refused_exact (held asks.q.trace) (further_of held asks.q) rose work how
+      (settings_with asks.q most show) bytes input s row.0 report n done bad in
       (told.0, subst (Appended old new) told.1 row.2)
 
   -- a file that is too large is refused as such

@@ -1,5 +1,5 @@
 -- What the row of a request says of each answer.
-use Rattle.std.proofs.Common.{◌≡◌, ℕ, ◌<◌, ◌≤◌, Bool, true, false, List, Option, None}
+use Rattle.std.proofs.Common.{◌≡◌, ℕ, ◌<◌, ◌≤◌, Bool, true, false, List, [], ◌∷◌, Option, None}
 use Rattle.std.proofs.Common.{Some}
 use Rattle.std.proofs.Common.{IfSome, IsSomeAnd, length, ◌⊎◌, inl, inr, refl, sym}
 use Rattle.std.proofs.Common.{◌∙◌, ap, subst, arith}
@@ -14,7 +14,7 @@ use Rattle.c_meaning.specs.declared.outcome.Outcome.{Outcome}
 use Rattle.c_meaning.specs.declared.outcome.Outcome.TheVariants as outcome
 use Rattle.trips_answers.specs.Work.{Work}
 use Rattle.trips_answers.specs.Work.{Run, Evaluate, Compile}
-use Rattle.trips_answers.specs.Work.{Assemble, Disassemble, Check, Explain, Record, Verify, Save}
+use Rattle.trips_answers.specs.Work.{Assemble, Disassemble, Check, Explain, Record, Verify, Save, Four}
 use Rattle.trips_answers.specs.declared.forms.FileForm.{FileForm}
 use Rattle.trips_answers.specs.declared.forms.FileForm.TheVariants as form
 use Rattle.trips_answers.specs.declared.forms.Settings.{Settings}
@@ -26,6 +26,8 @@ use Rattle.trips_answers.specs.Request.{Request, origin_held}
 use Rattle.trips_answers.specs.Settings.{settings_of}
 use Rattle.trips_answers.specs.Read.{HoldsInput, IsInputRead, MayBeLarge, IsLarge}
 use Rattle.trips_answers.specs.Traced.{IsTraceFault, IsTraceRefused}
+use Rattle.trips_answers.specs.Fours.{IsFurtherFault, IsLargeAmong, IsRefusedAmong, further_of}
+use Rattle.trips_four_answers.specs.Report.{first_status, own_ending, status_or}
 use Rattle.trips_answers.specs.Asks.{limit_of, most_input_bytes}
 use Rattle.trips_requests.specs.Table.{IsRead, AfterReading}
 use Rattle.trips_answers.specs.Report.{ending_of, status_of}
@@ -38,7 +40,7 @@ use Rattle.trips_answers.specs.Worked.{IsWorked, IsDone, IsDoneBehind}
 use Rattle.trips_eval_answers.specs.Evaluation.{eval_status, outcome_of}
 use Rattle.trips_answers.specs.Answer.{IsAnswerBehind, IsAnswer}
 use Rattle.trips_answers.specs.Refused.{IsBad, MayBeRefused, IsRefused}
-use Rattle.trips_requests.specs.Texts.{IsFixed, read_fault_text}
+use Rattle.trips_requests.specs.Texts.{IsFixed, read_fault_text, too_large_text}
 use Rattle.trips_answers.proofs.Exact.{not_worked}
 use Rattle.trips_answers.proofs.Traced.{part}
 
@@ -89,6 +91,20 @@ eval_tells outcome.Undefined = refl
 eval_tells outcome.Deep = refl
 eval_tells (outcome.Done output result steps) = refl
 
+-- the first end of some that is none of a result, or that of the last, tells how a run ended
+first_tells : (e : Ending) (later : Status) → is_told later ≡ true → is_told (status_or (status_of e) later) ≡ true
+unfolding is_told
+first_tells ending.Ended later told = told
+first_tells ending.StackFull later told = refl
+first_tells ending.Budget later told = refl
+first_tells (ending.Trap block cause) later told = refl
+
+four_tell : (input : List ℕ) (most : ℕ) (images : List Image) → is_told (first_status input most images) ≡ true
+unfolding is_told
+four_tell input most [] = refl
+four_tell input most (image ∷ images) =
+    first_tells (own_ending input most image) (first_status input most images) (four_tell input most images)
+
 -- work that is done tells how it ended, but for a save of a run that is over
 work_tells : (work : Work) (how : FileForm) (settings : Settings) (bytes input : List ℕ)
     (s : Status) (report : List ℕ) → IsWorked work how settings bytes input s report
@@ -113,6 +129,8 @@ work_tells Save form.Target settings bytes input s report run =
 work_tells Save form.Image settings bytes input s report run =
     saved_tells form.Image settings bytes input run.0 s report (run.1, run.2) run.3
 work_tells Save form.Saved settings bytes input s report run = absurd run
+work_tells Four how settings bytes input s report run =
+    inl (ap is_told run.3.told.0 ∙ four_tell input settings.most run.1)
 work_tells Compile how settings bytes input s report run = inl (ap is_told run.3)
 work_tells Assemble how settings bytes input s report run = inl (ap is_told run.1)
 work_tells Disassemble how settings bytes input s report run = inl (ap is_told run.1)
@@ -207,6 +225,18 @@ module _ (q : Request) (held : List ℕ → Option (List ℕ)) (rose : Type 0) (
         refused = t.3;
       }))))
 
+  -- a fault of a further file
+  further_kind : IsFurtherFault (further_of held q) rose q.work s report → Kind (Some q) held rose s
+  further_kind f = go f.1
+    where
+      go : (rose × IsFixed status.ReadFault read_fault_text s report)
+          ⊎ ((IsLargeAmong (further_of held q) × IsFixed status.Refused too_large_text s report)
+          ⊎ ((text : List ℕ) × IsRefusedAmong 1 (further_of held q) text × IsFixed status.Refused text s report))
+          → Kind (Some q) held rose s
+      go (inl u) = unread u.1.0 u.0
+      go (inr (inl l)) = refused l.1.0 (inr (inr (inr (inr (record { is_work = f.0; bad = inl l.0 })))))
+      go (inr (inr t)) = refused t.2.0 (inr (inr (inr (inr (record { is_work = f.0; bad = inr (t.0, t.1) })))))
+
   done_kind : (bytes input : List ℕ) → Holds (origin_held held q.origin) bytes
       → length bytes ≤ limit_of q.form → HoldsInput q.input held input → (IsLarge q.input held → ⊥)
       → IsDone q.work q.form (settings_of q) bytes input s report → Kind (Some q) held rose s
@@ -222,7 +252,7 @@ module _ (q : Request) (held : List ℕ → Option (List ℕ)) (rose : Type 0) (
 
       by : Tells q.work q.form (settings_of q) bytes input s → Kind (Some q) held rose s
       by (inl told) = ran told not_refused
-      by (inr over) = refused over.0 (inr (inr (inr (record {
+      by (inr over) = refused over.0 (inr (inr (inr (inl (record {
         is_work = over.1;
         bytes = bytes;
         input = input;
@@ -231,21 +261,23 @@ module _ (q : Request) (held : List ℕ → Option (List ℕ)) (rose : Type 0) (
         holds_input = i;
         is_image = over.2.is_image;
         over = over.2.over;
-      }))))
+      })))))
 
   input_kind : (bytes : List ℕ) (loaded : Loaded) → Holds (origin_held held q.origin) bytes
       → length bytes ≤ limit_of q.form → IsInputRead q.input held rose loaded
       → AfterReading loaded
-      (λ input. IsDoneBehind (held q.trace) rose q.work q.form (settings_of q) bytes input s report) s report
+      (λ input. IsDoneBehind (held q.trace) (further_of held q) rose q.work q.form (settings_of q) bytes input s
+      report) s report
       → Kind (Some q) held rose s
   input_kind bytes Fault h few i a = unread a.0 (input_fault q.input held rose i)
   input_kind bytes TooLarge h few i a =
       refused a.0 (inr (inl (input_too_large q.input held rose i)))
   input_kind bytes (Bytes input) h few i a =
-      elim (part (held q.trace) rose q.work q.form (settings_of q) bytes input s report a) [
+      elim (part (held q.trace) (further_of held q) rose q.work q.form (settings_of q) bytes input s report a) [
         | inl d ↦ done_kind bytes input h few (input_held q.input held rose input i)
             (not_large_input q.input held rose input i) d
-        | inr f ↦ traced_kind bytes input h (input_held q.input held rose input i) f
+        | inr (inl f) ↦ traced_kind bytes input h (input_held q.input held rose input i) f
+        | inr (inr f) ↦ further_kind f
       ]
 
   asked_kind : (loaded : Loaded) → IsRead (origin_held held q.origin) rose (limit_of q.form) loaded

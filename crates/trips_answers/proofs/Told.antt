@@ -17,10 +17,9 @@ use Rattle.trips_requests.specs.declared.status.Status.{Status}
 use Rattle.trips_requests.specs.declared.status.Status.TheVariants as status
 use Rattle.trips_requests.specs.declared.answer.Answer.{Answer}
 use Rattle.trips_requests.specs.declared.commands.Command.{Command}
-use Rattle.trips_requests.specs.declared.commands.Command.TheVariants as command
 use Rattle.trips_answers.specs.Work.{Work, work_on}
 use Rattle.trips_answers.specs.Work.{Run, Evaluate, Compile}
-use Rattle.trips_answers.specs.Work.{Assemble, Disassemble, Check, Explain, Record, Verify, Save}
+use Rattle.trips_answers.specs.Work.{Assemble, Disassemble, Check, Explain, Record}
 use Rattle.trips_answers.specs.declared.forms.FileForm.{FileForm}
 use Rattle.trips_answers.specs.declared.forms.FileForm.TheVariants as form
 use Rattle.trips_answers.specs.declared.forms.Settings.{Settings}
@@ -33,7 +32,7 @@ use Rattle.trips_requests.specs.declared.commands.Tool.TheVariants as tools
 use Rattle.trips_requests.specs.Requests as line
 use Rattle.trips_requests.specs.inside.Requests as inside_line
 use Rattle.trips_tools.specs.inside.ToolAnswers.{IsToolDone}
-use Rattle.trips_trace_answers.specs.TraceAnswers.{IsRecording, IsRefusedImage, IsVerified}
+use Rattle.trips_trace_answers.specs.TraceAnswers.{IsRecording, IsRefusedImage}
 use Rattle.trips_answers.specs.Request.{Request, origin_held, planned}
 use Rattle.trips_answers.specs.inside.Settings.{request_seen}
 use Rattle.trips_answers.specs.Read.{IsInputRead}
@@ -48,7 +47,9 @@ use Rattle.trips_eval_answers.specs.inside.Evaluation.{IsRefusalBy, IsTextEvalua
 use Rattle.trips_explain_answers.specs.inside.Explained.{IsExplained}
 use Rattle.trips_answers.specs.Settings.{settings_of}
 use Rattle.trips_answers.specs.Worked.{IsRunBy, IsDone, IsDoneBehind}
-use Rattle.trips_answers.proofs.Traced.{last, other, rose_last}
+use Rattle.trips_answers.specs.Fours.{Further, further_of}
+use Rattle.trips_answers.proofs.Fours.{read_last}
+use Rattle.trips_answers.proofs.Traced.{last}
 use Rattle.trips_answers.specs.Answer.{IsAnswerBehind, IsAnswer}
 use Rattle.trips_answers.specs.inside.Checked.{IsRunOfChecked}
 
@@ -164,20 +165,6 @@ few_bytes form.Saved = omega arith
 pub work_is : {a b : Command} (file : List ℕ) → a ≡ b → work_on a file ≡ work_on b file
 work_is file is = ap (λ (k : Command). work_on k file) is
 
--- another command's work is no judging of a trace
-pub not_verify : (k : Command) (file : List ℕ) → (k ≡ command.Verify → ⊥) → work_on k file ≡ Verify → ⊥
-not_verify command.Verify file n e = n refl
-not_verify command.Run file n e = cc
-not_verify command.Evaluate file n e = cc
-not_verify command.Compile file n e = cc
-not_verify command.Assemble file n e = cc
-not_verify command.Disassemble file n e = cc
-not_verify command.Check file n e = cc
-not_verify command.Explain file n e = cc
-not_verify command.Record file n e = cc
-not_verify command.Save file n e = cc
-not_verify command.Resume file n e = cc
-
 -- what `eval` does, whatever its file is read as
 pub evaluate_told : {E : Type 0} (work : Work) (how : FileForm) (steps : ℕ) (settings : Settings)
     (bytes seen input : List ℕ) (r : Result Answer E) → work ≡ Evaluate → settings.most ≡ steps
@@ -268,12 +255,6 @@ read_first told old now new limit Fault le h = rose_first old now new le h
 read_first told old now new limit TooLarge le h = h
 read_first told old now new limit (Bytes bytes) le h = h
 
-read_last : (told : Option (List ℕ)) (old now new limit : ℕ) (loaded : Loaded) → old ≤ now
-    → IsRead told (Rose now new) limit loaded → IsRead told (Rose old new) limit loaded
-read_last told old now new limit Fault le h = rose_last old now new le h
-read_last told old now new limit TooLarge le h = h
-read_last told old now new limit (Bytes bytes) le h = h
-
 input_last : (input : Option (List ℕ)) (held : List ℕ → Option (List ℕ)) (old now new : ℕ)
     (loaded : Loaded) → old ≤ now → IsInputRead input held (Rose now new) loaded
     → IsInputRead input held (Rose old new) loaded
@@ -289,54 +270,34 @@ input_first (Some name) held old now new loaded le h =
     read_first (held name) old now new most_input_bytes loaded le h
 
 -- what is answered behind an input whose count rose in the last part of a time
-after_last : (q : Request) (told : Option (List ℕ)) (old now new : ℕ) (bytes : List ℕ) (loaded : Loaded) (s : Status)
-    (report : List ℕ) → old ≤ now
+after_last : (q : Request) (told : Option (List ℕ)) (fs : List Further) (old now new : ℕ) (bytes : List ℕ)
+    (loaded : Loaded) (s : Status) (report : List ℕ) → old ≤ now
     → AfterReading loaded
-    (λ input. IsDoneBehind told (Rose now new) q.work q.form (settings_of q) bytes input s report) s report
+    (λ input. IsDoneBehind told fs (Rose now new) q.work q.form (settings_of q) bytes input s report) s report
     → AfterReading loaded
-    (λ input. IsDoneBehind told (Rose old new) q.work q.form (settings_of q) bytes input s report) s report
-after_last q told old now new bytes Fault s report le a = a
-after_last q told old now new bytes TooLarge s report le a = a
-after_last q told old now new bytes (Bytes input) s report le a =
-    last told old now new q.work q.form (settings_of q) bytes input s report le a
+    (λ input. IsDoneBehind told fs (Rose old new) q.work q.form (settings_of q) bytes input s report) s report
+after_last q told fs old now new bytes Fault s report le a = a
+after_last q told fs old now new bytes TooLarge s report le a = a
+after_last q told fs old now new bytes (Bytes input) s report le a =
+    last told fs old now new q.work q.form (settings_of q) bytes input s report le a
 
 -- the answer behind an input that was read
 pub input_told : {E : Type 0} (q : Request) (held kept : List ℕ → Option (List ℕ)) (old now new : ℕ)
     (bytes : List ℕ) (loaded : Loaded) (r : Result Answer E) → kept ≡ held → old ≤ now → now ≤ new
     → IsInputRead q.input held (Rose old now) loaded
-    → IfOk r (λ a. AfterReading loaded (λ input. IsDoneBehind (kept q.trace) (Rose now new) q.work q.form
-    (settings_of q) bytes input a.status a.report.items) a.status a.report.items)
+    → IfOk r (λ a. AfterReading loaded (λ input. IsDoneBehind (kept q.trace) (further_of kept q) (Rose now new) q.work
+    q.form (settings_of q) bytes input a.status a.report.items) a.status a.report.items)
     → IfOk r (λ a. IsAnswerBehind q held (Rose old new) bytes a.status a.report.items)
 input_told q held kept old now new bytes loaded (Err e) same le next h told = tt
 input_told q held kept old now new bytes loaded (Ok a) same le next h told =
     let here = subst (λ (k : List ℕ → Option (List ℕ)). AfterReading loaded (λ input. IsDoneBehind (k q.trace)
-    (Rose now new) q.work q.form (settings_of q) bytes input a.status a.report.items) a.status a.report.items)
+    (further_of k q) (Rose now new) q.work q.form (settings_of q) bytes input a.status a.report.items) a.status
+    a.report.items)
     same told in (
       loaded,
       input_first q.input held old now new loaded next h,
-      after_last q (held q.trace) old now new bytes loaded a.status a.report.items le here,
+      after_last q (held q.trace) (further_of held q) old now new bytes loaded a.status a.report.items le here,
     )
-
--- the answer of `verify`
-pub verified_told : {E : Type 0} (work : Work) (how : FileForm) (settings : Settings) (told seen : Option (List ℕ))
-    (rose : Type 0) (bytes input : List ℕ) (r : Result Answer E) → work ≡ Verify → seen ≡ told
-    → IfOk r (λ a. IsRefusedImage bytes a.status a.report.items
-    ⊎ IsVerified bytes input seen rose a.status a.report.items)
-    → IfOk r (λ a. IsDoneBehind told rose work how settings bytes input a.status a.report.items)
-verified_told work how settings told seen rose bytes input (Err e) is same v = tt
-verified_told work how settings told seen rose bytes input (Ok a) is same v =
-    subst (λ (w : Work). IsDoneBehind told rose w how settings bytes input a.status a.report.items) (sym is)
-    (subst (λ (o : Option (List ℕ)). IsRefusedImage bytes a.status a.report.items
-    ⊎ IsVerified bytes input o rose a.status a.report.items) same v)
-
--- and that of any other work
-pub other_told : {E : Type 0} (told : Option (List ℕ)) (rose : Type 0) (work : Work) (how : FileForm)
-    (settings : Settings) (bytes input : List ℕ) (r : Result Answer E) → (work ≡ Verify → ⊥)
-    → IfOk r (λ a. IsDone work how settings bytes input a.status a.report.items)
-    → IfOk r (λ a. IsDoneBehind told rose work how settings bytes input a.status a.report.items)
-other_told told rose work how settings bytes input (Err e) n d = tt
-other_told told rose work how settings bytes input (Ok a) n d =
-    other told rose work how settings bytes input a.status a.report.items n d
 
 -- the answer for what reading the file came to
 pub loaded_told : {E : Type 0} (q : Request) (held : List ℕ → Option (List ℕ)) (rose : Type 0)
@@ -364,7 +325,7 @@ behind_told q held kept old now new bytes (Ok a) same le next h told =
       (
         here.0,
         input_last q.input held old now new here.0 le here.1,
-        after_last q (held q.trace) old now new bytes here.0 a.status a.report.items le here.2,
+        after_last q (held q.trace) (further_of held q) old now new bytes here.0 a.status a.report.items le here.2,
       ),
     )
 

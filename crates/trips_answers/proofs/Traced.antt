@@ -1,10 +1,10 @@
 -- What is answered behind the input: of `verify` also what the trace's file comes to.
-use Rattle.std.proofs.Common.{◌≡◌, ℕ, ◌≤◌, List, Option, ◌⊎◌, inl, inr, refl, arith}
+use Rattle.std.proofs.Common.{◌≡◌, ℕ, ◌≤◌, List, [], ◌∷◌, Option, ◌⊎◌, inl, inr, refl}
 use Rattle.trips_isa.specs.declared.block.Image.{Image}
 use Rattle.trips_outside.specs.Outside.{Holds, Rose}
 use Rattle.trips_answers.specs.Work.{Work}
 use Rattle.trips_answers.specs.Work.{Run, Evaluate, Compile}
-use Rattle.trips_answers.specs.Work.{Assemble, Disassemble, Check, Explain, Record, Verify, Save}
+use Rattle.trips_answers.specs.Work.{Assemble, Disassemble, Check, Explain, Record, Verify, Save, Four}
 use Rattle.trips_requests.specs.declared.status.Status.{Status}
 use Rattle.trips_requests.specs.declared.status.Status.TheVariants as status
 use Rattle.trips_requests.specs.Texts.{IsFixed, read_fault_text}
@@ -14,6 +14,8 @@ use Rattle.trips_answers.specs.declared.forms.FileForm.{FileForm}
 use Rattle.trips_answers.specs.declared.forms.Settings.{Settings}
 use Rattle.trips_answers.specs.Traced.{IsTraceFault}
 use Rattle.trips_answers.specs.Worked.{IsDone, IsDoneBehind}
+use Rattle.trips_answers.specs.Fours.{Further, IsFurtherFault}
+use Rattle.trips_answers.proofs.Fours.{four_last, four_part, rose_last}
 
 module _ (told : Option (List ℕ)) (rose : Type 0) (how : FileForm) (settings : Settings) (bytes input : List ℕ)
     (s : Status) (report : List ℕ) where
@@ -36,26 +38,25 @@ module _ (told : Option (List ℕ)) (rose : Type 0) (how : FileForm) (settings :
   verified_part (inl out) = inl (inl out)
   verified_part (inr v) = of_file v.0 v.1 v.2
 
--- what is answered is that the work is done or refused, or a fault of the trace's file
-pub part : (told : Option (List ℕ)) (rose : Type 0) (work : Work) (how : FileForm) (settings : Settings)
-    (bytes input : List ℕ) (s : Status) (report : List ℕ)
-    → IsDoneBehind told rose work how settings bytes input s report
-    → IsDone work how settings bytes input s report ⊎ IsTraceFault told rose work bytes input s report
-part told rose Verify how settings bytes input s report d =
-    verified_part told rose how settings bytes input s report d
-part told rose Run how settings bytes input s report d = inl d
-part told rose Evaluate how settings bytes input s report d = inl d
-part told rose Compile how settings bytes input s report d = inl d
-part told rose Assemble how settings bytes input s report d = inl d
-part told rose Disassemble how settings bytes input s report d = inl d
-part told rose Check how settings bytes input s report d = inl d
-part told rose (Explain file) how settings bytes input s report d = inl d
-part told rose Record how settings bytes input s report d = inl d
-part told rose Save how settings bytes input s report d = inl d
-
--- a count that rose in the last part of a time rose in the whole
-pub rose_last : (old now new : ℕ) → old ≤ now → Rose now new → Rose old new
-rose_last old now new le up = omega arith
+-- what is answered is that the work is done or refused, or a fault of the trace's file, or of a further one of `four`
+pub part : (told : Option (List ℕ)) (fs : List Further) (rose : Type 0) (work : Work) (how : FileForm)
+    (settings : Settings) (bytes input : List ℕ) (s : Status) (report : List ℕ)
+    → IsDoneBehind told fs rose work how settings bytes input s report
+    → IsDone work how settings bytes input s report
+    ⊎ (IsTraceFault told rose work bytes input s report ⊎ IsFurtherFault fs rose work s report)
+part told fs rose Verify how settings bytes input s report d =
+    elim (verified_part told rose how settings bytes input s report d) [ inl w ↦ inl w | inr t ↦ inr (inl t) ]
+part told fs rose Four how settings bytes input s report d =
+    elim (four_part settings input s report rose fs how bytes d) [ inl w ↦ inl w | inr f ↦ inr (inr f) ]
+part told fs rose Run how settings bytes input s report d = inl d
+part told fs rose Evaluate how settings bytes input s report d = inl d
+part told fs rose Compile how settings bytes input s report d = inl d
+part told fs rose Assemble how settings bytes input s report d = inl d
+part told fs rose Disassemble how settings bytes input s report d = inl d
+part told fs rose Check how settings bytes input s report d = inl d
+part told fs rose (Explain file) how settings bytes input s report d = inl d
+part told fs rose Record how settings bytes input s report d = inl d
+part told fs rose Save how settings bytes input s report d = inl d
 
 verified_last : (told : Option (List ℕ)) (old now new : ℕ) (bytes input : List ℕ) (s : Status) (report : List ℕ)
     → old ≤ now → IsRefusedImage bytes s report ⊎ IsVerified bytes input told (Rose now new) s report
@@ -71,33 +72,37 @@ verified_last told old now new bytes input s report le (inr v) = inr (v.0, v.1, 
     go (inr u) = inr (rose_last old now new le u.0, u.1)
 
 -- what is answered where a count rose in the last part of a time is answered where it rose in the whole
-pub last : (told : Option (List ℕ)) (old now new : ℕ) (work : Work) (how : FileForm) (settings : Settings)
-    (bytes input : List ℕ) (s : Status) (report : List ℕ) → old ≤ now
-    → IsDoneBehind told (Rose now new) work how settings bytes input s report
-    → IsDoneBehind told (Rose old new) work how settings bytes input s report
-last told old now new Verify how settings bytes input s report le d =
+pub last : (told : Option (List ℕ)) (fs : List Further) (old now new : ℕ) (work : Work) (how : FileForm)
+    (settings : Settings) (bytes input : List ℕ) (s : Status) (report : List ℕ) → old ≤ now
+    → IsDoneBehind told fs (Rose now new) work how settings bytes input s report
+    → IsDoneBehind told fs (Rose old new) work how settings bytes input s report
+last told fs old now new Verify how settings bytes input s report le d =
     verified_last told old now new bytes input s report le d
-last told old now new Run how settings bytes input s report le d = d
-last told old now new Evaluate how settings bytes input s report le d = d
-last told old now new Compile how settings bytes input s report le d = d
-last told old now new Assemble how settings bytes input s report le d = d
-last told old now new Disassemble how settings bytes input s report le d = d
-last told old now new Check how settings bytes input s report le d = d
-last told old now new (Explain file) how settings bytes input s report le d = d
-last told old now new Record how settings bytes input s report le d = d
-last told old now new Save how settings bytes input s report le d = d
+last told fs old now new Four how settings bytes input s report le d =
+    four_last settings input s report old now new le fs ((how, bytes) ∷ []) d
+last told fs old now new Run how settings bytes input s report le d = d
+last told fs old now new Evaluate how settings bytes input s report le d = d
+last told fs old now new Compile how settings bytes input s report le d = d
+last told fs old now new Assemble how settings bytes input s report le d = d
+last told fs old now new Disassemble how settings bytes input s report le d = d
+last told fs old now new Check how settings bytes input s report le d = d
+last told fs old now new (Explain file) how settings bytes input s report le d = d
+last told fs old now new Record how settings bytes input s report le d = d
+last told fs old now new Save how settings bytes input s report le d = d
 
--- work that is no judging of a trace is answered as it is done
-pub other : (told : Option (List ℕ)) (rose : Type 0) (work : Work) (how : FileForm) (settings : Settings)
-    (bytes input : List ℕ) (s : Status) (report : List ℕ) → (work ≡ Verify → ⊥)
-    → IsDone work how settings bytes input s report → IsDoneBehind told rose work how settings bytes input s report
-other told rose Verify how settings bytes input s report n d = absurd (n refl)
-other told rose Run how settings bytes input s report n d = d
-other told rose Evaluate how settings bytes input s report n d = d
-other told rose Compile how settings bytes input s report n d = d
-other told rose Assemble how settings bytes input s report n d = d
-other told rose Disassemble how settings bytes input s report n d = d
-other told rose Check how settings bytes input s report n d = d
-other told rose (Explain file) how settings bytes input s report n d = d
-other told rose Record how settings bytes input s report n d = d
-other told rose Save how settings bytes input s report n d = d
+-- work that reads no further file is answered as it is done
+pub other : (told : Option (List ℕ)) (fs : List Further) (rose : Type 0) (work : Work) (how : FileForm)
+    (settings : Settings) (bytes input : List ℕ) (s : Status) (report : List ℕ) → (work ≡ Verify → ⊥)
+    → (work ≡ Four → ⊥) → IsDone work how settings bytes input s report
+    → IsDoneBehind told fs rose work how settings bytes input s report
+other told fs rose Verify how settings bytes input s report n f d = absurd (n refl)
+other told fs rose Four how settings bytes input s report n f d = absurd (f refl)
+other told fs rose Run how settings bytes input s report n f d = d
+other told fs rose Evaluate how settings bytes input s report n f d = d
+other told fs rose Compile how settings bytes input s report n f d = d
+other told fs rose Assemble how settings bytes input s report n f d = d
+other told fs rose Disassemble how settings bytes input s report n f d = d
+other told fs rose Check how settings bytes input s report n f d = d
+other told fs rose (Explain file) how settings bytes input s report n f d = d
+other told fs rose Record how settings bytes input s report n f d = d
+other told fs rose Save how settings bytes input s report n f d = d

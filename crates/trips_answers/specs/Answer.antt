@@ -10,6 +10,7 @@ use Rattle.trips_answers.specs.Asks.{limit_of}
 use Rattle.trips_requests.specs.Table.{IsRead, AfterReading}
 use Rattle.trips_requests.specs.Texts.{usage_text, IsFixed}
 use Rattle.trips_answers.specs.Worked.{IsDoneBehind}
+use Rattle.trips_answers.specs.Fours.{further_of}
 
 -- behind the file the input is read
 abbrev pub IsAnswerBehind : Request → (List ℕ → Option (List ℕ)) → Type 0
@@ -17,7 +18,8 @@ abbrev pub IsAnswerBehind : Request → (List ℕ → Option (List ℕ)) → Typ
 IsAnswerBehind q held rose bytes s report =
     (loaded : Loaded) × IsInputRead q.input held rose loaded
     × AfterReading loaded
-    (λ input. IsDoneBehind (held q.trace) rose q.work q.form (settings_of q) bytes input s report) s report
+    (λ input. IsDoneBehind (held q.trace) (further_of held q) rose q.work q.form (settings_of q) bytes input s report)
+    s report
 
 -- Of the request (none where the words make none), of what names hold, and of whether the count of
 -- the files' faults rose, this is the answer.

@@ -1,6 +1,6 @@
 -- What is done with the bytes of a file, said of texts, images and the machine alone: neither the compiler's passes
 -- nor the grid stand in it.
-use Rattle.std.specs.Prelude.{◌≡◌, ℕ, List, [], All}
+use Rattle.std.specs.Prelude.{◌≡◌, ℕ, List, [], ◌∷◌, All}
 use Rattle.trips_isa.specs.declared.block.Image.{Image}
 use Rattle.c_tree.specs.declared.typed.TypedProgram.{TypedProgram}
 use Rattle.c_front.specs.Fronts.{IsAccepted}
@@ -14,7 +14,7 @@ use Rattle.trips_trace_answers.specs.TraceAnswers.{IsRecording}
 use Rattle.trips_report.specs.declared.show.Show.{Show}
 use Rattle.trips_answers.specs.Work.{Work}
 use Rattle.trips_answers.specs.Work.{Run, Evaluate, Compile}
-use Rattle.trips_answers.specs.Work.{Assemble, Disassemble, Check, Explain, Record, Verify, Save}
+use Rattle.trips_answers.specs.Work.{Assemble, Disassemble, Check, Explain, Record, Verify, Save, Four}
 use Rattle.trips_requests.specs.declared.status.Status.{Status}
 use Rattle.trips_requests.specs.declared.status.Status.TheVariants as status
 use Rattle.trips_eval_answers.specs.Evaluation.{IsEvaluationOf}
@@ -24,6 +24,7 @@ use Rattle.trips_answers.specs.declared.forms.FileForm.TheVariants as form
 use Rattle.trips_answers.specs.Report.{TellsRun}
 use Rattle.trips_grid_answers.specs.Report.{TellsRunFrom}
 use Rattle.trips_grid_answers.specs.Saved.{IsSavedRun}
+use Rattle.trips_four_answers.specs.Report.{TellsFour}
 use Rattle.machine_save.specs.Spelling.{SaveBytes}
 use Rattle.trips_isa.specs.Machine.{State}
 use Rattle.trips_answers.specs.Traced.{IsTraceVerified}
@@ -46,6 +47,13 @@ IsImageFor form.Target unroll text image = IsImageIn form.Target text image
 IsImageFor form.Image unroll bytes image = IsImageIn form.Image bytes image
 IsImageFor form.Saved unroll bytes image = ⊥
 
+-- the images that runs have of files, each by what it is read as
+abbrev pub AreImagesFor : ℕ → List (FileForm × List ℕ) → List Image → Type 0
+AreImagesFor unroll [] [] = Unit {0}
+AreImagesFor unroll (file ∷ files) (image ∷ images) =
+    IsImageFor file.0 unroll file.1 image × AreImagesFor unroll files images
+AreImagesFor unroll files images = ⊥
+
 -- A tool makes this of the bytes of its file: `asm` the bytes of the text's image, `dis` the text of the image,
 -- `check` the report on an image of good blocks. Each is made of the bytes alone. What `explain` tells of an accepted
 -- file begins with its name.
@@ -67,6 +75,10 @@ CanBeDone Save form.Source text = IsProgram text
 CanBeDone Save form.Target text = (image : Image) × IsImageIn form.Target text image
 CanBeDone Save form.Image bytes = (image : Image) × IsImageIn form.Image bytes image
 CanBeDone Save form.Saved bytes = ⊥
+CanBeDone Four form.Source text = IsProgram text
+CanBeDone Four form.Target text = (image : Image) × IsImageIn form.Target text image
+CanBeDone Four form.Image bytes = (image : Image) × IsImageIn form.Image bytes image
+CanBeDone Four form.Saved bytes = ⊥
 CanBeDone Compile how text = IsProgram text
 CanBeDone Assemble how text = (made : List ℕ) × Makes Assemble text made
 CanBeDone Disassemble how bytes = (made : List ℕ) × Makes Disassemble bytes made
@@ -74,6 +86,11 @@ CanBeDone Check how bytes = (made : List ℕ) × Makes Check bytes made
 CanBeDone (Explain file) how text = (made : List ℕ) × Makes (Explain file) text made
 CanBeDone Record how bytes = (image : Image) × IsImageIn form.Image bytes image
 CanBeDone Verify how bytes = (image : Image) × IsImageIn form.Image bytes image
+
+-- each of some files can be run
+abbrev pub CanBeRun : List (FileForm × List ℕ) → Type 0
+CanBeRun [] = Unit {0}
+CanBeRun (file ∷ files) = CanBeDone Four file.0 file.1 × CanBeRun files
 
 -- The bytes of an image are written that does what the text means, by blocks of at most so many turns of a loop, and
 -- each of whose blocks is good.
@@ -96,6 +113,9 @@ DoesWork Run form.Saved unroll most show bytes input s report =
     × TellsRunFrom image.blocks t most show s report
 DoesWork Save how unroll most show bytes input s report =
     (image : Image) × IsImageFor how unroll bytes image × IsSavedRun image input most s report
+DoesWork Four how unroll most show bytes input s report = (others : List (FileForm × List ℕ))
+    × (images : List Image) × AreImagesFor unroll ((how, bytes) ∷ others) images
+    × TellsFour images input most show.cycles s report
 DoesWork Compile how unroll most show text input s report = WritesImage text unroll report × (s ≡ status.Ended)
 DoesWork Assemble how unroll most show text input s report = Makes Assemble text report × (s ≡ status.Ended)
 DoesWork Disassemble how unroll most show bytes input s report = Makes Disassemble bytes report × (s ≡ status.Ended)

@@ -5,6 +5,7 @@ pub mod Report
 pub mod Done
 pub mod Causes
 pub mod Traced
+pub mod Fours
 pub mod Worked
 pub mod Answer
 pub mod Refused

@@ -1,15 +1,11 @@
 -- Which requests are refused, and with which reports.
-use Rattle.std.specs.Prelude.{◌≡◌, ℕ, ◌<◌, List, Option, None, Some, IfSome, IsSomeAnd, length}
-use Rattle.std.specs.Prelude.{◌⊎◌}
+use Rattle.std.specs.Prelude.{◌≡◌, ◌⊎◌, ℕ, ◌+◌, ◌<◌, List, [], ◌∷◌, Option, None, Some, IfSome, IsSomeAnd, length}
 use Rattle.trips_isa.specs.declared.block.Image.{Image}
 use Rattle.trips_isa.specs.declared.run.Stepped.TheVariants.{Went}
 use Rattle.trips_isa.specs.Machine.{runs, start}
-use Rattle.block_check.specs.declared.fault.CheckFault.{CheckFault}
-use Rattle.block_check.specs.Images.{IsFirstBad}
-use Rattle.target_asm_spec.specs.Text.{TargetText}
 use Rattle.trips_answers.specs.Work.{Work}
 use Rattle.trips_answers.specs.Work.{Run, Evaluate, Compile}
-use Rattle.trips_answers.specs.Work.{Assemble, Disassemble, Check, Explain, Record, Verify, Save}
+use Rattle.trips_answers.specs.Work.{Assemble, Disassemble, Check, Explain, Record, Verify, Save, Four}
 use Rattle.trips_answers.specs.declared.forms.FileForm.{FileForm}
 use Rattle.trips_answers.specs.declared.forms.FileForm.TheVariants as form
 use Rattle.trips_answers.specs.Request.{Request, origin_held}
@@ -17,18 +13,13 @@ use Rattle.trips_answers.specs.Read.{HoldsInput, MayBeLarge, IsLarge}
 use Rattle.trips_answers.specs.Traced.{IsTraceRefused}
 use Rattle.trips_outside.specs.Outside.{Holds}
 use Rattle.trips_answers.specs.Asks.{limit_of}
-use Rattle.trips_report.specs.Refusals.{check_text}
 use Rattle.trips_eval_answers.specs.Evaluation.{IsRefusedByFront}
 use Rattle.trips_explain_answers.specs.Explained.{IsRefusalTold}
 use Rattle.trips_tools.specs.ToolAnswers.{IsNoImage, IsBadImage, IsNoText}
 use Rattle.trips_grid_answers.specs.Saved.{IsNoSave}
-use Rattle.trips_answers.specs.Done.{IsImageFor}
-
--- the text is that of an image, and the report names its first block that is not good
-abbrev pub IsBadText : List ℕ → List ℕ → Type 0
-IsBadText text report = (image : Image) × (number : ℕ) × (fault : CheckFault)
-    × TargetText image text × IsFirstBad image number fault
-    × (report ≡ check_text number fault)
+use Rattle.trips_answers.specs.Done.{CanBeDone, IsImageFor}
+use Rattle.trips_answers.specs.Fours.{IsLargeAmong, IsRefusedAmong, IsRefusedAt, Program, further_of}
+pub use Rattle.trips_answers.specs.Fours.{IsBadText}
 
 -- The bytes of a file are refused by what is done with it, with this report: a row for each command
 -- and each form of its file.
@@ -42,6 +33,7 @@ IsRefusedAs Save form.Source text report = IsRefusedByFront text report
 IsRefusedAs Save form.Target text report = IsNoText text report ⊎ IsBadText text report
 IsRefusedAs Save form.Image bytes report = IsNoImage bytes report ⊎ IsBadImage bytes report
 IsRefusedAs Save form.Saved bytes report = ⊥
+IsRefusedAs Four how bytes report = IsRefusedAt 0 how bytes report
 IsRefusedAs Compile how text report = IsRefusedByFront text report
 IsRefusedAs Assemble how text report = IsNoText text report
 IsRefusedAs Disassemble how bytes report = IsNoImage bytes report
@@ -78,12 +70,24 @@ pub record MayBeOver (q : Request) (held : List ℕ → Option (List ℕ)) : Typ
   pub is_image : IsImageFor q.form q.unroll bytes image
   pub over : (runs image.blocks (start image.bytes input) q.most).1 ≡ Went → ⊥
 
+-- The report that refuses the lowest of some files of which no image is made, behind those of which one can be. They
+-- are counted from a number.
+abbrev pub IsLowestRefused : ℕ → List Program → List ℕ → Type 0
+IsLowestRefused number [] text = ⊥
+IsLowestRefused number (p ∷ ps) text =
+    IsRefusedAt number p.0 p.1 text ⊎ (CanBeDone Four p.0 p.1 × IsLowestRefused (number + 1) ps text)
+
+-- a further file has too many bytes or is refused, as far as they are told
+pub record MayRefuseFurther (q : Request) (held : List ℕ → Option (List ℕ)) : Type 0 where
+  pub is_work : q.work ≡ Four
+  pub bad : IsLargeAmong (further_of held q) ⊎ ((text : List ℕ) × IsRefusedAmong 1 (further_of held q) text)
+
 -- the request is refused only where this holds
 abbrev pub MayBeRefused : Option Request → (List ℕ → Option (List ℕ)) → Type 0
 MayBeRefused None held = ⊥
 MayBeRefused (Some q) held =
     IfSome (origin_held held q.origin) (IsBad q)
-    ⊎ (MayBeLarge q.input held ⊎ (MayRefuseTrace q held ⊎ MayBeOver q held))
+    ⊎ (MayBeLarge q.input held ⊎ (MayRefuseTrace q held ⊎ (MayBeOver q held ⊎ MayRefuseFurther q held)))
 
 -- and it is refused where this holds
 abbrev pub IsRefused : Option Request → (List ℕ → Option (List ℕ)) → Type 0

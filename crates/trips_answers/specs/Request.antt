@@ -42,15 +42,18 @@ pub record Request : Type 0 where
   pub origin : Origin
   pub form : FileForm
   pub input : Option (List ℕ)
-  -- the name of the trace's file, of `verify`
+  -- the name of the trace's file, of `verify`, or of the second file of `four`
   pub trace : List ℕ
+  -- those of the third and of the fourth file, of `four`
+  pub third : List ℕ
+  pub fourth : List ℕ
   pub placing : Placing
   pub unroll : ℕ
   pub seed : ℕ
   pub most : ℕ
   pub show : Show
 
--- what `run`, `save` and `explain` read a file as, by the ending of its name
+-- what `run`, `save`, `explain` and `four` read a file as, by the ending of its name
 abbrev pub form_named : List ℕ → FileForm
 form_named file = if ends_with nat_eq file (codes ".img") then form.Image
     else if ends_with nat_eq file (codes ".tasl") then form.Target else form.Source
@@ -68,6 +71,7 @@ form_of command.Record file = form.Image
 form_of command.Verify file = form.Image
 form_of command.Save file = form_named file
 form_of command.Resume file = form.Saved
+form_of command.Four file = form_named file
 
 -- the request that words ask for
 abbrev pub planned : line.Request → Request
@@ -77,6 +81,8 @@ planned r = record {
   form = form_of r.command r.file;
   input = r.input;
   trace = unwrap_or r.second [];
+  third = unwrap_or r.third [];
+  fourth = unwrap_or r.fourth [];
   placing = placing_of r.place;
   unroll = r.unroll;
   seed = r.seed;

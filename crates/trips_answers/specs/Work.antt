@@ -16,6 +16,7 @@ pub data Work : Type 0 where
   Record : Work
   Verify : Work
   Save : Work
+  Four : Work
 
 -- the work of a command with the file of this name
 abbrev pub work_on : Command → List ℕ → Work
@@ -30,3 +31,4 @@ work_on command.Record file = Record
 work_on command.Verify file = Verify
 work_on command.Save file = Save
 work_on command.Resume file = Run
+work_on command.Four file = Four

@@ -1,5 +1,5 @@
 -- What is done with the bytes of a file: the status and the report.
-use Rattle.std.specs.Prelude.{◌≡◌, ◌⊎◌, ℕ, List, Option, All}
+use Rattle.std.specs.Prelude.{◌≡◌, ◌⊎◌, ℕ, List, [], ◌∷◌, Option, All}
 use Rattle.trips_isa.specs.declared.block.Block.{Block}
 use Rattle.trips_isa.specs.declared.block.Image.{Image}
 use Rattle.trips_isa.specs.Machine.{start}
@@ -13,7 +13,7 @@ use Rattle.trips_tools.specs.Tools.{IsOneImage, IsGoodImage}
 use Rattle.trips_trace_answers.specs.TraceAnswers.{IsRecording, IsRefusedImage, IsVerified}
 use Rattle.trips_answers.specs.Work.{Work}
 use Rattle.trips_answers.specs.Work.{Run, Evaluate, Compile}
-use Rattle.trips_answers.specs.Work.{Assemble, Disassemble, Check, Explain, Record, Verify, Save}
+use Rattle.trips_answers.specs.Work.{Assemble, Disassemble, Check, Explain, Record, Verify, Save, Four}
 use Rattle.trips_answers.specs.declared.forms.FileForm.{FileForm}
 use Rattle.trips_answers.specs.declared.forms.FileForm.TheVariants as form
 use Rattle.trips_answers.specs.declared.forms.Settings.{Settings}
@@ -26,6 +26,8 @@ use Rattle.trips_answers.specs.Refused.{IsRefusedAs}
 use Rattle.trips_grid_answers.specs.Runs.{IsRunFrom}
 use Rattle.trips_grid_answers.specs.Saved.{IsResumedRun, IsSavedRun}
 use Rattle.trips_answers.specs.Traced.{IsTraceVerified}
+use Rattle.trips_answers.specs.Fours.{AreImagesBy, Further, IsFourDone, Program}
+use Rattle.trips_four_answers.specs.Runs.{IsFourRun}
 
 -- Runs ------------------------------------------------------------------------------------------
 
@@ -85,6 +87,9 @@ IsWorked Save form.Source settings text input s report = IsSaveOfText settings t
 IsWorked Save form.Target settings text input s report = IsSaveOfTarget settings text input s report
 IsWorked Save form.Image settings bytes input s report = IsSaveOfImage settings bytes input s report
 IsWorked Save form.Saved settings bytes input s report = ⊥
+IsWorked Four how settings bytes input s report = (others : List Program) × (images : List Image)
+    × AreImagesBy settings ((how, bytes) ∷ others) images
+    × IsFourRun images input settings.seed settings.most settings.show.cycles s report
 IsWorked Compile how settings text input s report = IsCompiled settings.placing settings.unroll text s report
 IsWorked Assemble how settings text input s report = IsOneImage text report × (s ≡ status.Ended)
 IsWorked Disassemble how settings bytes input s report = IsOneImage report bytes × (s ≡ status.Ended)
@@ -103,10 +108,12 @@ abbrev pub IsDone : Work → FileForm → Settings → List ℕ → List ℕ →
 IsDone work how settings bytes input s report =
     IsRefusal work how bytes s report ⊎ IsWorked work how settings bytes input s report
 
--- That, and of `verify` what comes of the trace's file: of what its name holds, as far as that is told, and of
--- whether the count of the files' faults rose.
-abbrev pub IsDoneBehind : Option (List ℕ) → Type 0 → Work → FileForm → Settings → List ℕ → List ℕ → Status
-    → List ℕ → Type 0
-IsDoneBehind told rose Verify how settings bytes input s report =
+-- That, and of `verify` what comes of the trace's file, of `four` of the further files: of what their names hold, as
+-- far as that is told, and of whether the count of the files' faults rose.
+abbrev pub IsDoneBehind : Option (List ℕ) → List Further → Type 0 → Work → FileForm → Settings → List ℕ → List ℕ
+    → Status → List ℕ → Type 0
+IsDoneBehind told fs rose Verify how settings bytes input s report =
     IsRefusedImage bytes s report ⊎ IsVerified bytes input told rose s report
-IsDoneBehind told rose work how settings bytes input s report = IsDone work how settings bytes input s report
+IsDoneBehind told fs rose Four how settings bytes input s report =
+    IsFourDone fs rose settings ((how, bytes) ∷ []) input s report
+IsDoneBehind told fs rose work how settings bytes input s report = IsDone work how settings bytes input s report

@@ -2,3 +2,4 @@ pub mod Checked
 pub mod Laws
 pub mod Settings
 pub mod Table
+pub mod Made

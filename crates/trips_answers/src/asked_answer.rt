@@ -1,9 +1,11 @@
 //! The answer to a request: its file is read first, then its input, and then the work is done.
 
-ghost use Rattle.std.specs.Prelude.{◌≡◌, ◌<◌, ◌≤◌, length, Some, IfOk, IfSome, option_map};
+ghost use Rattle.std.specs.Prelude.{◌≡◌, ◌<◌, ◌≤◌, ◌∷◌, [], length, Some, IfOk, IfSome, option_copied, option_map};
+ghost use Rattle.std.specs.Prelude.{unwrap_or};
 ghost use Rattle.trips_outside.specs.Outside.{Rose};
 ghost use Rattle.trips_answers.specs.Work.{Run, Save, work_on};
-ghost use Rattle.trips_answers.specs.Request.{form_of};
+ghost use Rattle.trips_answers.specs.Fours.{IsFourDone, further_of};
+ghost use Rattle.trips_answers.specs.Request.{form_named, form_of};
 ghost use Rattle.trips_answers.specs.Settings.{settings_of};
 ghost use Rattle.trips_answers.specs.inside.Settings.{request_seen};
 ghost use Rattle.trips_answers.specs.Asks.{limit_of, most_input_bytes};
@@ -13,7 +15,9 @@ ghost use Rattle.trips_answers.specs.Worked.{IsDone, IsDoneBehind};
 ghost use Rattle.trips_answers.specs.Answer.{IsAnswerBehind, IsAnswer};
 ghost use Rattle.trips_requests.specs.Table.{AfterReading};
 
-use crate::forms::{FileForm, Settings, form_of, settings_for};
+use crate::forms::{FileForm, Settings, form_named, form_of, settings_for};
+use crate::four_programs::Program;
+use crate::further::second_read;
 use crate::image_answer::{bytes_answer, target_answer};
 use crate::loading::{MOST_SAVE_BYTES, read_input, read_origin};
 use crate::saved_answer::{bytes_saved, target_saved, text_saved};
@@ -29,9 +33,9 @@ use trips_requests::{Answer, Asked, Command, Loaded, Tool, no_request, too_large
 use trips_tools::{MOST_IMAGE_BYTES, MOST_TARGET_BYTES, tool_done};
 use trips_trace_answers::{recorded, verified};
 
-// How many bytes a file may have, by what it is read as.
+/// How many bytes a file may have, by what it is read as.
 #[tactic(auto, unfolding(c_tree::specs::Limits::most_source_bytes, trips_requests::specs::Limits::most_target_bytes, trips_requests::specs::Limits::most_image_bytes, trips_requests::specs::Limits::most_save_bytes))]
-fn limit_for(form: FileForm) -> u64
+pub fn limit_for(form: FileForm) -> u64
     ensures { result ≡ limit_of form }
 {
     match form {
@@ -89,7 +93,7 @@ fn save_done(
     }
 }
 
-// The name of the trace's file, of `verify`.
+// The name of the trace's file, of `verify`, or of the second file of `four`.
 fn trace_of<'a>(asked: Asked<'a>) -> &'a str
     ensures { result.now ≡ (request_seen asked.entry).trace }
 {
@@ -97,6 +101,52 @@ fn trace_of<'a>(asked: Asked<'a>) -> &'a str
         Some(name) => name,
         None => "",
     }
+}
+
+// The name of a third or a fourth file, which `four` has.
+fn name_of<'a>(name: Option<&'a str>) -> &'a str
+    ensures { result.now ≡ unwrap_or (option_copied name.entry) [] }
+{
+    match name {
+        Some(name) => name,
+        None => "",
+    }
+}
+
+// Reads the further files of `four`, and does its work.
+fn four_done<F: Files>(
+    alloc: Global,
+    files: &mut F,
+    asked: Asked<'_>,
+    bytes: &[u8],
+    input: Items<u8>,
+) -> Result<Answer, AllocError>
+    requires few { length bytes.now ≤ limit_of (form_named asked.file.now) }
+    requires some { 0 < asked.most }
+    requires turns { 0 < asked.unroll }
+    ensures answer { IfOk result (λ answer. IsFourDone (further_of (F.held files.old) (request_seen asked.entry))
+        (Rose (F.faults files.old) (F.faults files.new)) (settings_of (request_seen asked.entry))
+        ((form_named asked.entry.file.now, bytes.now) ∷ []) input answer.status answer.report.items) }
+    ensures kept { F.held files.new ≡ F.held files.old }
+    ensures later { F.faults files.old ≤ F.faults files.new }
+{
+    let settings = settings_for(asked);
+    let first = Program {
+        form: form_named(asked.file),
+        bytes: Items::from_slice(alloc, bytes)?,
+    };
+    let third = name_of(asked.third);
+    let fourth = name_of(asked.fourth);
+    second_read(
+        alloc,
+        files,
+        trace_of(asked),
+        third,
+        fourth,
+        &first,
+        input.as_slice(),
+        settings,
+    )
 }
 
 // Does the work with the bytes of the file and of the input, where no other file is read.
@@ -130,6 +180,7 @@ fn work_done(
         Command::Record => recorded(alloc, bytes, input, settings.most),
         // done by the caller
         Command::Verify => Err(AllocError),
+        Command::Four => Err(AllocError),
         Command::Save => {
             let form = form_of(asked.command, asked.file);
             save_done(alloc, form, bytes, input, settings)
@@ -138,7 +189,8 @@ fn work_done(
     }
 }
 
-// Does the work with the bytes of the file and of the input, and of a trace's file where one is judged.
+// Does the work with the bytes of the file and of the input, and of a trace's file where one is judged, or of the
+// further ones of `four`.
 fn done<F: Files>(
     alloc: Global,
     files: &mut F,
@@ -152,6 +204,7 @@ fn done<F: Files>(
     requires most { asked.most ≤ most_count }
     requires turns { 0 < asked.unroll }
     ensures answer { IfOk result (λ answer. IsDoneBehind (F.held files.old (request_seen asked.entry).trace)
+        (further_of (F.held files.old) (request_seen asked.entry))
         (Rose (F.faults files.old) (F.faults files.new)) (work_on asked.entry.command asked.entry.file.now)
         (form_of asked.entry.command asked.entry.file.now) (settings_of (request_seen asked.entry))
         bytes.now input answer.status answer.report.items) }
@@ -160,6 +213,7 @@ fn done<F: Files>(
 {
     match asked.command {
         Command::Verify => verified(alloc, files, bytes, input, trace_of(asked)),
+        Command::Four => four_done(alloc, files, asked, bytes, input),
         _ => work_done(alloc, asked, bytes, input),
     }
 }
@@ -179,6 +233,7 @@ fn input_answer<F: Files>(
     requires turns { 0 < asked.unroll }
     ensures answer { IfOk result (λ answer. AfterReading loaded
         (λ input. IsDoneBehind (F.held files.old (request_seen asked.entry).trace)
+        (further_of (F.held files.old) (request_seen asked.entry))
         (Rose (F.faults files.old) (F.faults files.new)) (work_on asked.entry.command asked.entry.file.now)
         (form_of asked.entry.command asked.entry.file.now) (settings_of (request_seen asked.entry))
         bytes.now input answer.status answer.report.items)

@@ -34,8 +34,8 @@ pub struct Settings {
     pub show: Show,
 }
 
-// What `run`, `save` and `explain` read a file as, by the ending of its name.
-fn form_named(file: &str) -> FileForm
+/// What `run`, `save`, `explain` and `four` read a file as, by the ending of its name.
+pub fn form_named(file: &str) -> FileForm
     ensures { result ≡ form_named file.now }
 {
     let bytes = file.as_bytes();
@@ -64,6 +64,7 @@ pub fn form_of(command: Command, file: &str) -> FileForm
         Command::Verify => FileForm::Image,
         Command::Save => form_named(file),
         Command::Resume => FileForm::Saved,
+        Command::Four => form_named(file),
     }
 }
 

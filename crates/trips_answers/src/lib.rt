@@ -7,6 +7,8 @@
 
 mod asked_answer;
 mod forms;
+mod four_programs;
+mod further;
 mod gridded;
 mod image_answer;
 mod law;

@@ -1,7 +1,7 @@
 //! What the words are answered, and what is written: the table, and what it says of images that are compiled, of the
 //! reports of refusals and of the grid's counts.
 
-ghost use Rattle.std.specs.Prelude.{◌≡◌, ◌≤◌, ◌+◌, ◌*◌, ◌∷◌, [], All, List, ℕ, ℤ, Some};
+ghost use Rattle.std.specs.Prelude.{◌≡◌, ◌≢◌, ◌≤◌, ◌+◌, ◌*◌, ◌∷◌, [], All, List, ℕ, ℤ, Some};
 ghost use Rattle.trips_isa.specs.declared.block.Image.{Image};
 ghost use Rattle.trips_isa.specs.declared.run.Ending.TheVariants as ending;
 ghost use Rattle.trips_isa.specs.declared.run.Stepped.TheVariants as stepped;
@@ -19,14 +19,17 @@ ghost use Rattle.trips_outside.specs.Outside.{Rose, Appended};
 ghost use Rattle.target_asm_spec.specs.Text.{TargetText};
 ghost use Rattle.trips_report.specs.declared.show.Show.{Show};
 ghost use Rattle.trips_answers.specs.Work.{Work};
-ghost use Rattle.trips_answers.specs.Work.{Run, Compile, Evaluate};
-ghost use Rattle.trips_requests.specs.Table.{IsOneOf};
+ghost use Rattle.trips_answers.specs.Work.{Run, Compile, Evaluate, Four};
+ghost use Rattle.trips_four_answers.specs.Runs.{IsFourRun};
+ghost use Rattle.trips_requests.specs.Table.{IsOneOf, Wrote};
 ghost use Rattle.trips_answers.specs.declared.forms.FileForm.{FileForm};
 ghost use Rattle.trips_answers.specs.declared.forms.FileForm.TheVariants as form;
 ghost use Rattle.trips_answers.specs.Request.{Request, request_of};
 ghost use Rattle.trips_answers.specs.Settings.{settings_with};
 ghost use Rattle.trips_answers.specs.Asks.{IsServed, ended_report, nothing_shown};
-ghost use Rattle.trips_answers.specs.Refused.{IsRefusedAs, MayBeRefused, IsRefused};
+ghost use Rattle.trips_answers.specs.Fours.{AreImagesBy, AreTold, Program, further_of};
+ghost use Rattle.trips_answers.specs.Done.{CanBeRun};
+ghost use Rattle.trips_answers.specs.Refused.{IsLowestRefused, IsRefusedAs, MayBeRefused, IsRefused};
 ghost use Rattle.trips_answers.specs.Report.{ending_of, full_report, run_report, status_of};
 ghost use Rattle.trips_answers.specs.Table.{IsAnswered, IsReported, IsReportedFrom, EndsAs, EvalEnds};
 ghost use Rattle.trips_answers.specs.Ended.{ResultMeans};
@@ -159,12 +162,34 @@ pub fn answer_words<F: Files, K: Sink>(
         × ImageBytes image bytes
         × (result ≡ Status.Ended) × Appended (K.written sink.old) (K.written sink.new) bytes }
 
-    // A refusal's report is appended, and no other: the stage, its number, the name and the place.
+    // The images that are made of four files run on one grid: each as it runs alone, in exactly as many eager cycles
+    // as are counted, from the stated start of all four of the request's seed.
+    ensures shown_fours { (how : FileForm) (most : ℕ) (show : Show) (bytes input : List ℕ) (others : List Program)
+        → (call : IsServed (request_of words.now) (F.held files.old) Four how most show bytes input
+        (F.faults files.old) (F.faults files.new) (K.faults sink.old) (K.faults sink.new) result)
+        → AreTold (further_of (F.held files.old) call.asks.q) others → CanBeRun ((how, bytes) ∷ others)
+        → (images : List Image)
+        × AreImagesBy (settings_with call.asks.q most show) ((how, bytes) ∷ others) images
+        × Wrote (K.written sink.old) (K.written sink.new)
+        (IsFourRun images input call.asks.q.seed most show.cycles result) }
+
+    // Where no image is made of one of the four, the lowest of these is refused, behind the line that names it.
+    ensures four_refusal { (how : FileForm) (most : ℕ) (show : Show) (bytes input report : List ℕ)
+        (others : List Program)
+        → (call : IsServed (request_of words.now) (F.held files.old) Four how most show bytes input
+        (F.faults files.old) (F.faults files.new) (K.faults sink.old) (K.faults sink.new) result)
+        → AreTold (further_of (F.held files.old) call.asks.q) others
+        → IsLowestRefused 0 ((how, bytes) ∷ others) report
+        → (result ≡ Status.Refused)
+        × Appended (K.written sink.old) (K.written sink.new) report }
+
+    // A refusal's report is appended, and no other: the stage, its number, the name and the place. Of `four` it is
+    // told above.
     ensures refusal { (work : Work) (how : FileForm) (most : ℕ) (show : Show)
         (bytes input report : List ℕ)
         → IsServed (request_of words.now) (F.held files.old) work how most show bytes input
         (F.faults files.old) (F.faults files.new) (K.faults sink.old) (K.faults sink.new) result
-        → IsRefusedAs work how bytes report
+        → work ≢ Four → IsRefusedAs work how bytes report
         → (result ≡ Status.Refused)
         × Appended (K.written sink.old) (K.written sink.new) report }
 

@@ -9,7 +9,7 @@ ghost use Rattle.c_compile.specs.Meant.{DoesText};
 ghost use Rattle.trips_outside.specs.Outside.{Appended, Rose, Undisturbed};
 ghost use Rattle.trips_report.specs.declared.show.Show.{Show};
 ghost use Rattle.trips_answers.specs.Work.{Work};
-ghost use Rattle.trips_answers.specs.Work.{Run, Evaluate, Compile, Record, Verify, Save};
+ghost use Rattle.trips_answers.specs.Work.{Run, Evaluate, Compile, Record, Verify, Save, Four};
 ghost use Rattle.trips_requests.specs.Table.{IsOneOf, IsWritten, Reports, Wrote};
 ghost use Rattle.trips_requests.specs.Texts.{too_large_text};
 ghost use Rattle.trips_eval_answers.specs.Evaluation.{eval_status, outcome_of, eval_report};
@@ -17,12 +17,14 @@ ghost use Rattle.machine_save.specs.Spelling.{SaveBytes};
 ghost use Rattle.trips_grid_answers.specs.Report.{TellsRunFrom};
 ghost use Rattle.trips_grid_answers.specs.Saved.{IsSavedRun};
 ghost use Rattle.trips_trace_answers.specs.TraceAnswers.{IsVerdict, TellsTrace};
+ghost use Rattle.trips_four_answers.specs.Report.{TellsFour};
 ghost use Rattle.trips_answers.specs.declared.forms.FileForm.{FileForm};
 ghost use Rattle.trips_answers.specs.declared.forms.FileForm.TheVariants as form;
 ghost use Rattle.trips_answers.specs.Request.{Request, request_of};
 ghost use Rattle.trips_answers.specs.Asks.{IsServed, ended_report, nothing_shown};
 ghost use Rattle.trips_answers.specs.Report.{TellsRun, full_report};
-ghost use Rattle.trips_answers.specs.Done.{IsImageIn, Makes, WritesImage};
+ghost use Rattle.trips_answers.specs.Done.{AreImagesFor, CanBeRun, IsImageIn, Makes, WritesImage};
+ghost use Rattle.trips_answers.specs.Fours.{AreTold, Program, further_of};
 ghost use Rattle.trips_answers.specs.Causes.{EndsWork, HasCauses, IsTooLarge, MayAnswer, RefusesUnfit};
 ghost use Rattle.trips_answers.specs.Evaluated.{ResultTells, RunEndsAs};
 
@@ -131,6 +133,16 @@ pub fn trips_run<F: Files, K: Sink>(
         (F.faults files.old) (F.faults files.new) (K.faults sink.old) (K.faults sink.new) result
         → SaveBytes image t bytes → Wrote (K.written sink.old) (K.written sink.new)
         (TellsRunFrom image.blocks (record t { trace = [] }) most show result) }
+
+    // `four` reports the runs of four files at once, each as it is alone: there are images that runs of the files
+    // have, and each one's run on the input is told. The cycles are within what the four may cost together. The
+    // further files are told and within their limits too.
+    ensures fours { (how : FileForm) (most : ℕ) (show : Show) (bytes input : List ℕ) (others : List Program)
+        → (call : IsServed (request_of words.now) (F.held files.old) Four how most show bytes input
+        (F.faults files.old) (F.faults files.new) (K.faults sink.old) (K.faults sink.new) result)
+        → AreTold (further_of (F.held files.old) call.asks.q) others → CanBeRun ((how, bytes) ∷ others)
+        → (images : List Image) × AreImagesFor call.asks.q.unroll ((how, bytes) ∷ others) images
+        × Wrote (K.written sink.old) (K.written sink.new) (TellsFour images input most show.cycles result) }
 
     // A file or an input with too many bytes is refused with the one report on these.
     ensures too_large { (q : Request) → request_of words.now ≡ Some q → IsTooLarge q (F.held files.old)

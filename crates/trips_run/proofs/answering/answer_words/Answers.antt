@@ -1,4 +1,5 @@
 use Rattle.trips_answers.proofs.Causes as causes
+use Rattle.trips_answers.proofs.FourExact as four
 use Rattle.trips_answers.proofs.Reported as reported
 use Rattle.trips_answers.proofs.ShownRuns as shown
 use Rattle.trips_run.proofs.answering.answer_words.Goals as goal
@@ -45,10 +46,22 @@ returns-clause-compiled g c =
     λ how most show text input program call is. reported.compiled _ _ _ _ _ _ _ c.answer_written.ensures.answered
     how most show text input program call.asks is call.undisturbed.read call.undisturbed.written call.memory
 
+pub returns-clause-shown_fours : goal.returns-clause-shown_fours
+returns-clause-shown_fours g c =
+    λ how most show bytes input others call told can. four.runs _ _ _ _ _ _ _ c.answer_written.ensures.answered
+    how most show bytes input others call.asks told call.undisturbed.read call.undisturbed.written call.memory can
+
+pub returns-clause-four_refusal : goal.returns-clause-four_refusal
+returns-clause-four_refusal g c =
+    λ how most show bytes input report others call told bad. four.refusal _ _ _ _ _ _ _
+    c.answer_written.ensures.answered how most show bytes input others call.asks told
+    call.undisturbed.read call.undisturbed.written call.memory report bad
+
 pub returns-clause-refusal : goal.returns-clause-refusal
 returns-clause-refusal g c =
-    λ work how most show bytes input report call bad. reported.refusal _ _ _ _ _ _ _ c.answer_written.ensures.answered
-    work how most show bytes input report call.asks bad call.undisturbed.read call.undisturbed.written call.memory
+    λ work how most show bytes input report call other bad. reported.refusal _ _ _ _ _ _ _
+    c.answer_written.ensures.answered work how most show bytes input report call.asks other bad
+    call.undisturbed.read call.undisturbed.written call.memory
 
 pub returns-clause-refused_only : goal.returns-clause-refused_only
 returns-clause-refused_only g c =

@@ -66,6 +66,11 @@ returns-clause-resumed g c =
     λ most show bytes input image t call saves. promises.resumed _ _ _ _ _ _ _ c.answer_words.ensures.answered
     most show bytes input image t call.asks saves call.undisturbed.read call.undisturbed.written call.memory
 
+pub returns-clause-fours : goal.returns-clause-fours
+returns-clause-fours g c =
+    λ how most show bytes input others call told can. promises.fours _ _ _ _ _ _ _ c.answer_words.ensures.answered
+    how most show bytes input others call.asks told can call.undisturbed.read call.undisturbed.written call.memory
+
 pub returns-clause-too_large : goal.returns-clause-too_large
 returns-clause-too_large g c =
     λ q is large undisturbed some. promises.too_large _ _ _ _ _ _ _ c.answer_words.ensures.answered q is large
