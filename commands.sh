@@ -238,12 +238,13 @@ judge_said() {
   done
   [ "${takes[$command]}" != N ] || judge_number "${said[1]}" "$command" || return
   [ "$command" != save ] || judge_number "${said[2]}" AT || return
+  [ "$command" != draw ] || judge_number "${said[2]}" BLOCK || return
   for name in "${!said[@]}"; do
     [ "${takes[$name]-}" != N ] || judge_number "${said[$name]}" "$name" || return
   done
   for name in --place --unroll; do
     case $command${said[$name]+y}${said[1]} in
-      runy*.img | runy*.tasl | compiley*.img | compiley*.tasl) wrong "$name is said of C alone" || return ;;
+      runy*.img | runy*.tasl | compiley*.img | compiley*.tasl | drawy*.img | drawy*.tasl) wrong "$name is said of C alone" || return ;;
     esac
   done
   case $command/${said[1]} in

@@ -26,6 +26,7 @@ not_verify command.Record file n e = cc
 not_verify command.Save file n e = cc
 not_verify command.Resume file n e = cc
 not_verify command.Four file n e = cc
+not_verify command.Draw file n e = cc
 
 -- nor a run of four
 pub not_four : (k : Command) (file : List ℕ) → (k ≡ command.Four → ⊥) → work_on k file ≡ Four → ⊥
@@ -41,6 +42,7 @@ not_four command.Record file n e = cc
 not_four command.Verify file n e = cc
 not_four command.Save file n e = cc
 not_four command.Resume file n e = cc
+not_four command.Draw file n e = cc
 
 -- the answer of `verify`
 pub verified_told : {E : Type 0} (work : Work) (how : FileForm) (settings : Settings) (told seen : Option (List ℕ))

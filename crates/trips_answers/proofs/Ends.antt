@@ -1,5 +1,5 @@
 -- How work that was asked for ended, from the row of its request.
-use Rattle.std.proofs.Common.{◌≡◌, ℕ, true, false, List, [], ◌∷◌, Option, None, Some}
+use Rattle.std.proofs.Common.{◌≡◌, ℕ, ◌-◌, true, false, List, [], ◌∷◌, Option, None, Some}
 use Rattle.std.proofs.Common.{inl, inr, refl, sym, ◌∙◌, ap, subst, ◌⊎◌}
 use Rattle.trips_outside.specs.Outside.{Holds}
 use Rattle.trips_isa.specs.declared.block.Block.{Block}
@@ -9,7 +9,7 @@ use Rattle.trips_isa.specs.declared.run.Ending.TheVariants as ending
 use Rattle.trips_isa.specs.Machine.{State, runs, start}
 use Rattle.trips_answers.specs.Work.{Work}
 use Rattle.trips_answers.specs.Work.{Run, Evaluate, Compile}
-use Rattle.trips_answers.specs.Work.{Assemble, Disassemble, Check, Explain, Record, Verify, Save, Four}
+use Rattle.trips_answers.specs.Work.{Assemble, Disassemble, Check, Draw, Explain, Record, Verify, Save, Four}
 use Rattle.trips_answers.specs.declared.forms.FileForm.{FileForm}
 use Rattle.trips_answers.specs.declared.forms.FileForm.TheVariants as form
 use Rattle.trips_answers.specs.declared.forms.Settings.{Settings}
@@ -23,6 +23,7 @@ use Rattle.trips_answers.specs.Read.{IsInputRead, HoldsInput}
 use Rattle.trips_answers.specs.Asks.{limit_of}
 use Rattle.trips_requests.specs.Table.{IsRead, AfterReading}
 use Rattle.trips_answers.specs.Report.{ending_of, status_of}
+use Rattle.trips_draw_answers.specs.Drawn.{IsBlockDrawn}
 use Rattle.trips_grid_answers.specs.Runs.{IsRunFrom}
 use Rattle.trips_grid_answers.specs.Saved.{IsSavedRun}
 use Rattle.trips_answers.specs.Worked.{IsWorked, IsDone, IsDoneBehind}
@@ -169,6 +170,14 @@ save_is_defined image input at s report (inl saved) e =
 save_is_defined image input at s report (inr over) e =
     let both : status.Refused ≡ status.Undefined = sym over.1.0 ∙ e in absurd (cc)
 
+-- nor is the drawing of a block, or that there is none
+draw_is_defined : (blocks : List Block) (k : ℕ) (s : Status) (report : List ℕ) → IsBlockDrawn blocks k s report
+    → s ≡ status.Undefined → ⊥
+draw_is_defined blocks k s report (inl drawn) e =
+    let both : status.Ended ≡ status.Undefined = sym drawn.1 ∙ e in absurd (cc)
+draw_is_defined blocks k s report (inr none) e =
+    let both : status.Refused ≡ status.Undefined = sym none.1.0 ∙ e in absurd (cc)
+
 -- nor is what is made of a file
 not_made : (s : Status) → s ≡ status.Ended → s ≡ status.Undefined → ⊥
 not_made s made e = let both : status.Ended ≡ status.Undefined = sym made ∙ e in absurd (cc)
@@ -195,6 +204,8 @@ is_evaluation Save form.Image settings bytes input s report run e =
 is_evaluation Save form.Saved settings bytes input s report run e = absurd run
 is_evaluation Four how settings bytes input s report run e =
     absurd (four_are_defined input settings.most run.1 (sym run.3.told.0 ∙ e))
+is_evaluation Draw how settings bytes input s report run e =
+    absurd (draw_is_defined run.0.blocks (settings.most - 1) s report run.2 e)
 is_evaluation Compile how settings bytes input s report run e = absurd (not_made s run.3 e)
 is_evaluation Assemble how settings bytes input s report run e = absurd (not_made s run.1 e)
 is_evaluation Disassemble how settings bytes input s report run e = absurd (not_made s run.1 e)

@@ -16,7 +16,7 @@ use Rattle.block_check.specs.Faults.{IsGood}
 use Rattle.block_check.specs.Images.{IsFirstBad}
 use Rattle.trips_answers.specs.Work.{Work}
 use Rattle.trips_answers.specs.Work.{Run, Evaluate, Compile}
-use Rattle.trips_answers.specs.Work.{Assemble, Disassemble, Check, Explain, Record, Verify, Save, Four}
+use Rattle.trips_answers.specs.Work.{Assemble, Disassemble, Check, Draw, Explain, Record, Verify, Save, Four}
 use Rattle.block_image.specs.Spelling.{spelling}
 use Rattle.target_asm_spec.specs.Text.{TargetText}
 use Rattle.target_asm_spec.specs.Text as asm
@@ -41,7 +41,7 @@ use Rattle.trips_answers.specs.Worked.{IsRunBy, IsRunOfText, IsCompiled, IsWorke
 use Rattle.trips_answers.specs.Worked.{IsDoneBehind}
 use Rattle.trips_answers.specs.Fours.{AreImagesBy, Further, IsImageBy, IsNoProgram, IsRefusedAt, Program}
 use Rattle.trips_four_answers.specs.Report.{program_line}
-use Rattle.trips_answers.specs.Done.{CanBeDone}
+use Rattle.trips_answers.specs.Done.{CanBeDone, CanBeImage}
 use Rattle.trips_explain_answers.proofs.OneFault.{first_bad_once}
 use Rattle.machine_save.proofs.Opened as saves
 use Rattle.trips_grid_answers.specs.Saved.{IsNoSave, save_text}
@@ -93,7 +93,7 @@ first_image settings how bytes others (image ∷ images) are = (image, are.0)
 first_image settings how bytes others [] are = absurd are
 
 -- nor can it be one
-pub no_program_can : (how : FileForm) (bytes out : List ℕ) → IsNoProgram how bytes out → CanBeDone Four how bytes → ⊥
+pub no_program_can : (how : FileForm) (bytes out : List ℕ) → IsNoProgram how bytes out → CanBeImage how bytes → ⊥
 no_program_can form.Source bytes out bad can = not_both bytes can.0 bad.0 can.1 bad.1
 no_program_can form.Target bytes out bad can = target_not_refused bytes out can.0 can.1.0 can.1.1 bad
 no_program_can form.Image bytes out bad can = image_not_refused bytes out can.0 can.1.0 can.1.1 bad
@@ -125,6 +125,8 @@ not_worked Save form.Saved settings bytes input s report out bad run = absurd ru
 not_worked Four how settings bytes input s report out bad run =
     let first = first_image settings how bytes run.0 run.1 run.2 in
     no_program_image how settings bytes bad.0 first.0 bad.1 first.1
+not_worked Draw how settings bytes input s report out bad run =
+    no_program_image how settings bytes out run.0 bad run.1
 not_worked Compile how settings bytes input s report out bad run =
     not_both bytes run.1.lowered.program bad.0 run.1.lowered.accepted bad.1
 not_worked Assemble how settings bytes input s report out bad run =
@@ -148,11 +150,9 @@ refused_cannot Run form.Source bytes out bad can = not_both bytes can.0 bad.0 ca
 refused_cannot Run form.Target bytes out bad can = target_not_refused bytes out can.0 can.1.0 can.1.1 bad
 refused_cannot Run form.Image bytes out bad can = image_not_refused bytes out can.0 can.1.0 can.1.1 bad
 refused_cannot Run form.Saved bytes out bad can = saves.not_both can.0 can.1 bytes bad.0 can.2 bad.1
-refused_cannot Save form.Source bytes out bad can = not_both bytes can.0 bad.0 can.1 bad.1
-refused_cannot Save form.Target bytes out bad can = target_not_refused bytes out can.0 can.1.0 can.1.1 bad
-refused_cannot Save form.Image bytes out bad can = image_not_refused bytes out can.0 can.1.0 can.1.1 bad
-refused_cannot Save form.Saved bytes out bad can = absurd can
+refused_cannot Save how bytes out bad can = no_program_can how bytes out bad can
 refused_cannot Four how bytes out bad can = no_program_can how bytes bad.0 bad.1 can
+refused_cannot Draw how bytes out bad can = no_program_can how bytes out bad can
 refused_cannot Compile how bytes out bad can = not_both bytes can.0 bad.0 can.1 bad.1
 refused_cannot Assemble how bytes out bad can = faults.not_both can.1.0 bytes bad.0 can.1.1 bad.1
 refused_cannot Disassemble how bytes out bad can = decoded.not_both can.1.0 bytes bad.0 can.1.2 bad.1
@@ -226,11 +226,9 @@ refusal_once Run form.Source bytes a b x y = front_once bytes a b x y
 refusal_once Run form.Target bytes a b x y = target_once bytes a b x y
 refusal_once Run form.Image bytes a b x y = image_once bytes a b x y
 refusal_once Run form.Saved bytes a b x y = no_save_once bytes a b x y
-refusal_once Save form.Source bytes a b x y = front_once bytes a b x y
-refusal_once Save form.Target bytes a b x y = target_once bytes a b x y
-refusal_once Save form.Image bytes a b x y = image_once bytes a b x y
-refusal_once Save form.Saved bytes a b x y = absurd x
+refusal_once Save how bytes a b x y = no_program_once how bytes a b x y
 refusal_once Four how bytes a b x y = program_once 0 how bytes a b x y
+refusal_once Draw how bytes a b x y = no_program_once how bytes a b x y
 refusal_once Compile how bytes a b x y = front_once bytes a b x y
 refusal_once Assemble how bytes a b x y = no_text_once bytes a b x y
 refusal_once Disassemble how bytes a b x y = no_image_once bytes a b x y
@@ -274,6 +272,8 @@ refused_exact told fs rose (Explain file) how settings bytes input s report out 
     done_refused (Explain file) how settings bytes input s report out d bad
 refused_exact told fs rose Save how settings bytes input s report out n d bad =
     done_refused Save how settings bytes input s report out d bad
+refused_exact told fs rose Draw how settings bytes input s report out n d bad =
+    done_refused Draw how settings bytes input s report out d bad
 refused_exact told fs rose Record how settings bytes input s report out n d bad =
     done_refused Record how settings bytes input s report out d bad
 

@@ -4,6 +4,8 @@ pub mod NoImages
 pub mod SavedTold
 pub mod Fours
 pub mod Made
+pub mod DrawnTold
+pub mod MadeFor
 pub mod Traced
 pub mod Rows
 pub mod Ends
@@ -20,4 +22,5 @@ pub mod Compiled
 pub mod Exact
 pub mod SavedExact
 pub mod FourExact
+pub mod DrawnExact
 pub mod Complete

@@ -18,7 +18,7 @@ use Rattle.grid_machine.specs.Answered.{ComesTo}
 use Rattle.grid_cycle.specs.Traps.{is_trap}
 use Rattle.trips_answers.specs.Work.{Work}
 use Rattle.trips_answers.specs.Work.{Run, Evaluate, Compile}
-use Rattle.trips_answers.specs.Work.{Assemble, Disassemble, Check, Explain, Record, Verify, Save, Four}
+use Rattle.trips_answers.specs.Work.{Assemble, Disassemble, Check, Draw, Explain, Record, Verify, Save, Four}
 use Rattle.trips_requests.specs.declared.loading.Loaded.{Loaded}
 use Rattle.trips_requests.specs.declared.loading.Loaded.TheVariants.{Fault, TooLarge, Bytes}
 use Rattle.trips_requests.specs.declared.status.Status.{Status}
@@ -47,6 +47,7 @@ use Rattle.trips_answers.specs.Done.{AreImagesFor, CanBeDone, DoesWork, IsImageF
 use Rattle.trips_answers.specs.Causes.{CannotBeDone, EndsOrRefuses, EndsWork, IsUnfit, MayAnswer}
 use Rattle.trips_answers.specs.Causes.{MayAnswerBehind, MayBeFurtherFault, MayBeUnfit}
 use Rattle.trips_requests.specs.Texts.{IsFixed, read_fault_text, too_large_text}
+use Rattle.trips_answers.proofs.MadeFor.{image_for}
 use Rattle.trips_answers.proofs.Traced.{part}
 use Rattle.trips_answers.proofs.Exact.{first_image, refused_cannot}
 use Rattle.trips_answers.specs.Fours.{AreImagesBy, IsImageBy, IsLargeAmong, IsRefusedAmong, Program, further_of}
@@ -112,17 +113,7 @@ reported_tells blocks t settings s old new told =
 
 -- THE WORK
 
--- the image that is made of a file is one that its run has
-image_for : (how : FileForm) (settings : Settings) (bytes : List ℕ) (image : Image)
-    → IsImageBy how settings bytes image → IsImageFor how settings.unroll bytes image
-image_for form.Source settings bytes image is =
-    does_text bytes settings.placing settings.unroll image
-    (images_mean bytes settings.placing settings.unroll image is)
-image_for form.Target settings bytes image is = is
-image_for form.Image settings bytes image is = is
-image_for form.Saved settings bytes image is = absurd is
-
--- so are those of some
+-- the images that are made of some files are those that their runs have
 pub images_for : (settings : Settings) (ps : List Program) (images : List Image) → AreImagesBy settings ps images
     → AreImagesFor settings.unroll ps images
 images_for settings [] [] h = tt
@@ -164,6 +155,8 @@ does_work Four how settings bytes input s report run = (
   images_for settings ((how, bytes) ∷ run.0) run.1 run.2,
   (run.3.made, run.3.within, run.3.told),
 )
+does_work Draw how settings bytes input s report run =
+    (run.0, image_for how settings bytes run.0 run.1, run.2)
 does_work Compile how settings bytes input s report run =
     let means : MeansText bytes settings.placing settings.unroll run.0 =
     images_mean bytes settings.placing settings.unroll run.0 run.1 in (
@@ -204,6 +197,7 @@ worked_can Save form.Image settings bytes input s report run = (run.0, (run.1, r
 worked_can Save form.Saved settings bytes input s report run = absurd run
 worked_can Four how settings bytes input s report run =
     let first = first_image settings how bytes run.0 run.1 run.2 in four_can how settings bytes first.0 first.1
+worked_can Draw how settings bytes input s report run = four_can how settings bytes run.0 run.1
 worked_can Compile how settings bytes input s report run = (run.1.lowered.program, run.1.lowered.accepted)
 worked_can Assemble how settings bytes input s report run = (report, run.0)
 worked_can Disassemble how settings bytes input s report run = (report, run.0)

@@ -1,5 +1,5 @@
 -- What the program promises in plain words, from the table.
-use Rattle.std.proofs.Common.{◌≡◌, ◌≢◌, ℕ, List, [], ◌∷◌, Option, Some, inl, inr}
+use Rattle.std.proofs.Common.{◌≡◌, ◌≢◌, ℕ, ◌-◌, List, [], ◌∷◌, Option, Some, inl, inr}
 use Rattle.trips_isa.specs.declared.block.Image.{Image}
 use Rattle.trips_isa.specs.Machine.{State, start}
 use Rattle.c_tree.specs.declared.typed.TypedProgram.{TypedProgram}
@@ -11,12 +11,13 @@ use Rattle.c_compile.proofs.Meant.{does_text, good_blocks}
 use Rattle.trips_report.specs.declared.show.Show.{Show}
 use Rattle.machine_save.specs.Spelling.{SaveBytes}
 use Rattle.trips_grid_answers.specs.Report.{TellsRunFrom}
+use Rattle.trips_draw_answers.specs.Drawn.{IsBlockDrawn}
 use Rattle.trips_grid_answers.specs.Saved.{IsSavedRun}
 use Rattle.trips_trace_answers.specs.TraceAnswers.{IsVerdict, TellsTrace}
 use Rattle.trips_four_answers.specs.Report.{TellsFour}
 use Rattle.trips_answers.specs.Work.{Work}
 use Rattle.trips_answers.specs.Work.{Run, Evaluate, Compile}
-use Rattle.trips_answers.specs.Work.{Assemble, Disassemble, Check, Explain, Record, Verify, Save, Four}
+use Rattle.trips_answers.specs.Work.{Assemble, Disassemble, Check, Draw, Explain, Record, Verify, Save, Four}
 use Rattle.trips_requests.specs.declared.status.Status.{Status}
 use Rattle.trips_requests.specs.declared.status.Status.TheVariants as status
 use Rattle.trips_requests.specs.Table.{IsOneOf, IsWritten, Reports, Wrote}
@@ -101,6 +102,30 @@ module _ (held : List ℕ → Option (List ℕ)) (rose : Type 0) (old new : Opti
         run.2,
       )
 
+  -- the block that is drawn of an image, or of that of a target text
+  pub drawn : (how : FileForm) (most : ℕ) (show : Show) (bytes input : List ℕ) (image : Image)
+      → AsksFor q held Draw how most show bytes input → IsImageIn how bytes image
+      → (rose → ⊥) → (cut → ⊥) → s ≢ status.Memory → Wrote old new (IsBlockDrawn image.blocks (most - 1) s)
+  drawn form.Source most show bytes input image asks is r c m = absurd is
+  drawn form.Saved most show bytes input image asks is r c m = absurd is
+  drawn form.Target most show bytes input image asks is r c m =
+      reported.drawn_target held rose old new cut q s a most show bytes input image asks is.0 is.1 r c m
+  drawn form.Image most show bytes input image asks is r c m =
+      reported.drawn_image held rose old new cut q s a most show bytes input image asks is.0 is.1 r c m
+
+  -- that of an image that does what the text means
+  pub drawn_text : (most : ℕ) (show : Show) (text input : List ℕ) (program : TypedProgram)
+      → (asks : AsksFor q held Draw form.Source most show text input) → IsAccepted text program
+      → (rose → ⊥) → (cut → ⊥) → s ≢ status.Memory
+      → (image : Image) × DoesText text asks.q.unroll image × Wrote old new (IsBlockDrawn image.blocks (most - 1) s)
+  drawn_text most show text input program asks is r c m =
+      let run = reported.drawn_text held rose old new cut q s a most show text input program asks is r c m in (
+        run.0,
+        does_text text asks.q.placing asks.q.unroll run.0
+            (images_mean text asks.q.placing asks.q.unroll run.0 run.1),
+        run.2,
+      )
+
   -- what is compiled
   pub compiled : (how : FileForm) (most : ℕ) (show : Show) (text input : List ℕ) (program : TypedProgram)
       → (asks : AsksFor q held Compile how most show text input) → IsAccepted text program
@@ -131,6 +156,7 @@ module _ (held : List ℕ → Option (List ℕ)) (rose : Type 0) (old new : Opti
   made Verify how most show bytes input out asks is r c m = absurd is
   made Save how most show bytes input out asks is r c m = absurd is
   made Four how most show bytes input out asks is r c m = absurd is
+  made Draw how most show bytes input out asks is r c m = absurd is
   made Assemble how most show bytes input out asks is r c m =
       reported.assembled held rose old new cut q s a how most show bytes input out asks is r c m
   made Disassemble how most show bytes input out asks is r c m =

@@ -1,5 +1,5 @@
 -- What is written where the request's file and input are told and nothing fails.
-use Rattle.std.proofs.Common.{◌≡◌, ◌≢◌, ℕ, ℤ, ◌+◌, ◌*◌, ◌≤◌, List, Option, Some}
+use Rattle.std.proofs.Common.{◌≡◌, ◌≢◌, ℕ, ℤ, ◌+◌, ◌-◌, ◌*◌, ◌≤◌, List, Option, Some}
 use Rattle.std.proofs.Common.{All, refl, subst}
 use Rattle.trips_outside.specs.Outside.{Appended}
 use Rattle.trips_isa.specs.declared.block.Image.{Image}
@@ -14,12 +14,13 @@ use Rattle.block_check.specs.Faults.{IsGood}
 use Rattle.grid_cycle_spec.specs.Costs.{cost_of}
 use Rattle.trips_report.specs.declared.show.Show.{Show}
 use Rattle.target_asm_spec.specs.Text.{TargetText}
+use Rattle.trips_draw_answers.specs.Drawn.{IsBlockDrawn}
 use Rattle.trips_grid_answers.specs.Saved.{IsSavedRun}
 use Rattle.trips_tools.specs.Tools.{IsOneImage, IsGoodImage}
 use Rattle.trips_trace_answers.specs.TraceAnswers.{IsVerdict, TellsTrace}
 use Rattle.trips_answers.specs.Work.{Work}
 use Rattle.trips_answers.specs.Work.{Run, Evaluate, Compile}
-use Rattle.trips_answers.specs.Work.{Assemble, Disassemble, Check, Explain, Record, Verify, Save, Four}
+use Rattle.trips_answers.specs.Work.{Assemble, Disassemble, Check, Draw, Explain, Record, Verify, Save, Four}
 use Rattle.trips_answers.specs.declared.forms.FileForm.{FileForm}
 use Rattle.trips_answers.specs.declared.forms.FileForm.TheVariants as form
 use Rattle.trips_requests.specs.declared.status.Status.{Status}
@@ -42,6 +43,7 @@ use Rattle.trips_answers.proofs.Exact.{refused_exact, eval_exact}
 use Rattle.trips_answers.proofs.Exact.{image_exact, text_exact, recorded_exact, verified_exact}
 use Rattle.trips_answers.proofs.Exact.{compiled_exact, assembled_exact, disassembled_exact, checked_exact}
 use Rattle.trips_answers.proofs.Exact.{explained_exact}
+use Rattle.trips_answers.proofs.DrawnExact.{drawn_image_exact, drawn_target_exact, drawn_text_exact}
 use Rattle.trips_answers.proofs.SavedExact.{saved_image_exact, saved_target_exact, saved_text_exact}
 use Rattle.trips_explain_answers.specs.Explained.{IsAcceptedTold}
 use Rattle.trips_answers.proofs.Compiled.{finished_told, deep_told, plain_told}
@@ -256,6 +258,45 @@ module _ (held : List ℕ → Option (List ℕ)) (rose : Type 0) (old new : Opti
       let done = complete q held rose s row.0 row.1 r Save form.Target most show text input asks in (
         row.0,
         saved_target_exact (settings_with asks.q most show) text input s row.0 image done spelled good,
+        row.2,
+      )
+
+  -- a block of the image of an accepted text is drawn
+  pub drawn_text : (s : Status) → IsAnswered q held rose old new cut s → (most : ℕ) (show : Show)
+      (text input : List ℕ) (program : TypedProgram)
+      → (asks : AsksFor q held Draw form.Source most show text input) → IsAccepted text program
+      → (rose → ⊥) → (cut → ⊥) → s ≢ status.Memory
+      → (image : Image) × IsImageOf text asks.q.placing asks.q.unroll image
+      × Wrote old new (IsBlockDrawn image.blocks (most - 1) s)
+  drawn_text s a most show text input program asks is r c m =
+      let row = row_of s a c m in
+      let done = complete q held rose s row.0 row.1 r Draw form.Source most show text input asks in
+      let run = drawn_text_exact (settings_with asks.q most show) text input s row.0 program done is in
+      (run.0, run.1, (row.0, run.2, row.2))
+
+  -- so is one of an image
+  pub drawn_image : (s : Status) → IsAnswered q held rose old new cut s → (most : ℕ) (show : Show)
+      (bytes input : List ℕ) (image : Image) → AsksFor q held Draw form.Image most show bytes input
+      → ImageBytes image bytes → All IsGood image.blocks → (rose → ⊥) → (cut → ⊥) → s ≢ status.Memory
+      → Wrote old new (IsBlockDrawn image.blocks (most - 1) s)
+  drawn_image s a most show bytes input image asks spelled good r c m =
+      let row = row_of s a c m in
+      let done = complete q held rose s row.0 row.1 r Draw form.Image most show bytes input asks in (
+        row.0,
+        drawn_image_exact (settings_with asks.q most show) bytes input s row.0 image done spelled good,
+        row.2,
+      )
+
+  -- and one of a target text's
+  pub drawn_target : (s : Status) → IsAnswered q held rose old new cut s → (most : ℕ) (show : Show)
+      (text input : List ℕ) (image : Image) → AsksFor q held Draw form.Target most show text input
+      → TargetText image text → All IsGood image.blocks → (rose → ⊥) → (cut → ⊥) → s ≢ status.Memory
+      → Wrote old new (IsBlockDrawn image.blocks (most - 1) s)
+  drawn_target s a most show text input image asks spelled good r c m =
+      let row = row_of s a c m in
+      let done = complete q held rose s row.0 row.1 r Draw form.Target most show text input asks in (
+        row.0,
+        drawn_target_exact (settings_with asks.q most show) text input s row.0 image done spelled good,
         row.2,
       )
 

@@ -1,5 +1,5 @@
 -- What the row of a request says of each answer.
-use Rattle.std.proofs.Common.{◌≡◌, ℕ, ◌<◌, ◌≤◌, Bool, true, false, List, [], ◌∷◌, Option, None}
+use Rattle.std.proofs.Common.{◌≡◌, ℕ, ◌-◌, ◌<◌, ◌≤◌, Bool, true, false, List, [], ◌∷◌, Option, None}
 use Rattle.std.proofs.Common.{Some}
 use Rattle.std.proofs.Common.{IfSome, IsSomeAnd, length, ◌⊎◌, inl, inr, refl, sym}
 use Rattle.std.proofs.Common.{◌∙◌, ap, subst, arith}
@@ -8,13 +8,12 @@ use Rattle.trips_isa.specs.declared.block.Block.{Block}
 use Rattle.trips_isa.specs.declared.block.Image.{Image}
 use Rattle.trips_isa.specs.declared.run.Ending.{Ending}
 use Rattle.trips_isa.specs.declared.run.Ending.TheVariants as ending
-use Rattle.trips_isa.specs.declared.run.Stepped.TheVariants.{Went}
 use Rattle.trips_isa.specs.Machine.{State, runs, start}
 use Rattle.c_meaning.specs.declared.outcome.Outcome.{Outcome}
 use Rattle.c_meaning.specs.declared.outcome.Outcome.TheVariants as outcome
 use Rattle.trips_answers.specs.Work.{Work}
 use Rattle.trips_answers.specs.Work.{Run, Evaluate, Compile}
-use Rattle.trips_answers.specs.Work.{Assemble, Disassemble, Check, Explain, Record, Verify, Save, Four}
+use Rattle.trips_answers.specs.Work.{Assemble, Disassemble, Check, Draw, Explain, Record, Verify, Save, Four}
 use Rattle.trips_answers.specs.declared.forms.FileForm.{FileForm}
 use Rattle.trips_answers.specs.declared.forms.FileForm.TheVariants as form
 use Rattle.trips_answers.specs.declared.forms.Settings.{Settings}
@@ -33,15 +32,17 @@ use Rattle.trips_requests.specs.Table.{IsRead, AfterReading}
 use Rattle.trips_answers.specs.Report.{ending_of, status_of}
 use Rattle.c_compile.proofs.Images.{images_mean}
 use Rattle.c_compile.proofs.Meant.{does_text}
+use Rattle.trips_draw_answers.specs.Drawn.{IsBlockDrawn}
 use Rattle.trips_grid_answers.specs.Runs.{IsRunFrom}
 use Rattle.trips_grid_answers.specs.Saved.{IsSavedRun}
 use Rattle.trips_answers.specs.Done.{IsImageFor}
 use Rattle.trips_answers.specs.Worked.{IsWorked, IsDone, IsDoneBehind}
 use Rattle.trips_eval_answers.specs.Evaluation.{eval_status, outcome_of}
 use Rattle.trips_answers.specs.Answer.{IsAnswerBehind, IsAnswer}
-use Rattle.trips_answers.specs.Refused.{IsBad, MayBeRefused, IsRefused}
+use Rattle.trips_answers.specs.Refused.{IsBad, Lacks, MayBeRefused, IsRefused}
 use Rattle.trips_requests.specs.Texts.{IsFixed, read_fault_text, too_large_text}
 use Rattle.trips_answers.proofs.Exact.{not_worked}
+use Rattle.trips_answers.proofs.MadeFor.{image_for}
 use Rattle.trips_answers.proofs.Traced.{part}
 
 -- the statuses that tell how a run or an evaluation ended
@@ -65,16 +66,16 @@ run_tells : (blocks : List Block) (t : State) (settings : Settings) (s : Status)
 run_tells blocks t settings s report run =
     ap is_told run.2.0 ∙ tells (ending_of (runs blocks t settings.most).1 (runs blocks t settings.most).0.next)
 
--- a run is over by the number of blocks behind which it is to be saved, of an image that the file is read as
-record IsOver (how : FileForm) (settings : Settings) (bytes input : List ℕ) : Type 0 where
+-- an image that the file is read as lacks what is asked of it
+record LacksIn (work : Work) (how : FileForm) (settings : Settings) (bytes input : List ℕ) : Type 0 where
   pub image : Image
   pub is_image : IsImageFor how settings.unroll bytes image
-  pub over : (runs image.blocks (start image.bytes input) settings.most).1 ≡ Went → ⊥
+  pub lacks : Lacks work image input settings.most
 
--- a status tells how work ended, or the run that is to be saved is over
+-- a status tells how work ended, or the image lacks what is asked of it
 abbrev Tells : Work → FileForm → Settings → List ℕ → List ℕ → Status → Type 0
 Tells work how settings bytes input s = (is_told s ≡ true)
-    ⊎ ((s ≡ status.Refused) × (work ≡ Save) × IsOver how settings bytes input)
+    ⊎ ((s ≡ status.Refused) × LacksIn work how settings bytes input)
 
 saved_tells : (how : FileForm) (settings : Settings) (bytes input : List ℕ) (image : Image) (s : Status)
     (report : List ℕ) → IsImageFor how settings.unroll bytes image → IsSavedRun image input settings.most s report
@@ -82,7 +83,15 @@ saved_tells : (how : FileForm) (settings : Settings) (bytes input : List ℕ) (i
 unfolding is_told
 saved_tells how settings bytes input image s report is (inl saved) = inl (ap is_told saved.2)
 saved_tells how settings bytes input image s report is (inr over) =
-    inr (over.1.0, refl, record { image = image; is_image = is; over = over.0 })
+    inr (over.1.0, record { image = image; is_image = is; lacks = over.0 })
+
+drawn_tells : (how : FileForm) (settings : Settings) (bytes input : List ℕ) (image : Image) (s : Status)
+    (report : List ℕ) → IsImageFor how settings.unroll bytes image
+    → IsBlockDrawn image.blocks (settings.most - 1) s report → Tells Draw how settings bytes input s
+unfolding is_told
+drawn_tells how settings bytes input image s report is (inl drawn) = inl (ap is_told drawn.1)
+drawn_tells how settings bytes input image s report is (inr none) =
+    inr (none.1.0, record { image = image; is_image = is; lacks = none.0 })
 
 eval_tells : (o : Outcome) → is_told (eval_status o) ≡ true
 unfolding is_told
@@ -105,7 +114,7 @@ four_tell input most [] = refl
 four_tell input most (image ∷ images) =
     first_tells (own_ending input most image) (first_status input most images) (four_tell input most images)
 
--- work that is done tells how it ended, but for a save of a run that is over
+-- work that is done tells how it ended, but where the image lacks what is asked of it
 work_tells : (work : Work) (how : FileForm) (settings : Settings) (bytes input : List ℕ)
     (s : Status) (report : List ℕ) → IsWorked work how settings bytes input s report
     → Tells work how settings bytes input s
@@ -131,6 +140,8 @@ work_tells Save form.Image settings bytes input s report run =
 work_tells Save form.Saved settings bytes input s report run = absurd run
 work_tells Four how settings bytes input s report run =
     inl (ap is_told run.3.told.0 ∙ four_tell input settings.most run.1)
+work_tells Draw how settings bytes input s report run =
+    drawn_tells how settings bytes input run.0 s report (image_for how settings bytes run.0 run.1) run.2
 work_tells Compile how settings bytes input s report run = inl (ap is_told run.3)
 work_tells Assemble how settings bytes input s report run = inl (ap is_told run.1)
 work_tells Disassemble how settings bytes input s report run = inl (ap is_told run.1)
@@ -252,15 +263,14 @@ module _ (q : Request) (held : List ℕ → Option (List ℕ)) (rose : Type 0) (
 
       by : Tells q.work q.form (settings_of q) bytes input s → Kind (Some q) held rose s
       by (inl told) = ran told not_refused
-      by (inr over) = refused over.0 (inr (inr (inr (inl (record {
-        is_work = over.1;
+      by (inr lack) = refused lack.0 (inr (inr (inr (inl (record {
         bytes = bytes;
         input = input;
-        image = over.2.image;
+        image = lack.1.image;
         holds = h;
         holds_input = i;
-        is_image = over.2.is_image;
-        over = over.2.over;
+        is_image = lack.1.is_image;
+        lacks = lack.1.lacks;
       })))))
 
   input_kind : (bytes : List ℕ) (loaded : Loaded) → Holds (origin_held held q.origin) bytes

@@ -4,7 +4,7 @@ use Rattle.trips_isa.specs.declared.block.Image.{Image}
 use Rattle.trips_outside.specs.Outside.{Holds, Rose}
 use Rattle.trips_answers.specs.Work.{Work}
 use Rattle.trips_answers.specs.Work.{Run, Evaluate, Compile}
-use Rattle.trips_answers.specs.Work.{Assemble, Disassemble, Check, Explain, Record, Verify, Save, Four}
+use Rattle.trips_answers.specs.Work.{Assemble, Disassemble, Check, Draw, Explain, Record, Verify, Save, Four}
 use Rattle.trips_requests.specs.declared.status.Status.{Status}
 use Rattle.trips_requests.specs.declared.status.Status.TheVariants as status
 use Rattle.trips_requests.specs.Texts.{IsFixed, read_fault_text}
@@ -57,6 +57,7 @@ part told fs rose Check how settings bytes input s report d = inl d
 part told fs rose (Explain file) how settings bytes input s report d = inl d
 part told fs rose Record how settings bytes input s report d = inl d
 part told fs rose Save how settings bytes input s report d = inl d
+part told fs rose Draw how settings bytes input s report d = inl d
 
 verified_last : (told : Option (List ℕ)) (old now new : ℕ) (bytes input : List ℕ) (s : Status) (report : List ℕ)
     → old ≤ now → IsRefusedImage bytes s report ⊎ IsVerified bytes input told (Rose now new) s report
@@ -89,6 +90,7 @@ last told fs old now new Check how settings bytes input s report le d = d
 last told fs old now new (Explain file) how settings bytes input s report le d = d
 last told fs old now new Record how settings bytes input s report le d = d
 last told fs old now new Save how settings bytes input s report le d = d
+last told fs old now new Draw how settings bytes input s report le d = d
 
 -- work that reads no further file is answered as it is done
 pub other : (told : Option (List ℕ)) (fs : List Further) (rose : Type 0) (work : Work) (how : FileForm)
@@ -106,3 +108,4 @@ other told fs rose Check how settings bytes input s report n f d = d
 other told fs rose (Explain file) how settings bytes input s report n f d = d
 other told fs rose Record how settings bytes input s report n f d = d
 other told fs rose Save how settings bytes input s report n f d = d
+other told fs rose Draw how settings bytes input s report n f d = d

@@ -12,7 +12,7 @@ use Rattle.trips_answers.specs.Request.{Request, origin_held}
 use Rattle.trips_answers.specs.Asks.{limit_of}
 use Rattle.trips_answers.specs.Read.{HoldsInput, IsInputRead, IsLarge, MayBeLarge}
 use Rattle.trips_answers.specs.Done.{CanBeDone, DoesWork}
-use Rattle.trips_answers.specs.Refused.{MayBeOver, MayRefuseTrace}
+use Rattle.trips_answers.specs.Refused.{MayLack, MayRefuseTrace}
 use Rattle.trips_answers.specs.Fours.{Further, further_of}
 use Rattle.trips_answers.specs.Traced.{IsTraceFault}
 
@@ -50,7 +50,7 @@ MayBeFurtherFault fs rose work s report = (work ≡ Four)
 abbrev pub MayBeUnfit : Option Request → (List ℕ → Option (List ℕ)) → Type 0
 MayBeUnfit None held = ⊥
 MayBeUnfit (Some q) held = IfSome (origin_held held q.origin) (CannotBeDone q)
-    ⊎ (MayBeLarge q.input held ⊎ (MayRefuseTrace q held ⊎ (MayBeOver q held
+    ⊎ (MayBeLarge q.input held ⊎ (MayRefuseTrace q held ⊎ (MayLack q held
     ⊎ ((q.work ≡ Four) × IsUnfitAmong (further_of held q)))))
 
 -- It has to be refused, by a file or an input that is told.
@@ -65,8 +65,9 @@ pub record HasCauses (request : Option Request) (held : List ℕ → Option (Lis
   pub usage : s ≡ status.Usage → request ≡ None
   -- a fault of the files was counted
   pub read_fault : s ≡ status.ReadFault → file_fault
-  -- the file or the input is too large, or the work cannot be done with the file, or the trace is refused, or the run
-  -- that is to be saved is over, or a further file of `four` is too large or cannot be run, as far as they are told
+  -- the file or the input is too large, or the work cannot be done with the file, or the trace is refused, or the
+  -- image lacks what is asked of it, or a further file of `four` is too large or cannot be run, as far as they are
+  -- told
   pub refused : s ≡ status.Refused → MayBeUnfit request held
   -- a fault of the sink was counted
   pub write_fault : s ≡ status.WriteFault → sink_fault

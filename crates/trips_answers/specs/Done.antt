@@ -1,6 +1,6 @@
 -- What is done with the bytes of a file, said of texts, images and the machine alone: neither the compiler's passes
 -- nor the grid stand in it.
-use Rattle.std.specs.Prelude.{◌≡◌, ℕ, List, [], ◌∷◌, All}
+use Rattle.std.specs.Prelude.{◌≡◌, ◌-◌, ℕ, List, [], ◌∷◌, All}
 use Rattle.trips_isa.specs.declared.block.Image.{Image}
 use Rattle.c_tree.specs.declared.typed.TypedProgram.{TypedProgram}
 use Rattle.c_front.specs.Fronts.{IsAccepted}
@@ -14,7 +14,7 @@ use Rattle.trips_trace_answers.specs.TraceAnswers.{IsRecording}
 use Rattle.trips_report.specs.declared.show.Show.{Show}
 use Rattle.trips_answers.specs.Work.{Work}
 use Rattle.trips_answers.specs.Work.{Run, Evaluate, Compile}
-use Rattle.trips_answers.specs.Work.{Assemble, Disassemble, Check, Explain, Record, Verify, Save, Four}
+use Rattle.trips_answers.specs.Work.{Assemble, Disassemble, Check, Draw, Explain, Record, Verify, Save, Four}
 use Rattle.trips_requests.specs.declared.status.Status.{Status}
 use Rattle.trips_requests.specs.declared.status.Status.TheVariants as status
 use Rattle.trips_eval_answers.specs.Evaluation.{IsEvaluationOf}
@@ -22,6 +22,7 @@ use Rattle.trips_explain_answers.specs.Explained.{IsAcceptedTold}
 use Rattle.trips_answers.specs.declared.forms.FileForm.{FileForm}
 use Rattle.trips_answers.specs.declared.forms.FileForm.TheVariants as form
 use Rattle.trips_answers.specs.Report.{TellsRun}
+use Rattle.trips_draw_answers.specs.Drawn.{IsBlockDrawn}
 use Rattle.trips_grid_answers.specs.Report.{TellsRunFrom}
 use Rattle.trips_grid_answers.specs.Saved.{IsSavedRun}
 use Rattle.trips_four_answers.specs.Report.{TellsFour}
@@ -64,6 +65,13 @@ Makes Check bytes made = IsGoodImage bytes made
 Makes (Explain file) text made = IsAcceptedTold file text made
 Makes work bytes made = ⊥
 
+-- an image can be made of the bytes of a file, by what it is read as
+abbrev pub CanBeImage : FileForm → List ℕ → Type 0
+CanBeImage form.Source text = IsProgram text
+CanBeImage form.Target text = (image : Image) × IsImageIn form.Target text image
+CanBeImage form.Image bytes = (image : Image) × IsImageIn form.Image bytes image
+CanBeImage form.Saved bytes = ⊥
+
 -- The work can be done with the bytes of a file: a row for each command and each form of its file.
 abbrev pub CanBeDone : Work → FileForm → List ℕ → Type 0
 CanBeDone Evaluate how text = IsProgram text
@@ -71,14 +79,9 @@ CanBeDone Run form.Source text = IsProgram text
 CanBeDone Run form.Target text = (image : Image) × IsImageIn form.Target text image
 CanBeDone Run form.Image bytes = (image : Image) × IsImageIn form.Image bytes image
 CanBeDone Run form.Saved bytes = (image : Image) × (t : State) × SaveBytes image t bytes
-CanBeDone Save form.Source text = IsProgram text
-CanBeDone Save form.Target text = (image : Image) × IsImageIn form.Target text image
-CanBeDone Save form.Image bytes = (image : Image) × IsImageIn form.Image bytes image
-CanBeDone Save form.Saved bytes = ⊥
-CanBeDone Four form.Source text = IsProgram text
-CanBeDone Four form.Target text = (image : Image) × IsImageIn form.Target text image
-CanBeDone Four form.Image bytes = (image : Image) × IsImageIn form.Image bytes image
-CanBeDone Four form.Saved bytes = ⊥
+CanBeDone Save how bytes = CanBeImage how bytes
+CanBeDone Four how bytes = CanBeImage how bytes
+CanBeDone Draw how bytes = CanBeImage how bytes
 CanBeDone Compile how text = IsProgram text
 CanBeDone Assemble how text = (made : List ℕ) × Makes Assemble text made
 CanBeDone Disassemble how bytes = (made : List ℕ) × Makes Disassemble bytes made
@@ -116,6 +119,8 @@ DoesWork Save how unroll most show bytes input s report =
 DoesWork Four how unroll most show bytes input s report = (others : List (FileForm × List ℕ))
     × (images : List Image) × AreImagesFor unroll ((how, bytes) ∷ others) images
     × TellsFour images input most show.cycles s report
+DoesWork Draw how unroll most show bytes input s report =
+    (image : Image) × IsImageFor how unroll bytes image × IsBlockDrawn image.blocks (most - 1) s report
 DoesWork Compile how unroll most show text input s report = WritesImage text unroll report × (s ≡ status.Ended)
 DoesWork Assemble how unroll most show text input s report = Makes Assemble text report × (s ≡ status.Ended)
 DoesWork Disassemble how unroll most show bytes input s report = Makes Disassemble bytes report × (s ≡ status.Ended)

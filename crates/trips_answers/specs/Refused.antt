@@ -1,11 +1,12 @@
 -- Which requests are refused, and with which reports.
-use Rattle.std.specs.Prelude.{◌≡◌, ◌⊎◌, ℕ, ◌+◌, ◌<◌, List, [], ◌∷◌, Option, None, Some, IfSome, IsSomeAnd, length}
+use Rattle.std.specs.Prelude.{◌≡◌, ◌⊎◌, ℕ, ◌+◌, ◌-◌, ◌<◌, List, [], ◌∷◌, Option, None, Some, IfSome, IsSomeAnd}
+use Rattle.std.specs.Prelude.{length}
 use Rattle.trips_isa.specs.declared.block.Image.{Image}
 use Rattle.trips_isa.specs.declared.run.Stepped.TheVariants.{Went}
 use Rattle.trips_isa.specs.Machine.{runs, start}
 use Rattle.trips_answers.specs.Work.{Work}
 use Rattle.trips_answers.specs.Work.{Run, Evaluate, Compile}
-use Rattle.trips_answers.specs.Work.{Assemble, Disassemble, Check, Explain, Record, Verify, Save, Four}
+use Rattle.trips_answers.specs.Work.{Assemble, Disassemble, Check, Draw, Explain, Record, Verify, Save, Four}
 use Rattle.trips_answers.specs.declared.forms.FileForm.{FileForm}
 use Rattle.trips_answers.specs.declared.forms.FileForm.TheVariants as form
 use Rattle.trips_answers.specs.Request.{Request, origin_held}
@@ -15,10 +16,11 @@ use Rattle.trips_outside.specs.Outside.{Holds}
 use Rattle.trips_answers.specs.Asks.{limit_of}
 use Rattle.trips_eval_answers.specs.Evaluation.{IsRefusedByFront}
 use Rattle.trips_explain_answers.specs.Explained.{IsRefusalTold}
+use Rattle.trips_draw_answers.specs.Drawn.{drawing_of}
 use Rattle.trips_tools.specs.ToolAnswers.{IsNoImage, IsBadImage, IsNoText}
 use Rattle.trips_grid_answers.specs.Saved.{IsNoSave}
 use Rattle.trips_answers.specs.Done.{CanBeDone, IsImageFor}
-use Rattle.trips_answers.specs.Fours.{IsLargeAmong, IsRefusedAmong, IsRefusedAt, Program, further_of}
+use Rattle.trips_answers.specs.Fours.{IsLargeAmong, IsNoProgram, IsRefusedAmong, IsRefusedAt, Program, further_of}
 pub use Rattle.trips_answers.specs.Fours.{IsBadText}
 
 -- The bytes of a file are refused by what is done with it, with this report: a row for each command
@@ -29,11 +31,9 @@ IsRefusedAs Run form.Source text report = IsRefusedByFront text report
 IsRefusedAs Run form.Target text report = IsNoText text report ⊎ IsBadText text report
 IsRefusedAs Run form.Image bytes report = IsNoImage bytes report ⊎ IsBadImage bytes report
 IsRefusedAs Run form.Saved bytes report = IsNoSave bytes report
-IsRefusedAs Save form.Source text report = IsRefusedByFront text report
-IsRefusedAs Save form.Target text report = IsNoText text report ⊎ IsBadText text report
-IsRefusedAs Save form.Image bytes report = IsNoImage bytes report ⊎ IsBadImage bytes report
-IsRefusedAs Save form.Saved bytes report = ⊥
+IsRefusedAs Save how bytes report = IsNoProgram how bytes report
 IsRefusedAs Four how bytes report = IsRefusedAt 0 how bytes report
+IsRefusedAs Draw how bytes report = IsNoProgram how bytes report
 IsRefusedAs Compile how text report = IsRefusedByFront text report
 IsRefusedAs Assemble how text report = IsNoText text report
 IsRefusedAs Disassemble how bytes report = IsNoImage bytes report
@@ -59,16 +59,22 @@ pub record MayRefuseTrace (q : Request) (held : List ℕ → Option (List ℕ)) 
   pub holds_trace : Holds (held q.trace) trace
   pub refused : IsTraceRefused bytes input trace text
 
--- the run that is to be saved is over before, of an image and an input, all as far as they are told
-pub record MayBeOver (q : Request) (held : List ℕ → Option (List ℕ)) : Type 0 where
-  pub is_work : q.work ≡ Save
+-- an image lacks what is asked of it: its run is over before it is to be saved, or it has no block of the number that
+-- is to be drawn
+abbrev pub Lacks : Work → Image → List ℕ → ℕ → Type 0
+Lacks Save image input most = (runs image.blocks (start image.bytes input) most).1 ≡ Went → ⊥
+Lacks Draw image input most = drawing_of image.blocks (most - 1) ≡ None
+Lacks work image input most = ⊥
+
+-- so does that of the request, with an input, all as far as they are told
+pub record MayLack (q : Request) (held : List ℕ → Option (List ℕ)) : Type 0 where
   pub bytes : List ℕ
   pub input : List ℕ
   pub image : Image
   pub holds : Holds (origin_held held q.origin) bytes
   pub holds_input : HoldsInput q.input held input
   pub is_image : IsImageFor q.form q.unroll bytes image
-  pub over : (runs image.blocks (start image.bytes input) q.most).1 ≡ Went → ⊥
+  pub lacks : Lacks q.work image input q.most
 
 -- The report that refuses the lowest of some files of which no image is made, behind those of which one can be. They
 -- are counted from a number.
@@ -87,7 +93,7 @@ abbrev pub MayBeRefused : Option Request → (List ℕ → Option (List ℕ)) �
 MayBeRefused None held = ⊥
 MayBeRefused (Some q) held =
     IfSome (origin_held held q.origin) (IsBad q)
-    ⊎ (MayBeLarge q.input held ⊎ (MayRefuseTrace q held ⊎ (MayBeOver q held ⊎ MayRefuseFurther q held)))
+    ⊎ (MayBeLarge q.input held ⊎ (MayRefuseTrace q held ⊎ (MayLack q held ⊎ MayRefuseFurther q held)))
 
 -- and it is refused where this holds
 abbrev pub IsRefused : Option Request → (List ℕ → Option (List ℕ)) → Type 0

@@ -36,7 +36,8 @@ placing_of (Some number) = Seeded number
 
 -- A request: what is done, with the bytes of what, read as what, with the input of which name, if it has one, how
 -- compiled blocks are placed and how many turns of a loop each does at most, the seed of the grid, how many blocks or
--- steps it may take, and what the report of a run shows behind its ending.
+-- steps it may take (of `draw` the blocks up to that which is drawn), and what the report of a run shows behind its
+-- ending.
 pub record Request : Type 0 where
   pub work : Work
   pub origin : Origin
@@ -53,7 +54,7 @@ pub record Request : Type 0 where
   pub most : ℕ
   pub show : Show
 
--- what `run`, `save`, `explain` and `four` read a file as, by the ending of its name
+-- what `run`, `save`, `draw`, `explain` and `four` read a file as, by the ending of its name
 abbrev pub form_named : List ℕ → FileForm
 form_named file = if ends_with nat_eq file (codes ".img") then form.Image
     else if ends_with nat_eq file (codes ".tasl") then form.Target else form.Source
@@ -72,6 +73,7 @@ form_of command.Verify file = form.Image
 form_of command.Save file = form_named file
 form_of command.Resume file = form.Saved
 form_of command.Four file = form_named file
+form_of command.Draw file = form_named file
 
 -- the request that words ask for
 abbrev pub planned : line.Request → Request

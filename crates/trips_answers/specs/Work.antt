@@ -17,6 +17,7 @@ pub data Work : Type 0 where
   Verify : Work
   Save : Work
   Four : Work
+  Draw : Work
 
 -- the work of a command with the file of this name
 abbrev pub work_on : Command → List ℕ → Work
@@ -32,3 +33,4 @@ work_on command.Verify file = Verify
 work_on command.Save file = Save
 work_on command.Resume file = Run
 work_on command.Four file = Four
+work_on command.Draw file = Draw

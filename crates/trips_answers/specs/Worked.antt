@@ -1,5 +1,5 @@
 -- What is done with the bytes of a file: the status and the report.
-use Rattle.std.specs.Prelude.{◌≡◌, ◌⊎◌, ℕ, List, [], ◌∷◌, Option, All}
+use Rattle.std.specs.Prelude.{◌≡◌, ◌⊎◌, ◌-◌, ℕ, List, [], ◌∷◌, Option, All}
 use Rattle.trips_isa.specs.declared.block.Block.{Block}
 use Rattle.trips_isa.specs.declared.block.Image.{Image}
 use Rattle.trips_isa.specs.Machine.{start}
@@ -13,7 +13,7 @@ use Rattle.trips_tools.specs.Tools.{IsOneImage, IsGoodImage}
 use Rattle.trips_trace_answers.specs.TraceAnswers.{IsRecording, IsRefusedImage, IsVerified}
 use Rattle.trips_answers.specs.Work.{Work}
 use Rattle.trips_answers.specs.Work.{Run, Evaluate, Compile}
-use Rattle.trips_answers.specs.Work.{Assemble, Disassemble, Check, Explain, Record, Verify, Save, Four}
+use Rattle.trips_answers.specs.Work.{Assemble, Disassemble, Check, Draw, Explain, Record, Verify, Save, Four}
 use Rattle.trips_answers.specs.declared.forms.FileForm.{FileForm}
 use Rattle.trips_answers.specs.declared.forms.FileForm.TheVariants as form
 use Rattle.trips_answers.specs.declared.forms.Settings.{Settings}
@@ -23,10 +23,11 @@ use Rattle.trips_requests.specs.Texts.{IsFixed}
 use Rattle.trips_eval_answers.specs.Evaluation.{IsEvaluationOf}
 use Rattle.trips_explain_answers.specs.Explained.{IsAcceptedTold}
 use Rattle.trips_answers.specs.Refused.{IsRefusedAs}
+use Rattle.trips_draw_answers.specs.Drawn.{IsBlockDrawn}
 use Rattle.trips_grid_answers.specs.Runs.{IsRunFrom}
 use Rattle.trips_grid_answers.specs.Saved.{IsResumedRun, IsSavedRun}
 use Rattle.trips_answers.specs.Traced.{IsTraceVerified}
-use Rattle.trips_answers.specs.Fours.{AreImagesBy, Further, IsFourDone, Program}
+use Rattle.trips_answers.specs.Fours.{AreImagesBy, Further, IsFourDone, IsImageBy, Program}
 use Rattle.trips_four_answers.specs.Runs.{IsFourRun}
 
 -- Runs ------------------------------------------------------------------------------------------
@@ -90,6 +91,8 @@ IsWorked Save form.Saved settings bytes input s report = ⊥
 IsWorked Four how settings bytes input s report = (others : List Program) × (images : List Image)
     × AreImagesBy settings ((how, bytes) ∷ others) images
     × IsFourRun images input settings.seed settings.most settings.show.cycles s report
+IsWorked Draw how settings bytes input s report = (image : Image) × IsImageBy how settings bytes image
+    × IsBlockDrawn image.blocks (settings.most - 1) s report
 IsWorked Compile how settings text input s report = IsCompiled settings.placing settings.unroll text s report
 IsWorked Assemble how settings text input s report = IsOneImage text report × (s ≡ status.Ended)
 IsWorked Disassemble how settings bytes input s report = IsOneImage report bytes × (s ≡ status.Ended)

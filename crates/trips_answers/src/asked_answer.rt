@@ -15,6 +15,7 @@ ghost use Rattle.trips_answers.specs.Worked.{IsDone, IsDoneBehind};
 ghost use Rattle.trips_answers.specs.Answer.{IsAnswerBehind, IsAnswer};
 ghost use Rattle.trips_requests.specs.Table.{AfterReading};
 
+use crate::drawn_answer::draw_done;
 use crate::forms::{FileForm, Settings, form_named, form_of, settings_for};
 use crate::four_programs::Program;
 use crate::further::second_read;
@@ -186,6 +187,10 @@ fn work_done(
             save_done(alloc, form, bytes, input, settings)
         }
         Command::Resume => run_done(alloc, FileForm::Saved, bytes, input, settings),
+        Command::Draw => {
+            let form = form_of(asked.command, asked.file);
+            draw_done(alloc, form, bytes, settings)
+        }
     }
 }
 

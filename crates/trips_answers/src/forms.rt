@@ -28,13 +28,13 @@ pub struct Settings {
     pub unroll: u8,
     /// the seed of the grid's predictor and of its network's delays
     pub seed: u64,
-    /// how many blocks or steps it may take
+    /// how many blocks or steps it may take; of `draw` the blocks up to that which is drawn
     pub most: u32,
     /// what the report of a run shows behind its ending
     pub show: Show,
 }
 
-/// What `run`, `save`, `explain` and `four` read a file as, by the ending of its name.
+/// What `run`, `save`, `draw`, `explain` and `four` read a file as, by the ending of its name.
 pub fn form_named(file: &str) -> FileForm
     ensures { result ≡ form_named file.now }
 {
@@ -65,6 +65,7 @@ pub fn form_of(command: Command, file: &str) -> FileForm
         Command::Save => form_named(file),
         Command::Resume => FileForm::Saved,
         Command::Four => form_named(file),
+        Command::Draw => form_named(file),
     }
 }
 

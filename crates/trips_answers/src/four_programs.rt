@@ -96,20 +96,34 @@ fn target_image(alloc: Global, text: &[u8], settings: Settings) -> Result<Checke
     }
 }
 
-// The image that is made of a file.
+/// The image that is made of the bytes of a file.
+pub fn made_of(
+    alloc: Global,
+    form: FileForm,
+    bytes: &[u8],
+    settings: Settings,
+) -> Result<CheckedImage, NoImage>
+    requires few { length bytes.now ≤ limit_of form }
+    requires turns { 0 < settings.unroll }
+    ensures { IsMade form settings bytes.now result }
+{
+    match form {
+        FileForm::Source => text_image(alloc, bytes, settings),
+        FileForm::Target => target_image(alloc, bytes, settings),
+        FileForm::Image => bytes_image(alloc, bytes, settings),
+        // no file of `four` and `draw` is read so
+        FileForm::Saved => Err(NoImage::Memory),
+    }
+}
+
+// That of a file.
 fn image_of(alloc: Global, program: &Program, settings: Settings) -> Result<CheckedImage, NoImage>
     requires few { length program.now.bytes ≤ limit_of program.now.form }
     requires turns { 0 < settings.unroll }
     ensures { IsMade program.now.form settings program.now.bytes result }
 {
     let bytes = program.bytes.as_slice();
-    match program.form {
-        FileForm::Source => text_image(alloc, bytes, settings),
-        FileForm::Target => target_image(alloc, bytes, settings),
-        FileForm::Image => bytes_image(alloc, bytes, settings),
-        // no file of `four` is read so
-        FileForm::Saved => Err(NoImage::Memory),
-    }
+    made_of(alloc, program.form, bytes, settings)
 }
 
 // The answer that refuses the program of a number.

@@ -6,6 +6,7 @@
 #![tactic(auto)]
 
 mod asked_answer;
+mod drawn_answer;
 mod forms;
 mod four_programs;
 mod further;

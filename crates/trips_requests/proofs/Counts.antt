@@ -1,12 +1,14 @@
 -- Each request has some blocks or steps, no more than may be asked for, and some turns of a loop in a block.
-use Rattle.std.proofs.Common.{◌≡◌, ℕ, ◌<◌, ◌≤◌, Bool, true, false, cond, nat_le, List, [], ◌∷◌, Option, None, Some}
-use Rattle.std.proofs.Common.{IfSome, Result, Ok, Err, IfOk, refl, sym, subst, arith, option_map, option_and_then}
+use Rattle.std.proofs.Common.{◌≡◌, ℕ, ◌+◌, ◌<◌, ◌≤◌, Bool, true, false, cond, nat_le, List, [], ◌∷◌, Option, None}
+use Rattle.std.proofs.Common.{Some, IfSome, Result, Ok, Err, IfOk, refl, sym, subst, arith, option_map}
+use Rattle.std.proofs.Common.{option_and_then}
 use Rattle.std.specs.Prelude.{◌&&◌}
 use Rattle.std.proofs.lemmas.Bool.Decides.{nat_tests}
 use Rattle.trips_requests.specs.declared.commands.Verb.{Verb}
 use Rattle.trips_requests.specs.declared.commands.Verb.TheVariants as verb
 use Rattle.trips_requests.specs.declared.commands.Asked.{Asked}
-use Rattle.trips_requests.specs.Limits.{most_count, most_turns, is_number, value_from, number_to}
+use Rattle.trips_requests.specs.Limits.{most_count, most_drawn, most_recorded, most_turns, is_number, value_from}
+use Rattle.trips_requests.specs.Limits.{number_to, number_within}
 use Rattle.trips_requests.specs.Words.{Text, file_name, value_said, words_read}
 use Rattle.trips_requests.specs.Options.{Options, count_of, is_c_name, options_of, options_said, places_of}
 use Rattle.trips_requests.specs.Options.{later_said, second_said, takes_file}
@@ -65,21 +67,33 @@ some_number most word =
 some_default : (k : Verb) → IfSome (count_of k).1 (IsCount most_count)
 some_default verb.Record = (omega arith, omega arith)
 some_default verb.Save = tt
+some_default verb.Draw = tt
 some_default _ = (omega arith, omega arith)
-
--- no command may be asked for more
-within : (k : Verb) → (count_of k).0 ≤ most_count
-within verb.Record = omega arith
-within _ = omega arith
 
 wider : (most more : ℕ) (o : Option ℕ) → most ≤ more → IfSome o (IsCount most) → IfSome o (IsCount more)
 wider most more None le h = tt
 wider most more (Some n) le h = let up = h.1 in (h.0, omega (arith, up, le))
 
+-- no command may be asked for more
+counted_within : (most : ℕ) (word : Text) → most ≤ most_count → IfSome (number_to most word) (IsCount most_count)
+counted_within most word le = wider most most_count (number_to most word) le (some_number most word)
+
+-- the blocks up to one that may be drawn
+some_drawn : (word : Text) → IfSome (option_map (λ n. n + 1) (number_within most_drawn word)) (IsCount most_count)
+some_drawn word = go (is_number word) (nat_le (value_from 0 word) most_drawn) refl
+  where
+    go : (a b : Bool) → nat_le (value_from 0 word) most_drawn ≡ b
+        → IfSome (option_map (λ n. n + 1) (cond (a && b) (Some (value_from 0 word)) None)) (IsCount most_count)
+    go true true e = let up = at_most (value_from 0 word) most_drawn e in (omega arith, omega (arith, up))
+    go true false e = tt
+    go false true e = tt
+    go false false e = tt
+
 some_most : (k : Verb) (word : Option Text) → IfSome (most_said k word) (IsCount most_count)
 some_most k None = some_default k
-some_most k (Some word) = wider (count_of k).0 most_count (number_to (count_of k).0 word) (within k)
-    (some_number (count_of k).0 word)
+some_most verb.Draw (Some word) = some_drawn word
+some_most verb.Record (Some word) = counted_within most_recorded word (omega arith)
+some_most _ (Some word) = counted_within most_count word (omega arith)
 
 turns_said : (file : Text) (word : Option Text) → IfSome (unroll_said file word) (IsCount most_turns)
 turns_said file None = (omega arith, omega arith)

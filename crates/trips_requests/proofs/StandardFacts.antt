@@ -248,3 +248,26 @@ resumed_is = refl
 pub resumed_with_input : asked (codes "resume" ∷ codes "s.sav" ∷ codes "--input=a" ∷ []) ≡ None
 unfolding verb_named
 resumed_with_input = refl
+
+-- a block is drawn by its number, which is wanted, and counted from 0
+pub drawn_is : asked (codes "draw" ∷ codes "a.c" ∷ codes "0" ∷ [])
+    ≡ Some (record plain { command = command.Draw; most = 1 })
+unfolding verb_named
+drawn_is = refl
+
+pub drawn_placed : asked (codes "draw" ∷ codes "a.c" ∷ codes "--unroll=4" ∷ codes "3999999" ∷ [])
+    ≡ Some (record plain { command = command.Draw; most = 4000000; unroll = 4 })
+unfolding verb_named
+drawn_placed = refl
+
+pub none_drawn : asked (codes "draw" ∷ codes "a.c" ∷ []) ≡ None
+unfolding verb_named
+none_drawn = refl
+
+pub drawn_too_far : asked (codes "draw" ∷ codes "a.c" ∷ codes "4000000" ∷ []) ≡ None
+unfolding verb_named
+drawn_too_far = refl
+
+pub drawn_with_seed : asked (codes "draw" ∷ codes "a.c" ∷ codes "1" ∷ codes "--seed=1" ∷ []) ≡ None
+unfolding verb_named
+drawn_with_seed = refl

@@ -32,6 +32,10 @@ most_recorded = 100000
 abbrev pub default_recorded : ℕ
 default_recorded = 10000
 
+-- the greatest number of a block that may be drawn
+abbrev pub most_drawn : ℕ
+most_drawn = 3999999
+
 -- how many bytes an image may have
 unfoldable pub most_image_bytes : ℕ
 most_image_bytes = 71303188

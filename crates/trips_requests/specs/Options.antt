@@ -23,7 +23,7 @@ bench_options = valued (codes "blocks") ∷ valued (codes "place") ∷ valued (c
 abbrev pub eval_options : List Named
 eval_options = valued (codes "input") ∷ valued (codes "steps") ∷ []
 
--- those of `compile`
+-- those of `compile` and `draw`
 abbrev pub compile_options : List Named
 compile_options = valued (codes "place") ∷ valued (codes "unroll") ∷ []
 
@@ -59,17 +59,19 @@ options_of verb.Verify = verify_options
 options_of verb.Save = save_options
 options_of verb.Resume = resume_options
 options_of verb.Four = four_options
+options_of verb.Draw = compile_options
 options_of other = []
 
 -- the places of a command for words that stand alone: each has its file, or its number of functions; `verify` has the
--- trace's file behind it, `save` its number of blocks, and `four` three files more
+-- trace's file behind it, `save` its number of blocks, `four` three files more, and `draw` the number of its block
 abbrev pub places_of : Verb → List Text
 places_of verb.Verify = file_name ∷ second_name ∷ []
 places_of verb.Save = file_name ∷ second_name ∷ []
 places_of verb.Four = file_name ∷ second_name ∷ third_name ∷ fourth_name ∷ []
+places_of verb.Draw = file_name ∷ second_name ∷ []
 places_of other = file_name ∷ []
 
--- the option of a command that counts blocks or steps, or the place where `save` has its number
+-- the option of a command that counts blocks or steps, or the place where `save` and `draw` have their number
 abbrev pub counted : Verb → Text
 counted verb.Run = codes "blocks"
 counted verb.Bench = codes "blocks"
@@ -77,12 +79,15 @@ counted verb.Record = codes "blocks"
 counted verb.Resume = codes "blocks"
 counted verb.Four = codes "blocks"
 counted verb.Save = second_name
+counted verb.Draw = second_name
 counted other = codes "steps"
 
--- how many blocks or steps a command may be asked for, and how many it takes without a number: `save` wants one
+-- how many blocks or steps a command may be asked for, and how many it takes without a number: `save` and `draw` want
+-- one
 abbrev pub count_of : Verb → ℕ × Option ℕ
 count_of verb.Record = (most_recorded, Some default_recorded)
 count_of verb.Save = (most_count, None)
+count_of verb.Draw = (most_count, None)
 count_of other = (most_count, Some default_count)
 
 -- the file is C, by the ending of its name

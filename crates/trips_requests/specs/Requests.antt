@@ -1,10 +1,10 @@
 -- Which request the words of a command line make (README.md of this crate).
-use Rattle.std.specs.Prelude.{ℕ, Bool, if◌then◌else◌, List, [], ◌∷◌}
+use Rattle.std.specs.Prelude.{ℕ, ◌+◌, Bool, if◌then◌else◌, List, [], ◌∷◌}
 use Rattle.std.specs.Prelude.{Option, None, Some, option_map, option_and_then}
 use Rattle.trips_requests.specs.declared.commands.Command.{Command}
 use Rattle.trips_requests.specs.declared.commands.Verb.{Verb}
 use Rattle.trips_requests.specs.declared.commands.Verb.TheVariants as verb
-use Rattle.trips_requests.specs.Limits.{most_functions, most_seed, most_turns}
+use Rattle.trips_requests.specs.Limits.{most_drawn, most_functions, most_seed, most_turns}
 use Rattle.trips_requests.specs.Limits.{number_to, number_within}
 use Rattle.trips_requests.specs.Options.{Options, count_of, is_c_name, later_said, options_of, options_said}
 use Rattle.trips_requests.specs.Options.{places_of, second_said, takes_file}
@@ -26,7 +26,7 @@ pub record Request : Type 0 where
   -- how many functions the benchmark's text has; none where a file is read
   pub functions : Option ℕ
   pub input : Option Text
-  -- how many blocks a run may make, or how many steps an evaluation
+  -- how many blocks a run may make, or how many steps an evaluation; the block that is drawn is the last of so many
   pub most : ℕ
   -- without a number instructions are placed greedily
   pub place : Option ℕ
@@ -38,9 +38,11 @@ pub record Request : Type 0 where
   pub trace : Bool
   pub cycles : Bool
 
--- how many blocks or steps the number says, and how many are taken without one
+-- How many blocks or steps the number says, and how many are taken without one. `draw` says the number of a block,
+-- which is the last of one block more.
 abbrev pub most_said : Verb → Option Text → Option ℕ
 most_said k None = (count_of k).1
+most_said verb.Draw (Some word) = option_map (λ n. n + 1) (number_within most_drawn word)
 most_said k (Some word) = number_to (count_of k).0 word
 
 -- The number by which compiled blocks are placed, if one is said. It is said of C alone, and may be any word

@@ -22,7 +22,8 @@ verb_named name =
     else if bytes_eq name (codes "verify") then Some verb.Verify
     else if bytes_eq name (codes "save") then Some verb.Save
     else if bytes_eq name (codes "resume") then Some verb.Resume
-    else if bytes_eq name (codes "four") then Some verb.Four else None
+    else if bytes_eq name (codes "four") then Some verb.Four
+    else if bytes_eq name (codes "draw") then Some verb.Draw else None
 
 -- what is done: the benchmark is run
 abbrev pub command_of : Verb → Command
@@ -39,3 +40,4 @@ command_of verb.Verify = command.Verify
 command_of verb.Save = command.Save
 command_of verb.Resume = command.Resume
 command_of verb.Four = command.Four
+command_of verb.Draw = command.Draw

@@ -1,6 +1,7 @@
 //! The request of a command, of its file and of what was found of its options.
 
-ghost use Rattle.std.specs.Prelude.{◌≡◌, option_map, option_copied};
+ghost use Rattle.std.specs.Prelude.{◌≡◌, ◌+◌, Some, option_map, option_copied};
+ghost use Rattle.trips_requests.specs.Limits.{most_drawn, number_within};
 ghost use Rattle.trips_requests.specs.Options.{count_of, counted, is_c_name, is_on, later_said, second_said};
 ghost use Rattle.trips_requests.specs.Options.{takes_file};
 ghost use Rattle.trips_requests.specs.inside.Options.{options_seen};
@@ -11,8 +12,8 @@ ghost use Rattle.trips_requests.specs.Requests.{request_of_file, request_of_file
 ghost use Rattle.trips_requests.specs.inside.Requests.{request_seen};
 
 use crate::commands::{
-    Asked, Command, DEFAULT_COUNT, DEFAULT_RECORDED, MOST_COUNT, MOST_FUNCTIONS, MOST_RECORDED,
-    MOST_SEED, MOST_TURNS, Verb,
+    Asked, Command, DEFAULT_COUNT, DEFAULT_RECORDED, MOST_COUNT, MOST_DRAWN, MOST_FUNCTIONS,
+    MOST_RECORDED, MOST_SEED, MOST_TURNS, Verb,
 };
 use crate::number::{number, number_within};
 
@@ -66,6 +67,8 @@ pub fn verb_named(name: &str) -> Option<Verb>
         Some(Verb::Resume)
     } else if name == "four" {
         Some(Verb::Four)
+    } else if name == "draw" {
+        Some(Verb::Draw)
     } else {
         None
     }
@@ -89,6 +92,7 @@ fn command_of(verb: Verb) -> Command
         Verb::Save => Command::Save,
         Verb::Resume => Command::Resume,
         Verb::Four => Command::Four,
+        Verb::Draw => Command::Draw,
     }
 }
 
@@ -103,6 +107,7 @@ pub fn counted(command: Verb) -> &'static str
         Verb::Resume => "blocks",
         Verb::Four => "blocks",
         Verb::Save => "SECOND",
+        Verb::Draw => "SECOND",
         _ => "steps",
     }
 }
@@ -119,7 +124,7 @@ fn functions_said(command: Verb, word: &str) -> Option<Option<u32>>
     }
 }
 
-// How many blocks or steps a command may be asked for, and how many it takes without a number: one command wants one.
+// How many blocks or steps a command may be asked for, and how many it takes without a number: two commands want one.
 fn count_of(command: Verb) -> (u32, Option<u32>)
     ensures most { result.0 ≡ (count_of command).0 }
     ensures default { result.1 ≡ (count_of command).1 }
@@ -127,18 +132,40 @@ fn count_of(command: Verb) -> (u32, Option<u32>)
     match command {
         Verb::Record => (MOST_RECORDED, Some(DEFAULT_RECORDED)),
         Verb::Save => (MOST_COUNT, None),
+        Verb::Draw => (MOST_COUNT, None),
         _ => (MOST_COUNT, Some(DEFAULT_COUNT)),
     }
 }
 
-// How many blocks or steps a number says, and how many are taken without one.
+// How many blocks there are up to that of the number that a word says.
+fn drawn_said(word: &str) -> Option<u32>
+    ensures { result ≡ option_map (λ n. n + 1) (number_within most_drawn word.now) }
+{
+    match number_within(word.as_bytes(), MOST_DRAWN) {
+        None => None,
+        Some(block) => Some(block as u32 + 1),
+    }
+}
+
+// How many blocks or steps a number says.
+fn number_said(command: Verb, most: u32, word: &str) -> Option<u32>
+    requires { most ≡ (count_of command).0 }
+    ensures { result ≡ most_said command (Some word.now) }
+{
+    match command {
+        Verb::Draw => drawn_said(word),
+        _ => number(word.as_bytes(), most),
+    }
+}
+
+// That, and how many are taken without a number.
 fn most_said(command: Verb, word: Option<&str>) -> Option<u32>
     ensures { result ≡ most_said command (option_copied word.entry) }
 {
     let (most, default) = count_of(command);
     match word {
         None => default,
-        Some(word) => number(word.as_bytes(), most),
+        Some(word) => number_said(command, most, word),
     }
 }
 

@@ -18,6 +18,7 @@ pub enum Command {
     Save,
     Resume,
     Four,
+    Draw,
 }
 
 /// What the first word of a command line names. The benchmark is a run of a text that is made.
@@ -36,6 +37,7 @@ pub enum Verb {
     Save,
     Resume,
     Four,
+    Draw,
 }
 
 /// What is done with a file that holds no C.
@@ -67,6 +69,9 @@ pub const MOST_RECORDED: u32 = 100_000;
 /// How many blocks are recorded where none are asked for.
 pub const DEFAULT_RECORDED: u32 = 10_000;
 
+/// The greatest number of a block that may be drawn.
+pub const MOST_DRAWN: u64 = 3_999_999;
+
 /// The limits of the code are those of the definitions. It does nothing when it runs.
 pub fn constants_are_the_definitions()
     ensures functions { MOST_FUNCTIONS ≡ limits.most_functions }
@@ -76,6 +81,7 @@ pub fn constants_are_the_definitions()
     ensures default { DEFAULT_COUNT ≡ limits.default_count }
     ensures recorded { MOST_RECORDED ≡ limits.most_recorded }
     ensures default_recorded { DEFAULT_RECORDED ≡ limits.default_recorded }
+    ensures drawn { MOST_DRAWN ≡ limits.most_drawn }
 {}
 
 /// A request.
@@ -92,7 +98,7 @@ pub struct Asked<'a> {
     pub functions: Option<u32>,
     /// the name of the input, if it has one
     pub input: Option<&'a str>,
-    /// how many blocks or steps it may take
+    /// how many blocks or steps it may take; the block that is drawn is the last of so many
     pub most: u32,
     /// the number by which compiled blocks are placed, if one is said
     pub place: Option<u64>,

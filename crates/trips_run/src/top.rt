@@ -1,4 +1,4 @@
-ghost use Rattle.std.specs.Prelude.{◌≡◌, ◌≢◌, ◌≤◌, ◌+◌, ◌*◌, ◌∷◌, [], List, ℕ, ℤ, Some};
+ghost use Rattle.std.specs.Prelude.{◌≡◌, ◌≢◌, ◌≤◌, ◌+◌, ◌-◌, ◌*◌, ◌∷◌, [], List, ℕ, ℤ, Some};
 ghost use Rattle.trips_isa.specs.declared.block.Image.{Image};
 ghost use Rattle.trips_isa.specs.Machine.{State};
 ghost use Rattle.c_tree.specs.declared.typed.TypedProgram.{TypedProgram};
@@ -9,11 +9,12 @@ ghost use Rattle.c_compile.specs.Meant.{DoesText};
 ghost use Rattle.trips_outside.specs.Outside.{Appended, Rose, Undisturbed};
 ghost use Rattle.trips_report.specs.declared.show.Show.{Show};
 ghost use Rattle.trips_answers.specs.Work.{Work};
-ghost use Rattle.trips_answers.specs.Work.{Run, Evaluate, Compile, Record, Verify, Save, Four};
+ghost use Rattle.trips_answers.specs.Work.{Run, Evaluate, Compile, Draw, Record, Verify, Save, Four};
 ghost use Rattle.trips_requests.specs.Table.{IsOneOf, IsWritten, Reports, Wrote};
 ghost use Rattle.trips_requests.specs.Texts.{too_large_text};
 ghost use Rattle.trips_eval_answers.specs.Evaluation.{eval_status, outcome_of, eval_report};
 ghost use Rattle.machine_save.specs.Spelling.{SaveBytes};
+ghost use Rattle.trips_draw_answers.specs.Drawn.{IsBlockDrawn};
 ghost use Rattle.trips_grid_answers.specs.Report.{TellsRunFrom};
 ghost use Rattle.trips_grid_answers.specs.Saved.{IsSavedRun};
 ghost use Rattle.trips_trace_answers.specs.TraceAnswers.{IsVerdict, TellsTrace};
@@ -143,6 +144,21 @@ pub fn trips_run<F: Files, K: Sink>(
         → AreTold (further_of (F.held files.old) call.asks.q) others → CanBeRun ((how, bytes) ∷ others)
         → (images : List Image) × AreImagesFor call.asks.q.unroll ((how, bytes) ∷ others) images
         × Wrote (K.written sink.old) (K.written sink.new) (TellsFour images input most show.cycles result) }
+
+    // `draw` writes the drawing of the last of so many blocks of an image of good blocks, and nothing else, and
+    // refuses a number that no block has.
+    ensures drawn { (how : FileForm) (most : ℕ) (show : Show) (bytes input : List ℕ) (image : Image)
+        → IsServed (request_of words.now) (F.held files.old) Draw how most show bytes input
+        (F.faults files.old) (F.faults files.new) (K.faults sink.old) (K.faults sink.new) result
+        → IsImageIn how bytes image
+        → Wrote (K.written sink.old) (K.written sink.new) (IsBlockDrawn image.blocks (most - 1) result) }
+
+    // Of an accepted text it draws a block of an image that does what the text means.
+    ensures drawn_text { (most : ℕ) (show : Show) (text input : List ℕ) (program : TypedProgram)
+        → (call : IsServed (request_of words.now) (F.held files.old) Draw form.Source most show text input
+        (F.faults files.old) (F.faults files.new) (K.faults sink.old) (K.faults sink.new) result)
+        → IsAccepted text program → (image : Image) × DoesText text call.asks.q.unroll image
+        × Wrote (K.written sink.old) (K.written sink.new) (IsBlockDrawn image.blocks (most - 1) result) }
 
     // A file or an input with too many bytes is refused with the one report on these.
     ensures too_large { (q : Request) → request_of words.now ≡ Some q → IsTooLarge q (F.held files.old)

@@ -124,6 +124,15 @@ const ASKED: &[Row] = &[
         },
     ),
     (
+        &["draw", "a.c", "--unroll=4", "7"],
+        Asked {
+            command: Command::Draw,
+            most: 8,
+            unroll: 4,
+            ..PLAIN
+        },
+    ),
+    (
         &["resume", "s", "--blocks", "9", "--seed", "7", "--cycles"],
         Asked {
             command: Command::Resume,

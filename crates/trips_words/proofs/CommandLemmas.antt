@@ -81,6 +81,17 @@ save_read = record {
   );
 }
 
+-- the command `draw` is read as its words say
+pub draw_read : IsRead (codes "draw") compile_options (file_name ∷ second_name ∷ [])
+draw_read = record {
+  builds = refl;
+  simple = refl;
+  has = (
+    record { by_index = refl; by_id = refl; no_option = refl; others = (refl, tt); follows = refl },
+    (record { by_index = refl; by_id = refl; no_option = refl; others = tt; follows = refl }, refl),
+  );
+}
+
 -- the command `resume` is read as its words say
 pub resume_read : IsRead (codes "resume") resume_options (file_name ∷ [])
 resume_read = record {
@@ -133,21 +144,22 @@ is_helpless old new e = ap app_of_fields e
 -- what holds without options and with a file as the one place holds of the commands that have no case of their own
 pub of_plain : (P : List Named → List Text → Type 0) (k : Verb) → (k ≡ verb.Run → ⊥) → (k ≡ verb.Bench → ⊥)
     → (k ≡ verb.Evaluate → ⊥) → (k ≡ verb.Compile → ⊥) → (k ≡ verb.Record → ⊥) → (k ≡ verb.Verify → ⊥)
-    → (k ≡ verb.Save → ⊥) → (k ≡ verb.Resume → ⊥) → (k ≡ verb.Four → ⊥) → P [] (file_name ∷ [])
-    → P (options_of k) (places_of k)
-of_plain P verb.Run r b e c d v s u f h = absurd (r refl)
-of_plain P verb.Bench r b e c d v s u f h = absurd (b refl)
-of_plain P verb.Evaluate r b e c d v s u f h = absurd (e refl)
-of_plain P verb.Compile r b e c d v s u f h = absurd (c refl)
-of_plain P verb.Record r b e c d v s u f h = absurd (d refl)
-of_plain P verb.Verify r b e c d v s u f h = absurd (v refl)
-of_plain P verb.Save r b e c d v s u f h = absurd (s refl)
-of_plain P verb.Resume r b e c d v s u f h = absurd (u refl)
-of_plain P verb.Four r b e c d v s u f h = absurd (f refl)
-of_plain P verb.Assemble r b e c d v s u f h = h
-of_plain P verb.Disassemble r b e c d v s u f h = h
-of_plain P verb.Check r b e c d v s u f h = h
-of_plain P verb.Explain r b e c d v s u f h = h
+    → (k ≡ verb.Save → ⊥) → (k ≡ verb.Resume → ⊥) → (k ≡ verb.Four → ⊥) → (k ≡ verb.Draw → ⊥)
+    → P [] (file_name ∷ []) → P (options_of k) (places_of k)
+of_plain P verb.Run r b e c d v s u f w h = absurd (r refl)
+of_plain P verb.Bench r b e c d v s u f w h = absurd (b refl)
+of_plain P verb.Evaluate r b e c d v s u f w h = absurd (e refl)
+of_plain P verb.Compile r b e c d v s u f w h = absurd (c refl)
+of_plain P verb.Record r b e c d v s u f w h = absurd (d refl)
+of_plain P verb.Verify r b e c d v s u f w h = absurd (v refl)
+of_plain P verb.Save r b e c d v s u f w h = absurd (s refl)
+of_plain P verb.Resume r b e c d v s u f w h = absurd (u refl)
+of_plain P verb.Four r b e c d v s u f w h = absurd (f refl)
+of_plain P verb.Draw r b e c d v s u f w h = absurd (w refl)
+of_plain P verb.Assemble r b e c d v s u f w h = h
+of_plain P verb.Disassemble r b e c d v s u f w h = h
+of_plain P verb.Check r b e c d v s u f w h = h
+of_plain P verb.Explain r b e c d v s u f w h = h
 
 -- requests ----------------------------------------------------------------------------------------
 

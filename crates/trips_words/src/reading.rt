@@ -6,8 +6,8 @@ ghost use Rattle.clap.specs.declared.error.kind.ErrorKind.TheVariants.{OutOfMemo
 ghost use Rattle.trips_requests.specs.Words.{Text, Named, file_name, fourth_name, second_name, third_name};
 ghost use Rattle.trips_requests.specs.Words.{words_read, valued, flag};
 ghost use Rattle.trips_requests.specs.Options.{options_of, places_of, run_options, bench_options, eval_options};
-ghost use Rattle.trips_requests.specs.Options.{compile_options, record_options, resume_options, save_options};
-ghost use Rattle.trips_requests.specs.Options.{four_options, verify_options};
+ghost use Rattle.trips_requests.specs.Options.{compile_options, four_options, record_options, resume_options};
+ghost use Rattle.trips_requests.specs.Options.{save_options, verify_options};
 ghost use Rattle.trips_words.specs.inside.Read.{raw_rule, raw_app, IsRead, Tells};
 
 use base::Memory;
@@ -163,6 +163,19 @@ fn four_command<'a>(alloc: Global) -> Result<clap::Command<'a>, AllocError>
         .arg(Arg::new(alloc, FOURTH))
 }
 
+// `draw`, its options, its file and the number of its block.
+fn draw_command<'a>(alloc: Global) -> Result<clap::Command<'a>, AllocError>
+    ensures { IfOk result (λ command. app_of command
+        ≡ raw_app (codes "draw") compile_options (file_name ∷ second_name ∷ [])) }
+{
+    clap::Command::new(alloc, "draw")
+        .disable_help_flag(true)
+        .arg(valued(alloc, "place"))?
+        .arg(valued(alloc, "unroll"))?
+        .arg(Arg::new(alloc, FILE))?
+        .arg(Arg::new(alloc, SECOND))
+}
+
 // A command that has a file and no option.
 fn plain_command<'a>(alloc: Global) -> Result<clap::Command<'a>, AllocError>
     ensures { IfOk result (λ command. app_of command ≡ raw_app (codes "trips") [] (file_name ∷ [])) }
@@ -221,6 +234,7 @@ pub fn read<'a>(
         Verb::Save => matched(save_command(alloc)?, words),
         Verb::Resume => matched(resume_command(alloc)?, words),
         Verb::Four => matched(four_command(alloc)?, words),
+        Verb::Draw => matched(draw_command(alloc)?, words),
         _ => matched(plain_command(alloc)?, words),
     }
 }

@@ -1,4 +1,4 @@
--- What the code makes of the files of `four`, one after another.
+-- What the code makes of the files of `four`, one after another, and of that of `draw`.
 use Rattle.std.specs.Prelude.{◌≡◌, ◌⊎◌, ℕ, ◌+◌, List, ◌++◌, All, Result, Ok, Err}
 use Rattle.trips_isa.specs.declared.block.Image.{Image}
 use Rattle.block_check.specs.Faults.{IsGood}
@@ -45,6 +45,11 @@ abbrev pub IsToldAt : ℕ → NoImage → Status → List ℕ → Type 0
 IsToldAt number (reason.Refused refusal) s report =
     IsFixed status.Refused (program_line number ++ refusal.items) s report
 IsToldAt number reason.Memory s report = ⊥
+
+-- so is why none is made of the one file of a command
+abbrev pub IsPlainlyTold : NoImage → Status → List ℕ → Type 0
+IsPlainlyTold (reason.Refused refusal) s report = IsFixed status.Refused refusal.items s report
+IsPlainlyTold reason.Memory s report = ⊥
 
 -- What is answered to the rest of some files, which are counted from a number, behind those of which images are made.
 abbrev pub IsRestDone : Settings → ℕ → List Image → List Program → List ℕ → Status → List ℕ → Type 0

@@ -8,6 +8,7 @@ use Rattle.trips_answers.specs.Request.{form_of}
 use Rattle.trips_answers.specs.declared.forms.Settings.{Settings}
 use Rattle.trips_answers.proofs.Told.{evaluate_told, few_bytes, run_form_told, compile_told, tool_told}
 use Rattle.trips_answers.proofs.Told.{explain_told, record_told, work_is}
+use Rattle.trips_answers.proofs.DrawnTold.{draw_form_told}
 use Rattle.trips_answers.proofs.SavedTold.{save_form_told}
 use Rattle.trips_answers.proofs.asked_answer.work_done.Goals as goal
 
@@ -103,3 +104,20 @@ pub returns-in-Resume : goal.returns-in-Resume
 returns-in-Resume c = run_form_told _ _ _ _ _ _ _ _ (work_is c.args.asked.file.now c.in-Resume.is)
     (ap (λ (k : Command). form_of k c.args.asked.file.now) (sym c.in-Resume.is))
     c.settings_for-settings.ensures c.run_done-in-Resume.ensures
+
+pub draw_done-requires-clause-few : goal.draw_done-requires-clause-few
+draw_done-requires-clause-few c =
+    subst (λ (f : FileForm). length c.args.bytes.now ≤ limit_of f) (sym c.form_of-form-in-Draw.ensures)
+    c.requires.few
+
+pub draw_done-requires-clause-some : goal.draw_done-requires-clause-some
+draw_done-requires-clause-some c = subst (λ (t : Settings). 0 < t.most) (sym c.settings_for-settings.ensures)
+    c.requires.some
+
+pub draw_done-requires-clause-turns : goal.draw_done-requires-clause-turns
+draw_done-requires-clause-turns c = subst (λ (t : Settings). 0 < t.unroll) (sym c.settings_for-settings.ensures)
+    c.requires.turns
+
+pub returns-in-Draw : goal.returns-in-Draw
+returns-in-Draw c = draw_form_told _ _ _ _ _ _ _ _ (work_is c.args.asked.file.now c.in-Draw.is)
+    c.form_of-form-in-Draw.ensures c.settings_for-settings.ensures c.draw_done.ensures

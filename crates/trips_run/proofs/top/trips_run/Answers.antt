@@ -71,6 +71,16 @@ returns-clause-fours g c =
     λ how most show bytes input others call told can. promises.fours _ _ _ _ _ _ _ c.answer_words.ensures.answered
     how most show bytes input others call.asks told can call.undisturbed.read call.undisturbed.written call.memory
 
+pub returns-clause-drawn : goal.returns-clause-drawn
+returns-clause-drawn g c =
+    λ how most show bytes input image call is. promises.drawn _ _ _ _ _ _ _ c.answer_words.ensures.answered
+    how most show bytes input image call.asks is call.undisturbed.read call.undisturbed.written call.memory
+
+pub returns-clause-drawn_text : goal.returns-clause-drawn_text
+returns-clause-drawn_text g c =
+    λ most show text input program call is. promises.drawn_text _ _ _ _ _ _ _ c.answer_words.ensures.answered
+    most show text input program call.asks is call.undisturbed.read call.undisturbed.written call.memory
+
 pub returns-clause-too_large : goal.returns-clause-too_large
 returns-clause-too_large g c =
     λ q is large undisturbed some. promises.too_large _ _ _ _ _ _ _ c.answer_words.ensures.answered q is large

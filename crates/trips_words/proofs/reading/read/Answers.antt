@@ -4,11 +4,11 @@ use Rattle.trips_requests.specs.declared.commands.Verb.{Verb}
 use Rattle.trips_requests.specs.declared.commands.Verb.TheVariants as verb
 use Rattle.trips_requests.specs.Words.{Text, Named, words_read}
 use Rattle.trips_requests.specs.Options.{run_options, bench_options, eval_options, compile_options}
-use Rattle.trips_requests.specs.Options.{record_options, resume_options, save_options, verify_options, four_options}
+use Rattle.trips_requests.specs.Options.{four_options, record_options, resume_options, save_options, verify_options}
 use Rattle.trips_requests.specs.Options.{options_of, places_of}
 use Rattle.trips_words.specs.inside.Read.{Tells}
 use Rattle.trips_words.proofs.CommandLemmas.{run_read, bench_read, eval_read, compile_read, plain_read, of_plain}
-use Rattle.trips_words.proofs.CommandLemmas.{four_read, record_read, resume_read, save_read, verify_read}
+use Rattle.trips_words.proofs.CommandLemmas.{draw_read, four_read, record_read, resume_read, save_read, verify_read}
 use Rattle.trips_words.proofs.reading.read.Goals as goal
 
 pub returns-in_ok-run_command-in-Run : goal.returns-in_ok-run_command-in-Run
@@ -83,12 +83,20 @@ returns-in_ok-four_command-in-Four c =
     (c.matched-in-Four.ensures (codes "four") four_options (places_of verb.Four) four_read
     c.in_ok-four_command-in-Four.ensures)
 
+pub returns-in_ok-draw_command-in-Draw : goal.returns-in_ok-draw_command-in-Draw
+returns-in_ok-draw_command-in-Draw c =
+    let words : List Text = drop 1 (map (λ word. string_bytes word) c.args.words.now) in
+    subst (λ (k : Verb). IfOk c.matched-in-Draw.result
+    (Tells (options_of k) (words_read (options_of k) (places_of k) None [] words))) (sym c.in-Draw.is)
+    (c.matched-in-Draw.ensures (codes "draw") compile_options (places_of verb.Draw) draw_read
+    c.in_ok-draw_command-in-Draw.ensures)
+
 pub returns-in_ok-plain_command-in_default : goal.returns-in_ok-plain_command-in_default
 returns-in_ok-plain_command-in_default c =
     let words : List Text = drop 1 (map (λ word. string_bytes word) c.args.words.now) in
     of_plain (λ o p. IfOk c.matched-in_default.result (Tells o (words_read o p None [] words))) c.args.command
     c.in_default.not-Run c.in_default.not-Bench c.in_default.not-Evaluate c.in_default.not-Compile
     c.in_default.not-Record c.in_default.not-Verify c.in_default.not-Save c.in_default.not-Resume
-    c.in_default.not-Four
+    c.in_default.not-Four c.in_default.not-Draw
     (c.matched-in_default.ensures (codes "trips") [] (places_of verb.Check) plain_read
     c.in_ok-plain_command-in_default.ensures)
