@@ -173,7 +173,7 @@ const ROWS: &[Row] = &[
     (b"#include<stdio.h>", Ok(&[(0, Want::Include)])),
     (b"#include < stdio.h>", Err(LexFault::Directive(0))),
     (b"#include", Err(LexFault::Directive(0))),
-    (b"#define A 1\n", Err(LexFault::Directive(0))),
+    (b"#pragma once\n", Err(LexFault::Directive(0))),
     (b"x #include <stdio.h>", Err(LexFault::BadByte(2))),
     // Whole texts, and texts that end too early.
     (
@@ -250,6 +250,85 @@ const SPELLINGS: &[Row] = &[
     (b" \\\n #include <stdio.h>", Ok(&[(4, Want::Include)])),
 ];
 
+/// Directives (C17 6.10), each with the end of its line, and includes.
+const DIRECTIVES: &[Row] = &[
+    (
+        b"#define N 1\nx",
+        Ok(&[
+            (0, Want::Name(b"#define")),
+            (8, Want::Name(b"N")),
+            (10, Want::Number(1, Kind::Int)),
+            (11, Want::Name(b"\n")),
+            (12, Want::Name(b"x")),
+        ]),
+    ),
+    (
+        b"# \tundef N",
+        Ok(&[(0, Want::Name(b"#undef")), (9, Want::Name(b"N"))]),
+    ),
+    (
+        b"#else\n#endif\n",
+        Ok(&[
+            (0, Want::Name(b"#else")),
+            (5, Want::Name(b"\n")),
+            (6, Want::Name(b"#endif")),
+            (12, Want::Name(b"\n")),
+        ]),
+    ),
+    (
+        b"#else  \n\n x",
+        Ok(&[
+            (0, Want::Name(b"#else")),
+            (5, Want::Name(b"\n")),
+            (10, Want::Name(b"x")),
+        ]),
+    ),
+    (
+        b"#ifdef A // b\n",
+        Ok(&[
+            (0, Want::Name(b"#ifdef")),
+            (7, Want::Name(b"A")),
+            (13, Want::Name(b"\n")),
+        ]),
+    ),
+    (
+        b"#ifndef A /* \n */ B\n",
+        Ok(&[
+            (0, Want::Name(b"#ifndef")),
+            (8, Want::Name(b"A")),
+            (18, Want::Name(b"B")),
+            (19, Want::Name(b"\n")),
+        ]),
+    ),
+    (
+        b"#define A 1 \\\n 2\n",
+        Ok(&[
+            (0, Want::Name(b"#define")),
+            (8, Want::Name(b"A")),
+            (10, Want::Number(1, Kind::Int)),
+            (15, Want::Number(2, Kind::Int)),
+            (16, Want::Name(b"\n")),
+        ]),
+    ),
+    (
+        b"#include <limits.h>\nx",
+        Ok(&[(0, Want::Name(b"<limits.h>")), (20, Want::Name(b"x"))]),
+    ),
+    (
+        b" # include\t<string.h> \n",
+        Ok(&[(1, Want::Name(b"<string.h>"))]),
+    ),
+    (b"#include <math.h>", Err(LexFault::Directive(0))),
+    (b"#include \"limits.h\"", Err(LexFault::Directive(0))),
+    (b"#include <limits.h>x", Err(LexFault::Directive(0))),
+    (b"x #define A", Err(LexFault::BadByte(2))),
+    (b"#define A # B", Err(LexFault::BadByte(10))),
+    (b"#defined A", Err(LexFault::Directive(0))),
+    (b"#if 1", Err(LexFault::Directive(0))),
+    (b"#", Err(LexFault::Directive(0))),
+    (b"#include <stdio.h> // a", Err(LexFault::Directive(0))),
+];
+
 fn is_wanted(form: &Form, want: Want) -> bool {
     match want {
         Want::Include => match form {
@@ -307,6 +386,11 @@ fn assert_rows(rt: &impl Abort, alloc: Global, rows: &[Row]) {
     for (text, want) in rows {
         assert!(rt; is_answered(alloc, text, *want), "{text:?}");
     }
+}
+
+#[test]
+fn lexes_directives_and_the_ends_of_their_lines(rt: HostRuntime) {
+    assert_rows(&rt, rt.alloc(), DIRECTIVES);
 }
 
 #[test]

@@ -12,21 +12,25 @@ use Rattle.c_tree.specs.declared.Mark.{Mark}
 use Rattle.c_lex.specs.declared.piece.Reading.{Reading}
 use Rattle.c_lex.specs.declared.piece.Reading.TheVariants as reads
 use Rattle.c_lex.specs.Bytes.{Bytes, by_class, is_space, is_letter, is_word, is_digit, in_number}
-use Rattle.c_lex.specs.Bytes.{not_feed, feed_and_space, empty_after}
+use Rattle.c_lex.specs.Bytes.{not_feed, feed_and_space, ends_line}
+use Rattle.c_lex.specs.declared.directive.DirectiveKind.{DirectiveKind}
+use Rattle.c_lex.specs.declared.directive.Header.{Header}
+use Rattle.c_lex.specs.Directives.{line_end}
 use Rattle.c_lex.specs.inside.Runs.{run_len}
 use Rattle.c_lex.specs.Tables.{lookup, keywords}
-use Rattle.c_lex.specs.inside.Scans.{constant_of, character_of, close_from, mark_of, is_include}
+use Rattle.c_lex.specs.inside.Scans.{constant_of, character_of, close_from, mark_of, include_at, directive_at}
 use Rattle.c_lex.specs.Pieces.{Longest, word_form, begins_with}
 use Rattle.c_lex.specs.inside.Finds.{Found, found, IsFront, Finds, Marks, begins_comment}
-use Rattle.c_lex.specs.Lexes.{Tokens, lexeme, Cut, here, Lexed}
-use Rattle.c_lex.specs.Faults.{Fault, BadByte, TooManyTokens, fault_of, no_piece, is_broken, one_more, FaultAt}
-use Rattle.c_lex.specs.inside.Turns.{Grows}
+use Rattle.c_lex.specs.Lexes.{Tokens, lexeme, Line, fresh, Cut, here, Lexed}
+use Rattle.c_lex.specs.Faults.{Fault, BadByte, TooManyTokens, fault_of, Stands, no_piece, is_broken, one_more}
+use Rattle.c_lex.specs.Faults.{one_end}
+use Rattle.c_lex.specs.inside.Turns.{GrowsBy, GrowsEnd, Grows, past}
 use Rattle.c_lex.specs.inside.Answers.{Answered}
 use Rattle.c_lex.proofs.Basics.{eq_is}
 use Rattle.c_lex.proofs.Found.{space_found, word_found, number_found, bad_number_found}
 use Rattle.c_lex.proofs.Found.{character_found}
 use Rattle.c_lex.proofs.Found.{quote_found, comment_found, opening_found, line_found, include_found}
-use Rattle.c_lex.proofs.Found.{directive_found, marks_find, hash_nothing}
+use Rattle.c_lex.proofs.Found.{directive_found, directed_found, marks_find, hash_nothing}
 use Rattle.c_lex.proofs.Found.{splice_nothing, piece_some}
 use Rattle.c_lex.proofs.WhiteSpace.{space_there, splice_there}
 use Rattle.c_lex.proofs.ReadSoFar.{grown, whole, bytes_nil}
@@ -90,13 +94,19 @@ module _ (starts : Bool) where
   slash_at (c ∷ cs) = second_at c cs (nat_eq c 47) (nat_eq c 42) refl refl
 
 -- a line that begins with `#`
-line_at : (bs : Bytes) (t : Bool) → is_include (take (run_len (by_class not_feed) 0 bs) bs) ≡ t
+other_at : (bs : Bytes) (o : Option (ℕ × DirectiveKind))
+    → include_at (take (run_len (by_class not_feed) 0 bs) bs) ≡ None
+    → directive_at (take (run_len (by_class not_feed) 0 bs) bs) ≡ o → Finding true (35 ∷ bs)
+other_at bs None e d = (Some _, directive_found true (35 ∷ bs) bs _ refl refl refl e d)
+other_at bs (Some x) e d = (Some _, directed_found true (35 ∷ bs) bs x.0 x.1 refl refl d)
+
+line_at : (bs : Bytes) (t : Option Header) → include_at (take (run_len (by_class not_feed) 0 bs) bs) ≡ t
     → Finding true (35 ∷ bs)
-line_at bs true e = (Some _, include_found true (35 ∷ bs) bs _ refl refl refl e)
-line_at bs false e = (Some _, directive_found true (35 ∷ bs) bs _ refl refl refl e)
+line_at bs (Some h) e = (Some _, include_found true (35 ∷ bs) bs _ h refl refl refl e)
+line_at bs None e = other_at bs (directive_at (take (run_len (by_class not_feed) 0 bs) bs)) e refl
 
 hash_at : (starts : Bool) (bs : Bytes) → Finding starts (35 ∷ bs)
-hash_at true bs = line_at bs (is_include (take (run_len (by_class not_feed) 0 bs) bs)) refl
+hash_at true bs = line_at bs (include_at (take (run_len (by_class not_feed) 0 bs) bs)) refl
 hash_at false bs = (None, hash_nothing false (35 ∷ bs) bs refl refl)
 
 -- a backslash
@@ -161,21 +171,21 @@ full : (n m : ℕ) → nat_lt n m ≡ false → n ≤ m → n ≡ m
 full n m e h = let k : m ≤ n = not_below n m e in omega arith
 
 -- the text is cut so far, in which there are so many tokens
-record So (text : Bytes) (starts : Bool) (before : Bytes) (ts : Tokens) (rest : Bytes) : Type 0 where
-  cut : Cut true [] text ts starts before rest
+record So (text : Bytes) (line : Line) (before : Bytes) (ts : Tokens) (rest : Bytes) : Type 0 where
+  cut : Cut fresh [] text ts line before rest
   few : length ts ≤ 8192
 
 -- a cut to the end is the whole
-at_end : (text : Bytes) (starts : Bool) (before : Bytes) (ts : Tokens) → So text starts before ts []
+at_end : (text : Bytes) (line : Line) (before : Bytes) (ts : Tokens) → So text line before ts []
     → Lexed 8192 text ts
-at_end text starts before ts s =
+at_end text line before ts s =
     let w : text ≡ before = whole [] text before [] ts s.cut ∙ bytes_nil before in
-    ((starts, subst (λ (x : Bytes). Cut true [] text ts starts x []) (sym w) s.cut), s.few)
+    ((line, subst (λ (x : Bytes). Cut fresh [] text ts line x []) (sym w) s.cut), s.few)
 
 -- the rest of the way, from a shorter rest on
 abbrev Onward : ℕ → Bytes → Type 0
 Onward n text =
-    (starts : Bool) (before rest : Bytes) (ts : Tokens) → length rest ≤ n → So text starts before ts rest
+    (line : Line) (before rest : Bytes) (ts : Tokens) → length rest ≤ n → So text line before ts rest
     → Answered 8192 text
 
 -- a piece leaves a shorter rest
@@ -186,75 +196,71 @@ left_over starts old p r q n l h =
     let total : length old ≡ length p + length r = ap length l.split ∙ length-append p r in
     omega arith
 
-module _ (n : ℕ) (text : Bytes) (starts : Bool) (before rest : Bytes) (ts : Tokens) (short : length rest ≤ suc n)
-    (so : So text starts before ts rest) (onward : Onward n text) where
+module _ (n : ℕ) (text : Bytes) (line : Line) (before rest : Bytes) (ts : Tokens) (short : length rest ≤ suc n)
+    (so : So text line before ts rest) (onward : Onward n text) where
   -- on behind a piece that adds these tokens
-  passed : (p r : Bytes) (q : Reading) (us : Tokens) → Longest starts rest p r q
-      → Grows 8192 (length before) q ts us → Answered 8192 text
+  passed : (p r : Bytes) (q : Reading) (us : Tokens) → Longest line.starts rest p r q
+      → Grows 8192 (length before) (ends_line line.directs p) q ts us → Answered 8192 text
   passed p r q us l g =
-      let c = grown text before p r rest starts (length before) q ts us so.cut refl l g so.few in
-      onward (empty_after starts p) (before ++ p) r us (left_over starts rest p r q n l short)
+      let c = grown text before p r rest line (length before) q ts us so.cut refl l g so.few in
+      onward (past line p q) (before ++ p) r us (left_over line.starts rest p r q n l short)
       (record { cut = c.0; few = c.1 })
 
-  stopped : (f : Fault) → FaultAt 8192 text f (length before) → Answered 8192 text
-  stopped f x = inr (f, length before, x)
+  -- a fault stands here
+  stopped : (f : Fault) → Stands 8192 (length ts) line rest f → Answered 8192 text
+  stopped f x =
+      inr (
+        f,
+        length before,
+        record {
+          tokens = ts;
+          line = line;
+          before = before;
+          after = rest;
+          cut = so.cut;
+          few = so.few;
+          stands = x;
+          offset_is = refl;
+        },
+      )
 
-  token_at : (p r : Bytes) (f : Form) (t : Bool) → nat_lt (length ts) 8192 ≡ t
-      → Longest starts rest p r (reads.Token f) → Answered 8192 text
-  token_at p r f true e l =
-      passed p r (reads.Token f) (ts ++ lexeme before f ∷ []) l (refl, (let h : length ts < 8192 = room in h))
-    where
-      room : length ts < 8192
-      room = below (length ts) 8192 e
-  token_at p r f false e l =
-      stopped TooManyTokens (record {
-        tokens = ts;
-        starts = starts;
-        before = before;
-        after = rest;
-        cut = so.cut;
-        few = so.few;
-        stands = one_more (full (length ts) 8192 e so.few) l;
-        offset_is = refl;
-      })
+  -- one token more, or one too many
+  one_at : (f : Form) (t : Bool) → nat_lt (length ts) 8192 ≡ t
+      → (GrowsBy 8192 (length before) f ts (ts ++ lexeme before f ∷ []) → Answered 8192 text)
+      → (length ts ≡ 8192 → Stands 8192 (length ts) line rest TooManyTokens) → Answered 8192 text
+  one_at f true e on stop = on (refl, below (length ts) 8192 e)
+  one_at f false e on stop = stopped TooManyTokens (stop (full (length ts) 8192 e so.few))
 
-  reading_at : (p r : Bytes) (q : Reading) → Longest starts rest p r q → Answered 8192 text
-  reading_at p r reads.Gap l = passed p r reads.Gap ts l refl
-  reading_at p r (reads.Token f) l = token_at p r f (nat_lt (length ts) 8192) refl l
-  reading_at p r (reads.Broken b) l =
-      stopped (fault_of b) (record {
-        tokens = ts;
-        starts = starts;
-        before = before;
-        after = rest;
-        cut = so.cut;
-        few = so.few;
-        stands = is_broken l;
-        offset_is = refl;
-      })
+  gap_at : (p r : Bytes) (v : Bool) → ends_line line.directs p ≡ v → Longest line.starts rest p r reads.Gap
+      → Answered 8192 text
+  gap_at p r true e l =
+      one_at (form.Name line_end) (nat_lt (length ts) 8192) refl
+      (λ g. passed p r reads.Gap (ts ++ lexeme before (form.Name line_end) ∷ []) l
+      (subst (λ (v : Bool). GrowsEnd 8192 (length before) v ts (ts ++ lexeme before (form.Name line_end) ∷ []))
+      (sym e) g))
+      (λ c. one_end c l e)
+  gap_at p r false e l =
+      passed p r reads.Gap ts l (subst (λ (v : Bool). GrowsEnd 8192 (length before) v ts ts) (sym e) refl)
 
-  piece_at : (rest ≡ [] → ⊥) → Finding starts rest → Answered 8192 text
-  piece_at ne (None, x) =
-      stopped BadByte (record {
-        tokens = ts;
-        starts = starts;
-        before = before;
-        after = rest;
-        cut = so.cut;
-        few = so.few;
-        stands = no_piece ne x;
-        offset_is = refl;
-      })
+  reading_at : (p r : Bytes) (q : Reading) → Longest line.starts rest p r q → Answered 8192 text
+  reading_at p r reads.Gap l = gap_at p r (ends_line line.directs p) refl l
+  reading_at p r (reads.Token f) l =
+      one_at f (nat_lt (length ts) 8192) refl (λ g. passed p r (reads.Token f) (ts ++ lexeme before f ∷ []) l g)
+      (λ c. one_more c l)
+  reading_at p r (reads.Broken b) l = stopped (fault_of b) (is_broken l)
+
+  piece_at : (rest ≡ [] → ⊥) → Finding line.starts rest → Answered 8192 text
+  piece_at ne (None, x) = stopped BadByte (no_piece ne x)
   piece_at ne (Some f, x) = reading_at (take f.length rest) (drop f.length rest) f.reading x.front
 
 -- each place leads on
 walk : (n : ℕ) (text : Bytes) → Onward n text
-walk n text starts before [] ts h so = inl (ts, at_end text starts before ts so)
-walk zero text starts before (b ∷ bs) ts h so = absurd
+walk n text line before [] ts h so = inl (ts, at_end text line before ts so)
+walk zero text line before (b ∷ bs) ts h so = absurd
     (let l : length (b ∷ bs) ≡ suc (length bs) = refl in omega arith)
-walk (suc n) text starts before (b ∷ bs) ts h so =
-    piece_at n text starts before (b ∷ bs) ts h so (walk n text) (λ e. cc) (find_piece starts b bs)
+walk (suc n) text line before (b ∷ bs) ts h so =
+    piece_at n text line before (b ∷ bs) ts h so (walk n text) (λ e. cc) (find_piece line.starts b bs)
 
 -- every text has tokens, few enough, or a fault
 pub answered : (text : Bytes) → Answered 8192 text
-answered text = walk (length text) text true [] text [] (omega arith) (record { cut = here; few = omega arith })
+answered text = walk (length text) text fresh [] text [] (omega arith) (record { cut = here; few = omega arith })

@@ -1,5 +1,5 @@
 -- White space: spaces, and splices among them.
-use Rattle.std.proofs.Common.{◌≡◌, ◌≤◌, ℕ, suc, ◌+◌, Bool, true, false, not, ◌&&◌, ◌||◌, cond, inl, inr, [], ◌∷◌}
+use Rattle.std.proofs.Common.{◌≡◌, ◌≤◌, ◌<◌, ℕ, suc, ◌+◌, Bool, true, false, ◌&&◌, ◌||◌, cond, inl, inr, [], ◌∷◌}
 use Rattle.std.proofs.Common.{◌++◌, length, refl, sym, ap, ◌∙◌, subst, arith, nat_eq, length-append}
 use Rattle.c_lex.specs.Bytes.{Bytes, is_space, is_feed, begins_feed, in_white, is_white, feed_and_space, has_space}
 use Rattle.c_lex.specs.inside.Spaces.{spaces, after_spaces}
@@ -115,3 +115,15 @@ behind_few [] = omega arith
 behind_few (b ∷ bs) = let h : length (after_spaces bs) ≤ length bs = behind_few bs in
     elim (in_white b bs) as (λ v. length (cond v (after_spaces bs) (b ∷ bs)) ≤ suc (length bs))
     [ true ↦ omega arith | false ↦ (let l : length (b ∷ bs) ≡ suc (length bs) = refl in omega arith) ]
+
+some_space : (p : Bytes) → has_space p ≡ true → 0 < length p
+some_space [] e = absurd (cc)
+some_space (b ∷ p) e = let l : length (b ∷ p) ≡ suc (length p) = refl in omega arith
+
+-- and fewer, where a space is among them
+pub behind_fewer : (bs : Bytes) → has_space (spaces bs) ≡ true → length (after_spaces bs) < length bs
+behind_fewer bs e =
+    let some : 0 < length (spaces bs) = some_space (spaces bs) e in
+    let all : length bs ≡ length (spaces bs) + length (after_spaces bs) = ap length (spaces_split bs)
+    ∙ length-append (spaces bs) (after_spaces bs) in
+    omega arith

@@ -3,6 +3,7 @@ pub mod Ascii
 pub mod Finds
 pub mod Firsts
 pub mod Guesses
+pub mod Lines
 pub mod Pieces
 pub mod Places
 pub mod Runs

@@ -10,7 +10,7 @@ use Rattle.c_lex.specs.declared.piece.Comment.{Comment}
 use Rattle.c_lex.specs.declared.piece.Comment.TheVariants as comment
 use Rattle.c_lex.specs.declared.piece.Reading.{Reading}
 use Rattle.c_lex.specs.declared.piece.Reading.TheVariants as reads
-use Rattle.c_lex.specs.Bytes.{Bytes, empty_after}
+use Rattle.c_lex.specs.Bytes.{Bytes, empty_after, is_white}
 use Rattle.c_lex.specs.Pieces.{NoPiece, begins_with, word_form}
 use Rattle.c_lex.specs.inside.Pieces.{Front}
 use Rattle.c_lex.specs.Tables.{lookup, keywords}
@@ -66,6 +66,8 @@ pub record IsComment (starts : Bool) (text : Bytes) (n : ℕ) : Type 0 where
   pub front : IsFront starts text (found n reads.Gap)
   -- its line is not empty behind it
   pub filled : empty_after starts (take n text) ≡ false
+  -- and a directive's line does not end with it
+  pub solid : is_white (take n text) ≡ false
 
 -- the longest mark is found, if one stands there
 abbrev pub Marks : Bytes → Option Found → Type 0

@@ -7,10 +7,13 @@ use Rattle.c_tree.specs.declared.Kind.{Kind}
 use Rattle.c_tree.specs.declared.Kind.TheVariants.{Int}
 use Rattle.c_tree.specs.declared.Mark.{Mark}
 use Rattle.c_lex.specs.declared.number.Suffix.{Suffix}
+use Rattle.c_lex.specs.declared.directive.DirectiveKind.{DirectiveKind}
+use Rattle.c_lex.specs.declared.directive.Header.{Header}
+use Rattle.c_lex.specs.Directives.{words, headers}
 use Rattle.c_lex.specs.Ascii as ascii
 use Rattle.c_lex.specs.inside.Ascii as inside_ascii
-use Rattle.c_lex.specs.Bytes.{Bytes, by_class, is_blank, is_digit}
-use Rattle.c_lex.specs.inside.Runs.{run_len}
+use Rattle.c_lex.specs.Bytes.{Bytes, by_class, is_blank, is_digit, is_word}
+use Rattle.c_lex.specs.inside.Runs.{run_len, not_blank}
 use Rattle.c_lex.specs.Tables.{lookup, marks}
 use Rattle.c_lex.specs.Constants.{is_digit_in, is_x, number_of, suffix_of, may_be, first_holding}
 use Rattle.c_lex.specs.Constants.{is_plain, simple, worth}
@@ -57,13 +60,29 @@ abbrev pub is_empty : Bytes → Bool
 is_empty [] = true
 is_empty (b ∷ bs) = false
 
--- Is the line the include line, after its `#`?
-abbrev pub is_include : Bytes → Bool
-is_include line =
+-- the header that an include line names, behind its `#`
+abbrev pub include_at : Bytes → Option Header
+include_at line =
     let a = after_blanks line in
     let b = after_blanks (drop 7 a) in
-    strips (codes "include") a
-    && (strips (codes "<stdio.h>") b && is_empty (after_blanks (drop 9 b)))
+    let n = run_len (by_class not_blank) 0 b in
+    if strips (codes "include") a && is_empty (after_blanks (drop n b)) then lookup (take n b) headers else None
+
+-- the first word of a line behind its blanks
+abbrev pub first_word : Bytes → Bytes
+first_word line =
+    let a = after_blanks line in take (run_len (by_class is_word) 0 a) a
+
+-- a directive with so many bytes
+abbrev pub with_length : ℕ → Option DirectiveKind → Option (ℕ × DirectiveKind)
+with_length n None = None
+with_length n (Some k) = Some (n, k)
+
+-- the directive that a line behind its `#` begins with, and how many bytes that takes
+abbrev pub directive_at : Bytes → Option (ℕ × DirectiveKind)
+directive_at line =
+    with_length (run_len (by_class is_blank) 0 line + run_len (by_class is_word) 0 (after_blanks line))
+    (lookup (first_word line) words)
 
 -- a character of so many bytes, where the closing `'` follows
 abbrev pub if_closed : ℕ → ℕ → Bytes → Option (ℕ × ℕ)

@@ -10,8 +10,8 @@ use Rattle.c_lex.proofs.Found.{only_found, other_nothing}
 use Rattle.c_lex.proofs.ReadSoFar.{byte_stops}
 use Rattle.c_lex.proofs.lexer.Lexer.by_first.Goals as goal
 
-pub pass_spaces-requires-clause-begins : goal.pass_spaces-requires-clause-begins
-pass_spaces-requires-clause-begins c =
+pub white-requires-clause-begins : goal.white-requires-clause-begins
+white-requires-clause-begins c =
     ap (λ (t : Bytes). has_space (spaces t)) c.requires.same
     ∙ space_there c.args.first c.args.rest.now
     (class_is c.args.first first.Space (sym c.in-Space.is ∙ c.requires.class))

@@ -1,4 +1,5 @@
-use Rattle.std.proofs.Common.{◌≡◌, Some, None, take, sym, ap, ◌∙◌, subst}
+use Rattle.c_lex.specs.Directives.{is_directive}
+use Rattle.std.proofs.Common.{◌≡◌, false, Some, None, take, sym, ap, ◌∙◌, subst}
 use Rattle.c_tree.specs.declared.Form.{Form}
 use Rattle.c_tree.specs.declared.Form.TheVariants as form
 use Rattle.c_lex.specs.declared.piece.Reading.TheVariants as reads
@@ -27,3 +28,8 @@ keep-requires-in-None-clause-front c =
     (ap (word_form word) no_key
     ∙ ap (λ (w : Bytes). form.Name w) (sym (c.in_ok-name-in-None.ensures.ok ∙ c.split_at.ensures.front)))
     c.requires.front
+
+pub keep-requires-in-None-clause-plain : goal.keep-requires-in-None-clause-plain
+keep-requires-in-None-clause-plain c =
+    subst (λ (w : Bytes). is_directive (form.Name w) ≡ false)
+    (sym (c.in_ok-name-in-None.ensures.ok ∙ c.split_at.ensures.front)) c.requires.plain

@@ -1,4 +1,4 @@
-use Rattle.std.proofs.Common.{◌≡◌, ◌≤◌, ◌+◌, min, length, vec_capacity, refl, ap, arith}
+use Rattle.std.proofs.Common.{Bool, ◌≡◌, ◌≤◌, ◌+◌, min, length, vec_capacity, refl, ap, arith}
 use Rattle.c_lex.specs.inside.Places.{place}
 use Rattle.c_lex.specs.inside.Spaces.{after_spaces}
 use Rattle.c_lex.proofs.Spaces.{passed}
@@ -7,8 +7,9 @@ use Rattle.c_lex.proofs.lexer.Lexer.pass_spaces.Goals as goal
 
 pub returns-clause-moved : goal.returns-clause-moved
 returns-clause-moved c =
-    passed 8192 (place c.args.self.now) _ c.requires.begins c.after_spaces-offset.ensures.offset
-    c.after_spaces-offset.ensures.starts c.after_spaces-offset.ensures.rest refl
+    passed 8192 (place c.args.self.now) _ c.requires.begins c.requires.within c.after_spaces-offset.ensures.offset
+    (ap (λ (v : Bool). record { starts = v; directs = c.args.self.now.directs }) c.after_spaces-offset.ensures.starts)
+    c.after_spaces-offset.ensures.rest refl
 
 pub returns-clause-room : goal.returns-clause-room
 returns-clause-room c =

@@ -1,4 +1,4 @@
-use Rattle.std.proofs.Common.{◌≡◌, true, sym, ap, ◌∙◌}
+use Rattle.std.proofs.Common.{sym, ap, ◌∙◌}
 use Rattle.c_lex.specs.Bytes.{Bytes, has_space}
 use Rattle.c_lex.specs.inside.Places.{place}
 use Rattle.c_lex.specs.inside.Spaces.{spaces}
@@ -13,7 +13,7 @@ returns-then-not-feed_and_space-clause-turned c =
     (splice_nothing c.args.self.now.starts c.args.self.now.rest.now c.args.rest.now c.requires.same
     (sym c.feed_and_space.ensures ∙ c.if-not-feed_and_space.true))
 
-pub pass_spaces-requires-clause-begins : goal.pass_spaces-requires-clause-begins
-pass_spaces-requires-clause-begins c =
+pub white-requires-clause-begins : goal.white-requires-clause-begins
+white-requires-clause-begins c =
     ap (λ (t : Bytes). has_space (spaces t)) c.requires.same ∙ splice_there c.args.rest.now
     ∙ sym c.feed_and_space.ensures ∙ c.if-not-feed_and_space.false
