@@ -10,6 +10,7 @@ pub mod Scan
 pub mod Trees
 pub mod Forms
 pub mod Lines
+pub mod PlainTokens
 pub mod Lexed
 pub mod Parsed
 pub mod Names

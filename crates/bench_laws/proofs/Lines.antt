@@ -116,7 +116,7 @@ number_run (d ∷ ds) last c rest e n =
 joined : {a b c : Bytes} {fs gs : List Form} → Line a fs b → Line b gs c → Line a (fs ++ gs) c
 joined stop y = y
 joined (pass l x) y = pass l (joined x y)
-joined (read l x) y = read l (joined x y)
+joined (read l n x) y = read l n (joined x y)
 
 -- what a scan finds
 found : (n : ℕ) (text : Bytes) (fs : List Form) (rest : Bytes) → scan n text ≡ (fs, rest) → Line text fs rest
@@ -155,7 +155,7 @@ name_line w c rest more fs e s none x =
     (reads.Token (word_form (102 ∷ w) (lookup (102 ∷ w) keywords)))) (drop-append_seam w (c ∷ rest))
     (subst (λ (t : Bytes). Longest starts (102 ∷ bs) (102 ∷ t) (drop (length w) bs)
     (reads.Token (word_form (102 ∷ t) (lookup (102 ∷ t) keywords)))) (take-append_seam w (c ∷ rest)) (a starts))) in
-    read b x
+    read b refl x
 
 -- a number behind a blank, before a byte with which no number goes on
 number_line : (w : Bytes) (v c : ℕ) (k : Kind) (rest more : Bytes) (fs : List Form) → is_numeral w ≡ true
@@ -181,7 +181,7 @@ number_line (d ∷ ds) v c k rest more fs e s is x =
     (a starts)) in
     blank d bs more _
     (solid d bs (not_true (is_space d || nat_eq d 92) (and_left (not (is_space d || nat_eq d 92)) _ e)))
-    (read b x)
+    (read b refl x)
 
 -- LINES
 

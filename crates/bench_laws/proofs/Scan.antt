@@ -1,18 +1,17 @@
 -- A line of a text, piece by piece: a scan that can be computed, and that it cuts the text as the definition of the
 -- lexer does.
-use Rattle.std.proofs.Common.{◌≡◌, ◌<◌, ◌≤◌, ℕ, zero, suc, ◌+◌, Bool, true, false, cond, if◌then◌else◌, ◌||◌, ◌&&◌}
+use Rattle.std.proofs.Common.{◌≡◌, ◌≤◌, ℕ, zero, suc, ◌+◌, Bool, true, false, cond, if◌then◌else◌, ◌||◌, ◌&&◌}
 use Rattle.std.proofs.Common.{not, List}
-use Rattle.std.proofs.Common.{[], ◌∷◌, ◌++◌, map, length, take, drop, Option, Some, None, refl, sym, ap, ◌∙◌}
+use Rattle.std.proofs.Common.{[], ◌∷◌, ◌++◌, length, take, drop, Option, Some, None, refl, sym, ◌∙◌}
 use Rattle.std.proofs.Common.{subst, arith}
-use Rattle.std.proofs.Common.{nat_eq, get_or}
+use Rattle.std.proofs.Common.{nat_eq}
 use Rattle.c_tree.specs.declared.Form.{Form}
 use Rattle.c_tree.specs.declared.Form.TheVariants as form
 use Rattle.c_tree.specs.declared.Kind.{Kind}
 use Rattle.c_tree.specs.declared.Mark.{Mark}
-use Rattle.c_lex.specs.declared.piece.Reading.{Reading}
 use Rattle.c_lex.specs.declared.piece.Reading.TheVariants as reads
 use Rattle.c_lex.specs.Bytes.{Bytes, by_class, is_space, is_letter, is_word, is_digit, in_number, is_feed}
-use Rattle.c_lex.specs.Bytes.{in_white, empty_after}
+use Rattle.c_lex.specs.Bytes.{in_white}
 use Rattle.c_lex.specs.inside.Spaces.{spaces}
 use Rattle.c_lex.specs.inside.Runs.{run_len}
 use Rattle.c_lex.specs.Tables.{lookup, keywords, marks}
@@ -20,7 +19,11 @@ use Rattle.c_lex.specs.inside.Firsts.{none_longer}
 use Rattle.c_lex.specs.inside.Scans.{constant_of, mark_of, goes_on}
 use Rattle.c_lex.specs.Pieces.{Longest, word_form, begins_with}
 use Rattle.c_lex.specs.inside.Pieces.{Front}
-use Rattle.c_lex.specs.Lexes.{Cut, here, space, next}
+use Rattle.c_tree.specs.declared.Key.{Key}
+use Rattle.c_lex.specs.Lexes.{Cut, here, space, next, past_gap, past_token}
+use Rattle.c_lex.specs.Lexes as state
+use Rattle.c_lex.specs.Directives.{is_directive}
+use Rattle.c_lex.proofs.Directives.{letter_plain}
 use Rattle.c_lex.proofs.Fronts.{space_front, word_front, number_front}
 use Rattle.c_lex.proofs.Marks.{mark_front, only_longest, mark_ends}
 use Rattle.c_lex.proofs.Numbers.{constant_is}
@@ -103,7 +106,7 @@ scan (suc n) text = behind (scan n) text (on_line text (step text))
 abbrev Right : Bytes → Step → Type 0
 Right text unknown = Unit {0}
 Right text (gap n) = (starts : Bool) → Front starts text n reads.Gap
-Right text (piece n f) = (starts : Bool) → Front starts text n (reads.Token f)
+Right text (piece n f) = ((starts : Bool) → Front starts text n (reads.Token f)) × (is_directive f ≡ false)
 
 number_right : (b : ℕ) (bs : Bytes) → is_digit b ≡ true → Right (b ∷ bs) (number_step b bs)
 number_right b bs d = go (constant_of (b ∷ take (run_len in_number b bs) bs)) refl
@@ -111,8 +114,10 @@ number_right b bs d = go (constant_of (b ∷ take (run_len in_number b bs) bs)) 
     go : (o : Option (ℕ × Kind)) → constant_of (b ∷ take (run_len in_number b bs) bs) ≡ o
         → Right (b ∷ bs) (by_constant (run_len in_number b bs) o)
     go None e = tt
-    go (Some c) e = λ starts.
-        number_front starts b bs c.0 c.1 d (constant_is (b ∷ take (run_len in_number b bs) bs) c.0 c.1 e)
+    go (Some c) e = (
+      λ starts. number_front starts b bs c.0 c.1 d (constant_is (b ∷ take (run_len in_number b bs) bs) c.0 c.1 e),
+      refl,
+    )
 
 mark_right : (b : ℕ) (bs : Bytes) → nat_eq b 47 ≡ false → Right (b ∷ bs) (mark_step b bs)
 mark_right b [] s = go (lookup (b ∷ []) marks)
@@ -128,14 +133,22 @@ mark_right b (c ∷ cs) s = go (lookup (b ∷ []) marks) refl (none_longer b mar
     go : (o : Option Mark) → lookup (b ∷ []) marks ≡ o → (x : Bool) → none_longer b marks ≡ x → (y : Bool)
         → goes_on c ≡ y → Right (b ∷ c ∷ cs) (by_mark o (x || not y))
     go None e x f y g = tt
-    go (Some m) e true f y g = λ starts.
-        mark_front starts b (c ∷ cs) 1 m (only_longest b (c ∷ cs) m e f) (no_slash 47) (no_slash 42)
+    go (Some m) e true f y g = (
+      λ starts. mark_front starts b (c ∷ cs) 1 m (only_longest b (c ∷ cs) m e f) (no_slash 47) (no_slash 42),
+      refl,
+    )
     go (Some m) e false f true g = tt
-    go (Some m) e false f false g = λ starts.
+    go (Some m) e false f false g =
         let long : 2 ≤ length (b ∷ c ∷ cs) =
         (let l : length (b ∷ c ∷ cs) ≡ suc (suc (length cs)) = refl in omega arith) in
         let one : mark_of (b ∷ c ∷ cs) ≡ Some (1, m) = sym (mark_ends (b ∷ c ∷ cs) long g) ∙ (rw e refl) in
-        mark_front starts b (c ∷ cs) 1 m one (no_slash 47) (no_slash 42)
+        (λ starts. mark_front starts b (c ∷ cs) 1 m one (no_slash 47) (no_slash 42), refl)
+
+-- a word is no directive
+word_plain : (b : ℕ) (w : Bytes) (o : Option Key) → is_letter b ≡ true
+    → is_directive (word_form (b ∷ w) o) ≡ false
+word_plain b w None e = letter_plain b w e
+word_plain b w (Some k) e = refl
 
 step_right : (text : Bytes) → Right text (step text)
 step_right [] = tt
@@ -159,7 +172,7 @@ step_right (b ∷ bs) = by_letter (is_letter b) refl
     by_letter : (v : Bool) → is_letter b ≡ v → Right (b ∷ bs) (cond v (word_step b bs) (cond (is_digit b)
         (number_step b bs) (cond (is_space b) (gap (suc (length (spaces bs))))
         (cond (nat_eq b 47) unknown (mark_step b bs)))))
-    by_letter true e = λ starts. word_front starts b bs e
+    by_letter true e = (λ starts. word_front starts b bs e, word_plain b _ _ e)
     by_letter false e = by_digit (is_digit b) refl
 
 -- LINES
@@ -170,7 +183,8 @@ pub data Line : Bytes → List Form → Bytes → Type 0 where
   pass : {text piece rest more : Bytes} {fs : List Form}
       → ((starts : Bool) → Longest starts text piece rest reads.Gap) → Line rest fs more → Line text fs more
   read : {text piece rest more : Bytes} {f : Form} {fs : List Form}
-      → ((starts : Bool) → Longest starts text piece rest (reads.Token f)) → Line rest fs more
+      → ((starts : Bool) → Longest starts text piece rest (reads.Token f)) → is_directive f ≡ false
+      → Line rest fs more
       → Line text (f ∷ fs) more
 
 -- what is scanned is cut so
@@ -186,10 +200,11 @@ scan_line (suc n) text = go (scan_line n) (step text) (step_right text)
     gaps more k r false e = stop
 
     pieces : ((t : Bytes) → Line t (scan n t).0 (scan n t).1) → (k : ℕ) (f : Form)
-        → ((starts : Bool) → Front starts text k (reads.Token f)) → (v : Bool) → is_quiet (take k text) ≡ v
+        → ((starts : Bool) → Front starts text k (reads.Token f)) × (is_directive f ≡ false) → (v : Bool)
+        → is_quiet (take k text) ≡ v
         → Line text (behind (scan n) text (cond v (piece k f) unknown)).0
         (behind (scan n) text (cond v (piece k f) unknown)).1
-    pieces more k f r true e = read r (more (drop k text))
+    pieces more k f r true e = read r.0 r.1 (more (drop k text))
     pieces more k f r false e = stop
 
     go : ((t : Bytes) → Line t (scan n t).0 (scan n t).1) → (s : Step) → Right text s
@@ -200,14 +215,16 @@ scan_line (suc n) text = go (scan_line n) (step text) (step_right text)
 
 -- OFFSETS
 
--- behind some bytes the text is cut into tokens of these forms up to the rest
-pub record Reaches (starts : Bool) (before text : Bytes) (fs : List Form) (rest : Bytes) : Type 0 where
+-- behind some bytes, on no directive's line, the text is cut into tokens of these forms up to the rest
+pub record Reaches (l : state.Line) (before text : Bytes) (fs : List Form) (rest : Bytes) : Type 0 where
   pub offsets : ℕ → ℕ
-  -- is the line empty before the rest?
-  pub ends : Bool
+  -- how the line stands before the rest
+  pub ends : state.Line
+  -- which is no directive's
+  pub plain : ends.directs ≡ false
   -- what then stands before the rest
   pub passed : Bytes
-  pub cut : Cut starts before text (line_of offsets fs) ends passed rest
+  pub cut : Cut l before text (line_of offsets fs) ends passed rest
 
 -- an offset, and those behind it
 abbrev one_more : ℕ → (ℕ → ℕ) → ℕ → ℕ
@@ -215,33 +232,46 @@ one_more n l zero = n
 one_more n l (suc j) = l j
 
 -- a line is cut so, wherever it stands
-pub line_cuts : (text rest : Bytes) (fs : List Form) → Line text fs rest → (starts : Bool) (before : Bytes)
-    → Reaches starts before text fs rest
-line_cuts text rest fs stop starts before =
-    record { offsets = λ j. 0; ends = starts; passed = before; cut = here }
-line_cuts text rest fs (pass {piece = p} {rest = r} g x) starts before =
-    let y = line_cuts r rest fs x (empty_after starts p) (before ++ p) in
-    record { offsets = y.offsets; ends = y.ends; passed = y.passed; cut = space (g starts) y.cut }
-line_cuts text rest fs (read {piece = p} {rest = r} {f = f} {fs = gs} g x) starts before =
-    let y = line_cuts r rest gs x (empty_after starts p) (before ++ p) in
+pub line_cuts : (text rest : Bytes) (fs : List Form) → Line text fs rest → (l : state.Line) (before : Bytes)
+    → l.directs ≡ false → Reaches l before text fs rest
+line_cuts text rest fs stop l before d =
+    record { offsets = λ j. 0; ends = l; plain = d; passed = before; cut = here }
+line_cuts text rest fs (pass {piece = p} {rest = r} g x) l before d =
+    let y = line_cuts r rest fs x (past_gap l p) (before ++ p) (rw d refl) in
+    record {
+      offsets = y.offsets;
+      ends = y.ends;
+      plain = y.plain;
+      passed = y.passed;
+      cut = space (g l.starts) (rw d refl) y.cut;
+    }
+line_cuts text rest fs (read {piece = p} {rest = r} {f = f} {fs = gs} g n x) l before d =
+    let y = line_cuts r rest gs x (past_token l p f) (before ++ p) (rw (d, n) refl) in
     record {
       offsets = one_more (length before) y.offsets;
       ends = y.ends;
+      plain = y.plain;
       passed = y.passed;
-      cut = next (g starts) y.cut;
+      cut = next (g l.starts) y.cut;
     }
 
 -- a line feed, and a line that begins with no white space
 pub feed_cuts : (b : ℕ) (bs rest : Bytes) (fs : List Form) → in_white b bs ≡ false → Line (b ∷ bs) fs rest
-    → (starts : Bool) (before : Bytes) → Reaches starts before (10 ∷ b ∷ bs) fs rest
-feed_cuts b bs rest fs s x starts before =
-    let g : Front starts (10 ∷ b ∷ bs) 1 reads.Gap =
-    subst (λ (v : Bool). Front starts (10 ∷ b ∷ bs) (suc (length (cond v (b ∷ spaces bs) []))) reads.Gap) s
-    (space_front starts 10 (b ∷ bs) refl) in
-    let y = line_cuts (b ∷ bs) rest fs x (empty_after starts (10 ∷ [])) (before ++ 10 ∷ []) in
-    record { offsets = y.offsets; ends = y.ends; passed = y.passed; cut = space g y.cut }
+    → (l : state.Line) (before : Bytes) → l.directs ≡ false → Reaches l before (10 ∷ b ∷ bs) fs rest
+feed_cuts b bs rest fs s x l before d =
+    let g : Front l.starts (10 ∷ b ∷ bs) 1 reads.Gap =
+    subst (λ (v : Bool). Front l.starts (10 ∷ b ∷ bs) (suc (length (cond v (b ∷ spaces bs) []))) reads.Gap) s
+    (space_front l.starts 10 (b ∷ bs) refl) in
+    let y = line_cuts (b ∷ bs) rest fs x (past_gap l (10 ∷ [])) (before ++ 10 ∷ []) (rw d refl) in
+    record {
+      offsets = y.offsets;
+      ends = y.ends;
+      plain = y.plain;
+      passed = y.passed;
+      cut = space g (rw d refl) y.cut;
+    }
 
 -- a line feed at the end is cut into no token
-pub last_cuts : (starts : Bool) (before : Bytes)
-    → Cut starts before (10 ∷ []) [] (empty_after starts (10 ∷ [])) (before ++ 10 ∷ []) []
-last_cuts starts before = space (space_front starts 10 [] refl) here
+pub last_cuts : (l : state.Line) (before : Bytes) → l.directs ≡ false
+    → Cut l before (10 ∷ []) [] (past_gap l (10 ∷ [])) (before ++ 10 ∷ []) []
+last_cuts l before d = space (space_front l.starts 10 [] refl) (rw d refl) here

@@ -44,6 +44,8 @@ use Rattle.c_compile_blocks.proofs.Emitted.{chunks_few, gives_emitted, sizes}
 use Rattle.c_compile_laws.specs.inside.Compiled.{IsCompiled}
 use Rattle.hyper_trim.specs.inside.Narrows.{Narrows}
 use Rattle.hyper_trim.proofs.Narrowing.{whole_narrows, whole_is}
+use Rattle.c_tree.specs.Limits.{most_tokens}
+use Rattle.c_pre.proofs.Texts.{lexed_few}
 use Rattle.c_compile.specs.inside.Flat.{IsFlatOf}
 
 -- the text's tokens leave room for the blocks of its program
@@ -51,7 +53,7 @@ pub few_blocks : (text : List ℕ) (F : Program) → IsFlatOf text F
     → 3 + code_blocks_of_all F.functions ≤ most_blocks
 few_blocks text F l =
     let b = l.blocks in
-    let f = (l.lexed).1 in
+    let f = lexed_few most_tokens text l.tokens l.lexed in
     omega (arith, b, f)
 
 -- the data lies in data memory

@@ -17,6 +17,8 @@ use Rattle.c_compile_laws.proofs.Bounds.{has_bounds}
 use Rattle.c_compile_laws.proofs.Compiled.{does_deep, does_finished, does_unfinished}
 use Rattle.c_compile_laws.proofs.EndedRuns.{ends_as, never_ends}
 use Rattle.c_compile_laws.proofs.Guards.{guards_small_ifs}
+use Rattle.c_tree.specs.Limits.{most_tokens}
+use Rattle.c_pre.proofs.Texts.{lexed_few}
 use Rattle.c_compile.specs.inside.Flat.{IsFlatOf}
 use Rattle.c_compile.specs.Images.{IsImageOf}
 use Rattle.c_compile.specs.inside.Images.{ImagesMeanTexts}
@@ -29,7 +31,7 @@ flat_means text p turns i o =
       most = most_of (source_of l.program);
       keeps = l.keeps;
       fits = l.fits;
-      few = (l.lexed).1;
+      few = lexed_few most_tokens text l.tokens l.lexed;
       short = l.most;
       blocks = l.blocks;
     }

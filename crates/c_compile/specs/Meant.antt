@@ -4,7 +4,7 @@ use Rattle.std.specs.Prelude.{ℕ, ◌*◌, List, length}
 use Rattle.trips_isa.specs.declared.block.Image.{Image}
 use Rattle.c_tree.specs.declared.typed.TypedProgram.{TypedProgram}
 use Rattle.c_tree.specs.Limits.{most_tokens}
-use Rattle.c_lex.specs.Lexes.{Tokens, Lexed}
+use Rattle.c_pre.specs.Texts.{Tokens, Lexed}
 use Rattle.c_front.specs.Fronts.{IsAccepted}
 use Rattle.c_compile_laws.specs.Runs.{DoesDeep, DoesFinished, DoesUnfinished, EndsAsEvaluated, NeverEnds}
 

@@ -1,13 +1,18 @@
 -- Every text is accepted or refused.
-use Rattle.std.proofs.Common.{◌≡◌, ◌⊎◌, inl, inr, ℕ, List, None, subst, sym}
+use Rattle.std.proofs.Common.{◌≡◌, ◌⊎◌, inl, inr, ℕ, List, None, refl, subst, sym}
+use Rattle.std.specs.Prelude.{Result, Ok, Err}
 use Rattle.c_tree.specs.declared.tree.Program.{Program}
 use Rattle.c_tree.specs.declared.typed.TypedProgram.{TypedProgram}
 use Rattle.c_lex.specs.declared.fault.LexFault.TheVariants as lex
-use Rattle.c_lex.specs.Lexes.{Tokens, Lexed}
+use Rattle.c_lex.specs.Lexes as raw
+use Rattle.c_lex.specs.Lexes.{Tokens}
 use Rattle.c_lex.specs.Faults.{Fault, FaultAt}
 use Rattle.c_lex.specs.Faults as lexical
 use Rattle.c_lex.specs.inside.Answers.{Answered}
 use Rattle.c_lex.proofs.Answered.{answered}
+use Rattle.c_pre.specs.declared.fault.PreFault.{PreFault}
+use Rattle.c_pre.specs.Programs.{program}
+use Rattle.c_pre.specs.Texts.{Lexed}
 use Rattle.c_grammar.specs.inside.Answers.{Answer, tree, syntax, too_deep, Answers}
 use Rattle.c_grammar.proofs.OneAnswer.{one_answer}
 use Rattle.c_parse.specs.declared.unit.ParseFault.TheVariants as parse
@@ -17,7 +22,7 @@ use Rattle.c_type_rules.proofs.Decided.{decided}
 use Rattle.c_type_rules.proofs.GoodUnits.{unit_good}
 use Rattle.c_type_rules.proofs.UnitsComplete.{accepts_typed}
 use Rattle.c_front.specs.declared.refusal.Refusal.{Refusal}
-use Rattle.c_front.specs.declared.refusal.Refusal.TheVariants.{Lex, Parse, Typing, Memory}
+use Rattle.c_front.specs.declared.refusal.Refusal.TheVariants.{Lex, Directive, Parse, Typing, Memory}
 use Rattle.c_tree.specs.Limits.{most_tokens}
 use Rattle.c_front.specs.Fronts.{HasTree, HasTypes, IsAccepted}
 use Rattle.c_front.specs.Refusals.{IsRefused}
@@ -43,6 +48,12 @@ by_grammar text tokens l (tree xs) h = by_typing text (record { items = xs }) (t
 by_grammar text tokens l (syntax n) h = inr (Parse (parse.Syntax n), (tokens, l, h))
 by_grammar text tokens l (too_deep n) h = inr (Parse (parse.TooDeep n), (tokens, l, h))
 
+-- a text with raw tokens is refused by its directives, or goes on
+by_directives : (text : List ℕ) (tokens : Tokens) → raw.Lexed most_tokens text tokens → (m : Result Tokens PreFault)
+    → program most_tokens tokens ≡ m → Answering text
+by_directives text tokens l (Ok ts) e = let a = one_answer ts in by_grammar text ts (tokens, l, e) a.0 a.1
+by_directives text tokens l (Err f) e = inr (Directive f, (tokens, l, e))
+
 -- a text without tokens is refused by the lexer
 by_lexer : (text : List ℕ) (f : Fault) (n : ℕ) → FaultAt most_tokens text f n → Answering text
 by_lexer text lexical.BadByte n h = inr (Lex (lex.BadByte n), h)
@@ -52,7 +63,7 @@ by_lexer text lexical.TooManyTokens n h = inr (Lex (lex.TooManyTokens n), h)
 by_lexer text lexical.Directive n h = inr (Lex (lex.Directive n), h)
 
 by_tokens : (text : List ℕ) → Answered most_tokens text → Answering text
-by_tokens text (inl x) = let a = one_answer x.0 in by_grammar text x.0 x.1 a.0 a.1
+by_tokens text (inl x) = by_directives text x.0 x.1 (program most_tokens x.0) refl
 by_tokens text (inr x) = by_lexer text x.0 x.1 x.2
 
 -- every text is accepted or refused
@@ -79,5 +90,6 @@ has_no_types p (Typing (typing.Need l)) h = unit_good p (typing.Need l) h
 has_no_types p (Typing (typing.TooLarge l)) h = unit_good p (typing.TooLarge l) h
 has_no_types p (Typing typing.Memory) h = absurd h
 has_no_types p (Lex e) h = absurd h
+has_no_types p (Directive e) h = absurd h
 has_no_types p (Parse e) h = absurd h
 has_no_types p Memory h = tt

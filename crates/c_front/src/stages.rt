@@ -1,6 +1,6 @@
 ghost use Rattle.std.specs.Prelude.{◌≡◌, ◌<◌, length, None, IfOk, IfErr};
-ghost use Rattle.c_lex.specs.Lexes.{Lexed};
 ghost use Rattle.c_tree.specs.Limits.{most_tokens};
+ghost use Rattle.c_pre.specs.Texts.{Lexed};
 ghost use Rattle.c_front.specs.Fronts.{HasTree, HasTypes, IsAccepted};
 ghost use Rattle.c_front.specs.Refusals.{MayBeRefused};
 ghost use Rattle.c_front.specs.inside.Refusals.{MayHaveNoTypes};
@@ -10,6 +10,7 @@ ghost use Rattle.c_type.specs.inside.Programs.{program_fault, program_tree};
 use crate::refusal::Refusal;
 use c_lex::{LexFault, lex};
 use c_parse::{ParseFault, parse};
+use c_pre::{PreFault, program};
 use c_tree::{Lexeme, Program, TypedProgram};
 use c_type::{TypeFault, type_program};
 use std::alloc::Global;
@@ -20,13 +21,17 @@ fn tokens_of(alloc: Global, text: &[u8]) -> Result<Vec<Lexeme>, Refusal>
     ensures err { IfErr result (MayBeRefused text.now) }
 {
     match lex(alloc, text) {
-        Ok(tokens) => Ok(tokens),
+        Ok(raw) => match program(alloc, raw) {
+            Ok(tokens) => Ok(tokens),
+            Err(PreFault::Memory) => Err(Refusal::Memory),
+            Err(fault) => Err(Refusal::Directive(fault)),
+        },
         Err(LexFault::Memory) => Err(Refusal::Memory),
         Err(fault) => Err(Refusal::Lex(fault)),
     }
 }
 
-/// The tree of a text, or the refusal of the lexer or the parser.
+/// The tree of a text, or the refusal of the lexer, the preprocessor or the parser.
 pub fn read(alloc: Global, text: &[u8]) -> Result<Program, Refusal>
     requires short { length text.now < 4_294_967_295 }
     ensures ok { IfOk result (HasTree text.now) }

@@ -1,4 +1,4 @@
-//! The rows of the lexer, the parser and the typing, as tests.
+//! The rows of the lexer, the directives, the parser and the typing, as tests.
 #![tactic(auto)]
 
 #[cfg(test)]
@@ -9,6 +9,10 @@ mod lex_tests;
 mod parse_rows;
 #[cfg(test)]
 mod parse_tests;
+#[cfg(test)]
+mod pre_rows;
+#[cfg(test)]
+mod pre_tests;
 #[cfg(test)]
 mod type_constant_rows;
 #[cfg(test)]

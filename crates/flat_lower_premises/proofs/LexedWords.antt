@@ -1,4 +1,4 @@
--- The numbers of a text's tokens are words of their types.
+-- The numbers of a text's raw tokens are words of their types.
 use Rattle.std.proofs.Common.{◌≡◌, ℕ, ◌+◌, ◌-◌, ◌^◌, ◌<◌, ◌≤◌, Bool, true, false, cond}
 use Rattle.std.proofs.Common.{List, [], ◌∷◌, Option, Some, None, refl, subst, arith}
 use Rattle.std.specs.Prelude.{nat_lt, nat_eq, not, ◌&&◌, ◌||◌}
@@ -10,12 +10,15 @@ use Rattle.c_lex.specs.declared.piece.Reading.{Reading}
 use Rattle.c_lex.specs.declared.piece.Reading.TheVariants as reads
 use Rattle.c_lex.specs.Ascii as ascii
 use Rattle.c_lex.specs.Bytes.{Bytes, within}
-use Rattle.c_lex.specs.Constants.{limit, first_holding, Constant, Character, signed_char, simple}
+use Rattle.c_lex.specs.Constants.{limit, first_holding, Character, signed_char, simple}
 use Rattle.c_lex.specs.Constants.{is_plain}
 use Rattle.c_lex.specs.Constants as character
+use Rattle.c_lex.specs.declared.directive.Header.{Header}
+use Rattle.c_lex.specs.declared.directive.Header.TheVariants.{Stdio, Limits, Stdbool, Stddef, Stdlib, String}
+use Rattle.c_lex.specs.Directives.{header_form}
 use Rattle.c_lex.specs.Pieces.{Piece, word_form}
 use Rattle.c_lex.specs.Pieces as piece
-use Rattle.c_lex.specs.Lexes.{Tokens, Cut, Lexed}
+use Rattle.c_lex.specs.Lexes.{Tokens, Line, Cut, Lexed}
 use Rattle.c_lex.specs.Lexes as cut
 use Rattle.c_constant.specs.Kinds.{IsWord}
 use Rattle.flat_lower_premises.specs.inside.Words.{FormHasWord, TokensHaveWords}
@@ -108,6 +111,14 @@ word_has : (p : Bytes) (o : Option Key) → FormHasWord (word_form p o)
 word_has p None = tt
 word_has p (Some k) = tt
 
+header_has : (h : Header) → FormHasWord (header_form h)
+header_has Stdio = tt
+header_has Limits = tt
+header_has Stdbool = tt
+header_has Stddef = tt
+header_has Stdlib = tt
+header_has String = tt
+
 piece_has : (starts : Bool) (p : Bytes) (r : Reading) → Piece starts p r → ReadingHasWord r
 piece_has starts p _ (piece.space w h) = tt
 piece_has starts p _ (piece.line_comment e h) = tt
@@ -120,16 +131,18 @@ piece_has starts p _ (piece.bad_number e h g n) = tt
 piece_has starts p _ (piece.character {v = v} c e h) = signed_is v (character_low c v h)
 piece_has starts p _ (piece.quote e) = tt
 piece_has starts p _ (piece.mark e) = tt
-piece_has starts p _ (piece.include s e h) = tt
-piece_has starts p _ (piece.other_line s e h n) = tt
+piece_has starts p _ (piece.include {h = h} s e i) = header_has h
+piece_has starts p _ (piece.directive s e h) = tt
+piece_has starts p _ (piece.other_line s e h n o) = tt
 
-cut_has : {s s' : Bool} (before text after : Bytes) (rest : Bytes) (ts : Tokens)
-    → Cut s before text ts s' after rest → TokensHaveWords ts
+cut_has : {l l' : Line} (before text after : Bytes) (rest : Bytes) (ts : Tokens)
+    → Cut l before text ts l' after rest → TokensHaveWords ts
 cut_has before text after rest _ cut.here = tt
-cut_has before text after rest ts (cut.space l c) = cut_has _ _ after rest ts c
+cut_has before text after rest ts (cut.space l e c) = cut_has _ _ after rest ts c
+cut_has before text after rest _ (cut.close {ts = ts} l e c) = (tt, cut_has _ _ after rest ts c)
 cut_has before text after rest _ (cut.next {ts = ts} {f = f} l c) =
     (piece_has _ _ (reads.Token f) l.is, cut_has _ _ after rest ts c)
 
--- the numbers of a text's tokens are words of their types
-pub lexed_has : (most : ℕ) (text : Bytes) (ts : Tokens) → Lexed most text ts → TokensHaveWords ts
-lexed_has most text ts h = cut_has [] text text [] ts h.0.1
+-- the numbers of a text's raw tokens are words of their types
+pub raw_has : (most : ℕ) (text : Bytes) (ts : Tokens) → Lexed most text ts → TokensHaveWords ts
+raw_has most text ts h = cut_has [] text text [] ts h.0.1

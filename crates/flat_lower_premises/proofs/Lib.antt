@@ -9,6 +9,7 @@ pub mod FitStatements
 pub mod FitSwitches
 pub mod ItemWords
 pub mod LexedWords
+pub mod ProgramWords
 pub mod Named
 pub mod NodeNeeds
 pub mod SizeFacts

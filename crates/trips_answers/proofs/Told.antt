@@ -63,6 +63,7 @@ checked_good image checked = λ k d lt. (checked.each k d lt).good
 refusal_is : (text : List ℕ) (r : Refusal) → MayBeRefused text r → r ≢ stage.Memory
     → IsRefused text r
 refusal_is text (stage.Lex e) may some = may
+refusal_is text (stage.Directive e) may some = may
 refusal_is text (stage.Parse e) may some = may
 refusal_is text (stage.Typing e) may some = may
 refusal_is text stage.Memory may some = absurd (some refl)

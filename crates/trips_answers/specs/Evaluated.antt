@@ -7,7 +7,7 @@ use Rattle.trips_isa.specs.declared.run.Counts.{Counts}
 use Rattle.trips_isa.specs.Machine.{runs, start}
 use Rattle.grid_cycle_spec.specs.Costs.{cost_of}
 use Rattle.c_tree.specs.declared.typed.TypedProgram.{TypedProgram}
-use Rattle.c_lex.specs.Lexes.{Tokens, Lexed}
+use Rattle.c_pre.specs.Texts.{Tokens, Lexed}
 use Rattle.c_tree.specs.Limits.{most_tokens}
 use Rattle.c_front.specs.Fronts.{IsAccepted}
 use Rattle.c_meaning_spec.specs.declared.signal.Ending.TheVariants.{More, Undefined, Deep}

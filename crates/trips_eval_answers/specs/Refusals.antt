@@ -4,6 +4,8 @@ use Rattle.std.specs.Prelude.{ℕ, List, [], codes}
 use Rattle.c_lex.specs.Bytes.{line_of}
 use Rattle.c_lex.specs.declared.fault.LexFault.{LexFault}
 use Rattle.c_lex.specs.declared.fault.LexFault.TheVariants as lexical
+use Rattle.c_pre.specs.declared.fault.PreFault.{PreFault}
+use Rattle.c_pre.specs.declared.fault.PreFault.TheVariants as directive
 use Rattle.c_parse.specs.declared.unit.ParseFault.{ParseFault}
 use Rattle.c_parse.specs.declared.unit.ParseFault.TheVariants as parse
 use Rattle.c_type_expr.specs.declared.fault.TypeFault.{TypeFault}
@@ -20,6 +22,15 @@ lex_text text (lexical.Unclosed offset) = on_line (codes "refused lex 3 Unclosed
 lex_text text (lexical.TooManyTokens offset) = on_line (codes "refused lex 4 TooManyTokens") (line_of text offset)
 lex_text text (lexical.Directive offset) = on_line (codes "refused lex 5 Directive") (line_of text offset)
 lex_text text lexical.Memory = []
+
+-- of a text whose directives are refused
+abbrev pub pre_text : List ℕ → PreFault → List ℕ
+pre_text text (directive.Unbalanced offset) = on_line (codes "refused directive 1 Unbalanced") (line_of text offset)
+pre_text text (directive.Redefined offset) = on_line (codes "refused directive 2 Redefined") (line_of text offset)
+pre_text text (directive.BadDefine offset) = on_line (codes "refused directive 3 BadDefine") (line_of text offset)
+pre_text text (directive.TooManyTokens offset) =
+    on_line (codes "refused directive 4 TooManyTokens") (line_of text offset)
+pre_text text directive.Memory = []
 
 -- of a text whose tokens have no tree
 abbrev pub parse_text : List ℕ → ParseFault → List ℕ
@@ -43,6 +54,7 @@ type_text text typing.Memory = []
 -- of a text that the front end refuses
 abbrev pub front_refusal : List ℕ → Refusal → List ℕ
 front_refusal text (stage.Lex fault) = lex_text text fault
+front_refusal text (stage.Directive fault) = pre_text text fault
 front_refusal text (stage.Parse fault) = parse_text text fault
 front_refusal text (stage.Typing fault) = type_text text fault
 front_refusal text stage.Memory = []

@@ -2,13 +2,14 @@
 
 ghost use Rattle.std.specs.Prelude.{◌≡◌, ◌≢◌, ◌<◌, length, IfOk};
 ghost use Rattle.c_lex.specs.Bytes.{line_of};
-ghost use Rattle.trips_eval_answers.specs.Refusals.{lex_text, parse_text, type_text, front_refusal};
+ghost use Rattle.trips_eval_answers.specs.Refusals.{lex_text, pre_text, parse_text, type_text, front_refusal};
 ghost use Rattle.trips_eval_answers.specs.inside.Refusals.{IsFault};
 ghost use Rattle.trips_requests.specs.Texts.{IsFixed, on_line};
 
 use c_front::Refusal;
 use c_lex::{LexFault, line_of};
 use c_parse::ParseFault;
+use c_pre::PreFault;
 use c_type::TypeFault;
 use std::alloc::{AllocError, Global};
 use trips_requests::{Answer, Status, on_line};
@@ -39,6 +40,28 @@ fn lex_text(alloc: Global, text: &[u8], fault: LexFault) -> Result<Vec<u8>, Allo
         ),
         LexFault::Directive(offset) => placed(alloc, "refused lex 5 Directive", text, offset),
         LexFault::Memory => Err(AllocError),
+    }
+}
+
+// The refusal of a text whose directives are refused.
+fn pre_text(alloc: Global, text: &[u8], fault: PreFault) -> Result<Vec<u8>, AllocError>
+    requires short { length text.now < 4_294_967_295 }
+    ensures text { IfOk result (λ report. report.items ≡ pre_text text.now fault) }
+    ensures fault { IfOk result (λ _. fault ≢ PreFault.Memory) }
+{
+    match fault {
+        PreFault::Unbalanced(offset) => {
+            placed(alloc, "refused directive 1 Unbalanced", text, offset)
+        }
+        PreFault::Redefined(offset) => placed(alloc, "refused directive 2 Redefined", text, offset),
+        PreFault::BadDefine(offset) => placed(alloc, "refused directive 3 BadDefine", text, offset),
+        PreFault::TooManyTokens(offset) => placed(
+            alloc,
+            "refused directive 4 TooManyTokens",
+            text,
+            offset,
+        ),
+        PreFault::Memory => Err(AllocError),
     }
 }
 
@@ -96,6 +119,7 @@ fn front_report(alloc: Global, text: &[u8], refusal: Refusal) -> Result<Vec<u8>,
 {
     match refusal {
         Refusal::Lex(fault) => lex_text(alloc, text, fault),
+        Refusal::Directive(fault) => pre_text(alloc, text, fault),
         Refusal::Parse(fault) => parse_text(alloc, text, fault),
         Refusal::Typing(fault) => type_text(alloc, text, fault),
         Refusal::Memory => Err(AllocError),

@@ -5,11 +5,12 @@ use Rattle.std.proofs.lemmas.List.{append-nil}
 use Rattle.c_lex.specs.Lexes.{Tokens}
 use Rattle.c_type_expr.specs.declared.fault.TypeFault.{TypeFault}
 use Rattle.c_front.specs.declared.refusal.Refusal.{Refusal}
-use Rattle.c_front.specs.declared.refusal.Refusal.TheVariants.{Lex, Parse, Typing}
+use Rattle.c_front.specs.declared.refusal.Refusal.TheVariants.{Lex, Directive, Parse, Typing}
 use Rattle.c_front.specs.Fronts.{IsAccepted}
 use Rattle.c_front.specs.Refusals.{IsRefused}
 use Rattle.c_front.proofs.Once.{not_both, refused_once}
 use Rattle.c_lex.specs.declared.fault.LexFault.{LexFault}
+use Rattle.c_pre.specs.declared.fault.PreFault.{PreFault}
 use Rattle.c_parse.specs.declared.unit.ParseFault.{ParseFault}
 use Rattle.c_tree.specs.declared.typed.TypedProgram.{TypedProgram}
 use Rattle.trips_messages.specs.Mended.{mended}
@@ -23,6 +24,10 @@ accepted_next next o program is e refused = absurd (not_both next program (Typin
 -- nor has one of typing that another stage refuses
 pub lexer_next : (next : List ℕ) (o : ℕ) (f : LexFault) → IsRefused next (Lex f) → IsNext next o None
 lexer_next next o f is e refused = let same = refused_once next (Lex f) (Typing e) is refused in absurd (cc)
+
+pub directive_next : (next : List ℕ) (o : ℕ) (f : PreFault) → IsRefused next (Directive f) → IsNext next o None
+directive_next next o f is e refused =
+    let same = refused_once next (Directive f) (Typing e) is refused in absurd (cc)
 
 pub grammar_next : (next : List ℕ) (o : ℕ) (f : ParseFault) → IsRefused next (Parse f) → IsNext next o None
 grammar_next next o f is e refused = let same = refused_once next (Parse f) (Typing e) is refused in absurd (cc)

@@ -18,7 +18,7 @@ use Rattle.c_lex.specs.Lexes.{Tokens}
 use Rattle.c_type_expr.specs.declared.fault.TypeFault.{TypeFault}
 use Rattle.c_lex.proofs.Once.{lexes_once}
 use Rattle.c_front.specs.declared.refusal.Refusal.{Refusal}
-use Rattle.c_front.specs.declared.refusal.Refusal.TheVariants.{Lex, Parse, Typing, Memory}
+use Rattle.c_front.specs.declared.refusal.Refusal.TheVariants.{Lex, Directive, Parse, Typing, Memory}
 use Rattle.c_front.proofs.Once.{not_both, accepted_once, refused_once}
 use Rattle.trips_explain_answers.specs.declared.shape.Shape.{Shape}
 use Rattle.trips_explain_answers.specs.declared.shape.Shape.TheVariants.{Source, Target, Image as Picture}
@@ -40,6 +40,7 @@ use Rattle.trips_explain_answers.proofs.FurtherFacts.{more_once}
 -- a refusal sees one list of tokens
 seen_once : (r : Refusal) (text : List ℕ) (a b : Tokens) → IsSeen r text a → IsSeen r text b → a ≡ b
 seen_once (Lex e) text a b x y = x ∙ sym y
+seen_once (Directive e) text a b x y = lexes_once text a b x.0 y.0
 seen_once (Parse e) text a b x y = lexes_once text a b x.0 y.0
 seen_once (Typing e) text a b x y = lexes_once text a b x.0 y.0
 seen_once Memory text a b x y = lexes_once text a b x.0 y.0

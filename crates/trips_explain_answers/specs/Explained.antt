@@ -18,7 +18,7 @@ use Rattle.trips_explain_answers.specs.Files.{IsTargetRefusalTold, IsTargetAccep
 use Rattle.trips_explain_answers.specs.declared.shape.Shape.{Shape}
 use Rattle.trips_explain_answers.specs.declared.shape.Shape.TheVariants as shape
 
--- the tokens of a text, none where the lexer refuses it
+-- the raw tokens of a text, with those of directives, none where the lexer refuses it
 abbrev pub IsSeen : Refusal → List ℕ → Tokens → Type 0
 IsSeen (stage.Lex e) text ts = ts ≡ []
 IsSeen r text ts = Lexed most_tokens text ts

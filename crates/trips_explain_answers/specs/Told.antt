@@ -5,6 +5,8 @@ use Rattle.c_lex.specs.Bytes.{line_of}
 use Rattle.c_lex.specs.Lexes.{Tokens}
 use Rattle.c_lex.specs.declared.fault.LexFault.{LexFault}
 use Rattle.c_lex.specs.declared.fault.LexFault.TheVariants as lexical
+use Rattle.c_pre.specs.declared.fault.PreFault.{PreFault}
+use Rattle.c_pre.specs.declared.fault.PreFault.TheVariants as directive
 use Rattle.c_parse.specs.declared.unit.ParseFault.{ParseFault}
 use Rattle.c_parse.specs.declared.unit.ParseFault.TheVariants as parse
 use Rattle.c_type_expr.specs.declared.fault.TypeFault.{TypeFault}
@@ -28,6 +30,14 @@ lex_told file text ts (lexical.TooManyTokens offset) = placed file text ts fault
 lex_told file text ts (lexical.Directive offset) = placed file text ts fault.Directive offset
 lex_told file text ts lexical.Memory = []
 
+-- of a text whose directives are refused
+abbrev pub pre_told : List ℕ → List ℕ → Tokens → PreFault → List ℕ
+pre_told file text ts (directive.Unbalanced offset) = placed file text ts fault.Unbalanced offset
+pre_told file text ts (directive.Redefined offset) = placed file text ts fault.Redefined offset
+pre_told file text ts (directive.BadDefine offset) = placed file text ts fault.BadDefine offset
+pre_told file text ts (directive.TooManyTokens offset) = placed file text ts fault.TooManyReplaced offset
+pre_told file text ts directive.Memory = []
+
 -- of a text whose tokens have no tree
 abbrev pub parse_told : List ℕ → List ℕ → Tokens → ParseFault → List ℕ
 parse_told file text ts (parse.Syntax offset) = placed file text ts fault.Syntax offset
@@ -50,6 +60,7 @@ type_told file text ts typing.Memory = []
 -- of a text that the front end refuses
 abbrev pub refusal_told : List ℕ → List ℕ → Tokens → Refusal → List ℕ
 refusal_told file text ts (stage.Lex fault) = lex_told file text ts fault
+refusal_told file text ts (stage.Directive fault) = pre_told file text ts fault
 refusal_told file text ts (stage.Parse fault) = parse_told file text ts fault
 refusal_told file text ts (stage.Typing fault) = type_told file text ts fault
 refusal_told file text ts stage.Memory = []

@@ -66,6 +66,7 @@ fn refused_fault(refusal: Refusal, offset: u32) -> Result<Option<TypeFault>, All
 {
     match refusal {
         Refusal::Lex(_) => Ok(None),
+        Refusal::Directive(_) => Ok(None),
         Refusal::Parse(_) => Ok(None),
         Refusal::Typing(fault) => Ok(typing_fault(fault, offset)),
         Refusal::Memory => Err(AllocError),

@@ -1,11 +1,12 @@
 //! What is told of the refusals of texts of C, under the name of a file.
 
 ghost use Rattle.std.specs.Prelude.{◌≡◌, ◌≢◌, ◌<◌, length, IfOk};
-ghost use Rattle.trips_explain_answers.specs.Told.{placed, lex_told, parse_told, type_told, refusal_told};
+ghost use Rattle.trips_explain_answers.specs.Told.{placed, lex_told, pre_told, parse_told, type_told, refusal_told};
 
 use c_front::Refusal;
 use c_lex::{LexFault, line_of};
 use c_parse::ParseFault;
+use c_pre::PreFault;
 use c_tree::Lexeme;
 use c_type::TypeFault;
 use std::alloc::{AllocError, Global};
@@ -66,6 +67,40 @@ fn lex_told(
         ),
         LexFault::Directive(offset) => placed(alloc, file, text, tokens, Fault::Directive, offset),
         LexFault::Memory => Err(AllocError),
+    }
+}
+
+// Of a text whose directives are refused.
+fn pre_told(
+    alloc: Global,
+    file: &str,
+    text: &[u8],
+    tokens: &[Lexeme],
+    fault: PreFault,
+) -> Result<Vec<u8>, AllocError>
+    requires short { length text.now < 4_294_967_295 }
+    ensures text { IfOk result (λ report. report.items ≡ pre_told file.now text.now tokens.now fault) }
+{
+    match fault {
+        PreFault::Unbalanced(offset) => placed(
+            alloc,
+            file,
+            text,
+            tokens,
+            Fault::Unbalanced,
+            offset,
+        ),
+        PreFault::Redefined(offset) => placed(alloc, file, text, tokens, Fault::Redefined, offset),
+        PreFault::BadDefine(offset) => placed(alloc, file, text, tokens, Fault::BadDefine, offset),
+        PreFault::TooManyTokens(offset) => placed(
+            alloc,
+            file,
+            text,
+            tokens,
+            Fault::TooManyReplaced,
+            offset,
+        ),
+        PreFault::Memory => Err(AllocError),
     }
 }
 
@@ -136,6 +171,7 @@ pub fn refusal_told(
 {
     match refusal {
         Refusal::Lex(fault) => lex_told(alloc, file, text, tokens, fault),
+        Refusal::Directive(fault) => pre_told(alloc, file, text, tokens, fault),
         Refusal::Parse(fault) => parse_told(alloc, file, text, tokens, fault),
         Refusal::Typing(fault) => type_told(alloc, file, text, tokens, fault),
         Refusal::Memory => Err(AllocError),

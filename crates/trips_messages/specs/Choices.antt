@@ -5,7 +5,7 @@ use Rattle.trips_messages.specs.declared.fault.Fault.{Fault}
 use Rattle.trips_messages.specs.declared.fault.Fault.TheVariants as fault
 use Rattle.trips_messages.specs.declared.saying.Saying.{Saying}
 use Rattle.trips_messages.specs.declared.saying.Saying.TheVariants as says
-use Rattle.trips_messages.specs.Words.{is_other_byte, has_point, is_macro, is_header, is_conditional, is_aggregate}
+use Rattle.trips_messages.specs.Words.{is_other_byte, has_point, is_header, is_conditional, is_aggregate}
 use Rattle.trips_messages.specs.Words.{is_new_type, is_storage, is_qualifier, is_floating, is_size, is_declared}
 use Rattle.trips_messages.specs.Words.{is_reading, is_memory, is_general, is_leaving, is_label}
 
@@ -37,8 +37,7 @@ literal_saying word =
 -- of a line that begins with `#`
 abbrev pub directive_saying : List ℕ → Saying
 directive_saying word =
-    if is_macro word then says.Macro
-    else if is_header word then says.Header
+    if is_header word then says.Header
     else if is_conditional word then says.Conditional
     else says.OtherDirective
 
@@ -97,6 +96,10 @@ saying fault.BadLiteral word called = literal_saying word
 saying fault.Unclosed word called = says.Comment
 saying fault.TooManyTokens word called = says.Tokens
 saying fault.Directive word called = directive_saying word
+saying fault.Unbalanced word called = says.Group
+saying fault.Redefined word called = says.OtherBody
+saying fault.BadDefine word called = says.BadLine
+saying fault.TooManyReplaced word called = says.Replaced
 saying fault.Syntax word called = mark_saying word
 saying fault.TooDeep word called = says.Deep
 saying fault.Unknown word called = name_saying word called

@@ -25,6 +25,8 @@ marked front back = front ++ (back ++ (codes "\n" ++ (flat_map under front ++ co
 -- how many bytes the word at fault has: the whole line of a directive
 abbrev pub word_size : Fault → List ℕ → ℕ
 word_size fault.Directive rest = line_length rest
+word_size fault.Unbalanced rest = line_length rest
+word_size fault.BadDefine rest = line_length rest
 word_size _ rest = word_length rest
 
 -- a word as it is shown: a byte that is no character by its number

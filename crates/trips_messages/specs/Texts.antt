@@ -29,14 +29,12 @@ sentence says.Comment =
     codes "begins a comment without end: write */ behind it"
 sentence says.Tokens =
     codes "is the 8,193rd token, and a text may have 8,192: write loops and functions for what is repeated"
-sentence says.Macro =
-    codes "makes or removes a macro, which is left out: write the value itself, or a global variable"
 sentence says.Header =
     codes "includes no header that is here: write #include <stdio.h> or nothing, and define the rest in the text"
 sentence says.Conditional =
-    codes "chooses parts of a text, which is left out: write the part that is wanted"
+    codes "chooses parts of a text by an expression, which is left out: write #ifdef, or the part that is wanted"
 sentence says.OtherDirective =
-    codes "is no directive that is here: only #include <stdio.h> is"
+    codes "is no directive that is here: only #include, #define, #undef, #ifdef, #ifndef, #else and #endif are"
 sentence says.Aggregate =
     codes "is left out: write a variable for each member, and an array for each member of many"
 sentence says.NewType =
@@ -75,6 +73,14 @@ sentence says.NotHere =
     codes "does not stand here: look for a ; or a bracket that is missing before it, or behind it at the end"
 sentence says.Deep =
     codes "opens a construct at depth 65, and 64 is the most: use variables and functions"
+sentence says.Group =
+    codes "fits no group: write one #endif for each #ifdef and #ifndef, and one #else between at most"
+sentence says.OtherBody =
+    codes "gives a macro another body: write #undef before it, or another name"
+sentence says.BadLine =
+    codes "is no good line: write one name, for #define a space and the body behind it, and no parameters"
+sentence says.Replaced =
+    codes "makes more than 8,192 tokens with the names that are replaced: write loops and functions instead"
 sentence says.Library =
     codes "is not here: of the library there are getchar, putchar and EOF, so define the rest in the text"
 sentence says.Undeclared =
@@ -135,6 +141,10 @@ title fault.BadLiteral = codes "lex BadLiteral"
 title fault.Unclosed = codes "lex Unclosed"
 title fault.TooManyTokens = codes "lex TooManyTokens"
 title fault.Directive = codes "lex Directive"
+title fault.Unbalanced = codes "directive Unbalanced"
+title fault.Redefined = codes "directive Redefined"
+title fault.BadDefine = codes "directive BadDefine"
+title fault.TooManyReplaced = codes "directive TooManyTokens"
 title fault.Syntax = codes "parse Syntax"
 title fault.TooDeep = codes "parse TooDeep"
 title fault.Unknown = codes "type Unknown"

@@ -42,17 +42,13 @@ is_call (b ∷ bs) = nat_eq b 40
 abbrev pub begins : List ℕ → List ℕ → Bool
 begins word line = bytes_eq (take (length word) line) word
 
--- a line that makes or removes a macro
-abbrev pub is_macro : List ℕ → Bool
-is_macro line = begins (codes "#define") line || begins (codes "#undef") line
-
 -- a line that includes a header
 abbrev pub is_header : List ℕ → Bool
 is_header line = begins (codes "#include") line
 
--- a line that chooses parts of a text
+-- a line that chooses parts of a text by an expression
 abbrev pub is_conditional : List ℕ → Bool
-is_conditional line = begins (codes "#if") line || (begins (codes "#el") line || begins (codes "#endif") line)
+is_conditional line = begins (codes "#if") line || begins (codes "#elif") line
 
 -- a type with members
 abbrev pub is_aggregate : List ℕ → Bool

@@ -7,8 +7,8 @@ use crate::fault::Fault;
 use crate::saying::Saying;
 use crate::words::{
     has_point, is_aggregate, is_conditional, is_declared, is_floating, is_general, is_header,
-    is_label, is_leaving, is_macro, is_memory, is_new_type, is_other_byte, is_qualifier,
-    is_reading, is_size, is_storage,
+    is_label, is_leaving, is_memory, is_new_type, is_other_byte, is_qualifier, is_reading, is_size,
+    is_storage,
 };
 
 /// A name of the library that is not here.
@@ -54,9 +54,7 @@ fn literal_saying(word: &[u8]) -> Saying
 fn directive_saying(word: &[u8]) -> Saying
     ensures { result ≡ choices.directive_saying word.now }
 {
-    if is_macro(word) {
-        Saying::Macro
-    } else if is_header(word) {
+    if is_header(word) {
         Saying::Header
     } else if is_conditional(word) {
         Saying::Conditional
@@ -166,6 +164,10 @@ pub fn saying(fault: Fault, word: &[u8], called: bool) -> Saying
         Fault::Unclosed => Saying::Comment,
         Fault::TooManyTokens => Saying::Tokens,
         Fault::Directive => directive_saying(word),
+        Fault::Unbalanced => Saying::Group,
+        Fault::Redefined => Saying::OtherBody,
+        Fault::BadDefine => Saying::BadLine,
+        Fault::TooManyReplaced => Saying::Replaced,
         Fault::Syntax => mark_saying(word),
         Fault::TooDeep => Saying::Deep,
         Fault::Unknown => name_saying(word, called),

@@ -17,7 +17,6 @@ pub enum Saying {
     Number,
     Comment,
     Tokens,
-    Macro,
     Header,
     Conditional,
     OtherDirective,
@@ -40,6 +39,10 @@ pub enum Saying {
     NoText,
     NotHere,
     Deep,
+    Group,
+    OtherBody,
+    BadLine,
+    Replaced,
     Library,
     Undeclared,
     NoFunction,
@@ -92,13 +95,12 @@ pub fn sentence(saying: Saying) -> &'static str
         Saying::Comment => "begins a comment without end: write */ behind it",
         Saying::Tokens =>
             "is the 8,193rd token, and a text may have 8,192: write loops and functions for what is repeated",
-        Saying::Macro =>
-            "makes or removes a macro, which is left out: write the value itself, or a global variable",
         Saying::Header =>
             "includes no header that is here: write #include <stdio.h> or nothing, and define the rest in the text",
         Saying::Conditional =>
-            "chooses parts of a text, which is left out: write the part that is wanted",
-        Saying::OtherDirective => "is no directive that is here: only #include <stdio.h> is",
+            "chooses parts of a text by an expression, which is left out: write #ifdef, or the part that is wanted",
+        Saying::OtherDirective =>
+            "is no directive that is here: only #include, #define, #undef, #ifdef, #ifndef, #else and #endif are",
         Saying::Aggregate =>
             "is left out: write a variable for each member, and an array for each member of many",
         Saying::NewType =>
@@ -129,6 +131,13 @@ pub fn sentence(saying: Saying) -> &'static str
             "does not stand here: look for a ; or a bracket that is missing before it, or behind it at the end",
         Saying::Deep =>
             "opens a construct at depth 65, and 64 is the most: use variables and functions",
+        Saying::Group =>
+            "fits no group: write one #endif for each #ifdef and #ifndef, and one #else between at most",
+        Saying::OtherBody => "gives a macro another body: write #undef before it, or another name",
+        Saying::BadLine =>
+            "is no good line: write one name, for #define a space and the body behind it, and no parameters",
+        Saying::Replaced =>
+            "makes more than 8,192 tokens with the names that are replaced: write loops and functions instead",
         Saying::Library =>
             "is not here: of the library there are getchar, putchar and EOF, so define the rest in the text",
         Saying::Undeclared => "is not declared: write #include <stdio.h> before it",

@@ -20,7 +20,7 @@ fn word_size(fault: Fault, rest: &[u8]) -> usize
     ensures within { result ≤ length rest.now }
 {
     match fault {
-        Fault::Directive => line_length(rest),
+        Fault::Directive | Fault::Unbalanced | Fault::BadDefine => line_length(rest),
         _ => word_length(rest),
     }
 }

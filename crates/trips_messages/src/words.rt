@@ -98,13 +98,6 @@ fn begins(line: &[u8], word: &[u8]) -> bool
     front == word
 }
 
-/// A line that makes or removes a macro.
-pub fn is_macro(line: &[u8]) -> bool
-    ensures { result ≡ words.is_macro line.now }
-{
-    begins(line, b"#define") || begins(line, b"#undef")
-}
-
 /// A line that includes a header.
 pub fn is_header(line: &[u8]) -> bool
     ensures { result ≡ words.is_header line.now }
@@ -112,11 +105,11 @@ pub fn is_header(line: &[u8]) -> bool
     begins(line, b"#include")
 }
 
-/// A line that chooses parts of a text.
+/// A line that chooses parts of a text by an expression.
 pub fn is_conditional(line: &[u8]) -> bool
     ensures { result ≡ words.is_conditional line.now }
 {
-    begins(line, b"#if") || (begins(line, b"#el") || begins(line, b"#endif"))
+    begins(line, b"#if") || begins(line, b"#elif")
 }
 
 /// A type with members.

@@ -4,6 +4,7 @@ use crate::rows::{MORE_ROWS, ROWS};
 use c_front::{Refusal, front};
 use c_lex::{LexFault, lex, line_of};
 use c_parse::ParseFault;
+use c_pre::PreFault;
 use c_tree::Lexeme;
 use c_type::TypeFault;
 use std::alloc::{AllocError, Global};
@@ -19,6 +20,16 @@ fn lex_fault(fault: LexFault) -> Option<(Fault, u32)> {
         LexFault::TooManyTokens(offset) => Some((Fault::TooManyTokens, offset)),
         LexFault::Directive(offset) => Some((Fault::Directive, offset)),
         LexFault::Memory => None,
+    }
+}
+
+fn pre_fault(fault: PreFault) -> Option<(Fault, u32)> {
+    match fault {
+        PreFault::Unbalanced(offset) => Some((Fault::Unbalanced, offset)),
+        PreFault::Redefined(offset) => Some((Fault::Redefined, offset)),
+        PreFault::BadDefine(offset) => Some((Fault::BadDefine, offset)),
+        PreFault::TooManyTokens(offset) => Some((Fault::TooManyReplaced, offset)),
+        PreFault::Memory => None,
     }
 }
 
@@ -49,6 +60,7 @@ fn type_fault(fault: TypeFault) -> Option<(Fault, u32)> {
 fn placed(refusal: Refusal) -> Option<(Fault, u32)> {
     match refusal {
         Refusal::Lex(fault) => lex_fault(fault),
+        Refusal::Directive(fault) => pre_fault(fault),
         Refusal::Parse(fault) => parse_fault(fault),
         Refusal::Typing(fault) => type_fault(fault),
         Refusal::Memory => None,

@@ -75,9 +75,9 @@ pub const ROWS: &[Row] = &[
         "a.c:2:2: lex Unclosed: '/' begins a comment without end: write */ behind it",
     ),
     (
-        "#define N 10\nint main(void) { return N; }\n",
-        "a.c:1:1: lex Directive: '#define N 10' makes or removes a macro, which is left out: write the value \
-            itself, or a global variable",
+        "#define MAX(a, b) a\nint main(void) { return 0; }\n",
+        "a.c:1:1: directive BadDefine: '#define MAX(a, b) a' is no good line: write one name, for #define a space \
+            and the body behind it, and no parameters",
     ),
     (
         "int a;\n#undef N\n",
@@ -95,13 +95,23 @@ pub const ROWS: &[Row] = &[
             or nothing, and define the rest in the text",
     ),
     (
-        "#ifdef N\n",
-        "a.c:1:1: lex Directive: '#ifdef N' chooses parts of a text, which is left out: write the part that is \
-            wanted",
+        "#if N\n",
+        "a.c:1:1: lex Directive: '#if N' chooses parts of a text by an expression, which is left out: write \
+            #ifdef, or the part that is wanted",
+    ),
+    (
+        "#define N 1\n#ifdef N\n",
+        "a.c:2:1: directive Unbalanced: '#ifdef N' fits no group: write one #endif for each #ifdef and #ifndef, \
+            and one #else between at most",
+    ),
+    (
+        "#define N 1\n#define N 2\n",
+        "a.c:2:9: directive Redefined: 'N' gives a macro another body: write #undef before it, or another name",
     ),
     (
         "#pragma once\n",
-        "a.c:1:1: lex Directive: '#pragma once' is no directive that is here: only #include <stdio.h> is",
+        "a.c:1:1: lex Directive: '#pragma once' is no directive that is here: only #include, #define, #undef, \
+            #ifdef, #ifndef, #else and #endif are",
     ),
     (
         "struct point { int x; };\n",

@@ -6,6 +6,10 @@ use trips_run::Status;
 use trips_run_harness::answer_of;
 
 const SMALL: &[(&str, &str)] = &[
+    (
+        "#define SEVEN 7\n#ifdef SEVEN\nint main(void) { return SEVEN; }\n#endif\n",
+        "output 0\n\nresult 7\n",
+    ),
     ("int main(void) { return 7; }", "output 0\n\nresult 7\n"),
     ("int main() { return 7; }", "output 0\n\nresult 7\n"),
     ("int main(void){return 7;}\n\n", "output 0\n\nresult 7\n"),
@@ -65,11 +69,20 @@ const LEXER: &[(&str, &str)] = &[
         "refused lex 2 BadLiteral line 1\n",
     ),
     ("/*", "refused lex 3 Unclosed line 1\n"),
-    ("#define A 1\n", "refused lex 5 Directive line 1\n"),
+    ("#if A\n", "refused lex 5 Directive line 1\n"),
     (
         "int main(void) { return }\n@",
         "refused lex 1 BadByte line 2\n",
     ),
+];
+
+const DIRECTIVES: &[(&str, &str)] = &[
+    ("\n#endif\n", "refused directive 1 Unbalanced line 2\n"),
+    (
+        "#define A 1\n#define A 2\n",
+        "refused directive 2 Redefined line 2\n",
+    ),
+    ("#define A(x) x\n", "refused directive 3 BadDefine line 1\n"),
 ];
 
 const GRAMMAR: &[(&str, &str)] = &[
@@ -236,6 +249,7 @@ fn runs_each_small_program(rt: HostRuntime) -> Result<(), Fail> {
 
 fn assert_refusals(rt: &impl Abort, alloc: Global, command: &str) -> Result<(), AllocError> {
     assert_rows(rt, alloc, command, Status::Refused, LEXER)?;
+    assert_rows(rt, alloc, command, Status::Refused, DIRECTIVES)?;
     assert_rows(rt, alloc, command, Status::Refused, GRAMMAR)?;
     assert_rows(rt, alloc, command, Status::Refused, TYPING)
 }

@@ -97,6 +97,18 @@ const USAGES: &[&[&str]] = &[
     &["verify", "b.img", "c", "d"],
     &["verify", "b.img", "c", "--", "d"],
     &["verify", "b.img", "c", "--blocks", "1"],
+    &["bench", "0"],
+    &["bench", "65"],
+    &["bench", "6x"],
+    &["bench", "1", "--regs"],
+    &["bench", "1", "--blocks", "2", "--blocks", "2"],
+    &["eval", "a.c", "--steps", "1", "--steps", "1"],
+    &["eval", "a.c", "--input", "t", "--input", "t"],
+    &["run", "a.c", "--trace", "--trace"],
+];
+
+/// Words of runs of several files, of parts of a run, and of pictures.
+const USAGES_OF_PARTS: &[&[&str]] = &[
     &["four", "a.c", "b.c", "c.c"],
     &["four", "a.c", "b.c", "c.c", "d.c", "e.c"],
     &["four", "a.c", "b.c", "c.c", "d.c", "--regs"],
@@ -116,14 +128,6 @@ const USAGES: &[&[&str]] = &[
     &["resume", "s", "1"],
     &["resume", "s", "--input", "t"],
     &["resume", "s", "--place", "1"],
-    &["bench", "0"],
-    &["bench", "65"],
-    &["bench", "6x"],
-    &["bench", "1", "--regs"],
-    &["bench", "1", "--blocks", "2", "--blocks", "2"],
-    &["eval", "a.c", "--steps", "1", "--steps", "1"],
-    &["eval", "a.c", "--input", "t", "--input", "t"],
-    &["run", "a.c", "--trace", "--trace"],
 ];
 
 fn assert_usage(rt: &impl Abort, alloc: Global, texts: &[&str]) -> Result<(), AllocError> {
@@ -143,5 +147,11 @@ fn assert_usages(rt: &impl Abort, alloc: Global, rows: &[&[&str]]) -> Result<(),
 #[test]
 fn other_words_are_no_request(rt: HostRuntime) -> Result<(), Fail> {
     assert_usages(&rt, rt.alloc(), USAGES)?;
+    Ok(())
+}
+
+#[test]
+fn other_words_of_parts_are_no_request(rt: HostRuntime) -> Result<(), Fail> {
+    assert_usages(&rt, rt.alloc(), USAGES_OF_PARTS)?;
     Ok(())
 }

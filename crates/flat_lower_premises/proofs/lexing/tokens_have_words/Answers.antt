@@ -1,4 +1,4 @@
-use Rattle.flat_lower_premises.proofs.LexedWords.{lexed_has}
+use Rattle.flat_lower_premises.proofs.ProgramWords.{lexed_has}
 use Rattle.flat_lower_premises.proofs.lexing.tokens_have_words.Goals as goal
 
 pub returns : goal.returns

@@ -1,0 +1,236 @@
+//! Words of raw tokens, and the words of their program, or the fault with its offset. The word of number n stands at
+//! offset 10 n. A directive's line ends at `;;`.
+
+pub type Row = (&'static [&'static str], &'static str);
+
+pub const ROWS: &[Row] = &[
+    // No directive.
+    (&["int", "A", ";"], "int A ;"),
+    (&[], ""),
+    // 6.10.3: a name is replaced from its line on, and no longer than to its #undef.
+    (&["A", "#define", "A", "1", ";;", "A", "B"], "A 1 B"),
+    (
+        &["#define", "A", "1", ";;", "A", "#undef", "A", ";;", "A"],
+        "1 A",
+    ),
+    (&["#undef", "A", ";;", "A"], "A"),
+    (&["#define", "A", ";;", "A", "B", "A"], "B"),
+    (
+        &["#define", "A", "1", "+", "2", ";;", "A", "*", "A"],
+        "1 + 2 * 1 + 2",
+    ),
+    (&["#define", "A", "1"], ""),
+    // 6.10.3, paragraph 2: the same body once more, and another one.
+    (
+        &[
+            "#define", "A", "1", "+", "B", ";;", "#define", "A", "1", "+", "B", ";;", "A",
+        ],
+        "1 + B",
+    ),
+    (
+        &["#define", "A", "1", ";;", "#define", "A", "2", ";;"],
+        "Redefined 50",
+    ),
+    (
+        &["#define", "A", "1", ";;", "#define", "A", ";;"],
+        "Redefined 50",
+    ),
+    (
+        &["#define", "A", ";;", "#define", "A", "1", ";;"],
+        "Redefined 40",
+    ),
+    (
+        &["#define", "A", "1", ";;", "#define", "A", "1", "1", ";;"],
+        "Redefined 50",
+    ),
+    (
+        &["#define", "A", "B", ";;", "#define", "A", "C", ";;"],
+        "Redefined 50",
+    ),
+    (
+        &["#define", "A", "+", ";;", "#define", "A", "*", ";;"],
+        "Redefined 50",
+    ),
+    (
+        &["#define", "A", "int", ";;", "#define", "A", "long", ";;"],
+        "Redefined 50",
+    ),
+    (
+        &[
+            "#define", "A", "int", ";;", "#define", "A", "int", ";;", "A",
+        ],
+        "int",
+    ),
+    (
+        &[
+            "#define", "A", "1", ";;", "#undef", "A", ";;", "#define", "A", "2", ";;", "A",
+        ],
+        "2",
+    ),
+    // 6.10.3.4: a body is read again, where its own name stays.
+    (&["#define", "A", "A", "+", "1", ";;", "A"], "A + 1"),
+    (
+        &[
+            "#define", "A", "B", "1", ";;", "#define", "B", "A", "2", ";;", "A", ";", "B",
+        ],
+        "A 2 1 ; B 1 2",
+    ),
+    (
+        &["#define", "A", "B", ";;", "#define", "B", "2", ";;", "A"],
+        "2",
+    ),
+    (
+        &[
+            "#define", "B", "2", ";;", "#define", "A", "B", ";;", "#undef", "B", ";;", "A",
+        ],
+        "B",
+    ),
+    (
+        &[
+            "#define", "A", "B", "B", ";;", "#define", "B", "C", "C", ";;", "#define", "C", "1",
+            ";;", "A",
+        ],
+        "1 1 1 1",
+    ),
+    // 6.10.3.5, example 3: the lines with names alone.
+    (
+        &[
+            "#define", "x", "3", ";;", "#undef", "x", ";;", "#define", "x", "2", ";;", "#define",
+            "z", "z", ";;", "x", "+", "z",
+        ],
+        "2 + z",
+    ),
+    // 6.10.1: groups.
+    (
+        &[
+            "#ifdef", "A", ";;", "1", "#else", ";;", "2", "#endif", ";;", "3",
+        ],
+        "2 3",
+    ),
+    (
+        &[
+            "#ifndef", "A", ";;", "1", "#else", ";;", "2", "#endif", ";;", "3",
+        ],
+        "1 3",
+    ),
+    (
+        &[
+            "#define", "A", ";;", "#ifdef", "A", ";;", "1", "#else", ";;", "2", "#endif", ";;", "3",
+        ],
+        "1 3",
+    ),
+    (
+        &[
+            "#define", "A", ";;", "#ifndef", "A", ";;", "1", "#else", ";;", "2", "#endif", ";;",
+        ],
+        "2",
+    ),
+    (
+        &[
+            "#define", "A", ";;", "#undef", "A", ";;", "#ifdef", "A", ";;", "1", "#endif",
+        ],
+        "",
+    ),
+    (
+        &[
+            "#ifdef", "A", ";;", "1", "#ifdef", "B", ";;", "2", "#endif", ";;", "3", "#endif",
+            ";;", "4",
+        ],
+        "4",
+    ),
+    (
+        &[
+            "#ifndef", "A", ";;", "1", "#ifdef", "B", ";;", "2", "#endif", ";;", "3", "#endif",
+            ";;", "4",
+        ],
+        "1 3 4",
+    ),
+    (
+        &[
+            "#ifdef", "A", ";;", "#ifndef", "B", ";;", "1", "#else", ";;", "2", "#endif", ";;",
+            "3", "#endif", ";;",
+        ],
+        "",
+    ),
+    (
+        &[
+            "#ifdef", "A", ";;", "#define", "B", "1", ";;", "#endif", ";;", "B",
+        ],
+        "B",
+    ),
+    (
+        &[
+            "#define", "B", "1", ";;", "#ifdef", "A", ";;", "#undef", "B", ";;", "#endif", ";;",
+            "B",
+        ],
+        "1",
+    ),
+    // What is not read is not looked at (6.10.1, paragraph 6).
+    (
+        &[
+            "#ifdef", "A", ";;", "#define", "1", ";;", "#ifdef", ";;", "#else", "1", ";;",
+            "#endif", "1", ";;", "#endif",
+        ],
+        "",
+    ),
+    // Groups that do not fit.
+    (&["#else", ";;"], "Unbalanced 0"),
+    (&["1", "#endif", ";;"], "Unbalanced 10"),
+    (&["#ifdef", "A", ";;", "1"], "Unbalanced 0"),
+    (
+        &["#ifdef", "A", ";;", "#ifdef", "B", ";;", "#endif", ";;"],
+        "Unbalanced 0",
+    ),
+    (&["#ifdef", "A", ";;", "#ifdef", "B", ";;"], "Unbalanced 30"),
+    (
+        &[
+            "#ifdef", "A", ";;", "#else", ";;", "#else", ";;", "#endif", ";;",
+        ],
+        "Unbalanced 50",
+    ),
+    (
+        &["#ifdef", "A", ";;", "#endif", ";;", "#endif", ";;"],
+        "Unbalanced 50",
+    ),
+    // Lines that are none.
+    (&["#define", ";;"], "BadDefine 0"),
+    (&["1", "#define", "1", ";;"], "BadDefine 10"),
+    (&["#define", "int", "long", ";;"], "BadDefine 0"),
+    (&["#define"], "BadDefine 0"),
+    (&["#undef", ";;"], "BadDefine 0"),
+    (&["#undef", "A", "B", ";;"], "BadDefine 0"),
+    (&["#ifdef", ";;", "#endif", ";;"], "BadDefine 0"),
+    (&["#ifdef", "A", "B", ";;", "#endif", ";;"], "BadDefine 0"),
+    (&["#ifndef", "1", ";;", "#endif", ";;"], "BadDefine 0"),
+    (
+        &["#ifdef", "A", ";;", "#else", "A", ";;", "#endif", ";;"],
+        "BadDefine 30",
+    ),
+    (&["#ifdef", "A", ";;", "#endif", "A", ";;"], "BadDefine 30"),
+    // A token behind the name at once (6.10.3, paragraph 3).
+    (&["#define", "LongName10", "(", ";;"], "BadDefine 0"),
+    (&["#define", "LongName9", "(", ";;", "LongName9"], "("),
+    // Headers.
+    (&["<stdbool.h>", "true", "+", "false"], "1 + 0"),
+    (&["true", "<stdbool.h>", "true"], "true 1"),
+    (&["<stdlib.h>", "EXIT_SUCCESS", "EXIT_FAILURE"], "0 1"),
+    (&["<string.h>", "<stddef.h>", "size_t"], "size_t"),
+    (&["<stdbool.h>", "<stdbool.h>", "true"], "1"),
+    (&["<limits.h>", "CHAR_BIT", "MB_LEN_MAX"], "8 1"),
+    (
+        &["#define", "true", "0", ";;", "<stdbool.h>"],
+        "Redefined 40",
+    ),
+    (
+        &["<stdbool.h>", "#define", "true", "0", ";;"],
+        "Redefined 20",
+    ),
+    (
+        &["#ifdef", "A", ";;", "<stdbool.h>", "#endif", ";;", "true"],
+        "true",
+    ),
+    (
+        &["<limits.h>", "#ifdef", "INT_MAX", ";;", "1", "#endif", ";;"],
+        "1",
+    ),
+];

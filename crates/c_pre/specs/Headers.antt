@@ -1,0 +1,71 @@
+-- The headers beside `<stdio.h>`, and the names that they make known.
+use Rattle.std.specs.Prelude.{ℕ, ◌^◌, ◌-◌, List, [], ◌∷◌, Option, None, codes}
+use Rattle.c_tree.specs.declared.Form.{Form}
+use Rattle.c_tree.specs.declared.Form.TheVariants as form
+use Rattle.c_tree.specs.declared.Kind.{Kind}
+use Rattle.c_tree.specs.declared.Kind.TheVariants.{Int, UInt, Long, ULong}
+use Rattle.c_pre.specs.declared.headers.Header.{Header}
+use Rattle.c_pre.specs.declared.headers.Header.TheVariants as header
+use Rattle.c_lex.specs.Tables.{lookup}
+
+-- a name, and the constant that it is: its value modulo 2^64, and its type
+abbrev pub Row : Type 0
+Row = List ℕ × ℕ × Kind
+
+-- `<limits.h>` (C17 5.2.4.2.1). Types shorter than int are promoted.
+unfoldable pub limits : List Row
+limits =
+    (codes "CHAR_BIT", 8, Int)
+    ∷ (codes "SCHAR_MIN", 2 ^ 64 - 2 ^ 7, Int)
+    ∷ (codes "SCHAR_MAX", 2 ^ 7 - 1, Int)
+    ∷ (codes "UCHAR_MAX", 2 ^ 8 - 1, Int)
+    ∷ (codes "CHAR_MIN", 2 ^ 64 - 2 ^ 7, Int)
+    ∷ (codes "CHAR_MAX", 2 ^ 7 - 1, Int)
+    ∷ (codes "MB_LEN_MAX", 1, Int)
+    ∷ (codes "SHRT_MIN", 2 ^ 64 - 2 ^ 15, Int)
+    ∷ (codes "SHRT_MAX", 2 ^ 15 - 1, Int)
+    ∷ (codes "USHRT_MAX", 2 ^ 16 - 1, Int)
+    ∷ (codes "INT_MIN", 2 ^ 64 - 2 ^ 31, Int)
+    ∷ (codes "INT_MAX", 2 ^ 31 - 1, Int)
+    ∷ (codes "UINT_MAX", 2 ^ 32 - 1, UInt)
+    ∷ (codes "LONG_MIN", 2 ^ 63, Long)
+    ∷ (codes "LONG_MAX", 2 ^ 63 - 1, Long)
+    ∷ (codes "ULONG_MAX", 2 ^ 64 - 1, ULong)
+    ∷ []
+
+-- `<stdbool.h>` (C17 7.18), without `bool`
+abbrev pub stdbool : List Row
+stdbool =
+    (codes "true", 1, Int) ∷ (codes "false", 0, Int) ∷ (codes "__bool_true_false_are_defined", 1, Int) ∷ []
+
+-- `<stdlib.h>` (C17 7.22): the values for the end of main; of its functions none is here
+abbrev pub stdlib : List Row
+stdlib = (codes "EXIT_FAILURE", 1, Int) ∷ (codes "EXIT_SUCCESS", 0, Int) ∷ []
+
+-- the names that a header makes known; of `<stddef.h>` and `<string.h>` none is here
+abbrev pub names_of : Header → List Row
+names_of header.Limits = limits
+names_of header.Stdbool = stdbool
+names_of header.Stdlib = stdlib
+names_of _ = []
+
+-- the last of the headers
+abbrev pub further_headers : List (List ℕ × Header)
+further_headers = (codes "<stdlib.h>", header.Stdlib) ∷ (codes "<string.h>", header.String) ∷ []
+
+-- the headers, with their names in brackets
+abbrev pub headers : List (List ℕ × Header)
+headers =
+    (codes "<limits.h>", header.Limits)
+    ∷ (codes "<stdbool.h>", header.Stdbool)
+    ∷ (codes "<stddef.h>", header.Stddef)
+    ∷ further_headers
+
+-- the header of this name
+abbrev pub named : List ℕ → Option Header
+named w = lookup w headers
+
+-- the header that the token is, if it is one
+abbrev pub header_of : Form → Option Header
+header_of (form.Name w) = named w
+header_of _ = None

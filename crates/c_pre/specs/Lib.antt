@@ -1,0 +1,12 @@
+pub mod Macros
+pub mod Forms
+pub mod Headers
+pub mod Said
+pub mod Outputs
+pub mod Groups
+pub mod Lines
+pub mod Programs
+pub mod Plain
+pub mod Texts
+pub mod Laws
+pub mod inside

@@ -1,0 +1,102 @@
+//! The headers beside `<stdio.h>`, and the names that they make known.
+
+ghost use Rattle.std.specs.Prelude.{◌≡◌, map};
+ghost use Rattle.c_pre.specs.Headers as headers;
+ghost use Rattle.c_lex.specs.Tables.{lookup};
+
+use crate::form::same_name;
+use c_tree::{Form, Kind};
+
+/// A header other than `<stdio.h>`.
+#[derive(Clone, Copy, Debug, PartialEq, Eq)]
+pub enum Header {
+    Limits,
+    Stdbool,
+    Stddef,
+    Stdlib,
+    String,
+}
+
+/// The names of `<limits.h>` (C17 5.2.4.2.1), each with its value modulo 2^64 and its type.
+const LIMITS: [(&[u8], u64, Kind); 16] = [
+    (b"CHAR_BIT", 8, Kind::Int),
+    (b"SCHAR_MIN", 0xFFFF_FFFF_FFFF_FF80, Kind::Int),
+    (b"SCHAR_MAX", 0x7F, Kind::Int),
+    (b"UCHAR_MAX", 0xFF, Kind::Int),
+    (b"CHAR_MIN", 0xFFFF_FFFF_FFFF_FF80, Kind::Int),
+    (b"CHAR_MAX", 0x7F, Kind::Int),
+    (b"MB_LEN_MAX", 1, Kind::Int),
+    (b"SHRT_MIN", 0xFFFF_FFFF_FFFF_8000, Kind::Int),
+    (b"SHRT_MAX", 0x7FFF, Kind::Int),
+    (b"USHRT_MAX", 0xFFFF, Kind::Int),
+    (b"INT_MIN", 0xFFFF_FFFF_8000_0000, Kind::Int),
+    (b"INT_MAX", 0x7FFF_FFFF, Kind::Int),
+    (b"UINT_MAX", 0xFFFF_FFFF, Kind::UInt),
+    (b"LONG_MIN", 0x8000_0000_0000_0000, Kind::Long),
+    (b"LONG_MAX", 0x7FFF_FFFF_FFFF_FFFF, Kind::Long),
+    (b"ULONG_MAX", 0xFFFF_FFFF_FFFF_FFFF, Kind::ULong),
+];
+
+/// The names of `<stdbool.h>` (C17 7.18) but for `bool`.
+const STDBOOL: [(&[u8], u64, Kind); 3] = [
+    (b"true", 1, Kind::Int),
+    (b"false", 0, Kind::Int),
+    (b"__bool_true_false_are_defined", 1, Kind::Int),
+];
+
+/// The names of `<stdlib.h>` that are here (C17 7.22).
+const STDLIB: [(&[u8], u64, Kind); 2] = [
+    (b"EXIT_FAILURE", 1, Kind::Int),
+    (b"EXIT_SUCCESS", 0, Kind::Int),
+];
+
+/// The names that a header makes known.
+#[tactic(auto, unfolding(crate::specs::Headers::limits))]
+pub fn names_of(header: Header) -> &'static [(&'static [u8], u64, Kind)]
+    ensures { map (λ row. (row.0.now, row.1, row.2)) result.now ≡ headers.names_of header }
+{
+    match header {
+        Header::Limits => &LIMITS,
+        Header::Stdbool => &STDBOOL,
+        Header::Stdlib => &STDLIB,
+        Header::Stddef | Header::String => &[],
+    }
+}
+
+/// The one of the last two headers that the name in brackets is.
+fn further_named(name: &[u8]) -> Option<Header>
+    ensures { result ≡ lookup name.now headers.further_headers }
+{
+    if same_name(b"<stdlib.h>", name) {
+        Some(Header::Stdlib)
+    } else if same_name(b"<string.h>", name) {
+        Some(Header::String)
+    } else {
+        None
+    }
+}
+
+/// The header that the name in brackets is.
+fn named(name: &[u8]) -> Option<Header>
+    ensures { result ≡ headers.named name.now }
+{
+    if same_name(b"<limits.h>", name) {
+        Some(Header::Limits)
+    } else if same_name(b"<stdbool.h>", name) {
+        Some(Header::Stdbool)
+    } else if same_name(b"<stddef.h>", name) {
+        Some(Header::Stddef)
+    } else {
+        further_named(name)
+    }
+}
+
+/// The header that a token is, if it is one.
+pub fn header_of(form: &Form) -> Option<Header>
+    ensures { result ≡ headers.header_of form.now }
+{
+    match form {
+        Form::Name(name) => named(name.as_slice()),
+        _ => None,
+    }
+}

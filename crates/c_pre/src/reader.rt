@@ -1,0 +1,219 @@
+//! Reading raw tokens, one after another.
+
+ghost use Rattle.std.specs.Prelude.{◌≡◌, if◌then◌else◌, None, Ok, IfOk, IfErr};
+ghost use Rattle.c_tree.specs.Limits.{most_tokens};
+ghost use Rattle.c_pre.specs.Groups.{is_read};
+ghost use Rattle.c_pre.specs.Lines as lines;
+ghost use Rattle.c_pre.specs.Programs as programs;
+ghost use Rattle.c_pre.specs.Said as said;
+ghost use Rattle.c_pre.specs.inside.Gives.{Gives, Refuses};
+
+use crate::fault::PreFault;
+use crate::form::copied;
+use crate::groups::Groups;
+use crate::headers::{Header, names_of};
+use crate::macros::Macro;
+use crate::output::Output;
+use crate::replace::replace;
+use crate::said::{Said, said_by};
+use base::Items;
+use c_lex::DirectiveKind;
+use c_tree::Lexeme;
+use std::alloc::{AllocError, Global};
+
+/// A directive's line: where its `#` stands, and the tokens behind the directive so far.
+#[derive(Debug, Drop)]
+pub struct Line {
+    pub directive: DirectiveKind,
+    pub offset: u32,
+    pub tokens: Items<Lexeme>,
+}
+
+/// What was read so far: what names are, the groups that are open, the line of a directive that is not ended, and the
+/// tokens that were given.
+#[derive(Drop)]
+pub struct Reader {
+    pub macros: Items<Macro>,
+    pub groups: Groups,
+    pub line: Option<Line>,
+    pub output: Output,
+}
+
+/// The same token once more. Want of memory is the only error.
+fn token_copied(alloc: Global, token: &Lexeme) -> Result<Lexeme, AllocError>
+    ensures ok { IfOk result (λ t. t ≡ token.now) }
+{
+    Ok(Lexeme {
+        offset: token.offset,
+        form: copied(alloc, &token.form)?,
+    })
+}
+
+impl Reader {
+    /// Gives what a token of the program comes to.
+    fn give(&mut self, alloc: Global, token: &Lexeme) -> Result<(), PreFault>
+        ensures { Gives (programs.given most_tokens token.now self.old) result self.new }
+    {
+        let mut hidden = Items::new(alloc);
+        let depth = self.macros.len();
+        replace(
+            alloc,
+            self.macros.as_slice(),
+            token.offset,
+            depth,
+            &mut hidden,
+            &token.form,
+            &mut self.output,
+        )?;
+        Ok(())
+    }
+
+    /// Makes the names of a header known, at the place of its line.
+    fn include_header(&mut self, alloc: Global, offset: u32, header: Header) -> Result<(), PreFault>
+        ensures { Gives (lines.header_read offset header self.old) result self.new }
+    {
+        self.include(alloc, offset, names_of(header))
+    }
+
+    /// Reads the line of a header, where lines are read.
+    fn read_header(&mut self, alloc: Global, offset: u32, header: Header) -> Result<(), PreFault>
+        ensures { Gives (if is_read self.old.groups then lines.header_read offset header self.old else Ok self.old)
+            result self.new }
+    {
+        if self.groups.is_read() {
+            self.include_header(alloc, offset, header)
+        } else {
+            Ok(())
+        }
+    }
+
+    /// Reads a raw token that says this and is in no directive's line.
+    fn read_said(&mut self, alloc: Global, said: Said, token: &Lexeme) -> Result<(), PreFault>
+        ensures { Gives (programs.read_plain most_tokens said token.now self.old) result self.new }
+    {
+        match said {
+            Said::Token => {
+                if self.groups.is_read() {
+                    self.give(alloc, token)
+                } else {
+                    Ok(())
+                }
+            }
+            Said::Directive(directive) => {
+                self.line = Some(Line {
+                    directive,
+                    offset: token.offset,
+                    tokens: Items::new(alloc),
+                });
+                Ok(())
+            }
+            Said::Header(header) => self.read_header(alloc, token.offset, header),
+            Said::LineEnd => Ok(()),
+        }
+    }
+
+    /// Reads a raw token that is in no directive's line.
+    fn read_plain(&mut self, alloc: Global, token: &Lexeme) -> Result<(), PreFault>
+        ensures { Gives (programs.read_plain most_tokens (said.said_by token.now.form) token.now self.old)
+            result self.new }
+    {
+        let said = said_by(&token.form);
+        self.read_said(alloc, said, token)
+    }
+
+    /// Reads a raw token that is in this line of a directive.
+    fn read_in_line(&mut self, alloc: Global, line: Line, token: &Lexeme) -> Result<(), PreFault>
+        ensures { Gives (programs.read_in_line (said.said_by token.now.form) line token.now self.old)
+            result self.new }
+    {
+        match said_by(&token.form) {
+            Said::LineEnd => self.obey(alloc, line.directive, line.offset, line.tokens.as_slice()),
+            Said::Token => {
+                let Line {
+                    directive,
+                    offset,
+                    mut tokens,
+                } = line;
+                tokens.push(token_copied(alloc, token)?)?;
+                self.line = Some(Line {
+                    directive,
+                    offset,
+                    tokens,
+                });
+                Ok(())
+            }
+            _ => Err(PreFault::BadDefine(token.offset)),
+        }
+    }
+
+    /// Reads a raw token.
+    fn read_token(&mut self, alloc: Global, token: &Lexeme) -> Result<(), PreFault>
+        ensures { Gives (programs.read_token most_tokens token.now self.old) result self.new }
+    {
+        match self.line.take() {
+            None => self.read_plain(alloc, token),
+            Some(line) => self.read_in_line(alloc, line, token),
+        }
+    }
+
+    /// Reads raw tokens, one after another.
+    fn read_all(&mut self, alloc: Global, raw: &[Lexeme]) -> Result<(), PreFault>
+        ensures { Gives (programs.read_all most_tokens raw.now self.old) result self.new }
+    {
+        let mut rest = raw;
+        while let [token, more @ ..] = rest {
+            self.read_token(alloc, token)?;
+            rest = more;
+        }
+        Ok(())
+    }
+
+    /// Ends the line of a directive, if there is one.
+    fn end_line(&mut self, alloc: Global) -> Result<(), PreFault>
+        ensures { Gives (programs.line_ended self.old.line (programs.in_line None self.old)) result self.new }
+    {
+        match self.line.take() {
+            None => Ok(()),
+            Some(line) => self.obey(alloc, line.directive, line.offset, line.tokens.as_slice()),
+        }
+    }
+}
+
+/// The tokens at the end of the text.
+fn end(alloc: Global, reader: Reader) -> Result<Vec<Lexeme>, PreFault>
+    ensures ok { IfOk result (λ tokens. programs.ended reader ≡ Ok tokens.items) }
+    ensures err { IfErr result (Refuses (programs.ended reader)) }
+{
+    let mut reader = reader;
+    reader.end_line(alloc)?;
+    let Reader {
+        macros,
+        mut groups,
+        line,
+        output,
+    } = reader;
+    drop(macros);
+    drop(line);
+    match groups.pop() {
+        None => Ok(output.tokens.into_vec()),
+        Some(group) => Err(PreFault::Unbalanced(group.offset)),
+    }
+}
+
+/// The tokens that raw tokens come to.
+pub fn read(alloc: Global, raw: &[Lexeme]) -> Result<Vec<Lexeme>, PreFault>
+    ensures ok { IfOk result (λ tokens. programs.program most_tokens raw.now ≡ Ok tokens.items) }
+    ensures err { IfErr result (Refuses (programs.program most_tokens raw.now)) }
+{
+    let mut reader = Reader {
+        macros: Items::new(alloc),
+        groups: Groups::new(alloc),
+        line: None,
+        output: Output {
+            tokens: Items::new(alloc),
+            count: 0,
+        },
+    };
+    reader.read_all(alloc, raw)?;
+    end(alloc, reader)
+}
