@@ -24,12 +24,12 @@ const ROWS: &[Row] = &[
             each member of many\n\tstruct s;\n\t^\n",
     },
     Row {
-        text: b"# define N 5",
+        text: b"# pragma N 5",
         line: 1,
         fault: Fault::Directive,
         offset: 0,
-        told: "a.c:1:1: lex Directive: '# define N 5' is no directive that is here: only #include <stdio.h> \
-            is\n# define N 5\n^\n",
+        told: "a.c:1:1: lex Directive: '# pragma N 5' is no directive that is here: only #include, #define, \
+            #undef, #ifdef, #ifndef, #else and #endif are\n# pragma N 5\n^\n",
     },
     Row {
         text: b"",
