@@ -1,4 +1,5 @@
 //! How programs are run: one alone, or four on one grid.
+ghost use Rattle.std.specs.Prelude.{◌≡◌, [], IfOk};
 
 use block_check::CheckedImage;
 use block_predict::Predictor;
@@ -28,7 +29,9 @@ fn image(rt: &impl Abort, alloc: Global, text: &str) -> Result<CheckedImage, Fai
 }
 
 // A text at the start of its run.
-fn started(rt: &impl Abort, alloc: Global, text: &str, seed: u64) -> Result<Started, Fail> {
+fn started(rt: &impl Abort, alloc: Global, text: &str, seed: u64) -> Result<Started, Fail>
+    ensures { IfOk result (λ s. s.predictor.stack ≡ []) }
+{
     let image = image(rt, alloc, text)?;
     match Predictor::make(alloc, seed) {
         Ok(predictor) => Ok(Started {
@@ -47,12 +50,11 @@ pub fn four_of(
     texts: &[&str; 4],
     seed: u64,
 ) -> Result<Four<PcgWeather>, Fail> {
-    let programs = [
-        started(rt, alloc, texts[0], seed)?,
-        started(rt, alloc, texts[1], seed)?,
-        started(rt, alloc, texts[2], seed)?,
-        started(rt, alloc, texts[3], seed)?,
-    ];
+    let first = started(rt, alloc, texts[0], seed)?;
+    let second = started(rt, alloc, texts[1], seed)?;
+    let third = started(rt, alloc, texts[2], seed)?;
+    let fourth = started(rt, alloc, texts[3], seed)?;
+    let programs = [first, second, third, fourth];
     match Four::make(alloc, programs, PcgWeather::make(seed), BUDGET) {
         Ok(four) => Ok(four),
         Err(memory) => Err(Fail::from(memory)),
