@@ -18,7 +18,9 @@ use Rattle.c_lex.specs.declared.directive.Header.{Header}
 use Rattle.c_lex.specs.Directives.{line_end}
 use Rattle.c_lex.specs.inside.Runs.{run_len}
 use Rattle.c_lex.specs.Tables.{lookup, keywords}
-use Rattle.c_lex.specs.inside.Scans.{constant_of, character_of, close_from, mark_of, include_at, directive_at}
+use Rattle.c_lex.specs.inside.Characters.{character_of}
+use Rattle.c_lex.specs.inside.Scans.{constant_of, close_from, mark_of, include_at, directive_at}
+use Rattle.c_lex.specs.inside.Strings.{literal_of}
 use Rattle.c_lex.specs.Pieces.{Longest, word_form, begins_with}
 use Rattle.c_lex.specs.inside.Finds.{Found, found, IsFront, Finds, Marks, begins_comment}
 use Rattle.c_lex.specs.Lexes.{Tokens, lexeme, Line, fresh, Cut, here, Lexed}
@@ -29,6 +31,7 @@ use Rattle.c_lex.specs.inside.Answers.{Answered}
 use Rattle.c_lex.proofs.Basics.{eq_is}
 use Rattle.c_lex.proofs.Found.{space_found, word_found, number_found, bad_number_found}
 use Rattle.c_lex.proofs.Found.{character_found}
+use Rattle.c_lex.proofs.Literals.{literal_found, double_quote_found}
 use Rattle.c_lex.proofs.Found.{quote_found, comment_found, opening_found, line_found, include_found}
 use Rattle.c_lex.proofs.Found.{directive_found, directed_found, marks_find, hash_nothing}
 use Rattle.c_lex.proofs.Found.{splice_nothing, piece_some}
@@ -58,16 +61,21 @@ module _ (starts : Bool) (b : ℕ) (bs : Bytes) where
   quoted_at (Some p) q e =
       some _ _ (character_found starts Text bs p.0 p.1 _ (ap (λ x. x ∷ bs) (eq_is b 39 q)) e refl)
 
+  literal_at : (o : Option (ℕ × Bytes)) → nat_eq b 34 ≡ true → literal_of bs ≡ o → Finding starts Text
+  literal_at None q e = some _ _ (double_quote_found starts Text bs (ap (λ x. x ∷ bs) (eq_is b 34 q)) e)
+  literal_at (Some p) q e =
+      some _ _ (literal_found starts Text bs p.0 p.1 (ap (λ x. x ∷ bs) (eq_is b 34 q)) e)
+
   mark_at : (o : Option (ℕ × Mark)) → mark_of Text ≡ o → (r : Option Found) × Marks Text r
   mark_at None e = (None, e)
   mark_at (Some p) e = (Some (found p.0 (reads.Token (form.Mark p.1))), (p.1, refl, e))
 
   module _ (s : is_space b ≡ false) (l : is_letter b ≡ false) (d : is_digit b ≡ false) (q : nat_eq b 39 ≡ false)
-      (h : nat_eq b 35 ≡ false) (k : nat_eq b 92 ≡ false) where
+      (t : nat_eq b 34 ≡ false) (h : nat_eq b 35 ≡ false) (k : nat_eq b 92 ≡ false) where
     -- no comment begins here
     unmarked : begins_comment Text ≡ false → Finding starts Text
     unmarked c =
-        let m = mark_at (mark_of Text) refl in (m.0, marks_find starts Text b bs m.0 refl s l d q h k c m.1)
+        let m = mark_at (mark_of Text) refl in (m.0, marks_find starts Text b bs m.0 refl s l d q t h k c m.1)
 
     no_slash : nat_eq b 47 ≡ false → Finding starts Text
     no_slash e =
@@ -86,11 +94,11 @@ module _ (starts : Bool) where
   second_at c cs false true e f =
       subst (λ (x : ℕ). Finding starts (47 ∷ x ∷ cs)) (sym (eq_is c 42 f)) (block_at cs (close_from 0 cs) refl)
   second_at c cs false false e f =
-      unmarked starts 47 (c ∷ cs) refl refl refl refl refl refl
+      unmarked starts 47 (c ∷ cs) refl refl refl refl refl refl refl
       (ap (λ (v : Bool). v || nat_eq c 42) e ∙ f)
 
   slash_at : (bs : Bytes) → Finding starts (47 ∷ bs)
-  slash_at [] = unmarked starts 47 [] refl refl refl refl refl refl refl
+  slash_at [] = unmarked starts 47 [] refl refl refl refl refl refl refl refl
   slash_at (c ∷ cs) = second_at c cs (nat_eq c 47) (nat_eq c 42) refl refl
 
 -- a line that begins with `#`
@@ -116,26 +124,32 @@ splice_at starts bs false e = (None, splice_nothing starts (92 ∷ bs) bs refl e
 
 module _ (starts : Bool) (b : ℕ) (bs : Bytes) where
   by_slash : (t : Bool) → nat_eq b 47 ≡ t → is_space b ≡ false → is_letter b ≡ false → is_digit b ≡ false
-      → nat_eq b 39 ≡ false → nat_eq b 35 ≡ false → nat_eq b 92 ≡ false → Finding starts (b ∷ bs)
-  by_slash true e s l d q h k = subst (λ (x : ℕ). Finding starts (x ∷ bs)) (sym (eq_is b 47 e)) (slash_at starts bs)
-  by_slash false e s l d q h k = no_slash starts b bs s l d q h k e
+      → nat_eq b 39 ≡ false → nat_eq b 34 ≡ false → nat_eq b 35 ≡ false → nat_eq b 92 ≡ false
+      → Finding starts (b ∷ bs)
+  by_slash true e s l d q t h k = subst (λ (x : ℕ). Finding starts (x ∷ bs)) (sym (eq_is b 47 e)) (slash_at starts bs)
+  by_slash false e s l d q t h k = no_slash starts b bs s l d q t h k e
 
   by_backslash : (t : Bool) → nat_eq b 92 ≡ t → is_space b ≡ false → is_letter b ≡ false → is_digit b ≡ false
-      → nat_eq b 39 ≡ false → nat_eq b 35 ≡ false → Finding starts (b ∷ bs)
-  by_backslash true e s l d q h =
+      → nat_eq b 39 ≡ false → nat_eq b 34 ≡ false → nat_eq b 35 ≡ false → Finding starts (b ∷ bs)
+  by_backslash true e s l d q t h =
       subst (λ (x : ℕ). Finding starts (x ∷ bs)) (sym (eq_is b 92 e))
       (splice_at starts bs (feed_and_space bs) refl)
-  by_backslash false e s l d q h = by_slash (nat_eq b 47) refl s l d q h e
+  by_backslash false e s l d q t h = by_slash (nat_eq b 47) refl s l d q t h e
 
   by_hash : (t : Bool) → nat_eq b 35 ≡ t → is_space b ≡ false → is_letter b ≡ false → is_digit b ≡ false
+      → nat_eq b 39 ≡ false → nat_eq b 34 ≡ false → Finding starts (b ∷ bs)
+  by_hash true e s l d q t = subst (λ (x : ℕ). Finding starts (x ∷ bs)) (sym (eq_is b 35 e)) (hash_at starts bs)
+  by_hash false e s l d q t = by_backslash (nat_eq b 92) refl s l d q t e
+
+  by_double_quote : (t : Bool) → nat_eq b 34 ≡ t → is_space b ≡ false → is_letter b ≡ false → is_digit b ≡ false
       → nat_eq b 39 ≡ false → Finding starts (b ∷ bs)
-  by_hash true e s l d q = subst (λ (x : ℕ). Finding starts (x ∷ bs)) (sym (eq_is b 35 e)) (hash_at starts bs)
-  by_hash false e s l d q = by_backslash (nat_eq b 92) refl s l d q e
+  by_double_quote true e s l d q = literal_at starts b bs (literal_of bs) e refl
+  by_double_quote false e s l d q = by_hash (nat_eq b 35) refl s l d q e
 
   by_quote : (t : Bool) → nat_eq b 39 ≡ t → is_space b ≡ false → is_letter b ≡ false → is_digit b ≡ false
       → Finding starts (b ∷ bs)
   by_quote true e s l d = quoted_at starts b bs (character_of bs) e refl
-  by_quote false e s l d = by_hash (nat_eq b 35) refl s l d e
+  by_quote false e s l d = by_double_quote (nat_eq b 34) refl s l d e
 
   by_digit : (t : Bool) → is_digit b ≡ t → is_space b ≡ false → is_letter b ≡ false → Finding starts (b ∷ bs)
   by_digit true e s l = number_at starts b bs (constant_of (take (run_len in_number b bs + 1) (b ∷ bs))) e refl

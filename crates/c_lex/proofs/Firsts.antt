@@ -55,6 +55,7 @@ pub record IsOther (b : ℕ) : Type 0 where
   pub no_letter : is_letter b ≡ false
   pub no_digit : is_digit b ≡ false
   pub no_quote : nat_eq b 39 ≡ false
+  pub no_double_quote : nat_eq b 34 ≡ false
   pub no_hash : nat_eq b 35 ≡ false
   pub no_backslash : nat_eq b 92 ≡ false
   pub no_mark : lookup (b ∷ []) marks ≡ None
@@ -65,6 +66,7 @@ Is b first.Space = is_space b ≡ true
 Is b first.Letter = is_letter b ≡ true
 Is b first.Digit = is_digit b ≡ true
 Is b first.Quote = nat_eq b 39 ≡ true
+Is b first.DoubleQuote = nat_eq b 34 ≡ true
 Is b first.Hash = nat_eq b 35 ≡ true
 Is b first.Backslash = nat_eq b 92 ≡ true
 Is b (first.Only m) = IsOnly b m
@@ -73,18 +75,19 @@ Is b first.Other = IsOther b
 
 -- a byte of no other class is a mark, or begins no piece
 marks_are : (b : ℕ) (o : Option Mark) → lookup (b ∷ []) marks ≡ o → is_space b ≡ false
-    → is_letter b ≡ false → is_digit b ≡ false → nat_eq b 39 ≡ false → nat_eq b 35 ≡ false
-    → nat_eq b 92 ≡ false → Is b (of_mark b o)
-marks_are b None e s l d q h k = record {
+    → is_letter b ≡ false → is_digit b ≡ false → nat_eq b 39 ≡ false → nat_eq b 34 ≡ false
+    → nat_eq b 35 ≡ false → nat_eq b 92 ≡ false → Is b (of_mark b o)
+marks_are b None e s l d q t h k = record {
   no_space = s;
   no_letter = l;
   no_digit = d;
   no_quote = q;
+  no_double_quote = t;
   no_hash = h;
   no_backslash = k;
   no_mark = e;
 }
-marks_are b (Some m) e s l d q h k =
+marks_are b (Some m) e s l d q t h k =
     let P : Bool → Type 0 = λ v. none_longer b marks ≡ v
     → Is b (cond v (first.Only m) (first.Begins m)) in
     elim (none_longer b marks) as (λ v. P v) [
@@ -96,8 +99,11 @@ marks_are b (Some m) e s l d q h k =
 abbrev pub after_hash : ℕ → First
 after_hash b = cond (nat_eq b 92) first.Backslash (of_mark b (lookup (b ∷ []) marks))
 
+abbrev pub after_double_quote : ℕ → First
+after_double_quote b = cond (nat_eq b 35) first.Hash (after_hash b)
+
 abbrev pub after_quote : ℕ → First
-after_quote b = cond (nat_eq b 35) first.Hash (after_hash b)
+after_quote b = cond (nat_eq b 34) first.DoubleQuote (after_double_quote b)
 
 abbrev pub after_digit : ℕ → First
 after_digit b = cond (nat_eq b 39) first.Quote (after_quote b)
@@ -113,20 +119,25 @@ pub first_is : (b : ℕ) → Is b (first_of b)
 first_is b = by_space (is_space b) refl
   where
     by_backslash : (v : Bool) → nat_eq b 92 ≡ v → is_space b ≡ false → is_letter b ≡ false
-        → is_digit b ≡ false → nat_eq b 39 ≡ false → nat_eq b 35 ≡ false
+        → is_digit b ≡ false → nat_eq b 39 ≡ false → nat_eq b 34 ≡ false → nat_eq b 35 ≡ false
         → Is b (cond v first.Backslash (of_mark b (lookup (b ∷ []) marks)))
-    by_backslash true k s l d q h = k
-    by_backslash false k s l d q h = marks_are b (lookup (b ∷ []) marks) refl s l d q h k
+    by_backslash true k s l d q t h = k
+    by_backslash false k s l d q t h = marks_are b (lookup (b ∷ []) marks) refl s l d q t h k
 
     by_hash : (v : Bool) → nat_eq b 35 ≡ v → is_space b ≡ false → is_letter b ≡ false
-        → is_digit b ≡ false → nat_eq b 39 ≡ false → Is b (cond v first.Hash (after_hash b))
-    by_hash true h s l d q = h
-    by_hash false h s l d q = by_backslash (nat_eq b 92) refl s l d q h
+        → is_digit b ≡ false → nat_eq b 39 ≡ false → nat_eq b 34 ≡ false → Is b (cond v first.Hash (after_hash b))
+    by_hash true h s l d q t = h
+    by_hash false h s l d q t = by_backslash (nat_eq b 92) refl s l d q t h
+
+    by_double_quote : (v : Bool) → nat_eq b 34 ≡ v → is_space b ≡ false → is_letter b ≡ false
+        → is_digit b ≡ false → nat_eq b 39 ≡ false → Is b (cond v first.DoubleQuote (after_double_quote b))
+    by_double_quote true t s l d q = t
+    by_double_quote false t s l d q = by_hash (nat_eq b 35) refl s l d q t
 
     by_quote : (v : Bool) → nat_eq b 39 ≡ v → is_space b ≡ false → is_letter b ≡ false
         → is_digit b ≡ false → Is b (cond v first.Quote (after_quote b))
     by_quote true q s l d = q
-    by_quote false q s l d = by_hash (nat_eq b 35) refl s l d q
+    by_quote false q s l d = by_double_quote (nat_eq b 34) refl s l d q
 
     by_digit : (v : Bool) → is_digit b ≡ v → is_space b ≡ false → is_letter b ≡ false
         → Is b (cond v first.Digit (after_digit b))
@@ -189,7 +200,18 @@ only_no_slash b m o = elim (true_or_false (nat_eq b 47)) [
 
 -- such a byte begins no piece
 pub others : (b : ℕ) → IsOther b → group b ≡ Others
-others b o = rw (o.no_space, o.no_backslash, o.no_letter, o.no_digit, o.no_quote, no_slash, o.no_hash, o.no_mark)
+others b o =
+    rw (
+      o.no_space,
+      o.no_backslash,
+      o.no_letter,
+      o.no_digit,
+      o.no_quote,
+      o.no_double_quote,
+      no_slash,
+      o.no_hash,
+      o.no_mark,
+    )
   where
     no_slash : nat_eq b 47 ≡ false
     no_slash = elim (true_or_false (nat_eq b 47)) [

@@ -9,13 +9,17 @@ use Rattle.c_lex.specs.declared.piece.Reading.{Reading}
 use Rattle.c_lex.specs.declared.piece.Reading.TheVariants as reads
 use Rattle.c_lex.specs.Bytes.{Bytes}
 use Rattle.c_lex.specs.Constants.{signed_char}
-use Rattle.c_lex.specs.inside.Scans.{character_of, include_at}
+use Rattle.c_lex.specs.inside.Characters.{character_of}
+use Rattle.c_lex.specs.inside.Scans.{include_at}
+use Rattle.c_lex.specs.inside.Strings.{values_from}
+use Rattle.c_lex.specs.Strings.{string_name}
 use Rattle.c_lex.specs.Pieces as piece
 use Rattle.c_lex.specs.Pieces.{Piece, Longest}
 use Rattle.c_lex.proofs.Basics.{differ, some_same, first_same, second_same}
-use Rattle.c_lex.proofs.Groups.{Group, group, In, Spaces, Letters, Digits, Quotes, Slashes, Hashes}
-use Rattle.c_lex.proofs.Groups.{Marks, Others, InDigits, InQuotes, InSlashes, InHashes, constant}
-use Rattle.c_lex.proofs.Groups.{bad_number, character, quote, line_comment, comment, opening, mark}
+use Rattle.c_lex.proofs.Groups.{Group, group, In, Spaces, Letters, Digits, Quotes, Literals, Slashes, Hashes}
+use Rattle.c_lex.proofs.Groups.{Marks, Others, InDigits, InQuotes, InLiterals, InSlashes, InHashes, constant}
+use Rattle.c_lex.proofs.Groups.{bad_number, character, quote, string, double_quote}
+use Rattle.c_lex.proofs.Groups.{line_comment, comment, opening, mark}
 use Rattle.c_lex.proofs.Groups.{include, directive, other_line, Sorted, sorted, mark_is, mark_like}
 use Rattle.c_lex.specs.declared.directive.DirectiveKind.{DirectiveKind}
 use Rattle.c_lex.specs.declared.directive.Header.{Header}
@@ -25,6 +29,7 @@ use Rattle.c_lex.proofs.Comments.{slash_like}
 use Rattle.c_lex.proofs.Lines.{include_is}
 use Rattle.c_lex.proofs.Numbers.{constant_there}
 use Rattle.c_lex.proofs.Characters.{character_there}
+use Rattle.c_lex.proofs.Strings.{characters_there}
 
 digits_same : {p : Bytes} {q q' : Reading} → InDigits p q → InDigits p q' → q ≡ q'
 digits_same {p} (constant {v = v} {k = k} c) (constant {v = v'} {k = k'} c') =
@@ -55,6 +60,20 @@ quotes_same (character c e x) (quote e') = let h : 39 ∷ c ++ 39 ∷ [] ≡ 39 
 quotes_same (quote e') (character c e x) = let h : 39 ∷ c ++ 39 ∷ [] ≡ 39 ∷ [] = sym e ∙ e' in
     absurd (no_end c 39 (cc))
 quotes_same (quote e) (quote e') = refl
+
+literals_same : {p : Bytes} {q q' : Reading} → InLiterals p q → InLiterals p q' → q ≡ q'
+literals_same (string {vs = vs} c e x) (string {vs = vs'} c' e' x') =
+    let h : 34 ∷ c ++ 34 ∷ [] ≡ 34 ∷ c' ++ 34 ∷ [] = sym e ∙ e' in
+    let t : c ++ 34 ∷ [] ≡ c' ++ 34 ∷ [] = cc in
+    let s : Some (length c, vs) ≡ Some (length c', vs') = sym (characters_there c vs [] x)
+    ∙ ap (values_from 0) t ∙ characters_there c' vs' [] x' in
+    let a : vs ≡ vs' = second_same {A = Bytes} (length c, vs) (length c', vs') s in
+    ap (λ (w : Bytes). reads.Token (form.Name (string_name w))) a
+literals_same (string c e x) (double_quote e') = let h : 34 ∷ c ++ 34 ∷ [] ≡ 34 ∷ [] = sym e ∙ e' in
+    absurd (no_end c 34 (cc))
+literals_same (double_quote e') (string c e x) = let h : 34 ∷ c ++ 34 ∷ [] ≡ 34 ∷ [] = sym e ∙ e' in
+    absurd (no_end c 34 (cc))
+literals_same (double_quote e) (double_quote e') = refl
 
 -- no mark begins a comment
 no_mark : (p bs : Bytes) (b : ℕ) → (nat_eq b 47 || nat_eq b 42) ≡ true → p ≡ 47 ∷ b ∷ bs
@@ -153,6 +172,7 @@ in_same starts p q q' Spaces i j = i.2 ∙ sym j.2
 in_same starts p q q' Letters i j = i.4 ∙ sym j.4
 in_same starts p q q' Digits i j = digits_same i.4 j.4
 in_same starts p q q' Quotes i j = quotes_same i j
+in_same starts p q q' Literals i j = literals_same i j
 in_same starts p q q' Slashes i j = slashes_same i j
 in_same starts p q q' Hashes i j = hashes_same i.1 j.1
 in_same starts p q q' Marks i j = let h : i.0 ≡ j.0 = cc (i.1, j.1) in

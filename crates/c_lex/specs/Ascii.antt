@@ -33,7 +33,7 @@ carriage_return = 13
 abbrev pub space : ℕ
 space = 32
 
--- the byte of `"`, which an escape may name
+-- the byte of `"`, around a string literal
 abbrev pub double_quote : ℕ
 double_quote = 34
 

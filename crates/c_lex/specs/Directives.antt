@@ -55,6 +55,7 @@ headers =
     ∷ (codes "<stddef.h>", header.Stddef)
     ∷ (codes "<stdlib.h>", header.Stdlib)
     ∷ (codes "<string.h>", header.String)
+    ∷ (codes "<ctype.h>", header.Ctype)
     ∷ []
 
 -- The token of an include (C17 6.10.2): `<stdio.h>` has one of its own, and any other is its name in brackets.
@@ -65,6 +66,12 @@ header_form header.Stdbool = form.Name (codes "<stdbool.h>")
 header_form header.Stddef = form.Name (codes "<stddef.h>")
 header_form header.Stdlib = form.Name (codes "<stdlib.h>")
 header_form header.String = form.Name (codes "<string.h>")
+header_form header.Ctype = form.Name (codes "<ctype.h>")
+
+-- the header whose name in brackets the token is, if it is one
+abbrev pub header_of : Form → Option Header
+header_of (form.Name w) = lookup w headers
+header_of _ = None
 
 -- The name of the end of a directive's line. It stands where the white space with the line feed begins; none stands
 -- where the text ends first.

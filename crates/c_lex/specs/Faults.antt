@@ -12,7 +12,7 @@ use Rattle.c_lex.specs.Lexes.{Tokens, Line, fresh, Cut}
 pub data Fault : Type 0 where
   -- no piece begins with it
   BadByte : Fault
-  -- a number, or a character constant, that is none of the profile
+  -- a number, a character constant or a string literal that is none of the profile
   BadLiteral : Fault
   -- a comment without its end
   Unclosed : Fault

@@ -1,5 +1,6 @@
 pub mod Answers
 pub mod Ascii
+pub mod Characters
 pub mod Finds
 pub mod Firsts
 pub mod Guesses
@@ -9,4 +10,5 @@ pub mod Places
 pub mod Runs
 pub mod Scans
 pub mod Spaces
+pub mod Strings
 pub mod Turns

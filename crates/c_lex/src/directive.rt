@@ -34,6 +34,7 @@ pub enum Header {
     Stddef,
     Stdlib,
     String,
+    Ctype,
 }
 
 /// The directive of a word.
@@ -139,8 +140,20 @@ fn headed(name: &[u8]) -> Option<Header>
         Some(Header::Stdlib)
     } else if is_word(b"<string.h>", name) {
         Some(Header::String)
+    } else if is_word(b"<ctype.h>", name) {
+        Some(Header::Ctype)
     } else {
         None
+    }
+}
+
+/// The header whose name in brackets a token is, if it is one.
+pub fn header_of(form: &Form) -> Option<Header>
+    ensures { result ≡ directives.header_of form.now }
+{
+    match form {
+        Form::Name(name) => headed(name.as_slice()),
+        _ => None,
     }
 }
 
@@ -178,5 +191,6 @@ pub fn header_form(alloc: Global, header: Header) -> Result<Form, LexFault>
         Header::Stddef => Ok(Form::Name(Word::from_slice(alloc, b"<stddef.h>")?)),
         Header::Stdlib => Ok(Form::Name(Word::from_slice(alloc, b"<stdlib.h>")?)),
         Header::String => Ok(Form::Name(Word::from_slice(alloc, b"<string.h>")?)),
+        Header::Ctype => Ok(Form::Name(Word::from_slice(alloc, b"<ctype.h>")?)),
     }
 }

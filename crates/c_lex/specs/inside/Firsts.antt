@@ -27,6 +27,7 @@ first_of b =
     else if is_letter b then first.Letter
     else if is_digit b then first.Digit
     else if nat_eq b ascii.quote then first.Quote
+    else if nat_eq b ascii.double_quote then first.DoubleQuote
     else if nat_eq b ascii.hash then first.Hash
     else if nat_eq b ascii.backslash then first.Backslash
     else of_mark b (lookup (b ∷ []) marks)
