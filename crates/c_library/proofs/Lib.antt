@@ -1,0 +1,16 @@
+pub mod Holds
+pub mod Puts
+pub mod LiteralForms
+pub mod JoinedLiterals
+pub mod StringFacts
+pub mod ArrayTurns
+pub mod StringTurns
+pub mod FormatFacts
+pub mod FormatForms
+pub mod Placed
+pub mod Mentions
+pub mod Unchanged
+pub mod KeptLibrary
+pub mod KeptFormats
+pub mod LibraryFacts
+pub mod PreparedFacts

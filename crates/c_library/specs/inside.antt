@@ -1,0 +1,4 @@
+pub mod Gives
+pub mod Puts
+pub mod Placed
+pub mod Mentions
