@@ -14,6 +14,8 @@ mod pre_rows;
 #[cfg(test)]
 mod pre_tests;
 #[cfg(test)]
+mod string_tests;
+#[cfg(test)]
 mod type_constant_rows;
 #[cfg(test)]
 mod type_rows;

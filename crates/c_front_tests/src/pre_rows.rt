@@ -234,3 +234,38 @@ pub const ROWS: &[Row] = &[
         "1",
     ),
 ];
+
+/// The same of string literals, each a word that begins with `"` alone.
+pub const LITERAL_ROWS: &[Row] = &[
+    // A literal is no macro's name.
+    (&["#define", "\"a", "1", ";;"], "BadDefine 0"),
+    (&["#undef", "\"a", ";;"], "BadDefine 0"),
+    (&["#ifdef", "\"a", ";;", "#endif", ";;"], "BadDefine 0"),
+    // 6.4.5: literals side by side are one, and literals alike are one array.
+    (
+        &["int", "A", ";", "\"a", "\"b", ";", "\"ab"],
+        "char \"ab [ ] = { 97 , 98 , 0 } ; int A ; \"ab ; \"ab",
+    ),
+    (
+        &["#define", "A", "\"a", ";;", "A", "\"b"],
+        "char \"ab [ ] = { 97 , 98 , 0 } ; \"ab",
+    ),
+    // 6.7.9: literals that initialise an array.
+    (
+        &["A", "[", "]", "=", "\"ab", ";"],
+        "A [ ] = { 97 , 98 , 0 } ;",
+    ),
+    (
+        &["A", "=", "{", "\"a", ",", "\"", "}", ";"],
+        "A = { { 97 , 0 } , { 0 } } ;",
+    ),
+    (
+        &["A", "=", "\"a", "[", "0", "]", ";"],
+        "char \"a [ ] = { 97 , 0 } ; A = \"a [ 0 ] ;",
+    ),
+    // The list of a call is none.
+    (
+        &["A", "=", "{", "B", "(", "\"a", ")", "}"],
+        "char \"a [ ] = { 97 , 0 } ; A = { B ( \"a ) }",
+    ),
+];

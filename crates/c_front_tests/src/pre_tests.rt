@@ -1,6 +1,6 @@
 //! Raw tokens with the program or the fault that C17 6.10 gives them.
 
-use crate::pre_rows::ROWS;
+use crate::pre_rows::{LITERAL_ROWS, ROWS};
 use c_pre::{PreFault, program};
 use c_tree::{Form, Key, Kind, Lexeme, Mark, Word};
 use std::alloc::{AllocError, Global};
@@ -16,6 +16,12 @@ fn form_of(alloc: Global, word: &str) -> Result<Form, AllocError> {
         b"*" => Ok(Form::Mark(Mark::Star)),
         b"(" => Ok(Form::Mark(Mark::LeftParen)),
         b";" => Ok(Form::Mark(Mark::Semicolon)),
+        b"=" => Ok(Form::Mark(Mark::Assign)),
+        b"," => Ok(Form::Mark(Mark::Comma)),
+        b"[" => Ok(Form::Mark(Mark::LeftBracket)),
+        b"]" => Ok(Form::Mark(Mark::RightBracket)),
+        b"{" => Ok(Form::Mark(Mark::LeftBrace)),
+        b"}" => Ok(Form::Mark(Mark::RightBrace)),
         b"0" => Ok(number(0)),
         b"1" => Ok(number(1)),
         b"2" => Ok(number(2)),
@@ -52,11 +58,18 @@ fn word_of(alloc: Global, form: &Form) -> Result<String, AllocError> {
         Form::Include => String::from_str(alloc, "include"),
         Form::Key(Key::Int) => String::from_str(alloc, "int"),
         Form::Key(Key::Long) => String::from_str(alloc, "long"),
+        Form::Key(Key::Char) => String::from_str(alloc, "char"),
         Form::Key(_) => String::from_str(alloc, "key"),
         Form::Mark(Mark::Plus) => String::from_str(alloc, "+"),
         Form::Mark(Mark::Star) => String::from_str(alloc, "*"),
         Form::Mark(Mark::LeftParen) => String::from_str(alloc, "("),
         Form::Mark(Mark::Semicolon) => String::from_str(alloc, ";"),
+        Form::Mark(Mark::Assign) => String::from_str(alloc, "="),
+        Form::Mark(Mark::Comma) => String::from_str(alloc, ","),
+        Form::Mark(Mark::LeftBracket) => String::from_str(alloc, "["),
+        Form::Mark(Mark::RightBracket) => String::from_str(alloc, "]"),
+        Form::Mark(Mark::LeftBrace) => String::from_str(alloc, "{"),
+        Form::Mark(Mark::RightBrace) => String::from_str(alloc, "}"),
         Form::Mark(_) => String::from_str(alloc, "mark"),
         Form::Number { value, .. } => format!(in alloc; "{value}"),
         Form::Name(name) => match str::from_utf8(name.as_slice()) {
@@ -83,6 +96,7 @@ fn told(alloc: Global, answer: Result<Vec<Lexeme>, PreFault>) -> Result<String, 
         Err(PreFault::Redefined(at)) => format!(in alloc; "Redefined {at}"),
         Err(PreFault::BadDefine(at)) => format!(in alloc; "BadDefine {at}"),
         Err(PreFault::TooManyTokens(at)) => format!(in alloc; "TooManyTokens {at}"),
+        Err(PreFault::Format(at)) => format!(in alloc; "Format {at}"),
         Err(PreFault::Memory) => Err(AllocError),
     }
 }
@@ -106,6 +120,14 @@ fn assert_row(
 #[test]
 fn gives_each_program(rt: HostRuntime) -> Result<(), Fail> {
     for (number, (words, want)) in ROWS.iter().enumerate() {
+        assert_row(&rt, rt.alloc(), number, words, want)?;
+    }
+    Ok(())
+}
+
+#[test]
+fn gives_each_unit_of_literals(rt: HostRuntime) -> Result<(), Fail> {
+    for (number, (words, want)) in LITERAL_ROWS.iter().enumerate() {
         assert_row(&rt, rt.alloc(), number, words, want)?;
     }
     Ok(())

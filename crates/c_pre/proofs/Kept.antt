@@ -7,6 +7,7 @@ use Rattle.std.specs.Str.{bytes_eq}
 use Rattle.std.proofs.lemmas.Bool.Decides.{nat_tests}
 use Rattle.c_tree.specs.declared.Form.{Form}
 use Rattle.c_tree.specs.declared.Lexeme.{Lexeme}
+pub use Rattle.c_library.proofs.Holds.{Fact, EachForm, EachToken, Allows, is_wide}
 use Rattle.c_pre.specs.declared.fault.PreFault.{PreFault}
 use Rattle.c_pre.specs.declared.fault.PreFault.TheVariants as fault
 use Rattle.c_pre.specs.declared.macros.Macro.{Macro}
@@ -15,19 +16,7 @@ use Rattle.c_pre.specs.Macros.{Name, Turn, name_of, last_body, body_of, is_hidde
 use Rattle.c_pre.specs.Macros.{turns_of, turns}
 use Rattle.c_pre.specs.Outputs.{◌>>=◌, with_token, taken, all_taken}
 
--- a fact on forms
-abbrev pub Fact : Type 1
-Fact = Form → Type 0
-
--- it holds of each of these
-abbrev pub EachForm : Fact → List Form → Type 0
-EachForm P [] = Unit {0}
-EachForm P (f ∷ fs) = P f × EachForm P fs
-
-abbrev pub EachToken : Fact → List Lexeme → Type 0
-EachToken P [] = Unit {0}
-EachToken P (t ∷ ts) = P t.form × EachToken P ts
-
+-- it holds of a body, if there is one
 abbrev pub BodyHas : Fact → Option (List Form) → Type 0
 BodyHas P None = Unit {0}
 BodyHas P (Some body) = EachForm P body
@@ -55,11 +44,13 @@ pub bound : {A B : Type 0} (Q : A → Type 0) (R : B → Type 0) (m : Result A P
 bound Q R (Ok x) f h g = g x h
 bound Q R (Err e) f h g = tt
 
--- MACROS
+-- TOKENS
 
 pub token_end : (P : Fact) (ts : List Lexeme) (t : Lexeme) → EachToken P ts → P t.form → EachToken P (ts ++ t ∷ [])
 token_end P [] t h p = (p, tt)
 token_end P (u ∷ us) t h p = (h.0, token_end P us t h.1 p)
+
+-- MACROS
 
 pub macro_end : (P : Fact) (ms : List Macro) (m : Macro) → EachMacro P ms → BodyHas P m.body
     → EachMacro P (ms ++ m ∷ [])
@@ -161,6 +152,11 @@ all_have P most at [] o h p = h
 all_have P most at (t ∷ ts) o h p =
     bound (Out P most) (Out P most) (taken most at t o) (all_taken most at ts) (taken_has P most at t o h p.0)
     (λ x q. all_have P most at ts x q p.1)
+
+-- a token that stays
+pub token_has : (P : Fact) (most at : ℕ) (f : Form) (o : Output) → Out P most o → P f
+    → OkHas (Out P most) (taken most at (Some f) o)
+token_has P most at f o h p = token_counted P most at f o (nat_lt o.count most) refl h p
 
 -- what a form comes to
 pub form_has : (P : Fact) (most at n : ℕ) (ms : List Macro) (f : Form) (o : Output) → P f → EachMacro P ms

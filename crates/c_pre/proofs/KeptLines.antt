@@ -10,7 +10,7 @@ use Rattle.c_lex.specs.declared.directive.DirectiveKind.TheVariants as directive
 use Rattle.c_pre.specs.declared.fault.PreFault.{PreFault}
 use Rattle.c_pre.specs.declared.fault.PreFault.TheVariants as fault
 use Rattle.c_pre.specs.declared.groups.Group.{Group}
-use Rattle.c_pre.specs.declared.headers.Header.{Header}
+use Rattle.c_lex.specs.declared.directive.Header.{Header}
 use Rattle.c_pre.specs.declared.reader.Line.{Line}
 use Rattle.c_pre.specs.declared.reader.Reader.{Reader}
 use Rattle.c_pre.specs.declared.said.Said.{Said}
@@ -22,13 +22,15 @@ use Rattle.c_pre.specs.Lines.{with_macro, named_by, named, is_apart, defined_as,
 use Rattle.c_pre.specs.Lines.{header_read}
 use Rattle.c_pre.specs.Lines.{opened_by, opened_at, is_macro, is_more, other, parted, closed, obeyed, lone_name}
 use Rattle.c_pre.specs.Macros.{Name, name_of, body_of, turns}
-use Rattle.c_pre.specs.Outputs.{◌>>=◌, all_taken}
+use Rattle.c_library.specs.Headers.{is_served}
+use Rattle.c_pre.specs.Outputs.{◌>>=◌, taken, all_taken}
+use Rattle.c_pre.specs.Programs.{kept, header_given}
 use Rattle.c_pre.specs.Programs.{given, in_line, read_plain, read_in_line, read_by, read_token, read_all, line_ended}
-use Rattle.c_pre.specs.Programs.{groups_ended, ended, program, beginning}
+use Rattle.c_pre.specs.Programs.{groups_ended, ended, directed, beginning}
 use Rattle.c_pre.specs.Said.{said_by}
 use Rattle.c_lex.specs.Lexes.{Tokens}
 use Rattle.c_pre.proofs.Kept.{Fact, EachForm, EachToken, BodyHas, EachMacro, OkHas, bound, token_end, macro_end}
-use Rattle.c_pre.proofs.Kept.{forms_have, Out, form_has}
+use Rattle.c_pre.proofs.Kept.{forms_have, Out, form_has, token_has}
 
 -- it holds of the tokens of a line
 abbrev LineHas : Fact → Option Line → Type 0
@@ -161,6 +163,20 @@ given_has P most t r h p =
     (form_has P most t.offset (length r.macros) r.macros t.form r.output p h.macros h.output)
     (λ o q. record { macros = h.macros; line = h.line; output = q })
 
+kept_has : (P : Fact) (most : ℕ) (b : Bool) (t : Lexeme) (r : Reader) → Has P most r → P t.form
+    → OkHas (Has P most) (kept most b t r)
+kept_has P most false t r h p = h
+kept_has P most true t r h p =
+    bound (Out P most) (Has P most) (taken most t.offset (Some t.form) r.output)
+    (λ o. Ok (record r { output = o })) (token_has P most t.offset t.form r.output h.output p)
+    (λ o q. record { macros = h.macros; line = h.line; output = q })
+
+header_given_has : (P : Fact) (most : ℕ) (t : Lexeme) (d : Header) (r : Reader) → HeadersHave P → Has P most r
+    → P t.form → OkHas (Has P most) (header_given most t d r)
+header_given_has P most t d r c h p =
+    bound (Has P most) (Has P most) (kept most (is_served t.form) t r) (header_read t.offset d)
+    (kept_has P most (is_served t.form) t r h p) (λ x q. header_has P most t.offset d x q (c d))
+
 lined : (P : Fact) (most : ℕ) (l : Option Line) (r : Reader) → Has P most r → LineHas P l → Has P most (in_line l r)
 lined P most l r h k = record { macros = h.macros; line = k; output = h.output }
 
@@ -171,7 +187,7 @@ plain_has P most said.Token t r c h p =
 plain_has P most (said.Directive d) t r c h p =
     lined P most (Some (record { directive = d; offset = t.offset; tokens = [] })) r h tt
 plain_has P most (said.Header d) t r c h p =
-    either P most (is_read r.groups) (header_read t.offset d r) (Ok r) (header_has P most t.offset d r h (c d)) h
+    either P most (is_read r.groups) (header_given most t d r) (Ok r) (header_given_has P most t d r c h p) h
 plain_has P most said.LineEnd t r c h p = h
 
 line_has : (P : Fact) (most : ℕ) (s : Said) (l : Line) (t : Lexeme) (r : Reader) → Has P most r → EachToken P l.tokens
@@ -232,28 +248,11 @@ begins P most = record {
   output = record { forms = tt; many = omega arith; few = omega arith };
 }
 
--- what holds of each raw token and of each constant of a header holds of each token of the program, of which there
+-- what holds of each raw token and of each constant of a header holds of each token behind directives, of which there
 -- are as few as there may be
-pub program_keeps : (P : Fact) (most : ℕ) (raw ts : Tokens) → HeadersHave P → EachToken P raw
-    → program most raw ≡ Ok ts → Few P most ts
-program_keeps P most raw ts c k e =
+pub directed_keeps : (P : Fact) (most : ℕ) (raw ts : Tokens) → HeadersHave P → EachToken P raw
+    → directed most raw ≡ Ok ts → Few P most ts
+directed_keeps P most raw ts c k e =
     subst (λ (m : Result Tokens PreFault). OkHas (Few P most) m) e
     (bound (Has P most) (Few P most) (read_all most raw beginning) ended
     (all_read P most raw beginning c (begins P most) k) (λ r q. ended_has P most r q))
-
--- nothing is asked of them
-abbrev Any : Fact
-Any f = Unit {0}
-
-any_tokens : (ts : Tokens) → EachToken Any ts
-any_tokens [] = tt
-any_tokens (t ∷ ts) = (tt, any_tokens ts)
-
-any_rows : (rows : List Row) → EachRow Any rows
-any_rows [] = tt
-any_rows (row ∷ rows) = (tt, any_rows rows)
-
--- a program has as few tokens as there may be
-pub program_few : (most : ℕ) (raw ts : Tokens) → program most raw ≡ Ok ts → length ts ≤ most
-program_few most raw ts e =
-    (program_keeps Any most raw ts (λ h. any_rows (names_of h)) (any_tokens raw) e).few

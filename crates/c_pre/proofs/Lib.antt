@@ -4,5 +4,6 @@ pub mod Plain
 pub mod Words
 pub mod Kept
 pub mod KeptLines
+pub mod KeptPrograms
 pub mod StandardFacts
 pub mod Texts

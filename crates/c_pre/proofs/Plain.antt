@@ -1,4 +1,4 @@
--- Raw tokens that are all tokens of the program are their own program.
+-- Plain raw tokens are their own program.
 use Rattle.std.proofs.Common.{◌≡◌, ◌≤◌, ◌<◌, ℕ, ◌+◌, Bool, true, false, List, [], ◌∷◌, ◌++◌, length, refl, ap, sym}
 use Rattle.std.proofs.Common.{◌∙◌, arith, append_assoc, length-append}
 use Rattle.std.specs.Prelude.{nat_lt, cond, ◌&&◌, Option, None, Result, Ok, Err}
@@ -12,10 +12,13 @@ use Rattle.c_pre.specs.declared.reader.Reader.{Reader}
 use Rattle.c_pre.specs.declared.said.Said.{Said}
 use Rattle.c_pre.specs.declared.said.Said.TheVariants as said
 use Rattle.c_pre.specs.Said.{said_by}
-use Rattle.c_pre.specs.Outputs.{◌>>=◌, with_token}
-use Rattle.c_pre.specs.Programs.{read_plain, read_token, read_all, ended, program}
+use Rattle.c_library.specs.declared.fault.LibraryFault.{LibraryFault}
+use Rattle.c_library.specs.Prepared.{prepared, is_prepared}
+use Rattle.c_library.proofs.PreparedFacts.{prepared_stays}
+use Rattle.c_pre.specs.Outputs.{◌>>=◌, lifted, with_token}
+use Rattle.c_pre.specs.Programs.{read_plain, read_token, read_all, ended, directed, program}
 use Rattle.c_lex.specs.Lexes.{Tokens}
-use Rattle.c_pre.specs.Plain.{is_token, is_plain}
+use Rattle.c_pre.specs.Plain.{is_token, has_no_directive, is_plain}
 
 and_left : (a b : Bool) → (a && b) ≡ true → a ≡ true
 and_left true b e = refl
@@ -68,18 +71,31 @@ one_read most ts t few is = by (said_by t.form) is
     by said.LineEnd h = absurd (cc)
 
 -- each of them is added
-all_read : (most : ℕ) (ts us : Tokens) → length ts + length us ≤ most → is_plain us ≡ true
+all_read : (most : ℕ) (ts us : Tokens) → length ts + length us ≤ most → has_no_directive us ≡ true
     → read_all most us (behind ts) ≡ Ok (behind (ts ++ us))
 all_read most ts [] few plain = ap (λ (us : Tokens). Ok (behind us)) (sym (append-nil ts))
 all_read most ts (u ∷ us) few plain =
-    let first : is_token (said_by u.form) ≡ true = and_left (is_token (said_by u.form)) (is_plain us) plain in
-    let others : is_plain us ≡ true = and_right (is_token (said_by u.form)) (is_plain us) plain in
+    let first : is_token (said_by u.form) ≡ true = and_left (is_token (said_by u.form)) (has_no_directive us) plain in
+    let others : has_no_directive us ≡ true = and_right (is_token (said_by u.form)) (has_no_directive us) plain in
     let longer : length ts + 1 ≡ length (ts ++ u ∷ []) = counts ts u in
     ap (λ (m : Result Reader PreFault). m >>= read_all most us) (one_read most ts u (omega arith) first)
     ∙ all_read most (ts ++ u ∷ []) us (omega arith) others
     ∙ ap (λ (us : Tokens). Ok (behind us)) (append_assoc ts (u ∷ []) us)
 
--- raw tokens without a directive and a header are their own program
+-- raw tokens without a directive and a header stay behind directives
+directed_stays : (most : ℕ) (ts : Tokens) → has_no_directive ts ≡ true → length ts ≤ most → directed most ts ≡ Ok ts
+directed_stays most ts plain few =
+    ap (λ (m : Result Reader PreFault). m >>= ended) (all_read most [] ts (omega arith) plain)
+
+-- raw tokens without these, without literals and without calls of the library are their own program
+pub stays_by : (most : ℕ) (ts : Tokens) → has_no_directive ts ≡ true → is_prepared ts ≡ true → length ts ≤ most
+    → program most ts ≡ Ok ts
+stays_by most ts d p few =
+    ap (λ (m : Result Tokens PreFault). m >>= λ us. lifted (prepared most us)) (directed_stays most ts d few)
+    ∙ ap (λ (m : Result Tokens LibraryFault). lifted m) (prepared_stays most ts p few)
+
+-- so plain raw tokens are
 pub plain_stays : (most : ℕ) (ts : Tokens) → is_plain ts ≡ true → length ts ≤ most → program most ts ≡ Ok ts
 plain_stays most ts plain few =
-    ap (λ (m : Result Reader PreFault). m >>= ended) (all_read most [] ts (omega arith) plain)
+    stays_by most ts (and_left (has_no_directive ts) (is_prepared ts) plain)
+    (and_right (has_no_directive ts) (is_prepared ts) plain) few

@@ -7,7 +7,7 @@ use Rattle.c_lex.proofs.Once.{lexes_once}
 use Rattle.c_pre.specs.Plain.{is_plain}
 use Rattle.c_pre.specs.Programs.{program}
 use Rattle.c_pre.specs.Texts.{Tokens, Lexed}
-use Rattle.c_pre.proofs.KeptLines.{program_few}
+use Rattle.c_pre.proofs.KeptPrograms.{program_few}
 use Rattle.c_pre.proofs.Plain.{plain_stays}
 
 -- a text has few tokens
@@ -21,7 +21,7 @@ lexed_once most text ts us a b =
     let is : Ok ts ≡ Ok us = sym a.2 ∙ ap (program most) same ∙ b.2 in
     cc
 
--- a text without directives has its raw tokens
+-- a plain text has its raw tokens
 plain_lexed : (most : ℕ) (text : Bytes) (plain : Tokens) → raw.Lexed most text plain → is_plain plain ≡ true
     → Lexed most text plain
 plain_lexed most text plain l p = (plain, l, plain_stays most plain p l.1)

@@ -6,10 +6,9 @@ use Rattle.std.specs.Str.{bytes_eq}
 use Rattle.std.proofs.lemmas.Bool.Decides.{nat_tests}
 use Rattle.c_tree.specs.declared.Form.TheVariants as form
 use Rattle.c_lex.specs.declared.directive.DirectiveKind.{DirectiveKind}
-use Rattle.c_pre.specs.declared.headers.Header.{Header}
+use Rattle.c_lex.specs.declared.directive.Header.{Header}
 use Rattle.c_pre.specs.declared.said.Said.TheVariants as said
-use Rattle.c_lex.specs.Directives.{words}
-use Rattle.c_pre.specs.Headers.{headers}
+use Rattle.c_lex.specs.Directives.{words, headers}
 use Rattle.c_pre.specs.Said.{of_these, said_by}
 use Rattle.c_lex.specs.Bytes.{Bytes}
 use Rattle.c_lex.specs.Tables.{lookup}
@@ -64,6 +63,7 @@ number_behind c b h = grind (arith, nat_tests)
 
 -- no header begins with a byte behind `<`
 no_header : (b : ℕ) → nat_eq 60 b ≡ false → none_begins b headers ≡ true
+unfolding headers
 no_header b e = simp e
 
 -- a name that begins with a letter or `_` is a token of the program

@@ -1,12 +1,9 @@
--- The headers beside `<stdio.h>`, and the names that they make known.
-use Rattle.std.specs.Prelude.{ℕ, ◌^◌, ◌-◌, List, [], ◌∷◌, Option, None, codes}
-use Rattle.c_tree.specs.declared.Form.{Form}
-use Rattle.c_tree.specs.declared.Form.TheVariants as form
+-- The names that headers make known.
+use Rattle.std.specs.Prelude.{ℕ, ◌^◌, ◌-◌, List, [], ◌∷◌, codes}
 use Rattle.c_tree.specs.declared.Kind.{Kind}
 use Rattle.c_tree.specs.declared.Kind.TheVariants.{Int, UInt, Long, ULong}
-use Rattle.c_pre.specs.declared.headers.Header.{Header}
-use Rattle.c_pre.specs.declared.headers.Header.TheVariants as header
-use Rattle.c_lex.specs.Tables.{lookup}
+use Rattle.c_lex.specs.declared.directive.Header.{Header}
+use Rattle.c_lex.specs.declared.directive.Header.TheVariants as header
 
 -- a name, and the constant that it is: its value modulo 2^64, and its type
 abbrev pub Row : Type 0
@@ -38,34 +35,14 @@ abbrev pub stdbool : List Row
 stdbool =
     (codes "true", 1, Int) ∷ (codes "false", 0, Int) ∷ (codes "__bool_true_false_are_defined", 1, Int) ∷ []
 
--- `<stdlib.h>` (C17 7.22): the values for the end of main; of its functions none is here
+-- `<stdlib.h>` (C17 7.22): the values for the end of main, and the greatest of `rand`
 abbrev pub stdlib : List Row
-stdlib = (codes "EXIT_FAILURE", 1, Int) ∷ (codes "EXIT_SUCCESS", 0, Int) ∷ []
+stdlib =
+    (codes "EXIT_FAILURE", 1, Int) ∷ (codes "EXIT_SUCCESS", 0, Int) ∷ (codes "RAND_MAX", 2 ^ 15 - 1, Int) ∷ []
 
--- the names that a header makes known; of `<stddef.h>` and `<string.h>` none is here
+-- the names that a header makes known; the others have none, but for functions
 abbrev pub names_of : Header → List Row
 names_of header.Limits = limits
 names_of header.Stdbool = stdbool
 names_of header.Stdlib = stdlib
 names_of _ = []
-
--- the last of the headers
-abbrev pub further_headers : List (List ℕ × Header)
-further_headers = (codes "<stdlib.h>", header.Stdlib) ∷ (codes "<string.h>", header.String) ∷ []
-
--- the headers, with their names in brackets
-abbrev pub headers : List (List ℕ × Header)
-headers =
-    (codes "<limits.h>", header.Limits)
-    ∷ (codes "<stdbool.h>", header.Stdbool)
-    ∷ (codes "<stddef.h>", header.Stddef)
-    ∷ further_headers
-
--- the header of this name
-abbrev pub named : List ℕ → Option Header
-named w = lookup w headers
-
--- the header that the token is, if it is one
-abbrev pub header_of : Form → Option Header
-header_of (form.Name w) = named w
-header_of _ = None

@@ -12,7 +12,7 @@ use Rattle.c_pre.specs.declared.groups.Group.{Group}
 use Rattle.c_pre.specs.declared.reader.Reader.{Reader}
 use Rattle.c_pre.specs.Forms.{same_forms}
 use Rattle.c_pre.specs.Groups.{is_read}
-use Rattle.c_pre.specs.declared.headers.Header.{Header}
+use Rattle.c_lex.specs.declared.directive.Header.{Header}
 use Rattle.c_pre.specs.Headers.{Row, names_of}
 use Rattle.c_pre.specs.Macros.{Name, name_of, body_of}
 use Rattle.c_pre.specs.Outputs.{◌>>=◌}

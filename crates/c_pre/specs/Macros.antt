@@ -1,17 +1,19 @@
 -- Macros without parameters, and what replacing names by their bodies gives (C17 6.10.3, 6.10.3.4).
-use Rattle.std.specs.Prelude.{ℕ, zero, suc, Bool, false, ◌||◌, if◌then◌else◌, List, [], ◌∷◌, ◌++◌, Option, Some, None}
+use Rattle.std.specs.Prelude.{ℕ, zero, suc, Bool, false, ◌||◌, if◌then◌else◌, is_some, List, [], ◌∷◌, ◌++◌, Option}
+use Rattle.std.specs.Prelude.{Some, None}
 use Rattle.std.specs.Str.{bytes_eq}
 use Rattle.c_tree.specs.declared.Form.{Form}
 use Rattle.c_tree.specs.declared.Form.TheVariants as form
+use Rattle.c_lex.specs.Strings.{string_named}
 use Rattle.c_pre.specs.declared.macros.Macro.{Macro}
 
 -- a name, byte by byte
 abbrev pub Name : Type 0
 Name = List ℕ
 
--- the name that a token is, if it is one
+-- the name that a token is, if it is one, and no string literal
 abbrev pub name_of : Form → Option Name
-name_of (form.Name w) = Some w
+name_of (form.Name w) = if is_some (string_named w) then None else Some w
 name_of _ = None
 
 -- what the name is behind these lines, where it was this body, or no macro, before them: the last line with the name

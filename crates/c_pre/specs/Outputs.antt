@@ -2,6 +2,8 @@
 use Rattle.std.specs.Prelude.{ℕ, ◌+◌, nat_lt, if◌then◌else◌, List, [], ◌∷◌, ◌++◌, Some, None, Result, Ok, Err}
 use Rattle.c_tree.specs.declared.Form.{Form}
 use Rattle.c_tree.specs.declared.Lexeme.{Lexeme}
+use Rattle.c_library.specs.declared.fault.LibraryFault.{LibraryFault}
+use Rattle.c_library.specs.declared.fault.LibraryFault.TheVariants as library
 use Rattle.c_pre.specs.declared.fault.PreFault.{PreFault}
 use Rattle.c_pre.specs.declared.fault.PreFault.TheVariants as fault
 use Rattle.c_pre.specs.declared.output.Output.{Output}
@@ -12,6 +14,17 @@ infixl 10 ◌>>=◌
 abbrev pub ◌>>=◌ : {A B : Type 0} → Result A PreFault → (A → Result B PreFault) → Result B PreFault
 (Ok x) >>= f = f x
 (Err e) >>= f = Err e
+
+-- the fault that one of the library is
+abbrev pub fault_of : LibraryFault → PreFault
+fault_of (library.Format at) = fault.Format at
+fault_of (library.TooManyTokens at) = fault.TooManyTokens at
+fault_of library.Memory = fault.Memory
+
+-- what the library gives, or its fault
+abbrev pub lifted : {A : Type 0} → Result A LibraryFault → Result A PreFault
+lifted (Ok x) = Ok x
+lifted (Err e) = Err (fault_of e)
 
 -- one more is counted, or is too many, at this place
 abbrev pub counted : ℕ → ℕ → Output → Result Output PreFault

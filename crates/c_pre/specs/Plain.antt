@@ -1,5 +1,6 @@
 -- Raw tokens that are their own program.
 use Rattle.std.specs.Prelude.{Bool, true, false, ◌&&◌, [], ◌∷◌}
+use Rattle.c_library.specs.Prepared.{is_prepared}
 use Rattle.c_pre.specs.declared.said.Said.{Said}
 use Rattle.c_pre.specs.declared.said.Said.TheVariants as said
 use Rattle.c_pre.specs.Said.{said_by}
@@ -10,7 +11,11 @@ abbrev pub is_token : Said → Bool
 is_token said.Token = true
 is_token _ = false
 
--- is each of them one?
+-- is each of them one, and so no directive and no header but `<stdio.h>`?
+abbrev pub has_no_directive : Tokens → Bool
+has_no_directive [] = true
+has_no_directive (t ∷ ts) = is_token (said_by t.form) && has_no_directive ts
+
+-- are they so, with no string literal and no call of the library's?
 abbrev pub is_plain : Tokens → Bool
-is_plain [] = true
-is_plain (t ∷ ts) = is_token (said_by t.form) && is_plain ts
+is_plain ts = has_no_directive ts && is_prepared ts

@@ -1,6 +1,11 @@
--- The tokens that raw tokens come to behind their directives and macros (C17 6.10).
-use Rattle.std.specs.Prelude.{ℕ, if◌then◌else◌, List, [], ◌∷◌, ◌++◌, length, Option, Some, None, Result, Ok, Err}
+-- The tokens that raw tokens come to behind their directives and macros (C17 6.10), their literals and their calls of
+-- the library.
+use Rattle.std.specs.Prelude.{ℕ, Bool, true, false, if◌then◌else◌, List, [], ◌∷◌, ◌++◌, length, Option, Some, None}
+use Rattle.std.specs.Prelude.{Result, Ok, Err}
 use Rattle.c_tree.specs.declared.Lexeme.{Lexeme}
+use Rattle.c_lex.specs.declared.directive.Header.{Header}
+use Rattle.c_library.specs.Headers.{is_served}
+use Rattle.c_library.specs.Prepared.{prepared}
 use Rattle.c_pre.specs.declared.fault.PreFault.{PreFault}
 use Rattle.c_pre.specs.declared.fault.PreFault.TheVariants as fault
 use Rattle.c_pre.specs.declared.groups.Group.{Group}
@@ -11,7 +16,7 @@ use Rattle.c_pre.specs.declared.said.Said.TheVariants as said
 use Rattle.c_pre.specs.Groups.{is_read}
 use Rattle.c_pre.specs.Lines.{header_read, obeyed}
 use Rattle.c_pre.specs.Macros.{turns}
-use Rattle.c_pre.specs.Outputs.{◌>>=◌, all_taken}
+use Rattle.c_pre.specs.Outputs.{◌>>=◌, lifted, taken, all_taken}
 use Rattle.c_pre.specs.Said.{said_by}
 use Rattle.c_lex.specs.Lexes.{Tokens}
 
@@ -20,6 +25,15 @@ abbrev pub given : ℕ → Lexeme → Reader → Result Reader PreFault
 given most t r =
     all_taken most t.offset (turns (length r.macros) r.macros [] t.form) r.output
     >>= λ o. Ok (record r { output = o })
+
+-- a header's token stays, if the library serves the header
+abbrev pub kept : ℕ → Bool → Lexeme → Reader → Result Reader PreFault
+kept most false t r = Ok r
+kept most true t r = taken most t.offset (Some t.form) r.output >>= λ o. Ok (record r { output = o })
+
+-- the line of a header
+abbrev pub header_given : ℕ → Lexeme → Header → Reader → Result Reader PreFault
+header_given most t h r = kept most (is_served t.form) t r >>= header_read t.offset h
 
 -- the reader in this line of a directive, or in none
 abbrev pub in_line : Option Line → Reader → Reader
@@ -30,7 +44,7 @@ abbrev pub read_plain : ℕ → Said → Lexeme → Reader → Result Reader Pre
 read_plain most said.Token t r = if is_read r.groups then given most t r else Ok r
 read_plain most (said.Directive d) t r =
     Ok (in_line (Some (record { directive = d; offset = t.offset; tokens = [] })) r)
-read_plain most (said.Header h) t r = if is_read r.groups then header_read t.offset h r else Ok r
+read_plain most (said.Header h) t r = if is_read r.groups then header_given most t h r else Ok r
 read_plain most said.LineEnd t r = Ok r
 
 -- one that is in this line of a directive: the end obeys it
@@ -71,6 +85,10 @@ ended r = line_ended r.line (in_line None r) >>= λ r. groups_ended r.groups r.o
 abbrev pub beginning : Reader
 beginning = record { macros = []; groups = []; line = None; output = record { tokens = []; count = 0 } }
 
--- The tokens of the program, or the first fault of the directives. The names that are replaced count with them.
+-- The tokens behind directives, or the first fault of these. The names that are replaced count with them.
+abbrev pub directed : ℕ → Tokens → Result Tokens PreFault
+directed most raw = read_all most raw beginning >>= ended
+
+-- The tokens of the program: those behind directives, with the library that they call and without string literals.
 abbrev pub program : ℕ → Tokens → Result Tokens PreFault
-program most raw = read_all most raw beginning >>= ended
+program most raw = directed most raw >>= λ ts. lifted (prepared most ts)

@@ -2,11 +2,10 @@
 use Rattle.std.specs.Prelude.{Bool, if◌then◌else◌, Option, Some, None}
 use Rattle.c_tree.specs.declared.Form.{Form}
 use Rattle.c_lex.specs.declared.directive.DirectiveKind.{DirectiveKind}
-use Rattle.c_pre.specs.declared.headers.Header.{Header}
+use Rattle.c_lex.specs.declared.directive.Header.{Header}
 use Rattle.c_pre.specs.declared.said.Said.{Said}
 use Rattle.c_pre.specs.declared.said.Said.TheVariants as said
-use Rattle.c_lex.specs.Directives.{directive_of, is_line_end}
-use Rattle.c_pre.specs.Headers.{header_of}
+use Rattle.c_lex.specs.Directives.{directive_of, header_of, is_line_end}
 
 -- the directive, the header, the end of a line, or else a token
 abbrev pub of_these : Option DirectiveKind → Option Header → Bool → Said

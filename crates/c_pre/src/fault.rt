@@ -6,7 +6,8 @@ ghost use Rattle.c_pre.specs.declared.fault.PreFault.TheVariants.{Memory};
 use std::alloc::{AllocError, AllocFailed};
 use thiserror::Error;
 
-/// Why the directives of a text are refused, each with the offset of its place in the text; or want of memory.
+/// Why the directives of a text, or its calls of the library, are refused, each with the offset of its place in the
+/// text; or want of memory.
 #[derive(Clone, Copy, Debug, PartialEq, Eq, Error)]
 pub enum PreFault {
     /// An `#else` or `#endif` without its group, at its `#`, or a group that is not closed, at that of its `#ifdef`
@@ -19,9 +20,12 @@ pub enum PreFault {
     /// A directive's line that has not the tokens that it should have, at its `#`.
     #[error("byte {0}: a directive's line that is not one")]
     BadDefine(u32),
-    /// The token that makes more than 8,192 with the names that are replaced.
+    /// The token that makes more than 8,192 with the names that are replaced, or with the library's.
     #[error("byte {0}: too many tokens")]
     TooManyTokens(u32),
+    /// A format that `printf` does not have, at its literal.
+    #[error("byte {0}: a format that is not one")]
+    Format(u32),
     /// Want of memory.
     #[error("out of memory")]
     Memory,

@@ -1,28 +1,11 @@
-//! Forms, copied and compared.
+//! Forms, compared.
 
-ghost use Rattle.std.specs.Prelude.{◌≡◌, nat_eq, IfOk};
+ghost use Rattle.std.specs.Prelude.{◌≡◌, nat_eq};
 ghost use Rattle.std.specs.Str.{bytes_eq};
 ghost use Rattle.c_tree.specs.Marks.{mark_number};
 ghost use Rattle.c_pre.specs.Forms.{key_number, kind_number, same_form, same_forms};
 
 use c_tree::{Form, Key, Kind, Mark, same_bytes};
-use std::alloc::{AllocError, Global};
-
-/// The same form once more. Want of memory is the only error.
-pub fn copied(alloc: Global, form: &Form) -> Result<Form, AllocError>
-    ensures ok { IfOk result (λ f. f ≡ form.now) }
-{
-    match form {
-        Form::Include => Ok(Form::Include),
-        Form::Key(key) => Ok(Form::Key(*key)),
-        Form::Name(name) => Ok(Form::Name(name.copy(alloc)?)),
-        Form::Number { value, kind } => Ok(Form::Number {
-            value: *value,
-            kind: *kind,
-        }),
-        Form::Mark(mark) => Ok(Form::Mark(*mark)),
-    }
-}
 
 /// Are two keywords one?
 fn same_key(a: Key, b: Key) -> bool

@@ -1,21 +1,10 @@
-//! The headers beside `<stdio.h>`, and the names that they make known.
+//! The names that headers make known.
 
 ghost use Rattle.std.specs.Prelude.{◌≡◌, map};
 ghost use Rattle.c_pre.specs.Headers as headers;
-ghost use Rattle.c_lex.specs.Tables.{lookup};
 
-use crate::form::same_name;
-use c_tree::{Form, Kind};
-
-/// A header other than `<stdio.h>`.
-#[derive(Clone, Copy, Debug, PartialEq, Eq)]
-pub enum Header {
-    Limits,
-    Stdbool,
-    Stddef,
-    Stdlib,
-    String,
-}
+use c_lex::Header;
+use c_tree::Kind;
 
 /// The names of `<limits.h>` (C17 5.2.4.2.1), each with its value modulo 2^64 and its type.
 const LIMITS: [(&[u8], u64, Kind); 16] = [
@@ -44,10 +33,11 @@ const STDBOOL: [(&[u8], u64, Kind); 3] = [
     (b"__bool_true_false_are_defined", 1, Kind::Int),
 ];
 
-/// The names of `<stdlib.h>` that are here (C17 7.22).
-const STDLIB: [(&[u8], u64, Kind); 2] = [
+/// The names of `<stdlib.h>` that are here (C17 7.22), but for its functions.
+const STDLIB: [(&[u8], u64, Kind); 3] = [
     (b"EXIT_FAILURE", 1, Kind::Int),
     (b"EXIT_SUCCESS", 0, Kind::Int),
+    (b"RAND_MAX", 0x7FFF, Kind::Int),
 ];
 
 /// The names that a header makes known.
@@ -59,44 +49,6 @@ pub fn names_of(header: Header) -> &'static [(&'static [u8], u64, Kind)]
         Header::Limits => &LIMITS,
         Header::Stdbool => &STDBOOL,
         Header::Stdlib => &STDLIB,
-        Header::Stddef | Header::String => &[],
-    }
-}
-
-/// The one of the last two headers that the name in brackets is.
-fn further_named(name: &[u8]) -> Option<Header>
-    ensures { result ≡ lookup name.now headers.further_headers }
-{
-    if same_name(b"<stdlib.h>", name) {
-        Some(Header::Stdlib)
-    } else if same_name(b"<string.h>", name) {
-        Some(Header::String)
-    } else {
-        None
-    }
-}
-
-/// The header that the name in brackets is.
-fn named(name: &[u8]) -> Option<Header>
-    ensures { result ≡ headers.named name.now }
-{
-    if same_name(b"<limits.h>", name) {
-        Some(Header::Limits)
-    } else if same_name(b"<stdbool.h>", name) {
-        Some(Header::Stdbool)
-    } else if same_name(b"<stddef.h>", name) {
-        Some(Header::Stddef)
-    } else {
-        further_named(name)
-    }
-}
-
-/// The header that a token is, if it is one.
-pub fn header_of(form: &Form) -> Option<Header>
-    ensures { result ≡ headers.header_of form.now }
-{
-    match form {
-        Form::Name(name) => named(name.as_slice()),
-        _ => None,
+        Header::Stdio | Header::Stddef | Header::String | Header::Ctype => &[],
     }
 }

@@ -6,12 +6,13 @@ ghost use Rattle.c_pre.specs.Lines as lines;
 ghost use Rattle.c_pre.specs.inside.Gives.{Gives};
 
 use crate::fault::PreFault;
-use crate::form::{copied, same_forms};
+use crate::form::same_forms;
 use crate::groups::Group;
 use crate::macros::{Macro, body_of, name_of};
 use crate::reader::Reader;
 use base::Items;
 use c_lex::DirectiveKind;
+use c_library::form_copied;
 use c_tree::{Form, Kind, Lexeme, Word};
 use std::alloc::{AllocError, Global};
 
@@ -42,7 +43,7 @@ fn forms_of(alloc: Global, tokens: &[Lexeme]) -> Result<Items<Form>, AllocError>
     let mut forms = Items::new(alloc);
     let mut rest = tokens;
     while let [token, more @ ..] = rest {
-        forms.push(copied(alloc, &token.form)?)?;
+        forms.push(form_copied(alloc, &token.form)?)?;
         rest = more;
     }
     Ok(forms)

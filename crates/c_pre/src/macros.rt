@@ -6,6 +6,7 @@ ghost use Rattle.c_pre.specs.Macros.{name_of, body_of, is_hidden, live_body};
 
 use crate::form::same_name;
 use base::Items;
+use c_lex::string_of;
 use c_tree::{Form, Word};
 
 /// What a name was last said to be: a macro with this body, or none, behind an `#undef`.
@@ -15,12 +16,18 @@ pub struct Macro {
     pub body: Option<Items<Form>>,
 }
 
-/// The name that a token is, if it is one.
+/// The name that a token is, if it is one, and no string literal.
 pub fn name_of(form: &Form) -> Option<&Word>
     ensures { option_copied result ≡ name_of form.now }
 {
     match form {
-        Form::Name(name) => Some(name),
+        Form::Name(name) => {
+            if string_of(form).is_some() {
+                None
+            } else {
+                Some(name)
+            }
+        }
         _ => None,
     }
 }

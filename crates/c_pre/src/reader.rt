@@ -1,6 +1,7 @@
 //! Reading raw tokens, one after another.
 
 ghost use Rattle.std.specs.Prelude.{◌≡◌, if◌then◌else◌, None, Ok, IfOk, IfErr};
+ghost use Rattle.c_library.specs.Headers.{is_served};
 ghost use Rattle.c_tree.specs.Limits.{most_tokens};
 ghost use Rattle.c_pre.specs.Groups.{is_read};
 ghost use Rattle.c_pre.specs.Lines as lines;
@@ -9,17 +10,17 @@ ghost use Rattle.c_pre.specs.Said as said;
 ghost use Rattle.c_pre.specs.inside.Gives.{Gives, Refuses};
 
 use crate::fault::PreFault;
-use crate::form::copied;
 use crate::groups::Groups;
-use crate::headers::{Header, names_of};
+use crate::headers::names_of;
 use crate::macros::Macro;
 use crate::output::Output;
 use crate::replace::replace;
 use crate::said::{Said, said_by};
 use base::Items;
-use c_lex::DirectiveKind;
+use c_lex::{DirectiveKind, Header};
+use c_library::{form_copied, is_served, token_copied};
 use c_tree::Lexeme;
-use std::alloc::{AllocError, Global};
+use std::alloc::Global;
 
 /// A directive's line: where its `#` stands, and the tokens behind the directive so far.
 #[derive(Debug, Drop)]
@@ -37,16 +38,6 @@ pub struct Reader {
     pub groups: Groups,
     pub line: Option<Line>,
     pub output: Output,
-}
-
-/// The same token once more. Want of memory is the only error.
-fn token_copied(alloc: Global, token: &Lexeme) -> Result<Lexeme, AllocError>
-    ensures ok { IfOk result (λ t. t ≡ token.now) }
-{
-    Ok(Lexeme {
-        offset: token.offset,
-        form: copied(alloc, &token.form)?,
-    })
 }
 
 impl Reader {
@@ -75,13 +66,33 @@ impl Reader {
         self.include(alloc, offset, names_of(header))
     }
 
+    /// Keeps a header's token, if the library serves the header.
+    fn keep(&mut self, alloc: Global, token: &Lexeme) -> Result<(), PreFault>
+        ensures { Gives (programs.kept most_tokens (is_served token.now.form) token.now self.old) result self.new }
+    {
+        if is_served(&token.form) {
+            self.output
+                .put(token.offset, form_copied(alloc, &token.form)?)
+        } else {
+            Ok(())
+        }
+    }
+
+    /// Keeps a header's token, if the library serves the header, and makes its names known.
+    fn give_header(&mut self, alloc: Global, token: &Lexeme, header: Header) -> Result<(), PreFault>
+        ensures { Gives (programs.header_given most_tokens token.now header self.old) result self.new }
+    {
+        self.keep(alloc, token)?;
+        self.include_header(alloc, token.offset, header)
+    }
+
     /// Reads the line of a header, where lines are read.
-    fn read_header(&mut self, alloc: Global, offset: u32, header: Header) -> Result<(), PreFault>
-        ensures { Gives (if is_read self.old.groups then lines.header_read offset header self.old else Ok self.old)
-            result self.new }
+    fn read_header(&mut self, alloc: Global, token: &Lexeme, header: Header) -> Result<(), PreFault>
+        ensures { Gives (if is_read self.old.groups
+            then programs.header_given most_tokens token.now header self.old else Ok self.old) result self.new }
     {
         if self.groups.is_read() {
-            self.include_header(alloc, offset, header)
+            self.give_header(alloc, token, header)
         } else {
             Ok(())
         }
@@ -107,7 +118,7 @@ impl Reader {
                 });
                 Ok(())
             }
-            Said::Header(header) => self.read_header(alloc, token.offset, header),
+            Said::Header(header) => self.read_header(alloc, token, header),
             Said::LineEnd => Ok(()),
         }
     }
@@ -200,10 +211,10 @@ fn end(alloc: Global, reader: Reader) -> Result<Vec<Lexeme>, PreFault>
     }
 }
 
-/// The tokens that raw tokens come to.
+/// The tokens that raw tokens come to behind their directives.
 pub fn read(alloc: Global, raw: &[Lexeme]) -> Result<Vec<Lexeme>, PreFault>
-    ensures ok { IfOk result (λ tokens. programs.program most_tokens raw.now ≡ Ok tokens.items) }
-    ensures err { IfErr result (Refuses (programs.program most_tokens raw.now)) }
+    ensures ok { IfOk result (λ tokens. programs.directed most_tokens raw.now ≡ Ok tokens.items) }
+    ensures err { IfErr result (Refuses (programs.directed most_tokens raw.now)) }
 {
     let mut reader = Reader {
         macros: Items::new(alloc),

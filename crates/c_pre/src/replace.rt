@@ -8,10 +8,10 @@ ghost use Rattle.c_pre.specs.inside.Gives.{Gives};
 ghost use Rattle.c_pre.specs.inside.EachTaken.{each_taken};
 
 use crate::fault::PreFault;
-use crate::form::copied;
 use crate::macros::{Macro, live_body, name_of};
 use crate::output::Output;
 use base::Items;
+use c_library::form_copied;
 use c_tree::{Form, Word};
 use std::alloc::Global;
 
@@ -75,7 +75,7 @@ fn replace_name(
     ensures hidden { OnOk result (hidden.new ≡ hidden.old) }
 {
     match live_body(macros, hidden.as_slice(), name.as_slice()) {
-        None => output.put(at, copied(alloc, form)?),
+        None => output.put(at, form_copied(alloc, form)?),
         Some(body) => {
             output.count(at)?;
             hidden.push(name.copy(alloc)?)?;
@@ -103,10 +103,10 @@ pub fn replace(
     ensures hidden { OnOk result (hidden.new ≡ hidden.old) }
 {
     if depth == 0 {
-        return output.put(at, copied(alloc, form)?);
+        return output.put(at, form_copied(alloc, form)?);
     }
     match name_of(form) {
-        None => output.put(at, copied(alloc, form)?),
+        None => output.put(at, form_copied(alloc, form)?),
         Some(name) => replace_name(alloc, macros, at, depth - 1, hidden, form, name, output),
     }
 }

@@ -3,8 +3,7 @@
 ghost use Rattle.std.specs.Prelude.{◌≡◌, IsTrue};
 ghost use Rattle.c_pre.specs.Said.{said_by};
 
-use crate::headers::{Header, header_of};
-use c_lex::{DirectiveKind, directive_of, is_line_end};
+use c_lex::{DirectiveKind, Header, directive_of, header_of, is_line_end};
 use c_tree::Form;
 
 /// What a raw token is: a token of the program, or what the lexer makes of a directive's line (C17 6.10): its `#` and

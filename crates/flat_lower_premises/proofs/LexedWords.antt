@@ -14,7 +14,7 @@ use Rattle.c_lex.specs.Constants.{limit, first_holding, Character, signed_char, 
 use Rattle.c_lex.specs.Constants.{is_plain}
 use Rattle.c_lex.specs.Constants as character
 use Rattle.c_lex.specs.declared.directive.Header.{Header}
-use Rattle.c_lex.specs.declared.directive.Header.TheVariants.{Stdio, Limits, Stdbool, Stddef, Stdlib, String}
+use Rattle.c_lex.specs.declared.directive.Header.TheVariants.{Stdio, Limits, Stdbool, Stddef, Stdlib, String, Ctype}
 use Rattle.c_lex.specs.Directives.{header_form}
 use Rattle.c_lex.specs.Pieces.{Piece, word_form}
 use Rattle.c_lex.specs.Pieces as piece
@@ -118,6 +118,7 @@ header_has Stdbool = tt
 header_has Stddef = tt
 header_has Stdlib = tt
 header_has String = tt
+header_has Ctype = tt
 
 piece_has : (starts : Bool) (p : Bytes) (r : Reading) → Piece starts p r → ReadingHasWord r
 piece_has starts p _ (piece.space w h) = tt
@@ -130,6 +131,8 @@ piece_has starts p _ (piece.number {v = v} {k = k} e h g c) =
 piece_has starts p _ (piece.bad_number e h g n) = tt
 piece_has starts p _ (piece.character {v = v} c e h) = signed_is v (character_low c v h)
 piece_has starts p _ (piece.quote e) = tt
+piece_has starts p _ (piece.string c e h) = tt
+piece_has starts p _ (piece.double_quote e) = tt
 piece_has starts p _ (piece.mark e) = tt
 piece_has starts p _ (piece.include {h = h} s e i) = header_has h
 piece_has starts p _ (piece.directive s e h) = tt

@@ -30,6 +30,7 @@ pre_text text (directive.Redefined offset) = on_line (codes "refused directive 2
 pre_text text (directive.BadDefine offset) = on_line (codes "refused directive 3 BadDefine") (line_of text offset)
 pre_text text (directive.TooManyTokens offset) =
     on_line (codes "refused directive 4 TooManyTokens") (line_of text offset)
+pre_text text (directive.Format offset) = on_line (codes "refused directive 5 Format") (line_of text offset)
 pre_text text directive.Memory = []
 
 -- of a text whose tokens have no tree

@@ -61,6 +61,7 @@ fn pre_text(alloc: Global, text: &[u8], fault: PreFault) -> Result<Vec<u8>, Allo
             text,
             offset,
         ),
+        PreFault::Format(offset) => placed(alloc, "refused directive 5 Format", text, offset),
         PreFault::Memory => Err(AllocError),
     }
 }

@@ -36,6 +36,7 @@ pre_told file text ts (directive.Unbalanced offset) = placed file text ts fault.
 pre_told file text ts (directive.Redefined offset) = placed file text ts fault.Redefined offset
 pre_told file text ts (directive.BadDefine offset) = placed file text ts fault.BadDefine offset
 pre_told file text ts (directive.TooManyTokens offset) = placed file text ts fault.TooManyReplaced offset
+pre_told file text ts (directive.Format offset) = placed file text ts fault.Format offset
 pre_told file text ts directive.Memory = []
 
 -- of a text whose tokens have no tree

@@ -100,6 +100,7 @@ fn pre_told(
             Fault::TooManyReplaced,
             offset,
         ),
+        PreFault::Format(offset) => placed(alloc, file, text, tokens, Fault::Format, offset),
         PreFault::Memory => Err(AllocError),
     }
 }

@@ -1,5 +1,5 @@
 -- Which sentence is said of a fault, by the word at its place.
-use Rattle.std.specs.Prelude.{ℕ, Bool, ◌||◌, if◌then◌else◌, List, [], ◌∷◌, codes}
+use Rattle.std.specs.Prelude.{ℕ, Bool, if◌then◌else◌, List, [], ◌∷◌, codes}
 use Rattle.std.specs.Str.{bytes_eq}
 use Rattle.trips_messages.specs.declared.fault.Fault.{Fault}
 use Rattle.trips_messages.specs.declared.fault.Fault.TheVariants as fault
@@ -7,21 +7,16 @@ use Rattle.trips_messages.specs.declared.saying.Saying.{Saying}
 use Rattle.trips_messages.specs.declared.saying.Saying.TheVariants as says
 use Rattle.trips_messages.specs.Words.{is_other_byte, has_point, is_header, is_conditional, is_aggregate}
 use Rattle.trips_messages.specs.Words.{is_new_type, is_storage, is_qualifier, is_floating, is_size, is_declared}
-use Rattle.trips_messages.specs.Words.{is_reading, is_memory, is_general, is_leaving, is_label}
+use Rattle.trips_messages.specs.Words.{is_classifying, is_general, is_copying, is_library, is_leaving, is_label}
 
 -- the mark with which a string begins
 abbrev double_quote : List ℕ
 double_quote = 34 ∷ []
 
--- a name of the library that is not here
-abbrev pub is_library : List ℕ → Bool
-is_library word = is_reading word || (is_memory word || is_general word)
-
 -- of a byte that begins no token
 abbrev pub byte_saying : List ℕ → Saying
 byte_saying word =
-    if bytes_eq word double_quote then says.Strings
-    else if bytes_eq word (codes ".") then says.Member
+    if bytes_eq word (codes ".") then says.Member
     else if bytes_eq word (codes "\\") then says.Splice
     else if bytes_eq word (codes "#") then says.LateHash
     else if is_other_byte word then says.OtherByte
@@ -31,6 +26,7 @@ byte_saying word =
 abbrev pub literal_saying : List ℕ → Saying
 literal_saying word =
     if bytes_eq word (codes "'") then says.Character
+    else if bytes_eq word double_quote then says.Strings
     else if has_point word then says.FloatingConstant
     else says.Number
 
@@ -61,6 +57,7 @@ mark_saying word =
     else if bytes_eq word (codes "&") then says.Address
     else if bytes_eq word (codes "long") then says.Long
     else if bytes_eq word (codes ":") then says.Colon
+    else if bytes_eq word double_quote then says.StringHere
     else if bytes_eq word (codes "{") then says.OpenBrace
     else if bytes_eq word (codes "=") then says.Equals
     else if bytes_eq word (codes "else") then says.Else
@@ -72,6 +69,10 @@ mark_saying word =
 abbrev pub name_saying : List ℕ → Bool → Saying
 name_saying word called =
     if is_declared word then says.Undeclared
+    else if bytes_eq word (codes "printf") then says.Printing
+    else if is_classifying word then says.Classifying
+    else if is_general word then says.General
+    else if is_copying word then says.Copying
     else if is_library word then says.Library
     else if called then says.NoFunction
     else says.NoName
@@ -100,6 +101,7 @@ saying fault.Unbalanced word called = says.Group
 saying fault.Redefined word called = says.OtherBody
 saying fault.BadDefine word called = says.BadLine
 saying fault.TooManyReplaced word called = says.Replaced
+saying fault.Format word called = says.Format
 saying fault.Syntax word called = mark_saying word
 saying fault.TooDeep word called = says.Deep
 saying fault.Unknown word called = name_saying word called

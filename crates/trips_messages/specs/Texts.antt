@@ -8,7 +8,7 @@ use Rattle.trips_messages.specs.declared.saying.Saying.TheVariants as says
 -- what is said
 unfoldable pub sentence : Saying → List ℕ
 sentence says.Strings =
-    codes "begins a string, which is left out: write its characters one by one, as putchar('a')"
+    codes "begins no string: write characters and escapes on one line, and a closing quote"
 sentence says.Member =
     codes "stands for a member of a struct or for more arguments, which are left out: use arrays and variables"
 sentence says.Splice =
@@ -59,6 +59,8 @@ sentence says.Long =
     codes "does not stand here: long long is left out, and a long has 64 bits"
 sentence says.Colon =
     codes "does not stand here: labels for goto are left out, and case stands in the braces of a switch alone"
+sentence says.StringHere =
+    codes "begins a string where none stands: it is an argument, or the value of a global array of char"
 sentence says.OpenBrace =
     codes "does not stand here: local arrays have no initialiser, and no function stands in another"
 sentence says.Equals =
@@ -80,11 +82,21 @@ sentence says.OtherBody =
 sentence says.BadLine =
     codes "is no good line: write one name, for #define a space and the body behind it, and no parameters"
 sentence says.Replaced =
-    codes "makes more than 8,192 tokens with the names that are replaced: write loops and functions instead"
+    codes "makes more than 8,192 tokens with replaced names, strings and the library: write loops and functions"
+sentence says.Format =
+    codes "begins a format that printf has not here: write %d, %u, %x, %o, %c, %s or %%, and eight at most"
 sentence says.Library =
-    codes "is not here: of the library there are getchar, putchar and EOF, so define the rest in the text"
+    codes "is a name of the library that is not here: define what is needed of it in the text"
 sentence says.Undeclared =
     codes "is not declared: write #include <stdio.h> before it"
+sentence says.Printing =
+    codes "wants #include <stdio.h> before it, and a string as its first argument"
+sentence says.Classifying =
+    codes "is not declared: write #include <ctype.h> before it"
+sentence says.General =
+    codes "is not declared: write #include <stdlib.h> before it"
+sentence says.Copying =
+    codes "is not declared: write #include <string.h> before it"
 sentence says.NoFunction =
     codes "is called, and the text has no function of this name: define it before this place"
 sentence says.NoName =
@@ -145,6 +157,7 @@ title fault.Unbalanced = codes "directive Unbalanced"
 title fault.Redefined = codes "directive Redefined"
 title fault.BadDefine = codes "directive BadDefine"
 title fault.TooManyReplaced = codes "directive TooManyTokens"
+title fault.Format = codes "directive Format"
 title fault.Syntax = codes "parse Syntax"
 title fault.TooDeep = codes "parse TooDeep"
 title fault.Unknown = codes "type Unknown"

@@ -83,29 +83,47 @@ abbrev pub is_size : List ℕ → Bool
 is_size word =
     bytes_eq word (codes "sizeof") || bytes_eq word (codes "_Alignof")
 
--- a function of the library that reads or writes
-abbrev pub is_reading : List ℕ → Bool
-is_reading word =
-    bytes_eq word (codes "printf") || (bytes_eq word (codes "scanf") || (bytes_eq word (codes "puts")
-    || (bytes_eq word (codes "gets") || (bytes_eq word (codes "fgets") || bytes_eq word (codes "sprintf")))))
+-- a function of `<ctype.h>` that asks for a class
+abbrev pub is_class : List ℕ → Bool
+is_class word =
+    bytes_eq word (codes "isdigit") || (bytes_eq word (codes "isalpha") || (bytes_eq word (codes "isalnum")
+    || (bytes_eq word (codes "isspace") || (bytes_eq word (codes "isupper") || bytes_eq word (codes "islower")))))
 
--- a function of the library that gives or moves memory
-abbrev pub is_memory : List ℕ → Bool
-is_memory word =
-    bytes_eq word (codes "malloc") || (bytes_eq word (codes "calloc") || (bytes_eq word (codes "free")
-    || (bytes_eq word (codes "memset") || (bytes_eq word (codes "memcpy")
-    || bytes_eq word (codes "strlen")))))
+-- a function of `<ctype.h>`
+abbrev pub is_classifying : List ℕ → Bool
+is_classifying word =
+    is_class word || (bytes_eq word (codes "isxdigit") || (bytes_eq word (codes "ispunct")
+    || (bytes_eq word (codes "isprint") || (bytes_eq word (codes "toupper") || bytes_eq word (codes "tolower")))))
 
--- a function of the library for other uses
+-- a name of `<stdlib.h>`
 abbrev pub is_general : List ℕ → Bool
 is_general word =
-    bytes_eq word (codes "exit") || (bytes_eq word (codes "abs") || (bytes_eq word (codes "rand")
-    || (bytes_eq word (codes "srand") || (bytes_eq word (codes "strcmp") || bytes_eq word (codes "NULL")))))
+    bytes_eq word (codes "abs") || (bytes_eq word (codes "labs") || (bytes_eq word (codes "rand")
+    || (bytes_eq word (codes "srand") || bytes_eq word (codes "RAND_MAX"))))
 
--- a name that the header declares
+-- a function of `<string.h>`
+abbrev pub is_copying : List ℕ → Bool
+is_copying word =
+    bytes_eq word (codes "strlen") || (bytes_eq word (codes "strcmp") || (bytes_eq word (codes "strcpy")
+    || (bytes_eq word (codes "memset") || bytes_eq word (codes "memcpy"))))
+
+-- a function of the library that reads or writes, and is not here
+abbrev pub is_reading : List ℕ → Bool
+is_reading word =
+    bytes_eq word (codes "scanf") || (bytes_eq word (codes "gets") || (bytes_eq word (codes "fgets")
+    || bytes_eq word (codes "sprintf")))
+
+-- a name of the library that is not here
+abbrev pub is_library : List ℕ → Bool
+is_library word =
+    is_reading word || (bytes_eq word (codes "malloc") || (bytes_eq word (codes "calloc")
+    || (bytes_eq word (codes "free") || (bytes_eq word (codes "exit") || bytes_eq word (codes "NULL")))))
+
+-- a name of `<stdio.h>`, but for `printf`
 abbrev pub is_declared : List ℕ → Bool
 is_declared word =
-    bytes_eq word (codes "getchar") || (bytes_eq word (codes "putchar") || bytes_eq word (codes "EOF"))
+    bytes_eq word (codes "getchar") || (bytes_eq word (codes "putchar") || (bytes_eq word (codes "puts")
+    || bytes_eq word (codes "EOF")))
 
 -- a word of a label
 abbrev pub is_label : List ℕ → Bool

@@ -6,25 +6,16 @@ ghost use Rattle.trips_messages.specs.Choices as choices;
 use crate::fault::Fault;
 use crate::saying::Saying;
 use crate::words::{
-    has_point, is_aggregate, is_conditional, is_declared, is_floating, is_general, is_header,
-    is_label, is_leaving, is_memory, is_new_type, is_other_byte, is_qualifier, is_reading, is_size,
-    is_storage,
+    has_point, is_aggregate, is_classifying, is_conditional, is_copying, is_declared, is_floating,
+    is_general, is_header, is_label, is_leaving, is_library, is_new_type, is_other_byte,
+    is_qualifier, is_size, is_storage,
 };
-
-/// A name of the library that is not here.
-fn is_library(word: &[u8]) -> bool
-    ensures { result ≡ choices.is_library word.now }
-{
-    is_reading(word) || (is_memory(word) || is_general(word))
-}
 
 /// Of a byte that begins no token.
 fn byte_saying(word: &[u8]) -> Saying
     ensures { result ≡ choices.byte_saying word.now }
 {
-    if word == b"\"".as_slice() {
-        Saying::Strings
-    } else if word == b".".as_slice() {
+    if word == b".".as_slice() {
         Saying::Member
     } else if word == b"\\".as_slice() {
         Saying::Splice
@@ -43,6 +34,8 @@ fn literal_saying(word: &[u8]) -> Saying
 {
     if word == b"'".as_slice() {
         Saying::Character
+    } else if word == b"\"".as_slice() {
+        Saying::Strings
     } else if has_point(word) {
         Saying::FloatingConstant
     } else {
@@ -100,6 +93,8 @@ pub fn mark_saying(word: &[u8]) -> Saying
         Saying::Long
     } else if word == b":".as_slice() {
         Saying::Colon
+    } else if word == b"\"".as_slice() {
+        Saying::StringHere
     } else if word == b"{".as_slice() {
         Saying::OpenBrace
     } else if word == b"=".as_slice() {
@@ -121,6 +116,14 @@ pub fn name_saying(word: &[u8], called: bool) -> Saying
 {
     if is_declared(word) {
         Saying::Undeclared
+    } else if word == b"printf".as_slice() {
+        Saying::Printing
+    } else if is_classifying(word) {
+        Saying::Classifying
+    } else if is_general(word) {
+        Saying::General
+    } else if is_copying(word) {
+        Saying::Copying
     } else if is_library(word) {
         Saying::Library
     } else if called {
@@ -168,6 +171,7 @@ pub fn saying(fault: Fault, word: &[u8], called: bool) -> Saying
         Fault::Redefined => Saying::OtherBody,
         Fault::BadDefine => Saying::BadLine,
         Fault::TooManyReplaced => Saying::Replaced,
+        Fault::Format => Saying::Format,
         Fault::Syntax => mark_saying(word),
         Fault::TooDeep => Saying::Deep,
         Fault::Unknown => name_saying(word, called),

@@ -32,6 +32,7 @@ pub enum Saying {
     Address,
     Long,
     Colon,
+    StringHere,
     OpenBrace,
     Equals,
     Else,
@@ -43,8 +44,13 @@ pub enum Saying {
     OtherBody,
     BadLine,
     Replaced,
+    Format,
     Library,
     Undeclared,
+    Printing,
+    Classifying,
+    General,
+    Copying,
     NoFunction,
     NoName,
     LabelTwice,
@@ -78,7 +84,7 @@ pub fn sentence(saying: Saying) -> &'static str
 {
     match saying {
         Saying::Strings =>
-            "begins a string, which is left out: write its characters one by one, as putchar('a')",
+            "begins no string: write characters and escapes on one line, and a closing quote",
         Saying::Member =>
             "stands for a member of a struct or for more arguments, which are left out: use arrays and variables",
         Saying::Splice => "joins no lines here: write what belongs together on one line",
@@ -119,6 +125,8 @@ pub fn sentence(saying: Saying) -> &'static str
         Saying::Long => "does not stand here: long long is left out, and a long has 64 bits",
         Saying::Colon =>
             "does not stand here: labels for goto are left out, and case stands in the braces of a switch alone",
+        Saying::StringHere =>
+            "begins a string where none stands: it is an argument, or the value of a global array of char",
         Saying::OpenBrace =>
             "does not stand here: local arrays have no initialiser, and no function stands in another",
         Saying::Equals =>
@@ -137,10 +145,17 @@ pub fn sentence(saying: Saying) -> &'static str
         Saying::BadLine =>
             "is no good line: write one name, for #define a space and the body behind it, and no parameters",
         Saying::Replaced =>
-            "makes more than 8,192 tokens with the names that are replaced: write loops and functions instead",
+            "makes more than 8,192 tokens with replaced names, strings and the library: write loops and functions",
+        Saying::Format =>
+            "begins a format that printf has not here: write %d, %u, %x, %o, %c, %s or %%, and eight at most",
         Saying::Library =>
-            "is not here: of the library there are getchar, putchar and EOF, so define the rest in the text",
+            "is a name of the library that is not here: define what is needed of it in the text",
         Saying::Undeclared => "is not declared: write #include <stdio.h> before it",
+        Saying::Printing =>
+            "wants #include <stdio.h> before it, and a string as its first argument",
+        Saying::Classifying => "is not declared: write #include <ctype.h> before it",
+        Saying::General => "is not declared: write #include <stdlib.h> before it",
+        Saying::Copying => "is not declared: write #include <string.h> before it",
         Saying::NoFunction =>
             "is called, and the text has no function of this name: define it before this place",
         Saying::NoName => "is not declared before this place",

@@ -161,44 +161,75 @@ pub fn is_size(word: &[u8]) -> bool
     word == b"sizeof".as_slice() || word == b"_Alignof".as_slice()
 }
 
-/// A function of the library that reads or writes.
-pub fn is_reading(word: &[u8]) -> bool
-    ensures { result ≡ words.is_reading word.now }
+/// A function of `<ctype.h>` that asks for a class.
+fn is_class(word: &[u8]) -> bool
+    ensures { result ≡ words.is_class word.now }
 {
-    word == b"printf".as_slice()
-        || (word == b"scanf".as_slice()
-            || (word == b"puts".as_slice()
-                || (word == b"gets".as_slice()
-                    || (word == b"fgets".as_slice() || word == b"sprintf".as_slice()))))
+    word == b"isdigit".as_slice()
+        || (word == b"isalpha".as_slice()
+            || (word == b"isalnum".as_slice()
+                || (word == b"isspace".as_slice()
+                    || (word == b"isupper".as_slice() || word == b"islower".as_slice()))))
 }
 
-/// A function of the library that gives or moves memory.
-pub fn is_memory(word: &[u8]) -> bool
-    ensures { result ≡ words.is_memory word.now }
+/// A function of `<ctype.h>`.
+pub fn is_classifying(word: &[u8]) -> bool
+    ensures { result ≡ words.is_classifying word.now }
 {
-    word == b"malloc".as_slice()
-        || (word == b"calloc".as_slice()
-            || (word == b"free".as_slice()
-                || (word == b"memset".as_slice()
-                    || (word == b"memcpy".as_slice() || word == b"strlen".as_slice()))))
+    is_class(word)
+        || (word == b"isxdigit".as_slice()
+            || (word == b"ispunct".as_slice()
+                || (word == b"isprint".as_slice()
+                    || (word == b"toupper".as_slice() || word == b"tolower".as_slice()))))
 }
 
-/// A function of the library for other uses.
+/// A name of `<stdlib.h>`.
 pub fn is_general(word: &[u8]) -> bool
     ensures { result ≡ words.is_general word.now }
 {
-    word == b"exit".as_slice()
-        || (word == b"abs".as_slice()
+    word == b"abs".as_slice()
+        || (word == b"labs".as_slice()
             || (word == b"rand".as_slice()
-                || (word == b"srand".as_slice()
-                    || (word == b"strcmp".as_slice() || word == b"NULL".as_slice()))))
+                || (word == b"srand".as_slice() || word == b"RAND_MAX".as_slice())))
 }
 
-/// A name that the header declares.
+/// A function of `<string.h>`.
+pub fn is_copying(word: &[u8]) -> bool
+    ensures { result ≡ words.is_copying word.now }
+{
+    word == b"strlen".as_slice()
+        || (word == b"strcmp".as_slice()
+            || (word == b"strcpy".as_slice()
+                || (word == b"memset".as_slice() || word == b"memcpy".as_slice())))
+}
+
+/// A function of the library that reads or writes, and is not here.
+fn is_reading(word: &[u8]) -> bool
+    ensures { result ≡ words.is_reading word.now }
+{
+    word == b"scanf".as_slice()
+        || (word == b"gets".as_slice()
+            || (word == b"fgets".as_slice() || word == b"sprintf".as_slice()))
+}
+
+/// A name of the library that is not here.
+pub fn is_library(word: &[u8]) -> bool
+    ensures { result ≡ words.is_library word.now }
+{
+    is_reading(word)
+        || (word == b"malloc".as_slice()
+            || (word == b"calloc".as_slice()
+                || (word == b"free".as_slice()
+                    || (word == b"exit".as_slice() || word == b"NULL".as_slice()))))
+}
+
+/// A name of `<stdio.h>`, but for `printf`.
 pub fn is_declared(word: &[u8]) -> bool
     ensures { result ≡ words.is_declared word.now }
 {
-    word == b"getchar".as_slice() || (word == b"putchar".as_slice() || word == b"EOF".as_slice())
+    word == b"getchar".as_slice()
+        || (word == b"putchar".as_slice()
+            || (word == b"puts".as_slice() || word == b"EOF".as_slice()))
 }
 
 /// A word of a label.

@@ -29,6 +29,7 @@ fn pre_fault(fault: PreFault) -> Option<(Fault, u32)> {
         PreFault::Redefined(offset) => Some((Fault::Redefined, offset)),
         PreFault::BadDefine(offset) => Some((Fault::BadDefine, offset)),
         PreFault::TooManyTokens(offset) => Some((Fault::TooManyReplaced, offset)),
+        PreFault::Format(offset) => Some((Fault::Format, offset)),
         PreFault::Memory => None,
     }
 }

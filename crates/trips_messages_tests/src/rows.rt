@@ -8,9 +8,14 @@ pub const ROWS: &[Row] = &[
         "a.c:1:25: lex BadByte: '@' begins no token",
     ),
     (
-        "#include <stdio.h>\nint main(void) { puts(\"Hi\"); return 0; }\n",
-        "a.c:2:23: lex BadByte: '\"' begins a string, which is left out: write its characters one by one, as \
-            putchar('a')",
+        "#include <stdio.h>\nint main(void) { printf(\"%f\", 1); return 0; }\n",
+        "a.c:2:25: directive Format: '\"' begins a format that printf has not here: write %d, %u, %x, %o, %c, %s \
+            or %%, and eight at most",
+    ),
+    (
+        "int main(void) { int n; n = \"a\"; return n; }\n",
+        "a.c:1:29: parse Syntax: '\"' begins a string where none stands: it is an argument, or the value of a \
+            global array of char",
     ),
     (
         "int main(void) { return p.x; }\n",
@@ -69,6 +74,11 @@ pub const ROWS: &[Row] = &[
         "int main(void) { return ''; }\n",
         "a.c:1:25: lex BadLiteral: ''' begins no character constant: write one character or one escape, and a \
             closing quote",
+    ),
+    (
+        "#include <stdio.h>\nint main(void) { puts(\"Hi); return 0; }\n",
+        "a.c:2:23: lex BadLiteral: '\"' begins no string: write characters and escapes on one line, and a closing \
+            quote",
     ),
     (
         "int main(void) {\n\t/* open\nreturn 0;\n}\n",
@@ -222,8 +232,16 @@ pub const MORE_ROWS: &[Row] = &[
     ),
     (
         "#include <stdio.h>\nint main(void) { printf(1); return 0; }\n",
-        "a.c:2:18: type Unknown: 'printf' is not here: of the library there are getchar, putchar and EOF, so \
-            define the rest in the text",
+        "a.c:2:18: type Unknown: 'printf' wants #include <stdio.h> before it, and a string as its first argument",
+    ),
+    (
+        "int main(void) { return malloc(1); }\n",
+        "a.c:1:25: type Unknown: 'malloc' is a name of the library that is not here: define what is needed of it \
+            in the text",
+    ),
+    (
+        "int main(void) { return strlen(\"a\"); }\n",
+        "a.c:1:25: type Unknown: 'strlen' is not declared: write #include <string.h> before it",
     ),
     (
         "int main(void) { putchar('a'); return 0; }\n",

@@ -83,6 +83,10 @@ const DIRECTIVES: &[(&str, &str)] = &[
         "refused directive 2 Redefined line 2\n",
     ),
     ("#define A(x) x\n", "refused directive 3 BadDefine line 1\n"),
+    (
+        "#include <stdio.h>\nint main(void) { printf(\"%f\", 1); }\n",
+        "refused directive 5 Format line 2\n",
+    ),
 ];
 
 const GRAMMAR: &[(&str, &str)] = &[
