@@ -29,4 +29,5 @@ mod walk;
 pub use crate::copy::{form_copied, token_copied};
 pub use crate::fault::LibraryFault;
 pub use crate::header::is_served;
+pub use crate::output::Output;
 pub use crate::prepare::{is_prepared, prepared};
