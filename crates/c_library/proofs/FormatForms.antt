@@ -150,8 +150,9 @@ function_keeps P a name ps ts h k =
     (a.mark mark.RightParen, (a.mark mark.LeftBrace, (a.key key.Return, zero_keeps P a ts k))) in
     let front : EachForm P (formats.or_void ps ++ body) =
     each_behind P (formats.or_void ps) body (void_keeps P a ps h) kept in
-    let rest : EachForm P ((formats.or_void ps ++ body) ++ end) = each_behind P (formats.or_void ps ++ body) end front ends
-    in (a.key key.Int, (a.name name, (a.mark mark.LeftParen, rest)))
+    let rest : EachForm P ((formats.or_void ps ++ body) ++ end) =
+    each_behind P (formats.or_void ps ++ body) end front ends in
+    (a.key key.Int, (a.name name, (a.mark mark.LeftParen, rest)))
 
 if_some : (P : Fact) (t : Bool) (xs fs : List Form) → EachForm P xs → cond t None (Some xs) ≡ Some fs → EachForm P fs
 if_some P true xs fs h e = absurd (cc)
