@@ -144,7 +144,11 @@ const ROWS: &[Row] = &[
     (b"1e+5", Err(LexFault::BadLiteral(0))),
     (b"0x", Err(LexFault::BadLiteral(0))),
     (b"1uu", Err(LexFault::BadLiteral(0))),
-    (b"1ll", Err(LexFault::BadLiteral(0))),
+    (b"1ll", Ok(&[(0, Want::Number(1, Kind::Long))])),
+    (b"1LLu", Ok(&[(0, Want::Number(1, Kind::ULong))])),
+    (b"0x8000000000000000ull", Ok(&[(0, Want::Number(9223372036854775808, Kind::ULong))])),
+    (b"1lL", Err(LexFault::BadLiteral(0))),
+    (b"1lul", Err(LexFault::BadLiteral(0))),
     // Character constants (C17 6.4.4.4).
     (b"'a'", Ok(&[(0, Want::Number(97, Kind::Int))])),
     (b"'\\n'", Ok(&[(0, Want::Number(10, Kind::Int))])),

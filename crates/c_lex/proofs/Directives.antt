@@ -9,7 +9,8 @@ use Rattle.std.proofs.lemmas.Bool.Decides.{nat_tests}
 use Rattle.c_tree.specs.declared.Form.TheVariants as form
 use Rattle.c_lex.specs.declared.directive.DirectiveKind.{DirectiveKind}
 use Rattle.c_lex.specs.declared.directive.Header.{Header}
-use Rattle.c_lex.specs.declared.directive.Header.TheVariants.{Stdio, Limits, Stdbool, Stddef, Stdlib, String, Ctype}
+use Rattle.c_lex.specs.declared.directive.Header.TheVariants.{Stdio, Limits, Stdbool, Stddef, Stdlib, String}
+use Rattle.c_lex.specs.declared.directive.Header.TheVariants.{Ctype, Stdint}
 use Rattle.c_lex.specs.declared.directive.DirectiveKind.TheVariants.{Define, Undef, Ifdef, Ifndef, Else, Endif}
 use Rattle.c_lex.specs.Bytes.{Bytes, Goes, Each, by_class, not_feed, is_blank, is_word, is_letter}
 use Rattle.c_lex.specs.Tables.{lookup}
@@ -101,6 +102,7 @@ header_plain Stddef = refl
 header_plain Stdlib = refl
 header_plain String = refl
 header_plain Ctype = refl
+header_plain Stdint = refl
 
 abbrev each_solid : Bytes → Bool
 each_solid [] = true

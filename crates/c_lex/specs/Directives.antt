@@ -56,6 +56,7 @@ headers =
     ∷ (codes "<stdlib.h>", header.Stdlib)
     ∷ (codes "<string.h>", header.String)
     ∷ (codes "<ctype.h>", header.Ctype)
+    ∷ (codes "<stdint.h>", header.Stdint)
     ∷ []
 
 -- The token of an include (C17 6.10.2): `<stdio.h>` has one of its own, and any other is its name in brackets.
@@ -67,6 +68,7 @@ header_form header.Stddef = form.Name (codes "<stddef.h>")
 header_form header.Stdlib = form.Name (codes "<stdlib.h>")
 header_form header.String = form.Name (codes "<string.h>")
 header_form header.Ctype = form.Name (codes "<ctype.h>")
+header_form header.Stdint = form.Name (codes "<stdint.h>")
 
 -- the header whose name in brackets the token is, if it is one
 abbrev pub header_of : Form → Option Header

@@ -35,6 +35,7 @@ pub enum Header {
     Stdlib,
     String,
     Ctype,
+    Stdint,
 }
 
 /// The directive of a word.
@@ -142,6 +143,8 @@ fn headed(name: &[u8]) -> Option<Header>
         Some(Header::String)
     } else if is_word(b"<ctype.h>", name) {
         Some(Header::Ctype)
+    } else if is_word(b"<stdint.h>", name) {
+        Some(Header::Stdint)
     } else {
         None
     }
@@ -192,5 +195,6 @@ pub fn header_form(alloc: Global, header: Header) -> Result<Form, LexFault>
         Header::Stdlib => Ok(Form::Name(Word::from_slice(alloc, b"<stdlib.h>")?)),
         Header::String => Ok(Form::Name(Word::from_slice(alloc, b"<string.h>")?)),
         Header::Ctype => Ok(Form::Name(Word::from_slice(alloc, b"<ctype.h>")?)),
+        Header::Stdint => Ok(Form::Name(Word::from_slice(alloc, b"<stdint.h>")?)),
     }
 }
