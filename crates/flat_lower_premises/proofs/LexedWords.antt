@@ -14,7 +14,8 @@ use Rattle.c_lex.specs.Constants.{limit, first_holding, Character, signed_char, 
 use Rattle.c_lex.specs.Constants.{is_plain}
 use Rattle.c_lex.specs.Constants as character
 use Rattle.c_lex.specs.declared.directive.Header.{Header}
-use Rattle.c_lex.specs.declared.directive.Header.TheVariants.{Stdio, Limits, Stdbool, Stddef, Stdlib, String, Ctype}
+use Rattle.c_lex.specs.declared.directive.Header.TheVariants.{Stdio, Limits, Stdbool, Stddef, Stdlib, String}
+use Rattle.c_lex.specs.declared.directive.Header.TheVariants.{Ctype, Stdint}
 use Rattle.c_lex.specs.Directives.{header_form}
 use Rattle.c_lex.specs.Pieces.{Piece, word_form}
 use Rattle.c_lex.specs.Pieces as piece
@@ -119,6 +120,7 @@ header_has Stddef = tt
 header_has Stdlib = tt
 header_has String = tt
 header_has Ctype = tt
+header_has Stdint = tt
 
 piece_has : (starts : Bool) (p : Bytes) (r : Reading) → Piece starts p r → ReadingHasWord r
 piece_has starts p _ (piece.space w h) = tt

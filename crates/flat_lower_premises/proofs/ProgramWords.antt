@@ -1,13 +1,16 @@
 -- The numbers of a text's tokens, behind its directives and macros, are words of their types: those of its raw
 -- tokens, those of the headers, and those of the library.
-use Rattle.std.proofs.Common.{◌≡◌, ◌<◌, ℕ, ◌^◌, true, [], ◌∷◌, arith}
+use Rattle.std.proofs.Common.{◌≡◌, ◌≤◌, ◌<◌, ℕ, ◌-◌, ◌^◌, Bool, true, false, ◌&&◌, ◌||◌, nat_le, List, [], ◌∷◌, refl, arith}
+use Rattle.std.specs.Prelude.{nat_lt}
+use Rattle.std.proofs.lemmas.Bool.Decides.{nat_tests}
 use Rattle.c_tree.specs.declared.Kind.{Kind}
 use Rattle.c_tree.specs.declared.Kind.TheVariants.{Char, UChar, Short, UShort, Int, UInt, Long, ULong}
 use Rattle.c_tree.specs.declared.Form.TheVariants as form
 use Rattle.c_pre.proofs.Kept.{Allows, is_wide}
 use Rattle.c_lex.specs.Bytes.{Bytes}
+use Rattle.c_lex.proofs.Basics.{and_left, and_right}
 use Rattle.c_lex.specs.declared.directive.Header.TheVariants as header
-use Rattle.c_pre.specs.Headers.{limits, stdbool, stdlib}
+use Rattle.c_pre.specs.Headers.{Row, limits, stdbool, stdlib, stdint}
 use Rattle.c_pre.specs.Texts.{Tokens, Lexed}
 use Rattle.c_pre.proofs.Kept.{EachToken}
 use Rattle.c_pre.proofs.KeptLines.{EachRow, HeadersHave}
@@ -15,88 +18,62 @@ use Rattle.c_pre.proofs.KeptPrograms.{program_keeps}
 use Rattle.flat_lower_premises.specs.inside.Words.{FormHasWord, TokensHaveWords}
 use Rattle.flat_lower_premises.proofs.LexedWords.{raw_has}
 
-limits_have : EachRow FormHasWord limits
+-- is the value a word of the type?
+abbrev fits : Kind → ℕ → Bool
+fits Int v = nat_lt v (2 ^ 31) || (nat_le (2 ^ 64 - 2 ^ 31) v && nat_lt v (2 ^ 64))
+fits UInt v = nat_lt v (2 ^ 32)
+fits Long v = nat_lt v (2 ^ 64)
+fits ULong v = nat_lt v (2 ^ 64)
+fits _ v = false
+
+int_fits : (v : ℕ) (b : Bool) → nat_lt v (2 ^ 31) ≡ b
+    → (b || (nat_le (2 ^ 64 - 2 ^ 31) v && nat_lt v (2 ^ 64))) ≡ true → FormHasWord (form.Number v Int)
+int_fits v true t e = let h : v < 2 ^ 31 = grind (arith, nat_tests) in
+    record { below = omega arith; narrow = omega arith }
+int_fits v false t e =
+    let l : 2 ^ 64 - 2 ^ 31 ≤ v = grind (arith, nat_tests) in
+    let h : v < 2 ^ 64 = grind (arith, nat_tests) in record { below = omega arith; narrow = omega arith }
+
+fits_is : (k : Kind) (v : ℕ) → fits k v ≡ true → FormHasWord (form.Number v k)
+fits_is Int v e = int_fits v (nat_lt v (2 ^ 31)) refl e
+fits_is UInt v e =
+    let h : v < 2 ^ 32 = grind (arith, nat_tests) in record { below = omega arith; narrow = omega arith }
+fits_is Long v e =
+    let h : v < 2 ^ 64 = grind (arith, nat_tests) in record { below = omega arith; narrow = omega arith }
+fits_is ULong v e =
+    let h : v < 2 ^ 64 = grind (arith, nat_tests) in record { below = omega arith; narrow = omega arith }
+fits_is Char v e = absurd (cc)
+fits_is UChar v e = absurd (cc)
+fits_is Short v e = absurd (cc)
+fits_is UShort v e = absurd (cc)
+
+-- is the value of each row?
+abbrev rows_fit : List Row → Bool
+rows_fit [] = true
+rows_fit (row ∷ rows) = fits row.2 row.1 && rows_fit rows
+
+rows_have : (rows : List Row) → rows_fit rows ≡ true → EachRow FormHasWord rows
+rows_have [] e = tt
+rows_have (row ∷ rows) e = (
+  fits_is row.2 row.1 (and_left (fits row.2 row.1) (rows_fit rows) e),
+  rows_have rows (and_right (fits row.2 row.1) (rows_fit rows) e),
+)
+
+limits_fit : rows_fit limits ≡ true
 unfolding limits
-limits_have = (
-  record { below = omega arith; narrow = omega arith },
-  (
-    record { below = omega arith; narrow = omega arith },
-    (
-      record { below = omega arith; narrow = omega arith },
-      (
-        record { below = omega arith; narrow = omega arith },
-        (
-          record { below = omega arith; narrow = omega arith },
-          (
-            record { below = omega arith; narrow = omega arith },
-            (
-              record { below = omega arith; narrow = omega arith },
-              (
-                record { below = omega arith; narrow = omega arith },
-                (
-                  record { below = omega arith; narrow = omega arith },
-                  (
-                    record { below = omega arith; narrow = omega arith },
-                    (
-                      record { below = omega arith; narrow = omega arith },
-                      (
-                        record { below = omega arith; narrow = omega arith },
-                        (
-                          record { below = omega arith; narrow = omega arith },
-                          (
-                            record { below = omega arith; narrow = omega arith },
-                            (
-                              record { below = omega arith; narrow = omega arith },
-                              (
-                                record { below = omega arith; narrow = omega arith },
-                                tt,
-                              ),
-                            ),
-                          ),
-                        ),
-                      ),
-                    ),
-                  ),
-                ),
-              ),
-            ),
-          ),
-        ),
-      ),
-    ),
-  ),
-)
+limits_fit = refl
 
-stdbool_has : EachRow FormHasWord stdbool
-stdbool_has = (
-  record { below = omega arith; narrow = omega arith },
-  (
-    record { below = omega arith; narrow = omega arith },
-    (
-      record { below = omega arith; narrow = omega arith },
-      tt,
-    ),
-  ),
-)
-
-stdlib_has : EachRow FormHasWord stdlib
-stdlib_has = (
-  record { below = omega arith; narrow = omega arith },
-  (
-    record { below = omega arith; narrow = omega arith },
-    (
-      record { below = omega arith; narrow = omega arith },
-      tt,
-    ),
-  ),
-)
+stdint_fits : rows_fit stdint ≡ true
+unfolding stdint
+stdint_fits = refl
 
 headers_have : HeadersHave FormHasWord
 headers_have header.Stdio = tt
 headers_have header.Ctype = tt
-headers_have header.Limits = limits_have
-headers_have header.Stdbool = stdbool_has
-headers_have header.Stdlib = stdlib_has
+headers_have header.Limits = rows_have limits limits_fit
+headers_have header.Stdbool = rows_have stdbool refl
+headers_have header.Stdlib = rows_have stdlib refl
+headers_have header.Stdint = rows_have stdint stdint_fits
 headers_have header.Stddef = tt
 headers_have header.String = tt
 
