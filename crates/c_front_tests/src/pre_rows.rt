@@ -214,7 +214,8 @@ pub const ROWS: &[Row] = &[
     (&["<stdbool.h>", "true", "+", "false"], "1 + 0"),
     (&["true", "<stdbool.h>", "true"], "true 1"),
     (&["<stdlib.h>", "EXIT_SUCCESS", "EXIT_FAILURE"], "0 1"),
-    (&["<string.h>", "<stddef.h>", "size_t"], "size_t"),
+    (&["<string.h>", "<stddef.h>", "size_t"], "key long"),
+    (&["<stdint.h>", "int16_t", "A"], "key A"),
     (&["<stdbool.h>", "<stdbool.h>", "true"], "1"),
     (&["<limits.h>", "CHAR_BIT", "MB_LEN_MAX"], "8 1"),
     (
