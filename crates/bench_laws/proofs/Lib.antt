@@ -10,6 +10,8 @@ pub mod Scan
 pub mod Trees
 pub mod Forms
 pub mod Lines
+pub mod PlainWords
+pub mod PlainObjects
 pub mod PlainTokens
 pub mod Lexed
 pub mod Parsed

@@ -146,7 +146,10 @@ const ROWS: &[Row] = &[
     (b"1uu", Err(LexFault::BadLiteral(0))),
     (b"1ll", Ok(&[(0, Want::Number(1, Kind::Long))])),
     (b"1LLu", Ok(&[(0, Want::Number(1, Kind::ULong))])),
-    (b"0x8000000000000000ull", Ok(&[(0, Want::Number(9223372036854775808, Kind::ULong))])),
+    (
+        b"0x8000000000000000ull",
+        Ok(&[(0, Want::Number(9223372036854775808, Kind::ULong))]),
+    ),
     (b"1lL", Err(LexFault::BadLiteral(0))),
     (b"1lul", Err(LexFault::BadLiteral(0))),
     // Character constants (C17 6.4.4.4).
@@ -321,6 +324,10 @@ const DIRECTIVES: &[Row] = &[
     (
         b" # include\t<string.h> \n",
         Ok(&[(1, Want::Name(b"<string.h>"))]),
+    ),
+    (
+        b"#include <stdint.h>",
+        Ok(&[(0, Want::Name(b"<stdint.h>"))]),
     ),
     (b"#include <math.h>", Err(LexFault::Directive(0))),
     (b"#include \"limits.h\"", Err(LexFault::Directive(0))),

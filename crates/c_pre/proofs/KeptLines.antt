@@ -22,9 +22,8 @@ use Rattle.c_pre.specs.Lines.{with_macro, named_by, named, is_apart, defined_as,
 use Rattle.c_pre.specs.Lines.{header_read}
 use Rattle.c_pre.specs.Lines.{opened_by, opened_at, is_macro, is_more, other, parted, closed, obeyed, lone_name}
 use Rattle.c_pre.specs.Macros.{Name, name_of, body_of, turns}
-use Rattle.c_library.specs.Headers.{is_served}
 use Rattle.c_pre.specs.Outputs.{◌>>=◌, taken, all_taken}
-use Rattle.c_pre.specs.Programs.{kept, header_given}
+use Rattle.c_pre.specs.Programs.{stays, kept, header_given}
 use Rattle.c_pre.specs.Programs.{given, in_line, read_plain, read_in_line, read_by, read_token, read_all, line_ended}
 use Rattle.c_pre.specs.Programs.{groups_ended, ended, directed, beginning}
 use Rattle.c_pre.specs.Said.{said_by}
@@ -174,8 +173,8 @@ kept_has P most true t r h p =
 header_given_has : (P : Fact) (most : ℕ) (t : Lexeme) (d : Header) (r : Reader) → HeadersHave P → Has P most r
     → P t.form → OkHas (Has P most) (header_given most t d r)
 header_given_has P most t d r c h p =
-    bound (Has P most) (Has P most) (kept most (is_served t.form) t r) (header_read t.offset d)
-    (kept_has P most (is_served t.form) t r h p) (λ x q. header_has P most t.offset d x q (c d))
+    bound (Has P most) (Has P most) (kept most (stays t d) t r) (header_read t.offset d)
+    (kept_has P most (stays t d) t r h p) (λ x q. header_has P most t.offset d x q (c d))
 
 lined : (P : Fact) (most : ℕ) (l : Option Line) (r : Reader) → Has P most r → LineHas P l → Has P most (in_line l r)
 lined P most l r h k = record { macros = h.macros; line = k; output = h.output }

@@ -1,5 +1,6 @@
 pub mod FormNumbers
 pub mod Turns
+pub mod PassFacts
 pub mod Plain
 pub mod Words
 pub mod Kept

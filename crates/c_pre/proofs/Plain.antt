@@ -13,9 +13,9 @@ use Rattle.c_pre.specs.declared.said.Said.{Said}
 use Rattle.c_pre.specs.declared.said.Said.TheVariants as said
 use Rattle.c_pre.specs.Said.{said_by}
 use Rattle.c_library.specs.declared.fault.LibraryFault.{LibraryFault}
-use Rattle.c_library.specs.Prepared.{prepared, is_prepared}
-use Rattle.c_library.proofs.PreparedFacts.{prepared_stays}
 use Rattle.c_pre.specs.Outputs.{◌>>=◌, lifted, with_token}
+use Rattle.c_pre.specs.Passes.{passed, is_passed}
+use Rattle.c_pre.proofs.PassFacts.{passed_stays}
 use Rattle.c_pre.specs.Programs.{read_plain, read_token, read_all, ended, directed, program}
 use Rattle.c_lex.specs.Lexes.{Tokens}
 use Rattle.c_pre.specs.Plain.{is_token, has_no_directive, is_plain}
@@ -83,19 +83,19 @@ all_read most ts (u ∷ us) few plain =
     ∙ ap (λ (us : Tokens). Ok (behind us)) (append_assoc ts (u ∷ []) us)
 
 -- raw tokens without a directive and a header stay behind directives
-directed_stays : (most : ℕ) (ts : Tokens) → has_no_directive ts ≡ true → length ts ≤ most → directed most ts ≡ Ok ts
+pub directed_stays : (most : ℕ) (ts : Tokens) → has_no_directive ts ≡ true → length ts ≤ most → directed most ts ≡ Ok ts
 directed_stays most ts plain few =
     ap (λ (m : Result Reader PreFault). m >>= ended) (all_read most [] ts (omega arith) plain)
 
--- raw tokens without these, without literals and without calls of the library are their own program
-pub stays_by : (most : ℕ) (ts : Tokens) → has_no_directive ts ≡ true → is_prepared ts ≡ true → length ts ≤ most
+-- raw tokens without these, and without what a pass would change, are their own program
+stays_by : (most : ℕ) (ts : Tokens) → has_no_directive ts ≡ true → is_passed ts ≡ true → length ts ≤ most
     → program most ts ≡ Ok ts
 stays_by most ts d p few =
-    ap (λ (m : Result Tokens PreFault). m >>= λ us. lifted (prepared most us)) (directed_stays most ts d few)
-    ∙ ap (λ (m : Result Tokens LibraryFault). lifted m) (prepared_stays most ts p few)
+    ap (λ (m : Result Tokens PreFault). m >>= λ us. lifted (passed most us)) (directed_stays most ts d few)
+    ∙ ap (λ (m : Result Tokens LibraryFault). lifted m) (passed_stays most ts p few)
 
 -- so plain raw tokens are
 pub plain_stays : (most : ℕ) (ts : Tokens) → is_plain ts ≡ true → length ts ≤ most → program most ts ≡ Ok ts
 plain_stays most ts plain few =
-    stays_by most ts (and_left (has_no_directive ts) (is_prepared ts) plain)
-    (and_right (has_no_directive ts) (is_prepared ts) plain) few
+    stays_by most ts (and_left (has_no_directive ts) (is_passed ts) plain)
+    (and_right (has_no_directive ts) (is_passed ts) plain) few

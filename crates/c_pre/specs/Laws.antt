@@ -5,8 +5,8 @@ use Rattle.c_lex.specs.Lexes as raw
 use Rattle.c_pre.specs.Plain.{is_plain}
 use Rattle.c_pre.specs.Texts.{Tokens, Lexed}
 
--- a text whose raw tokens have no directive, no header but `<stdio.h>`, no string literal and no call of the library
--- has these tokens, and no others
+-- a text whose raw tokens have no directive, no header but `<stdio.h>` and nothing that a pass would change has these
+-- tokens, and no others
 abbrev pub PlainTextsStay : Type 0
 PlainTextsStay =
     (most : ℕ) (text : Bytes) (plain tokens : Tokens) → raw.Lexed most text plain → is_plain plain ≡ true

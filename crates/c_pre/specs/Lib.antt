@@ -5,6 +5,7 @@ pub mod Said
 pub mod Outputs
 pub mod Groups
 pub mod Lines
+pub mod Passes
 pub mod Programs
 pub mod Plain
 pub mod Texts

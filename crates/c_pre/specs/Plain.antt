@@ -1,8 +1,8 @@
 -- Raw tokens that are their own program.
 use Rattle.std.specs.Prelude.{Bool, true, false, ◌&&◌, [], ◌∷◌}
-use Rattle.c_library.specs.Prepared.{is_prepared}
 use Rattle.c_pre.specs.declared.said.Said.{Said}
 use Rattle.c_pre.specs.declared.said.Said.TheVariants as said
+use Rattle.c_pre.specs.Passes.{is_passed}
 use Rattle.c_pre.specs.Said.{said_by}
 use Rattle.c_lex.specs.Lexes.{Tokens}
 
@@ -16,6 +16,6 @@ abbrev pub has_no_directive : Tokens → Bool
 has_no_directive [] = true
 has_no_directive (t ∷ ts) = is_token (said_by t.form) && has_no_directive ts
 
--- are they so, with no string literal and no call of the library's?
+-- are they so, with nothing that a pass would change?
 abbrev pub is_plain : Tokens → Bool
-is_plain ts = has_no_directive ts && is_prepared ts
+is_plain ts = has_no_directive ts && is_passed ts

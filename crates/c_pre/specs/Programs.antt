@@ -1,11 +1,9 @@
--- The tokens that raw tokens come to behind their directives and macros (C17 6.10), their literals and their calls of
--- the library.
-use Rattle.std.specs.Prelude.{ℕ, Bool, true, false, if◌then◌else◌, List, [], ◌∷◌, ◌++◌, length, Option, Some, None}
+-- The tokens that raw tokens come to behind their directives and macros (C17 6.10), and behind the passes over tokens.
+use Rattle.std.specs.Prelude.{ℕ, Bool, true, false, ◌||◌, if◌then◌else◌, List, [], ◌∷◌, ◌++◌, length, Option, Some, None}
 use Rattle.std.specs.Prelude.{Result, Ok, Err}
 use Rattle.c_tree.specs.declared.Lexeme.{Lexeme}
 use Rattle.c_lex.specs.declared.directive.Header.{Header}
 use Rattle.c_library.specs.Headers.{is_served}
-use Rattle.c_library.specs.Prepared.{prepared}
 use Rattle.c_pre.specs.declared.fault.PreFault.{PreFault}
 use Rattle.c_pre.specs.declared.fault.PreFault.TheVariants as fault
 use Rattle.c_pre.specs.declared.groups.Group.{Group}
@@ -14,9 +12,11 @@ use Rattle.c_pre.specs.declared.reader.Reader.{Reader}
 use Rattle.c_pre.specs.declared.said.Said.{Said}
 use Rattle.c_pre.specs.declared.said.Said.TheVariants as said
 use Rattle.c_pre.specs.Groups.{is_read}
+use Rattle.c_pre.specs.Headers.{gives_types}
 use Rattle.c_pre.specs.Lines.{header_read, obeyed}
 use Rattle.c_pre.specs.Macros.{turns}
 use Rattle.c_pre.specs.Outputs.{◌>>=◌, lifted, taken, all_taken}
+use Rattle.c_pre.specs.Passes.{passed}
 use Rattle.c_pre.specs.Said.{said_by}
 use Rattle.c_lex.specs.Lexes.{Tokens}
 
@@ -26,14 +26,18 @@ given most t r =
     all_taken most t.offset (turns (length r.macros) r.macros [] t.form) r.output
     >>= λ o. Ok (record r { output = o })
 
--- a header's token stays, if the library serves the header
+-- does a header's token stay? It does if the library serves the header, or the header gives types.
+abbrev pub stays : Lexeme → Header → Bool
+stays t h = is_served t.form || gives_types h
+
+-- the token, if it stays
 abbrev pub kept : ℕ → Bool → Lexeme → Reader → Result Reader PreFault
 kept most false t r = Ok r
 kept most true t r = taken most t.offset (Some t.form) r.output >>= λ o. Ok (record r { output = o })
 
 -- the line of a header
 abbrev pub header_given : ℕ → Lexeme → Header → Reader → Result Reader PreFault
-header_given most t h r = kept most (is_served t.form) t r >>= header_read t.offset h
+header_given most t h r = kept most (stays t h) t r >>= header_read t.offset h
 
 -- the reader in this line of a directive, or in none
 abbrev pub in_line : Option Line → Reader → Reader
@@ -89,6 +93,6 @@ beginning = record { macros = []; groups = []; line = None; output = record { to
 abbrev pub directed : ℕ → Tokens → Result Tokens PreFault
 directed most raw = read_all most raw beginning >>= ended
 
--- The tokens of the program: those behind directives, with the library that they call and without string literals.
+-- The tokens of the program: those behind directives, passed on to the grammar.
 abbrev pub program : ℕ → Tokens → Result Tokens PreFault
-program most raw = directed most raw >>= λ ts. lifted (prepared most ts)
+program most raw = directed most raw >>= λ ts. lifted (passed most ts)

@@ -1,7 +1,6 @@
 //! Reading raw tokens, one after another.
 
 ghost use Rattle.std.specs.Prelude.{◌≡◌, if◌then◌else◌, None, Ok, IfOk, IfErr};
-ghost use Rattle.c_library.specs.Headers.{is_served};
 ghost use Rattle.c_tree.specs.Limits.{most_tokens};
 ghost use Rattle.c_pre.specs.Groups.{is_read};
 ghost use Rattle.c_pre.specs.Lines as lines;
@@ -11,7 +10,7 @@ ghost use Rattle.c_pre.specs.inside.Gives.{Gives, Refuses};
 
 use crate::fault::PreFault;
 use crate::groups::Groups;
-use crate::headers::names_of;
+use crate::headers::{gives_types, names_of};
 use crate::macros::Macro;
 use crate::output::Output;
 use crate::replace::replace;
@@ -66,11 +65,12 @@ impl Reader {
         self.include(alloc, offset, names_of(header))
     }
 
-    /// Keeps a header's token, if the library serves the header.
-    fn keep(&mut self, alloc: Global, token: &Lexeme) -> Result<(), PreFault>
-        ensures { Gives (programs.kept most_tokens (is_served token.now.form) token.now self.old) result self.new }
+    /// Keeps a header's token, if it stays.
+    fn keep(&mut self, alloc: Global, token: &Lexeme, header: Header) -> Result<(), PreFault>
+        ensures { Gives (programs.kept most_tokens (programs.stays token.now header) token.now self.old)
+            result self.new }
     {
-        if is_served(&token.form) {
+        if is_served(&token.form) || gives_types(header) {
             self.output
                 .put(token.offset, form_copied(alloc, &token.form)?)
         } else {
@@ -78,11 +78,11 @@ impl Reader {
         }
     }
 
-    /// Keeps a header's token, if the library serves the header, and makes its names known.
+    /// Keeps a header's token, if it stays, and makes its names known.
     fn give_header(&mut self, alloc: Global, token: &Lexeme, header: Header) -> Result<(), PreFault>
         ensures { Gives (programs.header_given most_tokens token.now header self.old) result self.new }
     {
-        self.keep(alloc, token)?;
+        self.keep(alloc, token, header)?;
         self.include_header(alloc, token.offset, header)
     }
 
