@@ -1,0 +1,106 @@
+//! Declarations of names of types.
+
+ghost use Rattle.std.specs.Prelude.{◌≡◌, option_map, IfOk};
+ghost use Rattle.c_names.specs.Enums as enums;
+ghost use Rattle.c_names.specs.Words as words;
+ghost use Rattle.c_names.specs.inside.Takes.{taken};
+
+use crate::enums::{INT, enum_behind};
+use crate::piece::Piece;
+use crate::scope::Scope;
+use crate::words::{is_mark, size_of, take_words};
+use base::Items;
+use c_tree::{Form, Key, Lexeme, Mark};
+use std::alloc::{AllocError, Global};
+
+/// Declares names as ones that stand for these words, and gives what follows the `;`. Want of memory is the only
+/// error.
+fn take_names<'a>(
+    alloc: Global,
+    scope: &mut Scope,
+    words: &[Piece],
+    tokens: &'a [Lexeme],
+) -> Result<Option<&'a [Lexeme]>, AllocError>
+    ensures { IfOk result (λ rest. taken scope.new (option_map (λ ts. ts.now) rest)
+        ≡ enums.names_from scope.old words.now tokens.now) }
+{
+    let mut rest = tokens;
+    while let [name, mark, more @ ..] = rest {
+        if !scope.is_free(&name.form) {
+            return Ok(None);
+        }
+        scope.declare(alloc, &name.form, words)?;
+        if is_mark(Mark::Semicolon, &mark.form) {
+            return Ok(Some(more));
+        }
+        if !is_mark(Mark::Comma, &mark.form) {
+            return Ok(None);
+        }
+        rest = more;
+    }
+    Ok(None)
+}
+
+/// What follows a declaration of names of types by words. Want of memory is the only error.
+fn words_behind<'a>(
+    alloc: Global,
+    scope: &mut Scope,
+    tokens: &'a [Lexeme],
+) -> Result<Option<&'a [Lexeme]>, AllocError>
+    ensures { IfOk result (λ rest. taken scope.new (option_map (λ ts. ts.now) rest)
+        ≡ enums.words_behind scope.old tokens.now) }
+{
+    let mut words = Items::new(alloc);
+    let rest = take_words(scope, &mut words, tokens)?;
+    if size_of(words.as_slice()).is_some() {
+        take_names(alloc, scope, words.as_slice(), rest)
+    } else {
+        Ok(None)
+    }
+}
+
+/// What follows a declaration of names of an enumeration. Want of memory is the only error.
+fn enum_named<'a>(
+    alloc: Global,
+    scope: &mut Scope,
+    tokens: &'a [Lexeme],
+) -> Result<Option<&'a [Lexeme]>, AllocError>
+    ensures { IfOk result (λ rest. taken scope.new (option_map (λ ts. ts.now) rest)
+        ≡ enums.enum_named scope.old tokens.now) }
+{
+    match enum_behind(alloc, scope, tokens)? {
+        Some(rest) => take_names(alloc, scope, &INT, rest),
+        None => Ok(None),
+    }
+}
+
+/// Is it the keyword `enum`?
+fn is_enum(form: &Form) -> bool
+    ensures { result ≡ enums.is_enum form.now }
+{
+    match form {
+        Form::Key(Key::Enum) => true,
+        _ => false,
+    }
+}
+
+/// What follows a declaration of names of types, behind `typedef`. Want of memory is the only error.
+pub fn typedef_behind<'a>(
+    alloc: Global,
+    scope: &mut Scope,
+    tokens: &'a [Lexeme],
+) -> Result<Option<&'a [Lexeme]>, AllocError>
+    ensures { IfOk result (λ rest. taken scope.new (option_map (λ ts. ts.now) rest)
+        ≡ enums.typedef_behind scope.old tokens.now) }
+{
+    match tokens {
+        [] => Ok(None),
+        [token, more @ ..] => {
+            if is_enum(&token.form) {
+                enum_named(alloc, scope, more)
+            } else {
+                words_behind(alloc, scope, tokens)
+            }
+        }
+    }
+}

@@ -1,0 +1,139 @@
+//! The unit without names of types and of enumeration constants.
+
+ghost use Rattle.std.specs.Prelude.{◌≡◌, ◌∷◌, ◌≤◌, ◌+◌, ℕ, suc, length, IsTrue, IfOk, IfErr, Ok, true};
+ghost use Rattle.c_tree.specs.Limits.{most_tokens};
+ghost use Rattle.c_library.specs.Within.{within};
+ghost use Rattle.c_library.specs.inside.Gives.{Gives, Refuses};
+ghost use Rattle.c_library.specs.inside.Puts.{put_all};
+ghost use Rattle.c_names.specs.Named as names;
+ghost use Rattle.c_names.specs.Turns as turns;
+
+use crate::header::goes;
+use crate::scope::Scope;
+use crate::turn::Names;
+use c_library::{LibraryFault, Output};
+use c_tree::{Form, Key, Lexeme, MOST_TOKENS};
+use std::alloc::Global;
+
+/// Is the keyword none that declares such names, or tells a size?
+fn key_stays(key: Key) -> bool
+    ensures { result ≡ names.key_stays key }
+{
+    match key {
+        Key::Typedef | Key::Enum | Key::Sizeof => false,
+        _ => true,
+    }
+}
+
+/// Begins a name of a header's type with these bytes?
+fn may_be(a: u8, b: u8, c: u8, d: u8) -> bool
+    ensures { result ≡ names.may_be a b c d }
+{
+    (a == b'i' && b == b'n' && c == b't')
+        || (a == b'u' && b == b'i' && c == b'n' && d == b't')
+        || (a == b's' && b == b'i' && c == b'z' && d == b'e')
+}
+
+/// May it be a name of a header's type?
+fn may_be_type(name: &[u8]) -> bool
+    ensures { result ≡ names.may_be_type name.now }
+{
+    match name {
+        [a, b, c, d, ..] => may_be(*a, *b, *c, *d),
+        _ => false,
+    }
+}
+
+/// Has the token nothing to do with such names?
+fn stays(form: &Form) -> bool
+    ensures { result ≡ names.stays form.now }
+{
+    match form {
+        Form::Key(key) => key_stays(*key),
+        Form::Name(name) => !may_be_type(name.as_slice()) && !goes(name.as_slice()),
+        _ => true,
+    }
+}
+
+/// Has the unit surely no names of types, none of enumeration constants, and no `sizeof`?
+pub fn has_no_name(tokens: &[Lexeme]) -> bool
+    ensures { result ≡ names.has_no_name tokens.now }
+{
+    let mut rest = tokens;
+    while let [token, more @ ..] = rest {
+        if !stays(&token.form) {
+            return false;
+        }
+        rest = more;
+    }
+    true
+}
+
+/// Takes the first tokens, puts what stands for them, and gives those behind them.
+#[tactic(auto)]
+fn take<'a>(
+    alloc: Global,
+    names: &mut Names,
+    token: &Lexeme,
+    behind: &'a [Lexeme],
+    out: &mut Output,
+) -> Result<&'a [Lexeme], LibraryFault>
+    ensures goes { IfOk result (λ rest. (n : ℕ)
+        → put_all most_tokens (names.named_in (suc n) names.old (token.now ∷ behind.now)) out.old
+        ≡ put_all most_tokens (names.named_in n names.new rest.now) out.new) }
+    ensures fails { IfErr result (λ fault. (n : ℕ)
+        → Refuses (put_all most_tokens (names.named_in (suc n) names.old (token.now ∷ behind.now)) out.old) fault) }
+    ensures left { IfOk result (λ rest. length rest.now ≤ length behind.now) }
+{
+    names.take(alloc, token, behind, out)
+}
+
+/// Puts what stands for these tokens.
+fn put_named(alloc: Global, tokens: &[Lexeme], out: &mut Output) -> Result<(), LibraryFault>
+    ensures { Gives (put_all most_tokens (names.named tokens.now) out.old) result out.new }
+{
+    let mut names = Names {
+        starts: true,
+        scope: Scope::new(alloc),
+    };
+    let mut turns = tokens.len();
+    let mut rest = tokens;
+    while let [token, more @ ..] = rest {
+        rest = take(alloc, &mut names, token, more, out)?;
+        turns -= 1;
+    }
+    Ok(())
+}
+
+/// The unit without names, whatever it has.
+fn without_names(alloc: Global, tokens: &[Lexeme]) -> Result<Vec<Lexeme>, LibraryFault>
+    ensures ok { IfOk result (λ out. within most_tokens (names.named tokens.now) ≡ Ok out.items) }
+    ensures err { IfErr result (Refuses (within most_tokens (names.named tokens.now))) }
+{
+    let mut out = Output::new(alloc);
+    match put_named(alloc, tokens, &mut out) {
+        Ok(()) => Ok(out.into_vec()),
+        Err(fault) => Err(fault),
+    }
+}
+
+/// Has the unit surely its own tokens?
+#[tactic(auto)]
+fn is_own(tokens: &[Lexeme]) -> bool
+    ensures { IsTrue result → within most_tokens (names.named tokens.now) ≡ Ok tokens.now }
+{
+    tokens.len() <= MOST_TOKENS && has_no_name(tokens)
+}
+
+/// The unit with names of types and of enumeration constants replaced, or the first token that is too many.
+///
+/// A unit without them is given back as it is.
+pub fn named(alloc: Global, tokens: Vec<Lexeme>) -> Result<Vec<Lexeme>, LibraryFault>
+    ensures ok { IfOk result (λ out. within most_tokens (names.named tokens.items) ≡ Ok out.items) }
+    ensures err { IfErr result (Refuses (within most_tokens (names.named tokens.items))) }
+{
+    if is_own(&tokens) {
+        return Ok(tokens);
+    }
+    without_names(alloc, &tokens)
+}
