@@ -29,7 +29,7 @@ None and_then f = None
 -- Behind the last enumerator, with these tokens, up to its `}`. There are none behind a `,`.
 abbrev pub last : Scope → Next → List Form → Tokens → Taken
 last es n [] ts = Some (es, ts)
-last es n (f ∷ fs) ts = enumerator es n (f ∷ fs) and_then λ (p : Scope × Next). Some (p.0, ts)
+last es n (f ∷ fs) ts = enumerator es n (f ∷ fs) and_then (λ (p : Scope × Next). Some (p.0, ts))
 
 -- Behind the `}` of a list, of whose first enumerator these tokens are read. An enumerator ends at a `,` or `}`.
 abbrev pub listed : Scope → Next → List Form → Tokens → Taken
@@ -37,7 +37,7 @@ listed es n fs [] = None
 listed es n fs (t ∷ ts) =
     if is_mark mark.RightBrace t.form then last es n fs ts
     else if is_mark mark.Comma t.form
-    then enumerator es n fs and_then λ (p : Scope × Next). listed p.0 p.1 [] ts
+    then enumerator es n fs and_then (λ (p : Scope × Next). listed p.0 p.1 [] ts)
     else listed es n (fs ++ t.form ∷ []) ts
 
 -- behind the list that has at least one enumerator
@@ -101,7 +101,7 @@ words_behind es ts = words_named es (words_from es [] ts)
 
 -- behind an enumeration, and the names
 abbrev pub enum_named : Scope → Tokens → Taken
-enum_named es ts = enum_behind es ts and_then λ (p : Scope × Tokens). names_from p.0 int p.1
+enum_named es ts = enum_behind es ts and_then (λ (p : Scope × Tokens). names_from p.0 int p.1)
 
 -- is it the keyword `enum`?
 abbrev pub is_enum : Form → Bool

@@ -1,12 +1,10 @@
 //! Enumerations.
 
-ghost use Rattle.std.specs.Prelude.{◌≡◌, [], ◌∷◌, true, false, None, option_map, IfOk};
+ghost use Rattle.std.specs.Prelude.{◌≡◌, List, [], option_map, IfOk};
 ghost use Rattle.c_names.specs.Enums as enums;
-ghost use Rattle.c_names.specs.Pieces as pieces;
 ghost use Rattle.c_names.specs.Values as values;
 ghost use Rattle.c_names.specs.inside.Takes.{taken, went_on, at_comma, past_token};
 ghost use Rattle.c_tree.specs.declared.Lexeme.{Lexeme};
-ghost use Rattle.c_tree.specs.declared.Form.TheVariants as form;
 
 use crate::piece::Piece;
 use crate::scope::{Scope, is_own, tag};

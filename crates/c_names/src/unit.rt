@@ -5,7 +5,7 @@ ghost use Rattle.c_tree.specs.Limits.{most_tokens};
 ghost use Rattle.c_library.specs.Within.{within};
 ghost use Rattle.c_library.specs.inside.Gives.{Gives, Refuses};
 ghost use Rattle.c_library.specs.inside.Puts.{put_all};
-ghost use Rattle.c_names.specs.Named as names;
+ghost use Rattle.c_names.specs.Named as unit;
 ghost use Rattle.c_names.specs.Turns as turns;
 
 use crate::header::goes;
@@ -17,7 +17,7 @@ use std::alloc::Global;
 
 /// Is the keyword none that declares such names, or tells a size?
 fn key_stays(key: Key) -> bool
-    ensures { result ≡ names.key_stays key }
+    ensures { result ≡ unit.key_stays key }
 {
     match key {
         Key::Typedef | Key::Enum | Key::Sizeof => false,
@@ -27,7 +27,7 @@ fn key_stays(key: Key) -> bool
 
 /// Begins a name of a header's type with these bytes?
 fn may_be(a: u8, b: u8, c: u8, d: u8) -> bool
-    ensures { result ≡ names.may_be a b c d }
+    ensures { result ≡ unit.may_be a b c d }
 {
     (a == b'i' && b == b'n' && c == b't')
         || (a == b'u' && b == b'i' && c == b'n' && d == b't')
@@ -36,7 +36,7 @@ fn may_be(a: u8, b: u8, c: u8, d: u8) -> bool
 
 /// May it be a name of a header's type?
 fn may_be_type(name: &[u8]) -> bool
-    ensures { result ≡ names.may_be_type name.now }
+    ensures { result ≡ unit.may_be_type name.now }
 {
     match name {
         [a, b, c, d, ..] => may_be(*a, *b, *c, *d),
@@ -46,7 +46,7 @@ fn may_be_type(name: &[u8]) -> bool
 
 /// Has the token nothing to do with such names?
 fn stays(form: &Form) -> bool
-    ensures { result ≡ names.stays form.now }
+    ensures { result ≡ unit.stays form.now }
 {
     match form {
         Form::Key(key) => key_stays(*key),
@@ -57,7 +57,7 @@ fn stays(form: &Form) -> bool
 
 /// Has the unit surely no names of types, none of enumeration constants, and no `sizeof`?
 pub fn has_no_name(tokens: &[Lexeme]) -> bool
-    ensures { result ≡ names.has_no_name tokens.now }
+    ensures { result ≡ unit.has_no_name tokens.now }
 {
     let mut rest = tokens;
     while let [token, more @ ..] = rest {
@@ -70,7 +70,7 @@ pub fn has_no_name(tokens: &[Lexeme]) -> bool
 }
 
 /// Takes the first tokens, puts what stands for them, and gives those behind them.
-#[tactic(auto)]
+#[tactic(auto, using(crate::proofs::Turned::goes, crate::proofs::Turned::fails, crate::proofs::Turned::left))]
 fn take<'a>(
     alloc: Global,
     names: &mut Names,
@@ -79,10 +79,10 @@ fn take<'a>(
     out: &mut Output,
 ) -> Result<&'a [Lexeme], LibraryFault>
     ensures goes { IfOk result (λ rest. (n : ℕ)
-        → put_all most_tokens (names.named_in (suc n) names.old (token.now ∷ behind.now)) out.old
-        ≡ put_all most_tokens (names.named_in n names.new rest.now) out.new) }
+        → put_all most_tokens (unit.named_in (suc n) names.old (token.now ∷ behind.now)) out.old
+        ≡ put_all most_tokens (unit.named_in n names.new rest.now) out.new) }
     ensures fails { IfErr result (λ fault. (n : ℕ)
-        → Refuses (put_all most_tokens (names.named_in (suc n) names.old (token.now ∷ behind.now)) out.old) fault) }
+        → Refuses (put_all most_tokens (unit.named_in (suc n) names.old (token.now ∷ behind.now)) out.old) fault) }
     ensures left { IfOk result (λ rest. length rest.now ≤ length behind.now) }
 {
     names.take(alloc, token, behind, out)
@@ -90,7 +90,7 @@ fn take<'a>(
 
 /// Puts what stands for these tokens.
 fn put_named(alloc: Global, tokens: &[Lexeme], out: &mut Output) -> Result<(), LibraryFault>
-    ensures { Gives (put_all most_tokens (names.named tokens.now) out.old) result out.new }
+    ensures { Gives (put_all most_tokens (unit.named tokens.now) out.old) result out.new }
 {
     let mut names = Names {
         starts: true,
@@ -107,8 +107,8 @@ fn put_named(alloc: Global, tokens: &[Lexeme], out: &mut Output) -> Result<(), L
 
 /// The unit without names, whatever it has.
 fn without_names(alloc: Global, tokens: &[Lexeme]) -> Result<Vec<Lexeme>, LibraryFault>
-    ensures ok { IfOk result (λ out. within most_tokens (names.named tokens.now) ≡ Ok out.items) }
-    ensures err { IfErr result (Refuses (within most_tokens (names.named tokens.now))) }
+    ensures ok { IfOk result (λ out. within most_tokens (unit.named tokens.now) ≡ Ok out.items) }
+    ensures err { IfErr result (Refuses (within most_tokens (unit.named tokens.now))) }
 {
     let mut out = Output::new(alloc);
     match put_named(alloc, tokens, &mut out) {
@@ -118,9 +118,9 @@ fn without_names(alloc: Global, tokens: &[Lexeme]) -> Result<Vec<Lexeme>, Librar
 }
 
 /// Has the unit surely its own tokens?
-#[tactic(auto)]
+#[tactic(auto, using(crate::proofs::Kept::unit_stays))]
 fn is_own(tokens: &[Lexeme]) -> bool
-    ensures { IsTrue result → within most_tokens (names.named tokens.now) ≡ Ok tokens.now }
+    ensures { IsTrue result → within most_tokens (unit.named tokens.now) ≡ Ok tokens.now }
 {
     tokens.len() <= MOST_TOKENS && has_no_name(tokens)
 }
@@ -129,8 +129,8 @@ fn is_own(tokens: &[Lexeme]) -> bool
 ///
 /// A unit without them is given back as it is.
 pub fn named(alloc: Global, tokens: Vec<Lexeme>) -> Result<Vec<Lexeme>, LibraryFault>
-    ensures ok { IfOk result (λ out. within most_tokens (names.named tokens.items) ≡ Ok out.items) }
-    ensures err { IfErr result (Refuses (within most_tokens (names.named tokens.items))) }
+    ensures ok { IfOk result (λ out. within most_tokens (unit.named tokens.items) ≡ Ok out.items) }
+    ensures err { IfErr result (Refuses (within most_tokens (unit.named tokens.items))) }
 {
     if is_own(&tokens) {
         return Ok(tokens);

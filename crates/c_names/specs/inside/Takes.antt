@@ -28,7 +28,7 @@ bound_by false es n = None
 
 -- what there is behind an enumerator that ends at a `,`
 abbrev pub at_comma : Scope → Next → List Form → Tokens → Taken
-at_comma es n fs ts = enumerator es n fs and_then λ (p : Scope × Next). listed p.0 p.1 [] ts
+at_comma es n fs ts = enumerator es n fs and_then (λ (p : Scope × Next). listed p.0 p.1 [] ts)
 
 -- what there is behind a token of a list that is not its `}`
 abbrev pub past_token : Scope → Next → List Form → Lexeme → Tokens → Taken

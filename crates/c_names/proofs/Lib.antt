@@ -1,0 +1,4 @@
+pub mod Rests
+pub mod Turned
+pub mod Kept
+pub mod StandardFacts
