@@ -220,5 +220,5 @@ fewer k n h = omega arith
 -- no more are left than there were behind the first one
 pub few_left : (ns : Names) (t : Lexeme) (ts : Tokens) → length (turn_of ns t ts).rest ≤ length ts
 few_left ns t ts =
-    turn_left (λ xs. length xs ≤ length ts) (λ u us h. fewer (length us) (length ts) h) (omega arith) ns t ts
+    turn_left (λ (xs : Tokens). length xs ≤ length ts) (λ u us h. fewer (length us) (length ts) h) (omega arith) ns t ts
     (omega arith)
