@@ -101,9 +101,11 @@ types_headers (r ∷ rs) es e h =
     types_headers rs (entry.Name r.0 r.1 ∷ es) both.1 (and_both (may_be_type r.0) (all_headers es) both.0 h)
 
 sizes_headers : all_types sizes ≡ true
+unfolding sizes
 sizes_headers = refl
 
 integers_headers : all_types integers ≡ true
+unfolding integers
 integers_headers = refl
 
 either_types : (b : Bool) (x y : List Row) → all_types x ≡ true → all_types y ≡ true → all_types (cond b x y) ≡ true

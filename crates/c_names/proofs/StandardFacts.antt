@@ -118,8 +118,10 @@ signed_alone = refl
 -- `#include <stdio.h>` and `size_t` are the include and `unsigned long`; that of `<stddef.h>` goes
 pub size_is_there : named (at (form.Include ∷ form.Name (codes "size_t") ∷ []))
     ≡ at (form.Include ∷ word key.Unsigned ∷ word key.Long ∷ [])
+unfolding sizes
 size_is_there = refl
 
 pub header_goes : named (at (form.Name (codes "<stddef.h>") ∷ form.Name (codes "size_t") ∷ []))
     ≡ at (word key.Unsigned ∷ word key.Long ∷ [])
+unfolding sizes
 header_goes = refl

@@ -1,6 +1,6 @@
 -- A turn more: what stands for the first tokens is put, and the others come behind.
-use Rattle.std.proofs.Common.{◌≡◌, ◌≤◌, ℕ, suc, List, [], ◌∷◌, ◌++◌, length, refl, sym, ap, subst, ◌∙◌}
-use Rattle.std.specs.Prelude.{Result, Ok, Err}
+use Rattle.std.proofs.Common.{◌≡◌, ◌≤◌, ℕ, suc, List, [], ◌∷◌, ◌++◌, length, refl, sym, ap, subst, ◌∙◌, Bor}
+use Rattle.std.specs.Prelude.{Result, Ok, Err, IfOk, IfErr}
 use Rattle.c_tree.specs.declared.Lexeme.{Lexeme}
 use Rattle.c_tree.specs.Limits.{most_tokens}
 use Rattle.c_lex.specs.Lexes.{Tokens}
@@ -47,6 +47,27 @@ fails n ns t ts out fault.Memory h = tt
 pub left : (ns ns' : Names) (t : Lexeme) (ts rest out out' : Tokens) → Did (turn_of ns t ts) out rest ns' out'
     → length rest ≤ length ts
 left ns ns' t ts rest out out' d = subst (λ (xs : Tokens). length xs ≤ length ts) d.goes_on (few_left ns t ts)
+
+-- the same of a call's result
+pub turn_goes : (ns ns' : Names) (t : Lexeme) (ts out out' : Tokens) (r : Result (Bor Tokens) LibraryFault)
+    → IfOk r (λ (rest : Bor Tokens). Did (turn_of ns t ts) out rest.now ns' out')
+    → IfOk r (λ (rest : Bor Tokens). (n : ℕ) → put_all most_tokens (named_in (suc n) ns (t ∷ ts)) out
+    ≡ put_all most_tokens (named_in n ns' rest.now) out')
+turn_goes ns ns' t ts out out' (Ok rest) d = λ n. goes n ns ns' t ts rest.now out out' d
+turn_goes ns ns' t ts out out' (Err f) d = tt
+
+pub turn_fails : (ns : Names) (t : Lexeme) (ts out : Tokens) (r : Result (Bor Tokens) LibraryFault)
+    → IfErr r (λ (f : LibraryFault). Refuses (put_all most_tokens (turn_of ns t ts).out out) f)
+    → IfErr r (λ (f : LibraryFault). (n : ℕ)
+    → Refuses (put_all most_tokens (named_in (suc n) ns (t ∷ ts)) out) f)
+turn_fails ns t ts out (Ok rest) h = tt
+turn_fails ns t ts out (Err f) h = λ n. fails n ns t ts out f h
+
+pub turn_left : (ns ns' : Names) (t : Lexeme) (ts out out' : Tokens) (r : Result (Bor Tokens) LibraryFault)
+    → IfOk r (λ (rest : Bor Tokens). Did (turn_of ns t ts) out rest.now ns' out')
+    → IfOk r (λ (rest : Bor Tokens). length rest.now ≤ length ts)
+turn_left ns ns' t ts out out' (Ok rest) d = left ns ns' t ts rest.now out out' d
+turn_left ns ns' t ts out out' (Err f) d = tt
 
 -- what is put from the first token on is the unit
 named_put : (ts out : Tokens) → out ≡ [] → within most_tokens (named ts) ≡ put_all most_tokens (named ts) out

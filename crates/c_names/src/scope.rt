@@ -66,7 +66,7 @@ fn look_up_in<'a>(name: &[u8], entries: &'a [Entry]) -> Option<&'a [Piece]>
     ensures { option_map (λ ps. ps.now) result ≡ scopes.look_up name.now (reverse entries.now) }
 {
     let mut rest = entries;
-    while let [outer @ .., entry] = rest {
+    while let Some((entry, outer)) = rest.split_last() {
         if let Entry::Name { name: other, pieces } = entry {
             if same_name(other.as_slice(), name) {
                 return Some(pieces.as_slice());
@@ -82,7 +82,7 @@ fn is_here_in(name: &[u8], entries: &[Entry]) -> bool
     ensures { result ≡ scopes.is_here name.now (reverse entries.now) }
 {
     let mut rest = entries;
-    while let [outer @ .., entry] = rest {
+    while let Some((entry, outer)) = rest.split_last() {
         match entry {
             Entry::Block => return false,
             Entry::Paren => (),

@@ -1,9 +1,12 @@
 //! Declarations of names of types.
 
-ghost use Rattle.std.specs.Prelude.{◌≡◌, option_map, IfOk};
+ghost use Rattle.std.specs.Prelude.{◌≡◌, ◌∷◌, List, option_map, IfOk};
+ghost use Rattle.c_tree.specs.declared.Lexeme.{Lexeme};
+ghost use Rattle.c_names.specs.declared.scope.Entry.{Entry};
 ghost use Rattle.c_names.specs.Enums as enums;
 ghost use Rattle.c_names.specs.Words as words;
-ghost use Rattle.c_names.specs.inside.Takes.{taken};
+ghost use Rattle.c_names.specs.inside.Separated.{names_end, names_past};
+ghost use Rattle.c_names.specs.inside.Takes.{taken, went_on};
 
 use crate::enums::{INT, enum_behind};
 use crate::piece::Piece;
@@ -12,6 +15,37 @@ use crate::words::{is_mark, size_of, take_words};
 use base::Items;
 use c_tree::{Form, Key, Lexeme, Mark};
 use std::alloc::{AllocError, Global};
+
+/// Declares a name, if it may be declared, and tells whether it may. Want of memory is the only error.
+fn take_name(
+    alloc: Global,
+    scope: &mut Scope,
+    words: &[Piece],
+    name: &Lexeme,
+    mark: &Lexeme,
+) -> Result<bool, AllocError>
+    ensures { IfOk result (λ went. (ts : List Lexeme)
+        → went_on went (names_past scope.new words.now mark.now.form ts)
+        ≡ enums.names_from scope.old words.now (name.now ∷ mark.now ∷ ts)) }
+{
+    if scope.is_free(&name.form) {
+        scope.declare(alloc, &name.form, words)?;
+        Ok(true)
+    } else {
+        Ok(false)
+    }
+}
+
+/// What follows the last name, if a `;` ends it.
+fn ended<'a>(form: &Form, behind: &'a [Lexeme]) -> Option<&'a [Lexeme]>
+    ensures { (es : List Entry) → taken es (option_map (λ ts. ts.now) result) ≡ names_end es form.now behind.now }
+{
+    if is_mark(Mark::Semicolon, form) {
+        Some(behind)
+    } else {
+        None
+    }
+}
 
 /// Declares names as ones that stand for these words, and gives what follows the `;`. Want of memory is the only
 /// error.
@@ -26,15 +60,11 @@ fn take_names<'a>(
 {
     let mut rest = tokens;
     while let [name, mark, more @ ..] = rest {
-        if !scope.is_free(&name.form) {
+        if !take_name(alloc, scope, words, name, mark)? {
             return Ok(None);
-        }
-        scope.declare(alloc, &name.form, words)?;
-        if is_mark(Mark::Semicolon, &mark.form) {
-            return Ok(Some(more));
         }
         if !is_mark(Mark::Comma, &mark.form) {
-            return Ok(None);
+            return Ok(ended(&mark.form, more));
         }
         rest = more;
     }

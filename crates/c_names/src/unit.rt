@@ -70,7 +70,7 @@ pub fn has_no_name(tokens: &[Lexeme]) -> bool
 }
 
 /// Takes the first tokens, puts what stands for them, and gives those behind them.
-#[tactic(auto, using(crate::proofs::Turned::goes, crate::proofs::Turned::fails, crate::proofs::Turned::left))]
+#[tactic(auto, using(crate::proofs::Turned::turn_goes, crate::proofs::Turned::turn_fails, crate::proofs::Turned::turn_left))]
 fn take<'a>(
     alloc: Global,
     names: &mut Names,
