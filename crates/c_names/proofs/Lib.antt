@@ -1,3 +1,4 @@
+pub mod Separated
 pub mod Rests
 pub mod Turned
 pub mod Kept

@@ -97,6 +97,17 @@ fn is_here_in(name: &[u8], entries: &[Entry]) -> bool
     false
 }
 
+/// Leaves the innermost block of these, the innermost last.
+fn leave_block(entries: &mut Vec<Entry>)
+    ensures { reverse entries.new.items ≡ scopes.outside (reverse entries.old.items) }
+{
+    while let Some(entry) = entries.pop() {
+        if let Entry::Block = entry {
+            return;
+        }
+    }
+}
+
 impl Scope {
     /// Nothing. It takes no memory.
     pub fn new(alloc: Global) -> Scope
@@ -143,11 +154,7 @@ impl Scope {
     fn leave(&mut self)
         ensures { self.new ≡ scopes.outside self.old }
     {
-        while let Some(entry) = self.entries.pop() {
-            if let Entry::Block = entry {
-                return;
-            }
-        }
+        leave_block(&mut self.entries);
     }
 
     /// Leaves a parenthesis, if one is the innermost.

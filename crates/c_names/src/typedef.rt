@@ -1,12 +1,11 @@
 //! Declarations of names of types.
 
-ghost use Rattle.std.specs.Prelude.{◌≡◌, ◌∷◌, List, option_map, IfOk};
-ghost use Rattle.c_tree.specs.declared.Lexeme.{Lexeme};
+ghost use Rattle.std.specs.Prelude.{◌≡◌, ◌≤◌, List, length, option_map, IfOk};
 ghost use Rattle.c_names.specs.declared.scope.Entry.{Entry};
 ghost use Rattle.c_names.specs.Enums as enums;
 ghost use Rattle.c_names.specs.Words as words;
-ghost use Rattle.c_names.specs.inside.Separated.{names_end, names_past};
-ghost use Rattle.c_names.specs.inside.Takes.{taken, went_on};
+ghost use Rattle.c_names.specs.inside.Separated.{names_end, marks_from};
+ghost use Rattle.c_names.specs.inside.Takes.{taken};
 
 use crate::enums::{INT, enum_behind};
 use crate::piece::Piece;
@@ -16,23 +15,28 @@ use base::Items;
 use c_tree::{Form, Key, Lexeme, Mark};
 use std::alloc::{AllocError, Global};
 
-/// Declares a name, if it may be declared, and tells whether it may. Want of memory is the only error.
-fn take_name(
+/// Declares the name that stands first, and gives what follows it; nothing where it may not be declared. Want of
+/// memory is the only error.
+#[tactic(auto, using(crate::proofs::Separated::declared_is, crate::proofs::Separated::not_free))]
+fn past_name<'a>(
     alloc: Global,
     scope: &mut Scope,
     words: &[Piece],
-    name: &Lexeme,
-    mark: &Lexeme,
-) -> Result<bool, AllocError>
-    ensures { IfOk result (λ went. (ts : List Lexeme)
-        → went_on went (names_past scope.new words.now mark.now.form ts)
-        ≡ enums.names_from scope.old words.now (name.now ∷ mark.now ∷ ts)) }
+    tokens: &'a [Lexeme],
+) -> Result<&'a [Lexeme], AllocError>
+    ensures value { IfOk result (λ rest. marks_from scope.new words.now rest.now
+        ≡ enums.names_from scope.old words.now tokens.now) }
+    ensures left { IfOk result (λ rest. length rest.now ≤ length tokens.now) }
 {
-    if scope.is_free(&name.form) {
-        scope.declare(alloc, &name.form, words)?;
-        Ok(true)
-    } else {
-        Ok(false)
+    match tokens {
+        [] => Ok(tokens),
+        [name, behind @ ..] => {
+            if !scope.is_free(&name.form) {
+                return Ok(&[]);
+            }
+            scope.declare(alloc, &name.form, words)?;
+            Ok(behind)
+        }
     }
 }
 
@@ -58,15 +62,12 @@ fn take_names<'a>(
     ensures { IfOk result (λ rest. taken scope.new (option_map (λ ts. ts.now) rest)
         ≡ enums.names_from scope.old words.now tokens.now) }
 {
-    let mut rest = tokens;
-    while let [name, mark, more @ ..] = rest {
-        if !take_name(alloc, scope, words, name, mark)? {
-            return Ok(None);
-        }
+    let mut rest = past_name(alloc, scope, words, tokens)?;
+    while let [mark, more @ ..] = rest {
         if !is_mark(Mark::Comma, &mark.form) {
             return Ok(ended(&mark.form, more));
         }
-        rest = more;
+        rest = past_name(alloc, scope, words, more)?;
     }
     Ok(None)
 }

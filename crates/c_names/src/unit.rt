@@ -118,7 +118,7 @@ fn without_names(alloc: Global, tokens: &[Lexeme]) -> Result<Vec<Lexeme>, Librar
 }
 
 /// Has the unit surely its own tokens?
-#[tactic(auto, using(crate::proofs::Kept::unit_stays))]
+#[tactic(auto, using(crate::proofs::Kept::unit_stays, crate::proofs::StandardFacts::long_long))]
 fn is_own(tokens: &[Lexeme]) -> bool
     ensures { IsTrue result → within most_tokens (unit.named tokens.now) ≡ Ok tokens.now }
 {

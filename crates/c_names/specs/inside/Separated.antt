@@ -1,5 +1,5 @@
 -- What there is behind a name that a `typedef` declares.
-use Rattle.std.specs.Prelude.{if◌then◌else◌, Some, None}
+use Rattle.std.specs.Prelude.{if◌then◌else◌, [], ◌∷◌, Some, None}
 use Rattle.c_tree.specs.declared.Form.{Form}
 use Rattle.c_tree.specs.declared.Mark.TheVariants as mark
 use Rattle.c_lex.specs.Lexes.{Tokens}
@@ -15,3 +15,8 @@ names_end es m ts = if is_mark mark.Semicolon m then Some (es, ts) else None
 -- behind one, where a `,` goes on
 abbrev pub names_past : Scope → Pieces → Form → Tokens → Taken
 names_past es ws m ts = if is_mark mark.Comma m then names_from es ws ts else names_end es m ts
+
+-- behind a name, at the punctuator that follows it
+abbrev pub marks_from : Scope → Pieces → Tokens → Taken
+marks_from es ws [] = None
+marks_from es ws (m ∷ ts) = names_past es ws m.form ts
