@@ -1,5 +1,5 @@
 -- A turn more: what stands for the first tokens is put, and the others come behind.
-use Rattle.std.proofs.Common.{◌≡◌, ◌≤◌, ℕ, suc, List, [], ◌∷◌, ◌++◌, length, refl, sym, ap, subst, ◌∙◌, Bor}
+use Rattle.std.proofs.Common.{◌≡◌, ◌≤◌, ◌<◌, ◌-◌, ℕ, zero, suc, arith, List, [], ◌∷◌, ◌++◌, length, refl, sym, ap, subst, ◌∙◌, Bor}
 use Rattle.std.specs.Prelude.{Result, Ok, Err, IfOk, IfErr}
 use Rattle.c_tree.specs.declared.Lexeme.{Lexeme}
 use Rattle.c_tree.specs.Limits.{most_tokens}
@@ -48,20 +48,34 @@ pub left : (ns ns' : Names) (t : Lexeme) (ts rest out out' : Tokens) → Did (tu
     → length rest ≤ length ts
 left ns ns' t ts rest out out' d = subst (λ (xs : Tokens). length xs ≤ length ts) d.goes_on (few_left ns t ts)
 
--- the same of a call's result
-pub turn_goes : (ns ns' : Names) (t : Lexeme) (ts out out' : Tokens) (r : Result (Bor Tokens) LibraryFault)
-    → IfOk r (λ (rest : Bor Tokens). Did (turn_of ns t ts) out rest.now ns' out')
-    → IfOk r (λ (rest : Bor Tokens). (n : ℕ) → put_all most_tokens (named_in (suc n) ns (t ∷ ts)) out
-    ≡ put_all most_tokens (named_in n ns' rest.now) out')
-turn_goes ns ns' t ts out out' (Ok rest) d = λ n. goes n ns ns' t ts rest.now out out' d
-turn_goes ns ns' t ts out out' (Err f) d = tt
+-- the same of a call's result, where a turn is left
+goes_in : (k : ℕ) (ns ns' : Names) (t : Lexeme) (ts rest out out' : Tokens) → 0 < k
+    → Did (turn_of ns t ts) out rest ns' out'
+    → put_all most_tokens (named_in k ns (t ∷ ts)) out ≡ put_all most_tokens (named_in (k - 1) ns' rest) out'
+goes_in zero ns ns' t ts rest out out' h d = absurd (omega arith)
+goes_in (suc n) ns ns' t ts rest out out' h d =
+    let e : n ≡ suc n - 1 = omega arith in
+    goes n ns ns' t ts rest out out' d
+    ∙ ap (λ (k : ℕ). put_all most_tokens (named_in k ns' rest) out') e
 
-pub turn_fails : (ns : Names) (t : Lexeme) (ts out : Tokens) (r : Result (Bor Tokens) LibraryFault)
-    → IfErr r (λ (f : LibraryFault). Refuses (put_all most_tokens (turn_of ns t ts).out out) f)
-    → IfErr r (λ (f : LibraryFault). (n : ℕ)
-    → Refuses (put_all most_tokens (named_in (suc n) ns (t ∷ ts)) out) f)
-turn_fails ns t ts out (Ok rest) h = tt
-turn_fails ns t ts out (Err f) h = λ n. fails n ns t ts out f h
+fails_in : (k : ℕ) (ns : Names) (t : Lexeme) (ts out : Tokens) (f : LibraryFault) → 0 < k
+    → Refuses (put_all most_tokens (turn_of ns t ts).out out) f
+    → Refuses (put_all most_tokens (named_in k ns (t ∷ ts)) out) f
+fails_in zero ns t ts out f h e = absurd (omega arith)
+fails_in (suc n) ns t ts out f h e = fails n ns t ts out f e
+
+pub turn_goes : (k : ℕ) (ns ns' : Names) (t : Lexeme) (ts out out' : Tokens) (r : Result (Bor Tokens) LibraryFault)
+    → 0 < k → IfOk r (λ (rest : Bor Tokens). Did (turn_of ns t ts) out rest.now ns' out')
+    → IfOk r (λ (rest : Bor Tokens). put_all most_tokens (named_in k ns (t ∷ ts)) out
+    ≡ put_all most_tokens (named_in (k - 1) ns' rest.now) out')
+turn_goes k ns ns' t ts out out' (Ok rest) h d = goes_in k ns ns' t ts rest.now out out' h d
+turn_goes k ns ns' t ts out out' (Err f) h d = tt
+
+pub turn_fails : (k : ℕ) (ns : Names) (t : Lexeme) (ts out : Tokens) (r : Result (Bor Tokens) LibraryFault) → 0 < k
+    → IfErr r (Refuses (put_all most_tokens (turn_of ns t ts).out out))
+    → IfErr r (Refuses (put_all most_tokens (named_in k ns (t ∷ ts)) out))
+turn_fails k ns t ts out (Ok rest) h e = tt
+turn_fails k ns t ts out (Err f) h e = fails_in k ns t ts out f h e
 
 pub turn_left : (ns ns' : Names) (t : Lexeme) (ts out out' : Tokens) (r : Result (Bor Tokens) LibraryFault)
     → IfOk r (λ (rest : Bor Tokens). Did (turn_of ns t ts) out rest.now ns' out')

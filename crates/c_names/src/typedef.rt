@@ -1,6 +1,6 @@
 //! Declarations of names of types.
 
-ghost use Rattle.std.specs.Prelude.{◌≡◌, ◌≤◌, List, length, option_map, IfOk};
+ghost use Rattle.std.specs.Prelude.{◌≡◌, ◌≤◌, ◌∷◌, List, length, option_map, IfOk};
 ghost use Rattle.c_names.specs.declared.scope.Entry.{Entry};
 ghost use Rattle.c_names.specs.Enums as enums;
 ghost use Rattle.c_names.specs.Words as words;
@@ -15,9 +15,29 @@ use base::Items;
 use c_tree::{Form, Key, Lexeme, Mark};
 use std::alloc::{AllocError, Global};
 
+/// Declares a name before these tokens, and gives them; none where it may not be declared. Want of memory is the only
+/// error.
+#[tactic(auto, using(crate::proofs::Separated::declared_is, crate::proofs::Separated::not_free))]
+fn declare_before<'a>(
+    alloc: Global,
+    scope: &mut Scope,
+    words: &[Piece],
+    name: &Lexeme,
+    behind: &'a [Lexeme],
+) -> Result<&'a [Lexeme], AllocError>
+    ensures value { IfOk result (λ rest. marks_from scope.new words.now rest.now
+        ≡ enums.names_from scope.old words.now (name.now ∷ behind.now)) }
+    ensures left { IfOk result (λ rest. length rest.now ≤ length behind.now) }
+{
+    if !scope.is_free(&name.form) {
+        return Ok(&[]);
+    }
+    scope.declare(alloc, &name.form, words)?;
+    Ok(behind)
+}
+
 /// Declares the name that stands first, and gives what follows it; nothing where it may not be declared. Want of
 /// memory is the only error.
-#[tactic(auto, using(crate::proofs::Separated::declared_is, crate::proofs::Separated::not_free))]
 fn past_name<'a>(
     alloc: Global,
     scope: &mut Scope,
@@ -30,13 +50,7 @@ fn past_name<'a>(
 {
     match tokens {
         [] => Ok(tokens),
-        [name, behind @ ..] => {
-            if !scope.is_free(&name.form) {
-                return Ok(&[]);
-            }
-            scope.declare(alloc, &name.form, words)?;
-            Ok(behind)
-        }
+        [name, behind @ ..] => declare_before(alloc, scope, words, name, behind),
     }
 }
 

@@ -1,12 +1,11 @@
 //! The unit without names of types and of enumeration constants.
 
-ghost use Rattle.std.specs.Prelude.{◌≡◌, ◌∷◌, ◌≤◌, ◌+◌, ℕ, suc, length, IsTrue, IfOk, IfErr, Ok, true};
+ghost use Rattle.std.specs.Prelude.{◌≡◌, ◌∷◌, ◌≤◌, ◌<◌, ◌-◌, length, IsTrue, IfOk, IfErr, Ok, true};
 ghost use Rattle.c_tree.specs.Limits.{most_tokens};
 ghost use Rattle.c_library.specs.Within.{within};
 ghost use Rattle.c_library.specs.inside.Gives.{Gives, Refuses};
 ghost use Rattle.c_library.specs.inside.Puts.{put_all};
 ghost use Rattle.c_names.specs.Named as unit;
-ghost use Rattle.c_names.specs.Turns as turns;
 
 use crate::header::goes;
 use crate::scope::Scope;
@@ -69,20 +68,22 @@ pub fn has_no_name(tokens: &[Lexeme]) -> bool
     true
 }
 
-/// Takes the first tokens, puts what stands for them, and gives those behind them.
+/// Takes the first tokens, puts what stands for them, and gives those behind them, where so many turns are left.
 #[tactic(auto, using(crate::proofs::Turned::turn_goes, crate::proofs::Turned::turn_fails, crate::proofs::Turned::turn_left))]
 fn take<'a>(
     alloc: Global,
     names: &mut Names,
+    turns: usize,
     token: &Lexeme,
     behind: &'a [Lexeme],
     out: &mut Output,
 ) -> Result<&'a [Lexeme], LibraryFault>
-    ensures goes { IfOk result (λ rest. (n : ℕ)
-        → put_all most_tokens (unit.named_in (suc n) names.old (token.now ∷ behind.now)) out.old
-        ≡ put_all most_tokens (unit.named_in n names.new rest.now) out.new) }
-    ensures fails { IfErr result (λ fault. (n : ℕ)
-        → Refuses (put_all most_tokens (unit.named_in (suc n) names.old (token.now ∷ behind.now)) out.old) fault) }
+    requires { 0 < turns }
+    ensures goes { IfOk result (λ rest.
+        put_all most_tokens (unit.named_in turns names.old (token.now ∷ behind.now)) out.old
+        ≡ put_all most_tokens (unit.named_in (turns - 1) names.new rest.now) out.new) }
+    ensures fails { IfErr result
+        (Refuses (put_all most_tokens (unit.named_in turns names.old (token.now ∷ behind.now)) out.old)) }
     ensures left { IfOk result (λ rest. length rest.now ≤ length behind.now) }
 {
     names.take(alloc, token, behind, out)
@@ -99,7 +100,7 @@ fn put_named(alloc: Global, tokens: &[Lexeme], out: &mut Output) -> Result<(), L
     let mut turns = tokens.len();
     let mut rest = tokens;
     while let [token, more @ ..] = rest {
-        rest = take(alloc, &mut names, token, more, out)?;
+        rest = take(alloc, &mut names, turns, token, more, out)?;
         turns -= 1;
     }
     Ok(())
@@ -117,12 +118,19 @@ fn without_names(alloc: Global, tokens: &[Lexeme]) -> Result<Vec<Lexeme>, Librar
     }
 }
 
+/// The same, where it is so.
+fn is_plain(tokens: &[Lexeme]) -> bool
+    ensures { IsTrue result → unit.has_no_name tokens.now ≡ true }
+{
+    has_no_name(tokens)
+}
+
 /// Has the unit surely its own tokens?
 #[tactic(auto, using(crate::proofs::Kept::unit_stays, crate::proofs::StandardFacts::long_long))]
 fn is_own(tokens: &[Lexeme]) -> bool
     ensures { IsTrue result → within most_tokens (unit.named tokens.now) ≡ Ok tokens.now }
 {
-    tokens.len() <= MOST_TOKENS && has_no_name(tokens)
+    tokens.len() <= MOST_TOKENS && is_plain(tokens)
 }
 
 /// The unit with names of types and of enumeration constants replaced, or the first token that is too many.
