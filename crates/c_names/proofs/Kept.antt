@@ -1,7 +1,7 @@
 -- Units without names stay; and what holds of each token, and of all that may be added, holds of each that comes out.
-use Rattle.std.proofs.Common.{◌≡◌, ◌≤◌, ◌<◌, ℕ, zero, suc, ◌^◌, ◌%◌, Bool, true, false, cond, not, ◌&&◌, ◌||◌}
-use Rattle.std.proofs.Common.{List, [], ◌∷◌, ◌++◌, length, map, Option, Some, None, refl, sym, ap, subst, ◌∙◌, arith}
-use Rattle.std.specs.Prelude.{Result, Ok, codes}
+use Rattle.std.proofs.Common.{◌≡◌, ◌≤◌, ◌<◌, ℕ, zero, suc, ◌^◌, ◌%◌, Bool, true, false, cond, not, ◌&&◌}
+use Rattle.std.proofs.Common.{List, [], ◌∷◌, ◌++◌, length, Option, Some, None, refl, sym, ap, ◌∙◌, arith}
+use Rattle.std.specs.Prelude.{Ok, codes}
 use Rattle.std.specs.Str.{bytes_eq}
 use Rattle.std.proofs.lemmas.Bool.{false≢true}
 use Rattle.std.proofs.lemmas.Slice.Eq.{bytes_eq-Decides}
@@ -15,14 +15,12 @@ use Rattle.c_tree.specs.declared.Mark.{Mark}
 use Rattle.c_tree.specs.declared.Mark.TheVariants as mark
 use Rattle.c_lex.specs.Bytes.{Bytes}
 use Rattle.c_lex.specs.Lexes.{Tokens}
-use Rattle.c_library.specs.declared.fault.LibraryFault.{LibraryFault}
 use Rattle.c_library.specs.Places.{token}
 use Rattle.c_library.specs.Within.{within}
 use Rattle.c_library.proofs.Holds.{Fact, EachToken, Allows, each_append}
 use Rattle.c_library.proofs.Puts.{few_stay}
 use Rattle.c_names.specs.declared.piece.Piece.{Piece}
 use Rattle.c_names.specs.declared.piece.Piece.TheVariants as piece
-use Rattle.c_names.specs.declared.scope.Entry.{Entry}
 use Rattle.c_names.specs.declared.scope.Entry.TheVariants as entry
 use Rattle.c_names.specs.declared.turn.Names.{Names}
 use Rattle.c_names.specs.Enums.{Taken, enum_behind, typedef_behind}
@@ -32,9 +30,9 @@ use Rattle.c_names.specs.Pieces.{Pieces, form_of, spelled, none}
 use Rattle.c_names.specs.Scope.{Scope, look_up, in_parens, outside, closed, past}
 use Rattle.c_names.specs.Words.{begins, words_from, size_of, is_byte, is_long, is_integer}
 use Rattle.c_names.specs.declared.words.Class.TheVariants as class
-use Rattle.c_names.specs.Turns.{Turn, turn, left, behind_first, plain, typedef_turn, enum_by, enum_turn, sizeof_by}
-use Rattle.c_names.specs.Turns.{sizeof_words, sizeof_turn, replaced, own_turn, header_turn, name_turn, include_turn}
-use Rattle.c_names.specs.Turns.{mark_turn, key_turn, turn_by, turn_of}
+use Rattle.c_names.specs.Turns.{Turn, turn, left, behind_first, plain, typedef_turn, enum_turn, sizeof_by}
+use Rattle.c_names.specs.Turns.{sizeof_words, sizeof_turn, replaced, own_turn, header_turn, name_turn}
+use Rattle.c_names.specs.Turns.{key_turn, turn_by, turn_of}
 use Rattle.c_names.proofs.Rests.{turn_left}
 
 -- UNITS WITHOUT NAMES

@@ -1,5 +1,5 @@
 -- What holds of tokens, and still does where the first one goes, holds of those behind what is taken.
-use Rattle.std.proofs.Common.{◌≡◌, ◌≤◌, ℕ, suc, Bool, true, false, cond, not, ◌&&◌, ◌||◌, List, [], ◌∷◌, ◌++◌, length}
+use Rattle.std.proofs.Common.{◌≤◌, ℕ, suc, Bool, true, false, cond, not, ◌&&◌, ◌||◌, List, [], ◌∷◌, ◌++◌, length}
 use Rattle.std.proofs.Common.{Option, Some, None, arith}
 use Rattle.std.specs.Prelude.{is_some}
 use Rattle.c_tree.specs.declared.Form.{Form}
@@ -8,7 +8,6 @@ use Rattle.c_tree.specs.declared.Key.{Key}
 use Rattle.c_tree.specs.declared.Key.TheVariants as key
 use Rattle.c_tree.specs.declared.Kind.TheVariants as kind
 use Rattle.c_tree.specs.declared.Lexeme.{Lexeme}
-use Rattle.c_tree.specs.declared.Mark.{Mark}
 use Rattle.c_tree.specs.declared.Mark.TheVariants as mark
 use Rattle.c_lex.specs.Bytes.{Bytes}
 use Rattle.c_lex.specs.Lexes.{Tokens}
@@ -26,7 +25,6 @@ use Rattle.c_names.specs.Enums.{name_behind, brace_behind, enum_by, enum_behind,
 use Rattle.c_names.specs.Enums.{words_behind, enum_named, is_enum, typedef_behind}
 use Rattle.c_names.specs.Turns.{Turn, turn, left, behind_first, plain, typedef_turn, sizeof_by, sizeof_words}
 use Rattle.c_names.specs.Turns.{sizeof_turn, own_turn, header_turn, name_turn, key_turn, turn_by, turn_of, enum_turn}
-use Rattle.c_names.specs.Turns as turns
 
 -- a fact on tokens
 abbrev pub OnTokens : Type 1

@@ -1,13 +1,11 @@
 -- A name that a `typedef` declares, before what follows it.
-use Rattle.std.proofs.Common.{◌≡◌, Bool, true, false, cond, not, [], ◌∷◌, Some, None, refl, sym, ap, ◌∙◌}
+use Rattle.std.proofs.Common.{◌≡◌, Bool, true, false, cond, not, [], ◌∷◌, None, refl, sym, ap, ◌∙◌}
 use Rattle.c_tree.specs.declared.Lexeme.{Lexeme}
-use Rattle.c_tree.specs.declared.Mark.TheVariants as mark
 use Rattle.c_lex.specs.Lexes.{Tokens}
-use Rattle.c_library.specs.Calls.{is_mark}
-use Rattle.c_names.specs.Enums.{Taken, names_from}
+use Rattle.c_names.specs.Enums.{names_from}
 use Rattle.c_names.specs.Pieces.{Pieces}
 use Rattle.c_names.specs.Scope.{Scope, is_free, declared}
-use Rattle.c_names.specs.inside.Separated.{names_end, names_past, marks_from}
+use Rattle.c_names.specs.inside.Separated.{names_past, marks_from}
 
 declared_there : (es : Scope) (ws : Pieces) (n : Lexeme) (ts : Tokens) → is_free n.form es ≡ true
     → marks_from (declared n.form ws es) ws ts ≡ names_from es ws (n ∷ ts)

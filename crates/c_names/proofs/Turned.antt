@@ -1,5 +1,5 @@
 -- A turn more: what stands for the first tokens is put, and the others come behind.
-use Rattle.std.proofs.Common.{◌≡◌, ◌≤◌, ◌<◌, ◌-◌, ℕ, zero, suc, arith, List, [], ◌∷◌, ◌++◌, length, refl, sym, ap, subst, ◌∙◌, Bor}
+use Rattle.std.proofs.Common.{◌≡◌, ◌≤◌, ◌<◌, ◌-◌, ℕ, zero, suc, arith, [], ◌∷◌, length, sym, ap, subst, ◌∙◌, Bor}
 use Rattle.std.specs.Prelude.{Result, Ok, Err, IfOk, IfErr}
 use Rattle.c_tree.specs.declared.Lexeme.{Lexeme}
 use Rattle.c_tree.specs.Limits.{most_tokens}
@@ -7,7 +7,7 @@ use Rattle.c_lex.specs.Lexes.{Tokens}
 use Rattle.c_library.specs.declared.fault.LibraryFault.{LibraryFault}
 use Rattle.c_library.specs.declared.fault.LibraryFault.TheVariants as fault
 use Rattle.c_library.specs.Within.{◌>>=◌, within}
-use Rattle.c_library.specs.inside.Gives.{Gives, Refuses}
+use Rattle.c_library.specs.inside.Gives.{Refuses}
 use Rattle.c_library.specs.inside.Puts.{put_all}
 use Rattle.c_library.proofs.Puts.{both, put_is}
 use Rattle.c_names.specs.declared.turn.Names.{Names}

@@ -1,5 +1,5 @@
 -- Enumerations (C17 6.7.2.2) and names of types (6.7.8): what they declare, and the tokens behind them.
-use Rattle.std.specs.Prelude.{ℕ, Bool, true, false, not, ◌&&◌, ◌||◌, if◌then◌else◌, List, [], ◌∷◌, ◌++◌}
+use Rattle.std.specs.Prelude.{Bool, true, false, not, ◌||◌, if◌then◌else◌, List, [], ◌∷◌, ◌++◌}
 use Rattle.std.specs.Prelude.{Option, Some, None, is_some}
 use Rattle.c_tree.specs.declared.Form.{Form}
 use Rattle.c_tree.specs.declared.Form.TheVariants as form
@@ -10,7 +10,7 @@ use Rattle.c_lex.specs.Lexes.{Tokens}
 use Rattle.c_library.specs.Calls.{is_mark}
 use Rattle.c_names.specs.declared.value.Next.{Next}
 use Rattle.c_names.specs.Pieces.{Pieces, int}
-use Rattle.c_names.specs.Scope.{Scope, look_up, is_here, in_parens, is_own, is_free, declared, tag}
+use Rattle.c_names.specs.Scope.{Scope, look_up, in_parens, is_own, is_free, declared, tag}
 use Rattle.c_names.specs.Values.{first, enumerator}
 use Rattle.c_names.specs.Words.{begins, words_from, size_of}
 

@@ -13,12 +13,19 @@ use std::alloc::{AllocError, Global};
 pub type Row = (&'static [u8], &'static [Piece]);
 
 const CHAR: &[Piece] = &[Piece::Word(Key::Signed), Piece::Word(Key::Char)];
+
 const SHORT: &[Piece] = &[Piece::Word(Key::Short)];
+
 const INT: &[Piece] = &[Piece::Word(Key::Int)];
+
 const LONG: &[Piece] = &[Piece::Word(Key::Long)];
+
 const UCHAR: &[Piece] = &[Piece::Word(Key::Unsigned), Piece::Word(Key::Char)];
+
 const USHORT: &[Piece] = &[Piece::Word(Key::Unsigned), Piece::Word(Key::Short)];
+
 const UINT: &[Piece] = &[Piece::Word(Key::Unsigned), Piece::Word(Key::Int)];
+
 const ULONG: &[Piece] = &[Piece::Word(Key::Unsigned), Piece::Word(Key::Long)];
 
 /// The type of `sizeof`.

@@ -67,7 +67,11 @@ fn look_up_in<'a>(name: &[u8], entries: &'a [Entry]) -> Option<&'a [Piece]>
 {
     let mut rest = entries;
     while let Some((entry, outer)) = rest.split_last() {
-        if let Entry::Name { name: other, pieces } = entry {
+        if let Entry::Name {
+            name: other,
+            pieces,
+        } = entry
+        {
             if same_name(other.as_slice(), name) {
                 return Some(pieces.as_slice());
             }

@@ -126,7 +126,7 @@ fn is_plain(tokens: &[Lexeme]) -> bool
 }
 
 /// Has the unit surely its own tokens?
-#[tactic(auto, using(crate::proofs::Kept::unit_stays, crate::proofs::StandardFacts::long_long))]
+#[tactic(auto, using(crate::proofs::Kept::unit_stays))]
 fn is_own(tokens: &[Lexeme]) -> bool
     ensures { IsTrue result → within most_tokens (unit.named tokens.now) ≡ Ok tokens.now }
 {

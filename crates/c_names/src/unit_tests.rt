@@ -26,27 +26,47 @@ const ROWS: &[(&str, &str)] = &[
         "void f(void) { int x; { int y; } } long T;",
     ),
     ("typedef int T; typedef T U; U x;", "int x;"),
-    ("typedef int T; void f(void) { typedef long T; T x; } T y;", "void f(void) { long x; } int y;"),
+    (
+        "typedef int T; void f(void) { typedef long T; T x; } T y;",
+        "void f(void) { long x; } int y;",
+    ),
     ("typedef int int T; T x;", "typedef int int T; T x;"),
     ("int f(typedef int T);", "int f(typedef int T);"),
     ("typedef int T; typedef int T;", "typedef int T;"),
-    ("#include <stdio.h>\nsize_t f(size_t n);", "#include <stdio.h>\nunsigned long f(unsigned long n);"),
+    (
+        "#include <stdio.h>\nsize_t f(size_t n);",
+        "#include <stdio.h>\nunsigned long f(unsigned long n);",
+    ),
     ("#include <stddef.h>\nsize_t n;", "unsigned long n;"),
     ("for (;typedef int T;) T;", "for (;typedef int T;) T;"),
     // 6.7.2.2
     ("enum { A, B, C }; int x = A + B + C;", "int x = 0 + 1 + 2;"),
-    ("enum color { RED = 3, GREEN, } c = RED; enum color d = GREEN;", "int c = 3; int d = 4;"),
-    ("enum { A = -1, B, C = B }; int x = A; int y = B; int z = C;",
-     "int x = (-1); int y = ((-1) + 1); int z = (((-1) + 1));"),
+    (
+        "enum color { RED = 3, GREEN, } c = RED; enum color d = GREEN;",
+        "int c = 3; int d = 4;",
+    ),
+    (
+        "enum { A = -1, B, C = B }; int x = A; int y = B; int z = C;",
+        "int x = (-1); int y = ((-1) + 1); int z = (((-1) + 1));",
+    ),
     ("enum { A = 2147483647, B };", "enum { A = 2147483647, B };"),
-    ("enum { A = 1 << 4, B = A | 1 }; int x[A]; int y = B;", "int x[(1 << 4)]; int y = ((1 << 4) | 1);"),
+    (
+        "enum { A = 1 << 4, B = A | 1 }; int x[A]; int y = B;",
+        "int x[(1 << 4)]; int y = ((1 << 4) | 1);",
+    ),
     ("enum { A = f }; int x = A;", "enum { A = f }; int x = A;"),
     ("enum { A = 1L };", "enum { A = 1L };"),
     ("enum { };", "enum { };"),
     ("enum { A, A };", "enum { A, A };"),
-    ("void f(void) { enum { A = 7 }; g(A); } int A;", "void f(void) { g(7); } int A;"),
+    (
+        "void f(void) { enum { A = 7 }; g(A); } int A;",
+        "void f(void) { g(7); } int A;",
+    ),
     ("typedef enum { A, B } T; T x = B;", "int x = 1;"),
-    ("typedef enum tag { A, B } T; enum tag x = B; T y = A;", "int x = 1; int y = 0;"),
+    (
+        "typedef enum tag { A, B } T; enum tag x = B; T y = A;",
+        "int x = 1; int y = 0;",
+    ),
     ("enum other x;", "enum other x;"),
     ("static enum { A }; int x = A;", "static int ; int x = 0;"),
     // 6.5.3.4
@@ -54,10 +74,19 @@ const ROWS: &[(&str, &str)] = &[
         "typedef short T; int x = sizeof(T) + sizeof(unsigned char) + sizeof ( long int unsigned );",
         "int x = 2ul + 1ul + 8ul;",
     ),
-    ("int x = sizeof(int) + sizeof(long long) + sizeof(_Bool);", "int x = 4ul + 8ul + 1ul;"),
-    ("int x = sizeof(x) + sizeof(short char) + sizeof(int);", "int x = sizeof(x) + sizeof(short char) + 4ul;"),
+    (
+        "int x = sizeof(int) + sizeof(long long) + sizeof(_Bool);",
+        "int x = 4ul + 8ul + 1ul;",
+    ),
+    (
+        "int x = sizeof(x) + sizeof(short char) + sizeof(int);",
+        "int x = sizeof(x) + sizeof(short char) + 4ul;",
+    ),
     // 7.19, 7.20
-    ("size_t x; stdint_h uint8_t y; int_fast16_t z;", "size_t x; unsigned char y; long z;"),
+    (
+        "size_t x; stdint_h uint8_t y; int_fast16_t z;",
+        "size_t x; unsigned char y; long z;",
+    ),
 ];
 
 /// A token, of which the word `stdint_h` is the header.

@@ -188,12 +188,7 @@ fn value(alloc: Global, next: &Next) -> Result<Items<Piece>, AllocError>
 
 /// Declares an enumerator with the next value, if it may be declared, and tells whether it was. Want of memory is the
 /// only error.
-fn bind(
-    alloc: Global,
-    scope: &mut Scope,
-    next: &mut Next,
-    form: &Form,
-) -> Result<bool, AllocError>
+fn bind(alloc: Global, scope: &mut Scope, next: &mut Next, form: &Form) -> Result<bool, AllocError>
     ensures { IfOk result (λ went. bound_by went scope.new next.new ≡ values.bound form.now next.old scope.old) }
 {
     let pieces = value(alloc, next)?;

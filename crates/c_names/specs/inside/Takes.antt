@@ -1,13 +1,11 @@
 -- What calls that take tokens give, beside what the definitions say.
-use Rattle.std.specs.Prelude.{◌≡◌, if◌then◌else◌, ◌++◌, Bool, true, false, List, [], ◌∷◌, Option, Some, None, Result, Ok, Err}
+use Rattle.std.specs.Prelude.{◌≡◌, if◌then◌else◌, ◌++◌, Bool, true, false, List, [], ◌∷◌, Option, Some, None, Ok}
 use Rattle.c_tree.specs.declared.Form.{Form}
 use Rattle.c_tree.specs.declared.Lexeme.{Lexeme}
 use Rattle.c_tree.specs.declared.Mark.TheVariants as mark
 use Rattle.c_tree.specs.Limits.{most_tokens}
 use Rattle.c_lex.specs.Lexes.{Tokens}
-use Rattle.c_library.specs.declared.fault.LibraryFault.{LibraryFault}
 use Rattle.c_library.specs.Calls.{is_mark}
-use Rattle.c_library.specs.inside.Gives.{Refuses}
 use Rattle.c_library.specs.inside.Puts.{put_all}
 use Rattle.c_names.specs.declared.turn.Names.{Names}
 use Rattle.c_names.specs.declared.value.Next.{Next}

@@ -1,5 +1,4 @@
 use Rattle.std.proofs.Common.{◌≡◌, ◌++◌, length}
-
 use Rattle.c_names.proofs.piece.add_all.Given as goal
 
 abbrev pub invariant-loop-rest : goal.invariant-loop-rest
