@@ -1,0 +1,5 @@
+pub mod Separated
+pub mod Rests
+pub mod Turned
+pub mod Kept
+pub mod StandardFacts

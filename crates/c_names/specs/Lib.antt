@@ -1,0 +1,9 @@
+pub mod Pieces
+pub mod Scope
+pub mod Words
+pub mod Headers
+pub mod Values
+pub mod Enums
+pub mod Turns
+pub mod Named
+pub mod inside
