@@ -1,0 +1,5 @@
+pub mod Cuts
+pub mod NameFacts
+pub mod StayFacts
+pub mod KeepFacts
+pub mod WordedFacts
