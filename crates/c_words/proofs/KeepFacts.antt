@@ -36,7 +36,7 @@ ordered_keeps P s ps (t ∷ ts) a h =
     (ordered_keeps P (o.stand_of s ps t ts) (past t.form ps) ts a h.1)
 
 -- it holds of the name, if there is one
-MayHold : Fact → Option Lexeme → Type 0
+abbrev MayHold : Fact → Option Lexeme → Type 0
 MayHold P None = Unit {0}
 MayHold P (Some n) = P n.form
 

@@ -1,5 +1,6 @@
 -- A set agrees with a list of names.
-use Rattle.std.proofs.Common.{◌≡◌, ℕ, Bool, true, false, cond, ◌||◌, List, [], ◌∷◌, ◌++◌, refl, sym, ap, ◌∙◌, HashSet}
+use Rattle.std.proofs.Common.{◌≡◌, ℕ, Bool, true, false, cond, ◌||◌, List, [], ◌∷◌, ◌++◌, refl, sym, ap, subst, ◌∙◌}
+use Rattle.std.proofs.Common.{HashSet}
 use Rattle.std.specs.HashSet.{contains}
 use Rattle.std.specs.List.{list_any}
 use Rattle.std.specs.Str.{bytes_eq}
@@ -45,3 +46,12 @@ pub agree_grows : {S : Type 0} (s s' : HashSet Bytes S) (ws : List Bytes) (v : B
 agree_grows s s' ws v h k =
     λ w. k w ∙ ap (λ (b : Bool). cond (bytes_eq v w) true b) (h w) ∙ or_else (is_among w ws) (bytes_eq v w)
     ∙ sym (among_more w v ws)
+
+-- the same, where both are made one after the other
+pub agree_added : {S : Type 0} (s s' : HashSet Bytes S) (ws ws' ws'' : List Bytes) (v u : Bytes) → Agree ws s → u ≡ v
+    → ((w : Bytes) → contains bytes_eq s' w ≡ cond (bytes_eq u w) true (contains bytes_eq s w))
+    → ws' ≡ ws → ws'' ≡ ws' ++ v ∷ [] → Agree ws'' s'
+agree_added s s' ws ws' ws'' v u h e k f g =
+    subst (λ (xs : List Bytes). Agree xs s')
+    (ap (λ (x : Bytes). ws ++ x ∷ []) e ∙ ap (λ (xs : List Bytes). xs ++ v ∷ []) (sym f) ∙ sym g)
+    (agree_grows s s' ws u h k)

@@ -96,7 +96,7 @@ not_changed q ws ts e =
     (or_true (not (o.may_stand q ws ts)))
 
 -- is the token none of a run, or one of a run that stays?
-is_still : Stand → Bool
+abbrev is_still : Stand → Bool
 is_still stand.Apart = true
 is_still stand.Kept = true
 is_still _ = false
@@ -139,12 +139,12 @@ ordered_stay s ps (t ∷ ts) h e =
 -- POINTERS
 
 -- does no `*` stand first?
-no_star : Tokens → Bool
+abbrev no_star : Tokens → Bool
 no_star [] = true
 no_star (t ∷ ts) = not (is_mark mark.Star t.form)
 
 -- does no pointer begin behind the token, and is it none of one?
-is_free : Part → Tokens → Bool
+abbrev is_free : Part → Tokens → Bool
 is_free part.Apart ts = true
 is_free part.Word ts = no_star ts
 is_free _ ts = false

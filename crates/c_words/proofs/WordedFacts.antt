@@ -1,12 +1,14 @@
 -- What is known of units behind the keywords of their declarations.
-use Rattle.std.proofs.Common.{◌≡◌, ℕ, Bool, true, false, cond, not, nat_eq, ◌&&◌, ◌||◌, List, [], ◌∷◌}
+use Rattle.std.proofs.Common.{◌≡◌, ◌≤◌, length, ℕ, Bool, true, false, cond, not, nat_eq, ◌&&◌, ◌||◌, List, [], ◌∷◌}
 use Rattle.std.proofs.Common.{refl, sym, ap, subst, ◌∙◌}
-use Rattle.std.specs.Prelude.{nat_le}
+use Rattle.std.specs.Prelude.{nat_le, Ok}
 use Rattle.std.proofs.lemmas.Bool.{eqb-true, false≢true}
 use Rattle.c_tree.specs.declared.Form.{Form}
 use Rattle.c_tree.specs.declared.Key.TheVariants as key
 use Rattle.c_tree.specs.declared.Lexeme.{Lexeme}
 use Rattle.c_lex.specs.Lexes.{Tokens}
+use Rattle.c_library.specs.Within.{within}
+use Rattle.c_library.proofs.Puts.{few_stay}
 use Rattle.c_library.proofs.Holds.{Fact, EachToken, Allows}
 use Rattle.c_words.specs.Guards as g
 use Rattle.c_words.specs.Keys.{number, is_key}
@@ -56,6 +58,10 @@ worded_stays ts e =
     ap (λ (us : Tokens). without_pointers (ordered us)) (guarded_stays ts e)
     ∙ ap (λ (us : Tokens). without_pointers us) (ordered_stays ts e)
     ∙ pointers_stays ts e
+
+pub unit_stays : (most : ℕ) (ts : Tokens) → has_no_words ts ≡ true → length ts ≤ most
+    → within most (worded ts) ≡ Ok ts
+unit_stays most ts e h = ap (λ (us : Tokens). within most us) (worded_stays ts e) ∙ few_stay most ts h
 
 -- what holds of each token of a unit, and of all that may be added, holds of each token behind the pass
 pub worded_keeps : (P : Fact) (ts : Tokens) → Allows P → EachToken P ts → EachToken P (worded ts)

@@ -80,17 +80,21 @@ abbrev pub is_local : Place → Bool
 is_local place.Parameters = true
 is_local p = is_inside p
 
+-- the keyword does not stand in a run, or it may
+abbrev pub may_be : Key → Bool → Tokens → Bool
+may_be k may ws = none k ws || may
+
 -- May the storage classes and `inline` of a run stand in the place, before these tokens? One storage class at most
--- (6.7.1, paragraph 2), `register` and `auto` as 6.7.6.3, 6.8.5 and 6.9 say, and of `extern` and `inline` (6.7.4)
--- those that stand outside of all brackets, at functions.
+-- (6.7.1, paragraph 2); `static` not in parentheses (6.7.6.3, 6.8.5); `register` and `auto` within functions (6.9), and
+-- `auto` of no parameter; of `extern` and `inline` (6.7.4) those that stand outside of all brackets, at functions.
 abbrev pub may_stand : Place → Tokens → Tokens → Bool
 may_stand p ws ts =
     nat_le (storages ws) 1
-    && ((none key.Static ws || (is_unit p || is_block p))
-    && ((none key.Register ws || (is_local p && begins_declarator ts))
-    && ((none key.Auto ws || (is_inside p && begins_declarator ts))
-    && ((none key.Extern ws || (is_unit p && begins_function ts))
-    && (none key.Inline ws || (is_unit p && begins_function ts))))))
+    && (may_be key.Static (is_unit p || is_block p) ws
+    && (may_be key.Register (is_local p && begins_declarator ts) ws
+    && (may_be key.Auto (is_inside p && begins_declarator ts) ws
+    && (may_be key.Extern (is_unit p && begins_function ts) ws
+    && may_be key.Inline (is_unit p && begins_function ts) ws))))
 
 -- WHAT STANDS FOR IT
 

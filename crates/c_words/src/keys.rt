@@ -2,6 +2,7 @@
 
 ghost use Rattle.std.specs.Prelude.{◌≡◌, ◌≤◌, length};
 ghost use Rattle.c_tree.specs.declared.Form.TheVariants as form;
+ghost use Rattle.c_tree.specs.declared.Key.TheVariants as key;
 ghost use Rattle.c_words.specs.Keys as keys;
 
 use c_tree::{Form, Key, Lexeme};
@@ -62,10 +63,10 @@ pub fn declares(key: Key) -> bool
 }
 
 /// Is it `const`?
-pub fn is_const(key: Key) -> bool
-    ensures { result ≡ keys.is_key key.Const (form.Key key) }
+pub fn is_const(word: Key) -> bool
+    ensures { result ≡ keys.is_key key.Const (form.Key word) }
 {
-    key_number(key) == key_number(Key::Const)
+    key_number(word) == key_number(Key::Const)
 }
 
 /// Is it one that names a type?

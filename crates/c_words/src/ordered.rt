@@ -143,16 +143,25 @@ fn is_local(place: Place) -> bool
     }
 }
 
+/// The keyword does not stand in a run, or it may.
+fn may_be(key: Key, may: bool, words: &[Lexeme]) -> bool
+    ensures { result ≡ ordered.may_be key may words.now }
+{
+    none(key, words) || may
+}
+
 /// May the storage classes and `inline` of a run stand in the place, before these tokens?
 fn may_stand(place: Place, words: &[Lexeme], behind: &[Lexeme]) -> bool
     ensures { result ≡ ordered.may_stand place words.now behind.now }
 {
+    let is_object = begins_declarator(behind);
+    let is_function = is_unit(place) && begins_function(behind);
     storages(words) <= 1
-        && (none(Key::Static, words) || is_unit(place) || is_block(place))
-        && (none(Key::Register, words) || (is_local(place) && begins_declarator(behind)))
-        && (none(Key::Auto, words) || (is_inside(place) && begins_declarator(behind)))
-        && (none(Key::Extern, words) || (is_unit(place) && begins_function(behind)))
-        && (none(Key::Inline, words) || (is_unit(place) && begins_function(behind)))
+        && may_be(Key::Static, is_unit(place) || is_block(place), words)
+        && may_be(Key::Register, is_local(place) && is_object, words)
+        && may_be(Key::Auto, is_inside(place) && is_object, words)
+        && may_be(Key::Extern, is_function, words)
+        && may_be(Key::Inline, is_function, words)
 }
 
 fn spelled(is_static: bool, named: Option<Named>) -> Option<Spelled>

@@ -62,11 +62,10 @@ fn limited(tokens: Vec<Lexeme>) -> Result<Vec<Lexeme>, LibraryFault>
     ensures ok { IfOk result (λ out. within most_tokens tokens.items ≡ Ok out.items) }
     ensures err { IfErr result (Refuses (within most_tokens tokens.items)) }
 {
-    match tokens.get(MOST_TOKENS) {
-        None => {}
-        Some(token) => return Err(LibraryFault::TooManyTokens(token.offset)),
+    if tokens.len() <= MOST_TOKENS {
+        return Ok(tokens);
     }
-    Ok(tokens)
+    Err(LibraryFault::TooManyTokens(tokens[MOST_TOKENS].offset))
 }
 
 /// The tokens in the order of the grammar, guarded where an object is const. Want of memory is the only error.
@@ -94,7 +93,6 @@ fn reworded(alloc: Global, tokens: &[Lexeme]) -> Result<Vec<Lexeme>, AllocError>
 /// too many.
 ///
 /// A unit that has them so is given back as it is.
-#[tactic(auto, using(crate::proofs::WordedFacts::worded_stays, c_library::proofs::Puts::few_stay))]
 pub fn worded(alloc: Global, tokens: Vec<Lexeme>) -> Result<Vec<Lexeme>, LibraryFault>
     ensures ok { IfOk result (λ out. within most_tokens (worded.worded tokens.items) ≡ Ok out.items) }
     ensures err { IfErr result (Refuses (within most_tokens (worded.worded tokens.items))) }
