@@ -36,24 +36,35 @@ ordered_keeps P s ps (t ∷ ts) a h =
     (ordered_keeps P (o.stand_of s ps t ts) (past t.form ps) ts a h.1)
 
 -- it holds of the name, if there is one
-abbrev MayHold : Fact → Option Lexeme → Type 0
+abbrev MayHold : Fact → Option Tokens → Type 0
 MayHold P None = Unit {0}
-MayHold P (Some n) = P n.form
+MayHold P (Some ns) = EachToken P ns
+
+name_keeps : (P : Fact) (ts : Tokens) → EachToken P ts → MayHold P (p.name_at ts)
+name_keeps P [] h = tt
+name_keeps P (t ∷ ts) h = by (o.is_name t.form && p.ends ts) (p.ends (t ∷ ts))
+  where
+    by : (n e : Bool) → MayHold P (cond n (Some (t ∷ [])) (cond e (Some []) None))
+    by true e = (h.0, tt)
+    by false true = tt
+    by false false = tt
 
 pointed_keeps : (P : Fact) (ts : Tokens) → EachToken P ts → MayHold P (p.pointed ts)
 pointed_keeps P [] h = tt
 pointed_keeps P (t ∷ ts) h =
-    by (p.is_qualifier t.form) (o.is_name t.form && p.ends ts) (pointed_keeps P ts h.1)
+    by (p.is_qualifier t.form) (pointed_keeps P ts h.1) (name_keeps P (t ∷ ts) h)
   where
-    by : (q n : Bool) → MayHold P (p.pointed ts) → MayHold P (cond q (p.pointed ts) (cond n (Some t) None))
-    by true n k = k
-    by false true k = h.0
-    by false false k = tt
+    by : (q : Bool) → MayHold P (p.pointed ts) → MayHold P (p.name_at (t ∷ ts))
+        → MayHold P (cond q (p.pointed ts) (p.name_at (t ∷ ts)))
+    by true k n = k
+    by false k n = n
 
-array_keeps : (P : Fact) (n : Option Lexeme) (t : Lexeme) → Allows P → P t.form → MayHold P n
+array_keeps : (P : Fact) (n : Option Tokens) (t : Lexeme) → Allows P → P t.form → MayHold P n
     → EachToken P (p.array_of n t)
 array_keeps P None t a h k = (h, tt)
-array_keeps P (Some n) t a h k = (k, (a.mark mark.LeftBracket, (a.mark mark.RightBracket, tt)))
+array_keeps P (Some ns) t a h k =
+    each_append P ns (p.mark_at t.offset mark.LeftBracket ∷ p.mark_at t.offset mark.RightBracket ∷ []) k
+    (a.mark mark.LeftBracket, (a.mark mark.RightBracket, tt))
 
 part_keeps : (P : Fact) (q : Part) (t : Lexeme) (ts : Tokens) → Allows P → P t.form → EachToken P ts
     → EachToken P (p.stands_for q t ts)

@@ -3,3 +3,4 @@ pub mod NameFacts
 pub mod StayFacts
 pub mod KeepFacts
 pub mod WordedFacts
+pub mod StandardFacts

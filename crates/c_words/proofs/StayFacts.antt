@@ -161,7 +161,7 @@ free_behind t ts e = by (is_word t.form) refl (λ w. starless t.form ts (may_be 
     by true w k = k w
     by false w k = refl
 
-no_pointer : (b s : Bool) (o : Option Lexeme) → not s ≡ true → cond (b && s) o None ≡ None
+no_pointer : (b s : Bool) (o : Option Tokens) → not s ≡ true → cond (b && s) o None ≡ None
 no_pointer true true o e = absurd (false≢true e)
 no_pointer true false o e = refl
 no_pointer false true o e = refl
@@ -171,7 +171,7 @@ begins_none : (q : Part) (ps : Places) (t : Lexeme) (ts : Tokens) → is_free q 
     → p.part_of q ps t ts ≡ p.begins None t.form
 begins_none part.Apart ps t ts h = refl
 begins_none part.Word ps t ts h =
-    ap (λ (n : Option Lexeme). p.begins n t.form)
+    ap (λ (n : Option Tokens). p.begins n t.form)
     (no_pointer (p.is_parameters (here ps)) (is_mark mark.Star t.form) (p.pointed ts) h)
 begins_none part.Star ps t ts h = absurd (false≢true h)
 begins_none part.Within ps t ts h = absurd (false≢true h)

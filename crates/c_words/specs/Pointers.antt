@@ -29,11 +29,16 @@ abbrev pub ends : Tokens → Bool
 ends [] = false
 ends (t ∷ ts) = is_mark mark.Comma t.form || is_mark mark.RightParen t.form
 
--- the name that a parameter has behind its `*`
-abbrev pub pointed : Tokens → Option Lexeme
+-- a parameter's name, or none, with its end behind it
+abbrev pub name_at : Tokens → Option Tokens
+name_at [] = None
+name_at (t ∷ ts) =
+    if is_name t.form && ends ts then Some (t ∷ []) else if ends (t ∷ ts) then Some [] else None
+
+-- that behind a `*` and its qualifiers
+abbrev pub pointed : Tokens → Option Tokens
 pointed [] = None
-pointed (t ∷ ts) =
-    if is_qualifier t.form then pointed ts else if is_name t.form && ends ts then Some t else None
+pointed (t ∷ ts) = if is_qualifier t.form then pointed ts else name_at (t ∷ ts)
 
 -- directly in the parentheses of parameters, outside of braces?
 abbrev pub is_parameters : Place → Bool
@@ -45,19 +50,19 @@ abbrev pub is_type : Part → Bool
 is_type part.Word = true
 is_type _ = false
 
--- the name of the parameter of which this token is the `*`
-abbrev pub pointer : Part → Places → Lexeme → Tokens → Option Lexeme
+-- the name of the parameter, if it has one, of which this token is the `*`
+abbrev pub pointer : Part → Places → Lexeme → Tokens → Option Tokens
 pointer before ps t ts =
     if is_type before && (is_parameters (here ps) && is_mark mark.Star t.form) then pointed ts else None
 
 -- what a token is, that begins a pointer of this name or none
-abbrev pub begins : Option Lexeme → Form → Part
-begins (Some n) f = part.Star
+abbrev pub begins : Option Tokens → Form → Part
+begins (Some ns) f = part.Star
 begins None f = if is_word f then part.Word else part.Apart
 
--- behind the `*` all tokens up to the name are the pointer's
+-- behind the `*` the qualifiers and the name are the pointer's
 abbrev pub up_to : Form → Part
-up_to f = if is_name f then part.Name else part.Within
+up_to f = if is_qualifier f then part.Within else if is_name f then part.Name else part.Apart
 
 -- what a token, before these, is in a parameter, behind a token that is that
 abbrev pub part_of : Part → Places → Lexeme → Tokens → Part
@@ -69,10 +74,10 @@ part_of before ps t ts = begins (pointer before ps t ts) t.form
 abbrev pub mark_at : ℕ → Mark → Lexeme
 mark_at at m = token at (form.Mark m)
 
--- the name, and `[ ]` at the place of the `*`
-abbrev pub array_of : Option Lexeme → Lexeme → Tokens
+-- the name, if there is one, and `[ ]` at the place of the `*`
+abbrev pub array_of : Option Tokens → Lexeme → Tokens
 array_of None t = t ∷ []
-array_of (Some n) t = n ∷ mark_at t.offset mark.LeftBracket ∷ mark_at t.offset mark.RightBracket ∷ []
+array_of (Some ns) t = ns ++ mark_at t.offset mark.LeftBracket ∷ mark_at t.offset mark.RightBracket ∷ []
 
 -- what stands for a token, before these
 abbrev pub stands_for : Part → Lexeme → Tokens → Tokens

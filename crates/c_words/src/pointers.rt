@@ -31,18 +31,32 @@ fn ends(tokens: &[Lexeme]) -> bool
     }
 }
 
-/// The name that a parameter has behind its `*`.
-fn pointed(tokens: &[Lexeme]) -> Option<&Lexeme>
-    ensures { option_map (λ t. t.now) result ≡ pointers.pointed tokens.now }
+/// A parameter's name, or none, with its end behind it.
+fn name_at(tokens: &[Lexeme]) -> Option<&[Lexeme]>
+    ensures { option_map (λ ts. ts.now) result ≡ pointers.name_at tokens.now }
+{
+    match tokens {
+        [] => None,
+        [token, more @ ..] => {
+            if is_name(&token.form) && ends(more) {
+                Some(&tokens[..1])
+            } else if ends(tokens) {
+                Some(&[])
+            } else {
+                None
+            }
+        }
+    }
+}
+
+/// That behind a `*` and its qualifiers.
+fn pointed(tokens: &[Lexeme]) -> Option<&[Lexeme]>
+    ensures { option_map (λ ts. ts.now) result ≡ pointers.pointed tokens.now }
 {
     let mut rest = tokens;
     while let [token, more @ ..] = rest {
         if !is_qualifier(&token.form) {
-            return if is_name(&token.form) && ends(more) {
-                Some(token)
-            } else {
-                None
-            };
+            return name_at(rest);
         }
         rest = more;
     }
@@ -67,14 +81,14 @@ fn is_type(part: Part) -> bool
     }
 }
 
-/// The name of the parameter of which this token is the `*`.
+/// The name of the parameter, if it has one, of which this token is the `*`.
 fn pointer<'a>(
     before: Part,
     places: &Places,
     token: &Lexeme,
     behind: &'a [Lexeme],
-) -> Option<&'a Lexeme>
-    ensures { option_map (λ t. t.now) result ≡ pointers.pointer before places.now token.now behind.now }
+) -> Option<&'a [Lexeme]>
+    ensures { option_map (λ ts. ts.now) result ≡ pointers.pointer before places.now token.now behind.now }
 {
     if is_type(before) && is_parameters(places.here()) && is_mark(Mark::Star, &token.form) {
         pointed(behind)
@@ -84,8 +98,8 @@ fn pointer<'a>(
 }
 
 /// What a token is, that begins a pointer of this name or none.
-fn begins(name: Option<&Lexeme>, form: &Form) -> Part
-    ensures { result ≡ pointers.begins (option_map (λ t. t.now) name.entry) form.now }
+fn begins(name: Option<&[Lexeme]>, form: &Form) -> Part
+    ensures { result ≡ pointers.begins (option_map (λ ts. ts.now) name.entry) form.now }
 {
     match name {
         Some(_) => Part::Star,
@@ -103,10 +117,12 @@ fn begins(name: Option<&Lexeme>, form: &Form) -> Part
 fn up_to(form: &Form) -> Part
     ensures { result ≡ pointers.up_to form.now }
 {
-    if is_name(form) {
+    if is_qualifier(form) {
+        Part::Within
+    } else if is_name(form) {
         Part::Name
     } else {
-        Part::Within
+        Part::Apart
     }
 }
 
@@ -130,19 +146,31 @@ fn put_mark(at: u32, mark: Mark, out: &mut Items<Lexeme>) -> Result<(), AllocErr
     })
 }
 
+/// Puts tokens once more. Want of memory is the only error.
+fn put_copies(alloc: Global, tokens: &[Lexeme], out: &mut Items<Lexeme>) -> Result<(), AllocError>
+    ensures { OnOk result (out.new ≡ out.old ++ tokens.now) }
+{
+    let mut rest = tokens;
+    while let [token, more @ ..] = rest {
+        put_copy(alloc, token, out)?;
+        rest = more;
+    }
+    Ok(())
+}
+
 /// Puts the array that stands for a pointer of this name. Want of memory is the only error.
 fn put_array(
     alloc: Global,
-    name: Option<&Lexeme>,
+    name: Option<&[Lexeme]>,
     token: &Lexeme,
     out: &mut Items<Lexeme>,
 ) -> Result<(), AllocError>
-    ensures { OnOk result (out.new ≡ out.old ++ pointers.array_of (option_map (λ t. t.now) name.entry) token.now) }
+    ensures { OnOk result (out.new ≡ out.old ++ pointers.array_of (option_map (λ ts. ts.now) name.entry) token.now) }
 {
     match name {
         None => put_copy(alloc, token, out),
         Some(name) => {
-            put_copy(alloc, name, out)?;
+            put_copies(alloc, name, out)?;
             put_mark(token.offset, Mark::LeftBracket, out)?;
             put_mark(token.offset, Mark::RightBracket, out)
         }

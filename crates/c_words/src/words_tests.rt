@@ -58,8 +58,8 @@ const ROWS: &[(&str, &str)] = &[
         "int f(char s[], unsigned t[]) { s * t; }",
     ),
     (
-        "int f(char **s, int *, int *a[]); int *g;",
-        "int f(char **s, int *, int *a[]); int *g;",
+        "int f(char **s, int *a[]); int *g; int f(int *, char *const);",
+        "int f(char **s, int *a[]); int *g; int f(int [], char []);",
     ),
     // 6.7.3, paragraph 6: a keyword stands where an object would be set that is const.
     (
