@@ -1,7 +1,6 @@
 -- A run of keywords is the first part of the tokens.
-use Rattle.std.proofs.Common.{◌≡◌, ◌≤◌, ℕ, zero, suc, ◌+◌, Bool, true, false, cond, List, [], ◌∷◌, length, take, drop}
+use Rattle.std.proofs.Common.{◌≡◌, ◌≤◌, suc, Bool, true, false, cond, [], ◌∷◌, length, take, drop}
 use Rattle.std.proofs.Common.{refl, ap, arith}
-use Rattle.c_tree.specs.declared.Lexeme.{Lexeme}
 use Rattle.c_lex.specs.Lexes.{Tokens}
 use Rattle.c_words.specs.Keys.{is_word, run, behind}
 

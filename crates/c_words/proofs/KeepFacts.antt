@@ -1,5 +1,5 @@
 -- What holds of each token of a unit, and of all that may be added, holds of each token that comes out.
-use Rattle.std.proofs.Common.{◌≡◌, ℕ, Bool, true, false, cond, ◌&&◌, ◌||◌, List, [], ◌∷◌, ◌++◌, map, Option, Some, None}
+use Rattle.std.proofs.Common.{ℕ, Bool, true, false, cond, ◌&&◌, List, [], ◌∷◌, map, Option, Some, None}
 use Rattle.c_tree.specs.declared.Key.{Key}
 use Rattle.c_tree.specs.declared.Key.TheVariants as key
 use Rattle.c_tree.specs.declared.Lexeme.{Lexeme}

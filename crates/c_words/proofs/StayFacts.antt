@@ -1,5 +1,5 @@
 -- A unit that has the keywords of its declarations in the order of the grammar stays as it is.
-use Rattle.std.proofs.Common.{◌≡◌, ℕ, Bool, true, false, cond, not, ◌&&◌, ◌||◌, List, [], ◌∷◌, ◌++◌, Option, Some, None}
+use Rattle.std.proofs.Common.{◌≡◌, Bool, true, false, cond, not, ◌&&◌, ◌||◌, [], ◌∷◌, ◌++◌, Option, Some, None}
 use Rattle.std.proofs.Common.{refl, ap, ap₂, ◌∙◌}
 use Rattle.std.proofs.lemmas.Bool.{false≢true}
 use Rattle.c_tree.specs.declared.Form.{Form}
@@ -19,7 +19,7 @@ use Rattle.c_words.specs.Ordered as o
 use Rattle.c_words.specs.Places.{Places, here, past}
 use Rattle.c_words.specs.Pointers as p
 use Rattle.c_words.specs.Types.{type_of}
-use Rattle.c_words.specs.Unworded.{may_be_next, may_be_behind, is_unchanged, has_no_words}
+use Rattle.c_words.specs.Unworded.{may_be_behind, is_unchanged, has_no_words}
 
 pub and_left : (a b : Bool) → (a && b) ≡ true → a ≡ true
 and_left true b e = refl

@@ -1,17 +1,14 @@
 -- What is known of units behind the keywords of their declarations.
-use Rattle.std.proofs.Common.{◌≡◌, ◌≤◌, length, ℕ, Bool, true, false, cond, not, nat_eq, ◌&&◌, ◌||◌, List, [], ◌∷◌}
-use Rattle.std.proofs.Common.{refl, sym, ap, subst, ◌∙◌}
+use Rattle.std.proofs.Common.{◌≡◌, ◌≤◌, length, ℕ, Bool, true, false, cond, not, nat_eq, ◌&&◌, ◌||◌, [], ◌∷◌}
+use Rattle.std.proofs.Common.{refl, ap, subst, ◌∙◌}
 use Rattle.std.specs.Prelude.{nat_le, Ok}
 use Rattle.std.proofs.lemmas.Bool.{eqb-true, false≢true}
-use Rattle.c_tree.specs.declared.Form.{Form}
-use Rattle.c_tree.specs.declared.Key.TheVariants as key
-use Rattle.c_tree.specs.declared.Lexeme.{Lexeme}
 use Rattle.c_lex.specs.Lexes.{Tokens}
 use Rattle.c_library.specs.Within.{within}
 use Rattle.c_library.proofs.Puts.{few_stay}
 use Rattle.c_library.proofs.Holds.{Fact, EachToken, Allows}
 use Rattle.c_words.specs.Guards as g
-use Rattle.c_words.specs.Keys.{number, is_key}
+use Rattle.c_words.specs.Keys.{number}
 use Rattle.c_words.specs.Ordered.{ordered}
 use Rattle.c_words.specs.Pointers.{without_pointers}
 use Rattle.c_words.specs.Unworded.{may_be_behind, is_unchanged, has_no_words}

@@ -1,6 +1,6 @@
--- Objects that are const are set nowhere (C17 6.7.3, paragraph 6): where a unit would set one stands a keyword `const`,
--- which is no part of a declaration there, so that the grammar goes no further.
-use Rattle.std.specs.Prelude.{ℕ, Bool, true, false, not, ◌&&◌, ◌||◌, if◌then◌else◌, List, [], ◌∷◌, ◌++◌}
+-- Objects that are const are set nowhere (C17 6.7.3, paragraph 6): where a unit would set one stands a keyword
+-- `const`, which is no part of a declaration there, so that the grammar goes no further.
+use Rattle.std.specs.Prelude.{Bool, true, false, not, ◌&&◌, ◌||◌, if◌then◌else◌, [], ◌∷◌, ◌++◌}
 use Rattle.c_tree.specs.declared.Form.{Form}
 use Rattle.c_tree.specs.declared.Form.TheVariants as form
 use Rattle.c_tree.specs.declared.Key.{Key}
@@ -18,8 +18,9 @@ use Rattle.c_words.specs.declared.level.Declares.TheVariants as declares
 use Rattle.c_words.specs.declared.level.Ends.{Ends}
 use Rattle.c_words.specs.declared.level.Ends.TheVariants as ends
 use Rattle.c_words.specs.Keys.{is_word, is_key}
-use Rattle.c_words.specs.Levels.{is_fixed_operand, operand, is_bump, awaits_declarator, behind_word, with_word}
-use Rattle.c_words.specs.Levels.{behind_key, behind_star, behind_comma, is_fixed_declaration, group_ends, index_ends}
+use Rattle.c_words.specs.Levels.{is_setting, is_fixed_operand, operand, is_bump, awaits_declarator, behind_word}
+use Rattle.c_words.specs.Levels.{with_word, behind_key, behind_star, behind_comma, is_fixed_declaration, group_ends}
+use Rattle.c_words.specs.Levels.{index_ends}
 use Rattle.c_words.specs.Levels.{behind_paren, behind_closing, is_choice, level, innermost, outer, is_outside}
 use Rattle.c_words.specs.Names.{is_among}
 use Rattle.c_words.specs.Ordered.{key_at}
@@ -29,23 +30,6 @@ use Rattle.c_words.specs.Ordered.{key_at}
 -- is it that of an object that is const, of the unit or of the item of the unit that is read?
 abbrev pub is_fixed : Bytes → Guard → Bool
 is_fixed w g = is_among w g.unit || is_among w g.item
-
--- `++` and `--`, and the operators that assign (6.5.16)
-abbrev pub is_setting : Mark → Bool
-is_setting mark.PlusPlus = true
-is_setting mark.MinusMinus = true
-is_setting mark.Assign = true
-is_setting mark.PlusAssign = true
-is_setting mark.MinusAssign = true
-is_setting mark.StarAssign = true
-is_setting mark.SlashAssign = true
-is_setting mark.PercentAssign = true
-is_setting mark.ShiftLeftAssign = true
-is_setting mark.ShiftRightAssign = true
-is_setting mark.AndAssign = true
-is_setting mark.XorAssign = true
-is_setting mark.OrAssign = true
-is_setting _ = false
 
 -- is one set at this token?
 abbrev pub sets : Guard → Form → Bool
@@ -61,7 +45,8 @@ behind b g = record g { before = b }
 
 -- the name is that of an object that is const, from outside of all brackets to the end of the unit, else of the item
 abbrev pub with_name : Bytes → Guard → Guard
-with_name w g = if is_outside g.around then record g { unit = g.unit ++ w ∷ [] } else record g { item = g.item ++ w ∷ [] }
+with_name w g =
+    if is_outside g.around then record g { unit = g.unit ++ w ∷ [] } else record g { item = g.item ++ w ∷ [] }
 
 -- behind a declarator, of a function or not
 abbrev pub declared : Bytes → Bool → Guard → Guard

@@ -1,5 +1,5 @@
 -- What is known directly within the brackets that are open, and of what stands before a token.
-use Rattle.std.specs.Prelude.{Bool, true, false, if◌then◌else◌, List, [], ◌∷◌}
+use Rattle.std.specs.Prelude.{Bool, true, false, List, [], ◌∷◌}
 use Rattle.c_tree.specs.declared.Key.{Key}
 use Rattle.c_tree.specs.declared.Key.TheVariants as key
 use Rattle.c_tree.specs.declared.Mark.{Mark}
@@ -28,6 +28,23 @@ operand false = before.Other
 abbrev pub is_bump : Before → Bool
 is_bump before.Bump = true
 is_bump _ = false
+
+-- `++` and `--`, and the operators that assign (6.5.16)
+abbrev pub is_setting : Mark → Bool
+is_setting mark.PlusPlus = true
+is_setting mark.MinusMinus = true
+is_setting mark.Assign = true
+is_setting mark.PlusAssign = true
+is_setting mark.MinusAssign = true
+is_setting mark.StarAssign = true
+is_setting mark.SlashAssign = true
+is_setting mark.PercentAssign = true
+is_setting mark.ShiftLeftAssign = true
+is_setting mark.ShiftRightAssign = true
+is_setting mark.AndAssign = true
+is_setting mark.XorAssign = true
+is_setting mark.OrAssign = true
+is_setting _ = false
 
 -- DECLARATIONS
 

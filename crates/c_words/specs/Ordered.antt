@@ -1,5 +1,5 @@
 -- The keywords of declarations in the order of the grammar, and without those that mean nothing there.
-use Rattle.std.specs.Prelude.{ℕ, Bool, true, false, not, ◌&&◌, ◌||◌, nat_eq, nat_le, if◌then◌else◌, List, [], ◌∷◌, ◌++◌}
+use Rattle.std.specs.Prelude.{ℕ, Bool, true, false, not, ◌&&◌, ◌||◌, nat_le, if◌then◌else◌, List, [], ◌∷◌, ◌++◌}
 use Rattle.std.specs.Prelude.{Option, Some, None, map}
 use Rattle.c_tree.specs.declared.Form.{Form}
 use Rattle.c_tree.specs.declared.Form.TheVariants as form
@@ -16,7 +16,7 @@ use Rattle.c_words.specs.declared.place.Place.TheVariants as place
 use Rattle.c_words.specs.declared.stand.Spelled.{Spelled}
 use Rattle.c_words.specs.declared.stand.Stand.{Stand}
 use Rattle.c_words.specs.declared.stand.Stand.TheVariants as stand
-use Rattle.c_words.specs.Keys.{is_word, is_type_word, is_key, run, behind, count, storages, none}
+use Rattle.c_words.specs.Keys.{is_word, is_type_word, is_key, run, behind, storages, none}
 use Rattle.c_words.specs.Places.{Places, here, past}
 use Rattle.c_words.specs.Types.{type_of, spelling}
 
@@ -31,7 +31,8 @@ is_size f = is_key key.Short f || is_key key.Long f
 
 -- may the second word of a type stand behind the first one in the grammar?
 abbrev pub may_follow : Form → Form → Bool
-may_follow f g = (is_sign f && (is_size g || (is_key key.Char g || is_key key.Int g))) || (is_size f && is_key key.Int g)
+may_follow f g =
+    (is_sign f && (is_size g || (is_key key.Char g || is_key key.Int g))) || (is_size f && is_key key.Int g)
 
 -- is a run, behind this token of it, a type of the grammar as it stands?
 abbrev pub goes_on : Form → Tokens → Bool
@@ -85,8 +86,8 @@ abbrev pub may_be : Key → Bool → Tokens → Bool
 may_be k may ws = none k ws || may
 
 -- May the storage classes and `inline` of a run stand in the place, before these tokens? One storage class at most
--- (6.7.1, paragraph 2); `static` not in parentheses (6.7.6.3, 6.8.5); `register` and `auto` within functions (6.9), and
--- `auto` of no parameter; of `extern` and `inline` (6.7.4) those that stand outside of all brackets, at functions.
+-- (6.7.1, paragraph 2); `static` not in parentheses (6.7.6.3, 6.8.5); `register` and `auto` within functions (6.9),
+-- and `auto` of no parameter; `extern` and `inline` (6.7.4) outside of all brackets, at functions.
 abbrev pub may_stand : Place → Tokens → Tokens → Bool
 may_stand p ws ts =
     nat_le (storages ws) 1
@@ -95,8 +96,6 @@ may_stand p ws ts =
     && (may_be key.Auto (is_inside p && begins_declarator ts) ws
     && (may_be key.Extern (is_unit p && begins_function ts) ws
     && may_be key.Inline (is_unit p && begins_function ts) ws))))
-
--- WHAT STANDS FOR IT
 
 -- `static` of a block is kept
 abbrev pub spelled : Bool → Option Named → Option Spelled
@@ -116,8 +115,6 @@ keys s = if s.is_static then key.Static ∷ spelling s.named else spelling s.nam
 -- a keyword as a token at this place
 abbrev pub key_at : ℕ → Key → Lexeme
 key_at at k = token at (form.Key k)
-
--- THE TOKENS
 
 -- a run begins
 abbrev pub begun : Option Spelled → Stand

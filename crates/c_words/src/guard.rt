@@ -2,6 +2,7 @@
 
 ghost use Rattle.std.specs.Prelude.{◌≡◌, [], ◌∷◌, ◌++◌, IfOk, OnOk};
 ghost use Rattle.c_words.specs.Guards as guards;
+ghost use Rattle.c_words.specs.Levels as levels;
 
 use crate::keys::{declares, is_const, is_key};
 use crate::level::{
@@ -28,7 +29,7 @@ pub struct Guard {
 
 /// `++` and `--`, and the operators that assign.
 fn is_setting(mark: Mark) -> bool
-    ensures { result ≡ guards.is_setting mark }
+    ensures { result ≡ levels.is_setting mark }
 {
     match mark {
         Mark::PlusPlus

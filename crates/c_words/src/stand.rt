@@ -9,8 +9,8 @@ pub struct Spelled {
     pub named: Named,
 }
 
-/// What a token is in a run of keywords: none of it; one of a run that stays; the first of one that changes, for which
-/// these words stand; a further one of such a run.
+/// What a token is in a run of keywords: none of it; one of a run that stays; the first of one that changes, for
+/// which these words stand; a further one of such a run.
 #[derive(Clone, Copy, Debug, PartialEq, Eq)]
 pub enum Stand {
     Apart,

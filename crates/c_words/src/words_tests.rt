@@ -75,8 +75,10 @@ const ROWS: &[(&str, &str)] = &[
         "void f(int n) { int a = n, b = 2; (b) const ++; n const += a[n]; --(const n); } void g(int n) { n = 3; }",
     ),
     (
-        "const int t[2][2] = {{1}}; void f(char *const s) { s[1] = t[0][1]; t[s[0]][1] -= 1; for (const int i = 0; i--;) ; }",
-        "int t[2][2] = {{1}}; void f(char s[]) { s[1] = t[0][1]; t[s[0]][1] const -= 1; for (int i = 0; i const --;) ; }",
+        "const int t[2][2] = {{1}}; void f(char *const s) { s[1] = t[0][1]; t[s[0]][1] -= 1; for \
+         (const int i = 0; i--;) ; }",
+        "int t[2][2] = {{1}}; void f(char s[]) { s[1] = t[0][1]; t[s[0]][1] const -= 1; for (int i \
+         = 0; i const --;) ; }",
     ),
     (
         "int f(void) { const int x = 1; int y = x ? 2, x = 3 : 4, z = 5; (const int) x; const y; }",
