@@ -1,0 +1,11 @@
+pub mod Keys
+pub mod Types
+pub mod Places
+pub mod Ordered
+pub mod Pointers
+pub mod Names
+pub mod Levels
+pub mod Guards
+pub mod Worded
+pub mod Unworded
+pub mod inside
