@@ -128,7 +128,7 @@ fn first_size(
 }
 
 /// The forms of a size. Want of memory is the only error.
-fn size(alloc: Global, tokens: &[Lexeme]) -> Result<Items<Form>, AllocError>
+fn forms_of(alloc: Global, tokens: &[Lexeme]) -> Result<Items<Form>, AllocError>
     ensures { IfOk result (λ fs. fs ≡ counts.size tokens.now) }
 {
     let mut forms = Items::new(alloc);
@@ -207,8 +207,8 @@ impl Shape {
             (shapes.first_size tokens.now (counts.behind_size second.now)) (counts.size second.now)) }
     {
         let first = first_size(alloc, tokens, behind_size(second))?;
-        let size = size(alloc, second)?;
-        Shape::rows(alloc, is_parameter, bytes, first.as_slice(), size.as_slice())
+        let columns = forms_of(alloc, second)?;
+        Shape::rows(alloc, is_parameter, bytes, first.as_slice(), columns.as_slice())
     }
 
     /// An array whose first size these tokens begin with, where those stand behind it. Want of memory is the only

@@ -124,19 +124,19 @@ fn parted(tokens: &[Lexeme]) -> usize
 {
     let count = tokens.len();
     let mut depth: usize = 0;
-    let mut parted: usize = 0;
+    let mut number: usize = 0;
     let mut rest = tokens;
     while let [token, more @ ..] = rest {
         if depth == 0 && is_mark(Mark::RightBrace, &token.form) {
-            return parted;
+            return number;
         }
         if parts(depth, &token.form, more) {
-            parted += 1;
+            number += 1;
         }
         depth = depth_past(depth, &token.form);
         rest = more;
     }
-    parted
+    number
 }
 
 /// How many values, or rows, `= { .. }` has, where that stands first; else 0.

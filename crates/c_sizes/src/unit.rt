@@ -7,6 +7,7 @@ ghost use Rattle.c_library.specs.Within.{within};
 ghost use Rattle.c_library.specs.inside.Gives.{Gives, Refuses};
 ghost use Rattle.c_library.specs.inside.Puts.{put_all};
 ghost use Rattle.c_sizes.specs.Sized as sized;
+ghost use Rattle.c_sizes.specs.Walks as walks;
 
 use crate::known::Known;
 use crate::operand::{is_sizeof, told};
@@ -56,18 +57,31 @@ fn put_for(
     }
 }
 
+/// How many tokens are left out behind a token for which these forms stand, whose operand has so many.
+fn left_out(size: &[Form], taken: usize) -> usize
+    ensures { result ≡ sized.left_out (size.now, taken) }
+{
+    if size.is_empty() { 0 } else { taken }
+}
+
 /// Puts what stands for the first of these tokens, and gives how many of those behind it are left out.
 fn put_first(
     alloc: Global,
-    known: &Known,
+    walk: &Walk,
     token: &Lexeme,
     behind: &[Lexeme],
     out: &mut Output,
 ) -> Result<usize, LibraryFault>
+    ensures goes { IfOk result (λ n.
+        put_all most_tokens (sized.sized_from walk.now 0 (token.now ∷ behind.now)) out.old
+        ≡ put_all most_tokens (sized.sized_from (walks.past token.now.form behind.now walk.now) n behind.now)
+        out.new) }
+    ensures fails { IfErr result (Refuses (put_all most_tokens
+        (sized.sized_from walk.now 0 (token.now ∷ behind.now)) out.old)) }
 {
-    let (size, taken) = size_at(known, token, behind);
+    let (size, taken) = size_at(&walk.known, token, behind);
     put_for(alloc, token, size, out)?;
-    if size.is_empty() { Ok(0) } else { Ok(taken) }
+    Ok(left_out(size, taken))
 }
 
 /// Puts what stands for the first of these tokens, unless it is left out, and gives how many of those behind it are.
@@ -79,9 +93,15 @@ fn put_next(
     behind: &[Lexeme],
     out: &mut Output,
 ) -> Result<usize, LibraryFault>
+    ensures goes { IfOk result (λ n.
+        put_all most_tokens (sized.sized_from walk.now skip (token.now ∷ behind.now)) out.old
+        ≡ put_all most_tokens (sized.sized_from (walks.past token.now.form behind.now walk.now) n behind.now)
+        out.new) }
+    ensures fails { IfErr result (Refuses (put_all most_tokens
+        (sized.sized_from walk.now skip (token.now ∷ behind.now)) out.old)) }
 {
     if skip == 0 {
-        put_first(alloc, &walk.known, token, behind, out)
+        put_first(alloc, walk, token, behind, out)
     } else {
         Ok(skip - 1)
     }
