@@ -6,3 +6,4 @@ pub mod Scopes
 pub mod Walks
 pub mod Operands
 pub mod Sized
+pub mod inside

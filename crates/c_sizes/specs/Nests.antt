@@ -29,8 +29,8 @@ abbrev pub beginning : Nest
 beginning = record { inner = fresh opened.File; around = [] }
 
 -- in one more bracket
-abbrev pub open : Opened → Nest → Nest
-open o n = record { inner = fresh o; around = n.inner ∷ n.around }
+abbrev pub entered : Opened → Nest → Nest
+entered o n = record { inner = fresh o; around = n.inner ∷ n.around }
 
 -- behind the innermost bracket
 abbrev pub close : Nest → Nest
@@ -59,7 +59,7 @@ is_label _ o = false
 -- Behind a punctuator: `;` ends the declaration that goes on.
 abbrev pub past : Bool → Mark → Nest → Nest
 past b m n =
-    if is_opening m then open (opened_by b m) n
+    if is_opening m then entered (opened_by b m) n
     else if is_closing m && not (is_label m n.inner.opened) then close n
     else if is_mark mark.Semicolon (form.Mark m) then declare None n else n
 

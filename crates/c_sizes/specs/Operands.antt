@@ -1,5 +1,5 @@
 -- The operand of a `sizeof`, and what stands for both (C17 6.5.3.4).
-use Rattle.std.specs.Prelude.{ℕ, zero, suc, ◌+◌, ◌*◌, Bool, true, false, not, ◌&&◌, if◌then◌else◌, is_some, List}
+use Rattle.std.specs.Prelude.{ℕ, ◌+◌, ◌*◌, Bool, true, false, not, ◌&&◌, nat_eq, if◌then◌else◌, is_some, List}
 use Rattle.std.specs.Prelude.{[], ◌∷◌, Option, Some, None}
 use Rattle.c_tree.specs.declared.Form.{Form}
 use Rattle.c_tree.specs.declared.Form.TheVariants as form
@@ -43,9 +43,8 @@ indexes k ts =
 
 -- the tokens behind so many
 abbrev pub behind_indexes : ℕ → Tokens → Tokens
-behind_indexes 0 ts = ts
-behind_indexes 1 ts = behind_index ts
-behind_indexes _ ts = behind_index (behind_index ts)
+behind_indexes n ts =
+    if nat_eq n 0 then ts else if nat_eq n 1 then behind_index ts else behind_index (behind_index ts)
 
 -- OPERANDS
 
@@ -64,9 +63,7 @@ is_end (t ∷ ts) = not (goes_on t.form)
 
 -- what stands for `sizeof` of something with so many indexes
 abbrev pub with_indexes : ℕ → Shape → List Form
-with_indexes 0 s = s.whole
-with_indexes 1 s = s.row
-with_indexes _ s = s.element
+with_indexes n s = if nat_eq n 0 then s.whole else if nat_eq n 1 then s.row else s.element
 
 -- that of a name that is known or not
 abbrev pub size_by : ℕ → Option Shape → List Form

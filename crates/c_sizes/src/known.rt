@@ -4,6 +4,7 @@ ghost use Rattle.std.specs.Prelude.{◌≡◌, [], ◌∷◌, reverse, OnOk};
 ghost use Rattle.std.specs.Option.{option_copied};
 ghost use Rattle.std.specs.Str.{bytes_eq};
 ghost use Rattle.c_sizes.specs.Scopes as scopes;
+ghost use Rattle.c_sizes.specs.inside.Latest.{later};
 
 use crate::shape::Shape;
 use c_tree::{Mark, Word, same_bytes};
@@ -39,23 +40,34 @@ fn same_name(a: &[u8], b: &[u8]) -> bool
     same_bytes(a, b)
 }
 
-/// What these entries say of a name.
+/// What an entry says of a name, or else what those before it say.
+fn later<'a>(name: &[u8], entry: &'a Entry, so_far: Option<&'a Shape>) -> Option<&'a Shape>
+    ensures { option_copied result ≡ later name.now entry.now (option_copied so_far.entry) }
+{
+    match entry {
+        Entry::Block => so_far,
+        Entry::Name { name: other, shape } => {
+            if same_name(name, other.as_slice()) {
+                Some(shape)
+            } else {
+                so_far
+            }
+        }
+    }
+}
+
+/// What the last of these entries with this name says.
+#[tactic(auto, using(crate::proofs::LatestNames::latest_is))]
 fn found<'a>(name: &[u8], entries: &'a [Entry]) -> Option<&'a Shape>
     ensures { option_copied result ≡ scopes.found name.now (reverse entries.now) }
 {
+    let mut latest = None;
     let mut rest = entries;
-    while let [more @ .., entry] = rest {
-        match entry {
-            Entry::Block => {}
-            Entry::Name { name: other, shape } => {
-                if same_name(name, other.as_slice()) {
-                    return Some(shape);
-                }
-            }
-        }
+    while let [entry, more @ ..] = rest {
+        latest = later(name, entry, latest);
         rest = more;
     }
-    None
+    latest
 }
 
 /// Is it the `{` of a block?

@@ -130,7 +130,7 @@ impl Nest {
 
     /// Opens a bracket. Want of memory is the only error.
     fn open(&mut self, opened: Opened) -> Result<(), AllocError>
-        ensures { OnOk result (self.new ≡ nests.open opened self.old) }
+        ensures { OnOk result (self.new ≡ nests.entered opened self.old) }
     {
         self.around.push(self.inner)?;
         self.inner = Level::new(opened);

@@ -1,6 +1,6 @@
 //! The operand of a `sizeof`, and what stands for both.
 
-ghost use Rattle.std.specs.Prelude.{◌≡◌};
+ghost use Rattle.std.specs.Prelude.{◌≡◌, ◌≤◌};
 ghost use Rattle.c_sizes.specs.Operands as operands;
 
 use crate::known::Known;
@@ -52,7 +52,8 @@ fn behind_index(tokens: &[Lexeme]) -> &[Lexeme]
 
 /// How many indexes stand first, of two at most.
 fn indexes(known: &Known, tokens: &[Lexeme]) -> usize
-    ensures { result ≡ operands.indexes known.now tokens.now }
+    ensures value { result ≡ operands.indexes known.now tokens.now }
+    ensures few { result ≤ 2 }
 {
     if !begins_index(known, tokens) {
         0
@@ -67,10 +68,12 @@ fn indexes(known: &Known, tokens: &[Lexeme]) -> usize
 fn behind_indexes(count: usize, tokens: &[Lexeme]) -> &[Lexeme]
     ensures { result.now ≡ operands.behind_indexes count tokens.now }
 {
-    match count {
-        0 => tokens,
-        1 => behind_index(tokens),
-        _ => behind_index(behind_index(tokens)),
+    if count == 0 {
+        tokens
+    } else if count == 1 {
+        behind_index(tokens)
+    } else {
+        behind_index(behind_index(tokens))
     }
 }
 
@@ -101,10 +104,12 @@ fn is_end(tokens: &[Lexeme]) -> bool
 fn with_indexes(count: usize, shape: &Shape) -> &[Form]
     ensures { result.now ≡ operands.with_indexes count shape.now }
 {
-    match count {
-        0 => shape.whole.as_slice(),
-        1 => shape.row.as_slice(),
-        _ => shape.element.as_slice(),
+    if count == 0 {
+        shape.whole.as_slice()
+    } else if count == 1 {
+        shape.row.as_slice()
+    } else {
+        shape.element.as_slice()
     }
 }
 
