@@ -104,13 +104,14 @@ behind_has P (t ∷ ts) h =
 
 first_has : (P : Fact) (ts us : Tokens) → Allows P → EachToken P ts → EachForm P (first_size ts us)
 first_has P ts us a h =
-    either (EachForm P) (begins mark.RightBracket ts) (constant (values us) ∷ []) (size ts) (alone_has P (values us) a)
-    (size_has P ts h)
+    either (EachForm P) (begins mark.RightBracket ts) (constant (values us) ∷ []) (size ts)
+    (alone_has P (values us) a) (size_has P ts h)
 
 two_have : (P : Fact) (p : Bool) (b : ℕ) (ts us : Tokens) → Allows P → EachToken P ts → EachToken P us
     → EachOf P (rows p b (first_size ts (behind_size us)) (size us))
 two_have P p b ts us a h k =
-    rows_have P p b (first_size ts (behind_size us)) (size us) a (first_has P ts (behind_size us) a h) (size_has P us k)
+    rows_have P p b (first_size ts (behind_size us)) (size us) a (first_has P ts (behind_size us) a h)
+    (size_has P us k)
 
 sized_has : (P : Fact) (p : Bool) (b : ℕ) (ts us : Tokens) → Allows P → EachToken P ts → EachToken P us
     → EachOf P (sized_array p b ts us)

@@ -20,8 +20,8 @@ use Rattle.c_sizes.specs.declared.shape.Shape.{Shape}
 use Rattle.c_sizes.specs.declared.walk.Walk.{Walk}
 use Rattle.c_sizes.specs.Firsts.{begins, rest}
 use Rattle.c_sizes.specs.Nests as nests
-use Rattle.c_sizes.specs.Operands.{Told, untold, is_sizeof, indexes, behind_indexes, is_end, with_indexes, size_by, size_of}
-use Rattle.c_sizes.specs.Operands.{bare, grouped_name, grouped_by, grouped, told_by, told}
+use Rattle.c_sizes.specs.Operands.{Told, untold, is_sizeof, indexes, behind_indexes, is_end, with_indexes, size_by}
+use Rattle.c_sizes.specs.Operands.{size_of, bare, grouped_name, grouped_by, grouped, told_by, told}
 use Rattle.c_sizes.specs.Scopes as scopes
 use Rattle.c_sizes.specs.Shapes.{shape}
 use Rattle.c_sizes.specs.Sized.{size_at, stands_for, left_out, sized_from}

@@ -42,8 +42,8 @@ first_goes most w t ts out new size taken n h e k =
     ∙ ap (λ (i : ℕ). put_all most (sized_from (past t.form ts w) i ts) new) (sym (k ∙ ap left_out h))
 
 -- and behind one that has no room
-pub first_fails : (most : ℕ) (w : Walk) (t : Lexeme) (ts out : Tokens) (size : List Form) (taken : ℕ) (f : LibraryFault)
-    → (size, taken) ≡ size_at w.known t ts → Refuses (put_all most (stands_for t size) out) f
+pub first_fails : (most : ℕ) (w : Walk) (t : Lexeme) (ts out : Tokens) (size : List Form) (taken : ℕ)
+    (f : LibraryFault) → (size, taken) ≡ size_at w.known t ts → Refuses (put_all most (stands_for t size) out) f
     → Refuses (put_all most (sized_from w 0 (t ∷ ts)) out) f
 first_fails most w t ts out size taken (fault.Format at) h e =
     first most w t ts out (Err (fault.Format at)) (same most w t ts out size taken h ∙ e)

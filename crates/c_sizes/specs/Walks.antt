@@ -58,8 +58,8 @@ is_behind_for _ = false
 
 -- WHAT IS DECLARED
 
--- The bytes of the type that a name which stands here is declared with, if it is: directly behind the words of a type;
--- or behind a `,` in no bracket that was opened since the declaration began.
+-- The bytes of the type that a name which stands here is declared with, if it is: directly behind the words of a
+-- type; or behind a `,` in no bracket that was opened since the declaration began.
 abbrev pub declares_by : Front → Option ℕ → Option ℕ
 declares_by (front.Type b) o = Some b
 declares_by front.Comma o = o

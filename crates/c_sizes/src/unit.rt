@@ -30,7 +30,8 @@ pub fn is_sized(tokens: &[Lexeme]) -> bool
     true
 }
 
-/// What stands for a token, before these, if it is a `sizeof` whose size is told, and how many tokens its operand has.
+/// What stands for a token, before these, if it is a `sizeof` whose size is told, and how many tokens its operand
+/// has.
 fn size_at<'a>(known: &'a Known, token: &Lexeme, behind: &[Lexeme]) -> (&'a [Form], usize)
     ensures { (result.0.now, result.1) ≡ sized.size_at known.now token.now behind.now }
 {
@@ -65,6 +66,7 @@ fn left_out(size: &[Form], taken: usize) -> usize
 }
 
 /// Puts what stands for the first of these tokens, and gives how many of those behind it are left out.
+#[tactic(auto, using(crate::proofs::SizedTurns::first_goes, crate::proofs::SizedTurns::first_fails))]
 fn put_first(
     alloc: Global,
     walk: &Walk,
@@ -80,8 +82,10 @@ fn put_first(
         (sized.sized_from walk.now 0 (token.now ∷ behind.now)) out.old)) }
 {
     let (size, taken) = size_at(&walk.known, token, behind);
-    put_for(alloc, token, size, out)?;
-    Ok(left_out(size, taken))
+    match put_for(alloc, token, size, out) {
+        Ok(()) => Ok(left_out(size, taken)),
+        Err(fault) => Err(fault),
+    }
 }
 
 /// Puts what stands for the first of these tokens, unless it is left out, and gives how many of those behind it are.
@@ -122,6 +126,18 @@ fn put_sized(alloc: Global, tokens: &[Lexeme], out: &mut Output) -> Result<(), L
     Ok(())
 }
 
+/// The unit with constants for sizes, whatever it has.
+fn sized_anew(alloc: Global, tokens: &[Lexeme]) -> Result<Vec<Lexeme>, LibraryFault>
+    ensures ok { IfOk result (λ out. within most_tokens (sized.sized tokens.now) ≡ Ok out.items) }
+    ensures err { IfErr result (Refuses (within most_tokens (sized.sized tokens.now))) }
+{
+    let mut out = Output::new(alloc);
+    match put_sized(alloc, tokens, &mut out) {
+        Ok(()) => Ok(out.into_vec()),
+        Err(fault) => Err(fault),
+    }
+}
+
 /// The tokens of a unit with constants for the sizes of its objects, or the first token that is too many.
 ///
 /// A unit without `sizeof` is given back as it is.
@@ -132,9 +148,5 @@ pub fn sized(alloc: Global, tokens: Vec<Lexeme>) -> Result<Vec<Lexeme>, LibraryF
     if tokens.len() <= MOST_TOKENS && is_sized(&tokens) {
         return Ok(tokens);
     }
-    let mut out = Output::new(alloc);
-    match put_sized(alloc, &tokens, &mut out) {
-        Ok(()) => Ok(out.into_vec()),
-        Err(fault) => Err(fault),
-    }
+    sized_anew(alloc, &tokens)
 }
