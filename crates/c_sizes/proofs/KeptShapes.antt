@@ -54,8 +54,7 @@ row_has P b s a h = (
 table_has : (P : Fact) (b : ℕ) (r s : List Form) → Allows P → EachForm P r → EachForm P s
     → EachForm P (table b r s)
 table_has P b r s a h k =
-    let last = append P (times s) (form.Mark mark.RightParen ∷ []) (times_has P s a k) (close_has P a) in
-    (
+    let last = append P (times s) (form.Mark mark.RightParen ∷ []) (times_has P s a k) (close_has P a) in (
       a.mark mark.LeftParen,
       (
         constant_has P b a,

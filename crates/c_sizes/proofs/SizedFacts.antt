@@ -1,5 +1,6 @@
 -- What is known of units with constants for sizes.
-use Rattle.std.proofs.Common.{◌≡◌, ◌≤◌, ℕ, Bool, true, false, cond, List, [], ◌∷◌, ◌++◌, length, refl, ap, ◌∙◌}
+use Rattle.std.proofs.Common.{◌≡◌, ◌≤◌, ℕ, Bool, true, false, cond, List, [], ◌∷◌, ◌++◌, length, refl, sym}
+use Rattle.std.proofs.Common.{ap, ◌∙◌}
 use Rattle.std.specs.Prelude.{not, ◌&&◌, Result, Ok, Err}
 use Rattle.c_tree.specs.declared.Lexeme.{Lexeme}
 use Rattle.c_lex.specs.Lexes.{Tokens}
@@ -32,6 +33,11 @@ sized_stays ts e = all_stay start ts e
 -- and it is, if it is small enough
 pub sized_within : (most : ℕ) (ts : Tokens) → is_sized ts ≡ true → length ts ≤ most → within most (sized ts) ≡ Ok ts
 sized_within most ts e few = ap (λ (us : Tokens). within most us) (sized_stays ts e) ∙ few_stay most ts few
+
+-- so what a test tells of the same tokens
+pub sized_early : (most : ℕ) (ts us : Tokens) (b : Bool) → us ≡ ts → b ≡ is_sized us → b ≡ true → length ts ≤ most
+    → within most (sized ts) ≡ Ok ts
+sized_early most ts us b h g e few = sized_within most ts (ap is_sized (sym h) ∙ sym g ∙ e) few
 
 -- what holds of all tokens and of all that may be added holds of the unit's with constants for sizes
 pub sized_keeps : (P : Fact) (ts : Tokens) → Allows P → EachToken P ts → EachToken P (sized ts)

@@ -55,7 +55,7 @@ abbrev pub sized_array : Bool → ℕ → Tokens → Tokens → Shape
 sized_array p b ts behind =
     if begins mark.LeftBracket behind
     then if is_size (rest behind) && not (begins mark.LeftBracket (behind_size (rest behind)))
-      then rows p b (first_size ts (behind_size (rest behind))) (size (rest behind)) else untold
+    then rows p b (first_size ts (behind_size (rest behind))) (size (rest behind)) else untold
     else array p b (first_size ts behind)
 
 -- what a name is that is declared before these tokens, as a parameter or not, with a type of so many bytes

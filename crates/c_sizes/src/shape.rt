@@ -40,11 +40,7 @@ fn alone(alloc: Global, value: usize) -> Result<Items<Form>, AllocError>
 }
 
 /// Adds copies. Want of memory is the only error.
-fn add_copies(
-    alloc: Global,
-    from: &[Form],
-    forms: &mut Items<Form>,
-) -> Result<(), AllocError>
+fn add_copies(alloc: Global, from: &[Form], forms: &mut Items<Form>) -> Result<(), AllocError>
     ensures { OnOk result (forms.new ≡ forms.old ++ from.now) }
 {
     let mut rest = from;
@@ -78,12 +74,7 @@ fn row(alloc: Global, bytes: u8, size: &[Form]) -> Result<Items<Form>, AllocErro
 }
 
 /// `( BYTES * ( SIZE ) * ( SIZE ) )`. Want of memory is the only error.
-fn table(
-    alloc: Global,
-    bytes: u8,
-    rows: &[Form],
-    size: &[Form],
-) -> Result<Items<Form>, AllocError>
+fn table(alloc: Global, bytes: u8, rows: &[Form], size: &[Form]) -> Result<Items<Form>, AllocError>
     ensures { IfOk result (λ fs. fs ≡ shapes.table bytes rows.now size.now) }
 {
     let mut forms = Items::new(alloc);
@@ -96,11 +87,7 @@ fn table(
 }
 
 /// What the whole of an array is: as a parameter it is a pointer. Want of memory is the only error.
-fn whole(
-    alloc: Global,
-    is_parameter: bool,
-    forms: Items<Form>,
-) -> Result<Items<Form>, AllocError>
+fn whole(alloc: Global, is_parameter: bool, forms: Items<Form>) -> Result<Items<Form>, AllocError>
     ensures { IfOk result (λ fs. fs ≡ shapes.whole is_parameter forms) }
 {
     if is_parameter {
@@ -208,7 +195,13 @@ impl Shape {
     {
         let first = first_size(alloc, tokens, behind_size(second))?;
         let columns = forms_of(alloc, second)?;
-        Shape::rows(alloc, is_parameter, bytes, first.as_slice(), columns.as_slice())
+        Shape::rows(
+            alloc,
+            is_parameter,
+            bytes,
+            first.as_slice(),
+            columns.as_slice(),
+        )
     }
 
     /// An array whose first size these tokens begin with, where those stand behind it. Want of memory is the only

@@ -38,11 +38,7 @@ pub fn is_size(tokens: &[Lexeme]) -> bool
 }
 
 /// Adds the tokens up to the first `]`. Want of memory is the only error.
-pub fn add_size(
-    alloc: Global,
-    tokens: &[Lexeme],
-    forms: &mut Items<Form>,
-) -> Result<(), AllocError>
+pub fn add_size(alloc: Global, tokens: &[Lexeme], forms: &mut Items<Form>) -> Result<(), AllocError>
     ensures { OnOk result (forms.new ≡ forms.old ++ counts.size tokens.now) }
 {
     let mut rest = tokens;

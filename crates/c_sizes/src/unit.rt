@@ -17,8 +17,8 @@ use c_tree::{Form, Lexeme, MOST_TOKENS};
 use std::alloc::Global;
 
 /// Is no token `sizeof`?
-pub fn is_sized(tokens: &[Lexeme]) -> bool
-    ensures { IsTrue result → sized.is_sized tokens.now ≡ true }
+fn has_no_sizeof(tokens: &[Lexeme]) -> bool
+    ensures { result ≡ sized.is_sized tokens.now }
 {
     let mut rest = tokens;
     while let [token, more @ ..] = rest {
@@ -28,6 +28,13 @@ pub fn is_sized(tokens: &[Lexeme]) -> bool
         rest = more;
     }
     true
+}
+
+/// Is no token `sizeof`? Then the unit is its own.
+pub fn is_sized(tokens: &[Lexeme]) -> bool
+    ensures { IsTrue result → sized.is_sized tokens.now ≡ true }
+{
+    has_no_sizeof(tokens)
 }
 
 /// What stands for a token, before these, if it is a `sizeof` whose size is told, and how many tokens its operand
@@ -66,7 +73,7 @@ fn left_out(size: &[Form], taken: usize) -> usize
 }
 
 /// Puts what stands for the first of these tokens, and gives how many of those behind it are left out.
-#[tactic(auto, using(crate::proofs::SizedTurns::first_goes, crate::proofs::SizedTurns::first_fails))]
+#[tactic(auto, using(crate::proofs::SizedTurns::first_goes))]
 fn put_first(
     alloc: Global,
     walk: &Walk,
@@ -145,7 +152,7 @@ pub fn sized(alloc: Global, tokens: Vec<Lexeme>) -> Result<Vec<Lexeme>, LibraryF
     ensures ok { IfOk result (λ out. within most_tokens (sized.sized tokens.items) ≡ Ok out.items) }
     ensures err { IfErr result (Refuses (within most_tokens (sized.sized tokens.items))) }
 {
-    if tokens.len() <= MOST_TOKENS && is_sized(&tokens) {
+    if tokens.len() <= MOST_TOKENS && has_no_sizeof(&tokens) {
         return Ok(tokens);
     }
     sized_anew(alloc, &tokens)

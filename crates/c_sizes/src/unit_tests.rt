@@ -32,7 +32,10 @@ const ROWS: &[(&str, &str)] = &[
         "int f(char c, unsigned long n) { int x, y[2], z = 1; return sizeof c + sizeof n + sizeof x + sizeof y[z]; }",
         "int f(char c, unsigned long n) { int x, y[2], z = 1; return 1ul + 8ul + 4ul + 4ul; }",
     ),
-    ("int x[2]; int n = sizeof x[y];", "int x[2]; int n = sizeof x[y];"),
+    (
+        "int x[2]; int n = sizeof x[y];",
+        "int x[2]; int n = sizeof x[y];",
+    ),
     // 6.2.1, paragraph 4: an inner declaration hides an outer one, to the end of its block.
     (
         "int a[3]; int f(void) { { char a[5]; g(sizeof a); } return sizeof a; } int b = sizeof a;",
@@ -43,7 +46,10 @@ const ROWS: &[(&str, &str)] = &[
         "int a[3]; int f(void) { int n = (4ul * (3)); long a = 8ul; return 8ul; }",
     ),
     // 6.2.1, paragraph 7: from the end of its declarator.
-    ("int a[3]; int f(void) { int a[sizeof a]; }", "int a[3]; int f(void) { int a[sizeof a]; }"),
+    (
+        "int a[3]; int f(void) { int a[sizeof a]; }",
+        "int a[3]; int f(void) { int a[sizeof a]; }",
+    ),
     // Parameters hide names of the file to the end of their function or prototype; arrays are pointers there.
     (
         "char a[9]; int g(int a); int n = sizeof a; int f(int a[], int b[2][7]) { return sizeof a + sizeof a[0] \
@@ -74,16 +80,25 @@ const ROWS: &[(&str, &str)] = &[
         "char b[9]; int f(int x) { x = 1, b[0] = 2; g((int) x, b); return (1ul * (9)); }",
     ),
     // What stays: functions, other operands, sizes with names.
-    ("int f(void); int n = sizeof f;", "int f(void); int n = sizeof f;"),
+    (
+        "int f(void); int n = sizeof f;",
+        "int f(void); int n = sizeof f;",
+    ),
     (
         "int a[3], x; int n = sizeof a[x + 1] + sizeof(x)++ + sizeof (a)[0] + sizeof -x + sizeof a[0][0] + sizeof 1;",
         "int a[3], x; int n = sizeof a[x + 1] + sizeof(x)++ + sizeof (a)[0] + sizeof -x + sizeof a[0][0] + sizeof 1;",
     ),
-    ("int n; int a[n]; int b = sizeof a;", "int n; int a[n]; int b = sizeof a;"),
+    (
+        "int n; int a[n]; int b = sizeof a;",
+        "int n; int a[n]; int b = sizeof a;",
+    ),
     ("int b = sizeof a; int a;", "int b = sizeof a; int a;"),
     ("int a; int b = sizeof", "int a; int b = sizeof"),
     ("int a; int b = sizeof (a", "int a; int b = sizeof (a"),
-    ("int a[2]; int b = sizeof a[0", "int a[2]; int b = sizeof a[0"),
+    (
+        "int a[2]; int b = sizeof a[0",
+        "int a[2]; int b = sizeof a[0",
+    ),
 ];
 
 /// The forms of tokens.
@@ -95,11 +110,7 @@ fn told(alloc: Global, tokens: &[Lexeme]) -> Result<String, AllocError> {
     Ok(text)
 }
 
-fn tokens_of(
-    rt: &impl Abort,
-    alloc: Global,
-    text: &str,
-) -> Result<Vec<Lexeme>, AllocError> {
+fn tokens_of(rt: &impl Abort, alloc: Global, text: &str) -> Result<Vec<Lexeme>, AllocError> {
     match lex(alloc, text.as_bytes()) {
         Ok(tokens) => Ok(tokens),
         Err(LexFault::Memory) => Err(AllocError),

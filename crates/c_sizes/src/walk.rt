@@ -80,12 +80,7 @@ fn is_behind_for(front: Front) -> bool
 
 /// What a name is that is declared within this before these tokens, with a type of so many bytes. Want of memory is
 /// the only error.
-fn shape_in(
-    alloc: Global,
-    opened: Opened,
-    bytes: u8,
-    rest: &[Lexeme],
-) -> Result<Shape, AllocError>
+fn shape_in(alloc: Global, opened: Opened, bytes: u8, rest: &[Lexeme]) -> Result<Shape, AllocError>
     ensures { IfOk result (λ s. s ≡ walks.shape_in opened bytes rest.now) }
 {
     match opened {
@@ -171,12 +166,7 @@ impl Walk {
     }
 
     /// Goes past a token, which stands before these. Want of memory is the only error.
-    pub fn pass(
-        &mut self,
-        alloc: Global,
-        form: &Form,
-        rest: &[Lexeme],
-    ) -> Result<(), AllocError>
+    pub fn pass(&mut self, alloc: Global, form: &Form, rest: &[Lexeme]) -> Result<(), AllocError>
         ensures { OnOk result (self.new ≡ walks.past form.now rest.now self.old) }
     {
         self.enter(alloc, form, rest)?;
