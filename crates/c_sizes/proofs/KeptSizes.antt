@@ -1,5 +1,5 @@
 -- What holds of each token of a unit and of all that may be added holds of the unit's with constants for sizes.
-use Rattle.std.proofs.Common.{◌≡◌, ℕ, zero, suc, ◌+◌, ◌*◌, Bool, true, false, cond, nat_eq, ◌&&◌, List, [], ◌∷◌, ◌++◌}
+use Rattle.std.proofs.Common.{ℕ, zero, suc, ◌+◌, ◌*◌, Bool, true, false, cond, nat_eq, ◌&&◌, List, [], ◌∷◌}
 use Rattle.std.specs.Prelude.{Option, Some, None}
 use Rattle.std.specs.Str.{bytes_eq}
 use Rattle.c_tree.specs.declared.Form.{Form}
@@ -23,9 +23,8 @@ use Rattle.c_sizes.specs.Nests as nests
 use Rattle.c_sizes.specs.Operands.{Told, untold, is_sizeof, indexes, behind_indexes, is_end, with_indexes, size_by}
 use Rattle.c_sizes.specs.Operands.{size_of, bare, grouped_name, grouped_by, grouped, told_by, told}
 use Rattle.c_sizes.specs.Scopes as scopes
-use Rattle.c_sizes.specs.Shapes.{shape}
 use Rattle.c_sizes.specs.Sized.{size_at, stands_for, left_out, sized_from}
-use Rattle.c_sizes.specs.Walks.{start, declares, shape_in, with_name, with_declared, past_mark, past_form, past}
+use Rattle.c_sizes.specs.Walks.{start, declares, shape_in, with_declared, past_mark, past_form, past}
 use Rattle.c_sizes.proofs.KeptShapes.{EachOf, either, shape_has, none_has}
 
 -- NAMES

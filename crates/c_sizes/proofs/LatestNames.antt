@@ -1,7 +1,7 @@
 -- The last entry with a name is the first one in reverse.
 use Rattle.std.proofs.Common.{◌≡◌, List, [], ◌∷◌, ◌++◌, reverse, refl, sym, ap, ◌∙◌, append-nil, append_assoc}
 use Rattle.std.proofs.lemmas.List.{reverse-append}
-use Rattle.std.specs.Prelude.{Option, Some, None}
+use Rattle.std.specs.Prelude.{Option, None}
 use Rattle.c_lex.specs.Bytes.{Bytes}
 use Rattle.c_sizes.specs.declared.known.Entry.{Entry}
 use Rattle.c_sizes.specs.declared.known.Entry.TheVariants as entry

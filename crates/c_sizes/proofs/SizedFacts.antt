@@ -1,8 +1,7 @@
 -- What is known of units with constants for sizes.
-use Rattle.std.proofs.Common.{◌≡◌, ◌≤◌, ℕ, Bool, true, false, cond, List, [], ◌∷◌, ◌++◌, length, refl, sym}
+use Rattle.std.proofs.Common.{◌≡◌, ◌≤◌, ℕ, Bool, true, false, cond, [], ◌∷◌, ◌++◌, length, refl, sym}
 use Rattle.std.proofs.Common.{ap, ◌∙◌}
-use Rattle.std.specs.Prelude.{not, ◌&&◌, Result, Ok, Err}
-use Rattle.c_tree.specs.declared.Lexeme.{Lexeme}
+use Rattle.std.specs.Prelude.{not, Ok}
 use Rattle.c_lex.specs.Lexes.{Tokens}
 use Rattle.c_library.specs.Within.{within}
 use Rattle.c_library.proofs.Holds.{Fact, EachToken, Allows}
@@ -10,7 +9,7 @@ use Rattle.c_library.proofs.LiteralForms.{both_hold}
 use Rattle.c_library.proofs.Puts.{few_stay}
 use Rattle.c_sizes.specs.declared.walk.Walk.{Walk}
 use Rattle.c_sizes.specs.Operands.{Told, untold, is_sizeof, told}
-use Rattle.c_sizes.specs.Sized.{size_at, stands_for, left_out, sized_from, sized, is_sized}
+use Rattle.c_sizes.specs.Sized.{stands_for, left_out, sized_from, sized, is_sized}
 use Rattle.c_sizes.specs.Walks.{start, past}
 use Rattle.c_sizes.proofs.KeptSizes.{from_keeps, starts}
 

@@ -1,18 +1,15 @@
 -- Sizes of objects, as C17 has them.
 use Rattle.std.proofs.Common.{◌≡◌, ℕ, true, false, List, [], ◌∷◌, refl}
-use Rattle.std.specs.Prelude.{codes, Some, None}
+use Rattle.std.specs.Prelude.{codes}
 use Rattle.c_tree.specs.declared.Form.{Form}
 use Rattle.c_tree.specs.declared.Form.TheVariants as form
 use Rattle.c_tree.specs.declared.Key.TheVariants as key
 use Rattle.c_tree.specs.declared.Kind.TheVariants as kind
 use Rattle.c_tree.specs.declared.Mark.TheVariants as mark
-use Rattle.c_lex.specs.Lexes.{Tokens}
-use Rattle.c_library.specs.Places.{token, tokens}
+use Rattle.c_library.specs.Places.{tokens}
 use Rattle.c_sizes.specs.Counts.{is_size, values}
-use Rattle.c_sizes.specs.Operands.{told}
-use Rattle.c_sizes.specs.Shapes.{constant, row, scalar, array, rows, untold, shape}
-use Rattle.c_sizes.specs.Sized.{sized, is_sized}
-use Rattle.c_sizes.specs.Walks.{start}
+use Rattle.c_sizes.specs.Shapes.{constant, scalar, array, rows, untold, shape}
+use Rattle.c_sizes.specs.Sized.{sized}
 
 -- a name, a number, marks and keywords
 abbrev name : List ℕ → Form

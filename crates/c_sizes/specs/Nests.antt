@@ -1,5 +1,5 @@
 -- The brackets that a token stands in, and the declaration that goes on in each.
-use Rattle.std.specs.Prelude.{ℕ, Bool, true, false, not, ◌&&◌, if◌then◌else◌, List, [], ◌∷◌, Option, Some, None}
+use Rattle.std.specs.Prelude.{ℕ, Bool, true, false, not, ◌&&◌, if◌then◌else◌, List, [], ◌∷◌, Option, None}
 use Rattle.c_tree.specs.declared.Form.TheVariants as form
 use Rattle.c_tree.specs.declared.Mark.{Mark}
 use Rattle.c_tree.specs.declared.Mark.TheVariants as mark

@@ -1,5 +1,5 @@
 -- What is known before a token of a unit.
-use Rattle.std.specs.Prelude.{ℕ, Bool, true, false, if◌then◌else◌, List, [], ◌∷◌, Option, Some, None}
+use Rattle.std.specs.Prelude.{ℕ, Bool, true, false, if◌then◌else◌, Option, Some, None}
 use Rattle.c_tree.specs.declared.Form.{Form}
 use Rattle.c_tree.specs.declared.Form.TheVariants as form
 use Rattle.c_tree.specs.declared.Key.{Key}
@@ -9,8 +9,6 @@ use Rattle.c_tree.specs.declared.Mark.TheVariants as mark
 use Rattle.c_lex.specs.Bytes.{Bytes}
 use Rattle.c_lex.specs.Lexes.{Tokens}
 use Rattle.c_library.specs.Calls.{is_mark}
-use Rattle.c_sizes.specs.declared.known.Known.{Known}
-use Rattle.c_sizes.specs.declared.nest.Nest.{Nest}
 use Rattle.c_sizes.specs.declared.nest.Opened.{Opened}
 use Rattle.c_sizes.specs.declared.nest.Opened.TheVariants as opened
 use Rattle.c_sizes.specs.declared.shape.Shape.{Shape}

@@ -1,6 +1,6 @@
 //! What is known before a token of a unit.
 
-ghost use Rattle.std.specs.Prelude.{◌≡◌, ℕ, OnOk, IfOk};
+ghost use Rattle.std.specs.Prelude.{◌≡◌, OnOk, IfOk};
 ghost use Rattle.c_sizes.specs.Walks as walks;
 
 use crate::known::Known;
