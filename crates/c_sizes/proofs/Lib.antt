@@ -1,0 +1,6 @@
+pub mod LatestNames
+pub mod SizedTurns
+pub mod SizedFacts
+pub mod KeptShapes
+pub mod KeptSizes
+pub mod StandardFacts

@@ -1,0 +1,150 @@
+//! Units with `sizeof`, and what they come to.
+
+use crate::{is_sized, sized};
+use c_lex::{LexFault, lex};
+use c_library::LibraryFault;
+use c_tree::Lexeme;
+use std::alloc::{AllocError, Global};
+use std::process::Abort;
+use std::test::Fail;
+
+/// A unit, and what it comes to.
+const ROWS: &[(&str, &str)] = &[
+    // 6.5.3.4, paragraph 7: how many elements an array has.
+    (
+        "int a[10]; int n = sizeof a / sizeof a[0];",
+        "int a[10]; int n = (4ul * (10)) / 4ul;",
+    ),
+    (
+        "int f(void) { unsigned char line[80 + 1]; return sizeof(line) - 1; }",
+        "int f(void) { unsigned char line[80 + 1]; return (1ul * (80 + 1)) - 1; }",
+    ),
+    (
+        "short t[] = {1, (2, 3), 1 ? 2, 3 : 4, 5,}; int n = sizeof t / sizeof(t[0]);",
+        "short t[] = {1, (2, 3), 1 ? 2, 3 : 4, 5,}; int n = (2ul * (4ul)) / 2ul;",
+    ),
+    (
+        "long m[][3] = {{1, 2, 3}, {4}}; int n = sizeof m / sizeof m[0]; int k = sizeof m[0] / sizeof m[0][0];",
+        "long m[][3] = {{1, 2, 3}, {4}}; int n = (8ul * (2ul) * (3)) / (8ul * (3)); int k = (8ul * (3)) / 8ul;",
+    ),
+    // Scalars, and indexes that are names.
+    (
+        "int f(char c, unsigned long n) { int x, y[2], z = 1; return sizeof c + sizeof n + sizeof x + sizeof y[z]; }",
+        "int f(char c, unsigned long n) { int x, y[2], z = 1; return 1ul + 8ul + 4ul + 4ul; }",
+    ),
+    (
+        "int x[2]; int n = sizeof x[y];",
+        "int x[2]; int n = sizeof x[y];",
+    ),
+    // 6.2.1, paragraph 4: an inner declaration hides an outer one, to the end of its block.
+    (
+        "int a[3]; int f(void) { { char a[5]; g(sizeof a); } return sizeof a; } int b = sizeof a;",
+        "int a[3]; int f(void) { { char a[5]; g((1ul * (5))); } return (4ul * (3)); } int b = (4ul * (3));",
+    ),
+    (
+        "int a[3]; int f(void) { int n = sizeof a; long a = sizeof a; return sizeof a; }",
+        "int a[3]; int f(void) { int n = (4ul * (3)); long a = 8ul; return 8ul; }",
+    ),
+    // 6.2.1, paragraph 7: from the end of its declarator.
+    (
+        "int a[3]; int f(void) { int a[sizeof a]; }",
+        "int a[3]; int f(void) { int a[sizeof a]; }",
+    ),
+    // Parameters hide names of the file to the end of their function or prototype; arrays are pointers there.
+    (
+        "char a[9]; int g(int a); int n = sizeof a; int f(int a[], int b[2][7]) { return sizeof a + sizeof a[0] \
+         + sizeof b + sizeof b[0]; } int m = sizeof a;",
+        "char a[9]; int g(int a); int n = (1ul * (9)); int f(int a[], int b[2][7]) { return 8ul + 4ul \
+         + 8ul + (4ul * (7)); } int m = (1ul * (9));",
+    ),
+    // Of names that `for` declares nothing is told, to the end of the block.
+    (
+        "char i[9]; int f(void) { for (int i = 0, j; i < 3; i++) g(sizeof i, sizeof j); return sizeof i; } \
+         int m = sizeof i;",
+        "char i[9]; int f(void) { for (int i = 0, j; i < 3; i++) g(sizeof i, sizeof j); return sizeof i; } \
+         int m = (1ul * (9));",
+    ),
+    // A `,` within brackets or `? :` declares nothing; behind these it does.
+    (
+        "char b[9]; int x; int f(void) { int a = g(1, b), c = x ? x, b : 1, d[2] = {x, b}, e = (x, b); \
+         return sizeof b + sizeof e; }",
+        "char b[9]; int x; int f(void) { int a = g(1, b), c = x ? x, b : 1, d[2] = {x, b}, e = (x, b); \
+         return (1ul * (9)) + 4ul; }",
+    ),
+    (
+        "char b[9]; int f(int x) { int a = x ? 1 : 2, b; switch (x) { case 1: a = 1, b = 2; } return sizeof b; }",
+        "char b[9]; int f(int x) { int a = x ? 1 : 2, b; switch (x) { case 1: a = 1, b = 2; } return 4ul; }",
+    ),
+    (
+        "char b[9]; int f(int x) { x = 1, b[0] = 2; g((int) x, b); return sizeof b; }",
+        "char b[9]; int f(int x) { x = 1, b[0] = 2; g((int) x, b); return (1ul * (9)); }",
+    ),
+    // What stays: functions, other operands, sizes with names.
+    (
+        "int f(void); int n = sizeof f;",
+        "int f(void); int n = sizeof f;",
+    ),
+    (
+        "int a[3], x; int n = sizeof a[x + 1] + sizeof(x)++ + sizeof (a)[0] + sizeof -x + sizeof a[0][0] + sizeof 1;",
+        "int a[3], x; int n = sizeof a[x + 1] + sizeof(x)++ + sizeof (a)[0] + sizeof -x + sizeof a[0][0] + sizeof 1;",
+    ),
+    (
+        "int n; int a[n]; int b = sizeof a;",
+        "int n; int a[n]; int b = sizeof a;",
+    ),
+    ("int b = sizeof a; int a;", "int b = sizeof a; int a;"),
+    ("int a; int b = sizeof", "int a; int b = sizeof"),
+    ("int a; int b = sizeof (a", "int a; int b = sizeof (a"),
+    (
+        "int a[2]; int b = sizeof a[0",
+        "int a[2]; int b = sizeof a[0",
+    ),
+];
+
+/// The forms of tokens.
+fn told(alloc: Global, tokens: &[Lexeme]) -> Result<String, AllocError> {
+    let mut text = String::new(alloc);
+    for token in tokens {
+        text.push_str(&format!(in alloc; "{:?} ", token.form)?)?;
+    }
+    Ok(text)
+}
+
+fn tokens_of(rt: &impl Abort, alloc: Global, text: &str) -> Result<Vec<Lexeme>, AllocError> {
+    match lex(alloc, text.as_bytes()) {
+        Ok(tokens) => Ok(tokens),
+        Err(LexFault::Memory) => Err(AllocError),
+        Err(_) => panic!(rt; "{text}"),
+    }
+}
+
+fn assert_row(rt: &impl Abort, alloc: Global, unit: &str, want: &str) -> Result<(), AllocError> {
+    match sized(alloc, tokens_of(rt, alloc, unit)?) {
+        Ok(got) => {
+            let got = told(alloc, &got)?;
+            let want = told(alloc, &tokens_of(rt, alloc, want)?)?;
+            assert_eq!(rt; got.as_str(), want.as_str(), "{unit}");
+        }
+        Err(LibraryFault::Memory) => return Err(AllocError),
+        Err(_) => panic!(rt; "{unit}"),
+    }
+    Ok(())
+}
+
+#[test]
+fn gives_the_sizes(rt: HostRuntime) -> Result<(), Fail> {
+    for (unit, want) in ROWS.iter() {
+        assert_row(&rt, rt.alloc(), unit, want)?;
+    }
+    Ok(())
+}
+
+#[test]
+fn has_no_sizeof(rt: HostRuntime) -> Result<(), Fail> {
+    let alloc = rt.alloc();
+    let without = tokens_of(&rt, alloc, "int a[2];")?;
+    assert!(rt; is_sized(&without));
+    let with = tokens_of(&rt, alloc, "int a = sizeof a;")?;
+    assert!(rt; !is_sized(&with));
+    Ok(())
+}
