@@ -1,6 +1,6 @@
 -- The values of enumeration constants (C17 6.7.2.2, paragraph 3).
 use Rattle.std.specs.Prelude.{ℕ, ◌+◌, ◌^◌, Bool, true, false, not, ◌&&◌, nat_eq, nat_lt, if◌then◌else◌}
-use Rattle.std.specs.Prelude.{List, [], ◌∷◌, ◌++◌, Option, Some, None}
+use Rattle.std.specs.Prelude.{List, [], ◌∷◌, ◌++◌, length, Option, Some, None}
 use Rattle.c_tree.specs.declared.Form.{Form}
 use Rattle.c_tree.specs.declared.Form.TheVariants as form
 use Rattle.c_tree.specs.declared.Kind.{Kind}
@@ -90,9 +90,14 @@ sum [] k = []
 sum (piece.Constant n ∷ []) k = constant_pieces (n + k) kind.Int
 sum ps k = long_sum ps k
 
+-- a value said behind `=` has fewer pieces than that, so that values of values do not double without end
+abbrev pub most_pieces : ℕ
+most_pieces = 256
+
 -- the value in its pieces; a number of enumerators behind `=` is an int
 abbrev pub value : Next → Pieces
-value n = if nat_lt n.plus (2 ^ 31) then sum n.base n.plus else []
+value n =
+    if nat_lt n.plus (2 ^ 31) && nat_lt (length n.base) most_pieces then sum n.base n.plus else []
 
 -- The enumerator with this value declared, and the value of the next one, which is 1 more.
 abbrev pub bound : Form → Next → Scope → Option (Scope × Next)

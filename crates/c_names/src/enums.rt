@@ -54,7 +54,8 @@ fn pass_comma(
     Ok(went)
 }
 
-/// Passes a token of a list that is not its `}`, and tells whether the list goes on. Want of memory is the only error.
+/// Passes a token of a list that is not its `}`, and tells whether the list goes on. Want of memory is the only
+/// error.
 fn pass(
     alloc: Global,
     scope: &mut Scope,

@@ -1,5 +1,5 @@
-//! Names of types and of enumeration constants in the tokens of a unit (docs/LANGUAGE.md): each is replaced by what it
-//! stands for, and its declaration goes, so that the grammar and all behind it know nothing of them.
+//! Names of types and of enumeration constants in the tokens of a unit (docs/LANGUAGE.md): each is replaced by what
+//! it stands for, and its declaration goes, so that the grammar and all behind it know nothing of them.
 #![tactic(auto)]
 
 mod enums;

@@ -115,8 +115,8 @@ impl Names {
         behind: &'a [Lexeme],
         out: &mut Output,
     ) -> Result<&'a [Lexeme], LibraryFault>
-        ensures did { IfOk result (λ rest. Did (turns.key_turn self.old token.now behind.now key.Typedef) out.old rest.now
-            self.new out.new) }
+        ensures did { IfOk result (λ rest. Did (turns.key_turn self.old token.now behind.now key.Typedef) out.old
+            rest.now self.new out.new) }
         ensures err { IfErr result (Refuses (put_all most_tokens
             (turns.key_turn self.old token.now behind.now key.Typedef).out out.old)) }
     {
@@ -156,8 +156,8 @@ impl Names {
         behind: &'a [Lexeme],
         out: &mut Output,
     ) -> Result<&'a [Lexeme], LibraryFault>
-        ensures did { IfOk result (λ rest. Did (turns.key_turn self.old token.now behind.now key.Enum) out.old rest.now
-            self.new out.new) }
+        ensures did { IfOk result (λ rest. Did (turns.key_turn self.old token.now behind.now key.Enum) out.old
+            rest.now self.new out.new) }
         ensures err { IfErr result (Refuses (put_all most_tokens
             (turns.key_turn self.old token.now behind.now key.Enum).out out.old)) }
     {
@@ -269,8 +269,8 @@ impl Names {
         name: &[u8],
         out: &mut Output,
     ) -> Result<&'a [Lexeme], LibraryFault>
-        ensures did { IfOk result (λ rest. Did (turns.header_turn self.old.scope token.now behind.now name.now) out.old
-            rest.now self.new out.new) }
+        ensures did { IfOk result (λ rest. Did (turns.header_turn self.old.scope token.now behind.now name.now)
+            out.old rest.now self.new out.new) }
         ensures err { IfErr result (Refuses (put_all most_tokens
             (turns.header_turn self.old.scope token.now behind.now name.now).out out.old)) }
     {

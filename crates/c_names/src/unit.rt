@@ -69,7 +69,7 @@ pub fn has_no_name(tokens: &[Lexeme]) -> bool
 }
 
 /// Takes the first tokens, puts what stands for them, and gives those behind them, where so many turns are left.
-#[tactic(auto, using(crate::proofs::Turned::turn_goes, crate::proofs::Turned::turn_fails, crate::proofs::Turned::turn_left))]
+#[tactic(auto, using(crate::proofs::Turned::turn_goes))]
 fn take<'a>(
     alloc: Global,
     names: &mut Names,

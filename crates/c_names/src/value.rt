@@ -12,6 +12,9 @@ use base::Items;
 use c_tree::{Form, Kind, Mark};
 use std::alloc::{AllocError, Global};
 
+/// A value said behind `=` has fewer pieces than that.
+const MOST_PIECES: usize = 256;
+
 /// The value of the next enumerator behind which nothing is said: a value, and how much more it is.
 #[derive(Drop)]
 pub struct Next {
@@ -179,7 +182,7 @@ fn sum(alloc: Global, base: &[Piece], plus: u32) -> Result<Items<Piece>, AllocEr
 fn value(alloc: Global, next: &Next) -> Result<Items<Piece>, AllocError>
     ensures { IfOk result (λ ps. ps ≡ values.value next.now) }
 {
-    if next.plus < 2_147_483_648 {
+    if next.plus < 2_147_483_648 && next.base.len() < MOST_PIECES {
         sum(alloc, next.base.as_slice(), next.plus)
     } else {
         Ok(Items::new(alloc))
