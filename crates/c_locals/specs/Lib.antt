@@ -1,0 +1,4 @@
+pub mod Brackets
+pub mod Elements
+pub mod Declarators
+pub mod Values

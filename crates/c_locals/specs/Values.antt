@@ -1,0 +1,144 @@
+-- The blocks of a unit without local arrays that have values.
+use Rattle.std.specs.Prelude.{ℕ, ◌+◌, ◌-◌, Bool, true, false, not, ◌&&◌, ◌||◌, nat_eq, if◌then◌else◌, List, [], ◌∷◌}
+use Rattle.std.specs.Prelude.{◌++◌}
+use Rattle.c_tree.specs.declared.Form.{Form}
+use Rattle.c_tree.specs.declared.Form.TheVariants as form
+use Rattle.c_tree.specs.declared.Key.{Key}
+use Rattle.c_tree.specs.declared.Key.TheVariants as key
+use Rattle.c_tree.specs.declared.Mark.TheVariants as mark
+use Rattle.c_tree.specs.declared.Lexeme.{Lexeme}
+use Rattle.c_lex.specs.Lexes.{Tokens}
+use Rattle.c_library.specs.Calls.{is_mark}
+use Rattle.c_locals.specs.declared.walk.Part.{Part}
+use Rattle.c_locals.specs.declared.walk.Part.TheVariants as part
+use Rattle.c_locals.specs.declared.walk.Walk.{Walk}
+use Rattle.c_locals.specs.Brackets.{pieces}
+use Rattle.c_locals.specs.Declarators.{declared}
+
+-- DECLARATIONS
+
+-- is it a word of a type of values?
+abbrev pub is_word : Form → Bool
+is_word (form.Key key.Char) = true
+is_word (form.Key key.Short) = true
+is_word (form.Key key.Int) = true
+is_word (form.Key key.Long) = true
+is_word (form.Key key.Signed) = true
+is_word (form.Key key.Unsigned) = true
+is_word _ = false
+
+-- do the tokens begin with a `{`?
+abbrev pub begins_list : Tokens → Bool
+begins_list [] = false
+begins_list (t ∷ ts) = is_mark mark.LeftBrace t.form
+
+-- does a `=` stand before a `{` anywhere?
+abbrev pub has_list : Tokens → Bool
+has_list [] = false
+has_list (t ∷ ts) = (is_mark mark.Assign t.form && begins_list ts) || has_list ts
+
+-- is it a name?
+abbrev pub is_name : Form → Bool
+is_name (form.Name w) = true
+is_name _ = false
+
+-- do the tokens begin with a name?
+abbrev pub begins_name : Tokens → Bool
+begins_name [] = false
+begins_name (t ∷ ts) = is_name t.form
+
+-- does each of the pieces?
+abbrev pub are_named : List Tokens → Bool
+are_named [] = true
+are_named (p ∷ ps) = begins_name p && are_named ps
+
+-- each declarator as a declaration of its own
+abbrev pub each_declared : Tokens → List Tokens → Tokens
+each_declared type [] = []
+each_declared type ([] ∷ ps) = each_declared type ps
+each_declared type ((n ∷ ts) ∷ ps) = declared type n ts ++ each_declared type ps
+
+-- The declaration of these words and this body, up to its `;`: cut into single ones, if a list in braces stands in
+-- it, so that values are evaluated in the order of the text (C17 6.7.6, paragraph 3).
+abbrev pub local : Tokens → Tokens → Lexeme → Tokens
+local type body end =
+    if has_list body && are_named (pieces body) then each_declared type (pieces body)
+    else type ++ (body ++ end ∷ [])
+
+-- WHERE THEY STAND
+
+-- before the first token of a unit
+abbrev pub beginning : Walk
+beginning = record { is_behind_paren = false; blocks = 0; parens = 0; part = part.Code }
+
+-- does a declaration begin with this token: a word of a type in a block, outside of other brackets?
+abbrev pub begins : Walk → Form → Bool
+begins w f = not (nat_eq w.blocks 0) && (nat_eq w.parens 0 && is_word f)
+
+-- how many braces are open behind a token outside of declarations: the first is a function's
+abbrev pub blocks_past : Walk → Form → ℕ
+blocks_past w f =
+    if is_mark mark.LeftBrace f
+    then (if nat_eq w.blocks 0 && not w.is_behind_paren then 0 else w.blocks + 1)
+    else (if is_mark mark.RightBrace f then w.blocks - 1 else w.blocks)
+
+-- how many brackets of the other kinds are open behind it, within a function
+abbrev pub parens_past : Walk → Form → ℕ
+parens_past w f =
+    if nat_eq w.blocks 0 then 0
+    else if is_mark mark.LeftParen f || is_mark mark.LeftBracket f then w.parens + 1
+    else if is_mark mark.RightParen f || is_mark mark.RightBracket f then w.parens - 1 else w.parens
+
+-- is it a further word of the declaration's type?
+abbrev pub adds_word : Part → Form → Bool
+adds_word part.Words f = is_word f
+adds_word _ f = false
+
+-- the part behind a token of a declaration: the words of its type, or what follows them
+abbrev pub declaring : Part → Form → Part
+declaring p f = if is_mark mark.Semicolon f then part.Code else if adds_word p f then part.Words else part.Body
+
+-- behind a token
+abbrev pub past : Walk → Part → Form → Walk
+past w part.Code f =
+    record {
+      is_behind_paren = is_mark mark.RightParen f;
+      blocks = blocks_past w f;
+      parens = parens_past w f;
+      part = if begins w f then part.Words else part.Code;
+    }
+past w p f = record w { part = declaring p f }
+
+-- the words of a declaration's type, with a token that it goes on with
+abbrev pub words_added : Part → Tokens → Lexeme → Tokens
+words_added p type t = if adds_word p t.form then type ++ t ∷ [] else type
+
+-- the tokens behind them, with it
+abbrev pub body_added : Part → Tokens → Lexeme → Tokens
+body_added p body t = if adds_word p t.form then body else body ++ t ∷ []
+
+-- the words of the declaration's type so far, behind a token
+abbrev pub words_past : Walk → Part → Tokens → Lexeme → Tokens
+words_past w part.Code type t = if begins w t.form then t ∷ [] else []
+words_past w p type t = if is_mark mark.Semicolon t.form then [] else words_added p type t
+
+-- the tokens behind them so far
+abbrev pub body_past : Part → Tokens → Lexeme → Tokens
+body_past part.Code body t = []
+body_past p body t = if is_mark mark.Semicolon t.form then [] else body_added p body t
+
+-- what a token puts: itself, or at the end of a declaration the whole of this
+abbrev pub puts : Walk → Part → Tokens → Tokens → Lexeme → Tokens
+puts w part.Code type body t = if begins w t.form then [] else t ∷ []
+puts w _ type body t = if is_mark mark.Semicolon t.form then local type body t else []
+
+-- the tokens from here on, behind so much of a declaration
+abbrev pub walked : Walk → Tokens → Tokens → Tokens → Tokens
+walked w type body [] = type ++ body
+walked w type body (t ∷ ts) =
+    puts w w.part type body t
+    ++ walked (past w w.part t.form) (words_past w w.part type t) (body_past w.part body t) ts
+
+-- A unit in which a local array has values no more: its declaration goes without, and statements set each element.
+abbrev pub with_values : Tokens → Tokens
+with_values ts = walked beginning [] [] ts
