@@ -1,1 +1,2 @@
 pub mod PutBehind
+pub mod SplitFacts

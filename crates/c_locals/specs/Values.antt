@@ -52,11 +52,15 @@ abbrev pub are_named : List Tokens → Bool
 are_named [] = true
 are_named (p ∷ ps) = begins_name p && are_named ps
 
--- each declarator as a declaration of its own
+-- a declarator as a declaration of its own
+abbrev pub one_declared : Tokens → Tokens → Tokens
+one_declared type [] = []
+one_declared type (n ∷ ts) = declared type n ts
+
+-- and each of these
 abbrev pub each_declared : Tokens → List Tokens → Tokens
 each_declared type [] = []
-each_declared type ([] ∷ ps) = each_declared type ps
-each_declared type ((n ∷ ts) ∷ ps) = declared type n ts ++ each_declared type ps
+each_declared type (p ∷ ps) = one_declared type p ++ each_declared type ps
 
 -- The declaration of these words and this body, up to its `;`: cut into single ones, if a list in braces stands in
 -- it, so that values are evaluated in the order of the text (C17 6.7.6, paragraph 3).

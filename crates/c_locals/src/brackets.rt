@@ -1,6 +1,6 @@
 //! Tokens outside of brackets.
 
-ghost use Rattle.std.specs.Prelude.{◌≡◌, ◌<◌, ◌≤◌, ◌+◌, ◌∷◌, [], length, option_map, None, Some, MatchOption};
+ghost use Rattle.std.specs.Prelude.{◌≡◌, ◌<◌, ◌≤◌, ◌+◌, ◌∷◌, length, option_map, IfSome};
 ghost use Rattle.c_library.specs.Calls.{is_mark};
 ghost use Rattle.c_locals.specs.Brackets as brackets;
 
@@ -49,6 +49,8 @@ pub fn divides(mark: Mark, depth: usize, token: &Lexeme) -> bool
 }
 
 /// The tokens before the first such punctuator outside of brackets, and those behind it.
+#[tactic(auto, using(crate::proofs::SplitFacts::goes_on, crate::proofs::SplitFacts::divided,
+    crate::proofs::SplitFacts::begins))]
 pub fn split<'a>(mark: Mark, tokens: &'a [Lexeme]) -> Option<(&'a [Lexeme], &'a [Lexeme])>
     ensures { option_map (λ p. (p.0.now, p.1.now)) result ≡ brackets.split mark tokens.now }
 {
@@ -69,8 +71,10 @@ pub fn split<'a>(mark: Mark, tokens: &'a [Lexeme]) -> Option<(&'a [Lexeme], &'a 
 }
 
 /// The first piece before a comma outside of brackets, and the tokens behind the comma, if there is one.
+#[tactic(auto, using(crate::proofs::SplitFacts::pieces_split, crate::proofs::SplitFacts::shorter))]
 pub fn first_piece(tokens: &[Lexeme]) -> (&[Lexeme], Option<&[Lexeme]>)
-    ensures { brackets.pieces tokens.now
+    ensures shorter { IfSome result.1 (λ more. length more.now < length tokens.now) }
+    ensures pieces { brackets.pieces tokens.now
         ≡ result.0.now ∷ brackets.further_pieces (option_map (λ more. more.now) result.1) }
 {
     match split(Mark::Comma, tokens) {

@@ -299,6 +299,7 @@ fn put_row(
 }
 
 /// Puts the rows.
+#[tactic(auto, using(crate::proofs::PutBehind::both))]
 fn put_rows(
     alloc: Global,
     name: &Lexeme,

@@ -164,7 +164,7 @@ pub fn count(values: &[Lexeme]) -> usize
     let mut depth: usize = 0;
     let mut rest = values;
     while let [token, more @ ..] = rest {
-        if more.is_empty() {
+        if let [] = more {
             return count + 1;
         }
         count = index_past(count, depth, token);

@@ -78,7 +78,7 @@ fn put_piece(
     piece: &[Lexeme],
     out: &mut Output,
 ) -> Result<(), LibraryFault>
-    ensures { Gives (put_all most_tokens (values.each_declared words.now (piece.now ∷ [])) out.old)
+    ensures { Gives (put_all most_tokens (values.one_declared words.now piece.now) out.old)
         result out.new }
 {
     match piece {
@@ -88,6 +88,7 @@ fn put_piece(
 }
 
 /// Puts each declarator as a declaration of its own.
+#[tactic(auto, using(crate::proofs::PutBehind::both))]
 fn put_each(
     alloc: Global,
     words: &[Lexeme],
@@ -222,6 +223,7 @@ fn put_next(
 }
 
 /// Puts the unit.
+#[tactic(auto, using(crate::proofs::PutBehind::both))]
 fn put_unit(alloc: Global, tokens: &[Lexeme], out: &mut Output) -> Result<(), LibraryFault>
     ensures { Gives (put_all most_tokens (values.with_values tokens.now) out.old) result out.new }
 {
