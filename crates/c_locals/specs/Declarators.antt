@@ -80,13 +80,16 @@ abbrev pub set_rows : Lexeme → Tokens → ℕ → List Tokens → Tokens
 set_rows n width k [] = []
 set_rows n width k (p ∷ ps) = set_row n width k (braced p) ++ set_rows n width (k + 1) ps
 
+-- a loop over the rows from this number on that sets each to 0
+abbrev pub zero_row : Lexeme → Tokens → Tokens → ℕ → Tokens
+zero_row n height width k =
+    loop n.offset row_counter k height
+    ++ zero_from n.offset (element n.offset (n ∷ []) (named row_counter)) 0 width
+
 -- what sets the rows from this number on to 0
 abbrev pub zero_rows : Lexeme → Tokens → Tokens → ℕ → Tokens
 zero_rows n [] width k = []
-zero_rows n height width k =
-    if is_just k height then []
-    else loop n.offset row_counter k height
-    ++ zero_from n.offset (element n.offset (n ∷ []) (named row_counter)) 0 width
+zero_rows n height width k = if is_just k height then [] else zero_row n height width k
 
 -- `TYPE NAME [ HEIGHT ] [ WIDTH ] ;`, and what sets the rows
 abbrev pub grid : Tokens → Lexeme → Tokens → Tokens → List Tokens → ℕ → Tokens

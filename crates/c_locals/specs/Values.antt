@@ -27,16 +27,6 @@ is_word (form.Key key.Signed) = true
 is_word (form.Key key.Unsigned) = true
 is_word _ = false
 
--- do the tokens begin with a `{`?
-abbrev pub begins_list : Tokens → Bool
-begins_list [] = false
-begins_list (t ∷ ts) = is_mark mark.LeftBrace t.form
-
--- does a `=` stand before a `{` anywhere?
-abbrev pub has_list : Tokens → Bool
-has_list [] = false
-has_list (t ∷ ts) = (is_mark mark.Assign t.form && begins_list ts) || has_list ts
-
 -- is it a name?
 abbrev pub is_name : Form → Bool
 is_name (form.Name w) = true
@@ -64,54 +54,70 @@ each_declared type (p ∷ ps) = one_declared type p ++ each_declared type ps
 
 -- The declaration of these words and this body, up to its `;`: cut into single ones, if a list in braces stands in
 -- it, so that values are evaluated in the order of the text (C17 6.7.6, paragraph 3).
-abbrev pub local : Tokens → Tokens → Lexeme → Tokens
-local type body end =
-    if has_list body && are_named (pieces body) then each_declared type (pieces body)
+abbrev pub local : Bool → Tokens → Tokens → Lexeme → Tokens
+local has_list type body end =
+    if has_list && are_named (pieces body) then each_declared type (pieces body)
     else type ++ (body ++ end ∷ [])
 
 -- WHERE THEY STAND
 
 -- before the first token of a unit
 abbrev pub beginning : Walk
-beginning = record { is_behind_paren = false; blocks = 0; parens = 0; part = part.Code }
+beginning = record { blocks = 0; parens = 0; has_list = false; part = part.Code }
 
--- does a declaration begin with this token: a word of a type in a block, outside of other brackets?
+-- how many braces are open behind a token
+abbrev pub blocks_past : ℕ → Form → ℕ
+blocks_past n f = if is_mark mark.LeftBrace f then n + 1 else if is_mark mark.RightBrace f then n - 1 else n
+
+-- does it open a bracket of the other kinds?
+abbrev pub opens : Form → Bool
+opens f = is_mark mark.LeftParen f || is_mark mark.LeftBracket f
+
+-- does it close one?
+abbrev pub closes : Form → Bool
+closes f = is_mark mark.RightParen f || is_mark mark.RightBracket f
+
+-- how many of these are open behind a token
+abbrev pub parens_past : ℕ → Form → ℕ
+parens_past n f = if opens f then n + 1 else if closes f then n - 1 else n
+
+-- does a declaration begin with this token: a word of a type in braces, outside of other brackets?
 abbrev pub begins : Walk → Form → Bool
 begins w f = not (nat_eq w.blocks 0) && (nat_eq w.parens 0 && is_word f)
 
--- how many braces are open behind a token outside of declarations: the first is a function's
-abbrev pub blocks_past : Walk → Form → ℕ
-blocks_past w f =
-    if is_mark mark.LeftBrace f
-    then (if nat_eq w.blocks 0 && not w.is_behind_paren then 0 else w.blocks + 1)
-    else (if is_mark mark.RightBrace f then w.blocks - 1 else w.blocks)
+-- do the tokens begin with a `{`?
+abbrev pub begins_list : Tokens → Bool
+begins_list [] = false
+begins_list (t ∷ ts) = is_mark mark.LeftBrace t.form
 
--- how many brackets of the other kinds are open behind it, within a function
-abbrev pub parens_past : Walk → Form → ℕ
-parens_past w f =
-    if nat_eq w.blocks 0 then 0
-    else if is_mark mark.LeftParen f || is_mark mark.LeftBracket f then w.parens + 1
-    else if is_mark mark.RightParen f || is_mark mark.RightBracket f then w.parens - 1 else w.parens
+-- within so many braces, is it a `=` before a `{`?
+abbrev pub sets_list : ℕ → Lexeme → Tokens → Bool
+sets_list n t ts = not (nat_eq n 0) && (is_mark mark.Assign t.form && begins_list ts)
 
 -- is it a further word of the declaration's type?
 abbrev pub adds_word : Part → Form → Bool
 adds_word part.Words f = is_word f
 adds_word _ f = false
 
--- the part behind a token of a declaration: the words of its type, or what follows them
-abbrev pub declaring : Part → Form → Part
-declaring p f = if is_mark mark.Semicolon f then part.Code else if adds_word p f then part.Words else part.Body
+-- the part behind a token: a declaration goes up to its `;`
+abbrev pub part_past : Walk → Part → Form → Part
+part_past w part.Code f = if begins w f then part.Words else part.Code
+part_past w p f = if is_mark mark.Semicolon f then part.Code else if adds_word p f then part.Words else part.Body
 
--- behind a token
-abbrev pub past : Walk → Part → Form → Walk
-past w part.Code f =
+-- has the declaration a list in braces so far?
+abbrev pub list_past : Walk → Part → Lexeme → Tokens → Bool
+list_past w part.Code t ts = false
+list_past w _ t ts = w.has_list || sets_list w.blocks t ts
+
+-- behind a token, before these
+abbrev pub past : Walk → Lexeme → Tokens → Walk
+past w t ts =
     record {
-      is_behind_paren = is_mark mark.RightParen f;
-      blocks = blocks_past w f;
-      parens = parens_past w f;
-      part = if begins w f then part.Words else part.Code;
+      blocks = blocks_past w.blocks t.form;
+      parens = parens_past w.parens t.form;
+      has_list = list_past w w.part t ts;
+      part = part_past w w.part t.form;
     }
-past w p f = record w { part = declaring p f }
 
 -- the words of a declaration's type, with a token that it goes on with
 abbrev pub words_added : Part → Tokens → Lexeme → Tokens
@@ -134,15 +140,25 @@ body_past p body t = if is_mark mark.Semicolon t.form then [] else body_added p 
 -- what a token puts: itself, or at the end of a declaration the whole of this
 abbrev pub puts : Walk → Part → Tokens → Tokens → Lexeme → Tokens
 puts w part.Code type body t = if begins w t.form then [] else t ∷ []
-puts w _ type body t = if is_mark mark.Semicolon t.form then local type body t else []
+puts w _ type body t = if is_mark mark.Semicolon t.form then local w.has_list type body t else []
 
 -- the tokens from here on, behind so much of a declaration
 abbrev pub walked : Walk → Tokens → Tokens → Tokens → Tokens
 walked w type body [] = type ++ body
 walked w type body (t ∷ ts) =
-    puts w w.part type body t
-    ++ walked (past w w.part t.form) (words_past w w.part type t) (body_past w.part body t) ts
+    puts w w.part type body t ++ walked (past w t ts) (words_past w w.part type t) (body_past w.part body t) ts
 
 -- A unit in which a local array has values no more: its declaration goes without, and statements set each element.
 abbrev pub with_values : Tokens → Tokens
 with_values ts = walked beginning [] [] ts
+
+-- UNITS WITHOUT
+
+-- within so many braces, does no `=` stand before a `{`?
+abbrev pub no_values_from : ℕ → Tokens → Bool
+no_values_from n [] = true
+no_values_from n (t ∷ ts) = not (sets_list n t ts) && no_values_from (blocks_past n t.form) ts
+
+-- does no list in braces stand in braces?
+abbrev pub has_no_values : Tokens → Bool
+has_no_values ts = no_values_from 0 ts

@@ -322,8 +322,26 @@ fn put_rows(
     Ok(())
 }
 
-/// Puts what sets the rows from this number on to 0.
+/// Puts a loop over the rows from this number on that sets each to 0.
 #[tactic(auto, using(crate::proofs::PutBehind::both))]
+fn put_zero_row(
+    alloc: Global,
+    name: &Lexeme,
+    width: &[Lexeme],
+    k: usize,
+    height: &[Lexeme],
+    out: &mut Output,
+) -> Result<(), LibraryFault>
+    ensures { Gives (put_all most_tokens (declarators.zero_row name.now height.now width.now k) out.old)
+        result out.new }
+{
+    let word = Word::from_slice(alloc, b".row")?;
+    let of = element_of(alloc, name, Form::Name(word))?;
+    put_loop(alloc, name.offset, b".row", k, height, out)?;
+    put_zero_from(alloc, name.offset, of.as_slice(), 0, width, out)
+}
+
+/// Puts what sets the rows from this number on to 0.
 fn put_zero_rows(
     alloc: Global,
     name: &Lexeme,
@@ -335,13 +353,15 @@ fn put_zero_rows(
     ensures { Gives (put_all most_tokens (declarators.zero_rows name.now height.now width.now k) out.old)
         result out.new }
 {
-    if height.is_empty() || is_just(k, height) {
-        return Ok(());
+    match height {
+        [] => Ok(()),
+        [_, ..] => {
+            if is_just(k, height) {
+                return Ok(());
+            }
+            put_zero_row(alloc, name, width, k, height, out)
+        }
     }
-    let word = Word::from_slice(alloc, b".row")?;
-    let of = element_of(alloc, name, Form::Name(word))?;
-    put_loop(alloc, name.offset, b".row", k, height, out)?;
-    put_zero_from(alloc, name.offset, of.as_slice(), 0, width, out)
 }
 
 /// Puts the declaration of an array with two sizes.

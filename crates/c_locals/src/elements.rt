@@ -306,11 +306,16 @@ pub fn put_zero_from(
 ) -> Result<(), LibraryFault>
     ensures { Gives (put_all most_tokens (elements.zero_from at of.now n size.now) out.old) result out.new }
 {
-    if size.is_empty() || is_just(n, size) {
-        return Ok(());
+    match size {
+        [] => Ok(()),
+        [_, ..] => {
+            if is_just(n, size) {
+                return Ok(());
+            }
+            put_loop(alloc, at, b".element", n, size, out)?;
+            put_zero_at(alloc, at, of, out)
+        }
     }
-    put_loop(alloc, at, b".element", n, size, out)?;
-    put_zero_at(alloc, at, of, out)
 }
 
 /// Puts what sets the elements to a list's values, and to 0 where it has none.

@@ -1,13 +1,16 @@
-//! Objects of blocks (docs/LANGUAGE.md): local arrays with values as tokens that the grammar knows.
+//! Objects of blocks (docs/LANGUAGE.md): static objects and local arrays with values, as tokens that the grammar knows.
 #![tactic(auto)]
 
 mod brackets;
 mod declarators;
 mod elements;
-mod put;
-mod values;
+mod names;
+mod objects;
 #[cfg(test)]
-mod values_tests;
+mod objects_tests;
+mod put;
+mod statics;
+mod values;
 mod walk;
 
-pub use crate::values::with_values;
+pub use crate::objects::{has_no_objects, with_objects};

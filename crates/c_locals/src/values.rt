@@ -1,6 +1,6 @@
 //! A unit without local arrays that have values.
 
-ghost use Rattle.std.specs.Prelude.{◌≡◌, [], ◌∷◌, if◌then◌else◌, Ok, IfOk, IfErr, OnOk};
+ghost use Rattle.std.specs.Prelude.{◌≡◌, ◌≤◌, ◌+◌, length, [], ◌∷◌, if◌then◌else◌, Ok, IfOk, IfErr, OnOk};
 ghost use Rattle.c_tree.specs.Limits.{most_tokens};
 ghost use Rattle.c_library.specs.Within.{within};
 ghost use Rattle.c_library.specs.inside.Gives.{Gives, Refuses};
@@ -11,37 +11,13 @@ ghost use Rattle.c_locals.specs.Values as values;
 use crate::brackets::{first_piece, is_mark};
 use crate::declarators::put_declared;
 use crate::put::{put_token, put_tokens};
-use crate::walk::{Part, Walk, is_word};
+use crate::walk::{Part, Walk, adds_word, blocks_past, sets_list};
 use base::Items;
 use c_library::{LibraryFault, Output, token_copied};
 use c_tree::{Form, Lexeme, Mark};
 use std::alloc::{AllocError, Global};
 
 // DECLARATIONS
-
-/// Do the tokens begin with a `{`?
-fn begins_list(tokens: &[Lexeme]) -> bool
-    ensures { result ≡ values.begins_list tokens.now }
-{
-    match tokens {
-        [] => false,
-        [token, ..] => is_mark(Mark::LeftBrace, &token.form),
-    }
-}
-
-/// Does a `=` stand before a `{` anywhere?
-fn has_list(tokens: &[Lexeme]) -> bool
-    ensures { result ≡ values.has_list tokens.now }
-{
-    let mut rest = tokens;
-    while let [token, more @ ..] = rest {
-        if is_mark(Mark::Assign, &token.form) && begins_list(more) {
-            return true;
-        }
-        rest = more;
-    }
-    false
-}
 
 /// Do the tokens begin with a name?
 fn begins_name(tokens: &[Lexeme]) -> bool
@@ -111,14 +87,15 @@ fn put_each(
 #[tactic(auto, using(crate::proofs::PutBehind::both))]
 fn put_local(
     alloc: Global,
+    has_list: bool,
     words: &[Lexeme],
     body: &[Lexeme],
     end: &Lexeme,
     out: &mut Output,
 ) -> Result<(), LibraryFault>
-    ensures { Gives (put_all most_tokens (values.local words.now body.now end.now) out.old) result out.new }
+    ensures { Gives (put_all most_tokens (values.local has_list words.now body.now end.now) out.old) result out.new }
 {
-    if has_list(body) && are_named(body) {
+    if has_list && are_named(body) {
         put_each(alloc, words, body, out)
     } else {
         put_tokens(alloc, words, out)?;
@@ -167,7 +144,7 @@ impl Held {
         ensures body { OnOk result (self.new.body ≡ values.body_added part self.old.body token.now) }
     {
         let token = token_copied(alloc, token)?;
-        if part == Part::Words && is_word(&token.form) {
+        if adds_word(part, &token.form) {
             self.words.push(token)
         } else {
             self.body.push(token)
@@ -214,7 +191,7 @@ fn put_next(
         }
         _ => {
             if is_mark(Mark::Semicolon, &token.form) {
-                put_local(alloc, held.words.as_slice(), held.body.as_slice(), token, out)
+                put_local(alloc, walk.has_list, held.words.as_slice(), held.body.as_slice(), token, out)
             } else {
                 Ok(())
             }
@@ -234,11 +211,28 @@ fn put_unit(alloc: Global, tokens: &[Lexeme], out: &mut Output) -> Result<(), Li
     while let [token, more @ ..] = rest {
         put_next(alloc, &walk, &held, token, out)?;
         held.pass(alloc, &walk, token)?;
-        walk = walk.past(&token.form);
+        walk = walk.past(token, more);
         rest = more;
     }
     put_tokens(alloc, held.words.as_slice(), out)?;
     put_tokens(alloc, held.body.as_slice(), out)
+}
+
+/// Does no list in braces stand in braces?
+pub fn has_no_values(tokens: &[Lexeme]) -> bool
+    ensures { result ≡ values.has_no_values tokens.now }
+{
+    let count = tokens.len();
+    let mut blocks: usize = 0;
+    let mut rest = tokens;
+    while let [token, more @ ..] = rest {
+        if sets_list(blocks, token, more) {
+            return false;
+        }
+        blocks = blocks_past(blocks, &token.form);
+        rest = more;
+    }
+    true
 }
 
 /// The unit in which no local array has values, or the first token that is too many.

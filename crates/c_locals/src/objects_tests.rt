@@ -1,6 +1,6 @@
-//! Units with local arrays that have values, and what they come to: a name that begins with `z_` stands for one with a `.`.
+//! Units with objects of blocks, and what they come to: `z_` in a name stands for `.`.
 
-use crate::with_values;
+use crate::with_objects;
 use c_lex::lex;
 use c_library::LibraryFault;
 use c_tree::{Form, Lexeme};
@@ -42,6 +42,25 @@ const ROWS: &[(&str, &str)] = &[
         "int f(void) { int a[3][1] = {{1}, }; }",
         "int f(void) { int a[3][1]; a[0][0] = 1; for (int z_row = 1; z_row < (3); z_row++) \
          for (int z_element = 0; z_element < (1); z_element++) a[z_row][z_element] = 0; }",
+    ),
+    // 6.2.4, paragraph 3: in front of the function, by a name of its own, up to the end of the block.
+    (
+        "int g; int f(int x) { static int n = 3, a[2] = {1, 2}; { static long n; n++; } a[n]++; return (int) n; } \
+         int h(int n) { return n; }",
+        "int g; int nz_0000 = 3, az_0001[2] = {1, 2}; long nz_0002; int f(int x) { int n; int a; \
+         { int n; nz_0002++; } az_0001[nz_0000]++; return (int) nz_0000; } int h(int n) { return n; }",
+    ),
+    // 6.2.1, paragraph 4: an inner declaration hides it.
+    (
+        "int f(void) { static int n; { int m = n, n = m, k[2] = {n, 2}; n = 1; } for (int i = n;;) n = (char) n; }",
+        "int nz_0000; int f(void) { int n; { int m = nz_0000; int n = m; int k[2]; k[0] = n; k[1] = 2; n = 1; } \
+         for (int i = nz_0000;;) nz_0000 = (char) nz_0000; }",
+    ),
+    // Refused by the `static` that stays: a function, a scope without a known end, and what is cut off.
+    (
+        "int f(void) { static int n; for (int i, n = 2;;) ; static int g(void); } int h(void) { static int x }",
+        "int nz_0000; int gz_0001(void); int f(void) { int n; for (int i, static n = 2;;) ; int g; static } \
+         int xz_0002 int h(void) { int x; static }",
     ),
     // What the grammar refuses stays.
     (
@@ -89,8 +108,7 @@ fn told(alloc: Global, tokens: &[Lexeme]) -> Result<String, AllocError> {
 }
 
 fn assert_row(rt: &impl Abort, alloc: Global, unit: &str, want: &str) -> Result<(), AllocError> {
-    let tokens = tokens_of(rt, alloc, unit);
-    match with_values(alloc, &tokens) {
+    match with_objects(alloc, tokens_of(rt, alloc, unit)) {
         Ok(got) => {
             let got = told(alloc, &got)?;
             let want = told(alloc, &tokens_of(rt, alloc, want))?;
@@ -103,7 +121,7 @@ fn assert_row(rt: &impl Abort, alloc: Global, unit: &str, want: &str) -> Result<
 }
 
 #[test]
-fn local_arrays_are_set(rt: HostRuntime) -> Result<(), Fail> {
+fn objects_are_told(rt: HostRuntime) -> Result<(), Fail> {
     for (unit, want) in ROWS.iter() {
         assert_row(&rt, rt.alloc(), unit, want)?;
     }
