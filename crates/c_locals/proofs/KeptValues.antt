@@ -26,7 +26,7 @@ use Rattle.c_locals.proofs.KeptElements.{filled_keeps}
 -- PARTS OF A DECLARATOR
 
 -- it holds of what is there
-EachOf : Fact → Option Tokens → Type 0
+abbrev EachOf : Fact → Option Tokens → Type 0
 EachOf P None = Unit {0}
 EachOf P (Some ts) = EachToken P ts
 

@@ -20,7 +20,7 @@ use Rattle.c_locals.specs.Statics.{code_past, part_past, bracketed, ends_item, f
 use Rattle.c_locals.specs.Statics.{with_statics}
 
 -- is no static declaration read?
-is_quiet : Mode → Bool
+abbrev is_quiet : Mode → Bool
 is_quiet mode.Static = false
 is_quiet _ = true
 
@@ -94,14 +94,13 @@ not_first s x y t false e h = h
 not_found : (w : Bytes) (es : List Entry) → es ≡ [] → is_none (found w es) ≡ true
 not_found w es e = ap (λ (xs : List Entry). is_none (found w xs)) e
 
+hides_by : (s : State) (w : Bytes) (t : Lexeme) (b : Bool) → Quiet s → b ≡ true
+    → Goes s (to_item (t ∷ []) (cond b s (cond (nat_eq s.parens 0) (hidden w s) (refused t.offset s)))) t
+hides_by s w t true q e = put_goes s t t q refl
+hides_by s w t false q e = absurd (cc)
+
 hides_goes : (s : State) (w : Bytes) (t : Lexeme) → Quiet s → Goes s (hides w t s) t
-hides_goes s w t q =
-    by_test (is_none (found w s.names)) (not_found w s.names q.names)
-where
-  by_test : (b : Bool) → b ≡ true
-      → Goes s (to_item (t ∷ []) (cond b s (cond (nat_eq s.parens 0) (hidden w s) (refused t.offset s)))) t
-  by_test true e = put_goes s t t q refl
-  by_test false e = absurd (cc)
+hides_goes s w t q = hides_by s w t (is_none (found w s.names)) q (not_found w s.names q.names)
 
 local_by_goes : (s : State) (t : Lexeme) (o : Option Bytes) → Quiet s → Goes s (local_by t o s) t
 local_by_goes s t None q =
@@ -145,18 +144,18 @@ bracketed_goes s s' t f g = record {
 }
 
 -- all that is read
-told : State → Tokens
+abbrev told : State → Tokens
 told s = s.out ++ s.item
 
 -- a token more was read
 record Reads (s s' : State) (t : Lexeme) : Type 0 where
   quiet : Quiet s'
-  told : told s' ≡ told s ++ t ∷ []
+  all : told s' ≡ told s ++ t ∷ []
 
 goes_reads : (s s' : State) (t : Lexeme) → Goes s s' t → Reads s s' t
 goes_reads s s' t g = record {
   quiet = g.quiet;
-  told = ap (λ (xs : Tokens). xs ++ s'.item) g.out
+  all = ap (λ (xs : Tokens). xs ++ s'.item) g.out
       ∙ ap (λ (xs : Tokens). s.out ++ xs) g.item
       ∙ sym (append_assoc s.out s.item (t ∷ []));
 }
@@ -168,9 +167,9 @@ nothing_behind (x ∷ xs) = ap (λ (ys : Tokens). x ∷ ys) (nothing_behind xs)
 flush_reads : (s s' : State) (t : Lexeme) → Goes s s' t → Reads s (flushed s') t
 flush_reads s s' t g = record {
   quiet = record { front = refl; names = g.quiet.names; mode = g.quiet.mode };
-  told = nothing_behind (s'.out ++ (s'.front ++ s'.item))
+  all = nothing_behind (s'.out ++ (s'.front ++ s'.item))
       ∙ ap (λ (xs : Tokens). s'.out ++ (xs ++ s'.item)) g.quiet.front
-      ∙ (goes_reads s s' t g).told;
+      ∙ (goes_reads s s' t g).all;
 }
 
 by_end : (s s' : State) (t : Lexeme) (b : Bool) → Goes s s' t → Reads s (cond b (flushed s') s') t
@@ -184,7 +183,7 @@ reads s t q e =
     (bracketed_goes s (part_past s.mode t s) t t.form (part_goes s s.mode t q q.mode e))
 
 -- is none of the tokens `static`?
-pub AllPlain : Tokens → Type 0
+abbrev pub AllPlain : Tokens → Type 0
 AllPlain [] = Unit {0}
 AllPlain (t ∷ ts) = (is_static t.form ≡ false) × AllPlain ts
 
@@ -194,7 +193,7 @@ stay_from s [] q h =
 stay_from s (t ∷ ts) q h =
     let r : Reads s (past t s) t = reads s t q h.0 in
     stay_from (past t s) ts r.quiet h.1
-    ∙ ap (λ (xs : Tokens). xs ++ ts) r.told
+    ∙ ap (λ (xs : Tokens). xs ++ ts) r.all
     ∙ append_assoc (told s) (t ∷ []) ts
 
 -- a unit without `static` is its own

@@ -16,7 +16,7 @@ use Rattle.c_locals.specs.Values.{past, words_added, body_added, words_past, bod
 use Rattle.c_locals.specs.Values.{each_declared, walked, with_values, no_values_from, has_no_values}
 
 -- what is held so far fits the part
-Fits : Part → Tokens → Tokens → Type 0
+abbrev Fits : Part → Tokens → Tokens → Type 0
 Fits part.Code type body = (type ≡ []) × (body ≡ [])
 Fits part.Words type body = body ≡ []
 Fits part.Body type body = Unit {0}
