@@ -7,6 +7,7 @@ use Rattle.c_tree.specs.declared.Mark.TheVariants as mark
 use Rattle.c_lex.specs.Lexes.{Tokens}
 use Rattle.c_locals.specs.Brackets.{depth_past, divides, Parts, in_front, split_from, split, before_first, pieces_from}
 use Rattle.c_locals.specs.Brackets.{pieces}
+use Rattle.c_locals.specs.Declarators.{ends}
 
 -- the parts, with these tokens in front
 abbrev pub extended : Tokens → Option Parts → Option Parts
@@ -118,3 +119,34 @@ shorter m ts = shorter_from m 0 ts
 abbrev pub left : Option Tokens → ℕ
 left None = 0
 left (Some ts) = suc (length ts)
+
+-- is there none?
+is_nothing : List Tokens → Bool
+is_nothing [] = true
+is_nothing (p ∷ ps) = false
+
+one_first : (t : Lexeme) (ps : List Tokens) → is_nothing (before_first t ps) ≡ false
+unfolding is_nothing
+one_first t [] = refl
+one_first t (p ∷ ps) = refl
+
+one_by : (b : Bool) (t : Lexeme) (ps qs : List Tokens) → is_nothing (cond b ([] ∷ ps) (before_first t qs)) ≡ false
+unfolding is_nothing
+one_by true t ps qs = refl
+one_by false t ps qs = one_first t qs
+
+one_piece : (d : ℕ) (ts : Tokens) → is_nothing (pieces_from d ts) ≡ false
+unfolding is_nothing
+one_piece d [] = refl
+one_piece d (t ∷ ts) =
+    one_by (divides mark.Comma d t) t (pieces_from 0 ts) (pieces_from (depth_past t.form d) ts)
+
+not_end : (p : Tokens) (ps : List Tokens) → is_nothing ps ≡ false → ends p ps ≡ false
+unfolding is_nothing
+not_end p [] e = absurd (cc)
+not_end [] (q ∷ ps) e = refl
+not_end (t ∷ ts) (q ∷ ps) e = refl
+
+-- tokens have one piece at least
+pub no_end : (p ts : Tokens) → ends p (pieces ts) ≡ false
+no_end p ts = not_end p (pieces ts) (one_piece 0 ts)

@@ -80,11 +80,13 @@ abbrev pub set_rows : Lexeme → Tokens → ℕ → List Tokens → Tokens
 set_rows n width k [] = []
 set_rows n width k (p ∷ ps) = set_row n width k (braced p) ++ set_rows n width (k + 1) ps
 
+-- what sets the row of the counter to 0
+abbrev pub zero_width : Lexeme → Tokens → Tokens
+zero_width n width = zero_from n.offset (element n.offset (n ∷ []) (named row_counter)) 0 width
+
 -- a loop over the rows from this number on that sets each to 0
 abbrev pub zero_row : Lexeme → Tokens → Tokens → ℕ → Tokens
-zero_row n height width k =
-    loop n.offset row_counter k height
-    ++ zero_from n.offset (element n.offset (n ∷ []) (named row_counter)) 0 width
+zero_row n height width k = loop n.offset row_counter k height ++ zero_width n width
 
 -- what sets the rows from this number on to 0
 abbrev pub zero_rows : Lexeme → Tokens → Tokens → ℕ → Tokens

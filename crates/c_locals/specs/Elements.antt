@@ -119,11 +119,13 @@ loop_steps at name = tokens at (form.Mark mark.RightParen ∷ form.Mark mark.Sem
 abbrev pub loop_ends : ℕ → Tokens
 loop_ends at = tokens at (form.Mark mark.PlusPlus ∷ form.Mark mark.RightParen ∷ [])
 
+-- `SIZE ) ; NAME ++ )`
+abbrev pub loop_rest : ℕ → Bytes → Tokens → Tokens
+loop_rest at name size = size ++ (loop_steps at name ++ loop_ends at)
+
 -- `for ( int NAME = n ; NAME < ( SIZE ) ; NAME ++ )`
 abbrev pub loop : ℕ → Bytes → ℕ → Tokens → Tokens
-loop at name n size =
-    loop_begins at name
-    ++ (loop_starts at name n ++ (loop_tests at ++ (size ++ (loop_steps at name ++ loop_ends at))))
+loop at name n size = loop_begins at name ++ (loop_starts at name n ++ (loop_tests at ++ loop_rest at name size))
 
 -- `= 0 ;`
 abbrev pub zeroes : ℕ → Tokens
@@ -133,10 +135,14 @@ zeroes at = tokens at (form.Mark mark.Assign ∷ number 0 ∷ form.Mark mark.Sem
 abbrev pub zero_at : ℕ → Tokens → Tokens
 zero_at at of = element at of (form.Name counter) ++ zeroes at
 
+-- a loop that sets the elements from this index on to 0
+abbrev pub zero_loop : ℕ → Tokens → ℕ → Tokens → Tokens
+zero_loop at of n size = loop at counter n size ++ zero_at at of
+
 -- what sets the elements from this index on to 0, with this size or none
 abbrev pub zero_from : ℕ → Tokens → ℕ → Tokens → Tokens
 zero_from at of n [] = []
-zero_from at of n size = if is_just n size then [] else loop at counter n size ++ zero_at at of
+zero_from at of n size = if is_just n size then [] else zero_loop at of n size
 
 -- a list's values, and 0 for what has none
 abbrev pub filled : ℕ → Tokens → Tokens → Tokens → Tokens

@@ -20,6 +20,10 @@ abbrev pub found : Bytes → List Entry → Option Bytes
 found w [] = None
 found w (e ∷ es) = if bytes_eq e.name w then e.to else found w es
 
+-- the name of an entry's object, if it has this name, or else that which is known
+abbrev pub or_latest : Bytes → Entry → Option Bytes → Option Bytes
+or_latest w e known = if bytes_eq e.name w then e.to else known
+
 -- the name of the object, or the name itself
 abbrev pub name_for : Bytes → Option Bytes → Bytes
 name_for w None = w

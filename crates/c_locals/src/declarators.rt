@@ -249,11 +249,18 @@ fn element_of(alloc: Global, name: &Lexeme, index: Form) -> Result<Items<Lexeme>
 // ROWS
 
 /// Is the piece nothing, behind a comma that is the last?
+#[tactic(auto, using(crate::proofs::SplitFacts::no_end))]
 fn ends(piece: &[Lexeme], further: Option<&[Lexeme]>) -> bool
     ensures { result ≡ declarators.ends piece.now
         (brackets.further_pieces (option_map (λ more. more.now) further.entry)) }
 {
-    piece.is_empty() && further.is_none()
+    match further {
+        None => match piece {
+            [] => true,
+            [_, ..] => false,
+        },
+        Some(_) => false,
+    }
 }
 
 /// How many rows a list has, if all are in braces.
@@ -322,6 +329,20 @@ fn put_rows(
     Ok(())
 }
 
+/// Puts what sets the row of the counter to 0.
+fn put_zero_width(
+    alloc: Global,
+    name: &Lexeme,
+    width: &[Lexeme],
+    out: &mut Output,
+) -> Result<(), LibraryFault>
+    ensures { Gives (put_all most_tokens (declarators.zero_width name.now width.now) out.old) result out.new }
+{
+    let word = Word::from_slice(alloc, b".row")?;
+    let of = element_of(alloc, name, Form::Name(word))?;
+    put_zero_from(alloc, name.offset, of.as_slice(), 0, width, out)
+}
+
 /// Puts a loop over the rows from this number on that sets each to 0.
 #[tactic(auto, using(crate::proofs::PutBehind::both))]
 fn put_zero_row(
@@ -335,10 +356,8 @@ fn put_zero_row(
     ensures { Gives (put_all most_tokens (declarators.zero_row name.now height.now width.now k) out.old)
         result out.new }
 {
-    let word = Word::from_slice(alloc, b".row")?;
-    let of = element_of(alloc, name, Form::Name(word))?;
     put_loop(alloc, name.offset, b".row", k, height, out)?;
-    put_zero_from(alloc, name.offset, of.as_slice(), 0, width, out)
+    put_zero_width(alloc, name, width, out)
 }
 
 /// Puts what sets the rows from this number on to 0.

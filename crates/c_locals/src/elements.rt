@@ -1,9 +1,10 @@
 //! What sets the elements of an array.
 
-ghost use Rattle.std.specs.Prelude.{◌≡◌, ◌<◌, ◌≤◌, ◌+◌, [], ◌∷◌};
+ghost use Rattle.std.specs.Prelude.{◌≡◌, ◌<◌, ◌≤◌, ◌+◌, [], ◌∷◌, OnOk, IfErr};
 ghost use Rattle.c_tree.specs.Limits.{most_tokens};
 ghost use Rattle.c_library.specs.Places.{tokens};
-ghost use Rattle.c_library.specs.inside.Gives.{Gives};
+ghost use Rattle.c_library.specs.inside.Gives.{Gives, Refuses};
+ghost use Rattle.c_locals.specs.Brackets as brackets;
 ghost use Rattle.c_library.specs.inside.Puts.{put_all};
 ghost use Rattle.c_locals.specs.Elements as elements;
 
@@ -94,6 +95,29 @@ fn put_next(
     }
 }
 
+/// Puts what stands for the first token of these.
+#[tactic(auto, using(crate::proofs::PutBehind::here_goes, crate::proofs::PutBehind::here_fails))]
+fn put_first(
+    alloc: Global,
+    at: u32,
+    of: &[Lexeme],
+    index: usize,
+    depth: usize,
+    token: &Lexeme,
+    behind: &[Lexeme],
+    out: &mut Output,
+) -> Result<(), LibraryFault>
+    requires few { index < 18446744073709551615 }
+    ensures goes { OnOk result (put_all most_tokens
+        (elements.set_from at of.now index depth (token.now ∷ behind.now)) out.old
+        ≡ put_all most_tokens (elements.set_from at of.now (elements.index_past index depth token.now)
+        (brackets.depth_past token.now.form depth) behind.now) out.new) }
+    ensures fails { IfErr result (Refuses (put_all most_tokens
+        (elements.set_from at of.now index depth (token.now ∷ behind.now)) out.old)) }
+{
+    put_here(alloc, at, of, index, depth, token, behind, out)
+}
+
 /// Puts what stands for a token of the value at this index.
 fn put_here(
     alloc: Global,
@@ -117,7 +141,6 @@ fn put_here(
 }
 
 /// Puts the values behind what the first assignment begins with.
-#[tactic(auto, using(crate::proofs::PutBehind::both))]
 fn put_values(
     alloc: Global,
     at: u32,
@@ -132,7 +155,7 @@ fn put_values(
     let mut depth: usize = 0;
     let mut rest = values;
     while let [token, more @ ..] = rest {
-        put_here(alloc, at, of, index, depth, token, more, out)?;
+        put_first(alloc, at, of, index, depth, token, more, out)?;
         index = index_past(index, depth, token);
         depth = depth_past(&token.form, depth);
         rest = more;
@@ -250,6 +273,22 @@ fn put_end(at: u32, out: &mut Output) -> Result<(), LibraryFault>
     out.put(at, Form::Mark(Mark::RightParen))
 }
 
+/// Puts `SIZE ) ; NAME ++ )`.
+#[tactic(auto, using(crate::proofs::PutBehind::both))]
+fn put_loop_rest(
+    alloc: Global,
+    at: u32,
+    name: &[u8],
+    size: &[Lexeme],
+    out: &mut Output,
+) -> Result<(), LibraryFault>
+    ensures { Gives (put_all most_tokens (elements.loop_rest at name.now size.now) out.old) result out.new }
+{
+    put_tokens(alloc, size, out)?;
+    put_step(alloc, at, name, out)?;
+    put_end(at, out)
+}
+
 /// Puts the head of a loop that counts from this number on to a size.
 #[tactic(auto, using(crate::proofs::PutBehind::both))]
 pub fn put_loop(
@@ -265,9 +304,7 @@ pub fn put_loop(
     put_for(alloc, at, name, out)?;
     put_start(alloc, at, name, n, out)?;
     put_test(at, out)?;
-    put_tokens(alloc, size, out)?;
-    put_step(alloc, at, name, out)?;
-    put_end(at, out)
+    put_loop_rest(alloc, at, name, size, out)
 }
 
 /// Puts `= 0 ;`.
@@ -294,8 +331,23 @@ fn put_zero_at(
     put_zero(at, out)
 }
 
-/// Puts what sets the elements from this index on to 0.
+/// Puts a loop that sets the elements from this index on to 0.
 #[tactic(auto, using(crate::proofs::PutBehind::both))]
+fn put_zero_loop(
+    alloc: Global,
+    at: u32,
+    of: &[Lexeme],
+    n: usize,
+    size: &[Lexeme],
+    out: &mut Output,
+) -> Result<(), LibraryFault>
+    ensures { Gives (put_all most_tokens (elements.zero_loop at of.now n size.now) out.old) result out.new }
+{
+    put_loop(alloc, at, b".element", n, size, out)?;
+    put_zero_at(alloc, at, of, out)
+}
+
+/// Puts what sets the elements from this index on to 0.
 pub fn put_zero_from(
     alloc: Global,
     at: u32,
@@ -312,8 +364,7 @@ pub fn put_zero_from(
             if is_just(n, size) {
                 return Ok(());
             }
-            put_loop(alloc, at, b".element", n, size, out)?;
-            put_zero_at(alloc, at, of, out)
+            put_zero_loop(alloc, at, of, n, size, out)
         }
     }
 }

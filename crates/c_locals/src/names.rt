@@ -37,6 +37,20 @@ pub fn object_name(alloc: Global, name: &[u8], n: usize) -> Result<Word, AllocEr
     Word::from_slice(alloc, &bytes)
 }
 
+impl Entry {
+    /// The name of its object, if this is the name, or else the name that was known.
+    fn or_latest<'a>(&'a self, name: &[u8], latest: Option<&'a [u8]>) -> Option<&'a [u8]>
+        ensures { option_map (λ w. w.now) result
+            ≡ names.or_latest name.now self.now (option_map (λ w. w.now) latest.entry) }
+    {
+        if same_bytes(self.name.as_slice(), name) {
+            object(&self.to)
+        } else {
+            latest
+        }
+    }
+}
+
 /// The entries of the blocks that are open, which contracts see as their list, the latest first.
 #[derive(Drop)]
 pub struct Names {
@@ -108,17 +122,17 @@ impl Names {
     }
 
     /// The name of the object that a name stands for.
+    #[tactic(auto, using(crate::proofs::NameFacts::found_is_latest))]
     pub fn found(&self, name: &[u8]) -> Option<&[u8]>
         ensures { option_map (λ w. w.now) result ≡ names.found name.now self.now }
     {
+        let mut latest = None;
         let mut rest = self.items.as_slice();
-        while let [more @ .., entry] = rest {
-            if same_bytes(entry.name.as_slice(), name) {
-                return object(&entry.to);
-            }
+        while let [entry, more @ ..] = rest {
+            latest = entry.or_latest(name, latest);
             rest = more;
         }
-        None
+        latest
     }
 
     /// The name of the object that a name stands for, or the name itself. Want of memory is the only error.

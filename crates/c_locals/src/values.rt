@@ -1,6 +1,6 @@
 //! A unit without local arrays that have values.
 
-ghost use Rattle.std.specs.Prelude.{◌≡◌, ◌≤◌, ◌+◌, length, [], ◌∷◌, if◌then◌else◌, Ok, IfOk, IfErr, OnOk};
+ghost use Rattle.std.specs.Prelude.{◌≡◌, ◌≤◌, ◌+◌, length, [], ◌∷◌, ◌++◌, if◌then◌else◌, Ok, IfOk, IfErr, OnOk};
 ghost use Rattle.c_tree.specs.Limits.{most_tokens};
 ghost use Rattle.c_library.specs.Within.{within};
 ghost use Rattle.c_library.specs.inside.Gives.{Gives, Refuses};
@@ -199,8 +199,37 @@ fn put_next(
     }
 }
 
-/// Puts the unit.
+/// Puts what the first of these tokens does.
+#[tactic(auto, using(crate::proofs::PutBehind::token_goes, crate::proofs::PutBehind::token_fails))]
+fn put_first(
+    alloc: Global,
+    walk: &Walk,
+    held: &Held,
+    token: &Lexeme,
+    behind: &[Lexeme],
+    out: &mut Output,
+) -> Result<(), LibraryFault>
+    ensures goes { OnOk result (put_all most_tokens
+        (values.walked walk.now held.now.words held.now.body (token.now ∷ behind.now)) out.old
+        ≡ put_all most_tokens (values.walked (values.past walk.now token.now behind.now)
+        (values.words_past walk.now walk.now.part held.now.words token.now)
+        (values.body_past walk.now.part held.now.body token.now) behind.now) out.new) }
+    ensures fails { IfErr result (Refuses (put_all most_tokens
+        (values.walked walk.now held.now.words held.now.body (token.now ∷ behind.now)) out.old)) }
+{
+    put_next(alloc, walk, held, token, out)
+}
+
+/// Puts what is held of a declaration that does not end.
 #[tactic(auto, using(crate::proofs::PutBehind::both))]
+fn put_held(alloc: Global, held: &Held, out: &mut Output) -> Result<(), LibraryFault>
+    ensures { Gives (put_all most_tokens (held.now.words ++ held.now.body) out.old) result out.new }
+{
+    put_tokens(alloc, held.words.as_slice(), out)?;
+    put_tokens(alloc, held.body.as_slice(), out)
+}
+
+/// Puts the unit.
 fn put_unit(alloc: Global, tokens: &[Lexeme], out: &mut Output) -> Result<(), LibraryFault>
     ensures { Gives (put_all most_tokens (values.with_values tokens.now) out.old) result out.new }
 {
@@ -209,13 +238,12 @@ fn put_unit(alloc: Global, tokens: &[Lexeme], out: &mut Output) -> Result<(), Li
     let mut held = Held::new(alloc);
     let mut rest = tokens;
     while let [token, more @ ..] = rest {
-        put_next(alloc, &walk, &held, token, out)?;
+        put_first(alloc, &walk, &held, token, more, out)?;
         held.pass(alloc, &walk, token)?;
         walk = walk.past(token, more);
         rest = more;
     }
-    put_tokens(alloc, held.words.as_slice(), out)?;
-    put_tokens(alloc, held.body.as_slice(), out)
+    put_held(alloc, &held, out)
 }
 
 /// Does no list in braces stand in braces?
