@@ -125,6 +125,7 @@ set_all_keeps P at of ts a h k =
 
 pub loop_keeps : (P : Fact) (at : ℕ) (name : Bytes) (n : ℕ) (size : Tokens) → Allows P → EachToken P size
     → EachToken P (loop at name n size)
+unfolding loop
 loop_keeps P at name n size a h =
     let begins : EachToken P (loop_begins at name) =
     (a.key key.For, (a.mark mark.LeftParen, (a.key key.Int, (a.name name, tt)))) in

@@ -124,7 +124,7 @@ abbrev pub loop_rest : ℕ → Bytes → Tokens → Tokens
 loop_rest at name size = size ++ (loop_steps at name ++ loop_ends at)
 
 -- `for ( int NAME = n ; NAME < ( SIZE ) ; NAME ++ )`
-abbrev pub loop : ℕ → Bytes → ℕ → Tokens → Tokens
+unfoldable pub loop : ℕ → Bytes → ℕ → Tokens → Tokens
 loop at name n size = loop_begins at name ++ (loop_starts at name n ++ (loop_tests at ++ loop_rest at name size))
 
 -- `= 0 ;`

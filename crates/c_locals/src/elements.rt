@@ -290,7 +290,7 @@ fn put_loop_rest(
 }
 
 /// Puts the head of a loop that counts from this number on to a size.
-#[tactic(auto, using(crate::proofs::PutBehind::both))]
+#[tactic(auto, using(crate::proofs::PutBehind::both), unfolding(crate::specs::Elements::loop))]
 pub fn put_loop(
     alloc: Global,
     at: u32,
