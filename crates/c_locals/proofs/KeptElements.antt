@@ -15,7 +15,7 @@ use Rattle.c_locals.specs.Brackets.{Parts, depth_past, divides, in_front, split_
 use Rattle.c_locals.specs.Brackets.{pieces}
 use Rattle.c_locals.specs.Elements.{number, marked, bracketed, element, assigns, index_past, next, here, set_from}
 use Rattle.c_locals.specs.Elements.{set_all, count, row_counter, counter, is_just, named, loop_begins, loop_starts}
-use Rattle.c_locals.specs.Elements.{loop_tests, loop_steps, loop_ends, loop, zeroes, zero_at, zero_from, filled}
+use Rattle.c_locals.specs.Elements.{loop_tests, loop_steps, loop_ends, loop_head, zeroes, zero_at, zero_from, filled}
 
 -- PARTS AND PIECES
 
@@ -124,8 +124,8 @@ set_all_keeps P at of ts a h k =
 -- ELEMENTS WITHOUT VALUES
 
 pub loop_keeps : (P : Fact) (at : ℕ) (name : Bytes) (n : ℕ) (size : Tokens) → Allows P → EachToken P size
-    → EachToken P (loop at name n size)
-unfolding loop
+    → EachToken P (loop_head at name n size)
+unfolding loop_head
 loop_keeps P at name n size a h =
     let begins : EachToken P (loop_begins at name) =
     (a.key key.For, (a.mark mark.LeftParen, (a.key key.Int, (a.name name, tt)))) in
@@ -157,8 +157,8 @@ pub zero_from_keeps : (P : Fact) (at : ℕ) (of : Tokens) (n : ℕ) (size : Toke
     → EachToken P size → EachToken P (zero_from at of n size)
 zero_from_keeps P at of n [] a h k = tt
 zero_from_keeps P at of n (t ∷ ts) a h k =
-    unless P (is_just n (t ∷ ts)) (loop at counter n (t ∷ ts) ++ zero_at at of)
-    (each_append P (loop at counter n (t ∷ ts)) (zero_at at of) (loop_keeps P at counter n (t ∷ ts) a k)
+    unless P (is_just n (t ∷ ts)) (loop_head at counter n (t ∷ ts) ++ zero_at at of)
+    (each_append P (loop_head at counter n (t ∷ ts)) (zero_at at of) (loop_keeps P at counter n (t ∷ ts) a k)
     (zero_at_keeps P at of a h))
 
 -- what sets the elements of an array

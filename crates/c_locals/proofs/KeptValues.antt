@@ -12,7 +12,7 @@ use Rattle.c_locals.specs.declared.walk.Part.{Part}
 use Rattle.c_locals.specs.declared.walk.Part.TheVariants as part
 use Rattle.c_locals.specs.declared.walk.Walk.{Walk}
 use Rattle.c_locals.specs.Brackets.{Parts, split, pieces}
-use Rattle.c_locals.specs.Elements.{number, marked, bracketed, element, count, named, row_counter, is_just, loop}
+use Rattle.c_locals.specs.Elements.{number, marked, bracketed, element, count, named, row_counter, is_just, loop_head}
 use Rattle.c_locals.specs.Elements.{zero_from, filled}
 use Rattle.c_locals.specs.Declarators.{whole, braced, list_of, sized, plain, scalar, scalar_if, size_of, array, rows_from}
 use Rattle.c_locals.specs.Declarators.{set_row, set_rows, zero_rows, grid, grid_if, grid_by, second_by, array_by}
@@ -113,9 +113,9 @@ zero_rows_keep : (P : Fact) (n : Lexeme) (height width : Tokens) (i : ℕ) → A
 zero_rows_keep P n [] width i a k h w = tt
 zero_rows_keep P n (t ∷ ts) width i a k h w =
     unless P (is_just i (t ∷ ts))
-    (loop n.offset row_counter i (t ∷ ts)
+    (loop_head n.offset row_counter i (t ∷ ts)
     ++ zero_from n.offset (element n.offset (n ∷ []) (named row_counter)) 0 width)
-    (each_append P (loop n.offset row_counter i (t ∷ ts))
+    (each_append P (loop_head n.offset row_counter i (t ∷ ts))
     (zero_from n.offset (element n.offset (n ∷ []) (named row_counter)) 0 width)
     (loop_keeps P n.offset row_counter i (t ∷ ts) a h)
     (zero_from_keeps P n.offset (element n.offset (n ∷ []) (named row_counter)) 0 width a

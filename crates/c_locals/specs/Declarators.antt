@@ -7,7 +7,7 @@ use Rattle.c_library.specs.Calls.{is_mark}
 use Rattle.c_library.specs.Places.{tokens}
 use Rattle.c_locals.specs.Brackets.{Parts, split, pieces}
 use Rattle.c_locals.specs.Elements.{number, marked, bracketed, element, count, named, row_counter}
-use Rattle.c_locals.specs.Elements.{is_just, loop}
+use Rattle.c_locals.specs.Elements.{is_just, loop_head}
 use Rattle.c_locals.specs.Elements.{zero_from, filled}
 
 -- PARTS OF A DECLARATOR
@@ -86,7 +86,7 @@ zero_width n width = zero_from n.offset (element n.offset (n ∷ []) (named row_
 
 -- a loop over the rows from this number on that sets each to 0
 abbrev pub zero_row : Lexeme → Tokens → Tokens → ℕ → Tokens
-zero_row n height width k = loop n.offset row_counter k height ++ zero_width n width
+zero_row n height width k = loop_head n.offset row_counter k height ++ zero_width n width
 
 -- what sets the rows from this number on to 0
 abbrev pub zero_rows : Lexeme → Tokens → Tokens → ℕ → Tokens

@@ -124,8 +124,8 @@ abbrev pub loop_rest : ℕ → Bytes → Tokens → Tokens
 loop_rest at name size = size ++ (loop_steps at name ++ loop_ends at)
 
 -- `for ( int NAME = n ; NAME < ( SIZE ) ; NAME ++ )`
-unfoldable pub loop : ℕ → Bytes → ℕ → Tokens → Tokens
-loop at name n size = loop_begins at name ++ (loop_starts at name n ++ (loop_tests at ++ loop_rest at name size))
+unfoldable pub loop_head : ℕ → Bytes → ℕ → Tokens → Tokens
+loop_head at name n size = loop_begins at name ++ (loop_starts at name n ++ (loop_tests at ++ loop_rest at name size))
 
 -- `= 0 ;`
 abbrev pub zeroes : ℕ → Tokens
@@ -137,7 +137,7 @@ zero_at at of = element at of (form.Name counter) ++ zeroes at
 
 -- a loop that sets the elements from this index on to 0
 abbrev pub zero_loop : ℕ → Tokens → ℕ → Tokens → Tokens
-zero_loop at of n size = loop at counter n size ++ zero_at at of
+zero_loop at of n size = loop_head at counter n size ++ zero_at at of
 
 -- what sets the elements from this index on to 0, with this size or none
 abbrev pub zero_from : ℕ → Tokens → ℕ → Tokens → Tokens

@@ -290,7 +290,7 @@ fn put_loop_rest(
 }
 
 /// Puts the head of a loop that counts from this number on to a size.
-#[tactic(auto, using(crate::proofs::PutBehind::both), unfolding(crate::specs::Elements::loop))]
+#[tactic(auto, using(crate::proofs::PutBehind::both), unfolding(crate::specs::Elements::loop_head))]
 pub fn put_loop(
     alloc: Global,
     at: u32,
@@ -299,7 +299,7 @@ pub fn put_loop(
     size: &[Lexeme],
     out: &mut Output,
 ) -> Result<(), LibraryFault>
-    ensures { Gives (put_all most_tokens (elements.loop at name.now n size.now) out.old) result out.new }
+    ensures { Gives (put_all most_tokens (elements.loop_head at name.now n size.now) out.old) result out.new }
 {
     put_for(alloc, at, name, out)?;
     put_start(alloc, at, name, n, out)?;
