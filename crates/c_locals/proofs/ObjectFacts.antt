@@ -1,7 +1,9 @@
 -- What is known of units whose blocks have objects that the grammar knows.
-use Rattle.std.proofs.Common.{◌≡◌, ℕ, Bool, true, false, [], ◌∷◌, refl, ap, ap₂, ◌∙◌}
-use Rattle.std.specs.Prelude.{not, ◌&&◌, ◌||◌}
+use Rattle.std.proofs.Common.{◌≡◌, ◌≤◌, length, ℕ, Bool, true, false, [], ◌∷◌, refl, ap, ap₂, ◌∙◌}
+use Rattle.std.specs.Prelude.{Ok, not, ◌&&◌, ◌||◌}
 use Rattle.c_lex.specs.Lexes.{Tokens}
+use Rattle.c_library.specs.Within.{within}
+use Rattle.c_locals.proofs.PutBehind.{few_stay}
 use Rattle.c_library.proofs.Holds.{Fact, EachToken, Allows}
 use Rattle.c_library.proofs.LiteralForms.{both_hold}
 use Rattle.c_locals.specs.Values.{sets_list, blocks_past, with_values, no_values_from}
@@ -37,3 +39,8 @@ objects_stay ts e = ap with_values (statics_stay ts (no_static 0 ts e)) ∙ valu
 -- what holds of all tokens and of all that may be added holds of each that comes out
 pub objects_keep : (P : Fact) (ts : Tokens) → Allows P → EachToken P ts → EachToken P (with_objects ts)
 objects_keep P ts a h = values_keep P (with_statics ts) a (statics_keep P ts a h)
+
+-- a unit that has neither is its own, if it is small enough
+pub objects_within : (most : ℕ) (ts : Tokens) → has_no_objects ts ≡ true → length ts ≤ most
+    → within most (with_objects ts) ≡ Ok ts
+objects_within most ts e h = ap (within most) (objects_stay ts e) ∙ few_stay most ts h

@@ -1,6 +1,7 @@
 -- A token adds one at most to each number of the walk.
-use Rattle.std.proofs.Common.{◌≡◌, ◌≤◌, ℕ, ◌+◌, ◌-◌, Bool, true, false, cond, [], ◌∷◌, Option, Some, None, refl, arith}
-use Rattle.std.specs.Prelude.{nat_eq, is_none}
+use Rattle.std.proofs.Common.{◌≡◌, ◌≤◌, ℕ, ◌+◌, ◌-◌, Bool, true, false, cond, [], ◌∷◌, Option, Some, None, refl, arith, sym, ap, ◌∙◌}
+use Rattle.std.proofs.Common.{subst}
+use Rattle.std.specs.Prelude.{nat_eq, is_none, Result, Ok, Err, OnOk, IfOk}
 use Rattle.c_tree.specs.declared.Form.{Form}
 use Rattle.c_tree.specs.declared.Form.TheVariants as form
 use Rattle.c_tree.specs.declared.Mark.{Mark}
@@ -166,3 +167,20 @@ past_bounded t s =
     bounded_by s (flushed (bracketed t.form (part_past s.mode t s))) (bracketed t.form (part_past s.mode t s))
     (ends_item (bracketed t.form (part_past s.mode t s)).blocks t.form)
     (flushed_bounded s (bracketed t.form (part_past s.mode t s)) g) g
+
+-- where a call gives the state behind a token
+pub if_bounded : {E : Type 0} (t : Lexeme) (s : State) (r : Result State E) → IfOk r (λ s'. s' ≡ past t s)
+    → IfOk r (λ s'. Bounded s s')
+if_bounded t s (Ok s') e = subst (λ (x : State). Bounded s x) (sym e) (past_bounded t s)
+if_bounded t s (Err f) e = tt
+
+-- and within what it stands in no bracket is counted
+pub on_blocks : {E : Type 0} (m : Mode) (t : Lexeme) (s s' : State) (r : Result (Unit {0}) E)
+    → OnOk r (s' ≡ part_past m t s) → OnOk r (s'.blocks ≡ s.blocks)
+on_blocks m t s s' (Ok u) e = ap (λ (x : State). x.blocks) e ∙ (part_few m t s).blocks
+on_blocks m t s s' (Err f) e = tt
+
+pub on_parens : {E : Type 0} (m : Mode) (t : Lexeme) (s s' : State) (r : Result (Unit {0}) E)
+    → OnOk r (s' ≡ part_past m t s) → OnOk r (s'.parens ≡ s.parens)
+on_parens m t s s' (Ok u) e = ap (λ (x : State). x.parens) e ∙ (part_few m t s).parens
+on_parens m t s s' (Err f) e = tt

@@ -34,7 +34,7 @@ pub fn has_no_objects(tokens: &[Lexeme]) -> bool
 /// or the first token that is too many.
 ///
 /// A unit that has neither is given back as it is.
-#[tactic(auto, using(crate::proofs::ObjectFacts::objects_stay, crate::proofs::PutBehind::few_stay))]
+#[tactic(auto, using(crate::proofs::ObjectFacts::objects_within))]
 pub fn with_objects(alloc: Global, tokens: Vec<Lexeme>) -> Result<Vec<Lexeme>, LibraryFault>
     ensures ok { IfOk result (λ out. within most_tokens (objects.with_objects tokens.items) ≡ Ok out.items) }
     ensures err { IfErr result (Refuses (within most_tokens (objects.with_objects tokens.items))) }

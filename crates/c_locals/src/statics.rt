@@ -419,8 +419,38 @@ impl State {
         })
     }
 
+    /// Goes past a token in what it stands in, and opens and closes no brackets.
+    #[tactic(auto, using(crate::proofs::StateBounds::on_blocks, crate::proofs::StateBounds::on_parens))]
+    fn pass_within(&mut self, alloc: Global, token: &Lexeme) -> Result<(), AllocError>
+        requires depth { self.old.depth < 18446744073709551615 }
+        requires count { self.old.count < 18446744073709551615 }
+        ensures value { OnOk result (self.new ≡ statics.part_past self.old.mode token.now self.old) }
+        ensures blocks { OnOk result (self.new.blocks ≡ self.old.blocks) }
+        ensures parens { OnOk result (self.new.parens ≡ self.old.parens) }
+    {
+        self.pass_part(alloc, token)
+    }
+
     /// Goes past a token.
-    #[tactic(auto, using(crate::proofs::StateBounds::past_bounded))]
+    fn pass_token(self, alloc: Global, token: &Lexeme) -> Result<State, AllocError>
+        requires depth { self.depth < 18446744073709551615 }
+        requires count { self.count < 18446744073709551615 }
+        requires blocks { self.blocks < 18446744073709551615 }
+        requires parens { self.parens < 18446744073709551615 }
+        ensures { IfOk result (λ s. s ≡ statics.past token.now self) }
+    {
+        let mut state = self;
+        state.pass_within(alloc, token)?;
+        state.bracket(&token.form);
+        if ends_item(state.blocks, &token.form) {
+            state.flush(alloc)
+        } else {
+            Ok(state)
+        }
+    }
+
+    /// Goes past a token, which adds one at most to each number.
+    #[tactic(auto, using(crate::proofs::StateBounds::if_bounded))]
     fn pass(self, alloc: Global, token: &Lexeme) -> Result<State, AllocError>
         requires depth { self.depth < 18446744073709551615 }
         requires count { self.count < 18446744073709551615 }
@@ -429,14 +459,7 @@ impl State {
         ensures value { IfOk result (λ s. s ≡ statics.past token.now self) }
         ensures few { IfOk result (λ s. Bounded self s) }
     {
-        let mut state = self;
-        state.pass_part(alloc, token)?;
-        state.bracket(&token.form);
-        if ends_item(state.blocks, &token.form) {
-            state.flush(alloc)
-        } else {
-            Ok(state)
-        }
+        self.pass_token(alloc, token)
     }
 
     /// All tokens.
