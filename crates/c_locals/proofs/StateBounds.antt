@@ -79,7 +79,7 @@ same_none s = record { count = refl; depth = refl; blocks = refl; parens = refl 
 hides_none : (w : Bytes) (t : Lexeme) (s : State) → Same s (hides w t s)
 hides_none w t s =
     let n : Same s
-      (cond (is_none (found w s.names)) s (cond (nat_eq s.parens 0) (hidden w s) (refused t.offset s))) =
+    (cond (is_none (found w s.names)) s (cond (nat_eq s.parens 0) (hidden w s) (refused t.offset s))) =
     either_none s s (cond (nat_eq s.parens 0) (hidden w s) (refused t.offset s)) (is_none (found w s.names))
     (same_none s)
     (either_none s (hidden w s) (refused t.offset s) (nat_eq s.parens 0)

@@ -49,8 +49,7 @@ pub fn divides(mark: Mark, depth: usize, token: &Lexeme) -> bool
 }
 
 /// The tokens before the first such punctuator outside of brackets, and those behind it.
-#[tactic(auto, using(crate::proofs::SplitFacts::goes_on, crate::proofs::SplitFacts::divided,
-    crate::proofs::SplitFacts::begins))]
+#[tactic(auto, using(crate::proofs::SplitFacts::goes_on, crate::proofs::SplitFacts::divided, crate::proofs::SplitFacts::begins))]
 pub fn split<'a>(mark: Mark, tokens: &'a [Lexeme]) -> Option<(&'a [Lexeme], &'a [Lexeme])>
     ensures { option_map (λ p. (p.0.now, p.1.now)) result ≡ brackets.split mark tokens.now }
 {

@@ -11,7 +11,7 @@ ghost use Rattle.c_locals.specs.Elements as elements;
 
 use crate::brackets::{first_piece, is_mark, split};
 use crate::elements::{count, is_just, put_filled, put_loop, put_zero_from};
-use crate::put::{number, put_mark, put_number, put_tokens, put_token};
+use crate::put::{number, put_mark, put_number, put_token, put_tokens};
 use base::Items;
 use c_library::{LibraryFault, Output, token_copied};
 use c_tree::{Form, Lexeme, Mark, Word};
@@ -240,9 +240,18 @@ fn element_of(alloc: Global, name: &Lexeme, index: Form) -> Result<Items<Lexeme>
     let at = name.offset;
     let mut of = Items::new(alloc);
     of.push(token_copied(alloc, name)?)?;
-    of.push(Lexeme { offset: at, form: Form::Mark(Mark::LeftBracket) })?;
-    of.push(Lexeme { offset: at, form: index })?;
-    of.push(Lexeme { offset: at, form: Form::Mark(Mark::RightBracket) })?;
+    of.push(Lexeme {
+        offset: at,
+        form: Form::Mark(Mark::LeftBracket),
+    })?;
+    of.push(Lexeme {
+        offset: at,
+        form: index,
+    })?;
+    of.push(Lexeme {
+        offset: at,
+        form: Form::Mark(Mark::RightBracket),
+    })?;
     Ok(of)
 }
 
@@ -466,7 +475,15 @@ fn put_second_by(
     match second {
         None => put_plain(alloc, words, name, behind, out),
         Some((width, more)) => {
-            put_grid_by(alloc, words, name, behind, (height, width), list_of(more), out)
+            put_grid_by(
+                alloc,
+                words,
+                name,
+                behind,
+                (height, width),
+                list_of(more),
+                out,
+            )
         }
     }
 }

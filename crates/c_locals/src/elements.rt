@@ -318,12 +318,7 @@ fn put_zero(at: u32, out: &mut Output) -> Result<(), LibraryFault>
 
 /// Puts what sets the element of the counter to 0.
 #[tactic(auto, using(crate::proofs::PutBehind::both))]
-fn put_zero_at(
-    alloc: Global,
-    at: u32,
-    of: &[Lexeme],
-    out: &mut Output,
-) -> Result<(), LibraryFault>
+fn put_zero_at(alloc: Global, at: u32, of: &[Lexeme], out: &mut Output) -> Result<(), LibraryFault>
     ensures { Gives (put_all most_tokens (elements.zero_at at of.now) out.old) result out.new }
 {
     put_tokens(alloc, of, out)?;

@@ -56,12 +56,7 @@ pub fn put_number(at: u32, n: usize, out: &mut Output) -> Result<(), LibraryFaul
 }
 
 /// Puts a name.
-pub fn put_name(
-    alloc: Global,
-    at: u32,
-    name: &[u8],
-    out: &mut Output,
-) -> Result<(), LibraryFault>
+pub fn put_name(alloc: Global, at: u32, name: &[u8], out: &mut Output) -> Result<(), LibraryFault>
     ensures { Gives (put_all most_tokens (tokens at (elements.named name.now ∷ [])) out.old) result out.new }
 {
     let word = Word::from_slice(alloc, name)?;

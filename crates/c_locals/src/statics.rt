@@ -70,7 +70,11 @@ fn stage_by(stage: Stage, form: &Form) -> Stage
 fn stage_past(depth: usize, stage: Stage, form: &Form) -> Stage
     ensures { result ≡ statics.stage_past depth stage form.now }
 {
-    if depth == 0 { stage_by(stage, form) } else { stage }
+    if depth == 0 {
+        stage_by(stage, form)
+    } else {
+        stage
+    }
 }
 
 /// The name that a token declares.
@@ -402,7 +406,18 @@ impl State {
     fn flush(self, alloc: Global) -> Result<State, AllocError>
         ensures { IfOk result (λ s. s ≡ statics.flushed self) }
     {
-        let State { mut out, front, item, names, count, blocks, parens, depth, mode, stage } = self;
+        let State {
+            mut out,
+            front,
+            item,
+            names,
+            count,
+            blocks,
+            parens,
+            depth,
+            mode,
+            stage,
+        } = self;
         out.append(front)?;
         out.append(item)?;
         Ok(State {
@@ -466,7 +481,12 @@ impl State {
     fn finish(self) -> Result<Items<Lexeme>, AllocError>
         ensures { IfOk result (λ out. out ≡ statics.run self []) }
     {
-        let State { mut out, front, item, .. } = self;
+        let State {
+            mut out,
+            front,
+            item,
+            ..
+        } = self;
         out.append(front)?;
         out.append(item)?;
         Ok(out)

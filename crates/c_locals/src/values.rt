@@ -191,7 +191,14 @@ fn put_next(
         }
         _ => {
             if is_mark(Mark::Semicolon, &token.form) {
-                put_local(alloc, walk.has_list, held.words.as_slice(), held.body.as_slice(), token, out)
+                put_local(
+                    alloc,
+                    walk.has_list,
+                    held.words.as_slice(),
+                    held.body.as_slice(),
+                    token,
+                    out,
+                )
             } else {
                 Ok(())
             }
