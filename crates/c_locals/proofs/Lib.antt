@@ -1,0 +1,11 @@
+pub mod PutBehind
+pub mod SplitFacts
+pub mod NameFacts
+pub mod StateBounds
+pub mod ValueFacts
+pub mod StaticFacts
+pub mod KeptElements
+pub mod KeptValues
+pub mod KeptStatics
+pub mod ObjectFacts
+pub mod StandardFacts

@@ -1,0 +1,12 @@
+use Rattle.std.proofs.Common.{◌≡◌, ◌≤◌, ◌+◌, length}
+use Rattle.c_locals.specs.Values.{no_values_from}
+use Rattle.c_locals.proofs.values.has_no_values.Given as goal
+
+abbrev pub invariant-loop-rest : goal.invariant-loop-rest
+invariant-loop-rest l = record {
+  value : no_values_from 0 l.fn.tokens ≡ no_values_from l.blocks l.rest;
+  few : l.blocks + length l.rest ≤ l.count;
+}
+
+abbrev pub decreases-loop-rest : goal.decreases-loop-rest
+decreases-loop-rest l = length l.rest

@@ -1,0 +1,16 @@
+//! Objects of blocks (docs/LANGUAGE.md): static objects and local arrays with values, as tokens that the grammar knows.
+#![tactic(auto)]
+
+mod brackets;
+mod declarators;
+mod elements;
+mod names;
+mod objects;
+#[cfg(test)]
+mod objects_tests;
+mod put;
+mod statics;
+mod values;
+mod walk;
+
+pub use crate::objects::{has_no_objects, with_objects};
