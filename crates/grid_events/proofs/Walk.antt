@@ -347,7 +347,7 @@ module _ {W : Type 0} (blocks : List Block) (budget : ℕ) (R : Grid W → List 
       (part.load_notes blocks budget tile m n q.0 g)
       (is_store (form_of (q.1).op)) (store_keeps tile m n f g) (load_keeps tile m n q.0 g)
 
-  chosen_keeps : (tile : ℕ) (o : Option (ℕ × ℕ)) (g : Grid W)
+  pub chosen_keeps : (tile : ℕ) (o : Option (ℕ × ℕ)) (g : Grid W)
       → R g (part.answer_notes blocks budget tile o g) (answer_chosen blocks budget tile o g)
   chosen_keeps tile None g = same g
   chosen_keeps tile (Some c) g = frame_keeps (λ f h. answered_by blocks budget tile c.0 c.1 (request f c.1) h)

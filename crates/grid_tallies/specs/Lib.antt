@@ -1,0 +1,3 @@
+pub mod Statistics
+pub mod Cycles
+pub mod inside
