@@ -5,3 +5,4 @@ pub mod Turning
 pub mod Flushing
 pub mod Guessing
 pub mod Cycling
+pub mod Running

@@ -114,10 +114,11 @@ flushes_only why (f ∷ fs) = λ s. split (place s == place (cause_of why)) (flu
     split false e = e
 
 -- a fetch that is given up is no flush
+pub none_given : (a b : Option Fetching) → tally flushed (gives_up a b) ≡ 0
+none_given None b = refl
+none_given (Some f) None = refl
+none_given (Some f) (Some g) = refl
+
+-- so it counts nothing
 pub flushes_given : (k : Statistic) (a b : Option Fetching) → OnlyFlushes k (gives_up a b)
-flushes_given k a b = flushes_none k (gives_up a b) (nothing_given a b) (none a b)
-  where
-    none : (a b : Option Fetching) → tally flushed (gives_up a b) ≡ 0
-    none None b = refl
-    none (Some f) None = refl
-    none (Some f) (Some g) = refl
+flushes_given k a b = flushes_none k (gives_up a b) (nothing_given a b) (none_given a b)

@@ -10,11 +10,13 @@ mod data_tiles;
 mod ends;
 mod fetches;
 mod law;
+mod running;
 mod statistic;
 mod tallies;
 mod units;
 
 pub use cycling::cycle;
 pub use law::counted_cycles_are_eager;
+pub use running::{close, cycles};
 pub use statistic::Statistic;
 pub use tallies::Tallies;

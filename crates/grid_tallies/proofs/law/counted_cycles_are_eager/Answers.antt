@@ -3,8 +3,9 @@ use Rattle.grid_tallies.proofs.Turning.{turn_heard}
 use Rattle.grid_tallies.proofs.Flushing.{ends_heard}
 use Rattle.grid_tallies.proofs.Guessing.{begins_heard}
 use Rattle.grid_tallies.proofs.Cycling.{counted_eager}
+use Rattle.grid_tallies.proofs.Running.{closing_heard}
 use Rattle.grid_tallies.proofs.law.counted_cycles_are_eager.Goals as goal
 
-pub returns-clause : goal.returns-clause
-returns-clause g = λ blocks budget x y a b c.
-    counted_eager g.W.Weather.next g.W.Weather.follows blocks budget x y a b c
+pub returns : goal.returns
+returns g c = λ blocks budget x y a b counted.
+    counted_eager g.W.Weather.next g.W.Weather.follows blocks budget x y a b counted
