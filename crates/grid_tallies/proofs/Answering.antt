@@ -69,6 +69,10 @@ heard_store true by a b c e one more = λ tile n m null es only many.
     (subst (λ k. Only statistic.Violations k es) many only))
 heard_store false by a b c e one more = absurd (true≢false (sym e))
 
+inst_or : Inst → Option Request → Inst
+inst_or i None = i
+inst_or i (Some x) = x.inst
+
 module _ {W : Type 0} (blocks : List Block) (budget tile n m : ℕ) (g : Grid W) (a b : Tallies) where
   notes_in : Frame → List Note
   notes_in f = answered_notes blocks budget tile n m f (request f m) g
@@ -78,15 +82,11 @@ module _ {W : Type 0} (blocks : List Block) (budget tile n m : ℕ) (g : Grid W)
       → AnswersHeard (is_store (form_of (r.inst).op)) by a b
       → tally flushed (answered_notes blocks budget tile n m f o g) ≡ by
       → Heard a (answered_notes blocks budget tile n m f o g) b
-  one_heard f None r by e heard many = absurd (cc (e))
+  one_heard f None r by e heard many = absurd (let x = e in cc)
   one_heard f (Some q) r by e heard many = go (is_store (form_of (q.1).op)) is many
     where
       same : r.inst ≡ q.1
-      same = ap inst_or e
-        where
-          inst_or : Option Request → Inst
-          inst_or None = q.1
-          inst_or (Some x) = x.inst
+      same = ap (inst_or q.1) e
 
       is : AnswersHeard (is_store (form_of (q.1).op)) by a b
       is = subst (λ (i : Inst). AnswersHeard (is_store (form_of i.op)) by a b) same heard
@@ -112,7 +112,7 @@ module _ {W : Type 0} (blocks : List Block) (budget tile n m : ℕ) (g : Grid W)
   frames_heard : (fs : List Frame) (r : Request) (by : ℕ) → Some r ≡ request_of n m fs
       → AnswersHeard (is_store (form_of (r.inst).op)) by a b → tally flushed (of_frame n notes_in fs) ≡ by
       → Heard a (of_frame n notes_in fs) b
-  frames_heard [] r by e heard many = absurd (cc (e))
+  frames_heard [] r by e heard many = absurd (let x = e in cc)
   frames_heard (f ∷ fs) r by e heard many = step (f.number == n) e many
       (λ (x : Some r ≡ request_of n m fs) (y : tally flushed (of_frame n notes_in fs) ≡ by).
       frames_heard fs r by x heard y)
@@ -136,12 +136,14 @@ module _ {W : Type 0} (blocks : List Block) (budget tile n m : ℕ) (g : Grid W)
       chosen_keeps blocks budget (Tells blocks budget) (keeps blocks budget) tile (Some (n, m)) g in
       let told = t.flushed in
       let same = ap (λ (x : Grid W). x.counts.flushed) is in
-      frames_heard g.window.frames r by e heard (omega (arith, told, same, many))
+      let all : tally flushed (answer_notes blocks budget tile (Some (n, m)) g) ≡ by =
+      omega (arith, told, same, many) in
+      frames_heard g.window.frames r by e heard all
 
   unanswered : (f : Frame) (o : Option (ℕ × Inst)) → None ≡ request_at f o
       → Nothing (answered_notes blocks budget tile n m f o g)
   unanswered f None e = λ s. refl
-  unanswered f (Some q) e = absurd (cc (e))
+  unanswered f (Some q) e = absurd (let x = e in cc)
 
   none_in : (fs : List Frame) → None ≡ request_of n m fs → Nothing (of_frame n notes_in fs)
   none_in [] e = λ s. refl

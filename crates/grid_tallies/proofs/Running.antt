@@ -37,7 +37,7 @@ module _ {W : Type 0} (next : W → ℕ) (follows : W → W → Type 0) (blocks 
 -- as many flushes are noted as there are frames
 flushed_all : (fs : List Frame) → tally flushed (flushes End fs) ≡ length fs
 flushed_all [] = refl
-flushed_all (f ∷ fs) = ap suc (flushed_all fs)
+flushed_all (f ∷ fs) = let e = flushed_all fs in omega (arith, e)
 
 -- the end of a run is heard where the frames in flight are counted
 pub closing_heard : {W : Type 0} (g : Grid W) (by : ℕ) (a b : Tallies) → by ≡ length g.window.frames

@@ -36,7 +36,7 @@ heard_adds k by a b es adds only = λ s room.
 -- two lists that count as one statistic
 pub only_both : (k : Statistic) (m n : ℕ) (es fs : List Note) → Only k m es → Only k n fs → Only k (m + n) (es ++ fs)
 only_both k m n es fs a b = λ s.
-    joined (weigh s) es fs ∙ ap₂ (λ x y. x + y) (a s) (b s) ∙ split (place s == place k)
+    joined (weigh s) es fs ∙ ap₂ (λ (x y : ℕ). x + y) (a s) (b s) ∙ split (place s == place k)
   where
     split : (c : Bool) → cond c m 0 + cond c n 0 ≡ cond c (m + n) 0
     split true = refl

@@ -110,8 +110,8 @@ flushes_only why (f ∷ fs) = λ s. split (place s == place (cause_of why)) (flu
   where
     split : (c : Bool) {m : ℕ} → m ≡ cond c (tally flushed (flushes why fs)) 0
         → cond c 1 0 + m ≡ cond c (1 + tally flushed (flushes why fs)) 0
-    split true e = ap (λ x. 1 + x) e
-    split false e = e
+    split true e = omega (arith, e)
+    split false e = omega (arith, e)
 
 -- a fetch that is given up is no flush
 pub none_given : (a b : Option Fetching) → tally flushed (gives_up a b) ≡ 0
