@@ -68,7 +68,8 @@ module _ {W : Type 0} (next : W → ℕ) (follows : W → W → Type 0) (blocks 
   pub cycles_tell : (g : Grid W) (ess : List (List Note)) (h : Grid W)
       → NotedCycles next follows blocks budget g ess h → Tells blocks budget g (told ess) h
   cycles_tell g [] h e = subst (λ x. Tells blocks budget g [] x) (sym e) (nothing blocks budget g)
-  cycles_tell g (es ∷ ess) h c = joined blocks budget g c.between h (told ess) es (cycles_tell g ess c.between c.before)
+  cycles_tell g (es ∷ ess) h c = joined blocks budget g c.between h (told ess) es
+      (cycles_tell g ess c.between c.before)
       (noted_tells blocks budget next follows c.between h es c.after)
 
   pub in_flight : (g : Grid W) (ess : List (List Note)) (h : Grid W) → g.counts ≡ uncounted → g.window.frames ≡ []

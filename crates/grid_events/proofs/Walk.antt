@@ -33,7 +33,8 @@ use Rattle.grid_cycle_spec.specs.Fetches.{begun_guess, begun_behind, begun_after
 use Rattle.grid_cycle_spec.specs.Fetches.{begins, fetches}
 use Rattle.grid_cycle_spec.specs.Banks.{answers_read, read_chosen, bank_turn, reads_answered}
 use Rattle.grid_cycle_spec.specs.DataTiles.{stored_by, unasked, load_answered, waits_now, by_block, wrong_load}
-use Rattle.grid_cycle_spec.specs.DataTiles.{store_resolved, answers_request, answered_by, answer_chosen, data_turn, answers}
+use Rattle.grid_cycle_spec.specs.DataTiles.{store_resolved, answers_request, answered_by, answer_chosen, data_turn}
+use Rattle.grid_cycle_spec.specs.DataTiles.{answers}
 use Rattle.grid_cycle_spec.specs.Units.{result_enters, slot_enters, rests, result_chosen, in_unit, unit_on}
 use Rattle.grid_cycle_spec.specs.Units.{ready, takes, issued, issue_chosen, issues, unit_turn, works_on}
 use Rattle.grid_cycle_spec.specs.inside.Arrivals.{asks, delivers, is_waiting, load_arrives, slot_arrives}
@@ -176,7 +177,8 @@ module _ {W : Type 0} (blocks : List Block) (budget : ℕ) (R : Grid W → List 
 
   -- parcels enter ----------------------------------------------------------------------------------
 
-  enters_keeps : (n place from to : ℕ) (g : Grid W) → R g (part.enters_notes n place from to) (enters n place from to g)
+  enters_keeps : (n place from to : ℕ) (g : Grid W) → R g (part.enters_notes n place from to)
+      (enters n place from to g)
   enters_keeps n place from to g =
       k.quiet g (enters n place from to g) (part.enters_notes n place from to) (tt, tt) refl refl refl refl
 
@@ -271,13 +273,15 @@ module _ {W : Type 0} (blocks : List Block) (budget : ℕ) (R : Grid W → List 
   begins_keeps : (o : Option Fetching) (g : Grid W) → g.fetching ≡ o
       → R g (part.begin_notes blocks o g) (fetch_begins blocks o g)
   begins_keeps (Some f) g e = same g
-  begins_keeps None g e = either g (begun_after blocks g.window.frames g) g (part.after_notes blocks g.window.frames g)
+  begins_keeps None g e = either g (begun_after blocks g.window.frames g) g
+      (part.after_notes blocks g.window.frames g)
       [] (has_room g.window) (after_keeps g.window.frames g e) (same g)
 
   pub fetches_keep : (g : Grid W) → R g (part.fetches_notes blocks budget g) (fetches blocks budget g)
   fetches_keep g =
       let m : Grid W = fetch_ends blocks budget g.fetching g in
-      k.chain g m (begins blocks m) (part.fetch_notes blocks budget g.fetching g) (part.begin_notes blocks m.fetching m)
+      k.chain g m (begins blocks m) (part.fetch_notes blocks budget g.fetching g)
+          (part.begin_notes blocks m.fetching m)
       (fetched_keeps g.fetching g refl) (begins_keeps m.fetching m refl)
 
   -- part (3) ---------------------------------------------------------------------------------------
@@ -290,7 +294,8 @@ module _ {W : Type 0} (blocks : List Block) (budget : ℕ) (R : Grid W → List 
       let w : Window = happens blocks budget (window.Read q.0 q.1) g.window in
       let m : Grid W = record g { window = w } in
       let notes : Frame → List Note = λ f. part.both_notes (bank_node bank) f (first_read_place + 2 * q.1) in
-      k.chain g m (read_chosen blocks budget bank (Some q) g) (note.Reads bank q.0 q.1 ∷ []) (of_frame q.0 notes w.frames)
+      k.chain g m (read_chosen blocks budget bank (Some q) g) (note.Reads bank q.0 q.1 ∷ [])
+          (of_frame q.0 notes w.frames)
       (k.single (note.Reads bank q.0 q.1) (window.Read q.0 q.1) tt refl g m d refl refl refl refl)
       (frame_keeps (λ f h. enter_both (bank_node bank) f (first_read_place + 2 * q.1) h) notes m
       (λ f. both_keeps (bank_node bank) f (first_read_place + 2 * q.1) m) q.0 w.frames)
@@ -413,10 +418,12 @@ module _ {W : Type 0} (blocks : List Block) (budget : ℕ) (R : Grid W → List 
           → R g (of_frame q.0 (λ f. note.Fires tile q.0 q.1 (operation (slot_of f.code q.1)) ∷ []) fs)
           (with_frame q.0 (λ f h. issued blocks budget tile q.0 q.1 (takes (slot_of f.code q.1)) h) fs g)
       walk [] is = same g
-      walk (f ∷ fs) is = step (f.number == q.0) is (λ (is : operation_in q.0 q.1 fs ≡ operation_in q.0 q.1 g.window.frames). walk fs is)
+      walk (f ∷ fs) is = step (f.number == q.0) is (λ (is : operation_in q.0 q.1 fs ≡ operation_in q.0 q.1
+          g.window.frames). walk fs is)
         where
           step : (b : Bool)
-              → cond b (operation (slot_of f.code q.1)) (operation_in q.0 q.1 fs) ≡ operation_in q.0 q.1 g.window.frames
+              → cond b (operation (slot_of f.code q.1)) (operation_in q.0 q.1 fs) ≡ operation_in q.0 q.1
+                  g.window.frames
               → (operation_in q.0 q.1 fs ≡ operation_in q.0 q.1 g.window.frames
               → R g (of_frame q.0 (λ f. note.Fires tile q.0 q.1 (operation (slot_of f.code q.1)) ∷ []) fs)
               (with_frame q.0 (λ f h. issued blocks budget tile q.0 q.1 (takes (slot_of f.code q.1)) h) fs g))
@@ -538,7 +545,8 @@ module _ {W : Type 0} (blocks : List Block) (budget : ℕ) (R : Grid W → List 
         let es : List Note = tick_notes ns m.parcels moves.parcels in
         then_counted m a h (moves_notes blocks budget m moves.parcels moves.weather)
         (k.chain m g a es (part.arrivals_notes blocks budget ns g)
-        (k.quiet m g es (quiet_tick ns m.parcels moves.parcels) refl refl refl refl) (arrivals_keep ns g)) moves.arrived
+        (k.quiet m g es (quiet_tick ns m.parcels moves.parcels) refl refl refl refl) (arrivals_keep ns g))
+            moves.arrived
 
     rests_keep : (m h : Grid W) (es : List Note) → Rests m es h → R m es h
     rests_keep m h es r = subst (λ xs. R m xs h) (sym r.told) (then_counted m m h [] (same m) r.ended)

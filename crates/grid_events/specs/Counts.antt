@@ -3,7 +3,8 @@ use Rattle.std.specs.Prelude.{ℕ, ◌+◌, ◌==◌, Bool, false, cond, List, [
 use Rattle.trips_isa.specs.declared.op.Op.{Op}
 use Rattle.trips_isa.specs.declared.op.Op.TheVariants.{Mov, Null}
 use Rattle.grid_cycle_spec.specs.Costs.{latency}
-use Rattle.grid_events.specs.Notes.{Note, Why, Violation, WrongExit, End, MeshNote, Begins, Predicts, GivesUp, Fetches}
+use Rattle.grid_events.specs.Notes.{Note, Why, Violation, WrongExit, End, MeshNote, Begins, Predicts, GivesUp}
+use Rattle.grid_events.specs.Notes.{Fetches}
 use Rattle.grid_events.specs.Notes.{Reads, Works, Fires, Loads, Stores, Leaves, Commits}
 use Rattle.grid_events.specs.Notes.{Flushes, OnMesh, Enters, Passes, Waits, Holds}
 

@@ -20,7 +20,8 @@ use Rattle.grid_events.specs.StationNotes.{enters_notes, both_notes}
 -- beside `result_enters`: a request to its data tile, a branch to control, and the tokens of any other
 abbrev pub result_notes : Form → Inst → ℕ → Frame → List Note
 result_notes Load i s f = enters_notes f.number (2 * s) (tile_node (tile_of s)) (data_node (tile_by i (at f.spots s)))
-result_notes Store i s f = enters_notes f.number (2 * s) (tile_node (tile_of s)) (data_node (tile_by i (at f.spots s)))
+result_notes Store i s f = enters_notes f.number (2 * s) (tile_node (tile_of s))
+    (data_node (tile_by i (at f.spots s)))
 result_notes Branch i s f = enters_notes f.number (2 * s) (tile_node (tile_of s)) control
 result_notes _ i s f = both_notes (tile_node (tile_of s)) f (2 * s)
 
@@ -37,7 +38,8 @@ finished_notes (Some q) fs = of_frame q.0 (λ f. slot_notes (slot_of f.code q.1)
 -- beside `unit_on`: a unit that is busy works, and gives its result where its time is over
 abbrev pub unit_notes : {W : Type 0} → ℕ → ℕ → Grid W → List Note
 unit_notes tile zero g = []
-unit_notes tile (suc zero) g = Works tile ∷ finished_notes (eldest (in_unit g tile) slots g.window.frames) g.window.frames
+unit_notes tile (suc zero) g = Works tile ∷ finished_notes (eldest (in_unit g tile) slots g.window.frames)
+    g.window.frames
 unit_notes tile (suc (suc left)) g = Works tile ∷ []
 
 -- the operation of what a slot holds

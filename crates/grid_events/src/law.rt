@@ -35,8 +35,8 @@ pub fn notes_tell_of_runs<W: Weather>()
         → NotedCycles W.next W.follows blocks budget g ess h → Tells blocks budget g (told ess) h }
 {}
 
-/// A note that a frame is filled, sealed or committed, that a read is answered or that a slot fires is of an event that
-/// is Done where it is played, and names what stands there.
+/// A note that a frame is filled, sealed or committed, that a read is answered or that a slot fires is of an event
+/// that is Done where it is played, and names what stands there.
 pub fn notes_are_sure<W: Weather>()
     ensures { (blocks : List Block) (budget : ℕ) (g h : Grid W) (es : List Note)
         → Noted W.next W.follows blocks budget g es h → AreSure blocks budget es g.window }
@@ -72,8 +72,8 @@ pub fn right_predictions_were_made()
     ensures { (es : List Note) → right es ≤ tally predicted es }
 {}
 
-/// Among the notes of part (3) each bank answers at most one read, and among those of part (4) each data tile at most one
-/// request: so both are counts of cycles in which the station is busy.
+/// Among the notes of part (3) each bank answers at most one read, and among those of part (4) each data tile at
+/// most one request: so both are counts of cycles in which the station is busy.
 pub fn stations_answer_once<W: Weather>()
     ensures banks { (blocks : List Block) (budget bank : ℕ) (g : Grid W)
         → tally (reads_at bank) (reads_notes blocks budget g) ≤ 1 }

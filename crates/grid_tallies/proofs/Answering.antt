@@ -179,7 +179,8 @@ module _ (tile n s : ℕ) (a b : Tallies) where
           → Heard a (cond c (fired f) (of_frame n fired fs)) b
       step true flies e rest = heard_adds (kind_of (operation (slot_of f.code s))) 1 a b (fired f)
           (subst (λ x. Adds (kind_of (operation x)) 1 a b) e adds)
-          (only_one (note.Fires tile n s (operation (slot_of f.code s))) (kind_of (operation (slot_of f.code s))) refl)
+          (only_one (note.Fires tile n s (operation (slot_of f.code s))) (kind_of (operation (slot_of f.code s)))
+              refl)
       step false flies e rest = rest flies e
 
   -- no slot of a frame that is not in flight fires

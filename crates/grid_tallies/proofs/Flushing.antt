@@ -1,5 +1,6 @@
 -- What the notes of the ends of frames and of arrivals count for: their flushes, and nothing else.
-use Rattle.std.proofs.Common.{◌≡◌, ℕ, zero, suc, ◌+◌, ◌-◌, ◌/◌, ◌==◌, Bool, true, false, cond, nat_lt, List, [], ◌∷◌, ◌++◌}
+use Rattle.std.proofs.Common.{◌≡◌, ℕ, zero, suc, ◌+◌, ◌-◌, ◌/◌, ◌==◌, Bool, true, false, cond, nat_lt, List, []}
+use Rattle.std.proofs.Common.{◌∷◌, ◌++◌}
 use Rattle.std.proofs.Common.{Option, Some, None, length, get_or, refl, sym, ap, subst, arith}
 use Rattle.trips_isa.specs.declared.block.Block.{Block}
 use Rattle.trips_isa.specs.declared.block.Inst.{Inst}
@@ -94,7 +95,8 @@ module _ {W : Type 0} (blocks : List Block) (budget : ℕ) where
       (flushes_both statistic.Ends (part.trap_flushes s (f ∷ fs)) us (trapping s (f ∷ fs))
       (flushes_given statistic.Ends g.fetching (committed_as s f fs g).fetching))
 
-  committing_in : (fs : List Frame) (g : Grid W) → OnlyFlushes statistic.Ends (part.commit_in_notes blocks budget fs g)
+  committing_in : (fs : List Frame) (g : Grid W) → OnlyFlushes statistic.Ends
+      (part.commit_in_notes blocks budget fs g)
   committing_in [] g = flushes_empty statistic.Ends
   committing_in (f ∷ fs) g =
       let after : Window = happens blocks budget window.Commit g.window in
@@ -132,7 +134,8 @@ module _ {W : Type 0} (blocks : List Block) (budget : ℕ) where
   asking m n = flushes_none statistic.WrongExits (part.asks_notes m n) (λ s. refl) refl
 
   leaving : (f : Frame) (g : Grid W)
-      → OnlyFlushes statistic.WrongExits (part.acted (note.Leaves f.number (part.names blocks f)) WrongExit blocks budget
+      → OnlyFlushes statistic.WrongExits (part.acted (note.Leaves f.number (part.names blocks f)) WrongExit blocks
+          budget
       (window.Exit f.number) g)
   leaving f g =
       let x : Note = note.Leaves f.number (part.names blocks f) in

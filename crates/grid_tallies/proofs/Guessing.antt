@@ -7,7 +7,8 @@ use Rattle.commit_flush_spec.specs.Frames.{Frame, Exit}
 use Rattle.commit_flush_spec.specs.Window as window
 use Rattle.grid_cycle_spec.specs.Grid.{Grid, Fetching}
 use Rattle.grid_cycle_spec.specs.Acting.{may}
-use Rattle.grid_cycle_spec.specs.Fetches.{begins, begun_after, begun_behind, begun_guess, begun_predicted, fetch_begins}
+use Rattle.grid_cycle_spec.specs.Fetches.{begins, begun_after, begun_behind, begun_guess, begun_predicted}
+use Rattle.grid_cycle_spec.specs.Fetches.{fetch_begins}
 use Rattle.grid_cycle_spec.specs.Fetches.{fetch_ends, has_room}
 use Rattle.grid_events.specs.Notes.{Note}
 use Rattle.grid_events.specs.Notes as note
@@ -73,7 +74,8 @@ module _ {W : Type 0} (blocks : List Block) where
   zeros false c = refl
 
   begin_only : (o : Option Fetching) (g : Grid W) → g.fetching ≡ o → Only statistic.Predictions
-      (made_of (is_none o) (is_open g.window.frames) (is_none g.standing) (is_some (fetch_begins blocks o g).fetching))
+      (made_of (is_none o) (is_open g.window.frames) (is_none g.standing)
+          (is_some (fetch_begins blocks o g).fetching))
       (part.begin_notes blocks o g)
   begin_only (Some f) g e = none_made 0 [] refl (λ s. refl)
   begin_only None g e = go (has_room g.window)

@@ -4,5 +4,5 @@ pub mod Answering
 pub mod Turning
 pub mod Flushing
 pub mod Guessing
-pub mod Cycling
-pub mod Running
+pub mod CycleFacts
+pub mod RunFacts

@@ -15,7 +15,8 @@ use Rattle.grid_cycle_spec.specs.Stations.{tile_node, tile_of}
 use Rattle.grid_cycle_spec.specs.Units.{in_unit, ready, unit_on}
 use Rattle.grid_events.specs.Notes.{Note}
 use Rattle.grid_events.specs.Notes as note
-use Rattle.grid_events.specs.UnitNotes.{finished_notes, issue_notes, issues_notes, result_notes, slot_notes, turn_notes}
+use Rattle.grid_events.specs.UnitNotes.{finished_notes, issue_notes, issues_notes, result_notes, slot_notes}
+use Rattle.grid_events.specs.UnitNotes.{turn_notes}
 use Rattle.grid_events.specs.UnitNotes.{unit_notes}
 use Rattle.grid_tallies.specs.declared.tallies.Tallies.{Tallies}
 use Rattle.grid_tallies.specs.Statistics.{Heard}

@@ -9,7 +9,8 @@ use Rattle.grid_machine.specs.Endings.{is_going}
 use Rattle.grid_tallies.specs.declared.tallies.Tallies.{Tallies}
 use Rattle.grid_tallies.specs.Statistics.{Heard}
 
--- some cycles one after another, before each of which the run goes on, and each with its notes, those of the last first
+-- some cycles one after another, before each of which the run goes on, and each with its notes, those of the last
+-- first
 abbrev pub NotedGoes : {W : Type 0} → (W → ℕ) → (W → W → Type 0) → List Block → ℕ → List (List Note) → Grid W → Grid W
     → Type 0
 NotedGoes next follows blocks budget [] g h = h ≡ g

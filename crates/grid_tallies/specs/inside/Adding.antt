@@ -24,7 +24,8 @@ Only s by es = (t : Statistic) → tally (weigh t) es ≡ cond (place t == place
 abbrev pub OnlyFlushes : Statistic → List Note → Type 0
 OnlyFlushes s es = Only s (tally flushed es) es
 
--- what is heard of the answer to a request: a load with notes that count nothing, or a store with as many flushed frames
+-- what is heard of the answer to a request: a load with notes that count nothing, or a store with as many flushed
+-- frames
 abbrev pub AnswersHeard : Bool → ℕ → Tallies → Tallies → Type 0
 AnswersHeard false flushes a b = (tile n m : ℕ) (es : List Note) → Nothing es
     → Heard a (Loads tile n m ∷ es) b

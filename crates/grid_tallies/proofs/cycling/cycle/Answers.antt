@@ -2,7 +2,7 @@ use Rattle.std.proofs.Common.{refl, arith}
 use Rattle.trips_isa.specs.declared.run.Stepped.TheVariants as stepped
 use Rattle.grid_parts.specs.Seen.{seen}
 use Rattle.grid_machine.proofs.Rooms.{ends_counted, ends_cycles, eager_counted, eager_cycles}
-use Rattle.grid_tallies.proofs.Cycling.{counted_eager, counted_last, counted_on, goes_same}
+use Rattle.grid_tallies.proofs.CycleFacts.{counted_eager, counted_last, counted_on, goes_same}
 use Rattle.grid_tallies.proofs.cycling.cycle.Goals as goal
 
 pub ends-requires-clause-committed : goal.ends-requires-clause-committed
@@ -45,10 +45,12 @@ returns-in-Went-clause-eager g c =
     let h = c.goes_on.new.grid in
     let x = c.ends.new.grid in
     let m = seen (g.V.Windows.held x.window) x.state in
-    counted_on g.W.Weather.next g.W.Weather.follows bs b here m (seen (g.V.Windows.held h.window) h.state) c.args.told.now
+    counted_on g.W.Weather.next g.W.Weather.follows bs b here m (seen (g.V.Windows.held h.window) h.state)
+        c.args.told.now
     c.ends.new.told c.goes_on.new.told c.ends.ensures.change c.in-Went.ensures c.ends.ensures.heard
     (goes_same g.W.Weather.next g.W.Weather.follows bs b (g.V.Windows.blocks x.window) (g.V.Windows.budget x.window) m
-    (seen (g.V.Windows.held h.window) h.state) c.ends.new.told c.goes_on.new.told c.ends.ensures.image c.ends.ensures.budget
+    (seen (g.V.Windows.held h.window) h.state) c.ends.new.told c.goes_on.new.told c.ends.ensures.image
+        c.ends.ensures.budget
     c.goes_on.ensures.goes)
 
 pub returns-in-Went-clause-counted : goal.returns-in-Went-clause-counted
@@ -58,7 +60,8 @@ returns-in-Went-clause-counted g c =
     let b = g.V.Windows.budget v in
     let here = seen (g.V.Windows.held v) c.args.grid.now.state in
     let h = c.goes_on.new.grid in
-    eager_counted g.W.Weather.next g.W.Weather.follows bs b here (seen (g.V.Windows.held h.window) h.state) c.requires.counted
+    eager_counted g.W.Weather.next g.W.Weather.follows bs b here (seen (g.V.Windows.held h.window) h.state)
+        c.requires.counted
     (counted_eager g.W.Weather.next g.W.Weather.follows bs b here (seen (g.V.Windows.held h.window) h.state)
     c.args.told.now c.goes_on.new.told (returns-in-Went-clause-eager g c))
 
@@ -92,7 +95,8 @@ returns-in-Ended-clause-eager g c =
     let x = c.ends.new.grid in
     let m = seen (g.V.Windows.held x.window) x.state in
     counted_last g.W.Weather.next g.W.Weather.follows bs b stepped.Ended here m
-    (seen (g.V.Windows.held c.ends.new.grid.window) c.count_cycle.new.self) c.args.told.now c.ends.new.told c.ends.ensures.change
+    (seen (g.V.Windows.held c.ends.new.grid.window) c.count_cycle.new.self) c.args.told.now c.ends.new.told
+        c.ends.ensures.change
     c.in-Ended.ensures c.ends.ensures.heard (λ y e. record { ended = e; told = refl })
     (c.count_cycle.ensures (g.V.Windows.held x.window))
 
@@ -102,8 +106,10 @@ returns-in-Ended-clause-counted g c =
     let bs = g.V.Windows.blocks v in
     let b = g.V.Windows.budget v in
     let here = seen (g.V.Windows.held v) c.args.grid.now.state in
-    eager_counted g.W.Weather.next g.W.Weather.follows bs b here (seen (g.V.Windows.held c.ends.new.grid.window) c.count_cycle.new.self) c.requires.counted
-    (counted_eager g.W.Weather.next g.W.Weather.follows bs b here (seen (g.V.Windows.held c.ends.new.grid.window) c.count_cycle.new.self)
+    eager_counted g.W.Weather.next g.W.Weather.follows bs b here
+        (seen (g.V.Windows.held c.ends.new.grid.window) c.count_cycle.new.self) c.requires.counted
+    (counted_eager g.W.Weather.next g.W.Weather.follows bs b here
+        (seen (g.V.Windows.held c.ends.new.grid.window) c.count_cycle.new.self)
     c.args.told.now c.ends.new.told (returns-in-Ended-clause-eager g c))
 
 pub returns-in-Ended-clause-cycles : goal.returns-in-Ended-clause-cycles
@@ -112,8 +118,10 @@ returns-in-Ended-clause-cycles g c =
     let bs = g.V.Windows.blocks v in
     let b = g.V.Windows.budget v in
     let here = seen (g.V.Windows.held v) c.args.grid.now.state in
-    eager_cycles g.W.Weather.next g.W.Weather.follows bs b here (seen (g.V.Windows.held c.ends.new.grid.window) c.count_cycle.new.self)
-    (counted_eager g.W.Weather.next g.W.Weather.follows bs b here (seen (g.V.Windows.held c.ends.new.grid.window) c.count_cycle.new.self)
+    eager_cycles g.W.Weather.next g.W.Weather.follows bs b here
+        (seen (g.V.Windows.held c.ends.new.grid.window) c.count_cycle.new.self)
+    (counted_eager g.W.Weather.next g.W.Weather.follows bs b here
+        (seen (g.V.Windows.held c.ends.new.grid.window) c.count_cycle.new.self)
     c.args.told.now c.ends.new.told (returns-in-Ended-clause-eager g c))
 
 pub count_cycle-requires-in-StackFull : goal.count_cycle-requires-in-StackFull
@@ -135,7 +143,8 @@ returns-in-StackFull-clause-eager g c =
     let x = c.ends.new.grid in
     let m = seen (g.V.Windows.held x.window) x.state in
     counted_last g.W.Weather.next g.W.Weather.follows bs b stepped.StackFull here m
-    (seen (g.V.Windows.held c.ends.new.grid.window) c.count_cycle-in-StackFull.new.self) c.args.told.now c.ends.new.told c.ends.ensures.change
+    (seen (g.V.Windows.held c.ends.new.grid.window) c.count_cycle-in-StackFull.new.self) c.args.told.now
+        c.ends.new.told c.ends.ensures.change
     c.in-StackFull.ensures c.ends.ensures.heard (λ y e. record { ended = e; told = refl })
     (c.count_cycle-in-StackFull.ensures (g.V.Windows.held x.window))
 
@@ -145,8 +154,10 @@ returns-in-StackFull-clause-counted g c =
     let bs = g.V.Windows.blocks v in
     let b = g.V.Windows.budget v in
     let here = seen (g.V.Windows.held v) c.args.grid.now.state in
-    eager_counted g.W.Weather.next g.W.Weather.follows bs b here (seen (g.V.Windows.held c.ends.new.grid.window) c.count_cycle-in-StackFull.new.self) c.requires.counted
-    (counted_eager g.W.Weather.next g.W.Weather.follows bs b here (seen (g.V.Windows.held c.ends.new.grid.window) c.count_cycle-in-StackFull.new.self)
+    eager_counted g.W.Weather.next g.W.Weather.follows bs b here
+        (seen (g.V.Windows.held c.ends.new.grid.window) c.count_cycle-in-StackFull.new.self) c.requires.counted
+    (counted_eager g.W.Weather.next g.W.Weather.follows bs b here
+        (seen (g.V.Windows.held c.ends.new.grid.window) c.count_cycle-in-StackFull.new.self)
     c.args.told.now c.ends.new.told (returns-in-StackFull-clause-eager g c))
 
 pub returns-in-StackFull-clause-cycles : goal.returns-in-StackFull-clause-cycles
@@ -155,8 +166,10 @@ returns-in-StackFull-clause-cycles g c =
     let bs = g.V.Windows.blocks v in
     let b = g.V.Windows.budget v in
     let here = seen (g.V.Windows.held v) c.args.grid.now.state in
-    eager_cycles g.W.Weather.next g.W.Weather.follows bs b here (seen (g.V.Windows.held c.ends.new.grid.window) c.count_cycle-in-StackFull.new.self)
-    (counted_eager g.W.Weather.next g.W.Weather.follows bs b here (seen (g.V.Windows.held c.ends.new.grid.window) c.count_cycle-in-StackFull.new.self)
+    eager_cycles g.W.Weather.next g.W.Weather.follows bs b here
+        (seen (g.V.Windows.held c.ends.new.grid.window) c.count_cycle-in-StackFull.new.self)
+    (counted_eager g.W.Weather.next g.W.Weather.follows bs b here
+        (seen (g.V.Windows.held c.ends.new.grid.window) c.count_cycle-in-StackFull.new.self)
     c.args.told.now c.ends.new.told (returns-in-StackFull-clause-eager g c))
 
 pub count_cycle-requires-in-Trap : goal.count_cycle-requires-in-Trap
@@ -178,7 +191,8 @@ returns-in-Trap-clause-eager g c =
     let x = c.ends.new.grid in
     let m = seen (g.V.Windows.held x.window) x.state in
     counted_last g.W.Weather.next g.W.Weather.follows bs b (stepped.Trap c.in-Trap.field-0) here m
-    (seen (g.V.Windows.held c.ends.new.grid.window) c.count_cycle-in-Trap.new.self) c.args.told.now c.ends.new.told c.ends.ensures.change
+    (seen (g.V.Windows.held c.ends.new.grid.window) c.count_cycle-in-Trap.new.self) c.args.told.now c.ends.new.told
+        c.ends.ensures.change
     c.in-Trap.ensures c.ends.ensures.heard (λ y e. record { ended = e; told = refl })
     (c.count_cycle-in-Trap.ensures (g.V.Windows.held x.window))
 
@@ -188,8 +202,10 @@ returns-in-Trap-clause-counted g c =
     let bs = g.V.Windows.blocks v in
     let b = g.V.Windows.budget v in
     let here = seen (g.V.Windows.held v) c.args.grid.now.state in
-    eager_counted g.W.Weather.next g.W.Weather.follows bs b here (seen (g.V.Windows.held c.ends.new.grid.window) c.count_cycle-in-Trap.new.self) c.requires.counted
-    (counted_eager g.W.Weather.next g.W.Weather.follows bs b here (seen (g.V.Windows.held c.ends.new.grid.window) c.count_cycle-in-Trap.new.self)
+    eager_counted g.W.Weather.next g.W.Weather.follows bs b here
+        (seen (g.V.Windows.held c.ends.new.grid.window) c.count_cycle-in-Trap.new.self) c.requires.counted
+    (counted_eager g.W.Weather.next g.W.Weather.follows bs b here
+        (seen (g.V.Windows.held c.ends.new.grid.window) c.count_cycle-in-Trap.new.self)
     c.args.told.now c.ends.new.told (returns-in-Trap-clause-eager g c))
 
 pub returns-in-Trap-clause-cycles : goal.returns-in-Trap-clause-cycles
@@ -198,6 +214,8 @@ returns-in-Trap-clause-cycles g c =
     let bs = g.V.Windows.blocks v in
     let b = g.V.Windows.budget v in
     let here = seen (g.V.Windows.held v) c.args.grid.now.state in
-    eager_cycles g.W.Weather.next g.W.Weather.follows bs b here (seen (g.V.Windows.held c.ends.new.grid.window) c.count_cycle-in-Trap.new.self)
-    (counted_eager g.W.Weather.next g.W.Weather.follows bs b here (seen (g.V.Windows.held c.ends.new.grid.window) c.count_cycle-in-Trap.new.self)
+    eager_cycles g.W.Weather.next g.W.Weather.follows bs b here
+        (seen (g.V.Windows.held c.ends.new.grid.window) c.count_cycle-in-Trap.new.self)
+    (counted_eager g.W.Weather.next g.W.Weather.follows bs b here
+        (seen (g.V.Windows.held c.ends.new.grid.window) c.count_cycle-in-Trap.new.self)
     c.args.told.now c.ends.new.told (returns-in-Trap-clause-eager g c))

@@ -7,7 +7,7 @@ use Rattle.grid_parts.specs.Seen.{seen}
 use Rattle.grid_machine.proofs.Rooms.{flushed_fit, after_reads, after_units}
 use Rattle.grid_events.specs.Parts.{answers_notes, works_notes}
 use Rattle.grid_tallies.proofs.Answering.{same_heard}
-use Rattle.grid_tallies.proofs.Cycling.{acts_heard, goes_counted, moves_same}
+use Rattle.grid_tallies.proofs.CycleFacts.{acts_heard, goes_counted, moves_same}
 use Rattle.grid_tallies.proofs.cycling.goes_on.Goals as goal
 
 pub fetches-requires : goal.fetches-requires

@@ -1,7 +1,7 @@
 use Rattle.std.proofs.Common.{◌≡◌, length, sym, ap, ◌∙◌, arith}
 use Rattle.grid_parts.specs.Seen.{seen}
 use Rattle.grid_parts.proofs.FlushFacts.{as_many}
-use Rattle.grid_tallies.proofs.Running.{closing_heard}
+use Rattle.grid_tallies.proofs.RunFacts.{closing_heard}
 use Rattle.grid_tallies.proofs.running.close.Goals as goal
 
 pub returns-clause-heard : goal.returns-clause-heard

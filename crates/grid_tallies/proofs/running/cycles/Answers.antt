@@ -1,7 +1,7 @@
 use Rattle.std.proofs.Common.{[], refl, ◌∙◌, sym, arith}
 use Rattle.grid_parts.specs.Seen.{seen}
 use Rattle.grid_tallies.proofs.Tallying.{heard_none}
-use Rattle.grid_tallies.proofs.Running.{one_more}
+use Rattle.grid_tallies.proofs.RunFacts.{one_more}
 use Rattle.grid_tallies.proofs.running.cycles.Goals as goal
 
 pub loop-made-start : goal.loop-made-start

@@ -20,7 +20,8 @@ loop-tile-preserved g c =
           ∙ ap₂ (λ i j. unit_turn i j c.loop-tile.tile now) c.loop-tile.invariant.image c.loop-tile.invariant.budget
           ∙ ap (unit_turn bs b c.loop-tile.tile) c.loop-tile.invariant.change
           ∙ ap (λ n. each (unit_turn bs b) n start) (sym (add-one c.loop-tile.tile));
-      heard = each_heard (unit_turn bs b) (turn_notes bs b) c.loop-tile.tile start now c.args.told.now c.loop-tile.told
+      heard = each_heard (unit_turn bs b) (turn_notes bs b) c.loop-tile.tile start now c.args.told.now
+          c.loop-tile.told
           c.unit_turn.new.told c.loop-tile.invariant.change c.loop-tile.invariant.heard
           (same_heard (λ i j. turn_notes i j c.loop-tile.tile now) _ bs _ b c.loop-tile.told c.unit_turn.new.told
           c.loop-tile.invariant.image c.loop-tile.invariant.budget c.unit_turn.ensures.heard);

@@ -58,7 +58,8 @@ module _ {W : Type 0} (blocks : List Block) (budget : ℕ) where
       let z4 : z ≡ g4 = i ∙ ap (answers blocks budget) y3 in
       heard_both a b d (fetches_notes blocks budget g)
       (reads_notes blocks budget g2 ++ (answers_notes blocks budget g3 ++ works_notes blocks budget g4)) fetch
-      (heard_both b b d (reads_notes blocks budget g2) (answers_notes blocks budget g3 ++ works_notes blocks budget g4)
+      (heard_both b b d (reads_notes blocks budget g2) (answers_notes blocks budget g3 ++ works_notes blocks budget
+          g4)
       (heard_none b (reads_notes blocks budget g2) (nothing_reads g2))
       (heard_both b c d (answers_notes blocks budget g3) (works_notes blocks budget g4)
       (subst (λ (k : Grid W). Heard b (answers_notes blocks budget k) c) y3 answer)
@@ -102,7 +103,8 @@ module _ {W : Type 0} (next : W → ℕ) (follows : W → W → Type 0) (blocks 
     noted = record {
       rest = rest;
       told = refl;
-      cycle = subst (λ (s : Stepped). NotedFollows s next follows blocks budget (ends blocks budget g) rest h) is cycle;
+      cycle = subst (λ (s : Stepped). NotedFollows s next follows blocks budget (ends blocks budget g) rest h) is
+          cycle;
     };
     heard = heard_both a b c (ends_notes blocks budget g) rest ended heard;
   }
