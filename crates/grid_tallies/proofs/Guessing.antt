@@ -1,6 +1,6 @@
 -- What is heard of part (2) of a cycle: the blocks that are predicted, and nothing else.
 use Rattle.std.proofs.Common.{◌≡◌, ℕ, zero, suc, Bool, true, false, cond, List, [], ◌∷◌, ◌++◌, Option, Some, None}
-use Rattle.std.proofs.Common.{◌==◌, is_none, is_some, refl, sym, ap, ◌∙◌, subst}
+use Rattle.std.proofs.Common.{◌==◌, is_none, refl, sym, ap, ◌∙◌, subst}
 use Rattle.trips_isa.specs.declared.block.Block.{Block}
 use Rattle.block_predict.specs.Predicts.{predicted}
 use Rattle.commit_flush_spec.specs.Frames.{Frame, Exit}
@@ -45,24 +45,24 @@ none_made n es zero none = λ s. none s ∙ sym (split (place s == 8) n zero)
 
 module _ {W : Type 0} (blocks : List Block) where
   after_predicted : (f : Frame) (o : Option ℕ) (g : Grid W) → g.fetching ≡ None → Only statistic.Predictions
-      (cond (is_some (begun_predicted blocks f.block o g).fetching) 1 0) (part.predicted_notes f.number o)
-  after_predicted f None g e = none_made _ [] (ap (λ o. cond (is_some o) 1 0) e) (λ s. refl)
+      (cond (is_none (begun_predicted blocks f.block o g).fetching) 0 1) (part.predicted_notes f.number o)
+  after_predicted f None g e = none_made _ [] (ap (λ o. cond (is_none o) 0 1) e) (λ s. refl)
   after_predicted f (Some k) g e =
       only_first (note.Predicts f.number k) statistic.Predictions (note.Begins k false ∷ []) refl (λ s. refl)
 
   after_guess : (o : Option ℕ) (f : Frame) (g : Grid W) → g.fetching ≡ None → Only statistic.Predictions
-      (cond (is_none o) (cond (is_some (begun_guess blocks o f g).fetching) 1 0) 0) (part.guess_notes blocks o f g)
+      (cond (is_none o) (cond (is_none (begun_guess blocks o f g).fetching) 0 1) 0) (part.guess_notes blocks o f g)
   after_guess (Some k) f g e = none_made 0 (note.Begins k true ∷ []) refl (λ s. refl)
   after_guess None f g e = after_predicted f (predicted blocks g.predictor f.block) g e
 
   after_behind : (f : Frame) (o : Option Exit) (g : Grid W) → g.fetching ≡ None → Only statistic.Predictions
-      (cond (is_none o) (cond (is_none g.standing) (cond (is_some (begun_behind blocks f o g).fetching) 1 0) 0) 0)
+      (cond (is_none o) (cond (is_none g.standing) (cond (is_none (begun_behind blocks f o g).fetching) 0 1) 0) 0)
       (part.behind_notes blocks f o g)
   after_behind f (Some x) g e = none_made 0 (part.behind_notes blocks f (Some x) g) refl (λ s. refl)
   after_behind f None g e = after_guess g.standing f g e
 
   after_all : (fs : List Frame) (g : Grid W) → g.fetching ≡ None → Only statistic.Predictions
-      (cond (is_open fs) (cond (is_none g.standing) (cond (is_some (begun_after blocks fs g).fetching) 1 0) 0) 0)
+      (cond (is_open fs) (cond (is_none g.standing) (cond (is_none (begun_after blocks fs g).fetching) 0 1) 0) 0)
       (part.after_notes blocks fs g)
   after_all [] g e = none_made 0 (part.after_notes blocks [] g) refl (λ s. refl)
   after_all (f ∷ []) g e = after_behind f f.exit g e
@@ -75,17 +75,26 @@ module _ {W : Type 0} (blocks : List Block) where
 
   begin_only : (o : Option Fetching) (g : Grid W) → g.fetching ≡ o → Only statistic.Predictions
       (made_of (is_none o) (is_open g.window.frames) (is_none g.standing)
-          (is_some (fetch_begins blocks o g).fetching))
+          (is_none (fetch_begins blocks o g).fetching))
       (part.begin_notes blocks o g)
   begin_only (Some f) g e = none_made 0 [] refl (λ s. refl)
   begin_only None g e = go (has_room g.window)
     where
       go : (b : Bool) → Only statistic.Predictions (cond (is_open g.window.frames) (cond (is_none g.standing)
-          (cond (is_some (cond b (begun_after blocks g.window.frames g) g).fetching) 1 0) 0) 0)
+          (cond (is_none (cond b (begun_after blocks g.window.frames g) g).fetching) 0 1) 0) 0)
           (cond b (part.after_notes blocks g.window.frames g) [])
       go true = after_all g.window.frames g e
       go false = none_made _ [] (ap (λ o. cond (is_open g.window.frames) (cond (is_none g.standing)
-          (cond (is_some o) 1 0) 0) 0) e ∙ zeros (is_open g.window.frames) (is_none g.standing)) (λ s. refl)
+          (cond (is_none o) 0 1) 0) 0) e ∙ zeros (is_open g.window.frames) (is_none g.standing)) (λ s. refl)
+
+  -- what is told of the fetch unit before and behind says how many blocks are predicted
+  pub made_by : (idle opened none still : Bool) (g h : Grid W) → idle ≡ is_none g.fetching
+      → opened ≡ is_open g.window.frames → none ≡ is_none g.standing → still ≡ is_none h.fetching
+      → made_of idle opened none still ≡ made g h
+  made_by idle opened none still g h e f i j =
+      ap (λ b. made_of b opened none still) e ∙ ap (λ b. made_of (is_none g.fetching) b none still) f
+      ∙ ap (λ b. made_of (is_none g.fetching) (is_open g.window.frames) b still) i
+      ∙ ap (λ b. made_of (is_none g.fetching) (is_open g.window.frames) (is_none g.standing) b) j
 
   -- the begin of a fetch is heard where what it predicts is counted
   pub begins_heard : (g h : Grid W) (by : ℕ) (a b : Tallies) → h ≡ begins blocks g → by ≡ made g h

@@ -1,3 +1,4 @@
+pub mod StandardFacts
 pub mod Tallying
 pub mod Weighed
 pub mod Answering

@@ -34,14 +34,14 @@ fn is_open<V: Windows>(window: &V) -> bool
     is_last_open(window, frames.as_slice())
 }
 
-// One where all four are so.
-fn made_of(idle: bool, opened: bool, none: bool, busy: bool) -> u64
-    ensures { result ≡ made_of idle opened none busy }
+// One where the first three are so, and the last is not.
+fn made_of(idle: bool, opened: bool, none: bool, still: bool) -> u64
+    ensures { result ≡ made_of idle opened none still }
 {
     if idle {
         if opened {
             if none {
-                if busy { 1 } else { 0 }
+                if still { 0 } else { 1 }
             } else {
                 0
             }
@@ -65,8 +65,9 @@ fn begins<V: Windows, W>(grid: &mut Grid<V, W>, told: &mut Tallies)
     let opened = is_open(&grid.window);
     let none = grid.state.standing.is_none();
     grid.fetch_begins();
-    let busy = !grid.state.is_idle();
-    told.add(Statistic::Predictions, made_of(idle, opened, none, busy));
+    let still = grid.state.is_idle();
+    let made = made_of(idle, opened, none, still);
+    told.add(Statistic::Predictions, made);
 }
 
 /// Part (2). It wants room in the grid's counts as that does.

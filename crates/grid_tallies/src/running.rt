@@ -80,7 +80,7 @@ pub fn close<V: Windows, W>(grid: &mut Grid<V, W>, told: &mut Tallies)
     ensures image { V.blocks grid.new.window ≡ V.blocks grid.old.window }
     ensures budget { V.budget grid.new.window ≡ V.budget grid.old.window }
 {
-    let frames = grid.window.numbers().len() as u64;
+    let frames = grid.window.numbers().len();
     grid_machine::close(grid);
-    told.add(Statistic::Ends, frames);
+    told.add(Statistic::Ends, frames as u64);
 }
