@@ -1,4 +1,5 @@
 pub mod StandardFacts
+pub mod Adding
 pub mod Tallying
 pub mod Weighed
 pub mod Answering

@@ -1,27 +1,50 @@
 //! Part (4) of a cycle, counted: data tiles answer loads and stores.
-ghost use Rattle.std.specs.Prelude.{◌≡◌, ◌<◌, ◌≤◌, ◌+◌, ◌^◌, ℕ, List, Some};
+ghost use Rattle.std.specs.Prelude.{◌≡◌, ◌<◌, ◌≤◌, ◌+◌, ◌^◌, ℕ, Some, true, false};
 ghost use Rattle.grid_cycle_spec.specs.DataTiles as spec;
 ghost use Rattle.grid_events.specs.StationNotes as noted;
 ghost use Rattle.grid_parts.specs.Seen.{seen};
-ghost use Rattle.trips_isa.specs.Forms.{form_of as kind, is_store};
+ghost use Rattle.trips_isa.specs.Forms as forms;
 ghost use Rattle.grid_tallies.specs.Statistics.{Heard};
 ghost use Rattle.grid_tallies.specs.inside.Adding.{AnswersHeard};
 
 use crate::statistic::Statistic;
 use crate::tallies::Tallies;
-use grid_parts::{Grid, Request, Windows, answerable};
-use trips_isa::{Form, form_of};
+use grid_parts::{Grid, Windows, answerable};
+use trips_isa::{Form, Op, form_of};
 
-// A load is counted, or a store with the frames that it has flushed.
-fn count(told: &mut Tallies, request: Request, flushed: u64)
-    ensures { AnswersHeard (is_store (kind request.inst.op)) flushed told.old told.new }
+// Whether an operation is a store.
+fn is_store(op: Op) -> bool
+    ensures { result ≡ forms.is_store (forms.form_of op) }
 {
-    match form_of(request.inst.op) {
-        Form::Store => {
-            told.add(Statistic::Stores, 1);
-            told.add(Statistic::Violations, flushed);
-        }
-        _ => told.add(Statistic::Loads, 1),
+    match form_of(op) {
+        Form::Store => true,
+        _ => false,
+    }
+}
+
+// A store is counted, with the frames that it has flushed.
+fn count_store(told: &mut Tallies, flushed: u64)
+    ensures { AnswersHeard true flushed told.old told.new }
+{
+    told.add(Statistic::Stores, 1);
+    told.add(Statistic::Violations, flushed);
+}
+
+// A load is counted.
+fn count_load(told: &mut Tallies)
+    ensures { (flushed : ℕ) → AnswersHeard false flushed told.old told.new }
+{
+    told.add(Statistic::Loads, 1);
+}
+
+// A load or a store is counted.
+fn count(told: &mut Tallies, store: bool, flushed: u64)
+    ensures { AnswersHeard store flushed told.old told.new }
+{
+    if store {
+        count_store(told, flushed);
+    } else {
+        count_load(told);
     }
 }
 
@@ -51,7 +74,8 @@ fn answered<V: Windows, W>(
     grid.answer(tile, frame, number);
     match request {
         Some(request) => {
-            count(told, request, grid.state.counts.flushed.saturating_sub(before));
+            let flushed = grid.state.counts.flushed.saturating_sub(before);
+            count(told, is_store(request.inst.op), flushed);
         }
         None => {}
     }

@@ -1,3 +1,4 @@
+use Rattle.grid_tallies.proofs.Adding.{grown}
 use Rattle.grid_tallies.proofs.StandardFacts.{mov}
 use Rattle.grid_tallies.proofs.Answering.{answer_heard}
 use Rattle.grid_tallies.proofs.Turning.{turn_heard}
