@@ -69,12 +69,12 @@ heard_store true by a b c e one more = λ tile n m null es only many.
     (subst (λ k. Only statistic.Violations k es) many only))
 heard_store false by a b c e one more = absurd (true≢false (sym e))
 
-inst_or : Inst → Option Request → Inst
+abbrev inst_or : Inst → Option Request → Inst
 inst_or i None = i
 inst_or i (Some x) = x.inst
 
 module _ {W : Type 0} (blocks : List Block) (budget tile n m : ℕ) (g : Grid W) (a b : Tallies) where
-  notes_in : Frame → List Note
+  abbrev notes_in : Frame → List Note
   notes_in f = answered_notes blocks budget tile n m f (request f m) g
 
   -- what a request is answered with
@@ -163,7 +163,7 @@ module _ {W : Type 0} (blocks : List Block) (budget tile n m : ℕ) (g : Grid W)
 -- a slot fires -----------------------------------------------------------------------------------
 
 module _ (tile n s : ℕ) (a b : Tallies) where
-  fired : Frame → List Note
+  abbrev fired : Frame → List Note
   fired f = note.Fires tile n s (operation (slot_of f.code s)) ∷ []
 
   -- what a slot of a frame in flight holds counts once

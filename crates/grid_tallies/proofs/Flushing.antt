@@ -64,6 +64,18 @@ module _ (k : Statistic) where
 
 -- part (1) -----------------------------------------------------------------------------------------
 
+ending : (s : Stepped) (f : Frame) → OnlyFlushes statistic.Ends (part.ended_as s f ∷ [])
+ending stepped.Went f = flushes_none statistic.Ends (note.Commits f.number f.block ∷ []) (λ s. refl) refl
+ending stepped.Ended f = flushes_none statistic.Ends (note.Commits f.number f.block ∷ []) (λ s. refl) refl
+ending stepped.StackFull f = flushes_none statistic.Ends (note.Commits f.number f.block ∷ []) (λ s. refl) refl
+ending (stepped.Trap c) f = flushes_none statistic.Ends (note.Traps f.number f.block ∷ []) (λ s. refl) refl
+
+trapping : (s : Stepped) (fs : List Frame) → OnlyFlushes statistic.Ends (part.trap_flushes s fs)
+trapping stepped.Went fs = flushes_empty statistic.Ends
+trapping stepped.Ended fs = flushes_empty statistic.Ends
+trapping stepped.StackFull fs = flushes_empty statistic.Ends
+trapping (stepped.Trap c) fs = flushes_only End fs
+
 module _ {W : Type 0} (blocks : List Block) (budget : ℕ) where
   sealing : (n : ℕ) (g : Grid W) → OnlyFlushes statistic.Ends (part.seal_notes blocks budget n g)
   sealing n g = flushes_either statistic.Ends (may blocks budget (window.Seal n) g) (note.Seals n ∷ []) []
@@ -74,18 +86,6 @@ module _ {W : Type 0} (blocks : List Block) (budget : ℕ) where
   sealings (n ∷ ns) g = flushes_both statistic.Ends (part.seal_notes blocks budget n g)
       (part.seals_notes blocks budget ns (seal_one blocks budget n g)) (sealing n g)
       (sealings ns (seal_one blocks budget n g))
-
-  ending : (s : Stepped) (f : Frame) → OnlyFlushes statistic.Ends (part.ended_as s f ∷ [])
-  ending stepped.Went f = flushes_none statistic.Ends (note.Commits f.number f.block ∷ []) (λ s. refl) refl
-  ending stepped.Ended f = flushes_none statistic.Ends (note.Commits f.number f.block ∷ []) (λ s. refl) refl
-  ending stepped.StackFull f = flushes_none statistic.Ends (note.Commits f.number f.block ∷ []) (λ s. refl) refl
-  ending (stepped.Trap c) f = flushes_none statistic.Ends (note.Traps f.number f.block ∷ []) (λ s. refl) refl
-
-  trapping : (s : Stepped) (fs : List Frame) → OnlyFlushes statistic.Ends (part.trap_flushes s fs)
-  trapping stepped.Went fs = flushes_empty statistic.Ends
-  trapping stepped.Ended fs = flushes_empty statistic.Ends
-  trapping stepped.StackFull fs = flushes_empty statistic.Ends
-  trapping (stepped.Trap c) fs = flushes_only End fs
 
   committing : (s : Stepped) (f : Frame) (fs : List Frame) (g : Grid W)
       → OnlyFlushes statistic.Ends (part.committed_notes s f fs g)
@@ -126,13 +126,13 @@ module _ {W : Type 0} (blocks : List Block) (budget : ℕ) where
 
 -- part (6) -----------------------------------------------------------------------------------------
 
+delivering : (n p : ℕ) → OnlyFlushes statistic.WrongExits (note.Delivers n p ∷ [])
+delivering n p = flushes_none statistic.WrongExits (note.Delivers n p ∷ []) (λ s. refl) refl
+
+asking : (m n : ℕ) → OnlyFlushes statistic.WrongExits (part.asks_notes m n)
+asking m n = flushes_none statistic.WrongExits (part.asks_notes m n) (λ s. refl) refl
+
 module _ {W : Type 0} (blocks : List Block) (budget : ℕ) where
-  delivering : (n p : ℕ) → OnlyFlushes statistic.WrongExits (note.Delivers n p ∷ [])
-  delivering n p = flushes_none statistic.WrongExits (note.Delivers n p ∷ []) (λ s. refl) refl
-
-  asking : (m n : ℕ) → OnlyFlushes statistic.WrongExits (part.asks_notes m n)
-  asking m n = flushes_none statistic.WrongExits (part.asks_notes m n) (λ s. refl) refl
-
   leaving : (f : Frame) (g : Grid W)
       → OnlyFlushes statistic.WrongExits (part.acted (note.Leaves f.number (part.names blocks f)) WrongExit blocks
           budget

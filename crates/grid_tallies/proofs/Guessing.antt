@@ -37,7 +37,7 @@ open_youngest f (h ∷ (i ∷ fs)) y = open_youngest f (i ∷ fs) y
 
 -- notes that count nothing are no predictions
 none_made : (n : ℕ) (es : List Note) → n ≡ 0 → Nothing es → Only statistic.Predictions n es
-none_made n es zero none = λ s. none s ∙ sym (split (place s == 8) n zero)
+none_made n es off none = λ s. none s ∙ sym (split (place s == 8) n off)
   where
     split : (c : Bool) (n : ℕ) → n ≡ 0 → cond c n 0 ≡ 0
     split true n e = e
@@ -68,7 +68,7 @@ module _ {W : Type 0} (blocks : List Block) where
   after_all (f ∷ []) g e = after_behind f f.exit g e
   after_all (f ∷ (h ∷ fs)) g e = after_all (h ∷ fs) g e
 
-  zeros : (b c : Bool) → cond b (cond c 0 0) 0 ≡ 0
+  zeros : (b c : Bool) → ◌≡◌ {A = ℕ} (cond b (cond c 0 0) 0) 0
   zeros true true = refl
   zeros true false = refl
   zeros false c = refl

@@ -95,7 +95,7 @@ none_of false n e = refl
 
 -- notes that count nothing and are no flushes
 pub flushes_none : (k : Statistic) (es : List Note) → Nothing es → tally flushed es ≡ 0 → OnlyFlushes k es
-flushes_none k es none zero = λ s. none s ∙ sym (none_of (place s == place k) (tally flushed es) zero)
+flushes_none k es none off = λ s. none s ∙ sym (none_of (place s == place k) (tally flushed es) off)
 
 -- two lists that count their flushes as one statistic
 pub flushes_both : (k : Statistic) (es fs : List Note) → OnlyFlushes k es → OnlyFlushes k fs
