@@ -43,6 +43,11 @@ none_made n es off none = λ s. none s ∙ sym (split (place s == 8) n off)
     split true n e = e
     split false n e = refl
 
+zeros : (b c : Bool) → ◌≡◌ {A = ℕ} (cond b (cond c 0 0) 0) 0
+zeros true true = refl
+zeros true false = refl
+zeros false c = refl
+
 module _ {W : Type 0} (blocks : List Block) where
   after_predicted : (f : Frame) (o : Option ℕ) (g : Grid W) → g.fetching ≡ None → Only statistic.Predictions
       (cond (is_none (begun_predicted blocks f.block o g).fetching) 0 1) (part.predicted_notes f.number o)
@@ -67,11 +72,6 @@ module _ {W : Type 0} (blocks : List Block) where
   after_all [] g e = none_made 0 (part.after_notes blocks [] g) refl (λ s. refl)
   after_all (f ∷ []) g e = after_behind f f.exit g e
   after_all (f ∷ (h ∷ fs)) g e = after_all (h ∷ fs) g e
-
-  zeros : (b c : Bool) → ◌≡◌ {A = ℕ} (cond b (cond c 0 0) 0) 0
-  zeros true true = refl
-  zeros true false = refl
-  zeros false c = refl
 
   begin_only : (o : Option Fetching) (g : Grid W) → g.fetching ≡ o → Only statistic.Predictions
       (made_of (is_none o) (is_open g.window.frames) (is_none g.standing)
