@@ -1,12 +1,22 @@
-use Rattle.std.proofs.Common.{◌≡◌, sym, ap, ap₂, subst, ◌∙◌, add-one, arith}
+use Rattle.std.proofs.Common.{◌≡◌, [], refl, sym, ap, ap₂, subst, ◌∙◌, add-one, arith}
 use Rattle.grid_cycle_spec.specs.Choosing.{each}
 use Rattle.grid_cycle_spec.specs.DataTiles.{data_turn}
 use Rattle.grid_events.specs.StationNotes.{data_notes}
 use Rattle.grid_events.specs.Turns.{of_each}
 use Rattle.grid_parts.specs.Seen.{seen}
 use Rattle.grid_tallies.specs.Statistics.{Heard}
+use Rattle.grid_tallies.proofs.Tallying.{heard_none}
 use Rattle.grid_tallies.proofs.Answering.{each_heard, same_heard}
 use Rattle.grid_tallies.proofs.data_tiles.answers.Goals as goal
+
+pub loop-tile-init : goal.loop-tile-init
+loop-tile-init g c = record {
+  change = refl;
+  heard = heard_none c.args.told.now [] (λ s. refl);
+  few = omega arith;
+  image = refl;
+  budget = refl;
+}
 
 pub loop-tile-preserved : goal.loop-tile-preserved
 loop-tile-preserved g c =

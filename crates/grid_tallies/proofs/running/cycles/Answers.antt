@@ -4,8 +4,8 @@ use Rattle.grid_tallies.proofs.Tallying.{heard_none}
 use Rattle.grid_tallies.proofs.RunFacts.{one_more}
 use Rattle.grid_tallies.proofs.running.cycles.Goals as goal
 
-pub loop-made-start : goal.loop-made-start
-loop-made-start g c = record {
+pub loop-made-init : goal.loop-made-init
+loop-made-init g c = record {
   run = record {
     notes = [];
     many = refl;
