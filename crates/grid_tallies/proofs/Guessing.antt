@@ -1,6 +1,6 @@
 -- What is heard of part (2) of a cycle: the blocks that are predicted, and nothing else.
 use Rattle.std.proofs.Common.{◌≡◌, ℕ, zero, suc, Bool, true, false, cond, List, [], ◌∷◌, ◌++◌, Option, Some, None}
-use Rattle.std.proofs.Common.{◌==◌, is_none, refl, sym, ap, ◌∙◌, subst}
+use Rattle.std.proofs.Common.{◌==◌, is_none, is_some, not, refl, sym, ap, ◌∙◌, subst}
 use Rattle.trips_isa.specs.declared.block.Block.{Block}
 use Rattle.block_predict.specs.Predicts.{predicted}
 use Rattle.commit_flush_spec.specs.Frames.{Frame, Exit}
@@ -28,6 +28,13 @@ use Rattle.grid_tallies.proofs.Weighed.{only_first}
 pub number_none : (o : Option Exit) → is_none (number_of o) ≡ is_none o
 number_none None = refl
 number_none (Some e) = refl
+
+-- that there is none is told by whether there is one
+pub none_told : (o : Option ℕ) (b : Bool) → is_some o ≡ not b → b ≡ is_none o
+none_told None true e = refl
+none_told None false e = absurd (let x = e in cc)
+none_told (Some n) true e = absurd (let x = e in cc)
+none_told (Some n) false e = refl
 
 -- the youngest frame says whether some frames are open
 pub open_youngest : (f : Frame) (fs : List Frame) → IsYoungest f fs → is_open fs ≡ is_none f.exit

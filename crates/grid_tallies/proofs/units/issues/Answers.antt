@@ -54,5 +54,5 @@ pub returns-else-busy-eq0-clause-heard : goal.returns-else-busy-eq0-clause-heard
 returns-else-busy-eq0-clause-heard g c =
     let w = c.args.grid.now.window in
     let here = seen (g.V.Windows.held w) c.args.grid.now.state in
-    busy_heard (g.V.Windows.blocks w) (g.V.Windows.budget w) c.args.tile here c.args.told.now
+    busy_heard (g.V.Windows.blocks w) (g.V.Windows.budget w) c.args.tile here c.args.told.now c.args.told.now
     (λ e. c.if-busy-eq0.false (c.busy.ensures ∙ e))
