@@ -281,7 +281,7 @@ module _ {W : Type 0} (blocks : List Block) (budget : ℕ) (R : Grid W → List 
   fetches_keep g =
       let m : Grid W = fetch_ends blocks budget g.fetching g in
       k.chain g m (begins blocks m) (part.fetch_notes blocks budget g.fetching g)
-          (part.begin_notes blocks m.fetching m)
+      (part.begin_notes blocks m.fetching m)
       (fetched_keeps g.fetching g refl) (begins_keeps m.fetching m refl)
 
   -- part (3) ---------------------------------------------------------------------------------------
@@ -295,7 +295,7 @@ module _ {W : Type 0} (blocks : List Block) (budget : ℕ) (R : Grid W → List 
       let m : Grid W = record g { window = w } in
       let notes : Frame → List Note = λ f. part.both_notes (bank_node bank) f (first_read_place + 2 * q.1) in
       k.chain g m (read_chosen blocks budget bank (Some q) g) (note.Reads bank q.0 q.1 ∷ [])
-          (of_frame q.0 notes w.frames)
+      (of_frame q.0 notes w.frames)
       (k.single (note.Reads bank q.0 q.1) (window.Read q.0 q.1) tt refl g m d refl refl refl refl)
       (frame_keeps (λ f h. enter_both (bank_node bank) f (first_read_place + 2 * q.1) h) notes m
       (λ f. both_keeps (bank_node bank) f (first_read_place + 2 * q.1) m) q.0 w.frames)
@@ -423,7 +423,7 @@ module _ {W : Type 0} (blocks : List Block) (budget : ℕ) (R : Grid W → List 
         where
           step : (b : Bool)
               → cond b (operation (slot_of f.code q.1)) (operation_in q.0 q.1 fs) ≡ operation_in q.0 q.1
-                  g.window.frames
+              g.window.frames
               → (operation_in q.0 q.1 fs ≡ operation_in q.0 q.1 g.window.frames
               → R g (of_frame q.0 (λ f. note.Fires tile q.0 q.1 (operation (slot_of f.code q.1)) ∷ []) fs)
               (with_frame q.0 (λ f h. issued blocks budget tile q.0 q.1 (takes (slot_of f.code q.1)) h) fs g))
@@ -546,7 +546,7 @@ module _ {W : Type 0} (blocks : List Block) (budget : ℕ) (R : Grid W → List 
         then_counted m a h (moves_notes blocks budget m moves.parcels moves.weather)
         (k.chain m g a es (part.arrivals_notes blocks budget ns g)
         (k.quiet m g es (quiet_tick ns m.parcels moves.parcels) refl refl refl refl) (arrivals_keep ns g))
-            moves.arrived
+        moves.arrived
 
     rests_keep : (m h : Grid W) (es : List Note) → Rests m es h → R m es h
     rests_keep m h es r = subst (λ xs. R m xs h) (sym r.told) (then_counted m m h [] (same m) r.ended)

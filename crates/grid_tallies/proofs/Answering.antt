@@ -180,7 +180,7 @@ module _ (tile n s : ℕ) (a b : Tallies) where
       step true flies e rest = heard_adds (kind_of (operation (slot_of f.code s))) 1 a b (fired f)
           (subst (λ x. Adds (kind_of (operation x)) 1 a b) e adds)
           (only_one (note.Fires tile n s (operation (slot_of f.code s))) (kind_of (operation (slot_of f.code s)))
-              refl)
+          refl)
       step false flies e rest = rest flies e
 
   -- no slot of a frame that is not in flight fires

@@ -59,7 +59,7 @@ module _ {W : Type 0} (blocks : List Block) (budget : ℕ) where
       heard_both a b d (fetches_notes blocks budget g)
       (reads_notes blocks budget g2 ++ (answers_notes blocks budget g3 ++ works_notes blocks budget g4)) fetch
       (heard_both b b d (reads_notes blocks budget g2) (answers_notes blocks budget g3 ++ works_notes blocks budget
-          g4)
+      g4)
       (heard_none b (reads_notes blocks budget g2) (nothing_reads g2))
       (heard_both b c d (answers_notes blocks budget g3) (works_notes blocks budget g4)
       (subst (λ (k : Grid W). Heard b (answers_notes blocks budget k) c) y3 answer)

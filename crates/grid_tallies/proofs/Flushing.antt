@@ -135,7 +135,7 @@ asking m n = flushes_none statistic.WrongExits (part.asks_notes m n) (λ s. refl
 module _ {W : Type 0} (blocks : List Block) (budget : ℕ) where
   leaving : (f : Frame) (g : Grid W)
       → OnlyFlushes statistic.WrongExits (part.acted (note.Leaves f.number (part.names blocks f)) WrongExit blocks
-          budget
+      budget
       (window.Exit f.number) g)
   leaving f g =
       let x : Note = note.Leaves f.number (part.names blocks f) in

@@ -82,7 +82,7 @@ module _ {W : Type 0} (blocks : List Block) where
 
   begin_only : (o : Option Fetching) (g : Grid W) → g.fetching ≡ o → Only statistic.Predictions
       (made_of (is_none o) (is_open g.window.frames) (is_none g.standing)
-          (is_none (fetch_begins blocks o g).fetching))
+      (is_none (fetch_begins blocks o g).fetching))
       (part.begin_notes blocks o g)
   begin_only (Some f) g e = none_made 0 [] refl (λ s. refl)
   begin_only None g e = go (has_room g.window)

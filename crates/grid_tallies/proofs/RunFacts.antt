@@ -27,7 +27,7 @@ module _ {W : Type 0} (next : W → ℕ) (follows : W → W → Type 0) (blocks 
   one_more bs b n g m h x y z e f on before last =
       let c : IsCounted next follows blocks budget m h y z =
       subst (λ k. IsCounted next follows blocks k m h y z) f (subst (λ k. IsCounted next follows k b m h y z) e last)
-          in
+      in
       record {
         notes = c.notes ∷ before.notes;
         many = ap suc before.many ∙ sym (add-one n);

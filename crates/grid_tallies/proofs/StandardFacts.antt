@@ -2,7 +2,8 @@
 use Rattle.std.proofs.Common.{◌≡◌, true, false, [], ◌∷◌, Some, None, refl}
 use Rattle.trips_isa.specs.declared.op.Op.TheVariants.{Mov, Null, Add}
 use Rattle.grid_events.specs.Counts.{tally}
-use Rattle.grid_events.specs.Notes.{Violation, WrongExit, End, Predicts, Begins, Fires, Loads, Stores, Flushes, OnMesh}
+use Rattle.grid_events.specs.Notes.{Violation, WrongExit, End, Predicts, Begins, Fires, Loads, Stores, Flushes}
+use Rattle.grid_events.specs.Notes.{OnMesh}
 use Rattle.grid_events.specs.Notes.{Passes}
 use Rattle.grid_tallies.specs.declared.statistic.Statistic.TheVariants as statistic
 use Rattle.grid_tallies.specs.Statistics.{statistic_of, weigh}

@@ -40,11 +40,7 @@ fn made_of(idle: bool, opened: bool, none: bool, still: bool) -> u64
 {
     if idle {
         if opened {
-            if none {
-                if still { 0 } else { 1 }
-            } else {
-                0
-            }
+            if none { if still { 0 } else { 1 } } else { 0 }
         } else {
             0
         }

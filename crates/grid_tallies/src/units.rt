@@ -37,13 +37,7 @@ fn count<V: Windows>(window: &V, told: &mut Tallies, frame: u8, slot: u8)
 }
 
 // A unit issues a slot of a frame.
-fn issued<V: Windows, W>(
-    grid: &mut Grid<V, W>,
-    told: &mut Tallies,
-    tile: u8,
-    frame: u8,
-    slot: u8,
-)
+fn issued<V: Windows, W>(grid: &mut Grid<V, W>, told: &mut Tallies, tile: u8, frame: u8, slot: u8)
     requires tile { tile < 16 }
     requires frame { frame < 8 }
     requires slot { slot < 128 }

@@ -46,11 +46,11 @@ returns-in-Went-clause-eager g c =
     let x = c.ends.new.grid in
     let m = seen (g.V.Windows.held x.window) x.state in
     counted_on g.W.Weather.next g.W.Weather.follows bs b here m (seen (g.V.Windows.held h.window) h.state)
-        c.args.told.now
+    c.args.told.now
     c.ends.new.told c.goes_on.new.told c.ends.ensures.change c.in-Went.ensures c.ends.ensures.heard
     (goes_same g.W.Weather.next g.W.Weather.follows bs b (g.V.Windows.blocks x.window) (g.V.Windows.budget x.window) m
     (seen (g.V.Windows.held h.window) h.state) c.ends.new.told c.goes_on.new.told c.ends.ensures.image
-        c.ends.ensures.budget
+    c.ends.ensures.budget
     c.goes_on.ensures.goes)
 
 pub returns-in-Went-clause-counted : goal.returns-in-Went-clause-counted
@@ -61,7 +61,7 @@ returns-in-Went-clause-counted g c =
     let here = seen (g.V.Windows.held v) c.args.grid.now.state in
     let h = c.goes_on.new.grid in
     eager_counted g.W.Weather.next g.W.Weather.follows bs b here (seen (g.V.Windows.held h.window) h.state)
-        c.requires.counted
+    c.requires.counted
     (counted_eager g.W.Weather.next g.W.Weather.follows bs b here (seen (g.V.Windows.held h.window) h.state)
     c.args.told.now c.goes_on.new.told (returns-in-Went-clause-eager g c))
 
@@ -96,7 +96,7 @@ returns-in-Ended-clause-eager g c =
     let m = seen (g.V.Windows.held x.window) x.state in
     counted_last g.W.Weather.next g.W.Weather.follows bs b stepped.Ended here m
     (seen (g.V.Windows.held c.ends.new.grid.window) c.count_cycle.new.self) c.args.told.now c.ends.new.told
-        c.ends.ensures.change
+    c.ends.ensures.change
     c.in-Ended.ensures c.ends.ensures.heard (λ y e. record { ended = e; told = refl })
     (c.count_cycle.ensures (g.V.Windows.held x.window))
 
@@ -107,9 +107,9 @@ returns-in-Ended-clause-counted g c =
     let b = g.V.Windows.budget v in
     let here = seen (g.V.Windows.held v) c.args.grid.now.state in
     eager_counted g.W.Weather.next g.W.Weather.follows bs b here
-        (seen (g.V.Windows.held c.ends.new.grid.window) c.count_cycle.new.self) c.requires.counted
+    (seen (g.V.Windows.held c.ends.new.grid.window) c.count_cycle.new.self) c.requires.counted
     (counted_eager g.W.Weather.next g.W.Weather.follows bs b here
-        (seen (g.V.Windows.held c.ends.new.grid.window) c.count_cycle.new.self)
+    (seen (g.V.Windows.held c.ends.new.grid.window) c.count_cycle.new.self)
     c.args.told.now c.ends.new.told (returns-in-Ended-clause-eager g c))
 
 pub returns-in-Ended-clause-cycles : goal.returns-in-Ended-clause-cycles
@@ -119,9 +119,9 @@ returns-in-Ended-clause-cycles g c =
     let b = g.V.Windows.budget v in
     let here = seen (g.V.Windows.held v) c.args.grid.now.state in
     eager_cycles g.W.Weather.next g.W.Weather.follows bs b here
-        (seen (g.V.Windows.held c.ends.new.grid.window) c.count_cycle.new.self)
+    (seen (g.V.Windows.held c.ends.new.grid.window) c.count_cycle.new.self)
     (counted_eager g.W.Weather.next g.W.Weather.follows bs b here
-        (seen (g.V.Windows.held c.ends.new.grid.window) c.count_cycle.new.self)
+    (seen (g.V.Windows.held c.ends.new.grid.window) c.count_cycle.new.self)
     c.args.told.now c.ends.new.told (returns-in-Ended-clause-eager g c))
 
 pub count_cycle-requires-in-StackFull : goal.count_cycle-requires-in-StackFull
@@ -144,7 +144,7 @@ returns-in-StackFull-clause-eager g c =
     let m = seen (g.V.Windows.held x.window) x.state in
     counted_last g.W.Weather.next g.W.Weather.follows bs b stepped.StackFull here m
     (seen (g.V.Windows.held c.ends.new.grid.window) c.count_cycle-in-StackFull.new.self) c.args.told.now
-        c.ends.new.told c.ends.ensures.change
+    c.ends.new.told c.ends.ensures.change
     c.in-StackFull.ensures c.ends.ensures.heard (λ y e. record { ended = e; told = refl })
     (c.count_cycle-in-StackFull.ensures (g.V.Windows.held x.window))
 
@@ -155,9 +155,9 @@ returns-in-StackFull-clause-counted g c =
     let b = g.V.Windows.budget v in
     let here = seen (g.V.Windows.held v) c.args.grid.now.state in
     eager_counted g.W.Weather.next g.W.Weather.follows bs b here
-        (seen (g.V.Windows.held c.ends.new.grid.window) c.count_cycle-in-StackFull.new.self) c.requires.counted
+    (seen (g.V.Windows.held c.ends.new.grid.window) c.count_cycle-in-StackFull.new.self) c.requires.counted
     (counted_eager g.W.Weather.next g.W.Weather.follows bs b here
-        (seen (g.V.Windows.held c.ends.new.grid.window) c.count_cycle-in-StackFull.new.self)
+    (seen (g.V.Windows.held c.ends.new.grid.window) c.count_cycle-in-StackFull.new.self)
     c.args.told.now c.ends.new.told (returns-in-StackFull-clause-eager g c))
 
 pub returns-in-StackFull-clause-cycles : goal.returns-in-StackFull-clause-cycles
@@ -167,9 +167,9 @@ returns-in-StackFull-clause-cycles g c =
     let b = g.V.Windows.budget v in
     let here = seen (g.V.Windows.held v) c.args.grid.now.state in
     eager_cycles g.W.Weather.next g.W.Weather.follows bs b here
-        (seen (g.V.Windows.held c.ends.new.grid.window) c.count_cycle-in-StackFull.new.self)
+    (seen (g.V.Windows.held c.ends.new.grid.window) c.count_cycle-in-StackFull.new.self)
     (counted_eager g.W.Weather.next g.W.Weather.follows bs b here
-        (seen (g.V.Windows.held c.ends.new.grid.window) c.count_cycle-in-StackFull.new.self)
+    (seen (g.V.Windows.held c.ends.new.grid.window) c.count_cycle-in-StackFull.new.self)
     c.args.told.now c.ends.new.told (returns-in-StackFull-clause-eager g c))
 
 pub count_cycle-requires-in-Trap : goal.count_cycle-requires-in-Trap
@@ -192,7 +192,7 @@ returns-in-Trap-clause-eager g c =
     let m = seen (g.V.Windows.held x.window) x.state in
     counted_last g.W.Weather.next g.W.Weather.follows bs b (stepped.Trap c.in-Trap.field-0) here m
     (seen (g.V.Windows.held c.ends.new.grid.window) c.count_cycle-in-Trap.new.self) c.args.told.now c.ends.new.told
-        c.ends.ensures.change
+    c.ends.ensures.change
     c.in-Trap.ensures c.ends.ensures.heard (λ y e. record { ended = e; told = refl })
     (c.count_cycle-in-Trap.ensures (g.V.Windows.held x.window))
 
@@ -203,9 +203,9 @@ returns-in-Trap-clause-counted g c =
     let b = g.V.Windows.budget v in
     let here = seen (g.V.Windows.held v) c.args.grid.now.state in
     eager_counted g.W.Weather.next g.W.Weather.follows bs b here
-        (seen (g.V.Windows.held c.ends.new.grid.window) c.count_cycle-in-Trap.new.self) c.requires.counted
+    (seen (g.V.Windows.held c.ends.new.grid.window) c.count_cycle-in-Trap.new.self) c.requires.counted
     (counted_eager g.W.Weather.next g.W.Weather.follows bs b here
-        (seen (g.V.Windows.held c.ends.new.grid.window) c.count_cycle-in-Trap.new.self)
+    (seen (g.V.Windows.held c.ends.new.grid.window) c.count_cycle-in-Trap.new.self)
     c.args.told.now c.ends.new.told (returns-in-Trap-clause-eager g c))
 
 pub returns-in-Trap-clause-cycles : goal.returns-in-Trap-clause-cycles
@@ -215,7 +215,7 @@ returns-in-Trap-clause-cycles g c =
     let b = g.V.Windows.budget v in
     let here = seen (g.V.Windows.held v) c.args.grid.now.state in
     eager_cycles g.W.Weather.next g.W.Weather.follows bs b here
-        (seen (g.V.Windows.held c.ends.new.grid.window) c.count_cycle-in-Trap.new.self)
+    (seen (g.V.Windows.held c.ends.new.grid.window) c.count_cycle-in-Trap.new.self)
     (counted_eager g.W.Weather.next g.W.Weather.follows bs b here
-        (seen (g.V.Windows.held c.ends.new.grid.window) c.count_cycle-in-Trap.new.self)
+    (seen (g.V.Windows.held c.ends.new.grid.window) c.count_cycle-in-Trap.new.self)
     c.args.told.now c.ends.new.told (returns-in-Trap-clause-eager g c))

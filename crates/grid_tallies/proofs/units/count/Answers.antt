@@ -13,7 +13,7 @@ returns-then-is_some g c = λ tile.
     fired_heard tile c.args.frame c.args.slot c.args.told.now c.add.new.self w.frames c.inst_of.result flies
     c.inst_of.ensures.value
     (subst (λ k. Adds k 1 c.args.told.now c.add.new.self) (c.kind_of.ensures ∙ ap kind_of
-        c.operation-operation.ensures)
+    c.operation-operation.ensures)
     c.add.ensures)
 
 pub returns-else-is_some : goal.returns-else-is_some
