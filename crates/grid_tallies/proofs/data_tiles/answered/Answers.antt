@@ -10,7 +10,7 @@ returns-in-Some-clause-heard g c =
     let h = c.answer.new.self in
     answer_heard (g.V.Windows.blocks v) (g.V.Windows.budget v) c.args.tile c.args.frame c.args.number
     (seen (g.V.Windows.held v) c.args.grid.now.state) c.args.told.now c.count.new.told
-        (seen (g.V.Windows.held h.window) h.state)
+    (seen (g.V.Windows.held h.window) h.state)
     c.in-Some.request c.saturating_sub-flushed.result c.in-Some.ensures.value c.answer.ensures.change
     c.saturating_sub-flushed.ensures
     (subst (λ s. AnswersHeard s c.saturating_sub-flushed.result c.args.told.now c.count.new.told) c.is_store.ensures

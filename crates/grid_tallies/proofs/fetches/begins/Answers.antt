@@ -13,6 +13,6 @@ returns-clause-heard g c =
     begins_heard bs here there c.made_of-made.result c.args.told.now c.add.new.self c.fetch_begins.ensures.change
     (c.made_of-made.ensures ∙ made_by bs c.is_idle-idle.result c.is_open-opened.result c.is_none-none.result
     c.is_idle-still.result here there c.is_idle-idle.ensures c.is_open-opened.ensures
-        (none_told c.args.grid.now.state.standing c.is_none-none.result c.is_none-none.ensures)
+    (none_told c.args.grid.now.state.standing c.is_none-none.result c.is_none-none.ensures)
     c.is_idle-still.ensures)
     c.add.ensures

@@ -11,7 +11,7 @@ returns-then-order-gt0 g c =
     let y : HasYoungest w.frames c.args.order.now =
     has_youngest w.frames c.args.order.now c.requires.order (omega arith) c.requires.distinct in
     none_told c.exit_of.result c.is_none.result c.is_none.ensures ∙ ap is_none
-        (c.exit_of.ensures ∙ ap (found_in (λ f. number_of f.exit)) y.named)
+    (c.exit_of.ensures ∙ ap (found_in (λ f. number_of f.exit)) y.named)
     ∙ number_none y.frame.exit ∙ sym (open_youngest y.frame w.frames y.is)
 
 pub returns-else-order-gt0 : goal.returns-else-order-gt0
