@@ -1,0 +1,14 @@
+pub mod Notes
+pub mod Turns
+pub mod EndNotes
+pub mod FetchNotes
+pub mod StationNotes
+pub mod UnitNotes
+pub mod ArrivalNotes
+pub mod Parts
+pub mod Mesh
+pub mod Cycles
+pub mod Plays
+pub mod Counts
+pub mod Guesses
+pub mod Laws

@@ -1,0 +1,132 @@
+-- What is heard of the parts of a cycle makes what is heard of a cycle.
+use Rattle.std.proofs.Common.{◌≡◌, ℕ, ◌+◌, ◌*◌, List, [], ◌∷◌, ◌++◌, Option, Some, None, refl, sym, ap, ◌∙◌, subst}
+use Rattle.trips_isa.specs.declared.block.Block.{Block}
+use Rattle.trips_isa.specs.declared.run.Stepped.{Stepped}
+use Rattle.trips_isa.specs.declared.run.Stepped.TheVariants as stepped
+use Rattle.operand_net.specs.Places.{Places}
+use Rattle.grid_cycle_spec.specs.Grid.{Grid, numbers_of}
+use Rattle.grid_cycle_spec.specs.Banks.{bank_turn, reads_answered}
+use Rattle.grid_cycle_spec.specs.Choosing.{eldest, reads}
+use Rattle.grid_cycle_spec.specs.Stations.{bank_node, banks}
+use Rattle.grid_cycle_spec.specs.DataTiles.{answers}
+use Rattle.grid_cycle_spec.specs.Ends.{ends}
+use Rattle.grid_cycle_spec.specs.Fetches.{fetches}
+use Rattle.grid_cycle_spec.specs.Cycles.{Eager, Moves, acts, counted}
+use Rattle.commit_flush_spec.specs.Frames.{first_read_place}
+use Rattle.commit_flush_spec.specs.Window.{Window, happens}
+use Rattle.commit_flush_spec.specs.Window as window
+use Rattle.grid_cycle_spec.specs.Banks.{answers_read}
+use Rattle.grid_events.specs.Notes.{Note}
+use Rattle.grid_events.specs.Notes as note
+use Rattle.grid_events.specs.Turns.{of_frame}
+use Rattle.grid_events.specs.Parts.{acts_notes, answers_notes, bank_notes, both_notes, ends_notes, fetches_notes}
+use Rattle.grid_events.specs.Parts.{read_notes, reads_notes, works_notes}
+use Rattle.grid_events.specs.Cycles.{Goes, Noted, NotedFollows, moves_notes}
+use Rattle.grid_events.proofs.Runs.{is_eager}
+use Rattle.grid_tallies.specs.declared.tallies.Tallies.{Tallies}
+use Rattle.grid_tallies.specs.Statistics.{Heard}
+use Rattle.grid_tallies.specs.Cycles.{GoesCounted, IsCounted}
+use Rattle.grid_tallies.specs.inside.Adding.{Nothing}
+use Rattle.grid_tallies.specs.inside.Moving.{MovesCounted}
+use Rattle.grid_tallies.proofs.Tallying.{heard_both, heard_none}
+use Rattle.grid_tallies.proofs.Weighed.{nothing_cons, nothing_each, nothing_enter_both, nothing_frame}
+
+module _ {W : Type 0} (blocks : List Block) (budget : ℕ) where
+  nothing_read : (bank : ℕ) (o : Option (ℕ × ℕ)) (g : Grid W) → Nothing (read_notes blocks budget bank o g)
+  nothing_read bank None g = λ s. refl
+  nothing_read bank (Some q) g =
+      let w : Window = happens blocks budget (window.Read q.0 q.1) g.window in
+      let place : ℕ = first_read_place + 2 * q.1 in
+      nothing_cons (note.Reads bank q.0 q.1) (of_frame q.0 (λ f. both_notes (bank_node bank) f place) w.frames) refl
+      (nothing_frame q.0 (λ f. both_notes (bank_node bank) f place)
+      (λ f. nothing_enter_both (bank_node bank) f place) w.frames)
+
+  nothing_reads : (g : Grid W) → Nothing (reads_notes blocks budget g)
+  nothing_reads g = nothing_each (bank_turn blocks budget) (bank_notes blocks budget)
+      (λ bank x. nothing_read bank (eldest (answers_read blocks budget x bank) reads x.window.frames) x) banks g
+
+  -- parts (2) to (5)
+  pub acts_heard : (g x y z : Grid W) (a b c d : Tallies) → x ≡ fetches blocks budget g
+      → y ≡ reads_answered blocks budget x → z ≡ answers blocks budget y
+      → Heard a (fetches_notes blocks budget g) b → Heard b (answers_notes blocks budget y) c
+      → Heard c (works_notes blocks budget z) d → Heard a (acts_notes blocks budget g) d
+  acts_heard g x y z a b c d e f i fetch answer work =
+      let g2 : Grid W = fetches blocks budget g in
+      let g3 : Grid W = reads_answered blocks budget g2 in
+      let g4 : Grid W = answers blocks budget g3 in
+      let y3 : y ≡ g3 = f ∙ ap (reads_answered blocks budget) e in
+      let z4 : z ≡ g4 = i ∙ ap (answers blocks budget) y3 in
+      heard_both a b d (fetches_notes blocks budget g)
+      (reads_notes blocks budget g2 ++ (answers_notes blocks budget g3 ++ works_notes blocks budget g4)) fetch
+      (heard_both b b d (reads_notes blocks budget g2) (answers_notes blocks budget g3 ++ works_notes blocks budget
+      g4)
+      (heard_none b (reads_notes blocks budget g2) (nothing_reads g2))
+      (heard_both b c d (answers_notes blocks budget g3) (works_notes blocks budget g4)
+      (subst (λ (k : Grid W). Heard b (answers_notes blocks budget k) c) y3 answer)
+      (subst (λ (k : Grid W). Heard c (works_notes blocks budget k) d) z4 work)))
+
+module _ {W : Type 0} (next : W → ℕ) (follows : W → W → Type 0) (blocks : List Block) (budget : ℕ) where
+  -- part (6) of the same grid, image and budget
+  pub moves_same : (bs : List Block) (b : ℕ) (m n h : Grid W) (x y : Tallies) → bs ≡ blocks → b ≡ budget → m ≡ n
+      → MovesCounted next follows bs b m h x y → MovesCounted next follows blocks budget n h x y
+  moves_same bs b m n h x y e f i moves =
+      subst (λ k. MovesCounted next follows blocks budget k h x y) i
+      (subst (λ k. MovesCounted next follows blocks k m h x y) f
+      (subst (λ k. MovesCounted next follows k b m h x y) e moves))
+
+  -- parts (2) to (6)
+  pub goes_counted : (m h : Grid W) (a b c : Tallies) → Heard a (acts_notes blocks budget m) b
+      → MovesCounted next follows blocks budget (acts blocks budget m) h b c
+      → GoesCounted next follows blocks budget m h a c
+  goes_counted m h a b c acted moved = record {
+    notes = acts_notes blocks budget m
+        ++ moves_notes blocks budget (acts blocks budget m) moved.moves.parcels moved.moves.weather;
+    goes = record { moves = moved.moves; told = refl };
+    heard = heard_both a b c (acts_notes blocks budget m)
+        (moves_notes blocks budget (acts blocks budget m) moved.moves.parcels moved.moves.weather) acted moved.heard;
+  }
+
+  -- the same parts over another image and budget that are these
+  pub goes_same : (bs : List Block) (b : ℕ) (m h : Grid W) (x y : Tallies) → bs ≡ blocks → b ≡ budget
+      → GoesCounted next follows bs b m h x y → GoesCounted next follows blocks budget m h x y
+  goes_same bs b m h x y e f goes =
+      subst (λ k. GoesCounted next follows blocks k m h x y) f
+      (subst (λ k. GoesCounted next follows k b m h x y) e goes)
+
+  -- a whole cycle, by what follows part (1)
+  counted_by : (o : Stepped) (g h : Grid W) (a b c : Tallies) (rest : List Note)
+      → o ≡ (ends blocks budget g).window.over → Heard a (ends_notes blocks budget g) b
+      → NotedFollows o next follows blocks budget (ends blocks budget g) rest h → Heard b rest c
+      → IsCounted next follows blocks budget g h a c
+  counted_by o g h a b c rest is ended cycle heard = record {
+    notes = ends_notes blocks budget g ++ rest;
+    noted = record {
+      rest = rest;
+      told = refl;
+      cycle = subst (λ (s : Stepped). NotedFollows s next follows blocks budget (ends blocks budget g) rest h) is
+          cycle;
+    };
+    heard = heard_both a b c (ends_notes blocks budget g) rest ended heard;
+  }
+
+  -- a cycle that goes on
+  pub counted_on : (g m h : Grid W) (a b c : Tallies) → m ≡ ends blocks budget g → stepped.Went ≡ m.window.over
+      → Heard a (ends_notes blocks budget g) b → GoesCounted next follows blocks budget m h b c
+      → IsCounted next follows blocks budget g h a c
+  counted_on g m h a b c e over ended goes =
+      counted_by stepped.Went g h a b c goes.notes (over ∙ ap (λ (x : Grid W). x.window.over) e) ended
+      (subst (λ (x : Grid W). Goes next follows blocks budget x goes.notes h) e goes.goes) goes.heard
+
+  -- a cycle in which the run ends
+  pub counted_last : (o : Stepped) (g m h : Grid W) (a b : Tallies) → m ≡ ends blocks budget g → o ≡ m.window.over
+      → Heard a (ends_notes blocks budget g) b
+      → ((x : Grid W) → h ≡ counted x → NotedFollows o next follows blocks budget x [] h) → h ≡ counted m
+      → IsCounted next follows blocks budget g h a b
+  counted_last o g m h a b e over ended rests is =
+      counted_by o g h a b b [] (over ∙ ap (λ (x : Grid W). x.window.over) e) ended
+      (rests (ends blocks budget g) (is ∙ ap counted e)) (heard_none b [] (λ s. refl))
+
+  -- a cycle that is counted is eager
+  pub counted_eager : (g h : Grid W) (a b : Tallies) → IsCounted next follows blocks budget g h a b
+      → Eager next follows blocks budget g h
+  counted_eager g h a b c = is_eager next follows blocks budget g h c.notes c.noted

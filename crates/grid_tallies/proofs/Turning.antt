@@ -1,0 +1,72 @@
+-- What is heard of the turn of a tile.
+use Rattle.std.proofs.Common.{◌≡◌, ◌≢◌, ℕ, zero, suc, ◌*◌, ◌==◌, Bool, true, false, cond, List, [], ◌∷◌, ◌++◌}
+use Rattle.std.proofs.Common.{Option, Some, None, refl, sym, subst}
+use Rattle.std.proofs.lemmas.Bool.{eq-eqb, ne_eqb}
+use Rattle.trips_isa.specs.declared.block.Block.{Block}
+use Rattle.trips_isa.specs.declared.block.Inst.{Inst}
+use Rattle.trips_isa.specs.declared.form.Form.{Form}
+use Rattle.trips_isa.specs.declared.form.Form.TheVariants as form
+use Rattle.trips_isa.specs.Forms.{form_of}
+use Rattle.block_cases.specs.Orders.{slot_of}
+use Rattle.commit_flush_spec.specs.Frames.{Frame}
+use Rattle.grid_cycle_spec.specs.Grid.{Grid}
+use Rattle.grid_cycle_spec.specs.Choosing.{eldest, slots}
+use Rattle.grid_cycle_spec.specs.Stations.{tile_node, tile_of}
+use Rattle.grid_cycle_spec.specs.Units.{in_unit, ready, unit_on}
+use Rattle.grid_events.specs.Notes.{Note}
+use Rattle.grid_events.specs.Notes as note
+use Rattle.grid_events.specs.UnitNotes.{finished_notes, issue_notes, issues_notes, result_notes, slot_notes}
+use Rattle.grid_events.specs.UnitNotes.{turn_notes}
+use Rattle.grid_events.specs.UnitNotes.{unit_notes}
+use Rattle.grid_tallies.specs.declared.tallies.Tallies.{Tallies}
+use Rattle.grid_tallies.specs.Statistics.{Heard}
+use Rattle.grid_tallies.specs.inside.Adding.{Nothing}
+use Rattle.grid_tallies.proofs.Tallying.{heard_both, heard_none}
+use Rattle.grid_tallies.proofs.Weighed.{nothing_cons, nothing_enter_both, nothing_frame}
+
+nothing_result : (kind : Form) (i : Inst) (s : ℕ) (f : Frame) → Nothing (result_notes kind i s f)
+nothing_result form.Load i s f = λ k. refl
+nothing_result form.Store i s f = λ k. refl
+nothing_result form.Branch i s f = λ k. refl
+nothing_result form.General i s f = nothing_enter_both (tile_node (tile_of s)) f (2 * s)
+nothing_result form.Immediate i s f = nothing_enter_both (tile_node (tile_of s)) f (2 * s)
+nothing_result form.Constant i s f = nothing_enter_both (tile_node (tile_of s)) f (2 * s)
+
+nothing_slot : (o : Option Inst) (s : ℕ) (f : Frame) → Nothing (slot_notes o s f)
+nothing_slot None s f = λ k. refl
+nothing_slot (Some i) s f = nothing_result (form_of i.op) i s f
+
+nothing_finished : (o : Option (ℕ × ℕ)) (fs : List Frame) → Nothing (finished_notes o fs)
+nothing_finished None fs = λ k. refl
+nothing_finished (Some q) fs = nothing_frame q.0 (λ f. slot_notes (slot_of f.code q.1) q.1 f)
+    (λ f. nothing_slot (slot_of f.code q.1) q.1 f) fs
+
+nothing_unit : {W : Type 0} (tile left : ℕ) (g : Grid W) → Nothing (unit_notes tile left g)
+nothing_unit tile zero g = λ k. refl
+nothing_unit tile (suc zero) g =
+    let o : Option (ℕ × ℕ) = eldest (in_unit g tile) slots g.window.frames in
+    nothing_cons (note.Works tile) (finished_notes o g.window.frames) refl (nothing_finished o g.window.frames)
+nothing_unit tile (suc (suc left)) g = λ k. refl
+
+module _ {W : Type 0} (blocks : List Block) (budget tile : ℕ) (g : Grid W) (a b : Tallies) where
+  -- a free unit issues
+  pub free_heard : g.units tile ≡ 0
+      → Heard a (issue_notes tile (eldest (ready blocks budget g tile) slots g.window.frames) g) b
+      → Heard a (issues_notes blocks budget tile g) b
+  free_heard e heard = subst (λ c. Heard a (cond c
+      (issue_notes tile (eldest (ready blocks budget g tile) slots g.window.frames) g) []) b)
+      (sym (eq-eqb (g.units tile) 0 e)) heard
+
+  -- a unit that is busy issues nothing
+  pub busy_heard : g.units tile ≢ 0 → Heard a (issues_notes blocks budget tile g) a
+  busy_heard ne = subst (λ c. Heard a (cond c
+      (issue_notes tile (eldest (ready blocks budget g tile) slots g.window.frames) g) []) a)
+      (sym (ne_eqb (g.units tile) 0 ne)) (heard_none a [] (λ s. refl))
+
+  -- what a unit does before it issues is not counted
+  pub turn_heard : (m : Grid W) → m ≡ unit_on tile (g.units tile) g
+      → Heard a (issues_notes blocks budget tile m) b → Heard a (turn_notes blocks budget tile g) b
+  turn_heard m e heard = heard_both a a b (unit_notes tile (g.units tile) g)
+      (issues_notes blocks budget tile (unit_on tile (g.units tile) g))
+      (heard_none a (unit_notes tile (g.units tile) g) (nothing_unit tile (g.units tile) g))
+      (subst (λ (x : Grid W). Heard a (issues_notes blocks budget tile x) b) e heard)

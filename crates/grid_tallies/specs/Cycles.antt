@@ -1,0 +1,22 @@
+-- Cycles and runs that are counted: their notes, and what the tallies have heard.
+use Rattle.std.specs.Prelude.{◌≡◌, ℕ, zero, suc, ◌++◌, true, cond, List, []}
+use Rattle.trips_isa.specs.declared.block.Block.{Block}
+use Rattle.grid_cycle_spec.specs.Grid.{Grid}
+use Rattle.grid_events.specs.Notes.{Note}
+use Rattle.grid_events.specs.Cycles.{Goes, Noted}
+use Rattle.grid_tallies.specs.declared.tallies.Tallies.{Tallies}
+use Rattle.grid_tallies.specs.Statistics.{Heard}
+
+-- an eager cycle with its notes leads from a grid to another, and the tallies have heard these notes
+pub record IsCounted {W : Type 0} (next : W → ℕ) (follows : W → W → Type 0) (blocks : List Block) (budget : ℕ)
+    (g h : Grid W) (a b : Tallies) : Type 0 where
+  pub notes : List Note
+  pub noted : Noted next follows blocks budget g notes h
+  pub heard : Heard a notes b
+
+-- the same of parts (2) to (6) of a cycle
+pub record GoesCounted {W : Type 0} (next : W → ℕ) (follows : W → W → Type 0) (blocks : List Block) (budget : ℕ)
+    (g h : Grid W) (a b : Tallies) : Type 0 where
+  pub notes : List Note
+  pub goes : Goes next follows blocks budget g notes h
+  pub heard : Heard a notes b

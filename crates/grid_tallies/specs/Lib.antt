@@ -1,0 +1,4 @@
+pub mod Statistics
+pub mod Cycles
+pub mod Runs
+pub mod inside

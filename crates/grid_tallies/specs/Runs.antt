@@ -1,0 +1,27 @@
+-- Runs that are counted: their cycles, each with its notes, and what the tallies have heard.
+use Rattle.std.specs.Prelude.{◌≡◌, ℕ, true, List, [], ◌∷◌, length}
+use Rattle.trips_isa.specs.declared.block.Block.{Block}
+use Rattle.grid_cycle_spec.specs.Grid.{Grid}
+use Rattle.grid_cycle_spec.specs.Cycles.{Then}
+use Rattle.grid_events.specs.Notes.{Note}
+use Rattle.grid_events.specs.Cycles.{Noted, told}
+use Rattle.grid_machine.specs.Endings.{is_going}
+use Rattle.grid_tallies.specs.declared.tallies.Tallies.{Tallies}
+use Rattle.grid_tallies.specs.Statistics.{Heard}
+
+-- some cycles one after another, before each of which the run goes on, and each with its notes, those of the last
+-- first
+abbrev pub NotedGoes : {W : Type 0} → (W → ℕ) → (W → W → Type 0) → List Block → ℕ → List (List Note) → Grid W → Grid W
+    → Type 0
+NotedGoes next follows blocks budget [] g h = h ≡ g
+NotedGoes next follows blocks budget (es ∷ ess) g h =
+    Then (λ m. NotedGoes next follows blocks budget ess g m × (is_going budget m.window ≡ true))
+    (λ m. Noted next follows blocks budget m es h)
+
+-- n such cycles lead from a grid to another, and the tallies have heard the notes of all
+pub record AreCounted {W : Type 0} (next : W → ℕ) (follows : W → W → Type 0) (blocks : List Block) (budget n : ℕ)
+    (g h : Grid W) (a b : Tallies) : Type 0 where
+  pub notes : List (List Note)
+  pub many : length notes ≡ n
+  pub cycles : NotedGoes next follows blocks budget notes g h
+  pub heard : Heard a (told notes) b

@@ -1,0 +1,57 @@
+//! What is counted.
+ghost use Rattle.std.specs.Prelude.{◌≡◌, ◌<◌};
+ghost use Rattle.grid_tallies.specs.Statistics as spec;
+
+use trips_isa::Op;
+
+/// A statistic of a run.
+#[derive(Clone, Copy, Debug, PartialEq, Eq)]
+pub enum Statistic {
+    /// operations fired: `mov`
+    Movs,
+    /// operations fired: `null`
+    Nulls,
+    /// operations fired: all others
+    Useful,
+    /// loads answered
+    Loads,
+    /// stores resolved
+    Stores,
+    /// frames flushed by a load that was answered too early
+    Violations,
+    /// frames flushed by an exit that names another block
+    WrongExits,
+    /// frames flushed at the end of the run, by a trap or in any other way
+    Ends,
+    /// next blocks predicted
+    Predictions,
+}
+
+/// Where the number of a statistic stands.
+pub fn place(statistic: Statistic) -> u8
+    ensures value { result ≡ spec.place statistic }
+    ensures within { result < 9 }
+{
+    match statistic {
+        Statistic::Movs => 0,
+        Statistic::Nulls => 1,
+        Statistic::Useful => 2,
+        Statistic::Loads => 3,
+        Statistic::Stores => 4,
+        Statistic::Violations => 5,
+        Statistic::WrongExits => 6,
+        Statistic::Ends => 7,
+        Statistic::Predictions => 8,
+    }
+}
+
+/// What an operation that fires counts for.
+pub fn kind_of(op: Option<Op>) -> Statistic
+    ensures { result ≡ spec.kind_of op }
+{
+    match op {
+        Some(Op::Mov) => Statistic::Movs,
+        Some(Op::Null) => Statistic::Nulls,
+        _ => Statistic::Useful,
+    }
+}

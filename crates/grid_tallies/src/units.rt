@@ -1,0 +1,104 @@
+//! Part (5) of a cycle, counted: units give their results to the mesh, and issue what is ready.
+ghost use Rattle.std.specs.Prelude.{◌≡◌, ◌<◌, ℕ, ◌∷◌, [], Some};
+ghost use Rattle.grid_cycle_spec.specs.Units as spec;
+ghost use Rattle.block_cases.specs.Orders.{slot_of};
+ghost use Rattle.grid_events.specs.Notes.{Fires};
+ghost use Rattle.grid_events.specs.Turns.{of_frame};
+ghost use Rattle.grid_events.specs.UnitNotes as noted;
+ghost use Rattle.grid_parts.specs.Seen.{seen};
+ghost use Rattle.grid_tallies.specs.Statistics.{Heard};
+
+use crate::statistic::kind_of;
+use crate::tallies::Tallies;
+use grid_parts::{Grid, Windows, ready_slot};
+use trips_isa::{Inst, Op};
+
+// The operation of what a slot holds.
+fn operation(inst: Option<Inst>) -> Option<Op>
+    ensures { result ≡ noted.operation inst }
+{
+    match inst {
+        Some(inst) => Some(inst.op),
+        None => None,
+    }
+}
+
+// What a slot of a frame in flight holds is counted as fired.
+fn count<V: Windows>(window: &V, told: &mut Tallies, frame: u8, slot: u8)
+    requires frame { frame < 8 }
+    requires slot { slot < 128 }
+    ensures { (tile : ℕ) → Heard told.old (of_frame frame
+        (λ f. Fires tile frame slot (noted.operation (slot_of f.code slot)) ∷ []) (V.held window.now).frames) told.new }
+{
+    if window.block_of(frame).is_some() {
+        let operation = operation(window.inst_of(frame, slot));
+        told.add(kind_of(operation), 1);
+    }
+}
+
+// A unit issues a slot of a frame.
+fn issued<V: Windows, W>(grid: &mut Grid<V, W>, told: &mut Tallies, tile: u8, frame: u8, slot: u8)
+    requires tile { tile < 16 }
+    requires frame { frame < 8 }
+    requires slot { slot < 128 }
+    ensures change { seen (V.held grid.new.window) grid.new.state
+        ≡ spec.issue_chosen (V.blocks grid.old.window) (V.budget grid.old.window) tile (Some (frame, slot))
+        (seen (V.held grid.old.window) grid.old.state) }
+    ensures heard { Heard told.old (noted.issue_notes tile (Some (frame, slot))
+        (seen (V.held grid.old.window) grid.old.state)) told.new }
+    ensures image { V.blocks grid.new.window ≡ V.blocks grid.old.window }
+    ensures budget { V.budget grid.new.window ≡ V.budget grid.old.window }
+{
+    count(&grid.window, told, frame, slot);
+    grid.issue(tile, frame, slot);
+}
+
+// A free unit issues the eldest ready entry of its tile.
+fn issues<V: Windows, W>(grid: &mut Grid<V, W>, told: &mut Tallies, tile: u8)
+    requires { tile < 16 }
+    ensures change { seen (V.held grid.new.window) grid.new.state
+        ≡ spec.issues (V.blocks grid.old.window) (V.budget grid.old.window) tile
+        (seen (V.held grid.old.window) grid.old.state) }
+    ensures heard { Heard told.old (noted.issues_notes (V.blocks grid.old.window) (V.budget grid.old.window) tile
+        (seen (V.held grid.old.window) grid.old.state)) told.new }
+    ensures image { V.blocks grid.new.window ≡ V.blocks grid.old.window }
+    ensures budget { V.budget grid.new.window ≡ V.budget grid.old.window }
+{
+    if grid.state.busy(tile) == 0 {
+        let frames = grid.window.numbers();
+        match ready_slot(&grid.window, tile, frames.as_slice()) {
+            Some(chosen) => issued(grid, told, tile, chosen.0, chosen.1),
+            None => {}
+        }
+    }
+}
+
+// A tile gives its finished result to the mesh, then issues.
+fn unit_turn<V: Windows, W>(grid: &mut Grid<V, W>, told: &mut Tallies, tile: u8)
+    requires { tile < 16 }
+    ensures change { seen (V.held grid.new.window) grid.new.state
+        ≡ spec.unit_turn (V.blocks grid.old.window) (V.budget grid.old.window) tile
+        (seen (V.held grid.old.window) grid.old.state) }
+    ensures heard { Heard told.old (noted.turn_notes (V.blocks grid.old.window) (V.budget grid.old.window) tile
+        (seen (V.held grid.old.window) grid.old.state)) told.new }
+    ensures image { V.blocks grid.new.window ≡ V.blocks grid.old.window }
+    ensures budget { V.budget grid.new.window ≡ V.budget grid.old.window }
+{
+    grid.unit_on(tile);
+    issues(grid, told, tile);
+}
+
+/// Part (5).
+pub fn works_on<V: Windows, W>(grid: &mut Grid<V, W>, told: &mut Tallies)
+    ensures change { seen (V.held grid.new.window) grid.new.state
+        ≡ spec.works_on (V.blocks grid.old.window) (V.budget grid.old.window)
+        (seen (V.held grid.old.window) grid.old.state) }
+    ensures heard { Heard told.old (noted.works_notes (V.blocks grid.old.window) (V.budget grid.old.window)
+        (seen (V.held grid.old.window) grid.old.state)) told.new }
+    ensures image { V.blocks grid.new.window ≡ V.blocks grid.old.window }
+    ensures budget { V.budget grid.new.window ≡ V.budget grid.old.window }
+{
+    for tile in 0..16u8 {
+        unit_turn(grid, told, tile);
+    }
+}
