@@ -55,9 +55,10 @@ fn tells_a_refusal_by_each_stage(rt: HostRuntime) -> Result<(), Fail> {
     assert_explained(
         &rt,
         alloc,
-        "static int n;\n",
+        "auto int n;\n",
         Status::Refused,
-        "a.c:1:1: parse Syntax: 'static' is left out: write the declaration without it\nstatic int n;\n^\n",
+        "a.c:1:1: parse Syntax: 'auto' does not stand here: write the declaration without it, and an object of \
+            extern where it is defined\nauto int n;\n^\n",
     )?;
     assert_explained(
         &rt,

@@ -38,11 +38,11 @@ sentence says.OtherDirective =
 sentence says.Aggregate =
     codes "is left out: write a variable for each member, and an array for each member of many"
 sentence says.NewType =
-    codes "names types or constants, which is left out: write the type itself, and numbers or global variables"
+    codes "names what is left out, or named already: name types of whole numbers and int constants, once in a block"
 sentence says.Storage =
-    codes "is left out: write the declaration without it"
+    codes "does not stand here: write the declaration without it, and an object of extern where it is defined"
 sentence says.Qualifier =
-    codes "is left out: write the type without it"
+    codes "does not stand here: write it beside the words of a type, or the type without it"
 sentence says.Floating =
     codes "is a floating type, which is left out: use int or long, as for hundredths"
 sentence says.Boolean =
@@ -50,21 +50,21 @@ sentence says.Boolean =
 sentence says.Jump =
     codes "is left out: use loops, break, continue and return"
 sentence says.Size =
-    codes "is left out: write the number of bytes or of elements"
+    codes "is left out but for types, objects and elements: write the number of bytes or of elements"
 sentence says.Pointer =
-    codes "does not stand here: pointers are left out, so use an array and an index"
+    codes "does not stand here: pointers are left out but for parameters, so use an array and an index"
 sentence says.Address =
     codes "does not stand here: addresses are left out, so return a value or set a global variable"
 sentence says.Long =
-    codes "does not stand here: long long is left out, and a long has 64 bits"
+    codes "does not stand here: write the words of one type, and long at most twice"
 sentence says.Colon =
     codes "does not stand here: labels for goto are left out, and case stands in the braces of a switch alone"
 sentence says.StringHere =
-    codes "begins a string where none stands: it is an argument, or the value of a global array of char"
+    codes "begins a string where none stands: it is an argument, or the value of an array of char"
 sentence says.OpenBrace =
-    codes "does not stand here: local arrays have no initialiser, and no function stands in another"
+    codes "does not stand here: braces in a list are rows of an array of two sizes, and no function stands in another"
 sentence says.Equals =
-    codes "does not stand here: set what is no global or local variable behind its declaration"
+    codes "does not stand here: set a variable or an element of an array, and none that is const"
 sentence says.Else =
     codes "has no if before it: look for a ; or a brace too many"
 sentence says.CloseBrace =

@@ -110,27 +110,30 @@ pub fn sentence(saying: Saying) -> &'static str
         Saying::Aggregate =>
             "is left out: write a variable for each member, and an array for each member of many",
         Saying::NewType =>
-            "names types or constants, which is left out: write the type itself, and numbers or global variables",
-        Saying::Storage => "is left out: write the declaration without it",
-        Saying::Qualifier => "is left out: write the type without it",
+            "names what is left out, or named already: name types of whole numbers and int constants, once in a block",
+        Saying::Storage =>
+            "does not stand here: write the declaration without it, and an object of extern where it is defined",
+        Saying::Qualifier =>
+            "does not stand here: write it beside the words of a type, or the type without it",
         Saying::Floating =>
             "is a floating type, which is left out: use int or long, as for hundredths",
         Saying::Boolean => "is left out: use int, with 0 and 1",
         Saying::Jump => "is left out: use loops, break, continue and return",
-        Saying::Size => "is left out: write the number of bytes or of elements",
+        Saying::Size =>
+            "is left out but for types, objects and elements: write the number of bytes or of elements",
         Saying::Pointer =>
-            "does not stand here: pointers are left out, so use an array and an index",
+            "does not stand here: pointers are left out but for parameters, so use an array and an index",
         Saying::Address =>
             "does not stand here: addresses are left out, so return a value or set a global variable",
-        Saying::Long => "does not stand here: long long is left out, and a long has 64 bits",
+        Saying::Long => "does not stand here: write the words of one type, and long at most twice",
         Saying::Colon =>
             "does not stand here: labels for goto are left out, and case stands in the braces of a switch alone",
         Saying::StringHere =>
-            "begins a string where none stands: it is an argument, or the value of a global array of char",
+            "begins a string where none stands: it is an argument, or the value of an array of char",
         Saying::OpenBrace =>
-            "does not stand here: local arrays have no initialiser, and no function stands in another",
+            "does not stand here: braces in a list are rows of an array of two sizes, and no function stands in another",
         Saying::Equals =>
-            "does not stand here: set what is no global or local variable behind its declaration",
+            "does not stand here: set a variable or an element of an array, and none that is const",
         Saying::Else => "has no if before it: look for a ; or a brace too many",
         Saying::CloseBrace =>
             "does not stand here: look for a ; that is missing before it, also behind a label",

@@ -129,30 +129,34 @@ pub const ROWS: &[Row] = &[
             member of many",
     ),
     (
-        "enum color { RED };\n",
-        "a.c:1:1: parse Syntax: 'enum' names types or constants, which is left out: write the type itself, and \
-            numbers or global variables",
+        "enum color c;\n",
+        "a.c:1:1: parse Syntax: 'enum' names what is left out, or named already: name types of whole numbers \
+            and int constants, once in a block",
     ),
     (
-        "typedef int number;\n",
-        "a.c:1:1: parse Syntax: 'typedef' names types or constants, which is left out: write the type itself, \
-            and numbers or global variables",
+        "typedef int numbers[3];\n",
+        "a.c:1:1: parse Syntax: 'typedef' names what is left out, or named already: name types of whole numbers \
+            and int constants, once in a block",
     ),
     (
-        "static int n;\n",
-        "a.c:1:1: parse Syntax: 'static' is left out: write the declaration without it",
+        "int f(static int n) { return n; }\n",
+        "a.c:1:7: parse Syntax: 'static' does not stand here: write the declaration without it, and an object of \
+            extern where it is defined",
     ),
     (
         "extern int n;\n",
-        "a.c:1:1: parse Syntax: 'extern' is left out: write the declaration without it",
+        "a.c:1:1: parse Syntax: 'extern' does not stand here: write the declaration without it, and an object of \
+            extern where it is defined",
     ),
     (
-        "const int n = 1;\n",
-        "a.c:1:1: parse Syntax: 'const' is left out: write the type without it",
+        "const n = 1;\n",
+        "a.c:1:1: parse Syntax: 'const' does not stand here: write it beside the words of a type, or the type \
+            without it",
     ),
     (
-        "int f(const int n) { return n; }\n",
-        "a.c:1:7: parse Syntax: 'const' is left out: write the type without it",
+        "int f(const int n) { n = 1; return n; }\n",
+        "a.c:1:24: parse Syntax: '=' does not stand here: set a variable or an element of an array, and none that \
+            is const",
     ),
     (
         "double f(int x) { return x; }\n",
@@ -171,12 +175,14 @@ pub const ROWS: &[Row] = &[
         "a.c:1:18: parse Syntax: 'goto' is left out: use loops, break, continue and return",
     ),
     (
-        "int main(void) { return sizeof(int); }\n",
-        "a.c:1:25: parse Syntax: 'sizeof' is left out: write the number of bytes or of elements",
+        "int main(void) { return sizeof(1); }\n",
+        "a.c:1:25: parse Syntax: 'sizeof' is left out but for types, objects and elements: write the number of \
+            bytes or of elements",
     ),
     (
-        "void swap(int *a, int *b);\n",
-        "a.c:1:15: parse Syntax: '*' does not stand here: pointers are left out, so use an array and an index",
+        "int *p;\n",
+        "a.c:1:5: parse Syntax: '*' does not stand here: pointers are left out but for parameters, so use an \
+            array and an index",
     ),
     (
         "int main(void) { int x = 1; return f(&x); }\n",
@@ -184,8 +190,8 @@ pub const ROWS: &[Row] = &[
             global variable",
     ),
     (
-        "long long n;\n",
-        "a.c:1:6: parse Syntax: 'long' does not stand here: long long is left out, and a long has 64 bits",
+        "long long long n;\n",
+        "a.c:1:6: parse Syntax: 'long' does not stand here: write the words of one type, and long at most twice",
     ),
     (
         "int main(void) { done: return 0; }\n",
@@ -197,9 +203,9 @@ pub const ROWS: &[Row] = &[
 // The others: a test of all at once is too large for one check.
 pub const MORE_ROWS: &[Row] = &[
     (
-        "int main(void) { int a[3] = {1, 2, 3}; return a[0]; }\n",
-        "a.c:1:27: parse Syntax: '=' does not stand here: set what is no global or local variable behind its \
-            declaration",
+        "int main(void) { int a; a + 1 = 2; return a; }\n",
+        "a.c:1:31: parse Syntax: '=' does not stand here: set a variable or an element of an array, and none that \
+            is const",
     ),
     (
         "int main(void) }\n",

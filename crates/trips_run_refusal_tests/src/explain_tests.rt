@@ -25,9 +25,10 @@ const TOLD: &[Row] = &[
         "a.c:2:9: lex BadByte: '@' begins no token\n\treturn @;\n\t       ^\n",
     ),
     (
-        "static int n;\n",
+        "auto int n;\n",
         Status::Refused,
-        "a.c:1:1: parse Syntax: 'static' is left out: write the declaration without it\nstatic int n;\n^\n",
+        "a.c:1:1: parse Syntax: 'auto' does not stand here: write the declaration without it, and an object of \
+            extern where it is defined\nauto int n;\n^\n",
     ),
     (
         "int main(void) { return total; }",
