@@ -23,15 +23,16 @@ use Rattle.c_names.specs.declared.piece.Piece.{Piece}
 use Rattle.c_names.specs.declared.piece.Piece.TheVariants as piece
 use Rattle.c_names.specs.declared.scope.Entry.TheVariants as entry
 use Rattle.c_names.specs.declared.turn.Names.{Names}
-use Rattle.c_names.specs.Enums.{Taken, enum_behind, typedef_behind}
+use Rattle.c_names.specs.Enums.{Taken, is_known, is_enum, tag_size, enum_from, words_type, type_from}
+use Rattle.c_names.specs.Enums.{enum_behind, typedef_behind}
 use Rattle.c_names.specs.Headers.{Row, sizes, integers, is_header, goes, has_sizes, types_of, with_types}
 use Rattle.c_names.specs.Named.{named_in, named, beginning, may_be_type, key_stays, stays, has_no_name}
 use Rattle.c_names.specs.Pieces.{Pieces, form_of, spelled, none}
-use Rattle.c_names.specs.Scope.{Scope, look_up, in_parens, outside, closed, past}
+use Rattle.c_names.specs.Scope.{Scope, look_up, in_parens, outside, closed, past, is_own, tag}
 use Rattle.c_names.specs.Words.{begins, words_from, size_of, is_byte, is_long, is_integer}
 use Rattle.c_names.specs.declared.words.Class.TheVariants as class
 use Rattle.c_names.specs.Turns.{Turn, turn, left, behind_first, plain, typedef_turn, enum_turn, sizeof_by}
-use Rattle.c_names.specs.Turns.{sizeof_words, sizeof_turn, replaced, own_turn, header_turn, name_turn}
+use Rattle.c_names.specs.Turns.{sizeof_type, sizeof_turn, replaced, own_turn, header_turn, name_turn}
 use Rattle.c_names.specs.Turns.{key_turn, turn_by, turn_of}
 use Rattle.c_names.proofs.Rests.{turn_left}
 
@@ -214,6 +215,28 @@ size_small ws =
     (either_small (is_long ws) (Some 8) four (omega arith)
     (either_small (is_integer 0 class.Other ws && not (none ws)) (Some 4) None (omega arith) tt)))
 
+tag_small : (f : Form) (es : Scope) → Small (tag_size f es)
+tag_small (form.Name w) es =
+    either_small (is_own w && is_known (form.Name (tag w)) es) (Some 4) None (omega arith) tt
+tag_small (form.Key k) es = tt
+tag_small (form.Mark m) es = tt
+tag_small (form.Number n k) es = tt
+tag_small form.Include es = tt
+
+enum_small : (es : Scope) (ts : Tokens) → Small (enum_from es ts).0
+enum_small es [] = tt
+enum_small es (t ∷ ts) = tag_small t.form es
+
+pick_small : (b : Bool) (x y : Option ℕ × Tokens) → Small x.0 → Small y.0 → Small (cond b x y).0
+pick_small true x y h k = h
+pick_small false x y h k = k
+
+type_small : (es : Scope) (ts : Tokens) → Small (type_from es ts).0
+type_small es [] = tt
+type_small es (t ∷ ts) =
+    let words : Pieces × Tokens = words_from es [] (t ∷ ts) in
+    pick_small (is_enum t.form) (enum_from es ts) (words_type words) (enum_small es ts) (size_small words.0)
+
 typedef_has : (P : Fact) (t : Lexeme) (ts : Tokens) (m : Taken) → P t.form → EachToken P ts
     → EachToken P (typedef_turn t ts m).out
 typedef_has P t ts None p h = (p, h)
@@ -237,9 +260,9 @@ sizeof_by_has P a ns t ts (Some n) rest s p =
 sizeof_has : (P : Fact) → Allows P → (ns : Names) (t : Lexeme) (ts : Tokens) → P t.form
     → EachToken P (sizeof_turn ns t ts).out
 sizeof_has P a ns t ts p =
-    let x : Pieces × Tokens = words_from ns.scope [] (behind_first ts) in
-    either_has P (begins mark.LeftParen ts) (sizeof_words ns t ts x) (plain ns t ts)
-    (sizeof_by_has P a ns t ts (size_of x.0) x.1 (size_small x.0) p) (p, tt)
+    let x : Option ℕ × Tokens = type_from ns.scope (behind_first ts) in
+    either_has P (begins mark.LeftParen ts) (sizeof_type ns t ts x) (plain ns t ts)
+    (sizeof_by_has P a ns t ts x.0 x.1 (type_small ns.scope (behind_first ts)) p) (p, tt)
 
 key_has : (P : Fact) → Allows P → (ns : Names) (t : Lexeme) (ts : Tokens) (k : Key) → P t.form → EachToken P ts
     → EachToken P (key_turn ns t ts k).out

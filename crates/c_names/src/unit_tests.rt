@@ -82,6 +82,10 @@ const ROWS: &[(&str, &str)] = &[
         "int x = sizeof(x) + sizeof(short char) + sizeof(int);",
         "int x = sizeof(x) + sizeof(short char) + 4ul;",
     ),
+    (
+        "enum t { A } x; int y = sizeof(enum t) + sizeof(enum u);",
+        "int x; int y = 4ul + sizeof(enum u);",
+    ),
     // 7.19, 7.20
     (
         "size_t x; stdint_h uint8_t y; int_fast16_t z;",
