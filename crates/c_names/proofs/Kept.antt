@@ -1,7 +1,7 @@
 -- Units without names stay; and what holds of each token, and of all that may be added, holds of each that comes out.
 use Rattle.std.proofs.Common.{◌≡◌, ◌≤◌, ◌<◌, ℕ, zero, suc, ◌^◌, ◌%◌, Bool, true, false, cond, not, ◌&&◌}
 use Rattle.std.proofs.Common.{List, [], ◌∷◌, ◌++◌, length, Option, Some, None, refl, sym, ap, ◌∙◌, arith}
-use Rattle.std.specs.Prelude.{Ok, codes}
+use Rattle.std.specs.Prelude.{Ok, codes, nat_eq}
 use Rattle.std.specs.Str.{bytes_eq}
 use Rattle.std.proofs.lemmas.Bool.{false≢true}
 use Rattle.std.proofs.lemmas.Slice.Eq.{bytes_eq-Decides}
@@ -27,9 +27,9 @@ use Rattle.c_names.specs.Enums.{Taken, is_known, is_enum, tag_size, enum_from, w
 use Rattle.c_names.specs.Enums.{enum_behind, typedef_behind}
 use Rattle.c_names.specs.Headers.{Row, sizes, integers, is_header, goes, has_sizes, types_of, with_types}
 use Rattle.c_names.specs.Named.{named_in, named, beginning, may_be_type, key_stays, stays, has_no_name}
-use Rattle.c_names.specs.Pieces.{Pieces, form_of, spelled, none}
+use Rattle.c_names.specs.Pieces.{Pieces, form_of, spelled}
 use Rattle.c_names.specs.Scope.{Scope, look_up, in_parens, outside, closed, past, is_own, tag}
-use Rattle.c_names.specs.Words.{begins, words_from, size_of, is_byte, is_long, is_integer}
+use Rattle.c_names.specs.Words.{begins, words_from, size_of, is_byte, is_long, is_integer, said}
 use Rattle.c_names.specs.declared.words.Class.TheVariants as class
 use Rattle.c_names.specs.Turns.{Turn, turn, left, behind_first, plain, typedef_turn, enum_turn, sizeof_by}
 use Rattle.c_names.specs.Turns.{sizeof_type, sizeof_turn, replaced, own_turn, header_turn, name_turn}
@@ -207,13 +207,13 @@ either_small false x y h k = k
 
 size_small : (ws : Pieces) → Small (size_of ws)
 size_small ws =
-    let four : Option ℕ = cond (is_integer 0 class.Other ws && not (none ws)) (Some 4) None in
+    let four : Option ℕ = cond (is_integer 0 class.Other ws && not (nat_eq (said ws) 0)) (Some 4) None in
     let long : Option ℕ = cond (is_long ws) (Some 8) four in
     let short : Option ℕ = cond (is_integer 1 class.Short ws) (Some 2) long in
     either_small (is_byte ws) (Some 1) short (omega arith)
     (either_small (is_integer 1 class.Short ws) (Some 2) long (omega arith)
     (either_small (is_long ws) (Some 8) four (omega arith)
-    (either_small (is_integer 0 class.Other ws && not (none ws)) (Some 4) None (omega arith) tt)))
+    (either_small (is_integer 0 class.Other ws && not (nat_eq (said ws) 0)) (Some 4) None (omega arith) tt)))
 
 tag_small : (f : Form) (es : Scope) → Small (tag_size f es)
 tag_small (form.Name w) es =

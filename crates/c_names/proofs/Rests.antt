@@ -22,7 +22,7 @@ use Rattle.c_names.specs.Words.{begins, words_of, words_from, size_of}
 use Rattle.c_names.specs.Headers.{is_header}
 use Rattle.c_names.specs.Enums.{Taken, ◌and_then◌, last, listed, list_behind, is_known, known, tagged, tag_behind}
 use Rattle.c_names.specs.Enums.{name_behind, brace_behind, enum_by, enum_behind, names_from, words_named}
-use Rattle.c_names.specs.Enums.{words_behind, enum_named, is_enum, enum_from, words_type, type_from, typedef_behind}
+use Rattle.c_names.specs.Enums.{may_name, words_behind, enum_named, is_enum, enum_from, words_type, type_from, typedef_behind}
 use Rattle.c_names.specs.Turns.{Turn, turn, left, behind_first, plain, typedef_turn, sizeof_by, sizeof_type}
 use Rattle.c_names.specs.Turns.{sizeof_turn, own_turn, header_turn, name_turn, key_turn, turn_by, turn_of, enum_turn}
 
@@ -130,7 +130,7 @@ names_left Q s es ws (n ∷ m ∷ ts) h =
     let k : Q ts = s m ts (s n (m ∷ ts) h) in
     let more : Taken = names_from (declared n.form ws es) ws ts in
     let end : Taken = cond (is_mark mark.Semicolon m.form) (Some (declared n.form ws es, ts)) None in
-    either Q (not (is_free n.form es)) None (cond (is_mark mark.Comma m.form) more end) tt
+    either Q (not (may_name n.form ws es)) None (cond (is_mark mark.Comma m.form) more end) tt
     (either Q (is_mark mark.Comma m.form) more end (names_left Q s (declared n.form ws es) ws ts k)
     (either Q (is_mark mark.Semicolon m.form) (Some (declared n.form ws es, ts)) None k tt))
 

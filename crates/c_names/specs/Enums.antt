@@ -10,9 +10,9 @@ use Rattle.c_lex.specs.Lexes.{Tokens}
 use Rattle.c_library.specs.Calls.{is_mark}
 use Rattle.c_names.specs.declared.value.Next.{Next}
 use Rattle.c_names.specs.Pieces.{Pieces, int}
-use Rattle.c_names.specs.Scope.{Scope, look_up, in_parens, is_own, is_free, declared, tag}
+use Rattle.c_names.specs.Scope.{Scope, look_up, in_parens, is_own, is_here, is_free, declared, tag}
 use Rattle.c_names.specs.Values.{first, enumerator}
-use Rattle.c_names.specs.Words.{begins, words_from, size_of}
+use Rattle.c_names.specs.Words.{begins, words_from, size_of, is_same}
 
 -- what is declared behind a part of the unit, and the tokens behind it; or nothing, where it is malformed
 abbrev pub Taken : Type 0
@@ -83,10 +83,16 @@ enum_behind es (t ∷ ts) = enum_by es t.form ts
 
 -- NAMES OF TYPES
 
+-- May the name be declared there for these words? It is none of the block's already, or one for the same type
+-- (C17 6.7, paragraph 3).
+abbrev pub may_name : Form → Pieces → Scope → Bool
+may_name (form.Name w) ws es = is_own w && (not (is_here w es) || is_same ws (look_up w es))
+may_name _ ws es = false
+
 -- Behind the names that stand for these words, parted by `,`, up to the `;`.
 abbrev pub names_from : Scope → Pieces → Tokens → Taken
 names_from es ws (n ∷ m ∷ ts) =
-    if not (is_free n.form es) then None
+    if not (may_name n.form ws es) then None
     else if is_mark mark.Comma m.form then names_from (declared n.form ws es) ws ts
     else if is_mark mark.Semicolon m.form then Some (declared n.form ws es, ts)
     else None

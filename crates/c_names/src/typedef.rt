@@ -10,10 +10,23 @@ ghost use Rattle.c_names.specs.inside.Takes.{taken};
 use crate::enums::{INT, enum_behind, is_known};
 use crate::piece::Piece;
 use crate::scope::{Scope, is_own, tag};
-use crate::words::{is_mark, size_of, take_words};
+use crate::words::{is_mark, is_same, size_of, take_words};
 use base::Items;
 use c_tree::{Form, Key, Lexeme, Mark};
 use std::alloc::{AllocError, Global};
+
+/// May the name be declared for these words?
+fn may_name(scope: &Scope, words: &[Piece], form: &Form) -> bool
+    ensures { result ≡ enums.may_name form.now words.now scope.now }
+{
+    match form {
+        Form::Name(name) => {
+            is_own(name.as_slice())
+                && (!scope.is_here(name.as_slice()) || is_same(words, scope.look_up(name.as_slice())))
+        }
+        _ => false,
+    }
+}
 
 /// Declares a name before these tokens, and gives them; none where it may not be declared. Want of memory is the only
 /// error.
@@ -29,7 +42,7 @@ fn declare_before<'a>(
         ≡ enums.names_from scope.old words.now (name.now ∷ behind.now)) }
     ensures left { IfOk result (λ rest. length rest.now ≤ length behind.now) }
 {
-    if !scope.is_free(&name.form) {
+    if !may_name(scope, words, &name.form) {
         return Ok(&[]);
     }
     scope.declare(alloc, &name.form, words)?;
