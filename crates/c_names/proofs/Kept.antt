@@ -25,7 +25,7 @@ use Rattle.c_names.specs.declared.scope.Entry.TheVariants as entry
 use Rattle.c_names.specs.declared.turn.Names.{Names}
 use Rattle.c_names.specs.Enums.{Taken, is_known, is_enum, tag_size, enum_from, words_type, type_from}
 use Rattle.c_names.specs.Enums.{enum_behind, typedef_behind}
-use Rattle.c_names.specs.Headers.{Row, sizes, integers, is_header, goes, has_sizes, types_of, with_types}
+use Rattle.c_names.specs.Headers.{Row, sizes, definitions, integers, is_header, goes, has_sizes, types_of, with_types}
 use Rattle.c_names.specs.Named.{named_in, named, beginning, may_be_type, key_stays, stays, has_no_name}
 use Rattle.c_names.specs.Pieces.{Pieces, form_of, spelled}
 use Rattle.c_names.specs.Scope.{Scope, look_up, in_parens, outside, closed, past, is_own, tag}
@@ -103,6 +103,10 @@ sizes_headers : all_types sizes ≡ true
 unfolding sizes
 sizes_headers = refl
 
+definitions_headers : all_types definitions ≡ true
+unfolding definitions
+definitions_headers = refl
+
 integers_headers : all_types integers ≡ true
 unfolding integers
 integers_headers = refl
@@ -113,8 +117,11 @@ either_types false x y e f = f
 
 header_headers : (w : Bytes) → all_types (types_of w) ≡ true
 header_headers w =
-    either_types (bytes_eq w (codes "<stdint.h>")) integers (cond (has_sizes w) sizes []) integers_headers
-    (either_types (has_sizes w) sizes [] sizes_headers refl)
+    let small : List Row = cond (has_sizes w) sizes [] in
+    let other : List Row = cond (bytes_eq w (codes "<stddef.h>")) definitions small in
+    either_types (bytes_eq w (codes "<stdint.h>")) integers other integers_headers
+    (either_types (bytes_eq w (codes "<stddef.h>")) definitions small definitions_headers
+    (either_types (has_sizes w) sizes [] sizes_headers refl))
 
 -- A turn that changes nothing but what it knows.
 record Stays (x : Turn) (t : Lexeme) (ts : Tokens) : Type 0 where

@@ -10,7 +10,7 @@ use Rattle.c_tree.specs.declared.Mark.TheVariants as mark
 use Rattle.c_lex.specs.Lexes.{Tokens}
 use Rattle.c_library.specs.Places.{tokens}
 use Rattle.c_names.specs.declared.piece.Piece.TheVariants as piece
-use Rattle.c_names.specs.Headers.{types_of, sizes}
+use Rattle.c_names.specs.Headers.{types_of, sizes, definitions}
 use Rattle.c_names.specs.Named.{named}
 use Rattle.c_names.specs.Pieces.{Pieces}
 use Rattle.c_names.specs.Values.{sum}
@@ -140,5 +140,5 @@ size_is_there = refl
 
 pub header_goes : named (at (form.Name (codes "<stddef.h>") ∷ form.Name (codes "size_t") ∷ []))
     ≡ at (word key.Unsigned ∷ word key.Long ∷ [])
-unfolding sizes
+unfolding definitions
 header_goes = refl

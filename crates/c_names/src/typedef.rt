@@ -22,7 +22,8 @@ fn may_name(scope: &Scope, words: &[Piece], form: &Form) -> bool
     match form {
         Form::Name(name) => {
             is_own(name.as_slice())
-                && (!scope.is_here(name.as_slice()) || is_same(words, scope.look_up(name.as_slice())))
+                && (!scope.is_here(name.as_slice())
+                    || is_same(words, scope.look_up(name.as_slice())))
         }
         _ => false,
     }

@@ -31,7 +31,10 @@ const ROWS: &[(&str, &str)] = &[
         "const int x = 5; int f(const int y) { volatile const int z; return y; }",
     ),
     ("typedef const T; T x;", "typedef const T; T x;"),
-    ("typedef register int T; T x;", "typedef register int T; T x;"),
+    (
+        "typedef register int T; T x;",
+        "typedef register int T; T x;",
+    ),
     (
         "typedef int T; void f(void) { typedef long T; T x; } T y;",
         "void f(void) { long x; } int y;",
@@ -39,10 +42,7 @@ const ROWS: &[(&str, &str)] = &[
     ("typedef int int T; T x;", "typedef int int T; T x;"),
     ("int f(typedef int T);", "int f(typedef int T);"),
     ("typedef int T; typedef long T;", "typedef long T;"),
-    (
-        "typedef const int T; typedef int T;",
-        "typedef int T;",
-    ),
+    ("typedef const int T; typedef int T;", "typedef int T;"),
     (
         "#include <stdio.h>\ntypedef long unsigned int size_t; size_t n;",
         "#include <stdio.h>\nlong unsigned int n;",
@@ -53,6 +53,10 @@ const ROWS: &[(&str, &str)] = &[
         "#include <stdio.h>\nunsigned long f(unsigned long n);",
     ),
     ("#include <stddef.h>\nsize_t n;", "unsigned long n;"),
+    (
+        "#include <stddef.h>\nptrdiff_t d; wchar_t c;",
+        "long d; int c;",
+    ),
     ("for (;typedef int T;) T;", "for (;typedef int T;) T;"),
     // 6.7.2.2
     ("enum { A, B, C }; int x = A + B + C;", "int x = 0 + 1 + 2;"),
