@@ -1,7 +1,7 @@
 -- Units without names stay; and what holds of each token, and of all that may be added, holds of each that comes out.
 use Rattle.std.proofs.Common.{◌≡◌, ◌≤◌, ◌<◌, ℕ, zero, suc, ◌^◌, ◌%◌, Bool, true, false, cond, not, ◌&&◌}
 use Rattle.std.proofs.Common.{List, [], ◌∷◌, ◌++◌, length, Option, Some, None, refl, sym, ap, ◌∙◌, arith}
-use Rattle.std.specs.Prelude.{Ok, codes}
+use Rattle.std.specs.Prelude.{Ok, codes, nat_eq}
 use Rattle.std.specs.Str.{bytes_eq}
 use Rattle.std.proofs.lemmas.Bool.{false≢true}
 use Rattle.std.proofs.lemmas.Slice.Eq.{bytes_eq-Decides}
@@ -23,15 +23,16 @@ use Rattle.c_names.specs.declared.piece.Piece.{Piece}
 use Rattle.c_names.specs.declared.piece.Piece.TheVariants as piece
 use Rattle.c_names.specs.declared.scope.Entry.TheVariants as entry
 use Rattle.c_names.specs.declared.turn.Names.{Names}
-use Rattle.c_names.specs.Enums.{Taken, enum_behind, typedef_behind}
-use Rattle.c_names.specs.Headers.{Row, sizes, integers, is_header, goes, has_sizes, types_of, with_types}
+use Rattle.c_names.specs.Enums.{Taken, is_known, is_enum, tag_size, enum_from, words_type, type_from}
+use Rattle.c_names.specs.Enums.{enum_behind, typedef_behind}
+use Rattle.c_names.specs.Headers.{Row, sizes, definitions, integers, is_header, goes, has_sizes, types_of, with_types}
 use Rattle.c_names.specs.Named.{named_in, named, beginning, may_be_type, key_stays, stays, has_no_name}
-use Rattle.c_names.specs.Pieces.{Pieces, form_of, spelled, none}
-use Rattle.c_names.specs.Scope.{Scope, look_up, in_parens, outside, closed, past}
-use Rattle.c_names.specs.Words.{begins, words_from, size_of, is_byte, is_long, is_integer}
+use Rattle.c_names.specs.Pieces.{Pieces, form_of, spelled}
+use Rattle.c_names.specs.Scope.{Scope, look_up, in_parens, outside, closed, past, is_own, tag}
+use Rattle.c_names.specs.Words.{begins, words_from, size_of, is_byte, is_long, is_integer, said}
 use Rattle.c_names.specs.declared.words.Class.TheVariants as class
 use Rattle.c_names.specs.Turns.{Turn, turn, left, behind_first, plain, typedef_turn, enum_turn, sizeof_by}
-use Rattle.c_names.specs.Turns.{sizeof_words, sizeof_turn, replaced, own_turn, header_turn, name_turn}
+use Rattle.c_names.specs.Turns.{sizeof_type, sizeof_turn, replaced, own_turn, header_turn, name_turn}
 use Rattle.c_names.specs.Turns.{key_turn, turn_by, turn_of}
 use Rattle.c_names.proofs.Rests.{turn_left}
 
@@ -102,6 +103,10 @@ sizes_headers : all_types sizes ≡ true
 unfolding sizes
 sizes_headers = refl
 
+definitions_headers : all_types definitions ≡ true
+unfolding definitions
+definitions_headers = refl
+
 integers_headers : all_types integers ≡ true
 unfolding integers
 integers_headers = refl
@@ -112,8 +117,11 @@ either_types false x y e f = f
 
 header_headers : (w : Bytes) → all_types (types_of w) ≡ true
 header_headers w =
-    either_types (bytes_eq w (codes "<stdint.h>")) integers (cond (has_sizes w) sizes []) integers_headers
-    (either_types (has_sizes w) sizes [] sizes_headers refl)
+    let small : List Row = cond (has_sizes w) sizes [] in
+    let other : List Row = cond (bytes_eq w (codes "<stddef.h>")) definitions small in
+    either_types (bytes_eq w (codes "<stdint.h>")) integers other integers_headers
+    (either_types (bytes_eq w (codes "<stddef.h>")) definitions small definitions_headers
+    (either_types (has_sizes w) sizes [] sizes_headers refl))
 
 -- A turn that changes nothing but what it knows.
 record Stays (x : Turn) (t : Lexeme) (ts : Tokens) : Type 0 where
@@ -206,13 +214,35 @@ either_small false x y h k = k
 
 size_small : (ws : Pieces) → Small (size_of ws)
 size_small ws =
-    let four : Option ℕ = cond (is_integer 0 class.Other ws && not (none ws)) (Some 4) None in
+    let four : Option ℕ = cond (is_integer 0 class.Other ws && not (nat_eq (said ws) 0)) (Some 4) None in
     let long : Option ℕ = cond (is_long ws) (Some 8) four in
     let short : Option ℕ = cond (is_integer 1 class.Short ws) (Some 2) long in
     either_small (is_byte ws) (Some 1) short (omega arith)
     (either_small (is_integer 1 class.Short ws) (Some 2) long (omega arith)
     (either_small (is_long ws) (Some 8) four (omega arith)
-    (either_small (is_integer 0 class.Other ws && not (none ws)) (Some 4) None (omega arith) tt)))
+    (either_small (is_integer 0 class.Other ws && not (nat_eq (said ws) 0)) (Some 4) None (omega arith) tt)))
+
+tag_small : (f : Form) (es : Scope) → Small (tag_size f es)
+tag_small (form.Name w) es =
+    either_small (is_own w && is_known (form.Name (tag w)) es) (Some 4) None (omega arith) tt
+tag_small (form.Key k) es = tt
+tag_small (form.Mark m) es = tt
+tag_small (form.Number n k) es = tt
+tag_small form.Include es = tt
+
+enum_small : (es : Scope) (ts : Tokens) → Small (enum_from es ts).0
+enum_small es [] = tt
+enum_small es (t ∷ ts) = tag_small t.form es
+
+pick_small : (b : Bool) (x y : Option ℕ × Tokens) → Small x.0 → Small y.0 → Small (cond b x y).0
+pick_small true x y h k = h
+pick_small false x y h k = k
+
+type_small : (es : Scope) (ts : Tokens) → Small (type_from es ts).0
+type_small es [] = tt
+type_small es (t ∷ ts) =
+    let words : Pieces × Tokens = words_from es [] (t ∷ ts) in
+    pick_small (is_enum t.form) (enum_from es ts) (words_type words) (enum_small es ts) (size_small words.0)
 
 typedef_has : (P : Fact) (t : Lexeme) (ts : Tokens) (m : Taken) → P t.form → EachToken P ts
     → EachToken P (typedef_turn t ts m).out
@@ -237,9 +267,9 @@ sizeof_by_has P a ns t ts (Some n) rest s p =
 sizeof_has : (P : Fact) → Allows P → (ns : Names) (t : Lexeme) (ts : Tokens) → P t.form
     → EachToken P (sizeof_turn ns t ts).out
 sizeof_has P a ns t ts p =
-    let x : Pieces × Tokens = words_from ns.scope [] (behind_first ts) in
-    either_has P (begins mark.LeftParen ts) (sizeof_words ns t ts x) (plain ns t ts)
-    (sizeof_by_has P a ns t ts (size_of x.0) x.1 (size_small x.0) p) (p, tt)
+    let x : Option ℕ × Tokens = type_from ns.scope (behind_first ts) in
+    either_has P (begins mark.LeftParen ts) (sizeof_type ns t ts x) (plain ns t ts)
+    (sizeof_by_has P a ns t ts x.0 x.1 (type_small ns.scope (behind_first ts)) p) (p, tt)
 
 key_has : (P : Fact) → Allows P → (ns : Names) (t : Lexeme) (ts : Tokens) (k : Key) → P t.form → EachToken P ts
     → EachToken P (key_turn ns t ts k).out

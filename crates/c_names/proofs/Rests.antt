@@ -22,8 +22,8 @@ use Rattle.c_names.specs.Words.{begins, words_of, words_from, size_of}
 use Rattle.c_names.specs.Headers.{is_header}
 use Rattle.c_names.specs.Enums.{Taken, ◌and_then◌, last, listed, list_behind, is_known, known, tagged, tag_behind}
 use Rattle.c_names.specs.Enums.{name_behind, brace_behind, enum_by, enum_behind, names_from, words_named}
-use Rattle.c_names.specs.Enums.{words_behind, enum_named, is_enum, typedef_behind}
-use Rattle.c_names.specs.Turns.{Turn, turn, left, behind_first, plain, typedef_turn, sizeof_by, sizeof_words}
+use Rattle.c_names.specs.Enums.{may_name, words_behind, enum_named, is_enum, enum_from, words_type, type_from, typedef_behind}
+use Rattle.c_names.specs.Turns.{Turn, turn, left, behind_first, plain, typedef_turn, sizeof_by, sizeof_type}
 use Rattle.c_names.specs.Turns.{sizeof_turn, own_turn, header_turn, name_turn, key_turn, turn_by, turn_of, enum_turn}
 
 -- a fact on tokens
@@ -130,13 +130,27 @@ names_left Q s es ws (n ∷ m ∷ ts) h =
     let k : Q ts = s m ts (s n (m ∷ ts) h) in
     let more : Taken = names_from (declared n.form ws es) ws ts in
     let end : Taken = cond (is_mark mark.Semicolon m.form) (Some (declared n.form ws es, ts)) None in
-    either Q (not (is_free n.form es)) None (cond (is_mark mark.Comma m.form) more end) tt
+    either Q (not (may_name n.form ws es)) None (cond (is_mark mark.Comma m.form) more end) tt
     (either Q (is_mark mark.Comma m.form) more end (names_left Q s (declared n.form ws es) ws ts k)
     (either Q (is_mark mark.Semicolon m.form) (Some (declared n.form ws es, ts)) None k tt))
 
 words_named_left : (Q : OnTokens) → Shrinks Q → (es : Scope) (p : Pieces × Tokens) → Q p.1 → Left Q (words_named es p)
 words_named_left Q s es p h =
     either Q (is_some (size_of p.0)) (names_from es p.0 p.1) None (names_left Q s es p.0 p.1 h) tt
+
+pick_type : (Q : OnTokens) (b : Bool) (x y : Option ℕ × Tokens) → Q x.1 → Q y.1 → Q (cond b x y).1
+pick_type Q true x y h k = h
+pick_type Q false x y h k = k
+
+enum_from_left : (Q : OnTokens) → Shrinks Q → (es : Scope) (ts : Tokens) → Q ts → Q (enum_from es ts).1
+enum_from_left Q s es [] h = h
+enum_from_left Q s es (t ∷ ts) h = s t ts h
+
+type_left : (Q : OnTokens) → Shrinks Q → (es : Scope) (ts : Tokens) → Q ts → Q (type_from es ts).1
+type_left Q s es [] h = h
+type_left Q s es (t ∷ ts) h =
+    pick_type Q (is_enum t.form) (enum_from es ts) (words_type (words_from es [] (t ∷ ts)))
+    (enum_from_left Q s es ts (s t ts h)) (words_left Q s es [] (t ∷ ts) h)
 
 typedef_left : (Q : OnTokens) → Shrinks Q → (es : Scope) (ts : Tokens) → Q ts → Left Q (typedef_behind es ts)
 typedef_left Q s es [] h = tt
@@ -179,10 +193,9 @@ sizeof_by_left Q s ns t ts (Some n) rest h k =
 sizeof_left : (Q : OnTokens) → Shrinks Q → (ns : Names) (t : Lexeme) (ts : Tokens) → Q ts
     → Q (sizeof_turn ns t ts).rest
 sizeof_left Q s ns t ts h =
-    let p : Pieces × Tokens = words_from ns.scope [] (behind_first ts) in
-    choose Q (begins mark.LeftParen ts) (sizeof_words ns t ts p) (plain ns t ts)
-    (sizeof_by_left Q s ns t ts (size_of p.0) p.1 h
-    (words_left Q s ns.scope [] (behind_first ts) (first_left Q s ts h)))
+    let p : Option ℕ × Tokens = type_from ns.scope (behind_first ts) in
+    choose Q (begins mark.LeftParen ts) (sizeof_type ns t ts p) (plain ns t ts)
+    (sizeof_by_left Q s ns t ts p.0 p.1 h (type_left Q s ns.scope (behind_first ts) (first_left Q s ts h)))
     h
 
 key_left : (Q : OnTokens) → Shrinks Q → Q [] → (ns : Names) (t : Lexeme) (ts : Tokens) (k : Key) → Q ts

@@ -1,5 +1,5 @@
 -- Worked rows of the definitions (C17 6.5.3.4, 6.7.2.2, 6.7.8, 7.20).
-use Rattle.std.proofs.Common.{◌≡◌, ℕ, List, [], ◌∷◌, ◌++◌, Option, Some, None, codes, refl}
+use Rattle.std.proofs.Common.{◌≡◌, ℕ, true, false, List, [], ◌∷◌, ◌++◌, Option, Some, None, codes, refl}
 use Rattle.c_tree.specs.declared.Form.{Form}
 use Rattle.c_tree.specs.declared.Form.TheVariants as form
 use Rattle.c_tree.specs.declared.Key.{Key}
@@ -10,11 +10,11 @@ use Rattle.c_tree.specs.declared.Mark.TheVariants as mark
 use Rattle.c_lex.specs.Lexes.{Tokens}
 use Rattle.c_library.specs.Places.{tokens}
 use Rattle.c_names.specs.declared.piece.Piece.TheVariants as piece
-use Rattle.c_names.specs.Headers.{types_of, sizes}
+use Rattle.c_names.specs.Headers.{types_of, sizes, definitions}
 use Rattle.c_names.specs.Named.{named}
 use Rattle.c_names.specs.Pieces.{Pieces}
 use Rattle.c_names.specs.Values.{sum}
-use Rattle.c_names.specs.Words.{size_of}
+use Rattle.c_names.specs.Words.{size_of, same_type}
 
 -- tokens by their forms, all at the place 5
 abbrev at : List Form → Tokens
@@ -115,6 +115,23 @@ long_long = refl
 pub signed_alone : size_of (piece.Word key.Signed ∷ []) ≡ Some 4
 signed_alone = refl
 
+-- `const` alone is no type, `const long` one of 8 bytes, and `_Bool volatile` one of 1
+pub const_alone : size_of (piece.Word key.Const ∷ []) ≡ None
+const_alone = refl
+
+pub const_long : size_of (piece.Word key.Const ∷ piece.Word key.Long ∷ []) ≡ Some 8
+const_long = refl
+
+pub bool_volatile : size_of (piece.Word key.Bool ∷ piece.Word key.Volatile ∷ []) ≡ Some 1
+bool_volatile = refl
+
+-- `unsigned int` and `unsigned` are one type, `char` and `signed char` are not
+pub int_unsaid : same_type (piece.Word key.Unsigned ∷ piece.Word key.Int ∷ []) (piece.Word key.Unsigned ∷ []) ≡ true
+int_unsaid = refl
+
+pub char_unsigned : same_type (piece.Word key.Char ∷ []) (piece.Word key.Signed ∷ piece.Word key.Char ∷ []) ≡ false
+char_unsigned = refl
+
 -- `#include <stdio.h>` and `size_t` are the include and `unsigned long`; that of `<stddef.h>` goes
 pub size_is_there : named (at (form.Include ∷ form.Name (codes "size_t") ∷ []))
     ≡ at (form.Include ∷ word key.Unsigned ∷ word key.Long ∷ [])
@@ -123,5 +140,5 @@ size_is_there = refl
 
 pub header_goes : named (at (form.Name (codes "<stddef.h>") ∷ form.Name (codes "size_t") ∷ []))
     ≡ at (word key.Unsigned ∷ word key.Long ∷ [])
-unfolding sizes
+unfolding definitions
 header_goes = refl

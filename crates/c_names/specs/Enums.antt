@@ -1,5 +1,5 @@
 -- Enumerations (C17 6.7.2.2) and names of types (6.7.8): what they declare, and the tokens behind them.
-use Rattle.std.specs.Prelude.{Bool, true, false, not, ◌||◌, if◌then◌else◌, List, [], ◌∷◌, ◌++◌}
+use Rattle.std.specs.Prelude.{ℕ, Bool, true, false, not, ◌&&◌, ◌||◌, if◌then◌else◌, List, [], ◌∷◌, ◌++◌}
 use Rattle.std.specs.Prelude.{Option, Some, None, is_some}
 use Rattle.c_tree.specs.declared.Form.{Form}
 use Rattle.c_tree.specs.declared.Form.TheVariants as form
@@ -10,9 +10,9 @@ use Rattle.c_lex.specs.Lexes.{Tokens}
 use Rattle.c_library.specs.Calls.{is_mark}
 use Rattle.c_names.specs.declared.value.Next.{Next}
 use Rattle.c_names.specs.Pieces.{Pieces, int}
-use Rattle.c_names.specs.Scope.{Scope, look_up, in_parens, is_own, is_free, declared, tag}
+use Rattle.c_names.specs.Scope.{Scope, look_up, in_parens, is_own, is_here, is_free, declared, tag}
 use Rattle.c_names.specs.Values.{first, enumerator}
-use Rattle.c_names.specs.Words.{begins, words_from, size_of}
+use Rattle.c_names.specs.Words.{begins, words_from, size_of, is_same}
 
 -- what is declared behind a part of the unit, and the tokens behind it; or nothing, where it is malformed
 abbrev pub Taken : Type 0
@@ -83,10 +83,16 @@ enum_behind es (t ∷ ts) = enum_by es t.form ts
 
 -- NAMES OF TYPES
 
+-- May the name be declared there for these words? It is none of the block's already, or one for the same type
+-- (C17 6.7, paragraph 3).
+abbrev pub may_name : Form → Pieces → Scope → Bool
+may_name (form.Name w) ws es = is_own w && (not (is_here w es) || is_same ws (look_up w es))
+may_name _ ws es = false
+
 -- Behind the names that stand for these words, parted by `,`, up to the `;`.
 abbrev pub names_from : Scope → Pieces → Tokens → Taken
 names_from es ws (n ∷ m ∷ ts) =
-    if not (is_free n.form es) then None
+    if not (may_name n.form ws es) then None
     else if is_mark mark.Comma m.form then names_from (declared n.form ws es) ws ts
     else if is_mark mark.Semicolon m.form then Some (declared n.form ws es, ts)
     else None
@@ -107,6 +113,29 @@ enum_named es ts = enum_behind es ts and_then (λ (p : Scope × Tokens). names_f
 abbrev pub is_enum : Form → Bool
 is_enum (form.Key key.Enum) = true
 is_enum _ = false
+
+-- SIZES
+
+-- the bytes of an enumeration of this tag, which must be known: those of `int` (C17 6.7.2.2, paragraph 4)
+abbrev pub tag_size : Form → Scope → Option ℕ
+tag_size (form.Name w) es = if is_own w && is_known (form.Name (tag w)) es then Some 4 else None
+tag_size _ es = None
+
+-- the bytes of an enumeration, behind `enum`, and the tokens behind its tag
+abbrev pub enum_from : Scope → Tokens → Option ℕ × Tokens
+enum_from es [] = (None, [])
+enum_from es (t ∷ ts) = (tag_size t.form es, ts)
+
+-- the bytes of the type that words say, and what follows them
+abbrev pub words_type : Pieces × Tokens → Option ℕ × Tokens
+words_type p = (size_of p.0, p.1)
+
+-- the bytes of the type that stands first, if one does, and what follows it
+abbrev pub type_from : Scope → Tokens → Option ℕ × Tokens
+type_from es [] = (None, [])
+type_from es (t ∷ ts) = if is_enum t.form then enum_from es ts else words_type (words_from es [] (t ∷ ts))
+
+-- DECLARATIONS
 
 -- behind `typedef`, an enumeration or words, and the names
 abbrev pub typedef_behind : Scope → Tokens → Taken

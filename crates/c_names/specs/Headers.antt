@@ -24,6 +24,14 @@ two j k = piece.Word j ∷ piece.Word k ∷ []
 unfoldable pub sizes : List Row
 sizes = (codes "size_t", two key.Unsigned key.Long) ∷ []
 
+-- those of `<stddef.h>`
+unfoldable pub definitions : List Row
+definitions =
+    (codes "size_t", two key.Unsigned key.Long)
+    ∷ (codes "ptrdiff_t", one key.Long)
+    ∷ (codes "wchar_t", one key.Int)
+    ∷ []
+
 -- those of `<stdint.h>`
 unfoldable pub integers : List Row
 integers =
@@ -66,14 +74,17 @@ is_header (b ∷ bs) = nat_eq b less
 abbrev pub goes : Bytes → Bool
 goes w = bytes_eq w (codes "<stddef.h>") || bytes_eq w (codes "<stdint.h>")
 
--- does it have `size_t`?
+-- does it have `size_t` alone?
 abbrev pub has_sizes : Bytes → Bool
-has_sizes w =
-    bytes_eq w (codes "<stddef.h>") || (bytes_eq w (codes "<stdlib.h>") || bytes_eq w (codes "<string.h>"))
+has_sizes w = bytes_eq w (codes "<stdlib.h>") || bytes_eq w (codes "<string.h>")
 
 -- the types of the header
 abbrev pub types_of : Bytes → List Row
-types_of w = if bytes_eq w (codes "<stdint.h>") then integers else if has_sizes w then sizes else []
+types_of w =
+    if bytes_eq w (codes "<stdint.h>") then integers
+    else if bytes_eq w (codes "<stddef.h>") then definitions
+    else if has_sizes w then sizes
+    else []
 
 -- with these declared
 abbrev pub with_types : List Row → Scope → Scope

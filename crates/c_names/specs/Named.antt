@@ -26,14 +26,21 @@ named ts = named_in (length ts) beginning ts
 
 -- UNITS WITHOUT THEM
 
--- are the bytes the first four of `int8_t`, `int_..`, `intptr_t`, .. (`int`), `uint`, `size`?
+-- are the bytes the first four of `ptrdiff_t` or `wchar_t`?
+abbrev pub may_be_other : ℕ → ℕ → ℕ → ℕ → Bool
+may_be_other a b c d =
+    (nat_eq a 112 && (nat_eq b 116 && (nat_eq c 114 && nat_eq d 100)))
+    || (nat_eq a 119 && (nat_eq b 99 && (nat_eq c 104 && nat_eq d 97)))
+
+-- are the bytes the first four of `int8_t`, `int_..`, `intptr_t`, .. (`int`), `uint`, `size`, `ptrd`, `wcha`?
 abbrev pub may_be : ℕ → ℕ → ℕ → ℕ → Bool
 may_be a b c d =
     (nat_eq a 105 && (nat_eq b 110 && nat_eq c 116))
     || ((nat_eq a 117 && (nat_eq b 105 && (nat_eq c 110 && nat_eq d 116)))
-    || (nat_eq a 115 && (nat_eq b 105 && (nat_eq c 122 && nat_eq d 101))))
+    || ((nat_eq a 115 && (nat_eq b 105 && (nat_eq c 122 && nat_eq d 101)))
+    || may_be_other a b c d))
 
--- May it be a name of a header's type? It begins with `int`, `uint` or `size`.
+-- May it be a name of a header's type? It begins with `int`, `uint`, `size`, `ptrd` or `wcha`.
 abbrev pub may_be_type : Bytes → Bool
 may_be_type (a ∷ b ∷ c ∷ d ∷ w) = may_be a b c d
 may_be_type _ = false

@@ -15,9 +15,9 @@ use Rattle.c_library.specs.Places.{token}
 use Rattle.c_names.specs.declared.turn.Names.{Names}
 use Rattle.c_names.specs.Pieces.{Pieces, spelled}
 use Rattle.c_names.specs.Scope.{Scope, look_up, in_parens, past}
-use Rattle.c_names.specs.Words.{begins, words_from, size_of}
+use Rattle.c_names.specs.Words.{begins}
 use Rattle.c_names.specs.Headers.{sizes, is_header, goes, types_of, with_types}
-use Rattle.c_names.specs.Enums.{Taken, enum_behind, typedef_behind}
+use Rattle.c_names.specs.Enums.{Taken, enum_behind, type_from, typedef_behind}
 
 -- What the first tokens come to.
 pub record Turn : Type 0 where
@@ -65,7 +65,7 @@ enum_turn starts t ts (Some p) = enum_by (record { starts = starts; scope = p.0 
 
 -- SIZES
 
--- the size of a type, where a `)` follows its words
+-- the size of a type, where a `)` follows it
 abbrev pub sizeof_by : Names → Lexeme → Tokens → Option ℕ → Tokens → Turn
 sizeof_by ns t ts (Some n) rest =
     if begins mark.RightParen rest
@@ -73,13 +73,13 @@ sizeof_by ns t ts (Some n) rest =
     else plain ns t ts
 sizeof_by ns t ts None rest = plain ns t ts
 
--- `sizeof` of words in parentheses is a constant (C17 6.5.3.4); any other stays
-abbrev pub sizeof_words : Names → Lexeme → Tokens → Pieces × Tokens → Turn
-sizeof_words ns t ts p = sizeof_by ns t ts (size_of p.0) p.1
+-- `sizeof` of a type in parentheses is a constant (C17 6.5.3.4); any other stays
+abbrev pub sizeof_type : Names → Lexeme → Tokens → Option ℕ × Tokens → Turn
+sizeof_type ns t ts p = sizeof_by ns t ts p.0 p.1
 
 abbrev pub sizeof_turn : Names → Lexeme → Tokens → Turn
 sizeof_turn ns t ts =
-    if begins mark.LeftParen ts then sizeof_words ns t ts (words_from ns.scope [] (behind_first ts))
+    if begins mark.LeftParen ts then sizeof_type ns t ts (type_from ns.scope (behind_first ts))
     else plain ns t ts
 
 -- NAMES

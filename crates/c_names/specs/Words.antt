@@ -1,5 +1,5 @@
--- The words of arithmetic types (C17 6.7.2), and their sizes (6.5.3.4).
-use Rattle.std.specs.Prelude.{ℕ, ◌+◌, Bool, true, false, not, ◌&&◌, ◌||◌, nat_eq, nat_le, if◌then◌else◌, length}
+-- The words of arithmetic types (C17 6.7.2) with their qualifiers (6.7.3), and their sizes (6.5.3.4).
+use Rattle.std.specs.Prelude.{ℕ, ◌+◌, ◌-◌, Bool, true, false, not, ◌&&◌, ◌||◌, nat_eq, nat_le, if◌then◌else◌, length}
 use Rattle.std.specs.Prelude.{[], ◌∷◌, ◌++◌, Option, Some, None}
 use Rattle.c_tree.specs.declared.Form.{Form}
 use Rattle.c_tree.specs.declared.Form.TheVariants as form
@@ -26,8 +26,10 @@ class_of key.Char = class.Char
 class_of key.Short = class.Short
 class_of key.Int = class.Int
 class_of key.Long = class.Long
-class_of key.Signed = class.Sign
-class_of key.Unsigned = class.Sign
+class_of key.Signed = class.Signed
+class_of key.Unsigned = class.Unsigned
+class_of key.Const = class.Const
+class_of key.Volatile = class.Volatile
 class_of _ = class.Other
 
 -- is the keyword one?
@@ -67,14 +69,22 @@ words_from es ws (t ∷ ts) =
 
 -- WHAT THEY MEAN
 
--- are two classes one?
+-- is the first class the second, or one of its two? A sign is `signed` or `unsigned`, and a qualifier `const` or
+-- `volatile`.
 abbrev pub same_class : Class → Class → Bool
 same_class class.Bool class.Bool = true
 same_class class.Char class.Char = true
 same_class class.Short class.Short = true
 same_class class.Int class.Int = true
 same_class class.Long class.Long = true
-same_class class.Sign class.Sign = true
+same_class class.Signed class.Signed = true
+same_class class.Signed class.Sign = true
+same_class class.Unsigned class.Unsigned = true
+same_class class.Unsigned class.Sign = true
+same_class class.Const class.Const = true
+same_class class.Const class.Qualifier = true
+same_class class.Volatile class.Volatile = true
+same_class class.Volatile class.Qualifier = true
 same_class class.Other class.Other = true
 same_class _ _ = false
 
@@ -92,18 +102,22 @@ abbrev pub count : Class → Pieces → ℕ
 count c [] = 0
 count c (p ∷ ps) = counted c p + count c ps
 
+-- How many words there are beside qualifiers, which say nothing of the size (C17 6.7.3).
+abbrev pub said : Pieces → ℕ
+said ws = length ws - count class.Qualifier ws
+
 -- Are there so many words of the class, and beside them one `signed` or `unsigned`, one `int`, or none?
 abbrev pub is_integer : ℕ → Class → Pieces → Bool
 is_integer n c ws =
     nat_eq (count c ws) n
     && (nat_le (count class.Sign ws) 1
     && (nat_le (count class.Int ws) 1
-    && nat_eq (length ws) (n + (count class.Sign ws + count class.Int ws))))
+    && nat_eq (said ws) (n + (count class.Sign ws + count class.Int ws))))
 
 -- `_Bool`, or `char` with a sign or without
 abbrev pub is_byte : Pieces → Bool
 is_byte ws =
-    (nat_eq (count class.Bool ws) 1 && nat_eq (length ws) 1)
+    (nat_eq (count class.Bool ws) 1 && nat_eq (said ws) 1)
     || (is_integer 1 class.Char ws && nat_eq (count class.Int ws) 0)
 
 -- `long`, or `long long`, which is as long
@@ -117,5 +131,29 @@ size_of ws =
     if is_byte ws then Some 1
     else if is_integer 1 class.Short ws then Some 2
     else if is_long ws then Some 8
-    else if is_integer 0 class.Other ws && not (none ws) then Some 4
+    else if is_integer 0 class.Other ws && not (nat_eq (said ws) 0) then Some 4
     else None
+
+-- TYPES THAT ARE ONE
+
+-- are there as many words of the class in both?
+abbrev pub same_count : Class → Pieces → Pieces → Bool
+same_count c ws ps = nat_eq (count c ws) (count c ps)
+
+-- Do the words of two types say the same type, in whatever order? They have the same words, but for `int` beside
+-- others and `signed` beside none but it; `signed char` is another type than `char` (C17 6.2.5, paragraph 15).
+abbrev pub same_type : Pieces → Pieces → Bool
+same_type ws ps =
+    same_count class.Bool ws ps
+    && (same_count class.Char ws ps
+    && (same_count class.Short ws ps
+    && (same_count class.Long ws ps
+    && (same_count class.Unsigned ws ps
+    && (same_count class.Const ws ps
+    && (same_count class.Volatile ws ps
+    && (nat_eq (count class.Char ws) 0 || same_count class.Signed ws ps)))))))
+
+-- does a name stand for this type?
+abbrev pub is_same : Pieces → Option Pieces → Bool
+is_same ws (Some ps) = is_type ps && same_type ws ps
+is_same ws None = false

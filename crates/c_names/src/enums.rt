@@ -115,7 +115,7 @@ fn list_behind<'a>(
 }
 
 /// Does the name of a tag stand for something?
-fn is_known(scope: &Scope, form: &Form) -> bool
+pub fn is_known(scope: &Scope, form: &Form) -> bool
     ensures { result ≡ enums.is_known form.now scope.now }
 {
     match form {

@@ -31,6 +31,9 @@ const ULONG: &[Piece] = &[Piece::Word(Key::Unsigned), Piece::Word(Key::Long)];
 /// The type of `sizeof`.
 const SIZES: [Row; 1] = [(b"size_t", ULONG)];
 
+/// The types of `<stddef.h>`.
+const DEFINITIONS: [Row; 3] = [(b"size_t", ULONG), (b"ptrdiff_t", LONG), (b"wchar_t", INT)];
+
 /// The types of `<stdint.h>`.
 const INTEGERS: [Row; 28] = [
     (b"int8_t", CHAR),
@@ -71,6 +74,14 @@ pub fn sizes() -> &'static [Row]
     &SIZES
 }
 
+/// The types of `<stddef.h>`.
+#[tactic(auto, unfolding(crate::specs::Headers::definitions))]
+fn definitions() -> &'static [Row]
+    ensures { map (λ row. (row.0.now, row.1.now)) result.now ≡ headers.definitions }
+{
+    &DEFINITIONS
+}
+
 /// The types of `<stdint.h>`.
 #[tactic(auto, unfolding(crate::specs::Headers::integers))]
 fn integers() -> &'static [Row]
@@ -96,13 +107,11 @@ pub fn goes(name: &[u8]) -> bool
     same_name(name, b"<stddef.h>") || same_name(name, b"<stdint.h>")
 }
 
-/// Does the header have `size_t`?
+/// Does the header have `size_t` alone?
 fn has_sizes(name: &[u8]) -> bool
     ensures { result ≡ headers.has_sizes name.now }
 {
-    same_name(name, b"<stddef.h>")
-        || same_name(name, b"<stdlib.h>")
-        || same_name(name, b"<string.h>")
+    same_name(name, b"<stdlib.h>") || same_name(name, b"<string.h>")
 }
 
 /// The types of the header.
@@ -111,6 +120,8 @@ pub fn types_of(name: &[u8]) -> &'static [Row]
 {
     if same_name(name, b"<stdint.h>") {
         integers()
+    } else if same_name(name, b"<stddef.h>") {
+        definitions()
     } else if has_sizes(name) {
         sizes()
     } else {

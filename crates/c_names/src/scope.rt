@@ -138,7 +138,7 @@ impl Scope {
     }
 
     /// Was the name declared in the innermost block?
-    fn is_here(&self, name: &[u8]) -> bool
+    pub fn is_here(&self, name: &[u8]) -> bool
         ensures { result ≡ scopes.is_here name.now self.now }
     {
         is_here_in(name, self.entries.as_slice())

@@ -14,9 +14,8 @@ use crate::enums::enum_behind;
 use crate::header::{declare_types, goes, is_header, sizes, types_of};
 use crate::piece::{Piece, put_spelled};
 use crate::scope::Scope;
-use crate::typedef::typedef_behind;
-use crate::words::{begins, size_of, take_words};
-use base::Items;
+use crate::typedef::{type_from, typedef_behind};
+use crate::words::begins;
 use c_library::{LibraryFault, Output, form_copied};
 use c_tree::{Form, Key, Kind, Lexeme, Mark};
 use std::alloc::{AllocError, Global};
@@ -184,7 +183,7 @@ impl Names {
         Ok(behind)
     }
 
-    /// Puts the size of a type, where a `)` follows its words.
+    /// Puts the size of a type, where a `)` follows it.
     fn put_size<'a>(
         &mut self,
         alloc: Global,
@@ -217,7 +216,7 @@ impl Names {
         }
     }
 
-    /// Takes `sizeof` and the words of a type in parentheses.
+    /// Takes `sizeof` and a type in parentheses.
     fn take_sizeof<'a>(
         &mut self,
         alloc: Global,
@@ -233,9 +232,8 @@ impl Names {
         if !begins(Mark::LeftParen, behind) {
             return self.put_plain(alloc, token, behind, out);
         }
-        let mut words = Items::new(alloc);
-        let rest = take_words(&self.scope, &mut words, behind_first(behind))?;
-        self.put_size(alloc, token, behind, size_of(words.as_slice()), rest, out)
+        let (size, rest) = type_from(alloc, &self.scope, behind_first(behind))?;
+        self.put_size(alloc, token, behind, size, rest, out)
     }
 
     /// Takes a keyword.

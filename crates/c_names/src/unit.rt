@@ -24,6 +24,14 @@ fn key_stays(key: Key) -> bool
     }
 }
 
+/// Begins `ptrdiff_t` or `wchar_t` with these bytes?
+fn may_be_other(a: u8, b: u8, c: u8, d: u8) -> bool
+    ensures { result ≡ unit.may_be_other a b c d }
+{
+    (a == b'p' && b == b't' && c == b'r' && d == b'd')
+        || (a == b'w' && b == b'c' && c == b'h' && d == b'a')
+}
+
 /// Begins a name of a header's type with these bytes?
 fn may_be(a: u8, b: u8, c: u8, d: u8) -> bool
     ensures { result ≡ unit.may_be a b c d }
@@ -31,6 +39,7 @@ fn may_be(a: u8, b: u8, c: u8, d: u8) -> bool
     (a == b'i' && b == b'n' && c == b't')
         || (a == b'u' && b == b'i' && c == b'n' && d == b't')
         || (a == b's' && b == b'i' && c == b'z' && d == b'e')
+        || may_be_other(a, b, c, d)
 }
 
 /// May it be a name of a header's type?

@@ -27,17 +27,36 @@ const ROWS: &[(&str, &str)] = &[
     ),
     ("typedef int T; typedef T U; U x;", "int x;"),
     (
+        "typedef const int T; typedef volatile T U; T x = 5; int f(T y) { U z; return y; }",
+        "const int x = 5; int f(const int y) { volatile const int z; return y; }",
+    ),
+    ("typedef const T; T x;", "typedef const T; T x;"),
+    (
+        "typedef register int T; T x;",
+        "typedef register int T; T x;",
+    ),
+    (
         "typedef int T; void f(void) { typedef long T; T x; } T y;",
         "void f(void) { long x; } int y;",
     ),
     ("typedef int int T; T x;", "typedef int int T; T x;"),
     ("int f(typedef int T);", "int f(typedef int T);"),
-    ("typedef int T; typedef int T;", "typedef int T;"),
+    ("typedef int T; typedef long T;", "typedef long T;"),
+    ("typedef const int T; typedef int T;", "typedef int T;"),
+    (
+        "#include <stdio.h>\ntypedef long unsigned int size_t; size_t n;",
+        "#include <stdio.h>\nlong unsigned int n;",
+    ),
+    ("enum { A }; typedef int A;", "typedef int A;"),
     (
         "#include <stdio.h>\nsize_t f(size_t n);",
         "#include <stdio.h>\nunsigned long f(unsigned long n);",
     ),
     ("#include <stddef.h>\nsize_t n;", "unsigned long n;"),
+    (
+        "#include <stddef.h>\nptrdiff_t d; wchar_t c;",
+        "long d; int c;",
+    ),
     ("for (;typedef int T;) T;", "for (;typedef int T;) T;"),
     // 6.7.2.2
     ("enum { A, B, C }; int x = A + B + C;", "int x = 0 + 1 + 2;"),
@@ -81,6 +100,14 @@ const ROWS: &[(&str, &str)] = &[
     (
         "int x = sizeof(x) + sizeof(short char) + sizeof(int);",
         "int x = sizeof(x) + sizeof(short char) + 4ul;",
+    ),
+    (
+        "int x = sizeof(const int) + sizeof(long unsigned volatile) + sizeof(const);",
+        "int x = 4ul + 8ul + sizeof(const);",
+    ),
+    (
+        "enum t { A } x; int y = sizeof(enum t) + sizeof(enum u);",
+        "int x; int y = 4ul + sizeof(enum u);",
     ),
     // 7.19, 7.20
     (

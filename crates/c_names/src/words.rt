@@ -1,4 +1,4 @@
-//! The words of arithmetic types.
+//! The words of arithmetic types, and their qualifiers.
 
 ghost use Rattle.std.specs.Prelude.{◌≡◌, ◌++◌, ◌≤◌, length, not, option_map, IfOk, OnOk};
 ghost use Rattle.c_library.specs.Calls as calls;
@@ -19,7 +19,12 @@ pub enum Class {
     Short,
     Int,
     Long,
+    Signed,
+    Unsigned,
+    Const,
+    Volatile,
     Sign,
+    Qualifier,
     Other,
 }
 
@@ -33,7 +38,10 @@ fn class_of(key: Key) -> Class
         Key::Short => Class::Short,
         Key::Int => Class::Int,
         Key::Long => Class::Long,
-        Key::Signed | Key::Unsigned => Class::Sign,
+        Key::Signed => Class::Signed,
+        Key::Unsigned => Class::Unsigned,
+        Key::Const => Class::Const,
+        Key::Volatile => Class::Volatile,
         _ => Class::Other,
     }
 }
@@ -137,7 +145,7 @@ pub fn take_words<'a>(
     Ok(rest)
 }
 
-/// Are two classes one?
+/// Is the first class the second, or one of its two?
 fn same_class(a: Class, b: Class) -> bool
     ensures { result ≡ words.same_class a b }
 {
@@ -147,7 +155,10 @@ fn same_class(a: Class, b: Class) -> bool
         (Class::Short, Class::Short) => true,
         (Class::Int, Class::Int) => true,
         (Class::Long, Class::Long) => true,
-        (Class::Sign, Class::Sign) => true,
+        (Class::Signed, Class::Signed | Class::Sign) => true,
+        (Class::Unsigned, Class::Unsigned | Class::Sign) => true,
+        (Class::Const, Class::Const | Class::Qualifier) => true,
+        (Class::Volatile, Class::Volatile | Class::Qualifier) => true,
         (Class::Other, Class::Other) => true,
         _ => false,
     }
@@ -189,6 +200,13 @@ fn count(class: Class, all: &[Piece]) -> usize
     number
 }
 
+/// How many words there are beside qualifiers.
+fn said(all: &[Piece]) -> usize
+    ensures { result ≡ words.said all.now }
+{
+    all.len() - count(Class::Qualifier, all)
+}
+
 /// Are there so many words of the class, and beside them one sign, one `int`, or none?
 fn is_integer(number: usize, class: Class, all: &[Piece]) -> bool
     ensures { result ≡ words.is_integer number class all.now }
@@ -198,8 +216,8 @@ fn is_integer(number: usize, class: Class, all: &[Piece]) -> bool
     count(class, all) == number
         && signs <= 1
         && ints <= 1
-        && all.len() >= number
-        && all.len() - number == signs + ints
+        && said(all) >= number
+        && said(all) - number == signs + ints
 }
 
 /// Are they the words of a `long`?
@@ -213,7 +231,7 @@ fn is_long(all: &[Piece]) -> bool
 fn is_byte(all: &[Piece]) -> bool
     ensures { result ≡ words.is_byte all.now }
 {
-    (count(Class::Bool, all) == 1 && all.len() == 1)
+    (count(Class::Bool, all) == 1 && said(all) == 1)
         || (is_integer(1, Class::Char, all) && count(Class::Int, all) == 0)
 }
 
@@ -227,9 +245,40 @@ pub fn size_of(all: &[Piece]) -> Option<u64>
         Some(2)
     } else if is_long(all) {
         Some(8)
-    } else if is_integer(0, Class::Other, all) && !all.is_empty() {
+    } else if is_integer(0, Class::Other, all) && said(all) != 0 {
         Some(4)
     } else {
         None
+    }
+}
+
+/// Are there as many words of the class in both?
+fn same_count(class: Class, a: &[Piece], b: &[Piece]) -> bool
+    ensures { result ≡ words.same_count class a.now b.now }
+{
+    count(class, a) == count(class, b)
+}
+
+/// Do the words of two types say the same type?
+fn same_type(a: &[Piece], b: &[Piece]) -> bool
+    ensures { result ≡ words.same_type a.now b.now }
+{
+    same_count(Class::Bool, a, b)
+        && same_count(Class::Char, a, b)
+        && same_count(Class::Short, a, b)
+        && same_count(Class::Long, a, b)
+        && same_count(Class::Unsigned, a, b)
+        && same_count(Class::Const, a, b)
+        && same_count(Class::Volatile, a, b)
+        && (count(Class::Char, a) == 0 || same_count(Class::Signed, a, b))
+}
+
+/// Does a name stand for this type?
+pub fn is_same(all: &[Piece], found: Option<&[Piece]>) -> bool
+    ensures { result ≡ words.is_same all.now (option_map (λ ps. ps.now) found.entry) }
+{
+    match found {
+        Some(pieces) => is_type(pieces) && same_type(all, pieces),
+        None => false,
     }
 }
