@@ -73,6 +73,9 @@ const ROWS: &[(&str, &str)] = &[
 
 /// The tokens of a text.
 fn tokens_of(rt: &impl Abort, alloc: Global, text: &str) -> Vec<Lexeme> {
+    if 1000 < text.len() {
+        panic!(rt; "{text}");
+    }
     match lex(alloc, text.as_bytes()) {
         Ok(tokens) => tokens,
         Err(_) => panic!(rt; "{text}"),

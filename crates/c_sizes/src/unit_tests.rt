@@ -111,6 +111,9 @@ fn told(alloc: Global, tokens: &[Lexeme]) -> Result<String, AllocError> {
 }
 
 fn tokens_of(rt: &impl Abort, alloc: Global, text: &str) -> Result<Vec<Lexeme>, AllocError> {
+    if 1000 < text.len() {
+        panic!(rt; "{text}");
+    }
     match lex(alloc, text.as_bytes()) {
         Ok(tokens) => Ok(tokens),
         Err(LexFault::Memory) => Err(AllocError),
