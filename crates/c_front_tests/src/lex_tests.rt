@@ -144,14 +144,6 @@ const ROWS: &[Row] = &[
     (b"1e+5", Err(LexFault::BadLiteral(0))),
     (b"0x", Err(LexFault::BadLiteral(0))),
     (b"1uu", Err(LexFault::BadLiteral(0))),
-    (b"1ll", Ok(&[(0, Want::Number(1, Kind::Long))])),
-    (b"1LLu", Ok(&[(0, Want::Number(1, Kind::ULong))])),
-    (
-        b"0x8000000000000000ull",
-        Ok(&[(0, Want::Number(9223372036854775808, Kind::ULong))]),
-    ),
-    (b"1lL", Err(LexFault::BadLiteral(0))),
-    (b"1lul", Err(LexFault::BadLiteral(0))),
     // Character constants (C17 6.4.4.4).
     (b"'a'", Ok(&[(0, Want::Number(97, Kind::Int))])),
     (b"'\\n'", Ok(&[(0, Want::Number(10, Kind::Int))])),
@@ -397,6 +389,23 @@ fn assert_rows(rt: &impl Abort, alloc: Global, rows: &[Row]) {
     for (text, want) in rows {
         assert!(rt; is_answered(alloc, text, *want), "{text:?}");
     }
+}
+
+/// Suffixes of `long long` (C17 6.4.4.1).
+const SUFFIXES: &[Row] = &[
+    (b"1ll", Ok(&[(0, Want::Number(1, Kind::Long))])),
+    (b"1LLu", Ok(&[(0, Want::Number(1, Kind::ULong))])),
+    (
+        b"0x8000000000000000ull",
+        Ok(&[(0, Want::Number(9223372036854775808, Kind::ULong))]),
+    ),
+    (b"1lL", Err(LexFault::BadLiteral(0))),
+    (b"1lul", Err(LexFault::BadLiteral(0))),
+];
+
+#[test]
+fn lexes_suffixes_of_two_letters(rt: HostRuntime) {
+    assert_rows(&rt, rt.alloc(), SUFFIXES);
 }
 
 #[test]

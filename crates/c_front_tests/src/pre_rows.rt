@@ -3,6 +3,30 @@
 
 pub type Row = (&'static [&'static str], &'static str);
 
+/// What headers make known.
+pub const HEADER_ROWS: &[Row] = &[
+    (&["<stdbool.h>", "true", "+", "false"], "1 + 0"),
+    (&["true", "<stdbool.h>", "true"], "true 1"),
+    (&["<stdlib.h>", "EXIT_SUCCESS", "EXIT_FAILURE"], "0 1"),
+    (&["<string.h>", "<stddef.h>", "size_t"], "key long"),
+    (&["<stdint.h>", "int16_t", "A"], "key A"),
+    (&["<stdbool.h>", "<stdbool.h>", "true"], "1"),
+    (&["<limits.h>", "CHAR_BIT", "MB_LEN_MAX"], "8 1"),
+    (
+        &["<limits.h>", "LLONG_MIN", "ULLONG_MAX"],
+        "9223372036854775808 18446744073709551615",
+    ),
+    (
+        &["<stdint.h>", "INT8_MIN", "UINT_FAST16_MAX", "SIZE_MAX"],
+        "18446744073709551488 18446744073709551615 18446744073709551615",
+    ),
+    (
+        &["<stdint.h>", "UINT16_MAX", "INT_LEAST32_MAX", "PTRDIFF_MAX"],
+        "65535 2147483647 9223372036854775807",
+    ),
+    (&["<stddef.h>", "SIZE_MAX"], "SIZE_MAX"),
+];
+
 pub const ROWS: &[Row] = &[
     // No directive.
     (&["int", "A", ";"], "int A ;"),
@@ -211,26 +235,6 @@ pub const ROWS: &[Row] = &[
     (&["#define", "LongName10", "(", ";;"], "BadDefine 0"),
     (&["#define", "LongName9", "(", ";;", "LongName9"], "("),
     // Headers.
-    (&["<stdbool.h>", "true", "+", "false"], "1 + 0"),
-    (&["true", "<stdbool.h>", "true"], "true 1"),
-    (&["<stdlib.h>", "EXIT_SUCCESS", "EXIT_FAILURE"], "0 1"),
-    (&["<string.h>", "<stddef.h>", "size_t"], "key long"),
-    (&["<stdint.h>", "int16_t", "A"], "key A"),
-    (&["<stdbool.h>", "<stdbool.h>", "true"], "1"),
-    (&["<limits.h>", "CHAR_BIT", "MB_LEN_MAX"], "8 1"),
-    (
-        &["<limits.h>", "LLONG_MIN", "ULLONG_MAX"],
-        "9223372036854775808 18446744073709551615",
-    ),
-    (
-        &["<stdint.h>", "INT8_MIN", "UINT_FAST16_MAX", "SIZE_MAX"],
-        "18446744073709551488 18446744073709551615 18446744073709551615",
-    ),
-    (
-        &["<stdint.h>", "UINT16_MAX", "INT_LEAST32_MAX", "PTRDIFF_MAX"],
-        "65535 2147483647 9223372036854775807",
-    ),
-    (&["<stddef.h>", "SIZE_MAX"], "SIZE_MAX"),
     (
         &["#define", "true", "0", ";;", "<stdbool.h>"],
         "Redefined 40",

@@ -1,6 +1,6 @@
 //! Raw tokens with the program or the fault that C17 6.10 gives them.
 
-use crate::pre_rows::{LITERAL_ROWS, ROWS};
+use crate::pre_rows::{HEADER_ROWS, LITERAL_ROWS, ROWS};
 use c_pre::{PreFault, program};
 use c_tree::{Form, Key, Kind, Lexeme, Mark, Word};
 use std::alloc::{AllocError, Global};
@@ -120,6 +120,14 @@ fn assert_row(
 #[test]
 fn gives_each_program(rt: HostRuntime) -> Result<(), Fail> {
     for (number, (words, want)) in ROWS.iter().enumerate() {
+        assert_row(&rt, rt.alloc(), number, words, want)?;
+    }
+    Ok(())
+}
+
+#[test]
+fn gives_what_headers_make_known(rt: HostRuntime) -> Result<(), Fail> {
+    for (number, (words, want)) in HEADER_ROWS.iter().enumerate() {
         assert_row(&rt, rt.alloc(), number, words, want)?;
     }
     Ok(())
