@@ -14,8 +14,8 @@ pub const ROWS: &[Row] = &[
     ),
     (
         "int main(void) { int n; n = \"a\"; return n; }\n",
-        "a.c:1:29: parse Syntax: '\"' begins a string where none stands: it is an argument, or the value of a \
-            global array of char",
+        "a.c:1:29: parse Syntax: '\"' begins a string where none stands: it is an argument, or the value of an \
+            array of char",
     ),
     (
         "int main(void) { return p.x; }\n",
