@@ -51,8 +51,8 @@ pub const ROWS: &[Row] = &[
             with u and l behind it or none",
     ),
     (
-        "int main(void) { return 10ll; }\n",
-        "a.c:1:25: lex BadLiteral: '10ll' is no constant: write a whole number of 64 bits in base 8, 10 or 16, \
+        "int main(void) { return 10lll; }\n",
+        "a.c:1:25: lex BadLiteral: '10lll' is no constant: write a whole number of 64 bits in base 8, 10 or 16, \
             with u and l behind it or none",
     ),
     (
