@@ -10,13 +10,19 @@ use Rattle.grid_tallies.specs.Statistics.{Heard}
 -- an eager cycle with its notes leads from a grid to another, and the tallies have heard these notes
 pub record IsCounted {W : Type 0} (next : W → ℕ) (follows : W → W → Type 0) (blocks : List Block) (budget : ℕ)
     (g h : Grid W) (a b : Tallies) : Type 0 where
+  -- what is noted of the cycle
   pub notes : List Note
+  -- it is an eager cycle with these notes
   pub noted : Noted next follows blocks budget g notes h
+  -- the tallies have heard them
   pub heard : Heard a notes b
 
 -- the same of parts (2) to (6) of a cycle
 pub record GoesCounted {W : Type 0} (next : W → ℕ) (follows : W → W → Type 0) (blocks : List Block) (budget : ℕ)
     (g h : Grid W) (a b : Tallies) : Type 0 where
+  -- what is noted of these parts
   pub notes : List Note
+  -- they are parts of an eager cycle with these notes
   pub goes : Goes next follows blocks budget g notes h
+  -- the tallies have heard them
   pub heard : Heard a notes b

@@ -21,7 +21,11 @@ NotedGoes next follows blocks budget (es ∷ ess) g h =
 -- n such cycles lead from a grid to another, and the tallies have heard the notes of all
 pub record AreCounted {W : Type 0} (next : W → ℕ) (follows : W → W → Type 0) (blocks : List Block) (budget n : ℕ)
     (g h : Grid W) (a b : Tallies) : Type 0 where
+  -- the notes of each cycle, those of the last first
   pub notes : List (List Note)
+  -- so many cycles
   pub many : length notes ≡ n
+  -- the run went on before each
   pub cycles : NotedGoes next follows blocks budget notes g h
+  -- the tallies have heard all notes
   pub heard : Heard a (told notes) b
