@@ -6,3 +6,4 @@ pub mod StandardFacts
 pub mod Nodes
 pub mod Capped
 pub mod ExpressionFacts
+pub mod CauseFacts

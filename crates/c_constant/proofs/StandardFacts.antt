@@ -4,6 +4,8 @@ use Rattle.c_tree.specs.declared.Kind.TheVariants.{Char, UChar, Short, UShort, I
 use Rattle.c_tree.specs.declared.Kind.TheVariants.{ULong}
 use Rattle.c_tree.specs.declared.UnaryOp.TheVariants as one
 use Rattle.c_tree.specs.declared.BinaryOp.TheVariants as op
+use Rattle.c_constant.specs.declared.causes.Cause.TheVariants as cause
+use Rattle.c_constant.specs.Causes.{cause_of}
 use Rattle.c_constant.specs.Kinds.{bytes, common, converted, in_kind}
 use Rattle.c_constant.specs.Operation.{c_operation, c_unary, operate, left_at, right_at, result_of}
 
@@ -132,3 +134,27 @@ beyond_long = refl
 no_word : converted Long 18446744073709551621 ≡ 5
 unfolding converted
 no_word = refl
+
+sum_is_no_int : cause_of op.Add Int (pos 2147483647) (pos 1) ≡ Some cause.Overflow
+sum_is_no_int = refl
+
+unsigned_sum_wraps : cause_of op.Add UInt (pos 4294967295) (pos 1) ≡ None
+unsigned_sum_wraps = refl
+
+divided_by_zero : cause_of op.Remainder Long (pos 1) (pos 0) ≡ Some cause.ZeroDivisor
+divided_by_zero = refl
+
+quotient_is_no_int : cause_of op.Remainder Int (negsuc 2147483647) (negsuc 0) ≡ Some cause.Overflow
+quotient_is_no_int = refl
+
+count_is_the_width : cause_of op.ShiftLeft Int (pos 1) (pos 32) ≡ Some cause.Count
+count_is_the_width = refl
+
+count_is_negative : cause_of op.ShiftRight Int (negsuc 0) (negsuc 0) ≡ Some cause.Count
+count_is_negative = refl
+
+left_is_negative : cause_of op.ShiftLeft Int (negsuc 0) (pos 1) ≡ Some cause.NegativeLeft
+left_is_negative = refl
+
+bit_is_the_sign : cause_of op.ShiftLeft Int (pos 1) (pos 31) ≡ Some cause.Overflow
+bit_is_the_sign = refl

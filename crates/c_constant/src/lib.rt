@@ -3,6 +3,7 @@
 //! A word is the number modulo 2^64, the same at each type that holds the number.
 #![tactic(auto)]
 
+mod causes;
 mod constants;
 mod kinds;
 mod needs;
@@ -10,6 +11,7 @@ mod signed;
 mod unsigned;
 mod words;
 
+pub use causes::{Cause, cause_of};
 pub use constants::{Constant, constant_of};
 pub use kinds::{
     KindRow, bytes, common, left_at, promoted, result_of, right_at, row, unary_at, unary_result,
