@@ -12,13 +12,17 @@ use Rattle.c_library.specs.Calls.{is_mark}
 use Rattle.c_library.specs.Places.{token}
 use Rattle.c_library.proofs.Holds.{Fact, EachToken, Allows, each_append}
 use Rattle.c_locals.specs.declared.names.Entry.{Entry}
-use Rattle.c_locals.specs.declared.statics.Mode.{Mode}
-use Rattle.c_locals.specs.declared.statics.Mode.TheVariants as mode
-use Rattle.c_locals.specs.declared.statics.State.{State}
+use Rattle.c_locals.specs.declared.state.Mode.{Mode}
+use Rattle.c_locals.specs.declared.state.Mode.TheVariants as mode
+use Rattle.c_locals.specs.declared.state.State.{State}
 use Rattle.c_locals.specs.Names.{found, name_for, object_name, form_for, renamed}
-use Rattle.c_locals.specs.Statics.{beginning, to_item, to_front, refused, declaring, ended, ends, declares, hidden, hides}
+use Rattle.c_locals.specs.Statics.{hides}
+use Rattle.c_locals.specs.States.{beginning, to_item, to_front, refused, declaring, ended, hidden}
+use Rattle.c_locals.specs.Stages.{ends, declares}
 use Rattle.c_locals.specs.Statics.{local_by, local_past, kept, object, is_function, checked, static_by, static_past}
-use Rattle.c_locals.specs.Statics.{begins_static, begins_local, code_past, part_past, bracketed, ends_item, flushed, past}
+use Rattle.c_locals.specs.Statics.{begins_static, begins_local, code_past, part_past, bracketed, past}
+use Rattle.c_locals.specs.States.{flushed}
+use Rattle.c_locals.specs.Stages.{ends_item}
 use Rattle.c_locals.specs.Statics.{run, with_statics}
 
 -- it holds of all that is read

@@ -6,8 +6,10 @@ use Rattle.c_library.specs.Within.{within}
 use Rattle.c_locals.proofs.PutBehind.{few_stay}
 use Rattle.c_library.proofs.Holds.{Fact, EachToken, Allows}
 use Rattle.c_library.proofs.LiteralForms.{both_hold}
-use Rattle.c_locals.specs.Values.{sets_list, blocks_past, with_values, no_values_from}
-use Rattle.c_locals.specs.Statics.{is_static, with_statics}
+use Rattle.c_locals.specs.Values.{sets_list, with_values, no_values_from}
+use Rattle.c_locals.specs.Walks.{blocks_past}
+use Rattle.c_locals.specs.Statics.{with_statics}
+use Rattle.c_locals.specs.Stages.{is_static}
 use Rattle.c_locals.specs.Objects.{with_objects, no_objects_from, has_no_objects}
 use Rattle.c_locals.proofs.StaticFacts.{AllPlain, statics_stay}
 use Rattle.c_locals.proofs.ValueFacts.{values_stay}

@@ -9,16 +9,20 @@ use Rattle.c_tree.specs.declared.Mark.TheVariants as mark
 use Rattle.c_tree.specs.declared.Lexeme.{Lexeme}
 use Rattle.c_lex.specs.Bytes.{Bytes}
 use Rattle.c_library.specs.Calls.{is_mark}
-use Rattle.c_locals.specs.declared.statics.Mode.{Mode}
-use Rattle.c_locals.specs.declared.statics.Mode.TheVariants as mode
-use Rattle.c_locals.specs.declared.statics.State.{State}
+use Rattle.c_locals.specs.declared.state.Mode.{Mode}
+use Rattle.c_locals.specs.declared.state.Mode.TheVariants as mode
+use Rattle.c_locals.specs.declared.state.State.{State}
 use Rattle.c_locals.specs.Brackets.{depth_by, depth_past}
 use Rattle.c_locals.specs.Names.{found, renamed}
-use Rattle.c_locals.specs.Values.{opens, closes, blocks_past, parens_past}
+use Rattle.c_locals.specs.Walks.{opens, closes, blocks_past, parens_past}
 use Rattle.c_locals.specs.inside.Bounds.{Bounded}
-use Rattle.c_locals.specs.Statics.{to_item, to_front, refused, declaring, ended, ends, going_on, declares, hidden, hides}
+use Rattle.c_locals.specs.Statics.{hides}
+use Rattle.c_locals.specs.States.{to_item, to_front, refused, declaring, ended, going_on, hidden}
+use Rattle.c_locals.specs.Stages.{ends, declares}
 use Rattle.c_locals.specs.Statics.{local_by, local_past, object, is_function, checked, static_by, static_past}
-use Rattle.c_locals.specs.Statics.{begins_static, begins_local, code_past, part_past, bracketed, ends_item, flushed, past}
+use Rattle.c_locals.specs.Statics.{begins_static, begins_local, code_past, part_past, bracketed, past}
+use Rattle.c_locals.specs.States.{flushed}
+use Rattle.c_locals.specs.Stages.{ends_item}
 
 -- at most one more of each
 record Few (s s' : State) : Type 0 where

@@ -10,13 +10,18 @@ use Rattle.c_lex.specs.Bytes.{Bytes}
 use Rattle.c_lex.specs.Lexes.{Tokens}
 use Rattle.c_library.specs.Calls.{is_mark}
 use Rattle.c_locals.specs.declared.names.Entry.{Entry}
-use Rattle.c_locals.specs.declared.statics.Mode.{Mode}
-use Rattle.c_locals.specs.declared.statics.Mode.TheVariants as mode
-use Rattle.c_locals.specs.declared.statics.State.{State}
+use Rattle.c_locals.specs.declared.state.Mode.{Mode}
+use Rattle.c_locals.specs.declared.state.Mode.TheVariants as mode
+use Rattle.c_locals.specs.declared.state.State.{State}
 use Rattle.c_locals.specs.Names.{found, form_for, renamed, around}
-use Rattle.c_locals.specs.Statics.{beginning, to_item, refused, declaring, ended, ends, going_on, declares, named}
-use Rattle.c_locals.specs.Statics.{hidden, hides, local_by, local_past, is_static, begins_static, begins_local}
-use Rattle.c_locals.specs.Statics.{code_past, part_past, bracketed, ends_item, flushed, flushed_if, past, run}
+use Rattle.c_locals.specs.States.{beginning, to_item, refused, declaring, ended, going_on, named}
+use Rattle.c_locals.specs.Stages.{ends, declares}
+use Rattle.c_locals.specs.Statics.{hides, local_by, local_past, begins_static, begins_local}
+use Rattle.c_locals.specs.States.{hidden}
+use Rattle.c_locals.specs.Stages.{is_static}
+use Rattle.c_locals.specs.Statics.{code_past, part_past, bracketed, flushed_if, past, run}
+use Rattle.c_locals.specs.States.{flushed}
+use Rattle.c_locals.specs.Stages.{ends_item}
 use Rattle.c_locals.specs.Statics.{with_statics}
 
 -- is no static declaration read?

@@ -11,7 +11,8 @@ use Rattle.c_locals.specs.declared.walk.Part.{Part}
 use Rattle.c_locals.specs.declared.walk.Part.TheVariants as part
 use Rattle.c_locals.specs.declared.walk.Walk.{Walk}
 use Rattle.c_locals.specs.Brackets.{pieces}
-use Rattle.c_locals.specs.Values.{beginning, begins, blocks_past, sets_list, adds_word, is_word, part_past, list_past}
+use Rattle.c_locals.specs.Values.{beginning, begins, sets_list, adds_word, part_past, list_past}
+use Rattle.c_locals.specs.Walks.{blocks_past, is_word}
 use Rattle.c_locals.specs.Values.{past, words_added, body_added, words_past, body_past, puts, local, are_named}
 use Rattle.c_locals.specs.Values.{each_declared, walked, with_values, no_values_from, has_no_values}
 

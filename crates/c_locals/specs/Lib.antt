@@ -1,8 +1,11 @@
 pub mod Brackets
 pub mod Elements
 pub mod Declarators
+pub mod Walks
 pub mod Values
 pub mod Names
+pub mod Stages
+pub mod States
 pub mod Statics
 pub mod Objects
 pub mod inside

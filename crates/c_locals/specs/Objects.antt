@@ -1,8 +1,10 @@
 -- Objects of blocks, for the grammar: none is static, and no array has values.
 use Rattle.std.specs.Prelude.{ℕ, Bool, true, not, ◌&&◌, ◌||◌, [], ◌∷◌}
 use Rattle.c_lex.specs.Lexes.{Tokens}
-use Rattle.c_locals.specs.Statics.{is_static, with_statics}
-use Rattle.c_locals.specs.Values.{sets_list, blocks_past, with_values}
+use Rattle.c_locals.specs.Statics.{with_statics}
+use Rattle.c_locals.specs.Stages.{is_static}
+use Rattle.c_locals.specs.Values.{sets_list, with_values}
+use Rattle.c_locals.specs.Walks.{blocks_past}
 
 -- a unit whose static objects stand in front of their functions and whose local arrays are set element by element
 abbrev pub with_objects : Tokens → Tokens

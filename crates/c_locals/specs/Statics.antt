@@ -1,5 +1,5 @@
 -- Static objects of blocks, in front of their functions (C17 6.2.4, paragraph 3; 6.7.1).
-use Rattle.std.specs.Prelude.{ℕ, ◌+◌, Bool, true, false, not, ◌&&◌, ◌||◌, nat_eq, if◌then◌else◌, [], ◌∷◌, ◌++◌}
+use Rattle.std.specs.Prelude.{◌+◌, Bool, not, ◌&&◌, nat_eq, if◌then◌else◌, [], ◌∷◌, ◌++◌}
 use Rattle.std.specs.Prelude.{Option, Some, None, is_none}
 use Rattle.c_tree.specs.declared.Form.{Form}
 use Rattle.c_tree.specs.declared.Form.TheVariants as form
@@ -9,84 +9,18 @@ use Rattle.c_tree.specs.declared.Lexeme.{Lexeme}
 use Rattle.c_lex.specs.Bytes.{Bytes}
 use Rattle.c_lex.specs.Lexes.{Tokens}
 use Rattle.c_library.specs.Calls.{is_mark}
-use Rattle.c_library.specs.Places.{token, tokens}
-use Rattle.c_locals.specs.declared.statics.Mode.{Mode}
-use Rattle.c_locals.specs.declared.statics.Mode.TheVariants as mode
-use Rattle.c_locals.specs.declared.statics.Stage.{Stage}
-use Rattle.c_locals.specs.declared.statics.Stage.TheVariants as stage
-use Rattle.c_locals.specs.declared.statics.State.{State}
-use Rattle.c_locals.specs.Brackets.{depth_past}
+use Rattle.c_library.specs.Places.{token}
+use Rattle.c_locals.specs.declared.state.Mode.{Mode}
+use Rattle.c_locals.specs.declared.state.Mode.TheVariants as mode
+use Rattle.c_locals.specs.declared.state.State.{State}
 use Rattle.c_locals.specs.Names.{found, object_name, renamed, around}
-use Rattle.c_locals.specs.Values.{is_word, closes, blocks_past, parens_past}
-
--- before the first token of a unit
-abbrev pub beginning : State
-beginning =
-    record {
-      out = [];
-      front = [];
-      item = [];
-      names = [];
-      count = 0;
-      blocks = 0;
-      parens = 0;
-      depth = 0;
-      mode = mode.Code;
-      stage = stage.Name;
-    }
+use Rattle.c_locals.specs.Walks.{is_word, blocks_past, parens_past}
+use Rattle.c_locals.specs.Stages.{ends, declares, is_value, is_static, ends_item}
+use Rattle.c_locals.specs.States.{beginning, to_item, to_front, refused, declaring, ended, going_on, named, hidden, with_object, flushed}
 
 -- WHERE TOKENS GO
 
--- behind the item that is read
-abbrev pub to_item : Tokens → State → State
-to_item ts s = record s { item = s.item ++ ts }
-
--- in front of it
-abbrev pub to_front : Tokens → State → State
-to_front ts s = record s { front = s.front ++ ts }
-
--- `static` stays, which the grammar refuses
-abbrev pub refused : ℕ → State → State
-refused at s = to_item (tokens at (form.Key key.Static ∷ [])) s
-
 -- DECLARATIONS
-
--- from its words on
-abbrev pub declaring : Mode → State → State
-declaring m s = record s { mode = m; stage = stage.Name; depth = 0 }
-
--- behind its end
-abbrev pub ended : State → State
-ended s = record s { mode = mode.Code }
-
--- does it end with this token, where so many brackets are open in it: at `;`, or at a bracket around it?
-abbrev pub ends : ℕ → Form → Bool
-ends d f = is_mark mark.Semicolon f || (nat_eq d 0 && (closes f || is_mark mark.RightBrace f))
-
--- the stage behind a token outside of brackets
-abbrev pub stage_by : Stage → Form → Stage
-stage_by g f = if is_mark mark.Comma f then stage.Name else if is_mark mark.Assign f then stage.Value else g
-
--- and behind any
-abbrev pub stage_past : ℕ → Stage → Form → Stage
-stage_past d g f = if nat_eq d 0 then stage_by g f else g
-
--- behind a token within it
-abbrev pub going_on : Form → State → State
-going_on f s = record s { depth = depth_past f s.depth; stage = stage_past s.depth s.stage f }
-
--- the name that a token declares
-abbrev pub declares : Stage → Form → Option Bytes
-declares stage.Name (form.Name w) = Some w
-declares _ _ = None
-
--- behind the name of a declarator
-abbrev pub named : State → State
-named s = record s { stage = stage.Sizes }
-
--- with a name declared anew
-abbrev pub hidden : Bytes → State → State
-hidden w s = record s { names = record { name = w; to = None; block = s.blocks } ∷ s.names }
 
 -- A name that is declared and is not static hides an object in its block; in the head of a loop, where the end of its
 -- scope is not known, it is refused.
@@ -108,21 +42,11 @@ local_past t s =
 abbrev pub kept : Lexeme → Tokens
 kept t = token t.offset (form.Key key.Int) ∷ t ∷ token t.offset (form.Mark mark.Semicolon) ∷ []
 
--- with the name of an object
-abbrev pub with_object : Bytes → Bytes → State → State
-with_object w v s =
-    record s { names = record { name = w; to = Some v; block = s.blocks } ∷ s.names; count = s.count + 1 }
-
 -- a static object: it is declared in front by its own name, for which its name stands from here on
 abbrev pub object : Bytes → Lexeme → State → State
 object w t s =
     with_object w (object_name w s.count)
     (to_item (kept t) (to_front (token t.offset (form.Name (object_name w s.count)) ∷ []) s))
-
--- is the token the `(` of a function's declarator?
-abbrev pub is_value : Stage → Bool
-is_value stage.Value = true
-is_value _ = false
 
 abbrev pub is_function : State → Form → Bool
 is_function s f = is_mark mark.LeftParen f && (nat_eq s.depth 0 && not (is_value s.stage))
@@ -143,11 +67,6 @@ static_past t s =
     else static_by t (declares s.stage t.form) s
 
 -- OUTSIDE OF DECLARATIONS
-
--- is it `static`?
-abbrev pub is_static : Form → Bool
-is_static (form.Key key.Static) = true
-is_static _ = false
 
 -- does a declaration with static begin: in braces, outside of other brackets?
 abbrev pub begins_static : State → Form → Bool
@@ -178,19 +97,6 @@ bracketed f s =
       parens = parens_past s.parens f;
       names = if is_mark mark.RightBrace f then around s.blocks s.names else s.names;
     }
-
--- is it an include?
-abbrev pub is_include : Form → Bool
-is_include form.Include = true
-is_include _ = false
-
--- does an item of the unit end with the token, with so many braces open behind it?
-abbrev pub ends_item : ℕ → Form → Bool
-ends_item n f = nat_eq n 0 && (is_mark mark.Semicolon f || (is_mark mark.RightBrace f || is_include f))
-
--- the item whole, and what stands in front of it
-abbrev pub flushed : State → State
-flushed s = record s { out = s.out ++ (s.front ++ s.item); front = []; item = [] }
 
 abbrev pub flushed_if : Form → State → State
 flushed_if f s = if ends_item s.blocks f then flushed s else s

@@ -1,10 +1,8 @@
 -- The blocks of a unit without local arrays that have values.
-use Rattle.std.specs.Prelude.{ℕ, ◌+◌, ◌-◌, Bool, true, false, not, ◌&&◌, ◌||◌, nat_eq, if◌then◌else◌, List, [], ◌∷◌}
+use Rattle.std.specs.Prelude.{ℕ, ◌+◌, Bool, true, false, not, ◌&&◌, ◌||◌, nat_eq, if◌then◌else◌, List, [], ◌∷◌}
 use Rattle.std.specs.Prelude.{◌++◌}
 use Rattle.c_tree.specs.declared.Form.{Form}
 use Rattle.c_tree.specs.declared.Form.TheVariants as form
-use Rattle.c_tree.specs.declared.Key.{Key}
-use Rattle.c_tree.specs.declared.Key.TheVariants as key
 use Rattle.c_tree.specs.declared.Mark.TheVariants as mark
 use Rattle.c_tree.specs.declared.Lexeme.{Lexeme}
 use Rattle.c_lex.specs.Lexes.{Tokens}
@@ -14,18 +12,9 @@ use Rattle.c_locals.specs.declared.walk.Part.TheVariants as part
 use Rattle.c_locals.specs.declared.walk.Walk.{Walk}
 use Rattle.c_locals.specs.Brackets.{pieces}
 use Rattle.c_locals.specs.Declarators.{declared}
+use Rattle.c_locals.specs.Walks.{is_word, blocks_past, parens_past}
 
 -- DECLARATIONS
-
--- is it a word of a type of values?
-abbrev pub is_word : Form → Bool
-is_word (form.Key key.Char) = true
-is_word (form.Key key.Short) = true
-is_word (form.Key key.Int) = true
-is_word (form.Key key.Long) = true
-is_word (form.Key key.Signed) = true
-is_word (form.Key key.Unsigned) = true
-is_word _ = false
 
 -- is it a name?
 abbrev pub is_name : Form → Bool
@@ -64,22 +53,6 @@ local has_list type body end =
 -- before the first token of a unit
 abbrev pub beginning : Walk
 beginning = record { blocks = 0; parens = 0; has_list = false; part = part.Code }
-
--- how many braces are open behind a token
-abbrev pub blocks_past : ℕ → Form → ℕ
-blocks_past n f = if is_mark mark.LeftBrace f then n + 1 else if is_mark mark.RightBrace f then n - 1 else n
-
--- does it open a bracket of the other kinds?
-abbrev pub opens : Form → Bool
-opens f = is_mark mark.LeftParen f || is_mark mark.LeftBracket f
-
--- does it close one?
-abbrev pub closes : Form → Bool
-closes f = is_mark mark.RightParen f || is_mark mark.RightBracket f
-
--- how many of these are open behind a token
-abbrev pub parens_past : ℕ → Form → ℕ
-parens_past n f = if opens f then n + 1 else if closes f then n - 1 else n
 
 -- does a declaration begin with this token: a word of a type in braces, outside of other brackets?
 abbrev pub begins : Walk → Form → Bool

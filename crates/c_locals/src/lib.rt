@@ -4,11 +4,15 @@
 mod brackets;
 mod declarators;
 mod elements;
+mod grids;
 mod names;
 mod objects;
 #[cfg(test)]
 mod objects_tests;
+mod parts;
 mod put;
+mod stages;
+mod state;
 mod statics;
 mod values;
 mod walk;

@@ -6,7 +6,8 @@ ghost use Rattle.c_library.specs.Within.{within};
 ghost use Rattle.c_library.specs.inside.Gives.{Refuses};
 ghost use Rattle.c_locals.specs.Objects as objects;
 
-use crate::statics::{is_static, with_statics};
+use crate::stages::is_static;
+use crate::statics::with_statics;
 use crate::values::with_values;
 use crate::walk::{blocks_past, sets_list};
 use c_library::LibraryFault;

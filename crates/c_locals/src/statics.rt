@@ -1,201 +1,25 @@
 //! Static objects of blocks, in front of their functions.
 
 ghost use Rattle.std.specs.Prelude.{◌≡◌, ◌<◌, ◌∷◌, [], option_map, IfOk, OnOk};
+ghost use Rattle.c_locals.specs.Stages as stages;
+ghost use Rattle.c_locals.specs.States as states;
 ghost use Rattle.c_locals.specs.Statics as statics;
 ghost use Rattle.c_locals.specs.inside.Bounds.{Bounded};
 
-use crate::brackets::{depth_past, is_mark};
+use crate::brackets::is_mark;
 use crate::names::{Entry, Names, object_name};
+use crate::stages::{Stage, declares, ends, ends_item, is_static, is_value};
+use crate::state::{Mode, State};
 use crate::walk::{blocks_past, closes, is_word, parens_past};
 use base::Items;
 use c_library::token_copied;
 use c_tree::{Form, Key, Lexeme, Mark, Word};
 use std::alloc::{AllocError, Global};
 
-/// What a token of a block stands in: no declaration, one that is not static or a cast, or a static one.
-#[derive(Clone, Copy, Debug, PartialEq, Eq)]
-pub enum Mode {
-    Code,
-    Local,
-    Static,
-}
-
-/// How far a declarator is read: its name comes, its sizes may, or its value.
-#[derive(Clone, Copy, Debug, PartialEq, Eq)]
-pub enum Stage {
-    Name,
-    Sizes,
-    Value,
-}
-
-/// A unit, as far as it is read: the items that are whole, what stands in front of the item that is read, and this;
-/// the names of its blocks; how many static objects there are; how many braces are open, how many brackets of the
-/// other kinds, and how many of all kinds in a declaration; and what the next token stands in.
-#[derive(Drop)]
-pub struct State {
-    pub out: Items<Lexeme>,
-    pub front: Items<Lexeme>,
-    pub item: Items<Lexeme>,
-    pub names: Names,
-    pub count: usize,
-    pub blocks: usize,
-    pub parens: usize,
-    pub depth: usize,
-    pub mode: Mode,
-    pub stage: Stage,
-}
-
-/// Does a declaration end with this token, where so many brackets are open in it?
-fn ends(depth: usize, form: &Form) -> bool
-    ensures { result ≡ statics.ends depth form.now }
-{
-    is_mark(Mark::Semicolon, form)
-        || depth == 0 && (closes(form) || is_mark(Mark::RightBrace, form))
-}
-
-/// The stage behind a token outside of brackets.
-fn stage_by(stage: Stage, form: &Form) -> Stage
-    ensures { result ≡ statics.stage_by stage form.now }
-{
-    if is_mark(Mark::Comma, form) {
-        Stage::Name
-    } else if is_mark(Mark::Assign, form) {
-        Stage::Value
-    } else {
-        stage
-    }
-}
-
-/// And behind any.
-fn stage_past(depth: usize, stage: Stage, form: &Form) -> Stage
-    ensures { result ≡ statics.stage_past depth stage form.now }
-{
-    if depth == 0 {
-        stage_by(stage, form)
-    } else {
-        stage
-    }
-}
-
-/// The name that a token declares.
-fn declares(stage: Stage, form: &Form) -> Option<&[u8]>
-    ensures { option_map (λ w. w.now) result ≡ statics.declares stage form.now }
-{
-    match (stage, form) {
-        (Stage::Name, Form::Name(word)) => Some(word.as_slice()),
-        _ => None,
-    }
-}
-
-/// Is it a value that comes?
-fn is_value(stage: Stage) -> bool
-    ensures { result ≡ statics.is_value stage }
-{
-    match stage {
-        Stage::Value => true,
-        _ => false,
-    }
-}
-
-/// Is it `static`?
-pub fn is_static(form: &Form) -> bool
-    ensures { result ≡ statics.is_static form.now }
-{
-    match form {
-        Form::Key(Key::Static) => true,
-        _ => false,
-    }
-}
-
-/// Is it an include?
-fn is_include(form: &Form) -> bool
-    ensures { result ≡ statics.is_include form.now }
-{
-    match form {
-        Form::Include => true,
-        _ => false,
-    }
-}
-
-/// Does an item of the unit end with the token?
-fn ends_item(blocks: usize, form: &Form) -> bool
-    ensures { result ≡ statics.ends_item blocks form.now }
-{
-    blocks == 0
-        && (is_mark(Mark::Semicolon, form) || is_mark(Mark::RightBrace, form) || is_include(form))
-}
-
 impl State {
-    /// Before the first token of a unit. It takes no memory.
-    fn beginning(alloc: Global) -> State
-        ensures { result ≡ statics.beginning }
-    {
-        State {
-            out: Items::new(alloc),
-            front: Items::new(alloc),
-            item: Items::new(alloc),
-            names: Names::new(alloc),
-            count: 0,
-            blocks: 0,
-            parens: 0,
-            depth: 0,
-            mode: Mode::Code,
-            stage: Stage::Name,
-        }
-    }
-
-    /// Puts a token behind the item that is read. Want of memory is the only error, here and below.
-    fn to_item(&mut self, token: Lexeme) -> Result<(), AllocError>
-        ensures { OnOk result (self.new ≡ statics.to_item (token ∷ []) self.old) }
-    {
-        self.item.push(token)
-    }
-
-    /// Puts a token in front of it.
-    fn to_front(&mut self, token: Lexeme) -> Result<(), AllocError>
-        ensures { OnOk result (self.new ≡ statics.to_front (token ∷ []) self.old) }
-    {
-        self.front.push(token)
-    }
-
-    /// Puts `static`, which the grammar refuses.
-    fn refuse(&mut self, at: u32) -> Result<(), AllocError>
-        ensures { OnOk result (self.new ≡ statics.refused at self.old) }
-    {
-        self.item.push(Lexeme {
-            offset: at,
-            form: Form::Key(Key::Static),
-        })
-    }
-
-    /// Begins a declaration.
-    fn declare(&mut self, mode: Mode)
-        ensures { self.new ≡ statics.declaring mode self.old }
-    {
-        self.mode = mode;
-        self.stage = Stage::Name;
-        self.depth = 0;
-    }
-
-    /// Ends a declaration.
-    fn end(&mut self)
-        ensures { self.new ≡ statics.ended self.old }
-    {
-        self.mode = Mode::Code;
-    }
-
-    /// Goes past a token within a declaration.
-    fn go_on(&mut self, form: &Form)
-        requires few { self.old.depth < 18446744073709551615 }
-        ensures { self.new ≡ statics.going_on form.now self.old }
-    {
-        self.stage = stage_past(self.depth, self.stage, form);
-        self.depth = depth_past(form, self.depth);
-    }
-
     /// Hides an object by a name that is declared anew.
     fn add_hidden(&mut self, alloc: Global, name: &[u8]) -> Result<(), AllocError>
-        ensures { OnOk result (self.new ≡ statics.hidden name.now self.old) }
+        ensures { OnOk result (self.new ≡ states.hidden name.now self.old) }
     {
         let name = Word::from_slice(alloc, name)?;
         self.names.push(Entry {
@@ -245,7 +69,7 @@ impl State {
 
     /// Declares a name in the block as it was declared.
     fn keep(&mut self, alloc: Global, token: &Lexeme) -> Result<(), AllocError>
-        ensures { OnOk result (self.new ≡ statics.to_item (statics.kept token.now) self.old) }
+        ensures { OnOk result (self.new ≡ states.to_item (statics.kept token.now) self.old) }
     {
         let at = token.offset;
         self.item.push(Lexeme {
@@ -262,7 +86,7 @@ impl State {
     /// Adds the name of an object.
     fn add_object(&mut self, alloc: Global, name: &[u8], to: Word) -> Result<(), AllocError>
         requires few { self.old.count < 18446744073709551615 }
-        ensures { OnOk result (self.new ≡ statics.with_object name.now to self.old) }
+        ensures { OnOk result (self.new ≡ states.with_object name.now to self.old) }
     {
         let name = Word::from_slice(alloc, name)?;
         self.names.push(Entry {
@@ -310,7 +134,7 @@ impl State {
         requires depth { self.old.depth < 18446744073709551615 }
         requires count { self.old.count < 18446744073709551615 }
         ensures { OnOk result (self.new
-            ≡ statics.static_by token.now (statics.declares self.old.stage token.now.form) self.old) }
+            ≡ statics.static_by token.now (stages.declares self.old.stage token.now.form) self.old) }
     {
         match declares(self.stage, &token.form) {
             None => {
@@ -404,7 +228,7 @@ impl State {
 
     /// Ends an item, with what stands in front of it.
     fn flush(self, alloc: Global) -> Result<State, AllocError>
-        ensures { IfOk result (λ s. s ≡ statics.flushed self) }
+        ensures { IfOk result (λ s. s ≡ states.flushed self) }
     {
         let State {
             mut out,

@@ -2,6 +2,7 @@
 
 ghost use Rattle.std.specs.Prelude.{◌≡◌, ◌<◌, ◌≤◌, ◌+◌};
 ghost use Rattle.c_locals.specs.Values as values;
+ghost use Rattle.c_locals.specs.Walks as walks;
 
 use crate::brackets::is_mark;
 use c_tree::{Form, Key, Lexeme, Mark};
@@ -26,7 +27,7 @@ pub struct Walk {
 
 /// Is it a word of a type of values?
 pub fn is_word(form: &Form) -> bool
-    ensures { result ≡ values.is_word form.now }
+    ensures { result ≡ walks.is_word form.now }
 {
     match form {
         Form::Key(Key::Char | Key::Short | Key::Int | Key::Long | Key::Signed | Key::Unsigned) =>
@@ -38,7 +39,7 @@ pub fn is_word(form: &Form) -> bool
 /// How many braces are open behind a token.
 pub fn blocks_past(blocks: usize, form: &Form) -> usize
     requires few { blocks < 18446744073709551615 }
-    ensures value { result ≡ values.blocks_past blocks form.now }
+    ensures value { result ≡ walks.blocks_past blocks form.now }
     ensures few { result ≤ blocks + 1 }
 {
     if is_mark(Mark::LeftBrace, form) {
@@ -52,14 +53,14 @@ pub fn blocks_past(blocks: usize, form: &Form) -> usize
 
 /// Does it open a bracket other than a brace?
 fn opens(form: &Form) -> bool
-    ensures { result ≡ values.opens form.now }
+    ensures { result ≡ walks.opens form.now }
 {
     is_mark(Mark::LeftParen, form) || is_mark(Mark::LeftBracket, form)
 }
 
 /// Does it close one?
 pub fn closes(form: &Form) -> bool
-    ensures { result ≡ values.closes form.now }
+    ensures { result ≡ walks.closes form.now }
 {
     is_mark(Mark::RightParen, form) || is_mark(Mark::RightBracket, form)
 }
@@ -67,7 +68,7 @@ pub fn closes(form: &Form) -> bool
 /// How many of these are open behind a token.
 pub fn parens_past(parens: usize, form: &Form) -> usize
     requires few { parens < 18446744073709551615 }
-    ensures value { result ≡ values.parens_past parens form.now }
+    ensures value { result ≡ walks.parens_past parens form.now }
     ensures few { result ≤ parens + 1 }
 {
     if opens(form) {

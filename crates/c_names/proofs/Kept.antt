@@ -129,7 +129,8 @@ record Stays (x : Turn) (t : Lexeme) (ts : Tokens) : Type 0 where
   pub rest : x.rest ≡ ts
   pub knows : all_headers x.names.scope ≡ true
 
-either_stays : (b : Bool) (x y : Turn) (t : Lexeme) (ts : Tokens) → Stays x t ts → Stays y t ts → Stays (cond b x y) t ts
+either_stays : (b : Bool) (x y : Turn) (t : Lexeme) (ts : Tokens) → Stays x t ts → Stays y t ts
+    → Stays (cond b x y) t ts
 either_stays true x y t ts h k = h
 either_stays false x y t ts h k = k
 

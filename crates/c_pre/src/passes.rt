@@ -13,8 +13,8 @@ use c_tree::Lexeme;
 use c_words::worded;
 use std::alloc::Global;
 
-/// The tokens of the grammar that those behind directives come to, or the first fault of a pass. A pass that would change
-/// nothing gives its tokens back as they are.
+/// The tokens of the grammar that those behind directives come to, or the first fault of a pass. A pass that would
+/// change nothing gives its tokens back as they are.
 pub fn passed(alloc: Global, tokens: Vec<Lexeme>) -> Result<Vec<Lexeme>, LibraryFault>
     ensures ok { IfOk result (λ out. passes.passed most_tokens tokens.items ≡ Ok out.items) }
     ensures err { IfErr result (Refuses (passes.passed most_tokens tokens.items)) }

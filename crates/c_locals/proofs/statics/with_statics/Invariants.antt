@@ -1,5 +1,6 @@
 use Rattle.std.proofs.Common.{◌≡◌, ◌≤◌, ◌+◌, length}
-use Rattle.c_locals.specs.Statics.{beginning, run}
+use Rattle.c_locals.specs.Statics.{run}
+use Rattle.c_locals.specs.States.{beginning}
 use Rattle.c_locals.proofs.statics.with_statics.Given as goal
 
 abbrev pub invariant-loop-rest : goal.invariant-loop-rest

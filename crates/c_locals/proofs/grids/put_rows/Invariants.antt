@@ -5,13 +5,14 @@ use Rattle.c_locals.specs.Brackets.{pieces, further_pieces}
 use Rattle.c_locals.specs.Declarators.{set_rows}
 use Rattle.c_locals.proofs.SplitFacts.{left}
 use Rattle.std.specs.Prelude.{option_map}
-use Rattle.c_locals.proofs.declarators.put_rows.Given as goal
+use Rattle.c_locals.proofs.grids.put_rows.Given as goal
 
 abbrev pub invariant-loop-rest : goal.invariant-loop-rest
 invariant-loop-rest l =
     record {
       value : put_all most_tokens (set_rows l.fn.name l.fn.width 0 (pieces l.fn.values)) l.fn.out
-          ≡ put_all most_tokens (set_rows l.fn.name l.fn.width l.k (further_pieces (option_map (λ more. more.now) l.rest))) l.out;
+          ≡ put_all most_tokens (set_rows l.fn.name l.fn.width l.k
+          (further_pieces (option_map (λ more. more.now) l.rest))) l.out;
       few : l.k + left (option_map (λ more. more.now) l.rest) ≤ l.size + 1;
       small : l.size < 9223372036854775808;
     }
