@@ -25,6 +25,7 @@ is_word (form.Key key.Int) = true
 is_word (form.Key key.Long) = true
 is_word (form.Key key.Signed) = true
 is_word (form.Key key.Unsigned) = true
+is_word (form.Key key.Bool) = true
 is_word _ = false
 
 -- is it a name?
