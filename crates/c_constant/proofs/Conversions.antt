@@ -8,7 +8,8 @@ use Rattle.std.proofs.lemmas.Bool.Decides.{nat_tests}
 use Rattle.c_tree.specs.declared.Kind.{Kind}
 use Rattle.c_tree.specs.declared.Kind.TheVariants.{Char, UChar, Short, UShort, Int, UInt, Long}
 use Rattle.c_tree.specs.declared.Kind.TheVariants.{ULong}
-use Rattle.c_constant.specs.Kinds.{number, word, IsWord, by_sign, converted}
+use Rattle.c_tree.specs.declared.Kind.TheVariants as kind
+use Rattle.c_constant.specs.Kinds.{number, word, IsWord, by_sign, as_bool, converted}
 
 -- a word is that of the number that it is read as
 pub word_signed : (a : ℕ) → a < 2 ^ 64 → word (cast_signed w64 a) ≡ a
@@ -24,6 +25,7 @@ word_number Int a h = word_signed a h
 word_number UInt a h = refl
 word_number Long a h = word_signed a h
 word_number ULong a h = refl
+word_number kind.Bool a h = refl
 
 -- one of two numbers is less, or the other is no more
 pub order : (a b : ℕ) → (a < b) ⊎ (b ≤ a)
@@ -44,6 +46,14 @@ pub by_sign_high : (half low : ℕ) → half ≤ low → by_sign half low ≡ lo
 by_sign_high half low h =
     let e : nat_lt low half ≡ false = grind (arith, nat_tests) in
     ap (λ b. cond b low (low + (2 ^ 64 - (half + half)))) e
+
+-- a `_Bool` is 0 or 1
+pub bool_below : (w : ℕ) → as_bool w < 2
+bool_below w = grind (arith, nat_tests)
+
+-- and stays as it is
+pub bool_stays : (w : ℕ) → w < 2 → as_bool w ≡ w
+bool_stays w h = grind (arith, nat_tests)
 
 -- a word of a type is converted to itself
 pub converted_is : (k : Kind) (w : ℕ) → IsWord k w → converted k w ≡ w
@@ -87,6 +97,7 @@ converted_is Int w h = go (order (w % 4294967296) 2147483648)
 converted_is UInt w h = let b : w < 4294967296 = h.narrow in omega arith
 converted_is Long w h = let a = h.below in omega arith
 converted_is ULong w h = let a = h.below in omega arith
+converted_is kind.Bool w h = let b : w < 2 = h.narrow in bool_stays w b
 
 -- a conversion gives a word of the type
 pub converted_word : (k : Kind) (w : ℕ) → IsWord k (converted k w)
@@ -120,6 +131,7 @@ converted_word Int w = go (order (w % 4294967296) 2147483648)
 converted_word UInt w = record { below = omega arith; narrow = omega arith }
 converted_word Long w = record { below = omega arith; narrow = omega arith }
 converted_word ULong w = record { below = omega arith; narrow = omega arith }
+converted_word kind.Bool w = let b = bool_below w in record { below = omega arith; narrow = b }
 
 -- so that it gives a word
 pub converted_below : (k : Kind) (w : ℕ) → converted k w < 2 ^ 64

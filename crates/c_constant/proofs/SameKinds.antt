@@ -4,6 +4,7 @@ use Rattle.std.proofs.lemmas.Bool.{false≢true}
 use Rattle.c_tree.specs.declared.token.Kind.{Kind}
 use Rattle.c_tree.specs.declared.token.Kind.TheVariants.{Char, UChar, Short, UShort, Int, UInt}
 use Rattle.c_tree.specs.declared.token.Kind.TheVariants.{Long, ULong}
+use Rattle.c_tree.specs.declared.token.Kind.TheVariants as kind
 use Rattle.c_constant.specs.Kinds.{same_kind}
 
 -- types that are the same by the test are one
@@ -16,6 +17,7 @@ kinds_are Int Int h = refl
 kinds_are UInt UInt h = refl
 kinds_are Long Long h = refl
 kinds_are ULong ULong h = refl
+kinds_are kind.Bool kind.Bool h = refl
 kinds_are _ _ h = absurd (false≢true h)
 
 -- a type is the same as itself
@@ -28,3 +30,4 @@ kind_itself Int = refl
 kind_itself UInt = refl
 kind_itself Long = refl
 kind_itself ULong = refl
+kind_itself kind.Bool = refl

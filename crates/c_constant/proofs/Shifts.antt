@@ -6,6 +6,7 @@ use Rattle.std.proofs.lemmas.Grind.{common_steps}
 use Rattle.c_tree.specs.declared.Kind.{Kind}
 use Rattle.c_tree.specs.declared.Kind.TheVariants.{Char, UChar, Short, UShort, Int, UInt, Long}
 use Rattle.c_tree.specs.declared.Kind.TheVariants.{ULong}
+use Rattle.c_tree.specs.declared.Kind.TheVariants as kind
 use Rattle.c_constant.specs.Kinds.{in_kind, is_signed}
 
 -- no signed type holds a number from 2^63 on
@@ -19,6 +20,7 @@ beyond Int n s h = grind (arith, common_steps)
 beyond UInt n s h = cc
 beyond Long n s h = grind (arith, common_steps)
 beyond ULong n s h = cc
+beyond kind.Bool n s h = cc
 
 -- a product is below 2^63 where its first factor is at most the quotient
 pub under : (a m : ℕ) → 0 < m → a ≤ 9223372036854775807 / m → a * m ≤ 9223372036854775807

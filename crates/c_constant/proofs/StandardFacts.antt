@@ -2,6 +2,7 @@
 use Rattle.std.proofs.Common.{◌≡◌, pos, negsuc, Some, None, refl}
 use Rattle.c_tree.specs.declared.Kind.TheVariants.{Char, UChar, Short, UShort, Int, UInt, Long}
 use Rattle.c_tree.specs.declared.Kind.TheVariants.{ULong}
+use Rattle.c_tree.specs.declared.Kind.TheVariants as kind
 use Rattle.c_tree.specs.declared.UnaryOp.TheVariants as one
 use Rattle.c_tree.specs.declared.BinaryOp.TheVariants as op
 use Rattle.c_constant.specs.declared.causes.Cause.TheVariants as cause
@@ -107,6 +108,32 @@ not_converted = refl
 
 test_is_int : result_of op.LessEqual ULong ≡ Int
 test_is_int = refl
+
+-- 6.3.1.2: the low bit of 256 and of 2 is 0, and they are not 0
+bool_of_256 : converted kind.Bool 256 ≡ 1
+unfolding converted
+bool_of_256 = refl
+
+bool_of_minus_one : converted kind.Bool 18446744073709551615 ≡ 1
+unfolding converted
+bool_of_minus_one = refl
+
+bool_of_zero : converted kind.Bool 0 ≡ 0
+unfolding converted
+bool_of_zero = refl
+
+int_of_bool : converted Int 1 ≡ 1
+unfolding converted
+int_of_bool = refl
+
+bools_are_ints : common kind.Bool kind.Bool ≡ Int
+bools_are_ints = refl
+
+bool_with_long : common kind.Bool ULong ≡ ULong
+bool_with_long = refl
+
+bool_has_a_byte : bytes kind.Bool ≡ 1
+bool_has_a_byte = refl
 
 -- the table at its ends
 byte : bytes UChar ≡ 1

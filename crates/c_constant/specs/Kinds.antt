@@ -1,10 +1,11 @@
--- The eight integer types, their words and their conversions (C17 6.2.5, 6.2.6.2, 6.3.1).
+-- The nine integer types, their words and their conversions (C17 6.2.5, 6.2.6.2, 6.3.1).
 use Rattle.std.specs.Prelude.{ℕ, ◌+◌, ◌-◌, ◌/◌, ◌%◌, ◌^◌, ℤ, pos, negsuc, Bool, true, false, cond}
-use Rattle.std.specs.Prelude.{◌<◌, nat_lt, int_le, ◌&&◌, Option, Some, None}
+use Rattle.std.specs.Prelude.{◌<◌, nat_eq, nat_lt, int_le, ◌&&◌, Option, Some, None}
 use Rattle.std.specs.Int.{w64, cast_signed, cast_unsigned}
 use Rattle.c_tree.specs.declared.Kind.{Kind}
 use Rattle.c_tree.specs.declared.Kind.TheVariants.{Char, UChar, Short, UShort, Int, UInt, Long}
 use Rattle.c_tree.specs.declared.Kind.TheVariants.{ULong}
+use Rattle.c_tree.specs.declared.Kind.TheVariants as kind
 use Rattle.c_constant.specs.declared.kinds.KindRow.{KindRow}
 
 -- THE TABLE
@@ -19,14 +20,15 @@ row Int = record { bits = 32; signed = true }
 row UInt = record { bits = 32; signed = false }
 row Long = record { bits = 64; signed = true }
 row ULong = record { bits = 64; signed = false }
+row kind.Bool = record { bits = 1; signed = false }
 
 -- how many bits a type has
 abbrev pub width : Kind → ℕ
 width k = (row k).bits
 
--- how many bytes a value of a type takes
+-- how many bytes a value of a type takes: those that hold its bits
 abbrev pub bytes : Kind → ℕ
-bytes k = width k / 8
+bytes k = (width k + 7) / 8
 
 -- whether a type holds negative numbers
 abbrev pub is_signed : Kind → Bool
@@ -42,6 +44,7 @@ same_kind Int Int = true
 same_kind UInt UInt = true
 same_kind Long Long = true
 same_kind ULong ULong = true
+same_kind kind.Bool kind.Bool = true
 same_kind _ _ = false
 
 -- TYPES OF OPERANDS
@@ -123,7 +126,12 @@ abbrev pub low_bits : Bool → ℕ → ℕ → ℕ
 low_bits signed n w =
     cond (signed && nat_lt n 64) (by_sign (2 ^ (n - 1)) (w % 2 ^ n)) (w % 2 ^ n)
 
--- C17 6.3.1.3: a conversion keeps the low bits; the word of a number is the same at each type that
--- holds it
+-- C17 6.3.1.2: what is not 0 becomes the `_Bool` 1
+abbrev pub as_bool : ℕ → ℕ
+as_bool w = cond (nat_eq w 0) 0 1
+
+-- C17 6.3.1.3: a conversion to any other type keeps the low bits; the word of a number is the same at each
+-- type that holds it
 unfoldable pub converted : Kind → ℕ → ℕ
+converted kind.Bool w = as_bool w
 converted k w = low_bits (is_signed k) (width k) w

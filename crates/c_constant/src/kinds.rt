@@ -50,6 +50,10 @@ pub fn row(kind: Kind) -> KindRow
             bits: 64,
             signed: false,
         },
+        Kind::Bool => KindRow {
+            bits: 1,
+            signed: false,
+        },
     }
 }
 
@@ -66,7 +70,7 @@ pub fn bytes(kind: Kind) -> u32
     ensures some { 0 < result }
     ensures few { result ≤ 8 }
 {
-    row(kind).bits / 8
+    (row(kind).bits + 7) / 8
 }
 
 /// The integer promotions (C17 6.3.1.1).

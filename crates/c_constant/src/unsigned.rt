@@ -18,6 +18,7 @@ fn in_unsigned(kind: Kind, word: u64) -> Option<u64>
         Kind::UChar => Some(word % 0x100),
         Kind::UShort => Some(word % 0x1_0000),
         Kind::UInt => Some(word % 0x1_0000_0000),
+        Kind::Bool => Some(word % 2),
         _ => Some(word),
     }
 }

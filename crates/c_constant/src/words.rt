@@ -8,7 +8,8 @@ use crate::signed::{by_sign, signed_operation, signed_unary};
 use crate::unsigned::{unsigned_operation, unsigned_unary};
 use c_tree::{BinaryOp, Kind, UnaryOp};
 
-/// A word at another kind: a conversion keeps the low bits (C17 6.3.1.3).
+/// A word at another kind: a conversion keeps the low bits (C17 6.3.1.3), but one to `_Bool` tells
+/// whether the word is not 0 (6.3.1.2).
 #[tactic(auto, unfolding(crate::specs::Kinds::converted))]
 pub fn convert(kind: Kind, word: u64) -> u64
     ensures { result ≡ converted kind word }
@@ -21,6 +22,7 @@ pub fn convert(kind: Kind, word: u64) -> u64
         Kind::Int => by_sign(0x8000_0000, word % 0x1_0000_0000),
         Kind::UInt => word % 0x1_0000_0000,
         Kind::Long | Kind::ULong => word,
+        Kind::Bool => if word == 0 { 0 } else { 1 },
     }
 }
 
@@ -36,7 +38,9 @@ pub fn operation(op: BinaryOp, kind: Kind, a: u64, b: u64) -> Option<u64>
         Kind::Char | Kind::Short | Kind::Int | Kind::Long => {
             signed_operation(op, kind, a.cast_signed(), b.cast_signed())
         }
-        Kind::UChar | Kind::UShort | Kind::UInt | Kind::ULong => unsigned_operation(op, kind, a, b),
+        Kind::UChar | Kind::UShort | Kind::UInt | Kind::ULong | Kind::Bool => {
+            unsigned_operation(op, kind, a, b)
+        }
     }
 }
 
@@ -51,6 +55,8 @@ pub fn unary(op: UnaryOp, kind: Kind, a: u64) -> Option<u64>
             kind,
             a.cast_signed(),
         ),
-        Kind::UChar | Kind::UShort | Kind::UInt | Kind::ULong => unsigned_unary(op, kind, a),
+        Kind::UChar | Kind::UShort | Kind::UInt | Kind::ULong | Kind::Bool => {
+            unsigned_unary(op, kind, a)
+        }
     }
 }

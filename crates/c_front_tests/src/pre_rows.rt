@@ -7,6 +7,8 @@ pub type Row = (&'static [&'static str], &'static str);
 pub const HEADER_ROWS: &[Row] = &[
     (&["<stdbool.h>", "true", "+", "false"], "1 + 0"),
     (&["true", "<stdbool.h>", "true"], "true 1"),
+    (&["<stdbool.h>", "bool", "A"], "_Bool A"),
+    (&["<stdbool.h>", "#undef", "bool", ";;", "bool"], "bool"),
     (&["<stdlib.h>", "EXIT_SUCCESS", "EXIT_FAILURE"], "0 1"),
     (&["<string.h>", "<stddef.h>", "size_t"], "key long"),
     (&["<stdint.h>", "int16_t", "A"], "key A"),

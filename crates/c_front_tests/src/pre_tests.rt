@@ -59,6 +59,7 @@ fn word_of(alloc: Global, form: &Form) -> Result<String, AllocError> {
         Form::Key(Key::Int) => String::from_str(alloc, "int"),
         Form::Key(Key::Long) => String::from_str(alloc, "long"),
         Form::Key(Key::Char) => String::from_str(alloc, "char"),
+        Form::Key(Key::Bool) => String::from_str(alloc, "_Bool"),
         Form::Key(_) => String::from_str(alloc, "key"),
         Form::Mark(Mark::Plus) => String::from_str(alloc, "+"),
         Form::Mark(Mark::Star) => String::from_str(alloc, "*"),

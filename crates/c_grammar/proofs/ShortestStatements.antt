@@ -198,6 +198,7 @@ begins_is (t ∷ o) h = (t, o, refl, form_shortest t.offset t.form h)
 -- each word of a type is a type alone
 pub type_alone : (l : ℕ) (f : Form) → is_type f ≡ true
     → (k : Kind) × ((u : Tokens) → Types l k (token l f ∷ u) u)
+type_alone l (form.Key key.Bool) h = (kind.Bool, λ u. types.bool)
 type_alone l (form.Key key.Char) h = (kind.Char, λ u. types.char)
 type_alone l (form.Key key.Int) h = (kind.Int, λ u. types.int)
 type_alone l (form.Key key.Short) h = (kind.Short, λ u. types.short)

@@ -4,7 +4,7 @@ use Rattle.c_tree.specs.declared.token.Key.TheVariants as key
 use Rattle.c_tree.specs.declared.token.Kind.{Kind}
 use Rattle.c_tree.specs.declared.token.Kind.TheVariants as kind
 use Rattle.c_grammar.specs.Tokens.{Tokens, word, May}
-use Rattle.c_grammar.specs.Types.{Types, char, signed_char, unsigned_char, int, signed, signed_int}
+use Rattle.c_grammar.specs.Types.{Types, bool, char, signed_char, unsigned_char, int, signed, signed_int}
 use Rattle.c_grammar.specs.Types.{short, short_int, signed_short, signed_short_int, unsigned_short}
 use Rattle.c_grammar.specs.Types.{unsigned_short_int, unsigned, unsigned_int, long, long_int}
 use Rattle.c_grammar.specs.Types.{signed_long, signed_long_int, unsigned_long, unsigned_long_int}
@@ -38,10 +38,13 @@ FromShort = FromWord key.Short kind.Short
 abbrev FromLong : Rel (ℕ × Kind)
 FromLong = FromWord key.Long kind.Long
 
+abbrev FromBool : Rel (ℕ × Kind)
+FromBool = WordThen key.Bool (λ l. (l, kind.Bool))
+
 abbrev TypeChain : Rel (ℕ × Kind)
 TypeChain = Either (WordThen key.Char (λ l. (l, kind.Char)))
     (Either (WordThen key.Int (λ l. (l, kind.Int)))
-    (Either FromShort (Either FromLong (Either FromSigned FromUnsigned))))
+    (Either FromShort (Either FromLong (Either FromSigned (Either FromBool FromUnsigned)))))
 
 short_to : (may : May) (l : ℕ) (x : ℕ × Kind) (u t : Tokens) → IntIs l kind.Short may x u t
     → TypeIs may x (word l key.Short ∷ u) t
@@ -84,7 +87,9 @@ type_to may x f t (that (that (that (this r)))) =
     subst (λ (u : Tokens). TypeIs may x u t) (sym r.2) (long_to may r.0 x r.1 t r.3)
 type_to may x f t (that (that (that (that (this r))))) =
     subst (λ (u : Tokens). TypeIs may x u t) (sym r.2) (signed_to may r.0 x r.1 t r.3)
-type_to may x f t (that (that (that (that (that r))))) =
+type_to may x f t (that (that (that (that (that (this r)))))) = subst (λ (u : Tokens). TypeIs may x u t) (sym r.2)
+    (ends_with (λ x t. TypeIs may x (word r.0 key.Bool ∷ r.1) t) bool r.3)
+type_to may x f t (that (that (that (that (that (that r)))))) =
     subst (λ (u : Tokens). TypeIs may x u t) (sym r.2) (unsigned_to may r.0 x r.1 t r.3)
 
 abbrev is_short : {may : May} {x : ℕ × Kind} {f t : Tokens} → FromShort may x f t
@@ -101,9 +106,10 @@ is_signed r = that (that (that (that (this r))))
 
 abbrev is_unsigned : {may : May} {x : ℕ × Kind} {f t : Tokens} → FromUnsigned may x f t
     → TypeChain may x f t
-is_unsigned r = that (that (that (that (that r))))
+is_unsigned r = that (that (that (that (that (that r)))))
 
 type_from : (may : May) (l : ℕ) (k : Kind) (f t : Tokens) → Types l k f t → TypeChain may (l, k) f t
+type_from may l _ _ t bool = that (that (that (that (that (this (l, t, refl, (refl, refl)))))))
 type_from may l _ _ t char = this (l, t, refl, (refl, refl))
 type_from may l _ _ t int = that (this (l, t, refl, (refl, refl)))
 type_from may l _ _ t short = is_short (l, t, refl, left_out)
@@ -141,47 +147,60 @@ type_piece m =
     (either_of (is_key key.Int) (plain_piece m key.Int kind.Int)
     (either_of (is_key key.Short) (begun_piece m key.Short kind.Short)
     (either_of (is_key key.Long) (begun_piece m key.Long kind.Long)
-    (either_of (is_key key.Signed) (signed_piece m) (unsigned_piece m)
-    (λ may x f t r. word_begins key.Signed r.0 f r.1 r.2)
-    (λ may x f t r e. ap (is_word key.Signed) r.2))
+    (either_of (is_key key.Signed) (signed_piece m)
+    (either_of (is_key key.Bool) (plain_piece m key.Bool kind.Bool) (unsigned_piece m)
+    (λ may x f t r. word_begins key.Bool r.0 f r.1 r.2)
+    (λ may x f t r e. ap (is_word key.Bool) r.2))
+    (λ may x f t r. word_begins key.Signed r.0 f r.1 r.2) no_signed)
     (λ may x f t r. word_begins key.Long r.0 f r.1 r.2) no_long)
     (λ may x f t r. word_begins key.Short r.0 f r.1 r.2) no_short)
     (λ may x f t r. word_begins key.Int r.0 f r.1 r.2) no_int)
     (λ may x f t r. word_begins key.Char r.0 f r.1 r.2) no_char)
     type_to (λ may x f t r. type_from may x.0 x.1 f t r)
   where
-    no_long : (may : May) (x : ℕ × Kind) (f t : Tokens) → Either FromSigned FromUnsigned may x f t
+    no_signed : (may : May) (x : ℕ × Kind) (f t : Tokens) → Either FromBool FromUnsigned may x f t
+        → type_ends x t → is_word key.Signed f ≡ false
+    no_signed may x f t (this r) e = ap (is_word key.Signed) r.2
+    no_signed may x f t (that r) e = ap (is_word key.Signed) r.2
+
+    no_long : (may : May) (x : ℕ × Kind) (f t : Tokens)
+        → Either FromSigned (Either FromBool FromUnsigned) may x f t
         → type_ends x t → is_word key.Long f ≡ false
     no_long may x f t (this r) e = ap (is_word key.Long) r.2
-    no_long may x f t (that r) e = ap (is_word key.Long) r.2
+    no_long may x f t (that (this r)) e = ap (is_word key.Long) r.2
+    no_long may x f t (that (that r)) e = ap (is_word key.Long) r.2
 
     no_short : (may : May) (x : ℕ × Kind) (f t : Tokens)
-        → Either FromLong (Either FromSigned FromUnsigned) may x f t → type_ends x t
+        → Either FromLong (Either FromSigned (Either FromBool FromUnsigned)) may x f t → type_ends x t
         → is_word key.Short f ≡ false
     no_short may x f t (this r) e = ap (is_word key.Short) r.2
     no_short may x f t (that (this r)) e = ap (is_word key.Short) r.2
-    no_short may x f t (that (that r)) e = ap (is_word key.Short) r.2
+    no_short may x f t (that (that (this r))) e = ap (is_word key.Short) r.2
+    no_short may x f t (that (that (that r))) e = ap (is_word key.Short) r.2
 
     no_int : (may : May) (x : ℕ × Kind) (f t : Tokens)
-        → Either FromShort (Either FromLong (Either FromSigned FromUnsigned)) may x f t
+        → Either FromShort (Either FromLong (Either FromSigned (Either FromBool FromUnsigned))) may x f t
         → type_ends x t → is_word key.Int f ≡ false
     no_int may x f t (this r) e = ap (is_word key.Int) r.2
     no_int may x f t (that (this r)) e = ap (is_word key.Int) r.2
     no_int may x f t (that (that (this r))) e = ap (is_word key.Int) r.2
-    no_int may x f t (that (that (that r))) e = ap (is_word key.Int) r.2
+    no_int may x f t (that (that (that (this r)))) e = ap (is_word key.Int) r.2
+    no_int may x f t (that (that (that (that r)))) e = ap (is_word key.Int) r.2
 
     no_char : (may : May) (x : ℕ × Kind) (f t : Tokens)
         → Either (WordThen key.Int (λ l. (l, kind.Int)))
-        (Either FromShort (Either FromLong (Either FromSigned FromUnsigned))) may x f t
+        (Either FromShort (Either FromLong (Either FromSigned (Either FromBool FromUnsigned)))) may x f t
         → type_ends x t → is_word key.Char f ≡ false
     no_char may x f t (this r) e = ap (is_word key.Char) r.2
     no_char may x f t (that (this r)) e = ap (is_word key.Char) r.2
     no_char may x f t (that (that (this r))) e = ap (is_word key.Char) r.2
     no_char may x f t (that (that (that (this r)))) e = ap (is_word key.Char) r.2
-    no_char may x f t (that (that (that (that r)))) e = ap (is_word key.Char) r.2
+    no_char may x f t (that (that (that (that (this r))))) e = ap (is_word key.Char) r.2
+    no_char may x f t (that (that (that (that (that r))))) e = ap (is_word key.Char) r.2
 
 -- a type takes a token at least, and begins with a word of one
 pub types_shorter : {l : ℕ} {k : Kind} {f t : Tokens} → Types l k f t → length t < length f
+types_shorter bool = omega arith
 types_shorter char = omega arith
 types_shorter signed_char = omega arith
 types_shorter unsigned_char = omega arith
@@ -205,6 +224,7 @@ types_shorter unsigned_long_int = omega arith
 
 -- Tokens that spell a type begin as types do.
 pub types_begin : {l : ℕ} {k : Kind} {f t : Tokens} → Types l k f t → begins_type f ≡ true
+types_begin bool = refl
 types_begin char = refl
 types_begin signed_char = refl
 types_begin unsigned_char = refl

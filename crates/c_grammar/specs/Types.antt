@@ -7,6 +7,7 @@ use Rattle.c_grammar.specs.Tokens.{Tokens, word}
 
 -- the tokens from the first list up to the second name the type
 pub data Types : ℕ → Kind → Tokens → Tokens → Type 0 where
+  bool : {l : ℕ} {t : Tokens} → Types l kind.Bool (word l key.Bool ∷ t) t
   char : {l : ℕ} {t : Tokens} → Types l kind.Char (word l key.Char ∷ t) t
   signed_char : {l k : ℕ} {t : Tokens} → Types l kind.Char
       (word l key.Signed ∷ word k key.Char ∷ t) t

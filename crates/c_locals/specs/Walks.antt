@@ -14,6 +14,7 @@ is_word (form.Key key.Int) = true
 is_word (form.Key key.Long) = true
 is_word (form.Key key.Signed) = true
 is_word (form.Key key.Unsigned) = true
+is_word (form.Key key.Bool) = true
 is_word _ = false
 
 -- how many braces are open behind a token

@@ -30,8 +30,8 @@ pub fn is_word(form: &Form) -> bool
     ensures { result ≡ walks.is_word form.now }
 {
     match form {
-        Form::Key(Key::Char | Key::Short | Key::Int | Key::Long | Key::Signed | Key::Unsigned) =>
-            true,
+        Form::Key(Key::Char | Key::Short | Key::Int | Key::Long) => true,
+        Form::Key(Key::Signed | Key::Unsigned | Key::Bool) => true,
         _ => false,
     }
 }

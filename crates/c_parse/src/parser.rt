@@ -74,6 +74,7 @@ impl Parser<'_> {
             || self.is_word(Key::Long)
             || self.is_word(Key::Signed)
             || self.is_word(Key::Unsigned)
+            || self.is_word(Key::Bool)
     }
 
     /// Takes a mark, and gives its offset.

@@ -116,6 +116,9 @@ impl Parser<'_> {
         if self.is_word(Key::Signed) {
             return self.signed();
         }
+        if self.is_word(Key::Bool) {
+            return self.plain(Key::Bool, Kind::Bool);
+        }
         self.unsigned()
     }
 }

@@ -27,7 +27,8 @@ same_key a b e = sym (key_at a) ∙ ap (λ (n : ℕ). get_or keys n key.Auto) e 
 
 -- the types by their numbers
 abbrev kinds : List Kind
-kinds = kind.Char ∷ kind.UChar ∷ kind.Short ∷ kind.UShort ∷ kind.Int ∷ kind.UInt ∷ kind.Long ∷ kind.ULong ∷ []
+kinds = kind.Char ∷ kind.UChar ∷ kind.Short ∷ kind.UShort ∷ kind.Int ∷ kind.UInt ∷ kind.Long ∷ kind.ULong
+    ∷ kind.Bool ∷ []
 
 kind_at : (k : Kind) → get_or kinds (kind_number k) kind.Char ≡ k
 kind_at kind.Char = refl

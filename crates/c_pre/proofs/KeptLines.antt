@@ -1,9 +1,10 @@
 -- What holds of each raw token and of each constant of a header holds of the macros, the line and the tokens so far.
 use Rattle.std.proofs.Common.{◌≡◌, ◌≤◌, ℕ, ◌+◌, Bool, true, false, cond, not, List, [], ◌∷◌, ◌++◌, map, length, subst}
 use Rattle.std.proofs.Common.{arith}
-use Rattle.std.specs.Prelude.{◌&&◌, Option, Some, None, Result, Ok, Err}
+use Rattle.std.specs.Prelude.{◌&&◌, codes, Option, Some, None, Result, Ok, Err}
 use Rattle.c_tree.specs.declared.Form.{Form}
 use Rattle.c_tree.specs.declared.Form.TheVariants as form
+use Rattle.c_tree.specs.declared.Key.TheVariants as key
 use Rattle.c_tree.specs.declared.Lexeme.{Lexeme}
 use Rattle.c_lex.specs.declared.directive.DirectiveKind.{DirectiveKind}
 use Rattle.c_lex.specs.declared.directive.DirectiveKind.TheVariants as directive
@@ -11,6 +12,7 @@ use Rattle.c_pre.specs.declared.fault.PreFault.{PreFault}
 use Rattle.c_pre.specs.declared.fault.PreFault.TheVariants as fault
 use Rattle.c_pre.specs.declared.groups.Group.{Group}
 use Rattle.c_lex.specs.declared.directive.Header.{Header}
+use Rattle.c_lex.specs.declared.directive.Header.TheVariants as header
 use Rattle.c_pre.specs.declared.reader.Line.{Line}
 use Rattle.c_pre.specs.declared.reader.Reader.{Reader}
 use Rattle.c_pre.specs.declared.said.Said.{Said}
@@ -19,7 +21,7 @@ use Rattle.c_pre.specs.Forms.{same_forms}
 use Rattle.c_pre.specs.Groups.{is_read}
 use Rattle.c_pre.specs.Headers.{Row, names_of}
 use Rattle.c_pre.specs.Lines.{with_macro, named_by, named, is_apart, defined_as, defined, undefined, included, opened}
-use Rattle.c_pre.specs.Lines.{header_read}
+use Rattle.c_pre.specs.Lines.{header_read, with_bool}
 use Rattle.c_pre.specs.Lines.{opened_by, opened_at, is_macro, is_more, other, parted, closed, obeyed, lone_name}
 use Rattle.c_pre.specs.Macros.{Name, name_of, body_of, turns}
 use Rattle.c_pre.specs.Outputs.{◌>>=◌, taken, all_taken}
@@ -46,6 +48,13 @@ record Has (P : Fact) (most : ℕ) (r : Reader) : Type 0 where
 abbrev pub EachRow : Fact → List Row → Type 0
 EachRow P [] = Unit {0}
 EachRow P (row ∷ rows) = P (form.Number row.1 row.2) × EachRow P rows
+
+-- it holds of what a header makes known
+pub record HeaderHas (P : Fact) (d : Header) : Type 0 where
+  -- its constants
+  pub rows : EachRow P (names_of d)
+  -- the keyword that `bool` stands for
+  pub word : P (form.Key key.Bool)
 
 -- by a test
 either : (P : Fact) (most : ℕ) (b : Bool) (x y : Result Reader PreFault) → OkHas (Has P most) x
@@ -94,10 +103,18 @@ included_has P most o (row ∷ rows) r h k =
     (named_has P most o row.0 (form.Number row.1 row.2 ∷ []) r (body_of row.0 r.macros) h (k.0, tt))
     (λ x q. included_has P most o rows x q k.1)
 
-header_has : (P : Fact) (most o : ℕ) (d : Header) (r : Reader) → Has P most r → EachRow P (names_of d)
+with_bool_has : (P : Fact) (most o : ℕ) (d : Header) (r : Reader) → Has P most r → P (form.Key key.Bool)
+    → OkHas (Has P most) (with_bool o d r)
+with_bool_has P most o header.Stdbool r h k =
+    named_has P most o (codes "bool") (form.Key key.Bool ∷ []) r (body_of (codes "bool") r.macros) h (k, tt)
+with_bool_has P most o _ r h k = h
+
+header_has : (P : Fact) (most o : ℕ) (d : Header) (r : Reader) → Has P most r → HeaderHas P d
     → OkHas (Has P most) (header_read o d r)
 unfolding header_read
-header_has P most o d r h k = included_has P most o (names_of d) r h k
+header_has P most o d r h k =
+    bound (Has P most) (Has P most) (included o (names_of d) r) (with_bool o d)
+    (included_has P most o (names_of d) r h k.rows) (λ x q. with_bool_has P most o d x q k.word)
 
 -- GROUPS
 
@@ -150,9 +167,9 @@ obeyed_has P most o directive.Endif ts r h k = closed_has P most o ts r.groups r
 
 -- RAW TOKENS
 
--- it holds of the constants of each header
+-- it holds of what each header makes known
 abbrev pub HeadersHave : Fact → Type 0
-HeadersHave P = (h : Header) → EachRow P (names_of h)
+HeadersHave P = (h : Header) → HeaderHas P h
 
 given_has : (P : Fact) (most : ℕ) (t : Lexeme) (r : Reader) → Has P most r → P t.form
     → OkHas (Has P most) (given most t r)

@@ -3,6 +3,7 @@ use Rattle.std.proofs.Common.{◌≡◌, ℕ, List, [], ◌∷◌, codes, refl}
 use Rattle.std.specs.Prelude.{Ok, Err}
 use Rattle.c_tree.specs.declared.Form.{Form}
 use Rattle.c_tree.specs.declared.Form.TheVariants as form
+use Rattle.c_tree.specs.declared.Key.TheVariants as key
 use Rattle.c_tree.specs.declared.Kind.TheVariants.{Int}
 use Rattle.c_tree.specs.declared.Lexeme.{Lexeme}
 use Rattle.c_tree.specs.declared.Mark.TheVariants as mark
@@ -110,3 +111,15 @@ no_group = refl
 pub true_is_one : directed 9 (name 0 (codes "<stdbool.h>") ∷ name 12 (codes "true") ∷ []) ≡ Ok (number 12 ∷ [])
 unfolding headers header_read
 true_is_one = refl
+
+-- and that of a keyword (7.18)
+pub bool_is_a_keyword : directed 9 (name 0 (codes "<stdbool.h>") ∷ name 12 (codes "bool") ∷ [])
+    ≡ Ok (at 12 (form.Key key.Bool) ∷ [])
+unfolding headers header_read
+bool_is_a_keyword = refl
+
+-- which is a macro, so that it may be forgotten
+pub bool_is_a_macro : directed 9 (name 0 (codes "<stdbool.h>") ∷ name 12 (codes "#undef") ∷ name 19 (codes "bool")
+    ∷ ends 23 ∷ name 24 (codes "bool") ∷ []) ≡ Ok (name 24 (codes "bool") ∷ [])
+unfolding headers header_read
+bool_is_a_macro = refl

@@ -66,6 +66,7 @@ kind_number kind.Int = 4
 kind_number kind.UInt = 5
 kind_number kind.Long = 6
 kind_number kind.ULong = 7
+kind_number kind.Bool = 8
 
 -- are two forms one?
 abbrev pub same_form : Form → Form → Bool

@@ -1,8 +1,9 @@
 -- What the lines of directives do (C17 6.10.1, 6.10.3).
 use Rattle.std.specs.Prelude.{ℕ, ◌+◌, Bool, true, false, not, ◌&&◌, nat_eq, if◌then◌else◌, List, [], ◌∷◌, ◌++◌, map}
-use Rattle.std.specs.Prelude.{length, Option, Some, None, Result, Ok, Err}
+use Rattle.std.specs.Prelude.{length, codes, Option, Some, None, Result, Ok, Err}
 use Rattle.c_tree.specs.declared.Form.{Form}
 use Rattle.c_tree.specs.declared.Form.TheVariants as form
+use Rattle.c_tree.specs.declared.Key.TheVariants as key
 use Rattle.c_tree.specs.declared.Lexeme.{Lexeme}
 use Rattle.c_lex.specs.declared.directive.DirectiveKind.{DirectiveKind}
 use Rattle.c_lex.specs.declared.directive.DirectiveKind.TheVariants as directive
@@ -13,6 +14,7 @@ use Rattle.c_pre.specs.declared.reader.Reader.{Reader}
 use Rattle.c_pre.specs.Forms.{same_forms}
 use Rattle.c_pre.specs.Groups.{is_read}
 use Rattle.c_lex.specs.declared.directive.Header.{Header}
+use Rattle.c_lex.specs.declared.directive.Header.TheVariants as header
 use Rattle.c_pre.specs.Headers.{Row, names_of}
 use Rattle.c_pre.specs.Macros.{Name, name_of, body_of}
 use Rattle.c_pre.specs.Outputs.{◌>>=◌}
@@ -65,9 +67,14 @@ abbrev pub included : ℕ → List Row → Reader → Result Reader PreFault
 included o [] r = Ok r
 included o (row ∷ rows) r = named o row.0 (form.Number row.1 row.2 ∷ []) r >>= included o rows
 
+-- `bool` of `<stdbool.h>`, at the place of its line, stands for the keyword `_Bool` (7.18)
+abbrev pub with_bool : ℕ → Header → Reader → Result Reader PreFault
+with_bool o header.Stdbool r = named o (codes "bool") (form.Key key.Bool ∷ []) r
+with_bool o _ r = Ok r
+
 -- the line of a header, at this place
 unfoldable pub header_read : ℕ → Header → Reader → Result Reader PreFault
-header_read o h r = included o (names_of h) r
+header_read o h r = included o (names_of h) r >>= with_bool o h
 
 -- GROUPS
 

@@ -29,7 +29,7 @@ const LIMITS: [(&[u8], u64, Kind); 19] = [
     (b"ULLONG_MAX", 0xFFFF_FFFF_FFFF_FFFF, Kind::ULong),
 ];
 
-/// The names of `<stdbool.h>` (C17 7.18) but for `bool`.
+/// The names of `<stdbool.h>` (C17 7.18) but for `bool`, which stands for a keyword.
 const STDBOOL: [(&[u8], u64, Kind); 3] = [
     (b"true", 1, Kind::Int),
     (b"false", 0, Kind::Int),

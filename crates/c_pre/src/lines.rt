@@ -1,7 +1,8 @@
 //! The lines of directives.
 
-ghost use Rattle.std.specs.Prelude.{◌≡◌, map, IfOk, Ok};
+ghost use Rattle.std.specs.Prelude.{◌≡◌, [], ◌∷◌, map, IfOk, Ok};
 ghost use Rattle.std.specs.Option.{option_copied};
+ghost use Rattle.c_tree.specs.declared.Form.TheVariants as form;
 ghost use Rattle.c_pre.specs.Lines as lines;
 ghost use Rattle.c_pre.specs.inside.Gives.{Gives};
 
@@ -13,7 +14,7 @@ use crate::reader::Reader;
 use base::Items;
 use c_lex::DirectiveKind;
 use c_library::form_copied;
-use c_tree::{Form, Kind, Lexeme, Word};
+use c_tree::{Form, Key, Kind, Lexeme, Word};
 use std::alloc::{AllocError, Global};
 
 /// The name that is all of a line behind its directive.
@@ -133,6 +134,21 @@ impl Reader {
             rest = more;
         }
         Ok(())
+    }
+
+    /// Gives a name this keyword as its body, at this place.
+    pub fn name_key(
+        &mut self,
+        alloc: Global,
+        offset: u32,
+        name: &[u8],
+        key: Key,
+    ) -> Result<(), PreFault>
+        ensures { Gives (lines.named offset name.now (form.Key key ∷ []) self.old) result self.new }
+    {
+        let mut body = Items::new(alloc);
+        body.push(Form::Key(key))?;
+        self.name(alloc, offset, name, body)
     }
 
     /// Opens a group whose lines are read or not.

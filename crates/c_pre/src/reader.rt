@@ -3,6 +3,7 @@
 ghost use Rattle.std.specs.Prelude.{◌≡◌, if◌then◌else◌, None, Ok, IfOk, IfErr};
 ghost use Rattle.c_tree.specs.Limits.{most_tokens};
 ghost use Rattle.c_pre.specs.Groups.{is_read};
+ghost use Rattle.c_pre.specs.Headers as headers;
 ghost use Rattle.c_pre.specs.Lines as lines;
 ghost use Rattle.c_pre.specs.Programs as programs;
 ghost use Rattle.c_pre.specs.Said as said;
@@ -18,7 +19,7 @@ use crate::said::{Said, said_by};
 use base::Items;
 use c_lex::{DirectiveKind, Header};
 use c_library::{form_copied, is_served, token_copied};
-use c_tree::Lexeme;
+use c_tree::{Key, Lexeme};
 use std::alloc::Global;
 
 /// A directive's line: where its `#` stands, and the tokens behind the directive so far.
@@ -58,11 +59,30 @@ impl Reader {
         Ok(())
     }
 
+    /// Makes the constants of a header known, at the place of its line.
+    fn include_names(&mut self, alloc: Global, offset: u32, header: Header) -> Result<(), PreFault>
+        ensures { Gives (lines.included offset (headers.names_of header) self.old) result self.new }
+    {
+        self.include(alloc, offset, names_of(header))
+    }
+
+    /// Makes `bool` the keyword `_Bool`, if the header is `<stdbool.h>`.
+    fn include_bool(&mut self, alloc: Global, offset: u32, header: Header) -> Result<(), PreFault>
+        ensures { Gives (lines.with_bool offset header self.old) result self.new }
+    {
+        match header {
+            Header::Stdbool => self.name_key(alloc, offset, b"bool", Key::Bool),
+            _ => Ok(()),
+        }
+    }
+
     /// Makes the names of a header known, at the place of its line.
+    #[tactic(auto, unfolding(crate::specs::Lines::header_read))]
     fn include_header(&mut self, alloc: Global, offset: u32, header: Header) -> Result<(), PreFault>
         ensures { Gives (lines.header_read offset header self.old) result self.new }
     {
-        self.include(alloc, offset, names_of(header))
+        self.include_names(alloc, offset, header)?;
+        self.include_bool(alloc, offset, header)
     }
 
     /// Keeps a header's token, if it stays.

@@ -97,8 +97,8 @@ pub enum Mark {
     MinusMinus,
 }
 
-/// An arithmetic type: `char` (which is signed), `unsigned char`, `short`, `unsigned short`, `int`,
-/// `unsigned int`, `long` and `unsigned long`, of 8, 8, 16, 16, 32, 32, 64 and 64 bits.
+/// An integer type: `char` (which is signed), `unsigned char`, `short`, `unsigned short`, `int`,
+/// `unsigned int`, `long`, `unsigned long` and `_Bool`, of 8, 8, 16, 16, 32, 32, 64, 64 bits and 1.
 #[derive(Clone, Copy, Debug, PartialEq, Eq)]
 pub enum Kind {
     Char,
@@ -109,6 +109,7 @@ pub enum Kind {
     UInt,
     Long,
     ULong,
+    Bool,
 }
 
 /// What a token is: the line `#include <stdio.h>`, a keyword, a name, a constant or a punctuator.

@@ -8,6 +8,7 @@ use Rattle.std.proofs.lemmas.Bool.Decides.{nat_tests}
 use Rattle.c_tree.specs.declared.token.Kind.{Kind}
 use Rattle.c_tree.specs.declared.token.Kind.TheVariants.{Char, UChar, Short, UShort, Int, UInt}
 use Rattle.c_tree.specs.declared.token.Kind.TheVariants.{Long, ULong}
+use Rattle.c_tree.specs.declared.token.Kind.TheVariants as kind
 use Rattle.c_tree.specs.declared.tree.ArraySize.{ArraySize}
 use Rattle.c_tree.specs.declared.tree.ArraySize.TheVariants as size
 use Rattle.c_tree.specs.declared.tree.Expr.{Expr}
@@ -104,3 +105,4 @@ too_many Int p b h = grind (arith, nat_tests)
 too_many UInt p b h = grind (arith, nat_tests)
 too_many Long p b h = grind (arith, nat_tests)
 too_many ULong p b h = grind (arith, nat_tests)
+too_many kind.Bool p b h = grind (arith, nat_tests)

@@ -3,6 +3,7 @@ use Rattle.std.proofs.Common.{◌≡◌, refl, sym}
 use Rattle.c_tree.specs.declared.token.Kind.{Kind}
 use Rattle.c_tree.specs.declared.token.Kind.TheVariants.{Char, UChar, Short, UShort, Int, UInt}
 use Rattle.c_tree.specs.declared.token.Kind.TheVariants.{Long, ULong}
+use Rattle.c_tree.specs.declared.token.Kind.TheVariants as kind
 use Rattle.c_tree.specs.declared.tree.UnaryOp.{UnaryOp}
 use Rattle.c_tree.specs.declared.tree.UnaryOp.TheVariants.{Not}
 use Rattle.c_tree.specs.declared.tree.BinaryOp.{BinaryOp}
@@ -20,13 +21,14 @@ promoted_once Int = refl
 promoted_once UInt = refl
 promoted_once Long = refl
 promoted_once ULong = refl
+promoted_once kind.Bool = refl
 
 -- a common type is common with itself, and with each of the two
 pub record Common (j k : Kind) : Type 0 where
   pub itself : common (common j k) (common j k) ≡ common j k
   pub left : common j (common j k) ≡ common j k
 
--- each of the 64 pairs
+-- each of the 81 pairs
 pub commons : (j k : Kind) → Common j k
 commons Char Char = record { itself = refl; left = refl }
 commons Char UChar = record { itself = refl; left = refl }
@@ -36,6 +38,7 @@ commons Char Int = record { itself = refl; left = refl }
 commons Char UInt = record { itself = refl; left = refl }
 commons Char Long = record { itself = refl; left = refl }
 commons Char ULong = record { itself = refl; left = refl }
+commons Char kind.Bool = record { itself = refl; left = refl }
 commons UChar Char = record { itself = refl; left = refl }
 commons UChar UChar = record { itself = refl; left = refl }
 commons UChar Short = record { itself = refl; left = refl }
@@ -44,6 +47,7 @@ commons UChar Int = record { itself = refl; left = refl }
 commons UChar UInt = record { itself = refl; left = refl }
 commons UChar Long = record { itself = refl; left = refl }
 commons UChar ULong = record { itself = refl; left = refl }
+commons UChar kind.Bool = record { itself = refl; left = refl }
 commons Short Char = record { itself = refl; left = refl }
 commons Short UChar = record { itself = refl; left = refl }
 commons Short Short = record { itself = refl; left = refl }
@@ -52,6 +56,7 @@ commons Short Int = record { itself = refl; left = refl }
 commons Short UInt = record { itself = refl; left = refl }
 commons Short Long = record { itself = refl; left = refl }
 commons Short ULong = record { itself = refl; left = refl }
+commons Short kind.Bool = record { itself = refl; left = refl }
 commons UShort Char = record { itself = refl; left = refl }
 commons UShort UChar = record { itself = refl; left = refl }
 commons UShort Short = record { itself = refl; left = refl }
@@ -60,6 +65,7 @@ commons UShort Int = record { itself = refl; left = refl }
 commons UShort UInt = record { itself = refl; left = refl }
 commons UShort Long = record { itself = refl; left = refl }
 commons UShort ULong = record { itself = refl; left = refl }
+commons UShort kind.Bool = record { itself = refl; left = refl }
 commons Int Char = record { itself = refl; left = refl }
 commons Int UChar = record { itself = refl; left = refl }
 commons Int Short = record { itself = refl; left = refl }
@@ -68,6 +74,7 @@ commons Int Int = record { itself = refl; left = refl }
 commons Int UInt = record { itself = refl; left = refl }
 commons Int Long = record { itself = refl; left = refl }
 commons Int ULong = record { itself = refl; left = refl }
+commons Int kind.Bool = record { itself = refl; left = refl }
 commons UInt Char = record { itself = refl; left = refl }
 commons UInt UChar = record { itself = refl; left = refl }
 commons UInt Short = record { itself = refl; left = refl }
@@ -76,6 +83,7 @@ commons UInt Int = record { itself = refl; left = refl }
 commons UInt UInt = record { itself = refl; left = refl }
 commons UInt Long = record { itself = refl; left = refl }
 commons UInt ULong = record { itself = refl; left = refl }
+commons UInt kind.Bool = record { itself = refl; left = refl }
 commons Long Char = record { itself = refl; left = refl }
 commons Long UChar = record { itself = refl; left = refl }
 commons Long Short = record { itself = refl; left = refl }
@@ -84,6 +92,7 @@ commons Long Int = record { itself = refl; left = refl }
 commons Long UInt = record { itself = refl; left = refl }
 commons Long Long = record { itself = refl; left = refl }
 commons Long ULong = record { itself = refl; left = refl }
+commons Long kind.Bool = record { itself = refl; left = refl }
 commons ULong Char = record { itself = refl; left = refl }
 commons ULong UChar = record { itself = refl; left = refl }
 commons ULong Short = record { itself = refl; left = refl }
@@ -92,6 +101,16 @@ commons ULong Int = record { itself = refl; left = refl }
 commons ULong UInt = record { itself = refl; left = refl }
 commons ULong Long = record { itself = refl; left = refl }
 commons ULong ULong = record { itself = refl; left = refl }
+commons ULong kind.Bool = record { itself = refl; left = refl }
+commons kind.Bool Char = record { itself = refl; left = refl }
+commons kind.Bool UChar = record { itself = refl; left = refl }
+commons kind.Bool Short = record { itself = refl; left = refl }
+commons kind.Bool UShort = record { itself = refl; left = refl }
+commons kind.Bool Int = record { itself = refl; left = refl }
+commons kind.Bool UInt = record { itself = refl; left = refl }
+commons kind.Bool Long = record { itself = refl; left = refl }
+commons kind.Bool ULong = record { itself = refl; left = refl }
+commons kind.Bool kind.Bool = record { itself = refl; left = refl }
 
 -- an operand that is converted to the type that a unary operator wants is of the type that it wants
 pub unary_settled : (op : UnaryOp) (k : Kind) → unary_at op (unary_at op k) ≡ unary_at op k

@@ -8,6 +8,7 @@ use Rattle.std.proofs.lemmas.Bool.{leb-true, ltb-true}
 use Rattle.c_tree.specs.declared.token.Kind.{Kind}
 use Rattle.c_tree.specs.declared.token.Kind.TheVariants.{Char, UChar, Short, UShort, Int, UInt}
 use Rattle.c_tree.specs.declared.token.Kind.TheVariants.{Long, ULong}
+use Rattle.c_tree.specs.declared.token.Kind.TheVariants as kind
 use Rattle.c_tree.specs.declared.tree.ArraySize.{ArraySize}
 use Rattle.c_tree.specs.declared.tree.ArraySize.TheVariants as size
 use Rattle.c_tree.specs.declared.tree.Expr.{Expr}
@@ -82,6 +83,7 @@ zero_word Int = converted_word Int 0
 zero_word UInt = converted_word UInt 0
 zero_word Long = converted_word Long 0
 zero_word ULong = converted_word ULong 0
+zero_word kind.Bool = converted_word kind.Bool 0
 
 zeros_in : (k : Kind) (n : ℕ) → Each (IsWord k) (replicate n 0)
 zeros_in k zero = tt

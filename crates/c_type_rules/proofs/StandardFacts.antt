@@ -5,6 +5,7 @@ use Rattle.std.proofs.lemmas.Bool.{true≢false}
 use Rattle.c_tree.specs.declared.token.Kind.{Kind}
 use Rattle.c_tree.specs.declared.token.Kind.TheVariants.{Char, UChar, Short, UShort, Int, UInt, Long}
 use Rattle.c_tree.specs.declared.token.Kind.TheVariants.{ULong}
+use Rattle.c_tree.specs.declared.token.Kind.TheVariants as kind
 use Rattle.c_tree.specs.declared.tree.BinaryOp.TheVariants.{Add, ShiftLeft}
 use Rattle.c_tree.specs.declared.typed.Callee.TheVariants as callee
 use Rattle.c_tree.specs.declared.typed.Place.{Place}
@@ -109,6 +110,7 @@ module _ (P : TypedProgram) (f : TypedFunc) where
   not_char UInt h = absurd (cc)
   not_char Long h = absurd (cc)
   not_char ULong h = absurd (cc)
+  not_char kind.Bool h = absurd (cc)
 
   -- a char is promoted before it is added
   char_sum : (r : Option Kind) (y : TypedExpr) → Gives P f r (Binary Add (of Char (Number 1)) y) → ⊥

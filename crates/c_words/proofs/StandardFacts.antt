@@ -50,6 +50,13 @@ two_sizes = refl
 pub char_and_int : type_of (words (key.Char ∷ key.Int ∷ [])) ≡ None
 char_and_int = refl
 
+-- nor `_Bool` and `int`, which is a type alone, or beside a qualifier,
+pub bool_and_int : type_of (words (key.Bool ∷ key.Int ∷ [])) ≡ None
+bool_and_int = refl
+
+pub const_bool : type_of (words (key.Const ∷ key.Bool ∷ [])) ≡ Some named.Bool
+const_bool = refl
+
 -- nor a storage class without a type
 pub no_word : type_of (words (key.Static ∷ [])) ≡ None
 no_word = refl

@@ -159,5 +159,6 @@ pub fn spelling(named: Named) -> &'static [Key]
         Named::Number(Kind::UInt) => &[Key::Unsigned],
         Named::Number(Kind::Long) => &[Key::Long],
         Named::Number(Kind::ULong) => &[Key::Unsigned, Key::Long],
+        Named::Number(Kind::Bool) => &[Key::Bool],
     }
 }

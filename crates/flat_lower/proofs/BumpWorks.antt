@@ -5,6 +5,7 @@ use Rattle.std.proofs.Common.{◌∙◌, subst, arith}
 use Rattle.std.specs.Prelude.{nat_lt}
 use Rattle.c_tree.specs.declared.Kind.{Kind}
 use Rattle.c_tree.specs.declared.Kind.TheVariants.{Char, UChar, Short, UShort, Int, UInt, Long, ULong}
+use Rattle.c_tree.specs.declared.Kind.TheVariants as kind
 use Rattle.c_tree.specs.declared.BumpOp.{BumpOp}
 use Rattle.c_tree.specs.declared.BumpOp.TheVariants.{PreInc, PreDec, PostInc, PostDec}
 use Rattle.c_constant.specs.Kinds.{width, promoted, converted}
@@ -25,6 +26,7 @@ use Rattle.flat_lower.specs.inside.Narrowing.{narrowing}
 use Rattle.flat_lower.specs.inside.Operations.{narrowed_here}
 use Rattle.flat_lower.specs.inside.Operations.{bump_op, bump_narrowing, bumped}
 use Rattle.c_constant.proofs.Conversions.{converted_is, converted_word}
+use Rattle.flat_lower.proofs.Narrowings.{bool_test}
 use Rattle.flat_lower.proofs.Operators.{reduced_word, Gives, add_gives, sub_gives}
 use Rattle.flat_lower.proofs.Straight.{puts_let, var_read, puts_both}
 use Rattle.flat_lower.proofs.Straight
@@ -99,6 +101,8 @@ module _ (fs : List Function) (base : ℕ) (e : Env) where
   narrowed_puts UInt f spare x v n hx = one_puts op.Extuw f 1 x x spare v (omega arith) hx refl
   narrowed_puts Long f spare x v n hx = absurd (cc n)
   narrowed_puts ULong f spare x v n hx = absurd (cc n)
+  narrowed_puts kind.Bool f spare x v n hx = puts_as (one_done x op.Tne x) f 1 x spare (alu_of op.Tne v 0)
+      (converted kind.Bool v) (bool_test v) (one_puts op.Tne f 1 x x spare v (omega arith) hx refl)
 
   -- an unsigned int is narrowed from the sum as from what was reduced
   uint_twice : (v : ℕ) → converted UInt v ≡ converted UInt (v % 2 ^ 32)
@@ -141,6 +145,10 @@ module _ (fs : List Function) (base : ℕ) (e : Env) where
       let g = bump_gives o ULong old b.middle p tt b.done in
       puts_none f 1 to spare w (hx ∙ ap Some
       (e ∙ g.is ∙ sym (converted_is ULong b.middle g.fits) ∙ b.is))
+  bump_end o kind.Bool f spare to v old w hx e p b =
+      let g = bump_gives o Int old b.middle p tt b.done in
+      puts_as (narrowed_here (narrowing kind.Bool) to) f 1 to spare (converted kind.Bool v) w
+      (ap (converted kind.Bool) (e ∙ g.is) ∙ b.is) (narrowed_puts kind.Bool f spare to v refl hx)
 
   bump_fits : (o : BumpOp) (k : Kind) (old w : ℕ) → old < 2 ^ 64 → Bumped o k old w → IsWord k w
   bump_fits o Char old w p b =
@@ -159,6 +167,8 @@ module _ (fs : List Function) (base : ℕ) (e : Env) where
       let g = bump_gives o Long old b.middle p tt b.done in subst (IsWord Long) b.is (converted_word Long b.middle)
   bump_fits o ULong old w p b =
       let g = bump_gives o ULong old b.middle p tt b.done in subst (IsWord ULong) b.is (converted_word ULong b.middle)
+  bump_fits o kind.Bool old w p b =
+      let g = bump_gives o Int old b.middle p tt b.done in subst (IsWord kind.Bool) b.is (converted_word kind.Bool b.middle)
 
   -- one more or one less of x, in another variable or its own, in at most two turns
   pub bump_works : (o : BumpOp) (k : Kind) (f : State) (spare to x old w : ℕ) → f.vars x ≡ Some old

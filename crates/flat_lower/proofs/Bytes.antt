@@ -6,6 +6,7 @@ use Rattle.std.specs.Prelude.{◌&&◌, nat_eq, nat_lt, nat_le}
 use Rattle.std.proofs.lemmas.Bool.Decides.{nat_tests}
 use Rattle.c_tree.specs.declared.Kind.{Kind}
 use Rattle.c_tree.specs.declared.Kind.TheVariants.{Char, UChar, Short, UShort, Int, UInt, Long, ULong}
+use Rattle.c_tree.specs.declared.Kind.TheVariants as kind
 use Rattle.c_constant.specs.Kinds.{converted}
 use Rattle.c_constant.specs.Kinds.{bytes}
 use Rattle.trips_isa.specs.declared.op.Op.{Op}
@@ -68,6 +69,7 @@ load_same k m n a h = go k h
     go UInt h = by_size (load_op UInt) 4 h
     go Long h = by_size (load_op Long) 8 h
     go ULong h = by_size (load_op ULong) 8 h
+    go kind.Bool h = by_size (load_op kind.Bool) 1 h
 
 -- WHAT A SAVE DOES
 
@@ -179,6 +181,7 @@ save_is k m a v g h = go k g h
     go UInt g h = by_size 4 g h
     go Long g h = by_size 8 g h
     go ULong g h = by_size 8 g h
+    go kind.Bool g h = by_size 1 g h
 
 -- the bytes of a word of a type make it again
 low_one : (v : ℕ) → low_bytes 1 v ≡ v % 256
@@ -224,6 +227,7 @@ loaded_again Int v f = ap (loaded_as (load_op Int)) (low_four v) ∙ again_int v
 loaded_again UInt v f = let n : v < 4294967296 = f.narrow in low_four v ∙ omega arith
 loaded_again Long v f = low_eight v f.below
 loaded_again ULong v f = low_eight v f.below
+loaded_again kind.Bool v f = let n : v < 2 = f.narrow in omega arith
 
 -- a load after a save of the same element
 pub load_saved : (k : Kind) (m : Memory) (a v : ℕ) → is_good_address a (bytes k) ≡ true
@@ -250,6 +254,7 @@ load_saved k m a v g f = go k g ∙ ap Some (loaded_again k v f)
     go UInt g = by_size (load_op UInt) 4 g
     go Long g = by_size (load_op Long) 8 g
     go ULong g = by_size (load_op ULong) 8 g
+    go kind.Bool g = by_size (load_op kind.Bool) 1 g
 
 -- a load of other bytes
 pub load_apart : (k : Kind) (m : Memory) (a s v b : ℕ) → ((b + bytes k ≤ a) ⊎ (a + s ≤ b))

@@ -9,6 +9,7 @@ use Rattle.std.proofs.lemmas.Bool.Decides.{nat_tests}
 use native.Mathlib.Nat.{div-div-eq-div-mul, zero-div, pow-zero}
 use Rattle.c_tree.specs.declared.Kind.{Kind}
 use Rattle.c_tree.specs.declared.Kind.TheVariants.{Char, UChar, Short, UShort, Int, UInt, Long, ULong}
+use Rattle.c_tree.specs.declared.Kind.TheVariants as kind
 use Rattle.c_tree.specs.declared.TypedGlobal.{TypedGlobal}
 use Rattle.c_constant.specs.Kinds.{bytes}
 use Rattle.c_meaning_spec.specs.Eval.{length_of, first_cells}
@@ -142,6 +143,7 @@ zero_fits Int = record { below = omega arith; narrow = omega arith }
 zero_fits UInt = record { below = omega arith; narrow = omega arith }
 zero_fits Long = record { below = omega arith; narrow = omega arith }
 zero_fits ULong = record { below = omega arith; narrow = omega arith }
+zero_fits kind.Bool = record { below = omega arith; narrow = omega arith }
 
 pub record Has (k : Kind) (m : Memory) (a w : ℕ) : Type 0 where
   pub fits : IsWord k w

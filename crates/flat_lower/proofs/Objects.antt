@@ -7,6 +7,7 @@ use Rattle.std.specs.Prelude.{◌&&◌, nat_eq, nat_lt, nat_le, slice_get, slice
 use Rattle.std.proofs.lemmas.Bool.Decides.{nat_tests}
 use Rattle.c_tree.specs.declared.Kind.{Kind}
 use Rattle.c_tree.specs.declared.Kind.TheVariants.{Char, UChar, Short, UShort, Int, UInt, Long, ULong}
+use Rattle.c_tree.specs.declared.Kind.TheVariants as kind
 use Rattle.c_constant.specs.Kinds.{bytes}
 use Rattle.trips_isa.specs.Stores.{is_good_address, data_size}
 use Rattle.ir_forms.specs.inside.Cells.{Mark, Closed, Open, Held, Cell, Memory, number_put, all_open}
@@ -96,6 +97,7 @@ size_is Int = inr (inr (inl refl))
 size_is UInt = inr (inr (inl refl))
 size_is Long = inr (inr (inr refl))
 size_is ULong = inr (inr (inr refl))
+size_is kind.Bool = inl refl
 
 -- what follows of elements holds where it holds for each size
 pub by_size : (P : ℕ → Type 0) (s : ℕ) → SizeIs s → P 1 → P 2 → P 4 → P 8 → P s

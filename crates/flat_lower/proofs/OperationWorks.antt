@@ -5,6 +5,7 @@ use Rattle.std.proofs.Common.{◌∙◌, arith}
 use Rattle.std.specs.Prelude.{nat_eq, nat_lt, nat_le, int_lt, int_le}
 use Rattle.c_tree.specs.declared.Kind.{Kind}
 use Rattle.c_tree.specs.declared.Kind.TheVariants.{Char, UChar, Short, UShort, Int, UInt, Long, ULong}
+use Rattle.c_tree.specs.declared.Kind.TheVariants as kind
 use Rattle.c_tree.specs.declared.BinaryOp.{BinaryOp}
 use Rattle.c_tree.specs.declared.BinaryOp.TheVariants.{LogicalOr, LogicalAnd, BitOr, BitXor, BitAnd}
 use Rattle.c_tree.specs.declared.BinaryOp.TheVariants.{Equal, NotEqual, Less, Greater, LessEqual}
@@ -112,6 +113,7 @@ module _ (fs : List Function) (base : ℕ) (e : Env) where
   works_less UInt f x y a b w hx hy g = works_two op.Tltu Int f x y a b w hx hy refl g
   works_less Long f x y a b w hx hy g = works_two op.Tlt Int f x y a b w hx hy refl g
   works_less ULong f x y a b w hx hy g = works_two op.Tltu Int f x y a b w hx hy refl g
+  works_less kind.Bool f x y a b w hx hy g = works_two op.Tltu Int f x y a b w hx hy refl g
 
   works_greater : (k : Kind) (f : State) (x y a b w : ℕ) → f.vars x ≡ Some a → f.vars y ≡ Some b
       → Gives Int (test (compared k int_lt nat_lt b a)) w
@@ -125,6 +127,7 @@ module _ (fs : List Function) (base : ℕ) (e : Env) where
   works_greater UInt f x y a b w hx hy g = works_two op.Tgtu Int f x y a b w hx hy refl g
   works_greater Long f x y a b w hx hy g = works_two op.Tgt Int f x y a b w hx hy refl g
   works_greater ULong f x y a b w hx hy g = works_two op.Tgtu Int f x y a b w hx hy refl g
+  works_greater kind.Bool f x y a b w hx hy g = works_two op.Tgtu Int f x y a b w hx hy refl g
 
   works_less_equal : (k : Kind) (f : State) (x y a b w : ℕ) → f.vars x ≡ Some a → f.vars y ≡ Some b
       → Gives Int (test (compared k int_le nat_le a b)) w
@@ -138,6 +141,7 @@ module _ (fs : List Function) (base : ℕ) (e : Env) where
   works_less_equal UInt f x y a b w hx hy g = works_two op.Tleu Int f x y a b w hx hy refl g
   works_less_equal Long f x y a b w hx hy g = works_two op.Tle Int f x y a b w hx hy refl g
   works_less_equal ULong f x y a b w hx hy g = works_two op.Tleu Int f x y a b w hx hy refl g
+  works_less_equal kind.Bool f x y a b w hx hy g = works_two op.Tleu Int f x y a b w hx hy refl g
 
   works_greater_equal : (k : Kind) (f : State) (x y a b w : ℕ) → f.vars x ≡ Some a
       → f.vars y ≡ Some b → Gives Int (test (compared k int_le nat_le b a)) w
@@ -151,6 +155,7 @@ module _ (fs : List Function) (base : ℕ) (e : Env) where
   works_greater_equal UInt f x y a b w hx hy g = works_two op.Tgeu Int f x y a b w hx hy refl g
   works_greater_equal Long f x y a b w hx hy g = works_two op.Tge Int f x y a b w hx hy refl g
   works_greater_equal ULong f x y a b w hx hy g = works_two op.Tgeu Int f x y a b w hx hy refl g
+  works_greater_equal kind.Bool f x y a b w hx hy g = works_two op.Tgeu Int f x y a b w hx hy refl g
 
   works_right : (k : Kind) (f : State) (x y a b w : ℕ) → f.vars x ≡ Some a → f.vars y ≡ Some b
       → Gives k (shifted k a b) w → Works (two_done x (by_sign k op.Sra op.Srl) x y) f 3 x 80 w k
@@ -163,6 +168,7 @@ module _ (fs : List Function) (base : ℕ) (e : Env) where
   works_right UInt f x y a b w hx hy g = works_two op.Srl UInt f x y a b w hx hy refl g
   works_right Long f x y a b w hx hy g = works_two op.Sra Long f x y a b w hx hy refl g
   works_right ULong f x y a b w hx hy g = works_two op.Srl ULong f x y a b w hx hy refl g
+  works_right kind.Bool f x y a b w hx hy g = works_two op.Srl kind.Bool f x y a b w hx hy refl g
 
   -- a division by what is not 0 does not fault
   divs_applies : (a b : ℕ) → nat_eq b 0 ≡ false
@@ -194,6 +200,8 @@ module _ (fs : List Function) (base : ℕ) (e : Env) where
       works_two op.Divs Long f x y a b w hx hy (divs_applies a b d.some) d.gives
   works_divide ULong f x y a b w hx hy d =
       works_two op.Divu ULong f x y a b w hx hy (divu_applies a b d.some) d.gives
+  works_divide kind.Bool f x y a b w hx hy d =
+      works_two op.Divu kind.Bool f x y a b w hx hy (divu_applies a b d.some) d.gives
 
   -- a remainder: the quotient, its product with the divisor, and the difference
   remainder_puts : (o : Op) (f : State) (x y a b : ℕ) → x ≢ 80 → y ≢ 80 → f.vars x ≡ Some a
@@ -254,6 +262,8 @@ module _ (fs : List Function) (base : ℕ) (e : Env) where
       works_signed Long f x y a b w nx ny hx hy d.some d.gives
   works_remainder ULong f x y a b w nx ny hx hy d =
       works_unsigned ULong f x y a b w nx ny hx hy d.some d.gives
+  works_remainder kind.Bool f x y a b w nx ny hx hy d =
+      works_unsigned kind.Bool f x y a b w nx ny hx hy d.some d.gives
 
   -- the code of an operation puts the word of C's result, in at most three turns
   pub binary_works : (o : BinaryOp) (k : Kind) (f : State) (x y a b w : ℕ) → IsStrict o

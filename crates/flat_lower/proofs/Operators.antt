@@ -8,6 +8,7 @@ use Rattle.std.proofs.lemmas.Int.{ints}
 use Rattle.std.proofs.lemmas.Bool.Decides.{nat_tests}
 use Rattle.c_tree.specs.declared.Kind.{Kind}
 use Rattle.c_tree.specs.declared.Kind.TheVariants.{Char, UChar, Short, UShort, Int, UInt, Long, ULong}
+use Rattle.c_tree.specs.declared.Kind.TheVariants as kind
 use Rattle.c_tree.specs.declared.BinaryOp.TheVariants.{Equal, NotEqual, Less, Greater, LessEqual}
 use Rattle.c_tree.specs.declared.BinaryOp.TheVariants.{GreaterEqual, Add}
 use Rattle.c_tree.specs.declared.BinaryOp.TheVariants.{Subtract, Multiply}
@@ -59,6 +60,7 @@ module _ (a b w : ℕ) (p : a < 2 ^ 64) (q : b < 2 ^ 64) where
   add_gives ULong t h =
       let e : (a + b) % 18446744073709551616 ≡ w = cc in
       record { is = e; fits = record { below = omega arith; narrow = omega arith } }
+  add_gives kind.Bool t h = absurd t
 
   less : (m : ℕ) → reduced m (pos a -ℤ pos b)
       ≡ cond (nat_lt a b) ((m - 1) - (b - a - 1) % m) ((a - b) % m)
@@ -118,6 +120,7 @@ module _ (a b w : ℕ) (p : a < 2 ^ 64) (q : b < 2 ^ 64) where
       let e : reduced 18446744073709551616 (pos a -ℤ pos b) ≡ w = cc in
       let f = less_ulong in
       record { is = sym f ∙ e; fits = record { below = omega arith; narrow = omega arith } }
+  sub_gives kind.Bool t h = absurd t
 
   -- the word of a product is the machine's product, at the kind
   pub mul_gives : (k : Kind) → IsArithmetic k → operate Multiply k a b ≡ Some w
@@ -143,6 +146,7 @@ module _ (a b w : ℕ) (p : a < 2 ^ 64) (q : b < 2 ^ 64) where
   mul_gives ULong t h =
       let e : (a * b) % 18446744073709551616 ≡ w = cc in
       record { is = e; fits = record { below = omega arith; narrow = omega arith } }
+  mul_gives kind.Bool t h = absurd t
 
 -- TESTS
 
@@ -215,6 +219,7 @@ compared Int f g a b = f (alu.signed a) (alu.signed b)
 compared UInt f g a b = g a b
 compared Long f g a b = f (alu.signed a) (alu.signed b)
 compared ULong f g a b = g a b
+compared kind.Bool f g a b = g a b
 
 module _ (a b w : ℕ) where
   -- the word of `<` is that of the kind's comparison
@@ -229,6 +234,7 @@ module _ (a b w : ℕ) where
   less_gives UInt h = answered (compared UInt int_lt nat_lt a b) w h
   less_gives Long h = answered (compared Long int_lt nat_lt a b) w h
   less_gives ULong h = answered (compared ULong int_lt nat_lt a b) w h
+  less_gives kind.Bool h = answered (compared kind.Bool int_lt nat_lt a b) w h
 
   -- the word of `>` is that of the kind's comparison, sides exchanged
   pub greater_gives : (k : Kind) → operate Greater k a b ≡ Some w
@@ -242,6 +248,7 @@ module _ (a b w : ℕ) where
   greater_gives UInt h = answered (compared UInt int_lt nat_lt b a) w h
   greater_gives Long h = answered (compared Long int_lt nat_lt b a) w h
   greater_gives ULong h = answered (compared ULong int_lt nat_lt b a) w h
+  greater_gives kind.Bool h = answered (compared kind.Bool int_lt nat_lt b a) w h
 
   -- the word of `<=` is that of the kind's comparison
   pub less_equal_gives : (k : Kind) → operate LessEqual k a b ≡ Some w
@@ -255,6 +262,7 @@ module _ (a b w : ℕ) where
   less_equal_gives UInt h = answered (compared UInt int_le nat_le a b) w h
   less_equal_gives Long h = answered (compared Long int_le nat_le a b) w h
   less_equal_gives ULong h = answered (compared ULong int_le nat_le a b) w h
+  less_equal_gives kind.Bool h = answered (compared kind.Bool int_le nat_le a b) w h
 
   -- the word of `>=` is that of the kind's comparison, sides exchanged
   pub greater_equal_gives : (k : Kind) → operate GreaterEqual k a b ≡ Some w
@@ -268,3 +276,4 @@ module _ (a b w : ℕ) where
   greater_equal_gives UInt h = answered (compared UInt int_le nat_le b a) w h
   greater_equal_gives Long h = answered (compared Long int_le nat_le b a) w h
   greater_equal_gives ULong h = answered (compared ULong int_le nat_le b a) w h
+  greater_equal_gives kind.Bool h = answered (compared kind.Bool int_le nat_le b a) w h

@@ -12,6 +12,7 @@ use native.Mathlib.Nat.{div-le_self, mod-lt}
 use lib.Bits.{and_block, or_block, xor_block, and_lt, or_lt, xor_lt}
 use Rattle.c_tree.specs.declared.Kind.{Kind}
 use Rattle.c_tree.specs.declared.Kind.TheVariants.{Char, UChar, Short, UShort, Int, UInt, Long, ULong}
+use Rattle.c_tree.specs.declared.Kind.TheVariants as kind
 use Rattle.c_tree.specs.declared.UnaryOp.{UnaryOp}
 use Rattle.c_tree.specs.declared.UnaryOp.TheVariants.{Plus, Minus, Complement, Not}
 use Rattle.c_tree.specs.declared.BinaryOp.TheVariants.{BitOr, BitXor, BitAnd, ShiftLeft, ShiftRight}
@@ -91,6 +92,7 @@ module _ (f : ℕ → ℕ → ℕ)
   closes Long t a b x y = record { below = below 64 a b x.below y.below; narrow = omega arith }
   closes ULong t a b x y =
       let l = below 64 a b x.below y.below in record { below = l; narrow = l }
+  closes kind.Bool t a b x y = absurd t
 
   bits_give : (k : Kind) → IsArithmetic k → (a b w : ℕ) → IsWord k a → IsWord k b
       → word_of (on_bits f k (number k a) (number k b)) ≡ Some w → Gives k (f a b) w
@@ -193,6 +195,7 @@ module _ (a b w : ℕ) (p : a < 2 ^ 64) (q : b < 2 ^ 64) where
         is = ap (λ c. (a * 2 ^ c) % 2 ^ 64) c ∙ r;
         fits = record { below = omega arith; narrow = omega arith };
       }
+  left_gives kind.Bool t h = absurd t
 
 -- a number of an int's range, by its magnitude
 abbrev InInt : ℤ → Type 0
@@ -256,6 +259,7 @@ shifted Int a b = word (int_shr (alu.signed a) (b % 64))
 shifted UInt a b = a / 2 ^ (b % 64)
 shifted Long a b = word (int_shr (alu.signed a) (b % 64))
 shifted ULong a b = a / 2 ^ (b % 64)
+shifted kind.Bool a b = a / 2 ^ (b % 64)
 
 module _ (a b w : ℕ) (q : b < 2 ^ 64) where
   -- the word of a right shift is the machine's right shift, by sign or without
@@ -292,6 +296,7 @@ module _ (a b w : ℕ) (q : b < 2 ^ 64) where
       let lt = f.below in
       let le = div-le_self a (2 ^ (b % 64)) in
       record { is = e; fits = record { below = omega arith; narrow = omega arith } }
+  right_gives kind.Bool t f h = absurd t
 
 -- ONE NUMBER
 
@@ -324,6 +329,7 @@ module _ (a w : ℕ) where
       let e : reduced 18446744073709551616 (pos 0 -ℤ pos a) ≡ w = cc in
       let g = less_ulong 0 a w (omega arith) f.below in
       record { is = sym g ∙ e; fits = record { below = omega arith; narrow = omega arith } }
+  minus_gives kind.Bool t f h = absurd t
 
   -- all bits of a number turned
   turned : negsuc 0 -ℤ pos a ≡ negsuc a
@@ -360,6 +366,7 @@ module _ (a w : ℕ) where
       let z : word_of (in_kind ULong (negsuc a)) ≡ Some w = ap (λ z. word_of (in_kind ULong z)) (sym turned) ∙ h in
       let e : (18446744073709551616 - 1) - a % 18446744073709551616 ≡ w = cc in
       record { is = omega arith; fits = record { below = omega arith; narrow = omega arith } }
+  complement_gives kind.Bool t f h = absurd t
 
   -- the word of `!` is the machine's test for 0
   pub not_gives : a < 2 ^ 64 → (k : Kind) → operate_one Not k a ≡ Some w
@@ -388,6 +395,7 @@ module _ (a w : ℕ) where
       zero_is Short = signed_zero
       zero_is Int = signed_zero
       zero_is Long = signed_zero
+      zero_is kind.Bool = refl
 
   -- the word of a unary `+` is the word itself
   pub plus_gives : (k : Kind) → IsWord k a → operate_one Plus k a ≡ Some w → Gives k a w

@@ -5,6 +5,7 @@ use Rattle.std.proofs.Common.{Some, None, refl, sym, ap, ap₂, ◌∙◌, subst
 use Rattle.std.specs.Prelude.{slice_get}
 use Rattle.c_tree.specs.declared.Kind.{Kind}
 use Rattle.c_tree.specs.declared.Kind.TheVariants.{Char, UChar, Short, UShort, Int, UInt, Long, ULong}
+use Rattle.c_tree.specs.declared.Kind.TheVariants as kind
 use Rattle.c_tree.specs.declared.Place.{Place}
 use Rattle.c_tree.specs.declared.Place.TheVariants.{Global, Scalar, Array}
 use Rattle.c_tree.specs.declared.Slot.TheVariants as slot
@@ -172,6 +173,7 @@ module _ (P : TypedProgram) (fs : List Function) (base : ℕ) where
   addressed_is UInt w at h = omega arith
   addressed_is Long w at h = omega arith
   addressed_is ULong w at h = omega arith
+  addressed_is kind.Bool w at h = omega arith
 
   same_object : (objects : List Object) (n : ℕ) (k : Kind) (o p : ObjectIs objects n k)
       → o.it ≡ p.it

@@ -7,6 +7,7 @@ use Rattle.std.proofs.lemmas.Nat.{and_mask}
 use Rattle.std.proofs.Math.Nat.{pow-suc, pow-le-pow_right}
 use Rattle.c_tree.specs.declared.Kind.{Kind}
 use Rattle.c_tree.specs.declared.Kind.TheVariants.{Char, UChar, Short, UShort, Int, UInt, Long, ULong}
+use Rattle.c_tree.specs.declared.Kind.TheVariants as kind
 use Rattle.c_tree.specs.declared.BinaryOp.TheVariants.{Divide, Remainder}
 use Rattle.c_constant.specs.Kinds.{is_signed, IsWord}
 use Rattle.c_constant.specs.Operation.{operate}
@@ -84,6 +85,7 @@ shifted_by Long a n w v x t s fa fw h = absurd (cc s)
 shifted_by ULong a n w v x t s fa fw h =
     let d = divide_gives a w v ULong t fa fw.below h in
     record { is = shift_divides a n w x ∙ sym (unsigned_quotient a w v d.some) ∙ d.gives.is; fits = d.gives.fits }
+shifted_by kind.Bool a n w v x t s fa fw h = absurd t
 
 -- Without sign a mask gives the remainder.
 pub masked_by : (k : Kind) (a n w v : ℕ) → ExponentIs n w → IsArithmetic k → is_signed k ≡ false → IsWord k a
@@ -106,6 +108,7 @@ masked_by ULong a n w v x t s fa fw h =
       is = mask_remains a n w x ∙ sym (unsigned_remainder a w v fa.below d.some) ∙ d.gives.is;
       fits = d.gives.fits;
     }
+masked_by kind.Bool a n w v x t s fa fw h = absurd t
 
 -- A power of two with such an exponent is a word.
 pub power_small : (n w : ℕ) → ExponentIs n w → w < 2 ^ 64

@@ -12,6 +12,7 @@ use Rattle.std.proofs.lemmas.Bool.Decides.{nat_tests}
 use native.Mathlib.Nat.{div-le_self, div-add-mod'}
 use Rattle.c_tree.specs.declared.Kind.{Kind}
 use Rattle.c_tree.specs.declared.Kind.TheVariants.{Char, UChar, Short, UShort, Int, UInt, Long, ULong}
+use Rattle.c_tree.specs.declared.Kind.TheVariants as kind
 use Rattle.c_tree.specs.declared.BinaryOp.TheVariants.{Divide, Remainder}
 use Rattle.c_constant.specs.Kinds.{number, word, in_kind}
 use Rattle.c_constant.specs.Operation.{is_zero, quotient, provided}
@@ -62,6 +63,7 @@ not_zero k b h = go (nat_eq b 0) refl
     zero_number UInt = refl
     zero_number Long = refl
     zero_number ULong = refl
+    zero_number kind.Bool = refl
 
     go : (x : Bool) → nat_eq b 0 ≡ x → x ≡ false
     go false e = refl
@@ -83,6 +85,7 @@ divided Int a b = alu.quotient a b
 divided UInt a b = alu.quotient_unsigned a b
 divided Long a b = alu.quotient a b
 divided ULong a b = alu.quotient_unsigned a b
+divided kind.Bool a b = alu.quotient_unsigned a b
 
 module _ (a b w : ℕ) where
   -- The machine's quotient with a sign, by what is not 0.
@@ -164,6 +167,7 @@ module _ (a b w : ℕ) where
           fits = record { below = omega arith; narrow = omega arith };
         };
       }
+  divide_gives kind.Bool t f q h = absurd t
 
 -- REMAINDERS
 
@@ -348,3 +352,4 @@ module _ (a b w : ℕ) where
           fits = record { below = omega arith; narrow = omega arith };
         };
       }
+  remainder_gives kind.Bool t f g h = absurd t

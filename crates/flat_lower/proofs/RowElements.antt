@@ -6,6 +6,7 @@ use Rattle.std.proofs.Common.{sym, ap, ap₂, ◌∙◌, subst, arith}
 use Rattle.std.specs.Prelude.{slice_get, ◌&&◌, nat_lt}
 use Rattle.c_tree.specs.declared.Kind.{Kind}
 use Rattle.c_tree.specs.declared.Kind.TheVariants.{Char, UChar, Short, UShort, Int, UInt, Long, ULong}
+use Rattle.c_tree.specs.declared.Kind.TheVariants as kind
 use Rattle.c_tree.specs.declared.Place.{Place}
 use Rattle.c_tree.specs.declared.Place.TheVariants.{Global, Scalar, Array}
 use Rattle.c_tree.specs.declared.TypedExpr.{TypedExpr}
@@ -103,6 +104,7 @@ below_bytes Int m h = omega arith
 below_bytes UInt m h = omega arith
 below_bytes Long m h = omega arith
 below_bytes ULong m h = omega arith
+below_bytes kind.Bool m h = omega arith
 
 module _ (P : TypedProgram) (most : ℕ) (S : Scene) (y : IsScene P S) where
   -- the code knows the second size

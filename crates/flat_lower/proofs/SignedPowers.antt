@@ -10,6 +10,7 @@ use native.Mathlib.Nat.{mul_comm}
 use lib.Signed.{shr_z}
 use Rattle.c_tree.specs.declared.Kind.{Kind}
 use Rattle.c_tree.specs.declared.Kind.TheVariants.{Char, UChar, Short, UShort, Int, UInt, Long, ULong}
+use Rattle.c_tree.specs.declared.Kind.TheVariants as kind
 use Rattle.c_tree.specs.declared.BinaryOp.TheVariants.{Divide, Remainder}
 use Rattle.c_constant.specs.Kinds.{is_signed, IsWord}
 use Rattle.c_constant.specs.Operation.{operate}
@@ -111,6 +112,7 @@ module _ (n w : ℕ) (x : ExponentIs n w) (few : n < 63) where
         let d = divide_gives a w v Long h fa fw.below e in
         record { is = shift_is a t fa.below d.some b ∙ d.gives.is; fits = d.gives.fits }
     shifted_gives ULong h s fa fw e = absurd (cc s)
+    shifted_gives kind.Bool h s fa fw e = absurd h
 
     -- The word of C's remainder is what the mask leaves of it, less the bias.
     pub masked_gives : (k : Kind) → IsArithmetic k → is_signed k ≡ true → IsWord k a → IsWord k w
@@ -127,6 +129,7 @@ module _ (n w : ℕ) (x : ExponentIs n w) (few : n < 63) where
         let d = remainder_gives a w v Long h fa fw e in
         record { is = mask_is a t fa.below d.some b ∙ d.gives.is; fits = d.gives.fits }
     masked_gives ULong h s fa fw e = absurd (cc s)
+    masked_gives kind.Bool h s fa fw e = absurd h
 
 -- THE BIAS
 
@@ -181,6 +184,7 @@ word_near Int n a h s e f = int_near n a (at_most n 33 e) f (order a (2 ^ 63))
 word_near UInt n a h s e f = absurd (cc s)
 word_near Long n a h s e f = long_near n a (at_most n 1 e) (order a (2 ^ 63))
 word_near ULong n a h s e f = absurd (cc s)
+word_near kind.Bool n a h s e f = absurd h
 
 module _ (n w : ℕ) (x : ExponentIs n w) (some : 0 < n) (few : n < 63) (a : ℕ) (l : a < 2 ^ 64) where
   back : 64 - n ≡ (64 - n) % 64

@@ -3,6 +3,7 @@ use Rattle.std.proofs.Common.{◌≡◌, ℕ, ◌-◌, ◌^◌, List, [], ◌∷
 use Rattle.std.proofs.Common.{refl}
 use Rattle.c_tree.specs.declared.Kind.{Kind}
 use Rattle.c_tree.specs.declared.Kind.TheVariants.{Char, UChar, Short, UShort, Int, UInt, Long, ULong}
+use Rattle.c_tree.specs.declared.Kind.TheVariants as kind
 use Rattle.c_tree.specs.declared.UnaryOp.TheVariants.{Minus, Complement, Not}
 use Rattle.c_tree.specs.declared.BumpOp.TheVariants.{PreInc, PostInc, PostDec}
 use Rattle.c_tree.specs.declared.BinaryOp.{BinaryOp}
@@ -290,6 +291,13 @@ ushort_is_int = refl
 
 pub uint_is_no_int : narrowing_from (Some UInt) Int ≡ Some isa.Extsw
 uint_is_no_int = refl
+
+-- a `_Bool` is an unsigned char, which is none: a test against 0 makes it one
+pub bool_is_uchar : narrowing_from (Some kind.Bool) UChar ≡ None
+bool_is_uchar = refl
+
+pub uchar_is_no_bool : narrowing_from (Some UChar) kind.Bool ≡ Some isa.Tne
+uchar_is_no_bool = refl
 
 -- 8 is 2^3; 6 and 0 are no powers of two
 pub eight : exponent_of 8 ≡ Some 3

@@ -6,6 +6,7 @@ use Rattle.std.specs.Prelude.{nat_eq}
 use Rattle.std.proofs.lemmas.Bool.Decides.{nat_tests}
 use Rattle.c_tree.specs.declared.Kind.{Kind}
 use Rattle.c_tree.specs.declared.Kind.TheVariants.{Char, UChar, Short, UShort, Int, UInt, Long, ULong}
+use Rattle.c_tree.specs.declared.Kind.TheVariants as kind
 use Rattle.trips_isa.specs.declared.op.Op.{Op}
 use Rattle.trips_isa.specs.declared.op.Op.TheVariants as op
 use Rattle.trips_isa.specs.Alu.{alu_of}
@@ -197,6 +198,7 @@ module _ (fs : List Function) (base : ℕ) (e : Env) where
   reduced_puts UInt f x spare a h = one_puts op.Extuw f 1 x x spare a (omega arith) h refl
   reduced_puts Long f x spare a h = puts_none f 1 x spare a h
   reduced_puts ULong f x spare a h = puts_none f 1 x spare a h
+  reduced_puts kind.Bool f x spare a h = puts_none f 1 x spare a h
 
   -- an operation, and the result's reduction
   pub then_reduced : (k : Kind) (a : Code) (f : State) (x spare v w : ℕ) → Puts a f 1 x spare v

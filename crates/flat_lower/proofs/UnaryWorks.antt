@@ -4,6 +4,7 @@ use Rattle.std.proofs.Common.{true, false, cond, List, Some, None, refl, sym, ap
 use Rattle.std.proofs.Common.{◌∙◌, arith}
 use Rattle.c_tree.specs.declared.Kind.{Kind}
 use Rattle.c_tree.specs.declared.Kind.TheVariants.{Char, UChar, Short, UShort, Int, UInt, Long, ULong}
+use Rattle.c_tree.specs.declared.Kind.TheVariants as kind
 use Rattle.c_tree.specs.declared.UnaryOp.{UnaryOp}
 use Rattle.c_tree.specs.declared.UnaryOp.TheVariants.{Plus, Minus, Complement, Not}
 use Rattle.c_constant.specs.Kinds.{converted}
@@ -28,7 +29,7 @@ use Rattle.c_constant.proofs.Conversions.{converted_word, converted_long}
 use Rattle.c_constant.proofs.Conversions.{converted_ulong}
 use Rattle.flat_lower.proofs.Patterns.{minus_gives, complement_gives, not_gives}
 use Rattle.flat_lower.proofs.Patterns.{plus_gives}
-use Rattle.flat_lower.proofs.Narrowings.{within_is}
+use Rattle.flat_lower.proofs.Narrowings.{within_is, bool_test}
 use Rattle.flat_lower.proofs.Straight.{then_reduced}
 use Rattle.flat_lower.proofs.Straight
 use Rattle.flat_lower.proofs.OperationWorks
@@ -123,6 +124,8 @@ module _ (fs : List Function) (base : ℕ) (e : Env) where
       here UInt = one_puts op.Extuw f 1 x x 80 a (omega arith) hx refl
       here Long = puts_none f 1 x 80 (converted Long a) (hx ∙ ap Some (sym (converted_long a p)))
       here ULong = puts_none f 1 x 80 (converted ULong a) (hx ∙ ap Some (sym (converted_ulong a p)))
+      here kind.Bool = puts_as (one_done x op.Tne x) f 1 x 80 (alu_of op.Tne a 0) (converted kind.Bool a) (bool_test a)
+          (one_puts op.Tne f 1 x x 80 a (omega arith) hx refl)
 
       known : (b : Bool) → is_within j k ≡ b
           → Puts (narrowed_here (cond b None (narrowing k)) x) f 1 x 80 (converted k a)
@@ -149,6 +152,8 @@ module _ (fs : List Function) (base : ℕ) (e : Env) where
           (sym (converted_long a p)) (one_puts op.Mov f 1 to x 80 a (omega arith) hx refl)
       there ULong = puts_as (copied to x) f 1 to 80 a (converted ULong a)
           (sym (converted_ulong a p)) (one_puts op.Mov f 1 to x 80 a (omega arith) hx refl)
+      there kind.Bool = puts_as (one_done to op.Tne x) f 1 to 80 (alu_of op.Tne a 0) (converted kind.Bool a)
+          (bool_test a) (one_puts op.Tne f 1 to x 80 a (omega arith) hx refl)
 
       known : (b : Bool) → is_within j k ≡ b
           → Puts (narrowed_by (cond b None (narrowing k)) to x) f 1 to 80 (converted k a)

@@ -46,7 +46,7 @@ pub fn put_two(code: &mut Items<FlatStmt>, to: u16, op: Op, x: u16, y: u16) -> R
     put_let(code, to, op, Arg::Var(x), Arg::Var(y))
 }
 
-// What makes a word of a type of any word; none where each word is one.
+// What makes a word of a type of any word, with 0 behind it; none where each word is one.
 fn narrowing(kind: Kind) -> Option<Op>
     ensures { result ≡ narrowings.narrowing kind }
 {
@@ -59,6 +59,7 @@ fn narrowing(kind: Kind) -> Option<Op>
         Kind::UInt => Some(Op::Extuw),
         Kind::Long => None,
         Kind::ULong => None,
+        Kind::Bool => Some(Op::Tne),
     }
 }
 
@@ -156,6 +157,7 @@ fn put_reduced(code: &mut Items<FlatStmt>, kind: Kind, x: u16) -> Result<(), Mem
         Kind::Int => Ok(()),
         Kind::Long => Ok(()),
         Kind::ULong => Ok(()),
+        Kind::Bool => Ok(()),
     }
 }
 
@@ -172,6 +174,7 @@ fn by_sign(kind: Kind, signed: Op, unsigned: Op) -> Op
         Kind::UInt => unsigned,
         Kind::Long => signed,
         Kind::ULong => unsigned,
+        Kind::Bool => unsigned,
     }
 }
 
@@ -290,6 +293,7 @@ fn bump_narrowing(kind: Kind) -> Option<Op>
         Kind::UInt => narrowing(kind),
         Kind::Long => narrowing(kind),
         Kind::ULong => narrowing(kind),
+        Kind::Bool => narrowing(kind),
     }
 }
 
@@ -333,6 +337,7 @@ pub fn load_op(kind: Kind) -> Op
         Kind::UInt => Op::Lw,
         Kind::Long => Op::Ld,
         Kind::ULong => Op::Ld,
+        Kind::Bool => Op::Lb,
     }
 }
 
@@ -349,6 +354,7 @@ pub fn save_op(kind: Kind) -> Op
         Kind::UInt => Op::Sw,
         Kind::Long => Op::Sd,
         Kind::ULong => Op::Sd,
+        Kind::Bool => Op::Sb,
     }
 }
 
@@ -365,5 +371,6 @@ pub fn shift_of(kind: Kind) -> u64
         Kind::UInt => 2,
         Kind::Long => 3,
         Kind::ULong => 3,
+        Kind::Bool => 0,
     }
 }

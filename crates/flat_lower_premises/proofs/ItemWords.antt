@@ -3,6 +3,7 @@
 use Rattle.std.proofs.Common.{ℕ, zero, suc, ◌-◌, replicate, length, List, [], ◌∷◌, ◌++◌, arith}
 use Rattle.c_tree.specs.declared.token.Kind.{Kind}
 use Rattle.c_tree.specs.declared.token.Kind.TheVariants.{Char, UChar, Short, UShort, Int, UInt, Long, ULong}
+use Rattle.c_tree.specs.declared.token.Kind.TheVariants as kind
 use Rattle.c_tree.specs.declared.tree.ArraySize.{ArraySize}
 use Rattle.c_tree.specs.declared.tree.Expr.{Expr}
 use Rattle.c_tree.specs.declared.tree.Program.{Program}
@@ -40,6 +41,7 @@ zero_word Int = record { below = omega arith; narrow = omega arith }
 zero_word UInt = record { below = omega arith; narrow = omega arith }
 zero_word Long = record { below = omega arith; narrow = omega arith }
 zero_word ULong = record { below = omega arith; narrow = omega arith }
+zero_word kind.Bool = record { below = omega arith; narrow = omega arith }
 
 zeros_have : (k : Kind) (n : ℕ) → AreWordsOf k (replicate n 0)
 zeros_have k zero = tt

@@ -5,6 +5,7 @@ use Rattle.std.specs.Prelude.{nat_lt, nat_eq, not, ◌&&◌, ◌||◌}
 use Rattle.std.proofs.lemmas.Bool.Decides.{nat_tests}
 use Rattle.c_tree.specs.declared.Kind.{Kind}
 use Rattle.c_tree.specs.declared.Kind.TheVariants.{Char, UChar, Short, UShort, Int, UInt, Long, ULong}
+use Rattle.c_tree.specs.declared.Kind.TheVariants as kind
 use Rattle.c_tree.specs.declared.Key.{Key}
 use Rattle.c_lex.specs.declared.piece.Reading.{Reading}
 use Rattle.c_lex.specs.declared.piece.Reading.TheVariants as reads
@@ -36,6 +37,7 @@ holds Int v h = record { below = omega arith; narrow = omega arith }
 holds UInt v h = record { below = omega arith; narrow = omega arith }
 holds Long v h = record { below = omega arith; narrow = omega arith }
 holds ULong v h = record { below = omega arith; narrow = omega arith }
+holds kind.Bool v h = record { below = omega arith; narrow = omega arith }
 
 -- a test of numbers that holds
 below : (v n : ℕ) → nat_lt v n ≡ true → v < n

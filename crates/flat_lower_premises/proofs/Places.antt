@@ -5,6 +5,7 @@ use Rattle.std.proofs.Common.{Some, None, refl, arith}
 use Rattle.std.specs.Prelude.{slice_get}
 use Rattle.c_tree.specs.declared.Kind.{Kind}
 use Rattle.c_tree.specs.declared.Kind.TheVariants.{Char, UChar, Short, UShort, Int, UInt, Long, ULong}
+use Rattle.c_tree.specs.declared.Kind.TheVariants as kind
 use Rattle.c_tree.specs.declared.BumpOp.{BumpOp}
 use Rattle.c_tree.specs.declared.BinaryOp.{BinaryOp}
 use Rattle.c_tree.specs.declared.Place.{Place}
@@ -58,6 +59,7 @@ shift_low Int = omega arith
 shift_low UInt = omega arith
 shift_low Long = omega arith
 shift_low ULong = omega arith
+shift_low kind.Bool = omega arith
 
 module _ {fs : List Function} {n bytes : ℕ} {i : Bool} (c : Context) (low : HasPlaces c bytes) where
   -- ADDRESSES

@@ -5,12 +5,14 @@ use Rattle.std.specs.Prelude.{nat_lt}
 use Rattle.std.proofs.lemmas.Bool.Decides.{nat_tests}
 use Rattle.c_tree.specs.declared.Kind.{Kind}
 use Rattle.c_tree.specs.declared.Kind.TheVariants.{Char, UChar, Short, UShort, Int, UInt, Long, ULong}
+use Rattle.c_tree.specs.declared.Kind.TheVariants as kind
 use Rattle.c_tree.specs.declared.Form.TheVariants as form
 use Rattle.c_pre.proofs.Kept.{Allows, is_wide}
 use Rattle.c_lex.specs.Bytes.{Bytes}
 use Rattle.c_lex.proofs.Basics.{and_left, and_right}
+use Rattle.c_lex.specs.declared.directive.Header.{Header}
 use Rattle.c_lex.specs.declared.directive.Header.TheVariants as header
-use Rattle.c_pre.specs.Headers.{Row, limits, stdbool, stdlib, stdint}
+use Rattle.c_pre.specs.Headers.{Row, limits, stdbool, stdlib, stdint, names_of}
 use Rattle.c_pre.specs.Texts.{Tokens, Lexed}
 use Rattle.c_pre.proofs.Kept.{EachToken}
 use Rattle.c_pre.proofs.KeptLines.{EachRow, HeadersHave}
@@ -46,6 +48,7 @@ fits_is Char v e = absurd (cc)
 fits_is UChar v e = absurd (cc)
 fits_is Short v e = absurd (cc)
 fits_is UShort v e = absurd (cc)
+fits_is kind.Bool v e = absurd (cc)
 
 -- is the value of each row?
 abbrev rows_fit : List Row → Bool
@@ -67,15 +70,18 @@ stdint_fits : rows_fit stdint ≡ true
 unfolding stdint
 stdint_fits = refl
 
+header_rows : (h : Header) → EachRow FormHasWord (names_of h)
+header_rows header.Stdio = tt
+header_rows header.Ctype = tt
+header_rows header.Limits = rows_have limits limits_fit
+header_rows header.Stdbool = rows_have stdbool refl
+header_rows header.Stdlib = rows_have stdlib refl
+header_rows header.Stdint = rows_have stdint stdint_fits
+header_rows header.Stddef = tt
+header_rows header.String = tt
+
 headers_have : HeadersHave FormHasWord
-headers_have header.Stdio = tt
-headers_have header.Ctype = tt
-headers_have header.Limits = rows_have limits limits_fit
-headers_have header.Stdbool = rows_have stdbool refl
-headers_have header.Stdlib = rows_have stdlib refl
-headers_have header.Stdint = rows_have stdint stdint_fits
-headers_have header.Stddef = tt
-headers_have header.String = tt
+headers_have h = record { rows = header_rows h; word = tt }
 
 -- a number below 2^31 is a word of int and of the wider types
 small_has : (n : ℕ) (k : Kind) → n < 2 ^ 31 → is_wide k ≡ true → FormHasWord (form.Number n k)
@@ -87,6 +93,7 @@ small_has n Char h w = absurd (cc)
 small_has n UChar h w = absurd (cc)
 small_has n Short h w = absurd (cc)
 small_has n UShort h w = absurd (cc)
+small_has n kind.Bool h w = absurd (cc)
 
 -- what the library adds has words
 library_has : Allows FormHasWord

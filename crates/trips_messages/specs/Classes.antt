@@ -16,6 +16,7 @@ Tokens = List Lexeme
 
 -- the class of a keyword
 abbrev pub key_class : Key → Class
+key_class key.Bool = class.Type
 key_class key.Char = class.Type
 key_class key.Int = class.Type
 key_class key.Long = class.Type

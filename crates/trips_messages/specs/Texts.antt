@@ -46,7 +46,7 @@ sentence says.Qualifier =
 sentence says.Floating =
     codes "is a floating type, which is left out: use int or long, as for hundredths"
 sentence says.Boolean =
-    codes "is left out: use int, with 0 and 1"
+    codes "does not stand here: write it without another word of a type"
 sentence says.Jump =
     codes "is left out: use loops, break, continue and return"
 sentence says.Size =

@@ -39,7 +39,7 @@ fn key_class(key: Key) -> Class
 {
     match key {
         Key::Char | Key::Int | Key::Long | Key::Short => Class::Type,
-        Key::Signed | Key::Unsigned | Key::Void => Class::Type,
+        Key::Signed | Key::Unsigned | Key::Void | Key::Bool => Class::Type,
         Key::If | Key::While | Key::For | Key::Do | Key::Switch => Class::Starts,
         Key::Case | Key::Default => Class::Asks,
         Key::Break | Key::Continue => Class::Leaves,

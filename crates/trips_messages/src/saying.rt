@@ -117,7 +117,7 @@ pub fn sentence(saying: Saying) -> &'static str
             "does not stand here: write it beside the words of a type, or the type without it",
         Saying::Floating =>
             "is a floating type, which is left out: use int or long, as for hundredths",
-        Saying::Boolean => "is left out: use int, with 0 and 1",
+        Saying::Boolean => "does not stand here: write it without another word of a type",
         Saying::Jump => "is left out: use loops, break, continue and return",
         Saying::Size =>
             "is left out but for types, objects and elements: write the number of bytes or of elements",

@@ -167,8 +167,8 @@ pub const ROWS: &[Row] = &[
         "a.c:1:18: parse Syntax: 'float' is a floating type, which is left out: use int or long, as for hundredths",
     ),
     (
-        "_Bool b;\n",
-        "a.c:1:1: parse Syntax: '_Bool' is left out: use int, with 0 and 1",
+        "int _Bool b;\n",
+        "a.c:1:5: parse Syntax: '_Bool' does not stand here: write it without another word of a type",
     ),
     (
         "int main(void) { goto done; return 0; }\n",

@@ -14,7 +14,7 @@ abbrev pub is_type : Form → Bool
 is_type f =
     is_key key.Char f
     || (is_key key.Int f || (is_key key.Short f || (is_key key.Long f
-    || (is_key key.Signed f || is_key key.Unsigned f))))
+    || (is_key key.Signed f || (is_key key.Unsigned f || is_key key.Bool f)))))
 
 -- does a type begin here?
 abbrev pub begins_type : Tokens → Bool
@@ -67,4 +67,5 @@ type_of ts =
     else if is_word key.Short ts then begun_of key.Short kind.Short ts
     else if is_word key.Long ts then begun_of key.Long kind.Long ts
     else if is_word key.Signed ts then signed_of ts
+    else if is_word key.Bool ts then plain_of key.Bool kind.Bool ts
     else unsigned_of ts

@@ -2,11 +2,12 @@
 use Rattle.std.specs.Prelude.{Bool, cond, ◌&&◌, nat_lt, nat_le, Option, Some, None}
 use Rattle.c_tree.specs.declared.Kind.{Kind}
 use Rattle.c_tree.specs.declared.Kind.TheVariants.{Char, UChar, Short, UShort, Int, UInt, Long, ULong}
+use Rattle.c_tree.specs.declared.Kind.TheVariants as kind
 use Rattle.c_constant.specs.Kinds.{width, is_signed}
 use Rattle.trips_isa.specs.declared.op.Op.{Op}
 use Rattle.trips_isa.specs.declared.op.Op.TheVariants as op
 
--- what makes a word of a type of any word; none where each word is one
+-- what makes a word of a type of any word, with 0 behind it; none where each word is one
 abbrev pub narrowing : Kind → Option Op
 narrowing Char = Some op.Extsb
 narrowing UChar = Some op.Extub
@@ -16,6 +17,7 @@ narrowing Int = Some op.Extsw
 narrowing UInt = Some op.Extuw
 narrowing Long = None
 narrowing ULong = None
+narrowing kind.Bool = Some op.Tne
 
 -- whether each word of a type is one of another: a type with a sign holds the numbers of an unsigned one of
 -- fewer bits, and no unsigned type holds negative numbers

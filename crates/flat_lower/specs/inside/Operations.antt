@@ -2,6 +2,7 @@
 use Rattle.std.specs.Prelude.{ℕ, ◌+◌, Bool, true, false, cond, Option, Some, None}
 use Rattle.c_tree.specs.declared.Kind.{Kind}
 use Rattle.c_tree.specs.declared.Kind.TheVariants.{Char, UChar, Short, UShort, Int, UInt, Long, ULong}
+use Rattle.c_tree.specs.declared.Kind.TheVariants as kind
 use Rattle.c_tree.specs.declared.UnaryOp.{UnaryOp}
 use Rattle.c_tree.specs.declared.UnaryOp.TheVariants.{Plus, Minus, Complement, Not}
 use Rattle.c_tree.specs.declared.BumpOp.{BumpOp}
@@ -149,6 +150,7 @@ load_op Int = op.Lws
 load_op UInt = op.Lw
 load_op Long = op.Ld
 load_op ULong = op.Ld
+load_op kind.Bool = op.Lb
 
 -- the save of a type
 abbrev pub save_op : Kind → Op
@@ -160,6 +162,7 @@ save_op Int = op.Sw
 save_op UInt = op.Sw
 save_op Long = op.Sd
 save_op ULong = op.Sd
+save_op kind.Bool = op.Sb
 
 -- elements have 2 to this many bytes
 abbrev pub shift_of : Kind → ℕ
@@ -171,3 +174,4 @@ shift_of Int = 2
 shift_of UInt = 2
 shift_of Long = 3
 shift_of ULong = 3
+shift_of kind.Bool = 0
