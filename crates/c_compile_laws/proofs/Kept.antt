@@ -2,7 +2,7 @@
 use Rattle.std.proofs.Common.{◌≡◌, ℕ, ◌+◌, Bool, List, [], ◌∷◌, refl, ap₂, arith}
 use Rattle.std.specs.Prelude.{cond, ◌&&◌}
 use Rattle.ir_forms.specs.inside.FlatCode.{Step, Let, Frame, Load, Save, Call, Put, Get, If, Loop, Break}
-use Rattle.ir_forms.specs.inside.FlatCode.{Continue, Return, Code, Nop, ◌▹◌, Function}
+use Rattle.ir_forms.specs.inside.FlatCode.{Continue, Return, Halt, Code, Nop, ◌▹◌, Function}
 use Rattle.ir_forms.specs.inside.FlatFits.{is_small_leg, is_empty, small_if, small_ifs_in, small_ifs}
 use Rattle.ir_forms.specs.inside.FlatFits.{small_ifs_of_all}
 use Rattle.reg_assign.specs.inside.Live.{VarSet}
@@ -25,6 +25,7 @@ module _ (keep : ℕ → VarSet) where
   small_same k (Break ▹ rest) = refl
   small_same k (Continue ▹ rest) = refl
   small_same k (Return x ▹ rest) = refl
+  small_same k (Halt x ▹ rest) = refl
 
   empty_same : (k : ℕ) (a : Code) → is_empty (keeping keep k a) ≡ is_empty a
   empty_same k Nop = refl
@@ -58,6 +59,7 @@ module _ (keep : ℕ → VarSet) where
     step_same k Break = refl
     step_same k Continue = refl
     step_same k (Return x) = refl
+    step_same k (Halt x) = refl
 
     code_same : (k : ℕ) (a : Code) → small_ifs (keeping keep k a) ≡ small_ifs a
     code_same k Nop = refl

@@ -28,7 +28,7 @@ use Rattle.ir_forms.specs.inside.FlatCode.{Code, Then, only, Function, Program}
 use Rattle.ir_forms.specs.inside.FlatCode as flat
 use Rattle.ir_forms.specs.inside.Frames.{frame_limit, frame_of, arrays_at}
 use Rattle.ir_forms.specs.inside.FlatSteps.{State, Env, Res, Gave, TooDeep, Unfinished, settle}
-use Rattle.ir_forms.specs.inside.FlatRuns.{checked, closed, begun, env_of, flat_run}
+use Rattle.ir_forms.specs.inside.FlatRuns.{checked, closed, begun, env_of, flat_run, concluded}
 use Rattle.ir_forms.proofs.Leads.{Run, Leads, Stops, waits_stop}
 use Rattle.ir_forms.proofs.Steps.{first_leads, first_stops, both_lead}
 use Rattle.ir_forms.proofs.Statements.{return_leads}
@@ -257,13 +257,14 @@ module _ (P : TypedProgram) (most : ℕ) (sound : FitsSource (source_of P)) (lar
   abbrev by_turns : ℕ → Res
   by_turns = flat_run checked (lowered_program P) input
 
-  turns_are : (m : ℕ) → by_turns m ≡ main_run m (suc m) m
+  turns_are : (m : ℕ) → by_turns m ≡ concluded (main_run m (suc m) m)
   unfolding flat_run lowered
   turns_are m = refl
 
-  turns_lead : (t : ℕ) (g : ℕ → Res) → Leads main_run t g → (k : ℕ) → by_turns (t + k) ≡ g k
-  turns_lead t g l k = turns_are (t + k) ∙ l.by k (t + k) (t + k) (suc (t + k)) refl (omega arith)
-      (omega arith)
+  turns_lead : (t : ℕ) (g : ℕ → Res) → Leads main_run t g → (k : ℕ)
+      → by_turns (t + k) ≡ concluded (g k)
+  turns_lead t g l k = turns_are (t + k)
+      ∙ ap concluded (l.by k (t + k) (t + k) (suc (t + k)) refl (omega arith) (omega arith))
 
   keeps : (n : ℕ) (r : Result) → Ends most n main_run r → Keeps most by_turns n (outcome n r)
   keeps n (Go Nothing s) h = tt
@@ -286,7 +287,7 @@ module _ (P : TypedProgram) (most : ℕ) (sound : FitsSource (source_of P)) (lar
     rounds = h.r;
     few = h.upper;
     many = h.lower;
-    is = turns_are h.t ∙ h.stops.by h.t (suc h.t) (omega arith) (omega arith);
+    is = turns_are h.t ∙ ap concluded (h.stops.by h.t (suc h.t) (omega arith) (omega arith));
   }
   keeps n (Over Undefined s) h = tt
   keeps n (Over Deep s) h = record {

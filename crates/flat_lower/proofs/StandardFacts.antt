@@ -18,7 +18,8 @@ use Rattle.c_tree.specs.declared.TypedArray.{TypedArray}
 use Rattle.c_tree.specs.declared.TypedGlobal.{TypedGlobal}
 use Rattle.ir_forms.specs.inside.Frames.{frame_limit}
 use Rattle.ir_forms.specs.inside.Cells.{apply, load, save, marked}
-use Rattle.ir_forms.specs.inside.FlatSteps.{Res, Gone, Broke, Again, Gave, TooDeep, Unfinished, Wild}
+use Rattle.ir_forms.specs.inside.FlatSteps.{Res, Gone, Broke, Again, Gave, Halts, NoRoom, Exited}
+use Rattle.ir_forms.specs.inside.FlatSteps.{Unfinished, Wild}
 use Rattle.ir_forms.specs.inside.FlatRuns.{first_memory, flat_run, checked}
 use Rattle.flat_lower.specs.inside.Tree.{Expr, Number, Name, Element, Call, Unary, Cast, Convert, Bump}
 use Rattle.flat_lower.specs.inside.Tree.{Binary, Choice, Assign, Comma, Exprs, NoExprs, WithExpr, Stmt}
@@ -105,7 +106,8 @@ seen (Gone s m) = 1 ∷ []
 seen (Broke s m) = 2 ∷ []
 seen (Again s m) = 3 ∷ []
 seen (Gave v s m) = 4 ∷ value v ∷ s.output
-seen (TooDeep out) = 5 ∷ out
+seen (Halts (NoRoom out)) = 5 ∷ out
+seen (Halts (Exited w s m)) = 8 ∷ []
 seen (Unfinished out r) = 6 ∷ out
 seen Wild = 7 ∷ []
 

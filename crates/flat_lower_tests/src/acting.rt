@@ -145,6 +145,12 @@ impl<'a> Machine<'a> {
         Ok(())
     }
 
+    /// Ends the run, whatever calls are active.
+    fn halt(&self, value: Arg) -> Result<(), Stop> {
+        let word = self.read(value)?;
+        Err(Stop::Done(Some(word)))
+    }
+
     fn give_back(&mut self, value: Option<Arg>) -> Result<(), Stop> {
         match value {
             None => self.leave(Flow::Gave(None)),
@@ -173,6 +179,7 @@ impl<'a> Machine<'a> {
             FlatStmt::Break => self.leave(Flow::Broke),
             FlatStmt::Continue => self.leave(Flow::Again),
             FlatStmt::Return(value) => self.give_back(*value),
+            FlatStmt::Halt(value) => self.halt(*value),
         }
     }
 }

@@ -17,6 +17,7 @@ enum Plain {
     Break,
     Continue,
     Return,
+    Halt,
 }
 
 fn statement(alloc: Global, plain: Plain) -> FlatStmt {
@@ -36,6 +37,7 @@ fn statement(alloc: Global, plain: Plain) -> FlatStmt {
         Plain::Break => FlatStmt::Break,
         Plain::Continue => FlatStmt::Continue,
         Plain::Return => FlatStmt::Return(Some(Arg::Var(0))),
+        Plain::Halt => FlatStmt::Halt(Arg::Var(0)),
     }
 }
 
@@ -81,6 +83,16 @@ const ROWS: &[(&str, &[Plain], Stop)] = &[
         Stop::Done(Some(3)),
     ),
     ("a variable that is not set", &[Plain::Return], Stop::Wild),
+    (
+        "an end of the run, behind which nothing is done",
+        &[SET, Plain::Halt, Plain::Break],
+        Stop::Done(Some(3)),
+    ),
+    (
+        "an end that gives what is not set",
+        &[Plain::Halt],
+        Stop::Wild,
+    ),
     (
         "a global",
         &[Plain::Load(Op::Ld, Arg::Const(0)), Plain::Return],

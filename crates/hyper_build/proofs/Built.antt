@@ -7,7 +7,7 @@ use Rattle.std.proofs.lemmas.List.Elements.{All-head, All-tail}
 use Rattle.ir_forms.specs.declared.flat.Arg.{Arg}
 use Rattle.ir_forms.specs.declared.flat.Arg.TheVariants.{Const, Var}
 use Rattle.ir_forms.specs.inside.FlatCode.{Step, Code, Nop, ◌▹◌, Let, Frame, Load, Save, Call, Put, Get, If}
-use Rattle.ir_forms.specs.inside.FlatCode.{Loop, Break, Continue, Return, Function, Program}
+use Rattle.ir_forms.specs.inside.FlatCode.{Loop, Break, Continue, Return, Halt, Function, Program}
 use Rattle.ir_forms.specs.inside.FlatFits.{FitsArg, FitsLastings, FitsReturn, FitsStep, FitsCode}
 use Rattle.ir_forms.specs.inside.FlatFits.{FitsFunction, FitsProgram, steps_in, steps_of}
 use Rattle.ir_forms.specs.inside.FlatRuns.{flat_run}
@@ -94,6 +94,7 @@ module _ (W : World) (fs : List Function) (p : Plan) (few : (k : ℕ) → length
     stmt_fits i k inside on Break t own = t
     stmt_fits i k inside on Continue t own = t
     stmt_fits i k inside on (Return a) t own = (t, word_return g.scalars a t)
+    stmt_fits i k inside on (Halt a) t own = (t, word_arg g.scalars a t)
 
     pub tree_fits : (i k : ℕ) (inside : Bool) (c : Code) → FitsCode fs g.scalars g.arrays inside c
         → KeepsOwn g.scalars (keeping (λ k. is_saved (p.groups k)) k c)
@@ -286,6 +287,7 @@ module _ (fs : List Function)
     cut_stmt i k inside on Break t = tt
     cut_stmt i k inside on Continue t = tt
     cut_stmt i k inside on (Return v) t = tt
+    cut_stmt i k inside on (Halt v) t = tt
 
     cut_tree : (i k : ℕ) (inside : Bool) (c : Code) → FitsCode fs n bytes inside c
         → IsCutTree (annotated p i k c)

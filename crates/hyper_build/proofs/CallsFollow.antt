@@ -3,13 +3,13 @@ use Rattle.std.proofs.Common.{◌≡◌, ℕ, zero, suc, ◌+◌, false, List, m
 use Rattle.std.proofs.Common.{nat_lt, slice_get}
 use Rattle.std.proofs.lemmas.Option.{slice_get-map}
 use Rattle.ir_forms.specs.inside.Frames.{frame_limit}
-use Rattle.ir_forms.specs.inside.FlatSteps.{State, Res, Gone, Broke, Again, Gave, TooDeep, Unfinished, Wild, Calls}
+use Rattle.ir_forms.specs.inside.FlatSteps.{State, Res, Gone, Broke, Again, Gave, Halts, Unfinished, Wild, Calls}
 use Rattle.ir_forms.specs.inside.FlatSteps.{act, exec, then_run}
 use Rattle.ir_forms.specs.inside.FlatRuns.{calls_within, enter_if}
 use Rattle.ir_forms.specs.inside.HyperCode.{Block}
 use Rattle.ir_forms.specs.inside.HyperRuns.{Machine, block_at}
 use Rattle.hyper_build.specs.inside.Tree.{Stmt, LetAt, FrameAt, LoadAt, SaveAt, CallAt, PutAt, GetAt, IfAt, LoopAt}
-use Rattle.hyper_build.specs.inside.Tree.{BreakAt, ContinueAt, ReturnAt, Tree, End, ◌▸◌, Routine, function_of}
+use Rattle.hyper_build.specs.inside.Tree.{BreakAt, ContinueAt, ReturnAt, HaltAt, Tree, End, ◌▸◌, Routine, function_of}
 use Rattle.hyper_build.specs.inside.Tree.{plain_in, plain}
 use Rattle.hyper_build.specs.inside.Straight.{Place, is_item}
 use Rattle.hyper_build.specs.inside.Legs.{is_test, is_loop_test}
@@ -36,7 +36,7 @@ use Rattle.hyper_build.proofs.Forks.{fork_does}
 use Rattle.ir_forms.specs.declared.flat.Arg.{Arg}
 use Rattle.std.proofs.Common.{Bool, true, false, cond}
 use Rattle.hyper_build.proofs.Simple.{let_does, frame_does, load_does, save_does, put_does, get_does}
-use Rattle.hyper_build.proofs.Simple.{break_does, continue_does, return_does}
+use Rattle.hyper_build.proofs.Simple.{break_does, continue_does, return_does, halt_does}
 
 module _ (W : World) (built : IsBuilt W) (call : Calls) (follows : CallsFollow W call) (start : ℕ) (g : Routine)
     (fr : IsFrame W start g) (words : AluGivesWords) where
@@ -51,7 +51,7 @@ module _ (W : World) (built : IsBuilt W) (call : Calls) (follows : CallsFollow W
   then_follows p b k1 k s m n (Broke s1 n1) next f does = f
   then_follows p b k1 k s m n (Again s1 n1) next f does = f
   then_follows p b k1 k s m n (Gave w s1 n1) next f does = f
-  then_follows p b k1 k s m n (TooDeep out) next f does = f
+  then_follows p b k1 k s m n (Halts how) next f does = f
   then_follows p b k1 k s m n (Unfinished out r) next f does = f
   then_follows p b k1 k s m n Wild next f does = tt
 
@@ -104,6 +104,7 @@ module _ (W : World) (built : IsBuilt W) (call : Calls) (follows : CallsFollow W
     stmt_does (BreakAt c) = break_does W built words call start g fr c
     stmt_does (ContinueAt c) = continue_does W built words call start g fr c
     stmt_does (ReturnAt c a) = return_does W built words call start g fr c a
+    stmt_does (HaltAt c a) = halt_does W built words call start g fr c a
 
     pub tree_does : (c : Tree) → TreeDoes W call start g c
     tree_does End inside p fits is l k has = end_does k p

@@ -3,12 +3,12 @@ use Rattle.std.proofs.Common.{◌≡◌, ℕ, zero, suc, ◌+◌, ◌≤◌, Boo
 use Rattle.std.proofs.Common.{length, Some, refl, arith, slice_get, length-append}
 use Rattle.ir_forms.specs.declared.flat.Arg.{Arg}
 use Rattle.ir_forms.specs.inside.FlatCode.{Step, Code, Nop, ◌▹◌, Let, Frame, Load, Save, Call, Put, Get, If}
-use Rattle.ir_forms.specs.inside.FlatCode.{Loop, Break, Continue, Return, Function}
+use Rattle.ir_forms.specs.inside.FlatCode.{Loop, Break, Continue, Return, Halt, Function}
 use Rattle.ir_forms.specs.inside.FlatFits.{FitsStep, FitsCode, FitsFunction, steps_in, steps_of}
 use Rattle.ir_forms.specs.inside.FlatFits.{code_blocks_in, code_blocks, code_blocks_of_all}
 use Rattle.reg_assign.specs.inside.Keeps.{calls_in, calls}
 use Rattle.hyper_build.specs.inside.Tree.{Plan, Routine, Tree, End, ◌▸◌, LetAt, FrameAt, LoadAt, SaveAt}
-use Rattle.hyper_build.specs.inside.Tree.{CallAt, PutAt, GetAt, IfAt, LoopAt, BreakAt, ContinueAt, ReturnAt}
+use Rattle.hyper_build.specs.inside.Tree.{CallAt, PutAt, GetAt, IfAt, LoopAt, BreakAt, ContinueAt, ReturnAt, HaltAt}
 use Rattle.hyper_build.specs.inside.Tree.{goes_on, annotated_in, annotated, annotated_all}
 use Rattle.hyper_build.specs.inside.Parts.{cut_size, moved_size}
 use Rattle.hyper_build.specs.inside.Passing.{argument_moves, argument_cuts, parameter_moves, parameter_cuts}
@@ -76,6 +76,7 @@ leg_most (GetAt c to ▸ rest) n = omega arith
 leg_most (IfAt c joined t one other ▸ rest) n = omega arith
 leg_most (LoopAt c body post ▸ rest) n = omega arith
 leg_most (ReturnAt c v ▸ rest) n = omega arith
+leg_most (HaltAt c v ▸ rest) n = omega arith
 
 either_most : (b : Bool) (x y z : ℕ) → x ≤ z → y ≤ z → cond b x y ≤ z
 either_most true x y z a b = a
@@ -121,6 +122,7 @@ module _ (fs : List Function) (each : (f : ℕ) (h : Function) → slice_get fs 
     stmt_few i k inside on Break t = cut_most on
     stmt_few i k inside on Continue t = cut_most on
     stmt_few i k inside on (Return v) t = cut_most on
+    stmt_few i k inside on (Halt v) t = cut_most on
 
     pub code_few : (i k : ℕ) (inside : Bool) (c : Code) → FitsCode fs n bytes inside c
         → size (annotated p i k c) ≤ code_blocks c
@@ -147,6 +149,7 @@ module _ (fs : List Function) (each : (f : ℕ) (h : Function) → slice_get fs 
     test_few i k inside on Break t = omega arith
     test_few i k inside on Continue t = omega arith
     test_few i k inside on (Return v) t = omega arith
+    test_few i k inside on (Halt v) t = omega arith
 
     turn_few : (i k : ℕ) (inside : Bool) (c : Code) → FitsCode fs n bytes inside c
         → turn_size (annotated p i k c) ≤ code_blocks c

@@ -5,7 +5,7 @@ use Rattle.trips_isa.specs.declared.op.Op.TheVariants.{Mov, Sub}
 use Rattle.ir_forms.specs.declared.hyper.Source.TheVariants.{Const, Reg}
 use Rattle.ir_forms.specs.inside.Frames.{register_of}
 use Rattle.ir_forms.specs.inside.FlatCode.{Step, Let, Frame, Load, Save, Call, Put, Get, If, Loop, Break, Continue}
-use Rattle.ir_forms.specs.inside.FlatCode.{Return, Code, Nop, ◌▹◌}
+use Rattle.ir_forms.specs.inside.FlatCode.{Return, Halt, Code, Nop, ◌▹◌}
 use Rattle.ir_forms.specs.inside.FlatFits.{steps_in, steps_of, is_empty}
 use Rattle.ir_forms.specs.inside.HyperCode.{Block}
 use Rattle.ir_forms.specs.inside.HyperRuns.{jump}
@@ -279,6 +279,8 @@ mutual
   step_reached g b a on Continue s l i k N el ei ek en =
       passed on s l i k N _ el ei (omega (arith, ek)) (en ∙ append-nil N)
   step_reached g b a on (Return v) s l i k N el ei ek en =
+      passed on s l i k N _ el ei (omega (arith, ek)) (en ∙ append-nil N)
+  step_reached g b a on (Halt v) s l i k N el ei ek en =
       passed on s l i k N _ el ei (omega (arith, ek)) (en ∙ append-nil N)
 
   -- emission of code reaches its annotated blocks

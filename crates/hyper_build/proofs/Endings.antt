@@ -4,9 +4,9 @@ use Rattle.std.proofs.Common.{None, refl, nat_lt}
 use Rattle.ir_forms.specs.declared.flat.Arg.{Arg}
 use Rattle.ir_forms.specs.inside.Cells.{Checks, apply, load, save}
 use Rattle.ir_forms.specs.inside.FlatCode.{Step, Let, Frame, Load, Save, Call, Put, Get, If, Loop, Break, Continue}
-use Rattle.ir_forms.specs.inside.FlatCode.{Return, Code, Nop, ◌▹◌}
-use Rattle.ir_forms.specs.inside.FlatSteps.{State, Env, Res, Gone, Broke, Again, Gave, TooDeep, Unfinished, Wild}
-use Rattle.ir_forms.specs.inside.FlatSteps.{Calls}
+use Rattle.ir_forms.specs.inside.FlatCode.{Return, Halt, Code, Nop, ◌▹◌}
+use Rattle.ir_forms.specs.inside.FlatSteps.{State, Env, Res, Gone, Broke, Again, Gave, Halts, Unfinished, Wild}
+use Rattle.ir_forms.specs.inside.FlatSteps.{Exited, Calls, without_vars}
 use Rattle.ir_forms.specs.inside.FlatSteps.{unfinished, settle, turn, must, then_run, read, read_all, with_var}
 use Rattle.ir_forms.specs.inside.FlatSteps.{with_memory}
 use Rattle.ir_forms.specs.inside.FlatSteps.{with_output, with_next, counted, after_post, after_body, loop_turns}
@@ -20,7 +20,7 @@ IsOther (Gone s m) = Unit {0}
 IsOther (Broke s m) = Unit {0}
 IsOther (Again s m) = ⊥
 IsOther (Gave v s m) = Unit {0}
-IsOther (TooDeep out) = Unit {0}
+IsOther (Halts how) = Unit {0}
 IsOther (Unfinished out r) = Unit {0}
 IsOther Wild = Unit {0}
 
@@ -48,7 +48,7 @@ then_other (Gone s m) next x h = h s m
 then_other (Broke s m) next x h = tt
 then_other (Again s m) next x h = x
 then_other (Gave v s m) next x h = tt
-then_other (TooDeep out) next x h = tt
+then_other (Halts how) next x h = tt
 then_other (Unfinished out r) next x h = tt
 then_other Wild next x h = tt
 
@@ -64,7 +64,7 @@ post_other (Gone s m) next h = h s m
 post_other (Broke s m) next h = tt
 post_other (Again s m) next h = tt
 post_other (Gave v s m) next h = tt
-post_other (TooDeep out) next h = tt
+post_other (Halts how) next h = tt
 post_other (Unfinished out r) next h = tt
 post_other Wild next h = tt
 
@@ -74,7 +74,7 @@ body_other (Gone s m) post next h = post_other (post s m) next h
 body_other (Broke s m) post next h = settled s m
 body_other (Again s m) post next h = post_other (post s m) next h
 body_other (Gave v s m) post next h = tt
-body_other (TooDeep out) post next h = tt
+body_other (Halts how) post next h = tt
 body_other (Unfinished out r) post next h = tt
 body_other Wild post next h = tt
 
@@ -100,7 +100,7 @@ call_other s kept to (Gone t m) = settled _ m
 call_other s kept to (Broke t m) = tt
 call_other s kept to (Again t m) = tt
 call_other s kept to (Gave w t m) = settled _ m
-call_other s kept to (TooDeep out) = tt
+call_other s kept to (Halts how) = tt
 call_other s kept to (Unfinished out r) = tt
 call_other s kept to Wild = tt
 
@@ -152,6 +152,9 @@ module _ (c : Checks) (call : Calls) (e : Env) where
     act_other Break h s m = turned s m (λ n. Broke s n) (λ n. tt)
     act_other Continue h s m = absurd (cc h)
     act_other (Return x) h s m = turned s m (λ n. return_of c s n x) (λ n. return_other c s n x)
+    act_other (Halt x) h s m =
+        turned s m (λ n. must (read c s x) (λ w. Halts (Exited w (without_vars s) n)))
+        (λ n. needed (read c s x) (λ w. Halts (Exited w (without_vars s) n)) (λ w. tt))
 
     -- code without a continue does not end by one
     pub exec_other : (p : Code) → continues p ≡ false → (s : State) (m : ℕ) → IsOther (exec c call e p s m)

@@ -3,7 +3,7 @@ use Rattle.std.proofs.Common.{◌≡◌, ℕ, ◌+◌, ◌≤◌, Bool, true, fa
 use Rattle.std.proofs.Common.{List, ◌∷◌, ◌++◌, map, length, refl, sym, ap, ◌∙◌}
 use Rattle.std.proofs.Common.{arith}
 use Rattle.ir_forms.specs.inside.FlatCode.{Step, Let, Frame, Load, Save, Call, Put, Get, If, Loop, Break, Continue}
-use Rattle.ir_forms.specs.inside.FlatCode.{Return, Code, Nop, ◌▹◌, Function}
+use Rattle.ir_forms.specs.inside.FlatCode.{Return, Halt, Code, Nop, ◌▹◌, Function}
 use Rattle.ir_forms.specs.inside.FlatFits.{steps_in, steps_of, is_small_leg, is_empty, small_if, small_ifs_in}
 use Rattle.ir_forms.specs.inside.FlatFits.{small_ifs}
 use Rattle.ir_forms.specs.inside.FlatFits.{small_ifs_of_all}
@@ -52,6 +52,7 @@ leaving_none (Loop body post) e = absurd (cc e)
 leaving_none Break e = refl
 leaving_none Continue e = refl
 leaving_none (Return v) e = refl
+leaving_none (Halt v) e = refl
 
 -- behind it, what goes on has a block
 leaving_cuts : (P : Place) (p : Plan) (l i n : ℕ) (on : Bool) (x : Step) (k : Block) → leaves x ≡ true
@@ -68,6 +69,7 @@ leaving_cuts P p l i n on (Loop body post) k e = absurd (cc e)
 leaving_cuts P p l i n on Break k e = refl
 leaving_cuts P p l i n on Continue k e = refl
 leaving_cuts P p l i n on (Return v) k e = refl
+leaving_cuts P p l i n on (Halt v) k e = refl
 
 -- The small ifs of code are in the rest of a block that does it and in its blocks, and where it does not go on,
 -- in its blocks alone.
@@ -144,6 +146,7 @@ test_keeps P p l i n on joined (Loop c d) k e f = absurd (cc e)
 test_keeps P p l i n on joined Break k e f = absurd (cc e)
 test_keeps P p l i n on joined Continue k e f = absurd (cc e)
 test_keeps P p l i n on joined (Return x) k e f = absurd (cc e)
+test_keeps P p l i n on joined (Halt x) k e f = absurd (cc e)
 
 empty_none : (c : Code) → is_empty c ≡ true → small_ifs c ≡ 0
 empty_none Nop e = refl
@@ -253,6 +256,7 @@ mutual
   step_keeps P p l i n on Break k e = absurd (cc e)
   step_keeps P p l i n on Continue k e = absurd (cc e)
   step_keeps P p l i n on (Return v) k e = absurd (cc e)
+  step_keeps P p l i n on (Halt v) k e = absurd (cc e)
 
   code_keeps : (P : Place) (p : Plan) (l i n : ℕ) (c : Code) (k : Block)
       → AreKept c (entry P (annotated p i n c) l k) (blocks P (annotated p i n c) l k)

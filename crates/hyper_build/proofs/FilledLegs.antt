@@ -3,7 +3,7 @@ use Rattle.std.proofs.Common.{◌≡◌, ℕ, suc, ◌+◌, ◌≤◌, Bool, tru
 use Rattle.std.proofs.Common.{List, ◌∷◌, ◌++◌, map, Option, Some, None, refl, sym, ap, ap₂, ◌∙◌}
 use Rattle.std.proofs.Common.{arith}
 use Rattle.ir_forms.specs.inside.FlatCode.{Step, Let, Frame, Load, Save, Call, Put, Get, If, Loop, Break, Continue}
-use Rattle.ir_forms.specs.inside.FlatCode.{Return, Code, Nop, ◌▹◌}
+use Rattle.ir_forms.specs.inside.FlatCode.{Return, Halt, Code, Nop, ◌▹◌}
 use Rattle.ir_forms.specs.inside.FlatFits.{steps_in, steps_of, is_small_leg, is_empty, small_if, small_ifs_in}
 use Rattle.ir_forms.specs.inside.FlatFits.{small_ifs}
 use Rattle.ir_forms.specs.inside.HyperCode.{Items, Done, Block}
@@ -90,6 +90,7 @@ leg_filled P p i n (Loop body post ▹ c) e = absurd (cc e)
 leg_filled P p i n (Break ▹ c) e = absurd (cc e)
 leg_filled P p i n (Continue ▹ c) e = absurd (cc e)
 leg_filled P p i n (Return v ▹ c) e = absurd (cc e)
+leg_filled P p i n (Halt v ▹ c) e = absurd (cc e)
 
 leg_straight : (c : Code) → is_small_leg c ≡ true → is_straight c ≡ true
 leg_straight Nop e = refl
@@ -106,6 +107,7 @@ leg_straight (Loop body post ▹ c) e = absurd (cc e)
 leg_straight (Break ▹ c) e = absurd (cc e)
 leg_straight (Continue ▹ c) e = absurd (cc e)
 leg_straight (Return v ▹ c) e = absurd (cc e)
+leg_straight (Halt v ▹ c) e = absurd (cc e)
 
 abbrev one_if : Bool → ℕ
 one_if z = cond z 1 0
@@ -193,6 +195,7 @@ mutual
   items_keep P p i n on Break r e = absurd (cc e)
   items_keep P p i n on Continue r e = absurd (cc e)
   items_keep P p i n on (Return v) r e = absurd (cc e)
+  items_keep P p i n on (Halt v) r e = absurd (cc e)
 
   -- the small ifs of straight code are in the items that do it
   pub all_items_keep : (P : Place) (p : Plan) (i n : ℕ) (c : Code) (r : Items) → is_straight c ≡ true
@@ -225,6 +228,7 @@ leg_none P p i n join e (Get to ▹ c) h = absurd (cc h)
 leg_none P p i n join e (If t one other ▹ c) h = absurd (cc h)
 leg_none P p i n join e (Loop body post ▹ c) h = absurd (cc h)
 leg_none P p i n join e (Return v ▹ c) h = absurd (cc h)
+leg_none P p i n join e (Halt v ▹ c) h = absurd (cc h)
 
 -- the blocks of a leg hold what its first block and the others do
 pub leg_keeps : (o : Option ℕ) (first : Block) (others : List Block) (m : ℕ)

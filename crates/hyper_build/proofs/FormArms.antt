@@ -47,6 +47,9 @@ module _ (s : FlatStmt) where
   abbrev NoReturn : Type 0
   NoReturn = (v : Option Arg) → s ≡ stmt.Return v → ⊥
 
+  abbrev NoHalt : Type 0
+  NoHalt = (v : Arg) → s ≡ stmt.Halt v → ⊥
+
   -- neither a break nor a continue: no exit
   pub no_exit : (broke again : ℕ) → (s ≡ stmt.Break → ⊥) → (s ≡ stmt.Continue → ⊥)
       → exit_in broke again (step_of s) ≡ None
@@ -58,15 +61,17 @@ module _ (s : FlatStmt) where
       go FlatStmt-F.Continue e = absurd (c (sym e ∙ stmt.rolls-Continue))
       go _ e = refl
 
-  -- nor a return: it goes on
-  pub no_leaving : (s ≡ stmt.Break → ⊥) → (s ≡ stmt.Continue → ⊥) → NoReturn → leaves (step_of s) ≡ false
-  no_leaving b c r = by_form leaves s false go
+  -- nor a return, nor the end of the run: it goes on
+  pub no_leaving : (s ≡ stmt.Break → ⊥) → (s ≡ stmt.Continue → ⊥) → NoReturn → NoHalt
+      → leaves (step_of s) ≡ false
+  no_leaving b c r h = by_form leaves s false go
     where
       go : (x : FlatStmt-F FlatStmt) → roll-FlatStmt x ≡ s
           → leaves (step_by (map-FlatStmt FlatStmt Step step_of x)) ≡ false
       go FlatStmt-F.Break e = absurd (b (sym e ∙ stmt.rolls-Break))
       go FlatStmt-F.Continue e = absurd (c (sym e ∙ stmt.rolls-Continue))
       go (FlatStmt-F.Return v) e = absurd (r v (sym e ∙ stmt.rolls-Return v))
+      go (FlatStmt-F.Halt v) e = absurd (h v (sym e ∙ stmt.rolls-Halt v))
       go _ e = refl
 
   -- no leg of a small if

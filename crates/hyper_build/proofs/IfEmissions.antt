@@ -4,7 +4,7 @@ use Rattle.std.proofs.Common.{ap, ap₂, ◌∙◌, subst, arith, append_assoc, 
 use Rattle.ir_forms.specs.declared.flat.Arg.{Arg}
 use Rattle.ir_forms.specs.declared.hyper.Exit.TheVariants as exit
 use Rattle.ir_forms.specs.inside.FlatCode.{Step, Let, Frame, Load, Save, Call, Put, Get, If, Loop, Break, Continue}
-use Rattle.ir_forms.specs.inside.FlatCode.{Return, Code, Nop, ◌▹◌}
+use Rattle.ir_forms.specs.inside.FlatCode.{Return, Halt, Code, Nop, ◌▹◌}
 use Rattle.ir_forms.specs.inside.FlatFits.{steps_in, steps_of}
 use Rattle.ir_forms.specs.inside.HyperCode.{Items, Done, Leave, Test, Block}
 use Rattle.ir_forms.specs.inside.HyperCode as hyper
@@ -48,6 +48,7 @@ mutual
   items_step g p i k on Break r = refl
   items_step g p i k on Continue r = refl
   items_step g p i k on (Return x) r = refl
+  items_step g p i k on (Halt x) r = refl
 
   items_code : (g : Ground) (p : Place) (i k : ℕ) (c : Code) (r : Items)
       → items_of p (annotated (plan g) i k c) r ≡ straight_items p.arrays c r

@@ -2,7 +2,7 @@
 use Rattle.std.proofs.Common.{◌≡◌, ℕ, ◌+◌, Bool, true, false, ◌&&◌, ◌||◌, not, cond, List, [], ◌++◌, refl, ap₂}
 use Rattle.ir_forms.specs.declared.flat.Arg.{Arg}
 use Rattle.ir_forms.specs.inside.FlatCode.{Step, Let, Frame, Load, Save, Call, Put, Get, If, Loop, Break, Continue}
-use Rattle.ir_forms.specs.inside.FlatCode.{Return, Code, Nop, ◌▹◌}
+use Rattle.ir_forms.specs.inside.FlatCode.{Return, Halt, Code, Nop, ◌▹◌}
 use Rattle.ir_forms.specs.inside.FlatFits.{steps_in, steps_of, is_small_leg, is_empty}
 use Rattle.reg_assign.specs.inside.Keeps.{calls_in, calls}
 use Rattle.hyper_build.specs.declared.emitting.Note.{Note}
@@ -37,6 +37,7 @@ mutual
   straight_step p i k on Break = refl
   straight_step p i k on Continue = refl
   straight_step p i k on (Return x) = refl
+  straight_step p i k on (Halt x) = refl
 
   -- annotated code is straight where the flat code is
   pub straight_code : (p : Plan) (i k : ℕ) (c : Code)
@@ -62,6 +63,7 @@ small_leg_is p i k (Loop a b ▹ c) = refl
 small_leg_is p i k (Break ▹ c) = refl
 small_leg_is p i k (Continue ▹ c) = refl
 small_leg_is p i k (Return x ▹ c) = refl
+small_leg_is p i k (Halt x ▹ c) = refl
 
 empty_is : (p : Plan) (i k : ℕ) (c : Code) → is_empty (plain (annotated p i k c)) ≡ is_empty c
 empty_is p i k Nop = refl
@@ -113,6 +115,7 @@ mutual
   no_calls_in Break e = refl
   no_calls_in Continue e = refl
   no_calls_in (Return x) e = refl
+  no_calls_in (Halt x) e = refl
 
   -- straight code has no call
   pub no_calls : (c : Code) → is_straight c ≡ true → calls c ≡ 0
@@ -139,6 +142,7 @@ mutual
   no_notes_in p l i k Break e = refl
   no_notes_in p l i k Continue e = refl
   no_notes_in p l i k (Return x) e = refl
+  no_notes_in p l i k (Halt x) e = refl
 
   -- straight code has no note
   pub no_notes : (p : Plan) (l i k : ℕ) (c : Code) → is_straight c ≡ true → notes_of p l i k c ≡ []

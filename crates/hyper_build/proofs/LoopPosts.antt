@@ -2,13 +2,13 @@
 use Rattle.std.proofs.Common.{◌≡◌, ◌⊎◌, inl, inr, ℕ, ◌+◌, ◌<◌, ◌≤◌, Bool, true, false, ◌&&◌, ◌||◌, not, List, length}
 use Rattle.std.proofs.Common.{Some, None, refl, sym, ap, ap₂, ◌∙◌, arith}
 use Rattle.ir_forms.specs.inside.FlatCode.{Step, Let, Frame, Load, Save, Call, Put, Get, If, Loop, Break, Continue}
-use Rattle.ir_forms.specs.inside.FlatCode.{Return, Code, Nop, ◌▹◌}
+use Rattle.ir_forms.specs.inside.FlatCode.{Return, Halt, Code, Nop, ◌▹◌}
 use Rattle.ir_forms.specs.inside.FlatFits.{steps_in, steps_of, is_empty, small_ifs_in, small_ifs}
 use Rattle.ir_forms.specs.inside.HyperCode.{Block}
 use Rattle.reg_assign.specs.inside.Keeps.{calls_in, calls}
 use Rattle.hyper_build.specs.inside.Tree.{Plan, Stmt, LetAt, FrameAt, LoadAt, SaveAt, CallAt, PutAt, GetAt, IfAt}
 use Rattle.hyper_build.specs.inside.Tree.{LoopAt}
-use Rattle.hyper_build.specs.inside.Tree.{BreakAt, ContinueAt, ReturnAt, Tree, End, ◌▸◌, plain_in, plain, goes_on}
+use Rattle.hyper_build.specs.inside.Tree.{BreakAt, ContinueAt, ReturnAt, HaltAt, Tree, End, ◌▸◌, plain_in, plain, goes_on}
 use Rattle.hyper_build.specs.inside.Tree.{annotated_in, annotated}
 use Rattle.hyper_build.specs.inside.Straight.{straight_in, straight}
 use Rattle.hyper_build.specs.inside.Legs.{label_or, leg_blocks, is_end, is_operation, are_operations, continues_in}
@@ -61,6 +61,7 @@ operation_is p i k on (Loop a b) = refl
 operation_is p i k on Break = refl
 operation_is p i k on Continue = refl
 operation_is p i k on (Return x) = refl
+operation_is p i k on (Halt x) = refl
 
 operations_are : (p : Plan) (i k : ℕ) (c : Code) → are_operations (plain (annotated p i k c)) ≡ are_operations c
 operations_are p i k Nop = refl
@@ -83,6 +84,7 @@ mutual
   continues_step p i k on Break = refl
   continues_step p i k on Continue = refl
   continues_step p i k on (Return x) = refl
+  continues_step p i k on (Halt x) = refl
 
   continues_code : (p : Plan) (i k : ℕ) (c : Code) → continues (plain (annotated p i k c)) ≡ continues c
   continues_code p i k Nop = refl
@@ -119,6 +121,7 @@ operation_straight (LoopAt c body post) e = absurd (cc e)
 operation_straight (BreakAt c) e = absurd (cc e)
 operation_straight (ContinueAt c) e = absurd (cc e)
 operation_straight (ReturnAt c v) e = absurd (cc e)
+operation_straight (HaltAt c v) e = absurd (cc e)
 
 operations_straight : (t : Tree) → are_operations (plain t) ≡ true → straight t ≡ true
 operations_straight End e = refl
@@ -150,6 +153,7 @@ flat_straight (Loop a b) e = absurd (cc e)
 flat_straight Break e = absurd (cc e)
 flat_straight Continue e = absurd (cc e)
 flat_straight (Return x) e = absurd (cc e)
+flat_straight (Halt x) e = absurd (cc e)
 
 code_straight : (c : Code) → are_operations c ≡ true → is_straight c ≡ true
 code_straight Nop e = refl
@@ -170,6 +174,7 @@ no_small_if_in (Loop a b) e = absurd (cc e)
 no_small_if_in Break e = refl
 no_small_if_in Continue e = refl
 no_small_if_in (Return x) e = refl
+no_small_if_in (Halt x) e = refl
 
 no_small_if : (c : Code) → are_operations c ≡ true → small_ifs c ≡ 0
 no_small_if Nop e = refl

@@ -4,7 +4,7 @@ use Rattle.std.proofs.Common.{refl, ap, ap₂, arith, drop}
 use Rattle.ir_forms.specs.declared.flat.FlatStmt.{FlatStmt}
 use Rattle.ir_forms.specs.inside.FlatViews.{code_of}
 use Rattle.ir_forms.specs.inside.FlatCode.{Step, Let, Frame, Load, Save, Call, Put, Get, If, Loop, Break, Continue}
-use Rattle.ir_forms.specs.inside.FlatCode.{Return, Code, Nop, ◌▹◌}
+use Rattle.ir_forms.specs.inside.FlatCode.{Return, Halt, Code, Nop, ◌▹◌}
 use Rattle.ir_forms.specs.inside.FlatFits.{steps_in, steps_of, is_empty}
 use Rattle.reg_assign.specs.inside.Keeps.{calls_in, calls}
 use Rattle.hyper_build.specs.inside.Tree.{Plan, goes_on, annotated_in, annotated}
@@ -43,6 +43,7 @@ break_is (Loop a b ▹ Nop) e = absurd (cc e)
 break_is (Break ▹ Nop) e = refl
 break_is (Continue ▹ Nop) e = absurd (cc e)
 break_is (Return x ▹ Nop) e = absurd (cc e)
+break_is (Halt x ▹ Nop) e = absurd (cc e)
 break_is (s ▹ (t ▹ more)) e = absurd (cc e)
 
 -- it has one statement, and no call
@@ -67,6 +68,7 @@ break_code p i k (Loop a b ▹ Nop) = refl
 break_code p i k (Break ▹ Nop) = refl
 break_code p i k (Continue ▹ Nop) = refl
 break_code p i k (Return x ▹ Nop) = refl
+break_code p i k (Halt x ▹ Nop) = refl
 break_code p i k (Let to op x y ▹ (t ▹ more)) = refl
 break_code p i k (Frame to at ▹ (t ▹ more)) = refl
 break_code p i k (Load to op x ▹ (t ▹ more)) = refl
@@ -79,6 +81,7 @@ break_code p i k (Loop a b ▹ (t ▹ more)) = refl
 break_code p i k (Break ▹ (t ▹ more)) = refl
 break_code p i k (Continue ▹ (t ▹ more)) = refl
 break_code p i k (Return x ▹ (t ▹ more)) = refl
+break_code p i k (Halt x ▹ (t ▹ more)) = refl
 
 -- TESTS
 
@@ -97,6 +100,7 @@ test_is p i k on (Loop a b) = refl
 test_is p i k on Break = refl
 test_is p i k on Continue = refl
 test_is p i k on (Return x) = refl
+test_is p i k on (Halt x) = refl
 
 end_is : (p : Plan) (i k : ℕ) (c : Code) → is_end (annotated p i k c) ≡ is_empty c
 end_is p i k Nop = refl

@@ -1,7 +1,7 @@
 -- A loop does what it means where its body and the part behind it do.
 use Rattle.std.proofs.Common.{◌≡◌, ◌⊎◌, inl, inr, ℕ, zero, suc, ◌+◌, Bool, true, false, cond, not, ◌||◌}
 use Rattle.std.proofs.Common.{true≢false, [], ◌∷◌, ◌++◌, Some, refl, sym, ap, ◌∙◌, subst, arith, slice_get}
-use Rattle.ir_forms.specs.inside.FlatSteps.{State, Res, Gone, Broke, Again, Gave, TooDeep, Unfinished, Wild}
+use Rattle.ir_forms.specs.inside.FlatSteps.{State, Res, Gone, Broke, Again, Gave, Halts, Unfinished, Wild}
 use Rattle.ir_forms.specs.inside.FlatSteps.{Calls, counted, after_post, after_body}
 use Rattle.ir_forms.specs.inside.FlatSteps.{loop_turns, exec}
 use Rattle.ir_forms.specs.inside.HyperCode.{Block}
@@ -171,7 +171,7 @@ module _ (W : World) (built : IsBuilt W) (words : AluGivesWords) (call : Calls) 
     post_then b s m n x (Broke s1 n1) next f h = tt
     post_then b s m n x (Again s1 n1) next f h = tt
     post_then b s m n x (Gave w s1 n1) next f h = f
-    post_then b s m n x (TooDeep out) next f h = f
+    post_then b s m n x (Halts how) next f h = f
     post_then b s m n x (Unfinished out r) next f h = f
     post_then b s m n x Wild next f h = tt
 
@@ -209,9 +209,9 @@ module _ (W : World) (built : IsBuilt W) (words : AluGivesWords) (call : Calls) 
     body_then b s m n (Gave w s1 n1) next f other h =
         follows_more W (W.base + start + 8) (Rel W start g) b s m n n 0 1 (ways_of p k)
         (Gave w s1 n1) (omega arith) f
-    body_then b s m n (TooDeep out) next f other h =
+    body_then b s m n (Halts how) next f other h =
         follows_more W (W.base + start + 8) (Rel W start g) b s m n n 0 1 (ways_of p k)
-        (TooDeep out) (omega arith) f
+        (Halts how) (omega arith) f
     body_then b s m n (Unfinished out r) next f other h =
         follows_more W (W.base + start + 8) (Rel W start g) b s m n n 0 1 (ways_of p k)
         (Unfinished out r) (omega arith) f

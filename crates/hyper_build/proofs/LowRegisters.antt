@@ -8,12 +8,12 @@ use Rattle.ir_forms.specs.inside.FlatFits.{FitsVar}
 use Rattle.ir_forms.specs.inside.HyperCode.{Items, Done, Leave, Block}
 use Rattle.ir_forms.specs.inside.HyperRuns.{jump}
 use Rattle.hyper_build.specs.inside.Tree.{Stmt, LetAt, FrameAt, LoadAt, SaveAt, CallAt, PutAt, GetAt, IfAt}
-use Rattle.hyper_build.specs.inside.Tree.{LoopAt, BreakAt, ContinueAt, ReturnAt, Tree, End, ◌▸◌, Routine}
+use Rattle.hyper_build.specs.inside.Tree.{LoopAt, BreakAt, ContinueAt, ReturnAt, HaltAt, Tree, End, ◌▸◌, Routine}
 use Rattle.hyper_build.specs.inside.Parts.{cut, cut_size, chain, chain_size, Move, moved}
 use Rattle.hyper_build.specs.inside.Passing.{saving, argument_moves, argument_cuts}
 use Rattle.hyper_build.specs.inside.Straight.{Place, straight, items_in, items_of, is_item}
 use Rattle.hyper_build.specs.inside.Sizes.{arguments_size, size_in}
-use Rattle.hyper_build.specs.inside.Entries.{call_block, give, body_end, choose, entry_in, entry}
+use Rattle.hyper_build.specs.inside.Entries.{call_block, end_label, give, body_end, choose, entry_in, entry}
 use Rattle.hyper_build.specs.inside.Merging.{SetsLow}
 use Rattle.hyper_build.specs.inside.World.{World}
 use Rattle.hyper_build.specs.inside.Fits.{FitsStmt, FitsTree}
@@ -83,6 +83,7 @@ module _ (W : World) (g : Routine) (scalars : g.scalars ≤ 64)
     items_in_low inside p (BreakAt c) k t low = low
     items_in_low inside p (ContinueAt c) k t low = low
     items_in_low inside p (ReturnAt c v) k t low = low
+    items_in_low inside p (HaltAt c v) k t low = low
 
     items_low : (inside : Bool) (p : Place) (c : Tree) (k : Items) → FitsTree W g inside c → SetsLow k
         → SetsLow (items_of p c k)
@@ -112,6 +113,7 @@ module _ (W : World) (g : Routine) (scalars : g.scalars ≤ 64)
   entry_in_low inside p (BreakAt c) l k gave t low = tt
   entry_in_low inside p (ContinueAt c) l k gave t low = tt
   entry_in_low inside p (ReturnAt c v) l k gave t low = give_low v p.gave gave
+  entry_in_low inside p (HaltAt c v) l k gave t low = give_low (Some v) (jump end_label) tt
 
   pub entry_low : (inside : Bool) (p : Place) (c : Tree) (l : ℕ) (k : Block) → SetsLow p.gave.items
       → FitsTree W g inside c → SetsLow k.items → SetsLow (entry p c l k).items

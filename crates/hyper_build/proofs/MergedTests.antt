@@ -5,7 +5,7 @@ use Rattle.ir_forms.specs.inside.FlatSteps.{State, Res, Calls, read, exec, act}
 use Rattle.ir_forms.specs.inside.HyperCode.{Block}
 use Rattle.ir_forms.specs.inside.HyperRuns.{Machine, jump}
 use Rattle.hyper_build.specs.inside.Tree.{Stmt, LetAt, FrameAt, LoadAt, SaveAt, CallAt, PutAt, GetAt, IfAt, LoopAt}
-use Rattle.hyper_build.specs.inside.Tree.{BreakAt, ContinueAt, ReturnAt, Tree, End, ◌▸◌, Routine, plain, plain_in}
+use Rattle.hyper_build.specs.inside.Tree.{BreakAt, ContinueAt, ReturnAt, HaltAt, Tree, End, ◌▸◌, Routine, plain, plain_in}
 use Rattle.hyper_build.specs.inside.Parts.{source, cut, cut_blocks}
 use Rattle.hyper_build.specs.inside.Straight.{Place}
 use Rattle.hyper_build.specs.inside.Legs.{is_break, is_test}
@@ -58,6 +58,7 @@ module _ (W : World) (built : IsBuilt W) (words : AluGivesWords) (call : Calls) 
   break_follows p (LoopAt c body post ▸ rest) e k s m n rel = absurd (cc e)
   break_follows p (ContinueAt c ▸ rest) e k s m n rel = absurd (cc e)
   break_follows p (ReturnAt c v ▸ rest) e k s m n rel = absurd (cc e)
+  break_follows p (HaltAt c v ▸ rest) e k s m n rel = absurd (cc e)
 
   -- behind the leg that goes on, the rest stands in a block of its own or in the same one
   cut_follows : (p : Place) (c : Bool) (l : ℕ) (k b : Block) (s : State) (m : Machine) (n : ℕ) (r : Res)
@@ -124,3 +125,4 @@ module _ (W : World) (built : IsBuilt W) (words : AluGivesWords) (call : Calls) 
   loop_test_does inside p (BreakAt c) e leg fits is l k low has = absurd (cc e)
   loop_test_does inside p (ContinueAt c) e leg fits is l k low has = absurd (cc e)
   loop_test_does inside p (ReturnAt c v) e leg fits is l k low has = absurd (cc e)
+  loop_test_does inside p (HaltAt c v) e leg fits is l k low has = absurd (cc e)

@@ -3,7 +3,7 @@ use Rattle.std.proofs.Common.{◌≡◌, ◌⊎◌, inl, inr, ℕ, zero, suc, �
 use Rattle.std.proofs.Common.{true, false, cond, ◌&&◌, refl, sym, ap, ◌∙◌, arith, append_assoc, append-nil}
 use Rattle.ir_forms.specs.declared.flat.Arg.{Arg}
 use Rattle.ir_forms.specs.inside.FlatCode.{Step, Let, Frame, Load, Save, Call, Put, Get, If, Loop, Break, Continue}
-use Rattle.ir_forms.specs.inside.FlatCode.{Return, Code, Nop, ◌▹◌, Function}
+use Rattle.ir_forms.specs.inside.FlatCode.{Return, Halt, Code, Nop, ◌▹◌, Function}
 use Rattle.ir_forms.specs.inside.FlatFits.{steps_in, steps_of, steps_of_all, is_empty}
 use Rattle.reg_assign.specs.inside.Keeps.{calls_in, calls, calls_of_all}
 use Rattle.hyper_build.specs.declared.emitting.Note.{Note}
@@ -175,6 +175,7 @@ loop_test_numbers g l i k on joined (Loop a b) N e f = absurd (cc e)
 loop_test_numbers g l i k on joined Break N e f = absurd (cc e)
 loop_test_numbers g l i k on joined Continue N e f = absurd (cc e)
 loop_test_numbers g l i k on joined (Return x) N e f = absurd (cc e)
+loop_test_numbers g l i k on joined (Halt x) N e f = absurd (cc e)
 
 -- a statement of a loop's body, by whether it is the test
 part_numbers : (g : Ground) (l i k : ℕ) (z on : Bool) (x : Step) (N : List Note)
@@ -275,6 +276,7 @@ mutual
   step_numbers g l i k on Break N = bare N refl refl (omega arith)
   step_numbers g l i k on Continue N = bare N refl refl (omega arith)
   step_numbers g l i k on (Return x) N = bare N refl refl (omega arith)
+  step_numbers g l i k on (Halt x) N = bare N refl refl (omega arith)
 
   pub numbers : (g : Ground) (l i k : ℕ) (c : Code) → IsNumbered g l i k c
   numbers g l i k Nop N = bare N (omega arith) (omega arith) (omega arith)

@@ -2,7 +2,7 @@
 use Rattle.std.proofs.Common.{◌≡◌, ◌⊎◌, inl, inr, ℕ, ◌+◌, List, [], ◌∷◌, ◌++◌, Option, Some, None}
 use Rattle.std.proofs.Common.{refl, sym, ap, ap₂, ◌∙◌, subst, arith}
 use Rattle.ir_forms.specs.inside.FlatCode.{Let, Frame, Load, Save, Call, Put, Get, If, Loop, Break, Continue}
-use Rattle.ir_forms.specs.inside.FlatCode.{Return, Code, Nop, ◌▹◌}
+use Rattle.ir_forms.specs.inside.FlatCode.{Return, Halt, Code, Nop, ◌▹◌}
 use Rattle.ir_forms.specs.inside.HyperCode.{Block}
 use Rattle.hyper_build.specs.declared.emitting.Note.{Note}
 use Rattle.hyper_build.specs.inside.Tree.{annotated}
@@ -86,6 +86,8 @@ kind g b a join i k (Continue ▹ Nop) =
     })
 kind g b a join i k (Return x ▹ Nop) =
     inl (record { code = refl; tree = refl; sized = λ n. refl })
+kind g b a join i k (Halt x ▹ Nop) =
+    inl (record { code = refl; tree = refl; sized = λ n. refl })
 kind g b a join i k (Let to op x y ▹ s ▹ more) =
     inl (record { code = refl; tree = refl; sized = λ n. refl })
 kind g b a join i k (Frame to at ▹ s ▹ more) =
@@ -109,6 +111,8 @@ kind g b a join i k (Break ▹ s ▹ more) =
 kind g b a join i k (Continue ▹ s ▹ more) =
     inl (record { code = refl; tree = refl; sized = λ n. refl })
 kind g b a join i k (Return x ▹ s ▹ more) =
+    inl (record { code = refl; tree = refl; sized = λ n. refl })
+kind g b a join i k (Halt x ▹ s ▹ more) =
     inl (record { code = refl; tree = refl; sized = λ n. refl })
 
 -- what a leg puts out, and where it leads

@@ -3,7 +3,7 @@ use Rattle.std.proofs.Common.{◌≡◌, ℕ, ◌+◌, ◌-◌, Bool, true, fals
 use Rattle.std.proofs.Common.{◌∙◌, subst, arith}
 use Rattle.ir_forms.specs.declared.flat.Arg.{Arg}
 use Rattle.ir_forms.specs.inside.FlatCode.{Step, Let, Frame, Load, Save, Call, Put, Get, If, Loop, Break, Continue}
-use Rattle.ir_forms.specs.inside.FlatCode.{Return, Code}
+use Rattle.ir_forms.specs.inside.FlatCode.{Return, Halt, Code}
 use Rattle.ir_forms.specs.inside.FlatFits.{steps_in, steps_of}
 use Rattle.ir_forms.specs.inside.HyperCode.{Block}
 use Rattle.ir_forms.specs.inside.HyperRuns.{jump}
@@ -111,3 +111,4 @@ loop_test_reached g b a on tested (Loop c d) e f = absurd (cc e)
 loop_test_reached g b a on tested Break e f = absurd (cc e)
 loop_test_reached g b a on tested Continue e f = absurd (cc e)
 loop_test_reached g b a on tested (Return x) e f = absurd (cc e)
+loop_test_reached g b a on tested (Halt x) e f = absurd (cc e)

@@ -19,19 +19,21 @@ use Rattle.ir_forms.specs.inside.FlatFits.{is_lasting, is_variable, FitsArg}
 use Rattle.ir_forms.specs.inside.FlatSteps.{State, Res, Calls, read, if_set, turn, settle, with_var, with_memory}
 use Rattle.ir_forms.specs.inside.FlatSteps.{with_output, with_next}
 use Rattle.ir_forms.specs.inside.HyperCode.{Block, Done, Set, Leave}
-use Rattle.ir_forms.specs.inside.HyperRuns.{Machine, with_register, value_of, loaded, saved, run, block_or}
+use Rattle.ir_forms.specs.inside.HyperRuns.{Machine, Ended, with_register, value_of, loaded, saved, run, block_or, jump}
 use Rattle.ir_forms.specs.inside.HyperRuns as machine
 use Rattle.hyper_build.specs.inside.Tree.{Routine, LetAt, FrameAt, LoadAt, SaveAt, PutAt, GetAt, BreakAt}
-use Rattle.hyper_build.specs.inside.Tree.{ContinueAt, ReturnAt}
+use Rattle.hyper_build.specs.inside.Tree.{ContinueAt, ReturnAt, HaltAt}
 use Rattle.hyper_build.specs.inside.Parts.{source, capped, set_then, save_then, cut, cut_blocks, cut_size}
 use Rattle.hyper_build.specs.inside.Straight.{Place}
+use Rattle.hyper_build.specs.inside.Entries.{end_label, give}
+use Rattle.hyper_build.specs.inside.Routines.{system_block}
 use Rattle.hyper_build.specs.inside.World.{World, Has, Goes, Rel, Kept, AreBytes, IsFrame, frame, slots, checks_of}
 use Rattle.hyper_build.specs.inside.Follow.{Way, Next, Breaks, Continues, Returns, IsGiven, Relation, Came, Follows}
 use Rattle.hyper_build.specs.inside.Follow.{ways_of}
 use Rattle.hyper_build.specs.inside.Fits.{IsBuilt, IsWordArg}
 use Rattle.hyper_build.specs.inside.Premises.{StmtDoes, AluGivesWords}
 use Rattle.hyper_build.proofs.Goes.{goes_here, goes_then, goes_block, goes_set, goes_set_any, goes_load_any}
-use Rattle.hyper_build.proofs.Goes.{goes_save_any, goes_cut}
+use Rattle.hyper_build.proofs.Goes.{goes_save_any, goes_cut, goes_jump}
 use Rattle.hyper_build.proofs.Memories.{load_is, save_is}
 use Rattle.trips_isa.specs.Forms.{size_of}
 use Rattle.trips_isa.specs.Stores.{is_good_address}
@@ -205,6 +207,35 @@ module _ (W : World) (built : IsBuilt W) (words : AluGivesWords) (call : Calls) 
       came _ s m i 0 _ (Returns (Some w)) s m1 (omega arith) (goes_set W 3 Mov (source x) (Const 0) p.gave m refl)
       (rel_register W start g s m 3 _ (omega arith) (λ q. omega arith) rel) (kept_same _ s s m m1 refl refl)
       (any_operand s m rel x w fits.0 fits.1 e) refl))
+
+  -- the end of the whole run does what it means: the program's end comes a block later
+  pub halt_does : (c : Bool) (a : Arg) → StmtDoes W call start g (HaltAt c a)
+  halt_does c x inside p fits is l k has s m n rel =
+      turn_follow W (W.base + start + 8) (Rel W start g) _ s m n (ways_of p k) _ rel.stack.output (λ i.
+      must_follow W (W.base + start + 8) (Rel W start g) _ s m i 2 (ways_of p k) (read (checks_of W) s x) _ (λ w e.
+      record {
+        j = 2;
+        stops = λ d. let z : 2 + d ≡ 0 + 1 + suc d = omega arith in
+            ap (λ j. run W.check W.at W.program j (give (Some x) (jump end_label)) m) z
+            ∙ goes.by (suc d) ∙ ends W.check d
+            ∙ ap (λ o. Ended o (value_of m.registers (source x))) rel.stack.output
+            ∙ ap (λ v. Ended s.output v) (any_operand s m rel x w fits.0 fits.1 e).0;
+        few = omega arith;
+      }))
+    where
+      goes : Goes W (give (Some x) (jump end_label)) m (0 + 1) (system_block 3 end_label)
+          (with_register m 3 (value_of m.registers (source x)))
+      goes =
+          let m2 = with_register m 3 (value_of m.registers (source x)) in
+          goes_then W (give (Some x) (jump end_label)) (jump end_label) (system_block 3 end_label) m m2 m2 0 1
+          (goes_set W 3 Mov (source x) (Const 0) (jump end_label) m refl)
+          (goes_jump W end_label (system_block 3 end_label) m2 built.ends)
+
+      ends : (c : Bool) (d : ℕ) → run c W.at W.program (suc d) (system_block 3 end_label)
+          (with_register m 3 (value_of m.registers (source x)))
+          ≡ Ended m.output (value_of m.registers (source x))
+      ends true d = refl
+      ends false d = refl
 
   -- putting a byte out does what it means
   pub put_does : (a : Arg) → StmtDoes W call start g (PutAt a)

@@ -11,7 +11,7 @@ use Rattle.ir_forms.specs.inside.HyperFits.{is_filled}
 use Rattle.ir_forms.specs.inside.HyperRuns.{jump}
 use Rattle.reg_assign.specs.inside.Live.{AreSmall}
 use Rattle.hyper_build.specs.inside.Tree.{Stmt, LetAt, FrameAt, LoadAt, SaveAt, CallAt, PutAt, GetAt, IfAt}
-use Rattle.hyper_build.specs.inside.Tree.{LoopAt, BreakAt, ContinueAt, ReturnAt, Tree, End, ◌▸◌, Routine, plain}
+use Rattle.hyper_build.specs.inside.Tree.{LoopAt, BreakAt, ContinueAt, ReturnAt, HaltAt, Tree, End, ◌▸◌, Routine, plain}
 use Rattle.hyper_build.specs.inside.Parts.{source, cut_blocks, chain_blocks, chain_size, moved_blocks}
 use Rattle.hyper_build.specs.inside.Passing.{saving, restoring, argument_moves, argument_cuts}
 use Rattle.hyper_build.specs.inside.Passing.{parameter_moves, parameter_cuts}
@@ -51,6 +51,7 @@ abbrev mutual
   IsCutStmt (BreakAt c) = Unit {0}
   IsCutStmt (ContinueAt c) = Unit {0}
   IsCutStmt (ReturnAt c v) = Unit {0}
+  IsCutStmt (HaltAt c v) = Unit {0}
 
   -- annotated code is cut everywhere
   pub IsCutTree : Tree → Type 0
@@ -75,6 +76,7 @@ short_leg p (LoopAt c body post ▸ rest) e = absurd (cc e)
 short_leg p (BreakAt c ▸ rest) e = absurd (cc e)
 short_leg p (ContinueAt c ▸ rest) e = absurd (cc e)
 short_leg p (ReturnAt c v ▸ rest) e = absurd (cc e)
+short_leg p (HaltAt c v ▸ rest) e = absurd (cc e)
 
 -- it does something, or is empty
 filled_leg : (p : Place) (c : Tree) → is_small_leg (plain c) ≡ true
@@ -93,6 +95,7 @@ filled_leg p (LoopAt c body post ▸ rest) e = absurd (cc e)
 filled_leg p (BreakAt c ▸ rest) e = absurd (cc e)
 filled_leg p (ContinueAt c ▸ rest) e = absurd (cc e)
 filled_leg p (ReturnAt c v ▸ rest) e = absurd (cc e)
+filled_leg p (HaltAt c v ▸ rest) e = absurd (cc e)
 
 not_both : (x y : Bool) → not (x && y) ≡ true → (not x || not y) ≡ true
 not_both true true e = absurd (cc e)
@@ -185,6 +188,7 @@ no_test (LoopAt c body post) t = refl
 no_test (BreakAt c) t = refl
 no_test (ContinueAt c) t = refl
 no_test (ReturnAt c v) t = refl
+no_test (HaltAt c v) t = refl
 
 and_none : (a b : Bool) → b ≡ false → a && b ≡ false
 and_none true b e = e
@@ -251,6 +255,7 @@ mutual
   little_in p (BreakAt c) l k t g s = (little_jump p.broke, cuts_little c k s)
   little_in p (ContinueAt c) l k t g s = (little_jump p.again, cuts_little c k s)
   little_in p (ReturnAt c v) l k t g s = (give_little v p.gave g, cuts_little c k s)
+  little_in p (HaltAt c v) l k t g s = (simple _ (omega arith) (omega arith) (omega arith) refl tt, cuts_little c k s)
   little_in p (LetAt false to op a b) l k t g s = absurd (cc t)
   little_in p (FrameAt false to at) l k t g s = absurd (cc t)
   little_in p (LoadAt false to op a) l k t g s = absurd (cc t)

@@ -10,7 +10,7 @@ use Rattle.ir_forms.specs.inside.FlatFits.{FitsReturn}
 use Rattle.ir_forms.specs.inside.HyperCode.{Done, Leave, Block}
 use Rattle.ir_forms.specs.inside.HyperRuns.{jump}
 use Rattle.hyper_build.specs.inside.Tree.{Stmt, LetAt, FrameAt, LoadAt, SaveAt, CallAt, PutAt, GetAt, IfAt}
-use Rattle.hyper_build.specs.inside.Tree.{LoopAt, BreakAt, ContinueAt, ReturnAt, Tree, End, ◌▸◌, Routine}
+use Rattle.hyper_build.specs.inside.Tree.{LoopAt, BreakAt, ContinueAt, ReturnAt, HaltAt, Tree, End, ◌▸◌, Routine}
 use Rattle.hyper_build.specs.inside.Tree.{is_saved}
 use Rattle.hyper_build.specs.inside.Parts.{cut, cut_blocks, cut_size, chain_blocks, chain_size}
 use Rattle.hyper_build.specs.inside.Parts.{moved, moved_blocks}
@@ -20,7 +20,7 @@ use Rattle.hyper_build.specs.inside.Straight.{Place, in_loop, straight, items_of
 use Rattle.hyper_build.specs.inside.Legs.{exit_leg, label_or, leg_blocks, leg_size, is_loop_test, is_bare}
 use Rattle.hyper_build.specs.inside.Legs.{post_exit, post_size}
 use Rattle.hyper_build.specs.inside.Sizes.{arguments_size, size_in, size, test_size, turn_size, part_size}
-use Rattle.hyper_build.specs.inside.Entries.{call_block, give, body_end, choose, entry_in}
+use Rattle.hyper_build.specs.inside.Entries.{call_block, end_label, give, body_end, choose, entry_in}
 use Rattle.hyper_build.specs.inside.Entries.{entry, test_entry, turn_entry}
 use Rattle.hyper_build.specs.inside.Build.{blocks_in, blocks, test_blocks, turn_blocks}
 use Rattle.hyper_build.specs.inside.World.{World}
@@ -40,6 +40,8 @@ use Rattle.hyper_build.proofs.SoundMoves.{result_sound, items_fit, items_in_fit}
 pub record GoodPlace (N : ℕ) (inside : Bool) (p : Place) : Type 0 where
   pub gave : Sound N p.gave
   pub entries : (f : ℕ) → p.entries f < N
+  -- the block that ends the run stands
+  pub ends : end_label < N
   pub broke : inside ≡ true → p.broke < N
   pub again : inside ≡ true → p.again < N
 
@@ -102,6 +104,8 @@ module _ (W : World) (g : Routine) (scalars : g.scalars ≤ 64) (N : ℕ)
       own_leg N l join p (LoopAt c body post ▸ rest) refl le lt
   leg_is inside p (ReturnAt c v ▸ rest) l join t q le lt =
       own_leg N l join p (ReturnAt c v ▸ rest) refl le lt
+  leg_is inside p (HaltAt c v ▸ rest) l join t q le lt =
+      own_leg N l join p (HaltAt c v ▸ rest) refl le lt
 
   leg_sound : (o : Option ℕ) (first : Block) (others : List Block)
       → (o ≡ None → Sound N first × AllSound N others) → AllSound N (leg_blocks o first others)
@@ -274,12 +278,14 @@ module _ (W : World) (g : Routine) (scalars : g.scalars ≤ 64) (N : ℕ)
         let qb : GoodPlace N true (in_loop p broke again) = record {
           gave = q.gave;
           entries = q.entries;
+          ends = q.ends;
           broke = λ e. omega (arith, le);
           again = λ e. low;
         } in
         let qp : GoodPlace N false (in_loop p broke again) = record {
           gave = q.gave;
           entries = q.entries;
+          ends = q.ends;
           broke = λ e. omega (arith, le);
           again = λ e. low;
         } in
@@ -301,6 +307,8 @@ module _ (W : World) (g : Routine) (scalars : g.scalars ≤ 64) (N : ℕ)
     sound_in inside p (BreakAt c) l k t q le s = (jump_sound N p.broke (q.broke t), cuts_sound N c k s)
     sound_in inside p (ContinueAt c) l k t q le s = (jump_sound N p.again (q.again t), cuts_sound N c k s)
     sound_in inside p (ReturnAt c v) l k t q le s = (give_sound v p.gave t.0 q.gave, cuts_sound N c k s)
+    sound_in inside p (HaltAt c v) l k t q le s =
+        (give_sound (Some v) (jump end_label) t.0 (jump_sound N end_label q.ends), cuts_sound N c k s)
 
     -- code that fits has a sound entry and sound blocks, where what follows it is sound
     pub sound_tree : (inside : Bool) (p : Place) (c : Tree) (l : ℕ) (k : Block)
@@ -343,6 +351,7 @@ module _ (W : World) (g : Routine) (scalars : g.scalars ≤ 64) (N : ℕ)
     sound_test p (BreakAt c) l k t q le s = (s, tt)
     sound_test p (ContinueAt c) l k t q le s = (s, tt)
     sound_test p (ReturnAt c v) l k t q le s = (s, tt)
+    sound_test p (HaltAt c v) l k t q le s = (s, tt)
 
     -- a loop's body
     sound_turn : (p : Place) (c : Tree) (l : ℕ) (k : Block) → FitsTree W g true c → GoodPlace N true p

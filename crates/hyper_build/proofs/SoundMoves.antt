@@ -13,7 +13,7 @@ use Rattle.ir_forms.specs.inside.HyperCode.{Items, Done, Tail, Leave, Test, Bloc
 use Rattle.ir_forms.specs.inside.HyperFits.{FitsSource, FitsItems}
 use Rattle.ir_forms.specs.inside.HyperRuns.{jump}
 use Rattle.hyper_build.specs.inside.Tree.{Stmt, LetAt, FrameAt, LoadAt, SaveAt, CallAt, PutAt, GetAt, IfAt}
-use Rattle.hyper_build.specs.inside.Tree.{LoopAt, BreakAt, ContinueAt, ReturnAt, Tree, End, ◌▸◌, Routine}
+use Rattle.hyper_build.specs.inside.Tree.{LoopAt, BreakAt, ContinueAt, ReturnAt, HaltAt, Tree, End, ◌▸◌, Routine}
 use Rattle.hyper_build.specs.inside.Parts.{source, capped, cut, cut_blocks, cut_size, chain, chain_blocks, chain_size}
 use Rattle.hyper_build.specs.inside.Parts.{Move, moved, moved_blocks, moved_size}
 use Rattle.hyper_build.specs.inside.Passing.{saving, restoring, argument_moves}
@@ -250,6 +250,7 @@ module _ (W : World) (g : Routine) (scalars : g.scalars ≤ 64) where
     items_in_fit inside p (BreakAt c) k t h = h
     items_in_fit inside p (ContinueAt c) k t h = h
     items_in_fit inside p (ReturnAt c v) k t h = h
+    items_in_fit inside p (HaltAt c v) k t h = h
 
     -- the items of straight code fit before items that fit
     pub items_fit : (inside : Bool) (p : Place) (c : Tree) (k : Items) → FitsTree W g inside c

@@ -48,6 +48,7 @@ module _ (W : World) (N : ℕ) (entries : ℕ → ℕ) (some : 2 < N) (within : 
   place_good g = record {
     gave = out_sound g;
     entries = within;
+    ends = omega (arith, some);
     broke = λ e. omega (arith, some);
     again = λ e. omega (arith, some);
   }

@@ -12,7 +12,7 @@ use Rattle.ir_forms.specs.declared.hyper.Source.TheVariants.{Const, Reg}
 use Rattle.trips_isa.specs.inside.Acts.{divisions, is_clean}
 use Rattle.ir_forms.specs.inside.Frames.{register_of, frame_limit}
 use Rattle.ir_forms.specs.inside.Cells.{apply, load, save}
-use Rattle.ir_forms.specs.inside.FlatSteps.{State, Res, Gone, Broke, Again, Gave, TooDeep, Unfinished, Wild}
+use Rattle.ir_forms.specs.inside.FlatSteps.{State, Res, Gone, Broke, Again, Gave, Halts, Unfinished, Wild}
 use Rattle.ir_forms.specs.inside.FlatSteps.{Calls, read, turn, must, settle, with_var, with_memory}
 use Rattle.ir_forms.specs.inside.FlatSteps.{act}
 use Rattle.ir_forms.specs.inside.HyperCode.{Items, Set, Load, Save}
@@ -55,7 +55,7 @@ module _ (W : World) (built : IsBuilt W) (words : AluGivesWords) (call : Calls) 
   Walks its s m n (Broke s1 n1) = ⊥
   Walks its s m n (Again s1 n1) = ⊥
   Walks its s m n (Gave w s1 n1) = ⊥
-  Walks its s m n (TooDeep out) = ⊥
+  Walks its s m n (Halts how) = ⊥
 
   -- a turn
   pub turn_walks : (its : Items → Items) (s : State) (m : Machine) (n : ℕ) (go : ℕ → Res)
@@ -78,7 +78,7 @@ module _ (W : World) (built : IsBuilt W) (words : AluGivesWords) (call : Calls) 
       more i n le (Broke s1 n1) x = x
       more i n le (Again s1 n1) x = x
       more i n le (Gave w s1 n1) x = x
-      more i n le (TooDeep out) x = x
+      more i n le (Halts how) x = x
 
   -- an evaluation that goes on only with a value needs items only there
   pub must_walks : {A : Type 0} (its : Items → Items) (s : State) (m : Machine) (n : ℕ) (o : Option A)

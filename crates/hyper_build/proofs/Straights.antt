@@ -4,7 +4,7 @@ use Rattle.std.proofs.Common.{◌&&◌, ◌||◌, List, ◌∷◌, ◌++◌, Opt
 use Rattle.std.proofs.Common.{subst, arith}
 use Rattle.trips_isa.specs.declared.op.Op.{Op}
 use Rattle.ir_forms.specs.declared.flat.Arg.{Arg}
-use Rattle.ir_forms.specs.inside.FlatSteps.{State, Res, Gone, Broke, Again, Gave, TooDeep, Unfinished, Wild}
+use Rattle.ir_forms.specs.inside.FlatSteps.{State, Res, Gone, Broke, Again, Gave, Halts, Unfinished, Wild}
 use Rattle.ir_forms.specs.inside.FlatSteps.{Calls, read, turn, must, settle}
 use Rattle.ir_forms.specs.inside.FlatSteps.{chosen, then_run, act, exec}
 use Rattle.ir_forms.specs.declared.hyper.Exit.TheVariants as exit
@@ -13,7 +13,7 @@ use Rattle.ir_forms.specs.inside.HyperRuns.{Machine, value_of}
 use Rattle.ir_forms.specs.inside.HyperRuns.{jump}
 use Rattle.ir_forms.specs.inside.HyperRuns as machine
 use Rattle.hyper_build.specs.inside.Tree.{Stmt, LetAt, FrameAt, LoadAt, SaveAt, CallAt, PutAt, GetAt, IfAt}
-use Rattle.hyper_build.specs.inside.Tree.{LoopAt, BreakAt, ContinueAt, ReturnAt, Tree, End, ◌▸◌, Routine}
+use Rattle.hyper_build.specs.inside.Tree.{LoopAt, BreakAt, ContinueAt, ReturnAt, HaltAt, Tree, End, ◌▸◌, Routine}
 use Rattle.hyper_build.specs.inside.Tree.{plain_in, plain}
 use Rattle.hyper_build.specs.inside.Parts.{source, cut, cut_blocks, cut_size}
 use Rattle.hyper_build.specs.inside.Straight.{Place, straight_in, straight, items_in, items_of, is_small_if, is_item}
@@ -103,13 +103,13 @@ module _ (W : World) (built : IsBuilt W) (words : AluGivesWords) (call : Calls) 
       go (Broke s2 n2) y = y
       go (Again s2 n2) y = y
       go (Gave w s2 n2) y = y
-      go (TooDeep out) y = y
+      go (Halts how) y = y
   then_walks a b s m n (Unfinished out r) next x h = x
   then_walks a b s m n Wild next x h = tt
   then_walks a b s m n (Broke s1 n1) next x h = absurd x
   then_walks a b s m n (Again s1 n1) next x h = absurd x
   then_walks a b s m n (Gave w s1 n1) next x h = absurd x
-  then_walks a b s m n (TooDeep out) next x h = absurd x
+  then_walks a b s m n (Halts how) next x h = absurd x
 
   -- the leg that a test chooses
   chosen_walks : (t : Arg) (one other : Items → Items) (s : State) (m : Machine) (n v : ℕ)
@@ -135,7 +135,7 @@ module _ (W : World) (built : IsBuilt W) (words : AluGivesWords) (call : Calls) 
       leg its (Broke s1 n1) x f = x
       leg its (Again s1 n1) x f = x
       leg its (Gave w s1 n1) x f = x
-      leg its (TooDeep out) x f = x
+      leg its (Halts how) x f = x
 
       pick_leg : (v : ℕ) (x y : Res) → value_of m.registers (source t) ≡ v → Walks one s m n x
           → Walks other s m n y
@@ -183,6 +183,7 @@ module _ (W : World) (built : IsBuilt W) (words : AluGivesWords) (call : Calls) 
     stmt_walks inside p (BreakAt c) e fits is s m n rel = absurd (cc e)
     stmt_walks inside p (ContinueAt c) e fits is s m n rel = absurd (cc e)
     stmt_walks inside p (ReturnAt c v) e fits is s m n rel = absurd (cc e)
+    stmt_walks inside p (HaltAt c v) e fits is s m n rel = absurd (cc e)
 
     -- straight code as items does what it means
     pub tree_walks : (inside : Bool) (p : Place) (c : Tree) → TreeWalks inside p c
@@ -232,7 +233,7 @@ module _ (W : World) (built : IsBuilt W) (words : AluGivesWords) (call : Calls) 
   walks_follow its k s m n x ways (Broke s1 n1) h e go = absurd h
   walks_follow its k s m n x ways (Again s1 n1) h e go = absurd h
   walks_follow its k s m n x ways (Gave w s1 n1) h e go = absurd h
-  walks_follow its k s m n x ways (TooDeep out) h e go = absurd h
+  walks_follow its k s m n x ways (Halts how) h e go = absurd h
 
   -- an if that is an item
   pub item_does : (c joined : Bool) (a : Arg) (one other : Tree) → is_item joined one other ≡ true

@@ -8,8 +8,9 @@ use Rattle.trips_isa.specs.Stores.{data_size}
 use Rattle.trips_isa.specs.Machine.{memory_of}
 use Rattle.ir_forms.specs.inside.Frames.{frames_at, frame_limit}
 use Rattle.ir_forms.specs.inside.Cells.{Closed}
-use Rattle.ir_forms.specs.inside.FlatSteps.{State, Res, Gone, Broke, Again, Gave, TooDeep, Unfinished, Wild}
-use Rattle.ir_forms.specs.inside.FlatRuns.{first_memory, flat_run}
+use Rattle.ir_forms.specs.inside.FlatSteps.{State, Res, Gone, Broke, Again, Gave, Halts, Unfinished, Wild, How}
+use Rattle.ir_forms.specs.inside.FlatSteps.{NoRoom, Exited}
+use Rattle.ir_forms.specs.inside.FlatRuns.{first_memory, flat_run, concluded}
 use Rattle.ir_forms.specs.inside.FlatRuns as flat
 use Rattle.ir_forms.specs.inside.HyperCode.{Block}
 use Rattle.ir_forms.specs.inside.HyperRuns.{Machine, Layout, Standing, Ended, with_register, run, start, hyper_run}
@@ -20,7 +21,7 @@ use Rattle.hyper_build.specs.inside.Parts.{moved_size}
 use Rattle.hyper_build.specs.inside.Routines.{parameters_size, routine_blocks, routine_size, entry_from, all_blocks}
 use Rattle.hyper_build.specs.inside.Routines.{start_block, system_block, built}
 use Rattle.hyper_build.specs.inside.World.{World, Has, Goes, Stack, AreBytes}
-use Rattle.hyper_build.specs.inside.Follow.{Way, Next, Came, Follows}
+use Rattle.hyper_build.specs.inside.Follow.{Way, Next, Came, HaltsSo, standing_of, Follows}
 use Rattle.hyper_build.specs.inside.Fits.{IsBuilt}
 use Rattle.hyper_build.specs.inside.Whole.{world_of, flat_of, FitsWorld, Stops, EndsSo, WholeClaim}
 use Rattle.hyper_build.proofs.Goes.{goes_block}
@@ -61,6 +62,7 @@ pub is_built : (check : Bool) (at : Layout) (bytes : List ℕ) (fs : List Routin
     → FitsWorld (world_of check at (frames_at bytes) fs main) bytes main
     → IsBuilt (world_of check at (frames_at bytes) fs main)
 is_built check at bytes fs main w = record {
+  ends = refl;
   full = refl;
   has = λ f g q. has_routine (built (frames_at bytes) fs main) _ _ fs 3 f g
       (has_behind (built (frames_at bytes) fs main) [] (built (frames_at bytes) fs main) 0 refl refl).1.1.1 q;
@@ -160,18 +162,23 @@ module _ (check : Bool) (at : Layout) (bytes : List ℕ) (fs : List Routine) (ma
     few = omega (arith, f.few, no_cuts);
   }
 
+  halts : (how : How) → HaltsSo W (block_at W.program (W.entries main)) m1 n (3 + parameters_size w.routine) how
+      → Stops runs n (standing_of how)
+  halts how f = record {
+    blocks = 1 + f.j;
+    stands = λ k. let z : 1 + f.j + k ≡ 1 + (f.j + k) = omega arith in ap runs z ∙ goes_main.by (f.j + k) ∙ f.stops k;
+    few = omega (arith, f.few, no_cuts);
+  }
+
   ends : (r : Res) → Follows W (W.base + 0) (Stack W 0) (block_at W.program (W.entries main)) s0 m1 n
-      (3 + parameters_size w.routine) (λ x. block_at W.program 1) r → EndsSo runs n r
+      (3 + parameters_size w.routine) (λ x. block_at W.program 1) r → EndsSo runs n (concluded r)
   ends (Gone s n1) f = (f.after.registers 3, stops Next s n1 f)
   ends (Broke s n1) f = tt
   ends (Again s n1) f = tt
   ends (Gave None s n1) f = (f.after.registers 3, stops _ s n1 f)
   ends (Gave (Some x) s n1) f = subst (λ z. Stops runs n (Ended s.output z)) f.given.0 (stops _ s n1 f)
-  ends (TooDeep out) f = record {
-    blocks = 1 + f.j;
-    stands = λ k. let z : 1 + f.j + k ≡ 1 + (f.j + k) = omega arith in ap runs z ∙ goes_main.by (f.j + k) ∙ f.stops k;
-    few = omega (arith, f.few, no_cuts);
-  }
+  ends (Halts (NoRoom out)) f = halts (NoRoom out) f
+  ends (Halts (Exited x s n1)) f = halts (Exited x s n1) f
   ends (Unfinished out r) f = record {
     blocks = 1 + f.j;
     stands = goes_main.by f.j ∙ f.stands;

@@ -16,7 +16,7 @@ use crate::ground::Site;
 use crate::numbering::{Numbering, number_functions};
 use crate::plan::CutPlan;
 use crate::rest::{closed, jump, put_set};
-use crate::singles::leave;
+use crate::singles::{END, leave};
 use base::{Items, Memory};
 use ir_forms::{Exit, FlatProgram, HyperBlock, HyperProgram, Source};
 use reg_assign::Assigned;
@@ -29,9 +29,7 @@ const FRAME_LIMIT: u64 = 1_048_576;
 /// The bytes that globals may take here; data memory is smaller.
 const MOST_BYTES: usize = 1 << 40;
 
-/// The block that a program's end leads to, and the one that a full stack leads to.
-const END: u32 = 1;
-
+/// The block that a full stack leads to.
 const FULL: u32 = 2;
 
 /// Where the frames begin.

@@ -42,6 +42,7 @@ fn leaves(s: &FlatStmt) -> bool
         FlatStmt::Break => true,
         FlatStmt::Continue => true,
         FlatStmt::Return(_) => true,
+        FlatStmt::Halt(_) => true,
         _ => false,
     }
 }

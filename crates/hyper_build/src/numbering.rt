@@ -200,6 +200,7 @@ fn number_stmt(
         FlatStmt::Break => count_behind(numbering, cut_size(on))?,
         FlatStmt::Continue => count_behind(numbering, cut_size(on))?,
         FlatStmt::Return(_) => count_behind(numbering, cut_size(on))?,
+        FlatStmt::Halt(_) => count_behind(numbering, cut_size(on))?,
     }
     Ok(())
 }

@@ -18,6 +18,9 @@ use ir_forms::{Arg, Exit, Source, Tail};
 use std::alloc::Global;
 use trips_isa::Op;
 
+/// The block that main comes back to, which ends the run with its result.
+pub const END: u32 = 1;
+
 /// Before a statement behind which the plan may cut.
 pub fn before(emitting: &mut Emitting, alloc: Global, site: &Site) -> Result<(), Memory>
     ensures { OnOk result (emission_of emitting.new
@@ -239,6 +242,25 @@ pub fn put_return(
     fall(emitting);
     let mut rest = left(alloc, site.frame)?;
     put_given(&mut rest, value)?;
+    put_rest(emitting, rest);
+    Ok(())
+}
+
+/// The end of the whole run, with its value; what goes on behind it has a block of its own.
+pub fn put_halt(
+    emitting: &mut Emitting,
+    alloc: Global,
+    value: Arg,
+    on: bool,
+) -> Result<(), Memory>
+    ensures { OnOk result (emission_of emitting.new
+        ≡ code.leaving (entries.give (Some value) (hyper.jump entries.end_label))
+        (back.cut_at on (emission_of emitting.old))) }
+{
+    cut(emitting, alloc, on)?;
+    fall(emitting);
+    let mut rest = jump(alloc, END);
+    put_given(&mut rest, Some(value))?;
     put_rest(emitting, rest);
     Ok(())
 }

@@ -193,6 +193,7 @@ pub fn put_item(s: &FlatStmt, rest: &mut Rest, alloc: Global, arrays: u64) -> Re
         FlatStmt::Break => {}
         FlatStmt::Continue => {}
         FlatStmt::Return(_) => {}
+        FlatStmt::Halt(_) => {}
     }
     Ok(())
 }

@@ -5,6 +5,8 @@
 #[cfg(test)]
 mod build_tests;
 #[cfg(test)]
+mod ending_tests;
+#[cfg(test)]
 mod machine;
 #[cfg(test)]
 mod making;

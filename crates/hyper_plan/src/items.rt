@@ -72,6 +72,7 @@ pub fn add_statement(block: &mut Estimate, s: &FlatStmt, frame: Frame) {
         FlatStmt::Break => {}
         FlatStmt::Continue => {}
         FlatStmt::Return(value) => add_return(block, *value, frame),
+        FlatStmt::Halt(value) => block.put(RESULT, *value),
     }
 }
 

@@ -264,6 +264,7 @@ fn walk_stmt(s: &FlatStmt, walk: &mut Walk, site: &Site, last: bool) -> Result<(
         FlatStmt::Break => head(walk, site)?,
         FlatStmt::Continue => head(walk, site)?,
         FlatStmt::Return(_) => ending(walk, s, site)?,
+        FlatStmt::Halt(_) => ending(walk, s, site)?,
     }
     Ok(())
 }

@@ -6,7 +6,7 @@ use Rattle.std.proofs.lemmas.Bool.Decides.{nat_tests}
 use Rattle.ir_forms.specs.declared.flat.Arg.{Arg}
 use Rattle.ir_forms.specs.inside.FlatCode.{Call, Code, only, Function}
 use Rattle.ir_forms.specs.inside.Cells.{Checks}
-use Rattle.ir_forms.specs.inside.FlatSteps.{State, Env, Res, Gone, Broke, Again, Gave, TooDeep}
+use Rattle.ir_forms.specs.inside.FlatSteps.{State, Env, Res, Gone, Broke, Again, Gave, Halts}
 use Rattle.ir_forms.specs.inside.FlatSteps.{Unfinished, Wild, unfinished, settle, ten_turns, must}
 use Rattle.ir_forms.specs.inside.FlatSteps.{then_run, read_all, counted, Calls, after_call, exec}
 use Rattle.ir_forms.proofs.Leads.{Run, Leads, Stops}
@@ -23,7 +23,7 @@ call_closed s kept to (Broke t m) = refl
 call_closed s kept to (Again t m) = refl
 call_closed s kept to (Gave w t zero) = refl
 call_closed s kept to (Gave w t (suc m)) = refl
-call_closed s kept to (TooDeep out) = refl
+call_closed s kept to (Halts how) = refl
 call_closed s kept to (Unfinished out r) = refl
 call_closed s kept to Wild = refl
 

@@ -10,16 +10,16 @@ use Rattle.ir_forms.specs.declared.flat.Arg.{Arg}
 use Rattle.ir_forms.specs.declared.flat.Arg.TheVariants.{Const, Var}
 use Rattle.trips_isa.specs.Faults.{is_bad_divisor}
 use Rattle.ir_forms.specs.inside.FlatCode.{Step, Let, Frame, Load, Save, Call, Put, Get, If, Loop, Break}
-use Rattle.ir_forms.specs.inside.FlatCode.{Continue, Return, Code, Nop, ◌▹◌, Function}
+use Rattle.ir_forms.specs.inside.FlatCode.{Continue, Return, Halt, Code, Nop, ◌▹◌, Function}
 use Rattle.ir_forms.specs.inside.Frames.{frames_at, frame_limit, frame_of, arrays_at}
 use Rattle.ir_forms.specs.inside.Cells.{Memory, Checks, breach, provided, all_held, all_open, number_at}
 use Rattle.ir_forms.specs.inside.Cells.{number_put, apply, load, save}
-use Rattle.ir_forms.specs.inside.FlatSteps.{State, Env, Res, Gone, Broke, Again, Gave, TooDeep, Unfinished}
-use Rattle.ir_forms.specs.inside.FlatSteps.{Wild, unfinished, settle, turn, ten_turns, must, then_run}
+use Rattle.ir_forms.specs.inside.FlatSteps.{State, Env, Res, Gone, Broke, Again, Gave, Halts, Unfinished}
+use Rattle.ir_forms.specs.inside.FlatSteps.{NoRoom, Exited, Wild, unfinished, settle, turn, ten_turns, must, then_run}
 use Rattle.ir_forms.specs.inside.FlatSteps.{if_set, read, beside, read_all, with_var, with_memory}
 use Rattle.ir_forms.specs.inside.FlatSteps.{with_output, with_next, counted, after_post, after_body}
 use Rattle.ir_forms.specs.inside.FlatSteps.{loop_turns, Calls, after_call, return_of, chosen, act, exec}
-use Rattle.ir_forms.specs.inside.FlatRuns.{closing, env_of, begun, enter, enter_if, calls_within, flat_run}
+use Rattle.ir_forms.specs.inside.FlatRuns.{concluded, closing, env_of, begun, enter, enter_if, calls_within, flat_run}
 use Rattle.ir_forms.specs.inside.FlatRuns.{start}
 use Rattle.ir_forms.specs.inside.Laws.{Weaker, Agrees, ChecksChangeNothing}
 
@@ -37,7 +37,7 @@ agree (Gone s m) = refl
 agree (Broke s m) = refl
 agree (Again s m) = refl
 agree (Gave v s m) = refl
-agree (TooDeep out) = refl
+agree (Halts how) = refl
 agree (Unfinished out r) = refl
 agree Wild = tt
 
@@ -49,7 +49,7 @@ a-then (Gone s m) q f g h k = subst (λ q. Agrees (f s m) (then_run q g)) (sym h
 a-then (Broke s m) q f g h k = ap (λ q. then_run q g) h
 a-then (Again s m) q f g h k = ap (λ q. then_run q g) h
 a-then (Gave v s m) q f g h k = ap (λ q. then_run q g) h
-a-then (TooDeep out) q f g h k = ap (λ q. then_run q g) h
+a-then (Halts how) q f g h k = ap (λ q. then_run q g) h
 a-then (Unfinished out r) q f g h k = ap (λ q. then_run q g) h
 a-then Wild q f g h k = tt
 
@@ -83,7 +83,7 @@ a-post (Gone s m) q f g h k = subst (λ q. Agrees (f s m) (after_post q g)) (sym
 a-post (Broke s m) q f g h k = tt
 a-post (Again s m) q f g h k = tt
 a-post (Gave v s m) q f g h k = ap (λ q. after_post q g) h
-a-post (TooDeep out) q f g h k = ap (λ q. after_post q g) h
+a-post (Halts how) q f g h k = ap (λ q. after_post q g) h
 a-post (Unfinished out r) q f g h k = ap (λ q. after_post q g) h
 a-post Wild q f g h k = tt
 
@@ -99,7 +99,7 @@ a-body (Again s m) q p x f g h j k =
     subst (λ q. Agrees (after_post (p s m) f) (after_body q x g)) (sym h)
     (a-post (p s m) (x s m) f g (j s m) k)
 a-body (Gave v s m) q p x f g h j k = ap (λ q. after_body q x g) h
-a-body (TooDeep out) q p x f g h j k = ap (λ q. after_body q x g) h
+a-body (Halts how) q p x f g h j k = ap (λ q. after_body q x g) h
 a-body (Unfinished out r) q p x f g h j k = ap (λ q. after_body q x g) h
 a-body Wild q p x f g h j k = tt
 
@@ -123,7 +123,7 @@ a-call s kept to (Again t m) q h = tt
 a-call s kept to (Gave w t m) q h =
     subst (λ q. Agrees (after_call s kept to (Gave w t m)) (after_call s kept to q)) (sym h)
     (agree (after_call s kept to (Gave w t m)))
-a-call s kept to (TooDeep out) q h = ap (after_call s kept to) h
+a-call s kept to (Halts how) q h = ap (after_call s kept to) h
 a-call s kept to (Unfinished out r) q h = ap (after_call s kept to) h
 a-call s kept to Wild q h = tt
 
@@ -132,9 +132,19 @@ a-closing at size (Gone s m) q h = ap (closing at size) h
 a-closing at size (Broke s m) q h = tt
 a-closing at size (Again s m) q h = tt
 a-closing at size (Gave w s m) q h = ap (closing at size) h
-a-closing at size (TooDeep out) q h = ap (closing at size) h
+a-closing at size (Halts how) q h = ap (closing at size) h
 a-closing at size (Unfinished out r) q h = ap (closing at size) h
 a-closing at size Wild q h = tt
+
+a-concluded : (r q : Res) → Agrees r q → Agrees (concluded r) (concluded q)
+a-concluded (Gone s m) q h = ap concluded h
+a-concluded (Broke s m) q h = ap concluded h
+a-concluded (Again s m) q h = ap concluded h
+a-concluded (Gave w s m) q h = ap concluded h
+a-concluded (Halts (NoRoom out)) q h = ap concluded h
+a-concluded (Halts (Exited w s m)) q h = ap concluded h
+a-concluded (Unfinished out r) q h = ap concluded h
+a-concluded Wild q h = tt
 
 -- THE PLACES OF CHECKS
 
@@ -250,6 +260,8 @@ module _ (c d : Checks) (weaker : Weaker d c) where
       a-act Break s m = a-turn s m _ _ (λ m. refl)
       a-act Continue s m = a-turn s m _ _ (λ m. refl)
       a-act (Return x) s m = a-turn s m _ _ (λ m. a-return s m x)
+      a-act (Halt x) s m = a-turn s m _ _ (λ m.
+          a-must (read c s x) (read d s x) _ _ (b-read s x) (λ w. refl))
 
       a-exec : (a : Code) (s : State) (m : ℕ) → Agrees (exec c call e a s m) (exec d other e a s m)
       a-exec Nop s m = agree (settle s m)
@@ -290,4 +302,4 @@ module _ (c d : Checks) (weaker : Weaker d c) where
 pub checks_change_nothing : ChecksChangeNothing
 unfolding flat_run
 checks_change_nothing c d w P input m =
-    a-calls c d w P.functions (frames_at P.bytes) (suc m) P.main [] 0 (start P input) m
+    a-concluded _ _ (a-calls c d w P.functions (frames_at P.bytes) (suc m) P.main [] 0 (start P input) m)

@@ -2,7 +2,7 @@
 use Rattle.std.proofs.Common.{◌≡◌, ℕ, zero, suc, ◌+◌, ◌<◌, ◌≤◌, List, refl, sym, ap, ◌∙◌, arith}
 use Rattle.ir_forms.specs.inside.FlatCode.{Loop, Code, only, Function}
 use Rattle.ir_forms.specs.inside.Cells.{Checks}
-use Rattle.ir_forms.specs.inside.FlatSteps.{State, Env, Res, Gone, Broke, Again, Gave, TooDeep}
+use Rattle.ir_forms.specs.inside.FlatSteps.{State, Env, Res, Gone, Broke, Again, Gave, Halts}
 use Rattle.ir_forms.specs.inside.FlatSteps.{Unfinished, Wild, unfinished, settle, then_run, counted}
 use Rattle.ir_forms.specs.inside.FlatSteps.{after_post, after_body, loop_turns, Calls, exec}
 use Rattle.ir_forms.proofs.Leads.{Run, Leads, Stops, Moves, Waits}
@@ -16,7 +16,7 @@ post_closed (Gone s m) h w = w s m
 post_closed (Broke s m) h w = refl
 post_closed (Again s m) h w = refl
 post_closed (Gave v s m) h w = refl
-post_closed (TooDeep out) h w = refl
+post_closed (Halts how) h w = refl
 post_closed (Unfinished out r) h w = refl
 post_closed Wild h w = refl
 
@@ -27,7 +27,7 @@ body_closed (Gone s m) p h w = post_closed (p s m) h w
 body_closed (Broke s m) p h w = settle_settled s m
 body_closed (Again s m) p h w = post_closed (p s m) h w
 body_closed (Gave v s m) p h w = refl
-body_closed (TooDeep out) p h w = refl
+body_closed (Halts how) p h w = refl
 body_closed (Unfinished out r) p h w = refl
 body_closed Wild p h w = refl
 

@@ -8,6 +8,7 @@ use Rattle.trips_isa.specs.declared.block.Token.TheVariants.{Null, Word}
 use Rattle.trips_isa.specs.declared.block.Sense.{Sense}
 use Rattle.trips_isa.specs.declared.block.Sense.TheVariants.{OnTrue, OnFalse}
 use Rattle.trips_isa.specs.Rule.{Answer}
+use Rattle.ir_forms.specs.declared.flat.Arg.{Arg}
 use Rattle.ir_forms.specs.declared.flat.Arg.TheVariants.{Const, Var}
 use Rattle.ir_forms.specs.declared.hyper.Source.TheVariants as source
 use Rattle.ir_forms.specs.declared.hyper.Exit.{Exit}
@@ -19,11 +20,12 @@ use Rattle.ir_forms.specs.declared.flow.FlowNode.{FlowNode}
 use Rattle.ir_forms.specs.declared.flow.FlowBlock.{FlowBlock}
 use Rattle.trips_isa.specs.inside.Acts.{Divided}
 use Rattle.ir_forms.specs.inside.FlatCode.{Step, Let, Frame, Load, Save, Call, Put, Get, If, Loop, Break}
-use Rattle.ir_forms.specs.inside.FlatCode.{Continue, Return, Code, Nop, ◌▹◌, Function, Program}
+use Rattle.ir_forms.specs.inside.FlatCode.{Continue, Return, Halt, Code, Nop, ◌▹◌, Function, Program}
 use Rattle.ir_forms.specs.inside.FlatViews.{stays}
 use Rattle.ir_forms.specs.inside.Frames.{frame_limit, frames_at, register_of, slot_of}
 use Rattle.ir_forms.specs.inside.Cells.{Checks, apply, load, save, marked}
-use Rattle.ir_forms.specs.inside.FlatSteps.{Res, Gone, Broke, Again, Gave, TooDeep, Unfinished, Wild}
+use Rattle.ir_forms.specs.inside.FlatSteps.{Res, Gone, Broke, Again, Gave, Halts, NoRoom, Exited}
+use Rattle.ir_forms.specs.inside.FlatSteps.{Unfinished, Wild}
 use Rattle.ir_forms.specs.inside.FlatRuns.{first_memory, flat_run, checked, unchecked, only_tame}
 use Rattle.ir_forms.specs.inside.FlatRuns.{only_clean}
 use Rattle.ir_forms.specs.inside.HyperCode as hyper
@@ -43,7 +45,8 @@ seen (Gone s m) = 1 ∷ []
 seen (Broke s m) = 2 ∷ []
 seen (Again s m) = 3 ∷ []
 seen (Gave v s m) = 4 ∷ value v ∷ m ∷ s.output
-seen (TooDeep out) = 5 ∷ out
+seen (Halts (NoRoom out)) = 5 ∷ out
+seen (Halts (Exited w s m)) = 8 ∷ []
 seen (Unfinished out r) = 6 ∷ r ∷ out
 seen Wild = 7 ∷ []
 
@@ -189,6 +192,31 @@ just_fits = refl
 pub too_deep : twin checked (deep 1048296) 20 ≡ 5 ∷ []
 unfolding flat_run frame_limit first_memory apply load save marked
 too_deep = refl
+
+-- An end of the whole run gives its value from any depth: two calls deep, in a loop, with what was put out before.
+-- Nothing behind it is done, neither there nor in the callers.
+abbrev ended_deep : Arg → Program
+ended_deep x = program (routine 0 0 0 (Call 1 [] (Some 64) stays ▹ Put (Const 66) ▹ set 64 1 ▹ give 64 ▹ Nop)
+    ∷ routine 0 0 0 (Loop (Call 2 [] None stays ▹ Nop) Nop ▹ Nop)
+    ∷ routine 0 1 8 (Put (Const 65) ▹ Halt x ▹ Put (Const 67) ▹ Nop) ∷ []) []
+
+pub ended_in_a_call : twin checked (ended_deep (Const 7)) 30 ≡ 4 ∷ 7 ∷ 7 ∷ 65 ∷ []
+unfolding flat_run frame_limit first_memory apply load save marked
+ended_in_a_call = refl
+
+-- it is a turn, as a return is
+pub end_is_a_turn : twin checked (main (Halt (Const 9) ▹ Nop)) 1 ≡ twin checked (main (Return (Some (Const 9)) ▹ Nop)) 1
+unfolding flat_run frame_limit first_memory apply load save marked
+end_is_a_turn = refl
+
+pub no_turn_to_end : twin checked (ended_deep (Const 7)) 22 ≡ 6 ∷ 3 ∷ 65 ∷ []
+unfolding flat_run frame_limit first_memory apply load save marked
+no_turn_to_end = refl
+
+-- what it reads must be set
+pub end_reads : twin checked (ended_deep (Var 0)) 30 ≡ 7 ∷ []
+unfolding flat_run frame_limit first_memory apply load save marked
+end_reads = refl
 
 -- the input's byte, and -1 at its end
 pub input_ends : twin checked (main (Get 64 ▹ Get 65 ▹ Let 64 op.Add (Var 64)

@@ -3,9 +3,10 @@ use Rattle.std.proofs.Common.{◌≡◌, ℕ, zero, suc, ◌+◌, ◌%◌, List,
 use Rattle.trips_isa.specs.declared.op.Op.{Op}
 use Rattle.ir_forms.specs.declared.flat.Arg.{Arg}
 use Rattle.ir_forms.specs.inside.FlatCode.{Step, Let, Frame, Load, Save, Put, Get, If, Break, Continue}
-use Rattle.ir_forms.specs.inside.FlatCode.{Return, Code, only, Function}
+use Rattle.ir_forms.specs.inside.FlatCode.{Return, Halt, Code, only, Function}
 use Rattle.ir_forms.specs.inside.Cells.{Memory, Checks, apply, load, save}
-use Rattle.ir_forms.specs.inside.FlatSteps.{State, Env, Res, Broke, Again, Gave, settle, must, then_run}
+use Rattle.ir_forms.specs.inside.FlatSteps.{State, Env, Res, Broke, Again, Gave, Halts, Exited}
+use Rattle.ir_forms.specs.inside.FlatSteps.{settle, must, then_run, without_vars}
 use Rattle.ir_forms.specs.inside.FlatSteps.{read, with_var, with_memory, with_output, with_next, Calls}
 use Rattle.ir_forms.specs.inside.FlatSteps.{chosen, act, exec}
 use Rattle.ir_forms.proofs.Leads.{Run, Leads, Moves}
@@ -105,6 +106,13 @@ module _ (c : Checks) (fs : List Function) (base : ℕ) where
   pub return_none_leads : (e : Env) (s : State)
       → Leads (code_run e (only (Return None)) s) 1 (Gave None s)
   return_none_leads e s = single e (Return None) s (Gave None s) (λ m. refl) (λ m d. refl)
+
+  -- where the whole run is ended, it is with a word, in a turn
+  pub halt_leads : (e : Env) (x : Arg) (s : State) (v : ℕ) → read c s x ≡ Some v
+      → Leads (code_run e (only (Halt x)) s) 1 (λ k. Halts (Exited v (without_vars s) k))
+  halt_leads e x s v hx =
+      single e (Halt x) s (λ k. Halts (Exited v (without_vars s) k)) (λ m. refl)
+      (λ m d. must_is (read c s x) v (λ w. Halts (Exited w (without_vars s) m)) hx)
 
   -- a break ends the loop, in a turn
   pub break_leads : (e : Env) (s : State) → Leads (code_run e (only Break) s) 1 (Broke s)

@@ -1,9 +1,9 @@
 -- Runs of flat code: with no turn, and two codes in a row.
 use Rattle.std.proofs.Common.{◌≡◌, ℕ, zero, suc, ◌+◌, List, Option, Some, refl, sym, ap, ◌∙◌, arith}
 use Rattle.ir_forms.specs.inside.FlatCode.{Step, Let, Frame, Load, Save, Call, Put, Get, If, Loop}
-use Rattle.ir_forms.specs.inside.FlatCode.{Break, Continue, Return, Code, Nop, ◌▹◌, Then, Function}
+use Rattle.ir_forms.specs.inside.FlatCode.{Break, Continue, Return, Halt, Code, Nop, ◌▹◌, Then, Function}
 use Rattle.ir_forms.specs.inside.Cells.{Checks}
-use Rattle.ir_forms.specs.inside.FlatSteps.{State, Env, Res, Gone, Broke, Again, Gave, TooDeep}
+use Rattle.ir_forms.specs.inside.FlatSteps.{State, Env, Res, Gone, Broke, Again, Gave, Halts}
 use Rattle.ir_forms.specs.inside.FlatSteps.{Unfinished, Wild, unfinished, settle, must, then_run, Calls}
 use Rattle.ir_forms.specs.inside.FlatSteps.{act, exec}
 use Rattle.ir_forms.specs.inside.FlatRuns.{calls_within}
@@ -31,7 +31,7 @@ then_assoc (Gone s m) g h k w = w s m
 then_assoc (Broke s m) g h k w = refl
 then_assoc (Again s m) g h k w = refl
 then_assoc (Gave v s m) g h k w = refl
-then_assoc (TooDeep out) g h k w = refl
+then_assoc (Halts how) g h k w = refl
 then_assoc (Unfinished out r) g h k w = refl
 then_assoc Wild g h k w = refl
 
@@ -74,6 +74,7 @@ module _ (c : Checks) (fs : List Function) (base : ℕ) where
   act_zero d e Break s = refl
   act_zero d e Continue s = refl
   act_zero d e (Return x) s = refl
+  act_zero d e (Halt x) s = refl
 
   -- code that has no turn has not ended
   pub at_zero : (d : ℕ) (e : Env) (a : Code) (s : State) → exec c (call_at d) e a s 0 ≡ unfinished s

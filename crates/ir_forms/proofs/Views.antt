@@ -17,7 +17,7 @@ use Rattle.ir_forms.specs.declared.hyper.Tail.{roll-Tail, fold-Tail, fold-roll-T
 use Rattle.ir_forms.specs.declared.hyper.Tail.TheVariants as tail
 use Rattle.ir_forms.specs.declared.hyper.Tail.TheOpen.{Tail-F}
 use Rattle.ir_forms.specs.inside.FlatCode.{Step, Let, Frame, Load, Save, Call, Put, Get, If, Loop, Break}
-use Rattle.ir_forms.specs.inside.FlatCode.{Continue, Return, ◌▹◌, Then}
+use Rattle.ir_forms.specs.inside.FlatCode.{Continue, Return, Halt, ◌▹◌, Then}
 use Rattle.ir_forms.specs.inside.FlatViews.{stays, step_by, step_of, code_of}
 use Rattle.ir_forms.specs.inside.HyperCode as hyper
 use Rattle.ir_forms.specs.inside.HyperViews.{Before, before_by, then_items, items_of, tail_by, tail_of}
@@ -78,6 +78,10 @@ step_continue = step_is FlatStmt-F.Continue _ stmt.rolls-Continue
 -- A return, seen as a step of flat code.
 pub step_return : (v : Option Arg) → step_of (stmt.Return v) ≡ Return v
 step_return v = step_is (FlatStmt-F.Return v) _ (stmt.rolls-Return v)
+
+-- An end of the whole run, seen as a step of flat code.
+pub step_halt : (v : Arg) → step_of (stmt.Halt v) ≡ Halt v
+step_halt v = step_is (FlatStmt-F.Halt v) _ (stmt.rolls-Halt v)
 
 -- a list of statements after another is code after code
 pub code_append : (a b : List FlatStmt) → code_of (a ++ b) ≡ Then (code_of a) (code_of b)

@@ -66,6 +66,9 @@ pub enum FlatStmt {
     Break,
     Continue,
     Return(Option<Arg>),
+    /// ends the whole run, from any depth of calls; its value is the program's result, as if main
+    /// returned it
+    Halt(Arg),
 }
 
 /// A function: its first `params` scalars are its parameters, and `arrays` is the number of bytes

@@ -3,7 +3,7 @@ use Rattle.std.proofs.Common.{◌≡◌, ℕ, zero, suc, ◌+◌, ◌%◌, Bool,
 use Rattle.std.proofs.Common.{Option, Some, None, refl, sym, ap, ◌∙◌, subst, nat_lt, slice_get}
 use Rattle.ir_forms.specs.declared.flat.Arg.{Arg}
 use Rattle.ir_forms.specs.inside.FlatCode.{Step, Let, Frame, Load, Save, Call, Put, Get, If, Loop, Break}
-use Rattle.ir_forms.specs.inside.FlatCode.{Continue, Return, Code, Nop, ◌▹◌, Function, Program}
+use Rattle.ir_forms.specs.inside.FlatCode.{Continue, Return, Halt, Code, Nop, ◌▹◌, Function, Program}
 use Rattle.ir_forms.specs.inside.FlatViews.{stays}
 use Rattle.ir_forms.specs.inside.Frames.{frames_at, frame_limit, frame_of, arrays_at}
 use Rattle.ir_forms.specs.inside.Cells.{Open, marked, apply, load, save}
@@ -26,7 +26,7 @@ use Rattle.reg_assign.proofs.Follows.{below, Agree, agree_less, Follow, met}
 use Rattle.reg_assign.proofs.Follows.{settle_alike, turn_alike, ten_alike, must_alike, chosen_alike}
 use Rattle.reg_assign.proofs.Follows.{then_alike, turns_alike, read_alike, reads_alike, agree_var}
 use Rattle.reg_assign.proofs.Follows.{agree_next, agree_memory, agree_output, call_alike}
-use Rattle.reg_assign.proofs.Follows.{closing_alike}
+use Rattle.reg_assign.proofs.Follows.{closing_alike, ended_alike, concluded_alike}
 
 -- each call keeps scalars and temporaries alone
 abbrev mutual
@@ -44,6 +44,7 @@ abbrev mutual
   Lasting_in Break = Unit {0}
   Lasting_in Continue = Unit {0}
   Lasting_in (Return x) = Unit {0}
+  Lasting_in (Halt x) = Unit {0}
 
   -- each call in some code keeps scalars and temporaries alone
   pub Lasting : Code → Type 0
@@ -187,6 +188,11 @@ module _ (clean : Bool) (keep : ℕ → VarSet) where
       act_alike (Return x) n b k i l c s t m g =
           turn_alike n b k s t m _ _ g.outside (λ m.
           return_alike n b k (reads_if x) s t m x (within_itself (reads_if x)) g)
+      act_alike (Halt x) n b k i l c s t m g =
+          turn_alike n b k s t m _ _ g.outside (λ m.
+          must_alike n b k (read (tame_and clean) s x) (read (tame_and clean) t x) _ _
+          (read_alike clean (reads x) s t g x (within_itself (reads x)))
+          (λ w. ended_alike s t w m g.outside))
 
       exec_alike : (a : Code) (n b k : VarSet) (i : ℕ) → Lasting a → Covers keep i (kept a n b k)
           → (s t : State) (m : ℕ) → Agree (live a n b k) s t
@@ -287,5 +293,6 @@ pub runs_alike : (keep : ℕ → VarSet) (P : Program) → Covers keep 0 (kept_o
     }) input m)
 unfolding flat_run
 runs_alike keep P c l clean input m =
-    calls_alike clean keep P.functions c l (frames_at P.bytes) (suc m) P.main [] 0 (start P input)
-    (start P input) m (record { memory = refl; input = refl; output = refl; rounds = refl })
+    concluded_alike _ _
+    (calls_alike clean keep P.functions c l (frames_at P.bytes) (suc m) P.main [] 0 (start P input)
+    (start P input) m (record { memory = refl; input = refl; output = refl; rounds = refl }))

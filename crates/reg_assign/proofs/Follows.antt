@@ -6,12 +6,12 @@ use Rattle.ir_forms.specs.declared.flat.Arg.{Arg}
 use Rattle.ir_forms.specs.declared.flat.Arg.TheVariants.{Const, Var}
 use Rattle.ir_forms.specs.inside.FlatViews.{stays}
 use Rattle.ir_forms.specs.inside.Cells.{Memory, Closed, marked}
-use Rattle.ir_forms.specs.inside.FlatSteps.{State, Res, Gone, Broke, Again, Gave, TooDeep, Unfinished}
-use Rattle.ir_forms.specs.inside.FlatSteps.{Wild, unfinished, settle, turn, ten_turns, must, then_run}
+use Rattle.ir_forms.specs.inside.FlatSteps.{State, Res, Gone, Broke, Again, Gave, Halts, NoRoom, Exited}
+use Rattle.ir_forms.specs.inside.FlatSteps.{Unfinished, Wild, unfinished, settle, turn, ten_turns, must, then_run}
 use Rattle.ir_forms.specs.inside.FlatSteps.{if_set, read, beside, read_all, var_put, with_var, with_memory}
 use Rattle.ir_forms.specs.inside.FlatSteps.{with_output, with_next, counted, after_post, after_body}
-use Rattle.ir_forms.specs.inside.FlatSteps.{loop_turns, result_put, back_in, after_call, chosen}
-use Rattle.ir_forms.specs.inside.FlatRuns.{closed, closing}
+use Rattle.ir_forms.specs.inside.FlatSteps.{loop_turns, result_put, back_in, after_call, chosen, without_vars}
+use Rattle.ir_forms.specs.inside.FlatRuns.{closed, closing, concluded}
 use Rattle.reg_assign.specs.inside.Live.{VarSet, empty, one, minus, reads, reads_any, result}
 use Rattle.reg_assign.specs.inside.Keeps.{SameOutside, EndsAs, tame_and}
 use Rattle.reg_assign.proofs.Inclusion.{Within, or_left, or_right, or_cases, of_left}
@@ -57,7 +57,7 @@ Follow n b k (Gone s m) r = Meets (λ t. Gone t m) n s r
 Follow n b k (Broke s m) r = Meets (λ t. Broke t m) b s r
 Follow n b k (Again s m) r = Meets (λ t. Again t m) k s r
 Follow n b k (Gave w s m) r = Meets (λ t. Gave w t m) empty s r
-Follow n b k (TooDeep out) r = r ≡ TooDeep out
+Follow n b k (Halts how) r = r ≡ Halts how
 Follow n b k (Unfinished out c) r = r ≡ Unfinished out c
 Follow n b k Wild r = Unit {0}
 
@@ -67,6 +67,44 @@ met end a s t g = record { state = t; same = refl; agree = g }
 
 unfinished_alike : (s t : State) → SameOutside s t → unfinished t ≡ unfinished s
 unfinished_alike s t g = ap₂ Unfinished g.output g.rounds
+
+-- a state without variables, by its parts
+abbrev bare : Memory → List ℕ → List ℕ → ℕ → State
+bare memory input output rounds = record {
+  vars = λ v. None;
+  memory = memory;
+  input = input;
+  output = output;
+  rounds = rounds;
+}
+
+-- states that are the same but for variables end a run alike
+pub ended_alike : (s t : State) (w m : ℕ) → SameOutside s t
+    → Halts (Exited w (without_vars t) m) ≡ Halts (Exited w (without_vars s) m)
+ended_alike s t w m g =
+    ap (λ x. Halts (Exited w (bare x t.input t.output t.rounds) m)) g.memory
+    ∙ ap (λ x. Halts (Exited w (bare s.memory x t.output t.rounds) m)) g.input
+    ∙ ap (λ x. Halts (Exited w (bare s.memory s.input x t.rounds) m)) g.output
+    ∙ ap (λ x. Halts (Exited w (bare s.memory s.input s.output x) m)) g.rounds
+
+-- what whole runs come to is alike where what the calls of main come to is
+pub concluded_alike : (r q : Res) → EndsAs r q → EndsAs (concluded r) (concluded q)
+concluded_alike (Gone s m) q e =
+    record { state = e.state; same = ap concluded e.same; outside = e.outside }
+concluded_alike (Broke s m) q e =
+    record { state = e.state; same = ap concluded e.same; outside = e.outside }
+concluded_alike (Again s m) q e =
+    record { state = e.state; same = ap concluded e.same; outside = e.outside }
+concluded_alike (Gave w s m) q e =
+    record { state = e.state; same = ap concluded e.same; outside = e.outside }
+concluded_alike (Halts (NoRoom out)) q e = ap concluded e
+concluded_alike (Halts (Exited w s m)) q e = record {
+  state = s;
+  same = ap concluded e;
+  outside = record { memory = refl; input = refl; output = refl; rounds = refl };
+}
+concluded_alike (Unfinished out c) q e = ap concluded e
+concluded_alike Wild q e = tt
 
 module _ (n b k : VarSet) where
   -- states that agree settle alike
@@ -116,7 +154,7 @@ module _ (n b k : VarSet) where
       record { state = g.state; same = ap (λ q. then_run q h) g.same; agree = g.agree }
   then_alike mid (Gave w s m) q f h g go =
       record { state = g.state; same = ap (λ q. then_run q h) g.same; agree = g.agree }
-  then_alike mid (TooDeep out) q f h g go = ap (λ q. then_run q h) g
+  then_alike mid (Halts how) q f h g go = ap (λ q. then_run q h) g
   then_alike mid (Unfinished out c) q f h g go = ap (λ q. then_run q h) g
   then_alike mid Wild q f h g go = tt
 
@@ -130,7 +168,7 @@ module _ (n b k : VarSet) where
   post_alike top (Again s m) q f h g go = tt
   post_alike top (Gave w s m) q f h g go =
       record { state = g.state; same = ap (λ q. after_post q h) g.same; agree = g.agree }
-  post_alike top (TooDeep out) q f h g go = ap (λ q. after_post q h) g
+  post_alike top (Halts how) q f h g go = ap (λ q. after_post q h) g
   post_alike top (Unfinished out c) q f h g go = ap (λ q. after_post q h) g
   post_alike top Wild q f h g go = tt
 
@@ -151,7 +189,7 @@ module _ (n b k : VarSet) where
         (post_alike top (fp s m) (hp g.state m) f h (post s g.state m g.agree) go)
     body_alike (Gave w s m) q f h g go =
         record { state = g.state; same = ap (λ q. after_body q hp h) g.same; agree = g.agree }
-    body_alike (TooDeep out) q f h g go = ap (λ q. after_body q hp h) g
+    body_alike (Halts how) q f h g go = ap (λ q. after_body q hp h) g
     body_alike (Unfinished out c) q f h g go = ap (λ q. after_body q hp h) g
     body_alike Wild q f h g go = tt
 
@@ -364,7 +402,7 @@ module _ (n a old keep : VarSet) (lasting : Within old stays) where
         subst (λ q. Follow n b c (settle (back_in s old to w x) m) (after_call t keep to q))
         (sym e.same)
         (settle_alike n b c _ _ m (agree_back w x e.state e.outside))
-    call_alike b c (TooDeep out) q e = ap (after_call t keep to) e
+    call_alike b c (Halts how) q e = ap (after_call t keep to) e
     call_alike b c (Unfinished out r) q e = ap (after_call t keep to) e
     call_alike b c Wild q e = tt
 
@@ -394,6 +432,6 @@ module _ (at size : ℕ) where
     same = ap (closing at size) g.same;
     outside = closed_alike (λ t. Gave w t m) s empty g.state g.agree;
   }
-  closing_alike (TooDeep out) q g = ap (closing at size) g
+  closing_alike (Halts how) q g = ap (closing at size) g
   closing_alike (Unfinished out c) q g = ap (closing at size) g
   closing_alike Wild q g = tt

@@ -3,7 +3,7 @@ use Rattle.std.proofs.Common.{◌≡◌, ℕ, suc, ◌+◌, Bool, true, false, n
 use Rattle.std.proofs.Common.{List, [], ◌∷◌, ◌++◌, length, refl}
 use Rattle.std.proofs.Common.{subst, arith}
 use Rattle.ir_forms.specs.inside.FlatCode.{Step, Let, Frame, Load, Save, Call, Put, Get, If, Loop, Break}
-use Rattle.ir_forms.specs.inside.FlatCode.{Continue, Return, Code, Nop, ◌▹◌}
+use Rattle.ir_forms.specs.inside.FlatCode.{Continue, Return, Halt, Code, Nop, ◌▹◌}
 use Rattle.reg_assign.specs.inside.Live.{VarSet, empty, one, both, minus, reads, reads_any}
 use Rattle.reg_assign.specs.inside.Live.{result}
 use Rattle.reg_assign.specs.inside.Live.{uses_in, uses, head, live_in, live, kept_in, kept}
@@ -93,6 +93,7 @@ mutual
   live_in_within Break n b k t hn hb hk u = hb
   live_in_within Continue n b k t hn hb hk u = hk
   live_in_within (Return x) n b k t hn hb hk u = u
+  live_in_within (Halt x) n b k t hn hb hk u = u
 
   -- what is live before code is within each set that has what it reads and what is live where it leads
   pub live_within : (c : Code) (n b k t : VarSet) → Within n t → Within b t → Within k t
@@ -150,6 +151,7 @@ mutual
   one_each_in Break n b k = refl
   one_each_in Continue n b k = refl
   one_each_in (Return x) n b k = refl
+  one_each_in (Halt x) n b k = refl
 
   -- code has one set for each of its calls
   pub one_each : (c : Code) (n b k : VarSet) → length (kept c n b k) ≡ calls c

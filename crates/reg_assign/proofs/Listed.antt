@@ -14,7 +14,7 @@ use Rattle.ir_forms.specs.declared.flat.FlatStmt.TheOpen.{FlatStmt-F}
 use Rattle.ir_forms.specs.declared.flat.FlatFunc.{FlatFunc}
 use Rattle.ir_forms.specs.declared.flat.FlatProgram.{FlatProgram}
 use Rattle.ir_forms.specs.inside.FlatCode.{Step, Let, Frame, Load, Save, Call, Put, Get, If, Loop, Break}
-use Rattle.ir_forms.specs.inside.FlatCode.{Continue, Return, Code, Nop, ◌▹◌, Function}
+use Rattle.ir_forms.specs.inside.FlatCode.{Continue, Return, Halt, Code, Nop, ◌▹◌, Function}
 use Rattle.ir_forms.specs.inside.FlatViews.{stays, code_of_steps, step_by, step_of, code_of, function_of}
 use Rattle.ir_forms.specs.inside.FlatViews.{program_of}
 use Rattle.reg_assign.specs.inside.Live.{VarSet, empty, one, both, reads, reads_any, reads_if}
@@ -70,6 +70,7 @@ mutual
   uses_in_stay Break = empty_in stays
   uses_in_stay Continue = empty_in stays
   uses_in_stay (Return x) = read_stays x
+  uses_in_stay (Halt x) = reads_stay x
 
   uses_stay : (c : Code) → Within (uses c) stays
   uses_stay Nop = empty_in stays
@@ -105,6 +106,7 @@ mutual
   kept_in_stay Break n b k hn hb hk = tt
   kept_in_stay Continue n b k hn hb hk = tt
   kept_in_stay (Return x) n b k hn hb hk = tt
+  kept_in_stay (Halt x) n b k hn hb hk = tt
 
   kept_stay : (c : Code) (n b k : VarSet) → Within n stays → Within b stays → Within k stays
       → AllStay (kept c n b k)
@@ -190,6 +192,7 @@ layer (FlatStmt-F.Loop a b) = (good_list a, good_list b)
 layer FlatStmt-F.Break = tt
 layer FlatStmt-F.Continue = tt
 layer (FlatStmt-F.Return v) = tt
+layer (FlatStmt-F.Halt v) = tt
 
 stmt_good : (s : FlatStmt) → Good s
 unfolding step_of

@@ -8,7 +8,7 @@ use Rattle.std.proofs.lemmas.Bool.Decides.{nat_tests}
 use Rattle.ir_forms.specs.declared.flat.Arg.{Arg}
 use Rattle.ir_forms.specs.declared.flat.Arg.TheVariants.{Const, Var}
 use Rattle.ir_forms.specs.inside.FlatCode.{Step, Let, Frame, Load, Save, Call, Put, Get, If, Loop, Break}
-use Rattle.ir_forms.specs.inside.FlatCode.{Continue, Return, Code, Nop, ◌▹◌, Function, Program}
+use Rattle.ir_forms.specs.inside.FlatCode.{Continue, Return, Halt, Code, Nop, ◌▹◌, Function, Program}
 use Rattle.ir_forms.specs.inside.FlatViews.{stays}
 use Rattle.ir_forms.specs.inside.FlatFits.{is_lasting, is_variable, FitsVar, FitsArg, FitsLastings, FitsReturn}
 use Rattle.ir_forms.specs.inside.FlatFits.{FitsCall, FitsStep, FitsCode, FitsFunction, FitsProgram}
@@ -85,6 +85,7 @@ module _ (n : ℕ) where
       uses_in_own i Break t = empty_in own
       uses_in_own i Continue t = empty_in own
       uses_in_own i (Return x) t = returned_own x t
+      uses_in_own i (Halt x) t = reads_own x t
 
       pub uses_own : (i : Bool) (c : Code) → FitsCode fs n bytes i c → Within (uses c) own
       uses_own i Nop t = empty_in own
@@ -127,6 +128,7 @@ module _ (W : VarSet) where
     kept_in_in Break n b k hn hb hk u = tt
     kept_in_in Continue n b k hn hb hk u = tt
     kept_in_in (Return x) n b k hn hb hk u = tt
+    kept_in_in (Halt x) n b k hn hb hk u = tt
 
     pub kept_all_in : (c : Code) (n b k : VarSet) → Within n W → Within b W → Within k W
         → Within (uses c) W → AllIn W (kept c n b k)
@@ -222,6 +224,7 @@ module _ (n : ℕ) (keep : ℕ → VarSet) where
     keeps_own_in k Break h = tt
     keeps_own_in k Continue h = tt
     keeps_own_in k (Return x) h = tt
+    keeps_own_in k (Halt x) h = tt
 
     pub keeps_own : (k : ℕ) (c : Code) → KeepsIn keep k (calls c) (is_lasting n)
         → KeepsOwn n (keeping keep k c)
@@ -332,6 +335,7 @@ module _ (fs : List Function) (keep : ℕ → VarSet) (start : ℕ) where
       step_fits k i Break t = t
       step_fits k i Continue t = t
       step_fits k i (Return x) t = t
+      step_fits k i (Halt x) t = t
 
       pub code_fits : (k : ℕ) (i : Bool) (c : Code) → FitsCode fs n bytes i c
           → FitsCode others n bytes i (keeping keep k c)
@@ -355,6 +359,7 @@ mutual
   same_steps_in keep k Break = refl
   same_steps_in keep k Continue = refl
   same_steps_in keep k (Return x) = refl
+  same_steps_in keep k (Halt x) = refl
 
   same_steps : (keep : ℕ → VarSet) (k : ℕ) (c : Code) → steps_of (keeping keep k c) ≡ steps_of c
   same_steps keep k Nop = refl

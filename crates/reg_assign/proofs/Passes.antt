@@ -7,7 +7,7 @@ use Rattle.std.proofs.Common.{append-nil}
 use Rattle.std.proofs.lemmas.List.{reverse-append, reverse-reverse}
 use Rattle.ir_forms.specs.declared.flat.Arg.{Arg}
 use Rattle.ir_forms.specs.inside.FlatCode.{Step, Let, Frame, Load, Save, Call, Put, Get, If, Loop, Break}
-use Rattle.ir_forms.specs.inside.FlatCode.{Continue, Return, Code, Nop, ◌▹◌, Function}
+use Rattle.ir_forms.specs.inside.FlatCode.{Continue, Return, Halt, Code, Nop, ◌▹◌, Function}
 use Rattle.reg_assign.specs.declared.reading.Reading.{Reading}
 use Rattle.reg_assign.specs.declared.walking.Walk.{Walk}
 use Rattle.reg_assign.specs.inside.Live.{VarSet, empty, one, both, minus, reads, reads_any, reads_if}
@@ -98,6 +98,7 @@ mutual
   reading_is_in Continue r = nothing_read r
   reading_is_in (Return None) r = nothing_read r
   reading_is_in (Return (Some x)) r = one_read r x
+  reading_is_in (Halt x) r = one_read r x
 
   reading_is : (c : Code) (r : Reading) → Read r (uses c) (sets c) (reading c r)
   reading_is Nop r = nothing_read r
@@ -239,6 +240,7 @@ mutual
   walked_in Continue b k w n bs ks en eb ek rest e = plain w k ks rest ek e
   walked_in (Return x) b k w n bs ks en eb ek rest e = plain w (read_if x) (reads_if x) rest
       (seen_read_if x) e
+  walked_in (Halt x) b k w n bs ks en eb ek rest e = plain w (read_by x) (reads x) rest (seen_read x) e
 
   walked : (c : Code) (b k : ℕ) (w : Walk) (n bs ks : VarSet) → seen w.live ≡ n → seen b ≡ bs
       → seen k ≡ ks → (rest : List VarSet) → map seen w.loops ≡ rest ++ sets c

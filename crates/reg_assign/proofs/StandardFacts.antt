@@ -3,7 +3,7 @@ use Rattle.std.proofs.Common.{◌≡◌, ℕ, List, [], ◌∷◌, Option, Some,
 use Rattle.trips_isa.specs.declared.op.Op.TheVariants as op
 use Rattle.ir_forms.specs.declared.flat.Arg.TheVariants.{Const, Var}
 use Rattle.ir_forms.specs.inside.FlatCode.{Step, Let, Call, Put, If, Loop, Break, Continue, Return, Code}
-use Rattle.ir_forms.specs.inside.FlatCode.{Nop, ◌▹◌, only, Function, Program}
+use Rattle.ir_forms.specs.inside.FlatCode.{Halt, Nop, ◌▹◌, only, Function, Program}
 use Rattle.ir_forms.specs.inside.FlatViews.{stays}
 use Rattle.ir_forms.specs.inside.Frames.{frame_limit}
 use Rattle.ir_forms.specs.inside.Cells.{apply, load, save, marked}
@@ -82,6 +82,11 @@ leaving = refl
 pub returning : lists (turn (call 64 ▹ give 64 ▹ Nop) (only (Put (Var 2)))) ≡ [] ∷ []
 unfolding members
 returning = refl
+
+-- behind the end of the whole run nothing is live but what the end reads, and before it what it reads is
+pub ending_the_run : lists (turn (call 64 ▹ Halt (Var 3) ▹ Put (Var 2) ▹ Nop) (only (Put (Var 2)))) ≡ (3 ∷ []) ∷ []
+unfolding members
+ending_the_run = refl
 
 -- the functions in their order, and in each the calls in theirs
 pub in_order : live_lists (program

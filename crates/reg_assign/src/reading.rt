@@ -90,6 +90,7 @@ fn read_stmt(s: &FlatStmt, reading: &mut Reading) -> Result<(), Memory>
         FlatStmt::Break => {}
         FlatStmt::Continue => {}
         FlatStmt::Return(value) => note_if(reading, *value),
+        FlatStmt::Halt(value) => note(reading, *value),
     }
     Ok(())
 }

@@ -127,6 +127,7 @@ fn walk_stmt(
         FlatStmt::Break => walk.live = on_break,
         FlatStmt::Continue => walk.live = on_continue,
         FlatStmt::Return(value) => walk.live = read_if(*value),
+        FlatStmt::Halt(value) => walk.live = read_by(*value),
     }
     Ok(())
 }

@@ -3,14 +3,14 @@ use Rattle.std.specs.Prelude.{ℕ, ◌-◌, Bool, false, cond, ◌&&◌, ◌||�
 use Rattle.ir_forms.specs.declared.flat.Arg.{Arg}
 use Rattle.ir_forms.specs.declared.hyper.Exit.TheVariants as exit
 use Rattle.ir_forms.specs.inside.FlatCode.{Step, Let, Frame, Load, Save, Call, Put, Get, If, Loop, Break, Continue}
-use Rattle.ir_forms.specs.inside.FlatCode.{Return, Code, Nop, ◌▹◌}
+use Rattle.ir_forms.specs.inside.FlatCode.{Return, Halt, Code, Nop, ◌▹◌}
 use Rattle.ir_forms.specs.inside.FlatFits.{steps_in, steps_of, is_empty}
 use Rattle.ir_forms.specs.inside.HyperCode.{Done, Leave, Test, Block}
 use Rattle.ir_forms.specs.inside.HyperRuns.{jump}
 use Rattle.hyper_build.specs.inside.Tree.{Plan, goes_on}
 use Rattle.hyper_build.specs.inside.Parts.{source}
 use Rattle.hyper_build.specs.inside.Legs.{label_or, are_operations, continues}
-use Rattle.hyper_build.specs.inside.Entries.{give}
+use Rattle.hyper_build.specs.inside.Entries.{give, end_label}
 use Rattle.hyper_build.specs.inside.Ground.{Ground, plan, entry_at, left}
 use Rattle.hyper_build.specs.inside.Merging.{merged, test_register}
 use Rattle.hyper_build.specs.inside.Backward.{Emission, with_rest, put_out, cut_at, fall, fall_by, before_by}
@@ -116,6 +116,7 @@ abbrev mutual
   emit_in g broke again on Break s = leaving (jump broke) (cut_at on s)
   emit_in g broke again on Continue s = leaving (jump again) (cut_at on s)
   emit_in g broke again on (Return v) s = leaving (give v (left g.frame)) (cut_at on s)
+  emit_in g broke again on (Halt v) s = leaving (give (Some v) (jump end_label)) (cut_at on s)
 
   -- before code, its last statement first
   pub emit : Ground → ℕ → ℕ → Code → Emission → Emission

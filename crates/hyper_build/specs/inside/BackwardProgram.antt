@@ -10,7 +10,8 @@ use Rattle.ir_forms.specs.inside.HyperRuns.{jump}
 use Rattle.hyper_build.specs.declared.numbering.Numbering.{Numbering}
 use Rattle.hyper_build.specs.inside.Parts.{capped, set_then, save_then}
 use Rattle.hyper_build.specs.inside.Passing.{parameter_moves, parameter_cuts}
-use Rattle.hyper_build.specs.inside.Routines.{full_label, end_label, start_block, system_block}
+use Rattle.hyper_build.specs.inside.Routines.{full_label, start_block, system_block}
+use Rattle.hyper_build.specs.inside.Entries.{end_label}
 use Rattle.hyper_build.specs.inside.Laws.{plan_of, built_program}
 use Rattle.hyper_build.specs.inside.Ground.{Ground, plan, entry_at, left}
 use Rattle.hyper_build.specs.inside.Backward.{Emission, with_rest, put_out, cut_at, before, setting}

@@ -7,7 +7,7 @@ use Rattle.ir_forms.specs.inside.Frames.{register_of}
 use Rattle.ir_forms.specs.inside.HyperCode.{Block}
 use Rattle.ir_forms.specs.inside.HyperRuns.{jump}
 use Rattle.hyper_build.specs.inside.Tree.{Stmt, LetAt, FrameAt, LoadAt, SaveAt, CallAt, PutAt, GetAt, IfAt}
-use Rattle.hyper_build.specs.inside.Tree.{LoopAt, BreakAt, ContinueAt, ReturnAt, Tree, End, ◌▸◌}
+use Rattle.hyper_build.specs.inside.Tree.{LoopAt, BreakAt, ContinueAt, ReturnAt, HaltAt, Tree, End, ◌▸◌}
 use Rattle.hyper_build.specs.inside.Parts.{set_then, cut, cut_blocks, chain_blocks, chain_size, moved, moved_blocks}
 use Rattle.hyper_build.specs.inside.Passing.{saving, restoring, argument_moves, argument_cuts, result_then}
 use Rattle.hyper_build.specs.inside.Straight.{Place, in_loop, is_item}
@@ -60,6 +60,7 @@ abbrev mutual
   blocks_in p (BreakAt c) l k = cut_blocks c k
   blocks_in p (ContinueAt c) l k = cut_blocks c k
   blocks_in p (ReturnAt c v) l k = cut_blocks c k
+  blocks_in p (HaltAt c v) l k = cut_blocks c k
 
   -- of code, those of its first statement in front
   pub blocks : Place → Tree → ℕ → Block → List Block

@@ -8,7 +8,7 @@ use Rattle.ir_forms.specs.inside.Frames.{register_of}
 use Rattle.ir_forms.specs.inside.HyperCode.{Done, Set, If, Leave, Test, Block}
 use Rattle.ir_forms.specs.inside.HyperRuns.{jump}
 use Rattle.hyper_build.specs.inside.Tree.{Stmt, LetAt, FrameAt, LoadAt, SaveAt, CallAt, PutAt, GetAt, IfAt}
-use Rattle.hyper_build.specs.inside.Tree.{LoopAt, BreakAt, ContinueAt, ReturnAt, Tree, End, ◌▸◌}
+use Rattle.hyper_build.specs.inside.Tree.{LoopAt, BreakAt, ContinueAt, ReturnAt, HaltAt, Tree, End, ◌▸◌}
 use Rattle.hyper_build.specs.inside.Parts.{source, capped, set_then, load_then, save_then, cut, chain}
 use Rattle.hyper_build.specs.inside.Parts.{chain_size, moved}
 use Rattle.hyper_build.specs.inside.Passing.{saving, restoring, argument_moves, argument_cuts}
@@ -35,6 +35,10 @@ abbrev pub back_block : Place → Bool → List (List ℕ) → ℕ → Block →
 back_block p small groups l k = chain small (map (restoring p.frame) groups) l k
 
 -- RETURNS
+
+-- the block that main comes back to, which ends the run with its result
+abbrev pub end_label : ℕ
+end_label = 1
 
 -- a value goes to register 3
 abbrev pub give : Option Arg → Block → Block
@@ -91,6 +95,7 @@ abbrev mutual
   entry_in p (BreakAt c) l k = jump p.broke
   entry_in p (ContinueAt c) l k = jump p.again
   entry_in p (ReturnAt c v) l k = give v p.gave
+  entry_in p (HaltAt c v) l k = give (Some v) (jump end_label)
 
   -- of code: each statement goes on with the next, and the last with k
   pub entry : Place → Tree → ℕ → Block → Block

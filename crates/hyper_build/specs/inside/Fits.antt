@@ -9,10 +9,11 @@ use Rattle.ir_forms.specs.inside.Frames.{frame_limit}
 use Rattle.ir_forms.specs.inside.FlatFits.{is_lasting, FitsVar, FitsArg, FitsLastings, FitsResult}
 use Rattle.ir_forms.specs.inside.FlatFits.{FitsReturn, operates, loads, stores}
 use Rattle.hyper_build.specs.inside.Tree.{Stmt, LetAt, FrameAt, LoadAt, SaveAt, CallAt, PutAt, GetAt, IfAt}
-use Rattle.hyper_build.specs.inside.Tree.{LoopAt, BreakAt, ContinueAt, ReturnAt, Tree, End, ◌▸◌, Routine}
+use Rattle.hyper_build.specs.inside.Tree.{LoopAt, BreakAt, ContinueAt, ReturnAt, HaltAt, Tree, End, ◌▸◌, Routine}
 use Rattle.hyper_build.specs.inside.Tree.{is_saved}
 use Rattle.hyper_build.specs.inside.Straight.{Place}
 use Rattle.hyper_build.specs.inside.Merging.{SetsLow}
+use Rattle.hyper_build.specs.inside.Entries.{end_label}
 use Rattle.hyper_build.specs.inside.Routines.{routine_blocks, system_block, full_label}
 use Rattle.hyper_build.specs.inside.World.{World, Has, IsFaithful, frame}
 
@@ -73,6 +74,7 @@ abbrev mutual
   FitsStmt W g inside (BreakAt c) = inside ≡ true
   FitsStmt W g inside (ContinueAt c) = inside ≡ true
   FitsStmt W g inside (ReturnAt c a) = FitsReturn g.scalars a × IsWordReturn a
+  FitsStmt W g inside (HaltAt c a) = FitsArg g.scalars a × IsWordArg a
 
   -- each statement of code
   pub FitsTree : World → Routine → Bool → Tree → Type 0
@@ -94,6 +96,8 @@ pub record FitsRoutine (W : World) (g : Routine) : Type 0 where
 
 -- The blocks of each function stand in the program, and it fits.
 pub record IsBuilt (W : World) : Type 0 where
+  -- the block that ends a run with its result
+  pub ends : slice_get W.program end_label ≡ Some (system_block 3 end_label)
   -- the block that ends a run whose stack is full
   pub full : slice_get W.program full_label ≡ Some (system_block 4 full_label)
   -- from its entry on

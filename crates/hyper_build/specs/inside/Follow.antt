@@ -2,11 +2,11 @@
 use Rattle.std.specs.Prelude.{◌≡◌, ℕ, ◌+◌, ◌*◌, ◌%◌, ◌^◌, ◌<◌, ◌≤◌, List, length, Option, Some, None}
 use Rattle.std.specs.Prelude.{slice_get}
 use Rattle.ir_forms.specs.inside.Frames.{frame_limit, argument_register}
-use Rattle.ir_forms.specs.inside.FlatSteps.{State, Res, Gone, Broke, Again, Gave, TooDeep, Unfinished}
-use Rattle.ir_forms.specs.inside.FlatSteps.{Wild, Calls}
+use Rattle.ir_forms.specs.inside.FlatSteps.{State, Res, Gone, Broke, Again, Gave, Halts, Unfinished, Wild}
+use Rattle.ir_forms.specs.inside.FlatSteps.{How, NoRoom, Exited, Calls}
 use Rattle.ir_forms.specs.inside.FlatRuns.{argument}
 use Rattle.ir_forms.specs.inside.HyperCode.{Block}
-use Rattle.ir_forms.specs.inside.HyperRuns.{Machine, Running, Full, jump, block_at, run}
+use Rattle.ir_forms.specs.inside.HyperRuns.{Machine, Standing, Running, Ended, Full, jump, block_at, run}
 use Rattle.hyper_build.specs.inside.Tree.{Routine}
 use Rattle.hyper_build.specs.inside.Straight.{Place}
 use Rattle.hyper_build.specs.inside.Routines.{parameters_size}
@@ -48,13 +48,19 @@ pub record Came (W : World) (lo : ℕ) (R : Relation) (b : Block) (s : State) (m
     pub few : j + 2 * n' ≤ 2 * n + extra
     pub rounds : s'.rounds ≤ s.rounds + j
 
--- The stack is full.
-pub record Overflows (W : World) (b : Block) (m : Machine) (n extra : ℕ) (out : List ℕ) : Type 0
+-- how the machine stands where the flat program's run stops at once: the stack is full, or the run has
+-- ended with a value
+abbrev pub standing_of : How → Standing
+standing_of (NoRoom out) = Full out
+standing_of (Exited w s m) = Ended s.output w
+
+-- The run stops at once.
+pub record HaltsSo (W : World) (b : Block) (m : Machine) (n extra : ℕ) (how : How) : Type 0
   where
-    -- how many blocks until it is
+    -- how many blocks until it does
     pub j : ℕ
     -- and stays so
-    pub stops : (k : ℕ) → run W.check W.at W.program (j + k) b m ≡ Full out
+    pub stops : (k : ℕ) → run W.check W.at W.program (j + k) b m ≡ standing_of how
     pub few : j ≤ 2 * n + extra
 
 -- The run has not ended, where the flat program's had no turn left.
@@ -77,7 +83,7 @@ Follows W lo R b s m n extra ways (Again s' n') =
     Came W lo R b s m n extra (ways Continues) Continues s' n'
 Follows W lo R b s m n extra ways (Gave w s' n') =
     Came W lo R b s m n extra (ways (Returns w)) (Returns w) s' n'
-Follows W lo R b s m n extra ways (TooDeep out) = Overflows W b m n extra out
+Follows W lo R b s m n extra ways (Halts how) = HaltsSo W b m n extra how
 Follows W lo R b s m n extra ways (Unfinished out r) = GoesOn W b s m n extra out r
 Follows W lo R b s m n extra ways Wild = Unit {0}
 

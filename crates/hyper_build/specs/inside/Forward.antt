@@ -3,7 +3,7 @@
 use Rattle.std.specs.Prelude.{ℕ, ◌+◌, Bool, cond, ◌&&◌, List, [], ◌∷◌, ◌++◌, Option, Some, None}
 use Rattle.ir_forms.specs.declared.flat.Arg.{Arg}
 use Rattle.ir_forms.specs.inside.FlatCode.{Step, Let, Frame, Load, Save, Call, Put, Get, If, Loop, Break, Continue}
-use Rattle.ir_forms.specs.inside.FlatCode.{Return, Code, Nop, ◌▹◌, Function}
+use Rattle.ir_forms.specs.inside.FlatCode.{Return, Halt, Code, Nop, ◌▹◌, Function}
 use Rattle.ir_forms.specs.inside.FlatFits.{steps_in, steps_of, is_empty}
 use Rattle.hyper_build.specs.declared.emitting.Note.{Note}
 use Rattle.hyper_build.specs.declared.numbering.Numbering.{Numbering}
@@ -95,6 +95,7 @@ abbrev mutual
   number_in p on Break s = with_statement (with_blocks (cut_size on) s)
   number_in p on Continue s = with_statement (with_blocks (cut_size on) s)
   number_in p on (Return v) s = with_statement (with_blocks (cut_size on) s)
+  number_in p on (Halt v) s = with_statement (with_blocks (cut_size on) s)
 
   -- behind code, from its first statement on
   pub number : Plan → Code → Numbering → Numbering

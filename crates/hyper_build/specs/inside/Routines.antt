@@ -12,14 +12,8 @@ use Rattle.hyper_build.specs.inside.Parts.{moved_blocks, moved_size}
 use Rattle.hyper_build.specs.inside.Passing.{parameter_moves, parameter_cuts}
 use Rattle.hyper_build.specs.inside.Straight.{Place}
 use Rattle.hyper_build.specs.inside.Sizes.{size}
-use Rattle.hyper_build.specs.inside.Entries.{entry}
+use Rattle.hyper_build.specs.inside.Entries.{entry, end_label}
 use Rattle.hyper_build.specs.inside.Build.{blocks}
-
--- LABELS OF THE FIRST BLOCKS
-
--- the block that main comes back to, which ends the run with its result
-abbrev pub end_label : ℕ
-end_label = 1
 
 -- the block that ends the run with a full stack
 abbrev pub full_label : ℕ

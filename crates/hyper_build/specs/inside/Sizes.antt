@@ -2,7 +2,7 @@
 use Rattle.std.specs.Prelude.{ℕ, ◌+◌, Bool, cond, List}
 use Rattle.ir_forms.specs.declared.flat.Arg.{Arg}
 use Rattle.hyper_build.specs.inside.Tree.{Stmt, LetAt, FrameAt, LoadAt, SaveAt, CallAt, PutAt, GetAt, IfAt}
-use Rattle.hyper_build.specs.inside.Tree.{LoopAt, BreakAt, ContinueAt, ReturnAt, Tree, End, ◌▸◌}
+use Rattle.hyper_build.specs.inside.Tree.{LoopAt, BreakAt, ContinueAt, ReturnAt, HaltAt, Tree, End, ◌▸◌}
 use Rattle.hyper_build.specs.inside.Parts.{cut_size, chain_size, moved_size}
 use Rattle.hyper_build.specs.inside.Passing.{argument_moves, argument_cuts}
 use Rattle.hyper_build.specs.inside.Straight.{is_item}
@@ -32,6 +32,7 @@ abbrev mutual
   size_in (BreakAt c) = cut_size c
   size_in (ContinueAt c) = cut_size c
   size_in (ReturnAt c v) = cut_size c
+  size_in (HaltAt c v) = cut_size c
 
   -- of code
   pub size : Tree → ℕ

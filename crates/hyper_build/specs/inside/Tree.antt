@@ -4,13 +4,13 @@ use Rattle.std.specs.List.{concat}
 use Rattle.trips_isa.specs.declared.op.Op.{Op}
 use Rattle.ir_forms.specs.declared.flat.Arg.{Arg}
 use Rattle.ir_forms.specs.inside.FlatCode.{Step, Code, Nop, ◌▹◌, Function, Let, Frame, Load, Save, Call, Put}
-use Rattle.ir_forms.specs.inside.FlatCode.{Get, If, Loop, Break, Continue, Return}
+use Rattle.ir_forms.specs.inside.FlatCode.{Get, If, Loop, Break, Continue, Return, Halt}
 use Rattle.ir_forms.specs.inside.FlatFits.{steps_in, steps_of}
 use Rattle.reg_assign.specs.inside.Keeps.{calls_in, calls, is_among}
 
 -- Each name is the flat statement's with `At`. `cut` says that the block ends behind the statement;
--- of a loop, that it ends between body and post; of a break, a continue or a return, that what stands
--- behind has a block. `joined` makes an if an item of its block, `small` cuts a call behind each group that it saves
+-- of a loop, that it ends between body and post; of a break, a continue, a return or the end of the run,
+-- that what stands behind has a block. `joined` makes an if an item of its block, `small` cuts a call behind each group that it saves
 -- or restores, and its arguments behind every third.
 mutual
   -- a flat statement with its annotations
@@ -28,6 +28,7 @@ mutual
     BreakAt : (cut : Bool) → Stmt
     ContinueAt : (cut : Bool) → Stmt
     ReturnAt : (cut : Bool) (value : Option Arg) → Stmt
+    HaltAt : (cut : Bool) (value : Arg) → Stmt
 
   -- statements in order
   pub data Tree : Type 0 where
@@ -57,6 +58,7 @@ abbrev mutual
   plain_in (BreakAt c) = Break
   plain_in (ContinueAt c) = Continue
   plain_in (ReturnAt c v) = Return v
+  plain_in (HaltAt c v) = Halt v
 
   -- of code
   pub plain : Tree → Code
@@ -83,6 +85,7 @@ abbrev pub leaves : Step → Bool
 leaves Break = true
 leaves Continue = true
 leaves (Return v) = true
+leaves (Halt v) = true
 leaves _ = false
 
 -- Whether code does anything before it leaves. Such code has a block of its own behind a statement that
@@ -124,6 +127,7 @@ abbrev mutual
   annotated_in p i k on Break = BreakAt on
   annotated_in p i k on Continue = ContinueAt on
   annotated_in p i k on (Return v) = ReturnAt on v
+  annotated_in p i k on (Halt v) = HaltAt on v
 
   -- code, whose first statement has the number i
   pub annotated : Plan → ℕ → ℕ → Code → Tree

@@ -4,12 +4,13 @@ use Rattle.std.specs.Prelude.{None, slice_get}
 use Rattle.trips_isa.specs.Stores.{data_size}
 use Rattle.ir_forms.specs.inside.Frames.{frames_at, frame_limit}
 use Rattle.ir_forms.specs.inside.FlatCode.{Program}
-use Rattle.ir_forms.specs.inside.FlatSteps.{Res, Gone, Broke, Again, Gave, TooDeep, Unfinished, Wild}
+use Rattle.ir_forms.specs.inside.FlatSteps.{Res, Gone, Broke, Again, Gave, Halts, Unfinished, Wild}
 use Rattle.ir_forms.specs.inside.FlatRuns.{flat_run}
-use Rattle.ir_forms.specs.inside.HyperRuns.{Layout, Standing, Running, Ended, Full, hyper_run}
+use Rattle.ir_forms.specs.inside.HyperRuns.{Layout, Standing, Running, Ended, hyper_run}
 use Rattle.hyper_build.specs.inside.Tree.{Routine, function_of}
 use Rattle.hyper_build.specs.inside.Routines.{entry_from, built}
 use Rattle.hyper_build.specs.inside.World.{World, IsFaithful, AreBytes, checks_of}
+use Rattle.hyper_build.specs.inside.Follow.{standing_of}
 use Rattle.hyper_build.specs.inside.Fits.{FitsRoutine}
 
 -- what is built of functions, of which `main` is called first, where the frames begin at `base`
@@ -60,7 +61,7 @@ EndsSo run n (Broke s m) = Unit {0}
 EndsSo run n (Again s m) = Unit {0}
 EndsSo run n (Gave None s m) = (r : ℕ) × Stops run n (Ended s.output r)
 EndsSo run n (Gave (Some w) s m) = Stops run n (Ended s.output w)
-EndsSo run n (TooDeep out) = Stops run n (Full out)
+EndsSo run n (Halts how) = Stops run n (standing_of how)
 EndsSo run n (Unfinished out r) = IsUnended run n out r
 EndsSo run n Wild = Unit {0}
 

@@ -25,6 +25,8 @@ mutual
     Break : Step
     Continue : Step
     Return : (value : Option Arg) → Step
+    -- the whole run ends, from any depth of calls, with its result
+    Halt : (value : Arg) → Step
 
   -- statements in order
   pub data Code : Type 0 where

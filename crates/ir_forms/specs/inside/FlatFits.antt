@@ -13,7 +13,7 @@ use Rattle.ir_forms.specs.declared.flat.Arg.{Arg}
 use Rattle.ir_forms.specs.declared.flat.Arg.TheVariants.{Const, Var}
 use Rattle.ir_forms.specs.inside.Limits.{first_temporary, first_scratch, variable_count, most_statements}
 use Rattle.ir_forms.specs.inside.FlatCode.{Step, Let, Frame, Load, Save, Call, Put, Get, If, Loop, Break}
-use Rattle.ir_forms.specs.inside.FlatCode.{Continue, Return, Code, Nop, ◌▹◌, Function, Program}
+use Rattle.ir_forms.specs.inside.FlatCode.{Continue, Return, Halt, Code, Nop, ◌▹◌, Function, Program}
 use Rattle.ir_forms.specs.inside.Frames.{frames_at, frame_limit}
 
 -- OPERATIONS
@@ -105,6 +105,7 @@ abbrev mutual
   FitsStep fs n k inside Break = inside ≡ true
   FitsStep fs n k inside Continue = inside ≡ true
   FitsStep fs n k inside (Return a) = FitsReturn n a
+  FitsStep fs n k inside (Halt a) = FitsArg n a
 
   -- each of the statements fits
   pub FitsCode : List Function → ℕ → ℕ → Bool → Code → Type 0

@@ -4,8 +4,8 @@ use Rattle.std.specs.Prelude.{List, [], Option, Some, None, slice_get, slice_ind
 use Rattle.ir_forms.specs.inside.FlatCode.{Function, Program}
 use Rattle.ir_forms.specs.inside.Frames.{frames_at, frame_limit, frame_of, arrays_at}
 use Rattle.ir_forms.specs.inside.Cells.{Mark, Closed, Open, Held, Memory, Checks, marked}
-use Rattle.ir_forms.specs.inside.FlatSteps.{State, Env, Res, Gone, Broke, Again, Gave, TooDeep, Unfinished}
-use Rattle.ir_forms.specs.inside.FlatSteps.{Wild, unfinished, turn, with_memory, Calls, exec}
+use Rattle.ir_forms.specs.inside.FlatSteps.{State, Env, Res, Gone, Broke, Again, Gave, Halts, TooDeep}
+use Rattle.ir_forms.specs.inside.FlatSteps.{NoRoom, Exited, Unfinished, Wild, unfinished, turn, with_memory, Calls, exec}
 
 -- CALLS
 
@@ -19,7 +19,7 @@ closing at size (Gone s m) = Gone (closed at size s) m
 closing at size (Broke s m) = Wild
 closing at size (Again s m) = Wild
 closing at size (Gave w s m) = Gave w (closed at size s) m
-closing at size (TooDeep out) = TooDeep out
+closing at size (Halts how) = Halts how
 closing at size (Unfinished out r) = Unfinished out r
 closing at size Wild = Wild
 
@@ -77,10 +77,21 @@ start P input = record {
   rounds = 0;
 }
 
+-- what the call of main comes to, of a whole run: one that was ended gives the value as if main returned it
+abbrev pub concluded : Res → Res
+concluded (Gone s m) = Gone s m
+concluded (Broke s m) = Broke s m
+concluded (Again s m) = Again s m
+concluded (Gave w s m) = Gave w s m
+concluded (Halts (NoRoom out)) = TooDeep out
+concluded (Halts (Exited w s m)) = Gave (Some w) s m
+concluded (Unfinished out r) = Unfinished out r
+concluded Wild = Wild
+
 -- the call of main, with at most m turns; calls that nest deeper than m cannot come
 unfoldable pub flat_run : Checks → Program → List ℕ → ℕ → Res
 flat_run c P input m =
-    calls_within c P.functions (frames_at P.bytes) (suc m) P.main [] 0 (start P input) m
+    concluded (calls_within c P.functions (frames_at P.bytes) (suc m) P.main [] 0 (start P input) m)
 
 -- the meaning of a program: its run without a check
 abbrev pub unchecked : Checks
@@ -100,7 +111,7 @@ IsWild (Gone s m) = ⊥
 IsWild (Broke s m) = ⊥
 IsWild (Again s m) = ⊥
 IsWild (Gave w s m) = ⊥
-IsWild (TooDeep out) = ⊥
+IsWild (Halts how) = ⊥
 IsWild (Unfinished out r) = ⊥
 IsWild Wild = Unit {0}
 

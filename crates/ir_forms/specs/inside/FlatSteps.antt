@@ -5,7 +5,7 @@ use Rattle.std.specs.Prelude.{[], ◌∷◌, ◌++◌, Option, Some, None}
 use Rattle.ir_forms.specs.declared.flat.Arg.{Arg}
 use Rattle.ir_forms.specs.declared.flat.Arg.TheVariants.{Const, Var}
 use Rattle.ir_forms.specs.inside.FlatCode.{Step, Let, Frame, Load, Save, Call, Put, Get, If, Loop, Break}
-use Rattle.ir_forms.specs.inside.FlatCode.{Continue, Return, Code, Nop, ◌▹◌}
+use Rattle.ir_forms.specs.inside.FlatCode.{Continue, Return, Halt, Code, Nop, ◌▹◌}
 use Rattle.ir_forms.specs.inside.Cells.{Memory, Checks, breach, apply, load, save}
 
 -- how a flat run stands in one active call; what its callers keep is with them
@@ -24,16 +24,26 @@ pub record Env : Type 0 where
   pub arrays : ℕ
   pub used : ℕ
 
+-- How a run stops at once, from any depth of calls: there is no room for a frame, and this was put out;
+-- or it is ended with a value, in a state that has turns left.
+pub data How : Type 0 where
+  NoRoom : (output : List ℕ) → How
+  Exited : (value : ℕ) (s : State) (m : ℕ) → How
+
 -- a state with the turns that are left: it goes on, leaves a loop, begins a loop's next part, or
--- returns; or the run ends: too deep, with no turn left, or by a breach
+-- returns; or the run ends: at once, with no turn left, or by a breach
 pub data Res : Type 0 where
   Gone : (s : State) (m : ℕ) → Res
   Broke : (s : State) (m : ℕ) → Res
   Again : (s : State) (m : ℕ) → Res
   Gave : (value : Option ℕ) (s : State) (m : ℕ) → Res
-  TooDeep : (output : List ℕ) → Res
+  Halts : (how : How) → Res
   Unfinished : (output : List ℕ) (rounds : ℕ) → Res
   Wild : Res
+
+-- calls nest too deep: there is no room for a frame
+abbrev pub TooDeep : List ℕ → Res
+TooDeep out = Halts (NoRoom out)
 
 -- the run is out of turns: what it has put out, and the rounds that it has begun
 abbrev pub unfinished : State → Res
@@ -64,7 +74,7 @@ then_run (Gone s m) next = next s m
 then_run (Broke s m) next = Broke s m
 then_run (Again s m) next = Again s m
 then_run (Gave v s m) next = Gave v s m
-then_run (TooDeep out) next = TooDeep out
+then_run (Halts how) next = Halts how
 then_run (Unfinished out r) next = Unfinished out r
 then_run Wild next = Wild
 
@@ -124,7 +134,7 @@ after_post (Gone s m) next = next s m
 after_post (Broke s m) next = Wild
 after_post (Again s m) next = Wild
 after_post (Gave v s m) next = Gave v s m
-after_post (TooDeep out) next = TooDeep out
+after_post (Halts how) next = Halts how
 after_post (Unfinished out r) next = Unfinished out r
 after_post Wild next = Wild
 
@@ -135,7 +145,7 @@ after_body (Gone s m) post next = after_post (post s m) next
 after_body (Broke s m) post next = settle s m
 after_body (Again s m) post next = after_post (post s m) next
 after_body (Gave v s m) post next = Gave v s m
-after_body (TooDeep out) post next = TooDeep out
+after_body (Halts how) post next = Halts how
 after_body (Unfinished out r) post next = Unfinished out r
 after_body Wild post next = Wild
 
@@ -168,7 +178,7 @@ after_call s kept to (Gone t m) = settle (back_in s kept to None t) m
 after_call s kept to (Broke t m) = Wild
 after_call s kept to (Again t m) = Wild
 after_call s kept to (Gave w t m) = settle (back_in s kept to w t) m
-after_call s kept to (TooDeep out) = TooDeep out
+after_call s kept to (Halts how) = Halts how
 after_call s kept to (Unfinished out r) = Unfinished out r
 after_call s kept to Wild = Wild
 
@@ -178,6 +188,10 @@ after_call s kept to Wild = Wild
 abbrev pub return_of : Checks → State → ℕ → Option Arg → Res
 return_of c s m None = Gave None s m
 return_of c s m (Some x) = must (read c s x) (λ w. Gave (Some w) s m)
+
+-- where the run has ended no variable is set
+abbrev pub without_vars : State → State
+without_vars s = record s { vars = λ v. None }
 
 -- the second where the word is 0
 abbrev pub chosen : ℕ → Res → Res → Res
@@ -209,6 +223,8 @@ abbrev mutual
   act c call e Break s m = turn s m (λ m. Broke s m)
   act c call e Continue s m = turn s m (λ m. Again s m)
   act c call e (Return x) s m = turn s m (λ m. return_of c s m x)
+  act c call e (Halt x) s m =
+      turn s m (λ m. must (read c s x) (λ w. Halts (Exited w (without_vars s) m)))
 
   -- what statements in order come to, within m turns
   pub exec : Checks → Calls → Env → Code → State → ℕ → Res

@@ -7,7 +7,7 @@ use Rattle.ir_forms.specs.declared.flat.FlatFunc.{FlatFunc}
 use Rattle.ir_forms.specs.declared.flat.FlatProgram.{FlatProgram}
 use Rattle.ir_forms.specs.inside.Limits.{first_scratch}
 use Rattle.ir_forms.specs.inside.FlatCode.{Step, Let, Frame, Load, Save, Call, Put, Get, If, Loop, Break}
-use Rattle.ir_forms.specs.inside.FlatCode.{Continue, Return, Code, Nop, ◌▹◌, Function, Program}
+use Rattle.ir_forms.specs.inside.FlatCode.{Continue, Return, Halt, Code, Nop, ◌▹◌, Function, Program}
 
 -- scalars and temporaries stay set over a call, scratch variables do not
 abbrev pub stays : ℕ → Bool
@@ -32,6 +32,7 @@ step_by (stmt.Loop body post) = Loop (code_of_steps body) (code_of_steps post)
 step_by stmt.Break = Break
 step_by stmt.Continue = Continue
 step_by (stmt.Return v) = Return v
+step_by (stmt.Halt v) = Halt v
 
 -- a declared statement
 unfoldable pub step_of : FlatStmt → Step

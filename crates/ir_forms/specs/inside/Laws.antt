@@ -2,7 +2,7 @@
 use Rattle.std.specs.Prelude.{◌≡◌, ℕ, true, false, List}
 use Rattle.ir_forms.specs.inside.FlatCode.{Code, Then, Program, Function}
 use Rattle.ir_forms.specs.inside.Cells.{Checks}
-use Rattle.ir_forms.specs.inside.FlatSteps.{State, Env, Res, Gone, Broke, Again, Gave, TooDeep, Unfinished}
+use Rattle.ir_forms.specs.inside.FlatSteps.{State, Env, Res, Gone, Broke, Again, Gave, Halts, Unfinished}
 use Rattle.ir_forms.specs.inside.FlatSteps.{Wild, unfinished, then_run, exec}
 use Rattle.ir_forms.specs.inside.FlatRuns.{calls_within, flat_run}
 use Rattle.ir_forms.specs.inside.HyperCode.{Block}
@@ -21,7 +21,7 @@ Agrees (Gone s m) r = r ≡ Gone s m
 Agrees (Broke s m) r = r ≡ Broke s m
 Agrees (Again s m) r = r ≡ Again s m
 Agrees (Gave w s m) r = r ≡ Gave w s m
-Agrees (TooDeep out) r = r ≡ TooDeep out
+Agrees (Halts how) r = r ≡ Halts how
 Agrees (Unfinished out n) r = r ≡ Unfinished out n
 Agrees Wild r = Unit {0}
 

@@ -3,10 +3,10 @@ use Rattle.std.specs.Prelude.{◌≡◌, ℕ, zero, suc, ◌+◌, Bool, true, fa
 use Rattle.std.specs.Prelude.{◌∷◌, length, Some, slice_get}
 use Rattle.ir_forms.specs.inside.FlatViews.{stays}
 use Rattle.ir_forms.specs.inside.FlatCode.{Step, Let, Frame, Load, Save, Call, Put, Get, If, Loop, Break}
-use Rattle.ir_forms.specs.inside.FlatCode.{Continue, Return, Code, Nop, ◌▹◌, Function, Program}
+use Rattle.ir_forms.specs.inside.FlatCode.{Continue, Return, Halt, Code, Nop, ◌▹◌, Function, Program}
 use Rattle.ir_forms.specs.inside.FlatFits.{is_lasting, FitsProgram}
 use Rattle.ir_forms.specs.inside.Cells.{Checks}
-use Rattle.ir_forms.specs.inside.FlatSteps.{State, Res, Gone, Broke, Again, Gave, TooDeep, Unfinished}
+use Rattle.ir_forms.specs.inside.FlatSteps.{State, Res, Gone, Broke, Again, Gave, Halts, Unfinished}
 use Rattle.ir_forms.specs.inside.FlatSteps.{Wild}
 use Rattle.ir_forms.specs.inside.FlatRuns.{flat_run}
 use Rattle.reg_assign.specs.inside.Live.{VarSet}
@@ -42,6 +42,7 @@ abbrev mutual
   keeping_in keep k Break = Break
   keeping_in keep k Continue = Continue
   keeping_in keep k (Return x) = Return x
+  keeping_in keep k (Halt x) = Halt x
 
   -- code of which the first call has the number k; calls count in the order of the text
   pub keeping : (ℕ → VarSet) → ℕ → Code → Code
@@ -145,7 +146,7 @@ EndsAs (Gone s m) r = Reaches (λ t. Gone t m) s r
 EndsAs (Broke s m) r = Reaches (λ t. Broke t m) s r
 EndsAs (Again s m) r = Reaches (λ t. Again t m) s r
 EndsAs (Gave w s m) r = Reaches (λ t. Gave w t m) s r
-EndsAs (TooDeep out) r = r ≡ TooDeep out
+EndsAs (Halts how) r = r ≡ Halts how
 EndsAs (Unfinished out n) r = r ≡ Unfinished out n
 EndsAs Wild r = Unit {0}
 

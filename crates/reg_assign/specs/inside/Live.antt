@@ -10,7 +10,7 @@ use Rattle.std.specs.List.{concat}
 use Rattle.ir_forms.specs.declared.flat.Arg.{Arg}
 use Rattle.ir_forms.specs.declared.flat.Arg.TheVariants.{Const, Var}
 use Rattle.ir_forms.specs.inside.FlatCode.{Step, Let, Frame, Load, Save, Call, Put, Get, If, Loop, Break}
-use Rattle.ir_forms.specs.inside.FlatCode.{Continue, Return, Code, Nop, ◌▹◌, Function, Program}
+use Rattle.ir_forms.specs.inside.FlatCode.{Continue, Return, Halt, Code, Nop, ◌▹◌, Function, Program}
 use Rattle.ir_forms.specs.inside.FlatViews.{stays}
 
 -- SETS OF VARIABLES
@@ -72,6 +72,7 @@ abbrev mutual
   uses_in Break = empty
   uses_in Continue = empty
   uses_in (Return x) = reads_if x
+  uses_in (Halt x) = reads x
 
   -- every variable that is read somewhere in code
   pub uses : Code → VarSet
@@ -85,7 +86,7 @@ abbrev pub head : Code → Code → VarSet → VarSet
 head a b next = both next (both (uses a) (uses b))
 
 -- What is live before a statement, where these are live behind it, where a break leads, and where a
--- continue leads. A return leads to where nothing is.
+-- continue leads. A return leads to where nothing is, and so does the end of the whole run.
 abbrev mutual
   -- Before one statement. A loop counts as its head.
   pub live_in : Step → VarSet → VarSet → VarSet → VarSet
@@ -102,6 +103,7 @@ abbrev mutual
   live_in Break next brk con = brk
   live_in Continue next brk con = con
   live_in (Return x) next brk con = reads_if x
+  live_in (Halt x) next brk con = reads x
 
   -- before code, of which each statement is followed by the rest
   pub live : Code → VarSet → VarSet → VarSet → VarSet

@@ -9,7 +9,7 @@ use Rattle.std.specs.Prelude.{◌∷◌, ◌++◌, Option, Some, None}
 use Rattle.ir_forms.specs.declared.flat.Arg.{Arg}
 use Rattle.ir_forms.specs.declared.flat.Arg.TheVariants.{Const, Var}
 use Rattle.ir_forms.specs.inside.FlatCode.{Step, Let, Frame, Load, Save, Call, Put, Get, If, Loop, Break}
-use Rattle.ir_forms.specs.inside.FlatCode.{Continue, Return, Code, Nop, ◌▹◌, Function}
+use Rattle.ir_forms.specs.inside.FlatCode.{Continue, Return, Halt, Code, Nop, ◌▹◌, Function}
 use Rattle.reg_assign.specs.declared.reading.Reading.{Reading}
 use Rattle.reg_assign.specs.declared.walking.Walk.{Walk}
 use Rattle.reg_assign.specs.inside.Live.{VarSet, members}
@@ -82,6 +82,7 @@ abbrev mutual
   reading_in Break r = r
   reading_in Continue r = r
   reading_in (Return x) r = adding_if r x
+  reading_in (Halt x) r = adding r (read_by x)
 
   -- the first pass over code, forward
   pub reading : Code → Reading → Reading
@@ -158,6 +159,7 @@ abbrev mutual
   walk_in Break b k w = living w b
   walk_in Continue b k w = living w k
   walk_in (Return x) b k w = living w (read_if x)
+  walk_in (Halt x) b k w = living w (read_by x)
 
   -- the second pass over code, from its end to its begin
   pub walk : Code → ℕ → ℕ → Walk → Walk

@@ -3,7 +3,7 @@ use Rattle.ir_forms.specs.inside.FlatCode.{Step}
 use Rattle.ir_forms.specs.inside.FlatViews.{code_of, step_of}
 use Rattle.ir_forms.proofs.Views.{step_let, step_frame, step_load, step_save, step_call, step_put}
 use Rattle.ir_forms.proofs.Views.{step_get, step_if, step_loop, step_break, step_continue}
-use Rattle.ir_forms.proofs.Views.{step_return}
+use Rattle.ir_forms.proofs.Views.{step_return, step_halt}
 use Rattle.hyper_build.specs.inside.Backward.{emission_of, last_note}
 use Rattle.hyper_build.specs.inside.Laws.{cuts_by, joins_by}
 use Rattle.hyper_build.specs.inside.BackwardItems.{is_if_item}
@@ -126,6 +126,15 @@ put_stmt-returns-in_ok-put_jump-in-Continue t c =
 pub put_stmt-returns-in_ok-put_return-in-Return : goal.put_stmt-returns-in_ok-put_return-in-Return
 put_stmt-returns-in_ok-put_return-in-Return t c =
     let e = ap step_of c.in-Return.is ∙ step_return _ in
+    let h = part_plain c.args.site.now c.args.broke c.args.again c.args.last c.args.on (step_of c.args.s.now)
+    (emission_of c.args.emitting.now) (λ j. ap (is_test_step j) e) in
+    let k = ap (λ (st : Step).
+    code.emit_in c.args.site.now c.args.broke c.args.again c.args.on st (emission_of c.args.emitting.now)) e in
+    grind (arith, h, k)
+
+pub put_stmt-returns-in_ok-put_halt-in-Halt : goal.put_stmt-returns-in_ok-put_halt-in-Halt
+put_stmt-returns-in_ok-put_halt-in-Halt t c =
+    let e = ap step_of c.in-Halt.is ∙ step_halt _ in
     let h = part_plain c.args.site.now c.args.broke c.args.again c.args.last c.args.on (step_of c.args.s.now)
     (emission_of c.args.emitting.now) (λ j. ap (is_test_step j) e) in
     let k = ap (λ (st : Step).

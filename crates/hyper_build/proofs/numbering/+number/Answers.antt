@@ -3,7 +3,7 @@ use Rattle.ir_forms.specs.inside.FlatCode.{Step}
 use Rattle.ir_forms.specs.inside.FlatViews.{code_of, step_of}
 use Rattle.ir_forms.proofs.Views.{step_let, step_frame, step_load, step_save, step_call, step_put}
 use Rattle.ir_forms.proofs.Views.{step_get, step_if, step_loop, step_break, step_continue}
-use Rattle.ir_forms.proofs.Views.{step_return}
+use Rattle.ir_forms.proofs.Views.{step_return, step_halt}
 use Rattle.hyper_build.specs.inside.Ground.{plan}
 use Rattle.hyper_build.specs.inside.BackwardItems.{is_if_item}
 use Rattle.hyper_build.specs.inside.BackwardCode.{is_bare_code, is_break_code, is_test_step}
@@ -111,6 +111,14 @@ number_stmt-returns-in_ok-count_behind-in-Continue t c =
 pub number_stmt-returns-in_ok-count_behind-in-Return : goal.number_stmt-returns-in_ok-count_behind-in-Return
 number_stmt-returns-in_ok-count_behind-in-Return t c =
     let e = ap step_of c.in-Return.is ∙ step_return _ in
+    let h = numbers_plain c.args.site.now c.args.last c.args.on (step_of c.args.s.now) c.args.numbering.now
+    (λ j. ap (is_test_step j) e) in
+    let k = ap (λ (st : Step). number_in (plan c.args.site.now) c.args.on st c.args.numbering.now) e in
+    grind (arith, h, k)
+
+pub number_stmt-returns-in_ok-count_behind-in-Halt : goal.number_stmt-returns-in_ok-count_behind-in-Halt
+number_stmt-returns-in_ok-count_behind-in-Halt t c =
+    let e = ap step_of c.in-Halt.is ∙ step_halt _ in
     let h = numbers_plain c.args.site.now c.args.last c.args.on (step_of c.args.s.now) c.args.numbering.now
     (λ j. ap (is_test_step j) e) in
     let k = ap (λ (st : Step). number_in (plan c.args.site.now) c.args.on st c.args.numbering.now) e in

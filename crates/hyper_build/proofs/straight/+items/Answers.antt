@@ -3,7 +3,7 @@ use Rattle.ir_forms.specs.inside.FlatCode.{Step}
 use Rattle.ir_forms.specs.inside.FlatViews.{step_of}
 use Rattle.ir_forms.proofs.Views.{step_let, step_frame, step_load, step_save, step_call, step_put}
 use Rattle.ir_forms.proofs.Views.{step_get, step_if, step_loop, step_break, step_continue}
-use Rattle.ir_forms.proofs.Views.{step_return}
+use Rattle.ir_forms.proofs.Views.{step_return, step_halt}
 use Rattle.hyper_build.specs.inside.Emitted.{rest_of}
 use Rattle.hyper_build.specs.inside.BackwardItems as code
 use Rattle.hyper_build.proofs.straight.+items.Goals as goal
@@ -90,4 +90,11 @@ put_item-returns-in-Return t c =
     let h = ap (λ (st : Step).
     code.items_before (code.straight_items_in c.args.arrays st) (rest_of c.args.rest.now))
     (ap step_of c.in-Return.is ∙ step_return _) in
+    grind (arith, h)
+
+pub put_item-returns-in-Halt : goal.put_item-returns-in-Halt
+put_item-returns-in-Halt t c =
+    let h = ap (λ (st : Step).
+    code.items_before (code.straight_items_in c.args.arrays st) (rest_of c.args.rest.now))
+    (ap step_of c.in-Halt.is ∙ step_halt _) in
     grind (arith, h)

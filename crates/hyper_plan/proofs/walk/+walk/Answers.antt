@@ -3,7 +3,7 @@ use Rattle.ir_forms.specs.inside.FlatFits.{steps_in}
 use Rattle.ir_forms.specs.inside.FlatViews.{step_of}
 use Rattle.ir_forms.proofs.Views.{step_let, step_frame, step_load, step_save, step_call, step_put}
 use Rattle.ir_forms.proofs.Views.{step_get, step_if, step_loop, step_break, step_continue}
-use Rattle.ir_forms.proofs.Views.{step_return}
+use Rattle.ir_forms.proofs.Views.{step_return, step_halt}
 use Rattle.hyper_plan.proofs.walk.+walk.Goals as goal
 
 pub walk_stmt-returns-in_ok-single-in-Let-clause-size : goal.walk_stmt-returns-in_ok-single-in-Let-clause-size
@@ -66,4 +66,9 @@ walk_stmt-returns-in_ok-head-in-Continue-clause-size t c =
 pub walk_stmt-returns-in_ok-ending-in-Return-clause-size : goal.walk_stmt-returns-in_ok-ending-in-Return-clause-size
 walk_stmt-returns-in_ok-ending-in-Return-clause-size t c =
     let h = ap steps_in (ap step_of c.in-Return.is ∙ step_return _) in
+    grind (arith, h)
+
+pub walk_stmt-returns-in_ok-ending-in-Halt-clause-size : goal.walk_stmt-returns-in_ok-ending-in-Halt-clause-size
+walk_stmt-returns-in_ok-ending-in-Halt-clause-size t c =
+    let h = ap steps_in (ap step_of c.in-Halt.is ∙ step_halt _) in
     grind (arith, h)

@@ -3,7 +3,7 @@ use Rattle.ir_forms.specs.inside.FlatCode.{Step}
 use Rattle.ir_forms.specs.inside.FlatViews.{step_of}
 use Rattle.ir_forms.proofs.Views.{step_let, step_frame, step_load, step_save, step_call, step_put}
 use Rattle.ir_forms.proofs.Views.{step_get, step_if, step_loop, step_break, step_continue}
-use Rattle.ir_forms.proofs.Views.{step_return}
+use Rattle.ir_forms.proofs.Views.{step_return, step_halt}
 use Rattle.reg_assign.specs.inside.Pass as pass
 use Rattle.reg_assign.proofs.walking.+walk.Goals as goal
 
@@ -77,4 +77,10 @@ pub walk_stmt-returns-in-Return : goal.walk_stmt-returns-in-Return
 walk_stmt-returns-in-Return t c =
     let h = ap (λ (st : Step). pass.walk_in st c.args.on_break c.args.on_continue c.args.walk.now)
     (ap step_of c.in-Return.is ∙ step_return c.in-Return.value) in
+    grind (arith, h)
+
+pub walk_stmt-returns-in-Halt : goal.walk_stmt-returns-in-Halt
+walk_stmt-returns-in-Halt t c =
+    let h = ap (λ (st : Step). pass.walk_in st c.args.on_break c.args.on_continue c.args.walk.now)
+    (ap step_of c.in-Halt.is ∙ step_halt c.in-Halt.value) in
     grind (arith, h)
