@@ -1,0 +1,6 @@
+pub mod Same
+pub mod Cuts
+pub mod Objects
+pub mod Joined
+pub mod Repeats
+pub mod Settled

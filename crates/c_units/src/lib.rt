@@ -1,0 +1,14 @@
+//! Declarations of one object outside of functions (C17 6.9.2), as one, so that the grammar and all behind it know
+//! each object by one declaration (docs/LANGUAGE.md).
+#![tactic(auto)]
+
+mod cuts;
+mod joined;
+mod objects;
+mod repeats;
+mod same;
+mod unit;
+#[cfg(test)]
+mod unit_tests;
+
+pub use crate::unit::{is_settled, settled};
