@@ -8,6 +8,7 @@ ghost use Rattle.c_units.specs.Settled as units;
 
 use crate::joined::joined;
 use crate::repeats::has_no_repeats;
+use base::Items;
 use c_library::LibraryFault;
 use c_tree::{Lexeme, MOST_TOKENS};
 use std::alloc::{AllocError, Global};
@@ -20,26 +21,24 @@ pub fn is_settled(alloc: Global, tokens: &[Lexeme]) -> Result<bool, AllocError>
 }
 
 /// Tokens, if there are as few as there may be, or the first that is too many.
-#[tactic(auto, using(crate::proofs::SettledFacts::few, crate::proofs::SettledFacts::many))]
-fn limited(tokens: Vec<Lexeme>) -> Result<Vec<Lexeme>, LibraryFault>
-    ensures ok { IfOk result (λ out. within most_tokens tokens.items ≡ Ok out.items) }
-    ensures err { IfErr result (Refuses (within most_tokens tokens.items)) }
+fn limited(tokens: Items<Lexeme>) -> Result<Vec<Lexeme>, LibraryFault>
+    ensures ok { IfOk result (λ out. within most_tokens tokens ≡ Ok out.items) }
+    ensures err { IfErr result (Refuses (within most_tokens tokens)) }
 {
     match tokens.get(MOST_TOKENS) {
-        None => Ok(tokens),
+        None => Ok(tokens.into_vec()),
         Some(token) => Err(LibraryFault::TooManyTokens(token.offset)),
     }
 }
 
 /// The tokens of a unit whose declarations are settled. Want of memory is the only error.
-fn unlimited(alloc: Global, tokens: Vec<Lexeme>) -> Result<Vec<Lexeme>, AllocError>
-    ensures { IfOk result (λ out. out.items ≡ units.settled tokens.items) }
+fn unlimited(alloc: Global, tokens: Vec<Lexeme>) -> Result<Items<Lexeme>, AllocError>
+    ensures { IfOk result (λ out. out ≡ units.settled tokens.items) }
 {
     if is_settled(alloc, &tokens)? {
-        Ok(tokens)
+        Ok(Items::from_vec(tokens))
     } else {
-        let unit = joined(alloc, &tokens)?;
-        Ok(unit.into_vec())
+        joined(alloc, &tokens)
     }
 }
 
