@@ -3,6 +3,7 @@ use Rattle.std.proofs.Common.{◌≡◌, ℕ, zero, suc, Bool, true, false, List
 use Rattle.c_tree.specs.declared.Form.{Form}
 use Rattle.c_pre.specs.Texts.{Tokens}
 use Rattle.c_units.specs.declared.repeats.Seen.{Seen}
+use Rattle.c_units.specs.declared.repeats.Sizes.TheVariants as sizes
 use Rattle.c_units.specs.Repeats.{no_repeats_from, beginning}
 use Rattle.c_units.specs.Settled.{is_settled}
 use Rattle.bench_laws.proofs.Forms.{array_forms, function_forms, main_forms, call_forms, end_forms, line_of}
@@ -11,7 +12,7 @@ use Rattle.bench_laws.proofs.Trees.{InLine, Offsets}
 
 -- before a line, where so many brackets are open
 abbrev at_line : ℕ → Seen
-at_line d = record { depth = d; is_front = false; names = codes "a" ∷ [] }
+at_line d = record { depth = d; is_front = false; names = codes "a" ∷ []; sizes = sizes.Scalar }
 
 -- the line may stand there before any tokens: no more is seen behind it
 abbrev Leaves : Seen → List Form → Type 0

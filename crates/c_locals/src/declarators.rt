@@ -37,7 +37,7 @@ fn whole<'a>(parts: Option<(&'a [Lexeme], &'a [Lexeme])>) -> Option<&'a [Lexeme]
 }
 
 /// What stands in the braces, if these are all.
-fn braced(tokens: &[Lexeme]) -> Option<&[Lexeme]>
+pub fn braced(tokens: &[Lexeme]) -> Option<&[Lexeme]>
     ensures { option_map (λ v. v.now) result ≡ declarators.braced tokens.now }
 {
     match tokens {

@@ -14,5 +14,6 @@ mod values;
 mod walk;
 
 pub use crate::brackets::{depth_past, first_piece, is_mark, split};
+pub use crate::declarators::braced;
 pub use crate::objects::{has_no_objects, with_objects};
 pub use crate::walk::is_word;

@@ -8,13 +8,16 @@ use Rattle.c_tree.specs.declared.Lexeme.{Lexeme}
 use Rattle.c_lex.specs.Lexes.{Tokens}
 use Rattle.c_library.proofs.Holds.{Fact, EachToken, Allows, each_append}
 use Rattle.c_locals.specs.Brackets.{Parts, split, pieces}
+use Rattle.c_library.specs.Calls.{is_mark}
+use Rattle.c_locals.specs.Declarators.{whole, braced}
 use Rattle.c_locals.specs.Elements.{marked}
 use Rattle.c_locals.specs.Values.{is_word}
 use Rattle.c_locals.proofs.KeptElements.{EachPart, EachPiece, parts_keep, pieces_keep, marked_keeps}
 use Rattle.c_units.specs.declared.cuts.Cut.{Cut}
 use Rattle.c_units.specs.declared.objects.Declaration.{Declaration}
 use Rattle.c_units.specs.Cuts.{start, past, ends, beginning, with_token, ended, step, cut, items}
-use Rattle.c_units.specs.Objects.{is_extern, is_qualifier, words_from, behind_words, are_objects, sizes_by, value_by}
+use Rattle.c_units.specs.Braces.{only_by, only_of, only, begins_list, list_of, has_char, is_one_size, unbraced}
+use Rattle.c_units.specs.Objects.{or_bare, is_extern, is_qualifier, words_from, behind_words, are_objects, sizes_by, value_by}
 use Rattle.c_units.specs.Objects.{declaration, with_piece, each_from, read_body, read_words, read_from, read}
 
 -- ITEMS
@@ -93,10 +96,56 @@ sizes_keep : (P : Fact) (ts : Tokens) (o : Option Parts) → EachToken P ts → 
 sizes_keep P ts None h k = h
 sizes_keep P ts (Some (a, b)) h k = k.0
 
-value_keeps : (P : Fact) (at : ℕ) (o : Option Parts) → Allows P → EachPart P o → EachToken P (value_by at o)
-value_keeps P at None a k = tt
-value_keeps P at (Some (x, b)) a k =
-    each_append P (marked at mark.Assign) b (marked_keeps P at mark.Assign a) k.1
+-- it holds of what is there
+abbrev EachOf : Fact → Option Tokens → Type 0
+EachOf P None = Unit {0}
+EachOf P (Some ts) = EachToken P ts
+
+whole_keeps : (P : Fact) (o : Option Parts) → EachPart P o → EachOf P (whole o)
+whole_keeps P None h = tt
+whole_keeps P (Some ([], b)) h = tt
+whole_keeps P (Some (v ∷ vs, [])) h = h.0
+whole_keeps P (Some (v ∷ vs, t ∷ ts)) h = tt
+
+if_there : (P : Fact) (x : Bool) (o : Option Tokens) → EachOf P o → EachOf P (cond x o None)
+if_there P true o h = h
+if_there P false o h = tt
+
+braced_keeps : (P : Fact) (ts : Tokens) → EachToken P ts → EachOf P (braced ts)
+braced_keeps P [] h = tt
+braced_keeps P (t ∷ ts) h =
+    if_there P (is_mark mark.LeftBrace t.form) (whole (split mark.RightBrace ts))
+    (whole_keeps P (split mark.RightBrace ts) (parts_keep P mark.RightBrace ts h.1))
+
+only_by_keeps : (P : Fact) (ts : Tokens) (o : Option Parts) → EachToken P ts → EachPart P o → EachOf P (only_by ts o)
+only_by_keeps P ts None h k = h
+only_by_keeps P ts (Some (a, [])) h k = k.0
+only_by_keeps P ts (Some (a, t ∷ b)) h k = tt
+
+only_of_keeps : (P : Fact) (o : Option Tokens) → EachOf P o → EachOf P (only_of o)
+only_of_keeps P None h = tt
+only_of_keeps P (Some ts) h = only_by_keeps P ts (split mark.Comma ts) h (parts_keep P mark.Comma ts h)
+
+list_keeps : (P : Fact) (o : Option Tokens) → EachOf P o → EachOf P (list_of o)
+list_keeps P None h = tt
+list_keeps P (Some ts) h = if_there P (begins_list ts) (Some ts) h
+
+unbraced_keeps : (P : Fact) (ws sizes value : Tokens) → EachToken P value → EachOf P (unbraced ws sizes value)
+unbraced_keeps P ws [] value h = only_of_keeps P (braced value) (braced_keeps P value h)
+unbraced_keeps P ws (t ∷ ts) value h =
+    if_there P (has_char ws && is_one_size (t ∷ ts)) (list_of (only value))
+    (list_keeps P (only value) (only_of_keeps P (braced value) (braced_keeps P value h)))
+
+bare_keeps : (P : Fact) (ts : Tokens) (o : Option Tokens) → EachToken P ts → EachOf P o → EachToken P (or_bare ts o)
+bare_keeps P ts None h k = h
+bare_keeps P ts (Some us) h k = k
+
+value_keeps : (P : Fact) (ws : Tokens) (at : ℕ) (o : Option Parts) → Allows P → EachPart P o
+    → EachToken P (value_by ws at o)
+value_keeps P ws at None a k = tt
+value_keeps P ws at (Some (x, b)) a k =
+    each_append P (marked at mark.Assign) (or_bare b (unbraced ws x b)) (marked_keeps P at mark.Assign a)
+    (bare_keeps P b (unbraced ws x b) k.1 (unbraced_keeps P ws x b k.1))
 
 declaration_keeps : (P : Fact) (e : Bool) (ws : Tokens) (n : Lexeme) (ts : Tokens) → Allows P → EachToken P ws
     → P n.form → EachToken P ts → EachPartOf P (declaration e ws n ts)
@@ -105,7 +154,7 @@ declaration_keeps P e ws n ts a h k m =
     record {
       head = each_append P ws (n ∷ sizes_by ts (split mark.Assign ts)) h
           (k, sizes_keep P ts (split mark.Assign ts) m parts);
-      value = value_keeps P n.offset (split mark.Assign ts) a parts;
+      value = value_keeps P ws n.offset (split mark.Assign ts) a parts;
     }
 
 piece_keeps : (P : Fact) (e : Bool) (ws : Tokens) (got : List Declaration) (p : Tokens) → Allows P → EachToken P ws

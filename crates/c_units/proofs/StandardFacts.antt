@@ -56,3 +56,15 @@ other_sizes_stay = refl
 
 pub second_value_stays : becomes (valued 1 ++ valued 2) (valued 1 ++ valued 2)
 second_value_stays = refl
+
+-- `int x = { 3 };` is `int x = 3;` (6.7.9, paragraph 11)
+pub braces_of_a_scalar_go : becomes
+    (declares (form.Mark mark.Assign ∷ form.Mark mark.LeftBrace ∷ form.Number 3 Int ∷ form.Mark mark.RightBrace ∷ []))
+    (valued 3)
+braces_of_a_scalar_go = refl
+
+-- `int x[2] = { 3 };` stays
+pub braces_of_an_array_stay : is_settled (tokens 0 (declares
+    (form.Mark mark.LeftBracket ∷ form.Number 2 Int ∷ form.Mark mark.RightBracket ∷ form.Mark mark.Assign
+    ∷ form.Mark mark.LeftBrace ∷ form.Number 3 Int ∷ form.Mark mark.RightBrace ∷ []))) ≡ true
+braces_of_an_array_stay = refl

@@ -4,6 +4,7 @@ use Rattle.c_tree.specs.declared.Form.TheVariants as form
 use Rattle.c_tree.specs.declared.Key.TheVariants as key
 use Rattle.c_tree.specs.declared.Mark.TheVariants as mark
 use Rattle.c_lex.specs.Lexes.{Tokens}
+use Rattle.c_library.specs.Calls.{is_mark}
 use Rattle.c_library.specs.Places.{tokens}
 use Rattle.c_locals.specs.Elements.{marked}
 use Rattle.c_units.specs.declared.joined.Told.{Told}
@@ -56,12 +57,23 @@ extern_of all d = if is_made all d.head then [] else tokens d.at (form.Key key.E
 abbrev pub whole : List Declaration → Declaration → Tokens → Tokens
 whole all d value = extern_of all d ++ (d.head ++ (value ++ marked d.at mark.Semicolon))
 
--- is a declaration behind these one that counts: it has a value, and one before it has one too?
+-- do tokens begin with a `]`?
+abbrev pub begins_end : Tokens → Bool
+begins_end [] = false
+begins_end (t ∷ ts) = is_mark mark.RightBracket t.form
+
+-- is a size left out?
+abbrev pub is_open : Tokens → Bool
+is_open [] = false
+is_open (t ∷ ts) = (is_mark mark.LeftBracket t.form && begins_end ts) || is_open ts
+
+-- Is a declaration behind these one that counts, where one of these has a value: it has one too, or leaves out a size,
+-- which `sizeof` behind it was not told?
 abbrev pub counts : List Declaration → Declaration → Bool
-counts before d = has_value d && is_any (value_of before d.head)
+counts before d = (has_value d || is_open d.head) && is_any (value_of before d.head)
 
 -- What stands for a declaration behind these, of all: the first one of its object has the value that the object has,
--- and the others go; so does not a second value, which the typing refuses.
+-- and the others go; so does not a second value, nor a size that is left out behind it, which are refused.
 abbrev pub single : List Declaration → List Declaration → Declaration → Tokens
 single before all d =
     if nat_eq (count before d.head) 0 then whole all d (value_of all d.head)
@@ -78,9 +90,9 @@ abbrev pub each_told : List Declaration → List Declaration → Told → Told
 each_told all [] s = s
 each_told all (d ∷ ds) s = each_told all ds (one_told all d s)
 
--- is a declaration the only one of its object, and not `extern`?
+-- is a declaration the only one of its object, and neither `extern` nor with a value whose braces went?
 abbrev pub is_alone : List Declaration → Declaration → Bool
-is_alone all d = not d.external && nat_eq (count all d.head) 1
+is_alone all d = not d.external && (not d.is_bared && nat_eq (count all d.head) 1)
 
 -- is each of these?
 abbrev pub are_alone : List Declaration → List Declaration → Bool

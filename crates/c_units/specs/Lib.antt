@@ -1,5 +1,6 @@
 pub mod Same
 pub mod Cuts
+pub mod Braces
 pub mod Objects
 pub mod Joined
 pub mod Repeats

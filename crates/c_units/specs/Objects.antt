@@ -1,5 +1,6 @@
 -- The objects that an item of a unit declares (C17 6.7, 6.9.2).
 use Rattle.std.specs.Prelude.{ℕ, Bool, true, false, ◌&&◌, ◌||◌, if◌then◌else◌, List, [], ◌∷◌, ◌++◌, Option, Some, None}
+use Rattle.std.specs.Prelude.{is_some}
 use Rattle.c_tree.specs.declared.Form.{Form}
 use Rattle.c_tree.specs.declared.Key.TheVariants as key
 use Rattle.c_tree.specs.declared.Mark.TheVariants as mark
@@ -11,6 +12,7 @@ use Rattle.c_locals.specs.Elements.{marked}
 use Rattle.c_locals.specs.Values.{is_word, is_name}
 use Rattle.c_words.specs.Keys.{is_key}
 use Rattle.c_units.specs.declared.objects.Declaration.{Declaration}
+use Rattle.c_units.specs.Braces.{unbraced}
 
 -- WORDS
 
@@ -57,10 +59,20 @@ abbrev pub sizes_by : Tokens → Option Parts → Tokens
 sizes_by ts None = ts
 sizes_by ts (Some (a, b)) = a
 
+-- the value without its braces, if these go
+abbrev pub bare_by : Tokens → Option Parts → Option Tokens
+bare_by ws None = None
+bare_by ws (Some (a, b)) = unbraced ws a b
+
+-- the tokens, or those that stand for them
+abbrev pub or_bare : Tokens → Option Tokens → Tokens
+or_bare ts None = ts
+or_bare ts (Some us) = us
+
 -- the value, from its `=` on; nothing where there is none
-abbrev pub value_by : ℕ → Option Parts → Tokens
-value_by at None = []
-value_by at (Some (a, b)) = marked at mark.Assign ++ b
+abbrev pub value_by : Tokens → ℕ → Option Parts → Tokens
+value_by ws at None = []
+value_by ws at (Some (a, b)) = marked at mark.Assign ++ or_bare b (unbraced ws a b)
 
 -- the declaration of an object, with `extern` or not and with these words, by its name and what stands behind it
 abbrev pub declaration : Bool → Tokens → Lexeme → Tokens → Declaration
@@ -69,7 +81,8 @@ declaration e ws n ts =
       external = e;
       at = n.offset;
       head = ws ++ n ∷ sizes_by ts (split mark.Assign ts);
-      value = value_by n.offset (split mark.Assign ts);
+      value = value_by ws n.offset (split mark.Assign ts);
+      is_bared = is_some (bare_by ws (split mark.Assign ts));
     }
 
 -- the declarations, with that of a declarator

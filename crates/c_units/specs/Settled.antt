@@ -8,6 +8,7 @@ use Rattle.c_units.specs.Repeats.{has_no_repeats}
 abbrev pub is_settled : Tokens → Bool
 is_settled ts = has_no_repeats ts
 
--- a unit whose declarations are settled: each object outside of functions is declared once
+-- a unit whose declarations are settled: each object outside of functions is declared once, and its
+-- value stands in braces only where the grammar has them
 abbrev pub settled : Tokens → Tokens
 settled ts = if is_settled ts then ts else joined ts

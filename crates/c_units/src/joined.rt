@@ -7,6 +7,7 @@ use crate::cuts::items;
 use crate::objects::{Declaration, read, tokens_copied};
 use crate::same::same_tokens;
 use base::Items;
+use c_locals::is_mark;
 use c_tree::{Form, Key, Lexeme, Mark};
 use std::alloc::{AllocError, Global};
 
@@ -116,11 +117,36 @@ fn whole(
     Ok(out)
 }
 
-/// Is a declaration behind these one that counts?
+/// Do tokens begin with a `]`?
+fn begins_end(tokens: &[Lexeme]) -> bool
+    ensures { result ≡ joined.begins_end tokens.now }
+{
+    match tokens {
+        [] => false,
+        [token, ..] => is_mark(Mark::RightBracket, &token.form),
+    }
+}
+
+/// Is a size left out?
+fn is_open(head: &[Lexeme]) -> bool
+    ensures { result ≡ joined.is_open head.now }
+{
+    let mut rest = head;
+    while let [token, more @ ..] = rest {
+        if is_mark(Mark::LeftBracket, &token.form) && begins_end(more) {
+            return true;
+        }
+        rest = more;
+    }
+    false
+}
+
+/// Is a declaration behind these one that counts, where one of these has a value?
 fn counts(before: &[Declaration], declaration: &Declaration) -> bool
     ensures { result ≡ joined.counts before.now declaration.now }
 {
-    declaration.has_value() && is_any(value_of(before, declaration.head.as_slice()))
+    let head = declaration.head.as_slice();
+    (declaration.has_value() || is_open(head)) && is_any(value_of(before, head))
 }
 
 /// What stands for a declaration behind these, of all.
@@ -144,11 +170,13 @@ fn single(
 
 // THE UNIT
 
-/// Is a declaration the only one of its object, and not `extern`?
+/// Is a declaration the only one of its object, and neither `extern` nor with a value whose braces went?
 fn is_alone(all: &[Declaration], declaration: &Declaration) -> bool
     ensures { result ≡ joined.is_alone all.now declaration.now }
 {
-    !declaration.external && count(all, declaration.head.as_slice()) == 1
+    !declaration.external
+        && !declaration.is_bared
+        && count(all, declaration.head.as_slice()) == 1
 }
 
 /// Is each of these?

@@ -1,10 +1,11 @@
 //! The objects that an item of a unit declares.
 
-ghost use Rattle.std.specs.Prelude.{◌≡◌, [], ◌∷◌, option_map, IfOk, OnOk};
+ghost use Rattle.std.specs.Prelude.{◌≡◌, [], ◌∷◌, option_map, is_some, IfOk, OnOk};
 ghost use Rattle.c_locals.specs.Brackets as brackets;
 ghost use Rattle.c_locals.specs.Values as values;
 ghost use Rattle.c_units.specs.Objects as objects;
 
+use crate::braces::unbraced;
 use base::Items;
 use c_library::token_copied;
 use c_locals::{first_piece, is_mark, is_word, split};
@@ -13,13 +14,15 @@ use c_words::is_key;
 use std::alloc::{AllocError, Global};
 
 /// A declaration of an object: whether it is `extern`, the offset of its name, the words of its type with its name and
-/// its sizes, and its value from the `=` on, which is nothing where it has none.
+/// its sizes, its value from the `=` on, which is nothing where it has none, and whether the value stood in braces that
+/// went.
 #[derive(Drop)]
 pub struct Declaration {
     pub external: bool,
     pub at: u32,
     pub head: Items<Lexeme>,
     pub value: Items<Lexeme>,
+    pub is_bared: bool,
 }
 
 // TOKENS
@@ -47,6 +50,7 @@ impl Declaration {
             at: self.at,
             head: tokens_copied(alloc, self.head.as_slice())?,
             value: tokens_copied(alloc, self.value.as_slice())?,
+            is_bared: self.is_bared,
         })
     }
 }
@@ -157,24 +161,59 @@ fn sizes<'a>(behind: &'a [Lexeme], parts: Option<(&'a [Lexeme], &'a [Lexeme])>) 
     }
 }
 
+/// The value of an object without its braces, if these go.
+fn bare<'a>(
+    words: &[Lexeme],
+    parts: Option<(&'a [Lexeme], &'a [Lexeme])>,
+) -> Option<&'a [Lexeme]>
+    ensures { option_map (λ v. v.now) result
+        ≡ objects.bare_by words.now (option_map (λ p. (p.0.now, p.1.now)) parts.entry) }
+{
+    match parts {
+        None => None,
+        Some((sizes, value)) => unbraced(words, sizes, value),
+    }
+}
+
+/// Does it stand in braces that go?
+fn is_bared(words: &[Lexeme], parts: Option<(&[Lexeme], &[Lexeme])>) -> bool
+    ensures { result ≡ is_some (objects.bare_by words.now (option_map (λ p. (p.0.now, p.1.now)) parts.entry)) }
+{
+    match bare(words, parts) {
+        None => false,
+        Some(_) => true,
+    }
+}
+
+/// The tokens, or those that stand for them.
+fn or_bare<'a>(tokens: &'a [Lexeme], bare: Option<&'a [Lexeme]>) -> &'a [Lexeme]
+    ensures { result.now ≡ objects.or_bare tokens.now (option_map (λ v. v.now) bare.entry) }
+{
+    match bare {
+        None => tokens,
+        Some(bare) => bare,
+    }
+}
+
 /// The value of an object.
 fn value(
     alloc: Global,
+    words: &[Lexeme],
     at: u32,
     parts: Option<(&[Lexeme], &[Lexeme])>,
 ) -> Result<Items<Lexeme>, AllocError>
     ensures { IfOk result (λ out. out
-        ≡ objects.value_by at (option_map (λ p. (p.0.now, p.1.now)) parts.entry)) }
+        ≡ objects.value_by words.now at (option_map (λ p. (p.0.now, p.1.now)) parts.entry)) }
 {
     let mut out = Items::new(alloc);
     match parts {
         None => Ok(out),
-        Some((_, value)) => {
+        Some((sizes, value)) => {
             out.push(Lexeme {
                 offset: at,
                 form: Form::Mark(Mark::Assign),
             })?;
-            out.append(tokens_copied(alloc, value)?)?;
+            out.append(tokens_copied(alloc, or_bare(value, unbraced(words, sizes, value)))?)?;
             Ok(out)
         }
     }
@@ -198,7 +237,8 @@ fn declaration_of(
         external,
         at: name.offset,
         head,
-        value: value(alloc, name.offset, parts)?,
+        value: value(alloc, words, name.offset, parts)?,
+        is_bared: is_bared(words, parts),
     })
 }
 

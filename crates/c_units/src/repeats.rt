@@ -1,21 +1,32 @@
-//! Units in which no name of an object is declared twice outside of brackets, and nothing is `extern`.
+//! Units in which no name of an object is declared twice outside of brackets, nothing is `extern`, and no braces stand
+//! round the value of a scalar or round a list.
 
-ghost use Rattle.std.specs.Prelude.{◌≡◌, ◌<◌, ◌≤◌, ◌+◌, length, option_map, IfOk, OnOk};
+ghost use Rattle.std.specs.Prelude.{◌≡◌, ◌<◌, ◌≤◌, ◌+◌, length, nat_eq, if◌then◌else◌, option_map, IfOk, OnOk};
 ghost use Rattle.c_units.specs.Repeats as repeats;
 
+use crate::braces::begins_list;
 use crate::objects::is_extern;
 use c_locals::{depth_past, is_mark, is_word};
 use c_tree::{Form, Lexeme, Mark, Word};
 use c_words::Names;
 use std::alloc::{AllocError, Global};
 
+/// The sizes of a declarator so far: none, one, or more.
+#[derive(Clone, Copy, Debug, PartialEq, Eq)]
+pub enum Sizes {
+    Scalar,
+    One,
+    More,
+}
+
 /// What is seen before a token: how many brackets are open, whether a word of a type or a `,` stands in front of it,
-/// and the names of objects that are declared.
+/// the names of objects that are declared, and the sizes of the declarator.
 #[derive(Drop)]
 pub struct Seen {
     pub depth: usize,
     pub is_front: bool,
     pub names: Names,
+    pub sizes: Sizes,
 }
 
 /// Do the tokens begin with a `(`?
@@ -48,6 +59,61 @@ fn add_name(alloc: Global, names: &mut Names, name: Option<&Word>) -> Result<(),
     }
 }
 
+/// With one size more.
+fn one_more(sizes: Sizes) -> Sizes
+    ensures { result ≡ repeats.one_more sizes }
+{
+    match sizes {
+        Sizes::Scalar => Sizes::One,
+        _ => Sizes::More,
+    }
+}
+
+/// The sizes behind a token outside of brackets.
+fn sizes_by(sizes: Sizes, form: &Form) -> Sizes
+    ensures { result ≡ repeats.sizes_by sizes form.now }
+{
+    if is_mark(Mark::LeftBracket, form) {
+        one_more(sizes)
+    } else if is_mark(Mark::Comma, form) || is_mark(Mark::Semicolon, form) {
+        Sizes::Scalar
+    } else {
+        sizes
+    }
+}
+
+/// And behind any.
+fn sizes_past(depth: usize, sizes: Sizes, form: &Form) -> Sizes
+    ensures { result ≡ (if nat_eq depth 0 then repeats.sizes_by sizes form.now else sizes) }
+{
+    if depth == 0 {
+        sizes_by(sizes, form)
+    } else {
+        sizes
+    }
+}
+
+/// Do tokens begin with two braces?
+fn begins_lists(tokens: &[Lexeme]) -> bool
+    ensures { result ≡ repeats.begins_lists tokens.now }
+{
+    match tokens {
+        [] => false,
+        [token, more @ ..] => is_mark(Mark::LeftBrace, &token.form) && begins_list(more),
+    }
+}
+
+/// May braces go of a value that these tokens begin with?
+fn may_go(sizes: Sizes, tokens: &[Lexeme]) -> bool
+    ensures { result ≡ repeats.may_go sizes tokens.now }
+{
+    match sizes {
+        Sizes::Scalar => begins_list(tokens),
+        Sizes::One => begins_lists(tokens),
+        Sizes::More => false,
+    }
+}
+
 impl Seen {
     /// Before the first token. It takes no memory.
     fn beginning(alloc: Global) -> Seen
@@ -57,6 +123,7 @@ impl Seen {
             depth: 0,
             is_front: false,
             names: Names::new(alloc),
+            sizes: Sizes::Scalar,
         }
     }
 
@@ -83,11 +150,20 @@ impl Seen {
         }
     }
 
-    /// Does a token, before these, declare a name once more, or is it `extern`?
+    /// Is the token, before these, the `=` of such a value?
+    fn sets_list(&self, form: &Form, behind: &[Lexeme]) -> bool
+        ensures { result ≡ repeats.sets_list form.now behind.now self.now }
+    {
+        is_mark(Mark::Assign, form) && self.depth == 0 && may_go(self.sizes, behind)
+    }
+
+    /// Does a token, before these, declare a name once more, is it `extern`, or does it set such a value?
     fn repeats(&self, form: &Form, behind: &[Lexeme]) -> bool
         ensures { result ≡ repeats.repeats form.now behind.now self.now }
     {
-        is_extern(form) || is_known(&self.names, self.declares(form, behind))
+        is_extern(form)
+            || self.sets_list(form, behind)
+            || is_known(&self.names, self.declares(form, behind))
     }
 
     /// Goes past a token, before these.
@@ -98,13 +174,15 @@ impl Seen {
     {
         let name = self.declares(form, behind);
         add_name(alloc, &mut self.names, name)?;
+        self.sizes = sizes_past(self.depth, self.sizes, form);
         self.depth = depth_past(form, self.depth);
         self.is_front = is_word(form) || is_mark(Mark::Comma, form);
         Ok(())
     }
 }
 
-/// Is no name of an object declared twice, and nothing `extern`? Want of memory is the only error.
+/// Does no token declare a name once more, is none `extern`, and does none set such a value? Want of memory is the only
+/// error.
 pub fn has_no_repeats(alloc: Global, tokens: &[Lexeme]) -> Result<bool, AllocError>
     ensures { IfOk result (λ b. b ≡ repeats.has_no_repeats tokens.now) }
 {

@@ -42,8 +42,8 @@ fn unlimited(alloc: Global, tokens: Vec<Lexeme>) -> Result<Items<Lexeme>, AllocE
     }
 }
 
-/// A unit whose declarations are settled: each object outside of functions is declared once; or the first token that
-/// is too many.
+/// A unit whose declarations are settled: each object outside of functions is declared once, and its value stands in
+/// braces only where the grammar has them; or the first token that is too many.
 ///
 /// A unit in which nothing is to settle is given back as it is.
 pub fn settled(alloc: Global, tokens: Vec<Lexeme>) -> Result<Vec<Lexeme>, LibraryFault>

@@ -26,6 +26,11 @@ const ROWS: &[(&str, &str)] = &[
     ),
     ("int x, x, y;", "int x; int y;"),
     ("char s[]; char s[] = {65, 0};", "char s[] = {65, 0};"),
+    // A size that is left out behind the values is refused: `sizeof` behind it was not told.
+    (
+        "extern char s[]; char s[] = {65, 0}; extern char s[];",
+        "char s[] = {65, 0}; char s[];",
+    ),
     // 6.2.2, 6.9.2: `extern`, with qualifiers.
     (
         "extern int x, y; extern const volatile int t[2]; int x; int y = 1; int t[2] = {1}; extern int y;",
@@ -39,6 +44,20 @@ const ROWS: &[(&str, &str)] = &[
     ("int x; long x;", "int x; long x;"),
     ("int x[2]; int x[3];", "int x[2]; int x[3];"),
     ("int x = 1; int x; int x = 2; int x = 3;", "int x = 1; int x = 2; int x = 3;"),
+    // 6.7.9, paragraphs 11 and 14: braces round the value of a scalar, and round a literal.
+    (
+        "int x = {1}, y, z = {(2, 3),}; char s[] = {{65, 0}}; unsigned char t[3] = {{65, 0},}; int v = {4}; int v;",
+        "int x = 1; int y; int z = (2, 3); char s[] = {65, 0}; unsigned char t[3] = {65, 0}; int v = 4;",
+    ),
+    // Lists that the grammar has, and what it refuses.
+    (
+        "int a[2] = {1}; char b[1][2] = {{1}}; int f(int x) { int y = {1}; return y; }",
+        "int a[2] = {1}; char b[1][2] = {{1}}; int f(int x) { int y = {1}; return y; }",
+    ),
+    (
+        "int x = {}; int y = {1, 2}; int a[2] = {{1, 2}}; char s[] = {{65}, {66}}; char t[] = {{65}, 66}; int z = {1} + 1;",
+        "int x = {}; int y = {1, 2}; int a[2] = {{1, 2}}; char s[] = {{65}, {66}}; char t[] = {{65}, 66}; int z = {1} + 1;",
+    ),
     // What is no object stays, and so does what is malformed.
     (
         "extern int f(void), x; extern x; int x; int x[1] 2; int x[1] 2; int y; int y =; int f; void v; void v; int z",
