@@ -95,11 +95,7 @@ fn is_one_size(sizes: &[Lexeme]) -> bool
 }
 
 /// What stands for a value of an object with these words and these sizes, if its braces go.
-pub fn unbraced<'a>(
-    words: &[Lexeme],
-    sizes: &[Lexeme],
-    value: &'a [Lexeme],
-) -> Option<&'a [Lexeme]>
+pub fn unbraced<'a>(words: &[Lexeme], sizes: &[Lexeme], value: &'a [Lexeme]) -> Option<&'a [Lexeme]>
     ensures { option_map (λ v. v.now) result ≡ braces.unbraced words.now sizes.now value.now }
 {
     match sizes {

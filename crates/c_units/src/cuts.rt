@@ -102,7 +102,9 @@ impl Cut {
         ensures { IfOk result (λ c. c ≡ cuts.ended self) }
     {
         let Cut {
-            mut items, item, ..
+            mut items,
+            item,
+            ..
         } = self;
         items.push(item)?;
         Ok(Cut {
@@ -139,7 +141,9 @@ impl Cut {
         ensures { IfOk result (λ out. out ≡ cuts.cut self []) }
     {
         let Cut {
-            mut items, item, ..
+            mut items,
+            item,
+            ..
         } = self;
         items.push(item)?;
         Ok(items)

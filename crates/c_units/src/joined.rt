@@ -174,9 +174,7 @@ fn single(
 fn is_alone(all: &[Declaration], declaration: &Declaration) -> bool
     ensures { result ≡ joined.is_alone all.now declaration.now }
 {
-    !declaration.external
-        && !declaration.is_bared
-        && count(all, declaration.head.as_slice()) == 1
+    !declaration.external && !declaration.is_bared && count(all, declaration.head.as_slice()) == 1
 }
 
 /// Is each of these?

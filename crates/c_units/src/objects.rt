@@ -162,10 +162,7 @@ fn sizes<'a>(behind: &'a [Lexeme], parts: Option<(&'a [Lexeme], &'a [Lexeme])>) 
 }
 
 /// The value of an object without its braces, if these go.
-fn bare<'a>(
-    words: &[Lexeme],
-    parts: Option<(&'a [Lexeme], &'a [Lexeme])>,
-) -> Option<&'a [Lexeme]>
+fn bare<'a>(words: &[Lexeme], parts: Option<(&'a [Lexeme], &'a [Lexeme])>) -> Option<&'a [Lexeme]>
     ensures { option_map (λ v. v.now) result
         ≡ objects.bare_by words.now (option_map (λ p. (p.0.now, p.1.now)) parts.entry) }
 {

@@ -43,7 +43,10 @@ const ROWS: &[(&str, &str)] = &[
     // Other types, other sizes and two values are refused.
     ("int x; long x;", "int x; long x;"),
     ("int x[2]; int x[3];", "int x[2]; int x[3];"),
-    ("int x = 1; int x; int x = 2; int x = 3;", "int x = 1; int x = 2; int x = 3;"),
+    (
+        "int x = 1; int x; int x = 2; int x = 3;",
+        "int x = 1; int x = 2; int x = 3;",
+    ),
     // 6.7.9, paragraphs 11 and 14: braces round the value of a scalar, and round a literal.
     (
         "int x = {1}, y, z = {(2, 3),}; char s[] = {{65, 0}}; unsigned char t[3] = {{65, 0},}; int v = {4}; int v;",
