@@ -12,6 +12,7 @@ pub mod Forms
 pub mod Lines
 pub mod PlainWords
 pub mod PlainObjects
+pub mod PlainUnits
 pub mod PlainTokens
 pub mod Lexed
 pub mod Parsed

@@ -30,9 +30,11 @@ use Rattle.c_pre.specs.Plain.{is_token, has_no_directive, is_plain}
 use Rattle.c_pre.proofs.PassFacts.{no_sizes}
 use Rattle.c_pre.proofs.Words.{letter_is_token}
 use Rattle.c_sizes.specs.Sized.{is_sized}
+use Rattle.c_units.specs.Settled.{is_settled}
 use Rattle.c_words.specs.Unworded.{has_no_words}
 use Rattle.bench_laws.proofs.PlainWords.{bench_words}
 use Rattle.bench_laws.proofs.PlainObjects.{bench_objects}
+use Rattle.bench_laws.proofs.PlainUnits.{bench_units}
 use Rattle.bench_laws.proofs.Forms.{array_forms, body_forms, function_forms, main_forms, call_forms}
 use Rattle.bench_laws.proofs.Forms.{behind_call_forms, end_forms, line_of, lines_of, tokens}
 use Rattle.bench_laws.proofs.Trees.{InLine, Offsets}
@@ -240,10 +242,11 @@ pub bench_plain : (o : Offsets) (n : ℕ) → is_plain (tokens o n) ≡ true
 bench_plain o n =
     let ts : Tokens = tokens o n in
     let e : tokens_quiet ts ≡ true = all_quiet o n in
+    let last : Bool = is_settled ts && has_no_objects ts in
     and_both (has_no_directive ts) (is_passed ts) (no_directive ts e)
-    (and_both (has_no_name ts) (has_no_words ts && (is_prepared ts && (is_sized ts && has_no_objects ts)))
-    (no_name ts e)
-    (and_both (has_no_words ts) (is_prepared ts && (is_sized ts && has_no_objects ts)) (bench_words o n)
-    (and_both (is_prepared ts) (is_sized ts && has_no_objects ts)
+    (and_both (has_no_name ts) (has_no_words ts && (is_prepared ts && (is_sized ts && last))) (no_name ts e)
+    (and_both (has_no_words ts) (is_prepared ts && (is_sized ts && last)) (bench_words o n)
+    (and_both (is_prepared ts) (is_sized ts && last)
     (and_both (has_no_literal ts) (calls_none ts) (no_literal ts e) (others_call_none ts (others false ts e)))
-    (and_both (is_sized ts) (has_no_objects ts) (no_sizes ts (no_name ts e)) (bench_objects o n)))))
+    (and_both (is_sized ts) last (no_sizes ts (no_name ts e))
+    (and_both (is_settled ts) (has_no_objects ts) (bench_units o n) (bench_objects o n))))))

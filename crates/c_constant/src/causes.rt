@@ -147,7 +147,9 @@ fn broken(op: BinaryOp, kind: Kind, a: u64, b: u64) -> Option<Cause>
         Kind::Char | Kind::Short | Kind::Int | Kind::Long => {
             signed_cause(op, kind, a.cast_signed(), b.cast_signed())
         }
-        Kind::UChar | Kind::UShort | Kind::UInt | Kind::ULong => unsigned_cause(op, kind, a, b),
+        Kind::UChar | Kind::UShort | Kind::UInt | Kind::ULong | Kind::Bool => {
+            unsigned_cause(op, kind, a, b)
+        }
     }
 }
 

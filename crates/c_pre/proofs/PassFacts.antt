@@ -22,6 +22,8 @@ use Rattle.c_pre.specs.Passes.{pass, passed, is_passed}
 use Rattle.c_sizes.specs.Operands.{is_sizeof}
 use Rattle.c_sizes.specs.Sized.{sized, is_sized}
 use Rattle.c_sizes.proofs.SizedFacts.{sized_stays, sized_keeps}
+use Rattle.c_units.specs.Settled.{settled, is_settled}
+use Rattle.c_units.proofs.SettledFacts.{settled_stays, settled_keeps}
 use Rattle.c_words.specs.Unworded.{has_no_words}
 use Rattle.c_words.specs.Worded.{worded}
 use Rattle.c_words.proofs.WordedFacts.{worded_stays, worded_keeps}
@@ -50,6 +52,7 @@ record Tests (ts : Tokens) : Type 0 where
   words : has_no_words ts ≡ true
   library : is_prepared ts ≡ true
   sizes : is_sized ts ≡ true
+  units : is_settled ts ≡ true
   objects : has_no_objects ts ≡ true
 
 tests : (ts : Tokens) → is_passed ts ≡ true → Tests ts
@@ -57,12 +60,14 @@ tests ts e =
     let a = and_right (has_no_name ts) _ e in
     let b = and_right (has_no_words ts) _ a in
     let c = and_right (is_prepared ts) _ b in
+    let d = and_right (is_sized ts) _ c in
     record {
       names = and_left (has_no_name ts) _ e;
       words = and_left (has_no_words ts) _ a;
       library = and_left (is_prepared ts) _ b;
       sizes = and_left (is_sized ts) _ c;
-      objects = and_right (is_sized ts) _ c;
+      units = and_left (is_settled ts) _ d;
+      objects = and_right (is_settled ts) _ d;
     }
 
 -- a keyword that stays behind the pass of names is not `sizeof`
@@ -84,19 +89,22 @@ no_sizes (t ∷ ts) e =
 
 -- tokens that no pass would change stay
 pub passed_stays : (most : ℕ) (ts : Tokens) → is_passed ts ≡ true → length ts ≤ most → passed most ts ≡ Ok ts
-passed_stays most ts e few =
-    let t : Tests ts = tests ts e in
+passed_stays most ts all few =
+    let t : Tests ts = tests ts all in
     let names : Given = pass named most ts in
     let words : Given = names >>= pass worded most in
     let library : Given = words >>= prepared most in
     let sizes : Given = library >>= pass sized most in
+    let units : Given = sizes >>= pass settled most in
     let a : names ≡ Ok ts = stays named most ts few (named_stays ts t.names) in
     let b : words ≡ Ok ts =
     and_stays names (pass worded most) ts a (stays worded most ts few (worded_stays ts t.words)) in
     let c : library ≡ Ok ts = and_stays words (prepared most) ts b (prepared_stays most ts t.library few) in
     let d : sizes ≡ Ok ts =
     and_stays library (pass sized most) ts c (stays sized most ts few (sized_stays ts t.sizes)) in
-    and_stays sizes (pass with_objects most) ts d (stays with_objects most ts few (objects_stay ts t.objects))
+    let e : units ≡ Ok ts =
+    and_stays sizes (pass settled most) ts d (stays settled most ts few (settled_stays ts t.units)) in
+    and_stays units (pass with_objects most) ts e (stays with_objects most ts few (objects_stay ts t.objects))
 
 -- KEEPING
 
@@ -131,6 +139,7 @@ passed_keeps P most ts us a h e =
     let words : Given = names >>= pass worded most in
     let library : Given = words >>= prepared most in
     let sizes : Given = library >>= pass sized most in
+    let units : Given = sizes >>= pass settled most in
     let n : GivesHas Q names = keeps P named most ts names refl (named_keeps P ts a h) in
     let w : GivesHas Q words =
     and_keeps Q names (pass worded most) n
@@ -140,8 +149,11 @@ passed_keeps P most ts us a h e =
     let s : GivesHas Q sizes =
     and_keeps Q library (pass sized most) l
     (λ xs p. keeps P sized most xs (pass sized most xs) refl (sized_keeps P xs a p)) in
-    let o : GivesHas Q (sizes >>= pass with_objects most) =
-    and_keeps Q sizes (pass with_objects most) s
+    let u : GivesHas Q units =
+    and_keeps Q sizes (pass settled most) s
+    (λ xs p. keeps P settled most xs (pass settled most xs) refl (settled_keeps P xs a p)) in
+    let o : GivesHas Q (units >>= pass with_objects most) =
+    and_keeps Q units (pass with_objects most) u
     (λ xs p. keeps P with_objects most xs (pass with_objects most xs) refl (objects_keep P xs a p)) in
     subst (GivesHas Q) e o
 
@@ -156,4 +168,4 @@ last_few f most (Err x) us e = absurd (cc)
 pub passed_few : (most : ℕ) (ts us : Tokens) → passed most ts ≡ Ok us → length us ≤ most
 passed_few most ts us e =
     last_few with_objects most
-    (pass named most ts >>= pass worded most >>= prepared most >>= pass sized most) us e
+    (pass named most ts >>= pass worded most >>= prepared most >>= pass sized most >>= pass settled most) us e

@@ -10,6 +10,7 @@ use c_locals::with_objects;
 use c_names::named;
 use c_sizes::sized;
 use c_tree::Lexeme;
+use c_units::settled;
 use c_words::worded;
 use std::alloc::Global;
 
@@ -23,5 +24,6 @@ pub fn passed(alloc: Global, tokens: Vec<Lexeme>) -> Result<Vec<Lexeme>, Library
     let unit = worded(alloc, unit)?;
     let unit = prepared(alloc, unit)?;
     let unit = sized(alloc, unit)?;
+    let unit = settled(alloc, unit)?;
     with_objects(alloc, unit)
 }

@@ -17,4 +17,6 @@ mod stand;
 #[cfg(test)]
 mod words_tests;
 
+pub use crate::keys::is_key;
+pub use crate::names::Names;
 pub use crate::pass::{has_no_words, worded};

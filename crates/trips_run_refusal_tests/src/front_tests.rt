@@ -124,7 +124,7 @@ const TYPING: &[(&str, &str)] = &[
         "refused type 1 Unknown line 2\n",
     ),
     (
-        "int x;\nint x;\nint main(void) { return 7; }",
+        "int x = 1;\nint x = 2;\nint main(void) { return 7; }",
         "refused type 2 Twice line 2\n",
     ),
     (

@@ -1,0 +1,4 @@
+pub mod SettledFacts
+pub mod KeptObjects
+pub mod KeptUnits
+pub mod StandardFacts

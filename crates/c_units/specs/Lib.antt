@@ -1,0 +1,7 @@
+pub mod Same
+pub mod Cuts
+pub mod Braces
+pub mod Objects
+pub mod Joined
+pub mod Repeats
+pub mod Settled

@@ -1,0 +1,15 @@
+//! Declarations of one object outside of functions (C17 6.9.2), as one, and without braces that are not needed
+//! (6.7.9), so that the grammar and all behind it know each object by one declaration (docs/LANGUAGE.md).
+#![tactic(auto)]
+
+mod braces;
+mod cuts;
+mod joined;
+mod objects;
+mod repeats;
+mod same;
+mod unit;
+#[cfg(test)]
+mod unit_tests;
+
+pub use crate::unit::{is_settled, settled};

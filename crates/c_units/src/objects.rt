@@ -1,0 +1,347 @@
+//! The objects that an item of a unit declares.
+
+ghost use Rattle.std.specs.Prelude.{◌≡◌, [], ◌∷◌, option_map, is_some, IfOk, OnOk};
+ghost use Rattle.c_locals.specs.Brackets as brackets;
+ghost use Rattle.c_locals.specs.Values as values;
+ghost use Rattle.c_units.specs.Objects as objects;
+
+use crate::braces::unbraced;
+use base::Items;
+use c_library::token_copied;
+use c_locals::{first_piece, is_mark, is_word, split};
+use c_tree::{Form, Key, Lexeme, Mark};
+use c_words::is_key;
+use std::alloc::{AllocError, Global};
+
+/// A declaration of an object: whether it is `extern`, the offset of its name, the words of its type with its name and
+/// its sizes, its value from the `=` on, which is nothing where it has none, and whether the value stood in braces that
+/// went.
+#[derive(Drop)]
+pub struct Declaration {
+    pub external: bool,
+    pub at: u32,
+    pub head: Items<Lexeme>,
+    pub value: Items<Lexeme>,
+    pub is_bared: bool,
+}
+
+// TOKENS
+
+/// Copies of tokens. Want of memory is the only error, here and below.
+pub fn tokens_copied(alloc: Global, tokens: &[Lexeme]) -> Result<Items<Lexeme>, AllocError>
+    ensures { IfOk result (λ out. out ≡ tokens.now) }
+{
+    let mut out = Items::new(alloc);
+    let mut rest = tokens;
+    while let [token, more @ ..] = rest {
+        out.push(token_copied(alloc, token)?)?;
+        rest = more;
+    }
+    Ok(out)
+}
+
+impl Declaration {
+    /// The same declaration once more.
+    pub fn copy(&self, alloc: Global) -> Result<Declaration, AllocError>
+        ensures { IfOk result (λ d. d ≡ self.now) }
+    {
+        Ok(Declaration {
+            external: self.external,
+            at: self.at,
+            head: tokens_copied(alloc, self.head.as_slice())?,
+            value: tokens_copied(alloc, self.value.as_slice())?,
+            is_bared: self.is_bared,
+        })
+    }
+}
+
+// WORDS
+
+/// Is it `extern`?
+pub fn is_extern(form: &Form) -> bool
+    ensures { result ≡ objects.is_extern form.now }
+{
+    is_key(Key::Extern, form)
+}
+
+/// Is it a qualifier?
+fn is_qualifier(form: &Form) -> bool
+    ensures { result ≡ objects.is_qualifier form.now }
+{
+    is_key(Key::Const, form) || is_key(Key::Volatile, form)
+}
+
+/// The words of the type that tokens begin with, without qualifiers.
+fn words(alloc: Global, external: bool, tokens: &[Lexeme]) -> Result<Items<Lexeme>, AllocError>
+    ensures { IfOk result (λ out. out ≡ objects.words_from external [] tokens.now) }
+{
+    let mut out = Items::new(alloc);
+    let mut rest = tokens;
+    while let [token, more @ ..] = rest {
+        if is_word(&token.form) {
+            out.push(token_copied(alloc, token)?)?;
+        } else if !(external && is_qualifier(&token.form)) {
+            return Ok(out);
+        }
+        rest = more;
+    }
+    Ok(out)
+}
+
+/// The tokens behind them.
+fn behind_words(external: bool, tokens: &[Lexeme]) -> &[Lexeme]
+    ensures { result.now ≡ objects.behind_words external tokens.now }
+{
+    let mut rest = tokens;
+    while let [token, more @ ..] = rest {
+        if !(is_word(&token.form) || external && is_qualifier(&token.form)) {
+            return rest;
+        }
+        rest = more;
+    }
+    rest
+}
+
+// DECLARATORS
+
+/// Does the declarator of an object go on so behind its name?
+fn goes_on(behind: &[Lexeme]) -> bool
+    ensures { result ≡ objects.goes_on behind.now }
+{
+    match behind {
+        [] => true,
+        [token, ..] => {
+            is_mark(Mark::LeftBracket, &token.form) || is_mark(Mark::Assign, &token.form)
+        }
+    }
+}
+
+/// Is it a name?
+fn is_name(form: &Form) -> bool
+    ensures { result ≡ values.is_name form.now }
+{
+    match form {
+        Form::Name(_) => true,
+        _ => false,
+    }
+}
+
+/// Is it the declarator of an object?
+fn is_object(piece: &[Lexeme]) -> bool
+    ensures { result ≡ objects.is_object piece.now }
+{
+    match piece {
+        [] => false,
+        [name, behind @ ..] => is_name(&name.form) && goes_on(behind),
+    }
+}
+
+/// Is each piece of these tokens?
+fn are_objects(tokens: &[Lexeme]) -> bool
+    ensures { result ≡ objects.are_objects (brackets.pieces tokens.now) }
+{
+    let mut rest = Some(tokens);
+    while let Some(tokens) = rest {
+        let (piece, further) = first_piece(tokens);
+        if !is_object(piece) {
+            return false;
+        }
+        rest = further;
+    }
+    true
+}
+
+/// The sizes of an object.
+fn sizes<'a>(behind: &'a [Lexeme], parts: Option<(&'a [Lexeme], &'a [Lexeme])>) -> &'a [Lexeme]
+    ensures { result.now ≡ objects.sizes_by behind.now (option_map (λ p. (p.0.now, p.1.now)) parts.entry) }
+{
+    match parts {
+        None => behind,
+        Some((sizes, _)) => sizes,
+    }
+}
+
+/// The value of an object without its braces, if these go.
+fn bare<'a>(words: &[Lexeme], parts: Option<(&'a [Lexeme], &'a [Lexeme])>) -> Option<&'a [Lexeme]>
+    ensures { option_map (λ v. v.now) result
+        ≡ objects.bare_by words.now (option_map (λ p. (p.0.now, p.1.now)) parts.entry) }
+{
+    match parts {
+        None => None,
+        Some((sizes, value)) => unbraced(words, sizes, value),
+    }
+}
+
+/// Does it stand in braces that go?
+fn is_bared(words: &[Lexeme], parts: Option<(&[Lexeme], &[Lexeme])>) -> bool
+    ensures { result ≡ is_some (objects.bare_by words.now (option_map (λ p. (p.0.now, p.1.now)) parts.entry)) }
+{
+    match bare(words, parts) {
+        None => false,
+        Some(_) => true,
+    }
+}
+
+/// The tokens, or those that stand for them.
+fn or_bare<'a>(tokens: &'a [Lexeme], bare: Option<&'a [Lexeme]>) -> &'a [Lexeme]
+    ensures { result.now ≡ objects.or_bare tokens.now (option_map (λ v. v.now) bare.entry) }
+{
+    match bare {
+        None => tokens,
+        Some(bare) => bare,
+    }
+}
+
+/// The value of an object.
+fn value(
+    alloc: Global,
+    words: &[Lexeme],
+    at: u32,
+    parts: Option<(&[Lexeme], &[Lexeme])>,
+) -> Result<Items<Lexeme>, AllocError>
+    ensures { IfOk result (λ out. out
+        ≡ objects.value_by words.now at (option_map (λ p. (p.0.now, p.1.now)) parts.entry)) }
+{
+    let mut out = Items::new(alloc);
+    match parts {
+        None => Ok(out),
+        Some((sizes, value)) => {
+            out.push(Lexeme {
+                offset: at,
+                form: Form::Mark(Mark::Assign),
+            })?;
+            out.append(tokens_copied(alloc, or_bare(value, unbraced(words, sizes, value)))?)?;
+            Ok(out)
+        }
+    }
+}
+
+/// The declaration of an object.
+fn declaration_of(
+    alloc: Global,
+    external: bool,
+    words: &[Lexeme],
+    name: &Lexeme,
+    behind: &[Lexeme],
+) -> Result<Declaration, AllocError>
+    ensures { IfOk result (λ d. d ≡ objects.declaration external words.now name.now behind.now) }
+{
+    let parts = split(Mark::Assign, behind);
+    let mut head = tokens_copied(alloc, words)?;
+    head.push(token_copied(alloc, name)?)?;
+    head.append(tokens_copied(alloc, sizes(behind, parts))?)?;
+    Ok(Declaration {
+        external,
+        at: name.offset,
+        head,
+        value: value(alloc, words, name.offset, parts)?,
+        is_bared: is_bared(words, parts),
+    })
+}
+
+/// Adds the declaration of a declarator.
+fn add_piece(
+    alloc: Global,
+    external: bool,
+    words: &[Lexeme],
+    piece: &[Lexeme],
+    out: &mut Items<Declaration>,
+) -> Result<(), AllocError>
+    ensures { OnOk result (out.new ≡ objects.with_piece external words.now out.old piece.now) }
+{
+    match piece {
+        [] => Ok(()),
+        [name, behind @ ..] => out.push(declaration_of(alloc, external, words, name, behind)?),
+    }
+}
+
+/// The declaration of each declarator.
+fn each(
+    alloc: Global,
+    external: bool,
+    words: &[Lexeme],
+    body: &[Lexeme],
+) -> Result<Items<Declaration>, AllocError>
+    ensures { IfOk result (λ out. out ≡ objects.each_from external words.now [] (brackets.pieces body.now)) }
+{
+    let mut out = Items::new(alloc);
+    let mut rest = Some(body);
+    while let Some(tokens) = rest {
+        let (piece, further) = first_piece(tokens);
+        add_piece(alloc, external, words, piece, &mut out)?;
+        rest = further;
+    }
+    Ok(out)
+}
+
+// ITEMS
+
+/// The declarations of declarators, if all are of objects.
+fn read_body(
+    alloc: Global,
+    external: bool,
+    words: &[Lexeme],
+    parts: Option<(&[Lexeme], &[Lexeme])>,
+) -> Result<Items<Declaration>, AllocError>
+    ensures { IfOk result (λ out. out
+        ≡ objects.read_body external words.now (option_map (λ p. (p.0.now, p.1.now)) parts.entry)) }
+{
+    match parts {
+        Some((body, [])) => {
+            if are_objects(body) {
+                each(alloc, external, words, body)
+            } else {
+                Ok(Items::new(alloc))
+            }
+        }
+        _ => Ok(Items::new(alloc)),
+    }
+}
+
+/// Those behind the words of a type.
+fn read_words(
+    alloc: Global,
+    external: bool,
+    words: &[Lexeme],
+    behind: &[Lexeme],
+) -> Result<Items<Declaration>, AllocError>
+    ensures { IfOk result (λ out. out ≡ objects.read_words external words.now behind.now) }
+{
+    match words {
+        [] => Ok(Items::new(alloc)),
+        _ => read_body(alloc, external, words, split(Mark::Semicolon, behind)),
+    }
+}
+
+/// Those of tokens behind `extern`, or of such without.
+fn read_from(
+    alloc: Global,
+    external: bool,
+    tokens: &[Lexeme],
+) -> Result<Items<Declaration>, AllocError>
+    ensures { IfOk result (λ out. out ≡ objects.read_from external tokens.now) }
+{
+    let words = words(alloc, external, tokens)?;
+    read_words(
+        alloc,
+        external,
+        words.as_slice(),
+        behind_words(external, tokens),
+    )
+}
+
+/// The objects that an item declares.
+pub fn read(alloc: Global, item: &[Lexeme]) -> Result<Items<Declaration>, AllocError>
+    ensures { IfOk result (λ out. out ≡ objects.read item.now) }
+{
+    match item {
+        [] => Ok(Items::new(alloc)),
+        [token, more @ ..] => {
+            if is_extern(&token.form) {
+                read_from(alloc, true, more)
+            } else {
+                read_from(alloc, false, item)
+            }
+        }
+    }
+}
