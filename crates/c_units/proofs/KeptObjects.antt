@@ -11,7 +11,7 @@ use Rattle.c_locals.specs.Brackets.{Parts, split, pieces}
 use Rattle.c_library.specs.Calls.{is_mark}
 use Rattle.c_locals.specs.Declarators.{whole, braced}
 use Rattle.c_locals.specs.Elements.{marked}
-use Rattle.c_locals.specs.Values.{is_word}
+use Rattle.c_locals.specs.Walks.{is_word}
 use Rattle.c_locals.proofs.KeptElements.{EachPart, EachPiece, parts_keep, pieces_keep, marked_keeps}
 use Rattle.c_units.specs.declared.cuts.Cut.{Cut}
 use Rattle.c_units.specs.declared.objects.Declaration.{Declaration}

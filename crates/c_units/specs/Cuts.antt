@@ -6,7 +6,7 @@ use Rattle.c_tree.specs.declared.Lexeme.{Lexeme}
 use Rattle.c_lex.specs.Lexes.{Tokens}
 use Rattle.c_library.specs.Calls.{is_mark}
 use Rattle.c_locals.specs.Brackets.{depth_past}
-use Rattle.c_locals.specs.Statics.{is_include}
+use Rattle.c_locals.specs.Stages.{is_include}
 use Rattle.c_units.specs.declared.cuts.Place.{Place}
 use Rattle.c_units.specs.declared.cuts.Cut.{Cut}
 

@@ -9,7 +9,8 @@ use Rattle.c_lex.specs.Lexes.{Tokens}
 use Rattle.c_library.specs.Calls.{is_mark}
 use Rattle.c_locals.specs.Brackets.{Parts, split, pieces}
 use Rattle.c_locals.specs.Elements.{marked}
-use Rattle.c_locals.specs.Values.{is_word, is_name}
+use Rattle.c_locals.specs.Values.{is_name}
+use Rattle.c_locals.specs.Walks.{is_word}
 use Rattle.c_words.specs.Keys.{is_key}
 use Rattle.c_units.specs.declared.objects.Declaration.{Declaration}
 use Rattle.c_units.specs.Braces.{unbraced}

@@ -9,7 +9,7 @@ use Rattle.c_lex.specs.Bytes.{Bytes}
 use Rattle.c_lex.specs.Lexes.{Tokens}
 use Rattle.c_library.specs.Calls.{is_mark}
 use Rattle.c_locals.specs.Brackets.{depth_past}
-use Rattle.c_locals.specs.Values.{is_word}
+use Rattle.c_locals.specs.Walks.{is_word}
 use Rattle.c_words.specs.Names.{is_among}
 use Rattle.c_units.specs.declared.repeats.Seen.{Seen}
 use Rattle.c_units.specs.declared.repeats.Sizes.{Sizes}

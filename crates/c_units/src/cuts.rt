@@ -1,7 +1,7 @@
 //! The items of a unit.
 
 ghost use Rattle.std.specs.Prelude.{◌≡◌, ◌<◌, ◌≤◌, ◌+◌, [], IfOk};
-ghost use Rattle.c_locals.specs.Statics.{is_include};
+ghost use Rattle.c_locals.specs.Stages.{is_include};
 ghost use Rattle.c_units.specs.Cuts as cuts;
 
 use base::Items;
