@@ -12,4 +12,4 @@ mod signal;
 pub use laws::{
     output_goes_on, result_stays_with_more_steps, steps_of_done_are_least, task_means_by_its_parts,
 };
-pub use signal::{Ending, Object, Signal};
+pub use signal::{Ending, Halt, Object, Signal};

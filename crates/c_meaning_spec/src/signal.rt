@@ -19,6 +19,14 @@ pub enum Ending {
     Deep,
 }
 
+/// How an evaluation stops before the end of `main`: for one of these reasons, or by `exit` with this word (C17
+/// 7.22.4.4).
+#[derive(Clone, Copy, Debug, PartialEq, Eq)]
+pub enum Halt {
+    Ends(Ending),
+    Exits(u64),
+}
+
 /// A scalar of the function that runs, or an element of an array, by their numbers.
 #[derive(Clone, Copy, Debug, PartialEq, Eq)]
 pub enum Object {

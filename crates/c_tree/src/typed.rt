@@ -11,12 +11,13 @@ pub enum Place {
     Array(u32),
 }
 
-/// What a call calls: a definition of the program by its number, or a function of `<stdio.h>`.
+/// What a call calls: a definition of the program by its number, a function of `<stdio.h>`, or what ends the whole run.
 #[derive(Clone, Copy, Debug, PartialEq, Eq)]
 pub enum Callee {
     Func(u32),
     GetChar,
     PutChar,
+    Exit,
 }
 
 /// What a scalar slot of a function holds: a value, or the array that an array parameter stands for, with

@@ -16,7 +16,7 @@ use Rattle.c_constant.specs.Kinds.{bytes, converted}
 use Rattle.c_type.specs.Statements.{label_among}
 use Rattle.c_type.specs.States.{in_switch, nowhere}
 use Rattle.c_type.specs.Units.{same_slots, included}
-use Rattle.c_type.specs.FileScopes.{eof_name, getchar_name, putchar_name, main_name}
+use Rattle.c_type.specs.FileScopes.{eof_name, getchar_name, putchar_name, exit_name, main_name}
 use Rattle.c_type.specs.Programs.{table}
 use Rattle.c_type.specs.inside.Programs.{program_fault}
 
@@ -79,6 +79,15 @@ params_differ = refl
 include_defines : look_up (table (at 1 Include ∷ [])) getchar_name
     ≡ Some (meaning.Function (Some Int) [] (Some callee.GetChar) true)
 include_defines = refl
+
+-- it defines what ends the whole run, and declares it of one int and without a result
+exit_defined : look_up (table (at 1 Include ∷ [])) exit_name
+    ≡ Some (meaning.Function None (slot.Scalar Int ∷ []) (Some callee.Exit) true)
+exit_defined = refl
+
+exit_declared : look_up (included ([] ∷ [])) exit_name
+    ≡ Some (meaning.Function None (slot.Scalar Int ∷ []) (Some callee.Exit) true)
+exit_declared = refl
 
 ending_declared : look_up (included ([] ∷ [])) eof_name ≡ Some meaning.EndOfFile
 ending_declared = refl

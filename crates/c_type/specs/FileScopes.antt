@@ -33,6 +33,10 @@ getchar_name = codes "getchar"
 abbrev pub putchar_name : List ℕ
 putchar_name = codes "putchar"
 
+-- the name of what ends the whole run, which no text can have
+abbrev pub exit_name : List ℕ
+exit_name = codes "exit.now"
+
 -- one int as a parameter
 abbrev pub int_slots : List Slot
 int_slots = slot.Scalar Int ∷ []
@@ -45,11 +49,19 @@ get_char = meaning.Function (Some Int) [] (Some callee.GetChar) true
 abbrev pub put_char : Meaning
 put_char = meaning.Function (Some Int) int_slots (Some callee.PutChar) true
 
+-- what ends the whole run with the value of its argument (C17 7.22.4.4)
+abbrev pub exit_now : Meaning
+exit_now = meaning.Function None int_slots (Some callee.Exit) true
+
+-- the names after the functions of the include
+abbrev pub with_functions : Scope → Scope
+with_functions G =
+    declared_in (bound exit_name exit_now)
+    (declared_in (bound putchar_name put_char) (declared_in (bound getchar_name get_char) G))
+
 -- the names after the first include
 abbrev pub with_include : Scope → Scope
-with_include G =
-    declared_in (bound eof_name meaning.EndOfFile)
-    (declared_in (bound putchar_name put_char) (declared_in (bound getchar_name get_char) G))
+with_include G = declared_in (bound eof_name meaning.EndOfFile) (with_functions G)
 
 -- the values of all lists, in the order of the text
 abbrev pub all_values : List (List Expr) → List Expr

@@ -16,18 +16,17 @@ use Rattle.c_type_expr.specs.declared.meaning.Meaning.TheVariants as meaning
 use Rattle.c_type_expr.specs.Scope.{Scope, declared_in, bound}
 use Rattle.c_type.specs.declared.file_scope.FileScope.{FileScope}
 use Rattle.c_type.specs.Units.{included, with_global}
-use Rattle.c_type.specs.FileScopes.{getchar_name, putchar_name, get_char, put_char}
+use Rattle.c_type.specs.FileScopes.{with_functions}
 use Rattle.c_type.specs.Functions.{with_prototype, with_definition}
 use Rattle.c_type.specs.States.{slot_of}
 use Rattle.c_type.specs.FileScopes.{count_after, empty_file}
 
 -- the functions that the unit defines, wherever they stand, by their numbers in the order of the
--- text; the include stands for definitions of its two
+-- text; the include stands for definitions of its three
 
 -- the table after an item
 abbrev pub noted : TopNode → ℕ → Scope → Scope
-noted Include n T =
-    declared_in (bound putchar_name put_char) (declared_in (bound getchar_name get_char) T)
+noted Include n T = with_functions T
 noted (Func given w params (Some body)) n T =
     declared_in (bound w (meaning.Function None [] (Some (callee.Func n)) true)) T
 noted _ n T = T

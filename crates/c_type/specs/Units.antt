@@ -25,7 +25,7 @@ use Rattle.c_constant.specs.Kinds.{bytes}
 use Rattle.c_type.specs.Declarations.{twice_fault}
 use Rattle.c_type.specs.States.{is_end, row_in}
 use Rattle.c_type.specs.FileScopes.{all_values, eof_name, getchar_name, global_names, int_slots, length_in}
-use Rattle.c_type.specs.FileScopes.{putchar_name, with_include}
+use Rattle.c_type.specs.FileScopes.{putchar_name, exit_name, with_include}
 
 -- FUNCTIONS
 
@@ -72,9 +72,11 @@ abbrev pub include_clash : Scope → ℕ → Blame
 include_clash G l =
     first (defined_fault true (look_up G getchar_name) l)
     (first (defined_fault true (look_up G putchar_name) l)
+    (first (defined_fault true (look_up G exit_name) l)
     (first (twice_fault G eof_name l)
     (first (type_fault (Some Int) [] (look_up G getchar_name) l)
-    (type_fault (Some Int) int_slots (look_up G putchar_name) l))))
+    (first (type_fault (Some Int) int_slots (look_up G putchar_name) l)
+    (type_fault None int_slots (look_up G exit_name) l))))))
 
 -- a second include declares nothing
 abbrev pub include_fault : Scope → ℕ → Blame

@@ -1,4 +1,4 @@
-//! The include of `<stdio.h>`: `getchar`, `putchar` and `EOF`.
+//! The include of `<stdio.h>`: `getchar`, `putchar`, what ends the whole run, and `EOF`.
 
 ghost use Rattle.std.specs.Prelude.{◌≡◌, [], ◌∷◌, IfOk};
 ghost use Rattle.c_type_expr.specs.inside.Says.{Says};
@@ -13,22 +13,28 @@ use c_tree::{Callee, Kind, Slot, Word};
 use c_type_expr::{Meaning, Scopes, TypeFault};
 use std::alloc::{AllocError, Global};
 
-pub fn eof_name(alloc: Global) -> Result<Word, AllocError>
+fn eof_name(alloc: Global) -> Result<Word, AllocError>
     ensures { IfOk result (λ w. w ≡ file_scopes.eof_name) }
 {
     Word::from_slice(alloc, b"EOF")
 }
 
-pub fn getchar_name(alloc: Global) -> Result<Word, AllocError>
+fn getchar_name(alloc: Global) -> Result<Word, AllocError>
     ensures { IfOk result (λ w. w ≡ file_scopes.getchar_name) }
 {
     Word::from_slice(alloc, b"getchar")
 }
 
-pub fn putchar_name(alloc: Global) -> Result<Word, AllocError>
+fn putchar_name(alloc: Global) -> Result<Word, AllocError>
     ensures { IfOk result (λ w. w ≡ file_scopes.putchar_name) }
 {
     Word::from_slice(alloc, b"putchar")
+}
+
+fn exit_name(alloc: Global) -> Result<Word, AllocError>
+    ensures { IfOk result (λ w. w ≡ file_scopes.exit_name) }
+{
+    Word::from_slice(alloc, b"exit.now")
 }
 
 fn int_slots(alloc: Global) -> Result<Items<Slot>, AllocError>
@@ -37,7 +43,7 @@ fn int_slots(alloc: Global) -> Result<Items<Slot>, AllocError>
     Items::from_slice(alloc, &[Slot::Scalar(Kind::Int)])
 }
 
-pub fn get_char(alloc: Global) -> Meaning
+fn get_char(alloc: Global) -> Meaning
     ensures { result ≡ file_scopes.get_char }
 {
     Meaning::Function {
@@ -48,13 +54,25 @@ pub fn get_char(alloc: Global) -> Meaning
     }
 }
 
-pub fn put_char(alloc: Global) -> Result<Meaning, AllocError>
+fn put_char(alloc: Global) -> Result<Meaning, AllocError>
     ensures { IfOk result (λ m. m ≡ file_scopes.put_char) }
 {
     Ok(Meaning::Function {
         result: Some(Kind::Int),
         params: int_slots(alloc)?,
         callee: Some(Callee::PutChar),
+        defined: true,
+    })
+}
+
+fn exit_now(alloc: Global) -> Result<Meaning, AllocError>
+    ensures { IfOk result (λ m. m ≡ file_scopes.exit_now) }
+{
+    let params = int_slots(alloc)?;
+    Ok(Meaning::Function {
+        result: None,
+        params,
+        callee: Some(Callee::Exit),
         defined: true,
     })
 }
@@ -66,9 +84,11 @@ fn clash(alloc: Global, names: &Scopes, offset: u32) -> Result<(), TypeFault>
     let eof = eof_name(alloc)?;
     let get = getchar_name(alloc)?;
     let put = putchar_name(alloc)?;
+    let exit = exit_name(alloc)?;
     let slots = int_slots(alloc)?;
     undefined(names.look_up(&get), true, offset)?;
     undefined(names.look_up(&put), true, offset)?;
+    undefined(names.look_up(&exit), true, offset)?;
     twice(names, &eof, offset)?;
     agrees(names.look_up(&get), Some(Kind::Int), &[], offset)?;
     agrees(
@@ -76,16 +96,27 @@ fn clash(alloc: Global, names: &Scopes, offset: u32) -> Result<(), TypeFault>
         Some(Kind::Int),
         slots.as_slice(),
         offset,
-    )
+    )?;
+    agrees(names.look_up(&exit), None, slots.as_slice(), offset)
+}
+
+/// The functions of the include, declared.
+pub fn declare_functions(alloc: Global, names: &mut Scopes) -> Result<(), TypeFault>
+    ensures { Moves None tt (file_scopes.with_functions names.old) names.new result }
+{
+    names.declare(alloc, getchar_name(alloc)?, get_char(alloc))?;
+    let put = put_char(alloc)?;
+    names.declare(alloc, putchar_name(alloc)?, put)?;
+    let exit = exit_now(alloc)?;
+    names.declare(alloc, exit_name(alloc)?, exit)?;
+    Ok(())
 }
 
 /// The names of the include, declared.
 fn declared(alloc: Global, names: &mut Scopes) -> Result<(), TypeFault>
     ensures { Moves None tt (file_scopes.with_include names.old) names.new result }
 {
-    names.declare(alloc, getchar_name(alloc)?, get_char(alloc))?;
-    let put = put_char(alloc)?;
-    names.declare(alloc, putchar_name(alloc)?, put)?;
+    declare_functions(alloc, names)?;
     names.declare(alloc, eof_name(alloc)?, Meaning::EndOfFile)?;
     Ok(())
 }

@@ -13,7 +13,7 @@ ghost use Rattle.c_type.specs.inside.Runs.{Moves};
 use crate::file_scope::FileScope;
 use crate::functions::{callee_in, definition, prototype};
 use crate::globals::global;
-use crate::includes::{get_char, getchar_name, include, put_char, putchar_name};
+use crate::includes::{declare_functions, include};
 use base::{Items, Queue};
 use c_tree::{Callee, Kind, Param, Program, Stmt, Top, TopNode, TypedProgram, Word};
 use c_type_expr::{Meaning, Scopes, TypeFault};
@@ -25,12 +25,7 @@ fn note(alloc: Global, table: &mut Scopes, node: &TopNode, number: u32) -> Resul
         table.new result }
 {
     match node {
-        TopNode::Include => {
-            table.declare(alloc, getchar_name(alloc)?, get_char(alloc))?;
-            let put = put_char(alloc)?;
-            table.declare(alloc, putchar_name(alloc)?, put)?;
-            Ok(())
-        }
+        TopNode::Include => declare_functions(alloc, table),
         TopNode::Func {
             name,
             body: Some(_),

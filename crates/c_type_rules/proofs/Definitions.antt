@@ -12,10 +12,10 @@ use Rattle.c_tree.specs.declared.tree.TopNode.TheVariants.{Include, Global, Func
 use Rattle.c_tree.specs.declared.typed.Callee.{Callee}
 use Rattle.c_type_expr.specs.declared.meaning.Meaning.{Meaning}
 use Rattle.c_type_expr.specs.Scope.{Scope, same_name, look_up, or_else, find, declared_in, bound}
-use Rattle.c_type.specs.FileScopes.{getchar_name, putchar_name, get_char, put_char, count_after}
+use Rattle.c_type.specs.FileScopes.{getchar_name, putchar_name, exit_name, get_char, put_char, exit_now, count_after}
 use Rattle.c_type.specs.Functions.{callee_in}
 use Rattle.c_type.specs.Programs.{noted, definitions, table}
-use Rattle.c_type_rules.specs.Definitions.{Defines, Calls, CallsIn, function, input, output}
+use Rattle.c_type_rules.specs.Definitions.{Defines, Calls, CallsIn, function, input, output, exit}
 use Rattle.c_type_rules.specs.Definitions.{no_item, defined, defined_later, not_defined}
 use Rattle.c_type_rules.proofs.Tests.{both_hold}
 
@@ -44,20 +44,29 @@ passed_by : (v w : List ℕ) (m : Meaning) (T : Scope) → same_name v w ≡ fal
 passed_by v w m [] h = ap (λ b. or_else (cond b (Some m) None) None) h
 passed_by v w m (f ∷ T) h = ap (λ b. or_else (cond b (Some m) (find f w)) (look_up T w)) h
 
+-- the names with those of `getchar` and `putchar`
+abbrev after_writing : Scope → Scope
+after_writing T = declared_in (bound putchar_name put_char) (declared_in (bound getchar_name get_char) T)
+
 -- what an item defines is noted
 noted_as : (n : ℕ) (x : TopNode) (w : List ℕ) (c : Callee) (T : Scope) → Defines n x w c
     → callee_in (look_up (noted x n T) w) ≡ Some c
 noted_as n _ _ _ T (function {w = w}) = ap callee_in (declared_there w w _ T (name_itself w))
-noted_as n _ _ _ T output = ap callee_in (declared_there putchar_name putchar_name put_char _ refl)
+noted_as n _ _ _ T exit = ap callee_in (declared_there exit_name exit_name exit_now _ refl)
+noted_as n _ _ _ T output =
+    ap callee_in (passed_by exit_name putchar_name exit_now (after_writing T) refl
+    ∙ declared_there putchar_name putchar_name put_char _ refl)
 noted_as n _ _ _ T input =
-    ap callee_in (passed_by putchar_name getchar_name put_char (declared_in (bound getchar_name get_char) T) refl
+    ap callee_in (passed_by exit_name getchar_name exit_now (after_writing T) refl
+    ∙ passed_by putchar_name getchar_name put_char (declared_in (bound getchar_name get_char) T) refl
     ∙ declared_there getchar_name getchar_name get_char T refl)
 
--- a name of neither function of the include
+-- a name of no function of the include
 neither : (n : ℕ) (w : List ℕ) (c : Callee) → same_name getchar_name w ≡ false → same_name putchar_name w ≡ false
-    → Defines n Include w c → ⊥
-neither n _ _ g p input = false≢true (sym g)
-neither n _ _ g p output = false≢true (sym p)
+    → same_name exit_name w ≡ false → Defines n Include w c → ⊥
+neither n _ _ g p x input = false≢true (sym g)
+neither n _ _ g p x output = false≢true (sym p)
+neither n _ _ g p x exit = false≢true (sym x)
 
 -- a name of another function
 another : (n : ℕ) (v w : List ℕ) (given : Option Kind) (params : List Param) (body : Stmt) (c : Callee)
@@ -74,13 +83,15 @@ no_global : (n : ℕ) (x : TopNode) (w : List ℕ) → ((c : Callee) → Defines
     → ((T : Scope) → noted x n T ≡ T) → Notes n x w
 no_global n x w d e = keeps d (λ T. ap (λ T. look_up T w) (e T))
 
-by_include : (n : ℕ) (w : List ℕ) (g p : Bool) → same_name getchar_name w ≡ g → same_name putchar_name w ≡ p
-    → Notes n Include w
-by_include n w true p h i = subst (Notes n Include) (names_are _ w h) (notes _ input)
-by_include n w false true h i = subst (Notes n Include) (names_are _ w i) (notes _ output)
-by_include n w false false h i =
-    keeps (λ c. neither n w c h i)
-    (λ T. passed_by putchar_name w put_char (declared_in (bound getchar_name get_char) T) i
+by_include : (n : ℕ) (w : List ℕ) (g p x : Bool) → same_name getchar_name w ≡ g → same_name putchar_name w ≡ p
+    → same_name exit_name w ≡ x → Notes n Include w
+by_include n w true p x h i j = subst (Notes n Include) (names_are _ w h) (notes _ input)
+by_include n w false true x h i j = subst (Notes n Include) (names_are _ w i) (notes _ output)
+by_include n w false false true h i j = subst (Notes n Include) (names_are _ w j) (notes _ exit)
+by_include n w false false false h i j =
+    keeps (λ c. neither n w c h i j)
+    (λ T. passed_by exit_name w exit_now (after_writing T) j
+    ∙ passed_by putchar_name w put_char (declared_in (bound getchar_name get_char) T) i
     ∙ passed_by getchar_name w get_char T h)
 
 by_function : (n : ℕ) (v w : List ℕ) (given : Option Kind) (params : List Param) (body : Stmt) (b : Bool)
@@ -100,7 +111,8 @@ no_body n given v params w c d = elim d [ ]
 
 -- an item defines a name or not
 which : (n : ℕ) (x : TopNode) (w : List ℕ) → Notes n x w
-which n Include w = by_include n w (same_name getchar_name w) (same_name putchar_name w) refl refl
+which n Include w =
+    by_include n w (same_name getchar_name w) (same_name putchar_name w) (same_name exit_name w) refl refl refl
 which n (Global k v s i) w = keeps (no_object n k v s i w) (λ T. refl)
 which n (Func given v params None) w = keeps (no_body n given v params w) (λ T. refl)
 which n (Func given v params (Some body)) w = by_function n v w given params body (same_name v w) refl

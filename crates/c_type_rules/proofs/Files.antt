@@ -20,7 +20,7 @@ use Rattle.c_type_expr.specs.declared.meaning.Meaning.{Meaning}
 use Rattle.c_type_expr.specs.declared.meaning.Meaning.TheVariants as meaning
 use Rattle.c_type_expr.specs.Scope.{Scope, Frame, same_name, find, look_up, declared_in}
 use Rattle.c_type.specs.States.{is_end}
-use Rattle.c_type.specs.FileScopes.{eof_name, getchar_name, putchar_name, int_slots}
+use Rattle.c_type.specs.FileScopes.{eof_name, getchar_name, putchar_name, exit_name, int_slots}
 use Rattle.c_type.specs.Functions.{callee_in}
 use Rattle.c_type_rules.specs.inside.Objects.{scalar_at, array_at, Shape, shape, global_scalar, global_array}
 use Rattle.c_type_rules.specs.inside.Objects.{signature}
@@ -70,6 +70,7 @@ module _ (P P' : TypedProgram) (more : More P P') where
       ∙ kept (option_map of_function) refl P.functions more.functions n (signature r s) e
   signature_more callee.GetChar r s e = e
   signature_more callee.PutChar r s e = e
+  signature_more callee.Exit r s e = e
 
 -- CALLEES
 
@@ -78,11 +79,13 @@ abbrev pub NamedBy : Callee → List ℕ → Type 0
 NamedBy (callee.Func n) w = Unit {0}
 NamedBy callee.GetChar w = getchar_name ≡ w
 NamedBy callee.PutChar w = putchar_name ≡ w
+NamedBy callee.Exit w = exit_name ≡ w
 
--- the functions that stand without a definition: `getchar` and `putchar`
+-- the functions that stand without a definition: `getchar`, `putchar` and what ends the run
 pub data BuiltIn : List ℕ → Option Kind → List Slot → Option Callee → Type 0 where
   reads : BuiltIn getchar_name (Some Int) [] (Some callee.GetChar)
   writes : BuiltIn putchar_name (Some Int) int_slots (Some callee.PutChar)
+  exits : BuiltIn exit_name None int_slots (Some callee.Exit)
 
 -- the function that the unit defines by a name is declared, with the signature that it has
 pub record Met (P : TypedProgram) (G : Scope) (w : List ℕ) (c : Callee) : Type 0 where
@@ -103,6 +106,21 @@ met_more P P' G G' more go w c m = record {
   signature = signature_more P P' more c m.result m.params m.signature;
   named = m.named;
 }
+
+-- the functions of the include are declared
+abbrev pub AllMet : TypedProgram → Scope → Type 0
+AllMet P G =
+    Met P G getchar_name callee.GetChar × Met P G putchar_name callee.PutChar × Met P G exit_name callee.Exit
+
+-- and they stay so
+all_met_more : (P P' : TypedProgram) (G G' : Scope) → More P P'
+    → ((w : List ℕ) (r : Option Kind) (s : List Slot) → IsFunction G w r s → IsFunction G' w r s)
+    → AllMet P G → AllMet P' G'
+all_met_more P P' G G' more go m = (
+  met_more P P' G G' more go getchar_name callee.GetChar m.0,
+  met_more P P' G G' more go putchar_name callee.PutChar m.1,
+  met_more P P' G G' more go exit_name callee.Exit m.2,
+)
 
 module _ (T : Scope) where
   -- what a call of the name calls: what T has of the name, or a function of `<stdio.h>`
@@ -126,8 +144,7 @@ module _ (T : Scope) where
   pub record Names (P : TypedProgram) (N : Scope) (F : Frame) : Type 0 where
     pub bound : EachBound P (F ∷ []) F
     pub met : (w : List ℕ) (c : Callee) → callee_in (look_up N w) ≡ Some c → Met P (F ∷ []) w c
-    pub ends : is_end (look_up (F ∷ []) eof_name) ≡ true
-        → Met P (F ∷ []) getchar_name callee.GetChar × Met P (F ∷ []) putchar_name callee.PutChar
+    pub ends : is_end (look_up (F ∷ []) eof_name) ≡ true → AllMet P (F ∷ [])
 
   -- what is bound stays bound
   bound_more : (P P' : TypedProgram) (G G' : Scope) → More P P'
@@ -148,8 +165,7 @@ module _ (T : Scope) where
 
   -- where `EOF` is declared, the functions of `<stdio.h>` are
   abbrev pub Ends : TypedProgram → Frame → Type 0
-  Ends P F = is_end (look_up (F ∷ []) eof_name) ≡ true → Met P (F ∷ []) getchar_name callee.GetChar
-      × Met P (F ∷ []) putchar_name callee.PutChar
+  Ends P F = is_end (look_up (F ∷ []) eof_name) ≡ true → AllMet P (F ∷ [])
 
   -- a name is declared
   pub declare : (P P' : TypedProgram) (N : Scope) (F : Frame) (x : Binding) → More P P' → Agrees x (F ∷ [])
@@ -172,17 +188,13 @@ module _ (T : Scope) where
           ≡ is_end (cond (same_name x.name eof_name) (Some x.meaning) (look_up (F ∷ []) eof_name))
       step = ap is_end (declared_look x (F ∷ []) eof_name)
 
-      by : (t : Bool) → same_name x.name eof_name ≡ t → Met P' ((x ∷ F) ∷ []) getchar_name callee.GetChar
-          × Met P' ((x ∷ F) ∷ []) putchar_name callee.PutChar
+      by : (t : Bool) → same_name x.name eof_name ≡ t → AllMet P' ((x ∷ F) ∷ [])
       by true e = absurd (false≢true
           (sym f ∙ sym (ap (λ t. is_end (cond t (Some x.meaning) (look_up (F ∷ []) eof_name))) e) ∙ sym step ∙ h))
       by false e =
           let o = n.ends (sym (ap (λ t. is_end (cond t (Some x.meaning) (look_up (F ∷ []) eof_name))) e) ∙ sym step
           ∙ h) in
-          let go = stays x (F ∷ []) agrees in (
-            met_more P P' (F ∷ []) ((x ∷ F) ∷ []) more go getchar_name callee.GetChar o.0,
-            met_more P P' (F ∷ []) ((x ∷ F) ∷ []) more go putchar_name callee.PutChar o.1,
-          )
+          all_met_more P P' (F ∷ []) ((x ∷ F) ∷ []) more (stays x (F ∷ []) agrees) o
 
   -- a definition is noted
   pub note : (P : TypedProgram) (N : Scope) (F : Frame) (x : Binding) (c : Callee)
@@ -208,6 +220,7 @@ module _ (T : Scope) where
       → BuiltIn w r s o → (c : Callee) → o ≡ Some c → signature_of P c ≡ Some (signature r s)
   built_in_signature P _ _ _ _ reads c e = ap (signature_of P) (sym (some_is _ _ e))
   built_in_signature P _ _ _ _ writes c e = ap (signature_of P) (sym (some_is _ _ e))
+  built_in_signature P _ _ _ _ exits c e = ap (signature_of P) (sym (some_is _ _ e))
 
   -- all definitions are known, so a call of a function's name calls one of its signature
   pub calls : (P : TypedProgram) (F : Frame) → Names P T F

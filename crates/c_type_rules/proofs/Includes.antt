@@ -9,66 +9,91 @@ use Rattle.c_tree.specs.declared.typed.TypedProgram.{TypedProgram}
 use Rattle.c_type_expr.specs.declared.meaning.Meaning.TheVariants as meaning
 use Rattle.c_type_expr.specs.Scope.{Scope, Frame, look_up, declared_in, bound}
 use Rattle.c_type.specs.States.{is_end}
-use Rattle.c_type.specs.FileScopes.{eof_name, getchar_name, putchar_name, int_slots, get_char, put_char, with_include}
+use Rattle.c_type.specs.FileScopes.{eof_name, getchar_name, putchar_name, exit_name, int_slots, get_char, put_char}
+use Rattle.c_type.specs.FileScopes.{exit_now, with_functions, with_include}
 use Rattle.c_type.specs.Units.{include_clash, include_fault, included}
-use Rattle.c_type_rules.proofs.Moves.{split}
+use Rattle.c_type_rules.proofs.Clashes.{Clear, clear, as_it_is}
 use Rattle.c_type_rules.proofs.Frames.{Agrees, fresh_agrees, type_agrees}
-use Rattle.c_type_rules.proofs.Files.{More, Met, Names, reads, writes, declare, still_ends, note}
+use Rattle.c_type_rules.proofs.Files.{More, Met, AllMet, Names, reads, writes, exits, declare, still_ends, note}
 use Rattle.c_type_rules.proofs.Steps.{program, Holds, Step, same_program}
 
 module _ (T : Scope) (m : ℕ) where
   -- the include as it is noted
   abbrev noted_include : Scope → Scope
-  noted_include N = declared_in (bound putchar_name put_char) (declared_in (bound getchar_name get_char) N)
+  noted_include N = with_functions N
 
-  -- its two functions are noted together
-  note_both : (P : TypedProgram) (N : Scope) (F : Frame) → Met P (F ∷ []) getchar_name callee.GetChar
-      → Met P (F ∷ []) putchar_name callee.PutChar → Names T P N F → Names T P (noted_include N) F
-  note_both P N F g p n =
-      note T P (declared_in (bound getchar_name get_char) N) F (bound putchar_name put_char) callee.PutChar refl p
-      (note T P N F (bound getchar_name get_char) callee.GetChar refl g n)
+  -- its functions are noted together
+  note_all : (P : TypedProgram) (N : Scope) (F : Frame) → AllMet P (F ∷ []) → Names T P N F
+      → Names T P (noted_include N) F
+  note_all P N F met n =
+      let N1 : Scope = declared_in (bound getchar_name get_char) N in
+      let N2 : Scope = declared_in (bound putchar_name put_char) N1 in
+      note T P N2 F (bound exit_name exit_now) callee.Exit refl met.2
+      (note T P N1 F (bound putchar_name put_char) callee.PutChar refl met.1
+      (note T P N F (bound getchar_name get_char) callee.GetChar refl met.0 n))
 
-  -- an include that declares its three names
+  -- the frame with its four names
+  abbrev included_frame : Frame → Frame
+  included_frame F =
+      bound eof_name meaning.EndOfFile ∷ bound exit_name exit_now ∷ bound putchar_name put_char
+      ∷ bound getchar_name get_char ∷ F
+
+  -- an include that declares its four names
   include_names : (P : TypedProgram) (N : Scope) (F : Frame) (l : ℕ) → More P P → include_clash (F ∷ []) l ≡ None
       → Names T P N F
-      → Names T P (noted_include N)
-      (bound eof_name meaning.EndOfFile ∷ bound putchar_name put_char ∷ bound getchar_name get_char ∷ F)
+      → Names T P (noted_include N) (included_frame F)
   include_names P N F l more h n =
-      let s1 = split _ _ h in
-      let s2 = split _ _ s1.1 in
-      let s3 = split _ _ s2.1 in
-      let s4 = split _ _ s3.1 in
+      let c : Clear (F ∷ []) l = clear (F ∷ []) l h in
       let get = bound getchar_name get_char in
       let put = bound putchar_name put_char in
+      let end = bound exit_name exit_now in
       let eof = bound eof_name meaning.EndOfFile in
       let a1 : Agrees get (F ∷ []) =
-      type_agrees getchar_name (Some Int) [] (Some callee.GetChar) true l (F ∷ []) s4.0 in
+      type_agrees getchar_name (Some Int) [] (Some callee.GetChar) true l (F ∷ [])
+      (as_it_is (Some Int) [] getchar_name (F ∷ []) l c.get) in
       let n1 : Names T P N (get ∷ F) =
       declare T P P N F get more a1
       (record { callee = Some callee.GetChar; defined = true; is = refl }, inr reads, λ e. (callee.GetChar, refl))
       (still_ends T P P N F get more a1 refl n) n in
       let a2 : Agrees put ((get ∷ F) ∷ []) =
-      type_agrees putchar_name (Some Int) int_slots (Some callee.PutChar) true l ((get ∷ F) ∷ []) s4.1 in
+      type_agrees putchar_name (Some Int) int_slots (Some callee.PutChar) true l ((get ∷ F) ∷ [])
+      (as_it_is (Some Int) int_slots putchar_name (F ∷ []) l c.put) in
       let n2 : Names T P N (put ∷ get ∷ F) =
       declare T P P N (get ∷ F) put more a2
       (record { callee = Some callee.PutChar; defined = true; is = refl }, inr writes, λ e. (callee.PutChar, refl))
       (still_ends T P P N (get ∷ F) put more a2 refl n1) n1 in
-      let a3 : Agrees eof ((put ∷ get ∷ F) ∷ []) = fresh_agrees eof_name meaning.EndOfFile l (put ∷ get ∷ F) s3.0 in
-      let g : Met P ((eof ∷ put ∷ get ∷ F) ∷ []) getchar_name callee.GetChar = record {
+      let a3 : Agrees end ((put ∷ get ∷ F) ∷ []) =
+      type_agrees exit_name None int_slots (Some callee.Exit) true l ((put ∷ get ∷ F) ∷ [])
+      (as_it_is None int_slots exit_name (F ∷ []) l c.end) in
+      let n3 : Names T P N (end ∷ put ∷ get ∷ F) =
+      declare T P P N (put ∷ get ∷ F) end more a3
+      (record { callee = Some callee.Exit; defined = true; is = refl }, inr exits, λ e. (callee.Exit, refl))
+      (still_ends T P P N (put ∷ get ∷ F) end more a3 refl n2) n2 in
+      let a4 : Agrees eof ((end ∷ put ∷ get ∷ F) ∷ []) =
+      fresh_agrees eof_name meaning.EndOfFile l (end ∷ put ∷ get ∷ F) c.eof in
+      let g : Met P (included_frame F ∷ []) getchar_name callee.GetChar = record {
         result = Some Int;
         params = [];
         function = record { callee = Some callee.GetChar; defined = true; is = refl };
         signature = refl;
         named = refl;
       } in
-      let p : Met P ((eof ∷ put ∷ get ∷ F) ∷ []) putchar_name callee.PutChar = record {
+      let p : Met P (included_frame F ∷ []) putchar_name callee.PutChar = record {
         result = Some Int;
         params = int_slots;
         function = record { callee = Some callee.PutChar; defined = true; is = refl };
         signature = refl;
         named = refl;
       } in
-      note_both P N (eof ∷ put ∷ get ∷ F) g p (declare T P P N (put ∷ get ∷ F) eof more a3 tt (λ e. (g, p)) n2)
+      let x : Met P (included_frame F ∷ []) exit_name callee.Exit = record {
+        result = None;
+        params = int_slots;
+        function = record { callee = Some callee.Exit; defined = true; is = refl };
+        signature = refl;
+        named = refl;
+      } in
+      note_all P N (included_frame F) (g, p, x)
+      (declare T P P N (end ∷ put ∷ get ∷ F) eof more a4 tt (λ e. (g, p, x)) n3)
 
   -- an include that has no fault
   pub on_include : (l : ℕ) (N : Scope) (n : ℕ) (F : Frame) (gs : List TypedGlobal) (b : ℕ) (fs : List TypedFunc)
@@ -86,7 +111,6 @@ module _ (T : Scope) (m : ℕ) where
             functions = fs;
           })
       by true e =
-          let met = i.names.ends e in
           record {
             frame = F;
             globals = gs;
@@ -99,7 +123,7 @@ module _ (T : Scope) (m : ℕ) where
               functions = fs;
             }) e;
             holds = record {
-              names = note_both (program T m gs fs) N F met.0 met.1 i.names;
+              names = note_all (program T m gs fs) N F (i.names.ends e) i.names;
               count = i.count;
               globals = i.globals;
               bytes = i.bytes;
@@ -113,7 +137,7 @@ module _ (T : Scope) (m : ℕ) where
           let clash : include_clash (F ∷ []) l ≡ None =
           sym (ap (λ t. cond t None (include_clash (F ∷ []) l)) e) ∙ h in
           record {
-            frame = bound eof_name meaning.EndOfFile ∷ bound putchar_name put_char ∷ bound getchar_name get_char ∷ F;
+            frame = included_frame F;
             globals = gs;
             bytes = b;
             functions = fs;
@@ -130,7 +154,7 @@ module _ (T : Scope) (m : ℕ) where
               bytes = i.bytes;
               room = i.room;
             };
-            added = bound eof_name meaning.EndOfFile ∷ bound putchar_name put_char ∷ bound getchar_name get_char ∷ [];
+            added = included_frame [];
             are = refl;
             fit = λ P known old. old;
           }

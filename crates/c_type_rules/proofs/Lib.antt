@@ -4,6 +4,7 @@ pub mod Constants
 pub mod SoundParts
 pub mod Sound
 pub mod CompleteParts
+pub mod Clashes
 pub mod Complete
 pub mod Lengths
 pub mod GlobalsSound

@@ -32,6 +32,7 @@ use Rattle.c_type_expr.specs.inside.Says.{Stops}
 use Rattle.c_type.specs.declared.file_scope.FileScope.{FileScope}
 use Rattle.c_type.specs.declared.state.State.{State}
 use Rattle.c_type.specs.States.{at, nowhere, is_end, slot_of, named_among, with_params, started}
+use Rattle.c_type.specs.FileScopes.{exit_name}
 use Rattle.c_type.specs.FileScopes.{eof_name, getchar_name, putchar_name, int_slots, with_include, global_names}
 use Rattle.c_type.specs.Units.{include_clash, function_fault, same_result, same_slots}
 use Rattle.c_type.specs.Functions.{name_fault, row_bytes_fault}
@@ -50,7 +51,7 @@ use Rattle.c_type_rules.specs.Units.{Item, Items, Accepts}
 use Rattle.c_type_rules.specs.Units.{unnamed, named, no_param, one_param, fresh, again}
 use Rattle.c_type_rules.specs.Units.{outermost, other, include, include_again, global, prototype}
 use Rattle.c_type_rules.specs.Units.{definition, no_item, one_item, accepts}
-use Rattle.c_type_rules.proofs.SoundParts.{both}
+use Rattle.c_type_rules.proofs.Clashes.{Clear, clear}
 use Rattle.c_type_rules.proofs.CompleteParts.{split, held, not_held, less, at_most, sized_typed}
 use Rattle.c_type_rules.proofs.Complete.{whole_stmt, whole_all}
 use Rattle.c_type_rules.proofs.UnitsSound.{block_body, plain_body}
@@ -150,13 +151,11 @@ include_typed : (unit : List Top) (l : ℕ) (U : FileScope) (b : Bool) → is_en
     → Item unit U Include (record U { names = cond b U.names (with_include U.names) })
 include_typed unit l U true e h = include_again e
 include_typed unit l U false e h =
-    let a = split _ _ h in
-    let b = split _ _ a.1 in
-    let c = split _ _ b.1 in
-    let d = split _ _ c.1 in
-    include (not_held _ _ c.0)
-    (agrees_typed true (Some Int) [] (look_up U.names getchar_name) l (both _ _ a.0 d.0))
-    (agrees_typed true (Some Int) int_slots (look_up U.names putchar_name) l (both _ _ b.0 d.1))
+    let c : Clear U.names l = clear U.names l h in
+    include (not_held _ _ c.eof)
+    (agrees_typed true (Some Int) [] (look_up U.names getchar_name) l c.get)
+    (agrees_typed true (Some Int) int_slots (look_up U.names putchar_name) l c.put)
+    (agrees_typed true None int_slots (look_up U.names exit_name) l c.end)
 
 -- an item without a fault leads by the rules to the file scope after it
 pub item_typed : (unit : List Top) (l : ℕ) (U : FileScope) (n : TopNode) → node_fault (table unit) n l U ≡ None

@@ -31,6 +31,7 @@ use Rattle.c_type.specs.declared.file_scope.FileScope.{FileScope}
 use Rattle.c_type.specs.declared.state.State.{State}
 use Rattle.c_type.specs.States.{at, nowhere, is_end, is_taken, row_in, slot_of, with_params, started}
 use Rattle.c_constant.specs.Kinds.{bytes}
+use Rattle.c_type.specs.FileScopes.{exit_name}
 use Rattle.c_type.specs.FileScopes.{eof_name, getchar_name, putchar_name, int_slots, with_include, prototype_names}
 use Rattle.c_type.specs.Units.{include_clash, count_of, function_fault, same_slots}
 use Rattle.c_type.specs.FileScopes.{global_names, length_in, body_entry, empty_file, main_name, number_in}
@@ -51,7 +52,7 @@ use Rattle.c_type_rules.specs.Units.{fresh, again, outermost, other, include, in
 use Rattle.c_type_rules.specs.Units.{prototype, definition, no_item, one_item, accepts}
 use Rattle.c_type_rules.proofs.SoundParts.{both, fine, free, size_fine, less, at_most}
 use Rattle.c_type_rules.proofs.Sound.{types_fine, all_fine}
-use Rattle.c_type_rules.proofs.CompleteParts.{split}
+use Rattle.c_type_rules.proofs.Clashes.{no_clash}
 use Rattle.c_type_rules.proofs.Definitions.{calls_is}
 use Rattle.c_type_rules.proofs.Tests.{neither_holds, result_itself, params_themselves}
 use Rattle.c_type_rules.proofs.GlobalsSound.{count_fine, init_fine}
@@ -151,19 +152,22 @@ ItemFine T U n V l = (node_fault T n l U ≡ None) × (V ≡ node_after T n U)
 
 -- the first include has no fault
 clash_fine : (G : Scope) (l : ℕ) → is_taken G eof_name ≡ false → Agrees true (Some Int) [] (look_up G getchar_name)
-    → Agrees true (Some Int) int_slots (look_up G putchar_name)
+    → Agrees true (Some Int) int_slots (look_up G putchar_name) → Agrees true None int_slots (look_up G exit_name)
     → include_clash G l ≡ None
-clash_fine G l h a b =
-    let p = split _ _ (agrees_fine true (Some Int) [] (look_up G getchar_name) l a) in
-    let q = split _ _ (agrees_fine true (Some Int) int_slots (look_up G putchar_name) l b) in
-    both _ _ p.0 (both _ _ q.0 (both _ _ (free G eof_name l h) (both _ _ p.1 q.1)))
+clash_fine G l h a b c =
+    no_clash G l (record {
+      get = agrees_fine true (Some Int) [] (look_up G getchar_name) l a;
+      put = agrees_fine true (Some Int) int_slots (look_up G putchar_name) l b;
+      end = agrees_fine true None int_slots (look_up G exit_name) l c;
+      eof = free G eof_name l h;
+    })
 
 -- an item has no fault, and leads to the file scope after it
 pub item_fine : (unit : List Top) (l : ℕ) (U : FileScope) (n : TopNode) (V : FileScope) → Item unit U n V
     → ItemFine (table unit) U n V l
-item_fine unit l _ _ _ (include {U = U} h a b) =
+item_fine unit l _ _ _ (include {U = U} h a b c) =
     let e = (neither_holds (is_here U.names eof_name) (is_end (look_up U.names eof_name)) h).1 in (
-      ap (λ b. cond b None (include_clash U.names l)) e ∙ clash_fine U.names l h a b,
+      ap (λ b. cond b None (include_clash U.names l)) e ∙ clash_fine U.names l h a b c,
       ap (λ b. record U { names = cond b U.names (with_include U.names) }) (sym e),
     )
 item_fine unit l _ _ _ (include_again {U = U} e) = (

@@ -21,7 +21,7 @@ use Rattle.c_type_expr.specs.declared.meaning.Meaning.{Meaning}
 use Rattle.c_type_expr.specs.declared.meaning.Meaning.TheVariants as meaning
 use Rattle.c_type_expr.specs.Scope.{Scope, Frame, same_name, look_up, declared_in}
 use Rattle.c_type.specs.declared.file_scope.FileScope.{FileScope}
-use Rattle.c_type.specs.FileScopes.{getchar_name, putchar_name, count_after, main_name, number_in}
+use Rattle.c_type.specs.FileScopes.{getchar_name, putchar_name, exit_name, count_after, main_name, number_in}
 use Rattle.c_type.specs.Functions.{callee_in}
 use Rattle.c_type.specs.Programs.{noted, definitions, table, node_after, items_after, is_int}
 use Rattle.c_type.specs.inside.Programs.{node_fault, items_fault}
@@ -33,7 +33,8 @@ use Rattle.c_constant.proofs.SameKinds.{kinds_are}
 use Rattle.c_type_rules.proofs.Moves.{split, held, some_is, KnownFrame}
 use Rattle.c_type_rules.proofs.Values.{both}
 use Rattle.c_type_rules.proofs.Frames.{declared_look, one_block}
-use Rattle.c_type_rules.proofs.Files.{BuiltIn, reads, writes, NamedBy, Names, Bound, calls, all_known, find_bound}
+use Rattle.c_type_rules.proofs.Files.{BuiltIn, reads, writes, exits, NamedBy, Names, Bound, calls, all_known}
+use Rattle.c_type_rules.proofs.Files.{find_bound}
 use Rattle.c_type_rules.proofs.Steps.{program, file, Holds, Step, nothing_new}
 use Rattle.c_type_rules.proofs.Globals.{on_global}
 use Rattle.c_type_rules.proofs.Callables.{Has, on_prototype, on_definition}
@@ -80,7 +81,9 @@ module _ (T : Scope) (m : ℕ) where
 
   -- the same where an item is noted
   noted_keeps : (t : TopNode) (n : ℕ) (N : Scope) (w : List ℕ) → Has T m N w → Has T m (noted t n N) w
-  noted_keeps Include n N w h = declared_keeps _ callee.PutChar _ w refl (declared_keeps _ callee.GetChar N w refl h)
+  noted_keeps Include n N w h =
+      declared_keeps _ callee.Exit _ w refl
+      (declared_keeps _ callee.PutChar _ w refl (declared_keeps _ callee.GetChar N w refl h))
   noted_keeps (Global k v size init) n N w h = h
   noted_keeps (Func given v params None) n N w h = h
   noted_keeps (Func given v params (Some body)) n N w h = declared_keeps _ (callee.Func n) N w refl h
@@ -174,6 +177,7 @@ module _ (T : Scope) (m : ℕ) where
       → ⊥
   not_built_in _ _ _ _ reads e = not_main getchar_name refl e
   not_built_in _ _ _ _ writes e = not_main putchar_name refl e
+  not_built_in _ _ _ _ exits e = not_main exit_name refl e
 
   -- the result is int
   int_is : (r : Option Kind) → is_int r ≡ true → r ≡ Some Int
@@ -196,6 +200,7 @@ module _ (T : Scope) (m : ℕ) where
       (ap (λ n. option_map of_function (slice_get fs n)) e ∙ h) ri se fit
   called F gs fs r s callee.GetChar e nm h ri se fit = absurd (not_main getchar_name refl nm)
   called F gs fs r s callee.PutChar e nm h ri se fit = absurd (not_main putchar_name refl nm)
+  called F gs fs r s callee.Exit e nm h ri se fit = absurd (not_main exit_name refl nm)
 
   -- the function that is found by the name of main
   main_fits : (F : Frame) (gs : List TypedGlobal) (fs : List TypedFunc) → Names T (program T m gs fs) T F

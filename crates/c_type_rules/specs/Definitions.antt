@@ -8,15 +8,16 @@ use Rattle.c_tree.specs.declared.tree.TopNode.{TopNode}
 use Rattle.c_tree.specs.declared.tree.TopNode.TheVariants.{Include, Func}
 use Rattle.c_tree.specs.declared.typed.Callee.{Callee}
 use Rattle.c_tree.specs.declared.typed.Callee.TheVariants as callee
-use Rattle.c_type.specs.FileScopes.{getchar_name, putchar_name, count_after}
+use Rattle.c_type.specs.FileScopes.{getchar_name, putchar_name, exit_name, count_after}
 
 -- Behind n definitions of functions the item defines the name: a definition is the unit's n-th,
--- counted from 0, and the include stands for definitions of its two functions.
+-- counted from 0, and the include stands for definitions of its three functions.
 pub data Defines (n : ℕ) : TopNode → List ℕ → Callee → Type 0 where
   function : {given : Option Kind} {w : List ℕ} {params : List Param} {body : Stmt}
       → Defines n (Func given w params (Some body)) w (callee.Func n)
   input : Defines n Include getchar_name callee.GetChar
   output : Defines n Include putchar_name callee.PutChar
+  exit : Defines n Include exit_name callee.Exit
 
 -- Behind n definitions of functions these items define w as the callee, or not at all. Of two
 -- definitions of one name, which no accepted unit has, the later one counts.

@@ -34,9 +34,9 @@ use Rattle.c_type.specs.declared.file_scope.FileScope.{FileScope}
 use Rattle.c_type.specs.declared.state.State.{State}
 use Rattle.c_type.specs.States.{at, nowhere, is_end, is_taken, row_in, slot_of, named_among, with_params, started}
 use Rattle.c_constant.specs.Kinds.{bytes}
-use Rattle.c_type.specs.FileScopes.{eof_name, getchar_name, putchar_name, int_slots, with_include, global_names}
+use Rattle.c_type.specs.FileScopes.{eof_name, getchar_name, putchar_name, exit_name, int_slots, with_include}
 use Rattle.c_type.specs.FileScopes.{length_in, prototype_names, body_entry, empty_file, main_name, number_in}
-use Rattle.c_type.specs.FileScopes.{all_values}
+use Rattle.c_type.specs.FileScopes.{all_values, global_names}
 use Rattle.c_type_rules.specs.Constants.{IsConstant, Size}
 use Rattle.c_type_rules.specs.Definitions.{CallsIn}
 use Rattle.c_type_rules.specs.Statements.{Types, TypesAll}
@@ -147,10 +147,12 @@ typed_function count t v = record {
 
 -- in a unit of these items, the item leads from one file scope to the other
 pub data Item (unit : List Top) : FileScope → TopNode → FileScope → Type 0 where
-  -- 6.10.2: `EOF` is new, `getchar` and `putchar` are defined here, and prototypes before it agree
+  -- 6.10.2: `EOF` is new, `getchar`, `putchar` and what ends the run are defined here, and prototypes before it
+  -- agree
   include : {U : FileScope} → is_taken U.names eof_name ≡ false
       → Agrees true (Some Int) [] (look_up U.names getchar_name)
       → Agrees true (Some Int) int_slots (look_up U.names putchar_name)
+      → Agrees true None int_slots (look_up U.names exit_name)
       → Item unit U Include (record U { names = with_include U.names })
   -- a later include declares nothing anew
   include_again : {U : FileScope} → is_end (look_up U.names eof_name) ≡ true → Item unit U Include U

@@ -93,3 +93,4 @@ abbrev pub signature_of : TypedProgram → Callee → Option Signature
 signature_of P (callee.Func n) = option_map of_function (slice_get P.functions n)
 signature_of P callee.GetChar = Some (signature (Some Int) [])
 signature_of P callee.PutChar = Some (signature (Some Int) (slot.Scalar Int ∷ []))
+signature_of P callee.Exit = Some (signature None (slot.Scalar Int ∷ []))
