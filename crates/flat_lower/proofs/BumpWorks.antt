@@ -168,7 +168,8 @@ module _ (fs : List Function) (base : ℕ) (e : Env) where
   bump_fits o ULong old w p b =
       let g = bump_gives o ULong old b.middle p tt b.done in subst (IsWord ULong) b.is (converted_word ULong b.middle)
   bump_fits o kind.Bool old w p b =
-      let g = bump_gives o Int old b.middle p tt b.done in subst (IsWord kind.Bool) b.is (converted_word kind.Bool b.middle)
+      let g = bump_gives o Int old b.middle p tt b.done in
+      subst (IsWord kind.Bool) b.is (converted_word kind.Bool b.middle)
 
   -- one more or one less of x, in another variable or its own, in at most two turns
   pub bump_works : (o : BumpOp) (k : Kind) (f : State) (spare to x old w : ℕ) → f.vars x ≡ Some old
