@@ -58,8 +58,12 @@ const ROWS: &[(&str, &str)] = &[
         "int a[2] = {1}; char b[1][2] = {{1}}; int f(int x) { int y = {1}; return y; }",
     ),
     (
-        "int x = {}; int y = {1, 2}; int a[2] = {{1, 2}}; char s[] = {{65}, {66}}; char t[] = {{65}, 66}; int z = {1} + 1;",
-        "int x = {}; int y = {1, 2}; int a[2] = {{1, 2}}; char s[] = {{65}, {66}}; char t[] = {{65}, 66}; int z = {1} + 1;",
+        "int x = {}; int y = {1, 2}; int a[2] = {{1, 2}}; int z = {1} + 1;",
+        "int x = {}; int y = {1, 2}; int a[2] = {{1, 2}}; int z = {1} + 1;",
+    ),
+    (
+        "char s[] = {{65}, {66}}; char t[] = {{65}, 66};",
+        "char s[] = {{65}, {66}}; char t[] = {{65}, 66};",
     ),
     // What is no object stays, and so does what is malformed.
     (

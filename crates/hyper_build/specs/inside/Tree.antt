@@ -10,8 +10,8 @@ use Rattle.reg_assign.specs.inside.Keeps.{calls_in, calls, is_among}
 
 -- Each name is the flat statement's with `At`. `cut` says that the block ends behind the statement; of a loop, that it
 -- ends between body and post; of a break, a continue, a return or the end of the run, that what stands behind has a
--- block. `joined` makes an if an item of its block, `small` cuts a call behind each group that it saves or restores, and
--- its arguments behind every third.
+-- block. `joined` makes an if an item of its block, `small` cuts a call behind each group that it saves or restores,
+-- and its arguments behind every third.
 mutual
   -- a flat statement with its annotations
   pub data Stmt : Type 0 where
