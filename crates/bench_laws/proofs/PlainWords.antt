@@ -73,7 +73,7 @@ bench_words o n =
     let from_array : Tokens = line_of o.array array_forms ++ from_functions in
     let a : has_no_words ending ≡ true =
     subst (λ (ts : Tokens). has_no_words ts ≡ true) (append-nil ending)
-        (line_stays o.ending end_forms [] end_stays refl) in
+    (line_stays o.ending end_forms [] end_stays refl) in
     let b : has_no_words from_calls ≡ true = lines_stay call_forms o.calls n ending call_stays a in
     let c : has_no_words from_main ≡ true = line_stays o.main main_forms from_calls main_stays b in
     let d : has_no_words from_functions ≡ true =
