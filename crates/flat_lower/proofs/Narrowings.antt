@@ -67,6 +67,7 @@ within_word Long Long w e h = h
 within_word Long _ w e h = absurd (cc e)
 within_word ULong ULong w e h = h
 within_word ULong _ w e h = absurd (cc e)
+within_word kind.Bool kind.Bool w e h = h
 within_word kind.Bool _ w e h = let n = bool_in w h in record { below = omega arith; narrow = omega arith }
 
 flipped : (b : Bool) → test (cond b false true) ≡ cond b 0 1
