@@ -12,7 +12,7 @@ use Rattle.bench_laws.proofs.Trees.{InLine, Offsets}
 
 -- before a line, where so many brackets are open
 abbrev at_line : ℕ → Seen
-at_line d = record { depth = d; is_front = false; names = codes "a" ∷ []; sizes = sizes.Scalar }
+at_line d = record { depth = d; is_front = false; names = codes "a" ∷ []; sizes = sizes.Scalar; is_typed = false }
 
 -- the line may stand there before any tokens: no more is seen behind it
 abbrev Leaves : Seen → List Form → Type 0

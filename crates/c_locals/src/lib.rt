@@ -20,4 +20,4 @@ mod walk;
 pub use crate::brackets::{depth_past, first_piece, is_mark, split};
 pub use crate::objects::{has_no_objects, with_objects};
 pub use crate::parts::braced;
-pub use crate::walk::is_word;
+pub use crate::walk::{is_word, parens_past};

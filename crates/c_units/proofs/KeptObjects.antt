@@ -78,7 +78,7 @@ either_list : (P : Fact) (b : Bool) (xs ys : List Declaration) → EachDeclared 
 either_list P true xs ys h k = h
 either_list P false xs ys h k = k
 
-words_keep : (P : Fact) (e : Bool) (got ts : Tokens) → EachToken P got → EachToken P ts
+pub words_keep : (P : Fact) (e : Bool) (got ts : Tokens) → EachToken P got → EachToken P ts
     → EachToken P (words_from e got ts)
 words_keep P e got [] h k = h
 words_keep P e got (t ∷ ts) h k =
@@ -87,7 +87,7 @@ words_keep P e got (t ∷ ts) h k =
     (words_keep P e (got ++ t ∷ []) ts (each_append P got (t ∷ []) h (k.0, tt)) k.1)
     (either P (e && is_qualifier t.form) (words_from e got ts) got (words_keep P e got ts h k.1) h)
 
-behind_keep : (P : Fact) (e : Bool) (ts : Tokens) → EachToken P ts → EachToken P (behind_words e ts)
+pub behind_keep : (P : Fact) (e : Bool) (ts : Tokens) → EachToken P ts → EachToken P (behind_words e ts)
 behind_keep P e [] h = tt
 behind_keep P e (t ∷ ts) h =
     either P (is_word t.form || (e && is_qualifier t.form)) (behind_words e ts) (t ∷ ts) (behind_keep P e ts h.1) h
@@ -97,7 +97,7 @@ sizes_keep P ts None h k = h
 sizes_keep P ts (Some (a, b)) h k = k.0
 
 -- it holds of what is there
-abbrev EachOf : Fact → Option Tokens → Type 0
+abbrev pub EachOf : Fact → Option Tokens → Type 0
 EachOf P None = Unit {0}
 EachOf P (Some ts) = EachToken P ts
 
@@ -107,7 +107,7 @@ whole_keeps P (Some ([], b)) h = tt
 whole_keeps P (Some (v ∷ vs, [])) h = h.0
 whole_keeps P (Some (v ∷ vs, t ∷ ts)) h = tt
 
-if_there : (P : Fact) (x : Bool) (o : Option Tokens) → EachOf P o → EachOf P (cond x o None)
+pub if_there : (P : Fact) (x : Bool) (o : Option Tokens) → EachOf P o → EachOf P (cond x o None)
 if_there P true o h = h
 if_there P false o h = tt
 

@@ -1,4 +1,5 @@
 pub mod SettledFacts
 pub mod KeptObjects
+pub mod KeptRaised
 pub mod KeptUnits
 pub mod StandardFacts

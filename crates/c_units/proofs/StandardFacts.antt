@@ -68,3 +68,14 @@ pub braces_of_an_array_stay : is_settled (tokens 0 (declares
     (form.Mark mark.LeftBracket ∷ form.Number 2 Int ∷ form.Mark mark.RightBracket ∷ form.Mark mark.Assign
     ∷ form.Mark mark.LeftBrace ∷ form.Number 3 Int ∷ form.Mark mark.RightBrace ∷ []))) ≡ true
 braces_of_an_array_stay = refl
+
+-- `{ int f(); }` is `int f(); { ; }` (6.2.2, paragraph 5)
+abbrev prototype_forms : List Form
+prototype_forms =
+    form.Key key.Int ∷ form.Name (codes "f") ∷ form.Mark mark.LeftParen ∷ form.Mark mark.RightParen
+    ∷ form.Mark mark.Semicolon ∷ []
+
+pub prototype_goes_in_front : becomes
+    (form.Mark mark.LeftBrace ∷ (prototype_forms ++ form.Mark mark.RightBrace ∷ []))
+    (prototype_forms ++ form.Mark mark.LeftBrace ∷ form.Mark mark.Semicolon ∷ form.Mark mark.RightBrace ∷ [])
+prototype_goes_in_front = refl

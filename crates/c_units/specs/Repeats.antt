@@ -1,15 +1,18 @@
--- Units in which no name of an object is declared twice outside of brackets, nothing is `extern`, and no braces stand
--- round the value of a scalar or round a list.
+-- Units in which no name of an object is declared twice outside of brackets, nothing is `extern`, no braces stand
+-- round the value of a scalar or round a list, and no block has a prototype.
 use Rattle.std.specs.Prelude.{ℕ, Bool, true, false, not, ◌&&◌, ◌||◌, nat_eq, if◌then◌else◌, List, [], ◌∷◌, ◌++◌, Option}
 use Rattle.std.specs.Prelude.{Some, None}
 use Rattle.c_tree.specs.declared.Form.{Form}
 use Rattle.c_tree.specs.declared.Form.TheVariants as form
+use Rattle.c_tree.specs.declared.Key.TheVariants as key
 use Rattle.c_tree.specs.declared.Mark.TheVariants as mark
 use Rattle.c_lex.specs.Bytes.{Bytes}
 use Rattle.c_lex.specs.Lexes.{Tokens}
 use Rattle.c_library.specs.Calls.{is_mark}
 use Rattle.c_locals.specs.Brackets.{depth_past}
+use Rattle.c_locals.specs.Values.{is_name}
 use Rattle.c_locals.specs.Walks.{is_word}
+use Rattle.c_words.specs.Keys.{is_key}
 use Rattle.c_words.specs.Names.{is_among}
 use Rattle.c_units.specs.declared.repeats.Seen.{Seen}
 use Rattle.c_units.specs.declared.repeats.Sizes.{Sizes}
@@ -19,7 +22,7 @@ use Rattle.c_units.specs.Objects.{is_extern}
 
 -- before the first token
 abbrev pub beginning : Seen
-beginning = record { depth = 0; is_front = false; names = []; sizes = sizes.Scalar }
+beginning = record { depth = 0; is_front = false; names = []; sizes = sizes.Scalar; is_typed = false }
 
 -- do the tokens begin with a `(`?
 abbrev pub begins_group : Tokens → Bool
@@ -72,6 +75,11 @@ may_go sizes.More ts = false
 abbrev pub sets_list : Form → Tokens → Seen → Bool
 sets_list f ts s = is_mark mark.Assign f && (nat_eq s.depth 0 && may_go s.sizes ts)
 
+-- is the token, before these, the name of a function that is declared within brackets: behind a word of a type, and
+-- before a `(`?
+abbrev pub is_inner : Form → Tokens → Seen → Bool
+is_inner f ts s = s.is_typed && (not (nat_eq s.depth 0) && (is_name f && begins_group ts))
+
 -- behind a token, before these
 abbrev pub past : Form → Tokens → Seen → Seen
 past f ts s =
@@ -80,11 +88,13 @@ past f ts s =
       is_front = is_word f || is_mark mark.Comma f;
       names = with_name s.names (declares s f ts);
       sizes = if nat_eq s.depth 0 then sizes_by s.sizes f else s.sizes;
+      is_typed = is_word f || is_key key.Void f;
     }
 
--- does a token, before these, declare a name once more, is it `extern`, or does it set such a value?
+-- does a token, before these, declare a name once more or a function in brackets, is it `extern`, or does it set such a
+-- value?
 abbrev pub repeats : Form → Tokens → Seen → Bool
-repeats f ts s = is_extern f || (sets_list f ts s || is_known s.names (declares s f ts))
+repeats f ts s = is_extern f || (is_inner f ts s || (sets_list f ts s || is_known s.names (declares s f ts)))
 
 -- does no token from here on?
 abbrev pub no_repeats_from : Seen → Tokens → Bool

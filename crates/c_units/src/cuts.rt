@@ -36,7 +36,7 @@ fn is_include(form: &Form) -> bool
 }
 
 /// Before the first token of an item.
-fn start() -> Place
+pub fn start() -> Place
     ensures { result ≡ cuts.start }
 {
     Place {
@@ -47,7 +47,7 @@ fn start() -> Place
 
 impl Place {
     /// Behind a token.
-    fn past(&self, form: &Form) -> Place
+    pub fn past(&self, form: &Form) -> Place
         requires few { self.now.depth < 18446744073709551615 }
         ensures value { result ≡ cuts.past form.now self.now }
         ensures few { result.depth ≤ self.now.depth + 1 }
@@ -59,7 +59,7 @@ impl Place {
     }
 
     /// Does an item end with the token behind which this is known?
-    fn ends(&self, form: &Form) -> bool
+    pub fn ends(&self, form: &Form) -> bool
         ensures { result ≡ cuts.ends form.now self.now }
     {
         self.depth == 0

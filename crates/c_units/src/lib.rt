@@ -6,6 +6,7 @@ mod braces;
 mod cuts;
 mod joined;
 mod objects;
+mod raised;
 mod repeats;
 mod same;
 mod unit;

@@ -72,7 +72,7 @@ fn is_qualifier(form: &Form) -> bool
 }
 
 /// The words of the type that tokens begin with, without qualifiers.
-fn words(alloc: Global, external: bool, tokens: &[Lexeme]) -> Result<Items<Lexeme>, AllocError>
+pub fn words(alloc: Global, external: bool, tokens: &[Lexeme]) -> Result<Items<Lexeme>, AllocError>
     ensures { IfOk result (λ out. out ≡ objects.words_from external [] tokens.now) }
 {
     let mut out = Items::new(alloc);
@@ -89,7 +89,7 @@ fn words(alloc: Global, external: bool, tokens: &[Lexeme]) -> Result<Items<Lexem
 }
 
 /// The tokens behind them.
-fn behind_words(external: bool, tokens: &[Lexeme]) -> &[Lexeme]
+pub fn behind_words(external: bool, tokens: &[Lexeme]) -> &[Lexeme]
     ensures { result.now ≡ objects.behind_words external tokens.now }
 {
     let mut rest = tokens;
@@ -117,7 +117,7 @@ fn goes_on(behind: &[Lexeme]) -> bool
 }
 
 /// Is it a name?
-fn is_name(form: &Form) -> bool
+pub fn is_name(form: &Form) -> bool
     ensures { result ≡ values.is_name form.now }
 {
     match form {

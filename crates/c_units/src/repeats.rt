@@ -1,14 +1,14 @@
-//! Units in which no name of an object is declared twice outside of brackets, nothing is `extern`, and no braces stand
-//! round the value of a scalar or round a list.
+//! Units in which no name of an object is declared twice outside of brackets, nothing is `extern`, no braces stand
+//! round the value of a scalar or round a list, and no block has a prototype.
 
 ghost use Rattle.std.specs.Prelude.{◌≡◌, ◌<◌, ◌≤◌, ◌+◌, length, nat_eq, if◌then◌else◌, option_map, IfOk, OnOk};
 ghost use Rattle.c_units.specs.Repeats as repeats;
 
 use crate::braces::begins_list;
-use crate::objects::is_extern;
+use crate::objects::{is_extern, is_name};
 use c_locals::{depth_past, is_mark, is_word};
-use c_tree::{Form, Lexeme, Mark, Word};
-use c_words::Names;
+use c_tree::{Form, Key, Lexeme, Mark, Word};
+use c_words::{Names, is_key};
 use std::alloc::{AllocError, Global};
 
 /// The sizes of a declarator so far: none, one, or more.
@@ -20,13 +20,14 @@ pub enum Sizes {
 }
 
 /// What is seen before a token: how many brackets are open, whether a word of a type or a `,` stands in front of it,
-/// the names of objects that are declared, and the sizes of the declarator.
+/// the names of objects that are declared, the sizes of the declarator, and whether a word of a type stands in front.
 #[derive(Drop)]
 pub struct Seen {
     pub depth: usize,
     pub is_front: bool,
     pub names: Names,
     pub sizes: Sizes,
+    pub is_typed: bool,
 }
 
 /// Do the tokens begin with a `(`?
@@ -124,6 +125,7 @@ impl Seen {
             is_front: false,
             names: Names::new(alloc),
             sizes: Sizes::Scalar,
+            is_typed: false,
         }
     }
 
@@ -157,11 +159,20 @@ impl Seen {
         is_mark(Mark::Assign, form) && self.depth == 0 && may_go(self.sizes, behind)
     }
 
-    /// Does a token, before these, declare a name once more, is it `extern`, or does it set such a value?
+    /// Is the token, before these, the name of a function that is declared within brackets?
+    fn is_inner(&self, form: &Form, behind: &[Lexeme]) -> bool
+        ensures { result ≡ repeats.is_inner form.now behind.now self.now }
+    {
+        self.is_typed && self.depth != 0 && is_name(form) && begins_group(behind)
+    }
+
+    /// Does a token, before these, declare a name once more or a function in brackets, is it `extern`, or does it set
+    /// such a value?
     fn repeats(&self, form: &Form, behind: &[Lexeme]) -> bool
         ensures { result ≡ repeats.repeats form.now behind.now self.now }
     {
         is_extern(form)
+            || self.is_inner(form, behind)
             || self.sets_list(form, behind)
             || is_known(&self.names, self.declares(form, behind))
     }
@@ -176,6 +187,7 @@ impl Seen {
         add_name(alloc, &mut self.names, name)?;
         self.sizes = sizes_past(self.depth, self.sizes, form);
         self.depth = depth_past(form, self.depth);
+        self.is_typed = is_word(form) || is_key(Key::Void, form);
         self.is_front = is_word(form) || is_mark(Mark::Comma, form);
         Ok(())
     }

@@ -65,6 +65,17 @@ const ROWS: &[(&str, &str)] = &[
         "char s[] = {{65}, {66}}; char t[] = {{65}, 66};",
         "char s[] = {{65}, {66}}; char t[] = {{65}, 66};",
     ),
+    // 6.2.2, paragraph 5, 6.7.6.3: prototypes of blocks, whose `;` stays.
+    (
+        "int x; int main(void) { int f(int), y; { extern int f(int a); void g(void); y = f(1); unsigned long h(); } } \
+         int f(int a) { return a; }",
+        "int x; int f(int a); void g(void); unsigned long h(); \
+         int main(void) { int f(int), y; { ; ; y = f(1); ; } } int f(int a) { return a; }",
+    ),
+    (
+        "int main(void) { if (1) int f(void); for (int f(void);;) ; int f(int) { } int x = (int) f(2); int a[1] = {1} int f(void); }",
+        "int main(void) { if (1) int f(void); for (int f(void);;) ; int f(int) { } int x = (int) f(2); int a[1] = {1} int f(void); }",
+    ),
     // What is no object stays, and so does what is malformed.
     (
         "extern int f(void), x; extern x; int x; int x[1] 2; int x[1] 2; int y; int y =; int f; void v; void v; int z",
