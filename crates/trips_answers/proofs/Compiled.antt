@@ -36,6 +36,7 @@ use Rattle.trips_answers.specs.Settings.{settings_of}
 use Rattle.grid_place.specs.declared.placed.Placing.{Placing}
 use Rattle.trips_answers.specs.Read.{HoldsInput}
 use Rattle.grid_cycle_spec.specs.Costs.{cost_of}
+use Rattle.trips_report.specs.declared.measured.Measured.{Measured}
 use Rattle.trips_report.specs.declared.show.Show.{Show}
 use Rattle.trips_requests.specs.Texts.{output_and}
 use Rattle.trips_report.specs.Runs.{signed}
@@ -56,17 +57,17 @@ has_blocks text p turns i is = let good = (images_mean text p turns i is).bounds
 -- REPORTS
 
 -- where nothing is shown, the report stands alone
-nothing_behind : (report : List ℕ) (s : State) (counts : Counts) (cost : ℕ) (show : Show) → show ≡ nothing_shown
-    → shown_behind report s counts cost show ≡ report
-nothing_behind report s counts cost show none =
-    ap (λ (v : Show). shown_behind report s counts cost v) none ∙ shows_nothing report s counts cost
+nothing_behind : (report : List ℕ) (s : State) (measured : Measured) (cost : ℕ) (show : Show)
+    → show ≡ nothing_shown → shown_behind report s measured cost show ≡ report
+nothing_behind report s measured cost show none =
+    ap (λ (v : Show). shown_behind report s measured cost v) none ∙ shows_nothing report s measured cost
 
 -- and a run's report is the plain one
-pub plain_told : (r : State × Stepped) (counts : Counts) (cost : ℕ) (show : Show) (report : List ℕ)
-    → show ≡ nothing_shown → report ≡ shown_report (ending_of r.1 r.0.next) r.0 counts cost show
+pub plain_told : (r : State × Stepped) (measured : Measured) (cost : ℕ) (show : Show) (report : List ℕ)
+    → show ≡ nothing_shown → report ≡ shown_report (ending_of r.1 r.0.next) r.0 measured cost show
     → report ≡ run_report (ending_of r.1 r.0.next) r.0
-plain_told r counts cost show report none told =
-    told ∙ nothing_behind (run_report (ending_of r.1 r.0.next) r.0) r.0 counts cost show none
+plain_told r measured cost show report none told =
+    told ∙ nothing_behind (run_report (ending_of r.1 r.0.next) r.0) r.0 measured cost show none
 
 -- the report of a run that has ended tells its output and value
 pub ended : (r : State × Stepped) (output : List ℕ) (value : ℤ) → HasEnded output value r

@@ -16,6 +16,8 @@ use Rattle.c_compile.proofs.Meant.{does_text, good_blocks}
 use Rattle.grid_cycle_spec.specs.Costs.{cost_in, cost_of}
 use Rattle.grid_machine.specs.Answered.{ComesTo}
 use Rattle.grid_cycle.specs.Traps.{is_trap}
+use Rattle.trips_report.specs.declared.measured.Measured.{Measured}
+use Rattle.trips_report.specs.declared.show.Show.{Show}
 use Rattle.trips_answers.specs.Work.{Work}
 use Rattle.trips_answers.specs.Work.{Run, Evaluate, Compile}
 use Rattle.trips_answers.specs.Work.{Assemble, Disassemble, Check, Draw, Explain, Record, Verify, Save, Four}
@@ -35,6 +37,7 @@ use Rattle.trips_answers.specs.Read.{IsInputRead, IsLarge}
 use Rattle.trips_answers.specs.Report.{CountsRun, ending_of, run_report, shown_report, status_of, trap_cost}
 use Rattle.trips_grid_answers.specs.Counted.{IsCountedFrom}
 use Rattle.trips_grid_answers.specs.Report.{TellsRunFrom}
+use Rattle.trips_grid_answers.proofs.Flushes.{flushes_shown}
 use Rattle.trips_grid_answers.specs.Runs.{IsRunFrom}
 use Rattle.trips_answers.specs.Refused.{IsBad, MayBeRefused}
 use Rattle.trips_answers.specs.Traced.{IsTraceFault, IsTraceRefused}
@@ -74,16 +77,17 @@ within_cost blocks cost cycles ending.Budget within trapped =
 within_cost blocks cost cycles (ending.Trap block cause) within trapped = trapped block cause refl
 
 -- what the grid counts, as far as the machine tells it
-counts_run : (blocks : List Block) (t : State) (seed budget : ℕ) (ended : Ending) (counts : Counts)
-    → IsCountedFrom blocks t seed budget ended counts
-    → CountsRun blocks (runs blocks t budget).0.trace ended counts
-counts_run blocks t seed budget ended counts c =
+counts_run : (blocks : List Block) (t : State) (seed budget : ℕ) (show : Show) (ended : Ending) (measured : Measured)
+    → IsCountedFrom blocks t seed budget show ended measured
+    → CountsRun blocks (runs blocks t budget).0.trace show ended measured
+counts_run blocks t seed budget show ended measured c =
     let came : ComesTo blocks t budget ended c.grid = c.ran.comes in
     record {
       committed = ap (λ (x : Counts). x.committed) c.counted ∙ c.ran.committed
           ∙ ap (λ (x : State). length x.trace) came.state;
       fetched = subst (λ (x : Counts). x.fetched ≡ x.committed + x.flushed) (sym c.counted) came.counted;
-      within = within_cost blocks (cost_of blocks (runs blocks t budget).0.trace) counts.cycles
+      flushed = flushes_shown blocks t seed budget show ended measured c;
+      within = within_cost blocks (cost_of blocks (runs blocks t budget).0.trace) measured.counts.cycles
           ended c.within c.trapped;
       at_most = c.at_most;
     }
@@ -94,7 +98,7 @@ tells_run : (blocks : List Block) (t : State) (settings : Settings) (s : Status)
     → TellsRunFrom blocks t settings.most settings.show s report
 tells_run blocks t settings s report run =
     let r : State × Stepped = runs blocks t settings.most in
-    (run.0, counts_run blocks t settings.seed settings.most (ending_of r.1 r.0.next) run.0 run.1, run.2)
+    (run.0, counts_run blocks t settings.seed settings.most settings.show (ending_of r.1 r.0.next) run.0 run.1, run.2)
 
 -- and one that was reported
 pub reported_tells : (blocks : List Block) (t : State) (settings : Settings) (s : Status) (old new : Option (List ℕ))
@@ -107,7 +111,7 @@ reported_tells blocks t settings s old new told =
     let r : State × Stepped = runs blocks t settings.most in
     let e : Ending = ending_of r.1 r.0.next in (
       shown_report e r.0 told.0 (cost_of blocks r.0.trace) settings.show,
-      (told.0, counts_run blocks t settings.seed settings.most e told.0 told.1, (told.2, refl)),
+      (told.0, counts_run blocks t settings.seed settings.most settings.show e told.0 told.1, (told.2, refl)),
       told.3,
     )
 
@@ -236,8 +240,8 @@ result_tells held q s old new m =
       does = does_text m.text q.placing q.unroll m.image (images_mean m.text q.placing q.unroll m.image m.made);
       output = m.output;
       digits = m.digits;
-      counts = m.reported.0;
-      counted = counts_run m.image.blocks (start m.image.bytes m.input) q.seed q.most (ending_of r.1 r.0.next)
+      measured = m.reported.0;
+      counted = counts_run m.image.blocks (start m.image.bytes m.input) q.seed q.most q.show (ending_of r.1 r.0.next)
           m.reported.0 m.reported.1;
       reported = m.reported.3;
       means = m.means;

@@ -3,7 +3,6 @@ use Rattle.std.specs.Prelude.{◌≡◌, ℕ, ◌+◌, ◌*◌, ◌<◌, ◌≤�
 use Rattle.std.specs.Fmt.{signed_decimal}
 use Rattle.trips_outside.specs.Outside.{Appended, Holds}
 use Rattle.trips_isa.specs.declared.block.Image.{Image}
-use Rattle.trips_isa.specs.declared.run.Counts.{Counts}
 use Rattle.trips_isa.specs.Machine.{runs, start}
 use Rattle.grid_cycle_spec.specs.Costs.{cost_of}
 use Rattle.c_tree.specs.declared.typed.TypedProgram.{TypedProgram}
@@ -13,6 +12,7 @@ use Rattle.c_front.specs.Fronts.{IsAccepted}
 use Rattle.c_meaning_spec.specs.declared.signal.Ending.TheVariants.{More, Undefined, Deep}
 use Rattle.c_meaning_spec.specs.Eval.{Outcome, Stopped, Done, eval}
 use Rattle.c_compile.specs.Meant.{DoesText}
+use Rattle.trips_report.specs.declared.measured.Measured.{Measured}
 use Rattle.trips_requests.specs.declared.status.Status.{Status}
 use Rattle.trips_requests.specs.declared.status.Status.TheVariants as status
 use Rattle.trips_answers.specs.Request.{Request, origin_held}
@@ -85,12 +85,12 @@ pub record ResultTells (held : List ℕ → Option (List ℕ)) (q : Request) (ol
   -- what was reported of its run: an output and the digits of a result, and behind them what is shown
   pub output : List ℕ
   pub digits : List ℕ
-  pub counts : Counts
-  pub counted : CountsRun image.blocks (runs image.blocks (start image.bytes input) q.most).0.trace
+  pub measured : Measured
+  pub counted : CountsRun image.blocks (runs image.blocks (start image.bytes input) q.most).0.trace q.show
       (ending_of (runs image.blocks (start image.bytes input) q.most).1
-      (runs image.blocks (start image.bytes input) q.most).0.next) counts
+      (runs image.blocks (start image.bytes input) q.most).0.next) measured
   pub reported : Appended old new (shown_behind (output_and output (codes "result " ++ digits))
-      (runs image.blocks (start image.bytes input) q.most).0 counts
+      (runs image.blocks (start image.bytes input) q.most).0 measured
       (cost_of image.blocks (runs image.blocks (start image.bytes input) q.most).0.trace) q.show)
   -- what the evaluation within any number of steps comes to
   pub means : (n : ℕ) → TellsResult output digits (n ≤ q.unroll * length tokens * (q.most + 1)) (eval program input n)

@@ -3,9 +3,9 @@ use Rattle.std.specs.Prelude.{◌≡◌, ℕ, List, Option, Some}
 use Rattle.trips_outside.specs.Outside.{Appended, Holds}
 use Rattle.trips_isa.specs.declared.block.Block.{Block}
 use Rattle.trips_isa.specs.declared.block.Image.{Image}
-use Rattle.trips_isa.specs.declared.run.Counts.{Counts}
 use Rattle.trips_isa.specs.Machine.{State, runs, start}
 use Rattle.grid_cycle_spec.specs.Costs.{cost_of}
+use Rattle.trips_report.specs.declared.measured.Measured.{Measured}
 use Rattle.trips_answers.specs.Work.{Evaluate}
 use Rattle.trips_answers.specs.declared.forms.Settings.{Settings}
 use Rattle.trips_requests.specs.declared.status.Status.{Status}
@@ -25,14 +25,14 @@ abbrev pub IsAnswered : Option Request → (List ℕ → Option (List ℕ)) → 
 IsAnswered request held rose old new cut s = IsWritten (IsAnswer request held rose) old new cut s
 
 -- The run from a state was reported: with this status, and with this text, behind which stands what is shown of the
--- end of the machine's run and of the counts of the grid's run.
+-- end of the machine's run, of the counts of the grid's run and of its statistics.
 abbrev pub IsReportedFrom : List Block → State → Settings → Status → List ℕ → Status → Option (List ℕ)
     → Option (List ℕ) → Type 0
 IsReportedFrom blocks t settings wanted text s old new =
     let run = runs blocks t settings.most in
-    (counts : Counts) × IsCountedFrom blocks t settings.seed settings.most
-    (ending_of run.1 run.0.next) counts × (s ≡ wanted)
-    × Appended old new (shown_behind text run.0 counts (cost_of blocks run.0.trace) settings.show)
+    (measured : Measured) × IsCountedFrom blocks t settings.seed settings.most settings.show
+    (ending_of run.1 run.0.next) measured × (s ≡ wanted)
+    × Appended old new (shown_behind text run.0 measured (cost_of blocks run.0.trace) settings.show)
 
 -- so was the run of an image on an input, from the start
 abbrev pub IsReported : Image → List ℕ → Settings → Status → List ℕ → Status → Option (List ℕ)

@@ -92,6 +92,7 @@ pub fn settings_for(asked: Asked<'_>) -> Settings
             regs: asked.regs,
             trace: asked.trace,
             cycles: asked.cycles,
+            stats: asked.stats,
         },
     }
 }

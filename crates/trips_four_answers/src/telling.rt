@@ -14,7 +14,7 @@ use grid_machine::cost;
 use isa_table::put_number;
 use std::alloc::{AllocError, Global};
 use trips_isa::{Counts, Ending, Traced};
-use trips_report::{Show, run_report, status_for};
+use trips_report::{Measured, Show, run_report, status_for};
 use trips_requests::Status;
 
 // The report of a run where nothing is shown behind it.
@@ -31,8 +31,10 @@ fn run_text(alloc: Global, ending: Ending, arch: &Arch) -> Result<Vec<u8>, Alloc
         regs: false,
         trace: false,
         cycles: false,
+        stats: false,
     };
-    match run_report(alloc, ending, arch, counts, 0, show) {
+    let measured = Measured::uncounted(counts);
+    match run_report(alloc, ending, arch, measured, 0, show) {
         Ok(text) => Ok(text),
         Err(_) => Err(AllocError),
     }

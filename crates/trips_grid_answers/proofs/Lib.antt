@@ -1,3 +1,4 @@
+pub mod Flushes
 pub mod GridRuns
 pub mod Spending
 pub mod SavedRuns

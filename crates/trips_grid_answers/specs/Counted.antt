@@ -1,8 +1,7 @@
 -- What the grid counts of a run (docs/GRID.md, "Runs").
-use Rattle.std.specs.Prelude.{◌≡◌, ℕ, ◌+◌, ◌≤◌, false, List, Some, slice_get}
+use Rattle.std.specs.Prelude.{◌≡◌, ℕ, ◌+◌, ◌≤◌, true, false, List, Some, slice_get}
 use Rattle.trips_isa.specs.declared.block.Block.{Block}
 use Rattle.trips_isa.specs.declared.causes.TrapCause.{TrapCause}
-use Rattle.trips_isa.specs.declared.run.Counts.{Counts}
 use Rattle.trips_isa.specs.declared.run.Ending.{Ending}
 use Rattle.trips_isa.specs.declared.run.Ending.TheVariants.{Trap}
 use Rattle.trips_isa.specs.Machine.{State, runs, start}
@@ -11,27 +10,37 @@ use Rattle.grid_cycle_spec.specs.Costs.{cost_in, cost_of, greatest_cost}
 use Rattle.grid_cycle_spec.specs.Grid.{Grid}
 use Rattle.grid_machine.specs.Seeds.{IsRanFrom}
 use Rattle.grid_cycle.specs.Traps.{is_trap}
+use Rattle.grid_events.specs.Notes.{Note}
+use Rattle.grid_counted.specs.Seeds.{AreNotesFrom}
+use Rattle.trips_report.specs.declared.measured.Measured.{Measured}
+use Rattle.trips_report.specs.declared.show.Show.{Show}
+use Rattle.trips_grid_answers.specs.Statistics.{AreStatistics}
 
 -- The counts are those of a grid that a run of the seed from a state with an empty trace leads to: from the stated
 -- start by exactly as many eager cycles as it counts, and at the end of the run by the flush of the frames in flight.
 -- Its ending and its state are those of the machine's run within the budget, each block of the trace is counted as
--- committed, and each frame that was fetched has been committed or flushed.
-pub record IsCountedFrom (blocks : List Block) (s : State) (seed budget : ℕ) (ended : Ending)
-    (counts : Counts) : Type 0 where
+-- committed, and each frame that was fetched has been committed or flushed. The statistics, where they are shown, are
+-- those of all that is noted of this very run.
+pub record IsCountedFrom (blocks : List Block) (s : State) (seed budget : ℕ) (show : Show) (ended : Ending)
+    (measured : Measured) : Type 0 where
   -- the grid as the run leaves it, in the weather that the seed's generator draws
   pub grid : Grid PcgWeather
   -- a run that was answered this ending has led to it
   pub ran : IsRanFrom blocks s budget seed (Some ended) grid
-  pub counted : counts ≡ grid.counts
+  pub counted : measured.counts ≡ grid.counts
+  -- all that is noted of its cycles and of its end
+  pub notes : List Note
+  pub noted : AreNotesFrom blocks s budget seed notes grid
+  pub statistics : show.stats ≡ true → AreStatistics notes measured.statistics
   -- a run that ends in no trap makes no more cycles than the blocks of the machine's trace cost
-  pub within : is_trap ended ≡ false → counts.cycles ≤ cost_of blocks (runs blocks s budget).0.trace
+  pub within : is_trap ended ≡ false → measured.counts.cycles ≤ cost_of blocks (runs blocks s budget).0.trace
   -- one that ends in a trap makes no more than that and what the block costs that trapped
-  pub trapped : (block : ℕ) (cause : TrapCause) → ended ≡ Trap block cause → counts.cycles
+  pub trapped : (block : ℕ) (cause : TrapCause) → ended ≡ Trap block cause → measured.counts.cycles
       ≤ cost_of blocks (runs blocks s budget).0.trace + cost_in (slice_get blocks block)
   -- and so any run no more than that and the greatest cost of a block
-  pub at_most : counts.cycles ≤ cost_of blocks (runs blocks s budget).0.trace + greatest_cost
+  pub at_most : measured.counts.cycles ≤ cost_of blocks (runs blocks s budget).0.trace + greatest_cost
 
 -- the same of a run of an image on an input, from the start
-abbrev pub IsCountedRun : List Block → List ℕ → List ℕ → ℕ → ℕ → Ending → Counts → Type 0
-IsCountedRun blocks bytes input seed budget ended counts =
-    IsCountedFrom blocks (start bytes input) seed budget ended counts
+abbrev pub IsCountedRun : List Block → List ℕ → List ℕ → ℕ → ℕ → Show → Ending → Measured → Type 0
+IsCountedRun blocks bytes input seed budget show ended measured =
+    IsCountedFrom blocks (start bytes input) seed budget show ended measured

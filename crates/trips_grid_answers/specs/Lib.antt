@@ -1,4 +1,6 @@
 pub mod Report
+pub mod Statistics
 pub mod Counted
 pub mod Runs
 pub mod Saved
+pub mod inside

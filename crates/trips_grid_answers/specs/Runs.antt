@@ -1,9 +1,9 @@
 -- What a run on the grid is answered: the status and the report.
 use Rattle.std.specs.Prelude.{ℕ, List}
 use Rattle.trips_isa.specs.declared.block.Block.{Block}
-use Rattle.trips_isa.specs.declared.run.Counts.{Counts}
 use Rattle.trips_isa.specs.Machine.{State, runs}
 use Rattle.grid_cycle_spec.specs.Costs.{cost_of}
+use Rattle.trips_report.specs.declared.measured.Measured.{Measured}
 use Rattle.trips_report.specs.declared.show.Show.{Show}
 use Rattle.trips_requests.specs.declared.status.Status.{Status}
 use Rattle.trips_requests.specs.Texts.{IsFixed}
@@ -17,5 +17,5 @@ abbrev pub IsRunFrom : List Block → State → ℕ → ℕ → Show → Status 
 IsRunFrom blocks t seed most show s report =
     let run = runs blocks t most in
     let ended = ending_of run.1 run.0.next in
-    (counts : Counts) × IsCountedFrom blocks t seed most ended counts
-    × IsFixed (status_of ended) (shown_report ended run.0 counts (cost_of blocks run.0.trace) show) s report
+    (measured : Measured) × IsCountedFrom blocks t seed most show ended measured
+    × IsFixed (status_of ended) (shown_report ended run.0 measured (cost_of blocks run.0.trace) show) s report

@@ -1,42 +1,79 @@
 //! Runs of checked images on the grid, from the start and from a state.
 
-ghost use Rattle.std.specs.Prelude.{◌≡◌, ◌<◌, ◌≤◌, IfOk, Some, [], length};
+ghost use Rattle.std.specs.Prelude.{◌≡◌, ◌<◌, ◌≤◌, IfOk, Some, [], length, true, false};
 ghost use Rattle.trips_isa.specs.Machine.{start};
-ghost use Rattle.grid_cycle_spec.specs.Costs.{cost_of};
 ghost use Rattle.grid_machine.specs.Seeds.{IsRan, IsRanFrom};
-ghost use Rattle.grid_cycle.specs.Engines.{IsWithinCost, blocks_of, grid_of};
-ghost use Rattle.trips_report.specs.Endings.{status_of};
-ghost use Rattle.trips_grid_answers.specs.Report.{shown_report};
+ghost use Rattle.grid_cycle.specs.Engines.{blocks_of, grid_of};
+ghost use Rattle.grid_counted.specs.Seeds.{HasCounted};
+ghost use Rattle.trips_report.specs.Runs.{uncounted};
 ghost use Rattle.trips_grid_answers.specs.Runs.{IsRunFrom};
-ghost use Rattle.trips_requests.specs.Texts.{IsFixed};
+ghost use Rattle.trips_grid_answers.specs.inside.Measured.{measured_of, statistics_of};
+ghost use Rattle.trips_grid_answers.specs.inside.Told.{TellsGrid};
 
 use crate::report::run_text;
 use base::Items;
 use block_atomic::Arch;
 use block_check::CheckedImage;
+use grid_counted::Counted;
 use grid_cycle::{Ran, runs_from_a_state_end, runs_of_a_seed_end};
+use grid_tallies::{Statistic, Tallies};
 use std::alloc::{AllocError, Global};
-use trips_report::{Show, status_for};
+use trips_report::{Measured, Show, Statistics, status_for};
 use trips_requests::Answer;
 
-// The answer of a run that has ended.
+// The answer of a run that has ended, whose statistics are not shown.
 fn ended_answer(alloc: Global, ran: &Ran, show: Show) -> Result<Answer, AllocError>
-    ensures told { IfOk result (λ answer. IsFixed (status_of ran.now.ending) (shown_report ran.now.ending
-        (grid_of ran.now.grid).window.state (grid_of ran.now.grid).counts
-        (cost_of (blocks_of ran.now.grid) (grid_of ran.now.grid).window.state.trace) show)
-        answer.status answer.report.items) }
-    ensures within { IsWithinCost (blocks_of ran.now.grid) ran.now.grid.window.budget (grid_of ran.now.grid) }
+    ensures { IfOk result (λ answer. TellsGrid ran.now.ending (blocks_of ran.now.grid) (grid_of ran.now.grid)
+        (uncounted (grid_of ran.now.grid).counts) show answer.status answer.report.items) }
 {
     let ending = ran.ending;
     let arch = ran.grid.window().arch();
-    let counts = ran.grid.counts();
+    let measured = Measured::uncounted(ran.grid.counts());
     let cost = ran.grid.cost();
-    let report = run_text(alloc, ending, arch, counts, cost, show)?;
+    let report = run_text(alloc, ending, arch, measured, cost, show)?;
     Ok(Answer {
         status: status_for(ending),
         report,
     })
 }
+
+// The statistics that are shown of tallies.
+fn statistics_of(told: &Tallies) -> Statistics
+    ensures { result ≡ statistics_of told.now }
+{
+    Statistics {
+        movs: told.get(Statistic::Movs),
+        nulls: told.get(Statistic::Nulls),
+        useful: told.get(Statistic::Useful),
+        loads: told.get(Statistic::Loads),
+        stores: told.get(Statistic::Stores),
+        violations: told.get(Statistic::Violations),
+        wrong_exits: told.get(Statistic::WrongExits),
+        ends: told.get(Statistic::Ends),
+        predictions: told.get(Statistic::Predictions),
+    }
+}
+
+// The answer of a run that has ended and was counted.
+fn counted_answer(alloc: Global, run: &Counted, show: Show) -> Result<Answer, AllocError>
+    ensures { IfOk result (λ answer. TellsGrid run.now.ending (blocks_of run.now.grid) (grid_of run.now.grid)
+        (measured_of (grid_of run.now.grid).counts run.now.told) show answer.status answer.report.items) }
+{
+    let ending = run.ending;
+    let arch = run.window().arch();
+    let measured = Measured {
+        counts: run.counts(),
+        statistics: statistics_of(&run.told),
+    };
+    let cost = run.cost();
+    let report = run_text(alloc, ending, arch, measured, cost, show)?;
+    Ok(Answer {
+        status: status_for(ending),
+        report,
+    })
+}
+
+// FROM THE START
 
 /// Runs an image on an input, on the grid of a seed and for at most so many blocks.
 pub fn ran_image(
@@ -57,9 +94,47 @@ pub fn ran_image(
     }
 }
 
-/// Runs an image on an input, on the grid of a seed and for as many blocks as are allowed, and tells how its run
-/// ended and what is shown. Want of memory is the only error: each run ends within its cost.
-pub fn run_image(
+// The same, and counts its statistics.
+fn counted_image(
+    alloc: Global,
+    image: CheckedImage,
+    input: Items<u8>,
+    seed: u64,
+    most: u32,
+) -> Result<Counted, AllocError>
+    requires some { 0 < most }
+    ensures ran { IfOk result (λ run. HasCounted image.blocks (start image.bytes input) most seed run.ending
+        (grid_of run.grid) run.told) }
+    ensures image { IfOk result (λ run. blocks_of run.grid ≡ image.blocks) }
+{
+    match grid_counted::run_image(alloc, image, input.into_vec(), seed, most) {
+        Ok(run) => Ok(run),
+        Err(_) => Err(AllocError),
+    }
+}
+
+// The answer of the run of an image whose statistics are not shown.
+fn plain_run(
+    alloc: Global,
+    image: CheckedImage,
+    input: Items<u8>,
+    seed: u64,
+    most: u32,
+    show: Show,
+) -> Result<Answer, AllocError>
+    requires some { 0 < most }
+    requires plain { show.stats ≡ false }
+    ensures { IfOk result (λ answer. IsRunFrom image.blocks (start image.bytes input) seed most show
+        answer.status answer.report.items) }
+{
+    let _ = image.count();
+    runs_of_a_seed_end();
+    let ran = ran_image(alloc, image, input, seed, most)?;
+    ended_answer(alloc, &ran, show)
+}
+
+// The answer of the run of an image whose statistics are counted.
+fn counted_run(
     alloc: Global,
     image: CheckedImage,
     input: Items<u8>,
@@ -73,9 +148,33 @@ pub fn run_image(
 {
     let _ = image.count();
     runs_of_a_seed_end();
-    let ran = ran_image(alloc, image, input, seed, most)?;
-    ended_answer(alloc, &ran, show)
+    let run = counted_image(alloc, image, input, seed, most)?;
+    counted_answer(alloc, &run, show)
 }
+
+/// Runs an image on an input, on the grid of a seed and for as many blocks as are allowed, and tells how its run
+/// ended and what is shown. Want of memory is the only error: each run ends within its cost. Its statistics are
+/// counted where they are shown.
+pub fn run_image(
+    alloc: Global,
+    image: CheckedImage,
+    input: Items<u8>,
+    seed: u64,
+    most: u32,
+    show: Show,
+) -> Result<Answer, AllocError>
+    requires some { 0 < most }
+    ensures { IfOk result (λ answer. IsRunFrom image.blocks (start image.bytes input) seed most show
+        answer.status answer.report.items) }
+{
+    if show.stats {
+        counted_run(alloc, image, input, seed, most, show)
+    } else {
+        plain_run(alloc, image, input, seed, most, show)
+    }
+}
+
+// FROM A STATE
 
 // Goes on from a state on the grid of a seed, for at most so many blocks.
 fn ran_from(
@@ -99,9 +198,55 @@ fn ran_from(
     }
 }
 
-/// Goes on with a machine of an image whose trace is empty, on the grid of a seed and for as many blocks as are
-/// allowed, and tells how its run ended and what is shown. Want of memory is the only error.
-pub fn run_from(
+// The same, and counts its statistics.
+fn counted_from(
+    alloc: Global,
+    image: CheckedImage,
+    arch: Arch,
+    seed: u64,
+    most: u32,
+) -> Result<Counted, AllocError>
+    requires some { 0 < most }
+    requires next { arch.state.next < length image.blocks }
+    requires room { most ≤ arch.budget }
+    requires fresh { arch.state.trace ≡ [] }
+    ensures ran { IfOk result (λ run. HasCounted image.blocks arch.state most seed run.ending (grid_of run.grid)
+        run.told) }
+    ensures image { IfOk result (λ run. blocks_of run.grid ≡ image.blocks) }
+{
+    match grid_counted::resume_image(alloc, image, arch, seed, most) {
+        Ok(run) => Ok(run),
+        Err(_) => Err(AllocError),
+    }
+}
+
+// The answer of the run from a state whose statistics are not shown.
+fn plain_from(
+    alloc: Global,
+    image: CheckedImage,
+    arch: Arch,
+    seed: u64,
+    most: u32,
+    show: Show,
+) -> Result<Answer, AllocError>
+    requires some { 0 < most }
+    requires next { arch.state.next < length image.blocks }
+    requires room { most ≤ arch.budget }
+    requires fresh { arch.state.trace ≡ [] }
+    requires plain { show.stats ≡ false }
+    ensures { IfOk result (λ answer. IsRunFrom image.blocks arch.state seed most show
+        answer.status answer.report.items) }
+{
+    let _ = image.count();
+    let _ = arch.memory();
+    let _ = arch.register(0);
+    runs_from_a_state_end();
+    let ran = ran_from(alloc, image, arch, seed, most)?;
+    ended_answer(alloc, &ran, show)
+}
+
+// The answer of the run from a state whose statistics are counted.
+fn counted_run_from(
     alloc: Global,
     image: CheckedImage,
     arch: Arch,
@@ -120,6 +265,31 @@ pub fn run_from(
     let _ = arch.memory();
     let _ = arch.register(0);
     runs_from_a_state_end();
-    let ran = ran_from(alloc, image, arch, seed, most)?;
-    ended_answer(alloc, &ran, show)
+    let run = counted_from(alloc, image, arch, seed, most)?;
+    counted_answer(alloc, &run, show)
+}
+
+/// Goes on with a machine of an image whose trace is empty, on the grid of a seed and for as many blocks as are
+/// allowed, and tells how its run ended and what is shown. Want of memory is the only error. Its statistics are
+/// counted where they are shown.
+pub fn run_from(
+    alloc: Global,
+    image: CheckedImage,
+    arch: Arch,
+    seed: u64,
+    most: u32,
+    show: Show,
+) -> Result<Answer, AllocError>
+    requires some { 0 < most }
+    requires next { arch.state.next < length image.blocks }
+    requires room { most ≤ arch.budget }
+    requires fresh { arch.state.trace ≡ [] }
+    ensures { IfOk result (λ answer. IsRunFrom image.blocks arch.state seed most show
+        answer.status answer.report.items) }
+{
+    if show.stats {
+        counted_run_from(alloc, image, arch, seed, most, show)
+    } else {
+        plain_from(alloc, image, arch, seed, most, show)
+    }
 }

@@ -5,8 +5,8 @@ ghost use Rattle.trips_grid_answers.specs.Report.{shown_report};
 
 use block_atomic::Arch;
 use std::alloc::{AllocError, Global};
-use trips_isa::{Counts, Ending};
-use trips_report::Show;
+use trips_isa::Ending;
+use trips_report::{Measured, Show};
 
 /// The report of a run, from how it ended, the machine at its end, what was counted of it and what its blocks may
 /// cost, with what is shown behind it.
@@ -14,14 +14,14 @@ pub fn run_text(
     alloc: Global,
     ending: Ending,
     arch: &Arch,
-    counts: Counts,
+    measured: Measured,
     cost: u64,
     show: Show,
 ) -> Result<Vec<u8>, AllocError>
     ensures { IfOk result (λ report.
-        report.items ≡ shown_report ending arch.now.state counts cost show) }
+        report.items ≡ shown_report ending arch.now.state measured cost show) }
 {
-    match trips_report::run_report(alloc, ending, arch, counts, cost, show) {
+    match trips_report::run_report(alloc, ending, arch, measured, cost, show) {
         Ok(report) => Ok(report),
         Err(_) => Err(AllocError),
     }

@@ -91,6 +91,7 @@ pub const SHOWN: Show = Show {
     regs: true,
     trace: false,
     cycles: false,
+    stats: false,
 };
 
 /// The answer of saving a run behind so many blocks.

@@ -11,12 +11,14 @@ const PLAIN: Show = Show {
     regs: false,
     trace: false,
     cycles: false,
+    stats: false,
 };
 
 const TRACED: Show = Show {
     regs: false,
     trace: true,
     cycles: false,
+    stats: false,
 };
 
 /// Programs, and how many blocks their runs have.

@@ -43,6 +43,7 @@ request_for c name input most unroll seed show = planned (record {
   regs = show.regs;
   trace = show.trace;
   cycles = show.cycles;
+  stats = show.stats;
 })
 
 -- that of a run, with an input

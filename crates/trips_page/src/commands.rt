@@ -31,6 +31,7 @@ fn work(command: Command, file: &'static str, unroll: u8) -> Asked<'static>
         regs: false,
         trace: false,
         cycles: false,
+        stats: false,
     }
 }
 
@@ -49,7 +50,7 @@ pub extern "C" fn page_run(
     out: &mut [u8],
 ) -> usize
     ensures { 0 < result → result ≤ length out.old → IsTold (run_of c_name most unroll seed
-        (record { regs = regs; trace = trace; cycles = cycles })) c_name text.now input.now (take result out.new) }
+        (record { regs = regs; trace = trace; cycles = cycles; stats = false })) c_name text.now input.now (take result out.new) }
 {
     let asked = Asked {
         command: Command::Run,
@@ -66,6 +67,7 @@ pub extern "C" fn page_run(
         regs,
         trace,
         cycles,
+        stats: false,
     };
     answer(alloc, asked, text, input, out)
 }
@@ -84,7 +86,7 @@ pub extern "C" fn page_run_image(
     out: &mut [u8],
 ) -> usize
     ensures { 0 < result → result ≤ length out.old → IsTold (run_of image_name most 1 seed
-        (record { regs = regs; trace = trace; cycles = cycles })) image_name image.now input.now
+        (record { regs = regs; trace = trace; cycles = cycles; stats = false })) image_name image.now input.now
         (take result out.new) }
 {
     let asked = Asked {
@@ -102,6 +104,7 @@ pub extern "C" fn page_run_image(
         regs,
         trace,
         cycles,
+        stats: false,
     };
     answer(alloc, asked, image, input, out)
 }
@@ -133,6 +136,7 @@ pub extern "C" fn page_evaluate(
         regs: false,
         trace: false,
         cycles: false,
+        stats: false,
     };
     answer(alloc, asked, text, input, out)
 }

@@ -5,8 +5,8 @@ use Rattle.std.proofs.Common.{refl, false}
 use Rattle.std.specs.List.{flat_map}
 use Rattle.std.proofs.lemmas.List.{flat_map_more, take_all, take_more}
 use Rattle.target_asm_spec.specs.Numbers.{numbered}
-use Rattle.trips_isa.specs.declared.run.Counts.{Counts}
 use Rattle.trips_isa.specs.Machine.{State}
+use Rattle.trips_report.specs.declared.measured.Measured.{Measured}
 use Rattle.trips_report.specs.declared.show.Show.{Show}
 use Rattle.trips_report.specs.Runs.{with_part, with_shown}
 
@@ -25,10 +25,10 @@ numbered_all f k xs start out few o = o ∙ ap (λ t. start ++ numbered f 0 t) (
 
 -- nothing is shown behind the ending
 abbrev pub nothing_shown : Show
-nothing_shown = record { regs = false; trace = false; cycles = false }
+nothing_shown = record { regs = false; trace = false; cycles = false; stats = false }
 
 -- where nothing is shown, the text stands alone
-pub shows_nothing : (text : List ℕ) (s : State) (counts : Counts) (cost : ℕ)
-    → with_shown text s counts cost nothing_shown ≡ text
+pub shows_nothing : (text : List ℕ) (s : State) (measured : Measured) (cost : ℕ)
+    → with_shown text s measured cost nothing_shown ≡ text
 unfolding with_part
-shows_nothing text s counts cost = refl
+shows_nothing text s measured cost = refl

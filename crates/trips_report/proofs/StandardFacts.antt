@@ -4,7 +4,6 @@ use Rattle.std.specs.Fmt.{digits}
 use Rattle.hex.specs.Hex.{encode_with}
 use Rattle.isa_table.specs.Spots.{indexed, at_slot}
 use Rattle.trips_isa.specs.declared.causes.TrapCause.TheVariants.{Misaligned}
-use Rattle.trips_isa.specs.declared.run.Counts.{Counts}
 use Rattle.trips_isa.specs.declared.run.Ending.TheVariants as ending
 use Rattle.trips_isa.specs.declared.block.Spot.TheVariants as spot
 use Rattle.trips_isa.specs.Machine.{State}
@@ -12,9 +11,10 @@ use Rattle.block_image.specs.declared.fault.ImageFault.TheVariants as image
 use Rattle.target_asm_spec.specs.declared.fault.AsmFault.TheVariants as asm
 use Rattle.block_check.specs.declared.fault.CheckFault.TheVariants as check
 use Rattle.trips_report.specs.declared.said.Said.TheVariants as said
+use Rattle.trips_report.specs.declared.measured.Measured.{Measured}
 use Rattle.trips_report.specs.declared.show.Show.{Show}
 use Rattle.trips_report.specs.Runs.{word_digits, register_line, traced_line, count_line, count_lines, with_part}
-use Rattle.trips_report.specs.Runs.{signed, run_report}
+use Rattle.trips_report.specs.Runs.{fired_lines, flushed_lines, memory_lines, statistic_lines, signed, run_report}
 use Rattle.trips_report.specs.inside.Refusals.{refusal_report}
 
 -- four registers, of which the last has what main returned, and one committed block
@@ -28,20 +28,36 @@ ended = record {
   trace = (record { block = 0; exit = 1 }) ∷ [];
 }
 
-abbrev counts : Counts
-counts = record { cycles = 40; fetched = 3; committed = 1; flushed = 2 }
+abbrev measured : Measured
+measured = record {
+  counts = record { cycles = 40; fetched = 3; committed = 1; flushed = 2 };
+  statistics = record {
+    movs = 1;
+    nulls = 2;
+    useful = 34;
+    loads = 5;
+    stores = 6;
+    violations = 0;
+    wrong_exits = 7;
+    ends = 8;
+    predictions = 9;
+  };
+}
 
 abbrev shown : Show
-shown = record { regs = true; trace = true; cycles = true }
+shown = record { regs = true; trace = true; cycles = true; stats = false }
 
 abbrev hidden : Show
-hidden = record { regs = false; trace = false; cycles = false }
+hidden = record { regs = false; trace = false; cycles = false; stats = false }
 
-pub plain_is : run_report ending.Ended ended counts 512 hidden ≡ codes "output 2\nhi\nresult 7\n"
+abbrev counted : Show
+counted = record { regs = false; trace = false; cycles = true; stats = true }
+
+pub plain_is : run_report ending.Ended ended measured 512 hidden ≡ codes "output 2\nhi\nresult 7\n"
 unfolding digits with_part
 plain_is = refl
 
-pub whole_is : run_report ending.StackFull ended counts 512 shown
+pub whole_is : run_report ending.StackFull ended measured 512 shown
     ≡ codes "output 2\nhi\nstack full\n"
     ++ (codes "G[0] 0000000000000003\nG[1] 0000000000000000\n"
     ++ (codes "G[2] 0000000000000000\nG[3] 0000000000000007\n"
@@ -50,11 +66,19 @@ pub whole_is : run_report ending.StackFull ended counts 512 shown
 unfolding digits encode_with indexed word_digits register_line traced_line count_line count_lines with_part
 whole_is = refl
 
-pub budget_is : run_report ending.Budget ended counts 512 hidden ≡ codes "output 2\nhi\nbudget 1\n"
+-- the statistics stand behind all else, each under its own name
+pub statistics_are : run_report ending.Ended ended measured 512 counted
+    ≡ codes "output 2\nhi\nresult 7\nblocks 1\ncycles 40\nfetched 3\nflushed 2\ncost 512\n"
+    ++ (codes "movs 1\nnulls 2\nuseful 34\nloads 5\nstores 6\n"
+    ++ codes "flushed_by_violation 0\nflushed_by_exit 7\nflushed_at_end 8\npredicted 9\n")
+unfolding digits count_line count_lines fired_lines memory_lines flushed_lines statistic_lines with_part
+statistics_are = refl
+
+pub budget_is : run_report ending.Budget ended measured 512 hidden ≡ codes "output 2\nhi\nbudget 1\n"
 unfolding digits with_part
 budget_is = refl
 
-pub trap_is : run_report (ending.Trap 12 Misaligned) ended counts 512 hidden
+pub trap_is : run_report (ending.Trap 12 Misaligned) ended measured 512 hidden
     ≡ codes "output 2\nhi\ntrap block 12 cause 2\n"
 unfolding digits with_part
 trap_is = refl

@@ -13,6 +13,8 @@ use Rattle.isa_table.specs.Spots.{indexed}
 use Rattle.target_asm_spec.specs.Numbers.{numbered}
 use Rattle.trips_isa.specs.Machine.{State}
 use Rattle.trips_requests.specs.Texts.{output_and}
+use Rattle.trips_report.specs.declared.measured.Measured.{Measured}
+use Rattle.trips_report.specs.declared.measured.Statistics.{Statistics}
 use Rattle.trips_report.specs.declared.show.Show.{Show}
 
 -- a word as a signed number in decimal digits
@@ -66,18 +68,57 @@ count_lines counts cost =
     ++ (count_line (codes "fetched ") counts.fetched
     ++ (count_line (codes "flushed ") counts.flushed ++ count_line (codes "cost ") cost)))
 
+-- what was fired: `mov`, `null`, and all other operations
+unfoldable pub fired_lines : Statistics → List ℕ
+fired_lines s = count_line (codes "movs ") s.movs
+    ++ (count_line (codes "nulls ") s.nulls ++ count_line (codes "useful ") s.useful)
+
+-- loads answered, and stores resolved
+unfoldable pub memory_lines : Statistics → List ℕ
+memory_lines s = count_line (codes "loads ") s.loads ++ count_line (codes "stores ") s.stores
+
+-- the frames that were flushed, by their causes
+unfoldable pub flushed_lines : Statistics → List ℕ
+flushed_lines s = count_line (codes "flushed_by_violation ") s.violations
+    ++ (count_line (codes "flushed_by_exit ") s.wrong_exits ++ count_line (codes "flushed_at_end ") s.ends)
+
+-- the statistics of a run: nine lines
+unfoldable pub statistic_lines : Statistics → List ℕ
+statistic_lines s = fired_lines s
+    ++ (memory_lines s ++ (flushed_lines s ++ count_line (codes "predicted ") s.predictions))
+
+-- nothing was counted
+abbrev pub no_statistics : Statistics
+no_statistics = record {
+  movs = 0;
+  nulls = 0;
+  useful = 0;
+  loads = 0;
+  stores = 0;
+  violations = 0;
+  wrong_exits = 0;
+  ends = 0;
+  predictions = 0;
+}
+
+-- what a run took whose statistics were not counted
+abbrev pub uncounted : Counts → Measured
+uncounted counts = record { counts = counts; statistics = no_statistics }
+
 -- a text, and behind it a part of the report where that is shown
 unfoldable pub with_part : Bool → List ℕ → List ℕ → List ℕ
 with_part shown part text = if shown then text ++ part else text
 
 -- THE REPORT
 
--- A text, and behind it the registers, the committed blocks and what the run took, as far as they are shown.
-abbrev pub with_shown : List ℕ → State → Counts → ℕ → Show → List ℕ
-with_shown text s counts cost show =
-    with_part show.cycles (count_lines counts cost)
-    (with_part show.trace (trace_lines s.trace) (with_part show.regs (register_lines s.registers) text))
+-- A text, and behind it the registers, the committed blocks, what the run took and its statistics, as far as they are
+-- shown.
+abbrev pub with_shown : List ℕ → State → Measured → ℕ → Show → List ℕ
+with_shown text s measured cost show =
+    with_part show.stats (statistic_lines measured.statistics)
+    (with_part show.cycles (count_lines measured.counts cost)
+    (with_part show.trace (trace_lines s.trace) (with_part show.regs (register_lines s.registers) text)))
 
 -- the report of a run, and behind it what is shown
-abbrev pub run_report : Ending → State → Counts → ℕ → Show → List ℕ
-run_report ending s counts cost show = with_shown (plain_report ending s) s counts cost show
+abbrev pub run_report : Ending → State → Measured → ℕ → Show → List ℕ
+run_report ending s measured cost show = with_shown (plain_report ending s) s measured cost show

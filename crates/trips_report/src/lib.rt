@@ -6,12 +6,14 @@
 
 mod endings;
 mod lines;
+mod measured;
 mod refusals;
 mod runs;
 mod said;
 mod show;
 
 pub use endings::status_for;
+pub use measured::{Measured, Statistics};
 pub use refusals::{at_place, refusal_report};
 pub use runs::run_report;
 pub use said::Said;

@@ -3,7 +3,9 @@
 ghost use Rattle.std.specs.Prelude.{◌≡◌, ◌++◌, OnOk, length};
 ghost use Rattle.trips_report.specs.Runs.{word_digits, register_line, traced_line, count_line};
 ghost use Rattle.trips_report.specs.Runs.{register_lines, trace_lines, count_lines, with_part};
+ghost use Rattle.trips_report.specs.Runs.{fired_lines, flushed_lines, memory_lines, statistic_lines};
 
+use crate::measured::Statistics;
 use block_atomic::Arch;
 use hex::encode;
 use isa_table::{put_indexed, put_number};
@@ -131,6 +133,63 @@ pub fn show_counts(
 {
     if shown {
         put_counts(out, counts, cost)
+    } else {
+        Ok(())
+    }
+}
+
+// Writes what was fired.
+#[tactic(auto, unfolding(crate::specs::Runs::fired_lines))]
+fn put_fired(out: &mut Vec<u8>, statistics: Statistics) -> Result<(), AllocError>
+    ensures ok { OnOk result (out.new.items ≡ out.old.items ++ fired_lines statistics) }
+{
+    put_count(out, b"movs ", statistics.movs)?;
+    put_count(out, b"nulls ", statistics.nulls)?;
+    put_count(out, b"useful ", statistics.useful)
+}
+
+// Writes what was loaded and stored.
+#[tactic(auto, unfolding(crate::specs::Runs::memory_lines))]
+fn put_memory(out: &mut Vec<u8>, statistics: Statistics) -> Result<(), AllocError>
+    ensures ok { OnOk result (out.new.items ≡ out.old.items ++ memory_lines statistics) }
+{
+    put_count(out, b"loads ", statistics.loads)?;
+    put_count(out, b"stores ", statistics.stores)
+}
+
+// Writes which frames were flushed.
+#[tactic(auto, unfolding(crate::specs::Runs::flushed_lines))]
+fn put_flushed(out: &mut Vec<u8>, statistics: Statistics) -> Result<(), AllocError>
+    ensures ok { OnOk result (out.new.items ≡ out.old.items ++ flushed_lines statistics) }
+{
+    put_count(out, b"flushed_by_violation ", statistics.violations)?;
+    put_count(out, b"flushed_by_exit ", statistics.wrong_exits)?;
+    put_count(out, b"flushed_at_end ", statistics.ends)
+}
+
+// Writes the statistics of a run.
+#[tactic(auto, unfolding(crate::specs::Runs::statistic_lines))]
+fn put_statistics(out: &mut Vec<u8>, statistics: Statistics) -> Result<(), AllocError>
+    ensures ok { OnOk result (out.new.items ≡ out.old.items ++ statistic_lines statistics) }
+{
+    put_fired(out, statistics)?;
+    put_memory(out, statistics)?;
+    put_flushed(out, statistics)?;
+    put_count(out, b"predicted ", statistics.predictions)
+}
+
+/// Writes the statistics of a run, where they are shown.
+#[tactic(auto, unfolding(crate::specs::Runs::with_part))]
+pub fn show_statistics(
+    out: &mut Vec<u8>,
+    shown: bool,
+    statistics: Statistics,
+) -> Result<(), AllocError>
+    ensures ok { OnOk result (out.new.items ≡ with_part shown (statistic_lines statistics)
+        out.old.items) }
+{
+    if shown {
+        put_statistics(out, statistics)
     } else {
         Ok(())
     }

@@ -3,12 +3,13 @@
 ghost use Rattle.std.specs.Prelude.{◌≡◌, IfOk, length, string_bytes};
 ghost use Rattle.trips_report.specs.Runs.{signed, ending_line, plain_report, run_report};
 
-use crate::lines::{show_counts, show_registers, show_trace};
+use crate::lines::{show_counts, show_registers, show_statistics, show_trace};
+use crate::measured::Measured;
 use crate::show::Show;
 use base::Memory;
 use block_atomic::Arch;
 use std::alloc::{AllocError, Global};
-use trips_isa::{Counts, Ending, number_of};
+use trips_isa::{Ending, number_of};
 use trips_requests::output_text;
 
 // A word as a signed number.
@@ -60,34 +61,34 @@ fn run_text(
     alloc: Global,
     ending: Ending,
     arch: &Arch,
-    counts: Counts,
+    measured: Measured,
     cost: u64,
     show: Show,
 ) -> Result<Vec<u8>, AllocError>
     ensures { IfOk result (λ report.
-        report.items ≡ run_report ending arch.now.state counts cost show) }
+        report.items ≡ run_report ending arch.now.state measured cost show) }
 {
     let mut report = plain_text(alloc, ending, arch)?;
     show_registers(alloc, &mut report, show.regs, arch)?;
     show_trace(&mut report, show.trace, arch.trace())?;
-    show_counts(&mut report, show.cycles, counts, cost)?;
+    show_counts(&mut report, show.cycles, measured.counts, cost)?;
+    show_statistics(&mut report, show.stats, measured.statistics)?;
     Ok(report)
 }
 
-/// The report of a run: the output, how the run ended and, as far as they are shown, the registers,
-/// the committed blocks, and what the run took, `cost` cycles at most. Want of memory is the only
-/// error.
+/// The report of a run: the output, how the run ended and, as far as they are shown, the registers, the committed
+/// blocks, what the run took, `cost` cycles at most, and its statistics. Want of memory is the only error.
 pub fn run_report(
     alloc: Global,
     ending: Ending,
     arch: &Arch,
-    counts: Counts,
+    measured: Measured,
     cost: u64,
     show: Show,
 ) -> Result<Vec<u8>, Memory>
     ensures ok { IfOk result (λ report.
-        report.items ≡ run_report ending arch.now.state counts cost show) }
+        report.items ≡ run_report ending arch.now.state measured cost show) }
 {
-    let report = run_text(alloc, ending, arch, counts, cost, show)?;
+    let report = run_text(alloc, ending, arch, measured, cost, show)?;
     Ok(report)
 }

@@ -7,4 +7,6 @@ pub struct Show {
     pub trace: bool,
     /// how many blocks and cycles the run took
     pub cycles: bool,
+    /// the statistics of the run
+    pub stats: bool,
 }

@@ -21,6 +21,7 @@ plain = record {
   regs = false;
   trace = false;
   cycles = false;
+  stats = false;
 }
 
 pub run_is : asked (codes "run" ∷ codes "a.c" ∷ []) ≡ Some plain
@@ -238,6 +239,21 @@ three_are_none = refl
 pub five_are_none : asked (codes "four" ∷ codes "a" ∷ codes "b" ∷ codes "c" ∷ codes "d" ∷ codes "e" ∷ []) ≡ None
 unfolding verb_named
 five_are_none = refl
+
+-- the statistics of a run are asked for, of that of a file and of one that goes on
+pub counted_is : asked (codes "run" ∷ codes "--stats" ∷ codes "a.c" ∷ codes "--cycles" ∷ [])
+    ≡ Some (record plain { cycles = true; stats = true })
+unfolding verb_named
+counted_is = refl
+
+pub resumed_counted : asked (codes "resume" ∷ codes "s.sav" ∷ codes "--stats" ∷ [])
+    ≡ Some (record plain { command = command.Resume; file = codes "s.sav"; stats = true })
+unfolding verb_named
+resumed_counted = refl
+
+pub bench_uncounted : asked (codes "bench" ∷ codes "9" ∷ codes "--stats" ∷ []) ≡ None
+unfolding verb_named
+bench_uncounted = refl
 
 -- a saved run goes on, without an input
 pub resumed_is : asked (codes "resume" ∷ codes "a.c" ∷ codes "--regs" ∷ codes "--blocks=7" ∷ [])

@@ -12,7 +12,8 @@ use Rattle.trips_requests.specs.Words.{third_name, value_said}
 -- the options of `run`
 abbrev pub run_options : List Named
 run_options = valued (codes "input") ∷ valued (codes "blocks") ∷ valued (codes "place") ∷ valued (codes "unroll")
-    ∷ valued (codes "seed") ∷ flag (codes "regs") ∷ flag (codes "trace") ∷ flag (codes "cycles") ∷ []
+    ∷ valued (codes "seed") ∷ flag (codes "regs") ∷ flag (codes "trace") ∷ flag (codes "cycles")
+    ∷ flag (codes "stats") ∷ []
 
 -- those of `bench`
 abbrev pub bench_options : List Named
@@ -42,7 +43,7 @@ save_options = valued (codes "input") ∷ valued (codes "seed") ∷ []
 -- those of `resume`
 abbrev pub resume_options : List Named
 resume_options = valued (codes "blocks") ∷ valued (codes "seed") ∷ flag (codes "regs") ∷ flag (codes "trace")
-    ∷ flag (codes "cycles") ∷ []
+    ∷ flag (codes "cycles") ∷ flag (codes "stats") ∷ []
 
 -- those of `four`
 abbrev pub four_options : List Named
@@ -126,6 +127,7 @@ pub record Options : Type 0 where
   pub regs : Bool
   pub trace : Bool
   pub cycles : Bool
+  pub stats : Bool
 
 -- a flag is said, by its value
 abbrev pub is_on : Option Text → Bool
@@ -146,4 +148,5 @@ options_said k said = record {
   regs = is_on (value_said (codes "regs") said);
   trace = is_on (value_said (codes "trace") said);
   cycles = is_on (value_said (codes "cycles") said);
+  stats = is_on (value_said (codes "stats") said);
 }

@@ -14,7 +14,7 @@ use Rattle.trips_requests.specs.Words.{Text, Said, file_name, value_said, words_
 -- What is asked for: a command, its file and the others if it has more, or how many functions the benchmark's text
 -- has that is run in place of it, the name of the input if there is one, how many blocks or steps it may take, the
 -- number by which compiled blocks are placed if one is said, how many turns of a loop one of these may hold, the seed
--- of the grid, and whether registers, trace and counts are shown.
+-- of the grid, and whether registers, trace, counts and statistics are shown.
 pub record Request : Type 0 where
   pub command : Command
   pub file : Text
@@ -33,10 +33,12 @@ pub record Request : Type 0 where
   -- how many turns of a loop a compiled block may hold
   pub unroll : ℕ
   pub seed : ℕ
-  -- what is shown behind the ending of a run: registers, committed blocks with their exits, and the grid's counts
+  -- what is shown behind the ending of a run: registers, committed blocks with their exits, the grid's counts, and its
+  -- statistics
   pub regs : Bool
   pub trace : Bool
   pub cycles : Bool
+  pub stats : Bool
 
 -- How many blocks or steps the number says, and how many are taken without one. `draw` says the number of a block,
 -- which is the last of one block more.
@@ -85,6 +87,7 @@ request_counted k name options second third fourth functions most place unroll s
   regs = options.regs;
   trace = options.trace;
   cycles = options.cycles;
+  stats = options.stats;
 }
 
 -- the request of a command, of its files or its number of functions, and of its options: the numbers are in

@@ -34,6 +34,7 @@ pub struct FoundOptions<'a> {
     pub regs: bool,
     pub trace: bool,
     pub cycles: bool,
+    pub stats: bool,
 }
 
 /// What a name stands for.
@@ -293,6 +294,7 @@ fn request_of_file<'a>(
         regs: options.regs,
         trace: options.trace,
         cycles: options.cycles,
+        stats: options.stats,
     })
 }
 

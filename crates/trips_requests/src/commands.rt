@@ -112,4 +112,6 @@ pub struct Asked<'a> {
     pub trace: bool,
     /// whether the counts of the grid are shown
     pub cycles: bool,
+    /// whether the statistics of the run are shown
+    pub stats: bool,
 }

@@ -61,7 +61,8 @@ pub fn trips_run<F: Files, K: Sink>(
         × Appended (K.written sink.old) (K.written sink.new) (full_report output) }
 
     // Whatever its evaluation comes to and whatever is asked for behind the ending: there is an image that does what
-    // the text means, and the machine's run of it is reported, with counts that are within the cost of its blocks.
+    // the text means, and the machine's run of it is reported, with counts that are within the cost of its blocks, and
+    // of the frames that were flushed as many as its statistics have under their causes.
     ensures text_run { (most : ℕ) (show : Show) (text input : List ℕ) (program : TypedProgram)
         → (call : IsServed (request_of words.now) (F.held files.old) Run form.Source most show text input
         (F.faults files.old) (F.faults files.new) (K.faults sink.old) (K.faults sink.new) result)

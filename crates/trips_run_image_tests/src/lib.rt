@@ -22,6 +22,8 @@ mod save_tests;
 #[cfg(test)]
 mod shown_trap_tests;
 #[cfg(test)]
+mod stats_tests;
+#[cfg(test)]
 mod tool_tests;
 #[cfg(test)]
 mod trap_tests;

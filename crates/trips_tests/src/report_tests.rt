@@ -8,13 +8,26 @@ use std::process::Abort;
 use std::test::Fail;
 use target_asm_spec::AsmFault;
 use trips_isa::{Counts, Ending, Spot, TrapCause};
-use trips_report::{Said, Show, refusal_report, run_report};
+use trips_report::{Measured, Said, Show, Statistics, refusal_report, run_report};
 
-const COUNTS: Counts = Counts {
-    cycles: 40,
-    fetched: 3,
-    committed: 1,
-    flushed: 2,
+const MEASURED: Measured = Measured {
+    counts: Counts {
+        cycles: 40,
+        fetched: 3,
+        committed: 1,
+        flushed: 2,
+    },
+    statistics: Statistics {
+        movs: 11,
+        nulls: 12,
+        useful: 13,
+        loads: 14,
+        stores: 15,
+        violations: 0,
+        wrong_exits: 1,
+        ends: 18_446_744_073_709_551_615,
+        predictions: 16,
+    },
 };
 
 // The words of the image of one block that returns 7 (docs/MACHINE.md, "The image"), but for those
@@ -58,7 +71,7 @@ fn report_of_seven(alloc: Global, ending: Ending, show: Show) -> Result<Vec<u8>,
         return Err(AllocError);
     };
     let _ = arch.step(&checked);
-    let Ok(report) = run_report(alloc, ending, &arch, COUNTS, 1_024, show) else {
+    let Ok(report) = run_report(alloc, ending, &arch, MEASURED, 1_024, show) else {
         return Err(AllocError);
     };
     Ok(report)
@@ -71,7 +84,24 @@ const NOTHING: Show = Show {
     regs: false,
     trace: false,
     cycles: false,
+    stats: false,
 };
+
+// The report of a run with its trace and its statistics.
+const COUNTED: &str = "output 0
+
+result 7
+block 0 exit 0
+movs 11
+nulls 12
+useful 13
+loads 14
+stores 15
+flushed_by_violation 0
+flushed_by_exit 1
+flushed_at_end 18446744073709551615
+predicted 16
+";
 
 const RUNS: &[Run] = &[
     (Ending::Ended, NOTHING, "output 0\n\nresult 7\n"),
@@ -81,6 +111,7 @@ const RUNS: &[Run] = &[
             regs: false,
             trace: true,
             cycles: false,
+            stats: false,
         },
         "output 0\n\nresult 7\nblock 0 exit 0\n",
     ),
@@ -90,6 +121,7 @@ const RUNS: &[Run] = &[
             regs: false,
             trace: false,
             cycles: true,
+            stats: false,
         },
         "output 0\n\nstack full\nblocks 1\ncycles 40\nfetched 3\nflushed 2\ncost 1024\n",
     ),
@@ -99,8 +131,19 @@ const RUNS: &[Run] = &[
             regs: false,
             trace: true,
             cycles: true,
+            stats: false,
         },
         "output 0\n\nbudget 1\nblock 0 exit 0\nblocks 1\ncycles 40\nfetched 3\nflushed 2\ncost 1024\n",
+    ),
+    (
+        Ending::Ended,
+        Show {
+            regs: false,
+            trace: true,
+            cycles: false,
+            stats: true,
+        },
+        COUNTED,
     ),
     (
         Ending::Trap {
@@ -166,6 +209,7 @@ fn shows_each_register(rt: HostRuntime) -> Result<(), Fail> {
         regs: true,
         trace: true,
         cycles: false,
+        stats: false,
     };
     let wanted = with_registers(alloc)?;
     let written = report_of_seven(alloc, Ending::Ended, show)?;

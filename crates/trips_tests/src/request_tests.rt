@@ -182,6 +182,24 @@ const ASKED: &[Row] = &[
         },
     ),
     (
+        &["run", "v.tasl", "--stats"],
+        Asked {
+            file: "v.tasl",
+            stats: true,
+            ..PLAIN
+        },
+    ),
+    (
+        &["resume", "--stats", "s", "--regs"],
+        Asked {
+            command: Command::Resume,
+            file: "s",
+            regs: true,
+            stats: true,
+            ..PLAIN
+        },
+    ),
+    (
         &["compile", "a.c"],
         Asked {
             command: Command::Compile,

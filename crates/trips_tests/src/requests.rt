@@ -21,6 +21,7 @@ pub const PLAIN: Asked<'static> = Asked {
     regs: false,
     trace: false,
     cycles: false,
+    stats: false,
 };
 
 /// The words of a command line.

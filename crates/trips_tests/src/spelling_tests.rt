@@ -79,6 +79,12 @@ const CYCLES: &[&[&str]] = &[
     &["run", "--cycles", "--", "a.c"],
 ];
 
+const STATS: &[&[&str]] = &[
+    &["run", "a.c", "--stats"],
+    &["run", "--stats", "a.c"],
+    &["run", "--stats", "--", "a.c"],
+];
+
 const BENCH_SEED: &[&[&str]] = &[
     &["bench", "64", "--seed", "7", "--cycles"],
     &["bench", "--cycles", "--seed=7", "64"],
@@ -196,6 +202,13 @@ const SPELLINGS: &[(&[&[&str]], Asked<'static>)] = &[
         CYCLES,
         Asked {
             cycles: true,
+            ..PLAIN
+        },
+    ),
+    (
+        STATS,
+        Asked {
+            stats: true,
             ..PLAIN
         },
     ),

@@ -225,8 +225,8 @@ found_on options said m name f = ap is_on (f name) ∙ on_is (is_flag name optio
 
 -- options by their parts
 abbrev pub options_by : Option Text → Option Text → Option Text → Option Text → Option Text → Option Text
-    → Option Text → Option Text → Bool → Bool → Bool → Options
-options_by second third fourth input number place unroll seed regs trace cycles = record {
+    → Option Text → Option Text → Bool → Bool → Bool → Bool → Options
+options_by second third fourth input number place unroll seed regs trace cycles stats = record {
   second = second;
   third = third;
   fourth = fourth;
@@ -238,27 +238,31 @@ options_by second third fourth input number place unroll seed regs trace cycles 
   regs = regs;
   trace = trace;
   cycles = cycles;
+  stats = stats;
 }
 
 -- options that are the same part by part
 pub same_options : (second second' third third' fourth fourth' input input' number number' place place' unroll
-    unroll' seed seed' : Option Text) (regs regs' trace trace' cycles cycles' : Bool) → second ≡ second' → third ≡
-    third' → fourth ≡ fourth' → input ≡ input' → number ≡ number' → place ≡ place' → unroll ≡ unroll' → seed ≡ seed' →
-    regs ≡ regs' → trace ≡ trace' → cycles ≡ cycles' → options_by second third fourth input number place unroll seed
-    regs trace cycles ≡ options_by second' third' fourth' input' number' place' unroll' seed' regs' trace' cycles'
+    unroll' seed seed' : Option Text) (regs regs' trace trace' cycles cycles' stats stats' : Bool) → second ≡ second'
+    → third ≡ third' → fourth ≡ fourth' → input ≡ input' → number ≡ number' → place ≡ place' → unroll ≡ unroll'
+    → seed ≡ seed' → regs ≡ regs' → trace ≡ trace' → cycles ≡ cycles' → stats ≡ stats'
+    → options_by second third fourth input number place unroll seed regs trace cycles stats
+    ≡ options_by second' third' fourth' input' number' place' unroll' seed' regs' trace' cycles' stats'
 same_options second second' third third' fourth fourth' input input' number number' place place' unroll unroll'
-    seed seed' regs regs' trace trace' cycles cycles' a b c d e f g h i j k =
-    ap (λ (x : Option Text). options_by x third fourth input number place unroll seed regs trace cycles) a
-    ∙ ap (λ (x : Option Text). options_by second' x fourth input number place unroll seed regs trace cycles) b
-    ∙ ap (λ (x : Option Text). options_by second' third' x input number place unroll seed regs trace cycles) c
-    ∙ ap (λ (x : Option Text). options_by second' third' fourth' x number place unroll seed regs trace cycles) d
-    ∙ ap (λ (x : Option Text). options_by second' third' fourth' input' x place unroll seed regs trace cycles) e
-    ∙ ap (λ (x : Option Text). options_by second' third' fourth' input' number' x unroll seed regs trace cycles) f
-    ∙ ap (λ (x : Option Text). options_by second' third' fourth' input' number' place' x seed regs trace cycles) g
-    ∙ ap (λ (x : Option Text). options_by second' third' fourth' input' number' place' unroll' x regs trace cycles) h
-    ∙ ap (λ (x : Bool). options_by second' third' fourth' input' number' place' unroll' seed' x trace cycles) i
-    ∙ ap (λ (x : Bool). options_by second' third' fourth' input' number' place' unroll' seed' regs' x cycles) j
-    ∙ ap (λ (x : Bool). options_by second' third' fourth' input' number' place' unroll' seed' regs' trace' x) k
+    seed seed' regs regs' trace trace' cycles cycles' stats stats' a b c d e f g h i j k l =
+    ap (λ (x : Option Text). options_by x third fourth input number place unroll seed regs trace cycles stats) a
+    ∙ ap (λ (x : Option Text). options_by second' x fourth input number place unroll seed regs trace cycles stats) b
+    ∙ ap (λ (x : Option Text). options_by second' third' x input number place unroll seed regs trace cycles stats) c
+    ∙ ap (λ (x : Option Text). options_by second' third' fourth' x number place unroll seed regs trace cycles stats) d
+    ∙ ap (λ (x : Option Text). options_by second' third' fourth' input' x place unroll seed regs trace cycles stats) e
+    ∙ ap (λ (x : Option Text). options_by second' third' fourth' input' number' x unroll seed regs trace cycles stats) f
+    ∙ ap (λ (x : Option Text). options_by second' third' fourth' input' number' place' x seed regs trace cycles stats) g
+    ∙ ap (λ (x : Option Text). options_by second' third' fourth' input' number' place' unroll' x regs trace cycles
+    stats) h
+    ∙ ap (λ (x : Bool). options_by second' third' fourth' input' number' place' unroll' seed' x trace cycles stats) i
+    ∙ ap (λ (x : Bool). options_by second' third' fourth' input' number' place' unroll' seed' regs' x cycles stats) j
+    ∙ ap (λ (x : Bool). options_by second' third' fourth' input' number' place' unroll' seed' regs' trace' x stats) k
+    ∙ ap (λ (x : Bool). options_by second' third' fourth' input' number' place' unroll' seed' regs' trace' cycles' x) l
 
 -- where something was found, words say something, and else they say nothing
 pub told_some : (k : Verb) (said : Option Said) (m : ArgMatches) (r : Option Request)

@@ -34,6 +34,7 @@ fn options_found<'a>(command: Verb, matches: &ArgMatches<'a>) -> FoundOptions<'a
         regs: is_on(matches.get_str("regs")),
         trace: is_on(matches.get_str("trace")),
         cycles: is_on(matches.get_str("cycles")),
+        stats: is_on(matches.get_str("stats")),
     }
 }
 

@@ -57,6 +57,7 @@ fn run_command<'a>(alloc: Global) -> Result<clap::Command<'a>, AllocError>
         .arg(flag(alloc, "regs"))?
         .arg(flag(alloc, "trace"))?
         .arg(flag(alloc, "cycles"))?
+        .arg(flag(alloc, "stats"))?
         .arg(Arg::new(alloc, FILE))
 }
 
@@ -143,6 +144,7 @@ fn resume_command<'a>(alloc: Global) -> Result<clap::Command<'a>, AllocError>
         .arg(flag(alloc, "regs"))?
         .arg(flag(alloc, "trace"))?
         .arg(flag(alloc, "cycles"))?
+        .arg(flag(alloc, "stats"))?
         .arg(Arg::new(alloc, FILE))
 }
 

@@ -18,4 +18,5 @@ options_seen options = record {
   regs = options.regs;
   trace = options.trace;
   cycles = options.cycles;
+  stats = options.stats;
 }

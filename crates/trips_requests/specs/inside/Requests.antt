@@ -22,4 +22,5 @@ request_seen asked = record {
   regs = asked.regs;
   trace = asked.trace;
   cycles = asked.cycles;
+  stats = asked.stats;
 }

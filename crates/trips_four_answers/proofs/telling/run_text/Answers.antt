@@ -7,4 +7,4 @@ pub returns-in-Ok : goal.returns-in-Ok
 returns-in-Ok c =
     let s = c.args.arch.now.state in
     c.in-Ok.ensures.ok ∙ shows_nothing (plain_report c.args.ending s) s
-    (record { cycles = 0; fetched = 0; committed = 0; flushed = 0 }) 0
+    c.uncounted-measured.result 0

@@ -12,7 +12,7 @@ returns c said f =
     let k = c.args.command in
     let m = c.args.matches.now in
     let o = options_of k in
-    same_options _ _ _ _ _ _ _ _ _ _ _ _ _ _ _ _ _ _ _ _ _ _
+    same_options _ _ _ _ _ _ _ _ _ _ _ _ _ _ _ _ _ _ _ _ _ _ _ _
     (c.get_str.ensures ∙ found_said o said m second_name f (no_flag_second k))
     (c.get_str-2.ensures ∙ found_said o said m third_name f (no_flag_third k))
     (c.get_str-3.ensures ∙ found_said o said m fourth_name f (no_flag_fourth k))
@@ -25,3 +25,4 @@ returns c said f =
     (c.is_on.ensures ∙ ap is_on c.get_str-9.ensures ∙ found_on o said m (codes "regs") f)
     (c.is_on-2.ensures ∙ ap is_on c.get_str-10.ensures ∙ found_on o said m (codes "trace") f)
     (c.is_on-3.ensures ∙ ap is_on c.get_str-11.ensures ∙ found_on o said m (codes "cycles") f)
+    (c.is_on-4.ensures ∙ ap is_on c.get_str-12.ensures ∙ found_on o said m (codes "stats") f)

@@ -2,8 +2,8 @@ use Rattle.std.specs.Prelude.{◌<◌, ◌^◌, length}
 use Rattle.std.proofs.Common.{arith}
 use Rattle.trips_isa.specs.Machine.{start}
 use Rattle.commit_flush.proofs.SeenFacts.{all_good}
-use Rattle.trips_grid_answers.proofs.GridRuns.{ended_told}
-use Rattle.trips_grid_answers.proofs.gridded.run_image.Goals as goal
+use Rattle.trips_grid_answers.proofs.GridRuns.{plain_told}
+use Rattle.trips_grid_answers.proofs.gridded.plain_run.Goals as goal
 
 pub returns : goal.returns
 returns c =
@@ -11,8 +11,10 @@ returns c =
     let good = all_good c.args.image image in
     let some : 0 < length c.args.image.blocks = omega (arith, image.fits.some) in
     let few : c.args.most < 2 ^ 32 = omega (arith) in
-    ended_told c.args.image.blocks (start c.args.image.bytes c.args.input) c.args.seed c.args.most c.args.show _
-    c.in_ok-ran.ran.ending _ _ c.in_ok-ran.ensures.ran c.in_ok-ran.ensures.image
+    plain_told c.args.image.blocks (start c.args.image.bytes c.args.input) c.args.seed c.args.most c.args.show _
+    c.in_ok-ran.ran.ending _ _ c.in_ok-ran.ensures.image
     (c.runs_of_a_seed_end.ensures.within _ _ _ _ _ _ _ good some image.fits.few c.requires.some few)
     (c.runs_of_a_seed_end.ensures.trapped _ _ _ _ _ _ _ good some image.fits.few c.requires.some few)
-    c.ended_answer.ensures.within.next c.ended_answer.ensures.told
+    (λ block cause. c.runs_of_a_seed_end.ensures.trapped_block _ _ _ _ _ block cause _ good some image.fits.few
+    c.requires.some few)
+    c.in_ok-ran.ensures.ran c.requires.plain c.ended_answer.ensures

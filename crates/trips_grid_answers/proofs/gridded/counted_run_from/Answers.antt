@@ -2,8 +2,8 @@ use Rattle.std.specs.Prelude.{◌<◌, ◌^◌}
 use Rattle.std.proofs.Common.{arith, sym}
 use Rattle.commit_flush.proofs.SeenFacts.{all_good}
 use Rattle.commit_flush_spec.specs.inside.Laws.{IsWhole}
-use Rattle.trips_grid_answers.proofs.GridRuns.{ended_told}
-use Rattle.trips_grid_answers.proofs.gridded.run_from.Goals as goal
+use Rattle.trips_grid_answers.proofs.GridRuns.{counted_told}
+use Rattle.trips_grid_answers.proofs.gridded.counted_run_from.Goals as goal
 
 pub returns : goal.returns
 returns c =
@@ -14,8 +14,9 @@ returns c =
     let value = c.memory.ensures.value in
     let full : IsWhole s = record { registers = c.register.ensures.count; memory = rw (sym value) size } in
     let few : c.args.most < 2 ^ 32 = omega (arith) in
-    ended_told c.args.image.blocks s c.args.seed c.args.most c.args.show _
-    c.in_ok-ran.ran.ending _ _ c.in_ok-ran.ensures.ran c.in_ok-ran.ensures.image
+    counted_told c.args.image.blocks s c.args.seed c.args.most c.args.show _ c.in_ok-run.run.ending _ _
+    c.in_ok-run.ensures.image
     (c.runs_from_a_state_end.ensures.within _ _ _ _ _ _ good full c.requires.next few)
     (c.runs_from_a_state_end.ensures.trapped _ _ _ _ _ _ good full c.requires.next few)
-    c.ended_answer.ensures.within.next c.ended_answer.ensures.told
+    (λ block cause. c.runs_from_a_state_end.ensures.trapped_block _ _ _ _ block cause _ good full c.requires.next few)
+    c.in_ok-run.run.told c.in_ok-run.ensures.ran c.counted_answer.ensures

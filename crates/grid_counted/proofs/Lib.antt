@@ -1,0 +1,3 @@
+pub mod NotedRuns
+pub mod SeedRuns
+pub mod Flushes

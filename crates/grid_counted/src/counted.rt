@@ -1,0 +1,58 @@
+//! What a counted run has come to.
+ghost use Rattle.std.specs.Prelude.{◌≡◌};
+ghost use Rattle.grid_cycle_spec.specs.Costs.{cost_of};
+ghost use Rattle.grid_cycle.specs.Engines.{blocks_of, grid_of};
+
+use commit_flush::Window;
+use grid_machine::GridWindow;
+use grid_parts::Grid;
+use grid_tallies::Tallies;
+use operand_net::PcgWeather;
+use trips_isa::{Counts, Ending};
+
+/// A grid at the end of a run that was counted, how the run has ended, and its statistics.
+pub struct Counted {
+    pub ending: Ending,
+    pub told: Tallies,
+    pub grid: Grid<GridWindow, PcgWeather>,
+}
+
+impl Drop for Counted {
+    fn drop(self) {
+        let Counted {
+            ending: _ending,
+            told: _told,
+            grid,
+        } = self;
+        let Grid {
+            window: _window,
+            state: _state,
+        } = grid;
+    }
+}
+
+impl Counted {
+    /// The window, with the image and the committed state.
+    pub fn window(&self) -> &Window
+        ensures value { result.now ≡ self.now.grid.window }
+    {
+        self.grid.window.window()
+    }
+
+    /// Cycles made, and frames fetched, committed and flushed.
+    pub fn counts(&self) -> Counts
+        ensures value { result ≡ self.now.grid.state.counts }
+    {
+        self.grid.state.counts
+    }
+
+    /// What the committed blocks may cost, in cycles.
+    pub fn cost(&self) -> u64
+        ensures value { result ≡ cost_of (blocks_of self.now.grid) (grid_of self.now.grid).window.state.trace }
+    {
+        let window = self.window();
+        window.keeps_invariant();
+        let _ = window.budget();
+        grid_machine::cost(window.image(), window.arch().trace())
+    }
+}

@@ -1,0 +1,199 @@
+//! `run` with the statistics of a run: small texts that are counted by hand, and sums of others.
+
+use crate::tool_tests::STORED;
+use std::alloc::{AllocError, Global};
+use std::process::Abort;
+use std::test::Fail;
+use trips_run::Status;
+use trips_run_harness::answer_of;
+
+/// A block of a `mov`, a `null` and three other operations, which ends the run: each fires once, and nothing is
+/// fetched behind a system call.
+const FIVE: &str = "trips 1
+data 0
+block 0 mask 00000000
+W[0] write G[0]
+W[1] write G[3]
+W[2] write G[5]
+N[0] genu 3 N[1,0]
+N[1] mov W[0]
+N[2] null W[2]
+N[3] genu 7 W[1]
+N[4] scall 0
+";
+
+const FIVE_REPORT: &str = "output 0
+
+result 7
+movs 1
+nulls 1
+useful 3
+loads 0
+stores 0
+flushed_by_violation 0
+flushed_by_exit 0
+flushed_at_end 0
+predicted 0
+";
+
+/// A block of seven operations, which stores to one place, loads from another and ends the run.
+const MEMORY: &str = "trips 1
+data 0
+block 0 mask 00000001
+W[0] write G[0]
+W[1] write G[3]
+N[0] genu 0 N[2,0]
+N[1] genu 171 N[2,1]
+N[2] sb 0 0
+N[3] genu 16 N[4,0]
+N[4] ld 0 1 W[1]
+N[5] genu 3 W[0]
+N[6] scall 0
+";
+
+const MEMORY_REPORT: &str = "output 0
+
+result 0
+movs 0
+nulls 0
+useful 7
+loads 1
+stores 1
+flushed_by_violation 0
+flushed_by_exit 0
+flushed_at_end 0
+predicted 0
+";
+
+const POWERS: &str = "long a[9]; int main(void) { int i; a[0] = 1;
+for (i = 1; i < 9; i++) a[i] = a[i - 1] * 2; return (int) a[8]; }";
+
+const FOREVER: &str = "int main(void) { while (1) ; }";
+
+// What words are answered over these files.
+fn answer_to(alloc: Global, words: &[&str]) -> Result<(Status, Vec<u8>), AllocError> {
+    answer_of(
+        alloc,
+        words,
+        &[
+            ("five.tasl", FIVE.as_bytes()),
+            ("memory.tasl", MEMORY.as_bytes()),
+            ("v.tasl", STORED.as_bytes()),
+            ("powers.c", POWERS.as_bytes()),
+            ("forever.c", FOREVER.as_bytes()),
+        ],
+    )
+}
+
+/// Words, and the report.
+type Counted = (&'static [&'static str], &'static str);
+
+const COUNTED: &[Counted] = &[
+    (&["run", "five.tasl", "--stats"], FIVE_REPORT),
+    (&["run", "five.tasl", "--stats", "--seed=9"], FIVE_REPORT),
+    (&["run", "memory.tasl", "--stats"], MEMORY_REPORT),
+    (
+        &["run", "--stats", "memory.tasl", "--seed=4"],
+        MEMORY_REPORT,
+    ),
+];
+
+fn assert_counted(rt: &impl Abort, alloc: Global, rows: &[Counted]) -> Result<(), AllocError> {
+    for (words, report) in rows {
+        let (status, written) = answer_to(alloc, *words)?;
+        assert_eq!(rt; status, Status::Ended, "{words:?}");
+        assert_eq!(rt; written.as_slice(), report.as_bytes(), "{words:?}");
+    }
+    Ok(())
+}
+
+#[test]
+fn small_runs_are_counted(rt: HostRuntime) -> Result<(), Fail> {
+    assert_counted(&rt, rt.alloc(), COUNTED)?;
+    Ok(())
+}
+
+// The number behind a name at the head of a line.
+fn number_of(report: &[u8], name: &[u8]) -> Option<u64> {
+    for line in report.split(|byte| *byte == b'\n') {
+        if let Some(digits) = line.strip_prefix(name) {
+            return str::from_utf8(digits).ok()?.parse::<u64>().ok();
+        }
+    }
+    None
+}
+
+// Frames that were flushed are so for one of three causes, and each that was fetched was committed or flushed.
+fn assert_sums(rt: &impl Abort, words: &[&str], report: &[u8]) {
+    let blocks = number_of(report, b"blocks ").unwrap_or(0);
+    let fetched = number_of(report, b"fetched ").unwrap_or(0);
+    let flushed = number_of(report, b"flushed ").unwrap_or(0);
+    let useful = number_of(report, b"useful ").unwrap_or(0);
+    let violations = number_of(report, b"flushed_by_violation ").unwrap_or(1);
+    let exits = number_of(report, b"flushed_by_exit ").unwrap_or(1);
+    let ends = number_of(report, b"flushed_at_end ").unwrap_or(1);
+    let causes = violations.saturating_add(exits).saturating_add(ends);
+    assert!(rt; useful >= blocks, "{words:?}");
+    assert_eq!(rt; flushed, causes, "{words:?}");
+    assert_eq!(rt; fetched, blocks.saturating_add(flushed), "{words:?}");
+}
+
+/// A run with its counts, and the same with its statistics.
+type Pair = (&'static [&'static str], &'static [&'static str]);
+
+const PAIRS: &[Pair] = &[
+    (
+        &["run", "v.tasl", "--cycles"],
+        &["run", "v.tasl", "--cycles", "--stats"],
+    ),
+    (
+        &["run", "v.tasl", "--cycles", "--seed=3"],
+        &["run", "v.tasl", "--cycles", "--stats", "--seed=3"],
+    ),
+    (
+        &["run", "powers.c", "--cycles"],
+        &["run", "powers.c", "--cycles", "--stats"],
+    ),
+    (
+        &["run", "powers.c", "--cycles", "--seed=7", "--trace"],
+        &[
+            "run", "powers.c", "--cycles", "--stats", "--seed=7", "--trace",
+        ],
+    ),
+    (
+        &["run", "forever.c", "--blocks=50", "--cycles"],
+        &["run", "forever.c", "--blocks=50", "--cycles", "--stats"],
+    ),
+];
+
+// How many lines a text has.
+fn lines_in(text: &[u8]) -> u64 {
+    let mut count: u64 = 0;
+    for byte in text {
+        if *byte == b'\n' {
+            count = count.saturating_add(1);
+        }
+    }
+    count
+}
+
+// With its statistics a run is reported as without them, and behind that stand nine lines.
+fn assert_pairs(rt: &impl Abort, alloc: Global, rows: &[Pair]) -> Result<(), AllocError> {
+    for (plain, counted) in rows {
+        let (status, report) = answer_to(alloc, *plain)?;
+        let (counted_status, written) = answer_to(alloc, *counted)?;
+        assert!(rt; counted_status == status, "{counted:?}");
+        match written.strip_prefix(report.as_slice()) {
+            Some(lines) => assert_eq!(rt; lines_in(lines), 9, "{counted:?}"),
+            None => assert!(rt; false, "another report: {counted:?}"),
+        }
+        assert_sums(rt, *counted, &written);
+    }
+    Ok(())
+}
+
+#[test]
+fn counted_runs_go_as_others_do(rt: HostRuntime) -> Result<(), Fail> {
+    assert_pairs(&rt, rt.alloc(), PAIRS)?;
+    Ok(())
+}
