@@ -1,5 +1,6 @@
 -- One turn of the loop that resolves the labels of all blocks.
 use Rattle.std.proofs.Common.{◌≡◌, ℕ, zero, suc, ◌+◌, ◌<◌, List, [], ◌∷◌, ◌++◌, length, take, drop, get_or}
+use Rattle.std.proofs.Common.{Option, map}
 use Rattle.std.proofs.Common.{refl, sym, ap, ap₂, ◌∙◌, arith}
 use Rattle.std.specs.Prelude.{slice_set, ◌≤◌}
 use Rattle.std.specs.List.{sum_by, All}
@@ -9,6 +10,7 @@ use Rattle.std.proofs.lemmas.List.Elements.{All-cons}
 use Rattle.trips_isa.specs.Images.{chunks}
 use Rattle.c_compile_layout.specs.inside.Layouts.{begins, linked}
 use Rattle.trips_isa.specs.declared.block.Block.{Block}
+use Rattle.trips_isa.specs.declared.block.Inst.{Inst}
 use Rattle.c_compile_layout.specs.inside.Linking.{resolved_block, by_both, linked_from}
 
 -- the blocks before number k are resolved
@@ -40,6 +42,24 @@ turned ch k m xs cur old new l up so e =
     (e ∙ ap₂ (λ (n : ℕ) (b : Block). resolved_block (by_both ch n) b) z
     (ap (λ (y : List Block). get_or y k old) so))
     ∙ ap (λ n. so_far ch 0 n xs) (sym up)
+
+-- the slots before number i are resolved
+slots_so_far : (f : Option Inst → Option Inst) (xs : List (Option Inst)) (i : ℕ) (d new : Option Inst) → i < length xs
+    → new ≡ f (get_or (map f (take i xs) ++ drop i xs) i d)
+    → slice_set (map f (take i xs) ++ drop i xs) i new ≡ map f (take (suc i) xs) ++ drop (suc i) xs
+slots_so_far f [] i d new l e = absurd (omega arith)
+slots_so_far f (x ∷ xs) zero d new l e = ap (λ (y : Option Inst). y ∷ xs) e
+slots_so_far f (x ∷ xs) (suc i) d new l e =
+    ap (λ (ys : List (Option Inst)). f x ∷ ys) (slots_so_far f xs i d new (omega arith) e)
+
+-- a turn of the loop resolves the next slot
+pub slot_turned : (f : Option Inst → Option Inst) (xs cur : List (Option Inst)) (i m : ℕ) (d new : Option Inst)
+    → i < length xs → m ≡ suc i → cur ≡ map f (take i xs) ++ drop i xs → new ≡ f (get_or cur i d)
+    → slice_set cur i new ≡ map f (take m xs) ++ drop m xs
+slot_turned f xs cur i m d new l up so e =
+    ap (λ (y : List (Option Inst)). slice_set y i new) so
+    ∙ slots_so_far f xs i d new l (e ∙ ap (λ (y : List (Option Inst)). f (get_or y i d)) so)
+    ∙ ap (λ n. map f (take n xs) ++ drop n xs) (sym up)
 
 -- the table of where blocks begin, with the end of all behind it, is where each begins
 begin_at : (here l : ℕ) (us : List Block)

@@ -7,7 +7,6 @@ ghost use Rattle.trips_isa.specs.Images.{chunks};
 ghost use Rattle.trips_isa.specs.Limits.{most_chunks};
 ghost use Rattle.c_compile_layout.specs.inside.Layouts.{AreFew, begins, linked};
 
-use arrayvec::ArrayVec;
 use std::alloc::{AllocError, Global};
 use std::vec::Vec;
 use trips_isa::{Block, Inst, Op};
@@ -97,42 +96,30 @@ pub fn resolved_imm(starts: &[u32], end: u32, k: usize, op: Op, imm: i32) -> i32
     }
 }
 
-// A slot with its immediate resolved.
-fn slot(starts: &[u32], end: u32, k: usize, slot: Option<Inst>) -> Option<Inst>
+// Resolves the immediate of a slot.
+fn resolve_slot(slot: &mut Option<Inst>, starts: &[u32], end: u32, k: usize)
     requires starts { All (λ c. c ≤ most_chunks) starts.now }
     requires end { end ≤ most_chunks }
-    ensures value { result ≡ spec.resolved_slot (spec.by_both (λ l. get_or starts.now l end) k) slot }
+    ensures value { slot.new
+        ≡ spec.resolved_slot (spec.by_both (λ l. get_or starts.now l end) k) slot.old }
 {
     match slot {
-        Some(inst) => Some(Inst {
-            op: inst.op,
-            sense: inst.sense,
-            imm: resolved_imm(starts, end, k, inst.op, inst.imm),
-            number: inst.number,
-            first: inst.first,
-            second: inst.second,
-        }),
-        None => None,
+        Some(inst) => {
+            inst.imm = resolved_imm(starts, end, k, inst.op, inst.imm);
+        }
+        None => {}
     }
 }
 
-// Puts each slot with its immediate resolved.
-fn fill(
-    out: &mut ArrayVec<Option<Inst>, 128>,
-    starts: &[u32],
-    end: u32,
-    k: usize,
-    slots: &[Option<Inst>],
-)
+// Resolves the immediate of each slot.
+fn resolve_slots(slots: &mut [Option<Inst>], starts: &[u32], end: u32, k: usize)
     requires starts { All (λ c. c ≤ most_chunks) starts.now }
     requires end { end ≤ most_chunks }
-    requires empty { out.old.items ≡ [] }
-    requires few { length slots.now ≤ 128 }
-    ensures value { out.new.items
-        ≡ map (spec.resolved_slot (spec.by_both (λ l. get_or starts.now l end) k)) slots.now }
+    ensures value { slots.new
+        ≡ map (spec.resolved_slot (spec.by_both (λ l. get_or starts.now l end) k)) slots.old }
 {
-    for inst in slots {
-        out.push(slot(starts, end, k, *inst));
+    for i in 0..slots.len() {
+        resolve_slot(&mut slots[i], starts, end, k);
     }
 }
 
@@ -143,9 +130,7 @@ pub fn resolve(starts: &[u32], end: u32, k: usize, block: &mut Block)
     ensures value { block.new
         ≡ spec.resolved_block (spec.by_both (λ l. get_or starts.now l end) k) block.old }
 {
-    let mut insts = ArrayVec::new();
-    fill(&mut insts, starts, end, k, block.insts.as_slice());
-    block.insts = insts;
+    resolve_slots(block.insts.as_mut_slice(), starts, end, k);
 }
 
 /// Resolves the labels of all blocks, which begin at these chunks and end at `end`.

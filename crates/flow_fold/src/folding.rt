@@ -374,3 +374,20 @@ pub fn turned_at(alloc: Global, block: FlowBlock, j: usize, rule: Rule) -> Resul
         }
     }
 }
+
+/// The same where the rule is tried.
+pub fn tried_at(
+    alloc: Global,
+    block: FlowBlock,
+    j: usize,
+    rule: Rule,
+    is_tried: bool,
+) -> Result<FlowBlock, Memory>
+    ensures { IfOk result (λ g. Replaces block g) }
+{
+    if is_tried {
+        turned_at(alloc, block, j, rule)
+    } else {
+        Ok(block)
+    }
+}

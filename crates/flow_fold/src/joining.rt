@@ -106,7 +106,7 @@ fn joins_for_several(uses: &Uses, j: usize, n: &FlowNode) -> bool {
 
 /// Marks of the nodes that are taken themselves, for a choice of which nothing is claimed.
 pub fn joins(alloc: Global, block: &FlowBlock, uses: &Uses) -> Result<Items<bool>, Memory> {
-    let mut marks = Items::new(alloc);
+    let mut marks = Items::from_vec(Vec::with_capacity(alloc, block.nodes.len())?);
     let mut j: usize = 0;
     for n in block.nodes.as_slice() {
         marks.push(joins_for_several(uses, j, n))?;

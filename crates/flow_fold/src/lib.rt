@@ -30,6 +30,7 @@ mod striding;
 mod sums;
 mod sweeping;
 mod tests;
+mod trying;
 mod uses;
 mod waits;
 

@@ -13,7 +13,7 @@ fn numbers(alloc: Global, keeps: &[bool]) -> Result<Items<u32>, Memory>
     requires { length keeps.now < 2 ^ 32 }
     ensures { IfOk result (λ t. t ≡ sweep.numbers_to (sweep.stays keeps.now) (length keeps.now)) }
 {
-    let mut out = Items::new(alloc);
+    let mut out = Items::from_vec(Vec::with_capacity(alloc, keeps.len())?);
     let mut next = 0u32;
     for j in 0..keeps.len() {
         out.push(next)?;
@@ -76,7 +76,7 @@ fn by_sources(
 ) -> Result<Items<FlowSource>, Memory>
     ensures { IfOk result (λ ss. ss ≡ map (sweep.by_source (sweep.tabled table.now less)) sources.now) }
 {
-    let mut out = Items::new(alloc);
+    let mut out = Items::from_vec(Vec::with_capacity(alloc, sources.len())?);
     for s in sources {
         out.push(by_source(table, less, *s))?;
     }
@@ -132,7 +132,7 @@ fn by_writes(
 ) -> Result<Items<FlowWrite>, Memory>
     ensures { IfOk result (λ vs. vs ≡ map (sweep.by_write (sweep.tabled table.now less)) writes.now) }
 {
-    let mut out = Items::new(alloc);
+    let mut out = Items::from_vec(Vec::with_capacity(alloc, writes.len())?);
     for w in writes {
         out.push(by_write(alloc, table, less, w)?)?;
     }
@@ -150,7 +150,7 @@ fn staying_nodes(
     ensures { IfOk result (λ ns.
         ns ≡ sweep.staying (sweep.tabled table.now less) (sweep.stays keeps.now) 0 nodes.now) }
 {
-    let mut out = Items::new(alloc);
+    let mut out = Items::from_vec(Vec::with_capacity(alloc, nodes.len())?);
     let mut j = 0;
     for n in nodes {
         if stays(keeps, j) {

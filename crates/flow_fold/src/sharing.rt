@@ -7,6 +7,7 @@ ghost use Rattle.flow_fold.specs.inside.Shares as shares;
 use crate::checking::is_division;
 use crate::copies::covers;
 use crate::folding::{Rule, turned_at, with_node};
+use crate::trying::takes_copy;
 use crate::uses::{Uses, feeds_several, uses_of};
 use base::{Items, Memory};
 use ir_forms::{FlowBlock, FlowNode, FlowSource, Guard};
@@ -120,6 +121,9 @@ fn copied_at(alloc: Global, block: FlowBlock, i: u32, j: usize) -> Result<FlowBl
 pub fn uncopied_at(alloc: Global, block: FlowBlock, j: usize) -> Result<FlowBlock, Memory>
     ensures { IfOk result (λ g. Replaces block g) }
 {
+    if !takes_copy(&block, j) {
+        return Ok(block);
+    }
     let left = turned_at(alloc, block, j, Rule::Left)?;
     let right = turned_at(alloc, left, j, Rule::Right)?;
     Ok(right)
@@ -169,9 +173,9 @@ pub fn get_the_same(uses: &Uses, block: &FlowBlock, a: &[FlowSource], b: &[FlowS
 
 // Whether a node is a twin of another, where constants may stand twice.
 fn are_alike(uses: &Uses, block: &FlowBlock, a: &FlowNode, n: &FlowNode) -> bool {
-    covers(a.guard, n.guard)
-        && same_op(a.op, n.op)
+    same_op(a.op, n.op)
         && a.imm == n.imm
+        && covers(a.guard, n.guard)
         && get_the_same(uses, block, a.left.as_slice(), n.left.as_slice())
         && get_the_same(uses, block, a.right.as_slice(), n.right.as_slice())
 }

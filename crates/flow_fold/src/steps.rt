@@ -6,15 +6,17 @@ ghost use Rattle.flow_fold.specs.inside.Replaces.{Replaces};
 use crate::addresses::feeds_addresses;
 use crate::computed::may_compute;
 use crate::drawing::drawn;
-use crate::folding::{Rule, turned_at};
+use crate::folding::{Rule, tried_at, turned_at};
 use crate::joining::{joined_at, joins};
 use crate::opposites::may_oppose;
 use crate::sums::may_add;
 use crate::tests::may_tell;
+use crate::trying::{does, has_address, is_guarded, may_fold};
 use crate::uses::{Uses, feeds_several, uses_of};
 use base::Memory;
 use ir_forms::FlowBlock;
 use std::alloc::Global;
+use trips_isa::Op;
 
 // Whether node j becomes one that needs no constant once it has an immediate, for a choice of which nothing is
 // claimed.
@@ -77,6 +79,16 @@ fn opposite_at(alloc: Global, block: FlowBlock, j: usize, uses: &Uses) -> Result
     turned_at(alloc, block, j, Rule::Opposite)
 }
 
+// A block whose node j has no guard where it needs none.
+fn freed_at(alloc: Global, block: FlowBlock, j: usize) -> Result<FlowBlock, Memory>
+    ensures { IfOk result (λ g. Replaces block g) }
+{
+    if !is_guarded(&block, j) {
+        return Ok(block);
+    }
+    turned_at(alloc, block, j, Rule::Freed)
+}
+
 // A block whose node j is folded: what it takes first looks through copies, then for a constant, which
 // at the left moves to the right, then for a sum.
 fn folded_at(
@@ -88,19 +100,26 @@ fn folded_at(
 ) -> Result<FlowBlock, Memory>
     ensures { IfOk result (λ g. Replaces block g) }
 {
-    let guarded = turned_at(alloc, block, j, Rule::Guard)?;
+    if !may_fold(&block, j) {
+        return freed_at(alloc, block, j);
+    }
+    let has_guard = is_guarded(&block, j);
+    let guarded = tried_at(alloc, block, j, Rule::Guard, has_guard)?;
     let left = turned_at(alloc, guarded, j, Rule::Left)?;
     let right = turned_at(alloc, left, j, Rule::Right)?;
     let joined = joined_at(alloc, right, j, marks)?;
     let mirrored = turned_at(alloc, joined, j, Rule::Mirror)?;
     let summed = summed_at(alloc, mirrored, j)?;
     let constant = constant_at(alloc, summed, j, uses)?;
-    let offset = turned_at(alloc, constant, j, Rule::Offset)?;
-    let told = turned_at(alloc, offset, j, Rule::Told)?;
+    let moves = has_address(&constant, j);
+    let offset = tried_at(alloc, constant, j, Rule::Offset, moves)?;
+    let tells = does(&offset, j, Op::Tnei);
+    let told = tried_at(alloc, offset, j, Rule::Told, tells)?;
     let opposite = opposite_at(alloc, told, j, uses)?;
     let known = turned_at(alloc, opposite, j, Rule::Computed)?;
-    let negative = turned_at(alloc, known, j, Rule::Negative)?;
-    let last = turned_at(alloc, negative, j, Rule::Freed)?;
+    let ends = does(&known, j, Op::App);
+    let negative = tried_at(alloc, known, j, Rule::Negative, ends)?;
+    let last = freed_at(alloc, negative, j)?;
     Ok(last)
 }
 

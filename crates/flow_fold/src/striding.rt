@@ -8,11 +8,12 @@ use crate::addresses::feeds_addresses;
 use crate::constants::{immediate_of, small_of};
 use crate::copies::covers;
 use crate::differences::{ahead, is_sum};
-use crate::folding::{Rule, turned_at, with_node};
+use crate::folding::{Rule, tried_at, turned_at, with_node};
 use crate::sharing::{
     get_the_same, same_sources, uncopied_at, with_left_constant, with_right_constant,
 };
 use crate::sums::{adds, may_add};
+use crate::trying::{has_address, may_stride};
 use crate::uses::{Uses, feeds_several, uses_of};
 use base::{Items, Memory};
 use ir_forms::{FlowBlock, FlowNode, FlowSource};
@@ -281,9 +282,13 @@ fn summed_at(alloc: Global, block: FlowBlock, j: usize) -> Result<FlowBlock, Mem
 fn stridden_at(alloc: Global, block: FlowBlock, j: u32, uses: &Uses) -> Result<FlowBlock, Memory>
     ensures { IfOk result (λ g. Replaces block g) }
 {
+    if !may_stride(&block, j as usize) {
+        return Ok(block);
+    }
     let summed = summed_at(alloc, block, j as usize)?;
     let led = led_at(alloc, summed, j, uses)?;
-    let last = turned_at(alloc, led, j as usize, Rule::Offset)?;
+    let moves = has_address(&led, j as usize);
+    let last = tried_at(alloc, led, j as usize, Rule::Offset, moves)?;
     Ok(last)
 }
 

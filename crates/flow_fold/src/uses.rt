@@ -4,33 +4,22 @@ use base::{Items, Memory};
 use ir_forms::{FlowBlock, FlowSource, Guard};
 use std::alloc::Global;
 
-/// Which nodes feed a spot, and which feed two or more: these are two targets of a form G, and a `mov` behind a form
-/// I.
+// From so many spots on a node feeds several.
+const SEVERAL: u8 = 2;
+
+/// How many spots each node feeds, as far as a byte counts: one is a target, and two are two of a form G, and a `mov`
+/// behind a form I.
 #[derive(Drop)]
 pub struct Uses {
-    once: Items<bool>,
-    more: Items<bool>,
-}
-
-fn at(table: &[bool], j: usize) -> bool {
-    match table.get(j) {
-        None => false,
-        Some(b) => *b,
-    }
-}
-
-fn mark(table: &mut Items<bool>, j: usize) {
-    if j < table.len() {
-        table.set(j, true);
-    }
+    spots: Items<u8>,
 }
 
 fn count_node(uses: &mut Uses, j: usize) {
-    if at(uses.once.as_slice(), j) {
-        mark(&mut uses.more, j);
-    } else {
-        mark(&mut uses.once, j);
-    }
+    let old = match uses.spots.get(j) {
+        None => return,
+        Some(spots) => *spots,
+    };
+    uses.spots.set(j, old.saturating_add(1));
 }
 
 fn count_sources(uses: &mut Uses, sources: &[FlowSource]) {
@@ -53,8 +42,7 @@ fn count_guard(uses: &mut Uses, guard: Option<Guard>) {
 pub fn uses_of(alloc: Global, block: &FlowBlock) -> Result<Uses, Memory> {
     let count = block.nodes.len();
     let mut uses = Uses {
-        once: Items::from_vec(vec![in alloc; false; count]?),
-        more: Items::from_vec(vec![in alloc; false; count]?),
+        spots: Items::from_vec(vec![in alloc; 0u8; count]?),
     };
     for n in block.nodes.as_slice() {
         count_sources(&mut uses, n.left.as_slice());
@@ -69,5 +57,8 @@ pub fn uses_of(alloc: Global, block: &FlowBlock) -> Result<Uses, Memory> {
 
 /// Whether node j feeds two spots or more.
 pub fn feeds_several(uses: &Uses, j: usize) -> bool {
-    at(uses.more.as_slice(), j)
+    match uses.spots.get(j) {
+        None => false,
+        Some(spots) => *spots >= SEVERAL,
+    }
 }

@@ -50,3 +50,45 @@ pub fn apart(a: u8, b: u8) -> u16
 pub fn way(from: Node, to: Node) -> u16 {
     1 + apart(from.row, to.row) + apart(from.column, to.column)
 }
+
+/// How many execution tiles there are.
+pub const TILES: usize = 16;
+
+// How many rows each tile is from a row of the mesh.
+const ROWS: [[u16; TILES]; 5] = [
+    [1, 1, 1, 1, 2, 2, 2, 2, 3, 3, 3, 3, 4, 4, 4, 4],
+    [0, 0, 0, 0, 1, 1, 1, 1, 2, 2, 2, 2, 3, 3, 3, 3],
+    [1, 1, 1, 1, 0, 0, 0, 0, 1, 1, 1, 1, 2, 2, 2, 2],
+    [2, 2, 2, 2, 1, 1, 1, 1, 0, 0, 0, 0, 1, 1, 1, 1],
+    [3, 3, 3, 3, 2, 2, 2, 2, 1, 1, 1, 1, 0, 0, 0, 0],
+];
+
+// How many columns each tile is from a column of the mesh.
+const COLUMNS: [[u16; TILES]; 5] = [
+    [1, 2, 3, 4, 1, 2, 3, 4, 1, 2, 3, 4, 1, 2, 3, 4],
+    [0, 1, 2, 3, 0, 1, 2, 3, 0, 1, 2, 3, 0, 1, 2, 3],
+    [1, 0, 1, 2, 1, 0, 1, 2, 1, 0, 1, 2, 1, 0, 1, 2],
+    [2, 1, 0, 1, 2, 1, 0, 1, 2, 1, 0, 1, 2, 1, 0, 1],
+    [3, 2, 1, 0, 3, 2, 1, 0, 3, 2, 1, 0, 3, 2, 1, 0],
+];
+
+/// The ways between a node and each tile.
+pub fn ways(node: Node) -> [u16; TILES] {
+    let rows = ROWS[(node.row % 5) as usize];
+    let columns = COLUMNS[(node.column % 5) as usize];
+    let mut found = [1u16; TILES];
+    for t in 0..TILES {
+        found[t] = rows[t].saturating_add(columns[t]).saturating_add(1);
+    }
+    found
+}
+
+/// The ways between each tile and the data tile beside it.
+pub fn data_ways() -> [u16; TILES] {
+    let columns = COLUMNS[0];
+    let mut found = [1u16; TILES];
+    for t in 0..TILES {
+        found[t] = columns[t].saturating_add(1);
+    }
+    found
+}

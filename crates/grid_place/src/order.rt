@@ -32,27 +32,47 @@ pub fn inst_at(insts: &[Option<Inst>], s: u8) -> Option<Inst> {
 }
 
 impl Order {
-    /// The slots that no instruction feeds come first.
+    /// The slots that no instruction feeds come first. The instructions stand one behind the other from the first slot
+    /// on: what stands behind a slot without one is not placed.
     pub fn of(insts: &[Option<Inst>]) -> Order {
         let mut order = Order {
             waiting: [0; 128],
             queue: [0; 128],
             found: 0,
         };
-        for slot in insts {
-            order.expect_of(*slot);
-        }
-        for s in 0..128u8 {
-            order.begin(inst_at(insts, s), s);
-        }
+        order.expect_all(insts);
+        order.begin_all(insts);
         order
     }
 
-    // What an instruction gives is expected in the slots that it feeds.
-    fn expect_of(&mut self, slot: Option<Inst>) {
-        if let Some(inst) = slot {
-            self.expect(inst.first);
-            self.expect(inst.second);
+    // What each instruction gives is expected in the slots that it feeds.
+    fn expect_all(&mut self, insts: &[Option<Inst>]) {
+        for slot in insts {
+            if !self.expect_of(*slot) {
+                return;
+            }
+        }
+    }
+
+    // The same of one slot; whether it has an instruction.
+    fn expect_of(&mut self, slot: Option<Inst>) -> bool {
+        match slot {
+            None => false,
+            Some(inst) => {
+                self.expect(inst.first);
+                self.expect(inst.second);
+                true
+            }
+        }
+    }
+
+    // Each instruction that nothing feeds can be placed at once.
+    fn begin_all(&mut self, insts: &[Option<Inst>]) {
+        for s in 0..128u8 {
+            if inst_at(insts, s).is_none() {
+                return;
+            }
+            self.begin(s);
         }
     }
 
@@ -66,11 +86,11 @@ impl Order {
         }
     }
 
-    // An instruction that nothing feeds can be placed at once.
-    fn begin(&mut self, slot: Option<Inst>, s: u8)
+    // The same of one slot.
+    fn begin(&mut self, s: u8)
         requires { s < 128 }
     {
-        if slot.is_some() && self.waiting[s as usize] == 0 {
+        if self.waiting[s as usize] == 0 {
             self.push(s);
         }
     }

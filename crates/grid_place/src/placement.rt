@@ -24,20 +24,11 @@ struct Board {
 }
 
 impl Board {
-    // No instruction is placed; what is read is on its way.
-    fn of(block: &Block) -> Board {
-        let mut standing = [0u8; 128];
-        shuffle::in_place(&mut standing);
-        let mut board = Board {
-            order: Order::of(block.insts.as_slice()),
-            tiles: Tiles::new(),
-            standing,
-            asked: [0; 4],
-        };
-        for read in block.reads.as_slice() {
-            board.read(*read);
+    // What is read is on its way.
+    fn read_all(&mut self, reads: &[ReadSlot]) {
+        for read in reads {
+            self.read(*read);
         }
-        board
     }
 
     // A bank answers one read in a cycle.
@@ -132,7 +123,15 @@ pub fn greedy(to: &mut [u8], block: &Block)
     ensures { IsPermutation to.new }
 {
     shuffle::in_place(to);
-    let mut board = Board::of(block);
+    // no instruction is placed
+    let mut board = Board {
+        order: Order::of(block.insts.as_slice()),
+        tiles: Tiles::new(),
+        standing: [0; 128],
+        asked: [0; 4],
+    };
+    shuffle::in_place(&mut board.standing);
+    board.read_all(block.reads.as_slice());
     for k in 0..128usize {
         if !board.turn(to, k, block) {
             return;

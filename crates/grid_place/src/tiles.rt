@@ -1,7 +1,7 @@
 //! When instructions are expected to start on each tile.
 ghost use Rattle.std.specs.Prelude.{◌<◌};
 
-use crate::node::{CONTROL, Node, apart, bank_node, data_node, tile_node, way};
+use crate::node::{CONTROL, Node, TILES, bank_node, data_ways, ways};
 use trips_isa::{Form, Inst, Op, Spot, form_of, row_of};
 
 /// What is expected of the tiles while instructions are placed. Times are cycles from the first read.
@@ -60,22 +60,32 @@ fn outlets_of(inst: Inst, writes: &[u8]) -> Outlets {
     }
 }
 
-// The way from a tile to a node, if there is one.
-fn way_to(tile: u8, to: Option<Node>) -> u16 {
+// The ways between each tile and a node, if there is one.
+fn ways_to(to: Option<Node>) -> [u16; TILES] {
     match to {
-        None => 0,
-        Some(node) => way(tile_node(tile), node),
+        None => [0; TILES],
+        Some(node) => ways(node),
     }
 }
 
-// The longer way of what is given on a tile to where it leaves the tiles.
-fn way_out(tile: u8, outlets: Outlets) -> u16 {
+// The longer one of two times.
+fn longer(a: u16, b: u16) -> u16 {
+    if a < b { b } else { a }
+}
+
+// For each tile the longer way of what is given there to where it leaves the tiles.
+fn ways_out(outlets: Outlets) -> [u16; TILES] {
     if outlets.data {
-        return way(tile_node(tile), data_node(tile));
+        return data_ways();
     }
-    let first = way_to(tile, outlets.first);
-    let second = way_to(tile, outlets.second);
-    if first < second { second } else { first }
+    let mut found = ways_to(outlets.first);
+    if let Some(node) = outlets.second {
+        let second = ways(node);
+        for t in 0..TILES {
+            found[t] = longer(found[t], second[t]);
+        }
+    }
+    found
 }
 
 impl Tiles {
@@ -92,31 +102,11 @@ impl Tiles {
     pub fn send(&mut self, from: Node, time: u16, s: u8)
         requires { s < 128 }
     {
-        for row in 0..4u8 {
-            self.send_row(from, time, s, row);
-        }
-    }
-
-    // The same, if the slot will be on one of a row of tiles.
-    fn send_row(&mut self, from: Node, time: u16, s: u8, row: u8)
-        requires slot { s < 128 }
-        requires row { row < 4 }
-    {
-        let there = time.saturating_add(1 + apart(from.row, 1 + row));
-        for column in 0..4u8 {
-            let comes = there.saturating_add(apart(from.column, 1 + column));
-            self.come(comes, s, 4 * row + column);
-        }
-    }
-
-    // A token for a slot comes at a time, if the slot will be on one of the tiles.
-    fn come(&mut self, time: u16, s: u8, tile: u8)
-        requires slot { s < 128 }
-        requires tile { tile < 16 }
-    {
-        let place = 16 * s as usize + tile as usize;
-        if self.ready[place] < time {
-            self.ready[place] = time;
+        let away = ways(from);
+        let first = 16 * s as usize;
+        for t in 0..TILES {
+            let comes = time.saturating_add(away[t]);
+            self.ready[first + t] = longer(self.ready[first + t], comes);
         }
     }
 
@@ -136,13 +126,13 @@ impl Tiles {
         requires { s < 128 }
         ensures { result < 16 }
     {
-        let outlets = outlets_of(inst, writes);
+        let out = ways_out(outlets_of(inst, writes));
         let mut best = 0;
         let mut least = u16::MAX;
         for t in 0..16u8 {
             let start = self.start(s, t);
             if start < least && self.used[t as usize] < 8 {
-                let done = start.saturating_add(way_out(t, outlets));
+                let done = start.saturating_add(out[t as usize]);
                 if done < least {
                     best = t;
                     least = done;

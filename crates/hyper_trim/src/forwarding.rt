@@ -83,7 +83,7 @@ fn forgotten_entry(e: Entry, to: u8) -> Entry
 fn forgotten_entries(alloc: Global, entries: &[Entry], to: u8) -> Result<Items<Entry>, Memory>
     ensures { IfOk result (λ all. all ≡ map (forgotten to) entries.now) }
 {
-    let mut all = Items::new(alloc);
+    let mut all = Items::from_vec(Vec::with_capacity(alloc, entries.len())?);
     for e in entries {
         all.push(forgotten_entry(*e, to))?;
     }
@@ -235,7 +235,7 @@ pub fn forward_items(
     ensures behind { OnOk result (copies_of entries.new
         ≡ spec.behind (items_of items.now) (copies_of entries.old)) }
 {
-    let mut all = Items::new(alloc);
+    let mut all = Items::from_vec(Vec::with_capacity(alloc, items.len())?);
     for i in items {
         all.push(forward_item(i, alloc, entries)?)?;
     }

@@ -142,7 +142,7 @@ pub fn walked(items: &[HyperItem], alloc: Global, leg: bool, live: u128) -> Resu
     let mut walk = Walk {
         live,
         filled: false,
-        kept: Items::new(alloc),
+        kept: Items::from_vec(Vec::with_capacity(alloc, items.len())?),
     };
     let mut at = items.len();
     while at > 0 {
