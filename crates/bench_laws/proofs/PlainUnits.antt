@@ -1,5 +1,6 @@
 -- The benchmark's text declares one object outside of functions, and nothing in it is `extern`.
-use Rattle.std.proofs.Common.{◌≡◌, ℕ, zero, suc, Bool, true, false, List, [], ◌∷◌, ◌++◌, codes, refl, ap, ◌∙◌, append_assoc}
+use Rattle.std.proofs.Common.{◌≡◌, ℕ, zero, suc, Bool, true, false, List, [], ◌∷◌, ◌++◌, codes, refl, ap, ◌∙◌}
+use Rattle.std.proofs.Common.{append_assoc}
 use Rattle.c_tree.specs.declared.Form.{Form}
 use Rattle.c_pre.specs.Texts.{Tokens}
 use Rattle.c_units.specs.declared.repeats.Seen.{Seen}

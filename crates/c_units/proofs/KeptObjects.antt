@@ -17,7 +17,8 @@ use Rattle.c_units.specs.declared.cuts.Cut.{Cut}
 use Rattle.c_units.specs.declared.objects.Declaration.{Declaration}
 use Rattle.c_units.specs.Cuts.{start, past, ends, beginning, with_token, ended, step, cut, items}
 use Rattle.c_units.specs.Braces.{only_by, only_of, only, begins_list, list_of, has_char, is_one_size, unbraced}
-use Rattle.c_units.specs.Objects.{or_bare, is_extern, is_qualifier, words_from, behind_words, are_objects, sizes_by, value_by}
+use Rattle.c_units.specs.Objects.{or_bare, is_extern, is_qualifier, words_from, behind_words, are_objects, sizes_by}
+use Rattle.c_units.specs.Objects.{value_by}
 use Rattle.c_units.specs.Objects.{declaration, with_piece, each_from, read_body, read_words, read_from, read}
 
 -- ITEMS

@@ -16,7 +16,8 @@ use Rattle.c_words.specs.Keys.{is_key}
 use Rattle.c_units.specs.declared.raised.Raise.{Raise}
 use Rattle.c_units.specs.Cuts.{ends}
 use Rattle.c_units.specs.Objects.{is_extern, words_from, behind_words}
-use Rattle.c_units.specs.Raised.{closed_by, named_by, valued_by, valued, prototype, beginning, begins, to_item, raised_by}
+use Rattle.c_units.specs.Raised.{closed_by, named_by, valued_by, valued, prototype, beginning, begins, to_item}
+use Rattle.c_units.specs.Raised.{raised_by}
 use Rattle.c_units.specs.Raised.{found_by, started, taken, counted, flushed, step, run, raised}
 use Rattle.c_units.proofs.KeptObjects.{EachOf, if_there, words_keep, behind_keep}
 

@@ -12,7 +12,8 @@ use Rattle.c_locals.proofs.KeptElements.{EachPiece, marked_keeps}
 use Rattle.c_units.specs.declared.joined.Told.{Told}
 use Rattle.c_units.specs.declared.objects.Declaration.{Declaration}
 use Rattle.c_units.specs.Cuts.{items}
-use Rattle.c_units.specs.Joined.{count, has_value, value_of, is_made, extern_of, whole, counts, single, one_told, each_told}
+use Rattle.c_units.specs.Joined.{count, has_value, value_of, is_made, extern_of, whole, counts, single, one_told}
+use Rattle.c_units.specs.Joined.{each_told}
 use Rattle.c_units.specs.Joined.{are_alone, kept, item_told, items_told, all_from, beginning, joined}
 use Rattle.c_units.specs.Objects.{read}
 use Rattle.c_units.specs.Same.{same_tokens}

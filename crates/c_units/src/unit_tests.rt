@@ -58,12 +58,10 @@ const ROWS: &[(&str, &str)] = &[
         "int a[2] = {1}; char b[1][2] = {{1}}; int f(int x) { int y = {1}; return y; }",
     ),
     (
-        "int x = {}; int y = {1, 2}; int a[2] = {{1, 2}}; int z = {1} + 1;",
-        "int x = {}; int y = {1, 2}; int a[2] = {{1, 2}}; int z = {1} + 1;",
-    ),
-    (
-        "char s[] = {{65}, {66}}; char t[] = {{65}, 66};",
-        "char s[] = {{65}, {66}}; char t[] = {{65}, 66};",
+        "int x = {}; int y = {1, 2}; int a[2] = {{1, 2}}; char s[] = {{65}, {66}}; \
+         char t[] = {{65}, 66}; int z = {1} + 1;",
+        "int x = {}; int y = {1, 2}; int a[2] = {{1, 2}}; char s[] = {{65}, {66}}; \
+         char t[] = {{65}, 66}; int z = {1} + 1;",
     ),
     // 6.2.2, paragraph 5, 6.7.6.3: prototypes of blocks, whose `;` stays.
     (
@@ -73,8 +71,10 @@ const ROWS: &[(&str, &str)] = &[
          int main(void) { int f(int), y; { ; ; y = f(1); ; } } int f(int a) { return a; }",
     ),
     (
-        "int main(void) { if (1) int f(void); for (int f(void);;) ; int f(int) { } int x = (int) f(2); int a[1] = {1} int f(void); }",
-        "int main(void) { if (1) int f(void); for (int f(void);;) ; int f(int) { } int x = (int) f(2); int a[1] = {1} int f(void); }",
+        "int main(void) { if (1) int f(void); for (int f(void);;) ; int f(int) { } \
+         int x = (int) f(2); int a[1] = {1} int f(void); }",
+        "int main(void) { if (1) int f(void); for (int f(void);;) ; int f(int) { } \
+         int x = (int) f(2); int a[1] = {1} int f(void); }",
     ),
     // What is no object stays, and so does what is malformed.
     (
