@@ -19,8 +19,8 @@ use crate::operands::source;
 use crate::posts::is_bare;
 use crate::rest::{Rest, jump};
 use crate::singles::{
-    before_by, put_byte, put_frame, put_get, put_halt, put_jump, put_let, put_loading,
-    put_return, put_storing,
+    before_by, put_byte, put_frame, put_get, put_halt, put_jump, put_let, put_loading, put_return,
+    put_storing,
 };
 use crate::straight::{is_if_item, is_straight, put_item, put_items};
 use base::{Boxed, Items, Memory};

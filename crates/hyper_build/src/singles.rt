@@ -247,12 +247,7 @@ pub fn put_return(
 }
 
 /// The end of the whole run, with its value; what goes on behind it has a block of its own.
-pub fn put_halt(
-    emitting: &mut Emitting,
-    alloc: Global,
-    value: Arg,
-    on: bool,
-) -> Result<(), Memory>
+pub fn put_halt(emitting: &mut Emitting, alloc: Global, value: Arg, on: bool) -> Result<(), Memory>
     ensures { OnOk result (emission_of emitting.new
         ≡ code.leaving (entries.give (Some value) (hyper.jump entries.end_label))
         (back.cut_at on (emission_of emitting.old))) }
