@@ -360,6 +360,15 @@ pub const ROWS: &[Row] = &[
         Err(TypeFault::Mismatch(2)),
     ),
     (
+        "the end of the run declared as it is not",
+        &[
+            Item::Include(1),
+            Item::Prototype(2, b"exit.now", 1),
+            Item::Function(3, b"main", 0, ZERO),
+        ],
+        Err(TypeFault::Mismatch(2)),
+    ),
+    (
         "a local in its own initialiser",
         &[Item::Function(1, b"main", 0, Body::Scalar(b"x", Value::Name(b"x")))],
         Ok(Typed {

@@ -99,7 +99,7 @@ is_classifying word =
 abbrev pub is_general : List ℕ → Bool
 is_general word =
     bytes_eq word (codes "abs") || (bytes_eq word (codes "labs") || (bytes_eq word (codes "rand")
-    || (bytes_eq word (codes "srand") || bytes_eq word (codes "RAND_MAX"))))
+    || (bytes_eq word (codes "srand") || (bytes_eq word (codes "exit") || bytes_eq word (codes "RAND_MAX")))))
 
 -- a function of `<string.h>`
 abbrev pub is_copying : List ℕ → Bool
@@ -117,7 +117,7 @@ is_reading word =
 abbrev pub is_library : List ℕ → Bool
 is_library word =
     is_reading word || (bytes_eq word (codes "malloc") || (bytes_eq word (codes "calloc")
-    || (bytes_eq word (codes "free") || (bytes_eq word (codes "exit") || bytes_eq word (codes "NULL")))))
+    || (bytes_eq word (codes "free") || bytes_eq word (codes "NULL"))))
 
 -- a name of `<stdio.h>`, but for `printf`
 abbrev pub is_declared : List ℕ → Bool

@@ -190,7 +190,8 @@ pub fn is_general(word: &[u8]) -> bool
     word == b"abs".as_slice()
         || (word == b"labs".as_slice()
             || (word == b"rand".as_slice()
-                || (word == b"srand".as_slice() || word == b"RAND_MAX".as_slice())))
+                || (word == b"srand".as_slice()
+                    || (word == b"exit".as_slice() || word == b"RAND_MAX".as_slice()))))
 }
 
 /// A function of `<string.h>`.
@@ -219,8 +220,7 @@ pub fn is_library(word: &[u8]) -> bool
     is_reading(word)
         || (word == b"malloc".as_slice()
             || (word == b"calloc".as_slice()
-                || (word == b"free".as_slice()
-                    || (word == b"exit".as_slice() || word == b"NULL".as_slice()))))
+                || (word == b"free".as_slice() || word == b"NULL".as_slice())))
 }
 
 /// A name of `<stdio.h>`, but for `printf`.
