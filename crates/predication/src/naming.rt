@@ -133,7 +133,7 @@ pub fn names_of_leg(alloc: Global, entries: &[Named]) -> Result<Names, Memory>
     ensures bits { IfOk result (λ n. n.bits ≡ []) }
     ensures sets { IfOk result (λ n. n.sets ≡ []) }
 {
-    let mut copies = Items::new(alloc);
+    let mut copies = Items::from_vec(Vec::with_capacity(alloc, entries.len())?);
     for named in entries {
         let entry = copied(alloc, &named.entry)?;
         copies.push(Named {

@@ -1,5 +1,6 @@
 //! The writes, the reads and the mask of a flow block.
-ghost use Rattle.std.specs.Prelude.{◌≡◌, ◌++◌, ◌∷◌, ◌||◌, [], ◌<◌, ◌≤◌, ◌+◌, ◌^◌, cond, nat_eq, IfOk, OnOk};
+ghost use Rattle.std.specs.Prelude.{◌≡◌, ◌++◌, ◌∷◌, ◌||◌, [], ◌<◌, ◌≤◌, ◌+◌, ◌^◌, ℕ, cond, false, nat_eq, IfOk};
+ghost use Rattle.std.specs.Prelude.{OnOk};
 ghost use Rattle.trips_isa.specs.Forms as forms;
 ghost use Rattle.predication.specs.inside.Environments.{member};
 ghost use Rattle.predication.specs.inside.Converted as spec;
@@ -17,6 +18,33 @@ use hyper_narrow::{Lasting, outlasts};
 use ir_forms::{FlowBlock, FlowNode, FlowSource, FlowWrite};
 use std::alloc::Global;
 use trips_isa::{Form, form_of};
+
+// REGISTERS, FROM THE HIGHEST ON
+
+// The number behind a register, where it is below a count and not below another number; else that number.
+fn raised(top: u8, register: u8, count: u8) -> u8
+    ensures low { top ≤ count → result ≤ count }
+    ensures up { top ≤ result }
+    ensures own { register < count → register < result }
+{
+    if top <= register && register < count {
+        register + 1
+    } else {
+        top
+    }
+}
+
+// The number behind the highest of some registers below a count; 0 where none is below it.
+fn top_below(registers: &[u8], count: u8) -> u8
+    ensures low { result ≤ count }
+    ensures none { (r : ℕ) → result ≤ r → r < count → member r registers.now ≡ false }
+{
+    let mut top = 0;
+    for register in registers {
+        top = raised(top, *register, count);
+    }
+    top
+}
 
 // WRITES
 
@@ -59,10 +87,11 @@ fn writes_below(
         ≡ spec.writes_below (env_of names.now.entries) (among lasting names.now.sets) count) }
 {
     let mut writes = Items::new(alloc);
-    let mut register = count;
+    let mut register = top_below(names.sets.as_slice(), count);
     while register > 0 {
         register -= 1;
         push_write(alloc, names, lasting, register, &mut writes)?;
+        register = top_below(names.sets.as_slice(), register);
     }
     Ok(writes)
 }
@@ -149,10 +178,11 @@ fn members_below(alloc: Global, found: &[u8], count: u8) -> Result<Items<u8>, Me
     ensures { IfOk result (λ rs. rs ≡ made.members_below found.now count) }
 {
     let mut reads = Items::new(alloc);
-    let mut register = count;
+    let mut register = top_below(found, count);
     while register > 0 {
         register -= 1;
         push_member(found, register, &mut reads)?;
+        register = top_below(found, register);
     }
     Ok(reads)
 }
