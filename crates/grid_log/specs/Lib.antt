@@ -1,0 +1,4 @@
+pub mod Events
+pub mod Logs
+pub mod Cycles
+pub mod inside

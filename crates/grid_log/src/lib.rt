@@ -1,0 +1,24 @@
+//! The events of a run of the grid: a cycle that keeps what it does in a log.
+//!
+//! A cycle that is logged is made of the pieces of `grid_parts`, as any cycle is, and tells between them; so a run
+//! that is not logged pays nothing. specs/Events.antt has which events stand for which notes of crates/grid_events,
+//! specs/Logs.antt what a log keeps of them, specs/Cycles.antt cycles that are logged.
+#![tactic(auto)]
+
+mod arriving;
+mod banks;
+mod cycling;
+mod data_tiles;
+mod ends;
+mod event;
+mod fetches;
+mod flushes;
+mod log;
+mod units;
+mod watched;
+mod watching;
+
+pub use cycling::cycle;
+pub use event::{Cause, Event};
+pub use log::{Entry, Log};
+pub use watched::Watched;
