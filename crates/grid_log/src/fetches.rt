@@ -1,12 +1,14 @@
 //! Part (2) of a cycle, logged: a fetch ends, and the next one begins.
-ghost use Rattle.std.specs.Prelude.{◌≡◌, ◌<◌, ◌+◌, ◌^◌, All};
+ghost use Rattle.std.specs.Prelude.{◌≡◌, ◌<◌, ◌+◌, ◌^◌, ◌∷◌, [], All};
 ghost use Rattle.commit_flush_spec.specs.inside.Laws.{AreNumbers};
 ghost use Rattle.grid_cycle_spec.specs.Fetches as spec;
 ghost use Rattle.grid_cycle_spec.specs.Grid.{numbers_of};
 ghost use Rattle.grid_events.specs.FetchNotes as noted;
+ghost use Rattle.grid_events.specs.Notes.{Begins};
 ghost use Rattle.grid_parts.specs.Seen.{seen};
 ghost use Rattle.grid_log.specs.Logs.{Logged};
 ghost use Rattle.grid_log.specs.inside.Telling.{begun_if, begun_notes, due_notes, guesses, may_fill, open_youngest};
+ghost use Rattle.grid_log.specs.inside.Telling.{predicted_if};
 
 use crate::event::Event;
 use crate::flushes::fetch_of;
@@ -97,12 +99,25 @@ fn open_youngest<V: Windows>(window: &V) -> Option<u8>
 }
 
 // The frame behind which a block is predicted: an open one, where no flushed block stands.
-fn guesses(standing: Option<u32>, open: Option<u8>) -> Option<u8>
-    ensures { result ≡ guesses standing open }
+fn guesses(standing: Option<u32>, youngest: Option<u8>) -> Option<u8>
+    ensures { result ≡ guesses standing youngest }
 {
     match standing {
         Some(_) => None,
-        None => open,
+        None => youngest,
+    }
+}
+
+// A block has been predicted, where that is behind a frame, and its fetch begins.
+fn tell_fetch(log: &mut Log, behind: Option<u8>, block: u32, careful: bool)
+    ensures { Logged log.old (predicted_if behind block (Begins block careful ∷ [])) log.new }
+{
+    match behind {
+        Some(frame) => {
+            log.keep(Event::Predicts { frame, block });
+            log.keep(Event::Begins { block, careful });
+        }
+        None => log.keep(Event::Begins { block, careful }),
     }
 }
 
@@ -111,19 +126,7 @@ fn tell_begun(log: &mut Log, behind: Option<u8>, after: Option<(u32, bool)>)
     ensures { Logged log.old (begun_notes behind after) log.new }
 {
     match after {
-        Some(fetch) => {
-            match behind {
-                Some(frame) => log.keep(Event::Predicts {
-                    frame,
-                    block: fetch.0,
-                }),
-                None => {}
-            }
-            log.keep(Event::Begins {
-                block: fetch.0,
-                careful: fetch.1,
-            });
-        }
+        Some(fetch) => tell_fetch(log, behind, fetch.0, fetch.1),
         None => {}
     }
 }

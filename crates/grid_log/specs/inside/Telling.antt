@@ -86,11 +86,15 @@ abbrev pub guesses : Option ℕ → Option ℕ → Option ℕ
 guesses None o = o
 guesses (Some k) o = None
 
+-- a prediction, where one was made, before other notes
+abbrev pub predicted_if : Option ℕ → ℕ → List Note → List Note
+predicted_if None k es = es
+predicted_if (Some n) k es = Predicts n k ∷ es
+
 -- a fetch that has begun, by its block and whether it is careful, and the frame behind which it was predicted
 abbrev pub begun_notes : Option ℕ → Option (ℕ × Bool) → List Note
 begun_notes o None = []
-begun_notes None (Some f) = Begins f.0 f.1 ∷ []
-begun_notes (Some n) (Some f) = Predicts n f.0 ∷ Begins f.0 f.1 ∷ []
+begun_notes o (Some f) = predicted_if o f.0 (Begins f.0 f.1 ∷ [])
 
 -- the same where the fetch unit was idle
 abbrev pub begun_if : Bool → Option ℕ → Option (ℕ × Bool) → List Note
