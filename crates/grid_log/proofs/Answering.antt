@@ -135,15 +135,15 @@ module _ {W : Type 0} (blocks : List Block) (budget tile n m : ℕ) (g h : Grid 
       asks : (f : Frame) (q : Option (ℕ × Inst)) → request f m ≡ q → frame_of n g.window.frames ≡ Some f
           → Some r ≡ request_at f q → null ≡ is_null (stored_by f (request f m))
           → Logged a (answered_notes blocks budget tile n m f q g) b
-      asks f None e here r no = absurd (let z = r in cc)
-      asks f (Some q) e here r no =
-          let same : q.1 ≡ r.inst = sym (ap (inst_or q.1) r) in
+      asks f None e here asked null_is = absurd (let z = asked in cc)
+      asks f (Some q) e here asked null_is =
+          let same : q.1 ≡ r.inst = sym (ap (inst_or q.1) asked) in
           let is_one : is_store (form_of (q.1).op) ≡ true =
           ap (λ (i : Inst). is_store (form_of i.op)) same ∙ store in
           stored f q null ns before x
           (behind f here ∙ ap (λ o. answered_by blocks budget tile n m o g) e
           ∙ ap (λ k. cond k (store_resolved blocks budget n m g) (load_answered blocks budget tile n m q.0 g)) is_one)
-          is_one no named fetch one rest
+          is_one null_is named fetch one rest
 
       in_frame : (o : Option Frame) → frame_of n g.window.frames ≡ o
           → Some r ≡ found_in (λ f. request_at f (request f m)) o
@@ -160,9 +160,9 @@ module _ {W : Type 0} (blocks : List Block) (budget tile n m : ℕ) (g h : Grid 
     where
       asks : (f : Frame) (q : Option (ℕ × Inst)) → Some r ≡ request_at f q
           → Logged a (answered_notes blocks budget tile n m f q g) b
-      asks f None r = absurd (let z = r in cc)
-      asks f (Some q) r =
-          let same : q.1 ≡ r.inst = sym (ap (inst_or q.1) r) in
+      asks f None asked = absurd (let z = asked in cc)
+      asks f (Some q) asked =
+          let same : q.1 ≡ r.inst = sym (ap (inst_or q.1) asked) in
           loaded f q (ap (λ (i : Inst). is_store (form_of i.op)) same ∙ load) one
 
       in_frame : (o : Option Frame) → frame_of n g.window.frames ≡ o

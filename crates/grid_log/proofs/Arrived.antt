@@ -21,7 +21,7 @@ use Rattle.grid_cycle_spec.specs.Choosing.{each, with_frame}
 use Rattle.grid_cycle_spec.specs.inside.Choosing.{places}
 use Rattle.grid_cycle_spec.specs.inside.Arrivals.{arrival, arrivals, delivers, inst_arrives, is_waiting, place_arrives}
 use Rattle.grid_cycle_spec.specs.inside.Arrivals.{slot_arrives}
-use Rattle.grid_parts.specs.inside.Asked.{frame_of}
+use Rattle.grid_parts.specs.inside.Asked.{found_in, frame_of}
 use Rattle.grid_parts.specs.inside.EmptyPlaces.{AreQuiet}
 use Rattle.grid_parts.proofs.ArrivalFolds.{IsNext, after_quiet, each_handled, each_quiet}
 use Rattle.grid_parts.proofs.FrameFacts.{by_frame, with_frame_is}
@@ -109,19 +109,12 @@ module _ {W : Type 0} (blocks : List Block) (budget p : ℕ) (g h : Grid W) (a b
       → o ≡ event_at blocks n p g.window.frames → Told o
       → Logged a (of_frame n (λ f. place_notes blocks budget p f g) g.window.frames) b
   arrived_logged n o is seen told =
-      subst (λ es. Logged a es b) (sym (of_frame_is n notes g.window.frames))
-      (go (frame_of n g.window.frames) (is ∙ with_frame_is n lands g.window.frames g)
-      (subst Told seen told))
+      subst (λ es. Logged a es b) (sym (of_frame_is n (λ f. place_notes blocks budget p f g) g.window.frames))
+      (go (frame_of n g.window.frames)
+      (is ∙ with_frame_is n (λ f x. place_arrives blocks budget p f x) g.window.frames g) (subst Told seen told))
     where
-      abbrev notes : Frame → List Note
-      notes f = place_notes blocks budget p f g
-
-      abbrev lands : Frame → Grid W → Grid W
-      lands f x = place_arrives blocks budget p f x
-
-      go : (q : Option Frame) → h ≡ by_frame lands g q
-          → Told (Rattle.grid_parts.specs.inside.Asked.found_in (place_event blocks p) q)
-          → Logged a (notes_in notes q) b
+      go : (q : Option Frame) → h ≡ by_frame (λ f x. place_arrives blocks budget p f x) g q
+          → Told (found_in (place_event blocks p) q) → Logged a (notes_in (λ f. place_notes blocks budget p f g) q) b
       go None is told = told
       go (Some f) is told = place_told f is told
 

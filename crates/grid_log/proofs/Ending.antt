@@ -62,18 +62,18 @@ module _ {W : Type 0} (blocks : List Block) (budget : ℕ) where
   -- no frame commits
   pub not_committed : (g : Grid W) (a : Log) → may blocks budget window.Commit g ≡ false
       → Logged a (commit_notes blocks budget g) a
-  not_committed g a no = subst (λ es. Logged a es a)
-      (sym (ap (λ k. cond k (commit_in_notes blocks budget g.window.frames g) []) no)) (logged_none a [] (λ c. refl))
+  not_committed g a off = subst (λ es. Logged a es a)
+      (sym (ap (λ k. cond k (commit_in_notes blocks budget g.window.frames g) []) off)) (logged_none a [] (λ c. refl))
 
   -- none is in flight
   pub none_committed : (g : Grid W) (a : Log) → may blocks budget window.Commit g ≡ true
       → None ≡ oldest g.window.frames → Logged a (commit_notes blocks budget g) a
-  none_committed g a yes none = go g.window.frames refl none
+  none_committed g a may_so none = go g.window.frames refl none
     where
       go : (fs : List Frame) → g.window.frames ≡ fs → None ≡ oldest fs → Logged a (commit_notes blocks budget g) a
-      go (f ∷ fs) e no = absurd (let z = no in cc)
-      go [] e no = subst (λ es. Logged a es a)
-          (sym (ap (λ k. cond k (commit_in_notes blocks budget g.window.frames g) []) yes
+      go (f ∷ fs) e away = absurd (let z = away in cc)
+      go [] e away = subst (λ es. Logged a es a)
+          (sym (ap (λ k. cond k (commit_in_notes blocks budget g.window.frames g) []) may_so
           ∙ ap (λ xs. commit_in_notes blocks budget xs g) e)) (logged_none a [] (λ c. refl))
 
   -- the oldest frame commits, or traps
@@ -82,7 +82,7 @@ module _ {W : Type 0} (blocks : List Block) (budget : ℕ) where
       → Some p ≡ oldest g.window.frames → ns ≡ numbers_of g.window.frames → before ≡ block_of g.fetching
       → Logged a (ended_by h.window.over p.0 p.1 ns ++ given_up before (block_of h.fetching)) b
       → Logged a (commit_notes blocks budget g) b
-  commit_logged g h a b p ns before is yes first named fetch logged = go g.window.frames refl first named
+  commit_logged g h a b p ns before is may_so first named fetch logged = go g.window.frames refl first named
     where
       go : (fs : List Frame) → g.window.frames ≡ fs → Some p ≡ oldest fs → ns ≡ numbers_of fs
           → Logged a (commit_notes blocks budget g) b
@@ -93,7 +93,7 @@ module _ {W : Type 0} (blocks : List Block) (budget : ℕ) where
           let s : Stepped = after.over in
           let last : Option Fetching = (committed_as s f fs m).fetching in
           let here : h ≡ committed_as s f fs m =
-          is ∙ ap (λ k. cond k (commit_in blocks budget g.window.frames g) g) yes
+          is ∙ ap (λ k. cond k (commit_in blocks budget g.window.frames g) g) may_so
           ∙ ap (λ xs. commit_in blocks budget xs g) e in
           let over : h.window.over ≡ s =
           ap (λ (x : Grid W). x.window.over) here ∙ ap (λ (w : Window). w.over) (committed_window s f fs m) in
@@ -105,7 +105,7 @@ module _ {W : Type 0} (blocks : List Block) (budget : ℕ) where
           ∙ ap (λ (es : List Note). es ++ end) (sym (ended_is s f fs))
           ∙ ap (λ (es : List Note). (ended_as s f ∷ trap_flushes s (f ∷ fs)) ++ es)
           (ap₂ given_up fetch (ap (λ (x : Grid W). block_of x.fetching) here) ∙ sym (given_by g.fetching last))
-          ∙ sym (ap (λ k. cond k (commit_in_notes blocks budget g.window.frames g) []) yes
+          ∙ sym (ap (λ k. cond k (commit_in_notes blocks budget g.window.frames g) []) may_so
           ∙ ap (λ xs. commit_in_notes blocks budget xs g) e))
           logged
 

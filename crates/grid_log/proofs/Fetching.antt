@@ -1,6 +1,7 @@
 -- What is logged of fetches that end and begin.
 use Rattle.std.proofs.Common.{◌≡◌, ℕ, zero, suc, ◌==◌, Bool, true, false, cond, List, [], ◌∷◌, ◌++◌, is_none}
-use Rattle.std.proofs.Common.{Option, Some, None, refl, sym, ap, ap₂, ◌∙◌, subst}
+use Rattle.std.proofs.Common.{Option, Some, None, refl, sym, ap, ap₂, ◌∙◌, subst, arith}
+use Rattle.std.proofs.lemmas.Bool.{eq-eqb, ne_eqb}
 use Rattle.trips_isa.specs.declared.block.Block.{Block}
 use Rattle.block_predict.specs.Predicts.{predicted}
 use Rattle.commit_flush_spec.specs.Frames.{Exit, Frame}
@@ -104,13 +105,20 @@ module _ {W : Type 0} (blocks : List Block) where
         → due_notes (due o) (may_fill blocks budget (due o) g.window) (lowest_empty 8 0 g.window.frames)
         ≡ part.fetch_notes blocks budget o g
     fetch_is None g = refl
-    fetch_is (Some f) g = go f.left
+    fetch_is (Some f) g = go f.left refl
       where
-        go : (left : ℕ) → due_notes (cond (left == 0) (Some f.block) None)
-            (may_fill blocks budget (cond (left == 0) (Some f.block) None) g.window)
+        told : (d : Option ℕ) → due (Some f) ≡ d
+            → due_notes (due (Some f)) (may_fill blocks budget (due (Some f)) g.window)
+            (lowest_empty 8 0 g.window.frames)
+            ≡ due_notes d (may_fill blocks budget d g.window) (lowest_empty 8 0 g.window.frames)
+        told d e = ap (λ o. due_notes o (may_fill blocks budget o g.window) (lowest_empty 8 0 g.window.frames)) e
+
+        go : (left : ℕ) → f.left ≡ left → due_notes (due (Some f)) (may_fill blocks budget (due (Some f)) g.window)
             (lowest_empty 8 0 g.window.frames) ≡ part.on_notes blocks budget left f g
-        go zero = filled_is (may blocks budget (window.Fetch f.block) g) f g
-        go (suc left) = refl
+        go zero e = told (Some f.block) (ap (λ b. cond b (Some f.block) None) (eq-eqb f.left 0 e))
+            ∙ filled_is (may blocks budget (window.Fetch f.block) g) f g
+        go (suc left) e = told None (ap (λ b. cond b (Some f.block) None)
+            (ne_eqb f.left 0 (λ z. absurd (omega (arith, e, z)))))
 
     -- the end of a fetch, of what is seen before
     pub fetch_logged : (g : Grid W) (d : Option ℕ) (may : Bool) (room : Option ℕ) (a b : Log) → d ≡ due g.fetching

@@ -3,18 +3,19 @@ use Rattle.std.proofs.Common.{◌≡◌, ℕ, suc, ◌+◌, Bool, true, List, []
 use Rattle.std.proofs.Common.{ap, ap₂, ◌∙◌, subst, add-one}
 use Rattle.trips_isa.specs.declared.block.Block.{Block}
 use Rattle.grid_cycle_spec.specs.Grid.{Grid, numbers_of}
-use Rattle.grid_cycle_spec.specs.Cycles.{closed}
+use Rattle.grid_cycle_spec.specs.Cycles.{Eager, closed}
 use Rattle.grid_events.specs.Notes.{Note, End}
 use Rattle.grid_events.specs.Plays.{block_of}
 use Rattle.grid_events.specs.Turns.{flushes, gives_up}
 use Rattle.grid_events.specs.Cycles.{closing}
 use Rattle.grid_machine.specs.Endings.{is_going}
+use Rattle.grid_machine.specs.WholeRuns.{GoesFor}
 use Rattle.grid_log.specs.declared.log.Entry.{Entry}
 use Rattle.grid_log.specs.declared.log.Log.{Log}
 use Rattle.grid_log.specs.Events.{entries_of}
 use Rattle.grid_log.specs.Logs.{Holds, IsOf, Keeps, Logged, at_cycle}
 use Rattle.grid_log.specs.Cycles.{IsLogged}
-use Rattle.grid_log.specs.Runs.{AreLogged, cycles_entries}
+use Rattle.grid_log.specs.Runs.{AreLogged, IsWindow, cycles_entries}
 use Rattle.grid_log.specs.inside.Telling.{flushed_by, given_up}
 use Rattle.grid_log.proofs.Logging.{keeps_both, logged_both}
 use Rattle.grid_log.proofs.Flushing.{flushes_by, given_by}
@@ -49,6 +50,30 @@ module _ {W : Type 0} (next : W → ℕ) (follows : W → W → Type 0) (blocks 
             (made ∙ ap (λ k. g.counts.cycles + k) (sym before.many))
             (keeps_at (m.counts.cycles + 1) y z (entries_of (m.counts.cycles + 1) c.notes) c.logged.keeps));
       }
+
+  -- one cycle more that is not logged
+  pub one_passed : (bs : List Block) (b n : ℕ) (g m h : Grid W) → bs ≡ blocks → b ≡ budget
+      → is_going budget m.window ≡ true → GoesFor next follows blocks budget n g m → Eager next follows bs b m h
+      → GoesFor next follows blocks budget (n + 1) g h
+  one_passed bs b n g m h e f on before last =
+      subst (λ k. GoesFor next follows blocks budget k g h) (sym (add-one n))
+      (record {
+        between = m;
+        before = (before, on);
+        after = subst (λ k. Eager next follows blocks k m h) f (subst (λ k. Eager next follows k b m h) e last);
+      })
+
+  -- a window on a run, over another image and budget that are these
+  pub window_of : (bs : List Block) (before passed n : ℕ) (g m h : Grid W) (x y : Log) → bs ≡ blocks
+      → GoesFor next follows blocks budget passed g m → (is_going budget m.window ≡ true → passed ≡ before)
+      → AreLogged next follows bs budget n m h x y → IsWindow next follows blocks budget before n g h x y
+  window_of bs before passed n g m h x y e goes full logged = record {
+    passed = passed;
+    between = m;
+    unlogged = goes;
+    full = full;
+    logged = subst (λ k. AreLogged next follows k budget n m h x y) e logged;
+  }
 
 -- the end of a run is told by the frames in flight, and by the fetches before and behind
 pub closing_logged : {W : Type 0} (g h : Grid W) (ns : List ℕ) (before after : Option (ℕ × Bool)) (a b c : Log)

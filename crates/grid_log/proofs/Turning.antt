@@ -47,7 +47,7 @@ module _ {W : Type 0} (blocks : List Block) (budget tile : ℕ) (g : Grid W) (a 
       → Logged a (issues_notes blocks budget tile g) b
   free_logged e told = subst (λ c. Logged a (cond c
       (issue_notes tile (eldest (ready blocks budget g tile) slots g.window.frames) g) []) b)
-      (sym (eq-eqb (g.units tile) 0 e)) heard
+      (sym (eq-eqb (g.units tile) 0 e)) told
 
   -- a unit that is busy issues nothing
   pub busy_logged : g.units tile ≢ 0 → Logged a (issues_notes blocks budget tile g) a

@@ -24,5 +24,5 @@ pub use cycling::cycle;
 pub use event::{Cause, Event};
 pub use law::{entries_stand_for_notes, logged_cycles_are_eager};
 pub use log::{Entry, Log};
-pub use running::{close, cycles};
+pub use running::{close, cycles, cycles_behind, pass};
 pub use watched::Watched;
