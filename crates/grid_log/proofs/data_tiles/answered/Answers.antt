@@ -22,8 +22,8 @@ returns-else-is_store-clause-told g c =
     let h = c.answer.new.self in
     load_logged (g.V.Windows.blocks v) (g.V.Windows.budget v) c.args.tile c.args.frame c.args.number
     (seen (g.V.Windows.held v) c.args.grid.now.state) (seen (g.V.Windows.held h.window) h.state) c.args.log.now
-    c.keep-2.new.self c.answer.ensures.change c.in-Some.request c.in-Some.ensures.value
-    (sym c.if-is_store.ensures) c.keep-2.ensures
+    c.keep-else-is_store.new.self c.answer.ensures.change c.in-Some.request c.in-Some.ensures.value
+    (sym c.if-is_store.ensures) c.keep-else-is_store.ensures
 
 pub returns-in-None-clause-told : goal.returns-in-None-clause-told
 returns-in-None-clause-told g c =

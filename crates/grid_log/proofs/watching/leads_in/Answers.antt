@@ -30,5 +30,5 @@ returns-in-Some c =
     let b = c.in-Some.block.now in
     found_some (names w.image.blocks) c.args.frame w.window.frames h b _ c.in-Some.ensures.value
     (λ sealed. c.successor_by.ensures
-    ∙ ap (λ i. successor_of (exit_by i.blocks c.block.result c.branch.result)) c.image.ensures.value
-    ∙ ap₂ (λ k l. successor_of (exit_by w.image.blocks k l)) c.block.ensures.value c.branch.ensures.value)
+    ∙ ap (λ i. successor_of (exit_by i.blocks c.block.result c.branch-held.result)) c.image.ensures.value
+    ∙ ap₂ (λ k l. successor_of (exit_by w.image.blocks k l)) c.block.ensures.value c.branch-held.ensures.value)
