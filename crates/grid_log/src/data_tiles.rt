@@ -24,13 +24,7 @@ fn is_store(op: Op) -> bool
 }
 
 // The answer to what waits with a number in a frame, where anything does.
-fn answered<V: Watched, W>(
-    grid: &mut Grid<V, W>,
-    log: &mut Log,
-    tile: u8,
-    frame: u8,
-    number: u8,
-)
+fn answered<V: Watched, W>(grid: &mut Grid<V, W>, log: &mut Log, tile: u8, frame: u8, number: u8)
     requires tile { tile < 4 }
     requires frame { frame < 8 }
     requires number { number < 32 }

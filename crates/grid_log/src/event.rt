@@ -17,15 +17,30 @@ pub enum Cause {
 #[derive(Clone, Copy, Debug, PartialEq, Eq)]
 pub enum Event {
     /// A fetch of a block begins.
-    Begins { block: u32, careful: bool },
+    Begins {
+        block: u32,
+        careful: bool,
+    },
     /// A block is predicted behind a frame.
-    Predicts { frame: u8, block: u32 },
+    Predicts {
+        frame: u8,
+        block: u32,
+    },
     /// A fetch of a block is given up.
-    GivesUp { block: u32 },
+    GivesUp {
+        block: u32,
+    },
     /// A frame is filled with a block.
-    Fetches { frame: u8, block: u32 },
+    Fetches {
+        frame: u8,
+        block: u32,
+    },
     /// A register bank answers a read.
-    Reads { bank: u8, frame: u8, read: u8 },
+    Reads {
+        bank: u8,
+        frame: u8,
+        read: u8,
+    },
     /// A tile issues the operation of a slot.
     Fires {
         tile: u8,
@@ -34,9 +49,16 @@ pub enum Event {
         op: Option<Op>,
     },
     /// A token comes to where it is used.
-    Delivers { frame: u8, place: u16 },
+    Delivers {
+        frame: u8,
+        place: u16,
+    },
     /// A data tile answers a load.
-    Loads { tile: u8, frame: u8, number: u8 },
+    Loads {
+        tile: u8,
+        frame: u8,
+        number: u8,
+    },
     /// A data tile resolves a store, which may be a null one.
     Stores {
         tile: u8,
@@ -45,13 +67,27 @@ pub enum Event {
         null: bool,
     },
     /// The branch of a frame comes to the control tile, and names a block.
-    Leaves { frame: u8, block: Option<u32> },
+    Leaves {
+        frame: u8,
+        block: Option<u32>,
+    },
     /// A frame is sealed.
-    Seals { frame: u8 },
+    Seals {
+        frame: u8,
+    },
     /// A frame is committed with its block.
-    Commits { frame: u8, block: u32 },
+    Commits {
+        frame: u8,
+        block: u32,
+    },
     /// A frame ends the run by a trap.
-    Traps { frame: u8, block: u32 },
+    Traps {
+        frame: u8,
+        block: u32,
+    },
     /// A frame is flushed.
-    Flushes { frame: u8, cause: Cause },
+    Flushes {
+        frame: u8,
+        cause: Cause,
+    },
 }

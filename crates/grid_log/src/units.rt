@@ -28,7 +28,8 @@ fn tell_firing<V: Windows>(window: &V, log: &mut Log, tile: u8, frame: u8, slot:
     requires frame { frame < 8 }
     requires slot { slot < 128 }
     ensures { Logged log.old (of_frame frame
-        (λ f. Fires tile frame slot (noted.operation (slot_of f.code slot)) ∷ []) (V.held window.now).frames) log.new }
+        (λ f. Fires tile frame slot (noted.operation (slot_of f.code slot)) ∷ []) (V.held window.now).frames)
+        log.new }
 {
     if window.block_of(frame).is_some() {
         let op = operation(window.inst_of(frame, slot));

@@ -30,13 +30,7 @@ fn put_fire(
     ensures { OnOk result (out.new.items ≡ out.old.items ++ event_text (event.Fires tile frame slot op)) }
 {
     let _ = tile;
-    put_two(
-        out,
-        b" fire frame ",
-        frame as u64,
-        b" slot ",
-        slot as u64,
-    )?;
+    put_two(out, b" fire frame ", frame as u64, b" slot ", slot as u64)?;
     put_operation(out, op)
 }
 
