@@ -8,8 +8,9 @@ use Rattle.c_tree.specs.declared.Mark.TheVariants as mark
 use Rattle.c_lex.proofs.Basics.{and_both, and_left, and_right}
 use Rattle.c_library.specs.Calls.{is_mark}
 use Rattle.c_locals.specs.Objects.{no_objects_from, has_no_objects}
-use Rattle.c_locals.specs.Statics.{is_static}
-use Rattle.c_locals.specs.Values.{begins_list, sets_list, blocks_past}
+use Rattle.c_locals.specs.Stages.{is_static}
+use Rattle.c_locals.specs.Values.{begins_list, sets_list}
+use Rattle.c_locals.specs.Walks.{blocks_past}
 use Rattle.c_grammar.specs.Tokens.{token}
 use Rattle.c_pre.specs.Texts.{Tokens}
 use Rattle.bench_laws.proofs.Forms.{array_forms, function_forms, main_forms, call_forms, end_forms, line_of}

@@ -1,0 +1,12 @@
+pub mod StandardFacts
+pub mod Logging
+pub mod Kept
+pub mod Silent
+pub mod Turning
+pub mod Flushing
+pub mod Answering
+pub mod Ending
+pub mod Fetching
+pub mod Arrived
+pub mod CycleFacts
+pub mod RunFacts

@@ -1,0 +1,65 @@
+use Rattle.std.proofs.Common.{◌≡◌, sym, ap, ◌∙◌, subst, arith}
+use Rattle.operand_net.specs.Places.{at}
+use Rattle.grid_cycle_spec.specs.Grid.{numbers_of}
+use Rattle.grid_cycle_spec.specs.inside.Arrivals.{arrivals}
+use Rattle.grid_cycle_spec.specs.Cycles.{counted}
+use Rattle.grid_parts.specs.Seen.{seen}
+use Rattle.grid_machine.proofs.Eagerness.{ticked_named}
+use Rattle.grid_machine.proofs.Rooms.{arrivals_cycles}
+use Rattle.grid_parts.specs.inside.Changes.{travelled}
+use Rattle.grid_events.specs.ArrivalNotes.{arrivals_notes}
+use Rattle.grid_events.specs.Mesh.{tick_notes}
+use Rattle.grid_log.specs.Logs.{Logged}
+use Rattle.grid_log.proofs.Logging.{logged_both, logged_none}
+use Rattle.grid_log.proofs.Silent.{nothing_ticked}
+use Rattle.grid_log.proofs.cycling.moves.Goals as goal
+
+pub arrivals-requires-clause-room : goal.arrivals-requires-clause-room
+arrivals-requires-clause-room g c =
+    let w = g.V.Windows.held c.args.grid.now.window in
+    let same = ap (λ x. x.counts.flushed) (c.tick.ensures.change w) in
+    let room = c.requires.flushed in
+    omega (arith, same, room)
+
+pub count_cycle-requires : goal.count_cycle-requires
+count_cycle-requires g c =
+    let v = c.args.grid.now.window in
+    let w = g.V.Windows.held v in
+    let same = ap (λ x. x.counts.cycles) (c.tick.ensures.change w) in
+    let after = c.arrivals.new.grid in
+    let kept = arrivals_cycles (g.V.Windows.blocks v) (g.V.Windows.budget v) c.as_slice-2.result.now
+    (seen w c.tick.new.self) (seen (g.V.Windows.held after.window) after.state) c.arrivals.ensures.change in
+    let room = c.requires.cycles in
+    omega (arith, same, kept, room)
+
+pub returns-clause-told : goal.returns-clause-told
+returns-clause-told g c =
+    let v = c.args.grid.now.window in
+    let w = g.V.Windows.held v in
+    let bs = g.V.Windows.blocks v in
+    let b = g.V.Windows.budget v in
+    let s = c.tick.new.self in
+    let old = c.args.grid.now.state in
+    let h = c.arrivals.new.grid in
+    let ns = numbers_of w.frames in
+    let named = sym (c.as_slice.ensures.value ∙ c.numbers-frames.ensures.value) in
+    let order = c.as_slice-2.ensures.value ∙ c.numbers-frames.ensures.value in
+    let come = c.arrivals.ensures.change ∙ ap (λ l. arrivals bs b l (seen w s)) order
+    ∙ ap (arrivals bs b ns) (c.tick.ensures.change w) in
+    let m = travelled (at s.mesh) s.weather (seen w old) in
+    record {
+      moves = record {
+        parcels = at s.mesh;
+        weather = s.weather;
+        ticked = ticked_named g.W.Weather.next g.W.Weather.follows w.frames _ (at old.mesh) (at s.mesh) old.weather
+            s.weather named c.tick.ensures.ticked;
+        arrived = c.count_cycle.ensures (g.V.Windows.held h.window) ∙ ap counted come;
+      };
+      logged = logged_both c.args.log.now c.args.log.now c.arrivals.new.log
+          (tick_notes ns (at old.mesh) (at s.mesh)) (arrivals_notes bs b ns m)
+          (logged_none c.args.log.now (tick_notes ns (at old.mesh) (at s.mesh))
+          (nothing_ticked ns (at old.mesh) (at s.mesh)))
+          (subst (λ x. Logged c.args.log.now (arrivals_notes bs b ns x) c.arrivals.new.log) (c.tick.ensures.change w)
+          (subst (λ l. Logged c.args.log.now (arrivals_notes bs b l (seen w s)) c.arrivals.new.log) order
+          c.arrivals.ensures.told));
+    }

@@ -1,0 +1,5 @@
+pub mod Events
+pub mod Logs
+pub mod Cycles
+pub mod Runs
+pub mod inside
