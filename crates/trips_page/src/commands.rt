@@ -50,7 +50,8 @@ pub extern "C" fn page_run(
     out: &mut [u8],
 ) -> usize
     ensures { 0 < result → result ≤ length out.old → IsTold (run_of c_name most unroll seed
-        (record { regs = regs; trace = trace; cycles = cycles; stats = false })) c_name text.now input.now (take result out.new) }
+        (record { regs = regs; trace = trace; cycles = cycles; stats = false })) c_name text.now input.now
+        (take result out.new) }
 {
     let asked = Asked {
         command: Command::Run,
