@@ -93,3 +93,16 @@ module _ (loses : Loses) (none : (j : ℕ) → loses j ≡ false) where
 -- nodes of which none is marked may lose their guards
 pub none_marked : (f : FlowBlock) → may_lose (marked []) f ≡ true
 none_marked f = may_none (marked []) (λ j. refl) f
+
+-- without marks nodes stay as they are
+nothing_lost : (j : ℕ) (ns : List FlowNode) → ns ≡ all_loosened (marked []) j ns
+nothing_lost j [] = refl
+nothing_lost j (n ∷ ns) = ap (λ (l : List FlowNode). n ∷ l) (nothing_lost (suc j) ns)
+
+-- a block of which no node loses its guard is itself
+pub none_loses : (f : FlowBlock) → Unguards f f
+none_loses f = record {
+  loses = marked [];
+  may = none_marked f;
+  same = ap (λ (ns : List FlowNode). record f { nodes = ns }) (nothing_lost 0 f.nodes);
+}

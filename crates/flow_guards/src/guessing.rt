@@ -9,9 +9,29 @@ use ir_forms::{FlowBlock, FlowNode, FlowSource, FlowWrite, Guard};
 use std::alloc::Global;
 use trips_isa::{Op, row_of};
 
+/// Whether a node is pure and has a guard: else none loses one.
+pub fn any_guarded(nodes: &[FlowNode]) -> bool {
+    for n in nodes {
+        if n.guard.is_some() && is_pure(n.op) {
+            return true;
+        }
+    }
+    false
+}
+
+/// Whether a node is marked.
+pub fn any_marked(marks: &[bool]) -> bool {
+    for mark in marks {
+        if *mark {
+            return true;
+        }
+    }
+    false
+}
+
 // A mark of each node that is pure and has a guard.
 fn pure_nodes(alloc: Global, nodes: &[FlowNode]) -> Result<Items<bool>, Memory> {
-    let mut marks = Items::new(alloc);
+    let mut marks = Items::from_vec(Vec::with_capacity(alloc, nodes.len())?);
     for n in nodes {
         marks.push(n.guard.is_some() && is_pure(n.op))?;
     }

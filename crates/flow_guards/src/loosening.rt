@@ -46,8 +46,8 @@ fn all_loosened(
 ) -> Result<Items<FlowNode>, Memory>
     ensures { IfOk result (λ ns. ns ≡ defined.all_loosened (marked marks.now) 0 nodes) }
 {
+    let mut out = Items::from_vec(Vec::with_capacity(alloc, nodes.len())?);
     let mut rest = Queue::from_items(nodes);
-    let mut out = Items::new(alloc);
     while let Some(n) = rest.pop() {
         let lost = is_marked(marks, out.len());
         out.push(loosened(lost, n))?;

@@ -3,7 +3,7 @@ ghost use Rattle.std.specs.Prelude.{◌≡◌, IfOk, true};
 ghost use Rattle.flow_guards.specs.inside.Unguards as defined;
 ghost use Rattle.flow_guards.specs.inside.Unguards.{Unguards, marked};
 
-use crate::guessing::guessed;
+use crate::guessing::{any_guarded, any_marked, guessed};
 use crate::judging::may_lose;
 use crate::loosening::unguarded;
 use base::{Items, Memory};
@@ -26,6 +26,12 @@ fn chosen(alloc: Global, block: &FlowBlock) -> Result<Items<bool>, Memory>
 pub fn unguard(alloc: Global, block: FlowBlock) -> Result<FlowBlock, Memory>
     ensures { IfOk result (λ g. Unguards block g) }
 {
+    if !any_guarded(block.nodes.as_slice()) {
+        return Ok(block);
+    }
     let marks = chosen(alloc, &block)?;
+    if !any_marked(marks.as_slice()) {
+        return Ok(block);
+    }
     unguarded(alloc, marks.as_slice(), block)
 }
