@@ -1,6 +1,7 @@
 /* The functions of the library, in the language that docs/LANGUAGE.md describes. bench/library makes the table of the
    crate c_library of them: a text that calls one of them gets its definition, and those that this one needs. The
-   first `_` of a name of the library's own, as `print_d`, is a `.` there, so that no text can have the name. */
+   first `_` of a name of the library's own, as `print_d`, is a `.` there, so that no text can have the name. So is that
+   of `exit_now`, which ends the run with the value of its argument: each include of `<stdio.h>` declares it. */
 
 /* stdio.h */
 
@@ -227,6 +228,13 @@ int rand(void)
 void srand(unsigned int seed)
 {
     rand_next = seed;
+}
+
+/* 7.22.4.4 */
+#include <stdio.h>
+void exit(int status)
+{
+    exit_now(status);
 }
 
 /* string.h (7.24), of arrays of char; what C17 gives back as a pointer is nothing here */

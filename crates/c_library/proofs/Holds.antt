@@ -30,12 +30,14 @@ is_wide kind.Long = true
 is_wide kind.ULong = true
 is_wide _ = false
 
--- it holds of all that this crate may add: names, keywords, punctuators, and constants below 2^31
+-- it holds of all that this crate may add: names, keywords, punctuators, constants below 2^31, and
+-- the token of an include
 pub record Allows (P : Fact) : Type 0 where
   pub name : (w : Bytes) → P (form.Name w)
   pub key : (k : Key) → P (form.Key k)
   pub mark : (m : Mark) → P (form.Mark m)
   pub number : (n : ℕ) (k : Kind) → n < 2 ^ 31 → is_wide k ≡ true → P (form.Number n k)
+  pub include : P form.Include
 
 -- it holds of tokens behind tokens
 pub each_append : (P : Fact) (xs ys : List Lexeme) → EachToken P xs → EachToken P ys → EachToken P (xs ++ ys)

@@ -3,6 +3,7 @@
 use Rattle.std.proofs.Common.{◌≡◌, ◌<◌, ℕ, ◌+◌, ◌*◌, ◌-◌, ◌%◌, Bool, true, false, cond, nat_eq, ◌&&◌, ◌||◌, not}
 use Rattle.std.proofs.Common.{List, [], ◌∷◌, ◌++◌, refl, arith, subst, sym}
 use Rattle.std.specs.Prelude.{Option, Some, None, Result, Ok, Err}
+use Rattle.std.specs.Str.{bytes_eq}
 use Rattle.c_tree.specs.declared.Form.{Form}
 use Rattle.c_tree.specs.declared.Form.TheVariants as form
 use Rattle.c_tree.specs.declared.Key.{Key}
@@ -28,7 +29,7 @@ use Rattle.c_library.specs.Formats.{printf_name, printf_definition}
 use Rattle.c_library.specs.Headers.{header_of, has_seen, same_header}
 use Rattle.c_library.specs.Library.{defined_at, header_kept, named, kept, here, placed, with_formats, with_library}
 use Rattle.c_library.specs.Places.{token, tokens}
-use Rattle.c_library.specs.Spelled.{decimal, of_these, word_form, forms_from, forms_of}
+use Rattle.c_library.specs.Spelled.{decimal, include_word, of_name, of_these, word_form, forms_from, forms_of}
 use Rattle.c_library.specs.Table.{table}
 use Rattle.c_library.specs.Walks.{start, call, past}
 use Rattle.c_library.specs.Within.{◌>>=◌, within}
@@ -45,10 +46,17 @@ decimal_below n [] h = h
 decimal_below n (b ∷ bs) h =
     decimal_below ((10 * n + (b - ascii.digit_0)) % 2147483648) bs (below (10 * n + (b - ascii.digit_0)))
 
+by_word : (P : Fact) → Allows P → (w : Bytes) (b : Bool) → P (cond b form.Include (form.Name w))
+by_word P a w true = a.include
+by_word P a w false = a.name w
+
+name_has : (P : Fact) → Allows P → (w : Bytes) → P (of_name w)
+name_has P a w = by_word P a w (bytes_eq w include_word)
+
 these_have : (P : Fact) → Allows P → (w : Bytes) (k : Option Key) (m : Option Mark) → P (of_these w k m)
 these_have P a w (Some k) m = a.key k
 these_have P a w None (Some m) = a.mark m
-these_have P a w None None = a.name w
+these_have P a w None None = name_has P a w
 
 by_digit : (P : Fact) → Allows P → (w : Bytes) (b : Bool)
     → P (cond b (form.Number (decimal 0 w) Int) (of_these w (lookup w keywords) (lookup w marks)))

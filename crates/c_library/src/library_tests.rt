@@ -3,7 +3,7 @@
 use crate::LibraryFault;
 use crate::library::with_library;
 use crate::spelled::forms_of;
-use c_tree::{Form, Lexeme};
+use c_tree::Lexeme;
 use std::alloc::{AllocError, Global};
 use std::process::Abort;
 use std::test::Fail;
@@ -39,6 +39,19 @@ const ROWS: &[(&str, &str)] = &[
         "unsigned long rand.next = 1 ; void srand ( unsigned int seed ) { rand.next = seed ; } \
          void f ( void ) { srand ( 7 ) ; }",
     ),
+    // 7.22.4.4: what ends the run is beside the functions of the include, which stands before it here too.
+    (
+        "<stdlib.h> int f ( ) { exit ( 1 ) ; }",
+        "#include void exit ( int status ) { exit.now ( status ) ; } int f ( ) { exit ( 1 ) ; }",
+    ),
+    (
+        "#include <stdlib.h> int f ( ) { exit ( 1 ) ; }",
+        "#include #include void exit ( int status ) { exit.now ( status ) ; } int f ( ) { exit ( 1 ) ; }",
+    ),
+    (
+        "<stdlib.h> void exit ( int n ) { } int f ( ) { exit ( 1 ) ; }",
+        "void exit ( int n ) { } int f ( ) { exit ( 1 ) ; }",
+    ),
     // 7.21.7.9, behind the include.
     (
         "#include <ctype.h> void f ( void ) { puts ( \"a ) ; isdigit ( 1 ) ; }",
@@ -48,29 +61,12 @@ const ROWS: &[(&str, &str)] = &[
     ),
 ];
 
-/// A token, of which the word `#include` is the include.
-fn included(form: Form) -> Form {
-    match form {
-        Form::Name(name) => {
-            if name.as_slice() == b"#include".as_slice() {
-                Form::Include
-            } else {
-                Form::Name(name)
-            }
-        }
-        other => other,
-    }
-}
-
 /// The tokens of words.
 fn tokens_of(alloc: Global, text: &str) -> Result<Vec<Lexeme>, AllocError> {
     let mut tokens = Vec::new(alloc);
     let mut offset = 0u32;
     for form in forms_of(alloc, text.as_bytes())?.into_vec() {
-        tokens.push(Lexeme {
-            offset,
-            form: included(form),
-        })?;
+        tokens.push(Lexeme { offset, form })?;
         offset = offset.wrapping_add(1);
     }
     Ok(tokens)

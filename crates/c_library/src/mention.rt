@@ -38,6 +38,7 @@ fn may_be(first: u8, second: u8) -> bool
         || ((first == b'r' || first == b'l') && second == b'a')
         || (first == b'm' && second == b'e')
         || (first == b'a' && second == b'b')
+        || (first == b'e' && second == b'x')
 }
 
 /// Does the name begin as one of the library does?

@@ -8,7 +8,7 @@ ghost use Rattle.c_library.specs.Spelled as spelled;
 
 use base::Items;
 use c_lex::{find_key, find_mark};
-use c_tree::{Form, Kind, Word};
+use c_tree::{Form, Kind, Word, same_bytes};
 use std::alloc::{AllocError, Global};
 
 /// The number with one more digit, modulo 2^31.
@@ -40,6 +40,17 @@ fn is_digit(byte: u8) -> bool
     b'0' <= byte && byte <= b'9'
 }
 
+/// The token of an include, or else the name.
+fn of_name(alloc: Global, word: &[u8]) -> Result<Form, AllocError>
+    ensures ok { IfOk result (λ form. form ≡ spelled.of_name word.now) }
+{
+    if same_bytes(word, b"#include") {
+        Ok(Form::Include)
+    } else {
+        Ok(Form::Name(Word::from_slice(alloc, word)?))
+    }
+}
+
 /// The token that a word is: a keyword, a punctuator, or else a name.
 fn of_these(alloc: Global, word: &[u8]) -> Result<Form, AllocError>
     requires some { 0 < length word.now }
@@ -51,7 +62,7 @@ fn of_these(alloc: Global, word: &[u8]) -> Result<Form, AllocError>
     } else if let Some(mark) = find_mark(word) {
         Ok(Form::Mark(mark))
     } else {
-        Ok(Form::Name(Word::from_slice(alloc, word)?))
+        of_name(alloc, word)
     }
 }
 

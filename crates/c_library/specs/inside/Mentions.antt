@@ -11,7 +11,8 @@ use Rattle.c_library.specs.Definitions.{Row}
 use Rattle.c_library.specs.Headers.{bracketed}
 use Rattle.c_library.specs.Table.{table}
 
--- does a name of the library begin with these two bytes? `is`, `to`, `pr`, `pu`, `st`, `sr`, `ra`, `la`, `me`, `ab`
+-- does a name of the library begin with these two bytes? `is`, `to`, `pr`, `pu`, `st`, `sr`, `ra`, `la`, `me`, `ab`,
+-- `ex`
 abbrev pub may_be : ℕ → ℕ → Bool
 may_be a b =
     (nat_eq a 105 && nat_eq b 115)
@@ -21,6 +22,7 @@ may_be a b =
     || ((nat_eq a 114 || nat_eq a 108) && nat_eq b 97)
     || (nat_eq a 109 && nat_eq b 101)
     || (nat_eq a 97 && nat_eq b 98)
+    || (nat_eq a 101 && nat_eq b 120)
 
 -- does the name?
 abbrev pub may_name : Bytes → Bool
