@@ -17,7 +17,8 @@ use Rattle.c_tree.specs.declared.TypedArray.{TypedArray}
 use Rattle.c_tree.specs.declared.TypedGlobal.{TypedGlobal}
 use Rattle.ir_forms.specs.inside.Frames.{frame_limit}
 use Rattle.ir_forms.specs.inside.Cells.{apply, load, save, marked}
-use Rattle.ir_forms.specs.inside.FlatSteps.{Res, Gone, Broke, Again, Gave, TooDeep, Unfinished, Wild}
+use Rattle.ir_forms.specs.inside.FlatSteps.{Res, Gone, Broke, Again, Gave, Halts, NoRoom, Exited}
+use Rattle.ir_forms.specs.inside.FlatSteps.{Unfinished, Wild}
 use Rattle.ir_forms.specs.inside.FlatRuns.{first_memory, flat_run, checked}
 use Rattle.flat_lower.specs.inside.Tree.{Expr, Number, Name, Element, Call, Unary, Cast, Convert, Bump}
 use Rattle.flat_lower.specs.inside.Tree.{Binary, Choice, Assign, Comma, Exprs, NoExprs, WithExpr, Stmt}
@@ -104,7 +105,8 @@ seen (Gone s m) = 1 ∷ []
 seen (Broke s m) = 2 ∷ []
 seen (Again s m) = 3 ∷ []
 seen (Gave v s m) = 4 ∷ value v ∷ s.output
-seen (TooDeep out) = 5 ∷ out
+seen (Halts (NoRoom out)) = 5 ∷ out
+seen (Halts (Exited w s m)) = 8 ∷ []
 seen (Unfinished out r) = 6 ∷ out
 seen Wild = 7 ∷ []
 
@@ -274,6 +276,24 @@ pub echoes : run (main [] [] (does (Call (Some Int) callee.PutChar
     (Call (Some Int) callee.GetChar NoExprs) ∷ [])) (65 ∷ []) ≡ 4 ∷ (2 ^ 64 - 1) ∷ 65 ∷ []
 unfolding flat_run frame_limit first_memory apply load save marked lowered global_at array_at
 echoes = refl
+
+-- int f(void) { putchar(65); exit(3); putchar(66); } int main(void) { return f() + 1; }
+abbrev puts : ℕ → Stmt
+puts w = does (Call (Some Int) callee.PutChar (exprs (n w ∷ [])))
+
+abbrev exits_below : Source
+exits_below = record {
+  globals = [];
+  functions =
+      func 0 [] [] (puts 65 ∷ does (Call None callee.Exit (exprs (n 3 ∷ []))) ∷ puts 66 ∷ [])
+      ∷ func 0 [] [] (gives (two op.Add (Call (Some Int) (callee.Func 0) NoExprs) (n 1)) ∷ []) ∷ [];
+  main = 1;
+}
+
+-- what stands behind exit is not done, in its function and in those that wait
+pub exit_ends_all : run exits_below [] ≡ 4 ∷ 3 ∷ 65 ∷ []
+unfolding flat_run frame_limit first_memory apply load save marked lowered global_at array_at
+exit_ends_all = refl
 
 -- CONVERSIONS AND POWERS OF TWO
 
