@@ -16,7 +16,7 @@ use crate::frame::{Frame, Operand};
 use crate::host::BUMP;
 use crate::store::{Store, scalar_of};
 use crate::words::{bump_of, bump_value};
-use c_meaning_spec::{Ending, Object};
+use c_meaning_spec::{Ending, Halt, Object};
 use c_tree::{BumpOp, Kind, Place, TypedExpr, TypedNode, TypedProgram};
 
 impl<'a> Store<'a> {
@@ -34,24 +34,24 @@ impl<'a> Store<'a> {
     {
         match object {
             None => {
-                self.stop = Stop::Fails(Ending::Undefined);
+                self.stop = Stop::Fails(Halt::Ends(Ending::Undefined));
                 None
             },
             Some(object) => match self.load(object) {
                 None => {
-                    self.stop = Stop::Fails(Ending::Undefined);
+                    self.stop = Stop::Fails(Halt::Ends(Ending::Undefined));
                     None
                 },
                 Some(old) => match bump_of(op, kind, old) {
                     None => {
-                        self.stop = Stop::Fails(Ending::Undefined);
+                        self.stop = Stop::Fails(Halt::Ends(Ending::Undefined));
                         None
                     },
                     Some(new) => {
                         if self.set(object, new) {
                             Some(bump_value(op, old, new))
                         } else {
-                            self.stop = Stop::Fails(Ending::Undefined);
+                            self.stop = Stop::Fails(Halt::Ends(Ending::Undefined));
                             None
                         }
                     }
@@ -109,7 +109,7 @@ impl<'a> Store<'a> {
             None => self.bump_other(program, op, kind, Place::Scalar(i)),
             Some(old) => match bump_of(op, kind, old) {
                 None => {
-                    self.stop = Stop::Fails(Ending::Undefined);
+                    self.stop = Stop::Fails(Halt::Ends(Ending::Undefined));
                     None
                 }
                 Some(new) => {
@@ -146,7 +146,7 @@ impl<'a> Store<'a> {
                 }
             },
             _ => {
-                self.stop = Stop::Fails(Ending::Undefined);
+                self.stop = Stop::Fails(Halt::Ends(Ending::Undefined));
                 None
             },
         }

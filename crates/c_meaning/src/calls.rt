@@ -19,7 +19,7 @@ use crate::host::CALL;
 use crate::scalars::Scalars;
 use crate::store::Store;
 use base::Boxed;
-use c_meaning_spec::{Ending, Signal};
+use c_meaning_spec::{Ending, Halt, Signal};
 use c_tree::{Callee, MOST_FRAME_BYTES, TypedExpr, TypedFunc, TypedProgram};
 use std::alloc::AllocError;
 
@@ -130,7 +130,7 @@ impl<'a> Store<'a> {
             (called (meaning program.now) program.now callee done (view self.old)) self.new result }
     {
         if self.stock == 0 {
-            self.stop = Stop::Fails(Ending::More);
+            self.stop = Stop::Fails(Halt::Ends(Ending::More));
             return None;
         }
         self.stock -= 1;
@@ -142,6 +142,7 @@ impl<'a> Store<'a> {
             }
             Callee::GetChar => self.next_char(program, list),
             Callee::PutChar => self.put_char(program, list),
+            Callee::Exit => self.exit(program, list),
         }
     }
 
@@ -161,17 +162,17 @@ impl<'a> Store<'a> {
     {
         match f {
             None => {
-                self.stop = Stop::Fails(Ending::Undefined);
+                self.stop = Stop::Fails(Halt::Ends(Ending::Undefined));
                 None
             },
             Some(f) => {
                 if list.len() != f.params as usize {
-                    self.stop = Stop::Fails(Ending::Undefined);
+                    self.stop = Stop::Fails(Halt::Ends(Ending::Undefined));
                     return None;
                 }
                 match room_with(self.room, f) {
                     None => {
-                        self.stop = Stop::Fails(Ending::Deep);
+                        self.stop = Stop::Fails(Halt::Ends(Ending::Deep));
                         None
                     },
                     Some(room) => { self.begin_with(program, is_main, f, list, room, depth) }
@@ -247,7 +248,7 @@ impl<'a> Store<'a> {
                 }
             }
             _ => {
-                self.stop = Stop::Fails(Ending::Undefined);
+                self.stop = Stop::Fails(Halt::Ends(Ending::Undefined));
                 None
             }
         }
@@ -388,7 +389,7 @@ impl<'a> Store<'a> {
                 }
             }
             _ => {
-                self.stop = Stop::Fails(Ending::Undefined);
+                self.stop = Stop::Fails(Halt::Ends(Ending::Undefined));
                 None
             }
         }

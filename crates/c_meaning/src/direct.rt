@@ -14,7 +14,7 @@ ghost use Rattle.c_meaning.specs.inside.Direct.{Stopped, Values, Runs, Turned};
 
 use crate::frame::{Frame, Loop};
 use crate::store::Store;
-use c_meaning_spec::{Ending, Object};
+use c_meaning_spec::{Ending, Halt, Object};
 use c_tree::{TypedExpr, TypedProgram, TypedStmt};
 use std::alloc::AllocError;
 
@@ -23,7 +23,7 @@ use std::alloc::AllocError;
 /// these frames, or there is no memory.
 #[derive(Clone, Copy)]
 pub enum Stop<'a> {
-    Fails(Ending),
+    Fails(Halt),
     AtExpr(&'a TypedExpr),
     AtStmt(&'a TypedStmt),
     Gave,
@@ -173,7 +173,7 @@ impl<'a> Store<'a> {
         match word {
             Some(w) => Some(w),
             None => {
-                self.stop = Stop::Fails(Ending::Undefined);
+                self.stop = Stop::Fails(Halt::Ends(Ending::Undefined));
                 None
             }
         }
@@ -187,7 +187,7 @@ impl<'a> Store<'a> {
     {
         match object {
             None => {
-                self.stop = Stop::Fails(Ending::Undefined);
+                self.stop = Stop::Fails(Halt::Ends(Ending::Undefined));
                 None
             }
             Some(object) => {
@@ -205,7 +205,7 @@ impl<'a> Store<'a> {
         if self.set(object, w) {
             Some(w)
         } else {
-            self.stop = Stop::Fails(Ending::Undefined);
+            self.stop = Stop::Fails(Halt::Ends(Ending::Undefined));
             None
         }
     }

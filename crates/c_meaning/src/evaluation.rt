@@ -21,7 +21,7 @@ use crate::outcome::Outcome;
 use crate::scalars::Scalars;
 use crate::store::Store;
 use base::{Items, Memory};
-use c_meaning_spec::{Ending, Signal};
+use c_meaning_spec::{Ending, Halt, Signal};
 use c_tree::{Callee, TypedProgram};
 use std::alloc::{AllocError, Global};
 
@@ -194,7 +194,7 @@ fn ended(now: Move, store: Store, n: u64) -> Result<Outcome, AllocError>
         → o ≡ answer (outcome n r)) }
 {
     match now {
-        Move::Give(Signal::Value(w)) => {
+        Move::Give(Signal::Value(w)) | Move::End(Halt::Exits(w)) => {
             let steps = n.saturating_sub(store.stock);
             Ok(Outcome::Done {
                 output: Items::from_vec(store.output),
@@ -203,9 +203,9 @@ fn ended(now: Move, store: Store, n: u64) -> Result<Outcome, AllocError>
             })
         }
         Move::Give(_) => Ok(Outcome::Undefined),
-        Move::End(Ending::More) => Ok(Outcome::More),
-        Move::End(Ending::Undefined) => Ok(Outcome::Undefined),
-        Move::End(Ending::Deep) => Ok(Outcome::Deep),
+        Move::End(Halt::Ends(Ending::More)) => Ok(Outcome::More),
+        Move::End(Halt::Ends(Ending::Undefined)) => Ok(Outcome::Undefined),
+        Move::End(Halt::Ends(Ending::Deep)) => Ok(Outcome::Deep),
         Move::Do(_) => Err(AllocError),
     }
 }

@@ -1,7 +1,7 @@
 use crate::arguments::Arguments;
 use crate::scalars::Scalars;
 use base::Boxed;
-use c_meaning_spec::{Ending, Object, Signal};
+use c_meaning_spec::{Halt, Object, Signal};
 use c_tree::{BinaryOp, BumpOp, Callee, Kind, Place, TypedExpr, TypedSection, TypedStmt, UnaryOp};
 
 /// A loop from its test on.
@@ -159,5 +159,5 @@ pub enum Frame<'a> {
 pub enum Move<'a> {
     Do(Task<'a>),
     Give(Signal),
-    End(Ending),
+    End(Halt),
 }

@@ -17,7 +17,7 @@ use crate::direct::Stop;
 use crate::host::OPERATION;
 use crate::store::{Store, scalar_of};
 use crate::words::compound_of;
-use c_meaning_spec::{Ending, Object};
+use c_meaning_spec::{Ending, Halt, Object};
 use c_tree::{BinaryOp, Kind, Place, TypedExpr, TypedNode, TypedProgram};
 
 impl<'a> Store<'a> {
@@ -53,7 +53,7 @@ impl<'a> Store<'a> {
     {
         match word {
             None => {
-                self.stop = Stop::Fails(Ending::Undefined);
+                self.stop = Stop::Fails(Halt::Ends(Ending::Undefined));
                 None
             },
             Some(w) => self.put(program, object, w),
@@ -89,7 +89,7 @@ impl<'a> Store<'a> {
                 }
             },
             _ => {
-                self.stop = Stop::Fails(Ending::Undefined);
+                self.stop = Stop::Fails(Halt::Ends(Ending::Undefined));
                 None
             },
         }
@@ -140,7 +140,7 @@ impl<'a> Store<'a> {
         match op {
             None => match self.array_of(place) {
                 None => {
-                    self.stop = Stop::Fails(Ending::Undefined);
+                    self.stop = Stop::Fails(Halt::Ends(Ending::Undefined));
                     None
                 }
                 Some(array) => self.assign_in_array(program, array, w, right, depth),
@@ -299,14 +299,14 @@ impl<'a> Store<'a> {
         let depth = depth.saturating_sub(OPERATION);
         match object {
             None => {
-                self.stop = Stop::Fails(Ending::Undefined);
+                self.stop = Stop::Fails(Halt::Ends(Ending::Undefined));
                 None
             },
             Some(object) => match op {
                 None => self.assign_object(program, object, right, depth),
                 Some(op) => match self.load(object) {
                     None => {
-                        self.stop = Stop::Fails(Ending::Undefined);
+                        self.stop = Stop::Fails(Halt::Ends(Ending::Undefined));
                         None
                     },
                     Some(old) => match self.value_of(program, right, depth) {

@@ -1,14 +1,15 @@
-//! `getchar` and `putchar`, which are done at once.
+//! `getchar`, `putchar` and `exit`, which are done at once.
 
 ghost use Rattle.std.specs.Prelude.{◌≡◌, ◌∷◌, [], List, ℕ, map, Some};
-ghost use Rattle.c_meaning_spec.specs.Call.{get_char as get_char_of, put_char as put_char_of, read_from};
+ghost use Rattle.c_meaning_spec.specs.Call.{exit_with, get_char as get_char_of, put_char as put_char_of};
+ghost use Rattle.c_meaning_spec.specs.Call.{read_from};
 ghost use Rattle.c_meaning.specs.inside.View.{view};
 ghost use Rattle.c_meaning.specs.inside.Direct.{Values};
 
 use crate::direct::Stop;
 use crate::scalars::Scalars;
 use crate::store::Store;
-use c_meaning_spec::Ending;
+use c_meaning_spec::{Ending, Halt};
 use c_tree::TypedProgram;
 
 impl<'a> Store<'a> {
@@ -22,7 +23,7 @@ impl<'a> Store<'a> {
         if done.len() == 0 {
             self.next_byte(program)
         } else {
-            self.stop = Stop::Fails(Ending::Undefined);
+            self.stop = Stop::Fails(Halt::Ends(Ending::Undefined));
             None
         }
     }
@@ -64,9 +65,24 @@ impl<'a> Store<'a> {
         match done.only() {
             Some(w) => self.put_byte(program, w),
             None => {
-                self.stop = Stop::Fails(Ending::Undefined);
+                self.stop = Stop::Fails(Halt::Ends(Ending::Undefined));
                 None
             },
         }
+    }
+
+    /// `exit` ends the evaluation with its argument.
+    #[inline(never)]
+    #[tactic(auto, using(crate::proofs::InPlace::exit_alone, crate::proofs::InPlace::exit_other))]
+    pub fn exit(&mut self, program: &'a TypedProgram, done: &Scalars) -> Option<u64>
+        ensures { (ws : List ℕ) → done.now ≡ map Some ws
+            → Values program.now (exit_with ws (view self.old)) self.new result }
+    {
+        let why = match done.only() {
+            Some(w) => Halt::Exits(w),
+            None => Halt::Ends(Ending::Undefined),
+        };
+        self.stop = Stop::Fails(why);
+        None
     }
 }

@@ -13,7 +13,7 @@ ghost use Rattle.c_meaning.specs.inside.Direct.{Values};
 use crate::direct::Stop;
 use crate::host::OPERATION;
 use crate::store::Store;
-use c_meaning_spec::Ending;
+use c_meaning_spec::{Ending, Halt};
 use c_tree::{BinaryOp, Kind, Place, TypedExpr, TypedProgram};
 
 impl<'a> Store<'a> {
@@ -92,7 +92,7 @@ impl<'a> Store<'a> {
         match op {
             None => match self.array_of(place) {
                 None => {
-                    self.stop = Stop::Fails(Ending::Undefined);
+                    self.stop = Stop::Fails(Halt::Ends(Ending::Undefined));
                     None
                 }
                 Some(array) => {

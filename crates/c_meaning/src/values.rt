@@ -17,7 +17,7 @@ use crate::host::{EXPRESSION, OPERATION};
 use crate::store::Store;
 use crate::words::unary_of;
 use c_constant::convert;
-use c_meaning_spec::{Ending, Object, Signal};
+use c_meaning_spec::{Ending, Halt, Object, Signal};
 use c_tree::{Kind, Place, TypedExpr, TypedNode, TypedProgram, UnaryOp};
 
 // Whether a global is an array.
@@ -58,7 +58,7 @@ impl<'a> Store<'a> {
         ensures { Values program.now (spend (view self.old) (λ u. Go (Signal.Value w) u)) self.new result }
     {
         if self.stock == 0 {
-            self.stop = Stop::Fails(Ending::More);
+            self.stop = Stop::Fails(Halt::Ends(Ending::More));
             None
         } else {
             self.stock -= 1;
@@ -73,7 +73,7 @@ impl<'a> Store<'a> {
             self.new result }
     {
         if self.stock == 0 {
-            self.stop = Stop::Fails(Ending::More);
+            self.stop = Stop::Fails(Halt::Ends(Ending::More));
             None
         } else {
             self.stock -= 1;
@@ -180,7 +180,7 @@ impl<'a> Store<'a> {
     {
         if self.stock == 0 {
             {
-                self.stop = Stop::Fails(Ending::More);
+                self.stop = Stop::Fails(Halt::Ends(Ending::More));
                 None
             }
         } else {
@@ -209,7 +209,7 @@ impl<'a> Store<'a> {
             TypedNode::Unary { op, e } => self.unary_value(program, *op, e.get(), depth),
             TypedNode::Cast { to, e } => self.cast_value(program, *to, e.get(), depth),
             TypedNode::Convert { to: _, e: _ } => {
-                self.stop = Stop::Fails(Ending::Undefined);
+                self.stop = Stop::Fails(Halt::Ends(Ending::Undefined));
                 None
             }
             TypedNode::Bump { op, e } => self.bump_value(program, *op, e.get(), depth),

@@ -7,7 +7,7 @@ use Rattle.c_tree.specs.declared.BinaryOp.TheVariants.{LogicalOr, LogicalAnd}
 use Rattle.c_tree.specs.declared.BumpOp.{BumpOp}
 use Rattle.c_tree.specs.declared.Place.{Place}
 use Rattle.c_tree.specs.declared.Callee.{Callee}
-use Rattle.c_tree.specs.declared.Callee.TheVariants.{Func, GetChar, PutChar}
+use Rattle.c_tree.specs.declared.Callee.TheVariants.{Func, GetChar, PutChar, Exit}
 use Rattle.c_tree.specs.declared.TypedExpr.{TypedExpr}
 use Rattle.c_tree.specs.declared.TypedNode.TheOpen.{Number, Name, Element, Call, Unary, Cast, Convert}
 use Rattle.c_tree.specs.declared.TypedNode.TheOpen.{Bump, Binary, Choice, Assign, Comma}
@@ -27,7 +27,8 @@ use Rattle.c_meaning_spec.specs.Expression.{after_left, after_and, after_or, bin
 use Rattle.c_meaning_spec.specs.Expression.{after_comma, assign_to, assign_element, assign, bump}
 use Rattle.c_meaning_spec.specs.Expression.{opened, node, expression, assign_row, assign_after_row}
 use Rattle.c_meaning_spec.specs.Expression.{bump_after_row}
-use Rattle.c_meaning_spec.proofs.Puts.{Puts, p-element, p-left, p-get_char, p-put_char, p-row_element}
+use Rattle.c_meaning_spec.proofs.Puts.{Puts, p-element, p-left, p-get_char, p-put_char, p-exit}
+use Rattle.c_meaning_spec.proofs.Puts.{p-row_element}
 use Rattle.c_meaning_spec.proofs.ExpressionsPut.{p-enter, p-argument, p-converting, p-unary, p-operated}
 use Rattle.c_meaning_spec.proofs.ExpressionsPut.{p-after_left, p-truth, p-after_and, p-after_or}
 use Rattle.c_meaning_spec.proofs.ExpressionsPut.{p-valued, p-after_choice, p-after_comma, p-assigned}
@@ -39,7 +40,7 @@ use Rattle.c_meaning_spec.proofs.Grows.{g-name, g-undefined, g-go, g-row_element
 use Rattle.c_meaning_spec.proofs.Grows.{g-bump_element, g-bump_object, g-some, g-bump_row}
 use Rattle.c_meaning_spec.proofs.Grows.{g-row_element_of, g-element_of, g-compounded, g-assigned}
 use Rattle.c_meaning_spec.proofs.Grows.{g-held, g-valued, g-cond, g-truth, g-operated, g-put_char}
-use Rattle.c_meaning_spec.proofs.Grows.{g-get_char, g-returned}
+use Rattle.c_meaning_spec.proofs.Grows.{g-get_char, g-exit, g-returned}
 
 -- where the parts grow below n steps
 
@@ -88,6 +89,7 @@ module _ (d n : ℕ) (rec rec' : Parts) (below : (t : Task) (s : State) → s.st
       (p-get_char done)
   g-called P PutChar done s h = g-spend d n s _ _ h (λ s h. g-put_char d n done s h)
       (p-put_char done)
+  g-called P Exit done s h = g-spend d n s _ _ h (λ s h. g-exit d n done s) (p-exit done)
 
   g-arguments : (P : TypedProgram) (f : Callee) (es : List TypedExpr) (done : List ℕ) (s : State)
       → s.stock < n → Grew d n (arguments rec P f es done s) (arguments rec' P f es done (more d s))

@@ -8,7 +8,7 @@ use Rattle.c_tree.specs.declared.UnaryOp.{UnaryOp}
 use Rattle.c_tree.specs.declared.BumpOp.{BumpOp}
 use Rattle.c_tree.specs.declared.Place.{Place}
 use Rattle.c_tree.specs.declared.Callee.{Callee}
-use Rattle.c_tree.specs.declared.Callee.TheVariants.{Func, GetChar, PutChar}
+use Rattle.c_tree.specs.declared.Callee.TheVariants.{Func, GetChar, PutChar, Exit}
 use Rattle.c_tree.specs.declared.TypedExpr.{TypedExpr}
 use Rattle.c_tree.specs.declared.TypedNode.TheOpen.{Number, Name, Element, Call, Unary, Cast, Convert}
 use Rattle.c_tree.specs.declared.TypedNode.TheOpen.{Bump, Binary, Choice, Assign, Comma}
@@ -17,6 +17,7 @@ use Rattle.c_tree.specs.declared.TypedFunc.{TypedFunc}
 use Rattle.c_tree.specs.declared.TypedProgram.{TypedProgram}
 use Rattle.c_meaning_spec.specs.declared.signal.Signal.{Signal}
 use Rattle.c_meaning_spec.specs.declared.signal.Ending.TheVariants.{Undefined, Deep}
+use Rattle.c_meaning_spec.specs.declared.signal.Halt.TheVariants.{Ends}
 use Rattle.c_meaning_spec.specs.declared.signal.Object.{Object}
 use Rattle.c_meaning_spec.specs.State.{State, Result, want}
 use Rattle.c_meaning_spec.specs.inside.State.{then}
@@ -34,7 +35,7 @@ use Rattle.c_meaning_spec.specs.Expression.{expression, assign_row, assign_after
 use Rattle.c_meaning_spec.specs.Expression.{bump_after_row}
 use Rattle.c_meaning_spec.proofs.Puts.{Puts, p-go, p-over, p-then, p-want, p-some, p-cond, p-spend}
 use Rattle.c_meaning_spec.proofs.Puts.{p-given, p-store, p-name, p-element, p-row_element, p-left}
-use Rattle.c_meaning_spec.proofs.Puts.{p-get_char, p-put_char}
+use Rattle.c_meaning_spec.proofs.Puts.{p-get_char, p-put_char, p-exit, p-exit}
 
 -- where the parts take nothing back
 
@@ -55,14 +56,14 @@ module _ (rec : Parts) (below : (t : Task) (s : State) → Puts s.output s.stock
       → Puts s.output s.stock (entered_if rec is_main fits f done s)
   p-entered_if is_main fits f done s =
       p-cond fits s.output s.stock _ _ (p-run f.body (entered f done s) _
-      (p-left is_main s.scalars (length s.arrays) s.base s.room)) (p-over Deep s)
+      (p-left is_main s.scalars (length s.arrays) s.base s.room)) (p-over (Ends Deep) s)
 
   -- entering a function takes nothing back where its body does not
   pub p-enter : (is_main : Bool) (f : Option TypedFunc) (done : List ℕ) (s : State)
       → Puts s.output s.stock (enter rec is_main f done s)
-  p-enter is_main None done s = p-over Undefined s
+  p-enter is_main None done s = p-over (Ends Undefined) s
   p-enter is_main (Some f) done s = p-cond (nat_eq (length done) f.params) s.output s.stock _ _
-      (p-entered_if is_main _ f done s) (p-over Undefined s)
+      (p-entered_if is_main _ f done s) (p-over (Ends Undefined) s)
 
   -- a call of what is called takes nothing back where the parts do not
   pub p-called : (P : TypedProgram) (f : Callee) (done : List ℕ) (s : State)
@@ -71,6 +72,7 @@ module _ (rec : Parts) (below : (t : Task) (s : State) → Puts s.output s.stock
       p-spend s _ (λ u. p-enter (nat_eq f P.main) (slice_get P.functions f) done u)
   p-called P GetChar done s = p-spend s _ (λ u. p-get_char done u)
   p-called P PutChar done s = p-spend s _ (λ u. p-put_char done u)
+  p-called P Exit done s = p-spend s _ (λ u. p-exit done u)
 
   -- the arguments of a call, and the call behind them, take nothing back where the parts do not
   pub p-arguments : (P : TypedProgram) (f : Callee) (es : List TypedExpr) (done : List ℕ)
@@ -187,7 +189,7 @@ module _ (rec : Parts) (below : (t : Task) (s : State) → Puts s.output s.stock
   p-assign op to at (Element p None index) r s = p-of index s _ (p-assign_element op to at p r)
   p-assign op to at (Element p (Some row) index) r s =
       p-of row s _ (p-assign_after_row op to at p index r)
-  p-assign op to at _ r s = p-over Undefined s
+  p-assign op to at _ r s = p-over (Ends Undefined) s
 
   -- a value that is given takes nothing back
   pub p-giving : (w : ℕ) (v : Signal) (s : State) → Puts s.output s.stock (giving w v s)
@@ -222,7 +224,7 @@ module _ (rec : Parts) (below : (t : Task) (s : State) → Puts s.output s.stock
   p-bump op k (Name p) s = p-some (scalar_of p) s _ (λ x. p-bump_object op k s x)
   p-bump op k (Element p None index) s = p-of index s _ (p-bump_element op k p)
   p-bump op k (Element p (Some row) index) s = p-of row s _ (p-bump_after_row op k p index)
-  p-bump op k _ s = p-over Undefined s
+  p-bump op k _ s = p-over (Ends Undefined) s
 
   -- an element of a row that is read takes nothing back, from its first index on
   pub p-after_row : (p : Place) (index : TypedExpr) (v : Signal) (s : State)
@@ -239,7 +241,7 @@ module _ (rec : Parts) (below : (t : Task) (s : State) → Puts s.output s.stock
   p-opened P (Call f args) s = p-arguments P f args [] s
   p-opened P (Unary op e) s = p-of e s _ (p-unary op e.kind)
   p-opened P (Cast to e) s = p-of e s _ (p-converting to)
-  p-opened P (Convert to e) s = p-over Undefined s
+  p-opened P (Convert to e) s = p-over (Ends Undefined) s
   p-opened P (Bump op e) s = p-bump op e.kind (node_of e) s
   p-opened P (Binary op l r) s = p-binary op l r s
   p-opened P (Choice t a b) s = p-of t s _ (p-after_choice a b)

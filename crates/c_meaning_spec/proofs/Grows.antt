@@ -13,6 +13,7 @@ use Rattle.c_tree.specs.declared.TypedProgram.{TypedProgram}
 use Rattle.c_meaning_spec.specs.declared.signal.Signal.{Signal}
 use Rattle.c_meaning_spec.specs.declared.signal.Signal.TheVariants.{Nothing, Value, Breaks, Returns}
 use Rattle.c_meaning_spec.specs.declared.signal.Ending.TheVariants.{More, Undefined, Deep}
+use Rattle.c_meaning_spec.specs.declared.signal.Halt.TheVariants.{Ends, Exits}
 use Rattle.c_meaning_spec.specs.declared.signal.Object.{Object}
 use Rattle.c_meaning_spec.specs.declared.signal.Object.TheVariants.{InScalar, InArray}
 use Rattle.c_meaning_spec.specs.State.{State, Result, Go, Over, spend, spend_of, want, with_some}
@@ -22,7 +23,7 @@ use Rattle.c_meaning_spec.specs.inside.Output.{output_of, IsPrefix}
 use Rattle.c_meaning_spec.specs.Word.{compound_of, bump_of}
 use Rattle.c_meaning_spec.specs.Task.{element_in, element_of, is_array, name, element, row_element_in}
 use Rattle.c_meaning_spec.specs.Task.{row_element_of, row_element}
-use Rattle.c_meaning_spec.specs.Call.{returned, read_from, get_char, put_char}
+use Rattle.c_meaning_spec.specs.Call.{returned, read_from, get_char, put_char, exit_with}
 use Rattle.c_meaning_spec.specs.Expression.{converting, unary, operated, truth, valued, assigned}
 use Rattle.c_meaning_spec.specs.Expression.{compounded, bump_object, bump_element, bump_row}
 use Rattle.c_meaning_spec.specs.Statement.{dropped, unset_row, returning, after_sections}
@@ -32,16 +33,17 @@ use Rattle.c_meaning_spec.proofs.Puts.{Puts, stock_of, same-prefix, prefix-prefi
 abbrev pub more : ℕ → State → State
 more d s = record s { stock = s.stock + d }
 
--- what goes on has less than d steps left
+-- what goes on, or ends by exit, has less than d steps left
 abbrev pub Within : ℕ → Result → Type 0
 Within d (Go v s) = s.stock < d
-Within d (Over why s) = Unit {0}
+Within d (Over (Exits w) s) = s.stock < d
+Within d (Over (Ends why) s) = Unit {0}
 
 -- r' is r with d more steps, and r leaves fewer than n steps; what needs more steps puts out no
 -- less with them, and leaves fewer than d of them
 abbrev pub Grows : ℕ → ℕ → Result → Result → Type 0
 Grows d n (Go v s) r' = (r' ≡ Go v (more d s)) × (s.stock < n)
-Grows d n (Over More s) r' = (d ≡ 0 → r' ≡ Over More (more d s)) × IsPrefix s.output (output_of r')
+Grows d n (Over (Ends More) s) r' = (d ≡ 0 → r' ≡ Over (Ends More) (more d s)) × IsPrefix s.output (output_of r')
     × Within d r'
 Grows d n (Over why s) r' = r' ≡ Over why (more d s)
 
@@ -51,11 +53,13 @@ pub record Grew (d n : ℕ) (r r' : Result) : Type 0 where
 
 within-less : (d k : ℕ) (r : Result) → k < d → stock_of r ≤ k → Within d r
 within-less d k (Go v s) h g = omega arith
-within-less d k (Over why s) h g = tt
+within-less d k (Over (Exits w) s) h g = omega arith
+within-less d k (Over (Ends why) s) h g = tt
 
 within-then : (d : ℕ) (r : Result) (f : Signal → State → Result) → Within d r
     → ((v : Signal) (u : State) → Puts u.output u.stock (f v u)) → Within d (then r f)
-within-then d (Over why s) f h p = tt
+within-then d (Over (Exits w) s) f h p = h
+within-then d (Over (Ends why) s) f h p = tt
 within-then d (Go v s) f h p = within-less d s.stock (f v s) h (p v s).spends
 
 within-spent : (d k : ℕ) (s : State) (f : State → Result) → k ≡ d
@@ -76,7 +80,7 @@ prefix-then : (out : List ℕ) (r : Result) (f : Signal → State → Result) �
 prefix-then out (Go v s) f h p = prefix-prefix out s.output (output_of (f v s)) h (p v s).puts
 prefix-then out (Over why s) f h p = h
 
-none_left : (k : ℕ) (s : State) (f : State → Result) → k ≡ 0 → spend_of k s f ≡ Over More s
+none_left : (k : ℕ) (s : State) (f : State → Result) → k ≡ 0 → spend_of k s f ≡ Over (Ends More) s
 none_left zero s f e = refl
 none_left (suc k) s f e = cc
 
@@ -86,7 +90,7 @@ module _ (d n : ℕ) where
   g-go v s h = record { grows = (refl, h) }
 
   -- what has no meaning grows
-  pub g-undefined : (s : State) → Grew d n (Over Undefined s) (Over Undefined (more d s))
+  pub g-undefined : (s : State) → Grew d n (Over (Ends Undefined) s) (Over (Ends Undefined) (more d s))
   g-undefined s = record { grows = refl }
 
   -- a result and what follows it grow where both do
@@ -94,15 +98,16 @@ module _ (d n : ℕ) where
       → ((v : Signal) (s : State) → s.stock < n → Grew d n (f v s) (f' v (more d s)))
       → ((v : Signal) (u : State) → Puts u.output u.stock (f' v u)) → Grew d n (then r f) (then r' f')
   g-then (Go v s) r' f f' g h p = rw g.grows.0 (h v s g.grows.1)
-  g-then (Over More s) r' f f' g h p = record {
+  g-then (Over (Ends More) s) r' f f' g h p = record {
     grows = (
       λ e. ap (λ r. then r f') (g.grows.0 e),
       prefix-then s.output r' f' g.grows.1 p,
       within-then d r' f' g.grows.2 p,
     );
   }
-  g-then (Over Undefined s) r' f f' g h p = record { grows = ap (λ r. then r f') g.grows }
-  g-then (Over Deep s) r' f f' g h p = record { grows = ap (λ r. then r f') g.grows }
+  g-then (Over (Ends Undefined) s) r' f f' g h p = record { grows = ap (λ r. then r f') g.grows }
+  g-then (Over (Ends Deep) s) r' f f' g h p = record { grows = ap (λ r. then r f') g.grows }
+  g-then (Over (Exits w) s) r' f f' g h p = record { grows = ap (λ r. then r f') g.grows }
 
   -- what is done with a value that is wanted grows where it does for every value
   pub g-want : (v : Signal) (s : State) (f f' : ℕ → Result) → ((w : ℕ) → Grew d n (f w) (f' w))
@@ -244,6 +249,12 @@ module _ (d n : ℕ) where
   g-put_char (w ∷ []) s h = g-go _ (record s { output = s.output ++ (w % 256) ∷ [] }) h
   g-put_char [] s h = g-undefined s
   g-put_char (w ∷ x ∷ rest) s h = g-undefined s
+
+  -- a call of `exit` grows
+  pub g-exit : (done : List ℕ) (s : State) → Grew d n (exit_with done s) (exit_with done (more d s))
+  g-exit (w ∷ []) s = record { grows = refl }
+  g-exit [] s = g-undefined s
+  g-exit (w ∷ x ∷ rest) s = g-undefined s
 
   -- a conversion grows
   pub g-converting : (to : Kind) (v : Signal) (s : State) → s.stock < n

@@ -7,8 +7,9 @@ use Rattle.c_tree.specs.declared.Place.TheVariants as place
 use Rattle.c_tree.specs.declared.TypedProgram.{TypedProgram}
 use Rattle.c_meaning_spec.specs.declared.signal.Signal.{Signal}
 use Rattle.c_meaning_spec.specs.declared.signal.Signal.TheVariants.{Nothing, Value, Breaks, Returns}
-use Rattle.c_meaning_spec.specs.declared.signal.Ending.{Ending}
 use Rattle.c_meaning_spec.specs.declared.signal.Ending.TheVariants.{More, Undefined}
+use Rattle.c_meaning_spec.specs.declared.signal.Halt.{Halt}
+use Rattle.c_meaning_spec.specs.declared.signal.Halt.TheVariants.{Ends, Exits}
 use Rattle.c_meaning_spec.specs.declared.signal.Object.{Object}
 use Rattle.c_meaning_spec.specs.declared.signal.Object.TheVariants.{InScalar, InArray}
 use Rattle.c_meaning_spec.specs.State.{State, Result, Go, Over, spend, spend_of, want, with_some}
@@ -16,7 +17,7 @@ use Rattle.c_meaning_spec.specs.inside.State.{then}
 use Rattle.c_meaning_spec.specs.State.{given, cell, held, written, load, store, store_in}
 use Rattle.c_meaning_spec.specs.inside.Output.{output_of, IsPrefix}
 use Rattle.c_meaning_spec.specs.Task.{element_of, is_array, name, element, row_element_of, row_element}
-use Rattle.c_meaning_spec.specs.Call.{returned, left, read_from, get_char, put_char}
+use Rattle.c_meaning_spec.specs.Call.{returned, left, read_from, get_char, put_char, exit_with}
 use Rattle.c_meaning_spec.specs.Statement.{after_sections, compared_by}
 
 -- the steps that a result leaves
@@ -45,7 +46,7 @@ pub p-go : (v : Signal) (s : State) → Puts s.output s.stock (Go v s)
 p-go v s = record { puts = same-prefix s.output; spends = omega arith }
 
 -- what ends as it is takes nothing back
-pub p-over : (why : Ending) (s : State) → Puts s.output s.stock (Over why s)
+pub p-over : (why : Halt) (s : State) → Puts s.output s.stock (Over why s)
 p-over why s = record { puts = same-prefix s.output; spends = omega arith }
 
 -- what follows a result takes nothing back where the result and all that may follow it do not
@@ -63,12 +64,12 @@ p-then out n (Over why s) f h g = record { puts = h.puts; spends = h.spends }
 pub p-want : (v : Signal) (s : State) (f : ℕ → Result) → ((w : ℕ) → Puts s.output s.stock (f w))
     → Puts s.output s.stock (want v s f)
 p-want (Value w) s f h = h w
-p-want _ s f h = p-over Undefined s
+p-want _ s f h = p-over (Ends Undefined) s
 
 -- what is done with what may be there takes nothing back where it does not for anything
 pub p-some : {A : Type 0} (o : Option A) (s : State) (f : A → Result)
     → ((x : A) → Puts s.output s.stock (f x)) → Puts s.output s.stock (with_some o s f)
-p-some None s f h = p-over Undefined s
+p-some None s f h = p-over (Ends Undefined) s
 p-some (Some x) s f h = h x
 
 -- a choice takes nothing back where neither leg does
@@ -77,7 +78,7 @@ pub p-cond : (b : Bool) (out : List ℕ) (n : ℕ) (r q : Result) → Puts out n
 p-cond true out n r q h g = h
 p-cond false out n r q h g = g
 
-p-over_none : (k : ℕ) (s : State) → k ≡ s.stock → Puts s.output k (Over More s)
+p-over_none : (k : ℕ) (s : State) → k ≡ s.stock → Puts s.output k (Over (Ends More) s)
 p-over_none k s e = record { puts = same-prefix s.output; spends = omega arith }
 
 -- what runs behind a step takes nothing back where it does not, by the steps that are left
@@ -105,7 +106,7 @@ p-load x s = p-given (held (cell s x)) s
 
 p-store_in : (c : Option (Option ℕ)) (s : State) (x : Object) (w : ℕ)
     → Puts s.output s.stock (store_in c s x w)
-p-store_in None s x w = p-over Undefined s
+p-store_in None s x w = p-over (Ends Undefined) s
 p-store_in (Some c) s (InScalar i) w = p-go _ (written s (InScalar i) (Some w))
 p-store_in (Some c) s (InArray a i) w = p-go _ (written s (InArray a i) (Some w))
 
@@ -153,7 +154,7 @@ p-returned : (is_main : Bool) (v : Signal) (s : State)
 p-returned is_main (Returns (Some w)) s = p-go _ s
 p-returned is_main (Returns None) s = p-go _ s
 p-returned is_main Nothing s = p-go _ s
-p-returned is_main _ s = p-over Undefined s
+p-returned is_main _ s = p-over (Ends Undefined) s
 
 -- leaving a function takes nothing back
 pub p-left : (is_main : Bool) (scalars : List (Option ℕ)) (count base room : ℕ) (v : Signal)
@@ -167,7 +168,7 @@ p-read (b ∷ rest) s = p-go _ (record s { input = rest })
 -- a call of `getchar` takes nothing back
 pub p-get_char : (done : List ℕ) (s : State) → Puts s.output s.stock (get_char done s)
 p-get_char [] s = p-read s.input s
-p-get_char (w ∷ rest) s = p-over Undefined s
+p-get_char (w ∷ rest) s = p-over (Ends Undefined) s
 
 -- a call of `putchar` takes nothing back
 pub p-put_char : (done : List ℕ) (s : State) → Puts s.output s.stock (put_char done s)
@@ -175,5 +176,11 @@ p-put_char (w ∷ []) s = record {
   puts = record { rest = (w % 256) ∷ []; joined = refl };
   spends = omega arith;
 }
-p-put_char [] s = p-over Undefined s
-p-put_char (w ∷ x ∷ rest) s = p-over Undefined s
+p-put_char [] s = p-over (Ends Undefined) s
+p-put_char (w ∷ x ∷ rest) s = p-over (Ends Undefined) s
+
+-- a call of `exit` takes nothing back
+pub p-exit : (done : List ℕ) (s : State) → Puts s.output s.stock (exit_with done s)
+p-exit (w ∷ []) s = p-over (Exits w) s
+p-exit [] s = p-over (Ends Undefined) s
+p-exit (w ∷ x ∷ rest) s = p-over (Ends Undefined) s

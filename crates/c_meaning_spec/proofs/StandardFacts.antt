@@ -4,7 +4,7 @@ use Rattle.c_tree.specs.declared.Kind.TheVariants.{Char, Short, Int}
 use Rattle.c_tree.specs.declared.BinaryOp.TheVariants.{LogicalAnd, Equal, ShiftLeft, Add, Divide}
 use Rattle.c_tree.specs.declared.UnaryOp.TheVariants.{Minus}
 use Rattle.c_tree.specs.declared.BumpOp.TheVariants.{PostDec}
-use Rattle.c_tree.specs.declared.Callee.TheVariants.{Func, GetChar, PutChar}
+use Rattle.c_tree.specs.declared.Callee.TheVariants.{Func, GetChar, PutChar, Exit}
 use Rattle.c_tree.specs.declared.Place.TheVariants as place
 use Rattle.c_tree.specs.declared.Slot.TheVariants as slot
 use Rattle.c_tree.specs.declared.TypedExpr.{TypedExpr}
@@ -19,6 +19,7 @@ use Rattle.c_tree.specs.declared.TypedFunc.{TypedFunc}
 use Rattle.c_tree.specs.declared.TypedGlobal.{TypedGlobal}
 use Rattle.c_tree.specs.declared.TypedProgram.{TypedProgram}
 use Rattle.c_meaning_spec.specs.declared.signal.Ending.TheVariants.{More, Undefined, Deep}
+use Rattle.c_meaning_spec.specs.declared.signal.Halt.TheVariants.{Ends}
 use Rattle.c_constant.specs.Kinds.{converted}
 use Rattle.c_constant.specs.Operation.{operate, operate_one}
 use Rattle.c_meaning_spec.specs.State.{State, Go, Over}
@@ -164,6 +165,37 @@ end_of_input : eval (returns (int (Call GetChar []))) [] 9 ≡ Done [] (negsuc 0
 unfolding eval meaning evaluated converted
 end_of_input = simp trees refl
 
+-- exit(3); as a statement
+abbrev exits_with : ℕ → TypedStmt
+exits_with w = statement (Plain (Some (record { kind = None; node = roll-TypedNode (Call Exit (number w ∷ [])) })))
+
+abbrev puts : ℕ → TypedStmt
+puts w = statement (Plain (Some (int (Call PutChar (number w ∷ [])))))
+
+-- int f(void) { int x; putchar(65); exit(3); putchar(66); } int main(void) { int x; return f() + 1 / 0; }
+abbrev exits_below : TypedProgram
+exits_below = record {
+  globals = [];
+  functions = function (puts 65 ∷ exits_with 3 ∷ puts 66 ∷ []) ∷ function (return_of (int
+      (Binary Add (int (Call (Func 0) [])) (int (Binary Divide (number 1) (number 0))))) ∷ []) ∷ [];
+  main = 1;
+}
+
+-- what stands behind exit is not done, in its function and in those that wait
+exit_ends_all : eval exits_below [] 20 ≡ Done (65 ∷ []) (pos 3) 15
+unfolding eval meaning evaluated converted operate
+exit_ends_all = simp trees refl
+
+-- exit itself costs a step
+no_step_for_exit : eval exits_below [] 14 ≡ Stopped More (65 ∷ [])
+unfolding eval meaning evaluated converted operate
+no_step_for_exit = simp trees refl
+
+-- exit(-1), with the word of -1: its value is an int, as main's is
+exit_below_zero : eval (program [] (exits_with 18446744073709551615 ∷ [])) [] 9 ≡ Done [] (negsuc 0) 6
+unfolding eval meaning evaluated converted
+exit_below_zero = simp trees refl
+
 -- a state with one local
 abbrev with_local : ℕ → ℕ → State
 with_local n w = record {
@@ -176,6 +208,11 @@ with_local n w = record {
   base = 0;
   room = 0;
 }
+
+-- without its argument
+exit_without_value : called (λ t s. Over (Ends More) s) (program [] []) Exit [] (with_local 1 7)
+    ≡ Over (Ends Undefined) (with_local 0 7)
+exit_without_value = refl
 
 -- for (; x; x--) ; with an x of 1
 one_turn : evaluated 9 (program [] []) (Run
@@ -202,12 +239,12 @@ at_room room = record {
   room = room;
 }
 
-too_deep : called (λ t s. Over More s) (program [] []) (Func 0) [] (at_room 1048425)
-    ≡ Over Deep (record (at_room 1048425) { stock = 0 })
+too_deep : called (λ t s. Over (Ends More) s) (program [] []) (Func 0) [] (at_room 1048425)
+    ≡ Over (Ends Deep) (record (at_room 1048425) { stock = 0 })
 too_deep = refl
 
-just_fits : called (λ t s. Over More s) (program [] []) (Func 0) [] (at_room 1048424)
-    ≡ Over More (record {
+just_fits : called (λ t s. Over (Ends More) s) (program [] []) (Func 0) [] (at_room 1048424)
+    ≡ Over (Ends More) (record {
       stock = 0;
       input = [];
       output = [];

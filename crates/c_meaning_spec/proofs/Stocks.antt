@@ -1,23 +1,24 @@
 -- The laws of an evaluation, from those of its parts.
-use Rattle.std.proofs.Common.{◌≡◌, ℕ, ℤ, zero, suc, ◌+◌, ◌-◌, ◌<◌, ◌≤◌, ◌⊎◌, inl, inr, List, []}
-use Rattle.std.proofs.Common.{Option, refl, sym, ap, subst, ◌∙◌, arith}
+use Rattle.std.proofs.Common.{◌≡◌, ℕ, ℤ, ◌+◌, ◌-◌, ◌<◌, ◌≤◌, ◌⊎◌, inl, inr, List, []}
+use Rattle.std.proofs.Common.{refl, sym, ap, subst, ◌∙◌, arith}
 use Rattle.c_tree.specs.declared.Callee.TheVariants.{Func}
 use Rattle.c_tree.specs.declared.TypedProgram.{TypedProgram}
 use Rattle.c_meaning_spec.specs.declared.signal.Signal.{Signal}
 use Rattle.c_meaning_spec.specs.declared.signal.Signal.TheVariants.{Nothing, Value, Breaks}
 use Rattle.c_meaning_spec.specs.declared.signal.Signal.TheVariants.{Continues, Returns}
 use Rattle.c_meaning_spec.specs.declared.signal.Ending.TheVariants.{More, Undefined, Deep}
-use Rattle.c_meaning_spec.specs.State.{State, Result, Go, Over}
+use Rattle.c_meaning_spec.specs.declared.signal.Halt.TheVariants.{Ends, Exits}
+use Rattle.c_meaning_spec.specs.State.{Result, Go, Over}
 use Rattle.c_meaning_spec.specs.inside.Output.{IsPrefix, output_of}
 use Rattle.c_meaning_spec.specs.Call.{called}
 use Rattle.c_meaning_spec.specs.Eval.{Outcome, Stopped, Done, meaning, ended, start, outcome, eval}
 use Rattle.c_meaning_spec.specs.Laws.{IsMore}
 use Rattle.c_meaning_spec.specs.inside.Laws.{output_in, StaysWithMoreSteps, StepsAreLeast, OutputGoesOn}
 use Rattle.c_meaning_spec.specs.inside.Laws.{MeansByParts}
-use Rattle.c_meaning_spec.proofs.Puts.{Puts, stock_of, same-prefix}
+use Rattle.c_meaning_spec.proofs.Puts.{stock_of, same-prefix}
 use Rattle.c_meaning_spec.proofs.ExpressionsPut.{p-called}
 use Rattle.c_meaning_spec.proofs.StatementsPut.{p-meaning}
-use Rattle.c_meaning_spec.proofs.Grows.{more, Grew, Within}
+use Rattle.c_meaning_spec.proofs.Grows.{Grew, Within}
 use Rattle.c_meaning_spec.proofs.ExpressionsGrow.{g-called}
 use Rattle.c_meaning_spec.proofs.Equations.{weaker, meaning-more, meaning-is}
 
@@ -50,9 +51,11 @@ stays : (n d : ℕ) (r r' : Result) → Grew d n r r' → ¬ IsMore (outcome n r
     → outcome (n + d) r' ≡ outcome n r
 stays n d (Go v s) r' g h = ap (outcome (n + d)) g.grows.0
     ∙ ap (λ (k : ℕ). ended v s.output k) (steps_same n d s.stock)
-stays n d (Over More s) r' g h = absurd (h tt)
-stays n d (Over Undefined s) r' g h = ap (outcome (n + d)) g.grows
-stays n d (Over Deep s) r' g h = ap (outcome (n + d)) g.grows
+stays n d (Over (Ends More) s) r' g h = absurd (h tt)
+stays n d (Over (Ends Undefined) s) r' g h = ap (outcome (n + d)) g.grows
+stays n d (Over (Ends Deep) s) r' g h = ap (outcome (n + d)) g.grows
+stays n d (Over (Exits w) s) r' g h = ap (outcome (n + d)) g.grows
+    ∙ ap (λ (k : ℕ). ended (Value w) s.output k) (steps_same n d s.stock)
 
 -- a result other than More stays with more steps
 pub stays-with-more-steps : StaysWithMoreSteps
@@ -72,7 +75,8 @@ output-ended (Returns w) out steps = refl
 
 output-outcome : (n : ℕ) (r : Result) → output_in (outcome n r) ≡ output_of r
 output-outcome n (Go v s) = output-ended v s.output (n - s.stock)
-output-outcome n (Over why s) = refl
+output-outcome n (Over (Ends why) s) = refl
+output-outcome n (Over (Exits w) s) = refl
 
 -- the end of main is no want of steps
 no-more-ended : (v : Signal) (out : List ℕ) (steps : ℕ) → ¬ IsMore (ended v out steps)
@@ -94,10 +98,12 @@ ended-steps (Returns w) out o steps k result e = absurd (cc)
 goes_on : (n d : ℕ) (r r' : Result) → Grew d n r r' → IsPrefix (output_of r) (output_of r')
 goes_on n d (Go v s) r' g = subst (λ (r : Result). IsPrefix s.output (output_of r)) (sym g.grows.0)
     (same-prefix s.output)
-goes_on n d (Over More s) r' g = g.grows.1
-goes_on n d (Over Undefined s) r' g = subst (λ (r : Result). IsPrefix s.output (output_of r))
+goes_on n d (Over (Ends More) s) r' g = g.grows.1
+goes_on n d (Over (Ends Undefined) s) r' g = subst (λ (r : Result). IsPrefix s.output (output_of r))
     (sym g.grows) (same-prefix s.output)
-goes_on n d (Over Deep s) r' g = subst (λ (r : Result). IsPrefix s.output (output_of r))
+goes_on n d (Over (Ends Deep) s) r' g = subst (λ (r : Result). IsPrefix s.output (output_of r))
+    (sym g.grows) (same-prefix s.output)
+goes_on n d (Over (Exits w) s) r' g = subst (λ (r : Result). IsPrefix s.output (output_of r))
     (sym g.grows) (same-prefix s.output)
 
 prefix-outcome : (n m : ℕ) (r r' : Result) → IsPrefix (output_of r) (output_of r')
@@ -115,21 +121,23 @@ output-goes-on P input n d =
 
 -- THE LEAST STOCK
 
--- a run with m steps is not short of steps, where with d more it leaves d
-enough : (m d : ℕ) (r r' : Result) (v : Signal) (s : State) → Grew d m r r' → r' ≡ Go v s
-    → s.stock ≡ d → ¬ IsMore (outcome m r)
-enough m d (Go v1 s1) r' v s g e k h = no-more-ended v1 s1.output (m - s1.stock) h
-enough m d (Over More s1) r' v s g e k h =
-    let w : s.stock < d = subst (λ (r : Result). Within d r) e g.grows.2 in absurd (omega arith)
-enough m d (Over Undefined s1) r' v s g e k h = h
-enough m d (Over Deep s1) r' v s g e k h = h
+-- a run with m steps is not short of steps, where with d more it does not leave less than d
+enough : (m d : ℕ) (r r' : Result) → Grew d m r r' → ¬ Within d r' → ¬ IsMore (outcome m r)
+enough m d (Go v s) r' g past h = no-more-ended v s.output (m - s.stock) h
+enough m d (Over (Ends More) s) r' g past h = past g.grows.2
+enough m d (Over (Ends Undefined) s) r' g past h = h
+enough m d (Over (Ends Deep) s) r' g past h = h
+enough m d (Over (Exits w) s) r' g past h = h
 
 steps-most : (n : ℕ) (r : Result) (out : List ℕ) (result : ℤ) (steps : ℕ)
     → outcome n r ≡ Done out result steps → steps ≤ n
 steps-most n (Go v s) out result steps e =
     let k : n - s.stock ≡ steps = ended-steps v s.output out (n - s.stock) steps result e in
     omega arith
-steps-most n (Over why s) out result steps e = absurd (cc)
+steps-most n (Over (Ends why) s) out result steps e = absurd (cc)
+steps-most n (Over (Exits w) s) out result steps e =
+    let k : n - s.stock ≡ steps = ended-steps (Value w) s.output out (n - s.stock) steps result e in
+    omega arith
 
 abbrev Least : TypedProgram → List ℕ → ℕ → List ℕ → ℤ → ℕ → Type 0
 Least P input n out result steps =
@@ -152,26 +160,39 @@ fewer_is_more P input n k steps out result e l lt (inr h) =
     let most : steps ≤ k = most_of P input k out result steps (sym same ∙ e) in
     absurd (omega arith)
 
-exact : (P : TypedProgram) (input : List ℕ) (n : ℕ) (out : List ℕ) (result : ℤ) (steps : ℕ)
-    (r : Result) → run P input n ≡ r → outcome n r ≡ Done out result steps → stock_of r ≤ n
+not_less : (k : ℕ) → ¬ (k < k)
+not_less k h = absurd (omega arith)
+
+-- a run with n steps that leaves k of them
+exact_at : (P : TypedProgram) (input : List ℕ) (n : ℕ) (out : List ℕ) (result : ℤ) (steps k : ℕ)
+    (r : Result) → run P input n ≡ r → ¬ Within k r → n - k ≡ steps → k ≤ n
     → eval P input n ≡ Done out result steps → Least P input n out result steps
 unfolding eval
-exact P input n out result steps (Over why s) is e l whole = absurd (cc)
-exact P input n out result steps (Go v s) is e l whole =
-    let m : n - s.stock ≡ steps = ended-steps v s.output out (n - s.stock) steps result e in
-    let split : steps + s.stock ≡ n = omega arith in
-    let there : run P input (steps + s.stock) ≡ Go v s = ap (run P input) split ∙ is in
+exact_at P input n out result steps k r is past m l whole =
+    let split : steps + k ≡ n = omega arith in
+    let there : run P input (steps + k) ≡ r = ap (run P input) split ∙ is in
     let not : ¬ IsMore (eval P input steps) =
-    enough steps s.stock (run P input steps) (run P input (steps + s.stock)) v s
-    (grown P input steps s.stock) there refl in
-    let same : eval P input (steps + s.stock) ≡ eval P input steps =
-    stays-with-more-steps P input steps s.stock not in
+    enough steps k (run P input steps) (run P input (steps + k)) (grown P input steps k)
+    (λ w. past (subst (λ (q : Result). Within k q) there w)) in
+    let same : eval P input (steps + k) ≡ eval P input steps =
+    stays-with-more-steps P input steps k not in
     let most : steps ≤ n = omega arith in (
       most,
       sym same ∙ (ap (eval P input) split ∙ whole),
-      λ k lt. fewer_is_more P input n k steps out result whole most lt
-          (more_or_not (eval P input k)),
+      λ j lt. fewer_is_more P input n j steps out result whole most lt
+          (more_or_not (eval P input j)),
     )
+
+exact : (P : TypedProgram) (input : List ℕ) (n : ℕ) (out : List ℕ) (result : ℤ) (steps : ℕ)
+    (r : Result) → run P input n ≡ r → outcome n r ≡ Done out result steps → stock_of r ≤ n
+    → eval P input n ≡ Done out result steps → Least P input n out result steps
+exact P input n out result steps (Over (Ends why) s) is e l whole = absurd (cc)
+exact P input n out result steps (Over (Exits w) s) is e l whole =
+    exact_at P input n out result steps s.stock (Over (Exits w) s) is (not_less s.stock)
+    (ended-steps (Value w) s.output out (n - s.stock) steps result e) l whole
+exact P input n out result steps (Go v s) is e l whole =
+    exact_at P input n out result steps s.stock (Go v s) is (not_less s.stock)
+    (ended-steps v s.output out (n - s.stock) steps result e) l whole
 
 -- the steps of Done are the least that give it
 pub steps-are-least : StepsAreLeast

@@ -11,6 +11,7 @@ use Rattle.c_meaning_spec.specs.declared.signal.Signal.{Signal}
 use Rattle.c_meaning_spec.specs.declared.signal.Signal.TheVariants.{Value}
 use Rattle.c_meaning_spec.specs.declared.signal.Ending.{Ending}
 use Rattle.c_meaning_spec.specs.declared.signal.Ending.TheVariants.{More, Undefined}
+use Rattle.c_meaning_spec.specs.declared.signal.Halt.TheVariants.{Ends, Exits}
 use Rattle.c_meaning_spec.specs.State.{State, Result, Go, Over}
 use Rattle.c_constant.specs.Kinds.{number, converted}
 use Rattle.c_meaning_spec.specs.Task.{Task, Of, Run, Turn, Parts}
@@ -28,7 +29,7 @@ perform rec P (Turn test post body) s = turn rec test post body s
 -- n + 2 is enough for n steps; no more of the depth is seen by the law `meaning P t s ≡ perform
 -- (meaning P) P t s`.
 unfoldable pub evaluated : ℕ → TypedProgram → Task → State → Result
-evaluated zero P t s = Over More s
+evaluated zero P t s = Over (Ends More) s
 evaluated (suc k) P t s = perform (evaluated k P) P t s
 
 -- the depth that is enough for n steps
@@ -78,9 +79,11 @@ abbrev pub ended : Signal → List ℕ → ℕ → Outcome
 ended (Value w) output steps = Done output (number Int (converted Int w)) steps
 ended _ output steps = Stopped Undefined output
 
--- what the call of main comes to, of a stock of n
+-- what the call of main comes to, of a stock of n: exit ends the evaluation as main does that returns
+-- the same value (C17 5.1.2.2.3)
 abbrev pub outcome : ℕ → Result → Outcome
-outcome n (Over why s) = Stopped why s.output
+outcome n (Over (Ends why) s) = Stopped why s.output
+outcome n (Over (Exits w) s) = ended (Value w) s.output (n - s.stock)
 outcome n (Go v s) = ended v s.output (n - s.stock)
 
 -- the call of main

@@ -15,6 +15,7 @@ use Rattle.c_tree.specs.declared.TypedProgram.{TypedProgram}
 use Rattle.c_meaning_spec.specs.declared.signal.Signal.{Signal}
 use Rattle.c_meaning_spec.specs.declared.signal.Signal.TheVariants.{Value}
 use Rattle.c_meaning_spec.specs.declared.signal.Ending.TheVariants.{Undefined}
+use Rattle.c_meaning_spec.specs.declared.signal.Halt.TheVariants.{Ends}
 use Rattle.c_meaning_spec.specs.declared.signal.Object.{Object}
 use Rattle.c_meaning_spec.specs.State.{State, Result, Go, Over, spend, want, with_some, given, cell}
 use Rattle.c_meaning_spec.specs.inside.State.{then}
@@ -121,7 +122,7 @@ assign rec op to at (Element p None index) right s =
     then (rec (Of index) s) (assign_element rec op to at p right)
 assign rec op to at (Element p (Some row) index) right s =
     then (rec (Of row) s) (assign_after_row rec op to at p index right)
-assign rec op to at _ right s = Over Undefined s
+assign rec op to at _ right s = Over (Ends Undefined) s
 
 -- after a store: the value that the whole gives
 abbrev pub giving : ℕ → Signal → State → Result
@@ -152,7 +153,7 @@ bump rec op k (Name p) s = with_some (scalar_of p) s (bump_object op k s)
 bump rec op k (Element p None index) s = then (rec (Of index) s) (bump_element op k p)
 bump rec op k (Element p (Some row) index) s =
     then (rec (Of row) s) (bump_after_row rec op k p index)
-bump rec op k _ s = Over Undefined s
+bump rec op k _ s = Over (Ends Undefined) s
 
 -- NODES
 
@@ -165,7 +166,7 @@ opened rec P (Element p (Some row) index) s = then (rec (Of row) s) (after_row r
 opened rec P (Call f args) s = arguments rec P f args [] s
 opened rec P (Unary op e) s = then (rec (Of e) s) (unary op e.kind)
 opened rec P (Cast to e) s = then (rec (Of e) s) (converting to)
-opened rec P (Convert to e) s = Over Undefined s
+opened rec P (Convert to e) s = Over (Ends Undefined) s
 opened rec P (Bump op e) s = bump rec op e.kind (node_of e) s
 opened rec P (Binary op l r) s = binary rec op l r s
 opened rec P (Choice t one other) s = then (rec (Of t) s) (after_choice rec one other)

@@ -2,8 +2,9 @@
 use Rattle.std.specs.Prelude.{ℕ, zero, suc, List, [], Option, Some, None, slice_get, slice_set}
 use Rattle.c_meaning_spec.specs.declared.signal.Signal.{Signal}
 use Rattle.c_meaning_spec.specs.declared.signal.Signal.TheVariants.{Value}
-use Rattle.c_meaning_spec.specs.declared.signal.Ending.{Ending}
 use Rattle.c_meaning_spec.specs.declared.signal.Ending.TheVariants.{More, Undefined}
+use Rattle.c_meaning_spec.specs.declared.signal.Halt.{Halt}
+use Rattle.c_meaning_spec.specs.declared.signal.Halt.TheVariants.{Ends}
 use Rattle.c_meaning_spec.specs.declared.signal.Object.{Object}
 use Rattle.c_meaning_spec.specs.declared.signal.Object.TheVariants.{InScalar, InArray}
 
@@ -28,14 +29,14 @@ pub record State : Type 0 where
   -- the bytes of the frames of the active functions
   pub room : ℕ
 
--- a part of the program goes on, or the evaluation stops
+-- a part of the program goes on, or the evaluation stops before the end of main
 pub data Result : Type 0 where
   Go : (v : Signal) (s : State) → Result
-  Over : (why : Ending) (s : State) → Result
+  Over : (why : Halt) (s : State) → Result
 
 -- a step, if one is left
 abbrev pub spend_of : ℕ → State → (State → Result) → Result
-spend_of zero s next = Over More s
+spend_of zero s next = Over (Ends More) s
 spend_of (suc n) s next = next (record s { stock = n })
 
 -- a step of the stock
@@ -45,11 +46,11 @@ spend s next = spend_of s.stock s next
 -- with the value that a part gave; taking the value of what gave none is undefined
 abbrev pub want : Signal → State → (ℕ → Result) → Result
 want (Value w) s next = next w
-want _ s next = Over Undefined s
+want _ s next = Over (Ends Undefined) s
 
 -- with what is there; otherwise it is undefined
 abbrev pub with_some : {A : Type 0} → Option A → State → (A → Result) → Result
-with_some None s next = Over Undefined s
+with_some None s next = Over (Ends Undefined) s
 with_some (Some x) s next = next x
 
 -- a value, if there is one; otherwise it is undefined
@@ -93,7 +94,7 @@ load x s = given (held (cell s x)) s
 
 -- a word into an object, if it is there; the whole gives the word
 abbrev pub store_in : Option (Option ℕ) → State → Object → ℕ → Result
-store_in None s x w = Over Undefined s
+store_in None s x w = Over (Ends Undefined) s
 store_in (Some c) s x w = Go (Value w) (written s x (Some w))
 
 -- a word into an object

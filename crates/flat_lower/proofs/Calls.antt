@@ -1,4 +1,4 @@
--- Calls follow the evaluation: of functions, of `getchar` and of `putchar`.
+-- Calls follow the evaluation: of functions, of `getchar`, `putchar` and `exit`.
 use Rattle.std.proofs.Common.{◌≡◌, ◌≢◌, ℕ, zero, suc, ◌+◌, ◌-◌, ◌*◌, ◌%◌, ◌^◌, ◌<◌, ◌≤◌, Bool, true}
 use Rattle.std.proofs.Common.{false, cond, List, [], ◌∷◌, ◌++◌, map, length, take, Option, Some}
 use Rattle.std.proofs.Common.{None, refl, sym, ap, ap₂, ◌∙◌, subst, mul-suc, arith}
@@ -18,12 +18,13 @@ use Rattle.c_meaning_spec.specs.declared.signal.Signal.{Signal}
 use Rattle.c_meaning_spec.specs.declared.signal.Signal.TheVariants.{Nothing, Value, Breaks, Continues}
 use Rattle.c_meaning_spec.specs.declared.signal.Signal.TheVariants.{Returns}
 use Rattle.c_meaning_spec.specs.declared.signal.Ending.TheVariants.{Undefined, Deep}
+use Rattle.c_meaning_spec.specs.declared.signal.Halt.TheVariants.{Ends}
 use Rattle.c_meaning_spec.specs.State.{Result, Go, Over, spend, want}
 use Rattle.c_meaning_spec.specs.inside.State.{then}
 use Rattle.c_meaning_spec.specs.State as eval
 use Rattle.c_meaning_spec.specs.Task.{Of, Run}
 use Rattle.c_meaning_spec.specs.Call.{frame, entered, entered_if, enter, left, read_from, get_char}
-use Rattle.c_meaning_spec.specs.Call.{put_char, called, arguments}
+use Rattle.c_meaning_spec.specs.Call.{put_char, exit_with, called, arguments}
 use Rattle.c_meaning_spec.specs.Expression.{opened}
 use Rattle.c_meaning_spec.specs.Eval.{meaning}
 use Rattle.trips_isa.specs.declared.op.Op.TheVariants as op
@@ -36,11 +37,11 @@ use Rattle.ir_forms.specs.inside.FlatViews.{stays}
 use Rattle.ir_forms.specs.inside.Frames.{frame_limit, frame_of}
 use Rattle.ir_forms.specs.inside.Cells.{apply}
 use Rattle.ir_forms.specs.inside.FlatSteps.{State, TooDeep, counted, settle, read_all, with_output}
-use Rattle.ir_forms.specs.inside.FlatSteps.{with_next, with_var, var_put}
+use Rattle.ir_forms.specs.inside.FlatSteps.{with_next, with_var, var_put, without_vars}
 use Rattle.ir_forms.specs.inside.FlatRuns.{checked}
 use Rattle.ir_forms.proofs.Leads.{Leads}
 use Rattle.ir_forms.proofs.Steps.{then_moves, then_nop}
-use Rattle.ir_forms.proofs.Statements.{get_leads, put_leads}
+use Rattle.ir_forms.proofs.Statements.{get_leads, put_leads, halt_leads}
 use Rattle.ir_forms.proofs.CallRuns.{call_leads}
 use Rattle.flat_lower.specs.inside.Tree.{Func}
 use Rattle.flat_lower.specs.inside.Tree as tree
@@ -56,6 +57,7 @@ use Rattle.flat_lower.specs.declared.around.Around.TheVariants as around
 use Rattle.flat_lower.proofs.Follows.{Post, Goes, Follows, FollowsOver, wanted, moved}
 use Rattle.flat_lower.proofs.Related.{Scene, IsScene, scope, context, frames_from, Related}
 use Rattle.flat_lower.proofs.Related.{recounted, unseen}
+use Rattle.flat_lower.proofs.TreeFacts.{kind_is}
 use Rattle.flat_lower.proofs.Values.{KeptIs, ValueIs, Valued, value_at, keeps_all, keeps_both}
 use Rattle.flat_lower.proofs.Values.{functions, base, FollowsOf, run, code, value_end, operand}
 use Rattle.flat_lower.proofs.Values.{spending}
@@ -195,7 +197,7 @@ module _ (P : TypedProgram) (most : ℕ) (sound : FitsSource (source_of P)) (lar
           → FollowsHere P most S y d k f0 (only (flat.Call j xs (result_var k d) stays)) g top low
           (cond b (entered_if (meaning P) (nat_eq j P.main) (nat_le (s0.room + frame f) 1048576) f ws
           s0)
-          (Over Undefined s0))
+          (Over (Ends Undefined) s0))
       go n s0 hr k0 hu0 hl0 false e = tt
       go n s0 hr k0 hu0 hl0 true e =
           entering j f found xs ws vs d top low k s0 f0 g ld hr ek are reads k0
@@ -302,6 +304,25 @@ module _ (P : TypedProgram) (most : ℕ) (sound : FitsSource (source_of P)) (lar
       (omega arith) (var_read fs b S.env g1 (temp d) w v.is) refl refl) (omega arith)
       (omega arith))
 
+  -- THE END OF THE RUN
+
+  exiting : (k : Option Kind) (w d top low : ℕ) (s : eval.State) (f0 g : State) → IsWord Int w
+      → g.vars (temp d) ≡ Some w → Related S s g → 1 + 8 * s.stock ≤ top
+      → low ≤ s.stock + most * g.rounds
+      → FollowsHere P most S y d k f0 (only (flat.Halt (Var (temp d)))) g top low (exit_with (w ∷ []) s)
+  exiting k w d top low s f0 g fits is r hu hl =
+      let fs = functions P most in
+      let b = base P most in
+      record {
+        t = 1;
+        to = without_vars g;
+        upper = hu;
+        lower = hl;
+        output = r.output;
+        fits = fits;
+        leads = halt_leads checked fs b S.env (Var (temp d)) g w (var_read fs b S.env g (temp d) w is);
+      }
+
   -- THE NODE
 
   -- the code of a call follows the evaluation, where its arguments and the functions' bodies do
@@ -369,3 +390,26 @@ module _ (P : TypedProgram) (most : ℕ) (sound : FitsSource (source_of P)) (lar
         fits = x.fits;
         is = x.is;
       }) (omega arith) (omega arith)))))))
+  call_node k callee.Exit [] d top low s f he hs t r hu hl = absurd t.1.1
+  call_node k callee.Exit (e ∷ e2 ∷ es) d top low s f he hs t r hu hl = absurd t.1.1.1
+  call_node k callee.Exit (e ∷ []) d top low s f he hs t r hu hl =
+      let b = only (flat.Halt (Var (temp d))) in
+      let whole : Then (Then (code P most S y d e) Nop) b ≡ Then (code P most S y d e) b = ap (λ (a : Code). Then a b)
+      (then_nop (code P most S y d e)) in
+      subst (λ a. FollowsHere P most S y d k f a f top low
+      (spend s (opened (meaning P) P (node.Call callee.Exit (e ∷ []))))) (sym whole)
+      (spending P most S y (Valued S d k f) (Then (code P most S y d e) b) s f top low
+      (opened (meaning P) P (node.Call callee.Exit (e ∷ []))) r (omega arith) (λ n q rn.
+      let s0 = record s { stock = n } in
+      operand P most S y (Valued S d k f) e d b s0 f top low
+      (λ v s. want v s (λ w. called (meaning P) P callee.Exit (w ∷ []) s))
+      (he e s0 (omega arith)) t.1.1.0.0 rn (omega arith) (omega arith)
+      (λ v s1 g t1 hv ls us ds.
+      wanted most (Valued S d k f) (run P most S y b g) (top - t1) low v s1
+      (λ w. called (meaning P) P callee.Exit (w ∷ []) s1) (λ w ew.
+      let x = value_at S d e.kind f v w s1 g ew hv in
+      let same : x.kind ≡ Int = cc (sym x.is_kind ∙ sym (kind_is e) ∙ t.1.1.0.1) in
+      spending P most S y (Valued S d k f) b s1 g (top - t1) low
+      (exit_with (w ∷ [])) x.keeps.rel (omega arith) (λ m q1 rm.
+      exiting k w d (top - t1) low (record s1 { stock = m }) f g
+      (subst (λ j. IsWord j w) same x.fits) x.is rm (omega arith) (omega arith))))))

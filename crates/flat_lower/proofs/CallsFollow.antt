@@ -16,6 +16,7 @@ use Rattle.c_meaning_spec.specs.declared.signal.Signal.TheVariants.{Nothing, Val
 use Rattle.c_meaning_spec.specs.declared.signal.Signal.TheVariants.{Returns}
 use Rattle.c_meaning_spec.specs.declared.signal.Ending.{Ending}
 use Rattle.c_meaning_spec.specs.declared.signal.Ending.TheVariants.{More, Undefined, Deep}
+use Rattle.c_meaning_spec.specs.declared.signal.Halt.TheVariants.{Ends, Exits}
 use Rattle.c_meaning_spec.specs.State.{Result, Go, Over}
 use Rattle.c_meaning_spec.specs.inside.State.{then}
 use Rattle.c_meaning_spec.specs.State as eval
@@ -50,7 +51,7 @@ use Rattle.flat_lower.proofs.Straight.{put_at, put_other}
 use Rattle.flat_lower.proofs.Bytes.{marked_out}
 use Rattle.flat_lower.proofs.Objects.{Object, all_first, all_same, all_length, within_row}
 use Rattle.flat_lower.proofs.Objects.{AllStored}
-use Rattle.flat_lower.proofs.Follows.{Post, Goes, Follows, FollowsIn, FollowsOver, run_of}
+use Rattle.flat_lower.proofs.Follows.{Post, Goes, Follows, FollowsIn, FollowsOver, run_of, quits}
 use Rattle.flat_lower.proofs.Related.{Scene, IsScene, scope, context, frames_from, IsScalar}
 use Rattle.flat_lower.proofs.Related.{Related}
 use Rattle.flat_lower.proofs.Values.{KeptIs, ValueIs, Valued, functions, base, run}
@@ -256,7 +257,7 @@ module _ (P : TypedProgram) (most : ℕ) (S : Scene) (y : IsScene P S) (j : ℕ)
               };
               leads = gives h.to h.t (Some w) h.leads;
             }
-    comes_back int s top low (Over More s2) rel ke lt h = record {
+    comes_back int s top low (Over (Ends More) s2) rel ke lt h = record {
       t = 10 + h.t;
       r = h.r;
       upper = omega (arith, h.upper);
@@ -268,8 +269,8 @@ module _ (P : TypedProgram) (most : ℕ) (S : Scene) (y : IsScene P S) (j : ℕ)
           (env_of (base P most) F S.env.used) B (end_code (nat_eq j P.main))
           (begun (base P most) F vs S.env.used (counted g)) h.t s2.output h.r h.stops));
     }
-    comes_back int s top low (Over Undefined s2) rel ke lt h = tt
-    comes_back int s top low (Over Deep s2) rel ke lt h = record {
+    comes_back int s top low (Over (Ends Undefined) s2) rel ke lt h = tt
+    comes_back int s top low (Over (Ends Deep) s2) rel ke lt h = record {
       t = 10 + h.t;
       upper = omega (arith, h.upper);
       leads = call_leads checked (functions P most) (base P most) S.env j xs
@@ -280,5 +281,21 @@ module _ (P : TypedProgram) (most : ℕ) (S : Scene) (y : IsScene P S) (j : ℕ)
           (first_leads checked (functions P most) (base P most)
           (env_of (base P most) F S.env.used) B (end_code (nat_eq j P.main))
           (begun (base P most) F vs S.env.used (counted g)) h.t (λ n. TooDeep s2.output)
+          (λ n next. refl) h.leads));
+    }
+    comes_back int s top low (Over (Exits w) s2) rel ke lt h = record {
+      t = 10 + h.t;
+      to = h.to;
+      upper = omega (arith, h.upper);
+      lower = h.lower;
+      output = h.output;
+      fits = h.fits;
+      leads = call_leads checked (functions P most) (base P most) S.env j xs
+          (result_var k d) stays g vs h.t (λ n. quits w h.to n) (λ n. quits w h.to n) are (λ n. refl)
+          (closed_leads P most S.env.used j f found vs (counted g) room h.t (λ n. quits w h.to n)
+          (λ n. quits w h.to n) (λ n. refl)
+          (first_leads checked (functions P most) (base P most)
+          (env_of (base P most) F S.env.used) B (end_code (nat_eq j P.main))
+          (begun (base P most) F vs S.env.used (counted g)) h.t (λ n. quits w h.to n)
           (λ n next. refl) h.leads));
     }

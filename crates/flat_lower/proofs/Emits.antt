@@ -5,7 +5,7 @@ use Rattle.ir_forms.specs.inside.FlatCode.{Code, Nop, ◌▹◌, Then, only}
 use Rattle.ir_forms.specs.inside.FlatViews.{step_of, code_of}
 use Rattle.ir_forms.proofs.Views.{code_append, step_let, step_frame, step_load, step_save}
 use Rattle.ir_forms.proofs.Views.{step_call, step_put, step_get, step_if, step_loop, step_break}
-use Rattle.ir_forms.proofs.Views.{step_continue, step_return}
+use Rattle.ir_forms.proofs.Views.{step_continue, step_return, step_halt}
 use Rattle.flat_lower.specs.inside.Emitted.{Adds}
 
 -- the order of three pieces
@@ -55,4 +55,5 @@ pub ruleset steps = (
   step_break,
   step_continue,
   step_return,
+  step_halt,
 )

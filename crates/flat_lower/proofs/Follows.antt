@@ -5,7 +5,10 @@ use Rattle.std.proofs.Common.{Option, Some, None, refl, sym, ap, ◌∙◌, subs
 use Rattle.c_meaning_spec.specs.declared.signal.Signal.{Signal}
 use Rattle.c_meaning_spec.specs.declared.signal.Signal.TheVariants.{Nothing, Value, Breaks, Continues}
 use Rattle.c_meaning_spec.specs.declared.signal.Signal.TheVariants.{Returns}
-use Rattle.c_meaning_spec.specs.declared.signal.Ending.{Ending}
+use Rattle.c_tree.specs.declared.Kind.TheVariants.{Int}
+use Rattle.c_constant.specs.Kinds.{IsWord}
+use Rattle.c_meaning_spec.specs.declared.signal.Halt.{Halt}
+use Rattle.c_meaning_spec.specs.declared.signal.Halt.TheVariants.{Ends, Exits}
 use Rattle.c_meaning_spec.specs.declared.signal.Ending.TheVariants.{More, Undefined, Deep}
 use Rattle.c_meaning_spec.specs.State.{Result, Go, Over, spend_of, spend, want, with_some}
 use Rattle.c_meaning_spec.specs.inside.State.{then}
@@ -13,6 +16,7 @@ use Rattle.c_meaning_spec.specs.State as eval
 use Rattle.ir_forms.specs.inside.FlatCode.{Code, Then, Function}
 use Rattle.ir_forms.specs.inside.FlatSteps.{State, Env, Res, Gone, Broke, Again, Gave, TooDeep, Unfinished}
 use Rattle.ir_forms.specs.inside.FlatSteps.{Wild, settle, then_run}
+use Rattle.ir_forms.specs.inside.FlatSteps as flat_steps
 use Rattle.ir_forms.specs.inside.FlatRuns.{checked}
 use Rattle.ir_forms.proofs.Leads.{Run, Leads, Stops, Moves, Waits, leads_from, stops_from}
 use Rattle.ir_forms.proofs.Leads.{waits_stop}
@@ -75,37 +79,63 @@ pub record Halts (most : ℕ) (run : Run) (top low : ℕ) (out : List ℕ) : Typ
   pub lower : low ≤ most * r
   pub stops : Stops run t out r
 
--- what a flat run does where the evaluation is over: it has not ended, or ends too deep, or does anything
-abbrev pub FollowsOver : ℕ → Run → ℕ → ℕ → Ending → List ℕ → Type 0
-FollowsOver most run top low More out = Halts most run top low out
-FollowsOver most run top low Undefined out = Unit {0}
-FollowsOver most run top low Deep out = Dives run top out
+-- the whole run is ended with a word, in a state and with turns left
+abbrev pub quits : ℕ → State → ℕ → Res
+quits w s k = flat_steps.Halts (flat_steps.Exited w s k)
+
+-- a run that is ended with a word, with the output so far, within turns that the steps pay; and the steps
+-- are bounded by the rounds
+pub record Quits (most : ℕ) (run : Run) (top low w : ℕ) (s : eval.State) : Type 0 where
+  pub t : ℕ
+  pub to : State
+  pub upper : t + 8 * s.stock ≤ top
+  pub lower : low ≤ s.stock + most * to.rounds
+  pub output : to.output ≡ s.output
+  pub fits : IsWord Int w
+  pub leads : Leads run t (λ k. quits w to k)
+
+-- what a flat run does where the evaluation is over: it has not ended, or ends too deep, or is ended with a
+-- word, or does anything
+abbrev pub FollowsOver : ℕ → Run → ℕ → ℕ → Halt → eval.State → Type 0
+FollowsOver most run top low (Ends More) s = Halts most run top low s.output
+FollowsOver most run top low (Ends Undefined) s = Unit {0}
+FollowsOver most run top low (Ends Deep) s = Dives run top s.output
+FollowsOver most run top low (Exits w) s = Quits most run top low w s
 
 -- what a flat run does inside a loop, a switch or neither, where the evaluation has this result
 abbrev pub FollowsIn : Around → ℕ → Post → Run → ℕ → ℕ → Result → Type 0
 FollowsIn x most P run top low (Go v s) = GoesIn x most P run top low v s
-FollowsIn x most P run top low (Over why s) = FollowsOver most run top low why s.output
+FollowsIn x most P run top low (Over why s) = FollowsOver most run top low why s
 
 -- the same in a loop, and of what can neither break nor continue
 abbrev pub Follows : ℕ → Post → Run → ℕ → ℕ → Result → Type 0
 Follows most P run top low r = FollowsIn around.Loop most P run top low r
 
 -- the prefix of a run costs its turns
-over_moved : (most : ℕ) (run next : Run) (t top low : ℕ) (why : Ending) (out : List ℕ)
-    → Moves run t next → t ≤ top → FollowsOver most next (top - t) low why out
-    → FollowsOver most run top low why out
-over_moved most run next t top low More out m h g = record {
+over_moved : (most : ℕ) (run next : Run) (t top low : ℕ) (why : Halt) (s : eval.State)
+    → Moves run t next → t ≤ top → FollowsOver most next (top - t) low why s
+    → FollowsOver most run top low why s
+over_moved most run next t top low (Ends More) s m h g = record {
   t = t + g.t;
   r = g.r;
   upper = omega (arith, g.upper);
   lower = g.lower;
-  stops = stops_from run next t g.t out g.r m g.stops;
+  stops = stops_from run next t g.t s.output g.r m g.stops;
 }
-over_moved most run next t top low Undefined out m h g = tt
-over_moved most run next t top low Deep out m h g = record {
+over_moved most run next t top low (Ends Undefined) s m h g = tt
+over_moved most run next t top low (Ends Deep) s m h g = record {
   t = t + g.t;
   upper = omega (arith, g.upper);
-  leads = leads_from run next t g.t (λ k. TooDeep out) m g.leads;
+  leads = leads_from run next t g.t (λ k. TooDeep s.output) m g.leads;
+}
+over_moved most run next t top low (Exits w) s m h g = record {
+  t = t + g.t;
+  to = g.to;
+  upper = omega (arith, g.upper);
+  lower = g.lower;
+  output = g.output;
+  fits = g.fits;
+  leads = leads_from run next t g.t (λ k. quits w g.to k) m g.leads;
 }
 
 -- A run in a loop or switch follows where the run does that it comes to after some turns.
@@ -121,7 +151,7 @@ moved_in x most P run next t top low (Go v s) m h g = record {
   leads = leads_from run next t g.t (ends_in x v g.to) m g.leads;
 }
 moved_in x most P run next t top low (Over why s) m h g =
-    over_moved most run next t top low why s.output m h g
+    over_moved most run next t top low why s m h g
 
 -- A run follows where the run does that it comes to after some turns.
 pub moved : (most : ℕ) (P : Post) (run next : Run) (t top low : ℕ) (r : Result) → Moves run t next
@@ -129,9 +159,9 @@ pub moved : (most : ℕ) (P : Post) (run next : Run) (t top low : ℕ) (r : Resu
 moved = moved_in around.Loop
 
 -- more turns, and fewer steps to account for
-over_weaker : (most : ℕ) (run : Run) (top low up down : ℕ) (why : Ending) (out : List ℕ) → up ≤ top
-    → low ≤ down → FollowsOver most run up down why out → FollowsOver most run top low why out
-over_weaker most run top low up down More out h k g =
+over_weaker : (most : ℕ) (run : Run) (top low up down : ℕ) (why : Halt) (s : eval.State) → up ≤ top
+    → low ≤ down → FollowsOver most run up down why s → FollowsOver most run top low why s
+over_weaker most run top low up down (Ends More) s h k g =
     record {
       t = g.t;
       r = g.r;
@@ -139,9 +169,19 @@ over_weaker most run top low up down More out h k g =
       lower = omega (arith, g.lower);
       stops = g.stops;
     }
-over_weaker most run top low up down Undefined out h k g = tt
-over_weaker most run top low up down Deep out h k g =
+over_weaker most run top low up down (Ends Undefined) s h k g = tt
+over_weaker most run top low up down (Ends Deep) s h k g =
     record { t = g.t; upper = omega (arith, g.upper); leads = g.leads }
+over_weaker most run top low up down (Exits w) s h k g =
+    record {
+      t = g.t;
+      to = g.to;
+      upper = omega (arith, g.upper);
+      lower = omega (arith, g.lower);
+      output = g.output;
+      fits = g.fits;
+      leads = g.leads;
+    }
 
 -- a step that is spent; with none left the run has not ended
 pub spends : (x : Around) (most : ℕ) (P : Post) (run : Run) (top low : ℕ) (s : eval.State) (c : ℕ)
@@ -204,21 +244,30 @@ module _ (fs : List Function) (base most : ℕ) (e : Env) where
   abbrev pub run_of : Code → State → Run
   run_of a f = code_run checked fs base e a f
 
-  over_first : (a b : Code) (f : State) (up down top low : ℕ) (why : Ending) (out : List ℕ)
-      → up ≤ top → low ≤ down → FollowsOver most (run_of a f) up down why out
-      → FollowsOver most (run_of (Then a b) f) top low why out
-  over_first a b f up down top low More out h k g = record {
+  over_first : (a b : Code) (f : State) (up down top low : ℕ) (why : Halt) (s : eval.State)
+      → up ≤ top → low ≤ down → FollowsOver most (run_of a f) up down why s
+      → FollowsOver most (run_of (Then a b) f) top low why s
+  over_first a b f up down top low (Ends More) s h k g = record {
     t = g.t;
     r = g.r;
     upper = omega (arith, g.upper);
     lower = omega (arith, g.lower);
-    stops = first_stops checked fs base e a b f g.t out g.r g.stops;
+    stops = first_stops checked fs base e a b f g.t s.output g.r g.stops;
   }
-  over_first a b f up down top low Undefined out h k g = tt
-  over_first a b f up down top low Deep out h k g = record {
+  over_first a b f up down top low (Ends Undefined) s h k g = tt
+  over_first a b f up down top low (Ends Deep) s h k g = record {
     t = g.t;
     upper = omega (arith, g.upper);
-    leads = first_leads checked fs base e a b f g.t (λ k. TooDeep out) (λ k next. refl) g.leads;
+    leads = first_leads checked fs base e a b f g.t (λ k. TooDeep s.output) (λ k next. refl) g.leads;
+  }
+  over_first a b f up down top low (Exits w) s h k g = record {
+    t = g.t;
+    to = g.to;
+    upper = omega (arith, g.upper);
+    lower = omega (arith, g.lower);
+    output = g.output;
+    fits = g.fits;
+    leads = first_leads checked fs base e a b f g.t (λ k. quits w g.to k) (λ k next. refl) g.leads;
   }
 
   pub settles_in : (x : Around) (v : Signal) → Settles v → ends_in x v ≡ settle
@@ -248,7 +297,7 @@ module _ (fs : List Function) (base most : ℕ) (e : Env) where
       moved_in x most Q (run_of (Then a b) f) (run_of b g.to) g.t top low (next v s)
       (then_moves checked fs base e a b f g.to g.t l) (omega (arith, g.upper)) k.1
   then_follows_in z x P Q a b f up down top low (Over why s) next g hu hd h =
-      over_first a b f up down top low why s.output hu hd g
+      over_first a b f up down top low why s hu hd g
 
   -- two codes in a row follow the evaluation of two parts in a row, where each does
   pub then_follows : (P Q : Post) (a b : Code) (f : State) (up down top low : ℕ) (r : Result)

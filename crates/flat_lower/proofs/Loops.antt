@@ -9,6 +9,7 @@ use Rattle.c_meaning_spec.specs.declared.signal.Signal.{Signal}
 use Rattle.c_meaning_spec.specs.declared.signal.Signal.TheVariants.{Nothing, Value, Breaks, Continues}
 use Rattle.c_meaning_spec.specs.declared.signal.Signal.TheVariants.{Returns}
 use Rattle.c_meaning_spec.specs.declared.signal.Ending.TheVariants.{More, Undefined, Deep}
+use Rattle.c_meaning_spec.specs.declared.signal.Halt.TheVariants.{Ends, Exits}
 use Rattle.c_meaning_spec.specs.State.{Result, Go, Over, want}
 use Rattle.c_meaning_spec.specs.inside.State.{then}
 use Rattle.c_meaning_spec.specs.State as eval
@@ -37,7 +38,7 @@ use Rattle.flat_lower.specs.inside.Sizes.{nodes, nodes_if, size_of}
 use Rattle.flat_lower.specs.declared.around.Around.{Around}
 use Rattle.flat_lower.specs.declared.around.Around.TheVariants as around
 use Rattle.flat_lower.proofs.Straight.{var_read}
-use Rattle.flat_lower.proofs.Follows.{Post, Settles, Follows, FollowsIn, moved, moved_in, settles_is, wanted}
+use Rattle.flat_lower.proofs.Follows.{Post, Settles, Follows, FollowsIn, moved, moved_in, settles_is, wanted, quits}
 use Rattle.flat_lower.proofs.Related.{Scene, IsScene, scope, context, Related, recounted}
 use Rattle.flat_lower.proofs.Values.{Valued, valued_settles, value_at, kept_at, functions, base}
 use Rattle.flat_lower.proofs.Values.{FollowsOf, run, code, operand}
@@ -161,7 +162,7 @@ module _ (P : TypedProgram) (most : ℕ) where
       leads = turn_leads checked (functions P most) (base P most) S.env a b f h.t (Gave w h.to)
           (Gave w h.to) (λ k p next. refl) h.leads;
     }
-    loop_follows x a b f up down top low (Over More s1) test post body h hu hl go = record {
+    loop_follows x a b f up down top low (Over (Ends More) s1) test post body h hu hl go = record {
       t = suc h.t;
       r = h.r;
       upper = omega (arith, h.upper);
@@ -169,12 +170,22 @@ module _ (P : TypedProgram) (most : ℕ) where
       stops = turn_stops checked (functions P most)
           (base P most) S.env a b f h.t s1.output h.r h.stops;
     }
-    loop_follows x a b f up down top low (Over Undefined s1) test post body h hu hl go = tt
-    loop_follows x a b f up down top low (Over Deep s1) test post body h hu hl go = record {
+    loop_follows x a b f up down top low (Over (Ends Undefined) s1) test post body h hu hl go = tt
+    loop_follows x a b f up down top low (Over (Ends Deep) s1) test post body h hu hl go = record {
       t = suc h.t;
       upper = omega (arith, h.upper);
       leads = turn_leads checked (functions P most) (base P most) S.env a b f h.t
           (λ k. TooDeep s1.output) (λ k. TooDeep s1.output) (λ k p next. refl) h.leads;
+    }
+    loop_follows x a b f up down top low (Over (Exits w) s1) test post body h hu hl go = record {
+      t = suc h.t;
+      to = h.to;
+      upper = omega (arith, h.upper);
+      lower = omega (arith, h.lower);
+      output = h.output;
+      fits = h.fits;
+      leads = turn_leads checked (functions P most) (base P most) S.env a b f h.t
+          (λ k. quits w h.to k) (λ k. quits w h.to k) (λ k p next. refl) h.leads;
     }
 
     -- the part after a body, and the next turn
@@ -192,7 +203,7 @@ module _ (P : TypedProgram) (most : ℕ) where
         moved_in x most (EndedIn x S) (post_of a b f) (loop_of a b h.to) h.t top low (next v s1)
         (post_moves checked (functions P most) (base P most) S.env a b f h.to h.t l)
         (omega (arith, h.upper)) k.1
-    post_follows x Q a b f up down top low (Over More s1) next h hu hl go = record {
+    post_follows x Q a b f up down top low (Over (Ends More) s1) next h hu hl go = record {
       t = h.t;
       r = h.r;
       upper = omega (arith, h.upper);
@@ -200,12 +211,22 @@ module _ (P : TypedProgram) (most : ℕ) where
       stops = post_stops checked (functions P most)
           (base P most) S.env a b f h.t s1.output h.r h.stops;
     }
-    post_follows x Q a b f up down top low (Over Undefined s1) next h hu hl go = tt
-    post_follows x Q a b f up down top low (Over Deep s1) next h hu hl go = record {
+    post_follows x Q a b f up down top low (Over (Ends Undefined) s1) next h hu hl go = tt
+    post_follows x Q a b f up down top low (Over (Ends Deep) s1) next h hu hl go = record {
       t = h.t;
       upper = omega (arith, h.upper);
       leads = post_leads checked (functions P most) (base P most) S.env a b f h.t
           (λ k. TooDeep s1.output) (λ k. TooDeep s1.output) (λ k next. refl) h.leads;
+    }
+    post_follows x Q a b f up down top low (Over (Exits w) s1) next h hu hl go = record {
+      t = h.t;
+      to = h.to;
+      upper = omega (arith, h.upper);
+      lower = omega (arith, h.lower);
+      output = h.output;
+      fits = h.fits;
+      leads = post_leads checked (functions P most) (base P most) S.env a b f h.t
+          (λ k. quits w h.to k) (λ k. quits w h.to k) (λ k next. refl) h.leads;
     }
 
     -- the code of a statement inside a loop

@@ -16,6 +16,7 @@ use Rattle.c_meaning_spec.specs.declared.signal.Signal.TheVariants.{Nothing, Val
 use Rattle.c_meaning_spec.specs.declared.signal.Signal.TheVariants.{Returns}
 use Rattle.c_meaning_spec.specs.declared.signal.Ending.{Ending}
 use Rattle.c_meaning_spec.specs.declared.signal.Ending.TheVariants.{More, Undefined, Deep}
+use Rattle.c_meaning_spec.specs.declared.signal.Halt.TheVariants.{Ends, Exits}
 use Rattle.c_meaning_spec.specs.State.{Result, Go, Over}
 use Rattle.c_meaning_spec.specs.inside.State.{then}
 use Rattle.c_meaning_spec.specs.State as eval
@@ -42,7 +43,7 @@ use Rattle.c_meaning_spec.specs.Laws.{IsInput}
 use Rattle.flat_lower.specs.inside.Keeps.{Finishes, Overflows, GoesOn, Keeps, Means, KeepsMeaning}
 use Rattle.c_constant.proofs.Conversions.{converted_is}
 use Rattle.flat_lower.specs.declared.around.Around.TheVariants as around
-use Rattle.flat_lower.proofs.Follows.{Goes, Dives, Halts, Follows, FollowsIn}
+use Rattle.flat_lower.proofs.Follows.{Goes, Dives, Halts, Follows, FollowsIn, quits}
 use Rattle.flat_lower.proofs.Related.{Scene, IsScene, context, Related}
 use Rattle.flat_lower.proofs.Values.{functions, base}
 use Rattle.flat_lower.proofs.Entered.{ArgsAre, called_scene, called_is, begins, frame_is}
@@ -63,6 +64,16 @@ pub record Gives (most n : ℕ) (run : Run) (w : ℕ) (s : eval.State) : Type 0 
   pub fits : IsWord Int w
   pub leads : Leads run t (Gave (Some w) to)
 
+-- main's run is ended with a word
+pub record Quitted (most n : ℕ) (run : Run) (w : ℕ) (s : eval.State) : Type 0 where
+  pub t : ℕ
+  pub to : State
+  pub upper : t + 8 * s.stock ≤ 8 * n
+  pub lower : n ≤ s.stock + most * (to.rounds + 1)
+  pub output : to.output ≡ s.output
+  pub fits : IsWord Int w
+  pub leads : Leads run t (λ k. quits w to k)
+
 pub record Dived (n : ℕ) (run : Run) (out : List ℕ) : Type 0 where
   pub t : ℕ
   pub upper : t ≤ 8 * n
@@ -75,15 +86,16 @@ pub record Halted (most n : ℕ) (run : Run) (out : List ℕ) : Type 0 where
   pub lower : n ≤ most * (r + 1)
   pub stops : Stops run t out r
 
-abbrev Ends : ℕ → ℕ → Run → Result → Type 0
-Ends most n run (Go Nothing s) = Unit {0}
-Ends most n run (Go (Value w) s) = Gives most n run w s
-Ends most n run (Go Breaks s) = ⊥
-Ends most n run (Go Continues s) = ⊥
-Ends most n run (Go (Returns w) s) = ⊥
-Ends most n run (Over More s) = Halted most n run s.output
-Ends most n run (Over Undefined s) = Unit {0}
-Ends most n run (Over Deep s) = Dived n run s.output
+abbrev MainEnds : ℕ → ℕ → Run → Result → Type 0
+MainEnds most n run (Go Nothing s) = Unit {0}
+MainEnds most n run (Go (Value w) s) = Gives most n run w s
+MainEnds most n run (Go Breaks s) = ⊥
+MainEnds most n run (Go Continues s) = ⊥
+MainEnds most n run (Go (Returns w) s) = ⊥
+MainEnds most n run (Over (Ends More) s) = Halted most n run s.output
+MainEnds most n run (Over (Ends Undefined) s) = Unit {0}
+MainEnds most n run (Over (Ends Deep) s) = Dived n run s.output
+MainEnds most n run (Over (Exits w) s) = Quitted most n run w s
 
 more_rounds : (most r : ℕ) → most * (r + 1) ≡ most + most * r
 more_rounds most r = let e : r + 1 ≡ suc r = omega arith in ap (λ n. most * n) e ∙ mul-suc most r ∙ omega arith
@@ -136,7 +148,7 @@ module _ (P : TypedProgram) (most : ℕ) (sound : FitsSource (source_of P)) (lar
     low = n - size_of (stmt_of f.body)
 
     comes_out : (r : Result) → FollowsIn around.Nowhere most (EndedIn around.Nowhere S1) (inner B) (8 * n + 4) low r
-        → Ends most (suc n) main_run (then r
+        → MainEnds most (suc n) main_run (then r
         (left true [] (length (evaluation.start P input n).arrays) 0 0))
     comes_out (Go Nothing s) h =
         let end = both_lead checked (functions P most) (base P most) env B (only (flat.Return (Some (Const 0)))) first
@@ -175,7 +187,7 @@ module _ (P : TypedProgram) (most : ℕ) (sound : FitsSource (source_of P)) (lar
           leads = closed_leads P most 0 P.main f found [] g0 room h.t (Gave (Some w) h.to)
               (Gave (Some w) (closed (arrays_at (base P most) F 0) F.arrays h.to)) (λ k. refl) end;
         }
-    comes_out (Over More s) h =
+    comes_out (Over (Ends More) s) h =
         let m = more_rounds most h.r in
         let z = size in
         record {
@@ -187,8 +199,8 @@ module _ (P : TypedProgram) (most : ℕ) (sound : FitsSource (source_of P)) (lar
               (first_stops checked (functions P most) (base P most) env B
               (end_code (nat_eq P.main P.main)) first h.t s.output h.r h.stops);
         }
-    comes_out (Over Undefined s) h = tt
-    comes_out (Over Deep s) h = record {
+    comes_out (Over (Ends Undefined) s) h = tt
+    comes_out (Over (Ends Deep) s) h = record {
       t = h.t;
       upper = omega (arith, h.upper);
       leads = closed_leads P most 0 P.main f found [] g0 room h.t (λ k. TooDeep s.output)
@@ -197,10 +209,26 @@ module _ (P : TypedProgram) (most : ℕ) (sound : FitsSource (source_of P)) (lar
           (end_code (nat_eq P.main P.main)) first h.t (λ k. TooDeep s.output)
           (λ k next. refl) h.leads);
     }
+    comes_out (Over (Exits w) s) h =
+        let m = more_rounds most h.to.rounds in
+        let z = size in
+        record {
+          t = h.t;
+          to = h.to;
+          upper = omega (arith, h.upper);
+          lower = omega (arith, h.lower);
+          output = h.output;
+          fits = h.fits;
+          leads = closed_leads P most 0 P.main f found [] g0 room h.t (λ k. quits w h.to k)
+              (λ k. quits w h.to k) (λ k. refl)
+              (first_leads checked (functions P most) (base P most) env B
+              (end_code (nat_eq P.main P.main)) first h.t (λ k. quits w h.to k)
+              (λ k next. refl) h.leads);
+        }
 
   -- main's frame has room or it has not
   main_enters : (n : ℕ) (b : Bool) → nat_le (0 + frame f) 1048576 ≡ b
-      → Ends most (suc n) main_run (entered_if (meaning P) true b f [] (evaluation.start P input n))
+      → MainEnds most (suc n) main_run (entered_if (meaning P) true b f [] (evaluation.start P input n))
   main_enters n false e =
       let same : 0 + frame f ≡ 0 + frame_of F = ap (λ n. 0 + n)
       (frame_is P f F (lowered_is P most f (nat_eq P.main P.main))) in
@@ -233,7 +261,7 @@ module _ (P : TypedProgram) (most : ℕ) (sound : FitsSource (source_of P)) (lar
       no_args : (slots : List Slot) (n : ℕ) → n ≡ 0 → ArgsAre P S0.objects (take n slots) [] []
       no_args slots n e = subst (λ n. ArgsAre P S0.objects (take n slots) [] []) (sym e) tt
 
-  main_ends : (n : ℕ) → Ends most n main_run
+  main_ends : (n : ℕ) → MainEnds most n main_run
       (called (meaning P) P (callee.Func P.main) [] (evaluation.start P input n))
   main_ends zero = record {
     t = 0;
@@ -243,13 +271,13 @@ module _ (P : TypedProgram) (most : ℕ) (sound : FitsSource (source_of P)) (lar
     stops = waits_stop main_run [] 0 (call_waits P most 0 P.main f found [] g0);
   }
   main_ends (suc n) =
-      subst (λ b. Ends most (suc n) main_run
+      subst (λ b. MainEnds most (suc n) main_run
       (enter (meaning P) b (slice_get P.functions P.main) [] (evaluation.start P input n))) (sym is_main)
-      (subst (λ o. Ends most (suc n) main_run
+      (subst (λ o. MainEnds most (suc n) main_run
       (enter (meaning P) true o [] (evaluation.start P input n))) (sym found)
-      (subst (λ p. Ends most (suc n) main_run
+      (subst (λ p. MainEnds most (suc n) main_run
       (cond (nat_eq 0 p) (entered_if (meaning P) true (nat_le (0 + frame f) 1048576) f []
-      (evaluation.start P input n)) (Over Undefined (evaluation.start P input n)))) (sym params)
+      (evaluation.start P input n)) (Over (Ends Undefined) (evaluation.start P input n)))) (sym params)
       (main_enters n (nat_le (0 + frame f) 1048576) refl)))
 
   -- A RUN BY ITS TURNS
@@ -261,12 +289,11 @@ module _ (P : TypedProgram) (most : ℕ) (sound : FitsSource (source_of P)) (lar
   unfolding flat_run lowered
   turns_are m = refl
 
-  turns_lead : (t : ℕ) (g : ℕ → Res) → Leads main_run t g → (k : ℕ)
-      → by_turns (t + k) ≡ concluded (g k)
-  turns_lead t g l k = turns_are (t + k)
-      ∙ ap concluded (l.by k (t + k) (t + k) (suc (t + k)) refl (omega arith) (omega arith))
+  turns_lead : (t : ℕ) (g : ℕ → Res) → Leads main_run t g → (k : ℕ) → by_turns (t + k) ≡ concluded (g k)
+  turns_lead t g l k = turns_are (t + k) ∙ ap concluded (l.by k (t + k) (t + k) (suc (t + k)) refl
+      (omega arith) (omega arith))
 
-  keeps : (n : ℕ) (r : Result) → Ends most n main_run r → Keeps most by_turns n (outcome n r)
+  keeps : (n : ℕ) (r : Result) → MainEnds most n main_run r → Keeps most by_turns n (outcome n r)
   keeps n (Go Nothing s) h = tt
   keeps n (Go (Value w) s) h = record {
     turns = h.t;
@@ -282,18 +309,29 @@ module _ (P : TypedProgram) (most : ℕ) (sound : FitsSource (source_of P)) (lar
   keeps n (Go Breaks s) h = absurd h
   keeps n (Go Continues s) h = absurd h
   keeps n (Go (Returns w) s) h = absurd h
-  keeps n (Over More s) h = record {
+  keeps n (Over (Ends More) s) h = record {
     turns = h.t;
     rounds = h.r;
     few = h.upper;
     many = h.lower;
     is = turns_are h.t ∙ ap concluded (h.stops.by h.t (suc h.t) (omega arith) (omega arith));
   }
-  keeps n (Over Undefined s) h = tt
-  keeps n (Over Deep s) h = record {
+  keeps n (Over (Ends Undefined) s) h = tt
+  keeps n (Over (Ends Deep) s) h = record {
     turns = h.t;
     few = h.upper;
     ends = turns_lead h.t (λ k. TooDeep s.output) h.leads;
+  }
+  keeps n (Over (Exits w) s) h = record {
+    turns = h.t;
+    word = w;
+    to = h.to;
+    few = omega (arith, h.upper);
+    many = omega (arith, h.lower);
+    fits = h.fits;
+    is = ap (number Int) (sym (converted_is Int w h.fits));
+    output = h.output;
+    ends = turns_lead h.t (λ k. quits w h.to k) h.leads;
   }
 
   pub main_keeps : (n : ℕ) → Keeps most by_turns n (evaluation.eval P input n)

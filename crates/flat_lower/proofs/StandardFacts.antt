@@ -278,6 +278,24 @@ pub echoes : run (main [] [] (does (Call (Some Int) callee.PutChar
 unfolding flat_run frame_limit first_memory apply load save marked lowered global_at array_at
 echoes = refl
 
+-- int f(void) { putchar(65); exit(3); putchar(66); } int main(void) { return f() + 1; }
+abbrev puts : ℕ → Stmt
+puts w = does (Call (Some Int) callee.PutChar (exprs (n w ∷ [])))
+
+abbrev exits_below : Source
+exits_below = record {
+  globals = [];
+  functions =
+      func 0 [] [] (puts 65 ∷ does (Call None callee.Exit (exprs (n 3 ∷ []))) ∷ puts 66 ∷ [])
+      ∷ func 0 [] [] (gives (two op.Add (Call (Some Int) (callee.Func 0) NoExprs) (n 1)) ∷ []) ∷ [];
+  main = 1;
+}
+
+-- what stands behind exit is not done, in its function and in those that wait
+pub exit_ends_all : run exits_below [] ≡ 4 ∷ 3 ∷ 65 ∷ []
+unfolding flat_run frame_limit first_memory apply load save marked lowered global_at array_at
+exit_ends_all = refl
+
 -- CONVERSIONS AND POWERS OF TWO
 
 -- a char is a short, an int and a long as it stands, but no unsigned int

@@ -8,6 +8,7 @@ use Rattle.c_meaning_spec.specs.declared.signal.Signal.{Signal}
 use Rattle.c_meaning_spec.specs.declared.signal.Signal.TheVariants.{Nothing, Value, Breaks, Continues}
 use Rattle.c_meaning_spec.specs.declared.signal.Signal.TheVariants.{Returns}
 use Rattle.c_meaning_spec.specs.declared.signal.Ending.TheVariants.{More, Undefined, Deep}
+use Rattle.c_meaning_spec.specs.declared.signal.Halt.TheVariants.{Ends, Exits}
 use Rattle.c_meaning_spec.specs.State.{Result, Go, Over}
 use Rattle.c_meaning_spec.specs.inside.State.{then}
 use Rattle.c_meaning_spec.specs.State as eval
@@ -16,7 +17,8 @@ use Rattle.c_meaning_spec.specs.Eval.{meaning}
 use Rattle.ir_forms.specs.declared.flat.Arg.TheVariants.{Var}
 use Rattle.ir_forms.specs.inside.FlatCode.{Code, Nop, Then, only, Loop}
 use Rattle.ir_forms.specs.inside.FlatCode as flat
-use Rattle.ir_forms.specs.inside.FlatSteps.{State, Res, Broke, Gave, TooDeep, settle, counted}
+use Rattle.ir_forms.specs.inside.FlatSteps.{State, Res, Broke, Gave, How, NoRoom, Exited, Halts, settle}
+use Rattle.ir_forms.specs.inside.FlatSteps.{counted}
 use Rattle.ir_forms.specs.inside.FlatRuns.{checked}
 use Rattle.ir_forms.proofs.Leads.{Run, Leads, Stops, Moves, leads_from, stops_from}
 use Rattle.ir_forms.proofs.Steps.{then_moves, both_lead, first_leads, first_stops}
@@ -140,13 +142,13 @@ module _ (P : TypedProgram) (most : ℕ) (S : Scene) (y : IsScene P S) where
         (turn_leads checked (functions P most) (base P most) S.env A Nop f t (Gave w to) (Gave w to)
         (λ k p next. refl) l))
 
-    loop_dives : (t : ℕ) (out : List ℕ) → Leads (run P most S y A (counted f)) t (λ k. TooDeep out)
-        → Leads whole (suc t) (λ k. TooDeep out)
-    loop_dives t out l =
+    loop_halts : (t : ℕ) (how : ℕ → How) → Leads (run P most S y A (counted f)) t (λ k. Halts (how k))
+        → Leads whole (suc t) (λ k. Halts (how k))
+    loop_halts t how l =
         first_leads checked (functions P most) (base P most) S.env (only (Loop A Nop)) B f (suc t)
-        (λ k. TooDeep out) (λ k next. refl) (turned t (λ k. TooDeep out) (λ k. TooDeep out) l
-        (turn_leads checked (functions P most) (base P most) S.env A Nop f t (λ k. TooDeep out)
-        (λ k. TooDeep out) (λ k p next. refl) l))
+        (λ k. Halts (how k)) (λ k next. refl) (turned t (λ k. Halts (how k)) (λ k. Halts (how k)) l
+        (turn_leads checked (functions P most) (base P most) S.env A Nop f t (λ k. Halts (how k))
+        (λ k. Halts (how k)) (λ k p next. refl) l))
 
     -- where the body of a switch's loop has not ended, the switch has not
     pub loop_stops : (t : ℕ) (out : List ℕ) (r : ℕ) → Stops (run P most S y A (counted f)) t out r
@@ -215,7 +217,7 @@ module _ (P : TypedProgram) (most : ℕ) (S : Scene) (y : IsScene P S) where
             h.t (Gave w h.to) m (first_leads checked (functions P most) (base P most) S.env Secs
             (only flat.Break) g h.t (Gave w h.to) (λ k next. refl) h.leads));
       }
-  runs_out a all Secs f g t0 up down top low (Over More s) m h hu hl =
+  runs_out a all Secs f g t0 up down top low (Over (Ends More) s) m h hu hl =
       let A = Then all (only flat.Break) in
       record {
         t = suc (t0 + h.t);
@@ -227,14 +229,28 @@ module _ (P : TypedProgram) (most : ℕ) (S : Scene) (y : IsScene P S) where
             h.t s.output h.r m (first_stops checked (functions P most) (base P most) S.env Secs
             (only flat.Break) g h.t s.output h.r h.stops));
       }
-  runs_out a all Secs f g t0 up down top low (Over Undefined s) m h hu hl = tt
-  runs_out a all Secs f g t0 up down top low (Over Deep s) m h hu hl =
+  runs_out a all Secs f g t0 up down top low (Over (Ends Undefined) s) m h hu hl = tt
+  runs_out a all Secs f g t0 up down top low (Over (Ends Deep) s) m h hu hl =
       let A = Then all (only flat.Break) in
       record {
         t = suc (t0 + h.t);
         upper = omega (arith, h.upper);
-        leads = loop_dives A (behind_code a) f (t0 + h.t) s.output
+        leads = loop_halts A (behind_code a) f (t0 + h.t) (λ k. NoRoom s.output)
             (leads_from (run P most S y A (counted f)) (run P most S y (Then Secs (only flat.Break)) g) t0
-            h.t (λ k. TooDeep s.output) m (first_leads checked (functions P most) (base P most) S.env Secs
-            (only flat.Break) g h.t (λ k. TooDeep s.output) (λ k next. refl) h.leads));
+            h.t (λ k. Halts (NoRoom s.output)) m (first_leads checked (functions P most) (base P most) S.env
+            Secs (only flat.Break) g h.t (λ k. Halts (NoRoom s.output)) (λ k next. refl) h.leads));
+      }
+  runs_out a all Secs f g t0 up down top low (Over (Exits w) s) m h hu hl =
+      let A = Then all (only flat.Break) in
+      record {
+        t = suc (t0 + h.t);
+        to = h.to;
+        upper = omega (arith, h.upper);
+        lower = omega (arith, h.lower);
+        output = h.output;
+        fits = h.fits;
+        leads = loop_halts A (behind_code a) f (t0 + h.t) (λ k. Exited w h.to k)
+            (leads_from (run P most S y A (counted f)) (run P most S y (Then Secs (only flat.Break)) g) t0
+            h.t (λ k. Halts (Exited w h.to k)) m (first_leads checked (functions P most) (base P most) S.env
+            Secs (only flat.Break) g h.t (λ k. Halts (Exited w h.to k)) (λ k next. refl) h.leads));
       }

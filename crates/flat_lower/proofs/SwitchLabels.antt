@@ -7,6 +7,7 @@ use Rattle.c_tree.specs.declared.TypedStmt.{TypedStmt}
 use Rattle.c_tree.specs.declared.TypedSection.{TypedSection}
 use Rattle.c_tree.specs.declared.TypedProgram.{TypedProgram}
 use Rattle.c_meaning_spec.specs.declared.signal.Ending.TheVariants.{More}
+use Rattle.c_meaning_spec.specs.declared.signal.Halt.TheVariants.{Ends}
 use Rattle.c_meaning_spec.specs.State.{Result, Over, spend_of}
 use Rattle.c_meaning_spec.specs.State as eval
 use Rattle.c_meaning_spec.specs.Statement.{Target, bodies, leading, targets, run_from, compared}
@@ -59,7 +60,7 @@ module _ (P : TypedProgram) (most : ℕ) (S : Scene) (y : IsScene P S) where
   pub record Stopped (a : Code) (f : State) (s : eval.State) (c : ℕ) (r : Result) : Type 0 where
     pub t : ℕ
     pub at : eval.State
-    pub is : r ≡ Over More at
+    pub is : r ≡ Over (Ends More) at
     pub few : t ≤ 8 * s.stock
     pub all : s.stock ≤ c
     pub stops : Stops (run P most S y a f) t at.output f.rounds

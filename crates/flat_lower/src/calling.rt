@@ -6,7 +6,7 @@ ghost use Rattle.flat_lower.specs.inside.Expressions as expressions;
 ghost use Rattle.flat_lower.specs.inside.Expressions.{call_code};
 ghost use Rattle.flat_lower.specs.inside.Emitted.{Adds};
 
-use crate::emit::{put_call, put_get, put_let, put_out, temp};
+use crate::emit::{put_call, put_get, put_halt, put_let, put_out, temp};
 use base::{Items, Memory};
 use c_tree::{Callee, Kind};
 use ir_forms::{Arg, FlatStmt};
@@ -50,5 +50,6 @@ pub fn put_callee(
         Callee::Func(f) => put_call(code, f, args, result_var(kind, d)),
         Callee::GetChar => put_get(code, temp(d)),
         Callee::PutChar => put_putchar(code, kind, d, &args),
+        Callee::Exit => put_halt(code, Arg::Var(temp(d))),
     }
 }

@@ -113,6 +113,14 @@ pub fn put_get(code: &mut Items<FlatStmt>, to: u16) -> Result<(), Memory>
     put(code, FlatStmt::Get { to })
 }
 
+/// The end of the whole run.
+#[tactic(auto, using(crate::proofs::Emits::steps))]
+pub fn put_halt(code: &mut Items<FlatStmt>, value: Arg) -> Result<(), Memory>
+    ensures { OnOk result (Adds code.old code.new (only (flat.Halt value))) }
+{
+    put(code, FlatStmt::Halt(value))
+}
+
 /// A choice between two codes.
 #[tactic(auto, using(crate::proofs::Emits::steps))]
 pub fn put_if(

@@ -130,6 +130,7 @@ module _ (w : Weight) (c : Context) where
   call_takes (callee.Func f) k d args = record { few = omega (arith, w.calls) }
   call_takes callee.GetChar k d args = record { few = omega (arith, w.gets) }
   call_takes callee.PutChar k d args = record { few = omega arith }
+  call_takes callee.Exit k d args = record { few = omega arith }
 
   tested_takes : (d : ℕ) → Takes w 0 1 (tested d)
   tested_takes d = record { few = omega arith }

@@ -2,7 +2,7 @@
 use Rattle.std.specs.Prelude.{◌≡◌, Bool, true, false, List, [], ◌∷◌, ◌++◌}
 use Rattle.c_tree.specs.declared.TypedProgram.{TypedProgram}
 use Rattle.c_meaning_spec.specs.declared.Signal.{Signal}
-use Rattle.c_meaning_spec.specs.declared.Ending.{Ending}
+use Rattle.c_meaning_spec.specs.declared.Halt.{Halt}
 use Rattle.c_meaning_spec.specs.State.{State, Result, Go, Over, want}
 use Rattle.c_meaning_spec.specs.inside.State.{then}
 use Rattle.c_meaning_spec.specs.Task.{Task, Turn, element, row_element, after_row}
@@ -26,7 +26,7 @@ use Rattle.c_meaning.specs.inside.Follow.{FBumpAfterRow, FBumpRow, FSwitch, FSec
 pub data Next : Type 0 where
   ToDo : (t : Task) → Next
   Given : (v : Signal) → Next
-  Ended : (why : Ending) → Next
+  Ended : (why : Halt) → Next
 
 -- what a frame makes of what comes to it
 abbrev pub back_of : TypedProgram → Follow → Signal → State → Result

@@ -11,7 +11,7 @@ use Rattle.c_tree.specs.declared.BinaryOp.TheVariants.{LogicalOr, LogicalAnd}
 use Rattle.c_tree.specs.declared.Place.{Place}
 use Rattle.c_tree.specs.declared.Place.TheVariants.{Global, Scalar, Array}
 use Rattle.c_tree.specs.declared.Callee.{Callee}
-use Rattle.c_tree.specs.declared.Callee.TheVariants.{Func, GetChar, PutChar}
+use Rattle.c_tree.specs.declared.Callee.TheVariants.{Func, GetChar, PutChar, Exit}
 use Rattle.c_meaning_spec.specs.Task.{is_array}
 use Rattle.trips_isa.specs.declared.op.Op.TheVariants as op
 use Rattle.ir_forms.specs.declared.flat.Arg.{Arg}
@@ -179,12 +179,13 @@ abbrev pub result_var : Option Kind → ℕ → Option ℕ
 result_var None d = None
 result_var (Some k) d = Some (temp d)
 
--- `putchar` gives the byte that it puts out
+-- `putchar` gives the byte that it puts out; `exit` ends the whole run
 abbrev pub call_code : Callee → Option Kind → ℕ → List Arg → Code
 call_code (Func f) k d args = only (flat.Call f args (result_var k d) stays)
 call_code GetChar k d args = only (Get (temp d))
 call_code PutChar k d args =
     Then (only (Put (Var (temp d)))) (only (Let (temp d) op.Extub (Var (temp d)) (Const 0)))
+call_code Exit k d args = only (flat.Halt (Var (temp d)))
 
 -- EXPRESSIONS
 
