@@ -148,8 +148,8 @@ fn counted_run(
 {
     let _ = image.count();
     runs_of_a_seed_end();
-    let run = counted_image(alloc, image, input, seed, most)?;
-    counted_answer(alloc, &run, show)
+    let counted = counted_image(alloc, image, input, seed, most)?;
+    counted_answer(alloc, &counted, show)
 }
 
 /// Runs an image on an input, on the grid of a seed and for as many blocks as are allowed, and tells how its run
@@ -265,8 +265,8 @@ fn counted_run_from(
     let _ = arch.memory();
     let _ = arch.register(0);
     runs_from_a_state_end();
-    let run = counted_from(alloc, image, arch, seed, most)?;
-    counted_answer(alloc, &run, show)
+    let counted = counted_from(alloc, image, arch, seed, most)?;
+    counted_answer(alloc, &counted, show)
 }
 
 /// Goes on with a machine of an image whose trace is empty, on the grid of a seed and for as many blocks as are

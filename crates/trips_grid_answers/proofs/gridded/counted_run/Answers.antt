@@ -12,9 +12,9 @@ returns c =
     let some : 0 < length c.args.image.blocks = omega (arith, image.fits.some) in
     let few : c.args.most < 2 ^ 32 = omega (arith) in
     counted_told c.args.image.blocks (start c.args.image.bytes c.args.input) c.args.seed c.args.most c.args.show _
-    c.in_ok-run.run.ending _ _ c.in_ok-run.ensures.image
+    c.in_ok-counted.counted.ending _ _ c.in_ok-counted.ensures.image
     (c.runs_of_a_seed_end.ensures.within _ _ _ _ _ _ _ good some image.fits.few c.requires.some few)
     (c.runs_of_a_seed_end.ensures.trapped _ _ _ _ _ _ _ good some image.fits.few c.requires.some few)
     (λ block cause. c.runs_of_a_seed_end.ensures.trapped_block _ _ _ _ _ block cause _ good some image.fits.few
     c.requires.some few)
-    c.in_ok-run.run.told c.in_ok-run.ensures.ran c.counted_answer.ensures
+    c.in_ok-counted.counted.told c.in_ok-counted.ensures.ran c.counted_answer.ensures

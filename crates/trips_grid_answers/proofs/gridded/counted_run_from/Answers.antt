@@ -14,9 +14,9 @@ returns c =
     let value = c.memory.ensures.value in
     let full : IsWhole s = record { registers = c.register.ensures.count; memory = rw (sym value) size } in
     let few : c.args.most < 2 ^ 32 = omega (arith) in
-    counted_told c.args.image.blocks s c.args.seed c.args.most c.args.show _ c.in_ok-run.run.ending _ _
-    c.in_ok-run.ensures.image
+    counted_told c.args.image.blocks s c.args.seed c.args.most c.args.show _ c.in_ok-counted.counted.ending _ _
+    c.in_ok-counted.ensures.image
     (c.runs_from_a_state_end.ensures.within _ _ _ _ _ _ good full c.requires.next few)
     (c.runs_from_a_state_end.ensures.trapped _ _ _ _ _ _ good full c.requires.next few)
     (λ block cause. c.runs_from_a_state_end.ensures.trapped_block _ _ _ _ block cause _ good full c.requires.next few)
-    c.in_ok-run.run.told c.in_ok-run.ensures.ran c.counted_answer.ensures
+    c.in_ok-counted.counted.told c.in_ok-counted.ensures.ran c.counted_answer.ensures
