@@ -4,7 +4,8 @@ ghost use Rattle.grid_log.specs.declared.event.Event.TheVariants as event;
 ghost use Rattle.trips_event_lines.specs.Lines.{event_text, line, lines};
 
 use crate::words::{
-    put_cause, put_named, put_named_if, put_operation, put_three, put_two, put_word_if,
+    put_cause, put_named, put_named_if, put_named_word, put_operation, put_three, put_two,
+    put_word_if,
 };
 use grid_log::{Cause, Entry, Event};
 use isa_table::put_number;
@@ -15,8 +16,7 @@ use trips_isa::Op;
 fn put_begin(out: &mut Vec<u8>, block: u32, careful: bool) -> Result<(), AllocError>
     ensures { OnOk result (out.new.items ≡ out.old.items ++ event_text (event.Begins block careful)) }
 {
-    put_named(out, b" begin block ", block as u64)?;
-    put_word_if(out, careful, b" careful")
+    put_named_word(out, b" begin block ", block as u64, careful, b" careful")
 }
 
 // A tile issues the operation of a slot.

@@ -52,6 +52,20 @@ pub fn put_word_if(out: &mut Vec<u8>, is: bool, word: &[u8]) -> Result<(), Alloc
     }
 }
 
+/// Writes a name with a number, and behind it a word where it is so.
+pub fn put_named_word(
+    out: &mut Vec<u8>,
+    name: &[u8],
+    n: u64,
+    is: bool,
+    word: &[u8],
+) -> Result<(), AllocError>
+    ensures { OnOk result (out.new.items ≡ out.old.items ++ (named name.now n ++ word_if is word.now)) }
+{
+    put_named(out, name, n)?;
+    put_word_if(out, is, word)
+}
+
 /// Writes the mnemonic of an operation behind a space, where there is one.
 pub fn put_operation(out: &mut Vec<u8>, op: Option<Op>) -> Result<(), AllocError>
     ensures { OnOk result (out.new.items ≡ out.old.items ++ operation_text op) }
