@@ -17,7 +17,8 @@ use Rattle.c_tree.specs.declared.typed.Slot.TheVariants as slot
 use Rattle.c_type_expr.specs.declared.meaning.Meaning.{Meaning}
 use Rattle.c_type_expr.specs.declared.meaning.Meaning.TheVariants as meaning
 use Rattle.c_type_expr.specs.Scope.{Frame, same_name, find, bound}
-use Rattle.c_type.specs.FileScopes.{eof_name, getchar_name, putchar_name, get_char, put_char, count_after}
+use Rattle.c_type.specs.FileScopes.{eof_name, getchar_name, putchar_name, exit_name, get_char, put_char, exit_now}
+use Rattle.c_type.specs.FileScopes.{count_after}
 use Rattle.c_type_rules.specs.Definitions as rules
 use Rattle.c_type_rules.specs.Definitions.{Defines, Calls, CallsIn}
 use Rattle.bench_laws.proofs.Trees.{InLine, Offsets, name_a, name_i, name_x, name_f, function, functions, main, array}
@@ -49,8 +50,8 @@ array_meaning = meaning.Array Long None (place.Global 0)
 
 -- the names at file scope behind the functions below n
 abbrev pub frame : ℕ → Frame
-frame zero = bound name_a array_meaning ∷ bound eof_name meaning.EndOfFile ∷ bound putchar_name put_char
-    ∷ bound getchar_name get_char ∷ []
+frame zero = bound name_a array_meaning ∷ bound eof_name meaning.EndOfFile ∷ bound exit_name exit_now
+    ∷ bound putchar_name put_char ∷ bound getchar_name get_char ∷ []
 frame (suc n) = bound (name_f n) (function_meaning n) ∷ frame n
 
 -- behind n functions, `a` is the array
@@ -138,6 +139,7 @@ names_is : {n : ℕ} {t : TopNode} {w : List ℕ} {c : Callee} → Defines n t w
 names_is rules.function = refl
 names_is rules.input = tt
 names_is rules.output = tt
+names_is rules.exit = tt
 
 -- the number of definitions is counted up
 counted : (w : List ℕ) (a : ℕ) (ts : List Top) (o : Option Callee) → Calls w (suc a) ts o → Calls w (a + 1) ts o

@@ -370,7 +370,7 @@ array_item o n =
 items : (o : t.Offsets) (n : ℕ) → n ≤ 64 → Items (tree o n) empty_file (tree o n) (whole_file n)
 items o n few =
     let e : n ≡ 0 + n = omega arith in
-    un.one_item (un.include refl un.fresh un.fresh)
+    un.one_item (un.include refl un.fresh un.fresh un.fresh)
     (un.one_item (array_item o n)
     (subst (λ (fs : List Top). Items (tree o n) (file 0) (fs ++ t.main o n ∷ []) (whole_file n))
     (sym (functions_are o.functions n))
