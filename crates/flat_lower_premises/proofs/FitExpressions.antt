@@ -105,8 +105,7 @@ module _ (P : TypedProgram) (f : TypedFunc) (globals : Each GlobalFits P.globals
       let one = subst (λ s. FitsArgs c d s es) (sym (ap (λ (s : Signature). s.params) is)) a in
       (sym (ap (λ (s : Signature). s.result) is), one_arg d es one)
   call_fits r slots callee.Exit es d s a =
-      let is = some_is _ _ s in
-      (
+      let is = some_is _ _ s in (
         sym (ap (λ (s : Signature). s.result) is),
         subst (λ s. FitsArgs c d s es) (sym (ap (λ (s : Signature). s.params) is)) a,
       )
