@@ -1,5 +1,5 @@
 -- The words of all values are those of their rows.
-use Rattle.std.proofs.Common.{◌≡◌, ℕ, ◌+◌, ◌-◌, ◌*◌, ◌<◌, false, arith, List, [], ◌∷◌, ◌++◌, map, length, take}
+use Rattle.std.proofs.Common.{◌≡◌, ℕ, ◌+◌, ◌-◌, ◌*◌, ◌/◌, ◌<◌, false, arith, List, [], ◌∷◌, ◌++◌, map, length, take}
 use Rattle.std.proofs.Common.{drop, refl}
 use Rattle.std.proofs.Common.{sym, ap, ◌∙◌, suc, Some, None, append_assoc, get_or}
 use Rattle.std.proofs.Math.Seq.{drop-cons}
@@ -106,3 +106,15 @@ too_many UInt p b h = grind (arith, nat_tests)
 too_many Long p b h = grind (arith, nat_tests)
 too_many ULong p b h = grind (arith, nat_tests)
 too_many kind.Bool p b h = grind (arith, nat_tests)
+
+-- so many elements are within an object's bytes exactly where they are at most the quotient
+pub as_quotient : (k : Kind) (n : ℕ) → nat_le n (1048576 / bytes k) ≡ nat_le (n * bytes k) 1048576
+as_quotient Char n = grind (arith, nat_tests)
+as_quotient UChar n = grind (arith, nat_tests)
+as_quotient Short n = grind (arith, nat_tests)
+as_quotient UShort n = grind (arith, nat_tests)
+as_quotient Int n = grind (arith, nat_tests)
+as_quotient UInt n = grind (arith, nat_tests)
+as_quotient Long n = grind (arith, nat_tests)
+as_quotient ULong n = grind (arith, nat_tests)
+as_quotient kind.Bool n = grind (arith, nat_tests)

@@ -1,8 +1,10 @@
 //! Local declarations.
 
-ghost use Rattle.std.specs.Prelude.{◌≡◌, ◌<◌, length};
+ghost use Rattle.std.specs.Prelude.{◌≡◌, ◌<◌, ◌*◌, length, nat_le};
 ghost use Rattle.std.specs.Option.{option_copied};
+ghost use Rattle.c_tree.specs.Limits.{most_object_bytes};
 ghost use Rattle.c_tree.specs.declared.tree.StmtNode.TheVariants as node;
+ghost use Rattle.c_constant.specs.Kinds as kinds;
 ghost use Rattle.c_type_expr.specs.Blames.{first};
 ghost use Rattle.c_type_expr.specs.Constants as constants;
 ghost use Rattle.c_type_expr.specs.inside.Says.{Says};
@@ -88,6 +90,14 @@ pub fn row_in(size: &ArraySize, length: u32) -> Option<u32>
     }
 }
 
+/// Whether so many elements of a kind have no more bytes than an object may have.
+#[tactic(auto, using(crate::proofs::Rows::as_quotient))]
+fn fits_object(elements: u64, kind: Kind) -> bool
+    ensures { result ≡ nat_le (elements * kinds.bytes kind) most_object_bytes }
+{
+    elements <= MOST_OBJECT_BYTES / bytes(kind) as u64
+}
+
 /// How many elements an array has that may be declared, and its second size.
 fn array_length(
     names: &Scopes,
@@ -105,7 +115,7 @@ fn array_length(
     let Some(all) = rows.checked_mul(length) else {
         return Err(TypeFault::TooLarge(offset));
     };
-    if all > MOST_OBJECT_BYTES / bytes(kind) as u64 {
+    if !fits_object(all, kind) {
         return Err(TypeFault::TooLarge(offset));
     }
     let length = short(length)?;

@@ -19,6 +19,7 @@ kind_number kind.Int = 4
 kind_number kind.UInt = 5
 kind_number kind.Long = 6
 kind_number kind.ULong = 7
+kind_number kind.Bool = 8
 
 -- Are two forms one? Keywords are told apart where they are words of declarations: no other one stands in these.
 abbrev pub same_form : Form → Form → Bool

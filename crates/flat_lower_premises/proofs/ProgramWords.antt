@@ -97,7 +97,7 @@ small_has n kind.Bool h w = absurd (cc)
 
 -- what the library adds has words
 library_has : Allows FormHasWord
-library_has = record { name = λ w. tt; key = λ k. tt; mark = λ m. tt; number = small_has }
+library_has = record { include = tt; name = λ w. tt; key = λ k. tt; mark = λ m. tt; number = small_has }
 
 -- the two ways to say it of each token
 each_of : (ts : Tokens) → TokensHaveWords ts → EachToken FormHasWord ts
