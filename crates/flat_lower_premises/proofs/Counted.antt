@@ -82,7 +82,7 @@ added gs g = let h = length-append gs (g ∷ []) in omega (arith, h)
 
 item_adds : (T : List Top) (U : FileScope) (n : TopNode) (V : FileScope) → Item T U n V
     → length V.globals ≤ 1 + length U.globals
-item_adds T U _ _ (typing.include e g p) = omega arith
+item_adds T U _ _ (typing.include e g p x) = omega arith
 item_adds T U _ _ (typing.include_again e) = omega arith
 item_adds T U _ _ (typing.global c e b v) = added U.globals _
 item_adds T U _ _ (typing.prototype k h) = omega arith

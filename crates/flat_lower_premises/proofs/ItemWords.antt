@@ -101,7 +101,7 @@ module _ (T : List Top) where
   -- an item keeps this
   item_has : (U : FileScope) (n : TopNode) (V : FileScope) → Item T U n V → TopHasWords n
       → FileHasWords U → FileHasWords V
-  item_has _ _ _ (typing.include a g p) w i =
+  item_has _ _ _ (typing.include a g p x) w i =
       record { globals = i.globals; functions = i.functions }
   item_has _ _ _ (typing.include_again a) w i = i
   item_has _ _ _ (typing.global {U = U} {k = k} {w = name} {s = s} {init = init} {n = n} {ns = ns} c a m v) w i =

@@ -38,6 +38,7 @@ phrase_nodes (e.args es) = 1 + exprs_nodes es
 phrase_nodes (e.arg_list es) = 1 + exprs_nodes es
 
 types_few : {l : ℕ} {k : Kind} {f t : Tokens} → Types l k f t → 1 + length t ≤ length f
+types_few bool = omega arith
 types_few char = omega arith
 types_few signed_char = omega arith
 types_few unsigned_char = omega arith

@@ -54,6 +54,7 @@ suffixed_has decreased x h = made _ _ (node.rolls-Bump bump.PostDec x) (has.step
 -- where the tokens have words, so has what stands behind a type that they name
 pub named_type : {l : ℕ} {k : Kind} {f t : Tokens} → Types l k f t → TokensHaveWords f
     → TokensHaveWords t
+named_type type.bool h = h.1
 named_type type.char h = h.1
 named_type type.signed_char h = h.1.1
 named_type type.unsigned_char h = h.1.1

@@ -34,7 +34,7 @@ body_few (other i x) = types_few x
 item_few : {T : List Top} {U V : FileScope} {n : TopNode} → Item T U n V
     → (most V.functions ≤ max (most U.functions) (top_nodes n))
     × (funcs_nodes V.functions ≤ funcs_nodes U.functions + 2 * top_nodes n)
-item_few (include i j k) = (omega arith, omega arith)
+item_few (include i j k x) = (omega arith, omega arith)
 item_few (include_again i) = (omega arith, omega arith)
 item_few (global i j k x) = (omega arith, omega arith)
 item_few (prototype k x) = (omega arith, omega arith)

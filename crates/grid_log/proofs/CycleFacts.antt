@@ -71,7 +71,8 @@ module _ {W : Type 0} (next : W → ℕ) (follows : W → W → Type 0) (blocks 
 
   -- a whole cycle, by what follows part (1)
   logged_by : (o : Stepped) (g h : Grid W) (a b c : Log) (rest : List Note)
-      → o ≡ (ends blocks budget g).window.over → Logged (at_cycle (g.counts.cycles + 1) a) (ends_notes blocks budget g) b
+      → o ≡ (ends blocks budget g).window.over
+      → Logged (at_cycle (g.counts.cycles + 1) a) (ends_notes blocks budget g) b
       → NotedFollows o next follows blocks budget (ends blocks budget g) rest h → Logged b rest c
       → IsLogged next follows blocks budget g h a c
   logged_by o g h a b c rest is ended cycle told = record {
@@ -87,7 +88,8 @@ module _ {W : Type 0} (next : W → ℕ) (follows : W → W → Type 0) (blocks 
 
   -- a cycle that goes on
   pub logged_on : (g m h : Grid W) (a b c : Log) → m ≡ ends blocks budget g → stepped.Went ≡ m.window.over
-      → Logged (at_cycle (g.counts.cycles + 1) a) (ends_notes blocks budget g) b → GoesLogged next follows blocks budget m h b c
+      → Logged (at_cycle (g.counts.cycles + 1) a) (ends_notes blocks budget g) b
+      → GoesLogged next follows blocks budget m h b c
       → IsLogged next follows blocks budget g h a c
   logged_on g m h a b c e over ended goes =
       logged_by stepped.Went g h a b c goes.notes (over ∙ ap (λ (x : Grid W). x.window.over) e) ended

@@ -14,7 +14,8 @@ returns-in-Load g c = λ f e.
     c.load_event.ensures
     ∙ ap (λ o. load_event o c.args.frame c.args.place)
     (c.waits_at.ensures ∙ ap (found_in (λ h. at h.requests c.args.inst.number)) e)
-    ∙ ap (λ n. load_event (at f.requests c.args.inst.number) n c.args.place) (sym (frame_number c.args.frame w.frames f e))
+    ∙ ap (λ n. load_event (at f.requests c.args.inst.number) n c.args.place)
+    (sym (frame_number c.args.frame w.frames f e))
     ∙ ap (λ k. slot_event bs k c.args.inst c.args.place f) c.in-Load.ensures.value
 
 pub returns-in-Store : goal.returns-in-Store
@@ -33,7 +34,8 @@ pub returns-in-General : goal.returns-in-General
 returns-in-General g c = λ f e.
     let w = g.V.Windows.held c.args.window.now in
     ap (λ n. Some (event.Delivers n c.args.place)) (sym (frame_number c.args.frame w.frames f e))
-    ∙ ap (λ k. slot_event (g.V.Windows.blocks c.args.window.now) k c.args.inst c.args.place f) c.in-General.ensures.value
+    ∙ ap (λ k. slot_event (g.V.Windows.blocks c.args.window.now) k c.args.inst c.args.place f)
+    c.in-General.ensures.value
 
 pub returns-in-Immediate : goal.returns-in-Immediate
 returns-in-Immediate g c = λ f e.

@@ -49,7 +49,8 @@ returns-in-Went-clause-eager g c =
     let m = seen (g.V.Windows.held x.window) x.state in
     logged_on g.W.Weather.next g.W.Weather.follows bs b here m (seen (g.V.Windows.held h.window) h.state)
     c.args.log.now
-    c.ends.new.log c.goes_on.new.log c.ends.ensures.change c.in-Went.ensures (subst (λ l. Logged l (ends_notes bs b here) c.ends.new.log) c.begin.ensures
+    c.ends.new.log c.goes_on.new.log c.ends.ensures.change c.in-Went.ensures
+    (subst (λ l. Logged l (ends_notes bs b here) c.ends.new.log) c.begin.ensures
     c.ends.ensures.told)
     (goes_same g.W.Weather.next g.W.Weather.follows bs b (g.V.Windows.blocks x.window) (g.V.Windows.budget x.window) m
     (seen (g.V.Windows.held h.window) h.state) c.ends.new.log c.goes_on.new.log c.ends.ensures.image

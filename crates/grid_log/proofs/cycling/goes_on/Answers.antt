@@ -103,7 +103,8 @@ returns-clause-goes g c =
     c.fetches.ensures.told
     (same_logged (λ i j. reads_notes i j (seen (g.V.Windows.held x.window) x.state)) _ bs _ b c.fetches.new.log
     c.reads_answered.new.log image_one budget_one c.reads_answered.ensures.told)
-    (same_logged (λ i j. answers_notes i j mid_two) _ bs _ b c.reads_answered.new.log c.answers.new.log image_two budget_two
+    (same_logged (λ i j. answers_notes i j mid_two) _ bs _ b c.reads_answered.new.log c.answers.new.log
+    image_two budget_two
     c.answers.ensures.told)
     (same_logged (λ i j. works_notes i j mid_three) _ bs _ b c.answers.new.log c.works_on.new.log image_three
     budget_three c.works_on.ensures.told))
