@@ -5,7 +5,7 @@ use Rattle.c_tree.specs.declared.token.Kind.{Kind}
 use Rattle.c_tree.specs.declared.tree.BumpOp.TheVariants as bump
 use Rattle.c_tree.specs.declared.tree.Expr.{Expr}
 use Rattle.c_grammar.specs.Tokens.{Tokens, May}
-use Rattle.c_grammar.specs.Types.{Types, char, signed_char, unsigned_char, int, signed, signed_int}
+use Rattle.c_grammar.specs.Types.{Types, bool, char, signed_char, unsigned_char, int, signed, signed_int}
 use Rattle.c_grammar.specs.Types.{unsigned, unsigned_int, long, long_int, signed_long}
 use Rattle.c_grammar.specs.Types.{signed_long_int, unsigned_long, unsigned_long_int}
 use Rattle.c_grammar.specs.Types.{short, short_int, signed_short, signed_short_int, unsigned_short}
