@@ -2,7 +2,7 @@
 //! room for; 0 for want of memory, and where the number of blocks or steps is none that a command takes, or no turn
 //! of a loop is allowed.
 
-ghost use Rattle.std.specs.Prelude.{◌≡◌, ◌<◌, ◌≤◌, [], length, take};
+ghost use Rattle.std.specs.Prelude.{◌≡◌, ◌<◌, ◌≤◌, [], length, take, false};
 ghost use Rattle.trips_requests.specs.declared.commands.Command.TheVariants as command;
 ghost use Rattle.trips_answers.specs.inside.Settings.{request_seen};
 ghost use Rattle.trips_page.specs.Told.{IsTold, c_name, evaluation_of, image_name, run_of, target_name, work_of};
