@@ -94,17 +94,17 @@ passed_stays most ts all few =
     let names : Given = pass named most ts in
     let words : Given = names >>= pass worded most in
     let library : Given = words >>= prepared most in
-    let sizes : Given = library >>= pass sized most in
-    let units : Given = sizes >>= pass settled most in
+    let units : Given = library >>= pass settled most in
+    let sizes : Given = units >>= pass sized most in
     let a : names ≡ Ok ts = stays named most ts few (named_stays ts t.names) in
     let b : words ≡ Ok ts =
     and_stays names (pass worded most) ts a (stays worded most ts few (worded_stays ts t.words)) in
     let c : library ≡ Ok ts = and_stays words (prepared most) ts b (prepared_stays most ts t.library few) in
-    let d : sizes ≡ Ok ts =
-    and_stays library (pass sized most) ts c (stays sized most ts few (sized_stays ts t.sizes)) in
-    let e : units ≡ Ok ts =
-    and_stays sizes (pass settled most) ts d (stays settled most ts few (settled_stays ts t.units)) in
-    and_stays units (pass with_objects most) ts e (stays with_objects most ts few (objects_stay ts t.objects))
+    let d : units ≡ Ok ts =
+    and_stays library (pass settled most) ts c (stays settled most ts few (settled_stays ts t.units)) in
+    let e : sizes ≡ Ok ts =
+    and_stays units (pass sized most) ts d (stays sized most ts few (sized_stays ts t.sizes)) in
+    and_stays sizes (pass with_objects most) ts e (stays with_objects most ts few (objects_stay ts t.objects))
 
 -- KEEPING
 
@@ -138,22 +138,22 @@ passed_keeps P most ts us a h e =
     let names : Given = pass named most ts in
     let words : Given = names >>= pass worded most in
     let library : Given = words >>= prepared most in
-    let sizes : Given = library >>= pass sized most in
-    let units : Given = sizes >>= pass settled most in
+    let units : Given = library >>= pass settled most in
+    let sizes : Given = units >>= pass sized most in
     let n : GivesHas Q names = keeps P named most ts names refl (named_keeps P ts a h) in
     let w : GivesHas Q words =
     and_keeps Q names (pass worded most) n
     (λ xs p. keeps P worded most xs (pass worded most xs) refl (worded_keeps P xs a p)) in
     let l : GivesHas Q library =
     and_keeps Q words (prepared most) w (λ xs p. library_keeps P most xs (prepared most xs) refl a p) in
-    let s : GivesHas Q sizes =
-    and_keeps Q library (pass sized most) l
-    (λ xs p. keeps P sized most xs (pass sized most xs) refl (sized_keeps P xs a p)) in
     let u : GivesHas Q units =
-    and_keeps Q sizes (pass settled most) s
+    and_keeps Q library (pass settled most) l
     (λ xs p. keeps P settled most xs (pass settled most xs) refl (settled_keeps P xs a p)) in
-    let o : GivesHas Q (units >>= pass with_objects most) =
-    and_keeps Q units (pass with_objects most) u
+    let s : GivesHas Q sizes =
+    and_keeps Q units (pass sized most) u
+    (λ xs p. keeps P sized most xs (pass sized most xs) refl (sized_keeps P xs a p)) in
+    let o : GivesHas Q (sizes >>= pass with_objects most) =
+    and_keeps Q sizes (pass with_objects most) s
     (λ xs p. keeps P with_objects most xs (pass with_objects most xs) refl (objects_keep P xs a p)) in
     subst (GivesHas Q) e o
 
@@ -168,4 +168,4 @@ last_few f most (Err x) us e = absurd (cc)
 pub passed_few : (most : ℕ) (ts us : Tokens) → passed most ts ≡ Ok us → length us ≤ most
 passed_few most ts us e =
     last_few with_objects most
-    (pass named most ts >>= pass worded most >>= prepared most >>= pass sized most >>= pass settled most) us e
+    (pass named most ts >>= pass worded most >>= prepared most >>= pass settled most >>= pass sized most) us e

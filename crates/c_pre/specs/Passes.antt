@@ -17,16 +17,16 @@ pass f most ts = within most (f ts)
 
 -- The tokens of the grammar: names of types and of constants give way to what they stand for (`named`); the words of
 -- declarations come into the grammar's order (`worded`); what the unit calls of the library is defined in it, and its
--- literals are arrays (`prepared`); sizes of objects give way to constants (`sized`); each object outside of functions
--- is declared once (`settled`); and what the objects of functions have beyond the grammar, as values of arrays, is
--- written out (`with_objects`).
+-- literals are arrays (`prepared`); each object outside of functions is declared once, and no function within one
+-- (`settled`); sizes of objects give way to constants (`sized`); and what the objects of functions have beyond the
+-- grammar, as values of arrays, is written out (`with_objects`).
 abbrev pub passed : ℕ → Tokens → Result Tokens LibraryFault
 passed most ts =
     pass named most ts
     >>= pass worded most
     >>= prepared most
-    >>= pass sized most
     >>= pass settled most
+    >>= pass sized most
     >>= pass with_objects most
 
 -- is there nothing that a pass would change?

@@ -23,7 +23,7 @@ pub fn passed(alloc: Global, tokens: Vec<Lexeme>) -> Result<Vec<Lexeme>, Library
     let unit = named(alloc, tokens)?;
     let unit = worded(alloc, unit)?;
     let unit = prepared(alloc, unit)?;
-    let unit = sized(alloc, unit)?;
     let unit = settled(alloc, unit)?;
+    let unit = sized(alloc, unit)?;
     with_objects(alloc, unit)
 }
