@@ -97,7 +97,7 @@ fn assert_ended(rt: &impl Abort, alloc: Global, plans: &[Cuts]) {
         let hyper = built(rt, alloc, &assigned, *cuts);
         let ran = run(rt, alloc, &hyper, &[], b"");
         assert_eq!(rt; ran.stop, Stop::Ended(7), "{cuts:?}");
-        assert_eq!(rt; ran.output.as_slice(), b"A", "{cuts:?}");
+        assert_eq!(rt; ran.output.as_slice(), b"A".as_slice(), "{cuts:?}");
     }
 }
 
