@@ -46,7 +46,7 @@ N[0] genu 0 N[2,0]
 N[1] genu 171 N[2,1]
 N[2] sb 0 0
 N[3] genu 16 N[4,0]
-N[4] ld 0 1 W[1]
+N[4] ld 1 0 W[1]
 N[5] genu 3 W[0]
 N[6] scall 0
 ";
