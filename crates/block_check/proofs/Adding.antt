@@ -101,7 +101,7 @@ abbrev pub AddedAt : List Node → List ℕ → ℕ → List Bool → ℕ → �
     List Bool → List Bool → Type 0
 AddedAt ns order at c c0 c1 t0 t1 n0 n1 = Added ns (others ns (drop at order) c) c0 c1 t0 t1 n0 n1
 
-drop_at : (order : List ℕ) (at : ℕ) → at < length order →
+pub drop_at : (order : List ℕ) (at : ℕ) → at < length order →
     drop at order ≡ get_or order at 0 ∷ drop (at + 1) order
 drop_at order at h = let one : suc at ≡ at + 1 = omega arith in go order at h
     ∙ ap (λ k. get_or order at 0 ∷ drop k order) one

@@ -21,5 +21,6 @@ pub mod OneGood
 pub mod Cutting
 pub mod CutFaults
 pub mod UsedSlots
+pub mod OnePass
 pub mod Seeing
 pub mod Naming

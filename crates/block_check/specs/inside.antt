@@ -1,5 +1,6 @@
 pub mod Walk
 pub mod Pass
+pub mod Passing
 pub mod Named
 pub mod Found
 pub mod Leads

@@ -17,6 +17,7 @@ mod law;
 mod marks;
 mod nodes;
 mod numbers;
+mod once;
 mod order;
 mod pass;
 mod refusal;

@@ -3,7 +3,7 @@ ghost use Rattle.std.specs.Prelude.{◌≡◌, ◌<◌, ◌≤◌, ◌+◌, ◌|
 ghost use Rattle.std.specs.Prelude.{nat_lt, min, take};
 ghost use Rattle.block_cases.specs.Nodes.{targets, names, hits, one_if};
 ghost use Rattle.block_cases.specs.CaseRule.{no};
-ghost use Rattle.block_cases.specs.Cases.{bit, tokens};
+ghost use Rattle.block_cases.specs.Cases.{bit, present, tokens};
 ghost use Rattle.block_check.specs.inside.Pass.{InPlace, AllInPlace, AbsentFrom, tok_at};
 ghost use Rattle.block_check.specs.inside.Named.{named, Freed};
 ghost use Rattle.trips_isa.specs.Limits.{most_nodes};
@@ -134,6 +134,53 @@ pub(crate) fn mark(
     see_tokens(nodes, used, toks, seen);
     for x in 0..used {
         mark_node(seen, nodes[x], two, none);
+    }
+}
+
+fn is_absent(token: CaseToken) -> bool
+    ensures { result ≡ no (present token) }
+{
+    match token {
+        CaseToken::Absent => true,
+        _ => false,
+    }
+}
+
+// Marks a place that has no token.
+fn mark_gap_at(spots: &[CaseToken], place: u16, none: &mut [bool])
+    requires spots { length spots.now ≡ 768 }
+    requires place { place < 768 }
+    requires none { length none.old ≡ PLACES }
+    ensures { (q : ℕ) → q < PLACES → bit none.new q ≡
+        (bit none.old q || ((place == q) && no (present (tok_at spots.now q)))) }
+{
+    let gap = is_absent(spots[place as usize]);
+    mark_at(none, place, gap);
+}
+
+// Marks those of the places that a node names which have no token.
+fn mark_gaps_of(spots: &[CaseToken], node: Node, none: &mut [bool])
+    requires spots { length spots.now ≡ 768 }
+    requires in_place { InPlace node }
+    requires none { length none.old ≡ PLACES }
+    ensures { (q : ℕ) → q < PLACES → bit none.new q ≡
+        (bit none.old q || (names (targets node) q && no (present (tok_at spots.now q)))) }
+{
+    mark_gap_at(spots, node.first, none);
+    mark_gap_at(spots, node.second, none);
+}
+
+/// Marks the places that nodes name and that have no token.
+pub(crate) fn mark_gaps(nodes: &[Node], used: usize, spots: &[CaseToken], none: &mut [bool])
+    requires in_place { AllInPlace nodes.now }
+    requires used { used ≤ length nodes.now }
+    requires spots { length spots.now ≡ 768 }
+    requires none { length none.old ≡ PLACES }
+    ensures { (q : ℕ) → q < PLACES → bit none.new q ≡
+        (bit none.old q || (named (take used nodes.now) q && no (present (tok_at spots.now q)))) }
+{
+    for x in 0..used {
+        mark_gaps_of(spots, nodes[x], none);
     }
 }
 

@@ -62,7 +62,13 @@ fn given(role: Role, v: bool, left: CaseToken, right: CaseToken) -> CaseToken
     }
 }
 
-fn fired(node: Node, v: bool, left: CaseToken, right: CaseToken, guard: CaseToken) -> CaseToken
+pub(crate) fn fired(
+    node: Node,
+    v: bool,
+    left: CaseToken,
+    right: CaseToken,
+    guard: CaseToken,
+) -> CaseToken
     ensures { result ≡ fire node v left right guard }
 {
     if is_matched(node.sense, guard) {

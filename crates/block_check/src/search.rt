@@ -1,6 +1,6 @@
 //! The search over the cases.
 ghost use Rattle.std.specs.Prelude.{◌≡◌, ◌<◌, ◌≤◌, ◌+◌, ◌||◌, ◌&&◌, ◌==◌, ℕ, List, Bool, [], ◌∷◌};
-ghost use Rattle.std.specs.Prelude.{length, slice_index, slice_get, true, take, drop, All};
+ghost use Rattle.std.specs.Prelude.{length, slice_index, slice_get, nat_lt, true, take, drop, All};
 ghost use Rattle.block_cases.specs.Nodes.{IsRanked, targets, hits};
 ghost use Rattle.block_cases.specs.Choosers.{is_chooser};
 ghost use Rattle.block_cases.specs.Cases.{bit, token, tokens, present};
@@ -11,7 +11,8 @@ ghost use Rattle.block_check.specs.inside.Named.{Freed};
 ghost use Rattle.trips_isa.specs.Limits.{most_nodes};
 
 use crate::chooser::find_choosers;
-use crate::marks::{mark, mark_free};
+use crate::marks::{mark, mark_free, mark_gaps};
+use crate::once::pass_once;
 use crate::pass::run;
 use block_cases::CaseToken;
 use trips_isa::{Node, PLACES};
@@ -57,6 +58,44 @@ pub(crate) fn count_tokens(nodes: &[Node], used: usize, toks: &[CaseToken], coun
     }
 }
 
+/// The tokens of a case, and the marks of the places that get two, or none.
+fn mark_case(
+    nodes: &[Node],
+    used: usize,
+    order: &[usize],
+    bits: &[bool],
+    toks: &mut [CaseToken],
+    two: &mut [bool],
+    none: &mut [bool],
+)
+    requires size { length nodes.now ≤ most_nodes }
+    requires ranked { IsRanked nodes.now }
+    requires ordered { IsOrdered nodes.now order.now }
+    requires in_place { AllInPlace nodes.now }
+    requires used { used ≤ length nodes.now }
+    requires spare { Spare nodes.now used }
+    requires bits { length bits.now ≡ length nodes.now }
+    requires toks { length toks.old ≡ length nodes.now }
+    requires two { length two.old ≡ PLACES }
+    requires none { length none.old ≡ PLACES }
+    requires free { Freed (take used nodes.now) none.old }
+    ensures toks { (x : ℕ) → tok_at toks.new x ≡ token nodes.now bits.now x }
+    ensures rest { AbsentFrom used toks.new }
+    ensures two { (q : ℕ) → q < PLACES →
+        bit two.new q ≡ (bit two.old q || nat_lt 1 (tokens nodes.now (tok_at toks.new) q)) }
+    ensures none { (q : ℕ) → q < PLACES →
+        bit none.new q ≡ (bit none.old q || (tokens nodes.now (tok_at toks.new) q == 0)) }
+{
+    let mut table = [CaseToken::Absent; 768];
+    let spots = table.as_mut_slice();
+    if pass_once(nodes, used, order, bits, spots, toks) {
+        mark_gaps(nodes, used, spots, none);
+    } else {
+        run(nodes, used, order, bits, toks);
+        mark(nodes, used, toks, two, none);
+    }
+}
+
 /// Visits a case.
 fn visit(
     nodes: &[Node],
@@ -70,6 +109,7 @@ fn visit(
 ) -> usize
     requires size { length nodes.now ≤ most_nodes }
     requires ranked { IsRanked nodes.now }
+    requires ordered { IsOrdered nodes.now order.now }
     requires in_place { AllInPlace nodes.now }
     requires used { used ≤ length nodes.now }
     requires spare { Spare nodes.now used }
@@ -85,8 +125,7 @@ fn visit(
     ensures count { result ≤ 257 }
     ensures added { Added nodes.now (bits.now ∷ []) count result two.old two.new none.old none.new }
 {
-    run(nodes, used, order, bits, toks);
-    mark(nodes, used, toks, two, none);
+    mark_case(nodes, used, order, bits, toks, two, none);
     count + 1
 }
 
@@ -132,6 +171,7 @@ fn search(
 ) -> usize
     requires size { length nodes.now ≤ most_nodes }
     requires ranked { IsRanked nodes.now }
+    requires ordered { IsOrdered nodes.now order.now }
     requires in_place { AllInPlace nodes.now }
     requires used { used ≤ length nodes.now }
     requires spare { Spare nodes.now used }

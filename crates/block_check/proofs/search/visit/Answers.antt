@@ -6,5 +6,5 @@ use Rattle.block_check.proofs.search.visit.Goals as goal
 
 pub returns-clause-free : goal.returns-clause-free
 returns-clause-free c =
-    stays_free (take c.args.used c.args.nodes.now) c.args.none.now c.mark.new.none (λ q. tokens
-    c.args.nodes.now (tok_at c.run.new.toks) q == 0) c.mark.ensures.none c.requires.free
+    stays_free (take c.args.used c.args.nodes.now) c.args.none.now c.mark_case.new.none (λ q. tokens
+    c.args.nodes.now (tok_at c.mark_case.new.toks) q == 0) c.mark_case.ensures.none c.requires.free
