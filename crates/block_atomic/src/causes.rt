@@ -70,6 +70,7 @@ fn least_owed(block: &Block, at: &[u8]) -> u8
 }
 
 // The own fault of an instruction that fires.
+#[inline(always)]
 fn fired_fault(places: &[Option<Token>], slot: usize, inst: Inst) -> u8
     requires places { length places.now ≡ 416 }
     requires slot { slot < 128 }
@@ -81,6 +82,7 @@ fn fired_fault(places: &[Option<Token>], slot: usize, inst: Inst) -> u8
 }
 
 // Whether an operation divides.
+#[inline(always)]
 fn divides(op: Op) -> bool
     ensures { result ≡ divides op }
 {
@@ -88,6 +90,7 @@ fn divides(op: Op) -> bool
 }
 
 // Whether an operation can fault.
+#[inline(always)]
 fn can_fault(op: Op) -> bool
     ensures { result ≡ can_fault op }
 {
@@ -100,6 +103,7 @@ fn can_fault(op: Op) -> bool
 
 // The own fault of what a slot gives.
 #[tactic(auto, using(crate::proofs::CauseLemmas::cannot_fault))]
+#[inline(always)]
 fn slot_fault(
     places: &[Option<Token>],
     slot: usize,
@@ -125,6 +129,7 @@ fn slot_fault(
 }
 
 // Whether an operation that fires faults, where the slots from number `used` on are empty.
+#[inline(always)]
 fn faults(
     insts: &[Option<Inst>],
     used: usize,

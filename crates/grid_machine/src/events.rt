@@ -8,6 +8,7 @@ use commit_flush::Window;
 use frame_state::Event;
 
 /// Whether an event would be done.
+#[inline(always)]
 pub fn may(window: &Window, e: Event) -> bool
     ensures { result ≡ is_done (can window.now.image.blocks window.now.budget (as_event e) window.now.window) }
 {
