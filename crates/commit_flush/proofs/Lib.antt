@@ -21,7 +21,6 @@ pub mod FetchAsked
 pub mod StoreTold
 pub mod LoadTold
 pub mod EmptyFacts
-pub mod LendFacts
 pub mod BitFacts
 pub mod ObserveFacts
 pub mod AccessFacts

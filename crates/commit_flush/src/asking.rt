@@ -149,6 +149,7 @@ impl Window {
     }
 
     // What an event is answered while the run goes on.
+    #[inline(always)]
     fn can_now(&self, e: Event) -> Happened
         ensures { as_happened result ≡ can_now self.now.image.blocks self.now.budget (as_event e) self.now.window }
     {
@@ -167,6 +168,7 @@ impl Window {
     }
 
     /// What an event would be answered. Numbers may be any.
+    #[inline(always)]
     pub fn can(&self, e: Event) -> Happened
         ensures value { as_happened result
             ≡ can self.now.image.blocks self.now.budget (as_event e) self.now.window }

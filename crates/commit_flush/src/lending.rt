@@ -1,28 +1,14 @@
 //! The frames in flight, lent to those who move the window.
 ghost use Rattle.std.specs.Prelude.{◌≡◌, MatchOption, None, Some, slice_get};
 ghost use Rattle.frame_state.specs.inside.Held.{running};
-ghost use Rattle.frame_state.specs.inside.Phases.{HasBlock, IsIdle, frame_in};
+ghost use Rattle.frame_state.specs.inside.Phases.{IsIdle};
 ghost use Rattle.commit_flush.specs.Places.{numbers_of};
 ghost use Rattle.commit_flush.specs.inside.Places.{frame_of};
 ghost use Rattle.commit_flush.specs.inside.Lent.{IsLent};
 
 use crate::window::Window;
-use block_check::CheckedImage;
-use frame_state::{Body, Phase, flying, is_sealed_in};
+use frame_state::{Body, flying, running_in};
 use trips_isa::Block;
-
-// What a frame that runs holds, and its block.
-fn running_in<'a>(phase: &'a Phase, image: &'a CheckedImage) -> Option<(&'a Body, &'a Block)>
-    requires { HasBlock image.now.blocks phase.now }
-    ensures { MatchOption result (IsIdle (frame_in image.now.blocks phase.now))
-        (λ p. frame_in image.now.blocks phase.now ≡ Some (running p.1.now p.0.now)) }
-{
-    if is_sealed_in(phase, image) {
-        None
-    } else {
-        flying(phase, image)
-    }
-}
 
 impl Window {
     /// The numbers of the frames in flight, the oldest first.

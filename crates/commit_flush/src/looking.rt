@@ -23,6 +23,7 @@ fn word_read(answer: ReadAnswer) -> Option<u64>
 
 impl Window {
     // The word of a register that a frame in flight sees, where it is known.
+    #[inline(always)]
     pub(crate) fn look(&self, frame: u8, register: u8) -> Option<u64>
         requires { register < 128 }
         ensures { (a : ℕ) → age_of frame self.now.window.frames ≡ Some a → result
@@ -34,6 +35,7 @@ impl Window {
     }
 
     // What is known of the register of a read of a frame in flight.
+    #[inline(always)]
     pub(crate) fn word_of(&self, frame: u8, read: u8) -> Option<u64>
         ensures { (f : Frame) → frame_of frame self.now.window.frames ≡ Some f → result
             ≡ read_seen (seen_at (committed self.now.window.state) self.now.window.frames frame)

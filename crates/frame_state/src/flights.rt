@@ -40,10 +40,7 @@ pub fn flying<'a>(phase: &'a Phase, image: &'a CheckedImage) -> Option<(&'a Body
 }
 
 /// A frame that runs: what it holds, and its block.
-pub(crate) fn running_in<'a>(
-    phase: &'a Phase,
-    image: &'a CheckedImage,
-) -> Option<(&'a Body, &'a Block)>
+pub fn running_in<'a>(phase: &'a Phase, image: &'a CheckedImage) -> Option<(&'a Body, &'a Block)>
     requires block { HasBlock image.now.blocks phase.now }
     ensures value { MatchOption result (IsIdle (frame_in image.now.blocks phase.now))
         (λ p. frame_in image.now.blocks phase.now ≡ Some (running p.1.now p.0.now)) }

@@ -44,7 +44,7 @@ pub use body::Body;
 pub use changes::{deliver_in, exit_in, fire_in, load_in, read_in, store_in};
 pub use event::{Cause, Event, Happened};
 pub use exits::departure;
-pub use flights::{block_at, flying};
+pub use flights::{block_at, flying, running_in};
 pub use law::empty_frames_may_be_filled;
 pub use observers::{
     block_in, cause_in, exit_come, finds_room, is_sealed_in, is_serial, is_serial_in, leads_to,
