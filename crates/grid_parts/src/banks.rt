@@ -5,7 +5,7 @@ ghost use Rattle.grid_parts.specs.Seen.{seen};
 ghost use Rattle.grid_parts.specs.inside.Marked.{ReadsMarked};
 
 use crate::grid::Grid;
-use crate::read_marks::{ReadMarks, marked_reads, readable_among};
+use crate::read_marks::{ReadMarks, any_marked, marked_reads, readable_among};
 use crate::sending::enter_both;
 use crate::windows::Windows;
 
@@ -49,7 +49,22 @@ impl<V: Windows, W> Grid<V, W> {
         }
     }
 
-    /// Part (3).
+    // Each bank answers, where each answerable read is marked.
+    fn answer_banks(&mut self, marks: &ReadMarks)
+        requires marked { ReadsMarked (V.blocks self.old.window) (V.budget self.old.window)
+            (V.held self.old.window) marks.now.words }
+        ensures change { seen (V.held self.new.window) self.new.state
+            ≡ spec.reads_answered (V.blocks self.old.window) (V.budget self.old.window)
+            (seen (V.held self.old.window) self.old.state) }
+        ensures image { V.blocks self.new.window ≡ V.blocks self.old.window }
+        ensures budget { V.budget self.new.window ≡ V.budget self.old.window }
+    {
+        for bank in 0..4u8 {
+            self.bank_turn(bank, marks);
+        }
+    }
+
+    /// Part (3). Where no read is marked no bank has its turn.
     pub fn reads_answered(&mut self)
         ensures change { seen (V.held self.new.window) self.new.state
             ≡ spec.reads_answered (V.blocks self.old.window) (V.budget self.old.window)
@@ -58,8 +73,9 @@ impl<V: Windows, W> Grid<V, W> {
         ensures budget { V.budget self.new.window ≡ V.budget self.old.window }
     {
         let marks = marked_reads(&self.window);
-        for bank in 0..4u8 {
-            self.bank_turn(bank, &marks);
+        let frames = self.window.numbers();
+        if any_marked(&marks, frames.as_slice()) {
+            self.answer_banks(&marks);
         }
     }
 }

@@ -1,5 +1,5 @@
 //! Which read a register bank answers.
-ghost use Rattle.std.specs.Prelude.{◌≡◌, ◌<◌, ◌&&◌, ℕ, false, All, IfSome};
+ghost use Rattle.std.specs.Prelude.{◌≡◌, ◌<◌, ◌&&◌, ℕ, false, All, IfSome, length, slice_index_or};
 ghost use Rattle.operand_net.specs.Marks.{has_bit};
 ghost use Rattle.commit_flush_spec.specs.inside.Laws.{AreNumbers};
 ghost use Rattle.commit_flush_spec.specs.Window as event;
@@ -7,6 +7,7 @@ ghost use Rattle.commit_flush_spec.specs.Window.{can};
 ghost use Rattle.grid_cycle_spec.specs.Acting.{is_done};
 ghost use Rattle.grid_cycle_spec.specs.Choosing.{eldest, reads};
 ghost use Rattle.grid_cycle_spec.specs.Grid.{numbers_of};
+ghost use Rattle.grid_parts.specs.Bits.{frame_bit};
 ghost use Rattle.grid_parts.specs.inside.Choices.{answers, in_bank, lowest_read, may_read};
 ghost use Rattle.grid_parts.specs.inside.Marked.{ReadsMarked};
 
@@ -122,4 +123,27 @@ pub fn readable_among<V: Windows>(
         }
     }
     None
+}
+
+// The marks of a frame.
+fn word_of(marks: &ReadMarks, frame: u8) -> u64
+    requires { frame < 8 }
+    ensures { result ≡ slice_index_or marks.now.words frame 0 }
+{
+    marks.words[frame as usize]
+}
+
+/// Whether a read of one of some frames is marked.
+pub fn any_marked(marks: &ReadMarks, order: &[u8]) -> bool
+    requires { All (λ n. n < 8) order.now }
+    ensures { result ≡ false → (j r : ℕ) → j < length order.now
+        → frame_bit marks.now.words (slice_index_or order.now j 0) r ≡ false }
+{
+    let mut all: u64 = 0;
+    for i in 0..order.len() {
+        let frame = order[i];
+        let word = word_of(marks, frame);
+        all |= word;
+    }
+    if all == 0 { false } else { true }
 }
