@@ -1,6 +1,6 @@
 -- What is heard of the turn of a tile.
 use Rattle.std.proofs.Common.{◌≡◌, ◌≢◌, ℕ, zero, suc, ◌*◌, ◌==◌, Bool, true, false, cond, List, [], ◌∷◌, ◌++◌}
-use Rattle.std.proofs.Common.{Option, Some, None, refl, sym, subst}
+use Rattle.std.proofs.Common.{Option, Some, None, is_some, true≢false, refl, sym, subst}
 use Rattle.std.proofs.lemmas.Bool.{eq-eqb, ne_eqb}
 use Rattle.trips_isa.specs.declared.block.Block.{Block}
 use Rattle.trips_isa.specs.declared.block.Inst.{Inst}
@@ -13,6 +13,9 @@ use Rattle.grid_cycle_spec.specs.Grid.{Grid}
 use Rattle.grid_cycle_spec.specs.Choosing.{eldest, slots}
 use Rattle.grid_cycle_spec.specs.Stations.{tile_node, tile_of}
 use Rattle.grid_cycle_spec.specs.Units.{in_unit, ready, unit_on}
+use Rattle.grid_parts.specs.inside.EldestChoices.{lowest_slot}
+use Rattle.grid_parts.specs.inside.Marked.{SlotsMarked}
+use Rattle.grid_parts.proofs.MarkFacts.{none_issued}
 use Rattle.grid_events.specs.Notes.{Note}
 use Rattle.grid_events.specs.Notes as note
 use Rattle.grid_events.specs.UnitNotes.{finished_notes, issue_notes, issues_notes, result_notes, slot_notes}
@@ -62,6 +65,22 @@ module _ {W : Type 0} (blocks : List Block) (budget tile : ℕ) (g : Grid W) (a 
   busy_heard ne = subst (λ c. Heard a (cond c
       (issue_notes tile (eldest (ready blocks budget g tile) slots g.window.frames) g) []) a)
       (sym (ne_eqb (g.units tile) 0 ne)) (heard_none a [] (λ s. refl))
+
+  -- nor does a tile without a marked slot
+  pub unmarked_heard : (marks : ℕ) → SlotsMarked blocks budget g.window marks
+      → false ≡ is_some (lowest_slot marks tile) → Heard a (issues_notes blocks budget tile g) a
+  unmarked_heard marks marked off = go (g.units tile == 0)
+    where
+      no_some : (o : Option ℕ) → false ≡ is_some o → o ≡ None
+      no_some None e = refl
+      no_some (Some s) e = absurd (true≢false (sym e))
+
+      go : (c : Bool) → Heard a (cond c
+          (issue_notes tile (eldest (ready blocks budget g tile) slots g.window.frames) g) []) a
+      go true = subst (λ o. Heard a (issue_notes tile o g) a)
+          (sym (none_issued blocks budget g.window marks tile marked (no_some (lowest_slot marks tile) off)))
+          (heard_none a [] (λ s. refl))
+      go false = heard_none a [] (λ s. refl)
 
   -- what a unit does before it issues is not counted
   pub turn_heard : (m : Grid W) → m ≡ unit_on tile (g.units tile) g

@@ -1,16 +1,18 @@
 //! Part (5) of a cycle, counted: units give their results to the mesh, and issue what is ready.
-ghost use Rattle.std.specs.Prelude.{◌≡◌, ◌<◌, ℕ, ◌∷◌, [], Some};
+ghost use Rattle.std.specs.Prelude.{◌≡◌, ◌<◌, ℕ, ◌∷◌, [], Some, is_some};
 ghost use Rattle.grid_cycle_spec.specs.Units as spec;
 ghost use Rattle.block_cases.specs.Orders.{slot_of};
 ghost use Rattle.grid_events.specs.Notes.{Fires};
 ghost use Rattle.grid_events.specs.Turns.{of_frame};
 ghost use Rattle.grid_events.specs.UnitNotes as noted;
 ghost use Rattle.grid_parts.specs.Seen.{seen};
+ghost use Rattle.grid_parts.specs.inside.EldestChoices.{lowest_slot};
+ghost use Rattle.grid_parts.specs.inside.Marked.{SlotsMarked};
 ghost use Rattle.grid_tallies.specs.Statistics.{Heard};
 
 use crate::statistic::kind_of;
 use crate::tallies::Tallies;
-use grid_parts::{Grid, Windows, ready_slot};
+use grid_parts::{Grid, Windows, lowest_on, marked_slots, ready_slot};
 use trips_isa::{Inst, Op};
 
 // The operation of what a slot holds.
@@ -73,19 +75,30 @@ fn issues<V: Windows, W>(grid: &mut Grid<V, W>, told: &mut Tallies, tile: u8)
     }
 }
 
-// A tile gives its finished result to the mesh, then issues.
-fn unit_turn<V: Windows, W>(grid: &mut Grid<V, W>, told: &mut Tallies, tile: u8)
+// Whether a slot of a tile is marked.
+fn is_marked(marks: u128, tile: u8) -> bool
     requires { tile < 16 }
+    ensures { result ≡ is_some (lowest_slot marks tile) }
+{
+    lowest_on(marks, tile).is_some()
+}
+
+// The same where each slot that may fire is marked, so that a tile without a marked slot issues nothing.
+fn issues_marked<V: Windows, W>(grid: &mut Grid<V, W>, told: &mut Tallies, tile: u8, marks: u128)
+    requires tile { tile < 16 }
+    requires marked { SlotsMarked (V.blocks grid.old.window) (V.budget grid.old.window)
+        (V.held grid.old.window) marks }
     ensures change { seen (V.held grid.new.window) grid.new.state
-        ≡ spec.unit_turn (V.blocks grid.old.window) (V.budget grid.old.window) tile
+        ≡ spec.issues (V.blocks grid.old.window) (V.budget grid.old.window) tile
         (seen (V.held grid.old.window) grid.old.state) }
-    ensures heard { Heard told.old (noted.turn_notes (V.blocks grid.old.window) (V.budget grid.old.window) tile
+    ensures heard { Heard told.old (noted.issues_notes (V.blocks grid.old.window) (V.budget grid.old.window) tile
         (seen (V.held grid.old.window) grid.old.state)) told.new }
     ensures image { V.blocks grid.new.window ≡ V.blocks grid.old.window }
     ensures budget { V.budget grid.new.window ≡ V.budget grid.old.window }
 {
-    grid.unit_on(tile);
-    issues(grid, told, tile);
+    if is_marked(marks, tile) {
+        issues(grid, told, tile);
+    }
 }
 
 /// Part (5).
@@ -98,7 +111,10 @@ pub fn works_on<V: Windows, W>(grid: &mut Grid<V, W>, told: &mut Tallies)
     ensures image { V.blocks grid.new.window ≡ V.blocks grid.old.window }
     ensures budget { V.budget grid.new.window ≡ V.budget grid.old.window }
 {
+    let frames = grid.window.numbers();
+    let marks = marked_slots(&grid.window, frames.as_slice());
     for tile in 0..16u8 {
-        unit_turn(grid, told, tile);
+        grid.unit_on(tile);
+        issues_marked(grid, told, tile, marks);
     }
 }
