@@ -15,6 +15,7 @@ use Rattle.c_meaning_spec.specs.Eval.{meaning, eval, Done, Outcome, outcome, sta
 use Rattle.bench_laws.specs.inside.Values.{value, letters, steps}
 use Rattle.bench_laws.proofs.Rules.{Follow, body_gives}
 use Rattle.bench_laws.proofs.Words.{to_int, int_is}
+use Rattle.bench_laws.proofs.Trees.{Offsets}
 use Rattle.bench_laws.proofs.Programs.{main, program, functions, main_code}
 use Rattle.bench_laws.proofs.Functions.{function_steps}
 use Rattle.bench_laws.proofs.Rounds.{value_below, function_behind, round_steps, rounds, main_steps}
@@ -36,28 +37,29 @@ main_are n k = let r : rounds n (suc (suc (suc k))) ≡ 498 * n + suc (suc (suc 
     omega arith
 
 -- the evaluation where so many steps are left over
-exactly : (n : ℕ) (input : List ℕ) (k : ℕ) → n ≤ 64
-    → eval (program n) input (suc (suc (main_steps n k))) ≡ Done (letters n) (pos (value n)) (steps n)
+exactly : (o : Offsets) (n : ℕ) (input : List ℕ) (k : ℕ) → n ≤ 64
+    → eval (program o n) input (suc (suc (main_steps n k))) ≡ Done (letters n) (pos (value n)) (steps n)
 unfolding eval
-exactly n input k few =
+exactly o n input k few =
     let m = suc (suc (main_steps n k)) in
-    let P = program n in
+    let P = program o n in
     let small = value_below n in
     let e = main_are n k in
     let s : State = record (start P input m) { stock = suc (main_steps n k) } in
     let same : nat_eq n n ≡ true = grind (arith, nat_tests) in
     ap (λ (b : Bool). outcome m (enter (meaning P) b (slice_get P.functions n) [] s)) same
-    ∙ ap (λ (f : Option TypedFunc). outcome m (enter (meaning P) true f [] s)) (function_behind n [] (main n))
+    ∙ ap (λ (f : Option TypedFunc). outcome m (enter (meaning P) true f [] s)) (function_behind o.functions n []
+    (main o n))
     ∙ ap (λ (r : Result). outcome m (then r (left true [] 1 0 0)))
-    (body_gives (main_gives n input few k))
+    (body_gives (main_gives o n input few k))
     ∙ ap (λ w. Done (letters n) (number Int w) (m - k)) (to_int (value n) (omega arith))
     ∙ ap (λ z. Done (letters n) z (m - k)) (int_is (value n) (omega arith))
     ∙ ap (λ c. Done (letters n) (pos (value n)) c) (omega arith)
 
 -- the evaluation with enough steps
-pub ends : (n : ℕ) (input : List ℕ) (m : ℕ) → n ≤ 64 → steps n ≤ m
-    → eval (program n) input m ≡ Done (letters n) (pos (value n)) (steps n)
-ends n input m few enough =
+pub ends : (o : Offsets) (n : ℕ) (input : List ℕ) (m : ℕ) → n ≤ 64 → steps n ≤ m
+    → eval (program o n) input m ≡ Done (letters n) (pos (value n)) (steps n)
+ends o n input m few enough =
     let e = main_are n (m - steps n) in
     let all : m ≡ suc (suc (main_steps n (m - steps n))) = omega arith in
-    ap (λ k. eval (program n) input k) all ∙ exactly n input (m - steps n) few
+    ap (λ k. eval (program o n) input k) all ∙ exactly o n input (m - steps n) few

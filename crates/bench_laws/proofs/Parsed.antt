@@ -87,7 +87,8 @@ module _ (l : InLine) where
       (lift 5 (e.element refl (lift 16 e.number)))
       (lift 4 e.number))
 
-  advance_is : (k : ℕ) (t : Tokens) → Spells deep (expr 16 (assigned (l 0) (x_of (l 0)) (next_x (onward 2 l) k))) 2
+  advance_is : (k : ℕ) (t : Tokens) → Spells deep (expr 16 (assigned (l 0) (l 1) (x_of (l 0)) (next_x (onward 2 l)
+      k))) 2
       (line_of l (form.Name (codes "x") ∷ form.Mark mark.Assign ∷ form.Name (102 ∷ decimal k)
       ∷ form.Mark mark.LeftParen
       ∷ form.Name (codes "x") ∷ form.Mark mark.RightParen ∷ form.Mark mark.Percent ∷ form.Number 1000 Int ∷ []) ++ t)

@@ -16,6 +16,7 @@ use Rattle.bench_laws.proofs.Terms.{Code}
 use Rattle.bench_laws.proofs.Rules.{Runs, Follow, r_scalar, r_operation, r_convert, r_assign, r_call, r_cast, r_put}
 use Rattle.bench_laws.proofs.Rules.{r_plain, r_next, r_last, r_give, r_number, r_initialise}
 use Rattle.bench_laws.proofs.Words.{to_long, to_int, add_int, modulo_thousand, modulo_letters}
+use Rattle.bench_laws.proofs.Trees.{InLine, onward, Offsets}
 use Rattle.bench_laws.proofs.Programs.{function, functions, main, program, advance, show, calls, ending, main_code}
 use Rattle.bench_laws.proofs.Loops.{more}
 use Rattle.bench_laws.proofs.Functions.{partial, sums, function_steps, function_gives}
@@ -27,32 +28,35 @@ at_end [] ys y = refl
 at_end (x ∷ xs) ys y = at_end xs ys y
 
 -- there are n of them below n
-pub functions_count : (n : ℕ) → length (functions n) ≡ n
-functions_count zero = refl
-functions_count (suc n) = length_snoc (functions n) (function n) ∙ ap suc (functions_count n)
+pub functions_count : (o : ℕ → InLine) (n : ℕ) → length (functions o n) ≡ n
+functions_count o zero = refl
+functions_count o (suc n) = length_snoc (functions o n) (function (o n) n) ∙ ap suc (functions_count o n)
   where
     length_snoc : (xs : List TypedFunc) (y : TypedFunc) → length (xs ++ y ∷ []) ≡ suc (length xs)
     length_snoc [] y = refl
     length_snoc (x ∷ xs) y = ap suc (length_snoc xs y)
 
 -- function n stands behind those below n
-pub function_behind : (n : ℕ) (ys : List TypedFunc) (y : TypedFunc) → slice_get (functions n ++ y ∷ ys) n ≡ Some y
-function_behind n ys y =
-    ap (λ (i : ℕ). slice_get (functions n ++ y ∷ ys) i) (sym (functions_count n)) ∙ at_end (functions n) ys y
+pub function_behind : (o : ℕ → InLine) (n : ℕ) (ys : List TypedFunc) (y : TypedFunc) → slice_get (functions o n ++ y
+    ∷ ys) n ≡ Some y
+function_behind o n ys y =
+    ap (λ (i : ℕ). slice_get (functions o n ++ y ∷ ys) i) (sym (functions_count o n)) ∙ at_end (functions o n) ys y
 
 -- function k is the k-th
-pub function_at : (n k : ℕ) (ys : List TypedFunc) → k < n → slice_get (functions n ++ ys) k ≡ Some (function k)
-function_at zero k ys h = absurd (omega arith)
-function_at (suc n) k ys h =
-    ap (λ (all : List TypedFunc). slice_get all k) (append_assoc (functions n) (function n ∷ []) ys)
-    ∙ go (λ l. function_at n k (function n ∷ ys) l) (nat_eq k n) refl
+pub function_at : (o : ℕ → InLine) (n k : ℕ) (ys : List TypedFunc) → k < n → slice_get (functions o n ++ ys) k ≡ Some
+    (function (o k) k)
+function_at o zero k ys h = absurd (omega arith)
+function_at o (suc n) k ys h =
+    ap (λ (all : List TypedFunc). slice_get all k) (append_assoc (functions o n) (function (o n) n ∷ []) ys)
+    ∙ go (λ l. function_at o n k (function (o n) n ∷ ys) l) (nat_eq k n) refl
   where
-    go : (k < n → slice_get (functions n ++ function n ∷ ys) k ≡ Some (function k))
-        → (b : Bool) → nat_eq k n ≡ b → slice_get (functions n ++ function n ∷ ys) k ≡ Some (function k)
+    go : (k < n → slice_get (functions o n ++ function (o n) n ∷ ys) k ≡ Some (function (o k) k))
+        → (b : Bool) → nat_eq k n ≡ b → slice_get (functions o n ++ function (o n) n ∷ ys) k ≡ Some (function (o k) k)
     go earlier true e =
         let same : k ≡ n = grind (arith, nat_tests) in
-        ap (λ (i : ℕ). slice_get (functions n ++ function n ∷ ys) i) same ∙ function_behind n ys (function n)
-        ∙ ap (λ (i : ℕ). Some (function i)) (sym same)
+        ap (λ (i : ℕ). slice_get (functions o n ++ function (o n) n ∷ ys) i) same ∙ function_behind o n ys (function
+        (o n) n)
+        ∙ ap (λ (i : ℕ). Some (function (o i) i)) (sym same)
     go earlier false e =
         let other : k ≡ n → ⊥ = grind (arith, nat_tests) in
         earlier (grind (arith, other))
@@ -86,29 +90,31 @@ value_below (suc n) = omega arith
 abbrev pub round_steps : ℕ → ℕ
 round_steps k = more 7 (function_steps (suc (more 9 k)))
 
-module _ (N : ℕ) (input : List ℕ) (most : N ≤ 64) where
+module _ (o : Offsets) (N : ℕ) (input : List ℕ) (most : N ≤ 64) where
   -- x = fK(x) % 1000;
-  advances : (k x : ℕ) (output : List ℕ) (c0 c1 c2 c3 c4 c5 c6 c7 c8 c9 c10 c11 c12 c13 c14 c15 : Option ℕ) (j : ℕ)
+  advances : (l : InLine) (k x : ℕ) (output : List ℕ) (c0 c1 c2 c3 c4 c5 c6 c7 c8 c9 c10 c11 c12 c13 c14 c15 : Option
+      ℕ) (j : ℕ)
       → k < N → x < 1000
-      → Runs (program N) (advance k) (outside input output (Some x)
+      → Runs (program o N) (advance l k) (outside input output (Some x)
       (c0 ∷ c1 ∷ c2 ∷ c3 ∷ c4 ∷ c5 ∷ c6 ∷ c7 ∷ c8 ∷ c9 ∷ c10 ∷ c11 ∷ c12 ∷ c13 ∷ c14 ∷ c15 ∷ []))
       (more 7 (function_steps (suc j))) Nothing
       (outside input output (Some ((16 * x + 120 + k) % 1000)) (sums x)) j
-  advances k x output c0 c1 c2 c3 c4 c5 c6 c7 c8 c9 c10 c11 c12 c13 c14 c15 j below small =
+  advances l k x output c0 c1 c2 c3 c4 c5 c6 c7 c8 c9 c10 c11 c12 c13 c14 c15 j below small =
       let is_other : nat_eq k N ≡ false = grind (arith, nat_tests) in
       let sum : partial x 15 + k ≡ 16 * x + 120 + k = omega arith in
       r_plain (r_assign (r_operation (λ rec a b s. refl)
-      (r_call (r_scalar refl) (function_at N k (main N ∷ []) below) is_other refl refl refl
-      (function_gives (program N) input output 312 x k c0 c1 c2 c3 c4 c5 c6 c7 c8 c9 c10 c11 c12 c13 c14 c15
+      (r_call (r_scalar refl) (function_at o.functions N k (main o N ∷ []) below) is_other refl refl refl
+      (function_gives (o.functions k) (program o N) input output 312 x k c0 c1 c2 c3 c4 c5 c6 c7 c8 c9 c10 c11
+      c12 c13 c14 c15
       (suc j) small (omega arith)) refl)
       (r_convert (to_long 1000 (omega arith)))
       (modulo_thousand (partial x 15 + k) (omega arith) ∙ ap (λ (m : ℕ). Some (m % 1000)) sum)) refl refl)
 
   -- putchar(65 + (int) (x % 26));
-  shows : (x : ℕ) (output : List ℕ) (row : List (Option ℕ)) (j : ℕ) → x < 1000
-      → Runs (program N) show (outside input output (Some x) row) (more 9 j) Nothing
+  shows : (l : InLine) (x : ℕ) (output : List ℕ) (row : List (Option ℕ)) (j : ℕ) → x < 1000
+      → Runs (program o N) (show l) (outside input output (Some x) row) (more 9 j) Nothing
       (outside input (output ++ letter x ∷ []) (Some x) row) j
-  shows x output row j small =
+  shows l x output row j small =
       let byte : (65 + x % 26) % 256 ≡ letter x = omega arith in
       r_plain (r_put (r_operation (λ rec a b s. refl) r_number
       (r_cast (r_operation (λ rec a b s. refl) (r_scalar refl) (r_convert (to_long 26 (omega arith)))
@@ -116,30 +122,32 @@ module _ (N : ℕ) (input : List ℕ) (most : N ≤ 64) where
       (ap (λ (b : ℕ). outside input (output ++ b ∷ []) (Some x) row) byte))
 
   -- a round, and what follows it
-  round_with : (k x : ℕ) (output : List ℕ) (c0 c1 c2 c3 c4 c5 c6 c7 c8 c9 c10 c11 c12 c13 c14 c15 : Option ℕ)
+  round_with : (l m : InLine) (k x : ℕ) (output : List ℕ) (c0 c1 c2 c3 c4 c5 c6 c7 c8 c9 c10 c11 c12 c13 c14 c15 :
+      Option ℕ)
       (rest : List Code) (v : Signal) (u : State) (j h : ℕ)
       → k < N → x < 1000
-      → Follow (program N) rest (outside input (output ++ letter ((16 * x + 120 + k) % 1000) ∷ [])
+      → Follow (program o N) rest (outside input (output ++ letter ((16 * x + 120 + k) % 1000) ∷ [])
       (Some ((16 * x + 120 + k) % 1000)) (sums x)) j v u h
-      → Follow (program N) (advance k ∷ show ∷ rest) (outside input output (Some x)
+      → Follow (program o N) (advance l k ∷ show m ∷ rest) (outside input output (Some x)
       (c0 ∷ c1 ∷ c2 ∷ c3 ∷ c4 ∷ c5 ∷ c6 ∷ c7 ∷ c8 ∷ c9 ∷ c10 ∷ c11 ∷ c12 ∷ c13 ∷ c14 ∷ c15 ∷ []))
       (round_steps j) v u h
-  round_with k x output c0 c1 c2 c3 c4 c5 c6 c7 c8 c9 c10 c11 c12 c13 c14 c15 rest v u j h below small f =
-      r_next (advances k x output c0 c1 c2 c3 c4 c5 c6 c7 c8 c9 c10 c11 c12 c13 c14 c15 (more 9 j) below small)
-      (r_next (shows ((16 * x + 120 + k) % 1000) output (sums x) j (omega arith)) f)
+  round_with l m k x output c0 c1 c2 c3 c4 c5 c6 c7 c8 c9 c10 c11 c12 c13 c14 c15 rest v u j h below
+      small f =
+      r_next (advances l k x output c0 c1 c2 c3 c4 c5 c6 c7 c8 c9 c10 c11 c12 c13 c14 c15 (more 9 j) below small)
+      (r_next (shows m ((16 * x + 120 + k) % 1000) output (sums x) j (omega arith)) f)
 
   -- the same from the array that the rounds before it left
-  pub round : (k : ℕ) (rest : List Code) (v : Signal) (u : State) (j h : ℕ) → k < N
-      → Follow (program N) rest (outside input (letters (suc k)) (Some (value (suc k))) (array_after (suc k))) j v u h
-      → Follow (program N) (advance k ∷ show ∷ rest)
+  pub round : (l m : InLine) (k : ℕ) (rest : List Code) (v : Signal) (u : State) (j h : ℕ) → k < N
+      → Follow (program o N) rest (outside input (letters (suc k)) (Some (value (suc k))) (array_after (suc k))) j v u h
+      → Follow (program o N) (advance l k ∷ show m ∷ rest)
       (outside input (letters k) (Some (value k)) (array_after k)) (round_steps j) v u h
-  round zero rest v u j h below f =
-      round_with zero 1 []
+  round l m zero rest v u j h below f =
+      round_with l m zero 1 []
       (Some 0) (Some 0) (Some 0) (Some 0) (Some 0) (Some 0) (Some 0) (Some 0) (Some 0) (Some 0) (Some 0) (Some 0)
       (Some 0) (Some 0) (Some 0) (Some 0)
       rest v u j h below (omega arith) f
-  round (suc n) rest v u j h below f =
-      round_with (suc n) (value (suc n)) (letters (suc n))
+  round l m (suc n) rest v u j h below f =
+      round_with l m (suc n) (value (suc n)) (letters (suc n))
       (Some (partial (value n) 0)) (Some (partial (value n) 1)) (Some (partial (value n) 2)) (Some (partial (value
       n) 3)) (Some (partial (value n) 4)) (Some (partial (value n) 5)) (Some (partial (value n) 6)) (Some (partial
       (value n) 7)) (Some (partial (value n) 8)) (Some (partial (value n) 9)) (Some (partial (value n) 10)) (Some
@@ -153,28 +161,29 @@ rounds zero k = k
 rounds (suc n) k = rounds n (round_steps k)
 
 -- all rounds below n, and what follows them
-pub all_rounds : (N : ℕ) (input : List ℕ) → N ≤ 64 → (n : ℕ) → n ≤ N
+pub all_rounds : (o : Offsets) (N : ℕ) (input : List ℕ) → N ≤ 64 → (n : ℕ) → n ≤ N
     → (rest : List Code) (v : Signal) (u : State) (j h : ℕ)
-    → Follow (program N) rest (outside input (letters n) (Some (value n)) (array_after n)) j v u h
-    → Follow (program N) (calls n ++ rest) (outside input [] (Some 1) (array_after 0)) (rounds n j) v u h
-all_rounds N input most zero few rest v u j h f = f
-all_rounds N input most (suc n) few rest v u j h f =
-    subst (λ (all : List Code). Follow (program N) all (outside input [] (Some 1) (array_after 0))
+    → Follow (program o N) rest (outside input (letters n) (Some (value n)) (array_after n)) j v u h
+    → Follow (program o N) (calls o.calls n ++ rest) (outside input [] (Some 1) (array_after 0)) (rounds n j) v u h
+all_rounds o N input most zero few rest v u j h f = f
+all_rounds o N input most (suc n) few rest v u j h f =
+    subst (λ (all : List Code). Follow (program o N) all (outside input [] (Some 1) (array_after 0))
     (rounds n (round_steps j))
-    v u h) (sym (append_assoc (calls n) (advance n ∷ show ∷ []) rest))
-    (all_rounds N input most n (omega arith) (advance n ∷ show ∷ rest) v u (round_steps j) h
-    (round N input most n rest v u j h (omega arith) f))
+    v u h) (sym (append_assoc (calls o.calls n) (advance (o.calls n) n ∷ show (onward 9 (o.calls n)) ∷ []) rest))
+    (all_rounds o N input most n (omega arith) (advance (o.calls n) n ∷ show (onward 9 (o.calls n)) ∷ rest) v u
+    (round_steps j) h
+    (round o N input most (o.calls n) (onward 9 (o.calls n)) n rest v u j h (omega arith) f))
 
 -- the steps of main
 abbrev pub main_steps : ℕ → ℕ → ℕ
 main_steps n k = more 2 (rounds n (more 3 k))
 
 -- what main returns
-pub main_gives : (N : ℕ) (input : List ℕ) → N ≤ 64 → (k : ℕ)
-    → Follow (program N) (main_code N) (outside input [] None (array_after 0)) (main_steps N k)
+pub main_gives : (o : Offsets) (N : ℕ) (input : List ℕ) → N ≤ 64 → (k : ℕ)
+    → Follow (program o N) (main_code o N) (outside input [] None (array_after 0)) (main_steps N k)
     (Returns (Some (value N))) (outside input (letters N) (Some (value N)) (array_after N)) k
-main_gives N input most k =
+main_gives o N input most k =
     let small = value_below N in
     r_next (r_initialise refl refl (r_convert (to_long 1 (omega arith))) refl refl)
-    (all_rounds N input most N (omega arith) ending _ _ _ _
+    (all_rounds o N input most N (omega arith) (ending o.ending) _ _ _ _
     (r_last (r_give (r_cast (r_scalar refl) (to_int (value N) (omega arith))))))

@@ -67,9 +67,9 @@ level_of : (m : TypedNode) (n : Node) → roll-TypedNode n ≡ m → out-TypedNo
 level_of m n e = ap (λ (x : TypedNode). out-TypedNode x) (sym e) ∙ out-roll-TypedNode n
 
 -- what a node does is what its uppermost level does
-of_node : (P : TypedProgram) (c : Kind) (m : TypedNode) (n : Node) (s : State) → roll-TypedNode n ≡ m
-    → meaning P (Of (made c m)) s ≡ expression (meaning P) P n s
-of_node P c m n s e = meaning-is P (Of (made c m)) s
+of_node : (P : TypedProgram) (l : ℕ) (c : Kind) (m : TypedNode) (n : Node) (s : State) → roll-TypedNode n ≡ m
+    → meaning P (Of (made l c m)) s ≡ expression (meaning P) P n s
+of_node P l c m n s e = meaning-is P (Of (made l c m)) s
     ∙ ap (λ (x : Node). expression (meaning P) P x s) (level_of m n e)
 
 -- what a statement does is what its uppermost level does
@@ -87,25 +87,27 @@ first_of e = ap (λ (x : TypedForInit). out-TypedForInit x) (sym (firsts.rolls-F
 -- EXPRESSIONS
 
 -- a number gives its word in a step
-pub r_number : {P : TypedProgram} {c : Kind} {w : ℕ} {s : State} {k : ℕ} → Gives P (number c w) s (suc k) w s k
-r_number {P = P} {c = c} {w = w} {s = s} {k = k} =
-    record { is = of_node P c _ (Number w) (at s (suc k)) (nodes.rolls-Number w) }
+pub r_number : {P : TypedProgram} {l : ℕ} {c : Kind} {w : ℕ} {s : State} {k : ℕ} → Gives P (number l c w) s (suc k) w
+    s k
+r_number {P = P} {l = l} {c = c} {w = w} {s = s} {k = k} =
+    record { is = of_node P l c _ (Number w) (at s (suc k)) (nodes.rolls-Number w) }
 
 -- a scalar gives its word in a step
-pub r_scalar : {P : TypedProgram} {c : Kind} {i w : ℕ} {s : State} {k : ℕ} → slice_get s.scalars i ≡ Some (Some w)
-    → Gives P (scalar c i) s (suc k) w s k
-r_scalar {P = P} {c = c} {i = i} {w = w} {s = s} {k = k} h = record {
-  is = of_node P c _ (Name (place.Scalar i)) (at s (suc k)) (nodes.rolls-Name (place.Scalar i))
+pub r_scalar : {P : TypedProgram} {l : ℕ} {c : Kind} {i w : ℕ} {s : State} {k : ℕ} → slice_get s.scalars i ≡ Some
+    (Some w)
+    → Gives P (scalar l c i) s (suc k) w s k
+r_scalar {P = P} {l = l} {c = c} {i = i} {w = w} {s = s} {k = k} h = record {
+  is = of_node P l c _ (Name (place.Scalar i)) (at s (suc k)) (nodes.rolls-Name (place.Scalar i))
       ∙ ap (λ (x : Option (Option ℕ)). given (held x) (at s k)) h;
 }
 
 -- an element gives the word at its index, in a step more than the index takes
-pub r_element : {P : TypedProgram} {c : Kind} {g w v k j : ℕ} {e : Term} {row : List (Option ℕ)} {s s' : State}
+pub r_element : {P : TypedProgram} {l : ℕ} {c : Kind} {g w v k j : ℕ} {e : Term} {row : List (Option ℕ)} {s s' : State}
     → Gives P e s k w s' j → slice_get s'.arrays g ≡ Some row → slice_get row w ≡ Some (Some v)
-    → Gives P (element c g e) s (suc k) v s' j
-r_element {P = P} {c = c} {g = g} {w = w} {v = v} {k = k} {j = j} {e = e} {row = row} {s = s} {s' = s'} h f x =
+    → Gives P (element l c g e) s (suc k) v s' j
+r_element {P = P} {l = l} {c = c} {g = g} {w = w} {v = v} {k = k} {j = j} {e = e} {row = row} {s = s} {s' = s'} h f x =
     record {
-      is = of_node P c _ (Element (place.Global g) None (typed e)) (at s (suc k))
+      is = of_node P l c _ (Element (place.Global g) None (typed e)) (at s (suc k))
           (nodes.rolls-Element (place.Global g) None (typed e))
           ∙ ap (λ (r : Result). then r (element_value (place.Global g))) h.is
           ∙ ap (λ (r : Option (List (Option ℕ))). given (held (cell_in r w)) (at s' j)) f
@@ -118,13 +120,14 @@ IsEager op = (rec : Parts) (x y : TypedExpr) (s : State)
     → binary rec op x y s ≡ then (rec (Of x) s) (after_left rec op x.kind y)
 
 -- an operation gives what it makes of its operands, in a step more than they take
-pub r_operation : {P : TypedProgram} {c : Kind} {op : BinaryOp} {a b r k j i : ℕ} {x y : Term} {s s' s'' : State}
+pub r_operation : {P : TypedProgram} {l : ℕ} {c : Kind} {op : BinaryOp} {a b r k j i : ℕ} {x y : Term} {s s' s'' :
+    State}
     → IsEager op
     → Gives P x s k a s' j → Gives P y s' j b s'' i → binary_of op (typed x).kind a b ≡ Some r
-    → Gives P (operation c op x y) s (suc k) r s'' i
-r_operation {P = P} {c = c} {op = op} {a = a} {b = b} {k = k} {j = j} {i = i} {x = x} {y = y} {s = s} {s' = s'}
+    → Gives P (operation l c op x y) s (suc k) r s'' i
+r_operation {P = P} {l = l} {c = c} {op = op} {a = a} {b = b} {k = k} {j = j} {i = i} {x = x} {y = y} {s = s} {s' = s'}
     {s'' = s''} eager g h e = record {
-      is = of_node P c _ (Binary op (typed x) (typed y)) (at s (suc k)) (nodes.rolls-Binary op (typed x) (typed y))
+      is = of_node P l c _ (Binary op (typed x) (typed y)) (at s (suc k)) (nodes.rolls-Binary op (typed x) (typed y))
           ∙ eager (meaning P) (typed x) (typed y) (at s k)
           ∙ ap (λ (r : Result). then r (after_left (meaning P) op (typed x).kind (typed y))) g.is
           ∙ ap (λ (r : Result). then r (operated op (typed x).kind a)) h.is
@@ -132,33 +135,33 @@ r_operation {P = P} {c = c} {op = op} {a = a} {b = b} {k = k} {j = j} {i = i} {x
     }
 
 -- a number that is converted gives its word in the new type, in a step
-pub r_convert : {P : TypedProgram} {c : Kind} {w w' : ℕ} {s : State} {k : ℕ} → converted c w ≡ w'
-    → Gives P (convert c w) s (suc k) w' s k
-r_convert {P = P} {c = c} {w = w} {s = s} {k = k} e = record {
-  is = of_node P c _ (Convert c (made Int (nodes.Number w))) (at s (suc k))
-      (nodes.rolls-Convert c (made Int (nodes.Number w)))
+pub r_convert : {P : TypedProgram} {l : ℕ} {c : Kind} {w w' : ℕ} {s : State} {k : ℕ} → converted c w ≡ w'
+    → Gives P (convert l c w) s (suc k) w' s k
+r_convert {P = P} {l = l} {c = c} {w = w} {s = s} {k = k} e = record {
+  is = of_node P l c _ (Convert c (made l Int (nodes.Number w))) (at s (suc k))
+      (nodes.rolls-Convert c (made l Int (nodes.Number w)))
       ∙ ap (λ (m : Node). then (node (meaning P) P m (at s (suc k))) (converting c))
       (level_of _ _ (nodes.rolls-Number w))
       ∙ ap (λ (n : ℕ). Go (Value n) (at s k)) e;
 }
 
 -- a cast gives the word of its operand in the new type, in a step more than it takes
-pub r_cast : {P : TypedProgram} {c : Kind} {w w' k j : ℕ} {e : Term} {s s' : State}
-    → Gives P e s k w s' j → converted c w ≡ w' → Gives P (cast c e) s (suc k) w' s' j
-r_cast {P = P} {c = c} {k = k} {j = j} {e = e} {s = s} {s' = s'} h f = record {
-  is = of_node P c _ (Cast c (typed e)) (at s (suc k)) (nodes.rolls-Cast c (typed e))
+pub r_cast : {P : TypedProgram} {l : ℕ} {c : Kind} {w w' k j : ℕ} {e : Term} {s s' : State}
+    → Gives P e s k w s' j → converted c w ≡ w' → Gives P (cast l c e) s (suc k) w' s' j
+r_cast {P = P} {l = l} {c = c} {k = k} {j = j} {e = e} {s = s} {s' = s'} h f = record {
+  is = of_node P l c _ (Cast c (typed e)) (at s (suc k)) (nodes.rolls-Cast c (typed e))
       ∙ ap (λ (r : Result). then r (converting c)) h.is
       ∙ ap (λ (n : ℕ). Go (Value n) (at s' j)) f;
 }
 
 -- an assignment to a scalar sets it and gives the value, in a step more than the value takes
-pub r_assign : {P : TypedProgram} {c : Kind} {p w k j : ℕ} {e : Term} {s s' s'' : State} {old : Option ℕ}
+pub r_assign : {P : TypedProgram} {l d : ℕ} {c : Kind} {p w k j : ℕ} {e : Term} {s s' s'' : State} {old : Option ℕ}
     → Gives P e s k w s' j → slice_get s'.scalars p ≡ Some old
     → record s' { scalars = slice_set s'.scalars p (Some w) } ≡ s''
-    → Gives P (assign c p e) s (suc k) w s'' j
-r_assign {P = P} {c = c} {p = p} {w = w} {k = k} {j = j} {e = e} {s = s} {s' = s'} h f g = record {
-  is = of_node P c _ (Assign None c (made c (nodes.Name (place.Scalar p))) (typed e)) (at s (suc k))
-      (nodes.rolls-Assign None c (made c (nodes.Name (place.Scalar p))) (typed e))
+    → Gives P (assign l d c p e) s (suc k) w s'' j
+r_assign {P = P} {l = l} {d = d} {c = c} {p = p} {w = w} {k = k} {j = j} {e = e} {s = s} {s' = s'} h f g = record {
+  is = of_node P l c _ (Assign None c (made d c (nodes.Name (place.Scalar p))) (typed e)) (at s (suc k))
+      (nodes.rolls-Assign None c (made d c (nodes.Name (place.Scalar p))) (typed e))
       ∙ ap (λ (m : Node). spec.assign (meaning P) None (Some c) c m (typed e) (at s k))
       (level_of _ _ (nodes.rolls-Name (place.Scalar p)))
       ∙ ap (λ (r : Result). then r (assigned (InScalar p))) h.is
@@ -167,17 +170,19 @@ r_assign {P = P} {c = c} {p = p} {w = w} {k = k} {j = j} {e = e} {s = s} {s' = s
 }
 
 -- an assignment to an element sets it and gives the value, in a step more than value and index take
-pub r_set : {P : TypedProgram} {c : Kind} {g w v k j i : ℕ} {e x : Term} {s s' s'' u : State} {row : List (Option ℕ)}
+pub r_set : {P : TypedProgram} {l d : ℕ} {c : Kind} {g w v k j i : ℕ} {e x : Term} {s s' s'' u : State} {row : List
+    (Option ℕ)}
     {old : Option ℕ}
     → Gives P x s k w s' j → Gives P e s' j v s'' i
     → slice_get s''.arrays g ≡ Some row → slice_get row w ≡ Some old
     → written s'' (InArray g w) (Some v) ≡ u
-    → Gives P (set c g x e) s (suc k) v u i
-r_set {P = P} {c = c} {g = g} {w = w} {v = v} {k = k} {j = j} {i = i} {e = e} {x = x} {s = s} {s' = s'} {s'' = s''}
+    → Gives P (set l d c g x e) s (suc k) v u i
+r_set {P = P} {l = l} {d = d} {c = c} {g = g} {w = w} {v = v} {k = k} {j = j} {i = i} {e = e} {x = x} {s = s} {s' =
+    s'} {s'' = s''}
     h f a b q = record {
-      is = of_node P c _ (Assign None c (made c (nodes.Element (place.Global g) None (typed x))) (typed e))
+      is = of_node P l c _ (Assign None c (made d c (nodes.Element (place.Global g) None (typed x))) (typed e))
           (at s (suc k)) (nodes.rolls-Assign None c
-          (made c (nodes.Element (place.Global g) None (typed x))) (typed e))
+          (made d c (nodes.Element (place.Global g) None (typed x))) (typed e))
           ∙ ap (λ (m : Node). spec.assign (meaning P) None (Some c) c m (typed e) (at s k))
           (level_of _ _ (nodes.rolls-Element (place.Global g) None (typed x)))
           ∙ ap (λ (r : Result). then r (assign_element (meaning P) None (Some c) c (place.Global g) (typed e))) h.is
@@ -198,7 +203,7 @@ body_gives {P = P} {all = all} {k = k} {s = s} h =
     of_level P _ (Compound (map stated all)) (at s (suc k)) (stmts.rolls-Compound (map stated all)) ∙ h.is
 
 -- a call of a function other than main, which returns a value
-pub r_call : {P : TypedProgram} {c : Kind} {f w v k j i : ℕ} {e : Term} {F : TypedFunc} {all : List Code}
+pub r_call : {P : TypedProgram} {l : ℕ} {c : Kind} {f w v k j i : ℕ} {e : Term} {F : TypedFunc} {all : List Code}
     {s s' u s'' : State}
     → Gives P e s k w s' (suc (suc j))
     → slice_get P.functions f ≡ Some F → nat_eq f P.main ≡ false → nat_eq 1 F.params ≡ true
@@ -211,10 +216,11 @@ pub r_call : {P : TypedProgram} {c : Kind} {f w v k j i : ℕ} {e : Term} {F : T
       base = s'.base;
       room = s'.room;
     } ≡ s''
-    → Gives P (call c f e) s (suc k) v s'' i
-r_call {P = P} {c = c} {f = f} {w = w} {v = v} {k = k} {j = j} {i = i} {e = e} {F = F} {all = all} {s = s} {s' = s'}
+    → Gives P (call l c f e) s (suc k) v s'' i
+r_call {P = P} {l = l} {c = c} {f = f} {w = w} {v = v} {k = k} {j = j} {i = i} {e = e} {F = F} {all = all} {s = s}
+    {s' = s'}
     {u = u} h is_f is_other one fits is_body runs ends = record {
-      is = of_node P c _ (Call (Func f) (typed e ∷ [])) (at s (suc k)) (nodes.rolls-Call (Func f) (typed e ∷ []))
+      is = of_node P l c _ (Call (Func f) (typed e ∷ [])) (at s (suc k)) (nodes.rolls-Call (Func f) (typed e ∷ []))
           ∙ ap (λ (r : Result). then r (λ v s. want v s (λ w. arguments (meaning P) P (Func f) [] (w ∷ []) s))) h.is
           ∙ ap (λ (m : Bool). enter (meaning P) m (slice_get P.functions f) (w ∷ []) (at s' (suc j))) is_other
           ∙ ap (λ (o : Option TypedFunc). enter (meaning P) false o (w ∷ []) (at s' (suc j))) is_f
@@ -230,12 +236,12 @@ r_call {P = P} {c = c} {f = f} {w = w} {v = v} {k = k} {j = j} {i = i} {e = e} {
     }
 
 -- a call of `putchar` puts a byte out, in two steps more than its argument takes
-pub r_put : {P : TypedProgram} {w k j : ℕ} {e : Term} {s s' s'' : State}
+pub r_put : {P : TypedProgram} {l w k j : ℕ} {e : Term} {s s' s'' : State}
     → Gives P e s k w s' (suc j)
     → record s' { output = s'.output ++ (w % 256) ∷ [] } ≡ s''
-    → Gives P (put e) s (suc k) (w % 256) s'' j
-r_put {P = P} {w = w} {k = k} {j = j} {e = e} {s = s} {s' = s'} h f = record {
-  is = of_node P Int _ (Call PutChar (typed e ∷ [])) (at s (suc k)) (nodes.rolls-Call PutChar (typed e ∷ []))
+    → Gives P (put l e) s (suc k) (w % 256) s'' j
+r_put {P = P} {l = l} {w = w} {k = k} {j = j} {e = e} {s = s} {s' = s'} h f = record {
+  is = of_node P l Int _ (Call PutChar (typed e ∷ [])) (at s (suc k)) (nodes.rolls-Call PutChar (typed e ∷ []))
       ∙ ap (λ (r : Result). then r (λ v s. want v s (λ w. arguments (meaning P) P PutChar [] (w ∷ []) s))) h.is
       ∙ ap (λ (y : State). Go (Value (w % 256)) (at y j)) f;
 }

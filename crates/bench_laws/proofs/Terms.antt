@@ -13,40 +13,40 @@ use Rattle.c_tree.specs.declared.TypedStmt.{TypedStmt}
 use Rattle.c_tree.specs.declared.TypedStmt.TheVariants.{Declare, Plain, For, Return}
 use Rattle.c_tree.specs.declared.TypedForInit.TheVariants.{First}
 
--- an expression of a type and a node
-abbrev pub made : Kind → TypedNode → TypedExpr
-made k n = record { kind = Some k; node = n }
+-- an expression of a place, a type and a node
+abbrev pub made : ℕ → Kind → TypedNode → TypedExpr
+made l k n = record { kind = Some k; at = l; node = n }
 
--- an expression, with its type
+-- an expression, with its place and its type
 pub data Term : Type 0 where
-  number : Kind → ℕ → Term
+  number : ℕ → Kind → ℕ → Term
   -- a scalar of the function
-  scalar : Kind → ℕ → Term
+  scalar : ℕ → Kind → ℕ → Term
   -- an element of a global array
-  element : Kind → ℕ → Term → Term
+  element : ℕ → Kind → ℕ → Term → Term
   -- a number of type int in another type
-  convert : Kind → ℕ → Term
-  cast : Kind → Term → Term
-  operation : Kind → BinaryOp → Term → Term → Term
-  -- to a scalar, and to an element of a global array
-  assign : Kind → ℕ → Term → Term
-  set : Kind → ℕ → Term → Term → Term
+  convert : ℕ → Kind → ℕ → Term
+  cast : ℕ → Kind → Term → Term
+  operation : ℕ → Kind → BinaryOp → Term → Term → Term
+  -- to a scalar, and to an element of a global array, which have a place of their own
+  assign : ℕ → ℕ → Kind → ℕ → Term → Term
+  set : ℕ → ℕ → Kind → ℕ → Term → Term → Term
   -- with one argument
-  call : Kind → ℕ → Term → Term
-  put : Term → Term
+  call : ℕ → Kind → ℕ → Term → Term
+  put : ℕ → Term → Term
 
 -- the typed tree that it stands for
 abbrev pub typed : Term → TypedExpr
-typed (number c w) = made c (Number w)
-typed (scalar c i) = made c (Name (place.Scalar i))
-typed (element c g e) = made c (Element (place.Global g) None (typed e))
-typed (convert c w) = made c (Convert c (made Int (Number w)))
-typed (cast c e) = made c (Cast c (typed e))
-typed (operation c op x y) = made c (Binary op (typed x) (typed y))
-typed (assign c i e) = made c (Assign None c (made c (Name (place.Scalar i))) (typed e))
-typed (set c g x e) = made c (Assign None c (made c (Element (place.Global g) None (typed x))) (typed e))
-typed (call c f e) = made c (Call (Func f) (typed e ∷ []))
-typed (put e) = made Int (Call PutChar (typed e ∷ []))
+typed (number l c w) = made l c (Number w)
+typed (scalar l c i) = made l c (Name (place.Scalar i))
+typed (element l c g e) = made l c (Element (place.Global g) None (typed e))
+typed (convert l c w) = made l c (Convert c (made l Int (Number w)))
+typed (cast l c e) = made l c (Cast c (typed e))
+typed (operation l c op x y) = made l c (Binary op (typed x) (typed y))
+typed (assign l d c i e) = made l c (Assign None c (made d c (Name (place.Scalar i))) (typed e))
+typed (set l d c g x e) = made l c (Assign None c (made d c (Element (place.Global g) None (typed x))) (typed e))
+typed (call l c f e) = made l c (Call (Func f) (typed e ∷ []))
+typed (put l e) = made l Int (Call PutChar (typed e ∷ []))
 
 -- a statement
 pub data Code : Type 0 where

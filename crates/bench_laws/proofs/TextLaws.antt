@@ -26,24 +26,26 @@ use Rattle.bench_laws.proofs.Typed.{accepted}
 use Rattle.bench_laws.proofs.EvaluationEnds.{ends}
 
 -- the text is accepted with this program
-has_program : (n : ℕ) → n ≤ 64 → IsAccepted (bench_text n) (program n)
+has_program : (n : ℕ) (few : n ≤ 64) → IsAccepted (bench_text n) (program (has_tokens n few).offsets n)
 has_program n few = let t = has_tokens n few in
     let o = t.offsets in
     (record { items = tree o n }, (tokens o n, t.lexed, is_unit o n), accepted o n few)
 
 -- the benchmark's text is a program of the profile
 pub is_accepted : BenchIsAccepted
-is_accepted n few = (program n, has_program n few)
+is_accepted n few = (program (has_tokens n few).offsets n, has_program n few)
 
 -- no stage of the front end refuses the benchmark's text
 pub is_not_refused : BenchIsNotRefused
-is_not_refused n r few refused = not_both (bench_text n) (program n) r (has_program n few) refused
+is_not_refused n r few refused = not_both (bench_text n) (program (has_tokens n few).offsets n) r (has_program n few)
+    refused
 
 -- and with no other
 pub always_ends : BenchEnds
 always_ends n P few is input m enough =
     subst (λ (Q : TypedProgram). eval Q input m ≡ Done (letters n) (pos (value n)) (steps n))
-    (accepted_once (bench_text n) (program n) P (has_program n few) is) (ends n input m few enough)
+    (accepted_once (bench_text n) (program (has_tokens n few).offsets n) P (has_program n few) is)
+    (ends (has_tokens n few).offsets n input m few enough)
 
 -- LENGTHS
 

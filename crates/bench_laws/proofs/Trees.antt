@@ -12,7 +12,7 @@ use Rattle.c_tree.specs.declared.tree.StmtNode.TheVariants as statement
 use Rattle.c_tree.specs.declared.tree.ForInit.TheVariants as first
 use Rattle.c_tree.specs.declared.tree.Top.{Top}
 use Rattle.c_tree.specs.declared.tree.TopNode.TheVariants as tops
-use Rattle.c_grammar.specs.Operators.{at}
+use Rattle.c_grammar.specs.Operators.{at, told_at}
 use Rattle.c_grammar.specs.Statements as s
 use Rattle.c_grammar.specs.Units as u
 
@@ -73,48 +73,48 @@ i_of l = name l name_i
 abbrev pub x_of : ℕ → Expr
 x_of l = name l name_x
 
--- an operation
-abbrev pub operation : ℕ → BinaryOp → Expr → Expr → Expr
-operation l op a b = at l (node.Binary op a b)
+-- an operation, whose operator is at offset k
+abbrev pub operation : ℕ → ℕ → BinaryOp → Expr → Expr → Expr
+operation l k op a b = told_at l k (node.Binary op a b)
 
 -- an assignment
-abbrev pub assigned : ℕ → Expr → Expr → Expr
-assigned l a b = at l (node.Assign None a b)
+abbrev pub assigned : ℕ → ℕ → Expr → Expr → Expr
+assigned l k a b = told_at l k (node.Assign None a b)
 
 -- a[e]
 abbrev pub element : ℕ → Expr → Expr
 element l e = at l (node.Element name_a None e)
 
 -- a[e - 1]
-abbrev pub before : ℕ → ℕ → ℕ → Expr
-before l m v = element l (operation m Subtract (i_of m) (number v 1))
+abbrev pub before : ℕ → ℕ → ℕ → ℕ → Expr
+before l m k v = element l (operation m k Subtract (i_of m) (number v 1))
 
 -- PARTS OF LINES, each from its first token on
 
 -- i = v
 abbrev pub set_i : InLine → ℕ → Expr
-set_i l v = assigned (l 0) (i_of (l 0)) (number (l 2) v)
+set_i l v = assigned (l 0) (l 1) (i_of (l 0)) (number (l 2) v)
 
 -- i < 16
 abbrev pub below_16 : InLine → Expr
-below_16 l = operation (l 0) Less (i_of (l 0)) (number (l 2) 16)
+below_16 l = operation (l 0) (l 1) Less (i_of (l 0)) (number (l 2) 16)
 
 -- i = i + 1
 abbrev pub step : InLine → Expr
-step l = assigned (l 0) (i_of (l 0)) (operation (l 2) Add (i_of (l 2)) (number (l 4) 1))
+step l = assigned (l 0) (l 1) (i_of (l 0)) (operation (l 2) (l 3) Add (i_of (l 2)) (number (l 4) 1))
 
 -- a[i] = x + i
 abbrev pub fill : InLine → Expr
-fill l = assigned (l 0) (element (l 0) (i_of (l 2))) (operation (l 5) Add (x_of (l 5)) (i_of (l 7)))
+fill l = assigned (l 0) (l 4) (element (l 0) (i_of (l 2))) (operation (l 5) (l 6) Add (x_of (l 5)) (i_of (l 7)))
 
 -- a[i] = a[i] + a[i - 1]
 abbrev pub add_up : InLine → Expr
-add_up l = assigned (l 0) (element (l 0) (i_of (l 2))) (operation (l 5) Add (element (l 5) (i_of (l 7)))
-    (before (l 10) (l 12) (l 14)))
+add_up l = assigned (l 0) (l 4) (element (l 0) (i_of (l 2))) (operation (l 5) (l 9) Add (element (l 5) (i_of (l 7)))
+    (before (l 10) (l 12) (l 13) (l 14)))
 
 -- a[15] + k
 abbrev pub sum : InLine → ℕ → Expr
-sum l k = operation (l 0) Add (element (l 0) (number (l 2) 15)) (number (l 5) k)
+sum l k = operation (l 0) (l 4) Add (element (l 0) (number (l 2) 15)) (number (l 5) k)
 
 -- an expression statement, and a loop over one
 abbrev pub plain : ℕ → Expr → Stmt
@@ -146,11 +146,11 @@ call_of l k = at (l 0) (node.Call (name_f k) (x_of (l 2) ∷ []))
 
 -- fK(x) % 1000
 abbrev pub next_x : InLine → ℕ → Expr
-next_x l k = operation (l 0) Remainder (call_of l k) (number (l 5) 1000)
+next_x l k = operation (l 0) (l 4) Remainder (call_of l k) (number (l 5) 1000)
 
 -- x % 26
 abbrev pub letter : InLine → Expr
-letter l = operation (l 0) Remainder (x_of (l 0)) (number (l 2) 26)
+letter l = operation (l 0) (l 1) Remainder (x_of (l 0)) (number (l 2) 26)
 
 -- (int) (x % 26)
 abbrev pub low : InLine → Expr
@@ -158,11 +158,11 @@ low l = at (l 0) (node.Cast Int (at (l 3) (node.Group (letter (onward 4 l)))))
 
 -- the call of function k: two statements
 abbrev pub advance : InLine → ℕ → Stmt
-advance l k = plain (l 0) (assigned (l 0) (x_of (l 0)) (next_x (onward 2 l) k))
+advance l k = plain (l 0) (assigned (l 0) (l 1) (x_of (l 0)) (next_x (onward 2 l) k))
 
 -- 65 + (int) (x % 26)
 abbrev pub shown : InLine → Expr
-shown l = operation (l 0) Add (number (l 0) 65) (low (onward 2 l))
+shown l = operation (l 0) (l 1) Add (number (l 0) 65) (low (onward 2 l))
 
 -- putchar(65 + (int) (x % 26))
 abbrev pub put : InLine → Expr

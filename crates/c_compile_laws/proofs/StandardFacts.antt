@@ -92,7 +92,7 @@ in_sections t = refl
 
 -- an expression of type int
 abbrev int : Node → TypedExpr
-int n = record { kind = Some Int; node = roll-TypedNode n }
+int n = record { kind = Some Int; at = 0; node = roll-TypedNode n }
 
 node_back : (n : Node) → node_of (int n) ≡ n
 node_back n = out-roll-TypedNode n

@@ -16,7 +16,11 @@ fn number(offset: u32, value: u64) -> Expr {
         value,
         kind: Kind::Int,
     };
-    Expr { offset, node }
+    Expr {
+        offset,
+        at: offset,
+        node,
+    }
 }
 
 fn call(alloc: Global, name: &[u8]) -> Result<ExprNode, TypeFault> {
@@ -48,7 +52,8 @@ fn expression_node(alloc: Global, offset: u32, value: Value) -> Result<ExprNode,
 
 fn expression(alloc: Global, offset: u32, value: Value) -> Result<Boxed<Expr>, TypeFault> {
     let node = expression_node(alloc, offset, value)?;
-    Ok(Boxed::new(alloc, Expr { offset, node })?)
+    let at = offset;
+    Ok(Boxed::new(alloc, Expr { offset, at, node })?)
 }
 
 fn declaration(
@@ -318,7 +323,8 @@ fn plus_zero(alloc: Global, left: Boxed<Expr>) -> Result<Boxed<Expr>, TypeFault>
         left,
         right: Boxed::new(alloc, number(1, 0))?,
     };
-    Ok(Boxed::new(alloc, Expr { offset: 1, node })?)
+    let (offset, at) = (1, 1);
+    Ok(Boxed::new(alloc, Expr { offset, at, node })?)
 }
 
 /// `0 + 0 + .. + 0`, grouped to the left.

@@ -6,7 +6,7 @@ use Rattle.c_tree.specs.declared.token.Mark.TheVariants as mark
 use Rattle.c_tree.specs.declared.tree.Expr.{Expr}
 use Rattle.c_tree.specs.declared.tree.ExprNode.TheVariants as node
 use Rattle.c_grammar.specs.Tokens.{Tokens, punct, May}
-use Rattle.c_grammar.specs.Operators.{at, Assigner, assigner_mark, assigner_op}
+use Rattle.c_grammar.specs.Operators.{told_at, Assigner, assigner_mark, assigner_op}
 use Rattle.c_grammar.specs.inside.Operators.{binary_level}
 use Rattle.c_grammar.specs.Expressions.{expr, Spells, number, name, group, element, call, suffix}
 use Rattle.c_grammar.specs.Expressions.{row_element, prefix, cast, join, choice, assign, up}
@@ -71,7 +71,7 @@ module _ (m d : ℕ) (nested : Nested) (known : Deeper nested m d) where
   ChosenIs a =
       Then (OpenIs mark.Question d) (λ k. Then (Level 16 (suc d))
       (λ b. Then (Is mark.Colon) (λ k'. Then (Level 14 (suc d))
-      (λ c. Done (at a.offset (node.Choice a b c))))))
+      (λ c. Done (told_at a.offset k (node.Choice a b c))))))
 
   chosen_piece : (a : Expr) → Piece same_tree (ChosenIs a) any always (ends_at 14)
       (λ t. punct 0 mark.Question ∷ zero_token ∷ punct 0 mark.Colon ∷ zero_token ∷ t) m
@@ -80,11 +80,11 @@ module _ (m d : ℕ) (nested : Nested) (known : Deeper nested m d) where
   chosen_piece a =
       opening same_tree (λ k. Then (Level 16 (suc d))
       (λ b. Then (Is mark.Colon) (λ k'. Then (Level 14 (suc d))
-      (λ c. Done (at a.offset (node.Choice a b c)))))) always (ends_at 14)
+      (λ c. Done (told_at a.offset k (node.Choice a b c)))))) always (ends_at 14)
       (λ t. zero_token ∷ punct 0 mark.Colon ∷ zero_token ∷ t) m d mark.Question _
       (λ t. omega arith)
       (λ k may t fr fr'. (
-        at a.offset (node.Choice a zero_expr zero_expr),
+        told_at a.offset k (node.Choice a zero_expr zero_expr),
         (
           zero_expr,
           punct 0 mark.Colon ∷ zero_token ∷ t,
@@ -94,11 +94,11 @@ module _ (m d : ℕ) (nested : Nested) (known : Deeper nested m d) where
       )) nested known.reach
       (λ h k. seq (λ b ts. and_then (expect mark.Colon ts)
       (λ _ ts. and_then (nested.conditional ts)
-      (λ c ts. expr_here (at a.offset (node.Choice a b c)) ts))) (known.expression_in h)
+      (λ c ts. expr_here (told_at a.offset k (node.Choice a b c)) ts))) (known.expression_in h)
       (λ b. seq (λ _ ts. and_then (nested.conditional ts)
-      (λ c ts. expr_here (at a.offset (node.Choice a b c)) ts)) (mark_piece mark.Colon m)
-      (λ k'. seq (λ c ts. expr_here (at a.offset (node.Choice a b c)) ts) (known.conditional_in h)
-      (λ c. done same_tree (at a.offset (node.Choice a b c)) m (λ t h. tt)) (λ t. omega arith)
+      (λ c ts. expr_here (told_at a.offset k (node.Choice a b c)) ts)) (mark_piece mark.Colon m)
+      (λ k'. seq (λ c ts. expr_here (told_at a.offset k (node.Choice a b c)) ts) (known.conditional_in h)
+      (λ c. done same_tree (told_at a.offset k (node.Choice a b c)) m (λ t h. tt)) (λ t. omega arith)
       (λ may x y u t r s. subst (Stops 14) (sym r.1) s))
       (λ t. omega arith) (λ may x y u t r s. tt))
       (λ t. omega arith) (λ may x y u t r s. mark_stops 16 mark.Colon (omega arith) r.0 r.1 u r.2))
@@ -166,7 +166,7 @@ module _ (m d : ℕ) (nested : Nested) (known : Deeper nested m d) where
 
   abbrev AssignedIs : Expr → Assigner → Rel Expr
   AssignedIs a s = Then (OpenIs (assigner_mark s) d)
-      (λ k. Then (Level 15 (suc d)) (λ b. Done (at a.offset (node.Assign (assigner_op s) a b))))
+      (λ k. Then (Level 15 (suc d)) (λ b. Done (told_at a.offset k (node.Assign (assigner_op s) a b))))
 
   assigned_piece : (a : Expr) (s : Assigner)
       → Piece same_tree (AssignedIs a s) any always (ends_at 15)
@@ -174,14 +174,14 @@ module _ (m d : ℕ) (nested : Nested) (known : Deeper nested m d) where
   unfolding assigned_of
   assigned_piece a s =
       opening same_tree (λ k. Then (Level 15 (suc d))
-      (λ b. Done (at a.offset (node.Assign (assigner_op s) a b)))) always
+      (λ b. Done (told_at a.offset k (node.Assign (assigner_op s) a b)))) always
       (ends_at 15) zero_first m d (assigner_mark s) _ (λ t. omega arith)
       (λ k may t fr fr'. (
-        at a.offset (node.Assign (assigner_op s) a zero_expr),
+        told_at a.offset k (node.Assign (assigner_op s) a zero_expr),
         (zero_expr, t, shortest 15, (refl, refl)),
       )) nested known.reach
-      (λ h k. seq (λ b ts. expr_here (at a.offset (node.Assign (assigner_op s) a b)) ts)
-      (known.assignment_in h) (λ b. done same_tree (at a.offset (node.Assign (assigner_op s) a b)) m
+      (λ h k. seq (λ b ts. expr_here (told_at a.offset k (node.Assign (assigner_op s) a b)) ts)
+      (known.assignment_in h) (λ b. done same_tree (told_at a.offset k (node.Assign (assigner_op s) a b)) m
       (λ t h. tt)) (λ t. omega arith) (λ may x y u t r e. subst (Stops 15) (sym r.1) e))
 
   abbrev AssignsTo : Expr → Assigner → Rel Expr

@@ -38,7 +38,7 @@ expr_here e t = Ok (e, t)
 pub data Joins (d k : ℕ) (may : May) (r : Expr) : Expr → Tokens → Tokens → Type 0 where
   over : {t : Tokens} → Joins d k may r r t t
   on : {l : ℕ} {a b : Expr} {m u t : Tokens} → (j : Joiner) → below j ≡ k
-      → Spells may (expr k b) d m u → Joins d k may r (joined j a b) u t
+      → Spells may (expr k b) d m u → Joins d k may r (joined l j a b) u t
       → Joins d k may r a (punct l (joiner_mark j) ∷ m) t
 
 abbrev pub JoinsFrom : ℕ → ℕ → Expr → Rel Expr
@@ -51,10 +51,10 @@ joins_stop (on j e y js) s = let b = bind_joiner j in omega (arith, b, e)
 
 join_at : {may : May} {d l : ℕ} {a b : Expr} {f u t : Tokens} → (j : Joiner) (k : ℕ) → below j ≡ k
     → Spells may (expr (suc k) a) d f (punct l (joiner_mark j) ∷ u) → Spells may (expr k b) d u t
-    → Spells may (expr (suc k) (joined j a b)) d f t
+    → Spells may (expr (suc k) (joined l j a b)) d f t
 join_at {may} {d} {l} {a} {b} {f} {u} {t} j k e =
     subst (λ (k : ℕ). Spells may (expr (suc k) a) d f (punct l (joiner_mark j) ∷ u)
-    → Spells may (expr k b) d u t → Spells may (expr (suc k) (joined j a b)) d f t) e (join j)
+    → Spells may (expr k b) d u t → Spells may (expr (suc k) (joined l j a b)) d f t) e (join j)
 
 join_to : {may : May} {d k : ℕ} {r a : Expr} {f u t : Tokens} → Spells may (expr (suc k) a) d f u
     → Joins d k may r a u t → Spells may (expr (suc k) r) d f t
@@ -100,16 +100,16 @@ none_left (alike t x) le = omega (arith, le)
 module _ (m d k : ℕ) (inner : Tokens → Out Expr)
     (item : Piece same_tree (Level k d) any always (ends_at k) zero_first m inner) where
   -- behind a joiner
-  turn_sound : (n : ℕ) (a : Expr) (j : Joiner)
+  turn_sound : (n l : ℕ) (a : Expr) (j : Joiner)
       → ((a : Expr) (ts : Tokens) → Sound same_tree (JoinsFrom d k a) always m ts
       (loop inner k n a ts)) → (ts : Tokens)
-      → Sound same_tree (Then (Level k d) (λ b. JoinsFrom d k (joined j a b))) always m ts
-      (and_then (inner ts) (λ b ts. loop inner k n (joined j a b) ts))
-  turn_sound n a j below' ts =
+      → Sound same_tree (Then (Level k d) (λ b. JoinsFrom d k (joined l j a b))) always m ts
+      (and_then (inner ts) (λ b ts. loop inner k n (joined l j a b) ts))
+  turn_sound n l a j below' ts =
       seq_sound same_tree same_tree (Level k d)
-      (λ b. JoinsFrom d k (joined j a b)) always always m ts (inner ts)
-      (λ b ts. loop inner k n (joined j a b) ts) (λ t. t) (λ t. omega arith)
-      (λ b may t fr fr'. (joined j a b, over)) (item.sound ts tt) (λ b u _. below' (joined j a b) u)
+      (λ b. JoinsFrom d k (joined l j a b)) always always m ts (inner ts)
+      (λ b ts. loop inner k n (joined l j a b) ts) (λ t. t) (λ t. omega arith)
+      (λ b may t fr fr'. (joined l j a b, over)) (item.sound ts tt) (λ b u _. below' (joined l j a b) u)
 
   joins_sound : (n : ℕ) (a : Expr) (ts : Tokens)
       → Sound same_tree (JoinsFrom d k a) always m ts (loop inner k n a ts)
@@ -125,7 +125,7 @@ module _ (m d k : ℕ) (inner : Tokens → Out Expr)
       (λ j e. prepend (punct (offset_of ts) (joiner_mark j)) ts
       (seen_is (joiner k) joiner_mark (λ f j e. (joiner_is k f j e).0) ts j e)
       (λ may r f t q. on j (joiner_below k ts j e) q.2 q.3)
-      (turn_sound n a j (joins_sound n) (tail ts)))
+      (turn_sound n (offset_of ts) a j (joins_sound n) (tail ts)))
 
   loop_stops : (n : ℕ) (a : Expr) (ts : Tokens) → Stops (suc k) ts
       → loop inner k n a ts ≡ Ok (a, ts)
@@ -134,10 +134,10 @@ module _ (m d k : ℕ) (inner : Tokens → Out Expr)
 
   loop_joins : (n l : ℕ) (a : Expr) (j : Joiner) (r : Tokens) → below j ≡ k
       → loop inner k (suc n) a (punct l (joiner_mark j) ∷ r)
-      ≡ and_then (inner r) (λ b ts. loop inner k n (joined j a b) ts)
+      ≡ and_then (inner r) (λ b ts. loop inner k n (joined l j a b) ts)
   loop_joins n l a j r e = by_some (joiner k (form.Mark (joiner_mark j))) j
       (expr_here a (punct l (joiner_mark j) ∷ r))
-      (λ j. and_then (inner r) (λ b ts. loop inner k n (joined j a b) ts)) (joiner_self j k e)
+      (λ j. and_then (inner r) (λ b ts. loop inner k n (joined l j a b) ts)) (joiner_self j k e)
 
   joins_land : (cut : Bool) (g g' : Tokens) (may : May) (n : ℕ) (a r : Expr) (f' t' : Tokens)
       → Joins d k may r a f' t' → Stops (suc k) t' → (f : Tokens) → length f ≤ n → Tied cut g g' f f'
@@ -151,17 +151,17 @@ module _ (m d k : ℕ) (inner : Tokens → Out Expr)
       head_step cut g g' (λ w. length w ≤ suc n
       → Lands cut g g' may m (loop inner k (suc n) a w) (λ to. Ok (r, to)) t') tied
       (λ w tw le. lands_by cut g g' may m (loop_joins n l a j w e)
-      (bind_lands cut g g' may m b (inner w) (λ b ts. loop inner k n (joined j a b) ts)
+      (bind_lands cut g g' may m b (inner w) (λ b ts. loop inner k n (joined l j a b) ts)
       (λ to. Ok (r, to)) u t' (item.complete cut g g' may b v u y (joins_stop js s) w tw)
       (λ x v le. record {
         le = omega (
           arith,
           le,
-          sound_short same_tree (JoinsFrom d k (joined j a x)) always m v
-              (loop inner k n (joined j a x) v) (joins_sound n (joined j a x) v),
+          sound_short same_tree (JoinsFrom d k (joined l j a x)) always m v
+              (loop inner k n (joined l j a x) v) (joins_sound n (joined l j a x) v),
         );
       })
-      (λ mid tm i. joins_land cut g g' may n (joined j a b) r u t' js s mid
+      (λ mid tm i. joins_land cut g g' may n (joined l j a b) r u t' js s mid
       (omega (
         arith,
         le,
@@ -172,9 +172,9 @@ module _ (m d k : ℕ) (inner : Tokens → Out Expr)
         le = omega (
           arith,
           ap (λ (o : Out Expr). length (place o)) (loop_joins n l a j g e),
-          sound_short same_tree (Then (Level k d) (λ b. JoinsFrom d k (joined j a b))) always m g
-              (and_then (inner g) (λ b ts. loop inner k n (joined j a b) ts))
-              (turn_sound n a j (joins_sound n) g),
+          sound_short same_tree (Then (Level k d) (λ b. JoinsFrom d k (joined l j a b))) always m g
+              (and_then (inner g) (λ b ts. loop inner k n (joined l j a b) ts))
+              (turn_sound n l a j (joins_sound n) g),
         );
       }))
       le
@@ -200,7 +200,7 @@ module _ (m d k : ℕ) (inner : Tokens → Out Expr)
 
 pub data Suffixes (may : May) (r : Expr) : Expr → Tokens → Tokens → Type 0 where
   over' : {t : Tokens} → Suffixes may r r t t
-  on' : {l : ℕ} {a : Expr} {u t : Tokens} → (s : Suffix) → Suffixes may r (suffixed s a) u t
+  on' : {l : ℕ} {a : Expr} {u t : Tokens} → (s : Suffix) → Suffixes may r (suffixed l s a) u t
       → Suffixes may r a (punct l (suffix_mark s) ∷ u) t
 
 -- the spelling of suffixes of an expression
@@ -260,16 +260,16 @@ module _ (m : ℕ) where
       (λ e. read a ts (record { put = λ u. u; way = stay; is = refl; again = λ may w u. over' }) tt)
       (λ s e. prepend (punct (offset_of ts) (suffix_mark s)) ts
       (seen_is suffix_of suffix_mark suffix_is ts s e) (λ may r f t q. on' s q)
-      (suffixes_sound n (suffixed s a) (tail ts)))
+      (suffixes_sound n (suffixed (offset_of ts) s a) (tail ts)))
 
   suffixes_stops : (n : ℕ) (a : Expr) (ts : Tokens) → Stops 1 ts → suffixes n a ts ≡ Ok (a, ts)
   suffixes_stops zero a ts s = refl
   suffixes_stops (suc n) a ts s = by_none (seen suffix_of ts) _ _ (suffix_none ts s)
 
   suffixes_on : (n l : ℕ) (a : Expr) (s : Suffix) (r : Tokens)
-      → suffixes (suc n) a (punct l (suffix_mark s) ∷ r) ≡ suffixes n (suffixed s a) r
+      → suffixes (suc n) a (punct l (suffix_mark s) ∷ r) ≡ suffixes n (suffixed l s a) r
   suffixes_on n l a s r = by_some (suffix_of (form.Mark (suffix_mark s))) s
-      (expr_here a (punct l (suffix_mark s) ∷ r)) (λ s. suffixes n (suffixed s a) r) (suffix_self s)
+      (expr_here a (punct l (suffix_mark s) ∷ r)) (λ s. suffixes n (suffixed l s a) r) (suffix_self s)
 
   suffixes_land : (cut : Bool) (g g' : Tokens) (may : May) (n : ℕ) (a r : Expr) (f' t' : Tokens)
       → Suffixes may r a f' t' → Stops 1 t' → (f : Tokens) → length f ≤ n → Tied cut g g' f f'
@@ -282,13 +282,13 @@ module _ (m : ℕ) where
       head_step cut g g' (λ w. length w ≤ suc n
       → Lands cut g g' may m (suffixes (suc n) a w) (λ to. Ok (r, to)) t') tied
       (λ w tw le. lands_by cut g g' may m (suffixes_on n l a x w)
-      (suffixes_land cut g g' may n (suffixed x a) r u t' js s w (omega (arith, le)) tw))
+      (suffixes_land cut g g' may n (suffixed l x a) r u t' js s w (omega (arith, le)) tw))
       (λ c le. past c (record {
         le = omega (
           arith,
           ap (λ (o : Out Expr). length (place o)) (suffixes_on n l a x g),
-          sound_short same_tree (SuffixesOf (suffixed x a)) always m g (suffixes n (suffixed x a) g)
-              (suffixes_sound n (suffixed x a) g),
+          sound_short same_tree (SuffixesOf (suffixed l x a)) always m g (suffixes n (suffixed l x a) g)
+              (suffixes_sound n (suffixed l x a) g),
         );
       }))
       le

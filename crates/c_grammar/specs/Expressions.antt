@@ -7,7 +7,7 @@ use Rattle.c_tree.specs.declared.tree.Expr.{Expr}
 use Rattle.c_tree.specs.declared.tree.ExprNode.TheVariants as node
 use Rattle.c_grammar.specs.Tokens.{Tokens, token, punct, named, May}
 use Rattle.c_grammar.specs.Types.{Types}
-use Rattle.c_grammar.specs.Operators.{at, cast_level, conditional, assignment, expression, Joiner}
+use Rattle.c_grammar.specs.Operators.{at, told_at, cast_level, conditional, assignment, expression, Joiner}
 use Rattle.c_grammar.specs.Operators.{joiner_mark, below, joined, Prefix, prefix_mark}
 use Rattle.c_grammar.specs.Operators.{operand_level, prefixed, Suffix, suffix_mark, suffixed}
 use Rattle.c_grammar.specs.Operators.{Assigner, assigner_mark, assigner_op}
@@ -62,7 +62,7 @@ pub data Spells (may : May) : Phrase → ℕ → Tokens → Tokens → Type 0 wh
   -- 6.5.2.4
   suffix : {k d : ℕ} {e : Expr} {f t : Tokens} → (s : Suffix)
       → Spells may (expr 1 e) d f (punct k (suffix_mark s) ∷ t)
-      → Spells may (expr 1 (suffixed s e)) d f t
+      → Spells may (expr 1 (suffixed k s e)) d f t
   -- 6.5.3.1, 6.5.3.3
   prefix : {l d : ℕ} {e : Expr} {m t : Tokens} → (p : Prefix)
       → may (punct l (prefix_mark p) ∷ m) (suc d) ≡ true
@@ -77,20 +77,20 @@ pub data Spells (may : May) : Phrase → ℕ → Tokens → Tokens → Type 0 wh
   join : {k d : ℕ} {a b : Expr} {f m t : Tokens} → (j : Joiner)
       → Spells may (expr (suc (below j)) a) d f (punct k (joiner_mark j) ∷ m)
       → Spells may (expr (below j) b) d m t
-      → Spells may (expr (suc (below j)) (joined j a b)) d f t
+      → Spells may (expr (suc (below j)) (joined k j a b)) d f t
   -- 6.5.15
   choice : {k k' d : ℕ} {a b c : Expr} {f m m' t : Tokens}
       → Spells may (expr 13 a) d f (punct k mark.Question ∷ m)
       → may (punct k mark.Question ∷ m) (suc d) ≡ true
       → Spells may (expr expression b) (suc d) m (punct k' mark.Colon ∷ m')
       → Spells may (expr conditional c) (suc d) m' t
-      → Spells may (expr conditional (at a.offset (node.Choice a b c))) d f t
+      → Spells may (expr conditional (told_at a.offset k (node.Choice a b c))) d f t
   -- 6.5.16
   assign : {k d : ℕ} {a b : Expr} {f m t : Tokens} → (s : Assigner)
       → Spells may (expr 2 a) d f (punct k (assigner_mark s) ∷ m)
       → may (punct k (assigner_mark s) ∷ m) (suc d) ≡ true
       → Spells may (expr assignment b) (suc d) m t
-      → Spells may (expr assignment (at a.offset (node.Assign (assigner_op s) a b))) d f t
+      → Spells may (expr assignment (told_at a.offset k (node.Assign (assigner_op s) a b))) d f t
   -- an expression of a level is one of each looser level
   up : {n d : ℕ} {e : Expr} {f t : Tokens} → Spells may (expr n e) d f t
       → Spells may (expr (suc n) e) d f t

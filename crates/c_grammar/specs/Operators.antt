@@ -32,9 +32,13 @@ assignment = 15
 abbrev pub expression : ℕ
 expression = 16
 
--- the expression of an offset and a node
+-- the expression of an offset and a node, which the token at another offset names
+abbrev pub told_at : ℕ → ℕ → ExprNode → Expr
+told_at l k n = record { offset = l; at = k; node = n }
+
+-- the same where its first token names it
 abbrev pub at : ℕ → ExprNode → Expr
-at l n = record { offset = l; node = n }
+at l n = told_at l l n
 
 -- what joins two phrases, grouping to the left
 pub data Joiner : Type 0 where
@@ -51,10 +55,10 @@ abbrev pub below : Joiner → ℕ
 below (op o) = cast_level + (operator o).level
 below comma = 15
 
--- two expressions joined by an operator
-abbrev pub joined : Joiner → Expr → Expr → Expr
-joined (op o) a b = at a.offset (node.Binary o a b)
-joined comma a b = at a.offset (node.Comma a b)
+-- two expressions joined by an operator of that offset, which names the whole
+abbrev pub joined : ℕ → Joiner → Expr → Expr → Expr
+joined k (op o) a b = told_at a.offset k (node.Binary o a b)
+joined k comma a b = told_at a.offset k (node.Comma a b)
 
 -- what stands before an operand
 pub data Prefix : Type 0 where
@@ -93,10 +97,10 @@ abbrev pub suffix_mark : Suffix → Mark
 suffix_mark increased = mark.PlusPlus
 suffix_mark decreased = mark.MinusMinus
 
--- an expression before a suffix
-abbrev pub suffixed : Suffix → Expr → Expr
-suffixed increased e = at e.offset (node.Bump bump.PostInc e)
-suffixed decreased e = at e.offset (node.Bump bump.PostDec e)
+-- an expression before a suffix of that offset, which names the whole
+abbrev pub suffixed : ℕ → Suffix → Expr → Expr
+suffixed k increased e = told_at e.offset k (node.Bump bump.PostInc e)
+suffixed k decreased e = told_at e.offset k (node.Bump bump.PostDec e)
 
 -- the operator of an assignment: none, or one that has a compound assignment
 pub data Assigner : Type 0 where

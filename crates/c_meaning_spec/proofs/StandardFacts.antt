@@ -33,7 +33,7 @@ use Rattle.c_meaning_spec.specs.Eval.{evaluated, meaning, eval, Stopped, Done}
 ruleset trees = (out-roll-TypedNode, out-roll-TypedStmt, out-roll-TypedForInit)
 
 abbrev int : Node → TypedExpr
-int n = record { kind = Some Int; node = roll-TypedNode n }
+int n = record { kind = Some Int; at = 0; node = roll-TypedNode n }
 
 abbrev number : ℕ → TypedExpr
 number w = int (Number w)
@@ -149,6 +149,7 @@ old_value_first = simp trees refl
 -- return (char) of a value that does not fit, by a conversion that costs nothing
 low_bits : eval (returns (record {
   kind = Some Char;
+  at = 0;
   node = roll-TypedNode (Convert Char (number 255));
 })) [] 9 ≡ Done [] (negsuc 0) 4
 unfolding eval meaning evaluated converted
@@ -167,7 +168,11 @@ end_of_input = simp trees refl
 
 -- exit(3); as a statement
 abbrev exits_with : ℕ → TypedStmt
-exits_with w = statement (Plain (Some (record { kind = None; node = roll-TypedNode (Call Exit (number w ∷ [])) })))
+exits_with w = statement (Plain (Some (record {
+  kind = None;
+  at = 0;
+  node = roll-TypedNode (Call Exit (number w ∷ []));
+})))
 
 abbrev puts : ℕ → TypedStmt
 puts w = statement (Plain (Some (int (Call PutChar (number w ∷ [])))))

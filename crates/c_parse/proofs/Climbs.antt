@@ -7,7 +7,7 @@ use Rattle.c_tree.specs.declared.tree.BinaryOp.{BinaryOp}
 use Rattle.c_grammar.specs.Tokens.{Tokens}
 use Rattle.c_grammar.specs.Operators.{op, joined}
 use Rattle.c_grammar.specs.inside.Operators.{binary_level}
-use Rattle.c_grammar.specs.inside.Parsing.{Stop, Out, and_then, tail}
+use Rattle.c_grammar.specs.inside.Parsing.{Stop, Out, and_then, tail, offset_of}
 use Rattle.c_grammar.specs.inside.ModelExpressions.{loop, inside, binary_of, cast_of}
 use Rattle.c_grammar.specs.inside.ModelOperators.{seen}
 use Rattle.c_parse.specs.inside.Reads.{operator_at, joins_by, Outside, Inside, Fails}
@@ -100,19 +100,19 @@ module _ (left level b : ℕ) (most : level ≤ 10) (a : Expr) (ts : Tokens) (p 
 
   joins_from : (m : ℕ) → level - p.0 ≡ suc m → (r : Expr) (rest : Tokens)
       → binary_of (inside left) (p.0) (tail ts) ≡ Ok (r, rest)
-      → climb left (suc m) (p.0) a ts ≡ climb left (suc m) (p.0) (joined (op (p.1)) a r) rest
+      → climb left (suc m) (p.0) a ts ≡ climb left (suc m) (p.0) (joined (offset_of ts) (op (p.1)) a r) rest
   joins_from m e r rest h =
       ap (λ (o : Out Expr). and_then o (climb left m (suc (p.0))))
       (turn_on left (p.0) (omega (arith, most, found.2)) a r ts rest (p.1) is_at h)
 
   -- an operator of the levels joins the phrase to what stands behind it
   pub climb_turn : (r : Expr) (rest : Tokens) → binary_of (inside left) (p.0) (tail ts) ≡ Ok (r, rest)
-      → climb left (level - b) b a ts ≡ climb left (level - p.0) (p.0) (joined (op (p.1)) a r) rest
+      → climb left (level - b) b a ts ≡ climb left (level - p.0) (p.0) (joined (offset_of ts) (op (p.1)) a r) rest
   climb_turn r rest h =
       let m = level - p.0 - 1 in
       let e : level - p.0 ≡ suc m = omega (arith, found.2) in
       to_level (suc m) e ∙ joins_from m e r rest h
-      ∙ ap (λ (m : ℕ). climb left m (p.0) (joined (op (p.1)) a r) rest) (sym e)
+      ∙ ap (λ (m : ℕ). climb left m (p.0) (joined (offset_of ts) (op (p.1)) a r) rest) (sym e)
 
   -- what stops behind the operator stops the phrase
   pub climb_stop : (s : Stop) → binary_of (inside left) (p.0) (tail ts) ≡ Err s

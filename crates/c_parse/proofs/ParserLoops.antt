@@ -116,26 +116,26 @@ module _ (inner : Tokens → Out Expr) (short : (ts : Tokens) → length (place 
   fuel (suc n) (suc n') a [] l l' = refl
   fuel (suc n) (suc n') a (t ∷ ts) l l' =
       by_same (joiner k t.form) _ _ _ (λ j. then_same (inner ts) _ _
-      (λ b r le. fuel n n' (joined j a b) r (omega (arith, short ts, l, le)) (omega (arith, short ts, l', le))))
+      (λ b r le. fuel n n' (joined t.offset j a b) r (omega (arith, short ts, l, le)) (omega (arith, short ts, l', le))))
 
   abbrev here : Expr → Tokens → Out Expr
   here a ts = Ok (a, ts)
 
   turn : (whole : Expr) (t : Lexeme) (ts : Tokens) (j : Joiner) → joiner k t.form ≡ Some j
       → loop inner k (length (t ∷ ts)) whole (t ∷ ts) ≡ and_then (inner ts)
-      (λ r rest. loop inner k (length ts) (joined j whole r) rest)
+      (λ r rest. loop inner k (length ts) (joined t.offset j whole r) rest)
   turn whole t ts j e =
       by_some (joiner k t.form) j (here whole (t ∷ ts))
-      (λ j. and_then (inner ts) (λ r rest. loop inner k (length ts) (joined j whole r) rest)) e
+      (λ j. and_then (inner ts) (λ r rest. loop inner k (length ts) (joined t.offset j whole r) rest)) e
 
   pub loop_on : (whole r : Expr) (rest rest2 : Tokens) (j : Joiner) → seen (joiner k) rest ≡ Some j
       → inner (tail rest) ≡ Ok (r, rest2) → loop inner k (length rest) whole rest ≡ loop inner k (length rest2)
-      (joined j whole r) rest2
+      (joined (offset_of rest) j whole r) rest2
   loop_on whole r [] rest2 j e h = absurd cc
   loop_on whole r (t ∷ ts) rest2 j e h =
       turn whole t ts j e
-      ∙ ap (λ (o : Out Expr). and_then o (λ r rest. loop inner k (length ts) (joined j whole r) rest)) h
-      ∙ fuel (length ts) (length rest2) (joined j whole r) rest2
+      ∙ ap (λ (o : Out Expr). and_then o (λ r rest. loop inner k (length ts) (joined t.offset j whole r) rest)) h
+      ∙ fuel (length ts) (length rest2) (joined t.offset j whole r) rest2
       (omega (arith, short ts, ap (λ (o : Out Expr). length (place o)) h)) (omega arith)
 
   pub loop_off : (whole : Expr) (rest : Tokens) (j : Joiner) (s : Stop) → seen (joiner k) rest ≡ Some j
@@ -143,14 +143,14 @@ module _ (inner : Tokens → Out Expr) (short : (ts : Tokens) → length (place 
   loop_off whole [] j s e h = absurd cc
   loop_off whole (t ∷ ts) j s e h =
       turn whole t ts j e ∙ ap (λ (o : Out Expr). and_then o
-      (λ r rest. loop inner k (length ts) (joined j whole r) rest)) h
+      (λ r rest. loop inner k (length ts) (joined t.offset j whole r) rest)) h
 
   pub loop_end : (whole : Expr) (rest : Tokens) → seen (joiner k) rest ≡ None
       → loop inner k (length rest) whole rest ≡ Ok (whole, rest)
   loop_end whole [] e = refl
   loop_end whole (t ∷ ts) e =
       by_none (joiner k t.form) (here whole (t ∷ ts))
-      (λ j. and_then (inner ts) (λ r rest. loop inner k (length ts) (joined j whole r) rest)) e
+      (λ j. and_then (inner ts) (λ r rest. loop inner k (length ts) (joined t.offset j whole r) rest)) e
 
   pub loop_shorter : (rest rest2 : Tokens) (r : Expr) (j : Joiner) → seen (joiner k) rest ≡ Some j
       → inner (tail rest) ≡ Ok (r, rest2) → length rest2 < length rest
@@ -188,7 +188,7 @@ module _ (left n : ℕ) (lt : n < 10) where
   pub turn_on : (whole r : Expr) (rest rest2 : Tokens) (o : BinaryOp) → operator_at n rest ≡ Some o
       → sides (tail rest) ≡ Ok (r, rest2)
       → loop sides (binary_level n) (length rest) whole rest ≡ loop sides (binary_level n) (length rest2)
-      (joined (op o) whole r) rest2
+      (joined (offset_of rest) (op o) whole r) rest2
   turn_on whole r rest rest2 o e h =
       loop_on sides (binary_short left n (omega (arith, lt))) (binary_level n) whole r rest rest2 (op o)
       (joiner_some _ o e) h
@@ -248,7 +248,7 @@ module _ (left : ℕ) where
   -- a comma and its right side are joined to the whole, and the loop goes on behind them
   pub comma_on : (whole r : Expr) (rest rest2 : Tokens) → is_next mark.Comma rest ≡ true
       → parts (tail rest) ≡ Ok (r, rest2) → loop parts 15 (length rest) whole rest ≡ loop parts 15 (length rest2)
-      (joined comma whole r) rest2
+      (joined (offset_of rest) comma whole r) rest2
   comma_on whole r rest rest2 e h =
       loop_on parts (assignment_short left) 15 whole r rest rest2 comma (comma_seen rest e) h
 
@@ -276,10 +276,10 @@ commas_of left ts = refl
 -- ---- suffixes
 
 pub suffix_on : (whole : Expr) (rest : Tokens) (s : Suffix) → seen suffix_of rest ≡ Some s
-    → suffixes (length rest) whole rest ≡ suffixes (length (tail rest)) (suffixed s whole) (tail rest)
+    → suffixes (length rest) whole rest ≡ suffixes (length (tail rest)) (suffixed (offset_of rest) s whole) (tail rest)
 suffix_on whole [] s e = absurd cc
 suffix_on whole (t ∷ ts) s e =
-    by_some (suffix_of t.form) s (suffix_here whole (t ∷ ts)) (λ s. suffixes (length ts) (suffixed s whole) ts) e
+    by_some (suffix_of t.form) s (suffix_here whole (t ∷ ts)) (λ s. suffixes (length ts) (suffixed t.offset s whole) ts) e
   where
     suffix_here : Expr → Tokens → Out Expr
     suffix_here a ts = Ok (a, ts)
@@ -288,7 +288,7 @@ pub suffix_end : (whole : Expr) (rest : Tokens) → seen suffix_of rest ≡ None
     → suffixes (length rest) whole rest ≡ Ok (whole, rest)
 suffix_end whole [] e = refl
 suffix_end whole (t ∷ ts) e =
-    by_none (suffix_of t.form) (Ok (whole, t ∷ ts)) (λ s. suffixes (length ts) (suffixed s whole) ts) e
+    by_none (suffix_of t.form) (Ok (whole, t ∷ ts)) (λ s. suffixes (length ts) (suffixed t.offset s whole) ts) e
 
 pub suffix_shorter : (rest : Tokens) (s : Suffix) → seen suffix_of rest ≡ Some s → length (tail rest) < length rest
 suffix_shorter [] s e = absurd cc

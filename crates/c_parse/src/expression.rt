@@ -81,9 +81,10 @@ impl Parser<'_> {
         let mut whole = first;
         let mut below = 0u8;
         while let Some((of, op)) = within(below, level, self.operator()) {
+            let place = self.offset();
             self.advance();
             let right = self.binary(left, of)?;
-            whole = make::binary(self.alloc, op, whole, right)?;
+            whole = make::binary(self.alloc, place, op, whole, right)?;
             below = of;
         }
         Ok(whole)
@@ -126,11 +127,12 @@ impl Parser<'_> {
         ensures { Reads (model.chosen_of (model.inside left) test self.old.rest.now) result
             self.new.rest.now }
     {
+        let place = self.offset();
         let left = self.enter(Mark::Question, left)?;
         let yes = self.expression(left)?;
         self.expect(Mark::Colon)?;
         let no = self.conditional(left)?;
-        Ok(make::choice(self.alloc, test, yes, no)?)
+        Ok(make::choice(self.alloc, place, test, yes, no)?)
     }
 
     #[cycle(expression)]
@@ -181,9 +183,10 @@ impl Parser<'_> {
             → Reads (model.assigned_of (model.inside left) s to self.old.rest.now) result
             self.new.rest.now }
     {
+        let place = self.offset();
         let left = self.enter(mark, left)?;
         let value = self.assignment(left)?;
-        Ok(make::assignment(self.alloc, op, to, value)?)
+        Ok(make::assignment(self.alloc, place, op, to, value)?)
     }
 
     #[cycle(expression)]
@@ -245,9 +248,10 @@ impl Parser<'_> {
     {
         let mut whole = self.assignment(left)?;
         while self.is_next(Mark::Comma) {
+            let place = self.offset();
             self.advance();
             let right = self.assignment(left)?;
-            whole = make::comma(self.alloc, whole, right)?;
+            whole = make::comma(self.alloc, place, whole, right)?;
         }
         Ok(whole)
     }

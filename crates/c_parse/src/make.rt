@@ -8,35 +8,62 @@ use base::Boxed;
 use c_tree::{BinaryOp, BumpOp, Expr, ExprNode, Kind, UnaryOp, Word};
 use std::alloc::{AllocError, Global};
 
+/// A node at an offset that the token at another offset names, on the heap.
+#[inline(always)]
+fn told(
+    alloc: Global,
+    offset: u32,
+    operator: u32,
+    node: ExprNode,
+) -> Result<Boxed<Expr>, AllocError>
+    ensures { IfOk result (λ e. e ≡ grammar.told_at offset operator node) }
+{
+    Ok(Boxed::new(
+        alloc,
+        Expr {
+            offset,
+            at: operator,
+            node,
+        },
+    )?)
+}
+
 /// A node at an offset, on the heap.
 #[inline(always)]
 pub fn built(alloc: Global, offset: u32, node: ExprNode) -> Result<Boxed<Expr>, AllocError>
     ensures { IfOk result (λ e. e ≡ grammar.at offset node) }
 {
-    Ok(Boxed::new(alloc, Expr { offset, node })?)
+    told(alloc, offset, offset, node)
 }
 
 pub fn binary(
     alloc: Global,
+    operator: u32,
     op: BinaryOp,
     left: Boxed<Expr>,
     right: Boxed<Expr>,
 ) -> Result<Boxed<Expr>, AllocError>
-    ensures { IfOk result (λ e. e ≡ grammar.joined (grammar.op op) left right) }
+    ensures { IfOk result (λ e. e ≡ grammar.joined operator (grammar.op op) left right) }
 {
     let offset = left.get().offset;
-    built(alloc, offset, ExprNode::Binary { op, left, right })
+    told(
+        alloc,
+        offset,
+        operator,
+        ExprNode::Binary { op, left, right },
+    )
 }
 
 pub fn comma(
     alloc: Global,
+    operator: u32,
     left: Boxed<Expr>,
     right: Boxed<Expr>,
 ) -> Result<Boxed<Expr>, AllocError>
-    ensures { IfOk result (λ e. e ≡ grammar.joined grammar.comma left right) }
+    ensures { IfOk result (λ e. e ≡ grammar.joined operator grammar.comma left right) }
 {
     let offset = left.get().offset;
-    built(alloc, offset, ExprNode::Comma { left, right })
+    told(alloc, offset, operator, ExprNode::Comma { left, right })
 }
 
 pub fn unary(
@@ -53,12 +80,13 @@ pub fn unary(
 pub fn bump(
     alloc: Global,
     offset: u32,
+    operator: u32,
     op: BumpOp,
     operand: Boxed<Expr>,
 ) -> Result<Boxed<Expr>, AllocError>
-    ensures { IfOk result (λ e. e ≡ grammar.at offset (node.Bump op operand)) }
+    ensures { IfOk result (λ e. e ≡ grammar.told_at offset operator (node.Bump op operand)) }
 {
-    built(alloc, offset, ExprNode::Bump { op, e: operand })
+    told(alloc, offset, operator, ExprNode::Bump { op, e: operand })
 }
 
 pub fn cast(
@@ -120,28 +148,31 @@ pub fn row_element(
 
 pub fn choice(
     alloc: Global,
+    operator: u32,
     test: Boxed<Expr>,
     yes: Boxed<Expr>,
     no: Boxed<Expr>,
 ) -> Result<Boxed<Expr>, AllocError>
-    ensures { IfOk result (λ e. e ≡ grammar.at test.offset (node.Choice test yes no)) }
+    ensures { IfOk result (λ e. e ≡ grammar.told_at test.offset operator (node.Choice test yes no)) }
 {
     let offset = test.get().offset;
-    built(alloc, offset, ExprNode::Choice { test, yes, no })
+    told(alloc, offset, operator, ExprNode::Choice { test, yes, no })
 }
 
 pub fn assignment(
     alloc: Global,
+    operator: u32,
     op: Option<BinaryOp>,
     to: Boxed<Expr>,
     value: Boxed<Expr>,
 ) -> Result<Boxed<Expr>, AllocError>
-    ensures { IfOk result (λ e. e ≡ grammar.at to.offset (node.Assign op to value)) }
+    ensures { IfOk result (λ e. e ≡ grammar.told_at to.offset operator (node.Assign op to value)) }
 {
     let offset = to.get().offset;
-    built(
+    told(
         alloc,
         offset,
+        operator,
         ExprNode::Assign {
             op,
             left: to,

@@ -224,9 +224,10 @@ impl Parser<'_> {
     {
         let mut whole = self.primary(left)?;
         while let Some(op) = self.suffix() {
+            let place = self.offset();
             self.advance();
             let offset = whole.get().offset;
-            whole = make::bump(self.alloc, offset, op, whole)?;
+            whole = make::bump(self.alloc, offset, place, op, whole)?;
         }
         Ok(whole)
     }
@@ -271,7 +272,7 @@ impl Parser<'_> {
         let offset = self.offset();
         let left = self.enter(Mark::PlusPlus, left)?;
         let operand = self.unary(left)?;
-        Ok(make::bump(self.alloc, offset, BumpOp::PreInc, operand)?)
+        Ok(make::bump(self.alloc, offset, offset, BumpOp::PreInc, operand)?)
     }
 
     #[cycle(expression)]
@@ -283,7 +284,7 @@ impl Parser<'_> {
         let offset = self.offset();
         let left = self.enter(Mark::MinusMinus, left)?;
         let operand = self.unary(left)?;
-        Ok(make::bump(self.alloc, offset, BumpOp::PreDec, operand)?)
+        Ok(make::bump(self.alloc, offset, offset, BumpOp::PreDec, operand)?)
     }
 
     #[cycle(expression)]

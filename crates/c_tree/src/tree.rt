@@ -42,11 +42,13 @@ pub enum BinaryOp {
     Remainder,
 }
 
-/// An expression (C17 6.5) and the offset of its first token in the text.
+/// An expression (C17 6.5): the offset of its first token in the text, and in `at` that of the token that names what
+/// it does, which the grammar says.
 #[derive(Drop)]
 #[cycle(expr)]
 pub struct Expr {
     pub offset: u32,
+    pub at: u32,
     pub node: ExprNode,
 }
 

@@ -39,11 +39,13 @@ pub struct TypedArray {
 
 /// A typed expression. Its kind is none for a call that gives no value.
 ///
-/// An array's name has the kind of its elements.
+/// An array's name has the kind of its elements. Its place is the `at` of the expression that it is of; a conversion
+/// that the typing adds has the place of its operand.
 #[derive(Drop)]
 #[cycle(typed_expr)]
 pub struct TypedExpr {
     pub kind: Option<Kind>,
+    pub at: u32,
     pub node: TypedNode,
 }
 

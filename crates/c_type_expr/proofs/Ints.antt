@@ -1,5 +1,5 @@
 -- A binary operation of two ints converts none of them, and is an int.
-use Rattle.std.proofs.Common.{◌≡◌, refl, Some, ap, arith}
+use Rattle.std.proofs.Common.{◌≡◌, ℕ, refl, Some, ap, arith}
 use Rattle.std.specs.Prelude.{cond}
 use Rattle.c_tree.specs.declared.token.Kind.TheVariants.{Int}
 use Rattle.c_tree.specs.declared.tree.BinaryOp.{BinaryOp}
@@ -27,11 +27,11 @@ result_int _ = refl
 
 -- an int that is wanted as an int stays as it is
 kept : (e : TypedExpr) → kind_of e ≡ Int → with_convert Int e ≡ e
-kept e h = ap (λ k. cond (same_kind k Int) e (a (Some Int) (typed.Convert Int e))) h
+kept e h = ap (λ k. cond (same_kind k Int) e (a e.at (Some Int) (typed.Convert Int e))) h
 
 -- so the node is that of the operands as they are
-pub of_ints : (o : BinaryOp) (x y : TypedExpr) → kind_of x ≡ Int → kind_of y ≡ Int
-    → a (Some Int) (typed.Binary o x y) ≡ binary o x y
-of_ints o x y h k =
+pub of_ints : (m : ℕ) (o : BinaryOp) (x y : TypedExpr) → kind_of x ≡ Int → kind_of y ≡ Int
+    → a m (Some Int) (typed.Binary o x y) ≡ binary m o x y
+of_ints m o x y h k =
     let l = left_int o in let r = right_int o in let s = result_int o in
     let p = kept x h in let q = kept y k in grind (arith, h, k, l, r, s, p, q)

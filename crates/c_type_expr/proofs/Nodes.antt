@@ -15,6 +15,7 @@ use Rattle.c_tree.specs.declared.typed.TypedExpr.{TypedExpr}
 use Rattle.c_tree.specs.declared.typed.TypedNode.TheVariants as typed
 use Rattle.c_type_expr.specs.Scope.{Scope, look_up}
 use Rattle.c_type_expr.specs.declared.fault.TypeFault.TheVariants.{Mismatch}
+use Rattle.c_type_expr.specs.declared.spot.Spot.{Spot}
 use Rattle.c_type_expr.specs.declared.role.Role.{Role}
 use Rattle.c_type_expr.specs.declared.role.Role.TheVariants.{Value, Free}
 use Rattle.c_type_expr.specs.Blames.{Blame, first, unless}
@@ -26,7 +27,7 @@ use Rattle.c_type_expr.specs.Trees.{name_tree, array_kind, array_place, result_k
 use Rattle.c_type_expr.specs.Trees.{node_tree, of_node, tree}
 use Rattle.c_type_expr.specs.inside.Trees.{args_tree}
 use Rattle.c_type_expr.specs.Conversions.{a, unary, cast, bump, binary, choice, assign, comma}
-use Rattle.c_type_expr.specs.Roles.{at}
+use Rattle.c_type_expr.specs.Roles.{at, spot_of}
 
 -- the size of a first index, where there is one
 abbrev pub row_size : Option Expr → ℕ
@@ -36,26 +37,29 @@ row_size (Some e) = size-Expr e
 abbrev A : Type 0
 A = ℕ → Judged
 
+abbrev B : Type 0
+B = ℕ → Scope → TypedExpr
+
 abbrev C : Type 0
 C = Scope → TypedExpr
 
-judged_by : (l : ℕ) (n : ExprNode) (x : ExprNode-F ExprNode Expr) → roll-ExprNode x ≡ n
+judged_by : (l : Spot) (n : ExprNode) (x : ExprNode-F ExprNode Expr) → roll-ExprNode x ≡ n
     → judged (at l n) ≡ node_judged (map-ExprNode ExprNode Expr A Judged
-    (fold-ExprNode A Judged node_judged at_offset) judged x) l
+    (fold-ExprNode A Judged node_judged at_offset) judged x) l.offset
 unfolding judged
 judged_by l n x e =
     fold_out-Expr A Judged node_judged at_offset (at l n)
-    ∙ ap (λ (m : ExprNode). fold-ExprNode A Judged node_judged at_offset m l) (sym e)
-    ∙ ap (λ (f : A). f l) (fold-roll-ExprNode A Judged node_judged at_offset x)
+    ∙ ap (λ (m : ExprNode). fold-ExprNode A Judged node_judged at_offset m l.offset) (sym e)
+    ∙ ap (λ (f : A). f l.offset) (fold-roll-ExprNode A Judged node_judged at_offset x)
 
-tree_by : (l : ℕ) (n : ExprNode) (x : ExprNode-F ExprNode Expr) → roll-ExprNode x ≡ n
-    → tree (at l n) ≡ node_tree (map-ExprNode ExprNode Expr C C
-    (fold-ExprNode C C node_tree of_node) tree x)
+tree_by : (l : Spot) (n : ExprNode) (x : ExprNode-F ExprNode Expr) → roll-ExprNode x ≡ n
+    → tree (at l n) ≡ node_tree (map-ExprNode ExprNode Expr B C
+    (fold-ExprNode B C node_tree of_node) tree x) l.at
 unfolding tree
 tree_by l n x e =
-    fold_out-Expr C C node_tree of_node (at l n)
-    ∙ ap (λ (m : ExprNode). fold-ExprNode C C node_tree of_node m) (sym e)
-    ∙ fold-roll-ExprNode C C node_tree of_node x
+    fold_out-Expr B C node_tree of_node (at l n)
+    ∙ ap (λ (m : ExprNode). fold-ExprNode B C node_tree of_node m l.at) (sym e)
+    ∙ ap (λ (f : B). f l.at) (fold-roll-ExprNode B C node_tree of_node x)
 
 -- the greatest size of some expressions
 abbrev pub deepest : List Expr → ℕ
@@ -79,15 +83,15 @@ trees_same slots [] G = refl
 trees_same slots (e ∷ es) G = ap (λ (ts : List TypedExpr). argument slots (tree e G) ∷ ts)
     (trees_same (rest_of slots) es G)
 
-module _ (G : Scope) (r : Role) (l : ℕ) where
+module _ (G : Scope) (r : Role) (l : Spot) where
   -- The first fault of a number.
-  pub fault-Number : (v : ℕ) (k : Kind) → fault (at l (node.Number v k)) G r ≡ unwanted_value r l
+  pub fault-Number : (v : ℕ) (k : Kind) → fault (at l (node.Number v k)) G r ≡ unwanted_value r l.offset
   unfolding fault is_place
   fault-Number v k = ap (λ (j : Judged). j.blame G r)
       (judged_by l _ (ExprNode-F.Number v k) (node.rolls-Number v k))
 
   -- The first fault of a name.
-  pub fault-Name : (w : List ℕ) → fault (at l (node.Name w)) G r ≡ name_fault (look_up G w) r l
+  pub fault-Name : (w : List ℕ) → fault (at l (node.Name w)) G r ≡ name_fault (look_up G w) r l.offset
   unfolding fault is_place
   fault-Name w = ap (λ (j : Judged). j.blame G r)
       (judged_by l _ (ExprNode-F.Name w) (node.rolls-Name w))
@@ -95,7 +99,7 @@ module _ (G : Scope) (r : Role) (l : ℕ) where
   -- The first fault of an element.
   pub fault-Element : (w : List ℕ) (i : Expr)
       → fault (at l (node.Element w None i)) G r
-      ≡ first (fault i G Value) (element_fault (look_up G w) false r l)
+      ≡ first (fault i G Value) (element_fault (look_up G w) false r l.offset)
   unfolding fault is_place
   fault-Element w i = ap (λ (j : Judged). j.blame G r)
       (judged_by l _ (ExprNode-F.Element w None i) (node.rolls-Element w None i))
@@ -103,7 +107,7 @@ module _ (G : Scope) (r : Role) (l : ℕ) where
   -- The first fault of an element of two indexes.
   pub fault-Row : (w : List ℕ) (x i : Expr)
       → fault (at l (node.Element w (Some x) i)) G r
-      ≡ first (fault x G Value) (first (fault i G Value) (element_fault (look_up G w) true r l))
+      ≡ first (fault x G Value) (first (fault i G Value) (element_fault (look_up G w) true r l.offset))
   unfolding fault is_place
   fault-Row w x i = ap (λ (j : Judged). j.blame G r)
       (judged_by l _ (ExprNode-F.Element w (Some x) i) (node.rolls-Element w (Some x) i))
@@ -111,13 +115,13 @@ module _ (G : Scope) (r : Role) (l : ℕ) where
   -- The first fault of a call.
   pub fault-Call : (w : List ℕ) (es : List Expr)
       → fault (at l (node.Call w es)) G r ≡ first (args_fault (slots_of (look_up G w)) es G)
-      (call_fault (look_up G w) (length es) r l)
+      (call_fault (look_up G w) (length es) r l.offset)
   unfolding fault is_place
   fault-Call w es =
       ap (λ (j : Judged). j.blame G r) (judged_by l _ (ExprNode-F.Call w es) (node.rolls-Call w es))
-      ∙ ap (λ (b : Blame). first b (call_fault (look_up G w) (length (map judged es)) r l))
+      ∙ ap (λ (b : Blame). first b (call_fault (look_up G w) (length (map judged es)) r l.offset))
       (args_same (slots_of (look_up G w)) es G)
-      ∙ ap (λ n. first (args_fault (slots_of (look_up G w)) es G) (call_fault (look_up G w) n r l))
+      ∙ ap (λ n. first (args_fault (slots_of (look_up G w)) es G) (call_fault (look_up G w) n r l.offset))
       (length_map judged es)
 
   -- The first fault of an expression in parentheses.
@@ -128,14 +132,14 @@ module _ (G : Scope) (r : Role) (l : ℕ) where
 
   -- The first fault of an operation on one operand.
   pub fault-Unary : (op : UnaryOp) (e : Expr)
-      → fault (at l (node.Unary op e)) G r ≡ first (fault e G Value) (unwanted_value r l)
+      → fault (at l (node.Unary op e)) G r ≡ first (fault e G Value) (unwanted_value r l.offset)
   unfolding fault is_place
   fault-Unary op e = ap (λ (j : Judged). j.blame G r)
       (judged_by l _ (ExprNode-F.Unary op e) (node.rolls-Unary op e))
 
   -- The first fault of a cast.
   pub fault-Cast : (to : Kind) (e : Expr)
-      → fault (at l (node.Cast to e)) G r ≡ first (fault e G Value) (unwanted_value r l)
+      → fault (at l (node.Cast to e)) G r ≡ first (fault e G Value) (unwanted_value r l.offset)
   unfolding fault is_place
   fault-Cast to e = ap (λ (j : Judged). j.blame G r)
       (judged_by l _ (ExprNode-F.Cast to e) (node.rolls-Cast to e))
@@ -143,7 +147,7 @@ module _ (G : Scope) (r : Role) (l : ℕ) where
   -- The first fault of `++` and `--`.
   pub fault-Bump : (op : BumpOp) (e : Expr)
       → fault (at l (node.Bump op e)) G r ≡ first (fault e G (left_role (is_place e)))
-      (first (unless (is_place e) (Mismatch l)) (unwanted_value r l))
+      (first (unless (is_place e) (Mismatch l.offset)) (unwanted_value r l.offset))
   unfolding fault is_place
   fault-Bump op e = ap (λ (j : Judged). j.blame G r)
       (judged_by l _ (ExprNode-F.Bump op e) (node.rolls-Bump op e))
@@ -151,14 +155,14 @@ module _ (G : Scope) (r : Role) (l : ℕ) where
   -- The first fault of an operation on two operands.
   pub fault-Binary : (op : BinaryOp) (x y : Expr)
       → fault (at l (node.Binary op x y)) G r
-      ≡ first (fault x G Value) (first (fault y G Value) (unwanted_value r l))
+      ≡ first (fault x G Value) (first (fault y G Value) (unwanted_value r l.offset))
   unfolding fault is_place
   fault-Binary op x y = ap (λ (j : Judged). j.blame G r)
       (judged_by l _ (ExprNode-F.Binary op x y) (node.rolls-Binary op x y))
 
   -- The first fault of a choice.
   pub fault-Choice : (t x y : Expr) → fault (at l (node.Choice t x y)) G r
-      ≡ first (fault t G Value) (first (fault x G Value) (first (fault y G Value) (unwanted_value r l)))
+      ≡ first (fault t G Value) (first (fault x G Value) (first (fault y G Value) (unwanted_value r l.offset)))
   unfolding fault is_place
   fault-Choice t x y = ap (λ (j : Judged). j.blame G r)
       (judged_by l _ (ExprNode-F.Choice t x y) (node.rolls-Choice t x y))
@@ -167,50 +171,50 @@ module _ (G : Scope) (r : Role) (l : ℕ) where
   pub fault-Assign : (op : Option BinaryOp) (x y : Expr)
       → fault (at l (node.Assign op x y)) G r
       ≡ first (fault x G (left_role (is_place x)))
-      (first (fault y G Value) (first (unless (is_place x) (Mismatch l)) (unwanted_value r l)))
+      (first (fault y G Value) (first (unless (is_place x) (Mismatch l.offset)) (unwanted_value r l.offset)))
   unfolding fault is_place
   fault-Assign op x y = ap (λ (j : Judged). j.blame G r)
       (judged_by l _ (ExprNode-F.Assign op x y) (node.rolls-Assign op x y))
 
   -- The first fault of a comma.
   pub fault-Comma : (x y : Expr) → fault (at l (node.Comma x y)) G r
-      ≡ first (fault x G Free) (first (fault y G Value) (unwanted_value r l))
+      ≡ first (fault x G Free) (first (fault y G Value) (unwanted_value r l.offset))
   unfolding fault is_place
   fault-Comma x y = ap (λ (j : Judged). j.blame G r)
       (judged_by l _ (ExprNode-F.Comma x y) (node.rolls-Comma x y))
 
-module _ (G : Scope) (l : ℕ) where
+module _ (G : Scope) (l : Spot) where
   -- The typed tree of a number.
   pub tree-Number : (v : ℕ) (k : Kind) → tree (at l (node.Number v k)) G
-      ≡ a (Some k) (typed.Number v)
+      ≡ a l.at (Some k) (typed.Number v)
   tree-Number v k = ap (λ (f : C). f G) (tree_by l _ (ExprNode-F.Number v k)
       (node.rolls-Number v k))
 
   -- The typed tree of a name.
-  pub tree-Name : (w : List ℕ) → tree (at l (node.Name w)) G ≡ name_tree (look_up G w)
+  pub tree-Name : (w : List ℕ) → tree (at l (node.Name w)) G ≡ name_tree l.at (look_up G w)
   tree-Name w = ap (λ (f : C). f G) (tree_by l _ (ExprNode-F.Name w) (node.rolls-Name w))
 
   -- The typed tree of an element.
   pub tree-Element : (w : List ℕ) (i : Expr)
-      → tree (at l (node.Element w None i)) G ≡ a (Some (array_kind (look_up G w)))
+      → tree (at l (node.Element w None i)) G ≡ a l.at (Some (array_kind (look_up G w)))
       (typed.Element (array_place (look_up G w)) None (tree i G))
   tree-Element w i = ap (λ (f : C). f G) (tree_by l _ (ExprNode-F.Element w None i)
       (node.rolls-Element w None i))
 
   -- The typed tree of an element of two indexes.
   pub tree-Row : (w : List ℕ) (x i : Expr)
-      → tree (at l (node.Element w (Some x) i)) G ≡ a (Some (array_kind (look_up G w)))
+      → tree (at l (node.Element w (Some x) i)) G ≡ a l.at (Some (array_kind (look_up G w)))
       (typed.Element (array_place (look_up G w)) (Some (tree x G)) (tree i G))
   tree-Row w x i = ap (λ (f : C). f G) (tree_by l _ (ExprNode-F.Element w (Some x) i)
       (node.rolls-Element w (Some x) i))
 
   -- The typed tree of a call.
   pub tree-Call : (w : List ℕ) (es : List Expr)
-      → tree (at l (node.Call w es)) G ≡ a (result_kind (look_up G w))
+      → tree (at l (node.Call w es)) G ≡ a l.at (result_kind (look_up G w))
       (typed.Call (callee_of (look_up G w)) (args_tree (slots_of (look_up G w)) es G))
   tree-Call w es =
       ap (λ (f : C). f G) (tree_by l _ (ExprNode-F.Call w es) (node.rolls-Call w es))
-      ∙ ap (λ (ts : List TypedExpr). a (result_kind (look_up G w))
+      ∙ ap (λ (ts : List TypedExpr). a l.at (result_kind (look_up G w))
       (typed.Call (callee_of (look_up G w)) ts)) (trees_same (slots_of (look_up G w)) es G)
 
   -- The typed tree of an expression in parentheses.
@@ -218,123 +222,123 @@ module _ (G : Scope) (l : ℕ) where
   tree-Group e = ap (λ (f : C). f G) (tree_by l _ (ExprNode-F.Group e) (node.rolls-Group e))
 
   -- The typed tree of an operation on one operand.
-  pub tree-Unary : (op : UnaryOp) (e : Expr) → tree (at l (node.Unary op e)) G ≡ unary op (tree e G)
+  pub tree-Unary : (op : UnaryOp) (e : Expr) → tree (at l (node.Unary op e)) G ≡ unary l.at op (tree e G)
   tree-Unary op e = ap (λ (f : C). f G) (tree_by l _ (ExprNode-F.Unary op e)
       (node.rolls-Unary op e))
 
   -- The typed tree of a cast.
-  pub tree-Cast : (to : Kind) (e : Expr) → tree (at l (node.Cast to e)) G ≡ cast to (tree e G)
+  pub tree-Cast : (to : Kind) (e : Expr) → tree (at l (node.Cast to e)) G ≡ cast l.at to (tree e G)
   tree-Cast to e = ap (λ (f : C). f G) (tree_by l _ (ExprNode-F.Cast to e) (node.rolls-Cast to e))
 
   -- The typed tree of `++` and `--`.
-  pub tree-Bump : (op : BumpOp) (e : Expr) → tree (at l (node.Bump op e)) G ≡ bump op (tree e G)
+  pub tree-Bump : (op : BumpOp) (e : Expr) → tree (at l (node.Bump op e)) G ≡ bump l.at op (tree e G)
   tree-Bump op e = ap (λ (f : C). f G) (tree_by l _ (ExprNode-F.Bump op e) (node.rolls-Bump op e))
 
   -- The typed tree of an operation on two operands.
   pub tree-Binary : (op : BinaryOp) (x y : Expr)
-      → tree (at l (node.Binary op x y)) G ≡ binary op (tree x G) (tree y G)
+      → tree (at l (node.Binary op x y)) G ≡ binary l.at op (tree x G) (tree y G)
   tree-Binary op x y = ap (λ (f : C). f G)
       (tree_by l _ (ExprNode-F.Binary op x y) (node.rolls-Binary op x y))
 
   -- The typed tree of a choice.
   pub tree-Choice : (t x y : Expr) → tree (at l (node.Choice t x y)) G
-      ≡ choice (tree t G) (tree x G) (tree y G)
+      ≡ choice l.at (tree t G) (tree x G) (tree y G)
   tree-Choice t x y = ap (λ (f : C). f G)
       (tree_by l _ (ExprNode-F.Choice t x y) (node.rolls-Choice t x y))
 
   -- The typed tree of an assignment.
   pub tree-Assign : (op : Option BinaryOp) (x y : Expr)
-      → tree (at l (node.Assign op x y)) G ≡ assign op (tree x G) (tree y G)
+      → tree (at l (node.Assign op x y)) G ≡ assign l.at op (tree x G) (tree y G)
   tree-Assign op x y = ap (λ (f : C). f G)
       (tree_by l _ (ExprNode-F.Assign op x y) (node.rolls-Assign op x y))
 
   -- The typed tree of a comma.
-  pub tree-Comma : (x y : Expr) → tree (at l (node.Comma x y)) G ≡ comma (tree x G) (tree y G)
+  pub tree-Comma : (x y : Expr) → tree (at l (node.Comma x y)) G ≡ comma l.at (tree x G) (tree y G)
   tree-Comma x y = ap (λ (f : C). f G) (tree_by l _ (ExprNode-F.Comma x y) (node.rolls-Comma x y))
 
 module _ (f : Expr) where
   -- Whether a number is a place that may be written to.
   pub place-Number : (v : ℕ) (k : Kind) → f.node ≡ node.Number v k → is_place f ≡ false
   unfolding is_place
-  place-Number v k h = ap (λ n. is_place (at f.offset n)) h
-      ∙ ap (λ (j : Judged). j.place) (judged_by f.offset _ (ExprNode-F.Number v k)
+  place-Number v k h = ap (λ n. is_place (at (spot_of f) n)) h
+      ∙ ap (λ (j : Judged). j.place) (judged_by (spot_of f) _ (ExprNode-F.Number v k)
       (node.rolls-Number v k))
 
   -- Whether a name is a place that may be written to.
   pub place-Name : (w : List ℕ) → f.node ≡ node.Name w → is_place f ≡ true
   unfolding is_place
-  place-Name w h = ap (λ n. is_place (at f.offset n)) h
-      ∙ ap (λ (j : Judged). j.place) (judged_by f.offset _ (ExprNode-F.Name w) (node.rolls-Name w))
+  place-Name w h = ap (λ n. is_place (at (spot_of f) n)) h
+      ∙ ap (λ (j : Judged). j.place) (judged_by (spot_of f) _ (ExprNode-F.Name w) (node.rolls-Name w))
 
   -- Whether an element is a place that may be written to.
   pub place-Element : (w : List ℕ) (r : Option Expr) (i : Expr) → f.node ≡ node.Element w r i
       → is_place f ≡ true
   unfolding is_place
-  place-Element w r i h = ap (λ n. is_place (at f.offset n)) h
-      ∙ ap (λ (j : Judged). j.place) (judged_by f.offset _ (ExprNode-F.Element w r i)
+  place-Element w r i h = ap (λ n. is_place (at (spot_of f) n)) h
+      ∙ ap (λ (j : Judged). j.place) (judged_by (spot_of f) _ (ExprNode-F.Element w r i)
       (node.rolls-Element w r i))
 
   -- Whether a call is a place that may be written to.
   pub place-Call : (w : List ℕ) (es : List Expr) → f.node ≡ node.Call w es → is_place f ≡ false
   unfolding is_place
-  place-Call w es h = ap (λ n. is_place (at f.offset n)) h
-      ∙ ap (λ (j : Judged). j.place) (judged_by f.offset _ (ExprNode-F.Call w es)
+  place-Call w es h = ap (λ n. is_place (at (spot_of f) n)) h
+      ∙ ap (λ (j : Judged). j.place) (judged_by (spot_of f) _ (ExprNode-F.Call w es)
       (node.rolls-Call w es))
 
   -- Whether an expression in parentheses is a place that may be written to.
   pub place-Group : (e : Expr) → f.node ≡ node.Group e → is_place f ≡ is_place e
   unfolding is_place
-  place-Group e h = ap (λ n. is_place (at f.offset n)) h
-      ∙ ap (λ (j : Judged). j.place) (judged_by f.offset _ (ExprNode-F.Group e) (node.rolls-Group e))
+  place-Group e h = ap (λ n. is_place (at (spot_of f) n)) h
+      ∙ ap (λ (j : Judged). j.place) (judged_by (spot_of f) _ (ExprNode-F.Group e) (node.rolls-Group e))
 
   -- Whether an operation on one operand is a place that may be written to.
   pub place-Unary : (op : UnaryOp) (e : Expr) → f.node ≡ node.Unary op e → is_place f ≡ false
   unfolding is_place
-  place-Unary op e h = ap (λ n. is_place (at f.offset n)) h
-      ∙ ap (λ (j : Judged). j.place) (judged_by f.offset _ (ExprNode-F.Unary op e)
+  place-Unary op e h = ap (λ n. is_place (at (spot_of f) n)) h
+      ∙ ap (λ (j : Judged). j.place) (judged_by (spot_of f) _ (ExprNode-F.Unary op e)
       (node.rolls-Unary op e))
 
   -- Whether a cast is a place that may be written to.
   pub place-Cast : (to : Kind) (e : Expr) → f.node ≡ node.Cast to e → is_place f ≡ false
   unfolding is_place
-  place-Cast to e h = ap (λ n. is_place (at f.offset n)) h
-      ∙ ap (λ (j : Judged). j.place) (judged_by f.offset _ (ExprNode-F.Cast to e)
+  place-Cast to e h = ap (λ n. is_place (at (spot_of f) n)) h
+      ∙ ap (λ (j : Judged). j.place) (judged_by (spot_of f) _ (ExprNode-F.Cast to e)
       (node.rolls-Cast to e))
 
   -- Whether `++` and `--` are places that may be written to.
   pub place-Bump : (op : BumpOp) (e : Expr) → f.node ≡ node.Bump op e → is_place f ≡ false
   unfolding is_place
-  place-Bump op e h = ap (λ n. is_place (at f.offset n)) h
-      ∙ ap (λ (j : Judged). j.place) (judged_by f.offset _ (ExprNode-F.Bump op e)
+  place-Bump op e h = ap (λ n. is_place (at (spot_of f) n)) h
+      ∙ ap (λ (j : Judged). j.place) (judged_by (spot_of f) _ (ExprNode-F.Bump op e)
       (node.rolls-Bump op e))
 
   -- Whether an operation on two operands is a place that may be written to.
   pub place-Binary : (op : BinaryOp) (x y : Expr) → f.node ≡ node.Binary op x y → is_place f ≡ false
   unfolding is_place
-  place-Binary op x y h = ap (λ n. is_place (at f.offset n)) h
-      ∙ ap (λ (j : Judged). j.place) (judged_by f.offset _ (ExprNode-F.Binary op x y)
+  place-Binary op x y h = ap (λ n. is_place (at (spot_of f) n)) h
+      ∙ ap (λ (j : Judged). j.place) (judged_by (spot_of f) _ (ExprNode-F.Binary op x y)
       (node.rolls-Binary op x y))
 
   -- Whether a choice is a place that may be written to.
   pub place-Choice : (t x y : Expr) → f.node ≡ node.Choice t x y → is_place f ≡ false
   unfolding is_place
-  place-Choice t x y h = ap (λ n. is_place (at f.offset n)) h
-      ∙ ap (λ (j : Judged). j.place) (judged_by f.offset _ (ExprNode-F.Choice t x y)
+  place-Choice t x y h = ap (λ n. is_place (at (spot_of f) n)) h
+      ∙ ap (λ (j : Judged). j.place) (judged_by (spot_of f) _ (ExprNode-F.Choice t x y)
       (node.rolls-Choice t x y))
 
   -- Whether an assignment is a place that may be written to.
   pub place-Assign : (op : Option BinaryOp) (x y : Expr) → f.node ≡ node.Assign op x y
       → is_place f ≡ false
   unfolding is_place
-  place-Assign op x y h = ap (λ n. is_place (at f.offset n)) h
-      ∙ ap (λ (j : Judged). j.place) (judged_by f.offset _ (ExprNode-F.Assign op x y)
+  place-Assign op x y h = ap (λ n. is_place (at (spot_of f) n)) h
+      ∙ ap (λ (j : Judged). j.place) (judged_by (spot_of f) _ (ExprNode-F.Assign op x y)
       (node.rolls-Assign op x y))
 
   -- Whether a comma is a place that may be written to.
   pub place-Comma : (x y : Expr) → f.node ≡ node.Comma x y → is_place f ≡ false
   unfolding is_place
-  place-Comma x y h = ap (λ n. is_place (at f.offset n)) h
-      ∙ ap (λ (j : Judged). j.place) (judged_by f.offset _ (ExprNode-F.Comma x y)
+  place-Comma x y h = ap (λ n. is_place (at (spot_of f) n)) h
+      ∙ ap (λ (j : Judged). j.place) (judged_by (spot_of f) _ (ExprNode-F.Comma x y)
       (node.rolls-Comma x y))
 
 pub ruleset on_number = (fault-Number, tree-Number)

@@ -1,10 +1,11 @@
 -- The test for a place holds of places alone.
-use Rattle.std.proofs.Common.{◌≡◌, ℕ, true, false, map, Some, None, refl, sym, ◌∙◌, subst}
+use Rattle.std.proofs.Common.{◌≡◌, true, false, map, Some, None, refl, sym, ◌∙◌, subst}
 use Rattle.std.proofs.lemmas.Bool.{false≢true}
 use Rattle.c_tree.specs.declared.tree.Expr.{Expr, Expr-F, ind-Expr, roll-Expr}
 use Rattle.c_tree.specs.declared.tree.ExprNode.{ExprNode, roll-ExprNode, map-ExprNode}
 use Rattle.c_tree.specs.declared.tree.ExprNode.TheOpen.{ExprNode-F}
 use Rattle.c_tree.specs.declared.tree.ExprNode.TheVariants as node
+use Rattle.c_type_expr.specs.declared.spot.Spot.{Spot}
 use Rattle.c_type_expr.specs.Faults.{is_place}
 use Rattle.c_type_expr.specs.Roles.{at, IsPlace, a_name, an_element, in_group}
 use Rattle.c_type_expr.proofs.Nodes.{place-Number, place-Name, place-Element, place-Call}
@@ -23,7 +24,7 @@ abbrev Passes : Expr → Type 0
 Passes e = is_place e ≡ true → IsPlace e
 
 abbrev PassesNode : ExprNode → Type 0
-PassesNode n = (l : ℕ) → Passes (at l n)
+PassesNode n = (l : Spot) → Passes (at l n)
 
 -- what fails the test is not asked
 fails : (e : Expr) → is_place e ≡ false → Passes e
@@ -74,4 +75,4 @@ passes_place =
     ind-Expr PassesNode Passes
     (λ x y e. subst (λ (x : ExprNode-F ExprNode Expr). PassesNode (roll-ExprNode x)) e
     (at_node _ _ (λ e'. e'.0) (λ e'. e'.0) (λ s. s.1) y))
-    (λ x y e. subst (λ (x : Expr-F ExprNode Expr). Passes (roll-Expr x)) e (y.node.1 y.offset))
+    (λ x y e. subst (λ (x : Expr-F ExprNode Expr). Passes (roll-Expr x)) e (y.node.1 (record { offset = y.offset; at = y.at })))

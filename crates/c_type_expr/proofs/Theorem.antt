@@ -17,6 +17,7 @@ use Rattle.c_type_expr.specs.declared.meaning.Meaning.TheVariants as meaning
 use Rattle.c_type_expr.specs.Scope.{Scope, look_up}
 use Rattle.c_type_expr.specs.declared.fault.TypeFault.{TypeFault}
 use Rattle.c_type_expr.specs.declared.fault.TypeFault.TheVariants.{Mismatch, Arity}
+use Rattle.c_type_expr.specs.declared.spot.Spot.{Spot}
 use Rattle.c_type_expr.specs.declared.role.Role.{Role}
 use Rattle.c_type_expr.specs.declared.role.Role.TheVariants.{Value, Free, Written, Array}
 use Rattle.c_type_expr.specs.Roles.{takes_element, takes_array, takes_value, takes_result, at}
@@ -71,89 +72,89 @@ mutual
   sound G _ _ _ (number {r = r} {l = l} {v = v} {k = k} h) =
       (fault-Number G r l v k ∙ fine _ _ h, sym (tree-Number G l v k))
   sound G _ _ _ (scalar {r = r} {l = l} {w = w} {k = k} {p = p} m h) = (
-    fault-Name G r l w ∙ ap (λ m. name_fault m r l) m ∙ fine (takes_element r) (Mismatch l) h,
-    sym (tree-Name G l w ∙ ap name_tree m),
+    fault-Name G r l w ∙ ap (λ m. name_fault m r l.offset) m ∙ fine (takes_element r) (Mismatch l.offset) h,
+    sym (tree-Name G l w ∙ ap (name_tree l.at) m),
   )
   sound G _ _ _ (array {r = r} {l = l} {w = w} {k = k} {q = q} {p = p} m h) = (
-    fault-Name G r l w ∙ ap (λ m. name_fault m r l) m ∙ fine (takes_array k q r) (Mismatch l) h,
-    sym (tree-Name G l w ∙ ap name_tree m),
+    fault-Name G r l w ∙ ap (λ m. name_fault m r l.offset) m ∙ fine (takes_array k q r) (Mismatch l.offset) h,
+    sym (tree-Name G l w ∙ ap (name_tree l.at) m),
   )
   sound G _ _ _ (ending {r = r} {l = l} {w = w} m h) = (
-    fault-Name G r l w ∙ ap (λ m. name_fault m r l) m ∙ fine (takes_value r) (Mismatch l) h,
-    sym (tree-Name G l w ∙ ap name_tree m),
+    fault-Name G r l w ∙ ap (λ m. name_fault m r l.offset) m ∙ fine (takes_value r) (Mismatch l.offset) h,
+    sym (tree-Name G l w ∙ ap (name_tree l.at) m),
   )
   sound G _ _ _ (element {r = r} {l = l} {w = w} {k = k} {p = p} {i = i} {j = j} d m h) =
       let s = sound G Value i j d in (
         fault-Element G r l w i ∙ both _ _ s.0
-            (ap (λ m. element_fault m false r l) m ∙ fine (takes_element r) (Mismatch l) h),
-        sym (tree-Element G l w i ∙ ap (λ m. a (Some (array_kind m))
+            (ap (λ m. element_fault m false r l.offset) m ∙ fine (takes_element r) (Mismatch l.offset) h),
+        sym (tree-Element G l w i ∙ ap (λ m. a l.at (Some (array_kind m))
             (typed.Element (array_place m) None (tree i G))) m
-            ∙ ap (λ (j : TypedExpr). a (Some k) (typed.Element p None j)) (sym s.1)),
+            ∙ ap (λ (j : TypedExpr). a l.at (Some k) (typed.Element p None j)) (sym s.1)),
       )
   sound G _ _ _ (row_element {r = r} {l = l} {n = n} {w = w} {k = k} {p = p} {x = x} {i = i} {y = y}
       {j = j} c d m h) =
       let u = sound G Value x y c in let s = sound G Value i j d in (
         fault-Row G r l w x i ∙ both _ _ u.0 (both _ _ s.0
-            (ap (λ m. element_fault m true r l) m ∙ fine (takes_element r) (Mismatch l) h)),
-        sym (tree-Row G l w x i ∙ ap (λ m. a (Some (array_kind m))
+            (ap (λ m. element_fault m true r l.offset) m ∙ fine (takes_element r) (Mismatch l.offset) h)),
+        sym (tree-Row G l w x i ∙ ap (λ m. a l.at (Some (array_kind m))
             (typed.Element (array_place m) (Some (tree x G)) (tree i G))) m
-            ∙ ap (λ (y : TypedExpr). a (Some k) (typed.Element p (Some y) (tree i G))) (sym u.1)
-            ∙ ap (λ (j : TypedExpr). a (Some k) (typed.Element p (Some y) j)) (sym s.1)),
+            ∙ ap (λ (y : TypedExpr). a l.at (Some k) (typed.Element p (Some y) (tree i G))) (sym u.1)
+            ∙ ap (λ (j : TypedExpr). a l.at (Some k) (typed.Element p (Some y) j)) (sym s.1)),
       )
   sound G _ _ _ (call {r = r} {l = l} {w = w} {result = result} {slots = slots} {c = c} {d = d}
       {es = es} {ts = ts} m p h) =
       let s = passed G slots es ts p in (
         fault-Call G r l w es
             ∙ both _ _ (ap (λ m. args_fault (slots_of m) es G) m ∙ s.0)
-            (call_fits (look_up G w) result slots c d (length es) r l m h s.1),
+            (call_fits (look_up G w) result slots c d (length es) r l.offset m h s.1),
         sym (tree-Call G l w es
-            ∙ ap (λ m. a (result_kind m) (typed.Call (callee_of m) (args_tree (slots_of m) es G))) m
-            ∙ ap (λ (ts : List TypedExpr). a result (typed.Call c ts)) (sym s.2)),
+            ∙ ap (λ m. a l.at (result_kind m) (typed.Call (callee_of m) (args_tree (slots_of m) es G))) m
+            ∙ ap (λ (ts : List TypedExpr). a l.at result (typed.Call c ts)) (sym s.2)),
       )
   sound G _ _ _ (group {r = r} {l = l} {e = e} {t = t} d) =
       let s = sound G r e t d in (fault-Group G r l e ∙ s.0, s.1 ∙ sym (tree-Group G l e))
   sound G _ _ _ (operator {r = r} {l = l} {op = op} {e = e} {t = t} d h) =
       let s = sound G Value e t d in (
         fault-Unary G r l op e ∙ both _ _ s.0 (fine _ _ h),
-        ap (λ (t : TypedExpr). unary op t) s.1
+        ap (λ (t : TypedExpr). unary l.at op t) s.1
             ∙ sym (tree-Unary G l op e),
       )
   sound G _ _ _ (conversion {r = r} {l = l} {to = to} {e = e} {t = t} d h) =
       let s = sound G Value e t d in (
         fault-Cast G r l to e ∙ both _ _ s.0 (fine _ _ h),
-        ap (λ (t : TypedExpr). cast to t) s.1
+        ap (λ (t : TypedExpr). cast l.at to t) s.1
             ∙ sym (tree-Cast G l to e),
       )
   sound G _ _ _ (step {r = r} {l = l} {op = op} {e = e} {t = t} p d h) =
       let s = sound G Written e t d in let q = place_passes e p in (
         fault-Bump G r l op e ∙ both _ _ (written e G q s.0) (both _ _ (fine _ _ q) (fine _ _ h)),
-        ap (λ (t : TypedExpr). bump op t) s.1 ∙ sym (tree-Bump G l op e),
+        ap (λ (t : TypedExpr). bump l.at op t) s.1 ∙ sym (tree-Bump G l op e),
       )
   sound G _ _ _ (operation {r = r} {l = l} {op = op} {x = x} {y = y} {s = s} {t = t} d d' h) =
       let p = sound G Value x s d in let q = sound G Value y t d' in (
         fault-Binary G r l op x y ∙ both _ _ p.0 (both _ _ q.0 (fine _ _ h)),
-        ap (λ (s : TypedExpr). binary op s t) p.1
-            ∙ ap (λ (t : TypedExpr). binary op (tree x G) t) q.1 ∙ sym (tree-Binary G l op x y),
+        ap (λ (s : TypedExpr). binary l.at op s t) p.1
+            ∙ ap (λ (t : TypedExpr). binary l.at op (tree x G) t) q.1 ∙ sym (tree-Binary G l op x y),
       )
   sound G _ _ _ (either {r = r} {l = l} {c = c} {x = x} {y = y} {d = d} {s = s}
       {t = t} d1 d2 d3 h) =
       let o = sound G Value c d d1 in let p = sound G Value x s d2 in let q = sound G Value y t d3 in (
         fault-Choice G r l c x y ∙ both _ _ o.0 (both _ _ p.0 (both _ _ q.0 (fine _ _ h))),
-        ap (λ (d : TypedExpr). choice d s t) o.1 ∙ ap (λ (s : TypedExpr). choice (tree c G) s t) p.1
-            ∙ ap (λ (t : TypedExpr). choice (tree c G) (tree x G) t) q.1
+        ap (λ (d : TypedExpr). choice l.at d s t) o.1 ∙ ap (λ (s : TypedExpr). choice l.at (tree c G) s t) p.1
+            ∙ ap (λ (t : TypedExpr). choice l.at (tree c G) (tree x G) t) q.1
             ∙ sym (tree-Choice G l c x y),
       )
   sound G _ _ _ (assignment {r = r} {l = l} {op = op} {x = x} {y = y} {s = s} {t = t} w d d' h) =
       let p = sound G Written x s d in let q = sound G Value y t d' in let u = place_passes x w in (
         fault-Assign G r l op x y ∙ both _ _ (written x G u p.0)
             (both _ _ q.0 (both _ _ (fine _ _ u) (fine _ _ h))),
-        ap (λ (s : TypedExpr). assign op s t) p.1
-            ∙ ap (λ (t : TypedExpr). assign op (tree x G) t) q.1 ∙ sym (tree-Assign G l op x y),
+        ap (λ (s : TypedExpr). assign l.at op s t) p.1
+            ∙ ap (λ (t : TypedExpr). assign l.at op (tree x G) t) q.1 ∙ sym (tree-Assign G l op x y),
       )
   sound G _ _ _ (sequence {r = r} {l = l} {x = x} {y = y} {s = s} {t = t} d d' h) =
       let p = sound G Free x s d in let q = sound G Value y t d' in (
         fault-Comma G r l x y ∙ both _ _ p.0 (both _ _ q.0 (fine _ _ h)),
-        ap (λ (s : TypedExpr). comma s t) p.1 ∙ ap (λ (t : TypedExpr). comma (tree x G) t) q.1
+        ap (λ (s : TypedExpr). comma l.at s t) p.1 ∙ ap (λ (t : TypedExpr). comma l.at (tree x G) t) q.1
             ∙ sym (tree-Comma G l x y),
       )
 
@@ -179,7 +180,7 @@ abbrev Whole : Expr → Type 0
 Whole e = (G : Scope) (r : Role) → fault e G r ≡ None → Typed G r e (tree e G)
 
 abbrev WholeNode : ExprNode → Type 0
-WholeNode n = (l : ℕ) → Whole (at l n)
+WholeNode n = (l : Spot) → Whole (at l n)
 
 split : (f g : Blame) → first f g ≡ None → (f ≡ None) × (g ≡ None)
 split None g e = (refl, e)
@@ -189,19 +190,19 @@ held : (b : Bool) (f : TypeFault) → unless b f ≡ None → b ≡ true
 held true f e = refl
 held false f e = absurd (cc)
 
-name_typed : (G : Scope) (r : Role) (l : ℕ) (w : List ℕ) (m : Option Meaning) → look_up G w ≡ m
-    → name_fault m r l ≡ None
-    → Typed G r (at l (node.Name w)) (name_tree m)
+name_typed : (G : Scope) (r : Role) (l : Spot) (w : List ℕ) (m : Option Meaning) → look_up G w ≡ m
+    → name_fault m r l.offset ≡ None
+    → Typed G r (at l (node.Name w)) (name_tree l.at m)
 name_typed G r l w None e h = absurd (cc)
 name_typed G r l w (Some (meaning.Scalar k p)) e h = scalar e (held _ _ h)
 name_typed G r l w (Some (meaning.Array k q p)) e h = array e (held _ _ h)
 name_typed G r l w (Some (meaning.Function result slots c d)) e h = absurd (false≢true (held _ _ h))
 name_typed G r l w (Some meaning.EndOfFile) e h = ending e (held _ _ h)
 
-element_typed : (G : Scope) (r : Role) (l : ℕ) (w : List ℕ) (i : Expr) (j : TypedExpr)
-    (m : Option Meaning) → look_up G w ≡ m → Typed G Value i j → element_fault m false r l ≡ None
+element_typed : (G : Scope) (r : Role) (l : Spot) (w : List ℕ) (i : Expr) (j : TypedExpr)
+    (m : Option Meaning) → look_up G w ≡ m → Typed G Value i j → element_fault m false r l.offset ≡ None
     → Typed G r (at l (node.Element w None i))
-    (a (Some (array_kind m)) (typed.Element (array_place m) None j))
+    (a l.at (Some (array_kind m)) (typed.Element (array_place m) None j))
 element_typed G r l w i j None e d h = absurd (cc)
 element_typed G r l w i j (Some (meaning.Scalar k p)) e d h = absurd (cc)
 element_typed G r l w i j (Some (meaning.Array k None p)) e d h = element d e (held _ _ h)
@@ -209,11 +210,11 @@ element_typed G r l w i j (Some (meaning.Array k (Some n) p)) e d h = absurd (cc
 element_typed G r l w i j (Some (meaning.Function result slots c s)) e d h = absurd (cc)
 element_typed G r l w i j (Some meaning.EndOfFile) e d h = absurd (cc)
 
-row_typed : (G : Scope) (r : Role) (l : ℕ) (w : List ℕ) (x i : Expr) (y j : TypedExpr)
+row_typed : (G : Scope) (r : Role) (l : Spot) (w : List ℕ) (x i : Expr) (y j : TypedExpr)
     (m : Option Meaning) → look_up G w ≡ m → Typed G Value x y → Typed G Value i j
-    → element_fault m true r l ≡ None
+    → element_fault m true r l.offset ≡ None
     → Typed G r (at l (node.Element w (Some x) i))
-    (a (Some (array_kind m)) (typed.Element (array_place m) (Some y) j))
+    (a l.at (Some (array_kind m)) (typed.Element (array_place m) (Some y) j))
 row_typed G r l w x i y j None e c d h = absurd (cc)
 row_typed G r l w x i y j (Some (meaning.Scalar k p)) e c d h = absurd (cc)
 row_typed G r l w x i y j (Some (meaning.Array k None p)) e c d h = absurd (cc)
@@ -221,11 +222,11 @@ row_typed G r l w x i y j (Some (meaning.Array k (Some n) p)) e c d h = row_elem
 row_typed G r l w x i y j (Some (meaning.Function result slots k s)) e c d h = absurd (cc)
 row_typed G r l w x i y j (Some meaning.EndOfFile) e c d h = absurd (cc)
 
-call_typed : (G : Scope) (r : Role) (l : ℕ) (w : List ℕ) (es : List Expr) (ts : List TypedExpr)
+call_typed : (G : Scope) (r : Role) (l : Spot) (w : List ℕ) (es : List Expr) (ts : List TypedExpr)
     (m : Option Meaning) → look_up G w ≡ m
     → (length es ≡ length (slots_of m) → Passed G (slots_of m) es ts)
-    → call_fault m (length es) r l ≡ None
-    → Typed G r (at l (node.Call w es)) (a (result_kind m) (typed.Call (callee_of m) ts))
+    → call_fault m (length es) r l.offset ≡ None
+    → Typed G r (at l (node.Call w es)) (a l.at (result_kind m) (typed.Call (callee_of m) ts))
 call_typed G r l w es ts None e d h = absurd (cc)
 call_typed G r l w es ts (Some (meaning.Scalar k p)) e d h = absurd (cc)
 call_typed G r l w es ts (Some (meaning.Array k q p)) e d h = absurd (cc)
@@ -250,10 +251,10 @@ module _ (N E : Type 0) (node_of : N → ExprNode) (of : E → Expr) (whole : (e
   args_whole (slot.Address k q ∷ slots) (x ∷ es) h e =
       let s = split _ _ h in address (whole x G (Array k q) s.0) (args_whole slots es s.1 (omega (arith, e)))
 
-  abbrev Is : ℕ → Role → ExprNode → Type 0
+  abbrev Is : Spot → Role → ExprNode → Type 0
   Is l r n = fault (at l n) G r ≡ None → Typed G r (at l n) (tree (at l n) G)
 
-  at_node : (l : ℕ) (r : Role) (y : ExprNode-F N E)
+  at_node : (l : Spot) (r : Role) (y : ExprNode-F N E)
       → fault (at l (roll-ExprNode (map-ExprNode N E ExprNode Expr node_of of y))) G r ≡ None
       → Typed G r (at l (roll-ExprNode (map-ExprNode N E ExprNode Expr node_of of y)))
       (tree (at l (roll-ExprNode (map-ExprNode N E ExprNode Expr node_of of y))) G)
@@ -333,4 +334,4 @@ complete =
     ind-Expr WholeNode Whole
     (λ x y e. subst (λ (x : ExprNode-F ExprNode Expr). WholeNode (roll-ExprNode x)) e
     (λ l G r. at_node _ _ (λ e'. e'.0) (λ e'. e'.0) (λ s. s.1) G l r y))
-    (λ x y e. subst (λ (x : Expr-F ExprNode Expr). Whole (roll-Expr x)) e (y.node.1 y.offset))
+    (λ x y e. subst (λ (x : Expr-F ExprNode Expr). Whole (roll-Expr x)) e (y.node.1 (record { offset = y.offset; at = y.at })))

@@ -3,6 +3,7 @@
 use Rattle.std.specs.Prelude.{ℕ, Bool, true, false, ◌&&◌, nat_eq, Option, Some, None, List}
 use Rattle.c_tree.specs.declared.token.Kind.{Kind}
 use Rattle.c_constant.specs.Kinds.{same_kind}
+use Rattle.c_type_expr.specs.declared.spot.Spot.{Spot}
 use Rattle.c_type_expr.specs.declared.role.Role.{Role}
 use Rattle.c_type_expr.specs.declared.role.Role.TheVariants.{Free, Written, Array, Surplus}
 use Rattle.c_tree.specs.declared.tree.Expr.{Expr}
@@ -42,13 +43,17 @@ abbrev pub takes_result : Option Kind → Role → Bool
 takes_result None r = takes_void r
 takes_result (Some k) r = takes_value r
 
--- the expression of an offset and a node
-abbrev pub at : ℕ → ExprNode → Expr
-at l n = record { offset = l; node = n }
+-- the expression of a spot and a node
+abbrev pub at : Spot → ExprNode → Expr
+at l n = record { offset = l.offset; at = l.at; node = n }
+
+-- where an expression stands
+abbrev pub spot_of : Expr → Spot
+spot_of e = record { offset = e.offset; at = e.at }
 
 -- a name, an element, or one of these in groups
 pub data IsPlace : Expr → Type 0 where
-  a_name : {l : ℕ} {w : List ℕ} → IsPlace (at l (node.Name w))
-  an_element : {l : ℕ} {w : List ℕ} (row : Option Expr) (i : Expr)
+  a_name : {l : Spot} {w : List ℕ} → IsPlace (at l (node.Name w))
+  an_element : {l : Spot} {w : List ℕ} (row : Option Expr) (i : Expr)
       → IsPlace (at l (node.Element w row i))
-  in_group : {l : ℕ} {e : Expr} → IsPlace e → IsPlace (at l (node.Group e))
+  in_group : {l : Spot} {e : Expr} → IsPlace e → IsPlace (at l (node.Group e))

@@ -1,5 +1,5 @@
 -- The typed tree of an expression that has no fault: every conversion is a node (C17 6.3, 6.5).
-use Rattle.std.specs.Prelude.{List, [], ◌∷◌, Option, Some, None}
+use Rattle.std.specs.Prelude.{ℕ, List, [], ◌∷◌, Option, Some, None}
 use Rattle.c_tree.specs.declared.token.Kind.{Kind}
 use Rattle.c_tree.specs.declared.token.Kind.TheVariants.{Int}
 use Rattle.c_tree.specs.declared.tree.Expr.{Expr, Expr-F, fold-Expr}
@@ -21,11 +21,11 @@ use Rattle.c_type_expr.specs.Faults.{slots_of, rest_of}
 use Rattle.c_type_expr.specs.Conversions.{a, assign, binary, bump, cast, choice, comma, end_of_file, unary}
 use Rattle.c_type_expr.specs.Conversions.{with_convert}
 
--- a name as a typed expression
-abbrev pub name_tree : Option Meaning → TypedExpr
-name_tree (Some (meaning.Scalar k p)) = a (Some k) (typed.Name p)
-name_tree (Some (meaning.Array k q p)) = a (Some k) (typed.Name p)
-name_tree _ = end_of_file
+-- a name at a place as a typed expression
+abbrev pub name_tree : ℕ → Option Meaning → TypedExpr
+name_tree l (Some (meaning.Scalar k p)) = a l (Some k) (typed.Name p)
+name_tree l (Some (meaning.Array k q p)) = a l (Some k) (typed.Name p)
+name_tree l _ = end_of_file l
 
 -- the type of an array's elements
 abbrev pub array_kind : Option Meaning → Kind
@@ -67,29 +67,29 @@ abbrev pub row_tree : Option (Scope → TypedExpr) → Scope → Option TypedExp
 row_tree None G = None
 row_tree (Some e) G = Some (e G)
 
--- the typed expression of a node
-abbrev pub node_tree : ExprNode-F (Scope → TypedExpr) (Scope → TypedExpr) → Scope → TypedExpr
-node_tree (Number v k) G = a (Some k) (typed.Number v)
-node_tree (Name w) G = name_tree (look_up G w)
-node_tree (Element w row i) G =
-    a (Some (array_kind (look_up G w)))
+-- the typed expression of a node that the token at the offset names
+abbrev pub node_tree : ExprNode-F (ℕ → Scope → TypedExpr) (Scope → TypedExpr) → ℕ → Scope → TypedExpr
+node_tree (Number v k) l G = a l (Some k) (typed.Number v)
+node_tree (Name w) l G = name_tree l (look_up G w)
+node_tree (Element w row i) l G =
+    a l (Some (array_kind (look_up G w)))
     (typed.Element (array_place (look_up G w)) (row_tree row G) (i G))
-node_tree (Call w es) G =
-    a (result_kind (look_up G w))
+node_tree (Call w es) l G =
+    a l (result_kind (look_up G w))
     (typed.Call (callee_of (look_up G w)) (arguments (slots_of (look_up G w)) es G))
-node_tree (Group e) G = e G
-node_tree (Unary op e) G = unary op (e G)
-node_tree (Cast to e) G = cast to (e G)
-node_tree (Bump op e) G = bump op (e G)
-node_tree (Binary op x y) G = binary op (x G) (y G)
-node_tree (Choice t x y) G = choice (t G) (x G) (y G)
-node_tree (Assign op x y) G = assign op (x G) (y G)
-node_tree (Comma x y) G = comma (x G) (y G)
+node_tree (Group e) l G = e G
+node_tree (Unary op e) l G = unary l op (e G)
+node_tree (Cast to e) l G = cast l to (e G)
+node_tree (Bump op e) l G = bump l op (e G)
+node_tree (Binary op x y) l G = binary l op (x G) (y G)
+node_tree (Choice t x y) l G = choice l (t G) (x G) (y G)
+node_tree (Assign op x y) l G = assign l op (x G) (y G)
+node_tree (Comma x y) l G = comma l (x G) (y G)
 
--- that of an expression is that of its node
-abbrev pub of_node : Expr-F (Scope → TypedExpr) (Scope → TypedExpr) → Scope → TypedExpr
-of_node e = e.node
+-- that of an expression is that of its node, at the place of what names it
+abbrev pub of_node : Expr-F (ℕ → Scope → TypedExpr) (Scope → TypedExpr) → Scope → TypedExpr
+of_node e = e.node e.at
 
 -- the typed expression of an expression, by recursion on it
 unfoldable pub tree : Expr → Scope → TypedExpr
-tree e = fold-Expr (Scope → TypedExpr) (Scope → TypedExpr) node_tree of_node e
+tree e = fold-Expr (ℕ → Scope → TypedExpr) (Scope → TypedExpr) node_tree of_node e

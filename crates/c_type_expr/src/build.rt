@@ -18,24 +18,33 @@ pub fn kind_of(e: &TypedExpr) -> Kind
     }
 }
 
-// A node of a kind, on the heap.
+// A node of a place and a kind, on the heap.
 #[inline(always)]
 pub fn boxed(
     alloc: Global,
+    token: u32,
     kind: Option<Kind>,
     node: TypedNode,
 ) -> Result<Boxed<TypedExpr>, AllocError>
-    ensures { IfOk result (λ t. t ≡ conversions.a kind node) }
+    ensures { IfOk result (λ t. t ≡ conversions.a token kind node) }
 {
-    Boxed::new(alloc, TypedExpr { kind, node })
+    Boxed::new(
+        alloc,
+        TypedExpr {
+            kind,
+            at: token,
+            node,
+        },
+    )
 }
 
 // The conversion of an expression to a kind.
 #[inline(never)]
 fn converted(alloc: Global, to: Kind, e: Boxed<TypedExpr>) -> Result<Boxed<TypedExpr>, AllocError>
-    ensures { IfOk result (λ t. t ≡ conversions.a (Some to) (TypedNode.Convert to e)) }
+    ensures { IfOk result (λ t. t ≡ conversions.a e.at (Some to) (TypedNode.Convert to e)) }
 {
-    boxed(alloc, Some(to), TypedNode::Convert { to, e })
+    let token = e.get().at;
+    boxed(alloc, token, Some(to), TypedNode::Convert { to, e })
 }
 
 /// An expression converted to a kind, by a node where its kind is another. Want of memory is the only error.
@@ -56,49 +65,61 @@ pub fn with_convert(
 #[inline(never)]
 pub fn unary(
     alloc: Global,
+    token: u32,
     op: UnaryOp,
     e: Boxed<TypedExpr>,
 ) -> Result<Boxed<TypedExpr>, AllocError>
-    ensures { IfOk result (λ t. t ≡ conversions.unary op e) }
+    ensures { IfOk result (λ t. t ≡ conversions.unary token op e) }
 {
     let at = unary_at(op, kind_of(e.get()));
     let e = with_convert(alloc, at, e)?;
     let kind = Some(unary_result(op, at));
-    boxed(alloc, kind, TypedNode::Unary { op, e })
+    boxed(alloc, token, kind, TypedNode::Unary { op, e })
 }
 
 #[inline(never)]
-pub fn cast(alloc: Global, to: Kind, e: Boxed<TypedExpr>) -> Result<Boxed<TypedExpr>, AllocError>
-    ensures { IfOk result (λ t. t ≡ conversions.cast to e) }
+pub fn cast(
+    alloc: Global,
+    token: u32,
+    to: Kind,
+    e: Boxed<TypedExpr>,
+) -> Result<Boxed<TypedExpr>, AllocError>
+    ensures { IfOk result (λ t. t ≡ conversions.cast token to e) }
 {
     let kind = Some(to);
-    boxed(alloc, kind, TypedNode::Cast { to, e })
+    boxed(alloc, token, kind, TypedNode::Cast { to, e })
 }
 
 #[inline(never)]
-pub fn bump(alloc: Global, op: BumpOp, e: Boxed<TypedExpr>) -> Result<Boxed<TypedExpr>, AllocError>
-    ensures { IfOk result (λ t. t ≡ conversions.bump op e) }
+pub fn bump(
+    alloc: Global,
+    token: u32,
+    op: BumpOp,
+    e: Boxed<TypedExpr>,
+) -> Result<Boxed<TypedExpr>, AllocError>
+    ensures { IfOk result (λ t. t ≡ conversions.bump token op e) }
 {
     let kind = Some(kind_of(e.get()));
-    boxed(alloc, kind, TypedNode::Bump { op, e })
+    boxed(alloc, token, kind, TypedNode::Bump { op, e })
 }
 
 // A binary operation whose operands convert to what it wants of them.
 #[inline(never)]
 fn converted_binary(
     alloc: Global,
+    token: u32,
     op: BinaryOp,
     left: Boxed<TypedExpr>,
     right: Boxed<TypedExpr>,
 ) -> Result<Boxed<TypedExpr>, AllocError>
-    ensures { IfOk result (λ t. t ≡ conversions.binary op left right) }
+    ensures { IfOk result (λ t. t ≡ conversions.binary token op left right) }
 {
     let (j, k) = (kind_of(left.get()), kind_of(right.get()));
     let at = left_at(op, j, k);
     let left = with_convert(alloc, at, left)?;
     let right = with_convert(alloc, right_at(op, j, k), right)?;
     let kind = Some(result_of(op, at));
-    boxed(alloc, kind, TypedNode::Binary { op, left, right })
+    boxed(alloc, token, kind, TypedNode::Binary { op, left, right })
 }
 
 /// A binary operation. Most are of two ints, of which none converts.
@@ -106,33 +127,35 @@ fn converted_binary(
 #[inline(never)]
 pub fn binary(
     alloc: Global,
+    token: u32,
     op: BinaryOp,
     left: Boxed<TypedExpr>,
     right: Boxed<TypedExpr>,
 ) -> Result<Boxed<TypedExpr>, AllocError>
-    ensures { IfOk result (λ t. t ≡ conversions.binary op left right) }
+    ensures { IfOk result (λ t. t ≡ conversions.binary token op left right) }
 {
     if kind_of(left.get()) == Kind::Int && kind_of(right.get()) == Kind::Int {
         let kind = Some(Kind::Int);
-        return boxed(alloc, kind, TypedNode::Binary { op, left, right });
+        return boxed(alloc, token, kind, TypedNode::Binary { op, left, right });
     }
-    converted_binary(alloc, op, left, right)
+    converted_binary(alloc, token, op, left, right)
 }
 
 #[inline(never)]
 pub fn choice(
     alloc: Global,
+    token: u32,
     test: Boxed<TypedExpr>,
     yes: Boxed<TypedExpr>,
     no: Boxed<TypedExpr>,
 ) -> Result<Boxed<TypedExpr>, AllocError>
-    ensures { IfOk result (λ t. t ≡ conversions.choice test yes no) }
+    ensures { IfOk result (λ t. t ≡ conversions.choice token test yes no) }
 {
     let at = common(kind_of(yes.get()), kind_of(no.get()));
     let yes = with_convert(alloc, at, yes)?;
     let no = with_convert(alloc, at, no)?;
     let kind = Some(at);
-    boxed(alloc, kind, TypedNode::Choice { test, yes, no })
+    boxed(alloc, token, kind, TypedNode::Choice { test, yes, no })
 }
 
 fn assigned_at(op: Option<BinaryOp>, left: Kind, right: Kind) -> Kind
@@ -156,17 +179,19 @@ fn assigned_from(op: Option<BinaryOp>, left: Kind, right: Kind) -> Kind
 #[inline(never)]
 pub fn assign(
     alloc: Global,
+    token: u32,
     op: Option<BinaryOp>,
     left: Boxed<TypedExpr>,
     right: Boxed<TypedExpr>,
 ) -> Result<Boxed<TypedExpr>, AllocError>
-    ensures { IfOk result (λ t. t ≡ conversions.assign op left right) }
+    ensures { IfOk result (λ t. t ≡ conversions.assign token op left right) }
 {
     let (j, k) = (kind_of(left.get()), kind_of(right.get()));
     let right = with_convert(alloc, assigned_from(op, j, k), right)?;
     let kind = Some(j);
     boxed(
         alloc,
+        token,
         kind,
         TypedNode::Assign {
             op,
@@ -180,40 +205,43 @@ pub fn assign(
 #[inline(never)]
 pub fn comma(
     alloc: Global,
+    token: u32,
     left: Boxed<TypedExpr>,
     right: Boxed<TypedExpr>,
 ) -> Result<Boxed<TypedExpr>, AllocError>
-    ensures { IfOk result (λ t. t ≡ conversions.comma left right) }
+    ensures { IfOk result (λ t. t ≡ conversions.comma token left right) }
 {
     let kind = right.get().kind;
-    boxed(alloc, kind, TypedNode::Comma { left, right })
+    boxed(alloc, token, kind, TypedNode::Comma { left, right })
 }
 
 #[inline(never)]
 pub fn element(
     alloc: Global,
+    token: u32,
     kind: Kind,
     array: Place,
     index: Boxed<TypedExpr>,
 ) -> Result<Boxed<TypedExpr>, AllocError>
-    ensures { IfOk result (λ t. t ≡ conversions.a (Some kind) (TypedNode.Element array None index)) }
+    ensures { IfOk result (λ t. t ≡ conversions.a token (Some kind) (TypedNode.Element array None index)) }
 {
     let kind = Some(kind);
     let row = None;
-    boxed(alloc, kind, TypedNode::Element { array, row, index })
+    boxed(alloc, token, kind, TypedNode::Element { array, row, index })
 }
 
 #[inline(never)]
 pub fn row_element(
     alloc: Global,
+    token: u32,
     kind: Kind,
     array: Place,
     row: Boxed<TypedExpr>,
     index: Boxed<TypedExpr>,
 ) -> Result<Boxed<TypedExpr>, AllocError>
-    ensures { IfOk result (λ t. t ≡ conversions.a (Some kind) (TypedNode.Element array (Some row) index)) }
+    ensures { IfOk result (λ t. t ≡ conversions.a token (Some kind) (TypedNode.Element array (Some row) index)) }
 {
     let kind = Some(kind);
     let row = Some(row);
-    boxed(alloc, kind, TypedNode::Element { array, row, index })
+    boxed(alloc, token, kind, TypedNode::Element { array, row, index })
 }

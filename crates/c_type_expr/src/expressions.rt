@@ -19,6 +19,7 @@ use crate::found::{call_at, element_at, place_at, slots_in, value_at};
 use crate::leaves::{is_place, left_role, name, number};
 use crate::role::Role;
 use crate::scopes::Scopes;
+use crate::spot::Spot;
 use base::{Boxed, Items, Queue};
 use c_tree::{BinaryOp, BumpOp, Expr, ExprNode, Kind, Slot, TypedExpr, TypedNode, UnaryOp, Word};
 use std::alloc::Global;
@@ -30,15 +31,15 @@ fn element(
     alloc: Global,
     scope: &Scopes,
     role: &Role,
-    offset: u32,
+    spot: Spot,
     array: Word,
     index: Boxed<Expr>,
 ) -> Result<Boxed<TypedExpr>, TypeFault>
-    ensures { Types (at offset (node.Element array None index)) role.now scope.now result }
+    ensures { Types (at spot (node.Element array None index)) role.now scope.now result }
 {
     let index = operand(alloc, scope, &Role::Value, index)?;
-    let (kind, place) = element_at(scope.look_up(&array), false, *role, offset)?;
-    Ok(build::element(alloc, kind, place, index)?)
+    let (kind, place) = element_at(scope.look_up(&array), false, *role, spot.offset)?;
+    Ok(build::element(alloc, spot.at, kind, place, index)?)
 }
 
 // An element with two indexes.
@@ -49,17 +50,17 @@ fn row_element(
     alloc: Global,
     scope: &Scopes,
     role: &Role,
-    offset: u32,
+    spot: Spot,
     array: Word,
     row: Boxed<Expr>,
     index: Boxed<Expr>,
 ) -> Result<Boxed<TypedExpr>, TypeFault>
-    ensures { Types (at offset (node.Element array (Some row) index)) role.now scope.now result }
+    ensures { Types (at spot (node.Element array (Some row) index)) role.now scope.now result }
 {
     let row = operand(alloc, scope, &Role::Value, row)?;
     let index = operand(alloc, scope, &Role::Value, index)?;
-    let (kind, place) = element_at(scope.look_up(&array), true, *role, offset)?;
-    Ok(build::row_element(alloc, kind, place, row, index)?)
+    let (kind, place) = element_at(scope.look_up(&array), true, *role, spot.offset)?;
+    Ok(build::row_element(alloc, spot.at, kind, place, row, index)?)
 }
 
 // An element with one index or two.
@@ -69,16 +70,16 @@ fn element_of(
     alloc: Global,
     scope: &Scopes,
     role: &Role,
-    offset: u32,
+    spot: Spot,
     array: Word,
     row: Option<Boxed<Expr>>,
     index: Boxed<Expr>,
 ) -> Result<Boxed<TypedExpr>, TypeFault>
-    ensures { Types (at offset (node.Element array row index)) role.now scope.now result }
+    ensures { Types (at spot (node.Element array row index)) role.now scope.now result }
 {
     match row {
-        None => element(alloc, scope, role, offset, array, index),
-        Some(row) => row_element(alloc, scope, role, offset, array, row, index),
+        None => element(alloc, scope, role, spot, array, index),
+        Some(row) => row_element(alloc, scope, role, spot, array, row, index),
     }
 }
 
@@ -89,17 +90,17 @@ fn call(
     alloc: Global,
     scope: &Scopes,
     role: &Role,
-    offset: u32,
+    spot: Spot,
     function: Word,
     args: Items<Boxed<Expr>>,
 ) -> Result<Boxed<TypedExpr>, TypeFault>
-    ensures { Types (at offset (node.Call function args)) role.now scope.now result }
+    ensures { Types (at spot (node.Call function args)) role.now scope.now result }
 {
     let found = scope.look_up(&function);
     let count = args.len();
     let args = arguments(alloc, scope, slots_in(found), args)?;
-    let (kind, function) = call_at(found, count, *role, offset)?;
-    Ok(build::boxed(alloc, kind, TypedNode::Call { function, args })?)
+    let (kind, function) = call_at(found, count, *role, spot.offset)?;
+    Ok(build::boxed(alloc, spot.at, kind, TypedNode::Call { function, args })?)
 }
 
 #[cycle(expr)]
@@ -145,15 +146,15 @@ fn unary(
     alloc: Global,
     scope: &Scopes,
     role: &Role,
-    offset: u32,
+    spot: Spot,
     op: UnaryOp,
     e: Boxed<Expr>,
 ) -> Result<Boxed<TypedExpr>, TypeFault>
-    ensures { Types (at offset (node.Unary op e)) role.now scope.now result }
+    ensures { Types (at spot (node.Unary op e)) role.now scope.now result }
 {
     let e = operand(alloc, scope, &Role::Value, e)?;
-    value_at(*role, offset)?;
-    Ok(build::unary(alloc, op, e)?)
+    value_at(*role, spot.offset)?;
+    Ok(build::unary(alloc, spot.at, op, e)?)
 }
 
 #[cycle(expr)]
@@ -163,15 +164,15 @@ fn cast(
     alloc: Global,
     scope: &Scopes,
     role: &Role,
-    offset: u32,
+    spot: Spot,
     to: Kind,
     e: Boxed<Expr>,
 ) -> Result<Boxed<TypedExpr>, TypeFault>
-    ensures { Types (at offset (node.Cast to e)) role.now scope.now result }
+    ensures { Types (at spot (node.Cast to e)) role.now scope.now result }
 {
     let e = operand(alloc, scope, &Role::Value, e)?;
-    value_at(*role, offset)?;
-    Ok(build::cast(alloc, to, e)?)
+    value_at(*role, spot.offset)?;
+    Ok(build::cast(alloc, spot.at, to, e)?)
 }
 
 // The fault of an operand, or else that of the node at this offset, which is none that may stand around it.
@@ -220,7 +221,11 @@ fn no_bump(
     ensures { (t : TypedExpr) → Says (first (fault e scope.now Role.Value)
         (Some (TypeFault.Mismatch offset))) t result }
 {
-    let Expr { offset: at, node } = e.into_inner();
+    let Expr {
+        offset: at,
+        at: token,
+        node,
+    } = e.into_inner();
     match node {
         ExprNode::Bump { op: _, e: inner } => {
             if is_place(inner.get()) {
@@ -234,6 +239,7 @@ fn no_bump(
             offset,
             Expr {
                 offset: at,
+                at: token,
                 node: other,
             },
         ),
@@ -247,18 +253,18 @@ fn bump(
     alloc: Global,
     scope: &Scopes,
     role: &Role,
-    offset: u32,
+    spot: Spot,
     op: BumpOp,
     e: Boxed<Expr>,
 ) -> Result<Boxed<TypedExpr>, TypeFault>
-    ensures { Types (at offset (node.Bump op e)) role.now scope.now result }
+    ensures { Types (at spot (node.Bump op e)) role.now scope.now result }
 {
     if !is_place(e.get()) {
-        return no_bump(alloc, scope, offset, e);
+        return no_bump(alloc, scope, spot.offset, e);
     }
     let e = operand(alloc, scope, &Role::Written, e)?;
-    value_at(*role, offset)?;
-    Ok(build::bump(alloc, op, e)?)
+    value_at(*role, spot.offset)?;
+    Ok(build::bump(alloc, spot.at, op, e)?)
 }
 
 #[cycle(expr)]
@@ -268,17 +274,17 @@ fn binary(
     alloc: Global,
     scope: &Scopes,
     role: &Role,
-    offset: u32,
+    spot: Spot,
     op: BinaryOp,
     left: Boxed<Expr>,
     right: Boxed<Expr>,
 ) -> Result<Boxed<TypedExpr>, TypeFault>
-    ensures { Types (at offset (node.Binary op left right)) role.now scope.now result }
+    ensures { Types (at spot (node.Binary op left right)) role.now scope.now result }
 {
     let left = operand(alloc, scope, &Role::Value, left)?;
     let right = operand(alloc, scope, &Role::Value, right)?;
-    value_at(*role, offset)?;
-    Ok(build::binary(alloc, op, left, right)?)
+    value_at(*role, spot.offset)?;
+    Ok(build::binary(alloc, spot.at, op, left, right)?)
 }
 
 #[cycle(expr)]
@@ -288,18 +294,18 @@ fn choice(
     alloc: Global,
     scope: &Scopes,
     role: &Role,
-    offset: u32,
+    spot: Spot,
     test: Boxed<Expr>,
     yes: Boxed<Expr>,
     no: Boxed<Expr>,
 ) -> Result<Boxed<TypedExpr>, TypeFault>
-    ensures { Types (at offset (node.Choice test yes no)) role.now scope.now result }
+    ensures { Types (at spot (node.Choice test yes no)) role.now scope.now result }
 {
     let test = operand(alloc, scope, &Role::Value, test)?;
     let yes = operand(alloc, scope, &Role::Value, yes)?;
     let no = operand(alloc, scope, &Role::Value, no)?;
-    value_at(*role, offset)?;
-    Ok(build::choice(alloc, test, yes, no)?)
+    value_at(*role, spot.offset)?;
+    Ok(build::choice(alloc, spot.at, test, yes, no)?)
 }
 
 #[cycle(expr)]
@@ -309,19 +315,19 @@ fn assign(
     alloc: Global,
     scope: &Scopes,
     role: &Role,
-    offset: u32,
+    spot: Spot,
     op: Option<BinaryOp>,
     left: Boxed<Expr>,
     right: Boxed<Expr>,
 ) -> Result<Boxed<TypedExpr>, TypeFault>
-    ensures { Types (at offset (node.Assign op left right)) role.now scope.now result }
+    ensures { Types (at spot (node.Assign op left right)) role.now scope.now result }
 {
     let is_place = is_place(left.get());
     let left = operand(alloc, scope, &left_role(is_place), left)?;
     let right = operand(alloc, scope, &Role::Value, right)?;
-    place_at(is_place, offset)?;
-    value_at(*role, offset)?;
-    Ok(build::assign(alloc, op, left, right)?)
+    place_at(is_place, spot.offset)?;
+    value_at(*role, spot.offset)?;
+    Ok(build::assign(alloc, spot.at, op, left, right)?)
 }
 
 #[cycle(expr)]
@@ -331,16 +337,16 @@ fn comma(
     alloc: Global,
     scope: &Scopes,
     role: &Role,
-    offset: u32,
+    spot: Spot,
     left: Boxed<Expr>,
     right: Boxed<Expr>,
 ) -> Result<Boxed<TypedExpr>, TypeFault>
-    ensures { Types (at offset (node.Comma left right)) role.now scope.now result }
+    ensures { Types (at spot (node.Comma left right)) role.now scope.now result }
 {
     let left = operand(alloc, scope, &Role::Free, left)?;
     let right = operand(alloc, scope, &Role::Value, right)?;
-    value_at(*role, offset)?;
-    Ok(build::comma(alloc, left, right)?)
+    value_at(*role, spot.offset)?;
+    Ok(build::comma(alloc, spot.at, left, right)?)
 }
 
 // The typed tree of an operand, or its first fault. Operands and what is made of them stand on the heap, so that a
@@ -357,22 +363,27 @@ fn operand(
 ) -> Result<Boxed<TypedExpr>, TypeFault>
     ensures { Types e role.now scope.now result }
 {
-    let Expr { offset, node } = e.into_inner();
+    let Expr {
+        offset,
+        at: token,
+        node,
+    } = e.into_inner();
+    let spot = Spot { offset, at: token };
     match node {
-        ExprNode::Number { value, kind } => number(alloc, scope, role, offset, value, kind),
-        ExprNode::Name(word) => name(alloc, scope, role, offset, word),
+        ExprNode::Number { value, kind } => number(alloc, scope, role, spot, value, kind),
+        ExprNode::Name(word) => name(alloc, scope, role, spot, word),
         ExprNode::Element { array, row, index } => {
-            element_of(alloc, scope, role, offset, array, row, index)
+            element_of(alloc, scope, role, spot, array, row, index)
         }
-        ExprNode::Call { function, args } => call(alloc, scope, role, offset, function, args),
+        ExprNode::Call { function, args } => call(alloc, scope, role, spot, function, args),
         ExprNode::Group(e) => operand(alloc, scope, role, e),
-        ExprNode::Unary { op, e } => unary(alloc, scope, role, offset, op, e),
-        ExprNode::Cast { to, e } => cast(alloc, scope, role, offset, to, e),
-        ExprNode::Bump { op, e } => bump(alloc, scope, role, offset, op, e),
-        ExprNode::Binary { op, left, right } => binary(alloc, scope, role, offset, op, left, right),
-        ExprNode::Choice { test, yes, no } => choice(alloc, scope, role, offset, test, yes, no),
-        ExprNode::Assign { op, left, right } => assign(alloc, scope, role, offset, op, left, right),
-        ExprNode::Comma { left, right } => comma(alloc, scope, role, offset, left, right),
+        ExprNode::Unary { op, e } => unary(alloc, scope, role, spot, op, e),
+        ExprNode::Cast { to, e } => cast(alloc, scope, role, spot, to, e),
+        ExprNode::Bump { op, e } => bump(alloc, scope, role, spot, op, e),
+        ExprNode::Binary { op, left, right } => binary(alloc, scope, role, spot, op, left, right),
+        ExprNode::Choice { test, yes, no } => choice(alloc, scope, role, spot, test, yes, no),
+        ExprNode::Assign { op, left, right } => assign(alloc, scope, role, spot, op, left, right),
+        ExprNode::Comma { left, right } => comma(alloc, scope, role, spot, left, right),
     }
 }
 

@@ -15,6 +15,7 @@ ghost use Rattle.c_type_expr.specs.inside.Says.{Says};
 use crate::fault::TypeFault;
 use crate::meaning::Meaning;
 use crate::role::Role;
+use crate::spot::Spot;
 use c_tree::{Callee, Kind, Place, Slot, TypedExpr, TypedNode};
 
 /// Whether a value may stand where the role is wanted.
@@ -39,50 +40,52 @@ pub fn place_at(is_place: bool, offset: u32) -> Result<(), TypeFault>
     }
 }
 
-fn named(kind: Kind, place: Place) -> TypedExpr
-    ensures { result ≡ record { kind = Some kind; node = TypedNode.Name place } }
+fn named(token: u32, kind: Kind, place: Place) -> TypedExpr
+    ensures { result ≡ conversions.a token (Some kind) (TypedNode.Name place) }
 {
     TypedExpr {
         kind: Some(kind),
+        at: token,
         node: TypedNode::Name(place),
     }
 }
 
-fn end_of_file() -> TypedExpr
-    ensures { result ≡ conversions.end_of_file }
+fn end_of_file(token: u32) -> TypedExpr
+    ensures { result ≡ conversions.end_of_file token }
 {
     TypedExpr {
         kind: Some(Kind::Int),
+        at: token,
         node: TypedNode::Number(u64::MAX),
     }
 }
 
-pub fn name_at(found: Option<&Meaning>, role: Role, offset: u32) -> Result<TypedExpr, TypeFault>
-    ensures { Says (name_fault (option_copied found.entry) role offset)
-        (name_tree (option_copied found.entry)) result }
+pub fn name_at(found: Option<&Meaning>, role: Role, spot: Spot) -> Result<TypedExpr, TypeFault>
+    ensures { Says (name_fault (option_copied found.entry) role spot.offset)
+        (name_tree spot.at (option_copied found.entry)) result }
 {
     match found {
-        None => Err(TypeFault::Unknown(offset)),
+        None => Err(TypeFault::Unknown(spot.offset)),
         Some(Meaning::Scalar(kind, place)) => {
             if role.takes_element() {
-                Ok(named(*kind, *place))
+                Ok(named(spot.at, *kind, *place))
             } else {
-                Err(TypeFault::Mismatch(offset))
+                Err(TypeFault::Mismatch(spot.offset))
             }
         }
         Some(Meaning::Array { kind, row, place }) => {
             if role.takes_array(*kind, *row) {
-                Ok(named(*kind, *place))
+                Ok(named(spot.at, *kind, *place))
             } else {
-                Err(TypeFault::Mismatch(offset))
+                Err(TypeFault::Mismatch(spot.offset))
             }
         }
-        Some(Meaning::Function { .. }) => Err(TypeFault::Mismatch(offset)),
+        Some(Meaning::Function { .. }) => Err(TypeFault::Mismatch(spot.offset)),
         Some(Meaning::EndOfFile) => {
             if role.takes_value() {
-                Ok(end_of_file())
+                Ok(end_of_file(spot.at))
             } else {
-                Err(TypeFault::Mismatch(offset))
+                Err(TypeFault::Mismatch(spot.offset))
             }
         }
     }

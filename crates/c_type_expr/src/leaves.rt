@@ -11,6 +11,7 @@ use crate::fault::TypeFault;
 use crate::found::{name_at, value_at};
 use crate::role::Role;
 use crate::scopes::Scopes;
+use crate::spot::Spot;
 use base::Boxed;
 use c_tree::{Expr, ExprNode, Kind, TypedExpr, TypedNode, Word};
 use std::alloc::Global;
@@ -49,12 +50,12 @@ pub fn name(
     alloc: Global,
     scope: &Scopes,
     role: &Role,
-    offset: u32,
+    spot: Spot,
     word: Word,
 ) -> Result<Boxed<TypedExpr>, TypeFault>
-    ensures { Types (at offset (node.Name word)) role.now scope.now result }
+    ensures { Types (at spot (node.Name word)) role.now scope.now result }
 {
-    let e = name_at(scope.look_up(&word), *role, offset)?;
+    let e = name_at(scope.look_up(&word), *role, spot)?;
     Ok(Boxed::new(alloc, e)?)
 }
 
@@ -65,12 +66,12 @@ pub fn number(
     alloc: Global,
     scope: &Scopes,
     role: &Role,
-    offset: u32,
+    spot: Spot,
     value: u64,
     kind: Kind,
 ) -> Result<Boxed<TypedExpr>, TypeFault>
-    ensures { Types (at offset (node.Number value kind)) role.now scope.now result }
+    ensures { Types (at spot (node.Number value kind)) role.now scope.now result }
 {
-    value_at(*role, offset)?;
-    Ok(build::boxed(alloc, Some(kind), TypedNode::Number(value))?)
+    value_at(*role, spot.offset)?;
+    Ok(build::boxed(alloc, spot.at, Some(kind), TypedNode::Number(value))?)
 }

@@ -20,6 +20,7 @@ mod leaves;
 mod meaning;
 mod role;
 mod scopes;
+mod spot;
 
 pub use build::{kind_of, with_convert};
 pub use constants::{full, full_constant, length_or_zero, size_length};
@@ -29,3 +30,4 @@ pub use fault::TypeFault;
 pub use meaning::{Binding, Meaning};
 pub use role::{Role, same_row};
 pub use scopes::Scopes;
+pub use spot::Spot;

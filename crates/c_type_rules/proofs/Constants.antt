@@ -12,6 +12,7 @@ use Rattle.c_type_expr.specs.Scope.{Scope, look_up}
 use Rattle.c_type_expr.specs.declared.fault.TypeFault.TheVariants.{Mismatch}
 use Rattle.c_type_expr.specs.Blames.{Blame, first, unless}
 use Rattle.c_type_expr.specs.Constants.{not_fixed, name_fixed, no_constant, calls_known}
+use Rattle.c_type_expr.specs.declared.spot.Spot.{Spot}
 use Rattle.c_type_expr.specs.Roles.{at}
 use Rattle.c_type_expr.proofs.Fixed.{fixed-Number, fixed-Name, fixed-Element, fixed-Call}
 use Rattle.c_type_expr.proofs.Fixed.{fixed-Group, fixed-Unary, fixed-Cast, fixed-Bump, fixed-Binary}
@@ -35,7 +36,7 @@ held false l e = absurd (cc)
 pub constant_fine : (G : Scope) (e : Expr) → IsConstant G e → not_fixed e G ≡ None
 constant_fine G _ (number {l = l} {v = v} {k = k}) = fixed-Number (at l (node.Number v k)) G v k refl
 constant_fine G _ (ending {l = l} {w = w} h) =
-    fixed-Name (at l (node.Name w)) G w refl ∙ ap (λ m. name_fixed m l) h
+    fixed-Name (at l (node.Name w)) G w refl ∙ ap (λ m. name_fixed m l.offset) h
 constant_fine G _ (group {l = l} {e = e} d) = fixed-Group (at l (node.Group e)) G e refl ∙ constant_fine G e d
 constant_fine G _ (operator {l = l} {op = op} {e = e} d) =
     fixed-Unary (at l (node.Unary op e)) G op e refl ∙ constant_fine G e d
@@ -51,7 +52,7 @@ abbrev Whole : Expr → Type 0
 Whole e = (G : Scope) → not_fixed e G ≡ None → IsConstant G e
 
 abbrev WholeNode : ExprNode → Type 0
-WholeNode n = (l : ℕ) → Whole (at l n)
+WholeNode n = (l : Spot) → Whole (at l n)
 
 -- a name that is a constant is that of `EOF`
 is_ending : (m : Option Meaning) (l : ℕ) → name_fixed m l ≡ None → m ≡ Some meaning.EndOfFile
@@ -71,19 +72,19 @@ module _ (N E : Type 0) (node_of : N → ExprNode) (of : E → Expr) (whole : (e
   at_node (ExprNode-F.Number v k) l = subst (λ n. Whole (at l n)) (sym (node.rolls-Number v k)) (λ G h. number)
   at_node (ExprNode-F.Name w) l =
       subst (λ n. Whole (at l n)) (sym (node.rolls-Name w))
-      (λ G h. ending (is_ending (look_up G w) l (sym (fixed-Name (at l (node.Name w)) G w refl) ∙ h)))
+      (λ G h. ending (is_ending (look_up G w) l.offset (sym (fixed-Name (at l (node.Name w)) G w refl) ∙ h)))
   at_node (ExprNode-F.Element w None i) l =
       subst (λ n. Whole (at l n)) (sym (node.rolls-Element w None (of i)))
-      (λ G h. absurd (false≢true (no_name (is_some (look_up G w)) l
+      (λ G h. absurd (false≢true (no_name (is_some (look_up G w)) l.offset
       (split _ _ (sym (fixed-Element (at l (node.Element w None (of i))) G w None (of i) refl) ∙ h)).1)))
   at_node (ExprNode-F.Element w (Some x) i) l =
       subst (λ n. Whole (at l n)) (sym (node.rolls-Element w (Some (of x)) (of i)))
-      (λ G h. absurd (false≢true (no_name (is_some (look_up G w)) l
+      (λ G h. absurd (false≢true (no_name (is_some (look_up G w)) l.offset
       (split _ _ (split _ _ (sym (fixed-Element (at l (node.Element w (Some (of x)) (of i))) G w (Some (of x)) (of i)
       refl) ∙ h)).1).1)))
   at_node (ExprNode-F.Call w es) l =
       subst (λ n. Whole (at l n)) (sym (node.rolls-Call w (map of es)))
-      (λ G h. absurd (false≢true (no_name (calls_known (look_up G w)) l
+      (λ G h. absurd (false≢true (no_name (calls_known (look_up G w)) l.offset
       (split _ _ (sym (fixed-Call (at l (node.Call w (map of es))) G w (map of es) refl) ∙ h)).1)))
   at_node (ExprNode-F.Group e) l =
       subst (λ n. Whole (at l n)) (sym (node.rolls-Group (of e)))
@@ -96,7 +97,7 @@ module _ (N E : Type 0) (node_of : N → ExprNode) (of : E → Expr) (whole : (e
       (λ G h. conversion (whole e G (sym (fixed-Cast (at l (node.Cast k (of e))) G k (of e) refl) ∙ h)))
   at_node (ExprNode-F.Bump op e) l =
       subst (λ n. Whole (at l n)) (sym (node.rolls-Bump op (of e)))
-      (λ G h. absurd (false≢true (held false l
+      (λ G h. absurd (false≢true (held false l.offset
       (split _ _ (sym (fixed-Bump (at l (node.Bump op (of e))) G op (of e) refl) ∙ h)).1)))
   at_node (ExprNode-F.Binary op x y) l =
       subst (λ n. Whole (at l n)) (sym (node.rolls-Binary op (of x) (of y)))
@@ -112,11 +113,11 @@ module _ (N E : Type 0) (node_of : N → ExprNode) (of : E → Expr) (whole : (e
       subst (λ n. Whole (at l n)) (sym (node.rolls-Assign op (of x) (of y)))
       (λ G h. let q = split _ _ (sym (fixed-Assign (at l (node.Assign op (of x) (of y))) G op (of x) (of y) refl) ∙ h)
       in
-      absurd (false≢true (held false l (split _ _ q.1).1)))
+      absurd (false≢true (held false l.offset (split _ _ q.1).1)))
   at_node (ExprNode-F.Comma x y) l =
       subst (λ n. Whole (at l n)) (sym (node.rolls-Comma (of x) (of y)))
       (λ G h. let q = split _ _ (sym (fixed-Comma (at l (node.Comma (of x) (of y))) G (of x) (of y) refl) ∙ h) in
-      absurd (false≢true (held false l (split _ _ q.1).1)))
+      absurd (false≢true (held false l.offset (split _ _ q.1).1)))
 
 -- an expression of which no part is none is a constant expression
 pub constant_typed : (e : Expr) → Whole e
@@ -124,4 +125,4 @@ constant_typed =
     ind-Expr WholeNode Whole
     (λ x y e. subst (λ (x : ExprNode-F ExprNode Expr). WholeNode (roll-ExprNode x)) e
     (at_node _ _ (λ e'. e'.0) (λ e'. e'.0) (λ s. s.1) y))
-    (λ x y e. subst (λ (x : Expr-F ExprNode Expr). Whole (roll-Expr x)) e (y.node.1 y.offset))
+    (λ x y e. subst (λ (x : Expr-F ExprNode Expr). Whole (roll-Expr x)) e (y.node.1 (record { offset = y.offset; at = y.at })))

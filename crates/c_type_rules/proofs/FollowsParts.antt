@@ -19,7 +19,7 @@ use Rattle.c_type_expr.specs.Faults.{fault, call_fault, slots_of, role_at, rest_
 use Rattle.c_type_expr.specs.inside.Faults.{args_fault}
 use Rattle.c_type_expr.specs.Constants.{not_fixed, all_fixed, no_constant, calls_known, full}
 use Rattle.c_type_expr.specs.Constants.{full_constant, size_fault}
-use Rattle.c_type_expr.specs.Roles.{at}
+use Rattle.c_type_expr.specs.Roles.{at, spot_of}
 use Rattle.c_type_expr.proofs.Nodes.{fault-Number, fault-Name, fault-Element, fault-Row, fault-Call}
 use Rattle.c_type_expr.proofs.Nodes.{fault-Group, fault-Unary, fault-Cast, fault-Bump, fault-Binary}
 use Rattle.c_type_expr.proofs.Nodes.{fault-Choice, fault-Assign, fault-Comma}
@@ -112,39 +112,39 @@ constants_follow G (e ∷ d ∷ es) b =
 
 module _ (G : Scope) (r : Role) (e : Expr) where
   -- the same expression with another node
-  by_node : (n : ExprNode) → e.node ≡ n → fault e G r ≡ fault (at e.offset n) G r
-  by_node n h = ap (λ n. fault (at e.offset n) G r) h
+  by_node : (n : ExprNode) → e.node ≡ n → fault e G r ≡ fault (at (spot_of e) n) G r
+  by_node n h = ap (λ n. fault (at (spot_of e) n) G r) h
 
   -- the fault of an expression is the first one of its parts
   pub expression_follows : (x : ExprNode-F ExprNode Expr) → out-ExprNode e.node ≡ x
       → fault e G r ≡ first_of (expression_parts G r e.offset x)
   expression_follows (ExprNode-F.Number v k) h =
-      by_node _ (node_is _ _ h ∙ node.rolls-Number v k) ∙ fault-Number G r e.offset v k
+      by_node _ (node_is _ _ h ∙ node.rolls-Number v k) ∙ fault-Number G r (spot_of e) v k
   expression_follows (ExprNode-F.Name w) h =
-      by_node _ (node_is _ _ h ∙ node.rolls-Name w) ∙ fault-Name G r e.offset w
+      by_node _ (node_is _ _ h ∙ node.rolls-Name w) ∙ fault-Name G r (spot_of e) w
   expression_follows (ExprNode-F.Element w None i) h =
-      by_node _ (node_is _ _ h ∙ node.rolls-Element w None i) ∙ fault-Element G r e.offset w i
+      by_node _ (node_is _ _ h ∙ node.rolls-Element w None i) ∙ fault-Element G r (spot_of e) w i
   expression_follows (ExprNode-F.Element w (Some x) i) h =
-      by_node _ (node_is _ _ h ∙ node.rolls-Element w (Some x) i) ∙ fault-Row G r e.offset w x i
+      by_node _ (node_is _ _ h ∙ node.rolls-Element w (Some x) i) ∙ fault-Row G r (spot_of e) w x i
   expression_follows (ExprNode-F.Call w es) h =
-      by_node _ (node_is _ _ h ∙ node.rolls-Call w es) ∙ fault-Call G r e.offset w es
+      by_node _ (node_is _ _ h ∙ node.rolls-Call w es) ∙ fault-Call G r (spot_of e) w es
       ∙ arguments_follow G (slots_of (look_up G w)) es (call_fault (look_up G w) (length es) r e.offset)
   expression_follows (ExprNode-F.Group x) h =
-      by_node _ (node_is _ _ h ∙ node.rolls-Group x) ∙ fault-Group G r e.offset x
+      by_node _ (node_is _ _ h ∙ node.rolls-Group x) ∙ fault-Group G r (spot_of e) x
   expression_follows (ExprNode-F.Unary op x) h =
-      by_node _ (node_is _ _ h ∙ node.rolls-Unary op x) ∙ fault-Unary G r e.offset op x
+      by_node _ (node_is _ _ h ∙ node.rolls-Unary op x) ∙ fault-Unary G r (spot_of e) op x
   expression_follows (ExprNode-F.Cast k x) h =
-      by_node _ (node_is _ _ h ∙ node.rolls-Cast k x) ∙ fault-Cast G r e.offset k x
+      by_node _ (node_is _ _ h ∙ node.rolls-Cast k x) ∙ fault-Cast G r (spot_of e) k x
   expression_follows (ExprNode-F.Bump op x) h =
-      by_node _ (node_is _ _ h ∙ node.rolls-Bump op x) ∙ fault-Bump G r e.offset op x
+      by_node _ (node_is _ _ h ∙ node.rolls-Bump op x) ∙ fault-Bump G r (spot_of e) op x
   expression_follows (ExprNode-F.Binary op x y) h =
-      by_node _ (node_is _ _ h ∙ node.rolls-Binary op x y) ∙ fault-Binary G r e.offset op x y
+      by_node _ (node_is _ _ h ∙ node.rolls-Binary op x y) ∙ fault-Binary G r (spot_of e) op x y
   expression_follows (ExprNode-F.Choice t x y) h =
-      by_node _ (node_is _ _ h ∙ node.rolls-Choice t x y) ∙ fault-Choice G r e.offset t x y
+      by_node _ (node_is _ _ h ∙ node.rolls-Choice t x y) ∙ fault-Choice G r (spot_of e) t x y
   expression_follows (ExprNode-F.Assign op x y) h =
-      by_node _ (node_is _ _ h ∙ node.rolls-Assign op x y) ∙ fault-Assign G r e.offset op x y
+      by_node _ (node_is _ _ h ∙ node.rolls-Assign op x y) ∙ fault-Assign G r (spot_of e) op x y
   expression_follows (ExprNode-F.Comma x y) h =
-      by_node _ (node_is _ _ h ∙ node.rolls-Comma x y) ∙ fault-Comma G r e.offset x y
+      by_node _ (node_is _ _ h ∙ node.rolls-Comma x y) ∙ fault-Comma G r (spot_of e) x y
 
 module _ (G : Scope) (e : Expr) where
   -- the fault of a constant expression is the first one of its parts

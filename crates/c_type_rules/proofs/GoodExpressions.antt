@@ -13,6 +13,7 @@ use Rattle.c_type_expr.specs.declared.role.Role.TheVariants.{Value, Free}
 use Rattle.c_type_expr.specs.Blames.{Blame, unless}
 use Rattle.c_type_expr.specs.Faults.{unwanted_value, is_place, slots_of, role_at, rest_of, left_role}
 use Rattle.c_type_expr.specs.Constants.{calls_known}
+use Rattle.c_type_expr.specs.declared.spot.Spot.{Spot}
 use Rattle.c_type_expr.specs.Roles.{at}
 use Rattle.c_type_rules.specs.Judgements.{Judgement, a_test, an_expression, a_full, an_optional}
 use Rattle.c_type_rules.specs.Judgements.{a_constant, a_full_constant, a_size, argument_parts}
@@ -27,9 +28,9 @@ record GoodExpr (e : Expr) : Type 0 where
   asked : (G : Scope) (r : Role) → Good (an_expression G r e)
   fixed : (G : Scope) → Good (a_constant G e)
 
--- the same of a node at any offset
+-- the same of a node at any spot
 abbrev GoodNode : ExprNode → Type 0
-GoodNode n = (l : ℕ) → GoodExpr (at l n)
+GoodNode n = (l : Spot) → GoodExpr (at l n)
 
 -- one test, and then no more
 last : (b : Blame) → Sane b → AllGood (a_test b ∷ [])
@@ -112,9 +113,9 @@ module _ (N E : Type 0) (node_of : N → ExprNode) (of : E → Expr) (good : (e 
       let e = at l (roll-ExprNode x) in
       record {
         asked = λ G r. good_by (an_expression G r e) (follows (an_expression G r e))
-            (subst (λ x. AllGood (expression_parts G r l x)) (sym (out-roll-ExprNode x)) (each_part G r l y));
+            (subst (λ x. AllGood (expression_parts G r l.offset x)) (sym (out-roll-ExprNode x)) (each_part G r l.offset y));
         fixed = λ G. good_by (a_constant G e) (follows (a_constant G e))
-            (subst (λ x. AllGood (constant_parts G l x)) (sym (out-roll-ExprNode x)) (each_constant G l y));
+            (subst (λ x. AllGood (constant_parts G l.offset x)) (sym (out-roll-ExprNode x)) (each_constant G l.offset y));
       }
 
 good_expr : (e : Expr) → GoodExpr e
@@ -122,7 +123,7 @@ good_expr =
     ind-Expr GoodNode GoodExpr
     (λ x y e. subst (λ (x : ExprNode-F ExprNode Expr). GoodNode (roll-ExprNode x)) e
     (at_node _ _ (λ e'. e'.0) (λ e'. e'.0) (λ s. s.1) y))
-    (λ x y e. subst (λ (x : Expr-F ExprNode Expr). GoodExpr (roll-Expr x)) e (y.node.1 y.offset))
+    (λ x y e. subst (λ (x : Expr-F ExprNode Expr). GoodExpr (roll-Expr x)) e (y.node.1 (record { offset = y.offset; at = y.at })))
 
 -- a full expression, one that may be left out, a constant expression and a size are good
 pub full_good : (G : Scope) (r : Role) (e : Expr) → Good (a_full G r e)

@@ -39,7 +39,7 @@ use Rattle.c_type_rules.proofs.TypedNeeds.{by}
 
 -- an expression of a type
 abbrev of : Kind → Node → TypedExpr
-of k n = record { kind = Some k; node = roll-TypedNode n }
+of k n = record { kind = Some k; at = 0; node = roll-TypedNode n }
 
 -- a statement of its node
 abbrev statement : Level → TypedStmt
@@ -83,7 +83,7 @@ module _ (P : TypedProgram) (f : TypedFunc) where
 
   -- a number needs one temporary
   one_need : (k : Kind) (w : ℕ) → FitsNeed (of k (Number w))
-  one_need k w = subst (λ (n : Needs). n.need ≤ 16) (sym (by (Some k) _ (Number w) refl)) (omega arith)
+  one_need k w = subst (λ (n : Needs). n.need ≤ 16) (sym (by 0 (Some k) _ (Number w) refl)) (omega arith)
 
   -- THE TYPES OF OPERANDS
 

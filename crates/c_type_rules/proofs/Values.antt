@@ -93,32 +93,32 @@ module _ (P : TypedProgram) (f : TypedFunc) where
   closed r n x e g = subst (Gives P f r) (sym (opened n x e)) g
 
   -- a value that is no object fits where a value may stand
-  value_fits : (r : Role) (k : Kind) (n : TypedNode) → takes_value r ≡ true → Gives P f (Some k) (out-TypedNode n)
-      → Fits r (a (Some k) n)
-  value_fits Value k n h g = record { kind = k; is = refl; gives = g }
-  value_fits Free k n h g = g
-  value_fits Written k n h g = absurd (false≢true h)
-  value_fits (Array j q) k n h g = absurd (false≢true h)
-  value_fits Surplus k n h g = tt
+  value_fits : (l : ℕ) (r : Role) (k : Kind) (n : TypedNode) → takes_value r ≡ true → Gives P f (Some k) (out-TypedNode n)
+      → Fits r (a l (Some k) n)
+  value_fits l Value k n h g = record { kind = k; is = refl; gives = g }
+  value_fits l Free k n h g = g
+  value_fits l Written k n h g = absurd (false≢true h)
+  value_fits l (Array j q) k n h g = absurd (false≢true h)
+  value_fits l Surplus k n h g = tt
 
   -- the name of a scalar
-  scalar_fits : (r : Role) (k : Kind) (p : Place) → takes_element r ≡ true → scalar_at P f p ≡ Some k
-      → Fits r (a (Some k) (typed.Name p))
-  scalar_fits Value k p h s = record
+  scalar_fits : (l : ℕ) (r : Role) (k : Kind) (p : Place) → takes_element r ≡ true → scalar_at P f p ≡ Some k
+      → Fits r (a l (Some k) (typed.Name p))
+  scalar_fits l Value k p h s = record
       { kind = k; is = refl; gives = closed _ _ _ (typed.rolls-Name p) (rule.scalar s) }
-  scalar_fits Free k p h s = closed _ _ _ (typed.rolls-Name p) (rule.scalar s)
-  scalar_fits Written k p h s = record
+  scalar_fits l Free k p h s = closed _ _ _ (typed.rolls-Name p) (rule.scalar s)
+  scalar_fits l Written k p h s = record
       { kind = k; is = refl; object = named refl (opened _ _ (typed.rolls-Name p)) s }
-  scalar_fits (Array j q) k p h s = absurd (false≢true h)
-  scalar_fits Surplus k p h s = tt
+  scalar_fits l (Array j q) k p h s = absurd (false≢true h)
+  scalar_fits l Surplus k p h s = tt
 
   -- the name of an array
-  array_fits : (r : Role) (k : Kind) (q : Option ℕ) (p : Place) → takes_array k q r ≡ true
-      → array_at P f p ≡ Some (shape k q) → Fits r (a (Some k) (typed.Name p))
-  array_fits Value k q p h s = absurd (false≢true h)
-  array_fits Free k q p h s = absurd (false≢true h)
-  array_fits Written k q p h s = absurd (false≢true h)
-  array_fits (Array j o) k q p h s =
+  array_fits : (l : ℕ) (r : Role) (k : Kind) (q : Option ℕ) (p : Place) → takes_array k q r ≡ true
+      → array_at P f p ≡ Some (shape k q) → Fits r (a l (Some k) (typed.Name p))
+  array_fits l Value k q p h s = absurd (false≢true h)
+  array_fits l Free k q p h s = absurd (false≢true h)
+  array_fits l Written k q p h s = absurd (false≢true h)
+  array_fits l (Array j o) k q p h s =
       let b = both _ (same_row q o) h in
       let e = kinds_are k j b.0 in
       record {
@@ -127,52 +127,52 @@ module _ (P : TypedProgram) (f : TypedFunc) where
         node = opened _ _ (typed.rolls-Name p);
         array = s ∙ ap (λ k. Some (shape k q)) e ∙ ap (λ q. Some (shape j q)) (rows_are q o b.1);
       }
-  array_fits Surplus k q p h s = tt
+  array_fits l Surplus k q p h s = tt
 
   -- an element
-  element_fits : (r : Role) (k j : Kind) (p : Place) (i : TypedExpr) → takes_element r ≡ true
-      → array_at P f p ≡ Some (shape k None) → Has P f j i → Fits r (a (Some k) (typed.Element p None i))
-  element_fits Value k j p i h s g =
+  element_fits : (m : ℕ) (r : Role) (k j : Kind) (p : Place) (i : TypedExpr) → takes_element r ≡ true
+      → array_at P f p ≡ Some (shape k None) → Has P f j i → Fits r (a m (Some k) (typed.Element p None i))
+  element_fits m Value k j p i h s g =
       record { kind = k; is = refl; gives = closed _ _ _ (typed.rolls-Element p None i) (rule.element s g) }
-  element_fits Free k j p i h s g = closed _ _ _ (typed.rolls-Element p None i) (rule.element s g)
-  element_fits Written k j p i h s g =
+  element_fits m Free k j p i h s g = closed _ _ _ (typed.rolls-Element p None i) (rule.element s g)
+  element_fits m Written k j p i h s g =
       record { kind = k; is = refl; object = indexed refl (opened _ _ (typed.rolls-Element p None i)) s g }
-  element_fits (Array l q) k j p i h s g = absurd (false≢true h)
-  element_fits Surplus k j p i h s g = tt
+  element_fits m (Array l q) k j p i h s g = absurd (false≢true h)
+  element_fits m Surplus k j p i h s g = tt
 
   -- an element by two indexes
-  row_element_fits : (r : Role) (k i j : Kind) (n : ℕ) (p : Place) (x y : TypedExpr) → takes_element r ≡ true
+  row_element_fits : (m : ℕ) (r : Role) (k i j : Kind) (n : ℕ) (p : Place) (x y : TypedExpr) → takes_element r ≡ true
       → array_at P f p ≡ Some (shape k (Some n)) → Has P f i x → Has P f j y
-      → Fits r (a (Some k) (typed.Element p (Some x) y))
-  row_element_fits Value k i j n p x y h s g g' = record {
+      → Fits r (a m (Some k) (typed.Element p (Some x) y))
+  row_element_fits m Value k i j n p x y h s g g' = record {
     kind = k;
     is = refl;
     gives = closed _ _ _ (typed.rolls-Element p (Some x) y) (rule.row_element s g g');
   }
-  row_element_fits Free k i j n p x y h s g g' =
+  row_element_fits m Free k i j n p x y h s g g' =
       closed _ _ _ (typed.rolls-Element p (Some x) y) (rule.row_element s g g')
-  row_element_fits Written k i j n p x y h s g g' = record {
+  row_element_fits m Written k i j n p x y h s g g' = record {
     kind = k;
     is = refl;
     object = row_indexed refl (opened _ _ (typed.rolls-Element p (Some x) y)) s g g';
   }
-  row_element_fits (Array l q) k i j n p x y h s g g' = absurd (false≢true h)
-  row_element_fits Surplus k i j n p x y h s g g' = tt
+  row_element_fits m (Array l q) k i j n p x y h s g g' = absurd (false≢true h)
+  row_element_fits m Surplus k i j n p x y h s g g' = tt
 
   -- a call without a value
-  void_fits : (r : Role) (n : TypedNode) → takes_result None r ≡ true → Gives P f None (out-TypedNode n)
-      → Fits r (a None n)
-  void_fits Value n h g = absurd (false≢true h)
-  void_fits Free n h g = g
-  void_fits Written n h g = absurd (false≢true h)
-  void_fits (Array j q) n h g = absurd (false≢true h)
-  void_fits Surplus n h g = absurd (false≢true h)
+  void_fits : (l : ℕ) (r : Role) (n : TypedNode) → takes_result None r ≡ true → Gives P f None (out-TypedNode n)
+      → Fits r (a l None n)
+  void_fits l Value n h g = absurd (false≢true h)
+  void_fits l Free n h g = g
+  void_fits l Written n h g = absurd (false≢true h)
+  void_fits l (Array j q) n h g = absurd (false≢true h)
+  void_fits l Surplus n h g = absurd (false≢true h)
 
   -- a call
-  call_fits : (r : Role) (result : Option Kind) (n : TypedNode) → takes_result result r ≡ true
-      → Gives P f result (out-TypedNode n) → Fits r (a result n)
-  call_fits r None n h g = void_fits r n h g
-  call_fits r (Some k) n h g = value_fits r k n h g
+  call_fits : (l : ℕ) (r : Role) (result : Option Kind) (n : TypedNode) → takes_result result r ≡ true
+      → Gives P f result (out-TypedNode n) → Fits r (a l result n)
+  call_fits l r None n h g = void_fits l r n h g
+  call_fits l r (Some k) n h g = value_fits l r k n h g
 
   -- a value that no conversion gives has its type
   pub plain_has : (t : TypedExpr) (p : Plain t) → Has P f p.kind t
@@ -185,7 +185,7 @@ module _ (P : TypedProgram) (f : TypedFunc) where
       is : kind_of t ≡ p.kind
       is = ap kind_in p.is
 
-      by : (b : Bool) → same_kind (kind_of t) k ≡ b → Has P f k (cond b t (a (Some k) (typed.Convert k t)))
+      by : (b : Bool) → same_kind (kind_of t) k ≡ b → Has P f k (cond b t (a t.at (Some k) (typed.Convert k t)))
       by true e = itself (p.is ∙ ap Some (sym is ∙ kinds_are _ _ e))
           (subst (λ j. Gives P f (Some j) (node_of t)) (sym is ∙ kinds_are _ _ e) p.gives)
       by false e = rule.converted refl (opened _ _ (typed.rolls-Convert k t)) p.is
@@ -196,70 +196,70 @@ module _ (P : TypedProgram) (f : TypedFunc) where
   object t w = subst (λ k. IsObject P f k t) (sym (ap kind_in w.is)) w.object
 
   -- a comma has the type of its right side
-  sequence : (r : Role) (s t : TypedExpr) → takes_value r ≡ true → Gives P f s.kind (node_of s) → Plain t
-      → Fits r (comma s t)
-  sequence r s t h g p =
-      subst (λ k. Fits r (a k (typed.Comma s t))) (sym p.is)
-      (value_fits r p.kind _ h (closed _ _ _ (typed.rolls-Comma s t) (rule.comma g (plain_has t p))))
+  sequence : (l : ℕ) (r : Role) (s t : TypedExpr) → takes_value r ≡ true → Gives P f s.kind (node_of s) → Plain t
+      → Fits r (comma l s t)
+  sequence l r s t h g p =
+      subst (λ k. Fits r (a l k (typed.Comma s t))) (sym p.is)
+      (value_fits l r p.kind _ h (closed _ _ _ (typed.rolls-Comma s t) (rule.comma g (plain_has t p))))
 
   module _ (G : Scope) (knows : Knows P f G) where
     mutual
       -- a typed expression is what its role wants
       pub fits : (r : Role) (e : Expr) (t : TypedExpr) → Typed G r e t → Fits r t
       fits _ _ _ (typing.number {r = r} {v = v} {k = k} h) =
-          value_fits r k _ h (closed _ _ _ (typed.rolls-Number v) rule.number)
-      fits _ _ _ (typing.scalar {r = r} {w = w} {k = k} {p = p} m h) = scalar_fits r k p h (knows w _ m)
-      fits _ _ _ (typing.array {r = r} {w = w} {k = k} {q = q} {p = p} m h) = array_fits r k q p h (knows w _ m)
-      fits _ _ _ (typing.ending {r = r} m h) = value_fits r Int _ h (closed _ _ _ (typed.rolls-Number _) rule.number)
+          value_fits _ r k _ h (closed _ _ _ (typed.rolls-Number v) rule.number)
+      fits _ _ _ (typing.scalar {r = r} {w = w} {k = k} {p = p} m h) = scalar_fits _ r k p h (knows w _ m)
+      fits _ _ _ (typing.array {r = r} {w = w} {k = k} {q = q} {p = p} m h) = array_fits _ r k q p h (knows w _ m)
+      fits _ _ _ (typing.ending {r = r} m h) = value_fits _ r Int _ h (closed _ _ _ (typed.rolls-Number _) rule.number)
       fits _ _ _ (typing.element {r = r} {w = w} {k = k} {p = p} {i = i} {j = j} d m h) =
-          let x = fits Value i j d in element_fits r k x.kind p j h (knows w _ m) (plain_has j x)
+          let x = fits Value i j d in element_fits _ r k x.kind p j h (knows w _ m) (plain_has j x)
       fits _ _ _ (typing.row_element {r = r} {n = n} {w = w} {k = k} {p = p} {x = x} {i = i} {y = y} {j = j} d d' m
           h) =
           let c = fits Value x y d in
           let e = fits Value i j d' in
-          row_element_fits r k c.kind e.kind n p y j h (knows w _ m) (plain_has y c) (plain_has j e)
+          row_element_fits _ r k c.kind e.kind n p y j h (knows w _ m) (plain_has y c) (plain_has j e)
       fits _ _ _ (typing.call {r = r} {w = w} {result = result} {slots = slots} {c = c} {es = es} {ts = ts} m ps h) =
-          call_fits r result _ h (closed _ _ _ (typed.rolls-Call c ts)
+          call_fits _ r result _ h (closed _ _ _ (typed.rolls-Call c ts)
           (rule.call (knows w _ m) (passes slots es ts ps)))
       fits _ _ _ (typing.group {r = r} {e = e} {t = t} d) = fits r e t d
       fits _ _ _ (typing.operator {r = r} {op = op} {e = e} {t = t} d h) =
           let k = unary_at op (kind_of t) in
-          value_fits r (unary_result op k) _ h
+          value_fits _ r (unary_result op k) _ h
           (closed _ _ _ (typed.rolls-Unary op (with_convert k t))
           (rule.unary (converted_has k t (fits Value e t d)) (unary_settled op (kind_of t)) refl))
       fits _ _ _ (typing.conversion {r = r} {to = to} {e = e} {t = t} d h) =
-          value_fits r to _ h (closed _ _ _ (typed.rolls-Cast to t) (rule.cast (plain_has t (fits Value e t d))))
+          value_fits _ r to _ h (closed _ _ _ (typed.rolls-Cast to t) (rule.cast (plain_has t (fits Value e t d))))
       fits _ _ _ (typing.step {r = r} {op = op} {e = e} {t = t} p d h) =
-          value_fits r (kind_of t) _ h
+          value_fits _ r (kind_of t) _ h
           (closed _ _ _ (typed.rolls-Bump op t) (rule.bump (object t (fits Written e t d))))
       fits _ _ _ (typing.operation {r = r} {op = op} {x = x} {y = y} {s = s} {t = t} d d' h) =
           let j = left_at op (kind_of s) (kind_of t) in
           let k = right_at op (kind_of s) (kind_of t) in
           let c = settled op (kind_of s) (kind_of t) in
-          value_fits r (result_of op j) _ h
+          value_fits _ r (result_of op j) _ h
           (closed _ _ _ (typed.rolls-Binary op (with_convert j s) (with_convert k t))
           (rule.binary (converted_has j s (fits Value x s d))
           (converted_has k t (fits Value y t d')) c.left c.right refl))
       fits _ _ _ (typing.either {r = r} {c = c} {x = x} {y = y} {d = d} {s = s} {t = t} d1 d2 d3 h) =
           let k = common (kind_of s) (kind_of t) in
-          value_fits r k _ h
+          value_fits _ r k _ h
           (closed _ _ _ (typed.rolls-Choice d (with_convert k s) (with_convert k t))
           (rule.choice (plain_has d (fits Value c d d1)) (converted_has k s (fits Value x s d2))
           (converted_has k t (fits Value y t d3)) (commons (kind_of s) (kind_of t)).itself))
       fits _ _ _ (typing.assignment {r = r} {op = None} {x = x} {y = y} {s = s} {t = t} p d d' h) =
           let k = kind_of s in
-          value_fits r k _ h
+          value_fits _ r k _ h
           (closed _ _ _ (typed.rolls-Assign None k s (with_convert k t))
           (rule.assign (object s (fits Written x s d)) (converted_has k t (fits Value y t d'))))
       fits _ _ _ (typing.assignment {r = r} {op = Some op} {x = x} {y = y} {s = s} {t = t} p d d' h) =
           let j = left_at op (kind_of s) (kind_of t) in
           let k = right_at op (kind_of s) (kind_of t) in
           let c = settled op (kind_of s) (kind_of t) in
-          value_fits r (kind_of s) _ h
+          value_fits _ r (kind_of s) _ h
           (closed _ _ _ (typed.rolls-Assign (Some op) j s (with_convert k t))
           (rule.compound (object s (fits Written x s d)) (converted_has k t (fits Value y t d')) c.at c.from))
       fits _ _ _ (typing.sequence {r = r} {x = x} {y = y} {s = s} {t = t} d d' h) =
-          sequence r s t h (fits Free x s d) (fits Value y t d')
+          sequence _ r s t h (fits Free x s d) (fits Value y t d')
 
       passes : (slots : List Slot) (es : List Expr) (ts : List TypedExpr) → Passed G slots es ts → Passes P f slots ts
       passes _ _ _ typing.none = rule.end

@@ -17,27 +17,27 @@ use Rattle.flat_lower.specs.inside.Tree.{Binary, Choice, Assign, Comma, kind_of,
 use Rattle.flat_lower.specs.inside.TreeViews.{Kindless, node_by, expr_by, expr_of}
 use Rattle.flat_lower.specs.inside.Emitted.{args_of}
 
-abbrev at : Option Kind → TypedNode → TypedExpr
-at k n = record { kind = k; node = n }
+abbrev at : ℕ → Option Kind → TypedNode → TypedExpr
+at l k n = record { kind = k; at = l; node = n }
 
 -- an expression by one level of its node
 abbrev pub level : TypedNode-F TypedNode TypedExpr → Kindless
 level x = node_by (map-TypedNode TypedNode TypedExpr Kindless Expr
     (fold-TypedNode Kindless Expr node_by expr_by) expr_of x)
 
-expr_is : (k : Option Kind) (n : TypedNode) (x : TypedNode-F TypedNode TypedExpr)
+expr_is : (l : ℕ) (k : Option Kind) (n : TypedNode) (x : TypedNode-F TypedNode TypedExpr)
     → roll-TypedNode x ≡ n
-    → expr_of (at k n) ≡ level x k
+    → expr_of (at l k n) ≡ level x k
 unfolding expr_of
-expr_is k n x e =
-    fold_out-TypedExpr Kindless Expr node_by expr_by (at k n)
+expr_is l k n x e =
+    fold_out-TypedExpr Kindless Expr node_by expr_by (at l k n)
     ∙ ap (λ (m : TypedNode). fold-TypedNode Kindless Expr node_by expr_by m k) (sym e)
     ∙ ap (λ (f : Kindless). f k) (fold-roll-TypedNode Kindless Expr node_by expr_by x)
 
 module _ (f : TypedExpr) where
   by : (n : TypedNode) (x : TypedNode-F TypedNode TypedExpr) → roll-TypedNode x ≡ n → f.node ≡ n
       → expr_of f ≡ level x f.kind
-  by n x e h = ap (λ m. expr_of (at f.kind m)) h ∙ expr_is f.kind n x e
+  by n x e h = ap (λ m. expr_of (at f.at f.kind m)) h ∙ expr_is f.at f.kind n x e
 
   -- What a number is as plain data.
   pub expr-Number : (w : ℕ) → f.node ≡ node.Number w → expr_of f ≡ Number f.kind w

@@ -21,9 +21,9 @@ number v = at 1 (node.Number v Int)
 -- `(1 + 2)`: the sum and the two numbers
 grouped : expr_nodes (at 1 (node.Group (at 1 (node.Binary Add (number 1) (number 2))))) ≡ 3
 grouped =
-    let g = nodes-Group 1 (at 1 (node.Binary Add (number 1) (number 2))) in
-    let b = nodes-Binary 1 Add (number 1) (number 2) in
-    let x = nodes-Number 1 1 Int in let y = nodes-Number 1 2 Int in omega arith
+    let g = nodes-Group 1 1 (at 1 (node.Binary Add (number 1) (number 2))) in
+    let b = nodes-Binary 1 1 Add (number 1) (number 2) in
+    let x = nodes-Number 1 1 1 Int in let y = nodes-Number 1 1 2 Int in omega arith
 
 -- `switch (1) { case 1: default: ; }`: two of its own, the test, the section, two labels and the statement
 chosen : stmt_nodes (s.at 1 (stmt.Switch (number 1)
@@ -32,7 +32,7 @@ chosen =
     let ls = s.labelled 1 (Some (number 1)) ∷ s.labelled 1 None ∷ [] in
     let ss = s.at 1 (stmt.Plain None) ∷ [] in
     let w = nodes-Switch 1 (number 1) (s.sectioned ls ss ∷ []) in let x = nodes-section ls ss in
-    let p = nodes-Plain 1 None in let y = nodes-Number 1 1 Int in omega arith
+    let p = nodes-Plain 1 None in let y = nodes-Number 1 1 1 Int in omega arith
 
 -- `while (1) ;`
 abbrev endless : Stmt
@@ -53,4 +53,4 @@ counted =
     let b = nodes-Compound 1 (endless ∷ returned ∷ []) in
     let w = nodes-While 1 (number 1) (s.at 1 (stmt.Plain None)) in let p = nodes-Plain 1 None in
     let r = nodes-Return 1 (Some (number 2)) in
-    let x = nodes-Number 1 1 Int in let y = nodes-Number 1 2 Int in omega arith
+    let x = nodes-Number 1 1 1 Int in let y = nodes-Number 1 1 2 Int in omega arith

@@ -60,50 +60,50 @@ types_few signed_long_int = omega arith
 types_few unsigned_long = omega arith
 types_few unsigned_long_int = omega arith
 
-joined_few : (j : Joiner) (a b : Expr)
-    → expr_nodes (joined j a b) ≡ 1 + (expr_nodes a + expr_nodes b)
-joined_few (op o) a b = nodes-Binary a.offset o a b
-joined_few comma a b = nodes-Comma a.offset a b
+joined_few : (k : ℕ) (j : Joiner) (a b : Expr)
+    → expr_nodes (joined k j a b) ≡ 1 + (expr_nodes a + expr_nodes b)
+joined_few k (op o) a b = nodes-Binary a.offset k o a b
+joined_few k comma a b = nodes-Comma a.offset k a b
 
 prefixed_few : (l : ℕ) (p : Prefix) (x : Expr) → expr_nodes (prefixed l p x) ≡ 1 + expr_nodes x
-prefixed_few l (sign o) x = nodes-Unary l o x
-prefixed_few l increase x = nodes-Bump l bump.PreInc x
-prefixed_few l decrease x = nodes-Bump l bump.PreDec x
+prefixed_few l (sign o) x = nodes-Unary l l o x
+prefixed_few l increase x = nodes-Bump l l bump.PreInc x
+prefixed_few l decrease x = nodes-Bump l l bump.PreDec x
 
-suffixed_few : (p : Suffix) (x : Expr) → expr_nodes (suffixed p x) ≡ 1 + expr_nodes x
-suffixed_few increased x = nodes-Bump x.offset bump.PostInc x
-suffixed_few decreased x = nodes-Bump x.offset bump.PostDec x
+suffixed_few : (k : ℕ) (p : Suffix) (x : Expr) → expr_nodes (suffixed k p x) ≡ 1 + expr_nodes x
+suffixed_few k increased x = nodes-Bump x.offset k bump.PostInc x
+suffixed_few k decreased x = nodes-Bump x.offset k bump.PostDec x
 
 pub spells_few : {may : May} {p : e.Phrase} {d : ℕ} {f t : Tokens} → Spells may p d f t
     → phrase_nodes p + length t ≤ length f
-spells_few (e.number {l = l} {v = v} {k = k}) = let n = nodes-Number l v k in omega arith
-spells_few (e.name {l = l} {w = w}) = let n = nodes-Name l w in omega arith
+spells_few (e.number {l = l} {v = v} {k = k}) = let n = nodes-Number l l v k in omega arith
+spells_few (e.name {l = l} {w = w}) = let n = nodes-Name l l w in omega arith
 spells_few (e.group {l = l} {e = a} ok x) =
-    let h = spells_few x in let n = nodes-Group l a in omega arith
+    let h = spells_few x in let n = nodes-Group l l a in omega arith
 spells_few (e.element {l = l} {w = w} {e = a} ok x) =
-    let h = spells_few x in let n = nodes-Element l w None a in omega arith
+    let h = spells_few x in let n = nodes-Element l l w None a in omega arith
 spells_few (e.row_element {l = l} {w = w} {r = r} {e = a} ok x ok' y) =
-    let h = spells_few x in let i = spells_few y in let n = nodes-Element l w (Some r) a in omega arith
+    let h = spells_few x in let i = spells_few y in let n = nodes-Element l l w (Some r) a in omega arith
 spells_few (e.call {l = l} {w = w} {es = es} ok x) =
-    let h = spells_few x in let n = nodes-Call l w es in omega arith
+    let h = spells_few x in let n = nodes-Call l l w es in omega arith
 spells_few e.none = omega arith
 spells_few (e.some x) = spells_few x
 spells_few (e.last x) = let h = spells_few x in omega arith
 spells_few (e.next x y) = let h = spells_few x in let i = spells_few y in omega arith
-spells_few (e.suffix {e = a} p x) =
-    let h = spells_few x in let n = suffixed_few p a in omega arith
+spells_few (e.suffix {k = k} {e = a} p x) =
+    let h = spells_few x in let n = suffixed_few k p a in omega arith
 spells_few (e.prefix {l = l} {e = a} p ok x) =
     let h = spells_few x in let n = prefixed_few l p a in omega arith
 spells_few (e.cast {l = l} {c = c} {e = a} ok x y) =
-    let h = types_few x in let i = spells_few y in let n = nodes-Cast l c a in omega arith
-spells_few (e.join {a = a} {b = b} j x y) =
-    let h = spells_few x in let i = spells_few y in let n = joined_few j a b in omega arith
-spells_few (e.choice {a = a} {b = b} {c = c} x ok y z) =
+    let h = types_few x in let i = spells_few y in let n = nodes-Cast l l c a in omega arith
+spells_few (e.join {k = k} {a = a} {b = b} j x y) =
+    let h = spells_few x in let i = spells_few y in let n = joined_few k j a b in omega arith
+spells_few (e.choice {k = k} {a = a} {b = b} {c = c} x ok y z) =
     let h = spells_few x in let i = spells_few y in let j = spells_few z in
-    let n = nodes-Choice a.offset a b c in omega arith
-spells_few (e.assign {a = a} {b = b} p x ok y) =
+    let n = nodes-Choice a.offset k a b c in omega arith
+spells_few (e.assign {k = k} {a = a} {b = b} p x ok y) =
     let h = spells_few x in let i = spells_few y in
-    let n = nodes-Assign a.offset (assigner_op p) a b in omega arith
+    let n = nodes-Assign a.offset k (assigner_op p) a b in omega arith
 spells_few (e.up x) = spells_few x
 
 -- STATEMENTS

@@ -32,10 +32,10 @@ made : (n : ExprNode) (x : Node) → roll-ExprNode x ≡ n → NodeHasWords x
 made n x r h = subst NodeHasWords (sym (ap out-ExprNode (sym r) ∙ out-roll-ExprNode x)) h
 
 -- what an operator makes of operands with words has words
-joined_has : (j : Joiner) (a b : Expr) → ExprHasWords a → ExprHasWords b
-    → ExprHasWords (joined j a b)
-joined_has (op o) a b h k = made _ _ (node.rolls-Binary o a b) (has.operation h k)
-joined_has comma a b h k = made _ _ (node.rolls-Comma a b) (has.sequence h k)
+joined_has : (n : ℕ) (j : Joiner) (a b : Expr) → ExprHasWords a → ExprHasWords b
+    → ExprHasWords (joined n j a b)
+joined_has n (op o) a b h k = made _ _ (node.rolls-Binary o a b) (has.operation h k)
+joined_has n comma a b h k = made _ _ (node.rolls-Comma a b) (has.sequence h k)
 
 -- the operators of assignments are C's
 assigner_is : (s : Assigner) → IsAssigner (assigner_op s)
@@ -47,9 +47,9 @@ prefixed_has l (sign o) x h = made _ _ (node.rolls-Unary o x) (has.operator h)
 prefixed_has l increase x h = made _ _ (node.rolls-Bump bump.PreInc x) (has.step h)
 prefixed_has l decrease x h = made _ _ (node.rolls-Bump bump.PreDec x) (has.step h)
 
-suffixed_has : (s : Suffix) (x : Expr) → ExprHasWords x → ExprHasWords (suffixed s x)
-suffixed_has increased x h = made _ _ (node.rolls-Bump bump.PostInc x) (has.step h)
-suffixed_has decreased x h = made _ _ (node.rolls-Bump bump.PostDec x) (has.step h)
+suffixed_has : (n : ℕ) (s : Suffix) (x : Expr) → ExprHasWords x → ExprHasWords (suffixed n s x)
+suffixed_has n increased x h = made _ _ (node.rolls-Bump bump.PostInc x) (has.step h)
+suffixed_has n decreased x h = made _ _ (node.rolls-Bump bump.PostDec x) (has.step h)
 
 -- where the tokens have words, so has what stands behind a type that they name
 pub named_type : {l : ℕ} {k : Kind} {f t : Tokens} → Types l k f t → TokensHaveWords f
@@ -95,13 +95,13 @@ spelled (e.some x) h = spelled x h
 spelled (e.last x) h = let a = spelled x h in (has.one_expr a.0 has.no_expr, a.1.1)
 spelled (e.next x y) h =
     let a = spelled x h in let b = spelled y a.1.1 in (has.one_expr a.0 b.0, b.1)
-spelled (e.suffix s x) h = let a = spelled x h in (suffixed_has s _ a.0, a.1.1)
+spelled (e.suffix s x) h = let a = spelled x h in (suffixed_has _ s _ a.0, a.1.1)
 spelled (e.prefix p ok x) h = let a = spelled x h.1 in (prefixed_has _ p _ a.0, a.1)
 spelled (e.cast ok x y) h =
     let b = spelled y (named_type x h.1).1 in
     (made _ _ (node.rolls-Cast _ _) (has.conversion b.0), b.1)
 spelled (e.join j x y) h =
-    let a = spelled x h in let b = spelled y a.1.1 in (joined_has j _ _ a.0 b.0, b.1)
+    let a = spelled x h in let b = spelled y a.1.1 in (joined_has _ j _ _ a.0 b.0, b.1)
 spelled (e.choice x ok y z) h =
     let a = spelled x h in let b = spelled y a.1.1 in let c = spelled z b.1.1 in
     (made _ _ (node.rolls-Choice _ _ _) (has.either a.0 b.0 c.0), c.1)

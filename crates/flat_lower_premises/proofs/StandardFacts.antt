@@ -39,7 +39,7 @@ use Rattle.flat_lower_premises.proofs.TypedTreeSizes.{body_nodes, at_stmt, at_no
 -- A PROGRAM
 
 abbrev number : TypedExpr
-number = record { kind = Some Int; node = roll-TypedNode (node.Number 7) }
+number = record { kind = Some Int; at = 0; node = roll-TypedNode (node.Number 7) }
 
 abbrev returned : TypedStmt
 returned = roll-TypedStmt (stmt.Return (Some number))
@@ -130,7 +130,7 @@ seven_body : body_nodes main.body ≡ 3
 seven_body =
     let b = at_stmt main.body (stmt.Compound (returned ∷ [])) refl in
     let r = at_stmt returned (stmt.Return (Some number)) refl in
-    let n = at_node (Some Int) number.node (node.Number 7) refl in
+    let n = at_node 0 (Some Int) number.node (node.Number 7) refl in
     omega (arith, b.1, r.1, n.1)
 
 seven_nodes : HasFewNodes seven

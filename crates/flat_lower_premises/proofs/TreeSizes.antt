@@ -22,7 +22,7 @@ use Rattle.c_tree.specs.declared.tree.StmtNode.{StmtNode, map-StmtNode, fold-rol
 use Rattle.c_tree.specs.declared.tree.StmtNode.{fold-StmtNode, roll-StmtNode}
 use Rattle.c_tree.specs.declared.tree.StmtNode.TheVariants as stmt
 use Rattle.c_tree.specs.declared.tree.Top.{Top}
-use Rattle.c_grammar.specs.Operators.{at}
+use Rattle.c_grammar.specs.Operators.{told_at}
 use Rattle.c_grammar.specs.Statements as s
 use Rattle.flat_lower_premises.specs.inside.Nodes.{level_nodes, of_level, expr_nodes, exprs_nodes}
 use Rattle.flat_lower_premises.specs.inside.Nodes.{expr_if_nodes, stmt_level_nodes, first_level_nodes, of_stmt_level}
@@ -31,74 +31,74 @@ use Rattle.flat_lower_premises.specs.inside.Nodes.{section_level_nodes, section_
 
 -- EXPRESSIONS
 
-by_node : (l : ℕ) (n : ExprNode) (x : ExprNode-F ExprNode Expr) → roll-ExprNode x ≡ n
-    → expr_nodes (at l n) ≡ level_nodes (map-ExprNode ExprNode Expr ℕ ℕ
+by_node : (l m : ℕ) (n : ExprNode) (x : ExprNode-F ExprNode Expr) → roll-ExprNode x ≡ n
+    → expr_nodes (told_at l m n) ≡ level_nodes (map-ExprNode ExprNode Expr ℕ ℕ
     (fold-ExprNode ℕ ℕ level_nodes of_level) expr_nodes x)
 unfolding expr_nodes
-by_node l n x e =
-    fold_out-Expr ℕ ℕ level_nodes of_level (at l n)
-    ∙ ap (λ (m : ExprNode). fold-ExprNode ℕ ℕ level_nodes of_level m) (sym e)
+by_node l m n x e =
+    fold_out-Expr ℕ ℕ level_nodes of_level (told_at l m n)
+    ∙ ap (λ (n : ExprNode). fold-ExprNode ℕ ℕ level_nodes of_level n) (sym e)
     ∙ fold-roll-ExprNode ℕ ℕ level_nodes of_level x
 
-module _ (l : ℕ) where
+module _ (l m : ℕ) where
   -- How many nodes a number counts.
-  pub nodes-Number : (v : ℕ) (k : Kind) → expr_nodes (at l (node.Number v k)) ≡ 1
-  nodes-Number v k = by_node l _ (ExprNode-F.Number v k) (node.rolls-Number v k)
+  pub nodes-Number : (v : ℕ) (k : Kind) → expr_nodes (told_at l m (node.Number v k)) ≡ 1
+  nodes-Number v k = by_node l m _ (ExprNode-F.Number v k) (node.rolls-Number v k)
 
   -- How many nodes a name counts.
-  pub nodes-Name : (w : List ℕ) → expr_nodes (at l (node.Name w)) ≡ 1
-  nodes-Name w = by_node l _ (ExprNode-F.Name w) (node.rolls-Name w)
+  pub nodes-Name : (w : List ℕ) → expr_nodes (told_at l m (node.Name w)) ≡ 1
+  nodes-Name w = by_node l m _ (ExprNode-F.Name w) (node.rolls-Name w)
 
   -- How many nodes an element counts.
   pub nodes-Element : (w : List ℕ) (o : Option Expr) (i : Expr)
-      → expr_nodes (at l (node.Element w o i)) ≡ 1 + (expr_if_nodes o + expr_nodes i)
-  nodes-Element w None i = by_node l _ (ExprNode-F.Element w None i) (node.rolls-Element w None i)
+      → expr_nodes (told_at l m (node.Element w o i)) ≡ 1 + (expr_if_nodes o + expr_nodes i)
+  nodes-Element w None i = by_node l m _ (ExprNode-F.Element w None i) (node.rolls-Element w None i)
   nodes-Element w (Some r) i =
-      by_node l _ (ExprNode-F.Element w (Some r) i) (node.rolls-Element w (Some r) i)
+      by_node l m _ (ExprNode-F.Element w (Some r) i) (node.rolls-Element w (Some r) i)
 
   -- How many nodes a call counts.
   pub nodes-Call : (w : List ℕ) (es : List Expr)
-      → expr_nodes (at l (node.Call w es)) ≡ 3 + exprs_nodes es
-  nodes-Call w es = by_node l _ (ExprNode-F.Call w es) (node.rolls-Call w es)
+      → expr_nodes (told_at l m (node.Call w es)) ≡ 3 + exprs_nodes es
+  nodes-Call w es = by_node l m _ (ExprNode-F.Call w es) (node.rolls-Call w es)
 
   -- How many nodes an expression in parentheses counts.
-  pub nodes-Group : (e : Expr) → expr_nodes (at l (node.Group e)) ≡ expr_nodes e
-  nodes-Group e = by_node l _ (ExprNode-F.Group e) (node.rolls-Group e)
+  pub nodes-Group : (e : Expr) → expr_nodes (told_at l m (node.Group e)) ≡ expr_nodes e
+  nodes-Group e = by_node l m _ (ExprNode-F.Group e) (node.rolls-Group e)
 
   -- How many nodes an operation on one operand counts.
   pub nodes-Unary : (op : UnaryOp) (e : Expr)
-      → expr_nodes (at l (node.Unary op e)) ≡ 1 + expr_nodes e
-  nodes-Unary op e = by_node l _ (ExprNode-F.Unary op e) (node.rolls-Unary op e)
+      → expr_nodes (told_at l m (node.Unary op e)) ≡ 1 + expr_nodes e
+  nodes-Unary op e = by_node l m _ (ExprNode-F.Unary op e) (node.rolls-Unary op e)
 
   -- How many nodes a cast counts.
   pub nodes-Cast : (k : Kind) (e : Expr)
-      → expr_nodes (at l (node.Cast k e)) ≡ 1 + expr_nodes e
-  nodes-Cast k e = by_node l _ (ExprNode-F.Cast k e) (node.rolls-Cast k e)
+      → expr_nodes (told_at l m (node.Cast k e)) ≡ 1 + expr_nodes e
+  nodes-Cast k e = by_node l m _ (ExprNode-F.Cast k e) (node.rolls-Cast k e)
 
   -- How many nodes `++` and `--` count.
   pub nodes-Bump : (op : BumpOp) (e : Expr)
-      → expr_nodes (at l (node.Bump op e)) ≡ 1 + expr_nodes e
-  nodes-Bump op e = by_node l _ (ExprNode-F.Bump op e) (node.rolls-Bump op e)
+      → expr_nodes (told_at l m (node.Bump op e)) ≡ 1 + expr_nodes e
+  nodes-Bump op e = by_node l m _ (ExprNode-F.Bump op e) (node.rolls-Bump op e)
 
   -- How many nodes an operation on two operands counts.
   pub nodes-Binary : (op : BinaryOp) (x y : Expr)
-      → expr_nodes (at l (node.Binary op x y)) ≡ 1 + (expr_nodes x + expr_nodes y)
-  nodes-Binary op x y = by_node l _ (ExprNode-F.Binary op x y) (node.rolls-Binary op x y)
+      → expr_nodes (told_at l m (node.Binary op x y)) ≡ 1 + (expr_nodes x + expr_nodes y)
+  nodes-Binary op x y = by_node l m _ (ExprNode-F.Binary op x y) (node.rolls-Binary op x y)
 
   -- How many nodes a choice counts.
   pub nodes-Choice : (c x y : Expr)
-      → expr_nodes (at l (node.Choice c x y)) ≡ 1 + (expr_nodes c + (expr_nodes x + expr_nodes y))
-  nodes-Choice c x y = by_node l _ (ExprNode-F.Choice c x y) (node.rolls-Choice c x y)
+      → expr_nodes (told_at l m (node.Choice c x y)) ≡ 1 + (expr_nodes c + (expr_nodes x + expr_nodes y))
+  nodes-Choice c x y = by_node l m _ (ExprNode-F.Choice c x y) (node.rolls-Choice c x y)
 
   -- How many nodes an assignment counts.
   pub nodes-Assign : (op : Option BinaryOp) (x y : Expr)
-      → expr_nodes (at l (node.Assign op x y)) ≡ 1 + (expr_nodes x + expr_nodes y)
-  nodes-Assign op x y = by_node l _ (ExprNode-F.Assign op x y) (node.rolls-Assign op x y)
+      → expr_nodes (told_at l m (node.Assign op x y)) ≡ 1 + (expr_nodes x + expr_nodes y)
+  nodes-Assign op x y = by_node l m _ (ExprNode-F.Assign op x y) (node.rolls-Assign op x y)
 
   -- How many nodes a comma counts.
   pub nodes-Comma : (x y : Expr)
-      → expr_nodes (at l (node.Comma x y)) ≡ 1 + (expr_nodes x + expr_nodes y)
-  nodes-Comma x y = by_node l _ (ExprNode-F.Comma x y) (node.rolls-Comma x y)
+      → expr_nodes (told_at l m (node.Comma x y)) ≡ 1 + (expr_nodes x + expr_nodes y)
+  nodes-Comma x y = by_node l m _ (ExprNode-F.Comma x y) (node.rolls-Comma x y)
 
 -- STATEMENTS
 

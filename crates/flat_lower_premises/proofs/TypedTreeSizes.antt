@@ -53,28 +53,28 @@ abbrev pub typed_list_nodes : List TypedExpr → ℕ
 typed_list_nodes ts = nodes_of.exprs_nodes (exprs_of (map expr_of ts))
 
 -- by its node
-by_node : (count : tree.Expr → ℕ) (k : Option Kind) (n : TypedNode) (x : Node) → roll-TypedNode x ≡ n
-    → count (expr_of (a k n)) ≡ count (plain_node x k)
-by_node count k n x e =
-    ap count (expr_is (a k n)
+by_node : (count : tree.Expr → ℕ) (l : ℕ) (k : Option Kind) (n : TypedNode) (x : Node) → roll-TypedNode x ≡ n
+    → count (expr_of (a l k n)) ≡ count (plain_node x k)
+by_node count l k n x e =
+    ap count (expr_is (a l k n)
     ∙ ap (λ (y : Node). plain_node y k) (ap out-TypedNode (sym e) ∙ out-roll-TypedNode x))
 
 -- both by its node
-pub at_node : (k : Option Kind) (n : TypedNode) (x : Node) → roll-TypedNode x ≡ n
-    → (cost (a k n) ≡ costs_of.nodes (plain_node x k))
-    × (typed_nodes (a k n) ≡ nodes_of.expr_nodes (plain_node x k))
-at_node k n x e = (by_node costs_of.nodes k n x e, by_node nodes_of.expr_nodes k n x e)
+pub at_node : (l : ℕ) (k : Option Kind) (n : TypedNode) (x : Node) → roll-TypedNode x ≡ n
+    → (cost (a l k n) ≡ costs_of.nodes (plain_node x k))
+    × (typed_nodes (a l k n) ≡ nodes_of.expr_nodes (plain_node x k))
+at_node l k n x e = (by_node costs_of.nodes l k n x e, by_node nodes_of.expr_nodes l k n x e)
 
 -- a conversion costs nothing, and adds one node at most
 pub converted_few : (k : Kind) (t : TypedExpr)
     → (cost (with_convert k t) ≤ cost t) × (typed_nodes (with_convert k t) ≤ 1 + typed_nodes t)
 converted_few k t = go (same_kind (kind_of t) k)
   where
-    go : (b : Bool) → (cost (cond b t (a (Some k) (typed.Convert k t))) ≤ cost t)
-        × (typed_nodes (cond b t (a (Some k) (typed.Convert k t))) ≤ 1 + typed_nodes t)
+    go : (b : Bool) → (cost (cond b t (a t.at (Some k) (typed.Convert k t))) ≤ cost t)
+        × (typed_nodes (cond b t (a t.at (Some k) (typed.Convert k t))) ≤ 1 + typed_nodes t)
     go true = (omega arith, omega arith)
     go false =
-        let h = at_node (Some k) _ (node.Convert k t) (typed.rolls-Convert k t) in
+        let h = at_node t.at (Some k) _ (node.Convert k t) (typed.rolls-Convert k t) in
         (omega (arith, h.0), omega (arith, h.1))
 
 -- of a left side only an index counts

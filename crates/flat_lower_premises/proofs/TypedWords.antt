@@ -110,7 +110,7 @@ pub converted_has : (k : Kind) (t : TypedExpr) → words.ExprHasWords t
     → words.ExprHasWords (with_convert k t)
 converted_has k t h = by (same_kind (kind_of t) k)
   where
-    by : (b : Bool) → words.ExprHasWords (cond b t (a (Some k) (typed.Convert k t)))
+    by : (b : Bool) → words.ExprHasWords (cond b t (a t.at (Some k) (typed.Convert k t)))
     by true = h
     by false = made _ _ _ (typed.rolls-Convert k t) (words.conversion h)
 
@@ -119,33 +119,33 @@ end_of_file_is : IsWord Int 18446744073709551615
 end_of_file_is = record { below = omega arith; narrow = omega arith }
 
 -- the tree of `EOF`
-end_of_file_has : words.ExprHasWords end_of_file
-end_of_file_has = made _ _ _ (typed.rolls-Number _) (words.number end_of_file_is)
+end_of_file_has : (l : ℕ) → words.ExprHasWords (end_of_file l)
+end_of_file_has l = made _ _ _ (typed.rolls-Number _) (words.number end_of_file_is)
 
 -- an operator on one value
-unary_has : (op : UnaryOp) (t : TypedExpr) → words.ExprHasWords t → words.ExprHasWords (unary op t)
-unary_has op t h = made _ _ _ (typed.rolls-Unary op _)
+unary_has : (l : ℕ) (op : UnaryOp) (t : TypedExpr) → words.ExprHasWords t → words.ExprHasWords (unary l op t)
+unary_has l op t h = made _ _ _ (typed.rolls-Unary op _)
     (words.operator (converted_has (unary_at op (kind_of t)) t h))
 
 -- an operator on two values
-binary_has : (op : BinaryOp) (s t : TypedExpr) → words.ExprHasWords s → words.ExprHasWords t
-    → words.ExprHasWords (binary op s t)
-binary_has op s t h h' = made _ _ _ (typed.rolls-Binary op _ _)
+binary_has : (l : ℕ) (op : BinaryOp) (s t : TypedExpr) → words.ExprHasWords s → words.ExprHasWords t
+    → words.ExprHasWords (binary l op s t)
+binary_has l op s t h h' = made _ _ _ (typed.rolls-Binary op _ _)
     (words.operation (converted_has (left_at op (kind_of s) (kind_of t)) s h)
     (converted_has (right_at op (kind_of s) (kind_of t)) t h'))
 
 -- a choice
-choice_has : (d s t : TypedExpr) → words.ExprHasWords d → words.ExprHasWords s
-    → words.ExprHasWords t → words.ExprHasWords (choice d s t)
-choice_has d s t h h' h'' =
+choice_has : (l : ℕ) (d s t : TypedExpr) → words.ExprHasWords d → words.ExprHasWords s
+    → words.ExprHasWords t → words.ExprHasWords (choice l d s t)
+choice_has l d s t h h' h'' =
     let k = common (kind_of s) (kind_of t) in
     made _ _ _ (typed.rolls-Choice d _ _)
     (words.either h (converted_has k s h') (converted_has k t h''))
 
 -- an assignment
-assign_has : (op : Option BinaryOp) (s t : TypedExpr) → IsAssigner op → words.ExprHasWords s
-    → words.ExprHasWords t → words.ExprHasWords (assign op s t)
-assign_has op s t i h h' =
+assign_has : (l : ℕ) (op : Option BinaryOp) (s t : TypedExpr) → IsAssigner op → words.ExprHasWords s
+    → words.ExprHasWords t → words.ExprHasWords (assign l op s t)
+assign_has l op s t i h h' =
     made _ _ _ (typed.rolls-Assign op (assigned_at op (kind_of s) (kind_of t)) s _)
     (words.assignment i h (converted_has (assigned_from op (kind_of s) (kind_of t)) t h'))
 
@@ -161,7 +161,7 @@ module _ (G : Scope) where
         (words.number (word_of_number (opened _ _ (node.rolls-Number v k) w)))
     typed_has _ _ _ (typing.scalar {p = p} m h) w = made _ _ _ (typed.rolls-Name p) words.name
     typed_has _ _ _ (typing.array {p = p} m h) w = made _ _ _ (typed.rolls-Name p) words.name
-    typed_has _ _ _ (typing.ending m h) w = end_of_file_has
+    typed_has _ _ _ (typing.ending {l = l} m h) w = end_of_file_has l.at
     typed_has _ _ _ (typing.element {w = v} {p = p} {i = i} {j = j} d m h) w =
         made _ _ _ (typed.rolls-Element p None j)
         (words.element (typed_has Value i j d
@@ -175,24 +175,24 @@ module _ (G : Scope) where
         (words.call (passed_have slots es ts ps (in_call (opened _ _ (node.rolls-Call v es) w))))
     typed_has _ _ _ (typing.group {r = r} {e = e} {t = t} d) w =
         typed_has r e t d (in_group (opened _ _ (node.rolls-Group e) w))
-    typed_has _ _ _ (typing.operator {op = op} {e = e} {t = t} d h) w =
-        unary_has op t (typed_has Value e t d (in_unary (opened _ _ (node.rolls-Unary op e) w)))
+    typed_has _ _ _ (typing.operator {l = l} {op = op} {e = e} {t = t} d h) w =
+        unary_has l.at op t (typed_has Value e t d (in_unary (opened _ _ (node.rolls-Unary op e) w)))
     typed_has _ _ _ (typing.conversion {to = to} {e = e} {t = t} d h) w =
         made _ _ _ (typed.rolls-Cast to t)
         (words.cast (typed_has Value e t d (in_cast (opened _ _ (node.rolls-Cast to e) w))))
     typed_has _ _ _ (typing.step {op = op} {e = e} {t = t} p d h) w =
         made _ _ _ (typed.rolls-Bump op t)
         (words.step (typed_has Written e t d (in_bump (opened _ _ (node.rolls-Bump op e) w))))
-    typed_has _ _ _ (typing.operation {op = op} {x = x} {y = y} {s = s} {t = t} d d' h) w =
+    typed_has _ _ _ (typing.operation {l = l} {op = op} {x = x} {y = y} {s = s} {t = t} d d' h) w =
         let q = in_binary (opened _ _ (node.rolls-Binary op x y) w) in
-        binary_has op s t (typed_has Value x s d q.0) (typed_has Value y t d' q.1)
-    typed_has _ _ _ (typing.either {c = c} {x = x} {y = y} {d = d} {s = s} {t = t} d1 d2 d3 h) w =
+        binary_has l.at op s t (typed_has Value x s d q.0) (typed_has Value y t d' q.1)
+    typed_has _ _ _ (typing.either {l = l} {c = c} {x = x} {y = y} {d = d} {s = s} {t = t} d1 d2 d3 h) w =
         let q = in_choice (opened _ _ (node.rolls-Choice c x y) w) in
-        choice_has d s t (typed_has Value c d d1 q.test) (typed_has Value x s d2 q.first)
+        choice_has l.at d s t (typed_has Value c d d1 q.test) (typed_has Value x s d2 q.first)
         (typed_has Value y t d3 q.second)
-    typed_has _ _ _ (typing.assignment {op = op} {x = x} {y = y} {s = s} {t = t} p d d' h) w =
+    typed_has _ _ _ (typing.assignment {l = l} {op = op} {x = x} {y = y} {s = s} {t = t} p d d' h) w =
         let q = in_assign (opened _ _ (node.rolls-Assign op x y) w) in
-        assign_has op s t q.assigner (typed_has Written x s d q.left)
+        assign_has l.at op s t q.assigner (typed_has Written x s d q.left)
         (typed_has Value y t d' q.right)
     typed_has _ _ _ (typing.sequence {x = x} {y = y} {s = s} {t = t} d d' h) w =
         let q = in_comma (opened _ _ (node.rolls-Comma x y) w) in

@@ -27,6 +27,7 @@ fn program(alloc: Global, w: u64) -> Result<TypedProgram, Memory> {
     })?;
     let number = TypedExpr {
         kind: Some(Kind::Int),
+        at: 0,
         node: TypedNode::Number(w),
     };
     let value = Boxed::new(alloc, number)?;

@@ -5,11 +5,11 @@ use Rattle.c_tree.specs.declared.tree.UnaryOp.TheVariants as unary
 use Rattle.c_tree.specs.declared.tree.Expr.{Expr}
 use Rattle.c_tree.specs.declared.tree.ExprNode.TheVariants as node
 use Rattle.c_grammar.specs.Tokens.{Tokens}
-use Rattle.c_grammar.specs.Operators.{at, joined, Prefix}
+use Rattle.c_grammar.specs.Operators.{at, told_at, joined, Prefix}
 use Rattle.c_grammar.specs.inside.Operators.{binary_level}
 use Rattle.c_grammar.specs.Operators.{sign, increase, decrease, prefix_mark, prefixed, suffixed}
 use Rattle.c_grammar.specs.Operators.{Assigner, assigner_mark, assigner_op}
-use Rattle.c_grammar.specs.inside.Parsing.{Out, and_then, too_deep, by_option, tail, is_next, expect}
+use Rattle.c_grammar.specs.inside.Parsing.{Out, and_then, too_deep, by_option, tail, offset_of, is_next, expect}
 use Rattle.c_grammar.specs.inside.ModelTypes.{begins_type, type_of}
 use Rattle.c_grammar.specs.inside.ModelDepth.{Nested, enter}
 use Rattle.c_grammar.specs.inside.ModelOperators.{joiner, prefix_of, suffix_of, seen, assigner_for}
@@ -20,13 +20,13 @@ abbrev pub loop : (Tokens → Out Expr) → ℕ → ℕ → Expr → Tokens → 
 loop inner k zero a ts = Ok (a, ts)
 loop inner k (suc n) a ts =
     by_option (seen (joiner k) ts) (Ok (a, ts))
-    (λ j. and_then (inner (tail ts)) (λ b ts. loop inner k n (joined j a b) ts))
+    (λ j. and_then (inner (tail ts)) (λ b rest. loop inner k n (joined (offset_of ts) j a b) rest))
 
 -- takes the suffixes behind an expression
 abbrev pub suffixes : ℕ → Expr → Tokens → Out Expr
 suffixes zero a ts = Ok (a, ts)
 suffixes (suc n) a ts = by_option (seen suffix_of ts) (Ok (a, ts))
-    (λ s. suffixes n (suffixed s a) (tail ts))
+    (λ s. suffixes n (suffixed (offset_of ts) s a) (tail ts))
 
 -- do the tokens begin a cast?
 abbrev pub is_cast : Tokens → Bool
@@ -74,10 +74,10 @@ module _ (nested : Nested) where
   -- takes a choice, behind its test
   unfoldable pub chosen_of : Expr → Tokens → Out Expr
   chosen_of a ts =
-      and_then (enter mark.Question nested ts) (λ _ ts.
+      and_then (enter mark.Question nested ts) (λ k ts.
       and_then (nested.expression ts) (λ b ts.
       and_then (expect mark.Colon ts) (λ _ ts.
-      and_then (nested.conditional ts) (λ c ts. Ok (at a.offset (node.Choice a b c), ts)))))
+      and_then (nested.conditional ts) (λ c ts. Ok (told_at a.offset k (node.Choice a b c), ts)))))
 
   -- `a`, or a choice that it begins
   unfoldable pub choice_from : Expr → Tokens → Out Expr
@@ -90,9 +90,9 @@ module _ (nested : Nested) where
   -- takes the right side of an assignment
   unfoldable pub assigned_of : Assigner → Expr → Tokens → Out Expr
   assigned_of s a ts =
-      and_then (enter (assigner_mark s) nested ts) (λ _ ts.
+      and_then (enter (assigner_mark s) nested ts) (λ k ts.
       and_then (nested.assignment ts) (λ b ts. Ok
-      (at a.offset (node.Assign (assigner_op s) a b), ts)))
+      (told_at a.offset k (node.Assign (assigner_op s) a b), ts)))
 
   -- `a`, or an assignment to it
   unfoldable pub assign_from : Expr → Tokens → Out Expr

@@ -4,6 +4,7 @@ use Rattle.c_tree.specs.declared.tree.Expr.{Expr}
 use Rattle.c_tree.specs.declared.token.Mark.TheVariants as marks
 use Rattle.c_grammar.specs.inside.Parsing.{Out, and_then, listed}
 use Rattle.c_tree.specs.declared.tree.BinaryOp.{BinaryOp}
+use Rattle.c_grammar.specs.Operators.{op, comma, joined}
 use Rattle.c_grammar.specs.Tokens.{Tokens}
 use Rattle.c_parse.specs.inside.Reads.{Fails, IsAssigner, Outside, Inside, joins_by, behind}
 use Rattle.c_grammar.specs.inside.ModelExpressions.{inside, loop, binary_of, assignment_of}
@@ -59,7 +60,9 @@ expression-loop-self-smaller t c =
 pub expression-loop-self-preserved : goal.expression-loop-self-preserved
 expression-loop-self-preserved t c =
     let rest = c.assignment-in-loop-self.new.self.rest.now in
-    ap (λ (w : Expr). loop (assignment_of (inside c.args.left)) 15 (length rest) w rest) c.in_ok-whole-2.ensures
+    ap (λ (w : Expr). loop (assignment_of (inside c.args.left)) 15 (length rest) w rest)
+    (c.in_ok-whole-2.ensures
+    ∙ ap (λ (k : ℕ). joined k comma c.loop-self.whole c.in_ok-right.right) c.offset-place.ensures)
     ∙ sym (comma_on c.args.left c.loop-self.whole c.in_ok-right.right c.loop-self.self.rest.now rest (cc)
     (ap (assignment_of (inside c.args.left)) (sym c.advance.ensures) ∙ c.in_ok-right.ensures))
     ∙ c.loop-self.invariant
@@ -86,7 +89,8 @@ joined-loop-of-preserved t c =
     c.operator.ensures c.in-Some.ensures
     in (
       ap (λ (w : Expr). climb c.args.left (c.args.level - c.in-Some.of) c.in-Some.of w c.binary.new.self.rest.now)
-          c.in_ok-whole.ensures
+          (c.in_ok-whole.ensures
+          ∙ ap (λ (k : ℕ). joined k (op c.in-Some.op) c.loop-of.whole c.in_ok-right.right) c.offset-place.ensures)
           ∙ sym (climb_turn c.args.left c.args.level c.loop-of.below (omega arith) c.loop-of.whole
           c.loop-of.self.rest.now (c.in-Some.of, c.in-Some.op) found c.in_ok-right.right c.binary.new.self.rest.now
           (ap (binary_of (inside c.args.left) c.in-Some.of) (sym c.advance.ensures) ∙ c.in_ok-right.ensures))
