@@ -13,7 +13,8 @@ use Rattle.flat_lower.specs.inside.Objects.{Context}
 use Rattle.flat_lower.specs.inside.Expressions.{expr_code}
 use Rattle.flat_lower.specs.inside.Statements.{if_so, turn_code, loop_code, do_code, stmt_code, first_code}
 use Rattle.flat_lower.specs.inside.Statements.{sections_code}
-use Rattle.flat_lower.specs.inside.Switches.{in_switch, section_code, chosen_code, behind_code, switched_code}
+use Rattle.flat_lower.specs.inside.Switches.{in_switch, break_code, section_code, chosen_code, behind_code}
+use Rattle.flat_lower.specs.inside.Switches.{switched_code}
 use Rattle.flat_lower.specs.declared.around.Around.{Around}
 use Rattle.flat_lower.specs.declared.around.Around.TheVariants as around
 use Rattle.c_compile_laws.specs.PlainIfs.{Counted, no_leg}
@@ -100,24 +101,24 @@ module _ (c : Context) where
   -- SWITCHES
 
   -- the statements of a section stand in the leg that runs it
-  pub section_keeps : (body : Code) → small_ifs body ≤ small_ifs (section_code body)
-  section_keeps body = let h = then_small body (set_word (temp 0) 0) in omega (arith, h)
+  pub section_keeps : (k : ℕ) (body : Code) → small_ifs body ≤ small_ifs (section_code k body)
+  section_keeps k body = let h = then_small body (set_word (temp 0) 0) in omega (arith, h)
 
   -- and all sections in the second loop
   pub switched_keeps : (a : Around) (xs : Sections) (body : Code)
       → small_ifs body ≤ small_ifs (switched_code a xs body)
   switched_keeps a xs body =
-      let h = then_small body (only flat.Break) in
-      let r = only (flat.Loop (Then body (only flat.Break)) Nop) in
+      let h = then_small body (break_code (in_switch a)) in
+      let r = only (flat.Loop (Then body (break_code (in_switch a))) Nop) in
       let v = then_small r (behind_code a) in
       let w = then_small (chosen_code xs) (Then r (behind_code a)) in
       omega (arith, h, v, w)
 
   -- the code of a switch has the small ifs of its sections
   pub switch_keeps : (a : Around) (n : ℕ) (t : Expr) (xs : Sections)
-      → n ≤ small_ifs (sections_code c (in_switch a) xs)
+      → n ≤ small_ifs (sections_code c (in_switch a) 0 xs)
       → n ≤ small_ifs (stmt_code c a (Switch t xs))
   switch_keeps a n t xs i =
-      let h = switched_keeps a xs (sections_code c (in_switch a) xs) in
-      let w = then_small (expr_code c 0 t) (switched_code a xs (sections_code c (in_switch a) xs)) in
+      let h = switched_keeps a xs (sections_code c (in_switch a) 0 xs) in
+      let w = then_small (expr_code c 0 t) (switched_code a xs (sections_code c (in_switch a) 0 xs)) in
       omega (arith, i, h, w)

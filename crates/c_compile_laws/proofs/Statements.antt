@@ -1,6 +1,6 @@
 -- Every statement's code has at least as many small ifs as the statement has plain ifs.
 use Rattle.std.proofs.Common.{◌≡◌, ℕ, ◌+◌, ◌≤◌, true, List, [], ◌∷◌, map, Some, None, sym, subst}
-use Rattle.std.proofs.Common.{arith}
+use Rattle.std.proofs.Common.{arith, suc}
 use Rattle.std.specs.Prelude.{cond, ◌&&◌}
 use Rattle.c_tree.specs.declared.TypedStmt.{TypedStmt, roll-TypedStmt, map-TypedStmt}
 use Rattle.c_tree.specs.declared.TypedStmt.{fold-roll-TypedStmt, ind-TypedStmt}
@@ -88,27 +88,28 @@ module _ (c : Context) where
     only_sets a (s ∷ (t ∷ ss)) h = absurd (not_so h)
 
     -- one section and those behind it
-    one_section : (a : Around) (x : TypedSection) (n : ℕ) (rest : List Section) → SectionShows x
-        → n ≤ small_ifs (sections_code c a (sections_of rest))
-        → section_ifs x + n ≤ small_ifs (sections_code c a (sections_of (section_view x ∷ rest)))
-    one_section a x n rest g h =
+    one_section : (a : Around) (k : ℕ) (x : TypedSection) (n : ℕ) (rest : List Section) → SectionShows x
+        → n ≤ small_ifs (sections_code c a (suc k) (sections_of rest))
+        → section_ifs x + n ≤ small_ifs (sections_code c a k (sections_of (section_view x ∷ rest)))
+    one_section a k x n rest g h =
         let body = stmts_of (map stmt_of x.body) in
         let i = g a in
         let e = section_counts x in
-        let k = section_keeps c (stmts_code c a body) in
-        let w = then_small (section_code (stmts_code c a body)) (sections_code c a (sections_of rest)) in
-        let all : section_ifs x + n ≤ small_ifs (sections_code c a (WithSection x.labels body (sections_of rest))) =
-        omega (arith, i, e, h, k, w) in
-        subst (λ (y : Section). section_ifs x + n ≤ small_ifs (sections_code c a (sections_of (y ∷ rest))))
+        let b = section_keeps c k (stmts_code c a body) in
+        let w = then_small (section_code k (stmts_code c a body)) (sections_code c a (suc k) (sections_of rest)) in
+        let all : section_ifs x + n ≤
+        small_ifs (sections_code c a k (WithSection x.labels body (sections_of rest))) =
+        omega (arith, i, e, h, b, w) in
+        subst (λ (y : Section). section_ifs x + n ≤ small_ifs (sections_code c a k (sections_of (y ∷ rest))))
         (sym (section_views x)) all
 
     -- each of several sections
-    sections_show : (a : Around) (xs : List X) → ifs_of_sections (map section_ifs (map of_x xs)) ≤
-        small_ifs (sections_code c a (sections_of (map section_view (map of_x xs))))
-    sections_show a [] = omega arith
-    sections_show a (x ∷ xs) =
-        one_section a (of_x x) (ifs_of_sections (map section_ifs (map of_x xs))) (map section_view (map of_x xs))
-        (good_x x) (sections_show a xs)
+    sections_show : (a : Around) (k : ℕ) (xs : List X) → ifs_of_sections (map section_ifs (map of_x xs)) ≤
+        small_ifs (sections_code c a k (sections_of (map section_view (map of_x xs))))
+    sections_show a k [] = omega arith
+    sections_show a k (x ∷ xs) =
+        one_section a k (of_x x) (ifs_of_sections (map section_ifs (map of_x xs)))
+        (map section_view (map of_x xs)) (good_x x) (sections_show a (suc k) xs)
 
     -- each production, from its parts
     node_shows : (a : Around) (y : TypedStmt-F I S X)
@@ -152,7 +153,7 @@ module _ (c : Context) where
         unfit c a (ifs_of_sections (map section_ifs (map of_x xs)))
         (Switch (expr_of t) (sections_of (map section_view (map of_x xs))))
         (switch_keeps c a (ifs_of_sections (map section_ifs (map of_x xs))) (expr_of t)
-        (sections_of (map section_view (map of_x xs))) (sections_show (in_switch a) xs))
+        (sections_of (map section_view (map of_x xs))) (sections_show (in_switch a) 0 xs))
     node_shows a stmt.Break = unfit c a 0 Break (omega arith)
     node_shows a stmt.Continue = unfit c a 0 Continue (omega arith)
     node_shows a (stmt.Return e) = unfit c a 0 (Return (expr_if e)) (omega arith)

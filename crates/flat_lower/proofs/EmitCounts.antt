@@ -88,28 +88,28 @@ stmts_end c b all old code s = record { is = sym (then_nop (code_of code)) ∙ s
 abbrev pub count_sections : List TypedSection → ℕ
 count_sections xs = stmts_in_sections (sections_in xs)
 
--- some sections are emitted, and `rest` are to come
-pub record SectionsSoFar (c : Context) (around : Around) (all rest : List TypedSection)
+-- n sections are emitted, and `rest` are to come
+pub record SectionsSoFar (c : Context) (around : Around) (n : ℕ) (all rest : List TypedSection)
     (old code : List FlatStmt) : Type 0 where
-  pub written : Then (code_of code) (sections_code c around (sections_in rest))
-      ≡ Then (code_of old) (sections_code c around (sections_in all))
+  pub written : Then (code_of code) (sections_code c around n (sections_in rest))
+      ≡ Then (code_of old) (sections_code c around 0 (sections_in all))
   pub fewer : count_sections rest ≤ count_sections all
 
 -- one section more
-pub sections_go_on : (c : Context) (b : Around) (all rest : List TypedSection) (a : TypedSection)
-    (old code code' : List FlatStmt) → SectionsSoFar c b all (a ∷ rest) old code
-    → Adds code code' (section_code (stmts_code c b (block_of a.body)))
-    → SectionsSoFar c b all rest old code'
-sections_go_on c b all rest a old code code' s h = record {
+pub sections_go_on : (c : Context) (b : Around) (n : ℕ) (all rest : List TypedSection) (a : TypedSection)
+    (old code code' : List FlatStmt) → SectionsSoFar c b n all (a ∷ rest) old code
+    → Adds code code' (section_code n (stmts_code c b (block_of a.body)))
+    → SectionsSoFar c b (suc n) all rest old code'
+sections_go_on c b n all rest a old code code' s h = record {
   written =
-      ap (λ z. Then z (sections_code c b (sections_in rest))) h.is
-      ∙ then_then (code_of code) (section_code (stmts_code c b (block_of a.body)))
-      (sections_code c b (sections_in rest))
+      ap (λ z. Then z (sections_code c b (suc n) (sections_in rest))) h.is
+      ∙ then_then (code_of code) (section_code n (stmts_code c b (block_of a.body)))
+      (sections_code c b (suc n) (sections_in rest))
       ∙ s.written;
   fewer = omega (arith, s.fewer);
 }
 
 -- at the end
-pub sections_end : (c : Context) (b : Around) (all : List TypedSection) (old code : List FlatStmt)
-    → SectionsSoFar c b all [] old code → Adds old code (sections_code c b (sections_in all))
-sections_end c b all old code s = record { is = sym (then_nop (code_of code)) ∙ s.written }
+pub sections_end : (c : Context) (b : Around) (n : ℕ) (all : List TypedSection) (old code : List FlatStmt)
+    → SectionsSoFar c b n all [] old code → Adds old code (sections_code c b 0 (sections_in all))
+sections_end c b n all old code s = record { is = sym (then_nop (code_of code)) ∙ s.written }

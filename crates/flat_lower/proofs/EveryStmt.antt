@@ -201,7 +201,7 @@ module _ (P : TypedProgram) (most : ℕ) where
         (for_starts s.stock h (out-TypedForInit first) test post body s f top low (omega arith) t0
         (omega arith) t.1 t.2 t.3 (omega arith) r (omega arith) (omega arith))
     begun_follows (stmt.Switch i c xs) s f top low h hb t z r hu hl =
-        let a = switched_code x (sections_in xs) (rest_of P most S y (in_switch x) xs) in
+        let a = switched_code x (sections_in xs) (rest_of P most S y (in_switch x) 0 xs) in
         operand_in P most S y x (EndedIn x S) c 0 a s f top low (after_switch (meaning P) xs)
         (h.expr c s (omega arith)) t.0 r (omega arith) (omega arith)
         (λ v s1 g t1 hv ls us ds.

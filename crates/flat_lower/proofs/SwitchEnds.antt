@@ -27,8 +27,7 @@ use Rattle.ir_forms.proofs.LoopRuns.{loop_moves, turn_leads, turn_stops}
 use Rattle.flat_lower.specs.declared.around.Around.{Around}
 use Rattle.flat_lower.specs.declared.around.Around.TheVariants as around
 use Rattle.flat_lower.specs.inside.Operations.{temp}
-use Rattle.flat_lower.specs.inside.Switches.{in_switch, continue_code, behind_code, found_code, compared_code}
-use Rattle.flat_lower.specs.inside.Switches.{default_at, section_count, switched_code}
+use Rattle.flat_lower.specs.inside.Switches.{in_switch, break_code, continue_code, behind_code}
 use Rattle.flat_lower.specs.inside.Emitted.{sections_in}
 use Rattle.flat_lower.specs.inside.FitsSwitches.{IsLooped, cases_in, free_sections}
 use Rattle.flat_lower.specs.inside.Fits.{FitsSections}
@@ -39,10 +38,10 @@ use Rattle.flat_lower.proofs.Follows.{FollowsIn, moved_in, continues_in}
 use Rattle.flat_lower.proofs.Related.{Scene, IsScene, scope, Related, recounted}
 use Rattle.flat_lower.proofs.Values.{functions, base, run}
 use Rattle.flat_lower.proofs.Returns.{EndedIn, LeftBy}
-use Rattle.flat_lower.proofs.LeafStatements.{EndsHere, nothing_left, continue_ends}
+use Rattle.flat_lower.proofs.LeafStatements.{EndsHere, nothing_left, break_ends, continue_ends}
 use Rattle.flat_lower.proofs.Loops.{loop_of}
 use Rattle.flat_lower.proofs.SwitchLabels.{Choice, Ends_there, Goes_to, sections_choose}
-use Rattle.flat_lower.proofs.SwitchSections.{RunTo, rest_of, FollowsBlock, skipping, sections_run}
+use Rattle.flat_lower.proofs.SwitchSections.{rest_of, FollowsBlock, skipping, sections_run}
 use Rattle.flat_lower.proofs.SwitchCounts.{default_small, cases_small, count_is, drop_none, fits_drop}
 use Rattle.flat_lower.proofs.SwitchCounts.{size_drop}
 
@@ -53,14 +52,6 @@ continue_leaves around.Nowhere h r t to l = absurd h
 continue_leaves around.Loop h r t to l = l
 continue_leaves around.Switch h r t to l = absurd h
 continue_leaves around.SwitchInLoop h r t to l = l
-
--- 0 in temporary 0 is what a break leaves
-as_broken : (a : Around) (S : Scene) (s : eval.State) (g : State) → Related S s g
-    → g.vars (temp 0) ≡ Some 0 → LeftBy (in_switch a) S 0 s g
-as_broken around.Nowhere S s g r e = r
-as_broken around.Loop S s g r e = (r, e)
-as_broken around.Switch S s g r e = r
-as_broken around.SwitchInLoop S s g r e = (r, e)
 
 none_before : (n : ℕ) → 0 + n ≡ n
 none_before n = omega arith
@@ -164,48 +155,50 @@ module _ (P : TypedProgram) (most : ℕ) (S : Scene) (y : IsScene P S) where
 
   -- a switch follows the evaluation, where its body comes to the sections and these do
   pub runs_out : (a : Around) (all Secs : Code) (f g : State) (t0 up down top low : ℕ) (r : Result)
-      → Moves (run P most S y (Then all (only flat.Break)) (counted f)) t0
-      (run P most S y (Then Secs (only flat.Break)) g)
-      → FollowsIn (in_switch a) most (RunTo (in_switch a) S) (run P most S y Secs g) up down r
+      → Moves (run P most S y (Then all (break_code (in_switch a))) (counted f)) t0
+      (run P most S y (Then Secs (break_code (in_switch a))) g)
+      → FollowsIn (in_switch a) most (EndedIn (in_switch a) S) (run P most S y Secs g) up down r
       → t0 + up + 4 ≤ top → low ≤ down
-      → EndsHere P most S y a (Then (only (Loop (Then all (only flat.Break)) Nop)) (behind_code a)) f top low
+      → EndsHere P most S y a (Then (only (Loop (Then all (break_code (in_switch a))) Nop)) (behind_code a)) f top low
       (then r after_sections)
   runs_out a all Secs f g t0 up down top low (Go Nothing s) m h hu hl =
-      let A = Then all (only flat.Break) in
+      let K = break_code (in_switch a) in
+      let A = Then all K in
       let B = behind_code a in
-      let t = t0 + (h.t + 1) in
-      let l = leads_from (run P most S y A (counted f)) (run P most S y (Then Secs (only flat.Break)) g) t0
-      (h.t + 1) (Broke h.to) m (both_lead checked (functions P most) (base P most) S.env Secs (only flat.Break) g
-      h.to h.t 1 (Broke h.to) h.leads (break_leads checked (functions P most) (base P most) S.env h.to)) in
-      moved_in a most (EndedIn a S) (run P most S y (Then (only (Loop A Nop)) B) f) (run P most S y B h.to)
-      (suc t) top low (Go Nothing s) (loop_left A B f t h.to l) (omega (arith, h.upper))
-      (behind_goes_on a s h.to (top - suc t) low (as_broken a S s h.to h.holds.0 h.holds.1)
-      (omega (arith, h.upper)) (omega (arith, h.lower)))
+      let q = break_ends P most S y (in_switch a) s h.to (2 + 8 * s.stock) low h.holds (omega arith)
+      (omega (arith, h.lower)) in
+      let t = t0 + (h.t + q.t) in
+      let l = leads_from (run P most S y A (counted f)) (run P most S y (Then Secs K) g) t0
+      (h.t + q.t) (Broke q.to) m (both_lead checked (functions P most) (base P most) S.env Secs K g
+      h.to h.t q.t (Broke q.to) h.leads q.leads) in
+      moved_in a most (EndedIn a S) (run P most S y (Then (only (Loop A Nop)) B) f) (run P most S y B q.to)
+      (suc t) top low (Go Nothing s) (loop_left A B f t q.to l) (omega (arith, h.upper, q.upper))
+      (behind_goes_on a s q.to (top - suc t) low q.holds (omega (arith, h.upper, q.upper)) q.lower)
   runs_out a all Secs f g t0 up down top low (Go (Value w) s) m h hu hl = absurd h.holds
   runs_out a all Secs f g t0 up down top low (Go Breaks s) m h hu hl =
-      let A = Then all (only flat.Break) in
+      let A = Then all (break_code (in_switch a)) in
       let B = behind_code a in
       let t = t0 + h.t in
-      let l = leads_from (run P most S y A (counted f)) (run P most S y (Then Secs (only flat.Break)) g) t0
-      h.t (Broke h.to) m (first_leads checked (functions P most) (base P most) S.env Secs (only flat.Break) g
+      let l = leads_from (run P most S y A (counted f)) (run P most S y (Then Secs (break_code (in_switch a))) g) t0
+      h.t (Broke h.to) m (first_leads checked (functions P most) (base P most) S.env Secs (break_code (in_switch a)) g
       h.t (Broke h.to) (λ k next. refl) h.leads) in
       moved_in a most (EndedIn a S) (run P most S y (Then (only (Loop A Nop)) B) f) (run P most S y B h.to)
       (suc t) top low (Go Nothing s) (loop_left A B f t h.to l) (omega (arith, h.upper))
       (behind_goes_on a s h.to (top - suc t) low h.holds (omega (arith, h.upper)) (omega (arith, h.lower)))
   runs_out a all Secs f g t0 up down top low (Go Continues s) m h hu hl =
-      let A = Then all (only flat.Break) in
+      let A = Then all (break_code (in_switch a)) in
       let B = behind_code a in
       let t = t0 + h.t in
       let broke = continue_leaves a h.holds.0 (run P most S y Secs g) h.t h.to h.leads in
-      let l = leads_from (run P most S y A (counted f)) (run P most S y (Then Secs (only flat.Break)) g) t0
-      h.t (Broke h.to) m (first_leads checked (functions P most) (base P most) S.env Secs (only flat.Break) g
+      let l = leads_from (run P most S y A (counted f)) (run P most S y (Then Secs (break_code (in_switch a))) g) t0
+      h.t (Broke h.to) m (first_leads checked (functions P most) (base P most) S.env Secs (break_code (in_switch a)) g
       h.t (Broke h.to) (λ k next. refl) broke) in
       moved_in a most (EndedIn a S) (run P most S y (Then (only (Loop A Nop)) B) f) (run P most S y B h.to)
       (suc t) top low (Go Continues s) (loop_left A B f t h.to l) (omega (arith, h.upper))
       (behind_continues a s h.to (top - suc t) low h.holds.0 h.holds.1 (omega (arith, h.upper))
       (omega (arith, h.lower)))
   runs_out a all Secs f g t0 up down top low (Go (Returns w) s) m h hu hl =
-      let A = Then all (only flat.Break) in
+      let A = Then all (break_code (in_switch a)) in
       record {
         t = suc (t0 + h.t);
         to = h.to;
@@ -213,35 +206,35 @@ module _ (P : TypedProgram) (most : ℕ) (S : Scene) (y : IsScene P S) where
         lower = omega (arith, h.lower);
         holds = h.holds;
         leads = loop_gives A (behind_code a) f (t0 + h.t) w h.to
-            (leads_from (run P most S y A (counted f)) (run P most S y (Then Secs (only flat.Break)) g) t0
+            (leads_from (run P most S y A (counted f)) (run P most S y (Then Secs (break_code (in_switch a))) g) t0
             h.t (Gave w h.to) m (first_leads checked (functions P most) (base P most) S.env Secs
-            (only flat.Break) g h.t (Gave w h.to) (λ k next. refl) h.leads));
+            (break_code (in_switch a)) g h.t (Gave w h.to) (λ k next. refl) h.leads));
       }
   runs_out a all Secs f g t0 up down top low (Over (Ends More) s) m h hu hl =
-      let A = Then all (only flat.Break) in
+      let A = Then all (break_code (in_switch a)) in
       record {
         t = suc (t0 + h.t);
         r = h.r;
         upper = omega (arith, h.upper);
         lower = omega (arith, h.lower);
         stops = loop_stops A (behind_code a) f (t0 + h.t) s.output h.r
-            (stops_from (run P most S y A (counted f)) (run P most S y (Then Secs (only flat.Break)) g) t0
+            (stops_from (run P most S y A (counted f)) (run P most S y (Then Secs (break_code (in_switch a))) g) t0
             h.t s.output h.r m (first_stops checked (functions P most) (base P most) S.env Secs
-            (only flat.Break) g h.t s.output h.r h.stops));
+            (break_code (in_switch a)) g h.t s.output h.r h.stops));
       }
   runs_out a all Secs f g t0 up down top low (Over (Ends Undefined) s) m h hu hl = tt
   runs_out a all Secs f g t0 up down top low (Over (Ends Deep) s) m h hu hl =
-      let A = Then all (only flat.Break) in
+      let A = Then all (break_code (in_switch a)) in
       record {
         t = suc (t0 + h.t);
         upper = omega (arith, h.upper);
         leads = loop_halts A (behind_code a) f (t0 + h.t) (λ k. NoRoom s.output)
-            (leads_from (run P most S y A (counted f)) (run P most S y (Then Secs (only flat.Break)) g) t0
+            (leads_from (run P most S y A (counted f)) (run P most S y (Then Secs (break_code (in_switch a))) g) t0
             h.t (λ k. Halts (NoRoom s.output)) m (first_leads checked (functions P most) (base P most) S.env
-            Secs (only flat.Break) g h.t (λ k. Halts (NoRoom s.output)) (λ k next. refl) h.leads));
+            Secs (break_code (in_switch a)) g h.t (λ k. Halts (NoRoom s.output)) (λ k next. refl) h.leads));
       }
   runs_out a all Secs f g t0 up down top low (Over (Exits w) s) m h hu hl =
-      let A = Then all (only flat.Break) in
+      let A = Then all (break_code (in_switch a)) in
       record {
         t = suc (t0 + h.t);
         to = h.to;
@@ -250,7 +243,7 @@ module _ (P : TypedProgram) (most : ℕ) (S : Scene) (y : IsScene P S) where
         output = h.output;
         fits = h.fits;
         leads = loop_halts A (behind_code a) f (t0 + h.t) (λ k. Exited w h.to k)
-            (leads_from (run P most S y A (counted f)) (run P most S y (Then Secs (only flat.Break)) g) t0
+            (leads_from (run P most S y A (counted f)) (run P most S y (Then Secs (break_code (in_switch a))) g) t0
             h.t (λ k. Halts (Exited w h.to k)) m (first_leads checked (functions P most) (base P most) S.env
-            Secs (only flat.Break) g h.t (λ k. Halts (Exited w h.to k)) (λ k next. refl) h.leads));
+            Secs (break_code (in_switch a)) g h.t (λ k. Halts (Exited w h.to k)) (λ k next. refl) h.leads));
       }

@@ -12,8 +12,8 @@ use Rattle.ir_forms.specs.inside.FlatCode as flat
 use Rattle.ir_forms.specs.inside.FlatSteps.{State, counted}
 use Rattle.flat_lower.specs.declared.around.Around.{Around}
 use Rattle.flat_lower.specs.inside.Operations.{temp}
-use Rattle.flat_lower.specs.inside.Switches.{in_switch, behind_code, found_code, compared_code, default_at}
-use Rattle.flat_lower.specs.inside.Switches.{section_count, switched_code}
+use Rattle.flat_lower.specs.inside.Switches.{in_switch, break_code, behind_code, found_code, compared_code}
+use Rattle.flat_lower.specs.inside.Switches.{default_at, section_count, switched_code}
 use Rattle.flat_lower.specs.inside.Emitted.{sections_in}
 use Rattle.flat_lower.specs.inside.FitsSwitches.{cases_in, free_sections}
 use Rattle.flat_lower.specs.inside.Fits.{FitsSections}
@@ -34,7 +34,8 @@ module _ (P : TypedProgram) (most : ℕ) (S : Scene) (y : IsScene P S) where
   -- the code of the sections, in its loop
   abbrev pub run_code : Around → List TypedSection → Code
   run_code a all =
-      Then (only (Loop (Then (rest_of P most S y (in_switch a) all) (only flat.Break)) Nop)) (behind_code a)
+      Then (only (Loop (Then (rest_of P most S y (in_switch a) 0 all) (break_code (in_switch a))) Nop))
+      (behind_code a)
 
   -- the comparing, in its loop
   abbrev pub compare_code : List TypedSection → Code
@@ -46,21 +47,22 @@ module _ (P : TypedProgram) (most : ℕ) (S : Scene) (y : IsScene P S) where
   switch_runs : (a : Around) (n : ℕ) → FollowsBlock P most S y (in_switch a) n → (j : Option Kind)
       (all : List TypedSection) (m : ℕ) (s : eval.State) (f : State) (top low : ℕ) → s.stock ≤ n
       → FitsSections (scope P S) S.func.result (in_switch a) j (sections_in all)
-      → size_of_sections (sections_in all) ≤ most → m ≤ length all → m < 2 ^ 64 → Related S s f
+      → size_of_sections (sections_in all) ≤ most → m ≤ length all → Related S s f
       → f.vars (temp 0) ≡ Some m → 2 * m + 4 + 8 * s.stock ≤ top → low ≤ s.stock + most * f.rounds
       → EndsHere P most S y a (run_code a all) f top low (run_from (meaning P) (bodies (drop m all)) s)
-  switch_runs a n hb j all m s f top low le t z lm lt r e hu hl =
+  switch_runs a n hb j all m s f top low le t z lm r e hu hl =
       let x = in_switch a in
-      let sk = skipping P most S y x all m (only flat.Break) s (counted f) lm lt (recounted S s f r) e in
+      let sk = skipping P most S y x all 0 m m (break_code x) s (counted f) lm (omega arith) (recounted S s f r) e in
       let small = size_drop all m in
       let there : low ≤ s.stock + most * sk.to.rounds - size_of_sections (sections_in (drop m all)) = subst
       (λ c. low ≤ s.stock + most * c - size_of_sections (sections_in (drop m all))) (sym sk.rounds)
       (omega (arith, mul-suc most f.rounds, small)) in
       let few = sk.few in
-      runs_out P most S y a (rest_of P most S y x all) (rest_of P most S y x (drop m all)) f sk.to sk.t
+      runs_out P most S y a (rest_of P most S y x 0 all) (rest_of P most S y x m (drop m all)) f sk.to sk.t
       (8 * s.stock) low top low (sequence (meaning P) (bodies (drop m all)) s) sk.moves
-      (sections_run P most S y x n hb j (drop m all) s sk.to (8 * s.stock) low le
-      (fits_drop (scope P S) S.func.result j x all m t) (omega arith) sk.rel sk.word (omega arith) there)
+      (sections_run P most S y x n hb j m m (drop m all) s sk.to (8 * s.stock) low le
+      (fits_drop (scope P S) S.func.result j x all m t) (omega arith) sk.rel sk.word (omega arith)
+      (omega arith) there)
       (omega arith) (omega arith)
 
   -- a switch behind its test follows the evaluation, where blocks inside it do
@@ -71,7 +73,7 @@ module _ (P : TypedProgram) (most : ℕ) (S : Scene) (y : IsScene P S) where
       → size_of_sections (sections_in all) ≤ most → Related S s g → g.vars (temp 0) ≡ Some w
       → 7 + 8 * s.stock ≤ top
       → low ≤ s.stock + most * g.rounds - size_of_sections (sections_in all)
-      → EndsHere P most S y a (switched_code a (sections_in all) (rest_of P most S y (in_switch a) all)) g top
+      → EndsHere P most S y a (switched_code a (sections_in all) (rest_of P most S y (in_switch a) 0 all)) g top
       low (compared (meaning P) w (targets all) [] s)
   switch_ends a n hb j all w s g top low le t free short z r e hu hl =
       let xs = sections_in all in
@@ -114,4 +116,4 @@ module _ (P : TypedProgram) (most : ℕ) (S : Scene) (y : IsScene P S) where
           (loop_left P most S y (compare_code all) (run_code a all) g x.t x.to x.leads) (omega (arith, x.few))
           (subst (λ q. EndsHere P most S y a (run_code a all) x.to (top - suc x.t) low q) (sym x.is)
           (switch_runs a n hb j all x.m x.at x.to (top - suc x.t) low (omega (arith, x.less)) t z x.count
-          (omega (arith, x.count)) x.rel x.word (omega (arith, x.few)) low1))
+          x.rel x.word (omega (arith, x.few)) low1))

@@ -271,21 +271,22 @@ fn put_for_loop(
     Ok(())
 }
 
-// A section of a switch.
+// The section of a switch behind n others.
 #[cycle(stmt)]
 fn put_section(
     code: &mut Items<FlatStmt>,
     alloc: Global,
     places: &Places,
     around: Around,
+    n: u64,
     all: &[TypedStmt],
 ) -> Result<(), Memory>
     ensures { OnOk result (Adds code.old code.new
-        (section_code (stmts_code places.now around (block_of all.now)))) }
+        (section_code n (stmts_code places.now around (block_of all.now)))) }
 {
     let mut body = Items::new(alloc);
     put_stmts(&mut body, alloc, places, around, all)?;
-    put_section_of(code, alloc, body)?;
+    put_section_of(code, alloc, n, body)?;
     Ok(())
 }
 
@@ -299,10 +300,12 @@ fn put_sections(
     sections: &[TypedSection],
 ) -> Result<(), Memory>
     ensures { OnOk result (Adds code.old code.new
-        (sections_code places.now around (sections_in sections.now))) }
+        (sections_code places.now around 0 (sections_in sections.now))) }
 {
+    let mut n: u64 = 0;
     for section in sections {
-        put_section(code, alloc, places, around, section.body.as_slice())?;
+        put_section(code, alloc, places, around, n, section.body.as_slice())?;
+        n += 1;
     }
     Ok(())
 }

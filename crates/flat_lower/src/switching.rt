@@ -217,33 +217,18 @@ fn put_chosen(
     Ok(())
 }
 
-// One section less is skipped, on its own.
-fn skipped(alloc: Global) -> Result<Items<FlatStmt>, Memory>
-    ensures { IfOk result (λ code. code_of code ≡ only (flat.Let (operations.temp 0) Op.Sub
-        (Arg.Var (operations.temp 0)) (Arg.Const 1))) }
-{
-    let mut code = Items::new(alloc);
-    put_let(
-        &mut code,
-        temp(0),
-        Op::Sub,
-        Arg::Var(temp(0)),
-        Arg::Const(1),
-    )?;
-    Ok(code)
-}
-
-/// The statements of a section are emitted: it is skipped, or run, and then no other is skipped.
+/// The statements of the section behind n others are emitted: it is skipped, or run, and then no other is skipped.
 pub fn put_section_of(
     code: &mut Items<FlatStmt>,
     alloc: Global,
+    n: u64,
     mut body: Items<FlatStmt>,
 ) -> Result<(), Memory>
-    ensures { OnOk result (Adds code.old code.new (section_code (code_of body))) }
+    ensures { OnOk result (Adds code.old code.new (section_code n (code_of body))) }
 {
     put_word(&mut body, temp(0), 0)?;
-    let yes = skipped(alloc)?;
-    put_if(code, Arg::Var(temp(0)), yes, body)?;
+    put_let(code, scratch(0), Op::Tgtu, Arg::Var(temp(0)), Arg::Const(n))?;
+    put_if(code, Arg::Var(scratch(0)), Items::new(alloc), body)?;
     Ok(())
 }
 
@@ -251,12 +236,13 @@ pub fn put_section_of(
 fn put_run(
     code: &mut Items<FlatStmt>,
     alloc: Global,
+    around: Around,
     mut body: Items<FlatStmt>,
 ) -> Result<(), Memory>
     ensures { OnOk result (Adds code.old code.new
-        (only (flat.Loop (Then (code_of body) (only flat.Break)) flat.Nop))) }
+        (only (flat.Loop (Then (code_of body) (break_code (switches.in_switch around))) flat.Nop))) }
 {
-    put_break(&mut body)?;
+    put_broken(&mut body, in_switch(around))?;
     put_loop(code, body, Items::new(alloc))?;
     Ok(())
 }
@@ -273,7 +259,7 @@ pub fn put_switched(
         (switched_code around (sections_in sections.now) (code_of body))) }
 {
     put_chosen(code, alloc, sections)?;
-    put_run(code, alloc, body)?;
+    put_run(code, alloc, around, body)?;
     put_behind(code, alloc, around)?;
     Ok(())
 }

@@ -265,8 +265,8 @@ module _ (w : Weight) (c : Context) where
         eased (after (first_takes a first) (loop_code_takes test post (stmt_code c around.Loop body)
         (stmt_nodes body) (stmt_takes around.Loop body))) (omega arith)
     stmt_takes a (Switch t xs) =
-        eased (after (expr_takes 0 t) (switched_takes w a xs (sections_code c (in_switch a) xs)
-        (sections_take (in_switch a) xs))) (omega arith)
+        eased (after (expr_takes 0 t) (switched_takes w a xs (sections_code c (in_switch a) 0 xs)
+        (sections_take (in_switch a) 0 xs))) (omega arith)
     stmt_takes a Break = eased (break_takes w a) (omega arith)
     stmt_takes a Continue = eased (continue_takes w a) (omega arith)
     stmt_takes a (Return e) = return_takes e
@@ -275,12 +275,12 @@ module _ (w : Weight) (c : Context) where
     stmts_take a NoStmts = record { few = omega arith }
     stmts_take a (WithStmt s rest) = eased (after (stmt_takes a s) (stmts_take a rest)) (omega arith)
 
-    sections_take : (a : Around) (xs : Sections)
-        → Takes w 0 (share w (bodies_nodes xs)) (sections_code c a xs)
-    sections_take a NoSections = record { few = omega arith }
-    sections_take a (WithSection ls body rest) =
-        eased (after (section_takes w (stmts_code c a body) (stmts_nodes body) (stmts_take a body))
-        (sections_take a rest)) (omega arith)
+    sections_take : (a : Around) (k : ℕ) (xs : Sections)
+        → Takes w 0 (share w (bodies_nodes xs)) (sections_code c a k xs)
+    sections_take a k NoSections = record { few = omega arith }
+    sections_take a k (WithSection ls body rest) =
+        eased (after (section_takes w k (stmts_code c a body) (stmts_nodes body) (stmts_take a body))
+        (sections_take a (suc k) rest)) (omega arith)
 
     first_takes : (a : Around) (first : First) → Takes w 0 (share w (first_nodes first)) (first_code c a first)
     first_takes a Nothing = record { few = omega arith }

@@ -202,6 +202,13 @@ module _ (fs : List Function) (c : Scope) (bytes : ℕ) (k : Option Kind) (x : C
       by_default true = omega arith
       by_default false = g
 
+  -- the end of a switch is left as by a break
+  end_fits_in : (a : Around) → Fits true (break_code (in_switch a))
+  end_fits_in around.Nowhere = single_fits flat.Break refl
+  end_fits_in around.Loop = found_fits 0 (omega arith)
+  end_fits_in around.Switch = single_fits flat.Break refl
+  end_fits_in around.SwitchInLoop = found_fits 0 (omega arith)
+
   -- a switch whose sections fit
   switched_fits : (a : Around) (j : Option Kind) (xs : Sections) (body : Code) → section_count xs < 2 ^ 64
       → FitsSections c k (in_switch a) j xs → Fits true body → Fits (inside a) (switched_code a xs body)
@@ -210,16 +217,15 @@ module _ (fs : List Function) (c : Scope) (bytes : ℕ) (k : Option Kind) (x : C
       (joined (compared_fits (in_switch a) j 0 xs (omega arith) t)
       (found_fits (default_at 0 (section_count xs) xs) (default_below 0 (section_count xs) xs (omega arith) h)))
       nothing_fits)
-      (joined (loop_fits (Then body (only flat.Break)) Nop (joined p (single_fits flat.Break refl)) nothing_fits)
+      (joined (loop_fits (Then body (break_code (in_switch a))) Nop (joined p (end_fits_in a)) nothing_fits)
       (behind_fits a))
 
   -- a section whose statements fit
-  section_fits : (body : Code) → Fits true body → Fits true (section_code body)
-  section_fits body p =
-      if_fits (Var (temp 0)) (only (flat.Let (temp 0) op.Sub (Var (temp 0)) (Const 1)))
-      (Then body (set_word (temp 0) 0)) first_temp
-      (let_fits (temp 0) op.Sub (Var (temp 0)) (Const 1) refl first_temp first_temp (omega arith))
-      (joined p (word_fits (temp 0) 0 first_temp (omega arith)))
+  section_fits : (m : ℕ) → m < 2 ^ 64 → (body : Code) → Fits true body → Fits true (section_code m body)
+  section_fits m h body p =
+      joined (let_fits (scratch 0) op.Tgtu (Var (temp 0)) (Const m) refl first_scratch first_temp h)
+      (if_fits (Var (scratch 0)) Nop (Then body (set_word (temp 0) 0)) first_scratch nothing_fits
+      (joined p (word_fits (temp 0) 0 first_temp (omega arith))))
 
   -- STATEMENTS
 
@@ -241,9 +247,9 @@ module _ (fs : List Function) (c : Scope) (bytes : ℕ) (k : Option Kind) (x : C
         (loop_code_fits (inside a) test post (stmt_code x around.Loop body) t.1 t.2
         (stmt_fits around.Loop body t.3 j.1))
     stmt_fits a (Switch e xs) t j = joined (value (inside a) 0 e t.0)
-        (switched_fits a (kind_of e) xs (sections_code x (in_switch a) xs) t.3 t.1
-        (subst (λ i. Fits i (sections_code x (in_switch a) xs)) (in_switch_is a)
-        (sections_fit (in_switch a) (in_switch_is a) (kind_of e) xs t.1 j)))
+        (switched_fits a (kind_of e) xs (sections_code x (in_switch a) 0 xs) t.3 t.1
+        (subst (λ i. Fits i (sections_code x (in_switch a) 0 xs)) (in_switch_is a)
+        (sections_fit (in_switch a) (in_switch_is a) (kind_of e) 0 xs (omega (arith, t.3)) t.1 j)))
     stmt_fits a Break t j = break_fits a j
     stmt_fits a Continue t j = continue_fits a j
     stmt_fits a (Return e) t j = return_fits (inside a) k e t
@@ -253,13 +259,14 @@ module _ (fs : List Function) (c : Scope) (bytes : ℕ) (k : Option Kind) (x : C
     stmts_fit a NoStmts t j = nothing_fits
     stmts_fit a (WithStmt s rest) t j = joined (stmt_fits a s t.0 j.0) (stmts_fit a rest t.1 j.1)
 
-    sections_fit : (a : Around) → inside a ≡ true → (j : Option Kind) (xs : Sections)
-        → FitsSections c k a j xs → SectionsJumpInLoops a xs → Fits (inside a) (sections_code x a xs)
-    sections_fit a e q NoSections t j = nothing_fits
-    sections_fit a e q (WithSection ls body rest) t j =
-        joined (subst (λ i. Fits i (section_code (stmts_code x a body))) (sym e)
-        (section_fits (stmts_code x a body) (subst (λ i. Fits i (stmts_code x a body)) e
-        (stmts_fit a body t.3 j.0)))) (sections_fit a e q rest t.4 j.1)
+    sections_fit : (a : Around) → inside a ≡ true → (j : Option Kind) (m : ℕ) (xs : Sections)
+        → m + section_count xs < 2 ^ 64 → FitsSections c k a j xs → SectionsJumpInLoops a xs
+        → Fits (inside a) (sections_code x a m xs)
+    sections_fit a e q m NoSections h t j = nothing_fits
+    sections_fit a e q m (WithSection ls body rest) h t j =
+        joined (subst (λ i. Fits i (section_code m (stmts_code x a body))) (sym e)
+        (section_fits m (omega arith) (stmts_code x a body) (subst (λ i. Fits i (stmts_code x a body)) e
+        (stmts_fit a body t.3 j.0)))) (sections_fit a e q (suc m) rest (omega arith) t.4 j.1)
 
     first_fits : (a : Around) (first : First) → FitsFirst c k a first → FirstJumpsInLoops a first
         → Fits (inside a) (first_code x a first)

@@ -2,15 +2,15 @@
 use Rattle.std.proofs.Common.{ℕ, suc, ◌+◌, ◌*◌, List, [], ◌∷◌, Option, Some, None, refl, ap, arith}
 use Rattle.trips_isa.specs.declared.op.Op.TheVariants as op
 use Rattle.ir_forms.specs.declared.flat.Arg.TheVariants.{Const, Var}
-use Rattle.ir_forms.specs.inside.FlatCode.{Code, Let, Break}
+use Rattle.ir_forms.specs.inside.FlatCode.{Code, Let}
 use Rattle.flat_lower.specs.declared.around.Around.{Around}
 use Rattle.flat_lower.specs.declared.around.Around.TheVariants as around
 use Rattle.flat_lower.specs.inside.Tree.{Sections, NoSections, WithSection}
-use Rattle.flat_lower.specs.inside.Operations.{temp}
+use Rattle.flat_lower.specs.inside.Operations.{temp, scratch}
 use Rattle.flat_lower.specs.inside.Sizes.{label_count}
 use Rattle.flat_lower.specs.inside.Switches.{break_code, continue_code, behind_code, found_code, label_code}
 use Rattle.flat_lower.specs.inside.Switches.{labels_code, compared_code, default_at, section_count, chosen_code}
-use Rattle.flat_lower.specs.inside.Switches.{section_code, switched_code}
+use Rattle.flat_lower.specs.inside.Switches.{in_switch, section_code, switched_code}
 use Rattle.flat_lower_premises.specs.inside.SourceNodes.{sections_nodes}
 use Rattle.flat_lower_premises.proofs.SectionNodes.{labels_nodes, bodies_nodes, in_two}
 use Rattle.flat_lower_premises.proofs.Weights.{Weight, share, Takes, after, eased, none, one_more, chosen, looped}
@@ -59,16 +59,17 @@ module _ (w : Weight) where
   -- SECTIONS
 
   -- a section by its statements
-  pub section_takes : (body : Code) (n : ℕ) → Takes w 0 (share w n) body
-      → Takes w 0 (share w (1 + n)) (section_code body)
-  section_takes body n p =
-      eased (chosen (Var (temp 0)) (one_more (Let (temp 0) op.Sub (Var (temp 0)) (Const 1)) refl)
-      (after p (one_more (Let (temp 0) op.Mov (Const 0) (Const 0)) refl))) (omega arith)
+  pub section_takes : (k : ℕ) (body : Code) (n : ℕ) → Takes w 0 (share w n) body
+      → Takes w 0 (share w (1 + n)) (section_code k body)
+  section_takes k body n p =
+      eased (after (one_more (Let (scratch 0) op.Tgtu (Var (temp 0)) (Const k)) refl)
+      (chosen (Var (scratch 0)) (none 0)
+      (after p (one_more (Let (temp 0) op.Mov (Const 0) (Const 0)) refl)))) (omega arith)
 
   -- a switch behind its test by its sections
   pub switched_takes : (a : Around) (xs : Sections) (body : Code) → Takes w 0 (share w (bodies_nodes xs)) body
-      → Takes w 0 (share w (sections_nodes xs) + (3 * w.branch + 5)) (switched_code a xs body)
+      → Takes w 0 (share w (sections_nodes xs) + (3 * w.branch + 6)) (switched_code a xs body)
   switched_takes a xs body p =
       let h = ap (share w) (in_two xs) in
-      eased (after (chosen_takes xs) (after (looped (after p (one_more Break refl)) (none 0))
+      eased (after (chosen_takes xs) (after (looped (after p (break_takes (in_switch a))) (none 0))
       (behind_takes a))) (omega (arith, h))

@@ -126,6 +126,12 @@ pub(crate) const SWITCHES: &[(&str, &str)] = &[
         "4",
     ),
     (
+        "int main(void) { int i; int s = 0; for (i = -1; i < 13; i++) { switch (i) { case 0: s += 1; case 1: s += 2; \
+         break; case 2: case 3: s += 3; case 4: s += 4; continue; case 5: s += 5; case 9: s += 6; case 7: s += 7; \
+         break; case 8: s += 8; case 6: ; } s = s * 3 % 10007; } return s; }",
+        "487",
+    ),
+    (
         "int f(int n) { switch (n) { case 0: return 1; default: return n * f(n - 1); } } \
          int main(void) { return f(7); }",
         "5040",

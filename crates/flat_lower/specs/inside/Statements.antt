@@ -109,7 +109,7 @@ abbrev mutual
   stmt_code c a (For first test post body) =
       Then (first_code c a first) (loop_code c test post (stmt_code c around.Loop body))
   stmt_code c a (Switch t xs) =
-      Then (expr_code c 0 t) (switched_code a xs (sections_code c (in_switch a) xs))
+      Then (expr_code c 0 t) (switched_code a xs (sections_code c (in_switch a) 0 xs))
   stmt_code c a Break = break_code a
   stmt_code c a Continue = continue_code a
   stmt_code c a (Return e) = return_code c e
@@ -119,11 +119,11 @@ abbrev mutual
   stmts_code c a NoStmts = Nop
   stmts_code c a (WithStmt s rest) = Then (stmt_code c a s) (stmts_code c a rest)
 
-  -- the code of the sections of a switch, one after another
-  pub sections_code : Context → Around → Sections → Code
-  sections_code c a NoSections = Nop
-  sections_code c a (WithSection ls body rest) =
-      Then (section_code (stmts_code c a body)) (sections_code c a rest)
+  -- the code of the sections of a switch behind k others, one after another
+  pub sections_code : Context → Around → ℕ → Sections → Code
+  sections_code c a k NoSections = Nop
+  sections_code c a k (WithSection ls body rest) =
+      Then (section_code k (stmts_code c a body)) (sections_code c a (suc k) rest)
 
   -- the code of the first part of a `for`
   pub first_code : Context → Around → First → Code

@@ -1,8 +1,9 @@
 -- The flat code of switches, but for their statements.
 --
 -- A switch is two loops that end with a break. The first compares the test's value, in temporary 0, with the labels
--- in their order, and leaves there how many sections are skipped. The second skips them, counting down to 0, and runs
--- the others. Where the switch stands in a loop, temporary 0 tells behind it whether a `continue` has left it.
+-- in their order, and leaves there how many sections are skipped. The second compares that with each section's own
+-- number, and runs those that it does not reach. Where the switch stands in a loop, temporary 0 tells behind it
+-- whether a `continue` has left it.
 use Rattle.std.specs.Prelude.{ℕ, suc, ◌+◌, ◌||◌, Bool, true, false, cond, List, [], ◌∷◌, Option, Some, None}
 use Rattle.trips_isa.specs.declared.op.Op.TheVariants as op
 use Rattle.ir_forms.specs.declared.flat.Arg.TheVariants.{Const, Var}
@@ -83,13 +84,14 @@ chosen_code xs =
 
 -- SECTIONS
 
--- a section is skipped, or run, and then no other is skipped
-abbrev pub section_code : Code → Code
-section_code body =
-    only (If (Var (temp 0)) (only (Let (temp 0) op.Sub (Var (temp 0)) (Const 1)))
-    (Then body (set_word (temp 0) 0)))
+-- the section behind k others is skipped where more than k are, or it is run, and then no other is skipped
+abbrev pub section_code : ℕ → Code → Code
+section_code k body =
+    Then (only (Let (scratch 0) op.Tgtu (Var (temp 0)) (Const k)))
+    (only (If (Var (scratch 0)) Nop (Then body (set_word (temp 0) 0))))
 
--- a switch behind its test, by the code of its sections
+-- a switch behind its test, by the code of its sections; its end is left as by a break
 abbrev pub switched_code : Around → Sections → Code → Code
 switched_code a xs body =
-    Then (chosen_code xs) (Then (only (Loop (Then body (only flat.Break)) Nop)) (behind_code a))
+    Then (chosen_code xs)
+    (Then (only (Loop (Then body (break_code (in_switch a))) Nop)) (behind_code a))

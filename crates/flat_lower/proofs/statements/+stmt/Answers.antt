@@ -139,21 +139,28 @@ put_sections-loop-section-preserved t c =
     drop-cons all i a (omega arith) ∙ ap (λ (x : TypedSection). x ∷ drop (suc i) all) (sym c.section-item.is)
     ∙ ap (λ n. a ∷ drop n all) (sym e1) in
     let old = c.args.code.now in
-    let s = subst (λ r. SectionsSoFar c.args.places.now c.args.around all r old c.loop-section.code) dc
-    c.loop-section.invariant in
-    sections_go_on c.args.places.now c.args.around all (drop (i + 1) all) a old c.loop-section.code
+    let n = c.loop-section.n in
+    let e2 : suc n ≡ n + 1 = omega arith in
+    let s = subst (λ r. SectionsSoFar c.args.places.now c.args.around n all r old c.loop-section.code) dc
+    c.loop-section.invariant.0 in
+    let h = sections_go_on c.args.places.now c.args.around n all (drop (i + 1) all) a old c.loop-section.code
     c.put_section.new.code s (subst (λ b. Adds c.loop-section.code c.put_section.new.code
-    (section_code (stmts_code c.args.places.now c.args.around (block_of b)))) c.as_slice.ensures.value
-    c.in_ok-put_section.ensures)
+    (section_code n (stmts_code c.args.places.now c.args.around (block_of b)))) c.as_slice.ensures.value
+    c.in_ok-put_section.ensures) in (
+      subst (λ m. SectionsSoFar c.args.places.now c.args.around m all (drop (i + 1) all) old
+          c.put_section.new.code) e2 h,
+      ap (λ m. m + 1) c.loop-section.invariant.1,
+    )
 
 pub put_sections-returns : goal.put_sections-returns
 put_sections-returns t c =
     let all = c.args.sections.now in
     let e = drop_all all c.loop-section.section-index (omega arith) in
     let old = c.args.code.now in
-    sections_end c.args.places.now c.args.around all old c.loop-section.code
-    (subst (λ r. SectionsSoFar c.args.places.now c.args.around all r old c.loop-section.code) e
-    c.loop-section.invariant)
+    let n = c.loop-section.n in
+    sections_end c.args.places.now c.args.around n all old c.loop-section.code
+    (subst (λ r. SectionsSoFar c.args.places.now c.args.around n all r old c.loop-section.code) e
+    c.loop-section.invariant.0)
 
 pub put_stmt-returns-in-Break : goal.put_stmt-returns-in-Break
 put_stmt-returns-in-Break t c =

@@ -1,4 +1,4 @@
-use Rattle.std.proofs.Common.{◌+◌, ◌*◌, drop}
+use Rattle.std.proofs.Common.{◌≡◌, ◌+◌, ◌*◌, drop}
 use Rattle.flat_lower.specs.inside.Emitted.{first_of, other_of}
 use Rattle.flat_lower.proofs.EmitCounts.{StmtsSoFar, stmts_in_all, stmts_in_first, count_stmt}
 use Rattle.flat_lower.proofs.EmitCounts.{count_block, count_sections, SectionsSoFar}
@@ -44,5 +44,6 @@ abbrev pub decreases-put_switch : goal.decreases-put_switch
 decreases-put_switch l = 4 * count_sections l.sections.now + 4
 
 abbrev pub invariant-put_sections-loop-section : goal.invariant-put_sections-loop-section
-invariant-put_sections-loop-section l = SectionsSoFar l.places l.around l.sections
-    (drop l.section-index l.sections) l.fn.code l.code
+invariant-put_sections-loop-section l =
+    SectionsSoFar l.places l.around l.n l.sections (drop l.section-index l.sections) l.fn.code l.code
+    × (l.n ≡ l.section-index)
