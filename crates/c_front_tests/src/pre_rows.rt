@@ -283,6 +283,14 @@ pub const LITERAL_ROWS: &[Row] = &[
         &["A", "=", "\"a", "[", "0", "]", ";"],
         "char \"a [ ] = { 97 , 0 } ; A = \"a [ 0 ] ;",
     ),
+    // 6.7.9: a list with designators stands without them.
+    (
+        &[
+            "#define", "A", "2", ";;", "int", "B", "[", "]", "=", "{", "[", "A", "]", "=", "3",
+            "}", ";",
+        ],
+        "int B [ ] = { 0 , 0 , 3 } ;",
+    ),
     // The list of a call is none.
     (
         &["A", "=", "{", "B", "(", "\"a", ")", "}"],

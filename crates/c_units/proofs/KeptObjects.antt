@@ -1,7 +1,7 @@
 -- What holds of all tokens and of all that may be added holds of the items of a unit, and of the objects that they
 -- declare.
 use Rattle.std.proofs.Common.{◌≡◌, ℕ, Bool, true, false, cond, List, [], ◌∷◌, ◌++◌, Option, Some, None}
-use Rattle.std.specs.Prelude.{◌&&◌, ◌||◌}
+use Rattle.std.specs.Prelude.{◌&&◌, ◌||◌, is_some}
 use Rattle.c_tree.specs.declared.Form.{Form}
 use Rattle.c_tree.specs.declared.Mark.TheVariants as mark
 use Rattle.c_tree.specs.declared.Lexeme.{Lexeme}
@@ -148,7 +148,7 @@ value_keeps P ws at (Some (x, b)) a k =
     each_append P (marked at mark.Assign) (or_bare b (unbraced ws x b)) (marked_keeps P at mark.Assign a)
     (bare_keeps P b (unbraced ws x b) k.1 (unbraced_keeps P ws x b k.1))
 
-declaration_keeps : (P : Fact) (e : Bool) (ws : Tokens) (n : Lexeme) (ts : Tokens) → Allows P → EachToken P ws
+declaration_keeps : (P : Fact) (e : Option ℕ) (ws : Tokens) (n : Lexeme) (ts : Tokens) → Allows P → EachToken P ws
     → P n.form → EachToken P ts → EachPartOf P (declaration e ws n ts)
 declaration_keeps P e ws n ts a h k m =
     let parts : EachPart P (split mark.Assign ts) = parts_keep P mark.Assign ts m in
@@ -158,19 +158,19 @@ declaration_keeps P e ws n ts a h k m =
       value = value_keeps P ws n.offset (split mark.Assign ts) a parts;
     }
 
-piece_keeps : (P : Fact) (e : Bool) (ws : Tokens) (got : List Declaration) (p : Tokens) → Allows P → EachToken P ws
+piece_keeps : (P : Fact) (e : Option ℕ) (ws : Tokens) (got : List Declaration) (p : Tokens) → Allows P → EachToken P ws
     → EachDeclared P got → EachToken P p → EachDeclared P (with_piece e ws got p)
 piece_keeps P e ws got [] a h k m = k
 piece_keeps P e ws got (n ∷ ts) a h k m =
     declared_append P got (declaration e ws n ts ∷ []) k (declaration_keeps P e ws n ts a h m.0 m.1, tt)
 
-each_keep : (P : Fact) (e : Bool) (ws : Tokens) (got : List Declaration) (ps : List Tokens) → Allows P
+each_keep : (P : Fact) (e : Option ℕ) (ws : Tokens) (got : List Declaration) (ps : List Tokens) → Allows P
     → EachToken P ws → EachDeclared P got → EachPiece P ps → EachDeclared P (each_from e ws got ps)
 each_keep P e ws got [] a h k m = k
 each_keep P e ws got (p ∷ ps) a h k m =
     each_keep P e ws (with_piece e ws got p) ps a h (piece_keeps P e ws got p a h k m.0) m.1
 
-body_keeps : (P : Fact) (e : Bool) (ws : Tokens) (o : Option Parts) → Allows P → EachToken P ws → EachPart P o
+body_keeps : (P : Fact) (e : Option ℕ) (ws : Tokens) (o : Option Parts) → Allows P → EachToken P ws → EachPart P o
     → EachDeclared P (read_body e ws o)
 body_keeps P e ws None a h k = tt
 body_keeps P e ws (Some (b, [])) a h k =
@@ -178,19 +178,20 @@ body_keeps P e ws (Some (b, [])) a h k =
     (each_keep P e ws [] (pieces b) a h tt (pieces_keep P b k.0)) tt
 body_keeps P e ws (Some (b, t ∷ ts)) a h k = tt
 
-behind_words_keep : (P : Fact) (e : Bool) (ws ts : Tokens) → Allows P → EachToken P ws → EachToken P ts
+behind_words_keep : (P : Fact) (e : Option ℕ) (ws ts : Tokens) → Allows P → EachToken P ws → EachToken P ts
     → EachDeclared P (read_words e ws ts)
 behind_words_keep P e [] ts a h k = tt
 behind_words_keep P e (w ∷ ws) ts a h k =
     body_keeps P e (w ∷ ws) (split mark.Semicolon ts) a h (parts_keep P mark.Semicolon ts k)
 
-from_keeps : (P : Fact) (e : Bool) (ts : Tokens) → Allows P → EachToken P ts → EachDeclared P (read_from e ts)
+from_keeps : (P : Fact) (e : Option ℕ) (ts : Tokens) → Allows P → EachToken P ts → EachDeclared P (read_from e ts)
 from_keeps P e ts a h =
-    behind_words_keep P e (words_from e [] ts) (behind_words e ts) a (words_keep P e [] ts tt h) (behind_keep P e ts h)
+    behind_words_keep P e (words_from (is_some e) [] ts) (behind_words (is_some e) ts) a
+    (words_keep P (is_some e) [] ts tt h) (behind_keep P (is_some e) ts h)
 
 -- the objects that an item declares
 pub read_keeps : (P : Fact) (ts : Tokens) → Allows P → EachToken P ts → EachDeclared P (read ts)
 read_keeps P [] a h = tt
 read_keeps P (t ∷ ts) a h =
-    either_list P (is_extern t.form) (read_from true ts) (read_from false (t ∷ ts)) (from_keeps P true ts a h.1)
-    (from_keeps P false (t ∷ ts) a h)
+    either_list P (is_extern t.form) (read_from (Some t.offset) ts) (read_from None (t ∷ ts))
+    (from_keeps P (Some t.offset) ts a h.1) (from_keeps P None (t ∷ ts) a h)

@@ -15,10 +15,11 @@ use Rattle.c_locals.proofs.KeptElements.{EachPart, parts_keep, marked_keeps}
 use Rattle.c_words.specs.Keys.{is_key}
 use Rattle.c_units.specs.declared.raised.Raise.{Raise}
 use Rattle.c_units.specs.Cuts.{ends}
+use Rattle.c_units.specs.Externs.{are_objects, external_by, external}
 use Rattle.c_units.specs.Objects.{is_extern, words_from, behind_words}
 use Rattle.c_units.specs.Raised.{closed_by, named_by, valued_by, valued, prototype, beginning, begins, to_item}
 use Rattle.c_units.specs.Raised.{raised_by}
-use Rattle.c_units.specs.Raised.{found_by, started, taken, counted, flushed, step, run, raised}
+use Rattle.c_units.specs.Raised.{found_by, extern_by, started, taken, counted, flushed, step, run, raised}
 use Rattle.c_units.proofs.KeptObjects.{EachOf, if_there, words_keep, behind_keep}
 
 -- A PROTOTYPE
@@ -57,6 +58,18 @@ prototype_keeps P (t ∷ ts) a h =
     (valued_by_keeps P (words_from false [] (t ∷ ts)) (behind_words false (t ∷ ts)) a
     (words_keep P false [] (t ∷ ts) tt h) (behind_keep P false (t ∷ ts) h))
 
+-- EXTERN
+
+external_by_keeps : (P : Fact) (t : Lexeme) (before : Tokens) (o : Option Parts) → P t.form → EachPart P o
+    → EachOf P (external_by t before o)
+external_by_keeps P t before None h k = tt
+external_by_keeps P t before (Some (a, b)) h k = if_there P (are_objects before a) (Some (t ∷ a)) (h, k.0)
+
+external_keeps : (P : Fact) (t : Lexeme) (before ts : Tokens) → EachToken P (t ∷ ts)
+    → EachOf P (external t before ts)
+external_keeps P t before ts h =
+    external_by_keeps P t before (split mark.Semicolon ts) h.0 (parts_keep P mark.Semicolon ts h.1)
+
 -- THE UNIT
 
 -- it holds of all that is read
@@ -89,11 +102,17 @@ found_keeps P t e None s a h k m = item_keeps P t s h k
 found_keeps P t e (Some ts) s a h k m =
     raised_by_keeps P t.offset (cond e (length ts) (length ts - 1)) ts s a h m
 
+extern_keeps : (P : Fact) (t : Lexeme) (ts : Tokens) (o : Option Tokens) (s : Raise) → Allows P → EachRead P s
+    → EachToken P (t ∷ ts) → EachOf P o → EachRead P (extern_by t ts o s)
+extern_keeps P t ts (Some ps) s a h k m = found_keeps P t true (Some ps) s a h k.0 m
+extern_keeps P t ts None s a h k m =
+    found_keeps P t false (external t s.item ts) s a h k.0 (external_keeps P t s.item ts k)
+
 started_keeps : (P : Fact) (t : Lexeme) (ts : Tokens) (s : Raise) → Allows P → EachRead P s → EachToken P (t ∷ ts)
     → EachRead P (started t ts s)
 started_keeps P t ts s a h k =
-    either_read P (is_extern t.form) (found_by t true (prototype ts) s) (found_by t false (prototype (t ∷ ts)) s)
-    (found_keeps P t true (prototype ts) s a h k.0 (prototype_keeps P ts a k.1))
+    either_read P (is_extern t.form) (extern_by t ts (prototype ts) s) (found_by t false (prototype (t ∷ ts)) s)
+    (extern_keeps P t ts (prototype ts) s a h k (prototype_keeps P ts a k.1))
     (found_keeps P t false (prototype (t ∷ ts)) s a h k.0 (prototype_keeps P (t ∷ ts) a k))
 
 taken_keeps : (P : Fact) (n : ℕ) (t : Lexeme) (ts : Tokens) (s : Raise) → Allows P → EachRead P s

@@ -1,6 +1,6 @@
 -- What holds of all tokens and of all that may be added holds of a unit that declares each object once.
-use Rattle.std.proofs.Common.{◌≡◌, ℕ, Bool, true, false, cond, List, [], ◌∷◌, ◌++◌}
-use Rattle.std.specs.Prelude.{◌&&◌, nat_eq}
+use Rattle.std.proofs.Common.{◌≡◌, ℕ, Bool, true, false, cond, List, [], ◌∷◌, ◌++◌, Option, Some}
+use Rattle.std.specs.Prelude.{None, ◌&&◌, nat_eq}
 use Rattle.c_tree.specs.declared.Form.TheVariants as form
 use Rattle.c_tree.specs.declared.Key.TheVariants as key
 use Rattle.c_tree.specs.declared.Mark.TheVariants as mark
@@ -12,8 +12,8 @@ use Rattle.c_locals.proofs.KeptElements.{EachPiece, marked_keeps}
 use Rattle.c_units.specs.declared.joined.Told.{Told}
 use Rattle.c_units.specs.declared.objects.Declaration.{Declaration}
 use Rattle.c_units.specs.Cuts.{items}
-use Rattle.c_units.specs.Joined.{count, has_value, value_of, is_made, extern_of, whole, counts, single, one_told}
-use Rattle.c_units.specs.Joined.{each_told}
+use Rattle.c_units.specs.Joined.{count, has_value, value_of, is_made, extern_at, extern_of, whole, counts, single}
+use Rattle.c_units.specs.Joined.{one_told, each_told}
 use Rattle.c_units.specs.Joined.{are_alone, kept, item_told, items_told, all_from, beginning, joined}
 use Rattle.c_units.specs.Objects.{read}
 use Rattle.c_units.specs.Same.{same_tokens}
@@ -26,9 +26,13 @@ value_of_keeps P [] h k = tt
 value_of_keeps P (d ∷ ds) h k =
     either P (same_tokens d.head h && has_value d) d.value (value_of ds h) k.0.value (value_of_keeps P ds h k.1)
 
+extern_at_keeps : (P : Fact) (e : Option ℕ) → Allows P → EachToken P (extern_at e)
+extern_at_keeps P None a = tt
+extern_at_keeps P (Some at) a = (a.key key.Extern, tt)
+
 extern_keeps : (P : Fact) (all : List Declaration) (d : Declaration) → Allows P → EachToken P (extern_of all d)
 extern_keeps P all d a =
-    either P (is_made all d.head) [] (tokens d.at (form.Key key.Extern ∷ [])) tt (a.key key.Extern, tt)
+    either P (is_made all d.head) [] (extern_at d.external) tt (extern_at_keeps P d.external a)
 
 whole_keeps : (P : Fact) (all : List Declaration) (d : Declaration) (value : Tokens) → Allows P → EachPartOf P d
     → EachToken P value → EachToken P (whole all d value)

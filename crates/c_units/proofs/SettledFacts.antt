@@ -9,21 +9,24 @@ use Rattle.c_library.specs.declared.fault.LibraryFault.{LibraryFault}
 use Rattle.c_library.specs.declared.fault.LibraryFault.TheVariants as fault
 use Rattle.c_library.specs.Within.{within, unless_more}
 use Rattle.c_library.proofs.Holds.{Fact, EachToken, Allows}
+use Rattle.c_units.specs.Designators.{plain}
 use Rattle.c_units.specs.Joined.{joined}
 use Rattle.c_units.specs.Raised.{raised}
 use Rattle.c_units.specs.Settled.{is_settled, settled}
 use Rattle.c_units.proofs.KeptObjects.{either}
+use Rattle.c_units.proofs.KeptLists.{plain_keeps}
 use Rattle.c_units.proofs.KeptRaised.{raised_keeps}
 use Rattle.c_units.proofs.KeptUnits.{joined_keeps}
 
 -- a unit in which nothing is to settle is its own
 pub settled_stays : (ts : Tokens) → is_settled ts ≡ true → settled ts ≡ ts
-settled_stays ts e = ap (λ (b : Bool). cond b ts (joined (raised ts))) e
+settled_stays ts e = ap (λ (b : Bool). cond b ts (joined (raised (plain ts)))) e
 
 -- what holds of all tokens and of all that may be added holds of each that comes out
 pub settled_keeps : (P : Fact) (ts : Tokens) → Allows P → EachToken P ts → EachToken P (settled ts)
 settled_keeps P ts a h =
-    either P (is_settled ts) ts (joined (raised ts)) h (joined_keeps P (raised ts) a (raised_keeps P ts a h))
+    either P (is_settled ts) ts (joined (raised (plain ts))) h
+    (joined_keeps P (raised (plain ts)) a (raised_keeps P (plain ts) a (plain_keeps P ts a h)))
 
 none_behind : (n : ℕ) (ts all : Tokens) → None ≡ slice_get ts n → unless_more all (drop n ts) ≡ Ok all
 none_behind zero [] all e = refl

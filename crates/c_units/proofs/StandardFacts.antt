@@ -69,6 +69,19 @@ pub braces_of_an_array_stay : is_settled (tokens 0 (declares
     ∷ form.Mark mark.LeftBrace ∷ form.Number 3 Int ∷ form.Mark mark.RightBrace ∷ []))) ≡ true
 braces_of_an_array_stay = refl
 
+-- `int x[2] = { [1] = 3 };` is `int x[2] = { 0, 3 };` (6.7.9, paragraph 17)
+abbrev listed : List Form → List Form
+listed fs =
+    declares
+    (form.Mark mark.LeftBracket ∷ form.Number 2 Int ∷ form.Mark mark.RightBracket ∷ form.Mark mark.Assign
+    ∷ form.Mark mark.LeftBrace ∷ (fs ++ form.Mark mark.RightBrace ∷ []))
+
+pub designator_goes : becomes
+    (listed (form.Mark mark.LeftBracket ∷ form.Number 1 Int ∷ form.Mark mark.RightBracket ∷ form.Mark mark.Assign
+    ∷ form.Number 3 Int ∷ []))
+    (listed (form.Number 0 Int ∷ form.Mark mark.Comma ∷ form.Number 3 Int ∷ []))
+designator_goes = refl
+
 -- `{ int f(); }` is `int f(); { ; }` (6.2.2, paragraph 5)
 abbrev prototype_forms : List Form
 prototype_forms =

@@ -1,5 +1,6 @@
 -- Declarations of one object, as one (C17 6.9.2, 6.2.2).
 use Rattle.std.specs.Prelude.{ℕ, ◌+◌, Bool, true, false, not, ◌&&◌, ◌||◌, nat_eq, if◌then◌else◌, List, [], ◌∷◌, ◌++◌}
+use Rattle.std.specs.Prelude.{Option, Some, None, is_none}
 use Rattle.c_tree.specs.declared.Form.TheVariants as form
 use Rattle.c_tree.specs.declared.Key.TheVariants as key
 use Rattle.c_tree.specs.declared.Mark.TheVariants as mark
@@ -40,7 +41,7 @@ value_of (d ∷ ds) h = if same_tokens d.head h && has_value d then d.value else
 
 -- does the declaration make an object: it has no `extern`, or a value?
 abbrev pub makes : Declaration → Bool
-makes d = not d.external || has_value d
+makes d = is_none d.external || has_value d
 
 -- does one of these make it?
 abbrev pub is_made : List Declaration → Tokens → Bool
@@ -49,9 +50,14 @@ is_made (d ∷ ds) h = (same_tokens d.head h && makes d) || is_made ds h
 
 -- ONE DECLARATION
 
--- `extern`, which the grammar refuses, where none of all makes the object
+-- `extern` at its place, if it has one
+abbrev pub extern_at : Option ℕ → Tokens
+extern_at None = []
+extern_at (Some at) = tokens at (form.Key key.Extern ∷ [])
+
+-- and where none of all makes the object, since the grammar refuses it
 abbrev pub extern_of : List Declaration → Declaration → Tokens
-extern_of all d = if is_made all d.head then [] else tokens d.at (form.Key key.Extern ∷ [])
+extern_of all d = if is_made all d.head then [] else extern_at d.external
 
 -- a declaration of its own, with this value
 abbrev pub whole : List Declaration → Declaration → Tokens → Tokens
@@ -92,7 +98,7 @@ each_told all (d ∷ ds) s = each_told all ds (one_told all d s)
 
 -- is a declaration the only one of its object, and neither `extern` nor with a value whose braces went?
 abbrev pub is_alone : List Declaration → Declaration → Bool
-is_alone all d = not d.external && (not d.is_bared && nat_eq (count all d.head) 1)
+is_alone all d = is_none d.external && (not d.is_bared && nat_eq (count all d.head) 1)
 
 -- is each of these?
 abbrev pub are_alone : List Declaration → List Declaration → Bool

@@ -2,6 +2,9 @@ pub mod Same
 pub mod Cuts
 pub mod Braces
 pub mod Objects
+pub mod Entries
+pub mod Designators
+pub mod Externs
 pub mod Raised
 pub mod Joined
 pub mod Repeats

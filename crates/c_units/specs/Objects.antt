@@ -75,8 +75,9 @@ abbrev pub value_by : Tokens → ℕ → Option Parts → Tokens
 value_by ws at None = []
 value_by ws at (Some (a, b)) = marked at mark.Assign ++ or_bare b (unbraced ws a b)
 
--- the declaration of an object, with `extern` or not and with these words, by its name and what stands behind it
-abbrev pub declaration : Bool → Tokens → Lexeme → Tokens → Declaration
+-- the declaration of an object, with `extern` at this place or none and with these words, by its name and what stands
+-- behind it
+abbrev pub declaration : Option ℕ → Tokens → Lexeme → Tokens → Declaration
 declaration e ws n ts =
     record {
       external = e;
@@ -87,32 +88,32 @@ declaration e ws n ts =
     }
 
 -- the declarations, with that of a declarator
-abbrev pub with_piece : Bool → Tokens → List Declaration → Tokens → List Declaration
+abbrev pub with_piece : Option ℕ → Tokens → List Declaration → Tokens → List Declaration
 with_piece e ws got [] = got
 with_piece e ws got (n ∷ ts) = got ++ declaration e ws n ts ∷ []
 
 -- and with that of each
-abbrev pub each_from : Bool → Tokens → List Declaration → List Tokens → List Declaration
+abbrev pub each_from : Option ℕ → Tokens → List Declaration → List Tokens → List Declaration
 each_from e ws got [] = got
 each_from e ws got (p ∷ ps) = each_from e ws (with_piece e ws got p) ps
 
 -- ITEMS
 
 -- the declarations of these declarators, if all are of objects and nothing stands behind the `;`
-abbrev pub read_body : Bool → Tokens → Option Parts → List Declaration
+abbrev pub read_body : Option ℕ → Tokens → Option Parts → List Declaration
 read_body e ws (Some (b, [])) = if are_objects (pieces b) then each_from e ws [] (pieces b) else []
 read_body e ws _ = []
 
 -- those behind the words of a type
-abbrev pub read_words : Bool → Tokens → Tokens → List Declaration
+abbrev pub read_words : Option ℕ → Tokens → Tokens → List Declaration
 read_words e [] ts = []
 read_words e (w ∷ ws) ts = read_body e (w ∷ ws) (split mark.Semicolon ts)
 
--- those of tokens behind `extern`, or of such without
-abbrev pub read_from : Bool → Tokens → List Declaration
-read_from e ts = read_words e (words_from e [] ts) (behind_words e ts)
+-- those of tokens behind `extern` at this place, or of such without
+abbrev pub read_from : Option ℕ → Tokens → List Declaration
+read_from e ts = read_words e (words_from (is_some e) [] ts) (behind_words (is_some e) ts)
 
 -- the objects that an item declares; none where it is anything else
 abbrev pub read : Tokens → List Declaration
 read [] = []
-read (t ∷ ts) = if is_extern t.form then read_from true ts else read_from false (t ∷ ts)
+read (t ∷ ts) = if is_extern t.form then read_from (Some t.offset) ts else read_from None (t ∷ ts)

@@ -1,4 +1,4 @@
--- Prototypes in blocks, in front of the items of their unit (C17 6.2.2, 6.7.6.3).
+-- Prototypes and `extern` of objects in blocks, in front of the items of their unit (C17 6.2.2, 6.7.6.3).
 use Rattle.std.specs.Prelude.{ℕ, zero, suc, ◌-◌, Bool, true, false, not, ◌&&◌, ◌||◌, nat_eq, if◌then◌else◌, [], ◌∷◌}
 use Rattle.std.specs.Prelude.{◌++◌}
 use Rattle.std.specs.Prelude.{length, Option, Some, None}
@@ -15,6 +15,7 @@ use Rattle.c_locals.specs.Walks.{parens_past}
 use Rattle.c_words.specs.Keys.{is_key}
 use Rattle.c_units.specs.declared.raised.Raise.{Raise}
 use Rattle.c_units.specs.Cuts.{start, past, ends}
+use Rattle.c_units.specs.Externs.{external}
 use Rattle.c_units.specs.Objects.{is_extern, words_from, behind_words}
 
 -- A PROTOTYPE
@@ -70,10 +71,15 @@ abbrev pub found_by : Lexeme → Bool → Option Tokens → Raise → Raise
 found_by t e None s = to_item t s
 found_by t e (Some ts) s = raised_by t.offset (if e then length ts else length ts - 1) ts s
 
+-- with what an `extern` begins: this prototype, or objects
+abbrev pub extern_by : Lexeme → Tokens → Option Tokens → Raise → Raise
+extern_by t ts (Some ps) s = found_by t true (Some ps) s
+extern_by t ts None s = found_by t false (external t s.item ts) s
+
 -- with a token where one may begin, before these
 abbrev pub started : Lexeme → Tokens → Raise → Raise
 started t ts s =
-    if is_extern t.form then found_by t true (prototype ts) s else found_by t false (prototype (t ∷ ts)) s
+    if is_extern t.form then extern_by t ts (prototype ts) s else found_by t false (prototype (t ∷ ts)) s
 
 -- with a token of a prototype that stands in front
 abbrev pub skipped : ℕ → Raise → Raise
@@ -124,6 +130,7 @@ abbrev pub run : Raise → Tokens → Tokens
 run s [] = s.out ++ (s.front ++ s.item)
 run s (t ∷ ts) = run (step t ts s) ts
 
--- A unit no block of which has a prototype: these stand in front of their functions, and their `;` stays.
+-- A unit no block of which has a prototype or an `extern`: these stand in front of their functions, and their `;`
+-- stays.
 abbrev pub raised : Tokens → Tokens
 raised ts = run beginning ts

@@ -1,5 +1,5 @@
 -- Units in which no name of an object is declared twice outside of brackets, nothing is `extern`, no braces stand
--- round the value of a scalar or round a list, and no block has a prototype.
+-- round the value of a scalar or round a list, no list has a designator, and no block has a prototype.
 use Rattle.std.specs.Prelude.{ℕ, Bool, true, false, not, ◌&&◌, ◌||◌, nat_eq, if◌then◌else◌, List, [], ◌∷◌, ◌++◌, Option}
 use Rattle.std.specs.Prelude.{Some, None}
 use Rattle.c_tree.specs.declared.Form.{Form}
@@ -18,6 +18,7 @@ use Rattle.c_units.specs.declared.repeats.Seen.{Seen}
 use Rattle.c_units.specs.declared.repeats.Sizes.{Sizes}
 use Rattle.c_units.specs.declared.repeats.Sizes.TheVariants as sizes
 use Rattle.c_units.specs.Braces.{begins_list}
+use Rattle.c_units.specs.Designators.{designates}
 use Rattle.c_units.specs.Objects.{is_extern}
 
 -- before the first token
@@ -91,10 +92,12 @@ past f ts s =
       is_typed = is_word f || is_key key.Void f;
     }
 
--- does a token, before these, declare a name once more or a function in brackets, is it `extern`, or does it set such a
--- value?
+-- does a token, before these, declare a name once more or a function in brackets, is it `extern`, does it set such a
+-- value, or does a designator stand behind it?
 abbrev pub repeats : Form → Tokens → Seen → Bool
-repeats f ts s = is_extern f || (is_inner f ts s || (sets_list f ts s || is_known s.names (declares s f ts)))
+repeats f ts s =
+    is_extern f
+    || (is_inner f ts s || (sets_list f ts s || (designates f ts || is_known s.names (declares s f ts))))
 
 -- does no token from here on?
 abbrev pub no_repeats_from : Seen → Tokens → Bool

@@ -37,7 +37,7 @@ fn count(declarations: &[Declaration], head: &[Lexeme]) -> usize
 }
 
 /// Is it any token?
-fn is_any(tokens: &[Lexeme]) -> bool
+pub fn is_any(tokens: &[Lexeme]) -> bool
     ensures { result ≡ joined.is_any tokens.now }
 {
     match tokens {
@@ -58,7 +58,7 @@ impl Declaration {
     fn makes(&self) -> bool
         ensures { result ≡ joined.makes self.now }
     {
-        !self.external || self.has_value()
+        self.external.is_none() || self.has_value()
     }
 }
 
@@ -92,7 +92,39 @@ fn is_made(declarations: &[Declaration], head: &[Lexeme]) -> bool
 
 // ONE DECLARATION
 
-/// A declaration of its own, with this value. Want of memory is the only error, here and below.
+/// `extern` at its place, if it has one. Want of memory is the only error, here and below.
+fn extern_at(alloc: Global, external: Option<u32>) -> Result<Items<Lexeme>, AllocError>
+    ensures { IfOk result (λ out. out ≡ joined.extern_at external) }
+{
+    let mut out = Items::new(alloc);
+    match external {
+        None => Ok(out),
+        Some(offset) => {
+            out.push(Lexeme {
+                offset,
+                form: Form::Key(Key::Extern),
+            })?;
+            Ok(out)
+        }
+    }
+}
+
+/// And where none of all makes the object.
+fn extern_of(
+    alloc: Global,
+    all: &[Declaration],
+    declaration: &Declaration,
+) -> Result<Items<Lexeme>, AllocError>
+    ensures { IfOk result (λ out. out ≡ joined.extern_of all.now declaration.now) }
+{
+    if is_made(all, declaration.head.as_slice()) {
+        Ok(Items::new(alloc))
+    } else {
+        extern_at(alloc, declaration.external)
+    }
+}
+
+/// A declaration of its own, with this value.
 fn whole(
     alloc: Global,
     all: &[Declaration],
@@ -101,13 +133,7 @@ fn whole(
 ) -> Result<Items<Lexeme>, AllocError>
     ensures { IfOk result (λ out. out ≡ joined.whole all.now declaration.now value.now) }
 {
-    let mut out = Items::new(alloc);
-    if !is_made(all, declaration.head.as_slice()) {
-        out.push(Lexeme {
-            offset: declaration.at,
-            form: Form::Key(Key::Extern),
-        })?;
-    }
+    let mut out = extern_of(alloc, all, declaration)?;
     out.append(tokens_copied(alloc, declaration.head.as_slice())?)?;
     out.append(tokens_copied(alloc, value)?)?;
     out.push(Lexeme {
@@ -174,7 +200,9 @@ fn single(
 fn is_alone(all: &[Declaration], declaration: &Declaration) -> bool
     ensures { result ≡ joined.is_alone all.now declaration.now }
 {
-    !declaration.external && !declaration.is_bared && count(all, declaration.head.as_slice()) == 1
+    declaration.external.is_none()
+        && !declaration.is_bared
+        && count(all, declaration.head.as_slice()) == 1
 }
 
 /// Is each of these?

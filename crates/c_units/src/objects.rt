@@ -13,12 +13,12 @@ use c_tree::{Form, Key, Lexeme, Mark};
 use c_words::is_key;
 use std::alloc::{AllocError, Global};
 
-/// A declaration of an object: whether it is `extern`, the offset of its name, the words of its type with its name and
-/// its sizes, its value from the `=` on, which is nothing where it has none, and whether the value stood in braces that
-/// went.
+/// A declaration of an object: the offset of its `extern`, if it has one, and of its name, the words of its type with
+/// its name and its sizes, its value from the `=` on, which is nothing where it has none, and whether the value stood in
+/// braces that went.
 #[derive(Drop)]
 pub struct Declaration {
-    pub external: bool,
+    pub external: Option<u32>,
     pub at: u32,
     pub head: Items<Lexeme>,
     pub value: Items<Lexeme>,
@@ -127,7 +127,7 @@ pub fn is_name(form: &Form) -> bool
 }
 
 /// Is it the declarator of an object?
-fn is_object(piece: &[Lexeme]) -> bool
+pub fn is_object(piece: &[Lexeme]) -> bool
     ensures { result ≡ objects.is_object piece.now }
 {
     match piece {
@@ -219,7 +219,7 @@ fn value(
 /// The declaration of an object.
 fn declaration_of(
     alloc: Global,
-    external: bool,
+    external: Option<u32>,
     words: &[Lexeme],
     name: &Lexeme,
     behind: &[Lexeme],
@@ -242,7 +242,7 @@ fn declaration_of(
 /// Adds the declaration of a declarator.
 fn add_piece(
     alloc: Global,
-    external: bool,
+    external: Option<u32>,
     words: &[Lexeme],
     piece: &[Lexeme],
     out: &mut Items<Declaration>,
@@ -258,7 +258,7 @@ fn add_piece(
 /// The declaration of each declarator.
 fn each(
     alloc: Global,
-    external: bool,
+    external: Option<u32>,
     words: &[Lexeme],
     body: &[Lexeme],
 ) -> Result<Items<Declaration>, AllocError>
@@ -279,7 +279,7 @@ fn each(
 /// The declarations of declarators, if all are of objects.
 fn read_body(
     alloc: Global,
-    external: bool,
+    external: Option<u32>,
     words: &[Lexeme],
     parts: Option<(&[Lexeme], &[Lexeme])>,
 ) -> Result<Items<Declaration>, AllocError>
@@ -301,7 +301,7 @@ fn read_body(
 /// Those behind the words of a type.
 fn read_words(
     alloc: Global,
-    external: bool,
+    external: Option<u32>,
     words: &[Lexeme],
     behind: &[Lexeme],
 ) -> Result<Items<Declaration>, AllocError>
@@ -316,17 +316,17 @@ fn read_words(
 /// Those of tokens behind `extern`, or of such without.
 fn read_from(
     alloc: Global,
-    external: bool,
+    external: Option<u32>,
     tokens: &[Lexeme],
 ) -> Result<Items<Declaration>, AllocError>
     ensures { IfOk result (λ out. out ≡ objects.read_from external tokens.now) }
 {
-    let words = words(alloc, external, tokens)?;
+    let words = words(alloc, external.is_some(), tokens)?;
     read_words(
         alloc,
         external,
         words.as_slice(),
-        behind_words(external, tokens),
+        behind_words(external.is_some(), tokens),
     )
 }
 
@@ -338,9 +338,9 @@ pub fn read(alloc: Global, item: &[Lexeme]) -> Result<Items<Declaration>, AllocE
         [] => Ok(Items::new(alloc)),
         [token, more @ ..] => {
             if is_extern(&token.form) {
-                read_from(alloc, true, more)
+                read_from(alloc, Some(token.offset), more)
             } else {
-                read_from(alloc, false, item)
+                read_from(alloc, None, item)
             }
         }
     }

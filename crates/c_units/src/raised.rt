@@ -1,9 +1,10 @@
-//! Prototypes in blocks, in front of the items of their unit.
+//! Prototypes and `extern` of objects in blocks, in front of the items of their unit.
 
 ghost use Rattle.std.specs.Prelude.{◌≡◌, ◌<◌, ◌≤◌, ◌+◌, [], ◌∷◌, option_map, length, IfOk, OnOk};
 ghost use Rattle.c_units.specs.Raised as raised;
 
 use crate::cuts::{Place, start};
+use crate::externs::external;
 use crate::objects::{behind_words, is_extern, is_name, tokens_copied, words};
 use base::Items;
 use c_library::token_copied;
@@ -217,6 +218,27 @@ impl Raise {
         }
     }
 
+    /// Puts what an `extern` begins: this prototype, or objects.
+    fn find_extern(
+        &mut self,
+        alloc: Global,
+        token: &Lexeme,
+        behind: &[Lexeme],
+        found: Option<Items<Lexeme>>,
+    ) -> Result<(), AllocError>
+        ensures value { OnOk result (self.new ≡ raised.extern_by token.now behind.now found self.old) }
+        ensures place { OnOk result (self.new.place ≡ self.old.place) }
+        ensures parens { OnOk result (self.new.parens ≡ self.old.parens) }
+    {
+        match found {
+            Some(tokens) => self.find(alloc, token, true, Some(tokens)),
+            None => {
+                let found = external(alloc, token, self.item.as_slice(), behind)?;
+                self.find(alloc, token, false, found)
+            }
+        }
+    }
+
     /// Goes past a token where one may begin, before these.
     fn begin(
         &mut self,
@@ -232,7 +254,7 @@ impl Raise {
     {
         if is_extern(&token.form) {
             let found = prototype(alloc, behind)?;
-            self.find(alloc, token, true, found)
+            self.find_extern(alloc, token, behind, found)
         } else {
             let found = prototype(alloc, tokens)?;
             self.find(alloc, token, false, found)
@@ -362,7 +384,7 @@ impl Raise {
     }
 }
 
-/// A unit no block of which has a prototype. Want of memory is the only error.
+/// A unit no block of which has a prototype or an `extern`. Want of memory is the only error.
 pub fn raised(alloc: Global, tokens: &[Lexeme]) -> Result<Items<Lexeme>, AllocError>
     ensures { IfOk result (λ out. out ≡ raised.raised tokens.now) }
 {

@@ -1,10 +1,11 @@
 //! Units in which no name of an object is declared twice outside of brackets, nothing is `extern`, no braces stand
-//! round the value of a scalar or round a list, and no block has a prototype.
+//! round the value of a scalar or round a list, no list has a designator, and no block has a prototype.
 
 ghost use Rattle.std.specs.Prelude.{◌≡◌, ◌<◌, ◌≤◌, ◌+◌, length, nat_eq, if◌then◌else◌, option_map, IfOk, OnOk};
 ghost use Rattle.c_units.specs.Repeats as repeats;
 
 use crate::braces::begins_list;
+use crate::designators::designates;
 use crate::objects::{is_extern, is_name};
 use c_locals::{depth_past, is_mark, is_word};
 use c_tree::{Form, Key, Lexeme, Mark, Word};
@@ -166,14 +167,15 @@ impl Seen {
         self.is_typed && self.depth != 0 && is_name(form) && begins_group(behind)
     }
 
-    /// Does a token, before these, declare a name once more or a function in brackets, is it `extern`, or does it set
-    /// such a value?
+    /// Does a token, before these, declare a name once more or a function in brackets, is it `extern`, does it set such
+    /// a value, or does a designator stand behind it?
     fn repeats(&self, form: &Form, behind: &[Lexeme]) -> bool
         ensures { result ≡ repeats.repeats form.now behind.now self.now }
     {
         is_extern(form)
             || self.is_inner(form, behind)
             || self.sets_list(form, behind)
+            || designates(form, behind)
             || is_known(&self.names, self.declares(form, behind))
     }
 
@@ -193,8 +195,8 @@ impl Seen {
     }
 }
 
-/// Does no token declare a name once more, is none `extern`, and does none set such a value? Want of memory is the only
-/// error.
+/// Does no token declare a name once more, is none `extern`, does none set such a value, and has no list a designator?
+/// Want of memory is the only error.
 pub fn has_no_repeats(alloc: Global, tokens: &[Lexeme]) -> Result<bool, AllocError>
     ensures { IfOk result (λ b. b ≡ repeats.has_no_repeats tokens.now) }
 {

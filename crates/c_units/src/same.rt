@@ -22,7 +22,7 @@ fn same_mark(a: Mark, b: Mark) -> bool
 }
 
 /// Are two forms one?
-fn same_form(a: &Form, b: &Form) -> bool
+pub fn same_form(a: &Form, b: &Form) -> bool
     ensures { result ≡ same.same_form a.now b.now }
 {
     match (a, b) {

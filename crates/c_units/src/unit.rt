@@ -6,6 +6,7 @@ ghost use Rattle.c_library.specs.Within.{within};
 ghost use Rattle.c_library.specs.inside.Gives.{Refuses};
 ghost use Rattle.c_units.specs.Settled as units;
 
+use crate::designators::plain;
 use crate::joined::joined;
 use crate::raised::raised;
 use crate::repeats::has_no_repeats;
@@ -39,13 +40,15 @@ fn unlimited(alloc: Global, tokens: Vec<Lexeme>) -> Result<Items<Lexeme>, AllocE
     if is_settled(alloc, &tokens)? {
         Ok(Items::from_vec(tokens))
     } else {
-        let unit = raised(alloc, &tokens)?;
+        let unit = plain(alloc, &tokens)?;
+        let unit = raised(alloc, unit.as_slice())?;
         joined(alloc, unit.as_slice())
     }
 }
 
-/// A unit whose declarations are settled: prototypes stand outside of blocks, each object there is declared once, and
-/// its value stands in braces only where the grammar has them; or the first token that is too many.
+/// A unit whose declarations are settled: lists of values have no designators, prototypes stand outside of blocks, each
+/// object there is declared once, and its value stands in braces only where the grammar has them; or the first token
+/// that is too many.
 ///
 /// A unit in which nothing is to settle is given back as it is.
 pub fn settled(alloc: Global, tokens: Vec<Lexeme>) -> Result<Vec<Lexeme>, LibraryFault>

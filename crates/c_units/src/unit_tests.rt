@@ -52,6 +52,25 @@ const ROWS: &[(&str, &str)] = &[
         "int x = {1}, y, z = {(2, 3),}; char s[] = {{65, 0}}; unsigned char t[3] = {{65, 0},}; int v = {4}; int v;",
         "int x = 1; int y; int z = (2, 3); char s[] = {65, 0}; unsigned char t[3] = {65, 0}; int v = 4;",
     ),
+    // 6.7.9, paragraphs 6, 17 and 19: designators, of arrays with one size.
+    (
+        "int a[5] = {[2] = 5, 6, [0] = 1}, b[] = {7, [3] = 8,}; int f(void) { static int c[3] = {[1] = 2}; \
+         return c[1]; }",
+        "int a[5] = {1, 0, 5, 6}, b[] = {7, 0, 0, 8}; int f(void) { static int c[3] = {0, 2}; return c[1]; }",
+    ),
+    (
+        "int a[2 + 1] = {[1] = 5, [1] = f(2, 3), [0] = (1, 2)}; char s[] = {['\\2'] = 'a'};",
+        "int a[2 + 1] = {(1, 2), f(2, 3)}; char s[] = {0, 0, 'a'};",
+    ),
+    // What is past the size, no constant, lost or no value stays, and so does a list of rows or of none.
+    (
+        "int a[2] = {[2] = 1}; int b[3] = {[1 + 1] = 1}; int c[] = {[0] = f(), [0] = 1}; int d[2] = {[0] = {1}}; \
+         int e[2] = {[0] =, 1}; int g[2] = {[0], 1}; int h[2] = {1,, [0] = 1}; int i[] = {[4096] = 1}; \
+         int j[1][2] = {[0] = {1, 2}}; int k = 1, [2] = 3;",
+        "int a[2] = {[2] = 1}; int b[3] = {[1 + 1] = 1}; int c[] = {[0] = f(), [0] = 1}; int d[2] = {[0] = {1}}; \
+         int e[2] = {[0] =, 1}; int g[2] = {[0], 1}; int h[2] = {1,, [0] = 1}; int i[] = {[4096] = 1}; \
+         int j[1][2] = {[0] = {1, 2}}; int k = 1, [2] = 3;",
+    ),
     // Lists that the grammar has, and what it refuses.
     (
         "int a[2] = {1}; char b[1][2] = {{1}}; int f(int x) { int y = {1}; return y; }",
@@ -75,6 +94,17 @@ const ROWS: &[(&str, &str)] = &[
          int x = (int) f(2); int a[1] = {1} int f(void); }",
         "int main(void) { if (1) int f(void); for (int f(void);;) ; int f(int) { } \
          int x = (int) f(2); int a[1] = {1} int f(void); }",
+    ),
+    // 6.2.2, paragraph 4: objects that blocks declare `extern`, but where another one may have the name.
+    (
+        "int x; int f(void) { extern int x, y; { extern const int t[2]; return x + y + t[0]; } } int y = 1; int t[2];",
+        "int x; int y = 1; int t[2]; int f(void) { ; { ; return x + y + t[0]; } }",
+    ),
+    (
+        "int x; int f(int x) { extern int x; return x; } int g(void) { int y, x; { extern int x; } return y; } \
+         int h(void) { extern int x = 1; return x; }",
+        "int x; int f(int x) { extern int x; return x; } int g(void) { int y, x; { extern int x; } return y; } \
+         int h(void) { extern int x = 1; return x; }",
     ),
     // What is no object stays, and so does what is malformed.
     (

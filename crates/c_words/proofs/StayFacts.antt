@@ -172,7 +172,7 @@ begins_none : (q : Part) (ps : Places) (t : Lexeme) (ts : Tokens) → is_free q 
 begins_none part.Apart ps t ts h = refl
 begins_none part.Word ps t ts h =
     ap (λ (n : Option Tokens). p.begins n t.form)
-    (no_pointer (p.is_parameters (here ps)) (is_mark mark.Star t.form) (p.pointed ts) h)
+    (no_pointer (p.may_point (here ps) (p.pointed ts)) (is_mark mark.Star t.form) (p.pointed ts) h)
 begins_none part.Star ps t ts h = absurd (false≢true h)
 begins_none part.Within ps t ts h = absurd (false≢true h)
 begins_none part.Name ps t ts h = absurd (false≢true h)

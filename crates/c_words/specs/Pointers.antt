@@ -40,10 +40,18 @@ abbrev pub pointed : Tokens → Option Tokens
 pointed [] = None
 pointed (t ∷ ts) = if is_qualifier t.form then pointed ts else name_at (t ∷ ts)
 
--- directly in the parentheses of parameters, outside of braces?
-abbrev pub is_parameters : Place → Bool
-is_parameters place.Parameters = true
-is_parameters _ = false
+-- is there a name?
+abbrev pub is_named : Option Tokens → Bool
+is_named None = false
+is_named (Some []) = false
+is_named (Some (n ∷ ns)) = true
+
+-- May a parameter of this name or none stand directly in these parentheses: those of parameters, or of a prototype in a
+-- block, where one without a name may be a cast?
+abbrev pub may_point : Place → Option Tokens → Bool
+may_point place.Parameters o = true
+may_point place.Header o = is_named o
+may_point _ o = false
 
 -- is it a keyword of declarations?
 abbrev pub is_type : Part → Bool
@@ -53,7 +61,7 @@ is_type _ = false
 -- the name of the parameter, if it has one, of which this token is the `*`
 abbrev pub pointer : Part → Places → Lexeme → Tokens → Option Tokens
 pointer before ps t ts =
-    if is_type before && (is_parameters (here ps) && is_mark mark.Star t.form) then pointed ts else None
+    if is_type before && (may_point (here ps) (pointed ts) && is_mark mark.Star t.form) then pointed ts else None
 
 -- what a token is, that begins a pointer of this name or none
 abbrev pub begins : Option Tokens → Form → Part

@@ -63,11 +63,23 @@ fn pointed(tokens: &[Lexeme]) -> Option<&[Lexeme]>
     None
 }
 
-fn is_parameters(place: Place) -> bool
-    ensures { result ≡ pointers.is_parameters place }
+/// Is there a name?
+fn is_named(name: Option<&[Lexeme]>) -> bool
+    ensures { result ≡ pointers.is_named (option_map (λ ts. ts.now) name.entry) }
+{
+    match name {
+        Some([_, ..]) => true,
+        _ => false,
+    }
+}
+
+/// May a parameter of this name or none stand directly in these parentheses?
+fn may_point(place: Place, name: Option<&[Lexeme]>) -> bool
+    ensures { result ≡ pointers.may_point place (option_map (λ ts. ts.now) name.entry) }
 {
     match place {
         Place::Parameters => true,
+        Place::Header => is_named(name),
         _ => false,
     }
 }
@@ -90,8 +102,9 @@ fn pointer<'a>(
 ) -> Option<&'a [Lexeme]>
     ensures { option_map (λ ts. ts.now) result ≡ pointers.pointer before places.now token.now behind.now }
 {
-    if is_type(before) && is_parameters(places.here()) && is_mark(Mark::Star, &token.form) {
-        pointed(behind)
+    let name = pointed(behind);
+    if is_type(before) && may_point(places.here(), name) && is_mark(Mark::Star, &token.form) {
+        name
     } else {
         None
     }

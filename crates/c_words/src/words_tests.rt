@@ -61,6 +61,10 @@ const ROWS: &[(&str, &str)] = &[
         "int f(char **s, int *a[]); int *g; int f(int *, char *const);",
         "int f(char **s, int *a[]); int *g; int f(int [], char []);",
     ),
+    (
+        "int f(void) { void g(int *a, const char *const s); int h(int *); return (int *) a; }",
+        "int f(void) { void g(int a[], char s[]); int h(int *); return (int *) a; }",
+    ),
     // 6.7.3, paragraph 6: a keyword stands where an object would be set that is const.
     (
         "const int x = 1, y[2] = {1, 2}; int const f(const char *s) { int z = x; z = y[x]; return s[z++]; }",

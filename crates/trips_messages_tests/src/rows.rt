@@ -144,8 +144,8 @@ pub const ROWS: &[Row] = &[
             extern where it is defined",
     ),
     (
-        "int main(void) { extern int n; return n; }\n",
-        "a.c:1:18: parse Syntax: 'extern' does not stand here: write the declaration without it, and an object of \
+        "extern int n;\n",
+        "a.c:1:1: parse Syntax: 'extern' does not stand here: write the declaration without it, and an object of \
             extern where it is defined",
     ),
     (
