@@ -1,5 +1,6 @@
 -- What holds of all tokens and of all that may be added holds of a unit whose static objects stand in front.
-use Rattle.std.proofs.Common.{◌≡◌, ℕ, Bool, true, false, cond, List, [], ◌∷◌, ◌++◌, Option, Some, None, refl, sym, subst}
+use Rattle.std.proofs.Common.{◌≡◌, ℕ, Bool, true, false, cond, List, [], ◌∷◌, ◌++◌, Option, Some, None, refl}
+use Rattle.std.proofs.Common.{sym, subst}
 use Rattle.std.specs.Prelude.{nat_eq, is_none}
 use Rattle.c_tree.specs.declared.Form.{Form}
 use Rattle.c_tree.specs.declared.Form.TheVariants as form

@@ -14,7 +14,8 @@ use Rattle.c_locals.specs.declared.walk.Walk.{Walk}
 use Rattle.c_locals.specs.Brackets.{Parts, split, pieces}
 use Rattle.c_locals.specs.Elements.{number, marked, bracketed, element, count, named, row_counter, is_just, loop_head}
 use Rattle.c_locals.specs.Elements.{zero_from, filled}
-use Rattle.c_locals.specs.Declarators.{whole, braced, list_of, sized, plain, scalar, scalar_if, size_of, array, rows_from}
+use Rattle.c_locals.specs.Declarators.{whole, braced, list_of, sized, plain, scalar, scalar_if, size_of, array}
+use Rattle.c_locals.specs.Declarators.{rows_from}
 use Rattle.c_locals.specs.Declarators.{set_row, set_rows, zero_rows, grid, grid_if, grid_by, second_by, array_by}
 use Rattle.c_locals.specs.Declarators.{first_by, value_by, declared}
 use Rattle.c_locals.specs.Values.{begins, adds_word, past, words_added, body_added, words_past, body_past, puts, local}

@@ -16,7 +16,8 @@ use Rattle.c_locals.specs.declared.state.State.{State}
 use Rattle.c_locals.specs.Names.{found, object_name, renamed, around}
 use Rattle.c_locals.specs.Walks.{is_word, blocks_past, parens_past}
 use Rattle.c_locals.specs.Stages.{ends, declares, is_value, is_static, ends_item}
-use Rattle.c_locals.specs.States.{beginning, to_item, to_front, refused, declaring, ended, going_on, named, hidden, with_object, flushed}
+use Rattle.c_locals.specs.States.{beginning, to_item, to_front, refused, declaring, ended, going_on, named}
+use Rattle.c_locals.specs.States.{hidden, with_object, flushed}
 
 -- WHERE TOKENS GO
 

@@ -22,7 +22,8 @@ use Rattle.c_names.specs.Words.{begins, words_of, words_from, size_of}
 use Rattle.c_names.specs.Headers.{is_header}
 use Rattle.c_names.specs.Enums.{Taken, ◌and_then◌, last, listed, list_behind, is_known, known, tagged, tag_behind}
 use Rattle.c_names.specs.Enums.{name_behind, brace_behind, enum_by, enum_behind, names_from, words_named}
-use Rattle.c_names.specs.Enums.{may_name, words_behind, enum_named, is_enum, enum_from, words_type, type_from, typedef_behind}
+use Rattle.c_names.specs.Enums.{may_name, words_behind, enum_named, is_enum, enum_from, words_type, type_from}
+use Rattle.c_names.specs.Enums.{typedef_behind}
 use Rattle.c_names.specs.Turns.{Turn, turn, left, behind_first, plain, typedef_turn, sizeof_by, sizeof_type}
 use Rattle.c_names.specs.Turns.{sizeof_turn, own_turn, header_turn, name_turn, key_turn, turn_by, turn_of, enum_turn}
 

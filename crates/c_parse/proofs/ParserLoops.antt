@@ -116,7 +116,8 @@ module _ (inner : Tokens → Out Expr) (short : (ts : Tokens) → length (place 
   fuel (suc n) (suc n') a [] l l' = refl
   fuel (suc n) (suc n') a (t ∷ ts) l l' =
       by_same (joiner k t.form) _ _ _ (λ j. then_same (inner ts) _ _
-      (λ b r le. fuel n n' (joined t.offset j a b) r (omega (arith, short ts, l, le)) (omega (arith, short ts, l', le))))
+      (λ b r le. fuel n n' (joined t.offset j a b) r (omega (arith, short ts, l, le))
+      (omega (arith, short ts, l', le))))
 
   abbrev here : Expr → Tokens → Out Expr
   here a ts = Ok (a, ts)
@@ -279,7 +280,8 @@ pub suffix_on : (whole : Expr) (rest : Tokens) (s : Suffix) → seen suffix_of r
     → suffixes (length rest) whole rest ≡ suffixes (length (tail rest)) (suffixed (offset_of rest) s whole) (tail rest)
 suffix_on whole [] s e = absurd cc
 suffix_on whole (t ∷ ts) s e =
-    by_some (suffix_of t.form) s (suffix_here whole (t ∷ ts)) (λ s. suffixes (length ts) (suffixed t.offset s whole) ts) e
+    by_some (suffix_of t.form) s (suffix_here whole (t ∷ ts))
+    (λ s. suffixes (length ts) (suffixed t.offset s whole) ts) e
   where
     suffix_here : Expr → Tokens → Out Expr
     suffix_here a ts = Ok (a, ts)

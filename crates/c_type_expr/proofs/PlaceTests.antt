@@ -75,4 +75,5 @@ passes_place =
     ind-Expr PassesNode Passes
     (λ x y e. subst (λ (x : ExprNode-F ExprNode Expr). PassesNode (roll-ExprNode x)) e
     (at_node _ _ (λ e'. e'.0) (λ e'. e'.0) (λ s. s.1) y))
-    (λ x y e. subst (λ (x : Expr-F ExprNode Expr). Passes (roll-Expr x)) e (y.node.1 (record { offset = y.offset; at = y.at })))
+    (λ x y e. subst (λ (x : Expr-F ExprNode Expr). Passes (roll-Expr x)) e
+    (y.node.1 (record { offset = y.offset; at = y.at })))

@@ -334,4 +334,5 @@ complete =
     ind-Expr WholeNode Whole
     (λ x y e. subst (λ (x : ExprNode-F ExprNode Expr). WholeNode (roll-ExprNode x)) e
     (λ l G r. at_node _ _ (λ e'. e'.0) (λ e'. e'.0) (λ s. s.1) G l r y))
-    (λ x y e. subst (λ (x : Expr-F ExprNode Expr). Whole (roll-Expr x)) e (y.node.1 (record { offset = y.offset; at = y.at })))
+    (λ x y e. subst (λ (x : Expr-F ExprNode Expr). Whole (roll-Expr x)) e
+    (y.node.1 (record { offset = y.offset; at = y.at })))

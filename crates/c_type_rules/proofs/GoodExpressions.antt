@@ -113,9 +113,11 @@ module _ (N E : Type 0) (node_of : N → ExprNode) (of : E → Expr) (good : (e 
       let e = at l (roll-ExprNode x) in
       record {
         asked = λ G r. good_by (an_expression G r e) (follows (an_expression G r e))
-            (subst (λ x. AllGood (expression_parts G r l.offset x)) (sym (out-roll-ExprNode x)) (each_part G r l.offset y));
+            (subst (λ x. AllGood (expression_parts G r l.offset x)) (sym (out-roll-ExprNode x))
+            (each_part G r l.offset y));
         fixed = λ G. good_by (a_constant G e) (follows (a_constant G e))
-            (subst (λ x. AllGood (constant_parts G l.offset x)) (sym (out-roll-ExprNode x)) (each_constant G l.offset y));
+            (subst (λ x. AllGood (constant_parts G l.offset x)) (sym (out-roll-ExprNode x))
+            (each_constant G l.offset y));
       }
 
 good_expr : (e : Expr) → GoodExpr e
@@ -123,7 +125,8 @@ good_expr =
     ind-Expr GoodNode GoodExpr
     (λ x y e. subst (λ (x : ExprNode-F ExprNode Expr). GoodNode (roll-ExprNode x)) e
     (at_node _ _ (λ e'. e'.0) (λ e'. e'.0) (λ s. s.1) y))
-    (λ x y e. subst (λ (x : Expr-F ExprNode Expr). GoodExpr (roll-Expr x)) e (y.node.1 (record { offset = y.offset; at = y.at })))
+    (λ x y e. subst (λ (x : Expr-F ExprNode Expr). GoodExpr (roll-Expr x)) e
+    (y.node.1 (record { offset = y.offset; at = y.at })))
 
 -- a full expression, one that may be left out, a constant expression and a size are good
 pub full_good : (G : Scope) (r : Role) (e : Expr) → Good (a_full G r e)

@@ -93,7 +93,8 @@ module _ (P : TypedProgram) (f : TypedFunc) where
   closed r n x e g = subst (Gives P f r) (sym (opened n x e)) g
 
   -- a value that is no object fits where a value may stand
-  value_fits : (l : ℕ) (r : Role) (k : Kind) (n : TypedNode) → takes_value r ≡ true → Gives P f (Some k) (out-TypedNode n)
+  value_fits : (l : ℕ) (r : Role) (k : Kind) (n : TypedNode) → takes_value r ≡ true
+      → Gives P f (Some k) (out-TypedNode n)
       → Fits r (a l (Some k) n)
   value_fits l Value k n h g = record { kind = k; is = refl; gives = g }
   value_fits l Free k n h g = g

@@ -14,8 +14,8 @@ use c_words::is_key;
 use std::alloc::{AllocError, Global};
 
 /// A declaration of an object: the offset of its `extern`, if it has one, and of its name, the words of its type with
-/// its name and its sizes, its value from the `=` on, which is nothing where it has none, and whether the value stood in
-/// braces that went.
+/// its name and its sizes, its value from the `=` on, which is nothing where it has none, and whether the value
+/// stood in braces that went.
 #[derive(Drop)]
 pub struct Declaration {
     pub external: Option<u32>,

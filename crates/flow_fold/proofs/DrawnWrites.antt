@@ -23,7 +23,8 @@ use Rattle.flow_fold.specs.inside.Draws.{all_behind, drawn_write, drawn}
 use Rattle.flow_fold.specs.inside.Replaces.{Immediates, with_immediate, with_immediates, Replaces}
 use Rattle.flow_fold.proofs.Places.{all_at, all_of}
 use Rattle.flow_fold.proofs.Names.{false_unless, or_first, or_second, not_first, not_second}
-use Rattle.flow_fold.proofs.StandingBehind.{first_behind, count_behind, among_read, among_node, all_behind_hold, all_behind_new}
+use Rattle.flow_fold.proofs.StandingBehind.{first_behind, count_behind, among_read, among_node, all_behind_hold}
+use Rattle.flow_fold.proofs.StandingBehind.{all_behind_new}
 use Rattle.flow_fold.proofs.Left.{map_origin}
 
 -- what stands behind some sources of a write

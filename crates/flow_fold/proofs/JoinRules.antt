@@ -20,7 +20,8 @@ use Rattle.flow_fold.proofs.Places.{all_at, set_there}
 use Rattle.flow_fold.proofs.Names.{named_at, or_first, or_second}
 use Rattle.flow_fold.proofs.Turned.{Written, Works}
 use Rattle.flow_fold.proofs.Forwarded.{rises_on, sources_work_on}
-use Rattle.flow_fold.proofs.StandingBehind.{first_behind, count_behind, among_read, among_node, all_behind_hold, all_behind_new}
+use Rattle.flow_fold.proofs.StandingBehind.{first_behind, count_behind, among_read, among_node, all_behind_hold}
+use Rattle.flow_fold.proofs.StandingBehind.{all_behind_new}
 
 -- a node with what stands behind its sources at the left
 pub record LeftBehind (nodes : List FlowNode) (j : ℕ) (n m : FlowNode) : Type 0 where

@@ -8,7 +8,8 @@ use Rattle.ir_forms.specs.inside.HyperCode.{Block}
 use Rattle.reg_assign.specs.inside.Keeps.{calls_in, calls}
 use Rattle.hyper_build.specs.inside.Tree.{Plan, Stmt, LetAt, FrameAt, LoadAt, SaveAt, CallAt, PutAt, GetAt, IfAt}
 use Rattle.hyper_build.specs.inside.Tree.{LoopAt}
-use Rattle.hyper_build.specs.inside.Tree.{BreakAt, ContinueAt, ReturnAt, HaltAt, Tree, End, ◌▸◌, plain_in, plain, goes_on}
+use Rattle.hyper_build.specs.inside.Tree.{BreakAt, ContinueAt, ReturnAt, HaltAt, Tree, End, ◌▸◌, plain_in}
+use Rattle.hyper_build.specs.inside.Tree.{plain, goes_on}
 use Rattle.hyper_build.specs.inside.Tree.{annotated_in, annotated}
 use Rattle.hyper_build.specs.inside.Straight.{straight_in, straight}
 use Rattle.hyper_build.specs.inside.Legs.{label_or, leg_blocks, is_end, is_operation, are_operations, continues_in}

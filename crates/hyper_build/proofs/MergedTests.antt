@@ -5,7 +5,8 @@ use Rattle.ir_forms.specs.inside.FlatSteps.{State, Res, Calls, read, exec, act}
 use Rattle.ir_forms.specs.inside.HyperCode.{Block}
 use Rattle.ir_forms.specs.inside.HyperRuns.{Machine, jump}
 use Rattle.hyper_build.specs.inside.Tree.{Stmt, LetAt, FrameAt, LoadAt, SaveAt, CallAt, PutAt, GetAt, IfAt, LoopAt}
-use Rattle.hyper_build.specs.inside.Tree.{BreakAt, ContinueAt, ReturnAt, HaltAt, Tree, End, ◌▸◌, Routine, plain, plain_in}
+use Rattle.hyper_build.specs.inside.Tree.{BreakAt, ContinueAt, ReturnAt, HaltAt, Tree, End, ◌▸◌, Routine, plain}
+use Rattle.hyper_build.specs.inside.Tree.{plain_in}
 use Rattle.hyper_build.specs.inside.Parts.{source, cut, cut_blocks}
 use Rattle.hyper_build.specs.inside.Straight.{Place}
 use Rattle.hyper_build.specs.inside.Legs.{is_break, is_test}

@@ -14,7 +14,8 @@ use Rattle.commit_flush_spec.specs.Window.{Window, Fetch, can}
 use Rattle.grid_cycle_spec.specs.Acting.{is_done}
 use Rattle.grid_cycle_spec.specs.DataTiles.{stored_by}
 use Rattle.grid_cycle_spec.specs.Fetches.{filled}
-use Rattle.grid_events.specs.Notes.{Note, Why, WrongExit, End, Begins, Predicts, GivesUp, Fetches, Leaves, Seals, Commits, Traps}
+use Rattle.grid_events.specs.Notes.{Note, Why, WrongExit, End, Begins, Predicts, GivesUp, Fetches, Leaves}
+use Rattle.grid_events.specs.Notes.{Seals, Commits, Traps}
 use Rattle.grid_events.specs.Notes.{Flushes}
 use Rattle.grid_events.specs.ArrivalNotes.{names}
 use Rattle.grid_events.specs.StationNotes.{is_null}
