@@ -37,7 +37,6 @@ mod states;
 mod target;
 mod telling;
 mod trying;
-mod wants;
 
 pub use answers::{can_deliver, can_exit, can_fire, can_load, can_read, can_seal, can_store};
 pub use body::Body;
