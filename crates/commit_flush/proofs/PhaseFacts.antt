@@ -1,13 +1,14 @@
 -- What stands at a number or at an age of a window in code, told of the window that is seen.
 use Rattle.std.proofs.Common.{◌≡◌, ℕ, zero, suc, ◌-◌, ◌<◌, ◌≤◌, List, [], ◌∷◌, Option, Some, None, length, get_or}
 use Rattle.std.proofs.Common.{slice_get, refl, sym, ap, ◌∙◌, subst, arith}
-use Rattle.std.specs.Prelude.{MatchOption, slice_index}
+use Rattle.std.specs.Prelude.{Bool, IfSome, MatchOption, false, slice_index, true}
 use Rattle.std.proofs.lemmas.Option.{slice_get_read}
+use Rattle.trips_isa.specs.declared.block.Block.{Block}
 use Rattle.trips_isa.specs.declared.block.Image.{Image}
 use Rattle.trips_isa.specs.declared.run.Stepped.{Stepped}
 use Rattle.trips_isa.specs.Machine.{Machine}
 use Rattle.commit_flush_spec.specs.Frames.{Frame}
-use Rattle.commit_flush_spec.specs.Older.{Older, after_all, committed, successor_of}
+use Rattle.commit_flush_spec.specs.Older.{Older, after_all, committed, is_serial, successor_of}
 use Rattle.commit_flush_spec.specs.InFlight.{is_sealed}
 use Rattle.commit_flush_spec.specs.inside.Invariant.{IsRunnable}
 use Rattle.reg_bank.specs.inside.Ages as ages
@@ -19,11 +20,13 @@ use Rattle.commit_flush.specs.inside.Places.{age_of, frame_of}
 use Rattle.commit_flush.proofs.OrderFacts.{slot_at, frame_at, number_below}
 use Rattle.commit_flush.proofs.FrameFacts.{runnable, youngest}
 use Rattle.frame_state.specs.declared.phase.Phase.{Phase}
-use Rattle.frame_state.specs.inside.Phases.{HasBlock, frame_in, slots_of}
-use Rattle.frame_state.specs.inside.Told.{exit_come, is_serial_in, is_sealed_in}
+use Rattle.frame_state.specs.declared.phase.Phase.TheVariants.{Free, Going, Done, Away}
+use Rattle.frame_state.specs.inside.Held.{Held}
+use Rattle.frame_state.specs.inside.Phases.{HasBlock, frame_in, slots_of, with_block}
+use Rattle.frame_state.specs.inside.Told.{block_in, exit_come, is_serial_in, is_sealed_in}
 use Rattle.commit_flush.specs.Seen.{Seen}
 use Rattle.commit_flush.specs.inside.Seen.{IsSound, flying, window_of}
-use Rattle.commit_flush.specs.inside.Youngest.{IsYoungest}
+use Rattle.commit_flush.specs.inside.Youngest.{IsSerialBy, IsYoungest}
 use Rattle.commit_flush.proofs.SeenFacts.{good, eight, few, count_seen, found, not_found, has_block, mapped_slot}
 
 module _ {image : Image} {budget : ℕ} {machine : Machine} {over : Stepped} {phases : List Phase} {order : List ℕ}
@@ -130,6 +133,46 @@ pub serial_behind : (z : Option Frame) (fs : List Frame) (o : Older) → IsYoung
     → is_serial_in z ≡ (after_all fs o).serial
 serial_behind None fs o y = absurd y
 serial_behind (Some f) fs o y = sym (ap (λ (p : Older). p.serial) (youngest fs o y.0 f y.1 y.2))
+
+-- one block is held
+same_block : {b c : Block} → Some b ≡ Some c → b ≡ c
+same_block e = cc e
+
+-- a phase that is the youngest frame tells its block, and by that whether the frames are serial behind it
+pub youngest_serial : (blocks : List Block) (p : Phase) (fs : List Frame) (o : Older)
+    → IsYoungest (frame_in blocks p) fs
+    → IsSerialBy blocks (block_in (frame_in blocks p)) (after_all fs o).serial
+youngest_serial blocks p fs o y =
+    subst (IsSerialBy blocks (block_in (frame_in blocks p))) (serial_behind (frame_in blocks p) fs o y)
+    (by_block p)
+  where
+    held_block : (sealed : Bool) (h : Held) (k : Option Block) → slice_get blocks h.block ≡ k
+        → IsSerialBy blocks (block_in (with_block sealed h k)) (is_serial_in (with_block sealed h k))
+    held_block sealed h None e = refl
+    held_block sealed h (Some b) e = λ c f. ap is_serial (same_block (sym e ∙ f))
+
+    by_block : (q : Phase)
+        → IsSerialBy blocks (block_in (frame_in blocks q)) (is_serial_in (frame_in blocks q))
+    by_block (Free h) = refl
+    by_block (Going h) = held_block false h (slice_get blocks h.block) refl
+    by_block (Done h) = held_block true h (slice_get blocks h.block) refl
+    by_block Away = refl
+
+-- the block that a phase tells is one of the image
+pub told_within : (blocks : List Block) (p : Phase) → HasBlock blocks p
+    → IfSome (block_in (frame_in blocks p)) (λ k. k < length blocks)
+told_within blocks p h = by_block p h
+  where
+    held_within : (sealed : Bool) (h : Held) (k : Option Block) → h.block < length blocks
+        → IfSome (block_in (with_block sealed h k)) (λ k. k < length blocks)
+    held_within sealed h None l = tt
+    held_within sealed h (Some b) l = l
+
+    by_block : (q : Phase) → HasBlock blocks q → IfSome (block_in (frame_in blocks q)) (λ k. k < length blocks)
+    by_block (Free h) l = tt
+    by_block (Going h) l = held_within false h (slice_get blocks h.block) l
+    by_block (Done h) l = held_within true h (slice_get blocks h.block) l
+    by_block Away l = tt
 
 -- the oldest -------------------------------------------------------------------------------------
 

@@ -9,12 +9,12 @@ ghost use Rattle.frame_state.specs.inside.Held.{exit_of};
 ghost use Rattle.frame_state.specs.inside.Phases.{HasBlock, frame_in};
 ghost use Rattle.commit_flush.specs.Places.{numbers_of};
 ghost use Rattle.commit_flush.specs.inside.Places.{age_of, frame_of, free_number};
-ghost use Rattle.commit_flush.specs.inside.Youngest.{IsYoungest};
+ghost use Rattle.commit_flush.specs.inside.Youngest.{IsYoungest, IsSerialBy};
 ghost use Rattle.commit_flush.specs.inside.Accesses.{NoneStores, NoneLoads};
 
 use crate::orders;
 use crate::window::Window;
-use frame_state::{Departure, Phase, exit_come, is_sealed_in, is_serial_in};
+use frame_state::{Departure, Phase, block_in, exit_come, is_sealed_in, is_serial_in};
 use lsq_order::{end_below, next_from};
 
 /// Whether a block may follow where this is known of the next one.
@@ -137,6 +137,18 @@ impl Window {
         match self.youngest() {
             None => false,
             Some(phase) => is_serial_in(phase, self.image()),
+        }
+    }
+
+    /// The block of the youngest frame in flight, by which it is told whether that may make a system call.
+    pub fn youngest_block(&self) -> Option<u32>
+        ensures within { IfSome result (λ k. k < length self.now.image.blocks) }
+        ensures serial { IsSerialBy self.now.image.blocks result
+            (after_all self.now.window.frames (committed self.now.window.state)).serial }
+    {
+        match self.youngest() {
+            None => None,
+            Some(phase) => block_in(phase, self.image()),
         }
     }
 

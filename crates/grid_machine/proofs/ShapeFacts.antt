@@ -1,5 +1,5 @@
 -- The shapes of blocks, one after another.
-use Rattle.std.proofs.Common.{◌≡◌, ℕ, zero, suc, ◌+◌, ◌≤◌, List, [], ◌∷◌, ◌++◌, Some, length, take, slice_get}
+use Rattle.std.proofs.Common.{◌≡◌, ℕ, zero, suc, ◌+◌, ◌<◌, ◌≤◌, List, [], ◌∷◌, ◌++◌, Some, length, take, slice_get}
 use Rattle.std.proofs.Common.{refl, sym, ap, subst, arith}
 use Rattle.trips_isa.specs.declared.block.Block.{Block}
 use Rattle.frame_state.specs.declared.shape.Shape.{Shape}
@@ -43,3 +43,9 @@ shape_at (c ∷ cs) (t ∷ ts) h zero b s e w =
     let shape : t ≡ s = cc in
     subst (λ x. IsShape x s) block (subst (IsShape c) shape h.0)
 shape_at (c ∷ cs) (t ∷ ts) h (suc k) b s e w = shape_at cs ts h.1 k b s e w
+
+-- a block stands below the count
+pub block_there : (bs : List Block) (k : ℕ) → k < length bs → (b : Block) × (slice_get bs k ≡ Some b)
+block_there [] k l = absurd (omega arith)
+block_there (b ∷ bs) zero l = (b, refl)
+block_there (b ∷ bs) (suc k) l = block_there bs k (omega arith)

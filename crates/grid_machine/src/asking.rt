@@ -4,11 +4,14 @@ ghost use Rattle.block_cases.specs.Orders.{slot_of};
 ghost use Rattle.operand_net.specs.inside.Places.{Once};
 ghost use Rattle.commit_flush_spec.specs.inside.Laws.{AreNumbers};
 ghost use Rattle.commit_flush_spec.specs.InFlight.{lowest_empty};
+ghost use Rattle.commit_flush_spec.specs.Older.{after_all, committed};
 ghost use Rattle.grid_cycle_spec.specs.Fetches.{has_room};
 ghost use Rattle.grid_cycle_spec.specs.Grid.{numbers_of};
 ghost use Rattle.grid_parts.specs.inside.Asked as asked;
 ghost use Rattle.grid_parts.specs.inside.Asked.{register_in};
+ghost use Rattle.grid_machine.specs.inside.Shaped.{AreShapes};
 
+use crate::shapes::Shapes;
 use arrayvec::ArrayVec;
 use commit_flush::Window;
 use trips_isa::{Block, Inst};
@@ -42,11 +45,23 @@ pub fn lowest_empty(window: &Window) -> Option<u8>
     window.lowest_empty()
 }
 
+// Whether the block of the youngest frame may make a system call.
+fn is_serial(window: &Window, shapes: &Shapes) -> bool
+    requires { AreShapes window.now.image.blocks shapes.now.shapes.items }
+    ensures { result ≡ (after_all window.now.window.frames (committed window.now.window.state)).serial }
+{
+    match window.youngest_block() {
+        None => false,
+        Some(block) => shapes.at(block).is_serial(),
+    }
+}
+
 /// Whether a frame is empty, and the youngest makes no system call.
-pub fn has_room(window: &Window) -> bool
+pub fn has_room(window: &Window, shapes: &Shapes) -> bool
+    requires { AreShapes window.now.image.blocks shapes.now.shapes.items }
     ensures { result ≡ has_room window.now.window }
 {
-    lowest_empty(window).is_some() && !window.is_serial()
+    lowest_empty(window).is_some() && !is_serial(window, shapes)
 }
 
 /// The block of a frame.

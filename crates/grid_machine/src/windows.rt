@@ -36,7 +36,7 @@ impl Windows for GridWindow {
     }
 
     fn has_room(&self) -> bool {
-        asking::has_room(&self.window)
+        asking::has_room(&self.window, &self.shapes)
     }
 
     fn successor(&self) -> Option<u32> {
