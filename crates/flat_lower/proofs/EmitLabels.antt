@@ -1,11 +1,14 @@
 -- The labels of a switch one by one.
-use Rattle.std.proofs.Common.{◌≡◌, ℕ, suc, Bool, true, false, cond, List, [], ◌∷◌, map, length, Option, Some}
-use Rattle.std.proofs.Common.{None, refl, sym, ap, ◌∙◌}
+use Rattle.std.proofs.Common.{◌≡◌, ℕ, suc, ◌+◌, ◌%◌, ◌^◌, false, cond, List, [], ◌∷◌, length, Option}
+use Rattle.std.proofs.Common.{refl, sym, ap, ◌∙◌, arith}
+use Rattle.std.specs.Prelude.{nat_eq}
+use Rattle.std.proofs.lemmas.Bool.Decides.{nat_tests}
 use Rattle.c_tree.specs.declared.TypedSection.{TypedSection}
 use Rattle.ir_forms.specs.declared.flat.FlatStmt.{FlatStmt}
 use Rattle.ir_forms.specs.inside.FlatCode.{Then}
 use Rattle.ir_forms.specs.inside.FlatViews.{code_of}
-use Rattle.flat_lower.specs.inside.Switches.{label_code, labels_code, compared_code, section_count}
+use Rattle.flat_lower.specs.inside.Switches.{label_code, labels_code, compared_code, section_count, is_label}
+use Rattle.flat_lower.specs.inside.Switches.{is_default, is_end, are_dense}
 use Rattle.flat_lower.specs.inside.Emitted.{Adds, sections_in}
 use Rattle.flat_lower.proofs.Emits.{then_then, then_nop}
 
@@ -54,3 +57,18 @@ compared_ends n all old code s = record { is = sym (then_nop (code_of code)) ∙
 pub counted : (xs : List TypedSection) → section_count (sections_in xs) ≡ length xs
 counted [] = refl
 counted (x ∷ xs) = ap suc (counted xs)
+
+-- the last of some sections has none behind it
+none_behind : (xs : List TypedSection) → nat_eq (length xs) 0 ≡ is_end (sections_in xs)
+none_behind [] = refl
+none_behind (x ∷ xs) = let e : nat_eq (suc (length xs)) 0 ≡ false = grind (arith, nat_tests) in e
+
+-- where a section has another label than the one that follows, it ends dense labels or there are none
+pub dense_stops : (w left : ℕ) (a : TypedSection) (rest : List TypedSection) → is_label w a.labels ≡ false
+    → left ≡ length rest
+    → cond (is_default a.labels) (nat_eq left 0) false ≡ are_dense w (sections_in (a ∷ rest))
+dense_stops w left a rest h e =
+    ap (λ n. cond (is_default a.labels) (nat_eq n 0) false) e
+    ∙ ap (λ b. cond (is_default a.labels) b false) (none_behind rest)
+    ∙ ap (λ b. cond b (are_dense ((w + 1) % 2 ^ 64) (sections_in rest))
+    (cond (is_default a.labels) (is_end (sections_in rest)) false)) (sym h)

@@ -209,7 +209,7 @@ module _ (P : TypedProgram) (most : ℕ) where
         (λ w. compared (meaning P) w (targets xs) [] s1) (λ w ew.
         let q = value_at S 0 c.kind f v w s1 g ew hv in
         switch_ends P most S y x s.stock hb (kind_of (expr_of c)) xs w s1 g (top - t1) low (omega arith) t.1
-        t.2 t.3 (omega arith) q.keeps.rel q.is (omega arith) (omega arith)))
+        t.2 t.3 (omega arith) q.fits.below q.keeps.rel q.is (omega arith) (omega arith)))
     begun_follows stmt.Break s f top low h hb t z r hu hl =
         break_ends P most S y x s f top low r (omega arith) (omega arith)
     begun_follows stmt.Continue s f top low h hb t z r hu hl =

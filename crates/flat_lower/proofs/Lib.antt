@@ -44,6 +44,8 @@ pub mod DoLoops
 pub mod SwitchLabels
 pub mod Sequences
 pub mod SwitchSections
+pub mod SwitchDense
+pub mod DenseSkips
 pub mod SwitchCounts
 pub mod SwitchEnds
 pub mod SwitchWhole

@@ -1,10 +1,7 @@
 -- A switch follows the evaluation where the statements of its sections do.
-use Rattle.std.proofs.Common.{◌≡◌, ◌≢◌, ℕ, zero, suc, ◌+◌, ◌-◌, ◌*◌, ◌^◌, ◌<◌, ◌≤◌, List, [], ◌∷◌, drop, length}
-use Rattle.std.proofs.Common.{Option, Some, None, refl, sym, ap, ◌∙◌, subst, mul-suc, arith}
-use Rattle.c_tree.specs.declared.Kind.{Kind}
-use Rattle.c_tree.specs.declared.TypedSection.{TypedSection}
+use Rattle.std.proofs.Common.{◌≡◌, ℕ, suc, ◌+◌, ◌-◌, ◌*◌, ◌≤◌, List}
+use Rattle.std.proofs.Common.{Option, refl, subst, arith}
 use Rattle.c_tree.specs.declared.TypedProgram.{TypedProgram}
-use Rattle.c_meaning_spec.specs.declared.signal.Signal.{Signal}
 use Rattle.c_meaning_spec.specs.declared.signal.Signal.TheVariants.{Nothing, Value, Breaks, Continues}
 use Rattle.c_meaning_spec.specs.declared.signal.Signal.TheVariants.{Returns}
 use Rattle.c_meaning_spec.specs.declared.signal.Ending.TheVariants.{More, Undefined, Deep}
@@ -12,38 +9,28 @@ use Rattle.c_meaning_spec.specs.declared.signal.Halt.TheVariants.{Ends, Exits}
 use Rattle.c_meaning_spec.specs.State.{Result, Go, Over}
 use Rattle.c_meaning_spec.specs.inside.State.{then}
 use Rattle.c_meaning_spec.specs.State as eval
-use Rattle.c_meaning_spec.specs.Statement.{sequence, bodies, targets, after_sections, run_from, compared}
-use Rattle.c_meaning_spec.specs.Eval.{meaning}
+use Rattle.c_meaning_spec.specs.Statement.{after_sections}
 use Rattle.ir_forms.specs.declared.flat.Arg.TheVariants.{Var}
 use Rattle.ir_forms.specs.inside.FlatCode.{Code, Nop, Then, only, Loop}
-use Rattle.ir_forms.specs.inside.FlatCode as flat
 use Rattle.ir_forms.specs.inside.FlatSteps.{State, Res, Broke, Gave, How, NoRoom, Exited, Halts, settle}
 use Rattle.ir_forms.specs.inside.FlatSteps.{counted}
 use Rattle.ir_forms.specs.inside.FlatRuns.{checked}
 use Rattle.ir_forms.proofs.Leads.{Run, Leads, Stops, Moves, leads_from, stops_from}
 use Rattle.ir_forms.proofs.Steps.{then_moves, both_lead, first_leads, first_stops}
-use Rattle.ir_forms.proofs.Statements.{if_one, if_other, break_leads}
+use Rattle.ir_forms.proofs.Statements.{if_one, if_other}
 use Rattle.ir_forms.proofs.LoopRuns.{loop_moves, turn_leads, turn_stops}
 use Rattle.flat_lower.specs.declared.around.Around.{Around}
 use Rattle.flat_lower.specs.declared.around.Around.TheVariants as around
 use Rattle.flat_lower.specs.inside.Operations.{temp}
 use Rattle.flat_lower.specs.inside.Switches.{in_switch, break_code, continue_code, behind_code}
-use Rattle.flat_lower.specs.inside.Emitted.{sections_in}
-use Rattle.flat_lower.specs.inside.FitsSwitches.{IsLooped, cases_in, free_sections}
-use Rattle.flat_lower.specs.inside.Fits.{FitsSections}
-use Rattle.flat_lower.specs.inside.Sizes.{size_of_sections}
+use Rattle.flat_lower.specs.inside.FitsSwitches.{IsLooped}
 use Rattle.flat_lower.proofs.Straight.{var_read}
-use Rattle.flat_lower.proofs.EmitArguments.{drop_all}
 use Rattle.flat_lower.proofs.Follows.{FollowsIn, moved_in, continues_in}
-use Rattle.flat_lower.proofs.Related.{Scene, IsScene, scope, Related, recounted}
+use Rattle.flat_lower.proofs.Related.{Scene, IsScene}
 use Rattle.flat_lower.proofs.Values.{functions, base, run}
 use Rattle.flat_lower.proofs.Returns.{EndedIn, LeftBy}
 use Rattle.flat_lower.proofs.LeafStatements.{EndsHere, nothing_left, break_ends, continue_ends}
 use Rattle.flat_lower.proofs.Loops.{loop_of}
-use Rattle.flat_lower.proofs.SwitchLabels.{Choice, Ends_there, Goes_to, sections_choose}
-use Rattle.flat_lower.proofs.SwitchSections.{rest_of, FollowsBlock, skipping, sections_run}
-use Rattle.flat_lower.proofs.SwitchCounts.{default_small, cases_small, count_is, drop_none, fits_drop}
-use Rattle.flat_lower.proofs.SwitchCounts.{size_drop}
 
 -- a continue leaves a switch that stands in a loop
 continue_leaves : (a : Around) → IsLooped (in_switch a) → (r : Run) (t : ℕ) (to : State)

@@ -45,6 +45,28 @@ pub any_other_goes_to_default : by_value 9 ≡ 4 ∷ 0 ∷ 3 ∷ 4 ∷ []
 unfolding flat_run frame_limit first_memory apply load save marked lowered global_at array_at
 any_other_goes_to_default = refl
 
+-- switch (t) { case 3: putchar(1); case 4: putchar(2); break; default: putchar(3); } return 0;
+abbrev by_distance : ℕ → List ℕ
+by_distance t = run (main [] [] (Switch (n t) (section (Some 3 ∷ []) (prints (n 1) ∷ [])
+    (section (Some 4 ∷ []) (prints (n 2) ∷ Break ∷ []) (section (None ∷ []) (prints (n 3) ∷ []) NoSections)))
+    ∷ gives (n 0) ∷ [])) []
+
+pub first_of_dense_labels : by_distance 3 ≡ 4 ∷ 0 ∷ 1 ∷ 2 ∷ []
+unfolding flat_run frame_limit first_memory apply load save marked lowered global_at array_at
+first_of_dense_labels = refl
+
+pub last_of_dense_labels : by_distance 4 ≡ 4 ∷ 0 ∷ 2 ∷ []
+unfolding flat_run frame_limit first_memory apply load save marked lowered global_at array_at
+last_of_dense_labels = refl
+
+pub behind_dense_labels : by_distance 5 ≡ 4 ∷ 0 ∷ 3 ∷ []
+unfolding flat_run frame_limit first_memory apply load save marked lowered global_at array_at
+behind_dense_labels = refl
+
+pub before_dense_labels : by_distance 2 ≡ 4 ∷ 0 ∷ 3 ∷ []
+unfolding flat_run frame_limit first_memory apply load save marked lowered global_at array_at
+before_dense_labels = refl
+
 -- switch (2) { case 1: putchar(1); } return 3;
 pub none_is_skipped_to_the_end : run (main [] [] (Switch (n 2) (section (Some 1 ∷ []) (prints (n 1) ∷ [])
     NoSections) ∷ gives (n 3) ∷ [])) [] ≡ 4 ∷ 3 ∷ []

@@ -1,5 +1,5 @@
 -- A switch compares its labels, and so comes to the number of sections that are skipped.
-use Rattle.std.proofs.Common.{◌≡◌, ◌≢◌, ℕ, zero, suc, ◌+◌, ◌-◌, ◌*◌, ◌<◌, ◌≤◌, Bool, true, false, cond}
+use Rattle.std.proofs.Common.{◌≡◌, ℕ, zero, suc, ◌+◌, ◌*◌, ◌≤◌, Bool, true, false, cond}
 use Rattle.std.proofs.Common.{List, [], ◌∷◌, ◌++◌, drop, length, Option, Some, None, refl, sym, ap, ◌∙◌, subst}
 use Rattle.std.proofs.Common.{arith}
 use Rattle.std.specs.Prelude.{nat_eq}
@@ -13,7 +13,7 @@ use Rattle.c_meaning_spec.specs.State as eval
 use Rattle.c_meaning_spec.specs.Statement.{Target, bodies, leading, targets, run_from, compared}
 use Rattle.c_meaning_spec.specs.Eval.{meaning}
 use Rattle.trips_isa.specs.declared.op.Op.TheVariants as op
-use Rattle.trips_isa.specs.Alu.{alu_of, test}
+use Rattle.trips_isa.specs.Alu.{test}
 use Rattle.ir_forms.specs.declared.flat.Arg.TheVariants.{Const, Var}
 use Rattle.ir_forms.specs.inside.FlatCode.{Code, Nop, Then, only, Let, If}
 use Rattle.ir_forms.specs.inside.Cells.{apply}
@@ -22,7 +22,6 @@ use Rattle.ir_forms.specs.inside.FlatRuns.{checked}
 use Rattle.ir_forms.proofs.Leads.{Leads, Stops, Moves, leads_from, stops_from, waits_stop, moves_from}
 use Rattle.ir_forms.proofs.Steps.{code_waits, then_moves, then_then, first_leads, nop_leads}
 use Rattle.ir_forms.proofs.Statements.{if_one, if_other}
-use Rattle.flat_lower.specs.inside.Tree.{NoSections, WithSection}
 use Rattle.flat_lower.specs.inside.Operations.{temp, scratch}
 use Rattle.flat_lower.specs.inside.Switches.{found_code, label_code, labels_code, compared_code, has_default}
 use Rattle.flat_lower.specs.inside.Switches.{default_at}
@@ -37,7 +36,7 @@ same_leg : {A : Type 0} → (b : Bool) (a : A) → cond b a a ≡ a
 same_leg true a = refl
 same_leg false a = refl
 
-drop_next : (all xs : List TypedSection) (x : TypedSection) (n : ℕ) → drop n all ≡ x ∷ xs
+pub drop_next : (all xs : List TypedSection) (x : TypedSection) (n : ℕ) → drop n all ≡ x ∷ xs
     → drop (suc n) all ≡ xs
 drop_next [] xs x zero h = absurd (cc h)
 drop_next [] xs x (suc n) h = absurd (cc h)

@@ -1,6 +1,6 @@
 -- The sections of a switch: those that are skipped, and those that run.
-use Rattle.std.proofs.Common.{◌≡◌, ◌≢◌, ℕ, zero, suc, ◌+◌, ◌-◌, ◌*◌, ◌<◌, ◌≤◌, true, false, List, [], ◌∷◌, ◌++◌}
-use Rattle.std.proofs.Common.{drop, map, length, Option, Some, None, refl, sym, ap, ◌∙◌, subst, arith}
+use Rattle.std.proofs.Common.{◌≡◌, ℕ, zero, suc, ◌+◌, ◌-◌, ◌*◌, ◌<◌, ◌≤◌, true, false, List, [], ◌∷◌}
+use Rattle.std.proofs.Common.{drop, length, Option, Some, refl, sym, ap, ◌∙◌, subst, arith}
 use Rattle.std.specs.Prelude.{nat_lt}
 use Rattle.std.proofs.lemmas.Bool.Decides.{nat_tests}
 use Rattle.c_tree.specs.declared.TypedStmt.{TypedStmt}
@@ -25,7 +25,6 @@ use Rattle.ir_forms.proofs.Leads.{Run, Moves, leads_from, moves_from, waits_stop
 use Rattle.ir_forms.proofs.Steps.{then_moves, both_lead, first_leads, nop_leads, code_waits}
 use Rattle.ir_forms.proofs.Statements.{if_one, if_other}
 use Rattle.flat_lower.specs.declared.around.Around.{Around}
-use Rattle.flat_lower.specs.inside.TreeViews.{stmt_of, stmts_of}
 use Rattle.flat_lower.specs.inside.Operations.{temp, scratch, set_word}
 use Rattle.flat_lower.specs.inside.Switches.{section_code}
 use Rattle.flat_lower.specs.inside.Statements.{stmts_code, sections_code}

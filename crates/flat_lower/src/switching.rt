@@ -1,6 +1,6 @@
 //! The flat code of switches, but for their statements.
 
-ghost use Rattle.std.specs.Prelude.{◌≡◌, ◌+◌, ◌<◌, Some, OnOk, IfOk};
+ghost use Rattle.std.specs.Prelude.{◌≡◌, ◌+◌, ◌<◌, Some, OnOk, IfOk, cond, nat_eq, false};
 ghost use Rattle.ir_forms.specs.inside.FlatCode as flat;
 ghost use Rattle.ir_forms.specs.inside.FlatCode.{Then, only};
 ghost use Rattle.ir_forms.specs.inside.FlatViews.{code_of};
@@ -8,8 +8,8 @@ ghost use Rattle.flat_lower.specs.inside.Operations as operations;
 ghost use Rattle.flat_lower.specs.inside.Operations.{set_word};
 ghost use Rattle.flat_lower.specs.inside.Switches as switches;
 ghost use Rattle.flat_lower.specs.inside.Switches.{break_code, continue_code, behind_code, found_code, label_code};
-ghost use Rattle.flat_lower.specs.inside.Switches.{labels_code, compared_code, chosen_code, section_code};
-ghost use Rattle.flat_lower.specs.inside.Switches.{switched_code, section_count};
+ghost use Rattle.flat_lower.specs.inside.Switches.{labels_code, compared_code, searched_code, dense_code};
+ghost use Rattle.flat_lower.specs.inside.Switches.{chosen_code, section_code, switched_code, section_count};
 ghost use Rattle.flat_lower.specs.inside.Emitted.{Adds, sections_in};
 
 use crate::around::Around;
@@ -204,6 +204,106 @@ fn comparing(alloc: Global, sections: &[TypedSection]) -> Result<Items<FlatStmt>
     Ok(code)
 }
 
+// How many sections are skipped, where the labels are compared.
+fn put_searched(
+    code: &mut Items<FlatStmt>,
+    alloc: Global,
+    sections: &[TypedSection],
+) -> Result<(), Memory>
+    ensures { OnOk result (Adds code.old code.new (searched_code (sections_in sections.now))) }
+{
+    let body = comparing(alloc, sections)?;
+    put_loop(code, body, Items::new(alloc))?;
+    Ok(())
+}
+
+// Whether a section has one label, and this is the word.
+fn is_label(w: u64, labels: &[Option<u64>]) -> bool
+    ensures { result ≡ switches.is_label w labels.now }
+{
+    match labels {
+        [Some(v)] => *v == w,
+        _ => false,
+    }
+}
+
+// Whether a section has one label, and this is `default`.
+fn is_default(labels: &[Option<u64>]) -> bool
+    ensures { result ≡ switches.is_default labels.now }
+{
+    match labels {
+        [None] => true,
+        _ => false,
+    }
+}
+
+// Whether a section is the last and that of `default`, where so many are left behind it.
+fn ends(labels: &[Option<u64>], left: usize) -> bool
+    ensures { result ≡ cond (switches.is_default labels.now) (nat_eq left 0) false }
+{
+    if is_default(labels) { left == 0 } else { false }
+}
+
+// Whether the labels are the words from this one on.
+fn are_dense(low: u64, sections: &[TypedSection]) -> bool
+    ensures { result ≡ switches.are_dense low (sections_in sections.now) }
+{
+    let mut w = low;
+    let mut left = sections.len();
+    for section in sections {
+        left -= 1;
+        if !is_label(w, section.labels.as_slice()) {
+            return ends(section.labels.as_slice(), left);
+        }
+        w = w.wrapping_add(1);
+    }
+    true
+}
+
+// The first of some labels, where it is that of a case.
+fn first_case(labels: &[Option<u64>]) -> Option<u64>
+    ensures { result ≡ switches.first_case labels.now }
+{
+    match labels {
+        [] => None,
+        [label, ..] => *label,
+    }
+}
+
+// The first label of the first section.
+fn first_label(sections: &[TypedSection]) -> Option<u64>
+    ensures { result ≡ switches.first_label (sections_in sections.now) }
+{
+    match sections {
+        [] => None,
+        [section, ..] => first_case(section.labels.as_slice()),
+    }
+}
+
+// The first label, where the labels are dense.
+fn dense_from(sections: &[TypedSection]) -> Option<u64>
+    ensures { result ≡ switches.dense_from (sections_in sections.now) }
+{
+    let low = first_label(sections)?;
+    if are_dense(low, sections) {
+        Some(low)
+    } else {
+        None
+    }
+}
+
+// How many sections are skipped, where n labels begin with this one.
+fn put_dense(code: &mut Items<FlatStmt>, alloc: Global, low: u64, n: u64) -> Result<(), Memory>
+    ensures { OnOk result (Adds code.old code.new (dense_code low n)) }
+{
+    let mut all = Items::new(alloc);
+    put_word(&mut all, temp(0), n)?;
+    put_let(code, temp(0), Op::Sub, Arg::Var(temp(0)), Arg::Const(low))?;
+    put_let(code, scratch(0), Op::Tltu, Arg::Var(temp(0)), Arg::Const(n))?;
+    put_if(code, Arg::Var(scratch(0)), Items::new(alloc), all)?;
+    Ok(())
+}
+
 // How many sections are skipped, by the value in temporary 0.
 fn put_chosen(
     code: &mut Items<FlatStmt>,
@@ -212,9 +312,10 @@ fn put_chosen(
 ) -> Result<(), Memory>
     ensures { OnOk result (Adds code.old code.new (chosen_code (sections_in sections.now))) }
 {
-    let body = comparing(alloc, sections)?;
-    put_loop(code, body, Items::new(alloc))?;
-    Ok(())
+    match dense_from(sections) {
+        None => put_searched(code, alloc, sections),
+        Some(low) => put_dense(code, alloc, low, default_at(sections)),
+    }
 }
 
 /// The statements of the section behind n others are emitted: it is skipped, or run, and then no other is skipped.

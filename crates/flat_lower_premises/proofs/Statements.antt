@@ -20,7 +20,8 @@ use Rattle.flat_lower.specs.declared.around.Around.{Around}
 use Rattle.flat_lower.specs.declared.around.Around.TheVariants as around
 use Rattle.flat_lower.specs.inside.Switches.{in_switch, break_code, continue_code, behind_code, found_code}
 use Rattle.flat_lower.specs.inside.Switches.{labels_code, compared_code, has_default, default_at, section_count}
-use Rattle.flat_lower.specs.inside.Switches.{section_code, switched_code}
+use Rattle.flat_lower.specs.inside.Switches.{dense_from, dense_code, chosen_by, chosen_code, section_code}
+use Rattle.flat_lower.specs.inside.Switches.{switched_code}
 use Rattle.flat_lower.specs.inside.FitsSwitches.{IsLooped, FitsLabels}
 use Rattle.flat_lower.specs.inside.Fits.{Scope, FitsExpr, FitsExprIf, FitsDeclare, FitsReturn, FitsStmt}
 use Rattle.flat_lower.specs.inside.Fits.{FitsStmts, FitsSections, FitsFirst}
@@ -32,6 +33,7 @@ use Rattle.flat_lower.specs.inside.Statements.{loop_code, do_code, stmt_code, st
 use Rattle.flat_lower.specs.inside.Statements.{sections_code}
 use Rattle.flat_lower.specs.inside.Statements.{end_code, named_scalar, simple_arg, plain_code, plain_if_code}
 use Rattle.flat_lower.proofs.PlainEnds.{either_way}
+use Rattle.flat_lower.proofs.DenseSkips.{dense_is}
 use Rattle.flat_lower_premises.specs.inside.Jumps.{JumpsInLoops, AllJumpsInLoops, FirstJumpsInLoops}
 use Rattle.flat_lower_premises.specs.inside.Jumps.{IsLeft, SectionsJumpInLoops}
 use Rattle.flat_lower_premises.proofs.Fitting.{Fitting, nothing_fits, single_fits, let_fits, if_fits}
@@ -209,14 +211,31 @@ module _ (fs : List Function) (c : Scope) (bytes : ℕ) (k : Option Kind) (x : C
   end_fits_in around.Switch = single_fits flat.Break refl
   end_fits_in around.SwitchInLoop = found_fits 0 (omega arith)
 
+  dense_fits : (i : Bool) (low m : ℕ) → low < 2 ^ 64 → m < 2 ^ 64 → Fits i (dense_code low m)
+  dense_fits i low m l h =
+      joined (let_fits (temp 0) op.Sub (Var (temp 0)) (Const low) refl first_temp first_temp l)
+      (joined (let_fits (scratch 0) op.Tltu (Var (temp 0)) (Const m) refl first_scratch first_temp h)
+      (if_fits (Var (scratch 0)) Nop (set_word (temp 0) m) first_scratch nothing_fits
+      (word_fits (temp 0) m first_temp h)))
+
+  chosen_fits : (i : Bool) (a : Around) (j : Option Kind) (xs : Sections) → section_count xs < 2 ^ 64
+      → FitsSections c k a j xs → Fits i (chosen_code xs)
+  chosen_fits i a j xs h t = by_labels (dense_from xs) refl
+    where
+      by_labels : (o : Option ℕ) → dense_from xs ≡ o → Fits i (chosen_by o xs)
+      by_labels None e =
+          loop_fits (Then (compared_code 0 xs) (found_code (default_at 0 (section_count xs) xs))) Nop
+          (joined (compared_fits a j 0 xs (omega arith) t) (found_fits (default_at 0 (section_count xs) xs)
+          (default_below 0 (section_count xs) xs (omega arith) h))) nothing_fits
+      by_labels (Some w) e =
+          dense_fits i w (default_at 0 (section_count xs) xs) (dense_is c k j a xs w t e).word
+          (default_below 0 (section_count xs) xs (omega arith) h)
+
   -- a switch whose sections fit
   switched_fits : (a : Around) (j : Option Kind) (xs : Sections) (body : Code) → section_count xs < 2 ^ 64
       → FitsSections c k (in_switch a) j xs → Fits true body → Fits (inside a) (switched_code a xs body)
   switched_fits a j xs body h t p =
-      joined (loop_fits (Then (compared_code 0 xs) (found_code (default_at 0 (section_count xs) xs))) Nop
-      (joined (compared_fits (in_switch a) j 0 xs (omega arith) t)
-      (found_fits (default_at 0 (section_count xs) xs) (default_below 0 (section_count xs) xs (omega arith) h)))
-      nothing_fits)
+      joined (chosen_fits (inside a) (in_switch a) j xs h t)
       (joined (loop_fits (Then body (break_code (in_switch a))) Nop (joined p (end_fits_in a)) nothing_fits)
       (behind_fits a))
 

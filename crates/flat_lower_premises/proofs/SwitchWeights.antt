@@ -1,5 +1,5 @@
 -- What the code of a switch weighs, but for its test and its statements.
-use Rattle.std.proofs.Common.{ℕ, suc, ◌+◌, ◌*◌, List, [], ◌∷◌, Option, Some, None, refl, ap, arith}
+use Rattle.std.proofs.Common.{◌≡◌, ◌≤◌, ℕ, zero, suc, ◌+◌, ◌*◌, List, [], ◌∷◌, Option, Some, None, refl, ap, arith}
 use Rattle.trips_isa.specs.declared.op.Op.TheVariants as op
 use Rattle.ir_forms.specs.declared.flat.Arg.TheVariants.{Const, Var}
 use Rattle.ir_forms.specs.inside.FlatCode.{Code, Let}
@@ -9,8 +9,9 @@ use Rattle.flat_lower.specs.inside.Tree.{Sections, NoSections, WithSection}
 use Rattle.flat_lower.specs.inside.Operations.{temp, scratch}
 use Rattle.flat_lower.specs.inside.Sizes.{label_count}
 use Rattle.flat_lower.specs.inside.Switches.{break_code, continue_code, behind_code, found_code, label_code}
-use Rattle.flat_lower.specs.inside.Switches.{labels_code, compared_code, default_at, section_count, chosen_code}
-use Rattle.flat_lower.specs.inside.Switches.{in_switch, section_code, switched_code}
+use Rattle.flat_lower.specs.inside.Switches.{labels_code, compared_code, default_at, section_count, searched_code}
+use Rattle.flat_lower.specs.inside.Switches.{dense_from, dense_code, chosen_by, chosen_code, in_switch, section_code}
+use Rattle.flat_lower.specs.inside.Switches.{switched_code}
 use Rattle.flat_lower_premises.specs.inside.SourceNodes.{sections_nodes}
 use Rattle.flat_lower_premises.proofs.SectionNodes.{labels_nodes, bodies_nodes, in_two}
 use Rattle.flat_lower_premises.proofs.Weights.{Weight, share, Takes, after, eased, none, one_more, chosen, looped}
@@ -51,10 +52,34 @@ module _ (w : Weight) where
   compared_takes n (WithSection ls body rest) =
       eased (after (labels_take n ls) (compared_takes (suc n) rest)) (omega arith)
 
-  chosen_takes : (xs : Sections) → Takes w 0 (share w (labels_nodes xs) + (w.branch + 2)) (chosen_code xs)
-  chosen_takes xs =
+  searched_takes : (xs : Sections) → Takes w 0 (share w (labels_nodes xs) + (w.branch + 2)) (searched_code xs)
+  searched_takes xs =
       eased (looped (after (compared_takes 0 xs) (found_takes (default_at 0 (section_count xs) xs))) (none 0))
       (omega arith)
+
+  dense_takes : (low n : ℕ) → Takes w 0 (w.branch + 3) (dense_code low n)
+  dense_takes low n = record { few = omega arith }
+
+  -- dense labels have a first one
+  some_label : (xs : Sections) (low : ℕ) → dense_from xs ≡ Some low → 1 ≤ labels_nodes xs
+  some_label NoSections low h = absurd (cc h)
+  some_label (WithSection [] body rest) low h = absurd (cc h)
+  some_label (WithSection (l ∷ ls) body rest) low h = omega arith
+
+  -- and that has a share
+  some_share : (n : ℕ) → 1 ≤ n → 1 ≤ share w n
+  some_share zero h = absurd (omega (arith, h))
+  some_share (suc n) h = omega arith
+
+  chosen_takes : (xs : Sections) → Takes w 0 (share w (labels_nodes xs) + (w.branch + 2)) (chosen_code xs)
+  chosen_takes xs = by_labels (dense_from xs) refl
+    where
+      by_labels : (o : Option ℕ) → dense_from xs ≡ o
+          → Takes w 0 (share w (labels_nodes xs) + (w.branch + 2)) (chosen_by o xs)
+      by_labels None e = searched_takes xs
+      by_labels (Some low) e =
+          let h = some_share (labels_nodes xs) (some_label xs low e) in
+          eased (dense_takes low (default_at 0 (section_count xs) xs)) (omega (arith, h))
 
   -- SECTIONS
 

@@ -28,6 +28,10 @@ mod memory;
 #[cfg(test)]
 mod running;
 #[cfg(test)]
+mod switch_tests;
+#[cfg(test)]
+mod switch_texts;
+#[cfg(test)]
 mod tests;
 #[cfg(test)]
 mod texts;

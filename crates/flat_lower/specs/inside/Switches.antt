@@ -1,10 +1,11 @@
 -- The flat code of switches, but for their statements.
 --
--- A switch is two loops that end with a break. The first compares the test's value, in temporary 0, with the labels
--- in their order, and leaves there how many sections are skipped. The second compares that with each section's own
--- number, and runs those that it does not reach. Where the switch stands in a loop, temporary 0 tells behind it
--- whether a `continue` has left it.
-use Rattle.std.specs.Prelude.{ℕ, suc, ◌+◌, ◌||◌, Bool, true, false, cond, List, [], ◌∷◌, Option, Some, None}
+-- First the test's value, in temporary 0, becomes the number of sections that are skipped: where labels are dense by
+-- a subtraction, elsewhere by a loop that compares it with the labels in their order. Then a second loop, which ends
+-- with a break, compares that with each section's own number, and runs those that it does not reach. Where the switch
+-- stands in a loop, temporary 0 tells behind it whether a `continue` has left it.
+use Rattle.std.specs.Prelude.{ℕ, suc, ◌+◌, ◌%◌, ◌^◌, nat_eq, Bool, true, false, cond, List, [], ◌∷◌, Option}
+use Rattle.std.specs.Prelude.{Some, None}
 use Rattle.trips_isa.specs.declared.op.Op.TheVariants as op
 use Rattle.ir_forms.specs.declared.flat.Arg.TheVariants.{Const, Var}
 use Rattle.ir_forms.specs.inside.FlatCode.{Code, Nop, Then, only, Let, Loop, If}
@@ -77,10 +78,68 @@ abbrev pub section_count : Sections → ℕ
 section_count NoSections = 0
 section_count (WithSection ls body rest) = suc (section_count rest)
 
+-- how many sections are skipped, where the labels are compared
+abbrev pub searched_code : Sections → Code
+searched_code xs =
+    only (Loop (Then (compared_code 0 xs) (found_code (default_at 0 (section_count xs) xs))) Nop)
+
+-- DENSE LABELS
+
+-- a section has one label, which is this word
+abbrev pub is_label : ℕ → List (Option ℕ) → Bool
+is_label w (Some v ∷ []) = nat_eq v w
+is_label w _ = false
+
+-- a section has one label, which is `default`
+abbrev pub is_default : List (Option ℕ) → Bool
+is_default (None ∷ []) = true
+is_default _ = false
+
+-- no section is left
+abbrev pub is_end : Sections → Bool
+is_end NoSections = true
+is_end (WithSection ls body rest) = false
+
+-- each section has one label, and these are the words from this one on; only the last may be `default`
+abbrev pub are_dense : ℕ → Sections → Bool
+are_dense w NoSections = true
+are_dense w (WithSection ls body rest) =
+    cond (is_label w ls) (are_dense ((w + 1) % 2 ^ 64) rest) (cond (is_default ls) (is_end rest) false)
+
+-- the first label of a case, where it is the first of all
+abbrev pub first_case : List (Option ℕ) → Option ℕ
+first_case [] = None
+first_case (l ∷ ls) = l
+
+-- the first label of the first section
+abbrev pub first_label : Sections → Option ℕ
+first_label NoSections = None
+first_label (WithSection ls body rest) = first_case ls
+
+-- this word, where the labels are the words from it on
+abbrev pub dense_at : Option ℕ → Sections → Option ℕ
+dense_at None xs = None
+dense_at (Some w) xs = cond (are_dense w xs) (Some w) None
+
+-- the first label, where the labels are dense
+abbrev pub dense_from : Sections → Option ℕ
+dense_from xs = dense_at (first_label xs) xs
+
+-- how many sections are skipped, where n labels begin with this one: as many as the value is above it, or n
+abbrev pub dense_code : ℕ → ℕ → Code
+dense_code low n =
+    Then (only (Let (temp 0) op.Sub (Var (temp 0)) (Const low)))
+    (Then (only (Let (scratch 0) op.Tltu (Var (temp 0)) (Const n)))
+    (only (If (Var (scratch 0)) Nop (set_word (temp 0) n))))
+
+-- how many sections are skipped, by the first of dense labels
+abbrev pub chosen_by : Option ℕ → Sections → Code
+chosen_by None xs = searched_code xs
+chosen_by (Some low) xs = dense_code low (default_at 0 (section_count xs) xs)
+
 -- how many sections are skipped, by the value in temporary 0
 abbrev pub chosen_code : Sections → Code
-chosen_code xs =
-    only (Loop (Then (compared_code 0 xs) (found_code (default_at 0 (section_count xs) xs))) Nop)
+chosen_code xs = chosen_by (dense_from xs) xs
 
 -- SECTIONS
 
