@@ -1,8 +1,10 @@
 -- What holds of all tokens and of all that may be added holds of the items of a unit, and of the objects that they
 -- declare.
 use Rattle.std.proofs.Common.{◌≡◌, ℕ, Bool, true, false, cond, List, [], ◌∷◌, ◌++◌, Option, Some, None}
-use Rattle.std.specs.Prelude.{◌&&◌, ◌||◌, is_some}
+use Rattle.std.specs.Prelude.{◌&&◌, ◌||◌, map}
 use Rattle.c_tree.specs.declared.Form.{Form}
+use Rattle.c_tree.specs.declared.Key.{Key}
+use Rattle.c_tree.specs.declared.Key.TheVariants as key
 use Rattle.c_tree.specs.declared.Mark.TheVariants as mark
 use Rattle.c_tree.specs.declared.Lexeme.{Lexeme}
 use Rattle.c_lex.specs.Lexes.{Tokens}
@@ -13,13 +15,19 @@ use Rattle.c_locals.specs.Declarators.{whole, braced}
 use Rattle.c_locals.specs.Elements.{marked}
 use Rattle.c_locals.specs.Walks.{is_word}
 use Rattle.c_locals.proofs.KeptElements.{EachPart, EachPiece, parts_keep, pieces_keep, marked_keeps}
+use Rattle.c_words.specs.declared.named.Named.{Named}
+use Rattle.c_words.specs.declared.named.Named.TheVariants as named
+use Rattle.c_words.specs.Keys.{behind}
+use Rattle.c_words.specs.Keys as k
+use Rattle.c_words.specs.Ordered.{key_at}
+use Rattle.c_words.specs.Types.{type_of, spelling}
 use Rattle.c_units.specs.declared.cuts.Cut.{Cut}
 use Rattle.c_units.specs.declared.objects.Declaration.{Declaration}
 use Rattle.c_units.specs.Cuts.{start, past, ends, beginning, with_token, ended, step, cut, items}
 use Rattle.c_units.specs.Braces.{only_by, only_of, only, begins_list, list_of, has_char, is_one_size, unbraced}
-use Rattle.c_units.specs.Objects.{or_bare, is_extern, is_qualifier, words_from, behind_words, are_objects, sizes_by}
-use Rattle.c_units.specs.Objects.{value_by}
-use Rattle.c_units.specs.Objects.{declaration, with_piece, each_from, read_body, read_words, read_from, read}
+use Rattle.c_units.specs.Objects.{or_bare, is_qualifier, words_from, behind_words, are_objects, sizes_by, value_by}
+use Rattle.c_units.specs.Objects.{declaration, with_piece, each_from, read_body, may_declare, spelled, read_typed}
+use Rattle.c_units.specs.Objects.{place_if, read_behind, read}
 
 -- ITEMS
 
@@ -178,20 +186,31 @@ body_keeps P e ws (Some (b, [])) a h k =
     (each_keep P e ws [] (pieces b) a h tt (pieces_keep P b k.0)) tt
 body_keeps P e ws (Some (b, t ∷ ts)) a h k = tt
 
-behind_words_keep : (P : Fact) (e : Option ℕ) (ws ts : Tokens) → Allows P → EachToken P ws → EachToken P ts
-    → EachDeclared P (read_words e ws ts)
-behind_words_keep P e [] ts a h k = tt
-behind_words_keep P e (w ∷ ws) ts a h k =
-    body_keeps P e (w ∷ ws) (split mark.Semicolon ts) a h (parts_keep P mark.Semicolon ts k)
+keys_have : (P : Fact) (at : ℕ) (ks : List Key) → Allows P → EachToken P (map (key_at at) ks)
+keys_have P at [] a = tt
+keys_have P at (k ∷ ks) a = (a.key k, keys_have P at ks a)
 
-from_keeps : (P : Fact) (e : Option ℕ) (ts : Tokens) → Allows P → EachToken P ts → EachDeclared P (read_from e ts)
-from_keeps P e ts a h =
-    behind_words_keep P e (words_from (is_some e) [] ts) (behind_words (is_some e) ts) a
-    (words_keep P (is_some e) [] ts tt h) (behind_keep P (is_some e) ts h)
+typed_keeps : (P : Fact) (e : Option ℕ) (at : ℕ) (o : Option Named) (ts : Tokens) → Allows P → EachToken P ts
+    → EachDeclared P (read_typed e at o ts)
+typed_keeps P e at None ts a h = tt
+typed_keeps P e at (Some named.Void) ts a h = tt
+typed_keeps P e at (Some n) ts a h =
+    body_keeps P e (spelled at n) (split mark.Semicolon ts) a (keys_have P at (spelling n) a)
+    (parts_keep P mark.Semicolon ts h)
+
+run_behind_keeps : (P : Fact) (ts : Tokens) → EachToken P ts → EachToken P (behind ts)
+run_behind_keeps P [] h = tt
+run_behind_keeps P (t ∷ ts) h =
+    either P (k.is_word t.form) (behind ts) (t ∷ ts) (run_behind_keeps P ts h.1) h
+
+behind_has : (P : Fact) (at : ℕ) (ws ts : Tokens) → Allows P → EachToken P ts → EachDeclared P (read_behind at ws ts)
+behind_has P at ws ts a h =
+    let e : Bool = k.one key.Extern ws in
+    either_list P (may_declare e ws) (read_typed (place_if e at) at (type_of ws) ts) []
+    (typed_keeps P (place_if e at) at (type_of ws) ts a h) tt
 
 -- the objects that an item declares
 pub read_keeps : (P : Fact) (ts : Tokens) → Allows P → EachToken P ts → EachDeclared P (read ts)
 read_keeps P [] a h = tt
 read_keeps P (t ∷ ts) a h =
-    either_list P (is_extern t.form) (read_from (Some t.offset) ts) (read_from None (t ∷ ts))
-    (from_keeps P (Some t.offset) ts a h.1) (from_keeps P None (t ∷ ts) a h)
+    behind_has P t.offset (k.run (t ∷ ts)) (behind (t ∷ ts)) a (run_behind_keeps P (t ∷ ts) h)

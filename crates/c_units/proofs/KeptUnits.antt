@@ -1,6 +1,6 @@
 -- What holds of all tokens and of all that may be added holds of a unit that declares each object once.
 use Rattle.std.proofs.Common.{◌≡◌, ℕ, Bool, true, false, cond, List, [], ◌∷◌, ◌++◌, Option, Some}
-use Rattle.std.specs.Prelude.{None, ◌&&◌, nat_eq}
+use Rattle.std.specs.Prelude.{None, not, ◌&&◌, nat_eq}
 use Rattle.c_tree.specs.declared.Form.TheVariants as form
 use Rattle.c_tree.specs.declared.Key.TheVariants as key
 use Rattle.c_tree.specs.declared.Mark.TheVariants as mark
@@ -11,11 +11,12 @@ use Rattle.c_locals.specs.Elements.{marked}
 use Rattle.c_locals.proofs.KeptElements.{EachPiece, marked_keeps}
 use Rattle.c_units.specs.declared.joined.Told.{Told}
 use Rattle.c_units.specs.declared.objects.Declaration.{Declaration}
+use Rattle.c_units.specs.Completed.{is_open, is_completed, whole_head, completed, completed_from}
 use Rattle.c_units.specs.Cuts.{items}
-use Rattle.c_units.specs.Joined.{count, has_value, value_of, is_made, extern_at, extern_of, whole, counts, single}
+use Rattle.c_units.specs.Joined.{count, value_of, is_made, extern_at, extern_of, whole, counts, single}
 use Rattle.c_units.specs.Joined.{one_told, each_told}
-use Rattle.c_units.specs.Joined.{are_alone, kept, item_told, items_told, all_from, beginning, joined}
-use Rattle.c_units.specs.Objects.{read}
+use Rattle.c_units.specs.Joined.{are_alone, kept, item_told, items_told, all_from, all_completed, beginning, joined}
+use Rattle.c_units.specs.Objects.{has_value, read}
 use Rattle.c_units.specs.Same.{same_tokens}
 use Rattle.c_units.proofs.KeptObjects.{EachPartOf, EachDeclared, declared_append, either, items_keep, read_keeps}
 
@@ -49,6 +50,31 @@ single_keeps P before all d a h k =
     (whole_keeps P all d (value_of all d.head) a k (value_of_keeps P all d.head h))
     (either P (counts before d) (whole all d d.value) [] (whole_keeps P all d d.value a k k.value) tt)
 
+-- SIZES THAT ARE LEFT OUT
+
+head_keeps : (P : Fact) (ds : List Declaration) (h : Tokens) → EachDeclared P ds → EachToken P h
+    → EachToken P (whole_head ds h)
+head_keeps P [] h k m = m
+head_keeps P (d ∷ ds) h k m =
+    either P (is_completed h d.head) d.head (whole_head ds h) k.0.head (head_keeps P ds h k.1 m)
+
+either_one : (P : Fact) (b : Bool) (x y : Declaration) → EachPartOf P x → EachPartOf P y → EachPartOf P (cond b x y)
+either_one P true x y h k = h
+either_one P false x y h k = k
+
+completed_keeps : (P : Fact) (all : List Declaration) (d : Declaration) → EachDeclared P all → EachPartOf P d
+    → EachPartOf P (completed all d)
+completed_keeps P all d h k =
+    either_one P (is_open d.head && not (has_value d)) (record d { head = whole_head all d.head }) d
+    (record { head = head_keeps P all d.head h k.head; value = k.value }) k
+
+each_completed : (P : Fact) (all got ds : List Declaration) → EachDeclared P all → EachDeclared P got
+    → EachDeclared P ds → EachDeclared P (completed_from all got ds)
+each_completed P all got [] a h k = h
+each_completed P all got (d ∷ ds) a h k =
+    each_completed P all (got ++ completed all d ∷ []) ds a
+    (declared_append P got (completed all d ∷ []) h (completed_keeps P all d a k.0, tt)) k.1
+
 -- THE UNIT
 
 each_told_keeps : (P : Fact) (all ds : List Declaration) (s : Told) → Allows P → EachDeclared P all
@@ -73,8 +99,9 @@ items_told_keep : (P : Fact) (all : List Declaration) (is : List Tokens) (s : To
     → EachPiece P is → EachToken P s.out → EachToken P (items_told all is s).out
 items_told_keep P all [] s a h k m = m
 items_told_keep P all (i ∷ is) s a h k m =
-    items_told_keep P all is (item_told all i (read i) s) a h k.1
-    (item_told_keeps P all i (read i) s a h k.0 (read_keeps P i a k.0) m)
+    let ds : List Declaration = completed_from all [] (read i) in
+    items_told_keep P all is (item_told all i ds s) a h k.1
+    (item_told_keeps P all i ds s a h k.0 (each_completed P all [] (read i) h tt (read_keeps P i a k.0)) m)
 
 all_keep : (P : Fact) (got : List Declaration) (is : List Tokens) → Allows P → EachDeclared P got → EachPiece P is
     → EachDeclared P (all_from got is)
@@ -86,4 +113,7 @@ all_keep P got (i ∷ is) a h k =
 pub joined_keeps : (P : Fact) (ts : Tokens) → Allows P → EachToken P ts → EachToken P (joined ts)
 joined_keeps P ts a h =
     let pieces : EachPiece P (items ts) = items_keep P ts h in
-    items_told_keep P (all_from [] (items ts)) (items ts) beginning a (all_keep P [] (items ts) a tt pieces) pieces tt
+    let raw : List Declaration = all_from [] (items ts) in
+    let all : EachDeclared P raw = all_keep P [] (items ts) a tt pieces in
+    items_told_keep P (all_completed (items ts)) (items ts) beginning a (each_completed P raw [] raw all tt all)
+    pieces tt

@@ -57,6 +57,16 @@ other_sizes_stay = refl
 pub second_value_stays : becomes (valued 1 ++ valued 2) (valued 1 ++ valued 2)
 second_value_stays = refl
 
+-- `extern int x [ ] ; int x [ 2 ] ;` is `int x [ 2 ] ;`, in either order (6.2.7, paragraph 4)
+abbrev open_array : List Form
+open_array = form.Key key.Extern ∷ declares (form.Mark mark.LeftBracket ∷ form.Mark mark.RightBracket ∷ [])
+
+pub size_is_told : becomes (open_array ++ array) array
+size_is_told = refl
+
+pub size_was_told : becomes (array ++ open_array) array
+size_was_told = refl
+
 -- `int x = { 3 };` is `int x = 3;` (6.7.9, paragraph 11)
 pub braces_of_a_scalar_go : becomes
     (declares (form.Mark mark.Assign ∷ form.Mark mark.LeftBrace ∷ form.Number 3 Int ∷ form.Mark mark.RightBrace ∷ []))

@@ -8,8 +8,7 @@ use Rattle.c_lex.specs.Lexes.{Tokens}
 use Rattle.c_library.specs.Calls.{is_mark}
 use Rattle.c_locals.specs.Brackets.{Parts, split, pieces}
 use Rattle.c_locals.specs.Walks.{is_word}
-use Rattle.c_units.specs.Joined.{is_any}
-use Rattle.c_units.specs.Objects.{words_from, behind_words, is_object}
+use Rattle.c_units.specs.Objects.{words_from, behind_words, is_any, is_object}
 use Rattle.c_units.specs.Same.{same_form}
 
 -- do tokens begin with this name?

@@ -5,13 +5,13 @@ use Rattle.c_tree.specs.declared.Form.TheVariants as form
 use Rattle.c_tree.specs.declared.Key.TheVariants as key
 use Rattle.c_tree.specs.declared.Mark.TheVariants as mark
 use Rattle.c_lex.specs.Lexes.{Tokens}
-use Rattle.c_library.specs.Calls.{is_mark}
 use Rattle.c_library.specs.Places.{tokens}
 use Rattle.c_locals.specs.Elements.{marked}
 use Rattle.c_units.specs.declared.joined.Told.{Told}
 use Rattle.c_units.specs.declared.objects.Declaration.{Declaration}
+use Rattle.c_units.specs.Completed.{completed_from}
 use Rattle.c_units.specs.Cuts.{items}
-use Rattle.c_units.specs.Objects.{read}
+use Rattle.c_units.specs.Objects.{has_value, is_any, read}
 use Rattle.c_units.specs.Same.{same_tokens}
 
 -- LOOKING UP, by the type, the name and the sizes of an object
@@ -24,15 +24,6 @@ count_from n (d ∷ ds) h = count_from (if same_tokens d.head h then n + 1 else 
 -- how many declare it
 abbrev pub count : List Declaration → Tokens → ℕ
 count ds h = count_from 0 ds h
-
--- is it any token?
-abbrev pub is_any : Tokens → Bool
-is_any [] = false
-is_any (t ∷ ts) = true
-
--- has it a value?
-abbrev pub has_value : Declaration → Bool
-has_value d = is_any d.value
 
 -- the first value that one of these gives it; nothing where none does
 abbrev pub value_of : List Declaration → Tokens → Tokens
@@ -63,23 +54,12 @@ extern_of all d = if is_made all d.head then [] else extern_at d.external
 abbrev pub whole : List Declaration → Declaration → Tokens → Tokens
 whole all d value = extern_of all d ++ (d.head ++ (value ++ marked d.at mark.Semicolon))
 
--- do tokens begin with a `]`?
-abbrev pub begins_end : Tokens → Bool
-begins_end [] = false
-begins_end (t ∷ ts) = is_mark mark.RightBracket t.form
-
--- is a size left out?
-abbrev pub is_open : Tokens → Bool
-is_open [] = false
-is_open (t ∷ ts) = (is_mark mark.LeftBracket t.form && begins_end ts) || is_open ts
-
--- Is a declaration behind these one that counts, where one of these has a value: it has one too, or leaves out a size,
--- which `sizeof` behind it was not told?
+-- Is a declaration behind these one that counts, where one of these has a value: it has one too?
 abbrev pub counts : List Declaration → Declaration → Bool
-counts before d = (has_value d || is_open d.head) && is_any (value_of before d.head)
+counts before d = has_value d && is_any (value_of before d.head)
 
 -- What stands for a declaration behind these, of all: the first one of its object has the value that the object has,
--- and the others go; so does not a second value, nor a size that is left out behind it, which are refused.
+-- and the others go; so does not a second value, which is refused.
 abbrev pub single : List Declaration → List Declaration → Declaration → Tokens
 single before all d =
     if nat_eq (count before d.head) 0 then whole all d (value_of all d.head)
@@ -116,7 +96,7 @@ item_told all item ds s = if are_alone all ds then kept item ds s else each_told
 -- behind these items
 abbrev pub items_told : List Declaration → List Tokens → Told → Told
 items_told all [] s = s
-items_told all (i ∷ is) s = items_told all is (item_told all i (read i) s)
+items_told all (i ∷ is) s = items_told all is (item_told all i (completed_from all [] (read i)) s)
 
 -- the declarations of these items, behind others
 abbrev pub all_from : List Declaration → List Tokens → List Declaration
@@ -127,9 +107,13 @@ all_from got (i ∷ is) = all_from (got ++ read i) is
 abbrev pub beginning : Told
 beginning = record { before = []; out = [] }
 
+-- the declarations of these items, with the sizes that they leave out
+abbrev pub all_completed : List Tokens → List Declaration
+all_completed is = completed_from (all_from [] is) [] (all_from [] is)
+
 -- the items, each object of which is declared once
 abbrev pub joined_items : List Tokens → Tokens
-joined_items is = (items_told (all_from [] is) is beginning).out
+joined_items is = (items_told (all_completed is) is beginning).out
 
 -- A unit that declares each object once: the first declaration outside of functions with a type, a name and sizes has
 -- the value of the one with a value, and the others with these go.

@@ -2,6 +2,7 @@ pub mod Same
 pub mod Cuts
 pub mod Braces
 pub mod Objects
+pub mod Completed
 pub mod Entries
 pub mod Designators
 pub mod Externs

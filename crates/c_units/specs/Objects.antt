@@ -1,6 +1,6 @@
 -- The objects that an item of a unit declares (C17 6.7, 6.9.2).
 use Rattle.std.specs.Prelude.{ℕ, Bool, true, false, ◌&&◌, ◌||◌, if◌then◌else◌, List, [], ◌∷◌, ◌++◌, Option, Some, None}
-use Rattle.std.specs.Prelude.{is_some}
+use Rattle.std.specs.Prelude.{is_some, map}
 use Rattle.c_tree.specs.declared.Form.{Form}
 use Rattle.c_tree.specs.declared.Key.TheVariants as key
 use Rattle.c_tree.specs.declared.Mark.TheVariants as mark
@@ -11,7 +11,11 @@ use Rattle.c_locals.specs.Brackets.{Parts, split, pieces}
 use Rattle.c_locals.specs.Elements.{marked}
 use Rattle.c_locals.specs.Values.{is_name}
 use Rattle.c_locals.specs.Walks.{is_word}
-use Rattle.c_words.specs.Keys.{is_key}
+use Rattle.c_words.specs.declared.named.Named.{Named}
+use Rattle.c_words.specs.declared.named.Named.TheVariants as named
+use Rattle.c_words.specs.Keys.{is_key, is_type_word, one, run, behind}
+use Rattle.c_words.specs.Ordered.{key_at}
+use Rattle.c_words.specs.Types.{type_of, spelling}
 use Rattle.c_units.specs.declared.objects.Declaration.{Declaration}
 use Rattle.c_units.specs.Braces.{unbraced}
 
@@ -21,7 +25,7 @@ use Rattle.c_units.specs.Braces.{unbraced}
 abbrev pub is_extern : Form → Bool
 is_extern f = is_key key.Extern f
 
--- Is it a qualifier (6.7.3)? Behind `extern` of an object they still stand.
+-- Is it a qualifier (6.7.3)? Beside `extern` of an object they still stand.
 abbrev pub is_qualifier : Form → Bool
 is_qualifier f = is_key key.Const f || is_key key.Volatile f
 
@@ -87,6 +91,15 @@ declaration e ws n ts =
       is_bared = is_some (bare_by ws (split mark.Assign ts));
     }
 
+-- is it any token?
+abbrev pub is_any : Tokens → Bool
+is_any [] = false
+is_any (t ∷ ts) = true
+
+-- has a declaration a value?
+abbrev pub has_value : Declaration → Bool
+has_value d = is_any d.value
+
 -- the declarations, with that of a declarator
 abbrev pub with_piece : Option ℕ → Tokens → List Declaration → Tokens → List Declaration
 with_piece e ws got [] = got
@@ -104,16 +117,33 @@ abbrev pub read_body : Option ℕ → Tokens → Option Parts → List Declarati
 read_body e ws (Some (b, [])) = if are_objects (pieces b) then each_from e ws [] (pieces b) else []
 read_body e ws _ = []
 
--- those behind the words of a type
-abbrev pub read_words : Option ℕ → Tokens → Tokens → List Declaration
-read_words e [] ts = []
-read_words e (w ∷ ws) ts = read_body e (w ∷ ws) (split mark.Semicolon ts)
+-- may these words be those of a declaration of objects: of a type, and, where one of them is `extern`, qualifiers too?
+abbrev pub may_declare : Bool → Tokens → Bool
+may_declare e [] = true
+may_declare e (w ∷ ws) =
+    (is_type_word w.form || (e && (is_extern w.form || is_qualifier w.form))) && may_declare e ws
 
--- those of tokens behind `extern` at this place, or of such without
-abbrev pub read_from : Option ℕ → Tokens → List Declaration
-read_from e ts = read_words e (words_from (is_some e) [] ts) (behind_words (is_some e) ts)
+-- the words of a type in the order of the grammar, at this place
+abbrev pub spelled : ℕ → Named → Tokens
+spelled at n = map (key_at at) (spelling n)
+
+-- those of this type, which is no object's if it is `void`
+abbrev pub read_typed : Option ℕ → ℕ → Option Named → Tokens → List Declaration
+read_typed e at None ts = []
+read_typed e at (Some named.Void) ts = []
+read_typed e at (Some n) ts = read_body e (spelled at n) (split mark.Semicolon ts)
+
+-- the place, if what stands there is `extern`
+abbrev pub place_if : Bool → ℕ → Option ℕ
+place_if e at = if e then Some at else None
+
+-- those behind these words, which begin at this place
+abbrev pub read_behind : ℕ → Tokens → Tokens → List Declaration
+read_behind at ws ts =
+    let e = one key.Extern ws in
+    if may_declare e ws then read_typed (place_if e at) at (type_of ws) ts else []
 
 -- the objects that an item declares; none where it is anything else
 abbrev pub read : Tokens → List Declaration
 read [] = []
-read (t ∷ ts) = if is_extern t.form then read_from (Some t.offset) ts else read_from None (t ∷ ts)
+read (t ∷ ts) = read_behind t.offset (run (t ∷ ts)) (behind (t ∷ ts))

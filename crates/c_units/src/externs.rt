@@ -4,7 +4,7 @@ ghost use Rattle.std.specs.Prelude.{◌≡◌, ◌∷◌, option_map, IfOk};
 ghost use Rattle.c_locals.specs.Brackets as brackets;
 ghost use Rattle.c_units.specs.Externs as externs;
 
-use crate::joined::is_any;
+use crate::completed::is_any;
 use crate::objects::{behind_words, is_object, tokens_copied, words};
 use crate::same::same_form;
 use base::Items;

@@ -3,6 +3,7 @@
 ghost use Rattle.std.specs.Prelude.{◌≡◌, ◌≤◌, ◌+◌, [], length, IfOk, OnOk};
 ghost use Rattle.c_units.specs.Joined as joined;
 
+use crate::completed::{each_completed, is_any};
 use crate::cuts::items;
 use crate::objects::{Declaration, read, tokens_copied};
 use crate::same::same_tokens;
@@ -36,24 +37,7 @@ fn count(declarations: &[Declaration], head: &[Lexeme]) -> usize
     found
 }
 
-/// Is it any token?
-pub fn is_any(tokens: &[Lexeme]) -> bool
-    ensures { result ≡ joined.is_any tokens.now }
-{
-    match tokens {
-        [] => false,
-        _ => true,
-    }
-}
-
 impl Declaration {
-    /// Has it a value?
-    fn has_value(&self) -> bool
-        ensures { result ≡ joined.has_value self.now }
-    {
-        is_any(self.value.as_slice())
-    }
-
     /// Does it make an object?
     fn makes(&self) -> bool
         ensures { result ≡ joined.makes self.now }
@@ -143,36 +127,11 @@ fn whole(
     Ok(out)
 }
 
-/// Do tokens begin with a `]`?
-fn begins_end(tokens: &[Lexeme]) -> bool
-    ensures { result ≡ joined.begins_end tokens.now }
-{
-    match tokens {
-        [] => false,
-        [token, ..] => is_mark(Mark::RightBracket, &token.form),
-    }
-}
-
-/// Is a size left out?
-fn is_open(head: &[Lexeme]) -> bool
-    ensures { result ≡ joined.is_open head.now }
-{
-    let mut rest = head;
-    while let [token, more @ ..] = rest {
-        if is_mark(Mark::LeftBracket, &token.form) && begins_end(more) {
-            return true;
-        }
-        rest = more;
-    }
-    false
-}
-
 /// Is a declaration behind these one that counts, where one of these has a value?
 fn counts(before: &[Declaration], declaration: &Declaration) -> bool
     ensures { result ≡ joined.counts before.now declaration.now }
 {
-    let head = declaration.head.as_slice();
-    (declaration.has_value() || is_open(head)) && is_any(value_of(before, head))
+    declaration.has_value() && is_any(value_of(before, declaration.head.as_slice()))
 }
 
 /// What stands for a declaration behind these, of all.
@@ -303,6 +262,7 @@ impl Told {
         let mut rest = items;
         while let [item, more @ ..] = rest {
             let declarations = read(alloc, item.as_slice())?;
+            let declarations = each_completed(alloc, all, declarations.as_slice())?;
             self.tell_item(alloc, all, item.as_slice(), declarations)?;
             rest = more;
         }
@@ -323,11 +283,19 @@ fn all(alloc: Global, items: &[Items<Lexeme>]) -> Result<Items<Declaration>, All
     Ok(out)
 }
 
+/// The same, with the sizes that they leave out.
+fn all_completed(alloc: Global, items: &[Items<Lexeme>]) -> Result<Items<Declaration>, AllocError>
+    ensures { IfOk result (λ out. out ≡ joined.all_completed items.now) }
+{
+    let all = all(alloc, items)?;
+    each_completed(alloc, all.as_slice(), all.as_slice())
+}
+
 /// The items, each object of which is declared once.
 fn joined_items(alloc: Global, items: &[Items<Lexeme>]) -> Result<Items<Lexeme>, AllocError>
     ensures { IfOk result (λ out. out ≡ joined.joined_items items.now) }
 {
-    let all = all(alloc, items)?;
+    let all = all_completed(alloc, items)?;
     let mut told = Told::beginning(alloc);
     told.tell_items(alloc, all.as_slice(), items)?;
     let Told { out, .. } = told;

@@ -4,6 +4,7 @@
 #![tactic(auto)]
 
 mod braces;
+mod completed;
 mod cuts;
 mod designators;
 mod entries;

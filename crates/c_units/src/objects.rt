@@ -10,7 +10,7 @@ use base::Items;
 use c_library::token_copied;
 use c_locals::{first_piece, is_mark, is_word, split};
 use c_tree::{Form, Key, Lexeme, Mark};
-use c_words::is_key;
+use c_words::{Named, cut, is_key, is_type_word, one, put_keys, spelling, type_of};
 use std::alloc::{AllocError, Global};
 
 /// A declaration of an object: the offset of its `extern`, if it has one, and of its name, the words of its type with
@@ -298,36 +298,76 @@ fn read_body(
     }
 }
 
-/// Those behind the words of a type.
-fn read_words(
+/// May these words be those of a declaration of objects?
+fn may_declare(external: bool, words: &[Lexeme]) -> bool
+    ensures { result ≡ objects.may_declare external words.now }
+{
+    let mut rest = words;
+    while let [word, more @ ..] = rest {
+        let form = &word.form;
+        if !(is_type_word(form) || external && (is_extern(form) || is_qualifier(form))) {
+            return false;
+        }
+        rest = more;
+    }
+    true
+}
+
+/// The words of a type in the order of the grammar, at this place.
+fn spelled(alloc: Global, at: u32, named: Named) -> Result<Items<Lexeme>, AllocError>
+    ensures { IfOk result (λ out. out ≡ objects.spelled at named) }
+{
+    let mut out = Items::new(alloc);
+    put_keys(at, spelling(named), &mut out)?;
+    Ok(out)
+}
+
+/// The declarations of this type.
+fn read_typed(
     alloc: Global,
     external: Option<u32>,
-    words: &[Lexeme],
+    at: u32,
+    named: Option<Named>,
     behind: &[Lexeme],
 ) -> Result<Items<Declaration>, AllocError>
-    ensures { IfOk result (λ out. out ≡ objects.read_words external words.now behind.now) }
+    ensures { IfOk result (λ out. out ≡ objects.read_typed external at named behind.now) }
 {
-    match words {
-        [] => Ok(Items::new(alloc)),
-        _ => read_body(alloc, external, words, split(Mark::Semicolon, behind)),
+    match named {
+        None | Some(Named::Void) => Ok(Items::new(alloc)),
+        Some(named) => {
+            let words = spelled(alloc, at, named)?;
+            read_body(
+                alloc,
+                external,
+                words.as_slice(),
+                split(Mark::Semicolon, behind),
+            )
+        }
     }
 }
 
-/// Those of tokens behind `extern`, or of such without.
-fn read_from(
-    alloc: Global,
-    external: Option<u32>,
-    tokens: &[Lexeme],
-) -> Result<Items<Declaration>, AllocError>
-    ensures { IfOk result (λ out. out ≡ objects.read_from external tokens.now) }
+/// The place, if what stands there is `extern`.
+fn place_if(external: bool, at: u32) -> Option<u32>
+    ensures { result ≡ objects.place_if external at }
 {
-    let words = words(alloc, external.is_some(), tokens)?;
-    read_words(
-        alloc,
-        external,
-        words.as_slice(),
-        behind_words(external.is_some(), tokens),
-    )
+    if external { Some(at) } else { None }
+}
+
+/// The declarations behind these words, which begin at this place.
+fn read_behind(
+    alloc: Global,
+    at: u32,
+    words: &[Lexeme],
+    behind: &[Lexeme],
+) -> Result<Items<Declaration>, AllocError>
+    ensures { IfOk result (λ out. out ≡ objects.read_behind at words.now behind.now) }
+{
+    let external = one(Key::Extern, words);
+    if may_declare(external, words) {
+        read_typed(alloc, place_if(external, at), at, type_of(words), behind)
+    } else {
+        Ok(Items::new(alloc))
+    }
 }
 
 /// The objects that an item declares.
@@ -336,12 +376,9 @@ pub fn read(alloc: Global, item: &[Lexeme]) -> Result<Items<Declaration>, AllocE
 {
     match item {
         [] => Ok(Items::new(alloc)),
-        [token, more @ ..] => {
-            if is_extern(&token.form) {
-                read_from(alloc, Some(token.offset), more)
-            } else {
-                read_from(alloc, None, item)
-            }
+        [token, ..] => {
+            let (words, behind) = cut(item);
+            read_behind(alloc, token.offset, words, behind)
         }
     }
 }

@@ -26,10 +26,26 @@ const ROWS: &[(&str, &str)] = &[
     ),
     ("int x, x, y;", "int x; int y;"),
     ("char s[]; char s[] = {65, 0};", "char s[] = {65, 0};"),
-    // A size that is left out behind the values is refused: `sizeof` behind it was not told.
     (
         "extern char s[]; char s[] = {65, 0}; extern char s[];",
-        "char s[] = {65, 0}; char s[];",
+        "char s[] = {65, 0};",
+    ),
+    // 6.2.7, paragraph 4: another declaration tells the size that one leaves out.
+    (
+        "extern int x[]; int x[2] = {1, 2}; int y[3]; int y[]; int f(void) { extern int x[]; return x[0]; }",
+        "int x[2] = {1, 2}; int y[3]; int f(void) { ; return x[0]; }",
+    ),
+    (
+        "int f(void) { extern long m[][2]; return m[0][1]; } long m[1 + 2][2]; extern long m[], m[][3], m[][2];",
+        "long m[1 + 2][2]; int f(void) { ; return m[0][1]; } extern long m[]; extern long m[][3];",
+    ),
+    // One that none completes is refused, and so are other sizes, and values of as many elements as another one has.
+    ("int x[];", "int x[];"),
+    ("extern int x[]; int y[2];", "extern int x[]; int y[2];"),
+    ("int x[]; int x[2]; int x[3];", "int x[2]; int x[3];"),
+    (
+        "int x[2]; int x[] = {1, 2}; int x[];",
+        "int x[2]; int x[] = {1, 2};",
     ),
     // 6.2.2, 6.9.2: `extern`, with qualifiers.
     (
@@ -37,6 +53,16 @@ const ROWS: &[(&str, &str)] = &[
         "int x; int y = 1; int t[2] = {1};",
     ),
     ("extern long n = 3;", "long n = 3;"),
+    // 6.7, 6.7.2, paragraph 2: words in any order.
+    (
+        "extern const unsigned int x; int extern y; unsigned x = 3; int y; long unsigned extern volatile int z; \
+         unsigned long int z;",
+        "unsigned x = 3; int y; unsigned long z;",
+    ),
+    (
+        "extern extern int x; int x; extern static int y; int y; extern void v; extern v;",
+        "extern extern int x; int x; extern static int y; int y; extern void v; extern v;",
+    ),
     // An object of another unit is refused.
     ("extern int x; int y;", "extern int x; int y;"),
     ("extern int x; extern int x;", "extern int x;"),

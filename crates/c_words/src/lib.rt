@@ -17,6 +17,9 @@ mod stand;
 #[cfg(test)]
 mod words_tests;
 
-pub use crate::keys::is_key;
+pub use crate::keys::{is_key, is_type_word, one};
+pub use crate::named::{Named, spelling, type_of};
 pub use crate::names::Names;
+pub use crate::ordered::put_keys;
 pub use crate::pass::{has_no_words, worded};
+pub use crate::run::cut;

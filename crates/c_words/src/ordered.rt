@@ -229,7 +229,7 @@ pub fn put_key(at: u32, key: Key, out: &mut Items<Lexeme>) -> Result<(), AllocEr
 }
 
 /// Puts keywords behind the others, as tokens at this place. Want of memory is the only error.
-fn put_keys(at: u32, keys: &[Key], out: &mut Items<Lexeme>) -> Result<(), AllocError>
+pub fn put_keys(at: u32, keys: &[Key], out: &mut Items<Lexeme>) -> Result<(), AllocError>
     ensures { OnOk result (out.new ≡ out.old ++ map (ordered.key_at at) keys.now) }
 {
     let mut rest = keys;

@@ -1,6 +1,6 @@
 use Rattle.std.proofs.Common.{◌≡◌, length}
-use Rattle.c_units.specs.Joined.{is_open}
-use Rattle.c_units.proofs.joined.is_open.Given as goal
+use Rattle.c_units.specs.Completed.{is_open}
+use Rattle.c_units.proofs.completed.is_open.Given as goal
 
 abbrev pub invariant-loop-rest : goal.invariant-loop-rest
 invariant-loop-rest l = is_open l.fn.head ≡ is_open l.rest
