@@ -291,6 +291,21 @@ pub const LITERAL_ROWS: &[Row] = &[
         ],
         "int B [ ] = { 0 , 0 , 3 } ;",
     ),
+    // 6.2.7: another declaration tells the size.
+    (
+        &[
+            "int", "A", "[", "]", ";", "int", "A", "[", "2", "]", "=", "{", "1", "}", ";",
+        ],
+        "int A [ 2 ] = { 1 } ;",
+    ),
+    // 6.5.3.4: the size of what stands behind a sign.
+    (
+        &[
+            "long", "A", "[", "2", "]", ";", "int", "B", "=", "sizeof", "+", "A", "[", "1", "+",
+            "1", "]", ";",
+        ],
+        "long A [ 2 ] ; int B = 8 ;",
+    ),
     // The list of a call is none.
     (
         &["A", "=", "{", "B", "(", "\"a", ")", "}"],

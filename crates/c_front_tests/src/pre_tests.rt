@@ -12,6 +12,7 @@ fn form_of(alloc: Global, word: &str) -> Result<Form, AllocError> {
     match word.as_bytes() {
         b"int" => Ok(Form::Key(Key::Int)),
         b"long" => Ok(Form::Key(Key::Long)),
+        b"sizeof" => Ok(Form::Key(Key::Sizeof)),
         b"+" => Ok(Form::Mark(Mark::Plus)),
         b"*" => Ok(Form::Mark(Mark::Star)),
         b"(" => Ok(Form::Mark(Mark::LeftParen)),

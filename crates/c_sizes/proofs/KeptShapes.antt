@@ -35,7 +35,7 @@ below n = omega arith
 constant_has : (P : Fact) (n : ℕ) → Allows P → P (constant n)
 constant_has P n a = a.number (n % 2147483648) kind.ULong (below n) refl
 
-alone_has : (P : Fact) (n : ℕ) → Allows P → EachForm P (constant n ∷ [])
+pub alone_has : (P : Fact) (n : ℕ) → Allows P → EachForm P (constant n ∷ [])
 alone_has P n a = (constant_has P n a, tt)
 
 close_has : (P : Fact) → Allows P → EachForm P (form.Mark mark.RightParen ∷ [])

@@ -1,5 +1,5 @@
 -- What holds of each token of a unit and of all that may be added holds of the unit's with constants for sizes.
-use Rattle.std.proofs.Common.{ℕ, zero, suc, ◌+◌, ◌*◌, Bool, true, false, cond, nat_eq, ◌&&◌, List, [], ◌∷◌}
+use Rattle.std.proofs.Common.{ℕ, zero, suc, Bool, true, false, cond, nat_eq, List, [], ◌∷◌}
 use Rattle.std.specs.Prelude.{Option, Some, None}
 use Rattle.std.specs.Str.{bytes_eq}
 use Rattle.c_tree.specs.declared.Form.{Form}
@@ -10,6 +10,7 @@ use Rattle.c_tree.specs.declared.Mark.TheVariants as mark
 use Rattle.c_lex.specs.Bytes.{Bytes}
 use Rattle.c_lex.specs.Lexes.{Tokens}
 use Rattle.c_library.specs.Places.{tokens}
+use Rattle.c_locals.specs.Brackets.{Parts, split}
 use Rattle.c_library.proofs.Holds.{Fact, EachForm, EachToken, Allows, each_append}
 use Rattle.c_sizes.specs.declared.known.Entry.{Entry}
 use Rattle.c_sizes.specs.declared.known.Entry.TheVariants as entry
@@ -18,14 +19,16 @@ use Rattle.c_sizes.specs.declared.nest.Opened.{Opened}
 use Rattle.c_sizes.specs.declared.nest.Opened.TheVariants as opened
 use Rattle.c_sizes.specs.declared.shape.Shape.{Shape}
 use Rattle.c_sizes.specs.declared.walk.Walk.{Walk}
-use Rattle.c_sizes.specs.Firsts.{begins, rest}
+use Rattle.c_sizes.specs.Indexes.{Indexed, indexed}
 use Rattle.c_sizes.specs.Nests as nests
-use Rattle.c_sizes.specs.Operands.{Told, untold, is_sizeof, indexes, behind_indexes, is_end, with_indexes, size_by}
-use Rattle.c_sizes.specs.Operands.{size_of, bare, grouped_name, grouped_by, grouped, told_by, told}
+use Rattle.c_sizes.specs.Objects.{Told, untold, is_end, with_indexes, size_by, size_of, bare, inner_name, inner_by}
+use Rattle.c_sizes.specs.Objects.{inner, grouped, object_by, object}
+use Rattle.c_sizes.specs.Operands.{is_sizeof, Valued, valued, by_value, or_by_value, told}
 use Rattle.c_sizes.specs.Scopes as scopes
-use Rattle.c_sizes.specs.Sized.{size_at, stands_for, left_out, sized_from}
+use Rattle.c_sizes.specs.Sized.{Sized, unsized, counted, size_at, stands_for, left_out, sized_from}
 use Rattle.c_sizes.specs.Walks.{start, declares, shape_in, with_declared, past_mark, past_form, past}
-use Rattle.c_sizes.proofs.KeptShapes.{EachOf, either, shape_has, none_has}
+use Rattle.c_sizes.specs.Widths.{bytes}
+use Rattle.c_sizes.proofs.KeptShapes.{EachOf, either, alone_has, shape_has, none_has}
 
 -- NAMES
 
@@ -121,37 +124,56 @@ of_has P k w n h = by_has P n (scopes.find w k) (find_has P w k h)
 abbrev EachTold : Fact → Told → Type 0
 EachTold P x = EachForm P x.0
 
-bare_has : (P : Fact) (k : Known) (w : Bytes) (ts : Tokens) → EachKnown P k → EachTold P (bare k w ts)
-bare_has P k w ts h =
-    let n : ℕ = indexes k ts in
-    either (EachTold P) (is_end (behind_indexes n ts)) (size_of k w n, 1 + 3 * n) untold (of_has P k w n h) tt
+bare_has : (P : Fact) (k : Known) (w : Bytes) (i : Indexed) → EachKnown P k → EachTold P (bare k w i)
+bare_has P k w (n, ts) h = either (EachTold P) (is_end ts) (size_of k w n, ts) untold (of_has P k w n h) tt
 
-name_in_has : (P : Fact) (k : Known) (w : Bytes) (ts : Tokens) → EachKnown P k → EachTold P (grouped_name k w ts)
-name_in_has P k w ts h =
-    let n : ℕ = indexes k ts in
-    let us : Tokens = behind_indexes n ts in
-    either (EachTold P) (begins mark.RightParen us && is_end (rest us)) (size_of k w n, 3 + 3 * n) untold
-    (of_has P k w n h) tt
+inner_name_has : (P : Fact) (k : Known) (w : Bytes) (i : Indexed) → EachKnown P k → EachForm P (inner_name k w i)
+inner_name_has P k w (n, []) h = of_has P k w n h
+inner_name_has P k w (n, t ∷ ts) h = tt
 
-grouped_by_has : (P : Fact) (k : Known) (f : Form) (ts : Tokens) → EachKnown P k → EachTold P (grouped_by k f ts)
-grouped_by_has P k (form.Name w) ts h = name_in_has P k w ts h
-grouped_by_has P k _ ts h = tt
+inner_by_has : (P : Fact) (k : Known) (f : Form) (ts : Tokens) → EachKnown P k → EachForm P (inner_by k f ts)
+inner_by_has P k (form.Name w) ts h = inner_name_has P k w (indexed k ts) h
+inner_by_has P k _ ts h = tt
 
-grouped_has : (P : Fact) (k : Known) (ts : Tokens) → EachKnown P k → EachTold P (grouped k ts)
-grouped_has P k [] h = tt
-grouped_has P k (t ∷ ts) h = grouped_by_has P k t.form ts h
+inner_has : (P : Fact) (k : Known) (ts : Tokens) → EachKnown P k → EachForm P (inner k ts)
+inner_has P k [] h = tt
+inner_has P k (t ∷ ts) h = inner_by_has P k t.form ts h
 
-told_by_has : (P : Fact) (k : Known) (f : Form) (ts : Tokens) → EachKnown P k → EachTold P (told_by k f ts)
-told_by_has P k (form.Name w) ts h = bare_has P k w ts h
-told_by_has P k (form.Mark mark.LeftParen) ts h = grouped_has P k ts h
-told_by_has P k _ ts h = tt
+grouped_has : (P : Fact) (k : Known) (o : Option Parts) → EachKnown P k → EachTold P (grouped k o)
+grouped_has P k None h = tt
+grouped_has P k (Some (a, b)) h = either (EachTold P) (is_end b) (inner k a, b) untold (inner_has P k a h) tt
 
-told_has : (P : Fact) (k : Known) (ts : Tokens) → EachKnown P k → EachTold P (told k ts)
-told_has P k [] h = tt
-told_has P k (t ∷ ts) h = told_by_has P k t.form ts h
+object_by_has : (P : Fact) (k : Known) (f : Form) (ts : Tokens) → EachKnown P k → EachTold P (object_by k f ts)
+object_by_has P k (form.Name w) ts h = bare_has P k w (indexed k ts) h
+object_by_has P k (form.Mark mark.LeftParen) ts h = grouped_has P k (split mark.RightParen ts) h
+object_by_has P k _ ts h = tt
 
-at_has : (P : Fact) (k : Known) (t : Lexeme) (ts : Tokens) → EachKnown P k → EachTold P (size_at k t ts)
-at_has P k t ts h = either (EachTold P) (is_sizeof t.form) (told k ts) untold (told_has P k ts h) tt
+object_has : (P : Fact) (k : Known) (ts : Tokens) → EachKnown P k → EachTold P (object k ts)
+object_has P k [] h = tt
+object_has P k (t ∷ ts) h = object_by_has P k t.form ts h
+
+value_has : (P : Fact) (v : Valued) → Allows P → EachTold P (by_value v)
+value_has P None a = tt
+value_has P (Some (w, ts)) a = alone_has P (bytes w) a
+
+or_value_has : (P : Fact) (x : Told) (v : Valued) → Allows P → EachTold P x → EachTold P (or_by_value x v)
+or_value_has P ([], ts) v a h = value_has P v a
+or_value_has P (f ∷ fs, ts) v a h = h
+
+told_has : (P : Fact) (k : Known) (ts : Tokens) → Allows P → EachKnown P k → EachTold P (told k ts)
+told_has P k ts a h = or_value_has P (object k ts) (valued k ts) a (object_has P k ts h)
+
+-- and of a size
+abbrev EachSized : Fact → Sized → Type 0
+EachSized P x = EachForm P x.0
+
+counted_has : (P : Fact) (ts : Tokens) (x : Told) → EachTold P x → EachSized P (counted ts x)
+counted_has P ts (fs, us) h = h
+
+at_has : (P : Fact) (k : Known) (t : Lexeme) (ts : Tokens) → Allows P → EachKnown P k → EachSized P (size_at k t ts)
+at_has P k t ts a h =
+    either (EachSized P) (is_sizeof t.form) (counted ts (told k ts)) unsized
+    (counted_has P ts (told k ts) (told_has P k ts a h)) tt
 
 -- UNITS
 
@@ -172,5 +194,5 @@ from_keeps P w (suc n) (t ∷ ts) a k h =
 from_keeps P w zero (t ∷ ts) a k h =
     each_append P (stands_for t (size_at w.known t ts).0)
     (sized_from (past t.form ts w) (left_out (size_at w.known t ts)) ts)
-    (stands_has P t (size_at w.known t ts).0 h.0 (at_has P w.known t ts k))
+    (stands_has P t (size_at w.known t ts).0 h.0 (at_has P w.known t ts a k))
     (from_keeps P (past t.form ts w) (left_out (size_at w.known t ts)) ts a (form_has P t.form ts w a h.1 k) h.1)

@@ -1,6 +1,7 @@
 pub mod LatestNames
 pub mod SizedTurns
 pub mod SizedFacts
+pub mod ValueFacts
 pub mod KeptShapes
 pub mod KeptSizes
 pub mod StandardFacts

@@ -8,12 +8,12 @@ use Rattle.c_library.proofs.Holds.{Fact, EachToken, Allows}
 use Rattle.c_library.proofs.LiteralForms.{both_hold}
 use Rattle.c_library.proofs.Puts.{few_stay}
 use Rattle.c_sizes.specs.declared.walk.Walk.{Walk}
-use Rattle.c_sizes.specs.Operands.{Told, untold, is_sizeof, told}
-use Rattle.c_sizes.specs.Sized.{stands_for, left_out, sized_from, sized, is_sized}
+use Rattle.c_sizes.specs.Operands.{is_sizeof, told}
+use Rattle.c_sizes.specs.Sized.{Sized, unsized, counted, stands_for, left_out, sized_from, sized, is_sized}
 use Rattle.c_sizes.specs.Walks.{start, past}
 use Rattle.c_sizes.proofs.KeptSizes.{from_keeps, starts}
 
-not_told : (b : Bool) (x : Told) → not b ≡ true → cond b x untold ≡ untold
+not_told : (b : Bool) (x : Sized) → not b ≡ true → cond b x unsized ≡ unsized
 not_told true x e = absurd (cc)
 not_told false x e = refl
 
@@ -21,8 +21,8 @@ all_stay : (w : Walk) (ts : Tokens) → is_sized ts ≡ true → sized_from w 0 
 all_stay w [] e = refl
 all_stay w (t ∷ ts) e =
     let both = both_hold (not (is_sizeof t.form)) (is_sized ts) e in
-    ap (λ (x : Told). stands_for t x.0 ++ sized_from (past t.form ts w) (left_out x) ts)
-    (not_told (is_sizeof t.form) (told w.known ts) both.0)
+    ap (λ (x : Sized). stands_for t x.0 ++ sized_from (past t.form ts w) (left_out x) ts)
+    (not_told (is_sizeof t.form) (counted ts (told w.known ts)) both.0)
     ∙ ap (λ (us : Tokens). t ∷ us) (all_stay (past t.form ts w) ts both.1)
 
 -- a unit without `sizeof` is its own

@@ -11,8 +11,7 @@ use Rattle.c_library.specs.inside.Gives.{Refuses}
 use Rattle.c_library.specs.inside.Puts.{put_all}
 use Rattle.c_library.proofs.Puts.{both, put_is}
 use Rattle.c_sizes.specs.declared.walk.Walk.{Walk}
-use Rattle.c_sizes.specs.Operands.{Told}
-use Rattle.c_sizes.specs.Sized.{size_at, stands_for, left_out, sized_from, sized}
+use Rattle.c_sizes.specs.Sized.{Sized, size_at, stands_for, left_out, sized_from, sized}
 use Rattle.c_sizes.specs.Walks.{past}
 
 -- what stands for the first token comes before the others
@@ -30,7 +29,7 @@ first most w t ts out m e =
 same : (most : ℕ) (w : Walk) (t : Lexeme) (ts out : Tokens) (size : List Form) (taken : ℕ)
     → (size, taken) ≡ size_at w.known t ts
     → put_all most (stands_for t (size_at w.known t ts).0) out ≡ put_all most (stands_for t size) out
-same most w t ts out size taken h = ap (λ (x : Told). put_all most (stands_for t x.0) out) (sym h)
+same most w t ts out size taken h = ap (λ (x : Sized). put_all most (stands_for t x.0) out) (sym h)
 
 -- behind a call that puts it
 pub first_goes : (most : ℕ) (w : Walk) (t : Lexeme) (ts out new : Tokens) (size : List Form) (taken n : ℕ)

@@ -1,15 +1,18 @@
 -- Sizes of objects, as C17 has them.
 use Rattle.std.proofs.Common.{◌≡◌, ℕ, true, false, List, [], ◌∷◌, refl}
-use Rattle.std.specs.Prelude.{codes}
+use Rattle.std.specs.Prelude.{codes, Some}
 use Rattle.c_tree.specs.declared.Form.{Form}
 use Rattle.c_tree.specs.declared.Form.TheVariants as form
 use Rattle.c_tree.specs.declared.Key.TheVariants as key
 use Rattle.c_tree.specs.declared.Kind.TheVariants as kind
 use Rattle.c_tree.specs.declared.Mark.TheVariants as mark
 use Rattle.c_library.specs.Places.{tokens}
+use Rattle.c_sizes.specs.declared.width.Width.TheVariants as width
 use Rattle.c_sizes.specs.Counts.{is_size, values}
+use Rattle.c_sizes.specs.Scopes.{none}
 use Rattle.c_sizes.specs.Shapes.{constant, scalar, array, rows, untold, shape}
 use Rattle.c_sizes.specs.Sized.{sized}
+use Rattle.c_sizes.specs.Values.{value}
 
 -- a name, a number, marks and keywords
 abbrev name : List ℕ → Form
@@ -95,6 +98,22 @@ whole = refl
 pub element : sized (tokens 0 (declaring (size_of ∷ name (codes "a") ∷ squared (number 0) (semicolon ∷ []))))
     ≡ tokens 0 (declaring (constant 1 ∷ semicolon ∷ []))
 element = refl
+
+-- `sizeof - a [ 0 ]` is that of int (6.3.1.1), and so is that of a character constant (6.4.4.4)
+pub promotes : sized (tokens 0 (declaring (size_of ∷ form.Mark mark.Minus ∷ name (codes "a")
+    ∷ squared (number 0) (semicolon ∷ [])))) ≡ tokens 0 (declaring (constant 4 ∷ semicolon ∷ []))
+promotes = refl
+
+pub character : sized (tokens 0 (size_of ∷ number 97 ∷ semicolon ∷ [])) ≡ tokens 0 (constant 4 ∷ semicolon ∷ [])
+character = refl
+
+-- `1 + 1L` is of type long (6.3.1.8), and `1L < 1` of type int (6.5.8)
+pub sum : value 2 none (tokens 0 (number 1 ∷ form.Mark mark.Plus ∷ form.Number 1 kind.Long ∷ [])) ≡ Some width.Eight
+sum = refl
+
+pub comparison :
+    value 2 none (tokens 0 (form.Number 1 kind.Long ∷ form.Mark mark.Less ∷ number 1 ∷ [])) ≡ Some width.Four
+comparison = refl
 
 -- before it `sizeof a` stays
 pub before : sized (tokens 0 (size_of ∷ name (codes "a") ∷ semicolon ∷ declaring []))

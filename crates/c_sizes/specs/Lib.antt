@@ -1,9 +1,14 @@
 pub mod Firsts
 pub mod Counts
 pub mod Shapes
+pub mod Widths
 pub mod Nests
 pub mod Scopes
 pub mod Walks
+pub mod Indexes
+pub mod Cuts
+pub mod Values
+pub mod Objects
 pub mod Operands
 pub mod Sized
 pub mod inside

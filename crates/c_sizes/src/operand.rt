@@ -1,12 +1,18 @@
 //! The operand of a `sizeof`, and what stands for both.
 
-ghost use Rattle.std.specs.Prelude.{◌≡◌, ◌≤◌};
+ghost use Rattle.std.specs.Prelude.{◌≡◌, option_map, IfOk};
 ghost use Rattle.c_sizes.specs.Operands as operands;
 
+use crate::index::indexed;
 use crate::known::Known;
-use crate::mark::{begins, is_mark, rest};
-use crate::shape::Shape;
+use crate::object::{is_end, object};
+use crate::shape::add_copies;
+use crate::value::{of_name, value};
+use crate::width::Width;
+use base::Items;
+use c_locals::split;
 use c_tree::{Form, Key, Lexeme, Mark};
+use std::alloc::{AllocError, Global};
 
 /// Is the token `sizeof`?
 pub fn is_sizeof(form: &Form) -> bool
@@ -18,165 +24,158 @@ pub fn is_sizeof(form: &Form) -> bool
     }
 }
 
-/// May the token alone be an index: a constant, or a name that is declared?
-fn is_plain(known: &Known, form: &Form) -> bool
-    ensures { result ≡ operands.is_plain known.now form.now }
+// VALUES
+
+/// How many operators and groups may stand one in another in parentheses.
+#[tactic(auto, unfolding(crate::specs::Operands::most_levels))]
+fn most_levels() -> u8
+    ensures { result ≡ operands.most_levels }
 {
-    match form {
-        Form::Number { value: _, kind: _ } => true,
-        Form::Name(name) => known.find(name.as_slice()).is_some(),
-        _ => false,
-    }
+    64
 }
 
-/// Does such an index stand first, in brackets?
-fn begins_index(known: &Known, tokens: &[Lexeme]) -> bool
-    ensures { result ≡ operands.begins_index known.now tokens.now }
+/// A size with these tokens behind what has it, if that ends there.
+fn ended(width: Option<Width>, behind: &[Lexeme]) -> Option<(Width, &[Lexeme])>
+    ensures { option_map (λ p. (p.0, p.1.now)) result ≡ operands.ended width behind.now }
 {
-    match tokens {
-        [open, index, close, ..] => {
-            is_mark(Mark::LeftBracket, &open.form)
-                && is_plain(known, &index.form)
-                && is_mark(Mark::RightBracket, &close.form)
+    match width {
+        None => None,
+        Some(width) => {
+            if is_end(behind) {
+                Some((width, behind))
+            } else {
+                None
+            }
         }
-        _ => false,
     }
 }
 
-/// The tokens behind an index.
-fn behind_index(tokens: &[Lexeme]) -> &[Lexeme]
-    ensures { result.now ≡ operands.behind_index tokens.now }
+/// That of what stands in parentheses, before others.
+fn within<'a>(
+    known: &Known,
+    parts: Option<(&'a [Lexeme], &'a [Lexeme])>,
+) -> Option<(Width, &'a [Lexeme])>
+    ensures { option_map (λ p. (p.0, p.1.now)) result
+        ≡ operands.within known.now (option_map (λ p. (p.0.now, p.1.now)) parts.entry) }
 {
-    rest(rest(rest(tokens)))
-}
-
-/// How many indexes stand first, of two at most.
-fn indexes(known: &Known, tokens: &[Lexeme]) -> usize
-    ensures value { result ≡ operands.indexes known.now tokens.now }
-    ensures few { result ≤ 2 }
-{
-    if !begins_index(known, tokens) {
-        0
-    } else if !begins_index(known, behind_index(tokens)) {
-        1
-    } else {
-        2
+    match parts {
+        None => None,
+        Some((group, behind)) => ended(value(known, most_levels(), group), behind),
     }
 }
 
-/// The tokens behind so many indexes.
-fn behind_indexes(count: usize, tokens: &[Lexeme]) -> &[Lexeme]
-    ensures { result.now ≡ operands.behind_indexes count tokens.now }
-{
-    if count == 0 {
-        tokens
-    } else if count == 1 {
-        behind_index(tokens)
-    } else {
-        behind_index(behind_index(tokens))
-    }
-}
-
-/// Does an operand go on with this token?
-fn goes_on(form: &Form) -> bool
-    ensures { result ≡ operands.goes_on form.now }
-{
-    match form {
-        Form::Mark(mark) => match mark {
-            Mark::LeftBracket | Mark::LeftParen | Mark::PlusPlus | Mark::MinusMinus => true,
-            _ => false,
-        },
-        _ => false,
-    }
-}
-
-/// Does an operand end before these tokens?
-fn is_end(tokens: &[Lexeme]) -> bool
-    ensures { result ≡ operands.is_end tokens.now }
+/// That of a constant, a name with indexes or an expression in parentheses, which these tokens begin with.
+fn simple<'a>(known: &Known, tokens: &'a [Lexeme]) -> Option<(Width, &'a [Lexeme])>
+    ensures { option_map (λ p. (p.0, p.1.now)) result ≡ operands.simple known.now tokens.now }
 {
     match tokens {
-        [] => true,
-        [token, ..] => !goes_on(&token.form),
-    }
-}
-
-/// What stands for `sizeof` of something with so many indexes.
-fn with_indexes(count: usize, shape: &Shape) -> &[Form]
-    ensures { result.now ≡ operands.with_indexes count shape.now }
-{
-    if count == 0 {
-        shape.whole.as_slice()
-    } else if count == 1 {
-        shape.row.as_slice()
-    } else {
-        shape.element.as_slice()
-    }
-}
-
-/// What stands for `sizeof` of a name with so many indexes; nothing where it stays.
-fn size_of<'a>(known: &'a Known, name: &[u8], count: usize) -> &'a [Form]
-    ensures { result.now ≡ operands.size_of known.now name.now count }
-{
-    match known.find(name) {
-        None => &[],
-        Some(shape) => with_indexes(count, shape),
-    }
-}
-
-/// What stands for `sizeof` of a name before these tokens, and how many tokens the operand has.
-fn bare<'a>(known: &'a Known, name: &[u8], tokens: &[Lexeme]) -> (&'a [Form], usize)
-    ensures { (result.0.now, result.1) ≡ operands.bare known.now name.now tokens.now }
-{
-    let count = indexes(known, tokens);
-    if is_end(behind_indexes(count, tokens)) {
-        (size_of(known, name, count), 1 + 3 * count)
-    } else {
-        (&[], 0)
-    }
-}
-
-/// The same of a name in parentheses, before these tokens.
-fn grouped_name<'a>(known: &'a Known, name: &[u8], tokens: &[Lexeme]) -> (&'a [Form], usize)
-    ensures { (result.0.now, result.1) ≡ operands.grouped_name known.now name.now tokens.now }
-{
-    let count = indexes(known, tokens);
-    let behind = behind_indexes(count, tokens);
-    if begins(Mark::RightParen, behind) && is_end(rest(behind)) {
-        (size_of(known, name, count), 3 + 3 * count)
-    } else {
-        (&[], 0)
-    }
-}
-
-/// The same of what stands behind a `(`.
-fn grouped<'a>(known: &'a Known, tokens: &[Lexeme]) -> (&'a [Form], usize)
-    ensures { (result.0.now, result.1) ≡ operands.grouped known.now tokens.now }
-{
-    match tokens {
-        [] => (&[], 0),
+        [] => None,
         [token, more @ ..] => match &token.form {
-            Form::Name(name) => grouped_name(known, name.as_slice(), more),
-            _ => (&[], 0),
-        },
-    }
-}
-
-/// The same of an operand that these tokens begin with.
-pub fn told<'a>(known: &'a Known, tokens: &[Lexeme]) -> (&'a [Form], usize)
-    ensures { (result.0.now, result.1) ≡ operands.told known.now tokens.now }
-{
-    match tokens {
-        [] => (&[], 0),
-        [token, more @ ..] => match &token.form {
-            Form::Name(name) => bare(known, name.as_slice(), more),
+            Form::Number { value: _, kind } => ended(Some(Width::of_kind(*kind)), more),
+            Form::Name(name) => {
+                let (count, behind) = indexed(known, more);
+                ended(of_name(known, name.as_slice(), count), behind)
+            }
             Form::Mark(mark) => {
                 if *mark == Mark::LeftParen {
-                    grouped(known, more)
+                    within(known, split(Mark::RightParen, more))
                 } else {
-                    (&[], 0)
+                    None
                 }
             }
-            _ => (&[], 0),
+            _ => None,
         },
+    }
+}
+
+/// That of one behind a sign or `~`.
+fn signed(valued: Option<(Width, &[Lexeme])>) -> Option<(Width, &[Lexeme])>
+    ensures { option_map (λ p. (p.0, p.1.now)) result
+        ≡ operands.signed (option_map (λ p. (p.0, p.1.now)) valued.entry) }
+{
+    match valued {
+        None => None,
+        Some((width, behind)) => Some((width.promoted(), behind)),
+    }
+}
+
+/// And behind `!`.
+fn negated(valued: Option<(Width, &[Lexeme])>) -> Option<(Width, &[Lexeme])>
+    ensures { option_map (λ p. (p.0, p.1.now)) result
+        ≡ operands.negated (option_map (λ p. (p.0, p.1.now)) valued.entry) }
+{
+    match valued {
+        None => None,
+        Some((_, behind)) => Some((Width::Four, behind)),
+    }
+}
+
+/// That of an operand with a value that these tokens, of which the first is a punctuator, begin with.
+fn behind_mark<'a>(
+    known: &Known,
+    mark: Mark,
+    tokens: &'a [Lexeme],
+    behind: &'a [Lexeme],
+) -> Option<(Width, &'a [Lexeme])>
+    ensures { option_map (λ p. (p.0, p.1.now)) result
+        ≡ operands.behind_mark known.now mark tokens.now behind.now }
+{
+    match mark {
+        Mark::Plus | Mark::Minus | Mark::Tilde => signed(simple(known, behind)),
+        Mark::Not => negated(simple(known, behind)),
+        _ => simple(known, tokens),
+    }
+}
+
+/// That of an operand with a value that these tokens begin with.
+fn valued<'a>(known: &Known, tokens: &'a [Lexeme]) -> Option<(Width, &'a [Lexeme])>
+    ensures { option_map (λ p. (p.0, p.1.now)) result ≡ operands.valued known.now tokens.now }
+{
+    match tokens {
+        [] => None,
+        [token, more @ ..] => match &token.form {
+            Form::Mark(mark) => behind_mark(known, *mark, tokens, more),
+            _ => simple(known, tokens),
+        },
+    }
+}
+
+// OPERANDS
+
+/// Copies of what stands for a size. Want of memory is the only error, here and below.
+fn copied(alloc: Global, size: &[Form]) -> Result<Items<Form>, AllocError>
+    ensures { IfOk result (λ fs. fs ≡ size.now) }
+{
+    let mut forms = Items::new(alloc);
+    add_copies(alloc, size, &mut forms)?;
+    Ok(forms)
+}
+
+/// What stands for the size of a value, and the tokens behind it.
+fn by_value<'a>(
+    alloc: Global,
+    valued: Option<(Width, &'a [Lexeme])>,
+) -> Result<(Items<Form>, &'a [Lexeme]), AllocError>
+    ensures { IfOk result (λ t. (t.0, t.1.now)
+        ≡ operands.by_value (option_map (λ p. (p.0, p.1.now)) valued.entry)) }
+{
+    match valued {
+        None => Ok((Items::new(alloc), &[])),
+        Some((width, behind)) => Ok((width.constant(alloc)?, behind)),
+    }
+}
+
+/// What stands for the size of an operand that these tokens begin with, and the tokens behind it.
+pub fn told<'a>(
+    alloc: Global,
+    known: &Known,
+    tokens: &'a [Lexeme],
+) -> Result<(Items<Form>, &'a [Lexeme]), AllocError>
+    ensures { IfOk result (λ t. (t.0, t.1.now) ≡ operands.told known.now tokens.now) }
+{
+    let (size, behind) = object(known, tokens);
+    match size {
+        [] => by_value(alloc, valued(known, tokens)),
+        _ => Ok((copied(alloc, size)?, behind)),
     }
 }

@@ -31,7 +31,7 @@ fn constant(value: usize) -> Form
 }
 
 /// That constant alone. Want of memory is the only error.
-fn alone(alloc: Global, value: usize) -> Result<Items<Form>, AllocError>
+pub fn alone(alloc: Global, value: usize) -> Result<Items<Form>, AllocError>
     ensures { IfOk result (λ fs. fs ≡ shapes.constant value ∷ []) }
 {
     let mut forms = Items::new(alloc);
@@ -40,7 +40,7 @@ fn alone(alloc: Global, value: usize) -> Result<Items<Form>, AllocError>
 }
 
 /// Adds copies. Want of memory is the only error.
-fn add_copies(alloc: Global, from: &[Form], forms: &mut Items<Form>) -> Result<(), AllocError>
+pub fn add_copies(alloc: Global, from: &[Form], forms: &mut Items<Form>) -> Result<(), AllocError>
     ensures { OnOk result (forms.new ≡ forms.old ++ from.now) }
 {
     let mut rest = from;

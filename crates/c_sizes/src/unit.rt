@@ -12,9 +12,10 @@ ghost use Rattle.c_sizes.specs.Walks as walks;
 use crate::known::Known;
 use crate::operand::{is_sizeof, told};
 use crate::walk::Walk;
+use base::Items;
 use c_library::{LibraryFault, Output, form_copied};
 use c_tree::{Form, Lexeme, MOST_TOKENS};
-use std::alloc::Global;
+use std::alloc::{AllocError, Global};
 
 /// Is no token `sizeof`?
 fn has_no_sizeof(tokens: &[Lexeme]) -> bool
@@ -38,14 +39,20 @@ pub fn is_sized(tokens: &[Lexeme]) -> bool
 }
 
 /// What stands for a token, before these, if it is a `sizeof` whose size is told, and how many tokens its operand
-/// has.
-fn size_at<'a>(known: &'a Known, token: &Lexeme, behind: &[Lexeme]) -> (&'a [Form], usize)
-    ensures { (result.0.now, result.1) ≡ sized.size_at known.now token.now behind.now }
+/// has. Want of memory is the only error.
+fn size_at(
+    alloc: Global,
+    known: &Known,
+    token: &Lexeme,
+    behind: &[Lexeme],
+) -> Result<(Items<Form>, usize), AllocError>
+    ensures { IfOk result (λ size. size ≡ sized.size_at known.now token.now behind.now) }
 {
     if is_sizeof(&token.form) {
-        told(known, behind)
+        let (size, rest) = told(alloc, known, behind)?;
+        Ok((size, behind.len().saturating_sub(rest.len())))
     } else {
-        (&[], 0)
+        Ok((Items::new(alloc), 0))
     }
 }
 
@@ -72,8 +79,33 @@ fn left_out(size: &[Form], taken: usize) -> usize
     if size.is_empty() { 0 } else { taken }
 }
 
-/// Puts what stands for the first of these tokens, and gives how many of those behind it are left out.
+/// Puts these forms, which stand for the first of these tokens, or that token if there are none, and gives how many of
+/// those behind it are left out: the operand, which has so many.
 #[tactic(auto, using(crate::proofs::SizedTurns::first_goes))]
+fn put_told(
+    alloc: Global,
+    walk: &Walk,
+    token: &Lexeme,
+    behind: &[Lexeme],
+    size: &[Form],
+    taken: usize,
+    out: &mut Output,
+) -> Result<usize, LibraryFault>
+    requires told { (size.now, taken) ≡ sized.size_at walk.now.known token.now behind.now }
+    ensures goes { IfOk result (λ n.
+        put_all most_tokens (sized.sized_from walk.now 0 (token.now ∷ behind.now)) out.old
+        ≡ put_all most_tokens (sized.sized_from (walks.past token.now.form behind.now walk.now) n behind.now)
+        out.new) }
+    ensures fails { IfErr result (Refuses (put_all most_tokens
+        (sized.sized_from walk.now 0 (token.now ∷ behind.now)) out.old)) }
+{
+    match put_for(alloc, token, size, out) {
+        Ok(()) => Ok(left_out(size, taken)),
+        Err(fault) => Err(fault),
+    }
+}
+
+/// Puts what stands for the first of these tokens, and gives how many of those behind it are left out.
 fn put_first(
     alloc: Global,
     walk: &Walk,
@@ -88,11 +120,8 @@ fn put_first(
     ensures fails { IfErr result (Refuses (put_all most_tokens
         (sized.sized_from walk.now 0 (token.now ∷ behind.now)) out.old)) }
 {
-    let (size, taken) = size_at(&walk.known, token, behind);
-    match put_for(alloc, token, size, out) {
-        Ok(()) => Ok(left_out(size, taken)),
-        Err(fault) => Err(fault),
-    }
+    let (size, taken) = size_at(alloc, &walk.known, token, behind)?;
+    put_told(alloc, walk, token, behind, size.as_slice(), taken, out)
 }
 
 /// Puts what stands for the first of these tokens, unless it is left out, and gives how many of those behind it are.

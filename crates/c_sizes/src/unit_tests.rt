@@ -79,14 +79,51 @@ const ROWS: &[(&str, &str)] = &[
         "char b[9]; int f(int x) { x = 1, b[0] = 2; g((int) x, b); return sizeof b; }",
         "char b[9]; int f(int x) { x = 1, b[0] = 2; g((int) x, b); return (1ul * (9)); }",
     ),
+    // 6.4.4.1, 6.4.4.4: constants.
+    (
+        "int n = sizeof 'a' + sizeof 1L + sizeof 0xFFFFFFFFu + sizeof(2147483648) + sizeof((7)) + sizeof('a');",
+        "int n = 4ul + 8ul + 4ul + 8ul + 4ul + 4ul;",
+    ),
+    // 6.3.1.1, 6.5.3.3: operators of one operand promote it.
+    (
+        "char c; long l; int n = sizeof +c + sizeof -l + sizeof ~c + sizeof !l + sizeof(c) + sizeof((c)) \
+         + sizeof(-c) + sizeof(~!l);",
+        "char c; long l; int n = 4ul + 8ul + 4ul + 4ul + 1ul + 1ul + 4ul + 4ul;",
+    ),
+    // 6.3.1.8, 6.5.5 to 6.5.14: of two operands, shifts and comparisons.
+    (
+        "short s, t[4]; long l; unsigned char c; int n = sizeof(s + c) + sizeof(s * l) + sizeof(t[s - 1] | c) \
+         + sizeof(c << l) + sizeof(l >> c) + sizeof(s < l) + sizeof(l && l) + sizeof(-l - 1) + sizeof(s * -l);",
+        "short s, t[4]; long l; unsigned char c; int n = 4ul + 8ul + 4ul + 4ul + 8ul + 4ul + 4ul + 8ul + 8ul;",
+    ),
+    // The operator that binds lowest.
+    (
+        "int i; long l; int n = sizeof(i + l < 1 | i) + sizeof((i == 1) + l) + sizeof(i << 1 | l) \
+         + sizeof(!(i + l) * i);",
+        "int i; long l; int n = 4ul + 8ul + 8ul + 4ul;",
+    ),
+    // 6.5.16, 6.5.4: assignments and casts; elements.
+    (
+        "char c; int i; long a[3], m[2][2]; int n = sizeof(c = a[0]) + sizeof(a[i] += 1) + sizeof((char) a[1]) \
+         + sizeof((unsigned long) i + 1) + sizeof a[i * (2 - 1)] + sizeof m[i + 1] + sizeof -m[0][i];",
+        "char c; int i; long a[3], m[2][2]; int n = 1ul + 8ul + 1ul + 8ul + 8ul + (8ul * (2)) + 8ul;",
+    ),
+    (
+        "int a[2], f(int), x; void g(int p[]) { g(sizeof(f(x)), sizeof(p + 1), sizeof(a + 1), sizeof(x ? 1 : 2), \
+         sizeof(x, 1), sizeof(x++), sizeof(long) x, sizeof(a = x), sizeof(1 = x), sizeof(&x), sizeof(x +), \
+         sizeof(y + 1), sizeof(int), sizeof((void) x)); }",
+        "int a[2], f(int), x; void g(int p[]) { g(sizeof(f(x)), sizeof(p + 1), sizeof(a + 1), sizeof(x ? 1 : 2), \
+         sizeof(x, 1), sizeof(x++), sizeof(long) x, sizeof(a = x), sizeof(1 = x), sizeof(&x), sizeof(x +), \
+         sizeof(y + 1), sizeof(int), sizeof((void) x)); }",
+    ),
     // What stays: functions, other operands, sizes with names.
     (
         "int f(void); int n = sizeof f;",
         "int f(void); int n = sizeof f;",
     ),
     (
-        "int a[3], x; int n = sizeof a[x + 1] + sizeof(x)++ + sizeof (a)[0] + sizeof -x + sizeof a[0][0] + sizeof 1;",
-        "int a[3], x; int n = sizeof a[x + 1] + sizeof(x)++ + sizeof (a)[0] + sizeof -x + sizeof a[0][0] + sizeof 1;",
+        "int a[3], x; int n = sizeof a[x + 1] + sizeof(x)++ + sizeof (a)[0] + sizeof -a + sizeof a[0][0] + sizeof a[];",
+        "int a[3], x; int n = 4ul + sizeof(x)++ + sizeof (a)[0] + sizeof -a + sizeof a[0][0] + sizeof a[];",
     ),
     (
         "int n; int a[n]; int b = sizeof a;",

@@ -175,9 +175,9 @@ pub const ROWS: &[Row] = &[
         "a.c:1:18: parse Syntax: 'goto' is left out: use loops, break, continue and return",
     ),
     (
-        "int main(void) { return sizeof(1); }\n",
-        "a.c:1:25: parse Syntax: 'sizeof' is left out but for types, objects and elements: write the number of \
-            bytes or of elements",
+        "int main(void) { return sizeof(main()); }\n",
+        "a.c:1:25: parse Syntax: 'sizeof' is left out but for types, objects, constants and operations on them: \
+            write the number of bytes",
     ),
     (
         "int *p;\n",
