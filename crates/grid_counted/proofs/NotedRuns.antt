@@ -12,23 +12,24 @@ use Rattle.grid_events.proofs.Runs.{has_notes, is_eager}
 use Rattle.grid_machine.specs.Endings.{is_going}
 use Rattle.grid_machine.specs.WholeRuns.{GoesFor, IsRun, at_end}
 use Rattle.grid_machine.proofs.RunFacts.{closed_window, going_by}
-use Rattle.grid_tallies.specs.declared.tallies.Tallies.{Tallies}
+use Rattle.grid_tallies.specs.declared.counters.Counters.{Counters}
+use Rattle.grid_tallies.specs.declared.flights.Flights.{Flights}
+use Rattle.grid_tallies.specs.Counters.{Hears}
 use Rattle.grid_tallies.specs.Runs.{AreCounted, NotedGoes}
-use Rattle.grid_tallies.specs.Statistics.{Heard}
-use Rattle.grid_tallies.proofs.Tallying.{heard_both, heard_none}
+use Rattle.grid_tallies.proofs.Hearing.{hears_both, hears_none}
 use Rattle.grid_counted.specs.Runs.{HasNotes, IsCountedRun, IsNotedRun, end_notes}
 
 -- where the run goes on nothing is noted behind the last cycle
-pub none_heard : {W : Type 0} (budget : ℕ) (g : Grid W) (a : Tallies) → is_going budget g.window ≡ true
-    → Heard a (end_notes budget g) a
+pub none_heard : {W : Type 0} (budget : ℕ) (g : Grid W) (a : Counters) → is_going budget g.window ≡ true
+    → Hears a (end_notes budget g) a
 none_heard budget g a on =
-    subst (λ es. Heard a es a) (sym (ap (λ b. cond b [] (closing g)) on)) (heard_none a [] (λ s. refl))
+    subst (λ es. Hears a es a) (sym (ap (λ b. cond b [] (closing g)) on)) (hears_none a [] (λ s. refl) refl)
 
 -- where it has ended its end is
-pub end_heard : {W : Type 0} (budget : ℕ) (g : Grid W) (a b : Tallies) → is_going budget g.window ≡ false
-    → Heard a (closing g) b → Heard a (end_notes budget g) b
+pub end_heard : {W : Type 0} (budget : ℕ) (g : Grid W) (a b : Counters) → is_going budget g.window ≡ false
+    → Hears a (closing g) b → Hears a (end_notes budget g) b
 end_heard budget g a b off heard =
-    subst (λ es. Heard a es b) (sym (ap (λ x. cond x [] (closing g)) off)) heard
+    subst (λ es. Hears a es b) (sym (ap (λ x. cond x [] (closing g)) off)) heard
 
 -- a grid whose run has ended has ended once its frames are flushed
 pub closed_off : {W : Type 0} (budget : ℕ) (g h : Grid W) → h ≡ closed g → is_going budget g.window ≡ false
@@ -99,10 +100,10 @@ module _ {W : Type 0} (next : W → ℕ) (follows : W → W → Type 0) (blocks 
       }
 
   -- cycles that were counted, and the end of a run, which was too
-  pub counted_run : (n k : ℕ) (g m h : Grid W) (a b c : Tallies) → k ≡ n
-      → AreCounted next follows blocks budget n g m a b → h ≡ at_end budget m → Heard b (end_notes budget m) c
-      → IsCountedRun next follows blocks budget k g h a c
-  counted_run n k g m h a b c same counted is heard = record {
+  pub counted_run : (n k : ℕ) (g m h : Grid W) (a b c : Counters) (p q : Flights) → k ≡ n
+      → AreCounted next follows blocks budget n g m a b p q → h ≡ at_end budget m → Hears b (end_notes budget m) c
+      → IsCountedRun next follows blocks budget k g h a c p q
+  counted_run n k g m h a b c p q same counted is heard = record {
     notes = told counted.notes ++ end_notes budget m;
     noted = record {
       cycles = counted.notes;
@@ -112,5 +113,6 @@ module _ {W : Type 0} (next : W → ℕ) (follows : W → W → Type 0) (blocks 
       ends = is;
       all = refl;
     };
-    heard = heard_both a b c (told counted.notes) (end_notes budget m) counted.heard heard;
+    heard = hears_both a b c (told counted.notes) (end_notes budget m) counted.heard heard;
+    flown = counted.flown;
   }

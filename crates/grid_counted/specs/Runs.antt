@@ -6,9 +6,11 @@ use Rattle.grid_events.specs.Notes.{Note}
 use Rattle.grid_events.specs.Cycles.{closing, told}
 use Rattle.grid_machine.specs.Endings.{is_going}
 use Rattle.grid_machine.specs.WholeRuns.{at_end}
-use Rattle.grid_tallies.specs.declared.tallies.Tallies.{Tallies}
+use Rattle.grid_tallies.specs.declared.counters.Counters.{Counters}
+use Rattle.grid_tallies.specs.declared.flights.Flights.{Flights}
+use Rattle.grid_tallies.specs.Counters.{Hears}
+use Rattle.grid_tallies.specs.Flights.{Flown}
 use Rattle.grid_tallies.specs.Runs.{NotedGoes}
-use Rattle.grid_tallies.specs.Statistics.{Heard}
 
 -- what is noted behind the last cycle: where the run has ended, the flush of the frames in flight
 abbrev pub end_notes : {W : Type 0} → ℕ → Grid W → List Note
@@ -36,9 +38,11 @@ pub record HasNotes {W : Type 0} (next : W → ℕ) (follows : W → W → Type 
   pub notes : List Note
   pub noted : IsNotedRun next follows blocks budget n g notes h
 
--- a run of n cycles was counted: the tallies have heard all that is noted of it
+-- a run of n cycles was counted: the counters have heard all that is noted of it
 pub record IsCountedRun {W : Type 0} (next : W → ℕ) (follows : W → W → Type 0) (blocks : List Block) (budget n : ℕ)
-    (g h : Grid W) (a b : Tallies) : Type 0 where
+    (g h : Grid W) (a b : Counters) (p q : Flights) : Type 0 where
   pub notes : List Note
   pub noted : IsNotedRun next follows blocks budget n g notes h
-  pub heard : Heard a notes b
+  pub heard : Hears a notes b
+  -- the frames in flight have been counted as each of its cycles began
+  pub flown : Flown p (length g.window.frames) noted.cycles q

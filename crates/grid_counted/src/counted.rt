@@ -6,14 +6,15 @@ ghost use Rattle.grid_cycle.specs.Engines.{blocks_of, grid_of};
 use commit_flush::Window;
 use grid_machine::GridWindow;
 use grid_parts::Grid;
-use grid_tallies::Tallies;
+use grid_tallies::{Counters, Flights};
 use operand_net::PcgWeather;
 use trips_isa::{Counts, Ending};
 
 /// A grid at the end of a run that was counted, how the run has ended, and its statistics.
 pub struct Counted {
     pub ending: Ending,
-    pub told: Tallies,
+    pub told: Counters,
+    pub flights: Flights,
     pub grid: Grid<GridWindow, PcgWeather>,
 }
 
@@ -22,6 +23,7 @@ impl Drop for Counted {
         let Counted {
             ending: _ending,
             told: _told,
+            flights: _flights,
             grid,
         } = self;
         let Grid {

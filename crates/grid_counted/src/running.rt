@@ -8,13 +8,13 @@ ghost use Rattle.grid_machine.specs.Tallies.{CountsCommits};
 ghost use Rattle.grid_machine.specs.WholeRuns.{at_end, most_cycles};
 ghost use Rattle.grid_machine.specs.inside.Counted.{IsCounted as HasRoom};
 ghost use Rattle.grid_machine.specs.inside.WholeRuns.{IsKept};
-ghost use Rattle.grid_tallies.specs.Statistics.{Heard};
+ghost use Rattle.grid_tallies.specs.Counters.{Hears};
 ghost use Rattle.grid_counted.specs.Runs.{IsCountedRun, end_notes};
 
 use commit_flush::Window;
 use grid_machine::GridWindow;
 use grid_parts::Grid;
-use grid_tallies::{Tallies, close, cycles};
+use grid_tallies::{Counters, Flights, close, cycles};
 use operand_net::Weather;
 use trips_isa::{Ending, Stepped};
 
@@ -46,12 +46,12 @@ fn most_cycles(budget: u32) -> u64
 }
 
 // Flushes the frames in flight where the run has ended, which is counted, and tells how it has.
-fn finish<W: Weather>(grid: &mut Grid<GridWindow, W>, told: &mut Tallies) -> Option<Ending>
+fn finish<W: Weather>(grid: &mut Grid<GridWindow, W>, told: &mut Counters) -> Option<Ending>
     requires counted { HasRoom (grid_of grid.old) }
     requires cycles { grid.old.state.counts.cycles ≤ 2 ^ 63 }
     ensures change { grid_of grid.new ≡ at_end grid.old.window.budget (grid_of grid.old) }
     ensures value { result ≡ ended grid.old.window.budget grid.new.window.window }
-    ensures heard { Heard told.old (end_notes grid.old.window.budget (grid_of grid.old)) told.new }
+    ensures heard { Hears told.old (end_notes grid.old.window.budget (grid_of grid.old)) told.new }
     ensures kept { IsKept grid.old.window.budget (grid_of grid.new) }
     ensures cycles { grid.new.state.counts.cycles ≡ grid.old.state.counts.cycles }
     ensures image { blocks_of grid.new ≡ blocks_of grid.old }
@@ -66,12 +66,17 @@ fn finish<W: Weather>(grid: &mut Grid<GridWindow, W>, told: &mut Tallies) -> Opt
 }
 
 // Cycles until the run has ended or as many have been made as a run may make, and how it has ended.
-fn run_out<W: Weather>(grid: &mut Grid<GridWindow, W>, told: &mut Tallies) -> Option<Ending>
+fn run_out<W: Weather>(
+    grid: &mut Grid<GridWindow, W>,
+    told: &mut Counters,
+    flights: &mut Flights,
+) -> Option<Ending>
     requires kept { IsKept grid.old.window.budget (grid_of grid.old) }
     requires none { grid.old.state.counts.cycles ≡ 0 }
     requires goes { is_going grid.old.window.budget grid.old.window.window ≡ true }
     ensures counted { IsCountedRun W.next W.follows (blocks_of grid.old) grid.old.window.budget
-        grid.new.state.counts.cycles (grid_of grid.old) (grid_of grid.new) told.old told.new }
+        grid.new.state.counts.cycles (grid_of grid.old) (grid_of grid.new) told.old told.new
+        flights.old flights.new }
     ensures value { result ≡ ended grid.old.window.budget grid.new.window.window }
     ensures comes { HasCome (blocks_of grid.old) grid.old.window.window.state
         (grid.old.window.budget - length grid.old.window.window.state.trace) grid.old.window.budget
@@ -85,18 +90,23 @@ fn run_out<W: Weather>(grid: &mut Grid<GridWindow, W>, told: &mut Tallies) -> Op
     grid.window.keeps_invariant();
     let budget = grid.window.window().budget();
     let most = most_cycles(budget);
-    let _ = cycles(grid, told, budget, most);
+    let _ = cycles(grid, told, flights, budget, most);
     finish(grid, told)
 }
 
 /// Counted cycles until the run has ended, and how: as the machine's run ends within what is left of the budget. At
 /// its end the frames in flight are flushed, which is counted too. It wants a grid at the start of its run.
-pub fn run<W: Weather>(grid: &mut Grid<GridWindow, W>, told: &mut Tallies) -> Ending
+pub fn run<W: Weather>(
+    grid: &mut Grid<GridWindow, W>,
+    told: &mut Counters,
+    flights: &mut Flights,
+) -> Ending
     requires engine { IsEngine W.next W.follows (blocks_of grid.old) grid.old.window.budget (grid_of grid.old) }
     requires none { grid.old.state.counts.cycles ≡ 0 }
     requires goes { is_going grid.old.window.budget grid.old.window.window ≡ true }
     ensures counted { IsCountedRun W.next W.follows (blocks_of grid.old) grid.old.window.budget
-        grid.new.state.counts.cycles (grid_of grid.old) (grid_of grid.new) told.old told.new }
+        grid.new.state.counts.cycles (grid_of grid.old) (grid_of grid.new) told.old told.new
+        flights.old flights.new }
     ensures value { Some result ≡ ended grid.old.window.budget grid.new.window.window }
     ensures comes { ComesTo (blocks_of grid.old) grid.old.window.window.state
         (grid.old.window.budget - length grid.old.window.window.state.trace) result (grid_of grid.new) }
@@ -105,7 +115,7 @@ pub fn run<W: Weather>(grid: &mut Grid<GridWindow, W>, told: &mut Tallies) -> En
     ensures image { blocks_of grid.new ≡ blocks_of grid.old }
     ensures budget { grid.new.window.budget ≡ grid.old.window.budget }
 {
-    let ended = run_out(grid, told);
+    let ended = run_out(grid, told, flights);
     match ended {
         Some(ending) => ending,
         None => unreachable!(),

@@ -15,7 +15,7 @@ use block_check::CheckedImage;
 use block_predict::Predictor;
 use grid_machine::GridWindow;
 use grid_parts::Grid;
-use grid_tallies::Tallies;
+use grid_tallies::{Counters, Flights};
 use operand_net::PcgWeather;
 use std::alloc::Global;
 
@@ -25,14 +25,21 @@ fn run_out(mut grid: Grid<GridWindow, PcgWeather>) -> Counted
     requires some { 0 < grid.window.budget }
     requires kept { IsKept grid.window.budget (grid_of grid) }
     ensures ran { (s : State) (seed : ℕ) → s.trace ≡ [] → grid_of grid ≡ started_on s seed
-        → HasCounted (blocks_of grid) s grid.window.budget seed result.ending (grid_of result.grid) result.told }
+        → HasCounted (blocks_of grid) s grid.window.budget seed result.ending (grid_of result.grid) result.told
+        result.flights }
     ensures image { blocks_of result.grid ≡ blocks_of grid }
 {
     grid.window.keeps_invariant();
     let _ = grid.window.window().budget();
-    let mut told = Tallies::none();
-    let ending = run(&mut grid, &mut told);
-    Counted { ending, told, grid }
+    let mut told = Counters::none();
+    let mut flights = Flights::none();
+    let ending = run(&mut grid, &mut told, &mut flights);
+    Counted {
+        ending,
+        told,
+        flights,
+        grid,
+    }
 }
 
 /// Runs an image on an input, for at most so many blocks, on the grid whose predictor and weather are those of a
@@ -46,7 +53,7 @@ pub fn run_image(
 ) -> Result<Counted, Memory>
     requires some { 0 < budget }
     ensures ran { IfOk result (λ run. HasCounted image.blocks (start image.bytes input.items) budget seed run.ending
-        (grid_of run.grid) run.told) }
+        (grid_of run.grid) run.told run.flights) }
     ensures image { IfOk result (λ run. blocks_of run.grid ≡ image.blocks) }
 {
     let predictor = Predictor::make(alloc, seed)?;
@@ -75,7 +82,7 @@ pub fn resume_image(
     requires room { budget ≤ arch.budget }
     requires fresh { arch.state.trace ≡ [] }
     ensures ran { IfOk result (λ run. HasCounted image.blocks arch.state budget seed run.ending (grid_of run.grid)
-        run.told) }
+        run.told run.flights) }
     ensures image { IfOk result (λ run. blocks_of run.grid ≡ image.blocks) }
 {
     let predictor = Predictor::make(alloc, seed)?;

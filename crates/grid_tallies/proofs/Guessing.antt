@@ -1,133 +1,133 @@
--- What is heard of part (2) of a cycle: the blocks that are predicted, and nothing else.
-use Rattle.std.proofs.Common.{◌≡◌, ℕ, zero, suc, Bool, true, false, cond, List, [], ◌∷◌, ◌++◌, Option, Some, None}
-use Rattle.std.proofs.Common.{◌==◌, is_none, is_some, not, refl, sym, ap, ◌∙◌, subst}
+-- What becomes of guesses by notes one after another, and which notes tell of them.
+use Rattle.std.proofs.Common.{◌≡◌, ◌<◌, ℕ, ◌+◌, ◌^◌, Bool, true, false, cond, List, [], ◌∷◌, ◌++◌}
+use Rattle.std.proofs.Common.{refl, sym, ap, ◌∙◌, subst, true≢false, arith}
 use Rattle.trips_isa.specs.declared.block.Block.{Block}
-use Rattle.block_predict.specs.Predicts.{predicted}
-use Rattle.commit_flush_spec.specs.Frames.{Frame, Exit}
-use Rattle.commit_flush_spec.specs.Window as window
-use Rattle.grid_cycle_spec.specs.Grid.{Grid, Fetching}
-use Rattle.grid_cycle_spec.specs.Acting.{may}
-use Rattle.grid_cycle_spec.specs.Fetches.{begins, begun_after, begun_behind, begun_guess, begun_predicted}
-use Rattle.grid_cycle_spec.specs.Fetches.{fetch_begins}
-use Rattle.grid_cycle_spec.specs.Fetches.{fetch_ends, has_room}
 use Rattle.grid_events.specs.Notes.{Note}
 use Rattle.grid_events.specs.Notes as note
-use Rattle.grid_events.specs.FetchNotes as part
-use Rattle.grid_parts.specs.inside.Asked.{number_of}
-use Rattle.grid_parts.specs.inside.Youngest.{IsYoungest}
-use Rattle.grid_tallies.specs.declared.statistic.Statistic.{Statistic}
-use Rattle.grid_tallies.specs.declared.statistic.Statistic.TheVariants as statistic
-use Rattle.grid_tallies.specs.declared.tallies.Tallies.{Tallies}
-use Rattle.grid_tallies.specs.Statistics.{Heard, place}
-use Rattle.grid_tallies.specs.inside.Adding.{Adds, Nothing, Only}
-use Rattle.grid_tallies.specs.inside.Guesses.{is_open, made, made_of}
-use Rattle.grid_tallies.proofs.Tallying.{heard_adds, heard_both, heard_none}
-use Rattle.grid_tallies.proofs.Weighed.{only_first}
+use Rattle.grid_events.specs.Guesses.{guesses_on, right_from, right_on}
+use Rattle.grid_tallies.specs.declared.guess_table.Guesses.{Guesses}
+use Rattle.grid_tallies.specs.Predictions.{Guessed, Stand, guesses_behind}
 
--- whether an exit has come is told by its number
-pub number_none : (o : Option Exit) → is_none (number_of o) ≡ is_none o
-number_none None = refl
-number_none (Some e) = refl
+-- one list of notes after another ----------------------------------------------------------------
 
--- that there is none is told by whether there is one
-pub none_told : (o : Option ℕ) (b : Bool) → is_some o ≡ not b → b ≡ is_none o
-none_told None true e = refl
-none_told None false e = absurd (let x = e in cc)
-none_told (Some n) true e = absurd (let x = e in cc)
-none_told (Some n) false e = refl
+behind_joined : (es fs : List Note) (qs : List (ℕ × ℕ))
+    → guesses_behind (es ++ fs) qs ≡ guesses_behind fs (guesses_behind es qs)
+behind_joined [] fs qs = refl
+behind_joined (x ∷ es) fs qs = behind_joined es fs (guesses_on x qs)
 
--- the youngest frame says whether some frames are open
-pub open_youngest : (f : Frame) (fs : List Frame) → IsYoungest f fs → is_open fs ≡ is_none f.exit
-open_youngest f [] y = absurd y
-open_youngest f (h ∷ []) y = ap (λ (x : Frame). is_none x.exit) y
-open_youngest f (h ∷ (i ∷ fs)) y = open_youngest f (i ∷ fs) y
+right_joined : (es fs : List Note) (qs : List (ℕ × ℕ))
+    → right_from qs (es ++ fs) ≡ right_from qs es + right_from (guesses_behind es qs) fs
+right_joined [] fs qs = omega arith
+right_joined (x ∷ es) fs qs = let e = right_joined es fs (guesses_on x qs) in omega (arith, e)
 
--- notes that count nothing are no predictions
-none_made : (n : ℕ) (es : List Note) → n ≡ 0 → Nothing es → Only statistic.Predictions n es
-none_made n es off none = λ s. none s ∙ sym (split (place s == 8) n off)
+pub guessed_both : (a b c : Guesses) (es fs : List Note) → Guessed a es b → Guessed b fs c → Guessed a (es ++ fs) c
+guessed_both a b c es fs one two = record {
+  stand = λ qs st. subst (λ k. Stand k c) (sym (behind_joined es fs qs))
+      (two.stand (guesses_behind es qs) (one.stand qs st));
+  number = λ qs st room.
+      let sum = right_joined es fs qs in
+      let first : b.right ≡ a.right + right_from qs es = one.number qs st (omega (arith, sum, room)) in
+      let last : c.right ≡ b.right + right_from (guesses_behind es qs) fs =
+      two.number (guesses_behind es qs) (one.stand qs st) (omega (arith, sum, room, first)) in
+      omega (arith, sum, first, last);
+}
+
+-- the notes that tell of guesses -----------------------------------------------------------------
+
+-- a prediction, a frame that is filled, and an exit
+abbrev pub is_heeded : Note → Bool
+is_heeded (note.Predicts n k) = true
+is_heeded (note.Fetches n k) = true
+is_heeded (note.Leaves n k) = true
+is_heeded _ = false
+
+-- those among some notes
+abbrev pub heeded : List Note → List Note
+heeded [] = []
+heeded (x ∷ xs) = cond (is_heeded x) (x ∷ heeded xs) (heeded xs)
+
+-- no other changes a guess
+none_on : (x : Note) (qs : List (ℕ × ℕ)) → is_heeded x ≡ false → guesses_on x qs ≡ qs
+none_on (note.Begins k c) qs e = refl
+none_on (note.Predicts n k) qs e = absurd (true≢false e)
+none_on (note.GivesUp k) qs e = refl
+none_on (note.Fetches n k) qs e = absurd (true≢false e)
+none_on (note.Reads bank n r) qs e = refl
+none_on (note.Works tile) qs e = refl
+none_on (note.Fires tile n s o) qs e = refl
+none_on (note.Delivers n p) qs e = refl
+none_on (note.Loads tile n m) qs e = refl
+none_on (note.Stores tile n m null) qs e = refl
+none_on (note.Leaves n k) qs e = absurd (true≢false e)
+none_on (note.Seals n) qs e = refl
+none_on (note.Commits n k) qs e = refl
+none_on (note.Traps n k) qs e = refl
+none_on (note.Flushes n why) qs e = refl
+none_on (note.OnMesh m) qs e = refl
+
+-- nor makes one right
+no_right : (x : Note) (qs : List (ℕ × ℕ)) → is_heeded x ≡ false → right_on x qs ≡ 0
+no_right (note.Begins k c) qs e = refl
+no_right (note.Predicts n k) qs e = refl
+no_right (note.GivesUp k) qs e = refl
+no_right (note.Fetches n k) qs e = refl
+no_right (note.Reads bank n r) qs e = refl
+no_right (note.Works tile) qs e = refl
+no_right (note.Fires tile n s o) qs e = refl
+no_right (note.Delivers n p) qs e = refl
+no_right (note.Loads tile n m) qs e = refl
+no_right (note.Stores tile n m null) qs e = refl
+no_right (note.Leaves n k) qs e = absurd (true≢false e)
+no_right (note.Seals n) qs e = refl
+no_right (note.Commits n k) qs e = refl
+no_right (note.Traps n k) qs e = refl
+no_right (note.Flushes n why) qs e = refl
+no_right (note.OnMesh m) qs e = refl
+
+behind_heeded : (es : List Note) (qs : List (ℕ × ℕ)) → guesses_behind es qs ≡ guesses_behind (heeded es) qs
+behind_heeded [] qs = refl
+behind_heeded (x ∷ xs) qs = go (is_heeded x) refl (λ (k : List (ℕ × ℕ)). behind_heeded xs k)
   where
-    split : (c : Bool) (n : ℕ) → n ≡ 0 → cond c n 0 ≡ 0
-    split true n e = e
-    split false n e = refl
+    go : (b : Bool) → is_heeded x ≡ b
+        → ((k : List (ℕ × ℕ)) → guesses_behind xs k ≡ guesses_behind (heeded xs) k)
+        → guesses_behind xs (guesses_on x qs) ≡ guesses_behind (cond b (x ∷ heeded xs) (heeded xs)) qs
+    go true e rest = rest (guesses_on x qs)
+    go false e rest = ap (guesses_behind xs) (none_on x qs e) ∙ rest qs
 
-zeros : (b c : Bool) → ◌≡◌ {A = ℕ} (cond b (cond c 0 0) 0) 0
-zeros true true = refl
-zeros true false = refl
-zeros false c = refl
+right_heeded : (es : List Note) (qs : List (ℕ × ℕ)) → right_from qs es ≡ right_from qs (heeded es)
+right_heeded [] qs = refl
+right_heeded (x ∷ xs) qs = go (is_heeded x) refl (λ (k : List (ℕ × ℕ)). right_heeded xs k)
+  where
+    go : (b : Bool) → is_heeded x ≡ b → ((k : List (ℕ × ℕ)) → right_from k xs ≡ right_from k (heeded xs))
+        → right_on x qs + right_from (guesses_on x qs) xs ≡ right_from qs (cond b (x ∷ heeded xs) (heeded xs))
+    go true e rest = let h = rest (guesses_on x qs) in omega (arith, h)
+    go false e rest =
+        let none = no_right x qs e in
+        let same = ap (λ k. right_from k xs) (none_on x qs e) in
+        let h = rest qs in
+        omega (arith, none, same, h)
 
-module _ {W : Type 0} (blocks : List Block) where
-  after_predicted : (f : Frame) (o : Option ℕ) (g : Grid W) → g.fetching ≡ None → Only statistic.Predictions
-      (cond (is_none (begun_predicted blocks f.block o g).fetching) 0 1) (part.predicted_notes f.number o)
-  after_predicted f None g e = none_made _ [] (ap (λ o. cond (is_none o) 0 1) e) (λ s. refl)
-  after_predicted f (Some k) g e =
-      only_first (note.Predicts f.number k) statistic.Predictions (note.Begins k false ∷ []) refl (λ s. refl)
+-- so two lists in which these are the same tell the same
+pub guessed_same : (a b : Guesses) (es fs : List Note) → heeded es ≡ heeded fs → Guessed a es b → Guessed a fs b
+guessed_same a b es fs same one = record {
+  stand = λ qs st. subst (λ k. Stand k b) (behind_heeded es qs ∙ ap (λ ms. guesses_behind ms qs) same
+      ∙ sym (behind_heeded fs qs)) (one.stand qs st);
+  number = λ qs st room.
+      let e : right_from qs es ≡ right_from qs fs =
+      right_heeded es qs ∙ ap (right_from qs) same ∙ sym (right_heeded fs qs) in
+      let more : b.right ≡ a.right + right_from qs es = one.number qs st (omega (arith, e, room)) in
+      omega (arith, e, more);
+}
 
-  after_guess : (o : Option ℕ) (f : Frame) (g : Grid W) → g.fetching ≡ None → Only statistic.Predictions
-      (cond (is_none o) (cond (is_none (begun_guess blocks o f g).fetching) 0 1) 0) (part.guess_notes blocks o f g)
-  after_guess (Some k) f g e = none_made 0 (note.Begins k true ∷ []) refl (λ s. refl)
-  after_guess None f g e = after_predicted f (predicted blocks g.predictor f.block) g e
+-- and where there is none nothing is told
+pub guessed_none : (a : Guesses) (es : List Note) → heeded es ≡ [] → Guessed a es a
+guessed_none a es none = guessed_same a a [] es (sym none) (record {
+  stand = λ qs st. st;
+  number = λ qs st room. omega arith;
+})
 
-  after_behind : (f : Frame) (o : Option Exit) (g : Grid W) → g.fetching ≡ None → Only statistic.Predictions
-      (cond (is_none o) (cond (is_none g.standing) (cond (is_none (begun_behind blocks f o g).fetching) 0 1) 0) 0)
-      (part.behind_notes blocks f o g)
-  after_behind f (Some x) g e = none_made 0 (part.behind_notes blocks f (Some x) g) refl (λ s. refl)
-  after_behind f None g e = after_guess g.standing f g e
-
-  after_all : (fs : List Frame) (g : Grid W) → g.fetching ≡ None → Only statistic.Predictions
-      (cond (is_open fs) (cond (is_none g.standing) (cond (is_none (begun_after blocks fs g).fetching) 0 1) 0) 0)
-      (part.after_notes blocks fs g)
-  after_all [] g e = none_made 0 (part.after_notes blocks [] g) refl (λ s. refl)
-  after_all (f ∷ []) g e = after_behind f f.exit g e
-  after_all (f ∷ (h ∷ fs)) g e = after_all (h ∷ fs) g e
-
-  begin_only : (o : Option Fetching) (g : Grid W) → g.fetching ≡ o → Only statistic.Predictions
-      (made_of (is_none o) (is_open g.window.frames) (is_none g.standing)
-      (is_none (fetch_begins blocks o g).fetching))
-      (part.begin_notes blocks o g)
-  begin_only (Some f) g e = none_made 0 [] refl (λ s. refl)
-  begin_only None g e = go (has_room g.window)
-    where
-      go : (b : Bool) → Only statistic.Predictions (cond (is_open g.window.frames) (cond (is_none g.standing)
-          (cond (is_none (cond b (begun_after blocks g.window.frames g) g).fetching) 0 1) 0) 0)
-          (cond b (part.after_notes blocks g.window.frames g) [])
-      go true = after_all g.window.frames g e
-      go false = none_made _ [] (ap (λ o. cond (is_open g.window.frames) (cond (is_none g.standing)
-          (cond (is_none o) 0 1) 0) 0) e ∙ zeros (is_open g.window.frames) (is_none g.standing)) (λ s. refl)
-
-  -- what is told of the fetch unit before and behind says how many blocks are predicted
-  pub made_by : (idle opened none still : Bool) (g h : Grid W) → idle ≡ is_none g.fetching
-      → opened ≡ is_open g.window.frames → none ≡ is_none g.standing → still ≡ is_none h.fetching
-      → made_of idle opened none still ≡ made g h
-  made_by idle opened none still g h e f i j =
-      ap (λ b. made_of b opened none still) e ∙ ap (λ b. made_of (is_none g.fetching) b none still) f
-      ∙ ap (λ b. made_of (is_none g.fetching) (is_open g.window.frames) b still) i
-      ∙ ap (λ b. made_of (is_none g.fetching) (is_open g.window.frames) (is_none g.standing) b) j
-
-  -- the begin of a fetch is heard where what it predicts is counted
-  pub begins_heard : (g h : Grid W) (by : ℕ) (a b : Tallies) → h ≡ begins blocks g → by ≡ made g h
-      → Adds statistic.Predictions by a b → Heard a (part.begin_notes blocks g.fetching g) b
-  begins_heard g h by a b is many adds = heard_adds statistic.Predictions by a b
-      (part.begin_notes blocks g.fetching g) adds
-      (subst (λ n. Only statistic.Predictions n (part.begin_notes blocks g.fetching g))
-      (sym (many ∙ ap (λ (x : Grid W). made g x) is)) (begin_only g.fetching g refl))
-
-  nothing_filled : (b : Bool) (f : Fetching) (g : Grid W) → Nothing (part.fill_notes b f g)
-  nothing_filled true f g = λ s. refl
-  nothing_filled false f g = λ s. refl
-
-  nothing_fetched : (budget : ℕ) (o : Option Fetching) (g : Grid W) → Nothing (part.fetch_notes blocks budget o g)
-  nothing_fetched budget None g = λ s. refl
-  nothing_fetched budget (Some f) g = go f.left
-    where
-      go : (left : ℕ) → Nothing (part.on_notes blocks budget left f g)
-      go zero = nothing_filled (may blocks budget (window.Fetch f.block) g) f g
-      go (suc left) = λ s. refl
-
-  -- part (2) is heard where the begin of its fetch is
-  pub fetches_heard : (budget : ℕ) (g m : Grid W) (a b : Tallies) → m ≡ fetch_ends blocks budget g.fetching g
-      → Heard a (part.begin_notes blocks m.fetching m) b → Heard a (part.fetches_notes blocks budget g) b
-  fetches_heard budget g m a b is heard =
-      let x : Grid W = fetch_ends blocks budget g.fetching g in
-      heard_both a a b (part.fetch_notes blocks budget g.fetching g) (part.begin_notes blocks x.fetching x)
-      (heard_none a (part.fetch_notes blocks budget g.fetching g) (nothing_fetched budget g.fetching g))
-      (subst (λ (y : Grid W). Heard a (part.begin_notes blocks y.fetching y) b) is heard)
+-- the same notes over another image and budget that are these
+pub same_guessed : (notes : List Block → ℕ → List Note) (bs cs : List Block) (b d : ℕ) (x y : Guesses) → bs ≡ cs
+    → b ≡ d → Guessed x (notes bs b) y → Guessed x (notes cs d) y
+same_guessed notes bs cs b d x y e f told =
+    subst (λ k. Guessed x (notes cs k) y) f (subst (λ k. Guessed x (notes k b) y) e told)

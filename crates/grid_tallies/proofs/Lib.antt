@@ -1,10 +1,15 @@
 pub mod StandardFacts
 pub mod Adding
 pub mod Tallying
+pub mod Standing
+pub mod Guessing
+pub mod Hearing
 pub mod Weighed
+pub mod Quiet
+pub mod Flushing
 pub mod Answering
 pub mod Turning
-pub mod Flushing
-pub mod Guessing
+pub mod Fetched
+pub mod Arrived
 pub mod CycleFacts
 pub mod RunFacts

@@ -1,4 +1,4 @@
--- Runs that are counted: their cycles, each with its notes, and what the tallies have heard.
+-- Runs that are counted: their cycles, each with its notes, and what the counters have heard.
 use Rattle.std.specs.Prelude.{◌≡◌, ℕ, true, List, [], ◌∷◌, length}
 use Rattle.trips_isa.specs.declared.block.Block.{Block}
 use Rattle.grid_cycle_spec.specs.Grid.{Grid}
@@ -6,8 +6,10 @@ use Rattle.grid_cycle_spec.specs.Cycles.{Then}
 use Rattle.grid_events.specs.Notes.{Note}
 use Rattle.grid_events.specs.Cycles.{Noted, told}
 use Rattle.grid_machine.specs.Endings.{is_going}
-use Rattle.grid_tallies.specs.declared.tallies.Tallies.{Tallies}
-use Rattle.grid_tallies.specs.Statistics.{Heard}
+use Rattle.grid_tallies.specs.declared.counters.Counters.{Counters}
+use Rattle.grid_tallies.specs.declared.flights.Flights.{Flights}
+use Rattle.grid_tallies.specs.Counters.{Hears}
+use Rattle.grid_tallies.specs.Flights.{Flown}
 
 -- some cycles one after another, before each of which the run goes on, and each with its notes, those of the last
 -- first
@@ -18,14 +20,17 @@ NotedGoes next follows blocks budget (es ∷ ess) g h =
     Then (λ m. NotedGoes next follows blocks budget ess g m × (is_going budget m.window ≡ true))
     (λ m. Noted next follows blocks budget m es h)
 
--- n such cycles lead from a grid to another, and the tallies have heard the notes of all
+-- n such cycles lead from a grid to another, the counters have heard the notes of all, and the frames in flight have
+-- been counted
 pub record AreCounted {W : Type 0} (next : W → ℕ) (follows : W → W → Type 0) (blocks : List Block) (budget n : ℕ)
-    (g h : Grid W) (a b : Tallies) : Type 0 where
+    (g h : Grid W) (a b : Counters) (p q : Flights) : Type 0 where
   -- the notes of each cycle, those of the last first
   pub notes : List (List Note)
   -- so many cycles
   pub many : length notes ≡ n
   -- the run went on before each
   pub cycles : NotedGoes next follows blocks budget notes g h
-  -- the tallies have heard all notes
-  pub heard : Heard a (told notes) b
+  -- the counters have heard all notes
+  pub heard : Hears a (told notes) b
+  -- the frames in flight have been counted as each began
+  pub flown : Flown p (length g.window.frames) notes q

@@ -1,3 +1,4 @@
 pub mod Adding
-pub mod Guesses
+pub mod Fetching
+pub mod Leaving
 pub mod Moving

@@ -11,8 +11,8 @@ pub struct Tallies {
     pub numbers: [u64; 9],
 }
 
-// So many more.
-fn more(number: u64, by: u64) -> u64
+/// So many more.
+pub fn more(number: u64, by: u64) -> u64
     ensures { number + by < 2 ^ 64 → result ≡ number + by }
 {
     number.wrapping_add(by)

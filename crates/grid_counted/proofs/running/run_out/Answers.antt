@@ -8,7 +8,7 @@ use Rattle.grid_machine.proofs.RunFacts.{run_counts}
 use Rattle.grid_machine.proofs.Starts.{run_has_come}
 use Rattle.grid_cycle.specs.Engines.{blocks_of, grid_of}
 use Rattle.grid_tallies.specs.Runs.{AreCounted}
-use Rattle.grid_tallies.specs.Statistics.{Heard}
+use Rattle.grid_tallies.specs.Counters.{Hears}
 use Rattle.grid_counted.specs.Runs.{end_notes}
 use Rattle.grid_counted.proofs.NotedRuns.{counted_run, is_run}
 use Rattle.grid_counted.proofs.running.run_out.Goals as goal
@@ -49,11 +49,12 @@ returns-clause-counted g c =
     c.budget-budget.ensures.value ∙ ap (λ (w : Seen). w.budget) c.window.ensures.value in
     counted_run g.W.Weather.next g.W.Weather.follows (blocks_of v) v.window.budget c.cycles.result
     y.state.counts.cycles (grid_of v) (grid_of m) (grid_of y) c.args.told.now c.cycles.new.told c.finish.new.told
+    c.args.flights.now c.cycles.new.flights
     (omega (arith, none, made, same))
     (subst (λ b. AreCounted g.W.Weather.next g.W.Weather.follows (blocks_of v) b c.cycles.result (grid_of v)
-    (grid_of m) c.args.told.now c.cycles.new.told) budget c.cycles.ensures.run)
+    (grid_of m) c.args.told.now c.cycles.new.told c.args.flights.now c.cycles.new.flights) budget c.cycles.ensures.run)
     (c.finish.ensures.change ∙ ap (λ b. at_end b (grid_of m)) c.cycles.ensures.budget)
-    (subst (λ b. Heard c.cycles.new.told (end_notes b (grid_of m)) c.finish.new.told) c.cycles.ensures.budget
+    (subst (λ b. Hears c.cycles.new.told (end_notes b (grid_of m)) c.finish.new.told) c.cycles.ensures.budget
     c.finish.ensures.heard)
 
 pub returns-clause-value : goal.returns-clause-value

@@ -28,9 +28,9 @@ returns-clause-ran c =
     let x = c.in_ok-grid.grid in
     let s = start c.args.image.bytes c.args.input.items in
     let run = c.run_out.result in
-    subst (λ bs. HasCounted bs s c.args.budget c.args.seed run.ending (grid_of run.grid) run.told)
+    subst (λ bs. HasCounted bs s c.args.budget c.args.seed run.ending (grid_of run.grid) run.told run.flights)
     (ap (λ (i : Image). i.blocks) c.in_ok-grid.ensures.image)
-    (subst (λ b. HasCounted (blocks_of x) s b c.args.seed run.ending (grid_of run.grid) run.told)
+    (subst (λ b. HasCounted (blocks_of x) s b c.args.seed run.ending (grid_of run.grid) run.told run.flights)
     c.in_ok-grid.ensures.budget
     (c.run_out.ensures.ran s c.args.seed refl (seed_start s c.args.seed c.in_ok-predictor.predictor
     c.make-2.result (grid_of x) c.in_ok-grid.ensures.begun c.in_ok-predictor.ensures c.make-2.ensures)))

@@ -23,4 +23,5 @@ returns-clause-ran c = λ s seed fresh starts.
     let x = c.args.grid in
     let r = c.run-ending.ensures in
     has_counted (blocks_of x) s x.window.budget seed c.run-ending.result (grid_of x) (grid_of c.run-ending.new.grid)
-    c.none-told.result c.run-ending.new.told fresh starts c.none-told.ensures r.counted r.few r.commits r.comes
+    c.none-told.result c.run-ending.new.told c.none-flights.result c.run-ending.new.flights fresh starts
+    c.none-told.ensures c.none-flights.ensures r.counted r.few r.commits r.comes

@@ -2,7 +2,7 @@ use Rattle.std.proofs.Common.{refl, arith}
 use Rattle.trips_isa.specs.declared.run.Stepped.TheVariants as stepped
 use Rattle.grid_parts.specs.Seen.{seen}
 use Rattle.grid_machine.proofs.Rooms.{ends_counted, ends_cycles, eager_counted, eager_cycles}
-use Rattle.grid_tallies.proofs.CycleFacts.{counted_eager, counted_last, counted_on, goes_same}
+use Rattle.grid_tallies.proofs.CycleFacts.{counted_eager, counted_last, counted_on, ends_hear, goes_same}
 use Rattle.grid_tallies.proofs.cycling.cycle.Goals as goal
 
 pub ends-requires-clause-committed : goal.ends-requires-clause-committed
@@ -47,9 +47,11 @@ returns-in-Went-clause-eager g c =
     let m = seen (g.V.Windows.held x.window) x.state in
     counted_on g.W.Weather.next g.W.Weather.follows bs b here m (seen (g.V.Windows.held h.window) h.state)
     c.args.told.now
-    c.ends.new.told c.goes_on.new.told c.ends.ensures.change c.in-Went.ensures c.ends.ensures.heard
+    (record c.args.told.now { tallies = c.ends.new.told }) c.goes_on.new.told c.ends.ensures.change
+    c.in-Went.ensures (ends_hear bs b here c.args.told.now c.ends.new.told c.ends.ensures.heard)
     (goes_same g.W.Weather.next g.W.Weather.follows bs b (g.V.Windows.blocks x.window) (g.V.Windows.budget x.window) m
-    (seen (g.V.Windows.held h.window) h.state) c.ends.new.told c.goes_on.new.told c.ends.ensures.image
+    (seen (g.V.Windows.held h.window) h.state) (record c.args.told.now { tallies = c.ends.new.told })
+    c.goes_on.new.told c.ends.ensures.image
     c.ends.ensures.budget
     c.goes_on.ensures.goes)
 
@@ -95,9 +97,11 @@ returns-in-Ended-clause-eager g c =
     let x = c.ends.new.grid in
     let m = seen (g.V.Windows.held x.window) x.state in
     counted_last g.W.Weather.next g.W.Weather.follows bs b stepped.Ended here m
-    (seen (g.V.Windows.held c.ends.new.grid.window) c.count_cycle.new.self) c.args.told.now c.ends.new.told
+    (seen (g.V.Windows.held c.ends.new.grid.window) c.count_cycle.new.self) c.args.told.now
+    (record c.args.told.now { tallies = c.ends.new.told })
     c.ends.ensures.change
-    c.in-Ended.ensures c.ends.ensures.heard (λ y e. record { ended = e; told = refl })
+    c.in-Ended.ensures (ends_hear bs b here c.args.told.now c.ends.new.told c.ends.ensures.heard)
+    (λ y e. record { ended = e; told = refl })
     (c.count_cycle.ensures (g.V.Windows.held x.window))
 
 pub returns-in-Ended-clause-counted : goal.returns-in-Ended-clause-counted
@@ -110,7 +114,7 @@ returns-in-Ended-clause-counted g c =
     (seen (g.V.Windows.held c.ends.new.grid.window) c.count_cycle.new.self) c.requires.counted
     (counted_eager g.W.Weather.next g.W.Weather.follows bs b here
     (seen (g.V.Windows.held c.ends.new.grid.window) c.count_cycle.new.self)
-    c.args.told.now c.ends.new.told (returns-in-Ended-clause-eager g c))
+    c.args.told.now (record c.args.told.now { tallies = c.ends.new.told }) (returns-in-Ended-clause-eager g c))
 
 pub returns-in-Ended-clause-cycles : goal.returns-in-Ended-clause-cycles
 returns-in-Ended-clause-cycles g c =
@@ -122,7 +126,7 @@ returns-in-Ended-clause-cycles g c =
     (seen (g.V.Windows.held c.ends.new.grid.window) c.count_cycle.new.self)
     (counted_eager g.W.Weather.next g.W.Weather.follows bs b here
     (seen (g.V.Windows.held c.ends.new.grid.window) c.count_cycle.new.self)
-    c.args.told.now c.ends.new.told (returns-in-Ended-clause-eager g c))
+    c.args.told.now (record c.args.told.now { tallies = c.ends.new.told }) (returns-in-Ended-clause-eager g c))
 
 pub count_cycle-requires-in-StackFull : goal.count_cycle-requires-in-StackFull
 count_cycle-requires-in-StackFull g c =
@@ -144,8 +148,9 @@ returns-in-StackFull-clause-eager g c =
     let m = seen (g.V.Windows.held x.window) x.state in
     counted_last g.W.Weather.next g.W.Weather.follows bs b stepped.StackFull here m
     (seen (g.V.Windows.held c.ends.new.grid.window) c.count_cycle-in-StackFull.new.self) c.args.told.now
-    c.ends.new.told c.ends.ensures.change
-    c.in-StackFull.ensures c.ends.ensures.heard (λ y e. record { ended = e; told = refl })
+    (record c.args.told.now { tallies = c.ends.new.told }) c.ends.ensures.change
+    c.in-StackFull.ensures (ends_hear bs b here c.args.told.now c.ends.new.told c.ends.ensures.heard)
+    (λ y e. record { ended = e; told = refl })
     (c.count_cycle-in-StackFull.ensures (g.V.Windows.held x.window))
 
 pub returns-in-StackFull-clause-counted : goal.returns-in-StackFull-clause-counted
@@ -158,7 +163,7 @@ returns-in-StackFull-clause-counted g c =
     (seen (g.V.Windows.held c.ends.new.grid.window) c.count_cycle-in-StackFull.new.self) c.requires.counted
     (counted_eager g.W.Weather.next g.W.Weather.follows bs b here
     (seen (g.V.Windows.held c.ends.new.grid.window) c.count_cycle-in-StackFull.new.self)
-    c.args.told.now c.ends.new.told (returns-in-StackFull-clause-eager g c))
+    c.args.told.now (record c.args.told.now { tallies = c.ends.new.told }) (returns-in-StackFull-clause-eager g c))
 
 pub returns-in-StackFull-clause-cycles : goal.returns-in-StackFull-clause-cycles
 returns-in-StackFull-clause-cycles g c =
@@ -170,7 +175,7 @@ returns-in-StackFull-clause-cycles g c =
     (seen (g.V.Windows.held c.ends.new.grid.window) c.count_cycle-in-StackFull.new.self)
     (counted_eager g.W.Weather.next g.W.Weather.follows bs b here
     (seen (g.V.Windows.held c.ends.new.grid.window) c.count_cycle-in-StackFull.new.self)
-    c.args.told.now c.ends.new.told (returns-in-StackFull-clause-eager g c))
+    c.args.told.now (record c.args.told.now { tallies = c.ends.new.told }) (returns-in-StackFull-clause-eager g c))
 
 pub count_cycle-requires-in-Trap : goal.count_cycle-requires-in-Trap
 count_cycle-requires-in-Trap g c =
@@ -191,9 +196,11 @@ returns-in-Trap-clause-eager g c =
     let x = c.ends.new.grid in
     let m = seen (g.V.Windows.held x.window) x.state in
     counted_last g.W.Weather.next g.W.Weather.follows bs b (stepped.Trap c.in-Trap.field-0) here m
-    (seen (g.V.Windows.held c.ends.new.grid.window) c.count_cycle-in-Trap.new.self) c.args.told.now c.ends.new.told
+    (seen (g.V.Windows.held c.ends.new.grid.window) c.count_cycle-in-Trap.new.self) c.args.told.now
+    (record c.args.told.now { tallies = c.ends.new.told })
     c.ends.ensures.change
-    c.in-Trap.ensures c.ends.ensures.heard (λ y e. record { ended = e; told = refl })
+    c.in-Trap.ensures (ends_hear bs b here c.args.told.now c.ends.new.told c.ends.ensures.heard)
+    (λ y e. record { ended = e; told = refl })
     (c.count_cycle-in-Trap.ensures (g.V.Windows.held x.window))
 
 pub returns-in-Trap-clause-counted : goal.returns-in-Trap-clause-counted
@@ -206,7 +213,7 @@ returns-in-Trap-clause-counted g c =
     (seen (g.V.Windows.held c.ends.new.grid.window) c.count_cycle-in-Trap.new.self) c.requires.counted
     (counted_eager g.W.Weather.next g.W.Weather.follows bs b here
     (seen (g.V.Windows.held c.ends.new.grid.window) c.count_cycle-in-Trap.new.self)
-    c.args.told.now c.ends.new.told (returns-in-Trap-clause-eager g c))
+    c.args.told.now (record c.args.told.now { tallies = c.ends.new.told }) (returns-in-Trap-clause-eager g c))
 
 pub returns-in-Trap-clause-cycles : goal.returns-in-Trap-clause-cycles
 returns-in-Trap-clause-cycles g c =
@@ -218,4 +225,4 @@ returns-in-Trap-clause-cycles g c =
     (seen (g.V.Windows.held c.ends.new.grid.window) c.count_cycle-in-Trap.new.self)
     (counted_eager g.W.Weather.next g.W.Weather.follows bs b here
     (seen (g.V.Windows.held c.ends.new.grid.window) c.count_cycle-in-Trap.new.self)
-    c.args.told.now c.ends.new.told (returns-in-Trap-clause-eager g c))
+    c.args.told.now (record c.args.told.now { tallies = c.ends.new.told }) (returns-in-Trap-clause-eager g c))

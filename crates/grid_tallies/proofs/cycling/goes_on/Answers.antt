@@ -7,7 +7,7 @@ use Rattle.grid_parts.specs.Seen.{seen}
 use Rattle.grid_machine.proofs.Rooms.{flushed_fit, after_reads, after_units}
 use Rattle.grid_events.specs.Parts.{answers_notes, works_notes}
 use Rattle.grid_tallies.proofs.Answering.{same_heard}
-use Rattle.grid_tallies.proofs.CycleFacts.{acts_heard, goes_counted, moves_same}
+use Rattle.grid_tallies.proofs.CycleFacts.{acts_hear, goes_counted, moves_same}
 use Rattle.grid_tallies.proofs.cycling.goes_on.Goals as goal
 
 pub fetches-requires : goal.fetches-requires
@@ -97,15 +97,16 @@ returns-clause-goes g c =
     let three = c.answers.ensures.change ∙ ap₂ (λ i j. answers i j mid_two) image_two budget_two in
     let four = c.works_on.ensures.change ∙ ap₂ (λ i j. works_on i j mid_three) image_three budget_three in
     goes_counted g.W.Weather.next g.W.Weather.follows bs b start (seen (g.V.Windows.held h.window) h.state)
-    c.args.told.now c.works_on.new.told c.moves.new.told
-    (acts_heard bs b start (seen (g.V.Windows.held x.window) x.state) mid_two mid_three c.args.told.now
+    c.args.told.now (record c.fetches.new.told { tallies = c.works_on.new.told }) c.moves.new.told
+    (acts_hear bs b start (seen (g.V.Windows.held x.window) x.state) mid_two mid_three c.args.told.now
     c.fetches.new.told c.answers.new.told c.works_on.new.told one two three c.fetches.ensures.heard
-    (same_heard (λ i j. answers_notes i j mid_two) _ bs _ b c.fetches.new.told c.answers.new.told image_two budget_two
+    (same_heard (λ i j. answers_notes i j mid_two) _ bs _ b c.fetches.new.told.tallies c.answers.new.told
+    image_two budget_two
     c.answers.ensures.heard)
     (same_heard (λ i j. works_notes i j mid_three) _ bs _ b c.answers.new.told c.works_on.new.told image_three
     budget_three c.works_on.ensures.heard))
     (moves_same g.W.Weather.next g.W.Weather.follows bs b (g.V.Windows.blocks t.window) (g.V.Windows.budget t.window)
     (seen (g.V.Windows.held t.window) t.state) (acts bs b start) (seen (g.V.Windows.held h.window) h.state)
-    c.works_on.new.told c.moves.new.told image_four budget_four
+    (record c.fetches.new.told { tallies = c.works_on.new.told }) c.moves.new.told image_four budget_four
     (four ∙ ap (works_on bs b) (three ∙ ap (answers bs b) (two ∙ ap (reads_answered bs b) one)))
     c.moves.ensures.counted)

@@ -1,4 +1,4 @@
-use Rattle.std.proofs.Common.{◌≡◌, ◌-◌, sym, ap, ◌∙◌, arith}
+use Rattle.std.proofs.Common.{◌≡◌, ◌-◌, sym, ap, ◌∙◌, subst, arith}
 use Rattle.operand_net.specs.Places.{at}
 use Rattle.grid_cycle_spec.specs.Grid.{numbers_of}
 use Rattle.grid_cycle_spec.specs.inside.Arrivals.{arrivals}
@@ -9,6 +9,9 @@ use Rattle.grid_machine.proofs.Rooms.{arrivals_cycles}
 use Rattle.grid_parts.specs.inside.Changes.{travelled}
 use Rattle.grid_events.specs.ArrivalNotes.{arrivals_notes}
 use Rattle.grid_events.specs.Mesh.{tick_notes}
+use Rattle.grid_tallies.specs.Predictions.{Guessed}
+use Rattle.grid_tallies.proofs.Guessing.{guessed_both, guessed_none}
+use Rattle.grid_tallies.proofs.Quiet.{quiet_ticked}
 use Rattle.grid_tallies.proofs.Tallying.{heard_both, heard_none}
 use Rattle.grid_tallies.proofs.Flushing.{arrivals_heard, nothing_ticked}
 use Rattle.grid_tallies.proofs.cycling.moves.Goals as goal
@@ -58,10 +61,20 @@ returns-clause-counted g c =
             s.weather named c.tick.ensures.ticked;
         arrived = c.count_cycle.ensures (g.V.Windows.held h.window) ∙ ap counted come;
       };
-      heard = heard_both c.args.told.now c.args.told.now c.add.new.self (tick_notes ns (at old.mesh) (at s.mesh))
-          (arrivals_notes bs b ns m)
-          (heard_none c.args.told.now (tick_notes ns (at old.mesh) (at s.mesh))
-          (nothing_ticked ns (at old.mesh) (at s.mesh)))
-          (arrivals_heard bs b ns m end c.saturating_sub-flushed.result c.args.told.now c.add.new.self come by
-          c.add.ensures);
+      heard = record {
+        tallies = heard_both c.args.told.now.tallies c.args.told.now.tallies c.add.new.self
+            (tick_notes ns (at old.mesh) (at s.mesh)) (arrivals_notes bs b ns m)
+            (heard_none c.args.told.now.tallies (tick_notes ns (at old.mesh) (at s.mesh))
+            (nothing_ticked ns (at old.mesh) (at s.mesh)))
+            (arrivals_heard bs b ns m end c.saturating_sub-flushed.result c.args.told.now.tallies c.add.new.self come
+            by c.add.ensures);
+        guesses = guessed_both c.args.told.now.guesses c.args.told.now.guesses c.arrivals.new.told
+            (tick_notes ns (at old.mesh) (at s.mesh)) (arrivals_notes bs b ns m)
+            (guessed_none c.args.told.now.guesses (tick_notes ns (at old.mesh) (at s.mesh))
+            (quiet_ticked ns (at old.mesh) (at s.mesh)))
+            (subst (λ x. Guessed c.args.told.now.guesses (arrivals_notes bs b ns x) c.arrivals.new.told)
+            (c.tick.ensures.change w)
+            (subst (λ l. Guessed c.args.told.now.guesses (arrivals_notes bs b l (seen w s)) c.arrivals.new.told)
+            (c.as_slice-2.ensures.value ∙ c.numbers-frames.ensures.value) c.arrivals.ensures.heard));
+      };
     }

@@ -3,7 +3,7 @@ use Rattle.grid_tallies.proofs.StandardFacts.{mov}
 use Rattle.grid_tallies.proofs.Answering.{answer_heard}
 use Rattle.grid_tallies.proofs.Turning.{turn_heard}
 use Rattle.grid_tallies.proofs.Flushing.{ends_heard}
-use Rattle.grid_tallies.proofs.Guessing.{begins_heard}
+use Rattle.grid_tallies.proofs.Guessing.{guessed_both}
 use Rattle.grid_tallies.proofs.CycleFacts.{counted_eager}
 use Rattle.grid_tallies.proofs.RunFacts.{closing_heard}
 use Rattle.grid_tallies.proofs.law.counted_cycles_are_eager.Goals as goal

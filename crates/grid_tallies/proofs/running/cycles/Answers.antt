@@ -1,6 +1,8 @@
-use Rattle.std.proofs.Common.{[], refl, ◌∙◌, sym, arith}
+use Rattle.std.proofs.Common.{[], length, refl, ap, ◌∙◌, sym, arith}
+use Rattle.std.proofs.lemmas.List.{length-map}
+use Rattle.commit_flush_spec.specs.Frames.{Frame}
 use Rattle.grid_parts.specs.Seen.{seen}
-use Rattle.grid_tallies.proofs.Tallying.{heard_none}
+use Rattle.grid_tallies.proofs.Hearing.{hears_none}
 use Rattle.grid_tallies.proofs.RunFacts.{one_more}
 use Rattle.grid_tallies.proofs.running.cycles.Goals as goal
 
@@ -10,7 +12,8 @@ loop-made-init g c = record {
     notes = [];
     many = refl;
     cycles = refl;
-    heard = heard_none c.args.told.now [] (λ s. refl);
+    heard = hears_none c.args.told.now [] (λ s. refl) refl;
+    flown = λ n less room. omega arith;
   };
   within = omega arith;
   counted = c.requires.counted;
@@ -32,6 +35,10 @@ loop-made-preserved g c =
           (seen (g.V.Windows.held v) c.args.grid.now.state) (seen (g.V.Windows.held x.window) x.state)
           (seen (g.V.Windows.held y.window) y.state) c.args.told.now c.loop-made.told c.cycle.new.told
           c.loop-made.invariant.image (c.loop-made.invariant.budget ∙ c.requires.budget)
+          c.args.flights.now c.loop-made.flights c.begin.new.self c.len.result
+          (c.len.ensures.value ∙ ap length c.numbers.ensures.value
+          ∙ length-map (g.V.Windows.held x.window).frames (λ (f : Frame). f.number)) c.requires.counted
+          c.loop-made.invariant.counted c.begin.ensures
           (sym c.if-is_going.ensures) c.loop-made.invariant.run c.cycle.ensures.eager;
       within = omega arith;
       counted = c.cycle.ensures.counted;

@@ -8,7 +8,7 @@ abbrev pub invariant-loop-made : goal.invariant-loop-made
 invariant-loop-made g l = record {
   run : AreCounted g.W.Weather.next g.W.Weather.follows (g.V.Windows.blocks l.initial.grid.window) l.budget l.made
       (seen (g.V.Windows.held l.initial.grid.window) l.initial.grid.state)
-      (seen (g.V.Windows.held l.grid.window) l.grid.state) l.initial.told l.told;
+      (seen (g.V.Windows.held l.grid.window) l.grid.state) l.initial.told l.told l.initial.flights l.flights;
   within : l.made ≤ l.most;
   counted : IsCounted (seen (g.V.Windows.held l.grid.window) l.grid.state);
   cycles : l.grid.state.counts.cycles ≡ l.initial.grid.state.counts.cycles + l.made;
