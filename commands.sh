@@ -87,7 +87,7 @@ help_all() {
   echo
   for name in "${commands[@]}"; do printf '  %s %-8s%-12s%s\n' "$me" "$name" "${takes[$name]}" "${does[$name]}"; done
   echo
-  for name in "${all_options[@]}"; do printf '  %-12s%s\n' "$name ${takes[$name]}" "${does[$name]}"; done
+  for name in "${all_options[@]}"; do printf '  %-13s%s\n' "$name ${takes[$name]}" "${does[$name]}"; done
   echo
   for name in "${calls[@]}"; do
     case $me$name in trips--[pi]*) continue ;; esac
@@ -113,7 +113,7 @@ help_command() {
   for name in ${options[$1]}; do
     range_of "$1" "$name"
     range=${most[$of]:+ (from ${least[$of]} to $(grouped "${most[$of]}"))}
-    printf '    %-12s%s%s\n' "$name ${takes[$name]}" "${does[$name]}" "$range"
+    printf '    %-13s%s%s\n' "$name ${takes[$name]}" "${does[$name]}" "$range"
   done
 }
 
@@ -170,6 +170,14 @@ judge_number() {
   range_of "$command" "$2"
   is_within "$1" "$of" ||
     wrong "$2 takes a number from ${least[$of]} to $(grouped "${most[$of]}"), and not $(shown "$1")"
+}
+
+# Judges the two numbers that are said of a name, the first of which is not above the second.
+judge_cycles() {
+  local first=${1%%-*} last=${1#*-}
+  if [[ $1 != *-* ]] || ! is_within "$first" "$2" || ! is_within "$last" "$2" || ((10#$first > 10#$last)); then
+    wrong "$2 takes two numbers, as 1-100, from ${least[$2]} to $(grouped "${most[$2]}"), and not $(shown "$1")"
+  fi
 }
 
 # Notes a value under a name, once.
@@ -241,7 +249,9 @@ judge_said() {
   [ "$command" != draw ] || judge_number "${said[2]}" BLOCK || return
   for name in "${!said[@]}"; do
     [ "${takes[$name]-}" != N ] || judge_number "${said[$name]}" "$name" || return
+    [ "${takes[$name]-}" != A-B ] || judge_cycles "${said[$name]}" "$name" || return
   done
+  [ "${said[--events]+y}${said[--stats]+y}" != yy ] || wrong "--events and --stats are of two runs" || return
   for name in --place --unroll; do
     case $command${said[$name]+y}${said[1]} in
       runy*.img | runy*.tasl | compiley*.img | compiley*.tasl | drawy*.img | drawy*.tasl) wrong "$name is said of C alone" || return ;;

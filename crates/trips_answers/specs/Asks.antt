@@ -38,7 +38,7 @@ pub record IsTold (q : Request) (held : List ℕ → Option (List ℕ)) (bytes i
 
 -- nothing is shown behind the ending
 abbrev pub nothing_shown : Show
-nothing_shown = record { regs = false; trace = false; cycles = false; stats = false }
+nothing_shown = record { regs = false; trace = false; cycles = false; stats = false; events = None }
 
 -- the report of a run that ended with an output and a result
 abbrev pub ended_report : List ℕ → ℤ → List ℕ

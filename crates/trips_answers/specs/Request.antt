@@ -89,7 +89,7 @@ planned r = record {
   unroll = r.unroll;
   seed = r.seed;
   most = r.most;
-  show = record { regs = r.regs; trace = r.trace; cycles = r.cycles; stats = r.stats };
+  show = record { regs = r.regs; trace = r.trace; cycles = r.cycles; stats = r.stats; events = r.events };
 }
 
 -- the request of the words of a command line, without the program's name

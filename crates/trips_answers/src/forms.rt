@@ -93,6 +93,7 @@ pub fn settings_for(asked: Asked<'_>) -> Settings
             trace: asked.trace,
             cycles: asked.cycles,
             stats: asked.stats,
+            events: asked.events,
         },
     }
 }

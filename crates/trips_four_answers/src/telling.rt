@@ -32,8 +32,9 @@ fn run_text(alloc: Global, ending: Ending, arch: &Arch) -> Result<Vec<u8>, Alloc
         trace: false,
         cycles: false,
         stats: false,
+        events: None,
     };
-    let measured = Measured::uncounted(counts);
+    let measured = Measured::uncounted(alloc, counts);
     match run_report(alloc, ending, arch, measured, 0, show) {
         Ok(text) => Ok(text),
         Err(_) => Err(AllocError),

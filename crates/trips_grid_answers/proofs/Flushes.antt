@@ -25,9 +25,9 @@ flushes_shown blocks s seed budget show ended measured c on room =
     + tally (weigh statistic.WrongExits) c.notes + tally (weigh statistic.Ends) c.notes = flushes_sum c.notes in
     let same : measured.counts.flushed ≡ (c.grid).counts.flushed = ap (λ (k : Counts). k.flushed) c.counted in
     let violations : measured.statistics.violations ≡ tally (weigh statistic.Violations) c.notes =
-    c.statistics on statistic.Violations (omega (arith, are, sum, same, room)) in
+    (c.statistics on).numbers statistic.Violations (omega (arith, are, sum, same, room)) in
     let exits : measured.statistics.wrong_exits ≡ tally (weigh statistic.WrongExits) c.notes =
-    c.statistics on statistic.WrongExits (omega (arith, are, sum, same, room)) in
+    (c.statistics on).numbers statistic.WrongExits (omega (arith, are, sum, same, room)) in
     let ends : measured.statistics.ends ≡ tally (weigh statistic.Ends) c.notes =
-    c.statistics on statistic.Ends (omega (arith, are, sum, same, room)) in
+    (c.statistics on).numbers statistic.Ends (omega (arith, are, sum, same, room)) in
     omega (arith, are, sum, same, violations, exits, ends)

@@ -1,6 +1,6 @@
 //! Runs of checked images on the grid, from the start and from a state.
 
-ghost use Rattle.std.specs.Prelude.{◌≡◌, ◌<◌, ◌≤◌, IfOk, Some, [], length, true, false};
+ghost use Rattle.std.specs.Prelude.{◌≡◌, ◌<◌, ◌≤◌, IfOk, None, Some, [], length, true, false};
 ghost use Rattle.trips_isa.specs.Machine.{start};
 ghost use Rattle.grid_machine.specs.Seeds.{IsRan, IsRanFrom};
 ghost use Rattle.grid_cycle.specs.Engines.{blocks_of, grid_of};
@@ -10,25 +10,26 @@ ghost use Rattle.trips_grid_answers.specs.Runs.{IsRunFrom};
 ghost use Rattle.trips_grid_answers.specs.inside.Measured.{measured_of, statistics_of};
 ghost use Rattle.trips_grid_answers.specs.inside.Told.{TellsGrid};
 
+use crate::logging::{logged_run, logged_run_from};
 use crate::report::run_text;
 use base::Items;
 use block_atomic::Arch;
 use block_check::CheckedImage;
 use grid_counted::Counted;
 use grid_cycle::{Ran, runs_from_a_state_end, runs_of_a_seed_end};
-use grid_tallies::{Statistic, Tallies};
+use grid_tallies::{Counters, Flights, Statistic};
 use std::alloc::{AllocError, Global};
 use trips_report::{Measured, Show, Statistics, status_for};
 use trips_requests::Answer;
 
-// The answer of a run that has ended, whose statistics are not shown.
+// The answer of a run that has ended, of which no statistics and no events are shown.
 fn ended_answer(alloc: Global, ran: &Ran, show: Show) -> Result<Answer, AllocError>
     ensures { IfOk result (λ answer. TellsGrid ran.now.ending (blocks_of ran.now.grid) (grid_of ran.now.grid)
         (uncounted (grid_of ran.now.grid).counts) show answer.status answer.report.items) }
 {
     let ending = ran.ending;
     let arch = ran.grid.window().arch();
-    let measured = Measured::uncounted(ran.grid.counts());
+    let measured = Measured::uncounted(alloc, ran.grid.counts());
     let cost = ran.grid.cost();
     let report = run_text(alloc, ending, arch, measured, cost, show)?;
     Ok(Answer {
@@ -37,33 +38,38 @@ fn ended_answer(alloc: Global, ran: &Ran, show: Show) -> Result<Answer, AllocErr
     })
 }
 
-// The statistics that are shown of tallies.
-fn statistics_of(told: &Tallies) -> Statistics
-    ensures { result ≡ statistics_of told.now }
+// The statistics that are shown of counters.
+fn statistics_of(told: &Counters, flights: &Flights) -> Statistics
+    ensures { result ≡ statistics_of told.now flights.now }
 {
+    let tallies = &told.tallies;
     Statistics {
-        movs: told.get(Statistic::Movs),
-        nulls: told.get(Statistic::Nulls),
-        useful: told.get(Statistic::Useful),
-        loads: told.get(Statistic::Loads),
-        stores: told.get(Statistic::Stores),
-        violations: told.get(Statistic::Violations),
-        wrong_exits: told.get(Statistic::WrongExits),
-        ends: told.get(Statistic::Ends),
-        predictions: told.get(Statistic::Predictions),
+        movs: tallies.get(Statistic::Movs),
+        nulls: tallies.get(Statistic::Nulls),
+        useful: tallies.get(Statistic::Useful),
+        loads: tallies.get(Statistic::Loads),
+        stores: tallies.get(Statistic::Stores),
+        violations: tallies.get(Statistic::Violations),
+        wrong_exits: tallies.get(Statistic::WrongExits),
+        ends: tallies.get(Statistic::Ends),
+        predictions: tallies.get(Statistic::Predictions),
+        right: told.guesses.right,
+        in_flight: flights.cycles,
     }
 }
 
 // The answer of a run that has ended and was counted.
 fn counted_answer(alloc: Global, run: &Counted, show: Show) -> Result<Answer, AllocError>
     ensures { IfOk result (λ answer. TellsGrid run.now.ending (blocks_of run.now.grid) (grid_of run.now.grid)
-        (measured_of (grid_of run.now.grid).counts run.now.told) show answer.status answer.report.items) }
+        (measured_of (grid_of run.now.grid).counts run.now.told run.now.flights) show answer.status
+        answer.report.items) }
 {
     let ending = run.ending;
     let arch = run.window().arch();
     let measured = Measured {
         counts: run.counts(),
-        statistics: statistics_of(&run.told),
+        statistics: statistics_of(&run.told, &run.flights),
+        events: Items::new(alloc),
     };
     let cost = run.cost();
     let report = run_text(alloc, ending, arch, measured, cost, show)?;
@@ -104,7 +110,7 @@ fn counted_image(
 ) -> Result<Counted, AllocError>
     requires some { 0 < most }
     ensures ran { IfOk result (λ run. HasCounted image.blocks (start image.bytes input) most seed run.ending
-        (grid_of run.grid) run.told) }
+        (grid_of run.grid) run.told run.flights) }
     ensures image { IfOk result (λ run. blocks_of run.grid ≡ image.blocks) }
 {
     match grid_counted::run_image(alloc, image, input.into_vec(), seed, most) {
@@ -113,7 +119,7 @@ fn counted_image(
     }
 }
 
-// The answer of the run of an image whose statistics are not shown.
+// The answer of the run of an image of which no statistics and no events are shown.
 fn plain_run(
     alloc: Global,
     image: CheckedImage,
@@ -124,6 +130,7 @@ fn plain_run(
 ) -> Result<Answer, AllocError>
     requires some { 0 < most }
     requires plain { show.stats ≡ false }
+    requires untold { show.events ≡ None }
     ensures { IfOk result (λ answer. IsRunFrom image.blocks (start image.bytes input) seed most show
         answer.status answer.report.items) }
 {
@@ -143,6 +150,7 @@ fn counted_run(
     show: Show,
 ) -> Result<Answer, AllocError>
     requires some { 0 < most }
+    requires counted { show.stats ≡ true }
     ensures { IfOk result (λ answer. IsRunFrom image.blocks (start image.bytes input) seed most show
         answer.status answer.report.items) }
 {
@@ -154,7 +162,7 @@ fn counted_run(
 
 /// Runs an image on an input, on the grid of a seed and for as many blocks as are allowed, and tells how its run
 /// ended and what is shown. Want of memory is the only error: each run ends within its cost. Its statistics are
-/// counted where they are shown.
+/// counted where they are shown, and else events are logged where those of some cycles are.
 pub fn run_image(
     alloc: Global,
     image: CheckedImage,
@@ -168,9 +176,11 @@ pub fn run_image(
         answer.status answer.report.items) }
 {
     if show.stats {
-        counted_run(alloc, image, input, seed, most, show)
-    } else {
-        plain_run(alloc, image, input, seed, most, show)
+        return counted_run(alloc, image, input, seed, most, show);
+    }
+    match show.events {
+        Some(cycles) => logged_run(alloc, image, input, seed, most, show, cycles),
+        None => plain_run(alloc, image, input, seed, most, show),
     }
 }
 
@@ -211,7 +221,7 @@ fn counted_from(
     requires room { most ≤ arch.budget }
     requires fresh { arch.state.trace ≡ [] }
     ensures ran { IfOk result (λ run. HasCounted image.blocks arch.state most seed run.ending (grid_of run.grid)
-        run.told) }
+        run.told run.flights) }
     ensures image { IfOk result (λ run. blocks_of run.grid ≡ image.blocks) }
 {
     match grid_counted::resume_image(alloc, image, arch, seed, most) {
@@ -220,7 +230,7 @@ fn counted_from(
     }
 }
 
-// The answer of the run from a state whose statistics are not shown.
+// The answer of the run from a state of which no statistics and no events are shown.
 fn plain_from(
     alloc: Global,
     image: CheckedImage,
@@ -234,6 +244,7 @@ fn plain_from(
     requires room { most ≤ arch.budget }
     requires fresh { arch.state.trace ≡ [] }
     requires plain { show.stats ≡ false }
+    requires untold { show.events ≡ None }
     ensures { IfOk result (λ answer. IsRunFrom image.blocks arch.state seed most show
         answer.status answer.report.items) }
 {
@@ -258,6 +269,7 @@ fn counted_run_from(
     requires next { arch.state.next < length image.blocks }
     requires room { most ≤ arch.budget }
     requires fresh { arch.state.trace ≡ [] }
+    requires counted { show.stats ≡ true }
     ensures { IfOk result (λ answer. IsRunFrom image.blocks arch.state seed most show
         answer.status answer.report.items) }
 {
@@ -271,7 +283,7 @@ fn counted_run_from(
 
 /// Goes on with a machine of an image whose trace is empty, on the grid of a seed and for as many blocks as are
 /// allowed, and tells how its run ended and what is shown. Want of memory is the only error. Its statistics are
-/// counted where they are shown.
+/// counted where they are shown, and else events are logged where those of some cycles are.
 pub fn run_from(
     alloc: Global,
     image: CheckedImage,
@@ -288,8 +300,10 @@ pub fn run_from(
         answer.status answer.report.items) }
 {
     if show.stats {
-        counted_run_from(alloc, image, arch, seed, most, show)
-    } else {
-        plain_from(alloc, image, arch, seed, most, show)
+        return counted_run_from(alloc, image, arch, seed, most, show);
+    }
+    match show.events {
+        Some(cycles) => logged_run_from(alloc, image, arch, seed, most, show, cycles),
+        None => plain_from(alloc, image, arch, seed, most, show),
     }
 }

@@ -6,6 +6,7 @@
 #![tactic(auto)]
 
 mod gridded;
+mod logging;
 mod refusals;
 mod report;
 mod resuming;

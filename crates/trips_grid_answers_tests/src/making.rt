@@ -92,6 +92,7 @@ pub const SHOWN: Show = Show {
     trace: false,
     cycles: false,
     stats: false,
+    events: None,
 };
 
 /// The answer of saving a run behind so many blocks.

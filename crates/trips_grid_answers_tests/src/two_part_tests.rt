@@ -12,6 +12,7 @@ const PLAIN: Show = Show {
     trace: false,
     cycles: false,
     stats: false,
+    events: None,
 };
 
 const TRACED: Show = Show {
@@ -19,6 +20,7 @@ const TRACED: Show = Show {
     trace: true,
     cycles: false,
     stats: false,
+    events: None,
 };
 
 /// Programs, and how many blocks their runs have.

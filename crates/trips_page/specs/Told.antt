@@ -44,6 +44,7 @@ request_for c name input most unroll seed show = planned (record {
   trace = show.trace;
   cycles = show.cycles;
   stats = show.stats;
+  events = show.events;
 })
 
 -- that of a run, with an input

@@ -2,7 +2,7 @@
 //! room for; 0 for want of memory, and where the number of blocks or steps is none that a command takes, or no turn
 //! of a loop is allowed.
 
-ghost use Rattle.std.specs.Prelude.{◌≡◌, ◌<◌, ◌≤◌, [], length, take, false};
+ghost use Rattle.std.specs.Prelude.{◌≡◌, ◌<◌, ◌≤◌, [], None, length, take, false};
 ghost use Rattle.trips_requests.specs.declared.commands.Command.TheVariants as command;
 ghost use Rattle.trips_answers.specs.inside.Settings.{request_seen};
 ghost use Rattle.trips_page.specs.Told.{IsTold, c_name, evaluation_of, image_name, run_of, target_name, work_of};
@@ -32,6 +32,7 @@ fn work(command: Command, file: &'static str, unroll: u8) -> Asked<'static>
         trace: false,
         cycles: false,
         stats: false,
+        events: None,
     }
 }
 
@@ -50,8 +51,8 @@ pub extern "C" fn page_run(
     out: &mut [u8],
 ) -> usize
     ensures { 0 < result → result ≤ length out.old → IsTold (run_of c_name most unroll seed
-        (record { regs = regs; trace = trace; cycles = cycles; stats = false })) c_name text.now input.now
-        (take result out.new) }
+        (record { regs = regs; trace = trace; cycles = cycles; stats = false; events = None })) c_name text.now
+        input.now (take result out.new) }
 {
     let asked = Asked {
         command: Command::Run,
@@ -69,6 +70,7 @@ pub extern "C" fn page_run(
         trace,
         cycles,
         stats: false,
+        events: None,
     };
     answer(alloc, asked, text, input, out)
 }
@@ -87,8 +89,8 @@ pub extern "C" fn page_run_image(
     out: &mut [u8],
 ) -> usize
     ensures { 0 < result → result ≤ length out.old → IsTold (run_of image_name most 1 seed
-        (record { regs = regs; trace = trace; cycles = cycles; stats = false })) image_name image.now input.now
-        (take result out.new) }
+        (record { regs = regs; trace = trace; cycles = cycles; stats = false; events = None })) image_name image.now
+        input.now (take result out.new) }
 {
     let asked = Asked {
         command: Command::Run,
@@ -106,6 +108,7 @@ pub extern "C" fn page_run_image(
         trace,
         cycles,
         stats: false,
+        events: None,
     };
     answer(alloc, asked, image, input, out)
 }
@@ -138,6 +141,7 @@ pub extern "C" fn page_evaluate(
         trace: false,
         cycles: false,
         stats: false,
+        events: None,
     };
     answer(alloc, asked, text, input, out)
 }

@@ -1,7 +1,7 @@
 -- The texts of the items of a list, one after the other, as a loop writes them; and a text behind
 -- which nothing is shown.
 use Rattle.std.proofs.Common.{◌≡◌, ◌∙◌, ℕ, ◌+◌, ◌<◌, ◌≤◌, List, ◌++◌, length, take, get_or, sym, ap}
-use Rattle.std.proofs.Common.{refl, false}
+use Rattle.std.proofs.Common.{refl, false, None}
 use Rattle.std.specs.List.{flat_map}
 use Rattle.std.proofs.lemmas.List.{flat_map_more, take_all, take_more}
 use Rattle.target_asm_spec.specs.Numbers.{numbered}
@@ -25,7 +25,7 @@ numbered_all f k xs start out few o = o ∙ ap (λ t. start ++ numbered f 0 t) (
 
 -- nothing is shown behind the ending
 abbrev pub nothing_shown : Show
-nothing_shown = record { regs = false; trace = false; cycles = false; stats = false }
+nothing_shown = record { regs = false; trace = false; cycles = false; stats = false; events = None }
 
 -- where nothing is shown, the text stands alone
 pub shows_nothing : (text : List ℕ) (s : State) (measured : Measured) (cost : ℕ)

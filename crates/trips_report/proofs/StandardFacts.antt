@@ -1,5 +1,5 @@
 -- Reports, worked by hand from the README of this crate.
-use Rattle.std.proofs.Common.{◌≡◌, ◌-◌, ◌^◌, [], ◌∷◌, ◌++◌, refl, codes, true, false}
+use Rattle.std.proofs.Common.{◌≡◌, ◌-◌, ◌^◌, [], ◌∷◌, ◌++◌, refl, codes, true, false, None, Some}
 use Rattle.std.specs.Fmt.{digits}
 use Rattle.hex.specs.Hex.{encode_with}
 use Rattle.isa_table.specs.Spots.{indexed, at_slot}
@@ -14,7 +14,8 @@ use Rattle.trips_report.specs.declared.said.Said.TheVariants as said
 use Rattle.trips_report.specs.declared.measured.Measured.{Measured}
 use Rattle.trips_report.specs.declared.show.Show.{Show}
 use Rattle.trips_report.specs.Runs.{word_digits, register_line, traced_line, count_line, count_lines, with_part}
-use Rattle.trips_report.specs.Runs.{fired_lines, flushed_lines, memory_lines, statistic_lines, signed, run_report}
+use Rattle.trips_report.specs.Runs.{fired_lines, flushed_lines, memory_lines, predicted_lines, flight_line}
+use Rattle.trips_report.specs.Runs.{statistic_lines, signed, run_report}
 use Rattle.trips_report.specs.inside.Refusals.{refusal_report}
 
 -- four registers, of which the last has what main returned, and one committed block
@@ -41,17 +42,29 @@ measured = record {
     wrong_exits = 7;
     ends = 8;
     predictions = 9;
+    right = 4;
+    in_flight = 3 ∷ 0 ∷ 12 ∷ 0 ∷ 5 ∷ 0 ∷ 0 ∷ 0 ∷ 20 ∷ [];
   };
+  events = codes "cycle 3 seal frame 1\nmore\n";
 }
 
 abbrev shown : Show
-shown = record { regs = true; trace = true; cycles = true; stats = false }
+shown = record { regs = true; trace = true; cycles = true; stats = false; events = None }
 
 abbrev hidden : Show
-hidden = record { regs = false; trace = false; cycles = false; stats = false }
+hidden = record { regs = false; trace = false; cycles = false; stats = false; events = None }
 
 abbrev counted : Show
-counted = record { regs = false; trace = false; cycles = true; stats = true }
+counted = record { regs = false; trace = false; cycles = true; stats = true; events = None }
+
+abbrev told : Show
+told = record {
+  regs = false;
+  trace = true;
+  cycles = false;
+  stats = false;
+  events = Some (record { first = 3; last = 3 });
+}
 
 pub plain_is : run_report ending.Ended ended measured 512 hidden ≡ codes "output 2\nhi\nresult 7\n"
 unfolding digits with_part
@@ -70,9 +83,17 @@ whole_is = refl
 pub statistics_are : run_report ending.Ended ended measured 512 counted
     ≡ codes "output 2\nhi\nresult 7\nblocks 1\ncycles 40\nfetched 3\nflushed 2\ncost 512\n"
     ++ (codes "movs 1\nnulls 2\nuseful 34\nloads 5\nstores 6\n"
-    ++ codes "flushed_by_violation 0\nflushed_by_exit 7\nflushed_at_end 8\npredicted 9\n")
-unfolding digits count_line count_lines fired_lines memory_lines flushed_lines statistic_lines with_part
+    ++ (codes "flushed_by_violation 0\nflushed_by_exit 7\nflushed_at_end 8\npredicted 9\npredicted_right 4\n"
+    ++ (codes "in_flight_0 3\nin_flight_1 0\nin_flight_2 12\nin_flight_3 0\nin_flight_4 5\n"
+    ++ codes "in_flight_5 0\nin_flight_6 0\nin_flight_7 0\nin_flight_8 20\n")))
+unfolding digits count_line count_lines fired_lines memory_lines flushed_lines predicted_lines flight_line statistic_lines with_part
 statistics_are = refl
+
+-- the lines of events stand behind all else
+pub events_are : run_report ending.Ended ended measured 512 told
+    ≡ codes "output 2\nhi\nresult 7\nblock 0 exit 1\ncycle 3 seal frame 1\nmore\n"
+unfolding digits traced_line with_part
+events_are = refl
 
 pub budget_is : run_report ending.Budget ended measured 512 hidden ≡ codes "output 2\nhi\nbudget 1\n"
 unfolding digits with_part

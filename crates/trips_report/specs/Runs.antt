@@ -1,6 +1,6 @@
 -- The report of a run, and the lines that it shows behind its ending (README.md of this crate).
 use Rattle.std.specs.Prelude.{ℕ, ◌-◌, ◌^◌, nat_lt, Bool, if◌then◌else◌, List, [], ◌∷◌, ◌++◌, length}
-use Rattle.std.specs.Prelude.{codes, slice_index, decimal}
+use Rattle.std.specs.Prelude.{codes, slice_index, decimal, is_some}
 use Rattle.std.specs.List.{flat_map}
 use Rattle.std.specs.Int.{w64, to_be_bytes}
 use Rattle.hex.specs.Hex.{encode_lower}
@@ -82,10 +82,22 @@ unfoldable pub flushed_lines : Statistics → List ℕ
 flushed_lines s = count_line (codes "flushed_by_violation ") s.violations
     ++ (count_line (codes "flushed_by_exit ") s.wrong_exits ++ count_line (codes "flushed_at_end ") s.ends)
 
--- the statistics of a run: nine lines
+-- the blocks that were predicted, and those of them that were right
+unfoldable pub predicted_lines : Statistics → List ℕ
+predicted_lines s = count_line (codes "predicted ") s.predictions ++ count_line (codes "predicted_right ") s.right
+
+-- how many cycles began with n frames in flight, as `in_flight_3 17`
+unfoldable pub flight_line : ℕ → ℕ → List ℕ
+flight_line n cycles = codes "in_flight_" ++ (decimal n ++ (32 ∷ (decimal cycles ++ 10 ∷ [])))
+
+-- so for each number of frames, in order
+abbrev pub flight_lines : List ℕ → List ℕ
+flight_lines cycles = numbered flight_line 0 cycles
+
+-- the statistics of a run: nineteen lines
 unfoldable pub statistic_lines : Statistics → List ℕ
 statistic_lines s = fired_lines s
-    ++ (memory_lines s ++ (flushed_lines s ++ count_line (codes "predicted ") s.predictions))
+    ++ (memory_lines s ++ (flushed_lines s ++ (predicted_lines s ++ flight_lines s.in_flight)))
 
 -- nothing was counted
 abbrev pub no_statistics : Statistics
@@ -99,11 +111,13 @@ no_statistics = record {
   wrong_exits = 0;
   ends = 0;
   predictions = 0;
+  right = 0;
+  in_flight = 0 ∷ 0 ∷ 0 ∷ 0 ∷ 0 ∷ 0 ∷ 0 ∷ 0 ∷ 0 ∷ [];
 }
 
--- what a run took whose statistics were not counted
+-- what a run took whose statistics were not counted, and of whose events nothing is told
 abbrev pub uncounted : Counts → Measured
-uncounted counts = record { counts = counts; statistics = no_statistics }
+uncounted counts = record { counts = counts; statistics = no_statistics; events = [] }
 
 -- a text, and behind it a part of the report where that is shown
 unfoldable pub with_part : Bool → List ℕ → List ℕ → List ℕ
@@ -111,13 +125,14 @@ with_part shown part text = if shown then text ++ part else text
 
 -- THE REPORT
 
--- A text, and behind it the registers, the committed blocks, what the run took and its statistics, as far as they are
--- shown.
+-- A text, and behind it the registers, the committed blocks, what the run took, its statistics and the lines of its
+-- events, as far as they are shown.
 abbrev pub with_shown : List ℕ → State → Measured → ℕ → Show → List ℕ
 with_shown text s measured cost show =
-    with_part show.stats (statistic_lines measured.statistics)
+    with_part (is_some show.events) measured.events
+    (with_part show.stats (statistic_lines measured.statistics)
     (with_part show.cycles (count_lines measured.counts cost)
-    (with_part show.trace (trace_lines s.trace) (with_part show.regs (register_lines s.registers) text)))
+    (with_part show.trace (trace_lines s.trace) (with_part show.regs (register_lines s.registers) text))))
 
 -- the report of a run, and behind it what is shown
 abbrev pub run_report : Ending → State → Measured → ℕ → Show → List ℕ

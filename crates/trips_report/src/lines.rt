@@ -3,7 +3,8 @@
 ghost use Rattle.std.specs.Prelude.{◌≡◌, ◌++◌, OnOk, length};
 ghost use Rattle.trips_report.specs.Runs.{word_digits, register_line, traced_line, count_line};
 ghost use Rattle.trips_report.specs.Runs.{register_lines, trace_lines, count_lines, with_part};
-ghost use Rattle.trips_report.specs.Runs.{fired_lines, flushed_lines, memory_lines, statistic_lines};
+ghost use Rattle.trips_report.specs.Runs.{fired_lines, flushed_lines, memory_lines, predicted_lines};
+ghost use Rattle.trips_report.specs.Runs.{flight_line, flight_lines, statistic_lines};
 
 use crate::measured::Statistics;
 use block_atomic::Arch;
@@ -167,6 +168,38 @@ fn put_flushed(out: &mut Vec<u8>, statistics: Statistics) -> Result<(), AllocErr
     put_count(out, b"flushed_at_end ", statistics.ends)
 }
 
+// Writes what was predicted.
+#[tactic(auto, unfolding(crate::specs::Runs::predicted_lines))]
+fn put_predicted(out: &mut Vec<u8>, statistics: Statistics) -> Result<(), AllocError>
+    ensures ok { OnOk result (out.new.items ≡ out.old.items ++ predicted_lines statistics) }
+{
+    put_count(out, b"predicted ", statistics.predictions)?;
+    put_count(out, b"predicted_right ", statistics.right)
+}
+
+// Writes how many cycles began with so many frames in flight.
+#[tactic(auto, unfolding(crate::specs::Runs::flight_line))]
+fn put_flight(out: &mut Vec<u8>, frames: u64, cycles: u64) -> Result<(), AllocError>
+    ensures ok { OnOk result (out.new.items ≡ out.old.items ++ flight_line frames cycles) }
+{
+    out.extend_from_slice(b"in_flight_")?;
+    put_number(out, frames)?;
+    out.push(b' ')?;
+    put_number(out, cycles)?;
+    out.push(b'\n')?;
+    Ok(())
+}
+
+// Writes so for each number of frames.
+fn put_flights(out: &mut Vec<u8>, cycles: &[u64]) -> Result<(), AllocError>
+    ensures ok { OnOk result (out.new.items ≡ out.old.items ++ flight_lines cycles.now) }
+{
+    for n in 0..cycles.len() {
+        put_flight(out, n as u64, cycles[n])?;
+    }
+    Ok(())
+}
+
 // Writes the statistics of a run.
 #[tactic(auto, unfolding(crate::specs::Runs::statistic_lines))]
 fn put_statistics(out: &mut Vec<u8>, statistics: Statistics) -> Result<(), AllocError>
@@ -175,7 +208,20 @@ fn put_statistics(out: &mut Vec<u8>, statistics: Statistics) -> Result<(), Alloc
     put_fired(out, statistics)?;
     put_memory(out, statistics)?;
     put_flushed(out, statistics)?;
-    put_count(out, b"predicted ", statistics.predictions)
+    put_predicted(out, statistics)?;
+    put_flights(out, &statistics.in_flight)
+}
+
+/// Writes the lines of a run's events, where they are shown.
+#[tactic(auto, unfolding(crate::specs::Runs::with_part))]
+pub fn show_events(out: &mut Vec<u8>, shown: bool, lines: &[u8]) -> Result<(), AllocError>
+    ensures ok { OnOk result (out.new.items ≡ with_part shown lines.now out.old.items) }
+{
+    if shown {
+        out.extend_from_slice(lines)
+    } else {
+        Ok(())
+    }
 }
 
 /// Writes the statistics of a run, where they are shown.

@@ -3,6 +3,8 @@
 ghost use Rattle.std.specs.Prelude.{◌≡◌};
 ghost use Rattle.trips_report.specs.Runs.{no_statistics, uncounted};
 
+use base::Items;
+use std::alloc::Global;
 use trips_isa::Counts;
 
 /// The statistics of a run. Each number is exact while it has room in 64 bits.
@@ -26,6 +28,10 @@ pub struct Statistics {
     pub ends: u64,
     /// next blocks predicted
     pub predictions: u64,
+    /// predictions that were right
+    pub right: u64,
+    /// cycles that began with so many frames in flight, from 0 to 8
+    pub in_flight: [u64; 9],
 }
 
 impl Statistics {
@@ -43,25 +49,30 @@ impl Statistics {
             wrong_exits: 0,
             ends: 0,
             predictions: 0,
+            right: 0,
+            in_flight: [0; 9],
         }
     }
 }
 
-/// What was counted of a run: what it took, and its statistics, which are none where they are not shown.
-#[derive(Clone, Copy, Debug, PartialEq, Eq)]
+/// What was counted of a run and is told of it: what it took, and its statistics and the lines of its events, which are
+/// none where they are not shown.
+#[derive(Debug, Drop)]
 pub struct Measured {
     pub counts: Counts,
     pub statistics: Statistics,
+    pub events: Items<u8>,
 }
 
 impl Measured {
-    /// What a run took, whose statistics were not counted.
-    pub fn uncounted(counts: Counts) -> Measured
+    /// What a run took, whose statistics were not counted, and of whose events nothing is told. It takes no memory.
+    pub fn uncounted(alloc: Global, counts: Counts) -> Measured
         ensures { result ≡ uncounted counts }
     {
         Measured {
             counts,
             statistics: Statistics::none(),
+            events: Items::new(alloc),
         }
     }
 }

@@ -3,7 +3,7 @@
 ghost use Rattle.std.specs.Prelude.{◌≡◌, IfOk, length, string_bytes};
 ghost use Rattle.trips_report.specs.Runs.{signed, ending_line, plain_report, run_report};
 
-use crate::lines::{show_counts, show_registers, show_statistics, show_trace};
+use crate::lines::{show_counts, show_events, show_registers, show_statistics, show_trace};
 use crate::measured::Measured;
 use crate::show::Show;
 use base::Memory;
@@ -73,11 +73,17 @@ fn run_text(
     show_trace(&mut report, show.trace, arch.trace())?;
     show_counts(&mut report, show.cycles, measured.counts, cost)?;
     show_statistics(&mut report, show.stats, measured.statistics)?;
+    show_events(
+        &mut report,
+        show.events.is_some(),
+        measured.events.as_slice(),
+    )?;
     Ok(report)
 }
 
 /// The report of a run: the output, how the run ended and, as far as they are shown, the registers, the committed
-/// blocks, what the run took, `cost` cycles at most, and its statistics. Want of memory is the only error.
+/// blocks, what the run took, `cost` cycles at most, its statistics and the lines of its events. Want of memory is the
+/// only error.
 pub fn run_report(
     alloc: Global,
     ending: Ending,

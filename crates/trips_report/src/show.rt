@@ -1,3 +1,7 @@
+//! What a report shows.
+
+use trips_requests::Cycles;
+
 /// What the report of a run shows behind its ending.
 #[derive(Clone, Copy, Debug, PartialEq, Eq)]
 pub struct Show {
@@ -9,4 +13,6 @@ pub struct Show {
     pub cycles: bool,
     /// the statistics of the run
     pub stats: bool,
+    /// the cycles whose events are shown, if any are
+    pub events: Option<Cycles>,
 }

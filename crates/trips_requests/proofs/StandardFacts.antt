@@ -22,6 +22,7 @@ plain = record {
   trace = false;
   cycles = false;
   stats = false;
+  events = None;
 }
 
 pub run_is : asked (codes "run" ∷ codes "a.c" ∷ []) ≡ Some plain
@@ -254,6 +255,55 @@ resumed_counted = refl
 pub bench_uncounted : asked (codes "bench" ∷ codes "9" ∷ codes "--stats" ∷ []) ≡ None
 unfolding verb_named
 bench_uncounted = refl
+
+-- the events of cycles are asked for by the first and the last of these, the first at least 1
+pub told_is : asked (codes "run" ∷ codes "a.c" ∷ codes "--events=3-17" ∷ codes "--cycles" ∷ [])
+    ≡ Some (record plain { cycles = true; events = Some (record { first = 3; last = 17 }) })
+unfolding verb_named
+told_is = refl
+
+pub one_cycle : asked (codes "resume" ∷ codes "s.sav" ∷ codes "--events" ∷ codes "1-1" ∷ [])
+    ≡ Some (record plain {
+      command = command.Resume;
+      file = codes "s.sav";
+      events = Some (record { first = 1; last = 1 });
+    })
+unfolding verb_named
+one_cycle = refl
+
+pub cycles_back : asked (codes "run" ∷ codes "a.c" ∷ codes "--events=17-3" ∷ []) ≡ None
+unfolding verb_named
+cycles_back = refl
+
+pub cycle_zero : asked (codes "run" ∷ codes "a.c" ∷ codes "--events=0-3" ∷ []) ≡ None
+unfolding verb_named
+cycle_zero = refl
+
+pub last_cycle : asked (codes "run" ∷ codes "a.c" ∷ codes "--events=1-165888000000" ∷ [])
+    ≡ Some (record plain { events = Some (record { first = 1; last = 165888000000 }) })
+unfolding verb_named
+last_cycle = refl
+
+pub behind_the_last : asked (codes "run" ∷ codes "a.c" ∷ codes "--events=1-165888000001" ∷ []) ≡ None
+unfolding verb_named
+behind_the_last = refl
+
+pub one_number : asked (codes "run" ∷ codes "a.c" ∷ codes "--events=3" ∷ []) ≡ None
+unfolding verb_named
+one_number = refl
+
+pub three_numbers : asked (codes "run" ∷ codes "a.c" ∷ codes "--events=3-4-5" ∷ []) ≡ None
+unfolding verb_named
+three_numbers = refl
+
+-- no run is both told and counted
+pub told_and_counted : asked (codes "run" ∷ codes "a.c" ∷ codes "--events=3-17" ∷ codes "--stats" ∷ []) ≡ None
+unfolding verb_named
+told_and_counted = refl
+
+pub bench_untold : asked (codes "bench" ∷ codes "9" ∷ codes "--events=3-17" ∷ []) ≡ None
+unfolding verb_named
+bench_untold = refl
 
 -- a saved run goes on, without an input
 pub resumed_is : asked (codes "resume" ∷ codes "a.c" ∷ codes "--regs" ∷ codes "--blocks=7" ∷ [])

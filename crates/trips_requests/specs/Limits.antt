@@ -36,6 +36,10 @@ default_recorded = 10000
 abbrev pub most_drawn : ℕ
 most_drawn = 3999999
 
+-- the greatest number of a cycle: a run of most_count blocks makes at most 41,472 cycles for each
+abbrev pub most_cycle : ℕ
+most_cycle = 165888000000
+
 -- how many bytes an image may have
 unfoldable pub most_image_bytes : ℕ
 most_image_bytes = 71303188

@@ -13,7 +13,7 @@ use Rattle.trips_requests.specs.Words.{third_name, value_said}
 abbrev pub run_options : List Named
 run_options = valued (codes "input") ∷ valued (codes "blocks") ∷ valued (codes "place") ∷ valued (codes "unroll")
     ∷ valued (codes "seed") ∷ flag (codes "regs") ∷ flag (codes "trace") ∷ flag (codes "cycles")
-    ∷ flag (codes "stats") ∷ []
+    ∷ flag (codes "stats") ∷ valued (codes "events") ∷ []
 
 -- those of `bench`
 abbrev pub bench_options : List Named
@@ -43,7 +43,7 @@ save_options = valued (codes "input") ∷ valued (codes "seed") ∷ []
 -- those of `resume`
 abbrev pub resume_options : List Named
 resume_options = valued (codes "blocks") ∷ valued (codes "seed") ∷ flag (codes "regs") ∷ flag (codes "trace")
-    ∷ flag (codes "cycles") ∷ flag (codes "stats") ∷ []
+    ∷ flag (codes "cycles") ∷ flag (codes "stats") ∷ valued (codes "events") ∷ []
 
 -- those of `four`
 abbrev pub four_options : List Named
@@ -128,6 +128,8 @@ pub record Options : Type 0 where
   pub trace : Bool
   pub cycles : Bool
   pub stats : Bool
+  -- the cycles whose events are shown
+  pub events : Option Text
 
 -- a flag is said, by its value
 abbrev pub is_on : Option Text → Bool
@@ -149,4 +151,5 @@ options_said k said = record {
   trace = is_on (value_said (codes "trace") said);
   cycles = is_on (value_said (codes "cycles") said);
   stats = is_on (value_said (codes "stats") said);
+  events = value_said (codes "events") said;
 }

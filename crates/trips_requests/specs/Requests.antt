@@ -1,10 +1,12 @@
 -- Which request the words of a command line make (README.md of this crate).
-use Rattle.std.specs.Prelude.{ℕ, ◌+◌, Bool, if◌then◌else◌, List, [], ◌∷◌}
+use Rattle.std.specs.Prelude.{ℕ, ◌+◌, ◌==◌, nat_le, Bool, ◌&&◌, if◌then◌else◌, List, [], ◌∷◌}
 use Rattle.std.specs.Prelude.{Option, None, Some, option_map, option_and_then}
+use Rattle.std.specs.List.{after_first, before_first}
 use Rattle.trips_requests.specs.declared.commands.Command.{Command}
+use Rattle.trips_requests.specs.declared.commands.Cycles.{Cycles}
 use Rattle.trips_requests.specs.declared.commands.Verb.{Verb}
 use Rattle.trips_requests.specs.declared.commands.Verb.TheVariants as verb
-use Rattle.trips_requests.specs.Limits.{most_drawn, most_functions, most_seed, most_turns}
+use Rattle.trips_requests.specs.Limits.{most_cycle, most_drawn, most_functions, most_seed, most_turns}
 use Rattle.trips_requests.specs.Limits.{number_to, number_within}
 use Rattle.trips_requests.specs.Options.{Options, count_of, is_c_name, later_said, options_of, options_said}
 use Rattle.trips_requests.specs.Options.{places_of, second_said, takes_file}
@@ -14,7 +16,7 @@ use Rattle.trips_requests.specs.Words.{Text, Said, file_name, value_said, words_
 -- What is asked for: a command, its file and the others if it has more, or how many functions the benchmark's text
 -- has that is run in place of it, the name of the input if there is one, how many blocks or steps it may take, the
 -- number by which compiled blocks are placed if one is said, how many turns of a loop one of these may hold, the seed
--- of the grid, and whether registers, trace, counts and statistics are shown.
+-- of the grid, whether registers, trace, counts and statistics are shown, and of which cycles the events are.
 pub record Request : Type 0 where
   pub command : Command
   pub file : Text
@@ -39,6 +41,8 @@ pub record Request : Type 0 where
   pub trace : Bool
   pub cycles : Bool
   pub stats : Bool
+  -- the cycles whose events are shown; none where statistics are
+  pub events : Option Cycles
 
 -- How many blocks or steps the number says, and how many are taken without one. `draw` says the number of a block,
 -- which is the last of one block more.
@@ -64,6 +68,22 @@ abbrev pub seed_said : Option Text → Option ℕ
 seed_said None = Some 0
 seed_said (Some word) = number_within most_seed word
 
+-- the cycles from one to another, of which the first is 1 at least and the last no cycle before it
+abbrev pub cycles_from : ℕ → ℕ → Option Cycles
+cycles_from first last =
+    if nat_le 1 first && nat_le first last then Some (record { first = first; last = last }) else None
+
+-- the cycles that a word says, as `3-17`: two numbers, and between them a dash
+abbrev pub cycles_said : Text → Option Cycles
+cycles_said word = option_and_then (λ first. option_and_then (cycles_from first)
+    (number_within most_cycle (after_first (λ x. x == 45) word)))
+    (number_within most_cycle (before_first (λ x. x == 45) word))
+
+-- the cycles whose events are shown, if any are: of no request that shows the statistics
+abbrev pub events_said : Bool → Option Text → Option (Option Cycles)
+events_said stats None = Some None
+events_said stats (Some word) = if stats then None else option_map (λ c. Some c) (cycles_said word)
+
 -- how many functions the benchmark has, by its word; none of another command
 abbrev pub functions_said : Verb → Text → Option (Option ℕ)
 functions_said verb.Bench word = option_map (λ n. Some n) (number_to most_functions word)
@@ -71,8 +91,8 @@ functions_said other word = Some None
 
 -- the request of a command, of its file or its number of functions, of its numbers and of its options
 abbrev pub request_counted : Verb → Text → Options → Option Text → Option Text → Option Text → Option ℕ → ℕ
-    → Option ℕ → ℕ → ℕ → Request
-request_counted k name options second third fourth functions most place unroll seed = record {
+    → Option ℕ → ℕ → Option Cycles → ℕ → Request
+request_counted k name options second third fourth functions most place unroll events seed = record {
   command = command_of k;
   file = name;
   second = second;
@@ -88,6 +108,7 @@ request_counted k name options second third fourth functions most place unroll s
   trace = options.trace;
   cycles = options.cycles;
   stats = options.stats;
+  events = events;
 }
 
 -- the request of a command, of its files or its number of functions, and of its options: the numbers are in
@@ -95,8 +116,9 @@ request_counted k name options second third fourth functions most place unroll s
 abbrev pub request_of_file : Verb → Text → Options → Option Text → Option Text → Option Text → Option Request
 request_of_file k name options second third fourth =
     option_and_then (λ functions. option_and_then (λ most. option_and_then (λ place. option_and_then (λ unroll.
-    option_map (request_counted k name options second third fourth functions most place unroll)
-    (seed_said options.seed))
+    option_and_then (λ events. option_map
+    (request_counted k name options second third fourth functions most place unroll events)
+    (seed_said options.seed)) (events_said options.stats options.events))
     (unroll_said name options.unroll)) (place_said name options.place)) (most_said k options.number))
     (functions_said k name)
 

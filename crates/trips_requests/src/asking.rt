@@ -1,19 +1,20 @@
 //! The request of a command, of its file and of what was found of its options.
 
 ghost use Rattle.std.specs.Prelude.{◌≡◌, ◌+◌, Some, option_map, option_copied};
-ghost use Rattle.trips_requests.specs.Limits.{most_drawn, number_within};
+ghost use Rattle.trips_requests.specs.Limits.{most_cycle, most_drawn, number_within};
 ghost use Rattle.trips_requests.specs.Options.{count_of, counted, is_c_name, is_on, later_said, second_said};
 ghost use Rattle.trips_requests.specs.Options.{takes_file};
 ghost use Rattle.trips_requests.specs.inside.Options.{options_seen};
 ghost use Rattle.trips_requests.specs.Verbs.{command_of, verb_named};
 ghost use Rattle.trips_requests.specs.Requests.{most_said};
-ghost use Rattle.trips_requests.specs.Requests.{functions_said, place_said, seed_said, unroll_said};
+ghost use Rattle.trips_requests.specs.Requests.{cycles_from, cycles_said, events_said, functions_said, place_said};
+ghost use Rattle.trips_requests.specs.Requests.{seed_said, unroll_said};
 ghost use Rattle.trips_requests.specs.Requests.{request_of_file, request_of_files, request_taken, request_with};
 ghost use Rattle.trips_requests.specs.inside.Requests.{request_seen};
 
 use crate::commands::{
-    Asked, Command, DEFAULT_COUNT, DEFAULT_RECORDED, MOST_COUNT, MOST_DRAWN, MOST_FUNCTIONS,
-    MOST_RECORDED, MOST_SEED, MOST_TURNS, Verb,
+    Asked, Command, Cycles, DEFAULT_COUNT, DEFAULT_RECORDED, MOST_COUNT, MOST_CYCLE, MOST_DRAWN,
+    MOST_FUNCTIONS, MOST_RECORDED, MOST_SEED, MOST_TURNS, Verb,
 };
 use crate::number::{number, number_within};
 
@@ -35,6 +36,8 @@ pub struct FoundOptions<'a> {
     pub trace: bool,
     pub cycles: bool,
     pub stats: bool,
+    /// the cycles whose events are shown
+    pub events: Option<&'a str>,
 }
 
 /// What a name stands for.
@@ -261,6 +264,48 @@ fn seed_said(word: Option<&str>) -> Option<u64>
     }
 }
 
+// The cycles from one to another, where there are some.
+fn cycles_from(first: u64, last: u64) -> Option<Cycles>
+    ensures { result ≡ cycles_from first last }
+{
+    if 1 <= first && first <= last {
+        Some(Cycles { first, last })
+    } else {
+        None
+    }
+}
+
+// The number of a cycle that a word says.
+fn cycle_said(word: &str) -> Option<u64>
+    ensures { result ≡ number_within most_cycle word.now }
+{
+    number_within(word.as_bytes(), MOST_CYCLE)
+}
+
+// The cycles that a word says: two numbers, and between them a dash.
+fn cycles_said(word: &str) -> Option<Cycles>
+    ensures { result ≡ cycles_said word.now }
+{
+    let (first, last) = word.split_once('-')?;
+    cycles_from(cycle_said(first)?, cycle_said(last)?)
+}
+
+// The cycles whose events are shown, if any are: of no request that shows the statistics.
+fn events_said(stats: bool, word: Option<&str>) -> Option<Option<Cycles>>
+    ensures { result ≡ events_said stats (option_copied word.entry) }
+{
+    match word {
+        None => Some(None),
+        Some(word) => {
+            if stats {
+                return None;
+            }
+            let cycles = cycles_said(word)?;
+            Some(Some(cycles))
+        }
+    }
+}
+
 // The request of a command, of its files or its number of functions, and of its options.
 fn request_of_file<'a>(
     command: Verb,
@@ -278,6 +323,7 @@ fn request_of_file<'a>(
     let most = most_said(command, options.number)?;
     let place = place_said(file, options.place)?;
     let unroll = unroll_said(file, options.unroll)?;
+    let events = events_said(options.stats, options.events)?;
     let seed = seed_said(options.seed)?;
     Some(Asked {
         command: command_of(command),
@@ -295,6 +341,7 @@ fn request_of_file<'a>(
         trace: options.trace,
         cycles: options.cycles,
         stats: options.stats,
+        events,
     })
 }
 

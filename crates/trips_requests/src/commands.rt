@@ -72,6 +72,9 @@ pub const DEFAULT_RECORDED: u32 = 10_000;
 /// The greatest number of a block that may be drawn.
 pub const MOST_DRAWN: u64 = 3_999_999;
 
+/// The greatest number of a cycle: no run of as many blocks as may be asked for has a later one.
+pub const MOST_CYCLE: u64 = 165_888_000_000;
+
 /// The limits of the code are those of the definitions. It does nothing when it runs.
 pub fn constants_are_the_definitions()
     ensures functions { MOST_FUNCTIONS ≡ limits.most_functions }
@@ -82,7 +85,17 @@ pub fn constants_are_the_definitions()
     ensures recorded { MOST_RECORDED ≡ limits.most_recorded }
     ensures default_recorded { DEFAULT_RECORDED ≡ limits.default_recorded }
     ensures drawn { MOST_DRAWN ≡ limits.most_drawn }
+    ensures cycle { MOST_CYCLE ≡ limits.most_cycle }
 {}
+
+/// Cycles of a run, the first of which is cycle 1: those from one to another.
+#[derive(Clone, Copy, Debug, PartialEq, Eq)]
+pub struct Cycles {
+    /// from 1
+    pub first: u64,
+    /// no cycle before the first
+    pub last: u64,
+}
 
 /// A request.
 #[derive(Clone, Copy, Debug)]
@@ -114,4 +127,6 @@ pub struct Asked<'a> {
     pub cycles: bool,
     /// whether the statistics of the run are shown
     pub stats: bool,
+    /// the cycles whose events are shown, if any are; of no request with statistics
+    pub events: Option<Cycles>,
 }

@@ -18,8 +18,9 @@ mod texts;
 pub use answer::{Answer, no_request, too_large, unread};
 pub use asking::{FoundOptions, counted, is_on, request_with, verb_named};
 pub use commands::{
-    Asked, Command, DEFAULT_COUNT, DEFAULT_RECORDED, MOST_COUNT, MOST_DRAWN, MOST_FUNCTIONS,
-    MOST_RECORDED, MOST_SEED, MOST_TURNS, Tool, Verb, constants_are_the_definitions,
+    Asked, Command, Cycles, DEFAULT_COUNT, DEFAULT_RECORDED, MOST_COUNT, MOST_CYCLE, MOST_DRAWN,
+    MOST_FUNCTIONS, MOST_RECORDED, MOST_SEED, MOST_TURNS, Tool, Verb,
+    constants_are_the_definitions,
 };
 pub use loading::{Loaded, read};
 pub use status::{Status, exit_code};

@@ -127,7 +127,8 @@ pub fn answer_words<F: Files, K: Sink>(
     // The same of the run of an image of good blocks, and of that of a target text: the counts are those of a grid
     // that comes by exactly as many eager cycles from the stated start of the request's seed. Where the statistics are
     // shown, each number is how many of the notes of these very cycles and of their end count for it, while that has
-    // room in 64 bits (`statistics` of `IsCountedFrom`); so too above and below.
+    // room in 64 bits (`statistics` of `IsCountedFrom`). Where the events of some cycles are shown, their lines are
+    // those of the notes of these very cycles (`events`); so too above and below.
     ensures shown_image_run { (most : ℕ) (show : Show) (bytes input : List ℕ) (image : Image)
         → (call : IsServed (request_of words.now) (F.held files.old) Run form.Image most show bytes input
         (F.faults files.old) (F.faults files.new) (K.faults sink.old) (K.faults sink.new) result)

@@ -34,6 +34,7 @@ flushed_by_violation 0
 flushed_by_exit 0
 flushed_at_end 0
 predicted 0
+predicted_right 0
 ";
 
 /// A block of seven operations, which stores to one place, loads from another and ends the run.
@@ -63,6 +64,7 @@ flushed_by_violation 0
 flushed_by_exit 0
 flushed_at_end 0
 predicted 0
+predicted_right 0
 ";
 
 const POWERS: &str = "long a[9]; int main(void) { int i; a[0] = 1;
@@ -85,6 +87,22 @@ fn answer_to(alloc: Global, words: &[&str]) -> Result<(Status, Vec<u8>), AllocEr
     )
 }
 
+/// The lines of the statistics.
+const STATISTICS: u64 = 19;
+
+/// The names of the last of them, which hang on the weather: cycles by frames in flight.
+const IN_FLIGHT: &[&[u8]] = &[
+    b"in_flight_0 ",
+    b"in_flight_1 ",
+    b"in_flight_2 ",
+    b"in_flight_3 ",
+    b"in_flight_4 ",
+    b"in_flight_5 ",
+    b"in_flight_6 ",
+    b"in_flight_7 ",
+    b"in_flight_8 ",
+];
+
 /// Words, and the report.
 type Counted = (&'static [&'static str], &'static str);
 
@@ -98,11 +116,24 @@ const COUNTED: &[Counted] = &[
     ),
 ];
 
+// Behind the other statistics stand the cycles by frames in flight: a run begins with none, and one block has one.
+fn assert_flights(rt: &impl Abort, words: &[&str], lines: &[u8]) {
+    let none = number_of(lines, b"in_flight_0 ").unwrap_or(0);
+    let one = number_of(lines, b"in_flight_1 ").unwrap_or(0);
+    assert_eq!(rt; lines_in(lines), IN_FLIGHT.len() as u64, "{words:?}");
+    assert!(rt; none > 0, "{words:?}");
+    assert!(rt; one > 0, "{words:?}");
+    assert_eq!(rt; flown_in(lines), none.saturating_add(one), "{words:?}");
+}
+
 fn assert_counted(rt: &impl Abort, alloc: Global, rows: &[Counted]) -> Result<(), AllocError> {
     for (words, report) in rows {
         let (status, written) = answer_to(alloc, *words)?;
         assert_eq!(rt; status, Status::Ended, "{words:?}");
-        assert_eq!(rt; written.as_slice(), report.as_bytes(), "{words:?}");
+        match written.strip_prefix(report.as_bytes()) {
+            Some(lines) => assert_flights(rt, *words, lines),
+            None => assert!(rt; false, "another report: {words:?}"),
+        }
     }
     Ok(())
 }
@@ -123,17 +154,32 @@ fn number_of(report: &[u8], name: &[u8]) -> Option<u64> {
     None
 }
 
-// Frames that were flushed are so for one of three causes, and each that was fetched was committed or flushed.
+// The cycles by frames in flight, all together.
+fn flown_in(report: &[u8]) -> u64 {
+    let mut sum: u64 = 0;
+    for name in IN_FLIGHT {
+        sum = sum.saturating_add(number_of(report, *name).unwrap_or(0));
+    }
+    sum
+}
+
+// Each cycle began with some number of frames in flight. Frames that were flushed are so for one of three causes, each
+// that was fetched was committed or flushed, and no more predictions are right than were made.
 fn assert_sums(rt: &impl Abort, words: &[&str], report: &[u8]) {
     let blocks = number_of(report, b"blocks ").unwrap_or(0);
+    let cycles = number_of(report, b"cycles ").unwrap_or(0);
     let fetched = number_of(report, b"fetched ").unwrap_or(0);
     let flushed = number_of(report, b"flushed ").unwrap_or(0);
     let useful = number_of(report, b"useful ").unwrap_or(0);
     let violations = number_of(report, b"flushed_by_violation ").unwrap_or(1);
     let exits = number_of(report, b"flushed_by_exit ").unwrap_or(1);
     let ends = number_of(report, b"flushed_at_end ").unwrap_or(1);
+    let made = number_of(report, b"predicted ").unwrap_or(0);
+    let right = number_of(report, b"predicted_right ").unwrap_or(1);
     let causes = violations.saturating_add(exits).saturating_add(ends);
     assert!(rt; useful >= blocks, "{words:?}");
+    assert!(rt; right <= made, "{words:?}");
+    assert_eq!(rt; flown_in(report), cycles, "{words:?}");
     assert_eq!(rt; flushed, causes, "{words:?}");
     assert_eq!(rt; fetched, blocks.saturating_add(flushed), "{words:?}");
 }
@@ -177,14 +223,14 @@ fn lines_in(text: &[u8]) -> u64 {
     count
 }
 
-// With its statistics a run is reported as without them, and behind that stand nine lines.
+// With its statistics a run is reported as without them, and behind that stand nineteen lines.
 fn assert_pairs(rt: &impl Abort, alloc: Global, rows: &[Pair]) -> Result<(), AllocError> {
     for (plain, counted) in rows {
         let (status, report) = answer_to(alloc, *plain)?;
         let (counted_status, written) = answer_to(alloc, *counted)?;
         assert!(rt; counted_status == status, "{counted:?}");
         match written.strip_prefix(report.as_slice()) {
-            Some(lines) => assert_eq!(rt; lines_in(lines), 9, "{counted:?}"),
+            Some(lines) => assert_eq!(rt; lines_in(lines), STATISTICS, "{counted:?}"),
             None => assert!(rt; false, "another report: {counted:?}"),
         }
         assert_sums(rt, *counted, &written);

@@ -1,5 +1,6 @@
 //! Reports of a whole run, and of a refusal of each stage.
 
+use base::Items;
 use block_atomic::Arch;
 use block_check::{CheckFault, CheckedImage};
 use block_image::{ImageFault, decode};
@@ -9,8 +10,16 @@ use std::test::Fail;
 use target_asm_spec::AsmFault;
 use trips_isa::{Counts, Ending, Spot, TrapCause};
 use trips_report::{Measured, Said, Show, Statistics, refusal_report, run_report};
+use trips_requests::Cycles;
 
-const MEASURED: Measured = Measured {
+// What was counted of a run.
+#[derive(Clone, Copy)]
+struct Taken {
+    counts: Counts,
+    statistics: Statistics,
+}
+
+const MEASURED: Taken = Taken {
     counts: Counts {
         cycles: 40,
         fetched: 3,
@@ -27,8 +36,13 @@ const MEASURED: Measured = Measured {
         wrong_exits: 1,
         ends: 18_446_744_073_709_551_615,
         predictions: 16,
+        right: 10,
+        in_flight: [1, 2, 3, 4, 5, 6, 7, 8, 4],
     },
 };
+
+// The lines of its events.
+const EVENTS: &[u8] = b"cycle 9 seal frame 0\nmore\n";
 
 // The words of the image of one block that returns 7 (docs/MACHINE.md, "The image"), but for those
 // that are 0.
@@ -71,7 +85,12 @@ fn report_of_seven(alloc: Global, ending: Ending, show: Show) -> Result<Vec<u8>,
         return Err(AllocError);
     };
     let _ = arch.step(&checked);
-    let Ok(report) = run_report(alloc, ending, &arch, MEASURED, 1_024, show) else {
+    let measured = Measured {
+        counts: MEASURED.counts,
+        statistics: MEASURED.statistics,
+        events: Items::from_slice(alloc, EVENTS)?,
+    };
+    let Ok(report) = run_report(alloc, ending, &arch, measured, 1_024, show) else {
         return Err(AllocError);
     };
     Ok(report)
@@ -85,6 +104,7 @@ const NOTHING: Show = Show {
     trace: false,
     cycles: false,
     stats: false,
+    events: None,
 };
 
 // The report of a run with its trace and its statistics.
@@ -101,6 +121,16 @@ flushed_by_violation 0
 flushed_by_exit 1
 flushed_at_end 18446744073709551615
 predicted 16
+predicted_right 10
+in_flight_0 1
+in_flight_1 2
+in_flight_2 3
+in_flight_3 4
+in_flight_4 5
+in_flight_5 6
+in_flight_6 7
+in_flight_7 8
+in_flight_8 4
 ";
 
 const RUNS: &[Run] = &[
@@ -112,6 +142,7 @@ const RUNS: &[Run] = &[
             trace: true,
             cycles: false,
             stats: false,
+            events: None,
         },
         "output 0\n\nresult 7\nblock 0 exit 0\n",
     ),
@@ -122,6 +153,7 @@ const RUNS: &[Run] = &[
             trace: false,
             cycles: true,
             stats: false,
+            events: None,
         },
         "output 0\n\nstack full\nblocks 1\ncycles 40\nfetched 3\nflushed 2\ncost 1024\n",
     ),
@@ -132,6 +164,7 @@ const RUNS: &[Run] = &[
             trace: true,
             cycles: true,
             stats: false,
+            events: None,
         },
         "output 0\n\nbudget 1\nblock 0 exit 0\nblocks 1\ncycles 40\nfetched 3\nflushed 2\ncost 1024\n",
     ),
@@ -142,8 +175,20 @@ const RUNS: &[Run] = &[
             trace: true,
             cycles: false,
             stats: true,
+            events: None,
         },
         COUNTED,
+    ),
+    (
+        Ending::Ended,
+        Show {
+            regs: false,
+            trace: true,
+            cycles: false,
+            stats: false,
+            events: Some(Cycles { first: 9, last: 12 }),
+        },
+        "output 0\n\nresult 7\nblock 0 exit 0\ncycle 9 seal frame 0\nmore\n",
     ),
     (
         Ending::Trap {
@@ -210,6 +255,7 @@ fn shows_each_register(rt: HostRuntime) -> Result<(), Fail> {
         trace: true,
         cycles: false,
         stats: false,
+        events: None,
     };
     let wanted = with_registers(alloc)?;
     let written = report_of_seven(alloc, Ending::Ended, show)?;

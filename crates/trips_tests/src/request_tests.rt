@@ -4,7 +4,7 @@ use crate::requests::{PLAIN, assert_asked};
 use std::alloc::{AllocError, Global};
 use std::process::Abort;
 use std::test::Fail;
-use trips_requests::{Asked, Command};
+use trips_requests::{Asked, Command, Cycles};
 
 /// Words, and the request that they make.
 type Row = (&'static [&'static str], Asked<'static>);
@@ -186,6 +186,30 @@ const ASKED: &[Row] = &[
         Asked {
             file: "v.tasl",
             stats: true,
+            ..PLAIN
+        },
+    ),
+    (
+        &["run", "v.tasl", "--events", "12-40"],
+        Asked {
+            file: "v.tasl",
+            events: Some(Cycles {
+                first: 12,
+                last: 40,
+            }),
+            ..PLAIN
+        },
+    ),
+    (
+        &["resume", "--events=1-165888000000", "s", "--cycles"],
+        Asked {
+            command: Command::Resume,
+            file: "s",
+            cycles: true,
+            events: Some(Cycles {
+                first: 1,
+                last: 165_888_000_000,
+            }),
             ..PLAIN
         },
     ),

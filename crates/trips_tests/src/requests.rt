@@ -22,6 +22,7 @@ pub const PLAIN: Asked<'static> = Asked {
     trace: false,
     cycles: false,
     stats: false,
+    events: None,
 };
 
 /// The words of a command line.
@@ -56,5 +57,7 @@ pub fn assert_asked(
     assert!(rt; asked.cycles == wanted.cycles, "{texts:?}");
     assert!(rt; asked.regs == wanted.regs, "{texts:?}");
     assert!(rt; asked.trace == wanted.trace, "{texts:?}");
+    assert!(rt; asked.stats == wanted.stats, "{texts:?}");
+    assert!(rt; asked.events == wanted.events, "{texts:?}");
     Ok(())
 }

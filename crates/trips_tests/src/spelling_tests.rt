@@ -4,7 +4,7 @@ use crate::requests::{PLAIN, assert_asked};
 use std::alloc::{AllocError, Global};
 use std::process::Abort;
 use std::test::Fail;
-use trips_requests::{Asked, Command};
+use trips_requests::{Asked, Command, Cycles};
 
 // An option with its value, in each place and spelling.
 const BLOCKS: &[&[&str]] = &[
@@ -83,6 +83,13 @@ const STATS: &[&[&str]] = &[
     &["run", "a.c", "--stats"],
     &["run", "--stats", "a.c"],
     &["run", "--stats", "--", "a.c"],
+];
+
+const EVENTS: &[&[&str]] = &[
+    &["run", "a.c", "--events", "7-7"],
+    &["run", "--events", "07-0007", "a.c"],
+    &["run", "a.c", "--events=7-7"],
+    &["run", "--events=7-7", "--", "a.c"],
 ];
 
 const BENCH_SEED: &[&[&str]] = &[
@@ -209,6 +216,13 @@ const SPELLINGS: &[(&[&[&str]], Asked<'static>)] = &[
         STATS,
         Asked {
             stats: true,
+            ..PLAIN
+        },
+    ),
+    (
+        EVENTS,
+        Asked {
+            events: Some(Cycles { first: 7, last: 7 }),
             ..PLAIN
         },
     ),

@@ -207,6 +207,11 @@ pub no_flag_seed : (k : Verb) → is_flag (codes "seed") (options_of k) ≡ fals
 no_flag_seed verb.Run = refl
 no_flag_seed _ = refl
 
+-- the cycles whose events are shown are no flag of a command
+pub no_flag_events : (k : Verb) → is_flag (codes "events") (options_of k) ≡ false
+no_flag_events verb.Run = refl
+no_flag_events _ = refl
+
 -- what is found under the name of no flag is what is said
 pub found_said : (options : List Named) (said : Said) (m : ArgMatches) (name : Text)
     → FindsSaid options said m → is_flag name options ≡ false
@@ -225,8 +230,8 @@ found_on options said m name f = ap is_on (f name) ∙ on_is (is_flag name optio
 
 -- options by their parts
 abbrev pub options_by : Option Text → Option Text → Option Text → Option Text → Option Text → Option Text
-    → Option Text → Option Text → Bool → Bool → Bool → Bool → Options
-options_by second third fourth input number place unroll seed regs trace cycles stats = record {
+    → Option Text → Option Text → Bool → Bool → Bool → Bool → Option Text → Options
+options_by second third fourth input number place unroll seed regs trace cycles stats events = record {
   second = second;
   third = third;
   fourth = fourth;
@@ -239,30 +244,44 @@ options_by second third fourth input number place unroll seed regs trace cycles 
   trace = trace;
   cycles = cycles;
   stats = stats;
+  events = events;
 }
 
 -- options that are the same part by part
 pub same_options : (second second' third third' fourth fourth' input input' number number' place place' unroll
-    unroll' seed seed' : Option Text) (regs regs' trace trace' cycles cycles' stats stats' : Bool) → second ≡ second'
+    unroll' seed seed' : Option Text) (regs regs' trace trace' cycles cycles' stats stats' : Bool)
+    (events events' : Option Text) → second ≡ second'
     → third ≡ third' → fourth ≡ fourth' → input ≡ input' → number ≡ number' → place ≡ place' → unroll ≡ unroll'
-    → seed ≡ seed' → regs ≡ regs' → trace ≡ trace' → cycles ≡ cycles' → stats ≡ stats'
-    → options_by second third fourth input number place unroll seed regs trace cycles stats
-    ≡ options_by second' third' fourth' input' number' place' unroll' seed' regs' trace' cycles' stats'
+    → seed ≡ seed' → regs ≡ regs' → trace ≡ trace' → cycles ≡ cycles' → stats ≡ stats' → events ≡ events'
+    → options_by second third fourth input number place unroll seed regs trace cycles stats events
+    ≡ options_by second' third' fourth' input' number' place' unroll' seed' regs' trace' cycles' stats' events'
 same_options second second' third third' fourth fourth' input input' number number' place place' unroll unroll'
-    seed seed' regs regs' trace trace' cycles cycles' stats stats' a b c d e f g h i j k l =
-    ap (λ (x : Option Text). options_by x third fourth input number place unroll seed regs trace cycles stats) a
-    ∙ ap (λ (x : Option Text). options_by second' x fourth input number place unroll seed regs trace cycles stats) b
-    ∙ ap (λ (x : Option Text). options_by second' third' x input number place unroll seed regs trace cycles stats) c
-    ∙ ap (λ (x : Option Text). options_by second' third' fourth' x number place unroll seed regs trace cycles stats) d
-    ∙ ap (λ (x : Option Text). options_by second' third' fourth' input' x place unroll seed regs trace cycles stats) e
-    ∙ ap (λ (x : Option Text). options_by second' third' fourth' input' number' x unroll seed regs trace cycles stats) f
-    ∙ ap (λ (x : Option Text). options_by second' third' fourth' input' number' place' x seed regs trace cycles stats) g
+    seed seed' regs regs' trace trace' cycles cycles' stats stats' events events' a b c d e f g h i j k l m =
+    ap (λ (x : Option Text). options_by x third fourth input number place unroll seed regs trace cycles stats events) a
+    ∙ ap (λ (x : Option Text). options_by second' x fourth input number place unroll seed regs trace cycles stats
+    events) b
+    ∙ ap (λ (x : Option Text). options_by second' third' x input number place unroll seed regs trace cycles stats
+    events) c
+    ∙ ap (λ (x : Option Text). options_by second' third' fourth' x number place unroll seed regs trace cycles stats
+    events) d
+    ∙ ap (λ (x : Option Text). options_by second' third' fourth' input' x place unroll seed regs trace cycles stats
+    events) e
+    ∙ ap (λ (x : Option Text). options_by second' third' fourth' input' number' x unroll seed regs trace cycles stats
+    events) f
+    ∙ ap (λ (x : Option Text). options_by second' third' fourth' input' number' place' x seed regs trace cycles stats
+    events) g
     ∙ ap (λ (x : Option Text). options_by second' third' fourth' input' number' place' unroll' x regs trace cycles
-    stats) h
-    ∙ ap (λ (x : Bool). options_by second' third' fourth' input' number' place' unroll' seed' x trace cycles stats) i
-    ∙ ap (λ (x : Bool). options_by second' third' fourth' input' number' place' unroll' seed' regs' x cycles stats) j
-    ∙ ap (λ (x : Bool). options_by second' third' fourth' input' number' place' unroll' seed' regs' trace' x stats) k
-    ∙ ap (λ (x : Bool). options_by second' third' fourth' input' number' place' unroll' seed' regs' trace' cycles' x) l
+    stats events) h
+    ∙ ap (λ (x : Bool). options_by second' third' fourth' input' number' place' unroll' seed' x trace cycles stats
+    events) i
+    ∙ ap (λ (x : Bool). options_by second' third' fourth' input' number' place' unroll' seed' regs' x cycles stats
+    events) j
+    ∙ ap (λ (x : Bool). options_by second' third' fourth' input' number' place' unroll' seed' regs' trace' x stats
+    events) k
+    ∙ ap (λ (x : Bool). options_by second' third' fourth' input' number' place' unroll' seed' regs' trace' cycles' x
+    events) l
+    ∙ ap (λ (x : Option Text). options_by second' third' fourth' input' number' place' unroll' seed' regs' trace'
+    cycles' stats' x) m
 
 -- where something was found, words say something, and else they say nothing
 pub told_some : (k : Verb) (said : Option Said) (m : ArgMatches) (r : Option Request)

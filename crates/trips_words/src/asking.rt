@@ -35,6 +35,7 @@ fn options_found<'a>(command: Verb, matches: &ArgMatches<'a>) -> FoundOptions<'a
         trace: is_on(matches.get_str("trace")),
         cycles: is_on(matches.get_str("cycles")),
         stats: is_on(matches.get_str("stats")),
+        events: matches.get_str("events"),
     }
 }
 

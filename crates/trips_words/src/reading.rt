@@ -58,6 +58,7 @@ fn run_command<'a>(alloc: Global) -> Result<clap::Command<'a>, AllocError>
         .arg(flag(alloc, "trace"))?
         .arg(flag(alloc, "cycles"))?
         .arg(flag(alloc, "stats"))?
+        .arg(valued(alloc, "events"))?
         .arg(Arg::new(alloc, FILE))
 }
 
@@ -145,6 +146,7 @@ fn resume_command<'a>(alloc: Global) -> Result<clap::Command<'a>, AllocError>
         .arg(flag(alloc, "trace"))?
         .arg(flag(alloc, "cycles"))?
         .arg(flag(alloc, "stats"))?
+        .arg(valued(alloc, "events"))?
         .arg(Arg::new(alloc, FILE))
 }
 

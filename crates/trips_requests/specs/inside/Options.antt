@@ -19,4 +19,5 @@ options_seen options = record {
   trace = options.trace;
   cycles = options.cycles;
   stats = options.stats;
+  events = option_copied options.events;
 }

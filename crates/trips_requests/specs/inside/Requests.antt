@@ -23,4 +23,5 @@ request_seen asked = record {
   trace = asked.trace;
   cycles = asked.cycles;
   stats = asked.stats;
+  events = asked.events;
 }

@@ -17,4 +17,5 @@ returns c =
     (c.runs_of_a_seed_end.ensures.trapped _ _ _ _ _ _ _ good some image.fits.few c.requires.some few)
     (λ block cause. c.runs_of_a_seed_end.ensures.trapped_block _ _ _ _ _ block cause _ good some image.fits.few
     c.requires.some few)
-    c.in_ok-counted.counted.told c.in_ok-counted.ensures.ran c.counted_answer.ensures
+    c.in_ok-counted.counted.told c.in_ok-counted.counted.flights c.in_ok-counted.ensures.ran c.requires.counted
+    c.counted_answer.ensures

@@ -19,4 +19,5 @@ returns c =
     (c.runs_from_a_state_end.ensures.within _ _ _ _ _ _ good full c.requires.next few)
     (c.runs_from_a_state_end.ensures.trapped _ _ _ _ _ _ good full c.requires.next few)
     (λ block cause. c.runs_from_a_state_end.ensures.trapped_block _ _ _ _ block cause _ good full c.requires.next few)
-    c.in_ok-counted.counted.told c.in_ok-counted.ensures.ran c.counted_answer.ensures
+    c.in_ok-counted.counted.told c.in_ok-counted.counted.flights c.in_ok-counted.ensures.ran c.requires.counted
+    c.counted_answer.ensures

@@ -19,4 +19,4 @@ returns c =
     (c.runs_from_a_state_end.ensures.within _ _ _ _ _ _ good full c.requires.next few)
     (c.runs_from_a_state_end.ensures.trapped _ _ _ _ _ _ good full c.requires.next few)
     (λ block cause. c.runs_from_a_state_end.ensures.trapped_block _ _ _ _ block cause _ good full c.requires.next few)
-    c.in_ok-ran.ensures.ran c.requires.plain c.ended_answer.ensures
+    c.in_ok-ran.ensures.ran c.requires.plain c.requires.untold c.ended_answer.ensures

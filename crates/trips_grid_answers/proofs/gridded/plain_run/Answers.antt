@@ -17,4 +17,4 @@ returns c =
     (c.runs_of_a_seed_end.ensures.trapped _ _ _ _ _ _ _ good some image.fits.few c.requires.some few)
     (λ block cause. c.runs_of_a_seed_end.ensures.trapped_block _ _ _ _ _ block cause _ good some image.fits.few
     c.requires.some few)
-    c.in_ok-ran.ensures.ran c.requires.plain c.ended_answer.ensures
+    c.in_ok-ran.ensures.ran c.requires.plain c.requires.untold c.ended_answer.ensures

@@ -3,7 +3,7 @@ use Rattle.clap.specs.Matches.{found_of, first_value}
 use Rattle.trips_requests.specs.Words.{fourth_name, second_name, third_name}
 use Rattle.trips_requests.specs.Options.{options_of, counted, is_on}
 use Rattle.trips_words.proofs.CommandLemmas.{no_flag_fourth, no_flag_second, no_flag_third, no_flag_input}
-use Rattle.trips_words.proofs.CommandLemmas.{no_flag_count, no_flag_place}
+use Rattle.trips_words.proofs.CommandLemmas.{no_flag_count, no_flag_events, no_flag_place}
 use Rattle.trips_words.proofs.CommandLemmas.{no_flag_seed, no_flag_unroll, found_said, found_on, same_options}
 use Rattle.trips_words.proofs.asking.options_found.Goals as goal
 
@@ -12,7 +12,7 @@ returns c said f =
     let k = c.args.command in
     let m = c.args.matches.now in
     let o = options_of k in
-    same_options _ _ _ _ _ _ _ _ _ _ _ _ _ _ _ _ _ _ _ _ _ _ _ _
+    same_options _ _ _ _ _ _ _ _ _ _ _ _ _ _ _ _ _ _ _ _ _ _ _ _ _ _
     (c.get_str.ensures ∙ found_said o said m second_name f (no_flag_second k))
     (c.get_str-2.ensures ∙ found_said o said m third_name f (no_flag_third k))
     (c.get_str-3.ensures ∙ found_said o said m fourth_name f (no_flag_fourth k))
@@ -26,3 +26,4 @@ returns c said f =
     (c.is_on-2.ensures ∙ ap is_on c.get_str-10.ensures ∙ found_on o said m (codes "trace") f)
     (c.is_on-3.ensures ∙ ap is_on c.get_str-11.ensures ∙ found_on o said m (codes "cycles") f)
     (c.is_on-4.ensures ∙ ap is_on c.get_str-12.ensures ∙ found_on o said m (codes "stats") f)
+    (c.get_str-13.ensures ∙ found_said o said m (codes "events") f (no_flag_events k))

@@ -17,5 +17,6 @@ returns c =
     let seven = c.in_ok-arg-7.ensures.shape c.flag-2.ensures.local ∙ ap₂ with_rule six c.flag-2.ensures.rule in
     let eight = c.in_ok-arg-8.ensures.shape c.flag-3.ensures.local ∙ ap₂ with_rule seven c.flag-3.ensures.rule in
     let nine = c.in_ok-arg-9.ensures.shape c.flag-4.ensures.local ∙ ap₂ with_rule eight c.flag-4.ensures.rule in
-    IfOk-weaker c.arg-10.result _ _
-    (λ r h. h.shape c.new-2.ensures.optional.1 ∙ ap₂ with_rule nine c.new-2.ensures.rule) c.arg-10.ensures
+    let ten = c.in_ok-arg-10.ensures.shape c.valued-6.ensures.local ∙ ap₂ with_rule nine c.valued-6.ensures.rule in
+    IfOk-weaker c.arg-11.result _ _
+    (λ r h. h.shape c.new-2.ensures.optional.1 ∙ ap₂ with_rule ten c.new-2.ensures.rule) c.arg-11.ensures

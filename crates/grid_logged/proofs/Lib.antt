@@ -1,0 +1,4 @@
+pub mod Between
+pub mod Going
+pub mod SeedRuns
+pub mod StandardFacts
