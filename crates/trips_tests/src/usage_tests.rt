@@ -48,24 +48,6 @@ const USAGES: &[&[&str]] = &[
     &["run", "a.c", "--cycles", "--cycles"],
     &["run", "a.c", "--stats=1"],
     &["run", "a.c", "--stats", "--stats"],
-    &["run", "a.c", "--events"],
-    &["run", "a.c", "--events", "3"],
-    &["run", "a.c", "--events", "-3"],
-    &["run", "a.c", "--events=-3"],
-    &["run", "a.c", "--events=3-"],
-    &["run", "a.c", "--events", "3-2"],
-    &["run", "a.c", "--events", "0-2"],
-    &["run", "a.c", "--events", "1--2"],
-    &["run", "a.c", "--events", "1-2-3"],
-    &["run", "a.c", "--events", "1-a"],
-    &["run", "a.c", "--events", "1-165888000001"],
-    &["run", "a.c", "--events=1-2", "--events=1-2"],
-    &["run", "a.c", "--events=1-2", "--stats"],
-    &["resume", "s", "--stats", "--events", "1-2"],
-    &["bench", "1", "--events=1-2"],
-    &["eval", "a.c", "--events=1-2"],
-    &["save", "a.c", "1", "--events=1-2"],
-    &["four", "a.c", "a.c", "a.c", "a.c", "--events=1-2"],
     &["eval", "a.c", "--stats"],
     &["bench", "1", "--stats"],
     &["save", "a.c", "1", "--stats"],
@@ -132,6 +114,27 @@ const USAGES: &[&[&str]] = &[
 ];
 
 /// Words of runs of several files, of parts of a run, and of pictures.
+const USAGES_OF_EVENTS: &[&[&str]] = &[
+    &["run", "a.c", "--events"],
+    &["run", "a.c", "--events", "3"],
+    &["run", "a.c", "--events", "-3"],
+    &["run", "a.c", "--events=-3"],
+    &["run", "a.c", "--events=3-"],
+    &["run", "a.c", "--events", "3-2"],
+    &["run", "a.c", "--events", "0-2"],
+    &["run", "a.c", "--events", "1--2"],
+    &["run", "a.c", "--events", "1-2-3"],
+    &["run", "a.c", "--events", "1-a"],
+    &["run", "a.c", "--events", "1-165888000001"],
+    &["run", "a.c", "--events=1-2", "--events=1-2"],
+    &["run", "a.c", "--events=1-2", "--stats"],
+    &["resume", "s", "--stats", "--events", "1-2"],
+    &["bench", "1", "--events=1-2"],
+    &["eval", "a.c", "--events=1-2"],
+    &["save", "a.c", "1", "--events=1-2"],
+    &["four", "a.c", "a.c", "a.c", "a.c", "--events=1-2"],
+];
+
 const USAGES_OF_PARTS: &[&[&str]] = &[
     &["four", "a.c", "b.c", "c.c"],
     &["four", "a.c", "b.c", "c.c", "d.c", "e.c"],
@@ -177,5 +180,11 @@ fn other_words_are_no_request(rt: HostRuntime) -> Result<(), Fail> {
 #[test]
 fn other_words_of_parts_are_no_request(rt: HostRuntime) -> Result<(), Fail> {
     assert_usages(&rt, rt.alloc(), USAGES_OF_PARTS)?;
+    Ok(())
+}
+
+#[test]
+fn other_words_of_events_are_no_request(rt: HostRuntime) -> Result<(), Fail> {
+    assert_usages(&rt, rt.alloc(), USAGES_OF_EVENTS)?;
     Ok(())
 }
