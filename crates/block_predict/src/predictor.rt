@@ -2,7 +2,7 @@
 ghost use Rattle.std.specs.Prelude.{◌≡◌, ◌<◌, ◌+◌, ◌*◌, ◌%◌, All, length, IfOk, IfSome, [], get_or};
 ghost use Rattle.circular_buffer.specs.Buffer.{buffer};
 ghost use Rattle.block_predict.specs.Predicts as spec;
-ghost use Rattle.block_predict.specs.Predicts.{holding};
+ghost use Rattle.block_predict.specs.Predicts.{holding, with_history};
 ghost use Rattle.block_predict.specs.inside.Predicts.{AreBlocks};
 ghost use Rattle.block_predict.specs.Seeded.{entries_of};
 
@@ -14,12 +14,14 @@ use std::alloc::Global;
 use std::marker::Model;
 use trips_isa::{Inst, Op};
 
-/// A table of 1,024 exits, the history of exits, and a return stack of at most sixteen numbers.
+/// A table of 1,024 exits, the history of exits, a return stack of at most sixteen numbers, and how many frames may be
+/// in flight behind the oldest.
 #[derive(Drop)]
 pub struct Predictor {
     entries: Items<u8>,
     history: u16,
     stack: HeapCircularBuffer<u32>,
+    ahead: u8,
 }
 
 impl Model for Predictor {
@@ -28,10 +30,13 @@ impl Model for Predictor {
 
     ghost Value = { Holding };
 
-    ghost view = { λ p. holding p.entries p.history p.stack.items };
+    ghost view = { λ p. record (holding p.entries p.history p.stack.items) { ahead = p.ahead } };
 
     ghost invariant = { λ p. IsPredictor p.entries p.history p.stack.capacity };
 }
+
+// As many frames behind the oldest as there are besides it.
+const MOST_AHEAD: u8 = 7;
 
 // The place in the table of a block under a history.
 fn place(number: u32, history: u16) -> usize
@@ -115,7 +120,22 @@ impl Predictor {
             entries: Items::from_vec(entries),
             history: 0,
             stack,
+            ahead: MOST_AHEAD,
         })
+    }
+
+    /// From now on at most so many frames are in flight behind the oldest.
+    pub fn limit(&mut self, ahead: u8)
+        ensures { self.new ≡ record self.old { ahead = ahead } }
+    {
+        self.ahead = ahead;
+    }
+
+    /// How many frames may be in flight behind the oldest.
+    pub fn ahead(&self) -> u8
+        ensures value { result ≡ self.now.ahead }
+    {
+        self.ahead
     }
 
     // The branch that the table names for a block.
@@ -186,7 +206,7 @@ impl Predictor {
     /// Puts the history back.
     pub fn repair(&mut self, history: u16)
         requires { history < 1024 }
-        ensures { self.new ≡ holding self.old.entries history self.old.stack }
+        ensures { self.new ≡ with_history history self.old }
     {
         self.history = history;
     }

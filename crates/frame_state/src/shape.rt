@@ -8,7 +8,8 @@ use crate::target::slot_of;
 use base::Flags;
 use trips_isa::{Block, Inst, Role, Sense, role_of};
 
-/// What the slots of a block want, as flags by slot, and whether it may make a system call. It is made once for a block.
+/// What the slots of a block want, as flags by slot, and whether it may make a system call. It is made once for a
+/// block.
 #[derive(Drop)]
 pub struct Shape {
     pub(crate) there: Flags<128, 2>,

@@ -12,7 +12,7 @@ use Rattle.trips_isa.specs.Forms.{form_of}
 use Rattle.block_cases.specs.Orders.{slot_of}
 use Rattle.operand_net.specs.declared.parcel.Stand.{Stand}
 use Rattle.operand_net.specs.inside.IsStands.{is_here}
-use Rattle.block_predict.specs.Predicts.{Holding, holding, entered, predicted, after}
+use Rattle.block_predict.specs.Predicts.{Holding, with_history, entered, predicted, after}
 use Rattle.commit_flush_spec.specs.Frames.{Frame, Exit, at, fresh}
 use Rattle.commit_flush_spec.specs.Older.{Older, after_all, committed, follows}
 use Rattle.commit_flush_spec.specs.Older as older
@@ -33,7 +33,7 @@ use Rattle.grid_cycle_spec.specs.Grid.{Grid, Fetching}
 use Rattle.grid_cycle_spec.specs.Acting.{known_next, may}
 use Rattle.grid_cycle_spec.specs.Fetches.{filled, fills, fill_where, fetch_on, fetch_ends, one_fetched}
 use Rattle.grid_cycle_spec.specs.Fetches.{begun_predicted}
-use Rattle.grid_cycle_spec.specs.Fetches.{begun, begun_guess, begun_behind, begun_after, has_room, fetch_begins}
+use Rattle.grid_cycle_spec.specs.Fetches.{begun, begun_guess, begun_behind, begun_after, may_begin, fetch_begins}
 use Rattle.grid_cycle_spec.specs.Fetches.{fetches, stands}
 use Rattle.grid_cycle_spec.specs.inside.Arrivals.{is_waiting}
 use Rattle.grid_bound.specs.inside.UnderWay.{form_travels, Nothing, Tied, to_come, travels}
@@ -220,7 +220,7 @@ module _ {W : Type 0} (blocks : List Block) (good : AllGood blocks) (budget leas
       → Going blocks budget least g → Going blocks budget least (begun_behind blocks f x g)
   behind_going f None g e r = guess_going g.standing f g e r
   behind_going f (Some x) g e r = begun_with x.successor (stands g.standing x.successor)
-      (holding g.predictor.entries (entered (g.histories f.number) x.exit) g.predictor.stack) g
+      (with_history (entered (g.histories f.number) x.exit) g.predictor) g
       (ap (λ y. follows y x.successor) e ∙ same x.successor) r
 
   youngest_going : (f : Frame) (fs : List Frame) (o : Older) (g : Grid W)
@@ -239,7 +239,7 @@ module _ {W : Type 0} (blocks : List Block) (good : AllGood blocks) (budget leas
   pub begins_going : (o : Option Fetching) (g : Grid W) → Going blocks budget least g
       → Going blocks budget least (fetch_begins blocks o g)
   begins_going (Some f) g r = r
-  begins_going None g r = go (has_room g.window)
+  begins_going None g r = go (may_begin g)
     where
       go : (b : Bool) → Going blocks budget least (cond b (begun_after blocks g.window.frames g) g)
       go true = after_going g.window.frames g refl r

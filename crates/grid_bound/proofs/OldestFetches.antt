@@ -1,10 +1,10 @@
 -- Part (2): with a frame in flight the oldest one stays as it is; without one the fetch of the next block goes on.
 use Rattle.std.proofs.Common.{◌≡◌, ℕ, zero, suc, ◌+◌, ◌-◌, ◌^◌, ◌<◌, ◌==◌, ◌&&◌, ◌⊎◌, inl, inr}
 use Rattle.std.proofs.Common.{Bool, true, false, cond}
-use Rattle.std.proofs.Common.{not, nat_lt, List, [], ◌∷◌, ◌++◌, Option, Some, None, is_none, is_some, slice_get}
+use Rattle.std.proofs.Common.{not, nat_lt, length, List, [], ◌∷◌, ◌++◌, Option, Some, None, is_none, is_some, slice_get}
 use Rattle.std.proofs.Common.{slice_index, slice_index_or, slice_set, refl, sym, ap, ap₂, ◌∙◌, subst, arith}
 use Rattle.std.proofs.Math.Path.{fun_ext}
-use Rattle.std.proofs.lemmas.Bool.{cond_both, cond-true, cond-false, or_parts, eqb-false, ne_eqb, eq-eqb}
+use Rattle.std.proofs.lemmas.Bool.{cond_both, cond-true, cond-false, or_parts, eqb-false, ne_eqb, eq-eqb, le-ltb}
 use Rattle.std.proofs.lemmas.List.{get_or-set_other}
 use Rattle.trips_isa.specs.declared.block.Block.{Block}
 use Rattle.trips_isa.specs.declared.block.Inst.{Inst}
@@ -29,7 +29,7 @@ use Rattle.commit_flush_spec.proofs.Numbers.{lowest_is}
 use Rattle.grid_cycle_spec.specs.Grid.{Grid, Fetching}
 use Rattle.grid_cycle_spec.specs.Acting.{is_done, may}
 use Rattle.grid_cycle_spec.specs.Fetches.{filled, fills, fill_where, fetch_on, fetch_ends, begun, stands}
-use Rattle.grid_cycle_spec.specs.Fetches.{begun_predicted, begun_guess, begun_behind, begun_after, has_room}
+use Rattle.grid_cycle_spec.specs.Fetches.{begun_predicted, begun_guess, begun_behind, begun_after, may_begin}
 use Rattle.grid_cycle_spec.specs.Fetches.{fetch_begins, begins, fetches}
 use Rattle.grid_bound.specs.inside.Course.{Course}
 use Rattle.grid_bound.specs.inside.Lane.{Phase, Absent, Idle, Front, Stage, Running}
@@ -113,7 +113,7 @@ module _ {W : Type 0} (blocks : List Block) (budget : ℕ) where
     where
       go : (o : Option Fetching) → Begun g (fetch_begins blocks o g)
       go (Some f) = refl
-      go None = cond_both (has_room g.window) (begun_after blocks g.window.frames g) g (Begun g)
+      go None = cond_both (may_begin g) (begun_after blocks g.window.frames g) g (Begun g)
           (λ e. after_begun g.window.frames g) (λ e. refl)
 
   -- what is seen of a frame hangs on neither
@@ -234,8 +234,9 @@ module _ {W : Type 0} (blocks : List Block) (budget : ℕ) (g : Grid W) (i : g.w
     pub stage : stage_of c h h.window.frames ≡ fetching generation c s
     pub frames : (h.window.frames ≡ []) ⊎ (h.window.frames ≡ fresh 0 g.window.state.next b ∷ [])
 
-  no_frame : has_room g.window ≡ true
-  no_frame = ap (λ l. is_some (lowest_empty 8 0 l) && not (after_all l (committed g.window.state)).serial) i
+  no_frame : may_begin g ≡ true
+  no_frame = ap (λ l. (is_some (lowest_empty 8 0 l) && not (after_all l (committed g.window.state)).serial)
+      && not (nat_lt g.predictor.ahead (length l))) i ∙ ap not (le-ltb g.predictor.ahead 0 (omega arith))
 
   -- the next block may be fetched
   next_may : (k : ℕ) → k ≡ g.window.state.next → can blocks budget (window.Fetch k) g.window ≡ Done
@@ -263,7 +264,7 @@ module _ {W : Type 0} (blocks : List Block) (budget : ℕ) (g : Grid W) (i : g.w
   })
     where
       it : begins blocks g ≡ B
-      it = ap (λ o. fetch_begins blocks o g) e ∙ cond-true (has_room g.window) _ _ no_frame
+      it = ap (λ o. fetch_begins blocks o g) e ∙ cond-true (may_begin g) _ _ no_frame
           ∙ ap (λ l. begun_after blocks l g) i
 
   -- a fetch whose time is over fills a frame

@@ -20,7 +20,7 @@ use Rattle.grid_cycle_spec.specs.Choosing.{each, with_frame}
 use Rattle.grid_cycle_spec.specs.Sending.{enters_if, enter_both}
 use Rattle.grid_cycle_spec.specs.Ends.{seal_one, seal_each, commit_in, commit_oldest, ends}
 use Rattle.grid_cycle_spec.specs.Fetches.{fill_where, fetch_on, fetch_ends, begun, begun_predicted}
-use Rattle.grid_cycle_spec.specs.Fetches.{begun_guess, begun_behind, begun_after, has_room}
+use Rattle.grid_cycle_spec.specs.Fetches.{begun_guess, begun_behind, begun_after, may_begin}
 use Rattle.grid_cycle_spec.specs.Fetches.{fetch_begins, begins, fetches}
 use Rattle.grid_cycle_spec.specs.Banks.{read_chosen}
 use Rattle.grid_cycle_spec.specs.DataTiles.{tile_by, unasked, load_answered, waits_now, by_block}
@@ -123,7 +123,7 @@ module _ {W : Type 0} {s : Kinds} (blocks : List Block) (budget : ℕ) (R : Grid
   -- the begin of a fetch keeps the relation
   pub begins_keeps : (o : Option Fetching) (g : Grid W) → R g (fetch_begins blocks o g)
   begins_keeps (Some f) g = k.same g
-  begins_keeps None g = either g (begun_after blocks g.window.frames g) g (has_room g.window)
+  begins_keeps None g = either g (begun_after blocks g.window.frames g) g (may_begin g)
       (after_keeps g.window.frames g) (k.same g)
 
   -- part (2), the fetch unit, keeps the relation

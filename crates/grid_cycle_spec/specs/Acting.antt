@@ -3,7 +3,7 @@ use Rattle.std.specs.Prelude.{ℕ, ◌+◌, Bool, true, false, cond, List, [], �
 use Rattle.std.specs.Prelude.{Option, Some, None}
 use Rattle.trips_isa.specs.declared.block.Block.{Block}
 use Rattle.trips_isa.specs.declared.run.Counts.{Counts}
-use Rattle.block_predict.specs.Predicts.{holding}
+use Rattle.block_predict.specs.Predicts.{with_history}
 use Rattle.commit_flush_spec.specs.Causes.{Happened, Done, NotNow}
 use Rattle.commit_flush_spec.specs.Frames.{Frame}
 use Rattle.commit_flush_spec.specs.Older.{after_all, committed, follows}
@@ -42,7 +42,7 @@ settled g = record g {
 
 -- the history goes back to that of the eldest flushed frame
 abbrev pub repaired : {W : Type 0} → ℕ → Grid W → Grid W
-repaired history g = record g { predictor = holding g.predictor.entries history g.predictor.stack }
+repaired history g = record g { predictor = with_history history g.predictor }
 
 -- so many frames more have been flushed
 abbrev pub flushed_more : ℕ → Counts → Counts

@@ -1,6 +1,6 @@
 -- Part (2) of a cycle: a fetch ends, and the next one begins (docs/GRID.md, "Fetches").
 use Rattle.std.specs.Prelude.{ℕ, zero, suc, ◌+◌, ◌-◌, ◌==◌, Bool, true, false, cond, ◌&&◌, not, List}
-use Rattle.std.specs.Prelude.{[], ◌∷◌, Option, Some, None, is_some}
+use Rattle.std.specs.Prelude.{[], ◌∷◌, Option, Some, None, is_some, length, nat_lt}
 use Rattle.trips_isa.specs.declared.block.Block.{Block}
 use Rattle.trips_isa.specs.declared.run.Counts.{Counts}
 use Rattle.block_predict.specs.Predicts.{entered, predicted, after}
@@ -95,10 +95,18 @@ begun_after blocks (f ∷ (h ∷ fs)) g = begun_after blocks (h ∷ fs) g
 abbrev pub has_room : Window → Bool
 has_room w = is_some (lowest_empty 8 0 w.frames) && not (after_all w.frames (committed w.state)).serial
 
+-- whether no more frames are in flight than may be: the oldest, and those behind it
+abbrev pub may_add : {W : Type 0} → Grid W → Bool
+may_add g = not (nat_lt g.predictor.ahead (length g.window.frames))
+
+-- whether a fetch may begin
+abbrev pub may_begin : {W : Type 0} → Grid W → Bool
+may_begin g = has_room g.window && may_add g
+
 -- an idle fetch unit begins a fetch
 abbrev pub fetch_begins : {W : Type 0} → List Block → Option Fetching → Grid W → Grid W
 fetch_begins blocks (Some f) g = g
-fetch_begins blocks None g = cond (has_room g.window) (begun_after blocks g.window.frames g) g
+fetch_begins blocks None g = cond (may_begin g) (begun_after blocks g.window.frames g) g
 
 -- the fetch unit, where it is idle, begins a fetch
 abbrev pub begins : {W : Type 0} → List Block → Grid W → Grid W

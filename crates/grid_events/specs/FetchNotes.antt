@@ -7,7 +7,7 @@ use Rattle.commit_flush_spec.specs.Window.{lowest_empty}
 use Rattle.commit_flush_spec.specs.Window as window
 use Rattle.grid_cycle_spec.specs.Grid.{Grid, Fetching}
 use Rattle.grid_cycle_spec.specs.Acting.{may}
-use Rattle.grid_cycle_spec.specs.Fetches.{filled, stands, has_room, fetch_ends}
+use Rattle.grid_cycle_spec.specs.Fetches.{filled, stands, may_begin, fetch_ends}
 use Rattle.grid_events.specs.Notes.{Note, Begins, Predicts, GivesUp, Fetches}
 
 -- beside `fill_where`: a frame is filled, or the fetch is given up
@@ -49,7 +49,7 @@ after_notes blocks (f ∷ (h ∷ fs)) g = after_notes blocks (h ∷ fs) g
 -- beside `fetch_begins`
 abbrev pub begin_notes : {W : Type 0} → List Block → Option Fetching → Grid W → List Note
 begin_notes blocks (Some f) g = []
-begin_notes blocks None g = cond (has_room g.window) (after_notes blocks g.window.frames g) []
+begin_notes blocks None g = cond (may_begin g) (after_notes blocks g.window.frames g) []
 
 -- part (2): beside `fetches`
 abbrev pub fetches_notes : {W : Type 0} → List Block → ℕ → Grid W → List Note

@@ -14,7 +14,7 @@ use Rattle.commit_flush_spec.specs.Window.{Window, Fetch, can, happens, lowest_e
 use Rattle.grid_cycle_spec.specs.Grid.{Grid, Fetching, numbers_of}
 use Rattle.grid_cycle_spec.specs.Acting.{is_done, may}
 use Rattle.grid_cycle_spec.specs.Fetches.{fetch_ends, fetch_on, fill_where, fills, filled, begun_after, begun_behind}
-use Rattle.grid_cycle_spec.specs.Fetches.{begins, fetch_begins, has_room as has_room_for}
+use Rattle.grid_cycle_spec.specs.Fetches.{begins, fetch_begins, may_begin}
 use Rattle.grid_parts.specs.inside.Fetches.{due, nearer, with_less}
 use Rattle.grid_parts.specs.inside.Changes.{fetch_nearer, filled_by}
 use Rattle.grid_parts.proofs.PartFacts.{with_fetching}
@@ -188,18 +188,18 @@ block_is o f k e is = sym (ap block_in (e ∙ ap (found_in (λ h. Some h.block))
 -- the begin of a fetch --------------------------------------------------------------------------------
 
 module _ {W : Type 0} (blocks : List Block) (g : Grid W) where
-  idle_begins : (o : Option Fetching) (b : Bool) → is_none o ≡ true → has_room_for g.window ≡ b
+  idle_begins : (o : Option Fetching) (b : Bool) → is_none o ≡ true → may_begin g ≡ b
       → cond b (begun_after blocks g.window.frames g) g ≡ fetch_begins blocks o g
   idle_begins None b e r = ap (λ x. cond x (begun_after blocks g.window.frames g) g) (sym r)
   idle_begins (Some f) b e r = absurd (false≢true e)
 
   -- an idle fetch unit with room begins the fetch behind the frames
-  pub begins_idle : is_none g.fetching ≡ true → has_room_for g.window ≡ true
+  pub begins_idle : is_none g.fetching ≡ true → may_begin g ≡ true
       → begun_after blocks g.window.frames g ≡ begins blocks g
   begins_idle e r = idle_begins g.fetching true e r
 
   -- where there is no room for a frame, no fetch begins
-  pub begins_full : is_none g.fetching ≡ true → has_room_for g.window ≡ false → g ≡ begins blocks g
+  pub begins_full : is_none g.fetching ≡ true → may_begin g ≡ false → g ≡ begins blocks g
   begins_full e r = idle_begins g.fetching false e r
 
   busy_begins : (o : Option Fetching) → is_none o ≡ false → g ≡ fetch_begins blocks o g

@@ -6,7 +6,7 @@ use Rattle.std.proofs.lemmas.Bool.{cases_eq, eq-eqb, ne_eqb}
 use Rattle.std.proofs.lemmas.List.{length-map}
 use Rattle.operand_net.specs.Places.{Places}
 use Rattle.operand_net.specs.declared.parcel.Stand.TheVariants.{Nowhere}
-use Rattle.block_predict.specs.Predicts.{Holding, holding}
+use Rattle.block_predict.specs.Predicts.{Holding, with_history}
 use Rattle.commit_flush_spec.specs.Frames.{Frame}
 use Rattle.grid_cycle_spec.specs.Grid.{Grid, Fetching, numbers_of, is_of, forget}
 use Rattle.grid_cycle_spec.specs.Acting.{repaired, flushed_more, flushed}
@@ -80,7 +80,7 @@ flushing p f n g = record g { predictor = p; fetching = f; standing = None; coun
 
 -- the parts of a flush, where g is what has forgotten the frames
 pub flush_parts : {W : Type 0} (x g : Grid W) (history : ℕ) (gone : List ℕ) (p : Holding) (f : Option Fetching)
-    → g ≡ forget_each gone x → p ≡ holding g.predictor.entries history g.predictor.stack → f ≡ None
+    → g ≡ forget_each gone x → p ≡ with_history history g.predictor → f ≡ None
     → flushing p f (length gone) g ≡ flushed_under history gone x
 flush_parts x g history gone p f eg ep ef =
     ap₂ (λ a b. flushing a b (length gone) g) ep ef ∙ ap (under history (length gone)) eg

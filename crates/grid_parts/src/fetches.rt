@@ -126,6 +126,18 @@ impl<V: Windows, W> Grid<V, W> {
         }
     }
 
+    /// Whether a fetch may begin: a frame is empty, the youngest makes no system call, and no more frames are in
+    /// flight than may be.
+    pub fn may_begin(&self) -> bool
+        ensures { result ≡ spec.may_begin (seen (V.held self.now.window) self.now.state) }
+    {
+        if self.window.has_room() {
+            self.window.numbers().len() <= self.state.predictor.ahead() as usize
+        } else {
+            false
+        }
+    }
+
     /// An idle fetch unit begins a fetch.
     pub fn fetch_begins(&mut self)
         ensures change { seen (V.held self.new.window) self.new.state
@@ -133,7 +145,7 @@ impl<V: Windows, W> Grid<V, W> {
         ensures same { self.new.window ≡ self.old.window }
     {
         if self.state.is_idle() {
-            if self.window.has_room() {
+            if self.may_begin() {
                 let frames = self.window.numbers();
                 self.begins_after(frames.as_slice());
             }

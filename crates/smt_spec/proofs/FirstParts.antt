@@ -1,12 +1,12 @@
 -- The program that comes first sees each part of a cycle as a grid of its own does.
 use Rattle.std.proofs.Common.{◌≡◌, ℕ, ◌+◌, ◌*◌, ◌/◌, ◌%◌, ◌<◌, ◌&&◌, ◌⊎◌, inl, inr, true, cond, nat_lt, List, []}
-use Rattle.std.proofs.Common.{◌∷◌, length, Option, None, is_some, refl, ap, ◌∙◌, arith}
-use Rattle.std.proofs.lemmas.Bool.{cond_both, cond-true, lt-ltb}
+use Rattle.std.proofs.Common.{◌∷◌, length, Option, None, is_some, not, refl, ap, ◌∙◌, arith}
+use Rattle.std.proofs.lemmas.Bool.{cond_both, cond-true, lt-ltb, le-ltb}
 use Rattle.operand_net.specs.Places.{Places}
 use Rattle.commit_flush_spec.specs.Frames.{Frame}
 use Rattle.grid_cycle_spec.specs.Grid.{Grid, Fetching, numbers_of}
 use Rattle.grid_cycle_spec.specs.Ends.{ends}
-use Rattle.grid_cycle_spec.specs.Fetches.{fetch_ends, begins, fetches}
+use Rattle.grid_cycle_spec.specs.Fetches.{fetch_ends, begins, begun_after, fetches}
 use Rattle.grid_cycle_spec.specs.Banks.{bank_turn, reads_answered}
 use Rattle.grid_cycle_spec.specs.DataTiles.{data_turn, answers}
 use Rattle.grid_cycle_spec.specs.inside.Arrivals.{arrivals}
@@ -81,7 +81,12 @@ module _ {W : Type 0} (images : Images) (budget : ℕ) (p : ℕ) (ps : List ℕ)
       begun l o h e f i j = ap (λ (z : Grid W). nat_lt (length z.window.frames) 2 && is_some (begins (images p)
           z).fetching)
           (same_grid h (i ∙ e) (j ∙ f))
+          ∙ ap (λ b. is_some (cond b (begun_after (images p) [] (still h)) (still h)).fetching)
+          (ap not (le-ltb h.predictor.ahead 0 (omega arith)))
         where
+          still : Grid W → Grid W
+          still k = record k { window = record k.window { frames = [] }; fetching = None }
+
           same_grid : (h : Grid W) → h.window.frames ≡ [] → h.fetching ≡ None
               → h ≡ record h { window = record h.window { frames = [] }; fetching = None }
           same_grid h a b = ap (λ l. record h { window = record h.window { frames = l } }) a

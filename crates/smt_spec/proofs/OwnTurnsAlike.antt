@@ -24,7 +24,7 @@ use Rattle.grid_cycle_spec.specs.Sending.{enters, enters_if, enter_both}
 use Rattle.grid_cycle_spec.specs.Ends.{seal_one, seal_each, learning, committed_as, commit_in, commit_oldest, ends}
 use Rattle.grid_cycle_spec.specs.Ends.{one_committed}
 use Rattle.grid_cycle_spec.specs.Fetches.{fill_where, fetch_on, fetch_ends, begun_predicted, begun_guess}
-use Rattle.grid_cycle_spec.specs.Fetches.{begun_behind, begun_after, has_room, fetch_begins, begins}
+use Rattle.grid_cycle_spec.specs.Fetches.{begun_behind, begun_after, may_begin, fetch_begins, begins}
 use Rattle.grid_cycle_spec.specs.Units.{result_enters, slot_enters, rests, result_chosen, in_unit}
 use Rattle.grid_cycle_spec.specs.Banks.{answers_read, read_chosen, bank_turn}
 use Rattle.grid_cycle_spec.specs.DataTiles.{unasked, load_answered, waits_now, by_block, wrong_load, store_resolved}
@@ -156,7 +156,7 @@ module _ {V W : Type 0} (u : ℕ → ℕ) (w : W) (c : ℕ) where
 
     begin_alike : (o : Option Fetching) → Alike (fetch_begins blocks o) (fetch_begins blocks o)
     begin_alike (Some f) g = refl
-    begin_alike None g = either_alike (has_room g.window) (begun_after blocks g.window.frames g) g _ _
+    begin_alike None g = either_alike (may_begin g) (begun_after blocks g.window.frames g) g _ _
         (after_alike g.window.frames g) refl
 
     -- the begin of a fetch
