@@ -1,7 +1,6 @@
--- The cycle bound of the runs of a seed, from any state and from the start.
+-- The cycle bound of runs, from any state and from the start.
 use Rattle.std.proofs.Common.{◌≡◌, ℕ, ◌+◌, ◌^◌, ◌<◌, ◌≤◌, Bool, true, false, List, [], length}
 use Rattle.std.proofs.Common.{Option, Some, None, slice_get, refl, sym, ap, ◌∙◌, subst, true≢false, arith}
-use Rattle.std.proofs.Math.Nat.{mod-lt}
 use Rattle.trips_isa.specs.declared.block.Block.{Block}
 use Rattle.trips_isa.specs.declared.causes.TrapCause.{TrapCause}
 use Rattle.trips_isa.specs.declared.run.Ending.{Ending}
@@ -11,10 +10,8 @@ use Rattle.trips_isa.specs.declared.run.Stepped.{Stepped}
 use Rattle.trips_isa.specs.declared.run.Stepped.TheVariants as stepped
 use Rattle.trips_isa.specs.Stores.{data_size}
 use Rattle.trips_isa.specs.Machine.{State, runs, start}
-use Rattle.operand_net.specs.Seeded as holds
-use Rattle.operand_net.specs.declared.weather.PcgWeather.{PcgWeather}
-use Rattle.block_predict.specs.Predicts.{Holding, holding}
-use Rattle.block_predict.specs.Seeded as exits
+use Rattle.grid_cycle.specs.declared.weather.AnyWeather.{AnyWeather}
+use Rattle.block_predict.specs.Predicts.{Holding}
 use Rattle.commit_flush_spec.specs.InFlight.{opened}
 use Rattle.commit_flush_spec.specs.inside.Invariant.{AllGood}
 use Rattle.commit_flush_spec.specs.inside.Laws.{IsWhole, WindowOk}
@@ -25,7 +22,9 @@ use Rattle.grid_machine.specs.Answered.{ComesTo, IsCutOff}
 use Rattle.grid_machine.specs.Endings.{ending_of, is_going}
 use Rattle.grid_machine.specs.WholeRuns.{most_cycles}
 use Rattle.grid_bound.specs.inside.GoesOn.{GoesOn}
-use Rattle.grid_machine.specs.Seeds.{IsAfter, IsRan, IsRanFrom, next_hold}
+use Rattle.grid_cycle.specs.Conditions.{IsAfter, IsRan, IsRanFrom, next_hold, predictor_of, weather_of}
+use Rattle.grid_cycle.specs.declared.conditions.Conditions.{Conditions}
+use Rattle.grid_cycle.specs.inside.Weathers.{any_within}
 use Rattle.grid_cycle.specs.Traps.{is_trap}
 use Rattle.grid_cycle.proofs.Making.{runs_inside, steps_made}
 use Rattle.grid_cycle.proofs.RunCosts.{any_cost, end_cost, goes_on, goes_short, some_cost}
@@ -45,10 +44,10 @@ trap_at stepped.Ended next block cause e = absurd (cc)
 trap_at stepped.StackFull next block cause e = absurd (cc)
 trap_at (stepped.Trap c) next block cause e = cc
 
--- a run of a seed ------------------------------------------------------------------------------------
+-- a run ------------------------------------------------------------------------------------
 
-hold_most : (w : PcgWeather) → next_hold w ≤ 3
-hold_most w = let l : next_hold w < 4 = mod-lt _ (omega arith) in omega (arith, l)
+hold_most : (w : AnyWeather) → next_hold w ≤ 3
+hold_most w = any_within w.holds w.drawn
 
 -- a window opens right on a state whose trace is empty
 opens_on : (blocks : List Block) (budget : ℕ) (s : State) → IsWhole s → s.next < length blocks → s.trace ≡ []
@@ -63,13 +62,13 @@ opens_on blocks budget s whole here fresh = record {
 }
 
 module _ (blocks : List Block) (good : AllGood blocks) (s : State) (full : IsWhole s) (here : s.next < length blocks)
-    (budget seed : ℕ) (small : budget < 2 ^ 32) (answer : Option Ending)
-    (h : Grid PcgWeather) (ran : IsRanFrom blocks s budget seed answer h) where
+    (budget : ℕ) (conditions : Conditions) (small : budget < 2 ^ 32) (answer : Option Ending)
+    (h : Grid AnyWeather) (ran : IsRanFrom blocks s budget conditions answer h) where
   abbrev predictor : Holding
-  predictor = holding (exits.entries_of seed) 0 []
+  predictor = predictor_of conditions
 
-  abbrev weather : PcgWeather
-  weather = record { generator = holds.generator seed }
+  abbrev weather : AnyWeather
+  weather = weather_of conditions
 
   opens_right : WindowOk blocks budget (opened s)
   opens_right = opens_on blocks budget s full here ran.fresh
@@ -133,36 +132,37 @@ module _ (blocks : List Block) (good : AllGood blocks) (s : State) (full : IsWho
 
 -- the laws -------------------------------------------------------------------------------------------
 
--- the run of a seed from a state ends within its budget
-pub ends_from : (blocks : List Block) (s : State) (budget seed : ℕ) (h : Grid PcgWeather) → AllGood blocks
-    → IsWhole s → s.next < length blocks → budget < 2 ^ 32 → IsRanFrom blocks s budget seed None h → ⊥
-ends_from blocks s budget seed h good full here small ran =
-    ends blocks good s full here budget seed small None h ran ran.comes
+-- the run from a state ends within its budget
+pub ends_from : (blocks : List Block) (s : State) (budget : ℕ) (conditions : Conditions) (h : Grid AnyWeather)
+    → AllGood blocks
+    → IsWhole s → s.next < length blocks → budget < 2 ^ 32 → IsRanFrom blocks s budget conditions None h → ⊥
+ends_from blocks s budget conditions h good full here small ran =
+    ends blocks good s full here budget conditions small None h ran ran.comes
 
 -- a run that ends in no trap makes no more cycles than the blocks of its trace cost
-pub within_from : (blocks : List Block) (s : State) (budget seed : ℕ) (e : Ending) (h : Grid PcgWeather)
-    → AllGood blocks → IsWhole s → s.next < length blocks → budget < 2 ^ 32
-    → is_trap e ≡ false → IsRanFrom blocks s budget seed (Some e) h
+pub within_from : (blocks : List Block) (s : State) (budget : ℕ) (conditions : Conditions) (e : Ending)
+    (h : Grid AnyWeather) → AllGood blocks → IsWhole s → s.next < length blocks → budget < 2 ^ 32
+    → is_trap e ≡ false → IsRanFrom blocks s budget conditions (Some e) h
     → h.counts.cycles ≤ cost_of blocks h.window.state.trace
-within_from blocks s budget seed e h good full here small plain ran =
-    within blocks good s full here budget seed small (Some e) h ran e plain ran.comes
+within_from blocks s budget conditions e h good full here small plain ran =
+    within blocks good s full here budget conditions small (Some e) h ran e plain ran.comes
 
 -- a run that ends in a trap makes at most one greatest cost of a block more
-pub trapped_from : (blocks : List Block) (s : State) (budget seed : ℕ) (e : Ending) (h : Grid PcgWeather)
-    → AllGood blocks → IsWhole s → s.next < length blocks → budget < 2 ^ 32
-    → IsRanFrom blocks s budget seed (Some e) h
+pub trapped_from : (blocks : List Block) (s : State) (budget : ℕ) (conditions : Conditions) (e : Ending)
+    (h : Grid AnyWeather) → AllGood blocks → IsWhole s → s.next < length blocks → budget < 2 ^ 32
+    → IsRanFrom blocks s budget conditions (Some e) h
     → h.counts.cycles ≤ cost_of blocks h.window.state.trace + greatest_cost
-trapped_from blocks s budget seed e h good full here small ran =
-    trapped blocks good s full here budget seed small (Some e) h ran
+trapped_from blocks s budget conditions e h good full here small ran =
+    trapped blocks good s full here budget conditions small (Some e) h ran
 
 -- a run that ends in a trap makes at most the cost of the block that traps more
-pub trapped_at_from : (blocks : List Block) (s : State) (budget seed block : ℕ) (cause : TrapCause)
-    (h : Grid PcgWeather) → AllGood blocks → IsWhole s → s.next < length blocks → budget < 2 ^ 32
-    → IsRanFrom blocks s budget seed (Some (ending.Trap block cause)) h
+pub trapped_at_from : (blocks : List Block) (s : State) (budget : ℕ) (conditions : Conditions) (block : ℕ)
+    (cause : TrapCause) (h : Grid AnyWeather) → AllGood blocks → IsWhole s → s.next < length blocks → budget < 2 ^ 32
+    → IsRanFrom blocks s budget conditions (Some (ending.Trap block cause)) h
     → (block < length blocks)
     × (h.counts.cycles ≤ cost_of blocks h.window.state.trace + cost_in (slice_get blocks block))
-trapped_at_from blocks s budget seed block cause h good full here small ran =
-    trapped_block blocks good s full here budget seed small (Some (ending.Trap block cause)) h ran block cause
+trapped_at_from blocks s budget conditions block cause h good full here small ran =
+    trapped_block blocks good s full here budget conditions small (Some (ending.Trap block cause)) h ran block cause
     ran.comes
 
 -- the start of an image that fits is such a state
@@ -171,34 +171,41 @@ start_whole : (blocks : List Block) (bytes input : List ℕ) → 0 < length bloc
 start_whole blocks bytes input some fits = (opens blocks 0 bytes input some fits).whole
 
 -- the same from the start
-pub runs_end : (blocks : List Block) (bytes input : List ℕ) (budget seed : ℕ) (h : Grid PcgWeather) → AllGood blocks
+pub runs_end : (blocks : List Block) (bytes input : List ℕ) (budget : ℕ) (conditions : Conditions) (h : Grid AnyWeather)
+    → AllGood blocks
     → 0 < length blocks → length bytes ≤ data_size → 0 < budget → budget < 2 ^ 32
-    → IsRan blocks bytes input budget seed None h → ⊥
-runs_end blocks bytes input budget seed h good some fits positive small ran =
-    ends_from blocks (start bytes input) budget seed h good (start_whole blocks bytes input some fits) some small ran
-
-pub runs_within : (blocks : List Block) (bytes input : List ℕ) (budget seed : ℕ) (e : Ending) (h : Grid PcgWeather)
-    → AllGood blocks → 0 < length blocks → length bytes ≤ data_size → 0 < budget → budget < 2 ^ 32
-    → is_trap e ≡ false → IsRan blocks bytes input budget seed (Some e) h
-    → h.counts.cycles ≤ cost_of blocks h.window.state.trace
-runs_within blocks bytes input budget seed e h good some fits positive small plain ran =
-    within_from blocks (start bytes input) budget seed e h good (start_whole blocks bytes input some fits) some small
-    plain ran
-
-pub runs_trapped : (blocks : List Block) (bytes input : List ℕ) (budget seed : ℕ) (e : Ending) (h : Grid PcgWeather)
-    → AllGood blocks → 0 < length blocks → length bytes ≤ data_size → 0 < budget → budget < 2 ^ 32
-    → IsRan blocks bytes input budget seed (Some e) h
-    → h.counts.cycles ≤ cost_of blocks h.window.state.trace + greatest_cost
-runs_trapped blocks bytes input budget seed e h good some fits positive small ran =
-    trapped_from blocks (start bytes input) budget seed e h good (start_whole blocks bytes input some fits) some small
+    → IsRan blocks bytes input budget conditions None h → ⊥
+runs_end blocks bytes input budget conditions h good some fits positive small ran =
+    ends_from blocks (start bytes input) budget conditions h good (start_whole blocks bytes input some fits) some small
     ran
 
-pub runs_trapped_at : (blocks : List Block) (bytes input : List ℕ) (budget seed block : ℕ) (cause : TrapCause)
-    (h : Grid PcgWeather) → AllGood blocks → 0 < length blocks → length bytes ≤ data_size → 0 < budget
+pub runs_within : (blocks : List Block) (bytes input : List ℕ) (budget : ℕ) (conditions : Conditions) (e : Ending)
+    (h : Grid AnyWeather)
+    → AllGood blocks → 0 < length blocks → length bytes ≤ data_size → 0 < budget → budget < 2 ^ 32
+    → is_trap e ≡ false → IsRan blocks bytes input budget conditions (Some e) h
+    → h.counts.cycles ≤ cost_of blocks h.window.state.trace
+runs_within blocks bytes input budget conditions e h good some fits positive small plain ran =
+    within_from blocks (start bytes input) budget conditions e h good (start_whole blocks bytes input some fits) some
+    small
+    plain ran
+
+pub runs_trapped : (blocks : List Block) (bytes input : List ℕ) (budget : ℕ) (conditions : Conditions) (e : Ending)
+    (h : Grid AnyWeather)
+    → AllGood blocks → 0 < length blocks → length bytes ≤ data_size → 0 < budget → budget < 2 ^ 32
+    → IsRan blocks bytes input budget conditions (Some e) h
+    → h.counts.cycles ≤ cost_of blocks h.window.state.trace + greatest_cost
+runs_trapped blocks bytes input budget conditions e h good some fits positive small ran =
+    trapped_from blocks (start bytes input) budget conditions e h good (start_whole blocks bytes input some fits) some
+    small
+    ran
+
+pub runs_trapped_at : (blocks : List Block) (bytes input : List ℕ) (budget : ℕ) (conditions : Conditions) (block : ℕ)
+    (cause : TrapCause) (h : Grid AnyWeather) → AllGood blocks → 0 < length blocks → length bytes ≤ data_size
+    → 0 < budget
     → budget < 2 ^ 32
-    → IsRan blocks bytes input budget seed (Some (ending.Trap block cause)) h
+    → IsRan blocks bytes input budget conditions (Some (ending.Trap block cause)) h
     → (block < length blocks)
     × (h.counts.cycles ≤ cost_of blocks h.window.state.trace + cost_in (slice_get blocks block))
-runs_trapped_at blocks bytes input budget seed block cause h good some fits positive small ran =
-    trapped_at_from blocks (start bytes input) budget seed block cause h good
+runs_trapped_at blocks bytes input budget conditions block cause h good some fits positive small ran =
+    trapped_at_from blocks (start bytes input) budget conditions block cause h good
     (start_whole blocks bytes input some fits) some small ran

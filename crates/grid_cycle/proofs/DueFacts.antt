@@ -2,10 +2,10 @@
 -- where one is given up, and where one fills a frame.
 use Rattle.std.proofs.Common.{◌≡◌, ℕ, zero, suc, ◌+◌, ◌<◌, ◌≤◌, ◌==◌, Bool, true, false, cond, not, ◌&&◌, ◌||◌, List}
 use Rattle.std.proofs.Common.{[], ◌∷◌, ◌++◌, Option, Some, None, is_none, is_some, slice_get}
-use Rattle.std.proofs.Common.{slice_set, ◌⊎◌, inl, inr}
+use Rattle.std.proofs.Common.{slice_set, ◌⊎◌, inl, inr, length, nat_lt}
 use Rattle.std.proofs.Common.{refl, sym, ap, ap₂, ◌∙◌, arith}
 use Rattle.std.specs.Prelude.{slice_index}
-use Rattle.std.proofs.lemmas.Bool.{cases_lt, eq-eqb, false≢true}
+use Rattle.std.proofs.lemmas.Bool.{cases_lt, eq-eqb, false≢true, le-ltb, lt-ltb}
 use Rattle.trips_isa.specs.declared.block.Block.{Block}
 use Rattle.commit_flush_spec.specs.Causes.{Done, NoBlock, NoFrame}
 use Rattle.commit_flush_spec.specs.Frames.{Frame, fresh}
@@ -17,7 +17,7 @@ use Rattle.commit_flush_spec.proofs.Flow.{some_of}
 use Rattle.commit_flush_spec.proofs.Frames.{not_now}
 use Rattle.block_predict.specs.Predicts.{predicted}
 use Rattle.grid_cycle_spec.specs.Acting.{is_done, may}
-use Rattle.grid_cycle_spec.specs.Fetches.{begun_after, fetch_ends, fetch_on, fill_where, fills, has_room}
+use Rattle.grid_cycle_spec.specs.Fetches.{begun_after, fetch_ends, fetch_on, fill_where, fills, may_begin}
 use Rattle.grid_cycle_spec.specs.Grid.{Fetching, Grid}
 use Rattle.grid_bound.proofs.OldestFetches.{done_is, going}
 use Rattle.grid_parts.specs.inside.Asked.{block_of, found_in, frame_of}
@@ -97,6 +97,19 @@ none_empty m fs zero k all = refl
 none_empty m fs (suc n) k all =
     ap (λ b. cond b (any_empty m fs n (suc k)) true) (all k (omega arith) (omega arith))
     ∙ none_empty m fs n (suc k) (λ j l h. all j (omega (arith, l)) (omega (arith, h)))
+
+-- how many frames are in flight then
+one_more : (fs : List Frame) (f : Frame) → length (fs ++ f ∷ []) ≡ suc (length fs)
+one_more [] f = refl
+one_more (h ∷ fs) f = ap suc (one_more fs f)
+
+-- a number is below another that is not below the next one
+not_behind : (n a : ℕ) → not (nat_lt a (suc n)) ≡ nat_lt n a
+not_behind n a = by (cases_lt n a)
+  where
+    by : (n < a) ⊎ (a ≤ n) → not (nat_lt a (suc n)) ≡ nat_lt n a
+    by (inl l) = ap not (le-ltb a (suc n) (omega (arith, l))) ∙ sym (lt-ltb n a l)
+    by (inr l) = ap not (lt-ltb a (suc n) (omega (arith, l))) ∙ sym (le-ltb n a l)
 
 -- the youngest frame -----------------------------------------------------------------------------
 
@@ -189,14 +202,18 @@ module _ {W : Type 0} (blocks : List Block) (budget : ℕ) (g : Grid W) where
           (begun_youngest blocks new v.frames (over v) (last_youngest new g.window.frames))
           ∙ predicted_is blocks f.block (predicted blocks g.predictor f.block) (over v) refl
 
-      room : has_room v ≡ (any_empty m g.window.frames 8 0 && not (is_serial b))
-      room = ap₂ (λ x y. x && not y) (some_empty 8 0 g.window.frames new)
-          (last_serial new g.window.frames (committed g.window.state))
+      room : may_begin (over v) ≡ ((any_empty m g.window.frames 8 0 && not (is_serial b))
+          && nat_lt (length g.window.frames) g.predictor.ahead)
+      room = ap₂ (λ x y. (x && not y) && not (nat_lt g.predictor.ahead (length v.frames)))
+          (some_empty 8 0 g.window.frames new) (last_serial new g.window.frames (committed g.window.state))
+          ∙ ap (λ x. (any_empty m g.window.frames 8 0 && not (is_serial b)) && x)
+          (ap (λ n. not (nat_lt g.predictor.ahead n)) (one_more g.window.frames new)
+          ∙ not_behind (length g.window.frames) g.predictor.ahead)
 
       -- where the fetch that is due fills a frame, part (2) of a cycle begins the fetch behind it
       pub next_filled : behind_fetched blocks g.predictor f.block m b g.window.frames ≡ next_fetch blocks budget g
       next_filled = sym (next_due
           ∙ ap (λ x. begun_on blocks (fill_where x blocks budget f g)) d
           ∙ ap (λ w. begun_on blocks (over w)) window_is
-          ∙ pushed (has_room v) (begun_after blocks v.frames (over v)) (over v) refl
+          ∙ pushed (may_begin (over v)) (begun_after blocks v.frames (over v)) (over v) refl
           ∙ ap₂ (λ x y. cond x y None) room behind_new)

@@ -4,7 +4,7 @@ use Rattle.trips_isa.specs.declared.block.Block.{Block}
 use Rattle.trips_isa.specs.Machine.{State}
 use Rattle.block_predict.specs.Predicts.{Holding, predicted}
 use Rattle.commit_flush_spec.specs.Frames.{Exit, Frame}
-use Rattle.grid_cycle_spec.specs.Fetches.{begun_after, begun_behind, begun_guess, begun_predicted, has_room}
+use Rattle.grid_cycle_spec.specs.Fetches.{begun_after, begun_behind, begun_guess, begun_predicted, may_begin}
 use Rattle.grid_cycle_spec.specs.Grid.{Grid}
 use Rattle.grid_parts.specs.inside.Youngest.{IsYoungest}
 use Rattle.grid_cycle.specs.inside.Follows.{after, behind, guess, idle_fetch}
@@ -38,13 +38,13 @@ module _ {W : Type 0} (blocks : List Block) where
   idle g = record g { fetching = None }
 
   -- where there is room for a frame, an idle fetch unit begins the block behind the frames
-  pub fetch_room : (g : Grid W) → has_room g.window ≡ true
+  pub fetch_room : (g : Grid W) → may_begin g ≡ true
       → after blocks g.predictor g.standing g.window.state g.window.frames ≡ idle_fetch blocks g
   fetch_room g e = sym (ap (λ b. block_in (cond b (begun_after blocks g.window.frames (idle g)) (idle g)).fetching) e
       ∙ after_is g.window.frames (idle g) refl)
 
   -- where there is no room for a frame, an idle fetch unit begins none
-  pub fetch_full : (g : Grid W) → has_room g.window ≡ false → None ≡ idle_fetch blocks g
+  pub fetch_full : (g : Grid W) → may_begin g ≡ false → None ≡ idle_fetch blocks g
   fetch_full g e = sym (ap (λ b. block_in (cond b (begun_after blocks g.window.frames (idle g)) (idle g)).fetching) e)
 
 module _ (blocks : List Block) (p : Holding) (standing : Option ℕ) (s : State) where

@@ -8,4 +8,5 @@ pub mod FiringFacts
 pub mod Growing
 pub mod Making
 pub mod RunCosts
+pub mod Starts
 pub mod Bounded

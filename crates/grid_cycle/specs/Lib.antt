@@ -1,3 +1,4 @@
+pub mod Conditions
 pub mod Engines
 pub mod Lacks
 pub mod Nexts

@@ -1,2 +1,3 @@
 pub mod Engines
 pub mod Follows
+pub mod Weathers

@@ -1,5 +1,5 @@
 //! The block whose fetch a cycle would begin.
-ghost use Rattle.std.specs.Prelude.{◌≡◌, ◌<◌, All, Some, length, slice_get};
+ghost use Rattle.std.specs.Prelude.{◌≡◌, ◌<◌, All, Some, length, nat_lt, slice_get};
 ghost use Rattle.trips_isa.specs.declared.block.Block.{Block};
 ghost use Rattle.commit_flush_spec.specs.Frames.{Frame};
 ghost use Rattle.commit_flush_spec.specs.inside.Laws.{AreNumbers};
@@ -62,7 +62,7 @@ fn after<V: Windows, W>(grid: &Grid<V, W>, order: &[u8]) -> Option<u32>
 fn begun<V: Windows, W>(grid: &Grid<V, W>) -> Option<u32>
     ensures { result ≡ idle_fetch (V.blocks grid.now.window) (seen (V.held grid.now.window) grid.now.state) }
 {
-    if grid.window.has_room() {
+    if grid.may_begin() {
         let frames = grid.window.numbers();
         after(grid, frames.as_slice())
     } else {
@@ -94,8 +94,15 @@ fn any_empty<V: Windows>(window: &V, filled: u8) -> bool
     false
 }
 
-// Behind a block that is fetched now into this frame: what is predicted, where one more frame is empty and the block
-// makes no system call.
+// Whether one more frame may be in flight behind one that is filled now.
+fn may_follow<V: Windows, W>(grid: &Grid<V, W>) -> bool
+    ensures { result ≡ nat_lt (length (V.held grid.now.window).frames) grid.now.state.predictor.ahead }
+{
+    grid.window.numbers().len() < grid.state.predictor.ahead() as usize
+}
+
+// Behind a block that is fetched now into this frame: what is predicted, where one more frame is empty, the block
+// makes no system call, and one more may be in flight.
 fn behind_fetched<V: Windows, W>(grid: &Grid<V, W>, block: u32, filled: u8) -> Option<u32>
     requires { block < length (V.blocks grid.now.window) }
     ensures { (b : Block) → slice_get (V.blocks grid.now.window) block ≡ Some b → result
@@ -106,8 +113,10 @@ fn behind_fetched<V: Windows, W>(grid: &Grid<V, W>, block: u32, filled: u8) -> O
     if any_empty(&grid.window, filled) {
         if is_serial(block_at(image, block)) {
             None
-        } else {
+        } else if may_follow(grid) {
             grid.state.predictor.peek(image, block)
+        } else {
+            None
         }
     } else {
         None

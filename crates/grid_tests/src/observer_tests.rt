@@ -73,14 +73,20 @@ fn predictor(alloc: Global) -> Result<Predictor, Fail>
     }
 }
 
-// The grid of a text at its start, in calm weather.
-fn begun(alloc: Global, text: &str) -> Result<Grid<Calm>, Fail> {
+// The grid of a text at its start, in calm weather, with at most so many frames in flight behind the oldest.
+fn limited(alloc: Global, text: &str, ahead: u8) -> Result<Grid<Calm>, Fail> {
     let image = checked(alloc, text)?;
-    let predictor = predictor(alloc)?;
+    let mut predictor = predictor(alloc)?;
+    predictor.limit(ahead);
     match Grid::make(alloc, image, Vec::new(alloc), predictor, Calm, 10) {
         Ok(grid) => Ok(grid),
         Err(_) => Err(Fail::from(AllocError)),
     }
+}
+
+// The grid of a text at its start, in calm weather.
+fn begun(alloc: Global, text: &str) -> Result<Grid<Calm>, Fail> {
+    limited(alloc, text, 7)
 }
 
 // So many cycles.
@@ -201,5 +207,28 @@ fn nothing_is_fetched_behind_a_system_call(rt: HostRuntime) -> Result<(), Fail> 
         "the fetch ends in the next cycle"
     );
     assert!(&rt; grid.can_fetch() == None, "no fetch begins behind it");
+    Ok(())
+}
+
+#[test]
+fn no_more_frames_than_asked_for_are_in_flight(rt: HostRuntime) -> Result<(), Fail> {
+    let mut one = limited(rt.alloc(), FOREVER, 0)?;
+    cycles(&mut one, 8);
+    assert!(&rt; one.can_fetch() == None, "none begins behind the only one");
+    cycles(&mut one, 1);
+    assert!(&rt; one.counts().fetched == 1, "a frame is filled");
+    assert!(&rt; one.can_fetch() == None, "it is in flight");
+    for ahead in 0..3u8 {
+        let mut grid = limited(rt.alloc(), FOREVER, ahead)?;
+        let mut most = 0;
+        for _ in 0..200u8 {
+            let _ = grid.cycle();
+            let flying = grid.window().numbers().len();
+            if flying > most {
+                most = flying;
+            }
+        }
+        assert!(&rt; most == ahead as usize + 1, "ahead {ahead}");
+    }
     Ok(())
 }

@@ -3,7 +3,7 @@ ghost use Rattle.std.specs.Prelude.{IfOk};
 ghost use Rattle.trips_isa.specs.Images.{FitsImage};
 
 use block_check::{CheckedImage, ImageRefusal};
-use grid_cycle::{Ran, run_image};
+use grid_cycle::{Conditions, Ran, run_image};
 use std::alloc::{AllocError, Global};
 use std::process::Abort;
 use std::test::Fail;
@@ -51,7 +51,8 @@ pub fn ran(
 ) -> Result<Ran, Fail> {
     let image = checked(alloc, text)?;
     assert!(rt; budget > 0, "a budget");
-    match run_image(alloc, image, Vec::new(alloc), seed, budget) {
+    let conditions = Conditions::seeded(seed);
+    match run_image(alloc, image, Vec::new(alloc), conditions, budget) {
         Ok(ran) => Ok(ran),
         Err(_) => Err(Fail::from(AllocError)),
     }

@@ -7,7 +7,7 @@ use Rattle.block_predict.specs.Predicts.{predicted}
 use Rattle.commit_flush_spec.specs.Frames.{Frame, Exit}
 use Rattle.grid_cycle_spec.specs.Grid.{Grid, Fetching}
 use Rattle.grid_cycle_spec.specs.Fetches.{begins, begun_after, begun_behind, begun_guess, begun_predicted}
-use Rattle.grid_cycle_spec.specs.Fetches.{fetch_begins, has_room}
+use Rattle.grid_cycle_spec.specs.Fetches.{fetch_begins, may_begin}
 
 -- what is not none is some
 pub not_none : {A : Type 0} (o : Option A) → not (is_none o) ≡ is_some o
@@ -42,7 +42,7 @@ module _ {W : Type 0} (blocks : List Block) (g : Grid W) where
 
   unit_begun : (o : Option Fetching) → Begun (fetch_begins blocks o g)
   unit_begun (Some f) e = refl
-  unit_begun None e = room_begun (has_room g.window) e
+  unit_begun None e = room_begun (may_begin g) e
 
   -- a fetch that was not begun changes nothing
   pub none_begun : is_some (begins blocks g).fetching ≡ false → begins blocks g ≡ g

@@ -5,7 +5,7 @@ use block_check::CheckedImage;
 use block_predict::Predictor;
 use c_compile::compile;
 use commit_flush::Window;
-use grid_cycle::run_image;
+use grid_cycle::{Conditions, run_image};
 use grid_machine::cost;
 use grid_place::Placing;
 use operand_net::PcgWeather;
@@ -100,7 +100,8 @@ pub fn assert_as_alone(
     window: &Window,
 ) -> Result<u64, Fail> {
     let image = image(rt, alloc, text)?;
-    match run_image(alloc, image, Vec::new(alloc), seed, BUDGET) {
+    let conditions = Conditions::seeded(seed);
+    match run_image(alloc, image, Vec::new(alloc), conditions, BUDGET) {
         Ok(ran) => {
             assert_same(rt, text, ended, window, ran.grid.window(), ran.ending);
             Ok(cost_of(rt, window, ended))

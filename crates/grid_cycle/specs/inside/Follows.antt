@@ -1,7 +1,7 @@
 -- Which block the fetch unit begins to fetch, case by case, as the code tells it. That this is what part (2) of a
 -- cycle begins is proved in proofs/FetchFacts.antt and proofs/DueFacts.antt.
 use Rattle.std.specs.Prelude.{ℕ, zero, suc, ◌==◌, Bool, true, false, cond, not, ◌&&◌, ◌||◌, List, [], ◌∷◌}
-use Rattle.std.specs.Prelude.{Option, Some, None}
+use Rattle.std.specs.Prelude.{Option, Some, None, length, nat_lt}
 use Rattle.trips_isa.specs.declared.block.Block.{Block}
 use Rattle.trips_isa.specs.Machine.{State}
 use Rattle.block_predict.specs.Predicts.{Holding, predicted}
@@ -43,7 +43,8 @@ abbrev pub any_empty : ℕ → List Frame → ℕ → ℕ → Bool
 any_empty m fs zero k = false
 any_empty m fs (suc n) k = cond (is_taken m fs k) (any_empty m fs n (suc k)) true
 
--- behind block k, which is fetched into frame m: what is predicted, where one more frame is empty and the block makes
--- no system call
+-- behind block k, which is fetched into frame m: what is predicted, where one more frame is empty, the block makes no
+-- system call, and one more may be in flight
 abbrev pub behind_fetched : List Block → Holding → ℕ → ℕ → Block → List Frame → Option ℕ
-behind_fetched blocks p k m b fs = cond (any_empty m fs 8 0 && not (is_serial b)) (predicted blocks p k) None
+behind_fetched blocks p k m b fs =
+    cond ((any_empty m fs 8 0 && not (is_serial b)) && nat_lt (length fs) p.ahead) (predicted blocks p k) None

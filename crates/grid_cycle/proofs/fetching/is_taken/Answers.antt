@@ -1,5 +1,4 @@
 use Rattle.std.proofs.Common.{◌≡◌, ◌==◌, ◌||◌, true, false, sym, ap, ◌∙◌, is_some}
-use Rattle.commit_flush_spec.specs.InFlight.{in_flight}
 use Rattle.grid_parts.specs.inside.Asked.{block_of}
 use Rattle.grid_cycle.proofs.DueFacts.{flies}
 use Rattle.grid_cycle.proofs.fetching.is_taken.Goals as goal

@@ -1,5 +1,5 @@
 use Rattle.grid_cycle.proofs.Bounded.{runs_end, runs_within, runs_trapped, runs_trapped_at}
-use Rattle.grid_cycle.proofs.law.runs_of_a_seed_end.Goals as goal
+use Rattle.grid_cycle.proofs.law.runs_from_the_start_end.Goals as goal
 
 pub returns-clause-ends : goal.returns-clause-ends
 returns-clause-ends c = runs_end
