@@ -115,4 +115,5 @@ module _ {W : Type 0} (next : W → ℕ) (follows : W → W → Type 0) (blocks 
     };
     heard = hears_both a b c (told counted.notes) (end_notes budget m) counted.heard heard;
     flown = counted.flown;
+    few = counted.few;
   }

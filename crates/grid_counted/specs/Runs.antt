@@ -9,7 +9,7 @@ use Rattle.grid_machine.specs.WholeRuns.{at_end}
 use Rattle.grid_tallies.specs.declared.counters.Counters.{Counters}
 use Rattle.grid_tallies.specs.declared.flights.Flights.{Flights}
 use Rattle.grid_tallies.specs.Counters.{Hears}
-use Rattle.grid_tallies.specs.Flights.{Flown}
+use Rattle.grid_tallies.specs.Flights.{BeganWithFew, Flown}
 use Rattle.grid_tallies.specs.Runs.{NotedGoes}
 
 -- what is noted behind the last cycle: where the run has ended, the flush of the frames in flight
@@ -35,14 +35,21 @@ pub record IsNotedRun {W : Type 0} (next : W → ℕ) (follows : W → W → Typ
 -- a run has notes
 pub record HasNotes {W : Type 0} (next : W → ℕ) (follows : W → W → Type 0) (blocks : List Block) (budget n : ℕ)
     (g h : Grid W) : Type 0 where
+  -- what is noted
   pub notes : List Note
+  -- this is all of it
   pub noted : IsNotedRun next follows blocks budget n g notes h
 
 -- a run of n cycles was counted: the counters have heard all that is noted of it
 pub record IsCountedRun {W : Type 0} (next : W → ℕ) (follows : W → W → Type 0) (blocks : List Block) (budget n : ℕ)
     (g h : Grid W) (a b : Counters) (p q : Flights) : Type 0 where
+  -- what is noted of the run
   pub notes : List Note
+  -- this is all of it
   pub noted : IsNotedRun next follows blocks budget n g notes h
+  -- the counters have heard it
   pub heard : Hears a notes b
   -- the frames in flight have been counted as each of its cycles began
   pub flown : Flown p (length g.window.frames) noted.cycles q
+  -- there were at most eight
+  pub few : BeganWithFew (length g.window.frames) noted.cycles

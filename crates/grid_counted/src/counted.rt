@@ -4,10 +4,10 @@ ghost use Rattle.grid_cycle_spec.specs.Costs.{cost_of};
 ghost use Rattle.grid_cycle.specs.Engines.{blocks_of, grid_of};
 
 use commit_flush::Window;
+use grid_cycle::AnyWeather;
 use grid_machine::GridWindow;
 use grid_parts::Grid;
 use grid_tallies::{Counters, Flights};
-use operand_net::PcgWeather;
 use trips_isa::{Counts, Ending};
 
 /// A grid at the end of a run that was counted, how the run has ended, and its statistics.
@@ -15,7 +15,7 @@ pub struct Counted {
     pub ending: Ending,
     pub told: Counters,
     pub flights: Flights,
-    pub grid: Grid<GridWindow, PcgWeather>,
+    pub grid: Grid<GridWindow, AnyWeather>,
 }
 
 impl Drop for Counted {

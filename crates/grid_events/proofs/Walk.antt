@@ -29,7 +29,7 @@ use Rattle.grid_cycle_spec.specs.inside.Choosing.{places}
 use Rattle.grid_cycle_spec.specs.Sending.{enters, enters_if, enter_both}
 use Rattle.grid_cycle_spec.specs.Ends.{seal_one, seal_each, committed_as, commit_in, commit_oldest, ends}
 use Rattle.grid_cycle_spec.specs.Fetches.{filled, fills, fill_where, fetch_on, fetch_ends, begun, begun_predicted}
-use Rattle.grid_cycle_spec.specs.Fetches.{begun_guess, begun_behind, begun_after, has_room, fetch_begins}
+use Rattle.grid_cycle_spec.specs.Fetches.{begun_guess, begun_behind, begun_after, may_begin, fetch_begins}
 use Rattle.grid_cycle_spec.specs.Fetches.{begins, fetches}
 use Rattle.grid_cycle_spec.specs.Banks.{answers_read, read_chosen, bank_turn, reads_answered}
 use Rattle.grid_cycle_spec.specs.DataTiles.{stored_by, unasked, load_answered, waits_now, by_block, wrong_load}
@@ -275,7 +275,7 @@ module _ {W : Type 0} (blocks : List Block) (budget : ℕ) (R : Grid W → List 
   begins_keeps (Some f) g e = same g
   begins_keeps None g e = either g (begun_after blocks g.window.frames g) g
       (part.after_notes blocks g.window.frames g)
-      [] (has_room g.window) (after_keeps g.window.frames g e) (same g)
+      [] (may_begin g) (after_keeps g.window.frames g e) (same g)
 
   pub fetches_keep : (g : Grid W) → R g (part.fetches_notes blocks budget g) (fetches blocks budget g)
   fetches_keep g =

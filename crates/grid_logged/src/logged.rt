@@ -4,17 +4,17 @@ ghost use Rattle.grid_cycle_spec.specs.Costs.{cost_of};
 ghost use Rattle.grid_cycle.specs.Engines.{blocks_of, grid_of};
 
 use commit_flush::Window;
+use grid_cycle::AnyWeather;
 use grid_log::Log;
 use grid_machine::GridWindow;
 use grid_parts::Grid;
-use operand_net::PcgWeather;
 use trips_isa::{Counts, Ending};
 
 /// A grid at the end of a run, how the run has ended, and the log of its events.
 pub struct Logged {
     pub ending: Ending,
     pub log: Log,
-    pub grid: Grid<GridWindow, PcgWeather>,
+    pub grid: Grid<GridWindow, AnyWeather>,
 }
 
 impl Drop for Logged {

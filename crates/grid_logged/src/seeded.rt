@@ -1,8 +1,9 @@
-//! Logged runs of the grid of a seed, from the start and from a state.
+//! Logged runs of the grid under conditions, from the start and from a state.
 ghost use Rattle.std.specs.Prelude.{◌≡◌, ◌<◌, ◌≤◌, ℕ, IfOk, [], false, length};
 ghost use Rattle.trips_isa.specs.Machine.{State, start};
+ghost use Rattle.grid_cycle.specs.Conditions.{started_on};
+ghost use Rattle.grid_cycle.specs.declared.conditions.Conditions.{Conditions};
 ghost use Rattle.grid_cycle.specs.Engines.{blocks_of, grid_of};
-ghost use Rattle.grid_machine.specs.Seeds.{started_on};
 ghost use Rattle.grid_machine.specs.inside.WholeRuns.{IsKept};
 ghost use Rattle.grid_counted.specs.inside.Started.{IsStarted};
 ghost use Rattle.grid_logged.specs.Seeds.{HasLogged};
@@ -12,17 +13,16 @@ use crate::running::run;
 use base::Memory;
 use block_atomic::Arch;
 use block_check::CheckedImage;
-use block_predict::Predictor;
+use grid_cycle::{AnyWeather, Conditions, predictor_for, weather_for};
 use grid_log::Log;
 use grid_machine::GridWindow;
 use grid_parts::Grid;
-use operand_net::PcgWeather;
 use std::alloc::Global;
 
 // Runs a grid from the stated start to its end.
 fn run_out(
     alloc: Global,
-    mut grid: Grid<GridWindow, PcgWeather>,
+    mut grid: Grid<GridWindow, AnyWeather>,
     first: u64,
     last: u64,
     limit: usize,
@@ -30,8 +30,8 @@ fn run_out(
     requires started { IsStarted (grid_of grid) }
     requires some { 0 < grid.window.budget }
     requires kept { IsKept grid.window.budget (grid_of grid) }
-    ensures ran { (s : State) (seed : ℕ) → s.trace ≡ [] → grid_of grid ≡ started_on s seed
-        → HasLogged (blocks_of grid) s grid.window.budget seed first last limit result.ending (grid_of result.grid)
+    ensures ran { (s : State) (c : Conditions) → s.trace ≡ [] → grid_of grid ≡ started_on s c
+        → HasLogged (blocks_of grid) s grid.window.budget c first last limit result.ending (grid_of result.grid)
         result.log }
     ensures image { blocks_of result.grid ≡ blocks_of grid }
 {
@@ -53,45 +53,46 @@ fn kept(run: Logged) -> Result<Logged, Memory>
     Ok(run)
 }
 
-/// Runs an image on an input, for at most so many blocks, on the grid whose predictor and weather are those of a
-/// seed, and logs the events of its cycles from the first to the last, at most `limit` events. Want of memory is the
-/// only error.
+/// Runs an image on an input, for at most so many blocks, on the grid whose predictor and weather are those of
+/// the conditions, and logs the events of its cycles from the first to the last, at most `limit` events. Want of memory
+/// is the only error.
 pub fn run_image(
     alloc: Global,
     image: CheckedImage,
     input: Vec<u8>,
-    seed: u64,
+    conditions: Conditions,
     budget: u32,
     first: u64,
     last: u64,
     limit: usize,
 ) -> Result<Logged, Memory>
     requires some { 0 < budget }
-    ensures ran { IfOk result (λ run. HasLogged image.blocks (start image.bytes input.items) budget seed first last
+    ensures ran { IfOk result (λ run. HasLogged image.blocks (start image.bytes input.items) budget conditions first
+        last
         limit run.ending (grid_of run.grid) run.log) }
     ensures image { IfOk result (λ run. blocks_of run.grid ≡ image.blocks) }
     ensures kept { IfOk result (λ run. run.log.lost ≡ false) }
 {
-    let predictor = Predictor::make(alloc, seed)?;
+    let predictor = predictor_for(alloc, conditions)?;
     let grid = grid_machine::make(
         alloc,
         image,
         input,
         predictor,
-        PcgWeather::make(seed),
+        weather_for(conditions),
         budget,
     )?;
     kept(run_out(alloc, grid, first, last, limit))
 }
 
 /// Goes on from a machine's state with an empty trace, for at most so many blocks, on the grid whose predictor and
-/// weather are those of a seed, and logs the events of its cycles from the first to the last, at most `limit` events.
-/// Want of memory is the only error.
+/// weather are those of the conditions, and logs the events of its cycles from the first to the last, at most `limit`
+/// events. Want of memory is the only error.
 pub fn resume_image(
     alloc: Global,
     image: CheckedImage,
     arch: Arch,
-    seed: u64,
+    conditions: Conditions,
     budget: u32,
     first: u64,
     last: u64,
@@ -101,18 +102,18 @@ pub fn resume_image(
     requires next { arch.state.next < length image.blocks }
     requires room { budget ≤ arch.budget }
     requires fresh { arch.state.trace ≡ [] }
-    ensures ran { IfOk result (λ run. HasLogged image.blocks arch.state budget seed first last limit run.ending
+    ensures ran { IfOk result (λ run. HasLogged image.blocks arch.state budget conditions first last limit run.ending
         (grid_of run.grid) run.log) }
     ensures image { IfOk result (λ run. blocks_of run.grid ≡ image.blocks) }
     ensures kept { IfOk result (λ run. run.log.lost ≡ false) }
 {
-    let predictor = Predictor::make(alloc, seed)?;
+    let predictor = predictor_for(alloc, conditions)?;
     let grid = grid_machine::make_at(
         alloc,
         image,
         arch,
         predictor,
-        PcgWeather::make(seed),
+        weather_for(conditions),
         budget,
     )?;
     kept(run_out(alloc, grid, first, last, limit))

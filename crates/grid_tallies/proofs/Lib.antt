@@ -5,6 +5,7 @@ pub mod Standing
 pub mod Guessing
 pub mod Hearing
 pub mod Weighed
+pub mod Summed
 pub mod Quiet
 pub mod Flushing
 pub mod Answering

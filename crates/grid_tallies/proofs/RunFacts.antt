@@ -66,11 +66,11 @@ module _ {W : Type 0} (next : W → ℕ) (follows : W → W → Type 0) (blocks 
 
   -- one cycle more, over another image and budget that are these
   pub one_more : (bs : List Block) (b n : ℕ) (g m h : Grid W) (x y z : Counters) → bs ≡ blocks → b ≡ budget
-      → (p q r : Flights) (k : ℕ) → k ≡ length m.window.frames → HasRoom g → HasRoom m
+      → (p q r : Flights) (k : ℕ) → k ≡ length m.window.frames → k < 9 → HasRoom g → HasRoom m
       → ((n : ℕ) → number_with n q + cond (n == k) 1 0 < 2 ^ 64 → number_with n r ≡ number_with n q + cond (n == k) 1 0)
       → is_going budget m.window ≡ true → AreCounted next follows blocks budget n g m x y p q
       → IsCounted next follows bs b m h y z → AreCounted next follows blocks budget (n + 1) g h x z p r
-  one_more bs b n g m h x y z e f p q r k many here there begins on before last =
+  one_more bs b n g m h x y z e f p q r k many small here there begins on before last =
       let c : IsCounted next follows blocks budget m h y z =
       subst (λ k. IsCounted next follows blocks k m h y z) f (subst (λ k. IsCounted next follows k b m h y z) e last)
       in
@@ -81,6 +81,7 @@ module _ {W : Type 0} (next : W → ℕ) (follows : W → W → Type 0) (blocks 
         heard = hears_both x y z (told before.notes) c.notes before.heard c.heard;
         flown = one_flown (length g.window.frames) k c.notes before.notes p q r
             (flying before.notes g m before.cycles here there ∙ sym many) before.flown begins;
+        few = (let e = flying before.notes g m before.cycles here there in omega (arith, e, many, small), before.few);
       }
 
 -- as many flushes are noted as there are frames

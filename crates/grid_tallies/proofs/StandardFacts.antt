@@ -2,7 +2,8 @@
 use Rattle.std.proofs.Common.{◌≡◌, true, false, [], ◌∷◌, Some, None, refl}
 use Rattle.trips_isa.specs.declared.op.Op.TheVariants.{Mov, Null, Add}
 use Rattle.grid_events.specs.Counts.{tally}
-use Rattle.grid_events.specs.Notes.{Violation, WrongExit, End, Predicts, Begins, Fires, Loads, Stores, Flushes}
+use Rattle.grid_events.specs.Notes.{Violation, WrongExit, End, Predicts, Begins, Works, Fires, Loads, Stores}
+use Rattle.grid_events.specs.Notes.{Flushes}
 use Rattle.grid_events.specs.Notes.{OnMesh}
 use Rattle.grid_events.specs.Notes.{Passes}
 use Rattle.grid_tallies.specs.declared.statistic.Statistic.TheVariants as statistic
@@ -34,6 +35,13 @@ begins = refl
 
 pub link : statistic_of (OnMesh (Passes 0 5 31)) ≡ None
 link = refl
+
+-- a cycle of the unit of tile 5 counts for this tile, and not for its neighbour
+pub works : weigh (statistic.Station 5) (Works 5) ≡ 1
+works = refl
+
+pub neighbour : weigh (statistic.Station 6) (Works 5) ≡ 0
+neighbour = refl
 
 -- two stores, a null one too, among other notes
 pub stores : tally (weigh statistic.Stores) (Loads 0 1 2 ∷ Stores 1 1 3 false ∷ Predicts 1 6 ∷ Stores 2 0 4 true ∷ [])

@@ -1,6 +1,6 @@
 -- What is heard of the turn of a tile.
 use Rattle.std.proofs.Common.{◌≡◌, ◌≢◌, ℕ, zero, suc, ◌*◌, ◌==◌, Bool, true, false, cond, List, [], ◌∷◌, ◌++◌}
-use Rattle.std.proofs.Common.{Option, Some, None, is_some, true≢false, refl, sym, subst}
+use Rattle.std.proofs.Common.{Option, Some, None, is_some, true≢false, refl, sym, subst, arith}
 use Rattle.std.proofs.lemmas.Bool.{eq-eqb, ne_eqb}
 use Rattle.trips_isa.specs.declared.block.Block.{Block}
 use Rattle.trips_isa.specs.declared.block.Inst.{Inst}
@@ -22,10 +22,11 @@ use Rattle.grid_events.specs.UnitNotes.{finished_notes, issue_notes, issues_note
 use Rattle.grid_events.specs.UnitNotes.{turn_notes}
 use Rattle.grid_events.specs.UnitNotes.{unit_notes}
 use Rattle.grid_tallies.specs.declared.tallies.Tallies.{Tallies}
-use Rattle.grid_tallies.specs.Statistics.{Heard}
-use Rattle.grid_tallies.specs.inside.Adding.{Nothing}
-use Rattle.grid_tallies.proofs.Tallying.{heard_both, heard_none}
-use Rattle.grid_tallies.proofs.Weighed.{nothing_cons, nothing_enter_both, nothing_frame}
+use Rattle.grid_tallies.specs.declared.statistic.Statistic.TheVariants as statistic
+use Rattle.grid_tallies.specs.Statistics.{Heard, place}
+use Rattle.grid_tallies.specs.inside.Adding.{Adds, Nothing, Only}
+use Rattle.grid_tallies.proofs.Tallying.{heard_adds, heard_both, heard_none}
+use Rattle.grid_tallies.proofs.Weighed.{nothing_enter_both, nothing_frame, only_first, only_one}
 
 nothing_result : (kind : Form) (i : Inst) (s : ℕ) (f : Frame) → Nothing (result_notes kind i s f)
 nothing_result form.Load i s f = λ k. refl
@@ -44,12 +45,22 @@ nothing_finished None fs = λ k. refl
 nothing_finished (Some q) fs = nothing_frame q.0 (λ f. slot_notes (slot_of f.code q.1) q.1 f)
     (λ f. nothing_slot (slot_of f.code q.1) q.1 f) fs
 
-nothing_unit : {W : Type 0} (tile left : ℕ) (g : Grid W) → Nothing (unit_notes tile left g)
-nothing_unit tile zero g = λ k. refl
-nothing_unit tile (suc zero) g =
+none_of : (c : Bool) → ◌≡◌ {A = ℕ} 0 (cond c 0 0)
+none_of true = refl
+none_of false = refl
+
+-- a unit counts for its tile where it is busy, and for nothing else
+only_unit : {W : Type 0} (tile left : ℕ) (g : Grid W)
+    → Only (statistic.Station tile) (cond (left == 0) 0 1) (unit_notes tile left g)
+only_unit tile zero g = λ k. none_of (place k == place (statistic.Station tile))
+only_unit tile (suc zero) g =
     let o : Option (ℕ × ℕ) = eldest (in_unit g tile) slots g.window.frames in
-    nothing_cons (note.Works tile) (finished_notes o g.window.frames) refl (nothing_finished o g.window.frames)
-nothing_unit tile (suc (suc left)) g = λ k. refl
+    only_first (note.Works tile) (statistic.Station tile) (finished_notes o g.window.frames) refl
+    (nothing_finished o g.window.frames)
+only_unit tile (suc (suc left)) g =
+    subst (λ c. Only (statistic.Station tile) (cond c 0 1) (note.Works tile ∷ []))
+    (sym (ne_eqb (suc (suc left)) 0 (λ z. omega (arith, z))))
+    (only_one (note.Works tile) (statistic.Station tile) refl)
 
 module _ {W : Type 0} (blocks : List Block) (budget tile : ℕ) (g : Grid W) (a b : Tallies) where
   -- a free unit issues
@@ -82,10 +93,12 @@ module _ {W : Type 0} (blocks : List Block) (budget tile : ℕ) (g : Grid W) (a 
           (heard_none a [] (λ s. refl))
       go false = heard_none a [] (λ s. refl)
 
-  -- what a unit does before it issues is not counted
-  pub turn_heard : (m : Grid W) → m ≡ unit_on tile (g.units tile) g
-      → Heard a (issues_notes blocks budget tile m) b → Heard a (turn_notes blocks budget tile g) b
-  turn_heard m e heard = heard_both a a b (unit_notes tile (g.units tile) g)
+  -- a unit that is busy counts for its tile before what it issues
+  pub turn_heard : (mid : Tallies) (m : Grid W) → m ≡ unit_on tile (g.units tile) g
+      → Adds (statistic.Station tile) (cond (g.units tile == 0) 0 1) a mid
+      → Heard mid (issues_notes blocks budget tile m) b → Heard a (turn_notes blocks budget tile g) b
+  turn_heard mid m e adds heard = heard_both a mid b (unit_notes tile (g.units tile) g)
       (issues_notes blocks budget tile (unit_on tile (g.units tile) g))
-      (heard_none a (unit_notes tile (g.units tile) g) (nothing_unit tile (g.units tile) g))
-      (subst (λ (x : Grid W). Heard a (issues_notes blocks budget tile x) b) e heard)
+      (heard_adds (statistic.Station tile) (cond (g.units tile == 0) 0 1) a mid (unit_notes tile (g.units tile) g)
+      adds (only_unit tile (g.units tile) g))
+      (subst (λ (x : Grid W). Heard mid (issues_notes blocks budget tile x) b) e heard)

@@ -1,6 +1,7 @@
 -- What the notes of the parts of a cycle count for.
-use Rattle.std.proofs.Common.{◌≡◌, ℕ, zero, suc, ◌+◌, ◌==◌, Bool, true, false, cond, List, [], ◌∷◌, ◌++◌, length}
+use Rattle.std.proofs.Common.{◌≡◌, ◌<◌, ℕ, zero, suc, ◌+◌, ◌==◌, Bool, true, false, cond, List, [], ◌∷◌, ◌++◌, length}
 use Rattle.std.proofs.Common.{Option, Some, None, is_some, refl, sym, ap, ◌∙◌, arith}
+use Rattle.std.proofs.lemmas.Bool.{ne_eqb}
 use Rattle.commit_flush_spec.specs.Frames.{Frame, at, target}
 use Rattle.grid_cycle_spec.specs.Grid.{Fetching}
 use Rattle.grid_cycle_spec.specs.Stations.{home}
@@ -86,6 +87,10 @@ only_first x k es is rest = λ s.
     let one : weigh s x ≡ cond (place s == place k) 1 0 = ap (λ o. cond (is_one s o) 1 0) is in
     let e = rest s in
     omega (arith, one, e)
+
+-- a cycle of a unit counts for no statistic but that of its tile
+pub works_none : (s : Statistic) (tile : ℕ) → place s < 9 → weigh s (note.Works tile) ≡ 0
+works_none s tile l = ap (λ c. cond c 1 0) (ne_eqb (place s) (9 + tile) (λ z. omega (arith, l, z)))
 
 -- flushes ----------------------------------------------------------------------------------------
 

@@ -1,5 +1,5 @@
 -- How many frames are in flight as the cycles of a run begin.
-use Rattle.std.specs.Prelude.{◌≡◌, ◌<◌, ℕ, ◌+◌, ◌-◌, ◌^◌, ◌==◌, List, [], ◌∷◌, slice_index_or}
+use Rattle.std.specs.Prelude.{◌≡◌, ◌<◌, ℕ, zero, suc, ◌+◌, ◌-◌, ◌^◌, ◌==◌, List, [], ◌∷◌, slice_index_or}
 use Rattle.grid_events.specs.Notes.{Note}
 use Rattle.grid_events.specs.Counts.{tally, fetched, committed, flushed, one_if}
 use Rattle.grid_events.specs.Cycles.{told}
@@ -15,6 +15,16 @@ in_flight before es = before + tally fetched es - (tally committed es + tally fl
 abbrev pub begun_with : ℕ → ℕ → List (List Note) → ℕ
 begun_with n before [] = 0
 begun_with n before (es ∷ ess) = one_if (n == in_flight before (told ess)) + begun_with n before ess
+
+-- how many of them have begun with fewer than n
+abbrev pub begun_below : ℕ → ℕ → List (List Note) → ℕ
+begun_below zero before ess = 0
+begun_below (suc n) before ess = begun_below n before ess + begun_with n before ess
+
+-- each of some cycles has begun with at most eight frames in flight
+abbrev pub BeganWithFew : ℕ → List (List Note) → Type 0
+BeganWithFew before [] = Unit {0}
+BeganWithFew before (es ∷ ess) = (in_flight before (told ess) < 9) × BeganWithFew before ess
 
 -- the number of cycles that have begun with n frames in flight
 abbrev pub number_with : ℕ → Flights → ℕ

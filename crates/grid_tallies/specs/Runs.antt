@@ -9,7 +9,7 @@ use Rattle.grid_machine.specs.Endings.{is_going}
 use Rattle.grid_tallies.specs.declared.counters.Counters.{Counters}
 use Rattle.grid_tallies.specs.declared.flights.Flights.{Flights}
 use Rattle.grid_tallies.specs.Counters.{Hears}
-use Rattle.grid_tallies.specs.Flights.{Flown}
+use Rattle.grid_tallies.specs.Flights.{BeganWithFew, Flown}
 
 -- some cycles one after another, before each of which the run goes on, and each with its notes, those of the last
 -- first
@@ -34,3 +34,5 @@ pub record AreCounted {W : Type 0} (next : W → ℕ) (follows : W → W → Typ
   pub heard : Hears a (told notes) b
   -- the frames in flight have been counted as each began
   pub flown : Flown p (length g.window.frames) notes q
+  -- there were at most eight
+  pub few : BeganWithFew (length g.window.frames) notes

@@ -1,9 +1,10 @@
 -- What is counted of a run: one number for each statistic, which grows by what is noted.
 use Rattle.std.specs.Prelude.{◌≡◌, ◌<◌, ℕ, ◌+◌, ◌^◌, ◌==◌, Bool, false, cond, List, Option, Some, None}
-use Rattle.std.specs.Prelude.{slice_index_or}
+use Rattle.std.specs.Prelude.{drop, slice_index_or}
 use Rattle.trips_isa.specs.declared.op.Op.{Op}
 use Rattle.trips_isa.specs.declared.op.Op.TheVariants.{Mov, Null}
-use Rattle.grid_events.specs.Notes.{Note, Why, Violation, WrongExit, End, Predicts, Fires, Loads, Stores, Flushes}
+use Rattle.grid_events.specs.Notes.{Note, Why, Violation, WrongExit, End, Predicts, Works, Fires, Loads, Stores}
+use Rattle.grid_events.specs.Notes.{Flushes}
 use Rattle.grid_events.specs.Counts.{tally}
 use Rattle.grid_tallies.specs.declared.statistic.Statistic.{Statistic}
 use Rattle.grid_tallies.specs.declared.statistic.Statistic.TheVariants as statistic
@@ -20,6 +21,7 @@ place statistic.Violations = 5
 place statistic.WrongExits = 6
 place statistic.Ends = 7
 place statistic.Predictions = 8
+place (statistic.Station tile) = 9 + tile
 
 -- what an operation that fires counts for
 abbrev pub kind_of : Option Op → Statistic
@@ -35,6 +37,7 @@ cause_of End = statistic.Ends
 
 -- the statistic for which a note counts, if it counts for any
 abbrev pub statistic_of : Note → Option Statistic
+statistic_of (Works tile) = Some (statistic.Station tile)
 statistic_of (Fires tile n s op) = Some (kind_of op)
 statistic_of (Loads tile n m) = Some statistic.Loads
 statistic_of (Stores tile n m null) = Some statistic.Stores
@@ -54,6 +57,10 @@ weigh s x = cond (is_one s (statistic_of x)) 1 0
 -- the number of a statistic
 abbrev pub number_of : Statistic → Tallies → ℕ
 number_of s t = slice_index_or t.numbers (place s) 0
+
+-- in how many cycles the unit of each tile was busy, from tile 0
+abbrev pub stations_of : Tallies → List ℕ
+stations_of t = drop 9 t.numbers
 
 -- the second tallies are the first after these notes more, while the numbers have room in 64 bits
 abbrev pub Heard : Tallies → List Note → Tallies → Type 0

@@ -1,5 +1,6 @@
 //! Part (2) of a cycle, counted: a fetch ends, and the next one begins.
 ghost use Rattle.std.specs.Prelude.{◌≡◌, ◌<◌, ◌+◌, ◌^◌, ◌∷◌, [], All, Bool, IfSome};
+ghost use Rattle.commit_flush_spec.specs.Window.{lowest_empty};
 ghost use Rattle.commit_flush_spec.specs.inside.Laws.{AreNumbers};
 ghost use Rattle.grid_cycle_spec.specs.Fetches as spec;
 ghost use Rattle.grid_cycle_spec.specs.Grid.{numbers_of};
@@ -39,15 +40,14 @@ pub fn filled(room: Option<u8>) -> u8
     }
 }
 
-// A fetch that is due fills a frame, or is given up.
-fn hear_due(told: &mut Guesses, due: Option<u32>, may: bool, room: Option<u8>)
-    requires { IfSome room (λ n. n < 8) }
-    ensures { Guessed told.old (due_notes due may room) told.new }
+// A fetch that is due fills the lowest empty frame, or is given up. Which that is, is asked only then.
+fn hear_due<V: Windows>(window: &V, told: &mut Guesses, due: Option<u32>, may: bool)
+    ensures { Guessed told.old (due_notes due may (lowest_empty 8 0 (V.held window.now).frames)) told.new }
 {
     match due {
         Some(_) => {
             if may {
-                told.fill(filled(room));
+                told.fill(filled(window.lowest_empty()));
             }
         }
         None => {}
@@ -67,8 +67,7 @@ fn goes_on<V: Windows, W>(grid: &mut Grid<V, W>, told: &mut Guesses)
 {
     let due = grid.state.fetching.due();
     let may = may_fill(&grid.window, due);
-    let room = grid.window.lowest_empty();
-    hear_due(told, due, may, room);
+    hear_due(&grid.window, told, due, may);
     grid.fetch_goes_on();
 }
 

@@ -22,8 +22,9 @@ impl Flights {
     /// A cycle begins with so many frames in flight.
     pub fn begin(&mut self, frames: usize)
         requires { frames < 9 }
-        ensures { (n : ℕ) → number_with n self.old + cond (n == frames) 1 0 < 2 ^ 64
+        ensures more { (n : ℕ) → number_with n self.old + cond (n == frames) 1 0 < 2 ^ 64
             → number_with n self.new ≡ number_with n self.old + cond (n == frames) 1 0 }
+        ensures few { frames < 9 }
     {
         self.cycles[frames] = more(self.cycles[frames], 1);
     }

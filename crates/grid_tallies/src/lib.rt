@@ -26,7 +26,7 @@ pub use cycling::cycle;
 pub use fetches::{fetch_of, filled, guesses, may_fill, open_youngest};
 pub use flights::Flights;
 pub use guess_table::Guesses;
-pub use law::counted_cycles_are_eager;
+pub use law::{counted_cycles_are_eager, statistics_add_up};
 pub use leading::{Leading, leads_in};
 pub use running::{close, cycles};
 pub use statistic::Statistic;

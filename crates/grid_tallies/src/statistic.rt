@@ -25,12 +25,15 @@ pub enum Statistic {
     Ends,
     /// next blocks predicted
     Predictions,
+    /// cycles in which the unit of this tile was busy
+    Station(u8),
 }
 
-/// Where the number of a statistic stands.
+/// Where the number of a statistic stands. There are sixteen tiles.
 pub fn place(statistic: Statistic) -> u8
+    requires { spec.place statistic < 25 }
     ensures value { result ≡ spec.place statistic }
-    ensures within { result < 9 }
+    ensures within { result < 25 }
 {
     match statistic {
         Statistic::Movs => 0,
@@ -42,6 +45,7 @@ pub fn place(statistic: Statistic) -> u8
         Statistic::WrongExits => 6,
         Statistic::Ends => 7,
         Statistic::Predictions => 8,
+        Statistic::Station(tile) => 9 + tile,
     }
 }
 

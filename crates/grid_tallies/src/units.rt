@@ -1,5 +1,5 @@
 //! Part (5) of a cycle, counted: units give their results to the mesh, and issue what is ready.
-ghost use Rattle.std.specs.Prelude.{◌≡◌, ◌<◌, ℕ, ◌∷◌, [], Some, is_some};
+ghost use Rattle.std.specs.Prelude.{◌≡◌, ◌<◌, ◌==◌, ℕ, ◌∷◌, [], Some, cond, is_some};
 ghost use Rattle.grid_cycle_spec.specs.Units as spec;
 ghost use Rattle.block_cases.specs.Orders.{slot_of};
 ghost use Rattle.grid_events.specs.Notes.{Fires};
@@ -8,9 +8,11 @@ ghost use Rattle.grid_events.specs.UnitNotes as noted;
 ghost use Rattle.grid_parts.specs.Seen.{seen};
 ghost use Rattle.grid_parts.specs.inside.EldestChoices.{lowest_slot};
 ghost use Rattle.grid_parts.specs.inside.Marked.{SlotsMarked};
+ghost use Rattle.grid_tallies.specs.declared.statistic.Statistic.TheVariants as statistic;
 ghost use Rattle.grid_tallies.specs.Statistics.{Heard};
+ghost use Rattle.grid_tallies.specs.inside.Adding.{Adds};
 
-use crate::statistic::kind_of;
+use crate::statistic::{Statistic, kind_of};
 use crate::tallies::Tallies;
 use grid_parts::{Grid, Windows, lowest_on, marked_slots, ready_slot};
 use trips_isa::{Inst, Op};
@@ -101,6 +103,21 @@ fn issues_marked<V: Windows, W>(grid: &mut Grid<V, W>, told: &mut Tallies, tile:
     }
 }
 
+// One where a unit is busy for so many cycles yet.
+fn one_busy(left: u8) -> u64
+    ensures { result ≡ cond (left == 0) 0 1 }
+{
+    if left == 0 { 0 } else { 1 }
+}
+
+// A unit that is busy works for a cycle, which is counted for its tile.
+fn count_work(told: &mut Tallies, tile: u8, left: u8)
+    requires { tile < 16 }
+    ensures { Adds (statistic.Station tile) (cond (left == 0) 0 1) told.old told.new }
+{
+    told.add(Statistic::Station(tile), one_busy(left));
+}
+
 /// Part (5).
 pub fn works_on<V: Windows, W>(grid: &mut Grid<V, W>, told: &mut Tallies)
     ensures change { seen (V.held grid.new.window) grid.new.state
@@ -114,6 +131,7 @@ pub fn works_on<V: Windows, W>(grid: &mut Grid<V, W>, told: &mut Tallies)
     let frames = grid.window.numbers();
     let marks = marked_slots(&grid.window, frames.as_slice());
     for tile in 0..16u8 {
+        count_work(told, tile, grid.state.busy(tile));
         grid.unit_on(tile);
         issues_marked(grid, told, tile, marks);
     }

@@ -1,2 +1,3 @@
+pub mod CommitFacts
 pub mod ListedTexts
 pub mod StandardFacts

@@ -13,9 +13,12 @@ use Rattle.block_check.specs.declared.fault.CheckFault.TheVariants as check
 use Rattle.trips_report.specs.declared.said.Said.TheVariants as said
 use Rattle.trips_report.specs.declared.measured.Measured.{Measured}
 use Rattle.trips_report.specs.declared.show.Show.{Show}
+use Rattle.trips_requests.specs.declared.status.Status.TheVariants as status
+use Rattle.trips_report.specs.Endings.{status_of}
 use Rattle.trips_report.specs.Runs.{word_digits, register_line, traced_line, count_line, count_lines, with_part}
 use Rattle.trips_report.specs.Runs.{fired_lines, flushed_lines, memory_lines, predicted_lines, flight_line}
-use Rattle.trips_report.specs.Runs.{statistic_lines, signed, run_report}
+use Rattle.trips_report.specs.Commits.{commit_line}
+use Rattle.trips_report.specs.Runs.{station_line, statistic_lines, signed, run_report}
 use Rattle.trips_report.specs.inside.Refusals.{refusal_report}
 
 -- four registers, of which the last has what main returned, and one committed block
@@ -44,6 +47,7 @@ measured = record {
     predictions = 9;
     right = 4;
     in_flight = 3 ∷ 0 ∷ 12 ∷ 0 ∷ 5 ∷ 0 ∷ 0 ∷ 0 ∷ 20 ∷ [];
+    stations = 9 ∷ 0 ∷ 0 ∷ 0 ∷ 0 ∷ 8 ∷ 0 ∷ 0 ∷ 0 ∷ 0 ∷ 0 ∷ 0 ∷ 0 ∷ 7 ∷ 0 ∷ 6 ∷ [];
   };
   events = codes "cycle 3 seal frame 1\nmore\n";
 }
@@ -85,8 +89,14 @@ pub statistics_are : run_report ending.Ended ended measured 512 counted
     ++ (codes "movs 1\nnulls 2\nuseful 34\nloads 5\nstores 6\n"
     ++ (codes "flushed_by_violation 0\nflushed_by_exit 7\nflushed_at_end 8\npredicted 9\npredicted_right 4\n"
     ++ (codes "in_flight_0 3\nin_flight_1 0\nin_flight_2 12\nin_flight_3 0\nin_flight_4 5\n"
-    ++ codes "in_flight_5 0\nin_flight_6 0\nin_flight_7 0\nin_flight_8 20\n")))
-unfolding digits count_line count_lines fired_lines memory_lines flushed_lines predicted_lines flight_line statistic_lines with_part
+    ++ (codes "in_flight_5 0\nin_flight_6 0\nin_flight_7 0\nin_flight_8 20\n"
+    ++ (codes "station_0_0 9\nstation_0_1 0\nstation_0_2 0\nstation_0_3 0\n"
+    ++ (codes "station_1_0 0\nstation_1_1 8\nstation_1_2 0\nstation_1_3 0\n"
+    ++ (codes "station_2_0 0\nstation_2_1 0\nstation_2_2 0\nstation_2_3 0\n"
+    ++ (codes "station_3_0 0\nstation_3_1 7\nstation_3_2 0\nstation_3_3 6\n"
+    ++ codes "block 0 committed 1\n"))))))))
+unfolding digits count_line count_lines fired_lines memory_lines flushed_lines predicted_lines flight_line
+    station_line commit_line statistic_lines with_part
 statistics_are = refl
 
 -- the lines of events stand behind all else
@@ -94,6 +104,17 @@ pub events_are : run_report ending.Ended ended measured 512 told
     ≡ codes "output 2\nhi\nresult 7\nblock 0 exit 1\ncycle 3 seal frame 1\nmore\n"
 unfolding digits traced_line with_part
 events_are = refl
+
+-- the word of the least long in register 3
+abbrev aborting : State
+aborting = record ended { registers = 3 ∷ 0 ∷ 0 ∷ 2 ^ 63 ∷ [] }
+
+pub aborted_is : run_report ending.Ended aborting measured 512 hidden ≡ codes "output 2\nhi\naborted\n"
+unfolding digits with_part
+aborted_is = refl
+
+pub aborted_has_its_status : status_of ending.Ended aborting ≡ status.Aborted
+aborted_has_its_status = refl
 
 pub budget_is : run_report ending.Budget ended measured 512 hidden ≡ codes "output 2\nhi\nbudget 1\n"
 unfolding digits with_part

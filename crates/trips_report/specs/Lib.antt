@@ -1,3 +1,4 @@
+pub mod Commits
 pub mod Runs
 pub mod Endings
 pub mod Refusals

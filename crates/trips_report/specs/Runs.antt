@@ -1,5 +1,5 @@
 -- The report of a run, and the lines that it shows behind its ending (README.md of this crate).
-use Rattle.std.specs.Prelude.{ℕ, ◌-◌, ◌^◌, nat_lt, Bool, if◌then◌else◌, List, [], ◌∷◌, ◌++◌, length}
+use Rattle.std.specs.Prelude.{ℕ, ◌-◌, ◌/◌, ◌%◌, ◌^◌, nat_lt, Bool, if◌then◌else◌, List, [], ◌∷◌, ◌++◌, length}
 use Rattle.std.specs.Prelude.{codes, slice_index, decimal, is_some}
 use Rattle.std.specs.List.{flat_map}
 use Rattle.std.specs.Int.{w64, to_be_bytes}
@@ -12,10 +12,12 @@ use Rattle.trips_isa.specs.TrapCauses.{number_of}
 use Rattle.isa_table.specs.Spots.{indexed}
 use Rattle.target_asm_spec.specs.Numbers.{numbered}
 use Rattle.trips_isa.specs.Machine.{State}
+use Rattle.trips_requests.specs.Results.{end_line}
 use Rattle.trips_requests.specs.Texts.{output_and}
 use Rattle.trips_report.specs.declared.measured.Measured.{Measured}
 use Rattle.trips_report.specs.declared.measured.Statistics.{Statistics}
 use Rattle.trips_report.specs.declared.show.Show.{Show}
+use Rattle.trips_report.specs.Commits.{commit_lines}
 
 -- a word as a signed number in decimal digits
 abbrev pub signed : ℕ → List ℕ
@@ -23,7 +25,7 @@ signed word = if nat_lt word (2 ^ 63) then decimal word else codes "-" ++ decima
 
 -- the line of an ending, of register 3 and of how many blocks were committed
 abbrev pub ending_line : Ending → ℕ → ℕ → List ℕ
-ending_line ending.Ended word blocks = codes "result " ++ signed word
+ending_line ending.Ended word blocks = end_line word (signed word)
 ending_line ending.StackFull word blocks = codes "stack full"
 ending_line ending.Budget word blocks = codes "budget " ++ decimal blocks
 ending_line (ending.Trap block cause) word blocks =
@@ -94,10 +96,20 @@ flight_line n cycles = codes "in_flight_" ++ (decimal n ++ (32 ∷ (decimal cycl
 abbrev pub flight_lines : List ℕ → List ℕ
 flight_lines cycles = numbered flight_line 0 cycles
 
--- the statistics of a run: nineteen lines
+-- in how many cycles the unit of a tile was busy, by the row and the column of the tile, as `station_3_1 170`
+unfoldable pub station_line : ℕ → ℕ → List ℕ
+station_line tile cycles = codes "station_"
+    ++ (decimal (tile / 4) ++ (95 ∷ (decimal (tile % 4) ++ (32 ∷ (decimal cycles ++ 10 ∷ [])))))
+
+-- so for each tile, row by row
+abbrev pub station_lines : List ℕ → List ℕ
+station_lines cycles = numbered station_line 0 cycles
+
+-- the statistics of a run: thirty-five lines
 unfoldable pub statistic_lines : Statistics → List ℕ
 statistic_lines s = fired_lines s
-    ++ (memory_lines s ++ (flushed_lines s ++ (predicted_lines s ++ flight_lines s.in_flight)))
+    ++ (memory_lines s
+    ++ (flushed_lines s ++ (predicted_lines s ++ (flight_lines s.in_flight ++ station_lines s.stations))))
 
 -- nothing was counted
 abbrev pub no_statistics : Statistics
@@ -113,6 +125,7 @@ no_statistics = record {
   predictions = 0;
   right = 0;
   in_flight = 0 ∷ 0 ∷ 0 ∷ 0 ∷ 0 ∷ 0 ∷ 0 ∷ 0 ∷ 0 ∷ [];
+  stations = 0 ∷ 0 ∷ 0 ∷ 0 ∷ 0 ∷ 0 ∷ 0 ∷ 0 ∷ 0 ∷ 0 ∷ 0 ∷ 0 ∷ 0 ∷ 0 ∷ 0 ∷ 0 ∷ [];
 }
 
 -- what a run took whose statistics were not counted, and of whose events nothing is told
@@ -125,12 +138,12 @@ with_part shown part text = if shown then text ++ part else text
 
 -- THE REPORT
 
--- A text, and behind it the registers, the committed blocks, what the run took, its statistics and the lines of its
--- events, as far as they are shown.
+-- A text, and behind it the registers, the committed blocks, what the run took, its statistics with how often each
+-- block was committed, and the lines of its events, as far as they are shown.
 abbrev pub with_shown : List ℕ → State → Measured → ℕ → Show → List ℕ
 with_shown text s measured cost show =
     with_part (is_some show.events) measured.events
-    (with_part show.stats (statistic_lines measured.statistics)
+    (with_part show.stats (statistic_lines measured.statistics ++ commit_lines s.trace)
     (with_part show.cycles (count_lines measured.counts cost)
     (with_part show.trace (trace_lines s.trace) (with_part show.regs (register_lines s.registers) text))))
 

@@ -4,8 +4,11 @@ ghost use Rattle.std.specs.Prelude.{◌≡◌, ◌++◌, OnOk, length};
 ghost use Rattle.trips_report.specs.Runs.{word_digits, register_line, traced_line, count_line};
 ghost use Rattle.trips_report.specs.Runs.{register_lines, trace_lines, count_lines, with_part};
 ghost use Rattle.trips_report.specs.Runs.{fired_lines, flushed_lines, memory_lines, predicted_lines};
+ghost use Rattle.trips_report.specs.Commits.{commit_lines};
 ghost use Rattle.trips_report.specs.Runs.{flight_line, flight_lines, statistic_lines};
+ghost use Rattle.trips_report.specs.Runs.{station_line, station_lines};
 
+use crate::commits::put_commits;
 use crate::measured::Statistics;
 use block_atomic::Arch;
 use hex::encode;
@@ -200,6 +203,31 @@ fn put_flights(out: &mut Vec<u8>, cycles: &[u64]) -> Result<(), AllocError>
     Ok(())
 }
 
+// Writes in how many cycles the unit of a tile was busy.
+#[tactic(auto, unfolding(crate::specs::Runs::station_line))]
+fn put_station(out: &mut Vec<u8>, tile: u64, cycles: u64) -> Result<(), AllocError>
+    ensures ok { OnOk result (out.new.items ≡ out.old.items ++ station_line tile cycles) }
+{
+    out.extend_from_slice(b"station_")?;
+    put_number(out, tile / 4)?;
+    out.push(b'_')?;
+    put_number(out, tile % 4)?;
+    out.push(b' ')?;
+    put_number(out, cycles)?;
+    out.push(b'\n')?;
+    Ok(())
+}
+
+// Writes so for each tile.
+fn put_stations(out: &mut Vec<u8>, cycles: &[u64]) -> Result<(), AllocError>
+    ensures ok { OnOk result (out.new.items ≡ out.old.items ++ station_lines cycles.now) }
+{
+    for n in 0..cycles.len() {
+        put_station(out, n as u64, cycles[n])?;
+    }
+    Ok(())
+}
+
 // Writes the statistics of a run.
 #[tactic(auto, unfolding(crate::specs::Runs::statistic_lines))]
 fn put_statistics(out: &mut Vec<u8>, statistics: Statistics) -> Result<(), AllocError>
@@ -209,7 +237,8 @@ fn put_statistics(out: &mut Vec<u8>, statistics: Statistics) -> Result<(), Alloc
     put_memory(out, statistics)?;
     put_flushed(out, statistics)?;
     put_predicted(out, statistics)?;
-    put_flights(out, &statistics.in_flight)
+    put_flights(out, &statistics.in_flight)?;
+    put_stations(out, &statistics.stations)
 }
 
 /// Writes the lines of a run's events, where they are shown.
@@ -224,18 +253,34 @@ pub fn show_events(out: &mut Vec<u8>, shown: bool, lines: &[u8]) -> Result<(), A
     }
 }
 
-/// Writes the statistics of a run, where they are shown.
+// Writes the statistics of a run, and how often each block was committed.
+fn put_statistics_and_commits(
+    alloc: Global,
+    out: &mut Vec<u8>,
+    statistics: Statistics,
+    trace: &[Traced],
+) -> Result<(), AllocError>
+    ensures ok { OnOk result (out.new.items
+        ≡ out.old.items ++ (statistic_lines statistics ++ commit_lines trace.now)) }
+{
+    put_statistics(out, statistics)?;
+    put_commits(alloc, out, trace)
+}
+
+/// Writes the statistics of a run, and how often each block was committed, where they are shown.
 #[tactic(auto, unfolding(crate::specs::Runs::with_part))]
 pub fn show_statistics(
+    alloc: Global,
     out: &mut Vec<u8>,
     shown: bool,
     statistics: Statistics,
+    trace: &[Traced],
 ) -> Result<(), AllocError>
-    ensures ok { OnOk result (out.new.items ≡ with_part shown (statistic_lines statistics)
-        out.old.items) }
+    ensures ok { OnOk result (out.new.items
+        ≡ with_part shown (statistic_lines statistics ++ commit_lines trace.now) out.old.items) }
 {
     if shown {
-        put_statistics(out, statistics)
+        put_statistics_and_commits(alloc, out, statistics, trace)
     } else {
         Ok(())
     }

@@ -32,6 +32,8 @@ pub struct Statistics {
     pub right: u64,
     /// cycles that began with so many frames in flight, from 0 to 8
     pub in_flight: [u64; 9],
+    /// cycles in which the unit of each tile was busy, row by row
+    pub stations: [u64; 16],
 }
 
 impl Statistics {
@@ -51,6 +53,7 @@ impl Statistics {
             predictions: 0,
             right: 0,
             in_flight: [0; 9],
+            stations: [0; 16],
         }
     }
 }

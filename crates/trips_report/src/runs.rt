@@ -10,7 +10,7 @@ use base::Memory;
 use block_atomic::Arch;
 use std::alloc::{AllocError, Global};
 use trips_isa::{Ending, number_of};
-use trips_requests::output_text;
+use trips_requests::{end_text, output_text};
 
 // A word as a signed number.
 fn signed_text(alloc: Global, word: u64) -> Result<String, AllocError>
@@ -36,7 +36,7 @@ fn ending_text(
     match ending {
         Ending::Ended => {
             let number = signed_text(alloc, word)?;
-            format!(in alloc; "result {number}")
+            end_text(alloc, word, number.as_str())
         }
         Ending::StackFull => String::from_str(alloc, "stack full"),
         Ending::Budget => format!(in alloc; "budget {blocks}"),
@@ -72,7 +72,13 @@ fn run_text(
     show_registers(alloc, &mut report, show.regs, arch)?;
     show_trace(&mut report, show.trace, arch.trace())?;
     show_counts(&mut report, show.cycles, measured.counts, cost)?;
-    show_statistics(&mut report, show.stats, measured.statistics)?;
+    show_statistics(
+        alloc,
+        &mut report,
+        show.stats,
+        measured.statistics,
+        arch.trace(),
+    )?;
     show_events(
         &mut report,
         show.events.is_some(),
@@ -82,8 +88,8 @@ fn run_text(
 }
 
 /// The report of a run: the output, how the run ended and, as far as they are shown, the registers, the committed
-/// blocks, what the run took, `cost` cycles at most, its statistics and the lines of its events. Want of memory is the
-/// only error.
+/// blocks, what the run took, `cost` cycles at most, its statistics with how often each block was committed, and the
+/// lines of its events. Want of memory is the only error.
 pub fn run_report(
     alloc: Global,
     ending: Ending,

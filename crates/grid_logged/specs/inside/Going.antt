@@ -14,8 +14,11 @@ use Rattle.grid_logged.specs.Runs.{entries_between}
 -- one cycle, and the log has kept its entries where it is one of those from the first to the last
 pub record IsNext {W : Type 0} (next : W → ℕ) (follows : W → W → Type 0) (blocks : List Block)
     (budget first last : ℕ) (g h : Grid W) (a b : Log) : Type 0 where
+  -- what is noted of the cycle
   pub notes : List Note
+  -- it is an eager cycle with these notes
   pub noted : Noted next follows blocks budget g notes h
+  -- the log has kept what of them is wanted
   pub keeps : Keeps a (entries_between first last (entries_of (g.counts.cycles + 1) notes)) b
 
 -- n cycles, before each of which the run goes on, and the log has kept the entries of those from the first to the last
@@ -23,6 +26,9 @@ pub record AreNext {W : Type 0} (next : W → ℕ) (follows : W → W → Type 0
     (budget n first last : ℕ) (g h : Grid W) (a b : Log) : Type 0 where
   -- the notes of each cycle, those of the last first
   pub notes : List (List Note)
+  -- so many cycles
   pub many : length notes ≡ n
+  -- they lead from the one grid to the other
   pub cycles : NotedGoes next follows blocks budget notes g h
+  -- the log has kept what of their notes is wanted
   pub keeps : Keeps a (entries_between first last (cycles_entries g.counts.cycles notes)) b

@@ -1,7 +1,7 @@
 use Rattle.std.proofs.Common.{◌<◌, refl, sym, ap, subst, arith}
 use Rattle.trips_isa.specs.declared.block.Image.{Image}
 use Rattle.trips_isa.specs.Machine.{start}
-use Rattle.grid_machine.proofs.Starts.{seed_start}
+use Rattle.grid_cycle.proofs.Starts.{conditions_start}
 use Rattle.grid_machine.specs.inside.WholeRuns.{IsKept}
 use Rattle.grid_cycle.specs.Engines.{blocks_of, grid_of}
 use Rattle.grid_counted.specs.Seeds.{HasCounted}
@@ -14,10 +14,10 @@ run_out-requires c =
     record {
       started = record {
         state = s;
-        seed = c.args.seed;
+        conditions = c.args.conditions;
         fresh = refl;
-        starts = seed_start s c.args.seed c.in_ok-predictor.predictor c.make-2.result (grid_of x)
-            c.in_ok-grid.ensures.begun c.in_ok-predictor.ensures c.make-2.ensures;
+        starts = conditions_start s c.args.conditions c.in_ok-predictor.predictor c.weather_for.result (grid_of x)
+            c.in_ok-grid.ensures.begun c.in_ok-predictor.ensures c.weather_for.ensures;
       };
       some = subst (λ b. 0 < b) (sym c.in_ok-grid.ensures.budget) c.requires.some;
       kept = subst (λ b. IsKept b (grid_of x)) (sym c.in_ok-grid.ensures.budget) c.in_ok-grid.ensures.kept;
@@ -28,9 +28,9 @@ returns-clause-ran c =
     let x = c.in_ok-grid.grid in
     let s = start c.args.image.bytes c.args.input.items in
     let run = c.run_out.result in
-    subst (λ bs. HasCounted bs s c.args.budget c.args.seed run.ending (grid_of run.grid) run.told run.flights)
+    subst (λ bs. HasCounted bs s c.args.budget c.args.conditions run.ending (grid_of run.grid) run.told run.flights)
     (ap (λ (i : Image). i.blocks) c.in_ok-grid.ensures.image)
-    (subst (λ b. HasCounted (blocks_of x) s b c.args.seed run.ending (grid_of run.grid) run.told run.flights)
+    (subst (λ b. HasCounted (blocks_of x) s b c.args.conditions run.ending (grid_of run.grid) run.told run.flights)
     c.in_ok-grid.ensures.budget
-    (c.run_out.ensures.ran s c.args.seed refl (seed_start s c.args.seed c.in_ok-predictor.predictor
-    c.make-2.result (grid_of x) c.in_ok-grid.ensures.begun c.in_ok-predictor.ensures c.make-2.ensures)))
+    (c.run_out.ensures.ran s c.args.conditions refl (conditions_start s c.args.conditions c.in_ok-predictor.predictor
+    c.weather_for.result (grid_of x) c.in_ok-grid.ensures.begun c.in_ok-predictor.ensures c.weather_for.ensures)))

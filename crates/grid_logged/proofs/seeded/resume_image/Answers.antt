@@ -2,7 +2,7 @@ use Rattle.std.proofs.Common.{◌<◌, List, length, sym, ap, subst, arith, ◌�
 use Rattle.std.proofs.lemmas.Result.{IfOk-weaker}
 use Rattle.trips_isa.specs.declared.block.Image.{Image}
 use Rattle.trips_isa.specs.declared.run.Traced.{Traced}
-use Rattle.grid_machine.proofs.Starts.{seed_start}
+use Rattle.grid_cycle.proofs.Starts.{conditions_start}
 use Rattle.grid_machine.specs.inside.WholeRuns.{IsKept}
 use Rattle.grid_cycle.specs.Engines.{blocks_of, grid_of}
 use Rattle.grid_logged.specs.Seeds.{HasLogged}
@@ -20,10 +20,10 @@ run_out-requires c =
     record {
       started = record {
         state = s;
-        seed = c.args.seed;
+        conditions = c.args.conditions;
         fresh = c.requires.fresh;
-        starts = seed_start s c.args.seed c.in_ok-predictor.predictor c.make-2.result (grid_of x)
-            c.in_ok-grid.ensures.begun c.in_ok-predictor.ensures c.make-2.ensures;
+        starts = conditions_start s c.args.conditions c.in_ok-predictor.predictor c.weather_for.result (grid_of x)
+            c.in_ok-grid.ensures.begun c.in_ok-predictor.ensures c.weather_for.ensures;
       };
       some = subst (λ b. 0 < b) (sym c.in_ok-grid.ensures.budget) c.requires.some;
       kept = subst (λ b. IsKept b (grid_of x)) (sym c.in_ok-grid.ensures.budget) c.in_ok-grid.ensures.kept;
@@ -36,14 +36,14 @@ returns-clause-ran c =
     let a = c.args in
     let run = c.run_out.result in
     IfOk-weaker c.kept.result _ _
-    (λ of e. subst (λ (r : Logged). HasLogged a.image.blocks s a.budget a.seed a.first a.last a.limit r.ending
+    (λ of e. subst (λ (r : Logged). HasLogged a.image.blocks s a.budget a.conditions a.first a.last a.limit r.ending
     (grid_of r.grid) r.log) (sym e)
-    (subst (λ bs. HasLogged bs s a.budget a.seed a.first a.last a.limit run.ending (grid_of run.grid) run.log)
+    (subst (λ bs. HasLogged bs s a.budget a.conditions a.first a.last a.limit run.ending (grid_of run.grid) run.log)
     (ap (λ (i : Image). i.blocks) c.in_ok-grid.ensures.image)
-    (subst (λ b. HasLogged (blocks_of x) s b a.seed a.first a.last a.limit run.ending (grid_of run.grid) run.log)
+    (subst (λ b. HasLogged (blocks_of x) s b a.conditions a.first a.last a.limit run.ending (grid_of run.grid) run.log)
     c.in_ok-grid.ensures.budget
-    (c.run_out.ensures.ran s a.seed c.requires.fresh (seed_start s a.seed c.in_ok-predictor.predictor
-    c.make-2.result (grid_of x) c.in_ok-grid.ensures.begun c.in_ok-predictor.ensures c.make-2.ensures)))))
+    (c.run_out.ensures.ran s a.conditions c.requires.fresh (conditions_start s a.conditions c.in_ok-predictor.predictor
+    c.weather_for.result (grid_of x) c.in_ok-grid.ensures.begun c.in_ok-predictor.ensures c.weather_for.ensures)))))
     c.kept.ensures.same
 
 pub returns-clause-image : goal.returns-clause-image

@@ -1,4 +1,5 @@
-use Rattle.std.proofs.Common.{subst}
+use Rattle.std.proofs.Common.{refl, subst}
+use Rattle.commit_flush_spec.specs.Window.{lowest_empty}
 use Rattle.grid_parts.specs.Seen.{seen}
 use Rattle.grid_tallies.specs.Predictions.{Guessed}
 use Rattle.grid_tallies.proofs.Fetched.{fetch_ends_are}
@@ -9,5 +10,5 @@ returns-clause-heard g c =
     let v = c.args.grid.now.window in
     subst (λ es. Guessed c.args.told.now es c.hear_due.new.told)
     (fetch_ends_are (g.V.Windows.blocks v) (g.V.Windows.budget v) (seen (g.V.Windows.held v) c.args.grid.now.state)
-    c.due-due.result c.may_fill-may.result c.lowest_empty-room.result c.due-due.ensures c.may_fill-may.ensures
-    c.lowest_empty-room.ensures.value) c.hear_due.ensures
+    c.due-due.result c.may_fill-may.result (lowest_empty 8 0 (g.V.Windows.held v).frames) c.due-due.ensures
+    c.may_fill-may.ensures refl) c.hear_due.ensures

@@ -14,6 +14,7 @@ loop-made-init g c = record {
     cycles = refl;
     heard = hears_none c.args.told.now [] (λ s. refl) refl;
     flown = λ n less room. omega arith;
+    few = tt;
   };
   within = omega arith;
   counted = c.requires.counted;
@@ -37,8 +38,8 @@ loop-made-preserved g c =
           c.loop-made.invariant.image (c.loop-made.invariant.budget ∙ c.requires.budget)
           c.args.flights.now c.loop-made.flights c.begin.new.self c.len.result
           (c.len.ensures.value ∙ ap length c.numbers.ensures.value
-          ∙ length-map (g.V.Windows.held x.window).frames (λ (f : Frame). f.number)) c.requires.counted
-          c.loop-made.invariant.counted c.begin.ensures
+          ∙ length-map (g.V.Windows.held x.window).frames (λ (f : Frame). f.number)) c.begin.ensures.few
+          c.requires.counted c.loop-made.invariant.counted c.begin.ensures.more
           (sym c.if-is_going.ensures) c.loop-made.invariant.run c.cycle.ensures.eager;
       within = omega arith;
       counted = c.cycle.ensures.counted;

@@ -1,11 +1,13 @@
-use Rattle.std.proofs.Common.{◌≡◌, [], refl, sym, ap, ap₂, subst, ◌∙◌, add-one, arith}
+use Rattle.std.proofs.Common.{◌≡◌, ◌==◌, cond, [], refl, sym, ap, ap₂, subst, ◌∙◌, add-one, arith}
 use Rattle.grid_cycle_spec.specs.Choosing.{each}
 use Rattle.grid_cycle_spec.specs.Units.{issues, unit_turn}
 use Rattle.grid_events.specs.Turns.{of_each}
 use Rattle.grid_events.specs.UnitNotes.{issues_notes, turn_notes}
 use Rattle.grid_parts.specs.Seen.{seen}
 use Rattle.grid_parts.proofs.MarkedFacts.{slots_kept, slots_moved}
+use Rattle.grid_tallies.specs.declared.statistic.Statistic.TheVariants as statistic
 use Rattle.grid_tallies.specs.Statistics.{Heard}
+use Rattle.grid_tallies.specs.inside.Adding.{Adds}
 use Rattle.grid_tallies.proofs.Tallying.{heard_none}
 use Rattle.grid_tallies.proofs.Answering.{each_heard, same_heard}
 use Rattle.grid_tallies.proofs.Turning.{turn_heard}
@@ -48,8 +50,11 @@ loop-tile-preserved g c =
           ∙ ap (λ n. each (unit_turn bs b) n start) (sym (add-one tile));
       heard = each_heard (unit_turn bs b) (turn_notes bs b) tile start now c.args.told.now c.loop-tile.told
           c.issues_marked.new.told c.loop-tile.invariant.change c.loop-tile.invariant.heard
-          (turn_heard bs b tile now c.loop-tile.told c.issues_marked.new.told mid c.unit_on.ensures.change
-          (same_heard (λ i j. issues_notes i j tile mid) _ bs _ b c.loop-tile.told c.issues_marked.new.told
+          (turn_heard bs b tile now c.loop-tile.told c.issues_marked.new.told c.count_work.new.told mid
+          c.unit_on.ensures.change
+          (subst (λ n. Adds (statistic.Station tile) (cond (n == 0) 0 1) c.loop-tile.told c.count_work.new.told)
+          c.busy.ensures c.count_work.ensures)
+          (same_heard (λ i j. issues_notes i j tile mid) _ bs _ b c.count_work.new.told c.issues_marked.new.told
           (image ∙ c.loop-tile.invariant.image) (budget ∙ c.loop-tile.invariant.budget)
           c.issues_marked.ensures.heard));
       image = c.issues_marked.ensures.image ∙ image ∙ c.loop-tile.invariant.image;
