@@ -1,7 +1,7 @@
 /* The functions of the library, in the language that docs/LANGUAGE.md describes. bench/library makes the table of the
    crate c_library of them: a text that calls one of them gets its definition, and those that this one needs. The
    first `_` of a name of the library's own, as `print_d`, is a `.` there, so that no text can have the name. So is that
-   of `exit_now`, which ends the run with the value of its argument: each include of `<stdio.h>` declares it. */
+   of `exit_now`, which ends the run with its argument, a long: each include of `<stdio.h>` declares it. */
 
 /* stdio.h */
 
@@ -228,6 +228,13 @@ int rand(void)
 void srand(unsigned int seed)
 {
     rand_next = seed;
+}
+
+/* 7.22.4.1: the run ends with the least long, which no int is */
+#include <stdio.h>
+void abort(void)
+{
+    exit_now((unsigned long)1 << 63);
 }
 
 /* 7.22.4.4 */

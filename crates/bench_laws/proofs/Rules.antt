@@ -25,7 +25,10 @@ use Rattle.c_constant.specs.Kinds.{converted}
 use Rattle.c_meaning_spec.specs.declared.signal.Signal.{Signal}
 use Rattle.c_meaning_spec.specs.declared.signal.Signal.TheVariants.{Nothing, Value, Returns}
 use Rattle.c_meaning_spec.specs.declared.signal.Object.TheVariants.{InScalar, InArray}
-use Rattle.c_meaning_spec.specs.State.{State, Result, Go, given, held, cell_in, store_in, written, want}
+use Rattle.c_meaning_spec.specs.declared.signal.Halt.TheVariants.{Faults}
+use Rattle.c_meaning_spec.specs.declared.fault.Fault.TheVariants.{IllFormed}
+use Rattle.c_meaning_spec.specs.State.{State, Result, Go, Over, given, held, missing, cell_in, store_in, written, want}
+use Rattle.c_meaning_spec.specs.Word.{binary_fault}
 use Rattle.c_meaning_spec.specs.inside.State.{then}
 use Rattle.c_meaning_spec.specs.Word.{binary_of}
 use Rattle.c_meaning_spec.specs.Task.{Of, Run, Turn, Parts, element as element_value}
@@ -98,7 +101,7 @@ pub r_scalar : {P : TypedProgram} {l : ℕ} {c : Kind} {i w : ℕ} {s : State} {
     → Gives P (scalar l c i) s (suc k) w s k
 r_scalar {P = P} {l = l} {c = c} {i = i} {w = w} {s = s} {k = k} h = record {
   is = of_node P l c _ (Name (place.Scalar i)) (at s (suc k)) (nodes.rolls-Name (place.Scalar i))
-      ∙ ap (λ (x : Option (Option ℕ)). given (held x) (at s k)) h;
+      ∙ ap (λ (x : Option (Option ℕ)). given (held x) (missing (at s k) (InScalar i)) (at s k)) h;
 }
 
 -- an element gives the word at its index, in a step more than the index takes
@@ -110,8 +113,9 @@ r_element {P = P} {l = l} {c = c} {g = g} {w = w} {v = v} {k = k} {j = j} {e = e
       is = of_node P l c _ (Element (place.Global g) None (typed e)) (at s (suc k))
           (nodes.rolls-Element (place.Global g) None (typed e))
           ∙ ap (λ (r : Result). then r (element_value (place.Global g))) h.is
-          ∙ ap (λ (r : Option (List (Option ℕ))). given (held (cell_in r w)) (at s' j)) f
-          ∙ ap (λ (r : Option (Option ℕ)). given (held r) (at s' j)) x;
+          ∙ ap (λ (r : Option (List (Option ℕ))). given (held (cell_in r w)) (missing (at s' j) (InArray g w))
+          (at s' j)) f
+          ∙ ap (λ (r : Option (Option ℕ)). given (held r) (missing (at s' j) (InArray g w)) (at s' j)) x;
     }
 
 -- an operation other than `&&` and `||`
@@ -131,7 +135,7 @@ r_operation {P = P} {l = l} {c = c} {op = op} {a = a} {b = b} {k = k} {j = j} {i
           ∙ eager (meaning P) (typed x) (typed y) (at s k)
           ∙ ap (λ (r : Result). then r (after_left (meaning P) op (typed x).kind (typed y))) g.is
           ∙ ap (λ (r : Result). then r (operated op (typed x).kind a)) h.is
-          ∙ ap (λ (r : Option ℕ). given r (at s'' i)) e;
+          ∙ ap (λ (r : Option ℕ). given r (binary_fault op (typed x).kind a b) (at s'' i)) e;
     }
 
 -- a number that is converted gives its word in the new type, in a step
@@ -226,7 +230,7 @@ r_call {P = P} {l = l} {c = c} {f = f} {w = w} {v = v} {k = k} {j = j} {i = i} {
           ∙ ap (λ (o : Option TypedFunc). enter (meaning P) false o (w ∷ []) (at s' (suc j))) is_f
           ∙ ap (λ (b : Bool). cond b (entered_if (meaning P) false
           (nat_le (s'.room + frame F) most_frame_bytes) F (w ∷ [])
-          (at s' (suc j))) (want Nothing (at s' (suc j)) (λ w. Go (Value w) s'))) one
+          (at s' (suc j))) (Over (Faults IllFormed) (at s' (suc j)))) one
           ∙ ap (λ (b : Bool). entered_if (meaning P) false b F (w ∷ []) (at s' (suc j))) fits
           ∙ ap (λ (b : TypedStmt). then (meaning P (Run b) (at (entered F (w ∷ []) s') (suc j)))
           (left false s'.scalars (length s'.arrays) s'.base s'.room)) is_body

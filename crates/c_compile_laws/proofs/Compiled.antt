@@ -4,7 +4,7 @@ use Rattle.std.proofs.Common.{◌∙◌, arith, get_or, mul-le-mul, mul-suc, mul
 use Rattle.std.proofs.lemmas.Option.{slice_get-get_or}
 use Rattle.trips_isa.specs.declared.block.Image.{Image}
 use Rattle.trips_isa.specs.Stores.{data_size}
-use Rattle.c_tree.specs.declared.Kind.TheVariants.{Int}
+use Rattle.c_tree.specs.declared.Kind.TheVariants.{Long}
 use Rattle.c_tree.specs.declared.typed.TypedProgram.{TypedProgram}
 use Rattle.c_constant.specs.Kinds.{number, IsWord}
 use Rattle.c_meaning_spec.specs.Eval.{Outcome}
@@ -150,8 +150,8 @@ module _ (P : TypedProgram) (F : Program) (t : ℕ) (p : Placing) (w : ℕ) (i :
             record {
               answer = w.0;
               output = w.1 ∙ (a.outside).output ∙ f.output;
-              word = subst (λ (v : ℕ). IsWord Int v) (sym w.2) f.fits;
-              is = ap (number Int) w.2 ∙ f.is;
+              word = subst (λ (v : ℕ). IsWord Long v) (sym w.2) f.fits;
+              is = ap (number Long) w.2 ∙ f.is;
             };
       }
 

@@ -76,7 +76,7 @@ const ROWS: &[Row] = &[
 #[derive(Drop)]
 struct End {
     output: Vec<u8>,
-    result: i32,
+    result: i64,
 }
 
 // The evaluation of a text.
@@ -150,7 +150,7 @@ fn assert_ends(
         end.output.as_slice(),
         "{text} within {room}: its output"
     );
-    let word = (end.result as i64).cast_unsigned();
+    let word = end.result.cast_unsigned();
     assert_eq!(rt; arch.register(3), word, "{text} within {room}: its result");
     Ok(())
 }

@@ -44,6 +44,8 @@ further =
     ++ codes "rand.next / 65536 ) % 32768 ; }")
     ∷ row (codes "srand") header.Stdlib
     (codes "void srand ( unsigned int seed ) { rand.next = seed ; }")
+    ∷ row (codes "abort") header.Stdlib
+    (codes "#include void abort ( void ) { exit.now ( ( unsigned long ) 1 << 63 ) ; }")
     ∷ row (codes "exit") header.Stdlib
     (codes "#include void exit ( int status ) { exit.now ( status ) ; }")
     ∷ row (codes "strlen") header.String

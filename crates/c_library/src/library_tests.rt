@@ -52,6 +52,20 @@ const ROWS: &[(&str, &str)] = &[
         "<stdlib.h> void exit ( int n ) { } int f ( ) { exit ( 1 ) ; }",
         "void exit ( int n ) { } int f ( ) { exit ( 1 ) ; }",
     ),
+    // 7.22.4.1: the least long says that the program has aborted; both includes declare what ends the run.
+    (
+        "<stdlib.h> int f ( ) { abort ( ) ; }",
+        "#include void abort ( void ) { exit.now ( ( unsigned long ) 1 << 63 ) ; } int f ( ) { abort ( ) ; }",
+    ),
+    (
+        "<stdlib.h> int f ( ) { abort ( ) ; exit ( 1 ) ; }",
+        "#include void abort ( void ) { exit.now ( ( unsigned long ) 1 << 63 ) ; } #include void exit ( int status ) { \
+         exit.now ( status ) ; } int f ( ) { abort ( ) ; exit ( 1 ) ; }",
+    ),
+    (
+        "<stdlib.h> void abort ( void ) { } int f ( ) { abort ( ) ; }",
+        "void abort ( void ) { } int f ( ) { abort ( ) ; }",
+    ),
     // 7.21.7.9, behind the include.
     (
         "#include <ctype.h> void f ( void ) { puts ( \"a ) ; isdigit ( 1 ) ; }",

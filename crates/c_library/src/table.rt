@@ -8,7 +8,7 @@ use crate::definition::TableRow;
 use crate::header::Header;
 
 /// Each with its name, its header, and the text of its definition.
-const TABLE: [TableRow; 35] = [
+const TABLE: [TableRow; 36] = [
     (
         b"print.c",
         Header::Stdio,
@@ -181,6 +181,11 @@ const TABLE: [TableRow; 35] = [
         b"srand",
         Header::Stdlib,
         b"void srand ( unsigned int seed ) { rand.next = seed ; }",
+    ),
+    (
+        b"abort",
+        Header::Stdlib,
+        b"#include void abort ( void ) { exit.now ( ( unsigned long ) 1 << 63 ) ; }",
     ),
     (
         b"exit",

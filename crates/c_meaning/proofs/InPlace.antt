@@ -4,8 +4,8 @@ use Rattle.std.proofs.Common.{map, Option, Some, None, length, take, set, get_or
 use Rattle.std.specs.Prelude.{slice_get, IsSome, IsTrue}
 use Rattle.std.proofs.lemmas.Grind.{common_steps}
 use Rattle.c_meaning_spec.specs.State.{State, Over, held}
-use Rattle.c_meaning_spec.specs.declared.Ending.TheVariants.{Undefined}
-use Rattle.c_meaning_spec.specs.declared.Halt.TheVariants.{Ends, Exits}
+use Rattle.c_meaning_spec.specs.declared.Fault.TheVariants.{IllFormed}
+use Rattle.c_meaning_spec.specs.declared.Halt.TheVariants.{Faults, Exits}
 use Rattle.c_meaning_spec.specs.Call.{exit_with, get_char, put_char, read_from}
 use Rattle.c_meaning.specs.inside.Given.{alone, values, words}
 
@@ -116,7 +116,7 @@ put_alone (v ∷ u ∷ ws) cs w s e h = absurd (cc (ap alone e))
 
 -- `putchar` of none, or of more
 pub put_other : (ws : List ℕ) (cs : List (Option ℕ)) (s : State) → cs ≡ map Some ws → alone cs ≡ None
-    → Over (Ends Undefined) s ≡ put_char ws s
+    → Over (Faults IllFormed) s ≡ put_char ws s
 put_other [] cs s e h = refl
 put_other (v ∷ []) cs s e h = absurd (cc (ap alone e))
 put_other (v ∷ u ∷ ws) cs s e h = refl
@@ -133,7 +133,7 @@ exit_alone (v ∷ u ∷ ws) cs w s e h = absurd (cc (ap alone e))
 
 -- `exit` of none, or of more
 pub exit_other : (ws : List ℕ) (cs : List (Option ℕ)) (s : State) → cs ≡ map Some ws → alone cs ≡ None
-    → Over (Ends Undefined) s ≡ exit_with ws s
+    → Over (Faults IllFormed) s ≡ exit_with ws s
 exit_other [] cs s e h = refl
 exit_other (v ∷ []) cs s e h = absurd (cc (ap alone e))
 exit_other (v ∷ u ∷ ws) cs s e h = refl
@@ -146,7 +146,7 @@ get_none (v ∷ ws) cs s e h = absurd (omega (arith, ap length e))
 
 -- `getchar` of an argument
 pub get_other : (ws : List ℕ) (cs : List (Option ℕ)) (s : State) → cs ≡ map Some ws → (length cs ≡ 0 → ⊥)
-    → Over (Ends Undefined) s ≡ get_char ws s
+    → Over (Faults IllFormed) s ≡ get_char ws s
 get_other [] cs s e h = absurd (h (ap length e))
 get_other (v ∷ ws) cs s e h = refl
 

@@ -10,3 +10,4 @@ pub mod Results
 pub mod Places
 pub mod TaskMeanings
 pub mod Unwinds
+pub mod Missing

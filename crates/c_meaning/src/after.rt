@@ -14,7 +14,6 @@ use crate::direct::{Ran, Stop};
 use crate::frame::{Frame, Loop, Operand};
 use crate::host::MOST_DEPTH;
 use crate::store::Store;
-use crate::words::{binary_of, compound_of, unary_of};
 use base::Boxed;
 use c_constant::convert;
 use c_meaning_spec::Signal;
@@ -177,7 +176,7 @@ impl<'a> Store<'a> {
     {
         match frame {
             Frame::Converting(to) => Some(convert(to, w)),
-            Frame::Unary { op, kind } => self.value(program, unary_of(op, kind, w)),
+            Frame::Unary { op, kind } => self.unary_given(program, op, kind, w),
             Frame::Element(place) => {
                 let object = self.element_of(place, w);
                 self.loaded(program, object)
@@ -190,9 +189,7 @@ impl<'a> Store<'a> {
                 self.after_argument(program, callee, rest, done, w)
             }
             Frame::Operand { operand, right } => self.after_operand(program, operand, right, w),
-            Frame::Operated { op, kind, left } => {
-                self.value(program, binary_of(op, kind, left, w))
-            }
+            Frame::Operated { op, kind, left } => { self.binary_given(program, op, kind, left, w) }
             Frame::Truth => if w == 0 { Some(0) } else { Some(1) },
             Frame::Valued => Some(w),
             Frame::Choice { first, other } => self.leg(program, first, other, w),
@@ -203,7 +200,7 @@ impl<'a> Store<'a> {
                 at,
                 object,
                 old,
-            } => self.put_some(program, object, compound_of(op, to, at, old, w)),
+            } => self.put_compound(program, op, to, at, object, old, w),
             Frame::BumpElement { op, kind, place } => {
                 let object = self.element_of(place, w);
                 self.bumped(program, op, kind, object)

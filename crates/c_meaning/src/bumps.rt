@@ -1,6 +1,7 @@
 //! `++` and `--` that are evaluated at once: that of a scalar takes no room for what it is stored in.
 
 ghost use Rattle.c_tree.specs.TypedTrees.{node_of};
+ghost use Rattle.c_meaning_spec.specs.declared.Fault.TheVariants.{IllFormed};
 ghost use Rattle.c_meaning_spec.specs.declared.Object.TheVariants.{InScalar};
 ghost use Rattle.c_meaning_spec.specs.State.{with_some};
 ghost use Rattle.c_meaning_spec.specs.inside.State.{then};
@@ -11,12 +12,11 @@ ghost use Rattle.c_meaning_spec.specs.Eval.{meaning};
 ghost use Rattle.c_meaning.specs.inside.View.{view};
 ghost use Rattle.c_meaning.specs.inside.Direct.{Values};
 
-use crate::direct::Stop;
 use crate::frame::{Frame, Operand};
 use crate::host::BUMP;
 use crate::store::{Store, scalar_of};
 use crate::words::{bump_of, bump_value};
-use c_meaning_spec::{Ending, Halt, Object};
+use c_meaning_spec::Object;
 use c_tree::{BumpOp, Kind, Place, TypedExpr, TypedNode, TypedProgram};
 
 impl<'a> Store<'a> {
@@ -29,30 +29,20 @@ impl<'a> Store<'a> {
         kind: Option<Kind>,
         object: Option<Object>,
     ) -> Option<u64>
-        ensures { Values program.now (with_some object (view self.old)
+        ensures { Values program.now (with_some object IllFormed (view self.old)
             (meant_expression.bump_object op kind (view self.old))) self.new result }
     {
         match object {
-            None => {
-                self.stop = Stop::Fails(Halt::Ends(Ending::Undefined));
-                None
-            },
+            None => self.ill_formed(program),
             Some(object) => match self.load(object) {
-                None => {
-                    self.stop = Stop::Fails(Halt::Ends(Ending::Undefined));
-                    None
-                },
+                None => self.no_word(program, object),
                 Some(old) => match bump_of(op, kind, old) {
-                    None => {
-                        self.stop = Stop::Fails(Halt::Ends(Ending::Undefined));
-                        None
-                    },
+                    None => self.no_bump(program, op, kind, old),
                     Some(new) => {
                         if self.set(object, new) {
                             Some(bump_value(op, old, new))
                         } else {
-                            self.stop = Stop::Fails(Halt::Ends(Ending::Undefined));
-                            None
+                            self.no_word(program, object)
                         }
                     }
                 },
@@ -69,7 +59,7 @@ impl<'a> Store<'a> {
         kind: Option<Kind>,
         place: Place,
     ) -> Option<u64>
-        ensures { Values program.now (with_some (scalar_in place) (view self.old)
+        ensures { Values program.now (with_some (scalar_in place) IllFormed (view self.old)
             (meant_expression.bump_object op kind (view self.old))) self.new result }
     {
         self.bumped(program, op, kind, scalar_of(place))
@@ -84,7 +74,7 @@ impl<'a> Store<'a> {
         kind: Option<Kind>,
         place: Place,
     ) -> Option<u64>
-        ensures { Values program.now (with_some (scalar_in place) (view self.old)
+        ensures { Values program.now (with_some (scalar_in place) IllFormed (view self.old)
             (meant_expression.bump_object op kind (view self.old))) self.new result }
     {
         match place {
@@ -108,10 +98,7 @@ impl<'a> Store<'a> {
         match self.scalars.first(i) {
             None => self.bump_other(program, op, kind, Place::Scalar(i)),
             Some(old) => match bump_of(op, kind, old) {
-                None => {
-                    self.stop = Stop::Fails(Halt::Ends(Ending::Undefined));
-                    None
-                }
+                None => self.no_bump(program, op, kind, old),
                 Some(new) => {
                     if self.scalars.set_first(i, new) {
                         Some(bump_value(op, old, new))
@@ -145,10 +132,7 @@ impl<'a> Store<'a> {
                     self.bump_row_value(program, op, kind, *array, row.get(), index.get(), depth)
                 }
             },
-            _ => {
-                self.stop = Stop::Fails(Halt::Ends(Ending::Undefined));
-                None
-            },
+            _ => self.ill_formed(program),
         }
     }
 

@@ -19,7 +19,7 @@ use crate::host::CALL;
 use crate::scalars::Scalars;
 use crate::store::Store;
 use base::Boxed;
-use c_meaning_spec::{Ending, Halt, Signal};
+use c_meaning_spec::{Halt, Signal};
 use c_tree::{Callee, MOST_FRAME_BYTES, TypedExpr, TypedFunc, TypedProgram};
 use std::alloc::AllocError;
 
@@ -130,7 +130,7 @@ impl<'a> Store<'a> {
             (called (meaning program.now) program.now callee done (view self.old)) self.new result }
     {
         if self.stock == 0 {
-            self.stop = Stop::Fails(Halt::Ends(Ending::More));
+            self.stop = Stop::Fails(Halt::NoStep);
             return None;
         }
         self.stock -= 1;
@@ -161,18 +161,14 @@ impl<'a> Store<'a> {
             (enter (meaning program.now) is_main (behind f.entry) done (view self.old)) self.new result }
     {
         match f {
-            None => {
-                self.stop = Stop::Fails(Halt::Ends(Ending::Undefined));
-                None
-            },
+            None => self.ill_formed(program),
             Some(f) => {
                 if list.len() != f.params as usize {
-                    self.stop = Stop::Fails(Halt::Ends(Ending::Undefined));
-                    return None;
+                    return self.ill_formed(program);
                 }
                 match room_with(self.room, f) {
                     None => {
-                        self.stop = Stop::Fails(Halt::Ends(Ending::Deep));
+                        self.stop = Stop::Fails(Halt::TooDeep);
                         None
                     },
                     Some(room) => { self.begin_with(program, is_main, f, list, room, depth) }
@@ -247,10 +243,7 @@ impl<'a> Store<'a> {
                     self.give_nothing(program)
                 }
             }
-            _ => {
-                self.stop = Stop::Fails(Halt::Ends(Ending::Undefined));
-                None
-            }
+            _ => self.ill_formed(program),
         }
     }
 
@@ -388,10 +381,7 @@ impl<'a> Store<'a> {
                     self.give_nothing(program)
                 }
             }
-            _ => {
-                self.stop = Stop::Fails(Halt::Ends(Ending::Undefined));
-                None
-            }
+            _ => self.ill_formed(program),
         }
     }
 }

@@ -5,6 +5,8 @@ ghost use Rattle.std.specs.Prelude.{OnOk};
 ghost use Rattle.c_meaning_spec.specs.State.{Result as Meant, Go, given, with_some, load, store};
 ghost use Rattle.c_meaning_spec.specs.inside.State.{then};
 ghost use Rattle.c_meaning_spec.specs.declared.Signal.TheVariants.{Nothing};
+ghost use Rattle.c_meaning_spec.specs.declared.Fault.TheVariants.{IllFormed};
+ghost use Rattle.c_meaning_spec.specs.Word as words;
 ghost use Rattle.c_meaning_spec.specs.Statement.{dropped};
 ghost use Rattle.c_meaning_spec.specs.Task.{Of, Run};
 ghost use Rattle.c_meaning_spec.specs.Eval.{meaning};
@@ -14,8 +16,9 @@ ghost use Rattle.c_meaning.specs.inside.Direct.{Stopped, Values, Runs, Turned};
 
 use crate::frame::{Frame, Loop};
 use crate::store::Store;
-use c_meaning_spec::{Ending, Halt, Object};
-use c_tree::{TypedExpr, TypedProgram, TypedStmt};
+use crate::words::{binary_of, unary_of};
+use c_meaning_spec::{Halt, Object};
+use c_tree::{BinaryOp, Kind, TypedExpr, TypedProgram, TypedStmt, UnaryOp};
 use std::alloc::AllocError;
 
 /// Why a part was not evaluated to its end: the evaluation ends, an expression or a statement is to be evaluated
@@ -165,17 +168,51 @@ impl<'a> Store<'a> {
         }
     }
 
-    /// A value, if there is one.
+    /// An operation on two words.
     #[inline(always)]
-    pub fn value(&mut self, program: &'a TypedProgram, word: Option<u64>) -> Option<u64>
-        ensures { Values program.now (given word (view self.old)) self.new result }
+    pub fn binary_given(
+        &mut self,
+        program: &'a TypedProgram,
+        op: BinaryOp,
+        kind: Option<Kind>,
+        a: u64,
+        b: u64,
+    ) -> Option<u64>
+        ensures { Values program.now (given (words.binary_of op kind a b) (words.binary_fault op kind a b)
+            (view self.old)) self.new result }
     {
-        match word {
+        match binary_of(op, kind, a, b) {
             Some(w) => Some(w),
-            None => {
-                self.stop = Stop::Fails(Halt::Ends(Ending::Undefined));
-                None
-            }
+            None => self.no_binary(program, op, kind, a, b),
+        }
+    }
+
+    /// An operation on one word.
+    #[inline(always)]
+    pub fn unary_given(
+        &mut self,
+        program: &'a TypedProgram,
+        op: UnaryOp,
+        kind: Option<Kind>,
+        a: u64,
+    ) -> Option<u64>
+        ensures { Values program.now (given (words.unary_of op kind a) (words.unary_fault op kind a)
+            (view self.old)) self.new result }
+    {
+        match unary_of(op, kind, a) {
+            Some(w) => Some(w),
+            None => self.no_unary(program, op, kind, a),
+        }
+    }
+
+    /// What an object holds.
+    #[inline(always)]
+    pub fn loaded_from(&mut self, program: &'a TypedProgram, object: Object) -> Option<u64>
+        ensures { Values program.now (load object (view self.old)) self.new result }
+    {
+        match self.load(object) {
+            Some(w) => Some(w),
+            None => self.no_word(program, object),
         }
     }
 
@@ -183,17 +220,11 @@ impl<'a> Store<'a> {
     #[inline(always)]
     pub fn loaded(&mut self, program: &'a TypedProgram, object: Option<Object>) -> Option<u64>
         ensures { Values program.now
-            (with_some object (view self.old) (λ x. load x (view self.old))) self.new result }
+            (with_some object IllFormed (view self.old) (λ x. load x (view self.old))) self.new result }
     {
         match object {
-            None => {
-                self.stop = Stop::Fails(Halt::Ends(Ending::Undefined));
-                None
-            }
-            Some(object) => {
-                let word = self.load(object);
-                self.value(program, word)
-            }
+            None => self.ill_formed(program),
+            Some(object) => self.loaded_from(program, object),
         }
     }
 
@@ -205,8 +236,7 @@ impl<'a> Store<'a> {
         if self.set(object, w) {
             Some(w)
         } else {
-            self.stop = Stop::Fails(Halt::Ends(Ending::Undefined));
-            None
+            self.no_word(program, object)
         }
     }
 }

@@ -1,10 +1,12 @@
-ghost use Rattle.std.specs.Prelude.{◌≡◌, ◌++◌, [], map, false, IfOk, OnOk};
+ghost use Rattle.std.specs.Prelude.{◌≡◌, ◌-◌, ◌++◌, [], map, false, Some, None, IfOk, OnOk};
 ghost use Rattle.c_meaning_spec.specs.State.{Result as Reached};
 ghost use Rattle.c_meaning_spec.specs.inside.State.{then};
 ghost use Rattle.c_meaning_spec.specs.Call.{called as called_by};
 ghost use Rattle.c_meaning_spec.specs.Eval.{global_row};
-ghost use Rattle.c_meaning_spec.specs.Eval.{first_cells, length_of as length_in, start, outcome};
+ghost use Rattle.c_meaning_spec.specs.Eval.{first_cells, length_of as length_in, start, outcome, fault, fault_of};
 ghost use Rattle.c_meaning_spec.specs.Eval.{eval, meaning};
+ghost use Rattle.c_meaning_spec.specs.Eval as meant;
+ghost use Rattle.c_meaning_spec.specs.declared.Ending.TheVariants as Ending;
 ghost use Rattle.c_tree.specs.declared.Kind.TheVariants.{Int};
 ghost use Rattle.c_constant.specs.Kinds.{number, converted};
 ghost use Rattle.c_meaning.specs.inside.Ahead.{ahead_next, is_over as is_over_of, IsReached};
@@ -21,7 +23,7 @@ use crate::outcome::Outcome;
 use crate::scalars::Scalars;
 use crate::store::Store;
 use base::{Items, Memory};
-use c_meaning_spec::{Ending, Halt, Signal};
+use c_meaning_spec::{Fault, Halt, Signal};
 use c_tree::{Callee, TypedProgram};
 use std::alloc::{AllocError, Global};
 
@@ -188,24 +190,40 @@ impl<'a> Machine<'a> {
     }
 }
 
+/// What comes of an evaluation that gives a result, from a stock of `n`.
+fn done(store: Store, n: u64, value: i64) -> Outcome
+    ensures { result ≡ answer None (meant.Done (view store.entry).output value (n - (view store.entry).stock)) }
+{
+    let steps = n.saturating_sub(store.stock);
+    Outcome::Done {
+        output: Items::from_vec(store.output),
+        result: value,
+        steps,
+    }
+}
+
+/// What comes of an evaluation that is undefined.
+fn undefined(store: Store, why: Fault) -> Outcome
+    ensures { result ≡ answer (Some why) (meant.Stopped Ending.Undefined (view store.entry).output) }
+{
+    Outcome::Undefined {
+        output: Items::from_vec(store.output),
+        why,
+    }
+}
+
 /// The outcome of an evaluation that is over.
 fn ended(now: Move, store: Store, n: u64) -> Result<Outcome, AllocError>
     ensures { IfOk result (λ o. (r : Reached) → IsReached (next now.entry) (view store.entry) r
-        → o ≡ answer (outcome n r)) }
+        → o ≡ answer (fault_of r) (outcome n r)) }
 {
     match now {
-        Move::Give(Signal::Value(w)) | Move::End(Halt::Exits(w)) => {
-            let steps = n.saturating_sub(store.stock);
-            Ok(Outcome::Done {
-                output: Items::from_vec(store.output),
-                result: int_of(w),
-                steps,
-            })
-        }
-        Move::Give(_) => Ok(Outcome::Undefined),
-        Move::End(Halt::Ends(Ending::More)) => Ok(Outcome::More),
-        Move::End(Halt::Ends(Ending::Undefined)) => Ok(Outcome::Undefined),
-        Move::End(Halt::Ends(Ending::Deep)) => Ok(Outcome::Deep),
+        Move::Give(Signal::Value(w)) => Ok(done(store, n, int_of(w) as i64)),
+        Move::End(Halt::Exits(w)) => Ok(done(store, n, w.cast_signed())),
+        Move::Give(_) => Ok(undefined(store, Fault::NoValue)),
+        Move::End(Halt::NoStep) => Ok(Outcome::More),
+        Move::End(Halt::Faults(why)) => Ok(undefined(store, why)),
+        Move::End(Halt::TooDeep) => Ok(Outcome::Deep),
         Move::Do(_) => Err(AllocError),
     }
 }
@@ -217,9 +235,9 @@ fn evaluate_from<'a>(
     n: u64,
 ) -> Result<Outcome, AllocError>
     requires { machine.stack.items ≡ [] }
-    ensures { IfOk result (λ o. o ≡ answer (outcome n
-        (called_by (meaning program.now) program.now (Callee.Func program.now.main) []
-        (view machine.entry.store)))) }
+    ensures { IfOk result (λ o. (r : Reached)
+        → r ≡ called_by (meaning program.now) program.now (Callee.Func program.now.main) [] (view machine.entry.store)
+        → o ≡ answer (fault_of r) (outcome n r)) }
 {
     let mut machine = machine;
     let last = machine.run_main(program)?;
@@ -227,8 +245,8 @@ fn evaluate_from<'a>(
     ended(last, store, n)
 }
 
-/// The evaluation of a program on an input with a stock of `n` steps: the definition's outcome,
-/// without the output so far of one that has not come to its end. Want of memory is the only error.
+/// The evaluation of a program on an input with a stock of `n` steps: the definition's outcome, with the reason of one
+/// that is undefined. Want of memory is the only error.
 ///
 /// What is to follow stands on a list where the recursion is deep, so the host's stack is bounded.
 pub fn evaluate(
@@ -237,7 +255,8 @@ pub fn evaluate(
     input: &[u8],
     n: u64,
 ) -> Result<Outcome, Memory>
-    ensures ok { IfOk result (λ o. o ≡ answer (eval program.now input.now n)) }
+    ensures ok { IfOk result (λ o. o ≡ answer (fault program.now input.now n)
+        (eval program.now input.now n)) }
 {
     let store = first_store(alloc, program, input, n)?;
     let machine = Machine {

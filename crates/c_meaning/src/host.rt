@@ -3,7 +3,7 @@
 
 /// How deep expressions and statements are evaluated at once, those of the functions that are called among them.
 /// No proof goes by these numbers but that each is at least 1.
-pub const MOST_DEPTH: u32 = 6_200_000;
+pub const MOST_DEPTH: u32 = 4_000_000;
 
 /// An expression that is no leaf.
 pub const EXPRESSION: u32 = 176;

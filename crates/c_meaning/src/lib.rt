@@ -11,6 +11,7 @@ mod calls;
 mod compare;
 mod direct;
 mod evaluation;
+mod faults;
 mod few;
 mod frame;
 mod held;

@@ -12,7 +12,6 @@ ghost use Rattle.c_meaning.specs.inside.Direct.{Values};
 use crate::frame::{Frame, Operand};
 use crate::host::OPERATION;
 use crate::store::Store;
-use crate::words::binary_of;
 use c_tree::{BinaryOp, Kind, TypedExpr, TypedProgram};
 
 impl<'a> Store<'a> {
@@ -74,7 +73,7 @@ impl<'a> Store<'a> {
             (then (meaning program.now (Of right.now) (view self.old)) (operated op kind a)) self.new result }
     {
         match self.value_of(program, right, depth) {
-            Some(b) => self.value(program, binary_of(op, kind, a, b)),
+            Some(b) => self.binary_given(program, op, kind, a, b),
             None => self.held_right(program, op, kind, a),
         }
     }

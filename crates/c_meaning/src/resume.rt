@@ -12,7 +12,7 @@ ghost use Rattle.c_meaning.specs.inside.View.{behind, follow, view};
 use crate::frame::{Frame, Loop, Move, Operand, Stage, Task};
 use crate::host::MOST_DEPTH;
 use crate::machine::Machine;
-use c_meaning_spec::{Ending, Halt, Signal};
+use c_meaning_spec::{Fault, Halt, Signal};
 use c_tree::{TypedExpr, TypedProgram, TypedSection, TypedStmt};
 use std::alloc::AllocError;
 
@@ -275,7 +275,7 @@ impl<'a> Machine<'a> {
             }
             frame => match signal {
                 Signal::Value(w) => { self.with_value(program, frame, w) }
-                _ => Ok(Move::End(Halt::Ends(Ending::Undefined))),
+                _ => Ok(Move::End(Halt::Faults(Fault::NoValue))),
             },
         }
     }

@@ -17,7 +17,7 @@ use crate::frame::{Frame, Loop};
 use crate::host::{PLAIN, STATEMENT, SWITCH};
 use crate::store::Store;
 use base::Boxed;
-use c_meaning_spec::{Ending, Halt, Object, Signal};
+use c_meaning_spec::{Fault, Halt, Object, Signal};
 use c_tree::{Place, TypedExpr, TypedProgram, TypedSection, TypedStmt};
 
 // The statement in the box, if there is one.
@@ -49,7 +49,8 @@ impl<'a> Store<'a> {
         if self.set(Object::InScalar(i as u64), w) {
             Ran::Nothing
         } else {
-            self.stop = Stop::Fails(Halt::Ends(Ending::Undefined));
+            let fault = self.missing(Object::InScalar(i as u64));
+            self.stop = Stop::Fails(Halt::Faults(fault));
             Ran::Stops
         }
     }
@@ -114,7 +115,7 @@ impl<'a> Store<'a> {
             Ok(there) => if there {
                 Ran::Nothing
             } else {
-                self.stop = Stop::Fails(Halt::Ends(Ending::Undefined));
+                self.stop = Stop::Fails(Halt::Faults(Fault::IllFormed));
                 Ran::Stops
             },
         }
@@ -142,19 +143,19 @@ impl<'a> Store<'a> {
                         Some(e) => self.run_initial(program, i, e, depth),
                     }
                 } else {
-                    self.stop = Stop::Fails(Halt::Ends(Ending::Undefined));
+                    self.stop = Stop::Fails(Halt::Faults(Fault::IllFormed));
                     Ran::Stops
                 }
             }
             Place::Array(a) => match init {
                 None => self.run_array(program, self.base as u64 + a as u64),
                 Some(_) => {
-                    self.stop = Stop::Fails(Halt::Ends(Ending::Undefined));
+                    self.stop = Stop::Fails(Halt::Faults(Fault::IllFormed));
                     Ran::Stops
                 },
             },
             Place::Global(_) => {
-                self.stop = Stop::Fails(Halt::Ends(Ending::Undefined));
+                self.stop = Stop::Fails(Halt::Faults(Fault::IllFormed));
                 Ran::Stops
             },
         }
@@ -172,7 +173,7 @@ impl<'a> Store<'a> {
             Ran::Stops
         } else if self.stock == 0 {
             {
-                self.stop = Stop::Fails(Halt::Ends(Ending::More));
+                self.stop = Stop::Fails(Halt::NoStep);
                 Ran::Stops
             }
         } else {
@@ -336,7 +337,7 @@ impl<'a> Store<'a> {
             Compared::Passed(here) => self.run_sections(program, &[], here, depth),
             Compared::Found => Ran::Nothing,
             Compared::Spent => {
-                self.stop = Stop::Fails(Halt::Ends(Ending::More));
+                self.stop = Stop::Fails(Halt::NoStep);
                 Ran::Stops
             },
         }

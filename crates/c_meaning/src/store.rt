@@ -1,9 +1,9 @@
 ghost use Rattle.std.specs.Prelude.{◌≡◌, map, Some, replicate, ◌++◌, ◌-◌, length, ◌↔◌, IsTrue};
 ghost use Rattle.std.specs.Prelude.{IsFalse, IsSome, IfOk, OnOk, slice_get, slice_set, None};
 ghost use Rattle.std.specs.Prelude.{◌+◌, ◌*◌, ◌<◌, SomeIff};
-ghost use Rattle.c_meaning_spec.specs.State.{held, cell, row_in, written};
+ghost use Rattle.c_meaning_spec.specs.State.{held, cell, row_in, row_size, written};
 ghost use Rattle.c_meaning_spec.specs.Task.{array_of as array_number, element_of as element_object};
-ghost use Rattle.c_meaning_spec.specs.Task.{scalar_of as scalar_object, row_size, place_in as place};
+ghost use Rattle.c_meaning_spec.specs.Task.{scalar_of as scalar_object, place_in as place};
 ghost use Rattle.c_meaning_spec.specs.Task.{row_element_of as row_element_object};
 ghost use Rattle.c_meaning.specs.inside.View.{view};
 
@@ -35,8 +35,8 @@ pub struct Store<'a> {
     pub spare_lists: Vec<Vec<Option<u64>>>,
 }
 
-// The second size of an array, if it is there and has two.
-fn row_size_at(rows: &[Option<u32>], at: u64) -> Option<u32>
+/// The second size of an array, if it is there and has two.
+pub fn row_size_at(rows: &[Option<u32>], at: u64) -> Option<u32>
     ensures { result ≡ row_size (slice_get rows.now at) }
 {
     match rows.get(at as usize) {

@@ -3,21 +3,22 @@
 
 ghost use Rattle.std.specs.Prelude.{Some};
 ghost use Rattle.c_tree.specs.TypedTrees.{node_of};
+ghost use Rattle.c_meaning_spec.specs.declared.Fault.TheVariants.{IllFormed};
 ghost use Rattle.c_meaning_spec.specs.declared.Object.TheVariants.{InArray, InScalar};
 ghost use Rattle.c_meaning_spec.specs.State.{with_some, store};
 ghost use Rattle.c_meaning_spec.specs.inside.State.{then};
 ghost use Rattle.c_meaning_spec.specs.Task.{Of, element_of as element_in_place, scalar_of as scalar_in};
 ghost use Rattle.c_meaning_spec.specs.Expression.{assign, assign_to, assigned};
 ghost use Rattle.c_meaning_spec.specs.Expression as meant_expression;
+ghost use Rattle.c_meaning_spec.specs.Word as words;
 ghost use Rattle.c_meaning_spec.specs.Eval.{meaning};
 ghost use Rattle.c_meaning.specs.inside.View.{view};
 ghost use Rattle.c_meaning.specs.inside.Direct.{Values};
 
-use crate::direct::Stop;
 use crate::host::OPERATION;
 use crate::store::{Store, scalar_of};
 use crate::words::compound_of;
-use c_meaning_spec::{Ending, Halt, Object};
+use c_meaning_spec::Object;
 use c_tree::{BinaryOp, Kind, Place, TypedExpr, TypedNode, TypedProgram};
 
 impl<'a> Store<'a> {
@@ -41,21 +42,23 @@ impl<'a> Store<'a> {
         self.put(program, Object::InScalar(i as u64), w)
     }
 
-    /// A word into an object, if there is the word.
-    pub fn put_some(
+    /// What a compound assignment gives into an object, if it gives a value.
+    pub fn put_compound(
         &mut self,
         program: &'a TypedProgram,
+        op: BinaryOp,
+        to: Option<Kind>,
+        at: Kind,
         object: Object,
-        word: Option<u64>,
+        old: u64,
+        b: u64,
     ) -> Option<u64>
-        ensures { Values program.now (with_some word (view self.old)
+        ensures { Values program.now (with_some (words.compound_of op to at old b)
+            (words.compound_fault op to at old b) (view self.old)
             (λ w. store (view self.old) object w)) self.new result }
     {
-        match word {
-            None => {
-                self.stop = Stop::Fails(Halt::Ends(Ending::Undefined));
-                None
-            },
+        match compound_of(op, to, at, old, b) {
+            None => self.no_compound(program, op, to, at, old, b),
             Some(w) => self.put(program, object, w),
         }
     }
@@ -88,10 +91,7 @@ impl<'a> Store<'a> {
                     self.assign_row_value(program, op, to, at, *array, row, index, right, depth)
                 }
             },
-            _ => {
-                self.stop = Stop::Fails(Halt::Ends(Ending::Undefined));
-                None
-            },
+            _ => self.ill_formed(program),
         }
     }
 
@@ -134,15 +134,12 @@ impl<'a> Store<'a> {
         depth: u32,
     ) -> Option<u64>
         ensures { Values program.now
-            (with_some (element_in_place place w (view self.old)) (view self.old)
+            (with_some (element_in_place place w (view self.old)) IllFormed (view self.old)
             (assign_to (meaning program.now) op to at right.now (view self.old))) self.new result }
     {
         match op {
             None => match self.array_of(place) {
-                None => {
-                    self.stop = Stop::Fails(Halt::Ends(Ending::Undefined));
-                    None
-                }
+                None => self.ill_formed(program),
                 Some(array) => self.assign_in_array(program, array, w, right, depth),
             },
             Some(op) => self.compound_element(program, op, to, at, place, w, right, depth),
@@ -164,7 +161,7 @@ impl<'a> Store<'a> {
         depth: u32,
     ) -> Option<u64>
         ensures { Values program.now
-            (with_some (element_in_place place w (view self.old)) (view self.old)
+            (with_some (element_in_place place w (view self.old)) IllFormed (view self.old)
             (assign_to (meaning program.now) (Some op) to at right.now (view self.old))) self.new result }
     {
         let depth = depth.saturating_sub(OPERATION);
@@ -207,7 +204,7 @@ impl<'a> Store<'a> {
         depth: u32,
     ) -> Option<u64>
         ensures { Values program.now
-            (with_some (scalar_in place) (view self.old)
+            (with_some (scalar_in place) IllFormed (view self.old)
             (assign_to (meaning program.now) op to at right.now (view self.old))) self.new result }
     {
         let depth = depth.saturating_sub(OPERATION);
@@ -228,7 +225,7 @@ impl<'a> Store<'a> {
         depth: u32,
     ) -> Option<u64>
         ensures { Values program.now
-            (with_some (scalar_in place) (view self.old)
+            (with_some (scalar_in place) IllFormed (view self.old)
             (assign_to (meaning program.now) op to at right.now (view self.old))) self.new result }
     {
         match op {
@@ -293,26 +290,18 @@ impl<'a> Store<'a> {
         depth: u32,
     ) -> Option<u64>
         ensures { Values program.now
-            (with_some object (view self.old)
+            (with_some object IllFormed (view self.old)
             (assign_to (meaning program.now) op to at right.now (view self.old))) self.new result }
     {
         let depth = depth.saturating_sub(OPERATION);
         match object {
-            None => {
-                self.stop = Stop::Fails(Halt::Ends(Ending::Undefined));
-                None
-            },
+            None => self.ill_formed(program),
             Some(object) => match op {
                 None => self.assign_object(program, object, right, depth),
                 Some(op) => match self.load(object) {
-                    None => {
-                        self.stop = Stop::Fails(Halt::Ends(Ending::Undefined));
-                        None
-                    },
+                    None => self.no_word(program, object),
                     Some(old) => match self.value_of(program, right, depth) {
-                        Some(w) => {
-                            self.put_some(program, object, compound_of(op, to, at, old, w))
-                        }
+                        Some(w) => { self.put_compound(program, op, to, at, object, old, w) }
                         None => self.held_compound(program, op, to, at, object, old),
                     },
                 },

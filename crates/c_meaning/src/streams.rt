@@ -9,7 +9,7 @@ ghost use Rattle.c_meaning.specs.inside.Direct.{Values};
 use crate::direct::Stop;
 use crate::scalars::Scalars;
 use crate::store::Store;
-use c_meaning_spec::{Ending, Halt};
+use c_meaning_spec::{Fault, Halt};
 use c_tree::TypedProgram;
 
 impl<'a> Store<'a> {
@@ -23,8 +23,7 @@ impl<'a> Store<'a> {
         if done.len() == 0 {
             self.next_byte(program)
         } else {
-            self.stop = Stop::Fails(Halt::Ends(Ending::Undefined));
-            None
+            self.ill_formed(program)
         }
     }
 
@@ -64,10 +63,7 @@ impl<'a> Store<'a> {
     {
         match done.only() {
             Some(w) => self.put_byte(program, w),
-            None => {
-                self.stop = Stop::Fails(Halt::Ends(Ending::Undefined));
-                None
-            },
+            None => self.ill_formed(program),
         }
     }
 
@@ -80,7 +76,7 @@ impl<'a> Store<'a> {
     {
         let why = match done.only() {
             Some(w) => Halt::Exits(w),
-            None => Halt::Ends(Ending::Undefined),
+            None => Halt::Faults(Fault::IllFormed),
         };
         self.stop = Stop::Fails(why);
         None

@@ -1,6 +1,7 @@
 //! Assignments to elements by two indexes that are evaluated at once.
 
 ghost use Rattle.std.specs.Prelude.{Some};
+ghost use Rattle.c_meaning_spec.specs.declared.Fault.TheVariants.{IllFormed};
 ghost use Rattle.c_meaning_spec.specs.State.{with_some};
 ghost use Rattle.c_meaning_spec.specs.inside.State.{then};
 ghost use Rattle.c_meaning_spec.specs.Task.{Of, row_element_of as row_element_in_place};
@@ -10,10 +11,8 @@ ghost use Rattle.c_meaning_spec.specs.Eval.{meaning};
 ghost use Rattle.c_meaning.specs.inside.View.{view};
 ghost use Rattle.c_meaning.specs.inside.Direct.{Values};
 
-use crate::direct::Stop;
 use crate::host::OPERATION;
 use crate::store::Store;
-use c_meaning_spec::{Ending, Halt};
 use c_tree::{BinaryOp, Kind, Place, TypedExpr, TypedProgram};
 
 impl<'a> Store<'a> {
@@ -86,15 +85,12 @@ impl<'a> Store<'a> {
         depth: u32,
     ) -> Option<u64>
         ensures { Values program.now
-            (with_some (row_element_in_place place row j (view self.old)) (view self.old)
+            (with_some (row_element_in_place place row j (view self.old)) IllFormed (view self.old)
             (assign_to (meaning program.now) op to at right.now (view self.old))) self.new result }
     {
         match op {
             None => match self.array_of(place) {
-                None => {
-                    self.stop = Stop::Fails(Halt::Ends(Ending::Undefined));
-                    None
-                }
+                None => self.ill_formed(program),
                 Some(array) => {
                     let at = self.place_of(array, row, j);
                     self.assign_in_array(program, array, at, right, depth)
@@ -120,7 +116,7 @@ impl<'a> Store<'a> {
         depth: u32,
     ) -> Option<u64>
         ensures { Values program.now
-            (with_some (row_element_in_place place row j (view self.old)) (view self.old)
+            (with_some (row_element_in_place place row j (view self.old)) IllFormed (view self.old)
             (assign_to (meaning program.now) (Some op) to at right.now (view self.old))) self.new result }
     {
         let depth = depth.saturating_sub(OPERATION);

@@ -15,9 +15,8 @@ use crate::direct::Stop;
 use crate::frame::Frame;
 use crate::host::{EXPRESSION, OPERATION};
 use crate::store::Store;
-use crate::words::unary_of;
 use c_constant::convert;
-use c_meaning_spec::{Ending, Halt, Object, Signal};
+use c_meaning_spec::{Halt, Object, Signal};
 use c_tree::{Kind, Place, TypedExpr, TypedNode, TypedProgram, UnaryOp};
 
 // Whether a global is an array.
@@ -40,14 +39,10 @@ impl<'a> Store<'a> {
                 if is_array(program, g) {
                     Some(g as u64)
                 } else {
-                    let word = self.load(Object::InArray(g as u64, 0));
-                    self.value(program, word)
+                    self.loaded_from(program, Object::InArray(g as u64, 0))
                 }
             }
-            Place::Scalar(i) => {
-                let word = self.load(Object::InScalar(i as u64));
-                self.value(program, word)
-            }
+            Place::Scalar(i) => self.loaded_from(program, Object::InScalar(i as u64)),
             Place::Array(a) => Some(self.base as u64 + a as u64),
         }
     }
@@ -58,7 +53,7 @@ impl<'a> Store<'a> {
         ensures { Values program.now (spend (view self.old) (λ u. Go (Signal.Value w) u)) self.new result }
     {
         if self.stock == 0 {
-            self.stop = Stop::Fails(Halt::Ends(Ending::More));
+            self.stop = Stop::Fails(Halt::NoStep);
             None
         } else {
             self.stock -= 1;
@@ -73,7 +68,7 @@ impl<'a> Store<'a> {
             self.new result }
     {
         if self.stock == 0 {
-            self.stop = Stop::Fails(Halt::Ends(Ending::More));
+            self.stop = Stop::Fails(Halt::NoStep);
             None
         } else {
             self.stock -= 1;
@@ -89,8 +84,7 @@ impl<'a> Store<'a> {
     fn later_scalar(&mut self, program: &'a TypedProgram, i: u32) -> Option<u64>
         ensures { Values program.now (load (Object.InScalar i) (view self.old)) self.new result }
     {
-        let word = self.load(Object::InScalar(i as u64));
-        self.value(program, word)
+        self.loaded_from(program, Object::InScalar(i as u64))
     }
 
     /// An expression, which is left where it is too deep.
@@ -180,7 +174,7 @@ impl<'a> Store<'a> {
     {
         if self.stock == 0 {
             {
-                self.stop = Stop::Fails(Halt::Ends(Ending::More));
+                self.stop = Stop::Fails(Halt::NoStep);
                 None
             }
         } else {
@@ -208,10 +202,7 @@ impl<'a> Store<'a> {
             }
             TypedNode::Unary { op, e } => self.unary_value(program, *op, e.get(), depth),
             TypedNode::Cast { to, e } => self.cast_value(program, *to, e.get(), depth),
-            TypedNode::Convert { to: _, e: _ } => {
-                self.stop = Stop::Fails(Halt::Ends(Ending::Undefined));
-                None
-            }
+            TypedNode::Convert { to: _, e: _ } => self.ill_formed(program),
             TypedNode::Bump { op, e } => self.bump_value(program, *op, e.get(), depth),
             TypedNode::Binary { op, left, right } => {
                 self.binary_value(program, *op, left.get(), right.get(), depth)
@@ -313,7 +304,7 @@ impl<'a> Store<'a> {
     {
         let depth = depth.saturating_sub(OPERATION);
         match self.value_of(program, e, depth) {
-            Some(w) => self.value(program, unary_of(op, e.kind, w)),
+            Some(w) => self.unary_given(program, op, e.kind, w),
             None => self.held(program, Frame::Unary { op, kind: e.kind }),
         }
     }

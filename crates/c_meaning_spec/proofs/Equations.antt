@@ -4,8 +4,7 @@ use Rattle.std.proofs.Common.{add-zero}
 use Rattle.c_tree.specs.declared.TypedExpr.{TypedExpr}
 use Rattle.c_tree.specs.declared.TypedStmt.{TypedStmt, out-TypedStmt}
 use Rattle.c_tree.specs.declared.TypedProgram.{TypedProgram}
-use Rattle.c_meaning_spec.specs.declared.signal.Ending.TheVariants.{More, Undefined, Deep}
-use Rattle.c_meaning_spec.specs.declared.signal.Halt.TheVariants.{Ends, Exits}
+use Rattle.c_meaning_spec.specs.declared.signal.Halt.TheVariants.{NoStep, TooDeep, Faults, Exits}
 use Rattle.c_meaning_spec.specs.State.{State, Result, Go, Over}
 use Rattle.c_meaning_spec.specs.Task.{Task, Of, Run, Turn, Parts}
 use Rattle.c_tree.specs.TypedTrees.{node_of}
@@ -36,9 +35,9 @@ weight-some (Turn test post body) n = omega arith
 -- what grew with fewer steps at most did so with more
 pub weaker : (d m n : ℕ) (r r' : Result) → m ≤ n → Grew d m r r' → Grew d n r r'
 weaker d m n (Go v s) r' h g = let lt : s.stock < m = g.grows.1 in record { grows = (g.grows.0, omega arith) }
-weaker d m n (Over (Ends More) s) r' h g = record { grows = g.grows }
-weaker d m n (Over (Ends Undefined) s) r' h g = record { grows = g.grows }
-weaker d m n (Over (Ends Deep) s) r' h g = record { grows = g.grows }
+weaker d m n (Over NoStep s) r' h g = record { grows = g.grows }
+weaker d m n (Over (Faults c) s) r' h g = record { grows = g.grows }
+weaker d m n (Over TooDeep s) r' h g = record { grows = g.grows }
 weaker d m n (Over (Exits w) s) r' h g = record { grows = g.grows }
 
 abbrev Below : ℕ → ℕ → Parts → Parts → Type 0
@@ -89,9 +88,9 @@ more-zero s = ap (λ (n : ℕ). record s { stock = n }) (add-zero s.stock)
 
 same_result : (n : ℕ) (r r' : Result) → Grew 0 n r r' → r' ≡ r
 same_result n (Go v s) r' g = g.grows.0 ∙ ap (Go v) (more-zero s)
-same_result n (Over (Ends More) s) r' g = g.grows.0 refl ∙ ap (Over (Ends More)) (more-zero s)
-same_result n (Over (Ends Undefined) s) r' g = g.grows ∙ ap (Over (Ends Undefined)) (more-zero s)
-same_result n (Over (Ends Deep) s) r' g = g.grows ∙ ap (Over (Ends Deep)) (more-zero s)
+same_result n (Over NoStep s) r' g = g.grows.0 refl ∙ ap (Over NoStep) (more-zero s)
+same_result n (Over (Faults c) s) r' g = g.grows ∙ ap (Over (Faults c)) (more-zero s)
+same_result n (Over TooDeep s) r' g = g.grows ∙ ap (Over TooDeep) (more-zero s)
 same_result n (Over (Exits w) s) r' g = g.grows ∙ ap (Over (Exits w)) (more-zero s)
 
 -- more steps: the law for every task

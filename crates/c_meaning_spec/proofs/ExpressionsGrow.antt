@@ -165,7 +165,7 @@ module _ (d n : ℕ) (rec rec' : Parts) (below : (t : Task) (s : State) → s.st
   g-assign : (op : Option BinaryOp) (to : Option Kind) (at : Kind) (l : Node) (r : TypedExpr)
       (s : State) → s.stock < n → Grew d n (assign rec op to at l r s)
       (assign rec' op to at l r (more d s))
-  g-assign op to at (Name p) r s h = g-some d n (scalar_of p) s _ _
+  g-assign op to at (Name p) r s h = g-some d n (scalar_of p) _ s _ _
       (λ x. g-assign_to op to at r s x h)
   g-assign op to at (Element p None index) r s h =
       g-of index s _ _ h (g-assign_element op to at p r) (p-assign_element rec' puts op to at p r)
@@ -183,7 +183,7 @@ module _ (d n : ℕ) (rec rec' : Parts) (below : (t : Task) (s : State) → s.st
 
   g-bump : (op : BumpOp) (k : Option Kind) (l : Node) (s : State) → s.stock < n
       → Grew d n (bump rec op k l s) (bump rec' op k l (more d s))
-  g-bump op k (Name p) s h = g-some d n (scalar_of p) s _ _ (λ x. g-bump_object d n op k s x h)
+  g-bump op k (Name p) s h = g-some d n (scalar_of p) _ s _ _ (λ x. g-bump_object d n op k s x h)
   g-bump op k (Element p None index) s h = g-of index s _ _ h (g-bump_element d n op k p)
       (p-bump_element rec' puts op k p)
   g-bump op k (Element p (Some row) index) s h = g-of row s _ _ h (g-bump_after_row op k p index)

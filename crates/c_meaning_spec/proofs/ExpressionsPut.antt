@@ -16,8 +16,6 @@ use Rattle.c_tree.specs.declared.TypedStmt.{TypedStmt}
 use Rattle.c_tree.specs.declared.TypedFunc.{TypedFunc}
 use Rattle.c_tree.specs.declared.TypedProgram.{TypedProgram}
 use Rattle.c_meaning_spec.specs.declared.signal.Signal.{Signal}
-use Rattle.c_meaning_spec.specs.declared.signal.Ending.TheVariants.{Undefined, Deep}
-use Rattle.c_meaning_spec.specs.declared.signal.Halt.TheVariants.{Ends}
 use Rattle.c_meaning_spec.specs.declared.signal.Object.{Object}
 use Rattle.c_meaning_spec.specs.State.{State, Result, want}
 use Rattle.c_meaning_spec.specs.inside.State.{then}
@@ -56,14 +54,14 @@ module _ (rec : Parts) (below : (t : Task) (s : State) → Puts s.output s.stock
       → Puts s.output s.stock (entered_if rec is_main fits f done s)
   p-entered_if is_main fits f done s =
       p-cond fits s.output s.stock _ _ (p-run f.body (entered f done s) _
-      (p-left is_main s.scalars (length s.arrays) s.base s.room)) (p-over (Ends Deep) s)
+      (p-left is_main s.scalars (length s.arrays) s.base s.room)) (p-over _ s)
 
   -- entering a function takes nothing back where its body does not
   pub p-enter : (is_main : Bool) (f : Option TypedFunc) (done : List ℕ) (s : State)
       → Puts s.output s.stock (enter rec is_main f done s)
-  p-enter is_main None done s = p-over (Ends Undefined) s
+  p-enter is_main None done s = p-over _ s
   p-enter is_main (Some f) done s = p-cond (nat_eq (length done) f.params) s.output s.stock _ _
-      (p-entered_if is_main _ f done s) (p-over (Ends Undefined) s)
+      (p-entered_if is_main _ f done s) (p-over _ s)
 
   -- a call of what is called takes nothing back where the parts do not
   pub p-called : (P : TypedProgram) (f : Callee) (done : List ℕ) (s : State)
@@ -97,12 +95,12 @@ module _ (rec : Parts) (below : (t : Task) (s : State) → Puts s.output s.stock
   -- an operation on one value takes nothing back
   pub p-unary : (op : UnaryOp) (k : Option Kind) (v : Signal) (s : State)
       → Puts s.output s.stock (unary op k v s)
-  p-unary op k v s = p-want v s _ (λ w. p-given _ s)
+  p-unary op k v s = p-want v s _ (λ w. p-given _ _ s)
 
   -- an operation on two values takes nothing back
   pub p-operated : (op : BinaryOp) (k : Option Kind) (a : ℕ) (v : Signal) (s : State)
       → Puts s.output s.stock (operated op k a v s)
-  p-operated op k a v s = p-want v s _ (λ w. p-given _ s)
+  p-operated op k a v s = p-want v s _ (λ w. p-given _ _ s)
 
   -- what follows a left operand takes nothing back
   pub p-after_left : (op : BinaryOp) (k : Option Kind) (r : TypedExpr) (v : Signal) (s : State)
@@ -154,12 +152,12 @@ module _ (rec : Parts) (below : (t : Task) (s : State) → Puts s.output s.stock
   pub p-compounded : (op : BinaryOp) (to : Option Kind) (at : Kind) (x : Object) (old : ℕ)
       (v : Signal) (s : State) → Puts s.output s.stock (compounded op to at x old v s)
   p-compounded op to at x old v s = p-want v s _
-      (λ b. p-some (compound_of op to at old b) s _ (λ w. p-store s x w))
+      (λ b. p-some (compound_of op to at old b) _ s _ (λ w. p-store s x w))
 
   p-assign_to : (op : Option BinaryOp) (to : Option Kind) (at : Kind) (r : TypedExpr) (s : State)
       (x : Object) → Puts s.output s.stock (assign_to rec op to at r s x)
   p-assign_to None to at r s x = p-of r s _ (p-assigned x)
-  p-assign_to (Some op) to at r s x = p-some (held (cell s x)) s _
+  p-assign_to (Some op) to at r s x = p-some (held (cell s x)) _ s _
       (λ old. p-of r s _ (p-compounded op to at x old))
 
   -- an assignment to an element takes nothing back, from its index on
@@ -167,14 +165,14 @@ module _ (rec : Parts) (below : (t : Task) (s : State) → Puts s.output s.stock
       (r : TypedExpr) (v : Signal) (s : State)
       → Puts s.output s.stock (assign_element rec op to at p r v s)
   p-assign_element op to at p r v s = p-want v s _
-      (λ w. p-some (element_of p w s) s _ (λ x. p-assign_to op to at r s x))
+      (λ w. p-some (element_of p w s) _ s _ (λ x. p-assign_to op to at r s x))
 
   -- an assignment to an element of a row takes nothing back, from its last index on
   pub p-assign_row : (op : Option BinaryOp) (to : Option Kind) (at : Kind) (p : Place) (i : ℕ)
       (r : TypedExpr) (v : Signal) (s : State)
       → Puts s.output s.stock (assign_row rec op to at p i r v s)
   p-assign_row op to at p i r v s = p-want v s _
-      (λ j. p-some (row_element_of p i j s) s _ (λ x. p-assign_to op to at r s x))
+      (λ j. p-some (row_element_of p i j s) _ s _ (λ x. p-assign_to op to at r s x))
 
   -- an assignment to an element of a row takes nothing back, from its first index on
   pub p-assign_after_row : (op : Option BinaryOp) (to : Option Kind) (at : Kind) (p : Place)
@@ -185,11 +183,11 @@ module _ (rec : Parts) (below : (t : Task) (s : State) → Puts s.output s.stock
 
   p-assign : (op : Option BinaryOp) (to : Option Kind) (at : Kind) (l : Node) (r : TypedExpr)
       (s : State) → Puts s.output s.stock (assign rec op to at l r s)
-  p-assign op to at (Name p) r s = p-some (scalar_of p) s _ (λ x. p-assign_to op to at r s x)
+  p-assign op to at (Name p) r s = p-some (scalar_of p) _ s _ (λ x. p-assign_to op to at r s x)
   p-assign op to at (Element p None index) r s = p-of index s _ (p-assign_element op to at p r)
   p-assign op to at (Element p (Some row) index) r s =
       p-of row s _ (p-assign_after_row op to at p index r)
-  p-assign op to at _ r s = p-over (Ends Undefined) s
+  p-assign op to at _ r s = p-over _ s
 
   -- a value that is given takes nothing back
   pub p-giving : (w : ℕ) (v : Signal) (s : State) → Puts s.output s.stock (giving w v s)
@@ -198,7 +196,7 @@ module _ (rec : Parts) (below : (t : Task) (s : State) → Puts s.output s.stock
   p-bump_object : (op : BumpOp) (k : Option Kind) (s : State) (x : Object)
       → Puts s.output s.stock (bump_object op k s x)
   p-bump_object op k s x =
-      p-some (held (cell s x)) s _ (λ old. p-some (bump_of op k old) s _ (λ new.
+      p-some (held (cell s x)) _ s _ (λ old. p-some (bump_of op k old) _ s _ (λ new.
       p-then s.output s.stock (store s x new) _ (p-store s x new)
       (p-giving (bump_value op old new))))
 
@@ -206,13 +204,13 @@ module _ (rec : Parts) (below : (t : Task) (s : State) → Puts s.output s.stock
   pub p-bump_element : (op : BumpOp) (k : Option Kind) (p : Place) (v : Signal) (s : State)
       → Puts s.output s.stock (bump_element op k p v s)
   p-bump_element op k p v s = p-want v s _
-      (λ w. p-some (element_of p w s) s _ (λ x. p-bump_object op k s x))
+      (λ w. p-some (element_of p w s) _ s _ (λ x. p-bump_object op k s x))
 
   -- a bump of an element of a row takes nothing back, from its last index on
   pub p-bump_row : (op : BumpOp) (k : Option Kind) (p : Place) (i : ℕ) (v : Signal) (s : State)
       → Puts s.output s.stock (bump_row op k p i v s)
   p-bump_row op k p i v s = p-want v s _
-      (λ j. p-some (row_element_of p i j s) s _ (λ x. p-bump_object op k s x))
+      (λ j. p-some (row_element_of p i j s) _ s _ (λ x. p-bump_object op k s x))
 
   -- a bump of an element of a row takes nothing back, from its first index on
   pub p-bump_after_row : (op : BumpOp) (k : Option Kind) (p : Place) (index : TypedExpr) (v : Signal)
@@ -221,10 +219,10 @@ module _ (rec : Parts) (below : (t : Task) (s : State) → Puts s.output s.stock
 
   p-bump : (op : BumpOp) (k : Option Kind) (l : Node) (s : State)
       → Puts s.output s.stock (bump rec op k l s)
-  p-bump op k (Name p) s = p-some (scalar_of p) s _ (λ x. p-bump_object op k s x)
+  p-bump op k (Name p) s = p-some (scalar_of p) _ s _ (λ x. p-bump_object op k s x)
   p-bump op k (Element p None index) s = p-of index s _ (p-bump_element op k p)
   p-bump op k (Element p (Some row) index) s = p-of row s _ (p-bump_after_row op k p index)
-  p-bump op k _ s = p-over (Ends Undefined) s
+  p-bump op k _ s = p-over _ s
 
   -- an element of a row that is read takes nothing back, from its first index on
   pub p-after_row : (p : Place) (index : TypedExpr) (v : Signal) (s : State)
@@ -241,7 +239,7 @@ module _ (rec : Parts) (below : (t : Task) (s : State) → Puts s.output s.stock
   p-opened P (Call f args) s = p-arguments P f args [] s
   p-opened P (Unary op e) s = p-of e s _ (p-unary op e.kind)
   p-opened P (Cast to e) s = p-of e s _ (p-converting to)
-  p-opened P (Convert to e) s = p-over (Ends Undefined) s
+  p-opened P (Convert to e) s = p-over _ s
   p-opened P (Bump op e) s = p-bump op e.kind (node_of e) s
   p-opened P (Binary op l r) s = p-binary op l r s
   p-opened P (Choice t a b) s = p-of t s _ (p-after_choice a b)

@@ -12,13 +12,14 @@ use Rattle.c_tree.specs.declared.Place.TheVariants as place
 use Rattle.c_tree.specs.declared.TypedProgram.{TypedProgram}
 use Rattle.c_meaning_spec.specs.declared.signal.Signal.{Signal}
 use Rattle.c_meaning_spec.specs.declared.signal.Signal.TheVariants.{Nothing, Value, Breaks, Returns}
-use Rattle.c_meaning_spec.specs.declared.signal.Ending.TheVariants.{More, Undefined, Deep}
-use Rattle.c_meaning_spec.specs.declared.signal.Halt.TheVariants.{Ends, Exits}
+use Rattle.c_meaning_spec.specs.declared.signal.Halt.TheVariants.{NoStep, TooDeep, Faults, Exits}
+use Rattle.c_meaning_spec.specs.declared.fault.Fault.{Fault}
+use Rattle.c_meaning_spec.specs.declared.fault.Fault.TheVariants.{IllFormed}
 use Rattle.c_meaning_spec.specs.declared.signal.Object.{Object}
 use Rattle.c_meaning_spec.specs.declared.signal.Object.TheVariants.{InScalar, InArray}
 use Rattle.c_meaning_spec.specs.State.{State, Result, Go, Over, spend, spend_of, want, with_some}
 use Rattle.c_meaning_spec.specs.inside.State.{then}
-use Rattle.c_meaning_spec.specs.State.{given, cell, cell_in, held, written, load, store, store_in}
+use Rattle.c_meaning_spec.specs.State.{given, cell, cell_in, held, written, missing, load, store, store_in}
 use Rattle.c_meaning_spec.specs.inside.Output.{output_of, IsPrefix}
 use Rattle.c_meaning_spec.specs.Word.{compound_of, bump_of}
 use Rattle.c_meaning_spec.specs.Task.{element_in, element_of, is_array, name, element, row_element_in}
@@ -37,13 +38,13 @@ more d s = record s { stock = s.stock + d }
 abbrev pub Within : ℕ → Result → Type 0
 Within d (Go v s) = s.stock < d
 Within d (Over (Exits w) s) = s.stock < d
-Within d (Over (Ends why) s) = Unit {0}
+Within d (Over why s) = Unit {0}
 
 -- r' is r with d more steps, and r leaves fewer than n steps; what needs more steps puts out no
 -- less with them, and leaves fewer than d of them
 abbrev pub Grows : ℕ → ℕ → Result → Result → Type 0
 Grows d n (Go v s) r' = (r' ≡ Go v (more d s)) × (s.stock < n)
-Grows d n (Over (Ends More) s) r' = (d ≡ 0 → r' ≡ Over (Ends More) (more d s)) × IsPrefix s.output (output_of r')
+Grows d n (Over NoStep s) r' = (d ≡ 0 → r' ≡ Over NoStep (more d s)) × IsPrefix s.output (output_of r')
     × Within d r'
 Grows d n (Over why s) r' = r' ≡ Over why (more d s)
 
@@ -54,12 +55,16 @@ pub record Grew (d n : ℕ) (r r' : Result) : Type 0 where
 within-less : (d k : ℕ) (r : Result) → k < d → stock_of r ≤ k → Within d r
 within-less d k (Go v s) h g = omega arith
 within-less d k (Over (Exits w) s) h g = omega arith
-within-less d k (Over (Ends why) s) h g = tt
+within-less d k (Over NoStep s) h g = tt
+within-less d k (Over TooDeep s) h g = tt
+within-less d k (Over (Faults c) s) h g = tt
 
 within-then : (d : ℕ) (r : Result) (f : Signal → State → Result) → Within d r
     → ((v : Signal) (u : State) → Puts u.output u.stock (f v u)) → Within d (then r f)
 within-then d (Over (Exits w) s) f h p = h
-within-then d (Over (Ends why) s) f h p = tt
+within-then d (Over NoStep s) f h p = tt
+within-then d (Over TooDeep s) f h p = tt
+within-then d (Over (Faults c) s) f h p = tt
 within-then d (Go v s) f h p = within-less d s.stock (f v s) h (p v s).spends
 
 within-spent : (d k : ℕ) (s : State) (f : State → Result) → k ≡ d
@@ -80,7 +85,7 @@ prefix-then : (out : List ℕ) (r : Result) (f : Signal → State → Result) �
 prefix-then out (Go v s) f h p = prefix-prefix out s.output (output_of (f v s)) h (p v s).puts
 prefix-then out (Over why s) f h p = h
 
-none_left : (k : ℕ) (s : State) (f : State → Result) → k ≡ 0 → spend_of k s f ≡ Over (Ends More) s
+none_left : (k : ℕ) (s : State) (f : State → Result) → k ≡ 0 → spend_of k s f ≡ Over NoStep s
 none_left zero s f e = refl
 none_left (suc k) s f e = cc
 
@@ -90,7 +95,7 @@ module _ (d n : ℕ) where
   g-go v s h = record { grows = (refl, h) }
 
   -- what has no meaning grows
-  pub g-undefined : (s : State) → Grew d n (Over (Ends Undefined) s) (Over (Ends Undefined) (more d s))
+  pub g-undefined : {c : Fault} (s : State) → Grew d n (Over (Faults c) s) (Over (Faults c) (more d s))
   g-undefined s = record { grows = refl }
 
   -- a result and what follows it grow where both do
@@ -98,15 +103,15 @@ module _ (d n : ℕ) where
       → ((v : Signal) (s : State) → s.stock < n → Grew d n (f v s) (f' v (more d s)))
       → ((v : Signal) (u : State) → Puts u.output u.stock (f' v u)) → Grew d n (then r f) (then r' f')
   g-then (Go v s) r' f f' g h p = rw g.grows.0 (h v s g.grows.1)
-  g-then (Over (Ends More) s) r' f f' g h p = record {
+  g-then (Over NoStep s) r' f f' g h p = record {
     grows = (
       λ e. ap (λ r. then r f') (g.grows.0 e),
       prefix-then s.output r' f' g.grows.1 p,
       within-then d r' f' g.grows.2 p,
     );
   }
-  g-then (Over (Ends Undefined) s) r' f f' g h p = record { grows = ap (λ r. then r f') g.grows }
-  g-then (Over (Ends Deep) s) r' f f' g h p = record { grows = ap (λ r. then r f') g.grows }
+  g-then (Over (Faults c) s) r' f f' g h p = record { grows = ap (λ r. then r f') g.grows }
+  g-then (Over TooDeep s) r' f f' g h p = record { grows = ap (λ r. then r f') g.grows }
   g-then (Over (Exits w) s) r' f f' g h p = record { grows = ap (λ r. then r f') g.grows }
 
   -- what is done with a value that is wanted grows where it does for every value
@@ -116,10 +121,10 @@ module _ (d n : ℕ) where
   g-want _ s f f' h = record { grows = refl }
 
   -- what is done with what may be there grows where it does for everything
-  pub g-some : {A : Type 0} (o : Option A) (s : State) (f f' : A → Result)
-      → ((w : A) → Grew d n (f w) (f' w)) → Grew d n (with_some o s f) (with_some o (more d s) f')
-  g-some (Some w) s f f' h = h w
-  g-some None s f f' h = record { grows = refl }
+  pub g-some : {A : Type 0} (o : Option A) (c : Fault) (s : State) (f f' : A → Result)
+      → ((w : A) → Grew d n (f w) (f' w)) → Grew d n (with_some o c s f) (with_some o c (more d s) f')
+  g-some (Some w) c s f f' h = h w
+  g-some None c s f f' h = record { grows = refl }
 
   -- a choice grows where both legs do
   pub g-cond : (b : Bool) (r r' q q' : Result) → Grew d n r r' → Grew d n q q'
@@ -150,16 +155,18 @@ module _ (d n : ℕ) where
 
   -- STATES AND NAMES
 
-  g-given : (o : Option ℕ) (s : State) → s.stock < n → Grew d n (given o s) (given o (more d s))
-  g-given o s h = g-some o s _ _ (λ w. g-go (Value w) s h)
+  g-given : (o : Option ℕ) (c : Fault) (s : State) → s.stock < n
+      → Grew d n (given o c s) (given o c (more d s))
+  g-given o c s h = g-some o c s _ _ (λ w. g-go (Value w) s h)
 
   g-load : (x : Object) (s : State) → s.stock < n → Grew d n (load x s) (load x (more d s))
-  g-load (InScalar i) s h = g-given (held (slice_get s.scalars i)) s h
-  g-load (InArray a i) s h = g-given (held (cell_in (slice_get s.arrays a) i)) s h
+  g-load (InScalar i) s h = g-given (held (slice_get s.scalars i)) _ s h
+  g-load (InArray a i) s h = g-given (held (cell_in (slice_get s.arrays a) i)) _ s h
 
   g-store_in : (c : Option (Option ℕ)) (s : State) (x : Object) (w : ℕ) → s.stock < n
       → Grew d n (store_in c s x w) (store_in c (more d s) x w)
-  g-store_in None s x w h = g-undefined s
+  g-store_in None s (InScalar i) w h = g-undefined s
+  g-store_in None s (InArray a i) w h = g-undefined s
   g-store_in (Some c) s (InScalar i) w h = g-go _ (written s (InScalar i) (Some w)) h
   g-store_in (Some c) s (InArray a i) w h = g-go _ (written s (InArray a i) (Some w)) h
 
@@ -181,29 +188,29 @@ module _ (d n : ℕ) where
   -- what is done with an element of an array grows where it does for every object
   pub g-element_of : (p : Place) (w : ℕ) (s : State) (f f' : Object → Result)
       → ((x : Object) → Grew d n (f x) (f' x))
-      → Grew d n (with_some (element_of p w s) s f)
-      (with_some (element_of p w (more d s)) (more d s) f')
+      → Grew d n (with_some (element_of p w s) IllFormed s f)
+      (with_some (element_of p w (more d s)) IllFormed (more d s) f')
   g-element_of (place.Global g) w s f f' h = h _
   g-element_of (place.Scalar i) w s f f' h =
-      g-some (element_in (held (slice_get s.scalars i)) w) s f f' h
+      g-some (element_in (held (slice_get s.scalars i)) w) _ s f f' h
   g-element_of (place.Array a) w s f f' h = h _
 
   -- what is done with an element of a row grows where it does for every object
   pub g-row_element_of : (p : Place) (i j : ℕ) (s : State) (f f' : Object → Result)
       → ((x : Object) → Grew d n (f x) (f' x))
-      → Grew d n (with_some (row_element_of p i j s) s f)
-      (with_some (row_element_of p i j (more d s)) (more d s) f')
+      → Grew d n (with_some (row_element_of p i j s) IllFormed s f)
+      (with_some (row_element_of p i j (more d s)) IllFormed (more d s) f')
   g-row_element_of (place.Global g) i j s f f' h = h _
   g-row_element_of (place.Scalar k) i j s f f' h =
-      g-some (row_element_in (held (slice_get s.scalars k)) i j s.rows s.arrays) s f f' h
+      g-some (row_element_in (held (slice_get s.scalars k)) i j s.rows s.arrays) _ s f f' h
   g-row_element_of (place.Array a) i j s f f' h = h _
 
   -- what is done with the word that an object holds grows where it does for every word
   pub g-held : (x : Object) (s : State) (f f' : ℕ → Result) → ((w : ℕ) → Grew d n (f w) (f' w))
-      → Grew d n (with_some (held (cell s x)) s f)
-      (with_some (held (cell (more d s) x)) (more d s) f')
-  g-held (InScalar i) s f f' h = g-some (held (slice_get s.scalars i)) s f f' h
-  g-held (InArray a i) s f f' h = g-some (held (cell_in (slice_get s.arrays a) i)) s f f' h
+      → Grew d n (with_some (held (cell s x)) (missing s x) s f)
+      (with_some (held (cell (more d s) x)) (missing (more d s) x) (more d s) f')
+  g-held (InScalar i) s f f' h = g-some (held (slice_get s.scalars i)) _ s f f' h
+  g-held (InArray a i) s f f' h = g-some (held (cell_in (slice_get s.arrays a) i)) _ s f f' h
 
   -- an element that is read grows
   pub g-element : (p : Place) (v : Signal) (s : State) → s.stock < n
@@ -264,12 +271,12 @@ module _ (d n : ℕ) where
   -- an operation on one value grows
   pub g-unary : (op : UnaryOp) (k : Option Kind) (v : Signal) (s : State) → s.stock < n
       → Grew d n (unary op k v s) (unary op k v (more d s))
-  g-unary op k v s h = g-want v s _ _ (λ w. g-given _ s h)
+  g-unary op k v s h = g-want v s _ _ (λ w. g-given _ _ s h)
 
   -- an operation on two values grows
   pub g-operated : (op : BinaryOp) (k : Option Kind) (a : ℕ) (v : Signal) (s : State) → s.stock < n
       → Grew d n (operated op k a v s) (operated op k a v (more d s))
-  g-operated op k a v s h = g-want v s _ _ (λ w. g-given _ s h)
+  g-operated op k a v s h = g-want v s _ _ (λ w. g-given _ _ s h)
 
   -- a value's truth grows
   pub g-truth : (v : Signal) (s : State) → s.stock < n → Grew d n (truth v s) (truth v (more d s))
@@ -289,13 +296,13 @@ module _ (d n : ℕ) where
       (s : State) → s.stock < n → Grew d n (compounded op to at x old v s)
       (compounded op to at x old v (more d s))
   g-compounded op to at x old v s h =
-      g-want v s _ _ (λ b. g-some (compound_of op to at old b) s _ _ (λ w. g-store s x w h))
+      g-want v s _ _ (λ b. g-some (compound_of op to at old b) _ s _ _ (λ w. g-store s x w h))
 
   -- a bump of an object grows
   pub g-bump_object : (op : BumpOp) (k : Option Kind) (s : State) (x : Object) → s.stock < n
       → Grew d n (bump_object op k s x) (bump_object op k (more d s) x)
   g-bump_object op k s x h =
-      g-held x s _ _ (λ old. g-some (bump_of op k old) s _ _ (λ new.
+      g-held x s _ _ (λ old. g-some (bump_of op k old) _ s _ _ (λ new.
       g-then (store s x new) _ _ _ (g-store s x new h) (λ v s h. g-go _ s h) (λ v u. p-go _ u)))
 
   -- a bump of an element grows, from its index on

@@ -8,3 +8,4 @@ pub mod StatementsGrow
 pub mod Equations
 pub mod Induction
 pub mod Stocks
+pub mod Told

@@ -7,9 +7,9 @@ use Rattle.c_tree.specs.declared.Place.TheVariants as place
 use Rattle.c_tree.specs.declared.TypedProgram.{TypedProgram}
 use Rattle.c_meaning_spec.specs.declared.signal.Signal.{Signal}
 use Rattle.c_meaning_spec.specs.declared.signal.Signal.TheVariants.{Nothing, Value, Breaks, Returns}
-use Rattle.c_meaning_spec.specs.declared.signal.Ending.TheVariants.{More, Undefined}
 use Rattle.c_meaning_spec.specs.declared.signal.Halt.{Halt}
-use Rattle.c_meaning_spec.specs.declared.signal.Halt.TheVariants.{Ends, Exits}
+use Rattle.c_meaning_spec.specs.declared.signal.Halt.TheVariants.{NoStep, Exits}
+use Rattle.c_meaning_spec.specs.declared.fault.Fault.{Fault}
 use Rattle.c_meaning_spec.specs.declared.signal.Object.{Object}
 use Rattle.c_meaning_spec.specs.declared.signal.Object.TheVariants.{InScalar, InArray}
 use Rattle.c_meaning_spec.specs.State.{State, Result, Go, Over, spend, spend_of, want, with_some}
@@ -64,13 +64,13 @@ p-then out n (Over why s) f h g = record { puts = h.puts; spends = h.spends }
 pub p-want : (v : Signal) (s : State) (f : ℕ → Result) → ((w : ℕ) → Puts s.output s.stock (f w))
     → Puts s.output s.stock (want v s f)
 p-want (Value w) s f h = h w
-p-want _ s f h = p-over (Ends Undefined) s
+p-want _ s f h = p-over _ s
 
 -- what is done with what may be there takes nothing back where it does not for anything
-pub p-some : {A : Type 0} (o : Option A) (s : State) (f : A → Result)
-    → ((x : A) → Puts s.output s.stock (f x)) → Puts s.output s.stock (with_some o s f)
-p-some None s f h = p-over (Ends Undefined) s
-p-some (Some x) s f h = h x
+pub p-some : {A : Type 0} (o : Option A) (c : Fault) (s : State) (f : A → Result)
+    → ((x : A) → Puts s.output s.stock (f x)) → Puts s.output s.stock (with_some o c s f)
+p-some None c s f h = p-over _ s
+p-some (Some x) c s f h = h x
 
 -- a choice takes nothing back where neither leg does
 pub p-cond : (b : Bool) (out : List ℕ) (n : ℕ) (r q : Result) → Puts out n r → Puts out n q
@@ -78,7 +78,7 @@ pub p-cond : (b : Bool) (out : List ℕ) (n : ℕ) (r q : Result) → Puts out n
 p-cond true out n r q h g = h
 p-cond false out n r q h g = g
 
-p-over_none : (k : ℕ) (s : State) → k ≡ s.stock → Puts s.output k (Over (Ends More) s)
+p-over_none : (k : ℕ) (s : State) → k ≡ s.stock → Puts s.output k (Over NoStep s)
 p-over_none k s e = record { puts = same-prefix s.output; spends = omega arith }
 
 -- what runs behind a step takes nothing back where it does not, by the steps that are left
@@ -97,16 +97,16 @@ p-spend s f h = p-spend_of s.stock s f refl h
 -- STATES AND NAMES
 
 -- a value that may be there takes nothing back
-pub p-given : (o : Option ℕ) (s : State) → Puts s.output s.stock (given o s)
-p-given o s = p-some o s _ (λ w. p-go (Value w) s)
+pub p-given : (o : Option ℕ) (c : Fault) (s : State) → Puts s.output s.stock (given o c s)
+p-given o c s = p-some o c s _ (λ w. p-go (Value w) s)
 
 -- a load from an object takes nothing back
 pub p-load : (x : Object) (s : State) → Puts s.output s.stock (load x s)
-p-load x s = p-given (held (cell s x)) s
+p-load x s = p-given (held (cell s x)) _ s
 
 p-store_in : (c : Option (Option ℕ)) (s : State) (x : Object) (w : ℕ)
     → Puts s.output s.stock (store_in c s x w)
-p-store_in None s x w = p-over (Ends Undefined) s
+p-store_in None s x w = p-over _ s
 p-store_in (Some c) s (InScalar i) w = p-go _ (written s (InScalar i) (Some w))
 p-store_in (Some c) s (InArray a i) w = p-go _ (written s (InArray a i) (Some w))
 
@@ -123,12 +123,12 @@ p-name P (place.Array a) s = p-go _ s
 
 -- an element that is read takes nothing back
 pub p-element : (p : Place) (v : Signal) (s : State) → Puts s.output s.stock (element p v s)
-p-element p v s = p-want v s _ (λ w. p-some (element_of p w s) s _ (λ x. p-load x s))
+p-element p v s = p-want v s _ (λ w. p-some (element_of p w s) _ s _ (λ x. p-load x s))
 
 -- an element of a row that is read takes nothing back
 pub p-row_element : (p : Place) (i : ℕ) (v : Signal) (s : State)
     → Puts s.output s.stock (row_element p i v s)
-p-row_element p i v s = p-want v s _ (λ j. p-some (row_element_of p i j s) s _ (λ x. p-load x s))
+p-row_element p i v s = p-want v s _ (λ j. p-some (row_element_of p i j s) _ s _ (λ x. p-load x s))
 
 -- SWITCHES
 
@@ -154,7 +154,7 @@ p-returned : (is_main : Bool) (v : Signal) (s : State)
 p-returned is_main (Returns (Some w)) s = p-go _ s
 p-returned is_main (Returns None) s = p-go _ s
 p-returned is_main Nothing s = p-go _ s
-p-returned is_main _ s = p-over (Ends Undefined) s
+p-returned is_main _ s = p-over _ s
 
 -- leaving a function takes nothing back
 pub p-left : (is_main : Bool) (scalars : List (Option ℕ)) (count base room : ℕ) (v : Signal)
@@ -168,7 +168,7 @@ p-read (b ∷ rest) s = p-go _ (record s { input = rest })
 -- a call of `getchar` takes nothing back
 pub p-get_char : (done : List ℕ) (s : State) → Puts s.output s.stock (get_char done s)
 p-get_char [] s = p-read s.input s
-p-get_char (w ∷ rest) s = p-over (Ends Undefined) s
+p-get_char (w ∷ rest) s = p-over _ s
 
 -- a call of `putchar` takes nothing back
 pub p-put_char : (done : List ℕ) (s : State) → Puts s.output s.stock (put_char done s)
@@ -176,11 +176,11 @@ p-put_char (w ∷ []) s = record {
   puts = record { rest = (w % 256) ∷ []; joined = refl };
   spends = omega arith;
 }
-p-put_char [] s = p-over (Ends Undefined) s
-p-put_char (w ∷ x ∷ rest) s = p-over (Ends Undefined) s
+p-put_char [] s = p-over _ s
+p-put_char (w ∷ x ∷ rest) s = p-over _ s
 
 -- a call of `exit` takes nothing back
 pub p-exit : (done : List ℕ) (s : State) → Puts s.output s.stock (exit_with done s)
 p-exit (w ∷ []) s = p-over (Exits w) s
-p-exit [] s = p-over (Ends Undefined) s
-p-exit (w ∷ x ∷ rest) s = p-over (Ends Undefined) s
+p-exit [] s = p-over _ s
+p-exit (w ∷ x ∷ rest) s = p-over _ s

@@ -19,7 +19,8 @@ use Rattle.c_tree.specs.declared.TypedFunc.{TypedFunc}
 use Rattle.c_tree.specs.declared.TypedGlobal.{TypedGlobal}
 use Rattle.c_tree.specs.declared.TypedProgram.{TypedProgram}
 use Rattle.c_meaning_spec.specs.declared.signal.Ending.TheVariants.{More, Undefined, Deep}
-use Rattle.c_meaning_spec.specs.declared.signal.Halt.TheVariants.{Ends}
+use Rattle.c_meaning_spec.specs.declared.signal.Halt.TheVariants.{NoStep, TooDeep, Faults}
+use Rattle.c_meaning_spec.specs.declared.fault.Fault.TheVariants.{IllFormed}
 use Rattle.c_constant.specs.Kinds.{converted}
 use Rattle.c_constant.specs.Operation.{operate, operate_one}
 use Rattle.c_meaning_spec.specs.State.{State, Go, Over}
@@ -196,10 +197,16 @@ no_step_for_exit : eval exits_below [] 14 ≡ Stopped More (65 ∷ [])
 unfolding eval meaning evaluated converted operate
 no_step_for_exit = simp trees refl
 
--- exit(-1), with the word of -1: its value is an int, as main's is
+-- exit(-1), with the word of -1
 exit_below_zero : eval (program [] (exits_with 18446744073709551615 ∷ [])) [] 9 ≡ Done [] (negsuc 0) 6
 unfolding eval meaning evaluated converted
 exit_below_zero = simp trees refl
+
+-- abort(), which ends the run with the least long
+abort_is_the_least_long : eval (program [] (exits_with 9223372036854775808 ∷ [])) [] 9
+    ≡ Done [] (negsuc 9223372036854775807) 6
+unfolding eval meaning evaluated converted
+abort_is_the_least_long = simp trees refl
 
 -- a state with one local
 abbrev with_local : ℕ → ℕ → State
@@ -215,8 +222,8 @@ with_local n w = record {
 }
 
 -- without its argument
-exit_without_value : called (λ t s. Over (Ends More) s) (program [] []) Exit [] (with_local 1 7)
-    ≡ Over (Ends Undefined) (with_local 0 7)
+exit_without_value : called (λ t s. Over NoStep s) (program [] []) Exit [] (with_local 1 7)
+    ≡ Over (Faults IllFormed) (with_local 0 7)
 exit_without_value = refl
 
 -- for (; x; x--) ; with an x of 1
@@ -244,12 +251,12 @@ at_room room = record {
   room = room;
 }
 
-too_deep : called (λ t s. Over (Ends More) s) (program [] []) (Func 0) [] (at_room 1048425)
-    ≡ Over (Ends Deep) (record (at_room 1048425) { stock = 0 })
+too_deep : called (λ t s. Over NoStep s) (program [] []) (Func 0) [] (at_room 1048425)
+    ≡ Over TooDeep (record (at_room 1048425) { stock = 0 })
 too_deep = refl
 
-just_fits : called (λ t s. Over (Ends More) s) (program [] []) (Func 0) [] (at_room 1048424)
-    ≡ Over (Ends More) (record {
+just_fits : called (λ t s. Over NoStep s) (program [] []) (Func 0) [] (at_room 1048424)
+    ≡ Over NoStep (record {
       stock = 0;
       input = [];
       output = [];

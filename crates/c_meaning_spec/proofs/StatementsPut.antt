@@ -13,8 +13,6 @@ use Rattle.c_tree.specs.declared.TypedForInit.TheOpen as init
 use Rattle.c_tree.specs.declared.TypedProgram.{TypedProgram}
 use Rattle.c_meaning_spec.specs.declared.signal.Signal.{Signal}
 use Rattle.c_meaning_spec.specs.declared.signal.Signal.TheVariants.{Nothing, Breaks, Continues}
-use Rattle.c_meaning_spec.specs.declared.signal.Ending.TheVariants.{More, Undefined}
-use Rattle.c_meaning_spec.specs.declared.signal.Halt.TheVariants.{Ends}
 use Rattle.c_meaning_spec.specs.declared.signal.Object.TheVariants.{InScalar}
 use Rattle.c_meaning_spec.specs.State.{State, Result}
 use Rattle.c_meaning_spec.specs.inside.State.{then}
@@ -78,13 +76,13 @@ module _ (rec : Parts) (below : (t : Task) (s : State) → Puts s.output s.stock
 
   p-unset : (i : ℕ) (e : Option TypedExpr) (c : Option (Option ℕ)) (s : State)
       → Puts s.output s.stock (unset rec i e c s)
-  p-unset i e None s = p-over (Ends Undefined) s
+  p-unset i e None s = p-over _ s
   p-unset i None (Some c) s = p-go _ (written s (InScalar i) None)
   p-unset i (Some e) (Some c) s = p-of e (written s (InScalar i) None) _ (p-initialised i)
 
   p-unset_row : (a : ℕ) (row : Option (List (Option ℕ))) (s : State)
       → Puts s.output s.stock (unset_row a row s)
-  p-unset_row a None s = p-over (Ends Undefined) s
+  p-unset_row a None s = p-over _ s
   p-unset_row a (Some row) s = p-go _ (record s {
     arrays = slice_set s.arrays a
         (replicate (length row) None);
@@ -94,8 +92,8 @@ module _ (rec : Parts) (below : (t : Task) (s : State) → Puts s.output s.stock
       → Puts s.output s.stock (declare rec p e s)
   p-declare (place.Scalar i) e s = p-unset i e (cell s (InScalar i)) s
   p-declare (place.Array a) None s = p-unset_row (s.base + a) (slice_get s.arrays (s.base + a)) s
-  p-declare (place.Array a) (Some e) s = p-over (Ends Undefined) s
-  p-declare (place.Global g) e s = p-over (Ends Undefined) s
+  p-declare (place.Array a) (Some e) s = p-over _ s
+  p-declare (place.Global g) e s = p-over _ s
 
   p-run_if : (o : Option TypedStmt) (s : State) → Puts s.output s.stock (run_if rec o s)
   p-run_if None s = p-go _ s
@@ -177,7 +175,7 @@ module _ (rec : Parts) (below : (t : Task) (s : State) → Puts s.output s.stock
 pub p-evaluated : (k : ℕ) (P : TypedProgram) (t : Task) (s : State)
     → Puts s.output s.stock (evaluated k P t s)
 unfolding evaluated
-p-evaluated zero P t s = p-over (Ends More) s
+p-evaluated zero P t s = p-over _ s
 p-evaluated (suc k) P t s = p-perform (evaluated k P) (p-evaluated k P) P t s
 
 -- what a task means takes nothing back

@@ -1,20 +1,23 @@
 -- The laws of an evaluation, from those of its parts.
-use Rattle.std.proofs.Common.{◌≡◌, ℕ, ℤ, ◌+◌, ◌-◌, ◌<◌, ◌≤◌, ◌⊎◌, inl, inr, List, []}
+use Rattle.std.proofs.Common.{◌≡◌, ℕ, ℤ, ◌+◌, ◌-◌, ◌^◌, ◌<◌, ◌≤◌, ◌⊎◌, inl, inr, List, []}
 use Rattle.std.proofs.Common.{refl, sym, ap, subst, ◌∙◌, arith}
+use Rattle.c_tree.specs.declared.Kind.TheVariants.{Int, Long}
 use Rattle.c_tree.specs.declared.Callee.TheVariants.{Func}
 use Rattle.c_tree.specs.declared.TypedProgram.{TypedProgram}
 use Rattle.c_meaning_spec.specs.declared.signal.Signal.{Signal}
 use Rattle.c_meaning_spec.specs.declared.signal.Signal.TheVariants.{Nothing, Value, Breaks}
 use Rattle.c_meaning_spec.specs.declared.signal.Signal.TheVariants.{Continues, Returns}
 use Rattle.c_meaning_spec.specs.declared.signal.Ending.TheVariants.{More, Undefined, Deep}
-use Rattle.c_meaning_spec.specs.declared.signal.Halt.TheVariants.{Ends, Exits}
-use Rattle.c_meaning_spec.specs.State.{Result, Go, Over}
+use Rattle.c_meaning_spec.specs.declared.signal.Halt.TheVariants.{NoStep, TooDeep, Faults, Exits}
+use Rattle.c_constant.specs.Kinds.{IsWord, converted, number}
+use Rattle.c_constant.proofs.Conversions.{converted_is}
+use Rattle.c_meaning_spec.specs.State.{State, Result, Go, Over}
 use Rattle.c_meaning_spec.specs.inside.Output.{IsPrefix, output_of}
 use Rattle.c_meaning_spec.specs.Call.{called}
 use Rattle.c_meaning_spec.specs.Eval.{Outcome, Stopped, Done, meaning, ended, start, outcome, eval}
 use Rattle.c_meaning_spec.specs.Laws.{IsMore}
 use Rattle.c_meaning_spec.specs.inside.Laws.{output_in, StaysWithMoreSteps, StepsAreLeast, OutputGoesOn}
-use Rattle.c_meaning_spec.specs.inside.Laws.{MeansByParts}
+use Rattle.c_meaning_spec.specs.inside.Laws.{MeansByParts, ExitsAsMainReturns}
 use Rattle.c_meaning_spec.proofs.Puts.{stock_of, same-prefix}
 use Rattle.c_meaning_spec.proofs.ExpressionsPut.{p-called}
 use Rattle.c_meaning_spec.proofs.StatementsPut.{p-meaning}
@@ -51,11 +54,11 @@ stays : (n d : ℕ) (r r' : Result) → Grew d n r r' → ¬ IsMore (outcome n r
     → outcome (n + d) r' ≡ outcome n r
 stays n d (Go v s) r' g h = ap (outcome (n + d)) g.grows.0
     ∙ ap (λ (k : ℕ). ended v s.output k) (steps_same n d s.stock)
-stays n d (Over (Ends More) s) r' g h = absurd (h tt)
-stays n d (Over (Ends Undefined) s) r' g h = ap (outcome (n + d)) g.grows
-stays n d (Over (Ends Deep) s) r' g h = ap (outcome (n + d)) g.grows
+stays n d (Over NoStep s) r' g h = absurd (h tt)
+stays n d (Over (Faults c) s) r' g h = ap (outcome (n + d)) g.grows
+stays n d (Over TooDeep s) r' g h = ap (outcome (n + d)) g.grows
 stays n d (Over (Exits w) s) r' g h = ap (outcome (n + d)) g.grows
-    ∙ ap (λ (k : ℕ). ended (Value w) s.output k) (steps_same n d s.stock)
+    ∙ ap (λ (k : ℕ). Done s.output (number Long w) k) (steps_same n d s.stock)
 
 -- a result other than More stays with more steps
 pub stays-with-more-steps : StaysWithMoreSteps
@@ -75,7 +78,9 @@ output-ended (Returns w) out steps = refl
 
 output-outcome : (n : ℕ) (r : Result) → output_in (outcome n r) ≡ output_of r
 output-outcome n (Go v s) = output-ended v s.output (n - s.stock)
-output-outcome n (Over (Ends why) s) = refl
+output-outcome n (Over NoStep s) = refl
+output-outcome n (Over TooDeep s) = refl
+output-outcome n (Over (Faults c) s) = refl
 output-outcome n (Over (Exits w) s) = refl
 
 -- the end of main is no want of steps
@@ -95,13 +100,16 @@ ended-steps Breaks out o steps k result e = absurd (cc)
 ended-steps Continues out o steps k result e = absurd (cc)
 ended-steps (Returns w) out o steps k result e = absurd (cc)
 
+done-steps : (out o : List ℕ) (x y : ℤ) (steps k : ℕ) → Done out x steps ≡ Done o y k → steps ≡ k
+done-steps out o x y steps k e = cc
+
 goes_on : (n d : ℕ) (r r' : Result) → Grew d n r r' → IsPrefix (output_of r) (output_of r')
 goes_on n d (Go v s) r' g = subst (λ (r : Result). IsPrefix s.output (output_of r)) (sym g.grows.0)
     (same-prefix s.output)
-goes_on n d (Over (Ends More) s) r' g = g.grows.1
-goes_on n d (Over (Ends Undefined) s) r' g = subst (λ (r : Result). IsPrefix s.output (output_of r))
+goes_on n d (Over NoStep s) r' g = g.grows.1
+goes_on n d (Over (Faults c) s) r' g = subst (λ (r : Result). IsPrefix s.output (output_of r))
     (sym g.grows) (same-prefix s.output)
-goes_on n d (Over (Ends Deep) s) r' g = subst (λ (r : Result). IsPrefix s.output (output_of r))
+goes_on n d (Over TooDeep s) r' g = subst (λ (r : Result). IsPrefix s.output (output_of r))
     (sym g.grows) (same-prefix s.output)
 goes_on n d (Over (Exits w) s) r' g = subst (λ (r : Result). IsPrefix s.output (output_of r))
     (sym g.grows) (same-prefix s.output)
@@ -124,9 +132,9 @@ output-goes-on P input n d =
 -- a run with m steps is not short of steps, where with d more it does not leave less than d
 enough : (m d : ℕ) (r r' : Result) → Grew d m r r' → ¬ Within d r' → ¬ IsMore (outcome m r)
 enough m d (Go v s) r' g past h = no-more-ended v s.output (m - s.stock) h
-enough m d (Over (Ends More) s) r' g past h = past g.grows.2
-enough m d (Over (Ends Undefined) s) r' g past h = h
-enough m d (Over (Ends Deep) s) r' g past h = h
+enough m d (Over NoStep s) r' g past h = past g.grows.2
+enough m d (Over (Faults c) s) r' g past h = h
+enough m d (Over TooDeep s) r' g past h = h
 enough m d (Over (Exits w) s) r' g past h = h
 
 steps-most : (n : ℕ) (r : Result) (out : List ℕ) (result : ℤ) (steps : ℕ)
@@ -134,9 +142,11 @@ steps-most : (n : ℕ) (r : Result) (out : List ℕ) (result : ℤ) (steps : ℕ
 steps-most n (Go v s) out result steps e =
     let k : n - s.stock ≡ steps = ended-steps v s.output out (n - s.stock) steps result e in
     omega arith
-steps-most n (Over (Ends why) s) out result steps e = absurd (cc)
+steps-most n (Over NoStep s) out result steps e = absurd (cc)
+steps-most n (Over TooDeep s) out result steps e = absurd (cc)
+steps-most n (Over (Faults c) s) out result steps e = absurd (cc)
 steps-most n (Over (Exits w) s) out result steps e =
-    let k : n - s.stock ≡ steps = ended-steps (Value w) s.output out (n - s.stock) steps result e in
+    let k : n - s.stock ≡ steps = done-steps s.output out (number Long w) result (n - s.stock) steps e in
     omega arith
 
 abbrev Least : TypedProgram → List ℕ → ℕ → List ℕ → ℤ → ℕ → Type 0
@@ -186,10 +196,12 @@ exact_at P input n out result steps k r is past m l whole =
 exact : (P : TypedProgram) (input : List ℕ) (n : ℕ) (out : List ℕ) (result : ℤ) (steps : ℕ)
     (r : Result) → run P input n ≡ r → outcome n r ≡ Done out result steps → stock_of r ≤ n
     → eval P input n ≡ Done out result steps → Least P input n out result steps
-exact P input n out result steps (Over (Ends why) s) is e l whole = absurd (cc)
+exact P input n out result steps (Over NoStep s) is e l whole = absurd (cc)
+exact P input n out result steps (Over TooDeep s) is e l whole = absurd (cc)
+exact P input n out result steps (Over (Faults c) s) is e l whole = absurd (cc)
 exact P input n out result steps (Over (Exits w) s) is e l whole =
     exact_at P input n out result steps s.stock (Over (Exits w) s) is (not_less s.stock)
-    (ended-steps (Value w) s.output out (n - s.stock) steps result e) l whole
+    (done-steps s.output out (number Long w) result (n - s.stock) steps e) l whole
 exact P input n out result steps (Go v s) is e l whole =
     exact_at P input n out result steps s.stock (Go v s) is (not_less s.stock)
     (ended-steps v s.output out (n - s.stock) steps result e) l whole
@@ -203,3 +215,19 @@ steps-are-least P input n out result steps e =
 -- what a task means is what it does with the meaning of its parts
 pub means-by-parts : MeansByParts
 means-by-parts P t s = meaning-is P t s
+
+-- THE END BY AN INT
+
+-- a long's word is converted to long as it is
+long_is : (w : ℕ) → w < 2 ^ 64 → converted Long w ≡ w
+unfolding converted
+long_is w l = omega arith
+
+-- an int is the same number as a long
+same-end : (out : List ℕ) (a b steps : ℕ) → a ≡ b → Done out (number Long a) steps ≡ Done out (number Int b) steps
+same-end out a b steps e = ap (λ (v : ℕ). Done out (number Int v) steps) e
+
+-- a run that ends with an int comes to what main's return of it does
+pub exits-as-main-returns : ExitsAsMainReturns
+exits-as-main-returns n w s h = same-end s.output (converted Long w) (converted Int w) (n - s.stock)
+    (long_is w h.below ∙ sym (converted_is Int w h))

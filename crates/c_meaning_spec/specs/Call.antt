@@ -12,8 +12,8 @@ use Rattle.c_tree.specs.declared.TypedProgram.{TypedProgram}
 use Rattle.c_constant.specs.Kinds.{bytes}
 use Rattle.c_meaning_spec.specs.declared.signal.Signal.{Signal}
 use Rattle.c_meaning_spec.specs.declared.signal.Signal.TheVariants.{Nothing, Value, Returns}
-use Rattle.c_meaning_spec.specs.declared.signal.Ending.TheVariants.{Undefined, Deep}
-use Rattle.c_meaning_spec.specs.declared.signal.Halt.TheVariants.{Ends, Exits}
+use Rattle.c_meaning_spec.specs.declared.signal.Halt.TheVariants.{TooDeep, Faults, Exits}
+use Rattle.c_meaning_spec.specs.declared.fault.Fault.TheVariants.{IllFormed}
 use Rattle.c_meaning_spec.specs.State.{State, Result, Go, Over, spend, want}
 use Rattle.c_meaning_spec.specs.inside.State.{then}
 use Rattle.c_meaning_spec.specs.Task.{Parts, Of, Run}
@@ -64,7 +64,7 @@ abbrev pub returned : Bool → Signal → State → Result
 returned is_main (Returns (Some w)) s = Go (Value w) s
 returned is_main (Returns None) s = Go Nothing s
 returned is_main Nothing s = Go (end_of is_main) s
-returned is_main _ s = Over (Ends Undefined) s
+returned is_main _ s = Over (Faults IllFormed) s
 
 -- the caller's state again: its scalars, the count of arrays, its base and its room
 abbrev pub left : Bool → List (Option ℕ) → ℕ → ℕ → ℕ → Signal → State → Result
@@ -83,16 +83,16 @@ entered_if rec is_main fits f done s =
     cond fits
     (then (rec (Run f.body) (entered f done s))
     (left is_main s.scalars (length s.arrays) s.base s.room))
-    (Over (Ends Deep) s)
+    (Over TooDeep s)
 
 -- a call of a function, which may be main, with these arguments; the frames of the active functions,
 -- main's included, have a limit
 abbrev pub enter : Parts → Bool → Option TypedFunc → List ℕ → State → Result
-enter rec is_main None done s = Over (Ends Undefined) s
+enter rec is_main None done s = Over (Faults IllFormed) s
 enter rec is_main (Some f) done s =
     cond (nat_eq (length done) f.params)
     (entered_if rec is_main (nat_le (s.room + frame f) most_frame_bytes) f done s)
-    (Over (Ends Undefined) s)
+    (Over (Faults IllFormed) s)
 
 -- the next byte of the input, and -1 at its end
 abbrev pub read_from : List ℕ → State → Result
@@ -102,17 +102,17 @@ read_from (b ∷ rest) s = Go (Value b) (record s { input = rest })
 -- getchar takes no argument
 abbrev pub get_char : List ℕ → State → Result
 get_char [] s = read_from s.input s
-get_char (w ∷ rest) s = Over (Ends Undefined) s
+get_char (w ∷ rest) s = Over (Faults IllFormed) s
 
 -- putchar puts out the low byte of its argument, and gives it
 abbrev pub put_char : List ℕ → State → Result
 put_char (w ∷ []) s = Go (Value (w % 256)) (record s { output = s.output ++ (w % 256) ∷ [] })
-put_char _ s = Over (Ends Undefined) s
+put_char _ s = Over (Faults IllFormed) s
 
 -- exit ends the evaluation with its argument, and gives no value to what calls it (C17 7.22.4.4)
 abbrev pub exit_with : List ℕ → State → Result
 exit_with (w ∷ []) s = Over (Exits w) s
-exit_with _ s = Over (Ends Undefined) s
+exit_with _ s = Over (Faults IllFormed) s
 
 -- a call's further step, and what the call does
 abbrev pub called : Parts → TypedProgram → Callee → List ℕ → State → Result

@@ -1,7 +1,7 @@
 -- The evaluation of a program on an input with a stock of steps.
 use Rattle.std.specs.Prelude.{ℕ, zero, suc, ℤ, ◌+◌, ◌-◌, ◌*◌, List, [], ◌++◌, map, Option, Some}
 use Rattle.std.specs.Prelude.{None, length, replicate}
-use Rattle.c_tree.specs.declared.Kind.TheVariants.{Int}
+use Rattle.c_tree.specs.declared.Kind.TheVariants.{Int, Long}
 use Rattle.c_tree.specs.declared.Callee.TheVariants.{Func}
 use Rattle.c_tree.specs.TypedTrees.{node_of}
 use Rattle.c_tree.specs.declared.TypedGlobal.{TypedGlobal}
@@ -10,8 +10,10 @@ use Rattle.c_tree.specs.declared.TypedStmt.{out-TypedStmt}
 use Rattle.c_meaning_spec.specs.declared.signal.Signal.{Signal}
 use Rattle.c_meaning_spec.specs.declared.signal.Signal.TheVariants.{Value}
 use Rattle.c_meaning_spec.specs.declared.signal.Ending.{Ending}
-use Rattle.c_meaning_spec.specs.declared.signal.Ending.TheVariants.{More, Undefined}
-use Rattle.c_meaning_spec.specs.declared.signal.Halt.TheVariants.{Ends, Exits}
+use Rattle.c_meaning_spec.specs.declared.signal.Ending.TheVariants.{More, Undefined, Deep}
+use Rattle.c_meaning_spec.specs.declared.signal.Halt.TheVariants.{NoStep, TooDeep, Faults, Exits}
+use Rattle.c_meaning_spec.specs.declared.fault.Fault.{Fault}
+use Rattle.c_meaning_spec.specs.declared.fault.Fault.TheVariants.{NoValue}
 use Rattle.c_meaning_spec.specs.State.{State, Result, Go, Over}
 use Rattle.c_constant.specs.Kinds.{number, converted}
 use Rattle.c_meaning_spec.specs.Task.{Task, Of, Run, Turn, Parts}
@@ -29,7 +31,7 @@ perform rec P (Turn test post body) s = turn rec test post body s
 -- n + 2 is enough for n steps; no more of the depth is seen by the law `meaning P t s ≡ perform
 -- (meaning P) P t s`.
 unfoldable pub evaluated : ℕ → TypedProgram → Task → State → Result
-evaluated zero P t s = Over (Ends More) s
+evaluated zero P t s = Over NoStep s
 evaluated (suc k) P t s = perform (evaluated k P) P t s
 
 -- the depth that is enough for n steps
@@ -79,13 +81,35 @@ abbrev pub ended : Signal → List ℕ → ℕ → Outcome
 ended (Value w) output steps = Done output (number Int (converted Int w)) steps
 ended _ output steps = Stopped Undefined output
 
--- what the call of main comes to, of a stock of n: exit ends the evaluation as main does that returns
--- the same value (C17 5.1.2.2.3)
+-- What the call of main comes to, of a stock of n. A call that ends the run gives its argument, a long: `exit(e)`
+-- hands on its int, and so gives what main's return of e does (C17 5.1.2.2.3; the law `ExitsAsMainReturns`), and
+-- `abort()` the least long, which no int is.
 abbrev pub outcome : ℕ → Result → Outcome
-outcome n (Over (Ends why) s) = Stopped why s.output
-outcome n (Over (Exits w) s) = ended (Value w) s.output (n - s.stock)
+outcome n (Over NoStep s) = Stopped More s.output
+outcome n (Over TooDeep s) = Stopped Deep s.output
+outcome n (Over (Faults c) s) = Stopped Undefined s.output
+outcome n (Over (Exits w) s) = Done s.output (number Long w) (n - s.stock)
 outcome n (Go v s) = ended v s.output (n - s.stock)
 
 -- the call of main
 unfoldable pub eval : TypedProgram → List ℕ → ℕ → Outcome
 eval P input n = outcome n (called (meaning P) P (Func P.main) [] (start P input n))
+
+-- WHY IT IS UNDEFINED
+
+-- why the end of main is undefined: the value is taken of what gave none
+abbrev pub ended_fault : Signal → Option Fault
+ended_fault (Value w) = None
+ended_fault _ = Some NoValue
+
+-- why what the call of main comes to is undefined, none where it is not
+abbrev pub fault_of : Result → Option Fault
+fault_of (Over (Faults c) s) = Some c
+fault_of (Over NoStep s) = None
+fault_of (Over TooDeep s) = None
+fault_of (Over (Exits w) s) = None
+fault_of (Go v s) = ended_fault v
+
+-- why an evaluation is undefined, none where it is not
+unfoldable pub fault : TypedProgram → List ℕ → ℕ → Option Fault
+fault P input n = fault_of (called (meaning P) P (Func P.main) [] (start P input n))

@@ -14,15 +14,15 @@ use Rattle.c_tree.specs.declared.TypedNode.TheOpen.{Comma}
 use Rattle.c_tree.specs.declared.TypedProgram.{TypedProgram}
 use Rattle.c_meaning_spec.specs.declared.signal.Signal.{Signal}
 use Rattle.c_meaning_spec.specs.declared.signal.Signal.TheVariants.{Value}
-use Rattle.c_meaning_spec.specs.declared.signal.Ending.TheVariants.{Undefined}
-use Rattle.c_meaning_spec.specs.declared.signal.Halt.TheVariants.{Ends}
+use Rattle.c_meaning_spec.specs.declared.signal.Halt.TheVariants.{Faults}
+use Rattle.c_meaning_spec.specs.declared.fault.Fault.TheVariants.{IllFormed}
 use Rattle.c_meaning_spec.specs.declared.signal.Object.{Object}
 use Rattle.c_meaning_spec.specs.State.{State, Result, Go, Over, spend, want, with_some, given, cell}
 use Rattle.c_meaning_spec.specs.inside.State.{then}
-use Rattle.c_meaning_spec.specs.State.{held, store}
+use Rattle.c_meaning_spec.specs.State.{held, missing, store}
 use Rattle.c_constant.specs.Kinds.{converted}
 use Rattle.c_meaning_spec.specs.Word.{is_false, truth_of, binary_of, unary_of, compound_of, bump_of}
-use Rattle.c_meaning_spec.specs.Word.{bump_value}
+use Rattle.c_meaning_spec.specs.Word.{bump_value, unary_fault, binary_fault, compound_fault, bump_fault}
 use Rattle.c_meaning_spec.specs.Task.{Parts, Of, element_of, row_element_of, scalar_of, name, element}
 use Rattle.c_meaning_spec.specs.Task.{after_row}
 use Rattle.c_meaning_spec.specs.Call.{arguments}
@@ -35,11 +35,11 @@ converting to v s = want v s (λ w. Go (Value (converted to w)) s)
 
 -- an operation on the value of an operand
 abbrev pub unary : UnaryOp → Option Kind → Signal → State → Result
-unary op k v s = want v s (λ a. given (unary_of op k a) s)
+unary op k v s = want v s (λ a. given (unary_of op k a) (unary_fault op k a) s)
 
 -- an operation on the value of the left operand and that of the right one
 abbrev pub operated : BinaryOp → Option Kind → ℕ → Signal → State → Result
-operated op k a v s = want v s (λ b. given (binary_of op k a b) s)
+operated op k a v s = want v s (λ b. given (binary_of op k a b) (binary_fault op k a b) s)
 
 -- the right operand after the left one
 abbrev pub after_left : Parts → BinaryOp → Option Kind → TypedExpr → Signal → State → Result
@@ -87,7 +87,8 @@ assigned x v s = want v s (λ w. store s x w)
 
 -- the result of the operation on the old value and that of the right side is stored
 abbrev pub compounded : BinaryOp → Option Kind → Kind → Object → ℕ → Signal → State → Result
-compounded op to at x old v s = want v s (λ b. with_some (compound_of op to at old b) s
+compounded op to at x old v s = want v s (λ b. with_some (compound_of op to at old b)
+    (compound_fault op to at old b) s
     (λ w. store s x w))
 
 -- a compound assignment reads the old value before the right side is evaluated
@@ -95,19 +96,19 @@ abbrev pub assign_to : Parts → Option BinaryOp → Option Kind → Kind → Ty
     → Result
 assign_to rec None to at right s x = then (rec (Of right) s) (assigned x)
 assign_to rec (Some op) to at right s x =
-    with_some (held (cell s x)) s (λ old. then (rec (Of right) s) (compounded op to at x old))
+    with_some (held (cell s x)) (missing s x) s (λ old. then (rec (Of right) s) (compounded op to at x old))
 
 -- an assignment to the element of the array that p names, by the value of its index
 abbrev pub assign_element : Parts → Option BinaryOp → Option Kind → Kind → Place → TypedExpr
     → Signal → State → Result
 assign_element rec op to at p right v s =
-    want v s (λ w. with_some (element_of p w s) s (assign_to rec op to at right s))
+    want v s (λ w. with_some (element_of p w s) IllFormed s (assign_to rec op to at right s))
 
 -- an assignment to an element by two indexes, of which the first is known, by the value of the second
 abbrev pub assign_row : Parts → Option BinaryOp → Option Kind → Kind → Place → ℕ → TypedExpr → Signal
     → State → Result
 assign_row rec op to at p i right v s =
-    want v s (λ j. with_some (row_element_of p i j s) s (assign_to rec op to at right s))
+    want v s (λ j. with_some (row_element_of p i j s) IllFormed s (assign_to rec op to at right s))
 
 -- the second index after the first one
 abbrev pub assign_after_row : Parts → Option BinaryOp → Option Kind → Kind → Place → TypedExpr
@@ -117,12 +118,12 @@ assign_after_row rec op to at p index right v s =
 
 -- of the left side only indexes are evaluated
 abbrev pub assign : Parts → Option BinaryOp → Option Kind → Kind → Node → TypedExpr → State → Result
-assign rec op to at (Name p) right s = with_some (scalar_of p) s (assign_to rec op to at right s)
+assign rec op to at (Name p) right s = with_some (scalar_of p) IllFormed s (assign_to rec op to at right s)
 assign rec op to at (Element p None index) right s =
     then (rec (Of index) s) (assign_element rec op to at p right)
 assign rec op to at (Element p (Some row) index) right s =
     then (rec (Of row) s) (assign_after_row rec op to at p index right)
-assign rec op to at _ right s = Over (Ends Undefined) s
+assign rec op to at _ right s = Over (Faults IllFormed) s
 
 -- after a store: the value that the whole gives
 abbrev pub giving : ℕ → Signal → State → Result
@@ -131,17 +132,17 @@ giving w v s = Go (Value w) s
 -- ++ and -- on an object
 abbrev pub bump_object : BumpOp → Option Kind → State → Object → Result
 bump_object op k s x =
-    with_some (held (cell s x)) s (λ old.
-    with_some (bump_of op k old) s (λ new. then (store s x new) (giving (bump_value op old new))))
+    with_some (held (cell s x)) (missing s x) s (λ old.
+    with_some (bump_of op k old) (bump_fault op k old) s (λ new. then (store s x new) (giving (bump_value op old new))))
 
 -- ++ and -- on an element, by the value of its index
 abbrev pub bump_element : BumpOp → Option Kind → Place → Signal → State → Result
-bump_element op k p v s = want v s (λ w. with_some (element_of p w s) s (bump_object op k s))
+bump_element op k p v s = want v s (λ w. with_some (element_of p w s) IllFormed s (bump_object op k s))
 
 -- ++ and -- on an element by two indexes, of which the first is known, by the value of the second
 abbrev pub bump_row : BumpOp → Option Kind → Place → ℕ → Signal → State → Result
 bump_row op k p i v s =
-    want v s (λ j. with_some (row_element_of p i j s) s (bump_object op k s))
+    want v s (λ j. with_some (row_element_of p i j s) IllFormed s (bump_object op k s))
 
 -- the second index after the first one
 abbrev pub bump_after_row : Parts → BumpOp → Option Kind → Place → TypedExpr → Signal → State → Result
@@ -149,11 +150,11 @@ bump_after_row rec op k p index v s = want v s (λ i. then (rec (Of index) s) (b
 
 -- of the operand only indexes are evaluated
 abbrev pub bump : Parts → BumpOp → Option Kind → Node → State → Result
-bump rec op k (Name p) s = with_some (scalar_of p) s (bump_object op k s)
+bump rec op k (Name p) s = with_some (scalar_of p) IllFormed s (bump_object op k s)
 bump rec op k (Element p None index) s = then (rec (Of index) s) (bump_element op k p)
 bump rec op k (Element p (Some row) index) s =
     then (rec (Of row) s) (bump_after_row rec op k p index)
-bump rec op k _ s = Over (Ends Undefined) s
+bump rec op k _ s = Over (Faults IllFormed) s
 
 -- NODES
 
@@ -166,7 +167,7 @@ opened rec P (Element p (Some row) index) s = then (rec (Of row) s) (after_row r
 opened rec P (Call f args) s = arguments rec P f args [] s
 opened rec P (Unary op e) s = then (rec (Of e) s) (unary op e.kind)
 opened rec P (Cast to e) s = then (rec (Of e) s) (converting to)
-opened rec P (Convert to e) s = Over (Ends Undefined) s
+opened rec P (Convert to e) s = Over (Faults IllFormed) s
 opened rec P (Bump op e) s = bump rec op e.kind (node_of e) s
 opened rec P (Binary op l r) s = binary rec op l r s
 opened rec P (Choice t one other) s = then (rec (Of t) s) (after_choice rec one other)

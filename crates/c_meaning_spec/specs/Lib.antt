@@ -1,5 +1,6 @@
 pub mod State
 pub mod Word
+pub mod Rules
 pub mod Task
 pub mod Call
 pub mod Expression

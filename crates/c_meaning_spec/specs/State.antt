@@ -1,10 +1,11 @@
 -- What an evaluation goes over: no addresses, but lists of optional numbers.
-use Rattle.std.specs.Prelude.{ℕ, zero, suc, List, [], Option, Some, None, slice_get, slice_set}
+use Rattle.std.specs.Prelude.{ℕ, zero, suc, List, [], Option, Some, None, length, slice_get, slice_set}
 use Rattle.c_meaning_spec.specs.declared.signal.Signal.{Signal}
 use Rattle.c_meaning_spec.specs.declared.signal.Signal.TheVariants.{Value}
-use Rattle.c_meaning_spec.specs.declared.signal.Ending.TheVariants.{More, Undefined}
 use Rattle.c_meaning_spec.specs.declared.signal.Halt.{Halt}
-use Rattle.c_meaning_spec.specs.declared.signal.Halt.TheVariants.{Ends}
+use Rattle.c_meaning_spec.specs.declared.signal.Halt.TheVariants.{NoStep, Faults}
+use Rattle.c_meaning_spec.specs.declared.fault.Fault.{Fault}
+use Rattle.c_meaning_spec.specs.declared.fault.Fault.TheVariants.{Outside, OutsideRows, NeverSet, NoValue, IllFormed}
 use Rattle.c_meaning_spec.specs.declared.signal.Object.{Object}
 use Rattle.c_meaning_spec.specs.declared.signal.Object.TheVariants.{InScalar, InArray}
 
@@ -36,7 +37,7 @@ pub data Result : Type 0 where
 
 -- a step, if one is left
 abbrev pub spend_of : ℕ → State → (State → Result) → Result
-spend_of zero s next = Over (Ends More) s
+spend_of zero s next = Over NoStep s
 spend_of (suc n) s next = next (record s { stock = n })
 
 -- a step of the stock
@@ -46,16 +47,16 @@ spend s next = spend_of s.stock s next
 -- with the value that a part gave; taking the value of what gave none is undefined
 abbrev pub want : Signal → State → (ℕ → Result) → Result
 want (Value w) s next = next w
-want _ s next = Over (Ends Undefined) s
+want _ s next = Over (Faults NoValue) s
 
--- with what is there; otherwise it is undefined
-abbrev pub with_some : {A : Type 0} → Option A → State → (A → Result) → Result
-with_some None s next = Over (Ends Undefined) s
-with_some (Some x) s next = next x
+-- with what is there; otherwise it is undefined for this reason
+abbrev pub with_some : {A : Type 0} → Option A → Fault → State → (A → Result) → Result
+with_some None c s next = Over (Faults c) s
+with_some (Some x) c s next = next x
 
--- a value, if there is one; otherwise it is undefined
-abbrev pub given : Option ℕ → State → Result
-given c s = with_some c s (λ w. Go (Value w) s)
+-- a value, if there is one; otherwise it is undefined for this reason
+abbrev pub given : Option ℕ → Fault → State → Result
+given o c s = with_some o c s (λ w. Go (Value w) s)
 
 -- OBJECTS
 
@@ -88,13 +89,35 @@ abbrev pub written : State → Object → Option ℕ → State
 written s (InScalar i) c = record s { scalars = slice_set s.scalars i c }
 written s (InArray a i) c = record s { arrays = element_set s.arrays a i c }
 
+-- the second size of an array, if it is there and has two
+abbrev pub row_size : Option (Option ℕ) → Option ℕ
+row_size None = None
+row_size (Some q) = q
+
+-- why there is no element of an array of n, by its second size
+abbrev pub outside : Option ℕ → ℕ → ℕ → Fault
+outside None i n = Outside i n
+outside (Some q) i n = OutsideRows n q
+
+-- why a cell holds no word: there is none, or it is not set
+abbrev pub no_word : Fault → Option (Option ℕ) → Fault
+no_word c None = c
+no_word c (Some x) = NeverSet
+
+-- why an object holds no word, or cannot be stored into
+abbrev pub missing : State → Object → Fault
+missing s (InScalar i) = no_word IllFormed (slice_get s.scalars i)
+missing s (InArray a i) =
+    no_word (outside (row_size (slice_get s.rows a)) i (length (row_in (slice_get s.arrays a))))
+    (cell_in (slice_get s.arrays a) i)
+
 -- the value that an object holds
 abbrev pub load : Object → State → Result
-load x s = given (held (cell s x)) s
+load x s = given (held (cell s x)) (missing s x) s
 
 -- a word into an object, if it is there; the whole gives the word
 abbrev pub store_in : Option (Option ℕ) → State → Object → ℕ → Result
-store_in None s x w = Over (Ends Undefined) s
+store_in None s x w = Over (Faults (missing s x)) s
 store_in (Some c) s x w = Go (Value w) (written s x (Some w))
 
 -- a word into an object

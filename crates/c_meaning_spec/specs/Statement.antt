@@ -14,8 +14,8 @@ use Rattle.c_tree.specs.declared.TypedSection.{TypedSection}
 use Rattle.c_tree.specs.declared.TypedForInit.TheOpen as init
 use Rattle.c_meaning_spec.specs.declared.signal.Signal.{Signal}
 use Rattle.c_meaning_spec.specs.declared.signal.Signal.TheVariants.{Nothing, Breaks, Continues, Returns}
-use Rattle.c_meaning_spec.specs.declared.signal.Ending.TheVariants.{Undefined}
-use Rattle.c_meaning_spec.specs.declared.signal.Halt.TheVariants.{Ends}
+use Rattle.c_meaning_spec.specs.declared.signal.Halt.TheVariants.{Faults}
+use Rattle.c_meaning_spec.specs.declared.fault.Fault.TheVariants.{IllFormed}
 use Rattle.c_meaning_spec.specs.declared.signal.Object.TheVariants.{InScalar}
 use Rattle.c_meaning_spec.specs.State.{State, Result, Go, Over, spend, want, cell, written, store}
 use Rattle.c_meaning_spec.specs.inside.State.{then}
@@ -44,13 +44,13 @@ initialised i v s = want v s (λ w. then (store s (InScalar i) w) dropped)
 
 -- the declaration of a scalar: unset, and then initialised
 abbrev pub unset : Parts → ℕ → Option TypedExpr → Option (Option ℕ) → State → Result
-unset rec i e None s = Over (Ends Undefined) s
+unset rec i e None s = Over (Faults IllFormed) s
 unset rec i None (Some c) s = Go Nothing (written s (InScalar i) None)
 unset rec i (Some e) (Some c) s = then (rec (Of e) (written s (InScalar i) None)) (initialised i)
 
 -- the declaration of an array: its elements are unset
 abbrev pub unset_row : ℕ → Option (List (Option ℕ)) → State → Result
-unset_row a None s = Over (Ends Undefined) s
+unset_row a None s = Over (Faults IllFormed) s
 unset_row a (Some row) s = Go Nothing (record s {
   arrays = slice_set s.arrays a
       (replicate (length row) None);
@@ -60,7 +60,7 @@ unset_row a (Some row) s = Go Nothing (record s {
 abbrev pub declare : Parts → Place → Option TypedExpr → State → Result
 declare rec (Scalar i) e s = unset rec i e (cell s (InScalar i)) s
 declare rec (Array a) None s = unset_row (s.base + a) (slice_get s.arrays (s.base + a)) s
-declare rec _ e s = Over (Ends Undefined) s
+declare rec _ e s = Over (Faults IllFormed) s
 
 -- CHOICES AND LOOPS
 

@@ -13,7 +13,8 @@ use Rattle.c_meaning_spec.specs.declared.signal.Object.{Object}
 use Rattle.c_meaning_spec.specs.declared.signal.Object.TheVariants.{InScalar, InArray}
 use Rattle.c_meaning_spec.specs.State.{State, Result, Go, want, with_some, cell, held, load}
 use Rattle.c_meaning_spec.specs.inside.State.{then}
-use Rattle.c_meaning_spec.specs.State.{row_in}
+use Rattle.c_meaning_spec.specs.State.{row_in, row_size}
+use Rattle.c_meaning_spec.specs.declared.fault.Fault.TheVariants.{IllFormed}
 
 -- an expression, a statement, or a loop from its test on
 pub data Task : Type 0 where
@@ -46,11 +47,6 @@ element_of p w s = element_in (array_of p s) w
 abbrev pub place_in : Option ℕ → ℕ → ℕ → ℕ → ℕ
 place_in None n i j = n
 place_in (Some q) n i j = cond (nat_lt j q && nat_lt (i * q + j) n) (i * q + j) n
-
--- the second size of an array, if it is there and has two
-abbrev pub row_size : Option (Option ℕ) → Option ℕ
-row_size None = None
-row_size (Some q) = q
 
 -- an element of an array by two indexes, if there is the array
 abbrev pub row_element_in : Option ℕ → ℕ → ℕ → List (Option ℕ) → List (List (Option ℕ)) → Option Object
@@ -87,11 +83,11 @@ name P (Array a) s = Go (Value (s.base + a)) s
 
 -- the value of an element, by the value of its index
 abbrev pub element : Place → Signal → State → Result
-element p v s = want v s (λ w. with_some (element_of p w s) s (λ x. load x s))
+element p v s = want v s (λ w. with_some (element_of p w s) IllFormed s (λ x. load x s))
 
 -- the value of an element by two indexes, of which the first is known, by the value of the second
 abbrev pub row_element : Place → ℕ → Signal → State → Result
-row_element p i v s = want v s (λ j. with_some (row_element_of p i j s) s (λ x. load x s))
+row_element p i v s = want v s (λ j. with_some (row_element_of p i j s) IllFormed s (λ x. load x s))
 
 -- the second index after the first one
 abbrev pub after_row : Parts → Place → TypedExpr → Signal → State → Result

@@ -6,8 +6,12 @@ use Rattle.c_tree.specs.declared.BinaryOp.TheVariants.{Add, Subtract}
 use Rattle.c_tree.specs.declared.UnaryOp.{UnaryOp}
 use Rattle.c_tree.specs.declared.BumpOp.{BumpOp}
 use Rattle.c_tree.specs.declared.BumpOp.TheVariants.{PreInc, PreDec, PostInc, PostDec}
-use Rattle.c_constant.specs.Kinds.{promoted, converted}
+use Rattle.c_constant.specs.Kinds.{number, promoted, converted}
 use Rattle.c_constant.specs.Operation.{operate, operate_one}
+use Rattle.c_constant.specs.declared.causes.Cause.{Cause}
+use Rattle.c_constant.specs.Causes.{cause_of}
+use Rattle.c_meaning_spec.specs.declared.fault.Fault.{Fault}
+use Rattle.c_meaning_spec.specs.declared.fault.Fault.TheVariants.{Binary, Unary, IllFormed}
 
 -- whether a test fails
 abbrev pub is_false : ℕ → Bool
@@ -58,3 +62,34 @@ bump_value PreInc old new = new
 bump_value PreDec old new = new
 bump_value PostInc old new = old
 bump_value PostDec old new = old
+
+-- WHY THERE IS NO VALUE
+
+-- an operation on two words that breaks a rule
+abbrev pub broken : BinaryOp → Kind → ℕ → ℕ → Option Cause → Fault
+broken op k a b None = IllFormed
+broken op k a b (Some c) = Binary c op k a b
+
+-- why an operation on two words has no value
+unfoldable pub words_fault : BinaryOp → Kind → ℕ → ℕ → Fault
+words_fault op k a b = broken op k a b (cause_of op k (number k a) (number k b))
+
+-- why an operation at the kind of its left operand has no value
+abbrev pub binary_fault : BinaryOp → Option Kind → ℕ → ℕ → Fault
+binary_fault op None a b = IllFormed
+binary_fault op (Some k) a b = words_fault op k a b
+
+-- the same of an operation on one word
+abbrev pub unary_fault : UnaryOp → Option Kind → ℕ → Fault
+unary_fault op None a = IllFormed
+unary_fault op (Some k) a = Unary op k a
+
+-- the same of a compound assignment
+abbrev pub compound_fault : BinaryOp → Option Kind → Kind → ℕ → ℕ → Fault
+compound_fault op None at old b = IllFormed
+compound_fault op (Some k) at old b = words_fault op at (converted at old) b
+
+-- the same of ++ and --
+abbrev pub bump_fault : BumpOp → Option Kind → ℕ → Fault
+bump_fault op None old = IllFormed
+bump_fault op (Some k) old = words_fault (bump_operation op) (promoted k) old 1

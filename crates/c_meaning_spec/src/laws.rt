@@ -1,4 +1,5 @@
 ghost use Rattle.c_meaning_spec.specs.inside.Laws.{StaysWithMoreSteps, StepsAreLeast, OutputGoesOn, MeansByParts};
+ghost use Rattle.c_meaning_spec.specs.inside.Laws.{ExitsAsMainReturns, UndefinedIsTold, RuleIsBroken};
 
 /// A result other than More stays with more steps.
 pub fn result_stays_with_more_steps()
@@ -19,4 +20,15 @@ pub fn output_goes_on()
 /// over evaluations needs.
 pub fn task_means_by_its_parts()
     ensures { MeansByParts }
+{}
+
+/// `exit` of an int ends the evaluation as main does that returns it (C17 5.1.2.2.3).
+pub fn exits_as_main_returns()
+    ensures { ExitsAsMainReturns }
+{}
+
+/// An evaluation that is undefined has a reason, and an operation that has no value breaks the rule that is told.
+pub fn undefined_has_its_reason()
+    ensures told { UndefinedIsTold }
+    ensures rule { RuleIsBroken }
 {}

@@ -6,10 +6,13 @@
 //! program that evaluates speak of together, and each law is the contract of a function.
 #![tactic(auto)]
 
+mod fault;
 mod laws;
 mod signal;
 
+pub use fault::Fault;
 pub use laws::{
-    output_goes_on, result_stays_with_more_steps, steps_of_done_are_least, task_means_by_its_parts,
+    exits_as_main_returns, output_goes_on, result_stays_with_more_steps, steps_of_done_are_least,
+    task_means_by_its_parts, undefined_has_its_reason,
 };
 pub use signal::{Ending, Halt, Object, Signal};

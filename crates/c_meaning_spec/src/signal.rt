@@ -1,3 +1,5 @@
+use crate::fault::Fault;
+
 /// What a part of a program gives when it goes on: nothing, a value, or where control goes.
 ///
 /// `Returns` has the value that is returned, if there is one.
@@ -19,11 +21,13 @@ pub enum Ending {
     Deep,
 }
 
-/// How an evaluation stops before the end of `main`: for one of these reasons, or by `exit` with this word (C17
-/// 7.22.4.4).
+/// How an evaluation stops before the end of `main`: a step is needed and none is left, the frames of the active
+/// functions would be too large, it is undefined for this reason, or by `exit` with this word (C17 7.22.4.4).
 #[derive(Clone, Copy, Debug, PartialEq, Eq)]
 pub enum Halt {
-    Ends(Ending),
+    NoStep,
+    TooDeep,
+    Faults(Fault),
     Exits(u64),
 }
 

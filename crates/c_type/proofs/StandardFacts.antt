@@ -80,13 +80,13 @@ include_defines : look_up (table (at 1 Include ∷ [])) getchar_name
     ≡ Some (meaning.Function (Some Int) [] (Some callee.GetChar) true)
 include_defines = refl
 
--- it defines what ends the whole run, and declares it of one int and without a result
+-- it defines what ends the whole run, and declares it of one long and without a result
 exit_defined : look_up (table (at 1 Include ∷ [])) exit_name
-    ≡ Some (meaning.Function None (slot.Scalar Int ∷ []) (Some callee.Exit) true)
+    ≡ Some (meaning.Function None (slot.Scalar Long ∷ []) (Some callee.Exit) true)
 exit_defined = refl
 
 exit_declared : look_up (included ([] ∷ [])) exit_name
-    ≡ Some (meaning.Function None (slot.Scalar Int ∷ []) (Some callee.Exit) true)
+    ≡ Some (meaning.Function None (slot.Scalar Long ∷ []) (Some callee.Exit) true)
 exit_declared = refl
 
 ending_declared : look_up (included ([] ∷ [])) eof_name ≡ Some meaning.EndOfFile

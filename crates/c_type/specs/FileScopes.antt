@@ -2,7 +2,7 @@
 use Rattle.std.specs.Prelude.{ℕ, true, length, List, [], ◌∷◌, ◌++◌, Option, Some, None, codes, Bool, false, cond, map}
 use Rattle.std.specs.Prelude.{is_some, ◌+◌}
 use Rattle.c_tree.specs.declared.token.Kind.{Kind}
-use Rattle.c_tree.specs.declared.token.Kind.TheVariants.{Int}
+use Rattle.c_tree.specs.declared.token.Kind.TheVariants.{Int, Long}
 use Rattle.c_tree.specs.declared.tree.ArraySize.{ArraySize}
 use Rattle.c_tree.specs.declared.tree.ArraySize.TheVariants as size
 use Rattle.c_tree.specs.declared.tree.Expr.{Expr}
@@ -41,6 +41,10 @@ exit_name = codes "exit.now"
 abbrev pub int_slots : List Slot
 int_slots = slot.Scalar Int ∷ []
 
+-- one long as a parameter
+abbrev pub long_slots : List Slot
+long_slots = slot.Scalar Long ∷ []
+
 -- the function `getchar`
 abbrev pub get_char : Meaning
 get_char = meaning.Function (Some Int) [] (Some callee.GetChar) true
@@ -49,9 +53,10 @@ get_char = meaning.Function (Some Int) [] (Some callee.GetChar) true
 abbrev pub put_char : Meaning
 put_char = meaning.Function (Some Int) int_slots (Some callee.PutChar) true
 
--- what ends the whole run with the value of its argument (C17 7.22.4.4)
+-- what ends the whole run with the value of its argument (C17 7.22.4.1, 7.22.4.4): a long, so that one beyond the
+-- ints can say that the program has aborted
 abbrev pub exit_now : Meaning
-exit_now = meaning.Function None int_slots (Some callee.Exit) true
+exit_now = meaning.Function None long_slots (Some callee.Exit) true
 
 -- the names after the functions of the include
 abbrev pub with_functions : Scope → Scope

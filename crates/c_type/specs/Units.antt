@@ -24,7 +24,7 @@ use Rattle.c_type.specs.declared.file_scope.FileScope.{FileScope}
 use Rattle.c_constant.specs.Kinds.{bytes}
 use Rattle.c_type.specs.Declarations.{twice_fault}
 use Rattle.c_type.specs.States.{is_end, row_in}
-use Rattle.c_type.specs.FileScopes.{all_values, eof_name, getchar_name, global_names, int_slots, length_in}
+use Rattle.c_type.specs.FileScopes.{all_values, eof_name, getchar_name, global_names, int_slots, length_in, long_slots}
 use Rattle.c_type.specs.FileScopes.{putchar_name, exit_name, with_include}
 
 -- FUNCTIONS
@@ -76,7 +76,7 @@ include_clash G l =
     (first (twice_fault G eof_name l)
     (first (type_fault (Some Int) [] (look_up G getchar_name) l)
     (first (type_fault (Some Int) int_slots (look_up G putchar_name) l)
-    (type_fault None int_slots (look_up G exit_name) l))))))
+    (type_fault None long_slots (look_up G exit_name) l))))))
 
 -- a second include declares nothing
 abbrev pub include_fault : Scope → ℕ → Blame

@@ -43,6 +43,12 @@ fn int_slots(alloc: Global) -> Result<Items<Slot>, AllocError>
     Items::from_slice(alloc, &[Slot::Scalar(Kind::Int)])
 }
 
+fn long_slots(alloc: Global) -> Result<Items<Slot>, AllocError>
+    ensures { IfOk result (λ s. s ≡ file_scopes.long_slots) }
+{
+    Items::from_slice(alloc, &[Slot::Scalar(Kind::Long)])
+}
+
 fn get_char(alloc: Global) -> Meaning
     ensures { result ≡ file_scopes.get_char }
 {
@@ -68,7 +74,7 @@ fn put_char(alloc: Global) -> Result<Meaning, AllocError>
 fn exit_now(alloc: Global) -> Result<Meaning, AllocError>
     ensures { IfOk result (λ m. m ≡ file_scopes.exit_now) }
 {
-    let params = int_slots(alloc)?;
+    let params = long_slots(alloc)?;
     Ok(Meaning::Function {
         result: None,
         params,
@@ -85,7 +91,8 @@ fn clash(alloc: Global, names: &Scopes, offset: u32) -> Result<(), TypeFault>
     let get = getchar_name(alloc)?;
     let put = putchar_name(alloc)?;
     let exit = exit_name(alloc)?;
-    let slots = int_slots(alloc)?;
+    let character = int_slots(alloc)?;
+    let value = long_slots(alloc)?;
     undefined(names.look_up(&get), true, offset)?;
     undefined(names.look_up(&put), true, offset)?;
     undefined(names.look_up(&exit), true, offset)?;
@@ -94,10 +101,10 @@ fn clash(alloc: Global, names: &Scopes, offset: u32) -> Result<(), TypeFault>
     agrees(
         names.look_up(&put),
         Some(Kind::Int),
-        slots.as_slice(),
+        character.as_slice(),
         offset,
     )?;
-    agrees(names.look_up(&exit), None, slots.as_slice(), offset)
+    agrees(names.look_up(&exit), None, value.as_slice(), offset)
 }
 
 /// The functions of the include, declared.

@@ -20,7 +20,7 @@ use Rattle.c_type_expr.specs.declared.meaning.Meaning.{Meaning}
 use Rattle.c_type_expr.specs.declared.meaning.Meaning.TheVariants as meaning
 use Rattle.c_type_expr.specs.Scope.{Scope, Frame, same_name, find, look_up, declared_in}
 use Rattle.c_type.specs.States.{is_end}
-use Rattle.c_type.specs.FileScopes.{eof_name, getchar_name, putchar_name, exit_name, int_slots}
+use Rattle.c_type.specs.FileScopes.{eof_name, getchar_name, putchar_name, exit_name, int_slots, long_slots}
 use Rattle.c_type.specs.Functions.{callee_in}
 use Rattle.c_type_rules.specs.inside.Objects.{scalar_at, array_at, Shape, shape, global_scalar, global_array}
 use Rattle.c_type_rules.specs.inside.Objects.{signature}
@@ -85,7 +85,7 @@ NamedBy callee.Exit w = exit_name ≡ w
 pub data BuiltIn : List ℕ → Option Kind → List Slot → Option Callee → Type 0 where
   reads : BuiltIn getchar_name (Some Int) [] (Some callee.GetChar)
   writes : BuiltIn putchar_name (Some Int) int_slots (Some callee.PutChar)
-  exits : BuiltIn exit_name None int_slots (Some callee.Exit)
+  exits : BuiltIn exit_name None long_slots (Some callee.Exit)
 
 -- the function that the unit defines by a name is declared, with the signature that it has
 pub record Met (P : TypedProgram) (G : Scope) (w : List ℕ) (c : Callee) : Type 0 where

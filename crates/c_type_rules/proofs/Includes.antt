@@ -9,7 +9,8 @@ use Rattle.c_tree.specs.declared.typed.TypedProgram.{TypedProgram}
 use Rattle.c_type_expr.specs.declared.meaning.Meaning.TheVariants as meaning
 use Rattle.c_type_expr.specs.Scope.{Scope, Frame, look_up, declared_in, bound}
 use Rattle.c_type.specs.States.{is_end}
-use Rattle.c_type.specs.FileScopes.{eof_name, getchar_name, putchar_name, exit_name, int_slots, get_char, put_char}
+use Rattle.c_type.specs.FileScopes.{eof_name, getchar_name, putchar_name, exit_name, int_slots, long_slots}
+use Rattle.c_type.specs.FileScopes.{get_char, put_char}
 use Rattle.c_type.specs.FileScopes.{exit_now, with_functions, with_include}
 use Rattle.c_type.specs.Units.{include_clash, include_fault, included}
 use Rattle.c_type_rules.proofs.Clashes.{Clear, clear, as_it_is}
@@ -63,8 +64,8 @@ module _ (T : Scope) (m : ℕ) where
       (record { callee = Some callee.PutChar; defined = true; is = refl }, inr writes, λ e. (callee.PutChar, refl))
       (still_ends T P P N (get ∷ F) put more a2 refl n1) n1 in
       let a3 : Agrees end ((put ∷ get ∷ F) ∷ []) =
-      type_agrees exit_name None int_slots (Some callee.Exit) true l ((put ∷ get ∷ F) ∷ [])
-      (as_it_is None int_slots exit_name (F ∷ []) l c.end) in
+      type_agrees exit_name None long_slots (Some callee.Exit) true l ((put ∷ get ∷ F) ∷ [])
+      (as_it_is None long_slots exit_name (F ∷ []) l c.end) in
       let n3 : Names T P N (end ∷ put ∷ get ∷ F) =
       declare T P P N (put ∷ get ∷ F) end more a3
       (record { callee = Some callee.Exit; defined = true; is = refl }, inr exits, λ e. (callee.Exit, refl))
@@ -87,7 +88,7 @@ module _ (T : Scope) (m : ℕ) where
       } in
       let x : Met P (included_frame F ∷ []) exit_name callee.Exit = record {
         result = None;
-        params = int_slots;
+        params = long_slots;
         function = record { callee = Some callee.Exit; defined = true; is = refl };
         signature = refl;
         named = refl;

@@ -28,7 +28,7 @@ use Rattle.c_type.specs.States.{is_taken, is_end, named_among}
 use Rattle.c_type.specs.Statements.{return_fault}
 use Rattle.c_type.specs.Units.{defined_fault, type_fault, function_fault, same_result, same_slots}
 use Rattle.c_type.specs.Units.{include_clash, include_fault, place_fault}
-use Rattle.c_type.specs.FileScopes.{int_slots, eof_name, getchar_name, putchar_name, exit_name}
+use Rattle.c_type.specs.FileScopes.{int_slots, long_slots, eof_name, getchar_name, putchar_name, exit_name}
 use Rattle.c_type.specs.Functions as functions
 use Rattle.c_type_rules.proofs.FirstFaults.{Sane}
 use Rattle.std.specs.Prelude.{cond}
@@ -168,7 +168,7 @@ sane_clash G l =
     (sane_first _ _ (sane_twice G eof_name l)
     (sane_first _ _ (sane_type (Some Int) [] (look_up G getchar_name) l)
     (sane_first _ _ (sane_type (Some Int) int_slots (look_up G putchar_name) l)
-    (sane_type None int_slots (look_up G exit_name) l))))))
+    (sane_type None long_slots (look_up G exit_name) l))))))
 
 sane_by : (b : Bool) (f : Blame) → Sane f → Sane (cond b None f)
 sane_by true f s = tt

@@ -33,7 +33,8 @@ use Rattle.c_type.specs.declared.file_scope.FileScope.{FileScope}
 use Rattle.c_type.specs.declared.state.State.{State}
 use Rattle.c_type.specs.States.{at, nowhere, is_end, slot_of, named_among, with_params, started}
 use Rattle.c_type.specs.FileScopes.{exit_name}
-use Rattle.c_type.specs.FileScopes.{eof_name, getchar_name, putchar_name, int_slots, with_include, global_names}
+use Rattle.c_type.specs.FileScopes.{eof_name, getchar_name, putchar_name, int_slots, long_slots, with_include}
+use Rattle.c_type.specs.FileScopes.{global_names}
 use Rattle.c_type.specs.Units.{include_clash, function_fault, same_result, same_slots}
 use Rattle.c_type.specs.Functions.{name_fault, row_bytes_fault}
 use Rattle.c_type.specs.inside.Functions.{params_fault, head_fault, param_fault, row_fault}
@@ -155,7 +156,7 @@ include_typed unit l U false e h =
     include (not_held _ _ c.eof)
     (agrees_typed true (Some Int) [] (look_up U.names getchar_name) l c.get)
     (agrees_typed true (Some Int) int_slots (look_up U.names putchar_name) l c.put)
-    (agrees_typed true None int_slots (look_up U.names exit_name) l c.end)
+    (agrees_typed true None long_slots (look_up U.names exit_name) l c.end)
 
 -- an item without a fault leads by the rules to the file scope after it
 pub item_typed : (unit : List Top) (l : ℕ) (U : FileScope) (n : TopNode) → node_fault (table unit) n l U ≡ None

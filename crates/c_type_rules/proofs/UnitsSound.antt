@@ -32,7 +32,8 @@ use Rattle.c_type.specs.declared.state.State.{State}
 use Rattle.c_type.specs.States.{at, nowhere, is_end, is_taken, row_in, slot_of, with_params, started}
 use Rattle.c_constant.specs.Kinds.{bytes}
 use Rattle.c_type.specs.FileScopes.{exit_name}
-use Rattle.c_type.specs.FileScopes.{eof_name, getchar_name, putchar_name, int_slots, with_include, prototype_names}
+use Rattle.c_type.specs.FileScopes.{eof_name, getchar_name, putchar_name, int_slots, long_slots, with_include}
+use Rattle.c_type.specs.FileScopes.{prototype_names}
 use Rattle.c_type.specs.Units.{include_clash, count_of, function_fault, same_slots}
 use Rattle.c_type.specs.FileScopes.{global_names, length_in, body_entry, empty_file, main_name, number_in}
 use Rattle.c_type.specs.Functions.{name_fault, row_bytes_fault, entry}
@@ -152,13 +153,13 @@ ItemFine T U n V l = (node_fault T n l U ≡ None) × (V ≡ node_after T n U)
 
 -- the first include has no fault
 clash_fine : (G : Scope) (l : ℕ) → is_taken G eof_name ≡ false → Agrees true (Some Int) [] (look_up G getchar_name)
-    → Agrees true (Some Int) int_slots (look_up G putchar_name) → Agrees true None int_slots (look_up G exit_name)
+    → Agrees true (Some Int) int_slots (look_up G putchar_name) → Agrees true None long_slots (look_up G exit_name)
     → include_clash G l ≡ None
 clash_fine G l h a b c =
     no_clash G l (record {
       get = agrees_fine true (Some Int) [] (look_up G getchar_name) l a;
       put = agrees_fine true (Some Int) int_slots (look_up G putchar_name) l b;
-      end = agrees_fine true None int_slots (look_up G exit_name) l c;
+      end = agrees_fine true None long_slots (look_up G exit_name) l c;
       eof = free G eof_name l h;
     })
 

@@ -34,8 +34,8 @@ use Rattle.c_type.specs.declared.file_scope.FileScope.{FileScope}
 use Rattle.c_type.specs.declared.state.State.{State}
 use Rattle.c_type.specs.States.{at, nowhere, is_end, is_taken, row_in, slot_of, named_among, with_params, started}
 use Rattle.c_constant.specs.Kinds.{bytes}
-use Rattle.c_type.specs.FileScopes.{eof_name, getchar_name, putchar_name, exit_name, int_slots, with_include}
-use Rattle.c_type.specs.FileScopes.{length_in, prototype_names, body_entry, empty_file, main_name, number_in}
+use Rattle.c_type.specs.FileScopes.{eof_name, getchar_name, putchar_name, exit_name, int_slots, long_slots}
+use Rattle.c_type.specs.FileScopes.{with_include, length_in, prototype_names, body_entry, empty_file, main_name, number_in}
 use Rattle.c_type.specs.FileScopes.{all_values, global_names}
 use Rattle.c_type_rules.specs.Constants.{IsConstant, Size}
 use Rattle.c_type_rules.specs.Definitions.{CallsIn}
@@ -152,7 +152,7 @@ pub data Item (unit : List Top) : FileScope → TopNode → FileScope → Type 0
   include : {U : FileScope} → is_taken U.names eof_name ≡ false
       → Agrees true (Some Int) [] (look_up U.names getchar_name)
       → Agrees true (Some Int) int_slots (look_up U.names putchar_name)
-      → Agrees true None int_slots (look_up U.names exit_name)
+      → Agrees true None long_slots (look_up U.names exit_name)
       → Item unit U Include (record U { names = with_include U.names })
   -- a later include declares nothing anew
   include_again : {U : FileScope} → is_end (look_up U.names eof_name) ≡ true → Item unit U Include U

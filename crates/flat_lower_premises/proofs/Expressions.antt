@@ -4,7 +4,7 @@ use Rattle.std.proofs.Common.{◌∷◌, length, take, Option, Some, None, refl,
 use Rattle.std.specs.Prelude.{slice_get}
 use Rattle.std.proofs.lemmas.Option.{slice_get_within}
 use Rattle.c_tree.specs.declared.Kind.{Kind}
-use Rattle.c_tree.specs.declared.Kind.TheVariants.{Int}
+use Rattle.c_tree.specs.declared.Kind.TheVariants.{Long}
 use Rattle.c_tree.specs.declared.BinaryOp.{BinaryOp}
 use Rattle.c_tree.specs.declared.BinaryOp.TheVariants.{LogicalOr, LogicalAnd}
 use Rattle.c_tree.specs.declared.Place.{Place}
@@ -215,7 +215,7 @@ module _ (fs : List Function) (c : Scope) (bytes : ℕ) (i : Bool) (x : Context)
     expr_fits d (Call k callee.PutChar args) t =
         joined (one_fits d args t.1.1) (byte_out_fits k d args t.0)
     expr_fits d (Call k callee.Exit args) t = joined
-        (args_fit d (slot.Scalar Int ∷ []) args t.1.1)
+        (args_fit d (slot.Scalar Long ∷ []) args t.1.1)
         (single_fits (flat.Halt (Var (temp d))) (depth d t.0))
     expr_fits d (Unary k o e) t = joined (expr_fits d e t.0)
         (with_kind_fits (kind_of e) (λ j. unary_code o j (temp d))

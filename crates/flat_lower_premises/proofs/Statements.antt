@@ -18,8 +18,12 @@ use Rattle.flat_lower.specs.inside.Tree.{Continue, Return, Stmts, NoStmts, WithS
 use Rattle.flat_lower.specs.inside.Tree.{FirstOf, Locals, Switch, Sections, NoSections, WithSection, kind_of}
 use Rattle.flat_lower.specs.declared.around.Around.{Around}
 use Rattle.flat_lower.specs.declared.around.Around.TheVariants as around
-use Rattle.flat_lower.specs.inside.Switches.{in_switch, break_code, continue_code, behind_code, found_code}
-use Rattle.flat_lower.specs.inside.Switches.{labels_code, compared_code, has_default, default_at, section_count}
+use Rattle.flat_lower.specs.declared.held.Held.{Held}
+use Rattle.flat_lower.specs.declared.held.Held.TheVariants as held
+use Rattle.flat_lower.specs.inside.Labels.{found_code, either_code, choice_code, case_code, one_more, held_code}
+use Rattle.flat_lower.specs.inside.Labels.{labels_code, compared_code}
+use Rattle.flat_lower.specs.inside.Switches.{in_switch, break_code, continue_code, behind_code, has_default}
+use Rattle.flat_lower.specs.inside.Switches.{default_at, section_count}
 use Rattle.flat_lower.specs.inside.Switches.{dense_from, dense_code, chosen_by, chosen_code, section_code}
 use Rattle.flat_lower.specs.inside.Switches.{switched_code}
 use Rattle.flat_lower.specs.inside.FitsSwitches.{IsLooped, FitsLabels}
@@ -178,21 +182,41 @@ module _ (fs : List Function) (c : Scope) (bytes : ℕ) (k : Option Kind) (x : C
   first_scratch : FitsVar (length c.scalars) (scratch 0)
   first_scratch = scratch_fits (length c.scalars) 0 (omega arith)
 
-  labels_fit : (j : Option Kind) (m : ℕ) (ls : List (Option ℕ)) → m < 2 ^ 64 → FitsLabels j ls
-      → Fits true (labels_code m ls)
-  labels_fit j m [] h t = nothing_fits
-  labels_fit j m (None ∷ ls) h t = labels_fit j m ls h t.1
-  labels_fit None m (Some w ∷ ls) h t = absurd t.0
-  labels_fit (Some j) m (Some w ∷ ls) h t =
-      joined (joined (let_fits (scratch 0) op.Teq (Var (temp 0)) (Const w) refl first_scratch first_temp t.0.below)
-      (if_fits (Var (scratch 0)) (found_code m) Nop first_scratch (found_fits m h) nothing_fits))
-      (labels_fit (Some j) m ls h t.1)
+  second_scratch : FitsVar (length c.scalars) (scratch 1)
+  second_scratch = scratch_fits (length c.scalars) 1 (omega arith)
+
+  choice_fits : (m : ℕ) → m < 2 ^ 64 → Fits true (choice_code m)
+  choice_fits m h = if_fits (Var (scratch 0)) (found_code m) Nop first_scratch (found_fits m h) nothing_fits
+
+  either_fits : (w : ℕ) → w < 2 ^ 64 → Fits true (either_code w)
+  either_fits w b =
+      joined (let_fits (scratch 1) op.Teq (Var (temp 0)) (Const w) refl second_scratch first_temp b)
+      (let_fits (scratch 0) op.Or (Var (scratch 0)) (Var (scratch 1)) refl first_scratch first_scratch second_scratch)
+
+  case_fits : (o : Held) (m w : ℕ) → m < 2 ^ 64 → w < 2 ^ 64 → Fits true (case_code o m w)
+  case_fits held.Zero m w h b =
+      let_fits (scratch 0) op.Teq (Var (temp 0)) (Const w) refl first_scratch first_temp b
+  case_fits held.One m w h b = either_fits w b
+  case_fits held.Two m w h b = joined (either_fits w b) (choice_fits m h)
+
+  held_fits : (o : Held) (m : ℕ) → m < 2 ^ 64 → Fits true (held_code o m)
+  held_fits held.Zero m h = nothing_fits
+  held_fits held.One m h = choice_fits m h
+  held_fits held.Two m h = choice_fits m h
+
+  labels_fit : (j : Option Kind) (o : Held) (m : ℕ) (ls : List (Option ℕ)) → m < 2 ^ 64 → FitsLabels j ls
+      → Fits true (labels_code o m ls)
+  labels_fit j o m [] h t = held_fits o m h
+  labels_fit j o m (None ∷ ls) h t = labels_fit j o m ls h t.1
+  labels_fit None o m (Some w ∷ ls) h t = absurd t.0
+  labels_fit (Some j) o m (Some w ∷ ls) h t =
+      joined (case_fits o m w h t.0.below) (labels_fit (Some j) (one_more o) m ls h t.1)
 
   compared_fits : (a : Around) (j : Option Kind) (m : ℕ) (xs : Sections) → m + section_count xs < 2 ^ 64
       → FitsSections c k a j xs → Fits true (compared_code m xs)
   compared_fits a j m NoSections h t = nothing_fits
   compared_fits a j m (WithSection ls body rest) h t =
-      joined (labels_fit j m ls (omega arith) t.1) (compared_fits a j (suc m) rest (omega arith) t.4)
+      joined (labels_fit j held.Zero m ls (omega arith) t.1) (compared_fits a j (suc m) rest (omega arith) t.4)
 
   default_below : (m o : ℕ) (xs : Sections) → m + section_count xs < 2 ^ 64 → o < 2 ^ 64
       → default_at m o xs < 2 ^ 64

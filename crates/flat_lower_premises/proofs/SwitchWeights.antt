@@ -8,8 +8,11 @@ use Rattle.flat_lower.specs.declared.around.Around.TheVariants as around
 use Rattle.flat_lower.specs.inside.Tree.{Sections, NoSections, WithSection}
 use Rattle.flat_lower.specs.inside.Operations.{temp, scratch}
 use Rattle.flat_lower.specs.inside.Sizes.{label_count}
-use Rattle.flat_lower.specs.inside.Switches.{break_code, continue_code, behind_code, found_code, label_code}
-use Rattle.flat_lower.specs.inside.Switches.{labels_code, compared_code, default_at, section_count, searched_code}
+use Rattle.flat_lower.specs.declared.held.Held.{Held}
+use Rattle.flat_lower.specs.declared.held.Held.TheVariants as held
+use Rattle.flat_lower.specs.inside.Labels.{found_code, case_code, labels_code, compared_code}
+use Rattle.flat_lower.specs.inside.Switches.{break_code, continue_code, behind_code}
+use Rattle.flat_lower.specs.inside.Switches.{default_at, section_count, searched_code}
 use Rattle.flat_lower.specs.inside.Switches.{dense_from, dense_code, chosen_by, chosen_code, in_switch, section_code}
 use Rattle.flat_lower.specs.inside.Switches.{switched_code}
 use Rattle.flat_lower_premises.specs.inside.SourceNodes.{sections_nodes}
@@ -39,18 +42,38 @@ module _ (w : Weight) where
   found_takes : (n : ℕ) → Takes w 0 2 (found_code n)
   found_takes n = record { few = omega arith }
 
-  label_takes : (n : ℕ) (l : Option ℕ) → Takes w 0 (share w 1) (label_code n l)
-  label_takes n None = none (share w 1)
-  label_takes n (Some v) = record { few = omega arith }
+  -- what the if of a three takes, where some of the three are compared
+  abbrev due : Held → ℕ
+  due held.Zero = 0
+  due held.One = w.branch + 2
+  due held.Two = w.branch + 2
 
-  labels_take : (n : ℕ) (ls : List (Option ℕ)) → Takes w 0 (share w (label_count ls)) (labels_code n ls)
-  labels_take n [] = record { few = omega arith }
-  labels_take n (l ∷ ls) = eased (after (label_takes n l) (labels_take n ls)) (omega arith)
+  first_takes : (n v : ℕ) → Takes w 0 1 (case_code held.Zero n v)
+  first_takes n v = record { few = omega arith }
+
+  second_takes : (n v : ℕ) → Takes w 0 2 (case_code held.One n v)
+  second_takes n v = record { few = omega arith }
+
+  third_takes : (n v : ℕ) → Takes w 0 (w.branch + 4) (case_code held.Two n v)
+  third_takes n v = record { few = omega arith }
+
+  labels_take : (h : Held) (n : ℕ) (ls : List (Option ℕ))
+      → Takes w 0 (share w (label_count ls) + due h) (labels_code h n ls)
+  labels_take held.Zero n [] = record { few = omega arith }
+  labels_take held.One n [] = record { few = omega arith }
+  labels_take held.Two n [] = record { few = omega arith }
+  labels_take h n (None ∷ ls) = eased (labels_take h n ls) (omega arith)
+  labels_take held.Zero n (Some v ∷ ls) =
+      eased (after (first_takes n v) (labels_take held.One n ls)) (omega arith)
+  labels_take held.One n (Some v ∷ ls) =
+      eased (after (second_takes n v) (labels_take held.Two n ls)) (omega arith)
+  labels_take held.Two n (Some v ∷ ls) =
+      eased (after (third_takes n v) (labels_take held.Zero n ls)) (omega arith)
 
   compared_takes : (n : ℕ) (xs : Sections) → Takes w 0 (share w (labels_nodes xs)) (compared_code n xs)
   compared_takes n NoSections = record { few = omega arith }
   compared_takes n (WithSection ls body rest) =
-      eased (after (labels_take n ls) (compared_takes (suc n) rest)) (omega arith)
+      eased (after (labels_take held.Zero n ls) (compared_takes (suc n) rest)) (omega arith)
 
   searched_takes : (xs : Sections) → Takes w 0 (share w (labels_nodes xs) + (w.branch + 2)) (searched_code xs)
   searched_takes xs =

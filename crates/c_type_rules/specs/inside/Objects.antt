@@ -1,7 +1,7 @@
 -- What the places and the calls of a function name: objects and functions of its program.
 use Rattle.std.specs.Prelude.{ℕ, List, [], ◌∷◌, Option, Some, None, option_map, slice_get, take}
 use Rattle.c_tree.specs.declared.token.Kind.{Kind}
-use Rattle.c_tree.specs.declared.token.Kind.TheVariants.{Int}
+use Rattle.c_tree.specs.declared.token.Kind.TheVariants.{Int, Long}
 use Rattle.c_tree.specs.declared.typed.Place.{Place}
 use Rattle.c_tree.specs.declared.typed.Place.TheVariants as place
 use Rattle.c_tree.specs.declared.typed.Callee.{Callee}
@@ -93,4 +93,4 @@ abbrev pub signature_of : TypedProgram → Callee → Option Signature
 signature_of P (callee.Func n) = option_map of_function (slice_get P.functions n)
 signature_of P callee.GetChar = Some (signature (Some Int) [])
 signature_of P callee.PutChar = Some (signature (Some Int) (slot.Scalar Int ∷ []))
-signature_of P callee.Exit = Some (signature None (slot.Scalar Int ∷ []))
+signature_of P callee.Exit = Some (signature None (slot.Scalar Long ∷ []))
