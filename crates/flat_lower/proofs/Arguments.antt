@@ -139,7 +139,7 @@ module _ (P : TypedProgram) (most : ℕ) (S : Scene) (y : IsScene P S) where
       (whole_end (Global g) k row g d top low s f ld t r refl hu hl)
   whole_arg (Scalar i) k row d top low s f ld t r hu hl =
       needed most (ArgIs (slot.Address k row) d f) (run P most S y (copied (temp d) i) f) top low
-      (held (cell s (InScalar i))) s (λ w. Go (Value w) s) (λ w e.
+      (held (cell s (InScalar i))) _ s (λ w. Go (Value w) s) (λ w e.
       whole_end (Scalar i) k row w d top low s f ld t r e hu hl)
   whole_arg (Array a) k row d top low s f ld t r hu hl =
       whole_end (Array a) k row (s.base + a) d top low s f ld t r refl hu hl

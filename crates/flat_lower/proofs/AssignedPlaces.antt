@@ -11,6 +11,7 @@ use Rattle.c_tree.specs.declared.Slot.TheVariants as slot
 use Rattle.c_tree.specs.declared.TypedExpr.{TypedExpr}
 use Rattle.c_tree.specs.declared.TypedProgram.{TypedProgram}
 use Rattle.c_constant.specs.Kinds.{converted}
+use Rattle.c_meaning_spec.specs.Word.{compound_fault}
 use Rattle.c_meaning_spec.specs.declared.signal.Signal.TheVariants.{Value}
 use Rattle.c_meaning_spec.specs.declared.signal.Object.TheVariants.{InScalar, InArray}
 use Rattle.c_meaning_spec.specs.State.{Result, cell, held}
@@ -108,7 +109,7 @@ module _ (P : TypedProgram) (most : ℕ) (S : Scene) (y : IsScene P S) where
       let a = Then (code P most S y (suc d) r) b in
       needed most (Valued S d (Some k) f)
       (run P most S y (Then (converted_to (Some k) at (temp d) i) a) f) top low
-      (held (cell s (InScalar i))) s (λ old. then (meaning P (Of r) s)
+      (held (cell s (InScalar i))) _ s (λ old. then (meaning P (Of r) s)
       (compounded o (Some k) at (InScalar i) old)) (λ old eo.
       let sc = rl.scalars i old (slot.Scalar k) ti (held_is (cell s (InScalar i)) old eo) in
       let x = to_works (functions P most) (base P most) S.env k at f (temp d) i old sc.0 sc.1 in
@@ -124,7 +125,8 @@ module _ (P : TypedProgram) (most : ℕ) (S : Scene) (y : IsScene P S) where
       (compounded o (Some k) at (InScalar i) old) h fits k1.rel (omega (arith, x.puts.few)) hg
       (λ v s1 g1 t1 hv ls us ds.
       wanted most (Valued S d (Some k) f) (run P most S y b g1) (top - x.puts.t - t1) low v s1
-      (λ w. with_some (compound_of o (Some k) at old w) s1 (λ u. store s1 (InScalar i) u))
+      (λ w. with_some (compound_of o (Some k) at old w) (compound_fault o (Some k) at old w) s1
+      (λ u. store s1 (InScalar i) u))
       (λ w ew.
       let z = value_at S (suc d) r.kind g v w s1 g1 ew hv in
       compound_scalar P most S y o k at (kind_of (expr_of r)) i old w d
@@ -173,7 +175,7 @@ module _ (P : TypedProgram) (most : ℕ) (S : Scene) (y : IsScene P S) where
       let l = only (Load (temp d) (load_op k) (Const adr)) in
       needed most (Valued S d (Some k) f)
       (run P most S y (Then (Then l (converted_here (Some k) at (temp d))) a) f) top low
-      (held (cell s (InArray n 0))) s (λ old. then (meaning P (Of r) s)
+      (held (cell s (InArray n 0))) _ s (λ old. then (meaning P (Of r) s)
       (compounded o (Some k) at (InArray n 0) old)) (λ old eo.
       let ld1 = global_loaded P most S y n old k s f gl eo rl in
       let pl = puts_load P (functions P most) (base P most) S.env (load_op k) (Const adr) f
@@ -193,7 +195,8 @@ module _ (P : TypedProgram) (most : ℕ) (S : Scene) (y : IsScene P S) where
       (compounded o (Some k) at (InArray n 0) old) h fits k1.rel (omega (arith, p.few)) hg
       (λ v s1 g1 t1 hv ls us ds.
       wanted most (Valued S d (Some k) f) (run P most S y b g1) (top - p.t - t1) low v s1
-      (λ w. with_some (compound_of o (Some k) at old w) s1 (λ u. store s1 (InArray n 0) u))
+      (λ w. with_some (compound_of o (Some k) at old w) (compound_fault o (Some k) at old w) s1
+      (λ u. store s1 (InArray n 0) u))
       (λ w ew.
       let z = value_at S (suc d) r.kind g v w s1 g1 ew hv in
       compound_element P most S y (Const adr) o k at (kind_of (expr_of r)) n 0 adr old w d (suc d)
@@ -260,7 +263,7 @@ module _ (P : TypedProgram) (most : ℕ) (S : Scene) (y : IsScene P S) where
       let whole = Then (address_code (context P S) p k (temp d) (temp d))
       (Then (code P most S y (suc d) r) (element_assign d k)) in
       needed most (Valued S d (Some k) f0) (run P most S y whole g) top low
-      (element_of p i s) s (assign_to (meaning P) None (Some k) at r s) (λ x ex.
+      (element_of p i s) _ s (assign_to (meaning P) None (Some k) at r s) (λ x ex.
       let e = element_is P most S y p k i s x ex in
       subst (λ x. FollowsHere P most S y d (Some k) f0 whole g top low
       (assign_to (meaning P) None (Some k) at r s x)) (sym e.is)
@@ -288,14 +291,14 @@ module _ (P : TypedProgram) (most : ℕ) (S : Scene) (y : IsScene P S) where
       (only (Save (save_op k) (Var (temp (suc d))) (Var (temp d)))) in
       let b = Then (code P most S y (suc (suc d)) r) c in
       let whole = Then (Then a (Then l n)) b in
-      needed most (Valued S d (Some k) f0) (run P most S y whole g) top low (element_of p i s) s
+      needed most (Valued S d (Some k) f0) (run P most S y whole g) top low (element_of p i s) _ s
       (assign_to (meaning P) (Some o) (Some k) at r s) (λ x ex.
       let e = element_is P most S y p k i s x ex in
       let x0 = InArray e.number i in
       subst (λ x. FollowsHere P most S y d (Some k) f0 whole g top low
       (assign_to (meaning P) (Some o) (Some k) at r s x)) (sym e.is)
       (needed most (Valued S d (Some k) f0) (run P most S y whole g) top low
-      (held (cell s (InArray e.number i))) s
+      (held (cell s (InArray e.number i))) _ s
       (λ old. then (meaning P (Of r) s) (compounded o (Some k) at (InArray e.number i) old))
       (λ old eo.
       let q = (place_is P (functions P most) (base P most) S y p k sz e.number s g v.keeps.rel t e.array).array in
@@ -332,7 +335,8 @@ module _ (P : TypedProgram) (most : ℕ) (S : Scene) (y : IsScene P S) where
       (omega (arith, pa.few, pn.few)) hg
       (λ u s1 g3 t1 hv ls us ds.
       wanted most (Valued S d (Some k) f0) (run P most S y c g3) (top - (pa.t + pn.t) - t1) low u s1
-      (λ w. with_some (compound_of o (Some k) at old w) s1 (λ u. store s1 (InArray e.number i) u))
+      (λ w. with_some (compound_of o (Some k) at old w) (compound_fault o (Some k) at old w) s1
+      (λ u. store s1 (InArray e.number i) u))
       (λ w ew.
       let z = value_at S (suc (suc d)) r.kind g2 u w s1 g3 ew hv in
       let adr3 : g3.vars (temp (suc d)) ≡ Some adr = z.keeps.kept (suc d) (omega arith) ∙ adr2 in

@@ -9,6 +9,7 @@ use Rattle.c_tree.specs.declared.Place.TheVariants.{Global, Scalar, Array}
 use Rattle.c_tree.specs.declared.TypedExpr.{TypedExpr}
 use Rattle.c_tree.specs.declared.TypedProgram.{TypedProgram}
 use Rattle.c_tree.specs.declared.TypedNode.TheOpen as node
+use Rattle.c_meaning_spec.specs.declared.fault.Fault.TheVariants.{IllFormed}
 use Rattle.c_meaning_spec.specs.State.{Result, spend}
 use Rattle.c_meaning_spec.specs.inside.State.{then}
 use Rattle.c_meaning_spec.specs.State as eval
@@ -109,7 +110,7 @@ module _ (P : TypedProgram) (most : ℕ) (S : Scene) (y : IsScene P S) where
       (omega arith) (omega arith)
       (λ v s1 g t1 hv ls us ds.
       wanted most (Valued S d (Some k) f) (run P most S y b g) (top - t1) low v s1
-      (λ w. with_some (element_of p w s1) s1 (assign_to (meaning P) None (Some k) at r s1))
+      (λ w. with_some (element_of p w s1) IllFormed s1 (assign_to (meaning P) None (Some k) at r s1))
       (λ w ew.
       element_plain P most S y p k at r e.kind d w (top - t1) low s1 f g (lr (suc d) tr) tl.1
       (λ s2 le. h r s2 (omega arith)) tr tc (value_at S d e.kind f v w s1 g ew hv) (omega arith)
@@ -124,7 +125,7 @@ module _ (P : TypedProgram) (most : ℕ) (S : Scene) (y : IsScene P S) where
       (omega arith) (omega arith)
       (λ v s1 g t1 hv ls us ds.
       wanted most (Valued S d (Some k) f) (run P most S y b g) (top - t1) low v s1
-      (λ w. with_some (element_of p w s1) s1 (assign_to (meaning P) (Some o) (Some k) at r s1))
+      (λ w. with_some (element_of p w s1) IllFormed s1 (assign_to (meaning P) (Some o) (Some k) at r s1))
       (λ w ew.
       element_compound P most S y o p None k at r e.kind d w (top - t1) low s1 f g (lr (suc (suc d)) tr) tl.1
       (λ s2 le. h r s2 (omega arith)) tr tc (value_at S d e.kind f v w s1 g ew hv) (omega arith)
@@ -135,10 +136,10 @@ module _ (P : TypedProgram) (most : ℕ) (S : Scene) (y : IsScene P S) where
       let q = tl.1.0 in
       let Q = Valued S d (Some k) f in
       row_operands P most S y Q p k q row e d b s f top low
-      (λ i j s. with_some (row_element_of p i j s) s (assign_to (meaning P) None (Some k) at r s))
+      (λ i j s. with_some (row_element_of p i j s) IllFormed s (assign_to (meaning P) None (Some k) at r s))
       (depth_fits (scope P S) (suc d) (expr_of e) tl.3) h tl.1.1 tl.2 tl.3 rl (omega arith) (omega arith)
       (λ i j s2 g t1 v ls us ds.
-      needed most Q (run P most S y b g) (top - t1) low (row_element_of p i j s2) s2
+      needed most Q (run P most S y b g) (top - t1) low (row_element_of p i j s2) _ s2
       (assign_to (meaning P) None (Some k) at r s2) (λ x ex.
       let n = row_element_is P most S y p k q i j s2 g x v.keeps.rel tl.1.1 ex in
       subst (λ x. FollowsHere P most S y d (Some k) f b g (top - t1) low
@@ -154,14 +155,14 @@ module _ (P : TypedProgram) (most : ℕ) (S : Scene) (y : IsScene P S) where
       let q = tl.1.0 in
       let Q = Valued S d (Some k) f in
       row_operands P most S y Q p k q row e d b s f top low
-      (λ i j s. with_some (row_element_of p i j s) s (assign_to (meaning P) (Some o) (Some k) at r s))
+      (λ i j s. with_some (row_element_of p i j s) IllFormed s (assign_to (meaning P) (Some o) (Some k) at r s))
       (depth_fits (scope P S) (suc d) (expr_of e) tl.3) h tl.1.1 tl.2 tl.3 rl (omega arith) (omega arith)
       (λ i j s2 g t1 v ls us ds.
       row_reads P most S y Q (run P most S y b g) (top - t1) low p k q i j s2 g
       (λ x old. then (meaning P (Of r) s2) (compounded o (Some k) at x old)) v.keeps.rel tl.1.1
       (λ n m en same.
       subst (λ o1. FollowsHere P most S y d (Some k) f b g (top - t1) low
-      (with_some (element_in o1 m) s2 (assign_to (meaning P) (Some o) (Some k) at r s2))) en
+      (with_some (element_in o1 m) IllFormed s2 (assign_to (meaning P) (Some o) (Some k) at r s2))) en
       (element_compound P most S y o p (Some q) k at r (Some ULong) d m (top - t1) low s2 f g
       (lr (suc (suc d)) tr) tl.1.1 (λ s3 le. h r s3 (omega arith)) tr tc
       (subst (λ w. ValueIs S d (Some ULong) f w s2 g) same v) (omega arith) (omega arith))))

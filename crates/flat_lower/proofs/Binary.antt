@@ -17,6 +17,7 @@ use Rattle.c_tree.specs.declared.TypedProgram.{TypedProgram}
 use Rattle.c_tree.specs.declared.TypedNode.TheOpen as node
 use Rattle.c_constant.specs.Kinds.{converted}
 use Rattle.c_constant.specs.Operation.{operate, operate_one, result_of, unary_result}
+use Rattle.c_meaning_spec.specs.Word.{binary_fault, words_fault}
 use Rattle.c_meaning_spec.specs.declared.signal.Signal.{Signal}
 use Rattle.c_meaning_spec.specs.declared.signal.Signal.TheVariants.{Nothing, Value, Breaks, Continues}
 use Rattle.c_meaning_spec.specs.declared.signal.Signal.TheVariants.{Returns}
@@ -127,10 +128,10 @@ module _ (P : TypedProgram) (most : ℕ) (S : Scene) (y : IsScene P S) where
       → IsRight (functions P most) (base P most) S.env o j b → 3 + 8 * s.stock ≤ top
       → low ≤ s.stock + most * g.rounds
       → FollowsHere P most S y d (Some k) f0 (binary_code o j (temp d) (temp (suc d))) g top low
-      (given (operate o j a b) s)
+      (given (operate o j a b) (words_fault o j a b) s)
   strict_end o k j r d a b top low f0 g s st ld t ke ha hb fa fb hu hl =
       needed most (Valued S d (Some k) f0)
-      (run P most S y (binary_code o j (temp d) (temp (suc d))) g) top low (operate o j a b) s
+      (run P most S y (binary_code o j (temp d) (temp (suc d))) g) top low (operate o j a b) _ s
       (λ w. Go (Value w) s) (λ w ew.
       let x = binary_works (functions P most) (base P most) S.env o j g (temp d) (temp (suc d)) a b w st t.0
       (λ e. omega arith) (λ e. omega arith) ha hb fa fb ew in
@@ -145,7 +146,7 @@ module _ (P : TypedProgram) (most : ℕ) (S : Scene) (y : IsScene P S) where
       → ValueIs S (suc d) r.kind g b s2 g2 → 3 + 8 * s2.stock ≤ top
       → low ≤ s2.stock + most * g2.rounds
       → FollowsHere P most S y d k f0 (with_kind j (λ k. binary_code o k (temp d) (temp (suc d))))
-      g2 top low (given (binary_of o l.kind a b) s2)
+      g2 top low (given (binary_of o l.kind a b) (binary_fault o l.kind a b) s2)
   second_end o None j l r ej d a b top low f0 g g2 s1 s2 st ld t va vb hu hl = absurd t
   second_end o (Some k) None l r ej d a b top low f0 g g2 s1 s2 st ld t va vb hu hl =
       absurd (no_kind o st (kind_of (expr_of r)) k t)
@@ -156,7 +157,7 @@ module _ (P : TypedProgram) (most : ℕ) (S : Scene) (y : IsScene P S) where
       let fb = right_fits o j (kind_of (expr_of r)) vb.kind b (kind_is r ∙ vb.is_kind) ts.1 vb.fits in
       let ha : g2.vars (temp d) ≡ Some a = vb.keeps.kept d (omega arith) ∙ va.is in
       subst (λ q. FollowsHere P most S y d (Some k) f0
-      (binary_code o j (temp d) (temp (suc d))) g2 top low (given (binary_of o q a b) s2)) ej
+      (binary_code o j (temp d) (temp (suc d))) g2 top low (given (binary_of o q a b) (binary_fault o q a b) s2)) ej
       (strict_end o k j (kind_of (expr_of r)) d a b top low f0 g2 s2 st ld ts
       (keeps_both S d (suc d) f0 g g2 s1 s2 (omega arith) va.keeps vb.keeps) ha vb.is fa fb hu hl)
 
@@ -189,8 +190,9 @@ module _ (P : TypedProgram) (most : ℕ) (S : Scene) (y : IsScene P S) where
       (spending P most S y (Valued S d (Some k) f0) b s g top low
       (λ (s1 : eval.State). operated o l.kind a (Value c.word) s1) v.keeps.rel (omega arith) (λ n q rn.
       let s0 = record s { stock = n } in
-      subst (λ i. FollowsHere P most S y d (Some k) f0 b g top low (given (binary_of o i a c.word) s0)) ej
-      (needed most (Valued S d (Some k) f0) (run P most S y b g) top low (operate o j a c.word) s0
+      subst (λ i. FollowsHere P most S y d (Some k) f0 b g top low (given (binary_of o i a c.word)
+      (binary_fault o i a c.word) s0)) ej
+      (needed most (Valued S d (Some k) f0) (run P most S y b g) top low (operate o j a c.word) _ s0
       (λ w. Go (Value w) s0) (λ w ew.
       let x = immediate_works (functions P most) (base P most) S.env o j (expr_of r) m g (temp d) a c.word w
       em c.is t.0 (λ e. omega arith) v.is fa fw ew in
@@ -213,7 +215,7 @@ module _ (P : TypedProgram) (most : ℕ) (S : Scene) (y : IsScene P S) where
       (omega arith) hl
       (λ v2 s2 g2 t2 hv ls us ds.
       wanted most (Valued S d k f0) (run P most S y c g2) (top - t2) low v2 s2
-      (λ b. given (binary_of o l.kind a b) s2) (λ b eb.
+      (λ b. given (binary_of o l.kind a b) (binary_fault o l.kind a b) s2) (λ b eb.
       let vb = value_at S (suc d) r.kind g v2 b s2 g2 eb hv in
       second_end o k j l r ej d a b (top - t2) low f0 g g2 s s2 st ld t v vb (omega arith) (omega arith)))
   right_end o None j l r (Some m) ej em d a top low f0 g s st ld h fr t v hu hl = absurd t

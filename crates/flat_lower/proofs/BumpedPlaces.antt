@@ -6,6 +6,7 @@ use Rattle.std.specs.Prelude.{slice_get}
 use Rattle.c_tree.specs.declared.Kind.{Kind}
 use Rattle.c_tree.specs.declared.Slot.TheVariants as slot
 use Rattle.c_tree.specs.declared.TypedProgram.{TypedProgram}
+use Rattle.c_meaning_spec.specs.Word.{bump_fault}
 use Rattle.c_meaning_spec.specs.declared.signal.Signal.TheVariants.{Value}
 use Rattle.c_meaning_spec.specs.declared.signal.Object.{Object}
 use Rattle.c_meaning_spec.specs.declared.signal.Object.TheVariants.{InScalar, InArray}
@@ -97,10 +98,10 @@ module _ (P : TypedProgram) (most : ℕ) (S : Scene) (y : IsScene P S) where
       (bump_object o (Some k) s (InArray n w))
   memory_bump o k A n w at d top low f0 g s b q ld hA he ke hu hl hv =
       needed most (Valued S d (Some k) f0) (run P most S y (bump_memory o b A d k) g) top low
-      (held (cell s (InArray n w))) s (λ old. with_some (bump_of o (Some k) old) s
+      (held (cell s (InArray n w))) _ s (λ old. with_some (bump_of o (Some k) old) (bump_fault o (Some k) old) s
       (λ new. then (store s (InArray n w) new) (giving (bump_value o old new)))) (λ old eo.
       needed most (Valued S d (Some k) f0) (run P most S y (bump_memory o b A d k) g) top low
-      (bump_of o (Some k) old) s (λ new. then (store s (InArray n w) new)
+      (bump_of o (Some k) old) _ s (λ new. then (store s (InArray n w) new)
       (giving (bump_value o old new))) (λ new en.
       let c = held_is (cell s (InArray n w)) old eo in
       subst (λ r. FollowsHere P most S y d (Some k) f0 (bump_memory o b A d k) g top low r)
@@ -201,10 +202,10 @@ module _ (P : TypedProgram) (most : ℕ) (S : Scene) (y : IsScene P S) where
   unfolding apply
   scalar_bump o k i d top low f s b ld t r hu hl hv =
       needed most (Valued S d (Some k) f) (run P most S y (bump_scalar o b i d k) f) top low
-      (held (cell s (InScalar i))) s (λ old. with_some (bump_of o (Some k) old) s
+      (held (cell s (InScalar i))) _ s (λ old. with_some (bump_of o (Some k) old) (bump_fault o (Some k) old) s
       (λ new. then (store s (InScalar i) new) (giving (bump_value o old new)))) (λ old eo.
       needed most (Valued S d (Some k) f) (run P most S y (bump_scalar o b i d k) f) top low
-      (bump_of o (Some k) old) s (λ new. then (store s (InScalar i) new)
+      (bump_of o (Some k) old) _ s (λ new. then (store s (InScalar i) new)
       (giving (bump_value o old new))) (λ new en.
       let c = held_is (cell s (InScalar i)) old eo in
       subst (λ r. FollowsHere P most S y d (Some k) f (bump_scalar o b i d k) f top low r)

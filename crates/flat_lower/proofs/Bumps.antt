@@ -9,6 +9,8 @@ use Rattle.c_tree.specs.declared.Place.TheVariants.{Global, Scalar, Array}
 use Rattle.c_tree.specs.declared.TypedExpr.{TypedExpr}
 use Rattle.c_tree.specs.declared.TypedProgram.{TypedProgram}
 use Rattle.c_tree.specs.declared.TypedNode.TheOpen as node
+use Rattle.c_meaning_spec.specs.declared.fault.Fault.TheVariants.{IllFormed}
+use Rattle.c_meaning_spec.specs.Word.{bump_fault}
 use Rattle.c_meaning_spec.specs.declared.signal.Signal.TheVariants.{Value}
 use Rattle.c_meaning_spec.specs.declared.signal.Object.TheVariants.{InArray}
 use Rattle.c_meaning_spec.specs.State.{spend}
@@ -88,7 +90,7 @@ module _ (P : TypedProgram) (most : ℕ) (S : Scene) (y : IsScene P S) where
       let a = address_code (context P S) p k 80 (temp d) in
       let b = bump_memory o (is_before o) (Var 80) d k in
       needed most (Valued S d (Some k) f0) (run P most S y (Then a b) g) top low
-      (element_of p w s) s (bump_object o (Some k) s) (λ x ex.
+      (element_of p w s) _ s (bump_object o (Some k) s) (λ x ex.
       let i = element_is P most S y p k w s x ex in
       subst (λ x. FollowsHere P most S y d (Some k) f0 (Then a b) g top low
       (bump_object o (Some k) s x)) (sym i.is)
@@ -130,7 +132,7 @@ module _ (P : TypedProgram) (most : ℕ) (S : Scene) (y : IsScene P S) where
       (h e s (omega arith)) t.2 r (omega arith) (omega arith)
       (λ v s1 g t1 hv ls us ds.
       wanted most (Valued S d (Some k) f) (run P most S y (element_bump (context P S) o p d k) g)
-      (top - t1) low v s1 (λ w. with_some (element_of p w s1) s1 (bump_object o (Some k) s1))
+      (top - t1) low v s1 (λ w. with_some (element_of p w s1) IllFormed s1 (bump_object o (Some k) s1))
       (λ w ew.
       element_end o p None k e.kind d w (top - t1) low f g s1 ld t.1
       (value_at S d e.kind f v w s1 g ew hv) (omega arith) (omega arith)))
@@ -139,14 +141,14 @@ module _ (P : TypedProgram) (most : ℕ) (S : Scene) (y : IsScene P S) where
       let q = t.1.0 in
       let Q = Valued S d (Some k) f in
       row_operands P most S y Q p k q row e d b s f top low
-      (λ i j s. with_some (row_element_of p i j s) s (bump_object o (Some k) s))
+      (λ i j s. with_some (row_element_of p i j s) IllFormed s (bump_object o (Some k) s))
       (depth_fits (scope P S) (suc d) (expr_of e) t.3) h t.1.1 t.2 t.3 r (omega arith) (omega arith)
       (λ i j s2 g t1 v ls us ds.
       row_reads P most S y Q (run P most S y b g) (top - t1) low p k q i j s2 g
-      (λ x old. with_some (bump_of o (Some k) old) s2 (λ new. then (store s2 x new)
+      (λ x old. with_some (bump_of o (Some k) old) (bump_fault o (Some k) old) s2 (λ new. then (store s2 x new)
       (giving (bump_value o old new)))) v.keeps.rel t.1.1 (λ n m en same.
       subst (λ o1. FollowsHere P most S y d (Some k) f b g (top - t1) low
-      (with_some (element_in o1 m) s2 (bump_object o (Some k) s2))) en
+      (with_some (element_in o1 m) IllFormed s2 (bump_object o (Some k) s2))) en
       (element_end o p (Some q) k (Some ULong) d m (top - t1) low f g s2 ld t.1.1
       (subst (λ w. ValueIs S d (Some ULong) f w s2 g) same v) (omega arith) (omega arith))))
   bump_left o k (node.Number w) j d top low s f ld h t r hu hl = absurd t

@@ -5,7 +5,7 @@ use Rattle.std.proofs.Common.{None, refl, sym, ap, ap₂, ◌∙◌, subst, mul-
 use Rattle.std.specs.Prelude.{slice_get, nat_eq, nat_le, nat_lt}
 use Rattle.std.proofs.lemmas.Bool.Decides.{nat_tests}
 use Rattle.c_tree.specs.declared.Kind.{Kind}
-use Rattle.c_tree.specs.declared.Kind.TheVariants.{Int}
+use Rattle.c_tree.specs.declared.Kind.TheVariants.{Int, Long}
 use Rattle.c_tree.specs.declared.Callee.{Callee}
 use Rattle.c_tree.specs.declared.Callee.TheVariants as callee
 use Rattle.c_tree.specs.declared.Slot.{Slot}
@@ -14,11 +14,12 @@ use Rattle.c_tree.specs.declared.TypedStmt.{TypedStmt}
 use Rattle.c_tree.specs.declared.TypedFunc.{TypedFunc}
 use Rattle.c_tree.specs.declared.TypedProgram.{TypedProgram}
 use Rattle.c_tree.specs.declared.TypedNode.TheOpen as node
+use Rattle.c_meaning_spec.specs.declared.fault.Fault.TheVariants.{IllFormed}
 use Rattle.c_meaning_spec.specs.declared.signal.Signal.{Signal}
 use Rattle.c_meaning_spec.specs.declared.signal.Signal.TheVariants.{Nothing, Value, Breaks, Continues}
 use Rattle.c_meaning_spec.specs.declared.signal.Signal.TheVariants.{Returns}
 use Rattle.c_meaning_spec.specs.declared.signal.Ending.TheVariants.{Undefined, Deep}
-use Rattle.c_meaning_spec.specs.declared.signal.Halt.TheVariants.{Ends}
+use Rattle.c_meaning_spec.specs.declared.signal.Halt.TheVariants.{Faults}
 use Rattle.c_meaning_spec.specs.State.{Result, Go, Over, spend, want}
 use Rattle.c_meaning_spec.specs.inside.State.{then}
 use Rattle.c_meaning_spec.specs.State as eval
@@ -197,7 +198,7 @@ module _ (P : TypedProgram) (most : ℕ) (sound : FitsSource (source_of P)) (lar
           → FollowsHere P most S y d k f0 (only (flat.Call j xs (result_var k d) stays)) g top low
           (cond b (entered_if (meaning P) (nat_eq j P.main) (nat_le (s0.room + frame f) 1048576) f ws
           s0)
-          (Over (Ends Undefined) s0))
+          (Over (Faults IllFormed) s0))
       go n s0 hr k0 hu0 hl0 false e = tt
       go n s0 hr k0 hu0 hl0 true e =
           entering j f found xs ws vs d top low k s0 f0 g ld hr ek are reads k0
@@ -306,7 +307,7 @@ module _ (P : TypedProgram) (most : ℕ) (sound : FitsSource (source_of P)) (lar
 
   -- THE END OF THE RUN
 
-  exiting : (k : Option Kind) (w d top low : ℕ) (s : eval.State) (f0 g : State) → IsWord Int w
+  exiting : (k : Option Kind) (w d top low : ℕ) (s : eval.State) (f0 g : State) → IsWord Long w
       → g.vars (temp d) ≡ Some w → Related S s g → 1 + 8 * s.stock ≤ top
       → low ≤ s.stock + most * g.rounds
       → FollowsHere P most S y d k f0 (only (flat.Halt (Var (temp d)))) g top low (exit_with (w ∷ []) s)
@@ -408,7 +409,7 @@ module _ (P : TypedProgram) (most : ℕ) (sound : FitsSource (source_of P)) (lar
       wanted most (Valued S d k f) (run P most S y b g) (top - t1) low v s1
       (λ w. called (meaning P) P callee.Exit (w ∷ []) s1) (λ w ew.
       let x = value_at S d e.kind f v w s1 g ew hv in
-      let same : x.kind ≡ Int = cc (sym x.is_kind ∙ sym (kind_is e) ∙ t.1.1.0.1) in
+      let same : x.kind ≡ Long = cc (sym x.is_kind ∙ sym (kind_is e) ∙ t.1.1.0.1) in
       spending P most S y (Valued S d k f) b s1 g (top - t1) low
       (exit_with (w ∷ [])) x.keeps.rel (omega arith) (λ m q1 rm.
       exiting k w d (top - t1) low (record s1 { stock = m }) f g

@@ -16,7 +16,7 @@ use Rattle.c_meaning_spec.specs.declared.signal.Signal.TheVariants.{Nothing, Val
 use Rattle.c_meaning_spec.specs.declared.signal.Signal.TheVariants.{Returns}
 use Rattle.c_meaning_spec.specs.declared.signal.Ending.{Ending}
 use Rattle.c_meaning_spec.specs.declared.signal.Ending.TheVariants.{More, Undefined, Deep}
-use Rattle.c_meaning_spec.specs.declared.signal.Halt.TheVariants.{Ends, Exits}
+use Rattle.c_meaning_spec.specs.declared.signal.Halt.TheVariants.{NoStep, TooDeep, Faults, Exits}
 use Rattle.c_meaning_spec.specs.State.{Result, Go, Over}
 use Rattle.c_meaning_spec.specs.inside.State.{then}
 use Rattle.c_meaning_spec.specs.State as eval
@@ -30,7 +30,7 @@ use Rattle.ir_forms.specs.inside.FlatCode as flat
 use Rattle.ir_forms.specs.inside.FlatViews.{stays}
 use Rattle.ir_forms.specs.inside.Frames.{frame_limit, frame_of, arrays_at}
 use Rattle.ir_forms.specs.inside.Cells.{Closed, marked}
-use Rattle.ir_forms.specs.inside.FlatSteps.{State, Env, Res, Gone, Broke, Again, Gave, TooDeep, Unfinished}
+use Rattle.ir_forms.specs.inside.FlatSteps.{State, Env, Res, Gone, Broke, Again, Gave, TooDeep as Sinks, Unfinished}
 use Rattle.ir_forms.specs.inside.FlatSteps.{Wild, settle, read_all, var_put, result_put, back_in}
 use Rattle.ir_forms.specs.inside.FlatSteps.{after_call, counted, exec}
 use Rattle.ir_forms.specs.inside.FlatRuns.{checked, closed, closing, begun, env_of, enter, enter_if}
@@ -257,7 +257,7 @@ module _ (P : TypedProgram) (most : ℕ) (S : Scene) (y : IsScene P S) (j : ℕ)
               };
               leads = gives h.to h.t (Some w) h.leads;
             }
-    comes_back int s top low (Over (Ends More) s2) rel ke lt h = record {
+    comes_back int s top low (Over NoStep s2) rel ke lt h = record {
       t = 10 + h.t;
       r = h.r;
       upper = omega (arith, h.upper);
@@ -269,18 +269,18 @@ module _ (P : TypedProgram) (most : ℕ) (S : Scene) (y : IsScene P S) (j : ℕ)
           (env_of (base P most) F S.env.used) B (end_code (nat_eq j P.main))
           (begun (base P most) F vs S.env.used (counted g)) h.t s2.output h.r h.stops));
     }
-    comes_back int s top low (Over (Ends Undefined) s2) rel ke lt h = tt
-    comes_back int s top low (Over (Ends Deep) s2) rel ke lt h = record {
+    comes_back int s top low (Over (Faults c) s2) rel ke lt h = tt
+    comes_back int s top low (Over TooDeep s2) rel ke lt h = record {
       t = 10 + h.t;
       upper = omega (arith, h.upper);
       leads = call_leads checked (functions P most) (base P most) S.env j xs
-          (result_var k d) stays g vs h.t (λ n. TooDeep s2.output) (λ n. TooDeep s2.output) are
+          (result_var k d) stays g vs h.t (λ n. Sinks s2.output) (λ n. Sinks s2.output) are
           (λ n. refl)
-          (closed_leads P most S.env.used j f found vs (counted g) room h.t (λ n. TooDeep s2.output)
-          (λ n. TooDeep s2.output) (λ n. refl)
+          (closed_leads P most S.env.used j f found vs (counted g) room h.t (λ n. Sinks s2.output)
+          (λ n. Sinks s2.output) (λ n. refl)
           (first_leads checked (functions P most) (base P most)
           (env_of (base P most) F S.env.used) B (end_code (nat_eq j P.main))
-          (begun (base P most) F vs S.env.used (counted g)) h.t (λ n. TooDeep s2.output)
+          (begun (base P most) F vs S.env.used (counted g)) h.t (λ n. Sinks s2.output)
           (λ n next. refl) h.leads));
     }
     comes_back int s top low (Over (Exits w) s2) rel ke lt h = record {

@@ -11,6 +11,7 @@ use Rattle.c_tree.specs.declared.TypedExpr.{TypedExpr}
 use Rattle.c_tree.specs.declared.TypedProgram.{TypedProgram}
 use Rattle.c_constant.specs.Kinds.{converted}
 use Rattle.c_constant.specs.Operation.{operate}
+use Rattle.c_meaning_spec.specs.Word.{compound_fault}
 use Rattle.c_meaning_spec.specs.declared.signal.Signal.TheVariants.{Value}
 use Rattle.c_meaning_spec.specs.declared.signal.Object.{Object}
 use Rattle.c_meaning_spec.specs.declared.signal.Object.TheVariants.{InScalar, InArray}
@@ -209,11 +210,11 @@ module _ (P : TypedProgram) (most : ℕ) (S : Scene) (y : IsScene P S) where
       → g.vars (temp (suc d)) ≡ Some b → 5 + 8 * s.stock ≤ top → low ≤ s.stock + most * g.rounds
       → FollowsHere P most S y d (Some k) f0
       (Then (compound_code o d (suc d) at k) (copied i (temp d))) g top low
-      (with_some (compound_of o (Some k) at old b) s (λ w. store s (InScalar i) w))
+      (with_some (compound_of o (Some k) at old b) (compound_fault o (Some k) at old b) s (λ w. store s (InScalar i) w))
   compound_scalar o k at r i old b d top low f0 g s vk ld t hr fb ti ke hd fo hz hu hl =
       needed most (Valued S d (Some k) f0)
       (run P most S y (Then (compound_code o d (suc d) at k) (copied i (temp d))) g) top low
-      (compound_of o (Some k) at old b) s (λ w. store s (InScalar i) w) (λ w ew.
+      (compound_of o (Some k) at old b) _ s (λ w. store s (InScalar i) w) (λ w ew.
       let x = compound_puts o k at r old b w d (suc d) 0 g vk t hr fb (omega arith) ld fo hd hz ew in
       let k2 = keeps_set P most S y d f0 g x.puts.to s (temp d) 80 w (omega arith) (omega arith)
       (omega arith) ke x.puts.sets in
@@ -234,13 +235,14 @@ module _ (P : TypedProgram) (most : ℕ) (S : Scene) (y : IsScene P S) where
       → low ≤ s.stock + most * g.rounds
       → FollowsHere P most S y d (Some k) f0
       (Then (compound_code o d z at k) (only (Save (save_op k) A (Var (temp d))))) g top low
-      (with_some (compound_of o (Some k) at old b) s (λ w. store s (InArray n i) w))
+      (with_some (compound_of o (Some k) at old b) (compound_fault o (Some k) at old b) s
+      (λ w. store s (InArray n i) w))
   compound_element A o k at r n i adr old b d z top low q f0 g s vk ld lz t hr fb ea hA ke hd fo hz
       hu hl =
       let sv = only (Save (save_op k) A (Var (temp d))) in
       needed most (Valued S d (Some k) f0)
       (run P most S y (Then (compound_code o d z at k) sv) g) top low
-      (compound_of o (Some k) at old b) s (λ w. store s (InArray n i) w) (λ w ew.
+      (compound_of o (Some k) at old b) _ s (λ w. store s (InArray n i) w) (λ w ew.
       let x = compound_puts o k at r old b w d z 0 g vk t hr fb ld lz fo hd hz ew in
       let k2 = keeps_set P most S y d f0 g x.puts.to s (temp d) 80 w (omega arith) (omega arith)
       (omega arith) ke x.puts.sets in

@@ -7,30 +7,32 @@ use Rattle.c_tree.specs.declared.TypedSection.{TypedSection}
 use Rattle.ir_forms.specs.declared.flat.FlatStmt.{FlatStmt}
 use Rattle.ir_forms.specs.inside.FlatCode.{Then}
 use Rattle.ir_forms.specs.inside.FlatViews.{code_of}
-use Rattle.flat_lower.specs.inside.Switches.{label_code, labels_code, compared_code, section_count, is_label}
-use Rattle.flat_lower.specs.inside.Switches.{is_default, is_end, are_dense}
+use Rattle.flat_lower.specs.declared.held.Held.{Held}
+use Rattle.flat_lower.specs.declared.held.Held.TheVariants as held
+use Rattle.flat_lower.specs.inside.Labels.{label_code, held_behind, held_code, labels_code, compared_code}
+use Rattle.flat_lower.specs.inside.Switches.{section_count, is_label, is_default, is_end, are_dense}
 use Rattle.flat_lower.specs.inside.Emitted.{Adds, sections_in}
 use Rattle.flat_lower.proofs.Emits.{then_then, then_nop}
 
--- some labels are emitted, and `rest` are to come
-pub record LabelsSoFar (n : ℕ) (all rest : List (Option ℕ)) (old code : List FlatStmt) : Type 0 where
-  pub written : Then (code_of code) (labels_code n rest) ≡ Then (code_of old) (labels_code n all)
+-- some labels are emitted, and `rest` are to come, of whose first three so many are compared
+pub record LabelsSoFar (h : Held) (n : ℕ) (all rest : List (Option ℕ)) (old code : List FlatStmt) : Type 0 where
+  pub written : Then (code_of code) (labels_code h n rest) ≡ Then (code_of old) (labels_code held.Zero n all)
 
 -- one label more
-pub labels_go_on : (n : ℕ) (all rest : List (Option ℕ)) (l : Option ℕ) (old code code' : List FlatStmt)
-    → LabelsSoFar n all (l ∷ rest) old code → Adds code code' (label_code n l)
-    → LabelsSoFar n all rest old code'
-labels_go_on n all rest l old code code' s h = record {
+pub labels_go_on : (h : Held) (n : ℕ) (all rest : List (Option ℕ)) (l : Option ℕ) (old code code' : List FlatStmt)
+    → LabelsSoFar h n all (l ∷ rest) old code → Adds code code' (label_code h n l)
+    → LabelsSoFar (held_behind h l) n all rest old code'
+labels_go_on h n all rest l old code code' s a = record {
   written =
-      ap (λ z. Then z (labels_code n rest)) h.is
-      ∙ then_then (code_of code) (label_code n l) (labels_code n rest)
+      ap (λ z. Then z (labels_code (held_behind h l) n rest)) a.is
+      ∙ then_then (code_of code) (label_code h n l) (labels_code (held_behind h l) n rest)
       ∙ s.written;
 }
 
 -- at the end
-pub labels_end : (n : ℕ) (all : List (Option ℕ)) (old code : List FlatStmt)
-    → LabelsSoFar n all [] old code → Adds old code (labels_code n all)
-labels_end n all old code s = record { is = sym (then_nop (code_of code)) ∙ s.written }
+pub labels_end : (h : Held) (n : ℕ) (all : List (Option ℕ)) (old code code' : List FlatStmt)
+    → LabelsSoFar h n all [] old code → Adds code code' (held_code h n) → Adds old code' (labels_code held.Zero n all)
+labels_end h n all old code code' s a = record { is = a.is ∙ s.written }
 
 -- the labels of n sections are emitted, and those of `rest` are to come
 pub record ComparedSoFar (n : ℕ) (all rest : List TypedSection) (old code : List FlatStmt) : Type 0 where
@@ -40,11 +42,11 @@ pub record ComparedSoFar (n : ℕ) (all rest : List TypedSection) (old code : Li
 -- those of one section more
 pub compared_goes_on : (n : ℕ) (all rest : List TypedSection) (x : TypedSection)
     (old code code' : List FlatStmt) → ComparedSoFar n all (x ∷ rest) old code
-    → Adds code code' (labels_code n x.labels) → ComparedSoFar (suc n) all rest old code'
+    → Adds code code' (labels_code held.Zero n x.labels) → ComparedSoFar (suc n) all rest old code'
 compared_goes_on n all rest x old code code' s h = record {
   written =
       ap (λ z. Then z (compared_code (suc n) (sections_in rest))) h.is
-      ∙ then_then (code_of code) (labels_code n x.labels) (compared_code (suc n) (sections_in rest))
+      ∙ then_then (code_of code) (labels_code held.Zero n x.labels) (compared_code (suc n) (sections_in rest))
       ∙ s.written;
 }
 

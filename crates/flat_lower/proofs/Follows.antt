@@ -5,16 +5,17 @@ use Rattle.std.proofs.Common.{Option, Some, None, refl, sym, ap, ◌∙◌, subs
 use Rattle.c_meaning_spec.specs.declared.signal.Signal.{Signal}
 use Rattle.c_meaning_spec.specs.declared.signal.Signal.TheVariants.{Nothing, Value, Breaks, Continues}
 use Rattle.c_meaning_spec.specs.declared.signal.Signal.TheVariants.{Returns}
-use Rattle.c_tree.specs.declared.Kind.TheVariants.{Int}
+use Rattle.c_tree.specs.declared.Kind.TheVariants.{Long}
 use Rattle.c_constant.specs.Kinds.{IsWord}
+use Rattle.c_meaning_spec.specs.declared.fault.Fault.{Fault}
 use Rattle.c_meaning_spec.specs.declared.signal.Halt.{Halt}
-use Rattle.c_meaning_spec.specs.declared.signal.Halt.TheVariants.{Ends, Exits}
+use Rattle.c_meaning_spec.specs.declared.signal.Halt.TheVariants.{NoStep, TooDeep, Faults, Exits}
 use Rattle.c_meaning_spec.specs.declared.signal.Ending.TheVariants.{More, Undefined, Deep}
 use Rattle.c_meaning_spec.specs.State.{Result, Go, Over, spend_of, spend, want, with_some}
 use Rattle.c_meaning_spec.specs.inside.State.{then}
 use Rattle.c_meaning_spec.specs.State as eval
 use Rattle.ir_forms.specs.inside.FlatCode.{Code, Then, Function}
-use Rattle.ir_forms.specs.inside.FlatSteps.{State, Env, Res, Gone, Broke, Again, Gave, TooDeep, Unfinished}
+use Rattle.ir_forms.specs.inside.FlatSteps.{State, Env, Res, Gone, Broke, Again, Gave, TooDeep as Sinks, Unfinished}
 use Rattle.ir_forms.specs.inside.FlatSteps.{Wild, settle, then_run}
 use Rattle.ir_forms.specs.inside.FlatSteps as flat_steps
 use Rattle.ir_forms.specs.inside.FlatRuns.{checked}
@@ -69,7 +70,7 @@ Goes most P run top low v s = GoesIn around.Loop most P run top low v s
 pub record Dives (run : Run) (top : ℕ) (out : List ℕ) : Type 0 where
   pub t : ℕ
   pub upper : t ≤ top
-  pub leads : Leads run t (λ k. TooDeep out)
+  pub leads : Leads run t (λ k. Sinks out)
 
 -- a run that has not ended with some turns, and has counted enough rounds
 pub record Halts (most : ℕ) (run : Run) (top low : ℕ) (out : List ℕ) : Type 0 where
@@ -91,15 +92,15 @@ pub record Quits (most : ℕ) (run : Run) (top low w : ℕ) (s : eval.State) : T
   pub upper : t + 8 * s.stock ≤ top
   pub lower : low ≤ s.stock + most * to.rounds
   pub output : to.output ≡ s.output
-  pub fits : IsWord Int w
+  pub fits : IsWord Long w
   pub leads : Leads run t (λ k. quits w to k)
 
 -- what a flat run does where the evaluation is over: it has not ended, or ends too deep, or is ended with a
 -- word, or does anything
 abbrev pub FollowsOver : ℕ → Run → ℕ → ℕ → Halt → eval.State → Type 0
-FollowsOver most run top low (Ends More) s = Halts most run top low s.output
-FollowsOver most run top low (Ends Undefined) s = Unit {0}
-FollowsOver most run top low (Ends Deep) s = Dives run top s.output
+FollowsOver most run top low NoStep s = Halts most run top low s.output
+FollowsOver most run top low (Faults c) s = Unit {0}
+FollowsOver most run top low TooDeep s = Dives run top s.output
 FollowsOver most run top low (Exits w) s = Quits most run top low w s
 
 -- what a flat run does inside a loop, a switch or neither, where the evaluation has this result
@@ -115,18 +116,18 @@ Follows most P run top low r = FollowsIn around.Loop most P run top low r
 over_moved : (most : ℕ) (run next : Run) (t top low : ℕ) (why : Halt) (s : eval.State)
     → Moves run t next → t ≤ top → FollowsOver most next (top - t) low why s
     → FollowsOver most run top low why s
-over_moved most run next t top low (Ends More) s m h g = record {
+over_moved most run next t top low NoStep s m h g = record {
   t = t + g.t;
   r = g.r;
   upper = omega (arith, g.upper);
   lower = g.lower;
   stops = stops_from run next t g.t s.output g.r m g.stops;
 }
-over_moved most run next t top low (Ends Undefined) s m h g = tt
-over_moved most run next t top low (Ends Deep) s m h g = record {
+over_moved most run next t top low (Faults c) s m h g = tt
+over_moved most run next t top low TooDeep s m h g = record {
   t = t + g.t;
   upper = omega (arith, g.upper);
-  leads = leads_from run next t g.t (λ k. TooDeep s.output) m g.leads;
+  leads = leads_from run next t g.t (λ k. Sinks s.output) m g.leads;
 }
 over_moved most run next t top low (Exits w) s m h g = record {
   t = t + g.t;
@@ -161,7 +162,7 @@ moved = moved_in around.Loop
 -- more turns, and fewer steps to account for
 over_weaker : (most : ℕ) (run : Run) (top low up down : ℕ) (why : Halt) (s : eval.State) → up ≤ top
     → low ≤ down → FollowsOver most run up down why s → FollowsOver most run top low why s
-over_weaker most run top low up down (Ends More) s h k g =
+over_weaker most run top low up down NoStep s h k g =
     record {
       t = g.t;
       r = g.r;
@@ -169,8 +170,8 @@ over_weaker most run top low up down (Ends More) s h k g =
       lower = omega (arith, g.lower);
       stops = g.stops;
     }
-over_weaker most run top low up down (Ends Undefined) s h k g = tt
-over_weaker most run top low up down (Ends Deep) s h k g =
+over_weaker most run top low up down (Faults c) s h k g = tt
+over_weaker most run top low up down TooDeep s h k g =
     record { t = g.t; upper = omega (arith, g.upper); leads = g.leads }
 over_weaker most run top low up down (Exits w) s h k g =
     record {
@@ -202,10 +203,10 @@ spends x most P run top low s c next w h f = go s.stock refl
 
 -- with what is there
 pub needed : {A : Type 0} (most : ℕ) (P : Post) (run : Run) (top low : ℕ) (o : Option A)
-    (s : eval.State) (next : A → Result) → ((a : A) → o ≡ Some a
-    → Follows most P run top low (next a)) → Follows most P run top low (with_some o s next)
-needed most P run top low None s next f = tt
-needed most P run top low (Some a) s next f = f a refl
+    (c : Fault) (s : eval.State) (next : A → Result) → ((a : A) → o ≡ Some a
+    → Follows most P run top low (next a)) → Follows most P run top low (with_some o c s next)
+needed most P run top low None c s next f = tt
+needed most P run top low (Some a) c s next f = f a refl
 
 -- a value that is taken
 pub wanted_in : (x : Around) (most : ℕ) (P : Post) (run : Run) (top low : ℕ) (v : Signal)
@@ -247,18 +248,18 @@ module _ (fs : List Function) (base most : ℕ) (e : Env) where
   over_first : (a b : Code) (f : State) (up down top low : ℕ) (why : Halt) (s : eval.State)
       → up ≤ top → low ≤ down → FollowsOver most (run_of a f) up down why s
       → FollowsOver most (run_of (Then a b) f) top low why s
-  over_first a b f up down top low (Ends More) s h k g = record {
+  over_first a b f up down top low NoStep s h k g = record {
     t = g.t;
     r = g.r;
     upper = omega (arith, g.upper);
     lower = omega (arith, g.lower);
     stops = first_stops checked fs base e a b f g.t s.output g.r g.stops;
   }
-  over_first a b f up down top low (Ends Undefined) s h k g = tt
-  over_first a b f up down top low (Ends Deep) s h k g = record {
+  over_first a b f up down top low (Faults c) s h k g = tt
+  over_first a b f up down top low TooDeep s h k g = record {
     t = g.t;
     upper = omega (arith, g.upper);
-    leads = first_leads checked fs base e a b f g.t (λ k. TooDeep s.output) (λ k next. refl) g.leads;
+    leads = first_leads checked fs base e a b f g.t (λ k. Sinks s.output) (λ k next. refl) g.leads;
   }
   over_first a b f up down top low (Exits w) s h k g = record {
     t = g.t;

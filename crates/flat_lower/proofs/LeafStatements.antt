@@ -38,7 +38,8 @@ use Rattle.flat_lower.specs.inside.Operations.{temp, set_word, copied}
 use Rattle.flat_lower.specs.inside.Statements.{expr_if_code, declare_code, return_code}
 use Rattle.flat_lower.specs.inside.Fits.{Scope, FitsExpr, FitsExprIf, FitsDeclare, FitsReturn}
 use Rattle.flat_lower.specs.inside.FitsSwitches.{IsLooped}
-use Rattle.flat_lower.specs.inside.Switches.{break_code, continue_code, found_code}
+use Rattle.flat_lower.specs.inside.Labels.{found_code}
+use Rattle.flat_lower.specs.inside.Switches.{break_code, continue_code}
 use Rattle.flat_lower.specs.declared.around.Around.{Around}
 use Rattle.flat_lower.specs.declared.around.Around.TheVariants as around
 use Rattle.flat_lower.specs.inside.Sizes.{nodes, nodes_if}

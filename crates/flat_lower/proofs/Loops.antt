@@ -9,7 +9,7 @@ use Rattle.c_meaning_spec.specs.declared.signal.Signal.{Signal}
 use Rattle.c_meaning_spec.specs.declared.signal.Signal.TheVariants.{Nothing, Value, Breaks, Continues}
 use Rattle.c_meaning_spec.specs.declared.signal.Signal.TheVariants.{Returns}
 use Rattle.c_meaning_spec.specs.declared.signal.Ending.TheVariants.{More, Undefined, Deep}
-use Rattle.c_meaning_spec.specs.declared.signal.Halt.TheVariants.{Ends, Exits}
+use Rattle.c_meaning_spec.specs.declared.signal.Halt.TheVariants.{NoStep, TooDeep, Faults, Exits}
 use Rattle.c_meaning_spec.specs.State.{Result, Go, Over, want}
 use Rattle.c_meaning_spec.specs.inside.State.{then}
 use Rattle.c_meaning_spec.specs.State as eval
@@ -23,7 +23,7 @@ use Rattle.c_meaning_spec.proofs.Induction.{meaning-falls}
 use Rattle.ir_forms.specs.declared.flat.Arg.TheVariants.{Var}
 use Rattle.ir_forms.specs.inside.FlatCode.{Code, Nop, only}
 use Rattle.ir_forms.specs.inside.FlatCode as flat
-use Rattle.ir_forms.specs.inside.FlatSteps.{State, Broke, Gave, TooDeep, settle, counted}
+use Rattle.ir_forms.specs.inside.FlatSteps.{State, Broke, Gave, TooDeep as Sinks, settle, counted}
 use Rattle.ir_forms.specs.inside.FlatRuns.{checked}
 use Rattle.ir_forms.proofs.Leads.{Run, Leads}
 use Rattle.ir_forms.proofs.Steps.{nop_leads}
@@ -162,7 +162,7 @@ module _ (P : TypedProgram) (most : ℕ) where
       leads = turn_leads checked (functions P most) (base P most) S.env a b f h.t (Gave w h.to)
           (Gave w h.to) (λ k p next. refl) h.leads;
     }
-    loop_follows x a b f up down top low (Over (Ends More) s1) test post body h hu hl go = record {
+    loop_follows x a b f up down top low (Over NoStep s1) test post body h hu hl go = record {
       t = suc h.t;
       r = h.r;
       upper = omega (arith, h.upper);
@@ -170,12 +170,12 @@ module _ (P : TypedProgram) (most : ℕ) where
       stops = turn_stops checked (functions P most)
           (base P most) S.env a b f h.t s1.output h.r h.stops;
     }
-    loop_follows x a b f up down top low (Over (Ends Undefined) s1) test post body h hu hl go = tt
-    loop_follows x a b f up down top low (Over (Ends Deep) s1) test post body h hu hl go = record {
+    loop_follows x a b f up down top low (Over (Faults c) s1) test post body h hu hl go = tt
+    loop_follows x a b f up down top low (Over TooDeep s1) test post body h hu hl go = record {
       t = suc h.t;
       upper = omega (arith, h.upper);
       leads = turn_leads checked (functions P most) (base P most) S.env a b f h.t
-          (λ k. TooDeep s1.output) (λ k. TooDeep s1.output) (λ k p next. refl) h.leads;
+          (λ k. Sinks s1.output) (λ k. Sinks s1.output) (λ k p next. refl) h.leads;
     }
     loop_follows x a b f up down top low (Over (Exits w) s1) test post body h hu hl go = record {
       t = suc h.t;
@@ -203,7 +203,7 @@ module _ (P : TypedProgram) (most : ℕ) where
         moved_in x most (EndedIn x S) (post_of a b f) (loop_of a b h.to) h.t top low (next v s1)
         (post_moves checked (functions P most) (base P most) S.env a b f h.to h.t l)
         (omega (arith, h.upper)) k.1
-    post_follows x Q a b f up down top low (Over (Ends More) s1) next h hu hl go = record {
+    post_follows x Q a b f up down top low (Over NoStep s1) next h hu hl go = record {
       t = h.t;
       r = h.r;
       upper = omega (arith, h.upper);
@@ -211,12 +211,12 @@ module _ (P : TypedProgram) (most : ℕ) where
       stops = post_stops checked (functions P most)
           (base P most) S.env a b f h.t s1.output h.r h.stops;
     }
-    post_follows x Q a b f up down top low (Over (Ends Undefined) s1) next h hu hl go = tt
-    post_follows x Q a b f up down top low (Over (Ends Deep) s1) next h hu hl go = record {
+    post_follows x Q a b f up down top low (Over (Faults c) s1) next h hu hl go = tt
+    post_follows x Q a b f up down top low (Over TooDeep s1) next h hu hl go = record {
       t = h.t;
       upper = omega (arith, h.upper);
       leads = post_leads checked (functions P most) (base P most) S.env a b f h.t
-          (λ k. TooDeep s1.output) (λ k. TooDeep s1.output) (λ k next. refl) h.leads;
+          (λ k. Sinks s1.output) (λ k. Sinks s1.output) (λ k next. refl) h.leads;
     }
     post_follows x Q a b f up down top low (Over (Exits w) s1) next h hu hl go = record {
       t = h.t;

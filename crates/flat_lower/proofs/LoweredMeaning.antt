@@ -5,18 +5,19 @@ use Rattle.std.proofs.Common.{sym, ap, ap₂, ◌∙◌, subst, mul-suc, mul-add
 use Rattle.std.specs.Prelude.{slice_get, nat_eq, nat_le, nat_lt}
 use Rattle.std.proofs.lemmas.Bool.Decides.{nat_tests}
 use Rattle.c_tree.specs.declared.Kind.{Kind}
-use Rattle.c_tree.specs.declared.Kind.TheVariants.{Int}
+use Rattle.c_tree.specs.declared.Kind.TheVariants.{Int, Long}
 use Rattle.c_tree.specs.declared.Callee.TheVariants as callee
 use Rattle.c_tree.specs.declared.Slot.{Slot}
 use Rattle.c_tree.specs.declared.TypedFunc.{TypedFunc}
 use Rattle.c_tree.specs.declared.TypedProgram.{TypedProgram}
 use Rattle.c_constant.specs.Kinds.{number, converted}
+use Rattle.c_meaning_spec.specs.declared.fault.Fault.TheVariants.{IllFormed}
 use Rattle.c_meaning_spec.specs.declared.signal.Signal.{Signal}
 use Rattle.c_meaning_spec.specs.declared.signal.Signal.TheVariants.{Nothing, Value, Breaks, Continues}
 use Rattle.c_meaning_spec.specs.declared.signal.Signal.TheVariants.{Returns}
 use Rattle.c_meaning_spec.specs.declared.signal.Ending.{Ending}
 use Rattle.c_meaning_spec.specs.declared.signal.Ending.TheVariants.{More, Undefined, Deep}
-use Rattle.c_meaning_spec.specs.declared.signal.Halt.TheVariants.{Ends, Exits}
+use Rattle.c_meaning_spec.specs.declared.signal.Halt.TheVariants.{NoStep, TooDeep, Faults, Exits}
 use Rattle.c_meaning_spec.specs.State.{Result, Go, Over}
 use Rattle.c_meaning_spec.specs.inside.State.{then}
 use Rattle.c_meaning_spec.specs.State as eval
@@ -28,7 +29,7 @@ use Rattle.ir_forms.specs.declared.flat.Arg.TheVariants.{Const}
 use Rattle.ir_forms.specs.inside.FlatCode.{Code, Then, only, Function, Program}
 use Rattle.ir_forms.specs.inside.FlatCode as flat
 use Rattle.ir_forms.specs.inside.Frames.{frame_limit, frame_of, arrays_at}
-use Rattle.ir_forms.specs.inside.FlatSteps.{State, Env, Res, Gave, TooDeep, Unfinished, settle}
+use Rattle.ir_forms.specs.inside.FlatSteps.{State, Env, Res, Gave, TooDeep as Sinks, Unfinished, settle}
 use Rattle.ir_forms.specs.inside.FlatRuns.{checked, closed, begun, env_of, flat_run, concluded}
 use Rattle.ir_forms.proofs.Leads.{Run, Leads, Stops, waits_stop}
 use Rattle.ir_forms.proofs.Steps.{first_leads, first_stops, both_lead}
@@ -71,13 +72,13 @@ pub record Quitted (most n : ℕ) (run : Run) (w : ℕ) (s : eval.State) : Type 
   pub upper : t + 8 * s.stock ≤ 8 * n
   pub lower : n ≤ s.stock + most * (to.rounds + 1)
   pub output : to.output ≡ s.output
-  pub fits : IsWord Int w
+  pub fits : IsWord Long w
   pub leads : Leads run t (λ k. quits w to k)
 
 pub record Dived (n : ℕ) (run : Run) (out : List ℕ) : Type 0 where
   pub t : ℕ
   pub upper : t ≤ 8 * n
-  pub leads : Leads run t (λ k. TooDeep out)
+  pub leads : Leads run t (λ k. Sinks out)
 
 pub record Halted (most n : ℕ) (run : Run) (out : List ℕ) : Type 0 where
   pub t : ℕ
@@ -92,10 +93,14 @@ MainEnds most n run (Go (Value w) s) = Gives most n run w s
 MainEnds most n run (Go Breaks s) = ⊥
 MainEnds most n run (Go Continues s) = ⊥
 MainEnds most n run (Go (Returns w) s) = ⊥
-MainEnds most n run (Over (Ends More) s) = Halted most n run s.output
-MainEnds most n run (Over (Ends Undefined) s) = Unit {0}
-MainEnds most n run (Over (Ends Deep) s) = Dived n run s.output
+MainEnds most n run (Over NoStep s) = Halted most n run s.output
+MainEnds most n run (Over (Faults c) s) = Unit {0}
+MainEnds most n run (Over TooDeep s) = Dived n run s.output
 MainEnds most n run (Over (Exits w) s) = Quitted most n run w s
+
+-- the word of an int is that of the same number as a long
+as_long : (w : ℕ) → IsWord Int w → IsWord Long w
+as_long w h = record { below = h.below; narrow = omega arith }
 
 more_rounds : (most r : ℕ) → most * (r + 1) ≡ most + most * r
 more_rounds most r = let e : r + 1 ≡ suc r = omega arith in ap (λ n. most * n) e ∙ mul-suc most r ∙ omega arith
@@ -187,7 +192,7 @@ module _ (P : TypedProgram) (most : ℕ) (sound : FitsSource (source_of P)) (lar
           leads = closed_leads P most 0 P.main f found [] g0 room h.t (Gave (Some w) h.to)
               (Gave (Some w) (closed (arrays_at (base P most) F 0) F.arrays h.to)) (λ k. refl) end;
         }
-    comes_out (Over (Ends More) s) h =
+    comes_out (Over NoStep s) h =
         let m = more_rounds most h.r in
         let z = size in
         record {
@@ -199,14 +204,14 @@ module _ (P : TypedProgram) (most : ℕ) (sound : FitsSource (source_of P)) (lar
               (first_stops checked (functions P most) (base P most) env B
               (end_code (nat_eq P.main P.main)) first h.t s.output h.r h.stops);
         }
-    comes_out (Over (Ends Undefined) s) h = tt
-    comes_out (Over (Ends Deep) s) h = record {
+    comes_out (Over (Faults c) s) h = tt
+    comes_out (Over TooDeep s) h = record {
       t = h.t;
       upper = omega (arith, h.upper);
-      leads = closed_leads P most 0 P.main f found [] g0 room h.t (λ k. TooDeep s.output)
-          (λ k. TooDeep s.output) (λ k. refl)
+      leads = closed_leads P most 0 P.main f found [] g0 room h.t (λ k. Sinks s.output)
+          (λ k. Sinks s.output) (λ k. refl)
           (first_leads checked (functions P most) (base P most) env B
-          (end_code (nat_eq P.main P.main)) first h.t (λ k. TooDeep s.output)
+          (end_code (nat_eq P.main P.main)) first h.t (λ k. Sinks s.output)
           (λ k next. refl) h.leads);
     }
     comes_out (Over (Exits w) s) h =
@@ -277,7 +282,7 @@ module _ (P : TypedProgram) (most : ℕ) (sound : FitsSource (source_of P)) (lar
       (enter (meaning P) true o [] (evaluation.start P input n))) (sym found)
       (subst (λ p. MainEnds most (suc n) main_run
       (cond (nat_eq 0 p) (entered_if (meaning P) true (nat_le (0 + frame f) 1048576) f []
-      (evaluation.start P input n)) (Over (Ends Undefined) (evaluation.start P input n)))) (sym params)
+      (evaluation.start P input n)) (Over (Faults IllFormed) (evaluation.start P input n)))) (sym params)
       (main_enters n (nat_le (0 + frame f) 1048576) refl)))
 
   -- A RUN BY ITS TURNS
@@ -301,7 +306,7 @@ module _ (P : TypedProgram) (most : ℕ) (sound : FitsSource (source_of P)) (lar
     to = h.to;
     few = omega (arith, h.upper);
     many = omega (arith, h.lower);
-    fits = h.fits;
+    fits = as_long w h.fits;
     is = ap (number Int) (sym (converted_is Int w h.fits));
     output = h.output;
     ends = turns_lead h.t (Gave (Some w) h.to) h.leads;
@@ -309,18 +314,18 @@ module _ (P : TypedProgram) (most : ℕ) (sound : FitsSource (source_of P)) (lar
   keeps n (Go Breaks s) h = absurd h
   keeps n (Go Continues s) h = absurd h
   keeps n (Go (Returns w) s) h = absurd h
-  keeps n (Over (Ends More) s) h = record {
+  keeps n (Over NoStep s) h = record {
     turns = h.t;
     rounds = h.r;
     few = h.upper;
     many = h.lower;
     is = turns_are h.t ∙ ap concluded (h.stops.by h.t (suc h.t) (omega arith) (omega arith));
   }
-  keeps n (Over (Ends Undefined) s) h = tt
-  keeps n (Over (Ends Deep) s) h = record {
+  keeps n (Over (Faults c) s) h = tt
+  keeps n (Over TooDeep s) h = record {
     turns = h.t;
     few = h.upper;
-    ends = turns_lead h.t (λ k. TooDeep s.output) h.leads;
+    ends = turns_lead h.t (λ k. Sinks s.output) h.leads;
   }
   keeps n (Over (Exits w) s) h = record {
     turns = h.t;
@@ -329,7 +334,7 @@ module _ (P : TypedProgram) (most : ℕ) (sound : FitsSource (source_of P)) (lar
     few = omega (arith, h.upper);
     many = omega (arith, h.lower);
     fits = h.fits;
-    is = ap (number Int) (sym (converted_is Int w h.fits));
+    is = refl;
     output = h.output;
     ends = turns_lead h.t (λ k. quits w h.to k) h.leads;
   }

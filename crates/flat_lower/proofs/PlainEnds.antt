@@ -8,6 +8,7 @@ use Rattle.c_tree.specs.declared.Slot.TheVariants as slot
 use Rattle.c_tree.specs.declared.TypedExpr.{TypedExpr}
 use Rattle.c_tree.specs.declared.TypedNode.TheOpen as node
 use Rattle.c_tree.specs.declared.TypedProgram.{TypedProgram}
+use Rattle.c_meaning_spec.specs.State.{missing}
 use Rattle.c_meaning_spec.specs.declared.signal.Signal.{Signal}
 use Rattle.c_meaning_spec.specs.declared.signal.Signal.TheVariants.{Value}
 use Rattle.c_meaning_spec.specs.declared.signal.Object.TheVariants.{InScalar}
@@ -126,7 +127,7 @@ module _ (P : TypedProgram) (most : ℕ) (S : Scene) (y : IsScene P S) where
     where
       go : (o : Option ℕ) → held (cell s (InScalar j)) ≡ o
           → EndsHere P most S y around.Loop (only (Let i op.Mov (Var j) (Const 0))) f top low
-          (then (then (given o s) (assigned (InScalar i))) dropped)
+          (then (then (given o (missing s (InScalar j)) s) (assigned (InScalar i))) dropped)
       go None e = tt
       go (Some w) e =
           let z = r.scalars j w (slot.Scalar k) (same_scalar q k j eq t)

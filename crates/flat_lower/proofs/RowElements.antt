@@ -11,13 +11,16 @@ use Rattle.c_tree.specs.declared.Place.{Place}
 use Rattle.c_tree.specs.declared.Place.TheVariants.{Global, Scalar, Array}
 use Rattle.c_tree.specs.declared.TypedExpr.{TypedExpr}
 use Rattle.c_tree.specs.declared.TypedProgram.{TypedProgram}
+use Rattle.c_meaning_spec.specs.declared.fault.Fault.TheVariants.{IllFormed}
+use Rattle.c_meaning_spec.specs.State.{missing}
 use Rattle.c_meaning_spec.specs.declared.signal.Signal.{Signal}
 use Rattle.c_meaning_spec.specs.declared.signal.Object.TheVariants.{InArray}
 use Rattle.c_meaning_spec.specs.declared.signal.Object as meant
 use Rattle.c_meaning_spec.specs.State.{Result, want, with_some, cell, held, row_in}
 use Rattle.c_meaning_spec.specs.inside.State.{then}
 use Rattle.c_meaning_spec.specs.State as eval
-use Rattle.c_meaning_spec.specs.Task.{Of, array_of, place_in, row_size, row_element_in, row_element_of}
+use Rattle.c_meaning_spec.specs.Task.{Of, array_of, place_in, row_element_in, row_element_of}
+use Rattle.c_meaning_spec.specs.State.{row_size}
 use Rattle.c_meaning_spec.specs.Eval.{meaning}
 use Rattle.c_constant.specs.Kinds.{bytes, IsWord}
 use Rattle.trips_isa.specs.declared.op.Op.TheVariants as op
@@ -171,19 +174,22 @@ module _ (P : TypedProgram) (most : ℕ) (S : Scene) (y : IsScene P S) where
       (f : State) (next : meant.Object → ℕ → Result) → Related S s f
       → FitsWhole (scope P S) k (Some q) p
       → ((n m : ℕ) → array_of p s ≡ Some n → joined q i j ≡ m
-      → Follows most Q R top low (with_some (held (cell s (InArray n m))) s (next (InArray n m))))
-      → Follows most Q R top low (with_some (row_element_of p i j s) s
-      (λ x. with_some (held (cell s x)) s (next x)))
+      → Follows most Q R top low
+      (with_some (held (cell s (InArray n m))) (missing s (InArray n m)) s (next (InArray n m))))
+      → Follows most Q R top low (with_some (row_element_of p i j s) IllFormed s
+      (λ x. with_some (held (cell s x)) (missing s x) s (next x)))
   row_reads Q R top low p k q i j s f next r t h =
-      needed most Q R top low (row_element_of p i j s) s (λ x. with_some (held (cell s x)) s (next x)) (λ x ex.
+      needed most Q R top low (row_element_of p i j s) _ s
+      (λ x. with_some (held (cell s x)) (missing s x) s (next x)) (λ x ex.
       let e = row_element_is p k q i j s f x r t ex in
       let n = e.number in
       let m = e.index in
-      subst (λ x. Follows most Q R top low (with_some (held (cell s x)) s (next x))) (sym e.is)
-      (needed most Q R top low (held (cell s (InArray n m))) s (next (InArray n m)) (λ v ev.
+      subst (λ x. Follows most Q R top low (with_some (held (cell s x)) (missing s x) s (next x))) (sym e.is)
+      (needed most Q R top low (held (cell s (InArray n m))) _ s (next (InArray n m)) (λ v ev.
       let z = place_is P (functions P most) (base P most) S y p k (Some q) n s f r t e.array in
       let lt = element_within S s f n m (Some v) k z.array (held_is (cell s (InArray n m)) v ev) r in
-      subst (λ o. Follows most Q R top low (with_some o s (next (InArray n m)))) ev
+      subst (λ o. Follows most Q R top low (with_some o (missing s (InArray n m)) s
+      (next (InArray n m)))) ev
       (h n m e.array (e.same z.array lt)))))
 
   -- TWO INDEXES

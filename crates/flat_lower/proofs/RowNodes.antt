@@ -6,6 +6,7 @@ use Rattle.c_tree.specs.declared.Place.{Place}
 use Rattle.c_tree.specs.declared.TypedExpr.{TypedExpr}
 use Rattle.c_tree.specs.declared.TypedProgram.{TypedProgram}
 use Rattle.c_tree.specs.declared.TypedNode.TheOpen as node
+use Rattle.c_meaning_spec.specs.declared.fault.Fault.TheVariants.{IllFormed}
 use Rattle.c_meaning_spec.specs.declared.signal.Signal.TheVariants.{Value}
 use Rattle.c_meaning_spec.specs.State.{Go, spend, with_some, load}
 use Rattle.c_meaning_spec.specs.State as eval
@@ -45,13 +46,13 @@ module _ (P : TypedProgram) (most : ℕ) (S : Scene) (y : IsScene P S) where
       (code P most S y (suc d) e)) b) s f top low (opened (meaning P) P (node.Element p (Some row) e)) r
       (omega arith) (λ n qn rn.
       row_operands P most S y Q p k q row e d b (record s { stock = n }) f top low
-      (λ i j s. with_some (row_element_of p i j s) s (λ x. load x s))
+      (λ i j s. with_some (row_element_of p i j s) IllFormed s (λ x. load x s))
       (depth_fits (scope P S) (suc d) (expr_of e) t.2) (λ e1 s1 le. h e1 s1 (omega arith)) t.0.1 t.1 t.2
       rn (omega arith) (omega arith)
       (λ i j s2 g t1 v ls us ds.
       row_reads P most S y Q (run P most S y b g) (top - t1) low p k q i j s2 g
       (λ x u. Go (Value u) s2) v.keeps.rel t.0.1 (λ n m en same.
       subst (λ o. FollowsHere P most S y d (Some k) f b g (top - t1) low
-      (with_some (element_in o m) s2 (λ x. load x s2))) en
+      (with_some (element_in o m) IllFormed s2 (λ x. load x s2))) en
       (element_end P most S y p (Some q) k d m (top - t1) low f g s2 (Some ULong) ld t.0.1
       (subst (λ w. ValueIs S d (Some ULong) f w s2 g) same v) (omega arith) (omega arith)))))

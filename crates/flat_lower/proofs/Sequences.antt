@@ -6,7 +6,7 @@ use Rattle.c_meaning_spec.specs.declared.signal.Signal.{Signal}
 use Rattle.c_meaning_spec.specs.declared.signal.Signal.TheVariants.{Nothing, Value, Breaks, Continues}
 use Rattle.c_meaning_spec.specs.declared.signal.Signal.TheVariants.{Returns}
 use Rattle.c_meaning_spec.specs.declared.signal.Ending.TheVariants.{More}
-use Rattle.c_meaning_spec.specs.declared.signal.Halt.TheVariants.{Ends}
+use Rattle.c_meaning_spec.specs.declared.signal.Halt.TheVariants.{NoStep}
 use Rattle.c_meaning_spec.specs.State.{Result, Go, Over, spend_of}
 use Rattle.c_meaning_spec.specs.inside.State.{then}
 use Rattle.c_meaning_spec.specs.State as eval
@@ -43,14 +43,14 @@ module _ (P : TypedProgram) where
       go h (Over why s) = refl
 
   -- no step is left for a statement
-  no_step : (st : TypedStmt) (s : eval.State) → s.stock ≡ 0 → meaning P (task.Run st) s ≡ Over (Ends More) s
+  no_step : (st : TypedStmt) (s : eval.State) → s.stock ≡ 0 → meaning P (task.Run st) s ≡ Over NoStep s
   no_step st s e =
       meaning-is P (task.Run st) s
       ∙ ap (λ k. spend_of k s (begun (meaning P) (out-TypedStmt st))) e
 
   -- statements of which one takes a step give More where no step is left
   pub no_steps : (all : List TypedStmt) (s : eval.State) → s.stock ≡ 0 → IsFilled (block_of all)
-      → sequence (meaning P) all s ≡ Over (Ends More) s
+      → sequence (meaning P) all s ≡ Over NoStep s
   no_steps [] s e h = absurd h
   no_steps (st ∷ rest) s e h =
       ap (λ r. then r (λ v s. going_on v s (sequence (meaning P) rest))) (no_step st s e)

@@ -15,6 +15,8 @@ use Rattle.c_tree.specs.declared.TypedProgram.{TypedProgram}
 use Rattle.c_tree.specs.declared.TypedNode.TheOpen as node
 use Rattle.c_constant.specs.Kinds.{converted}
 use Rattle.c_constant.specs.Operation.{operate, operate_one, result_of, unary_result}
+use Rattle.c_meaning_spec.specs.declared.fault.Fault.TheVariants.{IllFormed}
+use Rattle.c_meaning_spec.specs.Word.{unary_fault}
 use Rattle.c_meaning_spec.specs.declared.signal.Signal.{Signal}
 use Rattle.c_meaning_spec.specs.declared.signal.Signal.TheVariants.{Nothing, Value, Breaks, Continues}
 use Rattle.c_meaning_spec.specs.declared.signal.Signal.TheVariants.{Returns}
@@ -133,7 +135,7 @@ module _ (P : TypedProgram) (most : ℕ) (S : Scene) (y : IsScene P S) where
   unfolding apply
   named_scalar i k d top low s f ld t r hu hl =
       needed most (Valued S d (Some k) f) (run P most S y (copied (temp d) i) f) top low
-      (held (cell s (InScalar i))) s (λ w. Go (Value w) s) (λ w e.
+      (held (cell s (InScalar i))) _ s (λ w. Go (Value w) s) (λ w e.
       let x = r.scalars i w (slot.Scalar k) t (held_is (cell s (InScalar i)) w e) in
       value_end P most S y d (Some k) f f (copied (temp d) i) 1 80 w top low s k ld
       (omega arith) refl x.1 (keeps_all S d s f r)
@@ -149,7 +151,7 @@ module _ (P : TypedProgram) (most : ℕ) (S : Scene) (y : IsScene P S) where
   named_global g k d top low s f ld t r hu hl =
       let a = only (Load (temp d) (load_op k) (Const (global_at P.globals g))) in
       needed most (Valued S d (Some k) f) (run P most S y a f) top low
-      (held (cell s (InArray g 0))) s (λ w. Go (Value w) s) (λ w e.
+      (held (cell s (InArray g 0))) _ s (λ w. Go (Value w) s) (λ w e.
       let x = global_loaded g w k s f t e r in
       value_end P most S y d (Some k) f f a 1 80 w top low s k ld (omega arith) refl x.1
       (keeps_all S d s f r)
@@ -195,7 +197,7 @@ module _ (P : TypedProgram) (most : ℕ) (S : Scene) (y : IsScene P S) where
       (h s0 (omega arith)) t.0 rn (omega arith) (omega arith)
       (λ v s1 g tt1 hv ls us ds.
       wanted most (Valued S d k f) (run P most S y b g) (top - tt1) low v s1
-      (λ a. given (unary_of o e.kind a) s1) (λ a ea.
+      (λ a. given (unary_of o e.kind a) (unary_fault o e.kind a) s1) (λ a ea.
       unary_end k (kind_of (expr_of e)) e.kind (kind_is e) a g s1 (top - tt1)
       (value_at S d e.kind f v a s1 g ea hv) t.1 (omega arith) (omega arith))))
     where
@@ -203,7 +205,7 @@ module _ (P : TypedProgram) (most : ℕ) (S : Scene) (y : IsScene P S) where
           → ValueIs S d j1 f a s1 g → FitsKind k (FitsUnary o j) → 3 + 8 * s1.stock ≤ up
           → low ≤ s1.stock + most * g.rounds
           → FollowsHere d k f (with_kind j (λ j. unary_code o j (temp d))) g up low
-          (given (unary_of o j1 a) s1)
+          (given (unary_of o j1 a) (unary_fault o j1 a) s1)
       unary_end None j j1 ej a g s1 up v t hu hl = absurd t
       unary_end (Some k) None j1 ej a g s1 up v t hu hl = absurd t
       unary_end (Some k) (Some j) None ej a g s1 up v t hu hl = absurd (cc ej)
@@ -212,7 +214,7 @@ module _ (P : TypedProgram) (most : ℕ) (S : Scene) (y : IsScene P S) where
           let kinds : j1 ≡ v.kind = cc v.is_kind in
           let fits : IsWord j a = subst (λ k. IsWord k a) (sym (same ∙ kinds)) v.fits in
           needed most (Valued S d (Some k) f) (run P most S y (unary_code o j (temp d)) g) up low
-          (operate_one o j1 a) s1 (λ w. Go (Value w) s1) (λ w ew.
+          (operate_one o j1 a) _ s1 (λ w. Go (Value w) s1) (λ w ew.
           let x = unary_works (functions P most) (base P most) S.env o j g (temp d) a w t.0 v.is fits
           (ap (λ j. operate_one o j a) same ∙ ew) in
           value_end P most S y d (Some k) f g (unary_code o j (temp d)) 3 80 w up low s1 k ld
@@ -295,11 +297,11 @@ module _ (P : TypedProgram) (most : ℕ) (S : Scene) (y : IsScene P S) where
       let a = address_code (context P S) p k (temp d) (temp d) in
       let l = only (Load (temp d) (load_op k) (Var (temp d))) in
       needed most (Valued S d (Some k) f0) (run P most S y (Then a l) g) top low
-      (element_of p w s) s (λ x. load x s) (λ x ex.
+      (element_of p w s) _ s (λ x. load x s) (λ x ex.
       let i = element_is p k w s x ex in
       subst (λ x. FollowsHere d (Some k) f0 (Then a l) g top low (load x s)) (sym i.is)
       (needed most (Valued S d (Some k) f0) (run P most S y (Then a l) g) top low
-      (held (cell s (InArray i.number w))) s (λ u. Go (Value u) s) (λ u eu.
+      (held (cell s (InArray i.number w))) _ s (λ u. Go (Value u) s) (λ u eu.
       let o = (place_is P fs b S y p k q i.number s g v.keeps.rel t i.array).array in
       let pa = address_puts P fs b S y p k q i.number s g v.keeps.rel t i.array o (temp d) (temp d) w (omega arith)
       (λ e. omega arith) (λ e. omega arith) v.is in
@@ -328,6 +330,6 @@ module _ (P : TypedProgram) (most : ℕ) (S : Scene) (y : IsScene P S) where
       (h s0 (omega arith)) t.1 rn (omega arith) (omega arith)
       (λ v s1 g tt1 hv ls us ds.
       wanted most (Valued S d (Some k) f) (run P most S y b g) (top - tt1) low v s1
-      (λ w. eval.with_some (element_of p w s1) s1 (λ x. load x s1)) (λ w ew.
+      (λ w. eval.with_some (element_of p w s1) IllFormed s1 (λ x. load x s1)) (λ w ew.
       element_end p None k d w (top - tt1) low f g s1 e.kind ld t.0
       (value_at S d e.kind f v w s1 g ew hv) (omega arith) (omega arith))))

@@ -7,7 +7,7 @@ use Rattle.c_tree.specs.declared.TypedStmt.{TypedStmt}
 use Rattle.c_tree.specs.declared.TypedSection.{TypedSection}
 use Rattle.c_tree.specs.declared.TypedProgram.{TypedProgram}
 use Rattle.c_meaning_spec.specs.declared.signal.Ending.TheVariants.{More}
-use Rattle.c_meaning_spec.specs.declared.signal.Halt.TheVariants.{Ends}
+use Rattle.c_meaning_spec.specs.declared.signal.Halt.TheVariants.{NoStep}
 use Rattle.c_meaning_spec.specs.State.{Result, Over, spend_of}
 use Rattle.c_meaning_spec.specs.State as eval
 use Rattle.c_meaning_spec.specs.Statement.{Target, bodies, leading, targets, run_from, compared}
@@ -75,7 +75,7 @@ module _ (P : TypedProgram) where
   -- no step is left for a label
   pub record Short (s : eval.State) (c : ℕ) (r : Result) : Type 0 where
     pub at : eval.State
-    pub is : r ≡ Over (Ends More) at
+    pub is : r ≡ Over NoStep at
     pub output : at.output ≡ s.output
     pub all : s.stock ≤ c
 

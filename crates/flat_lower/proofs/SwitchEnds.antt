@@ -5,7 +5,7 @@ use Rattle.c_tree.specs.declared.TypedProgram.{TypedProgram}
 use Rattle.c_meaning_spec.specs.declared.signal.Signal.TheVariants.{Nothing, Value, Breaks, Continues}
 use Rattle.c_meaning_spec.specs.declared.signal.Signal.TheVariants.{Returns}
 use Rattle.c_meaning_spec.specs.declared.signal.Ending.TheVariants.{More, Undefined, Deep}
-use Rattle.c_meaning_spec.specs.declared.signal.Halt.TheVariants.{Ends, Exits}
+use Rattle.c_meaning_spec.specs.declared.signal.Halt.TheVariants.{NoStep, TooDeep, Faults, Exits}
 use Rattle.c_meaning_spec.specs.State.{Result, Go, Over}
 use Rattle.c_meaning_spec.specs.inside.State.{then}
 use Rattle.c_meaning_spec.specs.State as eval
@@ -197,7 +197,7 @@ module _ (P : TypedProgram) (most : ℕ) (S : Scene) (y : IsScene P S) where
             h.t (Gave w h.to) m (first_leads checked (functions P most) (base P most) S.env Secs
             (break_code (in_switch a)) g h.t (Gave w h.to) (λ k next. refl) h.leads));
       }
-  runs_out a all Secs f g t0 up down top low (Over (Ends More) s) m h hu hl =
+  runs_out a all Secs f g t0 up down top low (Over NoStep s) m h hu hl =
       let A = Then all (break_code (in_switch a)) in
       record {
         t = suc (t0 + h.t);
@@ -209,8 +209,8 @@ module _ (P : TypedProgram) (most : ℕ) (S : Scene) (y : IsScene P S) where
             h.t s.output h.r m (first_stops checked (functions P most) (base P most) S.env Secs
             (break_code (in_switch a)) g h.t s.output h.r h.stops));
       }
-  runs_out a all Secs f g t0 up down top low (Over (Ends Undefined) s) m h hu hl = tt
-  runs_out a all Secs f g t0 up down top low (Over (Ends Deep) s) m h hu hl =
+  runs_out a all Secs f g t0 up down top low (Over (Faults c) s) m h hu hl = tt
+  runs_out a all Secs f g t0 up down top low (Over TooDeep s) m h hu hl =
       let A = Then all (break_code (in_switch a)) in
       record {
         t = suc (t0 + h.t);

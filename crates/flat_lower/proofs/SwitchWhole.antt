@@ -14,7 +14,8 @@ use Rattle.ir_forms.proofs.Leads.{Stops, waits_stop}
 use Rattle.ir_forms.proofs.Steps.{code_waits}
 use Rattle.flat_lower.specs.declared.around.Around.{Around}
 use Rattle.flat_lower.specs.inside.Operations.{temp}
-use Rattle.flat_lower.specs.inside.Switches.{in_switch, break_code, behind_code, found_code, compared_code}
+use Rattle.flat_lower.specs.inside.Labels.{found_code, compared_code}
+use Rattle.flat_lower.specs.inside.Switches.{in_switch, break_code, behind_code}
 use Rattle.flat_lower.specs.inside.Switches.{default_at, section_count, searched_code, dense_from, dense_code}
 use Rattle.flat_lower.specs.inside.Switches.{chosen_by, switched_code}
 use Rattle.flat_lower.specs.inside.Emitted.{sections_in}
@@ -100,7 +101,7 @@ module _ (P : TypedProgram) (most : ℕ) (S : Scene) (y : IsScene P S) where
       few : cases_in (sections_in all) ≤ size_of_sections (sections_in all)
       few = cases_small (sections_in all)
 
-      by_choice : Choice P most S y all (compare_code all) (counted g) s 0 (cases_in (sections_in all))
+      by_choice : Choice P most S y all (compare_code all) (counted g) s 2 (cases_in (sections_in all))
           (compared (meaning P) w (targets all) [] s)
           → EndsHere P most S y a (Then (only (Loop (compare_code all) Nop)) (run_code a all)) g top low
           (compared (meaning P) w (targets all) [] s)

@@ -4,6 +4,7 @@ pub mod Fits
 pub mod FitsSwitches
 pub mod Keeps
 pub mod Kinds
+pub mod Labels
 pub mod Narrowing
 pub mod Objects
 pub mod Operations

@@ -13,6 +13,8 @@ mod emit;
 mod expressions;
 mod functions;
 mod globals;
+mod held;
+mod labels;
 mod looping;
 mod lowering;
 mod names;

@@ -7,13 +7,14 @@ ghost use Rattle.ir_forms.specs.inside.FlatViews.{code_of};
 ghost use Rattle.flat_lower.specs.inside.Operations as operations;
 ghost use Rattle.flat_lower.specs.inside.Operations.{set_word};
 ghost use Rattle.flat_lower.specs.inside.Switches as switches;
-ghost use Rattle.flat_lower.specs.inside.Switches.{break_code, continue_code, behind_code, found_code, label_code};
-ghost use Rattle.flat_lower.specs.inside.Switches.{labels_code, compared_code, searched_code, dense_code};
+ghost use Rattle.flat_lower.specs.inside.Labels.{found_code, compared_code};
+ghost use Rattle.flat_lower.specs.inside.Switches.{break_code, continue_code, behind_code, searched_code, dense_code};
 ghost use Rattle.flat_lower.specs.inside.Switches.{chosen_code, section_code, switched_code, section_count};
 ghost use Rattle.flat_lower.specs.inside.Emitted.{Adds, sections_in};
 
 use crate::around::Around;
 use crate::emit::{put_break, put_continue, put_if, put_let, put_loop, scratch, temp};
+use crate::labels::put_compared;
 use crate::operations::put_word;
 use base::{Items, Memory};
 use c_tree::TypedSection;
@@ -33,8 +34,8 @@ pub fn in_switch(around: Around) -> Around
     }
 }
 
-// A word in temporary 0, and a break.
-fn put_left(code: &mut Items<FlatStmt>, w: u64) -> Result<(), Memory>
+/// A word in temporary 0, and a break.
+pub fn put_left(code: &mut Items<FlatStmt>, w: u64) -> Result<(), Memory>
     ensures { OnOk result (Adds code.old code.new (found_code w)) }
 {
     put_word(code, temp(0), w)?;
@@ -96,72 +97,6 @@ fn put_behind(code: &mut Items<FlatStmt>, alloc: Global, around: Around) -> Resu
         Around::Switch => Ok(()),
         Around::SwitchInLoop => put_going_on(code, alloc, Around::SwitchInLoop),
     }
-}
-
-// So many sections are skipped, on its own.
-fn found(alloc: Global, n: u64) -> Result<Items<FlatStmt>, Memory>
-    ensures { IfOk result (λ code. code_of code ≡ found_code n) }
-{
-    let mut code = Items::new(alloc);
-    put_left(&mut code, n)?;
-    Ok(code)
-}
-
-// A label of a case.
-fn put_case(code: &mut Items<FlatStmt>, alloc: Global, n: u64, w: u64) -> Result<(), Memory>
-    ensures { OnOk result (Adds code.old code.new (label_code n (Some w))) }
-{
-    put_let(code, scratch(0), Op::Teq, Arg::Var(temp(0)), Arg::Const(w))?;
-    let yes = found(alloc, n)?;
-    put_if(code, Arg::Var(scratch(0)), yes, Items::new(alloc))?;
-    Ok(())
-}
-
-/// A label of the section behind n others.
-#[tactic(auto, using(crate::proofs::Emits::nothing))]
-fn put_label(
-    code: &mut Items<FlatStmt>,
-    alloc: Global,
-    n: u64,
-    label: Option<u64>,
-) -> Result<(), Memory>
-    ensures { OnOk result (Adds code.old code.new (label_code n label)) }
-{
-    match label {
-        None => Ok(()),
-        Some(w) => put_case(code, alloc, n, w),
-    }
-}
-
-/// The labels of the section behind n others.
-fn put_labels(
-    code: &mut Items<FlatStmt>,
-    alloc: Global,
-    n: u64,
-    labels: &[Option<u64>],
-) -> Result<(), Memory>
-    ensures { OnOk result (Adds code.old code.new (labels_code n labels.now)) }
-{
-    for label in labels {
-        put_label(code, alloc, n, *label)?;
-    }
-    Ok(())
-}
-
-/// The labels of all sections.
-fn put_compared(
-    code: &mut Items<FlatStmt>,
-    alloc: Global,
-    sections: &[TypedSection],
-) -> Result<(), Memory>
-    ensures { OnOk result (Adds code.old code.new (compared_code 0 (sections_in sections.now))) }
-{
-    let mut n: u64 = 0;
-    for section in sections {
-        put_labels(code, alloc, n, section.labels.as_slice())?;
-        n += 1;
-    }
-    Ok(())
 }
 
 /// Whether `default` is among the labels of a section.

@@ -23,7 +23,7 @@ pub struct Both {
 #[derive(Drop)]
 pub struct Evaluated {
     pub output: Vec<u8>,
-    pub result: i32,
+    pub result: i64,
     pub steps: u64,
 }
 
@@ -56,7 +56,7 @@ impl Both {
     ) -> Result<Evaluated, Cut> {
         match evaluate(alloc, &self.typed, input, steps).expect(rt, "memory") {
             Outcome::More => Err(Cut::More),
-            Outcome::Undefined => Err(Cut::Undefined),
+            Outcome::Undefined { .. } => Err(Cut::Undefined),
             Outcome::Deep => Err(Cut::Deep),
             Outcome::Done {
                 output,
@@ -112,7 +112,7 @@ impl Both {
             .expect(rt, name);
         let turns = evaluated.steps.saturating_mul(8);
         let ran = self.ran(rt, alloc, input, turns);
-        let word = (evaluated.result as i64).cast_unsigned();
+        let word = evaluated.result.cast_unsigned();
         assert_eq!(rt; ran.stop, Stop::Done(Some(word)), "{name}: the flat run");
         assert_eq!(rt;
             ran.output.as_slice(),

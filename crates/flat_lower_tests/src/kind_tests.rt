@@ -128,7 +128,7 @@ fn assert_kinds(
         let text = with_kind(alloc, text, *kind)?;
         let both = Both::of_text(rt, alloc, *kind, text.as_slice());
         let done = both.assert_same(rt, alloc, *kind, b"");
-        assert_eq!(rt; done.result, *result_wanted, "{kind}: {text:?}");
+        assert_eq!(rt; done.result, *result_wanted as i64, "{kind}: {text:?}");
     }
     Ok(())
 }

@@ -8,6 +8,6 @@ fn switches_go_where_c_says(rt: HostRuntime) {
     for (name, text, result) in SWITCHES {
         let both = Both::of_text(&rt, alloc, name, text.as_bytes());
         let done = both.assert_same(&rt, alloc, name, b"");
-        assert_eq!(rt; done.result, *result, "{name}");
+        assert_eq!(rt; done.result, *result as i64, "{name}");
     }
 }

@@ -94,4 +94,18 @@ pub const SWITCHES: &[(&str, &str, i32)] = &[
          return s * 10 + x; }",
         75,
     ),
+    (
+        "sections of one to seven labels",
+        "int f(int x) { switch (x) { case 5: case 2: case 9: case 4: case 7: case 1: case 30: return 1; case 8: case \
+         12: return 2; case 20: return 3; case 21: case 22: case 23: return 4; } return 5; } int main(void) { int i; \
+         int s = 0; for (i = 0; i < 33; i++) s = (s * 7 + f(i)) % 10007; return s; }",
+        6812,
+    ),
+    (
+        "default among the labels of a section",
+        "int f(int x) { int s = 0; switch (x) { case 6: s = 1; case 3: case 9: default: case 15: case 0: s += 2; \
+         break; case 11: case 4: s += 5; } return s; } int main(void) { int i; int s = 0; for (i = -1; i < 18; i++) s \
+         = (s * 11 + f(i)) % 10007; return s; }",
+        8663,
+    ),
 ];

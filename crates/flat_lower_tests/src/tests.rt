@@ -263,7 +263,7 @@ fn assert_rows(rt: &impl Abort, alloc: Global, rows: &[Row]) {
             "{}: the output",
             row.name
         );
-        assert_eq!(rt; done.result, row.result, "{}: the result", row.name);
+        assert_eq!(rt; done.result, row.result as i64, "{}: the result", row.name);
     }
 }
 

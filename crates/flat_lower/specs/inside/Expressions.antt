@@ -179,7 +179,7 @@ abbrev pub result_var : Option Kind → ℕ → Option ℕ
 result_var None d = None
 result_var (Some k) d = Some (temp d)
 
--- `putchar` gives the byte that it puts out; `exit` ends the whole run
+-- `putchar` gives the byte that it puts out; `exit` and `abort` end the whole run
 abbrev pub call_code : Callee → Option Kind → ℕ → List Arg → Code
 call_code (Func f) k d args = only (flat.Call f args (result_var k d) stays)
 call_code GetChar k d args = only (Get (temp d))

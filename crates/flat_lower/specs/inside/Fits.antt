@@ -3,7 +3,7 @@ use Rattle.std.specs.Prelude.{◌≡◌, ℕ, zero, suc, ◌+◌, ◌^◌, ◌<�
 use Rattle.std.specs.Prelude.{All, Option, Some, None, slice_get}
 use Rattle.c_tree.specs.Limits.{most_need, most_scalars}
 use Rattle.c_tree.specs.declared.Kind.{Kind}
-use Rattle.c_tree.specs.declared.Kind.TheVariants.{Int}
+use Rattle.c_tree.specs.declared.Kind.TheVariants.{Int, Long}
 use Rattle.c_tree.specs.declared.UnaryOp.{UnaryOp}
 use Rattle.c_tree.specs.declared.UnaryOp.TheVariants.{Not}
 use Rattle.c_tree.specs.declared.BinaryOp.{BinaryOp}
@@ -137,14 +137,14 @@ FitsRowElement c None p = ⊥
 FitsRowElement c (Some k) p = (q : ℕ) × FitsWhole c k (Some q) p
 
 -- a call, where `args` says that the arguments fit some parameters, and `one` that they are one
--- value; `exit` has one int as its parameter, and gives no value
+-- value; what ends the run has one long as its parameter, and gives no value
 abbrev pub FitsCall : Scope → Option Kind → Callee → (List Slot → Type 0) → Type 0 → Exprs → Type 0
 FitsCall c k (callee.Func f) args one es =
     (g : Func) × (slice_get c.functions f ≡ Some g) × (k ≡ g.result)
     × args (take g.params g.scalars)
 FitsCall c k callee.GetChar args one es = (k ≡ Some Int) × (es ≡ NoExprs)
 FitsCall c k callee.PutChar args one es = (k ≡ Some Int) × one
-FitsCall c k callee.Exit args one es = (k ≡ None) × args (slot.Scalar Int ∷ [])
+FitsCall c k callee.Exit args one es = (k ≡ None) × args (slot.Scalar Long ∷ [])
 
 -- an argument for a parameter, where `fits` says that it is an expression
 abbrev pub FitsArg : Scope → ℕ → Slot → Type 0 → Expr → Type 0

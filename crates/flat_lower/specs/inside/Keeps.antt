@@ -1,7 +1,7 @@
 -- Beside what is believed of Keeps.antt: what a flat program does where the evaluation gave an outcome within n
 -- steps.
 use Rattle.std.specs.Prelude.{◌≡◌, ℕ, ℤ, ◌+◌, ◌*◌, ◌≤◌, List, Some}
-use Rattle.c_tree.specs.declared.Kind.TheVariants.{Int}
+use Rattle.c_tree.specs.declared.Kind.TheVariants.{Long}
 use Rattle.c_tree.specs.declared.TypedProgram.{TypedProgram}
 use Rattle.c_constant.specs.Kinds.{number}
 use Rattle.c_meaning_spec.specs.declared.signal.Ending.TheVariants.{More, Undefined, Deep}
@@ -19,10 +19,10 @@ use Rattle.c_meaning_spec.specs.Laws.{IsInput}
 -- A run here is one by the turns that it has. A turn is paid by the steps, eight a step; and the
 -- steps are paid by the rounds, with as many a round as one pass through a function can cost.
 
--- the run ends as main returned
+-- the run ends with the word of a result: an int that main returned, or a long by which a call ended the run
 pub record Finishes (run : ℕ → Res) (most steps : ℕ) (out : List ℕ) (result : ℤ) : Type 0 where
   pub turns : ℕ
-  -- what main returns
+  -- the result's word
   pub word : ℕ
   -- the state at the end
   pub to : State
@@ -30,8 +30,8 @@ pub record Finishes (run : ℕ → Res) (most steps : ℕ) (out : List ℕ) (res
   pub few : turns ≤ 8 * steps
   -- each round goes with at most `most` steps
   pub many : steps ≤ most * (to.rounds + 1)
-  pub fits : IsWord Int word
-  pub is : number Int word ≡ result
+  pub fits : IsWord Long word
+  pub is : number Long word ≡ result
   pub output : to.output ≡ out
   -- with more turns too, which are left
   pub ends : (k : ℕ) → run (turns + k) ≡ Gave (Some word) to k

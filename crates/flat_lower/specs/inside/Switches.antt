@@ -14,6 +14,7 @@ use Rattle.flat_lower.specs.inside.Tree.{Sections, NoSections, WithSection}
 use Rattle.flat_lower.specs.inside.Operations.{temp, scratch, set_word}
 use Rattle.flat_lower.specs.declared.around.Around.{Around}
 use Rattle.flat_lower.specs.declared.around.Around.TheVariants as around
+use Rattle.flat_lower.specs.inside.Labels.{found_code, compared_code}
 
 -- what stands around the sections of a switch, by what stands around it
 abbrev pub in_switch : Around → Around
@@ -40,27 +41,6 @@ behind_code around.Switch = Nop
 behind_code around.SwitchInLoop = only (If (Var (temp 0)) (continue_code around.SwitchInLoop) Nop)
 
 -- LABELS
-
--- so many sections are skipped
-abbrev pub found_code : ℕ → Code
-found_code n = Then (set_word (temp 0) n) (only flat.Break)
-
--- a label of the section behind n others: the first that is equal ends the comparing
-abbrev pub label_code : ℕ → Option ℕ → Code
-label_code n None = Nop
-label_code n (Some w) =
-    Then (only (Let (scratch 0) op.Teq (Var (temp 0)) (Const w)))
-    (only (If (Var (scratch 0)) (found_code n) Nop))
-
--- the labels of a section
-abbrev pub labels_code : ℕ → List (Option ℕ) → Code
-labels_code n [] = Nop
-labels_code n (l ∷ ls) = Then (label_code n l) (labels_code n ls)
-
--- the labels of all sections
-abbrev pub compared_code : ℕ → Sections → Code
-compared_code n NoSections = Nop
-compared_code n (WithSection ls body rest) = Then (labels_code n ls) (compared_code (suc n) rest)
 
 -- whether `default` is among the labels of a section
 abbrev pub has_default : List (Option ℕ) → Bool

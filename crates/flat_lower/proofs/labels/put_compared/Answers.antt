@@ -1,11 +1,12 @@
 use Rattle.flat_lower.specs.inside.Emitted.{Adds}
-use Rattle.flat_lower.specs.inside.Switches.{labels_code}
+use Rattle.flat_lower.specs.inside.Labels.{labels_code}
+use Rattle.flat_lower.specs.declared.held.Held.TheVariants as held
 use Rattle.std.proofs.Common.{◌≡◌, ◌+◌, suc, ◌∷◌, drop, sym, ap, ◌∙◌, subst, arith}
 use Rattle.std.proofs.Math.Seq.{drop-cons}
 use Rattle.c_tree.specs.declared.TypedSection.{TypedSection}
 use Rattle.flat_lower.proofs.EmitArguments.{drop_all}
 use Rattle.flat_lower.proofs.EmitLabels.{ComparedSoFar, compared_goes_on, compared_ends}
-use Rattle.flat_lower.proofs.switching.put_compared.Goals as goal
+use Rattle.flat_lower.proofs.labels.put_compared.Goals as goal
 
 pub loop-section-preserved : goal.loop-section-preserved
 loop-section-preserved c =
@@ -21,7 +22,7 @@ loop-section-preserved c =
     let e2 : suc n ≡ n + 1 = omega arith in
     let h = compared_goes_on n all (drop (i + 1) all) a old c.loop-section.code c.put_labels.new.code
     (subst (λ r. ComparedSoFar n all r old c.loop-section.code) dc c.loop-section.invariant.0)
-    (subst (λ ls. Adds c.loop-section.code c.put_labels.new.code (labels_code n ls))
+    (subst (λ ls. Adds c.loop-section.code c.put_labels.new.code (labels_code held.Zero n ls))
     c.as_slice.ensures.value c.in_ok-put_labels.ensures) in (
       subst (λ m. ComparedSoFar m all (drop (i + 1) all) old c.put_labels.new.code) e2 h,
       ap (λ m. m + 1) c.loop-section.invariant.1,

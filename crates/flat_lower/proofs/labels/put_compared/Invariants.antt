@@ -1,6 +1,6 @@
 use Rattle.std.proofs.Common.{◌≡◌, drop}
 use Rattle.flat_lower.proofs.EmitLabels.{ComparedSoFar}
-use Rattle.flat_lower.proofs.switching.put_compared.Given as goal
+use Rattle.flat_lower.proofs.labels.put_compared.Given as goal
 
 abbrev pub invariant-loop-section : goal.invariant-loop-section
 invariant-loop-section l =
