@@ -1,0 +1,11 @@
+pub mod Rules
+pub mod Words
+pub mod Calls
+pub mod UnsignedPrinted
+pub mod SignedPrinted
+pub mod NumeralFacts
+pub mod DigitsPrinted
+pub mod HexadecimalPrinted
+pub mod Filled
+pub mod Counted
+pub mod NumeralsRight

@@ -1,0 +1,5 @@
+pub mod Numerals
+pub mod Terms
+pub mod Printers
+pub mod FieldPrinters
+pub mod Printing
