@@ -6,6 +6,8 @@ mod asm_line_tests;
 #[cfg(test)]
 mod asm_tests;
 #[cfg(test)]
+mod file_tests;
+#[cfg(test)]
 mod image_form_tests;
 #[cfg(test)]
 mod image_tests;

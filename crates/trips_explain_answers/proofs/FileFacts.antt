@@ -5,8 +5,7 @@ use Rattle.block_image.specs.declared.fault.ImageFault.{ImageFault}
 use Rattle.block_image.specs.Spelling.{ImageBytes}
 use Rattle.block_image.specs.FirstFault.{FirstFault}
 use Rattle.target_asm_spec.specs.declared.fault.AsmFault.{AsmFault}
-use Rattle.target_asm_spec.specs.Text.{TargetText}
-use Rattle.target_asm_spec.specs.FirstAsmFault.{FirstAsmFault}
+use Rattle.target_file.specs.Files.{FirstFileFault, TargetFile}
 use Rattle.trips_requests.specs.declared.status.Status.{Status}
 use Rattle.trips_requests.specs.declared.status.Status.TheVariants as status
 use Rattle.trips_explain_answers.specs.declared.shape.Shape.TheVariants as shape
@@ -25,12 +24,12 @@ pub image_refused : (file bytes : List ℕ) (fault : ImageFault) (report : List 
 image_refused file bytes fault report first told = inl (report, inl (fault, first, told), (refl, refl))
 
 -- the text of an image that was judged
-pub target_done : (file text : List ℕ) (image : Image) (s : Status) (report : List ℕ) → TargetText image text
+pub target_done : (file text : List ℕ) (image : Image) (s : Status) (report : List ℕ) → TargetFile image text
     → IsJudged file image s report → IsExplainedAs shape.Target file text s report
 target_done file text image s report spelled (inl bad) = inl (report, inr (image, spelled, bad.0), (bad.1, refl))
 target_done file text image s report spelled (inr good) = inr ((image, spelled, good.0), good.1)
 
 -- a text that is no target text
-pub target_refused : (file text : List ℕ) (fault : AsmFault) (report : List ℕ) → FirstAsmFault text fault
+pub target_refused : (file text : List ℕ) (fault : AsmFault) (report : List ℕ) → FirstFileFault text fault
     → report ≡ asm_told file fault → IsExplainedAs shape.Target file text status.Refused report
 target_refused file text fault report first told = inl (report, inl (fault, first, told), (refl, refl))

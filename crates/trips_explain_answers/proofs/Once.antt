@@ -9,9 +9,7 @@ use Rattle.block_image.proofs.Prefix.{one_image}
 use Rattle.block_check.specs.declared.fault.CheckFault.{CheckFault}
 use Rattle.block_check.specs.Faults.{IsGood}
 use Rattle.block_check.specs.Images.{IsFirstBad}
-use Rattle.target_asm_spec.specs.Text.{TargetText}
-use Rattle.target_asm_spec.proofs.Images as texts
-use Rattle.target_asm_laws.proofs.FaultExact as faults
+use Rattle.target_file.proofs.Laws as files
 use Rattle.trips_isa.specs.Images.{FitsImage}
 use Rattle.c_tree.specs.declared.typed.TypedProgram.{TypedProgram}
 use Rattle.c_lex.specs.Lexes.{Tokens}
@@ -110,16 +108,16 @@ image_not_both file bytes a b x (inr y) =
 target_refusal_once : (file text a b : List ℕ) → IsTargetRefusalTold file text a → IsTargetRefusalTold file text b
     → a ≡ b
 target_refusal_once file text a b (inl x) (inl y) =
-    x.2 ∙ ap (asm_told file) (faults.one text x.0 y.0 x.1 y.1) ∙ sym y.2
-target_refusal_once file text a b (inl x) (inr y) = absurd (faults.not_both y.0 text x.0 y.1 x.1)
-target_refusal_once file text a b (inr x) (inl y) = absurd (faults.not_both x.0 text y.0 x.1 y.1)
+    x.2 ∙ ap (asm_told file) (files.one_fault text x.0 y.0 x.1 y.1) ∙ sym y.2
+target_refusal_once file text a b (inl x) (inr y) = absurd (files.not_both y.0 text x.0 y.1 x.1)
+target_refusal_once file text a b (inr x) (inl y) = absurd (files.not_both x.0 text y.0 x.1 y.1)
 target_refusal_once file text a b (inr x) (inr y) =
-    bad_once file x.0 y.0 a b x.1.fits (texts.one_image y.0 x.0 text y.1 x.1) x.2 y.2
+    bad_once file x.0 y.0 a b x.1.fits (files.one_image y.0 x.0 text y.1 x.1) x.2 y.2
 
 target_not_both : (file text a b : List ℕ) → IsTargetAcceptedTold file text a → IsTargetRefusalTold file text b → ⊥
-target_not_both file text a b x (inl y) = faults.not_both x.0 text y.0 x.1 y.1
+target_not_both file text a b x (inl y) = files.not_both x.0 text y.0 x.1 y.1
 target_not_both file text a b x (inr y) =
-    good_is_not_bad file x.0 y.0 a b (texts.one_image y.0 x.0 text y.1 x.1) x.2 y.2
+    good_is_not_bad file x.0 y.0 a b (files.one_image y.0 x.0 text y.1 x.1) x.2 y.2
 
 -- files ---------------------------------------------------------------------------------------
 
@@ -133,7 +131,7 @@ accepted_one : (how : Shape) (file bytes a b : List ℕ) → IsAcceptedOf how fi
     → a ≡ b
 accepted_one Source file bytes a b x y = text_accepted_once file bytes a b x y
 accepted_one Target file bytes a b x y =
-    good_once file x.0 y.0 a b (texts.one_image x.0 y.0 bytes x.1 y.1) x.2 y.2
+    good_once file x.0 y.0 a b (files.one_image x.0 y.0 bytes x.1 y.1) x.2 y.2
 accepted_one Picture file bytes a b x y = good_once file x.0 y.0 a b (one_image x.0 y.0 bytes x.1 y.1) x.2 y.2
 
 not_both_of : (how : Shape) (file bytes a b : List ℕ) → IsAcceptedOf how file bytes a → IsRefusalOf how file bytes b

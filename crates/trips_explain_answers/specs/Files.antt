@@ -8,8 +8,7 @@ use Rattle.block_check.specs.declared.fault.CheckFault.{CheckFault}
 use Rattle.block_check.specs.Faults.{IsGood}
 use Rattle.block_check.specs.Images.{IsFirstBad}
 use Rattle.target_asm_spec.specs.declared.fault.AsmFault.{AsmFault}
-use Rattle.target_asm_spec.specs.Text.{TargetText}
-use Rattle.target_asm_spec.specs.FirstAsmFault.{FirstAsmFault}
+use Rattle.target_file.specs.Files.{FirstFileFault, TargetFile}
 use Rattle.trips_explain_answers.specs.FileTold.{image_told, asm_told, check_told, good_told, instructions_in}
 
 -- the first block of the image that is not good is told
@@ -35,9 +34,9 @@ IsImageAcceptedTold file bytes report = (image : Image) × ImageBytes image byte
 -- the text is no target text, or one of an image with a block that is not good, and this is told of it
 abbrev pub IsTargetRefusalTold : List ℕ → List ℕ → List ℕ → Type 0
 IsTargetRefusalTold file text report =
-    ((fault : AsmFault) × FirstAsmFault text fault × (report ≡ asm_told file fault))
-    ⊎ ((image : Image) × TargetText image text × IsBadTold file image report)
+    ((fault : AsmFault) × FirstFileFault text fault × (report ≡ asm_told file fault))
+    ⊎ ((image : Image) × TargetFile image text × IsBadTold file image report)
 
 -- the text is that of an image of good blocks, and this is told of it
 abbrev pub IsTargetAcceptedTold : List ℕ → List ℕ → List ℕ → Type 0
-IsTargetAcceptedTold file text report = (image : Image) × TargetText image text × IsGoodTold file image report
+IsTargetAcceptedTold file text report = (image : Image) × TargetFile image text × IsGoodTold file image report

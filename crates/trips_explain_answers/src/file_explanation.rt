@@ -3,7 +3,7 @@
 ghost use Rattle.std.specs.Prelude.{◌≡◌, List, ℕ, IfOk};
 ghost use Rattle.trips_isa.specs.Images.{FitsImage};
 ghost use Rattle.block_image.specs.Spelling.{ImageBytes};
-ghost use Rattle.target_asm_spec.specs.Text.{TargetText};
+ghost use Rattle.target_file.specs.Files.{TargetFile};
 ghost use Rattle.trips_explain_answers.specs.inside.Explained.{IsExplainedAs, IsJudged};
 ghost use Rattle.trips_explain_answers.specs.declared.shape.Shape.TheVariants as shape;
 
@@ -11,7 +11,7 @@ use crate::file_telling::{asm_told, check_told, good_told, image_told};
 use block_check::{CheckedImage, ImageRefusal};
 use block_image::decode;
 use std::alloc::{AllocError, Global};
-use target_asm::assemble;
+use target_file::assemble_file;
 use trips_isa::Image;
 use trips_requests::{Answer, Status};
 
@@ -52,7 +52,7 @@ pub fn target_explained(alloc: Global, file: &str, text: &[u8]) -> Result<Answer
     ensures { IfOk result (λ answer.
         IsExplainedAs shape.Target file.now text.now answer.status answer.report.items) }
 {
-    match assemble(alloc, text) {
+    match assemble_file(alloc, text) {
         Ok(image) => judged(alloc, file, image),
         Err(fault) => Ok(Answer {
             status: Status::Refused,

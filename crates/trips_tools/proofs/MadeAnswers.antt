@@ -7,19 +7,19 @@ use Rattle.trips_report.specs.inside.Refusals.{refusal_report}
 use Rattle.trips_tools.specs.declared.made.Made.{Made}
 use Rattle.trips_tools.specs.declared.made.Made.TheVariants as tool
 use Rattle.trips_tools.specs.inside.Tools as tools
-use Rattle.trips_tools.specs.Tools.{IsOneImage, IsGoodImage}
+use Rattle.trips_tools.specs.Tools.{IsAssembled, IsGoodImage, IsOneImage}
 use Rattle.trips_tools.specs.inside.Tools.{Makes}
 use Rattle.trips_tools.specs.ToolAnswers.{IsNoImage, IsBadImage}
 use Rattle.trips_tools.specs.inside.ToolAnswers.{IsMade, IsToolDone}
 
 -- the image of a target text, or its refusal
 pub assembled_told : {E : Type 0} (text : List ℕ) (made : Made) (r : Result Answer E)
-    → Makes (IsOneImage text) (tools.IsNoText text) made
+    → Makes (IsAssembled text) (tools.IsNoText text) made
     → IfOk r (λ a. IsMade made a.status a.report.items)
     → IfOk r (λ a. IsToolDone Assemble text a.status a.report.items)
 assembled_told text made (Err e) h told = tt
 assembled_told text (tool.Bytes bytes) (Ok a) h told =
-    inr (subst (IsOneImage text) (sym told.1) h, told.0)
+    inr (subst (IsAssembled text) (sym told.1) h, told.0)
 assembled_told text (tool.Refused said) (Ok a) h told =
     inl (refusal_report said, (h.0, h.1, ap refusal_report h.2), told)
 

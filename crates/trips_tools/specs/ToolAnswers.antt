@@ -7,7 +7,7 @@ use Rattle.block_image.specs.FirstFault.{FirstFault}
 use Rattle.block_check.specs.declared.fault.CheckFault.{CheckFault}
 use Rattle.block_check.specs.Images.{IsFirstBad}
 use Rattle.target_asm_spec.specs.declared.fault.AsmFault.{AsmFault}
-use Rattle.target_asm_spec.specs.FirstAsmFault.{FirstAsmFault}
+use Rattle.target_file.specs.Files.{FirstFileFault}
 use Rattle.trips_report.specs.Refusals.{image_text, asm_text, check_text}
 
 -- the bytes are no image, and go wrong first where the report says
@@ -21,7 +21,7 @@ IsBadImage bytes report = (image : Image) × (number : ℕ) × (fault : CheckFau
     × ImageBytes image bytes × IsFirstBad image number fault
     × (report ≡ check_text number fault)
 
--- the text is no target text, and goes wrong first where the report says
+-- the file is no target text, and goes wrong first where the report says
 abbrev pub IsNoText : List ℕ → List ℕ → Type 0
 IsNoText text report =
-    (fault : AsmFault) × FirstAsmFault text fault × (report ≡ asm_text fault)
+    (fault : AsmFault) × FirstFileFault text fault × (report ≡ asm_text fault)

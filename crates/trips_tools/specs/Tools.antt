@@ -5,10 +5,15 @@ use Rattle.trips_isa.specs.declared.block.Image.{Image}
 use Rattle.block_image.specs.Spelling.{ImageBytes}
 use Rattle.block_check.specs.Faults.{IsGood}
 use Rattle.target_asm_spec.specs.Text.{TargetText}
+use Rattle.target_file.specs.Files.{TargetFile}
 
 -- the text and the bytes are those of one image
 abbrev pub IsOneImage : List ℕ → List ℕ → Type 0
 IsOneImage text bytes = (image : Image) × TargetText image text × ImageBytes image bytes
+
+-- the bytes are those of the image that a user's file of target text tells
+abbrev pub IsAssembled : List ℕ → List ℕ → Type 0
+IsAssembled text bytes = (image : Image) × TargetFile image text × ImageBytes image bytes
 
 -- the report on an image of so many blocks, each of which is good
 abbrev pub good_report : ℕ → List ℕ

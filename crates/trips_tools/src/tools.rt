@@ -4,8 +4,8 @@ ghost use Rattle.std.specs.Prelude.{◌≡◌, ◌∷◌, [], ◌⊎◌, List, �
 ghost use Rattle.trips_isa.specs.declared.block.Image.{Image};
 ghost use Rattle.trips_isa.specs.Images.{FitsImage};
 ghost use Rattle.block_image.specs.Spelling.{ImageBytes};
-ghost use Rattle.target_asm_spec.specs.Text.{TargetText};
-ghost use Rattle.trips_tools.specs.Tools.{IsOneImage, good_report, IsGoodImage};
+ghost use Rattle.target_file.specs.Files.{TargetFile};
+ghost use Rattle.trips_tools.specs.Tools.{IsAssembled, IsOneImage, good_report, IsGoodImage};
 ghost use Rattle.trips_tools.specs.inside.Tools.{IsNoText};
 ghost use Rattle.trips_tools.specs.inside.Tools.{IsNoImage, IsBadImage, Makes};
 
@@ -15,25 +15,26 @@ use block_check::{CheckedImage, ImageRefusal};
 use block_image::{ImageFault, decode, encode};
 use isa_table::put_number;
 use std::alloc::{AllocError, Global};
-use target_asm::{AsmFault, assemble, print};
+use target_asm::{AsmFault, print};
+use target_file::assemble_file;
 use trips_isa::Image;
 use trips_report::Said;
 
 // The bytes of an image that a text has.
 fn encoded(alloc: Global, image: &Image) -> Result<Made, Memory>
     requires { FitsImage image.now }
-    ensures { IfOk result (λ made. (text : List ℕ) → TargetText image.now text
-        → Makes (IsOneImage text) (IsNoText text) made) }
+    ensures { IfOk result (λ made. (text : List ℕ) → TargetFile image.now text
+        → Makes (IsAssembled text) (IsNoText text) made) }
 {
     let bytes = encode(alloc, image)?;
     Ok(Made::Bytes(Items::from_vec(bytes)))
 }
 
-/// The bytes of the image of a target text, or the text's first fault. The blocks are not checked.
+/// The bytes of the image that a user's file of target text tells, or its first fault. The blocks are not checked.
 pub fn assembled(alloc: Global, text: &[u8]) -> Result<Made, Memory>
-    ensures ok { IfOk result (Makes (IsOneImage text.now) (IsNoText text.now)) }
+    ensures ok { IfOk result (Makes (IsAssembled text.now) (IsNoText text.now)) }
 {
-    match assemble(alloc, text) {
+    match assemble_file(alloc, text) {
         Ok(image) => encoded(alloc, &image),
         Err(AsmFault::Memory) => Err(Memory),
         Err(fault) => Ok(Made::Refused(Said::Asm(fault))),

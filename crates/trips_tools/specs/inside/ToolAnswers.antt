@@ -8,7 +8,7 @@ use Rattle.trips_requests.specs.Texts.{IsFixed}
 use Rattle.trips_report.specs.inside.Refusals.{refusal_report}
 use Rattle.trips_tools.specs.declared.made.Made.{Made}
 use Rattle.trips_tools.specs.declared.made.Made.TheVariants.{Bytes, Refused}
-use Rattle.trips_tools.specs.Tools.{IsOneImage, IsGoodImage}
+use Rattle.trips_tools.specs.Tools.{IsAssembled, IsGoodImage, IsOneImage}
 use Rattle.trips_tools.specs.ToolAnswers.{IsNoImage, IsBadImage, IsNoText}
 
 -- the bytes that were made are the report, or the refusal's is
@@ -25,7 +25,7 @@ IsToolRefused Check bytes report = IsNoImage bytes report ⊎ IsBadImage bytes r
 -- a tool makes this of the bytes: the bytes of the text's image, the text of the image, or how many good
 -- blocks it has
 abbrev pub IsToolMade : Tool → List ℕ → List ℕ → Type 0
-IsToolMade Assemble text report = IsOneImage text report
+IsToolMade Assemble text report = IsAssembled text report
 IsToolMade Disassemble bytes report = IsOneImage report bytes
 IsToolMade Check bytes report = IsGoodImage bytes report
 

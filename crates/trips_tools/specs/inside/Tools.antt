@@ -8,7 +8,7 @@ use Rattle.block_image.specs.FirstFault.{FirstFault}
 use Rattle.block_check.specs.declared.fault.CheckFault.{CheckFault}
 use Rattle.block_check.specs.Images.{IsFirstBad}
 use Rattle.target_asm_spec.specs.declared.fault.AsmFault.{AsmFault}
-use Rattle.target_asm_spec.specs.FirstAsmFault.{FirstAsmFault}
+use Rattle.target_file.specs.Files.{FirstFileFault}
 use Rattle.trips_report.specs.declared.said.Said.{Said}
 use Rattle.trips_report.specs.declared.said.Said.TheVariants as said
 use Rattle.trips_tools.specs.declared.made.Made.{Made}
@@ -16,7 +16,7 @@ use Rattle.trips_tools.specs.declared.made.Made.TheVariants.{Bytes, Refused}
 
 -- the text is no image's, and goes wrong first so
 abbrev pub IsNoText : List ℕ → Said → Type 0
-IsNoText text s = (fault : AsmFault) × FirstAsmFault text fault × (s ≡ said.Asm fault)
+IsNoText text s = (fault : AsmFault) × FirstFileFault text fault × (s ≡ said.Asm fault)
 
 -- the bytes are no image, and go wrong first so
 abbrev pub IsNoImage : List ℕ → Said → Type 0
